@@ -1,0 +1,2 @@
+//! Editions: what a map file stands for, and how a file of the empty edition is made.
+#![tactic(auto)]

@@ -1,0 +1,4 @@
+pub mod Forms
+pub mod Items
+pub mod Spelling
+pub mod Trials

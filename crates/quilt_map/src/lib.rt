@@ -1,0 +1,2 @@
+//! The reply to each command, and the work that it leaves.
+#![tactic(auto)]

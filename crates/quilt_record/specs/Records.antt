@@ -1,0 +1,76 @@
+-- Each fact of a map as a record: a key of 12 bytes and a value of 16.
+use Rattle.std.specs.Prelude.{◌≡◌, ℕ, ◌-◌, ◌≤◌, nat_eq, List, [], ◌∷◌, ◌++◌, length, map, flat_map, replicate, All, unwrap_or}
+use Rattle.std.specs.List.{IsDistinct}
+use Rattle.std.specs.Ordering.{nat_cmp, ordering_then}
+use Rattle.std.specs.declared.cmp.Ordering.{Ordering}
+use Rattle.std.specs.Cmp.Lexicographic.{slice_cmp}
+use Rattle.std.specs.Int.{to_be_bytes, w16, w32}
+use Rattle.std.specs.FinMap as finmap
+use Rattle.quilt_types.specs.Sets as finset
+use Rattle.quilt_types.specs.declared.plane.Block.{Block}
+use Rattle.quilt_types.specs.Layers.{Map, IsMap}
+use Rattle.quilt_types.specs.Facts.{Fact, IsOfKind, HasColour, HoldsPoint, HoldsNoPoint, IsSegment, IsMetBy, IsMetByNone, facts}
+use Rattle.quilt_record.specs.declared.key.Key.{Key}
+use Rattle.quilt_record.specs.declared.record.Record.{Record}
+use Rattle.quilt_types.specs.Codes.{code, depth}
+
+-- the order of the fields, which is that of the bytes
+abbrev pub key_cmp : Key → Key → Ordering
+key_cmp a b =
+    ordering_then (nat_cmp a.layer b.layer) (ordering_then (nat_cmp a.part b.part) (
+    ordering_then (nat_cmp a.code b.code) (ordering_then (nat_cmp a.depth b.depth) (nat_cmp a.item b.item))))
+
+abbrev pub record_cmp : Record → Record → Ordering
+record_cmp a b = ordering_then (key_cmp a.key b.key) (slice_cmp nat_cmp a.value b.value)
+
+abbrev pub key_bytes : Key → List ℕ
+key_bytes k = to_be_bytes w16 k.layer ++ (k.part ∷ to_be_bytes w32 k.code) ++ (k.depth ∷ to_be_bytes w32 k.item)
+
+abbrev pub record_bytes : Record → List ℕ
+record_bytes r = key_bytes r.key ++ r.value
+
+-- bytes, and zeros up to a length
+abbrev pub filled : ℕ → List ℕ → List ℕ
+filled n bytes = bytes ++ replicate (n - length bytes) 0
+
+abbrev pub block_key : ℕ → ℕ → ℕ → Block → ℕ → Key
+block_key n layer part b item =
+    record { layer = layer; part = part; code = code b.x b.y; depth = depth n b; item = item }
+
+-- the record of a fact of the layer with this name and number
+abbrev pub record_of : ℕ → List ℕ → ℕ → Fact → Record
+record_of n name layer (IsOfKind kind threshold) = record {
+  key = record { layer = 0; part = 0; code = 0; depth = 0; item = layer };
+  value = filled 12 name ++ kind ∷ threshold ∷ 0 ∷ 0 ∷ [];
+}
+record_of n name layer (HasColour b colour) = record { key = block_key n layer 1 b 0; value = filled 16 (colour ∷ []) }
+record_of n name layer (HoldsNoPoint b) = record { key = block_key n layer 2 b 0; value = filled 16 [] }
+record_of n name layer (HoldsPoint b p label) = record {
+  key = block_key n layer 2 b 0;
+  value = filled 16 (1 ∷ to_be_bytes w16 p.x ++ to_be_bytes w16 p.y ++ to_be_bytes w32 label);
+}
+record_of n name layer (IsMetByNone b) = record { key = block_key n layer 3 b 0; value = filled 16 [] }
+record_of n name layer (IsMetBy b id) = record { key = block_key n layer 3 b id; value = filled 16 (1 ∷ []) }
+record_of n name layer (IsSegment id s) = record {
+  key = record { layer = layer; part = 4; code = 0; depth = 0; item = id };
+  value = filled 16 (to_be_bytes w16 s.x1 ++ to_be_bytes w16 s.y1 ++ to_be_bytes w16 s.x2 ++ to_be_bytes w16 s.y2);
+}
+
+-- a number for each layer
+abbrev pub Numbering : Type 0
+Numbering = finmap.FinMap (slice_cmp nat_cmp) ℕ
+
+-- all records of a map, in order
+unfoldable pub records_of : ℕ → Numbering → Map → List Record
+records_of n numbers layers =
+    finset.items (finset.from_list {R = record_cmp} (flat_map
+    (λ e. map (record_of n e.0 (unwrap_or (finmap.get numbers e.0) 0)) (facts n e.1)) (finmap.entries layers)))
+
+-- The records spell the map: they are its facts, written under some numbers of its layers.
+pub record Spells (n : ℕ) (records : List Record) (layers : Map) : Type 0 where
+  pub map : IsMap n layers
+  pub numbers : Numbering
+  pub numbered : finmap.keys numbers ≡ finmap.keys layers
+  pub in_range : All (λ k. (1 ≤ k) × (k ≤ 255)) (finmap.values numbers)
+  pub differ : IsDistinct nat_eq (finmap.values numbers)
+  pub written : records ≡ records_of n numbers layers

@@ -1,0 +1,8 @@
+//! Each fact of a map as a record: a key of 12 bytes and a value of 16.
+#![tactic(auto)]
+
+mod key;
+mod record;
+
+pub use key::Key;
+pub use record::Record;

@@ -1,0 +1,10 @@
+pub mod Algebra
+pub mod CodeTable
+pub mod Codes
+pub mod Facts
+pub mod Fractions
+pub mod Layers
+pub mod Plane
+pub mod Quadtrees
+pub mod Segments
+pub mod Sets

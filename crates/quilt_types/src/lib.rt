@@ -1,0 +1,16 @@
+//! The common types of the map, and the definitions of what its layers mean.
+#![tactic(auto)]
+
+mod code;
+mod name;
+mod plane;
+mod points;
+mod stop;
+mod text;
+
+pub use code::Code;
+pub use name::Name;
+pub use plane::{Block, Colour, Kind, Pixel, Point, Seg, Window};
+pub use points::PointList;
+pub use stop::Stop;
+pub use text::Text;
