@@ -1,2 +1,4 @@
+pub mod Crash
 pub mod Reads
 pub mod Views
+pub mod Whole

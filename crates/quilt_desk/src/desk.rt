@@ -1,8 +1,11 @@
-ghost use Rattle.std.specs.Prelude.{◌≡◌, ◌≢◌, ◌≤◌, length, is_some};
+ghost use Rattle.std.specs.Prelude.{◌≡◌, ◌≢◌, ◌≤◌, length, is_some, IsTrue};
+ghost use Rattle.std.specs.List.{list_all};
 ghost use Rattle.quilt_world.specs.Tale.{put_bytes};
 ghost use Rattle.quilt_world.specs.declared.disk.Door.TheVariants as doors;
 ghost use Rattle.quilt_desk.specs.Reads.{Reads};
+ghost use Rattle.quilt_desk.specs.Whole.{is_whole};
 
+mod crash;
 mod setup;
 mod world;
 
@@ -35,4 +38,5 @@ pub struct Desk {
     ghost no_pages: { door ≢ doors.Ready → door ≢ doors.Made → length start ≡ 0 },
     ghost put: { output.items ≡ put_bytes log.items },
     ghost some: { 1 ≤ most },
+    ghost whole: { IsTrue (list_all is_whole log.items) },
 }

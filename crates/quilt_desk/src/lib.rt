@@ -5,5 +5,6 @@ mod calls;
 mod copies;
 mod desk;
 mod input;
+mod page_state;
 
 pub use desk::Desk;

@@ -29,6 +29,7 @@ invariant_of-self-in-Some c =
       no_pages = λ not_ready not_made. absurd (not_ready refl);
       put = c.args.self.now.put;
       some = c.args.self.now.some;
+      whole = c.args.self.now.whole;
     }
 
 pub returns-in-Some-clause-tale : goal.returns-in-Some-clause-tale

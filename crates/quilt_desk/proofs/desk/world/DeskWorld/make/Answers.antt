@@ -27,6 +27,7 @@ invariant_of-self-in-Ok c =
       no_pages = λ not_ready not_made. absurd (not_made refl);
       put = c.args.self.now.put;
       some = c.args.self.now.some;
+      whole = c.args.self.now.whole;
     }
 
 pub returns-in-Ok-clause-tale : goal.returns-in-Ok-clause-tale

@@ -1,7 +1,7 @@
-use Rattle.std.proofs.Common.{◌≡◌, [], ◌∷◌, ◌++◌, rules, sym, subst, take, ap, List, ℕ}
+use Rattle.std.proofs.Common.{◌≡◌, [], ◌∷◌, ◌++◌, rules, sym, subst, take, ap, List, ℕ, refl}
 use Rattle.quilt_world.specs.declared.event.Event.TheVariants.{Put}
 use Rattle.quilt_desk.specs.Reads.{Reads}
-use Rattle.quilt_desk.proofs.DeskLaws.{open_not_shut, put_bytes-push}
+use Rattle.quilt_desk.proofs.DeskLaws.{open_not_shut, put_bytes-push, whole-push}
 use Rattle.quilt_desk.proofs.ReadLaws.{reads_put}
 use Rattle.quilt_desk.proofs.desk.world.DeskWorld.put.Goals as goal
 
@@ -17,4 +17,5 @@ invariant_of-self-else-is_err-3 c =
       no_pages = c.args.self.now.no_pages;
       put = rw (log, put_bytes-push c.args.self.now.log.items (Put c.push.new.self), text, out) (ap (λ (l : List ℕ). l ++ take c.min-n.result c.args.bytes.now) c.args.self.now.put);
       some = c.args.self.now.some;
+      whole = rw log (whole-push c.args.self.now.log.items (Put c.push.new.self) c.args.self.now.whole refl);
     }
