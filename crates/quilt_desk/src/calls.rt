@@ -1,4 +1,4 @@
-ghost use Rattle.std.specs.Prelude.{◌≡◌, ◌≤◌, ◌∷◌, ◌++◌, [], OnOk, OnErr};
+ghost use Rattle.std.specs.Prelude.{◌≡◌, ◌≤◌, ◌↔◌, ◌∷◌, ◌++◌, [], OnOk, OnErr, IsErr, Contains};
 ghost use Rattle.quilt_world.specs.Causes.{HasCause, Rose, next_count};
 
 use quilt_world::Fault;
@@ -43,6 +43,7 @@ impl Calls {
         ensures count { self.new.count ≡ next_count self.old.count }
         ensures fine { OnOk result (self.new.faults ≡ self.old.faults) }
         ensures cause { HasCause self.old.faults self.new.faults result }
+        ensures named { IsErr result ↔ Contains self.old.failing.items (next_count self.old.count) }
     {
         self.count = self.count.saturating_add(1);
         if self.failing.contains(&self.count) {

@@ -1,8 +1,8 @@
-ghost use Rattle.std.specs.Prelude.{◌≡◌, ◌≤◌, [], Some, is_some, IfOk, IfSome};
+ghost use Rattle.std.specs.Prelude.{◌≡◌, ◌≤◌, [], ◌∷◌, ◌++◌, Some, is_some, OnOk, OnErr, IfOk, IfSome};
 ghost use Rattle.std.specs.Option.{option_copied};
 ghost use Rattle.quilt_world.specs.Tale.{put_bytes};
 ghost use Rattle.quilt_world.specs.declared.disk.Door.TheVariants as doors;
-ghost use Rattle.quilt_desk.specs.Views.{file_of};
+ghost use Rattle.quilt_desk.specs.Views.{calls_of, failing_of, file_of, most_of};
 
 use super::Desk;
 use crate::calls::Calls;
@@ -23,6 +23,9 @@ impl Desk {
         ensures door { IfOk result (λ d. ⟦<Desk as Disk>⟧.door d ≡ doors.Shut) }
         ensures faults { IfOk result (λ d. ⟦<Desk as Disk>⟧.faults d ≡ 0) }
         ensures file { IfOk result (λ d. file_of d ≡ file) }
+        ensures calls { IfOk result (λ d. calls_of d ≡ 0) }
+        ensures failing { IfOk result (λ d. failing_of d ≡ []) }
+        ensures most { IfOk result (λ d. most_of d ≡ usize.MAX) }
     {
         let was_there = file.is_some();
         let shelf = match file {
@@ -49,6 +52,10 @@ impl Desk {
 
     /// Lets the call of this number fail, counted from 1 over all calls of a disk and a world but `pages`. Several may fail.
     pub fn fail_at(&mut self, call: u64) -> Result<(), AllocError>
+        ensures ok { OnOk result (failing_of self.new ≡ failing_of self.old ++ call ∷ []) }
+        ensures err { OnErr result (failing_of self.new ≡ failing_of self.old) }
+        ensures calls { calls_of self.new ≡ calls_of self.old }
+        ensures most { most_of self.new ≡ most_of self.old }
         ensures told { ⟦<Desk as Disk>⟧.told self.new ≡ ⟦<Desk as Disk>⟧.told self.old }
         ensures door { ⟦<Desk as Disk>⟧.door self.new ≡ ⟦<Desk as Disk>⟧.door self.old }
         ensures faults { ⟦<Desk as Disk>⟧.faults self.new ≡ ⟦<Desk as Disk>⟧.faults self.old }
@@ -60,6 +67,9 @@ impl Desk {
     /// Lets `take` and `put` handle at most so many bytes a call.
     pub fn piece(&mut self, most: usize)
         requires { 1 ≤ most }
+        ensures most { most_of self.new ≡ most }
+        ensures failing { failing_of self.new ≡ failing_of self.old }
+        ensures calls { calls_of self.new ≡ calls_of self.old }
         ensures told { ⟦<Desk as Disk>⟧.told self.new ≡ ⟦<Desk as Disk>⟧.told self.old }
         ensures door { ⟦<Desk as Disk>⟧.door self.new ≡ ⟦<Desk as Disk>⟧.door self.old }
         ensures faults { ⟦<Desk as Disk>⟧.faults self.new ≡ ⟦<Desk as Disk>⟧.faults self.old }

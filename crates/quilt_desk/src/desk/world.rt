@@ -1,4 +1,10 @@
-ghost use Rattle.std.specs.Prelude.{◌≡◌, ◌↔◌, IsTrue, Some, length, string_bytes, refl};
+ghost use Rattle.std.specs.Prelude.{◌≡◌, ◌⊎◌, ◌↔◌, ◌<◌, ◌≤◌, ◌++◌, [], ◌∷◌, min, length, take, slice_index_or, string_bytes, IsTrue, IsErr, OnOk, OnErr, IfOk, IfSome, Some, refl};
+ghost use Rattle.quilt_world.specs.Causes.{HasCause, next_count};
+ghost use Rattle.quilt_world.specs.Doors.{attached, made, OpensAt, MakesAt, TakesFrom};
+ghost use Rattle.quilt_world.specs.Tale.{Adds, Goes};
+ghost use Rattle.quilt_world.specs.declared.disk.Door.TheVariants as doors;
+ghost use Rattle.quilt_world.specs.declared.event.Event.TheVariants.{Wrote, Tore, Synced, Put};
+ghost use Rattle.quilt_desk.specs.Views.{file_of, most_of, FailsNext, CountsCall};
 
 use super::Desk;
 use crate::copies::Copies;
@@ -22,14 +28,34 @@ impl Disk for Desk {
         self.start.pages()
     }
 
-    fn read_page(&mut self, i: u32, into: &mut [u8; 4096]) -> Result<(), Fault> {
+    fn read_page(&mut self, i: u32, into: &mut [u8; 4096]) -> Result<(), Fault>
+        requires { i < ⟦<Desk as Disk>⟧.size self.old }
+        ensures cause { HasCause (⟦<Desk as Disk>⟧.faults self.old) (⟦<Desk as Disk>⟧.faults self.new) result }
+        ensures size { ⟦<Desk as Disk>⟧.size self.new ≡ ⟦<Desk as Disk>⟧.size self.old }
+        ensures door { ⟦<Desk as Disk>⟧.door self.new ≡ ⟦<Desk as Disk>⟧.door self.old }
+        ensures counts { Goes (λ old new. (new.reads ≡ next_count old.reads) × (new.writes ≡ old.writes)) (⟦<Desk as Disk>⟧.told self.old) (⟦<Desk as Disk>⟧.told self.new) }
+        ensures nothing { Goes (Adds []) (⟦<Desk as Disk>⟧.told self.old) (⟦<Desk as Disk>⟧.told self.new) }
+        ensures bytes { OnOk result (IfSome (⟦<Desk as Disk>⟧.told self.new) (λ new. into.new ≡ slice_index_or new.seen i [])) }
+        ensures call { CountsCall self.old self.new }
+        ensures named { IsErr result ↔ FailsNext self.old }
+    {
         self.reads = self.reads.saturating_add(1);
         self.calls.begin()?;
         *into = *self.current.page(i);
         Ok(())
     }
 
-    fn write_page(&mut self, i: u32, bytes: &[u8; 4096]) -> Result<(), Fault> {
+    fn write_page(&mut self, i: u32, bytes: &[u8; 4096]) -> Result<(), Fault>
+        requires { i < ⟦<Desk as Disk>⟧.size self.old }
+        ensures cause { HasCause (⟦<Desk as Disk>⟧.faults self.old) (⟦<Desk as Disk>⟧.faults self.new) result }
+        ensures size { ⟦<Desk as Disk>⟧.size self.new ≡ ⟦<Desk as Disk>⟧.size self.old }
+        ensures door { ⟦<Desk as Disk>⟧.door self.new ≡ ⟦<Desk as Disk>⟧.door self.old }
+        ensures counts { Goes (λ old new. (new.writes ≡ next_count old.writes) × (new.reads ≡ old.reads)) (⟦<Desk as Disk>⟧.told self.old) (⟦<Desk as Disk>⟧.told self.new) }
+        ensures wrote { OnOk result (Goes (Adds (Wrote i bytes.now ∷ [])) (⟦<Desk as Disk>⟧.told self.old) (⟦<Desk as Disk>⟧.told self.new)) }
+        ensures tore { OnErr result (Goes (λ old new. Adds (Tore i ∷ []) old new ⊎ Adds [] old new) (⟦<Desk as Disk>⟧.told self.old) (⟦<Desk as Disk>⟧.told self.new)) }
+        ensures call { CountsCall self.old self.new }
+        ensures named { FailsNext self.old → IsErr result }
+    {
         self.writes = self.writes.saturating_add(1);
         if let Err(fault) = self.calls.begin() {
             if self.log.push(Event::Tore { page: i }).is_ok() {
@@ -54,7 +80,17 @@ impl Disk for Desk {
         Ok(())
     }
 
-    fn sync(&mut self) -> Result<(), Fault> {
+    fn sync(&mut self) -> Result<(), Fault>
+        requires { 0 < ⟦<Desk as Disk>⟧.size self.old }
+        ensures cause { HasCause (⟦<Desk as Disk>⟧.faults self.old) (⟦<Desk as Disk>⟧.faults self.new) result }
+        ensures size { ⟦<Desk as Disk>⟧.size self.new ≡ ⟦<Desk as Disk>⟧.size self.old }
+        ensures door { ⟦<Desk as Disk>⟧.door self.new ≡ ⟦<Desk as Disk>⟧.door self.old }
+        ensures counts { Goes (λ old new. (new.writes ≡ old.writes) × (new.reads ≡ old.reads)) (⟦<Desk as Disk>⟧.told self.old) (⟦<Desk as Disk>⟧.told self.new) }
+        ensures synced { OnOk result (Goes (Adds (Synced ∷ [])) (⟦<Desk as Disk>⟧.told self.old) (⟦<Desk as Disk>⟧.told self.new)) }
+        ensures nothing { OnErr result (Goes (Adds []) (⟦<Desk as Disk>⟧.told self.old) (⟦<Desk as Disk>⟧.told self.new)) }
+        ensures call { CountsCall self.old self.new }
+        ensures named { FailsNext self.old → IsErr result }
+    {
         self.calls.begin()?;
         if self.log.push(Event::Synced).is_err() {
             return Err(self.calls.fault());
@@ -64,7 +100,15 @@ impl Disk for Desk {
 }
 
 impl World for Desk {
-    fn attach(&mut self, path: &str) -> Result<Attached, Fault> {
+    fn attach(&mut self, path: &str) -> Result<Attached, Fault>
+        requires { ⟦<Desk as Disk>⟧.door self.old ≡ doors.Shut }
+        ensures cause { HasCause (⟦<Desk as Disk>⟧.faults self.old) (⟦<Desk as Disk>⟧.faults self.new) result }
+        ensures door { ⟦<Desk as Disk>⟧.door self.new ≡ attached result }
+        ensures tale { Goes (OpensAt path.now (⟦<Desk as Disk>⟧.door self.new)) (⟦<Desk as Disk>⟧.told self.old) (⟦<Desk as Disk>⟧.told self.new) }
+        ensures file { file_of self.new ≡ file_of self.old }
+        ensures call { CountsCall self.old self.new }
+        ensures named { IsErr result ↔ FailsNext self.old }
+    {
         self.door = Door::Failed;
         self.calls.begin()?;
         self.door = Door::Missing;
@@ -82,7 +126,15 @@ impl World for Desk {
         }
     }
 
-    fn make(&mut self, path: &str, pages: u32) -> Result<Made, Fault> {
+    fn make(&mut self, path: &str, pages: u32) -> Result<Made, Fault>
+        requires { ⟦<Desk as Disk>⟧.door self.old ≡ doors.Shut }
+        ensures cause { HasCause (⟦<Desk as Disk>⟧.faults self.old) (⟦<Desk as Disk>⟧.faults self.new) result }
+        ensures door { ⟦<Desk as Disk>⟧.door self.new ≡ made result }
+        ensures size { ⟦<Desk as Disk>⟧.door self.new ≡ doors.Made → ⟦<Desk as Disk>⟧.size self.new ≡ pages }
+        ensures tale { Goes (MakesAt path.now pages (⟦<Desk as Disk>⟧.door self.new)) (⟦<Desk as Disk>⟧.told self.old) (⟦<Desk as Disk>⟧.told self.new) }
+        ensures call { CountsCall self.old self.new }
+        ensures named { FailsNext self.old → IsErr result }
+    {
         self.door = Door::Failed;
         self.calls.begin()?;
         if self.was_there || !is_same(&self.path, path) {
@@ -100,7 +152,19 @@ impl World for Desk {
         }
     }
 
-    fn take(&mut self, into: &mut [u8]) -> Result<usize, Fault> {
+    fn take(&mut self, into: &mut [u8]) -> Result<usize, Fault>
+        requires open { (⟦<Desk as Disk>⟧.door self.old ≡ doors.Ready) ⊎ (⟦<Desk as Disk>⟧.door self.old ≡ doors.Made) }
+        requires room { 0 < length into.old }
+        ensures cause { HasCause (⟦<Desk as Disk>⟧.faults self.old) (⟦<Desk as Disk>⟧.faults self.new) result }
+        ensures door { ⟦<Desk as Disk>⟧.door self.new ≡ ⟦<Desk as Disk>⟧.door self.old }
+        ensures size { ⟦<Desk as Disk>⟧.size self.new ≡ ⟦<Desk as Disk>⟧.size self.old }
+        ensures count { IfOk result (λ n. n ≤ length into.old) }
+        ensures took { IfOk result (λ n. Goes (TakesFrom (take n into.new)) (⟦<Desk as Disk>⟧.told self.old) (⟦<Desk as Disk>⟧.told self.new)) }
+        ensures nothing { OnErr result (Goes (Adds []) (⟦<Desk as Disk>⟧.told self.old) (⟦<Desk as Disk>⟧.told self.new)) }
+        ensures call { CountsCall self.old self.new }
+        ensures named { FailsNext self.old → IsErr result }
+        ensures most { IfOk result (λ n. n ≤ most_of self.old) }
+    {
         self.calls.begin()?;
         let left = self.input.left();
         let n = left.len().min(into.len()).min(self.most);
@@ -116,7 +180,19 @@ impl World for Desk {
         Ok(n)
     }
 
-    fn put(&mut self, bytes: &[u8]) -> Result<usize, Fault> {
+    fn put(&mut self, bytes: &[u8]) -> Result<usize, Fault>
+        requires open { (⟦<Desk as Disk>⟧.door self.old ≡ doors.Ready) ⊎ (⟦<Desk as Disk>⟧.door self.old ≡ doors.Made) }
+        requires some { 0 < length bytes.now }
+        ensures cause { HasCause (⟦<Desk as Disk>⟧.faults self.old) (⟦<Desk as Disk>⟧.faults self.new) result }
+        ensures door { ⟦<Desk as Disk>⟧.door self.new ≡ ⟦<Desk as Disk>⟧.door self.old }
+        ensures size { ⟦<Desk as Disk>⟧.size self.new ≡ ⟦<Desk as Disk>⟧.size self.old }
+        ensures count { IfOk result (λ n. (1 ≤ n) × (n ≤ length bytes.now)) }
+        ensures put { IfOk result (λ n. Goes (Adds (Put (take n bytes.now) ∷ [])) (⟦<Desk as Disk>⟧.told self.old) (⟦<Desk as Disk>⟧.told self.new)) }
+        ensures nothing { OnErr result (Goes (Adds []) (⟦<Desk as Disk>⟧.told self.old) (⟦<Desk as Disk>⟧.told self.new)) }
+        ensures call { CountsCall self.old self.new }
+        ensures named { FailsNext self.old → IsErr result }
+        ensures most { IfOk result (λ n. n ≡ min (length bytes.now) (most_of self.old)) }
+    {
         self.calls.begin()?;
         let n = bytes.len().min(self.most);
         let before = self.output.len();
