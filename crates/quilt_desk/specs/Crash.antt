@@ -37,6 +37,7 @@ chosen s choice = if choice == 0 then at_sync s else (if choice == 1 then unwrap
 abbrev pub kept : PageState → Option (List ℕ)
 kept s = if s.is_unsynced then None else s.last
 
+-- the bytes that a crash leaves of a page
 abbrev pub left_by : PageState → ℕ → List ℕ
 left_by s choice = unwrap_or (kept s) (chosen s choice)
 

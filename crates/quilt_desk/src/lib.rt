@@ -2,9 +2,13 @@
 #![tactic(auto)]
 
 mod calls;
+mod calm;
 mod copies;
 mod desk;
 mod input;
 mod page_state;
+mod path;
+mod source;
 
+pub use calm::Calm;
 pub use desk::Desk;

@@ -2,7 +2,7 @@ ghost use Rattle.std.specs.Prelude.{◌≡◌, ◌≤◌, [], ◌∷◌, ◌++�
 ghost use Rattle.std.specs.Option.{option_copied};
 ghost use Rattle.quilt_world.specs.Tale.{put_bytes};
 ghost use Rattle.quilt_world.specs.declared.disk.Door.TheVariants as doors;
-ghost use Rattle.quilt_desk.specs.Views.{calls_of, failing_of, file_of, most_of};
+ghost use Rattle.quilt_desk.specs.DeskViews.{calls_of, failing_of, file_of, most_of};
 
 use super::Desk;
 use crate::calls::Calls;

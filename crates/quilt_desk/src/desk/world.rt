@@ -1,13 +1,14 @@
-ghost use Rattle.std.specs.Prelude.{◌≡◌, ◌⊎◌, ◌↔◌, ◌<◌, ◌≤◌, ◌++◌, [], ◌∷◌, min, length, take, slice_index_or, string_bytes, IsTrue, IsErr, OnOk, OnErr, IfOk, IfSome, Some, refl};
+ghost use Rattle.std.specs.Prelude.{◌≡◌, ◌⊎◌, ◌↔◌, ◌<◌, ◌≤◌, ◌++◌, [], ◌∷◌, min, length, take, slice_index_or, string_bytes, IsErr, OnOk, OnErr, IfOk, IfSome, Some, refl};
 ghost use Rattle.quilt_world.specs.Causes.{HasCause, next_count};
 ghost use Rattle.quilt_world.specs.Doors.{attached, made, OpensAt, MakesAt, TakesFrom};
 ghost use Rattle.quilt_world.specs.Tale.{Adds, Goes};
 ghost use Rattle.quilt_world.specs.declared.disk.Door.TheVariants as doors;
 ghost use Rattle.quilt_world.specs.declared.event.Event.TheVariants.{Wrote, Tore, Synced, Put};
-ghost use Rattle.quilt_desk.specs.Views.{file_of, most_of, FailsNext, CountsCall};
+ghost use Rattle.quilt_desk.specs.DeskViews.{file_of, most_of, FailsNext, CountsCall};
 
 use super::Desk;
 use crate::copies::Copies;
+use crate::path::is_same;
 use quilt_types::Text;
 use quilt_world::{Attached, Disk, Door, Event, Fault, Made, World};
 
@@ -206,13 +207,6 @@ impl World for Desk {
         }
         Ok(n)
     }
-}
-
-/// Whether two paths are the same.
-fn is_same(a: &str, b: &str) -> bool
-    ensures { IsTrue result ↔ (a.now ≡ b.now) }
-{
-    a == b
 }
 
 /// A page whose write has stopped half way.

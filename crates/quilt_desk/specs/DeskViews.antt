@@ -7,10 +7,12 @@ use Rattle.quilt_desk.specs.declared.copies.Copies.{Copies}
 use Rattle.quilt_world.specs.declared.disk.Door.{Door}
 use Rattle.quilt_world.specs.declared.disk.Door.TheVariants.{Shut, Ready, Made, Missing, Taken, Failed}
 
+-- a file that waits to be opened reads as it was given
 abbrev pub copied : Option Copies → Option Pages
 copied None = None
 copied (Some c) = Some c.current
 
+-- the file of an open door, else the one that waits
 abbrev pub file_at : Door → Option Copies → Pages → Option Pages
 file_at Ready shelf current = Some current
 file_at Made shelf current = Some current
