@@ -7,6 +7,8 @@ ghost use Rattle.quilt_desk.specs.Whole.{is_whole};
 
 mod crash;
 mod setup;
+#[cfg(test)]
+mod tests;
 mod world;
 
 use crate::calls::Calls;
