@@ -211,3 +211,6 @@ impl<'a> World for HostWorld<'a> {
         or_fault(&mut self.faults, outcome)
     }
 }
+
+#[cfg(test)]
+mod tests;

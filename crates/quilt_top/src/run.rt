@@ -87,3 +87,6 @@ pub fn run_quilt<'a, R: Threads + Sync, W: World>(
     );
     (end, world)
 }
+
+#[cfg(test)]
+mod tests;
