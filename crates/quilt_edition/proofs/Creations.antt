@@ -1,13 +1,12 @@
 -- The two writes of a file of the empty edition, each with its sync.
-use Rattle.std.proofs.Common.{◌≡◌, ◌≢◌, ◌⊎◌, inl, inr, ◌≤◌, ◌<◌, ◌+◌, ◌*◌, ℕ, List, [], ◌∷◌, ◌++◌, length, get_or, Bool, true, false, ◌&&◌, Some, None, Option, Result, Ok, Err, OnOk, OnErr, refl, sym, ◌∙◌, ap, subst, arith, append_assoc, append-nil}
+use Rattle.std.proofs.Common.{◌≡◌, ◌⊎◌, inl, inr, ◌≤◌, ◌<◌, ℕ, List, [], ◌∷◌, ◌++◌, length, Bool, true, false, ◌&&◌, Some, None, Option, Result, Ok, Err, OnOk, OnErr, refl, sym, ◌∙◌, ap, subst, arith, append_assoc, append-nil}
 use Rattle.std.specs.Option.{IfSome}
 use Rattle.std.specs.List.{list_all}
 use Rattle.std.proofs.lemmas.List.Folds.{list_all-append}
 use Rattle.quilt_world.specs.Disk.{Pages, Log, CanLeave}
 use Rattle.quilt_world.specs.Home.{label, IsMapFile}
-use Rattle.quilt_world.specs.Stops.{fixed, LeavesNow, Since}
+use Rattle.quilt_world.specs.Stops.{fixed, LeavesNow}
 use Rattle.quilt_world.specs.Tale.{Tale, IsConsistent, Adds, Goes}
-use Rattle.quilt_world.specs.declared.event.Event.{Event}
 use Rattle.quilt_world.specs.declared.event.Event.TheVariants.{Wrote, Tore, Synced}
 use Rattle.quilt_world.proofs.PageLaws.{seen_left}
 use Rattle.quilt_world.proofs.StopLaws.{Touches, nothing_touches, tore_touches, wrote_touches, synced_touches, fixed_spared, fixed_synced, last_wrote, image_page, since_here, since_call}

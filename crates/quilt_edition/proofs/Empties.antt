@@ -1,5 +1,5 @@
 -- No records spell the map with no layer, and that map alone.
-use Rattle.std.proofs.Common.{◌≡◌, ◌≤◌, ℕ, List, [], ◌∷◌, ◌++◌, map, flat_map, length, All, unwrap_or, refl, sym, ◌∙◌, ap, subst, arith, Bool, true, false, cond, Some, None, Option, is_some, nat_cmp, nat_eq, Ordering}
+use Rattle.std.proofs.Common.{◌≡◌, ℕ, List, [], ◌∷◌, ◌++◌, map, flat_map, length, unwrap_or, refl, sym, ◌∙◌, ap, subst, arith, Bool, true, false, cond, Some, Option, is_some, nat_cmp, nat_eq, Ordering}
 use Rattle.std.specs.List.{list_any, IsDistinct}
 use Rattle.std.specs.Ordering.{eq_by_cmp, is_eq}
 use Rattle.std.specs.Cmp.{IsTotalOrder, nat_cmp_total, on_total, then_total}

@@ -1,15 +1,13 @@
 -- What an image with an empty header stands for, with the label and without.
-use Rattle.std.proofs.Common.{◌≡◌, ◌≤◌, ◌<◌, ◌+◌, ◌*◌, ◌^◌, ℕ, List, [], ◌∷◌, length, get_or, replicate, Bool, true, false, cond, ◌&&◌, ◌==◌, refl, sym, ◌∙◌, ap, subst, arith, lit<}
+use Rattle.std.proofs.Common.{◌≡◌, ◌≤◌, ◌+◌, ℕ, List, [], length, get_or, replicate, false, cond, ◌&&◌, ◌==◌, refl, sym, ◌∙◌, ap, arith, lit<}
 use Rattle.std.specs.FinMap as finmap
 use Rattle.std.proofs.lemmas.List.FromFn.{length-map-range_with_len, get_or-map-range_with_len}
-use Rattle.quilt_types.specs.Layers.{Edition, Map}
+use Rattle.quilt_types.specs.Layers.{Edition}
 use Rattle.quilt_world.specs.Disk.{Pages}
 use Rattle.quilt_world.specs.Home.{label, IsMapFile, is_open, is_listed, home}
-use Rattle.quilt_node.specs.declared.head.Head.{Head}
-use Rattle.quilt_node.specs.Pages.{header_bytes, IsHead, IsHeader}
-use Rattle.quilt_node.specs.Tree.{Walk, Whole, walk_of}
-use Rattle.quilt_record.specs.declared.record.Record.{Record}
-use Rattle.quilt_edition.specs.Stands.{Stands, HoldsEdition}
+use Rattle.quilt_node.specs.Pages.{header_bytes, IsHeader}
+use Rattle.quilt_node.specs.Tree.{Whole, walk_of}
+use Rattle.quilt_edition.specs.Stands.{Stands}
 use Rattle.quilt_edition.specs.Creating.{empty_edition, empty_head, IsNoneOrEmpty}
 use Rattle.quilt_edition.proofs.Empties.{no_records, spells_empty}
 use Rattle.quilt_edition.proofs.Headers.{same_level, same_height, same_edition}

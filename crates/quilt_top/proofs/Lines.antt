@@ -1,5 +1,5 @@
 -- The line that tells of a new file.
-use Rattle.std.proofs.Common.{◌≡◌, ℕ, List, [], ◌∷◌, ◌++◌, codes, decimal, sym, ap, subst, append_assoc, Result, IfOk, Ok, Err, string_bytes}
+use Rattle.std.proofs.Common.{◌≡◌, ℕ, List, [], ◌∷◌, ◌++◌, codes, decimal, sym, ap, append_assoc}
 use Rattle.quilt_top.specs.Headline.{new_line}
 
 abbrev pub pieces : ℕ → ℕ → List ℕ

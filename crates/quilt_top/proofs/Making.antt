@@ -1,24 +1,23 @@
 -- What a stop leaves of a file that is being made, and what is put.
-use Rattle.std.proofs.Common.{◌≡◌, ◌≢◌, ◌⊎◌, inl, inr, ◌≤◌, ◌<◌, ◌+◌, ◌-◌, ◌*◌, ℕ, Bool, true, false, ◌&&◌, List, [], ◌∷◌, ◌++◌, length, get_or, take, drop, replicate, Option, Some, None, Result, Ok, Err, OnErr, refl, sym, ◌∙◌, ap, subst, arith, append_assoc, append-nil, take-append-drop, length-append}
+use Rattle.std.proofs.Common.{◌≡◌, ◌≢◌, inl, inr, ◌+◌, ◌-◌, ◌*◌, ℕ, Bool, true, false, ◌&&◌, List, [], ◌∷◌, ◌++◌, length, get_or, take, drop, replicate, Option, Some, None, Result, Ok, Err, OnErr, refl, sym, ◌∙◌, ap, subst, arith, append-nil, take-append-drop}
 use Rattle.std.specs.Option.{IfSome}
 use Rattle.std.specs.List.{list_all}
 use Rattle.std.proofs.lemmas.Bool.{cases_lt}
 use Rattle.std.proofs.lemmas.List.{take_at, take-append-le, get_or-replicate, length-replicate}
 use Rattle.std.proofs.lemmas.List.Folds.{list_all-append}
 use Rattle.std.proofs.Math.Seq.{take-append-add}
-use Rattle.quilt_world.specs.Disk.{Pages, Log, Mark, marked, mark_from, unsynced_after, unsynced_from, is_unsynced, mark_of, holds, CanLeave}
+use Rattle.quilt_world.specs.Disk.{Pages, Log, Mark, marked, mark_from, unsynced_after, unsynced_from, is_unsynced, holds, CanLeave}
 use Rattle.quilt_world.specs.PageBytes.{last_bytes, fixed_bytes}
-use Rattle.quilt_world.specs.Stops.{fixed, Leaves, LeavesNow, Since}
+use Rattle.quilt_world.specs.Stops.{fixed}
 use Rattle.quilt_world.specs.Tale.{Tale, IsConsistent, Goes, put_bytes, taken_bytes, Begins}
 use Rattle.quilt_world.specs.Doors.{MakesAt}
 use Rattle.quilt_world.specs.Home.{IsMapFile}
-use Rattle.quilt_world.specs.declared.event.Event.{Event}
 use Rattle.quilt_world.specs.declared.event.Event.TheVariants.{Took, Put, Wrote, Tore, Synced}
 use Rattle.quilt_world.specs.declared.disk.Door.{Door}
 use Rattle.quilt_world.specs.declared.disk.Door.TheVariants as doors
 use Rattle.quilt_world.proofs.PageLaws.{seen_left}
 use Rattle.quilt_edition.specs.Stands.{Stands}
-use Rattle.quilt_edition.specs.Creating.{IsBlank, is_of_pages, AddsPageEvents, IsNoneOrEmpty, Creates, IsCreated}
+use Rattle.quilt_edition.specs.Creating.{IsBlank, is_of_pages, IsNoneOrEmpty, Creates, IsCreated}
 use Rattle.quilt_top.specs.declared.run.End.{End}
 use Rattle.quilt_top.specs.declared.run.End.TheVariants as ends
 use Rattle.quilt_top.specs.Saying.{is_put, Says, SaysFront}

@@ -1,12 +1,10 @@
 -- What is put, call after call.
-use Rattle.std.proofs.Common.{◌≡◌, ℕ, ◌<◌, ◌+◌, ◌≤◌, arith, Bool, true, false, ◌&&◌, List, [], ◌∷◌, ◌++◌, length, take, drop, refl, sym, ◌∙◌, ap, append_assoc, append-nil, Result, Ok, Err, OnOk, OnErr}
-use Rattle.std.specs.List.{list_all}
+use Rattle.std.proofs.Common.{◌≡◌, ℕ, ◌+◌, ◌≤◌, arith, Bool, true, false, ◌&&◌, List, [], ◌∷◌, ◌++◌, take, drop, refl, sym, ◌∙◌, ap, append_assoc, append-nil, Result, Ok, Err, OnErr}
 use Rattle.std.proofs.lemmas.List.{take-take, drop-take, take-append-drop}
 use Rattle.std.proofs.lemmas.List.Folds.{list_all-append}
 use Rattle.quilt_world.specs.Disk.{Log}
-use Rattle.quilt_world.specs.Tale.{Tale, IsSameFile, Adds, put_bytes, put_by, taken_bytes, taken_by, Begins}
-use Rattle.quilt_world.specs.declared.event.Event.{Event}
-use Rattle.quilt_world.specs.declared.event.Event.TheVariants.{Took, Put, Wrote, Tore, Synced}
+use Rattle.quilt_world.specs.Tale.{Tale, Adds, put_bytes, put_by, taken_bytes, taken_by, Begins}
+use Rattle.quilt_world.specs.declared.event.Event.TheVariants.{Put}
 use Rattle.quilt_world.proofs.StopLaws.{same_file}
 use Rattle.quilt_top.specs.Saying.{is_put, Says, SaysFront}
 

@@ -1,6 +1,6 @@
 use Rattle.std.proofs.Common.{sym, ◌∙◌, subst}
 use Rattle.quilt_edition.specs.Creating.{HasMapSize}
-use Rattle.quilt_edition.proofs.Creations.{Stopped, IsReady, IsLabelled, either_way, on_ok, told_header_stopped, told_header, told_label, told_label_stopped, told_creates, told_created}
+use Rattle.quilt_edition.proofs.Creations.{either_way, on_ok, told_header_stopped, told_header, told_label, told_label_stopped, told_creates, told_created}
 use Rattle.quilt_edition.proofs.creation.create.Goals as goal
 
 pub returns-in_err-write_synced-clause-crash : goal.returns-in_err-write_synced-clause-crash

@@ -1,8 +1,7 @@
-use Rattle.std.proofs.Common.{◌≡◌, ℕ, ◌+◌, ◌*◌, List, Ok, Option, sym, ◌∙◌, ap, subst, arith}
+use Rattle.std.proofs.Common.{ℕ, ◌+◌, ◌*◌, List, Ok, ◌∙◌, ap, subst, arith}
 use Rattle.quilt_world.specs.Causes.{Rose}
-use Rattle.quilt_world.specs.Doors.{made, MakesAt}
-use Rattle.quilt_world.specs.Tale.{Tale, Goes}
-use Rattle.quilt_world.specs.declared.disk.Door.TheVariants as doors
+use Rattle.quilt_world.specs.Doors.{made}
+use Rattle.quilt_world.specs.Tale.{Goes}
 use Rattle.quilt_world.proofs.Told.{goes_now}
 use Rattle.quilt_edition.specs.Creating.{IsBlank}
 use Rattle.quilt_top.specs.Saying.{Says, SaysFront}

@@ -1,4 +1,4 @@
-use Rattle.std.proofs.Common.{◌≡◌, ◌<◌, ◌+◌, ℕ, Option, Some, None, Bool, cond, sym, ap, arith, take}
+use Rattle.std.proofs.Common.{◌≡◌, ◌<◌, ◌+◌, Some, None, Bool, cond, sym, ap, arith, take}
 use Rattle.std.proofs.lemmas.List.Sums.{fold_more}
 use Rattle.std.proofs.lemmas.Bool.{lt-leb}
 use Rattle.quilt_lang.specs.Spelling.{value_of}
