@@ -7,7 +7,8 @@ use Rattle.quilt_types.specs.declared.plane.Window.{Window}
 use Rattle.quilt_types.specs.declared.plane.Seg.{Seg}
 use Rattle.quilt_types.specs.Fractions.{Fraction, lowest, is_less, IsLowest}
 use Rattle.quilt_types.specs.Segments.{crossing, stops, is_in, least_of, greatest_of, ends_of, clip_range, meets, Meets, is_on, IsClipRange}
-use Rattle.quilt_clip.specs.Spans.{UpTo, IsOn, Above, Below, Inside}
+use Rattle.quilt_clip.specs.Fractions.{UpTo}
+use Rattle.quilt_clip.specs.Spans.{IsOn, Above, Below, Inside}
 use Rattle.quilt_clip.proofs.Members.{Contains-nil, Contains-here, Contains-there, Contains-cons_cases, Contains-filter, Contains-filter_from}
 use Rattle.quilt_clip.proofs.Orders.{up_to_itself, up_to_trans, up_to_if_less, up_to_unless_less}
 use Rattle.quilt_clip.proofs.Lowest.{lowest_is, lowest_unique, lowest_moves}

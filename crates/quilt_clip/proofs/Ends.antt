@@ -6,7 +6,8 @@ use Rattle.quilt_types.specs.Segments.{clip_range, meets, Meets, IsClipRange}
 use Rattle.quilt_types.specs.declared.plane.Window.{Window}
 use Rattle.quilt_types.specs.declared.plane.Seg.{Seg}
 use Rattle.quilt_clip.specs.declared.span.Span.{Span}
-use Rattle.quilt_clip.specs.Spans.{UpTo, IsOn, Inside, IsSpanIn, IsClipped}
+use Rattle.quilt_clip.specs.Fractions.{UpTo}
+use Rattle.quilt_clip.specs.Spans.{IsOn, Inside, IsSpanIn, IsClipped}
 use Rattle.quilt_clip.proofs.Orders.{up_to_trans}
 use Rattle.quilt_clip.proofs.Lowest.{lowest_is}
 use Rattle.quilt_clip.proofs.Stretches.{lowest_on}

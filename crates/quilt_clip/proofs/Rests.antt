@@ -4,7 +4,8 @@ use Rattle.std.proofs.Math.Nat.{le_of_mul-le-mul_right, mul-le-mul_right}
 use Rattle.std.proofs.lemmas.Bool.{ltb-true}
 use Rattle.quilt_types.specs.Fractions.{Fraction, is_less}
 use Rattle.quilt_clip.specs.declared.span.Span.{Span}
-use Rattle.quilt_clip.specs.Spans.{UpTo, IsOn, LiesIn, IsSpan, IsRest, From, Until}
+use Rattle.quilt_clip.specs.Fractions.{UpTo}
+use Rattle.quilt_clip.specs.Spans.{IsOn, LiesIn, IsSpan, IsRest, From, Until}
 use Rattle.quilt_clip.proofs.Orders.{cross_trans, up_to_trans}
 
 -- a fraction up to one from 0 to 1 is one

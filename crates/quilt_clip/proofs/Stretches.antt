@@ -4,7 +4,8 @@ use Rattle.std.proofs.Math.Nat.{le_of_mul-le-mul_right, mul-le-mul_right}
 use Rattle.std.proofs.lemmas.Nat.{mul-le}
 use Rattle.std.proofs.lemmas.Bool.{cases_lt}
 use Rattle.quilt_types.specs.Fractions.{Fraction, lowest, IsLowest}
-use Rattle.quilt_clip.specs.Spans.{UpTo, IsOn}
+use Rattle.quilt_clip.specs.Fractions.{UpTo}
+use Rattle.quilt_clip.specs.Spans.{IsOn}
 use Rattle.quilt_clip.proofs.Orders.{cross_trans, up_to_itself, up_to_trans, up_to_total}
 use Rattle.quilt_clip.proofs.Lowest.{lowest_is}
 

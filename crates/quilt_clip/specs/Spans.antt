@@ -3,11 +3,8 @@ use Rattle.std.specs.Prelude.{ℕ, ◌+◌, ◌*◌, ◌<◌, ◌≤◌, Option,
 use Rattle.quilt_types.specs.declared.plane.Window.{Window}
 use Rattle.quilt_types.specs.declared.plane.Seg.{Seg}
 use Rattle.quilt_types.specs.Fractions.{Fraction}
+use Rattle.quilt_clip.specs.Fractions.{UpTo}
 use Rattle.quilt_clip.specs.declared.span.Span.{Span}
-
--- a is b or below b
-pub record UpTo (a b : Fraction) : Type 0 where
-  pub cross : a.num * b.den ≤ b.num * a.den
 
 -- a fraction from 0 to 1
 pub record IsOn (t : Fraction) : Type 0 where

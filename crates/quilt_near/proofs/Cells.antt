@@ -1,5 +1,5 @@
 -- Each point of a segment stands in a pixel, and in the closed square of each block that holds that pixel.
-use Rattle.std.proofs.Common.{◌≡◌, ℕ, ◌+◌, ◌-◌, ◌*◌, ◌/◌, ◌%◌, ◌<◌, ◌≤◌, arith, ap}
+use Rattle.std.proofs.Common.{◌≡◌, ℕ, max, ◌+◌, ◌-◌, ◌*◌, ◌/◌, ◌%◌, ◌<◌, ◌≤◌, arith, ap}
 use Rattle.std.proofs.Math.Nat.{mul-le-mul_right}
 use Rattle.std.proofs.lemmas.Nat.{div_below}
 use Rattle.quilt_types.specs.declared.plane.Window.{Window}
@@ -46,12 +46,15 @@ cell_sum a b n p q r over e an bn =
     omega (arith, ap (λ z. n * z) e, mul-le-mul_right r up, mul-le-mul_right p vp)
 
 -- it is a pixel of the square where the ends are
-pub cell_small : (a b n : ℕ) (t : Fraction) → IsOn t → a < n → b < n → cell a b t < n
+cell_small : (a b n : ℕ) (t : Fraction) → IsOn t → a < n → b < n → cell a b t < n
 unfolding cell
 cell_small a b n t on an bn =
     let over = on.positive in
     let within = on.within in
     div_below (a * (t.den - t.num) + b * t.num) t.den n over (cell_sum a b n t.num t.den (t.den - t.num) over (omega arith) an bn)
+
+pub cell_upto : (a b : ℕ) (t : Fraction) → IsOn t → cell a b t ≤ max a b
+cell_upto a b t on = let small = cell_small a b (max a b + 1) t on (omega arith) (omega arith) in omega arith
 
 pub cell_inside : (s : Seg) (w : Window) (t : Fraction) → IsOn t →
     w.x ≤ cell s.x1 s.x2 t → cell s.x1 s.x2 t < w.x + w.w → w.y ≤ cell s.y1 s.y2 t → cell s.y1 s.y2 t < w.y + w.h → Inside s w t

@@ -12,7 +12,8 @@ use Rattle.quilt_types.specs.declared.plane.Pixel.{Pixel}
 use Rattle.quilt_types.specs.Layers.{SegMap}
 use Rattle.quilt_types.specs.Fractions.{Fraction, is_less}
 use Rattle.quilt_types.specs.Segments.{square_distance, nearer, nearest}
-use Rattle.quilt_clip.specs.Spans.{UpTo}
+use Rattle.quilt_clip.specs.Fractions.{UpTo}
+use Rattle.quilt_near.specs.Nearest.{IsNearest}
 use Rattle.quilt_clip.proofs.Members.{Contains-nil, Contains-here, Contains-there, Contains-cons_cases}
 use Rattle.quilt_clip.proofs.Orders.{up_to_itself, up_to_trans, up_to_if_less, up_to_unless_less}
 use Rattle.quilt_near.proofs.Bounds.{nearest_point}
@@ -24,14 +25,6 @@ positive p s = (nearest_point p s).1.positive
 abbrev pub Rises : List (ℕ × Seg) → Type 0
 Rises [] = Unit {0}
 Rises (e ∷ es) = ((f : ℕ × Seg) → Contains es f → e.0 < f.0) × Rises es
-
--- the least of (squared distance, id)
-pub record IsNearest (p : Pixel) (es : List (ℕ × Seg)) (r : ℕ × Fraction) : Type 0 where
-  pub seg : Seg
-  pub listed : Contains es (r.0, seg)
-  pub distance : square_distance p seg ≡ r.1
-  pub least : (e : ℕ × Seg) → Contains es e → UpTo r.1 (square_distance p e.1)
-  pub first : (e : ℕ × Seg) → Contains es e → UpTo (square_distance p e.1) r.1 → r.0 ≤ e.0
 
 one_nearest : (p : Pixel) (b : ℕ × Seg) → IsNearest p (b ∷ []) (b.0, square_distance p b.1)
 one_nearest p b = record {
