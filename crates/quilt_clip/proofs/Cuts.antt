@@ -1,4 +1,4 @@
--- What the side of a line leaves of a part, and that four sides make the clip.
+-- What the side of a line leaves of a span, and that four sides make the clip.
 use Rattle.std.proofs.Common.{ℕ, ◌+◌, ◌-◌, ◌<◌, ◌≤◌, Option, Some, None, arith}
 use Rattle.std.proofs.Math.Nat.{le_of_mul-le-mul_right, mul-le-mul_right}
 use Rattle.quilt_types.specs.Fractions.{Fraction}
@@ -10,7 +10,10 @@ use Rattle.quilt_clip.proofs.Sides.{rise_above, rise_above_from, rise_below, ris
 
 rest_same : (p : Span) (C D : Fraction → Type 0) (r : Span) → ((t : Fraction) → IsOn t → C t → D t) → ((t : Fraction) → IsOn t → D t → C t) → IsRest p C r → IsRest p D r
 rest_same p C D r there back h = record {
-  part = h.part; before = h.before; meets = λ t on l. there t on (h.meets t on l); all = λ t on l d. h.all t on l (back t on d)
+  span = h.span;
+  before = h.before;
+  meets = λ t on l. there t on (h.meets t on l);
+  all = λ t on l d. h.all t on l (back t on d);
 }
 
 pub cut_same : (p : Span) (C D : Fraction → Type 0) (r : Option Span) → ((t : Fraction) → IsOn t → C t → D t) → ((t : Fraction) → IsOn t → D t → C t) → IsCut p C r → IsCut p D r
@@ -20,23 +23,23 @@ cut_same p C D (Some r) there back h = rest_same p C D r there back h
 -- the four ways in which one condition is another
 pub cut_rise_above : (p : Span) (a b c : ℕ) (r : Option Span) → a < b → a ≤ c → IsCut p (From (c - a) (b - a)) r → IsCut p (Above a b c) r
 cut_rise_above p a b c r ab ac = cut_same p (From (c - a) (b - a)) (Above a b c) r
-  (λ t on h. record { fact = rise_above_from a b c (b - a) (c - a) t.num t.den (omega arith) (omega arith) h.fact })
-  (λ t on h. record { fact = rise_above a b c (b - a) (c - a) t.num t.den (omega arith) (omega arith) h.fact })
+    (λ t on h. record { fact = rise_above_from a b c (b - a) (c - a) t.num t.den (omega arith) (omega arith) h.fact })
+    (λ t on h. record { fact = rise_above a b c (b - a) (c - a) t.num t.den (omega arith) (omega arith) h.fact })
 
 pub cut_rise_below : (p : Span) (a b c : ℕ) (r : Option Span) → a < b → a ≤ c → IsCut p (Until (c - a) (b - a)) r → IsCut p (Below a b c) r
 cut_rise_below p a b c r ab ac = cut_same p (Until (c - a) (b - a)) (Below a b c) r
-  (λ t on h. record { fact = rise_below_from a b c (b - a) (c - a) t.num t.den (omega arith) (omega arith) h.fact })
-  (λ t on h. record { fact = rise_below a b c (b - a) (c - a) t.num t.den (omega arith) (omega arith) h.fact })
+    (λ t on h. record { fact = rise_below_from a b c (b - a) (c - a) t.num t.den (omega arith) (omega arith) h.fact })
+    (λ t on h. record { fact = rise_below a b c (b - a) (c - a) t.num t.den (omega arith) (omega arith) h.fact })
 
 pub cut_fall_above : (p : Span) (a b c : ℕ) (r : Option Span) → b < a → c ≤ a → IsCut p (Until (a - c) (a - b)) r → IsCut p (Above a b c) r
 cut_fall_above p a b c r ba ca = cut_same p (Until (a - c) (a - b)) (Above a b c) r
-  (λ t on h. record { fact = fall_above_from a b c (a - b) (a - c) t.num t.den (omega arith) (omega arith) h.fact })
-  (λ t on h. record { fact = fall_above a b c (a - b) (a - c) t.num t.den (omega arith) (omega arith) h.fact })
+    (λ t on h. record { fact = fall_above_from a b c (a - b) (a - c) t.num t.den (omega arith) (omega arith) h.fact })
+    (λ t on h. record { fact = fall_above a b c (a - b) (a - c) t.num t.den (omega arith) (omega arith) h.fact })
 
 pub cut_fall_below : (p : Span) (a b c : ℕ) (r : Option Span) → b < a → c ≤ a → IsCut p (From (a - c) (a - b)) r → IsCut p (Below a b c) r
 cut_fall_below p a b c r ba ca = cut_same p (From (a - c) (a - b)) (Below a b c) r
-  (λ t on h. record { fact = fall_below_from a b c (a - b) (a - c) t.num t.den (omega arith) (omega arith) h.fact })
-  (λ t on h. record { fact = fall_below a b c (a - b) (a - c) t.num t.den (omega arith) (omega arith) h.fact })
+    (λ t on h. record { fact = fall_below_from a b c (a - b) (a - c) t.num t.den (omega arith) (omega arith) h.fact })
+    (λ t on h. record { fact = fall_below a b c (a - b) (a - c) t.num t.den (omega arith) (omega arith) h.fact })
 
 -- always, and never
 pub always_above : (a b c : ℕ) (t : Fraction) → c ≤ a → a ≤ b → Above a b c t
@@ -63,8 +66,11 @@ whole = record { first = record { num = 0; den = 1 }; last = record { num = 1; d
 
 pub whole_is : IsSpan whole
 whole_is = record {
-  first = record { positive = omega arith; within = omega arith }; last = record { positive = omega arith; within = omega arith };
-  order = record { cross = omega arith }; first_small = omega arith; last_small = omega arith
+  first = record { positive = omega arith; within = omega arith };
+  last = record { positive = omega arith; within = omega arith };
+  order = record { cross = omega arith };
+  first_small = omega arith;
+  last_small = omega arith;
 }
 
 whole_lies : (t : Fraction) → IsOn t → LiesIn whole t
@@ -74,13 +80,13 @@ clipped_some : (s : Seg) (w : Window) (right middle lower last : Span) →
     IsRest whole (Above s.x1 s.x2 w.x) right → IsRest right (Below s.x1 s.x2 (w.x + w.w)) middle →
     IsRest middle (Above s.y1 s.y2 w.y) lower → IsRest lower (Below s.y1 s.y2 (w.y + w.h)) last → IsSpanIn s w last
 clipped_some s w right middle lower last a b c d = record {
-  part = d.part;
+  span = d.span;
   inside = λ t on l.
       let in_lower = d.before t on l in
       let in_middle = c.before t on in_lower in
       let in_right = b.before t on in_middle in
       record { left = a.meets t on in_right; right = b.meets t on in_middle; top = c.meets t on in_lower; bottom = d.meets t on l };
-  all = λ t on h. d.all t on (c.all t on (b.all t on (a.all t on (whole_lies t on) h.left) h.right) h.top) h.bottom
+  all = λ t on h. d.all t on (c.all t on (b.all t on (a.all t on (whole_lies t on) h.left) h.right) h.top) h.bottom;
 }
 
 pub clipped : (s : Seg) (w : Window) (right middle lower : Span) (last : Option Span) →

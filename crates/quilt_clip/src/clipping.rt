@@ -48,3 +48,6 @@ pub fn meets(s: Seg, b: Block) -> bool
     };
     span_in(s, w).is_some()
 }
+
+#[cfg(test)]
+mod tests;

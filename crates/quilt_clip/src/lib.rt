@@ -6,4 +6,4 @@ mod frac;
 mod span;
 
 pub use clipping::{clip, meets};
-pub use frac::{cmp, Frac};
+pub use frac::{Frac, cmp};

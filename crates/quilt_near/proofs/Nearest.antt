@@ -150,3 +150,23 @@ fold_is p (e ∷ es) h r n =
 -- whatever is the least of (squared distance, id) is what `nearest` gives
 pub nearest_from : (segs : SegMap) (p : Pixel) (r : ℕ × Fraction) → IsNearest p (finmap.entries segs) r → nearest segs p ≡ Some r
 nearest_from segs p r n = fold_is p (finmap.entries segs) (rises_if_sorted (finmap.entries segs) (finmap.entries_sorted segs)) r n
+
+fold_gives : (p : Pixel) (es : List (ℕ × Seg)) → Rises es → (r : ℕ × Fraction) → fold (nearer p) None es ≡ Some r → IsNearest p es r
+fold_gives p [] h r e = absurd (cc)
+fold_gives p (x ∷ es) h r e =
+    let f = found_more p es x h in
+    let both : Some f.it ≡ Some r = sym f.is ∙ e in
+    let same : f.it ≡ r = cc in
+    subst (IsNearest p (x ∷ es)) same f.nearest
+
+-- and what `nearest` gives is the least of them
+pub nearest_is : (segs : SegMap) (p : Pixel) (r : ℕ × Fraction) → nearest segs p ≡ Some r → IsNearest p (finmap.entries segs) r
+nearest_is segs p r e = fold_gives p (finmap.entries segs) (rises_if_sorted (finmap.entries segs) (finmap.entries_sorted segs)) r e
+
+fold_none : (p : Pixel) (es : List (ℕ × Seg)) → Rises es → fold (nearer p) None es ≡ None → es ≡ []
+fold_none p [] h e = refl
+fold_none p (x ∷ es) h e = let f = found_more p es x h in let both : Some f.it ≡ None = sym f.is ∙ e in absurd (cc)
+
+-- there is none only where there is no segment
+pub nearest_none : (segs : SegMap) (p : Pixel) → nearest segs p ≡ None → finmap.entries segs ≡ []
+nearest_none segs p e = fold_none p (finmap.entries segs) (rises_if_sorted (finmap.entries segs) (finmap.entries_sorted segs)) e

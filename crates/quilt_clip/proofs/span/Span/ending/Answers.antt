@@ -9,7 +9,7 @@ returns-then-is_less c t on l h = until_past c.args.self c.args.m c.args.k t c.r
 pub returns-then-is_less-2 : goal.returns-then-is_less-2
 returns-then-is_less-2 c =
     rest_until c.args.self c.args.m c.args.k c.requires.span c.requires.over c.requires.small
-      (up_to_unless_less _ _ (sym c.is_less.ensures ∙ c.if-is_less.false)) (up_to_if_less _ _ (sym c.is_less-else-is_less.ensures ∙ c.if-is_less-2.true))
+    (up_to_unless_less _ _ (sym c.is_less.ensures ∙ c.if-is_less.false)) (up_to_if_less _ _ (sym c.is_less-else-is_less.ensures ∙ c.if-is_less-2.true))
 
 pub returns-else-is_less-2 : goal.returns-else-is_less-2
 returns-else-is_less-2 c =
