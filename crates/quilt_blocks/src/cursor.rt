@@ -23,10 +23,10 @@ impl<'a> Model for Cursor<'a> {
     ghost use Rattle.quilt_blocks.specs.Walk.{size_of};
 
     ghost view = { λ c. record {
-        level = c.list.now.level;
-        grid = c.list.now.grid;
-        at = size_of (take c.place (leaves_by_code c.list.now.level c.list.now.grid));
-        rest = drop c.place (leaves_by_code c.list.now.level c.list.now.grid);
+      level = c.list.now.level;
+      grid = c.list.now.grid;
+      at = size_of (take c.place (leaves_by_code c.list.now.level c.list.now.grid));
+      rest = drop c.place (leaves_by_code c.list.now.level c.list.now.grid);
     } };
 
     ghost invariant = { λ c. c.place ≤ length (leaves_by_code c.list.now.level c.list.now.grid) };
