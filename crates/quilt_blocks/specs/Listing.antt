@@ -1,7 +1,8 @@
--- What a list of leaves, and one that is being made, keep.
+-- What a list of leaves keeps, and one that is being made.
 use Rattle.std.specs.Prelude.{◌≡◌, ℕ, ◌+◌, ◌*◌, ◌<◌, ◌≤◌, List, [], ◌∷◌, ◌++◌, map, All, Contains}
 use Rattle.quilt_types.specs.declared.plane.Block.{Block}
 use Rattle.quilt_types.specs.Plane.{quarters_of, IsBlock}
+use Rattle.quilt_types.specs.Layers.{Grid}
 use Rattle.quilt_loc.specs.Codes.{code_from}
 use Rattle.quilt_blocks.specs.declared.leaf.Leaf.{Leaf}
 use Rattle.quilt_blocks.specs.Cutting.{leaves_by_code, pair_of}
@@ -11,16 +12,16 @@ use Rattle.quilt_blocks.specs.Painting.{colours_of, grid_by_code}
 abbrev pub pairs_of : List Leaf → List (Block × ℕ)
 pairs_of leaves = map pair_of leaves
 
--- the grid that the leaves paint
-abbrev pub grid_from : ℕ → List Leaf → List ℕ
-grid_from n leaves = grid_by_code n (colours_of (pairs_of leaves))
+-- the grid that the blocks paint
+abbrev pub grid_from : ℕ → List (Block × ℕ) → Grid
+grid_from n es = grid_by_code n (colours_of es)
 
 -- the leaves of one grid, in the order of their codes
-pub record IsListed (n : ℕ) (leaves : List Leaf) : Type 0 where
+pub record IsListed (n : ℕ) (es : List (Block × ℕ)) : Type 0 where
   pub least : 1 ≤ n
   pub most : n ≤ 12
-  pub bytes : All (λ l. l.colour.0 < 256) leaves
-  pub ordered : pairs_of leaves ≡ leaves_by_code n (grid_from n leaves)
+  pub bytes : All (λ e. e.1 < 256) es
+  pub ordered : es ≡ leaves_by_code n (grid_from n es)
 
 -- blocks of which each begins at the code at which the one before it ended, the first at this code
 abbrev pub Follows : ℕ → ℕ → List (Block × ℕ) → Type 0
@@ -32,25 +33,25 @@ pub record IsUnmerged (n : ℕ) (es : List (Block × ℕ)) : Type 0 where
   pub four : (b : Block) (c : ℕ) → IsBlock n b → ((q : Block) → Contains (quarters_of b) q → Contains es (q, c)) → ⊥
 
 -- blocks from the first code on, one after another, of which no four siblings have one colour
-pub record IsMaking (n : ℕ) (leaves : List Leaf) : Type 0 where
+pub record IsMaking (n : ℕ) (es : List (Block × ℕ)) : Type 0 where
   pub least : 1 ≤ n
   pub most : n ≤ 12
-  pub bytes : All (λ l. l.colour.0 < 256) leaves
-  pub follows : Follows n 0 (pairs_of leaves)
-  pub unmerged : IsUnmerged n (pairs_of leaves)
+  pub bytes : All (λ e. e.1 < 256) es
+  pub follows : Follows n 0 es
+  pub unmerged : IsUnmerged n es
 
--- the same but for the last leaf, which may be a fourth sibling of one colour
-pub record IsGrowing (n : ℕ) (leaves : List Leaf) : Type 0 where
-  pub bytes : All (λ l. l.colour.0 < 256) leaves
-  pub follows : Follows n 0 (pairs_of leaves)
-  pub front : List Leaf
-  pub last : Leaf
-  pub split : leaves ≡ front ++ last ∷ []
-  pub unmerged : IsUnmerged n (pairs_of front)
+-- the same but for the last block, which may be a fourth sibling of one colour
+pub record IsGrowing (n : ℕ) (es : List (Block × ℕ)) : Type 0 where
+  pub bytes : All (λ e. e.1 < 256) es
+  pub follows : Follows n 0 es
+  pub front : List (Block × ℕ)
+  pub last : Block × ℕ
+  pub split : es ≡ front ++ last ∷ []
+  pub unmerged : IsUnmerged n front
 
--- the last four leaves are the quarters of a block and have one colour
-pub record EndsInQuarters (n : ℕ) (leaves : List Leaf) (whole : Leaf) : Type 0 where
-  pub block : IsBlock n whole.block
-  pub wide : 1 < whole.block.side
-  pub front : List Leaf
-  pub split : leaves ≡ front ++ map (λ q. record { block = q; colour = whole.colour }) (quarters_of whole.block)
+-- the last four blocks are the quarters of a block and have its colour
+pub record EndsInQuarters (n : ℕ) (es : List (Block × ℕ)) (whole : Block × ℕ) : Type 0 where
+  pub block : IsBlock n whole.0
+  pub wide : 1 < whole.0.side
+  pub front : List (Block × ℕ)
+  pub split : es ≡ front ++ map (λ q. (q, whole.1)) (quarters_of whole.0)

@@ -25,20 +25,20 @@ impl Model for LeafList {
 
     ghost Value = { Raster };
 
-    ghost use Rattle.quilt_blocks.specs.Listing.{IsListed, grid_from};
+    ghost use Rattle.quilt_blocks.specs.Listing.{IsListed, grid_from, pairs_of};
 
-    ghost view = { λ l. record { level = l.level; grid = grid_from l.level l.leaves.items } };
+    ghost view = { λ l. record { level = l.level; grid = grid_from l.level (pairs_of l.leaves.items) } };
 
-    ghost invariant = { λ l. IsListed l.level l.leaves.items };
+    ghost invariant = { λ l. IsListed l.level (pairs_of l.leaves.items) };
 }
 
 impl LeafList {
-    ghost use Rattle.quilt_blocks.specs.Listing.{IsListed, grid_from};
+    ghost use Rattle.quilt_blocks.specs.Listing.{IsListed, grid_from, pairs_of};
 
     /// The list of these leaves, which are the maximal blocks of one grid in the order of their codes.
     pub(crate) fn of(level: u8, leaves: Vec<Leaf>) -> LeafList
-        requires { IsListed level leaves.items }
-        ensures { result ≡ record { level = level; grid = grid_from level leaves.items } }
+        requires { IsListed level (pairs_of leaves.items) }
+        ensures { result ≡ record { level = level; grid = grid_from level (pairs_of leaves.items) } }
     {
         LeafList { level, leaves }
     }
@@ -55,6 +55,7 @@ impl LeafList {
     pub fn len(&self) -> usize
         ensures value { result ≡ length (leaves_by_code self.now.level self.now.grid) }
         ensures some { 1 ≤ result }
+        ensures raster { IsRaster self.now }
         ensures members { (e : BlockValue × ℕ) → Contains (leaves_by_code self.now.level self.now.grid) e ↔ Contains (leaves self.now.level self.now.grid) e }
         ensures order { Rises leaf_cmp (leaves_by_code self.now.level self.now.grid) }
     {
@@ -93,20 +94,26 @@ impl LeafList {
         Some(leaf.colour)
     }
 
-    /// The leaf that holds the pixel.
+    /// The leaf that holds the pixel: the last that begins at its code or before.
     fn leaf_with(&self, p: Pixel) -> Leaf
         requires in_x { p.x < side self.now.level }
         requires in_y { p.y < side self.now.level }
         ensures member { Contains (leaves_by_code self.now.level self.now.grid) (pair_of result) }
         ensures holds { Holds result.block p }
     {
+        let leaves = &self.leaves;
         let code = code_of(p);
-        let after = self.leaves.partition_point(|leaf| {
-            code_of(Pixel {
-                x: leaf.block.x,
-                y: leaf.block.y,
-            }) <= code
-        });
-        self.leaves[after - 1]
+        let mut low = 0;
+        let mut high = leaves.len();
+        while high - low > 1 {
+            let middle = low + (high - low) / 2;
+            let Block { x, y, .. } = leaves[middle].block;
+            if code_of(Pixel { x, y }) <= code {
+                low = middle;
+            } else {
+                high = middle;
+            }
+        }
+        leaves[low]
     }
 }

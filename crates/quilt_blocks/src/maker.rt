@@ -1,13 +1,13 @@
-ghost use Rattle.std.specs.Prelude.{◌≡◌, ℕ, ◌*◌, ◌^◌, ◌≤◌, ◌↔◌, IsNone, IfSome, All, List, [], ◌++◌, replicate, length, Contains, OnOk, OnErr};
+ghost use Rattle.std.specs.Prelude.{◌≡◌, ℕ, ◌*◌, ◌^◌, ◌≤◌, ◌↔◌, IsNone, IsTrue, IfSome, List, [], ◌++◌, replicate, length, Contains, OnOk, OnErr};
 ghost use Rattle.quilt_types.specs.declared.plane.Block.{Block as BlockValue};
 ghost use Rattle.quilt_types.specs.Plane.{IsBlock};
-ghost use Rattle.quilt_blocks.specs.declared.leaf.Leaf.{Leaf as LeafValue};
 ghost use Rattle.quilt_types.specs.Layers.{Grid};
 ghost use Rattle.quilt_types.specs.Quadtrees.{leaves};
 ghost use Rattle.quilt_loc.specs.Codes.{code_from, code_to};
 ghost use Rattle.quilt_blocks.specs.Painting.{colours_of, grid_by_code};
 ghost use Rattle.quilt_blocks.specs.Mosaic.{IsMosaic};
-ghost use Rattle.quilt_blocks.specs.Listing.{IsGrowing, IsMaking, EndsInQuarters, pairs_of};
+ghost use Rattle.quilt_blocks.specs.Listing.{Follows, IsGrowing, IsMaking, EndsInQuarters, pairs_of};
+ghost use Rattle.quilt_blocks.specs.Cutting.{pair_of};
 
 use crate::{Leaf, LeafList};
 use quilt_loc::{parent, quarters};
@@ -33,7 +33,7 @@ impl Model for Maker {
 
     ghost view = { λ m. record { level = m.level; colours = colours_of (pairs_of m.leaves.items) } };
 
-    ghost invariant = { λ m. IsMaking m.level m.leaves.items };
+    ghost invariant = { λ m. IsMaking m.level (pairs_of m.leaves.items) };
 }
 
 impl Maker {
@@ -83,8 +83,8 @@ impl Maker {
 fn merge_last(leaves: &mut Vec<Leaf>, level: u8)
     requires least { 1 ≤ level }
     requires most { level ≤ 12 }
-    requires growing { IsGrowing level leaves.old.items }
-    ensures making { IsMaking level leaves.new.items }
+    requires growing { IsGrowing level (pairs_of leaves.old.items) }
+    ensures making { IsMaking level (pairs_of leaves.new.items) }
     ensures colours { colours_of (pairs_of leaves.new.items) ≡ colours_of (pairs_of leaves.old.items) }
 {
     while let Some(whole) = whole_of_last(leaves, level) {
@@ -98,9 +98,9 @@ fn merge_last(leaves: &mut Vec<Leaf>, level: u8)
 fn whole_of_last(leaves: &[Leaf], level: u8) -> Option<Leaf>
     requires least { 1 ≤ level }
     requires most { level ≤ 12 }
-    requires valid { All (λ l. IsBlock level l.block) leaves.now }
-    ensures some { IfSome result (EndsInQuarters level leaves.now) }
-    ensures none { IsNone result → (l : LeafValue) → EndsInQuarters level leaves.now l → ⊥ }
+    requires follows { Follows level 0 (pairs_of leaves.now) }
+    ensures some { IfSome result (λ l. EndsInQuarters level (pairs_of leaves.now) (pair_of l)) }
+    ensures none { IsNone result → (e : BlockValue × ℕ) → EndsInQuarters level (pairs_of leaves.now) e → ⊥ }
 {
     let n = leaves.len();
     if n < 4 {
@@ -109,10 +109,20 @@ fn whole_of_last(leaves: &[Leaf], level: u8) -> Option<Leaf>
     let Leaf { block, colour } = leaves[n - 4];
     let block = parent(block, level)?;
     let [a, b, c, d] = quarters(block);
-    let is = |i: usize, block| leaves[i] == Leaf { block, colour };
-    if is(n - 4, a) && is(n - 3, b) && is(n - 2, c) && is(n - 1, d) {
+    if is(leaves[n - 4], a, colour)
+        && is(leaves[n - 3], b, colour)
+        && is(leaves[n - 2], c, colour)
+        && is(leaves[n - 1], d, colour)
+    {
         Some(Leaf { block, colour })
     } else {
         None
     }
+}
+
+/// Whether the leaf is this block with this colour.
+fn is(leaf: Leaf, block: Block, colour: Colour) -> bool
+    ensures { IsTrue result ↔ (pair_of leaf ≡ (block, colour.0)) }
+{
+    leaf.block == block && leaf.colour == colour
 }

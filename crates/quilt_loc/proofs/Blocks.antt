@@ -1,5 +1,5 @@
 -- The blocks of the square: which they are, which pixels they hold, and how they nest.
-use Rattle.std.proofs.Common.{◌≡◌, ℕ, ◌+◌, ◌-◌, ◌%◌, ◌^◌, ◌<◌, ◌≤◌, Bool, true, ◌&&◌, nat_le, nat_lt, eqb, map, filter, sym, ap, subst, arith, Contains, eqb-true, eq-eqb, leb-true, ltb-true, le-leb, lt-ltb}
+use Rattle.std.proofs.Common.{◌≡◌, ℕ, ◌+◌, ◌-◌, ◌%◌, ◌<◌, ◌≤◌, Bool, true, ◌&&◌, nat_le, nat_lt, eqb, map, filter, sym, ap, subst, arith, Contains, eqb-true, eq-eqb, leb-true, ltb-true, le-leb, lt-ltb}
 use Rattle.std.proofs.Math.Nat.{pow-le-pow_right}
 use Rattle.std.proofs.lemmas.Bool.{and_parts, and_from}
 use Rattle.quilt_types.specs.declared.plane.Pixel.{Pixel}
@@ -98,3 +98,12 @@ Contains-blocks n b h =
 -- a square of a level up to 12 is no wider than 4096
 pub side_most : (n : ℕ) → n ≤ 12 → side n ≤ 4096
 side_most n le = pow-le-pow_right (let p : 0 < 2 = omega arith in p) le
+
+-- a block of a square is one of a larger square
+pub IsBlock-up : (n m : ℕ) (b : Block) → n ≤ m → IsBlock n b → IsBlock m b
+IsBlock-up n m b le h =
+    let w : side n ≤ side m = pow-le-pow_right (let p : 0 < 2 = omega arith in p) le in
+    let l = h.low in
+    let x = h.in_x in
+    let y = h.in_y in
+    record { level = h.level; low = omega arith; size = h.size; on_x = h.on_x; on_y = h.on_y; in_x = omega arith; in_y = omega arith }

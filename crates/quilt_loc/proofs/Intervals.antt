@@ -1,5 +1,5 @@
 -- The codes of a block are one interval, and the quarters cut it in four.
-use Rattle.std.proofs.Common.{◌≡◌, ℕ, zero, suc, ◌+◌, ◌-◌, ◌*◌, ◌/◌, ◌%◌, ◌^◌, ◌<◌, ◌≤◌, [], ◌∷◌, ⊎_elim, sym, ◌∙◌, ap, ap₂, subst, arith, Less, pow_pos, pow-suc}
+use Rattle.std.proofs.Common.{◌≡◌, ℕ, zero, suc, ◌+◌, ◌-◌, ◌*◌, ◌/◌, ◌%◌, ◌^◌, ◌<◌, ◌≤◌, [], ◌∷◌, ⊎_elim, refl, sym, ◌∙◌, ap, ap₂, subst, arith, Less, pow_pos, pow-suc}
 use Rattle.std.proofs.Math.Nat.{mul-le-mul_left}
 use Rattle.std.proofs.lemmas.Bool.{cases_lt}
 use Rattle.std.proofs.lemmas.Nat.{div-add-mod', div-mul-add, mod-mul-add, mod_below, div_below, pow-add}
@@ -28,8 +28,12 @@ side_squared (suc k) =
     let ih = side_squared k in
     omega arith
 
-square_pos : (s : ℕ) → 0 < s → 0 < s * s
+pub square_pos : (s : ℕ) → 0 < s → 0 < s * s
 square_pos s h = let m = mul-le-mul_left s h in omega arith
+
+pub origin_code : code 0 0 ≡ 0
+unfolding code interleaved
+origin_code = refl
 
 -- the last k pairs of bits of a code, and the others
 pub code_split : (k x y : ℕ) → k ≤ 12 → code x y ≡ interleaved k x y + 4 ^ k * interleaved (12 - k) (x / 2 ^ k) (y / 2 ^ k)
@@ -197,6 +201,12 @@ quarter_codes n k b h e le =
     let c3 = quarter_code k (b.x + 2 ^ k) (b.y + 2 ^ k) u v 1 1 le x.3 y.3 x.1 y.1 one one in
     let w : b.side * b.side ≡ 2 ^ suc k * 2 ^ suc k = ap (λ z. z * z) e in
     record { right = omega arith; below = omega arith; across = omega arith; all = omega arith }
+
+pub half_codes : (n : ℕ) (b : Block) → IsBlock n b → n ≤ 12 → 1 < b.side → HasQuarterCodes b (b.side / 2)
+half_codes n b h le wide =
+    let v = halved n b h wide in
+    let l = v.1 in
+    subst (HasQuarterCodes b) (sym v.3) (quarter_codes n v.0 b h v.2 (omega arith))
 
 pub Rises-quarters : (n : ℕ) (b : Block) → IsBlock n b → n ≤ 12 → 1 < b.side → Rises code_cmp (quarters_of b)
 Rises-quarters n b h le wide =

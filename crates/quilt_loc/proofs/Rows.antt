@@ -1,5 +1,5 @@
 -- The pixels of the square, their places, and the grid that has given colours.
-use Rattle.std.proofs.Common.{◌≡◌, ℕ, zero, suc, ◌+◌, ◌*◌, ◌<◌, List, map, length, get_or, sym, ◌∙◌, ap, arith, Contains, flat_map, zero-mul, suc-mul, length-append, get_or-append-add, pow_pos, ext_get_or, ◌/◌, ◌%◌}
+use Rattle.std.proofs.Common.{◌≡◌, ℕ, zero, suc, ◌+◌, ◌*◌, ◌<◌, List, map, length, get_or, sym, ◌∙◌, ap, arith, Contains, flat_map, zero-mul, suc-mul, length-append, get_or-append-add, pow_pos, ext_get_or}
 use Rattle.std.specs.List.{range_with_len}
 use Rattle.std.proofs.lemmas.List.{get_or-map, get_or_append_left, length-map}
 use Rattle.std.proofs.lemmas.List.FromFn.{length-map-range_with_len, get_or-map-range_with_len}

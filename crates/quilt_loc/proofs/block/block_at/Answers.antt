@@ -1,4 +1,4 @@
-use Rattle.std.proofs.Common.{◌≡◌, ◌<◌, ap, subst, sym, arith, pow_pos}
+use Rattle.std.proofs.Common.{◌<◌, arith, pow_pos}
 use Rattle.quilt_loc.proofs.Steps.{start_low, start_on}
 use Rattle.quilt_loc.proofs.block.block_at.Goals as goal
 

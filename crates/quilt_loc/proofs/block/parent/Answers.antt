@@ -1,4 +1,4 @@
-use Rattle.std.proofs.Common.{◌≡◌, ◌≤◌, ◌^◌, ◌%◌, ◌*◌, ap, subst, sym, ◌∙◌, arith}
+use Rattle.std.proofs.Common.{arith}
 use Rattle.quilt_types.specs.Plane.{whole}
 use Rattle.quilt_loc.proofs.Nesting.{twice_le}
 use Rattle.quilt_loc.proofs.Quartered.{IsBlock-whole, side_le}
