@@ -1,13 +1,8 @@
-// A library with one function.
+//! Rasters: lists of leaves made of the colours of all pixels, and windows of them as text.
 #![tactic(auto)]
 
-ghost use Rattle.std.specs.Prelude.{◌≡◌};
-ghost use Rattle.quilt_raster.specs.Echo.{echo_of};
+mod reading;
+mod showing;
 
-// The `ensures` clause is the contract: what `echo` returns is `echo_of` of its argument, a definition
-// in `specs/Echo.antt`, which a caller's clause can cite too.
-pub fn echo(x: usize) -> usize
-    ensures { result ≡ echo_of x }
-{
-    x
-}
+pub use reading::leaves_of;
+pub use showing::render;
