@@ -3,9 +3,9 @@ use Rattle.std.proofs.Common.{◌≡◌, ◌⊎◌, inl, inr, ℕ, ◌+◌, ◌<
 use Rattle.std.proofs.lemmas.Bool.{cases_Bool, false≢true}
 use Rattle.quilt_types.specs.Plane.{below}
 use Rattle.quilt_world.specs.Disk.{Pages}
-use Rattle.quilt_world.specs.Stops.{last, fixed, LeavesNow, Since}
+use Rattle.quilt_world.specs.Stops.{fixed, LeavesNow, Since}
 use Rattle.quilt_world.specs.Tale.{Tale, Adds}
-use Rattle.quilt_world.specs.declared.event.Event.TheVariants.{Wrote, Synced}
+use Rattle.quilt_world.specs.declared.event.Event.TheVariants.{Synced}
 use Rattle.quilt_world.proofs.StopLaws.{Touches, wrote_touches, synced_touches, since_here, since_touch, last_wrote, fixed_synced, last_from}
 use Rattle.quilt_journal.specs.Changed.{is_changed, changed_count}
 use Rattle.quilt_journal.specs.Copying.{Copying}

@@ -1,3 +1,4 @@
+pub mod Begins
 pub mod Bits
 pub mod Calls
 pub mod CarrySteps

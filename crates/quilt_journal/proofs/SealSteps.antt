@@ -1,10 +1,9 @@
 -- What a stop may leave while the gate is being opened, after one more call.
-use Rattle.std.proofs.Common.{◌≡◌, ◌⊎◌, inl, ℕ, ◌+◌, ◌<◌, Bool, true, false, cond, unwrap_or, List, [], ◌∷◌, Some, refl, sym, ◌∙◌, ap, subst, arith}
+use Rattle.std.proofs.Common.{◌≡◌, ◌⊎◌, inl, ℕ, ◌+◌, Bool, true, false, cond, unwrap_or, List, [], Some, sym, ◌∙◌, ap, arith}
 use Rattle.quilt_world.specs.Disk.{Pages}
 use Rattle.quilt_world.specs.Stops.{last, LeavesNow, Since}
-use Rattle.quilt_world.specs.Tale.{Tale, Adds}
+use Rattle.quilt_world.specs.Tale.{Tale}
 use Rattle.quilt_world.proofs.StopLaws.{Touches, wrote_touches, synced_touches, since_here, since_touch, last_wrote, fixed_synced}
-use Rattle.quilt_journal.specs.Changed.{is_changed}
 use Rattle.quilt_journal.specs.Kept.{is_open_page, home_page, work_page, published, work, HasHome, IsFile, GateIs, Lists, HomesAre, HasWork, HasSlots, IsIdle, IsSealed}
 use Rattle.quilt_journal.specs.Storing.{Stored, HalfStored}
 use Rattle.quilt_journal.proofs.Homes.{leaves_homes, leaves_either, work_named}

@@ -10,7 +10,9 @@ ghost use Rattle.quilt_journal.specs.Writing.{Writing, counted};
 ghost use Rattle.quilt_journal.specs.Beginning.{NoneFree, Gives, Answers, Redoes, Redone, Opens, IsNew};
 
 use crate::copy::copy_slots;
-use crate::directory::{bits_below, count_listed, directory_page, is_listed, list_page, unlist_page};
+use crate::directory::{
+    bits_below, count_listed, directory_page, is_listed, list_page, unlist_page,
+};
 use crate::label::{home_pages, is_label};
 use crate::store::store_page;
 use quilt_world::{Disk, Fault};
@@ -55,6 +57,7 @@ pub enum Begun {
 }
 
 const GATE: u32 = 1;
+
 const DIRECTORY: u32 = 2;
 
 impl Journal {

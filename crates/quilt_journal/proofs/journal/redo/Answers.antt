@@ -1,13 +1,10 @@
-use Rattle.std.proofs.Common.{◌≡◌, ℕ, true, false, List, Bool, replicate, refl, sym, ap, ◌∙◌, subst, arith}
+use Rattle.std.proofs.Common.{◌≡◌, true, false, List, Bool, replicate, refl, sym, ap, ◌∙◌, subst, arith}
 use Rattle.std.proofs.lemmas.Bool.{eq-eqb, ne_eqb}
-use Rattle.quilt_world.specs.Home.{IsMapFile, home}
-use Rattle.quilt_world.specs.Stops.{Since}
-use Rattle.quilt_world.specs.Tale.{Tale, Goes}
+use Rattle.quilt_world.specs.Home.{IsMapFile}
 use Rattle.quilt_world.proofs.Told.{goes_then, goes_read, goes_now, goes_and, goes_weaker}
 use Rattle.quilt_journal.specs.Beginning.{Opens}
-use Rattle.quilt_journal.specs.Changed.{View, bits_of, changed_count}
-use Rattle.quilt_journal.specs.Kept.{is_open_page, HasHome, IsIdle, IsSealed, IsCarried, published, work}
-use Rattle.quilt_journal.specs.Writing.{Writing}
+use Rattle.quilt_journal.specs.Changed.{bits_of}
+use Rattle.quilt_journal.specs.Kept.{is_open_page, IsIdle, IsCarried, published, work}
 use Rattle.quilt_journal.specs.declared.journal.State.TheVariants as states
 use Rattle.quilt_journal.proofs.Bits.{bits_none, no_bit}
 use Rattle.quilt_journal.proofs.Calls.{redo_first}

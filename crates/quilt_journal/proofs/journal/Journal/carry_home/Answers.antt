@@ -4,10 +4,9 @@ use Rattle.quilt_world.specs.Tale.{Adds, Goes}
 use Rattle.quilt_world.specs.declared.event.Event.TheVariants.{Synced}
 use Rattle.quilt_world.proofs.StopLaws.{since_nothing}
 use Rattle.quilt_world.proofs.Told.{goes_then, goes_and, goes_weaker}
-use Rattle.quilt_journal.specs.Changed.{View, changed_count}
+use Rattle.quilt_journal.specs.Changed.{View}
 use Rattle.quilt_journal.specs.Copying.{Copying}
 use Rattle.quilt_journal.specs.Kept.{HasHome, IsCarried, work}
-use Rattle.quilt_journal.specs.Writing.{Writing}
 use Rattle.quilt_journal.proofs.CarrySteps.{Carried, carried_synced}
 use Rattle.quilt_journal.proofs.Views.{seen_size}
 use Rattle.quilt_journal.proofs.journal.Journal.carry_home.Goals as goal

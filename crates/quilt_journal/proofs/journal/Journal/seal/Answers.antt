@@ -1,4 +1,4 @@
-use Rattle.std.proofs.Common.{◌≡◌, ◌+◌, refl, arith, sym, ◌∙◌, set, replicate}
+use Rattle.std.proofs.Common.{◌≡◌, refl, arith, sym, ◌∙◌, set, replicate}
 use Rattle.quilt_world.proofs.Told.{goes_then, goes_and, goes_weaker}
 use Rattle.quilt_journal.specs.Kept.{IsIdle, IsSealed, Lists, work}
 use Rattle.quilt_journal.proofs.Calls.{goes_from}

@@ -1,4 +1,4 @@
-use Rattle.std.proofs.Common.{◌≡◌, ◌+◌, true, set, ◌∙◌, ap, arith}
+use Rattle.std.proofs.Common.{◌+◌, true, set, ◌∙◌, ap, arith}
 use Rattle.quilt_world.proofs.StopLaws.{tore_touches, wrote_touches}
 use Rattle.quilt_world.proofs.Told.{goes_and, goes_weaker}
 use Rattle.quilt_journal.specs.Kept.{IsIdle}
