@@ -7,6 +7,7 @@ pub mod CopySteps
 pub mod Counts
 pub mod Front
 pub mod Homes
+pub mod Leaving
 pub mod RedoSteps
 pub mod SealSteps
 pub mod SlotSteps

@@ -5,7 +5,7 @@ ghost use Rattle.quilt_world.specs.Stops.{Since};
 ghost use Rattle.quilt_world.specs.Home.{label, page_of};
 ghost use Rattle.quilt_journal.specs.declared.journal.State.TheVariants.{Idle, Sealed, Carried};
 ghost use Rattle.quilt_journal.specs.Changed.{is_changed, changed_count};
-ghost use Rattle.quilt_journal.specs.Kept.{HasHome, IsKept, IsIdle, IsSealed, IsCarried, published, work, home_page};
+ghost use Rattle.quilt_journal.specs.Kept.{HasHome, IsKept, IsIdle, IsSealed, IsCarried, published, work, home_page, open_gate, closed_gate, GateWritten, DirectoryWritten};
 ghost use Rattle.quilt_journal.specs.Writing.{Writing, counted};
 ghost use Rattle.quilt_journal.specs.Beginning.{NoneFree, Gives, Answers, Redoes, Redone, Opens, IsNew};
 
@@ -207,6 +207,8 @@ impl Journal {
         ensures door { D.door disk.new ≡ D.door disk.old }
         ensures same { (self.new.pages ≡ self.old.pages) × (self.new.changed ≡ self.old.changed) }
         ensures state { OnOk result (self.new.state ≡ Sealed) }
+        ensures gate { OnOk result (Goes (λ old new. GateWritten open_gate new) (D.told disk.old) (D.told disk.new)) }
+        ensures directory { OnOk result (Goes (λ old new. DirectoryWritten self.old.changed new) (D.told disk.old) (D.told disk.new)) }
         ensures writes { Goes (Writing 2) (D.told disk.old) (D.told disk.new) }
         ensures counts { OnOk result (Goes (λ old new. new.writes ≡ counted 2 old.writes) (D.told disk.old) (D.told disk.new)) }
         ensures kept { OnOk result (Goes (λ old new. IsSealed self.old.pages self.old.changed new
@@ -259,6 +261,7 @@ impl Journal {
         ensures pages { self.new.pages ≡ self.old.pages }
         ensures changed { OnOk result (self.new.changed ≡ replicate self.old.pages false) }
         ensures state { OnOk result (self.new.state ≡ Idle) }
+        ensures gate { OnOk result (Goes (λ old new. GateWritten closed_gate new) (D.told disk.old) (D.told disk.new)) }
         ensures writes { Goes (Writing 1) (D.told disk.old) (D.told disk.new) }
         ensures counts { OnOk result (Goes (λ old new. new.writes ≡ counted 1 old.writes) (D.told disk.old) (D.told disk.new)) }
         ensures kept { OnOk result (Goes (λ old new. IsIdle self.old.pages (replicate self.old.pages false) new
