@@ -8,6 +8,7 @@ pub mod Counts
 pub mod Front
 pub mod Homes
 pub mod Leaving
+pub mod Publishing
 pub mod RedoSteps
 pub mod SealSteps
 pub mod SlotSteps

@@ -1,11 +1,12 @@
-ghost use Rattle.std.specs.Prelude.{◌≡◌, ◌⊎◌, ℕ, ◌+◌, ◌*◌, ◌<◌, ◌≤◌, IfSome, OnOk, OnErr, IfOk, IsTrue, replicate, true, false, [], slice_set, slice_index_or};
+ghost use Rattle.std.specs.Prelude.{◌≡◌, ◌⊎◌, ℕ, ◌+◌, ◌*◌, ◌<◌, ◌≤◌, IfSome, OnOk, OnErr, IfOk, IsTrue, replicate, true, false, [], ◌∷◌, slice_set, slice_index_or};
 ghost use Rattle.quilt_world.specs.Causes.{HasCause, next_count};
 ghost use Rattle.quilt_world.specs.Tale.{Tale, Adds, Goes};
+ghost use Rattle.quilt_world.specs.declared.event.Event.TheVariants.{Synced};
 ghost use Rattle.quilt_world.specs.Stops.{Since};
 ghost use Rattle.quilt_world.specs.Home.{label, page_of};
 ghost use Rattle.quilt_journal.specs.declared.journal.State.TheVariants.{Idle, Sealed, Carried};
 ghost use Rattle.quilt_journal.specs.Changed.{is_changed, changed_count};
-ghost use Rattle.quilt_journal.specs.Kept.{HasHome, IsKept, IsIdle, IsSealed, IsCarried, published, work, home_page, open_gate, closed_gate, GateWritten, DirectoryWritten};
+ghost use Rattle.quilt_journal.specs.Kept.{is_open_page, HasHome, IsKept, IsIdle, IsSealed, IsCarried, published, work, home_page, open_gate, closed_gate, GateWritten, DirectoryWritten};
 ghost use Rattle.quilt_journal.specs.Writing.{Writing, counted};
 ghost use Rattle.quilt_journal.specs.Beginning.{NoneFree, Gives, Answers, Redoes, Redone, Opens, IsNew};
 
@@ -245,8 +246,7 @@ impl Journal {
         ensures crash { Goes (λ old new. Since old new (HasHome self.old.pages (work old self.old.pages self.old.changed))) (D.told disk.old) (D.told disk.new) }
     {
         copy_slots(disk, self.pages, &self.changed)?;
-        disk.sync()?;
-        self.state = State::Carried;
+        self.settle(disk, State::Carried)?;
         Ok(())
     }
 
@@ -271,10 +271,34 @@ impl Journal {
         ensures crash { Goes (λ old new. Since old new (HasHome self.old.pages (work old self.old.pages self.old.changed))) (D.told disk.old) (D.told disk.new) }
     {
         store_page(disk, GATE, &[0; 4096])?;
-        self.changed = [0; 3750];
         self.state = State::Idle;
+        self.clear_all();
         Ok(())
     }
+
+    /// Makes sure that all writes so far are on the disk. The journal is then in this state.
+    fn settle<D: Disk>(&mut self, disk: &mut D, state: State) -> Result<(), Fault>
+        requires { 0 < D.size disk.old }
+        ensures cause { HasCause (D.faults disk.old) (D.faults disk.new) result }
+        ensures size { D.size disk.new ≡ D.size disk.old }
+        ensures door { D.door disk.new ≡ D.door disk.old }
+        ensures same { (self.new.pages ≡ self.old.pages) × (self.new.changed ≡ self.old.changed) }
+        ensures state { OnOk result (self.new.state ≡ state) }
+        ensures counts { Goes (λ old new. (new.writes ≡ old.writes) × (new.reads ≡ old.reads)) (D.told disk.old) (D.told disk.new) }
+        ensures synced { OnOk result (Goes (Adds (Synced ∷ [])) (D.told disk.old) (D.told disk.new)) }
+        ensures nothing { OnErr result (Goes (Adds []) (D.told disk.old) (D.told disk.new)) }
+    {
+        disk.sync()?;
+        self.state = state;
+        Ok(())
+    }
+}
+
+/// Whether the gate's page says that it is open. Any first byte but 1 says that it is closed.
+fn is_open(gate: &[u8; 4096]) -> bool
+    ensures { result ≡ is_open_page gate.now }
+{
+    gate[0] == 1
 }
 
 /// Copies the pages of an open gate home, and closes it.
@@ -292,7 +316,7 @@ fn redo<D: Disk>(disk: &mut D, pages: u32) -> Result<Journal, Fault>
 {
     let mut gate = [0; 4096];
     disk.read_page(GATE, &mut gate)?;
-    if gate[0] != 1 {
+    if !is_open(&gate) {
         return Ok(Journal {
             pages,
             changed: [0; 3750],
@@ -309,4 +333,27 @@ fn redo<D: Disk>(disk: &mut D, pages: u32) -> Result<Journal, Fault>
     journal.carry_home(disk)?;
     journal.unseal(disk)?;
     Ok(journal)
+}
+
+#[cfg(test)]
+mod tests {
+    use super::{Journal, State};
+
+    // A journal has the number of home pages, a bit for each and its state, and nothing else.
+    #[test]
+    fn keeps_three_fields() {
+        let journal = Journal {
+            pages: 16,
+            changed: [0; 3750],
+            state: State::Idle,
+        };
+        let Journal {
+            pages,
+            changed,
+            state,
+        } = journal;
+        let _pages: u32 = pages;
+        let _changed: [u8; 3750] = changed;
+        let _state: State = state;
+    }
 }

@@ -17,14 +17,6 @@ returns-in_err-store_page-clause-crash g c =
     let old = c.args.self.now in
     goes_from (IsCarried old.pages old.changed) _ _ _ _ c.requires.kept c.in_err-store_page.ensures.half (λ o n carried half. closing_half old.pages old.changed (replicate 4096 0) o o n (closing_first old.pages old.changed o carried) half)
 
-pub invariant_of-self : goal.invariant_of-self
-invariant_of-self g c = record { least = c.self.invariant.least; most = c.self.invariant.most; clear = λ i le. no_bit i }
-
-pub returns-clause-changed : goal.returns-clause-changed
-returns-clause-changed g c =
-    let at = seen_pages c.self.inside.pages c.self.inside.changed c.self.inside.state c.args.self.now c.self.view_is in
-    bits_none (replicate 3750 0) c.self.inside.pages no_bit ∙ ap (λ n. replicate n false) at
-
 pub returns-clause-writes : goal.returns-clause-writes
 returns-clause-writes g c =
     goes_weaker _ _ _ _ (goes_and _ _ _ _ c.store_page.ensures.tried c.in_ok-store_page.ensures.stored) (writing_stored 1 (replicate 4096 0))
