@@ -1,2 +1,4 @@
 pub mod Answers
+pub mod Grids
 pub mod Runs
+pub mod States
