@@ -1,4 +1,2 @@
 pub mod Answers
-pub mod Grids
 pub mod Runs
-pub mod States
