@@ -7,6 +7,7 @@ use quilt_world::{Attached, Disk, Fault, Made, World};
 use std::fs::{File, OpenOptions};
 use std::io;
 use std::io::{ErrorKind, Read, Seek, SeekFrom, Write};
+use std::path::Path;
 
 /// What the call that opens or makes the file has left.
 #[derive(Drop)]
@@ -88,11 +89,21 @@ fn opened(rt: &HostRuntime, path: &str) -> io::Result<(File, u32)> {
     Ok((file, pages))
 }
 
-/// Makes a file of zeros, which is not there yet, and makes sure that it is on the disk.
+/// Makes sure that the entry of a new file in its folder is on the disk.
+fn sync_folder(rt: &HostRuntime, path: &str) -> io::Result<()> {
+    let folder = match Path::new(path).parent() {
+        Some(parent) if !parent.as_str().is_empty() => parent,
+        _ => Path::new("."),
+    };
+    File::open(rt, folder)?.sync_all()
+}
+
+/// Makes a file of zeros, which is not there yet, and makes sure that it and its entry are on the disk.
 fn new_file(rt: &HostRuntime, path: &str, pages: u32) -> io::Result<File> {
     let file = File::create_new(rt, path)?;
     file.set_len(u64::from(pages) * 4096)?;
     file.sync_all()?;
+    sync_folder(rt, path)?;
     Ok(file)
 }
 
