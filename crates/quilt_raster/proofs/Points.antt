@@ -1,15 +1,15 @@
 -- Single pixels as blocks, and a grid from its own colours.
-use Rattle.std.proofs.Common.{◌≡◌, ℕ, zero, suc, ◌+◌, ◌*◌, ◌^◌, ◌%◌, ◌<◌, ◌≤◌, List, [], ◌∷◌, ◌++◌, length, add-one, refl, sym, ◌∙◌, ap, ap₂, arith, lit<}
+use Rattle.std.proofs.Common.{◌≡◌, ℕ, zero, suc, ◌+◌, ◌*◌, ◌<◌, ◌≤◌, [], ◌∷◌, ◌++◌, length, add-one, refl, sym, ◌∙◌, ap, arith, lit<}
 use Rattle.std.specs.List.{range_with_len}
 use Rattle.quilt_types.specs.declared.plane.Pixel.{Pixel}
 use Rattle.quilt_types.specs.declared.plane.Block.{Block}
-use Rattle.quilt_types.specs.Plane.{side, below, whole, pixel_at, Holds, IsBlock}
+use Rattle.quilt_types.specs.Plane.{side, below, whole, Holds, IsBlock}
 use Rattle.quilt_types.specs.Layers.{Grid, colour_at}
 use Rattle.quilt_types.specs.Algebra.{grid_of}
-use Rattle.quilt_loc.specs.Codes.{code_at, code_from, code_to}
+use Rattle.quilt_loc.specs.Codes.{code_at}
 use Rattle.quilt_loc.proofs.Rows.{grid_of-from, colour_at-pixel_at}
 use Rattle.quilt_loc.proofs.Quartered.{IsBlock-whole}
-use Rattle.quilt_loc.proofs.Intervals.{held_code, side_squared, origin_code}
+use Rattle.quilt_loc.proofs.Intervals.{held_code, origin_code}
 
 -- a pixel with a code below that of the end is one of the square
 pub in_square : (n : ℕ) (p : Pixel) → n ≤ 12 → p.x < 4096 → p.y < 4096 → code_at p < side n * side n → (p.x < side n) × (p.y < side n)

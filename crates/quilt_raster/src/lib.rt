@@ -6,3 +6,6 @@ mod showing;
 
 pub use reading::leaves_of;
 pub use showing::render;
+
+#[cfg(test)]
+mod tests;

@@ -1,4 +1,4 @@
-use Rattle.std.proofs.Common.{◌≡◌, ℕ, ◌+◌, ◌*◌, ◌^◌, ◌%◌, ◌<◌, ◌≤◌, length, get_or, sym, ◌∙◌, ap, ap₂, subst, arith}
+use Rattle.std.proofs.Common.{◌≡◌, ℕ, ◌+◌, ◌*◌, ◌^◌, ◌%◌, ◌≤◌, length, get_or, sym, ◌∙◌, ap, ap₂, subst, arith}
 use Rattle.std.proofs.Math.Nat.{mul-le-mul}
 use Rattle.quilt_types.specs.Plane.{side, IsBlock}
 use Rattle.quilt_loc.proofs.Blocks.{side_most}
@@ -6,7 +6,7 @@ use Rattle.quilt_loc.proofs.Intervals.{side_squared}
 use Rattle.quilt_types.specs.Layers.{colour_at}
 use Rattle.std.proofs.lemmas.Nat.{mul-add-lt}
 use Rattle.quilt_blocks.specs.Painting.{Painted, grid_by_code}
-use Rattle.quilt_blocks.proofs.Painting.{Paints, Paints-none, Paints-push, Paints-all}
+use Rattle.quilt_blocks.proofs.Painting.{Paints, Paints-push, Paints-all}
 use Rattle.quilt_raster.proofs.Points.{in_square, pixel_block, IsBlock-pixel, only_pixel, grid_of-colour_at}
 use Rattle.quilt_raster.proofs.reading.leaves_of.Goals as goal
 

@@ -1,4 +1,4 @@
-use Rattle.std.proofs.Common.{◌≡◌, ℕ, ◌+◌, ◌/◌, ◌%◌, List, [], ◌∷◌, ◌++◌, sym, ◌∙◌, ap, ap₂, arith, flat_map}
+use Rattle.std.proofs.Common.{◌≡◌, ℕ, ◌+◌, List, [], ◌∷◌, ◌++◌, sym, ◌∙◌, ap, ap₂, arith, flat_map}
 use Rattle.std.proofs.lemmas.List.{flat_map_more}
 use Rattle.quilt_types.specs.Plane.{below}
 use Rattle.quilt_types.specs.Layers.{colour_at}

@@ -1,4 +1,4 @@
-use Rattle.std.proofs.Common.{◌≡◌, ℕ, ◌+◌, List, [], ◌∷◌, ◌++◌, sym, ◌∙◌, ap, ap₂, arith, flat_map, append_assoc}
+use Rattle.std.proofs.Common.{◌≡◌, ℕ, List, [], ◌∷◌, ◌++◌, sym, ◌∙◌, ap, arith, flat_map, append_assoc}
 use Rattle.std.proofs.lemmas.List.{flat_map_more}
 use Rattle.quilt_types.specs.Plane.{below}
 use Rattle.quilt_raster.specs.Showing.{row_digits, shown}

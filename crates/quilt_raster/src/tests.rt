@@ -1,0 +1,118 @@
+use super::*;
+use quilt_blocks::{Cursor, LeafList};
+use quilt_types::{Block, Colour, Window};
+use std::alloc::Global;
+use std::process::Abort;
+use std::test::Fail;
+
+/// The colour of a pixel of a raster with rows of this length.
+fn colour(colours: &[u8], row: u32, x: u32, y: u32) -> Option<u8> {
+    colours
+        .get(y.wrapping_mul(row).wrapping_add(x) as usize)
+        .copied()
+}
+
+/// Whether all pixels from (x, y) on, as many in a row as rows, have the colour of the first.
+fn has_one_colour(colours: &[u8], row: u32, x: u32, y: u32, size: u32) -> bool {
+    let first = colour(colours, row, x, y);
+    (0..size).all(|dy| {
+        (0..size).all(|dx| colour(colours, row, x.wrapping_add(dx), y.wrapping_add(dy)) == first)
+    })
+}
+
+/// Whether the block is of one colour and the block around it is not, or there is none.
+fn is_maximal(colours: &[u8], row: u32, x: u32, y: u32, size: u32) -> bool {
+    let twice = size.wrapping_mul(2);
+    let left = x.wrapping_sub(x.checked_rem(twice).unwrap_or(0));
+    let top = y.wrapping_sub(y.checked_rem(twice).unwrap_or(0));
+    has_one_colour(colours, row, x, y, size)
+        && (size == row || !has_one_colour(colours, row, left, top, twice))
+}
+
+/// How many maximal blocks the raster has, by a search of all blocks.
+fn count_maximal(colours: &[u8], row: u32) -> usize {
+    let mut count = 0_usize;
+    for size in [1, 2, 4, 8] {
+        for y in 0..row {
+            for x in 0..row {
+                let on = x.checked_rem(size) == Some(0) && y.checked_rem(size) == Some(0);
+                if size <= row && on && is_maximal(colours, row, x, y, size) {
+                    count = count.wrapping_add(1);
+                }
+            }
+        }
+    }
+    count
+}
+
+/// Compares the leaves of a list with a plain search.
+fn compare(rt: &impl Abort, list: &LeafList, colours: &[u8], row: u32) {
+    let mut cursor = Cursor::new(list);
+    let mut count = 0_usize;
+    for _ in 0..list.len() {
+        if let Some(leaf) = cursor.next() {
+            let Block { x, y, side } = leaf.block;
+            let (x, y, side) = (u32::from(x), u32::from(y), u32::from(side));
+            assert!(rt; is_maximal(colours, row, x, y, side));
+            assert!(rt; colour(colours, row, x, y) == Some(leaf.colour.0));
+            count = count.wrapping_add(1);
+        }
+    }
+    assert!(rt; count == count_maximal(colours, row));
+}
+
+#[test]
+fn worked_rasters(rt: HostRuntime) -> Result<(), Fail> {
+    let one = leaves_of(rt.alloc(), &[3, 3, 3, 3], 1)?;
+    assert_eq!(rt; one.len(), 1);
+    assert_eq!(rt;
+        one.leaf(0).block,
+        Block {
+            x: 0,
+            y: 0,
+            side: 2
+        }
+    );
+    assert_eq!(rt; one.leaf(0).colour, Colour(3));
+
+    let four = leaves_of(rt.alloc(), &[0, 1, 1, 0], 1)?;
+    assert_eq!(rt; four.len(), 4);
+    assert_eq!(rt; four.leaf(1).colour, Colour(1));
+    assert_eq!(rt; four.leaf(3).colour, Colour(0));
+    Ok(())
+}
+
+#[test]
+fn small_and_random_rasters(rt: HostRuntime) -> Result<(), Fail> {
+    for a in 0..81_u8 {
+        let colours = [a % 3, a / 3 % 3, a / 9 % 3, a / 27];
+        compare(&rt, &leaves_of(rt.alloc(), &colours, 1)?, &colours, 2);
+    }
+    let mut seed = 12345_u32;
+    for _ in 0..20 {
+        let mut colours = [0_u8; 64];
+        for c in &mut colours {
+            seed = seed.wrapping_mul(1664525).wrapping_add(1013904223);
+            *c = (seed >> 30) as u8 / 3;
+        }
+        compare(&rt, &leaves_of(rt.alloc(), &colours, 3)?, &colours, 8);
+    }
+    Ok(())
+}
+
+#[test]
+fn shown_rows(rt: HostRuntime) -> Result<(), Fail> {
+    let list = leaves_of(rt.alloc(), &[0, 1, 171, 16], 1)?;
+    let text = render(
+        rt.alloc(),
+        &list,
+        Window {
+            x: 0,
+            y: 0,
+            w: 2,
+            h: 2,
+        },
+    )?;
+    assert_eq!(rt; text.bytes(), b"0001\nab10\n".as_slice());
+    Ok(())
+}
