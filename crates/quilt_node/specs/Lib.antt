@@ -1,2 +1,4 @@
+pub mod Edits
+pub mod Nodes
 pub mod Pages
 pub mod Tree

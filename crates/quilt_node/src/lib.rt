@@ -2,5 +2,11 @@
 #![tactic(auto)]
 
 mod head;
+mod header;
+mod inner;
+mod leaf;
 
 pub use head::Head;
+pub use header::{header_bytes, header_of};
+pub use inner::{InnerPage, inner_of};
+pub use leaf::{LeafPage, leaf_of};

@@ -4,5 +4,5 @@
 mod key;
 mod record;
 
-pub use key::Key;
+pub use key::{Key, key_bytes, key_of};
 pub use record::Record;
