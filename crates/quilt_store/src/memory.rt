@@ -1,5 +1,4 @@
-ghost use Rattle.std.specs.Prelude.{◌≡◌, ◌+◌, ◌<◌, ◌≤◌, ℕ, true, false, length, replicate, Some, None, IfOk};
-ghost use Rattle.quilt_store.specs.Store.{count_free};
+ghost use Rattle.std.specs.Prelude.{◌≡◌, ◌+◌, ◌<◌, ◌≤◌, ℕ, true, false, length, replicate, Some, None, IfOk, filter, position, refl};
 ghost use Rattle.quilt_store.specs.Memory.{is_free};
 
 use crate::{PageStore, StoreErr};
@@ -14,8 +13,8 @@ pub struct MemStore {
     ghost least: { 16 ≤ length pages.items },
     ghost most: { length pages.items ≤ 30000 },
     ghost tests: { length free.items ≡ length pages.items },
-    ghost header: { is_free free.items 0 ≡ false },
-    ghost counted: { count ≡ count_free (is_free free.items) (length pages.items) },
+    ghost from_one: { (page : ℕ) → is_free free.items page ≡ true → (1 ≤ page) × (page < length pages.items) },
+    ghost counted: { count ≡ length (filter (λ b. b) free.items) },
 }
 
 impl MemStore {
@@ -41,6 +40,13 @@ impl MemStore {
             count: pages - 1,
         })
     }
+}
+
+/// The first free page.
+fn first_free(free: &[bool]) -> Option<usize>
+    ensures { result ≡ position (λ b. b) free.now }
+{
+    free.iter().position(|is_free| *is_free)
 }
 
 impl PageStore for MemStore {
@@ -83,7 +89,7 @@ impl PageStore for MemStore {
     }
 
     fn take_page(&mut self) -> u32 {
-        let page = self.free.iter().position(|free| *free).unwrap();
+        let page = first_free(&self.free).unwrap();
         self.free[page] = false;
         self.count -= 1;
         page as u32
@@ -94,11 +100,11 @@ impl PageStore for MemStore {
         self.count += 1;
     }
 
-    ghost in_range = { λ s. ? };
+    ghost in_range = { λ s. (s.least, s.most) };
 
-    ghost free_pages_are = { λ s page h. ? };
+    ghost free_pages_are = { λ s page h. s.from_one page h };
 
-    ghost as_many = { λ s. ? };
+    ghost as_many = { λ s. refl };
 
     ghost held_once = { λ s. tt };
 
