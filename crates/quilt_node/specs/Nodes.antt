@@ -1,10 +1,11 @@
 -- What is true of every leaf page and of every inner page, and where a key belongs in one.
-use Rattle.std.specs.Prelude.{◌≡◌, ℕ, suc, ◌<◌, ◌≤◌, ◌^◌, Bool, true, ◌&&◌, nat_le, nat_lt, List, map, length, take, drop, Some, slice_get}
+use Rattle.std.specs.Prelude.{◌≡◌, ℕ, suc, ◌<◌, ◌≤◌, ◌^◌, Bool, true, ◌&&◌, nat_le, nat_lt, List, ◌∷◌, map, length, take, drop, Some, slice_get}
 use Rattle.std.specs.List.{list_all}
 use Rattle.std.specs.Ordering.{is_lt, is_le}
 use Rattle.quilt_record.specs.declared.key.Key.{Key}
 use Rattle.quilt_record.specs.declared.record.Record.{Record}
-use Rattle.quilt_record.specs.Records.{key_cmp}
+use Rattle.std.specs.Int.{to_be_bytes, w16}
+use Rattle.quilt_record.specs.Records.{key_cmp, filled}
 use Rattle.quilt_record.specs.Fits.{AllFit, KeysFit}
 use Rattle.quilt_node.specs.declared.head.Head.{Head}
 use Rattle.quilt_node.specs.Pages.{Inner, IsHead, is_ascending, leaf_bytes, inner_bytes}
@@ -71,3 +72,11 @@ pub record IsSomeHead (h : Head) : Type 0 where
   pub least : 16 ≤ pages
   pub most : pages ≤ 30000
   pub numbers : IsHead pages h
+
+-- the first 64 bytes of a leaf page with n records
+abbrev pub leaf_head : ℕ → List ℕ
+leaf_head n = filled 64 (1 ∷ 1 ∷ to_be_bytes w16 n)
+
+-- the first 8 bytes of an inner page with n children
+abbrev pub inner_head : ℕ → ℕ → List ℕ
+inner_head height n = filled 8 (2 ∷ height ∷ to_be_bytes w16 n)

@@ -107,8 +107,7 @@ impl InnerPage {
         requires place { i < length self.old.keys }
         requires order { is_ascending (slice_set self.old.keys i k.now) ≡ true }
         ensures { self.new ≡ with_key self.old i k.now }
-    {
-    }
+    {}
 
     /// Puts key `i` in, and behind it child `i + 1`.
     pub fn insert(&mut self, i: usize, k: &Key, child: u32)
@@ -117,8 +116,7 @@ impl InnerPage {
         requires child { 1 ≤ child }
         requires order { is_ascending (insert self.old.keys i k.now) ≡ true }
         ensures { self.new ≡ with_child self.old i k.now child }
-    {
-    }
+    {}
 
     /// Puts key `i` and child `i + 1` into a full page: the first 127 children stay, the other 128 go right, and the
     /// key between them is answered beside the right page.
@@ -140,8 +138,7 @@ impl InnerPage {
         requires left { 2 < length self.old.children }
         requires place { i < length self.old.keys }
         ensures { self.new ≡ without_child self.old i }
-    {
-    }
+    {}
 
     /// Takes over all children of the page to the right, whose bytes stay as they are, with `k` between.
     pub fn join(&mut self, k: &Key, right: &InnerPage)
@@ -149,8 +146,7 @@ impl InnerPage {
         requires room { length self.old.children + length right.now.children ≤ 254 }
         requires order { is_ascending (self.old.keys ++ k.now ∷ right.now.keys) ≡ true }
         ensures { self.new ≡ joined self.old k.now right.now }
-    {
-    }
+    {}
 
     /// Moves the first child of the page to the right here, where `k` parts the two, and answers the key that parts
     /// them now.

@@ -1,9 +1,11 @@
 //! The pages of the tree: the header, leaf pages and inner pages.
 #![tactic(auto)]
 
+mod bytes;
 mod head;
 mod header;
 mod inner;
+mod keys;
 mod leaf;
 
 pub use head::Head;

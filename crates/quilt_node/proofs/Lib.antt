@@ -1,0 +1,5 @@
+pub mod Ascending
+pub mod Leaves
+pub mod Orders
+pub mod Rows
+pub mod Spelled
