@@ -6,7 +6,10 @@ use Rattle.std.specs.List.{insert, remove}
 use Rattle.std.specs.Int.{to_be_bytes, from_be_bytes, w16}
 use Rattle.std.proofs.lemmas.Nat.{from_be_bytes-to_be_bytes_2}
 use Rattle.std.proofs.lemmas.List.{append-nil, take-map, drop-map, map-append, drop-replicate, replicate-append-replicate}
-use Rattle.std.proofs.Math.Seq.{drop-append-add}
+use Rattle.std.proofs.Math.Seq.{drop-append-add, take-append-add}
+use Rattle.std.proofs.Math.ListN.{drop_of_length-le}
+use Rattle.std.proofs.lemmas.List.{drop-append-le}
+use Rattle.std.specs.Option.{option_to_list}
 use Rattle.std.proofs.lemmas.List.FromFn.{fill_by_all, length-map-range_with_len}
 use Rattle.std.proofs.lemmas.Slice.Eq.{bytes_eq-Decides}
 use Rattle.std.proofs.lemmas.Bool.Decides.{nat_tests}
@@ -258,3 +261,84 @@ filled_page n start mid new rows s m e =
     e ∙ ap (λ l. take 64 l ++ (rows ++ drop (64 + length rows) l)) shape
     ∙ ap (λ l. l ++ (rows ++ drop (64 + length rows) (leaf_head n ++ replicate {A = ℕ} 4032 0))) (cut_front (leaf_head n) (replicate 4032 0) 64 refl)
     ∙ ap (λ l. leaf_head n ++ (rows ++ l)) (drop-append-add (leaf_head n) (replicate {A = ℕ} 4032 0) (length rows) ∙ drop-replicate (length rows) 4032 0)
+
+-- Putting in, and then taking the first or leaving them out.
+pub take_insert_low : {X : Type 0} (xs : List X) (i n : ℕ) (x : X) → i ≤ n → take (suc n) (insert xs i x) ≡ insert (take n xs) i x
+take_insert_low xs zero n x h = refl
+take_insert_low xs (suc i) zero x h = absurd (omega arith)
+take_insert_low [] (suc i) (suc n) x h = refl
+take_insert_low (y ∷ xs) (suc i) (suc n) x h = ap (λ l. y ∷ l) (take_insert_low xs i n x (omega arith))
+
+pub drop_insert_low : {X : Type 0} (xs : List X) (i n : ℕ) (x : X) → i ≤ n → drop (suc n) (insert xs i x) ≡ drop n xs
+drop_insert_low xs zero n x h = refl
+drop_insert_low xs (suc i) zero x h = absurd (omega arith)
+drop_insert_low [] (suc i) (suc n) x h = refl
+drop_insert_low (y ∷ xs) (suc i) (suc n) x h = drop_insert_low xs i n x (omega arith)
+
+pub take_insert_high : {X : Type 0} (xs : List X) (i n : ℕ) (x : X) → n ≤ i → n ≤ length xs → take n (insert xs i x) ≡ take n xs
+take_insert_high xs i zero x h g = refl
+take_insert_high xs zero (suc n) x h g = absurd (omega arith)
+take_insert_high [] (suc i) (suc n) x h g = absurd (omega arith)
+take_insert_high (y ∷ xs) (suc i) (suc n) x h g = ap (λ l. y ∷ l) (take_insert_high xs i n x (omega arith) (omega arith))
+
+pub drop_insert_high : {X : Type 0} (xs : List X) (i n m : ℕ) (x : X) → i ≡ n + m → n ≤ length xs → drop n (insert xs i x) ≡ insert (drop n xs) m x
+drop_insert_high xs i zero m x h g =
+    let e : i ≡ m = omega arith in
+    ap (λ j. insert xs j x) e
+drop_insert_high xs zero (suc n) m x h g = absurd (omega arith)
+drop_insert_high [] (suc i) (suc n) m x h g = absurd (omega arith)
+drop_insert_high (y ∷ xs) (suc i) (suc n) m x h g = drop_insert_high xs i n m x (omega arith) (omega arith)
+
+-- putting in behind the last
+pub insert_last : {X : Type 0} (xs : List X) (n : ℕ) (x : X) → n ≡ length xs → insert xs n x ≡ xs ++ x ∷ []
+insert_last [] zero x e = refl
+insert_last [] (suc n) x e = refl
+insert_last (y ∷ xs) zero x e = absurd (omega arith)
+insert_last (y ∷ xs) (suc n) x e = ap (λ l. y ∷ l) (insert_last xs n x (omega arith))
+
+pub keys_take : (rs : List Record) (n : ℕ) → is_ascending (keys_of rs) ≡ true → is_ascending (keys_of (take n rs)) ≡ true
+keys_take rs n h = subst (λ l. is_ascending l ≡ true) (take-map (λ (r : Record). r.key) n rs) (ascending_take (keys_of rs) n h)
+
+pub keys_drop : (rs : List Record) (n : ℕ) → is_ascending (keys_of rs) ≡ true → is_ascending (keys_of (drop n rs)) ≡ true
+keys_drop rs n h = subst (λ l. is_ascending l ≡ true) (drop-map (λ (r : Record). r.key) n rs) (ascending_drop (keys_of rs) n h)
+
+pub keys_low : (rs : List Record) (i n : ℕ) (r : Record) → i ≤ n → is_ascending (keys_of (insert rs i r)) ≡ true → is_ascending (keys_of (insert (take n rs) i r)) ≡ true
+keys_low rs i n r h a = subst (λ l. is_ascending (keys_of l) ≡ true) (take_insert_low rs i n r h) (keys_take (insert rs i r) (suc n) a)
+
+pub keys_high : (rs : List Record) (i n m : ℕ) (r : Record) → i ≡ n + m → n ≤ length rs → is_ascending (keys_of (insert rs i r)) ≡ true → is_ascending (keys_of (insert (drop n rs) m r)) ≡ true
+keys_high rs i n m r e h a = subst (λ l. is_ascending (keys_of l) ≡ true) (drop_insert_high rs i n m r e h) (keys_drop (insert rs i r) n a)
+
+first_of : (ss : List Record) (x : Record) → slice_get ss 0 ≡ Some x → take 1 ss ≡ x ∷ []
+first_of [] x h = cc
+first_of (s ∷ ss) x h = ap (λ o. option_to_list o) h
+
+-- the first of another list comes behind the last
+pub lent_first : (rs ss : List Record) (n : ℕ) (x : Record) → n ≡ length rs → slice_get ss 0 ≡ Some x → insert rs n x ≡ rs ++ take 1 ss
+lent_first rs ss n x e h = insert_last rs n x e ∙ ap (λ l. rs ++ l) (sym (first_of ss x h))
+
+pub lent_first_order : (rs ss : List Record) (n : ℕ) (x : Record) → n ≡ length rs → slice_get ss 0 ≡ Some x → is_ascending (keys_of (rs ++ ss)) ≡ true → is_ascending (keys_of (insert rs n x)) ≡ true
+lent_first_order rs ss n x e h a =
+    subst (λ l. is_ascending (keys_of l) ≡ true) (take-append-add rs ss 1 ∙ sym (lent_first rs ss n x e h)) (keys_take (rs ++ ss) (length rs + 1) a)
+
+last_of : {X : Type 0} (ss : List X) (n : ℕ) (x : X) → suc n ≡ length ss → slice_get ss n ≡ Some x → drop n ss ≡ x ∷ []
+last_of [] n x e h = cc
+last_of (s ∷ []) zero x e h = ap (λ o. option_to_list o) h
+last_of (s ∷ t ∷ ss) zero x e h = absurd (omega arith)
+last_of (s ∷ ss) (suc n) x e h = last_of ss n x (omega arith) h
+
+-- the last of another list comes in front of the first
+pub lent_last : {X : Type 0} (rs ss : List X) (n : ℕ) (x : X) → suc n ≡ length ss → slice_get ss n ≡ Some x → insert rs 0 x ≡ drop n ss ++ rs
+lent_last rs ss n x e h = ap (λ l. l ++ rs) (sym (last_of ss n x e h))
+
+pub lent_last_order : (rs ss : List Record) (n : ℕ) (x : Record) → suc n ≡ length ss → slice_get ss n ≡ Some x → is_ascending (keys_of (ss ++ rs)) ≡ true → is_ascending (keys_of (insert rs 0 x)) ≡ true
+lent_last_order rs ss n x e h a =
+    subst (λ l. is_ascending (keys_of l) ≡ true) (drop-append-le n ss rs (omega arith) ∙ sym (lent_last rs ss n x e h)) (keys_drop (ss ++ rs) n a)
+
+past : {X : Type 0} (ss : List X) (n : ℕ) → suc n ≡ length ss → drop (suc n) ss ≡ []
+past ss n e = drop_of_length-le ss {i = suc n} (omega (arith, e))
+
+pub remove_last : {X : Type 0} (ss : List X) (n : ℕ) → suc n ≡ length ss → remove ss n ≡ take n ss
+remove_last ss n e = ap (λ l. take n ss ++ l) (past ss n e) ∙ append-nil (take n ss)
+
+pub one_leaf : (r : Record) → IsFitting r → IsLeaf (r ∷ [])
+one_leaf r f = record { fit = (f, tt); least = omega arith; most = omega arith; ascends = refl }

@@ -135,3 +135,24 @@ record_again bytes at f room =
     ∙ ap (λ m. take 12 (drop at bytes) ++ take m (drop (at + 12) bytes)) n
     ∙ ap (λ l. take 12 (drop at bytes) ++ take 16 l) (sym (drop-drop 12 at bytes))
     ∙ sym (take-add 12 16 (drop at bytes))
+
+front_fits : (xs : List ℕ) → AreBytes xs → 12 ≤ length xs → KeyFits (key_at xs 0)
+front_fits (a ∷ b ∷ p ∷ c ∷ d ∷ e ∷ f ∷ q ∷ g ∷ h ∷ i ∷ j ∷ xs) are lt = record {
+  layer = omega (arith, are 0, are 1);
+  code = omega (arith, are 3, are 4, are 5, are 6);
+  item = omega (arith, are 8, are 9, are 10, are 11);
+}
+front_fits xs are lt = absurd (omega arith)
+
+pub key_fits : (bytes : List ℕ) (at : ℕ) → AreBytes bytes → at + 12 ≤ length bytes → KeyFits (key_at bytes at)
+key_fits bytes at f room =
+    subst KeyFits (sym (ap (λ l. key_at l at) (sym (take-append-drop at bytes)) ∙ key_behind (take at bytes) (drop at bytes) at (sym (length-take-le at bytes (omega arith)))))
+    (front_fits (drop at bytes) (are_behind bytes at f) (omega (arith, length-drop at bytes)))
+
+pub record_fits : (bytes : List ℕ) (at : ℕ) → AreBytes bytes → at + 28 ≤ length bytes → IsFitting (record_at bytes at)
+record_fits bytes at f room =
+    let n : at + 28 - (at + 12) ≡ 16 = omega arith in
+    record {
+      key = key_fits bytes at f (omega arith);
+      value = ap (λ m. length (take m (drop (at + 12) bytes))) n ∙ length-take-le 16 (drop (at + 12) bytes) (omega (arith, length-drop (at + 12) bytes));
+    }

@@ -1,13 +1,16 @@
-ghost use Rattle.std.specs.Prelude.{◌≡◌, ℕ, ◌+◌, ◌-◌, ◌<◌, ◌≤◌, [], ◌∷◌, ◌++◌, true, Some, IfSome, length, slice_get, slice_index, slice_set, count_by};
-ghost use Rattle.std.specs.List.{insert};
+ghost use Rattle.std.specs.Prelude.{◌≡◌, ℕ, ◌+◌, ◌-◌, ◌<◌, ◌≤◌, [], ◌∷◌, ◌++◌, true, Some, IfSome, length, slice_get, slice_index, slice_set, count_by, replicate};
+ghost use Rattle.std.specs.List.{insert, remove};
 ghost use Rattle.std.specs.Ordering.{is_le};
 ghost use Rattle.quilt_record.specs.Records.{key_cmp};
 ghost use Rattle.quilt_node.specs.Pages as spec;
 ghost use Rattle.quilt_node.specs.Pages.{inner_bytes, is_ascending};
-ghost use Rattle.quilt_node.specs.Nodes.{IsInner, IsPlace, are_pages};
+ghost use Rattle.quilt_node.specs.Nodes.{IsInner, IsPlace, are_pages, inner_head};
+ghost use Rattle.quilt_node.specs.KeysIn.{children_in};
 ghost use Rattle.quilt_node.specs.Edits.{with_key, with_child, without_child, first_children, children_from, joined};
 
-use quilt_record::Key;
+use crate::bytes::{clear, count_in, key_in, put_in, put_over, set_count, take_out, word_in};
+use crate::keys::{find_key, keys_ascend};
+use quilt_record::{Key, key_bytes};
 use std::marker::Model;
 
 /// An inner page, seen as its height, its 2 to 254 children and the keys between them, which ascend. Its length is
@@ -28,12 +31,52 @@ impl Model for InnerPage {
     ghost invariant = { λ p. IsInnerPage p.bytes (read_inner p.bytes) };
 }
 
+/// Whether the `n` children are pages from 1 on of a file of `pages` home pages.
+fn children_are_pages(bytes: &[u8; 4096], n: usize, pages: u32) -> bool
+    requires { n ≤ 254 }
+    ensures { result ≡ are_pages pages (children_in bytes.now n) }
+{
+    for i in 0..n {
+        let child = word_in(bytes, 8 + 4 * i);
+        if child < 1 || pages <= child {
+            return false;
+        }
+    }
+    true
+}
+
+/// The page of an inner node with `n` children, whose children and keys have these bytes.
+fn inner_page(height: u8, n: u16, children: &[u8], keys: &[u8]) -> [u8; 4096]
+    requires { (length children.now ≤ 1016) × (length keys.now ≤ 3072) }
+    ensures { result ≡ inner_head height n ++ ((children.now ++ replicate (1016 - length children.now) 0) ++ (keys.now ++ replicate (3072 - length keys.now) 0)) }
+{
+    let [high, low] = n.to_be_bytes();
+    let mut page = [0; 4096];
+    put_over(&mut page, 0, &[2, height, high, low]);
+    put_over(&mut page, 8, children);
+    put_over(&mut page, 1024, keys);
+    page
+}
+
 /// The inner page that the bytes are in a file of `pages` home pages; none where they are not well formed.
 pub fn inner_of(bytes: &[u8; 4096], pages: u32) -> Option<InnerPage>
     ensures inner { result ≡ spec.inner_of pages bytes.now }
     ensures children { IfSome result (λ p. are_pages pages p.children ≡ true) }
 {
-    None
+    let n = count_in(bytes) as usize;
+    let height = bytes[1];
+    if height < 2 || 3 < height || n < 2 || 254 < n {
+        return None;
+    }
+    if !children_are_pages(bytes, n, pages) || !keys_ascend(bytes, 1024, 12, n - 1) {
+        return None;
+    }
+    let children = &bytes[8..8 + 4 * n];
+    let keys = &bytes[1024..1024 + 12 * (n - 1)];
+    if *bytes != inner_page(height, n as u16, children, keys) {
+        return None;
+    }
+    Some(InnerPage { bytes: *bytes })
 }
 
 impl InnerPage {
@@ -43,7 +86,12 @@ impl InnerPage {
         requires children { (1 ≤ left) × (1 ≤ right) }
         ensures { result ≡ record { height = height; children = left ∷ right ∷ []; keys = key.now ∷ [] } }
     {
-        InnerPage { bytes: [0; 4096] }
+        let mut children = [0; 8];
+        children[..4].copy_from_slice(&left.to_be_bytes());
+        children[4..].copy_from_slice(&right.to_be_bytes());
+        InnerPage {
+            bytes: inner_page(height, 2, &children, &key_bytes(key)),
+        }
     }
 
     /// The page's bytes.
@@ -59,15 +107,17 @@ impl InnerPage {
     pub fn height(&self) -> u8
         ensures { result ≡ self.now.height }
     {
-        0
+        self.bytes[1]
     }
 
     /// The number of children, from 2 to 254.
     pub fn len(&self) -> usize
         ensures length { result ≡ length self.now.children }
+        ensures range { (2 ≤ result) × (result ≤ 254) }
+        ensures keys { result ≡ length self.now.keys + 1 }
         ensures is { IsInner self.now }
     {
-        0
+        count_in(&self.bytes) as usize
     }
 
     /// The page number of child `i`.
@@ -76,7 +126,7 @@ impl InnerPage {
         ensures child { result ≡ slice_index self.now.children i }
         ensures above { 1 ≤ result }
     {
-        0
+        word_in(&self.bytes, 8 + 4 * i)
     }
 
     /// Key `i`, which stands between the children `i` and `i + 1`.
@@ -84,13 +134,7 @@ impl InnerPage {
         requires { i < length self.now.keys }
         ensures { slice_get self.now.keys i ≡ Some result }
     {
-        Key {
-            layer: 0,
-            part: 0,
-            code: 0,
-            depth: 0,
-            item: 0,
-        }
+        key_in(&self.bytes, 1024 + 12 * i)
     }
 
     /// The number of keys that are at most `k`, which is the place of the child under which `k` belongs. It compares
@@ -99,7 +143,10 @@ impl InnerPage {
         ensures place { IsPlace self.now.keys k.now result }
         ensures number { result ≡ count_by (λ l. is_le (key_cmp l k.now)) self.now.keys }
     {
-        0
+        match find_key(&self.bytes, 1024, 12, self.len() - 1, k) {
+            Ok(i) => i + 1,
+            Err(i) => i,
+        }
     }
 
     /// Replaces key `i`.
@@ -108,6 +155,60 @@ impl InnerPage {
         requires order { is_ascending (slice_set self.old.keys i k.now) ≡ true }
         ensures { self.new ≡ with_key self.old i k.now }
     {}
+
+    /// Puts a key in at place `i` of the keys, and a child at place `j` of the children.
+    fn put_both(&mut self, i: usize, k: &Key, j: usize, child: u32)
+        requires room { length self.old.children < 254 }
+        requires place { (i < length self.old.children) × (j ≤ length self.old.children) }
+        requires child { 1 ≤ child }
+        requires order { is_ascending (insert self.old.keys i k.now) ≡ true }
+        ensures { self.new ≡ record { height = self.old.height; children = insert self.old.children j child; keys = insert self.old.keys i k.now } }
+    {
+        let n = self.len();
+        put_in(&mut self.bytes, 8 + 4 * j, 8 + 4 * n, &child.to_be_bytes());
+        put_in(
+            &mut self.bytes,
+            1024 + 12 * i,
+            1024 + 12 * (n - 1),
+            &key_bytes(k),
+        );
+        set_count(&mut self.bytes, (n + 1) as u16);
+    }
+
+    /// Takes key `i` out, and child `j`.
+    fn take_both(&mut self, i: usize, j: usize)
+        requires left { 2 < length self.old.children }
+        requires place { (i < length self.old.keys) × (j < length self.old.children) }
+        ensures { self.new ≡ record { height = self.old.height; children = remove self.old.children j; keys = remove self.old.keys i } }
+    {
+        let n = self.len();
+        take_out(&mut self.bytes, 8 + 4 * j, 4, 8 + 4 * n);
+        take_out(&mut self.bytes, 1024 + 12 * i, 12, 1024 + 12 * (n - 1));
+        set_count(&mut self.bytes, (n - 1) as u16);
+    }
+
+    /// Keeps the first `n` children. The others are the answer, beside the key that parts the two.
+    fn split_off(&mut self, n: usize) -> (Key, InnerPage)
+        requires { (2 ≤ n) × (n + 2 ≤ length self.old.children) }
+        ensures left { self.new ≡ first_children n self.old }
+        ensures right { result.1 ≡ children_from n self.old }
+        ensures key { slice_get self.old.keys (n - 1) ≡ Some result.0 }
+    {
+        let all = self.len();
+        let key = self.key(n - 1);
+        let right = InnerPage {
+            bytes: inner_page(
+                self.height(),
+                (all - n) as u16,
+                &self.bytes[8 + 4 * n..8 + 4 * all],
+                &self.bytes[1024 + 12 * n..1024 + 12 * (all - 1)],
+            ),
+        };
+        clear(&mut self.bytes, 8 + 4 * n, 8 + 4 * all);
+        clear(&mut self.bytes, 1024 + 12 * (n - 1), 1024 + 12 * (all - 1));
+        set_count(&mut self.bytes, n as u16);
+        (key, right)
+    }
 
     /// Puts key `i` in, and behind it child `i + 1`.
     pub fn insert(&mut self, i: usize, k: &Key, child: u32)
@@ -129,8 +230,19 @@ impl InnerPage {
         ensures right { result.1 ≡ children_from 127 (with_child self.old i k.now child) }
         ensures key { slice_get (insert self.old.keys i k.now) 126 ≡ Some result.0 }
     {
-        let key = *k;
-        (key, InnerPage { bytes: [0; 4096] })
+        if i < 126 {
+            let (key, right) = self.split_off(126);
+            self.insert(i, k, child);
+            (key, right)
+        } else if i == 126 {
+            let (key, mut right) = self.split_off(127);
+            right.put_both(0, &key, 0, child);
+            (*k, right)
+        } else {
+            let (key, mut right) = self.split_off(127);
+            right.insert(i - 127, k, child);
+            (key, right)
+        }
     }
 
     /// Takes out key `i`, and behind it child `i + 1`.
@@ -159,7 +271,12 @@ impl InnerPage {
         ensures there { right.new ≡ children_from 1 right.old }
         ensures key { slice_get right.old.keys 0 ≡ Some result }
     {
-        *k
+        let n = self.len();
+        let child = right.child(0);
+        let key = right.key(0);
+        self.put_both(n - 1, k, n, child);
+        right.take_both(0, 0);
+        key
     }
 
     /// Moves the last child of the page to the left here, where `k` parts the two, and answers the key that parts
@@ -173,6 +290,11 @@ impl InnerPage {
         ensures there { left.new ≡ first_children (length left.old.children - 1) left.old }
         ensures key { slice_get left.old.keys (length left.old.keys - 1) ≡ Some result }
     {
-        *k
+        let last = left.len() - 1;
+        let child = left.child(last);
+        let key = left.key(last - 1);
+        self.put_both(0, k, 0, child);
+        left.take_both(last - 1, last);
+        key
     }
 }

@@ -1,10 +1,19 @@
 ghost use Rattle.std.specs.Prelude.{◌≡◌, ℕ, ◌+◌, ◌*◌, ◌≤◌, true, MatchResult};
+ghost use Rattle.std.specs.Ordering.{is_lt};
+ghost use Rattle.quilt_record.specs.Records.{key_cmp};
 ghost use Rattle.quilt_node.specs.Pages.{is_ascending};
 ghost use Rattle.quilt_node.specs.KeysIn.{keys_in, IsKeyAt, IsKeyGap};
 
 use crate::bytes::key_in;
 use quilt_record::Key;
 use std::cmp::Ordering;
+
+/// Whether the first key is below the second.
+fn is_below(a: &Key, b: &Key) -> bool
+    ensures { result ≡ is_lt (key_cmp a.now b.now) }
+{
+    a < b
+}
 
 /// Whether the `n` keys that stand `width` bytes from each other ascend strictly.
 pub fn keys_ascend(bytes: &[u8; 4096], at: usize, width: usize, n: usize) -> bool
@@ -13,7 +22,8 @@ pub fn keys_ascend(bytes: &[u8; 4096], at: usize, width: usize, n: usize) -> boo
     ensures { result ≡ is_ascending (keys_in bytes.now at width n) }
 {
     for i in 1..n {
-        if key_in(bytes, at + width * (i - 1)) >= key_in(bytes, at + width * i) {
+        let before = key_in(bytes, at + width * (i - 1));
+        if !is_below(&before, &key_in(bytes, at + width * i)) {
             return false;
         }
     }

@@ -49,7 +49,10 @@ pub fn leaf_of(bytes: &[u8; 4096]) -> Option<LeafPage>
     ensures { result ≡ spec.leaf_of bytes.now }
 {
     let n = count_in(bytes);
-    if n < 1 || 144 < n || !keys_ascend(bytes, 64, 28, n as usize) {
+    if n < 1 || 144 < n {
+        return None;
+    }
+    if !keys_ascend(bytes, 64, 28, n as usize) {
         return None;
     }
     if *bytes != leaf_page(n, &bytes[64..64 + 28 * n as usize]) {
