@@ -77,10 +77,10 @@ inner_shape height cs ks few =
     let rows = flat_map (to_be_bytes w32) cs in
     let first : length (head ++ rows) ≡ 8 + 4 * length cs = length-append head rows ∙ ap (λ n. 8 + n) (wide_length (to_be_bytes w32) 4 cs (wide_words cs)) in
     let front : filled 1024 (head ++ rows) ≡ head ++ child_area cs =
-        append_assoc head rows (replicate (1024 - length (head ++ rows)) 0) ∙ ap (λ m. head ++ (rows ++ replicate m 0)) (left (length cs) (length (head ++ rows)) first) in
+    append_assoc head rows (replicate (1024 - length (head ++ rows)) 0) ∙ ap (λ m. head ++ (rows ++ replicate m 0)) (left (length cs) (length (head ++ rows)) first) in
     let keys = flat_map key_bytes ks in
     let whole : length ((head ++ child_area cs) ++ keys) ≡ 1024 + 12 * length ks =
-        length-append (head ++ child_area cs) keys ∙ ap (λ n. n + length keys) (key_start height (length cs) cs few) ∙ ap (λ n. 1024 + n) (wide_length key_bytes 12 ks (wide_keys ks)) in
+    length-append (head ++ child_area cs) keys ∙ ap (λ n. n + length keys) (key_start height (length cs) cs few) ∙ ap (λ n. 1024 + n) (wide_length key_bytes 12 ks (wide_keys ks)) in
     ap (λ l. filled 4096 (l ++ keys)) front
     ∙ append_assoc (head ++ child_area cs) keys (replicate (4096 - length ((head ++ child_area cs) ++ keys)) 0)
     ∙ ap (λ m. (head ++ child_area cs) ++ (keys ++ replicate m 0)) (rest (length ks) (length ((head ++ child_area cs) ++ keys)) whole)
@@ -88,6 +88,7 @@ inner_shape height cs ks few =
   where
     left : (n m : ℕ) → m ≡ 8 + 4 * n → 1024 - m ≡ 1016 - 4 * n
     left n m h = omega arith
+
     rest : (n m : ℕ) → m ≡ 1024 + 12 * n → 4096 - m ≡ 3072 - 12 * n
     rest n m h = omega arith
 
@@ -152,11 +153,11 @@ read_back bytes inner p =
     let one_less : short_at bytes 2 - 1 ≡ length inner.keys = omega (arith, count, p.is_inner.between) in
     let height = height_is bytes inner p in
     let children : map (λ i. word_at bytes (8 + 4 * i)) (range_with_len 0 (short_at bytes 2)) ≡ inner.children =
-        sym (fill_by_all (λ i. word_at bytes (8 + 4 * i)) inner.children (short_at bytes 2) 0 (sym count)
-        (λ k lt. sym (child_is bytes inner k p (subst (λ m. k < m) count lt)))) in
+    sym (fill_by_all (λ i. word_at bytes (8 + 4 * i)) inner.children (short_at bytes 2) 0 (sym count)
+    (λ k lt. sym (child_is bytes inner k p (subst (λ m. k < m) count lt)))) in
     let keys : map (λ i. key_at bytes (1024 + 12 * i)) (range_with_len 0 (short_at bytes 2 - 1)) ≡ inner.keys =
-        sym (fill_by_all (λ i. key_at bytes (1024 + 12 * i)) inner.keys (short_at bytes 2 - 1) no_key (sym one_less)
-        (λ k lt. sym (key_is bytes inner k no_key p (subst (λ m. k < m) one_less lt)))) in
+    sym (fill_by_all (λ i. key_at bytes (1024 + 12 * i)) inner.keys (short_at bytes 2 - 1) no_key (sym one_less)
+    (λ k lt. sym (key_is bytes inner k no_key p (subst (λ m. k < m) one_less lt)))) in
     λ i. record { height = height i; children = children i; keys = keys i }
 
 pub read_again : (bytes : List ℕ) (inner : Inner) → IsInnerPage bytes inner → IsInnerPage bytes (read_inner bytes)
@@ -189,3 +190,49 @@ lt_test m n h = grind (arith, nat_tests)
 
 pub page_test : (c : ℕ) → 1 ≤ c → c < 2 ^ 32 → is_page c ≡ true
 page_test c h g = and_both (nat_le 1 c) (nat_lt c (2 ^ 32)) (le_test 1 c h) (lt_test c (2 ^ 32) g)
+
+-- A page is filled behind its first bytes.
+pub filled_inner : (height n : ℕ) (start mid new cs : List ℕ) → start ≡ 2 ∷ height ∷ to_be_bytes w16 n → length cs ≤ 1016
+    → mid ≡ take 0 (replicate {A = ℕ} 4096 0) ++ (start ++ drop (0 + length start) (replicate {A = ℕ} 4096 0))
+    → new ≡ take 8 mid ++ (cs ++ drop (8 + length cs) mid)
+    → new ≡ inner_head height n ++ ((cs ++ replicate (1016 - length cs) 0) ++ replicate 3072 0)
+filled_inner height n start mid new cs s few m e =
+    let head = inner_head height n in
+    let shape : mid ≡ head ++ replicate {A = ℕ} 4088 0 =
+    m ∙ ap (λ l. l ++ drop (0 + length l) (replicate {A = ℕ} 4096 0)) s
+    ∙ ap (λ l. (2 ∷ height ∷ to_be_bytes w16 n) ++ l) (drop-replicate 4 4096 0 ∙ sym (replicate-append-replicate 4 4088 0))
+    ∙ sym (append_assoc (2 ∷ height ∷ to_be_bytes w16 n) (replicate 4 0) (replicate 4088 0)) in
+    let zeros : 4088 - length cs ≡ (1016 - length cs) + 3072 = omega (arith, few) in
+    e ∙ ap (λ l. take 8 l ++ (cs ++ drop (8 + length cs) l)) shape
+    ∙ ap (λ l. l ++ (cs ++ drop (8 + length cs) (head ++ replicate {A = ℕ} 4088 0))) (cut_front head (replicate 4088 0) 8 refl)
+    ∙ ap (λ l. head ++ (cs ++ l)) (drop-append-add head (replicate {A = ℕ} 4088 0) (length cs) ∙ drop-replicate (length cs) 4088 0
+    ∙ ap (λ k. replicate {A = ℕ} k 0) zeros ∙ sym (replicate-append-replicate (1016 - length cs) 3072 0))
+    ∙ ap (λ l. head ++ l) (sym (append_assoc cs (replicate (1016 - length cs) 0) (replicate 3072 0)))
+
+passed_all : {X : Type 0} (a b c d e f g : Bool) (x : X) → a ≡ true → b ≡ true → c ≡ true → d ≡ true → e ≡ true → f ≡ true → g ≡ true → (if a && b && c && d && e && f && g then Some x else None) ≡ Some x
+passed_all true true true true true true true x p q r s t u v = refl
+passed_all true true true true true true false x p q r s t u v = cc
+passed_all true true true true true false g x p q r s t u v = cc
+passed_all true true true true false f g x p q r s t u v = cc
+passed_all true true true false e f g x p q r s t u v = cc
+passed_all true true false d e f g x p q r s t u v = cc
+passed_all true false c d e f g x p q r s t u v = cc
+passed_all false b c d e f g x p q r s t u v = cc
+
+-- The bytes of an inner page are well formed where its children are pages, and are its height, children and keys.
+pub inner_of_page : (pages : ℕ) (bytes : List ℕ) (inner : Inner) → IsInnerPage bytes inner → are_pages pages inner.children ≡ true → inner_of pages bytes ≡ Some inner
+unfolding inner_of
+inner_of_page pages bytes inner p h =
+    let same = read_back bytes inner p in
+    let q = read_inner bytes in
+    let is = p.is_inner in
+    passed_all (nat_le 2 q.height) (nat_le q.height 3) (nat_le 2 (length q.children)) (nat_le (length q.children) 254) (list_all (λ c. nat_le 1 c && nat_lt c pages) q.children)
+    (is_ascending q.keys) (bytes_eq (inner_bytes q.height q.children q.keys) bytes) q
+    (ap (λ (l : Inner). nat_le 2 l.height) same ∙ le_test 2 inner.height is.low)
+    (ap (λ (l : Inner). nat_le l.height 3) same ∙ le_test inner.height 3 is.high)
+    (ap (λ (l : Inner). nat_le 2 (length l.children)) same ∙ le_test 2 (length inner.children) is.least)
+    (ap (λ (l : Inner). nat_le (length l.children) 254) same ∙ le_test (length inner.children) 254 is.most)
+    (ap (λ (l : Inner). are_pages pages l.children) same ∙ h)
+    (ap (λ (l : Inner). is_ascending l.keys) same ∙ is.ascends)
+    ((bytes_eq-Decides (inner_bytes q.height q.children q.keys) bytes).1 (ap (λ (l : Inner). inner_bytes l.height l.children l.keys) same ∙ sym p.written))
+    ∙ ap Some same

@@ -93,11 +93,13 @@ rebuilt bytes page n f whole e few made =
     let fit : AllFit rs = fit_rows bytes (short_at bytes 2) 0 f (omega (arith, few, whole, e)) in
     let width : 64 + 28 * n - 64 ≡ 28 * n = omega arith in
     let rows : slice_range bytes 64 (64 + 28 * n) ≡ flat_map record_bytes rs =
-        ap (λ m. take m (drop 64 bytes)) width ∙ ap (λ m. take (28 * m) (drop 64 bytes)) e
-        ∙ sym (rows_again record_bytes (λ i. record_at bytes (64 + 28 * i)) 28 64 bytes (short_at bytes 2) 0 (λ i lt. record_again bytes (64 + 28 * i) f (omega (arith, lt, few, whole, e)))) in
-    (made ∙ ap (λ l. leaf_head n ++ (l ++ replicate (4032 - length l) 0)) rows
-    ∙ ap (λ m. leaf_head n ++ (flat_map record_bytes rs ++ replicate (4032 - m) 0)) (wide_length record_bytes 28 rs (wide_records rs fit))
-    ∙ ap (λ m. leaf_head m ++ area record_bytes 28 4032 rs) (sym many) ∙ sym (leaf_shape rs fit), fit)
+    ap (λ m. take m (drop 64 bytes)) width ∙ ap (λ m. take (28 * m) (drop 64 bytes)) e
+    ∙ sym (rows_again record_bytes (λ i. record_at bytes (64 + 28 * i)) 28 64 bytes (short_at bytes 2) 0 (λ i lt. record_again bytes (64 + 28 * i) f (omega (arith, lt, few, whole, e)))) in (
+      made ∙ ap (λ l. leaf_head n ++ (l ++ replicate (4032 - length l) 0)) rows
+          ∙ ap (λ m. leaf_head n ++ (flat_map record_bytes rs ++ replicate (4032 - m) 0)) (wide_length record_bytes 28 rs (wide_records rs fit))
+          ∙ ap (λ m. leaf_head m ++ area record_bytes 28 4032 rs) (sym many) ∙ sym (leaf_shape rs fit),
+      fit,
+    )
 
 pub good_page : (bytes page : List ℕ) (n : ℕ) → AreBytes bytes → length bytes ≡ 4096 → n ≡ short_at bytes 2 → 1 ≤ n → n ≤ 144 → is_ascending (keys_in bytes 64 28 n) ≡ true
     → page ≡ leaf_head n ++ (slice_range bytes 64 (64 + 28 * n) ++ replicate (4032 - length (slice_range bytes 64 (64 + 28 * n))) 0)

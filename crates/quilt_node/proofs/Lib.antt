@@ -1,4 +1,8 @@
 pub mod Ascending
+pub mod InnerEdits
+pub mod InnerReads
+pub mod InnerSplits
+pub mod Inners
 pub mod LeafReads
 pub mod Leaves
 pub mod Orders

@@ -45,16 +45,15 @@ fn children_are_pages(bytes: &[u8; 4096], n: usize, pages: u32) -> bool
     true
 }
 
-/// The page of an inner node with `n` children, whose children and keys have these bytes.
-fn inner_page(height: u8, n: u16, children: &[u8], keys: &[u8]) -> [u8; 4096]
-    requires { (length children.now ≤ 1016) × (length keys.now ≤ 3072) }
-    ensures { result ≡ inner_head height n ++ ((children.now ++ replicate (1016 - length children.now) 0) ++ (keys.now ++ replicate (3072 - length keys.now) 0)) }
+/// The page of an inner node with `n` children of these bytes, and no keys yet.
+fn page_of_children(height: u8, n: u16, children: &[u8]) -> [u8; 4096]
+    requires { length children.now ≤ 1016 }
+    ensures { result ≡ inner_head height n ++ ((children.now ++ replicate (1016 - length children.now) 0) ++ replicate 3072 0) }
 {
     let [high, low] = n.to_be_bytes();
     let mut page = [0; 4096];
     put_over(&mut page, 0, &[2, height, high, low]);
     put_over(&mut page, 8, children);
-    put_over(&mut page, 1024, keys);
     page
 }
 
@@ -68,12 +67,15 @@ pub fn inner_of(bytes: &[u8; 4096], pages: u32) -> Option<InnerPage>
     if height < 2 || 3 < height || n < 2 || 254 < n {
         return None;
     }
-    if !children_are_pages(bytes, n, pages) || !keys_ascend(bytes, 1024, 12, n - 1) {
+    if !children_are_pages(bytes, n, pages) {
         return None;
     }
-    let children = &bytes[8..8 + 4 * n];
-    let keys = &bytes[1024..1024 + 12 * (n - 1)];
-    if *bytes != inner_page(height, n as u16, children, keys) {
+    if !keys_ascend(bytes, 1024, 12, n - 1) {
+        return None;
+    }
+    let mut page = page_of_children(height, n as u16, &bytes[8..8 + 4 * n]);
+    put_over(&mut page, 1024, &bytes[1024..1024 + 12 * (n - 1)]);
+    if *bytes != page {
         return None;
     }
     Some(InnerPage { bytes: *bytes })
@@ -86,12 +88,12 @@ impl InnerPage {
         requires children { (1 ≤ left) × (1 ≤ right) }
         ensures { result ≡ record { height = height; children = left ∷ right ∷ []; keys = key.now ∷ [] } }
     {
-        let mut children = [0; 8];
-        children[..4].copy_from_slice(&left.to_be_bytes());
-        children[4..].copy_from_slice(&right.to_be_bytes());
-        InnerPage {
-            bytes: inner_page(height, 2, &children, &key_bytes(key)),
-        }
+        let l = left.to_be_bytes();
+        let r = right.to_be_bytes();
+        let children = [l[0], l[1], l[2], l[3], r[0], r[1], r[2], r[3]];
+        let mut page = page_of_children(height, 2, &children);
+        put_over(&mut page, 1024, &key_bytes(key));
+        InnerPage { bytes: page }
     }
 
     /// The page's bytes.
@@ -125,6 +127,7 @@ impl InnerPage {
         requires { i < length self.now.children }
         ensures child { result ≡ slice_index self.now.children i }
         ensures above { 1 ≤ result }
+        ensures is { IsInner self.now }
     {
         word_in(&self.bytes, 8 + 4 * i)
     }
@@ -154,7 +157,9 @@ impl InnerPage {
         requires place { i < length self.old.keys }
         requires order { is_ascending (slice_set self.old.keys i k.now) ≡ true }
         ensures { self.new ≡ with_key self.old i k.now }
-    {}
+    {
+        put_over(&mut self.bytes, 1024 + 12 * i, &key_bytes(k));
+    }
 
     /// Puts a key in at place `i` of the keys, and a child at place `j` of the children.
     fn put_both(&mut self, i: usize, k: &Key, j: usize, child: u32)
@@ -193,17 +198,22 @@ impl InnerPage {
         ensures left { self.new ≡ first_children n self.old }
         ensures right { result.1 ≡ children_from n self.old }
         ensures key { slice_get self.old.keys (n - 1) ≡ Some result.0 }
+        ensures is { IsInner self.old }
     {
         let all = self.len();
+        let height = self.height();
         let key = self.key(n - 1);
-        let right = InnerPage {
-            bytes: inner_page(
-                self.height(),
-                (all - n) as u16,
-                &self.bytes[8 + 4 * n..8 + 4 * all],
-                &self.bytes[1024 + 12 * n..1024 + 12 * (all - 1)],
-            ),
-        };
+        let mut page = page_of_children(
+            height,
+            (all - n) as u16,
+            &self.bytes[8 + 4 * n..8 + 4 * all],
+        );
+        put_over(
+            &mut page,
+            1024,
+            &self.bytes[1024 + 12 * n..1024 + 12 * (all - 1)],
+        );
+        let right = InnerPage { bytes: page };
         clear(&mut self.bytes, 8 + 4 * n, 8 + 4 * all);
         clear(&mut self.bytes, 1024 + 12 * (n - 1), 1024 + 12 * (all - 1));
         set_count(&mut self.bytes, n as u16);
@@ -217,7 +227,9 @@ impl InnerPage {
         requires child { 1 ≤ child }
         requires order { is_ascending (insert self.old.keys i k.now) ≡ true }
         ensures { self.new ≡ with_child self.old i k.now child }
-    {}
+    {
+        self.put_both(i, k, i + 1, child);
+    }
 
     /// Puts key `i` and child `i + 1` into a full page: the first 127 children stay, the other 128 go right, and the
     /// key between them is answered beside the right page.
@@ -250,7 +262,10 @@ impl InnerPage {
         requires left { 2 < length self.old.children }
         requires place { i < length self.old.keys }
         ensures { self.new ≡ without_child self.old i }
-    {}
+    {
+        let _ = &self.bytes;
+        self.take_both(i, i + 1);
+    }
 
     /// Takes over all children of the page to the right, whose bytes stay as they are, with `k` between.
     pub fn join(&mut self, k: &Key, right: &InnerPage)
@@ -258,7 +273,18 @@ impl InnerPage {
         requires room { length self.old.children + length right.now.children ≤ 254 }
         requires order { is_ascending (self.old.keys ++ k.now ∷ right.now.keys) ≡ true }
         ensures { self.new ≡ joined self.old k.now right.now }
-    {}
+    {
+        let n = self.len();
+        let more = right.len();
+        put_over(&mut self.bytes, 8 + 4 * n, &right.bytes[8..8 + 4 * more]);
+        put_over(&mut self.bytes, 1024 + 12 * (n - 1), &key_bytes(k));
+        put_over(
+            &mut self.bytes,
+            1024 + 12 * n,
+            &right.bytes[1024..1024 + 12 * (more - 1)],
+        );
+        set_count(&mut self.bytes, (n + more) as u16);
+    }
 
     /// Moves the first child of the page to the right here, where `k` parts the two, and answers the key that parts
     /// them now.
@@ -293,6 +319,7 @@ impl InnerPage {
         let last = left.len() - 1;
         let child = left.child(last);
         let key = left.key(last - 1);
+        let _ = &self.bytes;
         self.put_both(0, k, 0, child);
         left.take_both(last - 1, last);
         key
