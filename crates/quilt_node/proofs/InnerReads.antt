@@ -81,11 +81,11 @@ rebuilt bytes mid page n f whole some few made more =
     let width : 8 + 4 * n - 8 ≡ 4 * n = omega arith in
     let key_width : 1024 + 12 * (n - 1) - 1024 ≡ 12 * (n - 1) = omega arith in
     let rows : slice_range bytes 8 (8 + 4 * n) ≡ flat_map (to_be_bytes w32) cs =
-        ap (λ m. take m (drop 8 bytes)) width
-        ∙ sym (rows_again (to_be_bytes w32) (λ i. word_at bytes (8 + 4 * i)) 4 8 bytes n 0 (λ i lt. word_again bytes (8 + 4 * i) f (omega (arith, lt, few, whole)))) in
+    ap (λ m. take m (drop 8 bytes)) width
+    ∙ sym (rows_again (to_be_bytes w32) (λ i. word_at bytes (8 + 4 * i)) 4 8 bytes n 0 (λ i lt. word_again bytes (8 + 4 * i) f (omega (arith, lt, few, whole)))) in
     let key_rows : slice_range bytes 1024 (1024 + 12 * (n - 1)) ≡ flat_map key_bytes ks =
-        ap (λ m. take m (drop 1024 bytes)) key_width
-        ∙ sym (rows_again key_bytes (λ i. key_at bytes (1024 + 12 * i)) 12 1024 bytes (n - 1) 0 (λ i lt. key_again bytes (1024 + 12 * i) f (omega (arith, lt, few, whole)))) in
+    ap (λ m. take m (drop 1024 bytes)) key_width
+    ∙ sym (rows_again key_bytes (λ i. key_at bytes (1024 + 12 * i)) 12 1024 bytes (n - 1) 0 (λ i lt. key_again bytes (1024 + 12 * i) f (omega (arith, lt, few, whole)))) in
     let s = shaped_page mid page (slice_range bytes 8 (8 + 4 * n)) (slice_range bytes 1024 (1024 + 12 * (n - 1))) cs ks h n cs_few (omega (arith, keys, few)) rows key_rows made more in
     s.shape ∙ ap (λ m. inner_head h m ++ (child_area cs ++ key_area ks)) (sym many) ∙ sym (inner_shape h cs ks cs_few)
 
@@ -171,6 +171,7 @@ no_page pages c (inr h) = ap (λ b. nat_le 1 c && b) (lt_fails c pages h.1) ∙ 
   where
     lt_fails : (m n : ℕ) → n ≤ m → nat_lt m n ≡ false
     lt_fails m n h = grind (arith, nat_tests)
+
     and_false : (b : Bool) → b && false ≡ false
     and_false true = refl
     and_false false = refl
@@ -180,5 +181,6 @@ a_page pages c h g = and_both (nat_le 1 c) (nat_lt c pages) (le_holds 1 c h) (lt
   where
     le_holds : (m n : ℕ) → m ≤ n → nat_le m n ≡ true
     le_holds m n h = grind (arith, nat_tests)
+
     lt_holds : (m n : ℕ) → m < n → nat_lt m n ≡ true
     lt_holds m n h = grind (arith, nat_tests)

@@ -1,4 +1,5 @@
 pub mod Ascending
+pub mod Headers
 pub mod InnerEdits
 pub mod InnerReads
 pub mod InnerSplits

@@ -1,5 +1,5 @@
 -- What is true of every leaf page and of every inner page, and where a key belongs in one.
-use Rattle.std.specs.Prelude.{◌≡◌, ℕ, suc, ◌<◌, ◌≤◌, ◌^◌, Bool, true, ◌&&◌, nat_le, nat_lt, List, ◌∷◌, map, length, take, drop, Some, slice_get}
+use Rattle.std.specs.Prelude.{◌≡◌, ℕ, suc, ◌<◌, ◌≤◌, ◌^◌, Bool, true, ◌&&◌, nat_le, nat_lt, List, ◌∷◌, map, length, take, drop, Some, slice_get, slice_index}
 use Rattle.std.specs.List.{list_all}
 use Rattle.std.specs.Ordering.{is_lt, is_le}
 use Rattle.quilt_record.specs.declared.key.Key.{Key}
@@ -8,7 +8,7 @@ use Rattle.std.specs.Int.{to_be_bytes, w16}
 use Rattle.quilt_record.specs.Records.{key_cmp, filled}
 use Rattle.quilt_record.specs.Fits.{AllFit, KeysFit}
 use Rattle.quilt_node.specs.declared.head.Head.{Head}
-use Rattle.quilt_node.specs.Pages.{Inner, IsHead, is_ascending, leaf_bytes, inner_bytes}
+use Rattle.quilt_node.specs.Pages.{Inner, IsHead, is_ascending, leaf_bytes, inner_bytes, word_at}
 
 abbrev pub keys_of : List Record → List Key
 keys_of rs = map (λ r. r.key) rs
@@ -80,3 +80,19 @@ leaf_head n = filled 64 (1 ∷ 1 ∷ to_be_bytes w16 n)
 -- the first 8 bytes of an inner page with n children
 abbrev pub inner_head : ℕ → ℕ → List ℕ
 inner_head height n = filled 8 (2 ∷ height ∷ to_be_bytes w16 n)
+
+-- the numbers of a header fit their bytes
+pub record HeadFits (h : Head) : Type 0 where
+  pub edition : h.edition < 2 ^ 32
+  pub root : h.root < 2 ^ 32
+  pub records : h.records < 2 ^ 32
+
+-- the numbers that stand where a header has them
+abbrev pub read_head : List ℕ → Head
+read_head bytes = record {
+  edition = word_at bytes 8;
+  level = slice_index bytes 12;
+  root = word_at bytes 16;
+  height = slice_index bytes 13;
+  records = word_at bytes 20;
+}

@@ -38,7 +38,7 @@ passes c = record {
   ascends = sym c.keys_ascend.ensures ∙ c.if-not-keys_ascend.false;
   same = same_bytes c.args.bytes.now c.put_over.new.bytes (sym c.ne.ensures ∙ c.if-ne.false)
       ∙ rebuilt c.args.bytes.now c.page_of_children-page.result c.put_over.new.bytes c.count_in-n.result c.fits-bytes c.told-bytes c.if-n-lt2.false c.if-n-gt254.false
-        c.page_of_children-page.ensures c.put_over.ensures;
+      c.page_of_children-page.ensures c.put_over.ensures;
 }
 
 page : (c : goal.After-result-1) → IsInnerPage c.args.bytes.now (read_inner c.args.bytes.now)
