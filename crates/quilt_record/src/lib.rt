@@ -4,5 +4,8 @@
 mod key;
 mod record;
 
-pub use key::Key;
+pub use key::{Key, key_bytes, key_of};
 pub use record::Record;
+
+#[cfg(test)]
+mod tests;

@@ -1,0 +1,12 @@
+pub mod Ascending
+pub mod Headers
+pub mod InnerEdits
+pub mod InnerReads
+pub mod InnerSplits
+pub mod Inners
+pub mod LeafReads
+pub mod Leaves
+pub mod Orders
+pub mod Rows
+pub mod Searches
+pub mod Spelled

@@ -1,0 +1,6 @@
+-- Which pages of a store in memory are free.
+use Rattle.std.specs.Prelude.{ℕ, Bool, false, List, slice_index_or}
+
+-- a place behind the last is not free
+abbrev pub is_free : List Bool → ℕ → Bool
+is_free free page = slice_index_or free page false

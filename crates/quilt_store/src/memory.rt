@@ -1,0 +1,114 @@
+ghost use Rattle.std.specs.Prelude.{◌≡◌, ◌+◌, ◌<◌, ◌≤◌, ℕ, true, false, length, replicate, Some, None, IfOk, filter, position, refl};
+ghost use Rattle.quilt_store.specs.Memory.{is_free};
+
+use crate::{PageStore, StoreErr};
+use std::alloc::{AllocError, Global};
+
+/// A store that keeps all its pages in memory. Its calls never fail.
+#[derive(Drop)]
+pub struct MemStore {
+    pages: Vec<[u8; 4096]>,
+    free: Vec<bool>,
+    count: u32,
+    ghost least: { 16 ≤ length pages.items },
+    ghost most: { length pages.items ≤ 30000 },
+    ghost tests: { length free.items ≡ length pages.items },
+    ghost from_one: { (page : ℕ) → is_free free.items page ≡ true → (1 ≤ page) × (page < length pages.items) },
+    ghost counted: { count ≡ length (filter (λ b. b) free.items) },
+}
+
+impl MemStore {
+    /// A store of 16 to 30000 pages of zeros, which are all free but page 0. It takes all its memory at once.
+    pub fn new(alloc: Global, pages: u32) -> Result<MemStore, AllocError>
+        requires { (16 ≤ pages) × (pages ≤ 30000) }
+        ensures size { IfOk result (λ s. ⟦<MemStore as PageStore>⟧.size s ≡ pages) }
+        ensures told { IfOk result (λ s. ⟦<MemStore as PageStore>⟧.told s ≡ Some (replicate pages (replicate 4096 0))) }
+        ensures free { IfOk result (λ s. (p : ℕ) → 1 ≤ p → p < pages → ⟦<MemStore as PageStore>⟧.free s p ≡ true) }
+        ensures reads { IfOk result (λ s. ⟦<MemStore as PageStore>⟧.reads s ≡ Some 0) }
+        ensures changed { IfOk result (λ s. ⟦<MemStore as PageStore>⟧.changed s ≡ 0) }
+        ensures faults { IfOk result (λ s. ⟦<MemStore as PageStore>⟧.faults s ≡ 0) }
+    {
+        let mut all = Vec::new(alloc);
+        let mut free = Vec::new(alloc);
+        for page in 0..pages {
+            all.push([0; 4096])?;
+            free.push(page > 0)?;
+        }
+        Ok(MemStore {
+            pages: all,
+            free,
+            count: pages - 1,
+        })
+    }
+}
+
+/// The first free page.
+fn first_free(free: &[bool]) -> Option<usize>
+    ensures { result ≡ position (λ b. b) free.now }
+{
+    free.iter().position(|is_free| *is_free)
+}
+
+impl PageStore for MemStore {
+    ghost size = { λ s. length s.pages.items };
+
+    ghost told = { λ s. Some s.pages.items };
+
+    ghost free = { λ s. is_free s.free.items };
+
+    ghost faults = { λ s. 0 };
+
+    ghost later = { λ s t. Unit {0} };
+
+    ghost held = { λ s. None };
+
+    ghost reads = { λ s. Some 0 };
+
+    ghost changed = { λ s. 0 };
+
+    fn pages(&self) -> u32 {
+        self.pages.len() as u32
+    }
+
+    fn free_pages(&self) -> u32 {
+        self.count
+    }
+
+    fn is_free(&self, page: u32) -> bool {
+        self.free[page as usize]
+    }
+
+    fn read(&mut self, page: u32, into: &mut [u8; 4096]) -> Result<(), StoreErr> {
+        *into = self.pages[page as usize];
+        Ok(())
+    }
+
+    fn write(&mut self, page: u32, bytes: &[u8; 4096]) -> Result<(), StoreErr> {
+        self.pages[page as usize] = *bytes;
+        Ok(())
+    }
+
+    fn take_page(&mut self) -> u32 {
+        let page = first_free(&self.free).unwrap();
+        self.free[page] = false;
+        self.count -= 1;
+        page as u32
+    }
+
+    fn give_page(&mut self, page: u32) {
+        self.free[page as usize] = true;
+        self.count += 1;
+    }
+
+    ghost in_range = { λ s. (s.least, s.most) };
+
+    ghost free_pages_are = { λ s page h. s.from_one page h };
+
+    ghost as_many = { λ s. refl };
+
+    ghost held_once = { λ s. tt };
+
+    ghost same_time = { λ s. tt };
+
+    ghost goes_on = { λ s t u p q. tt };
+}
