@@ -1,5 +1,5 @@
 -- What each command is answered, test by test.
-use Rattle.std.proofs.Common.{◌≡◌, ◌⊎◌, inl, inr, ℕ, Bool, true, false, not, nat_le, nat_lt, List, [], ◌∷◌, Option, Some, None, is_some, is_none, unwrap_or, refl, sym, ◌∙◌, ap, decimal, codes, map}
+use Rattle.std.proofs.Common.{◌≡◌, inl, inr, ℕ, true, false, nat_le, nat_lt, List, [], ◌∷◌, Some, None, unwrap_or, refl, sym, ◌∙◌, ap, decimal, codes, map}
 use Rattle.std.specs.FinMap as finmap
 use Rattle.quilt_types.specs.declared.plane.Pixel.{Pixel}
 use Rattle.quilt_types.specs.declared.plane.Window.{Window}
@@ -7,7 +7,7 @@ use Rattle.quilt_types.specs.declared.plane.Colour.{Colour}
 use Rattle.quilt_types.specs.declared.code.Code.{Code}
 use Rattle.quilt_types.specs.declared.code.Code.TheVariants as no
 use Rattle.quilt_types.specs.Plane.{is_pixel, is_window, below}
-use Rattle.quilt_types.specs.Layers.{Layer, Region, Map, Edition, Grid, colour_at}
+use Rattle.quilt_types.specs.Layers.{Layer, Region, Map, Grid, colour_at}
 use Rattle.quilt_types.specs.Algebra.{uniform, painted}
 use Rattle.quilt_types.specs.Facts.{records}
 use Rattle.quilt_lang.specs.declared.command.Command.{Command}
@@ -53,9 +53,9 @@ pub region_done : (s : State) (a : List ℕ) (c : Colour) → layer s a ≡ None
     answer s (commands.Region a c) ≡ done [] (with s a (Region (uniform s.last.level c.0)))
 unfolding answer
 region_done s a c is few fits = elim (bool_cases (nat_lt s.quota (records s.last.level (with s a (Region (uniform s.last.level c.0)))))) [
-    | inl over ↦ absurd (fits (rw (is, few, over) refl))
-    | inr under ↦ rw (is, few, under) refl
-  ]
+  | inl over ↦ absurd (fits (rw (is, few, over) refl))
+  | inr under ↦ rw (is, few, under) refl
+]
 
 pub set_unknown : (s : State) (a : List ℕ) (p : Pixel) (c : Colour) → layer s a ≡ None → answer s (commands.Set a p c) ≡ refused s no.Unknown
 unfolding answer
@@ -72,9 +72,9 @@ pub set_done : (s : State) (a : List ℕ) (p : Pixel) (c : Colour) (g : Grid) �
     answer s (commands.Set a p c) ≡ done [] (with s a (Region (painted s.last.level g (pixel_window p) c.0)))
 unfolding answer
 set_done s a p c g is inside fits = elim (bool_cases (nat_lt s.quota (records s.last.level (with s a (Region (painted s.last.level g (pixel_window p) c.0)))))) [
-    | inl over ↦ absurd (fits (rw (is, inside, over) refl))
-    | inr under ↦ rw (is, inside, under) refl
-  ]
+  | inl over ↦ absurd (fits (rw (is, inside, over) refl))
+  | inr under ↦ rw (is, inside, under) refl
+]
 
 pub at_unknown : (s : State) (a : List ℕ) (p : Pixel) → layer s a ≡ None → answer s (commands.At a p) ≡ refused s no.Unknown
 unfolding answer

@@ -1,6 +1,6 @@
 pub mod Answering
+pub mod Built
 pub mod MapOf
-pub mod Members
 pub mod Paints
 pub mod Rows
 pub mod Shown

@@ -1,5 +1,5 @@
 -- The map that a list of layers is.
-use Rattle.std.proofs.Common.{◌≡◌, ◌⊎◌, inl, inr, ℕ, zero, suc, ◌+◌, ◌<◌, Bool, true, false, cond, List, [], ◌∷◌, ◌++◌, length, map, get_or, Option, Some, None, refl, sym, ◌∙◌, ap, subst, arith, position, nat_lt, set}
+use Rattle.std.proofs.Common.{◌≡◌, ◌⊎◌, inl, inr, ℕ, zero, suc, ◌+◌, ◌<◌, Bool, true, false, cond, List, [], ◌∷◌, ◌++◌, length, map, get_or, Some, None, refl, sym, ◌∙◌, ap, subst, arith, position, nat_lt, set}
 use Rattle.std.specs.List.{position_or_len}
 use Rattle.std.specs.Ordering.{nat_cmp, eq_by_cmp, is_eq}
 use Rattle.std.specs.declared.cmp.Ordering.{Ordering}
@@ -9,7 +9,7 @@ use Rattle.std.specs.FinMap as finmap
 use Rattle.std.specs.FinMap.{find, get-from_entries, get-insert, same_map, from_entries_push, slice_cmp-IsAntisymmetric, nat_cmp-IsAntisymmetric, len-insert}
 use Rattle.std.proofs.lemmas.List.Sums.{fails_before_first, passes_at_first}
 use Rattle.std.proofs.lemmas.Bool.{ltb-true, ltb-false}
-use Rattle.quilt_types.specs.Layers.{Layer, Region}
+use Rattle.quilt_types.specs.Layers.{Region}
 use Rattle.quilt_map.specs.declared.layer.Layer as kept
 use Rattle.quilt_map.specs.Grids.{entry, map_of, has_name}
 
@@ -47,21 +47,21 @@ pub record IsAt (a : List ℕ) (ls : List kept.Layer) (i : ℕ) : Type 0 where
 
 pub not_there : (a : List ℕ) (ls : List kept.Layer) → position (has_name a) ls ≡ None → finmap.get (map_of ls) a ≡ None
 not_there a ls is = elim (bool_cases (nat_lt (position_or_len (has_name a) ls) (length ls))) [
-    | inl within ↦ let e : Some (position_or_len (has_name a) ls) ≡ None = rw within at is in absurd (cc)
-    | inr past ↦ get-from_entries nat_list_cmp_total (map entry ls) a
-        ∙ absent a ls (λ j d lt. fails_before_first (has_name a) ls j d (omega (arith, lt, ltb-false _ _ past)))
-  ]
+  | inl within ↦ let e : Some (position_or_len (has_name a) ls) ≡ None = rw within at is in absurd (cc)
+  | inr past ↦ get-from_entries nat_list_cmp_total (map entry ls) a
+      ∙ absent a ls (λ j d lt. fails_before_first (has_name a) ls j d (omega (arith, lt, ltb-false _ _ past)))
+]
 
 pub stands_at : (a : List ℕ) (ls : List kept.Layer) (i : ℕ) → position (has_name a) ls ≡ Some i → IsAt a ls i
 stands_at a ls i is = elim (bool_cases (nat_lt (position_or_len (has_name a) ls) (length ls))) [
-    | inl within ↦
+  | inl within ↦
       let e : Some (position_or_len (has_name a) ls) ≡ Some i = rw within at is in
       let same : position_or_len (has_name a) ls ≡ i = cc in
       let lt : position_or_len (has_name a) ls < length ls = ltb-true _ _ within in
       let P : ℕ → Type 0 = λ (k : ℕ). IsAt a ls k in
       subst P same (record { within = lt; here = λ d. passes_at_first (has_name a) ls d lt; before = λ j e lt. fails_before_first (has_name a) ls j e lt })
-    | inr past ↦ let e : None ≡ Some i = rw past at is in absurd (cc)
-  ]
+  | inr past ↦ let e : None ≡ Some i = rw past at is in absurd (cc)
+]
 
 pub there : (a : List ℕ) (ls : List kept.Layer) (i : ℕ) (d : kept.Layer) → IsAt a ls i → finmap.get (map_of ls) a ≡ Some (Region (get_or ls i d).colours.items)
 there a ls i d at = get-from_entries nat_list_cmp_total (map entry ls) a ∙ present a ls i d at.within (at.here d) at.before
@@ -83,7 +83,7 @@ pub pushed : (ls : List kept.Layer) (l : kept.Layer) → finmap.get (map_of ls) 
 pushed ls l new =
     ap finmap.from_entries (map-push ls l)
     ∙ from_entries_push nat_list_cmp_total (slice_cmp-IsAntisymmetric nat_cmp-IsAntisymmetric) (map entry ls) l.name (Region l.colours.items)
-      (sym (get-from_entries nat_list_cmp_total (map entry ls) l.name) ∙ new)
+    (sym (get-from_entries nat_list_cmp_total (map entry ls) l.name) ∙ new)
 
 shadowed : {A : Type 0} (b : Bool) (x y z : A) → cond b x z ≡ cond b x (cond b y z)
 shadowed true x y z = refl
@@ -101,9 +101,9 @@ find_set q a (k ∷ ls) (suc i) l at name =
     let rest = find_set q a ls i l later name in
     elim (bool_cases (eq_by_cmp cmp q a)) [
       | inl same ↦
-        let P : List ℕ → Type 0 = λ (x : List ℕ). eq_by_cmp cmp x k.name ≡ false in
-        let other : eq_by_cmp cmp q k.name ≡ false = subst P (sym (same_names q a same)) apart in
-        rw (same, other) (rest ∙ rw same refl)
+          let P : List ℕ → Type 0 = λ (x : List ℕ). eq_by_cmp cmp x k.name ≡ false in
+          let other : eq_by_cmp cmp q k.name ≡ false = subst P (sym (same_names q a same)) apart in
+          rw (same, other) (rest ∙ rw same refl)
       | inr not_ ↦ rw not_ (ap (cond (eq_by_cmp cmp q k.name) (Some (Region k.colours.items))) (rest ∙ rw not_ refl))
     ]
 

@@ -1,12 +1,12 @@
 -- A square of one colour, and a square with one pixel changed.
-use Rattle.std.proofs.Common.{◌≡◌, ◌⊎◌, inl, inr, ℕ, ◌+◌, ◌*◌, ◌<◌, ◌≤◌, ◌/◌, ◌%◌, ◌^◌, ◌==◌, Bool, true, false, cond, List, length, get_or, set, replicate, refl, sym, ◌∙◌, ap, arith, length-set, pow_pos}
+use Rattle.std.proofs.Common.{◌≡◌, ◌⊎◌, inl, inr, ℕ, ◌+◌, ◌*◌, ◌<◌, ◌≤◌, ◌/◌, ◌%◌, ◌^◌, ◌==◌, true, false, cond, List, length, set, replicate, refl, sym, ◌∙◌, ap, arith, length-set}
 use Rattle.std.proofs.lemmas.List.{length-replicate, get_or-replicate, get_or-set_same, get_or-set_other}
-use Rattle.std.proofs.lemmas.Nat.{mul-add-lt, mod-mul-add, div-mul-add, div-add-mod', mod_below, div_below}
+use Rattle.std.proofs.lemmas.Nat.{mul-add-lt, mod-mul-add, div-mul-add, div-add-mod'}
 use Rattle.std.proofs.Math.Pow.{pow_mono}
 use Rattle.std.proofs.lemmas.Bool.{eqb-true, eqb-false}
 use Rattle.std.proofs.lemmas.Bool.Decides.{nat_tests}
 use Rattle.quilt_types.specs.declared.plane.Pixel.{Pixel}
-use Rattle.quilt_types.specs.Plane.{side, in_window, is_pixel}
+use Rattle.quilt_types.specs.Plane.{side, in_window}
 use Rattle.quilt_types.specs.Layers.{colour_at}
 use Rattle.quilt_types.specs.Algebra.{uniform, painted}
 use Rattle.quilt_map.proofs.Rows.{grid_of-from, pixel_at, colour_at-pixel_at}
@@ -30,12 +30,12 @@ in_one n k p in_x in_y is = let at = place n p.x p.y k in_x in_y is in let e : k
 
 in_none : (n k : ℕ) (p : Pixel) → (k ≡ p.y * side n + p.x → ⊥) → in_window (pixel_window p) (pixel_at n k) ≡ false
 in_none n k p other = elim (bool_cases (in_window (pixel_window p) (pixel_at n k))) [
-    | inl is ↦
+  | inl is ↦
       let e : k % side n ≡ p.x = grind (arith, nat_tests) in
       let f : k / side n ≡ p.y = grind (arith, nat_tests) in
       absurd (other (sym (div-add-mod' k (side n)) ∙ ap (λ (y : ℕ). y * side n + k % side n) f ∙ ap (λ (x : ℕ). p.y * side n + x) e))
-    | inr not_ ↦ not_
-  ]
+  | inr not_ ↦ not_
+]
 
 pub painted_is : (n : ℕ) (g : List ℕ) (p : Pixel) (c : ℕ) → length g ≡ side n * side n → p.x < side n → p.y < side n →
     set g (p.y * side n + p.x) c ≡ painted n g (pixel_window p) c
@@ -48,4 +48,4 @@ painted_is n g p c size in_x in_y =
     ])
   where
     eq_cases : (j k : ℕ) → (j ≡ k) ⊎ (j ≡ k → ⊥)
-    eq_cases j k = elim (bool_cases (j == k)) [ | inl is ↦ inl (eqb-true j k is) | inr not_ ↦ inr (eqb-false j k not_) ]
+    eq_cases j k = elim (bool_cases (j == k)) [ inl is ↦ inl (eqb-true j k is) | inr not_ ↦ inr (eqb-false j k not_) ]

@@ -1,39 +1,13 @@
 -- The pixels of the square, their places, and the grid that has given colours.
-use Rattle.std.proofs.Common.{◌≡◌, ℕ, zero, suc, ◌+◌, ◌*◌, ◌<◌, List, map, length, get_or, sym, ◌∙◌, ap, arith, Contains, flat_map, zero-mul, suc-mul, length-append, get_or-append-add, pow_pos, ext_get_or, ◌/◌, ◌%◌}
+use Rattle.std.proofs.Common.{◌≡◌, ℕ, zero, suc, ◌+◌, ◌*◌, ◌<◌, List, map, length, get_or, sym, ◌∙◌, ap, arith, flat_map, zero-mul, suc-mul, length-append, get_or-append-add, pow_pos, ext_get_or, ◌/◌, ◌%◌}
 use Rattle.std.specs.List.{range_with_len}
 use Rattle.std.proofs.lemmas.List.{get_or-map, get_or_append_left, length-map}
 use Rattle.std.proofs.lemmas.List.FromFn.{length-map-range_with_len, get_or-map-range_with_len}
 use Rattle.std.proofs.lemmas.Nat.{mul-add-lt, div-add-mod', mod_below, div_below}
 use Rattle.quilt_types.specs.declared.plane.Pixel.{Pixel}
-use Rattle.quilt_types.specs.Plane.{side, below, pixels}
+use Rattle.quilt_types.specs.Plane.{side, pixels}
 use Rattle.quilt_types.specs.Layers.{colour_at}
 use Rattle.quilt_types.specs.Algebra.{grid_of}
-use Rattle.quilt_map.proofs.Members.{Contains-map, Contains-map_from, Contains-flat_map, Contains-flat_map_from, Contains-range, Contains-range_from}
-
-pub Contains-below : (n k : ℕ) → k < n → Contains (below n) k
-Contains-below n k h = Contains-range 0 n k (omega arith) (omega arith)
-
-pub Contains-below_from : (n k : ℕ) → Contains (below n) k → k < n
-Contains-below_from n k c = let r = Contains-range_from 0 n k c in omega arith
-
-pub Contains-pixels : (n : ℕ) (p : Pixel) → p.x < side n → p.y < side n → Contains (pixels n) p
-unfolding pixels
-Contains-pixels n p hx hy =
-    let at : ℕ → ℕ → Pixel = λ y x. record { x = x; y = y } in
-    Contains-flat_map (λ y. map (at y) (below (side n))) (below (side n)) p.y p (Contains-below (side n) p.y hy)
-    (Contains-map (at p.y) (below (side n)) p.x (Contains-below (side n) p.x hx))
-
-pub Contains-pixels_from : (n : ℕ) (p : Pixel) → Contains (pixels n) p → (p.x < side n) × (p.y < side n)
-unfolding pixels
-Contains-pixels_from n p c =
-    let at : ℕ → ℕ → Pixel = λ y x. record { x = x; y = y } in
-    let row = Contains-flat_map_from (λ y. map (at y) (below (side n))) (below (side n)) p c in
-    let col = Contains-map_from (at row.0) (below (side n)) p row.2 in
-    let hy = Contains-below_from (side n) row.0 row.1 in
-    let hx = Contains-below_from (side n) col.0 col.1 in
-    let ex : col.0 ≡ p.x = ap (λ (q : Pixel). q.x) col.2 in
-    let ey : row.0 ≡ p.y = ap (λ (q : Pixel). q.y) col.2 in
-    (omega arith, omega arith)
 
 -- a table row by row
 module _ {X : Type 0} (f : ℕ → ℕ → X) (w : ℕ) where
@@ -102,7 +76,3 @@ get_or-grid_of n f k lt =
 pub grid_of-from : (n : ℕ) (f : Pixel → ℕ) (g : List ℕ) → length g ≡ side n * side n → ((k : ℕ) → k < side n * side n → get_or g k 0 ≡ f (pixel_at n k)) → g ≡ grid_of n f
 grid_of-from n f g long each =
     ext_get_or 0 g (grid_of n f) (long ∙ sym (length-grid_of n f)) (λ k lt. each k (omega arith) ∙ sym (get_or-grid_of n f k (omega arith)))
-
--- for callers: how long a grid is
-pub length_grid_of : (n : ℕ) (f : Pixel → ℕ) → length (grid_of n f) ≡ side n * side n
-length_grid_of n f = length-grid_of n f

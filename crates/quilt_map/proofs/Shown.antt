@@ -1,12 +1,12 @@
 -- Rows of a window, pixel by pixel.
-use Rattle.std.proofs.Common.{◌≡◌, ℕ, zero, suc, ◌+◌, ◌*◌, ◌/◌, ◌%◌, ◌<◌, ◌≤◌, List, [], ◌∷◌, ◌++◌, flat_map, map, refl, sym, ◌∙◌, ap, arith, append_assoc, append-nil, add-one}
+use Rattle.std.proofs.Common.{◌≡◌, ℕ, zero, suc, ◌+◌, ◌/◌, ◌%◌, List, [], ◌∷◌, ◌++◌, flat_map, map, sym, ◌∙◌, ap, arith, append_assoc, append-nil, add-one}
 use Rattle.std.specs.List.{range_with_len}
 use Rattle.std.proofs.lemmas.Grind.{flat_map-append}
 use Rattle.std.proofs.lemmas.List.{map-append}
 use Rattle.quilt_types.specs.declared.plane.Window.{Window}
 use Rattle.quilt_types.specs.Plane.{below}
 use Rattle.quilt_types.specs.Layers.{colour_at, Grid}
-use Rattle.quilt_map.specs.Answers.{hex, row_line}
+use Rattle.quilt_map.specs.Answers.{hex}
 
 abbrev pub two_digits : ℕ → Grid → Window → ℕ → ℕ → List ℕ
 two_digits n g w dy dx = let c = colour_at n g (record { x = w.x + dx; y = w.y + dy }) in hex (c / 16) ∷ hex (c % 16) ∷ []

@@ -1,8 +1,10 @@
 -- What each command is answered by the work, case by case.
-use Rattle.std.proofs.Common.{◌≡◌, ◌⊎◌, inl, inr, ℕ, ◌+◌, ◌*◌, ◌<◌, ◌≤◌, Bool, true, false, ◌&&◌, nat_lt, nat_le, List, [], ◌∷◌, ◌++◌, length, map, flat_map, get_or, set, replicate, Option, Some, None, refl, sym, ◌∙◌, ap, subst, arith, codes, decimal, position, All, length-set, length-append, append_assoc, append-nil, is_some, cond}
+use Rattle.std.proofs.Common.{◌≡◌, ℕ, ◌+◌, ◌*◌, ◌<◌, ◌≤◌, Bool, true, false, nat_lt, nat_le, List, [], ◌∷◌, ◌++◌, length, map, flat_map, get_or, set, replicate, Option, Some, None, refl, sym, ◌∙◌, ap, subst, arith, codes, decimal, position, length-set, length-append, append_assoc, append-nil, is_some, cond}
+use Rattle.std.specs.Ordering.{nat_cmp}
+use Rattle.std.specs.Cmp.Lexicographic.{slice_cmp}
 use Rattle.std.specs.FinMap as finmap
+use Rattle.std.specs.FinMap.{len-empty}
 use Rattle.std.proofs.lemmas.Bool.{ltb-true, lt-leb, le-leb, and_parts}
-use Rattle.std.proofs.lemmas.List.{length-replicate}
 use Rattle.std.proofs.lemmas.Nat.{mul-add-lt}
 use Rattle.std.proofs.lemmas.Grind.{get_or_default_zero}
 use Rattle.std.proofs.lemmas.List.Elements.{All-set, All-push}
@@ -11,7 +13,7 @@ use Rattle.quilt_types.specs.declared.plane.Window.{Window}
 use Rattle.quilt_types.specs.declared.plane.Colour.{Colour}
 use Rattle.quilt_types.specs.declared.code.Code.TheVariants as no
 use Rattle.quilt_types.specs.Plane.{side, is_pixel, is_window, below}
-use Rattle.quilt_types.specs.Layers.{Layer, Region, colour_at, Grid}
+use Rattle.quilt_types.specs.Layers.{Layer, Region, colour_at}
 use Rattle.quilt_types.specs.Algebra.{uniform, painted}
 use Rattle.quilt_lang.specs.declared.command.Command.TheVariants as commands
 use Rattle.quilt_map.specs.Answers.{State, layer, Done, row_line}
@@ -21,7 +23,7 @@ use Rattle.quilt_map.specs.declared.work.Work.{Work}
 use Rattle.quilt_map.specs.declared.reply.Reply.TheVariants as reply
 use Rattle.quilt_map.specs.Grids.{IsPlain, has_name, map_of}
 use Rattle.quilt_map.specs.States.{state_of, IsAnswer, IsWithinQuota}
-use Rattle.quilt_map.proofs.MapOf.{IsAt, not_there, stands_at, there, pushed, replaced, some_there, one_more, as_many, same_names, bool_cases}
+use Rattle.quilt_map.proofs.MapOf.{IsAt, not_there, stands_at, there, pushed, replaced, some_there, one_more, as_many, same_names}
 use Rattle.quilt_map.proofs.Paints.{uniform_is, painted_is}
 use Rattle.quilt_map.proofs.Answering.{pixel_window, is_refused, is_done_with, region_exists, region_many, region_done, set_unknown, set_outside, set_done, at_unknown, at_outside, at_done, show_unknown, show_outside, show_done, edition_done}
 
@@ -100,9 +102,9 @@ says_region q w new a c l text at room says last items name colours fits =
     let few : nat_le 255 (finmap.len s.work) ≡ false = lt-leb 255 _ (let e = w.plain.apart in omega (arith, e, room)) in
     let P : List ℕ → Type 0 = λ (b : List ℕ). finmap.get (map_of w.layers.items) b ≡ None in
     let work : new.work ≡ finmap.insert s.work a (Region (uniform w.level c.0)) =
-        items ∙ pushed w.layers.items l (subst P (sym name) none)
-        ∙ ap (λ (b : List ℕ). finmap.insert s.work b (Region l.colours.items)) name
-        ∙ ap (λ (g : List ℕ). finmap.insert s.work a (Region g)) (colours ∙ uniform_is w.level c.0) in
+    items ∙ pushed w.layers.items l (subst P (sym name) none)
+    ∙ ap (λ (b : List ℕ). finmap.insert s.work b (Region l.colours.items)) name
+    ∙ ap (λ (g : List ℕ). finmap.insert s.work a (Region g)) (colours ∙ uniform_is w.level c.0) in
     is_done_with s (commands.Region a c) [] _ text new (region_done s a c none few fits) says work last
 
 pub says_unset : (q : ℕ) (w : Work) (a : List ℕ) (p : Pixel) (c : Colour) → position (has_name a) w.layers.items ≡ None → IsAnswer (state_of q w) (commands.Set a p c) (reply.No no.Unknown) (state_of q w)
@@ -121,8 +123,8 @@ says_set q w new a p c i l l' text at is inside says last items name colours fit
     let s = state_of q w in
     let square = in_square w.level p inside in
     let work : new.work ≡ finmap.insert s.work a (Region (painted w.level l.colours.items (pixel_window p) c.0)) =
-        items ∙ replaced a w.layers.items i l' (stands_at a w.layers.items i at) (name ∙ found_name w a i l at is)
-        ∙ ap (λ (g : List ℕ). finmap.insert s.work a (Region g)) (colours ∙ painted_is w.level l.colours.items p c.0 (found_size w a i l at is) square.0 square.1) in
+    items ∙ replaced a w.layers.items i l' (stands_at a w.layers.items i at) (name ∙ found_name w a i l at is)
+    ∙ ap (λ (g : List ℕ). finmap.insert s.work a (Region g)) (colours ∙ painted_is w.level l.colours.items p c.0 (found_size w a i l at is) square.0 square.1) in
     is_done_with s (commands.Set a p c) [] _ text new (set_done s a p c l.colours.items (grid_found q w a i l at is) inside fits) says work last
 
 pub says_not_at : (q : ℕ) (w : Work) (a : List ℕ) (p : Pixel) → position (has_name a) w.layers.items ≡ None → IsAnswer (state_of q w) (commands.At a p) (reply.No no.Unknown) (state_of q w)
@@ -147,7 +149,7 @@ pub says_at : (q : ℕ) (w : Work) (a : List ℕ) (p : Pixel) (i : ℕ) (l : kep
 says_at q w a p i l text k colour at is inside place here told =
     let s = state_of q w in
     let same : colour ≡ colour_at w.level l.colours.items p =
-        here ∙ get_or_default_zero l.colours.items k colour (place_within w a p i l k at is inside place) ∙ ap (λ (j : ℕ). get_or l.colours.items j 0) place in
+    here ∙ get_or_default_zero l.colours.items k colour (place_within w a p i l k at is inside place) ∙ ap (λ (j : ℕ). get_or l.colours.items j 0) place in
     let says : text ≡ decimal (colour_at w.level l.colours.items p) ++ codes "\nok\n" = told ∙ ap (λ (d : ℕ). decimal d ++ codes "\nok\n") same in
     is_done_with s (commands.At a p) _ _ text s (at_done s a p l.colours.items (grid_found q w a i l at is) inside)
     (says ∙ sym (body_text (decimal (colour_at w.level l.colours.items p)))) refl refl
@@ -170,3 +172,12 @@ says_show q w a v i l text at is inside says =
 
 pub says_edition : (q : ℕ) (w : Work) (text : List ℕ) → text ≡ (codes "edition " ++ decimal w.edition) ++ codes "\nok\n" → IsAnswer (state_of q w) commands.Edition (reply.Ok text) (state_of q w)
 says_edition q w text says = let s = state_of q w in is_done_with s commands.Edition _ _ text s (edition_done s) (says ∙ sym (body_text (codes "edition " ++ decimal w.edition))) refl refl
+
+pub plain_nothing : (n : ℕ) (ls : List kept.Layer) → ls ≡ [] → 1 ≤ n → n ≤ 12 → IsPlain n ls
+plain_nothing n ls none low high = rw none (record {
+  low = low;
+  high = high;
+  apart = len-empty (slice_cmp nat_cmp) Layer;
+  few = omega arith;
+  sized = λ k d lt. absurd (omega (arith, lt));
+})

@@ -1,7 +1,6 @@
 -- The state that the work stands for at a quota, and what answering a command is.
 use Rattle.std.specs.Prelude.{◌≡◌, ℕ, true, unwrap_or}
 use Rattle.std.specs.FinMap as finmap
-use Rattle.quilt_types.specs.Layers.{Edition}
 use Rattle.quilt_types.specs.declared.code.Code.TheVariants as no
 use Rattle.quilt_lang.specs.declared.command.Command.{Command}
 use Rattle.quilt_map.specs.Answers.{State, Outcome, Refused, answer}
@@ -34,3 +33,7 @@ pub record IsAnswer (s : State) (command : Command) (given : replies.Reply) (aft
   pub reply : Tells given (answer s command).reply
   pub work : after.work ≡ (answer s command).work
   pub last : after.last ≡ unwrap_or (answer s command).published s.last
+
+abbrev pub IsRefusal : replies.Reply → Type 0
+IsRefusal (reply.Ok text) = ⊥
+IsRefusal (reply.No code) = Unit {0}

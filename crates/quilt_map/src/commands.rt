@@ -1,13 +1,18 @@
 ghost use Rattle.std.specs.Prelude.{◌≡◌, ℕ, ◌<◌, ◌≤◌, ◌+◌, ◌*◌, Some, None, IfOk, OnOk, IfSome, MatchOption, codes, decimal, ◌++◌};
 ghost use Rattle.quilt_types.specs.Layers.{colour_at};
+ghost use Rattle.quilt_lang.specs.Forms.{Spelled};
 ghost use Rattle.quilt_lang.specs.declared.command.Command.TheVariants as commands;
 
 use crate::layer::Layer;
 use crate::reply::Reply;
 use crate::show::rows;
 use crate::work::{Work, has_pixel, has_window, index_of, side_of, uniform};
+use quilt_lang::Command;
 use quilt_types::{Code, Colour, Name, Pixel, Text, Window};
 use std::alloc::{AllocError, Global};
+
+/// The most layers that a map may have.
+const LAYER_LIMIT: usize = 255;
 
 /// The text of a reply with no body.
 fn done(alloc: Global) -> Result<Text, AllocError>
@@ -29,17 +34,35 @@ fn line(alloc: Global, body: &str) -> Result<Text, AllocError>
 }
 
 impl Work {
-    ghost use Rattle.quilt_map.specs.States.{state_of, IsWithinQuota, IsAnswer};
+    ghost use Rattle.quilt_map.specs.States.{state_of, IsWithinQuota, IsAnswer, IsRefusal};
+
+    /// The reply to a command, and the work that it leaves.
+    pub fn apply(&mut self, command: &Command) -> Result<Reply, AllocError>
+        requires { Spelled self.old.level command.now }
+        ensures refused { IfOk result (λ reply. IsRefusal reply → self.new ≡ self.old) }
+        ensures answer { IfOk result (λ reply. (q : ℕ) → IsWithinQuota (state_of q self.old) command.now →
+            IsAnswer (state_of q self.old) command.now reply (state_of q self.new)) }
+    {
+        match command {
+            Command::Region { a, c } => self.region(a, *c),
+            Command::Set { a, at, c } => self.set(a, *at, *c),
+            Command::At { a, at } => self.at(a, *at),
+            Command::Show { a, w } => self.show(a, *w),
+            Command::Edition => self.number(),
+            _ => unreachable!(),
+        }
+    }
 
     /// Makes a region layer of one colour.
     pub fn region(&mut self, a: &Name, c: Colour) -> Result<Reply, AllocError>
-        ensures { IfOk result (λ reply. (q : ℕ) → IsWithinQuota (state_of q self.old) (commands.Region a.now c) →
+        ensures refused { IfOk result (λ reply. IsRefusal reply → self.new ≡ self.old) }
+        ensures answer { IfOk result (λ reply. (q : ℕ) → IsWithinQuota (state_of q self.old) (commands.Region a.now c) →
             IsAnswer (state_of q self.old) (commands.Region a.now c) reply (state_of q self.new)) }
     {
         if index_of(&self.layers, a).is_some() {
             return Ok(Reply::No(Code::Exists));
         }
-        if self.layers.len() >= 255 {
+        if self.layers.len() >= LAYER_LIMIT {
             return Ok(Reply::No(Code::Layers));
         }
         let alloc = *self.layers.allocator();
@@ -52,7 +75,8 @@ impl Work {
 
     /// Gives a pixel a colour.
     pub fn set(&mut self, a: &Name, at: Pixel, c: Colour) -> Result<Reply, AllocError>
-        ensures { IfOk result (λ reply. (q : ℕ) → IsWithinQuota (state_of q self.old) (commands.Set a.now at c) →
+        ensures refused { IfOk result (λ reply. IsRefusal reply → self.new ≡ self.old) }
+        ensures answer { IfOk result (λ reply. (q : ℕ) → IsWithinQuota (state_of q self.old) (commands.Set a.now at c) →
             IsAnswer (state_of q self.old) (commands.Set a.now at c) reply (state_of q self.new)) }
     {
         let Some(i) = index_of(&self.layers, a) else {

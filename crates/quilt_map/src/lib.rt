@@ -10,3 +10,6 @@ mod work;
 
 pub use reply::Reply;
 pub use session::Session;
+
+#[cfg(test)]
+mod tests;

@@ -22,7 +22,13 @@ fn push_colour(text: &mut Text, c: u8) -> Result<(), AllocError>
 }
 
 /// Adds the colours of a row of a window.
-fn push_row(text: &mut Text, colours: &[u8], level: u8, w: Window, dy: u16) -> Result<(), AllocError>
+fn push_row(
+    text: &mut Text,
+    colours: &[u8],
+    level: u8,
+    w: Window,
+    dy: u16,
+) -> Result<(), AllocError>
     requires level { level ≤ 12 }
     requires size { length colours.now ≡ side level * side level }
     requires right { w.x + w.w ≤ side level }

@@ -61,3 +61,20 @@ pub fn has_window(level: u8, w: Window) -> bool
         && usize::from(w.x) + usize::from(w.w) <= side
         && usize::from(w.y) + usize::from(w.h) <= side
 }
+
+impl Work {
+    /// No layer, over this edition.
+    pub fn new(alloc: Global, level: u8, edition: u32) -> Work
+        requires low { 1 ≤ level }
+        requires high { level ≤ 12 }
+        ensures level { result.level ≡ level }
+        ensures edition { result.edition ≡ edition }
+        ensures layers { result.layers.items ≡ [] }
+    {
+        Work {
+            level,
+            edition,
+            layers: Vec::new(alloc),
+        }
+    }
+}
