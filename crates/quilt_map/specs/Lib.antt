@@ -1,2 +1,5 @@
 pub mod Answers
+pub mod Grids
 pub mod Runs
+pub mod Sessions
+pub mod States

@@ -1,0 +1,39 @@
+-- The state that the work stands for at a quota, and what answering a command is.
+use Rattle.std.specs.Prelude.{◌≡◌, ℕ, true, unwrap_or}
+use Rattle.std.specs.FinMap as finmap
+use Rattle.quilt_types.specs.declared.code.Code.TheVariants as no
+use Rattle.quilt_lang.specs.declared.command.Command.{Command}
+use Rattle.quilt_map.specs.Answers.{State, Outcome, Refused, answer}
+use Rattle.quilt_map.specs.Runs.{text_of, is_done}
+use Rattle.quilt_map.specs.Answers as answers
+use Rattle.quilt_map.specs.declared.reply.Reply as replies
+use Rattle.quilt_map.specs.declared.reply.Reply.TheVariants as reply
+use Rattle.quilt_map.specs.declared.work.Work.{Work}
+use Rattle.quilt_map.specs.Grids.{map_of}
+
+-- the work over the empty map as the last edition
+abbrev pub state_of : ℕ → Work → State
+state_of q w = record {
+  quota = q;
+  last = record { number = w.edition; level = w.level; layers = finmap.empty };
+  work = map_of w.layers.items;
+}
+
+-- the quota does not refuse the command
+abbrev pub IsWithinQuota : State → Command → Type 0
+IsWithinQuota s command = (answer s command).reply ≡ Refused no.Full → ⊥
+
+-- the text of the reply, or its code
+abbrev pub Tells : replies.Reply → answers.Reply → Type 0
+Tells (reply.Ok text) r = (text ≡ text_of r) × (is_done r ≡ true)
+Tells (reply.No code) r = r ≡ Refused code
+
+-- the reply, the new work and the last edition are those of the definition
+pub record IsAnswer (s : State) (command : Command) (given : replies.Reply) (after : State) : Type 0 where
+  pub reply : Tells given (answer s command).reply
+  pub work : after.work ≡ (answer s command).work
+  pub last : after.last ≡ unwrap_or (answer s command).published s.last
+
+abbrev pub IsRefusal : replies.Reply → Type 0
+IsRefusal (reply.Ok text) = ⊥
+IsRefusal (reply.No code) = Unit {0}

@@ -1,0 +1,117 @@
+ghost use Rattle.std.specs.Prelude.{◌≡◌, ◌⊎◌, ℕ, ◌<◌, ◌≤◌, [], ◌∷◌, take, length, IfOk, IfErr, OnErr};
+ghost use Rattle.std.specs.FinMap as finmap;
+ghost use Rattle.quilt_types.specs.declared.stop.Stop.TheVariants as stops;
+ghost use Rattle.quilt_world.specs.Tale.{Tale, Adds, Goes};
+ghost use Rattle.quilt_world.specs.Causes.{HasCause};
+ghost use Rattle.quilt_world.specs.Doors.{TakesFrom};
+ghost use Rattle.quilt_world.specs.declared.event.Event.TheVariants.{Put};
+ghost use Rattle.quilt_world.specs.declared.disk.Door.TheVariants as doors;
+ghost use Rattle.quilt_lang.specs.Forms.{Spelled};
+ghost use Rattle.quilt_map.specs.States.{IsWithinQuota, IsAnswer, IsRefusal};
+
+use crate::reply::Reply;
+use crate::work::Work;
+use quilt_lang::Command;
+use quilt_types::Stop;
+use quilt_world::{Fault, World};
+use std::alloc::Global;
+
+/// A map being worked on: the world that its file is in, the work and the last edition.
+pub struct Session<W> {
+    world: W,
+    work: Work,
+}
+
+impl<W: World> Session<W> {
+    ghost use Rattle.quilt_map.specs.Sessions.{world_of, state, level_of};
+
+    /// A session over a file with this many home pages, whose last edition is empty. An Err is want of memory, and gives the world back.
+    pub fn start(
+        alloc: Global,
+        world: W,
+        pages: u32,
+        level: u8,
+        edition: u32,
+    ) -> Result<Session<W>, W>
+        requires pages_low { 16 ≤ pages }
+        requires pages_high { pages ≤ 30000 }
+        requires level_low { 1 ≤ level }
+        requires level_high { level ≤ 12 }
+        ensures world { IfOk result (λ s. world_of s ≡ world) }
+        ensures level { IfOk result (λ s. level_of s ≡ level) }
+        ensures state { IfOk result (λ s. (q : ℕ) → state q s ≡ record { quota = q; last = record { number = edition; level = level; layers = finmap.empty }; work = finmap.empty }) }
+        ensures err { IfErr result (λ back. back ≡ world) }
+    {
+        let _ = pages;
+        let work = Work::new(alloc, level, edition);
+        Ok(Session { world, work })
+    }
+
+    /// The reply to a command, and the work that it leaves. A refused command changes nothing. After an Err the session is only given up.
+    /// `set` and `at` take a look at the names; the other commands take time in the pixels that they make or show.
+    pub fn apply(&mut self, command: &Command) -> Result<Reply, Stop>
+        requires { Spelled (level_of self.old) command.now }
+        ensures answer { IfOk result (λ reply. (q : ℕ) → IsWithinQuota (state q self.old) command.now →
+            IsAnswer (state q self.old) command.now reply (state q self.new)) }
+        ensures refused { IfOk result (λ reply. IsRefusal reply → (q : ℕ) → state q self.new ≡ state q self.old) }
+        ensures memory { IfErr result (λ stop. stop ≡ stops.Memory) }
+        ensures world { world_of self.new ≡ world_of self.old }
+    {
+        match self.work.apply(command) {
+            Ok(reply) => Ok(reply),
+            Err(_) => Err(Stop::Memory),
+        }
+    }
+
+    /// The next bytes of the input, as the world takes them. 0 says that it has ended.
+    pub fn take(&mut self, into: &mut [u8]) -> Result<usize, Fault>
+        requires open { (W.door (world_of self.old) ≡ doors.Ready) ⊎ (W.door (world_of self.old) ≡ doors.Made) }
+        requires room { 0 < length into.old }
+        ensures cause { HasCause (W.faults (world_of self.old)) (W.faults (world_of self.new)) result }
+        ensures door { W.door (world_of self.new) ≡ W.door (world_of self.old) }
+        ensures size { W.size (world_of self.new) ≡ W.size (world_of self.old) }
+        ensures count { IfOk result (λ n. n ≤ length into.old) }
+        ensures took { IfOk result (λ n. Goes (TakesFrom (take n into.new)) (W.told (world_of self.old)) (W.told (world_of self.new))) }
+        ensures nothing { OnErr result (Goes (Adds []) (W.told (world_of self.old)) (W.told (world_of self.new))) }
+        ensures state { (q : ℕ) → state q self.new ≡ state q self.old }
+    {
+        self.world.take(into)
+    }
+
+    /// Puts a front of the bytes to the output, as the world puts them.
+    pub fn put(&mut self, bytes: &[u8]) -> Result<usize, Fault>
+        requires open { (W.door (world_of self.old) ≡ doors.Ready) ⊎ (W.door (world_of self.old) ≡ doors.Made) }
+        requires some { 0 < length bytes.now }
+        ensures cause { HasCause (W.faults (world_of self.old)) (W.faults (world_of self.new)) result }
+        ensures door { W.door (world_of self.new) ≡ W.door (world_of self.old) }
+        ensures size { W.size (world_of self.new) ≡ W.size (world_of self.old) }
+        ensures count { IfOk result (λ n. (1 ≤ n) × (n ≤ length bytes.now)) }
+        ensures put { IfOk result (λ n. Goes (Adds (Put (take n bytes.now) ∷ [])) (W.told (world_of self.old)) (W.told (world_of self.new))) }
+        ensures nothing { OnErr result (Goes (Adds []) (W.told (world_of self.old)) (W.told (world_of self.new))) }
+        ensures state { (q : ℕ) → state q self.new ≡ state q self.old }
+    {
+        self.world.put(bytes)
+    }
+
+    /// The level of the map.
+    pub fn level(&self) -> u8
+        ensures { result ≡ level_of self.now }
+    {
+        self.work.level
+    }
+
+    /// The number of the last edition.
+    pub fn edition(&self) -> u32
+        ensures { (q : ℕ) → (state q self.now).last.number ≡ result }
+    {
+        self.work.edition
+    }
+
+    /// The world as it is. The work that was not published is given up.
+    pub fn into_world(self) -> W
+        ensures { result ≡ world_of self }
+    {
+        let Session { world, work: _ } = self;
+        world
+    }
+}

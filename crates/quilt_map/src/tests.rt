@@ -1,0 +1,45 @@
+use crate::reply::Reply;
+use crate::work::Work;
+use quilt_types::{Code, Colour, Name, Pixel, Window};
+use std::test::Fail;
+
+fn says(reply: &Reply, text: &[u8]) -> bool {
+    match reply {
+        Reply::Ok(told) => told.bytes() == text,
+        Reply::No(_) => false,
+    }
+}
+
+fn refuses(reply: &Reply, code: Code) -> bool {
+    match reply {
+        Reply::Ok(_) => false,
+        Reply::No(no) => *no == code,
+    }
+}
+
+#[test]
+fn answers_the_five_commands(rt: HostRuntime) -> Result<(), Fail> {
+    let mut work = Work::new(rt.alloc(), 3, 0);
+    let a = Name::of("a").ok_or("no name")?;
+    let b = Name::of("b").ok_or("no name")?;
+    let row = Window {
+        x: 0,
+        y: 0,
+        w: 3,
+        h: 1,
+    };
+    assert!(rt; says(&work.region(&a, Colour(4))?, b"ok\n"));
+    assert!(rt; says(&work.set(&a, Pixel { x: 1, y: 0 }, Colour(255))?, b"ok\n"));
+    assert!(rt; says(&work.at(&a, Pixel { x: 1, y: 0 })?, b"255\nok\n"));
+    assert!(rt; says(&work.show(&a, row)?, b"04ff04\nok\n"));
+    assert!(rt;
+        refuses(
+            &work.set(&a, Pixel { x: 8, y: 0 }, Colour(1))?,
+            Code::Outside
+        )
+    );
+    assert!(rt; refuses(&work.region(&a, Colour(1))?, Code::Exists));
+    assert!(rt; refuses(&work.at(&b, Pixel { x: 9, y: 9 })?, Code::Unknown));
+    assert!(rt; says(&work.number()?, b"edition 0\nok\n"));
+    Ok(())
+}
