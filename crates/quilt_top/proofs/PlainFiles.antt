@@ -1,5 +1,5 @@
 -- What the pages of a file say of the edition that it stands for.
-use Rattle.std.proofs.Common.{◌≡◌, ◌≤◌, ◌+◌, ◌*◌, ◌<◌, ◌^◌, ℕ, Bool, true, false, cond, ◌&&◌, ◌==◌, List, [], ◌∷◌, ◌++◌, length, get_or, Option, Some, None, Result, Ok, Err, refl, sym, ◌∙◌, ap, subst, arith, append-nil, lit<}
+use Rattle.std.proofs.Common.{◌≡◌, ◌≤◌, ◌+◌, ◌*◌, ◌<◌, ◌^◌, ℕ, true, false, cond, ◌&&◌, ◌==◌, List, [], length, get_or, Option, Some, None, refl, sym, ◌∙◌, ap, subst, arith, append-nil, lit<}
 use Rattle.std.specs.Option.{IfSome}
 use Rattle.std.specs.FinMap as finmap
 use Rattle.std.proofs.lemmas.List.FromFn.{length-map-range_with_len, get_or-map-range_with_len}
@@ -12,7 +12,6 @@ use Rattle.quilt_node.specs.declared.head.Head.{Head}
 use Rattle.quilt_node.specs.Pages.{header_bytes, IsHead, IsHeader}
 use Rattle.quilt_node.specs.Nodes.{HeadFits}
 use Rattle.quilt_node.specs.Tree.{Whole, walk_of}
-use Rattle.quilt_edition.specs.Stands.{Stands}
 use Rattle.quilt_edition.proofs.Empties.{no_records, spells_empty}
 use Rattle.quilt_edition.proofs.Headers.{same_level, same_height, same_edition}
 use Rattle.quilt_loop.specs.Running.{IsNew}

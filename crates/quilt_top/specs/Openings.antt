@@ -5,7 +5,7 @@ use Rattle.quilt_types.specs.Layers.{Edition}
 use Rattle.quilt_node.specs.declared.head.Head.{Head}
 use Rattle.quilt_node.specs.Pages.{IsHeader}
 use Rattle.quilt_world.specs.Disk.{Pages}
-use Rattle.quilt_world.specs.Tale.{Tale, IsSameFile, taken_bytes}
+use Rattle.quilt_world.specs.Tale.{Tale, taken_bytes}
 use Rattle.quilt_world.specs.Home.{IsMapFile}
 use Rattle.quilt_map.specs.Answers.{State}
 use Rattle.quilt_loop.specs.declared.halt.Halt.{Halt}
