@@ -2,7 +2,7 @@ use Rattle.std.proofs.Common.{◌≡◌, ℕ, lit<, lit≤, arith}
 use Rattle.quilt_node.proofs.tests.header_byte_by_byte.Goals as goal
 
 pub header_bytes-page-requires : goal.header_bytes-page-requires
-header_bytes-page-requires c = record {
+header_bytes-page-requires g c = record {
   pages = 18;
   least = lit≤ tt;
   most = lit≤ tt;
