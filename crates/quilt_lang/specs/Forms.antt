@@ -1,5 +1,5 @@
 -- The command that an item spells, or the code of its refusal.
-use Rattle.std.specs.Prelude.{◌≡◌, ℕ, ◌-◌, ◌/◌, ◌%◌, ◌&&◌, ◌==◌, nat_le, List, [], ◌∷◌, ◌++◌, length, Option, Some, None, if◌then◌else◌, codes, ℤ, Result, Ok, Err, find, option_map, flat_map}
+use Rattle.std.specs.Prelude.{◌≡◌, ℕ, ◌==◌, List, [], ◌∷◌, ◌++◌, length, Option, Some, None, if◌then◌else◌, codes, ℤ, Result, Ok, Err, find, option_map, flat_map}
 use Rattle.std.specs.List.{list_all, range_with_len}
 use Rattle.std.specs.Str.{bytes_eq}
 use Rattle.quilt_types.specs.declared.plane.Pixel.{Pixel}
@@ -207,45 +207,14 @@ abbrev pub revert_command : Further → List Value → Option Command
 revert_command more ([]) = Some (commands.Revert)
 revert_command more vs = None
 
--- all commands but `recolour`
+-- the commands that are built
 abbrev pub table : List Entry
 table =
     record { word = codes "region"; arguments = A_name ∷ colour ∷ []; command = region_command }
-    ∷ record { word = codes "points"; arguments = A_name ∷ []; command = points_command }
-    ∷ record { word = codes "lines"; arguments = A_name ∷ A_number 1 32 ∷ []; command = lines_command }
-    ∷ record { word = codes "drop"; arguments = A_name ∷ []; command = drop_command }
-    ∷ record { word = codes "copy"; arguments = A_name ∷ A_name ∷ []; command = copy_command }
-    ∷ record { word = codes "layers"; arguments = []; command = layers_command }
-    ∷ record { word = codes "blocks"; arguments = A_name ∷ []; command = blocks_command }
-    ∷ record { word = codes "records"; arguments = []; command = records_command }
     ∷ record { word = codes "set"; arguments = A_name ∷ pixel ++ colour ∷ []; command = set_command }
-    ∷ record { word = codes "rect"; arguments = A_name ∷ window ++ colour ∷ []; command = rect_command }
-    ∷ record { word = codes "raster"; arguments = A_name ∷ []; command = raster_command }
     ∷ record { word = codes "at"; arguments = A_name ∷ pixel; command = at_command }
     ∷ record { word = codes "show"; arguments = A_name ∷ window; command = show_command }
-    ∷ record { word = codes "leaves"; arguments = A_name ∷ []; command = leaves_command }
-    ∷ record { word = codes "union"; arguments = A_name ∷ A_name ∷ A_name ∷ []; command = union_command }
-    ∷ record { word = codes "inter"; arguments = A_name ∷ A_name ∷ A_name ∷ []; command = inter_command }
-    ∷ record { word = codes "diff"; arguments = A_name ∷ A_name ∷ A_name ∷ []; command = diff_command }
-    ∷ record { word = codes "window"; arguments = A_name ∷ window ++ A_name ∷ []; command = window_command }
-    ∷ record { word = codes "shift"; arguments = A_name ∷ A_signed ∷ A_signed ∷ A_name ∷ []; command = shift_command }
-    ∷ record { word = codes "buffer"; arguments = A_name ∷ coordinate ∷ A_name ∷ []; command = buffer_command }
-    ∷ record { word = codes "area"; arguments = A_name ∷ colour ∷ []; command = area_command }
-    ∷ record { word = codes "perimeter"; arguments = A_name ∷ colour ∷ []; command = perimeter_command }
-    ∷ record { word = codes "put"; arguments = A_name ∷ pixel ++ label ∷ []; command = put_command }
-    ∷ record { word = codes "del"; arguments = A_name ∷ pixel; command = del_command }
-    ∷ record { word = codes "scatter"; arguments = A_name ∷ A_number 1 100000 ∷ []; command = scatter_command }
-    ∷ record { word = codes "find"; arguments = A_name ∷ pixel; command = find_command }
-    ∷ record { word = codes "within"; arguments = A_name ∷ window; command = within_command }
-    ∷ record { word = codes "line"; arguments = A_name ∷ label ∷ pixel ++ pixel; command = line_command }
-    ∷ record { word = codes "unline"; arguments = A_name ∷ label ∷ []; command = unline_command }
-    ∷ record { word = codes "cross"; arguments = A_name ∷ window; command = cross_command }
-    ∷ record { word = codes "clip"; arguments = A_name ∷ window; command = clip_command }
-    ∷ record { word = codes "nearest"; arguments = A_name ∷ pixel; command = nearest_command }
-    ∷ record { word = codes "over"; arguments = A_name ∷ A_name ∷ []; command = over_command }
     ∷ record { word = codes "edition"; arguments = []; command = edition_command }
-    ∷ record { word = codes "publish"; arguments = []; command = publish_command }
-    ∷ record { word = codes "revert"; arguments = []; command = revert_command }
     ∷ []
 
 -- a `recolour` has 1 to 16 pairs
@@ -277,10 +246,7 @@ with_count count e = if length e.arguments == count then Ok e else Err codes_of.
 
 -- the entry of a word that so many words follow
 abbrev pub entry_of : List ℕ → ℕ → Result Entry Code
-entry_of word count =
-    if bytes_eq word (codes "recolour")
-    then (if nat_le 4 count && nat_le count 34 && (count % 2 == 0) then Ok (recolour_entry ((count - 2) / 2)) else Err codes_of.Count)
-    else (or_err codes_of.Word (find (λ e. bytes_eq e.word word) table) >>= with_count count)
+entry_of word count = or_err codes_of.Word (find (λ e. bytes_eq e.word word) table) >>= with_count count
 
 abbrev pub argument_value : Argument → List ℕ → Result Value Code
 argument_value A_name word = or_err codes_of.Name (option_map Called (name word))

@@ -1,5 +1,5 @@
 -- The items of a text: lines, each with the further lines that belong to it.
-use Rattle.std.specs.Prelude.{ℕ, zero, suc, ◌*◌, Bool, true, false, ◌&&◌, ◌||◌, not, ◌==◌, nat_le, nat_lt, List, [], ◌∷◌, ◌++◌, length, map, filter, take, Option, Some, None, if◌then◌else◌, codes, unwrap_or, option_map, option_and_then}
+use Rattle.std.specs.Prelude.{ℕ, zero, suc, ◌*◌, Bool, true, false, ◌&&◌, ◌||◌, not, ◌==◌, nat_le, nat_lt, List, [], ◌∷◌, ◌++◌, length, map, filter, take, Option, Some, None, if◌then◌else◌, codes, option_map, option_and_then}
 use Rattle.std.specs.List.{list_all, slice_split}
 use Rattle.std.specs.Str.{bytes_eq}
 use Rattle.quilt_types.specs.Plane.{side}
@@ -44,14 +44,9 @@ is_remark ((c ∷ cs) ∷ ws) = c == 35
 abbrev pub is_silent : List ℕ → Bool
 is_silent line = not (is_long line) && list_all is_plain line && is_remark (words_of line)
 
--- how many further lines the words ask for
+-- how many further lines the words ask for: none, until a command that takes further lines is built
 abbrev pub asked_by : ℕ → List (List ℕ) → ℕ
-asked_by n [] = 0
-asked_by n (w ∷ []) = if bytes_eq w (codes "raster") then side n else 0
-asked_by n (w ∷ p ∷ k ∷ []) =
-    if bytes_eq w (codes "raster") then side n
-    else if bytes_eq w (codes "scatter") then unwrap_or (number 1 100000 k) 0 else 0
-asked_by n (w ∷ ws) = if bytes_eq w (codes "raster") then side n else 0
+asked_by n ws = 0
 
 abbrev pub asked : ℕ → List ℕ → ℕ
 asked n line = if is_long line || not (list_all is_plain line) then 0 else asked_by n (words_of line)

@@ -1,10 +1,27 @@
 //! The command language: items of a text, and the commands that they spell.
 #![tactic(auto)]
 
+mod arguments;
 mod command;
+mod cutting;
 mod item;
+mod lines;
 mod pairs;
+mod parse_err;
+mod parser;
+mod reading;
+mod refusal;
+mod word;
+mod words;
 
 pub use command::Command;
 pub use item::Item;
+pub use lines::Lines;
 pub use pairs::Pairs;
+pub use parse_err::ParseErr;
+pub use parser::parse;
+pub use reading::items_in;
+pub use refusal::refusal_text;
+
+#[cfg(test)]
+mod tests;

@@ -1,10 +1,10 @@
 -- The header over its bytes.
-use Rattle.std.proofs.Common.{◌≡◌, ℕ, ◌+◌, ◌-◌, ◌<◌, ◌≤◌, ◌^◌, List, [], ◌∷◌, ◌++◌, length, take, drop, slice_index, refl, sym, ◌∙◌, ap, replicate}
-use Rattle.std.specs.Int.{to_be_bytes, from_be_bytes, w32}
+use Rattle.std.proofs.Common.{◌≡◌, ℕ, ◌+◌, List, [], ◌∷◌, ◌++◌, length, take, drop, ◌∙◌, ap, replicate}
+use Rattle.std.specs.Int.{to_be_bytes, w32}
 use Rattle.std.proofs.lemmas.Nat.{from_be_bytes-to_be_bytes_4}
 use Rattle.std.proofs.lemmas.List.{drop-replicate}
 use Rattle.quilt_node.specs.declared.head.Head.{Head}
-use Rattle.quilt_node.specs.Pages.{IsHead, IsHeader, header_bytes, magic, word_at}
+use Rattle.quilt_node.specs.Pages.{IsHeader, header_bytes, magic, word_at}
 use Rattle.quilt_node.specs.Nodes.{HeadFits, read_head}
 
 -- the first 24 bytes

@@ -1,17 +1,17 @@
 -- What edits of the bytes of an inner page make of its children and keys.
-use Rattle.std.proofs.Common.{◌≡◌, ℕ, zero, suc, ◌+◌, ◌-◌, ◌*◌, ◌<◌, ◌≤◌, ◌^◌, Bool, true, List, [], ◌∷◌, ◌++◌, length, take, drop, set, slice_range, refl, sym, ◌∙◌, ap, subst, arith, replicate, flat_map, length-append, length-drop, length-take-le, length-set, append_assoc, add-zero}
+use Rattle.std.proofs.Common.{◌≡◌, ℕ, suc, ◌+◌, ◌-◌, ◌*◌, ◌<◌, ◌≤◌, ◌^◌, true, List, [], ◌∷◌, ◌++◌, length, take, drop, set, slice_range, refl, sym, ◌∙◌, ap, subst, arith, replicate, flat_map, length-append, length-drop, length-take-le, length-set, append_assoc, add-zero}
 use Rattle.std.proofs.lemmas.List.{append-nil}
 use Rattle.std.specs.List.{insert, remove, list_all}
 use Rattle.std.specs.Int.{to_be_bytes, w16, w32}
 use Rattle.quilt_record.specs.declared.key.Key.{Key}
 use Rattle.quilt_record.specs.Records.{key_bytes}
-use Rattle.quilt_record.specs.Fits.{KeyFits, KeysFit}
+use Rattle.quilt_record.specs.Fits.{KeyFits}
 use Rattle.quilt_node.specs.Pages.{Inner, is_ascending}
 use Rattle.quilt_node.specs.Nodes.{IsInner, IsInnerPage, inner_head}
 use Rattle.quilt_node.specs.Edits.{with_key, first_children, children_from, joined}
 use Rattle.quilt_node.proofs.Rows.{put_row, take_row, add_rows, cut_rows, rows_from, set_row, length_insert, length_remove, wide_length}
 use Rattle.quilt_node.proofs.Spelled.{wide_keys, wide_words}
-use Rattle.quilt_node.proofs.Ascending.{and_both, all_append, all_take, all_drop, ascending_take, ascending_drop, ascending_remove, ascending_front, ascending_back}
+use Rattle.quilt_node.proofs.Ascending.{and_both, all_append, all_take, all_drop, ascending_take, ascending_drop, ascending_remove}
 use Rattle.quilt_node.proofs.Inners.{IsShaped, child_area, key_area, children_of, with_children, keys_of_page, with_keys, key_start, recounted, shape_of, inner_page_of, keys_append, keys_take, keys_drop, keys_set, is_page, page_test}
 
 abbrev pub put_both : Inner → ℕ → Key → ℕ → ℕ → Inner

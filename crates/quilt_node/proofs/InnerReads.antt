@@ -1,18 +1,18 @@
 -- What is read in the bytes of a page that may be an inner page, and where a key belongs in one.
-use Rattle.std.proofs.Common.{◌≡◌, ℕ, zero, suc, ◌+◌, ◌-◌, ◌*◌, ◌<◌, ◌≤◌, ◌^◌, Bool, true, false, ◌&&◌, nat_le, nat_lt, not, Option, Some, None, List, [], ◌∷◌, ◌++◌, length, map, take, drop, slice_index, slice_range, refl, sym, ◌∙◌, ap, subst, arith, replicate, flat_map, ◌⊎◌, inl, inr, Ordering, Less, Equal, Greater}
+use Rattle.std.proofs.Common.{◌≡◌, ℕ, zero, suc, ◌+◌, ◌-◌, ◌*◌, ◌<◌, ◌≤◌, ◌^◌, Bool, true, false, ◌&&◌, nat_le, nat_lt, not, Some, None, List, [], ◌∷◌, ◌++◌, length, map, take, drop, slice_index, slice_range, refl, sym, ◌∙◌, ap, subst, arith, replicate, flat_map, ◌⊎◌, inl, inr, Ordering, Less, Equal, Greater}
 use Rattle.std.specs.Prelude.{if◌then◌else◌, slice_get, count_by}
 use Rattle.std.specs.Str.{bytes_eq}
 use Rattle.std.specs.Int.{to_be_bytes, w32}
 use Rattle.std.specs.List.{list_all, range_with_len}
-use Rattle.std.specs.Ordering.{is_lt, is_le, ordering_reverse}
+use Rattle.std.specs.Ordering.{is_le, ordering_reverse}
 use Rattle.std.proofs.lemmas.List.FromFn.{length-map-range_with_len}
 use Rattle.std.proofs.lemmas.Slice.Eq.{bytes_eq-Decides}
 use Rattle.std.proofs.lemmas.Bool.Decides.{nat_tests}
 use Rattle.quilt_record.specs.declared.key.Key.{Key}
 use Rattle.quilt_record.specs.Records.{key_cmp, key_bytes}
 use Rattle.quilt_record.specs.Fits.{KeysFit}
-use Rattle.quilt_node.specs.Pages.{short_at, word_at, key_at, Inner, read_inner, inner_bytes, inner_of, is_ascending}
-use Rattle.quilt_node.specs.Nodes.{IsInner, IsInnerPage, IsPlace, are_pages, inner_head}
+use Rattle.quilt_node.specs.Pages.{short_at, word_at, key_at, read_inner, inner_bytes, inner_of, is_ascending}
+use Rattle.quilt_node.specs.Nodes.{IsInnerPage, IsPlace, are_pages, inner_head}
 use Rattle.quilt_node.specs.KeysIn.{keys_in, children_in, IsKeyAt, IsKeyGap}
 use Rattle.quilt_node.proofs.Rows.{rows_again}
 use Rattle.quilt_node.proofs.Spelled.{AreBytes, word_again, key_again, key_fits}

@@ -1,11 +1,11 @@
 -- An inner page that is split, and a child that moves from one page to another, as lists.
-use Rattle.std.proofs.Common.{◌≡◌, ℕ, zero, suc, ◌+◌, ◌-◌, ◌<◌, ◌≤◌, true, Some, List, [], ◌∷◌, ◌++◌, length, take, drop, refl, sym, ◌∙◌, ap, subst, append_assoc, arith, length-take-le, length-drop}
+use Rattle.std.proofs.Common.{◌≡◌, ℕ, zero, suc, ◌+◌, ◌-◌, ◌<◌, ◌≤◌, true, Some, List, [], ◌∷◌, ◌++◌, length, take, drop, refl, sym, ◌∙◌, ap, subst, append_assoc, arith}
 use Rattle.std.specs.Prelude.{slice_get}
 use Rattle.std.specs.List.{insert, remove}
 use Rattle.quilt_record.specs.declared.key.Key.{Key}
 use Rattle.quilt_node.specs.Pages.{Inner, is_ascending}
-use Rattle.quilt_node.specs.Edits.{with_child, first_children, children_from, joined}
-use Rattle.quilt_node.proofs.Ascending.{ascending_take, ascending_drop, ascending_front, ascending_back}
+use Rattle.quilt_node.specs.Edits.{with_child, first_children, children_from}
+use Rattle.quilt_node.proofs.Ascending.{ascending_take, ascending_drop, ascending_front}
 use Rattle.quilt_node.proofs.Leaves.{take_insert_low, drop_insert_low, take_insert_high, drop_insert_high, insert_last, remove_last}
 
 get_insert_low : {X : Type 0} (xs : List X) (i n : ℕ) (x : X) → i ≤ n → slice_get (insert xs i x) (suc n) ≡ slice_get xs n

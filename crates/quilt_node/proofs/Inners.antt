@@ -1,13 +1,13 @@
 -- An inner page over its bytes: what is read in it, and what edits of the bytes make of its children and keys.
-use Rattle.std.proofs.Common.{◌≡◌, ℕ, zero, suc, ◌+◌, ◌-◌, ◌*◌, ◌<◌, ◌≤◌, ◌^◌, Bool, true, false, ◌&&◌, nat_le, nat_lt, Option, Some, None, List, [], ◌∷◌, ◌++◌, length, map, take, drop, get_or, set, slice_index, slice_range, refl, sym, ◌∙◌, ap, subst, append_assoc, arith, replicate, flat_map, length-append, length-drop, length-take-le, length-set}
+use Rattle.std.proofs.Common.{◌≡◌, ℕ, zero, suc, ◌+◌, ◌-◌, ◌*◌, ◌<◌, ◌≤◌, ◌^◌, Bool, true, false, ◌&&◌, nat_le, nat_lt, Some, None, List, [], ◌∷◌, ◌++◌, length, map, take, drop, get_or, set, slice_index, refl, sym, ◌∙◌, ap, subst, append_assoc, arith, replicate, flat_map, length-append}
 use Rattle.std.specs.Prelude.{if◌then◌else◌}
 use Rattle.std.specs.Str.{bytes_eq}
-use Rattle.std.specs.List.{insert, remove, list_all, range_with_len}
-use Rattle.std.specs.Int.{to_be_bytes, from_be_bytes, w16, w32}
+use Rattle.std.specs.List.{list_all, range_with_len}
+use Rattle.std.specs.Int.{to_be_bytes, w16, w32}
 use Rattle.std.proofs.lemmas.Nat.{from_be_bytes-to_be_bytes_2}
 use Rattle.std.proofs.Math.Seq.{drop-append-add}
 use Rattle.std.proofs.lemmas.List.{append-nil, drop-replicate, length-replicate, replicate-append-replicate}
-use Rattle.std.proofs.lemmas.List.FromFn.{fill_by_all, length-map-range_with_len}
+use Rattle.std.proofs.lemmas.List.FromFn.{fill_by_all}
 use Rattle.std.proofs.lemmas.Slice.Eq.{bytes_eq-Decides}
 use Rattle.std.proofs.lemmas.Bool.Decides.{nat_tests}
 use Rattle.quilt_record.specs.declared.key.Key.{Key}
@@ -15,9 +15,9 @@ use Rattle.quilt_record.specs.Records.{key_bytes, filled}
 use Rattle.quilt_record.specs.Fits.{KeyFits, KeysFit}
 use Rattle.quilt_node.specs.Pages.{short_at, word_at, key_at, Inner, read_inner, inner_bytes, inner_of, is_ascending}
 use Rattle.quilt_node.specs.Nodes.{IsInner, IsInnerPage, are_pages, inner_head}
-use Rattle.quilt_node.proofs.Rows.{HasArea, area, Stands, row_stands, cut_front, put_row, take_row, add_rows, cut_rows, rows_from, set_row, wide_length, length_insert, length_remove}
+use Rattle.quilt_node.proofs.Rows.{HasArea, area, row_stands, cut_front, wide_length}
 use Rattle.quilt_node.proofs.Spelled.{key_stands, word_stands, wide_keys, wide_words}
-use Rattle.quilt_node.proofs.Ascending.{and_parts, and_both, all_append, all_take, all_drop, all_at, all_follow, ascending_take, ascending_drop, ascending_remove}
+use Rattle.quilt_node.proofs.Ascending.{and_parts, and_both, all_at}
 use Rattle.quilt_node.proofs.Leaves.{le_test}
 use Rattle.quilt_node.proofs.LeafReads.{le_of_test}
 

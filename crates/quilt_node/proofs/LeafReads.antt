@@ -1,5 +1,5 @@
 -- What is read in the bytes of a page that may be a leaf, and where a key belongs among the records.
-use Rattle.std.proofs.Common.{◌≡◌, ℕ, zero, suc, ◌+◌, ◌-◌, ◌*◌, ◌<◌, ◌≤◌, Bool, true, false, ◌&&◌, nat_le, not, cond, Option, Some, None, List, [], ◌∷◌, ◌++◌, length, map, take, drop, get_or, slice_range, refl, sym, ◌∙◌, ap, subst, arith, replicate, flat_map, Ordering, Less, Equal, Greater}
+use Rattle.std.proofs.Common.{◌≡◌, ℕ, zero, suc, ◌+◌, ◌-◌, ◌*◌, ◌<◌, ◌≤◌, Bool, true, false, ◌&&◌, nat_le, not, cond, Some, None, List, [], ◌∷◌, ◌++◌, length, map, take, drop, slice_range, refl, sym, ◌∙◌, ap, subst, arith, replicate, flat_map}
 use Rattle.std.specs.Prelude.{if◌then◌else◌, slice_get, count_by, filter}
 use Rattle.std.specs.Str.{bytes_eq}
 use Rattle.std.specs.List.{list_all, range_with_len}
@@ -14,14 +14,14 @@ use Rattle.quilt_record.specs.declared.key.Key.{Key}
 use Rattle.quilt_record.specs.declared.record.Record.{Record}
 use Rattle.quilt_record.specs.Records.{key_cmp, record_bytes}
 use Rattle.quilt_record.specs.Fits.{AllFit}
-use Rattle.quilt_node.specs.Pages.{short_at, key_at, record_at, read_leaf, leaf_bytes, leaf_of, is_ascending}
-use Rattle.quilt_node.specs.Nodes.{IsLeaf, IsLeafPage, IsFound, IsGap, keys_of, leaf_head}
+use Rattle.quilt_node.specs.Pages.{short_at, record_at, read_leaf, leaf_bytes, leaf_of, is_ascending}
+use Rattle.quilt_node.specs.Nodes.{IsLeafPage, IsFound, IsGap, keys_of, leaf_head}
 use Rattle.quilt_node.specs.KeysIn.{keys_in, IsKeyAt, IsKeyGap}
 use Rattle.quilt_node.proofs.Rows.{area, rows_again, wide_length}
 use Rattle.quilt_node.proofs.Spelled.{AreBytes, record_again, record_fits, wide_records}
 use Rattle.quilt_node.proofs.Orders.{key_total, is_Less}
 use Rattle.quilt_node.proofs.Ascending.{is_under, is_over, and_parts, all_follow}
-use Rattle.quilt_node.proofs.Leaves.{leaf_shape, passed, le_test}
+use Rattle.quilt_node.proofs.Leaves.{leaf_shape}
 
 pub fails : {X : Type 0} (a b c d : Bool) (x : X) → (a ≡ true → b ≡ true → c ≡ true → d ≡ true → ⊥) → (if a && b && c && d then Some x else None) ≡ None
 fails true true true true x f = absurd (f refl refl refl refl)

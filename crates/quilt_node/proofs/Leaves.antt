@@ -1,25 +1,24 @@
 -- A leaf page over its bytes: what is read in it, and what edits of the bytes make of its records.
-use Rattle.std.proofs.Common.{◌≡◌, ℕ, zero, suc, ◌+◌, ◌-◌, ◌*◌, ◌<◌, ◌≤◌, ◌^◌, Bool, true, false, ◌&&◌, nat_le, Option, Some, None, List, [], ◌∷◌, ◌++◌, length, map, take, drop, get_or, slice_index, slice_range, refl, sym, ◌∙◌, ap, subst, append_assoc, arith, replicate, flat_map, length-append, length-drop, length-take-le}
+use Rattle.std.proofs.Common.{◌≡◌, ℕ, zero, suc, ◌+◌, ◌-◌, ◌*◌, ◌<◌, ◌≤◌, ◌^◌, Bool, true, false, ◌&&◌, nat_le, Some, None, List, [], ◌∷◌, ◌++◌, length, map, take, drop, get_or, slice_range, refl, sym, ◌∙◌, ap, subst, append_assoc, arith, replicate, flat_map, length-append, length-drop, length-take-le}
 use Rattle.std.specs.Prelude.{if◌then◌else◌, slice_get}
 use Rattle.std.specs.Str.{bytes_eq}
 use Rattle.std.specs.List.{insert, remove}
-use Rattle.std.specs.Int.{to_be_bytes, from_be_bytes, w16}
+use Rattle.std.specs.Int.{to_be_bytes, w16}
 use Rattle.std.proofs.lemmas.Nat.{from_be_bytes-to_be_bytes_2}
 use Rattle.std.proofs.lemmas.List.{append-nil, take-map, drop-map, map-append, drop-replicate, replicate-append-replicate}
 use Rattle.std.proofs.Math.Seq.{drop-append-add, take-append-add}
 use Rattle.std.proofs.Math.ListN.{drop_of_length-le}
 use Rattle.std.proofs.lemmas.List.{drop-append-le}
 use Rattle.std.specs.Option.{option_to_list}
-use Rattle.std.proofs.lemmas.List.FromFn.{fill_by_all, length-map-range_with_len}
+use Rattle.std.proofs.lemmas.List.FromFn.{fill_by_all}
 use Rattle.std.proofs.lemmas.Slice.Eq.{bytes_eq-Decides}
 use Rattle.std.proofs.lemmas.Bool.Decides.{nat_tests}
-use Rattle.quilt_record.specs.declared.key.Key.{Key}
 use Rattle.quilt_record.specs.declared.record.Record.{Record}
-use Rattle.quilt_record.specs.Records.{record_bytes, filled}
+use Rattle.quilt_record.specs.Records.{record_bytes}
 use Rattle.quilt_record.specs.Fits.{IsFitting, AllFit}
 use Rattle.quilt_node.specs.Pages.{short_at, record_at, read_leaf, leaf_bytes, leaf_of, is_ascending}
 use Rattle.quilt_node.specs.Nodes.{IsLeaf, IsLeafPage, keys_of, leaf_head}
-use Rattle.quilt_node.proofs.Rows.{HasArea, area, Stands, row_stands, cut_front, put_row, take_row, add_rows, cut_rows, rows_from, wide_length, length_insert, length_remove}
+use Rattle.quilt_node.proofs.Rows.{HasArea, area, row_stands, cut_front, put_row, take_row, add_rows, cut_rows, rows_from, wide_length, length_insert, length_remove}
 use Rattle.quilt_node.proofs.Spelled.{record_stands, wide_records}
 use Rattle.quilt_node.proofs.Ascending.{ascending_take, ascending_drop, ascending_remove}
 

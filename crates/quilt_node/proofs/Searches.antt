@@ -1,5 +1,5 @@
 -- A binary search among keys that ascend, and tests that go from key to key.
-use Rattle.std.proofs.Common.{◌≡◌, ℕ, zero, suc, ◌+◌, ◌-◌, ◌*◌, ◌/◌, ◌<◌, ◌≤◌, Bool, true, false, ◌&&◌, List, [], ◌∷◌, Some, length, map, take, drop, get_or, refl, sym, ◌∙◌, ap, subst, arith, add-one, Ordering, Less, Equal, Greater}
+use Rattle.std.proofs.Common.{◌≡◌, ℕ, zero, suc, ◌+◌, ◌-◌, ◌<◌, ◌≤◌, Bool, true, false, ◌&&◌, List, Some, length, map, take, drop, get_or, refl, sym, ◌∙◌, ap, subst, arith, add-one, Less, Equal, Greater}
 use Rattle.std.specs.List.{list_all, range_with_len}
 use Rattle.std.specs.Ordering.{is_lt, ordering_reverse}
 use Rattle.std.proofs.Math.ListN.{drop_of_length-le}

@@ -1,5 +1,5 @@
 -- Numbers, keys and records in the bytes of a page.
-use Rattle.std.proofs.Common.{◌≡◌, ℕ, zero, suc, ◌+◌, ◌-◌, ◌*◌, ◌<◌, ◌≤◌, ◌^◌, List, [], ◌∷◌, ◌++◌, length, take, drop, get_or, slice_index, slice_range, refl, sym, ◌∙◌, ap, subst, append_assoc, arith, length-drop, length-take-le, lit<}
+use Rattle.std.proofs.Common.{◌≡◌, ℕ, zero, suc, ◌+◌, ◌-◌, ◌*◌, ◌<◌, ◌≤◌, ◌^◌, List, [], ◌∷◌, ◌++◌, length, take, drop, get_or, slice_index, slice_range, refl, sym, ◌∙◌, ap, subst, arith, length-drop, length-take-le, lit<}
 use Rattle.std.proofs.Math.Seq.{drop-append-add, take-append_seam, take-add}
 use Rattle.std.proofs.lemmas.List.{get_or-append-add, get_or-drop, take-append-drop, drop-drop}
 use Rattle.std.specs.Int.{to_be_bytes, from_be_bytes, w16, w32}
@@ -7,7 +7,7 @@ use Rattle.std.proofs.lemmas.Nat.{from_be_bytes-to_be_bytes_2, from_be_bytes-to_
 use Rattle.quilt_record.specs.declared.key.Key.{Key}
 use Rattle.quilt_record.specs.declared.record.Record.{Record}
 use Rattle.quilt_record.specs.Records.{key_bytes, record_bytes}
-use Rattle.quilt_record.specs.Fits.{KeyFits, IsFitting, AllFit, KeysFit}
+use Rattle.quilt_record.specs.Fits.{KeyFits, IsFitting, AllFit}
 use Rattle.quilt_node.specs.Pages.{short_at, word_at, key_at, record_at}
 use Rattle.quilt_node.proofs.Rows.{Stands, slice_stands, Wide}
 

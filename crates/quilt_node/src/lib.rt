@@ -12,3 +12,6 @@ pub use head::Head;
 pub use header::{header_bytes, header_of};
 pub use inner::{InnerPage, inner_of};
 pub use leaf::{LeafPage, leaf_of};
+
+#[cfg(test)]
+mod tests;

@@ -6,3 +6,6 @@ mod record;
 
 pub use key::{Key, key_bytes, key_of};
 pub use record::Record;
+
+#[cfg(test)]
+mod tests;

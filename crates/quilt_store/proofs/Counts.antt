@@ -1,8 +1,7 @@
 -- How many of the pages are free.
-use Rattle.std.proofs.Common.{◌≡◌, ℕ, zero, suc, ◌+◌, ◌-◌, ◌<◌, ◌≤◌, Bool, true, false, cond, List, [], ◌∷◌, ◌++◌, Option, Some, None, IsSome, length, get_or, set, refl, sym, ◌∙◌, ap, subst, append_assoc, length-append, length-set, arith, nat_lt, replicate, zero-add, one-add, ◌⊎◌, inl, inr}
-use Rattle.std.specs.Prelude.{filter, position, slice_index_or}
+use Rattle.std.proofs.Common.{◌≡◌, ℕ, zero, suc, ◌+◌, ◌-◌, ◌<◌, ◌≤◌, Bool, true, false, cond, List, [], ◌∷◌, ◌++◌, Some, None, IsSome, length, get_or, set, refl, sym, ◌∙◌, ap, subst, append_assoc, length-append, length-set, arith, nat_lt, replicate, zero-add, one-add, ◌⊎◌, inl, inr}
+use Rattle.std.specs.Prelude.{filter, position}
 use Rattle.std.specs.List.{range_with_len, position_or_len}
-use Rattle.std.proofs.lemmas.List.{get_or-append-add, get_or-set_same, get_or-set_other}
 use Rattle.std.proofs.Math.Seq.{get_or-append_seam}
 use Rattle.std.proofs.lemmas.Bool.Decides.{nat_tests}
 use Rattle.std.proofs.lemmas.Bool.{cases_lt}
@@ -33,7 +32,7 @@ count_behind pre (x ∷ xs) k e =
     let here : is_free (pre ++ x ∷ xs) k ≡ x = ap (λ m. get_or (pre ++ x ∷ xs) m false) e ∙ get_or-append_seam pre x xs false in
     let next : k + 1 ≡ length (pre ++ x ∷ []) = omega (arith, e, length-append pre (x ∷ [])) in
     let rest : length (filter (is_free (pre ++ x ∷ xs)) (range_with_len (k + 1) (length xs))) ≡ count xs =
-        ap (λ l. length (filter (is_free l) (range_with_len (k + 1) (length xs)))) (sym (append_assoc pre (x ∷ []) xs)) ∙ count_behind (pre ++ x ∷ []) xs (k + 1) next in
+    ap (λ l. length (filter (is_free l) (range_with_len (k + 1) (length xs)))) (sym (append_assoc pre (x ∷ []) xs)) ∙ count_behind (pre ++ x ∷ []) xs (k + 1) next in
     ap (λ b. length (cond b (k ∷ filter (is_free (pre ++ x ∷ xs)) (range_with_len (k + 1) (length xs))) (filter (is_free (pre ++ x ∷ xs)) (range_with_len (k + 1) (length xs))))) here
     ∙ (by_case x (filter (is_free (pre ++ x ∷ xs)) (range_with_len (k + 1) (length xs))) (count xs) rest ∙ sym (count_cons x xs))
   where
@@ -195,8 +194,10 @@ one_more pages free n b e f = record {
   where
     earlier : (page : ℕ) → (1 ≤ page) × (page < n) → (1 ≤ page) × (page < n + 1)
     earlier page h = (h.0, omega arith)
+
     last : (page : ℕ) → page ≡ n → 1 ≤ n → (1 ≤ page) × (page < n + 1)
     last page g h = (omega arith, omega arith)
+
     here : (page : ℕ) → 1 ≤ page → page < n + 1 → n ≤ page → is_free (free ++ b ∷ []) page ≡ true
     here page h k ge =
         let at : page ≡ length free = omega (arith, f.tests) in

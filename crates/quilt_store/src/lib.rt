@@ -6,3 +6,6 @@ mod store;
 
 pub use memory::MemStore;
 pub use store::{PageStore, StoreErr};
+
+#[cfg(test)]
+mod tests;

@@ -6,6 +6,8 @@ mod name;
 mod plane;
 mod points;
 mod stop;
+#[cfg(test)]
+mod tests;
 mod text;
 
 pub use code::Code;

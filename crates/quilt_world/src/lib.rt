@@ -4,6 +4,8 @@
 mod disk;
 mod event;
 mod image;
+#[cfg(test)]
+mod tests;
 mod world;
 
 pub use disk::{Disk, Door, Fault};

@@ -1,6 +1,5 @@
 use Rattle.std.proofs.Common.{◌+◌, ◌≤◌, subst, sym}
 use Rattle.quilt_node.proofs.Spelled.{key_spelled}
-use Rattle.quilt_node.proofs.Ascending.{behind_key}
 use Rattle.quilt_node.proofs.bytes.key_in.Goals as goal
 
 pub returns-clause-key : goal.returns-clause-key

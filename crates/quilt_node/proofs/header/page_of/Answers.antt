@@ -1,4 +1,4 @@
-use Rattle.std.proofs.Common.{◌≡◌, ℕ, List, [], ◌∷◌, ◌++◌, ◌∙◌, ap, slice_index}
+use Rattle.std.proofs.Common.{ℕ, List, [], ◌∷◌, ◌++◌, ◌∙◌, ap, slice_index}
 use Rattle.std.specs.Int.{to_be_bytes, w32}
 use Rattle.quilt_node.specs.Pages.{magic}
 use Rattle.quilt_node.proofs.Headers.{filled_header}

@@ -1,4 +1,4 @@
-use Rattle.std.proofs.Common.{◌≡◌, ℕ, ◌+◌, ◌*◌, ◌&&◌, nat_le, nat_lt, Bool, true, false, ◌∙◌, sym, ap}
+use Rattle.std.proofs.Common.{ℕ, ◌+◌, ◌*◌, ◌&&◌, nat_le, nat_lt, Bool, ◌∙◌, sym, ap}
 use Rattle.quilt_node.specs.Pages.{word_at}
 use Rattle.quilt_node.proofs.Searches.{pass_next, pass_stops}
 use Rattle.quilt_node.proofs.InnerReads.{no_page, a_page}

@@ -1,4 +1,4 @@
-use Rattle.std.proofs.Common.{◌≡◌, ◌+◌, ◌<◌, ◌≤◌, ◌⊎◌, ℕ, Bool, true, false, ◌∙◌, sym, ap, arith, slice_index}
+use Rattle.std.proofs.Common.{◌≡◌, true, false, ◌∙◌, sym, arith}
 use Rattle.quilt_node.specs.Pages.{read_inner}
 use Rattle.quilt_node.specs.Nodes.{IsInnerPage}
 use Rattle.quilt_node.proofs.LeafReads.{same_bytes, other_bytes}

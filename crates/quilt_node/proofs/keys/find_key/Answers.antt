@@ -1,9 +1,7 @@
-use Rattle.std.proofs.Common.{◌≡◌, ℕ, ◌+◌, ◌*◌, ◌/◌, ◌<◌, ◌≤◌, ◌∙◌, sym, ap, arith}
-use Rattle.quilt_record.specs.declared.key.Key.{Key}
-use Rattle.quilt_record.specs.Records.{key_cmp}
+use Rattle.std.proofs.Common.{◌+◌, ◌*◌, ◌/◌, ◌∙◌, sym, arith}
 use Rattle.quilt_node.specs.Pages.{key_at}
 use Rattle.quilt_node.specs.KeysIn.{keys_in}
-use Rattle.quilt_node.proofs.Searches.{IsBetween, between_all, between_less, between_greater, at_equal, no_more_between, read_first, many_keys}
+use Rattle.quilt_node.proofs.Searches.{between_all, between_less, between_greater, at_equal, no_more_between, read_first, many_keys}
 use Rattle.quilt_node.proofs.keys.find_key.Goals as goal
 
 pub loop-low-init : goal.loop-low-init

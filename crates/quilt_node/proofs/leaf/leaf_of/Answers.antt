@@ -1,4 +1,4 @@
-use Rattle.std.proofs.Common.{◌≡◌, ◌+◌, ◌<◌, ◌≤◌, ◌⊎◌, ℕ, ◌∙◌, sym, ap, subst, arith, refl}
+use Rattle.std.proofs.Common.{◌<◌, ◌≤◌, ◌⊎◌, ℕ, ◌∙◌, sym, arith}
 use Rattle.quilt_node.specs.Nodes.{IsLeafPage}
 use Rattle.quilt_node.specs.Pages.{read_leaf}
 use Rattle.quilt_node.proofs.Leaves.{leaf_of_page}

@@ -1,6 +1,5 @@
-use Rattle.std.proofs.Common.{◌∙◌, ap, subst, Some}
-use Rattle.quilt_node.specs.Pages.{read_inner}
-use Rattle.quilt_node.specs.Nodes.{IsInnerPage, are_pages}
+use Rattle.std.proofs.Common.{subst}
+use Rattle.quilt_node.specs.Nodes.{IsInnerPage}
 use Rattle.quilt_node.proofs.Inners.{inner_of_page}
 use Rattle.quilt_node.proofs.inner.InnerPage.bytes.Goals as goal
 

@@ -1,4 +1,4 @@
-use Rattle.std.proofs.Common.{◌≤◌, ◌∙◌, sym, ap, subst}
+use Rattle.std.proofs.Common.{◌≤◌, ◌∙◌, sym, subst}
 use Rattle.quilt_node.specs.Nodes.{IsInnerPage}
 use Rattle.quilt_node.proofs.Inners.{child_is, child_within}
 use Rattle.quilt_node.proofs.inner.InnerPage.child.Goals as goal

@@ -1,4 +1,4 @@
-use Rattle.std.proofs.Common.{◌≡◌, ◌≤◌, ◌<◌, ◌+◌, ◌-◌, ◌∷◌, ◌∙◌, suc, length, arith, subst, ap}
+use Rattle.std.proofs.Common.{◌-◌, ◌∷◌, ◌∙◌, arith, subst, ap}
 use Rattle.quilt_node.specs.Nodes.{IsInnerPage}
 use Rattle.quilt_node.specs.Edits.{first_children}
 use Rattle.quilt_node.proofs.Ascending.{ascending_back}

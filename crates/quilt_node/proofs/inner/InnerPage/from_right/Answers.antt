@@ -1,4 +1,4 @@
-use Rattle.std.proofs.Common.{◌≡◌, ◌≤◌, ◌<◌, ◌+◌, ◌-◌, suc, length, arith}
+use Rattle.std.proofs.Common.{◌-◌, arith}
 use Rattle.quilt_node.proofs.InnerSplits.{order_behind}
 use Rattle.quilt_node.proofs.inner.InnerPage.from_right.Goals as goal
 

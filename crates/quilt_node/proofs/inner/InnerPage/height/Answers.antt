@@ -1,4 +1,4 @@
-use Rattle.std.proofs.Common.{◌∙◌, ap}
+use Rattle.std.proofs.Common.{ap}
 use Rattle.quilt_node.specs.Pages.{Inner}
 use Rattle.quilt_node.proofs.inner.InnerPage.height.Goals as goal
 

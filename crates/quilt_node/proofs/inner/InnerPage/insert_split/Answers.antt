@@ -1,6 +1,5 @@
-use Rattle.std.proofs.Common.{◌≡◌, ◌≤◌, ◌<◌, ◌+◌, ◌-◌, ◌∷◌, ◌∙◌, ℕ, suc, length, take, drop, sym, ap, arith, length-take-le, length-drop, Some, true, List}
+use Rattle.std.proofs.Common.{◌≡◌, ◌-◌, ◌∷◌, ◌∙◌, length, ap, arith, length-take-le, length-drop}
 use Rattle.std.specs.List.{insert}
-use Rattle.quilt_record.specs.declared.key.Key.{Key}
 use Rattle.quilt_node.specs.Pages.{Inner, is_ascending}
 use Rattle.quilt_node.specs.Edits.{with_child, first_children, children_from}
 use Rattle.quilt_node.proofs.InnerSplits.{low_left, low_right, low_key, low_order, high_left, high_right, high_key, high_order, middle_right, middle_key, middle_order}

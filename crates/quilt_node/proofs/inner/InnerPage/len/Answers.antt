@@ -1,4 +1,4 @@
-use Rattle.std.proofs.Common.{◌≡◌, ◌≤◌, ◌+◌, ◌∙◌, ap, length, arith}
+use Rattle.std.proofs.Common.{◌≡◌, ◌+◌, ◌∙◌, ap, length, arith}
 use Rattle.quilt_node.specs.Pages.{Inner, read_inner}
 use Rattle.quilt_node.proofs.Inners.{count_is}
 use Rattle.quilt_node.proofs.inner.InnerPage.len.Goals as goal

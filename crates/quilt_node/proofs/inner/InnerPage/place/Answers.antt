@@ -1,5 +1,4 @@
-use Rattle.std.proofs.Common.{◌≡◌, ◌+◌, ◌-◌, ◌≤◌, ◌∙◌, ℕ, List, sym, ap, subst, length, arith}
-use Rattle.quilt_record.specs.declared.key.Key.{Key}
+use Rattle.std.proofs.Common.{◌≡◌, ◌+◌, ◌-◌, ◌∙◌, ℕ, List, sym, ap, subst, length, arith}
 use Rattle.quilt_node.specs.Pages.{is_ascending, read_inner, Inner}
 use Rattle.quilt_node.specs.KeysIn.{keys_in, IsKeyAt, IsKeyGap}
 use Rattle.quilt_node.specs.Nodes.{IsInnerPage, IsPlace}

@@ -1,4 +1,4 @@
-use Rattle.std.proofs.Common.{◌≡◌, ◌≤◌, ◌<◌, ◌+◌, ◌-◌, ◌^◌, suc, length, subst, arith}
+use Rattle.std.proofs.Common.{subst, arith}
 use Rattle.quilt_node.specs.Nodes.{IsInner, IsInnerPage}
 use Rattle.quilt_node.proofs.inner.InnerPage.remove.Goals as goal
 

@@ -4,9 +4,9 @@ use Rattle.std.specs.Ordering.{is_lt}
 use Rattle.quilt_record.specs.declared.key.Key.{Key}
 use Rattle.quilt_record.specs.declared.record.Record.{Record}
 use Rattle.quilt_record.specs.Records.{key_cmp}
-use Rattle.quilt_node.specs.Pages.{is_ascending, read_leaf}
+use Rattle.quilt_node.specs.Pages.{is_ascending}
 use Rattle.quilt_node.specs.Nodes.{keys_of, IsFound, IsGap}
-use Rattle.quilt_node.specs.KeysIn.{keys_in, IsKeyAt, IsKeyGap}
+use Rattle.quilt_node.specs.KeysIn.{IsKeyAt, IsKeyGap}
 use Rattle.quilt_node.proofs.Leaves.{count_is}
 use Rattle.quilt_node.proofs.LeafReads.{keys_read, found_record, gap_record, gap_number}
 use Rattle.quilt_node.proofs.leaf.LeafPage.find.Goals as goal

@@ -1,5 +1,5 @@
-use Rattle.std.proofs.Common.{◌≡◌, ◌-◌, ◌∙◌, ◌++◌, suc, length, drop, ap, arith}
-use Rattle.quilt_node.proofs.Leaves.{lent_last, lent_last_order, remove_last}
+use Rattle.std.proofs.Common.{◌-◌, ◌∙◌, ◌++◌, drop, ap, arith}
+use Rattle.quilt_node.proofs.Leaves.{lent_last, lent_last_order}
 use Rattle.quilt_node.proofs.leaf.LeafPage.from_left.Goals as goal
 
 pub insert-requires-clause-order : goal.insert-requires-clause-order

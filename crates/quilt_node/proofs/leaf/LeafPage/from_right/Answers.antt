@@ -1,5 +1,4 @@
-use Rattle.std.proofs.Common.{◌∙◌}
-use Rattle.quilt_node.proofs.Leaves.{lent_first, lent_first_order}
+use Rattle.quilt_node.proofs.Leaves.{lent_first_order}
 use Rattle.quilt_node.proofs.leaf.LeafPage.from_right.Goals as goal
 
 pub insert-requires-clause-order : goal.insert-requires-clause-order

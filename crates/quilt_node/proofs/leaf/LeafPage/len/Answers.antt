@@ -1,4 +1,4 @@
-use Rattle.std.proofs.Common.{◌≡◌, ◌≤◌, ◌∙◌, ap, length, arith}
+use Rattle.std.proofs.Common.{◌≡◌, ◌∙◌, ap, length, arith}
 use Rattle.quilt_node.specs.Pages.{read_leaf}
 use Rattle.quilt_node.proofs.Leaves.{count_is}
 use Rattle.quilt_node.proofs.leaf.LeafPage.len.Goals as goal

@@ -1,4 +1,4 @@
-use Rattle.std.proofs.Common.{◌≤◌, ◌∙◌, sym, length, arith}
+use Rattle.std.proofs.Common.{◌∙◌, sym, length, arith}
 use Rattle.quilt_store.proofs.Counts.{count_of_free}
 use Rattle.quilt_store.proofs.memory.MemStorePageStore.free_pages.Goals as goal
 

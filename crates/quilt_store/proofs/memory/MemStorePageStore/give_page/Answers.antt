@@ -1,4 +1,4 @@
-use Rattle.std.proofs.Common.{◌≡◌, ◌≤◌, ◌<◌, ◌∙◌, length, arith, true, length-set}
+use Rattle.std.proofs.Common.{◌∙◌, length, arith, true, length-set}
 use Rattle.quilt_store.proofs.Counts.{given}
 use Rattle.quilt_store.proofs.memory.MemStorePageStore.give_page.Goals as goal
 

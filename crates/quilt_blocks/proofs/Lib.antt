@@ -1,0 +1,9 @@
+pub mod Chains
+pub mod Colours
+pub mod Cuts
+pub mod Leaves
+pub mod Listed
+pub mod Maximal
+pub mod Merging
+pub mod Painting
+pub mod Places

@@ -1,0 +1,85 @@
+-- The leaves of a list by their places: where each begins, and which one holds a pixel.
+use Rattle.std.proofs.Common.{◌≡◌, ℕ, suc, ◌+◌, ◌<◌, ◌≤◌, List, [], ◌∷◌, ◌++◌, length, get_or, take, set, length-append, sym, ◌∙◌, ap, ap₂, subst, ⊎_elim, arith, Contains}
+use Rattle.std.proofs.lemmas.Bool.{cases_lt}
+use Rattle.std.proofs.lemmas.List.{length-map, get_or-map, map-append, take-map, take_at}
+use Rattle.std.proofs.lemmas.List.Elements.{Contains-get_or}
+use Rattle.quilt_types.specs.declared.plane.Pixel.{Pixel}
+use Rattle.quilt_types.specs.declared.plane.Block.{Block}
+use Rattle.quilt_types.specs.Plane.{side, quarters_of, Holds, IsBlock}
+use Rattle.quilt_loc.specs.Codes.{code_at, code_from, code_to}
+use Rattle.quilt_loc.proofs.Blocks.{side_most}
+use Rattle.quilt_loc.proofs.Intervals.{held_code}
+use Rattle.quilt_blocks.specs.declared.leaf.Leaf.{Leaf}
+use Rattle.quilt_blocks.specs.Cutting.{pair_of}
+use Rattle.quilt_blocks.specs.Walk.{size_of}
+use Rattle.quilt_blocks.specs.Listing.{IsListed, Follows, EndsInQuarters, pairs_of}
+use Rattle.quilt_blocks.proofs.Chains.{size_of-nil, Follows-member, Follows-next, Follows-last, Follows-place}
+use Rattle.quilt_blocks.proofs.Listed.{listed_run}
+use Rattle.quilt_blocks.proofs.Merging.{AtEnd, siblings, merged_is}
+use Rattle.quilt_blocks.proofs.Painting.{code_in}
+
+-- the leaf at a place, as the definitions have it
+pub pair_at : (items : List Leaf) (i : ℕ) (d : Leaf) → i < length items → get_or (pairs_of items) i (pair_of d) ≡ pair_of (get_or items i d)
+pair_at items i d lt = get_or-map pair_of items i d (pair_of d) lt
+
+pub member_at : (items : List Leaf) (i : ℕ) (d : Leaf) → i < length items → Contains (pairs_of items) (pair_of (get_or items i d))
+member_at items i d lt =
+    let l = length-map items pair_of in
+    subst (Contains (pairs_of items)) (pair_at items i d lt) (Contains-get_or (pairs_of items) i (pair_of d) (omega arith))
+
+pub followed_block : (n : ℕ) (items : List Leaf) (i : ℕ) (d : Leaf) → Follows n 0 (pairs_of items) → i < length items → IsBlock n (get_or items i d).block
+followed_block n items i d h lt = (Follows-member n 0 (pairs_of items) (pair_of (get_or items i d)) h (member_at items i d lt)).block
+
+-- the last four leaves made one
+pub merged_items : (n : ℕ) (items : List Leaf) (w : Leaf) (k : ℕ) → k + 4 ≡ length items → (q : EndsInQuarters n (pairs_of items) (pair_of w)) → pairs_of (set (take (k + 1) items) k w) ≡ q.front ++ pair_of w ∷ []
+merged_items n items w k e q =
+    let l = length-map items pair_of in
+    let long : length (pairs_of items) ≡ length q.front + 4 = ap length q.split ∙ length-append q.front (siblings (pair_of w)) in
+    ap pairs_of (merged_is items k w e) ∙ map-append pair_of (take k items) (w ∷ [])
+    ∙ ap (λ l. l ++ pair_of w ∷ []) (sym (take-map pair_of k items) ∙ ap (take k) q.split ∙ take_at q.front (siblings (pair_of w)) k (omega arith))
+
+-- the last four leaves where they are siblings of one colour
+pub leaf_at_end : (n : ℕ) (items : List Leaf) (e : Block × ℕ) (d : Leaf) (k : ℕ) → k + 4 ≡ length items → AtEnd n (pairs_of items) e (pair_of d) k
+    → (p : Block) (c : ℕ) (qs : List Block) → p ≡ e.0 → c ≡ e.1 → qs ≡ quarters_of p → (j i : ℕ) (q : Block) → j < 4 → i ≡ k + j → pair_of (get_or items i d) ≡ (get_or qs j q, c)
+leaf_at_end n items e d k long at p c qs ep ec eq j i q lt ei =
+    sym (pair_at items i d (omega arith)) ∙ ap (λ z. get_or (pairs_of items) z (pair_of d)) ei ∙ at.each j lt
+    ∙ get_or-map (λ (z : Block). let r : Block × ℕ = (z, e.1) in r) (quarters_of e.0) j q (pair_of d) (omega arith)
+    ∙ ap₂ (λ (z : Block) (y : ℕ). let r : Block × ℕ = (z, y) in r) (sym (ap (λ l. get_or l j q) (eq ∙ ap quarters_of ep))) (sym ec)
+
+module _ (n : ℕ) (items : List Leaf) (h : IsListed n (pairs_of items)) where
+  pub block_at_place : (i : ℕ) (d : Leaf) → i < length items → IsBlock n (get_or items i d).block
+  block_at_place i d lt = followed_block n items i d (listed_run n (pairs_of items) h).follows lt
+
+  pub first_code : (d : Leaf) → 0 < length items → code_from (get_or items 0 d).block ≡ 0
+  first_code d lt =
+      let l = length-map items pair_of in
+      let z = size_of-nil in
+      sym (ap (λ (e : Block × ℕ). code_from e.0) (pair_at items 0 d lt))
+      ∙ Follows-place n 0 (pairs_of items) 0 (pair_of d) (listed_run n (pairs_of items) h).follows (omega arith) ∙ (let e : 0 + size_of [] ≡ 0 = omega arith in e)
+
+  -- the last leaf that begins at the code of a pixel or before holds it
+  pub held_at : (p : Pixel) (low high : ℕ) (d : Leaf) → p.x < side n → p.y < side n → low < high → high ≤ low + 1 → high ≤ length items
+      → code_from (get_or items low d).block ≤ code_at p → (high < length items → code_at p < code_from (get_or items high d).block) → Holds (get_or items low d).block p
+  held_at p low high d hx hy lt one inside from to =
+      let l = length-map items pair_of in
+      let run = listed_run n (pairs_of items) h in
+      let s = run.size in
+      let m = side_most n h.most in
+      let hb = block_at_place low d (omega arith) in
+      let ix = hb.in_x in
+      let iy = hb.in_y in
+      let here = ap (λ (e : Block × ℕ). code_to e.0) (pair_at items low d (omega arith)) in
+      let next : high ≡ suc low = omega arith in
+      let end : code_at p < code_to (get_or items low d).block =
+      ⊎_elim
+      (λ more.
+      let step = Follows-next n 0 (pairs_of items) low (pair_of d) run.follows (omega arith) in
+      let there = ap (λ (e : Block × ℕ). code_from e.0) (pair_at items (suc low) d (omega arith)) in
+      let same = ap (λ i. code_from (get_or items i d).block) next in
+      let t = to more in
+      omega arith)
+      (λ none.
+      let step = Follows-last n 0 (pairs_of items) low (pair_of d) run.follows (omega arith) in
+      let c = code_in n p h.most hx hy in
+      omega arith) (cases_lt high (length items)) in
+      held_code n (get_or items low d).block p hb h.most (omega arith) (omega arith) (omega arith) (omega arith) from end

@@ -1,0 +1,119 @@
+ghost use Rattle.std.specs.Prelude.{◌≡◌, ℕ, ◌<◌, ◌≤◌, ◌↔◌, false, length, Contains, IsNone, IfSome, slice_index_or};
+ghost use Rattle.quilt_types.specs.declared.plane.Block.{Block as BlockValue};
+ghost use Rattle.quilt_types.specs.Plane.{side, Holds, IsBlock};
+ghost use Rattle.quilt_types.specs.Layers.{colour_at};
+ghost use Rattle.quilt_types.specs.Quadtrees.{is_uniform, leaves};
+ghost use Rattle.quilt_loc.specs.Codes.{Rises};
+ghost use Rattle.quilt_blocks.specs.Raster.{IsRaster};
+ghost use Rattle.quilt_blocks.specs.Cutting.{leaves_by_code, leaf_cmp, pair_of};
+ghost use Rattle.quilt_blocks.specs.Mosaic.{HasColour};
+
+use crate::Leaf;
+use quilt_loc::code_of;
+use quilt_types::{Block, Colour, Pixel};
+use std::marker::Model;
+
+/// The maximal blocks of one colour of a grid, in the order of their codes (Samet 1990; Shaffer, Samet and Nelson 1990).
+#[derive(Drop)]
+pub struct LeafList {
+    level: u8,
+    leaves: Vec<Leaf>,
+}
+
+impl Model for LeafList {
+    ghost use Rattle.quilt_blocks.specs.Raster.{Raster};
+
+    ghost Value = { Raster };
+
+    ghost use Rattle.quilt_blocks.specs.Listing.{IsListed, grid_from, pairs_of};
+
+    ghost view = { λ l. record { level = l.level; grid = grid_from l.level (pairs_of l.leaves.items) } };
+
+    ghost invariant = { λ l. IsListed l.level (pairs_of l.leaves.items) };
+}
+
+impl LeafList {
+    ghost use Rattle.quilt_blocks.specs.Listing.{IsListed, grid_from, pairs_of};
+
+    /// The list of these leaves, which are the maximal blocks of one grid in the order of their codes.
+    pub(crate) fn of(level: u8, leaves: Vec<Leaf>) -> LeafList
+        requires { IsListed level (pairs_of leaves.items) }
+        ensures { result ≡ record { level = level; grid = grid_from level (pairs_of leaves.items) } }
+    {
+        LeafList { level, leaves }
+    }
+
+    /// The level of the square, from 1 to 12.
+    pub fn level(&self) -> u8
+        ensures value { result ≡ self.now.level }
+        ensures raster { IsRaster self.now }
+    {
+        self.level
+    }
+
+    /// How many leaves there are, at least one.
+    pub fn len(&self) -> usize
+        ensures value { result ≡ length (leaves_by_code self.now.level self.now.grid) }
+        ensures some { 1 ≤ result }
+        ensures raster { IsRaster self.now }
+        ensures members { (e : BlockValue × ℕ) → Contains (leaves_by_code self.now.level self.now.grid) e ↔ Contains (leaves self.now.level self.now.grid) e }
+        ensures order { Rises leaf_cmp (leaves_by_code self.now.level self.now.grid) }
+    {
+        self.leaves.len()
+    }
+
+    /// The leaf at a place in the order of the codes.
+    pub fn leaf(&self, i: usize) -> Leaf
+        requires { i < length (leaves_by_code self.now.level self.now.grid) }
+        ensures value { pair_of result ≡ slice_index_or (leaves_by_code self.now.level self.now.grid) i (pair_of result) }
+        ensures block { IsBlock self.now.level result.block }
+        ensures colour { HasColour self.now.level self.now.grid result.block result.colour.0 }
+    {
+        self.leaves[i]
+    }
+
+    /// The colour of the pixel, by a binary search.
+    pub fn colour_at(&self, p: Pixel) -> Colour
+        requires in_x { p.x < side self.now.level }
+        requires in_y { p.y < side self.now.level }
+        ensures { result.0 ≡ colour_at self.now.level self.now.grid p }
+    {
+        self.leaf_with(p).colour
+    }
+
+    /// The one colour of the block's pixels, by a binary search, or None where they have two.
+    pub fn uniform_in(&self, b: Block) -> Option<Colour>
+        requires { IsBlock self.now.level b }
+        ensures none { IsNone result ↔ (is_uniform self.now.level self.now.grid b ≡ false) }
+        ensures colour { IfSome result (λ c. HasColour self.now.level self.now.grid b c.0) }
+    {
+        let leaf = self.leaf_with(Pixel { x: b.x, y: b.y });
+        if leaf.block.side < b.side {
+            return None;
+        }
+        Some(leaf.colour)
+    }
+
+    /// The leaf that holds the pixel: the last that begins at its code or before.
+    fn leaf_with(&self, p: Pixel) -> Leaf
+        requires in_x { p.x < side self.now.level }
+        requires in_y { p.y < side self.now.level }
+        ensures member { Contains (leaves_by_code self.now.level self.now.grid) (pair_of result) }
+        ensures holds { Holds result.block p }
+    {
+        let leaves = &self.leaves;
+        let code = code_of(p);
+        let mut low = 0;
+        let mut high = leaves.len();
+        while high - low > 1 {
+            let middle = low + (high - low) / 2;
+            let Block { x, y, .. } = leaves[middle].block;
+            if code_of(Pixel { x, y }) <= code {
+                low = middle;
+            } else {
+                high = middle;
+            }
+        }
+        leaves[low]
+    }
+}

@@ -1,0 +1,128 @@
+ghost use Rattle.std.specs.Prelude.{◌≡◌, ℕ, ◌*◌, ◌^◌, ◌≤◌, ◌↔◌, IsNone, IsTrue, IfSome, List, [], ◌++◌, replicate, length, Contains, OnOk, OnErr};
+ghost use Rattle.quilt_types.specs.declared.plane.Block.{Block as BlockValue};
+ghost use Rattle.quilt_types.specs.Plane.{IsBlock};
+ghost use Rattle.quilt_types.specs.Layers.{Grid};
+ghost use Rattle.quilt_types.specs.Quadtrees.{leaves};
+ghost use Rattle.quilt_loc.specs.Codes.{code_from, code_to};
+ghost use Rattle.quilt_blocks.specs.Painting.{colours_of, grid_by_code};
+ghost use Rattle.quilt_blocks.specs.Mosaic.{IsMosaic};
+ghost use Rattle.quilt_blocks.specs.Listing.{Follows, IsGrowing, IsMaking, EndsInQuarters, pairs_of};
+ghost use Rattle.quilt_blocks.specs.Cutting.{pair_of};
+
+use crate::{Leaf, LeafList};
+use quilt_loc::{parent, quarters};
+use quilt_types::{Block, Colour};
+use std::alloc::{AllocError, Global};
+use std::marker::Model;
+
+/// Makes a list of leaves of blocks that come in the order of their codes. The last leaves of the list are its stack of
+/// finished siblings: four of one colour become one.
+#[derive(Drop)]
+pub struct Maker {
+    level: u8,
+    leaves: Vec<Leaf>,
+}
+
+impl Model for Maker {
+    ghost use Rattle.quilt_blocks.specs.Painting.{Painted};
+
+    ghost Value = { Painted };
+
+    ghost use Rattle.quilt_blocks.specs.Painting.{colours_of};
+    ghost use Rattle.quilt_blocks.specs.Listing.{IsMaking, pairs_of};
+
+    ghost view = { λ m. record { level = m.level; colours = colours_of (pairs_of m.leaves.items) } };
+
+    ghost invariant = { λ m. IsMaking m.level (pairs_of m.leaves.items) };
+}
+
+impl Maker {
+    /// No blocks yet, for a square of a level from 1 to 12. It takes no memory, and keeps the allocator.
+    pub fn new(alloc: Global, level: u8) -> Maker
+        requires least { 1 ≤ level }
+        requires most { level ≤ 12 }
+        ensures { result ≡ record { level = level; colours = [] } }
+    {
+        Maker {
+            level,
+            leaves: Vec::new(alloc),
+        }
+    }
+
+    /// Puts down a block that begins at the code at which the last one ended, or changes nothing where no memory is left.
+    pub fn push(&mut self, b: Block, c: Colour) -> Result<(), AllocError>
+        requires valid { IsBlock self.old.level b }
+        requires next { code_from b ≡ length self.old.colours }
+        ensures ok { OnOk result (self.new ≡ record { level = self.old.level; colours = self.old.colours ++ replicate (b.side * b.side) c.0 }) }
+        ensures end { OnOk result (length self.new.colours ≡ code_to b) }
+        ensures err { OnErr result (self.new ≡ self.old) }
+    {
+        self.leaves.push(Leaf {
+            block: b,
+            colour: c,
+        })?;
+        merge_last(&mut self.leaves, self.level);
+        Ok(())
+    }
+
+    /// The leaves of the grid that the blocks paint, which cover the square.
+    pub fn finish(self) -> LeafList
+        requires { length self.colours ≡ 4 ^ self.level }
+        ensures level { result.level ≡ self.level }
+        ensures value { result.grid ≡ grid_by_code self.level self.colours }
+
+        // Blocks of which exactly one holds each pixel and of which no four siblings have one colour are the leaves.
+        ensures law { (n : ℕ) (g : Grid) (es : List (BlockValue × ℕ)) → IsMosaic n g es → (e : BlockValue × ℕ) → Contains es e ↔ Contains (leaves n g) e }
+    {
+        let Maker { level, leaves } = self;
+        LeafList::of(level, leaves)
+    }
+}
+
+/// Makes one leaf of the last four as long as they are siblings of one colour.
+fn merge_last(leaves: &mut Vec<Leaf>, level: u8)
+    requires least { 1 ≤ level }
+    requires most { level ≤ 12 }
+    requires growing { IsGrowing level (pairs_of leaves.old.items) }
+    ensures making { IsMaking level (pairs_of leaves.new.items) }
+    ensures colours { colours_of (pairs_of leaves.new.items) ≡ colours_of (pairs_of leaves.old.items) }
+{
+    while let Some(whole) = whole_of_last(leaves, level) {
+        let first = leaves.len() - 4;
+        leaves.truncate(first + 1);
+        leaves[first] = whole;
+    }
+}
+
+/// The leaf that the last four make, where they are siblings of one colour.
+fn whole_of_last(leaves: &[Leaf], level: u8) -> Option<Leaf>
+    requires least { 1 ≤ level }
+    requires most { level ≤ 12 }
+    requires follows { Follows level 0 (pairs_of leaves.now) }
+    ensures some { IfSome result (λ l. EndsInQuarters level (pairs_of leaves.now) (pair_of l)) }
+    ensures none { IsNone result → (e : BlockValue × ℕ) → EndsInQuarters level (pairs_of leaves.now) e → ⊥ }
+{
+    let n = leaves.len();
+    if n < 4 {
+        return None;
+    }
+    let Leaf { block, colour } = leaves[n - 4];
+    let block = parent(block, level)?;
+    let [a, b, c, d] = quarters(block);
+    if is(leaves[n - 4], a, colour)
+        && is(leaves[n - 3], b, colour)
+        && is(leaves[n - 2], c, colour)
+        && is(leaves[n - 1], d, colour)
+    {
+        Some(Leaf { block, colour })
+    } else {
+        None
+    }
+}
+
+/// Whether the leaf is this block with this colour.
+fn is(leaf: Leaf, block: Block, colour: Colour) -> bool
+    ensures { IsTrue result ↔ (pair_of leaf ≡ (block, colour.0)) }
+{
+    leaf.block == block && leaf.colour == colour
+}

@@ -1,0 +1,9 @@
+pub mod Members
+pub mod Orders
+pub mod Lowest
+pub mod Stretches
+pub mod Sides
+pub mod Clips
+pub mod Rests
+pub mod Cuts
+pub mod Ends

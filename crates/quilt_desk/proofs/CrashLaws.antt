@@ -1,0 +1,125 @@
+-- A page's state is what the log says of the page, so what a crash leaves can be left.
+use Rattle.std.specs.List.{list_all, fold}
+use Rattle.std.specs.Prelude.{unwrap_or, slice_index, ◌||◌, ◌&&◌, ◌==◌, drop}
+use Rattle.std.proofs.Common.{◌≡◌, inl, inr, true, false, Bool, cond, ℕ, ◌+◌, ◌<◌, ◌≤◌, List, [], ◌∷◌, Some, None, length, get_or, set, take, refl, sym, ◌∙◌, ap, subst, arith, get_or-set_same, get_or-set_other}
+use Rattle.std.proofs.Math.ListN.{length-set}
+use Rattle.std.proofs.lemmas.List.{take-append-drop}
+use Rattle.std.proofs.lemmas.Bool.{cases_lt, cases_Bool}
+use Rattle.std.proofs.lemmas.List.Folds.{list_all_at, list_all-append}
+use Rattle.std.proofs.lemmas.List.Sums.{fold_more}
+use Rattle.quilt_world.specs.Disk.{Pages, Log, Mark, Untouched, Written, Torn, marked, mark_from, unsynced_after, unsynced_from, is_unsynced, CanLeave}
+use Rattle.quilt_world.specs.PageBytes.{bytes_by, last_bytes, fixed_bytes}
+use Rattle.quilt_world.specs.declared.event.Event.{Event}
+use Rattle.quilt_world.specs.declared.event.Event.TheVariants.{Took, Put, Wrote, Tore, Synced}
+use Rattle.quilt_world.proofs.PageLaws.{left_from_pages}
+use Rattle.quilt_desk.specs.declared.page_state.PageState.{PageState}
+use Rattle.quilt_desk.specs.Crash.{first_state, state_after, state_of, kept, chosen, left_by, IsLeftBy}
+use Rattle.quilt_desk.specs.Whole.{is_whole}
+
+-- ---- one event more
+
+pub state_of-more : (page : ℕ) (first : List ℕ) (log : Log) (i : ℕ) (e : Event) → i < length log → e ≡ get_or log i e → state_after page (state_of page first (take i log)) e ≡ state_of page first (take (i + 1) log)
+unfolding state_of
+state_of-more page first log i e within is =
+    ap (λ (x : Event). state_after page (fold (state_after page) (first_state first) (take i log)) x) is
+    ∙ sym (fold_more (state_after page) (first_state first) log i e within)
+
+pub whole_at : (log : Log) (i : ℕ) (e : Event) → i < length log → e ≡ get_or log i e → list_all is_whole log ≡ true → is_whole e ≡ true
+whole_at log i e within is all = elim (cases_Bool (is_whole e)) [
+  | inl whole ↦ whole
+  | inr part ↦ let none : list_all is_whole log ≡ false = list_all_at is_whole log i e within (ap is_whole (sym is) ∙ part) in let no : true ≡ false = sym all ∙ none in cc
+]
+
+-- ---- a state and a mark
+
+last_step : (page : ℕ) (first : List ℕ) (s : PageState) (m : Mark) (e : Event) → s.last ≡ bytes_by m first → (state_after page s e).last ≡ bytes_by (marked page m e) first
+last_step page first s m (Wrote at bytes) same = wrote (at == page)
+  where
+    wrote : (b : Bool) → (cond b (record { last = Some bytes; synced = s.synced; written = Some bytes; is_unsynced = true }) s).last ≡ bytes_by (cond b (Written bytes) m) first
+    wrote true = refl
+    wrote false = same
+last_step page first s m (Tore at) same = tore (at == page)
+  where
+    tore : (b : Bool) → (cond b (record { last = None; synced = s.synced; written = s.written; is_unsynced = true }) s).last ≡ bytes_by (cond b Torn m) first
+    tore true = refl
+    tore false = same
+last_step page first s m Synced same = same
+last_step page first s m (Took bytes) same = same
+last_step page first s m (Put bytes) same = same
+
+or_true : (u : Bool) → true ≡ u || true
+or_true true = refl
+or_true false = refl
+
+or_false : (u : Bool) → u ≡ u || false
+or_false true = refl
+or_false false = refl
+
+unsynced_step : (page : ℕ) (s : PageState) (e : Event) → (state_after page s e).is_unsynced ≡ unsynced_after page s.is_unsynced e
+unsynced_step page s (Wrote at bytes) = wrote (at == page)
+  where
+    wrote : (b : Bool) → (cond b (record { last = Some bytes; synced = s.synced; written = Some bytes; is_unsynced = true }) s).is_unsynced ≡ s.is_unsynced || b
+    wrote true = or_true s.is_unsynced
+    wrote false = or_false s.is_unsynced
+unsynced_step page s (Tore at) = tore (at == page)
+  where
+    tore : (b : Bool) → (cond b (record { last = None; synced = s.synced; written = s.written; is_unsynced = true }) s).is_unsynced ≡ s.is_unsynced || b
+    tore true = or_true s.is_unsynced
+    tore false = or_false s.is_unsynced
+unsynced_step page s Synced = refl
+unsynced_step page s (Took bytes) = refl
+unsynced_step page s (Put bytes) = refl
+
+last_from : (page : ℕ) (first : List ℕ) (log : Log) (s : PageState) (m : Mark) → s.last ≡ bytes_by m first → (fold (state_after page) s log).last ≡ bytes_by (mark_from page m log) first
+last_from page first [] s m same = same
+last_from page first (e ∷ log) s m same = last_from page first log (state_after page s e) (marked page m e) (last_step page first s m e same)
+
+unsynced_along : (page : ℕ) (log : Log) (s : PageState) (u : Bool) → s.is_unsynced ≡ u → (fold (state_after page) s log).is_unsynced ≡ unsynced_from page u log
+unsynced_along page [] s u same = same
+unsynced_along page (e ∷ log) s u same = unsynced_along page log (state_after page s e) (unsynced_after page u e) (unsynced_step page s e ∙ ap (λ t. unsynced_after page t e) same)
+
+-- what is kept is what is in each image that a stop may leave
+kept-state_of : (start : Pages) (log : Log) (i : ℕ) → kept (state_of i (get_or start i []) log) ≡ fixed_bytes start log i
+unfolding state_of fixed_bytes last_bytes
+kept-state_of start log i =
+    let s : PageState = fold (state_after i) (first_state (get_or start i [])) log in
+    ap (λ u. cond u None s.last) (unsynced_along i log (first_state (get_or start i [])) false refl)
+    ∙ ap (λ l. cond (is_unsynced i log) None l) (last_from i (get_or start i []) log (first_state (get_or start i [])) Untouched refl)
+
+pub left_can : (start : Pages) (log : Log) (choice : List ℕ) (image : Pages) → IsLeftBy start log choice image → CanLeave start log image
+left_can start log choice image by = left_from_pages start log image by.size (λ i b within is.
+    let s = state_of i (get_or start i []) log in
+    by.each i within ∙ ap (λ o. unwrap_or o (chosen (state_of i (get_or start i []) log) (slice_index choice i))) (kept-state_of start log i ∙ is))
+
+-- ---- pages one after another
+
+-- the first pages of the image are as they are left
+pub record LeftBelow (start : Pages) (log : Log) (choice : List ℕ) (image : Pages) (n : ℕ) : Type 0 where
+  pub size : length image ≡ length start
+  pub each : (i : ℕ) → i < n → get_or image i [] ≡ left_by (state_of i (get_or start i []) log) (slice_index choice i)
+
+pub left_none : (start : Pages) (log : Log) (choice : List ℕ) (image : Pages) → image ≡ start → LeftBelow start log choice image 0
+left_none start log choice image same = record { size = ap length same; each = λ i none. absurd (omega arith) }
+
+pub left_more : (start : Pages) (log : Log) (choice : List ℕ) (image : Pages) (n : ℕ) (bytes : List ℕ) → LeftBelow start log choice image n → n < length start → bytes ≡ left_by (state_of n (get_or start n []) log) (slice_index choice n) → LeftBelow start log choice (set image n bytes) (n + 1)
+left_more start log choice image n bytes below within is = record {
+  size = length-set image n bytes ∙ below.size;
+  each = λ i lt. elim (cases_lt i n) [
+    | inl before ↦ get_or-set_other image n i bytes [] (omega arith) ∙ below.each i before
+    | inr here ↦
+        let same : n ≡ i = omega arith in
+        subst (λ k. get_or (set image n bytes) k [] ≡ left_by (state_of k (get_or start k []) log) (slice_index choice k)) same (get_or-set_same image n bytes [] (omega (arith, below.size)) ∙ is)
+  ];
+}
+
+pub left_all : (start : Pages) (log : Log) (choice : List ℕ) (image : Pages) (n : ℕ) → LeftBelow start log choice image n → length start ≤ n → IsLeftBy start log choice image
+left_all start log choice image n below all = record { size = below.size; each = λ i within. below.each i (omega arith) }
+
+and_front : (a b : Bool) → (a && b) ≡ true → a ≡ true
+and_front true b both = refl
+and_front false b both = both
+
+pub whole-take : (n : ℕ) (log : Log) → list_all is_whole log ≡ true → list_all is_whole (take n log) ≡ true
+whole-take n log all =
+    and_front (list_all is_whole (take n log)) (list_all is_whole (drop n log))
+    (sym (list_all-append is_whole (take n log) (drop n log)) ∙ ap (λ (l : Log). list_all is_whole l) (take-append-drop n log) ∙ all)

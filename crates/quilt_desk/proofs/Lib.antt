@@ -1,0 +1,3 @@
+pub mod CrashLaws
+pub mod DeskLaws
+pub mod ReadLaws

@@ -1,0 +1,6 @@
+pub mod CalmViews
+pub mod Crash
+pub mod DeskViews
+pub mod Reads
+pub mod Sources
+pub mod Whole

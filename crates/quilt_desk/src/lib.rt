@@ -1,0 +1,14 @@
+//! Worlds in memory: one that tells everything and fails where it is told to, and one that never fails.
+#![tactic(auto)]
+
+mod calls;
+mod calm;
+mod copies;
+mod desk;
+mod input;
+mod page_state;
+mod path;
+mod source;
+
+pub use calm::Calm;
+pub use desk::Desk;

@@ -1,0 +1,4 @@
+pub mod Creations
+pub mod Empties
+pub mod Headers
+pub mod Unlabelled

@@ -1,0 +1,33 @@
+ghost use Rattle.std.specs.Prelude.{◌≡◌, ◌≤◌, length};
+ghost use Rattle.quilt_world.specs.Home.{filled, label};
+ghost use Rattle.quilt_node.specs.Pages.{header_bytes};
+ghost use Rattle.quilt_edition.specs.Creating.{empty_head};
+
+const LABEL: [u8; 15] = *b"QUILT MAP FILE\n";
+
+/// A page that begins with these bytes, and is zeros behind them.
+fn page_of(front: &[u8]) -> [u8; 4096]
+    requires { length front.now ≤ 4096 }
+    ensures { result ≡ filled 4096 front.now }
+{
+    let mut page = [0; 4096];
+    page[..front.len()].copy_from_slice(front);
+    page
+}
+
+/// The first page of each map file.
+pub(crate) fn label_page() -> [u8; 4096]
+    ensures { result ≡ label }
+{
+    page_of(&LABEL)
+}
+
+/// The header of edition 0 of a level, with no records.
+pub(crate) fn header_page(level: u8) -> [u8; 4096]
+    ensures { result ≡ header_bytes (empty_head level) }
+{
+    let front = [
+        b'Q', b'H', b'D', b'R', 0, 0, 0, 1, 0, 0, 0, 0, level, 0, 0, 0, 0, 0, 0, 0, 0, 0, 0, 0,
+    ];
+    page_of(&front)
+}

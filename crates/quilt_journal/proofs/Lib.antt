@@ -1,0 +1,17 @@
+pub mod Begins
+pub mod Bits
+pub mod Calls
+pub mod CarrySteps
+pub mod Clearing
+pub mod CopySteps
+pub mod Counts
+pub mod Front
+pub mod Homes
+pub mod Leaving
+pub mod Publishing
+pub mod RedoSteps
+pub mod SealSteps
+pub mod SlotSteps
+pub mod Steps
+pub mod Views
+pub mod Writes

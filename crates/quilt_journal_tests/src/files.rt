@@ -1,0 +1,47 @@
+ghost use Rattle.std.specs.Prelude.{◌≡◌, length, IfOk, IfSome};
+ghost use Rattle.quilt_world.specs.declared.disk.Door.TheVariants as doors;
+ghost use Rattle.quilt_journal.specs.Beginning.{NoneFree};
+
+use quilt_desk::Desk;
+use quilt_world::{Attached, Disk, Image, World};
+use std::alloc::{AllocError, Global};
+
+/// A map file of 16 home pages, of which page i is filled with the byte i.
+pub fn map_file(alloc: Global) -> Result<Image, AllocError>
+    ensures { IfOk result (λ m. length m ≡ 35) }
+{
+    let mut image = Image::new(alloc, 35)?;
+    let mut label = [0; 4096];
+    label[..15].copy_from_slice(b"QUILT MAP FILE\n");
+    image.set_page(0, &label);
+    for i in 0..16_u8 {
+        image.set_page(3 + u32::from(i), &[i; 4096]);
+    }
+    Ok(image)
+}
+
+/// The map file with this byte all over its gate, a directory that begins with this byte and lists pages beyond the home
+/// pages, and a slot of page 0 that is filled with 77.
+pub fn foreign_file(alloc: Global, gate: u8, listed: u8) -> Result<Image, AllocError> {
+    let mut image = map_file(alloc)?;
+    let mut directory = [255; 4096];
+    directory[0] = listed;
+    directory[1] = 0;
+    image.set_page(1, &[gate; 4096]);
+    image.set_page(2, &directory);
+    image.set_page(19, &[77; 4096]);
+    Ok(image)
+}
+
+/// A desk that has opened this file, and of which the call of this number fails.
+pub fn opened(alloc: Global, file: Image, failing: u64) -> Result<Option<Desk>, AllocError>
+    ensures door { IfOk result (λ o. IfSome o (λ d. ⟦<Desk as Disk>⟧.door d ≡ doors.Ready)) }
+    ensures none { IfOk result (λ o. IfSome o (λ d. IfSome (⟦<Desk as Disk>⟧.told d) NoneFree)) }
+{
+    let mut desk = Desk::new(alloc, "m", Some(file), b"")?;
+    desk.fail_at(failing)?;
+    match desk.attach("m") {
+        Ok(Attached::Ready) => Ok(Some(desk)),
+        _ => Ok(None),
+    }
+}

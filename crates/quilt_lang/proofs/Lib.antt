@@ -1,0 +1,10 @@
+pub mod Cuts
+pub mod LineLaws
+pub mod Pieces
+pub mod Long
+pub mod Remarks
+pub mod Names
+pub mod Numbers
+pub mod Slices
+pub mod Table
+pub mod Takes

@@ -1,0 +1,143 @@
+-- A line that is too long may be cut short, since only that it is too long is held.
+use Rattle.std.proofs.Common.{◌≡◌, inl, inr, ℕ, ◌+◌, ◌<◌, Bool, true, false, ◌==◌, nat_lt, List, [], ◌∷◌, ◌++◌, length, take, map, cond, subst, refl, sym, ◌∙◌, ap, arith, length-append, length-take, filter}
+use Rattle.std.specs.List.{slice_split, onto_first}
+use Rattle.std.proofs.lemmas.List.Splits.{length-slice_split}
+use Rattle.std.proofs.lemmas.List.Elements.{All-head, All-tail}
+use Rattle.std.proofs.lemmas.Bool.{lt-ltb, ltb-true, ltb-false}
+use Rattle.std.proofs.lemmas.List.{get_or-take, take_all}
+use Rattle.quilt_lang.specs.declared.item.Item.{Item}
+use Rattle.quilt_lang.specs.declared.item.Item.TheVariants.{Long, Line}
+use Rattle.quilt_lang.specs.Items.{Group, line_limit, is_long, is_silent, lines_of, whole_lines, without_empty_end, without_last, groups_from, items_of, whole_items, held, held_as, asked, is_complete}
+use Rattle.quilt_lang.specs.Reading.{Unread, IsLine, Gives, item_of_line, begins_silent}
+use Rattle.quilt_lang.proofs.Cuts.{bool_cases}
+use Rattle.quilt_lang.proofs.Pieces.{gives_none, gives_then, gives_fed, rest_line}
+use Rattle.quilt_lang.proofs.LineLaws.{asked_none, groups_loud, complete_first}
+
+-- onto the first part go the bytes before
+abbrev onto : List ℕ → List (List ℕ) → List (List ℕ)
+onto front [] = []
+onto front (l ∷ ls) = (front ++ l) ∷ ls
+
+abbrev pieces : List ℕ → List (List ℕ)
+pieces t = slice_split (λ c. c == 10) t
+
+onto_one : (c : ℕ) (cs : List ℕ) (ps : List (List ℕ)) (k : ℕ) → length ps ≡ k + 1 → onto_first c (onto cs ps) ≡ onto (c ∷ cs) ps
+onto_one c cs [] k size = absurd (omega (arith, size))
+onto_one c cs (l ∷ ls) k size = refl
+
+onto_none : (ps : List (List ℕ)) → ps ≡ onto [] ps
+onto_none [] = refl
+onto_none (l ∷ ls) = refl
+
+-- a front with no newline goes onto the first piece
+split_onto : (front v : List ℕ) → IsLine front → pieces (front ++ v) ≡ onto front (pieces v)
+split_onto [] v none = onto_none (pieces v)
+split_onto (c ∷ cs) v none =
+    let inner : (c == 10) ≡ false = All-head (λ (x : ℕ). (x == 10) ≡ false) c cs none in
+    rw inner (ap (onto_first c) (split_onto cs v (All-tail (λ (x : ℕ). (x == 10) ≡ false) c cs none)) ∙ onto_one c cs (pieces v) _ (length-slice_split (λ x. x == 10) v))
+
+-- what follows up to the first newline, and the lines behind it
+abbrev first_of : List (List ℕ) → List ℕ
+first_of [] = []
+first_of (l ∷ ls) = l
+
+abbrev later_of : List (List ℕ) → List (List ℕ)
+later_of [] = []
+later_of (l ∷ []) = []
+later_of (l ∷ m ∷ ls) = without_empty_end (m ∷ ls)
+
+ends_onto : (front : List ℕ) (ps : List (List ℕ)) (k : ℕ) → 0 < length front → length ps ≡ k + 1 → without_empty_end (onto front ps) ≡ (front ++ first_of ps) ∷ later_of ps
+ends_onto front [] k some size = absurd (omega (arith, size))
+ends_onto [] (l ∷ ls) k some size = absurd (omega (arith, some))
+ends_onto (c ∷ cs) (l ∷ []) k some size = refl
+ends_onto (c ∷ cs) (l ∷ m ∷ ls) k some size = refl
+
+lines_onto : (front v : List ℕ) → IsLine front → 0 < length front → lines_of (front ++ v) ≡ (front ++ first_of (pieces v)) ∷ later_of (pieces v)
+unfolding lines_of
+lines_onto front v none some =
+    ap without_empty_end (split_onto front v none) ∙ ends_onto front (pieces v) _ some (length-slice_split (λ x. x == 10) v)
+
+long_onto : (front v : List ℕ) → line_limit < length front → is_long (front ++ v) ≡ true
+long_onto front v long = lt-ltb line_limit (length (front ++ v)) (omega (arith, long, length-append front v))
+
+long_loud : (line : List ℕ) → is_long line ≡ true → is_silent line ≡ false
+long_loud line long = rw long refl
+
+pub long_item : (n : ℕ) (line : List ℕ) → is_long line ≡ true → item_of_line n line ≡ Long
+unfolding held
+long_item n line long = rw long refl
+
+pub short_item : (n : ℕ) (line : List ℕ) → is_long line ≡ false → item_of_line n line ≡ Line line
+unfolding held
+short_item n line short =
+    let group : Group = record { line = line; more = [] } in
+    ap (λ (b : Bool). cond b Long (held_as n (asked n line) group)) short ∙ ap (λ (k : ℕ). held_as n k group) (asked_none n line)
+
+held_long : (n : ℕ) (line : List ℕ) (ls : List (List ℕ)) → is_long line ≡ true → map (held n) (groups_from n 0 (line ∷ ls)) ≡ Long ∷ map (held n) (groups_from n 0 ls)
+held_long n line ls long =
+    ap (map (held n)) (groups_loud n line ls (long_loud line long)) ∙ ap (λ (i : Item). i ∷ map (held n) (groups_from n 0 ls)) (long_item n line long)
+
+held_onto : (n : ℕ) (front v : List ℕ) → IsLine front → line_limit < length front → items_of n (front ++ v) ≡ Long ∷ map (held n) (groups_from n 0 (later_of (pieces v)))
+unfolding items_of
+held_onto n front v none long =
+    rw (lines_onto front v none (omega (arith, long))) (held_long n (front ++ first_of (pieces v)) (later_of (pieces v)) (long_onto front (first_of (pieces v)) long))
+
+-- the whole lines, where a front goes onto the first
+lasts_onto : (front : List ℕ) (ps : List (List ℕ)) → without_last (onto front ps) ≡ onto front (without_last ps)
+lasts_onto front [] = refl
+lasts_onto front (l ∷ []) = refl
+lasts_onto front (l ∷ m ∷ ls) = refl
+
+whole_onto : (front v : List ℕ) → IsLine front → whole_lines (front ++ v) ≡ onto front (whole_lines v)
+unfolding whole_lines
+whole_onto front v none = ap without_last (split_onto front v none) ∙ lasts_onto front (pieces v)
+
+abbrev whole_from : ℕ → List (List ℕ) → List Item
+whole_from n ls = map (held n) (filter (is_complete n) (groups_from n 0 ls))
+
+whole_long : (n : ℕ) (line : List ℕ) (ls : List (List ℕ)) → is_long line ≡ true → whole_from n (line ∷ ls) ≡ Long ∷ whole_from n ls
+whole_long n line ls long =
+    ap (λ (g : List Group). map (held n) (filter (is_complete n) g)) (groups_loud n line ls (long_loud line long))
+    ∙ ap (map (held n)) (complete_first n line (groups_from n 0 ls)) ∙ ap (λ (i : Item). i ∷ whole_from n ls) (long_item n line long)
+
+whole_swap : (n : ℕ) (a b : List ℕ) (ls : List (List ℕ)) → line_limit < length a → line_limit < length b → whole_from n (onto a ls) ≡ whole_from n (onto b ls)
+whole_swap n a b [] long_a long_b = refl
+whole_swap n a b (l ∷ ls) long_a long_b = whole_long n (a ++ l) ls (long_onto a l long_a) ∙ sym (whole_long n (b ++ l) ls (long_onto b l long_b))
+
+whole_same : (n : ℕ) (a b v : List ℕ) → IsLine a → IsLine b → line_limit < length a → line_limit < length b → whole_items n (a ++ v) ≡ whole_items n (b ++ v)
+unfolding whole_items
+whole_same n a b v is_a is_b long_a long_b =
+    rw (whole_onto a v is_a, whole_onto b v is_b) (whole_swap n a b (whole_lines v) long_a long_b)
+
+line_front : (m : ℕ) (text : List ℕ) → IsLine text → IsLine (take m text)
+line_front m text none = λ j d below. let less : j < m = omega (arith, below, length-take m text) in rw (get_or-take m text j d less) (none j d (omega (arith, below, length-take m text)))
+
+-- of a line that is too long any other such may be kept
+pub gives_long : (n : ℕ) (a b : List ℕ) → IsLine a → IsLine b → line_limit < length a → line_limit < length b → Gives false n [] a b
+gives_long n a b is_a is_b long_a long_b = record {
+  all = λ v may. held_onto n a v is_a long_a ∙ sym (held_onto n b v is_b long_b);
+  whole = λ open_ v. whole_same n a b v is_a is_b long_a long_b;
+}
+
+-- of a text with no newline so much may be kept
+pub gives_kept : (n m : ℕ) (text : List ℕ) → IsLine text → (m < length text → line_limit < m) → Gives false n [] text (take m text)
+gives_kept n m text none enough = elim (bool_cases (nat_lt m (length text))) [
+  | inl long ↦
+      let past : m < length text = ltb-true m (length text) long in
+      let over : line_limit < m = enough past in
+      gives_long n text (take m text) none (line_front m text none) (omega (arith, past, over)) (omega (arith, past, over, length-take m text))
+  | inr short ↦ rw (take_all m text (ltb-false m (length text) short)) (gives_none false n text)
+]
+
+-- a piece behind what is kept of a rest with no whole item
+pub fed : (s : Unread) (old bytes joined piece new : List ℕ) (m : ℕ) → old ≡ s.rest → begins_silent old ≡ false → whole_items s.level s.rest ≡ [] →
+    bytes ≡ take m old → (m < length old → line_limit < m) → joined ≡ bytes ++ piece → ((n : ℕ) → Gives false n [] joined new) →
+    Gives false s.level [] (s.rest ++ piece) new
+fed s old bytes joined piece new m rest loud none kept enough all read =
+    let n = s.level in
+    let line : IsLine old = rest_line n old loud (ap (whole_items n) rest ∙ none) in
+    let first : Gives false n [] (old ++ piece) (take m old ++ piece) = gives_fed n [] old (take m old) piece (gives_kept n m old line enough) in
+    let same : take m old ++ piece ≡ joined = sym (all ∙ ap (λ (l : List ℕ). l ++ piece) kept) in
+    let P : List ℕ → Type 0 = λ (l : List ℕ). Gives false n [] (l ++ piece) new in
+    let Q : List ℕ → Type 0 = λ (l : List ℕ). Gives false n [] (old ++ piece) l in
+    subst P rest (gives_then false n [] [] (old ++ piece) joined new (subst Q same first) (read n))

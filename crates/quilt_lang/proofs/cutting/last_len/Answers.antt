@@ -1,0 +1,16 @@
+use Rattle.std.proofs.Common.{sym, ◌∙◌}
+use Rattle.quilt_lang.proofs.Pieces.{gives_part, none_ended, none_open}
+use Rattle.quilt_lang.proofs.cutting.last_len.Goals as goal
+use Rattle.quilt_lang.proofs.cutting.last_len.Goals.{then-not-ended-via-then-not-ended, then-not-ended-via-else-not-ended+then-is_silent_line}
+
+pub returns-then-not-ended-clause-found : goal.returns-then-not-ended-clause-found
+returns-then-not-ended-clause-found c = λ n.
+    elim c.then-not-ended.branch [
+      | then-not-ended-via-then-not-ended w ↦
+          rw w.if-not-ended.true (none_open n c.args.text.now c.requires)
+      | then-not-ended-via-else-not-ended+then-is_silent_line w ↦ none_ended c.args.ended n c.args.text.now c.requires (sym w.is_silent_line.ensures ∙ w.if-is_silent_line.true)
+    ]
+
+pub returns-clause-found : goal.returns-clause-found
+returns-clause-found c = λ n.
+    rw c.if-not-ended.false (gives_part n c.args.text.now c.requires (sym c.is_silent_line.ensures ∙ c.if-is_silent_line.false))

@@ -1,0 +1,6 @@
+use Rattle.std.proofs.Common.{arith}
+use Rattle.quilt_lang.proofs.LineLaws.{begins_nothing}
+use Rattle.quilt_lang.proofs.lines.Lines.new.Goals as goal
+
+pub invariant_of-result : goal.invariant_of-result
+invariant_of-result c = (omega arith, rw c.new.ensures.items begins_nothing)

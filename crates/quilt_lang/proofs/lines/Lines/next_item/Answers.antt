@@ -1,0 +1,19 @@
+use Rattle.std.proofs.Common.{◌≡◌, ◌∙◌, ◌+◌, ◌-◌, ap, List, ℕ, take, drop, length}
+use Rattle.quilt_lang.specs.Reading.{Unread}
+use Rattle.quilt_lang.proofs.Slices.{behind}
+use Rattle.quilt_lang.proofs.Pieces.{given}
+use Rattle.quilt_lang.proofs.lines.Lines.next_item.Goals as goal
+
+pub returns-clause-given : goal.returns-clause-given
+returns-clause-given c =
+    let bytes : List ℕ = c.self.inside.bytes.items in
+    let from = c.self.inside.from in
+    let rest : drop from bytes ≡ c.args.self.now.rest = ap (λ (s : Unread). s.rest) c.self.view_is in
+    let now : List ℕ = c.deref.result.now in
+    let same : take (length now - from) (drop from now) ≡ c.args.self.now.rest = rw c.deref.ensures.value (behind from bytes ∙ rest) in
+    let then_ : List ℕ = c.deref-2.result.now in
+    let back : take (length then_ - (from + c.min.result)) (drop (from + c.min.result) then_) ≡ drop (from + c.min.result) bytes =
+    rw c.deref-2.ensures.value (behind (from + c.min.result) bytes) in
+    given c.args.ended c.args.self.now c.in_ok-item.item bytes (take (length then_ - (from + c.min.result)) (drop (from + c.min.result) then_))
+    from c.min.result c.in-Some.k c.silent_front.result rest
+    (rw same at c.in_ok-item.ensures) (rw same at c.in-Some.ensures.found) (rw same at c.min.ensures) back c.silent_front.ensures.gives

@@ -1,0 +1,79 @@
+ghost use Rattle.std.specs.Prelude.{◌≡◌, ◌≤◌, ◌+◌, ℕ, false, [], ◌∷◌, ◌++◌, length, OnOk, OnErr, IfOk, MatchOption};
+ghost use Rattle.quilt_lang.specs.Items.{whole_items};
+ghost use Rattle.quilt_lang.specs.Reading.{Gives, HasNone};
+
+use crate::Item;
+use crate::cutting::{item_of, line_len, silent_front};
+use crate::words::LINE_LIMIT;
+use std::alloc::{AllocError, Global};
+use std::marker::Model;
+
+/// Reads a text in pieces and gives its items. Of a line that is too long it keeps no more than shows that it is.
+#[derive(Drop)]
+pub struct Lines {
+    level: u8,
+    bytes: Vec<u8>,
+    from: usize,
+}
+
+impl Model for Lines {
+    ghost use Rattle.std.specs.Prelude.{◌≡◌, ◌≤◌, false, drop, vec_len};
+    ghost use Rattle.quilt_lang.specs.Reading.{Unread, begins_silent};
+
+    ghost Value = { Unread };
+
+    ghost view = { λ l. record { level = l.level; rest = drop l.from l.bytes.items } };
+
+    ghost invariant = { λ l. (l.from ≤ vec_len l.bytes) × (begins_silent (drop l.from l.bytes.items) ≡ false) };
+}
+
+impl Lines {
+    /// Nothing is read yet. It takes no memory, and keeps the allocator.
+    pub fn new(alloc: Global, level: u8) -> Lines
+        ensures level { result.level ≡ level }
+        ensures empty { result.rest ≡ [] }
+    {
+        Lines {
+            level,
+            bytes: Vec::new(alloc),
+            from: 0,
+        }
+    }
+
+    /// Reads a piece more, where all whole items were given. An Err leaves it as it was.
+    /// It takes time and memory in the piece's length and the 8321 bytes that it may keep.
+    pub fn feed(&mut self, piece: &[u8]) -> Result<(), AllocError>
+        requires { whole_items self.old.level self.old.rest ≡ [] }
+        ensures level { self.new.level ≡ self.old.level }
+        ensures fed { OnOk result (Gives false self.old.level [] (self.old.rest ++ piece.now) self.new.rest) }
+        ensures short { OnOk result (length self.new.rest ≤ 8321 + length piece.now) }
+        ensures err { OnErr result (self.new ≡ self.old) }
+    {
+        let rest = &self.bytes[self.from..];
+        let kept = &rest[..rest.len().min(LINE_LIMIT + 1)];
+        let mut bytes = Vec::from_slice(*self.bytes.allocator(), kept)?;
+        bytes.extend_from_slice(piece)?;
+        self.from = silent_front(&bytes);
+        self.bytes = bytes;
+        Ok(())
+    }
+
+    /// The next item: one whose lines all stand there with their newlines, or, where the input has ended, any.
+    /// An Err leaves it as it was.
+    pub fn next_item(&mut self, ended: bool) -> Result<Option<Item>, AllocError>
+        ensures level { self.new.level ≡ self.old.level }
+        ensures given { IfOk result (λ found. MatchOption found
+            ((self.new.rest ≡ self.old.rest) × HasNone ended self.old.level self.old.rest)
+            (λ item. Gives ended self.old.level (item ∷ []) self.old.rest self.new.rest)) }
+        ensures err { OnErr result (self.new ≡ self.old) }
+    {
+        let rest = &self.bytes[self.from..];
+        let Some(k) = line_len(rest, ended) else {
+            return Ok(None);
+        };
+        let item = item_of(*self.bytes.allocator(), &rest[..k])?;
+        let from = self.from + rest.len().min(k + 1);
+        self.from = from + silent_front(&self.bytes[from..]);
+        Ok(Some(item))
+    }
+}

@@ -1,0 +1,30 @@
+ghost use Rattle.std.specs.Prelude.{◌≡◌, [], flat_map, OnOk, IfOk};
+ghost use Rattle.quilt_lang.specs.Items.{items_of};
+ghost use Rattle.quilt_lang.specs.Taking.{Takes};
+
+use crate::{Item, Lines};
+use std::alloc::{AllocError, Global};
+
+/// The items of a text that comes in pieces. They do not depend on how it is cut.
+pub fn items_in(alloc: Global, level: u8, pieces: &[&[u8]]) -> Result<Vec<Item>, AllocError>
+    ensures { IfOk result (λ items. items.items ≡ items_of level (flat_map (λ piece. piece.now) pieces.now)) }
+{
+    let mut lines = Lines::new(alloc, level);
+    let mut items = Vec::new(alloc);
+    for piece in pieces {
+        lines.feed(piece)?;
+        take_items(&mut lines, false, &mut items)?;
+    }
+    take_items(&mut lines, true, &mut items)?;
+    Ok(items)
+}
+
+/// Takes all items that can be given.
+fn take_items(lines: &mut Lines, ended: bool, items: &mut Vec<Item>) -> Result<(), AllocError>
+    ensures { OnOk result (Takes ended lines.old lines.new items.old.items items.new.items) }
+{
+    while let Some(item) = lines.next_item(ended)? {
+        items.push(item)?;
+    }
+    Ok(())
+}

@@ -1,0 +1,55 @@
+use crate::{Command, Item, Pairs, ParseErr, items_in, parse, refusal_text};
+use quilt_types::{Code, Colour};
+use std::alloc::Global;
+use std::test::Fail;
+
+/// The refusal of the one item of a text, or none.
+fn refused(alloc: Global, text: &[u8]) -> Result<Option<Code>, Fail> {
+    let items = items_in(alloc, 3, &[text])?;
+    let item = items.first().ok_or("no item")?;
+    match parse(alloc, item) {
+        Ok(_) => Ok(None),
+        Err(ParseErr::No(code)) => Ok(Some(code)),
+        Err(ParseErr::Memory) => Err(Fail::from("memory")),
+    }
+}
+
+#[test]
+fn refuses_by_form(rt: HostRuntime) -> Result<(), Fail> {
+    let alloc = rt.alloc();
+    assert_eq!(rt; refused(alloc, b"set nosuch 99 x 1\n")?, Some(Code::Number));
+    assert_eq!(rt; refused(alloc, b"set nosuch 99 0 1\n")?, None);
+    assert_eq!(rt; refused(alloc, b"frob\n")?, Some(Code::Word));
+    assert_eq!(rt; refused(alloc, b"at\n")?, Some(Code::Count));
+    assert_eq!(rt; refused(alloc, b"region 9a 0\n")?, Some(Code::Name));
+    assert_eq!(rt; refused(alloc, b"region a 256\n")?, Some(Code::Number));
+    assert_eq!(rt; refused(alloc, b"region\ta 0\n")?, Some(Code::Bytes));
+    assert_eq!(rt; refused(alloc, b"  edition")?, None);
+    Ok(())
+}
+
+#[test]
+fn reads_in_pieces(rt: HostRuntime) -> Result<(), Fail> {
+    let alloc = rt.alloc();
+    let mut long = vec![in alloc; b'x'; 8321]?;
+    long.extend_from_slice(b"\n# a remark\n\nshow a 1 2 3 4")?;
+    let pieces: Vec<&[u8]> = long.chunks(1).collect(alloc)?;
+    let items = items_in(alloc, 3, &pieces)?;
+    assert_eq!(rt; items.len(), 2);
+    assert!(rt; matches!(&items[0], Item::Long));
+    match parse(alloc, &items[1]) {
+        Ok(Command::Show { w, .. }) => assert_eq!(rt; (w.x, w.y, w.w, w.h), (1, 2, 3, 4)),
+        _ => assert!(rt; false, "no show"),
+    }
+    Ok(())
+}
+
+#[test]
+fn spells_refusals_and_pairs(rt: HostRuntime) -> Result<(), Fail> {
+    let text = refusal_text(rt.alloc(), Code::Long)?;
+    assert_eq!(rt; text.bytes(), b"no 13 long\n".as_slice());
+    let mut pairs = Pairs::of(Colour(1), Colour(2));
+    pairs.push(Colour(3), Colour(4));
+    assert_eq!(rt; pairs.items().len(), 2);
+    Ok(())
+}

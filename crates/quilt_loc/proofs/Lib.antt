@@ -1,0 +1,10 @@
+pub mod Blocks
+pub mod CodeLaws
+pub mod Intervals
+pub mod Members
+pub mod Nesting
+pub mod Once
+pub mod Quartered
+pub mod Rising
+pub mod Rows
+pub mod Steps

@@ -1,0 +1,8 @@
+//! Rasters: lists of leaves made of the colours of all pixels, and windows of them as text.
+#![tactic(auto)]
+
+mod reading;
+mod showing;
+
+pub use reading::leaves_of;
+pub use showing::render;

@@ -1,0 +1,30 @@
+-- Numbers in decimal digits.
+use Rattle.std.proofs.Common.{◌≡◌, ◌≢◌, ◌≤◌, ◌+◌, ◌-◌, ◌*◌, ℕ, Bool, true, false, ◌&&◌, not, List, [], ◌∷◌, length, get_or, take, drop, fold, refl, sym, ◌∙◌, ap, arith, take-append-drop}
+use Rattle.std.specs.List.{list_all}
+use Rattle.std.proofs.lemmas.Bool.{ne_eqb}
+use Rattle.std.proofs.lemmas.List.Sums.{fold-append}
+use Rattle.quilt_lang.specs.Spelling.{is_digit, is_spelled, value_of}
+
+and_one : (b : Bool) → b ≡ (b && true)
+and_one true = refl
+and_one false = refl
+
+-- with no zero in front, digits alone decide
+pub is_spelled_by_digits : (w : List ℕ) → 1 ≤ length w → get_or w 0 0 ≢ 48 → is_spelled w ≡ list_all is_digit w
+is_spelled_by_digits [] some ne = absurd (omega arith)
+is_spelled_by_digits (c ∷ []) some ne = and_one (is_digit c)
+is_spelled_by_digits (c ∷ d ∷ cs) some ne = ap (λ b. not b && list_all is_digit (c ∷ d ∷ cs)) (ne_eqb c 48 ne)
+
+-- one digit more
+abbrev pub shifted : ℕ → ℕ → ℕ
+shifted v c = 10 * v + (c - 48)
+
+fold_grows : (v : ℕ) (cs : List ℕ) → v ≤ fold shifted v cs
+fold_grows v [] = omega arith
+fold_grows v (c ∷ cs) = omega (arith, fold_grows (shifted v c) cs)
+
+pub value_of-take : (k : ℕ) (cs : List ℕ) → value_of (take k cs) ≤ value_of cs
+value_of-take k cs =
+    let whole : value_of cs ≡ fold shifted (value_of (take k cs)) (drop k cs) =
+    sym (ap (fold shifted 0) (take-append-drop k cs)) ∙ fold-append shifted 0 (take k cs) (drop k cs) in
+    omega (arith, whole, fold_grows (value_of (take k cs)) (drop k cs))

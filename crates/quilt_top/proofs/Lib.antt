@@ -1,0 +1,5 @@
+pub mod Digits
+pub mod Lines
+pub mod Making
+pub mod Said
+pub mod Tables

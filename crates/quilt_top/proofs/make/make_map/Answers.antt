@@ -1,0 +1,38 @@
+use Rattle.std.proofs.Common.{ℕ, ◌+◌, ◌*◌, List, Ok, ◌∙◌, ap, subst, arith}
+use Rattle.quilt_world.specs.Causes.{Rose}
+use Rattle.quilt_world.specs.Doors.{made}
+use Rattle.quilt_world.specs.Tale.{Goes}
+use Rattle.quilt_world.proofs.Told.{goes_now}
+use Rattle.quilt_edition.specs.Creating.{IsBlank}
+use Rattle.quilt_top.specs.Saying.{Says, SaysFront}
+use Rattle.quilt_top.proofs.Making.{made_blank, create_stopped, put_stopped, all_done, where_not_ok}
+use Rattle.quilt_top.proofs.make.make_map.Goals as goal
+
+pub create-requires-clause-blank : goal.create-requires-clause-blank
+create-requires-clause-blank g c =
+    let is = c.in-Ok.ensures.door ∙ ap (λ m. made (Ok m)) c.in-Ready.is in
+    goes_now _ IsBlank _ _ c.make.ensures.tale (λ t u makes. made_blank c.args.path.now (3 + 2 * c.args.pages) _ t u is makes)
+
+pub returns-in_default-create-clause-promises : goal.returns-in_default-create-clause-promises
+returns-in_default-create-clause-promises g c =
+    let is = c.in-Ok.ensures.door ∙ ap (λ m. made (Ok m)) c.in-Ready.is in
+    let rose : Rose _ _ = where_not_ok _ _ c.create.ensures.cause.failed c.in_default-create.not-Ok in
+    create_stopped c.args.path.now c.args.pages c.args.level _ is _ _ c.create.ensures.door (omega (arith, c.make.ensures.cause.later, rose)) _ _ _
+    c.make.ensures.tale c.create.ensures.crash
+
+pub returns-in_default-put_all-clause-promises : goal.returns-in_default-put_all-clause-promises
+returns-in_default-put_all-clause-promises g c =
+    let is = c.in-Ok.ensures.door ∙ ap (λ m. made (Ok m)) c.in-Ready.is in
+    let rose : Rose _ _ = where_not_ok _ _ c.put_all.ensures.cause.failed c.in_default-put_all.not-Ok in
+    let part = where_not_ok _ _ c.put_all.ensures.part c.in_default-put_all.not-Ok in
+    let says = subst (λ (line : List ℕ). Goes (SaysFront line) (g.W.Disk.told c.create.new.disk) (g.W.Disk.told c.put_all.new.world)) c.requires.line part in
+    put_stopped c.args.path.now c.args.pages c.args.level _ is _ _ (c.put_all.ensures.door ∙ c.create.ensures.door)
+    (omega (arith, c.make.ensures.cause.later, c.create.ensures.cause.later, rose)) _ _ _ _
+    c.make.ensures.tale c.create.ensures.crash c.in-Ok-create.ensures.created says
+
+pub returns-clause-promises : goal.returns-clause-promises
+returns-clause-promises g c =
+    let is = c.in-Ok.ensures.door ∙ ap (λ m. made (Ok m)) c.in-Ready.is in
+    let says = subst (λ (line : List ℕ). Goes (Says line) (g.W.Disk.told c.create.new.disk) (g.W.Disk.told c.put_all.new.world)) c.requires.line c.in-Ok-put_all.ensures.said in
+    all_done c.args.path.now c.args.pages c.args.level _ is _ _ _ (c.put_all.ensures.door ∙ c.create.ensures.door) _ _ _ _
+    c.make.ensures.tale c.create.ensures.crash c.in-Ok-create.ensures.created says (g.met.W.Disk.is_consistent c.put_all.new.world)

@@ -1,0 +1,4 @@
+pub mod Ends
+pub mod Headline
+pub mod Saying
+pub mod Words

@@ -1,0 +1,9 @@
+//! The whole run: what the words of the command line ask for is done over a world, which is handed back.
+#![tactic(auto)]
+
+mod make;
+mod output;
+mod run;
+mod words;
+
+pub use run::{End, run_quilt};

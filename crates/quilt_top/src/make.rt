@@ -1,0 +1,52 @@
+ghost use Rattle.std.specs.Prelude.{◌≡◌, ◌≢◌, ◌≤◌, Some, IfOk, string_bytes};
+ghost use Rattle.quilt_world.specs.Causes.{Rose};
+ghost use Rattle.quilt_world.specs.declared.disk.Door.TheVariants as doors;
+ghost use Rattle.quilt_top.specs.declared.run.End.TheVariants as ends;
+ghost use Rattle.quilt_top.specs.Words.{New};
+ghost use Rattle.quilt_top.specs.Headline.{KeepsPromises, WhereTold, HasEndCause, new_line};
+
+use crate::output::put_all;
+use crate::run::End;
+use quilt_edition::create;
+use quilt_world::{Made, World};
+use std::alloc::{AllocError, Global};
+
+/// The line that tells of a new file.
+pub(crate) fn new_line(alloc: Global, pages: u32, level: u8) -> Result<String, AllocError>
+    ensures { IfOk result (λ line. string_bytes line ≡ new_line pages level) }
+{
+    format!(in alloc; "new {pages} pages level {level}\n")
+}
+
+/// Makes a map file of so many home pages, from 16 to 30000, and of a level from 1 to 12, and puts its line.
+pub(crate) fn make_map<W: World>(
+    world: &mut W,
+    path: &str,
+    pages: u32,
+    level: u8,
+    line: &[u8],
+) -> End
+    requires door { W.door world.old ≡ doors.Shut }
+    requires pages { (16 ≤ pages) × (pages ≤ 30000) }
+    requires level { (1 ≤ level) × (level ≤ 12) }
+    requires line { line.now ≡ new_line pages level }
+    ensures cause { HasEndCause (Some (New path.now pages level)) (W.faults world.old) (W.faults world.new) (W.door world.new) result }
+    ensures usage { result ≢ ends.Usage }
+    ensures promises { WhereTold (KeepsPromises (Some (New path.now pages level)) (Rose (W.faults world.old) (W.faults world.new)) (W.door world.new) result)
+        (W.told world.old) (W.told world.new) }
+{
+    let Ok(made) = world.make(path, 3 + 2 * pages) else {
+        return End::Device;
+    };
+    match made {
+        Made::Ready => {}
+        Made::Taken => return End::Taken,
+    }
+    let Ok(()) = create(world, level) else {
+        return End::Device;
+    };
+    let Ok(()) = put_all(world, line) else {
+        return End::Device;
+    };
+    End::Done
+}

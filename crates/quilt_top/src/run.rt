@@ -1,0 +1,92 @@
+ghost use Rattle.std.specs.Prelude.{◌≡◌, map, Option, Some, None};
+ghost use Rattle.quilt_world.specs.declared.disk.Door.TheVariants as doors;
+ghost use Rattle.quilt_world.specs.Causes.{Rose};
+ghost use Rattle.quilt_top.specs.Ends.{status_of};
+ghost use Rattle.quilt_top.specs.Words.{asked_for};
+ghost use Rattle.quilt_top.specs.Headline.{KeepsPromises, WhereTold, IsUsage, HasEndCause};
+
+use crate::make::{make_map, new_line};
+use crate::words::new_file;
+use quilt_world::World;
+use std::alloc::Global;
+use std::thread::Threads;
+
+/// How a run ends.
+#[derive(Clone, Copy, Debug, PartialEq, Eq)]
+pub enum End {
+    /// All was done.
+    Done,
+    /// The input was read to its end, and some command was refused.
+    Refused,
+    /// The words are not in the table.
+    Usage,
+    /// A call of the world failed.
+    Device,
+    /// Memory was refused.
+    Memory,
+    /// The file is no map file.
+    NotMap,
+    /// There is no such file.
+    Missing,
+    /// The file that is to be made is there.
+    Taken,
+    /// More input than a run may take.
+    TooMuch,
+    /// The file stands for no edition. The page is a home page.
+    Damaged { page: u32 },
+}
+
+impl End {
+    /// The exit status, from 0 to 9.
+    pub fn status(&self) -> u8
+        ensures { result ≡ status_of self.now }
+    {
+        match self {
+            End::Done => 0,
+            End::Refused => 1,
+            End::Usage => 2,
+            End::Device => 3,
+            End::Memory => 4,
+            End::NotMap => 5,
+            End::Missing => 6,
+            End::Taken => 7,
+            End::TooMuch => 8,
+            End::Damaged { .. } => 9,
+        }
+    }
+}
+
+/// Does all that the program does, by the words after its name, and hands the world back.
+pub fn run_quilt<'a, R: Threads + Sync, W: World>(
+    rt: &R,
+    alloc: Global,
+    words: &'a [&'a str],
+    world: W,
+) -> (End, W)
+    requires { W.door world ≡ doors.Shut }
+    ensures usage { IsUsage (asked_for (map (λ w. w.now) words.entry.now)) result.0 }
+    ensures untouched { asked_for (map (λ w. w.now) words.entry.now) ≡ None → result.1 ≡ world }
+    ensures cause { HasEndCause (asked_for (map (λ w. w.now) words.entry.now)) (W.faults world) (W.faults result.1) (W.door result.1) result.0 }
+    ensures promises { WhereTold (KeepsPromises (asked_for (map (λ w. w.now) words.entry.now)) (Rose (W.faults world) (W.faults result.1)) (W.door result.1) result.0) (W.told world) (W.told result.1) }
+{
+    let _ = rt;
+    let Some(file) = new_file(words) else {
+        return (End::Usage, world);
+    };
+    // The line is there before the file, so that no refused memory leaves a file half made.
+    let Ok(line) = new_line(alloc, file.pages, file.level) else {
+        return (End::Memory, world);
+    };
+    let mut world = world;
+    let end = make_map(
+        &mut world,
+        file.path,
+        file.pages,
+        file.level,
+        line.as_bytes(),
+    );
+    (end, world)
+}
+
+#[cfg(test)]
+mod tests;
