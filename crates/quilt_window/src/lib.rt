@@ -8,3 +8,6 @@ mod windowing;
 
 pub use shifting::shift;
 pub use windowing::window;
+
+#[cfg(test)]
+mod tests;
