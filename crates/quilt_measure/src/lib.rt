@@ -1,13 +1,8 @@
-// A library with one function.
+//! Measures of region layers by their leaves: areas, leaves by size, and perimeters. They take no memory.
 #![tactic(auto)]
 
-ghost use Rattle.std.specs.Prelude.{◌≡◌};
-ghost use Rattle.quilt_measure.specs.Echo.{echo_of};
+mod bounding;
+mod counting;
 
-// The `ensures` clause is the contract: what `echo` returns is `echo_of` of its argument, a definition
-// in `specs/Echo.antt`, which a caller's clause can cite too.
-pub fn echo(x: usize) -> usize
-    ensures { result ≡ echo_of x }
-{
-    x
-}
+pub use bounding::perimeter;
+pub use counting::{area, histogram};
