@@ -1,4 +1,4 @@
-use Rattle.std.proofs.Common.{◌≡◌, ℕ, sym, ◌∙◌, ap, subst, arith}
+use Rattle.std.proofs.Common.{ℕ, sym, ◌∙◌, ap, subst, arith}
 use Rattle.quilt_types.specs.Plane.{side, IsBlock}
 use Rattle.quilt_types.specs.Layers.{colour_at}
 use Rattle.quilt_loc.proofs.Nesting.{Within-holds}

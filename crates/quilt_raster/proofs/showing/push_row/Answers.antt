@@ -26,21 +26,21 @@ loop-dx-preserved c =
     let behind = c.loop-dx.invariant.behind in
     let run : IsRun n g (w.y + c.args.dy) at c.if-x-end.end c.if-x-end.colour.0 =
     elim c.if-x-end.branch [
-      then-x-end t ↦
-    let leaf = t.leaf_around-leaf in
-    run_is n g (w.y + c.args.dy) at _ _ _ leaf.result.colour t.end-is t.colour-is
-    (run_in n g leaf.result.block (record { x = at; y = w.y + c.args.dy }) leaf.result.colour.0 leaf.ensures.held leaf.ensures.colour)
-    | else-x-end t ↦
-    let differ = t.if-x-end.false in
-    run_is n g (w.y + c.args.dy) at _ _ _ c.loop-dx.colour t.end-is t.colour-is
-    (record { some = ⊎_elim (λ q. q) (λ q. absurd (differ (omega arith))) (cases_lt at c.loop-dx.end); each = c.loop-dx.invariant.colour })
+      | then-x-end t ↦
+          let leaf = t.leaf_around-leaf in
+          run_is n g (w.y + c.args.dy) at _ _ _ leaf.result.colour t.end-is t.colour-is
+          (run_in n g leaf.result.block (record { x = at; y = w.y + c.args.dy }) leaf.result.colour.0 leaf.ensures.held leaf.ensures.colour)
+      | else-x-end t ↦
+          let differ = t.if-x-end.false in
+          run_is n g (w.y + c.args.dy) at _ _ _ c.loop-dx.colour t.end-is t.colour-is
+          (record { some = ⊎_elim (λ q. q) (λ q. absurd (differ (omega arith))) (cases_lt at c.loop-dx.end); each = c.loop-dx.invariant.colour })
     ] in
     let some = run.some in
     let two : c.digit_of.result ∷ c.digit_of-in-loop-dx.result ∷ [] ≡ row c.loop-dx.dx =
     ap₂ (λ a b. a ∷ b ∷ []) c.digit_of.ensures c.digit_of-in-loop-dx.ensures ∙ ap digits (sym (run.each at (omega arith) some)) in
     record {
       front = c.in_ok-push.ensures.ok ∙ ap₂ (λ a b. a ++ b) c.loop-dx.invariant.front two
-    ∙ flat_map_more row c.args.text.now (below c.loop-dx.dx) c.loop-dx.dx ∙ ap (λ l. c.args.text.now ++ flat_map row l) (sym (below_more c.loop-dx.dx));
+          ∙ flat_map_more row c.args.text.now (below c.loop-dx.dx) c.loop-dx.dx ∙ ap (λ l. c.args.text.now ++ flat_map row l) (sym (below_more c.loop-dx.dx));
       behind = omega arith;
       byte = search rules;
       colour = λ x from to. run.each x (omega arith) to;
