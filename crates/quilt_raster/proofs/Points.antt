@@ -1,18 +1,16 @@
--- Single pixels as blocks, and a grid from its own colours.
-use Rattle.std.proofs.Common.{◌≡◌, ℕ, zero, suc, ◌+◌, ◌*◌, ◌<◌, ◌≤◌, [], ◌∷◌, ◌++◌, length, add-one, refl, sym, ◌∙◌, ap, subst, ⊎_elim, arith, lit<}
-use Rattle.std.proofs.lemmas.Bool.{cases_lt}
+-- Single pixels as blocks, runs of one colour in a row, and a grid from its own colours.
+use Rattle.std.proofs.Common.{◌≡◌, ℕ, zero, suc, ◌+◌, ◌*◌, ◌<◌, ◌≤◌, [], ◌∷◌, ◌++◌, length, add-one, refl, sym, ◌∙◌, ap, subst, arith, lit<}
 use Rattle.std.specs.List.{range_with_len}
 use Rattle.quilt_types.specs.declared.plane.Pixel.{Pixel}
 use Rattle.quilt_types.specs.declared.plane.Block.{Block}
 use Rattle.quilt_types.specs.declared.plane.Colour.{Colour}
-use Rattle.quilt_types.specs.Plane.{side, below, whole, parent_of, Holds, IsBlock, Within}
+use Rattle.quilt_types.specs.Plane.{side, below, whole, Holds, IsBlock}
 use Rattle.quilt_types.specs.Layers.{Grid, colour_at}
 use Rattle.quilt_types.specs.Algebra.{grid_of}
 use Rattle.quilt_loc.specs.Codes.{code_at}
 use Rattle.quilt_blocks.specs.Mosaic.{HasColour}
 use Rattle.quilt_loc.proofs.Rows.{grid_of-from, colour_at-pixel_at}
-use Rattle.quilt_loc.proofs.Nesting.{side_pos, IsBlock-parent_of, Within-parent_of}
-use Rattle.quilt_loc.proofs.Quartered.{IsBlock-whole, side_le}
+use Rattle.quilt_loc.proofs.Quartered.{IsBlock-whole}
 use Rattle.quilt_loc.proofs.Intervals.{held_code, origin_code}
 
 -- a pixel with a code below that of the end is one of the square
@@ -40,28 +38,12 @@ only_pixel p q h =
     let ey : q.y ≡ p.y = omega arith in
     λ i. record { x = ex i; y = ey i }
 
-pub Holds-pixel : (p : Pixel) → Holds (pixel_block p) p
-Holds-pixel p = record { left = omega arith; right = omega arith; top = omega arith; bottom = omega arith }
-
--- a wider block of the square around a block
-pub record IsWider (n : ℕ) (b r : Block) : Type 0 where
-  pub block : IsBlock n r
-  pub within : Within b r
-  pub wider : b.side < r.side
-
-pub parent_wider : (n : ℕ) (b r : Block) → IsBlock n b → (b.side ≡ side n → ⊥) → r ≡ parent_of b → IsWider n b r
-parent_wider n b r h small is =
-    let top = side_le n b h in
-    let pos = side_pos n b h in
-    let lt : b.side < side n = ⊎_elim (λ q. q) (λ q. absurd (small (omega arith))) (cases_lt b.side (side n)) in
-    let made : IsWider n b (parent_of b) = record { block = IsBlock-parent_of n b h lt; within = Within-parent_of n b h lt; wider = omega arith } in
-    subst (IsWider n b) (sym is) made
-
 -- the pixels of one row from x to before the end have this colour
 pub record IsRun (n : ℕ) (g : Grid) (y x end c : ℕ) : Type 0 where
   pub some : x < end
   pub each : (z : ℕ) → x ≤ z → z < end → colour_at n g (record { x = z; y = y }) ≡ c
 
+-- the rest of a row in a block of one colour
 pub run_in : (n : ℕ) (g : Grid) (b : Block) (p : Pixel) (c : ℕ) → Holds b p → HasColour n g b c → IsRun n g p.y p.x (b.x + b.side) c
 run_in n g b p c h has =
     let l = h.left in

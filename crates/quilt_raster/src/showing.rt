@@ -4,12 +4,12 @@ ghost use Rattle.quilt_blocks.specs.Mosaic.{HasColour};
 ghost use Rattle.quilt_raster.specs.Showing.{digit, row_digits, shown};
 
 use quilt_blocks::{Leaf, LeafList};
-use quilt_loc::parent;
+use quilt_loc::code_of;
 use quilt_types::{Block, Colour, Pixel, Text, Window};
 use std::alloc::{AllocError, Global};
 
 /// The colours of a window of the square, a line for each row, in two lower-case hexadecimal digits each. It looks up
-/// each leaf once a row, by a few binary searches.
+/// each leaf once a row, by a binary search.
 pub fn render(alloc: Global, list: &LeafList, w: Window) -> Result<Text, AllocError>
     requires in_x { w.x + w.w ≤ side list.now.level }
     requires in_y { w.y + w.h ≤ side list.now.level }
@@ -47,8 +47,7 @@ fn push_row(text: &mut Text, list: &LeafList, w: Window, dy: u16) -> Result<(), 
     Ok(())
 }
 
-/// The widest block of one colour that holds the pixel, with its colour. It tests a block of each side up to the one after
-/// it.
+/// The leaf that holds the pixel, by a binary search: the last that begins at its code or before.
 fn leaf_around(list: &LeafList, p: Pixel) -> Leaf
     requires in_x { p.x < side list.now.level }
     requires in_y { p.y < side list.now.level }
@@ -56,22 +55,19 @@ fn leaf_around(list: &LeafList, p: Pixel) -> Leaf
     ensures held { Holds result.block p }
     ensures colour { HasColour list.now.level list.now.grid result.block result.colour.0 }
 {
-    let level = list.level();
-    let mut leaf = Leaf {
-        block: Block {
-            x: p.x,
-            y: p.y,
-            side: 1,
-        },
-        colour: list.colour_at(p),
-    };
-    while let Some(block) = parent(leaf.block, level) {
-        match list.uniform_in(block) {
-            Some(colour) => leaf = Leaf { block, colour },
-            None => return leaf,
+    let mut low = 0;
+    let mut high = list.len();
+    let code = code_of(p);
+    while high - low > 1 {
+        let middle = low + (high - low) / 2;
+        let Block { x, y, .. } = list.leaf(middle).block;
+        if code_of(Pixel { x, y }) <= code {
+            low = middle;
+        } else {
+            high = middle;
         }
     }
-    leaf
+    list.leaf(low)
 }
 
 /// The lower-case hexadecimal digit of a number below 16.

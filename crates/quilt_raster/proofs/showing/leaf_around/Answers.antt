@@ -1,50 +1,59 @@
-use Rattle.std.proofs.Common.{ℕ, sym, ◌∙◌, ap, subst, arith}
-use Rattle.quilt_types.specs.Plane.{side, IsBlock}
-use Rattle.quilt_types.specs.Layers.{colour_at}
-use Rattle.quilt_loc.proofs.Nesting.{Within-holds}
-use Rattle.quilt_loc.proofs.Quartered.{side_le}
-use Rattle.quilt_raster.proofs.Points.{IsBlock-pixel, Holds-pixel, only_pixel, IsWider, parent_wider}
+use Rattle.std.proofs.Common.{ℕ, sym, subst, arith}
+use Rattle.quilt_types.specs.declared.plane.Block.{Block}
+use Rattle.quilt_types.specs.Plane.{Holds}
+use Rattle.quilt_loc.proofs.Blocks.{side_most}
+use Rattle.quilt_blocks.specs.Cutting.{pair_of}
+use Rattle.quilt_raster.proofs.Places.{first_code, held_at}
 use Rattle.quilt_raster.proofs.showing.leaf_around.Goals as goal
 
-pub loop-block-init : goal.loop-block-init
-loop-block-init c =
+pub loop-high-init : goal.loop-high-init
+loop-high-init c =
     let n = c.args.list.now.level in
     let g = c.args.list.now.grid in
-    let p = c.args.p in
+    let most = c.len-high.ensures.raster.most in
+    let long = c.len-high.ensures.value in
+    let some = c.len-high.ensures.some in
     record {
-      block = IsBlock-pixel n p c.requires.in_x c.requires.in_y;
-      held = Holds-pixel p;
-      colour = record { each = λ q h. ap (colour_at n g) (only_pixel p q h) ∙ sym c.colour_at.ensures };
+      some = omega arith;
+      inside = omega arith;
+      from = λ d. let z = first_code n g most d (omega arith) in omega arith;
+      to = λ d lt. absurd (omega arith);
     }
 
-pub parent-requires-clause-valid : goal.parent-requires-clause-valid
-parent-requires-clause-valid c = subst (λ (k : ℕ). IsBlock k c.loop-block.leaf.block) (sym c.level-level.ensures.value) c.loop-block.invariant.block
-
-wider : (c : goal.In-Some) → IsWider c.args.list.now.level c.loop-block.leaf.block c.in-Some.block
-wider c =
-    parent_wider c.args.list.now.level c.loop-block.leaf.block c.in-Some.block c.loop-block.invariant.block
-    (λ e. let f = c.in-Some.ensures.whole.1 (e ∙ ap side (sym c.level-level.ensures.value)) in cc) c.in-Some.ensures.value
-
-pub uniform_in-requires : goal.uniform_in-requires
-uniform_in-requires c = (wider c).block
-
-wider_leaf : (c : goal.In-Some-uniform_in) → IsWider c.args.list.now.level c.loop-block.leaf.block c.in-Some.block
-wider_leaf c =
-    parent_wider c.args.list.now.level c.loop-block.leaf.block c.in-Some.block c.loop-block.invariant.block
-    (λ e. let f = c.in-Some.ensures.whole.1 (e ∙ ap side (sym c.level-level.ensures.value)) in cc) c.in-Some.ensures.value
-
-pub loop-block-smaller : goal.loop-block-smaller
-loop-block-smaller c =
-    let w = wider_leaf c in
-    let more = w.wider in
-    let top = side_le c.args.list.now.level c.in-Some.block w.block in
+pub code_of-code-requires-clause-in_x : goal.code_of-code-requires-clause-in_x
+code_of-code-requires-clause-in_x c =
+    let m = side_most c.args.list.now.level c.len-high.ensures.raster.most in
+    let r = c.requires.in_x in
     omega arith
 
-pub loop-block-preserved : goal.loop-block-preserved
-loop-block-preserved c =
-    let w = wider_leaf c in
-    record {
-      block = w.block;
-      held = Within-holds c.loop-block.leaf.block c.in-Some.block c.args.p w.within c.loop-block.invariant.held;
-      colour = c.in-Some-uniform_in.ensures.colour;
-    }
+pub code_of-code-requires-clause-in_y : goal.code_of-code-requires-clause-in_y
+code_of-code-requires-clause-in_y c =
+    let m = side_most c.args.list.now.level c.len-high.ensures.raster.most in
+    let r = c.requires.in_y in
+    omega arith
+
+pub code_of-requires-clause-in_x : goal.code_of-requires-clause-in_x
+code_of-requires-clause-in_x c =
+    let m = side_most c.args.list.now.level c.len-high.ensures.raster.most in
+    let r = c.leaf-y.ensures.block.in_x in
+    omega arith
+
+pub code_of-requires-clause-in_y : goal.code_of-requires-clause-in_y
+code_of-requires-clause-in_y c =
+    let m = side_most c.args.list.now.level c.len-high.ensures.raster.most in
+    let r = c.leaf-y.ensures.block.in_y in
+    omega arith
+
+pub returns-clause-held : goal.returns-clause-held
+returns-clause-held c =
+    let n = c.args.list.now.level in
+    let g = c.args.list.now.grid in
+    let e = pair_of c.leaf.result in
+    let inv = c.loop-high.invariant in
+    let some = inv.some in
+    let inside = inv.inside in
+    let v = c.code_of-code.ensures.value in
+    let f = inv.from e in
+    let end = c.loop-high-test.false in
+    subst (λ (z : Block × ℕ). Holds z.0 c.args.p) (sym c.leaf.ensures.value)
+    (held_at n g c.len-high.ensures.raster.most c.args.p c.loop-high.low c.loop-high.high e c.requires.in_x c.requires.in_y some (omega arith) inside (omega arith) (λ lt. let t = inv.to e lt in omega arith))

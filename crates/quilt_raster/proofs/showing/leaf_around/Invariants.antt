@@ -1,14 +1,16 @@
-use Rattle.std.proofs.Common.{◌-◌}
-use Rattle.quilt_types.specs.Plane.{side, Holds, IsBlock}
-use Rattle.quilt_blocks.specs.Mosaic.{HasColour}
+use Rattle.std.proofs.Common.{ℕ, ◌<◌, ◌≤◌, ◌-◌, length, get_or}
+use Rattle.quilt_types.specs.declared.plane.Block.{Block}
+use Rattle.quilt_loc.specs.Codes.{code_from}
+use Rattle.quilt_blocks.specs.Cutting.{leaves_by_code}
 use Rattle.quilt_raster.proofs.showing.leaf_around.Given as goal
 
-abbrev pub invariant-loop-block : goal.invariant-loop-block
-invariant-loop-block l = record {
-  block : IsBlock l.list.level l.leaf.block;
-  held : Holds l.leaf.block l.fn.p;
-  colour : HasColour l.list.level l.list.grid l.leaf.block l.leaf.colour.0;
+abbrev pub invariant-loop-high : goal.invariant-loop-high
+invariant-loop-high l = record {
+  some : l.low < l.high;
+  inside : l.high ≤ length (leaves_by_code l.list.level l.list.grid);
+  from : (d : Block × ℕ) → code_from (get_or (leaves_by_code l.list.level l.list.grid) l.low d).0 ≤ l.code;
+  to : (d : Block × ℕ) → l.high < length (leaves_by_code l.list.level l.list.grid) → l.code < code_from (get_or (leaves_by_code l.list.level l.list.grid) l.high d).0;
 }
 
-abbrev pub decreases-loop-block : goal.decreases-loop-block
-decreases-loop-block l = side l.list.level - l.leaf.block.side
+abbrev pub decreases-loop-high : goal.decreases-loop-high
+decreases-loop-high l = l.high - l.low
