@@ -1,5 +1,5 @@
 -- A block from its code and depth.
-use Rattle.std.proofs.Common.{◌≡◌, ◌≢◌, ℕ, zero, suc, ◌+◌, ◌-◌, ◌*◌, ◌%◌, ◌^◌, ◌<◌, ◌≤◌, ◌⊎◌, inl, inr, refl, sym, ◌∙◌, ap, subst, arith, one-mul}
+use Rattle.std.proofs.Common.{◌≡◌, ℕ, ◌-◌, ◌*◌, ◌%◌, ◌^◌, ◌<◌, ◌≤◌, inl, inr, sym, ◌∙◌, ap, subst, arith, one-mul}
 use Rattle.std.proofs.Math.Nat.{pow-le-pow_right, mod-eq_of_lt}
 use Rattle.std.proofs.lemmas.Nat.{pow_pos}
 use Rattle.std.proofs.lemmas.Nat.Bits.{bit_at-trailing_zeros, bit_at-pow_other}
@@ -9,7 +9,7 @@ use Rattle.std.specs.Int.Count.{count_trailing_zeros}
 use Rattle.quilt_types.specs.declared.plane.Pixel.{Pixel}
 use Rattle.quilt_types.specs.declared.plane.Block.{Block}
 use Rattle.quilt_types.specs.Plane.{IsBlock}
-use Rattle.quilt_types.specs.Codes.{code, depth}
+use Rattle.quilt_types.specs.Codes.{depth}
 use Rattle.quilt_loc.specs.Codes.{code_at}
 use Rattle.quilt_loc.proofs.CodeLaws.{code_below, code_alone, depth_is}
 use Rattle.quilt_record.specs.declared.key.Key.{Key}

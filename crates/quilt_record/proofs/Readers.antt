@@ -1,17 +1,16 @@
 -- A record that spells a fact is read as that fact alone.
-use Rattle.std.proofs.Common.{◌≡◌, ℕ, ◌≤◌, List, [], Option, Some, None, slice_index, refl, sym, ◌∙◌, ap}
+use Rattle.std.proofs.Common.{◌≡◌, ℕ, ◌≤◌, [], Option, Some, None, slice_index, sym, ◌∙◌, ap}
 use Rattle.std.specs.Prelude.{unwrap_or}
 use Rattle.quilt_types.specs.declared.plane.Block.{Block}
-use Rattle.quilt_types.specs.declared.plane.Colour.{Colour}
 use Rattle.quilt_types.specs.Plane.{IsBlock}
 use Rattle.quilt_types.specs.declared.plane.Point.{Point}
 use Rattle.quilt_types.specs.declared.plane.Seg.{Seg}
-use Rattle.quilt_types.specs.Facts.{Fact, HasColour, IsSegment}
+use Rattle.quilt_types.specs.Facts.{HasColour, IsSegment}
 use Rattle.std.proofs.lemmas.Nat.{from_be_bytes-to_be_bytes_2, from_be_bytes-to_be_bytes_4}
 use Rattle.quilt_record.specs.declared.key.Key.{Key}
 use Rattle.quilt_record.specs.declared.record.Record.{Record}
 use Rattle.quilt_record.specs.Records.{block_key, record_of}
-use Rattle.quilt_record.specs.Blocks.{IsBlockOf, IsNamed}
+use Rattle.quilt_record.specs.Blocks.{IsNamed}
 use Rattle.quilt_record.specs.Canonical.{IsRecordOf, point_fact, pair_fact}
 use Rattle.quilt_record.specs.Values.{held_of, id_of, segment_of}
 

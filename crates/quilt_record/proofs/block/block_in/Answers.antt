@@ -1,4 +1,4 @@
-use Rattle.std.proofs.Common.{◌≡◌, ◌-◌, ◌≤◌, ◌<◌, true, false, ◌∙◌, sym, ap, subst, arith, Some}
+use Rattle.std.proofs.Common.{◌≡◌, ◌-◌, true, false, ◌∙◌, sym, ap, subst, arith, Some}
 use Rattle.quilt_types.specs.Plane.{IsBlock}
 use Rattle.quilt_record.proofs.BlockKeys.{key_of_block, named_block, read_block, shifted}
 use Rattle.quilt_record.proofs.block.block_in.Goals as goal

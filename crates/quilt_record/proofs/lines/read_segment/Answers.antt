@@ -1,4 +1,4 @@
-use Rattle.std.proofs.Common.{◌≡◌, ℕ, ◌≤◌, true, false, Option, Some, None, ◌∙◌, sym, ap, subst}
+use Rattle.std.proofs.Common.{◌≡◌, ◌≤◌, true, false, Some, ◌∙◌, sym, subst}
 use Rattle.quilt_types.specs.Facts.{IsSegment}
 use Rattle.quilt_record.specs.Canonical.{IsRecordOf}
 use Rattle.quilt_record.proofs.Readers.{segment_key, segment_ends, segment_again}

@@ -1,5 +1,4 @@
-use Rattle.std.proofs.Common.{◌≡◌, ℕ, true, false, Option, Some, None, ◌∙◌, sym, ap, subst}
-use Rattle.quilt_types.specs.declared.plane.Block.{Block}
+use Rattle.std.proofs.Common.{◌≡◌, true, false, Some, ◌∙◌, sym, subst}
 use Rattle.quilt_record.specs.Canonical.{IsRecordOf, point_fact}
 use Rattle.quilt_record.proofs.Readers.{pair_same, point_named, point_held, point_again}
 use Rattle.quilt_record.proofs.points.read_point.Goals as goal

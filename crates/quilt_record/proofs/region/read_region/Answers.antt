@@ -1,6 +1,4 @@
-use Rattle.std.proofs.Common.{◌≡◌, true, false, Some, None, ◌∙◌, sym, ap, slice_index}
-use Rattle.quilt_types.specs.declared.plane.Block.{Block}
-use Rattle.quilt_types.specs.declared.plane.Colour.{Colour}
+use Rattle.std.proofs.Common.{◌≡◌, true, false, Some, ◌∙◌, sym}
 use Rattle.quilt_record.proofs.Readers.{pair_same, region_named, region_colour, region_again}
 use Rattle.quilt_record.proofs.region.read_region.Goals as goal
 
