@@ -9,9 +9,8 @@ use Rattle.std.specs.Int.Count.{count_trailing_zeros}
 use Rattle.quilt_types.specs.declared.plane.Pixel.{Pixel}
 use Rattle.quilt_types.specs.declared.plane.Block.{Block}
 use Rattle.quilt_types.specs.Plane.{IsBlock}
-use Rattle.quilt_types.specs.Codes.{depth}
-use Rattle.quilt_loc.specs.Codes.{code_at}
-use Rattle.quilt_loc.proofs.CodeLaws.{code_below, code_alone, depth_is}
+use Rattle.quilt_types.specs.Codes.{code, depth}
+use Rattle.quilt_record.proofs.CodeLaws.{code_below, code_alone, depth_is}
 use Rattle.quilt_record.specs.declared.key.Key.{Key}
 use Rattle.quilt_record.specs.Blocks.{IsBlockOf}
 
@@ -57,7 +56,7 @@ key_of_block n k b h o =
     (omega (arith, d), subst (λ c. c < 16777216) (sym o.code) (code_below b.x b.y))
 
 -- the only block that a key names
-pub named_block : (n : ℕ) (k : Key) (b : Block) (p : Pixel) → n ≤ 12 → IsBlockOf n k b → p.x < 4096 → p.y < 4096 → code_at p ≡ k.code
+pub named_block : (n : ℕ) (k : Key) (b : Block) (p : Pixel) → n ≤ 12 → IsBlockOf n k b → p.x < 4096 → p.y < 4096 → code p.x p.y ≡ k.code
     → record { y = p.y; x = p.x; side = 1 * 2 ^ (n - k.depth) % 65536 } ≡ b
 named_block n k b p h o in_x in_y same =
     let small = in_square n b h o.block in
@@ -68,7 +67,7 @@ named_block n k b p h o in_x in_y same =
     λ i. record { y = (corner i).y; x = (corner i).x; side = side i }
 
 -- the block that was read
-pub read_block : (n : ℕ) (k : Key) (p : Pixel) → n ≤ 12 → k.depth ≤ n → code_at p ≡ k.code → IsBlock n (record { y = p.y; x = p.x; side = 1 * 2 ^ (n - k.depth) % 65536 })
+pub read_block : (n : ℕ) (k : Key) (p : Pixel) → n ≤ 12 → k.depth ≤ n → code p.x p.y ≡ k.code → IsBlock n (record { y = p.y; x = p.x; side = 1 * 2 ^ (n - k.depth) % 65536 })
     → IsBlockOf n k (record { y = p.y; x = p.x; side = 1 * 2 ^ (n - k.depth) % 65536 })
 read_block n k p h low same block =
     let b : Block = record { y = p.y; x = p.x; side = 1 * 2 ^ (n - k.depth) % 65536 } in

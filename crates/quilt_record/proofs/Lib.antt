@@ -1,2 +1,3 @@
 pub mod BlockKeys
+pub mod CodeLaws
 pub mod Readers

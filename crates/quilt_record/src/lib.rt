@@ -3,6 +3,7 @@
 
 mod block;
 mod edits;
+mod interleaving;
 mod key;
 mod lines;
 mod list;
