@@ -1,2 +1,5 @@
+pub mod Blocks
+pub mod Canonical
 pub mod Fits
 pub mod Records
+pub mod Values

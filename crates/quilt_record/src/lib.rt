@@ -1,11 +1,23 @@
 //! Each fact of a map as a record: a key of 12 bytes and a value of 16.
 #![tactic(auto)]
 
+mod block;
+mod edits;
+mod interleaving;
 mod key;
+mod lines;
+mod list;
+mod points;
 mod record;
+mod region;
 
+pub use edits::Edits;
 pub use key::{Key, key_bytes, key_of};
+pub use lines::{pair_record, read_pair, read_segment, segment_record};
+pub use list::RecordList;
+pub use points::{point_record, read_point};
 pub use record::Record;
+pub use region::{read_region, region_record};
 
 #[cfg(test)]
 mod tests;

@@ -1,0 +1,3 @@
+pub mod BlockKeys
+pub mod CodeLaws
+pub mod Readers
