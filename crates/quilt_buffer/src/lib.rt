@@ -5,3 +5,6 @@ mod buffering;
 mod reach;
 
 pub use buffering::buffer;
+
+#[cfg(test)]
+mod tests;
