@@ -1,2 +1,3 @@
 pub mod BlockKeys
+pub mod Entries
 pub mod Readers

@@ -1,5 +1,6 @@
 pub mod Blocks
 pub mod Canonical
+pub mod Catalogs
 pub mod Fits
 pub mod Records
 pub mod Values

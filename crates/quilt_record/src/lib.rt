@@ -2,7 +2,9 @@
 #![tactic(auto)]
 
 mod block;
+mod catalog;
 mod edits;
+mod entry;
 mod key;
 mod lines;
 mod list;
@@ -10,7 +12,9 @@ mod points;
 mod record;
 mod region;
 
+pub use catalog::Catalog;
 pub use edits::Edits;
+pub use entry::Entry;
 pub use key::{Key, key_bytes, key_of};
 pub use lines::{pair_record, read_pair, read_segment, segment_record};
 pub use list::RecordList;
