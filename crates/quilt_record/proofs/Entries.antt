@@ -129,6 +129,7 @@ not_found n m h g = by_case (nat_lt n m) refl g
   where
     at_least : (a b : ℕ) → nat_lt a b ≡ false → b ≤ a
     at_least a b t = grind (arith, nat_tests)
+
     by_case : (b : Bool) → b ≡ nat_lt n m → cond {A = Option ℕ} b (Some n) None ≡ None → m ≡ n
     by_case true e k = cc
     by_case false e k = omega (arith, h, at_least n m (sym e))

@@ -1,3 +1,4 @@
 pub mod BlockKeys
 pub mod Entries
+pub mod Names
 pub mod Readers

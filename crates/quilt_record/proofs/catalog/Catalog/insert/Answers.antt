@@ -7,11 +7,14 @@ use Rattle.quilt_record.proofs.Entries.{placed, place_most, catalog_with}
 use Rattle.quilt_record.proofs.catalog.Catalog.insert.Goals as goal
 
 pub insert-requires : goal.insert-requires
-insert-requires c =
-    (lit< tt,
-    (subst (λ i. i ≤ length c.self.inside.entries.items) (sym (c.place_of-i.ensures ∙ ap (position_or_len (λ f. is_lt (name_cmp c.args.e.name f.name))) c.deref.ensures.0))
-    (place_most (λ f. is_lt (name_cmp c.args.e.name f.name)) c.self.inside.entries.items),
-    subst (λ es. length es < 255) (sym c.self.view_is) c.requires.room))
+insert-requires c = (
+  lit< tt,
+  (
+    subst (λ i. i ≤ length c.self.inside.entries.items) (sym (c.place_of-i.ensures ∙ ap (position_or_len (λ f. is_lt (name_cmp c.args.e.name f.name))) c.deref.ensures.0))
+        (place_most (λ f. is_lt (name_cmp c.args.e.name f.name)) c.self.inside.entries.items),
+    subst (λ es. length es < 255) (sym c.self.view_is) c.requires.room,
+  ),
+)
 
 inserted : (c : goal.After-insert) → c.insert.new.self.items ≡ with_entry c.args.e c.args.self.now
 inserted c =
