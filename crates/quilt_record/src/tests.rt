@@ -1,8 +1,8 @@
 use crate::{
-    Key, RecordList, key_bytes, key_of, pair_record, point_record, read_pair, read_point,
-    read_region, read_segment, region_record, segment_record,
+    Catalog, Entry, Key, RecordList, catalog_record, key_bytes, key_of, pair_record, point_record,
+    read_catalog, read_pair, read_point, read_region, read_segment, region_record, segment_record,
 };
-use quilt_types::{Block, Colour, Pixel, Point, Seg};
+use quilt_types::{Block, Colour, Kind, Name, Pixel, Point, Seg};
 use std::test::Fail;
 
 #[test]
@@ -68,5 +68,23 @@ fn blocks_byte_by_byte(rt: HostRuntime) -> Result<(), Fail> {
     assert_eq!(rt; read_point(&held, 3), Some((b, Some(point))));
     let pair = pair_record(1, b, 3, None);
     assert_eq!(rt; read_pair(&pair, 3), Some((b, None)));
+    Ok(())
+}
+
+#[test]
+fn catalog_byte_by_byte(rt: HostRuntime) -> Result<(), Fail> {
+    let entry = Entry {
+        number: 1,
+        name: Name::of("a").ok_or("a name")?,
+        kind: Kind::Region,
+    };
+    let record = catalog_record(&entry);
+    assert_eq!(rt; record.key.item, 1);
+    let value = [0x61, 0, 0, 0, 0, 0, 0, 0, 0, 0, 0, 0, 1, 0, 0, 0];
+    assert_eq!(rt; record.value.as_slice(), value.as_slice());
+    assert!(rt; read_catalog(&record).is_some());
+    let mut catalog = Catalog::new();
+    catalog.insert(entry);
+    assert_eq!(rt; catalog.entries().len(), 1);
     Ok(())
 }
