@@ -1,7 +1,7 @@
 -- Pixels, blocks and leaves stand in order, so a list in order with the same elements is that list.
-use Rattle.std.proofs.Common.{◌≡◌, ℕ, ◌+◌, ◌%◌, Bool, ◌&&◌, ◌↔◌, List, map, filter, refl, sym, ◌∙◌, ap, ap₂, Contains, Ordering, Less, Equal, Greater, nat_cmp, eqb}
+use Rattle.std.proofs.Common.{◌≡◌, ℕ, ◌+◌, ◌%◌, Bool, ◌&&◌, map, filter, refl, sym, ◌∙◌, ap, ap₂, Contains, Ordering, Less, Equal, Greater, nat_cmp, eqb}
 use Rattle.std.specs.Ordering.{ordering_then}
-use Rattle.std.specs.Cmp.{IsTotalOrder, nat_cmp_total, on_total, tied_itself}
+use Rattle.std.specs.Cmp.{nat_cmp_total, tied_itself}
 use Rattle.std.proofs.lemmas.Nat.{pow_below}
 use Rattle.quilt_types.specs.declared.plane.Pixel.{Pixel}
 use Rattle.quilt_types.specs.declared.plane.Block.{Block}
@@ -10,8 +10,7 @@ use Rattle.quilt_types.specs.Layers.{Grid}
 use Rattle.quilt_types.specs.Quadtrees.{is_uniform, is_maximal, maximal_blocks, coloured, leaves}
 use Rattle.quilt_loc.specs.Codes.{Rises}
 use Rattle.quilt_loc.proofs.Members.{Contains-map_from}
-use Rattle.quilt_measure.proofs.Orders.{block_total}
-use Rattle.quilt_loc.proofs.Rising.{Rises-filter, Rises-map, Rises-flat_map, Rises-range, nat_less, nat_less_from, same_rising}
+use Rattle.quilt_loc.proofs.Rising.{Rises-filter, Rises-map, Rises-flat_map, Rises-range, nat_less, nat_less_from}
 
 pub same_number : (a : ℕ) → nat_cmp a a ≡ Equal
 same_number a = tied_itself nat_cmp_total a

@@ -1,21 +1,20 @@
 -- Sums over the pixels of the square, leaf by leaf.
-use Rattle.std.proofs.Common.{◌≡◌, ℕ, zero, suc, ◌+◌, ◌*◌, ◌^◌, ◌<◌, ◌≤◌, ◌↔◌, Bool, true, false, cond, List, [], ◌∷◌, length, take, map, filter, flat_map, sum_by, count_by, Contains, Equal, Less, Ordering, refl, sym, ◌∙◌, ap, ap₂, subst, arith, eqb}
-use Rattle.std.specs.Cmp.{IsTotalOrder, nat_cmp_total, tied_itself}
-use Rattle.std.specs.Ordering.{nat_cmp, ordering_then}
+use Rattle.std.proofs.Common.{◌≡◌, ℕ, ◌+◌, ◌*◌, ◌≤◌, Bool, true, false, cond, List, [], ◌∷◌, length, take, map, filter, sum_by, Contains, Equal, Less, Ordering, sym, ◌∙◌, ap, ap₂, arith, eqb}
+use Rattle.std.specs.Cmp.{tied_itself}
+use Rattle.std.specs.Ordering.{nat_cmp}
 use Rattle.std.proofs.Math.Nat.{mul-le-mul}
 use Rattle.std.proofs.lemmas.List.{length-take}
-use Rattle.std.proofs.lemmas.List.Sums.{sum_by-cons, sum_by-take-le, count_by-le-length}
+use Rattle.std.proofs.lemmas.List.Sums.{sum_by-take-le, count_by-le-length}
 use Rattle.quilt_types.specs.declared.plane.Pixel.{Pixel}
 use Rattle.quilt_types.specs.declared.plane.Block.{Block}
-use Rattle.quilt_types.specs.Plane.{side, below, pixels, pixels_of, pixel_cmp, block_cmp, in_block, Holds, IsBlock}
+use Rattle.quilt_types.specs.Plane.{side, below, pixels, pixels_of, pixel_cmp, in_block, IsBlock}
 use Rattle.quilt_types.specs.Layers.{Grid, colour_at}
 use Rattle.quilt_types.specs.Quadtrees.{leaves}
 use Rattle.quilt_types.specs.Algebra.{grid_of, area}
-use Rattle.quilt_loc.specs.Codes.{Rises, code_at}
+use Rattle.quilt_loc.specs.Codes.{Rises}
 use Rattle.quilt_loc.proofs.Members.{Contains-map_from, Contains-filter, Contains-filter_from}
 use Rattle.quilt_loc.proofs.Blocks.{side_most, Holds-from, in_block-true, Contains-pixels_of, Contains-pixels_of_from}
-use Rattle.quilt_loc.proofs.Nesting.{side_pos}
-use Rattle.quilt_loc.proofs.Rows.{Contains-pixels, Contains-pixels_from, grid_of-from, length-pixels, colour_at-pixel_at, length-table}
+use Rattle.quilt_loc.proofs.Rows.{Contains-pixels, Contains-pixels_from, grid_of-from, colour_at-pixel_at, length-table}
 use Rattle.quilt_loc.proofs.Rising.{Rises-filter, Rises-map, Rises-flat_map, Rises-range, nat_less, nat_less_from, same_rising}
 use Rattle.quilt_loc.proofs.Intervals.{side_squared}
 use Rattle.quilt_blocks.specs.Cutting.{leaves_by_code, leaf_cmp}

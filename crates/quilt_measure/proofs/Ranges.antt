@@ -1,5 +1,5 @@
 -- Sums over the numbers below another.
-use Rattle.std.proofs.Common.{◌≡◌, ℕ, zero, suc, ◌+◌, ◌*◌, ◌<◌, ◌≤◌, List, [], ◌∷◌, ◌++◌, ⊎_elim, sum_by, add-one, refl, sym, ◌∙◌, ap, ap₂, arith}
+use Rattle.std.proofs.Common.{◌≡◌, ℕ, zero, suc, ◌+◌, ◌*◌, ◌<◌, [], ◌∷◌, ◌++◌, ⊎_elim, sum_by, refl, sym, ◌∙◌, ap, ap₂, arith}
 use Rattle.std.specs.List.{range_with_len}
 use Rattle.std.proofs.lemmas.Bool.{cases_lt}
 use Rattle.std.proofs.lemmas.List.Sums.{sum_by_push}
@@ -44,15 +44,3 @@ below_split f a (suc b) =
     let l = below_suc f (a + b) in
     let r = below_suc (λ t. f (a + t)) b in
     ap (λ z. sum_by f (below z)) e ∙ (omega arith)
-
-pub below_most : (f : ℕ → ℕ) (v n : ℕ) → ((i : ℕ) → f i ≤ v) → sum_by f (below n) ≤ n * v
-below_most f v zero e = omega arith
-below_most f v (suc n) e =
-    let ih = below_most f v n e in
-    let l = below_suc f n in
-    let h = e n in
-    let m : suc n * v ≡ n * v + v = more n v in
-    omega arith
-  where
-    more : (n v : ℕ) → suc n * v ≡ n * v + v
-    more n v = omega arith

@@ -1,6 +1,6 @@
 -- The edges round a leaf, and the perimeter leaf by leaf.
-use Rattle.std.proofs.Common.{◌≡◌, ℕ, zero, suc, ◌+◌, ◌-◌, ◌*◌, ◌^◌, ◌<◌, ◌≤◌, Bool, true, false, cond, ◌&&◌, eqb, eq-eqb, eqb-true, ltb, lt-ltb, ltb-true, List, [], ◌∷◌, length, map, take, filter, flat_map, Contains, count_by, sum_by, All, ⊎_elim, refl, sym, ◌∙◌, ap, ap₂, subst, arith}
-use Rattle.std.specs.Prelude.{ℤ, pos, negsuc, ◌-ℤ◌, nat_abs, if◌then◌else◌}
+use Rattle.std.proofs.Common.{◌≡◌, ℕ, zero, suc, ◌+◌, ◌-◌, ◌*◌, ◌<◌, ◌≤◌, Bool, true, false, cond, ◌&&◌, eqb, eq-eqb, eqb-true, ltb, lt-ltb, ltb-true, List, [], ◌∷◌, length, map, take, filter, sum_by, ⊎_elim, refl, sym, ◌∙◌, ap, ap₂, arith}
+use Rattle.std.specs.Prelude.{pos, negsuc, ◌-ℤ◌, nat_abs, if◌then◌else◌}
 use Rattle.std.proofs.Math.Nat.{mul-le-mul}
 use Rattle.std.proofs.lemmas.Int.{ints}
 use Rattle.std.proofs.lemmas.Bool.{cases_lt, false_from_ne_true, and_from}
@@ -8,9 +8,9 @@ use Rattle.std.proofs.lemmas.List.Elements.{All-from_get_or}
 use Rattle.std.proofs.lemmas.List.Sums.{sum_by-le, sum_by-take-le, length-filter, count_by-le-length}
 use Rattle.quilt_types.specs.declared.plane.Pixel.{Pixel}
 use Rattle.quilt_types.specs.declared.plane.Block.{Block}
-use Rattle.quilt_types.specs.Plane.{side, below, pixels, pixels_of, is_pixel, whole, Holds, IsBlock, Within}
+use Rattle.quilt_types.specs.Plane.{side, below, pixels, pixels_of, is_pixel, IsBlock}
 use Rattle.quilt_types.specs.Layers.{Grid, colour_at}
-use Rattle.quilt_types.specs.Algebra.{difference_of, neighbours, edges_of, perimeter}
+use Rattle.quilt_types.specs.Algebra.{difference_of, edges_of, perimeter}
 use Rattle.quilt_loc.proofs.Blocks.{side_most, Contains-pixels_of_from}
 use Rattle.quilt_loc.proofs.Nesting.{side_pos}
 use Rattle.quilt_loc.proofs.Quartered.{Within-whole}
@@ -18,7 +18,6 @@ use Rattle.quilt_loc.proofs.Rows.{length-pixels}
 use Rattle.quilt_blocks.specs.Mosaic.{HasColour}
 use Rattle.quilt_blocks.specs.Cutting.{leaves_by_code}
 use Rattle.quilt_blocks.proofs.Listed.{held_in}
-use Rattle.quilt_measure.specs.declared.bounding.Side.{Side}
 use Rattle.quilt_measure.specs.declared.bounding.Side.TheVariants.{Left, Right, Top, Bottom}
 use Rattle.quilt_measure.specs.Edges.{pixel, place, differs, bare}
 use Rattle.quilt_measure.proofs.Sums.{sum_by-same, sum_by-plus, sum_by-constant, sum_by-filter_is, sum_by-map_is, sum_by-flat_map_is}

@@ -1,5 +1,5 @@
 -- Sums over lists: with the same members, in two parts, and over the parts of a list of which each member is in one.
-use Rattle.std.proofs.Common.{◌≡◌, ℕ, zero, suc, ◌+◌, ◌*◌, ◌<◌, ◌≤◌, ◌↔◌, Bool, true, false, cond, ◌⊎◌, inl, inr, ⊎_elim, List, [], ◌∷◌, ◌++◌, length, map, filter, flat_map, sum_by, count_by, Contains, refl, sym, ◌∙◌, ap, ap₂, subst, arith}
+use Rattle.std.proofs.Common.{◌≡◌, ℕ, suc, ◌+◌, ◌*◌, ◌↔◌, Bool, true, false, cond, ◌⊎◌, inl, inr, ⊎_elim, List, [], ◌∷◌, length, map, filter, flat_map, sum_by, count_by, Contains, refl, sym, ◌∙◌, ap, ap₂, subst, arith}
 use Rattle.std.proofs.lemmas.List.Sums.{sum_by-cons, sum_by-append}
 use Rattle.quilt_loc.proofs.Members.{Contains-nil, Contains-here, Contains-there, Contains-cons_cases}
 
@@ -113,6 +113,7 @@ module _ {X E : Type 0} (holds : E → X → Bool) (f : X → ℕ) where
       by : (b : Bool) → cond b v 0 ≡ cond {A = ℕ} b 1 0 * v
       by true = omega arith
       by false = omega arith
+
       split : (a b v : ℕ) → (a + b) * v ≡ a * v + b * v
       split a b v = omega arith
 

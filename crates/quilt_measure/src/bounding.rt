@@ -82,13 +82,29 @@ fn behind(b: Block, on: Side, level: u8) -> Option<Block>
     let end = 1 << level;
     match on {
         Side::Left if x == 0 => None,
-        Side::Left => Some(Block { x: x - side, y, side }),
+        Side::Left => Some(Block {
+            x: x - side,
+            y,
+            side,
+        }),
         Side::Right if x + side == end => None,
-        Side::Right => Some(Block { x: x + side, y, side }),
+        Side::Right => Some(Block {
+            x: x + side,
+            y,
+            side,
+        }),
         Side::Top if y == 0 => None,
-        Side::Top => Some(Block { x, y: y - side, side }),
+        Side::Top => Some(Block {
+            x,
+            y: y - side,
+            side,
+        }),
         Side::Bottom if y + side == end => None,
-        Side::Bottom => Some(Block { x, y: y + side, side }),
+        Side::Bottom => Some(Block {
+            x,
+            y: y + side,
+            side,
+        }),
     }
 }
 

@@ -6,3 +6,6 @@ mod counting;
 
 pub use bounding::perimeter;
 pub use counting::{area, histogram};
+
+#[cfg(test)]
+mod tests;

@@ -11,12 +11,11 @@ use Rattle.quilt_types.specs.Algebra.{grid_of}
 use Rattle.quilt_types.specs.Codes.{interleaved}
 use Rattle.quilt_loc.specs.Codes.{code_from, code_to}
 use Rattle.quilt_loc.proofs.Blocks.{side_most}
-use Rattle.quilt_loc.proofs.Nesting.{level_le, side_pos}
-use Rattle.quilt_loc.proofs.Intervals.{code_from_is, code_to_is, code_held, held_code, square_pos}
+use Rattle.quilt_loc.proofs.Nesting.{level_le}
+use Rattle.quilt_loc.proofs.Intervals.{code_from_is, code_to_is, code_held, held_code}
 use Rattle.quilt_blocks.specs.declared.leaf.Leaf.{Leaf}
-use Rattle.quilt_blocks.specs.Cutting.{pair_of}
 use Rattle.quilt_blocks.specs.Mosaic.{HasColour}
-use Rattle.quilt_blocks.specs.Walk.{Walk, IsLeafAt}
+use Rattle.quilt_blocks.specs.Walk.{Walk}
 use Rattle.quilt_blocks.proofs.Listed.{held_in}
 use Rattle.quilt_overlay.specs.declared.operation.Op.{Op}
 use Rattle.quilt_overlay.specs.declared.operation.Op.TheVariants.{Union, Inter, Diff}
@@ -65,13 +64,6 @@ smaller_begins n a b at le ha hb small af at' bf bt start =
     let r = smaller_inside n a b at le ha hb small af at' bf bt in
     let low = r.0 in
     ⊎_elim (λ e. e) (λ e. omega arith) start
-
--- a leaf that a walk gave
-pub IsAt-next : (n : ℕ) (g : Grid) (at next : ℕ) (l : Leaf) → IsLeafAt n g at (pair_of l) → next ≡ at + l.block.side * l.block.side → IsAt n g at next l
-IsAt-next n g at next l h e =
-    let f = h.from in
-    let p = square_pos l.block.side (side_pos n l.block h.block) in
-    record { block = h.block; from = omega arith; to = omega arith; last = omega arith; colour = h.colour }
 
 colour_in : (w : Walk) (n : ℕ) (g : Grid) {code next : ℕ} (l : Leaf) → w.level ≡ n → w.grid ≡ g → IsAt n g code next l → HasColour w.level w.grid l.block l.colour.0
 colour_in w n g l el eg h =

@@ -8,3 +8,6 @@ mod recolouring;
 pub use operation::Op;
 pub use overlaying::overlay;
 pub use recolouring::recolour;
+
+#[cfg(test)]
+mod tests;

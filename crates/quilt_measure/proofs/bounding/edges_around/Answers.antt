@@ -1,4 +1,4 @@
-use Rattle.std.proofs.Common.{◌≡◌, ◌+◌, ◌≤◌, ◌∙◌, ap₂, arith}
+use Rattle.std.proofs.Common.{◌+◌, ◌∙◌, ap₂, arith}
 use Rattle.quilt_loc.proofs.Blocks.{side_most}
 use Rattle.quilt_loc.proofs.Quartered.{side_le}
 use Rattle.quilt_measure.proofs.Rounds.{edges_sum}

@@ -1,4 +1,4 @@
-use Rattle.std.proofs.Common.{◌≡◌, Option, Some, None, sum_by, sym, ◌∙◌, ap}
+use Rattle.std.proofs.Common.{sum_by, sym, ◌∙◌, ap}
 use Rattle.quilt_types.specs.Plane.{below}
 use Rattle.quilt_measure.specs.Edges.{place, differs, behind_of}
 use Rattle.quilt_measure.proofs.Sides.{behind_is, bare_along, bare_along_end}

@@ -1,5 +1,5 @@
-use Rattle.std.proofs.Common.{◌≡◌, ℕ, ◌^◌, ◌<◌, ◌≤◌, ⊎_elim, sym, ◌∙◌, ap, subst, arith, pow_pos, lit<}
-use Rattle.std.specs.Int.{bit_at, Width, w16, trailing_zeros}
+use Rattle.std.proofs.Common.{◌≡◌, ℕ, ◌^◌, ⊎_elim, sym, ◌∙◌, ap, arith, pow_pos}
+use Rattle.std.specs.Int.{bit_at, w16, trailing_zeros}
 use Rattle.std.proofs.lemmas.Bool.{cases_lt}
 use Rattle.std.proofs.lemmas.Nat.Bits.{bit_at-trailing_zeros, bit_at-pow_other}
 use Rattle.quilt_types.specs.Plane.{side}

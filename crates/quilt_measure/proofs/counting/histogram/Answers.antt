@@ -1,4 +1,4 @@
-use Rattle.std.proofs.Common.{◌≡◌, ℕ, ◌+◌, ◌<◌, ◌≤◌, ◌==◌, List, Bool, true, false, cond, eqb, eq-eqb, eqb-true, length, take, get_or, set, count_by, ⊎_elim, sym, ◌∙◌, ap, ap₂, arith}
+use Rattle.std.proofs.Common.{◌≡◌, ℕ, ◌+◌, ◌<◌, ◌≤◌, ◌==◌, List, Bool, cond, eqb, eq-eqb, eqb-true, length, take, get_or, set, count_by, ⊎_elim, sym, ◌∙◌, ap, arith}
 use Rattle.std.proofs.lemmas.Bool.{cases_lt, false_from_ne_true}
 use Rattle.std.proofs.lemmas.List.{take_all, get_or-set_same, get_or-set_other, length-set}
 use Rattle.std.proofs.lemmas.List.Sums.{count_by-le-length, count_by_more_yes, count_by_more_no}
@@ -8,9 +8,6 @@ use Rattle.quilt_loc.proofs.CodeLaws.{pow_same}
 use Rattle.quilt_blocks.specs.Cutting.{leaves_by_code, pair_of}
 use Rattle.quilt_measure.proofs.Parts.{same_leaves, leaves_few, taken_few}
 use Rattle.quilt_measure.proofs.counting.histogram.Goals as goal
-
-
-
 
 pub overflow_add-counts : goal.overflow_add-counts
 overflow_add-counts c =
@@ -31,13 +28,16 @@ counted es e counts i j k lt is room size old lj lk =
   where
     test : ℕ → Block × ℕ → Bool
     test m d = d.0.side == side m
+
     here : get_or es i e ≡ e
     here = sym is
+
     same : k ≡ j → get_or (set counts j (get_or counts j 0 + 1)) k 0 ≡ count_by (λ (d : Block × ℕ). d.0.side == side k) (take (i + 1) es)
     same q =
         ap (λ m. get_or (set counts j (get_or counts j 0 + 1)) m 0) q ∙ get_or-set_same counts j (get_or counts j 0 + 1) 0 room ∙ ap (λ z. z + 1) (old j lj)
         ∙ sym (count_by_more_yes (λ (d : Block × ℕ). d.0.side == side j) es i e lt (eq-eqb _ _ (ap (λ (d : Block × ℕ). d.0.side) here ∙ size)))
         ∙ ap (λ m. count_by (λ (d : Block × ℕ). d.0.side == side m) (take (i + 1) es)) (sym q)
+
     other : (k ≡ j → ⊥) → get_or (set counts j (get_or counts j 0 + 1)) k 0 ≡ count_by (λ (d : Block × ℕ). d.0.side == side k) (take (i + 1) es)
     other q =
         get_or-set_other counts j k (get_or counts j 0 + 1) 0 q ∙ old k lk

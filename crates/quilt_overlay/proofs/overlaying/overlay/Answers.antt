@@ -1,14 +1,13 @@
-use Rattle.std.proofs.Common.{◌≡◌, ℕ, ◌^◌, ◌<◌, ◌≤◌, ◌⊎◌, inl, inr, ⊎_elim, Option, Some, None, List, length, sym, ◌∙◌, ap, subst, arith}
+use Rattle.std.proofs.Common.{◌≡◌, ℕ, ◌^◌, inl, inr, ⊎_elim, length, sym, ◌∙◌, ap, subst}
 use Rattle.quilt_types.specs.declared.plane.Pixel.{Pixel}
 use Rattle.quilt_types.specs.Plane.{IsBlock}
 use Rattle.quilt_types.specs.Layers.{colour_at}
-use Rattle.quilt_loc.specs.Codes.{code_from, code_to}
+use Rattle.quilt_loc.specs.Codes.{code_from}
 use Rattle.quilt_loc.proofs.Blocks.{IsBlock-up}
-use Rattle.quilt_blocks.specs.declared.leaf.Leaf.{Leaf}
 use Rattle.quilt_blocks.specs.Painting.{Painted, grid_by_code}
 use Rattle.quilt_blocks.proofs.Painting.{Paints, Paints-push, Paints-all}
 use Rattle.quilt_overlay.specs.Combining.{combined}
-use Rattle.quilt_overlay.proofs.Fronts.{IsStep, step_of, colour_of, passed_first, passed_second, both_over, IsFront-at, at_some, overlaid_is}
+use Rattle.quilt_overlay.proofs.Fronts.{step_of, colour_of, passed_first, passed_second, both_over, IsFront-at, at_some, overlaid_is}
 use Rattle.quilt_overlay.proofs.overlaying.overlay.Goals as goal
 
 pub push-requires-clause-valid : goal.push-requires-clause-valid
