@@ -1,8 +1,7 @@
-use Rattle.std.proofs.Common.{◌≡◌, ℕ, ◌+◌, ◌*◌, ◌^◌, ◌%◌, ◌<◌, ◌≤◌, length, refl, sym, ◌∙◌, ap, subst, arith, lit<, pow-add}
+use Rattle.std.proofs.Common.{◌≡◌, ℕ, ◌+◌, ◌*◌, ◌^◌, ◌%◌, ◌<◌, ◌≤◌, refl, sym, ap, subst, arith, lit<, pow-add}
 use Rattle.std.proofs.Math.Nat.{pow-le-pow_right}
 use Rattle.quilt_types.specs.declared.plane.Pixel.{Pixel}
-use Rattle.quilt_types.specs.declared.plane.Block.{Block}
-use Rattle.quilt_types.specs.Plane.{side, whole, IsBlock}
+use Rattle.quilt_types.specs.Plane.{whole, IsBlock}
 use Rattle.quilt_loc.specs.Codes.{code_at}
 use Rattle.quilt_loc.proofs.Quartered.{IsBlock-whole}
 use Rattle.quilt_loc.proofs.Intervals.{held_code, side_squared, origin_code}

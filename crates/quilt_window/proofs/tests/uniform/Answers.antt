@@ -1,4 +1,4 @@
-use Rattle.std.proofs.Common.{◌≡◌, ℕ, ◌*◌, ◌%◌, ◌^◌, length, sym, ◌∙◌, ap, arith}
+use Rattle.std.proofs.Common.{ℕ, ◌^◌, length, sym, ◌∙◌, ap}
 use Rattle.quilt_types.specs.declared.plane.Block.{Block}
 use Rattle.quilt_loc.specs.Codes.{code_to}
 use Rattle.quilt_loc.proofs.Intervals.{origin_code}
