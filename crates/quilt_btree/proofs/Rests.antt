@@ -1,6 +1,8 @@
 -- A range over a whole tree, from one of its leaves to the next.
-use Rattle.std.proofs.Common.{◌≡◌, ◌≢◌, inl, inr, ℕ, ◌≤◌, Bool, true, false, List, [], ◌++◌, length, filter, take, Option, Some, None, Result, Ok, Err, OnOk, IfErr, zero, suc, refl, sym, ◌∙◌, ap, subst}
+use Rattle.std.proofs.Common.{◌≡◌, ◌≢◌, inl, inr, ℕ, ◌+◌, ◌*◌, ◌<◌, ◌≤◌, Bool, true, false, List, [], ◌++◌, length, filter, take, Option, Some, None, Result, Ok, Err, OnOk, zero, suc, refl, sym, ◌∙◌, ap, subst, arith}
+use Rattle.std.specs.Prelude.{IfSome, MatchOption}
 use Rattle.std.specs.Result.{is_err}
+use Rattle.quilt_store.specs.Store.{Tells}
 use Rattle.std.specs.Ordering.{is_lt, is_le}
 use Rattle.quilt_record.specs.declared.key.Key.{Key}
 use Rattle.quilt_record.specs.declared.record.Record.{Record}
@@ -101,21 +103,53 @@ along_tree told now t rs e is = record { pages = is.pages; is_told = e ∙ is.is
 along_before : (told now : Option (List (List ℕ))) (t : Tree) (low high : Key) (most : ℕ) (from : Key) (rs old : List Record) → now ≡ told → Before told t low high most from rs old → Before now t low high most from rs old
 along_before told now t low high most from rs old e b = (b.0, e ∙ b.1, b.2, b.3, b.4)
 
-pub rest_result : {T : Type 0} (r : Result T Stop) (told now : Option (List (List ℕ))) (t : Tree) (from high next : Key) (most : ℕ) (leaf old new last : List Record) (up : Option Key) → now ≡ told
-    → CameTo told t from high most leaf old new up → up ≡ Some next
-    → OnOk r ((low : Key) (rs : List Record) → IsTree now t rs → Before now t low high most next rs new → last ≡ range_of low high most rs)
-    → OnOk r ((low : Key) (rs : List Record) → IsTree told t rs → Before told t low high most from rs old → last ≡ range_of low high most rs)
-rest_result (Err e) told now t from high next most leaf old new last up same c is f = f
-rest_result (Ok x) told now t from high next most leaf old new last up same c is f = λ low rs tree b.
-    f low rs (along_tree told now t rs same tree) (along_before told now t low high most next rs new same (rest_next told t low from high next most leaf old new rs up c tree b is))
+-- no key is left, where none is from the leaf's upper bound to the last
+pub none_over : (r up : Option Key) (high : Key) → MatchOption r ((k : Key) → up ≡ Some k → is_le (key_cmp k high) ≡ false) (λ k. (up ≡ Some k) × (is_le (key_cmp k high) ≡ true))
+    → r ≡ None → (k : Key) → up ≡ Some k → is_le (key_cmp k high) ≡ false
+none_over None up high m e = m
+none_over (Some k) up high m e = cc
 
-pub rest_sound : {T : Type 0} (r : Result T Stop) (told now : Option (List (List ℕ))) (t : Tree) (from high next : Key) (most : ℕ) (leaf old new : List Record) (up : Option Key) → now ≡ told
-    → CameTo told t from high most leaf old new up → up ≡ Some next
-    → IfErr r (λ e. (low : Key) (rs : List Record) → IsTree now t rs → Before now t low high most next rs new → IsSound e)
-    → IfErr r (λ e. (low : Key) (rs : List Record) → IsTree told t rs → Before told t low high most from rs old → IsSound e)
-rest_sound (Ok x) told now t from high next most leaf old new up same c is f = f
-rest_sound (Err e) told now t from high next most leaf old new up same c is f = λ low rs tree b.
-    f low rs (along_tree told now t rs same tree) (along_before told now t low high most next rs new same (rest_next told t low from high next most leaf old new rs up c tree b is))
+pub if_some : (o : Option Key) (k : Key) (P : Type 0) → o ≡ Some k → IfSome o (λ x. P) → P
+if_some None k P e p = cc
+if_some (Some j) k P e p = p
+
+pub none_is : (o : Option Key) → ((k : Key) → o ≡ Some k → ⊥) → o ≡ None
+none_is None f = refl
+none_is (Some k) f = absurd (f k refl)
+
+-- one leaf after those so far, of which the first is the one at `start`
+pub loop_goes_on : (o : Option Key) (told now : Option (List (List ℕ))) (t : Tree) (high start from next : Key) (most : ℕ) (first old new : List Record) → now ≡ told → o ≡ Some next
+    → ((low : Key) (rs : List Record) → IsTree told t rs → Before told t low high most start rs first → Before told t low high most from rs old)
+    → IfSome o (λ k. (low : Key) (rs : List Record) → IsTree now t rs → Before now t low high most from rs old → Before now t low high most k rs new)
+    → (low : Key) (rs : List Record) → IsTree told t rs → Before told t low high most start rs first → Before told t low high most next rs new
+loop_goes_on None told now t high start from next most first old new same is s f = cc
+loop_goes_on (Some k) told now t high start from next most first old new same is s f = λ low rs tree b.
+    let e : k ≡ next = cc in
+    subst (λ n. Before told t low high most n rs new) e
+    (along_before now told t low high most k rs new (sym same) (f low rs (along_tree told now t rs same tree) (along_before told now t low high most from rs old same (s low rs tree b))))
+
+pub loop_ends : (o : Option Key) (told now : Option (List (List ℕ))) (t : Tree) (high start from : Key) (most : ℕ) (first old new : List Record) → now ≡ told → o ≡ None
+    → ((low : Key) (rs : List Record) → IsTree told t rs → Before told t low high most start rs first → Before told t low high most from rs old)
+    → (o ≡ None → (low : Key) (rs : List Record) → IsTree now t rs → Before now t low high most from rs old → new ≡ range_of low high most rs)
+    → (low : Key) (rs : List Record) → IsTree told t rs → Before told t low high most start rs first → new ≡ range_of low high most rs
+loop_ends o told now t high start from most first old new same is s f = λ low rs tree b.
+    f is low rs (along_tree told now t rs same tree) (along_before told now t low high most from rs old same (s low rs tree b))
+
+pub loop_sound : (e : Stop) (told now : Option (List (List ℕ))) (t : Tree) (high start from : Key) (most : ℕ) (first old : List Record) → now ≡ told
+    → ((low : Key) (rs : List Record) → IsTree told t rs → Before told t low high most start rs first → Before told t low high most from rs old)
+    → ((low : Key) (rs : List Record) → IsTree now t rs → Before now t low high most from rs old → IsSound e)
+    → (low : Key) (rs : List Record) → IsTree told t rs → Before told t low high most start rs first → IsSound e
+loop_sound e told now t high start from most first old same s f = λ low rs tree b.
+    f low rs (along_tree told now t rs same tree) (along_before told now t low high most from rs old same (s low rs tree b))
+
+-- three reads more, for at least one record more
+pub loop_reads : (a b c : Option ℕ) (first old new : ℕ) → old < new → Tells (λ x y. y + 3 * first ≤ x + 3 * old) a b → Tells (λ x y. y ≤ x + 3) b c → Tells (λ x y. y + 3 * first ≤ x + 3 * new) a c
+loop_reads (Some a) (Some b) (Some c) first old new more f g = omega arith
+loop_reads (Some a) (Some b) None first old new more f g = g
+loop_reads (Some a) None c first old new more f g = absurd f
+loop_reads None (Some b) c first old new more f g = absurd f
+loop_reads None None (Some c) first old new more f g = g
+loop_reads None None None first old new more f g = f
 
 pub first_sound : (told now : Option (List (List ℕ))) (t : Tree) (low high next : Key) (most : ℕ) (leaf new : List Record) (up : Option Key) (e : Stop) → now ≡ told
     → CameTo told t low high most leaf [] new up → up ≡ Some next

@@ -1,4 +1,4 @@
-ghost use Rattle.std.specs.Prelude.{◌≡◌, ℕ, ◌+◌, ◌*◌, ◌<◌, ◌≤◌, IfOk, IfErr, OnOk, List, vec_len};
+ghost use Rattle.std.specs.Prelude.{◌≡◌, ℕ, ◌+◌, ◌*◌, ◌<◌, ◌≤◌, IfOk, IfErr, IfSome, OnOk, List, None, vec_len};
 ghost use Rattle.quilt_record.specs.declared.key.Key.{Key};
 ghost use Rattle.quilt_record.specs.declared.record.Record.{Record};
 ghost use Rattle.quilt_store.specs.Store.{Tells};
@@ -132,22 +132,52 @@ impl Tree {
         ensures reads { OnOk result (Tells (λ old new. new + 3 * vec_len records.old ≤ old + 3 + 3 * vec_len records.new) (S.reads store.old) (S.reads store.new)) }
         ensures changed { S.changed store.new ≤ S.changed store.old }
     {
+        let mut next = *from;
+        while let Some(k) = self.add_next(store, records, &next, high, most)? {
+            next = k;
+        }
+        Ok(())
+    }
+
+    /// Adds the records of a range from the one leaf that a parting key begins, and answers the key that begins the
+    /// next leaf where the range goes on there.
+    fn add_next<S: PageStore>(
+        &self,
+        store: &mut S,
+        records: &mut Vec<Record>,
+        from: &Key,
+        high: &Key,
+        most: u32,
+    ) -> Result<Option<Key>, Stop>
+        requires rooted { IsRooted (S.size store.old) self.now }
+        requires height { 1 ≤ self.now.height }
+        requires room { vec_len records.old ≤ most }
+        ensures ends { IfOk result (λ next. next ≡ None → (low : Key) (rs : List Record) → IsTree (S.told store.old) self.now rs → Before (S.told store.old) self.now low high.now most from.now rs records.old.items → records.new.items ≡ range_of low high.now most rs) }
+        ensures goes_on { IfOk result (λ next. IfSome next (λ k. (low : Key) (rs : List Record) → IsTree (S.told store.old) self.now rs → Before (S.told store.old) self.now low high.now most from.now rs records.old.items → Before (S.told store.old) self.now low high.now most k rs records.new.items)) }
+        ensures adds { IfOk result (λ next. IfSome next (λ k. vec_len records.old < vec_len records.new)) }
+        ensures room { OnOk result (vec_len records.new ≤ most) }
+        ensures more { OnOk result (vec_len records.old ≤ vec_len records.new) }
+        ensures sound { IfErr result (λ e. (low : Key) (rs : List Record) → IsTree (S.told store.old) self.now rs → Before (S.told store.old) self.now low high.now most from.now rs records.old.items → IsSound e) }
+        ensures cause { HasStopCause (S.faults store.old) (S.faults store.new) result }
+        ensures size { S.size store.new ≡ S.size store.old }
+        ensures told { S.told store.new ≡ S.told store.old }
+        ensures free { S.free store.new ≡ S.free store.old }
+        ensures later { S.later store.old store.new }
+        ensures reads { Tells (λ old new. new ≤ old + 3) (S.reads store.old) (S.reads store.new) }
+        ensures changed { S.changed store.new ≤ S.changed store.old }
+    {
         let had = records.len();
-        let found = match leaf_at(store, self.root, self.height, from, None) {
-            Err(e) => return Err(e),
-            Ok(found) => found,
-        };
+        let found = leaf_at(store, self.root, self.height, from, None)?;
         if add_leaf(records, &found.leaf, from, high, most).is_err() {
             return Err(Stop::Memory);
         }
         let now = records.len();
         if now == most as usize {
-            return Ok(());
+            return Ok(None);
         }
         match key_up_to(found.high, high) {
-            None => Ok(()),
             Some(_) if now == had => Err(Stop::Damaged { page: found.page }),
-            Some(next) => self.add_rest(store, records, &next, high, most),
+            next => Ok(next),
         }
     }
 }
