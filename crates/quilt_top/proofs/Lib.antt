@@ -1,5 +1,7 @@
 pub mod Digits
+pub mod Front
 pub mod Lines
 pub mod Making
-pub mod Said
+pub mod PlainFiles
+pub mod Running
 pub mod Tables

@@ -20,10 +20,10 @@ use Rattle.quilt_edition.specs.Stands.{Stands}
 use Rattle.quilt_edition.specs.Creating.{IsBlank, is_of_pages, IsNoneOrEmpty, Creates, IsCreated}
 use Rattle.quilt_top.specs.declared.run.End.{End}
 use Rattle.quilt_top.specs.declared.run.End.TheVariants as ends
-use Rattle.quilt_top.specs.Saying.{is_put, Says, SaysFront}
+use Rattle.quilt_loop.specs.Saying.{is_put, Says, SaysFront}
 use Rattle.quilt_top.specs.Words.{New}
 use Rattle.quilt_top.specs.Headline.{IsOneOf, IsStop, fresh, new_line, MakesFile, FindsFile, KeepsPromises, WhereTold}
-use Rattle.quilt_top.proofs.Said.{put_bytes-append, taken_bytes-append}
+use Rattle.quilt_loop.proofs.Said.{put_bytes-append, taken_bytes-append}
 
 -- ---- events of one sort
 

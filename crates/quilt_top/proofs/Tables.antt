@@ -3,7 +3,7 @@ use Rattle.std.proofs.Common.{◌≡◌, ◌≢◌, ℕ, Bool, true, false, ◌&
 use Rattle.std.specs.List.{list_any}
 use Rattle.std.specs.Str.{bytes_eq}
 use Rattle.quilt_lang.specs.Spelling.{number}
-use Rattle.quilt_top.specs.Words.{is_dashed, with_word, parts_of, new_order, order_of_words, order_of, asked_for}
+use Rattle.quilt_top.specs.Words.{is_dashed, with_word, parts_of, new_order, run_order, order_of_words, order_of, asked_for}
 
 both_false : (a b : Bool) → (a || b) ≡ false → (a ≡ false) × (b ≡ false)
 both_false true b is = absurd (cc)
@@ -34,13 +34,20 @@ order_of_words-four (a ∷ b ∷ c ∷ []) size = absurd (omega arith)
 order_of_words-four (a ∷ b ∷ c ∷ d ∷ []) size = refl
 order_of_words-four (a ∷ b ∷ c ∷ d ∷ e ∷ ws) size = absurd (omega arith)
 
-pub order_of_words-other : (ws : List (List ℕ)) → length ws ≢ 4 → order_of_words None ws ≡ None
-order_of_words-other [] size = refl
-order_of_words-other (a ∷ []) size = refl
-order_of_words-other (a ∷ b ∷ []) size = refl
-order_of_words-other (a ∷ b ∷ c ∷ []) size = refl
-order_of_words-other (a ∷ b ∷ c ∷ d ∷ []) size = absurd (size (omega arith))
-order_of_words-other (a ∷ b ∷ c ∷ d ∷ e ∷ ws) size = refl
+pub order_of_words-two : (ws : List (List ℕ)) → length ws ≡ 2 →
+    order_of_words None ws ≡ cond (bytes_eq (get_or ws 0 []) (codes "run") && true) (run_order (get_or ws 1 [])) None
+order_of_words-two [] size = absurd (omega arith)
+order_of_words-two (a ∷ []) size = absurd (omega arith)
+order_of_words-two (a ∷ b ∷ []) size = refl
+order_of_words-two (a ∷ b ∷ c ∷ ws) size = absurd (omega arith)
+
+pub order_of_words-other : (ws : List (List ℕ)) → length ws ≢ 2 → length ws ≢ 4 → order_of_words None ws ≡ None
+order_of_words-other [] two four = refl
+order_of_words-other (a ∷ []) two four = refl
+order_of_words-other (a ∷ b ∷ []) two four = absurd (two (omega arith))
+order_of_words-other (a ∷ b ∷ c ∷ []) two four = refl
+order_of_words-other (a ∷ b ∷ c ∷ d ∷ []) two four = absurd (four (omega arith))
+order_of_words-other (a ∷ b ∷ c ∷ d ∷ e ∷ ws) two four = refl
 
 pub list_any-map : {A B : Type 0} (f : A → B) (p : B → Bool) (xs : List A) → list_any (λ x. p (f x)) xs ≡ list_any p (map f xs)
 list_any-map f p [] = refl

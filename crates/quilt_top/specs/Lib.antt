@@ -1,4 +1,5 @@
 pub mod Ends
 pub mod Headline
-pub mod Saying
+pub mod Meanings
+pub mod Openings
 pub mod Words

@@ -1,8 +1,11 @@
 //! The whole run: what the words of the command line ask for is done over a world, which is handed back.
 #![tactic(auto)]
 
+mod input;
+mod label;
 mod make;
-mod output;
+mod opening;
+mod orders;
 mod run;
 mod words;
 

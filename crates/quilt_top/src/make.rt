@@ -5,21 +5,22 @@ ghost use Rattle.quilt_top.specs.declared.run.End.TheVariants as ends;
 ghost use Rattle.quilt_top.specs.Words.{New};
 ghost use Rattle.quilt_top.specs.Headline.{KeepsPromises, WhereTold, HasEndCause, new_line};
 
-use crate::output::put_all;
+use crate::orders::NewFile;
 use crate::run::End;
 use quilt_edition::create;
+use quilt_loop::put_all;
 use quilt_world::{Made, World};
 use std::alloc::{AllocError, Global};
 
 /// The line that tells of a new file.
-pub(crate) fn new_line(alloc: Global, pages: u32, level: u8) -> Result<String, AllocError>
+fn new_line(alloc: Global, pages: u32, level: u8) -> Result<String, AllocError>
     ensures { IfOk result (λ line. string_bytes line ≡ new_line pages level) }
 {
     format!(in alloc; "new {pages} pages level {level}\n")
 }
 
 /// Makes a map file of so many home pages, from 16 to 30000, and of a level from 1 to 12, and puts its line.
-pub(crate) fn make_map<W: World>(
+fn make_map<W: World>(
     world: &mut W,
     path: &str,
     pages: u32,
@@ -49,4 +50,27 @@ pub(crate) fn make_map<W: World>(
         return End::Device;
     };
     End::Done
+}
+
+/// Makes the file that the words ask for.
+pub(crate) fn new_file<W: World>(alloc: Global, world: W, file: NewFile) -> (End, W)
+    requires { W.door world ≡ doors.Shut }
+    ensures cause { HasEndCause (Some (New file.entry.path.now file.entry.pages file.entry.level)) (W.faults world) (W.faults result.1) (W.door result.1) result.0 }
+    ensures usage { result.0 ≢ ends.Usage }
+    ensures promises { WhereTold (KeepsPromises (Some (New file.entry.path.now file.entry.pages file.entry.level)) (Rose (W.faults world) (W.faults result.1)) (W.door result.1) result.0)
+        (W.told world) (W.told result.1) }
+{
+    // The line is there before the file, so that no refused memory leaves a file half made.
+    let Ok(line) = new_line(alloc, file.pages, file.level) else {
+        return (End::Memory, world);
+    };
+    let mut world = world;
+    let end = make_map(
+        &mut world,
+        file.path,
+        file.pages,
+        file.level,
+        line.as_bytes(),
+    );
+    (end, world)
 }

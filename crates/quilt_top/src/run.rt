@@ -5,8 +5,10 @@ ghost use Rattle.quilt_top.specs.Ends.{status_of};
 ghost use Rattle.quilt_top.specs.Words.{asked_for};
 ghost use Rattle.quilt_top.specs.Headline.{KeepsPromises, WhereTold, IsUsage, HasEndCause};
 
-use crate::make::{make_map, new_line};
-use crate::words::new_file;
+use crate::input::run_file;
+use crate::make::new_file;
+use crate::orders::Order;
+use crate::words::read_order;
 use quilt_world::World;
 use std::alloc::Global;
 use std::thread::Threads;
@@ -70,22 +72,11 @@ pub fn run_quilt<'a, R: Threads + Sync, W: World>(
     ensures promises { WhereTold (KeepsPromises (asked_for (map (λ w. w.now) words.entry.now)) (Rose (W.faults world) (W.faults result.1)) (W.door result.1) result.0) (W.told world) (W.told result.1) }
 {
     let _ = rt;
-    let Some(file) = new_file(words) else {
-        return (End::Usage, world);
-    };
-    // The line is there before the file, so that no refused memory leaves a file half made.
-    let Ok(line) = new_line(alloc, file.pages, file.level) else {
-        return (End::Memory, world);
-    };
-    let mut world = world;
-    let end = make_map(
-        &mut world,
-        file.path,
-        file.pages,
-        file.level,
-        line.as_bytes(),
-    );
-    (end, world)
+    match read_order(words) {
+        None => (End::Usage, world),
+        Some(Order::New(file)) => new_file(alloc, world, file),
+        Some(Order::Run(path)) => run_file(alloc, world, path),
+    }
 }
 
 #[cfg(test)]

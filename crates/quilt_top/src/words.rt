@@ -1,16 +1,10 @@
-ghost use Rattle.std.specs.Prelude.{◌≡◌, ◌≤◌, map, nat_le, if◌then◌else◌, Some, None, option_map, IfSome};
+ghost use Rattle.std.specs.Prelude.{◌≡◌, ◌≤◌, ◌&&◌, true, codes, map, nat_le, if◌then◌else◌, Some, None, option_map, IfSome};
 ghost use Rattle.quilt_lang.specs.Spelling as spelling;
+ghost use Rattle.std.specs.Str.{bytes_eq};
+ghost use Rattle.quilt_top.specs.Meanings.{meant};
 ghost use Rattle.quilt_top.specs.Words as table;
 
-/// A map file that is to be made.
-#[derive(Clone, Copy)]
-pub(crate) struct NewFile<'a> {
-    pub(crate) path: &'a str,
-    pub(crate) pages: u32,
-    pub(crate) level: u8,
-    ghost pages_in_range: { (16 ≤ pages) × (pages ≤ 30000) },
-    ghost level_in_range: { (1 ≤ level) × (level ≤ 12) },
-}
+use crate::orders::{NewFile, Order};
 
 /// Whether the word would be an option.
 fn is_dashed(word: &str) -> bool
@@ -76,26 +70,44 @@ fn file_of<'a>(path: &'a str, pages: &str, level: &str) -> Option<NewFile<'a>>
     })
 }
 
-/// The file that the words ask for, where none of them would be an option.
-fn file_of_words<'a>(words: &'a [&'a str]) -> Option<NewFile<'a>>
-    ensures { option_map (λ f. table.New f.path.now f.pages f.level) result
-        ≡ table.order_of_words None (map (λ w. w.now) words.entry.now) }
+/// The file to be run, where the first word says so.
+fn run_of<'a>(mode: &str, path: &'a str) -> Option<Order<'a>>
+    ensures { option_map meant result ≡ (if bytes_eq mode.now (codes "run") && true then table.run_order path.entry.now else None) }
 {
-    let [mode, path, pages, level] = words else {
-        return None;
-    };
-    if *mode != "new" {
+    if mode != "run" || path.is_empty() {
         return None;
     }
-    file_of(path, pages, level)
+    Some(Order::Run(path))
 }
 
-/// The file that the words ask for, if they are `new FILE PAGES LEVEL`.
-pub(crate) fn new_file<'a>(words: &'a [&'a str]) -> Option<NewFile<'a>>
-    ensures { option_map (λ f. table.New f.path.now f.pages f.level) result ≡ table.asked_for (map (λ w. w.now) words.entry.now) }
+/// The file to be made, where the first word says so.
+fn new_of<'a>(mode: &str, path: &'a str, pages: &str, level: &str) -> Option<Order<'a>>
+    ensures { option_map meant result ≡ (if bytes_eq mode.now (codes "new") && true then table.new_order path.entry.now (spelling.number 16 30000 pages.now) (spelling.number 1 12 level.now) else None) }
+{
+    if mode != "new" {
+        return None;
+    }
+    let file = file_of(path, pages, level)?;
+    Some(Order::New(file))
+}
+
+/// What the words ask for, where none of them would be an option.
+fn order_of_words<'a>(words: &'a [&'a str]) -> Option<Order<'a>>
+    ensures { option_map meant result ≡ table.order_of_words None (map (λ w. w.now) words.entry.now) }
+{
+    match words {
+        [mode, path] => run_of(mode, path),
+        [mode, path, pages, level] => new_of(mode, path, pages, level),
+        _ => None,
+    }
+}
+
+/// What the words ask for, if they are `new FILE PAGES LEVEL` or `run FILE`.
+pub(crate) fn read_order<'a>(words: &'a [&'a str]) -> Option<Order<'a>>
+    ensures { option_map meant result ≡ table.asked_for (map (λ w. w.now) words.entry.now) }
 {
     if words.iter().any(|word| is_dashed(word)) {
         return None;
     }
-    file_of_words(words)
+    order_of_words(words)
 }

@@ -4,7 +4,7 @@ use Rattle.quilt_world.specs.Doors.{made}
 use Rattle.quilt_world.specs.Tale.{Goes}
 use Rattle.quilt_world.proofs.Told.{goes_now}
 use Rattle.quilt_edition.specs.Creating.{IsBlank}
-use Rattle.quilt_top.specs.Saying.{Says, SaysFront}
+use Rattle.quilt_loop.specs.Saying.{Says, SaysFront}
 use Rattle.quilt_top.proofs.Making.{made_blank, create_stopped, put_stopped, all_done, where_not_ok}
 use Rattle.quilt_top.proofs.make.make_map.Goals as goal
 

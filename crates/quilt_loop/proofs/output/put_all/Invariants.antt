@@ -1,7 +1,7 @@
 use Rattle.std.proofs.Common.{◌≡◌, ◌≤◌, ◌-◌, length, take}
 use Rattle.quilt_world.specs.Tale.{Goes}
-use Rattle.quilt_top.specs.Saying.{Says}
-use Rattle.quilt_top.proofs.output.put_all.Given as goal
+use Rattle.quilt_loop.specs.Saying.{Says}
+use Rattle.quilt_loop.proofs.output.put_all.Given as goal
 
 abbrev pub invariant-loop-done : goal.invariant-loop-done
 invariant-loop-done g l = record {

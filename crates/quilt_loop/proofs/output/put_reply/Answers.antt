@@ -1,7 +1,7 @@
-use Rattle.std.proofs.Common.{◌≤◌, ◌-◌, length, length-take, length-drop, sym, rules, arith, take, drop, ℕ, List, append-nil, [], take-append-drop}
+use Rattle.std.proofs.Common.{◌≤◌, ◌-◌, length, length-take, length-drop, sym, ◌∙◌, rules, arith, take, drop, ℕ, List, append-nil, [], take-append-drop}
 use Rattle.quilt_world.proofs.Told.{goes_then}
-use Rattle.quilt_top.proofs.Said.{says_then, says_same, says_put, says_quiet, says_front, on_err, take_two}
-use Rattle.quilt_top.proofs.output.put_all.Goals as goal
+use Rattle.quilt_loop.proofs.Said.{says_then, says_same, says_put, says_quiet, says_front, on_err, take_two}
+use Rattle.quilt_loop.proofs.output.put_reply.Goals as goal
 
 pub returns-in_err-done-clause-part : goal.returns-in_err-done-clause-part
 returns-in_err-done-clause-part g c =
@@ -18,9 +18,13 @@ loop-done-preserved g c =
     let m : ℕ = length bytes - done in
     let fits : n ≤ m = omega (arith, c.in_ok-done.ensures.count.1, length-take m (drop done bytes), length-drop done bytes) in
     record {
+      state = λ q. c.in_ok-done.ensures.state q ∙ c.loop-done.invariant.state q;
       within = omega (arith, c.loop-done.invariant.within);
       door = search rules;
       faults = search rules;
       tale = goes_then _ _ _ _ _ _ c.loop-done.invariant.tale c.in_ok-done.ensures.put (λ t u v says put.
           says_same _ _ t v (take_two done n m bytes fits) (says_then (take done bytes) (take n (take m (drop done bytes))) t u v says (says_put _ u v put)));
     }
+
+pub returns-in_err-done-clause-state : goal.returns-in_err-done-clause-state
+returns-in_err-done-clause-state g c = λ q. c.put.ensures.state q ∙ c.loop-done.invariant.state q

@@ -1,0 +1,39 @@
+use Rattle.std.proofs.Common.{ℕ, ◌∙◌, sym, subst, rules}
+use Rattle.quilt_loop.specs.Replies.{IsItem}
+use Rattle.quilt_loop.proofs.Said.{on_err}
+use Rattle.quilt_loop.proofs.Outcomes.{given_is_item}
+use Rattle.quilt_loop.proofs.Turns.{answered_first, stopped_now, stopped_part, answered_next, fewer_left}
+use Rattle.quilt_loop.proofs.running.answer_items.Goals as goal
+
+pub items-init : goal.items-init
+items-init g c = record { door = search rules; faults = search rules; level = search rules; same = search rules; done = answered_first _ _ _ _ _ _ }
+
+pub returns-in_err-item-clause-stopped : goal.returns-in_err-item-clause-stopped
+returns-in_err-item-clause-stopped g c = on_err _ _ (stopped_now _ _ _ _ _ _ _ _ _ _ c.items.invariant.done)
+
+pub put_answer-requires-clause-item : goal.put_answer-requires-clause-item
+put_answer-requires-clause-item g c =
+    let given = rw c.in-Some.is at c.in_ok-item.ensures.given in
+    subst (λ (n : ℕ). IsItem n c.in-Some.item) (c.items.invariant.level ∙ sym c.requires.level ∙ sym c.items.invariant.same)
+    (given_is_item c.args.ended c.items.lines.level c.in-Some.item c.items.lines.rest c.next_item.new.self.rest given)
+
+pub returns-in_err-all_done-clause-stopped : goal.returns-in_err-all_done-clause-stopped
+returns-in_err-all_done-clause-stopped g c =
+    let given = rw (c.in-Some.is, c.items.invariant.level) at c.in_ok-item.ensures.given in
+    on_err _ _ (stopped_part _ _ _ _ _ _ _ _ _ _ _ _ _ c.items.invariant.done given c.in_err-all_done.ensures.part)
+
+pub items-smaller : goal.items-smaller
+items-smaller g c =
+    let given = rw c.in-Some.is at c.in_ok-item.ensures.given in
+    rw c.in_ok-item.ensures.level (fewer_left _ _ _ _ _ given)
+
+pub items-preserved : goal.items-preserved
+items-preserved g c =
+    let given = rw (c.in-Some.is, c.items.invariant.level) at c.in_ok-item.ensures.given in
+    record {
+      door = search rules;
+      faults = search rules;
+      level = search rules;
+      same = c.in_ok-all_done.ensures.level ∙ c.items.invariant.same;
+      done = answered_next _ _ _ _ _ _ _ _ _ _ _ _ _ _ _ c.items.invariant.done given c.in_ok-all_done.ensures.said c.in_ok-all_done.ensures.state c.in_ok-all_done.ensures.done;
+    }
