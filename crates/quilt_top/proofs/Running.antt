@@ -288,12 +288,12 @@ module _ (path : List ℕ) (rose : Type 0) (door now : Door) (ready : door ≡ d
       let input : v.input ≡ t.input = adds.input ∙ opens.fresh.input in (
         finds ends.Device t u v opens (λ is. log),
         λ e. opens_quiet ends.Device v log
-        (record { only = λ is. absurd (let f : ◌≡◌ {A = End} ends.Device ends.NotMap = is in cc); always = λ none. inr (inl refl) })
-        (λ page is. absurd (let f : ◌≡◌ {A = End} ends.Device (ends.Damaged page) = is in cc))
-        (λ pages file none. (0, refl, inr (inl refl))) (λ is. let f : ◌≡◌ {A = End} ends.Device ends.TooMuch = is in cc),
+            (record { only = λ is. absurd (let f : ◌≡◌ {A = End} ends.Device ends.NotMap = is in cc); always = λ none. inr (inl refl) })
+            (λ page is. absurd (let f : ◌≡◌ {A = End} ends.Device (ends.Damaged page) = is in cc))
+            (λ pages file none. (0, refl, inr (inl refl))) (λ is. let f : ◌≡◌ {A = End} ends.Device ends.TooMuch = is in cc),
         λ e pages first file stands. subst (λ (i : List ℕ). RunsInput pages first i rose ends.Device v) input
-        (runs_input first ends.Device v v (quiet_plain first ends.Device v log (λ is. let f : ◌≡◌ {A = End} ends.Device ends.Done = is in cc) (λ is. let f : ◌≡◌ {A = End} ends.Device ends.Refused = is in cc) (λ is. let f : ◌≡◌ {A = End} ends.Device ends.TooMuch = is in cc))
-        pages rose stands.stands law.0 (inr (inr (inl refl))) (λ is. risen)),
+            (runs_input first ends.Device v v (quiet_plain first ends.Device v log (λ is. let f : ◌≡◌ {A = End} ends.Device ends.Done = is in cc) (λ is. let f : ◌≡◌ {A = End} ends.Device ends.Refused = is in cc) (λ is. let f : ◌≡◌ {A = End} ends.Device ends.TooMuch = is in cc))
+            pages rose stands.stands law.0 (inr (inr (inl refl))) (λ is. risen)),
       )
 
   pub found_no_map : (o m n : Option Tale) → Goes (OpensAt path door) o m → Goes (Adds []) m n → IfSome n (λ t. IsNoMap t.start) → WhereTold (Promise path rose now ends.NotMap) o n
@@ -304,8 +304,8 @@ module _ (path : List ℕ) (rose : Type 0) (door now : Door) (ready : door ≡ d
       let log = quiet_log t u v opens adds in (
         finds ends.NotMap t u v opens (λ is. log),
         λ e. opens_quiet ends.NotMap v log (record { only = λ is. none; always = λ no_. inl refl })
-        (λ page is. absurd (let f : ◌≡◌ {A = End} ends.NotMap (ends.Damaged page) = is in cc))
-        (λ pages file nothing. absurd (none pages file)) (λ is. let f : ◌≡◌ {A = End} ends.NotMap ends.TooMuch = is in cc),
+            (λ page is. absurd (let f : ◌≡◌ {A = End} ends.NotMap (ends.Damaged page) = is in cc))
+            (λ pages file nothing. absurd (none pages file)) (λ is. let f : ◌≡◌ {A = End} ends.NotMap ends.TooMuch = is in cc),
         λ e pages first file stands. absurd (none pages file),
       )
 
@@ -317,8 +317,8 @@ module _ (path : List ℕ) (rose : Type 0) (door now : Door) (ready : door ≡ d
       let log = quiet_log t u v opens adds in (
         finds (ends.Damaged 0) t u v opens (λ is. log),
         λ e. opens_quiet (ends.Damaged 0) v log
-        (record { only = λ is. absurd (let f : ◌≡◌ {A = End} (ends.Damaged 0) ends.NotMap = is in cc); always = λ none. absurd (none found.0.0 found.0.1) })
-        (λ page is. found.1) (λ pages file none. (0, refl, inl refl)) (λ is. let f : ◌≡◌ {A = End} (ends.Damaged 0) ends.TooMuch = is in cc),
+            (record { only = λ is. absurd (let f : ◌≡◌ {A = End} (ends.Damaged 0) ends.NotMap = is in cc); always = λ none. absurd (none found.0.0 found.0.1) })
+            (λ page is. found.1) (λ pages file none. (0, refl, inl refl)) (λ is. let f : ◌≡◌ {A = End} (ends.Damaged 0) ends.TooMuch = is in cc),
         λ e pages first file stands. absurd (found.1 first stands),
       )
 
@@ -337,7 +337,7 @@ module _ (path : List ℕ) (rose : Type 0) (door now : Door) (ready : door ≡ d
         finds end t u w opens (λ is. absurd (no_start_end end one is)),
         λ e. opens_plain first end v w runs n_pages file stands one,
         λ e pages other its so. subst (λ (f : Edition). RunsInput pages f t.input rose end w) (plain_same w.start n_pages first other file stands so)
-        (subst (λ (i : List ℕ). RunsInput pages first i rose end w) input (runs_input first end v w runs pages rose stands.stands law.0 one device)),
+            (subst (λ (i : List ℕ). RunsInput pages first i rose end w) input (runs_input first end v w runs pages rose stands.stands law.0 one device)),
       )
 
 -- ---- a run of the text over a session

@@ -31,13 +31,7 @@ fn end_of(outcome: Result<bool, Halt>) -> End
 }
 
 /// Runs the input over a file whose last edition is empty.
-fn run_plain<W: World>(
-    alloc: Global,
-    world: W,
-    pages: u32,
-    level: u8,
-    edition: u32,
-) -> (End, W)
+fn run_plain<W: World>(alloc: Global, world: W, pages: u32, level: u8, edition: u32) -> (End, W)
     requires door { W.door world ≡ doors.Ready }
     requires pages { (16 ≤ pages) × (pages ≤ 30000) }
     requires level { (1 ≤ level) × (level ≤ 12) }

@@ -20,13 +20,7 @@ fn new_line(alloc: Global, pages: u32, level: u8) -> Result<String, AllocError>
 }
 
 /// Makes a map file of so many home pages, from 16 to 30000, and of a level from 1 to 12, and puts its line.
-fn make_map<W: World>(
-    world: &mut W,
-    path: &str,
-    pages: u32,
-    level: u8,
-    line: &[u8],
-) -> End
+fn make_map<W: World>(world: &mut W, path: &str, pages: u32, level: u8, line: &[u8]) -> End
     requires door { W.door world.old ≡ doors.Shut }
     requires pages { (16 ≤ pages) × (pages ≤ 30000) }
     requires level { (1 ≤ level) × (level ≤ 12) }

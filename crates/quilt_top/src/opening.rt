@@ -22,11 +22,7 @@ pub(crate) enum Opened {
     NotMap,
     Damaged,
     /// A file with its gate shut and a header with no tree.
-    Plain {
-        pages: u32,
-        level: u8,
-        edition: u32,
-    },
+    Plain { pages: u32, level: u8, edition: u32 },
 }
 
 /// Reads a page as it was when the file was opened.
