@@ -28,8 +28,11 @@ fn header_byte_by_byte(rt: HostRuntime) -> Result<(), Fail> {
         records: 2,
     };
     let page = header_bytes(&head);
-    assert_eq!(rt; page[..14], *b"QHDR\0\0\0\x01\0\0\x01\x02\x03\x01");
-    assert_eq!(rt; page[14..25], *b"\0\0\0\0\0\x11\0\0\0\x02\0");
+    assert_eq!(rt;
+        &page[..14],
+        b"QHDR\0\0\0\x01\0\0\x01\x02\x03\x01".as_slice()
+    );
+    assert_eq!(rt; &page[14..25], b"\0\0\0\0\0\x11\0\0\0\x02\0".as_slice());
     assert_eq!(rt; header_of(&page, 18), Some(head));
     assert_eq!(rt; header_of(&page, 17), None);
     Ok(())

@@ -1,12 +1,14 @@
--- Single pixels as blocks, and a grid from its own colours.
-use Rattle.std.proofs.Common.{◌≡◌, ℕ, zero, suc, ◌+◌, ◌*◌, ◌<◌, ◌≤◌, [], ◌∷◌, ◌++◌, length, add-one, refl, sym, ◌∙◌, ap, arith, lit<}
+-- Single pixels as blocks, runs of one colour in a row, and a grid from its own colours.
+use Rattle.std.proofs.Common.{◌≡◌, ℕ, zero, suc, ◌+◌, ◌*◌, ◌<◌, ◌≤◌, [], ◌∷◌, ◌++◌, length, add-one, refl, sym, ◌∙◌, ap, subst, arith, lit<}
 use Rattle.std.specs.List.{range_with_len}
 use Rattle.quilt_types.specs.declared.plane.Pixel.{Pixel}
 use Rattle.quilt_types.specs.declared.plane.Block.{Block}
+use Rattle.quilt_types.specs.declared.plane.Colour.{Colour}
 use Rattle.quilt_types.specs.Plane.{side, below, whole, Holds, IsBlock}
 use Rattle.quilt_types.specs.Layers.{Grid, colour_at}
 use Rattle.quilt_types.specs.Algebra.{grid_of}
 use Rattle.quilt_loc.specs.Codes.{code_at}
+use Rattle.quilt_blocks.specs.Mosaic.{HasColour}
 use Rattle.quilt_loc.proofs.Rows.{grid_of-from, colour_at-pixel_at}
 use Rattle.quilt_loc.proofs.Quartered.{IsBlock-whole}
 use Rattle.quilt_loc.proofs.Intervals.{held_code, origin_code}
@@ -35,6 +37,27 @@ only_pixel p q h =
     let ex : q.x ≡ p.x = omega arith in
     let ey : q.y ≡ p.y = omega arith in
     λ i. record { x = ex i; y = ey i }
+
+-- the pixels of one row from x to before the end have this colour
+pub record IsRun (n : ℕ) (g : Grid) (y x end c : ℕ) : Type 0 where
+  pub some : x < end
+  pub each : (z : ℕ) → x ≤ z → z < end → colour_at n g (record { x = z; y = y }) ≡ c
+
+-- the rest of a row in a block of one colour
+pub run_in : (n : ℕ) (g : Grid) (b : Block) (p : Pixel) (c : ℕ) → Holds b p → HasColour n g b c → IsRun n g p.y p.x (b.x + b.side) c
+run_in n g b p c h has =
+    let l = h.left in
+    let r = h.right in
+    let t = h.top in
+    let d = h.bottom in
+    record {
+      some = r;
+      each = λ z from to. has.each (record { x = z; y = p.y }) (record { left = omega arith; right = to; top = t; bottom = d });
+    }
+
+pub run_is : (n : ℕ) (g : Grid) (y x : ℕ) (e f : ℕ) (c d : Colour) → e ≡ f → c ≡ d → IsRun n g y x f d.0 → IsRun n g y x e c.0
+run_is n g y x e f c d end same run =
+    subst (λ z. IsRun n g y x z c.0) (sym end) (subst (λ (z : Colour). IsRun n g y x f z.0) (sym same) run)
 
 -- a grid is what its colours paint
 pub grid_of-colour_at : (n : ℕ) (g : Grid) → length g ≡ side n * side n → g ≡ grid_of n (colour_at n g)

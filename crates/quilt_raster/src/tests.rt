@@ -1,9 +1,18 @@
 use super::*;
 use quilt_blocks::{Cursor, LeafList};
-use quilt_types::{Block, Colour, Window};
+use quilt_types::{Block, Colour, Pixel, Window};
 use std::alloc::Global;
 use std::process::Abort;
 use std::test::Fail;
+use std::time::Instant;
+
+/// Fills the colours with zeros and, for one in four, ones.
+fn paint(seed: &mut u32, colours: &mut [u8]) {
+    for c in colours {
+        *seed = seed.wrapping_mul(1664525).wrapping_add(1013904223);
+        *c = (*seed >> 30) as u8 / 3;
+    }
+}
 
 /// The colour of a pixel of a raster with rows of this length.
 fn colour(colours: &[u8], row: u32, x: u32, y: u32) -> Option<u8> {
@@ -32,7 +41,7 @@ fn is_maximal(colours: &[u8], row: u32, x: u32, y: u32, size: u32) -> bool {
 /// How many maximal blocks the raster has, by a search of all blocks.
 fn count_maximal(colours: &[u8], row: u32) -> usize {
     let mut count = 0_usize;
-    for size in [1, 2, 4, 8] {
+    for size in [1, 2, 4, 8, 16] {
         for y in 0..row {
             for x in 0..row {
                 let on = x.checked_rem(size) == Some(0) && y.checked_rem(size) == Some(0);
@@ -89,14 +98,67 @@ fn small_and_random_rasters(rt: HostRuntime) -> Result<(), Fail> {
         compare(&rt, &leaves_of(rt.alloc(), &colours, 1)?, &colours, 2);
     }
     let mut seed = 12345_u32;
-    for _ in 0..20 {
+    for _ in 0..250 {
         let mut colours = [0_u8; 64];
-        for c in &mut colours {
-            seed = seed.wrapping_mul(1664525).wrapping_add(1013904223);
-            *c = (seed >> 30) as u8 / 3;
-        }
+        paint(&mut seed, &mut colours);
         compare(&rt, &leaves_of(rt.alloc(), &colours, 3)?, &colours, 8);
+        let mut colours = [0_u8; 256];
+        paint(&mut seed, &mut colours);
+        compare(&rt, &leaves_of(rt.alloc(), &colours, 4)?, &colours, 16);
     }
+    Ok(())
+}
+
+#[test]
+fn blocks_of_one_colour(rt: HostRuntime) -> Result<(), Fail> {
+    let list = leaves_of(rt.alloc(), &[0, 1, 1, 0], 1)?;
+    let whole = Block {
+        x: 0,
+        y: 0,
+        side: 2,
+    };
+    let quarter = Block {
+        x: 1,
+        y: 0,
+        side: 1,
+    };
+    assert_eq!(rt; list.uniform_in(whole), None);
+    assert_eq!(rt; list.uniform_in(quarter), Some(Colour(1)));
+    Ok(())
+}
+
+/// A raster of level 10: a chessboard of squares of 32 pixels, in each of which one pixel has a colour of its own. The
+/// times are only printed.
+#[test]
+fn large_raster(rt: HostRuntime) -> Result<(), Fail> {
+    let mut colours = Vec::new(rt.alloc());
+    for i in 0..1048576_u32 {
+        let (x, y) = (i % 1024, i / 1024);
+        let alone = x % 32 == 5 && y % 32 == 7;
+        colours.push(if alone {
+            2
+        } else {
+            ((x / 32 + y / 32) % 2) as u8
+        })?;
+    }
+    assert!(rt; colours.len() == 1048576);
+
+    let start = Instant::now(&rt)?;
+    let list = leaves_of(rt.alloc(), &colours, 10)?;
+    let made = start.elapsed(&rt)?;
+    assert_eq!(rt; list.len(), 16384);
+
+    let start = Instant::now(&rt)?;
+    let all = Window {
+        x: 0,
+        y: 0,
+        w: 1024,
+        h: 1024,
+    };
+    let text = render(rt.alloc(), &list, all)?;
+    let shown = start.elapsed(&rt)?;
+    assert_eq!(rt; text.bytes().len(), 2098176);
+    println!(rt; "1048576 pixels, 16384 leaves: {made:?} to read, {shown:?} to show")?;
     Ok(())
 }
 
@@ -114,5 +176,6 @@ fn shown_rows(rt: HostRuntime) -> Result<(), Fail> {
         },
     )?;
     assert_eq!(rt; text.bytes(), b"0001\nab10\n".as_slice());
+    assert_eq!(rt; list.colour_at(Pixel { x: 0, y: 1 }), Colour(171));
     Ok(())
 }

@@ -1,2 +1,7 @@
+pub mod Blocks
+pub mod Canonical
+pub mod Catalogs
 pub mod Fits
+pub mod Listing
 pub mod Records
+pub mod Values

@@ -1,11 +1,29 @@
 //! Each fact of a map as a record: a key of 12 bytes and a value of 16.
 #![tactic(auto)]
 
+mod block;
+mod catalog;
+mod edits;
+mod entry;
+mod interleaving;
 mod key;
+mod lines;
+mod list;
+mod listing;
+mod points;
 mod record;
+mod region;
 
+pub use catalog::Catalog;
+pub use edits::Edits;
+pub use entry::Entry;
 pub use key::{Key, key_bytes, key_of};
+pub use lines::{pair_record, read_pair, read_segment, segment_record};
+pub use list::RecordList;
+pub use listing::{catalog_record, read_catalog};
+pub use points::{point_record, read_point};
 pub use record::Record;
+pub use region::{read_region, region_record};
 
 #[cfg(test)]
 mod tests;

@@ -1,0 +1,14 @@
+pub mod Walks
+pub mod Orders
+pub mod Rising
+pub mod Rows
+pub mod Trees
+pub mod Places
+pub mod Lists
+pub mod Leaves
+pub mod Descents
+pub mod Descending
+pub mod Whole
+pub mod Dividing
+pub mod Ranges
+pub mod Rests

@@ -1,0 +1,22 @@
+use Rattle.std.proofs.lemmas.Result.{err_from_is_err_and}
+use Rattle.quilt_btree.proofs.Descending.{leaf_last, last_up, sound_end}
+use Rattle.quilt_btree.proofs.reading.+last_under.Goals as goal
+
+pub returns-then-height-eq1-clause-last : goal.returns-then-height-eq1-clause-last
+returns-then-height-eq1-clause-last g t c =
+    leaf_last (g.S.PageStore.told c.args.store.now) c.args.page c.args.height c.len.result c.in_ok-leaf.leaf c.rec.result c.if-height-eq1.true c.in_ok-leaf.ensures.leaf c.len.ensures.length c.rec.ensures
+
+pub returns-clause-last : goal.returns-clause-last
+returns-clause-last g t c =
+    last_up c.last_under.result (g.S.PageStore.told c.args.store.now) (g.S.PageStore.told c.read_inner.new.store) c.args.page c.args.height c.child.result c.len-2.result c.in_ok-inner.inner
+    c.in_ok-inner.ensures.told c.requires.height c.if-height-eq1.false c.in_ok-inner.ensures.inner c.len-2.ensures.length c.child.ensures.child c.last_under.ensures.last
+
+pub returns-clause-sound : goal.returns-clause-sound
+returns-clause-sound g t c =
+    sound_end c.last_under.result (g.S.PageStore.told c.args.store.now) (g.S.PageStore.told c.read_inner.new.store) c.args.page c.args.height c.child.result c.len-2.result c.in_ok-inner.inner
+    c.in_ok-inner.ensures.told c.requires.height c.if-height-eq1.false c.in_ok-inner.ensures.inner c.len-2.ensures.length c.child.ensures.child c.last_under.ensures.sound
+
+pub returns-in_err-leaf-clause-sound : goal.returns-in_err-leaf-clause-sound
+returns-in_err-leaf-clause-sound g t c =
+    let p = err_from_is_err_and c.from_residual.result c.from_residual.ensures.1 in
+    rw (p.1, p.2) (λ rs s. c.in_err-leaf.ensures.sound c.args.height rs c.if-height-eq1.true s)

@@ -1,0 +1,23 @@
+use Rattle.std.proofs.Common.{◌≡◌, ◌+◌, ◌*◌, ◌-◌, ◌≤◌, List, vec_len}
+use Rattle.quilt_record.specs.declared.key.Key.{Key}
+use Rattle.quilt_record.specs.declared.record.Record.{Record}
+use Rattle.quilt_store.specs.Store.{Tells}
+use Rattle.quilt_btree.specs.Trees.{IsTree, Before}
+use Rattle.quilt_btree.proofs.tree.Tree.add_rest.Given as goal
+
+abbrev pub invariant-loop-k : goal.invariant-loop-k
+invariant-loop-k g l = record {
+  goes_on : (low : Key) (rs : List Record) → IsTree (g.S.PageStore.told l.initial.store) l.self rs → Before (g.S.PageStore.told l.initial.store) l.self low l.high l.most l.initial.next rs l.initial.records.items → Before (g.S.PageStore.told l.initial.store) l.self low l.high l.most l.next rs l.records.items;
+  room : vec_len l.records ≤ l.most;
+  more : vec_len l.initial.records ≤ vec_len l.records;
+  faults : g.S.PageStore.faults l.initial.store ≤ g.S.PageStore.faults l.store;
+  size : g.S.PageStore.size l.store ≡ g.S.PageStore.size l.initial.store;
+  told : g.S.PageStore.told l.store ≡ g.S.PageStore.told l.initial.store;
+  free : g.S.PageStore.free l.store ≡ g.S.PageStore.free l.initial.store;
+  later : g.S.PageStore.later l.initial.store l.store;
+  reads : Tells (λ old new. new + 3 * vec_len l.initial.records ≤ old + 3 * vec_len l.records) (g.S.PageStore.reads l.initial.store) (g.S.PageStore.reads l.store);
+  changed : g.S.PageStore.changed l.store ≤ g.S.PageStore.changed l.initial.store;
+}
+
+abbrev pub decreases-loop-k : goal.decreases-loop-k
+decreases-loop-k g l = l.most - vec_len l.records

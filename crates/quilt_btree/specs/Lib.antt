@@ -1,0 +1,4 @@
+pub mod Lists
+pub mod Stops
+pub mod Subtree
+pub mod Trees

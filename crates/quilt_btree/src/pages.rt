@@ -1,0 +1,74 @@
+ghost use Rattle.std.specs.Prelude.{◌≡◌, ℕ, ◌+◌, ◌<◌, ◌≤◌, true, IfOk, IfErr, OnOk, IfSome, IsTrue, List, [], Some, length, slice_index_or, ◌==◌};
+ghost use Rattle.std.specs.List.{list_any};
+ghost use Rattle.quilt_record.specs.declared.record.Record.{Record};
+ghost use Rattle.quilt_node.specs.Nodes.{are_pages};
+ghost use Rattle.quilt_store.specs.Store.{Tells, Touches};
+ghost use Rattle.quilt_btree.specs.Stops.{store_stop, HasStopCause, IsSound};
+ghost use Rattle.quilt_btree.specs.Trees.{ReadsLeaf, ReadsInner, Spells};
+
+use quilt_node::{InnerPage, LeafPage, inner_of, leaf_of};
+use quilt_store::{PageStore, StoreErr};
+use quilt_types::Stop;
+
+/// The store's reason as the tree's.
+pub fn stop_of(e: StoreErr) -> Stop
+    ensures { result ≡ store_stop e }
+{
+    match e {
+        StoreErr::Device => Stop::Device,
+        StoreErr::Memory => Stop::Memory,
+    }
+}
+
+/// The leaf at a page.
+pub fn read_leaf<S: PageStore>(store: &mut S, page: u32) -> Result<LeafPage, Stop>
+    requires { (1 ≤ page) × (page < S.size store.old) }
+    ensures leaf { IfOk result (λ leaf. ReadsLeaf (S.told store.old) page leaf) }
+    ensures sound { IfErr result (λ e. (height : ℕ) (rs : List Record) → height ≡ 1 → Spells (S.told store.old) page height rs → IsSound e) }
+    ensures cause { HasStopCause (S.faults store.old) (S.faults store.new) result }
+    ensures size { S.size store.new ≡ S.size store.old }
+    ensures told { S.told store.new ≡ S.told store.old }
+    ensures free { S.free store.new ≡ S.free store.old }
+    ensures later { S.later store.old store.new }
+    ensures held { OnOk result (Tells (Touches page) (S.held store.old) (S.held store.new)) }
+    ensures reads { Tells (λ old new. new ≤ old + 1) (S.reads store.old) (S.reads store.new) }
+    ensures held_is_free { IfSome (S.held store.old) (λ pages. IsTrue (list_any (λ p. p == page) pages) → Tells (λ old new. new ≤ old) (S.reads store.old) (S.reads store.new)) }
+    ensures changed { S.changed store.new ≤ S.changed store.old }
+{
+    let mut bytes = [0; 4096];
+    match store.read(page, &mut bytes) {
+        Err(e) => Err(stop_of(e)),
+        Ok(()) => match leaf_of(&bytes) {
+            None => Err(Stop::Damaged { page }),
+            Some(leaf) => Ok(leaf),
+        },
+    }
+}
+
+/// The inner page of this height at a page.
+pub fn read_inner<S: PageStore>(store: &mut S, page: u32, height: u8) -> Result<InnerPage, Stop>
+    requires page { (1 ≤ page) × (page < S.size store.old) }
+    requires height { 2 ≤ height }
+    ensures inner { IfOk result (λ inner. ReadsInner (S.told store.old) page inner) }
+    ensures height { IfOk result (λ inner. inner.height ≡ height) }
+    ensures children { IfOk result (λ inner. are_pages (S.size store.old) inner.children ≡ true) }
+    ensures sound { IfErr result (λ e. (rs : List Record) → Spells (S.told store.old) page height rs → IsSound e) }
+    ensures cause { HasStopCause (S.faults store.old) (S.faults store.new) result }
+    ensures size { S.size store.new ≡ S.size store.old }
+    ensures told { S.told store.new ≡ S.told store.old }
+    ensures free { S.free store.new ≡ S.free store.old }
+    ensures later { S.later store.old store.new }
+    ensures held { OnOk result (Tells (Touches page) (S.held store.old) (S.held store.new)) }
+    ensures reads { Tells (λ old new. new ≤ old + 1) (S.reads store.old) (S.reads store.new) }
+    ensures held_is_free { IfSome (S.held store.old) (λ pages. IsTrue (list_any (λ p. p == page) pages) → Tells (λ old new. new ≤ old) (S.reads store.old) (S.reads store.new)) }
+    ensures changed { S.changed store.new ≤ S.changed store.old }
+{
+    let mut bytes = [0; 4096];
+    match store.read(page, &mut bytes) {
+        Err(e) => Err(stop_of(e)),
+        Ok(()) => match inner_of(&bytes, store.pages()) {
+            Some(inner) if inner.height() == height => Ok(inner),
+            _ => Err(Stop::Damaged { page }),
+        },
+    }
+}

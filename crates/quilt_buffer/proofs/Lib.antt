@@ -1,0 +1,5 @@
+pub mod Adding
+pub mod Buffers
+pub mod Filling
+pub mod Reaching
+pub mod Squares

@@ -1,0 +1,10 @@
+//! Chessboard buffers: the pixels that a number of a king's moves brings to a coloured one.
+#![tactic(auto)]
+
+mod buffering;
+mod reach;
+
+pub use buffering::buffer;
+
+#[cfg(test)]
+mod tests;

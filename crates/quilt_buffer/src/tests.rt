@@ -1,0 +1,59 @@
+ghost use Rattle.std.specs.Prelude.{◌≡◌, ◌≤◌, IfOk};
+
+use super::*;
+use quilt_blocks::{LeafList, Maker};
+use quilt_loc::pixel_of;
+use quilt_types::{Block, Colour, Pixel};
+use std::alloc::{AllocError, Global};
+use std::test::Fail;
+
+/// A map with colour 9 at one pixel, the one with this code, and 0 elsewhere.
+fn dotted(alloc: Global, level: u8, dot: u32) -> Result<LeafList, AllocError>
+    requires least { 1 ≤ level }
+    requires most { level ≤ 12 }
+    ensures { IfOk result (λ list. list.level ≡ level) }
+{
+    let mut maker = Maker::new(alloc, level);
+    for code in 0..1_u32 << (2 * level) {
+        let Pixel { x, y } = pixel_of(code);
+        let colour = if code == dot { Colour(9) } else { Colour(0) };
+        maker.push(Block { x, y, side: 1 }, colour)?;
+    }
+    Ok(maker.finish())
+}
+
+#[test]
+fn around_a_corner(rt: HostRuntime) -> Result<(), Fail> {
+    let a = dotted(rt.alloc(), 3, 0)?;
+    let b = buffer(rt.alloc(), &a, 1)?;
+    assert_eq!(rt; b.colour_at(Pixel { x: 1, y: 1 }), Colour(1));
+    assert_eq!(rt; b.colour_at(Pixel { x: 2, y: 0 }), Colour(0));
+    assert_eq!(rt; b.colour_at(Pixel { x: 1, y: 2 }), Colour(0));
+    let all = buffer(rt.alloc(), &a, 8)?;
+    assert_eq!(rt; all.len(), 1);
+    assert_eq!(rt; all.colour_at(Pixel { x: 7, y: 7 }), Colour(1));
+    Ok(())
+}
+
+#[test]
+fn around_nothing(rt: HostRuntime) -> Result<(), Fail> {
+    let a = dotted(rt.alloc(), 3, 64)?;
+    let b = buffer(rt.alloc(), &a, 3)?;
+    assert_eq!(rt; b.len(), 1);
+    assert_eq!(rt; b.colour_at(Pixel { x: 0, y: 0 }), Colour(0));
+    Ok(())
+}
+
+#[test]
+fn around_a_pixel(rt: HostRuntime) -> Result<(), Fail> {
+    // The pixel with code 39 is that at (3, 5).
+    let a = dotted(rt.alloc(), 4, 39)?;
+    let b = buffer(rt.alloc(), &a, 2)?;
+    for y in 0..16_u16 {
+        for x in 0..16_u16 {
+            let is_near = x.abs_diff(3) <= 2 && y.abs_diff(5) <= 2;
+            assert_eq!(rt; b.colour_at(Pixel { x, y }) == Colour(1), is_near);
+        }
+    }
+    Ok(())
+}

@@ -1,0 +1,11 @@
+//! Measures of region layers by their leaves: areas, leaves by size, and perimeters. They take no memory.
+#![tactic(auto)]
+
+mod bounding;
+mod counting;
+
+pub use bounding::perimeter;
+pub use counting::{area, histogram};
+
+#[cfg(test)]
+mod tests;

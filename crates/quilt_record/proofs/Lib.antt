@@ -1,0 +1,5 @@
+pub mod BlockKeys
+pub mod CodeLaws
+pub mod Entries
+pub mod Names
+pub mod Readers

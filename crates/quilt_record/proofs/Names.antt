@@ -1,0 +1,155 @@
+-- A name with zeros behind it.
+use Rattle.std.proofs.Common.{◌≡◌, ℕ, zero, suc, ◌+◌, ◌-◌, ◌<◌, ◌≤◌, ◌⊎◌, inl, inr, Bool, true, false, ◌&&◌, ◌||◌, not, cond, nat_le, eqb-true, List, [], ◌∷◌, ◌++◌, length, take, drop, get_or, slice_index, Option, Some, None, IsSome, IfSome, replicate, refl, sym, ◌∙◌, ap, subst, arith, one-add, lit<}
+use Rattle.std.specs.Prelude.{◌==◌}
+use Rattle.std.specs.List.{list_all, position_or_len}
+use Rattle.std.specs.Str.{IsAscii}
+use Rattle.std.proofs.Math.Seq.{take-append_seam, drop-append_seam}
+use Rattle.std.proofs.lemmas.List.{length-append, length-replicate}
+use Rattle.std.proofs.lemmas.Bool.Decides.{nat_tests}
+use Rattle.quilt_types.specs.Layers.{is_name, is_name_byte, is_letter}
+use Rattle.std.proofs.lemmas.List.{get_or-append-add}
+use Rattle.std.specs.Prelude.{unwrap_or}
+use Rattle.quilt_types.specs.declared.plane.Kind.{Kind}
+use Rattle.quilt_types.specs.Facts.{IsOfKind}
+use Rattle.quilt_record.specs.declared.entry.Entry.{Entry}
+use Rattle.quilt_record.specs.declared.record.Record.{Record}
+use Rattle.quilt_record.specs.Listing.{IsEntryOf, kind_number, threshold_of}
+use Rattle.quilt_record.specs.Records.{filled, record_of}
+
+and_parts : (a b : Bool) → a && b ≡ true → (a ≡ true) × (b ≡ true)
+and_parts true b h = (refl, h)
+and_parts false b h = cc
+
+and_both : (a b : Bool) → a ≡ true → b ≡ true → a && b ≡ true
+and_both true b h g = g
+and_both false b h g = cc
+
+or_parts : (a b : Bool) → a || b ≡ true → (a ≡ true) ⊎ (b ≡ true)
+or_parts true b h = inl refl
+or_parts false b h = inr h
+
+le_of_test : (m n : ℕ) → nat_le m n ≡ true → m ≤ n
+le_of_test m n h = grind (arith, nat_tests)
+
+-- a byte of a name is no zero, and below 128
+pub record IsPlain (c : ℕ) : Type 0 where
+  pub some : 1 ≤ c
+  pub most : c < 128
+
+letter_plain : (c : ℕ) → is_letter c ≡ true → IsPlain c
+letter_plain c h =
+    let t = and_parts (nat_le 97 c) (nat_le c 122) h in
+    let low = le_of_test 97 c t.0 in
+    let high = le_of_test c 122 t.1 in
+    record { some = omega (arith, low); most = omega (arith, high) }
+
+digit_plain : (c : ℕ) → nat_le 48 c && nat_le c 57 ≡ true → IsPlain c
+digit_plain c h =
+    let t = and_parts (nat_le 48 c) (nat_le c 57) h in
+    let low = le_of_test 48 c t.0 in
+    let high = le_of_test c 57 t.1 in
+    record { some = omega (arith, low); most = omega (arith, high) }
+
+byte_plain : (c : ℕ) → is_name_byte c ≡ true → IsPlain c
+byte_plain c h =
+    elim (or_parts (is_letter c || (nat_le 48 c && nat_le c 57)) (c == 95) h) [
+      | inl r ↦ elim (or_parts (is_letter c) (nat_le 48 c && nat_le c 57) r) [ inl l ↦ letter_plain c l | inr d ↦ digit_plain c d ]
+      | inr e ↦ let same : c ≡ 95 = eqb-true c 95 e in record { some = omega (arith, same); most = omega (arith, same) }
+    ]
+
+abbrev ArePlain : List ℕ → Type 0
+ArePlain [] = Unit {0}
+ArePlain (c ∷ cs) = IsPlain c × ArePlain cs
+
+bytes_plain : (cs : List ℕ) → list_all is_name_byte cs ≡ true → ArePlain cs
+bytes_plain [] h = tt
+bytes_plain (c ∷ cs) h = let t = and_parts (is_name_byte c) (list_all is_name_byte cs) h in (byte_plain c t.0, bytes_plain cs t.1)
+
+name_plain : (n : List ℕ) → is_name n ≡ true → ArePlain n
+name_plain [] h = tt
+name_plain (c ∷ cs) h =
+    let t = and_parts (is_letter c && list_all is_name_byte cs) (nat_le (length cs) 11) h in
+    let u = and_parts (is_letter c) (list_all is_name_byte cs) t.0 in
+    (letter_plain c u.0, bytes_plain cs u.1)
+
+ascii_plain : (cs : List ℕ) → ArePlain cs → IsAscii cs
+ascii_plain [] h i = lit< tt
+ascii_plain (c ∷ cs) h zero = h.0.most
+ascii_plain (c ∷ cs) h (suc i) = ascii_plain cs h.1 i
+
+pub name_ascii : (n : List ℕ) → is_name n ≡ true → IsAscii n
+name_ascii n h = ascii_plain n (name_plain n h)
+
+not_zero : (c : ℕ) → 1 ≤ c → (c == 0) ≡ false
+not_zero c h = grind (arith, nat_tests)
+
+zeros_first : (k : ℕ) → position_or_len (λ c. c == 0) (replicate {A = ℕ} k 0) ≡ 0
+zeros_first zero = refl
+zeros_first (suc k) = refl
+
+first_at : (cs : List ℕ) (k : ℕ) → ArePlain cs → position_or_len (λ c. c == 0) (cs ++ replicate k 0) ≡ length cs
+first_at [] k h = zeros_first k
+first_at (c ∷ cs) k h =
+    ap (λ b. cond (not b) (1 + position_or_len (λ d. d == 0) (cs ++ replicate k 0)) 0) (not_zero c h.0.some)
+    ∙ ap (λ n. 1 + n) (first_at cs k h.1) ∙ one-add (length cs)
+
+-- the bytes before the zeros are the name
+pub name_first : (n bytes : List ℕ) → is_name n ≡ true → bytes ≡ filled 12 n → take (position_or_len (λ c. c == 0) bytes) bytes ≡ n
+name_first n bytes h e =
+    ap (λ l. take (position_or_len (λ c. c == 0) l) l) e
+    ∙ ap (λ m. take m (n ++ replicate (12 - length n) 0)) (first_at n (12 - length n) (name_plain n h)) ∙ take-append_seam n (replicate (12 - length n) 0)
+
+name_short : (n : List ℕ) → is_name n ≡ true → length n ≤ 12
+name_short [] h = omega arith
+name_short (c ∷ cs) h =
+    let t = and_parts (is_letter c && list_all is_name_byte cs) (nat_le (length cs) 11) h in
+    let few = le_of_test (length cs) 11 t.1 in
+    omega (arith, few)
+
+-- the name's part of a value has 12 bytes
+pub name_long : (n : List ℕ) → is_name n ≡ true → length (filled 12 n) ≡ 12
+name_long n h =
+    let few = name_short n h in
+    length-append n (replicate {A = ℕ} (12 - length n) 0) ∙ ap (λ m. length n + m) (length-replicate {A = ℕ} (12 - length n) 0) ∙ omega (arith, few)
+
+-- what stands in and behind the first twelve bytes
+pub first_twelve : (f z : List ℕ) → length f ≡ 12 → take 12 (f ++ z) ≡ f
+first_twelve f z e = ap (λ n. take n (f ++ z)) (sym e) ∙ take-append_seam f z
+
+pub behind_twelve : (f z : List ℕ) → length f ≡ 12 → drop 12 (f ++ z) ≡ z
+behind_twelve f z e = ap (λ n. drop n (f ++ z)) (sym e) ∙ drop-append_seam f z
+
+pub some_is : (o : Option (List ℕ)) (w : List ℕ) → IsSome o → IfSome o (λ m. m ≡ w) → o ≡ Some w
+some_is None w h g = cc
+some_is (Some m) w h g = ap Some g
+
+pub place_behind : (f z : List ℕ) (k : ℕ) → length f ≡ 12 → slice_index (f ++ z) (12 + k) ≡ slice_index z k
+place_behind f z k e = ap (λ n. slice_index (f ++ z) (n + k)) (sym e) ∙ get_or-append-add f z k 0
+
+pub some_same : {A : Type 0} (a b : A) → ◌≡◌ {A = Option A} (Some a) (Some b) → a ≡ b
+some_same {A} a b h = let f : Option A → A = λ o. unwrap_or o a in ap f h
+
+-- what the record of an entry says
+pub entry_number : (r : Record) (e : Entry) → IsEntryOf r e → r.key.item ≡ e.number
+entry_number r e f = ap (λ (s : Record). s.key.item) (f.written 0)
+
+pub entry_kind : (r : Record) (e : Entry) → IsEntryOf r e → slice_index r.value 12 ≡ kind_number e.kind
+entry_kind r e f =
+    ap (λ (s : Record). slice_index s.value 12) (f.written 0)
+    ∙ place_behind (filled 12 e.name) (kind_number e.kind ∷ threshold_of e.kind ∷ 0 ∷ 0 ∷ []) 0 (name_long e.name f.named)
+
+pub entry_threshold : (r : Record) (e : Entry) → IsEntryOf r e → slice_index r.value 13 ≡ threshold_of e.kind
+entry_threshold r e f =
+    ap (λ (s : Record). slice_index s.value 13) (f.written 0)
+    ∙ place_behind (filled 12 e.name) (kind_number e.kind ∷ threshold_of e.kind ∷ 0 ∷ 0 ∷ []) 1 (name_long e.name f.named)
+
+pub entry_name : (r : Record) (e : Entry) → IsEntryOf r e → take 12 r.value ≡ filled 12 e.name
+entry_name r e f =
+    ap (λ (s : Record). take 12 s.value) (f.written 0)
+    ∙ first_twelve (filled 12 e.name) (kind_number e.kind ∷ threshold_of e.kind ∷ 0 ∷ 0 ∷ []) (name_long e.name f.named)
+
+pub entry_again : (r made : Record) (e : Entry) (number : ℕ) (name : List ℕ) (kind : Kind) → IsEntryOf r e → number ≡ e.number → name ≡ e.name → kind ≡ e.kind
+    → made ≡ record_of 0 name number (IsOfKind (kind_number kind) (threshold_of kind)) → made ≡ r
+entry_again r made e number name kind f same_number same_name same_kind g =
+    g ∙ ap (λ m. record_of 0 name m (IsOfKind (kind_number kind) (threshold_of kind))) same_number ∙ ap (λ l. record_of 0 l e.number (IsOfKind (kind_number kind) (threshold_of kind))) same_name
+    ∙ ap (λ k. record_of 0 e.name e.number (IsOfKind (kind_number k) (threshold_of k))) same_kind ∙ sym (f.written 0)

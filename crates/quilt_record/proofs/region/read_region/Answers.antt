@@ -1,0 +1,20 @@
+use Rattle.std.proofs.Common.{◌≡◌, true, false, Some, ◌∙◌, sym}
+use Rattle.quilt_record.proofs.Readers.{pair_same, region_named, region_colour, region_again}
+use Rattle.quilt_record.proofs.region.read_region.Goals as goal
+
+true_false : true ≡ false → ⊥
+true_false e = cc
+
+pub returns-in_default-clause-one : goal.returns-in_default-clause-one
+returns-in_default-clause-one c layer b colour f = absurd (c.in_default.not-Some (layer, b) (c.named.ensures.one layer b (region_named c.args.level c.args.r.now layer b colour.0 f)))
+
+pub returns-then-not-is_same-clause-one : goal.returns-then-not-is_same-clause-one
+returns-then-not-is_same-clause-one c layer b colour f =
+    let same = pair_same c.in-Some.layer layer c.in-Some.b b (sym c.in-Some.is ∙ c.named.ensures.one layer b (region_named c.args.level c.args.r.now layer b colour.0 f)) in
+    absurd (true_false (sym (c.is_same.ensures.no (region_again c.args.level c.args.r.now c.region_record.result layer c.in-Some.layer b c.in-Some.b colour.0 f same.0 same.1 c.region_record.ensures)) ∙ c.if-not-is_same.true))
+
+pub returns-clause-one : goal.returns-clause-one
+returns-clause-one c layer b colour f =
+    let same = pair_same c.in-Some.layer layer c.in-Some.b b (sym c.in-Some.is ∙ c.named.ensures.one layer b (region_named c.args.level c.args.r.now layer b colour.0 f)) in
+    let value = region_colour c.args.level c.args.r.now layer b colour.0 f in
+    λ i. Some (same.1 i, record { 0 = value i })

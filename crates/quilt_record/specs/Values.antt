@@ -1,0 +1,23 @@
+-- What the value of a record says.
+use Rattle.std.specs.Prelude.{ℕ, ◌+◌, ◌==◌, List, Option, Some, None, if◌then◌else◌, slice_index, slice_range}
+use Rattle.std.specs.Int.{from_be_bytes, w16, w32}
+use Rattle.quilt_types.specs.declared.plane.Point.{Point}
+use Rattle.quilt_types.specs.declared.plane.Seg.{Seg}
+use Rattle.quilt_record.specs.declared.record.Record.{Record}
+
+-- the number in the two bytes at a place
+abbrev pub short_in : List ℕ → ℕ → ℕ
+short_in value at = from_be_bytes w16 (slice_range value at (at + 2))
+
+-- a point, where the first byte is not 0
+abbrev pub held_of : List ℕ → Option Point
+held_of value =
+    if slice_index value 0 == 0 then None
+    else Some (record { at = record { y = short_in value 3; x = short_in value 1 }; label = from_be_bytes w32 (slice_range value 5 9) })
+
+-- the id in the key, where the first byte is not 0
+abbrev pub id_of : Record → Option ℕ
+id_of r = if slice_index r.value 0 == 0 then None else Some r.key.item
+
+abbrev pub segment_of : List ℕ → Seg
+segment_of value = record { x1 = short_in value 0; y1 = short_in value 2; x2 = short_in value 4; y2 = short_in value 6 }

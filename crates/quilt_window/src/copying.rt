@@ -1,0 +1,110 @@
+ghost use Rattle.std.specs.Prelude.{◌≡◌, ◌+◌, ◌<◌, ◌≤◌, length, IfOk, OnOk, IfSome, IsNone};
+ghost use Rattle.quilt_types.specs.declared.plane.Pixel.{Pixel as PixelValue};
+ghost use Rattle.quilt_types.specs.Plane.{side as side_of, Holds, IsBlock, Within};
+ghost use Rattle.quilt_types.specs.Algebra.{grid_of};
+ghost use Rattle.quilt_loc.specs.Codes.{code_from, code_to, IsSide};
+ghost use Rattle.quilt_window.specs.Adding.{Adds};
+ghost use Rattle.quilt_window.specs.Copying.{IsSpan, copied, square};
+
+use crate::span::Span;
+use quilt_blocks::{LeafList, Maker};
+use quilt_loc::{block_at, parent, quarters};
+use quilt_types::{Block, Colour, Pixel};
+use std::alloc::{AllocError, Global};
+
+/// The leaves of the map whose pixels take their colours from another map by a span of each axis, and else are 0. It cuts
+/// the square into quarters down to squares of which no pixel takes a colour, or all from one leaf. Each of them costs two
+/// binary searches at most, and their number grows with the edges of the leaves there and here, not with the pixels.
+pub(crate) fn copy(
+    alloc: Global,
+    a: &LeafList,
+    across: Span,
+    down: Span,
+) -> Result<LeafList, AllocError>
+    requires across { IsSpan a.now.level across }
+    requires down { IsSpan a.now.level down }
+    ensures { IfOk result (λ list. list ≡ record { level = a.now.level; grid = grid_of a.now.level (copied a.now.level a.now.grid across down) }) }
+{
+    let level = a.level();
+    let whole = Block {
+        x: 0,
+        y: 0,
+        side: 1 << level,
+    };
+    let mut maker = Maker::new(alloc, level);
+    copy_block(&mut maker, a, across, down, whole)?;
+    Ok(maker.finish())
+}
+
+/// Puts the pixels of the block down, in squares of one colour.
+fn copy_block(
+    maker: &mut Maker,
+    a: &LeafList,
+    across: Span,
+    down: Span,
+    b: Block,
+) -> Result<(), AllocError>
+    requires least { 1 ≤ a.now.level }
+    requires most { a.now.level ≤ 12 }
+    requires valid { IsBlock a.now.level b }
+    requires across { IsSpan a.now.level across }
+    requires down { IsSpan a.now.level down }
+    requires level { maker.old.level ≡ a.now.level }
+    requires next { code_from b ≡ length maker.old.colours }
+    ensures { OnOk result (Adds a.now.level (copied a.now.level a.now.grid across down) (code_to b) maker.old maker.new) }
+{
+    if let Some(colour) = one_colour(a, across, down, b) {
+        return maker.push(b, colour);
+    }
+    for q in quarters(b) {
+        copy_block(maker, a, across, down, q)?;
+    }
+    Ok(())
+}
+
+/// The colour of all pixels of the block: 0 where none of them is in both spans, or that of the leaf from which all of
+/// them take theirs. None where neither is so, which never is at one pixel.
+fn one_colour(a: &LeafList, across: Span, down: Span, b: Block) -> Option<Colour>
+    requires least { 1 ≤ a.now.level }
+    requires most { a.now.level ≤ 12 }
+    requires valid { IsBlock a.now.level b }
+    requires across { IsSpan a.now.level across }
+    requires down { IsSpan a.now.level down }
+    ensures some { IfSome result (λ c. (p : PixelValue) → Holds b p → copied a.now.level a.now.grid across down p ≡ c.0) }
+    ensures none { IsNone result → 1 < b.side }
+{
+    if across.misses(b.x, b.side) || down.misses(b.y, b.side) {
+        return Some(Colour(0));
+    }
+    if !across.covers(b.x, b.side) || !down.covers(b.y, b.side) {
+        return None;
+    }
+    let source = Pixel {
+        x: across.source_of(b.x),
+        y: down.source_of(b.y),
+    };
+    if b.side == 1 {
+        return Some(a.colour_at(source));
+    }
+    a.uniform_in(block_around(source, b.side, a.level()))
+}
+
+/// The smallest block that holds the square of this side, a power of two, whose upper left pixel this is.
+fn block_around(p: Pixel, side: u16, level: u8) -> Block
+    requires least { 1 ≤ level }
+    requires most { level ≤ 12 }
+    requires power { IsSide side }
+    requires in_x { p.x + side ≤ side_of level }
+    requires in_y { p.y + side ≤ side_of level }
+    ensures valid { IsBlock level result }
+    ensures holds { Within (square p side) result }
+{
+    let mut b = block_at(p, side);
+    while p.x + side > b.x + b.side || p.y + side > b.y + b.side {
+        let Some(larger) = parent(b, level) else {
+            return b;
+        };
+        b = larger;
+    }
+    b
+}
