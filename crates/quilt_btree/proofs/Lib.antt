@@ -12,3 +12,7 @@ pub mod Whole
 pub mod Dividing
 pub mod Ranges
 pub mod Rests
+pub mod Counts
+pub mod Moves
+pub mod Room
+pub mod Splices
