@@ -93,24 +93,52 @@ pub record OnlyChild (pages news : List (List ℕ)) (free now : ℕ → Bool) (p
   pub subtree : Subtree news below false (child, b) all uses
   pub moves : Moves pages news free now used (uses ++ page ∷ [])
 
--- what became of the subtree at a page when the record of a key was taken out
-abbrev pub HasRemoved : Key → (pages news : List (List ℕ)) (free now : ℕ → Bool) → ℕ → ℕ → Bool → Bounds → List Record → List ℕ → Removed → Type 0
-HasRemoved k pages news free now page height is_root b rs used removed.Missing = list_any (has_key k) rs ≡ false
-HasRemoved k pages news free now page height is_root b rs used removed.Done =
-    (list_any (has_key k) rs ≡ true) × Becomes pages news free now page height is_root b used (without k rs)
-HasRemoved k pages news free now page height is_root b rs used removed.Short =
-    (list_any (has_key k) rs ≡ true) × (is_root ≡ false) × IsNearlyFull news height page × Becomes pages news free now page height true b used (without k rs)
-HasRemoved k pages news free now page height is_root b rs used removed.Emptied =
-    (list_any (has_key k) rs ≡ true) × (is_root ≡ true) × (height ≡ 1) × (without k rs ≡ []) × (news ≡ pages) × (now ≡ free) × (used ≡ page ∷ [])
-HasRemoved k pages news free now page height is_root b rs used (removed.Only child) =
-    (list_any (has_key k) rs ≡ true) × (is_root ≡ true) × OnlyChild pages news free now page height b used (without k rs) child
+-- the leaf at the root had one record, which is still written there
+pub record IsEmptied (pages news : List (List ℕ)) (free now : ℕ → Bool) (page height : ℕ) (is_root : Bool) (used : List ℕ) (all : List Record) : Type 0 where
+  pub root : is_root ≡ true
+  pub is_leaf : height ≡ 1
+  pub none : all ≡ []
+  pub stays : news ≡ pages
+  pub frees : now ≡ free
+  pub is_used : used ≡ page ∷ []
 
-pub record DidRemove (k : Key) (told now_told : Option (List (List ℕ))) (free now : ℕ → Bool) (page height : ℕ) (is_root : Bool) (b : Bounds) (rs : List Record) (used : List ℕ) (o : Removed) : Type 0 where
+-- what is left of the subtree at a page, which spells this list now
+abbrev pub HasLeft : (pages news : List (List ℕ)) (free now : ℕ → Bool) → ℕ → ℕ → Bool → Bounds → List ℕ → List Record → Removed → Type 0
+HasLeft pages news free now page height is_root b used all removed.Missing = ⊥
+HasLeft pages news free now page height is_root b used all removed.Done = Becomes pages news free now page height is_root b used all
+HasLeft pages news free now page height is_root b used all removed.Short =
+    (is_root ≡ false → IsNearlyFull news height page) × Becomes pages news free now page height true b used all
+HasLeft pages news free now page height is_root b used all removed.Emptied = IsEmptied pages news free now page height is_root used all
+HasLeft pages news free now page height is_root b used all (removed.Only child) =
+    (is_root ≡ true) × OnlyChild pages news free now page height b used all child
+
+-- what the store told before and tells now, where a subtree has come to spell this list
+pub record DidLeave (told now_told : Option (List (List ℕ))) (free now : ℕ → Bool) (page height : ℕ) (is_root : Bool) (b : Bounds) (used : List ℕ) (all : List Record) (o : Removed) : Type 0 where
   pub pages : List (List ℕ)
   pub news : List (List ℕ)
   pub was : told ≡ Some pages
   pub is : now_told ≡ Some news
-  pub done : HasRemoved k pages news free now page height is_root b rs used o
+  pub left : HasLeft pages news free now page height is_root b used all o
+
+-- what became of the subtree at a page when the record of a key was taken out
+abbrev pub DidRemove : Key → (told now_told : Option (List (List ℕ))) (free now : ℕ → Bool) → ℕ → ℕ → Bool → Bounds → List Record → List ℕ → Removed → Type 0
+DidRemove k told now_told free now page height is_root b rs used removed.Missing = list_any (has_key k) rs ≡ false
+DidRemove k told now_told free now page height is_root b rs used removed.Done =
+    (list_any (has_key k) rs ≡ true) × DidLeave told now_told free now page height is_root b used (without k rs) removed.Done
+DidRemove k told now_told free now page height is_root b rs used removed.Short =
+    (list_any (has_key k) rs ≡ true) × DidLeave told now_told free now page height is_root b used (without k rs) removed.Short
+DidRemove k told now_told free now page height is_root b rs used removed.Emptied =
+    (list_any (has_key k) rs ≡ true) × DidLeave told now_told free now page height is_root b used (without k rs) removed.Emptied
+DidRemove k told now_told free now page height is_root b rs used (removed.Only child) =
+    (list_any (has_key k) rs ≡ true) × DidLeave told now_told free now page height is_root b used (without k rs) (removed.Only child)
+
+-- a child that is left alone is a page from 1 on
+abbrev pub HasPageIn : ℕ → Removed → Type 0
+HasPageIn size removed.Missing = Unit {0}
+HasPageIn size removed.Done = Unit {0}
+HasPageIn size removed.Short = Unit {0}
+HasPageIn size removed.Emptied = Unit {0}
+HasPageIn size (removed.Only child) = (1 ≤ child) × (child < size)
 
 -- The whole tree: its records, their number, and the pages from 1 on that are free are exactly those that it does not use.
 pub record IsWhole (told : Option (List (List ℕ))) (free : ℕ → Bool) (size : ℕ) (t : Tree) (rs : List Record) : Type 0 where

@@ -1,5 +1,6 @@
 pub mod Edits
 pub mod Lists
+pub mod Mending
 pub mod Stops
 pub mod Subtree
 pub mod Trees

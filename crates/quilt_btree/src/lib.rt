@@ -2,10 +2,14 @@
 #![tactic(auto)]
 
 mod inserted;
+mod mended;
+mod mending;
 mod pages;
 mod ranging;
 mod reading;
 mod removed;
+mod removing;
 mod tree;
+mod writing;
 
 pub use tree::Tree;

@@ -1,0 +1,194 @@
+ghost use Rattle.std.specs.Prelude.{◌≡◌, ◌⊎◌, ℕ, suc, ◌+◌, ◌*◌, ◌<◌, ◌≤◌, Bool, true, false, IfOk, IfErr, OnOk, List, length, slice_set};
+ghost use Rattle.std.specs.List.{list_any};
+ghost use Rattle.quilt_record.specs.declared.record.Record.{Record};
+ghost use Rattle.quilt_node.specs.Pages.{is_ascending};
+ghost use Rattle.quilt_node.specs.Nodes.{are_pages};
+ghost use Rattle.quilt_node.specs.Edits.{with_key};
+ghost use Rattle.quilt_node.specs.Tree.{Bounds};
+ghost use Rattle.quilt_btree.specs.declared.removed.Removed.TheVariants.{Missing, Emptied};
+ghost use Rattle.quilt_btree.specs.Edits.{CanEdit, DidLeave, DidRemove, HasPageIn};
+ghost use Rattle.quilt_btree.specs.Lists.{has_key};
+ghost use Rattle.quilt_btree.specs.Mending.{HasShort, HasDropped, Writes};
+ghost use Rattle.quilt_btree.specs.Stops.{HasStopCause, IsSound};
+
+use crate::mended::Mended;
+use crate::mending::{key_fits, mend_pages};
+use crate::pages::{read_inner, read_leaf};
+use crate::removed::Removed;
+use crate::writing::write_page;
+use quilt_node::InnerPage;
+use quilt_record::Key;
+use quilt_store::PageStore;
+use quilt_types::Stop;
+
+/// Takes the record of a key out of the leaf at a page.
+fn remove_in_leaf<S: PageStore>(store: &mut S, page: u32, k: &Key) -> Result<Removed, Stop>
+    requires { (1 ≤ page) × (page < S.size store.old) }
+    ensures removed { IfOk result (λ o. (height : ℕ) (is_root : Bool) (b : Bounds) (rs : List Record) (used : List ℕ) → height ≡ 1 → CanEdit (S.told store.old) (S.free store.old) page height is_root b rs used → DidRemove k.now (S.told store.old) (S.told store.new) (S.free store.old) (S.free store.new) page height is_root b rs used o) }
+    ensures sound { IfErr result (λ e. (height : ℕ) (is_root : Bool) (b : Bounds) (rs : List Record) (used : List ℕ) → height ≡ 1 → CanEdit (S.told store.old) (S.free store.old) page height is_root b rs used → IsSound e) }
+    ensures same { IfOk result (λ o. o ≡ Missing → (S.told store.new ≡ S.told store.old) × (S.free store.new ≡ S.free store.old)) }
+    ensures child { IfOk result (λ o. HasPageIn (S.size store.old) o) }
+    ensures cause { HasStopCause (S.faults store.old) (S.faults store.new) result }
+    ensures size { S.size store.new ≡ S.size store.old }
+    ensures later { S.later store.old store.new }
+    ensures changed { S.changed store.new ≤ S.changed store.old + 1 }
+{
+    let mut leaf = read_leaf(store, page)?;
+    match leaf.find(k) {
+        Err(_) => Ok(Removed::Missing),
+        Ok(_) if leaf.len() == 1 => Ok(Removed::Emptied),
+        Ok(i) => {
+            leaf.remove(i);
+            let left = leaf.len();
+            match write_page(store, page, leaf.bytes()) {
+                Err(e) => Err(e),
+                Ok(()) => Ok(if left < 72 {
+                    Removed::Short
+                } else {
+                    Removed::Done
+                }),
+            }
+        }
+    }
+}
+
+/// The first of two neighbouring children of `n`, of which `i` is one.
+fn pair_at(i: usize, n: usize) -> usize
+    requires { (i < n) × (2 ≤ n) }
+    ensures both { result + 1 < n }
+    ensures one { (result ≡ i) ⊎ (result + 1 ≡ i) }
+{
+    if i + 1 < n { i } else { i - 1 }
+}
+
+/// Writes an inner page without key `j` and the child behind it, unless it has two children alone.
+fn drop_child<S: PageStore>(
+    store: &mut S,
+    page: u32,
+    inner: &mut InnerPage,
+    j: usize,
+) -> Result<Removed, Stop>
+    requires page { (1 ≤ page) × (page < S.size store.old) }
+    requires children { are_pages (S.size store.old) inner.old.children ≡ true }
+    requires place { j < length inner.old.keys }
+    ensures dropped { IfOk result (λ o. HasDropped page inner.old j (S.told store.old) (S.told store.new) o) }
+    ensures child { IfOk result (λ o. HasPageIn (S.size store.old) o) }
+    ensures some { IfOk result (λ o. o ≡ Missing → ⊥) }
+    ensures sound { IfErr result (λ e. S.free store.old page ≡ false → IsSound e) }
+    ensures free { S.free store.new ≡ S.free store.old }
+    ensures cause { HasStopCause (S.faults store.old) (S.faults store.new) result }
+    ensures size { S.size store.new ≡ S.size store.old }
+    ensures later { S.later store.old store.new }
+    ensures changed { S.changed store.new ≤ S.changed store.old + 1 }
+{
+    if inner.len() == 2 {
+        return Ok(Removed::Only {
+            child: inner.child(0),
+        });
+    }
+    inner.remove(j);
+    let left = inner.len();
+    match write_page(store, page, inner.bytes()) {
+        Err(e) => Err(e),
+        Ok(()) => Ok(if left < 127 {
+            Removed::Short
+        } else {
+            Removed::Done
+        }),
+    }
+}
+
+/// Writes an inner page with another key `j`.
+fn renew_key<S: PageStore>(
+    store: &mut S,
+    page: u32,
+    inner: &mut InnerPage,
+    j: usize,
+    key: &Key,
+) -> Result<(), Stop>
+    requires page { (1 ≤ page) × (page < S.size store.old) }
+    requires children { are_pages (S.size store.old) inner.old.children ≡ true }
+    requires place { j < length inner.old.keys }
+    ensures renewed { OnOk result (Writes page (with_key inner.old j key.now) (S.told store.old) (S.told store.new)) }
+    ensures order { OnOk result (is_ascending (slice_set inner.old.keys j key.now) ≡ true) }
+    ensures sound { IfErr result (λ e. S.free store.old page ≡ false → is_ascending (slice_set inner.old.keys j key.now) ≡ true → IsSound e) }
+    ensures free { S.free store.new ≡ S.free store.old }
+    ensures cause { HasStopCause (S.faults store.old) (S.faults store.new) result }
+    ensures size { S.size store.new ≡ S.size store.old }
+    ensures later { S.later store.old store.new }
+    ensures changed { S.changed store.new ≤ S.changed store.old + 1 }
+{
+    if !key_fits(inner, j, key) {
+        return Err(Stop::Damaged { page });
+    }
+    inner.set_key(j, key);
+    write_page(store, page, inner.bytes())
+}
+
+/// Mends child `i` of an inner page with a neighbour, and writes the page where it has two children or more then.
+fn mend_child<S: PageStore>(
+    store: &mut S,
+    page: u32,
+    height: u8,
+    inner: &mut InnerPage,
+    i: usize,
+) -> Result<Removed, Stop>
+    requires page { (1 ≤ page) × (page < S.size store.old) }
+    requires height { 2 ≤ height }
+    requires children { are_pages (S.size store.old) inner.old.children ≡ true }
+    requires place { i < length inner.old.children }
+    ensures left { IfOk result (λ o. (is_root : Bool) (b : Bounds) (rs : List Record) (used : List ℕ) → HasShort (S.told store.old) (S.free store.old) page height inner.old i is_root b rs used → DidLeave (S.told store.old) (S.told store.new) (S.free store.old) (S.free store.new) page height is_root b used rs o) }
+    ensures sound { IfErr result (λ e. (is_root : Bool) (b : Bounds) (rs : List Record) (used : List ℕ) → HasShort (S.told store.old) (S.free store.old) page height inner.old i is_root b rs used → IsSound e) }
+    ensures some { IfOk result (λ o. o ≡ Missing → ⊥) }
+    ensures child { IfOk result (λ o. HasPageIn (S.size store.old) o) }
+    ensures cause { HasStopCause (S.faults store.old) (S.faults store.new) result }
+    ensures size { S.size store.new ≡ S.size store.old }
+    ensures later { S.later store.old store.new }
+    ensures changed { S.changed store.new ≤ S.changed store.old + 3 }
+{
+    let j = pair_at(i, inner.len());
+    let left = inner.child(j);
+    let right = inner.child(j + 1);
+    let key = inner.key(j);
+    match mend_pages(store, height - 1, left, &key, right) {
+        Err(e) => Err(e),
+        Ok(Mended::Joined) => drop_child(store, page, inner, j),
+        Ok(Mended::Parted { key }) => match renew_key(store, page, inner, j, &key) {
+            Err(e) => Err(e),
+            Ok(()) => Ok(Removed::Done),
+        },
+    }
+}
+
+/// Takes the record of a key out of the subtree at a page.
+pub fn remove_under<S: PageStore>(
+    store: &mut S,
+    page: u32,
+    height: u8,
+    k: &Key,
+) -> Result<Removed, Stop>
+    requires page { (1 ≤ page) × (page < S.size store.old) }
+    requires height { 1 ≤ height }
+    ensures removed { IfOk result (λ o. (is_root : Bool) (b : Bounds) (rs : List Record) (used : List ℕ) → CanEdit (S.told store.old) (S.free store.old) page height is_root b rs used → DidRemove k.now (S.told store.old) (S.told store.new) (S.free store.old) (S.free store.new) page height is_root b rs used o) }
+    ensures sound { IfErr result (λ e. (is_root : Bool) (b : Bounds) (rs : List Record) (used : List ℕ) → CanEdit (S.told store.old) (S.free store.old) page height is_root b rs used → IsSound e) }
+    ensures same { IfOk result (λ o. o ≡ Missing → (S.told store.new ≡ S.told store.old) × (S.free store.new ≡ S.free store.old)) }
+    ensures child { IfOk result (λ o. HasPageIn (S.size store.old) o) }
+    ensures cause { HasStopCause (S.faults store.old) (S.faults store.new) result }
+    ensures size { S.size store.new ≡ S.size store.old }
+    ensures later { S.later store.old store.new }
+    ensures changed { S.changed store.new + 2 ≤ S.changed store.old + 3 * height }
+{
+    if height == 1 {
+        return remove_in_leaf(store, page, k);
+    }
+    let mut inner = read_inner(store, page, height)?;
+    let i = inner.place(k);
+    let child = inner.child(i);
+    match remove_under(store, child, height - 1, k) {
+        Err(e) => Err(e),
+        Ok(Removed::Missing) => Ok(Removed::Missing),
+        Ok(Removed::Done) => Ok(Removed::Done),
+        Ok(Removed::Short) => mend_child(store, page, height, &mut inner, i),
+        Ok(_) => Err(Stop::Damaged { page: child }),
+    }
+}
