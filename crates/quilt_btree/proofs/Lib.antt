@@ -16,3 +16,9 @@ pub mod Counts
 pub mod Moves
 pub mod Room
 pub mod Splices
+pub mod Ascents
+pub mod Cuts
+pub mod LeafRemovals
+pub mod Pairs
+pub mod Partings
+pub mod LeafMends

@@ -1,5 +1,5 @@
 -- What mends a page with one record or child too few.
-use Rattle.std.specs.Prelude.{◌≡◌, ℕ, suc, ◌+◌, ◌<◌, ◌≤◌, ◌==◌, Bool, true, false, ◌||◌, nat_le, List, [], ◌∷◌, ◌++◌, Option, Some, length, slice_index, slice_index_or, slice_set}
+use Rattle.std.specs.Prelude.{◌≡◌, ◌≢◌, ℕ, suc, ◌+◌, ◌<◌, ◌≤◌, ◌==◌, Bool, true, false, ◌||◌, nat_le, List, [], ◌∷◌, ◌++◌, Option, Some, length, slice_index, slice_index_or, slice_set}
 use Rattle.quilt_record.specs.declared.key.Key.{Key}
 use Rattle.quilt_record.specs.declared.record.Record.{Record}
 use Rattle.quilt_node.specs.Pages.{Inner, inner_of}
@@ -84,8 +84,7 @@ HasDropped page inner j told now_told removed.Emptied = ⊥
 HasDropped page inner j told now_told (removed.Only child) =
     (length inner.children ≡ 2) × (child ≡ slice_index inner.children 0) × (now_told ≡ told)
 
--- the page on the left has these bytes now, and the other pages but the one on the right are as they were
-pub record HasLeftOnly (left : ℕ) (bytes : List ℕ) (right : ℕ) (pages news : List (List ℕ)) : Type 0 where
+-- a page was given back, and may hold anything
+pub record HasGiven (page : ℕ) (pages news : List (List ℕ)) : Type 0 where
   pub size : length news ≡ length pages
-  pub here : (left ≡ right → ⊥) → slice_index_or news left [] ≡ bytes
-  pub others : (q : ℕ) → (q ≡ left → ⊥) → (q ≡ right → ⊥) → slice_index_or news q [] ≡ slice_index_or pages q []
+  pub others : (q : ℕ) → q ≢ page → slice_index_or news q [] ≡ slice_index_or pages q []

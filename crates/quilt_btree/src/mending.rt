@@ -27,6 +27,7 @@ fn is_under(a: &Key, b: &Key) -> bool
 fn leaves_ascend(left: &LeafPage, right: &LeafPage) -> bool
     ensures { result ≡ is_ascending (keys_of (left.now ++ right.now)) }
 {
+    let _ = right.len();
     let last = left.rec(left.len() - 1);
     let first = right.rec(0);
     is_under(&last.key, &first.key)
@@ -36,6 +37,7 @@ fn leaves_ascend(left: &LeafPage, right: &LeafPage) -> bool
 fn inners_ascend(left: &InnerPage, key: &Key, right: &InnerPage) -> bool
     ensures { result ≡ is_ascending (left.now.keys ++ key.now ∷ right.now.keys) }
 {
+    let _ = right.len();
     let last = left.key(left.len() - 2);
     let first = right.key(0);
     is_under(&last, key) && is_under(key, &first)
@@ -46,10 +48,11 @@ pub fn key_fits(inner: &InnerPage, i: usize, key: &Key) -> bool
     requires { i < length inner.now.keys }
     ensures { result ≡ is_ascending (slice_set inner.now.keys i key.now) }
 {
+    let n = inner.len();
     if 0 < i && !is_under(&inner.key(i - 1), key) {
         return false;
     }
-    if i + 2 < inner.len() { is_under(key, &inner.key(i + 1)) } else { true }
+    if i + 2 < n { is_under(key, &inner.key(i + 1)) } else { true }
 }
 
 /// Moves a record to the one of two leaves that has under 72. They have more than 144 together.
@@ -115,6 +118,7 @@ fn mend_leaves<S: PageStore>(
         };
     }
     share_records(&mut first, &mut rest);
+    let _ = rest.len();
     let parting = rest.rec(0).key;
     match write_both(store, left, first.bytes(), right, rest.bytes()) {
         Err(e) => Err(e),

@@ -1,7 +1,7 @@
 ghost use Rattle.std.specs.Prelude.{◌≡◌, ℕ, ◌+◌, ◌<◌, ◌≤◌, true, false, OnOk, IfErr, slice_set};
 ghost use Rattle.quilt_store.specs.Store.{Tells, FreesOnly};
 ghost use Rattle.quilt_btree.specs.Stops.{HasStopCause, IsSound};
-ghost use Rattle.quilt_btree.specs.Mending.{HasLeftOnly};
+ghost use Rattle.quilt_btree.specs.Mending.{HasGiven};
 
 use crate::pages::stop_of;
 use quilt_store::PageStore;
@@ -41,7 +41,7 @@ pub fn write_and_give<S: PageStore>(
 ) -> Result<(), Stop>
     requires left { (1 ≤ left) × (left < S.size store.old) }
     requires right { (1 ≤ right) × (right < S.size store.old) }
-    ensures told { OnOk result (Tells (HasLeftOnly left bytes.now right) (S.told store.old) (S.told store.new)) }
+    ensures told { OnOk result (Tells (λ old new. HasGiven right (slice_set old left bytes.now) new) (S.told store.old) (S.told store.new)) }
     ensures free { OnOk result (FreesOnly right true (S.free store.old) (S.free store.new)) }
     ensures taken { OnOk result (S.free store.old right ≡ false) }
     ensures sound { IfErr result (λ e. S.free store.old left ≡ false → S.free store.old right ≡ false → IsSound e) }

@@ -1,0 +1,50 @@
+use Rattle.std.proofs.Common.{◌∙◌, sym, arith}
+use Rattle.std.proofs.lemmas.Result.{err_from_is_err_and}
+use Rattle.quilt_btree.proofs.LeafRemovals.{leaf_missing, leaf_emptied, leaf_short, leaf_done, leaf_reads}
+use Rattle.quilt_btree.proofs.removing.remove_in_leaf.Goals as goal
+
+pub returns-in_err-leaf-clause-sound : goal.returns-in_err-leaf-clause-sound
+returns-in_err-leaf-clause-sound g c =
+    let p = err_from_is_err_and c.from_residual.result c.from_residual.ensures.1 in
+    rw (p.1, p.2) (λ height is_root b rs used one can. c.in_err-leaf.ensures.sound height rs one (leaf_reads (g.S.PageStore.told c.args.store.now) (g.S.PageStore.free c.args.store.now) c.args.page height is_root b rs used can))
+
+pub returns-in-Err-clause-removed : goal.returns-in-Err-clause-removed
+returns-in-Err-clause-removed g c = λ height is_root b rs used one can.
+    leaf_missing c.args.k.now (g.S.PageStore.told c.args.store.now) (g.S.PageStore.told c.read_leaf.new.store) (g.S.PageStore.free c.args.store.now) (g.S.PageStore.free c.read_leaf.new.store)
+    c.args.page height c.in-Err.field-0 is_root b rs c.in_ok-leaf.leaf used one c.in_ok-leaf.ensures.leaf c.in-Err.ensures.place can
+
+pub returns-in-Ok-clause-removed : goal.returns-in-Ok-clause-removed
+returns-in-Ok-clause-removed g c = λ height is_root b rs used one can.
+    leaf_emptied c.args.k.now (g.S.PageStore.told c.args.store.now) (g.S.PageStore.told c.read_leaf.new.store) (g.S.PageStore.free c.args.store.now) (g.S.PageStore.free c.read_leaf.new.store)
+    c.args.page height c.in-Ok.field-0 is_root b rs c.in_ok-leaf.leaf used one c.in_ok-leaf.ensures.leaf c.in-Ok.ensures.place (sym c.len.ensures.length ∙ c.if-len-eq1.true) c.in_ok-leaf.ensures.told c.in_ok-leaf.ensures.free can
+
+pub returns-then-left-lt72-clause-removed : goal.returns-then-left-lt72-clause-removed
+returns-then-left-lt72-clause-removed g c = λ height is_root b rs used one can.
+    leaf_short c.args.k.now (g.S.PageStore.told c.args.store.now) (g.S.PageStore.told c.read_leaf.new.store) (g.S.PageStore.told c.write_page.new.store) (g.S.PageStore.free c.args.store.now) (g.S.PageStore.free c.write_page.new.store)
+    c.args.page height (g.S.PageStore.size c.args.store.now) c.in-Ok.field-0 is_root b rs c.in_ok-leaf.leaf c.remove.new.self used c.bytes.result.now one (record {
+      reads = c.in_ok-leaf.ensures.leaf;
+      inside = c.requires.1;
+      many = g.met.S.PageStore.as_many c.args.store.now;
+      found = c.in-Ok.ensures.place;
+      all_is = c.remove.ensures;
+      written = c.bytes.ensures.leaf;
+      is_mid = c.in_ok-leaf.ensures.told;
+      tells = c.in-Ok-write_page.ensures.told;
+      frees = c.in-Ok-write_page.ensures.free ∙ c.in_ok-leaf.ensures.free;
+    }) can
+
+pub returns-else-left-lt72-clause-removed : goal.returns-else-left-lt72-clause-removed
+returns-else-left-lt72-clause-removed g c = λ height is_root b rs used one can.
+    leaf_done c.args.k.now (g.S.PageStore.told c.args.store.now) (g.S.PageStore.told c.read_leaf.new.store) (g.S.PageStore.told c.write_page.new.store) (g.S.PageStore.free c.args.store.now) (g.S.PageStore.free c.write_page.new.store)
+    c.args.page height (g.S.PageStore.size c.args.store.now) c.in-Ok.field-0 is_root b rs c.in_ok-leaf.leaf c.remove.new.self used c.bytes.result.now one (record {
+      reads = c.in_ok-leaf.ensures.leaf;
+      inside = c.requires.1;
+      many = g.met.S.PageStore.as_many c.args.store.now;
+      found = c.in-Ok.ensures.place;
+      all_is = c.remove.ensures;
+      written = c.bytes.ensures.leaf;
+      is_mid = c.in_ok-leaf.ensures.told;
+      tells = c.in-Ok-write_page.ensures.told;
+      frees = c.in-Ok-write_page.ensures.free ∙ c.in_ok-leaf.ensures.free;
+    })
+    (let n = c.len-left.ensures.length in let h = c.if-left-lt72.false in omega arith) can
