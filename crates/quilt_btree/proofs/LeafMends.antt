@@ -169,3 +169,22 @@ left_spells told free height left key right b rs used m = record { pages = m.pag
 
 pub right_spells : (told : Option (List (List ℕ))) (free : ℕ → Bool) (height left : ℕ) (key : Key) (right : ℕ) (b : Bounds) (rs : List Record) (used : List ℕ) → (m : CanMend told free height left key right b rs used) → Spells told right height m.rest
 right_spells told free height left key right b rs used m = record { pages = m.pages; is_told = m.is_told; is_root = true; bounds = record { low = Some key; high = b.high }; used = m.rest_used; subtree = m.is_right.subtree }
+
+pub not_leaves : (told : Option (List (List ℕ))) (free : ℕ → Bool) (left : ℕ) (key : Key) (right height : ℕ) (b : Bounds) (rs : List Record) (used : List ℕ) (l r : List Record) (test : Bool) → height ≡ 1 → ReadsLeaf told left l → ReadsLeaf told right r
+    → test ≡ is_ascending (keys_of (l ++ r)) → test ≡ false → CanMend told free height left key right b rs used → ⊥
+not_leaves told free left key right height b rs used l r test one reads also e fails can =
+    let t = leaves_ascend told free left key right b rs used (subst (λ h. CanMend told free h left key right b rs used) one can) l r reads also in
+    never test (is_ascending (keys_of (l ++ r))) e fails t
+  where
+    never : (x y : Bool) → x ≡ y → x ≡ false → y ≡ true → ⊥
+    never x y e f g = cc
+
+pub leaves_taken : (told : Option (List (List ℕ))) (free was : ℕ → Bool) (left : ℕ) (key : Key) (right height : ℕ) (b : Bounds) (rs : List Record) (used : List ℕ) → height ≡ 1 → was ≡ free → CanMend told free height left key right b rs used
+    → (was left ≡ false) × (was right ≡ false)
+leaves_taken told free was left key right height b rs used one e can =
+    let m = subst (λ h. CanMend told free h left key right b rs used) one can in
+    let s : Subtree m.pages 1 true (left, record { low = b.low; high = Some key }) m.first m.first_used = m.is_left.subtree in
+    let t : Subtree m.pages 1 true (right, record { low = Some key; high = b.high }) m.rest m.rest_used = m.is_right.subtree in
+    let pages : used ≡ right ∷ left ∷ [] = m.is_used ∙ ap (λ u. u ++ m.first_used) t.is_used ∙ ap (λ u. right ∷ u) s.is_used in
+    let apart = subst (AreApart free) pages m.apart in
+    (ap (λ f. f left) e ∙ left_taken free left right apart, ap (λ f. f right) e ∙ right_taken free left right apart)

@@ -22,3 +22,5 @@ pub mod LeafRemovals
 pub mod Pairs
 pub mod Partings
 pub mod LeafMends
+pub mod Holdings
+pub mod InnerMends
