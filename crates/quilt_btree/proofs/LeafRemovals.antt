@@ -184,7 +184,7 @@ leaf_done k told mid now_told free now page height size i is_root b rs leaf all 
     subst (λ h. DidRemove k told now_told free now page h is_root b rs used removed.Done) (sym one)
     (a.had, record { pages = a.pages; news = a.news; was = a.was; is = a.is; left = a.becomes })
 
-one_fewer : {X : Type 0} (xs : List X) (i : ℕ) → i < length xs → suc (length (remove xs i)) ≡ length xs
+pub one_fewer : {X : Type 0} (xs : List X) (i : ℕ) → i < length xs → suc (length (remove xs i)) ≡ length xs
 one_fewer [] i h = absurd (omega arith)
 one_fewer (x ∷ xs) zero h = refl
 one_fewer (x ∷ xs) (suc i) h = ap suc (one_fewer xs i (omega arith))

@@ -24,3 +24,6 @@ pub mod Partings
 pub mod LeafMends
 pub mod Holdings
 pub mod InnerMends
+pub mod Drops
+pub mod Middles
+pub mod Shorts
