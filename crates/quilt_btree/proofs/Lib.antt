@@ -27,3 +27,6 @@ pub mod InnerMends
 pub mod Drops
 pub mod Middles
 pub mod Shorts
+pub mod Partitions
+pub mod ChildMends
+pub mod Mendings

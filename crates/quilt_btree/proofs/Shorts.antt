@@ -31,7 +31,7 @@ any_root pages height false at rs used s = s
 
 full_nearly : (pages : List (List ℕ)) (height : ℕ) (at : ℕ × Bounds) (rs : List Record) (used : List ℕ) → Subtree pages height false at rs used → IsNearlyFull pages height at.0
 full_nearly pages zero at rs used s = s
-full_nearly pages (suc zero) at rs used s ss e =
+full_nearly pages (suc zero) at rs used s = λ ss e.
     let same : ss ≡ rs = some_leaf ss rs (sym e ∙ s.page) in
     let many = not_root false 72 (length rs) s.enough refl in
     subst (λ l. 71 ≤ length l) (sym same) (less (length rs) many)
@@ -41,7 +41,7 @@ full_nearly pages (suc zero) at rs used s ss e =
 
     less : (n : ℕ) → 72 ≤ n → 71 ≤ n
     less n h = omega arith
-full_nearly pages (suc (suc h)) at rs used s inner e =
+full_nearly pages (suc (suc h)) at rs used s = λ inner e.
     let same : inner ≡ s.inner = some_inner inner s.inner (sym e ∙ s.page) in
     let many = not_root false 127 (length s.inner.children) s.enough refl in
     subst (λ (i : Inner). 126 ≤ length i.children) (sym same) (less_one (length s.inner.children) many)
