@@ -30,3 +30,4 @@ pub mod Shorts
 pub mod Partitions
 pub mod ChildMends
 pub mod Mendings
+pub mod Removals

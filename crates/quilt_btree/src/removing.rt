@@ -189,6 +189,7 @@ pub fn remove_under<S: PageStore>(
         Ok(Removed::Missing) => Ok(Removed::Missing),
         Ok(Removed::Done) => Ok(Removed::Done),
         Ok(Removed::Short) => mend_child(store, page, height, &mut inner, i),
-        Ok(_) => Err(Stop::Damaged { page: child }),
+        Ok(Removed::Emptied) => Err(Stop::Damaged { page: child }),
+        Ok(Removed::Only { .. }) => Err(Stop::Damaged { page: child }),
     }
 }
