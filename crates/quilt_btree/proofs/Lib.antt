@@ -16,3 +16,12 @@ pub mod Counts
 pub mod Moves
 pub mod Room
 pub mod Splices
+pub mod Writes
+pub mod Parting
+pub mod LeafGrowth
+pub mod Along
+pub mod Fitting
+pub mod InnerGrowth
+pub mod Below
+pub mod NewChild
+pub mod UnderGrowth

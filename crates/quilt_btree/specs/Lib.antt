@@ -1,4 +1,5 @@
 pub mod Edits
+pub mod Inserts
 pub mod Lists
 pub mod Stops
 pub mod Subtree

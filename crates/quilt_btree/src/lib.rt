@@ -2,10 +2,12 @@
 #![tactic(auto)]
 
 mod inserted;
+mod inserting;
 mod pages;
 mod ranging;
 mod reading;
 mod removed;
 mod tree;
+mod writing;
 
 pub use tree::Tree;
