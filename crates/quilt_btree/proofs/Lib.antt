@@ -25,3 +25,5 @@ pub mod InnerGrowth
 pub mod Below
 pub mod NewChild
 pub mod UnderGrowth
+pub mod Density
+pub mod TreeGrowth

@@ -15,7 +15,8 @@ ghost use Rattle.quilt_btree.specs.declared.inserted.Inserted.TheVariants.{There
 
 use crate::inserted::Inserted;
 use crate::pages::{read_inner, read_leaf};
-use crate::writing::{write_both, write_page};
+use crate::splitting::write_split;
+use crate::writing::write_page;
 use quilt_node::{InnerPage, LeafPage};
 use quilt_record::{Key, Record};
 use quilt_store::PageStore;
@@ -73,7 +74,7 @@ pub fn put_record<S: PageStore>(
         };
     }
     let right = leaf.insert_split(i, r);
-    match write_both(store, page, leaf.bytes(), right.bytes()) {
+    match write_split(store, page, leaf.bytes(), right.bytes()) {
         Err(e) => Err(e),
         Ok(new) => Ok(Inserted::Split {
             key: right.rec(0).key,
@@ -150,7 +151,7 @@ pub fn put_child<S: PageStore>(
         };
     }
     let (parting, right) = inner.insert_split(i, key, child);
-    match write_both(store, page, inner.bytes(), right.bytes()) {
+    match write_split(store, page, inner.bytes(), right.bytes()) {
         Err(e) => Err(e),
         Ok(new) => Ok(Inserted::Split {
             key: parting,

@@ -1,12 +1,14 @@
 //! A B-tree of records over the pages of a store.
 #![tactic(auto)]
 
+mod growing;
 mod inserted;
 mod inserting;
 mod pages;
 mod ranging;
 mod reading;
 mod removed;
+mod splitting;
 mod tree;
 mod writing;
 

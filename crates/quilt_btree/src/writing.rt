@@ -1,21 +1,21 @@
-ghost use Rattle.std.specs.Prelude.{◌≡◌, ℕ, ◌+◌, ◌<◌, ◌≤◌, true, false, IfOk, IfErr, OnOk, slice_set};
-ghost use Rattle.quilt_store.specs.Store.{Tells, FreesOnly, count_free};
+ghost use Rattle.std.specs.Prelude.{◌≡◌, ℕ, ◌+◌, ◌<◌, ◌≤◌, false, OnOk, IfErr, slice_set};
+ghost use Rattle.quilt_store.specs.Store.{Tells};
 ghost use Rattle.quilt_btree.specs.Stops.{HasStopCause, IsSound};
 
 use crate::pages::stop_of;
 use quilt_store::PageStore;
 use quilt_types::Stop;
 
-/// Writes a page of the tree.
+/// Writes a page of the tree. Where the page is free, page 0 is said to be damaged.
 pub fn write_page<S: PageStore>(store: &mut S, page: u32, bytes: &[u8; 4096]) -> Result<(), Stop>
     requires { (1 ≤ page) × (page < S.size store.old) }
-    ensures wrote { OnOk result (Tells (λ old new. new ≡ slice_set old page bytes.now) (S.told store.old) (S.told store.new)) }
-    ensures free { S.free store.new ≡ S.free store.old }
+    ensures told { OnOk result (Tells (λ old new. new ≡ slice_set old page bytes.now) (S.told store.old) (S.told store.new)) }
+    ensures taken { OnOk result (S.free store.old page ≡ false) }
     ensures sound { IfErr result (λ e. S.free store.old page ≡ false → IsSound e) }
+    ensures free { S.free store.new ≡ S.free store.old }
     ensures cause { HasStopCause (S.faults store.old) (S.faults store.new) result }
     ensures size { S.size store.new ≡ S.size store.old }
     ensures later { S.later store.old store.new }
-    ensures reads { Tells (λ old new. new ≤ old) (S.reads store.old) (S.reads store.new) }
     ensures changed { S.changed store.new ≤ S.changed store.old + 1 }
 {
     if store.is_free(page) {
@@ -24,38 +24,5 @@ pub fn write_page<S: PageStore>(store: &mut S, page: u32, bytes: &[u8; 4096]) ->
     match store.write(page, bytes) {
         Err(e) => Err(stop_of(e)),
         Ok(()) => Ok(()),
-    }
-}
-
-/// Writes a page of the tree, and the page that was split off it to a free page, which is the answer.
-pub fn write_both<S: PageStore>(
-    store: &mut S,
-    page: u32,
-    left: &[u8; 4096],
-    right: &[u8; 4096],
-) -> Result<u32, Stop>
-    requires { (1 ≤ page) × (page < S.size store.old) }
-    ensures wrote { IfOk result (λ new. Tells (λ old now. now ≡ slice_set (slice_set old page left.now) new right.now) (S.told store.old) (S.told store.new)) }
-    ensures page { IfOk result (λ new. (1 ≤ new) × (new < S.size store.old)) }
-    ensures free { IfOk result (λ new. S.free store.old new ≡ true) }
-    ensures taken { IfOk result (λ new. FreesOnly new false (S.free store.old) (S.free store.new)) }
-    ensures room { OnOk result (count_free (S.free store.old) (S.size store.old) ≤ count_free (S.free store.new) (S.size store.old) + 1) }
-    ensures sound { IfErr result (λ e. S.free store.old page ≡ false → 0 < count_free (S.free store.old) (S.size store.old) → IsSound e) }
-    ensures cause { HasStopCause (S.faults store.old) (S.faults store.new) result }
-    ensures size { S.size store.new ≡ S.size store.old }
-    ensures later { S.later store.old store.new }
-    ensures reads { Tells (λ old new. new ≤ old) (S.reads store.old) (S.reads store.new) }
-    ensures changed { S.changed store.new ≤ S.changed store.old + 2 }
-{
-    if store.is_free(page) || store.free_pages() == 0 {
-        return Err(Stop::Damaged { page: 0 });
-    }
-    let new = store.take_page();
-    if let Err(e) = write_page(store, page, left) {
-        return Err(e);
-    }
-    match write_page(store, new, right) {
-        Err(e) => Err(e),
-        Ok(()) => Ok(new),
     }
 }

@@ -1,7 +1,7 @@
 use Rattle.std.proofs.Common.{◌≡◌, ◌+◌, true, arith, ap, sym, ◌∙◌, ℕ, Bool}
 use Rattle.quilt_store.specs.Store.{count_free}
 use Rattle.quilt_btree.proofs.Room.{count_taken}
-use Rattle.quilt_btree.proofs.writing.write_both.Goals as goal
+use Rattle.quilt_btree.proofs.splitting.write_split.Goals as goal
 
 pub returns-in-Ok-clause-room : goal.returns-in-Ok-clause-room
 returns-in-Ok-clause-room g c =
