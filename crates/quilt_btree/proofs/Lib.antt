@@ -31,3 +31,14 @@ pub mod Partitions
 pub mod ChildMends
 pub mod Mendings
 pub mod Removals
+pub mod Writes
+pub mod Parting
+pub mod LeafGrowth
+pub mod Along
+pub mod Fitting
+pub mod InnerGrowth
+pub mod Below
+pub mod NewChild
+pub mod UnderGrowth
+pub mod Density
+pub mod TreeGrowth

@@ -96,7 +96,7 @@ parent_stays pages news free now h page is_root b inner under all is height enou
   moves = moved.moves;
 }
 
-page_in : (p : ℕ) (under : List ℕ) → 1 ≤ times p (under ++ p ∷ [])
+pub page_in : (p : ℕ) (under : List ℕ) → 1 ≤ times p (under ++ p ∷ [])
 page_in p under = some (times p (under ++ p ∷ [])) (times p under) (times p (p ∷ [])) (times-append p under (p ∷ [])) (times_here p [])
   where
     some : (t u m : ℕ) → t ≡ u + m → m ≡ 1 + 0 → 1 ≤ t

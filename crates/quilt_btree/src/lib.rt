@@ -1,7 +1,9 @@
 //! A B-tree of records over the pages of a store.
 #![tactic(auto)]
 
+mod growing;
 mod inserted;
+mod inserting;
 mod mended;
 mod mending;
 mod pages;
@@ -9,6 +11,8 @@ mod ranging;
 mod reading;
 mod removed;
 mod removing;
+mod shrinking;
+mod splitting;
 mod tree;
 mod writing;
 

@@ -85,3 +85,22 @@ pub fn write_both<S: PageStore>(
         Ok(()) => write_page(store, right, others),
     }
 }
+
+/// Gives a page of the tree back. Where the page is free, page 0 is said to be damaged.
+pub fn give_back<S: PageStore>(store: &mut S, page: u32) -> Result<(), Stop>
+    requires { (1 ≤ page) × (page < S.size store.old) }
+    ensures told { OnOk result (Tells (HasGiven page) (S.told store.old) (S.told store.new)) }
+    ensures free { OnOk result (FreesOnly page true (S.free store.old) (S.free store.new)) }
+    ensures taken { OnOk result (S.free store.old page ≡ false) }
+    ensures sound { IfErr result (λ e. S.free store.old page ≡ false → IsSound e) }
+    ensures cause { HasStopCause (S.faults store.old) (S.faults store.new) result }
+    ensures size { S.size store.new ≡ S.size store.old }
+    ensures later { S.later store.old store.new }
+    ensures changed { S.changed store.new ≤ S.changed store.old }
+{
+    if store.is_free(page) {
+        return Err(Stop::Damaged { page: 0 });
+    }
+    store.give_page(page);
+    Ok(())
+}

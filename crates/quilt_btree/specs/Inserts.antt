@@ -1,0 +1,44 @@
+-- What the steps of an insertion need and make.
+use Rattle.std.specs.Prelude.{◌≡◌, ℕ, suc, ◌<◌, ◌≤◌, Bool, true, false, ◌||◌, nat_le, List, [], ◌∷◌, ◌++◌, Option, Some, length}
+use Rattle.quilt_record.specs.declared.record.Record.{Record}
+use Rattle.quilt_node.specs.Pages.{Inner, is_ascending}
+use Rattle.quilt_node.specs.Nodes.{are_pages}
+use Rattle.quilt_node.specs.Tree.{Bounds, bounded, are_within}
+use Rattle.quilt_btree.specs.Subtree.{Row, Subtree}
+use Rattle.quilt_btree.specs.Edits.{account, Becomes, Parted}
+use Rattle.quilt_btree.specs.declared.inserted.Inserted.{Inserted}
+use Rattle.quilt_btree.specs.declared.inserted.Inserted.TheVariants as inserted
+
+-- a new page to the right is one from 1 on
+abbrev pub HasRight : ℕ → Inserted → Type 0
+HasRight size inserted.There = Unit {0}
+HasRight size inserted.Done = Unit {0}
+HasRight size (inserted.Split key right) = (1 ≤ right) × (right < size)
+
+-- An inner page that is to be written: the subtrees of its children stand in the store, and their pages are neither it, nor free, nor used twice.
+pub record IsPending (told : Option (List (List ℕ))) (free : ℕ → Bool) (page : ℕ) (is_root : Bool) (b : Bounds) (inner : Inner) (all : List Record) (under : List ℕ) : Type 0 where
+  pub pages : List (List ℕ)
+  pub is_told : told ≡ Some pages
+  pub below : ℕ
+  pub is_height : inner.height ≡ suc (suc below)
+  pub in_range : are_pages (length pages) inner.children ≡ true
+  pub many : length inner.children ≡ suc (length inner.keys)
+  pub enough : (is_root || nat_le 127 (length inner.children)) ≡ true
+  pub ascends : is_ascending inner.keys ≡ true
+  pub within : are_within b inner.keys ≡ true
+  pub children : Row (Subtree pages (suc below) false) (bounded inner.children inner.keys b) all under
+  pub apart : (p : ℕ) → account free (under ++ page ∷ []) p ≤ 1
+
+-- the page was written, or it and one to its right
+abbrev pub HasPut : (pages news : List (List ℕ)) (free now : ℕ → Bool) → ℕ → ℕ → Bool → Bounds → List ℕ → List Record → Inserted → Type 0
+HasPut pages news free now page height is_root b used all inserted.There = ⊥
+HasPut pages news free now page height is_root b used all inserted.Done = Becomes pages news free now page height is_root b used all
+HasPut pages news free now page height is_root b used all (inserted.Split key right) = Parted pages news free now page height b used all key right
+
+-- what the store told before and tells now
+pub record DidPut (told now_told : Option (List (List ℕ))) (free now : ℕ → Bool) (page height : ℕ) (is_root : Bool) (b : Bounds) (used : List ℕ) (all : List Record) (o : Inserted) : Type 0 where
+  pub pages : List (List ℕ)
+  pub news : List (List ℕ)
+  pub was : told ≡ Some pages
+  pub is : now_told ≡ Some news
+  pub done : HasPut pages news free now page height is_root b used all o

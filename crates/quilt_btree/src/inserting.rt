@@ -1,0 +1,197 @@
+ghost use Rattle.std.specs.Prelude.{◌≡◌, ◌≢◌, ℕ, ◌+◌, ◌*◌, ◌<◌, ◌≤◌, Bool, true, List, [], ◌∷◌, ◌++◌, IfOk, IfErr, OnOk, length, take, drop};
+ghost use Rattle.std.specs.List.{insert, list_all};
+ghost use Rattle.std.specs.Ordering.{is_lt};
+ghost use Rattle.quilt_record.specs.Records.{key_cmp};
+ghost use Rattle.quilt_record.specs.declared.record.Record.{Record};
+ghost use Rattle.quilt_node.specs.Pages.{is_ascending};
+ghost use Rattle.quilt_node.specs.Nodes.{IsGap};
+ghost use Rattle.quilt_node.specs.Edits.{with_child};
+ghost use Rattle.quilt_node.specs.Tree.{Bounds};
+ghost use Rattle.quilt_store.specs.Store.{count_free};
+ghost use Rattle.quilt_btree.specs.Stops.{HasStopCause, IsSound};
+ghost use Rattle.quilt_btree.specs.Edits.{CanInsert, DidInsert};
+ghost use Rattle.quilt_btree.specs.Inserts.{HasRight, IsPending, DidPut};
+ghost use Rattle.quilt_btree.specs.declared.inserted.Inserted.TheVariants.{There};
+
+use crate::inserted::Inserted;
+use crate::pages::{read_inner, read_leaf};
+use crate::splitting::write_split;
+use crate::writing::write_page;
+use quilt_node::{InnerPage, LeafPage};
+use quilt_record::{Key, Record};
+use quilt_store::PageStore;
+use quilt_types::Stop;
+
+/// Puts a record into the leaf at a page.
+pub fn insert_leaf<S: PageStore>(store: &mut S, page: u32, r: &Record) -> Result<Inserted, Stop>
+    requires { (1 ≤ page) × (page < S.size store.old) }
+    ensures inserted { IfOk result (λ o. (is_root : Bool) (b : Bounds) (rs : List Record) (used : List ℕ) → CanInsert (S.told store.old) (S.free store.old) (S.size store.old) page 1 is_root b r.now.key rs used → DidInsert r.now (S.told store.old) (S.told store.new) (S.free store.old) (S.free store.new) page 1 is_root b rs used o) }
+    ensures sound { IfErr result (λ e. (is_root : Bool) (b : Bounds) (rs : List Record) (used : List ℕ) → CanInsert (S.told store.old) (S.free store.old) (S.size store.old) page 1 is_root b r.now.key rs used → IsSound e) }
+    ensures right { IfOk result (λ o. HasRight (S.size store.old) o) }
+    ensures room { OnOk result (count_free (S.free store.old) (S.size store.old) ≤ count_free (S.free store.new) (S.size store.old) + 1) }
+    ensures told { IfOk result (λ o. o ≡ There → S.told store.new ≡ S.told store.old) }
+    ensures free { IfOk result (λ o. o ≡ There → S.free store.new ≡ S.free store.old) }
+    ensures cause { HasStopCause (S.faults store.old) (S.faults store.new) result }
+    ensures size { S.size store.new ≡ S.size store.old }
+    ensures later { S.later store.old store.new }
+    ensures changed { S.changed store.new ≤ S.changed store.old + 2 }
+{
+    let mut leaf = match read_leaf(store, page) {
+        Err(e) => return Err(e),
+        Ok(leaf) => leaf,
+    };
+    match leaf.find(&r.key) {
+        Ok(_) => Ok(Inserted::There),
+        Err(i) => put_record(store, page, &mut leaf, i, r),
+    }
+}
+
+/// Puts a record into a leaf at a place, and writes it to its page.
+pub fn put_record<S: PageStore>(
+    store: &mut S,
+    page: u32,
+    leaf: &mut LeafPage,
+    i: usize,
+    r: &Record,
+) -> Result<Inserted, Stop>
+    requires page { (1 ≤ page) × (page < S.size store.old) }
+    requires place { IsGap r.now.key leaf.old i }
+    ensures put { IfOk result (λ o. (is_root : Bool) (b : Bounds) (rs : List Record) (used : List ℕ) → leaf.old ≡ rs → CanInsert (S.told store.old) (S.free store.old) (S.size store.old) page 1 is_root b r.now.key rs used → DidInsert r.now (S.told store.old) (S.told store.new) (S.free store.old) (S.free store.new) page 1 is_root b rs used o) }
+    ensures sound { IfErr result (λ e. (is_root : Bool) (b : Bounds) (rs : List Record) (used : List ℕ) → CanInsert (S.told store.old) (S.free store.old) (S.size store.old) page 1 is_root b r.now.key rs used → IsSound e) }
+    ensures right { IfOk result (λ o. HasRight (S.size store.old) o) }
+    ensures room { OnOk result (count_free (S.free store.old) (S.size store.old) ≤ count_free (S.free store.new) (S.size store.old) + 1) }
+    ensures new { IfOk result (λ o. o ≢ There) }
+    ensures cause { HasStopCause (S.faults store.old) (S.faults store.new) result }
+    ensures size { S.size store.new ≡ S.size store.old }
+    ensures later { S.later store.old store.new }
+    ensures changed { S.changed store.new ≤ S.changed store.old + 2 }
+{
+    if leaf.len() < 144 {
+        leaf.insert(i, r);
+        return match write_page(store, page, leaf.bytes()) {
+            Err(e) => Err(e),
+            Ok(()) => Ok(Inserted::Done),
+        };
+    }
+    let right = leaf.insert_split(i, r);
+    match write_split(store, page, leaf.bytes(), right.bytes()) {
+        Err(e) => Err(e),
+        Ok(new) => Ok(Inserted::Split {
+            key: right.rec(0).key,
+            right: new,
+        }),
+    }
+}
+
+/// Whether the first key comes before the second.
+fn precedes(a: &Key, b: &Key) -> bool
+    ensures { result ≡ is_lt (key_cmp a.now b.now) }
+{
+    a < b
+}
+
+/// Whether the keys before place `i` are below `k`.
+fn is_over(inner: &InnerPage, i: usize, k: &Key) -> bool
+    requires { i < length inner.now.children }
+    ensures { result ≡ list_all (λ l. is_lt (key_cmp l k.now)) (take i inner.now.keys) }
+{
+    let _ = inner.len();
+    i == 0 || precedes(&inner.key(i - 1), k)
+}
+
+/// Whether the keys from place `i` on are above `k`.
+fn is_under(inner: &InnerPage, i: usize, k: &Key) -> bool
+    requires { i < length inner.now.children }
+    ensures { result ≡ list_all (λ l. is_lt (key_cmp k.now l)) (drop i inner.now.keys) }
+{
+    i == inner.len() - 1 || precedes(k, &inner.key(i))
+}
+
+/// Whether the keys ascend with another one put in at place `i`.
+fn fits(inner: &InnerPage, i: usize, k: &Key) -> bool
+    requires { i < length inner.now.children }
+    ensures { result ≡ is_ascending (insert inner.now.keys i k.now) }
+{
+    let _ = inner.len();
+    is_over(inner, i, k) && is_under(inner, i, k)
+}
+
+/// Puts key `i` and child `i + 1` into an inner page, and writes it to its page.
+pub fn put_child<S: PageStore>(
+    store: &mut S,
+    page: u32,
+    inner: &mut InnerPage,
+    i: usize,
+    key: &Key,
+    child: u32,
+) -> Result<Inserted, Stop>
+    requires page { (1 ≤ page) × (page < S.size store.old) }
+    requires place { i < length inner.old.children }
+    requires child { 1 ≤ child }
+    ensures put { IfOk result (λ o. (is_root : Bool) (b : Bounds) (all : List Record) (under : List ℕ) → IsPending (S.told store.old) (S.free store.old) page is_root b (with_child inner.old i key.now child) all under → DidPut (S.told store.old) (S.told store.new) (S.free store.old) (S.free store.new) page inner.old.height is_root b (under ++ page ∷ []) all o) }
+    ensures sound { IfErr result (λ e. (is_root : Bool) (b : Bounds) (all : List Record) (under : List ℕ) → IsPending (S.told store.old) (S.free store.old) page is_root b (with_child inner.old i key.now child) all under → 0 < count_free (S.free store.old) (S.size store.old) → IsSound e) }
+    ensures right { IfOk result (λ o. HasRight (S.size store.old) o) }
+    ensures room { OnOk result (count_free (S.free store.old) (S.size store.old) ≤ count_free (S.free store.new) (S.size store.old) + 1) }
+    ensures new { IfOk result (λ o. o ≢ There) }
+    ensures cause { HasStopCause (S.faults store.old) (S.faults store.new) result }
+    ensures size { S.size store.new ≡ S.size store.old }
+    ensures later { S.later store.old store.new }
+    ensures changed { S.changed store.new ≤ S.changed store.old + 2 }
+{
+    if !fits(inner, i, key) {
+        return Err(Stop::Damaged {
+            page: inner.child(i),
+        });
+    }
+    if inner.len() < 254 {
+        inner.insert(i, key, child);
+        return match write_page(store, page, inner.bytes()) {
+            Err(e) => Err(e),
+            Ok(()) => Ok(Inserted::Done),
+        };
+    }
+    let (parting, right) = inner.insert_split(i, key, child);
+    match write_split(store, page, inner.bytes(), right.bytes()) {
+        Err(e) => Err(e),
+        Ok(new) => Ok(Inserted::Split {
+            key: parting,
+            right: new,
+        }),
+    }
+}
+
+/// Puts a record into the subtree at a page.
+pub fn insert_under<S: PageStore>(
+    store: &mut S,
+    page: u32,
+    height: u8,
+    r: &Record,
+) -> Result<Inserted, Stop>
+    requires page { (1 ≤ page) × (page < S.size store.old) }
+    requires height { 1 ≤ height }
+    ensures inserted { IfOk result (λ o. (is_root : Bool) (b : Bounds) (rs : List Record) (used : List ℕ) → CanInsert (S.told store.old) (S.free store.old) (S.size store.old) page height is_root b r.now.key rs used → DidInsert r.now (S.told store.old) (S.told store.new) (S.free store.old) (S.free store.new) page height is_root b rs used o) }
+    ensures sound { IfErr result (λ e. (is_root : Bool) (b : Bounds) (rs : List Record) (used : List ℕ) → CanInsert (S.told store.old) (S.free store.old) (S.size store.old) page height is_root b r.now.key rs used → IsSound e) }
+    ensures right { IfOk result (λ o. HasRight (S.size store.old) o) }
+    ensures room { OnOk result (count_free (S.free store.old) (S.size store.old) ≤ count_free (S.free store.new) (S.size store.old) + height) }
+    ensures told { IfOk result (λ o. o ≡ There → S.told store.new ≡ S.told store.old) }
+    ensures free { IfOk result (λ o. o ≡ There → S.free store.new ≡ S.free store.old) }
+    ensures cause { HasStopCause (S.faults store.old) (S.faults store.new) result }
+    ensures size { S.size store.new ≡ S.size store.old }
+    ensures later { S.later store.old store.new }
+    ensures changed { S.changed store.new ≤ S.changed store.old + 2 * height }
+{
+    if height == 1 {
+        return insert_leaf(store, page, r);
+    }
+    let mut inner = match read_inner(store, page, height) {
+        Err(e) => return Err(e),
+        Ok(inner) => inner,
+    };
+    let i = inner.place(&r.key);
+    match insert_under(store, inner.child(i), height - 1, r) {
+        Err(e) => Err(e),
+        Ok(Inserted::There) => Ok(Inserted::There),
+        Ok(Inserted::Done) => Ok(Inserted::Done),
+        Ok(Inserted::Split { key, right }) => { put_child(store, page, &mut inner, i, &key, right) }
+    }
+}
