@@ -42,3 +42,5 @@ pub mod NewChild
 pub mod UnderGrowth
 pub mod Density
 pub mod TreeGrowth
+pub mod Withouts
+pub mod TreeRemovals

@@ -1,6 +1,7 @@
-ghost use Rattle.std.specs.Prelude.{◌≡◌, ℕ, ◌+◌, ◌-◌, ◌<◌, ◌≤◌, Bool, true, false, IfOk, IfErr, OnOk, List};
+ghost use Rattle.std.specs.Prelude.{◌≡◌, ℕ, ◌+◌, ◌-◌, ◌<◌, ◌≤◌, Bool, true, false, IfOk, IfErr, OnOk, IsErrOf, List};
 ghost use Rattle.std.specs.List.{list_any};
 ghost use Rattle.quilt_record.specs.declared.record.Record.{Record};
+ghost use Rattle.quilt_types.specs.declared.stop.Stop.TheVariants.{Device};
 ghost use Rattle.quilt_btree.specs.Lists.{has_key, without};
 ghost use Rattle.quilt_btree.specs.Stops.{HasStopCause, IsSound};
 
@@ -56,6 +57,7 @@ impl Tree {
         ensures answer { IfOk result (λ is_out. is_out ≡ true) }
         ensures none { OnOk result (height ≡ 0 → (root ≡ 0) × (self.old.records ≡ 1)) }
         ensures some { OnOk result (1 ≤ height → 2 ≤ self.old.records) }
+        ensures cause { IsErrOf result Device → ⊥ }
         ensures sound { IfErr result (λ e. (height ≡ 0 → (root ≡ 0) × (self.old.records ≡ 1)) → (1 ≤ height → 2 ≤ self.old.records) → IsSound e) }
     {
         let records = self.records - 1;

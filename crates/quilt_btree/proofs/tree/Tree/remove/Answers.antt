@@ -1,0 +1,87 @@
+use Rattle.std.proofs.Common.{◌≡◌, ◌≢◌, ℕ, ◌+◌, ◌-◌, ◌≤◌, ◌∙◌, refl, sym, arith}
+use Rattle.quilt_btree.proofs.TreeRemovals.{sound_root, whole_none, whole_missing, whole_done, whole_short, whole_emptied, whole_only, many_done, many_short, one_emptied, one_only, shrunk, shrunk_sound}
+use Rattle.quilt_btree.proofs.tree.Tree.remove.Goals as goal
+
+pub returns-then-self-eq0-clause-removed : goal.returns-then-self-eq0-clause-removed
+returns-then-self-eq0-clause-removed g c =
+    λ rs w. whole_none c.args.k.now (g.S.PageStore.told c.args.store.now) (g.S.PageStore.free c.args.store.now) (g.S.PageStore.size c.args.store.now) c.args.self.now rs c.if-self-eq0.true w
+
+pub returns-in-Err-clause-sound : goal.returns-in-Err-clause-sound
+returns-in-Err-clause-sound g c =
+    λ rs w. sound_root c.in-Err.e (g.S.PageStore.told c.args.store.now) (g.S.PageStore.free c.args.store.now) (g.S.PageStore.size c.args.store.now) c.args.self.now rs
+    (record { rooted = c.requires.rooted; least = (g.met.S.PageStore.in_range c.args.store.now).0; inside = g.met.S.PageStore.free_pages_are c.args.store.now; above = c.if-self-eq0.false }) c.in-Err.ensures.sound w
+
+pub returns-in-Ok-Missing-clause-removed : goal.returns-in-Ok-Missing-clause-removed
+returns-in-Ok-Missing-clause-removed g c =
+    let found = rw c.in-Ok-Missing.field-0-is at c.in-Ok-Missing.ensures in
+    λ rs w. whole_missing c.args.k.now (g.S.PageStore.told c.args.store.now) (g.S.PageStore.told c.remove_under.new.store) (g.S.PageStore.free c.args.store.now) (g.S.PageStore.free c.remove_under.new.store) (g.S.PageStore.size c.args.store.now) c.args.self.now rs
+    (record { rooted = c.requires.rooted; least = (g.met.S.PageStore.in_range c.args.store.now).0; inside = g.met.S.PageStore.free_pages_are c.args.store.now; above = c.if-self-eq0.false }) found.removed (found.same refl).0 (found.same refl).1 w
+
+pub returns-in-Ok-Done-clause-removed : goal.returns-in-Ok-Done-clause-removed
+returns-in-Ok-Done-clause-removed g c =
+    let found = rw c.in-Ok-Done.field-0-is at c.in-Ok-Done.ensures in
+    shrunk c.shrink.result c.args.k.now (g.S.PageStore.told c.args.store.now) (g.S.PageStore.told c.remove_under.new.store) (g.S.PageStore.free c.args.store.now) (g.S.PageStore.free c.remove_under.new.store) (g.S.PageStore.size c.args.store.now) c.args.self.now c.shrink.new.self (record { root = c.args.self.now.root; height = c.args.self.now.height; records = c.args.self.now.records - 1 }) c.shrink.ensures.tree c.shrink.ensures.answer
+    (λ rs w. whole_done c.args.k.now (g.S.PageStore.told c.args.store.now) (g.S.PageStore.told c.remove_under.new.store) (g.S.PageStore.free c.args.store.now) (g.S.PageStore.free c.remove_under.new.store) (g.S.PageStore.size c.args.store.now) c.args.self.now rs
+    (record { rooted = c.requires.rooted; least = (g.met.S.PageStore.in_range c.args.store.now).0; inside = g.met.S.PageStore.free_pages_are c.args.store.now; above = c.if-self-eq0.false }) found.removed w)
+
+pub returns-in-Ok-Done-clause-sound : goal.returns-in-Ok-Done-clause-sound
+returns-in-Ok-Done-clause-sound g c =
+    let found = rw c.in-Ok-Done.field-0-is at c.in-Ok-Done.ensures in
+    shrunk_sound c.shrink.result (g.S.PageStore.told c.args.store.now) (g.S.PageStore.free c.args.store.now) (g.S.PageStore.size c.args.store.now) c.args.self.now (c.args.self.now.height ≡ 0 → (c.args.self.now.root ≡ 0) × (c.args.self.now.records ≡ 1)) (1 ≤ c.args.self.now.height → 2 ≤ c.args.self.now.records) c.shrink.ensures.sound
+    (λ rs w. (λ e. absurd (c.if-self-eq0.false e), λ e. many_done c.args.k.now (g.S.PageStore.told c.args.store.now) (g.S.PageStore.told c.remove_under.new.store) (g.S.PageStore.free c.args.store.now) (g.S.PageStore.free c.remove_under.new.store) (g.S.PageStore.size c.args.store.now) c.args.self.now rs
+    (record { rooted = c.requires.rooted; least = (g.met.S.PageStore.in_range c.args.store.now).0; inside = g.met.S.PageStore.free_pages_are c.args.store.now; above = c.if-self-eq0.false }) found.removed w))
+
+pub returns-in-Ok-Short-clause-removed : goal.returns-in-Ok-Short-clause-removed
+returns-in-Ok-Short-clause-removed g c =
+    let found = rw c.in-Ok-Short.field-0-is at c.in-Ok-Short.ensures in
+    shrunk c.shrink-in-Ok-Short.result c.args.k.now (g.S.PageStore.told c.args.store.now) (g.S.PageStore.told c.remove_under.new.store) (g.S.PageStore.free c.args.store.now) (g.S.PageStore.free c.remove_under.new.store) (g.S.PageStore.size c.args.store.now) c.args.self.now c.shrink-in-Ok-Short.new.self (record { root = c.args.self.now.root; height = c.args.self.now.height; records = c.args.self.now.records - 1 }) c.shrink-in-Ok-Short.ensures.tree c.shrink-in-Ok-Short.ensures.answer
+    (λ rs w. whole_short c.args.k.now (g.S.PageStore.told c.args.store.now) (g.S.PageStore.told c.remove_under.new.store) (g.S.PageStore.free c.args.store.now) (g.S.PageStore.free c.remove_under.new.store) (g.S.PageStore.size c.args.store.now) c.args.self.now rs
+    (record { rooted = c.requires.rooted; least = (g.met.S.PageStore.in_range c.args.store.now).0; inside = g.met.S.PageStore.free_pages_are c.args.store.now; above = c.if-self-eq0.false }) found.removed w)
+
+pub returns-in-Ok-Short-clause-sound : goal.returns-in-Ok-Short-clause-sound
+returns-in-Ok-Short-clause-sound g c =
+    let found = rw c.in-Ok-Short.field-0-is at c.in-Ok-Short.ensures in
+    shrunk_sound c.shrink-in-Ok-Short.result (g.S.PageStore.told c.args.store.now) (g.S.PageStore.free c.args.store.now) (g.S.PageStore.size c.args.store.now) c.args.self.now (c.args.self.now.height ≡ 0 → (c.args.self.now.root ≡ 0) × (c.args.self.now.records ≡ 1)) (1 ≤ c.args.self.now.height → 2 ≤ c.args.self.now.records) c.shrink-in-Ok-Short.ensures.sound
+    (λ rs w. (λ e. absurd (c.if-self-eq0.false e), λ e. many_short c.args.k.now (g.S.PageStore.told c.args.store.now) (g.S.PageStore.told c.remove_under.new.store) (g.S.PageStore.free c.args.store.now) (g.S.PageStore.free c.remove_under.new.store) (g.S.PageStore.size c.args.store.now) c.args.self.now rs
+    (record { rooted = c.requires.rooted; least = (g.met.S.PageStore.in_range c.args.store.now).0; inside = g.met.S.PageStore.free_pages_are c.args.store.now; above = c.if-self-eq0.false }) found.removed w))
+
+pub returns-in-Err-give_back-clause-sound : goal.returns-in-Err-give_back-clause-sound
+returns-in-Err-give_back-clause-sound g c =
+    let found = rw c.in-Ok-Emptied.field-0-is at c.in-Ok-Emptied.ensures in
+    λ rs w. c.in-Err-give_back.ensures.sound (one_emptied c.args.k.now (g.S.PageStore.told c.args.store.now) (g.S.PageStore.told c.remove_under.new.store) (g.S.PageStore.free c.args.store.now) (g.S.PageStore.free c.remove_under.new.store) (g.S.PageStore.size c.args.store.now) c.args.self.now rs
+    (record { rooted = c.requires.rooted; least = (g.met.S.PageStore.in_range c.args.store.now).0; inside = g.met.S.PageStore.free_pages_are c.args.store.now; above = c.if-self-eq0.false }) found.removed w).0
+
+pub returns-in-Ok-clause-removed : goal.returns-in-Ok-clause-removed
+returns-in-Ok-clause-removed g c =
+    let found = rw c.in-Ok-Emptied.field-0-is at c.in-Ok-Emptied.ensures in
+    shrunk c.shrink-in-Ok.result c.args.k.now (g.S.PageStore.told c.args.store.now) (g.S.PageStore.told c.give_back.new.store) (g.S.PageStore.free c.args.store.now) (g.S.PageStore.free c.give_back.new.store) (g.S.PageStore.size c.args.store.now) c.args.self.now c.shrink-in-Ok.new.self (record { root = 0; height = 0; records = c.args.self.now.records - 1 }) c.shrink-in-Ok.ensures.tree c.shrink-in-Ok.ensures.answer
+    (λ rs w. whole_emptied c.args.k.now (g.S.PageStore.told c.args.store.now) (g.S.PageStore.told c.remove_under.new.store) (g.S.PageStore.told c.give_back.new.store) (g.S.PageStore.free c.args.store.now) (g.S.PageStore.free c.remove_under.new.store) (g.S.PageStore.free c.give_back.new.store) (g.S.PageStore.size c.args.store.now) c.args.self.now rs
+    (record { rooted = c.requires.rooted; least = (g.met.S.PageStore.in_range c.args.store.now).0; inside = g.met.S.PageStore.free_pages_are c.args.store.now; above = c.if-self-eq0.false }) found.removed c.in-Ok.ensures.told c.in-Ok.ensures.free w)
+
+pub returns-in-Ok-clause-sound : goal.returns-in-Ok-clause-sound
+returns-in-Ok-clause-sound g c =
+    let found = rw c.in-Ok-Emptied.field-0-is at c.in-Ok-Emptied.ensures in
+    shrunk_sound c.shrink-in-Ok.result (g.S.PageStore.told c.args.store.now) (g.S.PageStore.free c.args.store.now) (g.S.PageStore.size c.args.store.now) c.args.self.now (0 ≡ 0 → (0 ≡ 0) × (c.args.self.now.records ≡ 1)) (1 ≤ 0 → 2 ≤ c.args.self.now.records) c.shrink-in-Ok.ensures.sound
+    (λ rs w. (λ e. (refl, (one_emptied c.args.k.now (g.S.PageStore.told c.args.store.now) (g.S.PageStore.told c.remove_under.new.store) (g.S.PageStore.free c.args.store.now) (g.S.PageStore.free c.remove_under.new.store) (g.S.PageStore.size c.args.store.now) c.args.self.now rs
+    (record { rooted = c.requires.rooted; least = (g.met.S.PageStore.in_range c.args.store.now).0; inside = g.met.S.PageStore.free_pages_are c.args.store.now; above = c.if-self-eq0.false }) found.removed w).1), λ h. absurd (omega arith)))
+
+pub returns-in-Err-give_back-2-clause-sound : goal.returns-in-Err-give_back-2-clause-sound
+returns-in-Err-give_back-2-clause-sound g c =
+    let found = rw c.in-Ok-Only.field-0-is at c.in-Ok-Only.ensures in
+    λ rs w. c.in-Err-give_back-2.ensures.sound (one_only c.args.k.now (g.S.PageStore.told c.args.store.now) (g.S.PageStore.told c.remove_under.new.store) (g.S.PageStore.free c.args.store.now) (g.S.PageStore.free c.remove_under.new.store) (g.S.PageStore.size c.args.store.now) c.in-Ok-Only.child c.args.self.now rs
+    (record { rooted = c.requires.rooted; least = (g.met.S.PageStore.in_range c.args.store.now).0; inside = g.met.S.PageStore.free_pages_are c.args.store.now; above = c.if-self-eq0.false }) found.removed w).0
+
+pub returns-in-Ok-give_back-clause-removed : goal.returns-in-Ok-give_back-clause-removed
+returns-in-Ok-give_back-clause-removed g c =
+    let found = rw c.in-Ok-Only.field-0-is at c.in-Ok-Only.ensures in
+    shrunk c.shrink-in-Ok-give_back.result c.args.k.now (g.S.PageStore.told c.args.store.now) (g.S.PageStore.told c.give_back-in-Ok-Only.new.store) (g.S.PageStore.free c.args.store.now) (g.S.PageStore.free c.give_back-in-Ok-Only.new.store) (g.S.PageStore.size c.args.store.now) c.args.self.now c.shrink-in-Ok-give_back.new.self (record { root = c.in-Ok-Only.child; height = c.args.self.now.height - 1; records = c.args.self.now.records - 1 }) c.shrink-in-Ok-give_back.ensures.tree c.shrink-in-Ok-give_back.ensures.answer
+    (λ rs w. whole_only c.args.k.now (g.S.PageStore.told c.args.store.now) (g.S.PageStore.told c.remove_under.new.store) (g.S.PageStore.told c.give_back-in-Ok-Only.new.store) (g.S.PageStore.free c.args.store.now) (g.S.PageStore.free c.remove_under.new.store) (g.S.PageStore.free c.give_back-in-Ok-Only.new.store) (g.S.PageStore.size c.args.store.now) c.in-Ok-Only.child c.args.self.now rs
+    (record { rooted = c.requires.rooted; least = (g.met.S.PageStore.in_range c.args.store.now).0; inside = g.met.S.PageStore.free_pages_are c.args.store.now; above = c.if-self-eq0.false }) found.removed c.in-Ok-give_back.ensures.told c.in-Ok-give_back.ensures.free w)
+
+pub returns-in-Ok-give_back-clause-sound : goal.returns-in-Ok-give_back-clause-sound
+returns-in-Ok-give_back-clause-sound g c =
+    let found = rw c.in-Ok-Only.field-0-is at c.in-Ok-Only.ensures in
+    shrunk_sound c.shrink-in-Ok-give_back.result (g.S.PageStore.told c.args.store.now) (g.S.PageStore.free c.args.store.now) (g.S.PageStore.size c.args.store.now) c.args.self.now (c.args.self.now.height - 1 ≡ 0 → (c.in-Ok-Only.child ≡ 0) × (c.args.self.now.records ≡ 1)) (1 ≤ c.args.self.now.height - 1 → 2 ≤ c.args.self.now.records) c.shrink-in-Ok-give_back.ensures.sound
+    (λ rs w. (λ e. absurd ((one_only c.args.k.now (g.S.PageStore.told c.args.store.now) (g.S.PageStore.told c.remove_under.new.store) (g.S.PageStore.free c.args.store.now) (g.S.PageStore.free c.remove_under.new.store) (g.S.PageStore.size c.args.store.now) c.in-Ok-Only.child c.args.self.now rs
+    (record { rooted = c.requires.rooted; least = (g.met.S.PageStore.in_range c.args.store.now).0; inside = g.met.S.PageStore.free_pages_are c.args.store.now; above = c.if-self-eq0.false }) found.removed w).2 e), λ h. (one_only c.args.k.now (g.S.PageStore.told c.args.store.now) (g.S.PageStore.told c.remove_under.new.store) (g.S.PageStore.free c.args.store.now) (g.S.PageStore.free c.remove_under.new.store) (g.S.PageStore.size c.args.store.now) c.in-Ok-Only.child c.args.self.now rs
+    (record { rooted = c.requires.rooted; least = (g.met.S.PageStore.in_range c.args.store.now).0; inside = g.met.S.PageStore.free_pages_are c.args.store.now; above = c.if-self-eq0.false }) found.removed w).1))
