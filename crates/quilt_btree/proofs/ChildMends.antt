@@ -183,9 +183,9 @@ left_joined told mid now_told free between now page height below inner j left ke
     let fewer = one_fewer inner.children (suc j) there in
     let p = page_mended mid now_told free between now page below true n.pages (without_child inner j) b rs used m d.1 f inside refl in
     let nearly : is_root ≡ false → IsNearlyFull p.news (suc (suc below)) page = λ root i is.
-        let same : i ≡ without_child inner j = some_same i (without_child inner j) (sym is ∙ p.page_is) in
-        let full = not_root is_root 127 (length inner.children) n.enough root in
-        subst (λ (x : Inner). 126 ≤ length x.children) (sym same) (less_one (length (remove inner.children (suc j))) (length inner.children) fewer full) in
+    let same : i ≡ without_child inner j = some_same i (without_child inner j) (sym is ∙ p.page_is) in
+    let full = not_root is_root 127 (length inner.children) n.enough root in
+    subst (λ (x : Inner). 126 ≤ length x.children) (sym same) (less_one (length (remove inner.children (suc j))) (length inner.children) fewer full) in
     subst (λ h. DidLeave told now_told free now page h is_root b used rs removed.Short) (sym e) (record { pages = n.pages; news = p.news; was = n.is_told; is = p.is; left = (nearly, p.becomes) })
   where
     some_same : (x y : Inner) → Some x ≡ Some y → x ≡ y
@@ -205,13 +205,16 @@ left_joined told mid now_told free between now page height below inner j left ke
       news = m.news;
       was = n.is_told;
       is = d.2 ∙ m.is;
-      left = (root, record {
-        below = suc below;
-        is_height = e;
-        uses = m.uses;
-        subtree = one_row S (child, b) rs m.uses (subst (λ x. Row S x rs m.uses) only m.row);
-        moves = subst (λ g. Moves n.pages m.news free g used (m.uses ++ page ∷ [])) (sym f) m.moves;
-      });
+      left = (
+        root,
+        record {
+          below = suc below;
+          is_height = e;
+          uses = m.uses;
+          subtree = one_row S (child, b) rs m.uses (subst (λ x. Row S x rs m.uses) only m.row);
+          moves = subst (λ g. Moves n.pages m.news free g used (m.uses ++ page ∷ [])) (sym f) m.moves;
+        },
+      );
     }
   where
     one : (a c : ℕ) → suc a ≡ c → c ≡ 2 → a ≡ 1

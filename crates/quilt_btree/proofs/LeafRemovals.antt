@@ -110,22 +110,23 @@ leaf_emptied k told now_told free now page height i is_root b rs leaf used one r
     let can1 = subst (λ h. CanEdit told free page h is_root b rs used) one can in
     let same = leaf_same told free page is_root b rs leaf used can1 reads in
     let s : Subtree can1.pages 1 is_root (page, b) rs used = can1.subtree in
-    let few : length rs < 72 = subst (λ l. length l < 72) same (one_few (length leaf) alone) in
-    (subst (λ l. list_any (has_key k) l ≡ true) same (found_any k leaf i found.found found found.here),
-    record {
-      pages = can1.pages;
-      news = can1.pages;
-      was = can1.is_told;
-      is = t ∙ can1.is_told;
-      left = record {
-        root = few_root is_root 72 (length rs) s.enough few;
-        is_leaf = one;
-        none = ap (without k) (sym same) ∙ sym (without_found k leaf i found.found found found.here) ∙ no_one leaf i found.in_range alone;
-        stays = refl;
-        frees = f;
-        is_used = s.is_used;
-      };
-    })
+    let few : length rs < 72 = subst (λ l. length l < 72) same (one_few (length leaf) alone) in (
+      subst (λ l. list_any (has_key k) l ≡ true) same (found_any k leaf i found.found found found.here),
+      record {
+        pages = can1.pages;
+        news = can1.pages;
+        was = can1.is_told;
+        is = t ∙ can1.is_told;
+        left = record {
+          root = few_root is_root 72 (length rs) s.enough few;
+          is_leaf = one;
+          none = ap (without k) (sym same) ∙ sym (without_found k leaf i found.found found found.here) ∙ no_one leaf i found.in_range alone;
+          stays = refl;
+          frees = f;
+          is_used = s.is_used;
+        };
+      },
+    )
   where
     one_few : (n : ℕ) → n ≡ 1 → n < 72
     one_few n e = omega arith
@@ -199,9 +200,9 @@ leaf_short k told mid now_told free now page height size i is_root b rs leaf all
     let s : Subtree can1.pages 1 is_root (page, b) rs used = can1.subtree in
     let fewer : suc (length all) ≡ length rs = ap (λ l. suc (length l)) c.all_is ∙ one_fewer leaf i c.found.in_range ∙ ap length same in
     let nearly : is_root ≡ false → IsNearlyFull a.news 1 page = λ r ss e.
-        let many = not_root is_root 72 (length rs) s.enough r in
-        let is : ss ≡ all = some_same ss all (sym e ∙ a.page_is) in
-        subst (λ l. 71 ≤ length l) (sym is) (less (length all) (length rs) fewer many) in
+    let many = not_root is_root 72 (length rs) s.enough r in
+    let is : ss ≡ all = some_same ss all (sym e ∙ a.page_is) in
+    subst (λ l. 71 ≤ length l) (sym is) (less (length all) (length rs) fewer many) in
     subst (λ h. DidRemove k told now_told free now page h is_root b rs used removed.Short) (sym one)
     (a.had, record { pages = a.pages; news = a.news; was = a.was; is = a.is; left = (nearly, a.becomes) })
   where

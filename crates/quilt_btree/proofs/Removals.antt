@@ -181,17 +181,18 @@ done_child k told mid between free was then page height child i inner c f is_roo
     at.row_before at.row_behind (row_one S (slice_index inner.children i, child_bounds inner b i) (without k at.here) l.uses l.subtree) l.moves in
     let row = subst (λ x. Row S x (at.first ++ (without k at.here ++ at.last)) changed.uses) (sym (places_cut inner b i a.in_range a.list.keys)) changed.row in
     let becomes = parent_stays a.pages l.news free then a.below page is_root b inner a.under (at.first ++ (without k at.here ++ at.last)) a.page_is a.inner_height a.enough a.within
-    (record { uses = changed.uses; row = row; moves = changed.moves; page_stays = changed.page_stays }) in
-    (any_between k at.first at.here at.last rs among ∙ did.0,
-    record {
-      pages = a.pages;
-      news = l.news;
-      was = a.is_told;
-      is = l.is;
-      left = subst (λ h. Becomes a.pages l.news free then page h is_root b used (without k rs)) (sym a.is_height)
-          (subst (λ u. Becomes a.pages l.news free then page (suc (suc a.below)) is_root b u (without k rs)) (sym a.is_used)
-          (subst (λ x. Becomes a.pages l.news free then page (suc (suc a.below)) is_root b (a.under ++ page ∷ []) x) (sym (without_between k at.first at.here at.last rs among)) becomes));
-    })
+    (record { uses = changed.uses; row = row; moves = changed.moves; page_stays = changed.page_stays }) in (
+      any_between k at.first at.here at.last rs among ∙ did.0,
+      record {
+        pages = a.pages;
+        news = l.news;
+        was = a.is_told;
+        is = l.is;
+        left = subst (λ h. Becomes a.pages l.news free then page h is_root b used (without k rs)) (sym a.is_height)
+            (subst (λ u. Becomes a.pages l.news free then page (suc (suc a.below)) is_root b u (without k rs)) (sym a.is_used)
+            (subst (λ x. Becomes a.pages l.news free then page (suc (suc a.below)) is_root b (a.under ++ page ∷ []) x) (sym (without_between k at.first at.here at.last rs among)) becomes));
+      },
+    )
 
 to_partly : (pages : List (List ℕ)) (h short : ℕ) (c : ℕ × Bounds) (ss : List Record) (u : List ℕ) → Subtree pages (suc h) false c ss u → Partly pages (suc h) short c ss u
 to_partly pages h short c ss u s = any_root pages (suc h) (c.0 == short) c ss u s

@@ -128,9 +128,10 @@ pub one_emptied : (k : Key) (told now_told : Option (List (List ℕ))) (free now
 one_emptied k told now_told free now size t rs i f w =
     let a = at_root told free size t rs i w in
     let did = f true everywhere rs a.used a.can in
-    let left = did.1.left in
-    (ap (λ g. g t.root) left.frees ∙ used_not_free free a.used t.root a.can.apart (page_used a.can.pages t.height true (t.root, everywhere) rs a.used a.can.subtree),
-    sym (a.exact k did.0) ∙ ap (λ l. suc (length l)) left.none)
+    let left = did.1.left in (
+      ap (λ g. g t.root) left.frees ∙ used_not_free free a.used t.root a.can.apart (page_used a.can.pages t.height true (t.root, everywhere) rs a.used a.can.subtree),
+      sym (a.exact k did.0) ∙ ap (λ l. suc (length l)) left.none,
+    )
 
 empty_walk : (pages : List (List ℕ)) → walk_of pages 0 0 ≡ Whole [] []
 unfolding walk_of
@@ -145,12 +146,14 @@ whole_emptied k told mid now_told free between now size t rs i f tells frees w =
     let left = did.1.left in
     let one = one_emptied k told mid free between size t rs i f w in
     let on = tells_on (HasGiven t.root) mid now_told did.1.news did.1.is tells in
-    let moves = moves_given did.1.news on.0 between now [] t.root on.2.size on.2.others one.0 frees in
-    (sym did.0, record {
-      tree = record { pages = on.0; is_told = on.1; visited = []; walk = empty_walk on.0 ∙ ap (λ l. Whole l []) (sym left.none) };
-      number = a.fewer k did.0;
-      balance = λ p low high. moves.balance p ∙ ap (λ g. account g (t.root ∷ []) p) left.frees ∙ ap (λ u. account free u p) (sym left.is_used) ∙ a.balance p low high;
-    })
+    let moves = moves_given did.1.news on.0 between now [] t.root on.2.size on.2.others one.0 frees in (
+      sym did.0,
+      record {
+        tree = record { pages = on.0; is_told = on.1; visited = []; walk = empty_walk on.0 ∙ ap (λ l. Whole l []) (sym left.none) };
+        number = a.fewer k did.0;
+        balance = λ p low high. moves.balance p ∙ ap (λ g. account g (t.root ∷ []) p) left.frees ∙ ap (λ u. account free u p) (sym left.is_used) ∙ a.balance p low high;
+      },
+    )
 
 -- the root had one child left
 last_used : (p : ℕ) (uses : List ℕ) → times p (uses ++ p ∷ []) ≡ suc (times p uses)
@@ -165,10 +168,11 @@ one_only k told now_told free now size child t rs i f w =
     let a = at_root told free size t rs i w in
     let did = f true everywhere rs a.used a.can in
     let only = did.1.left.1 in
-    let apart = apart_then did.1.pages did.1.news free now a.used (only.uses ++ t.root ∷ []) only.moves a.can.apart in
-    (used_not_free now (only.uses ++ t.root ∷ []) t.root apart (some (times t.root (only.uses ++ t.root ∷ [])) (times t.root only.uses) (last_used t.root only.uses)),
-    two_left did.1.news only.below false (child, everywhere) (without k rs) only.uses t.records only.subtree (a.exact k did.0),
-    λ e. no_subtree did.1.news only.below false (child, everywhere) (without k rs) only.uses (down t.height only.below only.is_height e) only.subtree)
+    let apart = apart_then did.1.pages did.1.news free now a.used (only.uses ++ t.root ∷ []) only.moves a.can.apart in (
+      used_not_free now (only.uses ++ t.root ∷ []) t.root apart (some (times t.root (only.uses ++ t.root ∷ [])) (times t.root only.uses) (last_used t.root only.uses)),
+      two_left did.1.news only.below false (child, everywhere) (without k rs) only.uses t.records only.subtree (a.exact k did.0),
+      λ e. no_subtree did.1.news only.below false (child, everywhere) (without k rs) only.uses (down t.height only.below only.is_height e) only.subtree,
+    )
   where
     some : (n m : ℕ) → n ≡ suc m → 1 ≤ n
     some n m e = omega arith
@@ -197,10 +201,11 @@ whole_only k told mid now_told free between now size child t rs i f tells frees 
     (moves_given did.1.news on.0 between now only.uses t.root on.2.size on.2.others taken.0 frees) in
     let moves = moves_then did.1.pages did.1.news on.0 free between now a.used (only.uses ++ t.root ∷ []) only.uses only.moves given in
     let s = subtree_stays did.1.news on.0 on.2.size only.below false (child, everywhere) (without k rs) only.uses (given_same did.1.news on.0 t.root only.uses on.2 none) only.subtree in
-    let height : only.below ≡ t.height - 1 = down t.height only.below only.is_height in
-    (sym did.0,
-    whole_again did.1.pages on.0 now_told free now size child (t.height - 1) (t.records - 1) a.used only.uses (without k rs) on.1 (some_height (t.height - 1) taken.2)
-    (subst (λ h. Subtree on.0 h true (child, everywhere) (without k rs) only.uses) height (any_root on.0 only.below true (child, everywhere) (without k rs) only.uses s)) moves a.can.apart a.balance (a.fewer k did.0))
+    let height : only.below ≡ t.height - 1 = down t.height only.below only.is_height in (
+      sym did.0,
+      whole_again did.1.pages on.0 now_told free now size child (t.height - 1) (t.records - 1) a.used only.uses (without k rs) on.1 (some_height (t.height - 1) taken.2)
+          (subst (λ h. Subtree on.0 h true (child, everywhere) (without k rs) only.uses) height (any_root on.0 only.below true (child, everywhere) (without k rs) only.uses s)) moves a.can.apart a.balance (a.fewer k did.0),
+    )
   where
     nothing : (g : ℕ → Bool) (used : List ℕ) (n : ℕ) → times t.root used ≡ suc n → account g used t.root ≤ 1 → n ≡ 0
     nothing g used n e h = omega arith

@@ -17,7 +17,7 @@ use quilt_store::PageStore;
 use quilt_types::Stop;
 
 /// Whether the first key is below the second.
-fn is_under(a: &Key, b: &Key) -> bool
+fn precedes(a: &Key, b: &Key) -> bool
     ensures { result ≡ is_lt (key_cmp a.now b.now) }
 {
     a < b
@@ -30,7 +30,7 @@ fn leaves_ascend(left: &LeafPage, right: &LeafPage) -> bool
     let _ = right.len();
     let last = left.rec(left.len() - 1);
     let first = right.rec(0);
-    is_under(&last.key, &first.key)
+    precedes(&last.key, &first.key)
 }
 
 /// Whether the keys of two inner pages ascend, one behind the other with `key` between.
@@ -40,7 +40,7 @@ fn inners_ascend(left: &InnerPage, key: &Key, right: &InnerPage) -> bool
     let _ = right.len();
     let last = left.key(left.len() - 2);
     let first = right.key(0);
-    is_under(&last, key) && is_under(key, &first)
+    precedes(&last, key) && precedes(key, &first)
 }
 
 /// Whether the keys of an inner page ascend with `key` in place of key `i`.
@@ -49,10 +49,14 @@ pub fn key_fits(inner: &InnerPage, i: usize, key: &Key) -> bool
     ensures { result ≡ is_ascending (slice_set inner.now.keys i key.now) }
 {
     let n = inner.len();
-    if 0 < i && !is_under(&inner.key(i - 1), key) {
+    if 0 < i && !precedes(&inner.key(i - 1), key) {
         return false;
     }
-    if i + 2 < n { is_under(key, &inner.key(i + 1)) } else { true }
+    if i + 2 < n {
+        precedes(key, &inner.key(i + 1))
+    } else {
+        true
+    }
 }
 
 /// Moves a record to the one of two leaves that has under 72. They have more than 144 together.

@@ -8,11 +8,7 @@ use quilt_store::PageStore;
 use quilt_types::Stop;
 
 /// Writes a page of the tree. Where the page is free, page 0 is said to be damaged.
-pub fn write_page<S: PageStore>(
-    store: &mut S,
-    page: u32,
-    bytes: &[u8; 4096],
-) -> Result<(), Stop>
+pub fn write_page<S: PageStore>(store: &mut S, page: u32, bytes: &[u8; 4096]) -> Result<(), Stop>
     requires { (1 ≤ page) × (page < S.size store.old) }
     ensures told { OnOk result (Tells (λ old new. new ≡ slice_set old page bytes.now) (S.told store.old) (S.told store.new)) }
     ensures taken { OnOk result (S.free store.old page ≡ false) }

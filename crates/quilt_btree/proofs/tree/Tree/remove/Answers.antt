@@ -28,8 +28,11 @@ pub returns-in-Ok-Done-clause-sound : goal.returns-in-Ok-Done-clause-sound
 returns-in-Ok-Done-clause-sound g c =
     let found = rw c.in-Ok-Done.field-0-is at c.in-Ok-Done.ensures in
     shrunk_sound c.shrink.result (g.S.PageStore.told c.args.store.now) (g.S.PageStore.free c.args.store.now) (g.S.PageStore.size c.args.store.now) c.args.self.now (c.args.self.now.height ≡ 0 → (c.args.self.now.root ≡ 0) × (c.args.self.now.records ≡ 1)) (1 ≤ c.args.self.now.height → 2 ≤ c.args.self.now.records) c.shrink.ensures.sound
-    (λ rs w. (λ e. absurd (c.if-self-eq0.false e), λ e. many_done c.args.k.now (g.S.PageStore.told c.args.store.now) (g.S.PageStore.told c.remove_under.new.store) (g.S.PageStore.free c.args.store.now) (g.S.PageStore.free c.remove_under.new.store) (g.S.PageStore.size c.args.store.now) c.args.self.now rs
-    (record { rooted = c.requires.rooted; least = (g.met.S.PageStore.in_range c.args.store.now).0; inside = g.met.S.PageStore.free_pages_are c.args.store.now; above = c.if-self-eq0.false }) found.removed w))
+    (λ rs w. (
+      λ e. absurd (c.if-self-eq0.false e),
+      λ e. many_done c.args.k.now (g.S.PageStore.told c.args.store.now) (g.S.PageStore.told c.remove_under.new.store) (g.S.PageStore.free c.args.store.now) (g.S.PageStore.free c.remove_under.new.store) (g.S.PageStore.size c.args.store.now) c.args.self.now rs
+          (record { rooted = c.requires.rooted; least = (g.met.S.PageStore.in_range c.args.store.now).0; inside = g.met.S.PageStore.free_pages_are c.args.store.now; above = c.if-self-eq0.false }) found.removed w,
+    ))
 
 pub returns-in-Ok-Short-clause-removed : goal.returns-in-Ok-Short-clause-removed
 returns-in-Ok-Short-clause-removed g c =
@@ -42,8 +45,11 @@ pub returns-in-Ok-Short-clause-sound : goal.returns-in-Ok-Short-clause-sound
 returns-in-Ok-Short-clause-sound g c =
     let found = rw c.in-Ok-Short.field-0-is at c.in-Ok-Short.ensures in
     shrunk_sound c.shrink-in-Ok-Short.result (g.S.PageStore.told c.args.store.now) (g.S.PageStore.free c.args.store.now) (g.S.PageStore.size c.args.store.now) c.args.self.now (c.args.self.now.height ≡ 0 → (c.args.self.now.root ≡ 0) × (c.args.self.now.records ≡ 1)) (1 ≤ c.args.self.now.height → 2 ≤ c.args.self.now.records) c.shrink-in-Ok-Short.ensures.sound
-    (λ rs w. (λ e. absurd (c.if-self-eq0.false e), λ e. many_short c.args.k.now (g.S.PageStore.told c.args.store.now) (g.S.PageStore.told c.remove_under.new.store) (g.S.PageStore.free c.args.store.now) (g.S.PageStore.free c.remove_under.new.store) (g.S.PageStore.size c.args.store.now) c.args.self.now rs
-    (record { rooted = c.requires.rooted; least = (g.met.S.PageStore.in_range c.args.store.now).0; inside = g.met.S.PageStore.free_pages_are c.args.store.now; above = c.if-self-eq0.false }) found.removed w))
+    (λ rs w. (
+      λ e. absurd (c.if-self-eq0.false e),
+      λ e. many_short c.args.k.now (g.S.PageStore.told c.args.store.now) (g.S.PageStore.told c.remove_under.new.store) (g.S.PageStore.free c.args.store.now) (g.S.PageStore.free c.remove_under.new.store) (g.S.PageStore.size c.args.store.now) c.args.self.now rs
+          (record { rooted = c.requires.rooted; least = (g.met.S.PageStore.in_range c.args.store.now).0; inside = g.met.S.PageStore.free_pages_are c.args.store.now; above = c.if-self-eq0.false }) found.removed w,
+    ))
 
 pub returns-in-Err-give_back-clause-sound : goal.returns-in-Err-give_back-clause-sound
 returns-in-Err-give_back-clause-sound g c =
@@ -62,8 +68,14 @@ pub returns-in-Ok-clause-sound : goal.returns-in-Ok-clause-sound
 returns-in-Ok-clause-sound g c =
     let found = rw c.in-Ok-Emptied.field-0-is at c.in-Ok-Emptied.ensures in
     shrunk_sound c.shrink-in-Ok.result (g.S.PageStore.told c.args.store.now) (g.S.PageStore.free c.args.store.now) (g.S.PageStore.size c.args.store.now) c.args.self.now (0 ≡ 0 → (0 ≡ 0) × (c.args.self.now.records ≡ 1)) (1 ≤ 0 → 2 ≤ c.args.self.now.records) c.shrink-in-Ok.ensures.sound
-    (λ rs w. (λ e. (refl, (one_emptied c.args.k.now (g.S.PageStore.told c.args.store.now) (g.S.PageStore.told c.remove_under.new.store) (g.S.PageStore.free c.args.store.now) (g.S.PageStore.free c.remove_under.new.store) (g.S.PageStore.size c.args.store.now) c.args.self.now rs
-    (record { rooted = c.requires.rooted; least = (g.met.S.PageStore.in_range c.args.store.now).0; inside = g.met.S.PageStore.free_pages_are c.args.store.now; above = c.if-self-eq0.false }) found.removed w).1), λ h. absurd (omega arith)))
+    (λ rs w. (
+      λ e. (
+        refl,
+        (one_emptied c.args.k.now (g.S.PageStore.told c.args.store.now) (g.S.PageStore.told c.remove_under.new.store) (g.S.PageStore.free c.args.store.now) (g.S.PageStore.free c.remove_under.new.store) (g.S.PageStore.size c.args.store.now) c.args.self.now rs
+            (record { rooted = c.requires.rooted; least = (g.met.S.PageStore.in_range c.args.store.now).0; inside = g.met.S.PageStore.free_pages_are c.args.store.now; above = c.if-self-eq0.false }) found.removed w).1,
+      ),
+      λ h. absurd (omega arith),
+    ))
 
 pub returns-in-Err-give_back-2-clause-sound : goal.returns-in-Err-give_back-2-clause-sound
 returns-in-Err-give_back-2-clause-sound g c =
@@ -82,6 +94,9 @@ pub returns-in-Ok-give_back-clause-sound : goal.returns-in-Ok-give_back-clause-s
 returns-in-Ok-give_back-clause-sound g c =
     let found = rw c.in-Ok-Only.field-0-is at c.in-Ok-Only.ensures in
     shrunk_sound c.shrink-in-Ok-give_back.result (g.S.PageStore.told c.args.store.now) (g.S.PageStore.free c.args.store.now) (g.S.PageStore.size c.args.store.now) c.args.self.now (c.args.self.now.height - 1 ≡ 0 → (c.in-Ok-Only.child ≡ 0) × (c.args.self.now.records ≡ 1)) (1 ≤ c.args.self.now.height - 1 → 2 ≤ c.args.self.now.records) c.shrink-in-Ok-give_back.ensures.sound
-    (λ rs w. (λ e. absurd ((one_only c.args.k.now (g.S.PageStore.told c.args.store.now) (g.S.PageStore.told c.remove_under.new.store) (g.S.PageStore.free c.args.store.now) (g.S.PageStore.free c.remove_under.new.store) (g.S.PageStore.size c.args.store.now) c.in-Ok-Only.child c.args.self.now rs
-    (record { rooted = c.requires.rooted; least = (g.met.S.PageStore.in_range c.args.store.now).0; inside = g.met.S.PageStore.free_pages_are c.args.store.now; above = c.if-self-eq0.false }) found.removed w).2 e), λ h. (one_only c.args.k.now (g.S.PageStore.told c.args.store.now) (g.S.PageStore.told c.remove_under.new.store) (g.S.PageStore.free c.args.store.now) (g.S.PageStore.free c.remove_under.new.store) (g.S.PageStore.size c.args.store.now) c.in-Ok-Only.child c.args.self.now rs
-    (record { rooted = c.requires.rooted; least = (g.met.S.PageStore.in_range c.args.store.now).0; inside = g.met.S.PageStore.free_pages_are c.args.store.now; above = c.if-self-eq0.false }) found.removed w).1))
+    (λ rs w. (
+      λ e. absurd ((one_only c.args.k.now (g.S.PageStore.told c.args.store.now) (g.S.PageStore.told c.remove_under.new.store) (g.S.PageStore.free c.args.store.now) (g.S.PageStore.free c.remove_under.new.store) (g.S.PageStore.size c.args.store.now) c.in-Ok-Only.child c.args.self.now rs
+          (record { rooted = c.requires.rooted; least = (g.met.S.PageStore.in_range c.args.store.now).0; inside = g.met.S.PageStore.free_pages_are c.args.store.now; above = c.if-self-eq0.false }) found.removed w).2 e),
+      λ h. (one_only c.args.k.now (g.S.PageStore.told c.args.store.now) (g.S.PageStore.told c.remove_under.new.store) (g.S.PageStore.free c.args.store.now) (g.S.PageStore.free c.remove_under.new.store) (g.S.PageStore.size c.args.store.now) c.in-Ok-Only.child c.args.self.now rs
+          (record { rooted = c.requires.rooted; least = (g.met.S.PageStore.in_range c.args.store.now).0; inside = g.met.S.PageStore.free_pages_are c.args.store.now; above = c.if-self-eq0.false }) found.removed w).1,
+    ))
