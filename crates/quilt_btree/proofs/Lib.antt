@@ -27,3 +27,4 @@ pub mod NewChild
 pub mod UnderGrowth
 pub mod Density
 pub mod TreeGrowth
+pub mod Heights
