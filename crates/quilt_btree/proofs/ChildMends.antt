@@ -22,7 +22,7 @@ use Rattle.quilt_btree.proofs.Splices.{parent_written, becomes_then}
 use Rattle.quilt_btree.proofs.Places.{front, from_keys, row_one, one_row}
 use Rattle.quilt_btree.proofs.LeafRemovals.{few_root, not_root, many_enough, one_fewer}
 use Rattle.quilt_btree.proofs.Middles.{rear, gap_bounds, bounded_one, bounded_two, RowChanged, middle_changed, row_two, remove_middle, remove_second, set_middle}
-use Rattle.quilt_btree.proofs.Partitions.{FitsBetween, fits_between, within_less, strictly_above}
+use Rattle.quilt_btree.proofs.NewKeys.{FitsBetween, fits_between, within_less, strictly_above}
 use Rattle.quilt_btree.proofs.Shorts.{Neighbours}
 
 -- the pages after a mending

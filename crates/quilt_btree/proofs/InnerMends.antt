@@ -24,7 +24,7 @@ use Rattle.quilt_btree.proofs.Rising.{IsRising, rising_join, all_append, all_par
 use Rattle.quilt_btree.proofs.Trees.{inner_list}
 use Rattle.quilt_btree.proofs.Holdings.{ascends_from}
 use Rattle.quilt_btree.proofs.Pairs.{ArePair, pair_apart, IsJoined, is_joined, AreWritten, are_written, under_stays, pair_moves, left_taken, right_taken}
-use Rattle.quilt_btree.proofs.Partings.{rises_apart}
+use Rattle.quilt_btree.proofs.RisingApart.{rises_apart}
 use Rattle.quilt_btree.proofs.LeafRemovals.{tells_on, has_many, many_enough}
 use Rattle.quilt_btree.proofs.Walks.{and_both}
 

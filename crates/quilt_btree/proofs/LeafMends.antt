@@ -17,7 +17,7 @@ use Rattle.quilt_btree.proofs.Moves.{AreApart}
 use Rattle.quilt_btree.proofs.Rising.{IsRising, rising_join}
 use Rattle.quilt_btree.proofs.Trees.{keys_append, subtree_rises}
 use Rattle.quilt_btree.proofs.Pairs.{IsJoined, is_joined, AreWritten, are_written, left_taken, right_taken}
-use Rattle.quilt_btree.proofs.Partings.{rises_apart}
+use Rattle.quilt_btree.proofs.RisingApart.{rises_apart}
 use Rattle.quilt_btree.proofs.LeafRemovals.{tells_on, has_many, many_enough}
 
 -- the two leaves, as they were read

@@ -20,16 +20,16 @@ pub mod Ascents
 pub mod Cuts
 pub mod LeafRemovals
 pub mod Pairs
-pub mod Partings
+pub mod RisingApart
 pub mod LeafMends
 pub mod Holdings
 pub mod InnerMends
 pub mod Drops
 pub mod Middles
 pub mod Shorts
-pub mod Partitions
+pub mod NewKeys
 pub mod ChildMends
-pub mod Mendings
+pub mod Choices
 pub mod Removals
 pub mod Writes
 pub mod Parting
@@ -44,3 +44,4 @@ pub mod Density
 pub mod TreeGrowth
 pub mod Withouts
 pub mod TreeRemovals
+pub mod Heights

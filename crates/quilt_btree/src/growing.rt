@@ -73,3 +73,45 @@ impl Tree {
         }
     }
 }
+
+#[cfg(test)]
+mod tests {
+    use crate::{Tree, most_pages};
+    use quilt_record::{Key, Record};
+    use quilt_store::{MemStore, PageStore};
+    use std::test::Fail;
+
+    fn record_of(item: u32) -> Record {
+        Record {
+            key: Key {
+                layer: 1,
+                part: 4,
+                code: 0,
+                depth: 0,
+                item,
+            },
+            value: [0; 16],
+        }
+    }
+
+    #[test]
+    fn a_full_leaf_is_split(rt: HostRuntime) -> Result<(), Fail> {
+        let mut store = MemStore::new(rt.alloc(), 16)?;
+        let mut tree = Tree {
+            root: 0,
+            height: 0,
+            records: 0,
+        };
+        for item in 0..145_u32 {
+            assert_eq!(rt; tree.insert(&mut store, &record_of(item))?, true);
+        }
+        assert_eq!(rt; tree.height, 2);
+        assert_eq!(rt; tree.records, 145);
+        assert_eq!(rt; store.free_pages(), 12);
+        assert_eq!(rt; tree.insert(&mut store, &record_of(7))?, false);
+        assert_eq!(rt; tree.records, 145);
+        assert_eq!(rt; store.free_pages(), 12);
+        assert_eq!(rt; most_pages(145), 3);
+        Ok(())
+    }
+}

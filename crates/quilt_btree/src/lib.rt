@@ -1,6 +1,7 @@
 //! A B-tree of records over the pages of a store.
 #![tactic(auto)]
 
+mod filling;
 mod growing;
 mod inserted;
 mod inserting;
@@ -16,4 +17,5 @@ mod splitting;
 mod tree;
 mod writing;
 
+pub use filling::most_pages;
 pub use tree::Tree;

@@ -75,3 +75,50 @@ impl Tree {
         Ok(true)
     }
 }
+
+#[cfg(test)]
+mod tests {
+    use crate::Tree;
+    use quilt_record::{Key, Record};
+    use quilt_store::{MemStore, PageStore};
+    use std::test::Fail;
+
+    fn key_of(item: u32) -> Key {
+        Key {
+            layer: 1,
+            part: 4,
+            code: 0,
+            depth: 0,
+            item,
+        }
+    }
+
+    #[test]
+    fn two_leaves_are_joined(rt: HostRuntime) -> Result<(), Fail> {
+        let mut store = MemStore::new(rt.alloc(), 16)?;
+        let mut tree = Tree {
+            root: 0,
+            height: 0,
+            records: 0,
+        };
+        for item in 0..145_u32 {
+            let r = Record {
+                key: key_of(item),
+                value: [0; 16],
+            };
+            assert_eq!(rt; tree.insert(&mut store, &r)?, true);
+        }
+        assert_eq!(rt; tree.remove(&mut store, &key_of(145))?, false);
+        assert_eq!(rt; tree.records, 145);
+        assert_eq!(rt; tree.remove(&mut store, &key_of(100))?, true);
+        assert_eq!(rt; tree.height, 2);
+        assert_eq!(rt; tree.remove(&mut store, &key_of(7))?, true);
+        assert_eq!(rt; tree.height, 1);
+        assert_eq!(rt; tree.records, 143);
+        assert_eq!(rt; store.free_pages(), 14);
+        assert_eq!(rt; tree.remove(&mut store, &key_of(7))?, false);
+        assert_eq!(rt; tree.records, 143);
+        assert_eq!(rt; store.free_pages(), 14);
+        Ok(())
+    }
+}

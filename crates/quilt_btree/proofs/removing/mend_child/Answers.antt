@@ -1,6 +1,6 @@
 use Rattle.std.proofs.Common.{◌+◌, ◌<◌, ◌∙◌, length, sym, ap, subst, arith}
 use Rattle.quilt_btree.proofs.LeafRemovals.{has_many}
-use Rattle.quilt_btree.proofs.Mendings.{sound_mend, joined_sound, joined_left, parted_sound, parted_left}
+use Rattle.quilt_btree.proofs.Choices.{sound_mend, joined_sound, joined_left, parted_sound, parted_left}
 use Rattle.quilt_btree.proofs.removing.mend_child.Goals as goal
 
 pub returns-in-Err-clause-sound : goal.returns-in-Err-clause-sound

@@ -15,7 +15,7 @@ use Rattle.quilt_btree.proofs.Leaves.{same_le}
 use Rattle.quilt_btree.proofs.Places.{from_keys}
 use Rattle.quilt_btree.proofs.Middles.{head_or}
 use Rattle.quilt_btree.proofs.Holdings.{low_strict, subtree_some}
-use Rattle.quilt_btree.proofs.Partings.{ascending_front, ascending_back}
+use Rattle.quilt_btree.proofs.RisingApart.{ascending_front, ascending_back}
 use Rattle.quilt_btree.proofs.Walks.{and_parts, and_both}
 
 -- all keys before are below what the last of them is below
