@@ -1,4 +1,5 @@
 pub mod Edits
+pub mod Floors
 pub mod Inserts
 pub mod Lists
 pub mod Mending
