@@ -121,7 +121,7 @@ module _ (n layer : ℕ) (p : Block × ℕ → Bool) (done all : List Record) (e
   passed_over t h = ap (λ l. done ++ made l) (sym (kept false t)) ∙ h
 
 -- the leaf whose record stands in the records that only one of the grids has
-only_leaf : (n layer : ℕ) (g other : Grid) (r : Record) → Contains (records_without n layer g other) r → (e : Block × ℕ) × IsLeaf n g e × Contains (leaves n g) e × (is_leaf n other e ≡ false) × (leaf_record n layer e ≡ r)
+pub only_leaf : (n layer : ℕ) (g other : Grid) (r : Record) → Contains (records_without n layer g other) r → (e : Block × ℕ) × IsLeaf n g e × Contains (leaves n g) e × (is_leaf n other e ≡ false) × (leaf_record n layer e ≡ r)
 unfolding records_without
 only_leaf n layer g other r c =
     let test : Block × ℕ → Bool = λ e. not (is_leaf n other e) in

@@ -6,3 +6,4 @@ pub mod Leaves
 pub mod Progress
 pub mod Parts
 pub mod Results
+pub mod Edited

@@ -1,5 +1,5 @@
 -- The records that go and those that come when a region layer becomes another grid.
-use Rattle.std.specs.Prelude.{◌≡◌, ℕ, Bool, ◌&&◌, not, ◌==◌, List, [], map, filter}
+use Rattle.std.specs.Prelude.{◌≡◌, ◌↔◌, ◌⊎◌, ℕ, Bool, ◌&&◌, not, ◌==◌, List, [], map, filter, Contains}
 use Rattle.std.specs.List.{list_any}
 use Rattle.quilt_types.specs.declared.plane.Block.{Block}
 use Rattle.quilt_types.specs.Layers.{Grid}
@@ -27,3 +27,7 @@ pub record LeadsTo (n layer : ℕ) (old new : Grid) (edits : Edits) : Type 0 whe
 pub record IsFresh (n layer : ℕ) (g : Grid) (edits : Edits) : Type 0 where
   pub remove : edits.remove ≡ []
   pub add : edits.add ≡ region_records n layer g
+
+-- the records after the edits: those that were there and were not taken out, and those that were put in
+abbrev pub IsEdited : List Record → Edits → List Record → Type 0
+IsEdited rs edits now = (r : Record) → Contains now r ↔ ((Contains rs r × (Contains edits.remove r → ⊥)) ⊎ Contains edits.add r)

@@ -9,3 +9,6 @@ mod spelling;
 
 pub use planning::{plan_new, plan_rect, plan_replace};
 pub use reading::{colour_at, read_list};
+
+#[cfg(test)]
+mod tests;

@@ -1,13 +1,15 @@
-ghost use Rattle.std.specs.Prelude.{◌≡◌, ◌+◌, ◌*◌, ◌≤◌, true, IfOk, IfErr, length};
+ghost use Rattle.std.specs.Prelude.{◌≡◌, ℕ, ◌+◌, ◌*◌, ◌≤◌, true, IfOk, IfErr, List, length};
 ghost use Rattle.quilt_types.specs.Plane.{IsBlock, is_window};
-ghost use Rattle.quilt_types.specs.Layers.{Grid};
+ghost use Rattle.quilt_types.specs.Layers.{Grid, IsGrid};
 ghost use Rattle.quilt_types.specs.Algebra.{painted};
+ghost use Rattle.quilt_record.specs.declared.record.Record.{Record};
+ghost use Rattle.quilt_record.specs.declared.edits.Edits.{Edits as AnyEdits};
 ghost use Rattle.quilt_store.specs.Store.{Tells};
 ghost use Rattle.quilt_blocks.specs.Cutting.{leaves_by_code, pair_of};
 ghost use Rattle.quilt_btree.specs.Stops.{HasStopCause, IsSound};
 ghost use Rattle.quilt_btree.specs.Trees.{IsRooted};
-ghost use Rattle.quilt_region.specs.Regions.{HasRegion};
-ghost use Rattle.quilt_region.specs.Plans.{LeadsTo, IsFresh, is_leaf, records_without};
+ghost use Rattle.quilt_region.specs.Regions.{HasRegion, SpellsRegion};
+ghost use Rattle.quilt_region.specs.Plans.{LeadsTo, IsEdited, IsFresh, is_leaf, records_without};
 
 use crate::painting::paint;
 use crate::reading::read_list;
@@ -97,7 +99,10 @@ pub fn plan_replace(
 ) -> Result<Edits, AllocError>
     requires layer { 1 ≤ layer }
     requires level { old.now.level ≡ new.now.level }
-    ensures { IfOk result (λ edits. LeadsTo old.now.level layer old.now.grid new.now.grid edits) }
+    ensures plan { IfOk result (λ edits. LeadsTo old.now.level layer old.now.grid new.now.grid edits) }
+
+    // Such edits turn records that spell the layer as the old grid into records that spell it as the new one.
+    ensures law { (n number : ℕ) (g h : Grid) (edits : AnyEdits) (rs now : List Record) → n ≤ 12 → IsGrid n h → LeadsTo n number g h edits → SpellsRegion rs number n g → IsEdited rs edits now → SpellsRegion now number n h }
 {
     let remove = records_only_in(alloc, layer, old, new)?;
     let add = records_only_in(alloc, layer, new, old)?;

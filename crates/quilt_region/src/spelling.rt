@@ -5,6 +5,7 @@ ghost use Rattle.quilt_types.specs.declared.stop.Stop.TheVariants.{Device};
 ghost use Rattle.quilt_types.specs.Plane.{IsBlock};
 ghost use Rattle.quilt_types.specs.Layers.{Grid, IsGrid};
 ghost use Rattle.quilt_loc.specs.Codes.{code_from};
+ghost use Rattle.quilt_blocks.specs.Cutting.{pair_of};
 ghost use Rattle.quilt_btree.specs.Stops.{IsSound};
 ghost use Rattle.quilt_region.specs.Regions.{leaf_record, region_records};
 
@@ -21,6 +22,7 @@ pub const DAMAGED: Stop = Stop::Damaged { page: 0 };
 pub fn leaf_of(r: &Record, layer: u8, level: u8) -> Option<Leaf>
     requires level { (1 ≤ level) × (level ≤ 12) }
     ensures block { IfSome result (λ l. IsBlock level l.block) }
+    ensures record { IfSome result (λ l. r.now ≡ leaf_record level layer (pair_of l)) }
     ensures code { IfSome result (λ l. r.now.key.code ≡ code_from l.block) }
     ensures one { (b : AnyBlock) (c : AnyColour) → 1 ≤ layer → IsBlock level b → r.now ≡ leaf_record level layer (b, c.0) → result ≡ Some (record { block = b; colour = c }) }
 {

@@ -20,6 +20,11 @@ returns-in_err-block-clause-one c b k least h e =
     let fits = c.ranges.layer.fits in
     absurd (none_some (b, k) (sym c.in_err-block.was ∙ c.read_region.ensures.one c.args.layer b k (named c.args.level c.args.layer c.args.r.now b k.0 least (omega arith) h e)))
 
+pub returns-clause-record : goal.returns-clause-record
+returns-clause-record c =
+    let same : c.args.r.now.key.layer ≡ c.args.layer = c.if-r-from.false ∙ c.from.ensures in
+    c.in_ok-block.ensures.some.written [] ∙ ap (λ (l : ℕ). leaf_record c.args.level l (c.in_ok-block.block, c.in_ok-block.colour.0)) same
+
 pub returns-clause-code : goal.returns-clause-code
 returns-clause-code c = ap (λ (r : Record). r.key.code) (c.in_ok-block.ensures.some.written [])
 
