@@ -1,0 +1,9 @@
+pub mod Keys
+pub mod Trees
+pub mod Records
+pub mod Floors
+pub mod Leaves
+pub mod Progress
+pub mod Parts
+pub mod Results
+pub mod Edited

@@ -1,0 +1,33 @@
+use Rattle.std.proofs.Common.{ℕ, ◌+◌, ◌*◌, ◌≤◌, length, refl, ◌∙◌, ap, subst, arith}
+use Rattle.quilt_store.specs.Store.{Tells}
+use Rattle.quilt_region.proofs.Records.{range_read, region_length}
+use Rattle.quilt_region.proofs.Results.{list_whole, sound_whole, if_ok}
+use Rattle.quilt_region.proofs.reading.read_list.Goals as goal
+
+pub returns-in-Err-clause-sound : goal.returns-in-Err-clause-sound
+returns-in-Err-clause-sound g c grid h = c.in-Err.ensures.sound h.records h.tree
+
+pub returns-in-Ok-clause-list : goal.returns-in-Ok-clause-list
+returns-in-Ok-clause-list g c =
+    list_whole (g.S.PageStore.told c.args.store.now) c.args.tree.now c.args.layer c.args.level c.deref.result.now
+    (λ grid h. c.deref.ensures.value ∙ range_read (g.S.PageStore.told c.args.store.now) c.args.tree.now c.args.layer c.args.level grid _ _ c.in-Ok.records.items 4294967295 c.requires.level.1 c.from.ensures refl c.from-2.ensures refl (omega arith) c.in-Ok.ensures.range h)
+    c.list_of.result c.list_of.ensures.list
+
+pub returns-in-Ok-clause-sound : goal.returns-in-Ok-clause-sound
+returns-in-Ok-clause-sound g c =
+    sound_whole (g.S.PageStore.told c.args.store.now) c.args.tree.now c.args.layer c.args.level c.deref.result.now
+    (λ grid h. c.deref.ensures.value ∙ range_read (g.S.PageStore.told c.args.store.now) c.args.tree.now c.args.layer c.args.level grid _ _ c.in-Ok.records.items 4294967295 c.requires.level.1 c.from.ensures refl c.from-2.ensures refl (omega arith) c.in-Ok.ensures.range h)
+    c.list_of.result c.list_of.ensures.sound
+
+pub returns-in-Ok-clause-cause : goal.returns-in-Ok-clause-cause
+returns-in-Ok-clause-cause g c = record { later = c.in-Ok.ensures.cause.later; device = λ e. absurd (c.list_of.ensures.no_fault e) }
+
+pub returns-in-Ok-clause-reads : goal.returns-in-Ok-clause-reads
+returns-in-Ok-clause-reads g c =
+    if_ok c.list_of.result _
+    (λ grid h.
+    let n = c.args.level in
+    let all =
+    range_read (g.S.PageStore.told c.args.store.now) c.args.tree.now c.args.layer n grid _ _ c.in-Ok.records.items 4294967295 c.requires.level.1 c.from.ensures refl c.from-2.ensures refl (omega arith) c.in-Ok.ensures.range h in
+    let many = c.in-Ok.records.ok.0 ∙ ap length all ∙ region_length n c.args.layer grid in
+    subst (λ (k : ℕ). Tells {A = ℕ} (λ old new. new ≤ old + 6 + 3 * k) (g.S.PageStore.reads c.args.store.now) (g.S.PageStore.reads c.range.new.store)) many c.in-Ok.ensures.reads)

@@ -1,0 +1,3 @@
+pub mod Painting
+pub mod Plans
+pub mod Regions

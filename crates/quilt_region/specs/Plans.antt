@@ -1,0 +1,33 @@
+-- The records that go and those that come when a region layer becomes another grid.
+use Rattle.std.specs.Prelude.{◌≡◌, ◌↔◌, ◌⊎◌, ℕ, Bool, ◌&&◌, not, ◌==◌, List, [], map, filter, Contains}
+use Rattle.std.specs.List.{list_any}
+use Rattle.quilt_types.specs.declared.plane.Block.{Block}
+use Rattle.quilt_types.specs.Layers.{Grid}
+use Rattle.quilt_types.specs.Facts.{same_block}
+use Rattle.quilt_types.specs.Quadtrees.{leaves}
+use Rattle.quilt_record.specs.declared.record.Record.{Record}
+use Rattle.quilt_record.specs.declared.edits.Edits.{Edits}
+use Rattle.quilt_blocks.specs.Cutting.{leaves_by_code}
+use Rattle.quilt_region.specs.Regions.{leaf_record, region_records}
+
+-- the grid has this leaf, of this colour
+abbrev pub is_leaf : ℕ → Grid → Block × ℕ → Bool
+is_leaf n g e = list_any (λ d. same_block d.0 e.0 && (d.1 == e.1)) (leaves n g)
+
+-- the records of the leaves of one grid that are no leaves of the other, in the order of their codes
+unfoldable pub records_without : ℕ → ℕ → Grid → Grid → List Record
+records_without n layer g other = map (leaf_record n layer) (filter (λ e. not (is_leaf n other e)) (leaves_by_code n g))
+
+-- the edits take out the records that only the old grid has, and put in those that only the new one has
+pub record LeadsTo (n layer : ℕ) (old new : Grid) (edits : Edits) : Type 0 where
+  pub remove : edits.remove ≡ records_without n layer old new
+  pub add : edits.add ≡ records_without n layer new old
+
+-- the edits put in all records of the grid, and take none out
+pub record IsFresh (n layer : ℕ) (g : Grid) (edits : Edits) : Type 0 where
+  pub remove : edits.remove ≡ []
+  pub add : edits.add ≡ region_records n layer g
+
+-- the records after the edits: those that were there and were not taken out, and those that were put in
+abbrev pub IsEdited : List Record → Edits → List Record → Type 0
+IsEdited rs edits now = (r : Record) → Contains now r ↔ ((Contains rs r × (Contains edits.remove r → ⊥)) ⊎ Contains edits.add r)

@@ -1,0 +1,63 @@
+ghost use Rattle.std.specs.Prelude.{◌≡◌, ℕ, ◌≤◌, IfOk, IfErr, IfSome, Some, IsErrOf};
+ghost use Rattle.quilt_types.specs.declared.plane.Block.{Block as AnyBlock};
+ghost use Rattle.quilt_types.specs.declared.plane.Colour.{Colour as AnyColour};
+ghost use Rattle.quilt_types.specs.declared.stop.Stop.TheVariants.{Device};
+ghost use Rattle.quilt_types.specs.Plane.{IsBlock};
+ghost use Rattle.quilt_types.specs.Layers.{Grid, IsGrid};
+ghost use Rattle.quilt_loc.specs.Codes.{code_from};
+ghost use Rattle.quilt_blocks.specs.Cutting.{pair_of};
+ghost use Rattle.quilt_btree.specs.Stops.{IsSound};
+ghost use Rattle.quilt_region.specs.Regions.{leaf_record, region_records};
+
+use quilt_blocks::{Leaf, LeafList, Maker};
+use quilt_loc::end_of;
+use quilt_record::{Record, read_region};
+use quilt_types::Stop;
+use std::alloc::Global;
+
+/// What is answered where records are none of a region layer, or their blocks do not cover the square.
+pub const DAMAGED: Stop = Stop::Damaged { page: 0 };
+
+/// The leaf of the layer that the record is, if it is one.
+pub fn leaf_of(r: &Record, layer: u8, level: u8) -> Option<Leaf>
+    requires level { (1 ≤ level) × (level ≤ 12) }
+    ensures block { IfSome result (λ l. IsBlock level l.block) }
+    ensures record { IfSome result (λ l. r.now ≡ leaf_record level layer (pair_of l)) }
+    ensures code { IfSome result (λ l. r.now.key.code ≡ code_from l.block) }
+    ensures one { (b : AnyBlock) (c : AnyColour) → 1 ≤ layer → IsBlock level b → r.now ≡ leaf_record level layer (b, c.0) → result ≡ Some (record { block = b; colour = c }) }
+{
+    let (block, colour) = read_region(r, level)?;
+    if r.key.layer != u16::from(layer) {
+        return None;
+    }
+    Some(Leaf { block, colour })
+}
+
+/// The list of the leaves that the records are, which stand in the order of their codes.
+pub fn list_of(alloc: Global, records: &[Record], layer: u8, level: u8) -> Result<LeafList, Stop>
+    requires layer { 1 ≤ layer }
+    requires level { (1 ≤ level) × (level ≤ 12) }
+    ensures list { IfOk result (λ l. (g : Grid) → IsGrid level g → records.now ≡ region_records level layer g → l ≡ record { level = level; grid = g }) }
+    ensures level { IfOk result (λ l. l.level ≡ level) }
+    ensures sound { IfErr result (λ e. (g : Grid) → records.now ≡ region_records level layer g → IsSound e) }
+    ensures no_fault { IsErrOf result Device → ⊥ }
+{
+    let mut maker = Maker::new(alloc, level);
+    let mut end = 0;
+    for r in records {
+        let Some(leaf) = leaf_of(r, layer, level) else {
+            return Err(DAMAGED);
+        };
+        if r.key.code != end {
+            return Err(DAMAGED);
+        }
+        if maker.push(leaf.block, leaf.colour).is_err() {
+            return Err(Stop::Memory);
+        }
+        end = end_of(leaf.block);
+    }
+    if end != 1 << (2 * level) {
+        return Err(DAMAGED);
+    }
+    Ok(maker.finish())
+}
