@@ -49,6 +49,9 @@ fn answers_the_five_commands(rt: HostRuntime) -> Result<(), Fail> {
 fn tells_replies(rt: HostRuntime) -> Result<(), Fail> {
     let text = Reply::No(Code::Outside).into_text(rt.alloc())?;
     assert_eq!(rt; text.bytes(), b"no 8 outside\n".as_slice());
-    assert_eq!(rt; settled_replies(rt.alloc(), 3, b"edition\n# none\nfrob")?, 1);
+    assert_eq!(rt;
+        settled_replies(rt.alloc(), 3, b"edition\n# none\nfrob")?,
+        1
+    );
     Ok(())
 }
