@@ -2,7 +2,7 @@
 use Rattle.std.proofs.Common.{◌≡◌, ℕ, ◌<◌, Bool, true, false, List, [], ◌∷◌, ◌++◌, length, refl, sym, ◌∙◌, ap, subst, arith, append_assoc, append-nil}
 use Rattle.quilt_lang.specs.declared.item.Item.{Item}
 use Rattle.quilt_lang.specs.Items.{items_of, whole_items}
-use Rattle.quilt_lang.specs.Reading.{Unread, Gives, MayFollow, HasNone}
+use Rattle.quilt_lang.specs.Reading.{Unread, Gives, MayFollow, HasNone, BeginWith}
 use Rattle.quilt_lang.specs.Taking.{Gave, Takes}
 use Rattle.quilt_lang.proofs.Pieces.{gives_none, gives_then, gives_fed}
 
@@ -82,3 +82,12 @@ all_of_it n s u before after bytes so took =
     let gave : Gives true n took.gave.items s.rest u.rest = subst P so.level took.gave.gives in
     let second : items_of n s.rest ≡ took.gave.items ++ items_of n u.rest = rw (append-nil s.rest, append-nil u.rest) at (gave.all [] refl) in
     took.gave.put ∙ ap (λ (l : List Item). before ++ l) (sym (second ∙ ap (λ (l : List Item). took.gave.items ++ l) none ∙ append-nil took.gave.items)) ∙ sym first
+
+-- where no whole item is left, those given are the whole items, and stand at the front whatever follows
+pub whole_of_it : (n : ℕ) (s : Unread) (items : List Item) (bytes : List ℕ) → SoFar n s items bytes → items ≡ whole_items n bytes
+whole_of_it n s items bytes so =
+    let whole : whole_items n bytes ≡ items ++ whole_items n s.rest = rw (append-nil bytes, append-nil s.rest) at (so.gives.whole refl []) in
+    sym (whole ∙ ap (λ (l : List Item). items ++ l) so.none ∙ append-nil items)
+
+pub front_of_it : (n : ℕ) (s : Unread) (items : List Item) (bytes v : List ℕ) → SoFar n s items bytes → BeginWith (items_of n (bytes ++ v)) items
+front_of_it n s items bytes v so = (items_of n (s.rest ++ v), so.gives.all v tt)

@@ -23,6 +23,10 @@ abbrev pub HasNone : Bool → ℕ → List ℕ → Type 0
 HasNone false n rest = whole_items n rest ≡ []
 HasNone true n rest = items_of n rest ≡ []
 
+-- all the items are these and then others
+abbrev pub BeginWith : List Item → List Item → Type 0
+BeginWith all items = (others : List Item) × (all ≡ items ++ others)
+
 -- bytes with no newline
 abbrev pub IsLine : List ℕ → Type 0
 IsLine l = All (λ c. (c == 10) ≡ false) l

@@ -20,7 +20,7 @@ pub use lines::Lines;
 pub use pairs::Pairs;
 pub use parse_err::ParseErr;
 pub use parser::parse;
-pub use reading::items_in;
+pub use reading::{items_in, whole_items_in};
 pub use refusal::refusal_text;
 
 #[cfg(test)]

@@ -1,5 +1,6 @@
-ghost use Rattle.std.specs.Prelude.{◌≡◌, [], flat_map, OnOk, IfOk};
-ghost use Rattle.quilt_lang.specs.Items.{items_of};
+ghost use Rattle.std.specs.Prelude.{◌≡◌, ℕ, List, [], ◌++◌, flat_map, OnOk, IfOk};
+ghost use Rattle.quilt_lang.specs.Items.{items_of, whole_items};
+ghost use Rattle.quilt_lang.specs.Reading.{BeginWith};
 ghost use Rattle.quilt_lang.specs.Taking.{Takes};
 
 use crate::{Item, Lines};
@@ -16,6 +17,19 @@ pub fn items_in(alloc: Global, level: u8, pieces: &[&[u8]]) -> Result<Vec<Item>,
         take_items(&mut lines, false, &mut items)?;
     }
     take_items(&mut lines, true, &mut items)?;
+    Ok(items)
+}
+
+/// The items of a text that may go on: those whose lines all stand there with their newlines.
+/// Whatever follows, the items of the longer text begin with these.
+pub fn whole_items_in(alloc: Global, level: u8, text: &[u8]) -> Result<Vec<Item>, AllocError>
+    ensures whole { IfOk result (λ items. items.items ≡ whole_items level text.now) }
+    ensures front { IfOk result (λ items. (more : List ℕ) → BeginWith (items_of level (text.now ++ more)) items.items) }
+{
+    let mut lines = Lines::new(alloc, level);
+    let mut items = Vec::new(alloc);
+    lines.feed(text)?;
+    take_items(&mut lines, false, &mut items)?;
     Ok(items)
 }
 

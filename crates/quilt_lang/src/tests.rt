@@ -1,4 +1,4 @@
-use crate::{Command, Item, Pairs, ParseErr, items_in, parse, refusal_text};
+use crate::{Command, Item, Pairs, ParseErr, items_in, parse, refusal_text, whole_items_in};
 use quilt_types::{Code, Colour};
 use std::alloc::Global;
 use std::test::Fail;
@@ -36,6 +36,7 @@ fn reads_in_pieces(rt: HostRuntime) -> Result<(), Fail> {
     let pieces: Vec<&[u8]> = long.chunks(1).collect(alloc)?;
     let items = items_in(alloc, 3, &pieces)?;
     assert_eq!(rt; items.len(), 2);
+    assert_eq!(rt; whole_items_in(alloc, 3, &long)?.len(), 1);
     assert!(rt; matches!(&items[0], Item::Long));
     match parse(alloc, &items[1]) {
         Ok(Command::Show { w, .. }) => assert_eq!(rt; (w.x, w.y, w.w, w.h), (1, 2, 3, 4)),

@@ -1,13 +1,11 @@
 -- What an answer of the session is, by the definition of a run.
 use Rattle.std.proofs.Common.{◌≡◌, ℕ, Bool, true, false, List, [], ◌∷◌, ◌++◌, Option, Result, Ok, Err, unwrap_or, map, refl, sym, ◌∙◌, ap, subst}
-use Rattle.std.specs.Fmt.{digits}
 use Rattle.quilt_types.specs.declared.code.Code.{Code}
-use Rattle.quilt_types.specs.declared.code.Code.TheVariants as no
 use Rattle.quilt_lang.specs.declared.command.Command.{Command}
 use Rattle.quilt_lang.specs.declared.item.Item.{Item}
 use Rattle.quilt_lang.specs.Items.{Group, held, items_of, groups_from, lines_of}
 use Rattle.quilt_lang.specs.Forms.{form, Spelled}
-use Rattle.quilt_lang.specs.Parsing.{refusal, Answers}
+use Rattle.quilt_lang.specs.Parsing.{Answers}
 use Rattle.quilt_lang.specs.declared.parse_err.ParseErr.{ParseErr}
 use Rattle.quilt_lang.specs.declared.parse_err.ParseErr.TheVariants as errs
 use Rattle.quilt_lang.specs.Reading.{Gives, MayFollow}
@@ -22,26 +20,6 @@ use Rattle.quilt_loop.specs.Quotas.{most_records}
 use Rattle.quilt_map.proofs.Built.{is_built, spelled_built}
 use Rattle.quilt_loop.specs.Replies.{IsItem, after, reply_to, state_then}
 use Rattle.quilt_loop.proofs.Quotas.{unpublished, fits, work_regions}
-
--- the line of a refusal is its reply's text
-pub refusal_is : (code : Code) → refusal code ≡ text_of (Refused code)
-unfolding digits
-refusal_is no.Word = refl
-refusal_is no.Count = refl
-refusal_is no.Number = refl
-refusal_is no.Name = refl
-refusal_is no.Unknown = refl
-refusal_is no.Kind = refl
-refusal_is no.Exists = refl
-refusal_is no.Outside = refl
-refusal_is no.Absent = refl
-refusal_is no.Present = refl
-refusal_is no.Full = refl
-refusal_is no.Layers = refl
-refusal_is no.Long = refl
-refusal_is no.Rows = refl
-refusal_is no.Editions = refl
-refusal_is no.Bytes = refl
 
 -- an item that spells no command
 pub form_no : (r : Result Command ParseErr) (spelled : Result Command Code) (code : Code) → r ≡ Err (errs.No code) → Answers r spelled → spelled ≡ Err code

@@ -12,7 +12,7 @@ ghost use Rattle.quilt_loop.specs.Quotas.{state_in};
 
 use crate::halt::Halt;
 use crate::output::put_reply;
-use quilt_lang::{Item, ParseErr, parse, refusal_text};
+use quilt_lang::{Item, ParseErr, parse};
 use quilt_map::{Reply, Session};
 use quilt_types::{Code, Text};
 use quilt_world::World;
@@ -28,7 +28,7 @@ struct Answer {
 fn refusal(alloc: Global, code: Code) -> Result<Answer, AllocError>
     ensures { IfOk result (λ a. (a.text ≡ text_of (Refused code)) × (a.is_done ≡ false)) }
 {
-    let text = refusal_text(alloc, code)?;
+    let text = Reply::No(code).into_text(alloc)?;
     Ok(Answer {
         text,
         is_done: false,

@@ -1,7 +1,9 @@
 pub mod Answering
 pub mod Built
+pub mod Fronts
 pub mod MapOf
 pub mod Paints
+pub mod Refusals
 pub mod Rows
 pub mod Shown
 pub mod Works

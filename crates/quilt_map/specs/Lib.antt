@@ -2,4 +2,5 @@ pub mod Answers
 pub mod Grids
 pub mod Runs
 pub mod Sessions
+pub mod Settled
 pub mod States

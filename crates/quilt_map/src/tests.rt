@@ -1,4 +1,5 @@
 use crate::reply::Reply;
+use crate::settled::settled_replies;
 use crate::work::Work;
 use quilt_types::{Code, Colour, Name, Pixel, Window};
 use std::test::Fail;
@@ -41,5 +42,16 @@ fn answers_the_five_commands(rt: HostRuntime) -> Result<(), Fail> {
     assert!(rt; refuses(&work.region(&a, Colour(1))?, Code::Exists));
     assert!(rt; refuses(&work.at(&b, Pixel { x: 9, y: 9 })?, Code::Unknown));
     assert!(rt; says(&work.number()?, b"edition 0\nok\n"));
+    Ok(())
+}
+
+#[test]
+fn tells_replies(rt: HostRuntime) -> Result<(), Fail> {
+    let text = Reply::No(Code::Outside).into_text(rt.alloc())?;
+    assert_eq!(rt; text.bytes(), b"no 8 outside\n".as_slice());
+    assert_eq!(rt;
+        settled_replies(rt.alloc(), 3, b"edition\n# none\nfrob")?,
+        1
+    );
     Ok(())
 }

@@ -88,7 +88,7 @@ fn file_of_level_3<R: Threads + Sync + Abort>(rt: &R, alloc: Global) -> Image {
         .expect(rt, "a copy")
 }
 
-/// Whether a run of the input over that file puts this output and ends with this status.
+/// Runs the input over that file, in pieces of so many bytes, and compares what is put and the status.
 fn answers<R: Threads + Sync + Abort>(
     rt: &R,
     alloc: Global,
@@ -102,10 +102,21 @@ fn answers<R: Threads + Sync + Abort>(
     let file = file_of_level_3(rt, alloc);
     let mut desk = Desk::new(alloc, "m", Some(file), input).expect(rt, "a desk");
     desk.piece(piece);
-    let words = ["run", "m"];
-    let (end, desk) = run_quilt(rt, alloc, &words, desk);
+    let (end, desk) = run_quilt(rt, alloc, &["run", "m"], desk);
     assert!(rt; desk.output() == output);
     assert_eq!(rt; end.status(), status);
+}
+
+/// The same with the input and the output byte by byte, and whole.
+fn answers_both_ways<R: Threads + Sync + Abort>(
+    rt: &R,
+    alloc: Global,
+    input: &[u8],
+    output: &[u8],
+    status: u8,
+) {
+    answers(rt, alloc, 1, input, output, status);
+    answers(rt, alloc, 4096, input, output, status);
 }
 
 #[test]
@@ -113,35 +124,118 @@ fn answers_a_text(rt: HostRuntime) {
     let alloc = rt.alloc();
     let text = b"region a 4\nset a 1 0 255\nat a 1 0\nshow a 0 0 3 1\nset a 8 0 1\n";
     let replies = b"ok\nok\n255\nok\n04ff04\nok\nno 8 outside\n";
-    answers(&rt, alloc, 1, text, replies, 1);
-    answers(&rt, alloc, 4096, text, replies, 1);
-    answers(&rt, alloc, 4096, b"", b"", 0);
-    answers(&rt, alloc, 4096, b"edition", b"edition 0\nok\n", 0);
+    answers_both_ways(&rt, alloc, text, replies, 1);
+    answers_both_ways(&rt, alloc, b"", b"", 0);
+    answers_both_ways(&rt, alloc, b"edition", b"edition 0\nok\n", 0);
+}
+
+#[test]
+fn refuses_a_text(rt: HostRuntime) {
+    let alloc = rt.alloc();
     let text = b"set nosuch 99 x 1\nset nosuch 99 0 1\nfrob\nat\nregion 9a 0\nregion a 256\n";
     let replies = b"no 3 number\nno 5 unknown\nno 1 word\nno 2 count\nno 4 name\nno 3 number\n";
-    answers(&rt, alloc, 4096, text, replies, 1);
+    answers_both_ways(&rt, alloc, text, replies, 1);
+}
+
+/// Runs the input over a world that tells nothing, and compares the number of bytes that are put and the status.
+fn counts<R: Threads + Sync + Abort>(rt: &R, alloc: Global, input: &[u8], bytes: u64, status: u8) {
+    let file = file_of_level_3(rt, alloc);
+    let calm = Calm::new(alloc, "m", Some(file), 0, input).expect(rt, "a world");
+    let (end, calm) = run_quilt(rt, alloc, &["run", "m"], calm);
+    assert_eq!(rt; calm.written(), bytes);
+    assert_eq!(rt; end.status(), status);
 }
 
 #[test]
 fn counts_over_a_world_that_tells_nothing(rt: HostRuntime) {
     let alloc = rt.alloc();
+    counts(&rt, alloc, b"", 0, 0);
+    counts(&rt, alloc, b"edition", 13, 0);
+}
+
+#[test]
+fn ends_an_input_without_end(rt: HostRuntime) {
+    let alloc = rt.alloc();
     let file = file_of_level_3(&rt, alloc);
-    let calm = Calm::new(alloc, "m", Some(file), 0, b"edition\n").expect(&rt, "a world");
-    let words = ["run", "m"];
-    let (end, calm) = run_quilt(&rt, alloc, &words, calm);
-    assert_eq!(rt; end.status(), 0);
-    assert_eq!(rt; calm.written(), 13);
+    let calm = Calm::endless(alloc, "m", Some(file), b'#').expect(&rt, "a world");
+    let (end, calm) = run_quilt(&rt, alloc, &["run", "m"], calm);
+    assert_eq!(rt; calm.written(), 0);
+    assert_eq!(rt; end.status(), 8);
+}
+
+/// Runs the input with the first call failing, the second, and so on, until no call fails.
+fn fails_in_turn<R: Threads + Sync + Abort>(
+    rt: &R,
+    alloc: Global,
+    piece: usize,
+    input: &[u8],
+    output: &[u8],
+    status: u8,
+)
+    requires { 1 ≤ piece }
+{
+    for call in 1..1000_u64 {
+        let file = file_of_level_3(rt, alloc);
+        let mut desk = Desk::new(alloc, "m", Some(file), input).expect(rt, "a desk");
+        desk.piece(piece);
+        desk.fail_at(call).expect(rt, "a call that fails");
+        let (end, desk) = run_quilt(rt, alloc, &["run", "m"], desk);
+        if end.status() == status {
+            assert!(rt; desk.output() == output);
+            return;
+        }
+        assert_eq!(rt; end, End::Device);
+        assert_eq!(rt; end.status(), 3);
+        assert!(rt; output.starts_with(desk.output()));
+    }
+    panic!(rt; "each run met a fault");
+}
+
+#[test]
+fn ends_a_text_at_each_fault(rt: HostRuntime) {
+    let alloc = rt.alloc();
+    let text = b"region a 4\nset a 1 0 255\nat a 1 0\nshow a 0 0 3 1\nset a 8 0 1\n\
+        region a 0\nat b 0 0\nregion b 0\nshow b 7 7 1 1\nedition\n";
+    let replies = b"ok\nok\n255\nok\n04ff04\nok\nno 8 outside\n\
+        no 7 exists\nno 5 unknown\nok\n00\nok\nedition 0\nok\n";
+    fails_in_turn(&rt, alloc, 1, text, replies, 1);
+    fails_in_turn(&rt, alloc, 4096, text, replies, 1);
+}
+
+/// Runs `edition` over a file, which may not be a map file, and compares the status. Nothing is put.
+fn opens_nothing<R: Threads + Sync + Abort>(
+    rt: &R,
+    alloc: Global,
+    path: &str,
+    file: Option<Image>,
+    end: End,
+) {
+    let desk = Desk::new(alloc, "m", file, b"edition\n").expect(rt, "a desk");
+    let (found, desk) = run_quilt(rt, alloc, &["run", path], desk);
+    assert_eq!(rt; found, end);
+    assert!(rt; desk.output().is_empty());
 }
 
 #[test]
 fn finds_no_other_file(rt: HostRuntime) {
     let alloc = rt.alloc();
-    let (end, desk) = run_quilt(&rt, alloc, &["run", "m"], empty_desk(&rt, alloc));
-    assert_eq!(rt; end.status(), 6);
-    assert!(rt; desk.output().is_empty());
+    let file = file_of_level_3(&rt, alloc);
+    opens_nothing(&rt, alloc, "k", Some(file), End::Missing);
+    opens_nothing(&rt, alloc, "m", None, End::Missing);
+    assert_eq!(rt; End::Missing.status(), 6);
+}
+
+#[test]
+fn opens_no_foreign_file(rt: HostRuntime) {
+    let alloc = rt.alloc();
     let zeros = Image::new(alloc, 35).expect(&rt, "an image");
-    let desk = Desk::new(alloc, "m", Some(zeros), b"edition\n").expect(&rt, "a desk");
-    let (end, desk) = run_quilt(&rt, alloc, &["run", "m"], desk);
-    assert_eq!(rt; end.status(), 5);
-    assert!(rt; desk.output().is_empty());
+    opens_nothing(&rt, alloc, "m", Some(zeros), End::NotMap);
+    let mut label = [0; 4096];
+    label[..15].copy_from_slice(b"QUILT MAP FILE\n");
+    let mut labelled = Image::new(alloc, 35).expect(&rt, "an image");
+    assert_eq!(rt; labelled.pages(), 35);
+    labelled.set_page(0, &label);
+    opens_nothing(&rt, alloc, "m", Some(labelled), End::Damaged { page: 0 });
+    assert_eq!(rt; End::NotMap.status(), 5);
+    assert_eq!(rt; End::Damaged { page: 0 }.status(), 9);
 }

@@ -1,0 +1,20 @@
+ghost use Rattle.std.specs.Prelude.{◌≡◌, ℕ, List, ◌++◌, length, IfOk};
+ghost use Rattle.quilt_types.specs.Layers.{Edition};
+ghost use Rattle.quilt_lang.specs.Items.{whole_items};
+ghost use Rattle.quilt_map.specs.Runs.{run};
+ghost use Rattle.quilt_map.specs.Settled.{IsSettled};
+
+use quilt_lang::whole_items_in;
+use std::alloc::{AllocError, Global};
+
+/// How many replies of a text that may go on are settled: those to its whole items.
+/// Whatever follows, and from whatever edition it runs, the replies to the longer text begin with these.
+/// It takes time and memory in the text's length.
+pub fn settled_replies(alloc: Global, level: u8, text: &[u8]) -> Result<usize, AllocError>
+    ensures whole { IfOk result (λ k. k ≡ length (whole_items level text.now)) }
+    ensures front { IfOk result (λ k. (q : ℕ) (first : Edition) → first.level ≡ level → (more : List ℕ) →
+        IsSettled k (run q first text.now) (run q first (text.now ++ more))) }
+{
+    let items = whole_items_in(alloc, level, text)?;
+    Ok(items.len())
+}
