@@ -73,9 +73,10 @@ fn digit(seed: u32, unit: u32) -> u16
     (seed / 256 / unit % 9) as u16
 }
 
-/// Every fourth segment lies along the window's edge, is one point, or begins in the window's corner.
+/// Of six segments one stays as it is; the others lie along the upper or the right edge of the window, are one point,
+/// begin in its corner, or touch it in its corner alone.
 fn shaped(turn: u32, s: Seg, w: Window) -> Seg {
-    match turn % 4 {
+    match turn % 6 {
         0 => s,
         1 => Seg {
             y1: w.y,
@@ -87,11 +88,27 @@ fn shaped(turn: u32, s: Seg, w: Window) -> Seg {
             y2: s.y1,
             ..s
         },
-        _ => Seg {
+        3 => Seg {
             x1: w.x,
             y1: w.y,
             ..s
         },
+        4 => Seg {
+            x1: w.x.saturating_add(w.w),
+            x2: w.x.saturating_add(w.w),
+            ..s
+        },
+        _ => touching(s.x1.min(w.x).min(w.y), w),
+    }
+}
+
+/// A segment that goes this far to either side of the window's upper left corner, and has no other point of the window.
+fn touching(far: u16, w: Window) -> Seg {
+    Seg {
+        x1: w.x.saturating_sub(far),
+        y1: w.y.saturating_add(far),
+        x2: w.x.saturating_add(far),
+        y2: w.y.saturating_sub(far),
     }
 }
 

@@ -1,0 +1,4 @@
+mod algebra;
+mod measures;
+mod moves;
+mod worked;

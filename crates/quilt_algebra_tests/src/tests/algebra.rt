@@ -1,0 +1,42 @@
+use crate::comparing::{compare, list_of};
+use crate::drawing::{Dice, drawn, drawn_pairs};
+use crate::plain_algebra::{plain_overlay, plain_recolour};
+use quilt_overlay::{Op, overlay, recolour};
+use std::test::Fail;
+
+/// 200 pairs of maps of levels 1 to 5, laid over each other in each way.
+#[test]
+fn overlays_of_drawn_maps(rt: HostRuntime) -> Result<(), Fail> {
+    let mut dice = Dice::new(1);
+    for turn in 0..200_u8 {
+        let level = turn % 5 + 1;
+        let side = 1_u32 << level;
+        let first = drawn(rt.alloc(), &mut dice, side)?;
+        let second = drawn(rt.alloc(), &mut dice, side)?;
+        let a = list_of(&rt, rt.alloc(), level, &first)?;
+        let b = list_of(&rt, rt.alloc(), level, &second)?;
+        for op in [Op::Union, Op::Inter, Op::Diff] {
+            let list = overlay(rt.alloc(), op, &a, &b)?;
+            let wanted = plain_overlay(rt.alloc(), op, &first, &second)?;
+            compare(&rt, rt.alloc(), &list, level, &wanted)?;
+        }
+    }
+    Ok(())
+}
+
+/// 200 maps of levels 1 to 5, each recoloured by up to 16 pairs.
+#[test]
+fn other_colours_of_drawn_maps(rt: HostRuntime) -> Result<(), Fail> {
+    let mut dice = Dice::new(2);
+    for turn in 0..200_u8 {
+        let level = turn % 5 + 1;
+        let side = 1_u32 << level;
+        let colours = drawn(rt.alloc(), &mut dice, side)?;
+        let pairs = drawn_pairs(rt.alloc(), &mut dice)?;
+        let a = list_of(&rt, rt.alloc(), level, &colours)?;
+        let list = recolour(rt.alloc(), &a, &pairs)?;
+        let wanted = plain_recolour(rt.alloc(), &colours, &pairs)?;
+        compare(&rt, rt.alloc(), &list, level, &wanted)?;
+    }
+    Ok(())
+}

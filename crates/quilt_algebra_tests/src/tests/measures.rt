@@ -1,0 +1,40 @@
+use crate::comparing::list_of;
+use crate::drawing::{Dice, drawn};
+use crate::plain_measures::{plain_area, plain_histogram, plain_perimeter};
+use quilt_measure::{area, histogram, perimeter};
+use quilt_types::Colour;
+use std::test::Fail;
+
+/// 200 maps of levels 1 to 5: how many pixels each colour has, and how many edges.
+#[test]
+fn areas_and_perimeters_of_drawn_maps(rt: HostRuntime) -> Result<(), Fail> {
+    let mut dice = Dice::new(6);
+    for turn in 0..200_u8 {
+        let level = turn % 5 + 1;
+        let side = 1_u32 << level;
+        let colours = drawn(rt.alloc(), &mut dice, side)?;
+        let a = list_of(&rt, rt.alloc(), level, &colours)?;
+        for c in 0..5_u8 {
+            assert_eq!(rt; area(&a, Colour(c)), plain_area(&colours, c));
+            assert_eq!(rt;
+                perimeter(&a, Colour(c)),
+                plain_perimeter(&colours, side, c)
+            );
+        }
+    }
+    Ok(())
+}
+
+/// 200 maps of levels 1 to 5: how many leaves each side has.
+#[test]
+fn histograms_of_drawn_maps(rt: HostRuntime) -> Result<(), Fail> {
+    let mut dice = Dice::new(7);
+    for turn in 0..200_u8 {
+        let level = turn % 5 + 1;
+        let side = 1_u32 << level;
+        let colours = drawn(rt.alloc(), &mut dice, side)?;
+        let a = list_of(&rt, rt.alloc(), level, &colours)?;
+        assert_eq!(rt; histogram(&a), plain_histogram(&colours, side));
+    }
+    Ok(())
+}
