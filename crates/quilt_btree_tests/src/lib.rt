@@ -1,0 +1,7 @@
+//! Tries the tree over a store in memory beside an ordered map.
+#![tactic(auto)]
+
+#[cfg(test)]
+mod tests;
+#[cfg(test)]
+mod trial;
