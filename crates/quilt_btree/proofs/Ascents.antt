@@ -1,5 +1,5 @@
 -- Two keys tell whether ascending lists ascend one behind the other, and whether a key fits in the place of another.
-use Rattle.std.proofs.Common.{◌≡◌, ℕ, zero, suc, ◌+◌, ◌-◌, ◌<◌, ◌≤◌, Bool, true, false, ◌&&◌, List, [], ◌∷◌, ◌++◌, length, map, Option, Some, None, refl, sym, ◌∙◌, ap, subst, arith}
+use Rattle.std.proofs.Common.{◌≡◌, ℕ, zero, suc, ◌-◌, ◌<◌, ◌≤◌, Bool, true, false, ◌&&◌, List, [], ◌∷◌, ◌++◌, length, Option, Some, None, refl, sym, ◌∙◌, ap, subst, arith}
 use Rattle.std.specs.Prelude.{slice_get, slice_set}
 use Rattle.std.specs.Ordering.{is_lt}
 use Rattle.quilt_record.specs.declared.key.Key.{Key}
@@ -7,7 +7,7 @@ use Rattle.quilt_record.specs.declared.record.Record.{Record}
 use Rattle.quilt_record.specs.Records.{key_cmp}
 use Rattle.quilt_node.specs.Pages.{is_ascending}
 use Rattle.quilt_node.specs.Nodes.{keys_of}
-use Rattle.quilt_btree.proofs.Walks.{and_parts, and_both}
+use Rattle.quilt_btree.proofs.Walks.{and_parts}
 use Rattle.quilt_btree.proofs.Trees.{ascending_rest, keys_append}
 
 and_true : (a b : Bool) → a ≡ true → (a && b) ≡ b

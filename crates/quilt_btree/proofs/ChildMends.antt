@@ -1,27 +1,24 @@
 -- An inner page of which two neighbouring children were mended.
-use Rattle.std.proofs.Common.{◌≡◌, ◌⊎◌, ℕ, zero, suc, ◌+◌, ◌<◌, ◌≤◌, Bool, true, false, ◌||◌, nat_le, List, [], ◌∷◌, ◌++◌, length, Option, Some, None, Result, Ok, Err, IfOk, IfErr, slice_index, slice_index_or, slice_set, refl, sym, ◌∙◌, ap, subst, arith, length-append, get_or-set_same, length-set}
-use Rattle.std.specs.Prelude.{slice_get}
+use Rattle.std.proofs.Common.{◌≡◌, ℕ, suc, ◌+◌, ◌<◌, ◌≤◌, Bool, true, false, ◌||◌, nat_le, List, [], ◌∷◌, ◌++◌, length, Option, Some, slice_index, slice_index_or, slice_set, refl, sym, ◌∙◌, ap, subst, arith, get_or-set_same, length-set}
 use Rattle.std.specs.List.{remove}
 use Rattle.quilt_record.specs.declared.key.Key.{Key}
 use Rattle.quilt_record.specs.declared.record.Record.{Record}
-use Rattle.quilt_node.specs.Pages.{Inner, inner_of, is_ascending}
+use Rattle.quilt_node.specs.Pages.{Inner, inner_of}
 use Rattle.quilt_node.specs.Edits.{with_key, without_child}
 use Rattle.quilt_node.specs.Tree.{Bounds, bounded, are_within}
-use Rattle.quilt_types.specs.declared.stop.Stop.{Stop}
 use Rattle.quilt_btree.specs.declared.mended.Mended.{Mended}
 use Rattle.quilt_btree.specs.declared.mended.Mended.TheVariants as mended
 use Rattle.quilt_btree.specs.declared.removed.Removed.{Removed}
 use Rattle.quilt_btree.specs.declared.removed.Removed.TheVariants as removed
-use Rattle.quilt_btree.specs.Stops.{IsSound}
 use Rattle.quilt_btree.specs.Subtree.{Row, Subtree}
-use Rattle.quilt_btree.specs.Edits.{times, account, Moves, Becomes, IsNearlyFull, DidLeave}
-use Rattle.quilt_btree.specs.Mending.{CanMend, HasMended, DidMend, HasShort, Writes, HasDropped}
+use Rattle.quilt_btree.specs.Edits.{times, Moves, Becomes, IsNearlyFull, DidLeave}
+use Rattle.quilt_btree.specs.Mending.{HasMended, DidMend, Writes, HasDropped}
 use Rattle.quilt_btree.proofs.Counts.{times-append, times_here}
-use Rattle.quilt_btree.proofs.Moves.{AreApart, apart_then, moves_then, used_not_free}
+use Rattle.quilt_btree.proofs.Moves.{AreApart, apart_then, used_not_free}
 use Rattle.quilt_btree.proofs.Splices.{parent_written, becomes_then}
-use Rattle.quilt_btree.proofs.Places.{front, from_keys, row_one, one_row}
+use Rattle.quilt_btree.proofs.Places.{front, row_one, one_row}
 use Rattle.quilt_btree.proofs.LeafRemovals.{few_root, not_root, many_enough, one_fewer}
-use Rattle.quilt_btree.proofs.Middles.{rear, gap_bounds, bounded_one, bounded_two, RowChanged, middle_changed, row_two, remove_middle, remove_second, set_middle}
+use Rattle.quilt_btree.proofs.Middles.{rear, gap_bounds, bounded_one, bounded_two, middle_changed, row_two, remove_middle, remove_second, set_middle}
 use Rattle.quilt_btree.proofs.NewKeys.{FitsBetween, fits_between, within_less, strictly_above}
 use Rattle.quilt_btree.proofs.Shorts.{Neighbours}
 

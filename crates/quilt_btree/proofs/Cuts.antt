@@ -1,7 +1,6 @@
 -- Two lists one behind the other, cut elsewhere.
-use Rattle.std.proofs.Common.{◌≡◌, ℕ, suc, ◌+◌, ◌-◌, ◌≤◌, List, [], ◌∷◌, ◌++◌, length, take, drop, Some, refl, sym, ◌∙◌, ap, subst, append_assoc, arith, take-append-drop, drop_of_length-le}
+use Rattle.std.proofs.Common.{◌≡◌, ℕ, suc, ◌+◌, ◌-◌, ◌≤◌, List, [], ◌∷◌, ◌++◌, length, take, drop, Some, sym, ◌∙◌, ap, append_assoc, arith, take-append-drop, drop_of_length-le}
 use Rattle.std.specs.Prelude.{slice_get}
-use Rattle.std.proofs.lemmas.List.{append-nil}
 use Rattle.quilt_btree.proofs.Leaves.{cut_at}
 
 pub cut_again : {X : Type 0} (l r first rest : List X) (i : ℕ) → first ≡ take i l → rest ≡ drop i l ++ r → first ++ rest ≡ l ++ r

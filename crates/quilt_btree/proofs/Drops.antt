@@ -1,6 +1,5 @@
 -- An inner page is written with one child fewer.
-use Rattle.std.proofs.Common.{◌≡◌, ℕ, suc, ◌+◌, ◌<◌, ◌≤◌, Bool, true, ◌&&◌, nat_le, nat_lt, List, length, Option, Some, IfSome, slice_set, refl, sym, ◌∙◌, ap, subst, arith}
-use Rattle.std.specs.List.{list_all, remove}
+use Rattle.std.proofs.Common.{◌≡◌, ℕ, suc, ◌+◌, ◌<◌, true, ◌&&◌, nat_le, nat_lt, List, length, Option, Some, IfSome, slice_set, sym, ◌∙◌, ap, subst, arith}
 use Rattle.quilt_node.specs.Pages.{Inner, inner_of}
 use Rattle.quilt_node.specs.Nodes.{are_pages}
 use Rattle.quilt_node.specs.Edits.{without_child}

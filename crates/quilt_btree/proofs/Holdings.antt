@@ -1,15 +1,13 @@
 -- Each subtree has a record, and so the keys between children ascend strictly from the bound below.
-use Rattle.std.proofs.Common.{◌≡◌, ℕ, zero, suc, ◌+◌, ◌≤◌, Bool, true, false, ◌&&◌, List, [], ◌∷◌, ◌++◌, length, map, Option, Some, None, slice_index_or, refl, sym, ◌∙◌, ap, subst, arith}
-use Rattle.std.specs.List.{list_all}
+use Rattle.std.proofs.Common.{◌≡◌, ℕ, zero, suc, ◌≤◌, Bool, true, false, ◌&&◌, List, [], ◌∷◌, ◌++◌, length, map, Option, Some, slice_index_or, refl, ◌∙◌, ap, subst, arith}
 use Rattle.std.specs.Ordering.{is_lt, is_le}
 use Rattle.quilt_record.specs.declared.key.Key.{Key}
 use Rattle.quilt_record.specs.declared.record.Record.{Record}
 use Rattle.quilt_record.specs.Records.{key_cmp}
-use Rattle.quilt_node.specs.Pages.{Inner, leaf_of, inner_of, is_ascending}
-use Rattle.quilt_node.specs.Tree.{Bounds, bounded, is_above, is_below, are_within}
+use Rattle.quilt_node.specs.Pages.{is_ascending}
+use Rattle.quilt_node.specs.Tree.{Bounds, bounded, are_within}
 use Rattle.quilt_btree.specs.Subtree.{Reading, Row, Subtree}
 use Rattle.quilt_btree.proofs.Orders.{le_lt}
-use Rattle.quilt_btree.proofs.Rising.{IsRising}
 use Rattle.quilt_btree.proofs.Trees.{leaf_list, inner_list, subtree_rises}
 use Rattle.quilt_btree.proofs.Walks.{and_parts, and_both}
 

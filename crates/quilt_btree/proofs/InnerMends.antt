@@ -1,29 +1,28 @@
 -- Two neighbouring inner pages are joined, or their children parted elsewhere.
-use Rattle.std.proofs.Common.{◌≡◌, ◌≢◌, ℕ, zero, suc, ◌+◌, ◌-◌, ◌<◌, ◌≤◌, Bool, true, false, ◌||◌, ◌&&◌, nat_le, nat_lt, List, [], ◌∷◌, ◌++◌, length, map, Option, Some, None, IfSome, slice_index_or, slice_set, refl, sym, ◌∙◌, ap, subst, arith, length-append}
-use Rattle.std.specs.List.{list_all}
+use Rattle.std.proofs.Common.{◌≡◌, ℕ, zero, suc, ◌+◌, ◌<◌, ◌≤◌, Bool, true, false, ◌&&◌, nat_le, nat_lt, List, [], ◌∷◌, ◌++◌, length, Option, Some, IfSome, slice_index_or, slice_set, refl, sym, ◌∙◌, ap, subst, arith, length-append}
 use Rattle.quilt_record.specs.declared.key.Key.{Key}
 use Rattle.quilt_record.specs.declared.record.Record.{Record}
 use Rattle.quilt_record.specs.Records.{key_cmp}
-use Rattle.std.specs.Ordering.{is_le, is_lt}
+use Rattle.std.specs.Ordering.{is_le}
 use Rattle.quilt_node.specs.Pages.{Inner, inner_of, is_ascending}
 use Rattle.quilt_node.specs.Nodes.{are_pages}
 use Rattle.quilt_node.specs.Edits.{joined}
-use Rattle.quilt_node.specs.Tree.{Bounds, bounded, are_within, is_above, is_below}
+use Rattle.quilt_node.specs.Tree.{Bounds, bounded, are_within, is_below}
 use Rattle.quilt_store.specs.Store.{Tells, FreesOnly}
 use Rattle.quilt_btree.specs.declared.mended.Mended.TheVariants as mended
 use Rattle.quilt_btree.specs.Subtree.{Row, Subtree}
 use Rattle.quilt_btree.specs.Trees.{ReadsInner}
-use Rattle.quilt_btree.specs.Edits.{times, account, Moves, Becomes, Parted}
+use Rattle.quilt_btree.specs.Edits.{times, Moves}
 use Rattle.quilt_btree.specs.Mending.{CanMend, DidMend, HasGiven}
 use Rattle.quilt_btree.proofs.Counts.{times-append}
 use Rattle.quilt_btree.proofs.Moves.{AreApart}
-use Rattle.quilt_btree.proofs.Rows.{SameOn, row_join, row_parts}
+use Rattle.quilt_btree.proofs.Rows.{row_join, row_parts}
 use Rattle.quilt_btree.proofs.Splices.{bounded_join, rows_stay}
 use Rattle.quilt_btree.proofs.Leaves.{same_le}
 use Rattle.quilt_btree.proofs.Rising.{IsRising, rising_join, all_append, all_parts}
 use Rattle.quilt_btree.proofs.Trees.{inner_list}
 use Rattle.quilt_btree.proofs.Holdings.{ascends_from}
-use Rattle.quilt_btree.proofs.Pairs.{ArePair, pair_apart, IsJoined, is_joined, AreWritten, are_written, under_stays, pair_moves, left_taken, right_taken}
+use Rattle.quilt_btree.proofs.Pairs.{ArePair, pair_apart, is_joined, are_written, under_stays, pair_moves, left_taken, right_taken}
 use Rattle.quilt_btree.proofs.RisingApart.{rises_apart}
 use Rattle.quilt_btree.proofs.LeafRemovals.{tells_on, has_many, many_enough}
 use Rattle.quilt_btree.proofs.Walks.{and_both}

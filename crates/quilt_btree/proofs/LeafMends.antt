@@ -1,5 +1,5 @@
 -- Two neighbouring leaves are joined, or their records parted elsewhere.
-use Rattle.std.proofs.Common.{◌≡◌, ◌≢◌, ℕ, zero, suc, ◌+◌, ◌<◌, ◌≤◌, Bool, true, false, ◌||◌, nat_le, List, [], ◌∷◌, ◌++◌, length, map, Option, Some, None, IfSome, slice_index_or, slice_set, refl, sym, ◌∙◌, ap, subst, arith, length-append}
+use Rattle.std.proofs.Common.{◌≡◌, ℕ, ◌+◌, ◌<◌, ◌≤◌, Bool, true, false, List, [], ◌∷◌, ◌++◌, length, Option, Some, IfSome, slice_index_or, slice_set, refl, sym, ◌∙◌, ap, subst, arith, length-append}
 use Rattle.std.specs.Prelude.{slice_get}
 use Rattle.quilt_record.specs.declared.key.Key.{Key}
 use Rattle.quilt_record.specs.declared.record.Record.{Record}
@@ -10,13 +10,12 @@ use Rattle.quilt_store.specs.Store.{Tells, FreesOnly}
 use Rattle.quilt_btree.specs.declared.mended.Mended.TheVariants as mended
 use Rattle.quilt_btree.specs.Subtree.{Subtree}
 use Rattle.quilt_btree.specs.Trees.{Spells, ReadsLeaf}
-use Rattle.quilt_btree.specs.Edits.{times, account, Moves, Becomes, Parted}
+use Rattle.quilt_btree.specs.Edits.{Moves}
 use Rattle.quilt_btree.specs.Mending.{CanMend, DidMend, HasGiven}
-use Rattle.quilt_btree.proofs.Counts.{times-append}
 use Rattle.quilt_btree.proofs.Moves.{AreApart}
 use Rattle.quilt_btree.proofs.Rising.{IsRising, rising_join}
 use Rattle.quilt_btree.proofs.Trees.{keys_append, subtree_rises}
-use Rattle.quilt_btree.proofs.Pairs.{IsJoined, is_joined, AreWritten, are_written, left_taken, right_taken}
+use Rattle.quilt_btree.proofs.Pairs.{is_joined, are_written, left_taken, right_taken}
 use Rattle.quilt_btree.proofs.RisingApart.{rises_apart}
 use Rattle.quilt_btree.proofs.LeafRemovals.{tells_on, has_many, many_enough}
 

@@ -1,5 +1,5 @@
 -- What becomes of a leaf when a record is taken out of it.
-use Rattle.std.proofs.Common.{◌≡◌, ℕ, zero, suc, ◌+◌, ◌-◌, ◌<◌, ◌≤◌, Bool, true, false, ◌||◌, ◌&&◌, nat_le, List, [], ◌∷◌, ◌++◌, length, map, take, drop, Option, Some, None, IfSome, slice_index_or, slice_set, refl, sym, ◌∙◌, ap, subst, arith, get_or-set_same, take-append-drop}
+use Rattle.std.proofs.Common.{◌≡◌, ℕ, zero, suc, ◌<◌, ◌≤◌, Bool, true, false, ◌||◌, ◌&&◌, nat_le, List, [], ◌∷◌, length, map, take, drop, Option, Some, None, IfSome, slice_index_or, slice_set, refl, sym, ◌∙◌, ap, subst, arith, get_or-set_same, take-append-drop}
 use Rattle.std.specs.List.{list_any, list_all, remove}
 use Rattle.std.proofs.lemmas.Bool.Decides.{nat_tests}
 use Rattle.quilt_record.specs.declared.key.Key.{Key}
@@ -8,13 +8,11 @@ use Rattle.quilt_node.specs.Pages.{leaf_of}
 use Rattle.quilt_node.specs.Nodes.{IsFound, IsGap}
 use Rattle.quilt_node.specs.Tree.{Bounds, are_within, is_above, is_below}
 use Rattle.quilt_store.specs.Store.{Tells}
-use Rattle.quilt_types.specs.declared.stop.Stop.{Stop}
 use Rattle.quilt_btree.specs.declared.removed.Removed.TheVariants as removed
 use Rattle.quilt_btree.specs.Lists.{has_key, without}
-use Rattle.quilt_btree.specs.Stops.{IsSound}
 use Rattle.quilt_btree.specs.Subtree.{Subtree}
 use Rattle.quilt_btree.specs.Trees.{Spells, ReadsLeaf}
-use Rattle.quilt_btree.specs.Edits.{times, account, Becomes, CanEdit, IsNearlyFull, DidLeave, DidRemove}
+use Rattle.quilt_btree.specs.Edits.{times, Becomes, CanEdit, IsNearlyFull, DidRemove}
 use Rattle.quilt_btree.proofs.Counts.{times_here}
 use Rattle.quilt_btree.proofs.Moves.{moves_written, used_account, used_not_free}
 use Rattle.quilt_btree.proofs.Leaves.{gap_any, found_any, without_found}

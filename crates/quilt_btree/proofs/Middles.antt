@@ -1,5 +1,5 @@
 -- Two neighbouring children among the others of their page, and one or two in their stead.
-use Rattle.std.proofs.Common.{◌≡◌, ◌≢◌, ℕ, zero, suc, ◌+◌, ◌-◌, ◌<◌, ◌≤◌, Bool, true, false, ◌==◌, List, [], ◌∷◌, ◌++◌, length, take, drop, Option, Some, None, slice_index, slice_index_or, slice_set, refl, sym, ◌∙◌, ap, subst, arith, length-take-le, length-drop, drop-cons}
+use Rattle.std.proofs.Common.{◌≡◌, ℕ, zero, suc, ◌+◌, ◌-◌, ◌<◌, ◌≤◌, Bool, true, false, List, [], ◌∷◌, ◌++◌, length, take, drop, Option, Some, slice_index, slice_index_or, slice_set, refl, sym, ◌∙◌, ap, arith, length-take-le, length-drop, drop-cons}
 use Rattle.std.specs.Prelude.{slice_get}
 use Rattle.std.specs.List.{remove}
 use Rattle.std.proofs.lemmas.List.{append-nil}
@@ -7,8 +7,8 @@ use Rattle.quilt_record.specs.declared.key.Key.{Key}
 use Rattle.quilt_record.specs.declared.record.Record.{Record}
 use Rattle.quilt_node.specs.Tree.{Bounds, bounded}
 use Rattle.quilt_btree.specs.Subtree.{Reading, InTurn, Row, Subtree}
-use Rattle.quilt_btree.specs.Edits.{times, account, Moves}
-use Rattle.quilt_btree.proofs.Counts.{times-append, times-three, times_here}
+use Rattle.quilt_btree.specs.Edits.{times, Moves}
+use Rattle.quilt_btree.proofs.Counts.{times-append, times-three}
 use Rattle.quilt_btree.proofs.Moves.{AreApart, moves_among, stays_on}
 use Rattle.quilt_btree.proofs.Rows.{is_in, SameOn, row_stays, subtree_stays}
 use Rattle.quilt_btree.proofs.Leaves.{cut_at}

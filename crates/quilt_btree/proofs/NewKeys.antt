@@ -1,5 +1,5 @@
 -- A key between two neighbours takes the place of the one that parted them.
-use Rattle.std.proofs.Common.{◌≡◌, ℕ, suc, Bool, true, false, ◌&&◌, List, [], ◌∷◌, ◌++◌, map, Option, Some, None, refl, sym, ◌∙◌, ap, subst}
+use Rattle.std.proofs.Common.{◌≡◌, ℕ, true, false, ◌&&◌, List, [], ◌∷◌, ◌++◌, map, Option, Some, refl, subst}
 use Rattle.std.specs.List.{list_all}
 use Rattle.std.specs.Ordering.{is_lt, is_le}
 use Rattle.quilt_record.specs.declared.key.Key.{Key}
@@ -9,7 +9,7 @@ use Rattle.quilt_node.specs.Pages.{is_ascending}
 use Rattle.quilt_node.specs.Tree.{Bounds, is_above, is_below, are_within}
 use Rattle.quilt_btree.specs.Subtree.{Subtree}
 use Rattle.quilt_btree.proofs.Orders.{lt_le, lt_to_le}
-use Rattle.quilt_btree.proofs.Rising.{IsRising, all_follow, all_append, all_parts, above_on, below_on, ascending_join}
+use Rattle.quilt_btree.proofs.Rising.{all_follow, all_append, all_parts, above_on, below_on, ascending_join}
 use Rattle.quilt_btree.proofs.Trees.{ascending_first, ascending_rest, subtree_rises}
 use Rattle.quilt_btree.proofs.Leaves.{same_le}
 use Rattle.quilt_btree.proofs.Places.{from_keys}

@@ -1,5 +1,5 @@
 -- A record is taken out of the child to which its key leads.
-use Rattle.std.proofs.Common.{◌≡◌, ◌≢◌, ℕ, zero, suc, ◌+◌, ◌-◌, ◌<◌, ◌≤◌, Bool, true, false, ◌||◌, ◌==◌, nat_le, List, [], ◌∷◌, ◌++◌, length, take, drop, Option, Some, None, Result, Ok, Err, IfOk, IfErr, slice_index, slice_index_or, refl, sym, ◌∙◌, ap, subst, arith, take-append-drop}
+use Rattle.std.proofs.Common.{◌≡◌, ◌≢◌, ℕ, suc, ◌+◌, ◌-◌, ◌<◌, ◌≤◌, Bool, true, false, ◌||◌, ◌==◌, nat_le, List, [], ◌∷◌, ◌++◌, length, take, drop, Option, Some, Result, Ok, Err, IfOk, IfErr, slice_index, slice_index_or, refl, sym, ◌∙◌, ap, subst, arith, take-append-drop}
 use Rattle.std.specs.List.{list_any}
 use Rattle.quilt_record.specs.declared.key.Key.{Key}
 use Rattle.quilt_record.specs.declared.record.Record.{Record}
@@ -13,7 +13,7 @@ use Rattle.quilt_btree.specs.Lists.{has_key, without}
 use Rattle.quilt_btree.specs.Stops.{IsSound}
 use Rattle.quilt_btree.specs.Subtree.{Row, Subtree}
 use Rattle.quilt_btree.specs.Trees.{ReadsInner}
-use Rattle.quilt_btree.specs.Edits.{times, account, Moves, Becomes, IsNearlyFull, CanEdit, HasLeft, DidLeave, DidRemove}
+use Rattle.quilt_btree.specs.Edits.{times, Moves, Becomes, IsNearlyFull, CanEdit, HasLeft, DidLeave, DidRemove}
 use Rattle.quilt_btree.specs.Mending.{Partly, HasShort}
 use Rattle.quilt_btree.proofs.Counts.{times-append, times-three, self_test}
 use Rattle.quilt_btree.proofs.Moves.{AreApart, apart_some, apart_then, moves_then}
@@ -21,9 +21,9 @@ use Rattle.quilt_btree.proofs.Splices.{parent_stays, becomes_then}
 use Rattle.quilt_btree.proofs.Lists.{IsAmong, any_between, without_between}
 use Rattle.quilt_btree.proofs.Trees.{IsInnerList, inner_list}
 use Rattle.quilt_btree.proofs.Places.{front, from_keys, tail_places, bounded_at, row_one, one_row}
-use Rattle.quilt_btree.proofs.Descents.{child_bounds, AtChild, LeadsDown, leads_down, place_in, cut_children, as_long}
+use Rattle.quilt_btree.proofs.Descents.{child_bounds, LeadsDown, leads_down, place_in, cut_children, as_long}
 use Rattle.quilt_btree.proofs.Descending.{height_above}
-use Rattle.quilt_btree.proofs.Middles.{RowChanged, middle_changed}
+use Rattle.quilt_btree.proofs.Middles.{middle_changed}
 use Rattle.quilt_btree.proofs.Shorts.{any_root}
 
 -- a subtree above the leaves, with the child to which the key leads

@@ -1,5 +1,5 @@
 -- Keys that ascend within bounds are parted at one of them.
-use Rattle.std.proofs.Common.{◌≡◌, Bool, true, ◌&&◌, List, [], ◌∷◌, ◌++◌, Option, Some, None, map, refl, sym, ap, subst}
+use Rattle.std.proofs.Common.{◌≡◌, true, ◌&&◌, List, [], ◌∷◌, ◌++◌, Some, refl}
 use Rattle.std.specs.List.{list_all}
 use Rattle.std.specs.Ordering.{is_lt, is_le}
 use Rattle.quilt_record.specs.declared.key.Key.{Key}
@@ -7,7 +7,7 @@ use Rattle.quilt_record.specs.Records.{key_cmp}
 use Rattle.quilt_node.specs.Pages.{is_ascending}
 use Rattle.quilt_node.specs.Tree.{Bounds, is_above, is_below, are_within}
 use Rattle.quilt_btree.proofs.Orders.{lt_to_le}
-use Rattle.quilt_btree.proofs.Rising.{IsRising, all_follow, all_append, all_parts}
+use Rattle.quilt_btree.proofs.Rising.{IsRising, all_follow, all_parts}
 use Rattle.quilt_btree.proofs.Trees.{ascending_first, ascending_rest, all_both}
 use Rattle.quilt_btree.proofs.Leaves.{same_le}
 use Rattle.quilt_btree.proofs.Walks.{and_parts, and_both}

@@ -1,23 +1,23 @@
 -- A subtree with one record or child too few among others that are whole.
-use Rattle.std.proofs.Common.{◌≡◌, ◌⊎◌, inl, inr, ℕ, zero, suc, ◌+◌, ◌<◌, ◌≤◌, Bool, true, false, ◌||◌, ◌&&◌, ◌==◌, nat_le, List, [], ◌∷◌, ◌++◌, length, map, Option, Some, None, slice_index, slice_index_or, refl, sym, ◌∙◌, ap, subst, arith}
+use Rattle.std.proofs.Common.{◌≡◌, ◌⊎◌, inl, inr, ℕ, zero, suc, ◌+◌, ◌<◌, ◌≤◌, Bool, true, false, ◌||◌, ◌&&◌, ◌==◌, nat_le, List, [], ◌∷◌, ◌++◌, length, Option, Some, slice_index, slice_index_or, refl, sym, ◌∙◌, ap, subst, arith}
 use Rattle.std.specs.Prelude.{slice_get}
 use Rattle.std.specs.List.{list_all}
-use Rattle.std.specs.Ordering.{is_lt, is_le}
+use Rattle.std.specs.Ordering.{is_lt}
 use Rattle.quilt_record.specs.declared.key.Key.{Key}
 use Rattle.quilt_record.specs.declared.record.Record.{Record}
 use Rattle.quilt_record.specs.Records.{key_cmp}
-use Rattle.quilt_node.specs.Pages.{Inner, leaf_of, inner_of, is_ascending}
+use Rattle.quilt_node.specs.Pages.{Inner, inner_of, is_ascending}
 use Rattle.quilt_node.specs.Tree.{Bounds, bounded, is_above, is_below, are_within}
-use Rattle.quilt_btree.specs.Subtree.{Reading, InTurn, Row, Subtree}
-use Rattle.quilt_btree.specs.Edits.{times, account, IsNearlyFull}
+use Rattle.quilt_btree.specs.Subtree.{Row, Subtree}
+use Rattle.quilt_btree.specs.Edits.{times, IsNearlyFull}
 use Rattle.quilt_btree.specs.Mending.{IsNear, CanMend, Partly, HasShort}
-use Rattle.quilt_btree.proofs.Counts.{times-append, times-three, times_here, equal_pages, self_test}
+use Rattle.quilt_btree.proofs.Counts.{times-append, times-three, times_here, equal_pages}
 use Rattle.quilt_btree.proofs.Moves.{AreApart, apart_some}
 use Rattle.quilt_btree.proofs.LeafRemovals.{not_root}
 use Rattle.quilt_btree.proofs.Places.{front, from_keys, high_from, at_place}
 use Rattle.quilt_btree.proofs.Descents.{keys_behind}
 use Rattle.quilt_btree.proofs.Trees.{inner_list, ascending_first}
-use Rattle.quilt_btree.proofs.Middles.{head_or, rear, gap_bounds, bounded_two, CutTwo, cut_two, two_rows}
+use Rattle.quilt_btree.proofs.Middles.{rear, gap_bounds, bounded_two, CutTwo, cut_two, two_rows}
 use Rattle.quilt_btree.proofs.Walks.{and_parts}
 
 pub weaker : (pages : List (List ℕ)) (height : ℕ) (r : Bool) (at : ℕ × Bounds) (rs : List Record) (used : List ℕ) → Subtree pages height r at rs used → Subtree pages height true at rs used

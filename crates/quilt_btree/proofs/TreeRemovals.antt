@@ -1,5 +1,5 @@
 -- A record taken out of the whole tree.
-use Rattle.std.proofs.Common.{◌≡◌, ◌≢◌, ℕ, zero, suc, ◌+◌, ◌-◌, ◌<◌, ◌≤◌, Bool, true, false, cond, List, [], ◌∷◌, ◌++◌, length, map, Option, Some, None, Result, Ok, Err, IfOk, IfErr, OnOk, slice_index_or, refl, sym, ◌∙◌, ap, subst, arith}
+use Rattle.std.proofs.Common.{◌≡◌, ◌≢◌, ℕ, suc, ◌-◌, ◌<◌, ◌≤◌, Bool, true, false, List, [], ◌∷◌, ◌++◌, length, Option, Some, Result, Ok, Err, IfOk, IfErr, OnOk, refl, sym, ◌∙◌, ap, subst, arith}
 use Rattle.std.specs.List.{list_any}
 use Rattle.quilt_types.specs.declared.stop.Stop.{Stop}
 use Rattle.quilt_record.specs.declared.key.Key.{Key}
@@ -12,18 +12,18 @@ use Rattle.quilt_btree.specs.declared.removed.Removed.TheVariants as removed
 use Rattle.quilt_btree.specs.Lists.{has_key, without}
 use Rattle.quilt_btree.specs.Stops.{IsSound}
 use Rattle.quilt_btree.specs.Subtree.{Subtree}
-use Rattle.quilt_btree.specs.Trees.{IsRooted, IsTree}
-use Rattle.quilt_btree.specs.Edits.{times, account, Moves, Becomes, CanEdit, DidLeave, DidRemove, IsWhole}
+use Rattle.quilt_btree.specs.Trees.{IsRooted}
+use Rattle.quilt_btree.specs.Edits.{times, account, Becomes, CanEdit, DidRemove, IsWhole}
 use Rattle.quilt_btree.specs.Mending.{HasGiven}
 use Rattle.quilt_btree.proofs.Counts.{times-append, times_here, in_times}
-use Rattle.quilt_btree.proofs.Moves.{AreApart, moves_then, moves_given, moves_order, apart_then, used_not_free}
-use Rattle.quilt_btree.proofs.Rows.{is_in, SameOn, subtree_stays}
+use Rattle.quilt_btree.proofs.Moves.{moves_then, moves_given, moves_order, apart_then, used_not_free}
+use Rattle.quilt_btree.proofs.Rows.{SameOn, subtree_stays}
 use Rattle.quilt_btree.proofs.Trees.{subtree_rises}
 use Rattle.quilt_btree.proofs.Whole.{no_records}
 use Rattle.quilt_btree.proofs.LeafRemovals.{tells_on}
 use Rattle.quilt_btree.proofs.Holdings.{subtree_some}
 use Rattle.quilt_btree.proofs.Shorts.{any_root, page_used}
-use Rattle.quilt_btree.proofs.TreeGrowth.{everywhere, FreeIn, IsWholeFrom, whole_from, whole_again}
+use Rattle.quilt_btree.proofs.TreeGrowth.{everywhere, FreeIn, whole_from, whole_again}
 use Rattle.quilt_btree.proofs.Withouts.{without_missing, without_one_fewer, without_none}
 
 -- the tree and the store of a removal

@@ -1,4 +1,3 @@
-use Rattle.std.proofs.Common.{◌∙◌}
 use Rattle.std.proofs.lemmas.Result.{err_from_is_err_and}
 use Rattle.quilt_btree.proofs.LeafRemovals.{leaf_reads}
 use Rattle.quilt_btree.proofs.Removals.{sound_child, missing_child, done_child, mended_child, mended_sound, emptied_child, only_child, leaf_sound}

@@ -1,4 +1,4 @@
-use Rattle.std.proofs.Common.{◌≡◌, suc, length, arith}
+use Rattle.std.proofs.Common.{arith}
 use Rattle.quilt_btree.proofs.Drops.{dropped_written, dropped_many}
 use Rattle.quilt_btree.proofs.removing.drop_child.Goals as goal
 

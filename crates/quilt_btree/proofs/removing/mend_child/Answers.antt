@@ -1,4 +1,4 @@
-use Rattle.std.proofs.Common.{◌+◌, ◌<◌, ◌∙◌, length, sym, ap, subst, arith}
+use Rattle.std.proofs.Common.{◌+◌, ◌<◌, ◌∙◌, sym, subst, arith}
 use Rattle.quilt_btree.proofs.LeafRemovals.{has_many}
 use Rattle.quilt_btree.proofs.Choices.{sound_mend, joined_sound, joined_left, parted_sound, parted_left}
 use Rattle.quilt_btree.proofs.removing.mend_child.Goals as goal

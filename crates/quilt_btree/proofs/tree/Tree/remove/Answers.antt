@@ -1,4 +1,4 @@
-use Rattle.std.proofs.Common.{◌≡◌, ◌≢◌, ℕ, ◌+◌, ◌-◌, ◌≤◌, ◌∙◌, refl, sym, arith}
+use Rattle.std.proofs.Common.{◌≡◌, ◌-◌, ◌≤◌, refl, arith}
 use Rattle.quilt_btree.proofs.TreeRemovals.{sound_root, whole_none, whole_missing, whole_done, whole_short, whole_emptied, whole_only, many_done, many_short, one_emptied, one_only, shrunk, shrunk_sound}
 use Rattle.quilt_btree.proofs.tree.Tree.remove.Goals as goal
 
