@@ -12,3 +12,6 @@ pub mod Whole
 pub mod Dividing
 pub mod Ranges
 pub mod Rests
+pub mod Held
+pub mod Floors
+pub mod Turns

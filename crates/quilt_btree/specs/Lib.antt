@@ -1,3 +1,4 @@
+pub mod Floors
 pub mod Lists
 pub mod Stops
 pub mod Subtree

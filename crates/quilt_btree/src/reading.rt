@@ -1,11 +1,12 @@
-ghost use Rattle.std.specs.Prelude.{◌≡◌, ℕ, ◌+◌, ◌-◌, ◌*◌, ◌<◌, ◌≤◌, true, IfOk, IfErr, List, Some, None, length, slice_get};
+ghost use Rattle.std.specs.Prelude.{◌≡◌, ℕ, ◌+◌, ◌-◌, ◌*◌, ◌<◌, ◌≤◌, true, IfOk, IfErr, OnOk, List, Some, None, length, slice_get};
 ghost use Rattle.std.specs.List.{last_or};
-ghost use Rattle.std.specs.Option.{option_or};
+ghost use Rattle.std.specs.Option.{option_or, is_some};
 ghost use Rattle.quilt_record.specs.declared.record.Record.{Record};
 ghost use Rattle.quilt_store.specs.Store.{Tells};
 ghost use Rattle.quilt_btree.specs.Lists.{value_of, floor_of};
 ghost use Rattle.quilt_btree.specs.Stops.{HasStopCause, IsSound};
 ghost use Rattle.quilt_btree.specs.Trees.{Spells, LeadsTo, IsCut};
+ghost use Rattle.quilt_btree.specs.Floors.{last_pages, finds_floor, floor_pages, TouchesInTurn, ReadsNone};
 
 use crate::pages::{read_inner, read_leaf};
 use quilt_node::{InnerPage, LeafPage};
@@ -100,6 +101,8 @@ pub fn last_under<S: PageStore>(store: &mut S, page: u32, height: u8) -> Result<
     ensures told { S.told store.new ≡ S.told store.old }
     ensures free { S.free store.new ≡ S.free store.old }
     ensures later { S.later store.old store.new }
+    ensures touched { OnOk result (TouchesInTurn (λ pages. last_pages pages height page) (S.told store.old) (S.held store.old) (S.held store.new)) }
+    ensures again { ReadsNone (λ pages. last_pages pages height page) (S.told store.old) (S.held store.old) (S.reads store.old) (S.reads store.new) }
     ensures reads { Tells (λ old new. new ≤ old + height) (S.reads store.old) (S.reads store.new) }
     ensures changed { S.changed store.new ≤ S.changed store.old }
 {
@@ -127,6 +130,9 @@ pub fn floor_under<S: PageStore>(
     ensures told { S.told store.new ≡ S.told store.old }
     ensures free { S.free store.new ≡ S.free store.old }
     ensures later { S.later store.old store.new }
+    ensures found { IfOk result (λ r. (pages : List (List ℕ)) → S.told store.old ≡ Some pages → finds_floor pages k.now height page ≡ is_some r) }
+    ensures touched { OnOk result (TouchesInTurn (λ pages. floor_pages pages k.now height page) (S.told store.old) (S.held store.old) (S.held store.new)) }
+    ensures again { ReadsNone (λ pages. floor_pages pages k.now height page) (S.told store.old) (S.held store.old) (S.reads store.old) (S.reads store.new) }
     ensures reads { Tells (λ old new. new + 1 ≤ old + 2 * height) (S.reads store.old) (S.reads store.new) }
     ensures straight { IfOk result (λ r. r ≡ None → Tells (λ old new. new ≤ old + height) (S.reads store.old) (S.reads store.new)) }
     ensures changed { S.changed store.new ≤ S.changed store.old }

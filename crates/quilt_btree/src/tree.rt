@@ -3,6 +3,7 @@ ghost use Rattle.quilt_record.specs.declared.key.Key.{Key};
 ghost use Rattle.quilt_record.specs.declared.record.Record.{Record};
 ghost use Rattle.quilt_store.specs.Store.{Tells};
 ghost use Rattle.quilt_btree.specs.Lists.{value_of, floor_of, range_of};
+ghost use Rattle.quilt_btree.specs.Floors.{floor_pages, TouchesInTurn, HoldsFirst, ReadsNone};
 ghost use Rattle.quilt_btree.specs.Stops.{HasStopCause, IsSound};
 
 use crate::ranging::{add_leaf, key_up_to};
@@ -56,6 +57,9 @@ impl Tree {
         ensures told { S.told store.new ≡ S.told store.old }
         ensures free { S.free store.new ≡ S.free store.old }
         ensures later { S.later store.old store.new }
+        ensures touched { OnOk result (TouchesInTurn (λ pages. floor_pages pages k.now self.now.height self.now.root) (S.told store.old) (S.held store.old) (S.held store.new)) }
+        ensures held { OnOk result (HoldsFirst (λ pages. floor_pages pages k.now self.now.height self.now.root) (S.told store.old) (S.held store.old) (S.held store.new)) }
+        ensures again { ReadsNone (λ pages. floor_pages pages k.now self.now.height self.now.root) (S.told store.old) (S.held store.old) (S.reads store.old) (S.reads store.new) }
         ensures reads { Tells (λ old new. new ≤ old + 6) (S.reads store.old) (S.reads store.new) }
         ensures changed { S.changed store.new ≤ S.changed store.old }
     {

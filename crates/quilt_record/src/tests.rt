@@ -79,12 +79,14 @@ fn catalog_byte_by_byte(rt: HostRuntime) -> Result<(), Fail> {
         kind: Kind::Region,
     };
     let record = catalog_record(&entry);
-    assert_eq!(rt; record.key.item, 1);
+    assert_eq!(rt; key_bytes(&record.key), *b"\0\0\0\0\0\0\0\0\0\0\0\x01");
     let value = [0x61, 0, 0, 0, 0, 0, 0, 0, 0, 0, 0, 0, 1, 0, 0, 0];
     assert_eq!(rt; record.value.as_slice(), value.as_slice());
     assert!(rt; read_catalog(&record).is_some());
     let mut catalog = Catalog::new();
     catalog.insert(entry);
     assert_eq!(rt; catalog.entries().len(), 1);
+    catalog.remove(0);
+    assert_eq!(rt; catalog.entries().len(), 0);
     Ok(())
 }
