@@ -31,7 +31,7 @@ use Rattle.quilt_btree.specs.Trees.{IsTree}
 use Rattle.quilt_btree.proofs.Lists.{filter_cond, floor_between}
 use Rattle.quilt_btree.proofs.Orders.{lt_le, not_le}
 use Rattle.std.specs.Cmp.{tied_itself}
-use Rattle.quilt_region.specs.Regions.{leaf_record, SpellsRegion, HasRegion}
+use Rattle.quilt_region.specs.Regions.{leaf_record, pixel_key, SpellsRegion, HasRegion}
 use Rattle.quilt_region.proofs.Keys.{Less≢Equal, by_key, by_key_total, le_layer, le_code, less_code, less_depth}
 use Rattle.quilt_region.proofs.Trees.{tree_rises}
 use Rattle.quilt_region.proofs.Records.{spelled_leaf}
@@ -155,9 +155,13 @@ leaf_at n g p le hx hy =
 
 -- what is found of a tree that has the layer
 pub floor_found : (told : Option (List (List ℕ))) (t : Tree) (layer n : ℕ) (g : Grid) (p : Pixel) (k : Key) (found : Option Record)
-    → n ≤ 12 → p.x < side n → p.y < side n → k.layer ≡ layer → k.part ≡ 1 → k.code ≡ code_at p → k.depth ≡ 255
+    → n ≤ 12 → p.x < side n → p.y < side n → k ≡ pixel_key layer p
     → ((rs : List Record) → IsTree told t rs → found ≡ floor_of k rs) → HasRegion told t layer n g → (e : Block × ℕ) × HasLeaf n g p e × (found ≡ Some (leaf_record n layer e))
-floor_found told t layer n g p k found le hx hy a b c d is h =
+floor_found told t layer n g p k found le hx hy key is h =
+    let a = ap (λ (z : Key). z.layer) key in
+    let b = ap (λ (z : Key). z.part) key in
+    let c = ap (λ (z : Key). z.code) key in
+    let d = ap (λ (z : Key). z.depth) key in
     let l = leaf_at n g p le hx hy in
     let from = (l.1).from in
     let to = (l.1).to in
@@ -185,12 +189,12 @@ pub record IsRead (n : ℕ) (g : Grid) (p : Pixel) (read : Option Leaf) : Type 0
   pub colour : leaf.colour.0 ≡ colour_at n g p
 
 pub leaf_read : (told : Option (List (List ℕ))) (t : Tree) (layer n : ℕ) (g : Grid) (p : Pixel) (k : Key) (found : Option Record) (r : Record) (read : Option Leaf)
-    → 1 ≤ layer → n ≤ 12 → p.x < side n → p.y < side n → k.layer ≡ layer → k.part ≡ 1 → k.code ≡ code_at p → k.depth ≡ 255
+    → 1 ≤ layer → n ≤ 12 → p.x < side n → p.y < side n → k ≡ pixel_key layer p
     → ((rs : List Record) → IsTree told t rs → found ≡ floor_of k rs) → found ≡ Some r
     → ((b : Block) (c : Colour) → 1 ≤ layer → IsBlock n b → r ≡ leaf_record n layer (b, c.0) → read ≡ Some (record { block = b; colour = c }))
     → HasRegion told t layer n g → IsRead n g p read
-leaf_read told t layer n g p k found r read least le hx hy a b c d is some one h =
-    let f = floor_found told t layer n g p k found le hx hy a b c d is h in
+leaf_read told t layer n g p k found r read least le hx hy key is some one h =
+    let f = floor_found told t layer n g p k found le hx hy key is h in
     let e = f.0 in
     let leaf = (f.1).leaf in
     let holds = held n g p e le hx hy f.1 in

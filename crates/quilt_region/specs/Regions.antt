@@ -1,9 +1,12 @@
 -- A grid as the records of a region layer.
-use Rattle.std.specs.Prelude.{◌≡◌, ℕ, List, [], map, Contains, Option}
+use Rattle.std.specs.Prelude.{◌≡◌, ℕ, ◌-◌, ◌^◌, List, [], map, Contains, Option}
+use Rattle.quilt_types.specs.declared.plane.Pixel.{Pixel}
 use Rattle.quilt_types.specs.declared.plane.Block.{Block}
 use Rattle.quilt_types.specs.Layers.{Grid, IsGrid}
 use Rattle.quilt_types.specs.Facts.{HasColour}
 use Rattle.quilt_types.specs.Quadtrees.{leaves}
+use Rattle.quilt_loc.specs.Codes.{code_at}
+use Rattle.quilt_record.specs.declared.key.Key.{Key}
 use Rattle.quilt_record.specs.declared.record.Record.{Record}
 use Rattle.quilt_record.specs.Records.{record_of}
 use Rattle.quilt_blocks.specs.Cutting.{leaves_by_code}
@@ -17,6 +20,10 @@ leaf_record n layer e = record_of n [] layer (HasColour e.0 e.1)
 -- the records of the grid's leaves, in the order of their codes, which is that of their keys
 unfoldable pub region_records : ℕ → ℕ → Grid → List Record
 region_records n layer g = map (leaf_record n layer) (leaves_by_code n g)
+
+-- the key to which a search for the leaf of a pixel goes: that of the pixel's code, behind each block that begins there
+abbrev pub pixel_key : ℕ → Pixel → Key
+pixel_key layer p = record { layer = layer; part = 1; code = code_at p; depth = 255; item = 2 ^ 32 - 1 }
 
 -- Those of the records that are of the layer with this number are exactly the records of the grid's leaves.
 pub record SpellsRegion (rs : List Record) (layer n : ℕ) (g : Grid) : Type 0 where

@@ -1,11 +1,12 @@
-ghost use Rattle.std.specs.Prelude.{◌≡◌, ◌+◌, ◌*◌, ◌<◌, ◌≤◌, IfOk, IfErr, length};
+ghost use Rattle.std.specs.Prelude.{◌≡◌, ◌+◌, ◌*◌, ◌<◌, ◌≤◌, IfOk, IfErr, OnOk, length};
 ghost use Rattle.quilt_types.specs.Plane.{side};
 ghost use Rattle.quilt_types.specs.Layers.{Grid, colour_at as colour_in};
 ghost use Rattle.quilt_store.specs.Store.{Tells};
 ghost use Rattle.quilt_blocks.specs.Cutting.{leaves_by_code};
+ghost use Rattle.quilt_btree.specs.Floors.{floor_pages, HoldsFirst, ReadsNone};
 ghost use Rattle.quilt_btree.specs.Stops.{HasStopCause, IsSound};
 ghost use Rattle.quilt_btree.specs.Trees.{IsRooted};
-ghost use Rattle.quilt_region.specs.Regions.{HasRegion};
+ghost use Rattle.quilt_region.specs.Regions.{HasRegion, pixel_key};
 
 use crate::spelling::{DAMAGED, leaf_of, list_of};
 use quilt_blocks::LeafList;
@@ -60,7 +61,8 @@ pub fn read_list<S: PageStore>(
 }
 
 /// The colour of a pixel of the region layer with this number, from 1 to 255, of a map of this level, from 1 to 12. It
-/// reads at most 6 pages.
+/// reads at most 6 pages, those of one search for a key, and none of them again where they are among the first eight
+/// that the store holds.
 pub fn colour_at<S: PageStore>(
     store: &mut S,
     tree: &Tree,
@@ -81,15 +83,11 @@ pub fn colour_at<S: PageStore>(
     ensures free { S.free store.new ≡ S.free store.old }
     ensures later { S.later store.old store.new }
     ensures reads { Tells (λ old new. new ≤ old + 6) (S.reads store.old) (S.reads store.new) }
+    ensures held { OnOk result (HoldsFirst (λ pages. floor_pages pages (pixel_key layer p) tree.now.height tree.now.root) (S.told store.old) (S.held store.old) (S.held store.new)) }
+    ensures again { ReadsNone (λ pages. floor_pages pages (pixel_key layer p) tree.now.height tree.now.root) (S.told store.old) (S.held store.old) (S.reads store.old) (S.reads store.new) }
     ensures changed { S.changed store.new ≤ S.changed store.old }
 {
-    let k = Key {
-        layer: u16::from(layer),
-        part: 1,
-        code: code_of(p),
-        depth: u8::MAX,
-        item: u32::MAX,
-    };
+    let k = key_with(layer, p);
     match tree.floor(store, &k) {
         Err(e) => Err(e),
         Ok(None) => Err(DAMAGED),
@@ -97,5 +95,20 @@ pub fn colour_at<S: PageStore>(
             Some(leaf) if covers(leaf.block, p) => Ok(leaf.colour),
             _ => Err(DAMAGED),
         },
+    }
+}
+
+/// The key at or before which the record of the leaf that holds the pixel is the last one. Coordinates are below 4096.
+fn key_with(layer: u8, p: Pixel) -> Key
+    requires in_x { p.x < 4096 }
+    requires in_y { p.y < 4096 }
+    ensures { result ≡ pixel_key layer p }
+{
+    Key {
+        layer: u16::from(layer),
+        part: 1,
+        code: code_of(p),
+        depth: u8::MAX,
+        item: u32::MAX,
     }
 }

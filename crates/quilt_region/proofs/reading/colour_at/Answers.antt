@@ -1,4 +1,4 @@
-use Rattle.std.proofs.Common.{◌≡◌, true, false, refl, sym, ◌∙◌, ap, arith}
+use Rattle.std.proofs.Common.{◌≡◌, true, false, sym, ◌∙◌, ap, arith}
 use Rattle.quilt_types.specs.Plane.{in_block}
 use Rattle.quilt_loc.proofs.Blocks.{IsBlock-up, side_most}
 use Rattle.quilt_blocks.specs.declared.leaf.Leaf.{Leaf}
@@ -8,11 +8,11 @@ use Rattle.quilt_region.proofs.reading.colour_at.Goals as goal
 false_true : false ≡ true → ⊥
 false_true e = cc
 
-pub code_of-requires-clause-in_x : goal.code_of-requires-clause-in_x
-code_of-requires-clause-in_x g c = let m = side_most c.args.level c.requires.level.1 in let x = c.requires.in_x in omega arith
+pub key_with-k-requires-clause-in_x : goal.key_with-k-requires-clause-in_x
+key_with-k-requires-clause-in_x g c = let m = side_most c.args.level c.requires.level.1 in let x = c.requires.in_x in omega arith
 
-pub code_of-requires-clause-in_y : goal.code_of-requires-clause-in_y
-code_of-requires-clause-in_y g c = let m = side_most c.args.level c.requires.level.1 in let y = c.requires.in_y in omega arith
+pub key_with-k-requires-clause-in_y : goal.key_with-k-requires-clause-in_y
+key_with-k-requires-clause-in_y g c = let m = side_most c.args.level c.requires.level.1 in let y = c.requires.in_y in omega arith
 
 pub covers-requires : goal.covers-requires
 covers-requires g c = IsBlock-up c.args.level 12 c.in-Some.leaf.block c.requires.level.1 c.in-Some.ensures.block
@@ -24,26 +24,26 @@ pub returns-in-Ok-None-clause-sound : goal.returns-in-Ok-None-clause-sound
 returns-in-Ok-None-clause-sound g c grid h page e =
     let f =
     floor_found (g.S.PageStore.told c.args.store.now) c.args.tree.now c.args.layer c.args.level grid c.args.p _ _
-    c.requires.level.1 c.requires.in_x c.requires.in_y c.from.ensures refl c.code_of.ensures.value refl c.in-Ok-None.ensures.floor h in
+    c.requires.level.1 c.requires.in_x c.requires.in_y c.key_with-k.ensures c.in-Ok-None.ensures.floor h in
     none_some _ (sym c.in-Ok-None.field-0-is ∙ f.2)
 
 pub returns-in-Some-clause-colour : goal.returns-in-Some-clause-colour
 returns-in-Some-clause-colour g c grid h =
     let f =
     leaf_read (g.S.PageStore.told c.args.store.now) c.args.tree.now c.args.layer c.args.level grid c.args.p _ _ c.in-Ok-Some.r c.leaf_of.result
-    c.requires.layer c.requires.level.1 c.requires.in_x c.requires.in_y c.from.ensures refl c.code_of.ensures.value refl c.in-Ok-Some.ensures.floor c.in-Ok-Some.field-0-is c.leaf_of.ensures.one h in
+    c.requires.layer c.requires.level.1 c.requires.in_x c.requires.in_y c.key_with-k.ensures c.in-Ok-Some.ensures.floor c.in-Ok-Some.field-0-is c.leaf_of.ensures.one h in
     ap (λ (l : Leaf). l.colour.0) (sym (read_same c.args.level grid c.args.p c.leaf_of.result c.in-Some.leaf c.in-Some.is f)) ∙ f.colour
 
 pub returns-in_default-clause-sound : goal.returns-in_default-clause-sound
 returns-in_default-clause-sound g c grid h page e =
     let f =
     leaf_read (g.S.PageStore.told c.args.store.now) c.args.tree.now c.args.layer c.args.level grid c.args.p _ _ c.in-Ok-Some.r c.leaf_of.result
-    c.requires.layer c.requires.level.1 c.requires.in_x c.requires.in_y c.from.ensures refl c.code_of.ensures.value refl c.in-Ok-Some.ensures.floor c.in-Ok-Some.field-0-is c.leaf_of.ensures.one h in
+    c.requires.layer c.requires.level.1 c.requires.in_x c.requires.in_y c.key_with-k.ensures c.in-Ok-Some.ensures.floor c.in-Ok-Some.field-0-is c.leaf_of.ensures.one h in
     false_true (c.if-covers.ensures ∙ ap (λ (l : Leaf). in_block l.block c.args.p) (sym (read_same c.args.level grid c.args.p c.leaf_of.result c.in-Some.leaf c.in-Some.is f)) ∙ f.holds)
 
 pub returns-in_default-2-clause-sound : goal.returns-in_default-2-clause-sound
 returns-in_default-2-clause-sound g c grid h page e =
     let f =
     leaf_read (g.S.PageStore.told c.args.store.now) c.args.tree.now c.args.layer c.args.level grid c.args.p _ _ c.in-Ok-Some.r c.leaf_of.result
-    c.requires.layer c.requires.level.1 c.requires.in_x c.requires.in_y c.from.ensures refl c.code_of.ensures.value refl c.in-Ok-Some.ensures.floor c.in-Ok-Some.field-0-is c.leaf_of.ensures.one h in
+    c.requires.layer c.requires.level.1 c.requires.in_x c.requires.in_y c.key_with-k.ensures c.in-Ok-Some.ensures.floor c.in-Ok-Some.field-0-is c.leaf_of.ensures.one h in
     none_some _ (sym c.in_default.is ∙ f.is)
