@@ -1,5 +1,5 @@
 -- A subtree that is to be edited, and the child to which a key leads.
-use Rattle.std.proofs.Common.{◌≡◌, ◌≢◌, ℕ, zero, suc, ◌+◌, ◌-◌, ◌<◌, ◌≤◌, Bool, true, false, ◌&&◌, ◌||◌, nat_le, List, [], ◌∷◌, ◌++◌, length, take, drop, Option, Some, None, slice_index, slice_index_or, refl, sym, ◌∙◌, ap, subst, arith, take-append-drop}
+use Rattle.std.proofs.Common.{◌≡◌, ◌≢◌, ℕ, suc, ◌+◌, ◌<◌, ◌≤◌, Bool, true, false, ◌||◌, nat_le, List, [], ◌∷◌, ◌++◌, length, take, drop, Option, Some, slice_index, slice_index_or, refl, sym, ◌∙◌, ap, subst, arith, take-append-drop}
 use Rattle.std.specs.List.{list_all}
 use Rattle.std.specs.Ordering.{is_lt, is_le}
 use Rattle.quilt_record.specs.declared.key.Key.{Key}
@@ -9,14 +9,14 @@ use Rattle.quilt_node.specs.Pages.{Inner, inner_of}
 use Rattle.quilt_node.specs.Nodes.{IsPlace}
 use Rattle.quilt_node.specs.Tree.{Bounds, bounded, are_within, is_above, is_below}
 use Rattle.quilt_btree.specs.Subtree.{Row, Subtree}
-use Rattle.quilt_btree.specs.Edits.{times, account, CanEdit}
+use Rattle.quilt_btree.specs.Edits.{times, CanEdit}
 use Rattle.quilt_btree.specs.Trees.{ReadsInner, Spells}
 use Rattle.quilt_btree.proofs.Counts.{times-append, times-three}
 use Rattle.quilt_btree.proofs.Moves.{AreApart, apart_some}
 use Rattle.quilt_btree.proofs.Walks.{and_parts}
 use Rattle.quilt_btree.proofs.Trees.{IsInnerList, inner_list}
 use Rattle.quilt_btree.proofs.Places.{front, from_keys, head_bounds, tail_places, bounded_at, one_row, high_from}
-use Rattle.quilt_btree.proofs.Lists.{AreBelow, AreAbove, IsAmong}
+use Rattle.quilt_btree.proofs.Lists.{IsAmong}
 use Rattle.quilt_btree.proofs.Descents.{child_bounds, AtChild, leads_down, cut_children, as_long, place_in}
 use Rattle.quilt_btree.proofs.Descending.{height_above}
 

@@ -1,5 +1,5 @@
 -- An inner page that was to be written is written, whole or in two.
-use Rattle.std.proofs.Common.{◌≡◌, ◌≢◌, ℕ, zero, suc, ◌+◌, ◌-◌, ◌<◌, ◌≤◌, Bool, true, false, ◌||◌, nat_le, List, [], ◌∷◌, ◌++◌, length, take, drop, Option, Some, None, slice_index_or, slice_set, refl, sym, ◌∙◌, ap, subst, arith, take-append-drop, length-take-le, length-drop, length-set}
+use Rattle.std.proofs.Common.{◌≡◌, ℕ, suc, ◌+◌, ◌-◌, ◌<◌, ◌≤◌, Bool, true, false, nat_le, List, [], ◌∷◌, ◌++◌, length, take, drop, Option, Some, slice_index_or, slice_set, refl, sym, ◌∙◌, ap, subst, arith, take-append-drop, length-take-le, length-drop}
 use Rattle.std.specs.Prelude.{slice_get, nat_lt, ◌&&◌}
 use Rattle.quilt_record.specs.declared.key.Key.{Key}
 use Rattle.quilt_record.specs.declared.record.Record.{Record}
@@ -10,17 +10,17 @@ use Rattle.quilt_node.specs.Tree.{Bounds, bounded, are_within}
 use Rattle.quilt_node.proofs.Ascending.{all_take, all_drop}
 use Rattle.quilt_store.specs.Store.{Tells, FreesOnly}
 use Rattle.quilt_btree.specs.Subtree.{Row, Subtree}
-use Rattle.quilt_btree.specs.Edits.{times, account, Moves, Becomes, Parted}
+use Rattle.quilt_btree.specs.Edits.{times, Becomes, Parted}
 use Rattle.quilt_btree.specs.Inserts.{IsPending, DidPut}
 use Rattle.quilt_btree.specs.declared.inserted.Inserted.TheVariants as inserted
 use Rattle.quilt_btree.proofs.Counts.{times-append}
-use Rattle.quilt_btree.proofs.Moves.{AreApart, moves_order, used_not_free}
-use Rattle.quilt_btree.proofs.Rows.{SameOn, row_parts}
+use Rattle.quilt_btree.proofs.Moves.{moves_order, used_not_free}
+use Rattle.quilt_btree.proofs.Rows.{row_parts}
 use Rattle.quilt_btree.proofs.Leaves.{cut_at}
 use Rattle.quilt_btree.proofs.Splices.{bounded_join, rows_stay, page_in, apart_above, parent_written}
 use Rattle.quilt_btree.proofs.Parting.{parted_at}
 use Rattle.quilt_btree.proofs.LeafGrowth.{at_least}
-use Rattle.quilt_btree.proofs.Writes.{tells_at, if_some_at, TellsAll, all_told, both_written, both_same}
+use Rattle.quilt_btree.proofs.Writes.{tells_at, TellsAll, all_told, both_written, both_same}
 
 -- the bytes are this inner page in every file that has its children
 abbrev pub IsWritten : List ℕ → Inner → Type 0

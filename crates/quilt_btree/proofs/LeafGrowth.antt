@@ -1,5 +1,5 @@
 -- A record put into a leaf, over a store's pages.
-use Rattle.std.proofs.Common.{◌≡◌, ◌≢◌, ℕ, zero, suc, ◌+◌, ◌-◌, ◌<◌, ◌≤◌, Bool, true, false, ◌&&◌, ◌||◌, nat_le, List, [], ◌∷◌, ◌++◌, length, map, take, drop, Option, Some, None, IfSome, slice_index_or, slice_set, refl, sym, ◌∙◌, ap, subst, arith, take-append-drop, length-append, length-take-le, length-drop, length-set, get_or-set_same}
+use Rattle.std.proofs.Common.{◌≡◌, ℕ, zero, suc, ◌+◌, ◌-◌, ◌<◌, ◌≤◌, Bool, true, false, ◌&&◌, ◌||◌, nat_le, List, [], ◌∷◌, ◌++◌, length, take, drop, Option, Some, slice_index_or, slice_set, refl, sym, ◌∙◌, ap, subst, arith, take-append-drop, length-append, length-take-le, length-drop, get_or-set_same}
 use Rattle.std.specs.Prelude.{slice_get}
 use Rattle.std.specs.List.{insert, list_all, list_any}
 use Rattle.std.specs.Ordering.{is_lt, is_le}
@@ -13,18 +13,17 @@ use Rattle.quilt_node.specs.Tree.{Bounds, is_above, is_below, are_within}
 use Rattle.quilt_node.proofs.Ascending.{ascending_insert, all_take, all_drop}
 use Rattle.quilt_store.specs.Store.{Tells, FreesOnly}
 use Rattle.quilt_btree.specs.Lists.{has_key, put}
-use Rattle.quilt_btree.specs.Subtree.{Subtree}
-use Rattle.quilt_btree.specs.Edits.{times, account, Moves, Becomes, Parted, CanEdit, CanInsert, DidInsert}
+use Rattle.quilt_btree.specs.Edits.{times, Moves, Becomes, Parted, CanInsert, DidInsert}
 use Rattle.quilt_btree.specs.declared.inserted.Inserted.TheVariants as inserted
 use Rattle.quilt_btree.proofs.Counts.{times_here}
-use Rattle.quilt_btree.proofs.Moves.{AreApart, moves_written, used_account}
-use Rattle.quilt_btree.proofs.Rising.{all_append, all_map, map_all}
+use Rattle.quilt_btree.proofs.Moves.{moves_written, used_account}
+use Rattle.quilt_btree.proofs.Rising.{all_append, map_all}
 use Rattle.quilt_btree.proofs.Trees.{leaf_list, keys_append}
 use Rattle.quilt_btree.specs.Trees.{ReadsLeaf, Spells}
 use Rattle.quilt_btree.proofs.Leaves.{put_gap, gap_any, found_any, same_le}
 use Rattle.quilt_btree.proofs.Parting.{parted_at}
 use Rattle.quilt_btree.proofs.Walks.{and_parts, and_both}
-use Rattle.quilt_btree.proofs.Writes.{tells_at, if_some_at, TellsAll, all_told, both_written}
+use Rattle.quilt_btree.proofs.Writes.{tells_at, TellsAll, all_told, both_written}
 
 keys_insert : (rs : List Record) (i : ℕ) (r : Record) → keys_of (insert rs i r) ≡ insert (keys_of rs) i r.key
 keys_insert rs zero r = refl

@@ -1,10 +1,9 @@
 -- What an edit does to the used pages and to the free ones.
-use Rattle.std.proofs.Common.{◌≡◌, ◌≢◌, ℕ, ◌+◌, ◌-◌, ◌<◌, ◌≤◌, Bool, true, false, ◌==◌, cond, List, [], ◌∷◌, ◌++◌, length, Option, Some, None, slice_index_or, slice_set, refl, sym, ◌∙◌, ap, subst, arith, length-set, get_or-set_other, get_or-set_same}
-use Rattle.std.specs.Prelude.{filter}
-use Rattle.quilt_store.specs.Store.{Tells, FreesOnly}
+use Rattle.std.proofs.Common.{◌≡◌, ◌≢◌, ℕ, ◌+◌, ◌≤◌, Bool, true, false, ◌==◌, cond, List, [], ◌∷◌, ◌++◌, length, slice_index_or, slice_set, refl, sym, ◌∙◌, ap, subst, arith, length-set, get_or-set_other}
+use Rattle.quilt_store.specs.Store.{FreesOnly}
 use Rattle.quilt_btree.specs.Edits.{times, account, Moves}
-use Rattle.quilt_btree.proofs.Counts.{times-append, times_here, times_other, equal_pages, other_pages, in_times}
-use Rattle.quilt_btree.proofs.Rows.{is_in, SameOn}
+use Rattle.quilt_btree.proofs.Counts.{times-append, times_here, equal_pages, other_pages, in_times}
+use Rattle.quilt_btree.proofs.Rows.{SameOn}
 
 -- no page is used twice, and none that is used is free
 abbrev pub AreApart : (ℕ → Bool) → List ℕ → Type 0

@@ -1,10 +1,10 @@
 -- Children of a page are replaced by others, with the page as it was or written anew.
-use Rattle.std.proofs.Common.{◌≡◌, ◌≢◌, ℕ, zero, suc, ◌+◌, ◌<◌, ◌≤◌, Bool, true, false, ◌||◌, nat_le, List, [], ◌∷◌, ◌++◌, length, Option, Some, None, slice_index_or, slice_set, refl, sym, ◌∙◌, ap, subst, arith, get_or-set_other, get_or-set_same, length-set}
+use Rattle.std.proofs.Common.{◌≡◌, ℕ, suc, ◌+◌, ◌<◌, ◌≤◌, Bool, true, false, ◌||◌, nat_le, List, [], ◌∷◌, ◌++◌, length, Some, slice_index_or, slice_set, refl, ◌∙◌, ap, subst, arith, get_or-set_other, get_or-set_same, length-set}
 use Rattle.quilt_record.specs.declared.key.Key.{Key}
 use Rattle.quilt_record.specs.declared.record.Record.{Record}
 use Rattle.quilt_node.specs.Pages.{Inner, inner_of}
 use Rattle.quilt_node.specs.Tree.{Bounds, bounded, are_within}
-use Rattle.quilt_btree.specs.Subtree.{Reading, Row, Subtree}
+use Rattle.quilt_btree.specs.Subtree.{Row, Subtree}
 use Rattle.quilt_btree.specs.Edits.{times, account, Moves, Becomes}
 use Rattle.quilt_btree.proofs.Counts.{times-append, times-three, times_here, in_times}
 use Rattle.quilt_btree.proofs.Moves.{AreApart, moves_among, moves_then, moves_written, used_account, stays_on}

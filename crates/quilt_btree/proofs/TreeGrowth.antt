@@ -1,5 +1,5 @@
 -- A record put into the whole tree.
-use Rattle.std.proofs.Common.{◌≡◌, ◌≢◌, ℕ, zero, suc, ◌+◌, ◌-◌, ◌*◌, ◌<◌, ◌≤◌, Bool, true, false, ◌&&◌, ◌||◌, not, nat_le, cond, List, [], ◌∷◌, ◌++◌, length, map, Option, Some, None, slice_index_or, slice_set, refl, sym, ◌∙◌, ap, subst, arith, length-set, length-append, get_or-set_same}
+use Rattle.std.proofs.Common.{◌≡◌, ◌≢◌, ℕ, zero, suc, ◌+◌, ◌<◌, ◌≤◌, Bool, true, false, ◌&&◌, not, nat_le, cond, List, [], ◌∷◌, ◌++◌, length, Option, Some, None, slice_set, refl, sym, ◌∙◌, ap, subst, arith, length-append, get_or-set_same}
 use Rattle.std.specs.Prelude.{nat_lt, if◌then◌else◌}
 use Rattle.std.specs.List.{list_any}
 use Rattle.std.specs.Ordering.{is_lt}
@@ -10,7 +10,7 @@ use Rattle.quilt_types.specs.declared.stop.Stop.{Stop}
 use Rattle.quilt_record.specs.declared.key.Key.{Key}
 use Rattle.quilt_record.specs.declared.record.Record.{Record}
 use Rattle.quilt_record.specs.Records.{key_cmp}
-use Rattle.quilt_node.specs.Pages.{Inner, leaf_of, inner_of}
+use Rattle.quilt_node.specs.Pages.{Inner, leaf_of}
 use Rattle.quilt_node.specs.Nodes.{are_pages}
 use Rattle.quilt_node.specs.Tree.{Bounds, Whole, walk_of, bounded}
 use Rattle.quilt_store.specs.Store.{Tells, FreesOnly, count_free}
@@ -18,14 +18,14 @@ use Rattle.quilt_btree.specs.declared.tree.Tree.{Tree}
 use Rattle.quilt_btree.specs.Lists.{has_key, put}
 use Rattle.quilt_btree.specs.Stops.{IsSound}
 use Rattle.quilt_btree.specs.Subtree.{Row, Subtree, IsFresh}
-use Rattle.quilt_btree.specs.Trees.{IsRooted, IsTree}
-use Rattle.quilt_btree.specs.Edits.{times, account, Moves, Becomes, Parted, CanEdit, CanInsert, DidInsert, IsWhole}
+use Rattle.quilt_btree.specs.Trees.{IsRooted}
+use Rattle.quilt_btree.specs.Edits.{times, account, Moves, CanInsert, DidInsert, IsWhole}
 use Rattle.quilt_btree.specs.declared.inserted.Inserted.{Inserted}
 use Rattle.quilt_btree.specs.declared.inserted.Inserted.TheVariants as inserted
 use Rattle.quilt_btree.proofs.Counts.{times-append, once_from_fresh, fresh_from_once, times_here}
 use Rattle.quilt_btree.proofs.Density.{third_filled, root_is_dense, pages_left}
 use Rattle.quilt_btree.proofs.InnerGrowth.{IsWritten}
-use Rattle.quilt_btree.proofs.Moves.{AreApart, moves_none, moves_then, moves_taken, moves_written, moves_order, apart_then, used_account}
+use Rattle.quilt_btree.proofs.Moves.{AreApart, moves_then, moves_taken, moves_written, moves_order, apart_then, used_account}
 use Rattle.quilt_btree.proofs.Places.{row_one}
 use Rattle.quilt_btree.proofs.Room.{count_left}
 use Rattle.quilt_btree.proofs.Splices.{parent_written}

@@ -1,13 +1,11 @@
 -- A record put in below an inner page.
-use Rattle.std.proofs.Common.{◌≡◌, ◌≢◌, ℕ, zero, suc, ◌+◌, ◌-◌, ◌<◌, ◌≤◌, Bool, true, false, ◌&&◌, ◌||◌, nat_le, List, [], ◌∷◌, ◌++◌, length, take, drop, Option, Some, None, Result, Ok, Err, IfOk, IfErr, slice_index, slice_index_or, refl, sym, ◌∙◌, ap, subst, arith}
+use Rattle.std.proofs.Common.{◌≡◌, ◌≢◌, ℕ, suc, ◌+◌, ◌-◌, ◌<◌, ◌≤◌, Bool, true, false, ◌&&◌, ◌||◌, nat_le, List, [], ◌∷◌, ◌++◌, length, take, drop, Option, Some, Result, Ok, Err, IfOk, IfErr, slice_index, refl, sym, ◌∙◌, subst, arith}
 use Rattle.std.specs.Prelude.{nat_lt}
-use Rattle.std.specs.List.{insert, list_all, list_any}
-use Rattle.std.specs.Ordering.{is_lt}
+use Rattle.std.specs.List.{insert, list_any}
 use Rattle.std.proofs.lemmas.Bool.Decides.{nat_tests}
 use Rattle.std.proofs.lemmas.List.Edits.{length-insert}
 use Rattle.quilt_record.specs.declared.key.Key.{Key}
 use Rattle.quilt_record.specs.declared.record.Record.{Record}
-use Rattle.quilt_record.specs.Records.{key_cmp}
 use Rattle.quilt_types.specs.declared.stop.Stop.{Stop}
 use Rattle.quilt_node.specs.Pages.{Inner}
 use Rattle.quilt_node.specs.Nodes.{IsPlace, are_pages}
@@ -19,19 +17,18 @@ use Rattle.quilt_btree.specs.Lists.{has_key, put}
 use Rattle.quilt_btree.specs.Stops.{IsSound}
 use Rattle.quilt_btree.specs.Subtree.{Row, Subtree}
 use Rattle.quilt_btree.specs.Trees.{ReadsInner}
-use Rattle.quilt_btree.specs.Edits.{times, account, Moves, Becomes, Parted, HasInserted, CanEdit, CanInsert, DidInsert}
-use Rattle.quilt_btree.specs.Inserts.{HasRight, HasPut, IsPending, DidPut}
+use Rattle.quilt_btree.specs.Edits.{Moves, Becomes, HasInserted, CanInsert, DidInsert}
+use Rattle.quilt_btree.specs.Inserts.{HasPut, IsPending, DidPut}
 use Rattle.quilt_btree.specs.declared.inserted.Inserted.{Inserted}
 use Rattle.quilt_btree.specs.declared.inserted.Inserted.TheVariants as inserted
 use Rattle.quilt_btree.proofs.Along.{IsSame, can_along, did_along}
 use Rattle.quilt_btree.proofs.Below.{IsBelow, go_below, cut_at_child, child_above, child_below}
-use Rattle.quilt_btree.proofs.Counts.{times-append}
 use Rattle.quilt_btree.proofs.Descents.{child_bounds}
 use Rattle.quilt_btree.proofs.Lists.{put_between, any_between}
-use Rattle.quilt_btree.proofs.Moves.{AreApart, apart_then, moves_then}
-use Rattle.quilt_btree.proofs.NewChild.{two_places, bounded_next, bounds_part, IsFitting, is_fitting}
+use Rattle.quilt_btree.proofs.Moves.{apart_then, moves_then}
+use Rattle.quilt_btree.proofs.NewChild.{two_places, bounded_next, bounds_part, is_fitting}
 use Rattle.quilt_btree.proofs.Places.{front, from_keys, tail_places, row_one}
-use Rattle.quilt_btree.proofs.Rising.{all_append, all_parts}
+use Rattle.quilt_btree.proofs.Rising.{all_append}
 use Rattle.quilt_btree.proofs.Splices.{RowMoved, middle_moved, parent_stays, becomes_then}
 use Rattle.quilt_btree.proofs.Walks.{and_both}
 use Rattle.quilt_btree.proofs.Writes.{TellsAll, if_some_at}

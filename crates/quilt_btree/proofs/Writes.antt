@@ -1,7 +1,7 @@
 -- What writing one page, or two of which one was free, does to the others.
-use Rattle.std.proofs.Common.{◌≡◌, ◌≢◌, ℕ, ◌+◌, ◌<◌, ◌≤◌, Bool, true, false, List, [], ◌∷◌, ◌++◌, length, Option, Some, None, IfSome, slice_index_or, slice_set, refl, sym, ◌∙◌, ap, subst, arith, length-set, get_or-set_other, get_or-set_same}
+use Rattle.std.proofs.Common.{◌≡◌, ◌≢◌, ℕ, ◌+◌, ◌<◌, ◌≤◌, Bool, true, false, List, [], ◌∷◌, length, Option, Some, None, IfSome, slice_index_or, slice_set, refl, sym, ◌∙◌, subst, arith, length-set, get_or-set_other, get_or-set_same}
 use Rattle.quilt_store.specs.Store.{Tells, FreesOnly}
-use Rattle.quilt_btree.specs.Edits.{times, account, Moves}
+use Rattle.quilt_btree.specs.Edits.{times, Moves}
 use Rattle.quilt_btree.proofs.Rows.{SameOn}
 use Rattle.quilt_btree.proofs.Counts.{times_here, times_other, in_times}
 use Rattle.quilt_btree.proofs.Moves.{AreApart, moves_then, moves_taken, moves_written, used_account, free_not_used}

@@ -1,4 +1,4 @@
-use Rattle.std.proofs.Common.{◌≡◌, ◌≤◌, ◌<◌, ◌+◌, ◌-◌, subst, ◌∙◌}
+use Rattle.std.proofs.Common.{◌≤◌, ◌<◌, ◌+◌, ◌-◌, subst, ◌∙◌}
 use Rattle.quilt_store.specs.Store.{count_free}
 use Rattle.quilt_btree.proofs.UnderGrowth.{sound_leaf, sound_under, under_there, under_done, took_child, sound_child}
 use Rattle.quilt_btree.proofs.Below.{edit_spells}

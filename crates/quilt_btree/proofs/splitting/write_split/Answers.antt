@@ -1,4 +1,4 @@
-use Rattle.std.proofs.Common.{◌≡◌, ◌+◌, true, arith, ap, sym, ◌∙◌, ℕ, Bool}
+use Rattle.std.proofs.Common.{◌≡◌, arith, ap, ◌∙◌, ℕ, Bool}
 use Rattle.quilt_store.specs.Store.{count_free}
 use Rattle.quilt_btree.proofs.Room.{count_taken}
 use Rattle.quilt_btree.proofs.splitting.write_split.Goals as goal
