@@ -1,4 +1,4 @@
-ghost use Rattle.std.specs.Prelude.{◌≡◌, ℕ, ◌+◌, ◌-◌, ◌<◌, ◌≤◌, ◌++◌, ◌∷◌, Bool, true, IfOk, IfErr, List, length, slice_set};
+ghost use Rattle.std.specs.Prelude.{◌≡◌, ◌⊎◌, ℕ, ◌+◌, ◌-◌, ◌<◌, ◌≤◌, ◌++◌, ◌∷◌, Bool, true, IfOk, IfErr, List, length, slice_index, slice_set};
 ghost use Rattle.std.specs.Ordering.{is_lt};
 ghost use Rattle.quilt_record.specs.Records.{key_cmp};
 ghost use Rattle.quilt_record.specs.declared.record.Record.{Record};
@@ -59,6 +59,48 @@ pub fn key_fits(inner: &InnerPage, i: usize, key: &Key) -> bool
     }
 }
 
+/// The one of two leaves that has a key out of its bounds, where `key` parts the two and they do not ascend one behind
+/// the other.
+fn stray_leaf(left: u32, first: &LeafPage, key: &Key, right: u32) -> u32
+    ensures { (result ≡ left) ⊎ (result ≡ right) }
+{
+    let last = first.rec(first.len() - 1);
+    if precedes(&last.key, key) {
+        right
+    } else {
+        left
+    }
+}
+
+/// The one of two inner pages that has a key out of its bounds, where `key` parts the two and does not lie between their
+/// keys: 0 where the second begins with `key` itself.
+fn stray_inner(left: u32, first: &InnerPage, key: &Key, right: u32, rest: &InnerPage) -> u32
+    ensures { (result ≡ left) ⊎ (result ≡ right) ⊎ (result ≡ 0) }
+{
+    let _ = rest.len();
+    let last = first.key(first.len() - 2);
+    if !precedes(&last, key) {
+        left
+    } else if precedes(&rest.key(0), key) {
+        right
+    } else {
+        0
+    }
+}
+
+/// The child at that side of key `i` on which another key lies.
+pub fn child_towards(inner: &InnerPage, i: usize, key: &Key) -> u32
+    requires { i < length inner.now.keys }
+    ensures { (result ≡ slice_index inner.now.children i) ⊎ (result ≡ slice_index inner.now.children (i + 1)) }
+{
+    let _ = inner.len();
+    if precedes(key, &inner.key(i)) {
+        inner.child(i)
+    } else {
+        inner.child(i + 1)
+    }
+}
+
 /// Moves a record to the one of two leaves that has under 72. They have more than 144 together.
 fn share_records(left: &mut LeafPage, right: &mut LeafPage)
     requires many { 144 < length left.old + length right.old }
@@ -112,7 +154,9 @@ fn mend_leaves<S: PageStore>(
     let mut first = read_leaf(store, left)?;
     let mut rest = read_leaf(store, right)?;
     if !leaves_ascend(&first, &rest) {
-        return Err(Stop::Damaged { page: right });
+        return Err(Stop::Damaged {
+            page: stray_leaf(left, &first, key, right),
+        });
     }
     if first.len() + rest.len() <= 144 {
         first.join(&rest);
@@ -151,7 +195,9 @@ fn mend_inners<S: PageStore>(
     let mut first = read_inner(store, left, height)?;
     let mut rest = read_inner(store, right, height)?;
     if !inners_ascend(&first, key, &rest) {
-        return Err(Stop::Damaged { page: right });
+        return Err(Stop::Damaged {
+            page: stray_inner(left, &first, key, right, &rest),
+        });
     }
     if first.len() + rest.len() <= 254 {
         first.join(key, &rest);

@@ -12,7 +12,7 @@ ghost use Rattle.quilt_btree.specs.Mending.{HasShort, HasDropped, Writes};
 ghost use Rattle.quilt_btree.specs.Stops.{HasStopCause, IsSound};
 
 use crate::mended::Mended;
-use crate::mending::{key_fits, mend_pages};
+use crate::mending::{child_towards, key_fits, mend_pages};
 use crate::pages::{read_inner, read_leaf};
 use crate::removed::Removed;
 use crate::writing::write_page;
@@ -119,7 +119,9 @@ fn renew_key<S: PageStore>(
     ensures changed { S.changed store.new ≤ S.changed store.old + 1 }
 {
     if !key_fits(inner, j, key) {
-        return Err(Stop::Damaged { page });
+        return Err(Stop::Damaged {
+            page: child_towards(inner, j, key),
+        });
     }
     inner.set_key(j, key);
     write_page(store, page, inner.bytes())
