@@ -48,6 +48,7 @@ impl Tree {
     }
 
     /// The record with the greatest key that is at most `k`: none exactly where there is none. It reads at most 6 pages.
+    /// They are then among the first eight that the store holds, and while all are, none is read from the device.
     pub fn floor<S: PageStore>(&self, store: &mut S, k: &Key) -> Result<Option<Record>, Stop>
         requires { IsRooted (S.size store.old) self.now }
         ensures floor { IfOk result (λ r. (rs : List Record) → IsTree (S.told store.old) self.now rs → r ≡ floor_of k.now rs) }
