@@ -166,6 +166,7 @@ impl Trial {
         } = self;
         assert!(rt; tree.records as usize == expected.len());
         let used = count_pages(&mut store, &tree).ok_or("an inner page")?;
+        assert!(rt; store.pages() == pages);
         let free = store.free_pages() as usize;
         assert!(rt; used.wrapping_add(free).wrapping_add(1) == pages as usize);
         Ok(Trial {
