@@ -1,4 +1,4 @@
-ghost use Rattle.std.specs.Prelude.{◌≡◌, ◌+◌, ◌<◌, ◌≤◌, ℕ, true, false, length, replicate, Some, None, IfOk, filter, position, refl};
+ghost use Rattle.std.specs.Prelude.{◌≡◌, ◌+◌, ◌<◌, ◌≤◌, ℕ, true, false, length, replicate, Some, None, IfOk, IsOk, slice_index_or, slice_set, [], filter, position, refl};
 ghost use Rattle.quilt_store.specs.Memory.{is_free};
 
 use crate::{PageStore, StoreErr};
@@ -78,12 +78,23 @@ impl PageStore for MemStore {
         self.free[page as usize]
     }
 
-    fn read(&mut self, page: u32, into: &mut [u8; 4096]) -> Result<(), StoreErr> {
+    fn read(&mut self, page: u32, into: &mut [u8; 4096]) -> Result<(), StoreErr>
+        requires { (1 ≤ page) × (page < length self.old.pages.items) }
+        ensures ok { IsOk result }
+        ensures bytes { into.new ≡ slice_index_or self.old.pages.items page [] }
+        ensures same { self.new ≡ self.old }
+    {
         *into = self.pages[page as usize];
         Ok(())
     }
 
-    fn write(&mut self, page: u32, bytes: &[u8; 4096]) -> Result<(), StoreErr> {
+    fn write(&mut self, page: u32, bytes: &[u8; 4096]) -> Result<(), StoreErr>
+        requires page { (1 ≤ page) × (page < length self.old.pages.items) }
+        requires taken { is_free self.old.free.items page ≡ false }
+        ensures ok { IsOk result }
+        ensures pages { self.new.pages.items ≡ slice_set self.old.pages.items page bytes.now }
+        ensures free { self.new.free.items ≡ self.old.free.items }
+    {
         self.pages[page as usize] = *bytes;
         Ok(())
     }
