@@ -1,4 +1,5 @@
 mod pages;
+mod raw;
 
 use crate::{Head, InnerPage, LeafPage, header_bytes, header_of, inner_of, leaf_of};
 use quilt_record::{Key, Record};
