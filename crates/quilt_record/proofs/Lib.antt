@@ -4,3 +4,4 @@ pub mod Entries
 pub mod KeyOrder
 pub mod Names
 pub mod Readers
+pub mod Orders

@@ -153,3 +153,7 @@ module _ (form : ℕ) (r : Record) (e : Entry) (f : IsEntryOf form r e) where
   entry_again made number name kind same_number same_name same_kind g =
       g ∙ ap (λ m. record_of 0 0 name m (kind_fact kind)) same_number ∙ ap (λ l. record_of 0 0 l e.number (kind_fact kind)) same_name
       ∙ ap (λ k. record_of 0 0 e.name e.number (kind_fact k)) same_kind ∙ sym (f.written 0 0)
+
+-- a name is known by its bytes with the zeros
+pub name_alone : (a b : List ℕ) → is_name a ≡ true → is_name b ≡ true → filled 12 a ≡ filled 12 b → a ≡ b
+name_alone a b ha hb e = sym (name_first a (filled 12 a) ha refl) ∙ name_first b (filled 12 a) hb e
