@@ -32,7 +32,7 @@ use Rattle.quilt_btree.proofs.Holdings.{subtree_some}
 use Rattle.quilt_btree.proofs.Leaves.{same_le, found_any, gap_any, without_found}
 use Rattle.quilt_btree.proofs.Lists.{IsAmong, without_between, any_between, filter_cond}
 use Rattle.quilt_btree.proofs.Moves.{moves_written, used_account, AreApart}
-use Rattle.quilt_btree.proofs.Orders.{lt_le, lt_to_le, le_le}
+use Rattle.quilt_record.proofs.Orders.{lt_le, lt_to_le, le_le}
 use Rattle.quilt_btree.proofs.Places.{front, from_keys, head_bounds, tail_places, row_one, Rises, high_from}
 use Rattle.quilt_btree.proofs.Rising.{all_follow}
 use Rattle.quilt_btree.proofs.Splices.{RowMoved, middle_moved, parent_stays}

@@ -16,7 +16,7 @@ use Rattle.quilt_btree.specs.declared.reading.Found.{Found}
 use Rattle.quilt_btree.specs.Lists.{is_from_to}
 use Rattle.quilt_btree.proofs.Below.{head_below}
 use Rattle.quilt_btree.proofs.Descending.{head_high}
-use Rattle.quilt_btree.proofs.Orders.{le_le, lt_to_le}
+use Rattle.quilt_record.proofs.Orders.{le_le, lt_to_le}
 use Rattle.quilt_btree.proofs.Rising.{all_follow, all_append}
 use Rattle.quilt_btree.proofs.Walks.{and_parts, and_both}
 

@@ -17,7 +17,7 @@ use Rattle.quilt_btree.specs.Runs.{without_all, has_each}
 use Rattle.quilt_btree.specs.Stops.{IsSound}
 use Rattle.quilt_btree.specs.Trees.{IsRooted}
 use Rattle.quilt_btree.proofs.Lists.{filter_cond}
-use Rattle.quilt_btree.proofs.Orders.{key_total, lt_le, gt_not_eq}
+use Rattle.quilt_record.proofs.Orders.{key_total, lt_le, gt_not_eq}
 use Rattle.quilt_btree.proofs.Rising.{all_parts}
 use Rattle.quilt_btree.proofs.RisingApart.{ascending_back}
 use Rattle.quilt_btree.proofs.Trees.{ascending_first, ascending_rest, all_both}
