@@ -11,8 +11,8 @@ use crate::block::{block_key, is_same, named};
 use crate::interleaving::code_of;
 use quilt_types::{Block, Pixel, Point};
 
-/// What the key of a held point says of it: nothing where a block holds one point at most, and else one more than the
-/// code of its pixel.
+/// The item in the key of a held point: 0 where a block holds one point at most, and else one more than the code of its
+/// pixel.
 fn item_of(bucket: u8, p: Pixel, level: u8) -> u32
     requires level { level ≤ 12 }
     requires pixel { is_pixel level p ≡ true }
@@ -30,7 +30,6 @@ pub fn point_record(layer: u8, b: Block, level: u8, bucket: u8, held: Option<Poi
     requires layer { 1 ≤ layer }
     requires level { (1 ≤ level) × (level ≤ 12) }
     requires block { IsBlock level b }
-    requires bucket { (1 ≤ bucket) × (bucket ≤ 16) }
     requires held { IfSome held (λ p. is_pixel level p.at ≡ true) }
     ensures { IsRecordOf level bucket result layer (point_fact b held) }
 {
@@ -71,7 +70,7 @@ fn held_in(value: &[u8; 16]) -> Option<Point>
 }
 
 /// Whether the point, if there is one, is a pixel of the level's square.
-fn is_held(held: Option<Point>, level: u8) -> bool
+fn is_inside(held: Option<Point>, level: u8) -> bool
     requires { level ≤ 12 }
     ensures yes { result ≡ true → IfSome held (λ p. is_pixel level p.at ≡ true) }
     ensures no { IfSome held (λ p. is_pixel level p.at ≡ true) → result ≡ true }
@@ -86,8 +85,7 @@ fn is_held(held: Option<Point>, level: u8) -> bool
 /// The block and its point whose record it is; none where it is none of a point layer at the level whose blocks hold at
 /// most `bucket` points.
 pub fn read_point(r: &Record, level: u8, bucket: u8) -> Option<(Block, Option<Point>)>
-    requires level { (1 ≤ level) × (level ≤ 12) }
-    requires bucket { (1 ≤ bucket) × (bucket ≤ 16) }
+    requires { (1 ≤ level) × (level ≤ 12) }
     ensures some { IfSome result (λ v. IsRecordOf level bucket r.now r.now.key.layer (point_fact v.0 v.1)) }
     ensures one { (layer : ℕ) (b : AnyBlock) (held : Option AnyPoint) → IsRecordOf level bucket r.now layer (point_fact b held) → result ≡ Some (b, held) }
 {
@@ -95,7 +93,7 @@ pub fn read_point(r: &Record, level: u8, bucket: u8) -> Option<(Block, Option<Po
         return None;
     };
     let held = held_in(&r.value);
-    if !is_held(held, level) {
+    if !is_inside(held, level) {
         return None;
     }
     if !is_same(&point_record(layer, b, level, bucket, held), r) {
