@@ -33,6 +33,13 @@ fn pages_of_length(bytes: u64) -> u32
     u32::try_from(bytes / PAGE_BYTES).unwrap_or(0)
 }
 
+/// The length of so many pages in bytes, which is also where the page of this number begins.
+fn length_of_pages(pages: u32) -> u64
+    ensures { result ≡ pages * 4096 }
+{
+    u64::from(pages) * PAGE_BYTES
+}
+
 /// Hands the file on unless its descriptor is a standard stream's. The system gives the least descriptor that is free,
 /// so such a one shows that the program was started with that stream closed.
 fn beyond_streams(file: File) -> io::Result<File>
@@ -79,7 +86,7 @@ fn lengthened(file: File, folder: &File, pages: u32) -> io::Result<MapFile>
     ensures { IfOk result (λ m. m.pages ≡ pages) }
 {
     let file = beyond_streams(file)?;
-    file.set_len(u64::from(pages) * PAGE_BYTES)?;
+    file.set_len(length_of_pages(pages))?;
     file.sync_all()?;
     folder.sync_all()?;
     Ok(MapFile {
@@ -124,7 +131,7 @@ impl MapFile {
     }
 
     pub(crate) fn read_page(&self, i: u32, into: &mut [u8; 4096]) -> io::Result<()> {
-        self.file.read_exact_at(into, u64::from(i) * PAGE_BYTES)
+        self.file.read_exact_at(into, length_of_pages(i))
     }
 
     /// The file, where it may be written.
@@ -142,8 +149,7 @@ impl MapFile {
     pub(crate) fn write_page(&self, i: u32, bytes: &[u8; 4096]) -> io::Result<()>
         ensures { IsOk result → IsTrue self.now.may_write }
     {
-        self.writable()?
-            .write_all_at(bytes, u64::from(i) * PAGE_BYTES)
+        self.writable()?.write_all_at(bytes, length_of_pages(i))
     }
 
     /// Makes sure that all writes are on the disk. It fails where the file may not be written.
