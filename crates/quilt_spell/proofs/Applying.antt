@@ -9,7 +9,8 @@ use Rattle.quilt_loc.specs.Codes.{Rises}
 use Rattle.quilt_spell.specs.Apart.{Apart}
 use Rattle.quilt_spell.specs.Written.{by_key}
 use Rattle.quilt_spell.specs.Changing.{IsEdited}
-use Rattle.quilt_spell.specs.Applying.{has_key, put, without, taken, given}
+use Rattle.quilt_record.specs.Lists.{has_key, put, without}
+use Rattle.quilt_spell.specs.Applying.{taken, given}
 use Rattle.quilt_loc.proofs.Members.{Contains-nil, Contains-here, Contains-there, Contains-cons_cases, Contains-filter, Contains-filter_from}
 use Rattle.quilt_loc.proofs.Rising.{Rises-filter}
 use Rattle.quilt_record.proofs.Orders.{key_total}

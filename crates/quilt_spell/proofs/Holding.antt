@@ -1,5 +1,5 @@
 -- Each pixel is held by a maximal block of a test that its own block of side 1 passes.
-use Rattle.std.proofs.Common.{◌≡◌, ℕ, zero, suc, ◌+◌, ◌^◌, ◌<◌, ◌≤◌, Bool, true, false, not, ◌||◌, refl, sym, ◌∙◌, ap, arith, ⊎_elim, Contains, pow_pos, pow-suc, eq-eqb}
+use Rattle.std.proofs.Common.{◌≡◌, ℕ, zero, suc, ◌+◌, ◌^◌, ◌<◌, Bool, true, not, ◌||◌, sym, ◌∙◌, ap, arith, ⊎_elim, Contains, pow-suc, eq-eqb}
 use Rattle.std.proofs.lemmas.Bool.{and_from, or_left, or_right, cases_Bool}
 use Rattle.std.proofs.lemmas.Nat.{pow_below}
 use Rattle.quilt_types.specs.declared.plane.Pixel.{Pixel}

@@ -1,0 +1,2 @@
+pub mod OneEdition
+pub mod SameEdition
