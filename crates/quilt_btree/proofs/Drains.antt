@@ -18,7 +18,7 @@ use Rattle.quilt_node.specs.Nodes.{IsPlace, IsFound, IsGap, keys_of}
 use Rattle.quilt_node.specs.Tree.{Bounds, bounded, is_above, is_below, are_within}
 use Rattle.quilt_store.specs.Store.{Tells}
 use Rattle.quilt_btree.specs.declared.tree.Tree.{Tree}
-use Rattle.quilt_btree.specs.Lists.{has_key, without}
+use Rattle.quilt_record.specs.Lists.{has_key, without}
 use Rattle.quilt_btree.specs.Runs.{without_all, has_each, DidDrain, Lacks}
 use Rattle.quilt_btree.specs.Subtree.{Subtree}
 use Rattle.quilt_btree.specs.Edits.{times, Becomes, CanEdit, IsWhole}

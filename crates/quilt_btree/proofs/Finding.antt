@@ -11,7 +11,7 @@ use Rattle.quilt_btree.specs.declared.inserted.Inserted.{Inserted}
 use Rattle.quilt_btree.specs.declared.inserted.Inserted.TheVariants.{There, Done, Split}
 use Rattle.quilt_btree.specs.declared.removed.Removed.{Removed}
 use Rattle.quilt_btree.specs.declared.removed.Removed.TheVariants as removed
-use Rattle.quilt_btree.specs.Lists.{has_key}
+use Rattle.quilt_record.specs.Lists.{has_key}
 use Rattle.quilt_btree.specs.Outcomes.{was_there, was_found}
 use Rattle.quilt_btree.specs.Trees.{Spells, ReadsLeaf, ReadsInner, IsTree}
 use Rattle.quilt_btree.proofs.Descending.{leaf_spells, leads_below, along_told}

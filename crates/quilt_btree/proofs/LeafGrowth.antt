@@ -12,7 +12,7 @@ use Rattle.quilt_node.specs.Nodes.{IsGap, IsFound, keys_of}
 use Rattle.quilt_node.specs.Tree.{Bounds, is_above, is_below, are_within}
 use Rattle.quilt_node.proofs.Ascending.{ascending_insert, all_take, all_drop}
 use Rattle.quilt_store.specs.Store.{Tells, FreesOnly}
-use Rattle.quilt_btree.specs.Lists.{has_key, put}
+use Rattle.quilt_record.specs.Lists.{has_key, put}
 use Rattle.quilt_btree.specs.Edits.{times, Moves, Becomes, Parted, CanInsert, DidInsert}
 use Rattle.quilt_btree.specs.declared.inserted.Inserted.TheVariants as inserted
 use Rattle.quilt_btree.proofs.Counts.{times_here}

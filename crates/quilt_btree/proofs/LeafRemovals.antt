@@ -9,7 +9,7 @@ use Rattle.quilt_node.specs.Nodes.{IsFound, IsGap}
 use Rattle.quilt_node.specs.Tree.{Bounds, are_within, is_above, is_below}
 use Rattle.quilt_store.specs.Store.{Tells}
 use Rattle.quilt_btree.specs.declared.removed.Removed.TheVariants as removed
-use Rattle.quilt_btree.specs.Lists.{has_key, without}
+use Rattle.quilt_record.specs.Lists.{has_key, without}
 use Rattle.quilt_btree.specs.Subtree.{Subtree}
 use Rattle.quilt_btree.specs.Trees.{Spells, ReadsLeaf}
 use Rattle.quilt_btree.specs.Edits.{times, Becomes, CanEdit, IsNearlyFull, DidRemove}

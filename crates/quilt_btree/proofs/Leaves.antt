@@ -8,7 +8,8 @@ use Rattle.quilt_record.specs.declared.key.Key.{Key}
 use Rattle.quilt_record.specs.declared.record.Record.{Record}
 use Rattle.quilt_record.specs.Records.{key_cmp}
 use Rattle.quilt_node.specs.Nodes.{IsFound, IsGap}
-use Rattle.quilt_btree.specs.Lists.{has_key, value_in, value_of, floor_of, put, without}
+use Rattle.quilt_record.specs.Lists.{has_key, put, without}
+use Rattle.quilt_btree.specs.Lists.{value_in, value_of, floor_of}
 use Rattle.quilt_record.proofs.Orders.{key_total}
 use Rattle.quilt_btree.proofs.Lists.{IsAmong, value_between, floor_between, any_between, put_between, without_between}
 

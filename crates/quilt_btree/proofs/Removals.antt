@@ -9,7 +9,7 @@ use Rattle.quilt_node.specs.Tree.{Bounds, bounded, are_within}
 use Rattle.quilt_types.specs.declared.stop.Stop.{Stop}
 use Rattle.quilt_btree.specs.declared.removed.Removed.{Removed}
 use Rattle.quilt_btree.specs.declared.removed.Removed.TheVariants as removed
-use Rattle.quilt_btree.specs.Lists.{has_key, without}
+use Rattle.quilt_record.specs.Lists.{has_key, without}
 use Rattle.quilt_btree.specs.Stops.{IsSound}
 use Rattle.quilt_btree.specs.Subtree.{Row, Subtree}
 use Rattle.quilt_btree.specs.Trees.{ReadsInner}

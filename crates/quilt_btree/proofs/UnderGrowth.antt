@@ -13,7 +13,7 @@ use Rattle.quilt_node.specs.Edits.{with_child}
 use Rattle.quilt_node.specs.Tree.{Bounds, bounded}
 use Rattle.quilt_node.proofs.Ascending.{all_take, all_drop}
 use Rattle.quilt_store.specs.Store.{count_free}
-use Rattle.quilt_btree.specs.Lists.{has_key, put}
+use Rattle.quilt_record.specs.Lists.{has_key, put}
 use Rattle.quilt_btree.specs.Stops.{IsSound}
 use Rattle.quilt_btree.specs.Subtree.{Row, Subtree}
 use Rattle.quilt_btree.specs.Trees.{ReadsInner}

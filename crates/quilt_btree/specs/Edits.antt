@@ -11,7 +11,7 @@ use Rattle.quilt_btree.specs.declared.inserted.Inserted.{Inserted}
 use Rattle.quilt_btree.specs.declared.inserted.Inserted.TheVariants as inserted
 use Rattle.quilt_btree.specs.declared.removed.Removed.{Removed}
 use Rattle.quilt_btree.specs.declared.removed.Removed.TheVariants as removed
-use Rattle.quilt_btree.specs.Lists.{has_key, put, without}
+use Rattle.quilt_record.specs.Lists.{has_key, put, without}
 use Rattle.quilt_btree.specs.Subtree.{Subtree}
 use Rattle.quilt_btree.specs.Trees.{IsTree}
 

@@ -3,7 +3,7 @@ ghost use Rattle.std.specs.List.{list_any};
 ghost use Rattle.quilt_record.specs.declared.record.Record.{Record};
 ghost use Rattle.quilt_types.specs.Facts.{quota};
 ghost use Rattle.quilt_store.specs.Store.{count_free};
-ghost use Rattle.quilt_btree.specs.Lists.{has_key, put};
+ghost use Rattle.quilt_record.specs.Lists.{has_key, put};
 ghost use Rattle.quilt_btree.specs.Stops.{HasStopCause, IsSound, NamesPage};
 
 use crate::inserted::Inserted;

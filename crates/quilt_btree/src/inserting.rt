@@ -8,7 +8,7 @@ ghost use Rattle.quilt_node.specs.Nodes.{IsGap, are_pages};
 ghost use Rattle.quilt_node.specs.Edits.{with_child};
 ghost use Rattle.quilt_node.specs.Tree.{Bounds};
 ghost use Rattle.quilt_store.specs.Store.{count_free};
-ghost use Rattle.quilt_btree.specs.Lists.{has_key};
+ghost use Rattle.quilt_record.specs.Lists.{has_key};
 ghost use Rattle.quilt_btree.specs.Outcomes.{was_there};
 ghost use Rattle.quilt_btree.specs.Stops.{HasStopCause, IsSound, NamesPage};
 ghost use Rattle.quilt_btree.specs.Trees.{Spells};

@@ -7,7 +7,7 @@ ghost use Rattle.quilt_node.specs.Edits.{with_key};
 ghost use Rattle.quilt_node.specs.Tree.{Bounds};
 ghost use Rattle.quilt_btree.specs.declared.removed.Removed.TheVariants.{Missing, Emptied};
 ghost use Rattle.quilt_btree.specs.Edits.{CanEdit, DidLeave, DidRemove, HasPageIn};
-ghost use Rattle.quilt_btree.specs.Lists.{has_key};
+ghost use Rattle.quilt_record.specs.Lists.{has_key};
 ghost use Rattle.quilt_btree.specs.Mending.{HasShort, HasDropped, Writes};
 ghost use Rattle.quilt_btree.specs.Outcomes.{was_found};
 ghost use Rattle.quilt_btree.specs.Stops.{HasStopCause, IsSound, NamesPage};
