@@ -34,6 +34,14 @@ pub record IsAnswer (s : State) (command : Command) (given : replies.Reply) (aft
   pub work : after.work ≡ (answer s command).work
   pub last : after.last ≡ unwrap_or (answer s command).published s.last
 
+-- the state after an outcome
+abbrev pub after_outcome : State → Outcome → State
+after_outcome s out = record { quota = s.quota; last = unwrap_or out.published s.last; work = out.work }
+
+-- the state after a command
+abbrev pub after : State → Command → State
+after s command = after_outcome s (answer s command)
+
 abbrev pub IsRefusal : replies.Reply → Type 0
 IsRefusal (reply.Ok text) = ⊥
 IsRefusal (reply.No code) = Unit {0}

@@ -14,12 +14,11 @@ use Rattle.quilt_node.specs.Nodes.{HeadFits}
 use Rattle.quilt_node.specs.Tree.{Whole, walk_of}
 use Rattle.quilt_edition.proofs.Empties.{no_records, spells_empty}
 use Rattle.quilt_edition.proofs.Headers.{same_level, same_height, same_edition}
-use Rattle.quilt_loop.specs.Running.{IsNew}
 use Rattle.quilt_top.specs.Headline.{IsNoMap, StandsPlain, StandsForNothing}
 use Rattle.std.specs.Prelude.{MatchOption}
 use Rattle.quilt_top.specs.declared.opening.Opened.{Opened}
 use Rattle.quilt_top.specs.declared.opening.Opened.TheVariants as opened
-use Rattle.quilt_top.specs.Openings.{plain_edition, plain_head, Heads, Finds}
+use Rattle.quilt_top.specs.Openings.{IsNew, plain_edition, plain_head, Heads, Finds}
 
 first_bytes : (start : Pages) (i : ℕ) → last_bytes start [] i ≡ Some (get_or start i [])
 unfolding last_bytes

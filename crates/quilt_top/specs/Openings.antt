@@ -1,22 +1,28 @@
 -- What a file is at opening, and how a run over it goes on.
-use Rattle.std.specs.Prelude.{◌≡◌, ℕ, ◌≤◌, ◌^◌, ◌<◌, Bool, true, false, Result, Ok, Err, List, [], ◌∷◌, length}
+use Rattle.std.specs.Prelude.{◌≡◌, ℕ, ◌≤◌, Bool, true, false, Result, Ok, Err, List, [], ◌∷◌}
 use Rattle.std.specs.FinMap as finmap
 use Rattle.quilt_types.specs.Layers.{Edition}
+use Rattle.quilt_types.specs.declared.stop.Stop.{Stop}
+use Rattle.quilt_types.specs.declared.stop.Stop.TheVariants as stops
 use Rattle.quilt_node.specs.declared.head.Head.{Head}
 use Rattle.quilt_node.specs.Pages.{IsHeader}
 use Rattle.quilt_world.specs.Disk.{Pages}
-use Rattle.quilt_world.specs.Tale.{Tale, taken_bytes}
+use Rattle.quilt_world.specs.Tale.{Tale}
 use Rattle.quilt_world.specs.Home.{IsMapFile}
 use Rattle.quilt_map.specs.Answers.{State}
-use Rattle.quilt_loop.specs.declared.halt.Halt.{Halt}
-use Rattle.quilt_loop.specs.declared.halt.Halt.TheVariants as halts
-use Rattle.quilt_loop.specs.Quotas.{most_records}
-use Rattle.quilt_loop.specs.Running.{RunsFrom, RunsWhole}
+use Rattle.quilt_top.specs.declared.halt.Halt.{Halt}
+use Rattle.quilt_top.specs.declared.halt.Halt.TheVariants as halts
+use Rattle.quilt_map.specs.Quotas.{most_records}
+use Rattle.quilt_top.specs.TextRun.{RunsFrom, RunsWhole, Overruns}
 use Rattle.quilt_top.specs.declared.opening.Opened.{Opened}
 use Rattle.quilt_top.specs.declared.opening.Opened.TheVariants as opened
 use Rattle.quilt_top.specs.declared.run.End.{End}
 use Rattle.quilt_top.specs.declared.run.End.TheVariants as ends
 use Rattle.quilt_top.specs.Headline.{IsNoMap, StandsPlain, StandsForNothing}
+
+-- nothing was done yet
+pub record IsNew (t : Tale) : Type 0 where
+  pub log : t.log ≡ []
 
 -- the edition of a header with no tree
 abbrev pub plain_edition : ℕ → ℕ → Edition
@@ -53,14 +59,19 @@ pub record RunsPlain (first : Edition) (end : End) (old new : Tale) : Type 0 whe
   pub runs : RunsFrom first.level (first_state first) old new
   pub done : end ≡ ends.Done → RunsWhole first.level true (first_state first) old new
   pub refused : end ≡ ends.Refused → RunsWhole first.level false (first_state first) old new
-  pub too_much : end ≡ ends.TooMuch → 2 ^ 30 < length (taken_bytes new.log)
+  pub too_much : end ≡ ends.TooMuch → Overruns new
+
+-- how a run ends where a call gave up
+abbrev pub end_of_stop : Stop → End
+end_of_stop stops.Device = ends.Device
+end_of_stop stops.Memory = ends.Memory
+end_of_stop (stops.Damaged page) = ends.Damaged page
 
 -- how a run ends that answered whether none of its replies was a refusal, or that stopped
 abbrev pub end_of : Result Bool Halt → End
 end_of (Ok true) = ends.Done
 end_of (Ok false) = ends.Refused
-end_of (Err halts.Device) = ends.Device
-end_of (Err halts.Memory) = ends.Memory
+end_of (Err (halts.Stopped stop)) = end_of_stop stop
 end_of (Err halts.TooMuch) = ends.TooMuch
 
 -- the ends of a run over a plain file

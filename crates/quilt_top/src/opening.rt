@@ -2,8 +2,7 @@ ghost use Rattle.std.specs.Prelude.{◌≡◌, ◌+◌, ◌*◌, ◌<◌, ◌≤
 ghost use Rattle.quilt_world.specs.Tale.{Adds, Goes};
 ghost use Rattle.quilt_world.specs.Causes.{HasCause};
 ghost use Rattle.quilt_world.specs.Home.{label};
-ghost use Rattle.quilt_loop.specs.Running.{IsNew};
-ghost use Rattle.quilt_top.specs.Openings.{Heads, Finds, InRange};
+ghost use Rattle.quilt_top.specs.Openings.{IsNew, Heads, Finds, InRange};
 
 use crate::label::{home_pages, is_label};
 use quilt_node::header_of;

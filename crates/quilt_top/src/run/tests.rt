@@ -182,6 +182,7 @@ fn fails_in_turn<R: Threads + Sync + Abort>(
         let (end, desk) = run_quilt(rt, alloc, &["run", "m"], desk);
         if end.status() == status {
             assert!(rt; desk.output() == output);
+            assert!(rt; call > 1);
             return;
         }
         assert_eq!(rt; end, End::Device);
