@@ -13,5 +13,7 @@ pub mod RedoSteps
 pub mod SealSteps
 pub mod SlotSteps
 pub mod Steps
+pub mod Tearing
+pub mod TextSteps
 pub mod Views
 pub mod Writes
