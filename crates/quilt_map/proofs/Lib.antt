@@ -9,4 +9,5 @@ pub mod Refusals
 pub mod Rows
 pub mod Sessions
 pub mod Shown
+pub mod TextLaws
 pub mod Works

@@ -34,7 +34,7 @@ use Rattle.quilt_map.specs.Quotas.{most_records}
 
 abbrev IsRegion : Layer → Type 0
 IsRegion (Region g) = Unit {0}
-IsRegion (Points p) = ⊥
+IsRegion (Points b p) = ⊥
 IsRegion (Lines t segs cover) = ⊥
 
 abbrev AllRegions : List (List ℕ × Layer) → Type 0
@@ -75,7 +75,7 @@ few_leaves n g =
 
 few_facts : (n : ℕ) (l : Layer) → IsRegion l → length (facts n l) ≤ 1 + length (blocks n)
 few_facts n (Region g) is = let e : length (facts n (Region g)) ≡ suc (length (leaves n g)) = ap suc (length-map (leaves n g) _) in omega (arith, e, few_leaves n g)
-few_facts n (Points p) is = absurd is
+few_facts n (Points b p) is = absurd is
 few_facts n (Lines t segs cover) is = absurd is
 
 abbrev facts_of : ℕ → List ℕ × Layer → ℕ
@@ -208,6 +208,6 @@ unfolding answer
 unpublished s (commands.Region a c) built = makes_none s (exists s a ∷ too_many s ∷ []) a (Region (uniform s.last.level c.0))
 unpublished s (commands.Set a p c) built = makes_none s (unknown s a ∷ unless_region s a ∷ outside s p ∷ []) a (Region (painted s.last.level (grid s a) (pixel_window p) c.0))
 unpublished s (commands.At a p) built = unless_none (unknown s a ∷ unless_region s a ∷ outside s p ∷ []) s (told s (decimal (colour_at s.last.level (grid s a) p) ∷ [])) refl
-unpublished s (commands.Show a w) built = unless_none (unknown s a ∷ unless_region s a ∷ window_outside s w ∷ []) s (told s (map (row_line s.last.level (grid s a) w) (below w.h))) refl
+unpublished s (commands.Show a w) built = unless_none (unknown s a ∷ unless_region s a ∷ window_outside s w ∷ []) s (told s (map (row_line s.last.format s.last.level (grid s a) w) (below w.h))) refl
 unpublished s commands.Edition built = refl
 unpublished s c built = cc

@@ -21,13 +21,16 @@ same_state s t q l w = λ i. record { quota = q i; last = l i; work = w i }
 last_is : (s t : State) (c : Command) (given : given_reply.Reply) → is_built c ≡ true → IsAnswer s c given t → t.last ≡ s.last
 last_is s t c given built so = so.last ∙ ap (λ (o : Option Edition). unwrap_or o s.last) (unpublished s c built)
 
-module _ (w v : Work) (c : Command) (given : given_reply.Reply) (spelled : Spelled w.level c)
+module _ (w v : Work) (c : Command) (given : given_reply.Reply) (spelled : Spelled w.format w.level c)
     (gives : (q : ℕ) → IsWithinQuota (state_of q w) c → IsAnswer (state_of q w) c given (state_of q v)) where
   so : IsAnswer (at w) c given (state_of (most_records w.level) v)
-  so = gives (most_records w.level) (fits (at w) c (spelled_built w.level c spelled) (work_regions w))
+  so = gives (most_records w.level) (fits (at w) c (spelled_built w.format w.level c spelled) (work_regions w))
 
   pub level_kept : v.level ≡ w.level
-  level_kept = ap (λ (e : Edition). e.level) (last_is (at w) (state_of (most_records w.level) v) c given (spelled_built w.level c spelled) so)
+  level_kept = ap (λ (e : Edition). e.level) (last_is (at w) (state_of (most_records w.level) v) c given (spelled_built w.format w.level c spelled) so)
+
+  pub format_kept : v.format ≡ w.format
+  format_kept = ap (λ (e : Edition). e.format) (last_is (at w) (state_of (most_records w.level) v) c given (spelled_built w.format w.level c spelled) so)
 
   pub answered : (s : State) → s ≡ at w → Tells given (answer s c).reply × (after s c ≡ at v)
   answered s is = subst (λ (t : State). Tells given (answer t c).reply × (after t c ≡ at v)) (sym is) (

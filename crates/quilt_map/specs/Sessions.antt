@@ -9,6 +9,10 @@ use Rattle.quilt_map.specs.States.{state_of}
 unfoldable pub world_of : {W : Type 0} → Session W → W
 world_of s = s.world
 
+-- the format of the last edition
+unfoldable pub format_of : {W : Type 0} → Session W → ℕ
+format_of s = s.work.format
+
 unfoldable pub level_of : {W : Type 0} → Session W → ℕ
 level_of s = s.work.level
 

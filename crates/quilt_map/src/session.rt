@@ -25,14 +25,15 @@ pub struct Session<W> {
 }
 
 impl<W: World> Session<W> {
-    ghost use Rattle.quilt_map.specs.Sessions.{world_of, level_of, IsAt};
+    ghost use Rattle.quilt_map.specs.Sessions.{world_of, format_of, level_of, IsAt};
 
     /// A session over a file with this many home pages, whose last edition is empty. An Err is want of memory, and gives the world back.
-    #[tactic(auto, unfolding(crate::specs::Sessions::world_of, crate::specs::Sessions::level_of, crate::specs::Sessions::IsAt))]
+    #[tactic(auto, unfolding(crate::specs::Sessions::world_of, crate::specs::Sessions::format_of, crate::specs::Sessions::level_of, crate::specs::Sessions::IsAt))]
     pub fn start(
         alloc: Global,
         world: W,
         pages: u32,
+        format: u8,
         level: u8,
         edition: u32,
     ) -> Result<Session<W>, W>
@@ -41,22 +42,24 @@ impl<W: World> Session<W> {
         requires level_low { 1 ≤ level }
         requires level_high { level ≤ 12 }
         ensures world { IfOk result (λ s. world_of s ≡ world) }
+        ensures format { IfOk result (λ s. format_of s ≡ format) }
         ensures level { IfOk result (λ s. level_of s ≡ level) }
-        ensures at { IfOk result (λ s. IsAt s (record { quota = most_records level; last = record { number = edition; level = level; layers = finmap.empty }; work = finmap.empty })) }
+        ensures at { IfOk result (λ s. IsAt s (record { quota = most_records level; last = record { format = format; number = edition; level = level; layers = finmap.empty }; work = finmap.empty })) }
         ensures err { IfErr result (λ back. back ≡ world) }
     {
         let _ = pages;
-        let work = Work::new(alloc, level, edition);
+        let work = Work::new(alloc, format, level, edition);
         Ok(Session { world, work })
     }
 
     /// The reply to a command, and the work that it leaves. A refused command changes nothing. After an Err the session is only given up.
     /// `set` and `at` take a look at the names; the other commands take time in the pixels that they make or show.
-    #[tactic(auto, unfolding(crate::specs::Sessions::world_of, crate::specs::Sessions::level_of, crate::specs::Sessions::IsAt))]
+    #[tactic(auto, unfolding(crate::specs::Sessions::world_of, crate::specs::Sessions::format_of, crate::specs::Sessions::level_of, crate::specs::Sessions::IsAt))]
     pub fn apply(&mut self, command: &Command) -> Result<Reply, Stop>
-        requires { Spelled (level_of self.old) command.now }
+        requires { Spelled (format_of self.old) (level_of self.old) command.now }
         ensures answer { IfOk result (λ reply. (s : State) → IsAt self.old s → Tells reply (answer s command.now).reply × IsAt self.new (after s command.now)) }
         ensures refused { IfOk result (λ reply. IsRefusal reply → (s : State) → IsAt self.old s → IsAt self.new s) }
+        ensures format { IfOk result (λ reply. format_of self.new ≡ format_of self.old) }
         ensures level { IfOk result (λ reply. level_of self.new ≡ level_of self.old) }
         ensures memory { IfErr result (λ stop. stop ≡ stops.Memory) }
         ensures device { IfErr result (λ stop. stop ≡ stops.Device → Rose (W.faults (world_of self.old)) (W.faults (world_of self.new))) }
@@ -70,7 +73,7 @@ impl<W: World> Session<W> {
     }
 
     /// The next bytes of the input, as the world takes them. 0 says that it has ended.
-    #[tactic(auto, unfolding(crate::specs::Sessions::world_of, crate::specs::Sessions::level_of, crate::specs::Sessions::IsAt))]
+    #[tactic(auto, unfolding(crate::specs::Sessions::world_of, crate::specs::Sessions::format_of, crate::specs::Sessions::level_of, crate::specs::Sessions::IsAt))]
     pub fn take(&mut self, into: &mut [u8]) -> Result<usize, Fault>
         requires open { (W.door (world_of self.old) ≡ doors.Ready) ⊎ (W.door (world_of self.old) ≡ doors.Made) }
         requires room { 0 < length into.old }
@@ -80,6 +83,7 @@ impl<W: World> Session<W> {
         ensures count { IfOk result (λ n. n ≤ length into.old) }
         ensures took { IfOk result (λ n. Goes (TakesFrom (take n into.new)) (W.told (world_of self.old)) (W.told (world_of self.new))) }
         ensures nothing { OnErr result (Goes (Adds []) (W.told (world_of self.old)) (W.told (world_of self.new))) }
+        ensures format { format_of self.new ≡ format_of self.old }
         ensures level { level_of self.new ≡ level_of self.old }
         ensures at { (s : State) → IsAt self.old s → IsAt self.new s }
     {
@@ -87,7 +91,7 @@ impl<W: World> Session<W> {
     }
 
     /// Puts a front of the bytes to the output, as the world puts them.
-    #[tactic(auto, unfolding(crate::specs::Sessions::world_of, crate::specs::Sessions::level_of, crate::specs::Sessions::IsAt))]
+    #[tactic(auto, unfolding(crate::specs::Sessions::world_of, crate::specs::Sessions::format_of, crate::specs::Sessions::level_of, crate::specs::Sessions::IsAt))]
     pub fn put(&mut self, bytes: &[u8]) -> Result<usize, Fault>
         requires open { (W.door (world_of self.old) ≡ doors.Ready) ⊎ (W.door (world_of self.old) ≡ doors.Made) }
         requires some { 0 < length bytes.now }
@@ -97,6 +101,7 @@ impl<W: World> Session<W> {
         ensures count { IfOk result (λ n. (1 ≤ n) × (n ≤ length bytes.now)) }
         ensures put { IfOk result (λ n. Goes (Adds (Put (take n bytes.now) ∷ [])) (W.told (world_of self.old)) (W.told (world_of self.new))) }
         ensures nothing { OnErr result (Goes (Adds []) (W.told (world_of self.old)) (W.told (world_of self.new))) }
+        ensures format { format_of self.new ≡ format_of self.old }
         ensures level { level_of self.new ≡ level_of self.old }
         ensures at { (s : State) → IsAt self.old s → IsAt self.new s }
     {
@@ -110,6 +115,15 @@ impl<W: World> Session<W> {
         ensures at { (s : State) → IsAt self.now s → s.last.level ≡ result }
     {
         self.work.level
+    }
+
+    /// The format of the last edition, in which the next item is read.
+    #[tactic(auto, unfolding(crate::specs::Sessions::format_of, crate::specs::Sessions::IsAt))]
+    pub fn format(&self) -> u8
+        ensures is { result ≡ format_of self.now }
+        ensures at { (s : State) → IsAt self.now s → s.last.format ≡ result }
+    {
+        self.work.format
     }
 
     /// The number of the last edition.

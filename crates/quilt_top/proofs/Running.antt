@@ -17,14 +17,13 @@ use Rattle.quilt_world.specs.declared.disk.Door.TheVariants as doors
 use Rattle.quilt_world.proofs.PageLaws.{seen_left}
 use Rattle.quilt_edition.specs.Stands.{Stands}
 use Rattle.quilt_lang.specs.declared.command.Command.{Command}
-use Rattle.quilt_lang.specs.Items.{Group, held, items_of, groups_from, lines_of}
-use Rattle.quilt_lang.specs.Forms.{form}
+use Rattle.quilt_lang.specs.Items.{Group, items_of}
 use Rattle.quilt_map.specs.Answers.{State}
-use Rattle.quilt_map.specs.Runs.{Run, run, run_of, replies_of, output, outcome_of, text_of, prefix_of, told_within, editions_told}
+use Rattle.quilt_map.specs.Runs.{Run, run, run_of, replies_of, output, form_in, outcome_of, text_of, prefix_of, told_within, editions_told}
 use Rattle.quilt_map.specs.Quotas.{most_records}
 use Rattle.quilt_top.specs.TextRun.{run_in, IsUntold, RunsFrom, RunsWhole, Overruns}
 use Rattle.quilt_world.specs.Added.{Only, AtEachTook, is_of_pages, is_of_text}
-use Rattle.quilt_map.proofs.Laws.{none_published}
+use Rattle.quilt_map.proofs.TextLaws.{outcome_none}
 use Rattle.quilt_top.proofs.Runs.{reading_first, runs_now}
 use Rattle.quilt_top.specs.declared.run.End.{End}
 use Rattle.quilt_top.specs.declared.run.End.TheVariants as ends
@@ -77,37 +76,33 @@ seen_is_start w only law = text_leaves w.start w.log w.seen only (seen_left w.st
 
 -- ---- no reply gives an edition
 
-outcome_none : (s : State) (n : ℕ) (g : Group) (r : Result Command Code) → form (held n g) ≡ r → (outcome_of s r).published ≡ None
-outcome_none s n g (Ok c) is = none_published n s c (g, is)
-outcome_none s n g (Err code) is = refl
-
-editions_first : (q : ℕ) (last : Edition) (work : Map) (n : ℕ) (gs : List Group) → (run_of q last work (map (held n) gs)).editions ≡ last ∷ []
-editions_first q last work n [] = refl
-editions_first q last work n (g ∷ gs) =
+editions_first : (q : ℕ) (last : Edition) (work : Map) (gs : List Group) → (run_of q last work gs).editions ≡ last ∷ []
+editions_first q last work [] = refl
+editions_first q last work (g ∷ gs) =
     let s : State = record { quota = q; last = last; work = work } in
-    let out = outcome_of s (form (held n g)) in
-    let none : out.published ≡ None = outcome_none s n g (form (held n g)) refl in
-    rw none (editions_first q last out.work n gs)
+    let out = outcome_of s (form_in last g) in
+    let none : out.published ≡ None = outcome_none s g (form_in last g) refl in
+    rw none (editions_first q last out.work gs)
 
 cond_zero : (b : Bool) (x : ℕ) → x ≡ 0 → cond b x 0 ≡ 0
 cond_zero true x is = is
 cond_zero false x is = refl
 
-told_none : (q : ℕ) (last : Edition) (work : Map) (n : ℕ) (gs : List Group) (put : List ℕ) → told_within (run_of q last work (map (held n) gs)).steps put 0 ≡ 0
-told_none q last work n [] put = refl
-told_none q last work n (g ∷ gs) put =
+told_none : (q : ℕ) (last : Edition) (work : Map) (gs : List Group) (put : List ℕ) → told_within (run_of q last work gs).steps put 0 ≡ 0
+told_none q last work [] put = refl
+told_none q last work (g ∷ gs) put =
     let s : State = record { quota = q; last = last; work = work } in
-    let out = outcome_of s (form (held n g)) in
-    let none : out.published ≡ None = outcome_none s n g (form (held n g)) refl in
-    rw none (cond_zero (prefix_of (text_of out.reply) put) _ (told_none q last out.work n gs (drop (length (text_of out.reply)) put)))
+    let out = outcome_of s (form_in last g) in
+    let none : out.published ≡ None = outcome_none s g (form_in last g) refl in
+    rw none (cond_zero (prefix_of (text_of out.reply) put) _ (told_none q last out.work gs (drop (length (text_of out.reply)) put)))
 
 run_editions : (q : ℕ) (first : Edition) (text : List ℕ) → (run q first text).editions ≡ first ∷ []
-unfolding run items_of
-run_editions q first text = editions_first q first first.layers first.level (groups_from first.level 0 (lines_of text))
+unfolding run
+run_editions q first text = editions_first q first first.layers (items_of first.level text)
 
 run_told : (q : ℕ) (first : Edition) (text put : List ℕ) → editions_told (run q first text) put ≡ 0
-unfolding run items_of editions_told
-run_told q first text put = told_none q first first.layers first.level (groups_from first.level 0 (lines_of text)) put
+unfolding run editions_told
+run_told q first text put = told_none q first first.layers (items_of first.level text) put
 
 run_is : (first : Edition) (text : List ℕ) → run_in (first_state first) (items_of first.level text) ≡ run (most_records first.level) first text
 unfolding run
@@ -223,7 +218,7 @@ module _ (first : Edition) (end : End) (old w : Tale) (so : RunsPlain first end 
 
 pub quiet_plain : (first : Edition) (end : End) (w : Tale) → IsUntold w → (end ≡ ends.Done → ⊥) → (end ≡ ends.Refused → ⊥) → (end ≡ ends.TooMuch → ⊥) → RunsPlain first end w w
 quiet_plain first end w untold not_done not_refused not_much = record {
-  runs = runs_now first.level (first_state first) 0 true (first_state first) [] w w (omega arith) (reading_first first.level (first_state first) w untold);
+  runs = runs_now first.level (first_state first) refl 0 true (first_state first) [] w w (omega arith) (reading_first first.level (first_state first) refl w untold);
   done = λ is. absurd (not_done is);
   refused = λ is. absurd (not_refused is);
   too_much = λ is. absurd (not_much is);
@@ -334,14 +329,14 @@ module _ (path : List ℕ) (rose : Type 0) (door now : Door) (ready : door ≡ d
         λ e pages first file stands. absurd (found.1 first stands),
       )
 
-  pub ran : (end : End) (n_pages level number size : ℕ) (o m n p : Option Tale) → (end ≡ ends.Device → rose) → IsOneOf end run_ends → Goes (OpensAt path door) o m → Goes (Adds []) m n → IfSome n (λ t. IsMapFile t.start n_pages × StandsPlain t.start (plain_edition number level)) →
-      Goes (RunsPlain (plain_edition number level) end) n p → IfSome p (λ t. IsConsistent t × (length t.start ≡ size)) → WhereTold (Promise path rose now end) o p
-  ran end n_pages level number size None m n p device one opens adds found runs law = tt
-  ran end n_pages level number size (Some t) None n p device one opens adds found runs law = absurd opens
-  ran end n_pages level number size (Some t) (Some u) None p device one opens adds found runs law = absurd adds
-  ran end n_pages level number size (Some t) (Some u) (Some v) None device one opens adds found runs law = absurd runs
-  ran end n_pages level number size (Some t) (Some u) (Some v) (Some w) device one opens adds found runs law =
-      let first : Edition = plain_edition number level in
+  pub ran : (end : End) (n_pages format level number size : ℕ) (o m n p : Option Tale) → (end ≡ ends.Device → rose) → IsOneOf end run_ends → Goes (OpensAt path door) o m → Goes (Adds []) m n → IfSome n (λ t. IsMapFile t.start n_pages × StandsPlain t.start (plain_edition format number level)) →
+      Goes (RunsPlain (plain_edition format number level) end) n p → IfSome p (λ t. IsConsistent t × (length t.start ≡ size)) → WhereTold (Promise path rose now end) o p
+  ran end n_pages format level number size None m n p device one opens adds found runs law = tt
+  ran end n_pages format level number size (Some t) None n p device one opens adds found runs law = absurd opens
+  ran end n_pages format level number size (Some t) (Some u) None p device one opens adds found runs law = absurd adds
+  ran end n_pages format level number size (Some t) (Some u) (Some v) None device one opens adds found runs law = absurd runs
+  ran end n_pages format level number size (Some t) (Some u) (Some v) (Some w) device one opens adds found runs law =
+      let first : Edition = plain_edition format number level in
       let start = runs.runs.text.file.start in
       let log : w.log ≡ runs.runs.text.events = runs.runs.text.log ∙ ap (λ (l : Log). l ++ runs.runs.text.events) (quiet_log t u v opens adds) in
       let only : Only is_of_text w.log = ap (list_all is_of_text) log ∙ runs.runs.text.only in

@@ -1,15 +1,14 @@
 -- Turns of the loop that takes the input.
-use Rattle.std.proofs.Common.{◌≡◌, ℕ, ◌<◌, ◌+◌, ◌≤◌, ◌^◌, arith, Bool, true, false, ◌&&◌, List, [], ◌∷◌, ◌++◌, length, length-append, refl, sym, ◌∙◌, ap, subst, append_assoc, append-nil, Option}
+use Rattle.std.proofs.Common.{◌≡◌, ℕ, ◌<◌, ◌+◌, ◌≤◌, ◌^◌, arith, Bool, true, false, ◌&&◌, List, [], ◌∷◌, ◌++◌, length, map, length-append, refl, sym, ◌∙◌, ap, subst, append_assoc, append-nil, Option}
 use Rattle.std.specs.List.{list_all}
 use Rattle.std.proofs.lemmas.List.{take_at}
 use Rattle.quilt_world.specs.Disk.{Log}
 use Rattle.quilt_world.specs.Tale.{Tale, Goes, Adds, Begins, put_bytes, taken_bytes}
 use Rattle.quilt_world.specs.Doors.{TakesFrom}
 use Rattle.quilt_world.specs.declared.event.Event.TheVariants.{Took}
-use Rattle.quilt_lang.specs.declared.item.Item.{Item}
-use Rattle.quilt_lang.specs.Items.{items_of, whole_items, whole_lines}
-use Rattle.quilt_lang.specs.Reading.{Gives, MayFollow}
-use Rattle.quilt_map.specs.Answers.{State}
+use Rattle.quilt_lang.specs.Items.{Group, held, items_of, whole_items}
+use Rattle.quilt_lang.specs.Reading.{Same, Gives, MayFollow}
+use Rattle.quilt_map.specs.Answers.{State, Reply}
 use Rattle.quilt_map.specs.Runs.{is_done}
 use Rattle.quilt_top.specs.Replies.{state_after, said_for, replies_from}
 use Rattle.quilt_top.specs.Saying.{Says}
@@ -21,9 +20,9 @@ use Rattle.quilt_world.proofs.AddedLaws.{adds_only_none, adds_only_both}
 use Rattle.quilt_world.proofs.TextLaws.{took_text, nothing_text}
 use Rattle.quilt_world.proofs.Told.{goes_then, goes_weaker, goes_and}
 use Rattle.quilt_top.proofs.Events.{put_bytes-append, taken_bytes-append, nothing_taken, pages_untaken, pages_unput}
-use Rattle.quilt_top.proofs.Said.{said-append, said_none, replies-append, length-replies, state-append, done-append, says_quiet, run_replies, run_output}
+use Rattle.quilt_top.proofs.Said.{said-append, said_none, replies-append, length-replies, state-append, done-append, says_quiet, run_replies, run_output, replies_same, said_same, level_after}
 use Rattle.quilt_top.proofs.Prompts.{each_none, each_more, each_took}
-use Rattle.quilt_top.proofs.Turns.{gives_none, gives_then}
+use Rattle.quilt_map.proofs.TextLaws.{gives_none, gives_then, settled_count}
 
 -- what a text's puts do to what was taken and put
 said_takes : (said : List ℕ) (u v : Tale) → Says said u v → taken_bytes v.log ≡ taken_bytes u.log
@@ -37,7 +36,7 @@ said_puts said u v says = ap put_bytes says.log ∙ put_bytes-append u.log says.
 said_prompt : (P : Log → Type 0) (said : List ℕ) (u v : Tale) → Says said u v → AtEachTook P u.log → AtEachTook P v.log
 said_prompt P said u v says each = subst (AtEachTook P) (sym says.log) (each_more P u.log says.events each says.untaken)
 
-module _ (n : ℕ) (s0 : State) where
+module _ (n : ℕ) (s0 : State) (at : s0.last.level ≡ n) where
   pub reading_first : (t : Tale) → IsUntold t → Reading n 0 true s0 s0 [] t t
   reading_first t new = record {
     items = [];
@@ -53,27 +52,23 @@ module _ (n : ℕ) (s0 : State) where
     prompt = each_none (PromptAt n s0 t.input) t.log (pages_untaken t.log new);
   }
 
-  gives_fed : (g : List Item) (a b p : List ℕ) → Gives false n g a b → Gives false n g (a ++ p) (b ++ p)
+  gives_fed : (g : List Group) (a b p : List ℕ) → Gives false n g a b → Gives false n g (a ++ p) (b ++ p)
   gives_fed g a b p so = record {
     all = λ v may. rw (append_assoc a p v, append_assoc b p v) (so.all (p ++ v) tt);
     whole = λ open_ v. rw (append_assoc a p v, append_assoc b p v) (so.whole open_ (p ++ v));
   }
-
-  given_whole : (g : List Item) (taken rest : List ℕ) → Gives false n g taken rest → whole_items n rest ≡ [] → whole_items n taken ≡ g
-  given_whole g taken rest so none =
-      ap (whole_items n) (sym (append-nil taken)) ∙ so.whole refl [] ∙ ap (λ (r : List ℕ). g ++ whole_items n r) (append-nil rest)
-      ∙ ap (λ (r : List Item). g ++ r) none ∙ append-nil g
 
   module _ (count : ℕ) (flag : Bool) (s1 : State) (rest : List ℕ) where
     -- what is put at this moment is prompt
     prompt_now : (t u : Tale) → (so : Reading n count flag s0 s1 rest t u) → whole_items n rest ≡ [] → PromptAt n s0 t.input u.log
     unfolding said_for
     prompt_now t u so none =
-        let whole : whole_items n (taken_bytes u.log) ≡ so.items = ap (whole_items n) so.takes ∙ given_whole so.items so.taken rest so.gives none in
-        let all : items_of n t.input ≡ so.items ++ items_of n (rest ++ u.input) = ap (items_of n) so.input ∙ so.gives.all u.input tt in
+        let count_ : length (whole_items n (taken_bytes u.log)) ≡ length so.items =
+        ap (λ (l : List ℕ). length (whole_items n l)) so.takes ∙ settled_count n so.taken rest so.items so.gives none in
         let split : replies_from s0 (items_of n t.input) ≡ replies_from s0 so.items ++ replies_from (state_after s0 so.items) (items_of n (rest ++ u.input)) =
-        ap (replies_from s0) all ∙ replies-append s0 so.items (items_of n (rest ++ u.input)) in
-        rw (whole, run_replies s0 (items_of n t.input), split, take_at (replies_from s0 so.items) (replies_from (state_after s0 so.items) (items_of n (rest ++ u.input))) (length so.items) (length-replies s0 so.items)) so.put
+        ap (λ (l : List ℕ). replies_from s0 (items_of n l)) so.input ∙ replies_same s0 n _ _ at (so.gives.all u.input tt)
+        ∙ replies-append s0 so.items (items_of n (rest ++ u.input)) in
+        rw (count_, run_replies s0 (items_of n t.input), split, take_at (replies_from s0 so.items) (replies_from (state_after s0 so.items) (items_of n (rest ++ u.input))) (length so.items) (length-replies s0 so.items)) so.put
 
     reading_took : (next : ℕ) (b : List ℕ) (t u v : Tale) → next ≡ count + length b → Reading n count flag s0 s1 rest t u → whole_items n rest ≡ [] → 0 < length b → TakesFrom b u v → Reading n next flag s0 s1 (rest ++ b) t v
     reading_took next b t u v sum so none some takes = record {
@@ -95,7 +90,7 @@ module _ (n : ℕ) (s0 : State) where
       items = so.items;
       taken = so.taken;
       text = so.text;
-      gives = let both : Gives false n (so.items ++ []) so.taken r1 = gives_then false n so.items [] so.taken rest r1 so.gives fed in subst (λ (g : List Item). Gives false n g so.taken r1) (append-nil so.items) both;
+      gives = let both : Gives false n (so.items ++ []) so.taken r1 = gives_then false n so.items [] so.taken rest r1 so.gives fed in subst (λ (g : List Group). Gives false n g so.taken r1) (append-nil so.items) both;
       state = so.state;
       input = so.input;
       takes = so.takes;
@@ -106,7 +101,7 @@ module _ (n : ℕ) (s0 : State) where
     }
 
     -- more items were answered
-    reading_more : (more : Bool) (s2 : State) (g : List Item) (r2 : List ℕ) (t u v : Tale) → Reading n count flag s0 s1 rest t u → Gives false n g rest r2 → s2 ≡ state_after s1 g → more ≡ (flag && list_all is_done (replies_from s1 g)) → Says (said_for s1 g) u v → AddsOnly is_of_text u v →
+    reading_more : (more : Bool) (s2 : State) (g : List Group) (r2 : List ℕ) (t u v : Tale) → Reading n count flag s0 s1 rest t u → Gives false n g rest r2 → s2 ≡ state_after s1 g → more ≡ (flag && list_all is_done (replies_from s1 g)) → Says (said_for s1 g) u v → AddsOnly is_of_text u v →
         Reading n count more s0 s2 r2 t v
     reading_more more s2 g r2 t u v so gives is holds says only = record {
       items = so.items ++ g;
@@ -149,13 +144,13 @@ module _ (n : ℕ) (s0 : State) where
 
     all_said : (t u : Tale) → (so : Reading n count flag s0 s1 rest t u) → said_for s0 (items_of n t.input) ≡ said_for s0 so.items ++ said_for s1 (items_of n (rest ++ u.input))
     all_said t u so =
-        ap (λ (l : List ℕ). said_for s0 (items_of n l)) so.input ∙ ap (said_for s0) (so.gives.all u.input tt) ∙ said-append s0 so.items (items_of n (rest ++ u.input))
+        ap (λ (l : List ℕ). said_for s0 (items_of n l)) so.input ∙ said_same s0 n _ _ at (so.gives.all u.input tt) ∙ said-append s0 so.items (items_of n (rest ++ u.input))
         ∙ ap (λ (s : State). said_for s0 so.items ++ said_for s (items_of n (rest ++ u.input))) (sym so.state)
 
     all_done : (t u : Tale) → (so : Reading n count flag s0 s1 rest t u) → list_all is_done (replies_from s0 (items_of n t.input)) ≡ (flag && list_all is_done (replies_from s1 (items_of n (rest ++ u.input))))
     all_done t u so =
         ap (λ (l : List ℕ). list_all is_done (replies_from s0 (items_of n l))) so.input
-        ∙ ap (λ (g : List Item). list_all is_done (replies_from s0 g)) (so.gives.all u.input tt) ∙ done-append s0 so.items (items_of n (rest ++ u.input))
+        ∙ ap (list_all is_done) (replies_same s0 n _ _ at (so.gives.all u.input tt)) ∙ done-append s0 so.items (items_of n (rest ++ u.input))
         ∙ ap (λ (s : State). list_all is_done (replies_from s0 so.items) && list_all is_done (replies_from s (items_of n (rest ++ u.input)))) (sym so.state)
         ∙ ap (λ (b : Bool). b && list_all is_done (replies_from s1 (items_of n (rest ++ u.input)))) (sym so.done)
 
@@ -183,23 +178,29 @@ module _ (n : ℕ) (s0 : State) where
     runs_stopped : (ended : Bool) (t u v : Tale) → count ≤ 2 ^ 30 + 4096 → MayFollow ended u.input → Reading n count flag s0 s1 rest t u → FrontOfAll ended n s1 rest u v → RunsFrom n s0 t v
     runs_stopped ended t u v few may so stopped = runs_after stopped.said t u v few so stopped.says stopped.text (stopped.front u.input may)
 
-    left_items : (r2 : List ℕ) (u : Tale) (g : List Item) → u.input ≡ [] → Gives true n g rest r2 → items_of n r2 ≡ [] → items_of n (rest ++ u.input) ≡ g
-    left_items r2 u g ended gives none =
-        ap (λ (l : List ℕ). items_of n (rest ++ l)) ended ∙ gives.all [] refl ∙ ap (λ (l : List ℕ). g ++ items_of n l) (append-nil r2) ∙ ap (λ (l : List Item). g ++ l) none ∙ append-nil g
+    left_items : (r2 : List ℕ) (u : Tale) (g : List Group) → u.input ≡ [] → Gives true n g rest r2 → items_of n r2 ≡ [] → Same n (items_of n (rest ++ u.input)) g
+    left_items r2 u g ended gives none = λ f.
+        ap (λ (l : List ℕ). map (held f n) (items_of n (rest ++ l))) ended ∙ gives.all [] refl f
+        ∙ ap (λ (l : List ℕ). map (held f n) (g ++ items_of n l)) (append-nil r2) ∙ ap (λ (l : List Group). map (held f n) (g ++ l)) none
+        ∙ ap (map (held f n)) (append-nil g)
+
+    level_now : (t u : Tale) → Reading n count flag s0 s1 rest t u → s1.last.level ≡ n
+    level_now t u so = ap (λ (s : State). s.last.level) so.state ∙ level_after s0 n so.items at
 
     -- at the end all is put
-    runs_whole : (more : Bool) (r2 : List ℕ) (t u v : Tale) → (g : List Item) → count ≤ 2 ^ 30 → Reading n count flag s0 s1 rest t u → u.input ≡ [] → Gives true n g rest r2 → items_of n r2 ≡ [] → more ≡ (flag && list_all is_done (replies_from s1 g)) → Says (said_for s1 g) u v → AddsOnly is_of_text u v →
+    runs_whole : (more : Bool) (r2 : List ℕ) (t u v : Tale) → (g : List Group) → count ≤ 2 ^ 30 → Reading n count flag s0 s1 rest t u → u.input ≡ [] → Gives true n g rest r2 → items_of n r2 ≡ [] → more ≡ (flag && list_all is_done (replies_from s1 g)) → Says (said_for s1 g) u v → AddsOnly is_of_text u v →
         RunsFrom n s0 t v × RunsWhole n more s0 t v
     runs_whole more r2 t u v g few so ended gives none holds says only =
         let left = left_items r2 u g ended gives none in
-        let same : said_for s1 (items_of n (rest ++ u.input)) ≡ said_for s1 g = ap (said_for s1) left in (
+        let here = level_now t u so in
+        let same : said_for s1 (items_of n (rest ++ u.input)) ≡ said_for s1 g = said_same s1 n _ _ here left in (
           runs_after (said_for s1 g) t u v (omega (arith, few)) so says only ([], same ∙ sym (append-nil (said_for s1 g))),
           record {
             whole = said_puts (said_for s1 g) u v says ∙ ap (λ (l : List ℕ). l ++ said_for s1 g) so.put
                 ∙ ap (λ (l : List ℕ). said_for s0 so.items ++ l) (sym same) ∙ sym (run_output s0 (items_of n t.input) ∙ all_said t u so);
             taken = says.input ∙ ended;
             few = omega (arith, few, so.total, ap length (said_takes (said_for s1 g) u v says ∙ so.takes));
-            done = holds ∙ ap (λ (h : List Item). flag && list_all is_done (replies_from s1 h)) (sym left) ∙ sym (ap (list_all is_done) (run_replies s0 (items_of n t.input)) ∙ all_done t u so);
+            done = holds ∙ ap (λ (h : List Reply). flag && list_all is_done h) (sym (replies_same s1 n _ _ here left)) ∙ sym (ap (list_all is_done) (run_replies s0 (items_of n t.input)) ∙ all_done t u so);
           },
         )
 
@@ -236,10 +237,6 @@ module _ (n : ℕ) (s0 : State) where
 
     pub goes_stopped_end : (o m k : Option Tale) → count ≤ 2 ^ 30 + 4096 → Goes (λ t u. Reading n count flag s0 s1 rest t u × (u.input ≡ [])) o m → Goes (FrontOfAll true n s1 rest) m k → Goes (RunsFrom n s0) o k
     goes_stopped_end o m k few so stopped = goes_then _ _ _ o m k so stopped (λ t u v so stopped. runs_stopped true t u v few so.1 so.0 stopped)
-
-pub whole_empty : (n : ℕ) → whole_items n [] ≡ []
-unfolding whole_items whole_lines
-whole_empty n = refl
 
 pub goes_left : (R S : Tale → Tale → Type 0) (o m : Option Tale) → Goes (λ t u. R t u × S t u) o m → Goes R o m
 goes_left R S o m both = goes_weaker _ _ o m both (λ t u (r, s). r)

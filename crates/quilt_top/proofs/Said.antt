@@ -1,5 +1,5 @@
 -- What is put, call after call.
-use Rattle.std.proofs.Common.{◌≡◌, ℕ, ◌+◌, ◌≤◌, arith, ◌&&◌, List, [], ◌∷◌, ◌++◌, length, suc, take, drop, refl, sym, ◌∙◌, ap, append_assoc, append-nil, Option, Result, Ok, Err, OnErr, IfOk, IfErr}
+use Rattle.std.proofs.Common.{◌≡◌, ℕ, ◌+◌, ◌≤◌, arith, ◌&&◌, List, [], ◌∷◌, ◌++◌, length, suc, take, drop, refl, sym, ◌∙◌, ap, append_assoc, append-nil, Option, unwrap_or, Result, Ok, Err, OnErr, IfOk, IfErr}
 use Rattle.std.specs.List.{list_all}
 use Rattle.std.proofs.lemmas.List.{take-take, drop-take, take-append-drop}
 use Rattle.std.proofs.lemmas.List.Folds.{list_all-append}
@@ -11,10 +11,13 @@ use Rattle.quilt_world.proofs.AddedLaws.{only-append, adds_only_both}
 use Rattle.quilt_world.proofs.TextLaws.{put_text, nothing_text}
 use Rattle.quilt_world.proofs.Told.{goes_then}
 use Rattle.quilt_world.proofs.StopLaws.{same_file}
-use Rattle.quilt_lang.specs.declared.item.Item.{Item}
+use Rattle.quilt_lang.specs.Items.{Group}
+use Rattle.quilt_lang.specs.Reading.{Same}
+use Rattle.quilt_map.proofs.TextLaws.{run_same, outcome_none}
 use Rattle.quilt_map.specs.Answers.{State, Reply}
-use Rattle.quilt_map.specs.Runs.{replies_of, text_of, output, is_done}
-use Rattle.quilt_top.specs.Replies.{reply_to, state_then, state_after, replies_from, said_for}
+use Rattle.quilt_map.specs.Runs.{Run, replies_of, form_in, text_of, output, is_done}
+use Rattle.quilt_types.specs.Layers.{Edition}
+use Rattle.quilt_top.specs.Replies.{held_at, reply_to, state_then, state_after, replies_from, said_for}
 use Rattle.quilt_top.specs.TextRun.{run_in}
 use Rattle.quilt_top.specs.Saying.{takes_none, Says, SaysFront}
 use Rattle.quilt_top.proofs.Events.{put_bytes-append}
@@ -71,36 +74,36 @@ pub text_quiet : (o m n : Option Tale) → Goes (AddsOnly is_of_text) o m → Go
 text_quiet o m n text adds = goes_then _ _ _ o m n text adds (λ t u v a b. adds_only_both is_of_text t u v a (nothing_text u v b))
 
 -- The replies to items, and then to more.
-pub state-append : (s : State) (g h : List Item) → state_after s (g ++ h) ≡ state_after (state_after s g) h
+pub state-append : (s : State) (g h : List Group) → state_after s (g ++ h) ≡ state_after (state_after s g) h
 state-append s [] h = refl
-state-append s (i ∷ g) h = state-append (state_then s i) g h
+state-append s (i ∷ g) h = state-append (state_then s (held_at s i)) g h
 
-pub replies-append : (s : State) (g h : List Item) → replies_from s (g ++ h) ≡ replies_from s g ++ replies_from (state_after s g) h
+pub replies-append : (s : State) (g h : List Group) → replies_from s (g ++ h) ≡ replies_from s g ++ replies_from (state_after s g) h
 replies-append s [] h = refl
-replies-append s (i ∷ g) h = ap (λ (l : List Reply). reply_to s i ∷ l) (replies-append (state_then s i) g h)
+replies-append s (i ∷ g) h = ap (λ (l : List Reply). reply_to s (held_at s i) ∷ l) (replies-append (state_then s (held_at s i)) g h)
 
 pub output-append : (a b : List Reply) → output (a ++ b) ≡ output a ++ output b
 output-append [] b = refl
 output-append (r ∷ a) b = ap (λ (l : List ℕ). text_of r ++ l) (output-append a b) ∙ sym (append_assoc (text_of r) (output a) (output b))
 
-pub said-append : (s : State) (g h : List Item) → said_for s (g ++ h) ≡ said_for s g ++ said_for (state_after s g) h
+pub said-append : (s : State) (g h : List Group) → said_for s (g ++ h) ≡ said_for s g ++ said_for (state_after s g) h
 unfolding said_for
 said-append s g h = ap output (replies-append s g h) ∙ output-append (replies_from s g) (replies_from (state_after s g) h)
 
-pub said_one : (s : State) (i : Item) → said_for s (i ∷ []) ≡ text_of (reply_to s i)
+pub said_one : (s : State) (i : Group) → said_for s (i ∷ []) ≡ text_of (reply_to s (held_at s i))
 unfolding said_for
-said_one s i = append-nil (text_of (reply_to s i))
+said_one s i = append-nil (text_of (reply_to s (held_at s i)))
 
 pub said_none : (s : State) → said_for s [] ≡ []
 unfolding said_for
 said_none s = refl
 
-pub length-replies : (s : State) (g : List Item) → length (replies_from s g) ≡ length g
+pub length-replies : (s : State) (g : List Group) → length (replies_from s g) ≡ length g
 length-replies s [] = refl
-length-replies s (i ∷ g) = ap suc (length-replies (state_then s i) g)
+length-replies s (i ∷ g) = ap suc (length-replies (state_then s (held_at s i)) g)
 
 -- whether none of the replies is a refusal, by parts
-pub done-append : (s : State) (g h : List Item) → list_all is_done (replies_from s (g ++ h)) ≡ (list_all is_done (replies_from s g) && list_all is_done (replies_from (state_after s g) h))
+pub done-append : (s : State) (g h : List Group) → list_all is_done (replies_from s (g ++ h)) ≡ (list_all is_done (replies_from s g) && list_all is_done (replies_from (state_after s g) h))
 done-append s g h = ap (list_all is_done) (replies-append s g h) ∙ list_all-append is_done (replies_from s g) (replies_from (state_after s g) h)
 
 pub either_way : {A E : Type 0} (r : Result A E) (P : A → Type 0) (Q X : Type 0) → IfOk r P → OnErr r Q → ((x : A) → P x → X) → (Q → X) → X
@@ -127,11 +130,33 @@ module _ {S : Type 0} (At : S → Type 0) (s : S) (at : At s) where
 
 -- ---- the replies by the definition of a run
 
-pub run_replies : (s : State) (g : List Item) → replies_of (run_in s g) ≡ replies_from s g
+pub run_replies : (s : State) (g : List Group) → replies_of (run_in s g) ≡ replies_from s g
 unfolding reply_to state_then
 run_replies s [] = refl
-run_replies s (i ∷ g) = ap (λ (l : List Reply). reply_to s i ∷ l) (run_replies (state_then s i) g)
+run_replies s (i ∷ g) = ap (λ (l : List Reply). reply_to s (held_at s i) ∷ l) (run_replies (state_then s (held_at s i)) g)
 
-pub run_output : (s : State) (g : List Item) → output (replies_of (run_in s g)) ≡ said_for s g
+pub run_output : (s : State) (g : List Group) → output (replies_of (run_in s g)) ≡ said_for s g
 unfolding said_for
 run_output s g = ap output (run_replies s g)
+
+-- ---- groups of lines that hold the same items
+
+pub replies_same : (s : State) (n : ℕ) (g h : List Group) → s.last.level ≡ n → Same n g h → replies_from s g ≡ replies_from s h
+replies_same s n g h at same =
+    sym (run_replies s g) ∙ ap (λ (r : Run). replies_of r) (run_same s.quota s.last s.work n g h at same) ∙ run_replies s h
+
+pub said_same : (s : State) (n : ℕ) (g h : List Group) → s.last.level ≡ n → Same n g h → said_for s g ≡ said_for s h
+unfolding said_for
+said_same s n g h at same = ap output (replies_same s n g h at same)
+
+-- no item changes the last edition
+last_then : (s : State) (i : Group) → (state_then s (held_at s i)).last ≡ s.last
+unfolding state_then
+last_then s i = ap (λ (o : Option Edition). unwrap_or o s.last) (outcome_none s i (form_in s.last i) refl)
+
+pub last_after : (s : State) (g : List Group) → (state_after s g).last ≡ s.last
+last_after s [] = refl
+last_after s (i ∷ g) = last_after (state_then s (held_at s i)) g ∙ last_then s i
+
+pub level_after : (s : State) (n : ℕ) (g : List Group) → s.last.level ≡ n → (state_after s g).last.level ≡ n
+level_after s n g at = ap (λ (e : Edition). e.level) (last_after s g) ∙ at

@@ -3,8 +3,7 @@ use Rattle.std.specs.Prelude.{◌≡◌, ℕ, Bool, ◌&&◌, List, ◌++◌, Op
 use Rattle.std.specs.List.{list_all}
 use Rattle.quilt_world.specs.Added.{AddsOnly, is_of_text}
 use Rattle.quilt_world.specs.Tale.{Tale, Goes, Begins}
-use Rattle.quilt_lang.specs.declared.item.Item.{Item}
-use Rattle.quilt_lang.specs.Items.{items_of}
+use Rattle.quilt_lang.specs.Items.{Group, items_of}
 use Rattle.quilt_lang.specs.Reading.{Gives, MayFollow}
 use Rattle.quilt_map.specs.Answers.{State}
 use Rattle.quilt_map.specs.Runs.{is_done}
@@ -13,7 +12,7 @@ use Rattle.quilt_top.specs.Saying.{Says}
 
 -- these items were given, answered and their replies put
 pub record Answered (ended : Bool) (n : ℕ) (so_far flag : Bool) (s0 s1 : State) (r0 r1 : List ℕ) (old new : Option Tale) : Type 0 where
-  pub items : List Item
+  pub items : List Group
   pub gives : Gives ended n items r0 r1
   pub state : s1 ≡ state_after s0 items
   pub said : Goes (Says (said_for s0 items)) old new

@@ -25,30 +25,30 @@ pub record IsNew (t : Tale) : Type 0 where
   pub log : t.log ≡ []
 
 -- the edition of a header with no tree
-abbrev pub plain_edition : ℕ → ℕ → Edition
-plain_edition number level = record { number = number; level = level; layers = finmap.empty }
+abbrev pub plain_edition : ℕ → ℕ → ℕ → Edition
+plain_edition format number level = record { format = format; number = number; level = level; layers = finmap.empty }
 
 -- the header of that edition
-abbrev pub plain_head : ℕ → ℕ → Head
-plain_head number level = record { edition = number; level = level; root = 0; height = 0; records = 0 }
+abbrev pub plain_head : ℕ → ℕ → ℕ → Head
+plain_head format number level = record { format = format; edition = number; level = level; root = 0; height = 0; records = 0 }
 
 -- what the page of the header says
 abbrev pub Heads : ℕ → List ℕ → Opened → Type 0
 Heads pages page opened.NotMap = ⊥
 Heads pages page opened.Damaged = (h : Head) → h.height ≡ 0 → IsHeader pages page h → ⊥
-Heads pages page (opened.Plain n level number) = (n ≡ pages) × IsHeader pages page (plain_head number level)
+Heads pages page (opened.Plain n format level number) = (n ≡ pages) × IsHeader pages page (plain_head format number level)
 
 -- what a file is
 abbrev pub Finds : Opened → Pages → Type 0
 Finds opened.NotMap start = IsNoMap start
 Finds opened.Damaged start = ((pages : ℕ) × IsMapFile start pages) × StandsForNothing start
-Finds (opened.Plain pages level number) start = IsMapFile start pages × StandsPlain start (plain_edition number level)
+Finds (opened.Plain pages format level number) start = IsMapFile start pages × StandsPlain start (plain_edition format number level)
 
 -- the numbers of a file that can be worked on
 abbrev pub InRange : Opened → Type 0
 InRange opened.NotMap = Unit {0}
 InRange opened.Damaged = Unit {0}
-InRange (opened.Plain pages level number) = (16 ≤ pages) × (pages ≤ 30000) × (1 ≤ level) × (level ≤ 12)
+InRange (opened.Plain pages format level number) = (16 ≤ pages) × (pages ≤ 30000) × (1 ≤ level) × (level ≤ 12)
 
 -- the state over an edition
 abbrev pub first_state : Edition → State

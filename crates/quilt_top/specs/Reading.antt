@@ -3,7 +3,7 @@ use Rattle.std.specs.Prelude.{◌≡◌, ℕ, Bool, false, List, ◌++◌, lengt
 use Rattle.std.specs.List.{list_all}
 use Rattle.quilt_world.specs.Added.{AddsOnly, AtEachTook, is_of_text}
 use Rattle.quilt_world.specs.Tale.{Tale, put_bytes, taken_bytes}
-use Rattle.quilt_lang.specs.declared.item.Item.{Item}
+use Rattle.quilt_lang.specs.Items.{Group}
 use Rattle.quilt_lang.specs.Reading.{Gives}
 use Rattle.quilt_map.specs.Answers.{State}
 use Rattle.quilt_map.specs.Runs.{is_done}
@@ -12,7 +12,7 @@ use Rattle.quilt_top.specs.TextRun.{PromptAt}
 
 -- so many bytes were taken, of them these items were given and answered, and the rest is kept
 pub record Reading (n count : ℕ) (flag : Bool) (s0 s1 : State) (rest : List ℕ) (old new : Tale) : Type 0 where
-  pub items : List Item
+  pub items : List Group
   pub taken : List ℕ
   pub text : AddsOnly is_of_text old new
   pub gives : Gives false n items taken rest

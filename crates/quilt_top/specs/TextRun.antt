@@ -5,13 +5,12 @@ use Rattle.quilt_world.specs.Added.{Only, AddsOnly, AtEachTook, is_of_pages, is_
 use Rattle.quilt_world.specs.Disk.{Log}
 use Rattle.quilt_world.specs.Tale.{Tale, put_bytes, taken_bytes, Begins}
 use Rattle.quilt_world.specs.declared.event.Event.TheVariants.{Took}
-use Rattle.quilt_lang.specs.declared.item.Item.{Item}
-use Rattle.quilt_lang.specs.Items.{items_of, whole_items}
+use Rattle.quilt_lang.specs.Items.{Group, items_of, whole_items}
 use Rattle.quilt_map.specs.Answers.{State}
 use Rattle.quilt_map.specs.Runs.{Run, run_of, replies_of, is_done, output}
 
 -- the run of these items from a state
-abbrev pub run_in : State → List Item → Run
+abbrev pub run_in : State → List Group → Run
 run_in s items = run_of s.quota s.last s.work items
 
 -- the replies to the whole items taken so far have been put, and no more

@@ -8,7 +8,7 @@ ghost use Rattle.quilt_top.specs.Saying.{Says, SaysFront};
 ghost use Rattle.quilt_top.specs.declared.halt.Halt.TheVariants as halts;
 ghost use Rattle.quilt_map.specs.Answers.{State, Refused};
 ghost use Rattle.quilt_map.specs.Runs.{text_of, is_done};
-ghost use Rattle.quilt_map.specs.Sessions.{world_of, level_of, IsAt};
+ghost use Rattle.quilt_map.specs.Sessions.{world_of, format_of, level_of, IsAt};
 ghost use Rattle.quilt_top.specs.Replies.{IsItem, reply_to, state_then};
 
 use crate::halt::Halt;
@@ -42,7 +42,7 @@ fn answer_item<W: World>(
     session: &mut Session<W>,
     item: &Item,
 ) -> Result<Answer, Halt>
-    requires { IsItem (level_of session.old) item.now }
+    requires { IsItem (format_of session.old) (level_of session.old) item.now }
     ensures text { IfOk result (λ a. (s : State) → IsAt session.old s → a.text ≡ text_of (reply_to s item.now)) }
     ensures done { IfOk result (λ a. (s : State) → IsAt session.old s → a.is_done ≡ is_done (reply_to s item.now)) }
     ensures at { OnOk result ((s : State) → IsAt session.old s → IsAt session.new (state_then s item.now)) }
@@ -52,7 +52,7 @@ fn answer_item<W: World>(
     ensures short { IfErr result (λ e. e ≡ halts.TooMuch → ⊥) }
     ensures world { world_of session.new ≡ world_of session.old }
 {
-    let command = match parse(alloc, item) {
+    let command = match parse(alloc, session.format(), item) {
         Ok(command) => command,
         Err(ParseErr::No(code)) => return Ok(refusal(alloc, code)?),
         Err(ParseErr::Memory) => return Err(Halt::Stopped(Stop::Memory)),
@@ -78,7 +78,7 @@ pub(crate) fn put_answer<W: World>(
     so_far: bool,
 ) -> Result<bool, Halt>
     requires open { (W.door (world_of session.old) ≡ doors.Ready) ⊎ (W.door (world_of session.old) ≡ doors.Made) }
-    requires item { IsItem (level_of session.old) item }
+    requires item { IsItem (format_of session.old) (level_of session.old) item }
     ensures later { W.faults (world_of session.old) ≤ W.faults (world_of session.new) }
     ensures device { IfErr result (λ e. e ≡ halts.Stopped stops.Device → Rose (W.faults (world_of session.old)) (W.faults (world_of session.new))) }
     ensures damaged { IfErr result (λ e. (page : ℕ) → e ≡ halts.Stopped (stops.Damaged page) → (s : State) → IsAt session.old s → ⊥) }

@@ -31,7 +31,14 @@ fn end_of(outcome: Result<bool, Halt>) -> End
 }
 
 /// Runs the input over a file whose last edition is empty.
-fn run_plain<W: World>(alloc: Global, world: W, pages: u32, level: u8, edition: u32) -> (End, W)
+fn run_plain<W: World>(
+    alloc: Global,
+    world: W,
+    pages: u32,
+    format: u8,
+    level: u8,
+    edition: u32,
+) -> (End, W)
     requires door { W.door world ≡ doors.Ready }
     requires pages { (16 ≤ pages) × (pages ≤ 30000) }
     requires level { (1 ≤ level) × (level ≤ 12) }
@@ -40,9 +47,9 @@ fn run_plain<W: World>(alloc: Global, world: W, pages: u32, level: u8, edition: 
     ensures device { result.0 ≡ ends.Device → Rose (W.faults world) (W.faults result.1) }
     ensures door { W.door result.1 ≡ W.door world }
     ensures ends { IsOneOf result.0 run_ends }
-    ensures runs { Goes (RunsPlain (plain_edition edition level) result.0) (W.told world) (W.told result.1) }
+    ensures runs { Goes (RunsPlain (plain_edition format edition level) result.0) (W.told world) (W.told result.1) }
 {
-    let mut session = match Session::start(alloc, world, pages, level, edition) {
+    let mut session = match Session::start(alloc, world, pages, format, level, edition) {
         Ok(session) => session,
         Err(world) => return (End::Memory, world),
     };
@@ -74,8 +81,9 @@ pub(crate) fn run_file<W: World>(alloc: Global, world: W, path: &str) -> (End, W
         Opened::Damaged => (End::Damaged { page: 0 }, world),
         Opened::Plain {
             pages,
+            format,
             level,
             edition,
-        } => run_plain(alloc, world, pages, level, edition),
+        } => run_plain(alloc, world, pages, format, level, edition),
     }
 }

@@ -43,7 +43,7 @@ fn answer_items<W: World>(
     ensures stopped { OnErr result ((s : State) → IsAt session.old s → Goes (FrontOfAll ended lines.old.level s lines.old.rest) (W.told (world_of session.old)) (W.told (world_of session.new))) }
 {
     let mut all_done = so_far;
-    'items: while let Some(item) = lines.next_item(ended)? {
+    'items: while let Some(item) = lines.next_item(session.format(), ended)? {
         all_done = put_answer(alloc, session, item, all_done)?;
     }
     Ok(all_done)

@@ -13,7 +13,7 @@ fn puts_a_reply_for_each_item(rt: HostRuntime) -> Result<(), Fail> {
         panic!(rt; "no file was there");
     };
     assert!(rt; put_all(&mut calm, b"ab").is_ok());
-    let Ok(mut session) = Session::start(rt.alloc(), calm, 16, 3, 0) else {
+    let Ok(mut session) = Session::start(rt.alloc(), calm, 16, 1, 3, 0) else {
         panic!(rt; "no memory");
     };
     assert_eq!(rt; run_text(rt.alloc(), &mut session), Ok(false));

@@ -13,7 +13,7 @@ returns-clause-ends g c =
 
 pub returns-clause-runs : goal.returns-clause-runs
 returns-clause-runs g c =
-    let first = plain_edition c.args.edition c.args.level in
+    let first = plain_edition c.args.format c.args.edition c.args.level in
     let at = c.in-Ok.ensures.at in
     rw (c.end_of-end.ensures, c.into_world.ensures, ← c.in-Ok.ensures.world)
     (plain_runs (level_of c.in-Ok.session) first c.run_text.result _ _ c.in-Ok.ensures.level (c.run_text.ensures.runs (first_state first) at)
