@@ -2,7 +2,11 @@ pub mod Cuts
 pub mod LineLaws
 pub mod Pieces
 pub mod Long
+pub mod Holding
+pub mod Recolours
 pub mod Remarks
+pub mod Rings
+pub mod Rows
 pub mod Names
 pub mod Numbers
 pub mod Slices

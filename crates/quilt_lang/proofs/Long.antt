@@ -1,5 +1,5 @@
 -- A line that is too long may be cut short, since only that it is too long is held.
-use Rattle.std.proofs.Common.{◌≡◌, inl, inr, ℕ, ◌+◌, ◌<◌, Bool, true, false, ◌==◌, nat_lt, List, [], ◌∷◌, ◌++◌, length, take, map, cond, subst, refl, sym, ◌∙◌, ap, arith, length-append, length-take, filter}
+use Rattle.std.proofs.Common.{◌≡◌, inl, inr, ℕ, ◌+◌, ◌<◌, ◌≤◌, Bool, true, false, ◌==◌, nat_lt, List, [], ◌∷◌, ◌++◌, length, take, map, cond, subst, refl, sym, ◌∙◌, ap, arith, length-append, length-take, filter}
 use Rattle.std.specs.List.{slice_split, onto_first}
 use Rattle.std.proofs.lemmas.List.Splits.{length-slice_split}
 use Rattle.std.proofs.lemmas.List.Elements.{All-head, All-tail}
@@ -8,10 +8,10 @@ use Rattle.std.proofs.lemmas.List.{get_or-take, take_all}
 use Rattle.quilt_lang.specs.declared.item.Item.{Item}
 use Rattle.quilt_lang.specs.declared.item.Item.TheVariants.{Long, Line}
 use Rattle.quilt_lang.specs.Items.{Group, line_limit, is_long, is_silent, lines_of, whole_lines, without_empty_end, without_last, groups_from, items_of, whole_items, held, held_as, asked, is_complete}
-use Rattle.quilt_lang.specs.Reading.{Unread, IsLine, Gives, item_of_line, begins_silent}
+use Rattle.quilt_lang.specs.Reading.{Unread, IsLine, Gives, Same, alone, kept_limit, is_some_line, begins_silent}
 use Rattle.quilt_lang.proofs.Cuts.{bool_cases}
-use Rattle.quilt_lang.proofs.Pieces.{gives_none, gives_then, gives_fed, rest_line}
-use Rattle.quilt_lang.proofs.LineLaws.{asked_none, groups_loud, complete_first}
+use Rattle.quilt_lang.proofs.Pieces.{same_by, gives_none, gives_then, gives_fed, rest_line}
+use Rattle.quilt_lang.proofs.LineLaws.{asked_none, groups_loud, complete_first, whole_none}
 
 -- onto the first part go the bytes before
 abbrev onto : List ℕ → List (List ℕ) → List (List ℕ)
@@ -63,24 +63,34 @@ long_onto front v long = lt-ltb line_limit (length (front ++ v)) (omega (arith, 
 long_loud : (line : List ℕ) → is_long line ≡ true → is_silent line ≡ false
 long_loud line long = rw long refl
 
-pub long_item : (n : ℕ) (line : List ℕ) → is_long line ≡ true → item_of_line n line ≡ Long
+pub long_item : (f n : ℕ) (line : List ℕ) → is_long line ≡ true → held f n (alone line) ≡ Long
 unfolding held
-long_item n line long = rw long refl
+long_item f n line long = rw long refl
 
-pub short_item : (n : ℕ) (line : List ℕ) → is_long line ≡ false → item_of_line n line ≡ Line line
+pub short_item : (f n : ℕ) (line : List ℕ) → is_long line ≡ false → held f n (alone line) ≡ Line line
 unfolding held
-short_item n line short =
-    let group : Group = record { line = line; more = [] } in
-    ap (λ (b : Bool). cond b Long (held_as n (asked n line) group)) short ∙ ap (λ (k : ℕ). held_as n k group) (asked_none n line)
+short_item f n line short =
+    ap (λ (b : Bool). cond b Long (held_as f n (asked n line) (alone line))) short ∙ ap (λ (k : ℕ). held_as f n k (alone line)) (asked_none n line)
 
-held_long : (n : ℕ) (line : List ℕ) (ls : List (List ℕ)) → is_long line ≡ true → map (held n) (groups_from n 0 (line ∷ ls)) ≡ Long ∷ map (held n) (groups_from n 0 ls)
-held_long n line ls long =
-    ap (map (held n)) (groups_loud n line ls (long_loud line long)) ∙ ap (λ (i : Item). i ∷ map (held n) (groups_from n 0 ls)) (long_item n line long)
+-- two lines that are too long hold the same
+same_long : (n : ℕ) (a b : List ℕ) (gs hs : List Group) → is_long a ≡ true → is_long b ≡ true → Same n gs hs → Same n (alone a ∷ gs) (alone b ∷ hs)
+same_long n a b gs hs long_a long_b so = λ f.
+    ap (λ (i : Item). i ∷ map (held f n) gs) (long_item f n a long_a ∙ sym (long_item f n b long_b)) ∙ ap (λ (is : List Item). held f n (alone b) ∷ is) (so f)
 
-held_onto : (n : ℕ) (front v : List ℕ) → IsLine front → line_limit < length front → items_of n (front ++ v) ≡ Long ∷ map (held n) (groups_from n 0 (later_of (pieces v)))
+groups_long : (n : ℕ) (line : List ℕ) (ls : List (List ℕ)) → is_long line ≡ true → groups_from n 0 (line ∷ ls) ≡ alone line ∷ groups_from n 0 ls
+groups_long n line ls long = groups_loud n line ls (long_loud line long)
+
+items_onto : (n : ℕ) (front v : List ℕ) → IsLine front → line_limit < length front →
+    items_of n (front ++ v) ≡ alone (front ++ first_of (pieces v)) ∷ groups_from n 0 (later_of (pieces v))
 unfolding items_of
-held_onto n front v none long =
-    rw (lines_onto front v none (omega (arith, long))) (held_long n (front ++ first_of (pieces v)) (later_of (pieces v)) (long_onto front (first_of (pieces v)) long))
+items_onto n front v none long =
+    rw (lines_onto front v none (omega (arith, long))) (groups_long n (front ++ first_of (pieces v)) (later_of (pieces v)) (long_onto front (first_of (pieces v)) long))
+
+items_same : (n : ℕ) (a b v : List ℕ) → IsLine a → IsLine b → line_limit < length a → line_limit < length b → Same n (items_of n (a ++ v)) (items_of n (b ++ v))
+items_same n a b v is_a is_b long_a long_b =
+    let later : List Group = groups_from n 0 (later_of (pieces v)) in
+    same_by n _ _ _ _ (items_onto n a v is_a long_a) (items_onto n b v is_b long_b)
+    (same_long n (a ++ first_of (pieces v)) (b ++ first_of (pieces v)) later later (long_onto a (first_of (pieces v)) long_a) (long_onto b (first_of (pieces v)) long_b) (λ f. refl))
 
 -- the whole lines, where a front goes onto the first
 lasts_onto : (front : List ℕ) (ps : List (List ℕ)) → without_last (onto front ps) ≡ onto front (without_last ps)
@@ -92,19 +102,19 @@ whole_onto : (front v : List ℕ) → IsLine front → whole_lines (front ++ v) 
 unfolding whole_lines
 whole_onto front v none = ap without_last (split_onto front v none) ∙ lasts_onto front (pieces v)
 
-abbrev whole_from : ℕ → List (List ℕ) → List Item
-whole_from n ls = map (held n) (filter (is_complete n) (groups_from n 0 ls))
+abbrev whole_from : ℕ → List (List ℕ) → List Group
+whole_from n ls = filter (is_complete n) (groups_from n 0 ls)
 
-whole_long : (n : ℕ) (line : List ℕ) (ls : List (List ℕ)) → is_long line ≡ true → whole_from n (line ∷ ls) ≡ Long ∷ whole_from n ls
-whole_long n line ls long =
-    ap (λ (g : List Group). map (held n) (filter (is_complete n) g)) (groups_loud n line ls (long_loud line long))
-    ∙ ap (map (held n)) (complete_first n line (groups_from n 0 ls)) ∙ ap (λ (i : Item). i ∷ whole_from n ls) (long_item n line long)
+whole_long : (n : ℕ) (line : List ℕ) (ls : List (List ℕ)) → is_long line ≡ true → whole_from n (line ∷ ls) ≡ alone line ∷ whole_from n ls
+whole_long n line ls long = ap (filter (is_complete n)) (groups_long n line ls long) ∙ complete_first n line (groups_from n 0 ls)
 
-whole_swap : (n : ℕ) (a b : List ℕ) (ls : List (List ℕ)) → line_limit < length a → line_limit < length b → whole_from n (onto a ls) ≡ whole_from n (onto b ls)
-whole_swap n a b [] long_a long_b = refl
-whole_swap n a b (l ∷ ls) long_a long_b = whole_long n (a ++ l) ls (long_onto a l long_a) ∙ sym (whole_long n (b ++ l) ls (long_onto b l long_b))
+whole_swap : (n : ℕ) (a b : List ℕ) (ls : List (List ℕ)) → line_limit < length a → line_limit < length b → Same n (whole_from n (onto a ls)) (whole_from n (onto b ls))
+whole_swap n a b [] long_a long_b = λ f. refl
+whole_swap n a b (l ∷ ls) long_a long_b =
+    same_by n _ _ _ _ (whole_long n (a ++ l) ls (long_onto a l long_a)) (whole_long n (b ++ l) ls (long_onto b l long_b))
+    (same_long n (a ++ l) (b ++ l) (whole_from n ls) (whole_from n ls) (long_onto a l long_a) (long_onto b l long_b) (λ f. refl))
 
-whole_same : (n : ℕ) (a b v : List ℕ) → IsLine a → IsLine b → line_limit < length a → line_limit < length b → whole_items n (a ++ v) ≡ whole_items n (b ++ v)
+whole_same : (n : ℕ) (a b v : List ℕ) → IsLine a → IsLine b → line_limit < length a → line_limit < length b → Same n (whole_items n (a ++ v)) (whole_items n (b ++ v))
 unfolding whole_items
 whole_same n a b v is_a is_b long_a long_b =
     rw (whole_onto a v is_a, whole_onto b v is_b) (whole_swap n a b (whole_lines v) long_a long_b)
@@ -115,7 +125,7 @@ line_front m text none = λ j d below. let less : j < m = omega (arith, below, l
 -- of a line that is too long any other such may be kept
 pub gives_long : (n : ℕ) (a b : List ℕ) → IsLine a → IsLine b → line_limit < length a → line_limit < length b → Gives false n [] a b
 gives_long n a b is_a is_b long_a long_b = record {
-  all = λ v may. held_onto n a v is_a long_a ∙ sym (held_onto n b v is_b long_b);
+  all = λ v may. items_same n a b v is_a is_b long_a long_b;
   whole = λ open_ v. whole_same n a b v is_a is_b long_a long_b;
 }
 
@@ -141,3 +151,15 @@ fed s old bytes joined piece new m rest loud none kept enough all read =
     let P : List ℕ → Type 0 = λ (l : List ℕ). Gives false n [] (l ++ piece) new in
     let Q : List ℕ → Type 0 = λ (l : List ℕ). Gives false n [] (old ++ piece) l in
     subst P rest (gives_then false n [] [] (old ++ piece) joined new (subst Q same first) (read n))
+
+-- a rest with no newline is kept up to what shows that it is too long
+pub kept_line : (text : List ℕ) → IsLine text → kept_limit text ≡ line_limit + 1
+kept_line text none = ap (λ (ls : List (List ℕ)). cond (is_some_line ls) (length text) (line_limit + 1)) (whole_none text none)
+
+-- what is kept is within what may be kept
+pub kept_within : (s : Unread) (old kept : List ℕ) → old ≡ s.rest → begins_silent old ≡ false → whole_items s.level s.rest ≡ [] → length kept ≤ line_limit + 1 →
+    length kept ≤ kept_limit s.rest
+kept_within s old kept rest loud none few =
+    let line : IsLine old = rest_line s.level old loud (ap (whole_items s.level) rest ∙ none) in
+    let same : kept_limit s.rest ≡ line_limit + 1 = ap kept_limit (sym rest) ∙ kept_line old line in
+    omega (arith, same, few)

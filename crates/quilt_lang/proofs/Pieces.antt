@@ -1,64 +1,89 @@
 -- What a text gives, line by line and piece by piece.
-use Rattle.std.proofs.Common.{◌≡◌, ℕ, ◌==◌, Option, Some, None, position, min, nat_lt, subst, inl, inr, ◌+◌, ◌<◌, ◌≤◌, Bool, true, false, List, [], ◌∷◌, ◌++◌, length, take, drop, refl, sym, ◌∙◌, ap, arith, append_assoc, append-nil}
+use Rattle.std.proofs.Common.{◌≡◌, ℕ, ◌==◌, Option, Some, None, position, min, nat_lt, subst, inl, inr, ◌+◌, ◌<◌, ◌≤◌, Bool, true, false, List, [], ◌∷◌, ◌++◌, length, take, drop, refl, sym, ◌∙◌, ap, arith, append_assoc, append-nil, map}
 use Rattle.std.proofs.lemmas.List.{drop_all, take_all, drop-drop}
 use Rattle.std.proofs.lemmas.Bool.{ltb-true, ltb-false}
 use Rattle.quilt_lang.specs.declared.item.Item.{Item}
-use Rattle.quilt_lang.specs.Items.{is_silent, items_of, whole_items}
-use Rattle.quilt_lang.specs.Reading.{Unread, Gives, HasNone, HasNewline, IsCut, IsLine, item_of_line, begins_silent}
+use Rattle.quilt_lang.specs.Items.{Group, is_silent, items_of, whole_items, held}
+use Rattle.quilt_lang.specs.Reading.{Unread, MayFollow, Gives, GivesItem, Same, HasNone, HasNewline, IsCut, IsLine, alone, begins_silent}
 use Rattle.quilt_lang.proofs.Cuts.{cut, bool_cases}
 use Rattle.quilt_lang.proofs.LineLaws.{silent_next, item_next, whole_silent_next, whole_item_next, whole_part, last_silent, last_item, items_none, begins_line}
 
-pub gives_none : (e : Bool) (n : ℕ) (a : List ℕ) → Gives e n [] a a
-gives_none e n a = record { all = λ v may. refl; whole = λ open_ v. refl }
+-- lists that hold the same
+pub same_is : (n : ℕ) (xs ys : List Group) → xs ≡ ys → Same n xs ys
+same_is n xs ys is = λ f. ap (map (held f n)) is
 
-pub gives_then : (e : Bool) (n : ℕ) (g h : List Item) (a b c : List ℕ) → Gives e n g a b → Gives e n h b c → Gives e n (g ++ h) a c
+pub same_then : (n : ℕ) (xs ys zs : List Group) → Same n xs ys → Same n ys zs → Same n xs zs
+same_then n xs ys zs first second = λ f. first f ∙ second f
+
+pub same_back : (n : ℕ) (xs ys : List Group) → Same n xs ys → Same n ys xs
+same_back n xs ys so = λ f. sym (so f)
+
+pub same_onto : (n : ℕ) (gs xs ys : List Group) → Same n xs ys → Same n (gs ++ xs) (gs ++ ys)
+same_onto n [] xs ys so = so
+same_onto n (g ∷ gs) xs ys so = λ f. ap (λ (l : List Item). held f n g ∷ l) (same_onto n gs xs ys so f)
+
+-- what equations carry
+pub same_by : (n : ℕ) (a xs b ys : List Group) → a ≡ xs → b ≡ ys → Same n xs ys → Same n a b
+same_by n a xs b ys first second so = λ f. ap (map (held f n)) first ∙ so f ∙ sym (ap (map (held f n)) second)
+
+pub gives_none : (e : Bool) (n : ℕ) (a : List ℕ) → Gives e n [] a a
+gives_none e n a = record { all = λ v may f. refl; whole = λ open_ v f. refl }
+
+pub gives_then : (e : Bool) (n : ℕ) (g h : List Group) (a b c : List ℕ) → Gives e n g a b → Gives e n h b c → Gives e n (g ++ h) a c
 gives_then e n g h a b c first second = record {
-  all = λ v may. first.all v may ∙ ap (λ (l : List Item). g ++ l) (second.all v may) ∙ sym (append_assoc g h (items_of n (c ++ v)));
-  whole = λ open_ v. first.whole open_ v ∙ ap (λ (l : List Item). g ++ l) (second.whole open_ v) ∙ sym (append_assoc g h (whole_items n (c ++ v)));
+  all = λ v may. same_then n _ _ _ (first.all v may) (same_then n _ _ _ (same_onto n g _ _ (second.all v may)) (same_is n _ _ (sym (append_assoc g h (items_of n (c ++ v))))));
+  whole = λ open_ v. same_then n _ _ _ (first.whole open_ v) (same_then n _ _ _ (same_onto n g _ _ (second.whole open_ v)) (same_is n _ _ (sym (append_assoc g h (whole_items n (c ++ v))))));
 }
 
+-- from equations of lists of lines
+pub gives_of : (e : Bool) (n : ℕ) (g : List Group) (a b : List ℕ) → ((v : List ℕ) → MayFollow e v → items_of n (a ++ v) ≡ g ++ items_of n (b ++ v)) →
+    (e ≡ false → (v : List ℕ) → whole_items n (a ++ v) ≡ g ++ whole_items n (b ++ v)) → Gives e n g a b
+gives_of e n g a b all whole = record { all = λ v may. same_is n _ _ (all v may); whole = λ open_ v. same_is n _ _ (whole open_ v) }
+
 -- what holds whatever follows holds where nothing follows
-pub gives_ended : (e : Bool) (n : ℕ) (g : List Item) (a b : List ℕ) → Gives false n g a b → Gives e n g a b
+pub gives_ended : (e : Bool) (n : ℕ) (g : List Group) (a b : List ℕ) → Gives false n g a b → Gives e n g a b
 gives_ended e n g a b so = record { all = λ v may. so.all v tt; whole = λ open_ v. so.whole refl v }
 
 pub gives_silent : (n : ℕ) (line u : List ℕ) → IsLine line → is_silent line ≡ true → Gives false n [] (line ++ 10 ∷ u) u
-gives_silent n line u none silent = record {
-  all = λ v may. rw (append_assoc line (10 ∷ u) v) (silent_next n line (u ++ v) none silent);
-  whole = λ open_ v. rw (append_assoc line (10 ∷ u) v) (whole_silent_next n line (u ++ v) none silent);
-}
+gives_silent n line u none silent =
+    gives_of false n [] (line ++ 10 ∷ u) u
+    (λ v may. rw (append_assoc line (10 ∷ u) v) (silent_next n line (u ++ v) none silent))
+    (λ open_ v. rw (append_assoc line (10 ∷ u) v) (whole_silent_next n line (u ++ v) none silent))
 
-pub gives_item : (n : ℕ) (line u : List ℕ) → IsLine line → is_silent line ≡ false → Gives false n (item_of_line n line ∷ []) (line ++ 10 ∷ u) u
-gives_item n line u none loud = record {
-  all = λ v may. rw (append_assoc line (10 ∷ u) v) (item_next n line (u ++ v) none loud);
-  whole = λ open_ v. rw (append_assoc line (10 ∷ u) v) (whole_item_next n line (u ++ v) none loud);
-}
+pub gives_item : (n : ℕ) (line u : List ℕ) → IsLine line → is_silent line ≡ false → Gives false n (alone line ∷ []) (line ++ 10 ∷ u) u
+gives_item n line u none loud =
+    gives_of false n (alone line ∷ []) (line ++ 10 ∷ u) u
+    (λ v may. rw (append_assoc line (10 ∷ u) v) (item_next n line (u ++ v) none loud))
+    (λ open_ v. rw (append_assoc line (10 ∷ u) v) (whole_item_next n line (u ++ v) none loud))
 
 -- the last line, where the input has ended
-pub gives_last : (n : ℕ) (part : List ℕ) → IsLine part → is_silent part ≡ false → Gives true n (item_of_line n part ∷ []) part []
-gives_last n part none loud = record {
-  all = λ v may. rw (may, append-nil part, items_none n) (last_item n part none loud);
-  whole = λ open_ v. absurd (let no : true ≡ false = open_ in cc);
-}
+pub gives_last : (n : ℕ) (part : List ℕ) → IsLine part → is_silent part ≡ false → Gives true n (alone part ∷ []) part []
+gives_last n part none loud =
+    gives_of true n (alone part ∷ []) part [] (λ v may. rw (may, append-nil part, items_none n) (last_item n part none loud))
+    (λ open_ v. absurd (let bad : true ≡ false = open_ in cc))
+
+moved_back : (n : ℕ) (g : List Group) (a b c : List ℕ) → a ≡ b → Gives false n g b c → Gives false n g a c
+moved_back n g a b c is so = let P : List ℕ → Type 0 = λ (t : List ℕ). Gives false n g t c in subst P (sym is) so
 
 -- a text that begins with a line's bytes and a newline
 pub gives_cut_silent : (n : ℕ) (text : List ℕ) (k : ℕ) → HasNewline text k → is_silent (take k text) ≡ true → Gives false n [] text (drop (k + 1) text)
 gives_cut_silent n text k at silent =
     let so = gives_silent n (take k text) (drop (k + 1) text) at.before silent in
-    record { all = λ v may. ap (λ (t : List ℕ). items_of n (t ++ v)) at.is ∙ so.all v may; whole = λ open_ v. ap (λ (t : List ℕ). whole_items n (t ++ v)) at.is ∙ so.whole open_ v }
+    moved_back n _ text (take k text ++ 10 ∷ drop (k + 1) text) (drop (k + 1) text) at.is so
 
-pub gives_cut_item : (n : ℕ) (text : List ℕ) (k : ℕ) → HasNewline text k → is_silent (take k text) ≡ false → Gives false n (item_of_line n (take k text) ∷ []) text (drop (k + 1) text)
+pub gives_cut_item : (n : ℕ) (text : List ℕ) (k : ℕ) → HasNewline text k → is_silent (take k text) ≡ false → Gives false n (alone (take k text) ∷ []) text (drop (k + 1) text)
 gives_cut_item n text k at loud =
     let so = gives_item n (take k text) (drop (k + 1) text) at.before loud in
-    record { all = λ v may. ap (λ (t : List ℕ). items_of n (t ++ v)) at.is ∙ so.all v may; whole = λ open_ v. ap (λ (t : List ℕ). whole_items n (t ++ v)) at.is ∙ so.whole open_ v }
+    moved_back n _ text (take k text ++ 10 ∷ drop (k + 1) text) (drop (k + 1) text) at.is so
 
 pub begins_cut : (text : List ℕ) (k : ℕ) → HasNewline text k → begins_silent text ≡ is_silent (take k text)
 begins_cut text k at = ap begins_silent at.is ∙ begins_line (take k text) (drop (k + 1) text) at.before
 
 -- a piece more
-pub gives_fed : (n : ℕ) (g : List Item) (a b p : List ℕ) → Gives false n g a b → Gives false n g (a ++ p) (b ++ p)
+pub gives_fed : (n : ℕ) (g : List Group) (a b p : List ℕ) → Gives false n g a b → Gives false n g (a ++ p) (b ++ p)
 gives_fed n g a b p so = record {
-  all = λ v may. rw (append_assoc a p v, append_assoc b p v) (so.all (p ++ v) tt);
-  whole = λ open_ v. rw (append_assoc a p v, append_assoc b p v) (so.whole refl (p ++ v));
+  all = λ v may f. rw (append_assoc a p v, append_assoc b p v) (so.all (p ++ v) tt f);
+  whole = λ open_ v f. rw (append_assoc a p v, append_assoc b p v) (so.whole refl (p ++ v) f);
 }
 
 -- a text with no whole item that does not begin with a silent line has no newline
@@ -69,13 +94,15 @@ rest_line n text loud none = no_newline n text (position (λ c. c == 10) text) (
     no_newline n text None at loud none = at
     no_newline n text (Some k) at loud none =
         let so = gives_cut_item n text k at (sym (begins_cut text k at) ∙ loud) in
-        let e : [] ≡ item_of_line n (take k text) ∷ whole_items n (drop (k + 1) text ++ []) =
-        sym none ∙ ap (whole_items n) (sym (append-nil text)) ∙ so.whole refl [] in
+        let is : Same n (whole_items n text) (alone (take k text) ∷ whole_items n (drop (k + 1) text ++ [])) =
+        rw (append-nil text) at (so.whole refl []) in
+        let e : [] ≡ held 1 n (alone (take k text)) ∷ map (held 1 n) (whole_items n (drop (k + 1) text ++ [])) =
+        ap (map (held 1 n)) (sym none) ∙ is 1 in
         absurd (cc)
 
 -- the last line, where the input has ended
 pub gives_part : (n : ℕ) (text : List ℕ) → IsLine text → is_silent text ≡ false →
-    Gives true n (item_of_line n (take (length text) text) ∷ []) text (drop (length text + 1) text)
+    Gives true n (alone (take (length text) text) ∷ []) text (drop (length text + 1) text)
 gives_part n text none loud = rw (take_all (length text) text (omega arith), drop_all (length text + 1) text (omega arith)) (gives_last n text none loud)
 
 pub none_open : (n : ℕ) (text : List ℕ) → IsLine text → HasNone false n text
@@ -92,17 +119,20 @@ drop_min m l = elim (bool_cases (nat_lt (length l) m)) [
 ]
 
 -- the next item, and the lines behind it that begin none
-pub given : (e : Bool) (s : Unread) (i : Item) (bytes behind : List ℕ) (from m k j : ℕ) → drop from bytes ≡ s.rest →
-    ((n : ℕ) → i ≡ item_of_line n (take k s.rest)) → ((n : ℕ) → Gives e n (item_of_line n (take k s.rest) ∷ []) s.rest (drop (k + 1) s.rest)) →
+pub given : (e : Bool) (f : ℕ) (s : Unread) (i : Item) (bytes behind : List ℕ) (from m k j : ℕ) → drop from bytes ≡ s.rest →
+    ((f n : ℕ) → i ≡ held f n (alone (take k s.rest))) → ((n : ℕ) → Gives e n (alone (take k s.rest) ∷ []) s.rest (drop (k + 1) s.rest)) →
     m ≡ min (length s.rest) (k + 1) → behind ≡ drop (from + m) bytes → ((n : ℕ) → Gives false n [] behind (drop j behind)) →
-    Gives e s.level (i ∷ []) s.rest (drop (from + m + j) bytes)
-given e s i bytes behind from m k j rest is one least back silent =
+    GivesItem e s.level f i s.rest (drop (from + m + j) bytes)
+given e f s i bytes behind from m k j rest is one least back silent =
     let n = s.level in
     let same : behind ≡ drop (k + 1) s.rest =
     back ∙ sym (drop-drop m from bytes) ∙ ap (drop m) rest ∙ ap (λ (x : ℕ). drop x s.rest) least ∙ drop_min (k + 1) s.rest in
     let new : drop j behind ≡ drop (from + m + j) bytes = ap (drop j) back ∙ drop-drop j (from + m) bytes in
-    let P : Item → Type 0 = λ (x : Item). Gives e n (x ∷ []) s.rest (drop (k + 1) s.rest) in
-    let first : Gives e n (i ∷ []) s.rest (drop (k + 1) s.rest) = subst P (sym (is n)) (one n) in
-    let Q : List ℕ → Type 0 = λ (l : List ℕ). Gives e n (i ∷ []) s.rest l in
+    let group : Group = alone (take k s.rest) in
+    let Q : List ℕ → Type 0 = λ (l : List ℕ). Gives e n (group ∷ []) s.rest l in
     let R : List ℕ → Type 0 = λ (l : List ℕ). Gives false n [] behind l in
-    gives_then e n (i ∷ []) [] s.rest behind (drop (from + m + j) bytes) (subst Q (sym same) first) (gives_ended e n [] behind (drop (from + m + j) bytes) (subst R new (silent n)))
+    record {
+      group = group;
+      is = is f n;
+      gives = gives_then e n (group ∷ []) [] s.rest behind (drop (from + m + j) bytes) (subst Q (sym same) (one n)) (gives_ended e n [] behind (drop (from + m + j) bytes) (subst R new (silent n)));
+    }

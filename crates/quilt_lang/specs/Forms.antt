@@ -1,18 +1,21 @@
 -- The command that an item spells, or the code of its refusal.
-use Rattle.std.specs.Prelude.{◌≡◌, ℕ, ◌==◌, List, [], ◌∷◌, ◌++◌, length, Option, Some, None, if◌then◌else◌, codes, ℤ, Result, Ok, Err, find, option_map, flat_map}
+use Rattle.std.specs.Prelude.{◌≡◌, ℕ, ◌-◌, ◌/◌, ◌%◌, ◌&&◌, ◌==◌, nat_le, List, [], ◌∷◌, ◌++◌, length, Option, Some, None, if◌then◌else◌, codes, ℤ, Result, Ok, Err, find, option_map, flat_map}
 use Rattle.std.specs.List.{list_all, range_with_len}
 use Rattle.std.specs.Str.{bytes_eq}
 use Rattle.quilt_types.specs.declared.plane.Pixel.{Pixel}
 use Rattle.quilt_types.specs.declared.plane.Window.{Window}
 use Rattle.quilt_types.specs.declared.plane.Colour.{Colour}
 use Rattle.quilt_types.specs.declared.plane.Point.{Point}
+use Rattle.quilt_types.specs.declared.plane.Corner.{Corner}
+use Rattle.quilt_types.specs.Layers.{colours}
 use Rattle.quilt_types.specs.declared.code.Code.{Code}
 use Rattle.quilt_types.specs.declared.code.Code.TheVariants as codes_of
 use Rattle.quilt_lang.specs.declared.command.Command.{Command}
 use Rattle.quilt_lang.specs.declared.command.Command.TheVariants as commands
 use Rattle.quilt_lang.specs.declared.item.Item.{Item}
-use Rattle.quilt_lang.specs.declared.item.Item.TheVariants.{Long, Line, Rows, PointLines}
+use Rattle.quilt_lang.specs.declared.item.Item.TheVariants.{Long, Line, Rows, PointLines, RingLines}
 use Rattle.quilt_lang.specs.Items.{Group, held, is_plain, words_of}
+use Rattle.quilt_lang.specs.Built.{is_built}
 use Rattle.quilt_lang.specs.Spelling.{number, signed, name}
 
 -- what an argument may be
@@ -33,8 +36,9 @@ coordinate = A_number 0 65535
 abbrev pub extent : Argument
 extent = A_number 1 65535
 
-abbrev pub colour : Argument
-colour = A_number 0 255
+-- a colour of the format
+abbrev pub colour : ℕ → Argument
+colour f = A_number 0 (colours f - 1)
 
 -- a label or an id
 abbrev pub label : Argument
@@ -56,6 +60,7 @@ over x y w h = record { x = x; y = y; w = w; h = h }
 pub record Further : Type 0 where
   pub rows : Option (List ℕ)
   pub points : Option (List Point)
+  pub rings : Option (List (List Corner))
 
 -- a command's word, its arguments, and the command that they make with the further lines
 pub record Entry : Type 0 where
@@ -68,7 +73,8 @@ region_command more (Called a ∷ Number c ∷ []) = Some (commands.Region a (re
 region_command more vs = None
 
 abbrev pub points_command : Further → List Value → Option Command
-points_command more (Called p ∷ []) = Some (commands.Points p)
+points_command more (Called p ∷ []) = Some (commands.Points p 1)
+points_command more (Called p ∷ Number b ∷ []) = Some (commands.Points p b)
 points_command more vs = None
 
 abbrev pub lines_command : Further → List Value → Option Command
@@ -203,23 +209,73 @@ abbrev pub publish_command : Further → List Value → Option Command
 publish_command more ([]) = Some (commands.Publish)
 publish_command more vs = None
 
+abbrev pub upgrade_command : Further → List Value → Option Command
+upgrade_command more ([]) = Some (commands.Upgrade)
+upgrade_command more vs = None
+
+abbrev pub polygon_command : Further → List Value → Option Command
+polygon_command more (Called a ∷ Number c ∷ Number k ∷ []) = Some (commands.Polygon a (record { 0 = c }) more.rings)
+polygon_command more vs = None
+
+abbrev pub rank_command : Further → List Value → Option Command
+rank_command more (Called l ∷ Number x ∷ Number y ∷ Number k ∷ []) = Some (commands.Rank l (at x y) k)
+rank_command more vs = None
+
+abbrev pub crossings_command : Further → List Value → Option Command
+crossings_command more (Called l ∷ Called m ∷ []) = Some (commands.Crossings l m)
+crossings_command more vs = None
+
 abbrev pub revert_command : Further → List Value → Option Command
 revert_command more ([]) = Some (commands.Revert)
 revert_command more vs = None
 
--- the commands that are built
-abbrev pub table : List Entry
-table =
-    record { word = codes "region"; arguments = A_name ∷ colour ∷ []; command = region_command }
-    ∷ record { word = codes "set"; arguments = A_name ∷ pixel ++ colour ∷ []; command = set_command }
+-- all commands but `recolour` and `points`
+abbrev pub table : ℕ → List Entry
+table f =
+    record { word = codes "region"; arguments = A_name ∷ colour f ∷ []; command = region_command }
+    ∷ record { word = codes "lines"; arguments = A_name ∷ A_number 1 32 ∷ []; command = lines_command }
+    ∷ record { word = codes "drop"; arguments = A_name ∷ []; command = drop_command }
+    ∷ record { word = codes "copy"; arguments = A_name ∷ A_name ∷ []; command = copy_command }
+    ∷ record { word = codes "layers"; arguments = []; command = layers_command }
+    ∷ record { word = codes "blocks"; arguments = A_name ∷ []; command = blocks_command }
+    ∷ record { word = codes "records"; arguments = []; command = records_command }
+    ∷ record { word = codes "set"; arguments = A_name ∷ pixel ++ colour f ∷ []; command = set_command }
+    ∷ record { word = codes "rect"; arguments = A_name ∷ window ++ colour f ∷ []; command = rect_command }
+    ∷ record { word = codes "raster"; arguments = A_name ∷ []; command = raster_command }
     ∷ record { word = codes "at"; arguments = A_name ∷ pixel; command = at_command }
     ∷ record { word = codes "show"; arguments = A_name ∷ window; command = show_command }
+    ∷ record { word = codes "leaves"; arguments = A_name ∷ []; command = leaves_command }
+    ∷ record { word = codes "union"; arguments = A_name ∷ A_name ∷ A_name ∷ []; command = union_command }
+    ∷ record { word = codes "inter"; arguments = A_name ∷ A_name ∷ A_name ∷ []; command = inter_command }
+    ∷ record { word = codes "diff"; arguments = A_name ∷ A_name ∷ A_name ∷ []; command = diff_command }
+    ∷ record { word = codes "window"; arguments = A_name ∷ window ++ A_name ∷ []; command = window_command }
+    ∷ record { word = codes "shift"; arguments = A_name ∷ A_signed ∷ A_signed ∷ A_name ∷ []; command = shift_command }
+    ∷ record { word = codes "buffer"; arguments = A_name ∷ coordinate ∷ A_name ∷ []; command = buffer_command }
+    ∷ record { word = codes "area"; arguments = A_name ∷ colour f ∷ []; command = area_command }
+    ∷ record { word = codes "perimeter"; arguments = A_name ∷ colour f ∷ []; command = perimeter_command }
+    ∷ record { word = codes "put"; arguments = A_name ∷ pixel ++ label ∷ []; command = put_command }
+    ∷ record { word = codes "del"; arguments = A_name ∷ pixel; command = del_command }
+    ∷ record { word = codes "scatter"; arguments = A_name ∷ A_number 1 100000 ∷ []; command = scatter_command }
+    ∷ record { word = codes "find"; arguments = A_name ∷ pixel; command = find_command }
+    ∷ record { word = codes "within"; arguments = A_name ∷ window; command = within_command }
+    ∷ record { word = codes "line"; arguments = A_name ∷ label ∷ pixel ++ pixel; command = line_command }
+    ∷ record { word = codes "unline"; arguments = A_name ∷ label ∷ []; command = unline_command }
+    ∷ record { word = codes "cross"; arguments = A_name ∷ window; command = cross_command }
+    ∷ record { word = codes "clip"; arguments = A_name ∷ window; command = clip_command }
+    ∷ record { word = codes "nearest"; arguments = A_name ∷ pixel; command = nearest_command }
+    ∷ record { word = codes "over"; arguments = A_name ∷ A_name ∷ []; command = over_command }
     ∷ record { word = codes "edition"; arguments = []; command = edition_command }
+    ∷ record { word = codes "publish"; arguments = []; command = publish_command }
+    ∷ record { word = codes "upgrade"; arguments = []; command = upgrade_command }
+    ∷ record { word = codes "revert"; arguments = []; command = revert_command }
+    ∷ record { word = codes "polygon"; arguments = A_name ∷ colour f ∷ A_number 1 1000 ∷ []; command = polygon_command }
+    ∷ record { word = codes "rank"; arguments = A_name ∷ pixel ++ A_number 1 100000 ∷ []; command = rank_command }
+    ∷ record { word = codes "crossings"; arguments = A_name ∷ A_name ∷ []; command = crossings_command }
     ∷ []
 
 -- a `recolour` has 1 to 16 pairs
-abbrev pub recolour_arguments : ℕ → List Argument
-recolour_arguments pairs = A_name ∷ A_name ∷ flat_map (λ i. colour ∷ colour ∷ []) (range_with_len 0 pairs)
+abbrev pub recolour_arguments : ℕ → ℕ → List Argument
+recolour_arguments f pairs = A_name ∷ A_name ∷ flat_map (λ i. colour f ∷ colour f ∷ []) (range_with_len 0 pairs)
 
 abbrev pub pairs_of : List Value → List (Colour × Colour)
 pairs_of (Number o ∷ Number c ∷ vs) = (record { 0 = o }, record { 0 = c }) ∷ pairs_of vs
@@ -229,8 +285,15 @@ abbrev pub recolour_command : Further → List Value → Option Command
 recolour_command more (Called a ∷ Called c ∷ vs) = Some (commands.Recolour a c (pairs_of vs))
 recolour_command more vs = None
 
-abbrev pub recolour_entry : ℕ → Entry
-recolour_entry pairs = record { word = codes "recolour"; arguments = recolour_arguments pairs; command = recolour_command }
+abbrev pub recolour_entry : ℕ → ℕ → Entry
+recolour_entry f pairs = record { word = codes "recolour"; arguments = recolour_arguments f pairs; command = recolour_command }
+
+-- how many points a block may hold can be left out
+abbrev pub points_arguments : ℕ → List Argument
+points_arguments count = A_name ∷ (if count == 1 then [] else A_number 1 16 ∷ [])
+
+abbrev pub points_entry : ℕ → Entry
+points_entry count = record { word = codes "points"; arguments = points_arguments count; command = points_command }
 
 infixl 10 ◌>>=◌
 abbrev pub ◌>>=◌ : {A B : Type 0} → Result A Code → (A → Result B Code) → Result B Code
@@ -244,9 +307,17 @@ or_err code (Some x) = Ok x
 abbrev pub with_count : ℕ → Entry → Result Entry Code
 with_count count e = if length e.arguments == count then Ok e else Err codes_of.Count
 
--- the entry of a word that so many words follow
-abbrev pub entry_of : List ℕ → ℕ → Result Entry Code
-entry_of word count = or_err codes_of.Word (find (λ e. bytes_eq e.word word) table) >>= with_count count
+-- the entry of a word that so many words follow, in a format, of all commands
+abbrev pub entry_in_all : ℕ → List ℕ → ℕ → Result Entry Code
+entry_in_all f word count =
+    if bytes_eq word (codes "recolour")
+    then (if nat_le 4 count && nat_le count 34 && (count % 2 == 0) then Ok (recolour_entry f ((count - 2) / 2)) else Err codes_of.Count)
+    else if bytes_eq word (codes "points") then with_count count (points_entry count)
+    else (or_err codes_of.Word (find (λ e. bytes_eq e.word word) (table f)) >>= with_count count)
+
+-- the entry of a word that so many words follow, where its command is built
+abbrev pub entry_of : ℕ → List ℕ → ℕ → Result Entry Code
+entry_of f word count = if is_built word then entry_in_all f word count else Err codes_of.Word
 
 abbrev pub argument_value : Argument → List ℕ → Result Value Code
 argument_value A_name word = or_err codes_of.Name (option_map Called (name word))
@@ -259,21 +330,28 @@ values_of [] words = Ok []
 values_of (a ∷ rest) [] = Ok []
 values_of (a ∷ rest) (w ∷ ws) = argument_value a w >>= λ v. values_of rest ws >>= λ vs. Ok (v ∷ vs)
 
-unfoldable pub form_of_words : Further → List (List ℕ) → Result Command Code
-form_of_words more [] = Err codes_of.Word
-form_of_words more (word ∷ words) =
-    entry_of word (length words) >>= λ e. values_of e.arguments words >>= λ vs. or_err codes_of.Word (e.command more vs)
+-- what words spell, where all commands are built
+unfoldable pub form_in_all : ℕ → Further → List (List ℕ) → Result Command Code
+form_in_all f more [] = Err codes_of.Word
+form_in_all f more (word ∷ words) =
+    entry_in_all f word (length words) >>= λ e. values_of e.arguments words >>= λ vs. or_err codes_of.Word (e.command more vs)
 
-abbrev pub form_of_line : List ℕ → Further → Result Command Code
-form_of_line line more = if list_all is_plain line then form_of_words more (words_of line) else Err codes_of.Bytes
+unfoldable pub form_of_words : ℕ → Further → List (List ℕ) → Result Command Code
+form_of_words f more [] = Err codes_of.Word
+form_of_words f more (word ∷ words) =
+    entry_of f word (length words) >>= λ e. values_of e.arguments words >>= λ vs. or_err codes_of.Word (e.command more vs)
 
--- what an item spells
-unfoldable pub form : Item → Result Command Code
-form Long = Err codes_of.Long
-form (Line line) = form_of_line line (record { rows = None; points = None })
-form (Rows line rows) = form_of_line line (record { rows = rows; points = None })
-form (PointLines line points) = form_of_line line (record { rows = None; points = points })
+abbrev pub form_of_line : ℕ → List ℕ → Further → Result Command Code
+form_of_line f line more = if list_all is_plain line then form_of_words f more (words_of line) else Err codes_of.Bytes
 
--- some item of a text at this level spells the command
-abbrev pub Spelled : ℕ → Command → Type 0
-Spelled n command = (group : Group) × (form (held n group) ≡ Ok command)
+-- what an item spells in a format
+unfoldable pub form : ℕ → Item → Result Command Code
+form f Long = Err codes_of.Long
+form f (Line line) = form_of_line f line (record { rows = None; points = None; rings = None })
+form f (Rows line rows) = form_of_line f line (record { rows = rows; points = None; rings = None })
+form f (PointLines line points) = form_of_line f line (record { rows = None; points = points; rings = None })
+form f (RingLines line rings) = form_of_line f line (record { rows = None; points = None; rings = rings })
+
+-- some item of a text at this level spells the command in this format
+abbrev pub Spelled : ℕ → ℕ → Command → Type 0
+Spelled f n command = (group : Group) × (form f (held f n group) ≡ Ok command)

@@ -1,11 +1,13 @@
 -- The items of a text: lines, each with the further lines that belong to it.
-use Rattle.std.specs.Prelude.{ℕ, zero, suc, ◌*◌, Bool, true, false, ◌&&◌, ◌||◌, not, ◌==◌, nat_le, nat_lt, List, [], ◌∷◌, ◌++◌, length, map, filter, take, Option, Some, None, if◌then◌else◌, codes, option_map, option_and_then}
+use Rattle.std.specs.Prelude.{ℕ, zero, suc, ◌*◌, Bool, true, false, ◌&&◌, ◌||◌, not, ◌==◌, nat_le, nat_lt, List, [], ◌∷◌, ◌++◌, length, filter, flat_map, take, Option, Some, None, if◌then◌else◌, codes, unwrap_or, option_map, option_and_then}
 use Rattle.std.specs.List.{list_all, slice_split}
 use Rattle.std.specs.Str.{bytes_eq}
 use Rattle.quilt_types.specs.Plane.{side}
 use Rattle.quilt_types.specs.declared.plane.Point.{Point}
+use Rattle.quilt_types.specs.declared.plane.Corner.{Corner}
 use Rattle.quilt_lang.specs.declared.item.Item.{Item}
-use Rattle.quilt_lang.specs.declared.item.Item.TheVariants.{Long, Line, Rows, PointLines}
+use Rattle.quilt_lang.specs.declared.item.Item.TheVariants.{Long, Line, Rows, PointLines, RingLines}
+use Rattle.quilt_lang.specs.Built.{is_built}
 use Rattle.quilt_lang.specs.Spelling.{number, row}
 
 abbrev pub is_empty : List ℕ → Bool
@@ -44,9 +46,21 @@ is_remark ((c ∷ cs) ∷ ws) = c == 35
 abbrev pub is_silent : List ℕ → Bool
 is_silent line = not (is_long line) && list_all is_plain line && is_remark (words_of line)
 
--- how many further lines the words ask for: none, until a command that takes further lines is built
+-- how many list lines or ring lines the words ask for
+abbrev pub listed_by : List (List ℕ) → ℕ
+listed_by (w ∷ p ∷ k ∷ []) = if bytes_eq w (codes "scatter") then unwrap_or (number 1 100000 k) 0 else 0
+listed_by (w ∷ p ∷ c ∷ k ∷ []) = if bytes_eq w (codes "polygon") then unwrap_or (number 1 1000 k) 0 else 0
+listed_by ws = 0
+
+-- how many further lines the words ask for, where all commands are built
+abbrev pub asked_in_all : ℕ → List (List ℕ) → ℕ
+asked_in_all n [] = 0
+asked_in_all n (w ∷ ws) = if bytes_eq w (codes "raster") then side n else listed_by (w ∷ ws)
+
+-- how many further lines the words ask for: none, where their command is not built
 abbrev pub asked_by : ℕ → List (List ℕ) → ℕ
-asked_by n ws = 0
+asked_by n [] = 0
+asked_by n (w ∷ ws) = if is_built w then asked_in_all n (w ∷ ws) else 0
 
 abbrev pub asked : ℕ → List ℕ → ℕ
 asked n line = if is_long line || not (list_all is_plain line) then 0 else asked_by n (words_of line)
@@ -80,14 +94,19 @@ whole_lines text = without_last (slice_split (λ c. c == 10) text)
 
 -- What an item holds: of a line that is too long only that it is, and of further lines what they spell.
 
--- the colours of all rows, where each is there and well formed
-abbrev pub rows_joined : ℕ → List (List ℕ) → Option (List ℕ)
-rows_joined width [] = Some []
-rows_joined width (line ∷ lines) =
-    if length line == 2 * width then option_and_then (λ cs. option_map (λ rest. cs ++ rest) (rows_joined width lines)) (row line) else None
+-- two bytes a colour, the high one first: in format 1 a row has the low one alone
+abbrev pub colour_bytes : ℕ → List ℕ → List ℕ
+colour_bytes f bytes = if f == 1 then flat_map (λ c. 0 ∷ c ∷ []) bytes else bytes
 
-abbrev pub rows_of : ℕ → List (List ℕ) → Option (List ℕ)
-rows_of n more = if length more == side n then rows_joined (side n) more else None
+-- the colours of all rows, where each is there and well formed: two digits a colour in format 1, and four in format 2
+abbrev pub rows_joined : ℕ → ℕ → List (List ℕ) → Option (List ℕ)
+rows_joined f width [] = Some []
+rows_joined f width (line ∷ lines) =
+    if length line == 2 * f * width
+    then option_and_then (λ bytes. option_map (λ rest. colour_bytes f bytes ++ rest) (rows_joined f width lines)) (row line) else None
+
+abbrev pub rows_of : ℕ → ℕ → List (List ℕ) → Option (List ℕ)
+rows_of f n more = if length more == side n then rows_joined f (side n) more else None
 
 abbrev pub point : Option ℕ → Option ℕ → Option ℕ → Option Point
 point (Some x) (Some y) (Some l) = Some (record { at = record { x = x; y = y }; label = l })
@@ -107,24 +126,48 @@ points_joined (line ∷ lines) =
 abbrev pub points_of : ℕ → List (List ℕ) → Option (List Point)
 points_of k more = if length more == k then points_joined more else None
 
+-- the corners that the words of a ring line give, two words each
+abbrev pub corner_of : Option ℕ → Option ℕ → Option Corner
+corner_of (Some x) (Some y) = Some (record { x = x; y = y })
+corner_of x y = None
+
+abbrev pub corners_of : List (List ℕ) → Option (List Corner)
+corners_of [] = Some []
+corners_of (x ∷ []) = None
+corners_of (x ∷ y ∷ ws) =
+    option_and_then (λ c. option_map (λ cs. c ∷ cs) (corners_of ws)) (corner_of (number 0 65535 x) (number 0 65535 y))
+
+-- at least three corners
+abbrev pub ring_of : List ℕ → Option (List Corner)
+ring_of line = if is_long line || nat_lt (length (words_of line)) 6 then None else corners_of (words_of line)
+
+abbrev pub rings_joined : List (List ℕ) → Option (List (List Corner))
+rings_joined [] = Some []
+rings_joined (line ∷ lines) = option_and_then (λ r. option_map (λ rs. r ∷ rs) (rings_joined lines)) (ring_of line)
+
+abbrev pub rings_of : ℕ → List (List ℕ) → Option (List (List Corner))
+rings_of k more = if length more == k then rings_joined more else None
+
 abbrev pub begins_with : List (List ℕ) → List ℕ → Bool
 begins_with [] word = false
 begins_with (w ∷ ws) word = bytes_eq w word
 
--- the item that a group is, where the number of its further lines is asked for
-abbrev pub held_as : ℕ → ℕ → Group → Item
-held_as n zero group = Line group.line
-held_as n (suc k) group =
-    if begins_with (words_of group.line) (codes "raster") then Rows group.line (rows_of n group.more)
-    else PointLines group.line (points_of (suc k) group.more)
+-- what a group holds in a format, where so many further lines are asked for
+abbrev pub held_as : ℕ → ℕ → ℕ → Group → Item
+held_as f n zero group = Line group.line
+held_as f n (suc k) group =
+    if begins_with (words_of group.line) (codes "raster") then Rows group.line (rows_of f n group.more)
+    else if begins_with (words_of group.line) (codes "scatter") then PointLines group.line (points_of (suc k) group.more)
+    else RingLines group.line (rings_of (suc k) group.more)
 
-unfoldable pub held : ℕ → Group → Item
-held n group = if is_long group.line then Long else held_as n (asked n group.line) group
+-- what an item of a text holds when its further lines are read in a format
+unfoldable pub held : ℕ → ℕ → Group → Item
+held f n group = if is_long group.line then Long else held_as f n (asked n group.line) group
 
 -- the items of a text at a level
-unfoldable pub items_of : ℕ → List ℕ → List Item
-items_of n text = map (held n) (groups_from n 0 (lines_of text))
+unfoldable pub items_of : ℕ → List ℕ → List Group
+items_of n text = groups_from n 0 (lines_of text)
 
 -- the items whose lines all stand in the text, each with its newline
-unfoldable pub whole_items : ℕ → List ℕ → List Item
-whole_items n text = map (held n) (filter (is_complete n) (groups_from n 0 (whole_lines text)))
+unfoldable pub whole_items : ℕ → List ℕ → List Group
+whole_items n text = filter (is_complete n) (groups_from n 0 (whole_lines text))

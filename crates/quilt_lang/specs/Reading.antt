@@ -1,7 +1,7 @@
 -- What reading a text in pieces gives.
-use Rattle.std.specs.Prelude.{◌≡◌, ℕ, ◌+◌, ◌<◌, ◌==◌, Bool, true, false, List, [], ◌∷◌, ◌++◌, length, take, drop, All, Option, Some, None}
+use Rattle.std.specs.Prelude.{◌≡◌, ℕ, ◌+◌, ◌<◌, ◌==◌, Bool, true, false, List, [], ◌∷◌, ◌++◌, length, take, drop, map, All, Option, Some, None, if◌then◌else◌}
 use Rattle.quilt_lang.specs.declared.item.Item.{Item}
-use Rattle.quilt_lang.specs.Items.{is_silent, whole_lines, items_of, whole_items, held}
+use Rattle.quilt_lang.specs.Items.{Group, is_silent, line_limit, whole_lines, items_of, whole_items, held}
 
 -- what contracts see of a reader of pieces: the level, and a text that has the items not given yet
 pub record Unread : Type 0 where
@@ -13,10 +13,20 @@ abbrev pub MayFollow : Bool → List ℕ → Type 0
 MayFollow false v = Unit {0}
 MayFollow true v = v ≡ []
 
+-- two lists of groups of lines that hold the same items, in whatever format each is read
+abbrev pub Same : ℕ → List Group → List Group → Type 0
+Same n gs hs = (f : ℕ) → map (held f n) gs ≡ map (held f n) hs
+
 -- Whatever may follow, the items of the old text are these and then those of the new one, and so are the whole items.
-pub record Gives (ended : Bool) (n : ℕ) (items : List Item) (old new : List ℕ) : Type 0 where
-  pub all : (v : List ℕ) → MayFollow ended v → items_of n (old ++ v) ≡ items ++ items_of n (new ++ v)
-  pub whole : ended ≡ false → (v : List ℕ) → whole_items n (old ++ v) ≡ items ++ whole_items n (new ++ v)
+pub record Gives (ended : Bool) (n : ℕ) (items : List Group) (old new : List ℕ) : Type 0 where
+  pub all : (v : List ℕ) → MayFollow ended v → Same n (items_of n (old ++ v)) (items ++ items_of n (new ++ v))
+  pub whole : ended ≡ false → (v : List ℕ) → Same n (whole_items n (old ++ v)) (items ++ whole_items n (new ++ v))
+
+-- one item is given: what some lines hold in the format
+pub record GivesItem (ended : Bool) (n f : ℕ) (item : Item) (old new : List ℕ) : Type 0 where
+  pub group : Group
+  pub is : item ≡ held f n group
+  pub gives : Gives ended n (group ∷ []) old new
 
 -- no item can be given: of the whole ones, or of all where the input has ended
 abbrev pub HasNone : Bool → ℕ → List ℕ → Type 0
@@ -50,6 +60,15 @@ first_is_silent (l ∷ ls) = is_silent l
 abbrev pub begins_silent : List ℕ → Bool
 begins_silent text = first_is_silent (whole_lines text)
 
--- the item that a line alone is
-abbrev pub item_of_line : ℕ → List ℕ → Item
-item_of_line n line = held n (record { line = line; more = [] })
+-- a line with no further lines
+abbrev pub alone : List ℕ → Group
+alone line = record { line = line; more = [] }
+
+abbrev pub is_some_line : List (List ℕ) → Bool
+is_some_line [] = false
+is_some_line (l ∷ ls) = true
+
+-- The most bytes that are kept of a rest whose whole items are all given: all of them where its first line stands there and waits
+-- for further lines, and else no more than show that a line is too long.
+abbrev pub kept_limit : List ℕ → ℕ
+kept_limit rest = if is_some_line (whole_lines rest) then length rest else line_limit + 1

@@ -1,9 +1,11 @@
 ghost use Rattle.std.specs.Prelude.{◌≡◌, ◌≤◌, ◌<◌, ◌+◌, ◌*◌, ◌-◌, ℕ, Ok, Err, Some, None, Option, Bool, cond, nat_le, if◌then◌else◌, Result, option_map, IfOk, IfSome};
 ghost use Rattle.std.specs.List.{list_all};
 ghost use Rattle.quilt_types.specs.declared.code.Code.TheVariants as codes_of;
-ghost use Rattle.quilt_lang.specs.Spelling.{number, name, is_digit, is_spelled, value_of};
+ghost use Rattle.quilt_lang.specs.Spelling.{number, signed, name, is_digit, is_spelled, value_of};
 ghost use Rattle.quilt_lang.specs.Forms.{or_err};
 ghost use Rattle.quilt_lang.specs.Parsing.{Answers};
+ghost use Rattle.quilt_lang.specs.Fitting.{IsName, IsWithin, IsShift};
+ghost use Rattle.quilt_types.specs.Layers.{colours};
 
 use crate::ParseErr;
 use quilt_types::{Code, Name};
@@ -12,7 +14,8 @@ use std::str;
 /// The name that a word is.
 #[tactic(auto, unfolding(crate::specs::Spelling::name))]
 pub fn parse_name(word: &[u8]) -> Result<Name, ParseErr>
-    ensures { Answers result (or_err codes_of.Name (name word.now)) }
+    ensures is { Answers result (or_err codes_of.Name (name word.now)) }
+    ensures named { IfOk result IsName }
 {
     match name_of(word) {
         Some(name) => Ok(name),
@@ -21,7 +24,8 @@ pub fn parse_name(word: &[u8]) -> Result<Name, ParseErr>
 }
 
 fn name_of(word: &[u8]) -> Option<Name>
-    ensures { result ≡ name word.now }
+    ensures is { result ≡ name word.now }
+    ensures named { IfSome result IsName }
 {
     match str::from_utf8(word) {
         Ok(text) => Name::of(text),
@@ -70,7 +74,7 @@ fn value(digits: &[u8], high: u32) -> Option<u32>
 #[tactic(auto, unfolding(crate::specs::Spelling::number))]
 pub fn parse_number(low: u32, high: u32, word: &[u8]) -> Result<u32, ParseErr>
     ensures is { Answers result (or_err codes_of.Number (number low high word.now)) }
-    ensures within { IfOk result (λ n. n ≤ high) }
+    ensures within { IfOk result (IsWithin low high) }
 {
     if !is_number(word) {
         return Err(ParseErr::No(Code::Number));
@@ -91,16 +95,32 @@ pub fn parse_coordinate(word: &[u8]) -> Result<u16, ParseErr>
 
 /// An extent of a window, at least 1.
 pub fn parse_extent(word: &[u8]) -> Result<u16, ParseErr>
-    ensures { Answers result (or_err codes_of.Number (number 1 65535 word.now)) }
+    ensures is { Answers result (or_err codes_of.Number (number 1 65535 word.now)) }
+    ensures within { IfOk result (IsWithin 1 65535) }
 {
     let n = parse_number(1, 65535, word)?;
     Ok(n as u16)
 }
 
-/// A colour.
-pub fn parse_byte(word: &[u8]) -> Result<u8, ParseErr>
-    ensures { Answers result (or_err codes_of.Number (number 0 255 word.now)) }
+/// A number of at most 65535, or a minus before one that is not 0.
+pub fn parse_signed(word: &[u8]) -> Result<i32, ParseErr>
+    ensures is { Answers result (or_err codes_of.Number (signed 65535 word.now)) }
+    ensures within { IfOk result IsShift }
 {
-    let n = parse_number(0, 255, word)?;
-    Ok(n as u8)
+    let Some((first, digits)) = word.split_first() else {
+        return Err(ParseErr::No(Code::Number));
+    };
+    if *first == b'-' {
+        let n = parse_number(1, 65535, digits)?;
+        return Ok(-(n as i32));
+    }
+    let n = parse_number(0, 65535, word)?;
+    Ok(n as i32)
+}
+
+/// The greatest colour of a format.
+pub fn most_colour(format: u8) -> u32
+    ensures { result ≡ colours format - 1 }
+{
+    if format == 1 { 255 } else { 65535 }
 }

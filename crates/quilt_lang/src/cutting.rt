@@ -1,5 +1,6 @@
 ghost use Rattle.std.specs.Prelude.{◌≡◌, ◌==◌, ◌<◌, ◌≤◌, ◌+◌, ℕ, false, [], ◌∷◌, length, take, drop, position, IfSome, IfOk, MatchOption};
-ghost use Rattle.quilt_lang.specs.Reading.{IsLine, IsCut, Gives, HasNone, begins_silent, item_of_line};
+ghost use Rattle.quilt_lang.specs.Items.{held};
+ghost use Rattle.quilt_lang.specs.Reading.{IsLine, IsCut, Gives, HasNone, begins_silent, alone};
 
 use crate::Item;
 use crate::words::{LINE_LIMIT, is_silent_line};
@@ -51,7 +52,7 @@ pub fn silent_front(text: &[u8]) -> usize
 pub fn line_len(text: &[u8], ended: bool) -> Option<usize>
     requires { begins_silent text.now ≡ false }
     ensures found { MatchOption result ((n : ℕ) → HasNone ended n text.now)
-        (λ k. (n : ℕ) → Gives ended n (item_of_line n (take k text.now) ∷ []) text.now (drop (k + 1) text.now)) }
+        (λ k. (n : ℕ) → Gives ended n (alone (take k text.now) ∷ []) text.now (drop (k + 1) text.now)) }
     ensures within { IfSome result (λ k. k ≤ length text.now) }
 {
     match newline(text) {
@@ -64,7 +65,7 @@ pub fn line_len(text: &[u8], ended: bool) -> Option<usize>
 fn last_len(text: &[u8], ended: bool) -> Option<usize>
     requires { IsLine text.now }
     ensures found { MatchOption result ((n : ℕ) → HasNone ended n text.now)
-        (λ k. (n : ℕ) → Gives ended n (item_of_line n (take k text.now) ∷ []) text.now (drop (k + 1) text.now)) }
+        (λ k. (n : ℕ) → Gives ended n (alone (take k text.now) ∷ []) text.now (drop (k + 1) text.now)) }
     ensures within { IfSome result (λ k. k ≤ length text.now) }
 {
     if !ended || is_silent_line(text) {
@@ -75,7 +76,7 @@ fn last_len(text: &[u8], ended: bool) -> Option<usize>
 
 /// The item that a line is.
 pub fn item_of(alloc: Global, line: &[u8]) -> Result<Item, AllocError>
-    ensures { IfOk result (λ item. (n : ℕ) → item ≡ item_of_line n line.now) }
+    ensures { IfOk result (λ item. (f n : ℕ) → item ≡ held f n (alone line.now)) }
 {
     if line.len() > LINE_LIMIT {
         return Ok(Item::Long);

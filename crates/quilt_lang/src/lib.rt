@@ -3,14 +3,18 @@
 
 mod arguments;
 mod command;
+mod commands;
 mod cutting;
+mod further;
 mod item;
 mod lines;
 mod pairs;
 mod parse_err;
 mod parser;
 mod reading;
+mod recolour;
 mod refusal;
+mod shapes;
 mod word;
 mod words;
 

@@ -1,6 +1,6 @@
 ghost use Rattle.std.specs.Prelude.{◌≡◌, ◌≤◌, ◌+◌, ℕ, false, [], ◌∷◌, ◌++◌, length, OnOk, OnErr, IfOk, MatchOption};
 ghost use Rattle.quilt_lang.specs.Items.{whole_items};
-ghost use Rattle.quilt_lang.specs.Reading.{Gives, HasNone};
+ghost use Rattle.quilt_lang.specs.Reading.{Gives, GivesItem, HasNone, kept_limit};
 
 use crate::Item;
 use crate::cutting::{item_of, line_len, silent_front};
@@ -41,12 +41,12 @@ impl Lines {
     }
 
     /// Reads a piece more, where all whole items were given. An Err leaves it as it was.
-    /// It takes time and memory in the piece's length and the 8321 bytes that it may keep.
+    /// It takes time and memory in the piece's length and in what it may keep.
     pub fn feed(&mut self, piece: &[u8]) -> Result<(), AllocError>
         requires { whole_items self.old.level self.old.rest ≡ [] }
         ensures level { self.new.level ≡ self.old.level }
         ensures fed { OnOk result (Gives false self.old.level [] (self.old.rest ++ piece.now) self.new.rest) }
-        ensures short { OnOk result (length self.new.rest ≤ 8321 + length piece.now) }
+        ensures short { OnOk result (length self.new.rest ≤ kept_limit self.old.rest + length piece.now) }
         ensures err { OnErr result (self.new ≡ self.old) }
     {
         let rest = &self.bytes[self.from..];
@@ -58,13 +58,13 @@ impl Lines {
         Ok(())
     }
 
-    /// The next item: one whose lines all stand there with their newlines, or, where the input has ended, any.
-    /// An Err leaves it as it was.
-    pub fn next_item(&mut self, ended: bool) -> Result<Option<Item>, AllocError>
+    /// The next item: one whose lines all stand there with their newlines, or, where the input has ended, any. Its further lines
+    /// are read in the format. An Err leaves it as it was.
+    pub fn next_item(&mut self, format: u8, ended: bool) -> Result<Option<Item>, AllocError>
         ensures level { self.new.level ≡ self.old.level }
         ensures given { IfOk result (λ found. MatchOption found
             ((self.new.rest ≡ self.old.rest) × HasNone ended self.old.level self.old.rest)
-            (λ item. Gives ended self.old.level (item ∷ []) self.old.rest self.new.rest)) }
+            (λ item. GivesItem ended self.old.level format item self.old.rest self.new.rest)) }
         ensures err { OnErr result (self.new ≡ self.old) }
     {
         let rest = &self.bytes[self.from..];

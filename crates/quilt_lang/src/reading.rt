@@ -1,43 +1,58 @@
-ghost use Rattle.std.specs.Prelude.{◌≡◌, ℕ, List, [], ◌++◌, flat_map, OnOk, IfOk};
-ghost use Rattle.quilt_lang.specs.Items.{items_of, whole_items};
+ghost use Rattle.std.specs.Prelude.{◌≡◌, ℕ, List, [], ◌++◌, map, flat_map, OnOk, IfOk};
+ghost use Rattle.quilt_lang.specs.Items.{held, items_of, whole_items};
 ghost use Rattle.quilt_lang.specs.Reading.{BeginWith};
 ghost use Rattle.quilt_lang.specs.Taking.{Takes};
 
 use crate::{Item, Lines};
 use std::alloc::{AllocError, Global};
 
-/// The items of a text that comes in pieces. They do not depend on how it is cut.
-pub fn items_in(alloc: Global, level: u8, pieces: &[&[u8]]) -> Result<Vec<Item>, AllocError>
-    ensures { IfOk result (λ items. items.items ≡ items_of level (flat_map (λ piece. piece.now) pieces.now)) }
+/// The items of a text that comes in pieces, each read in the format. They do not depend on how the text is cut.
+pub fn items_in(
+    alloc: Global,
+    level: u8,
+    format: u8,
+    pieces: &[&[u8]],
+) -> Result<Vec<Item>, AllocError>
+    ensures { IfOk result (λ items. items.items ≡ map (held format level) (items_of level (flat_map (λ piece. piece.now) pieces.now))) }
 {
     let mut lines = Lines::new(alloc, level);
     let mut items = Vec::new(alloc);
     for piece in pieces {
         lines.feed(piece)?;
-        take_items(&mut lines, false, &mut items)?;
+        take_items(&mut lines, format, false, &mut items)?;
     }
-    take_items(&mut lines, true, &mut items)?;
+    take_items(&mut lines, format, true, &mut items)?;
     Ok(items)
 }
 
-/// The items of a text that may go on: those whose lines all stand there with their newlines.
+/// The items of a text that may go on: those whose lines all stand there with their newlines, each read in the format.
 /// Whatever follows, the items of the longer text begin with these.
-pub fn whole_items_in(alloc: Global, level: u8, text: &[u8]) -> Result<Vec<Item>, AllocError>
-    ensures whole { IfOk result (λ items. items.items ≡ whole_items level text.now) }
-    ensures front { IfOk result (λ items. (more : List ℕ) → BeginWith (items_of level (text.now ++ more)) items.items) }
+pub fn whole_items_in(
+    alloc: Global,
+    level: u8,
+    format: u8,
+    text: &[u8],
+) -> Result<Vec<Item>, AllocError>
+    ensures whole { IfOk result (λ items. items.items ≡ map (held format level) (whole_items level text.now)) }
+    ensures front { IfOk result (λ items. (more : List ℕ) → BeginWith (map (held format level) (items_of level (text.now ++ more))) items.items) }
 {
     let mut lines = Lines::new(alloc, level);
     let mut items = Vec::new(alloc);
     lines.feed(text)?;
-    take_items(&mut lines, false, &mut items)?;
+    take_items(&mut lines, format, false, &mut items)?;
     Ok(items)
 }
 
 /// Takes all items that can be given.
-fn take_items(lines: &mut Lines, ended: bool, items: &mut Vec<Item>) -> Result<(), AllocError>
-    ensures { OnOk result (Takes ended lines.old lines.new items.old.items items.new.items) }
+fn take_items(
+    lines: &mut Lines,
+    format: u8,
+    ended: bool,
+    items: &mut Vec<Item>,
+) -> Result<(), AllocError>
+    ensures { OnOk result (Takes ended format lines.old lines.new items.old.items items.new.items) }
 {
-    while let Some(item) = lines.next_item(ended)? {
+    while let Some(item) = lines.next_item(format, ended)? {
         items.push(item)?;
     }
     Ok(())

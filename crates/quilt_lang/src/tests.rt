@@ -5,9 +5,9 @@ use std::test::Fail;
 
 /// The refusal of the one item of a text, or none.
 fn refused(alloc: Global, text: &[u8]) -> Result<Option<Code>, Fail> {
-    let items = items_in(alloc, 3, &[text])?;
+    let items = items_in(alloc, 3, 1, &[text])?;
     let item = items.first().ok_or("no item")?;
-    match parse(alloc, item) {
+    match parse(alloc, 1, item) {
         Ok(_) => Ok(None),
         Err(ParseErr::No(code)) => Ok(Some(code)),
         Err(ParseErr::Memory) => Err(Fail::from("memory")),
@@ -34,11 +34,11 @@ fn reads_in_pieces(rt: HostRuntime) -> Result<(), Fail> {
     let mut long = vec![in alloc; b'x'; 8321]?;
     long.extend_from_slice(b"\n# a remark\n\nshow a 1 2 3 4")?;
     let pieces: Vec<&[u8]> = long.chunks(1).collect(alloc)?;
-    let items = items_in(alloc, 3, &pieces)?;
+    let items = items_in(alloc, 3, 1, &pieces)?;
     assert_eq!(rt; items.len(), 2);
-    assert_eq!(rt; whole_items_in(alloc, 3, &long)?.len(), 1);
+    assert_eq!(rt; whole_items_in(alloc, 3, 1, &long)?.len(), 1);
     assert!(rt; matches!(&items[0], Item::Long));
-    match parse(alloc, &items[1]) {
+    match parse(alloc, 1, &items[1]) {
         Ok(Command::Show { w, .. }) => assert_eq!(rt; (w.x, w.y, w.w, w.h), (1, 2, 3, 4)),
         _ => assert!(rt; false, "no show"),
     }

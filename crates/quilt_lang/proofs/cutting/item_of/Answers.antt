@@ -6,8 +6,8 @@ use Rattle.quilt_lang.proofs.Long.{long_item, short_item}
 use Rattle.quilt_lang.proofs.cutting.item_of.Goals as goal
 
 pub returns-then-line-gt-LINE_LIMIT : goal.returns-then-line-gt-LINE_LIMIT
-returns-then-line-gt-LINE_LIMIT c = λ n. sym (long_item n c.args.line.now (lt-ltb line_limit (length c.args.line.now) (omega arith)))
+returns-then-line-gt-LINE_LIMIT c = λ f n. sym (long_item f n c.args.line.now (lt-ltb line_limit (length c.args.line.now) (omega arith)))
 
 pub returns : goal.returns
-returns c = λ n.
-    ap Line c.in_ok-push.ensures.ok ∙ ap (λ (l : List ℕ). Line (l ++ c.args.line.now)) c.new-text.ensures ∙ sym (short_item n c.args.line.now (le-ltb line_limit (length c.args.line.now) (omega arith)))
+returns c = λ f n.
+    ap Line c.in_ok-push.ensures.ok ∙ ap (λ (l : List ℕ). Line (l ++ c.args.line.now)) c.new-text.ensures ∙ sym (short_item f n c.args.line.now (le-ltb line_limit (length c.args.line.now) (omega arith)))

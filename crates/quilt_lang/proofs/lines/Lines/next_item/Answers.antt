@@ -14,6 +14,6 @@ returns-clause-given c =
     let then_ : List ℕ = c.deref-2.result.now in
     let back : take (length then_ - (from + c.min.result)) (drop (from + c.min.result) then_) ≡ drop (from + c.min.result) bytes =
     rw c.deref-2.ensures.value (behind (from + c.min.result) bytes) in
-    given c.args.ended c.args.self.now c.in_ok-item.item bytes (take (length then_ - (from + c.min.result)) (drop (from + c.min.result) then_))
+    given c.args.ended c.args.format c.args.self.now c.in_ok-item.item bytes (take (length then_ - (from + c.min.result)) (drop (from + c.min.result) then_))
     from c.min.result c.in-Some.k c.silent_front.result rest
     (rw same at c.in_ok-item.ensures) (rw same at c.in-Some.ensures.found) (rw same at c.min.ensures) back c.silent_front.ensures.gives
