@@ -98,7 +98,7 @@ unfolding answer
 show_outside s a w g is out = rw (is, out) refl
 
 pub show_done : (s : State) (a : List ℕ) (w : Window) (g : Grid) → layer s a ≡ Some (Region g) → is_window s.last.level w ≡ true →
-    answer s (commands.Show a w) ≡ done (map (row_line s.last.level g w) (below w.h)) s.work
+    answer s (commands.Show a w) ≡ done (map (row_line s.last.format s.last.level g w) (below w.h)) s.work
 unfolding answer
 show_done s a w g is inside = rw (is, inside) refl
 

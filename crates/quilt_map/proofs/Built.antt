@@ -1,19 +1,23 @@
--- A command that an item spells is one of those that are built.
-use Rattle.std.proofs.Common.{◌≡◌, inl, inr, ℕ, Bool, true, false, List, [], ◌∷◌, length, Option, Some, None, Result, Ok, Err, refl, ap, subst, find, ◌==◌}
+-- A command that an item spells is one of those that are built, and its colour is one of the format.
+use Rattle.std.proofs.Common.{◌≡◌, ◌⊎◌, inl, inr, ℕ, ◌<◌, ◌≤◌, ◌-◌, arith, Bool, true, false, cond, ◌&&◌, nat_le, List, [], ◌∷◌, ◌++◌, length, Option, Some, None, Result, Ok, Err, refl, sym, ◌∙◌, ap, subst, ◌==◌, codes, option_map}
 use Rattle.std.specs.List.{list_all}
 use Rattle.std.specs.Str.{bytes_eq}
+use Rattle.std.proofs.lemmas.Bool.{and_parts, leb-true}
 use Rattle.quilt_types.specs.declared.plane.Pixel.{Pixel}
 use Rattle.quilt_types.specs.declared.plane.Window.{Window}
 use Rattle.quilt_types.specs.declared.plane.Colour.{Colour}
+use Rattle.quilt_types.specs.Layers.{colours}
 use Rattle.quilt_types.specs.declared.code.Code.{Code}
 use Rattle.quilt_types.specs.declared.code.Code.TheVariants as codes_of
 use Rattle.quilt_lang.specs.declared.command.Command.{Command}
 use Rattle.quilt_lang.specs.declared.command.Command.TheVariants as commands
 use Rattle.quilt_lang.specs.declared.item.Item.{Item}
-use Rattle.quilt_lang.specs.declared.item.Item.TheVariants.{Long, Line, Rows, PointLines}
+use Rattle.quilt_lang.specs.declared.item.Item.TheVariants.{Long, Line, Rows, PointLines, RingLines}
 use Rattle.quilt_lang.specs.Items.{held, is_plain, words_of}
-use Rattle.quilt_lang.specs.Forms.{Further, Entry, Value, Called, Number, table, entry_of, with_count, or_err, ◌>>=◌, values_of, form_of_words, form_of_line, form, Spelled, region_command, set_command, at_command, show_command, edition_command}
-use Rattle.quilt_map.proofs.MapOf.{bool_cases}
+use Rattle.quilt_lang.specs.Spelling.{number, is_spelled, value_of}
+use Rattle.quilt_lang.specs.Built.{is_built as is_built_word}
+use Rattle.quilt_lang.specs.Forms.{Further, Argument, A_name, A_number, A_signed, colour, pixel, window, Entry, Value, Called, Number, Signed, entry_in_all, entry_of, with_count, or_err, ◌>>=◌, argument_value, values_of, form_of_words, form_of_line, form, Spelled, region_command, set_command, at_command, show_command, edition_command}
+use Rattle.quilt_map.proofs.MapOf.{bool_cases, same_bytes}
 
 abbrev pub is_built : Command → Bool
 is_built (commands.Region a c) = true
@@ -23,45 +27,30 @@ is_built (commands.Show a w) = true
 is_built commands.Edition = true
 is_built command = false
 
-abbrev Makes : (Further → List Value → Option Command) → Type 0
-Makes f = (more : Further) (vs : List Value) (c : Command) → f more vs ≡ Some c → is_built c ≡ true
+-- the colour of a command that has one is of the format
+abbrev pub IsColoured : ℕ → Command → Type 0
+IsColoured f (commands.Region a c) = c.0 < colours f
+IsColoured f (commands.Set a p c) = c.0 < colours f
+IsColoured f command = Unit {0}
 
-built_at : (d c : Command) → is_built d ≡ true → Some d ≡ Some c → is_built c ≡ true
-built_at d c built is = let same : d ≡ c = cc in subst (λ (x : Command). is_built x ≡ true) same built
+-- what is shown of each command that is spelled
+pub record IsGood (f : ℕ) (c : Command) : Type 0 where
+  pub built : is_built c ≡ true
+  pub coloured : IsColoured f c
 
-region_makes : Makes region_command
-region_makes more (Called a ∷ Number n ∷ []) c is = built_at _ c refl is
-region_makes more vs c is = cc
+good_at : (f : ℕ) (d c : Command) → IsGood f d → Some d ≡ Some c → IsGood f c
+good_at f d c good is = let same : d ≡ c = cc in subst (λ (x : Command). IsGood f x) same good
 
-set_makes : Makes set_command
-set_makes more (Called a ∷ Number x ∷ Number y ∷ Number n ∷ []) c is = built_at _ c refl is
-set_makes more vs c is = cc
+-- ---- the values of arguments
 
-at_makes : Makes at_command
-at_makes more (Called a ∷ Number x ∷ Number y ∷ []) c is = built_at _ c refl is
-at_makes more vs c is = cc
+abbrev Fits : Argument → Value → Type 0
+Fits (A_number low high) (Number n) = n ≤ high
+Fits a v = Unit {0}
 
-show_makes : Makes show_command
-show_makes more (Called a ∷ Number x ∷ Number y ∷ Number w ∷ Number h ∷ []) c is = built_at _ c refl is
-show_makes more vs c is = cc
-
-edition_makes : Makes edition_command
-edition_makes more [] c is = built_at _ c refl is
-edition_makes more (v ∷ vs) c is = cc
-
-abbrev AllMake : List Entry → Type 0
-AllMake [] = Unit {0}
-AllMake (e ∷ es) = Makes e.command × AllMake es
-
-table_makes : AllMake table
-table_makes = (region_makes, (set_makes, (at_makes, (show_makes, (edition_makes, tt)))))
-
-found_makes : (p : Entry → Bool) (es : List Entry) (e : Entry) → AllMake es → find p es ≡ Some e → Makes e.command
-found_makes p [] e all is = cc
-found_makes p (f ∷ es) e all is = elim (bool_cases (p f)) [
-  | inl holds ↦ let here : Some f ≡ Some e = rw holds at is in let same : f ≡ e = cc in subst (λ (x : Entry). Makes x.command) same all.0
-  | inr not_ ↦ found_makes p es e all.1 (rw not_ at is)
-]
+abbrev AllFit : List Argument → List Value → Type 0
+AllFit [] vs = Unit {0}
+AllFit (a ∷ rest) [] = Unit {0}
+AllFit (a ∷ rest) (v ∷ vs) = Fits a v × AllFit rest vs
 
 bound : {A B : Type 0} (r : Result A Code) (f : A → Result B Code) (y : B) → (r >>= f) ≡ Ok y → (x : A) × (r ≡ Ok x) × (f x ≡ Ok y)
 bound (Ok x) f y is = (x, refl, is)
@@ -71,41 +60,146 @@ or_some : {A : Type 0} (code : Code) (o : Option A) (x : A) → or_err code o �
 or_some code None x is = cc
 or_some code (Some z) x is = let same : z ≡ x = cc in ap Some same
 
-counted : (count : ℕ) (e f : Entry) → with_count count e ≡ Ok f → e ≡ f
-counted count e f is = elim (bool_cases (length e.arguments == count)) [
-  | inl same ↦ let g : Ok e ≡ Ok f = rw same at is in cc
-  | inr other ↦ let g : Err codes_of.Count ≡ Ok f = rw other at is in absurd (cc)
-]
+within : (b : Bool) (v n : ℕ) → cond b (Some v) None ≡ Some n → (b ≡ true) × (v ≡ n)
+within true v n is = (refl, let same : v ≡ n = cc in same)
+within false v n is = cc
 
-entry_makes : (word : List ℕ) (count : ℕ) (e : Entry) → entry_of word count ≡ Ok e → Makes e.command
-entry_makes word count e is =
-    let parts = bound (or_err codes_of.Word (find (λ (x : Entry). bytes_eq x.word word) table)) (with_count count) e is in
-    let found = found_makes (λ (x : Entry). bytes_eq x.word word) table parts.0 table_makes (or_some codes_of.Word _ parts.0 parts.1) in
-    subst (λ (x : Entry). Makes x.command) (counted count parts.0 e parts.2) found
+number_within : (low high : ℕ) (word : List ℕ) (n : ℕ) → number low high word ≡ Some n → n ≤ high
+unfolding number
+number_within low high word n is =
+    let parts = within (is_spelled word && nat_le low (value_of word) && nat_le (value_of word) high) (value_of word) n is in
+    let both = and_parts (is_spelled word && nat_le low (value_of word)) (nat_le (value_of word) high) parts.0 in
+    omega (arith, leb-true (value_of word) high both.1, parts.1)
 
-words_built : (more : Further) (words : List (List ℕ)) (c : Command) → form_of_words more words ≡ Ok c → is_built c ≡ true
-unfolding form_of_words
-words_built more [] c is = cc
-words_built more (word ∷ words) c is =
-    let first = bound (entry_of word (length words)) _ c is in
-    let second = bound (values_of first.0.arguments words) _ c first.2 in
-    entry_makes word (length words) first.0 first.1 more second.0 c (or_some codes_of.Word _ c second.2)
+number_fits : (low high : ℕ) (word : List ℕ) (o : Option ℕ) (v : Value) → number low high word ≡ o → option_map Number o ≡ Some v → Fits (A_number low high) v
+number_fits low high word None v is same = cc
+number_fits low high word (Some n) v is same = let e : Number n ≡ v = cc in subst (λ (x : Value). Fits (A_number low high) x) e (number_within low high word n is)
 
-line_built : (line : List ℕ) (more : Further) (c : Command) → form_of_line line more ≡ Ok c → is_built c ≡ true
-line_built line more c is = elim (bool_cases (list_all is_plain line)) [
-  | inl plain ↦ words_built more (words_of line) c (rw plain at is)
-  | inr not_ ↦ let no : Err codes_of.Bytes ≡ Ok c = rw not_ at is in cc
-]
+argument_fits : (a : Argument) (word : List ℕ) (v : Value) → argument_value a word ≡ Ok v → Fits a v
+argument_fits A_name word v is = tt
+argument_fits (A_number low high) word v is = number_fits low high word (number low high word) v refl (or_some codes_of.Number (option_map Number (number low high word)) v is)
+argument_fits A_signed word v is = tt
 
-form_built : (item : Item) (c : Command) → form item ≡ Ok c → is_built c ≡ true
-unfolding form
-form_built Long c is = cc
-form_built (Line line) c is = line_built line _ c is
-form_built (Rows line rows) c is = line_built line _ c is
-form_built (PointLines line points) c is = line_built line _ c is
+values_fit : (rest : List Argument) (words : List (List ℕ)) (vs : List Value) → values_of rest words ≡ Ok vs → AllFit rest vs
+values_fit [] words vs is = tt
+values_fit (a ∷ rest) [] vs is = let e : [] ≡ vs = cc in subst (λ (l : List Value). AllFit (a ∷ rest) l) e tt
+values_fit (a ∷ rest) (w ∷ ws) vs is =
+    let first = bound (argument_value a w) _ vs is in
+    let second = bound (values_of rest ws) _ vs first.2 in
+    let e : first.0 ∷ second.0 ≡ vs = let g : Ok (first.0 ∷ second.0) ≡ Ok vs = second.2 in cc in
+    subst (λ (l : List Value). AllFit (a ∷ rest) l) e (argument_fits a w first.0 first.1, values_fit rest ws second.0 second.1)
 
-pub spelled_built : (n : ℕ) (c : Command) → Spelled n c → is_built c ≡ true
-spelled_built n c spelled = form_built (held n spelled.0) c spelled.1
+-- ---- the rows of the table
+
+abbrev Makes : ℕ → Entry → Type 0
+Makes f e = (more : Further) (vs : List Value) (c : Command) → AllFit e.arguments vs → e.command more vs ≡ Some c → IsGood f c
+
+few_colours : (f n : ℕ) → n ≤ colours f - 1 → n < colours f
+few_colours f n le = less (f == 1) le
+  where
+    less : (b : Bool) → n ≤ cond b 256 65536 - 1 → n < cond b 256 65536
+    less true le = omega (arith, le)
+    less false le = omega (arith, le)
+
+module _ (f : ℕ) where
+  abbrev region_row : Entry
+  region_row = record { word = codes "region"; arguments = A_name ∷ colour f ∷ []; command = region_command }
+
+  abbrev set_row : Entry
+  set_row = record { word = codes "set"; arguments = A_name ∷ pixel ++ colour f ∷ []; command = set_command }
+
+  abbrev at_row : Entry
+  at_row = record { word = codes "at"; arguments = A_name ∷ pixel; command = at_command }
+
+  abbrev show_row : Entry
+  show_row = record { word = codes "show"; arguments = A_name ∷ window; command = show_command }
+
+  abbrev edition_row : Entry
+  edition_row = record { word = codes "edition"; arguments = []; command = edition_command }
+
+  region_makes : Makes f region_row
+  region_makes more (Called a ∷ Number n ∷ []) c fit is = good_at f _ c (record { built = refl; coloured = few_colours f n fit.1.0 }) is
+  region_makes more vs c fit is = cc
+
+  set_makes : Makes f set_row
+  set_makes more (Called a ∷ Number x ∷ Number y ∷ Number n ∷ []) c fit is = good_at f _ c (record { built = refl; coloured = few_colours f n fit.1.1.1.0 }) is
+  set_makes more vs c fit is = cc
+
+  at_makes : Makes f at_row
+  at_makes more (Called a ∷ Number x ∷ Number y ∷ []) c fit is = good_at f _ c (record { built = refl; coloured = tt }) is
+  at_makes more vs c fit is = cc
+
+  show_makes : Makes f show_row
+  show_makes more (Called a ∷ Number x ∷ Number y ∷ Number w ∷ Number h ∷ []) c fit is = good_at f _ c (record { built = refl; coloured = tt }) is
+  show_makes more vs c fit is = cc
+
+  edition_makes : Makes f edition_row
+  edition_makes more [] c fit is = good_at f _ c (record { built = refl; coloured = tt }) is
+  edition_makes more (v ∷ vs) c fit is = cc
+
+  counted : (count : ℕ) (row e : Entry) → Makes f row → with_count count row ≡ Ok e → Makes f e
+  counted count row e makes is = elim (bool_cases (length row.arguments == count)) [
+    | inl same ↦ let g : Ok row ≡ Ok e = rw same at is in let h : row ≡ e = cc in subst (λ (x : Entry). Makes f x) h makes
+    | inr other ↦ let g : Err codes_of.Count ≡ Ok e = rw other at is in absurd (cc)
+  ]
+
+  -- the row of one of the words
+  row_of : (count : ℕ) (word name : List ℕ) (row e : Entry) → name ≡ word → Makes f row → entry_in_all f name count ≡ with_count count row → entry_in_all f word count ≡ Ok e → Makes f e
+  row_of count word name row e same makes here is =
+      let there : entry_in_all f name count ≡ Ok e = subst (λ (w : List ℕ). entry_in_all f w count ≡ Ok e) (sym same) is in
+      counted count row e makes (sym here ∙ there)
+
+  built_entry : (word : List ℕ) (count : ℕ) (e : Entry) → is_built_word word ≡ true → entry_in_all f word count ≡ Ok e → Makes f e
+  built_entry word count e built is = elim (bool_cases (bytes_eq (codes "region") word)) [
+    | inl yes_ ↦ row_of count word (codes "region") region_row e (same_bytes _ _ yes_) region_makes refl is
+    | inr no_ ↦ elim (bool_cases (bytes_eq (codes "set") word)) [
+      | inl yes_ ↦ row_of count word (codes "set") set_row e (same_bytes _ _ yes_) set_makes refl is
+      | inr no1 ↦ elim (bool_cases (bytes_eq (codes "at") word)) [
+        | inl yes_ ↦ row_of count word (codes "at") at_row e (same_bytes _ _ yes_) at_makes refl is
+        | inr no2 ↦ elim (bool_cases (bytes_eq (codes "show") word)) [
+          | inl yes_ ↦ row_of count word (codes "show") show_row e (same_bytes _ _ yes_) show_makes refl is
+          | inr no3 ↦ elim (bool_cases (bytes_eq (codes "edition") word)) [
+            | inl yes_ ↦ row_of count word (codes "edition") edition_row e (same_bytes _ _ yes_) edition_makes refl is
+            | inr no4 ↦ absurd (let none : false ≡ true = rw (no_, no1, no2, no3, no4) at built in cc)
+          ]
+        ]
+      ]
+    ]
+  ]
+
+  entry_makes : (word : List ℕ) (count : ℕ) (e : Entry) → entry_of f word count ≡ Ok e → Makes f e
+  entry_makes word count e is = elim (bool_cases (is_built_word word)) [
+    | inl built ↦ built_entry word count e built (rw built at is)
+    | inr not_ ↦ absurd (let none : Err codes_of.Word ≡ Ok e = rw not_ at is in cc)
+  ]
+
+  words_good : (more : Further) (words : List (List ℕ)) (c : Command) → form_of_words f more words ≡ Ok c → IsGood f c
+  unfolding form_of_words
+  words_good more [] c is = cc
+  words_good more (word ∷ words) c is =
+      let first = bound (entry_of f word (length words)) _ c is in
+      let second = bound (values_of first.0.arguments words) _ c first.2 in
+      entry_makes word (length words) first.0 first.1 more second.0 c (values_fit first.0.arguments words second.0 second.1) (or_some codes_of.Word _ c second.2)
+
+  line_good : (line : List ℕ) (more : Further) (c : Command) → form_of_line f line more ≡ Ok c → IsGood f c
+  line_good line more c is = elim (bool_cases (list_all is_plain line)) [
+    | inl plain ↦ words_good more (words_of line) c (rw plain at is)
+    | inr not_ ↦ let no_ : Err codes_of.Bytes ≡ Ok c = rw not_ at is in absurd (cc)
+  ]
+
+  form_good : (item : Item) (c : Command) → form f item ≡ Ok c → IsGood f c
+  unfolding form
+  form_good Long c is = cc
+  form_good (Line line) c is = line_good line _ c is
+  form_good (Rows line rows) c is = line_good line _ c is
+  form_good (PointLines line points) c is = line_good line _ c is
+  form_good (RingLines line rings) c is = line_good line _ c is
+
+pub spelled_built : (f n : ℕ) (c : Command) → Spelled f n c → is_built c ≡ true
+spelled_built f n c spelled = (form_good f (held f n spelled.0) c spelled.1).built
+
+pub spelled_coloured : (f n : ℕ) (c : Command) → Spelled f n c → IsColoured f c
+spelled_coloured f n c spelled = (form_good f (held f n spelled.0) c spelled.1).coloured
 
 -- a command that is none of these is not spelled
 pub none_other : (c : Command) → is_built c ≡ true → ((a : List ℕ) (k : Colour) → c ≡ commands.Region a k → ⊥) → ((a : List ℕ) (p : Pixel) (k : Colour) → c ≡ commands.Set a p k → ⊥) →

@@ -1,6 +1,8 @@
 -- The map that a list of layers is.
 use Rattle.std.proofs.Common.{◌≡◌, ◌⊎◌, inl, inr, ℕ, zero, suc, ◌+◌, ◌<◌, Bool, true, false, cond, List, [], ◌∷◌, ◌++◌, length, map, get_or, Some, None, refl, sym, ◌∙◌, ap, subst, arith, position, nat_lt, set}
 use Rattle.std.specs.List.{position_or_len}
+use Rattle.std.specs.Str.{bytes_eq}
+use Rattle.std.proofs.lemmas.Slice.Eq.{bytes_eq-Decides}
 use Rattle.std.specs.Ordering.{nat_cmp, eq_by_cmp, is_eq}
 use Rattle.std.specs.declared.cmp.Ordering.{Ordering}
 use Rattle.std.specs.declared.cmp.Ordering.TheVariants.{Less, Equal, Greater}
@@ -125,3 +127,6 @@ as_many a ls i l at name =
 pub some_there : (a : List ℕ) (ls : List kept.Layer) (i : ℕ) → IsAt a ls i → (l : kept.Layer) × (finmap.get (map_of ls) a ≡ Some (Region l.colours.items))
 some_there a ls i at =
     let found = some_present a ls i at.within at.here at.before in (found.0, get-from_entries nat_list_cmp_total (map entry ls) a ∙ found.1)
+
+pub same_bytes : (a b : List ℕ) → bytes_eq a b ≡ true → a ≡ b
+same_bytes a b is = (bytes_eq-Decides a b).0 is

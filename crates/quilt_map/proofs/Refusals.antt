@@ -26,8 +26,10 @@ refusal_is no.Full = refl
 refusal_is no.Layers = refl
 refusal_is no.Long = refl
 refusal_is no.Rows = refl
+refusal_is no.Format = refl
 refusal_is no.Editions = refl
 refusal_is no.Bytes = refl
+refusal_is no.Many = refl
 
 -- what a reply of the session is told by
 told_no : (text : List ℕ) (code : Code) (r : Reply) → text ≡ refusal code → r ≡ Refused code → text ≡ text_of r

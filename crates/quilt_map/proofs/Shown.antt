@@ -6,10 +6,10 @@ use Rattle.std.proofs.lemmas.List.{map-append}
 use Rattle.quilt_types.specs.declared.plane.Window.{Window}
 use Rattle.quilt_types.specs.Plane.{below}
 use Rattle.quilt_types.specs.Layers.{colour_at, Grid}
-use Rattle.quilt_map.specs.Answers.{hex}
+use Rattle.quilt_map.specs.Answers.{digits_of}
 
-abbrev pub two_digits : ℕ → Grid → Window → ℕ → ℕ → List ℕ
-two_digits n g w dy dx = let c = colour_at n g (record { x = w.x + dx; y = w.y + dy }) in hex (c / 16) ∷ hex (c % 16) ∷ []
+abbrev pub digits_at : ℕ → ℕ → Grid → Window → ℕ → ℕ → List ℕ
+digits_at f n g w dy dx = digits_of f (colour_at n g (record { x = w.x + dx; y = w.y + dy }))
 
 range_next : (a n : ℕ) → range_with_len a (suc n) ≡ range_with_len a n ++ (a + n) ∷ []
 range_next a zero = let e : a ≡ a + zero = omega arith in ap (λ (x : ℕ). x ∷ []) e

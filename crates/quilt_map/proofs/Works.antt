@@ -4,16 +4,19 @@ use Rattle.std.specs.Ordering.{nat_cmp}
 use Rattle.std.specs.Cmp.Lexicographic.{slice_cmp}
 use Rattle.std.specs.FinMap as finmap
 use Rattle.std.specs.FinMap.{len-empty}
-use Rattle.std.proofs.lemmas.Bool.{ltb-true, lt-leb, le-leb, and_parts}
+use Rattle.std.proofs.lemmas.Bool.{ltb-true, leb-true, lt-leb, le-leb, and_parts}
 use Rattle.std.proofs.lemmas.Nat.{mul-add-lt}
 use Rattle.std.proofs.lemmas.Grind.{get_or_default_zero}
 use Rattle.std.proofs.lemmas.List.Elements.{All-set, All-push}
+use Rattle.std.proofs.lemmas.List.{get_or-replicate, length-replicate}
+use Rattle.std.specs.Prelude.{All}
 use Rattle.quilt_types.specs.declared.plane.Pixel.{Pixel}
 use Rattle.quilt_types.specs.declared.plane.Window.{Window}
 use Rattle.quilt_types.specs.declared.plane.Colour.{Colour}
+use Rattle.quilt_types.specs.declared.code.Code.{Code}
 use Rattle.quilt_types.specs.declared.code.Code.TheVariants as no
 use Rattle.quilt_types.specs.Plane.{side, is_pixel, is_window, below}
-use Rattle.quilt_types.specs.Layers.{Layer, Region, colour_at}
+use Rattle.quilt_types.specs.Layers.{Layer, Region, colour_at, colours}
 use Rattle.quilt_types.specs.Algebra.{uniform, painted}
 use Rattle.quilt_lang.specs.declared.command.Command.TheVariants as commands
 use Rattle.quilt_map.specs.Answers.{State, layer, Done, row_line}
@@ -22,7 +25,7 @@ use Rattle.quilt_map.specs.declared.layer.Layer as kept
 use Rattle.quilt_map.specs.declared.work.Work.{Work}
 use Rattle.quilt_map.specs.declared.reply.Reply.TheVariants as reply
 use Rattle.quilt_map.specs.Grids.{IsPlain, has_name, map_of}
-use Rattle.quilt_map.specs.States.{state_of, IsAnswer, IsWithinQuota}
+use Rattle.quilt_map.specs.States.{state_of, new_refusal, IsAnswer, IsWithinQuota}
 use Rattle.quilt_map.proofs.MapOf.{IsAt, not_there, stands_at, there, pushed, replaced, some_there, one_more, as_many, same_names}
 use Rattle.quilt_map.proofs.Paints.{uniform_is, painted_is}
 use Rattle.quilt_map.proofs.Answering.{pixel_window, is_refused, is_done_with, region_exists, region_many, region_done, set_unknown, set_outside, set_done, at_unknown, at_outside, at_done, show_unknown, show_outside, show_done, edition_done}
@@ -52,36 +55,47 @@ found_size w a i l at is =
     let here = stands_at a w.layers.items i at in
     ap (λ (k : kept.Layer). length k.colours.items) is ∙ w.plain.sized i l here.within
 
+pub found_colours : (w : Work) (a : List ℕ) (i : ℕ) (l : kept.Layer) → position (has_name a) w.layers.items ≡ Some i → l ≡ get_or w.layers.items i l → All (λ c. c < colours w.format) l.colours.items
+found_colours w a i l at is =
+    let here = stands_at a w.layers.items i at in
+    subst (λ (k : kept.Layer). All (λ c. c < colours w.format) k.colours.items) (sym is) (w.plain.coloured i l here.within)
+
+pub all_replicate : (f n c : ℕ) → c < colours f → All (λ x. x < colours f) (replicate n c)
+all_replicate f n c small = λ k d within. subst (λ x. x < colours f) (sym (get_or-replicate n k c d (omega (arith, within, length-replicate {A = ℕ} n c)))) small
+
 pub found_name : (w : Work) (a : List ℕ) (i : ℕ) (l : kept.Layer) → position (has_name a) w.layers.items ≡ Some i → l ≡ get_or w.layers.items i l → l.name ≡ a
 found_name w a i l at is =
     let here = stands_at a w.layers.items i at in
     ap (λ (k : kept.Layer). k.name) is ∙ sym (same_names a (get_or w.layers.items i l).name (here.here l))
 
 -- a layer more, and one in place of another
-pub plain_pushed : (n : ℕ) (ls : List kept.Layer) (l : kept.Layer) → IsPlain n ls → finmap.get (map_of ls) l.name ≡ None → length ls < 255 → length l.colours.items ≡ side n * side n →
-    IsPlain n (ls ++ l ∷ [])
-plain_pushed n ls l so new room size = record {
+pub plain_pushed : (f n : ℕ) (ls : List kept.Layer) (l : kept.Layer) → IsPlain f n ls → finmap.get (map_of ls) l.name ≡ None → length ls < 255 → length l.colours.items ≡ side n * side n →
+    All (λ c. c < colours f) l.colours.items → IsPlain f n (ls ++ l ∷ [])
+plain_pushed f n ls l so new room size small = record {
   low = so.low;
   high = so.high;
   apart = one_more ls l new ∙ (let e = so.apart in let f = length-append ls (l ∷ []) in omega arith);
   few = omega (arith, room, length-append ls (l ∷ []));
   sized = All-push (λ (k : kept.Layer). length k.colours.items ≡ side n * side n) ls l so.sized size;
+  coloured = All-push (λ (k : kept.Layer). All (λ c. c < colours f) k.colours.items) ls l so.coloured small;
 }
 
-pub plain_set : (n : ℕ) (a : List ℕ) (ls : List kept.Layer) (i : ℕ) (l : kept.Layer) → IsPlain n ls → IsAt a ls i → l.name ≡ a → length l.colours.items ≡ side n * side n → IsPlain n (set ls i l)
-plain_set n a ls i l so at name size = record {
+pub plain_set : (f n : ℕ) (a : List ℕ) (ls : List kept.Layer) (i : ℕ) (l : kept.Layer) → IsPlain f n ls → IsAt a ls i → l.name ≡ a → length l.colours.items ≡ side n * side n →
+    All (λ c. c < colours f) l.colours.items → IsPlain f n (set ls i l)
+plain_set f n a ls i l so at name size small = record {
   low = so.low;
   high = so.high;
   apart = as_many a ls i l at name ∙ so.apart ∙ sym (length-set ls i l);
   few = let f = so.few in let e = length-set ls i l in omega arith;
   sized = All-set (λ (k : kept.Layer). length k.colours.items ≡ side n * side n) ls i l size so.sized;
+  coloured = All-set (λ (k : kept.Layer). All (λ c. c < colours f) k.colours.items) ls i l small so.coloured;
 }
 
 -- a layer more, or none where memory ran out
-pub plain_either : (n : ℕ) (ls : List kept.Layer) (l : kept.Layer) (b : Bool) (items : List kept.Layer) → items ≡ cond b (ls ++ l ∷ []) ls → IsPlain n ls →
-    finmap.get (map_of ls) l.name ≡ None → length ls < 255 → length l.colours.items ≡ side n * side n → IsPlain n items
-plain_either n ls l true items is so new room size = rw is (plain_pushed n ls l so new room size)
-plain_either n ls l false items is so new room size = rw is so
+pub plain_either : (f n : ℕ) (ls : List kept.Layer) (l : kept.Layer) (b : Bool) (items : List kept.Layer) → items ≡ cond b (ls ++ l ∷ []) ls → IsPlain f n ls →
+    finmap.get (map_of ls) l.name ≡ None → length ls < 255 → length l.colours.items ≡ side n * side n → All (λ c. c < colours f) l.colours.items → IsPlain f n items
+plain_either f n ls l true items is so new room size small = rw is (plain_pushed f n ls l so new room size small)
+plain_either f n ls l false items is so new room size small = rw is so
 
 pub says_exists : (q : ℕ) (w : Work) (a : List ℕ) (c : Colour) (i : ℕ) → position (has_name a) w.layers.items ≡ Some i → IsAnswer (state_of q w) (commands.Region a c) (reply.No no.Exists) (state_of q w)
 says_exists q w a c i at =
@@ -92,6 +106,34 @@ pub says_many : (q : ℕ) (w : Work) (a : List ℕ) (c : Colour) → position (h
 says_many q w a c at many =
     is_refused (state_of q w) (commands.Region a c) no.Layers
     (region_many (state_of q w) a c (not_there a w.layers.items at) (le-leb 255 _ (let e = w.plain.apart in omega (arith, e, many))))
+
+-- no layer can come under the name
+pub says_refused : (q : ℕ) (w : Work) (a : List ℕ) (c : Colour) (code : Code) → new_refusal (is_some (position (has_name a) w.layers.items)) (nat_le 255 (length w.layers.items)) ≡ Some code →
+    IsAnswer (state_of q w) (commands.Region a c) (reply.No code) (state_of q w)
+says_refused q w a c code is = refused_by (is_some (position (has_name a) w.layers.items)) (nat_le 255 (length w.layers.items)) refl refl is
+  where
+    exists : (d : Code) → no.Exists ≡ d → is_some (position (has_name a) w.layers.items) ≡ true → IsAnswer (state_of q w) (commands.Region a c) (reply.No d) (state_of q w)
+    exists d same there =
+        let found = some_of (position (has_name a) w.layers.items) there in
+        subst (λ (e : Code). IsAnswer (state_of q w) (commands.Region a c) (reply.No e) (state_of q w)) same (says_exists q w a c found.0 found.1)
+
+    many : (d : Code) → no.Layers ≡ d → is_some (position (has_name a) w.layers.items) ≡ false → nat_le 255 (length w.layers.items) ≡ true →
+        IsAnswer (state_of q w) (commands.Region a c) (reply.No d) (state_of q w)
+    many d same none full =
+        subst (λ (e : Code). IsAnswer (state_of q w) (commands.Region a c) (reply.No e) (state_of q w)) same
+        (says_many q w a c (none_of (position (has_name a) w.layers.items) none) (leb-true 255 (length w.layers.items) full))
+
+    refused_by : (there full : Bool) → is_some (position (has_name a) w.layers.items) ≡ there → nat_le 255 (length w.layers.items) ≡ full → new_refusal there full ≡ Some code →
+        IsAnswer (state_of q w) (commands.Region a c) (reply.No code) (state_of q w)
+    refused_by true full t f is = exists code (let e : Some no.Exists ≡ Some code = is in cc) t
+    refused_by false true t f is = many code (let e : Some no.Layers ≡ Some code = is in cc) t f
+    refused_by false false t f is = absurd (let e : None ≡ Some code = is in cc)
+
+-- a layer can come: no other has the name, and there is room
+pub room_for : (there full : Bool) → new_refusal there full ≡ None → (there ≡ false) × (full ≡ false)
+room_for true full is = absurd (let e : Some no.Exists ≡ None = is in cc)
+room_for false true is = absurd (let e : Some no.Layers ≡ None = is in cc)
+room_for false false is = (refl, refl)
 
 pub says_region : (q : ℕ) (w : Work) (new : State) (a : List ℕ) (c : Colour) (l : kept.Layer) (text : List ℕ) → position (has_name a) w.layers.items ≡ None → length w.layers.items < 255 →
     text ≡ codes "ok\n" → new.last ≡ (state_of q w).last → new.work ≡ map_of (w.layers.items ++ l ∷ []) → l.name ≡ a → l.colours.items ≡ replicate (side w.level * side w.level) c.0 →
@@ -164,20 +206,21 @@ says_show_outside q w a v i at out =
     is_refused (state_of q w) (commands.Show a v) no.Outside (show_outside (state_of q w) a v found.0.colours.items found.1 out)
 
 pub says_show : (q : ℕ) (w : Work) (a : List ℕ) (v : Window) (i : ℕ) (l : kept.Layer) (text : List ℕ) → position (has_name a) w.layers.items ≡ Some i → l ≡ get_or w.layers.items i l → is_window w.level v ≡ true →
-    text ≡ flat_map (λ r. r ++ 10 ∷ []) (map (row_line w.level l.colours.items v) (below v.h)) ++ codes "ok\n" → IsAnswer (state_of q w) (commands.Show a v) (reply.Ok text) (state_of q w)
+    text ≡ flat_map (λ r. r ++ 10 ∷ []) (map (row_line w.format w.level l.colours.items v) (below v.h)) ++ codes "ok\n" → IsAnswer (state_of q w) (commands.Show a v) (reply.Ok text) (state_of q w)
 says_show q w a v i l text at is inside says =
     let s = state_of q w in
     is_done_with s (commands.Show a v) _ _ text s (show_done s a v l.colours.items (grid_found q w a i l at is) inside)
-    (says ∙ sym (append_assoc (flat_map (λ r. r ++ 10 ∷ []) (map (row_line w.level l.colours.items v) (below v.h))) (codes "ok") (10 ∷ []))) refl refl
+    (says ∙ sym (append_assoc (flat_map (λ r. r ++ 10 ∷ []) (map (row_line w.format w.level l.colours.items v) (below v.h))) (codes "ok") (10 ∷ []))) refl refl
 
 pub says_edition : (q : ℕ) (w : Work) (text : List ℕ) → text ≡ (codes "edition " ++ decimal w.edition) ++ codes "\nok\n" → IsAnswer (state_of q w) commands.Edition (reply.Ok text) (state_of q w)
 says_edition q w text says = let s = state_of q w in is_done_with s commands.Edition _ _ text s (edition_done s) (says ∙ sym (body_text (codes "edition " ++ decimal w.edition))) refl refl
 
-pub plain_nothing : (n : ℕ) (ls : List kept.Layer) → ls ≡ [] → 1 ≤ n → n ≤ 12 → IsPlain n ls
-plain_nothing n ls none low high = rw none (record {
+pub plain_nothing : (f n : ℕ) (ls : List kept.Layer) → ls ≡ [] → 1 ≤ n → n ≤ 12 → IsPlain f n ls
+plain_nothing f n ls none low high = rw none (record {
   low = low;
   high = high;
   apart = len-empty (slice_cmp nat_cmp) Layer;
   few = omega arith;
   sized = λ k d lt. absurd (omega (arith, lt));
+  coloured = λ k d lt. absurd (omega (arith, lt));
 })

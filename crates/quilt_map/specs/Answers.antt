@@ -1,5 +1,5 @@
 -- The reply to each command, the work that it leaves, and the edition that it gives.
-use Rattle.std.specs.Prelude.{ℕ, ◌+◌, ◌/◌, ◌%◌, Bool, true, false, ◌&&◌, ◌||◌, not, ◌==◌, nat_le, nat_lt, List, [], ◌∷◌, ◌++◌, map, filter, fold, flat_map, count_by, reverse, Option, Some, None, is_some, is_none, option_map, if◌then◌else◌, codes, decimal, unwrap_or}
+use Rattle.std.specs.Prelude.{ℕ, ◌+◌, ◌/◌, ◌%◌, Bool, true, false, ◌&&◌, ◌||◌, not, ◌==◌, nat_le, nat_lt, List, [], ◌∷◌, ◌++◌, map, filter, fold, flat_map, count_by, reverse, length, ◌*◌, Option, Some, None, is_some, is_none, option_map, if◌then◌else◌, codes, decimal, unwrap_or}
 use Rattle.std.specs.List.{list_any}
 use Rattle.std.specs.FinMap as finmap
 use Rattle.quilt_types.specs.Sets as finset
@@ -14,6 +14,9 @@ use Rattle.quilt_types.specs.Fractions.{Fraction}
 use Rattle.quilt_types.specs.Segments.{meets, clip_range, nearest}
 use Rattle.quilt_types.specs.Quadtrees.{leaves, point_blocks, after_add, after_remove}
 use Rattle.quilt_types.specs.Facts.{records}
+use Rattle.quilt_types.specs.Polygons.{filled_rings, is_corner}
+use Rattle.quilt_types.specs.Ranking.{ranked}
+use Rattle.quilt_types.specs.Crossings.{crossings}
 use Rattle.quilt_types.specs.Algebra.{uniform, painted, union, intersection, difference, recoloured, cut_to, shifted, buffered, area, perimeter}
 use Rattle.quilt_types.specs.Layers.{Edition}
 use Rattle.quilt_types.specs.declared.code.Code.{Code}
@@ -64,7 +67,7 @@ is_region (Some (Region g)) = true
 is_region l = false
 
 abbrev pub is_points : Option Layer → Bool
-is_points (Some (Points p)) = true
+is_points (Some (Points b p)) = true
 is_points l = false
 
 abbrev pub is_lines : Option Layer → Bool
@@ -102,8 +105,12 @@ grid_in (Some (Region g)) = g
 grid_in l = []
 
 abbrev pub points_in : Option Layer → PointMap
-points_in (Some (Points p)) = p
+points_in (Some (Points b p)) = p
 points_in l = finmap.empty
+
+abbrev pub capacity_in : Option Layer → ℕ
+capacity_in (Some (Points b p)) = b
+capacity_in l = 1
 
 abbrev pub threshold_in : Option Layer → ℕ
 threshold_in (Some (Lines t segs cover)) = t
@@ -127,7 +134,7 @@ with s a l = finmap.insert s.work a l
 
 abbrev pub sides_of : ℕ → Layer → List ℕ
 sides_of n (Region g) = map (λ l. l.0.side) (leaves n g)
-sides_of n (Points p) = map (λ b. b.side) (point_blocks n p)
+sides_of n (Points capacity p) = map (λ b. b.side) (point_blocks n capacity p)
 sides_of n (Lines t segs cover) = map (λ b. b.side) (finset.items cover)
 
 -- a line for each side that occurs, the greatest first
@@ -138,7 +145,7 @@ block_lines n sides =
 
 abbrev pub kind_words : Layer → List (List ℕ)
 kind_words (Region g) = codes "region" ∷ []
-kind_words (Points p) = codes "points" ∷ []
+kind_words (Points capacity p) = codes "points" ∷ (if capacity == 1 then [] else decimal capacity ∷ [])
 kind_words (Lines t segs cover) = codes "lines" ∷ decimal t ∷ []
 
 abbrev pub layer_line : List ℕ × Layer → List ℕ
@@ -148,9 +155,15 @@ layer_line e = spaced (e.0 ∷ kind_words e.1)
 abbrev pub hex : ℕ → ℕ
 hex d = if nat_lt d 10 then d + 48 else d + 87
 
-abbrev pub row_line : ℕ → Grid → Window → ℕ → List ℕ
-row_line n g w dy =
-    flat_map (λ dx. let c = colour_at n g (record { x = w.x + dx; y = w.y + dy }) in hex (c / 16) ∷ hex (c % 16) ∷ []) (below w.w)
+-- two digits in format 1, and four in format 2
+abbrev pub digits_of : ℕ → ℕ → List ℕ
+digits_of f c =
+    if f == 1 then hex (c / 16) ∷ hex (c % 16) ∷ []
+    else hex (c / 4096) ∷ hex (c / 256 % 16) ∷ hex (c / 16 % 16) ∷ hex (c % 16) ∷ []
+
+abbrev pub row_line : ℕ → ℕ → Grid → Window → ℕ → List ℕ
+row_line f n g w dy =
+    flat_map (λ dx. digits_of f (colour_at n g (record { x = w.x + dx; y = w.y + dy }))) (below w.w)
 
 abbrev pub leaf_line : Block × ℕ → List ℕ
 leaf_line l = spaced (decimal l.0.x ∷ decimal l.0.y ∷ decimal l.0.side ∷ decimal l.1 ∷ [])
@@ -189,17 +202,48 @@ collide points (p ∷ ps) = is_some (finmap.get points p.at) || collide (finmap.
 abbrev pub with_points : PointMap → List Point → PointMap
 with_points points ps = fold (λ now p. finmap.insert now p.at p.label) points ps
 
+-- a line for each of these segments with its distance
+abbrev pub ranked_line : ℕ × Fraction → List ℕ
+ranked_line e = spaced (decimal e.0 ∷ fraction e.1 ∷ [])
+
+abbrev pub pair_line : ℕ × ℕ → List ℕ
+pair_line e = spaced (decimal e.0 ∷ decimal e.1 ∷ [])
+
+-- the colours that these bytes are, two each, the high one first
+abbrev pub colours_of_bytes : List ℕ → List ℕ
+colours_of_bytes (high ∷ low ∷ bytes) = (256 * high + low) ∷ colours_of_bytes bytes
+colours_of_bytes bytes = []
+
+-- a block of more than one point cannot be written in format 1
+abbrev pub unless_written : State → ℕ → Bool × Code
+unless_written s capacity = ((s.last.format == 1) && nat_lt 1 capacity, no.Format)
+
 -- The layer stands under the name, unless these tests or the quota refuse it.
 abbrev pub makes : State → List (Bool × Code) → List ℕ → Layer → Outcome
 makes s refusals c l =
     let work = with s c l in unless (refusals ++ full s work ∷ []) s (changed work)
 
 abbrev pub edition_after : State → Edition
-edition_after s = record { number = s.last.number + 1; level = s.last.level; layers = s.work }
+edition_after s = record { format = s.last.format; number = s.last.number + 1; level = s.last.level; layers = s.work }
+
+-- the same in format 2
+abbrev pub upgraded : State → Edition
+upgraded s = record { format = 2; number = s.last.number + 1; level = s.last.level; layers = s.work }
+
+abbrev pub no_more_editions : State → Bool × Code
+no_more_editions s = (s.last.number == 4294967295, no.Editions)
+
+-- the edition is published
+abbrev pub publishes_it : State → Edition → Outcome
+publishes_it s edition = record {
+  reply = Done (spaced (codes "edition" ∷ decimal edition.number ∷ []) ∷ []);
+  work = s.work;
+  published = Some edition;
+}
 
 unfoldable pub answer : State → Command → Outcome
 answer s (commands.Region a c) = makes s (exists s a ∷ too_many s ∷ []) a (Region (uniform s.last.level c.0))
-answer s (commands.Points p) = makes s (exists s p ∷ too_many s ∷ []) p (Points finmap.empty)
+answer s (commands.Points p b) = makes s (exists s p ∷ too_many s ∷ unless_written s b ∷ []) p (Points b finmap.empty)
 answer s (commands.Lines l t) =
     makes s (exists s l ∷ too_many s ∷ []) l
     (Lines t finmap.empty (finset.insert finset.empty (record { x = 0; y = 0; side = side s.last.level })))
@@ -217,13 +261,13 @@ answer s (commands.Set a at c) =
 answer s (commands.Rect a w c) =
     makes s (unknown s a ∷ unless_region s a ∷ window_outside s w ∷ []) a (Region (painted s.last.level (grid s a) w c.0))
 answer s (commands.Raster a rows) =
-    makes s (unknown s a ∷ unless_region s a ∷ (is_none rows, no.Rows) ∷ []) a (Region (unwrap_or rows []))
+    makes s (unknown s a ∷ unless_region s a ∷ (is_none rows, no.Rows) ∷ []) a (Region (colours_of_bytes (unwrap_or rows [])))
 answer s (commands.At a at) =
     unless (unknown s a ∷ unless_region s a ∷ outside s at ∷ []) s
     (told s (decimal (colour_at s.last.level (grid s a) at) ∷ []))
 answer s (commands.Show a w) =
     unless (unknown s a ∷ unless_region s a ∷ window_outside s w ∷ []) s
-    (told s (map (row_line s.last.level (grid s a) w) (below w.h)))
+    (told s (map (row_line s.last.format s.last.level (grid s a) w) (below w.h)))
 answer s (commands.Leaves a) =
     unless (unknown s a ∷ unless_region s a ∷ []) s (told s (map leaf_line (leaves s.last.level (grid s a))))
 answer s (commands.Union a b c) =
@@ -251,17 +295,17 @@ answer s (commands.Perimeter a c) =
     unless (unknown s a ∷ unless_region s a ∷ []) s (told s (decimal (perimeter s.last.level (grid s a) c.0) ∷ []))
 answer s (commands.Put p at label) =
     makes s (unknown s p ∷ unless_points s p ∷ outside s at ∷ (is_some (finmap.get (points_in (layer s p)) at), no.Present) ∷ []) p
-    (Points (finmap.insert (points_in (layer s p)) at label))
+    (Points (capacity_in (layer s p)) (finmap.insert (points_in (layer s p)) at label))
 answer s (commands.Del p at) =
     unless (unknown s p ∷ unless_points s p ∷ outside s at ∷ (is_none (finmap.get (points_in (layer s p)) at), no.Absent) ∷ []) s
-    (changed (with s p (Points (finmap.remove (points_in (layer s p)) at))))
+    (changed (with s p (Points (capacity_in (layer s p)) (finmap.remove (points_in (layer s p)) at))))
 answer s (commands.Scatter p points) =
     let ps = unwrap_or points [] in
     makes s (
     unknown s p ∷ unless_points s p ∷ (is_none points, no.Rows)
     ∷ (list_any (λ q. not (is_pixel s.last.level q.at)) ps, no.Outside)
     ∷ (collide (points_in (layer s p)) ps, no.Present) ∷ []) p
-    (Points (with_points (points_in (layer s p)) ps))
+    (Points (capacity_in (layer s p)) (with_points (points_in (layer s p)) ps))
 answer s (commands.Find p at) =
     let found = finmap.get (points_in (layer s p)) at in
     unless (unknown s p ∷ unless_points s p ∷ outside s at ∷ (is_none found, no.Absent) ∷ []) s (told s (decimal (unwrap_or found 0) ∷ []))
@@ -295,11 +339,21 @@ answer s (commands.Over l a) =
     unless (unknown s l ∷ unknown s a ∷ unless_lines s l ∷ unless_region s a ∷ []) s
     (told s (map (λ e. decimal e.0) (filter (λ e. is_over s.last.level (grid s a) e.1) (finmap.entries (segs_in (layer s l))))))
 answer s commands.Edition = told s (spaced (codes "edition" ∷ decimal s.last.number ∷ []) ∷ [])
-answer s commands.Publish =
-    unless ((s.last.number == 4294967295, no.Editions) ∷ []) s
-    (record {
-      reply = Done (spaced (codes "edition" ∷ decimal (s.last.number + 1) ∷ []) ∷ []);
-      work = s.work;
-      published = Some (edition_after s);
-    })
+answer s commands.Publish = unless (no_more_editions s ∷ []) s (publishes_it s (edition_after s))
+answer s commands.Upgrade =
+    unless ((s.last.format == 2, no.Format) ∷ no_more_editions s ∷ []) s (publishes_it s (upgraded s))
 answer s commands.Revert = changed s.last.layers
+answer s (commands.Polygon c colour rings) =
+    let rs = unwrap_or rings [] in
+    makes s (
+    exists s c ∷ too_many s ∷ (is_none rings, no.Rows)
+    ∷ (list_any (list_any (λ k. not (is_corner (side s.last.level) k))) rs, no.Outside) ∷ []) c
+    (Region (filled_rings s.last.level rs colour.0))
+answer s (commands.Rank l at k) =
+    let segs = segs_in (layer s l) in
+    unless (unknown s l ∷ unless_lines s l ∷ outside s at ∷ (finmap.len segs == 0, no.Absent) ∷ []) s
+    (told s (map ranked_line (ranked segs at k)))
+answer s (commands.Crossings l m) =
+    let pairs = crossings (segs_in (layer s l)) (segs_in (layer s m)) in
+    unless (unknown s l ∷ unknown s m ∷ unless_lines s l ∷ unless_lines s m ∷ (nat_lt 1000000 (length pairs), no.Many) ∷ []) s
+    (told s (map pair_line pairs))

@@ -1,11 +1,12 @@
 -- A whole run: the replies to all items of a text, the work at the end, and the editions on the way.
-use Rattle.std.specs.Prelude.{ℕ, ◌+◌, Bool, true, false, ◌&&◌, ◌==◌, if◌then◌else◌, List, [], ◌∷◌, ◌++◌, map, flat_map, Option, Some, None, Result, Ok, Err, codes, length, unwrap_or, is_some, drop}
+use Rattle.std.specs.Prelude.{ℕ, ◌+◌, Bool, true, false, ◌&&◌, ◌||◌, ◌==◌, if◌then◌else◌, List, [], ◌∷◌, ◌++◌, map, flat_map, Option, Some, None, Result, Ok, Err, codes, length, unwrap_or, is_some, drop}
 use Rattle.quilt_types.specs.Layers.{Map, Edition}
 use Rattle.quilt_types.specs.declared.code.Code.{Code}
 use Rattle.quilt_types.specs.declared.code.Code.TheVariants as no
 use Rattle.quilt_lang.specs.declared.command.Command.{Command}
-use Rattle.quilt_lang.specs.declared.item.Item.{Item}
-use Rattle.quilt_lang.specs.Items.{items_of}
+use Rattle.quilt_lang.specs.declared.command.Command.TheVariants as commands
+use Rattle.quilt_types.specs.Facts.{changes}
+use Rattle.quilt_lang.specs.Items.{Group, held, items_of}
 use Rattle.quilt_lang.specs.Forms.{form}
 use Rattle.quilt_map.specs.Answers.{Reply, Done, Refused, Outcome, State, answer}
 
@@ -24,8 +25,10 @@ code_text no.Full = codes "11 full"
 code_text no.Layers = codes "12 layers"
 code_text no.Long = codes "13 long"
 code_text no.Rows = codes "14 rows"
+code_text no.Format = codes "15 format"
 code_text no.Editions = codes "16 editions"
 code_text no.Bytes = codes "17 bytes"
+code_text no.Many = codes "18 many"
 
 -- the text of a reply: its body and `ok`, or the refusal
 abbrev pub text_of : Reply → List ℕ
@@ -35,6 +38,10 @@ text_of (Refused code) = codes "no " ++ code_text code ++ 10 ∷ []
 abbrev pub outcome_of : State → Result Command Code → Outcome
 outcome_of s (Ok command) = answer s command
 outcome_of s (Err code) = record { reply = Refused code; work = s.work; published = None }
+
+-- what an item spells in the format of the last edition
+abbrev pub form_in : Edition → Group → Result Command Code
+form_in last item = form last.format (held last.format last.level item)
 
 -- each reply with whether it gave an edition, the work at the end, and the editions from the first on
 pub record Run : Type 0 where
@@ -51,10 +58,10 @@ with_first e None es = es
 with_first e (Some new) es = e ∷ es
 
 -- the run of these items
-abbrev pub run_of : ℕ → Edition → Map → List Item → Run
+abbrev pub run_of : ℕ → Edition → Map → List Group → Run
 run_of quota last work [] = record { steps = []; work = work; editions = last ∷ [] }
 run_of quota last work (item ∷ items) =
-    let out = outcome_of (record { quota = quota; last = last; work = work }) (form item) in
+    let out = outcome_of (record { quota = quota; last = last; work = work }) (form_in last item) in
     let rest = run_of quota (unwrap_or out.published last) out.work items in
     record {
       steps = (out.reply, is_some out.published) ∷ rest.steps;
@@ -88,3 +95,30 @@ told_within (r ∷ rs) put n =
 
 unfoldable pub editions_told : Run → List ℕ → ℕ
 editions_told r put = told_within r.steps put 0
+
+-- A publish that gave an edition: how many replies stand before its own, and how many records were removed and added
+-- since the file was opened or since the last publish or revert.
+pub record Published : Type 0 where
+  pub before : ℕ
+  pub changed : ℕ
+
+abbrev pub is_revert : Result Command Code → Bool
+is_revert (Ok commands.Revert) = true
+is_revert r = false
+
+-- the publishes of these items, where so many replies stand before them and so many records were changed so far
+abbrev pub publishes_of : ℕ → Edition → Map → Published → List Group → List Published
+publishes_of quota last work so_far [] = []
+publishes_of quota last work so_far (item ∷ items) =
+    let out = outcome_of (record { quota = quota; last = last; work = work }) (form_in last item) in
+    let next : Published = record {
+      before = so_far.before + 1;
+      changed = if is_some out.published || is_revert (form_in last item) then 0 else so_far.changed + changes last.level work out.work;
+    } in
+    let rest = publishes_of quota (unwrap_or out.published last) out.work next items in
+    if is_some out.published then so_far ∷ rest else rest
+
+-- the publishes of a text
+unfoldable pub publishes : ℕ → Edition → List ℕ → List Published
+publishes quota first text =
+    publishes_of quota first first.layers (record { before = 0; changed = 0 }) (items_of first.level text)

@@ -1,5 +1,5 @@
-ghost use Rattle.std.specs.Prelude.{◌≡◌, ℕ, ◌<◌, ◌≤◌, ◌+◌, ◌*◌, Some, None, IfOk, OnOk, IfSome, MatchOption, codes, decimal, ◌++◌};
-ghost use Rattle.quilt_types.specs.Layers.{colour_at};
+ghost use Rattle.std.specs.Prelude.{◌≡◌, ℕ, ◌<◌, ◌≤◌, ◌+◌, ◌*◌, Some, None, IfOk, OnOk, IfSome, MatchOption, codes, decimal, ◌++◌, is_some, nat_le, position, length};
+ghost use Rattle.quilt_types.specs.Layers as layers;
 ghost use Rattle.quilt_lang.specs.Forms.{Spelled};
 ghost use Rattle.quilt_lang.specs.declared.command.Command.TheVariants as commands;
 
@@ -34,11 +34,12 @@ fn line(alloc: Global, body: &str) -> Result<Text, AllocError>
 }
 
 impl Work {
-    ghost use Rattle.quilt_map.specs.States.{state_of, IsWithinQuota, IsAnswer, IsRefusal};
+    ghost use Rattle.quilt_map.specs.Grids.{has_name};
+    ghost use Rattle.quilt_map.specs.States.{state_of, new_refusal, IsWithinQuota, IsAnswer, IsRefusal};
 
     /// The reply to a command, and the work that it leaves.
     pub fn apply(&mut self, command: &Command) -> Result<Reply, AllocError>
-        requires { Spelled self.old.level command.now }
+        requires { Spelled self.old.format self.old.level command.now }
         ensures refused { IfOk result (λ reply. IsRefusal reply → self.new ≡ self.old) }
         ensures answer { IfOk result (λ reply. (q : ℕ) → IsWithinQuota (state_of q self.old) command.now →
             IsAnswer (state_of q self.old) command.now reply (state_of q self.new)) }
@@ -53,17 +54,28 @@ impl Work {
         }
     }
 
-    /// Makes a region layer of one colour.
+    /// Why no layer can come under this name.
+    fn refusal_of_new(&self, a: &Name) -> Option<Code>
+        ensures { result ≡ new_refusal (is_some (position (has_name a.now) self.now.layers.items)) (nat_le 255 (length self.now.layers.items)) }
+    {
+        if index_of(&self.layers, a).is_some() {
+            Some(Code::Exists)
+        } else if self.layers.len() >= LAYER_LIMIT {
+            Some(Code::Layers)
+        } else {
+            None
+        }
+    }
+
+    /// Makes a region layer of one colour of the format.
     pub fn region(&mut self, a: &Name, c: Colour) -> Result<Reply, AllocError>
+        requires { c.0 < layers.colours self.old.format }
         ensures refused { IfOk result (λ reply. IsRefusal reply → self.new ≡ self.old) }
         ensures answer { IfOk result (λ reply. (q : ℕ) → IsWithinQuota (state_of q self.old) (commands.Region a.now c) →
             IsAnswer (state_of q self.old) (commands.Region a.now c) reply (state_of q self.new)) }
     {
-        if index_of(&self.layers, a).is_some() {
-            return Ok(Reply::No(Code::Exists));
-        }
-        if self.layers.len() >= LAYER_LIMIT {
-            return Ok(Reply::No(Code::Layers));
+        if let Some(code) = self.refusal_of_new(a) {
+            return Ok(Reply::No(code));
         }
         let alloc = *self.layers.allocator();
         let text = done(alloc)?;
@@ -73,8 +85,9 @@ impl Work {
         Ok(Reply::Ok(text))
     }
 
-    /// Gives a pixel a colour.
+    /// Gives a pixel a colour of the format.
     pub fn set(&mut self, a: &Name, at: Pixel, c: Colour) -> Result<Reply, AllocError>
+        requires { c.0 < layers.colours self.old.format }
         ensures refused { IfOk result (λ reply. IsRefusal reply → self.new ≡ self.old) }
         ensures answer { IfOk result (λ reply. (q : ℕ) → IsWithinQuota (state_of q self.old) (commands.Set a.now at c) →
             IsAnswer (state_of q self.old) (commands.Set a.now at c) reply (state_of q self.new)) }
@@ -120,7 +133,13 @@ impl Work {
             return Ok(Reply::No(Code::Outside));
         }
         let layer = &self.layers[i];
-        let text = rows(*self.layers.allocator(), &layer.colours, self.level, w)?;
+        let text = rows(
+            *self.layers.allocator(),
+            &layer.colours,
+            self.format,
+            self.level,
+            w,
+        )?;
         Ok(Reply::Ok(text))
     }
 

@@ -4,5 +4,5 @@ use quilt_types::Name;
 #[derive(Drop)]
 pub struct Layer {
     pub name: Name,
-    pub colours: Vec<u8>,
+    pub colours: Vec<u16>,
 }

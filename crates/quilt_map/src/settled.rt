@@ -4,10 +4,10 @@ ghost use Rattle.quilt_lang.specs.Items.{whole_items};
 ghost use Rattle.quilt_map.specs.Runs.{run};
 ghost use Rattle.quilt_map.specs.Settled.{IsSettled};
 
-use quilt_lang::whole_items_in;
+use quilt_lang::Lines;
 use std::alloc::{AllocError, Global};
 
-/// How many replies of a text that may go on are settled: those to its whole items.
+/// How many replies of a text that may go on are settled: those to its whole items, which are the same lines in either format.
 /// Whatever follows, and from whatever edition it runs, the replies to the longer text begin with these.
 /// It takes time and memory in the text's length.
 pub fn settled_replies(alloc: Global, level: u8, text: &[u8]) -> Result<usize, AllocError>
@@ -15,6 +15,11 @@ pub fn settled_replies(alloc: Global, level: u8, text: &[u8]) -> Result<usize, A
     ensures front { IfOk result (λ k. (q : ℕ) (first : Edition) → first.level ≡ level → (more : List ℕ) →
         IsSettled k (run q first text.now) (run q first (text.now ++ more))) }
 {
-    let items = whole_items_in(alloc, level, text)?;
+    let mut lines = Lines::new(alloc, level);
+    let mut items = Vec::new(alloc);
+    lines.feed(text)?;
+    'items: while let Some(item) = lines.next_item(1, false)? {
+        items.push(item)?;
+    }
     Ok(items.len())
 }

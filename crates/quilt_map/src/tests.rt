@@ -20,7 +20,7 @@ fn refuses(reply: &Reply, code: Code) -> bool {
 
 #[test]
 fn answers_the_five_commands(rt: HostRuntime) -> Result<(), Fail> {
-    let mut work = Work::new(rt.alloc(), 3, 0);
+    let mut work = Work::new(rt.alloc(), 1, 3, 0);
     let a = Name::of("a").ok_or("no name")?;
     let b = Name::of("b").ok_or("no name")?;
     let row = Window {
@@ -42,6 +42,23 @@ fn answers_the_five_commands(rt: HostRuntime) -> Result<(), Fail> {
     assert!(rt; refuses(&work.region(&a, Colour(1))?, Code::Exists));
     assert!(rt; refuses(&work.at(&b, Pixel { x: 9, y: 9 })?, Code::Unknown));
     assert!(rt; says(&work.number()?, b"edition 0\nok\n"));
+    Ok(())
+}
+
+#[test]
+fn shows_colours_of_two_bytes(rt: HostRuntime) -> Result<(), Fail> {
+    let mut work = Work::new(rt.alloc(), 2, 3, 0);
+    let a = Name::of("a").ok_or("no name")?;
+    let row = Window {
+        x: 0,
+        y: 0,
+        w: 2,
+        h: 1,
+    };
+    assert!(rt; says(&work.region(&a, Colour(258))?, b"ok\n"));
+    assert!(rt; says(&work.set(&a, Pixel { x: 1, y: 0 }, Colour(65534))?, b"ok\n"));
+    assert!(rt; says(&work.at(&a, Pixel { x: 1, y: 0 })?, b"65534\nok\n"));
+    assert!(rt; says(&work.show(&a, row)?, b"0102fffe\nok\n"));
     Ok(())
 }
 

@@ -9,10 +9,11 @@ use std::alloc::{AllocError, Global};
 /// The work, layer by layer in the order in which they came, over the empty map as the last edition.
 #[derive(Drop)]
 pub struct Work {
+    pub format: u8,
     pub level: u8,
     pub edition: u32,
     pub layers: Vec<Layer>,
-    ghost plain: { IsPlain level layers.items },
+    ghost plain: { IsPlain format level layers.items },
 }
 
 /// The place of the layer with this name.
@@ -34,7 +35,7 @@ pub fn side_of(level: u8) -> usize
 }
 
 /// The colours of a square of one colour.
-pub fn uniform(alloc: Global, side: usize, c: u8) -> Result<Vec<u8>, AllocError>
+pub fn uniform(alloc: Global, side: usize, c: u16) -> Result<Vec<u16>, AllocError>
     requires { side ≤ 4096 }
     ensures { IfOk result (λ v. v.items ≡ replicate (side * side) c) }
 {
@@ -64,14 +65,16 @@ pub fn has_window(level: u8, w: Window) -> bool
 
 impl Work {
     /// No layer, over this edition.
-    pub fn new(alloc: Global, level: u8, edition: u32) -> Work
+    pub fn new(alloc: Global, format: u8, level: u8, edition: u32) -> Work
         requires low { 1 ≤ level }
         requires high { level ≤ 12 }
+        ensures format { result.format ≡ format }
         ensures level { result.level ≡ level }
         ensures edition { result.edition ≡ edition }
         ensures layers { result.layers.items ≡ [] }
     {
         Work {
+            format,
             level,
             edition,
             layers: Vec::new(alloc),

@@ -1,7 +1,13 @@
 pub mod Digits
+pub mod Events
 pub mod Front
 pub mod Lines
 pub mod Making
+pub mod Outcomes
 pub mod PlainFiles
+pub mod Prompts
 pub mod Running
+pub mod Runs
+pub mod Said
 pub mod Tables
+pub mod Turns

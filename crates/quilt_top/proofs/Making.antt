@@ -6,7 +6,7 @@ use Rattle.std.proofs.lemmas.Bool.{cases_lt}
 use Rattle.std.proofs.lemmas.List.{take_at, take-append-le, get_or-replicate, length-replicate}
 use Rattle.std.proofs.lemmas.List.Folds.{list_all-append}
 use Rattle.std.proofs.Math.Seq.{take-append-add}
-use Rattle.quilt_world.specs.Disk.{Pages, Log, Mark, marked, mark_from, unsynced_after, unsynced_from, is_unsynced, holds, CanLeave}
+use Rattle.quilt_world.specs.Disk.{Pages, Log, CanLeave}
 use Rattle.quilt_world.specs.PageBytes.{last_bytes, fixed_bytes}
 use Rattle.quilt_world.specs.Stops.{fixed}
 use Rattle.quilt_world.specs.Tale.{Tale, IsConsistent, Goes, put_bytes, taken_bytes, Begins}
@@ -20,10 +20,12 @@ use Rattle.quilt_edition.specs.Stands.{Stands}
 use Rattle.quilt_edition.specs.Creating.{IsBlank, is_of_pages, IsNoneOrEmpty, Creates, IsCreated}
 use Rattle.quilt_top.specs.declared.run.End.{End}
 use Rattle.quilt_top.specs.declared.run.End.TheVariants as ends
-use Rattle.quilt_loop.specs.Saying.{is_put, Says, SaysFront}
+use Rattle.quilt_top.specs.Saying.{Says, SaysFront}
+use Rattle.quilt_world.specs.Added.{AddsOnly, is_of_text}
+use Rattle.quilt_world.proofs.TextLaws.{text_leaves}
 use Rattle.quilt_top.specs.Words.{New}
 use Rattle.quilt_top.specs.Headline.{IsOneOf, IsStop, fresh, new_line, MakesFile, FindsFile, KeepsPromises, WhereTold}
-use Rattle.quilt_loop.proofs.Said.{put_bytes-append, taken_bytes-append}
+use Rattle.quilt_top.proofs.Events.{put_bytes-append, taken_bytes-append, nothing_taken}
 
 -- ---- events of one sort
 
@@ -46,41 +48,6 @@ pages_take_nothing (Put bytes ∷ log) only = absurd (cc)
 pages_take_nothing (Wrote page bytes ∷ log) only = pages_take_nothing log only
 pages_take_nothing (Tore page ∷ log) only = pages_take_nothing log only
 pages_take_nothing (Synced ∷ log) only = pages_take_nothing log only
-
-puts_take_nothing : (log : Log) → list_all is_put log ≡ true → taken_bytes log ≡ []
-puts_take_nothing [] only = refl
-puts_take_nothing (Took bytes ∷ log) only = absurd (cc)
-puts_take_nothing (Put bytes ∷ log) only = puts_take_nothing log only
-puts_take_nothing (Wrote page bytes ∷ log) only = absurd (cc)
-puts_take_nothing (Tore page ∷ log) only = absurd (cc)
-puts_take_nothing (Synced ∷ log) only = absurd (cc)
-
-mark_from-puts : (i : ℕ) (m : Mark) (log puts : Log) → list_all is_put puts ≡ true → mark_from i m (log ++ puts) ≡ mark_from i m log
-mark_from-puts i m [] [] only = refl
-mark_from-puts i m [] (Took bytes ∷ puts) only = absurd (cc)
-mark_from-puts i m [] (Put bytes ∷ puts) only = mark_from-puts i m [] puts only
-mark_from-puts i m [] (Wrote page bytes ∷ puts) only = absurd (cc)
-mark_from-puts i m [] (Tore page ∷ puts) only = absurd (cc)
-mark_from-puts i m [] (Synced ∷ puts) only = absurd (cc)
-mark_from-puts i m (e ∷ log) puts only = mark_from-puts i (marked i m e) log puts only
-
-unsynced_from-puts : (i : ℕ) (b : Bool) (log puts : Log) → list_all is_put puts ≡ true → unsynced_from i b (log ++ puts) ≡ unsynced_from i b log
-unsynced_from-puts i b [] [] only = refl
-unsynced_from-puts i b [] (Took bytes ∷ puts) only = absurd (cc)
-unsynced_from-puts i b [] (Put bytes ∷ puts) only = unsynced_from-puts i b [] puts only
-unsynced_from-puts i b [] (Wrote page bytes ∷ puts) only = absurd (cc)
-unsynced_from-puts i b [] (Tore page ∷ puts) only = absurd (cc)
-unsynced_from-puts i b [] (Synced ∷ puts) only = absurd (cc)
-unsynced_from-puts i b (e ∷ log) puts only = unsynced_from-puts i (unsynced_after i b e) log puts only
-
--- puts change no page
-puts_leave : (start : Pages) (log puts : Log) (image : Pages) → list_all is_put puts ≡ true → CanLeave start (log ++ puts) image → CanLeave start log image
-puts_leave start log puts image only left = record {
-  size = left.size;
-  kept = λ i within synced.
-      let so : is_unsynced i (log ++ puts) ≡ false = unsynced_from-puts i false log puts only ∙ synced in
-      subst (λ m. holds m (get_or start i []) (get_or image i [])) (mark_from-puts i _ log puts only) (left.kept i within so);
-}
 
 nil_front : (a b : List ℕ) → a ++ b ≡ [] → a ≡ []
 nil_front [] b is = refl
@@ -138,29 +105,29 @@ created_making path pages level door t u v is makes creates =
     }
 
 -- puts behind a file that is there
-said_making : (level : ℕ) (said : List ℕ) (t v w : Tale) → IsMaking level [] t v → IsCreated level v → Says said v w → IsMaking level said t w
-said_making level said t v w making created says = record {
+said_making : (level : ℕ) (said : List ℕ) (t v w : Tale) → IsMaking level [] t v → IsCreated level v → Says said v w → AddsOnly is_of_text v w → IsMaking level said t w
+said_making level said t v w making created says only = record {
   input = says.input ∙ making.input;
-  taken = ap taken_bytes says.log ∙ taken_bytes-append v.log says.events ∙ ap (λ (l : List ℕ). l ++ taken_bytes says.events) making.taken ∙ puts_take_nothing says.events says.puts;
+  taken = ap taken_bytes says.log ∙ taken_bytes-append v.log says.events ∙ ap (λ (l : List ℕ). l ++ taken_bytes says.events) making.taken ∙ nothing_taken says.events says.untaken;
   put = ap put_bytes says.log ∙ put_bytes-append v.log says.events ∙ ap (λ (l : List ℕ). l ++ put_bytes says.events) making.put ∙ says.put;
   crash = λ so_far image stop.
       let n = length so_far in
       let m = length v.log in
-      let front : so_far ≡ take n (v.log ++ says.events) =
-      sym (take_at so_far stop.front.0 n refl) ∙ ap (take n) (sym stop.front.1 ∙ says.log) in
-      let left : CanLeave v.start so_far image = subst (λ s. CanLeave s so_far image) says.file.start stop.left in
+      let front : so_far ≡ take n (v.log ++ only.events) =
+      sym (take_at so_far stop.front.0 n refl) ∙ ap (take n) (sym stop.front.1 ∙ only.log) in
+      let left : CanLeave v.start so_far image = subst (λ s. CanLeave s so_far image) only.file.start stop.left in
       elim (cases_lt m n) [
         | inl past ↦
             let k = n - m in
-            let events = take k says.events in
+            let events = take k only.events in
             let longer : so_far ≡ v.log ++ events =
-            front ∙ ap (λ j. take j (v.log ++ says.events)) (let e : n ≡ m + k = omega arith in e) ∙ take-append-add v.log says.events k in
-            let only : list_all is_put events ≡ true =
-            (and_both _ _ (sym (list_all-append is_put events (drop k says.events)) ∙ ap (list_all is_put) (take-append-drop k says.events) ∙ says.puts)).0 in
-            let there : CanLeave v.start v.log image = puts_leave v.start v.log events image only (subst (λ l. CanLeave v.start l image) longer left) in
+            front ∙ ap (λ j. take j (v.log ++ only.events)) (let e : n ≡ m + k = omega arith in e) ∙ take-append-add v.log only.events k in
+            let of_text : list_all is_of_text events ≡ true =
+            (and_both _ _ (sym (list_all-append is_of_text events (drop k only.events)) ∙ ap (list_all is_of_text) (take-append-drop k only.events) ∙ only.only)).0 in
+            let there : CanLeave v.start v.log image = text_leaves v.start v.log events image of_text (subst (λ l. CanLeave v.start l image) longer left) in
             ((making.crash v.log image (record { front = ([], sym (append-nil v.log)); left = there })).0, λ some. created.left image there)
         | inr within ↦
-            let shorter : so_far ≡ take n v.log = front ∙ take-append-le n v.log says.events within in
+            let shorter : so_far ≡ take n v.log = front ∙ take-append-le n v.log only.events within in
             making.crash so_far image (record {
               front = (drop n v.log, sym (take-append-drop n v.log) ∙ ap (λ (l : Log). l ++ drop n v.log) (sym shorter));
               left = left;
@@ -183,17 +150,17 @@ same_pages : (image : Pages) (pages : ℕ) (E : _) → length image ≡ 3 + 2 * 
 same_pages image pages E size stands =
     subst (IsMapFile image) (let e : stands.pages ≡ pages = omega (arith, size, stands.file.size) in e) stands.file
 
-file_done : (pages level : ℕ) (rose : Type 0) (t v w : Tale) → HasMade pages level t v → IsCreated level v → Says (new_line pages level) v w → IsConsistent w → MakesFile pages level rose ends.Done t w
-file_done pages level rose t v w has created says consistent =
-    let making = said_making level (new_line pages level) t v w has.making created says in
+file_done : (pages level : ℕ) (rose : Type 0) (t v w : Tale) → HasMade pages level t v → IsCreated level v → Says (new_line pages level) v w → AddsOnly is_of_text v w → IsConsistent w → MakesFile pages level rose ends.Done t w
+file_done pages level rose t v w has created says only consistent =
+    let making = said_making level (new_line pages level) t v w has.making created says only in
     let left : CanLeave w.start w.log w.seen = seen_left w.start w.log w.seen consistent.size consistent.last in
     let there : CanLeave v.start v.log w.seen =
-    puts_leave v.start v.log says.events w.seen says.puts
-    (subst (λ l. CanLeave v.start l w.seen) says.log (subst (λ s. CanLeave s w.log w.seen) says.file.start left)) in
+    text_leaves v.start v.log only.events w.seen only.only
+    (subst (λ l. CanLeave v.start l w.seen) only.log (subst (λ s. CanLeave s w.log w.seen) only.file.start left)) in
     let stands : Stands w.seen (fresh level) = created.left w.seen there in
     record {
       front = ([], sym (append-nil _ ∙ making.put));
-      done = λ is. (making.put, same_pages w.seen pages _ (consistent.size ∙ ap length says.file.start ∙ has.size) stands, stands);
+      done = λ is. (making.put, same_pages w.seen pages _ (consistent.size ∙ ap length only.file.start ∙ has.size) stands, stands);
       crash = making.crash;
       untouched = (making.input, making.taken);
       complete = λ not. inl refl;
@@ -242,7 +209,7 @@ module _ (path : List ℕ) (pages level : ℕ) (door : Door) (is : door ≡ door
         λ e. file_stopped pages level [] rose t v (new_line pages level, refl) has.making risen,
       )
 
-  pub put_stopped : (now : Door) → now ≡ door → rose → (o m n p : Option Tale) → Goes (MakesAt path (3 + 2 * pages) door) o m → Goes (Creates level) m n → IfSome n (IsCreated level) → Goes (SaysFront (new_line pages level)) n p → WhereTold (Promise now ends.Device) o p
+  pub put_stopped : (now : Door) → now ≡ door → rose → (o m n p : Option Tale) → Goes (MakesAt path (3 + 2 * pages) door) o m → Goes (Creates level) m n → IfSome n (IsCreated level) → Goes (λ v w. SaysFront (new_line pages level) v w × AddsOnly is_of_text v w) n p → WhereTold (Promise now ends.Device) o p
   put_stopped now same risen None None None None makes creates created says = tt
   put_stopped now same risen None None None (Some w) makes creates created says = absurd says
   put_stopped now same risen None None (Some v) p makes creates created says = absurd creates
@@ -253,10 +220,10 @@ module _ (path : List ℕ) (pages level : ℕ) (door : Door) (is : door ≡ door
   put_stopped now same risen (Some t) (Some u) (Some v) (Some w) makes creates created says =
       let has = created_making path pages level door t u v is makes creates in (
         subst (λ d. FindsFile path d ends.Device t w) (sym same) (finds_made path _ door ends.Device t u w is makes not_device),
-        λ e. file_stopped pages level says.said rose t w says.front (said_making level says.said t v w has.making created says.says) risen,
+        λ e. file_stopped pages level says.0.said rose t w says.0.front (said_making level says.0.said t v w has.making created says.0.says says.1) risen,
       )
 
-  pub all_done : (size : ℕ) (now : Door) → now ≡ door → (o m n p : Option Tale) → Goes (MakesAt path (3 + 2 * pages) door) o m → Goes (Creates level) m n → IfSome n (IsCreated level) → Goes (Says (new_line pages level)) n p → IfSome p (λ t. IsConsistent t × (length t.start ≡ size)) → WhereTold (Promise now ends.Done) o p
+  pub all_done : (size : ℕ) (now : Door) → now ≡ door → (o m n p : Option Tale) → Goes (MakesAt path (3 + 2 * pages) door) o m → Goes (Creates level) m n → IfSome n (IsCreated level) → Goes (λ v w. Says (new_line pages level) v w × AddsOnly is_of_text v w) n p → IfSome p (λ t. IsConsistent t × (length t.start ≡ size)) → WhereTold (Promise now ends.Done) o p
   all_done size now same None None None None makes creates created says law = tt
   all_done size now same None None None (Some w) makes creates created says law = absurd says
   all_done size now same None None (Some v) p makes creates created says law = absurd creates
@@ -267,5 +234,5 @@ module _ (path : List ℕ) (pages level : ℕ) (door : Door) (is : door ≡ door
   all_done size now same (Some t) (Some u) (Some v) (Some w) makes creates created says law =
       let has = created_making path pages level door t u v is makes creates in (
         subst (λ d. FindsFile path d ends.Done t w) (sym same) (finds_made path _ door ends.Done t u w is makes not_done),
-        λ e. file_done pages level rose t v w has created says law.0,
+        λ e. file_done pages level rose t v w has created says.0 says.1 law.0,
       )

@@ -13,13 +13,12 @@ use Rattle.quilt_node.specs.Pages.{header_bytes, IsHead, IsHeader}
 use Rattle.quilt_node.specs.Nodes.{HeadFits}
 use Rattle.quilt_node.specs.Tree.{Whole, walk_of}
 use Rattle.quilt_edition.proofs.Empties.{no_records, spells_empty}
-use Rattle.quilt_edition.proofs.Headers.{same_level, same_height, same_edition}
-use Rattle.quilt_loop.specs.Running.{IsNew}
+use Rattle.quilt_edition.proofs.Headers.{same_format, same_level, same_height, same_edition}
 use Rattle.quilt_top.specs.Headline.{IsNoMap, StandsPlain, StandsForNothing}
 use Rattle.std.specs.Prelude.{MatchOption}
 use Rattle.quilt_top.specs.declared.opening.Opened.{Opened}
 use Rattle.quilt_top.specs.declared.opening.Opened.TheVariants as opened
-use Rattle.quilt_top.specs.Openings.{plain_edition, plain_head, Heads, Finds}
+use Rattle.quilt_top.specs.Openings.{IsNew, plain_edition, plain_head, Heads, Finds}
 
 first_bytes : (start : Pages) (i : ℕ) → last_bytes start [] i ≡ Some (get_or start i [])
 unfolding last_bytes
@@ -68,22 +67,23 @@ header_in : (n m : ℕ) (a b : List ℕ) (h : Head) → n ≡ m → a ≡ b → 
 header_in n m a b h size bytes so = subst (λ p. IsHeader p b h) size (subst (λ (l : List ℕ). IsHeader n l h) bytes so)
 
 -- a file with this header and its gate shut stands for the empty edition of that number
-pub plain_stands : (image : Pages) (pages level number : ℕ) → IsMapFile image pages → is_open image ≡ false → IsHeader pages (get_or image 3 []) (plain_head number level) → StandsPlain image (plain_edition number level)
-plain_stands image pages level number file shut header = record {
+pub plain_stands : (image : Pages) (pages format level number : ℕ) → IsMapFile image pages → is_open image ≡ false → IsHeader pages (get_or image 3 []) (plain_head format number level) → StandsPlain image (plain_edition format number level)
+plain_stands image pages format level number file shut header = record {
   stands = record {
     pages = pages;
     file = file;
     holds = record {
-      head = plain_head number level;
-      header = header_in pages (length (home image pages)) (get_or image 3 []) (get_or (home image pages) 0 []) (plain_head number level)
+      head = plain_head format number level;
+      header = header_in pages (length (home image pages)) (get_or image 3 []) (get_or (home image pages) 0 []) (plain_head format number level)
           (sym (home_size image pages)) (sym (home_first image pages (omega (arith, file.least)) shut)) header;
+      format = refl;
       number = refl;
       level = refl;
       records = [];
       visited = [];
       tree = no_walk (home image pages) 0;
       count = refl;
-      spelled = spells_empty level;
+      spelled = spells_empty format level;
     };
   };
   shut = shut;
@@ -114,10 +114,12 @@ plain_same image pages E F file a b =
     let x = a.stands.holds in
     let y = b.stands.holds in
     let bytes : header_bytes x.head ≡ header_bytes y.head = sym h.written ∙ k.written in
+    let format : E.format ≡ F.format =
+    x.format ∙ same_format x.head y.head (omega (arith, h.numbers.format.1)) (omega (arith, k.numbers.format.1)) bytes ∙ sym y.format in
     let number : E.number ≡ F.number = x.number ∙ same_edition x.head y.head h.numbers.edition k.numbers.edition bytes ∙ sym y.number in
     let level : E.level ≡ F.level = x.level ∙ same_level x.head y.head bytes ∙ sym y.level in
     let layers : E.layers ≡ F.layers = plain_layers image E a ∙ sym (plain_layers image F b) in
-    λ i. record { number = number i; level = level i; layers = layers i }
+    λ i. record { format = format i; number = number i; level = level i; layers = layers i }
 
 pub nothing_open : (image : Pages) → is_open image ≡ true → StandsForNothing image
 nothing_open image is E so = let e : true ≡ false = sym is ∙ so.shut in cc
@@ -127,10 +129,10 @@ nothing_headed image pages file none E so = none so.stands.holds.head so.no_tree
 
 -- ---- a header with no tree
 
-pub head_is : (pages : ℕ) (h : Head) → IsHead pages h → h.height ≡ 0 → h ≡ plain_head h.edition h.level
+pub head_is : (pages : ℕ) (h : Head) → IsHead pages h → h.height ≡ 0 → h ≡ plain_head h.format h.edition h.level
 head_is pages h so none =
     let both = so.no_tree none in
-    λ i. record { edition = h.edition; level = h.level; root = both.0 i; height = none i; records = both.1 i }
+    λ i. record { format = h.format; edition = h.edition; level = h.level; root = both.0 i; height = none i; records = both.1 i }
 
 pub head_fits : (pages : ℕ) (h : Head) → IsHead pages h → h.height ≡ 0 → HeadFits h
 head_fits pages h so none =
@@ -148,9 +150,9 @@ other_height pages page h k a b = same_height k h (sym b.written ∙ a.written)
 found_by : (start : Pages) (pages : ℕ) (page : List ℕ) (o : Opened) → IsMapFile start pages → is_open start ≡ false → page ≡ get_or start 3 [] → Heads pages page o → Finds o start
 found_by start pages page opened.NotMap file shut headed heads = absurd heads
 found_by start pages page opened.Damaged file shut headed heads = ((pages, file), nothing_headed start pages file (λ h none so. heads h none (header_in pages pages (get_or start 3 []) page h refl (sym headed) so)))
-found_by start pages page (opened.Plain n level number) file shut headed heads = (
+found_by start pages page (opened.Plain n format level number) file shut headed heads = (
   subst (λ (k : ℕ). IsMapFile start k) (sym heads.0) file,
-  plain_stands start pages level number file shut (header_in pages pages page (get_or start 3 []) (plain_head number level) refl headed heads.1),
+  plain_stands start pages format level number file shut (header_in pages pages page (get_or start 3 []) (plain_head format number level) refl headed heads.1),
 )
 
 pub found_labelled : (pages size : ℕ) (gate page : List ℕ) (o : Opened) (m n : Option Tale) → 16 ≤ pages → pages ≤ 30000 → size ≡ 3 + 2 * pages → (get_or gate 0 0 == 1) ≡ false →

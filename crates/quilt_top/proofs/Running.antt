@@ -1,5 +1,5 @@
 -- What a run over a file promises, by what it took and put.
-use Rattle.std.proofs.Common.{◌≡◌, inl, inr, ◌+◌, ◌≤◌, ◌<◌, ◌^◌, ℕ, Bool, true, false, ◌&&◌, cond, List, [], ◌∷◌, length, length-append, get_or, map, Option, Some, None, Result, Ok, Err, IfOk, IfErr, drop, refl, sym, ◌∙◌, ap, subst, arith, append-nil}
+use Rattle.std.proofs.Common.{◌≡◌, inl, inr, ◌+◌, ◌≤◌, ◌<◌, ℕ, Bool, true, false, ◌&&◌, cond, List, [], ◌∷◌, ◌++◌, length, length-append, get_or, map, Option, Some, None, Result, Ok, Err, IfOk, IfErr, drop, refl, sym, ◌∙◌, ap, subst, arith, append-nil}
 use Rattle.std.specs.Prelude.{slice_get}
 use Rattle.std.specs.Option.{IfSome}
 use Rattle.std.specs.List.{list_all}
@@ -17,22 +17,22 @@ use Rattle.quilt_world.specs.declared.disk.Door.TheVariants as doors
 use Rattle.quilt_world.proofs.PageLaws.{seen_left}
 use Rattle.quilt_edition.specs.Stands.{Stands}
 use Rattle.quilt_lang.specs.declared.command.Command.{Command}
-use Rattle.quilt_lang.specs.Items.{Group, held, items_of, groups_from, lines_of}
-use Rattle.quilt_lang.specs.Forms.{form}
+use Rattle.quilt_lang.specs.Items.{Group, items_of}
 use Rattle.quilt_map.specs.Answers.{State}
-use Rattle.quilt_map.specs.Runs.{Run, run, run_of, replies_of, output, outcome_of, text_of, prefix_of, told_within, editions_told}
-use Rattle.quilt_map.proofs.Built.{spelled_built}
-use Rattle.quilt_loop.specs.Quotas.{most_records}
-use Rattle.quilt_loop.specs.Running.{run_in, is_of_text, IsNew, RunsFrom, RunsWhole}
-use Rattle.quilt_loop.proofs.Quotas.{unpublished}
-use Rattle.quilt_loop.proofs.Runs.{reading_first, runs_now}
+use Rattle.quilt_map.specs.Runs.{Run, run, run_of, replies_of, output, form_in, outcome_of, text_of, prefix_of, told_within, editions_told}
+use Rattle.quilt_map.specs.Quotas.{most_records}
+use Rattle.quilt_top.specs.TextRun.{run_in, IsUntold, RunsFrom, RunsWhole, Overruns}
+use Rattle.quilt_world.specs.Added.{Only, AtEachTook, is_of_pages, is_of_text}
+use Rattle.quilt_map.proofs.TextLaws.{outcome_none}
+use Rattle.quilt_top.proofs.Runs.{reading_first, runs_now}
 use Rattle.quilt_top.specs.declared.run.End.{End}
 use Rattle.quilt_top.specs.declared.run.End.TheVariants as ends
-use Rattle.quilt_top.specs.Headline.{IsOneOf, ComesExactly, IsStop, IsEdition, all_done, RunsText, AtEachTook, IsPrompt, input_limit, told_by_replies, RunsInput, StandsPlain, IsNoMap, StandsForNothing, IsDamagePage, OpensSafely, FindsFile, HasEndCause, KeepsPromises, WhereTold}
+use Rattle.quilt_top.specs.Headline.{IsOneOf, ComesExactly, IsStop, IsEdition, all_done, RunsText, IsPrompt, input_limit, told_by_replies, RunsInput, StandsPlain, IsNoMap, StandsForNothing, IsDamagePage, OpensSafely, FindsFile, may_end_run, HasEndCause, KeepsPromises, WhereTold}
 use Rattle.quilt_top.specs.Words.{Run as RunText}
 use Rattle.quilt_top.specs.Openings.{first_state, RunsPlain, run_ends, plain_edition, end_of}
-use Rattle.quilt_loop.specs.declared.halt.Halt.{Halt}
-use Rattle.quilt_loop.specs.declared.halt.Halt.TheVariants as halts
+use Rattle.quilt_types.specs.declared.stop.Stop.TheVariants as stops
+use Rattle.quilt_top.specs.declared.halt.Halt.{Halt}
+use Rattle.quilt_top.specs.declared.halt.Halt.TheVariants as halts
 use Rattle.quilt_top.proofs.PlainFiles.{plain_same}
 use Rattle.quilt_world.specs.Causes.{Rose}
 
@@ -76,37 +76,33 @@ seen_is_start w only law = text_leaves w.start w.log w.seen only (seen_left w.st
 
 -- ---- no reply gives an edition
 
-outcome_none : (s : State) (n : ℕ) (g : Group) (r : Result Command Code) → form (held n g) ≡ r → (outcome_of s r).published ≡ None
-outcome_none s n g (Ok c) is = unpublished s c (spelled_built n c (g, is))
-outcome_none s n g (Err code) is = refl
-
-editions_first : (q : ℕ) (last : Edition) (work : Map) (n : ℕ) (gs : List Group) → (run_of q last work (map (held n) gs)).editions ≡ last ∷ []
-editions_first q last work n [] = refl
-editions_first q last work n (g ∷ gs) =
+editions_first : (q : ℕ) (last : Edition) (work : Map) (gs : List Group) → (run_of q last work gs).editions ≡ last ∷ []
+editions_first q last work [] = refl
+editions_first q last work (g ∷ gs) =
     let s : State = record { quota = q; last = last; work = work } in
-    let out = outcome_of s (form (held n g)) in
-    let none : out.published ≡ None = outcome_none s n g (form (held n g)) refl in
-    rw none (editions_first q last out.work n gs)
+    let out = outcome_of s (form_in last g) in
+    let none : out.published ≡ None = outcome_none s g (form_in last g) refl in
+    rw none (editions_first q last out.work gs)
 
 cond_zero : (b : Bool) (x : ℕ) → x ≡ 0 → cond b x 0 ≡ 0
 cond_zero true x is = is
 cond_zero false x is = refl
 
-told_none : (q : ℕ) (last : Edition) (work : Map) (n : ℕ) (gs : List Group) (put : List ℕ) → told_within (run_of q last work (map (held n) gs)).steps put 0 ≡ 0
-told_none q last work n [] put = refl
-told_none q last work n (g ∷ gs) put =
+told_none : (q : ℕ) (last : Edition) (work : Map) (gs : List Group) (put : List ℕ) → told_within (run_of q last work gs).steps put 0 ≡ 0
+told_none q last work [] put = refl
+told_none q last work (g ∷ gs) put =
     let s : State = record { quota = q; last = last; work = work } in
-    let out = outcome_of s (form (held n g)) in
-    let none : out.published ≡ None = outcome_none s n g (form (held n g)) refl in
-    rw none (cond_zero (prefix_of (text_of out.reply) put) _ (told_none q last out.work n gs (drop (length (text_of out.reply)) put)))
+    let out = outcome_of s (form_in last g) in
+    let none : out.published ≡ None = outcome_none s g (form_in last g) refl in
+    rw none (cond_zero (prefix_of (text_of out.reply) put) _ (told_none q last out.work gs (drop (length (text_of out.reply)) put)))
 
 run_editions : (q : ℕ) (first : Edition) (text : List ℕ) → (run q first text).editions ≡ first ∷ []
-unfolding run items_of
-run_editions q first text = editions_first q first first.layers first.level (groups_from first.level 0 (lines_of text))
+unfolding run
+run_editions q first text = editions_first q first first.layers (items_of first.level text)
 
 run_told : (q : ℕ) (first : Edition) (text put : List ℕ) → editions_told (run q first text) put ≡ 0
-unfolding run items_of editions_told
-run_told q first text put = told_none q first first.layers first.level (groups_from first.level 0 (lines_of text)) put
+unfolding run editions_told
+run_told q first text put = told_none q first first.layers (items_of first.level text) put
 
 run_is : (first : Edition) (text : List ℕ) → run_in (first_state first) (items_of first.level text) ≡ run (most_records first.level) first text
 unfolding run
@@ -121,6 +117,14 @@ is_run_end ends.Device = true
 is_run_end ends.Memory = true
 is_run_end ends.TooMuch = true
 is_run_end end = false
+
+run_end_allowed : (end : End) → IsOneOf end run_ends → may_end_run end ≡ true
+run_end_allowed end (inl e) = ap may_end_run e
+run_end_allowed end (inr (inl e)) = ap may_end_run e
+run_end_allowed end (inr (inr (inl e))) = ap may_end_run e
+run_end_allowed end (inr (inr (inr (inl e)))) = ap may_end_run e
+run_end_allowed end (inr (inr (inr (inr (inl e))))) = ap may_end_run e
+run_end_allowed end (inr (inr (inr (inr (inr e))))) = absurd e
 
 run_end : (end : End) → IsOneOf end run_ends → is_run_end end ≡ true
 run_end end (inl e) = ap is_run_end e
@@ -147,7 +151,7 @@ given_up end rose (inr (inr (inr (inl e)))) device calm = inr (inr (inl e))
 given_up end rose (inr (inr (inr (inr (inl e))))) device calm = inr (inr (inr (inl e)))
 given_up end rose (inr (inr (inr (inr (inr e))))) device calm = absurd e
 
-module _ (first : Edition) (end : End) (old w : Tale) (so : RunsPlain first end old w) where
+module _ (first : Edition) (end : End) (old w : Tale) (so : RunsPlain first end old w) (only : Only is_of_text w.log) where
   abbrev r : Run
   r = run (most_records first.level) first old.input
 
@@ -173,10 +177,10 @@ module _ (first : Edition) (end : End) (old w : Tale) (so : RunsPlain first end 
   runs_text rose stands law one device = record {
     front = subst (λ (x : Run). Begins (output (replies_of x)) (put_bytes w.log)) (run_is first old.input) so.runs.front;
     whole = λ is. (whole_of is).1.whole ∙ ap (λ (x : Run). output (replies_of x)) (run_is first old.input);
-    last = λ is. (0, one_edition, edition_at w.seen stands (seen_is_start w so.runs.only law));
+    last = λ is. (0, one_edition, edition_at w.seen stands (seen_is_start w only law));
     done = λ is. ap all_done (sym (run_is first old.input)) ∙ sym (so.done is).done;
     refused = λ is. ap all_done (sym (run_is first old.input)) ∙ sym (so.refused is).done;
-    crash = λ so_far image stop. (0, (let e = told_zero so_far in omega arith), edition_at image stands (stop_is_start w so_far image so.runs.only stop));
+    crash = λ so_far image stop. (0, (let e = told_zero so_far in omega arith), edition_at image stands (stop_is_start w so_far image only stop));
     complete = λ calm. given_up end rose one device calm;
   }
 
@@ -185,8 +189,10 @@ module _ (first : Edition) (end : End) (old w : Tale) (so : RunsPlain first end 
     text = runs_text rose stands law one device;
     prompt = subst (λ (x : Run). AtEachTook (IsPrompt first.level x) w.log) (run_is first old.input) so.runs.prompt;
     taken = λ is. (whole_of is).1.taken;
-    newest = λ so_far image stop. (0, omega arith, (let e = told_zero so_far in omega arith), edition_at image stands (stop_is_start w so_far image so.runs.only stop));
-    short = λ fits is. let past = so.too_much is in let all = ap length so.runs.input in let sum = length-append (taken_bytes w.log) w.input in omega arith;
+    newest = λ so_far image stop. (0, omega arith, (let e = told_zero so_far in omega arith), edition_at image stands (stop_is_start w so_far image only stop));
+    bounded = so.runs.bounded;
+    unanswered = λ is. let over = so.too_much is in (over.so_far, over.piece, over.last);
+    short = λ fits is. let past = (so.too_much is).past in let all = ap length so.runs.input in let sum = length-append (taken_bytes w.log) w.input in omega arith;
   }
 
   past_is : IsOneOf end run_ends → input_limit < length (taken_bytes w.log) → IsOneOf end (ends.TooMuch ∷ ends.Device ∷ ends.Memory ∷ [])
@@ -205,14 +211,14 @@ module _ (first : Edition) (end : End) (old w : Tale) (so : RunsPlain first end 
     quiet = λ none. absurd (none first stands);
     kept = λ n f none. absurd (none first stands);
     unwritten = λ none. absurd (none pages file);
-    too_much = record { only = so.too_much; always = past_is one };
+    too_much = record { only = λ is. (so.too_much is).past; always = past_is one };
   }
 
 -- ---- a run that did nothing
 
-pub quiet_plain : (first : Edition) (end : End) (w : Tale) → w.log ≡ [] → (end ≡ ends.Done → ⊥) → (end ≡ ends.Refused → ⊥) → (end ≡ ends.TooMuch → ⊥) → RunsPlain first end w w
-quiet_plain first end w log not_done not_refused not_much = record {
-  runs = runs_now first.level (first_state first) 0 true (first_state first) [] w w (reading_first first.level (first_state first) w (record { log = log }));
+pub quiet_plain : (first : Edition) (end : End) (w : Tale) → IsUntold w → (end ≡ ends.Done → ⊥) → (end ≡ ends.Refused → ⊥) → (end ≡ ends.TooMuch → ⊥) → RunsPlain first end w w
+quiet_plain first end w untold not_done not_refused not_much = record {
+  runs = runs_now first.level (first_state first) refl 0 true (first_state first) [] w w (omega arith) (reading_first first.level (first_state first) refl w untold);
   done = λ is. absurd (not_done is);
   refused = λ is. absurd (not_refused is);
   too_much = λ is. absurd (not_much is);
@@ -252,6 +258,7 @@ run_cause path before now door end later device is one = record {
   failed = λ d. absurd (let f : ◌≡◌ {A = Door} doors.Ready doors.Failed = sym is ∙ d in cc);
   shut = λ d. absurd (let f : ◌≡◌ {A = Door} doors.Ready doors.Shut = sym is ∙ d in cc);
   doors = inr (inl is);
+  ends = run_end_allowed end one;
 }
 
 -- ---- told or not
@@ -292,7 +299,7 @@ module _ (path : List ℕ) (rose : Type 0) (door now : Door) (ready : door ≡ d
             (λ page is. absurd (let f : ◌≡◌ {A = End} ends.Device (ends.Damaged page) = is in cc))
             (λ pages file none. (0, refl, inr (inl refl))) (λ is. let f : ◌≡◌ {A = End} ends.Device ends.TooMuch = is in cc),
         λ e pages first file stands. subst (λ (i : List ℕ). RunsInput pages first i rose ends.Device v) input
-            (runs_input first ends.Device v v (quiet_plain first ends.Device v log (λ is. let f : ◌≡◌ {A = End} ends.Device ends.Done = is in cc) (λ is. let f : ◌≡◌ {A = End} ends.Device ends.Refused = is in cc) (λ is. let f : ◌≡◌ {A = End} ends.Device ends.TooMuch = is in cc))
+            (runs_input first ends.Device v v (quiet_plain first ends.Device v (ap (list_all is_of_pages) log) (λ is. let f : ◌≡◌ {A = End} ends.Device ends.Done = is in cc) (λ is. let f : ◌≡◌ {A = End} ends.Device ends.Refused = is in cc) (λ is. let f : ◌≡◌ {A = End} ends.Device ends.TooMuch = is in cc)) (ap (list_all is_of_text) log)
             pages rose stands.stands law.0 (inr (inr (inl refl))) (λ is. risen)),
       )
 
@@ -322,47 +329,83 @@ module _ (path : List ℕ) (rose : Type 0) (door now : Door) (ready : door ≡ d
         λ e pages first file stands. absurd (found.1 first stands),
       )
 
-  pub ran : (end : End) (n_pages level number size : ℕ) (o m n p : Option Tale) → (end ≡ ends.Device → rose) → IsOneOf end run_ends → Goes (OpensAt path door) o m → Goes (Adds []) m n → IfSome n (λ t. IsMapFile t.start n_pages × StandsPlain t.start (plain_edition number level)) →
-      Goes (RunsPlain (plain_edition number level) end) n p → IfSome p (λ t. IsConsistent t × (length t.start ≡ size)) → WhereTold (Promise path rose now end) o p
-  ran end n_pages level number size None m n p device one opens adds found runs law = tt
-  ran end n_pages level number size (Some t) None n p device one opens adds found runs law = absurd opens
-  ran end n_pages level number size (Some t) (Some u) None p device one opens adds found runs law = absurd adds
-  ran end n_pages level number size (Some t) (Some u) (Some v) None device one opens adds found runs law = absurd runs
-  ran end n_pages level number size (Some t) (Some u) (Some v) (Some w) device one opens adds found runs law =
-      let first : Edition = plain_edition number level in
-      let start = runs.runs.file.start in
+  pub ran : (end : End) (n_pages format level number size : ℕ) (o m n p : Option Tale) → (end ≡ ends.Device → rose) → IsOneOf end run_ends → Goes (OpensAt path door) o m → Goes (Adds []) m n → IfSome n (λ t. IsMapFile t.start n_pages × StandsPlain t.start (plain_edition format number level)) →
+      Goes (RunsPlain (plain_edition format number level) end) n p → IfSome p (λ t. IsConsistent t × (length t.start ≡ size)) → WhereTold (Promise path rose now end) o p
+  ran end n_pages format level number size None m n p device one opens adds found runs law = tt
+  ran end n_pages format level number size (Some t) None n p device one opens adds found runs law = absurd opens
+  ran end n_pages format level number size (Some t) (Some u) None p device one opens adds found runs law = absurd adds
+  ran end n_pages format level number size (Some t) (Some u) (Some v) None device one opens adds found runs law = absurd runs
+  ran end n_pages format level number size (Some t) (Some u) (Some v) (Some w) device one opens adds found runs law =
+      let first : Edition = plain_edition format number level in
+      let start = runs.runs.text.file.start in
+      let log : w.log ≡ runs.runs.text.events = runs.runs.text.log ∙ ap (λ (l : Log). l ++ runs.runs.text.events) (quiet_log t u v opens adds) in
+      let only : Only is_of_text w.log = ap (list_all is_of_text) log ∙ runs.runs.text.only in
       let file : IsMapFile w.start n_pages = subst (λ (s : Pages). IsMapFile s n_pages) (sym start) found.0 in
       let stands : StandsPlain w.start first = subst (λ (s : Pages). StandsPlain s first) (sym start) found.1 in
       let input : v.input ≡ t.input = adds.input ∙ opens.fresh.input in (
         finds end t u w opens (λ is. absurd (no_start_end end one is)),
-        λ e. opens_plain first end v w runs n_pages file stands one,
+        λ e. opens_plain first end v w runs only n_pages file stands one,
         λ e pages other its so. subst (λ (f : Edition). RunsInput pages f t.input rose end w) (plain_same w.start n_pages first other file stands so)
-            (subst (λ (i : List ℕ). RunsInput pages first i rose end w) input (runs_input first end v w runs pages rose stands.stands law.0 one device)),
+            (subst (λ (i : List ℕ). RunsInput pages first i rose end w) input (runs_input first end v w runs only pages rose stands.stands law.0 one device)),
       )
 
 -- ---- a run of the text over a session
 
-pub quiet_memory : (first : Edition) (o : Option Tale) → IfSome o IsNew → Goes (RunsPlain first ends.Memory) o o
+pub quiet_memory : (first : Edition) (o : Option Tale) → IfSome o IsUntold → Goes (RunsPlain first ends.Memory) o o
 quiet_memory first None new = tt
-quiet_memory first (Some t) new = quiet_plain first ends.Memory t new.log (λ is. let f : ◌≡◌ {A = End} ends.Memory ends.Done = is in cc) (λ is. let f : ◌≡◌ {A = End} ends.Memory ends.Refused = is in cc) (λ is. let f : ◌≡◌ {A = End} ends.Memory ends.TooMuch = is in cc)
+quiet_memory first (Some t) new = quiet_plain first ends.Memory t new (λ is. let f : ◌≡◌ {A = End} ends.Memory ends.Done = is in cc) (λ is. let f : ◌≡◌ {A = End} ends.Memory ends.Refused = is in cc) (λ is. let f : ◌≡◌ {A = End} ends.Memory ends.TooMuch = is in cc)
+
+-- ends of a run are told apart by their numbers
+abbrev number : End → ℕ
+number ends.Done = 0
+number ends.Refused = 1
+number ends.TooMuch = 2
+number end = 3
+
+apart : (a b : End) (n m : ℕ) → number a ≡ n → number b ≡ m → (n ≡ m → ⊥) → a ≡ b → ⊥
+apart a b n m x y other is = other (sym x ∙ ap number is ∙ y)
 
 module _ (first : Edition) (old w : Tale) (runs : RunsFrom first.level (first_state first) old w) where
-  plain_at : (outcome : Result Bool Halt) → IfOk outcome (λ d. RunsWhole first.level d (first_state first) old w) → IfErr outcome (λ e. e ≡ halts.TooMuch → 2 ^ 30 < length (taken_bytes w.log)) → RunsPlain first (end_of outcome) old w
-  plain_at (Ok true) whole much = record { runs = runs; done = λ is. whole; refused = λ is. absurd (let f : ◌≡◌ {A = End} ends.Done ends.Refused = is in cc); too_much = λ is. absurd (let f : ◌≡◌ {A = End} ends.Done ends.TooMuch = is in cc) }
-  plain_at (Ok false) whole much = record { runs = runs; done = λ is. absurd (let f : ◌≡◌ {A = End} ends.Refused ends.Done = is in cc); refused = λ is. whole; too_much = λ is. absurd (let f : ◌≡◌ {A = End} ends.Refused ends.TooMuch = is in cc) }
-  plain_at (Err halts.Device) whole much = record { runs = runs; done = λ is. absurd (let f : ◌≡◌ {A = End} ends.Device ends.Done = is in cc); refused = λ is. absurd (let f : ◌≡◌ {A = End} ends.Device ends.Refused = is in cc); too_much = λ is. absurd (let f : ◌≡◌ {A = End} ends.Device ends.TooMuch = is in cc) }
-  plain_at (Err halts.Memory) whole much = record { runs = runs; done = λ is. absurd (let f : ◌≡◌ {A = End} ends.Memory ends.Done = is in cc); refused = λ is. absurd (let f : ◌≡◌ {A = End} ends.Memory ends.Refused = is in cc); too_much = λ is. absurd (let f : ◌≡◌ {A = End} ends.Memory ends.TooMuch = is in cc) }
-  plain_at (Err halts.TooMuch) whole much = record { runs = runs; done = λ is. absurd (let f : ◌≡◌ {A = End} ends.TooMuch ends.Done = is in cc); refused = λ is. absurd (let f : ◌≡◌ {A = End} ends.TooMuch ends.Refused = is in cc); too_much = λ is. much refl }
+  -- a call gave up
+  stopped_at : (end : End) → number end ≡ 3 → RunsPlain first end old w
+  stopped_at end is = record {
+    runs = runs;
+    done = λ e. absurd (apart end ends.Done 3 0 is refl (λ f. cc) e);
+    refused = λ e. absurd (apart end ends.Refused 3 1 is refl (λ f. cc) e);
+    too_much = λ e. absurd (apart end ends.TooMuch 3 2 is refl (λ f. cc) e);
+  }
+
+  plain_at : (outcome : Result Bool Halt) → IfOk outcome (λ d. RunsWhole first.level d (first_state first) old w) → IfErr outcome (λ e. e ≡ halts.TooMuch → Overruns w) → RunsPlain first (end_of outcome) old w
+  plain_at (Ok true) whole much = record { runs = runs; done = λ is. whole; refused = λ e. absurd (apart ends.Done ends.Refused 0 1 refl refl (λ f. cc) e); too_much = λ e. absurd (apart ends.Done ends.TooMuch 0 2 refl refl (λ f. cc) e) }
+  plain_at (Ok false) whole much = record { runs = runs; done = λ e. absurd (apart ends.Refused ends.Done 1 0 refl refl (λ f. cc) e); refused = λ is. whole; too_much = λ e. absurd (apart ends.Refused ends.TooMuch 1 2 refl refl (λ f. cc) e) }
+  plain_at (Err (halts.Stopped stops.Device)) whole much = stopped_at ends.Device refl
+  plain_at (Err (halts.Stopped stops.Memory)) whole much = stopped_at ends.Memory refl
+  plain_at (Err (halts.Stopped (stops.Damaged page))) whole much = stopped_at (ends.Damaged page) refl
+  plain_at (Err halts.TooMuch) whole much = record { runs = runs; done = λ e. absurd (apart ends.TooMuch ends.Done 2 0 refl refl (λ f. cc) e); refused = λ e. absurd (apart ends.TooMuch ends.Refused 2 1 refl refl (λ f. cc) e); too_much = λ is. much refl }
 
 plain_goes : (first : Edition) (outcome : Result Bool Halt) (o m : Option Tale) → Goes (RunsFrom first.level (first_state first)) o m →
-    IfOk outcome (λ d. Goes (RunsWhole first.level d (first_state first)) o m) → IfErr outcome (λ e. e ≡ halts.TooMuch → Goes (λ old new. 2 ^ 30 < length (taken_bytes new.log)) o m) → Goes (RunsPlain first (end_of outcome)) o m
+    IfOk outcome (λ d. Goes (RunsWhole first.level d (first_state first)) o m) → IfErr outcome (λ e. e ≡ halts.TooMuch → Goes (λ old new. Overruns new) o m) → Goes (RunsPlain first (end_of outcome)) o m
 plain_goes first outcome None None runs whole much = tt
 plain_goes first outcome None (Some w) runs whole much = runs
 plain_goes first outcome (Some t) None runs whole much = runs
 plain_goes first outcome (Some t) (Some w) runs whole much = plain_at first t w runs outcome whole much
 
-pub plain_runs : (n : ℕ) (s : State) (first : Edition) (outcome : Result Bool Halt) (o m : Option Tale) → n ≡ first.level → s ≡ first_state first → Goes (RunsFrom n s) o m →
-    IfOk outcome (λ d. Goes (RunsWhole n d s) o m) → IfErr outcome (λ e. e ≡ halts.TooMuch → Goes (λ old new. 2 ^ 30 < length (taken_bytes new.log)) o m) → Goes (RunsPlain first (end_of outcome)) o m
-plain_runs n s first outcome o m level state runs whole much =
-    plain_goes first outcome o m (subst (λ t. Goes (RunsFrom first.level t) o m) state (subst (λ k. Goes (RunsFrom k s) o m) level runs))
-    (subst (λ t. IfOk outcome (λ d. Goes (RunsWhole first.level d t) o m)) state (subst (λ k. IfOk outcome (λ d. Goes (RunsWhole k d s) o m)) level whole)) much
+-- where the session stands for the first state
+module _ {A : Type 0} (At : A → Type 0) (s : A) (at : At s) where
+  pub much_first : (outcome : Result Bool Halt) (P : Type 0) → IfErr outcome (λ e. e ≡ halts.TooMuch → (t : A) → At t → P) → IfErr outcome (λ e. e ≡ halts.TooMuch → P)
+  much_first (Ok d) P all = tt
+  much_first (Err e) P all = λ is. all is s at
+
+  pub end_of_run : (outcome : Result Bool Halt) → IfErr outcome (λ e. (page : ℕ) → e ≡ halts.Stopped (stops.Damaged page) → (t : A) → At t → ⊥) → IsOneOf (end_of outcome) run_ends
+  end_of_run (Ok true) sound = inl refl
+  end_of_run (Ok false) sound = inr (inl refl)
+  end_of_run (Err (halts.Stopped stops.Device)) sound = inr (inr (inl refl))
+  end_of_run (Err (halts.Stopped stops.Memory)) sound = inr (inr (inr (inl refl)))
+  end_of_run (Err (halts.Stopped (stops.Damaged page))) sound = absurd (sound page refl s at)
+  end_of_run (Err halts.TooMuch) sound = inr (inr (inr (inr (inl refl))))
+
+pub plain_runs : (n : ℕ) (first : Edition) (outcome : Result Bool Halt) (o m : Option Tale) → n ≡ first.level → Goes (RunsFrom n (first_state first)) o m →
+    IfOk outcome (λ d. Goes (RunsWhole n d (first_state first)) o m) → IfErr outcome (λ e. e ≡ halts.TooMuch → Goes (λ old new. Overruns new) o m) → Goes (RunsPlain first (end_of outcome)) o m
+plain_runs n first outcome o m level runs whole much =
+    plain_goes first outcome o m (subst (λ k. Goes (RunsFrom k (first_state first)) o m) level runs)
+    (subst (λ k. IfOk outcome (λ d. Goes (RunsWhole k d (first_state first)) o m)) level whole) much

@@ -1,5 +1,10 @@
+pub mod Answered
 pub mod Ends
 pub mod Headline
 pub mod Meanings
 pub mod Openings
+pub mod Reading
+pub mod Replies
+pub mod Saying
+pub mod TextRun
 pub mod Words

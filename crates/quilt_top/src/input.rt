@@ -3,16 +3,17 @@ ghost use Rattle.std.specs.Option.{IfSome};
 ghost use Rattle.quilt_world.specs.Tale.{Goes};
 ghost use Rattle.quilt_world.specs.Causes.{Rose};
 ghost use Rattle.quilt_world.specs.declared.disk.Door.TheVariants as doors;
-ghost use Rattle.quilt_loop.specs.Running.{IsNew};
+ghost use Rattle.quilt_top.specs.TextRun.{IsUntold};
 ghost use Rattle.quilt_top.specs.declared.run.End.TheVariants as ends;
 ghost use Rattle.quilt_top.specs.Openings as endings;
 ghost use Rattle.quilt_top.specs.Openings.{RunsPlain, plain_edition, run_ends};
 ghost use Rattle.quilt_top.specs.Words.{Run};
 ghost use Rattle.quilt_top.specs.Headline.{KeepsPromises, WhereTold, HasEndCause, IsOneOf};
 
+use crate::halt::Halt;
 use crate::opening::{Opened, open};
 use crate::run::End;
-use quilt_loop::{Halt, run_text};
+use crate::text_run::run_text;
 use quilt_map::Session;
 use quilt_world::{Attached, World};
 use std::alloc::Global;
@@ -24,25 +25,31 @@ fn end_of(outcome: Result<bool, Halt>) -> End
     match outcome {
         Ok(true) => End::Done,
         Ok(false) => End::Refused,
-        Err(Halt::Device) => End::Device,
-        Err(Halt::Memory) => End::Memory,
+        Err(Halt::Stopped(stop)) => End::of_stop(stop),
         Err(Halt::TooMuch) => End::TooMuch,
     }
 }
 
 /// Runs the input over a file whose last edition is empty.
-fn run_plain<W: World>(alloc: Global, world: W, pages: u32, level: u8, edition: u32) -> (End, W)
+fn run_plain<W: World>(
+    alloc: Global,
+    world: W,
+    pages: u32,
+    format: u8,
+    level: u8,
+    edition: u32,
+) -> (End, W)
     requires door { W.door world ≡ doors.Ready }
     requires pages { (16 ≤ pages) × (pages ≤ 30000) }
     requires level { (1 ≤ level) × (level ≤ 12) }
-    requires new { IfSome (W.told world) IsNew }
+    requires untold { IfSome (W.told world) IsUntold }
     ensures later { W.faults world ≤ W.faults result.1 }
     ensures device { result.0 ≡ ends.Device → Rose (W.faults world) (W.faults result.1) }
     ensures door { W.door result.1 ≡ W.door world }
     ensures ends { IsOneOf result.0 run_ends }
-    ensures runs { Goes (RunsPlain (plain_edition edition level) result.0) (W.told world) (W.told result.1) }
+    ensures runs { Goes (RunsPlain (plain_edition format edition level) result.0) (W.told world) (W.told result.1) }
 {
-    let mut session = match Session::start(alloc, world, pages, level, edition) {
+    let mut session = match Session::start(alloc, world, pages, format, level, edition) {
         Ok(session) => session,
         Err(world) => return (End::Memory, world),
     };
@@ -74,8 +81,9 @@ pub(crate) fn run_file<W: World>(alloc: Global, world: W, path: &str) -> (End, W
         Opened::Damaged => (End::Damaged { page: 0 }, world),
         Opened::Plain {
             pages,
+            format,
             level,
             edition,
-        } => run_plain(alloc, world, pages, level, edition),
+        } => run_plain(alloc, world, pages, format, level, edition),
     }
 }

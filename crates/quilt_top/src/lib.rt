@@ -1,12 +1,16 @@
 //! The whole run: what the words of the command line ask for is done over a world, which is handed back.
 #![tactic(auto)]
 
+mod answering;
+mod halt;
 mod input;
 mod label;
 mod make;
 mod opening;
 mod orders;
+mod output;
 mod run;
+mod text_run;
 mod words;
 
 pub use run::{End, run_quilt};

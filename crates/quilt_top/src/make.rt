@@ -6,9 +6,9 @@ ghost use Rattle.quilt_top.specs.Words.{New};
 ghost use Rattle.quilt_top.specs.Headline.{KeepsPromises, WhereTold, HasEndCause, new_line};
 
 use crate::orders::NewFile;
+use crate::output::put_all;
 use crate::run::End;
 use quilt_edition::create;
-use quilt_loop::put_all;
 use quilt_world::{Made, World};
 use std::alloc::{AllocError, Global};
 

@@ -2,8 +2,7 @@ ghost use Rattle.std.specs.Prelude.{◌≡◌, ◌+◌, ◌*◌, ◌<◌, ◌≤
 ghost use Rattle.quilt_world.specs.Tale.{Adds, Goes};
 ghost use Rattle.quilt_world.specs.Causes.{HasCause};
 ghost use Rattle.quilt_world.specs.Home.{label};
-ghost use Rattle.quilt_loop.specs.Running.{IsNew};
-ghost use Rattle.quilt_top.specs.Openings.{Heads, Finds, InRange};
+ghost use Rattle.quilt_top.specs.Openings.{IsNew, Heads, Finds, InRange};
 
 use crate::label::{home_pages, is_label};
 use quilt_node::header_of;
@@ -22,7 +21,12 @@ pub(crate) enum Opened {
     NotMap,
     Damaged,
     /// A file with its gate shut and a header with no tree.
-    Plain { pages: u32, level: u8, edition: u32 },
+    Plain {
+        pages: u32,
+        format: u8,
+        level: u8,
+        edition: u32,
+    },
 }
 
 /// Reads a page as it was when the file was opened.
@@ -49,6 +53,7 @@ fn opened_by(page: &[u8; 4096], pages: u32) -> Opened
     match header_of(page, pages) {
         Some(head) if head.height == 0 => Opened::Plain {
             pages,
+            format: head.format,
             level: head.level,
             edition: head.edition,
         },

@@ -2,6 +2,7 @@ ghost use Rattle.std.specs.Prelude.{◌≡◌, map, Option, Some, None};
 ghost use Rattle.quilt_world.specs.declared.disk.Door.TheVariants as doors;
 ghost use Rattle.quilt_world.specs.Causes.{Rose};
 ghost use Rattle.quilt_top.specs.Ends.{status_of};
+ghost use Rattle.quilt_top.specs.Openings.{end_of_stop};
 ghost use Rattle.quilt_top.specs.Words.{asked_for};
 ghost use Rattle.quilt_top.specs.Headline.{KeepsPromises, WhereTold, IsUsage, HasEndCause};
 
@@ -9,6 +10,7 @@ use crate::input::run_file;
 use crate::make::new_file;
 use crate::orders::Order;
 use crate::words::read_order;
+use quilt_types::Stop;
 use quilt_world::World;
 use std::alloc::Global;
 use std::thread::Threads;
@@ -39,6 +41,17 @@ pub enum End {
 }
 
 impl End {
+    /// The end of a run in which a call gave up.
+    pub(crate) fn of_stop(stop: Stop) -> End
+        ensures { result ≡ end_of_stop stop }
+    {
+        match stop {
+            Stop::Device => End::Device,
+            Stop::Memory => End::Memory,
+            Stop::Damaged { page } => End::Damaged { page },
+        }
+    }
+
     /// The exit status, from 0 to 9.
     pub fn status(&self) -> u8
         ensures { result ≡ status_of self.now }

@@ -3,6 +3,7 @@ ghost use Rattle.quilt_world.specs.declared.disk.Door.TheVariants as doors;
 
 use super::{End, run_quilt};
 use quilt_desk::{Calm, Desk};
+use quilt_node::{Head, header_bytes};
 use quilt_world::{Disk, Image};
 use std::alloc::Global;
 use std::process::Abort;
@@ -182,6 +183,7 @@ fn fails_in_turn<R: Threads + Sync + Abort>(
         let (end, desk) = run_quilt(rt, alloc, &["run", "m"], desk);
         if end.status() == status {
             assert!(rt; desk.output() == output);
+            assert!(rt; call > 1);
             return;
         }
         assert_eq!(rt; end, End::Device);
@@ -214,6 +216,53 @@ fn opens_nothing<R: Threads + Sync + Abort>(
     let (found, desk) = run_quilt(rt, alloc, &["run", path], desk);
     assert_eq!(rt; found, end);
     assert!(rt; desk.output().is_empty());
+}
+
+/// A map file of 16 home pages with this header, no tree and a closed gate.
+fn file_with_header(rt: &impl Abort, alloc: Global, header: &[u8; 4096]) -> Image {
+    let mut label = [0; 4096];
+    label[..15].copy_from_slice(b"QUILT MAP FILE\n");
+    let mut file = Image::new(alloc, 35).expect(rt, "an image");
+    assert_eq!(rt; file.pages(), 35);
+    file.set_page(0, &label);
+    file.set_page(3, header);
+    file
+}
+
+/// The header of a file of level 3 with no tree, in format 2.
+fn header_of_format_2() -> [u8; 4096] {
+    let head = Head {
+        format: 2,
+        edition: 7,
+        level: 3,
+        root: 0,
+        height: 0,
+        records: 0,
+    };
+    header_bytes(&head)
+}
+
+#[test]
+fn reads_and_shows_in_the_format_of_the_file(rt: HostRuntime) {
+    let alloc = rt.alloc();
+    let text =
+        b"edition\nregion a 258\nset a 1 0 65535\nat a 0 0\nshow a 0 0 2 1\nregion b 65536\n";
+    let replies = b"edition 7\nok\nok\nok\n258\nok\n0102ffff\nok\nno 3 number\n";
+    let file = file_with_header(&rt, alloc, &header_of_format_2());
+    let desk = Desk::new(alloc, "m", Some(file), text).expect(&rt, "a desk");
+    let (end, desk) = run_quilt(&rt, alloc, &["run", "m"], desk);
+    assert!(rt; desk.output() == replies.as_slice());
+    assert_eq!(rt; end, End::Refused);
+    answers_both_ways(&rt, alloc, b"region a 258\n", b"no 3 number\n", 1);
+}
+
+#[test]
+fn opens_no_later_format(rt: HostRuntime) {
+    let alloc = rt.alloc();
+    let mut header = header_of_format_2();
+    header[7] = 3;
+    let file = file_with_header(&rt, alloc, &header);
+    opens_nothing(&rt, alloc, "m", Some(file), End::Damaged { page: 0 });
 }
 
 #[test]

@@ -30,7 +30,7 @@ returns-in-Damaged-clause-promises g c =
 pub returns-in-Plain-clause-promises : goal.returns-in-Plain-clause-promises
 returns-in-Plain-clause-promises g c =
     let ready = c.in-Ok.ensures.door ∙ ap (λ a. attached (Ok a)) c.in-Ready.is in
-    ran c.args.path.now _ _ _ ready (c.run_plain.ensures.door ∙ c.open.ensures.door) _ c.in-Plain.pages c.in-Plain.level c.in-Plain.edition _ _ _ _ _
+    ran c.args.path.now _ _ _ ready (c.run_plain.ensures.door ∙ c.open.ensures.door) _ c.in-Plain.pages c.in-Plain.format c.in-Plain.level c.in-Plain.edition _ _ _ _ _
     (λ e. let rose = c.run_plain.ensures.device e in omega (arith, c.attach.ensures.cause.later, c.open.ensures.cause.later, rose)) c.run_plain.ensures.ends
     c.attach.ensures.tale c.open.ensures.nothing
     (subst (λ (o : Opened). IfSome (g.W.Disk.told c.open.new.disk) (λ t. Finds o t.start)) c.in-Plain.is c.in-Ok-open.ensures.finds)

@@ -2,9 +2,11 @@ use Rattle.std.proofs.Common.{ℕ, ◌+◌, ◌*◌, List, Ok, ◌∙◌, ap, su
 use Rattle.quilt_world.specs.Causes.{Rose}
 use Rattle.quilt_world.specs.Doors.{made}
 use Rattle.quilt_world.specs.Tale.{Goes}
-use Rattle.quilt_world.proofs.Told.{goes_now}
+use Rattle.quilt_world.specs.Added.{AddsOnly, is_of_text}
+use Rattle.quilt_world.proofs.Told.{goes_now, goes_and}
+use Rattle.quilt_top.specs.Headline.{new_line}
 use Rattle.quilt_edition.specs.Creating.{IsBlank}
-use Rattle.quilt_loop.specs.Saying.{Says, SaysFront}
+use Rattle.quilt_top.specs.Saying.{Says, SaysFront}
 use Rattle.quilt_top.proofs.Making.{made_blank, create_stopped, put_stopped, all_done, where_not_ok}
 use Rattle.quilt_top.proofs.make.make_map.Goals as goal
 
@@ -26,13 +28,15 @@ returns-in_default-put_all-clause-promises g c =
     let rose : Rose _ _ = where_not_ok _ _ c.put_all.ensures.cause.failed c.in_default-put_all.not-Ok in
     let part = where_not_ok _ _ c.put_all.ensures.part c.in_default-put_all.not-Ok in
     let says = subst (λ (line : List ℕ). Goes (SaysFront line) (g.W.Disk.told c.create.new.disk) (g.W.Disk.told c.put_all.new.world)) c.requires.line part in
+    let both = goes_and (SaysFront (new_line c.args.pages c.args.level)) (AddsOnly is_of_text) _ _ says c.put_all.ensures.text in
     put_stopped c.args.path.now c.args.pages c.args.level _ is _ _ (c.put_all.ensures.door ∙ c.create.ensures.door)
     (omega (arith, c.make.ensures.cause.later, c.create.ensures.cause.later, rose)) _ _ _ _
-    c.make.ensures.tale c.create.ensures.crash c.in-Ok-create.ensures.created says
+    c.make.ensures.tale c.create.ensures.crash c.in-Ok-create.ensures.created both
 
 pub returns-clause-promises : goal.returns-clause-promises
 returns-clause-promises g c =
     let is = c.in-Ok.ensures.door ∙ ap (λ m. made (Ok m)) c.in-Ready.is in
     let says = subst (λ (line : List ℕ). Goes (Says line) (g.W.Disk.told c.create.new.disk) (g.W.Disk.told c.put_all.new.world)) c.requires.line c.in-Ok-put_all.ensures.said in
+    let both = goes_and (Says (new_line c.args.pages c.args.level)) (AddsOnly is_of_text) _ _ says c.put_all.ensures.text in
     all_done c.args.path.now c.args.pages c.args.level _ is _ _ _ (c.put_all.ensures.door ∙ c.create.ensures.door) _ _ _ _
-    c.make.ensures.tale c.create.ensures.crash c.in-Ok-create.ensures.created says (g.met.W.Disk.is_consistent c.put_all.new.world)
+    c.make.ensures.tale c.create.ensures.crash c.in-Ok-create.ensures.created both (g.met.W.Disk.is_consistent c.put_all.new.world)

@@ -1,9 +1,11 @@
-use Rattle.std.proofs.Common.{◌≡◌, ◌+◌, ◌*◌, ◌∙◌, sym, ap, refl, Some, position, arith, length-set}
+use Rattle.std.proofs.Common.{◌≡◌, ◌<◌, ◌+◌, ◌*◌, ◌∙◌, sym, ap, refl, Some, position, arith, length-set}
 use Rattle.std.specs.Vec.{with_item}
+use Rattle.std.proofs.lemmas.List.Elements.{All-set}
+use Rattle.quilt_types.specs.Layers.{colours}
 use Rattle.quilt_types.specs.Plane.{side}
 use Rattle.quilt_map.specs.Grids.{has_name}
 use Rattle.quilt_map.proofs.MapOf.{stands_at}
-use Rattle.quilt_map.proofs.Works.{says_unset, says_set_outside, says_set, place_within, found_size, found_name, plain_set}
+use Rattle.quilt_map.proofs.Works.{says_unset, says_set_outside, says_set, place_within, found_size, found_colours, found_name, plain_set}
 use Rattle.quilt_map.proofs.work.Work.set.Goals as goal
 
 pub returns-in_default-clause-answer : goal.returns-in_default-clause-answer
@@ -32,9 +34,10 @@ invariant_of-self c =
     let is = c.index_mut-layer.ensures.value in
     record {
       plain =
-          plain_set c.args.self.now.level c.args.a.now c.args.self.now.layers.items c.in-Some.i _ c.args.self.now.plain
+          plain_set c.args.self.now.format c.args.self.now.level c.args.a.now c.args.self.now.layers.items c.in-Some.i _ c.args.self.now.plain
           (stands_at c.args.a.now c.args.self.now.layers.items c.in-Some.i at) (found_name c.args.self.now c.args.a.now c.in-Some.i l at is)
-          (length-set _ _ _ ∙ found_size c.args.self.now c.args.a.now c.in-Some.i l at is);
+          (length-set _ _ _ ∙ found_size c.args.self.now c.args.a.now c.in-Some.i l at is)
+          (All-set (λ x. x < colours c.args.self.now.format) l.colours.items _ c.args.c.0 c.requires (found_colours c.args.self.now c.args.a.now c.in-Some.i l at is));
     }
 
 pub returns-clause-answer : goal.returns-clause-answer

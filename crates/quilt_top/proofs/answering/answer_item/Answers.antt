@@ -1,0 +1,58 @@
+use Rattle.std.proofs.Common.{◌≡◌, ◌∙◌, refl, sym, ap, subst, Ok, Err}
+use Rattle.quilt_lang.specs.Forms.{form}
+use Rattle.quilt_lang.specs.Parsing.{Answers}
+use Rattle.quilt_map.specs.Answers.{State}
+use Rattle.quilt_map.specs.Runs.{text_of, is_done}
+use Rattle.quilt_map.specs.Sessions.{IsAt}
+use Rattle.quilt_top.proofs.Outcomes.{form_no, reply_no, state_no, state_is, text_given, code_given}
+use Rattle.quilt_top.proofs.answering.answer_item.Goals as goal
+
+pub returns-in-Err-No-clause-text : goal.returns-in-Err-No-clause-text
+returns-in-Err-No-clause-text g c = λ s at.
+    let spelled = subst (λ f. Answers c.parse.result (form f c.args.item.now)) (sym (c.format.ensures.at s at)) c.parse.ensures.form in
+    c.in_ok-refusal-in-Err-No.ensures.0
+    ∙ sym (ap text_of (reply_no s c.args.item.now c.in-Err-No.code (form_no c.parse.result _ c.in-Err-No.code (c.in-Err-No.is ∙ ap Err c.in-Err-No.field-0-is) spelled)))
+
+pub returns-in-Err-No-clause-done : goal.returns-in-Err-No-clause-done
+returns-in-Err-No-clause-done g c = λ s at.
+    let spelled = subst (λ f. Answers c.parse.result (form f c.args.item.now)) (sym (c.format.ensures.at s at)) c.parse.ensures.form in
+    c.in_ok-refusal-in-Err-No.ensures.1
+    ∙ sym (ap is_done (reply_no s c.args.item.now c.in-Err-No.code (form_no c.parse.result _ c.in-Err-No.code (c.in-Err-No.is ∙ ap Err c.in-Err-No.field-0-is) spelled)))
+
+pub returns-in-Err-No-clause-at : goal.returns-in-Err-No-clause-at
+returns-in-Err-No-clause-at g c = λ s at.
+    let spelled = subst (λ f. Answers c.parse.result (form f c.args.item.now)) (sym (c.format.ensures.at s at)) c.parse.ensures.form in
+    subst (λ (t : State). IsAt c.args.session.now t)
+    (sym (state_no s c.args.item.now c.in-Err-No.code (form_no c.parse.result _ c.in-Err-No.code (c.in-Err-No.is ∙ ap Err c.in-Err-No.field-0-is) spelled))) at
+
+pub returns-in-Ok-reply-clause-text : goal.returns-in-Ok-reply-clause-text
+returns-in-Ok-reply-clause-text g c = λ s at.
+    let is : form s.last.format c.args.item.now ≡ Ok c.in-Ok.command = ap (λ f. form f c.args.item.now) (c.format.ensures.at s at) ∙ c.in-Ok.ensures.form in
+    (text_given s c.args.item.now c.in-Ok.command c.in-Ok-apply.reply c.in-Ok-reply.text is (c.in-Ok-apply.ensures.answer s at).0 c.in-Ok-reply.is).0
+
+pub returns-in-Ok-reply-clause-done : goal.returns-in-Ok-reply-clause-done
+returns-in-Ok-reply-clause-done g c = λ s at.
+    let is : form s.last.format c.args.item.now ≡ Ok c.in-Ok.command = ap (λ f. form f c.args.item.now) (c.format.ensures.at s at) ∙ c.in-Ok.ensures.form in
+    (text_given s c.args.item.now c.in-Ok.command c.in-Ok-apply.reply c.in-Ok-reply.text is (c.in-Ok-apply.ensures.answer s at).0 c.in-Ok-reply.is).1
+
+pub returns-in-Ok-reply-clause-at : goal.returns-in-Ok-reply-clause-at
+returns-in-Ok-reply-clause-at g c = λ s at.
+    let is : form s.last.format c.args.item.now ≡ Ok c.in-Ok.command = ap (λ f. form f c.args.item.now) (c.format.ensures.at s at) ∙ c.in-Ok.ensures.form in
+    subst (λ (t : State). IsAt c.apply.new.self t) (sym (state_is s c.args.item.now c.in-Ok.command is)) (c.in-Ok-apply.ensures.answer s at).1
+
+pub returns-clause-text : goal.returns-clause-text
+returns-clause-text g c = λ s at.
+    let is : form s.last.format c.args.item.now ≡ Ok c.in-Ok.command = ap (λ f. form f c.args.item.now) (c.format.ensures.at s at) ∙ c.in-Ok.ensures.form in
+    c.in_ok-refusal-in-No.ensures.0
+    ∙ sym (ap text_of (code_given s c.args.item.now c.in-Ok.command c.in-Ok-apply.reply c.in-No.code is (c.in-Ok-apply.ensures.answer s at).0 c.in-No.is))
+
+pub returns-clause-done : goal.returns-clause-done
+returns-clause-done g c = λ s at.
+    let is : form s.last.format c.args.item.now ≡ Ok c.in-Ok.command = ap (λ f. form f c.args.item.now) (c.format.ensures.at s at) ∙ c.in-Ok.ensures.form in
+    c.in_ok-refusal-in-No.ensures.1
+    ∙ sym (ap is_done (code_given s c.args.item.now c.in-Ok.command c.in-Ok-apply.reply c.in-No.code is (c.in-Ok-apply.ensures.answer s at).0 c.in-No.is))
+
+pub returns-clause-at : goal.returns-clause-at
+returns-clause-at g c = λ s at.
+    let is : form s.last.format c.args.item.now ≡ Ok c.in-Ok.command = ap (λ f. form f c.args.item.now) (c.format.ensures.at s at) ∙ c.in-Ok.ensures.form in
+    subst (λ (t : State). IsAt c.apply.new.self t) (sym (state_is s c.args.item.now c.in-Ok.command is)) (c.in-Ok-apply.ensures.answer s at).1

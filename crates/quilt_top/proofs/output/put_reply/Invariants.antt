@@ -1,0 +1,21 @@
+use Rattle.std.proofs.Common.{◌≡◌, ◌≤◌, ◌-◌, length, take}
+use Rattle.quilt_world.specs.Added.{AddsOnly, is_of_text}
+use Rattle.quilt_world.specs.Tale.{Goes}
+use Rattle.quilt_top.specs.Saying.{Says}
+use Rattle.quilt_map.specs.Sessions.{world_of, level_of, IsAt}
+use Rattle.quilt_map.specs.Answers.{State}
+use Rattle.quilt_top.proofs.output.put_reply.Given as goal
+
+abbrev pub invariant-loop-done : goal.invariant-loop-done
+invariant-loop-done g l = record {
+  level : level_of l.session ≡ level_of l.initial.session;
+  at : (s : State) → IsAt l.initial.session s → IsAt l.session s;
+  within : l.done ≤ length l.bytes;
+  door : g.W.Disk.door (world_of l.session) ≡ g.W.Disk.door (world_of l.initial.session);
+  faults : g.W.Disk.faults (world_of l.initial.session) ≤ g.W.Disk.faults (world_of l.session);
+  tale : Goes (Says (take l.done l.bytes)) (g.W.Disk.told (world_of l.initial.session)) (g.W.Disk.told (world_of l.session));
+  text : Goes (AddsOnly is_of_text) (g.W.Disk.told (world_of l.initial.session)) (g.W.Disk.told (world_of l.session));
+}
+
+abbrev pub decreases-loop-done : goal.decreases-loop-done
+decreases-loop-done g l = length l.bytes - l.done

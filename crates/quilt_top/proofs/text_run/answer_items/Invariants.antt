@@ -1,0 +1,19 @@
+use Rattle.std.proofs.Common.{◌≡◌, ◌≤◌, length}
+use Rattle.quilt_lang.specs.Items.{items_of}
+use Rattle.quilt_map.specs.Answers.{State}
+use Rattle.quilt_map.specs.Sessions.{world_of, level_of, IsAt}
+use Rattle.quilt_top.specs.Answered.{Answered}
+use Rattle.quilt_top.proofs.text_run.answer_items.Given as goal
+
+abbrev pub invariant-items : goal.invariant-items
+invariant-items g l = record {
+  door : g.W.Disk.door (world_of l.session) ≡ g.W.Disk.door (world_of l.initial.session);
+  faults : g.W.Disk.faults (world_of l.initial.session) ≤ g.W.Disk.faults (world_of l.session);
+  level : l.lines.level ≡ l.initial.lines.level;
+  same : level_of l.session ≡ level_of l.initial.session;
+  done : (s : State) → IsAt l.initial.session s → (now : State) × IsAt l.session now × Answered l.ended l.initial.lines.level l.so_far l.all_done s now
+      l.initial.lines.rest l.lines.rest (g.W.Disk.told (world_of l.initial.session)) (g.W.Disk.told (world_of l.session));
+}
+
+abbrev pub decreases-items : goal.decreases-items
+decreases-items g l = length (items_of l.lines.level l.lines.rest)

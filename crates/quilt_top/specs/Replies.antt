@@ -1,0 +1,39 @@
+-- The replies to items, one after another.
+use Rattle.std.specs.Prelude.{◌≡◌, ℕ, List, [], ◌∷◌}
+use Rattle.quilt_lang.specs.declared.item.Item.{Item}
+use Rattle.quilt_lang.specs.Items.{Group, held}
+use Rattle.quilt_lang.specs.Forms.{form}
+use Rattle.quilt_map.specs.Answers.{State, Outcome, Reply}
+use Rattle.quilt_map.specs.Runs.{outcome_of, output}
+use Rattle.quilt_map.specs.States.{after_outcome}
+
+-- some lines are this item in the format
+pub record IsItem (f n : ℕ) (item : Item) : Type 0 where
+  pub group : Group
+  pub is : held f n group ≡ item
+
+-- what lines hold in the format of the last edition
+abbrev pub held_at : State → Group → Item
+held_at s group = held s.last.format s.last.level group
+
+abbrev pub outcome : State → Item → Outcome
+outcome s item = outcome_of s (form s.last.format item)
+
+unfoldable pub reply_to : State → Item → Reply
+reply_to s item = (outcome s item).reply
+
+-- the state after an item
+unfoldable pub state_then : State → Item → State
+state_then s item = after_outcome s (outcome s item)
+
+abbrev pub state_after : State → List Group → State
+state_after s [] = s
+state_after s (group ∷ groups) = state_after (state_then s (held_at s group)) groups
+
+abbrev pub replies_from : State → List Group → List Reply
+replies_from s [] = []
+replies_from s (group ∷ groups) = reply_to s (held_at s group) ∷ replies_from (state_then s (held_at s group)) groups
+
+-- what is put for these items
+unfoldable pub said_for : State → List Group → List ℕ
+said_for s items = output (replies_from s items)

@@ -1,0 +1,45 @@
+ghost use Rattle.std.specs.Prelude.{◌≡◌, ◌⊎◌, ℕ, OnOk, OnErr};
+ghost use Rattle.quilt_world.specs.Tale.{Goes};
+ghost use Rattle.quilt_world.specs.Causes.{HasCause};
+ghost use Rattle.quilt_world.specs.declared.disk.Door.TheVariants as doors;
+ghost use Rattle.quilt_world.specs.Added.{AddsOnly, is_of_text};
+ghost use Rattle.quilt_map.specs.Answers.{State};
+ghost use Rattle.quilt_map.specs.Sessions.{world_of, level_of, IsAt};
+ghost use Rattle.quilt_top.specs.Saying.{Says, SaysFront};
+
+use quilt_map::Session;
+use quilt_world::{Fault, World};
+
+/// Puts all of the bytes, in as many calls as the world needs. After an Err a front of them was put.
+pub(crate) fn put_all<W: World>(world: &mut W, bytes: &[u8]) -> Result<(), Fault>
+    requires { (W.door world.old ≡ doors.Ready) ⊎ (W.door world.old ≡ doors.Made) }
+    ensures cause { HasCause (W.faults world.old) (W.faults world.new) result }
+    ensures door { W.door world.new ≡ W.door world.old }
+    ensures said { OnOk result (Goes (Says bytes.now) (W.told world.old) (W.told world.new)) }
+    ensures part { OnErr result (Goes (SaysFront bytes.now) (W.told world.old) (W.told world.new)) }
+    ensures text { Goes (AddsOnly is_of_text) (W.told world.old) (W.told world.new) }
+{
+    let mut done = 0;
+    while done < bytes.len() {
+        done += world.put(&bytes[done..])?;
+    }
+    Ok(())
+}
+
+/// The same by the world that a session has.
+pub(crate) fn put_reply<W: World>(session: &mut Session<W>, bytes: &[u8]) -> Result<(), Fault>
+    requires { (W.door (world_of session.old) ≡ doors.Ready) ⊎ (W.door (world_of session.old) ≡ doors.Made) }
+    ensures cause { HasCause (W.faults (world_of session.old)) (W.faults (world_of session.new)) result }
+    ensures door { W.door (world_of session.new) ≡ W.door (world_of session.old) }
+    ensures said { OnOk result (Goes (Says bytes.now) (W.told (world_of session.old)) (W.told (world_of session.new))) }
+    ensures part { OnErr result (Goes (SaysFront bytes.now) (W.told (world_of session.old)) (W.told (world_of session.new))) }
+    ensures text { Goes (AddsOnly is_of_text) (W.told (world_of session.old)) (W.told (world_of session.new)) }
+    ensures level { level_of session.new ≡ level_of session.old }
+    ensures at { (s : State) → IsAt session.old s → IsAt session.new s }
+{
+    let mut done = 0;
+    while done < bytes.len() {
+        done += session.put(&bytes[done..])?;
+    }
+    Ok(())
+}
