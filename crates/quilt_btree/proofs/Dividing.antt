@@ -11,7 +11,6 @@ use Rattle.quilt_node.specs.Pages.{Inner, inner_of, is_ascending}
 use Rattle.quilt_node.specs.Nodes.{IsPlace}
 use Rattle.quilt_node.specs.Tree.{is_below}
 use Rattle.quilt_types.specs.declared.stop.Stop.{Stop}
-use Rattle.quilt_btree.specs.declared.reading.Found.{Found}
 use Rattle.quilt_btree.specs.Subtree.{Subtree}
 use Rattle.quilt_btree.specs.Trees.{Spells, LeadsTo, Divides, IsBound, IsCut}
 use Rattle.quilt_record.proofs.Orders.{lt_le, le_le, lt_to_le}
@@ -198,10 +197,3 @@ cut_up old new page height child i k inner start next leaf high a is leads cut =
       (bound_up pages n.0 page i k inner start high (a.reads pages t) at.ascend (subst (λ o. list_all (is_below o) inner.keys ≡ true) e at.keys_under) a.place (lead.key_under under)
       (subst (λ o. IsBound pages (suc n.0) (slice_index inner.children i) o high) is there));
 }
-
-pub cut_result : (r : Result Found Stop) (old new : Option (List (List ℕ))) (page height child i : ℕ) (k : Key) (inner : Inner) (start next : Option Key) → AtFloor old new page height child i k inner
-    → next ≡ option_or (slice_get inner.keys i) start
-    → IfOk r (λ f. (rs : List Record) (s : Spells new child (height - 1) rs) → s.bounds.high ≡ next → LeadsTo k rs f.leaf next f.high)
-    → IfOk r (λ f. IsCut new child (height - 1) k next f.leaf f.high) → IfOk r (λ f. IsCut old page height k start f.leaf f.high)
-cut_result (Err e) old new page height child i k inner start next a is f g = g
-cut_result (Ok v) old new page height child i k inner start next a is f g = cut_up old new page height child i k inner start next v.leaf v.high a is f g

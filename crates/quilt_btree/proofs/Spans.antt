@@ -12,7 +12,6 @@ use Rattle.quilt_node.specs.Nodes.{IsPlace}
 use Rattle.quilt_node.specs.Pages.{Inner}
 use Rattle.quilt_node.specs.Tree.{Bounds, is_below}
 use Rattle.quilt_node.proofs.Ascending.{all_take}
-use Rattle.quilt_btree.specs.declared.reading.Found.{Found}
 use Rattle.quilt_btree.specs.Lists.{is_from_to}
 use Rattle.quilt_btree.proofs.Below.{head_below}
 use Rattle.quilt_btree.proofs.Descending.{head_high}
@@ -47,17 +46,6 @@ added_within low from high most leaf old new is le h =
 pub first_within : (low high : Key) (most : ℕ) (leaf new : List Record) → new ≡ take most ([] ++ filter (is_from_to low high) leaf) → list_all (is_from_to low high) new ≡ true
 first_within low high most leaf new is =
     ap (list_all (is_from_to low high)) is ∙ all_take (is_from_to low high) (filter (is_from_to low high) leaf) most (all_filter (is_from_to low high) leaf)
-
--- the bound of the leaf to which a key leads is above the key
-next_above : (keys : List Key) (i : ℕ) (k : Key) (high : Option Key) → list_all (λ l. is_lt (key_cmp k l)) (drop i keys) ≡ true → is_below high k ≡ true → is_below (option_or (slice_get keys i) high) k ≡ true
-next_above keys i k high h g =
-    let b : Bounds = record { low = None; high = high } in
-    subst (λ o. is_below o k ≡ true) (head_high keys i b) (head_below (drop i keys) b k h g)
-
-pub above_up : (r : Result Found Stop) (inner : Inner) (i : ℕ) (k : Key) (high next : Option Key) → IsPlace inner.keys k i → next ≡ option_or (slice_get inner.keys i) high
-    → IfOk r (λ f. is_below next k ≡ true → is_below f.high k ≡ true) → IfOk r (λ f. is_below high k ≡ true → is_below f.high k ≡ true)
-above_up (Err e) inner i k high next p is f = f
-above_up (Ok x) inner i k high next p is f = λ g. f (subst (λ o. is_below o k ≡ true) (sym is) (next_above inner.keys i k high p.behind g))
 
 pub above_bound : (k next : Key) (high : Option Key) → (is_below None k ≡ true → is_below high k ≡ true) → high ≡ Some next → is_lt (key_cmp k next) ≡ true
 above_bound k next high f is = subst (λ o. is_below o k ≡ true) is (f refl)

@@ -1,10 +1,11 @@
-ghost use Rattle.std.specs.Prelude.{◌≡◌, ◌≤◌, ◌&&◌, ◌++◌, OnOk, MatchOption, Some, true, false, filter, take, length, vec_len};
+ghost use Rattle.std.specs.Prelude.{◌≡◌, ◌≤◌, ◌&&◌, ◌++◌, OnOk, MatchOption, Some, true, false, filter, take, vec_len};
 ghost use Rattle.std.specs.Ordering.{is_le};
 ghost use Rattle.quilt_record.specs.Records.{key_cmp};
 ghost use Rattle.quilt_record.specs.declared.key.Key.{Key};
+ghost use Rattle.quilt_node.specs.Nodes.{records_of};
 ghost use Rattle.quilt_btree.specs.Lists.{is_from_to};
 
-use quilt_node::LeafPage;
+use quilt_node::{rec_in, records_in};
 use quilt_record::{Key, Record};
 use std::alloc::AllocError;
 
@@ -15,20 +16,19 @@ pub fn is_within(k: &Key, low: &Key, high: &Key) -> bool
     low <= k && k <= high
 }
 
-/// Adds the records of a leaf with keys from `low` to `high`, until the list has `most`.
+/// Adds the records that stand in a page with keys from `low` to `high`, until the list has `most`.
 pub fn add_leaf(
     records: &mut Vec<Record>,
-    leaf: &LeafPage,
+    bytes: &[u8; 4096],
     low: &Key,
     high: &Key,
     most: u32,
 ) -> Result<(), AllocError>
     requires { vec_len records.old ≤ most }
-    ensures least { 1 ≤ length leaf.now }
-    ensures added { OnOk result (records.new.items ≡ take most (records.old.items ++ filter (is_from_to low.now high.now) leaf.now)) }
+    ensures { OnOk result (records.new.items ≡ take most (records.old.items ++ filter (is_from_to low.now high.now) (records_of bytes.now))) }
 {
-    for i in 0..leaf.len() {
-        let r = leaf.rec(i);
+    for i in 0..records_in(bytes) {
+        let r = rec_in(bytes, i);
         if records.len() == most as usize {
             return Ok(());
         }

@@ -9,9 +9,10 @@ ghost use Rattle.quilt_btree.specs.Runs.{without_all, has_each, Lacks, DidDrain}
 ghost use Rattle.quilt_btree.specs.Stops.{HasStopCause, NamesPage};
 
 use crate::mending::precedes;
-use crate::pages::{read_inner, read_leaf};
-use crate::reading::key_behind;
+use crate::pages::read_leaf;
+use crate::reading::step_in;
 use crate::running::stays_below;
+use crate::searching::read_into;
 use crate::tree::Tree;
 use crate::writing::write_page;
 use quilt_node::LeafPage;
@@ -110,7 +111,8 @@ impl Tree {
         if self.height == 0 {
             return self.remove_first(store, run);
         }
-        let n = match drain_under(store, self.root, self.height, true, &None, run) {
+        let mut bytes = [0; 4096];
+        let n = match drain_under(store, self.root, self.height, true, &None, run, &mut bytes) {
             Err(e) => return Err(e),
             Ok(n) => n,
         };
@@ -203,7 +205,7 @@ fn drain_leaf<S: PageStore>(
 
 /// Takes the records of the first keys of a run, which ascend, out of the one leaf under a page to which the first key
 /// leads, up to a key that is not below `high`, and while the leaf keeps its least number. The answer is their number.
-/// Where a key is not there page 0 is said to be damaged.
+/// Where a key is not there page 0 is said to be damaged. The buffer is for the pages above the leaf.
 fn drain_under<S: PageStore>(
     store: &mut S,
     page: u32,
@@ -211,6 +213,7 @@ fn drain_under<S: PageStore>(
     is_root: bool,
     high: &Option<Key>,
     run: &[Key],
+    bytes: &mut [u8; 4096],
 ) -> Result<usize, Stop>
     requires page { (1 ≤ page) × (page < S.size store.old) }
     requires height { 1 ≤ height }
@@ -230,11 +233,13 @@ fn drain_under<S: PageStore>(
     if height == 1 {
         return drain_leaf(store, page, is_root, high, run);
     }
-    let inner = match read_inner(store, page, height) {
-        Err(e) => return Err(e),
-        Ok(inner) => inner,
-    };
-    let i = inner.place(&run[0]);
-    let next = key_behind(&inner, i, *high);
-    drain_under(store, inner.child(i), height - 1, false, &next, run)
+    match read_into(store, page, bytes) {
+        Err(e) => Err(e),
+        Ok(()) => match step_in(bytes, store.pages(), &run[0], high) {
+            None => Err(Stop::Damaged { page }),
+            Some(step) => {
+                drain_under(store, step.child, height - 1, false, &step.high, run, bytes)
+            }
+        },
+    }
 }

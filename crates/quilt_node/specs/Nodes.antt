@@ -1,5 +1,5 @@
 -- What is true of every leaf page and of every inner page, and where a key belongs in one.
-use Rattle.std.specs.Prelude.{◌≡◌, ℕ, suc, ◌<◌, ◌≤◌, ◌^◌, Bool, true, ◌&&◌, nat_le, nat_lt, List, ◌∷◌, map, length, take, drop, Some, slice_get, slice_index}
+use Rattle.std.specs.Prelude.{◌≡◌, ℕ, suc, ◌<◌, ◌≤◌, ◌^◌, Bool, true, ◌&&◌, nat_le, nat_lt, if◌then◌else◌, ◌+◌, ◌*◌, List, ◌∷◌, map, length, take, drop, Some, slice_get, slice_index}
 use Rattle.std.specs.List.{list_all}
 use Rattle.std.specs.Ordering.{is_lt, is_le}
 use Rattle.quilt_record.specs.declared.key.Key.{Key}
@@ -8,10 +8,15 @@ use Rattle.std.specs.Int.{to_be_bytes, w16}
 use Rattle.quilt_record.specs.Records.{key_cmp, filled}
 use Rattle.quilt_record.specs.Fits.{AllFit, KeysFit}
 use Rattle.quilt_node.specs.declared.head.Head.{Head}
-use Rattle.quilt_node.specs.Pages.{Inner, IsHead, is_ascending, leaf_bytes, inner_bytes, word_at}
+use Rattle.quilt_node.specs.Pages.{Inner, IsHead, is_ascending, leaf_bytes, inner_bytes, short_at, word_at, record_at}
+use Rattle.quilt_types.specs.Plane.{below}
 
 abbrev pub keys_of : List Record → List Key
 keys_of rs = map (λ r. r.key) rs
+
+-- the records that stand in the bytes of a page, as many as its count says and a leaf can hold
+abbrev pub records_of : List ℕ → List Record
+records_of bytes = map (λ i. record_at bytes (64 + 28 * i)) (below (if nat_lt 144 (short_at bytes 2) then 144 else short_at bytes 2))
 
 -- the records of a leaf page: 1 to 144, with keys that ascend
 pub record IsLeaf (rs : List Record) : Type 0 where

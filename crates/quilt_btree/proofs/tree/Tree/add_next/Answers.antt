@@ -1,72 +1,71 @@
 use Rattle.std.proofs.Common.{◌≢◌, arith}
-use Rattle.std.proofs.lemmas.Result.{err_from_is_err_and}
 use Rattle.quilt_btree.proofs.Spans.{added_within, above_bound}
+use Rattle.quilt_node.specs.Nodes.{records_of}
 use Rattle.quilt_btree.proofs.Whole.{tree_spells}
 use Rattle.quilt_btree.proofs.Rests.{rest_ends, rest_fills, rest_adds, rest_next, from_not_err, none_over}
 use Rattle.quilt_btree.proofs.tree.Tree.add_next.Goals as goal
 
-pub returns-in_err-found-clause-sound : goal.returns-in_err-found-clause-sound
-returns-in_err-found-clause-sound g c =
-    let p = err_from_is_err_and c.from_residual.result c.from_residual.ensures.1 in
+pub returns-in-Err-clause-sound : goal.returns-in-Err-clause-sound
+returns-in-Err-clause-sound g c =
     let ne : c.args.self.now.height ≢ 0 = let h = c.requires.height in omega arith in
-    rw (p.1, p.2) (λ low rs is b. c.in_err-found.ensures.sound rs (tree_spells (g.S.PageStore.told c.args.store.now) c.args.self.now rs ne is).0)
+    λ low rs is b. c.in-Err.ensures.sound rs (tree_spells (g.S.PageStore.told c.args.store.now) c.args.self.now rs ne is).0
 
 pub returns-then-now-most-clause-ends : goal.returns-then-now-most-clause-ends
 returns-then-now-most-clause-ends g c = λ none low rs is b.
-    rest_fills (g.S.PageStore.told c.args.store.now) c.args.self.now low c.args.from.now c.args.high.now c.args.most c.in_ok-found.found.leaf c.args.records.now.items c.add_leaf.new.records.items rs c.in_ok-found.found.high (record {
+    rest_fills (g.S.PageStore.told c.args.store.now) c.args.self.now low c.args.from.now c.args.high.now c.args.most (records_of c.leaf_at.new.bytes) c.args.records.now.items c.add_leaf.new.records.items rs c.in-Ok.found.high (record {
       some = let h = c.requires.height in omega arith;
-      leads = c.in_ok-found.ensures.leads;
-      cut = c.in_ok-found.ensures.cut;
-      added = from_not_err c.add_leaf.result c.is_err.result c.is_err.ensures.value c.if-is_err.false c.add_leaf.ensures.added;
+      leads = c.in-Ok.ensures.leads;
+      cut = c.in-Ok.ensures.cut;
+      added = from_not_err c.add_leaf.result c.is_err.result c.is_err.ensures.value c.if-is_err.false c.add_leaf.ensures;
     }) is b
     (let e = c.len-now.ensures in let t = c.if-now-most.true in omega (arith, c.add_leaf.new.records.ok.0))
 
 pub returns-in-Some-clause-sound : goal.returns-in-Some-clause-sound
-returns-in-Some-clause-sound g c = λ low rs is b page e. rest_adds (g.S.PageStore.told c.args.store.now) c.args.self.now c.args.from.now c.args.high.now c.in-Some.field-0 c.args.most c.in_ok-found.found.leaf c.args.records.now.items c.add_leaf.new.records.items rs c.in_ok-found.found.high (record {
+returns-in-Some-clause-sound g c = λ low rs is b page e. rest_adds (g.S.PageStore.told c.args.store.now) c.args.self.now c.args.from.now c.args.high.now c.in-Some.field-0 c.args.most (records_of c.leaf_at.new.bytes) c.args.records.now.items c.add_leaf.new.records.items rs c.in-Ok.found.high (record {
   some = let h = c.requires.height in omega arith;
-  leads = c.in_ok-found.ensures.leads;
-  cut = c.in_ok-found.ensures.cut;
-  added = from_not_err c.add_leaf.result c.is_err.result c.is_err.ensures.value c.if-is_err.false c.add_leaf.ensures.added;
+  leads = c.in-Ok.ensures.leads;
+  cut = c.in-Ok.ensures.cut;
+  added = from_not_err c.add_leaf.result c.is_err.result c.is_err.ensures.value c.if-is_err.false c.add_leaf.ensures;
 }) is
-    b.0 b.1 b.2 c.in-Some.ensures.0 c.in-Some.ensures.1 c.add_leaf.ensures.least
+    b.0 b.1 b.2 c.in-Some.ensures.0 c.in-Some.ensures.1 (c.in-Ok.ensures.least rs (tree_spells (g.S.PageStore.told c.args.store.now) c.args.self.now rs (let h = c.requires.height in omega arith) is).0)
     (let r = c.requires.room in omega (arith, c.args.records.now.ok.0))
     (λ same. c.if-now-most.false (let e = c.len-now.ensures in omega (arith, c.add_leaf.new.records.ok.0)))
     (let e = c.len-now.ensures in let f = c.len-had.ensures in let t = c.if-now-had.true in omega (arith, c.add_leaf.new.records.ok.0, c.args.records.now.ok.0))
 
 pub returns-in_default-clause-goes_on : goal.returns-in_default-clause-goes_on
 returns-in_default-clause-goes_on g c = rw c.in-Some.is (λ low rs is b.
-    rest_next (g.S.PageStore.told c.args.store.now) c.args.self.now low c.args.from.now c.args.high.now c.in-Some.field-0 c.args.most c.in_ok-found.found.leaf c.args.records.now.items c.add_leaf.new.records.items rs c.in_ok-found.found.high (record {
+    rest_next (g.S.PageStore.told c.args.store.now) c.args.self.now low c.args.from.now c.args.high.now c.in-Some.field-0 c.args.most (records_of c.leaf_at.new.bytes) c.args.records.now.items c.add_leaf.new.records.items rs c.in-Ok.found.high (record {
       some = let h = c.requires.height in omega arith;
-      leads = c.in_ok-found.ensures.leads;
-      cut = c.in_ok-found.ensures.cut;
-      added = from_not_err c.add_leaf.result c.is_err.result c.is_err.ensures.value c.if-is_err.false c.add_leaf.ensures.added;
+      leads = c.in-Ok.ensures.leads;
+      cut = c.in-Ok.ensures.cut;
+      added = from_not_err c.add_leaf.result c.is_err.result c.is_err.ensures.value c.if-is_err.false c.add_leaf.ensures;
     }) is b c.in-Some.ensures.0)
 
 pub returns-in_default-2-clause-ends : goal.returns-in_default-2-clause-ends
 returns-in_default-2-clause-ends g c = λ none low rs is b.
-    rest_ends (g.S.PageStore.told c.args.store.now) c.args.self.now low c.args.from.now c.args.high.now c.args.most c.in_ok-found.found.leaf c.args.records.now.items c.add_leaf.new.records.items rs c.in_ok-found.found.high (record {
+    rest_ends (g.S.PageStore.told c.args.store.now) c.args.self.now low c.args.from.now c.args.high.now c.args.most (records_of c.leaf_at.new.bytes) c.args.records.now.items c.add_leaf.new.records.items rs c.in-Ok.found.high (record {
       some = let h = c.requires.height in omega arith;
-      leads = c.in_ok-found.ensures.leads;
-      cut = c.in_ok-found.ensures.cut;
-      added = from_not_err c.add_leaf.result c.is_err.result c.is_err.ensures.value c.if-is_err.false c.add_leaf.ensures.added;
+      leads = c.in-Ok.ensures.leads;
+      cut = c.in-Ok.ensures.cut;
+      added = from_not_err c.add_leaf.result c.is_err.result c.is_err.ensures.value c.if-is_err.false c.add_leaf.ensures;
     }) is b
-    (none_over c.key_up_to.result c.in_ok-found.found.high c.args.high.now c.key_up_to.ensures none)
+    (none_over c.key_up_to.result c.in-Ok.found.high c.args.high.now c.key_up_to.ensures none)
 
 pub returns-then-now-most-clause-within : goal.returns-then-now-most-clause-within
 returns-then-now-most-clause-within g c = λ low le old.
-    added_within low c.args.from.now c.args.high.now c.args.most c.in_ok-found.found.leaf c.args.records.now.items c.add_leaf.new.records.items
-    (from_not_err c.add_leaf.result c.is_err.result c.is_err.ensures.value c.if-is_err.false c.add_leaf.ensures.added) le old
+    added_within low c.args.from.now c.args.high.now c.args.most (records_of c.leaf_at.new.bytes) c.args.records.now.items c.add_leaf.new.records.items
+    (from_not_err c.add_leaf.result c.is_err.result c.is_err.ensures.value c.if-is_err.false c.add_leaf.ensures) le old
 
 pub returns-in_default-clause-within : goal.returns-in_default-clause-within
 returns-in_default-clause-within g c = λ low le old.
-    added_within low c.args.from.now c.args.high.now c.args.most c.in_ok-found.found.leaf c.args.records.now.items c.add_leaf.new.records.items
-    (from_not_err c.add_leaf.result c.is_err.result c.is_err.ensures.value c.if-is_err.false c.add_leaf.ensures.added) le old
+    added_within low c.args.from.now c.args.high.now c.args.most (records_of c.leaf_at.new.bytes) c.args.records.now.items c.add_leaf.new.records.items
+    (from_not_err c.add_leaf.result c.is_err.result c.is_err.ensures.value c.if-is_err.false c.add_leaf.ensures) le old
 
 pub returns-in_default-2-clause-within : goal.returns-in_default-2-clause-within
 returns-in_default-2-clause-within g c = λ low le old.
-    added_within low c.args.from.now c.args.high.now c.args.most c.in_ok-found.found.leaf c.args.records.now.items c.add_leaf.new.records.items
-    (from_not_err c.add_leaf.result c.is_err.result c.is_err.ensures.value c.if-is_err.false c.add_leaf.ensures.added) le old
+    added_within low c.args.from.now c.args.high.now c.args.most (records_of c.leaf_at.new.bytes) c.args.records.now.items c.add_leaf.new.records.items
+    (from_not_err c.add_leaf.result c.is_err.result c.is_err.ensures.value c.if-is_err.false c.add_leaf.ensures) le old
 
 pub returns-in_default-clause-further : goal.returns-in_default-clause-further
 returns-in_default-clause-further g c =
-    rw c.in-Some.is (above_bound c.args.from.now c.in-Some.field-0 c.in_ok-found.found.high c.in_ok-found.ensures.above c.in-Some.ensures.0)
+    rw c.in-Some.is (above_bound c.args.from.now c.in-Some.field-0 c.in-Ok.found.high c.in-Ok.ensures.above c.in-Some.ensures.0)

@@ -5,6 +5,7 @@ use Rattle.quilt_record.specs.Records.{key_cmp}
 use Rattle.quilt_btree.specs.Lists.{is_from_to}
 use Rattle.quilt_record.proofs.Orders.{lt_to_le}
 use Rattle.quilt_btree.proofs.Spans.{first_within, above_bound}
+use Rattle.quilt_node.specs.Nodes.{records_of}
 use Rattle.quilt_btree.proofs.Whole.{sound_whole}
 use Rattle.quilt_btree.proofs.Rests.{first_ends, first_fills, first_sound, first_result, no_range, from_not_err}
 use Rattle.quilt_btree.proofs.tree.Tree.range.Goals as goal
@@ -16,40 +17,40 @@ pub returns-in-Err-clause-sound : goal.returns-in-Err-clause-sound
 returns-in-Err-clause-sound g c = sound_whole c.in-Err.e (g.S.PageStore.told c.args.store.now) c.args.self.now c.if-self-eq0.false c.in-Err.ensures.sound
 
 pub returns-then-len-most-clause-range : goal.returns-then-len-most-clause-range
-returns-then-len-most-clause-range g c = λ rs is. first_fills (g.S.PageStore.told c.args.store.now) c.args.self.now c.args.low.now c.args.high.now c.args.most c.in-Ok.found.leaf c.add_leaf.new.records.items rs c.in-Ok.found.high (record {
+returns-then-len-most-clause-range g c = λ rs is. first_fills (g.S.PageStore.told c.args.store.now) c.args.self.now c.args.low.now c.args.high.now c.args.most (records_of c.leaf_at.new.bytes) c.add_leaf.new.records.items rs c.in-Ok.found.high (record {
   some = c.if-self-eq0.false;
   leads = c.in-Ok.ensures.leads;
   cut = c.in-Ok.ensures.cut;
-  added = from_not_err c.add_leaf.result c.is_err.result c.is_err.ensures.value c.if-is_err.false c.add_leaf.ensures.added ∙ ap (λ (l : List Record). take c.args.most (l ++ filter (is_from_to c.args.low.now c.args.high.now) c.in-Ok.found.leaf)) c.new-records.ensures.items;
+  added = from_not_err c.add_leaf.result c.is_err.result c.is_err.ensures.value c.if-is_err.false c.add_leaf.ensures ∙ ap (λ (l : List Record). take c.args.most (l ++ filter (is_from_to c.args.low.now c.args.high.now) (records_of c.leaf_at.new.bytes))) c.new-records.ensures.items;
 }) is
     (let e = c.len.ensures in let t = c.if-len-most.true in omega (arith, c.add_leaf.new.records.ok.0))
 
 pub returns-in-None-clause-range : goal.returns-in-None-clause-range
-returns-in-None-clause-range g c = λ rs is. first_ends (g.S.PageStore.told c.args.store.now) c.args.self.now c.args.low.now c.args.high.now c.args.most c.in-Ok.found.leaf c.add_leaf.new.records.items rs c.in-Ok.found.high (record {
+returns-in-None-clause-range g c = λ rs is. first_ends (g.S.PageStore.told c.args.store.now) c.args.self.now c.args.low.now c.args.high.now c.args.most (records_of c.leaf_at.new.bytes) c.add_leaf.new.records.items rs c.in-Ok.found.high (record {
   some = c.if-self-eq0.false;
   leads = c.in-Ok.ensures.leads;
   cut = c.in-Ok.ensures.cut;
-  added = from_not_err c.add_leaf.result c.is_err.result c.is_err.ensures.value c.if-is_err.false c.add_leaf.ensures.added ∙ ap (λ (l : List Record). take c.args.most (l ++ filter (is_from_to c.args.low.now c.args.high.now) c.in-Ok.found.leaf)) c.new-records.ensures.items;
+  added = from_not_err c.add_leaf.result c.is_err.result c.is_err.ensures.value c.if-is_err.false c.add_leaf.ensures ∙ ap (λ (l : List Record). take c.args.most (l ++ filter (is_from_to c.args.low.now c.args.high.now) (records_of c.leaf_at.new.bytes))) c.new-records.ensures.items;
 }) is c.in-None.ensures
 
 pub returns-in-Err-add_rest-clause-sound : goal.returns-in-Err-add_rest-clause-sound
 returns-in-Err-add_rest-clause-sound g c =
-    first_sound (g.S.PageStore.told c.args.store.now) (g.S.PageStore.told c.leaf_at.new.store) c.args.self.now c.args.low.now c.args.high.now c.in-Some.next c.args.most c.in-Ok.found.leaf c.add_leaf.new.records.items c.in-Ok.found.high c.in-Err-add_rest.e
+    first_sound (g.S.PageStore.told c.args.store.now) (g.S.PageStore.told c.leaf_at.new.store) c.args.self.now c.args.low.now c.args.high.now c.in-Some.next c.args.most (records_of c.leaf_at.new.bytes) c.add_leaf.new.records.items c.in-Ok.found.high c.in-Err-add_rest.e
     c.in-Ok.ensures.told (record {
       some = c.if-self-eq0.false;
       leads = c.in-Ok.ensures.leads;
       cut = c.in-Ok.ensures.cut;
-      added = from_not_err c.add_leaf.result c.is_err.result c.is_err.ensures.value c.if-is_err.false c.add_leaf.ensures.added ∙ ap (λ (l : List Record). take c.args.most (l ++ filter (is_from_to c.args.low.now c.args.high.now) c.in-Ok.found.leaf)) c.new-records.ensures.items;
+      added = from_not_err c.add_leaf.result c.is_err.result c.is_err.ensures.value c.if-is_err.false c.add_leaf.ensures ∙ ap (λ (l : List Record). take c.args.most (l ++ filter (is_from_to c.args.low.now c.args.high.now) (records_of c.leaf_at.new.bytes))) c.new-records.ensures.items;
     }) c.in-Some.ensures.0 c.in-Err-add_rest.ensures.sound
 
 pub returns-in-Ok-add_rest-clause-range : goal.returns-in-Ok-add_rest-clause-range
 returns-in-Ok-add_rest-clause-range g c =
-    first_result (g.S.PageStore.told c.args.store.now) (g.S.PageStore.told c.leaf_at.new.store) c.args.self.now c.args.low.now c.args.high.now c.in-Some.next c.args.most c.in-Ok.found.leaf c.add_leaf.new.records.items c.add_rest.new.records.items c.in-Ok.found.high
+    first_result (g.S.PageStore.told c.args.store.now) (g.S.PageStore.told c.leaf_at.new.store) c.args.self.now c.args.low.now c.args.high.now c.in-Some.next c.args.most (records_of c.leaf_at.new.bytes) c.add_leaf.new.records.items c.add_rest.new.records.items c.in-Ok.found.high
     c.in-Ok.ensures.told (record {
       some = c.if-self-eq0.false;
       leads = c.in-Ok.ensures.leads;
       cut = c.in-Ok.ensures.cut;
-      added = from_not_err c.add_leaf.result c.is_err.result c.is_err.ensures.value c.if-is_err.false c.add_leaf.ensures.added ∙ ap (λ (l : List Record). take c.args.most (l ++ filter (is_from_to c.args.low.now c.args.high.now) c.in-Ok.found.leaf)) c.new-records.ensures.items;
+      added = from_not_err c.add_leaf.result c.is_err.result c.is_err.ensures.value c.if-is_err.false c.add_leaf.ensures ∙ ap (λ (l : List Record). take c.args.most (l ++ filter (is_from_to c.args.low.now c.args.high.now) (records_of c.leaf_at.new.bytes))) c.new-records.ensures.items;
     }) c.in-Some.ensures.0 c.in-Ok-add_rest.ensures.rest
 
 pub returns-then-self-eq0-clause-within : goal.returns-then-self-eq0-clause-within
@@ -57,16 +58,16 @@ returns-then-self-eq0-clause-within g c = ap (list_all (is_from_to c.args.low.no
 
 pub returns-then-len-most-clause-within : goal.returns-then-len-most-clause-within
 returns-then-len-most-clause-within g c =
-    first_within c.args.low.now c.args.high.now c.args.most c.in-Ok.found.leaf c.add_leaf.new.records.items
-    (from_not_err c.add_leaf.result c.is_err.result c.is_err.ensures.value c.if-is_err.false c.add_leaf.ensures.added ∙ ap (λ (l : List Record). take c.args.most (l ++ filter (is_from_to c.args.low.now c.args.high.now) c.in-Ok.found.leaf)) c.new-records.ensures.items)
+    first_within c.args.low.now c.args.high.now c.args.most (records_of c.leaf_at.new.bytes) c.add_leaf.new.records.items
+    (from_not_err c.add_leaf.result c.is_err.result c.is_err.ensures.value c.if-is_err.false c.add_leaf.ensures ∙ ap (λ (l : List Record). take c.args.most (l ++ filter (is_from_to c.args.low.now c.args.high.now) (records_of c.leaf_at.new.bytes))) c.new-records.ensures.items)
 
 pub returns-in-None-clause-within : goal.returns-in-None-clause-within
 returns-in-None-clause-within g c =
-    first_within c.args.low.now c.args.high.now c.args.most c.in-Ok.found.leaf c.add_leaf.new.records.items
-    (from_not_err c.add_leaf.result c.is_err.result c.is_err.ensures.value c.if-is_err.false c.add_leaf.ensures.added ∙ ap (λ (l : List Record). take c.args.most (l ++ filter (is_from_to c.args.low.now c.args.high.now) c.in-Ok.found.leaf)) c.new-records.ensures.items)
+    first_within c.args.low.now c.args.high.now c.args.most (records_of c.leaf_at.new.bytes) c.add_leaf.new.records.items
+    (from_not_err c.add_leaf.result c.is_err.result c.is_err.ensures.value c.if-is_err.false c.add_leaf.ensures ∙ ap (λ (l : List Record). take c.args.most (l ++ filter (is_from_to c.args.low.now c.args.high.now) (records_of c.leaf_at.new.bytes))) c.new-records.ensures.items)
 
 pub returns-in-Ok-add_rest-clause-within : goal.returns-in-Ok-add_rest-clause-within
 returns-in-Ok-add_rest-clause-within g c =
     c.in-Ok-add_rest.ensures.within c.args.low.now (lt_to_le (key_cmp c.args.low.now c.in-Some.next) (above_bound c.args.low.now c.in-Some.next c.in-Ok.found.high c.in-Ok.ensures.above c.in-Some.ensures.0))
-    (first_within c.args.low.now c.args.high.now c.args.most c.in-Ok.found.leaf c.add_leaf.new.records.items
-    (from_not_err c.add_leaf.result c.is_err.result c.is_err.ensures.value c.if-is_err.false c.add_leaf.ensures.added ∙ ap (λ (l : List Record). take c.args.most (l ++ filter (is_from_to c.args.low.now c.args.high.now) c.in-Ok.found.leaf)) c.new-records.ensures.items))
+    (first_within c.args.low.now c.args.high.now c.args.most (records_of c.leaf_at.new.bytes) c.add_leaf.new.records.items
+    (from_not_err c.add_leaf.result c.is_err.result c.is_err.ensures.value c.if-is_err.false c.add_leaf.ensures ∙ ap (λ (l : List Record). take c.args.most (l ++ filter (is_from_to c.args.low.now c.args.high.now) (records_of c.leaf_at.new.bytes))) c.new-records.ensures.items))
