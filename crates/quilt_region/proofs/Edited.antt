@@ -56,5 +56,5 @@ module _ (n layer : ℕ) (g h : Grid) (le : n ≤ 12) where
         (λ new. let o = only_leaf n layer h g r (subst (λ (s : List Record). Contains s r) leads.add new) in leaf_of_new r o.0 o.2 o.4)
         ((is r).0 c)
 
-    pub edited_spells : IsGrid n h → SpellsRegion now layer n h
+    pub edited_spells : IsGrid 2 n h → SpellsRegion now layer n h
     edited_spells grid = record { grid = grid; each = each_there; only = only_those }

@@ -88,7 +88,7 @@ IsAsFar-full n layer g records i colours le is all far =
     let t = ap size_of (take_all i es (omega arith)) in
     omega arith
 
-pub IsAsFar-grid : (n : ℕ) (g : Grid) (i : ℕ) (colours : List ℕ) → n ≤ 12 → IsGrid n g → length colours ≡ 4 ^ n → IsAsFar n g i colours → grid_by_code n colours ≡ g
+pub IsAsFar-grid : (n : ℕ) (g : Grid) (i : ℕ) (colours : List ℕ) → n ≤ 12 → IsGrid 2 n g → length colours ≡ 4 ^ n → IsAsFar n g i colours → grid_by_code n colours ≡ g
 IsAsFar-grid n g i colours le is long far =
     Paints-all n (colour_at n g) colours le long far.paints ∙ sym (grid_of-from n (colour_at n g) g is.size (λ k lt. sym (colour_at-pixel_at n g k)))
 

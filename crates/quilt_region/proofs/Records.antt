@@ -1,5 +1,5 @@
 -- The records of a layer's leaves: in which order they stand, which leaf each is, and how many there are.
-use Rattle.std.proofs.Common.{◌≡◌, ℕ, ◌-◌, ◌*◌, ◌+◌, ◌^◌, ◌<◌, ◌≤◌, true, List, [], ◌∷◌, length, filter, take, Option, refl, sym, ◌∙◌, ap, subst, arith, Contains, slice_index}
+use Rattle.std.proofs.Common.{◌≡◌, ℕ, ◌-◌, ◌*◌, ◌+◌, ◌^◌, ◌<◌, ◌≤◌, true, List, [], ◌∷◌, length, filter, take, Option, refl, sym, ◌∙◌, ap, subst, arith, Contains, slice_index, ◌%◌, ◌/◌}
 use Rattle.std.proofs.Math.Nat.{pow-le-pow_right}
 use Rattle.std.proofs.lemmas.Bool.{and_parts, and_from}
 use Rattle.std.proofs.lemmas.List.{length-map, take_all}
@@ -30,7 +30,7 @@ use Rattle.quilt_region.specs.Regions.{leaf_record, region_records, SpellsRegion
 use Rattle.quilt_region.proofs.Keys.{by_key, by_key_total, le_layer, less_part, less_code}
 use Rattle.quilt_region.proofs.Trees.{tree_rises}
 
-pub leaf_is_record : (n layer : ℕ) (b : Block) (c : ℕ) → 1 ≤ layer → layer ≤ 255 → IsBlock n b → IsRecordOf n (leaf_record n layer (b, c)) layer (HasColour b c)
+pub leaf_is_record : (n layer : ℕ) (b : Block) (c : ℕ) → 1 ≤ layer → layer ≤ 255 → IsBlock n b → IsRecordOf n 0 (leaf_record n layer (b, c)) layer (HasColour b c)
 leaf_is_record n layer b c least most h = record { least = least; most = most; fits = h; written = λ name. refl }
 
 pub records_rise : (n layer : ℕ) (g : Grid) → n ≤ 12 → Rises by_key (region_records n layer g)
@@ -62,8 +62,11 @@ leaf_alone n layer d e le hd he same =
     let el = he.low in
     let level : hd.level ≡ he.level = omega arith in
     let side = hd.size ∙ ap (λ k. 2 ^ k) level ∙ sym he.size in
-    let colour : d.1 ≡ e.1 = ap (λ (r : Record). slice_index r.value 0) same in
+    let colour = by_bytes d.1 e.1 (ap (λ (r : Record). slice_index r.value 0) same) (ap (λ (r : Record). slice_index r.value 1) same) in
     λ i. (record { y = (at i).y; x = (at i).x; side = side i }, colour i)
+  where
+    by_bytes : (a b : ℕ) → a % 256 ≡ b % 256 → a / 256 ≡ b / 256 → a ≡ b
+    by_bytes a b e f = omega arith
 
 -- how many there are
 many : (n at : ℕ) (es : List (Block × ℕ)) → Follows n at es → length es ≤ size_of es

@@ -15,7 +15,7 @@ use Rattle.quilt_btree.specs.Trees.{IsTree}
 
 -- the record of a leaf of the layer with this number
 abbrev pub leaf_record : ℕ → ℕ → Block × ℕ → Record
-leaf_record n layer e = record_of n [] layer (HasColour e.0 e.1)
+leaf_record n layer e = record_of n 0 [] layer (HasColour e.0 e.1)
 
 -- the records of the grid's leaves, in the order of their codes, which is that of their keys
 unfoldable pub region_records : ℕ → ℕ → Grid → List Record
@@ -27,7 +27,7 @@ pixel_key layer p = record { layer = layer; part = 1; code = code_at p; depth = 
 
 -- Those of the records that are of the layer with this number are exactly the records of the grid's leaves.
 pub record SpellsRegion (rs : List Record) (layer n : ℕ) (g : Grid) : Type 0 where
-  pub grid : IsGrid n g
+  pub grid : IsGrid 2 n g
   pub each : (e : Block × ℕ) → Contains (leaves n g) e → Contains rs (leaf_record n layer e)
   pub only : (r : Record) → Contains rs r → r.key.layer ≡ layer → Contains (map (leaf_record n layer) (leaves n g)) r
 

@@ -102,7 +102,7 @@ pub fn plan_replace(
     ensures plan { IfOk result (λ edits. LeadsTo old.now.level layer old.now.grid new.now.grid edits) }
 
     // Such edits turn records that spell the layer as the old grid into records that spell it as the new one.
-    ensures law { (n number : ℕ) (g h : Grid) (edits : AnyEdits) (rs now : List Record) → n ≤ 12 → IsGrid n h → LeadsTo n number g h edits → SpellsRegion rs number n g → IsEdited rs edits now → SpellsRegion now number n h }
+    ensures law { (n number : ℕ) (g h : Grid) (edits : AnyEdits) (rs now : List Record) → n ≤ 12 → IsGrid 2 n h → LeadsTo n number g h edits → SpellsRegion rs number n g → IsEdited rs edits now → SpellsRegion now number n h }
 {
     let remove = records_only_in(alloc, layer, old, new)?;
     let add = records_only_in(alloc, layer, new, old)?;

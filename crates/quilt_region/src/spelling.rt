@@ -26,7 +26,7 @@ pub fn leaf_of(r: &Record, layer: u8, level: u8) -> Option<Leaf>
     ensures code { IfSome result (λ l. r.now.key.code ≡ code_from l.block) }
     ensures one { (b : AnyBlock) (c : AnyColour) → 1 ≤ layer → IsBlock level b → r.now ≡ leaf_record level layer (b, c.0) → result ≡ Some (record { block = b; colour = c }) }
 {
-    let (block, colour) = read_region(r, level)?;
+    let (block, colour) = read_region(r, level, 2)?;
     if r.key.layer != u16::from(layer) {
         return None;
     }
@@ -37,7 +37,7 @@ pub fn leaf_of(r: &Record, layer: u8, level: u8) -> Option<Leaf>
 pub fn list_of(alloc: Global, records: &[Record], layer: u8, level: u8) -> Result<LeafList, Stop>
     requires layer { 1 ≤ layer }
     requires level { (1 ≤ level) × (level ≤ 12) }
-    ensures list { IfOk result (λ l. (g : Grid) → IsGrid level g → records.now ≡ region_records level layer g → l ≡ record { level = level; grid = g }) }
+    ensures list { IfOk result (λ l. (g : Grid) → IsGrid 2 level g → records.now ≡ region_records level layer g → l ≡ record { level = level; grid = g }) }
     ensures level { IfOk result (λ l. l.level ≡ level) }
     ensures sound { IfErr result (λ e. (g : Grid) → records.now ≡ region_records level layer g → IsSound e) }
     ensures no_fault { IsErrOf result Device → ⊥ }
