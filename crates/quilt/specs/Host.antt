@@ -1,17 +1,14 @@
 -- What the real world tells: its door, and the number of pages of its file.
-use Rattle.std.specs.Prelude.{◌≡◌, ◌≢◌, ℕ, Bool, true, false, refl}
+use Rattle.std.specs.Prelude.{◌≡◌, ◌≢◌, ℕ, refl}
 use Rattle.quilt.specs.declared.host.State.{State}
-use Rattle.quilt.specs.declared.host.State.TheVariants.{Shut, Open, Missing, Taken, Failed}
+use Rattle.quilt.specs.declared.host.State.TheVariants.{Shut, Ready, Made, Missing, Taken, Failed}
 use Rattle.quilt_world.specs.declared.disk.Door.{Door}
 use Rattle.quilt_world.specs.declared.disk.Door.TheVariants as doors
 
-abbrev pub door_if_new : Bool → Door
-door_if_new true = doors.Made
-door_if_new false = doors.Ready
-
 abbrev pub door_of : State → Door
 door_of Shut = doors.Shut
-door_of (Open file pages is_new) = door_if_new is_new
+door_of (Ready file) = doors.Ready
+door_of (Made file) = doors.Made
 door_of Missing = doors.Missing
 door_of Taken = doors.Taken
 door_of Failed = doors.Failed
@@ -19,15 +16,16 @@ door_of Failed = doors.Failed
 -- no page where there is no file
 abbrev pub pages_of : State → ℕ
 pages_of Shut = 0
-pages_of (Open file pages is_new) = pages
+pages_of (Ready file) = file.pages
+pages_of (Made file) = file.pages
 pages_of Missing = 0
 pages_of Taken = 0
 pages_of Failed = 0
 
 pub no_pages : (s : State) → door_of s ≢ doors.Ready → door_of s ≢ doors.Made → pages_of s ≡ 0
 no_pages Shut not_ready not_made = refl
-no_pages (Open file pages true) not_ready not_made = absurd (not_made refl)
-no_pages (Open file pages false) not_ready not_made = absurd (not_ready refl)
+no_pages (Ready file) not_ready not_made = absurd (not_ready refl)
+no_pages (Made file) not_ready not_made = absurd (not_made refl)
 no_pages Missing not_ready not_made = refl
 no_pages Taken not_ready not_made = refl
 no_pages Failed not_ready not_made = refl

@@ -3,21 +3,17 @@ ghost use Rattle.quilt_world.specs.Causes.{HasCause, Rose};
 ghost use Rattle.quilt_world.specs.declared.disk.Door.TheVariants as doors;
 ghost use Rattle.quilt.specs.Host.{door_of, pages_of, no_pages};
 
+use crate::map_file::MapFile;
 use quilt_world::{Attached, Disk, Fault, Made, World};
-use std::fs::{File, OpenOptions};
 use std::io;
-use std::io::{ErrorKind, Read, Seek, SeekFrom, Write};
-use std::path::Path;
+use std::io::{ErrorKind, Read, Write};
 
 /// What the call that opens or makes the file has left.
 #[derive(Drop)]
 enum State {
     Shut,
-    Open {
-        file: File,
-        pages: u32,
-        is_new: bool,
-    },
+    Ready(MapFile),
+    Made(MapFile),
     Missing,
     Taken,
     Failed,
@@ -39,6 +35,13 @@ impl<'a> HostWorld<'a> {
             rt,
             state: State::Shut,
             faults: 0,
+        }
+    }
+
+    fn file(&self) -> io::Result<&MapFile> {
+        match &self.state {
+            State::Ready(file) | State::Made(file) => Ok(file),
+            _ => Err(io::Error::from(ErrorKind::NotFound)),
         }
     }
 }
@@ -63,65 +66,15 @@ fn or_fault<T>(faults: &mut u64, outcome: io::Result<T>) -> Result<T, Fault>
     }
 }
 
-/// The place of a page in the file, in bytes.
-fn place(i: u32) -> SeekFrom {
-    SeekFrom::Start(u64::from(i) * 4096)
-}
-
-fn read_at(mut file: &File, i: u32, into: &mut [u8; 4096]) -> io::Result<()> {
-    file.seek(place(i))?;
-    file.read_exact(into)
-}
-
-fn write_at(mut file: &File, i: u32, bytes: &[u8; 4096]) -> io::Result<()> {
-    file.seek(place(i))?;
-    file.write_all(bytes)
-}
-
-/// Opens a file that is there, with its number of whole pages, or 0 where its length is no multiple of a page.
-fn opened(rt: &HostRuntime, path: &str) -> io::Result<(File, u32)> {
-    let file = OpenOptions::new().read(true).write(true).open(rt, path)?;
-    let bytes = file.metadata()?.len();
-    let pages = match u32::try_from(bytes / 4096) {
-        Ok(pages) if bytes % 4096 == 0 => pages,
-        _ => 0,
-    };
-    Ok((file, pages))
-}
-
-/// Makes sure that the entry of a new file in its folder is on the disk.
-fn sync_folder(rt: &HostRuntime, path: &str) -> io::Result<()> {
-    let folder = match Path::new(path).parent() {
-        Some(parent) if !parent.as_str().is_empty() => parent,
-        _ => Path::new("."),
-    };
-    File::open(rt, folder)?.sync_all()
-}
-
-/// Makes a file of zeros, which is not there yet, and makes sure that it and its entry are on the disk.
-fn new_file(rt: &HostRuntime, path: &str, pages: u32) -> io::Result<File> {
-    let file = File::create_new(rt, path)?;
-    file.set_len(u64::from(pages) * 4096)?;
-    file.sync_all()?;
-    sync_folder(rt, path)?;
-    Ok(file)
-}
-
-/// Puts a front of the bytes to standard output. A sink that takes none of them has failed.
-fn put_some(rt: &HostRuntime, bytes: &[u8]) -> io::Result<usize>
-    ensures { IfOk result (λ n. (1 ≤ n) × (n ≤ length bytes.now)) }
+/// Puts all of the bytes to standard output. A write that a signal interrupts is taken up again. After an error
+/// the output may have got a front of them.
+fn put_whole(rt: &HostRuntime, bytes: &[u8]) -> io::Result<usize>
+    ensures { IfOk result (λ n. n ≡ length bytes.now) }
 {
     let mut out = rt.stdout();
-    let count = out.write(bytes)?;
+    out.write_all(bytes)?;
     out.flush()?;
-    if count == 0 {
-        return Err(io::Error::from(ErrorKind::WriteZero));
-    }
-    Ok(count)
-}
-
-fn no_file() -> io::Error {
-    io::Error::from(ErrorKind::NotFound)
+    Ok(bytes.len())
 }
 
 impl<'a> Disk for HostWorld<'a> {
@@ -139,31 +92,31 @@ impl<'a> Disk for HostWorld<'a> {
 
     fn pages(&self) -> u32 {
         match &self.state {
-            State::Open { pages, .. } => *pages,
+            State::Ready(file) | State::Made(file) => file.pages(),
             _ => 0,
         }
     }
 
     fn read_page(&mut self, i: u32, into: &mut [u8; 4096]) -> Result<(), Fault> {
-        let outcome = match &self.state {
-            State::Open { file, .. } => read_at(file, i, into),
-            _ => Err(no_file()),
+        let outcome = match self.file() {
+            Ok(file) => file.read_page(i, into),
+            Err(e) => Err(e),
         };
         or_fault(&mut self.faults, outcome)
     }
 
     fn write_page(&mut self, i: u32, bytes: &[u8; 4096]) -> Result<(), Fault> {
-        let outcome = match &self.state {
-            State::Open { file, .. } => write_at(file, i, bytes),
-            _ => Err(no_file()),
+        let outcome = match self.file() {
+            Ok(file) => file.write_page(i, bytes),
+            Err(e) => Err(e),
         };
         or_fault(&mut self.faults, outcome)
     }
 
     fn sync(&mut self) -> Result<(), Fault> {
-        let outcome = match &self.state {
-            State::Open { file, .. } => file.sync_all(),
-            _ => Err(no_file()),
+        let outcome = match self.file() {
+            Ok(file) => file.sync(),
+            Err(e) => Err(e),
         };
         or_fault(&mut self.faults, outcome)
     }
@@ -171,13 +124,9 @@ impl<'a> Disk for HostWorld<'a> {
 
 impl<'a> World for HostWorld<'a> {
     fn attach(&mut self, path: &str) -> Result<Attached, Fault> {
-        match opened(self.rt, path) {
-            Ok((file, pages)) => {
-                self.state = State::Open {
-                    file,
-                    pages,
-                    is_new: false,
-                };
+        match MapFile::open(self.rt, path) {
+            Ok(file) => {
+                self.state = State::Ready(file);
                 Ok(Attached::Ready)
             }
             Err(e) if e.kind() == ErrorKind::NotFound => {
@@ -192,13 +141,9 @@ impl<'a> World for HostWorld<'a> {
     }
 
     fn make(&mut self, path: &str, pages: u32) -> Result<Made, Fault> {
-        match new_file(self.rt, path, pages) {
+        match MapFile::make(self.rt, path, pages) {
             Ok(file) => {
-                self.state = State::Open {
-                    file,
-                    pages,
-                    is_new: true,
-                };
+                self.state = State::Made(file);
                 Ok(Made::Ready)
             }
             Err(e) if e.kind() == ErrorKind::AlreadyExists => {
@@ -218,7 +163,7 @@ impl<'a> World for HostWorld<'a> {
     }
 
     fn put(&mut self, bytes: &[u8]) -> Result<usize, Fault> {
-        let outcome = put_some(self.rt, bytes);
+        let outcome = put_whole(self.rt, bytes);
         or_fault(&mut self.faults, outcome)
     }
 }

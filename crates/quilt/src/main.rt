@@ -6,6 +6,7 @@ ghost use Rattle.quilt_world.specs.declared.disk.Door.TheVariants as doors;
 ghost use Rattle.quilt.specs.Host.{door_of};
 
 mod host;
+mod map_file;
 
 use host::HostWorld;
 use quilt_top::{End, run_quilt};

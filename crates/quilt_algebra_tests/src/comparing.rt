@@ -11,19 +11,24 @@ pub fn list_of(
     rt: &impl Abort,
     alloc: Global,
     level: u8,
-    colours: &[u8],
+    colours: &[u16],
 ) -> Result<LeafList, AllocError>
     requires least { 1 ≤ level }
     requires most { level ≤ 12 }
     ensures { IfOk result (λ list. list.level ≡ level) }
 {
+    let mut bytes = Vec::new(alloc);
+    for c in colours {
+        bytes.push((c / 256) as u8)?;
+        bytes.push((c % 256) as u8)?;
+    }
     let side = 1_usize << level;
-    assert!(rt; colours.len() == side * side);
-    leaves_of(alloc, colours, level)
+    assert!(rt; bytes.len() == 2 * (side * side));
+    leaves_of(alloc, &bytes, level)
 }
 
 /// The colours of a list's pixels, row by row.
-fn shown(alloc: Global, list: &LeafList) -> Result<Vec<u8>, AllocError> {
+fn shown(alloc: Global, list: &LeafList) -> Result<Vec<u16>, AllocError> {
     let level = list.level();
     prove!(level <= 12);
     let side = 1_u16 << level;
@@ -42,7 +47,7 @@ pub fn compare(
     alloc: Global,
     list: &LeafList,
     level: u8,
-    colours: &[u8],
+    colours: &[u16],
 ) -> Result<(), AllocError>
     requires least { 1 ≤ level }
     requires most { level ≤ 12 }

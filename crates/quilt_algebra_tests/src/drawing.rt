@@ -32,11 +32,22 @@ impl Dice {
     }
 }
 
-/// The colours of a drawn map, row by row: up to 12 rectangles of the colours from 0 to 3 over a ground of 0 or 1. In half
-/// of the maps all lie at multiples of 2, so that there are larger blocks of one colour.
-pub fn drawn(alloc: Global, dice: &mut Dice, side: u32) -> Result<Vec<u8>, AllocError> {
+/// One of five colours, of which some differ in the high byte alone.
+pub fn colour_of(number: u32) -> u16 {
+    match number {
+        0 => 0,
+        1 => 256,
+        2 => 1,
+        3 => 257,
+        _ => 65535,
+    }
+}
+
+/// The colours of a drawn map, row by row: up to 12 rectangles of the first four colours over a ground of one of the first
+/// two. In half of the maps all lie at multiples of 2, so that there are larger blocks of one colour.
+pub fn drawn(alloc: Global, dice: &mut Dice, side: u32) -> Result<Vec<u16>, AllocError> {
     let mut colours = Vec::new(alloc);
-    let ground = dice.below(2) as u8;
+    let ground = colour_of(dice.below(2));
     for _ in 0..side.wrapping_mul(side) {
         colours.push(ground)?;
     }
@@ -45,7 +56,7 @@ pub fn drawn(alloc: Global, dice: &mut Dice, side: u32) -> Result<Vec<u8>, Alloc
     for _ in 0..count {
         let corner = (dice.below(side), dice.below(side));
         let size = (dice.below(side), dice.below(side));
-        let colour = dice.below(4) as u8;
+        let colour = colour_of(dice.below(4));
         paint(&mut colours, side, unit, corner, size, colour);
     }
     Ok(colours)
@@ -53,12 +64,12 @@ pub fn drawn(alloc: Global, dice: &mut Dice, side: u32) -> Result<Vec<u8>, Alloc
 
 /// Gives the pixels of a rectangle the colour. The rectangle's corner, columns and rows are rounded down to the unit.
 fn paint(
-    colours: &mut [u8],
+    colours: &mut [u16],
     side: u32,
     unit: u32,
     corner: (u32, u32),
     size: (u32, u32),
-    colour: u8,
+    colour: u16,
 ) {
     let (left, top) = (rounded(corner.0, unit), rounded(corner.1, unit));
     let right = left.wrapping_add(rounded(size.0, unit)).wrapping_add(unit);
@@ -109,8 +120,8 @@ pub fn drawn_pairs(alloc: Global, dice: &mut Dice) -> Result<Vec<(Colour, Colour
     let mut pairs = Vec::new(alloc);
     let count = dice.below(17);
     for _ in 0..count {
-        let old = Colour(dice.below(5) as u8);
-        pairs.push((old, Colour(dice.below(5) as u8)))?;
+        let old = Colour(colour_of(dice.below(5)));
+        pairs.push((old, Colour(colour_of(dice.below(5)))))?;
     }
     Ok(pairs)
 }

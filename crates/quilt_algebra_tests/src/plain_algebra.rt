@@ -3,7 +3,7 @@ use quilt_types::{Colour, Window};
 use std::alloc::{AllocError, Global};
 
 /// The colour of the pixel (x, y) of a square of this side, and 0 where it lies outside.
-pub fn at(colours: &[u8], side: u32, x: u32, y: u32) -> u8 {
+pub fn at(colours: &[u16], side: u32, x: u32, y: u32) -> u16 {
     if side <= x || side <= y {
         return 0;
     }
@@ -14,7 +14,7 @@ pub fn at(colours: &[u8], side: u32, x: u32, y: u32) -> u8 {
 }
 
 /// What the operation makes of two squares.
-pub fn plain_overlay(alloc: Global, op: Op, a: &[u8], b: &[u8]) -> Result<Vec<u8>, AllocError> {
+pub fn plain_overlay(alloc: Global, op: Op, a: &[u16], b: &[u16]) -> Result<Vec<u16>, AllocError> {
     let mut colours = Vec::new(alloc);
     for (&p, &q) in a.iter().zip(b) {
         let colour = match op {
@@ -30,9 +30,9 @@ pub fn plain_overlay(alloc: Global, op: Op, a: &[u8], b: &[u8]) -> Result<Vec<u8
 /// The square with the new colour of the first pair that fits each of its colours.
 pub fn plain_recolour(
     alloc: Global,
-    a: &[u8],
+    a: &[u16],
     pairs: &[(Colour, Colour)],
-) -> Result<Vec<u8>, AllocError> {
+) -> Result<Vec<u16>, AllocError> {
     let mut colours = Vec::new(alloc);
     for &c in a {
         let new = pairs.iter().find(|pair| pair.0.0 == c);
@@ -44,10 +44,10 @@ pub fn plain_recolour(
 /// The square inside the window, and 0 elsewhere.
 pub fn plain_window(
     alloc: Global,
-    a: &[u8],
+    a: &[u16],
     side: u32,
     window: Window,
-) -> Result<Vec<u8>, AllocError> {
+) -> Result<Vec<u16>, AllocError> {
     let Window {
         x: left,
         y: top,
@@ -69,11 +69,11 @@ pub fn plain_window(
 /// The square in which the pixel (x, y) has the colour of (x - dx, y - dy), and 0 where that lies outside.
 pub fn plain_shift(
     alloc: Global,
-    a: &[u8],
+    a: &[u16],
     side: u32,
     dx: i32,
     dy: i32,
-) -> Result<Vec<u8>, AllocError> {
+) -> Result<Vec<u16>, AllocError> {
     let mut colours = Vec::new(alloc);
     for y in 0..side {
         for x in 0..side {
@@ -89,18 +89,18 @@ pub fn plain_shift(
 }
 
 /// The square that is 1 where a coloured pixel is within r, and 0 elsewhere.
-pub fn plain_buffer(alloc: Global, a: &[u8], side: u32, r: u32) -> Result<Vec<u8>, AllocError> {
+pub fn plain_buffer(alloc: Global, a: &[u16], side: u32, r: u32) -> Result<Vec<u16>, AllocError> {
     let mut colours = Vec::new(alloc);
     for y in 0..side {
         for x in 0..side {
-            colours.push(u8::from(has_near(a, side, x, y, r)))?;
+            colours.push(u16::from(has_near(a, side, x, y, r)))?;
         }
     }
     Ok(colours)
 }
 
 /// Whether the greater of the distances in x and in y of some coloured pixel is at most r.
-fn has_near(a: &[u8], side: u32, x: u32, y: u32, r: u32) -> bool {
+fn has_near(a: &[u16], side: u32, x: u32, y: u32, r: u32) -> bool {
     (0..side).any(|v| {
         (0..side).any(|u| at(a, side, u, v) != 0 && u.abs_diff(x).max(v.abs_diff(y)) <= r)
     })

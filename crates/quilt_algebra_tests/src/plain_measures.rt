@@ -1,7 +1,7 @@
 use crate::plain_algebra::at;
 
 /// How many pixels have the colour.
-pub fn plain_area(a: &[u8], c: u8) -> u64 {
+pub fn plain_area(a: &[u16], c: u16) -> u64 {
     let mut count = 0_u64;
     for &d in a {
         if d == c {
@@ -12,7 +12,7 @@ pub fn plain_area(a: &[u8], c: u8) -> u64 {
 }
 
 /// How many edges of pixels of the colour have another colour or the outside behind them.
-pub fn plain_perimeter(a: &[u8], side: u32, c: u8) -> u64 {
+pub fn plain_perimeter(a: &[u16], side: u32, c: u16) -> u64 {
     let mut count = 0_u64;
     for y in 0..side {
         for x in 0..side {
@@ -25,7 +25,7 @@ pub fn plain_perimeter(a: &[u8], side: u32, c: u8) -> u64 {
 }
 
 /// How many of the four pixels that share an edge with this one are outside or have another colour.
-fn edges(a: &[u8], side: u32, x: u32, y: u32) -> u64 {
+fn edges(a: &[u16], side: u32, x: u32, y: u32) -> u64 {
     let colour = at(a, side, x, y);
     let mut count = 0_u64;
     for (u, v) in [
@@ -43,7 +43,7 @@ fn edges(a: &[u8], side: u32, x: u32, y: u32) -> u64 {
 }
 
 /// How many maximal blocks have the side 2 ^ k, by a search of all blocks.
-pub fn plain_histogram(a: &[u8], side: u32) -> [u32; 13] {
+pub fn plain_histogram(a: &[u16], side: u32) -> [u32; 13] {
     let mut counts = [0; 13];
     for k in 0..13_usize {
         let size = 1_u32 << k;
@@ -55,7 +55,7 @@ pub fn plain_histogram(a: &[u8], side: u32) -> [u32; 13] {
 }
 
 /// How many blocks of this size are maximal.
-fn maximal_blocks(a: &[u8], side: u32, size: u32) -> u32 {
+fn maximal_blocks(a: &[u16], side: u32, size: u32) -> u32 {
     let mut count = 0_u32;
     for y in 0..side {
         for x in 0..side {
@@ -69,7 +69,7 @@ fn maximal_blocks(a: &[u8], side: u32, size: u32) -> u32 {
 }
 
 /// Whether the block is of one colour, and is the whole square or lies in no block of twice its side that is.
-fn is_maximal(a: &[u8], side: u32, x: u32, y: u32, size: u32) -> bool {
+fn is_maximal(a: &[u16], side: u32, x: u32, y: u32, size: u32) -> bool {
     let twice = size.wrapping_mul(2);
     let left = x.wrapping_sub(x.checked_rem(twice).unwrap_or(0));
     let top = y.wrapping_sub(y.checked_rem(twice).unwrap_or(0));
@@ -77,7 +77,7 @@ fn is_maximal(a: &[u8], side: u32, x: u32, y: u32, size: u32) -> bool {
 }
 
 /// Whether all pixels from (x, y) on, as many in a row as rows, have the colour of the first.
-fn is_uniform(a: &[u8], side: u32, x: u32, y: u32, size: u32) -> bool {
+fn is_uniform(a: &[u16], side: u32, x: u32, y: u32, size: u32) -> bool {
     let first = at(a, side, x, y);
     (0..size).all(|dy| {
         (0..size).all(|dx| at(a, side, x.wrapping_add(dx), y.wrapping_add(dy)) == first)

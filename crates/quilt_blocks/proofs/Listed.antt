@@ -61,7 +61,7 @@ pub IsListed-made : (n : ℕ) (es : List (Block × ℕ)) → IsMaking n es → l
 IsListed-made n es m long = record {
   least = m.least;
   most = m.most;
-  bytes = m.bytes;
+  colours = m.colours;
   ordered = leaves_are_by_code n (grid_from n es) es m.most m.follows (leaves_are n (grid_from n es) es (mosaic n es m long));
 }
 
@@ -81,13 +81,13 @@ module _ (n : ℕ) (es : List (Block × ℕ)) (h : IsListed n es) where
       let i = code_in n p h.most hx hy in
       member_with n 0 es (code_at p) r.follows (omega arith) (omega arith)
 
-  colour_small : (p : Pixel) → p.x < side n → p.y < side n → get_or (colours_of es) (code_at p) 0 < 256
+  colour_small : (p : Pixel) → p.x < side n → p.y < side n → get_or (colours_of es) (code_at p) 0 < 65536
   colour_small p hx hy =
       let r = listed_run in
       let w = listed_with p hx hy in
       let z : code_at p ≡ code_at p - 0 = omega arith in
       let e : get_or (colours_of es) (code_at p) 0 ≡ (w.0).1 = ap (λ k. get_or (colours_of es) k 0) z ∙ colour_in n 0 es w.0 (code_at p) r.follows w.1 w.2 w.3 in
-      let b = All-contains (λ (d : Block × ℕ). d.1 < 256) es w.0 h.bytes w.1 in
+      let b = All-contains (λ (d : Block × ℕ). d.1 < 65536) es w.0 h.colours w.1 in
       omega arith
 
   pub listed_raster : let r : Raster = record { level = n; grid = grid_from n es } in IsRaster r
@@ -100,7 +100,7 @@ module _ (n : ℕ) (es : List (Block × ℕ)) (h : IsListed n es) where
         most = h.most;
         colours = record {
           size = long;
-          bytes = All-from_get_or (λ (c : ℕ). c < 256) (grid_from n es) 0 (λ k lt.
+          colours = All-from_get_or (λ (c : ℕ). c < 65536) (grid_from n es) 0 (λ k lt.
               let lt' : k < side n * side n = omega arith in
               let e = get_or-grid_of n f k lt' in
               let s = colour_small (pixel_at n k) (mod_below k (side n) (pow_pos n)) (div_below k (side n) (side n) (pow_pos n) lt') in

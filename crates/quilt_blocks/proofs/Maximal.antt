@@ -9,7 +9,7 @@ use Rattle.quilt_types.specs.Quadtrees.{is_whole, is_maximal, maximal_blocks}
 use Rattle.quilt_blocks.specs.Cutting.{cut}
 use Rattle.quilt_loc.proofs.Members.{Contains-here, Contains-nil, Contains-cons_cases, Contains-filter, Contains-filter_from, Contains-flat_map, Contains-flat_map_from}
 use Rattle.quilt_loc.proofs.Once.{once_some, once_same}
-use Rattle.quilt_loc.proofs.Steps.{start_low, start_on}
+use Rattle.quilt_loc.proofs.Around.{IsBlock-around, Holds-around}
 use Rattle.quilt_loc.proofs.Blocks.{Holds-from, in_block-true, IsBlock-from, Contains-blocks}
 use Rattle.quilt_loc.proofs.Nesting.{around, Within-holds, Within-trans, Holds-corner, nested, same_block_from, twice_le, parent_within, side_pos, IsBlock-parent_of, Within-parent_of}
 use Rattle.quilt_loc.proofs.Quartered.{IsQuarter, quarters_are, is_quarter, side_le, IsBlock-whole, Within-whole}
@@ -30,19 +30,6 @@ pub record IsTiling (n : ℕ) (fits : Block → Bool) (tiles : List Block) : Typ
   pub passing : (b : Block) → Contains tiles b → fits b ≡ true
   pub cover : (p : Pixel) → is_pixel n p ≡ true → count_by (λ b. in_block b p) tiles ≡ 1
   pub unmerged : (b : Block) → Contains (blocks n) b → fits b ≡ true → ((q : Block) → Contains (quarters_of b) q → Contains tiles q) → ⊥
-
-pub IsBlock-around : (n k : ℕ) (p : Pixel) → k ≤ n → p.x < 2 ^ n → p.y < 2 ^ n → IsBlock n (around (2 ^ k) p)
-IsBlock-around n k p le hx hy =
-    let pos = pow_pos k in
-    let lx = start_low (2 ^ k) p.x pos in
-    let ly = start_low (2 ^ k) p.y pos in
-    record { level = k; low = le; size = refl; on_x = start_on (2 ^ k) p.x pos; on_y = start_on (2 ^ k) p.y pos; in_x = omega arith; in_y = omega arith }
-
-pub Holds-around : (k : ℕ) (p : Pixel) → Holds (around (2 ^ k) p) p
-Holds-around k p =
-    let lx = start_low (2 ^ k) p.x (pow_pos k) in
-    let ly = start_low (2 ^ k) p.y (pow_pos k) in
-    record { left = lx.0; right = lx.1; top = ly.0; bottom = ly.1 }
 
 pub Within-self : (b : Block) → Within b b
 Within-self b = record { left = omega arith; right = omega arith; top = omega arith; bottom = omega arith }

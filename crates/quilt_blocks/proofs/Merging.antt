@@ -36,7 +36,7 @@ pub IsMaking-none : (n : ℕ) → 1 ≤ n → n ≤ 12 → IsMaking n []
 IsMaking-none n least most = record {
   least = least;
   most = most;
-  bytes = All-nil (λ (e : Block × ℕ). e.1 < 256);
+  colours = All-nil (λ (e : Block × ℕ). e.1 < 65536);
   follows = tt;
   unmerged = record {
     four = λ b c hb part.
@@ -46,11 +46,11 @@ IsMaking-none n least most = record {
 }
 
 -- one more block
-pub IsGrowing-push : (n : ℕ) (es : List (Block × ℕ)) (e : Block × ℕ) → IsMaking n es → IsBlock n e.0 → code_from e.0 ≡ size_of es → e.1 < 256 → IsGrowing n (es ++ e ∷ [])
+pub IsGrowing-push : (n : ℕ) (es : List (Block × ℕ)) (e : Block × ℕ) → IsMaking n es → IsBlock n e.0 → code_from e.0 ≡ size_of es → e.1 < 65536 → IsGrowing n (es ++ e ∷ [])
 IsGrowing-push n es e m h at small =
     let z : code_from e.0 ≡ 0 + size_of es = omega arith in
     record {
-      bytes = All-append (λ (d : Block × ℕ). d.1 < 256) es (e ∷ []) m.bytes (All-from_recursion (λ (d : Block × ℕ). d.1 < 256) (e ∷ []) (small, tt));
+      colours = All-append (λ (d : Block × ℕ). d.1 < 65536) es (e ∷ []) m.colours (All-from_recursion (λ (d : Block × ℕ). d.1 < 65536) (e ∷ []) (small, tt));
       follows = Follows-append n 0 es (e ∷ []) m.follows (subst (λ (a : ℕ). Follows n a (e ∷ [])) z (Follows-one n e h));
       front = es;
       last = e;
@@ -105,12 +105,12 @@ IsGrowing-merge n es w g q =
     let f = q.front in
     let follows : Follows n 0 (f ++ siblings w) = subst (Follows n 0) q.split g.follows in
     let back = Follows-back n 0 f (siblings w) follows in
-    let bytes : All (λ (e : Block × ℕ). e.1 < 256) (f ++ siblings w) = subst (All (λ (e : Block × ℕ). e.1 < 256)) q.split g.bytes in
-    let small = All-contains (λ (e : Block × ℕ). e.1 < 256) (f ++ siblings w) a bytes (Contains-append_right f (siblings w) a (Contains-here a (b ∷ c ∷ d ∷ []))) in
+    let all : All (λ (e : Block × ℕ). e.1 < 65536) (f ++ siblings w) = subst (All (λ (e : Block × ℕ). e.1 < 65536)) q.split g.colours in
+    let small = All-contains (λ (e : Block × ℕ). e.1 < 65536) (f ++ siblings w) a all (Contains-append_right f (siblings w) a (Contains-here a (b ∷ c ∷ d ∷ []))) in
     let cut : g.front ++ g.last ∷ [] ≡ (f ++ a ∷ b ∷ c ∷ []) ++ d ∷ [] = sym g.split ∙ q.split ∙ sym (append_assoc f (a ∷ b ∷ c ∷ []) (d ∷ [])) in
     let front : g.front ≡ f ++ a ∷ b ∷ c ∷ [] = before_last g.front (f ++ a ∷ b ∷ c ∷ []) g.last d cut in
     record {
-      bytes = All-append (λ (e : Block × ℕ). e.1 < 256) f (w ∷ []) (All-front (λ (e : Block × ℕ). e.1 < 256) f (siblings w) bytes) (All-from_recursion (λ (e : Block × ℕ). e.1 < 256) (w ∷ []) (small, tt));
+      colours = All-append (λ (e : Block × ℕ). e.1 < 65536) f (w ∷ []) (All-front (λ (e : Block × ℕ). e.1 < 65536) f (siblings w) all) (All-from_recursion (λ (e : Block × ℕ). e.1 < 65536) (w ∷ []) (small, tt));
       follows = Follows-append n 0 f (w ∷ []) (Follows-front n 0 f (siblings w) follows) (q.block, back.1, tt);
       front = f;
       last = w;

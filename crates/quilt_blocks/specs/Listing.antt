@@ -20,7 +20,7 @@ grid_from n es = grid_by_code n (colours_of es)
 pub record IsListed (n : ℕ) (es : List (Block × ℕ)) : Type 0 where
   pub least : 1 ≤ n
   pub most : n ≤ 12
-  pub bytes : All (λ e. e.1 < 256) es
+  pub colours : All (λ e. e.1 < 65536) es
   pub ordered : es ≡ leaves_by_code n (grid_from n es)
 
 -- blocks of which each begins at the code at which the one before it ended, the first at this code
@@ -36,13 +36,13 @@ pub record IsUnmerged (n : ℕ) (es : List (Block × ℕ)) : Type 0 where
 pub record IsMaking (n : ℕ) (es : List (Block × ℕ)) : Type 0 where
   pub least : 1 ≤ n
   pub most : n ≤ 12
-  pub bytes : All (λ e. e.1 < 256) es
+  pub colours : All (λ e. e.1 < 65536) es
   pub follows : Follows n 0 es
   pub unmerged : IsUnmerged n es
 
 -- the same but for the last block, which may be a fourth sibling of one colour
 pub record IsGrowing (n : ℕ) (es : List (Block × ℕ)) : Type 0 where
-  pub bytes : All (λ e. e.1 < 256) es
+  pub colours : All (λ e. e.1 < 65536) es
   pub follows : Follows n 0 es
   pub front : List (Block × ℕ)
   pub last : Block × ℕ

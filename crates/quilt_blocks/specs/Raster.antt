@@ -7,8 +7,8 @@ pub record Raster : Type 0 where
   pub level : ℕ
   pub grid : Grid
 
--- a grid of a level from 1 to 12
+-- a grid of a level from 1 to 12, with colours of two bytes: format 2 allows each of them, and a grid of format 1 is one of format 2 too
 pub record IsRaster (r : Raster) : Type 0 where
   pub least : 1 ≤ r.level
   pub most : r.level ≤ 12
-  pub colours : IsGrid r.level r.grid
+  pub colours : IsGrid 2 r.level r.grid

@@ -10,7 +10,7 @@ use Rattle.quilt_node.specs.Nodes.{IsPlace}
 use Rattle.quilt_node.specs.Tree.{Bounds, bounded, is_above, is_below, are_within}
 use Rattle.quilt_btree.specs.Subtree.{Reading, Row, Subtree}
 use Rattle.quilt_btree.specs.Trees.{is_past}
-use Rattle.quilt_btree.proofs.Orders.{lt_le, lt_to_le, not_le}
+use Rattle.quilt_record.proofs.Orders.{lt_le, lt_to_le, not_le}
 use Rattle.quilt_btree.proofs.Rising.{all_follow, all_map}
 use Rattle.quilt_btree.proofs.Trees.{IsInnerList, subtree_rises, row_rises, ascending_rest, within_rest}
 use Rattle.quilt_btree.proofs.Places.{front, from_keys, head_bounds, tail_places, bounded_at, AtPlace, at_place, IsSide, Rises, front_before, tail_behind}

@@ -14,7 +14,7 @@ use Rattle.quilt_types.specs.declared.stop.Stop.{Stop}
 use Rattle.quilt_btree.specs.declared.reading.Found.{Found}
 use Rattle.quilt_btree.specs.Subtree.{Subtree}
 use Rattle.quilt_btree.specs.Trees.{Spells, LeadsTo, Divides, IsBound, IsCut}
-use Rattle.quilt_btree.proofs.Orders.{lt_le, le_le, lt_to_le}
+use Rattle.quilt_record.proofs.Orders.{lt_le, le_le, lt_to_le}
 use Rattle.quilt_btree.proofs.Trees.{ascending_first, ascending_rest}
 use Rattle.quilt_btree.proofs.Rising.{all_follow, all_parts, below_on}
 use Rattle.quilt_btree.proofs.Lists.{gt_not_le}

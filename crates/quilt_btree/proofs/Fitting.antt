@@ -7,7 +7,7 @@ use Rattle.quilt_record.specs.declared.key.Key.{Key}
 use Rattle.quilt_record.specs.Records.{key_cmp}
 use Rattle.quilt_node.specs.Pages.{is_ascending}
 use Rattle.quilt_node.proofs.Ascending.{ascending_insert}
-use Rattle.quilt_btree.proofs.Orders.{lt_le, lt_to_le}
+use Rattle.quilt_record.proofs.Orders.{lt_le, lt_to_le}
 use Rattle.quilt_btree.proofs.Rising.{all_follow}
 use Rattle.quilt_btree.proofs.Trees.{ascending_first, ascending_rest}
 use Rattle.quilt_btree.proofs.Dividing.{member}

@@ -7,7 +7,7 @@ use Rattle.quilt_record.specs.Records.{key_cmp}
 use Rattle.quilt_node.specs.Pages.{is_ascending}
 use Rattle.quilt_node.specs.Tree.{Bounds, bounded, are_within}
 use Rattle.quilt_btree.specs.Subtree.{Reading, Row, Subtree}
-use Rattle.quilt_btree.proofs.Orders.{le_lt}
+use Rattle.quilt_record.proofs.Orders.{le_lt}
 use Rattle.quilt_btree.proofs.Trees.{leaf_list, inner_list, subtree_rises}
 use Rattle.quilt_btree.proofs.Walks.{and_parts, and_both}
 

@@ -9,7 +9,7 @@ use Rattle.quilt_record.specs.declared.record.Record.{Record}
 use Rattle.quilt_record.specs.Records.{key_cmp}
 use Rattle.quilt_node.specs.Nodes.{IsFound, IsGap}
 use Rattle.quilt_btree.specs.Lists.{has_key, value_in, value_of, floor_of, put, without}
-use Rattle.quilt_btree.proofs.Orders.{key_total}
+use Rattle.quilt_record.proofs.Orders.{key_total}
 use Rattle.quilt_btree.proofs.Lists.{IsAmong, value_between, floor_between, any_between, put_between, without_between}
 
 pub cut_at : {X : Type 0} (xs : List X) (i : ℕ) (x : X) → slice_get xs i ≡ Some x → xs ≡ take i xs ++ x ∷ drop (suc i) xs

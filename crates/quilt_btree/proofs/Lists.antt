@@ -11,7 +11,7 @@ use Rattle.quilt_record.specs.declared.key.Key.{Key}
 use Rattle.quilt_record.specs.declared.record.Record.{Record}
 use Rattle.quilt_record.specs.Records.{key_cmp}
 use Rattle.quilt_btree.specs.Lists.{has_key, value_in, value_of, is_at_most, floor_of, put, without}
-use Rattle.quilt_btree.proofs.Orders.{key_total, is_Less, lt_not_eq, gt_not_eq, lt_to_le}
+use Rattle.quilt_record.proofs.Orders.{key_total, is_Less, lt_not_eq, gt_not_eq, lt_to_le}
 use Rattle.quilt_btree.proofs.Rising.{all_follow}
 use Rattle.quilt_btree.proofs.Walks.{and_parts}
 

@@ -10,7 +10,7 @@ use Rattle.quilt_node.specs.Pages.{Inner, is_ascending}
 use Rattle.quilt_node.specs.Tree.{Bounds, bounded, are_within, is_above, is_below}
 use Rattle.quilt_node.proofs.Ascending.{ascending_insert, ascending_take, ascending_drop}
 use Rattle.quilt_btree.specs.Subtree.{Subtree}
-use Rattle.quilt_btree.proofs.Orders.{lt_le, lt_to_le, le_lt}
+use Rattle.quilt_record.proofs.Orders.{lt_le, lt_to_le, le_lt}
 use Rattle.quilt_btree.proofs.Rising.{all_follow, all_parts, all_append, above_on, below_on}
 use Rattle.quilt_btree.proofs.Trees.{leaf_list, inner_list, ascending_first, ascending_rest}
 use Rattle.quilt_btree.proofs.Places.{front, from_keys, head_bounds, tail_places, bounded_front, bounded_head, high_from}

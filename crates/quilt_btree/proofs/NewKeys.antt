@@ -8,7 +8,7 @@ use Rattle.quilt_record.specs.Records.{key_cmp}
 use Rattle.quilt_node.specs.Pages.{is_ascending}
 use Rattle.quilt_node.specs.Tree.{Bounds, is_above, is_below, are_within}
 use Rattle.quilt_btree.specs.Subtree.{Subtree}
-use Rattle.quilt_btree.proofs.Orders.{lt_le, lt_to_le}
+use Rattle.quilt_record.proofs.Orders.{lt_le, lt_to_le}
 use Rattle.quilt_btree.proofs.Rising.{all_follow, all_append, all_parts, above_on, below_on, ascending_join}
 use Rattle.quilt_btree.proofs.Trees.{ascending_first, ascending_rest, subtree_rises}
 use Rattle.quilt_btree.proofs.Leaves.{same_le}

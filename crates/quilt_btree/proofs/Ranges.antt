@@ -11,7 +11,7 @@ use Rattle.quilt_record.specs.Records.{key_cmp}
 use Rattle.quilt_btree.specs.Lists.{is_from_to, range_of}
 use Rattle.quilt_node.specs.Tree.{is_below}
 use Rattle.quilt_btree.specs.Trees.{LeadsTo, IsAsFar, is_past}
-use Rattle.quilt_btree.proofs.Orders.{lt_le, le_le, lt_to_le, not_le}
+use Rattle.quilt_record.proofs.Orders.{lt_le, le_le, lt_to_le, not_le}
 use Rattle.quilt_btree.proofs.Rising.{all_follow, all_append}
 use Rattle.quilt_btree.proofs.Lists.{AreBelow, filter_all, filter_none, filter_cond, gt_not_le}
 use Rattle.quilt_btree.proofs.Walks.{and_parts, and_both}

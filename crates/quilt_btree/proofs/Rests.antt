@@ -12,7 +12,7 @@ use Rattle.quilt_btree.specs.Stops.{IsSound}
 use Rattle.quilt_btree.specs.declared.tree.Tree.{Tree}
 use Rattle.quilt_btree.specs.Lists.{is_from_to, range_of}
 use Rattle.quilt_btree.specs.Trees.{Spells, IsTree, LeadsTo, IsCut, IsBound, Divides, Before}
-use Rattle.quilt_btree.proofs.Orders.{le_lt, lt_to_le}
+use Rattle.quilt_record.proofs.Orders.{le_lt, lt_to_le}
 use Rattle.quilt_btree.proofs.Leaves.{same_le}
 use Rattle.quilt_btree.proofs.Whole.{tree_spells, no_records}
 use Rattle.quilt_btree.proofs.Ranges.{range_more, range_first, range_next, range_ends, range_fills, adds_some}

@@ -6,7 +6,7 @@ use Rattle.quilt_record.specs.declared.key.Key.{Key}
 use Rattle.quilt_record.specs.Records.{key_cmp}
 use Rattle.quilt_node.specs.Pages.{is_ascending}
 use Rattle.quilt_node.specs.Tree.{Bounds, is_above, is_below, are_within}
-use Rattle.quilt_btree.proofs.Orders.{lt_le, le_le, lt_to_le}
+use Rattle.quilt_record.proofs.Orders.{lt_le, le_le, lt_to_le}
 use Rattle.quilt_btree.proofs.Walks.{and_parts, and_both}
 
 -- they ascend strictly, and lie within the bounds

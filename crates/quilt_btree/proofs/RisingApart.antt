@@ -6,7 +6,7 @@ use Rattle.quilt_record.specs.declared.key.Key.{Key}
 use Rattle.quilt_record.specs.Records.{key_cmp}
 use Rattle.quilt_node.specs.Pages.{is_ascending}
 use Rattle.quilt_node.specs.Tree.{Bounds, is_above, is_below, are_within}
-use Rattle.quilt_btree.proofs.Orders.{lt_to_le}
+use Rattle.quilt_record.proofs.Orders.{lt_to_le}
 use Rattle.quilt_btree.proofs.Rising.{IsRising, all_follow, all_parts}
 use Rattle.quilt_btree.proofs.Trees.{ascending_first, ascending_rest, all_both}
 use Rattle.quilt_btree.proofs.Leaves.{same_le}

@@ -18,8 +18,8 @@ use Rattle.quilt_btree.specs.declared.tree.Tree.{Tree}
 use Rattle.quilt_btree.specs.Lists.{has_key, put}
 use Rattle.quilt_btree.specs.Stops.{IsSound}
 use Rattle.quilt_btree.specs.Subtree.{Row, Subtree, IsFresh}
-use Rattle.quilt_btree.specs.Trees.{IsRooted}
-use Rattle.quilt_btree.specs.Edits.{times, account, Moves, CanInsert, DidInsert, IsWhole}
+use Rattle.quilt_btree.specs.Trees.{IsRooted, IsTree}
+use Rattle.quilt_btree.specs.Edits.{times, account, Moves, Parted, CanInsert, DidInsert, IsWhole}
 use Rattle.quilt_btree.specs.declared.inserted.Inserted.{Inserted}
 use Rattle.quilt_btree.specs.declared.inserted.Inserted.TheVariants as inserted
 use Rattle.quilt_btree.proofs.Counts.{times-append, once_from_fresh, fresh_from_once, times_here}
@@ -95,23 +95,29 @@ whole_from told free size t rs rooted some least inside w =
     enough : (s c u : ℕ) → s ≤ c + u + 1 → u + 6 < s → 6 ≤ c
     enough s c u e f = omega arith
 
--- A subtree that has come of a whole tree by an edit is the whole tree.
-pub whole_again : (pages news : List (List ℕ)) (now_told : Option (List (List ℕ))) (free now : ℕ → Bool) (size root height records : ℕ) (used uses : List ℕ) (all : List Record)
-    → now_told ≡ Some news → 1 ≤ height → Subtree news height true (root, everywhere) all uses → Moves pages news free now used uses → AreApart free used → ((p : ℕ) → 1 ≤ p → p < size → account free used p ≡ 1) → length all ≡ records
-    → IsWhole now_told now size (record { root = root; height = height; records = records }) all
-whole_again pages news now_told free now size root height records used uses all is some s m apart balance number = record {
-  tree = record {
-    pages = news;
-    is_told = is;
-    visited = uses ++ [];
-    walk = root_again news root height all uses some s (fresh_from_once uses (λ p. once (cond {A = ℕ} (now p) 1 0) (times p uses) (apart_then pages news free now used uses m apart p)));
-  };
-  number = number;
-  balance = λ p low high. ap (λ u. account now u p) (append-nil uses) ∙ m.balance p ∙ balance p low high;
+-- a subtree whose pages are apart is a tree
+unfoldable pub tree_again : (news : List (List ℕ)) (now_told : Option (List (List ℕ))) (now : ℕ → Bool) (root height records : ℕ) (uses : List ℕ) (all : List Record)
+    → now_told ≡ Some news → 1 ≤ height → Subtree news height true (root, everywhere) all uses → AreApart now uses → IsTree now_told (record { root = root; height = height; records = records }) all
+tree_again news now_told now root height records uses all is some s apart = record {
+  pages = news;
+  is_told = is;
+  visited = uses ++ [];
+  walk = root_again news root height all uses some s (fresh_from_once uses (λ p. once (cond {A = ℕ} (now p) 1 0) (times p uses) (apart p)));
 }
   where
     once : (c t : ℕ) → c + t ≤ 1 → t ≤ 1
     once c t h = omega arith
+
+-- A subtree that has come of a whole tree by an edit is the whole tree.
+pub whole_again : (pages news : List (List ℕ)) (now_told : Option (List (List ℕ))) (free now : ℕ → Bool) (size root height records : ℕ) (used uses : List ℕ) (all : List Record)
+    → now_told ≡ Some news → 1 ≤ height → Subtree news height true (root, everywhere) all uses → Moves pages news free now used uses → AreApart free used → ((p : ℕ) → 1 ≤ p → p < size → account free used p ≡ 1) → length all ≡ records
+    → IsWhole now_told now size (record { root = root; height = height; records = records }) all
+unfolding tree_again
+whole_again pages news now_told free now size root height records used uses all is some s m apart balance number = record {
+  tree = tree_again news now_told now root height records uses all is some s (apart_then pages news free now used uses m apart);
+  number = number;
+  balance = λ p low high. ap (λ u. account now u p) (append-nil uses) ∙ m.balance p ∙ balance p low high;
+}
 
 pub whole_can : (told : Option (List (List ℕ))) (free : ℕ → Bool) (size root height : ℕ) (k : Key) (rs : List Record) → height ≤ 3 → (x : IsWholeFrom told free size root height rs) → CanInsert told free size root height true everywhere k rs x.used
 whole_can told free size root height k rs low x = record {
@@ -227,17 +233,19 @@ behind_all p new used = turn (times p (used ++ new ∷ [])) (times p used) (time
     turn : (t u n s : ℕ) → t ≡ u + n → s ≡ n + u → t ≡ s
     turn t u n s e f = omega arith
 
-pub whole_split : (r : Record) (told mid_told now_told : Option (List (List ℕ))) (free mid now : ℕ → Bool) (size : ℕ) (t : Tree) (rs : List Record) (key : Key) (right new : ℕ) (bytes : List ℕ) (h : ℕ) → IsInserting told free size t → t.height ≡ suc h
-    → UnderRoot r told mid_told free mid size t (inserted.Split key right) → IsNewRoot t mid_told now_told mid now size key right new bytes
-    → IsWhole told free size t rs → (true ≡ not (list_any (has_key r.key) rs)) × IsWhole now_told now size (record { root = new; height = t.height + 1; records = t.records + 1 }) (put r rs)
-whole_split r told mid_told now_told free mid now size t rs key right new bytes h i tall f is w =
-    let ne : t.height ≢ 0 = omega arith in
+-- the root and what it has become, once a root was written above it
+pub record IsRegrown (pages : List (List ℕ)) (now_told : Option (List (List ℕ))) (free now : ℕ → Bool) (root height : ℕ) (used : List ℕ) (all : List Record) : Type 0 where
+  pub news : List (List ℕ)
+  pub is : now_told ≡ Some news
+  pub uses : List ℕ
+  pub subtree : Subtree news height true (root, everywhere) all uses
+  pub moves : Moves pages news free now used uses
+
+pub regrown_split : (told mid_told now_told : Option (List (List ℕ))) (pages mids : List (List ℕ)) (free mid now : ℕ → Bool) (size : ℕ) (t : Tree) (all : List Record) (used : List ℕ) (key : Key) (right new : ℕ) (bytes : List ℕ) (h : ℕ)
+    → IsRooted size t → TellsAll told size → t.height ≡ suc h → told ≡ Some pages → mid_told ≡ Some mids → Parted pages mids free mid t.root t.height everywhere used all key right → AreApart free used
+    → IsNewRoot t mid_told now_told mid now size key right new bytes → IsRegrown pages now_told free now new (t.height + 1) used all
+regrown_split told mid_told now_told pages mids free mid now size t all used key right new bytes h rooted many tall was mid_is parted apart is =
     let some : 1 ≤ t.height = omega arith in
-    let x = insert_from told free size t rs i ne w in
-    let did = f true everywhere rs x.used (whole_can told free size t.root t.height r.key rs i.rooted.height x) in
-    let parted = did.done.1 in
-    let mids = did.news in
-    let all = put r rs in
     let S = Subtree mids (suc h) false in
     let U = parted.rest_uses ++ parted.first_uses in
     let inner : Inner = record { height = t.height + 1; children = t.root ∷ right ∷ []; keys = key ∷ [] } in
@@ -254,22 +262,35 @@ whole_split r told mid_told now_told free mid now size t rs key right new bytes 
       records = parted.records;
       is_used = refl;
     } in
-    let was = did.was in
-    let told_long : length did.pages ≡ size = if_some_at (λ pages. length pages ≡ size) told did.pages i.many did.was in
+    let told_long : length pages ≡ size = if_some_at (λ pages. length pages ≡ size) told pages many was in
     let long : length mids ≡ size = parted.moves.size ∙ told_long in
     let inside : new < length mids = subst (λ n. new < n) (sym long) is.new_in.1 in
-    let root_in = i.rooted.tree some in
-    let written = tells_at (λ old news. news ≡ slice_set old new bytes) mid_told now_told mids is.wrote did.is in
-    let apart_mid = apart_then did.pages mids free mid x.used U parted.moves x.apart in
+    let root_in = rooted.tree some in
+    let written = tells_at (λ old news. news ≡ slice_set old new bytes) mid_told now_told mids is.wrote mid_is in
+    let apart_mid = apart_then pages mids free mid used U parted.moves apart in
     let taken = moves_order mids mids mid now U (new ∷ U) U (U ++ new ∷ []) (λ p. refl) (λ p. behind_all p new U) (moves_taken mids mid now U new is.was_free is.taken) in
     let apart_now = apart_then mids mids mid now U (U ++ new ∷ []) taken apart_mid in
     let grown = parent_written mids now h new true everywhere inner bytes U all inside (is.is_written (length mids) (two_pages (length mids) size t.root right long (root_in.0, root_in.1) is.right_in)) taller refl refl apart_now row in
     let news = slice_set mids new bytes in
-    let moves = moves_then did.pages mids news free now now x.used (U ++ new ∷ []) grown.uses (moves_then did.pages mids mids free mid now x.used U (U ++ new ∷ []) parted.moves taken) grown.moves in
+    record {
+      news = news;
+      is = written.1 ∙ ap Some written.2;
+      uses = grown.uses;
+      subtree = subst (λ n. Subtree news n true (new, everywhere) all grown.uses) (sym taller) grown.subtree;
+      moves = moves_then pages mids news free now now used (U ++ new ∷ []) grown.uses (moves_then pages mids mids free mid now used U (U ++ new ∷ []) parted.moves taken) grown.moves;
+    }
+
+pub whole_split : (r : Record) (told mid_told now_told : Option (List (List ℕ))) (free mid now : ℕ → Bool) (size : ℕ) (t : Tree) (rs : List Record) (key : Key) (right new : ℕ) (bytes : List ℕ) (h : ℕ) → IsInserting told free size t → t.height ≡ suc h
+    → UnderRoot r told mid_told free mid size t (inserted.Split key right) → IsNewRoot t mid_told now_told mid now size key right new bytes
+    → IsWhole told free size t rs → (true ≡ not (list_any (has_key r.key) rs)) × IsWhole now_told now size (record { root = new; height = t.height + 1; records = t.records + 1 }) (put r rs)
+whole_split r told mid_told now_told free mid now size t rs key right new bytes h i tall f is w =
+    let ne : t.height ≢ 0 = omega arith in
+    let x = insert_from told free size t rs i ne w in
+    let did = f true everywhere rs x.used (whole_can told free size t.root t.height r.key rs i.rooted.height x) in
+    let grown = regrown_split told mid_told now_told did.pages did.news free mid now size t (put r rs) x.used key right new bytes h i.rooted i.many tall did.was did.is did.done.1 x.apart is in
     let some_now : 1 ≤ t.height + 1 = omega arith in (
       sym (ap not did.done.0),
-      whole_again did.pages news now_told free now size new (t.height + 1) (t.records + 1) x.used grown.uses all (written.1 ∙ ap Some written.2) some_now
-          (subst (λ n. Subtree news n true (new, everywhere) all grown.uses) (sym taller) grown.subtree) moves x.apart x.balance (more_records r rs t.records w.number),
+      whole_again did.pages grown.news now_told free now size new (t.height + 1) (t.records + 1) x.used grown.uses (put r rs) grown.is some_now grown.subtree grown.moves x.apart x.balance (more_records r rs t.records w.number),
     )
 
 -- the first record of a tree

@@ -13,17 +13,17 @@ use Rattle.quilt_btree.specs.Lists.{has_key, without}
 use Rattle.quilt_btree.specs.Stops.{IsSound}
 use Rattle.quilt_btree.specs.Subtree.{Subtree}
 use Rattle.quilt_btree.specs.Trees.{IsRooted}
-use Rattle.quilt_btree.specs.Edits.{times, account, Becomes, CanEdit, DidRemove, IsWhole}
+use Rattle.quilt_btree.specs.Edits.{times, account, Becomes, OnlyChild, CanEdit, DidRemove, IsWhole}
 use Rattle.quilt_btree.specs.Mending.{HasGiven}
 use Rattle.quilt_btree.proofs.Counts.{times-append, times_here, in_times}
-use Rattle.quilt_btree.proofs.Moves.{moves_then, moves_given, moves_order, apart_then, used_not_free}
+use Rattle.quilt_btree.proofs.Moves.{AreApart, moves_then, moves_given, moves_order, apart_then, used_not_free}
 use Rattle.quilt_btree.proofs.Rows.{SameOn, subtree_stays}
 use Rattle.quilt_btree.proofs.Trees.{subtree_rises}
 use Rattle.quilt_btree.proofs.Whole.{no_records}
 use Rattle.quilt_btree.proofs.LeafRemovals.{tells_on}
 use Rattle.quilt_btree.proofs.Holdings.{subtree_some}
 use Rattle.quilt_btree.proofs.Shorts.{any_root, page_used}
-use Rattle.quilt_btree.proofs.TreeGrowth.{everywhere, FreeIn, whole_from, whole_again}
+use Rattle.quilt_btree.proofs.TreeGrowth.{everywhere, FreeIn, IsRegrown, whole_from, whole_again}
 use Rattle.quilt_btree.proofs.Withouts.{without_missing, without_one_fewer, without_none}
 
 -- the tree and the store of a removal
@@ -103,7 +103,7 @@ whole_short k told now_told free now size t rs i f w =
     root_became k told now_told free now size t rs a did.1.pages did.1.news i.above did.0 did.1.is left.1
 
 -- a record is left
-two_left : (news : List (List ℕ)) (height : ℕ) (r : Bool) (at : ℕ × Bounds) (rs : List Record) (used : List ℕ) (n : ℕ) → Subtree news height r at rs used → suc (length rs) ≡ n → 2 ≤ n
+pub two_left : (news : List (List ℕ)) (height : ℕ) (r : Bool) (at : ℕ × Bounds) (rs : List Record) (used : List ℕ) (n : ℕ) → Subtree news height r at rs used → suc (length rs) ≡ n → 2 ≤ n
 two_left news height r at rs used n s e = let some = subtree_some news height r at rs used s in many (length rs) (length some.more) n (ap length some.is) e
   where
     many : (a m n : ℕ) → a ≡ suc m → suc a ≡ n → 2 ≤ n
@@ -133,7 +133,7 @@ one_emptied k told now_told free now size t rs i f w =
       sym (a.exact k did.0) ∙ ap (λ l. suc (length l)) left.none,
     )
 
-empty_walk : (pages : List (List ℕ)) → walk_of pages 0 0 ≡ Whole [] []
+pub empty_walk : (pages : List (List ℕ)) → walk_of pages 0 0 ≡ Whole [] []
 unfolding walk_of
 empty_walk pages = refl
 
@@ -156,7 +156,7 @@ whole_emptied k told mid now_told free between now size t rs i f tells frees w =
     )
 
 -- the root had one child left
-last_used : (p : ℕ) (uses : List ℕ) → times p (uses ++ p ∷ []) ≡ suc (times p uses)
+pub last_used : (p : ℕ) (uses : List ℕ) → times p (uses ++ p ∷ []) ≡ suc (times p uses)
 last_used p uses = let e = times-append p uses (p ∷ []) in let f = times_here p [] in omega arith
 
 no_subtree : (pages : List (List ℕ)) (height : ℕ) (r : Bool) (at : ℕ × Bounds) (rs : List Record) (used : List ℕ) → height ≡ 0 → Subtree pages height r at rs used → ⊥
@@ -186,27 +186,35 @@ given_same pages news page uses given none p inside = given.others p (λ e. neve
     never : (n : ℕ) → 1 ≤ n → n ≡ 0 → ⊥
     never n h g = omega arith
 
-pub whole_only : (k : Key) (told mid now_told : Option (List (List ℕ))) (free between now : ℕ → Bool) (size child : ℕ) (t : Tree) (rs : List Record) → IsRemoving free size t → UnderRoot k told mid free between t (removed.Only child)
-    → Tells (HasGiven t.root) mid now_told → FreesOnly t.root true between now → IsWhole told free size t rs
-    → (true ≡ list_any (has_key k) rs) × IsWhole now_told now size (record { root = child; height = t.height - 1; records = t.records - 1 }) (without k rs)
-whole_only k told mid now_told free between now size child t rs i f tells frees w =
-    let a = at_root told free size t rs i w in
-    let did = f true everywhere rs a.used a.can in
-    let only = did.1.left.1 in
-    let taken = one_only k told mid free between size child t rs i f w in
-    let on = tells_on (HasGiven t.root) mid now_told did.1.news did.1.is tells in
-    let apart = apart_then did.1.pages did.1.news free between a.used (only.uses ++ t.root ∷ []) only.moves a.can.apart in
-    let none : times t.root only.uses ≡ 0 = nothing between (only.uses ++ t.root ∷ []) (times t.root only.uses) (last_used t.root only.uses) (apart t.root) in
-    let given = moves_order did.1.news on.0 between now (t.root ∷ only.uses) only.uses (only.uses ++ t.root ∷ []) only.uses (λ p. turned p only.uses) (λ p. refl)
-    (moves_given did.1.news on.0 between now only.uses t.root on.2.size on.2.others taken.0 frees) in
-    let moves = moves_then did.1.pages did.1.news on.0 free between now a.used (only.uses ++ t.root ∷ []) only.uses only.moves given in
-    let s = subtree_stays did.1.news on.0 on.2.size only.below false (child, everywhere) (without k rs) only.uses (given_same did.1.news on.0 t.root only.uses on.2 none) only.subtree in
-    let height : only.below ≡ t.height - 1 = down t.height only.below only.is_height in (
-      sym did.0,
-      whole_again did.1.pages on.0 now_told free now size child (t.height - 1) (t.records - 1) a.used only.uses (without k rs) on.1 (some_height (t.height - 1) taken.2)
-          (subst (λ h. Subtree on.0 h true (child, everywhere) (without k rs) only.uses) height (any_root on.0 only.below true (child, everywhere) (without k rs) only.uses s)) moves a.can.apart a.balance (a.fewer k did.0),
-    )
+-- the one child that the root had is the root
+pub tall_above : (news : List (List ℕ)) (height child : ℕ) (rs : List Record) (below : ℕ) (uses : List ℕ) → height ≡ suc below → Subtree news below false (child, everywhere) rs uses → 1 ≤ height - 1
+tall_above news height child rs below uses e s = some_height (height - 1) (λ z. no_subtree news below false (child, everywhere) rs uses (down height below e z) s)
   where
+    down : (h below : ℕ) → h ≡ suc below → h - 1 ≡ 0 → below ≡ 0
+    down h below e f = omega arith
+
+pub regrown_only : (told mid now_told : Option (List (List ℕ))) (pages mids : List (List ℕ)) (free between now : ℕ → Bool) (t : Tree) (all : List Record) (used : List ℕ) (child : ℕ) → mid ≡ Some mids
+    → OnlyChild pages mids free between t.root t.height everywhere used all child → AreApart free used → Tells (HasGiven t.root) mid now_told → FreesOnly t.root true between now → IsRegrown pages now_told free now child (t.height - 1) used all
+regrown_only told mid now_told pages mids free between now t all used child mid_is only apart_used tells frees =
+    let on = tells_on (HasGiven t.root) mid now_told mids mid_is tells in
+    let apart = apart_then pages mids free between used (only.uses ++ t.root ∷ []) only.moves apart_used in
+    let is_used = used_not_free between (only.uses ++ t.root ∷ []) t.root apart (some (times t.root (only.uses ++ t.root ∷ [])) (times t.root only.uses) (last_used t.root only.uses)) in
+    let none : times t.root only.uses ≡ 0 = nothing between (only.uses ++ t.root ∷ []) (times t.root only.uses) (last_used t.root only.uses) (apart t.root) in
+    let given = moves_order mids on.0 between now (t.root ∷ only.uses) only.uses (only.uses ++ t.root ∷ []) only.uses (λ p. turned p only.uses) (λ p. refl)
+    (moves_given mids on.0 between now only.uses t.root on.2.size on.2.others is_used frees) in
+    let s = subtree_stays mids on.0 on.2.size only.below false (child, everywhere) all only.uses (given_same mids on.0 t.root only.uses on.2 none) only.subtree in
+    let height : only.below ≡ t.height - 1 = down t.height only.below only.is_height in
+    record {
+      news = on.0;
+      is = on.1;
+      uses = only.uses;
+      subtree = subst (λ h. Subtree on.0 h true (child, everywhere) all only.uses) height (any_root on.0 only.below true (child, everywhere) all only.uses s);
+      moves = moves_then pages mids on.0 free between now used (only.uses ++ t.root ∷ []) only.uses only.moves given;
+    }
+  where
+    some : (n m : ℕ) → n ≡ suc m → 1 ≤ n
+    some n m e = omega arith
+
     nothing : (g : ℕ → Bool) (used : List ℕ) (n : ℕ) → times t.root used ≡ suc n → account g used t.root ≤ 1 → n ≡ 0
     nothing g used n e h = omega arith
 
@@ -215,6 +223,19 @@ whole_only k told mid now_told free between now size child t rs i f tells frees 
 
     down : (h below : ℕ) → h ≡ suc below → below ≡ h - 1
     down h below e = omega arith
+
+pub whole_only : (k : Key) (told mid now_told : Option (List (List ℕ))) (free between now : ℕ → Bool) (size child : ℕ) (t : Tree) (rs : List Record) → IsRemoving free size t → UnderRoot k told mid free between t (removed.Only child)
+    → Tells (HasGiven t.root) mid now_told → FreesOnly t.root true between now → IsWhole told free size t rs
+    → (true ≡ list_any (has_key k) rs) × IsWhole now_told now size (record { root = child; height = t.height - 1; records = t.records - 1 }) (without k rs)
+whole_only k told mid now_told free between now size child t rs i f tells frees w =
+    let a = at_root told free size t rs i w in
+    let did = f true everywhere rs a.used a.can in
+    let only = did.1.left.1 in
+    let grown = regrown_only told mid now_told did.1.pages did.1.news free between now t (without k rs) a.used child did.1.is only a.can.apart tells frees in (
+      sym did.0,
+      whole_again did.1.pages grown.news now_told free now size child (t.height - 1) (t.records - 1) a.used grown.uses (without k rs) grown.is
+          (tall_above did.1.news t.height child (without k rs) only.below only.uses only.is_height only.subtree) grown.subtree grown.moves a.can.apart a.balance (a.fewer k did.0),
+    )
 
 -- the tree with one record fewer
 pub shrunk : (r : Result Bool Stop) (k : Key) (told now_told : Option (List (List ℕ))) (free now : ℕ → Bool) (size : ℕ) (t new less : Tree) → OnOk r (new ≡ less) → IfOk r (λ o. o ≡ true)

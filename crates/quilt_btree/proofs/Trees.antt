@@ -14,7 +14,7 @@ use Rattle.quilt_record.specs.Records.{key_cmp}
 use Rattle.quilt_node.specs.Pages.{Inner, is_ascending, leaf_bytes, inner_bytes, leaf_of, inner_of, read_leaf, read_inner, short_at, word_at, key_at}
 use Rattle.quilt_node.specs.Tree.{Bounds, bounded, are_within, is_above, is_below}
 use Rattle.quilt_btree.specs.Subtree.{Reading, Row, Subtree}
-use Rattle.quilt_btree.proofs.Orders.{lt_le, lt_to_le}
+use Rattle.quilt_record.proofs.Orders.{lt_le, lt_to_le}
 use Rattle.quilt_btree.proofs.Rising.{IsRising, rising_join, all_follow}
 use Rattle.quilt_btree.proofs.Walks.{and_parts, and_both}
 

@@ -8,7 +8,7 @@ use Rattle.quilt_record.specs.Records.{key_cmp}
 use Rattle.quilt_node.specs.Pages.{is_ascending}
 use Rattle.quilt_node.specs.Nodes.{keys_of}
 use Rattle.quilt_btree.specs.Lists.{has_key, without}
-use Rattle.quilt_btree.proofs.Orders.{key_total, le_lt}
+use Rattle.quilt_record.proofs.Orders.{key_total, le_lt}
 use Rattle.quilt_btree.proofs.Rising.{all_follow, all_map}
 use Rattle.quilt_btree.proofs.Trees.{ascending_first, ascending_rest}
 use Rattle.quilt_btree.proofs.Walks.{and_both}

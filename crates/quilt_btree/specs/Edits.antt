@@ -140,6 +140,11 @@ HasPageIn size removed.Short = Unit {0}
 HasPageIn size removed.Emptied = Unit {0}
 HasPageIn size (removed.Only child) = (1 ≤ child) × (child < size)
 
+-- A tree that the walk accepts, and none of whose pages is free.
+pub record HasItsPages (told : Option (List (List ℕ))) (free : ℕ → Bool) (t : Tree) (rs : List Record) : Type 0 where
+  pub tree : IsTree told t rs
+  pub apart : (p : ℕ) → account free tree.visited p ≤ 1
+
 -- The whole tree: its records, their number, and the pages from 1 on that are free are exactly those that it does not use.
 pub record IsWhole (told : Option (List (List ℕ))) (free : ℕ → Bool) (size : ℕ) (t : Tree) (rs : List Record) : Type 0 where
   pub tree : IsTree told t rs

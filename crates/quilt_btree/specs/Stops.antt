@@ -1,5 +1,5 @@
 -- Why a call of the tree stops.
-use Rattle.std.specs.Prelude.{◌≢◌, ℕ, ◌≤◌, Result, IsErrOf}
+use Rattle.std.specs.Prelude.{◌≢◌, ℕ, ◌<◌, ◌≤◌, Result, IsErrOf}
 use Rattle.quilt_types.specs.declared.stop.Stop.{Stop}
 use Rattle.quilt_types.specs.declared.stop.Stop.TheVariants.{Device, Memory, Damaged}
 use Rattle.quilt_store.specs.declared.store.StoreErr.{StoreErr}
@@ -15,6 +15,12 @@ store_stop store.Memory = Memory
 pub record HasStopCause {T : Type 0} (before now : ℕ) (result : Result T Stop) : Type 0 where
   pub later : before ≤ now
   pub device : IsErrOf result Device → Rose before now
+
+-- a page that is said to be damaged is one of so many
+abbrev pub NamesPage : ℕ → Stop → Type 0
+NamesPage size Device = Unit {0}
+NamesPage size Memory = Unit {0}
+NamesPage size (Damaged page) = page < size
 
 -- no page is said to be damaged
 abbrev pub IsSound : Stop → Type 0

@@ -1,19 +1,23 @@
 ghost use Rattle.std.specs.Prelude.{◌≡◌, ◌≢◌, ℕ, ◌+◌, ◌*◌, ◌<◌, ◌≤◌, Bool, true, List, [], ◌∷◌, ◌++◌, IfOk, IfErr, OnOk, length, take, drop};
-ghost use Rattle.std.specs.List.{insert, list_all};
+ghost use Rattle.std.specs.List.{insert, list_all, list_any};
 ghost use Rattle.std.specs.Ordering.{is_lt};
 ghost use Rattle.quilt_record.specs.Records.{key_cmp};
 ghost use Rattle.quilt_record.specs.declared.record.Record.{Record};
 ghost use Rattle.quilt_node.specs.Pages.{is_ascending};
-ghost use Rattle.quilt_node.specs.Nodes.{IsGap};
+ghost use Rattle.quilt_node.specs.Nodes.{IsGap, are_pages};
 ghost use Rattle.quilt_node.specs.Edits.{with_child};
 ghost use Rattle.quilt_node.specs.Tree.{Bounds};
 ghost use Rattle.quilt_store.specs.Store.{count_free};
-ghost use Rattle.quilt_btree.specs.Stops.{HasStopCause, IsSound};
+ghost use Rattle.quilt_btree.specs.Lists.{has_key};
+ghost use Rattle.quilt_btree.specs.Outcomes.{was_there};
+ghost use Rattle.quilt_btree.specs.Stops.{HasStopCause, IsSound, NamesPage};
+ghost use Rattle.quilt_btree.specs.Trees.{Spells};
 ghost use Rattle.quilt_btree.specs.Edits.{CanInsert, DidInsert};
 ghost use Rattle.quilt_btree.specs.Inserts.{HasRight, IsPending, DidPut};
 ghost use Rattle.quilt_btree.specs.declared.inserted.Inserted.TheVariants.{There};
 
 use crate::inserted::Inserted;
+use crate::mending::precedes;
 use crate::pages::{read_inner, read_leaf};
 use crate::splitting::write_split;
 use crate::writing::write_page;
@@ -27,10 +31,13 @@ pub fn insert_leaf<S: PageStore>(store: &mut S, page: u32, r: &Record) -> Result
     requires { (1 ≤ page) × (page < S.size store.old) }
     ensures inserted { IfOk result (λ o. (is_root : Bool) (b : Bounds) (rs : List Record) (used : List ℕ) → CanInsert (S.told store.old) (S.free store.old) (S.size store.old) page 1 is_root b r.now.key rs used → DidInsert r.now (S.told store.old) (S.told store.new) (S.free store.old) (S.free store.new) page 1 is_root b rs used o) }
     ensures sound { IfErr result (λ e. (is_root : Bool) (b : Bounds) (rs : List Record) (used : List ℕ) → CanInsert (S.told store.old) (S.free store.old) (S.size store.old) page 1 is_root b r.now.key rs used → IsSound e) }
+    ensures finds { IfOk result (λ o. (height : ℕ) (rs : List Record) → height ≡ 1 → Spells (S.told store.old) page height rs → was_there o ≡ list_any (has_key r.now.key) rs) }
     ensures right { IfOk result (λ o. HasRight (S.size store.old) o) }
     ensures room { OnOk result (count_free (S.free store.old) (S.size store.old) ≤ count_free (S.free store.new) (S.size store.old) + 1) }
     ensures told { IfOk result (λ o. o ≡ There → S.told store.new ≡ S.told store.old) }
     ensures free { IfOk result (λ o. o ≡ There → S.free store.new ≡ S.free store.old) }
+    ensures unchanged { IfOk result (λ o. o ≡ There → S.changed store.new ≤ S.changed store.old) }
+    ensures names { IfErr result (NamesPage (S.size store.old)) }
     ensures cause { HasStopCause (S.faults store.old) (S.faults store.new) result }
     ensures size { S.size store.new ≡ S.size store.old }
     ensures later { S.later store.old store.new }
@@ -61,6 +68,7 @@ pub fn put_record<S: PageStore>(
     ensures right { IfOk result (λ o. HasRight (S.size store.old) o) }
     ensures room { OnOk result (count_free (S.free store.old) (S.size store.old) ≤ count_free (S.free store.new) (S.size store.old) + 1) }
     ensures new { IfOk result (λ o. o ≢ There) }
+    ensures names { IfErr result (NamesPage (S.size store.old)) }
     ensures cause { HasStopCause (S.faults store.old) (S.faults store.new) result }
     ensures size { S.size store.new ≡ S.size store.old }
     ensures later { S.later store.old store.new }
@@ -81,13 +89,6 @@ pub fn put_record<S: PageStore>(
             right: new,
         }),
     }
-}
-
-/// Whether the first key comes before the second.
-fn precedes(a: &Key, b: &Key) -> bool
-    ensures { result ≡ is_lt (key_cmp a.now b.now) }
-{
-    a < b
 }
 
 /// Whether the keys before place `i` are below `k`.
@@ -126,6 +127,7 @@ pub fn put_child<S: PageStore>(
     child: u32,
 ) -> Result<Inserted, Stop>
     requires page { (1 ≤ page) × (page < S.size store.old) }
+    requires children { are_pages (S.size store.old) inner.old.children ≡ true }
     requires place { i < length inner.old.children }
     requires child { 1 ≤ child }
     ensures put { IfOk result (λ o. (is_root : Bool) (b : Bounds) (all : List Record) (under : List ℕ) → IsPending (S.told store.old) (S.free store.old) page is_root b (with_child inner.old i key.now child) all under → DidPut (S.told store.old) (S.told store.new) (S.free store.old) (S.free store.new) page inner.old.height is_root b (under ++ page ∷ []) all o) }
@@ -133,6 +135,7 @@ pub fn put_child<S: PageStore>(
     ensures right { IfOk result (λ o. HasRight (S.size store.old) o) }
     ensures room { OnOk result (count_free (S.free store.old) (S.size store.old) ≤ count_free (S.free store.new) (S.size store.old) + 1) }
     ensures new { IfOk result (λ o. o ≢ There) }
+    ensures names { IfErr result (NamesPage (S.size store.old)) }
     ensures cause { HasStopCause (S.faults store.old) (S.faults store.new) result }
     ensures size { S.size store.new ≡ S.size store.old }
     ensures later { S.later store.old store.new }
@@ -171,10 +174,13 @@ pub fn insert_under<S: PageStore>(
     requires height { 1 ≤ height }
     ensures inserted { IfOk result (λ o. (is_root : Bool) (b : Bounds) (rs : List Record) (used : List ℕ) → CanInsert (S.told store.old) (S.free store.old) (S.size store.old) page height is_root b r.now.key rs used → DidInsert r.now (S.told store.old) (S.told store.new) (S.free store.old) (S.free store.new) page height is_root b rs used o) }
     ensures sound { IfErr result (λ e. (is_root : Bool) (b : Bounds) (rs : List Record) (used : List ℕ) → CanInsert (S.told store.old) (S.free store.old) (S.size store.old) page height is_root b r.now.key rs used → IsSound e) }
+    ensures finds { IfOk result (λ o. (rs : List Record) → Spells (S.told store.old) page height rs → was_there o ≡ list_any (has_key r.now.key) rs) }
     ensures right { IfOk result (λ o. HasRight (S.size store.old) o) }
     ensures room { OnOk result (count_free (S.free store.old) (S.size store.old) ≤ count_free (S.free store.new) (S.size store.old) + height) }
     ensures told { IfOk result (λ o. o ≡ There → S.told store.new ≡ S.told store.old) }
     ensures free { IfOk result (λ o. o ≡ There → S.free store.new ≡ S.free store.old) }
+    ensures unchanged { IfOk result (λ o. o ≡ There → S.changed store.new ≤ S.changed store.old) }
+    ensures names { IfErr result (NamesPage (S.size store.old)) }
     ensures cause { HasStopCause (S.faults store.old) (S.faults store.new) result }
     ensures size { S.size store.new ≡ S.size store.old }
     ensures later { S.later store.old store.new }

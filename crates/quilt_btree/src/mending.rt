@@ -5,7 +5,7 @@ ghost use Rattle.quilt_record.specs.declared.record.Record.{Record};
 ghost use Rattle.quilt_node.specs.Pages.{is_ascending};
 ghost use Rattle.quilt_node.specs.Nodes.{keys_of};
 ghost use Rattle.quilt_node.specs.Tree.{Bounds};
-ghost use Rattle.quilt_btree.specs.Stops.{HasStopCause, IsSound};
+ghost use Rattle.quilt_btree.specs.Stops.{HasStopCause, IsSound, NamesPage};
 ghost use Rattle.quilt_btree.specs.Mending.{CanMend, DidMend};
 
 use crate::mended::Mended;
@@ -17,7 +17,7 @@ use quilt_store::PageStore;
 use quilt_types::Stop;
 
 /// Whether the first key is below the second.
-fn precedes(a: &Key, b: &Key) -> bool
+pub fn precedes(a: &Key, b: &Key) -> bool
     ensures { result ≡ is_lt (key_cmp a.now b.now) }
 {
     a < b
@@ -146,6 +146,7 @@ fn mend_leaves<S: PageStore>(
     requires right { (1 ≤ right) × (right < S.size store.old) }
     ensures mended { IfOk result (λ o. (height : ℕ) (b : Bounds) (rs : List Record) (used : List ℕ) → height ≡ 1 → CanMend (S.told store.old) (S.free store.old) height left key.now right b rs used → DidMend (S.told store.old) (S.told store.new) (S.free store.old) (S.free store.new) height left right b rs used o) }
     ensures sound { IfErr result (λ e. (height : ℕ) (b : Bounds) (rs : List Record) (used : List ℕ) → height ≡ 1 → CanMend (S.told store.old) (S.free store.old) height left key.now right b rs used → IsSound e) }
+    ensures names { IfErr result (NamesPage (S.size store.old)) }
     ensures cause { HasStopCause (S.faults store.old) (S.faults store.new) result }
     ensures size { S.size store.new ≡ S.size store.old }
     ensures later { S.later store.old store.new }
@@ -187,6 +188,7 @@ fn mend_inners<S: PageStore>(
     requires right { (1 ≤ right) × (right < S.size store.old) }
     ensures mended { IfOk result (λ o. (b : Bounds) (rs : List Record) (used : List ℕ) → CanMend (S.told store.old) (S.free store.old) height left key.now right b rs used → DidMend (S.told store.old) (S.told store.new) (S.free store.old) (S.free store.new) height left right b rs used o) }
     ensures sound { IfErr result (λ e. (b : Bounds) (rs : List Record) (used : List ℕ) → CanMend (S.told store.old) (S.free store.old) height left key.now right b rs used → IsSound e) }
+    ensures names { IfErr result (NamesPage (S.size store.old)) }
     ensures cause { HasStopCause (S.faults store.old) (S.faults store.new) result }
     ensures size { S.size store.new ≡ S.size store.old }
     ensures later { S.later store.old store.new }
@@ -226,6 +228,7 @@ pub fn mend_pages<S: PageStore>(
     requires right { (1 ≤ right) × (right < S.size store.old) }
     ensures mended { IfOk result (λ o. (b : Bounds) (rs : List Record) (used : List ℕ) → CanMend (S.told store.old) (S.free store.old) height left key.now right b rs used → DidMend (S.told store.old) (S.told store.new) (S.free store.old) (S.free store.new) height left right b rs used o) }
     ensures sound { IfErr result (λ e. (b : Bounds) (rs : List Record) (used : List ℕ) → CanMend (S.told store.old) (S.free store.old) height left key.now right b rs used → IsSound e) }
+    ensures names { IfErr result (NamesPage (S.size store.old)) }
     ensures cause { HasStopCause (S.faults store.old) (S.faults store.new) result }
     ensures size { S.size store.new ≡ S.size store.old }
     ensures later { S.later store.old store.new }

@@ -3,7 +3,7 @@ ghost use Rattle.std.specs.List.{list_any};
 ghost use Rattle.quilt_record.specs.declared.record.Record.{Record};
 ghost use Rattle.quilt_node.specs.Nodes.{are_pages};
 ghost use Rattle.quilt_store.specs.Store.{Tells, Touches};
-ghost use Rattle.quilt_btree.specs.Stops.{store_stop, HasStopCause, IsSound};
+ghost use Rattle.quilt_btree.specs.Stops.{store_stop, HasStopCause, IsSound, NamesPage};
 ghost use Rattle.quilt_btree.specs.Trees.{ReadsLeaf, ReadsInner, Spells};
 
 use quilt_node::{InnerPage, LeafPage, inner_of, leaf_of};
@@ -12,7 +12,8 @@ use quilt_types::Stop;
 
 /// The store's reason as the tree's.
 pub fn stop_of(e: StoreErr) -> Stop
-    ensures { result ≡ store_stop e }
+    ensures is { result ≡ store_stop e }
+    ensures names { (size : ℕ) → NamesPage size result }
 {
     match e {
         StoreErr::Device => Stop::Device,
@@ -25,6 +26,7 @@ pub fn read_leaf<S: PageStore>(store: &mut S, page: u32) -> Result<LeafPage, Sto
     requires { (1 ≤ page) × (page < S.size store.old) }
     ensures leaf { IfOk result (λ leaf. ReadsLeaf (S.told store.old) page leaf) }
     ensures sound { IfErr result (λ e. (height : ℕ) (rs : List Record) → height ≡ 1 → Spells (S.told store.old) page height rs → IsSound e) }
+    ensures names { IfErr result (NamesPage (S.size store.old)) }
     ensures cause { HasStopCause (S.faults store.old) (S.faults store.new) result }
     ensures size { S.size store.new ≡ S.size store.old }
     ensures told { S.told store.new ≡ S.told store.old }
@@ -53,6 +55,7 @@ pub fn read_inner<S: PageStore>(store: &mut S, page: u32, height: u8) -> Result<
     ensures height { IfOk result (λ inner. inner.height ≡ height) }
     ensures children { IfOk result (λ inner. are_pages (S.size store.old) inner.children ≡ true) }
     ensures sound { IfErr result (λ e. (rs : List Record) → Spells (S.told store.old) page height rs → IsSound e) }
+    ensures names { IfErr result (NamesPage (S.size store.old)) }
     ensures cause { HasStopCause (S.faults store.old) (S.faults store.new) result }
     ensures size { S.size store.new ≡ S.size store.old }
     ensures told { S.told store.new ≡ S.told store.old }

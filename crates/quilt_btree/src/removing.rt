@@ -9,7 +9,9 @@ ghost use Rattle.quilt_btree.specs.declared.removed.Removed.TheVariants.{Missing
 ghost use Rattle.quilt_btree.specs.Edits.{CanEdit, DidLeave, DidRemove, HasPageIn};
 ghost use Rattle.quilt_btree.specs.Lists.{has_key};
 ghost use Rattle.quilt_btree.specs.Mending.{HasShort, HasDropped, Writes};
-ghost use Rattle.quilt_btree.specs.Stops.{HasStopCause, IsSound};
+ghost use Rattle.quilt_btree.specs.Outcomes.{was_found};
+ghost use Rattle.quilt_btree.specs.Stops.{HasStopCause, IsSound, NamesPage};
+ghost use Rattle.quilt_btree.specs.Trees.{Spells};
 
 use crate::mended::Mended;
 use crate::mending::{child_towards, key_fits, mend_pages};
@@ -26,8 +28,11 @@ fn remove_in_leaf<S: PageStore>(store: &mut S, page: u32, k: &Key) -> Result<Rem
     requires { (1 ≤ page) × (page < S.size store.old) }
     ensures removed { IfOk result (λ o. (height : ℕ) (is_root : Bool) (b : Bounds) (rs : List Record) (used : List ℕ) → height ≡ 1 → CanEdit (S.told store.old) (S.free store.old) page height is_root b rs used → DidRemove k.now (S.told store.old) (S.told store.new) (S.free store.old) (S.free store.new) page height is_root b rs used o) }
     ensures sound { IfErr result (λ e. (height : ℕ) (is_root : Bool) (b : Bounds) (rs : List Record) (used : List ℕ) → height ≡ 1 → CanEdit (S.told store.old) (S.free store.old) page height is_root b rs used → IsSound e) }
+    ensures finds { IfOk result (λ o. (height : ℕ) (rs : List Record) → height ≡ 1 → Spells (S.told store.old) page height rs → was_found o ≡ list_any (has_key k.now) rs) }
     ensures same { IfOk result (λ o. o ≡ Missing → (S.told store.new ≡ S.told store.old) × (S.free store.new ≡ S.free store.old)) }
+    ensures unchanged { IfOk result (λ o. o ≡ Missing → S.changed store.new ≤ S.changed store.old) }
     ensures child { IfOk result (λ o. HasPageIn (S.size store.old) o) }
+    ensures names { IfErr result (NamesPage (S.size store.old)) }
     ensures cause { HasStopCause (S.faults store.old) (S.faults store.new) result }
     ensures size { S.size store.new ≡ S.size store.old }
     ensures later { S.later store.old store.new }
@@ -76,6 +81,7 @@ fn drop_child<S: PageStore>(
     ensures some { IfOk result (λ o. o ≡ Missing → ⊥) }
     ensures sound { IfErr result (λ e. S.free store.old page ≡ false → IsSound e) }
     ensures free { S.free store.new ≡ S.free store.old }
+    ensures names { IfErr result (NamesPage (S.size store.old)) }
     ensures cause { HasStopCause (S.faults store.old) (S.faults store.new) result }
     ensures size { S.size store.new ≡ S.size store.old }
     ensures later { S.later store.old store.new }
@@ -113,6 +119,7 @@ fn renew_key<S: PageStore>(
     ensures order { OnOk result (is_ascending (slice_set inner.old.keys j key.now) ≡ true) }
     ensures sound { IfErr result (λ e. S.free store.old page ≡ false → is_ascending (slice_set inner.old.keys j key.now) ≡ true → IsSound e) }
     ensures free { S.free store.new ≡ S.free store.old }
+    ensures names { IfErr result (NamesPage (S.size store.old)) }
     ensures cause { HasStopCause (S.faults store.old) (S.faults store.new) result }
     ensures size { S.size store.new ≡ S.size store.old }
     ensures later { S.later store.old store.new }
@@ -143,6 +150,7 @@ fn mend_child<S: PageStore>(
     ensures sound { IfErr result (λ e. (is_root : Bool) (b : Bounds) (rs : List Record) (used : List ℕ) → HasShort (S.told store.old) (S.free store.old) page height inner.old i is_root b rs used → IsSound e) }
     ensures some { IfOk result (λ o. o ≡ Missing → ⊥) }
     ensures child { IfOk result (λ o. HasPageIn (S.size store.old) o) }
+    ensures names { IfErr result (NamesPage (S.size store.old)) }
     ensures cause { HasStopCause (S.faults store.old) (S.faults store.new) result }
     ensures size { S.size store.new ≡ S.size store.old }
     ensures later { S.later store.old store.new }
@@ -173,8 +181,11 @@ pub fn remove_under<S: PageStore>(
     requires height { 1 ≤ height }
     ensures removed { IfOk result (λ o. (is_root : Bool) (b : Bounds) (rs : List Record) (used : List ℕ) → CanEdit (S.told store.old) (S.free store.old) page height is_root b rs used → DidRemove k.now (S.told store.old) (S.told store.new) (S.free store.old) (S.free store.new) page height is_root b rs used o) }
     ensures sound { IfErr result (λ e. (is_root : Bool) (b : Bounds) (rs : List Record) (used : List ℕ) → CanEdit (S.told store.old) (S.free store.old) page height is_root b rs used → IsSound e) }
+    ensures finds { IfOk result (λ o. (rs : List Record) → Spells (S.told store.old) page height rs → was_found o ≡ list_any (has_key k.now) rs) }
     ensures same { IfOk result (λ o. o ≡ Missing → (S.told store.new ≡ S.told store.old) × (S.free store.new ≡ S.free store.old)) }
+    ensures unchanged { IfOk result (λ o. o ≡ Missing → S.changed store.new ≤ S.changed store.old) }
     ensures child { IfOk result (λ o. HasPageIn (S.size store.old) o) }
+    ensures names { IfErr result (NamesPage (S.size store.old)) }
     ensures cause { HasStopCause (S.faults store.old) (S.faults store.new) result }
     ensures size { S.size store.new ≡ S.size store.old }
     ensures later { S.later store.old store.new }

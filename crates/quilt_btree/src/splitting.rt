@@ -1,6 +1,6 @@
 ghost use Rattle.std.specs.Prelude.{◌≡◌, ℕ, ◌+◌, ◌<◌, ◌≤◌, true, false, IfOk, IfErr, OnOk, slice_set};
 ghost use Rattle.quilt_store.specs.Store.{Tells, FreesOnly, count_free};
-ghost use Rattle.quilt_btree.specs.Stops.{HasStopCause, IsSound};
+ghost use Rattle.quilt_btree.specs.Stops.{HasStopCause, IsSound, NamesPage};
 
 use crate::writing::write_page;
 use quilt_store::PageStore;
@@ -20,6 +20,7 @@ pub fn write_split<S: PageStore>(
     ensures taken { IfOk result (λ new. FreesOnly new false (S.free store.old) (S.free store.new)) }
     ensures room { OnOk result (count_free (S.free store.old) (S.size store.old) ≤ count_free (S.free store.new) (S.size store.old) + 1) }
     ensures sound { IfErr result (λ e. S.free store.old page ≡ false → 0 < count_free (S.free store.old) (S.size store.old) → IsSound e) }
+    ensures names { IfErr result (NamesPage (S.size store.old)) }
     ensures cause { HasStopCause (S.faults store.old) (S.faults store.new) result }
     ensures size { S.size store.new ≡ S.size store.old }
     ensures later { S.later store.old store.new }
@@ -45,6 +46,7 @@ pub fn write_new<S: PageStore>(store: &mut S, bytes: &[u8; 4096]) -> Result<u32,
     ensures free { IfOk result (λ new. S.free store.old new ≡ true) }
     ensures taken { IfOk result (λ new. FreesOnly new false (S.free store.old) (S.free store.new)) }
     ensures sound { IfErr result (λ e. 0 < count_free (S.free store.old) (S.size store.old) → IsSound e) }
+    ensures names { IfErr result (NamesPage (S.size store.old)) }
     ensures cause { HasStopCause (S.faults store.old) (S.faults store.new) result }
     ensures size { S.size store.new ≡ S.size store.old }
     ensures later { S.later store.old store.new }

@@ -1,5 +1,7 @@
 use crate::trial::Trial;
 use quilt_store::PageStore;
+use std::alloc::{AllocError, Global};
+use std::process::Abort;
 use std::test::Fail;
 
 /// The next of pseudo-random numbers by a linear congruence, and its upper bits below the bound.
@@ -27,6 +29,102 @@ fn leaves_split_and_join(rt: HostRuntime) -> Result<(), Fail> {
     assert_eq!(rt; trial.tree.records, 143);
     assert_eq!(rt; trial.store.free_pages(), 14);
     Ok(())
+}
+
+/// This many numbers from `first` on, `step` from each other.
+fn numbers(alloc: Global, first: u32, step: u32, count: u32) -> Result<Vec<u32>, AllocError> {
+    let mut all = Vec::new(alloc);
+    let mut n = first;
+    for _ in 0..count {
+        all.push(n)?;
+        n = n.wrapping_add(step);
+    }
+    Ok(all)
+}
+
+#[test]
+fn any_two_of_145_records_are_removed(rt: HostRuntime) -> Result<(), Fail> {
+    let all = numbers(rt.alloc(), 0, 1, 145)?;
+    for first in 0..145_u32 {
+        for second in 0..first {
+            let mut trial = Trial::new(rt.alloc(), 16)?;
+            trial = trial.insert_all(&rt, rt.alloc(), &all, 1)?;
+            trial = trial.remove(&rt, first)?;
+            trial = trial.remove(&rt, second)?;
+            assert_eq!(rt; trial.tree.records, 143);
+            assert!(rt; trial.store.free_pages() >= 12);
+        }
+    }
+    Ok(())
+}
+
+/// Inserts the numbers below 512, which are as many as 16 pages may hold, `step` from each other, and one more.
+fn fill_to_quota(rt: &impl Abort, alloc: Global, step: u32) -> Result<Trial, Fail> {
+    let mut trial = Trial::new(alloc, 16)?;
+    let mut n = 0_u32;
+    for _ in 0..512_u32 {
+        trial = trial.insert(rt, n % 512, 3)?;
+        n = n.wrapping_add(step);
+    }
+    assert_eq!(rt; trial.tree.records, 512);
+    trial = trial.insert(rt, 600, 3)?;
+    assert_eq!(rt; trial.tree.records, 512);
+    assert!(rt; trial.store.free_pages() >= 6);
+    trial.compare_all(rt, alloc, 300)
+}
+
+#[test]
+fn a_tree_reaches_its_quota(rt: HostRuntime) -> Result<(), Fail> {
+    let _rising = fill_to_quota(&rt, rt.alloc(), 1)?;
+    let _falling = fill_to_quota(&rt, rt.alloc(), 511)?;
+    let trial = fill_to_quota(&rt, rt.alloc(), 77)?;
+    let trial = trial.remove_all(&rt, rt.alloc(), &numbers(rt.alloc(), 0, 1, 512)?)?;
+    assert_eq!(rt; trial.tree.height, 0);
+    assert_eq!(rt; trial.store.free_pages(), 15);
+    Ok(())
+}
+
+#[test]
+fn a_run_goes_over_three_leaves(rt: HostRuntime) -> Result<(), Fail> {
+    let mut trial = Trial::new(rt.alloc(), 32)?;
+    trial = trial.insert_all(&rt, rt.alloc(), &numbers(rt.alloc(), 0, 4, 300)?, 1)?;
+    assert_eq!(rt; trial.tree.height, 2);
+    trial = trial.insert_all(&rt, rt.alloc(), &numbers(rt.alloc(), 102, 8, 80)?, 2)?;
+    trial = trial.compare_all(&rt, rt.alloc(), 502)?;
+    trial = trial.remove_all(&rt, rt.alloc(), &numbers(rt.alloc(), 102, 16, 40)?)?;
+    trial = trial.compare_all(&rt, rt.alloc(), 502)?;
+    trial = trial.remove_all(&rt, rt.alloc(), &numbers(rt.alloc(), 0, 4, 300)?)?;
+    trial = trial.compare_all(&rt, rt.alloc(), 502)?;
+    assert_eq!(rt; trial.tree.records, 40);
+    assert_eq!(rt; trial.tree.height, 1);
+    Ok(())
+}
+
+#[test]
+fn a_run_splits_a_leaf_twice(rt: HostRuntime) -> Result<(), Fail> {
+    let mut trial = Trial::new(rt.alloc(), 32)?;
+    trial = trial.insert_all(&rt, rt.alloc(), &numbers(rt.alloc(), 0, 1000, 144)?, 1)?;
+    assert_eq!(rt; trial.tree.height, 1);
+    trial = trial.insert_all(&rt, rt.alloc(), &numbers(rt.alloc(), 70001, 1, 220)?, 2)?;
+    assert_eq!(rt; trial.tree.records, 364);
+    assert!(rt; trial.store.free_pages() <= 27);
+    trial = trial.compare_all(&rt, rt.alloc(), 70100)?;
+    let _trial = trial.remove_all(&rt, rt.alloc(), &numbers(rt.alloc(), 70001, 1, 220)?)?;
+    Ok(())
+}
+
+#[test]
+fn a_run_meets_a_key_that_is_there(rt: HostRuntime) -> Result<(), Fail> {
+    let mut trial = Trial::new(rt.alloc(), 32)?;
+    trial = trial.insert_all(&rt, rt.alloc(), &numbers(rt.alloc(), 200, 1, 100)?, 1)?;
+    trial.meets_one(&rt, rt.alloc(), &numbers(rt.alloc(), 101, 1, 100)?)
+}
+
+#[test]
+fn a_run_misses_its_last_key(rt: HostRuntime) -> Result<(), Fail> {
+    let mut trial = Trial::new(rt.alloc(), 32)?;
+    trial = trial.insert_all(&rt, rt.alloc(), &numbers(rt.alloc(), 200, 1, 300)?, 1)?;
+    trial.misses_one(&rt, rt.alloc(), &numbers(rt.alloc(), 301, 1, 200)?)
 }
 
 /// Edits in mixed order, more insertions than removals at first, and fewer later.

@@ -1,10 +1,11 @@
 ghost use Rattle.std.specs.Prelude.{◌≡◌, ◌≤◌};
 ghost use Rattle.quilt_btree.specs.Trees.{IsRooted};
 
-use quilt_btree::Tree;
+use quilt_btree::{Tree, keys_ascend, records_ascend};
 use quilt_node::{InnerPage, inner_of};
 use quilt_record::{Key, Record};
 use quilt_store::{MemStore, PageStore};
+use quilt_types::Stop;
 use std::alloc::{AllocError, Global};
 use std::collections::BTreeMap;
 use std::process::Abort;
@@ -126,6 +127,95 @@ impl Trial {
             pages,
         };
         trial.compare(rt)
+    }
+
+    /// Puts the records of these numbers into both at once.
+    pub fn insert_all(
+        self,
+        rt: &impl Abort,
+        alloc: Global,
+        numbers: &[u32],
+        value: u8,
+    ) -> Result<Trial, Fail> {
+        let Trial {
+            mut store,
+            mut tree,
+            mut expected,
+            pages,
+        } = self;
+        let mut run = Vec::new(alloc);
+        for n in numbers {
+            run.push(record(*n, value))?;
+            expected.insert(*n, value)?;
+        }
+        assert!(rt; records_ascend(&run));
+        assert!(rt; run.len() <= (64 * (pages - 8) - tree.records) as usize);
+        tree.insert_all(&mut store, &run)?;
+        let trial = Trial {
+            store,
+            tree,
+            expected,
+            pages,
+        };
+        trial.compare(rt)
+    }
+
+    /// Takes the records of these numbers out of both at once.
+    pub fn remove_all(
+        self,
+        rt: &impl Abort,
+        alloc: Global,
+        numbers: &[u32],
+    ) -> Result<Trial, Fail> {
+        let Trial {
+            mut store,
+            mut tree,
+            mut expected,
+            pages,
+        } = self;
+        let mut run = Vec::new(alloc);
+        for n in numbers {
+            run.push(key(*n))?;
+            let _ = expected.remove(n);
+        }
+        assert!(rt; keys_ascend(&run));
+        tree.remove_all(&mut store, &run)?;
+        let trial = Trial {
+            store,
+            tree,
+            expected,
+            pages,
+        };
+        trial.compare(rt)
+    }
+
+    /// Tries to put the records of these numbers in, of which one is there.
+    pub fn meets_one(self, rt: &impl Abort, alloc: Global, numbers: &[u32]) -> Result<(), Fail> {
+        let mut trial = self;
+        let mut run = Vec::new(alloc);
+        for n in numbers {
+            run.push(record(*n, 0))?;
+        }
+        assert!(rt; records_ascend(&run));
+        assert!(rt; run.len() <= (64 * (trial.pages - 8) - trial.tree.records) as usize);
+        let mut tree = trial.tree;
+        let end = tree.insert_all(&mut trial.store, &run);
+        assert!(rt; end == Err(Stop::Damaged { page: 0 }));
+        Ok(())
+    }
+
+    /// Tries to take the records of these numbers out, of which one is missing.
+    pub fn misses_one(self, rt: &impl Abort, alloc: Global, numbers: &[u32]) -> Result<(), Fail> {
+        let mut trial = self;
+        let mut run = Vec::new(alloc);
+        for n in numbers {
+            run.push(key(*n))?;
+        }
+        assert!(rt; keys_ascend(&run));
+        let mut tree = trial.tree;
+        let end = tree.remove_all(&mut trial.store, &run);
+        assert!(rt; end == Err(Stop::Damaged { page: 0 }));
+        Ok(())
     }
 
     /// Compares all records, in the order of their keys, and what a key has and the one before it.

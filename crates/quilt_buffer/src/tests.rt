@@ -7,7 +7,7 @@ use quilt_types::{Block, Colour, Pixel};
 use std::alloc::{AllocError, Global};
 use std::test::Fail;
 
-/// A map with colour 9 at one pixel, the one with this code, and 0 elsewhere.
+/// A map with colour 256 at one pixel, the one with this code, and 0 elsewhere.
 fn dotted(alloc: Global, level: u8, dot: u32) -> Result<LeafList, AllocError>
     requires least { 1 ≤ level }
     requires most { level ≤ 12 }
@@ -16,7 +16,7 @@ fn dotted(alloc: Global, level: u8, dot: u32) -> Result<LeafList, AllocError>
     let mut maker = Maker::new(alloc, level);
     for code in 0..1_u32 << (2 * level) {
         let Pixel { x, y } = pixel_of(code);
-        let colour = if code == dot { Colour(9) } else { Colour(0) };
+        let colour = if code == dot { Colour(256) } else { Colour(0) };
         maker.push(Block { x, y, side: 1 }, colour)?;
     }
     Ok(maker.finish())

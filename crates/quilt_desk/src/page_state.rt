@@ -1,6 +1,7 @@
 ghost use Rattle.std.specs.Prelude.{◌≡◌, length, true, IsTrue};
 ghost use Rattle.std.specs.List.{list_all};
-ghost use Rattle.quilt_desk.specs.Crash.{page_filled, first_state, state_after, state_of, left_by, chosen};
+ghost use Rattle.quilt_desk.specs.Crash.{page_filled};
+ghost use Rattle.quilt_desk.specs.PageStates.{first_state, state_after, state_of, left_of, chosen_of};
 ghost use Rattle.quilt_desk.specs.Whole.{is_whole};
 
 use quilt_world::Event;
@@ -67,7 +68,7 @@ impl PageState {
 
     /// The bytes that a crash leaves of the page: its last ones, or what the choice says where it is free.
     pub(crate) fn left(&self, choice: u8) -> [u8; 4096]
-        ensures { result ≡ left_by self.now choice }
+        ensures { result ≡ left_of self.now choice }
     {
         match self.last {
             Some(bytes) if !self.is_unsynced => bytes,
@@ -77,7 +78,7 @@ impl PageState {
 
     /// What the choice says of a free page.
     fn chosen(&self, choice: u8) -> [u8; 4096]
-        ensures { result ≡ chosen self.now choice }
+        ensures { result ≡ chosen_of self.now choice }
     {
         let synced = self.synced.unwrap_or(filled(0));
         match choice {

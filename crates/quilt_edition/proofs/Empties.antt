@@ -13,7 +13,7 @@ use Rattle.quilt_types.specs.Layers.{Layer, Map, IsMap, Region, Points, Lines}
 use Rattle.quilt_types.specs.Facts.{Fact, facts}
 use Rattle.quilt_record.specs.declared.key.Key.{Key}
 use Rattle.quilt_record.specs.declared.record.Record.{Record}
-use Rattle.quilt_record.specs.Records.{key_cmp, record_cmp, record_of, Numbering, records_of, Spells}
+use Rattle.quilt_record.specs.Records.{key_cmp, record_cmp, capacity_of, record_of, Numbering, records_of, Spells}
 
 key_total : IsTotalOrder key_cmp
 key_total =
@@ -47,19 +47,19 @@ some_item {K} {R} o k ks none =
 
 first_fact : (n : ℕ) (layer : Layer) → (f : Fact) × ((fs : List Fact) × (facts n layer ≡ f ∷ fs))
 first_fact n (Region grid) = (_, (_, refl))
-first_fact n (Points points) = (_, (_, refl))
+first_fact n (Points capacity points) = (_, (_, refl))
 first_fact n (Lines threshold segs cover) = (_, (_, refl))
 
 -- ---- no records
 
 abbrev all_records : ℕ → Numbering → List (List ℕ × Layer) → List Record
-all_records n numbers es = flat_map (λ e. map (record_of n e.0 (unwrap_or (finmap.get numbers e.0) 0)) (facts n e.1)) es
+all_records n numbers es = flat_map (λ e. map (record_of n (capacity_of e.1) e.0 (unwrap_or (finmap.get numbers e.0) 0)) (facts n e.1)) es
 
 no_entries : (n : ℕ) (numbers : Numbering) (es : List (List ℕ × Layer)) → finset.items (finset.from_list {R = record_cmp} (all_records n numbers es)) ≡ [] → es ≡ []
 no_entries n numbers [] none = refl
 no_entries n numbers (e ∷ es) none =
     let first = first_fact n e.1 in
-    let write = record_of n e.0 (unwrap_or (finmap.get numbers e.0) 0) in
+    let write = record_of n (capacity_of e.1) e.0 (unwrap_or (finmap.get numbers e.0) 0) in
     let rest = all_records n numbers es in
     absurd (some_item record_total (write first.0) (map write first.1.0 ++ rest)
     (subst (λ fs. finset.items (finset.from_list {R = record_cmp} (map write fs ++ rest)) ≡ []) first.1.1 none))
@@ -84,11 +84,11 @@ distinct_nil : {K : Type 0} (same : K → K → Bool) → IsDistinct same []
 unfolding IsDistinct
 distinct_nil same = tt
 
-pub spells_empty : (n : ℕ) → Spells n [] finmap.empty
-spells_empty n =
+pub spells_empty : (f n : ℕ) → Spells f n [] finmap.empty
+spells_empty f n =
     let layers = entries-empty {X = Layer} (slice_cmp nat_cmp) in
     let numbers = entries-empty {X = ℕ} (slice_cmp nat_cmp) in
-    let is_map : IsMap n finmap.empty = record {
+    let is_map : IsMap f n finmap.empty = record {
       few = omega (arith, len-empty (slice_cmp nat_cmp) Layer);
       named = rw layers (λ k d lt. absurd (omega arith));
       each = rw layers (λ k d lt. absurd (omega arith));

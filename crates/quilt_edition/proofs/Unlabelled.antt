@@ -1,5 +1,5 @@
 -- What an image with an empty header stands for, with the label and without.
-use Rattle.std.proofs.Common.{◌≡◌, ◌≤◌, ◌+◌, ℕ, List, [], length, get_or, replicate, false, cond, ◌&&◌, ◌==◌, refl, sym, ◌∙◌, ap, arith, lit<}
+use Rattle.std.proofs.Common.{◌≡◌, ◌≤◌, ◌+◌, ℕ, List, [], length, get_or, replicate, false, cond, ◌&&◌, ◌==◌, refl, sym, ◌∙◌, ap, arith, lit<, lit≤}
 use Rattle.std.specs.FinMap as finmap
 use Rattle.std.proofs.lemmas.List.FromFn.{length-map-range_with_len, get_or-map-range_with_len}
 use Rattle.quilt_types.specs.Layers.{Edition}
@@ -10,7 +10,7 @@ use Rattle.quilt_node.specs.Tree.{Whole, walk_of}
 use Rattle.quilt_edition.specs.Stands.{Stands}
 use Rattle.quilt_edition.specs.Creating.{empty_edition, empty_head, IsNoneOrEmpty}
 use Rattle.quilt_edition.proofs.Empties.{no_records, spells_empty}
-use Rattle.quilt_edition.proofs.Headers.{same_level, same_height, same_edition}
+use Rattle.quilt_edition.proofs.Headers.{same_format, same_level, same_height, same_edition}
 
 abbrev pub zeros : List ℕ
 zeros = replicate 4096 0
@@ -57,6 +57,8 @@ headed_only n image low headed E stands =
     let head = holds.head in
     let bytes : header_bytes head ≡ header_bytes (empty_head n) =
     sym holds.header.written ∙ home_header n image pages (omega (arith, stands.file.least)) headed in
+    let low_format = holds.header.numbers.format.1 in
+    let format : head.format ≡ 1 = same_format head (empty_head n) (omega arith) (lit< tt) bytes in
     let level : head.level ≡ n = same_level head (empty_head n) bytes in
     let height : head.height ≡ 0 = same_height head (empty_head n) bytes in
     let number : head.edition ≡ 0 = same_edition head (empty_head n) holds.header.numbers.edition (lit< tt) bytes in
@@ -64,11 +66,12 @@ headed_only n image low headed E stands =
     sym (no_walk (home image pages) head.root) ∙ ap (walk_of (home image pages) head.root) (sym height) ∙ holds.tree in
     let none : holds.records ≡ [] = cc in
     let layers : E.layers ≡ finmap.empty = no_records head.level holds.spelled.numbers E.layers (sym holds.spelled.written ∙ none) in
-    λ i. record { number = (holds.number ∙ number) i; level = (holds.level ∙ level) i; layers = layers i }
+    λ i. record { format = (holds.format ∙ format) i; number = (holds.number ∙ number) i; level = (holds.level ∙ level) i; layers = layers i }
 
 empty_is_header : (n pages : ℕ) (bytes : List ℕ) → 1 ≤ n → n ≤ 12 → bytes ≡ header_bytes (empty_head n) → IsHeader pages bytes (empty_head n)
 empty_is_header n pages bytes some low is = record {
   numbers = record {
+    format = (lit≤ tt, lit≤ tt);
     edition = lit< tt;
     level = (some, low);
     height = omega arith;
@@ -87,12 +90,13 @@ headed_stands n pages image some low file headed = record {
   holds = record {
     head = empty_head n;
     header = empty_is_header n _ _ some low (home_header n image pages (omega (arith, file.least)) headed);
+    format = refl;
     number = refl;
     level = refl;
     records = [];
     visited = [];
     tree = no_walk (home image pages) 0;
     count = refl;
-    spelled = spells_empty n;
+    spelled = spells_empty 1 n;
   };
 }

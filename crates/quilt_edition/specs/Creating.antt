@@ -22,13 +22,13 @@ pub record HasMapSize (size : ℕ) : Type 0 where
 pub record IsBlank (t : Tale) : Type 0 where
   pub each : (i : ℕ) → i < length t.start → fixed t i ≡ Some (replicate 4096 0)
 
--- edition 0 of the level, with no layer
+-- edition 0 of the level in format 1, with no layer
 abbrev pub empty_edition : ℕ → Edition
-empty_edition n = record { number = 0; level = n; layers = finmap.empty }
+empty_edition n = record { format = 1; number = 0; level = n; layers = finmap.empty }
 
 -- what the header of that edition says
 abbrev pub empty_head : ℕ → Head
-empty_head n = record { edition = 0; level = n; root = 0; height = 0; records = 0 }
+empty_head n = record { format = 1; edition = 0; level = n; root = 0; height = 0; records = 0 }
 
 -- the event is of the disk's pages alone
 abbrev pub is_of_pages : Event → Bool

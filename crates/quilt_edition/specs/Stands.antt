@@ -12,13 +12,14 @@ use Rattle.quilt_world.specs.Home.{page_of, IsMapFile, home}
 pub record HoldsEdition (pages : List (List ℕ)) (edition : Edition) : Type 0 where
   pub head : Head
   pub header : IsHeader (length pages) (page_of pages 0) head
+  pub format : edition.format ≡ head.format
   pub number : edition.number ≡ head.edition
   pub level : edition.level ≡ head.level
   pub records : List Record
   pub visited : List ℕ
   pub tree : walk_of pages head.root head.height ≡ Whole records visited
   pub count : length records ≡ head.records
-  pub spelled : Spells head.level records edition.layers
+  pub spelled : Spells head.format head.level records edition.layers
 
 -- the first damaged page of the home pages that hold no edition
 abbrev pub page_of_walk : Walk → ℕ

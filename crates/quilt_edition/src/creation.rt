@@ -27,7 +27,7 @@ fn write_synced<D: Disk>(disk: &mut D, i: u32, bytes: &[u8; 4096]) -> Result<(),
     disk.sync()
 }
 
-/// Makes a file of zero pages a map file of edition 0, with no layer, at a level from 1 to 12.
+/// Makes a file of zero pages a map file of edition 0 in format 1, with no layer, at a level from 1 to 12.
 /// The label comes last, so a file that was not finished is no map file. It takes no memory.
 pub fn create<D: Disk>(disk: &mut D, level: u8) -> Result<(), Fault>
     requires size { HasMapSize (D.size disk.old) }

@@ -1,7 +1,9 @@
 ghost use Rattle.std.specs.Prelude.{◌≡◌, ◌≤◌, length};
 ghost use Rattle.quilt_world.specs.Home.{filled, label};
-ghost use Rattle.quilt_node.specs.Pages.{header_bytes};
+ghost use Rattle.quilt_node.specs.Pages as spec;
 ghost use Rattle.quilt_edition.specs.Creating.{empty_head};
+
+use quilt_node::{Head, header_bytes};
 
 const LABEL: [u8; 15] = *b"QUILT MAP FILE\n";
 
@@ -22,12 +24,17 @@ pub(crate) fn label_page() -> [u8; 4096]
     page_of(&LABEL)
 }
 
-/// The header of edition 0 of a level, with no records.
+/// The header of edition 0 of a level in format 1, with no records.
 pub(crate) fn header_page(level: u8) -> [u8; 4096]
-    ensures { result ≡ header_bytes (empty_head level) }
+    requires { (1 ≤ level) × (level ≤ 12) }
+    ensures { result ≡ spec.header_bytes (empty_head level) }
 {
-    let front = [
-        b'Q', b'H', b'D', b'R', 0, 0, 0, 1, 0, 0, 0, 0, level, 0, 0, 0, 0, 0, 0, 0, 0, 0, 0, 0,
-    ];
-    page_of(&front)
+    header_bytes(&Head {
+        format: 1,
+        edition: 0,
+        level,
+        root: 0,
+        height: 0,
+        records: 0,
+    })
 }

@@ -1,9 +1,12 @@
+pub mod Around
 pub mod Blocks
 pub mod CodeLaws
+pub mod InOrder
 pub mod Intervals
 pub mod Members
 pub mod Nesting
 pub mod Once
+pub mod PlaneOrders
 pub mod Quartered
 pub mod Rising
 pub mod Rows

@@ -1,5 +1,3 @@
-pub mod InOrder
-pub mod Orders
 pub mod Parts
 pub mod Ranges
 pub mod Rounds

@@ -25,8 +25,8 @@ use Rattle.quilt_blocks.proofs.Cuts.{IsLeaf, leaf_is, leaves_members, leaves_run
 use Rattle.quilt_blocks.proofs.Painting.{code_in}
 use Rattle.quilt_blocks.proofs.Listed.{held_in}
 use Rattle.quilt_measure.proofs.Sums.{Differ, same_sum, sum_by-same, sum_by-constant, sum_by-filter_is, sum_by-map_is, sum_by-parts}
-use Rattle.quilt_measure.proofs.Orders.{pixel_total, block_total}
-use Rattle.quilt_measure.proofs.InOrder.{Rises-pixels, Rises-leaves, same_number, then_first, then_second, leaf_cmp as place_cmp}
+use Rattle.quilt_loc.proofs.PlaneOrders.{pixel_total, block_total}
+use Rattle.quilt_loc.proofs.InOrder.{Rises-pixels, Rises-leaves, same_number, then_first, then_second, leaf_cmp as place_cmp}
 
 -- what rises has no two alike
 differ_from : {X : Type 0} (R : X → X → Ordering) → ((x : X) → R x x ≡ Equal) → (xs : List X) → Rises R xs → Differ xs

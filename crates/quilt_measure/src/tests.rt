@@ -9,7 +9,7 @@ use std::alloc::{AllocError, Global};
 use std::test::Fail;
 
 /// The leaves of the colours of a square, row by row.
-fn leaves_of(alloc: Global, colours: &[u8], level: u8) -> Result<LeafList, AllocError>
+fn leaves_of(alloc: Global, colours: &[u16], level: u8) -> Result<LeafList, AllocError>
     requires least { 1 ≤ level }
     requires most { level ≤ 12 }
     requires all { length colours.now ≡ side_of level * side_of level }
@@ -27,12 +27,12 @@ fn leaves_of(alloc: Global, colours: &[u8], level: u8) -> Result<LeafList, Alloc
 
 #[test]
 fn perimeters(rt: HostRuntime) -> Result<(), Fail> {
-    let full = leaves_of(rt.alloc(), &[9; 64], 3)?;
+    let full = leaves_of(rt.alloc(), &[256; 64], 3)?;
     let mut colours = [0; 64];
-    colours[0] = 9;
+    colours[0] = 256;
     let corner = leaves_of(rt.alloc(), &colours, 3)?;
-    assert_eq!(rt; perimeter(&corner, Colour(9)), 4);
-    assert_eq!(rt; perimeter(&full, Colour(9)), 32);
+    assert_eq!(rt; perimeter(&corner, Colour(256)), 4);
+    assert_eq!(rt; perimeter(&full, Colour(256)), 32);
     assert_eq!(rt; perimeter(&full, Colour(1)), 0);
     Ok(())
 }
@@ -40,9 +40,9 @@ fn perimeters(rt: HostRuntime) -> Result<(), Fail> {
 #[test]
 fn areas_and_sizes(rt: HostRuntime) -> Result<(), Fail> {
     let mut colours = [0; 16];
-    colours[5] = 7;
+    colours[5] = 512;
     let map = leaves_of(rt.alloc(), &colours, 2)?;
-    assert_eq!(rt; area(&map, Colour(7)), 1);
+    assert_eq!(rt; area(&map, Colour(512)), 1);
     assert_eq!(rt; area(&map, Colour(0)), 15);
     assert_eq!(rt; histogram(&map), [4, 3, 0, 0, 0, 0, 0, 0, 0, 0, 0, 0, 0]);
     Ok(())

@@ -90,6 +90,7 @@ pub record HeadFits (h : Head) : Type 0 where
 -- the numbers that stand where a header has them
 abbrev pub read_head : List ℕ → Head
 read_head bytes = record {
+  format = slice_index bytes 7;
   edition = word_at bytes 8;
   level = slice_index bytes 12;
   root = word_at bytes 16;

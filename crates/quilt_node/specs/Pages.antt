@@ -20,11 +20,12 @@ magic = 81 ∷ 72 ∷ 68 ∷ 82 ∷ []
 
 unfoldable pub header_bytes : Head → List ℕ
 header_bytes h =
-    filled page_size (magic ++ to_be_bytes w32 1 ++ to_be_bytes w32 h.edition ++ (h.level ∷ h.height ∷ 0 ∷ 0 ∷ [])
+    filled page_size (magic ++ to_be_bytes w32 h.format ++ to_be_bytes w32 h.edition ++ (h.level ∷ h.height ∷ 0 ∷ 0 ∷ [])
     ++ to_be_bytes w32 h.root ++ to_be_bytes w32 h.records)
 
 -- what the numbers of a header may be in a file of so many home pages
 pub record IsHead (pages : ℕ) (h : Head) : Type 0 where
+  pub format : (1 ≤ h.format) × (h.format ≤ 2)
   pub edition : h.edition < 2 ^ 32
   pub level : (1 ≤ h.level) × (h.level ≤ 12)
   pub height : h.height ≤ 3

@@ -1,6 +1,8 @@
-/// What the header of a file says: the edition's number, the level of its square, and the tree that holds its records.
+/// What the header of a file says: the format, the edition's number, the level of its square, and the tree that holds its records.
 #[derive(Clone, Copy, Debug, PartialEq, Eq)]
 pub struct Head {
+    /// 1 or 2: which records the file may have.
+    pub format: u8,
     pub edition: u32,
     /// From 1 to 12.
     pub level: u8,

@@ -11,12 +11,13 @@ use crate::bytes::{put_over, word_in};
 fn page_of(h: &Head) -> [u8; 4096]
     ensures { result ≡ spec.header_bytes h.now }
 {
+    let f = u32::from(h.format).to_be_bytes();
     let e = h.edition.to_be_bytes();
     let r = h.root.to_be_bytes();
     let n = h.records.to_be_bytes();
     let start = [
-        b'Q', b'H', b'D', b'R', 0, 0, 0, 1, e[0], e[1], e[2], e[3], h.level, h.height, 0, 0, r[0],
-        r[1], r[2], r[3], n[0], n[1], n[2], n[3],
+        b'Q', b'H', b'D', b'R', f[0], f[1], f[2], f[3], e[0], e[1], e[2], e[3], h.level, h.height,
+        0, 0, r[0], r[1], r[2], r[3], n[0], n[1], n[2], n[3],
     ];
     let mut page = [0; 4096];
     put_over(&mut page, 0, &start);
@@ -29,6 +30,9 @@ fn is_head(h: &Head, pages: u32) -> bool
     ensures no { result ≡ false → IsHead pages h.now → ⊥ }
 {
     let most = 64 * u64::from(pages.saturating_sub(8));
+    if h.format < 1 || 2 < h.format {
+        return false;
+    }
     if h.level < 1 || 12 < h.level || 3 < h.height || most < u64::from(h.records) {
         return false;
     }
@@ -43,6 +47,7 @@ fn numbers_in(bytes: &[u8; 4096]) -> Head
     ensures { result ≡ read_head bytes.now }
 {
     Head {
+        format: bytes[7],
         edition: word_in(bytes, 8),
         level: bytes[12],
         root: word_in(bytes, 16),

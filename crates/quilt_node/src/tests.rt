@@ -1,4 +1,5 @@
 mod pages;
+mod raw;
 
 use crate::{Head, InnerPage, LeafPage, header_bytes, header_of, inner_of, leaf_of};
 use quilt_record::{Key, Record};
@@ -23,13 +24,14 @@ const BLOCK: Key = Key {
 #[test]
 fn header_byte_by_byte(rt: HostRuntime) -> Result<(), Fail> {
     let head = Head {
+        format: 1,
         edition: 258,
         level: 3,
         root: 17,
         height: 1,
         records: 2,
     };
-    let page = header_bytes(&head);
+    let mut page = header_bytes(&head);
     assert_eq!(rt;
         &page[..14],
         b"QHDR\0\0\0\x01\0\0\x01\x02\x03\x01".as_slice()
@@ -37,6 +39,15 @@ fn header_byte_by_byte(rt: HostRuntime) -> Result<(), Fail> {
     assert_eq!(rt; &page[14..25], b"\0\0\0\0\0\x11\0\0\0\x02\0".as_slice());
     assert_eq!(rt; header_of(&page, 18), Some(head));
     assert_eq!(rt; header_of(&page, 17), None);
+    page[7] = 2;
+    assert_eq!(rt; header_of(&page, 18), Some(Head { format: 2, ..head }));
+    page[7] = 3;
+    assert_eq!(rt; header_of(&page, 18), None);
+    page[7] = 0;
+    assert_eq!(rt; header_of(&page, 18), None);
+    page[7] = 1;
+    page[6] = 1;
+    assert_eq!(rt; header_of(&page, 18), None);
     Ok(())
 }
 

@@ -9,7 +9,7 @@ use std::alloc::{AllocError, Global};
 use std::test::Fail;
 
 /// The leaves of the colours of a square, row by row.
-fn leaves_of(alloc: Global, colours: &[u8], level: u8) -> Result<LeafList, AllocError>
+fn leaves_of(alloc: Global, colours: &[u16], level: u8) -> Result<LeafList, AllocError>
     requires least { 1 ≤ level }
     requires most { level ≤ 12 }
     requires all { length colours.now ≡ side_of level * side_of level }
@@ -26,7 +26,7 @@ fn leaves_of(alloc: Global, colours: &[u8], level: u8) -> Result<LeafList, Alloc
 }
 
 /// The colours of a map of level 1, row by row.
-fn shown(list: &LeafList) -> [u8; 4]
+fn shown(list: &LeafList) -> [u16; 4]
     requires { list.now.level ≡ 1 }
 {
     let at = |x, y| list.colour_at(Pixel { x, y }).0;
@@ -35,11 +35,11 @@ fn shown(list: &LeafList) -> [u8; 4]
 
 #[test]
 fn two_maps(rt: HostRuntime) -> Result<(), Fail> {
-    let a = leaves_of(rt.alloc(), &[1, 2, 0, 0], 1)?;
-    let b = leaves_of(rt.alloc(), &[3, 0, 3, 4], 1)?;
+    let a = leaves_of(rt.alloc(), &[1, 258, 0, 0], 1)?;
+    let b = leaves_of(rt.alloc(), &[256, 0, 3, 4], 1)?;
     assert_eq!(rt;
         shown(&overlay(rt.alloc(), Op::Union, &a, &b)?),
-        [1, 2, 3, 4]
+        [1, 258, 3, 4]
     );
     assert_eq!(rt;
         shown(&overlay(rt.alloc(), Op::Inter, &a, &b)?),
@@ -47,19 +47,19 @@ fn two_maps(rt: HostRuntime) -> Result<(), Fail> {
     );
     assert_eq!(rt;
         shown(&overlay(rt.alloc(), Op::Diff, &a, &b)?),
-        [0, 2, 0, 0]
+        [0, 258, 0, 0]
     );
     Ok(())
 }
 
 #[test]
 fn colours_at_once(rt: HostRuntime) -> Result<(), Fail> {
-    let a = leaves_of(rt.alloc(), &[1, 2, 0, 0], 1)?;
+    let a = leaves_of(rt.alloc(), &[1, 257, 0, 0], 1)?;
     let pairs = [
-        (Colour(1), Colour(9)),
-        (Colour(9), Colour(1)),
+        (Colour(1), Colour(265)),
+        (Colour(265), Colour(1)),
         (Colour(1), Colour(5)),
     ];
-    assert_eq!(rt; shown(&recolour(rt.alloc(), &a, &pairs)?), [9, 2, 0, 0]);
+    assert_eq!(rt; shown(&recolour(rt.alloc(), &a, &pairs)?), [265, 257, 0, 0]);
     Ok(())
 }

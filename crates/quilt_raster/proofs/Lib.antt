@@ -1,2 +1,4 @@
+pub mod Bytes
 pub mod Places
 pub mod Points
+pub mod Written

@@ -1,21 +1,28 @@
 -- A window of a grid as lines of hexadecimal digits.
-use Rattle.std.specs.Prelude.{ℕ, ◌+◌, ◌/◌, ◌%◌, nat_lt, List, [], ◌∷◌, ◌++◌, flat_map, if◌then◌else◌}
+use Rattle.std.specs.Prelude.{ℕ, ◌+◌, ◌/◌, ◌%◌, nat_lt, ◌==◌, List, [], ◌∷◌, map, flat_map, if◌then◌else◌}
 use Rattle.quilt_types.specs.declared.plane.Window.{Window}
 use Rattle.quilt_types.specs.Plane.{below}
 use Rattle.quilt_types.specs.Layers.{Grid, colour_at}
 
--- the digit of a number below 16, as a byte
-abbrev pub digit : ℕ → ℕ
-digit d = if nat_lt d 10 then d + 48 else d + 87
+-- a digit of base 16
+abbrev pub hex : ℕ → ℕ
+hex d = if nat_lt d 10 then d + 48 else d + 87
 
--- both digits of a colour
-abbrev pub digits : ℕ → List ℕ
-digits c = digit (c / 16) ∷ digit (c % 16) ∷ []
+-- two digits in format 1, and four in format 2
+unfoldable pub digits_of : ℕ → ℕ → List ℕ
+digits_of f c =
+    if f == 1 then hex (c / 16) ∷ hex (c % 16) ∷ []
+    else hex (c / 4096) ∷ hex (c / 256 % 16) ∷ hex (c / 16 % 16) ∷ hex (c % 16) ∷ []
 
 -- the colours of one row of the window, from the left
-unfoldable pub row_digits : ℕ → Grid → Window → ℕ → List ℕ
-row_digits n g w dy = flat_map (λ dx. digits (colour_at n g (record { x = w.x + dx; y = w.y + dy }))) (below w.w)
+unfoldable pub row_line : ℕ → ℕ → Grid → Window → ℕ → List ℕ
+row_line f n g w dy =
+    flat_map (λ dx. digits_of f (colour_at n g (record { x = w.x + dx; y = w.y + dy }))) (below w.w)
 
--- the rows of the window from above, each with a newline
-unfoldable pub shown : ℕ → Grid → Window → List ℕ
-shown n g w = flat_map (λ dy. row_digits n g w dy ++ 10 ∷ []) (below w.h)
+-- what a format writes of a colour: its low byte in format 1, and all of it in format 2
+unfoldable pub written_in : ℕ → ℕ → ℕ
+written_in f c = if f == 1 then c % 256 else c
+
+-- the rows of the window from above, each colour as the format writes it
+unfoldable pub shown : ℕ → ℕ → Grid → Window → List (List ℕ)
+shown f n g w = map (row_line f n (map (written_in f) g) w) (below w.h)

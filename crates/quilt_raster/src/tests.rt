@@ -6,19 +6,25 @@ use std::process::Abort;
 use std::test::Fail;
 use std::time::Instant;
 
-/// Fills the colours with zeros and, for one in four, ones.
-fn paint(seed: &mut u32, colours: &mut [u8]) {
-    for c in colours {
+/// Fills the bytes with zeros and, for one in four, ones: both bytes of a colour.
+fn paint(seed: &mut u32, bytes: &mut [u8]) {
+    for c in bytes {
         *seed = seed.wrapping_mul(1664525).wrapping_add(1013904223);
         *c = (*seed >> 30) as u8 / 3;
     }
 }
 
+/// Both bytes at a place of a list of pairs, as a number.
+fn pair_at(bytes: &[u8], place: usize) -> Option<u16> {
+    let first = place.wrapping_mul(2);
+    let high = bytes.get(first).copied()?;
+    let low = bytes.get(first.wrapping_add(1)).copied()?;
+    Some(u16::from_be_bytes([high, low]))
+}
+
 /// The colour of a pixel of a raster with rows of this length.
-fn colour(colours: &[u8], row: u32, x: u32, y: u32) -> Option<u8> {
-    colours
-        .get(y.wrapping_mul(row).wrapping_add(x) as usize)
-        .copied()
+fn colour(bytes: &[u8], row: u32, x: u32, y: u32) -> Option<u16> {
+    pair_at(bytes, y.wrapping_mul(row).wrapping_add(x) as usize)
 }
 
 /// Whether all pixels from (x, y) on, as many in a row as rows, have the colour of the first.
@@ -72,7 +78,7 @@ fn compare(rt: &impl Abort, list: &LeafList, colours: &[u8], row: u32) {
 
 #[test]
 fn worked_rasters(rt: HostRuntime) -> Result<(), Fail> {
-    let one = leaves_of(rt.alloc(), &[3, 3, 3, 3], 1)?;
+    let one = leaves_of(rt.alloc(), &[0, 3, 0, 3, 0, 3, 0, 3], 1)?;
     assert_eq!(rt; one.len(), 1);
     assert_eq!(rt;
         one.leaf(0).block,
@@ -84,25 +90,42 @@ fn worked_rasters(rt: HostRuntime) -> Result<(), Fail> {
     );
     assert_eq!(rt; one.leaf(0).colour, Colour(3));
 
-    let four = leaves_of(rt.alloc(), &[0, 1, 1, 0], 1)?;
+    let four = leaves_of(rt.alloc(), &[0, 0, 0, 1, 0, 1, 0, 0], 1)?;
     assert_eq!(rt; four.len(), 4);
+    assert_eq!(rt; four.leaf(0).colour, Colour(0));
     assert_eq!(rt; four.leaf(1).colour, Colour(1));
+    assert_eq!(rt; four.leaf(2).colour, Colour(1));
     assert_eq!(rt; four.leaf(3).colour, Colour(0));
+    Ok(())
+}
+
+#[test]
+fn colours_of_two_bytes(rt: HostRuntime) -> Result<(), Fail> {
+    let one = leaves_of(rt.alloc(), &[1, 2, 1, 2, 1, 2, 1, 2], 1)?;
+    assert_eq!(rt; one.len(), 1);
+    assert_eq!(rt; one.leaf(0).colour, Colour(258));
+
+    // Two colours with one low byte.
+    let four = leaves_of(rt.alloc(), &[0, 2, 1, 2, 0, 2, 1, 2], 1)?;
+    assert_eq!(rt; four.len(), 4);
+    assert_eq!(rt; four.leaf(0).colour, Colour(2));
+    assert_eq!(rt; four.leaf(3).colour, Colour(258));
     Ok(())
 }
 
 #[test]
 fn small_and_random_rasters(rt: HostRuntime) -> Result<(), Fail> {
     for a in 0..81_u8 {
-        let colours = [a % 3, a / 3 % 3, a / 9 % 3, a / 27];
+        let (b, c, d, e) = (a % 3, a / 3 % 3, a / 9 % 3, a / 27);
+        let colours = [e, b, b, c, c, d, d, e];
         compare(&rt, &leaves_of(rt.alloc(), &colours, 1)?, &colours, 2);
     }
     let mut seed = 12345_u32;
     for _ in 0..250 {
-        let mut colours = [0_u8; 64];
+        let mut colours = [0_u8; 128];
         paint(&mut seed, &mut colours);
         compare(&rt, &leaves_of(rt.alloc(), &colours, 3)?, &colours, 8);
-        let mut colours = [0_u8; 256];
+        let mut colours = [0_u8; 512];
         paint(&mut seed, &mut colours);
         compare(&rt, &leaves_of(rt.alloc(), &colours, 4)?, &colours, 16);
     }
@@ -111,7 +134,7 @@ fn small_and_random_rasters(rt: HostRuntime) -> Result<(), Fail> {
 
 #[test]
 fn blocks_of_one_colour(rt: HostRuntime) -> Result<(), Fail> {
-    let list = leaves_of(rt.alloc(), &[0, 1, 1, 0], 1)?;
+    let list = leaves_of(rt.alloc(), &[0, 0, 1, 1, 0, 1, 0, 0], 1)?;
     let whole = Block {
         x: 0,
         y: 0,
@@ -123,7 +146,7 @@ fn blocks_of_one_colour(rt: HostRuntime) -> Result<(), Fail> {
         side: 1,
     };
     assert_eq!(rt; list.uniform_in(whole), None);
-    assert_eq!(rt; list.uniform_in(quarter), Some(Colour(1)));
+    assert_eq!(rt; list.uniform_in(quarter), Some(Colour(257)));
     Ok(())
 }
 
@@ -135,13 +158,11 @@ fn large_raster(rt: HostRuntime) -> Result<(), Fail> {
     for i in 0..1048576_u32 {
         let (x, y) = (i % 1024, i / 1024);
         let alone = x % 32 == 5 && y % 32 == 7;
-        colours.push(if alone {
-            2
-        } else {
-            ((x / 32 + y / 32) % 2) as u8
-        })?;
+        let colour = if alone { 512 } else { (x / 32 + y / 32) % 2 };
+        colours.push((colour / 256) as u8)?;
+        colours.push((colour % 256) as u8)?;
     }
-    assert!(rt; colours.len() == 1048576);
+    assert!(rt; colours.len() == 2097152);
 
     let start = Instant::now(&rt)?;
     let list = leaves_of(rt.alloc(), &colours, 10)?;
@@ -155,27 +176,38 @@ fn large_raster(rt: HostRuntime) -> Result<(), Fail> {
         w: 1024,
         h: 1024,
     };
-    let text = render(rt.alloc(), &list, all)?;
+    let text = render(rt.alloc(), &list, all, 2)?;
     let shown = start.elapsed(&rt)?;
-    assert_eq!(rt; text.bytes().len(), 2098176);
+    assert_eq!(rt; text.bytes().len(), 4195328);
     println!(rt; "1048576 pixels, 16384 leaves: {made:?} to read, {shown:?} to show")?;
     Ok(())
 }
 
+/// The window of all four pixels at level 1.
+const FOUR: Window = Window {
+    x: 0,
+    y: 0,
+    w: 2,
+    h: 2,
+};
+
 #[test]
 fn shown_rows(rt: HostRuntime) -> Result<(), Fail> {
-    let list = leaves_of(rt.alloc(), &[0, 1, 171, 16], 1)?;
-    let text = render(
-        rt.alloc(),
-        &list,
-        Window {
-            x: 0,
-            y: 0,
-            w: 2,
-            h: 2,
-        },
-    )?;
-    assert_eq!(rt; text.bytes(), b"0001\nab10\n".as_slice());
+    let list = leaves_of(rt.alloc(), &[0, 0, 0, 1, 0, 171, 0, 16], 1)?;
+    let short = render(rt.alloc(), &list, FOUR, 1)?;
+    assert_eq!(rt; short.bytes(), b"0001\nab10\n".as_slice());
+    let long = render(rt.alloc(), &list, FOUR, 2)?;
+    assert_eq!(rt; long.bytes(), b"00000001\n00ab0010\n".as_slice());
     assert_eq!(rt; list.colour_at(Pixel { x: 0, y: 1 }), Colour(171));
+    Ok(())
+}
+
+#[test]
+fn shown_colours_of_two_bytes(rt: HostRuntime) -> Result<(), Fail> {
+    let list = leaves_of(rt.alloc(), &[0, 0, 1, 0, 1, 2, 254, 220], 1)?;
+    let long = render(rt.alloc(), &list, FOUR, 2)?;
+    assert_eq!(rt; long.bytes(), b"00000100\n0102fedc\n".as_slice());
+    let short = render(rt.alloc(), &list, FOUR, 1)?;
+    assert_eq!(rt; short.bytes(), b"0000\n02dc\n".as_slice());
     Ok(())
 }

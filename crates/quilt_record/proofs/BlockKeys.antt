@@ -1,14 +1,14 @@
 -- A block from its code and depth.
-use Rattle.std.proofs.Common.{◌≡◌, ℕ, ◌-◌, ◌*◌, ◌%◌, ◌^◌, ◌<◌, ◌≤◌, inl, inr, sym, ◌∙◌, ap, subst, arith, one-mul}
+use Rattle.std.proofs.Common.{◌≡◌, ℕ, ◌-◌, ◌*◌, ◌%◌, ◌^◌, ◌<◌, ◌≤◌, inl, inr, sym, ◌∙◌, ap, subst, arith, one-mul, true, nat_lt, ltb-true}
 use Rattle.std.proofs.Math.Nat.{pow-le-pow_right, mod-eq_of_lt}
 use Rattle.std.proofs.lemmas.Nat.{pow_pos}
 use Rattle.std.proofs.lemmas.Nat.Bits.{bit_at-trailing_zeros, bit_at-pow_other}
-use Rattle.std.proofs.lemmas.Bool.{cases_lt}
+use Rattle.std.proofs.lemmas.Bool.{cases_lt, and_parts}
 use Rattle.std.specs.Int.{w16}
 use Rattle.std.specs.Int.Count.{count_trailing_zeros}
 use Rattle.quilt_types.specs.declared.plane.Pixel.{Pixel}
 use Rattle.quilt_types.specs.declared.plane.Block.{Block}
-use Rattle.quilt_types.specs.Plane.{IsBlock}
+use Rattle.quilt_types.specs.Plane.{IsBlock, is_pixel}
 use Rattle.quilt_types.specs.Codes.{code, depth}
 use Rattle.quilt_record.proofs.CodeLaws.{code_below, code_alone, depth_is}
 use Rattle.quilt_record.specs.declared.key.Key.{Key}
@@ -21,6 +21,15 @@ pub in_square : (n : ℕ) (b : Block) → n ≤ 12 → IsBlock n b → (b.x < 40
 in_square n b h k =
     let most = power_most n h in
     (omega (arith, k.in_x, most), omega (arith, k.in_y, most))
+
+-- a pixel of the square has coordinates below 4096
+pub pixel_below : (n : ℕ) (p : Pixel) → n ≤ 12 → is_pixel n p ≡ true → (p.x < 4096) × (p.y < 4096)
+pixel_below n p h e =
+    let most = power_most n h in
+    let both = and_parts (nat_lt p.x (2 ^ n)) (nat_lt p.y (2 ^ n)) e in
+    let in_x = ltb-true p.x (2 ^ n) both.0 in
+    let in_y = ltb-true p.y (2 ^ n) both.1 in
+    (omega arith, omega arith)
 
 trailing_power : (k : ℕ) → k ≤ 12 → count_trailing_zeros 16 (2 ^ k) ≡ k
 trailing_power k h =

@@ -1,5 +1,7 @@
 pub mod BlockKeys
 pub mod CodeLaws
 pub mod Entries
+pub mod KeyOrder
 pub mod Names
 pub mod Readers
+pub mod Orders

@@ -1,5 +1,5 @@
 -- A name with zeros behind it.
-use Rattle.std.proofs.Common.{◌≡◌, ℕ, zero, suc, ◌+◌, ◌-◌, ◌<◌, ◌≤◌, ◌⊎◌, inl, inr, Bool, true, false, ◌&&◌, ◌||◌, not, cond, nat_le, eqb-true, List, [], ◌∷◌, ◌++◌, length, take, drop, get_or, slice_index, Option, Some, None, IsSome, IfSome, replicate, refl, sym, ◌∙◌, ap, subst, arith, one-add, lit<}
+use Rattle.std.proofs.Common.{◌≡◌, ℕ, zero, suc, ◌+◌, ◌-◌, ◌<◌, ◌≤◌, ◌⊎◌, inl, inr, Bool, true, false, ◌&&◌, ◌||◌, not, cond, nat_le, eqb-true, List, [], ◌∷◌, ◌++◌, length, take, drop, slice_index, Option, Some, None, IsSome, IfSome, replicate, refl, sym, ◌∙◌, ap, arith, one-add, lit<}
 use Rattle.std.specs.Prelude.{◌==◌}
 use Rattle.std.specs.List.{list_all, position_or_len}
 use Rattle.std.specs.Str.{IsAscii}
@@ -10,11 +10,10 @@ use Rattle.quilt_types.specs.Layers.{is_name, is_name_byte, is_letter}
 use Rattle.std.proofs.lemmas.List.{get_or-append-add}
 use Rattle.std.specs.Prelude.{unwrap_or}
 use Rattle.quilt_types.specs.declared.plane.Kind.{Kind}
-use Rattle.quilt_types.specs.Facts.{IsOfKind}
 use Rattle.quilt_record.specs.declared.entry.Entry.{Entry}
 use Rattle.quilt_record.specs.declared.record.Record.{Record}
-use Rattle.quilt_record.specs.Listing.{IsEntryOf, kind_number, threshold_of}
-use Rattle.quilt_record.specs.Records.{filled, record_of}
+use Rattle.quilt_record.specs.Listing.{IsEntryOf, number_of_kind, number_beside, kind_fact}
+use Rattle.quilt_record.specs.Records.{filled, kind_number, record_of}
 
 and_parts : (a b : Bool) → a && b ≡ true → (a ≡ true) × (b ≡ true)
 and_parts true b h = (refl, h)
@@ -129,27 +128,32 @@ place_behind f z k e = ap (λ n. slice_index (f ++ z) (n + k)) (sym e) ∙ get_o
 pub some_same : {A : Type 0} (a b : A) → ◌≡◌ {A = Option A} (Some a) (Some b) → a ≡ b
 some_same {A} a b h = let f : Option A → A = λ o. unwrap_or o a in ap f h
 
--- what the record of an entry says
-pub entry_number : (r : Record) (e : Entry) → IsEntryOf r e → r.key.item ≡ e.number
-entry_number r e f = ap (λ (s : Record). s.key.item) (f.written 0)
+-- what the record of an entry says, in a format
+module _ (form : ℕ) (r : Record) (e : Entry) (f : IsEntryOf form r e) where
+  behind : List ℕ
+  behind = number_of_kind e.kind ∷ kind_number (number_of_kind e.kind) (number_beside e.kind) ∷ 0 ∷ 0 ∷ []
 
-pub entry_kind : (r : Record) (e : Entry) → IsEntryOf r e → slice_index r.value 12 ≡ kind_number e.kind
-entry_kind r e f =
-    ap (λ (s : Record). slice_index s.value 12) (f.written 0)
-    ∙ place_behind (filled 12 e.name) (kind_number e.kind ∷ threshold_of e.kind ∷ 0 ∷ 0 ∷ []) 0 (name_long e.name f.named)
+  pub entry_number : r.key.item ≡ e.number
+  entry_number = ap (λ (s : Record). s.key.item) (f.written 0 0)
 
-pub entry_threshold : (r : Record) (e : Entry) → IsEntryOf r e → slice_index r.value 13 ≡ threshold_of e.kind
-entry_threshold r e f =
-    ap (λ (s : Record). slice_index s.value 13) (f.written 0)
-    ∙ place_behind (filled 12 e.name) (kind_number e.kind ∷ threshold_of e.kind ∷ 0 ∷ 0 ∷ []) 1 (name_long e.name f.named)
+  pub entry_kind : slice_index r.value 12 ≡ number_of_kind e.kind
+  unfolding behind
+  entry_kind = ap (λ (s : Record). slice_index s.value 12) (f.written 0 0) ∙ place_behind (filled 12 e.name) behind 0 (name_long e.name f.named)
 
-pub entry_name : (r : Record) (e : Entry) → IsEntryOf r e → take 12 r.value ≡ filled 12 e.name
-entry_name r e f =
-    ap (λ (s : Record). take 12 s.value) (f.written 0)
-    ∙ first_twelve (filled 12 e.name) (kind_number e.kind ∷ threshold_of e.kind ∷ 0 ∷ 0 ∷ []) (name_long e.name f.named)
+  pub entry_byte : slice_index r.value 13 ≡ kind_number (number_of_kind e.kind) (number_beside e.kind)
+  unfolding behind
+  entry_byte = ap (λ (s : Record). slice_index s.value 13) (f.written 0 0) ∙ place_behind (filled 12 e.name) behind 1 (name_long e.name f.named)
 
-pub entry_again : (r made : Record) (e : Entry) (number : ℕ) (name : List ℕ) (kind : Kind) → IsEntryOf r e → number ≡ e.number → name ≡ e.name → kind ≡ e.kind
-    → made ≡ record_of 0 name number (IsOfKind (kind_number kind) (threshold_of kind)) → made ≡ r
-entry_again r made e number name kind f same_number same_name same_kind g =
-    g ∙ ap (λ m. record_of 0 name m (IsOfKind (kind_number kind) (threshold_of kind))) same_number ∙ ap (λ l. record_of 0 l e.number (IsOfKind (kind_number kind) (threshold_of kind))) same_name
-    ∙ ap (λ k. record_of 0 e.name e.number (IsOfKind (kind_number k) (threshold_of k))) same_kind ∙ sym (f.written 0)
+  pub entry_name : take 12 r.value ≡ filled 12 e.name
+  unfolding behind
+  entry_name = ap (λ (s : Record). take 12 s.value) (f.written 0 0) ∙ first_twelve (filled 12 e.name) behind (name_long e.name f.named)
+
+  pub entry_again : (made : Record) (number : ℕ) (name : List ℕ) (kind : Kind) → number ≡ e.number → name ≡ e.name → kind ≡ e.kind
+      → made ≡ record_of 0 0 name number (kind_fact kind) → made ≡ r
+  entry_again made number name kind same_number same_name same_kind g =
+      g ∙ ap (λ m. record_of 0 0 name m (kind_fact kind)) same_number ∙ ap (λ l. record_of 0 0 l e.number (kind_fact kind)) same_name
+      ∙ ap (λ k. record_of 0 0 e.name e.number (kind_fact k)) same_kind ∙ sym (f.written 0 0)
+
+-- a name is known by its bytes with the zeros
+pub name_alone : (a b : List ℕ) → is_name a ≡ true → is_name b ≡ true → filled 12 a ≡ filled 12 b → a ≡ b
+name_alone a b ha hb e = sym (name_first a (filled 12 a) ha refl) ∙ name_first b (filled 12 a) hb e

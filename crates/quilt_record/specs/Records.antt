@@ -1,5 +1,5 @@
 -- Each fact of a map as a record: a key of 12 bytes and a value of 16.
-use Rattle.std.specs.Prelude.{◌≡◌, ℕ, ◌-◌, ◌≤◌, nat_eq, List, [], ◌∷◌, ◌++◌, length, map, flat_map, replicate, All, unwrap_or}
+use Rattle.std.specs.Prelude.{◌≡◌, ℕ, ◌+◌, ◌-◌, ◌/◌, ◌%◌, ◌≤◌, ◌==◌, ◌&&◌, if◌then◌else◌, nat_eq, List, [], ◌∷◌, ◌++◌, length, map, flat_map, replicate, All, unwrap_or}
 use Rattle.std.specs.List.{IsDistinct}
 use Rattle.std.specs.Ordering.{nat_cmp, ordering_then}
 use Rattle.std.specs.declared.cmp.Ordering.{Ordering}
@@ -8,7 +8,8 @@ use Rattle.std.specs.Int.{to_be_bytes, w16, w32}
 use Rattle.std.specs.FinMap as finmap
 use Rattle.quilt_types.specs.Sets as finset
 use Rattle.quilt_types.specs.declared.plane.Block.{Block}
-use Rattle.quilt_types.specs.Layers.{Map, IsMap}
+use Rattle.quilt_types.specs.declared.plane.Pixel.{Pixel}
+use Rattle.quilt_types.specs.Layers.{Layer, Points, Map, IsMap}
 use Rattle.quilt_types.specs.Facts.{Fact, IsOfKind, HasColour, HoldsPoint, HoldsNoPoint, IsSegment, IsMetBy, IsMetByNone, facts}
 use Rattle.quilt_record.specs.declared.key.Key.{Key}
 use Rattle.quilt_record.specs.declared.record.Record.{Record}
@@ -37,24 +38,39 @@ abbrev pub block_key : ℕ → ℕ → ℕ → Block → ℕ → Key
 block_key n layer part b item =
     record { layer = layer; part = part; code = code b.x b.y; depth = depth n b; item = item }
 
--- the record of a fact of the layer with this name and number
-abbrev pub record_of : ℕ → List ℕ → ℕ → Fact → Record
-record_of n name layer (IsOfKind kind threshold) = record {
+-- the number that stands beside a kind: a capacity of 1 is not written
+abbrev pub kind_number : ℕ → ℕ → ℕ
+kind_number kind number = if (kind == 2) && (number == 1) then 0 else number
+
+-- what tells the points of a block apart, where a block may hold more than one
+abbrev pub point_item : ℕ → Pixel → ℕ
+point_item capacity p = if capacity == 1 then 0 else code p.x p.y + 1
+
+-- the record of a fact of the layer with this name and number, whose blocks hold at most so many points
+abbrev pub record_of : ℕ → ℕ → List ℕ → ℕ → Fact → Record
+record_of n capacity name layer (IsOfKind kind number) = record {
   key = record { layer = 0; part = 0; code = 0; depth = 0; item = layer };
-  value = filled 12 name ++ kind ∷ threshold ∷ 0 ∷ 0 ∷ [];
+  value = filled 12 name ++ kind ∷ kind_number kind number ∷ 0 ∷ 0 ∷ [];
 }
-record_of n name layer (HasColour b colour) = record { key = block_key n layer 1 b 0; value = filled 16 (colour ∷ []) }
-record_of n name layer (HoldsNoPoint b) = record { key = block_key n layer 2 b 0; value = filled 16 [] }
-record_of n name layer (HoldsPoint b p label) = record {
-  key = block_key n layer 2 b 0;
+record_of n capacity name layer (HasColour b colour) = record {
+  key = block_key n layer 1 b 0;
+  value = filled 16 (colour % 256 ∷ colour / 256 ∷ []);
+}
+record_of n capacity name layer (HoldsNoPoint b) = record { key = block_key n layer 2 b 0; value = filled 16 [] }
+record_of n capacity name layer (HoldsPoint b p label) = record {
+  key = block_key n layer 2 b (point_item capacity p);
   value = filled 16 (1 ∷ to_be_bytes w16 p.x ++ to_be_bytes w16 p.y ++ to_be_bytes w32 label);
 }
-record_of n name layer (IsMetByNone b) = record { key = block_key n layer 3 b 0; value = filled 16 [] }
-record_of n name layer (IsMetBy b id) = record { key = block_key n layer 3 b id; value = filled 16 (1 ∷ []) }
-record_of n name layer (IsSegment id s) = record {
+record_of n capacity name layer (IsMetByNone b) = record { key = block_key n layer 3 b 0; value = filled 16 [] }
+record_of n capacity name layer (IsMetBy b id) = record { key = block_key n layer 3 b id; value = filled 16 (1 ∷ []) }
+record_of n capacity name layer (IsSegment id s) = record {
   key = record { layer = layer; part = 4; code = 0; depth = 0; item = id };
   value = filled 16 (to_be_bytes w16 s.x1 ++ to_be_bytes w16 s.y1 ++ to_be_bytes w16 s.x2 ++ to_be_bytes w16 s.y2);
 }
+
+abbrev pub capacity_of : Layer → ℕ
+capacity_of (Points capacity points) = capacity
+capacity_of layer = 0
 
 -- a number for each layer
 abbrev pub Numbering : Type 0
@@ -64,11 +80,11 @@ Numbering = finmap.FinMap (slice_cmp nat_cmp) ℕ
 unfoldable pub records_of : ℕ → Numbering → Map → List Record
 records_of n numbers layers =
     finset.items (finset.from_list {R = record_cmp} (flat_map
-    (λ e. map (record_of n e.0 (unwrap_or (finmap.get numbers e.0) 0)) (facts n e.1)) (finmap.entries layers)))
+    (λ e. map (record_of n (capacity_of e.1) e.0 (unwrap_or (finmap.get numbers e.0) 0)) (facts n e.1)) (finmap.entries layers)))
 
--- The records spell the map: they are its facts, written under some numbers of its layers.
-pub record Spells (n : ℕ) (records : List Record) (layers : Map) : Type 0 where
-  pub map : IsMap n layers
+-- The records spell the map of this format and level: they are its facts, written under some numbers of its layers.
+pub record Spells (f n : ℕ) (records : List Record) (layers : Map) : Type 0 where
+  pub map : IsMap f n layers
   pub numbers : Numbering
   pub numbered : finmap.keys numbers ≡ finmap.keys layers
   pub in_range : All (λ k. (1 ≤ k) × (k ≤ 255)) (finmap.values numbers)

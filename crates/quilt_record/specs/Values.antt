@@ -1,5 +1,5 @@
 -- What the value of a record says.
-use Rattle.std.specs.Prelude.{ℕ, ◌+◌, ◌==◌, List, Option, Some, None, if◌then◌else◌, slice_index, slice_range}
+use Rattle.std.specs.Prelude.{ℕ, ◌+◌, ◌*◌, ◌==◌, List, Option, Some, None, if◌then◌else◌, slice_index, slice_range}
 use Rattle.std.specs.Int.{from_be_bytes, w16, w32}
 use Rattle.quilt_types.specs.declared.plane.Point.{Point}
 use Rattle.quilt_types.specs.declared.plane.Seg.{Seg}
@@ -8,6 +8,10 @@ use Rattle.quilt_record.specs.declared.record.Record.{Record}
 -- the number in the two bytes at a place
 abbrev pub short_in : List ℕ → ℕ → ℕ
 short_in value at = from_be_bytes w16 (slice_range value at (at + 2))
+
+-- a colour: its low byte, and then its high byte
+abbrev pub colour_of : List ℕ → ℕ
+colour_of value = slice_index value 0 + 256 * slice_index value 1
 
 -- a point, where the first byte is not 0
 abbrev pub held_of : List ℕ → Option Point

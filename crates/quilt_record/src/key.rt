@@ -1,4 +1,7 @@
 ghost use Rattle.std.specs.Prelude.{◌≡◌};
+ghost use Rattle.std.specs.Ordering.{nat_cmp};
+ghost use Rattle.std.specs.Cmp.Lexicographic.{slice_cmp};
+ghost use Rattle.quilt_record.specs.declared.key.Key.{Key as AnyKey};
 ghost use Rattle.quilt_record.specs.Records as records;
 ghost use Rattle.quilt_record.specs.Fits.{KeyFits};
 
@@ -21,6 +24,7 @@ pub struct Key {
 pub fn key_bytes(k: &Key) -> [u8; 12]
     ensures bytes { result ≡ records.key_bytes k.now }
     ensures fits { KeyFits k.now }
+    ensures order { (other : AnyKey) → KeyFits other → slice_cmp nat_cmp result (records.key_bytes other) ≡ records.key_cmp k.now other }
 {
     let Key {
         layer,

@@ -15,7 +15,7 @@ pub fn pair_record(layer: u8, b: Block, level: u8, id: Option<u32>) -> Record
     requires layer { 1 ≤ layer }
     requires level { (1 ≤ level) × (level ≤ 12) }
     requires block { IsBlock level b }
-    ensures { IsRecordOf level result layer (pair_fact b id) }
+    ensures { IsRecordOf level 0 result layer (pair_fact b id) }
 {
     match id {
         None => Record {
@@ -42,8 +42,8 @@ fn id_in(r: &Record) -> Option<u32>
 /// The block and the id of a segment whose record it is; none where it is none of a block of a line layer at the level.
 pub fn read_pair(r: &Record, level: u8) -> Option<(Block, Option<u32>)>
     requires { (1 ≤ level) × (level ≤ 12) }
-    ensures some { IfSome result (λ v. IsRecordOf level r.now r.now.key.layer (pair_fact v.0 v.1)) }
-    ensures one { (layer : ℕ) (b : AnyBlock) (id : Option ℕ) → IsRecordOf level r.now layer (pair_fact b id) → result ≡ Some (b, id) }
+    ensures some { IfSome result (λ v. IsRecordOf level 0 r.now r.now.key.layer (pair_fact v.0 v.1)) }
+    ensures one { (layer : ℕ) (b : AnyBlock) (id : Option ℕ) → IsRecordOf level 0 r.now layer (pair_fact b id) → result ≡ Some (b, id) }
 {
     let Some((layer, b)) = named(&r.key, level) else {
         return None;
@@ -58,7 +58,7 @@ pub fn read_pair(r: &Record, level: u8) -> Option<(Block, Option<u32>)>
 /// The record of a segment of a line layer.
 pub fn segment_record(layer: u8, id: u32, s: Seg) -> Record
     requires { 1 ≤ layer }
-    ensures { (n : ℕ) → IsRecordOf n result layer (IsSegment id s) }
+    ensures { (n : ℕ) → IsRecordOf n 0 result layer (IsSegment id s) }
 {
     let x1 = s.x1.to_be_bytes();
     let y1 = s.y1.to_be_bytes();
@@ -92,8 +92,8 @@ fn segment_in(value: &[u8; 16]) -> Seg
 
 /// The id and the segment whose record it is; none where it is none of a segment.
 pub fn read_segment(r: &Record) -> Option<(u32, Seg)>
-    ensures some { IfSome result (λ v. (n : ℕ) → IsRecordOf n r.now r.now.key.layer (IsSegment v.0 v.1)) }
-    ensures one { (n layer id : ℕ) (s : AnySeg) → IsRecordOf n r.now layer (IsSegment id s) → result ≡ Some (id, s) }
+    ensures some { IfSome result (λ v. (n : ℕ) → IsRecordOf n 0 r.now r.now.key.layer (IsSegment v.0 v.1)) }
+    ensures one { (n layer id : ℕ) (s : AnySeg) → IsRecordOf n 0 r.now layer (IsSegment id s) → result ≡ Some (id, s) }
 {
     let Some(layer) = layer_in(&r.key) else {
         return None;

@@ -1,11 +1,10 @@
-ghost use Rattle.std.specs.Prelude.{◌≡◌, ℕ, ◌≤◌, true, List, Some, IfSome, position, take, ◌==◌};
+ghost use Rattle.std.specs.Prelude.{◌≡◌, ℕ, ◌≤◌, true, List, Some, IfSome, position, take, ◌==◌, if◌then◌else◌};
 ghost use Rattle.std.specs.List.{position_or_len};
 ghost use Rattle.quilt_types.specs.declared.plane.Kind.{Kind as AnyKind};
 ghost use Rattle.quilt_types.specs.Layers.{is_name};
-ghost use Rattle.quilt_types.specs.Facts.{IsOfKind};
 ghost use Rattle.quilt_record.specs.declared.entry.Entry.{Entry as AnyEntry};
-ghost use Rattle.quilt_record.specs.Records.{filled, record_of};
-ghost use Rattle.quilt_record.specs.Listing.{kind_number, threshold_of, KindFits, IsEntryOf};
+ghost use Rattle.quilt_record.specs.Records.{filled, kind_number, record_of};
+ghost use Rattle.quilt_record.specs.Listing.{number_of_kind, number_beside, kind_fact, KindFits, IsEntryOf};
 
 use crate::block::is_same;
 use crate::{Entry, Key, Record};
@@ -23,21 +22,23 @@ fn name_bytes(name: &Name) -> [u8; 12]
 
 /// The number of the kind: 1 for a region, 2 for points, 3 for lines.
 fn number_of(kind: Kind) -> u8
-    ensures { result ≡ kind_number kind }
+    ensures { result ≡ number_of_kind kind }
 {
     match kind {
         Kind::Region => 1,
-        Kind::Points => 2,
+        Kind::Points { .. } => 2,
         Kind::Lines { .. } => 3,
     }
 }
 
-/// The threshold of lines, and else 0.
-fn threshold_in(kind: Kind) -> u8
-    ensures { result ≡ threshold_of kind }
+/// The byte that stands beside the number: the threshold of lines, the capacity of points where it is not 1, and else 0.
+fn byte_beside(kind: Kind) -> u8
+    ensures { result ≡ kind_number (number_of_kind kind) (number_beside kind) }
 {
     match kind {
-        Kind::Region | Kind::Points => 0,
+        Kind::Region => 0,
+        Kind::Points { bucket: 1 } => 0,
+        Kind::Points { bucket } => bucket,
         Kind::Lines { threshold } => threshold,
     }
 }
@@ -45,11 +46,11 @@ fn threshold_in(kind: Kind) -> u8
 /// The record of an entry of the catalog, whose number is over 0.
 pub fn catalog_record(e: &Entry) -> Record
     requires { 1 ≤ e.now.number }
-    ensures { (n : ℕ) → result ≡ record_of n e.now.name e.now.number (IsOfKind (kind_number e.now.kind) (threshold_of e.now.kind)) }
+    ensures { (n capacity : ℕ) → result ≡ record_of n capacity e.now.name e.now.number (kind_fact e.now.kind) }
 {
     let mut value = [0; 16];
     value[..12].copy_from_slice(&name_bytes(&e.name));
-    value[12..].copy_from_slice(&[number_of(e.kind), threshold_in(e.kind), 0, 0]);
+    value[12..].copy_from_slice(&[number_of(e.kind), byte_beside(e.kind), 0, 0]);
     Record {
         key: Key {
             layer: 0,
@@ -73,15 +74,30 @@ fn number_in(item: u32) -> Option<u8>
     }
 }
 
-/// The kind with this number and threshold.
-fn kind_in(number: u8, threshold: u8) -> Option<Kind>
-    ensures some { IfSome result (λ k. KindFits k) }
-    ensures one { (k : AnyKind) → KindFits k → kind_number k ≡ number → threshold_of k ≡ threshold → result ≡ Some k }
+/// The capacity that the byte of a point layer says in the format.
+fn bucket_in(byte: u8, format: u8) -> Option<u8>
+    ensures some { IfSome result (λ b. (1 ≤ b) × (b ≤ (if format == 1 then 1 else 16))) }
+    ensures one { (b : ℕ) → 1 ≤ b → b ≤ (if format == 1 then 1 else 16) → kind_number 2 b ≡ byte → result ≡ Some b }
+{
+    match byte {
+        0 => Some(1),
+        2..=16 if format != 1 => Some(byte),
+        _ => None,
+    }
+}
+
+/// The kind with this number, and this byte beside it, in the format.
+fn kind_in(number: u8, byte: u8, format: u8) -> Option<Kind>
+    ensures some { IfSome result (λ k. KindFits format k) }
+    ensures one { (k : AnyKind) → KindFits format k → number_of_kind k ≡ number → kind_number (number_of_kind k) (number_beside k) ≡ byte → result ≡ Some k }
 {
     match number {
-        1 if threshold == 0 => Some(Kind::Region),
-        2 if threshold == 0 => Some(Kind::Points),
-        3 if 1 <= threshold && threshold <= 32 => Some(Kind::Lines { threshold }),
+        1 if byte == 0 => Some(Kind::Region),
+        2 => {
+            let bucket = bucket_in(byte, format)?;
+            Some(Kind::Points { bucket })
+        }
+        3 if 1 <= byte && byte <= 32 => Some(Kind::Lines { threshold: byte }),
         _ => None,
     }
 }
@@ -114,15 +130,15 @@ fn name_in(bytes: &[u8]) -> Option<Name>
     }
 }
 
-/// The entry whose record it is; none where it is none of the catalog.
-pub fn read_catalog(r: &Record) -> Option<Entry>
-    ensures some { IfSome result (λ e. IsEntryOf r.now e) }
-    ensures one { (e : AnyEntry) → IsEntryOf r.now e → result ≡ Some e }
+/// The entry whose record it is; none where it is none of the catalog in the format.
+pub fn read_catalog(r: &Record, format: u8) -> Option<Entry>
+    ensures some { IfSome result (λ e. IsEntryOf format r.now e) }
+    ensures one { (e : AnyEntry) → IsEntryOf format r.now e → result ≡ Some e }
 {
     let Some(number) = number_in(r.key.item) else {
         return None;
     };
-    let Some(kind) = kind_in(r.value[12], r.value[13]) else {
+    let Some(kind) = kind_in(r.value[12], r.value[13], format) else {
         return None;
     };
     let Some(name) = name_in(&r.value[..12]) else {

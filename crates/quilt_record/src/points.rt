@@ -1,25 +1,42 @@
-ghost use Rattle.std.specs.Prelude.{◌≡◌, ℕ, ◌≤◌, Option, Some, IfSome};
+ghost use Rattle.std.specs.Prelude.{◌≡◌, ℕ, ◌≤◌, true, Option, Some, IfSome};
 ghost use Rattle.quilt_types.specs.declared.plane.Block.{Block as AnyBlock};
 ghost use Rattle.quilt_types.specs.declared.plane.Point.{Point as AnyPoint};
-ghost use Rattle.quilt_types.specs.Plane.{IsBlock};
+ghost use Rattle.quilt_types.specs.Plane.{IsBlock, is_pixel};
+ghost use Rattle.quilt_record.specs.Records.{point_item};
 ghost use Rattle.quilt_record.specs.Canonical.{IsRecordOf, point_fact};
 ghost use Rattle.quilt_record.specs.Values.{held_of};
 
 use crate::Record;
 use crate::block::{block_key, is_same, named};
+use crate::interleaving::code_of;
 use quilt_types::{Block, Pixel, Point};
 
-/// The record of a block of a point layer, with the point that it holds.
-pub fn point_record(layer: u8, b: Block, level: u8, held: Option<Point>) -> Record
+/// What the key of a held point says of it: nothing where a block holds one point at most, and else one more than the
+/// code of its pixel.
+fn item_of(bucket: u8, p: Pixel, level: u8) -> u32
+    requires level { level ≤ 12 }
+    requires pixel { is_pixel level p ≡ true }
+    ensures { result ≡ point_item bucket p }
+{
+    if bucket == 1 {
+        return 0;
+    }
+    code_of(p) + 1
+}
+
+/// The record of a block of a point layer whose blocks hold at most `bucket` points, with a point that it holds, which is
+/// a pixel of the level's square, or with none.
+pub fn point_record(layer: u8, b: Block, level: u8, bucket: u8, held: Option<Point>) -> Record
     requires layer { 1 ≤ layer }
     requires level { (1 ≤ level) × (level ≤ 12) }
     requires block { IsBlock level b }
-    ensures { IsRecordOf level result layer (point_fact b held) }
+    requires bucket { (1 ≤ bucket) × (bucket ≤ 16) }
+    requires held { IfSome held (λ p. is_pixel level p.at ≡ true) }
+    ensures { IsRecordOf level bucket result layer (point_fact b held) }
 {
-    let key = block_key(layer, 2, b, level, 0);
     match held {
         None => Record {
-            key,
+            key: block_key(layer, 2, b, level, 0),
             value: [0; 16],
         },
         Some(p) => {
@@ -29,7 +46,10 @@ pub fn point_record(layer: u8, b: Block, level: u8, held: Option<Point>) -> Reco
             let value = [
                 1, x[0], x[1], y[0], y[1], l[0], l[1], l[2], l[3], 0, 0, 0, 0, 0, 0, 0,
             ];
-            Record { key, value }
+            Record {
+                key: block_key(layer, 2, b, level, item_of(bucket, p.at, level)),
+                value,
+            }
         }
     }
 }
@@ -50,17 +70,35 @@ fn held_in(value: &[u8; 16]) -> Option<Point>
     })
 }
 
-/// The block and its point whose record it is; none where it is none of a point layer at the level.
-pub fn read_point(r: &Record, level: u8) -> Option<(Block, Option<Point>)>
-    requires { (1 ≤ level) × (level ≤ 12) }
-    ensures some { IfSome result (λ v. IsRecordOf level r.now r.now.key.layer (point_fact v.0 v.1)) }
-    ensures one { (layer : ℕ) (b : AnyBlock) (held : Option AnyPoint) → IsRecordOf level r.now layer (point_fact b held) → result ≡ Some (b, held) }
+/// Whether the point, if there is one, is a pixel of the level's square.
+fn is_held(held: Option<Point>, level: u8) -> bool
+    requires { level ≤ 12 }
+    ensures yes { result ≡ true → IfSome held (λ p. is_pixel level p.at ≡ true) }
+    ensures no { IfSome held (λ p. is_pixel level p.at ≡ true) → result ≡ true }
+{
+    let size = 1 << level;
+    match held {
+        None => true,
+        Some(p) => p.at.x < size && p.at.y < size,
+    }
+}
+
+/// The block and its point whose record it is; none where it is none of a point layer at the level whose blocks hold at
+/// most `bucket` points.
+pub fn read_point(r: &Record, level: u8, bucket: u8) -> Option<(Block, Option<Point>)>
+    requires level { (1 ≤ level) × (level ≤ 12) }
+    requires bucket { (1 ≤ bucket) × (bucket ≤ 16) }
+    ensures some { IfSome result (λ v. IsRecordOf level bucket r.now r.now.key.layer (point_fact v.0 v.1)) }
+    ensures one { (layer : ℕ) (b : AnyBlock) (held : Option AnyPoint) → IsRecordOf level bucket r.now layer (point_fact b held) → result ≡ Some (b, held) }
 {
     let Some((layer, b)) = named(&r.key, level) else {
         return None;
     };
     let held = held_in(&r.value);
-    if !is_same(&point_record(layer, b, level, held), r) {
+    if !is_held(held, level) {
+        return None;
+    }
+    if !is_same(&point_record(layer, b, level, bucket, held), r) {
         return None;
     }
     Some((b, held))

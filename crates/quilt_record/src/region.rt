@@ -1,40 +1,53 @@
-ghost use Rattle.std.specs.Prelude.{◌≡◌, ℕ, ◌≤◌, List, Some, IfSome};
+ghost use Rattle.std.specs.Prelude.{◌≡◌, ℕ, ◌<◌, ◌≤◌, Some, IfSome};
 ghost use Rattle.quilt_types.specs.declared.plane.Block.{Block as AnyBlock};
 ghost use Rattle.quilt_types.specs.declared.plane.Colour.{Colour as AnyColour};
 ghost use Rattle.quilt_types.specs.Plane.{IsBlock};
+ghost use Rattle.quilt_types.specs.Layers.{colours};
 ghost use Rattle.quilt_types.specs.Facts.{HasColour};
-ghost use Rattle.quilt_record.specs.Records.{record_of};
 ghost use Rattle.quilt_record.specs.Canonical.{IsRecordOf};
+ghost use Rattle.quilt_record.specs.Values.{colour_of};
 
 use crate::Record;
 use crate::block::{block_key, is_same, named};
 use quilt_types::{Block, Colour};
 
-/// The record of a block of one colour of a region layer.
+/// The record of a block of one colour of a region layer, with the colour's low byte first.
 pub fn region_record(layer: u8, b: Block, level: u8, c: Colour) -> Record
     requires layer { 1 ≤ layer }
     requires level { (1 ≤ level) × (level ≤ 12) }
     requires block { IsBlock level b }
-    ensures { IsRecordOf level result layer (HasColour b c.0) }
+    ensures { IsRecordOf level 0 result layer (HasColour b c.0) }
 {
-    let mut value = [0; 16];
-    value[0] = c.0;
+    let [low, high] = c.0.to_le_bytes();
+    let value = [low, high, 0, 0, 0, 0, 0, 0, 0, 0, 0, 0, 0, 0, 0, 0];
     Record {
         key: block_key(layer, 1, b, level, 0),
         value,
     }
 }
 
-/// The block and its colour whose record it is; none where it is none of a region layer at the level.
-pub fn read_region(r: &Record, level: u8) -> Option<(Block, Colour)>
+/// The colour that the value of a record says.
+fn colour_in(value: &[u8; 16]) -> Colour
+    ensures { result.0 ≡ colour_of value.now }
+{
+    Colour(u16::from_le_bytes([value[0], value[1]]))
+}
+
+/// The block and its colour whose record it is; none where it is none of a region layer at the level, or has a colour
+/// over 255 in format 1.
+pub fn read_region(r: &Record, level: u8, format: u8) -> Option<(Block, Colour)>
     requires { (1 ≤ level) × (level ≤ 12) }
-    ensures some { IfSome result (λ v. IsRecordOf level r.now r.now.key.layer (HasColour v.0 v.1.0)) }
-    ensures one { (layer : ℕ) (b : AnyBlock) (c : AnyColour) → IsRecordOf level r.now layer (HasColour b c.0) → result ≡ Some (b, c) }
+    ensures some { IfSome result (λ v. IsRecordOf level 0 r.now r.now.key.layer (HasColour v.0 v.1.0)) }
+    ensures colour { IfSome result (λ v. v.1.0 < colours format) }
+    ensures one { (layer : ℕ) (b : AnyBlock) (c : AnyColour) → (format ≡ 1 → c.0 < 256) → IsRecordOf level 0 r.now layer (HasColour b c.0) → result ≡ Some (b, c) }
 {
     let Some((layer, b)) = named(&r.key, level) else {
         return None;
     };
-    let c = Colour(r.value[0]);
+    let c = colour_in(&r.value);
+    if format == 1 && 255 < c.0 {
+        return None;
+    }
     if !is_same(&region_record(layer, b, level, c), r) {
         return None;
     }

@@ -29,7 +29,7 @@ use Rattle.quilt_btree.specs.declared.tree.Tree.{Tree}
 use Rattle.quilt_btree.specs.Lists.{is_at_most, floor_of}
 use Rattle.quilt_btree.specs.Trees.{IsTree}
 use Rattle.quilt_btree.proofs.Lists.{filter_cond, floor_between}
-use Rattle.quilt_btree.proofs.Orders.{lt_le, not_le}
+use Rattle.quilt_record.proofs.Orders.{lt_le, not_le}
 use Rattle.std.specs.Cmp.{tied_itself}
 use Rattle.quilt_region.specs.Regions.{leaf_record, pixel_key, SpellsRegion, HasRegion}
 use Rattle.quilt_region.proofs.Keys.{Less≢Equal, by_key, by_key_total, le_layer, le_code, less_code, less_depth}

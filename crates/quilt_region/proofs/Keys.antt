@@ -7,7 +7,7 @@ use Rattle.quilt_loc.proofs.Rising.{nat_less}
 use Rattle.quilt_record.specs.declared.key.Key.{Key}
 use Rattle.quilt_record.specs.declared.record.Record.{Record}
 use Rattle.quilt_record.specs.Records.{key_cmp}
-use Rattle.quilt_btree.proofs.Orders.{key_total}
+use Rattle.quilt_record.proofs.Orders.{key_total}
 
 -- records by their keys
 abbrev pub by_key : Record → Record → Ordering

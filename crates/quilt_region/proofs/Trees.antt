@@ -9,7 +9,7 @@ use Rattle.quilt_record.specs.Records.{key_cmp}
 use Rattle.quilt_node.specs.Pages.{is_ascending}
 use Rattle.quilt_btree.specs.declared.tree.Tree.{Tree}
 use Rattle.quilt_btree.specs.Trees.{IsTree}
-use Rattle.quilt_btree.proofs.Orders.{is_Less}
+use Rattle.quilt_record.proofs.Orders.{is_Less}
 use Rattle.quilt_btree.proofs.Trees.{subtree_rises, ascending_first, ascending_rest}
 use Rattle.quilt_btree.proofs.Whole.{tree_spells, no_records}
 use Rattle.quilt_region.proofs.Keys.{by_key}

@@ -18,8 +18,10 @@ code_number no.Full = 11
 code_number no.Layers = 12
 code_number no.Long = 13
 code_number no.Rows = 14
+code_number no.Format = 15
 code_number no.Editions = 16
 code_number no.Bytes = 17
+code_number no.Many = 18
 
 abbrev pub code_word : Code → List ℕ
 code_word no.Word = codes "word"
@@ -36,5 +38,7 @@ code_word no.Full = codes "full"
 code_word no.Layers = codes "layers"
 code_word no.Long = codes "long"
 code_word no.Rows = codes "rows"
+code_word no.Format = codes "format"
 code_word no.Editions = codes "editions"
 code_word no.Bytes = codes "bytes"
+code_word no.Many = codes "many"

@@ -13,7 +13,7 @@ use Rattle.quilt_types.specs.Segments.{square, meets}
 use Rattle.quilt_types.specs.Quadtrees.{leaves, point_blocks}
 
 pub data Fact : Type 0 where
-  IsOfKind : (kind threshold : ℕ) → Fact
+  IsOfKind : (kind number : ℕ) → Fact
   HasColour : (b : Block) (colour : ℕ) → Fact
   HoldsPoint : (b : Block) (p : Pixel) (label : ℕ) → Fact
   HoldsNoPoint : (b : Block) → Fact
@@ -36,7 +36,7 @@ line_facts segs b =
 
 abbrev pub facts : ℕ → Layer → List Fact
 facts n (Region grid) = IsOfKind 1 0 ∷ map (λ leaf. HasColour leaf.0 leaf.1) (leaves n grid)
-facts n (Points points) = IsOfKind 2 0 ∷ flat_map (point_facts points) (point_blocks n points)
+facts n (Points capacity points) = IsOfKind 2 capacity ∷ flat_map (point_facts points) (point_blocks n capacity points)
 facts n (Lines threshold segs cover) =
     IsOfKind 3 threshold
     ∷ map (λ e. IsSegment e.0 e.1) (finmap.entries segs) ++ flat_map (line_facts segs) (finset.items cover)

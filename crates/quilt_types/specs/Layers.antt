@@ -1,5 +1,5 @@
 -- What a layer is, a map of named layers, and an edition.
-use Rattle.std.specs.Prelude.{◌≡◌, ℕ, ◌+◌, ◌*◌, ◌^◌, ◌<◌, ◌≤◌, Bool, true, false, ◌&&◌, ◌||◌, nat_le, ◌==◌, List, [], ◌∷◌, length, All, Contains, count_by, slice_index}
+use Rattle.std.specs.Prelude.{◌≡◌, ℕ, ◌+◌, ◌*◌, ◌^◌, ◌<◌, ◌≤◌, Bool, true, false, ◌&&◌, ◌||◌, nat_le, ◌==◌, List, [], ◌∷◌, length, All, Contains, count_by, slice_index, if◌then◌else◌}
 use Rattle.std.specs.Ordering.{nat_cmp}
 use Rattle.std.specs.List.{list_all}
 use Rattle.std.specs.Cmp.Lexicographic.{slice_cmp}
@@ -29,20 +29,26 @@ BlockSet = finset.FinSet block_cmp
 
 pub data Layer : Type 0 where
   Region : (grid : Grid) → Layer
-  Points : (points : PointMap) → Layer
+  Points : (capacity : ℕ) (points : PointMap) → Layer
   Lines : (threshold : ℕ) (segs : SegMap) (cover : BlockSet) → Layer
 
 -- exactly one block of the set holds each pixel
 abbrev pub is_cover : ℕ → BlockSet → Bool
 is_cover n cover = list_all (λ p. count_by (λ b. in_block b p) (finset.items cover) == 1) (pixels n)
 
--- a grid of the level: a colour of a byte for each pixel
-pub record IsGrid (n : ℕ) (grid : Grid) : Type 0 where
-  pub size : length grid ≡ side n * side n
-  pub bytes : All (λ c. c < 256) grid
+-- how many colours there are in a format, 1 or 2: a byte, or two
+abbrev pub colours : ℕ → ℕ
+colours f = if f == 1 then 256 else 65536
 
--- labels of 32 bits at pixels of the square
-pub record IsPointMap (n : ℕ) (points : PointMap) : Type 0 where
+-- a grid of the level: a colour of the format for each pixel
+pub record IsGrid (f n : ℕ) (grid : Grid) : Type 0 where
+  pub size : length grid ≡ side n * side n
+  pub colours : All (λ c. c < colours f) grid
+
+-- labels of 32 bits at pixels of the square; in format 1 a block holds one point at most
+pub record IsPointMap (f n capacity : ℕ) (points : PointMap) : Type 0 where
+  pub least : 1 ≤ capacity
+  pub most : capacity ≤ (if f == 1 then 1 else 16)
   pub inside : All (λ e. is_pixel n e.0 ≡ true) (finmap.entries points)
   pub labels : All (λ e. e.1 < 2 ^ 32) (finmap.entries points)
 
@@ -59,11 +65,11 @@ pub record IsLineMap (n threshold : ℕ) (segs : SegMap) (cover : BlockSet) : Ty
   pub each : All (Contains (blocks n)) (finset.items cover)
   pub once : is_cover n cover ≡ true
 
--- what the values of a layer at this level are
-abbrev pub IsLayer : ℕ → Layer → Type 0
-IsLayer n (Region grid) = IsGrid n grid
-IsLayer n (Points points) = IsPointMap n points
-IsLayer n (Lines threshold segs cover) = IsLineMap n threshold segs cover
+-- what the values of a layer in this format and at this level are
+abbrev pub IsLayer : ℕ → ℕ → Layer → Type 0
+IsLayer f n (Region grid) = IsGrid f n grid
+IsLayer f n (Points capacity points) = IsPointMap f n capacity points
+IsLayer f n (Lines threshold segs cover) = IsLineMap n threshold segs cover
 
 -- layers under their names, which are bytes
 abbrev pub Map : Type 0
@@ -80,13 +86,14 @@ abbrev pub is_name : List ℕ → Bool
 is_name [] = false
 is_name (c ∷ cs) = is_letter c && list_all is_name_byte cs && nat_le (length cs) 11
 
--- what a map is at this level: at most 255 layers, each under a name
-pub record IsMap (n : ℕ) (layers : Map) : Type 0 where
+-- what a map is in this format and at this level: at most 255 layers, each under a name
+pub record IsMap (f n : ℕ) (layers : Map) : Type 0 where
   pub few : finmap.len layers ≤ 255
   pub named : All (λ e. is_name e.0 ≡ true) (finmap.entries layers)
-  pub each : All (λ e. IsLayer n e.1) (finmap.entries layers)
+  pub each : All (λ e. IsLayer f n e.1) (finmap.entries layers)
 
 pub record Edition : Type 0 where
+  pub format : ℕ
   pub number : ℕ
   pub level : ℕ
   pub layers : Map

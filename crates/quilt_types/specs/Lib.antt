@@ -1,10 +1,14 @@
 pub mod Algebra
 pub mod CodeTable
 pub mod Codes
+pub mod Crossings
 pub mod Facts
 pub mod Fractions
 pub mod Layers
 pub mod Plane
+pub mod Polygons
 pub mod Quadtrees
+pub mod Ranking
+pub mod Rings
 pub mod Segments
 pub mod Sets

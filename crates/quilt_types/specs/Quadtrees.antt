@@ -37,16 +37,16 @@ coloured n g b = (b, colour_at n g (corner b))
 unfoldable pub leaves : ℕ → Grid → List (Block × ℕ)
 leaves n g = map (coloured n g) (maximal_blocks n (is_uniform n g))
 
--- Points: blocks with at most one.
+-- Points: blocks with at most so many.
 
 abbrev pub points_in : PointMap → Block → ℕ
 points_in points b = count_by (λ e. in_block b e.0) (finmap.entries points)
 
-abbrev pub holds_few : PointMap → Block → Bool
-holds_few points b = nat_le (points_in points b) 1
+abbrev pub holds_few : ℕ → PointMap → Block → Bool
+holds_few capacity points b = nat_le (points_in points b) capacity
 
-unfoldable pub point_blocks : ℕ → PointMap → List Block
-point_blocks n points = maximal_blocks n (holds_few points)
+unfoldable pub point_blocks : ℕ → ℕ → PointMap → List Block
+point_blocks n capacity points = maximal_blocks n (holds_few capacity points)
 
 -- Lines: a set of blocks that edits change.
 

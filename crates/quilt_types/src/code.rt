@@ -18,12 +18,14 @@ pub enum Code {
     Layers,
     Long,
     Rows,
+    Format,
     Editions,
     Bytes,
+    Many,
 }
 
 impl Code {
-    /// The refusal's number, from 1 to 17 without 15.
+    /// The refusal's number, from 1 to 18.
     pub fn number(&self) -> u8
         ensures { result ≡ code_number self.now }
     {
@@ -42,8 +44,10 @@ impl Code {
             Code::Layers => 12,
             Code::Long => 13,
             Code::Rows => 14,
+            Code::Format => 15,
             Code::Editions => 16,
             Code::Bytes => 17,
+            Code::Many => 18,
         }
     }
 
@@ -66,8 +70,10 @@ impl Code {
             Code::Layers => "layers",
             Code::Long => "long",
             Code::Rows => "rows",
+            Code::Format => "format",
             Code::Editions => "editions",
             Code::Bytes => "bytes",
+            Code::Many => "many",
         }
     }
 }

@@ -5,6 +5,7 @@ mod code;
 mod name;
 mod plane;
 mod points;
+mod rings;
 mod stop;
 #[cfg(test)]
 mod tests;
@@ -12,7 +13,8 @@ mod text;
 
 pub use code::Code;
 pub use name::Name;
-pub use plane::{Block, Colour, Kind, Pixel, Point, Seg, Window};
+pub use plane::{Block, Colour, Corner, Kind, Pixel, Point, Seg, Window};
 pub use points::PointList;
+pub use rings::RingList;
 pub use stop::Stop;
 pub use text::Text;

@@ -31,9 +31,16 @@ pub struct Block {
     pub side: u16,
 }
 
-/// A colour of a pixel. 0 is the background.
+/// A colour of a pixel, 0 to 255 in a map of format 1 and 0 to 65535 in one of format 2. 0 is the background.
 #[derive(Clone, Copy, Debug, Default, PartialEq, Eq, PartialOrd, Ord)]
-pub struct Colour(pub u8);
+pub struct Colour(pub u16);
+
+/// A corner of pixels: the upper left corner of the pixel (x, y). A square of side S has the corners from (0, 0) to (S, S).
+#[derive(Clone, Copy, Debug, PartialEq, Eq)]
+pub struct Corner {
+    pub x: u16,
+    pub y: u16,
+}
 
 /// A point of a point layer.
 #[derive(Clone, Copy, Debug, PartialEq, Eq)]
@@ -42,10 +49,11 @@ pub struct Point {
     pub label: u32,
 }
 
-/// What a layer is: a region, points, or lines with a splitting threshold from 1 to 32.
+/// What a layer is: a region, points in blocks that hold at most `bucket` of them, from 1 to 16, or lines with a splitting
+/// threshold from 1 to 32.
 #[derive(Clone, Copy, Debug, PartialEq, Eq)]
 pub enum Kind {
     Region,
-    Points,
+    Points { bucket: u8 },
     Lines { threshold: u8 },
 }

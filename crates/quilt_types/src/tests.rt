@@ -1,4 +1,4 @@
-use crate::{Code, Name, Pixel, Point, PointList, Stop, Text};
+use crate::{Code, Corner, Name, Pixel, Point, PointList, RingList, Stop, Text};
 use std::test::Fail;
 
 #[test]
@@ -40,5 +40,21 @@ fn lists_grow(rt: HostRuntime) -> Result<(), Fail> {
     };
     points.push(point)?;
     assert_eq!(rt; points.items().len(), 1);
+    Ok(())
+}
+
+#[test]
+fn rings_grow(rt: HostRuntime) -> Result<(), Fail> {
+    let mut rings = RingList::new(rt.alloc());
+    rings.begin_ring()?;
+    rings.push(Corner { x: 0, y: 0 })?;
+    rings.push(Corner { x: 8, y: 0 })?;
+    rings.begin_ring()?;
+    rings.push(Corner { x: 1, y: 65535 })?;
+    assert_eq!(rt; rings.len(), 2);
+    assert_eq!(rt; rings.corners(0).len(), 2);
+    assert_eq!(rt; rings.corners(1), [Corner { x: 1, y: 65535 }].as_slice());
+    assert_eq!(rt; Code::Format.number(), 15);
+    assert_eq!(rt; Code::Many.word(), "many");
     Ok(())
 }

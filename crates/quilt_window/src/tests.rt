@@ -20,7 +20,7 @@ fn scattered(alloc: Global, level: u8, seed: u32) -> Result<LeafList, AllocError
             state = state.wrapping_mul(1664525).wrapping_add(1013904223);
         }
         let Pixel { x, y } = pixel_of(code);
-        maker.push(Block { x, y, side: 1 }, Colour((state >> 30) as u8))?;
+        maker.push(Block { x, y, side: 1 }, Colour((state >> 30) as u16 * 256))?;
     }
     Ok(maker.finish())
 }
@@ -39,7 +39,7 @@ fn uniform(alloc: Global, level: u8, colour: Colour) -> Result<LeafList, AllocEr
 
 #[test]
 fn a_window_of_a_full_map(rt: HostRuntime) -> Result<(), Fail> {
-    let a = uniform(rt.alloc(), 2, Colour(5))?;
+    let a = uniform(rt.alloc(), 2, Colour(261))?;
     let w = Window {
         x: 1,
         y: 1,
@@ -47,7 +47,12 @@ fn a_window_of_a_full_map(rt: HostRuntime) -> Result<(), Fail> {
         h: 2,
     };
     let b = window(rt.alloc(), &a, w)?;
-    let shown = [[0, 0, 0, 0], [0, 5, 5, 0], [0, 5, 5, 0], [0, 0, 0, 0]];
+    let shown = [
+        [0, 0, 0, 0],
+        [0, 261, 261, 0],
+        [0, 261, 261, 0],
+        [0, 0, 0, 0],
+    ];
     for y in 0..4_u16 {
         for x in 0..4_u16 {
             let Colour(c) = b.colour_at(Pixel { x, y });
@@ -59,9 +64,9 @@ fn a_window_of_a_full_map(rt: HostRuntime) -> Result<(), Fail> {
 
 #[test]
 fn shifts_of_a_full_map(rt: HostRuntime) -> Result<(), Fail> {
-    let a = uniform(rt.alloc(), 3, Colour(4))?;
+    let a = uniform(rt.alloc(), 3, Colour(1024))?;
     let left = shift(rt.alloc(), &a, -1, 0)?;
-    assert_eq!(rt; left.colour_at(Pixel { x: 6, y: 0 }), Colour(4));
+    assert_eq!(rt; left.colour_at(Pixel { x: 6, y: 0 }), Colour(1024));
     assert_eq!(rt; left.colour_at(Pixel { x: 7, y: 0 }), Colour(0));
     let gone = shift(rt.alloc(), &a, 8, 0)?;
     assert_eq!(rt; gone.len(), 1);

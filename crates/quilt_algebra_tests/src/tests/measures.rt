@@ -1,5 +1,5 @@
 use crate::comparing::list_of;
-use crate::drawing::{Dice, drawn};
+use crate::drawing::{Dice, colour_of, drawn};
 use crate::plain_measures::{plain_area, plain_histogram, plain_perimeter};
 use quilt_measure::{area, histogram, perimeter};
 use quilt_types::Colour;
@@ -14,7 +14,8 @@ fn areas_and_perimeters_of_drawn_maps(rt: HostRuntime) -> Result<(), Fail> {
         let side = 1_u32 << level;
         let colours = drawn(rt.alloc(), &mut dice, side)?;
         let a = list_of(&rt, rt.alloc(), level, &colours)?;
-        for c in 0..5_u8 {
+        for number in 0..5 {
+            let c = colour_of(number);
             assert_eq!(rt; area(&a, Colour(c)), plain_area(&colours, c));
             assert_eq!(rt;
                 perimeter(&a, Colour(c)),

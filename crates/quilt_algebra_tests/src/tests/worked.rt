@@ -15,39 +15,39 @@ const SMALL: Window = Window {
 
 #[test]
 fn two_small_maps(rt: HostRuntime) -> Result<(), Fail> {
-    let a = leaves_of(rt.alloc(), &[1, 2, 0, 0], 1)?;
-    let b = leaves_of(rt.alloc(), &[3, 0, 3, 4], 1)?;
+    let a = leaves_of(rt.alloc(), &[0, 1, 1, 2, 0, 0, 0, 0], 1)?;
+    let b = leaves_of(rt.alloc(), &[1, 0, 0, 0, 0, 3, 255, 4], 1)?;
     let union = overlay(rt.alloc(), Op::Union, &a, &b)?;
     let inter = overlay(rt.alloc(), Op::Inter, &a, &b)?;
     let diff = overlay(rt.alloc(), Op::Diff, &a, &b)?;
     let pairs = [
-        (Colour(1), Colour(9)),
-        (Colour(9), Colour(1)),
+        (Colour(1), Colour(265)),
+        (Colour(265), Colour(1)),
         (Colour(1), Colour(5)),
     ];
     let other = recolour(rt.alloc(), &a, &pairs)?;
     assert_eq!(rt;
-        render(rt.alloc(), &union, SMALL)?.bytes(),
-        b"0102\n0304\n".as_slice()
+        render(rt.alloc(), &union, SMALL, 2)?.bytes(),
+        b"00010102\n0003ff04\n".as_slice()
     );
     assert_eq!(rt;
-        render(rt.alloc(), &inter, SMALL)?.bytes(),
-        b"0100\n0000\n".as_slice()
+        render(rt.alloc(), &inter, SMALL, 2)?.bytes(),
+        b"00010000\n00000000\n".as_slice()
     );
     assert_eq!(rt;
-        render(rt.alloc(), &diff, SMALL)?.bytes(),
-        b"0002\n0000\n".as_slice()
+        render(rt.alloc(), &diff, SMALL, 2)?.bytes(),
+        b"00000102\n00000000\n".as_slice()
     );
     assert_eq!(rt;
-        render(rt.alloc(), &other, SMALL)?.bytes(),
-        b"0902\n0000\n".as_slice()
+        render(rt.alloc(), &other, SMALL, 2)?.bytes(),
+        b"01090102\n00000000\n".as_slice()
     );
     Ok(())
 }
 
 #[test]
 fn a_window_and_shifts(rt: HostRuntime) -> Result<(), Fail> {
-    let five = leaves_of(rt.alloc(), &[5; 16], 2)?;
+    let five = leaves_of(rt.alloc(), &[5; 32], 2)?;
     let middle = Window {
         x: 1,
         y: 1,
@@ -62,10 +62,10 @@ fn a_window_and_shifts(rt: HostRuntime) -> Result<(), Fail> {
     };
     let cut = window(rt.alloc(), &five, middle)?;
     assert_eq!(rt;
-        render(rt.alloc(), &cut, all)?.bytes(),
+        render(rt.alloc(), &cut, all, 1)?.bytes(),
         b"00000000\n00050500\n00050500\n00000000\n".as_slice()
     );
-    let four = leaves_of(rt.alloc(), &[4; 64], 3)?;
+    let four = leaves_of(rt.alloc(), &[4; 128], 3)?;
     let edge = Window {
         x: 6,
         y: 0,
@@ -74,7 +74,7 @@ fn a_window_and_shifts(rt: HostRuntime) -> Result<(), Fail> {
     };
     let left = shift(rt.alloc(), &four, -1, 0)?;
     assert_eq!(rt;
-        render(rt.alloc(), &left, edge)?.bytes(),
+        render(rt.alloc(), &left, edge, 1)?.bytes(),
         b"0400\n".as_slice()
     );
     let gone = shift(rt.alloc(), &four, 8, 0)?;
@@ -84,16 +84,16 @@ fn a_window_and_shifts(rt: HostRuntime) -> Result<(), Fail> {
 
 #[test]
 fn around_one_pixel(rt: HostRuntime) -> Result<(), Fail> {
-    let mut colours = [0; 64];
+    let mut colours = [0; 128];
     let none = leaves_of(rt.alloc(), &colours, 3)?;
-    colours[0] = 9;
+    colours[0] = 9; // the high byte of the first pixel: colour 2304
     let one = leaves_of(rt.alloc(), &colours, 3)?;
-    let full = leaves_of(rt.alloc(), &[9; 64], 3)?;
+    let full = leaves_of(rt.alloc(), &[9; 128], 3)?;
     assert_eq!(rt; area(&buffer(rt.alloc(), &one, 1)?, Colour(1)), 4);
     assert_eq!(rt; area(&buffer(rt.alloc(), &one, 8)?, Colour(1)), 64);
     assert_eq!(rt; area(&buffer(rt.alloc(), &none, 3)?, Colour(1)), 0);
-    assert_eq!(rt; perimeter(&one, Colour(9)), 4);
-    assert_eq!(rt; perimeter(&full, Colour(9)), 32);
+    assert_eq!(rt; perimeter(&one, Colour(2304)), 4);
+    assert_eq!(rt; perimeter(&full, Colour(2313)), 32);
     assert_eq!(rt; perimeter(&full, Colour(1)), 0);
     Ok(())
 }

@@ -133,6 +133,7 @@ impl World for Desk {
         ensures door { ⟦<Desk as Disk>⟧.door self.new ≡ made result }
         ensures size { ⟦<Desk as Disk>⟧.door self.new ≡ doors.Made → ⟦<Desk as Disk>⟧.size self.new ≡ pages }
         ensures tale { Goes (MakesAt path.now pages (⟦<Desk as Disk>⟧.door self.new)) (⟦<Desk as Disk>⟧.told self.old) (⟦<Desk as Disk>⟧.told self.new) }
+        ensures file { ⟦<Desk as Disk>⟧.door self.new ≡ doors.Taken → file_of self.new ≡ file_of self.old }
         ensures call { CountsCall self.old self.new }
         ensures named { FailsNext self.old → IsErr result }
     {

@@ -33,7 +33,7 @@ returns-clause-making c =
     record {
       least = c.requires.least;
       most = c.requires.most;
-      bytes = g.bytes;
+      colours = g.colours;
       follows = g.follows;
       unmerged = IsUnmerged-end n c.requires.most (pairs_of items) g
           (λ w q. c.in_default.ensures.none refl w (subst (λ (l : List Leaf). EndsInQuarters n (pairs_of l) w) (sym c.deref.ensures.value) q));

@@ -1,7 +1,9 @@
-use Rattle.std.proofs.Common.{◌≤◌, ◌<◌, ◌+◌, ◌-◌, subst, ◌∙◌}
+use Rattle.std.proofs.Common.{true, false, ◌≤◌, ◌<◌, ◌+◌, ◌-◌, subst, ◌∙◌}
 use Rattle.quilt_store.specs.Store.{count_free}
+use Rattle.quilt_btree.specs.Trees.{Spells}
 use Rattle.quilt_btree.proofs.UnderGrowth.{sound_leaf, sound_under, under_there, under_done, took_child, sound_child}
 use Rattle.quilt_btree.proofs.Below.{edit_spells}
+use Rattle.quilt_btree.proofs.Finding.{there_in_leaf, finds_below, new_finds}
 use Rattle.quilt_btree.proofs.inserting.+insert_under.Goals as goal
 
 pub returns-then-height-eq1-clause-sound : goal.returns-then-height-eq1-clause-sound
@@ -85,3 +87,26 @@ returns-in-Ok-Split-clause-sound g t c =
       place = c.place-i.ensures.place;
       is_child = c.child.ensures.child;
     }) (g.met.S.PageStore.as_many c.args.store.now) range (c.in-Ok-Split.ensures.size ∙ c.in-Ok.ensures.size) few (rw c.in-Ok-Split.field-0-is at c.in-Ok-Split.ensures.inserted) c.put_child.ensures.sound
+
+pub returns-then-height-eq1-clause-finds : goal.returns-then-height-eq1-clause-finds
+returns-then-height-eq1-clause-finds g t c =
+    there_in_leaf c.insert_leaf.result (g.S.PageStore.told c.args.store.now) c.args.page c.args.height c.args.r.now.key c.if-height-eq1.true c.insert_leaf.ensures.finds
+
+pub returns-in-Ok-There-clause-finds : goal.returns-in-Ok-There-clause-finds
+returns-in-Ok-There-clause-finds g t c =
+    finds_below (g.S.PageStore.told c.args.store.now) (g.S.PageStore.told c.read_inner.new.store) c.args.page c.args.height c.child.result c.place-i.result c.args.r.now.key c.in-Ok.inner true
+    (record { same = c.in-Ok.ensures.told; some = c.requires.height; above = c.if-height-eq1.false; reads = c.in-Ok.ensures.inner; place = c.place-i.ensures.place; is_child = c.child.ensures.child })
+    (rw c.in-Ok-There.field-0-is at c.in-Ok-There.ensures.finds)
+
+pub returns-in-Ok-Done-clause-finds : goal.returns-in-Ok-Done-clause-finds
+returns-in-Ok-Done-clause-finds g t c =
+    finds_below (g.S.PageStore.told c.args.store.now) (g.S.PageStore.told c.read_inner.new.store) c.args.page c.args.height c.child.result c.place-i.result c.args.r.now.key c.in-Ok.inner false
+    (record { same = c.in-Ok.ensures.told; some = c.requires.height; above = c.if-height-eq1.false; reads = c.in-Ok.ensures.inner; place = c.place-i.ensures.place; is_child = c.child.ensures.child })
+    (rw c.in-Ok-Done.field-0-is at c.in-Ok-Done.ensures.finds)
+
+pub returns-in-Ok-Split-clause-finds : goal.returns-in-Ok-Split-clause-finds
+returns-in-Ok-Split-clause-finds g t c =
+    new_finds c.put_child.result (Spells (g.S.PageStore.told c.args.store.now) c.args.page c.args.height) c.args.r.now.key c.put_child.ensures.new
+    (finds_below (g.S.PageStore.told c.args.store.now) (g.S.PageStore.told c.read_inner.new.store) c.args.page c.args.height c.child.result c.place-i.result c.args.r.now.key c.in-Ok.inner false
+    (record { same = c.in-Ok.ensures.told; some = c.requires.height; above = c.if-height-eq1.false; reads = c.in-Ok.ensures.inner; place = c.place-i.ensures.place; is_child = c.child.ensures.child })
+    (rw c.in-Ok-Split.field-0-is at c.in-Ok-Split.ensures.finds))

@@ -1,6 +1,7 @@
 use Rattle.std.proofs.lemmas.Result.{err_from_is_err_and}
 use Rattle.quilt_btree.proofs.Descending.{leaf_leads, leads_up, sound_up}
 use Rattle.quilt_btree.proofs.Dividing.{leaf_cut, cut_result}
+use Rattle.quilt_btree.proofs.Spans.{above_up}
 use Rattle.quilt_btree.proofs.reading.+leaf_at.Goals as goal
 
 pub returns-then-height-eq1-clause-leads : goal.returns-then-height-eq1-clause-leads
@@ -30,3 +31,7 @@ pub returns-in_err-leaf-clause-sound : goal.returns-in_err-leaf-clause-sound
 returns-in_err-leaf-clause-sound g t c =
     let p = err_from_is_err_and c.from_residual.result c.from_residual.ensures.1 in
     rw (p.1, p.2) (λ rs s. c.in_err-leaf.ensures.sound c.args.height rs c.if-height-eq1.true s)
+
+pub returns-clause-above : goal.returns-clause-above
+returns-clause-above g t c =
+    above_up c.leaf_at.result c.in_ok-inner.inner c.place-i.result c.args.k.now c.args.high c.key_behind.result c.place-i.ensures.place c.key_behind.ensures c.leaf_at.ensures.above

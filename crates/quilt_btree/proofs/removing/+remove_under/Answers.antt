@@ -1,4 +1,6 @@
+use Rattle.std.proofs.Common.{true, false}
 use Rattle.std.proofs.lemmas.Result.{err_from_is_err_and}
+use Rattle.quilt_btree.proofs.Finding.{finds_below, found_in_leaf, found_finds}
 use Rattle.quilt_btree.proofs.LeafRemovals.{leaf_reads}
 use Rattle.quilt_btree.proofs.Removals.{sound_child, missing_child, done_child, mended_child, mended_sound, emptied_child, only_child, leaf_sound}
 use Rattle.quilt_btree.proofs.removing.+remove_under.Goals as goal
@@ -70,3 +72,26 @@ returns-in-Ok-Only-clause-sound g t c =
     c.args.page c.args.height c.child-child.result c.place-i.result c.in_ok-inner.inner
     (record { some = c.requires.height; above = c.if-height-eq1.false; reads = c.in_ok-inner.ensures.inner; place = c.place-i.ensures.place; is_mid = c.in_ok-inner.ensures.told; is_free = c.in_ok-inner.ensures.free; is_child = c.child-child.ensures.child })
     found.removed
+
+pub returns-then-height-eq1-clause-finds : goal.returns-then-height-eq1-clause-finds
+returns-then-height-eq1-clause-finds g t c =
+    found_in_leaf c.remove_in_leaf.result (g.S.PageStore.told c.args.store.now) c.args.page c.args.height c.args.k.now c.if-height-eq1.true c.remove_in_leaf.ensures.finds
+
+pub returns-in-Ok-Missing-clause-finds : goal.returns-in-Ok-Missing-clause-finds
+returns-in-Ok-Missing-clause-finds g t c =
+    finds_below (g.S.PageStore.told c.args.store.now) (g.S.PageStore.told c.read_inner.new.store) c.args.page c.args.height c.child-child.result c.place-i.result c.args.k.now c.in_ok-inner.inner false
+    (record { same = c.in_ok-inner.ensures.told; some = c.requires.height; above = c.if-height-eq1.false; reads = c.in_ok-inner.ensures.inner; place = c.place-i.ensures.place; is_child = c.child-child.ensures.child })
+    (rw c.in-Ok-Missing.field-0-is at c.in-Ok-Missing.ensures.finds)
+
+pub returns-in-Ok-Done-clause-finds : goal.returns-in-Ok-Done-clause-finds
+returns-in-Ok-Done-clause-finds g t c =
+    finds_below (g.S.PageStore.told c.args.store.now) (g.S.PageStore.told c.read_inner.new.store) c.args.page c.args.height c.child-child.result c.place-i.result c.args.k.now c.in_ok-inner.inner true
+    (record { same = c.in_ok-inner.ensures.told; some = c.requires.height; above = c.if-height-eq1.false; reads = c.in_ok-inner.ensures.inner; place = c.place-i.ensures.place; is_child = c.child-child.ensures.child })
+    (rw c.in-Ok-Done.field-0-is at c.in-Ok-Done.ensures.finds)
+
+pub returns-in-Ok-Short-clause-finds : goal.returns-in-Ok-Short-clause-finds
+returns-in-Ok-Short-clause-finds g t c =
+    found_finds c.mend_child.result (g.S.PageStore.told c.args.store.now) c.args.page c.args.height c.args.k.now c.mend_child.ensures.some
+    (finds_below (g.S.PageStore.told c.args.store.now) (g.S.PageStore.told c.read_inner.new.store) c.args.page c.args.height c.child-child.result c.place-i.result c.args.k.now c.in_ok-inner.inner true
+    (record { same = c.in_ok-inner.ensures.told; some = c.requires.height; above = c.if-height-eq1.false; reads = c.in_ok-inner.ensures.inner; place = c.place-i.ensures.place; is_child = c.child-child.ensures.child })
+    (rw c.in-Ok-Short.field-0-is at c.in-Ok-Short.ensures.finds))

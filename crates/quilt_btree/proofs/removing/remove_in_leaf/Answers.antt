@@ -1,5 +1,6 @@
 use Rattle.std.proofs.Common.{◌∙◌, sym, arith}
 use Rattle.std.proofs.lemmas.Result.{err_from_is_err_and}
+use Rattle.quilt_btree.proofs.Finding.{finds_here, finds_none}
 use Rattle.quilt_btree.proofs.LeafRemovals.{leaf_missing, leaf_emptied, leaf_short, leaf_done, leaf_reads}
 use Rattle.quilt_btree.proofs.removing.remove_in_leaf.Goals as goal
 
@@ -48,3 +49,19 @@ returns-else-left-lt72-clause-removed g c = λ height is_root b rs used one can.
       frees = c.in-Ok-write_page.ensures.free ∙ c.in_ok-leaf.ensures.free;
     })
     (let n = c.len-left.ensures.length in let h = c.if-left-lt72.false in omega arith) can
+
+pub returns-in-Err-clause-finds : goal.returns-in-Err-clause-finds
+returns-in-Err-clause-finds g c = λ height rs one s.
+    finds_none (g.S.PageStore.told c.args.store.now) c.args.page height c.in-Err.field-0 c.args.k.now c.in_ok-leaf.leaf c.in_ok-leaf.ensures.leaf c.in-Err.ensures.place one rs s
+
+pub returns-in-Ok-clause-finds : goal.returns-in-Ok-clause-finds
+returns-in-Ok-clause-finds g c = λ height rs one s.
+    finds_here (g.S.PageStore.told c.args.store.now) c.args.page height c.in-Ok.field-0 c.args.k.now c.in_ok-leaf.leaf c.in_ok-leaf.ensures.leaf c.in-Ok.ensures.place one rs s
+
+pub returns-then-left-lt72-clause-finds : goal.returns-then-left-lt72-clause-finds
+returns-then-left-lt72-clause-finds g c = λ height rs one s.
+    finds_here (g.S.PageStore.told c.args.store.now) c.args.page height c.in-Ok.field-0 c.args.k.now c.in_ok-leaf.leaf c.in_ok-leaf.ensures.leaf c.in-Ok.ensures.place one rs s
+
+pub returns-else-left-lt72-clause-finds : goal.returns-else-left-lt72-clause-finds
+returns-else-left-lt72-clause-finds g c = λ height rs one s.
+    finds_here (g.S.PageStore.told c.args.store.now) c.args.page height c.in-Ok.field-0 c.args.k.now c.in_ok-leaf.leaf c.in_ok-leaf.ensures.leaf c.in-Ok.ensures.place one rs s

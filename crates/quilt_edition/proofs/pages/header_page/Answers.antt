@@ -1,6 +1,18 @@
-use Rattle.quilt_node.specs.Pages.{header_bytes}
+use Rattle.std.proofs.Common.{lit<, lit≤, refl, arith}
 use Rattle.quilt_edition.proofs.pages.header_page.Goals as goal
 
-pub returns : goal.returns
-unfolding header_bytes
-returns c = c.page_of.ensures
+pub header_bytes-requires : goal.header_bytes-requires
+header_bytes-requires c = record {
+  pages = 16;
+  least = lit≤ tt;
+  most = lit≤ tt;
+  numbers = record {
+    format = (lit≤ tt, lit≤ tt);
+    edition = lit< tt;
+    level = c.requires;
+    height = lit≤ tt;
+    no_tree = λ none. (refl, refl);
+    tree = λ one. absurd (omega arith);
+    records = lit≤ tt;
+  };
+}

@@ -4,8 +4,9 @@ use Rattle.quilt_types.specs.declared.plane.Block.{Block}
 use Rattle.quilt_types.specs.Plane.{below, IsBlock}
 use Rattle.quilt_types.specs.Layers.{Grid}
 use Rattle.quilt_types.specs.Quadtrees.{is_uniform}
-use Rattle.quilt_loc.proofs.Blocks.{IsBlock-up}
+use Rattle.quilt_loc.proofs.Blocks.{IsBlock-up, side_most}
 use Rattle.quilt_loc.proofs.Nesting.{side_pos}
+use Rattle.quilt_loc.proofs.Quartered.{side_le}
 use Rattle.quilt_blocks.proofs.Leaves.{uniform_pixel}
 use Rattle.quilt_measure.specs.Edges.{place, differs, halves_of}
 use Rattle.quilt_measure.proofs.Sides.{first_half, second_half, along_halves, along_one, other_all, other_none}
@@ -54,6 +55,22 @@ other_along-requires-2 t c =
     let falls = c.decreases in
     let lt : c.halves.result.1.side < t = omega arith in
     (lt, (c.requires.most, subst (λ (r : Block × Block). IsBlock n r.1) (sym c.halves.ensures) q.block))
+
+-- both halves together have at most as many pixels along the side as the block
+pub overflow_add-result : goal.overflow_add-result
+overflow_add-result t c =
+    let n = c.args.a.now.level in
+    let b = c.args.b in
+    let wide = is_wide n c.args.a.now.grid b c.requires.valid (c.in_default.ensures.none.0 refl) in
+    let first = (first_half c.args.on n b c.requires.valid wide).half in
+    let second = (second_half c.args.on n b c.requires.valid wide).half in
+    let i = ap (λ (r : Block × Block). r.0.side) c.halves.ensures in
+    let j = ap (λ (r : Block × Block). r.1.side) c.halves.ensures in
+    let k = c.other_along.ensures.most in
+    let l = c.other_along-2.ensures.most in
+    let most = side_most n c.requires.most in
+    let inside = side_le n b c.requires.valid in
+    omega arith
 
 pub returns-clause-value : goal.returns-clause-value
 returns-clause-value t c =

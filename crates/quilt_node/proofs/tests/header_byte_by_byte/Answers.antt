@@ -7,6 +7,7 @@ header_bytes-page-requires g c = record {
   least = lit≤ tt;
   most = lit≤ tt;
   numbers = record {
+    format = (lit≤ tt, lit≤ tt);
     edition = lit< tt;
     level = (lit≤ tt, lit≤ tt);
     height = lit≤ tt;

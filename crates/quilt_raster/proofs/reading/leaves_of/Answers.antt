@@ -7,6 +7,8 @@ use Rattle.quilt_types.specs.Layers.{colour_at}
 use Rattle.std.proofs.lemmas.Nat.{mul-add-lt}
 use Rattle.quilt_blocks.specs.Painting.{Painted, grid_by_code}
 use Rattle.quilt_blocks.proofs.Painting.{Paints, Paints-push, Paints-all}
+use Rattle.quilt_raster.specs.Bytes.{colours_of_bytes}
+use Rattle.quilt_raster.proofs.Bytes.{length-colours_of_bytes}
 use Rattle.quilt_raster.proofs.Points.{in_square, pixel_block, IsBlock-pixel, only_pixel, grid_of-colour_at}
 use Rattle.quilt_raster.proofs.reading.leaves_of.Goals as goal
 
@@ -22,8 +24,8 @@ pixel_of-y-requires c =
 width : (n : ℕ) → n ≤ 12 → 1 * 2 ^ n % 18446744073709551616 ≡ side n
 width n le = let m = side_most n le in omega arith
 
-pub bounds-colours-from : goal.bounds-colours-from
-bounds-colours-from c =
+pub colour_in-colour-requires : goal.colour_in-colour-requires
+colour_in-colour-requires c =
     let n = c.args.level in
     let v = c.pixel_of-y.ensures in
     let all = c.requires.all in
@@ -48,7 +50,7 @@ push-requires-clause-valid c =
 pub loop-code-preserved : goal.loop-code-preserved
 loop-code-preserved c =
     let n = c.args.level in
-    let g = c.args.colours.now in
+    let g = colours_of_bytes c.args.colours.now in
     let p = c.pixel_of-y.result in
     let v = c.pixel_of-y.ensures in
     let all = c.requires.all in
@@ -66,7 +68,7 @@ loop-code-preserved c =
       long = omega arith;
       paints = subst (Paints n (colour_at n g)) (sym (ap (λ (m : Painted). m.colours) ok))
           (Paints-push n (colour_at n g) c.loop-code.maker.colours (pixel_block p) _ c.requires.most (IsBlock-pixel n p sq.0 sq.1) (omega arith)
-          (λ q h. ap (colour_at n g) (only_pixel p q h) ∙ ap (λ i. get_or g i 0) (sym place)) inv.paints);
+          (λ q h. ap (colour_at n g) (only_pixel p q h) ∙ ap (λ i. get_or g i 0) (sym place) ∙ sym c.colour_in-colour.ensures) inv.paints);
     }
 
 pub finish-requires : goal.finish-requires
@@ -82,12 +84,12 @@ finish-requires c =
 pub returns : goal.returns
 returns c =
     let n = c.args.level in
-    let g = c.args.colours.now in
+    let g = colours_of_bytes c.args.colours.now in
     let inv = c.loop-code.invariant in
     let long = inv.long in
     let all = c.requires.all in
     let s = side_squared n in
     let end : length c.loop-code.maker.colours ≡ 4 ^ n = omega arith in
     let level = c.finish.ensures.level ∙ inv.level in
-    let grid = c.finish.ensures.value ∙ ap (λ (k : ℕ). grid_by_code k c.loop-code.maker.colours) inv.level ∙ Paints-all n (colour_at n g) c.loop-code.maker.colours c.requires.most end inv.paints ∙ sym (grid_of-colour_at n g all) in
+    let grid = c.finish.ensures.value ∙ ap (λ (k : ℕ). grid_by_code k c.loop-code.maker.colours) inv.level ∙ Paints-all n (colour_at n g) c.loop-code.maker.colours c.requires.most end inv.paints ∙ sym (grid_of-colour_at n g (length-colours_of_bytes (side n * side n) c.args.colours.now all)) in
     λ i. record { level = level i; grid = grid i }

@@ -1,11 +1,12 @@
-use Rattle.std.proofs.Common.{◌≡◌, ℕ, ◌+◌, List, [], ◌∷◌, ◌++◌, sym, ◌∙◌, ap, ap₂, rules, ⊎_elim, arith, flat_map}
+use Rattle.std.proofs.Common.{◌≡◌, ℕ, ◌+◌, List, [], ◌∷◌, ◌++◌, sym, ◌∙◌, ap, ap₂, ⊎_elim, arith, flat_map, map}
 use Rattle.std.proofs.lemmas.Bool.{cases_lt}
 use Rattle.std.proofs.lemmas.List.{flat_map_more}
 use Rattle.quilt_types.specs.Plane.{below}
 use Rattle.quilt_types.specs.Layers.{colour_at}
 use Rattle.quilt_loc.proofs.Blocks.{side_most}
-use Rattle.quilt_raster.specs.Showing.{digits, row_digits}
+use Rattle.quilt_raster.specs.Showing.{digits_of, row_line, written_in}
 use Rattle.quilt_raster.proofs.Points.{below_more, IsRun, run_in, run_is}
+use Rattle.quilt_raster.proofs.Written.{colour_at-written}
 use Rattle.quilt_raster.proofs.showing.push_row.Goals.{then-x-end, else-x-end}
 use Rattle.quilt_raster.proofs.showing.push_row.Goals as goal
 
@@ -22,7 +23,8 @@ loop-dx-preserved c =
     let g = c.args.list.now.grid in
     let w = c.args.w in
     let at = w.x + c.loop-dx.dx in
-    let row : ℕ → List ℕ = λ dx. digits (colour_at n g (record { x = w.x + dx; y = w.y + c.args.dy })) in
+    let f = c.args.format in
+    let row : ℕ → List ℕ = λ dx. digits_of f (colour_at n (map (written_in f) g) (record { x = w.x + dx; y = w.y + c.args.dy })) in
     let behind = c.loop-dx.invariant.behind in
     let run : IsRun n g (w.y + c.args.dy) at c.if-x-end.end c.if-x-end.colour.0 =
     elim c.if-x-end.branch [
@@ -36,22 +38,22 @@ loop-dx-preserved c =
           (record { some = ⊎_elim (λ q. q) (λ q. absurd (differ (omega arith))) (cases_lt at c.loop-dx.end); each = c.loop-dx.invariant.colour })
     ] in
     let some = run.some in
-    let two : c.digit_of.result ∷ c.digit_of-in-loop-dx.result ∷ [] ≡ row c.loop-dx.dx =
-    ap₂ (λ a b. a ∷ b ∷ []) c.digit_of.ensures c.digit_of-in-loop-dx.ensures ∙ ap digits (sym (run.each at (omega arith) some)) in
+    let here : written_in f c.if-x-end.colour.0 ≡ colour_at n (map (written_in f) g) (record { x = at; y = w.y + c.args.dy }) =
+    ap (written_in f) (sym (run.each at (omega arith) some)) ∙ sym (colour_at-written f n g (record { x = at; y = w.y + c.args.dy })) in
     record {
-      front = c.in_ok-push.ensures.ok ∙ ap₂ (λ a b. a ++ b) c.loop-dx.invariant.front two
+      front = c.in_ok-push_colour.ensures ∙ ap₂ (λ a b. a ++ b) c.loop-dx.invariant.front (ap (digits_of f) here)
           ∙ flat_map_more row c.args.text.now (below c.loop-dx.dx) c.loop-dx.dx ∙ ap (λ l. c.args.text.now ++ flat_map row l) (sym (below_more c.loop-dx.dx));
       behind = omega arith;
-      byte = search rules;
       colour = λ x from to. run.each x (omega arith) to;
     }
 
 pub returns : goal.returns
-unfolding row_digits
+unfolding row_line
 returns c =
     let n = c.args.list.now.level in
     let g = c.args.list.now.grid in
     let w = c.args.w in
-    let row : ℕ → List ℕ = λ dx. digits (colour_at n g (record { x = w.x + dx; y = w.y + c.args.dy })) in
+    let f = c.args.format in
+    let row : ℕ → List ℕ = λ dx. digits_of f (colour_at n (map (written_in f) g) (record { x = w.x + dx; y = w.y + c.args.dy })) in
     let is : c.loop-dx.dx ≡ c.args.w.w = omega arith in
     c.loop-dx.invariant.front ∙ ap (λ k. c.args.text.now ++ flat_map row (below k)) is

@@ -1,21 +1,41 @@
-use Rattle.std.proofs.Common.{◌≡◌, ℕ, List, [], ◌∷◌, ◌++◌, sym, ◌∙◌, ap, arith, flat_map, append_assoc}
-use Rattle.std.proofs.lemmas.List.{flat_map_more}
+use Rattle.std.proofs.Common.{◌≡◌, ℕ, List, [], ◌∷◌, ◌++◌, sym, ◌∙◌, ap, arith, flat_map, map, append_assoc}
+use Rattle.std.proofs.lemmas.List.{flat_map_more, map-append}
 use Rattle.quilt_types.specs.Plane.{below}
-use Rattle.quilt_raster.specs.Showing.{row_digits, shown}
+use Rattle.quilt_types.specs.Layers.{Grid}
+use Rattle.quilt_raster.specs.Showing.{row_line, written_in, shown}
 use Rattle.quilt_raster.proofs.Points.{below_more}
+use Rattle.quilt_raster.proofs.Written.{map-written}
 use Rattle.quilt_raster.proofs.showing.render.Goals as goal
+
+-- a line with its newline
+abbrev ended : List ℕ → List ℕ
+ended line = line ++ 10 ∷ []
 
 pub loop-dy-preserved : goal.loop-dy-preserved
 loop-dy-preserved c =
-    let row : ℕ → List ℕ = λ dy. row_digits c.args.list.now.level c.args.list.now.grid c.args.w dy ++ 10 ∷ [] in
+    let f = c.args.format in
+    let dy = c.loop-dy.dy in
+    let row = row_line f c.args.list.now.level (map (written_in f) c.args.list.now.grid) c.args.w in
     c.in_ok-push.ensures.ok
-    ∙ ap (λ l. l ++ 10 ∷ []) (c.in_ok-push_row.ensures ∙ ap (λ l. l ++ row_digits c.args.list.now.level c.args.list.now.grid c.args.w c.loop-dy.dy) c.loop-dy.invariant)
-    ∙ append_assoc (flat_map row (below c.loop-dy.dy)) (row_digits c.args.list.now.level c.args.list.now.grid c.args.w c.loop-dy.dy) (10 ∷ [])
-    ∙ flat_map_more row [] (below c.loop-dy.dy) c.loop-dy.dy ∙ ap (flat_map row) (sym (below_more c.loop-dy.dy))
+    ∙ ap (λ l. l ++ 10 ∷ []) (c.in_ok-push_row.ensures ∙ ap (λ l. l ++ row dy) c.loop-dy.invariant)
+    ∙ append_assoc (flat_map ended (map row (below dy))) (row dy) (10 ∷ [])
+    ∙ flat_map_more ended [] (map row (below dy)) (row dy)
+    ∙ ap (flat_map ended) (sym (map-append row (below dy) (dy ∷ [])) ∙ ap (map row) (sym (below_more dy)))
 
-pub returns : goal.returns
+pub returns-clause-shown : goal.returns-clause-shown
 unfolding shown
-returns c =
-    let row : ℕ → List ℕ = λ dy. row_digits c.args.list.now.level c.args.list.now.grid c.args.w dy ++ 10 ∷ [] in
+returns-clause-shown c =
+    let f = c.args.format in
+    let row = row_line f c.args.list.now.level (map (written_in f) c.args.list.now.grid) c.args.w in
     let is : c.loop-dy.dy ≡ c.args.w.h = omega arith in
-    c.loop-dy.invariant ∙ ap (λ k. flat_map row (below k)) is
+    c.loop-dy.invariant ∙ ap (λ k. flat_map ended (map row (below k))) is
+
+pub returns-clause-rows : goal.returns-clause-rows
+returns-clause-rows c grid =
+    let f = c.args.format in
+    let n = c.args.list.now.level in
+    let g = c.args.list.now.grid in
+    let w = c.args.w in
+    let row = row_line f n (map (written_in f) g) w in
+    let is : c.loop-dy.dy ≡ c.args.w.h = omega arith in
+    c.loop-dy.invariant ∙ ap (λ k. flat_map ended (map row (below k))) is ∙ ap (λ (h : Grid). flat_map ended (map (row_line f n h w) (below w.h))) (map-written f g grid.colours)

@@ -1,5 +1,6 @@
 use Rattle.std.proofs.Common.{◌≢◌, arith}
 use Rattle.std.proofs.lemmas.Result.{err_from_is_err_and}
+use Rattle.quilt_btree.proofs.Spans.{added_within, above_bound}
 use Rattle.quilt_btree.proofs.Whole.{tree_spells}
 use Rattle.quilt_btree.proofs.Rests.{rest_ends, rest_fills, rest_adds, rest_next, from_not_err, none_over}
 use Rattle.quilt_btree.proofs.tree.Tree.add_next.Goals as goal
@@ -50,3 +51,22 @@ returns-in_default-2-clause-ends g c = λ none low rs is b.
       added = from_not_err c.add_leaf.result c.is_err.result c.is_err.ensures.value c.if-is_err.false c.add_leaf.ensures.added;
     }) is b
     (none_over c.key_up_to.result c.in_ok-found.found.high c.args.high.now c.key_up_to.ensures none)
+
+pub returns-then-now-most-clause-within : goal.returns-then-now-most-clause-within
+returns-then-now-most-clause-within g c = λ low le old.
+    added_within low c.args.from.now c.args.high.now c.args.most c.in_ok-found.found.leaf c.args.records.now.items c.add_leaf.new.records.items
+    (from_not_err c.add_leaf.result c.is_err.result c.is_err.ensures.value c.if-is_err.false c.add_leaf.ensures.added) le old
+
+pub returns-in_default-clause-within : goal.returns-in_default-clause-within
+returns-in_default-clause-within g c = λ low le old.
+    added_within low c.args.from.now c.args.high.now c.args.most c.in_ok-found.found.leaf c.args.records.now.items c.add_leaf.new.records.items
+    (from_not_err c.add_leaf.result c.is_err.result c.is_err.ensures.value c.if-is_err.false c.add_leaf.ensures.added) le old
+
+pub returns-in_default-2-clause-within : goal.returns-in_default-2-clause-within
+returns-in_default-2-clause-within g c = λ low le old.
+    added_within low c.args.from.now c.args.high.now c.args.most c.in_ok-found.found.leaf c.args.records.now.items c.add_leaf.new.records.items
+    (from_not_err c.add_leaf.result c.is_err.result c.is_err.ensures.value c.if-is_err.false c.add_leaf.ensures.added) le old
+
+pub returns-in_default-clause-further : goal.returns-in_default-clause-further
+returns-in_default-clause-further g c =
+    rw c.in-Some.is (above_bound c.args.from.now c.in-Some.field-0 c.in_ok-found.found.high c.in_ok-found.ensures.above c.in-Some.ensures.0)

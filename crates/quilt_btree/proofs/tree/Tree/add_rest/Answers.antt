@@ -1,5 +1,8 @@
-use Rattle.std.proofs.Common.{◌<◌, ◌∙◌, vec_len, arith}
+use Rattle.std.proofs.Common.{◌≡◌, true, ◌<◌, ◌∙◌, vec_len, arith}
 use Rattle.std.proofs.lemmas.Result.{err_from_is_err_and}
+use Rattle.std.specs.Ordering.{is_lt}
+use Rattle.quilt_record.specs.Records.{key_cmp}
+use Rattle.quilt_btree.proofs.Spans.{le_on, at_some}
 use Rattle.quilt_btree.proofs.Rests.{if_some, none_is, loop_goes_on, loop_ends, loop_sound, loop_reads}
 use Rattle.quilt_btree.proofs.tree.Tree.add_rest.Goals as goal
 
@@ -16,6 +19,10 @@ loop-k-preserved g c =
       goes_on = loop_goes_on c.in_ok-k.field-0 (g.S.PageStore.told c.args.store.now) (g.S.PageStore.told c.loop-k.store) c.args.self.now c.args.high.now c.args.from.now c.loop-k.next c.in-Some.k c.args.most c.args.records.now.items c.loop-k.records.items c.add_next.new.records.items
           c.loop-k.invariant.told c.in-Some.is c.loop-k.invariant.goes_on c.in_ok-k.ensures.goes_on;
       room = c.in_ok-k.ensures.room;
+      within = λ low le old.
+          let so_far = c.loop-k.invariant.within low le old in
+          let on = at_some c.in_ok-k.field-0 c.in-Some.k (λ k. is_lt (key_cmp c.loop-k.next k) ≡ true) c.in-Some.is c.in_ok-k.ensures.further in
+          (le_on low c.loop-k.next c.in-Some.k so_far.0 on, c.in_ok-k.ensures.within low so_far.0 so_far.1);
       more = let m = c.loop-k.invariant.more in let n = c.in_ok-k.ensures.more in omega arith;
       faults = let m = c.loop-k.invariant.faults in let n = c.in_ok-k.ensures.cause.later in omega arith;
       size = c.in_ok-k.ensures.size ∙ c.loop-k.invariant.size;
@@ -30,3 +37,8 @@ pub returns-clause-rest : goal.returns-clause-rest
 returns-clause-rest g c =
     loop_ends c.in_ok-k.field-0 (g.S.PageStore.told c.args.store.now) (g.S.PageStore.told c.loop-k.store) c.args.self.now c.args.high.now c.args.from.now c.loop-k.next c.args.most c.args.records.now.items c.loop-k.records.items c.add_next.new.records.items
     c.loop-k.invariant.told (none_is c.in_ok-k.field-0 c.in_default.not-Some) c.loop-k.invariant.goes_on c.in_ok-k.ensures.ends
+
+pub returns-clause-within : goal.returns-clause-within
+returns-clause-within g c = λ low le old.
+    let so_far = c.loop-k.invariant.within low le old in
+    c.in_ok-k.ensures.within low so_far.0 so_far.1

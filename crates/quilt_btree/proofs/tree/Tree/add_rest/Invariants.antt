@@ -1,6 +1,10 @@
-use Rattle.std.proofs.Common.{◌≡◌, ◌+◌, ◌*◌, ◌-◌, ◌≤◌, List, vec_len}
+use Rattle.std.proofs.Common.{◌≡◌, true, ◌+◌, ◌*◌, ◌-◌, ◌≤◌, List, vec_len}
 use Rattle.quilt_record.specs.declared.key.Key.{Key}
 use Rattle.quilt_record.specs.declared.record.Record.{Record}
+use Rattle.std.specs.List.{list_all}
+use Rattle.std.specs.Ordering.{is_le}
+use Rattle.quilt_record.specs.Records.{key_cmp}
+use Rattle.quilt_btree.specs.Lists.{is_from_to}
 use Rattle.quilt_store.specs.Store.{Tells}
 use Rattle.quilt_btree.specs.Trees.{IsTree, Before}
 use Rattle.quilt_btree.proofs.tree.Tree.add_rest.Given as goal
@@ -9,6 +13,7 @@ abbrev pub invariant-loop-k : goal.invariant-loop-k
 invariant-loop-k g l = record {
   goes_on : (low : Key) (rs : List Record) → IsTree (g.S.PageStore.told l.initial.store) l.self rs → Before (g.S.PageStore.told l.initial.store) l.self low l.high l.most l.initial.next rs l.initial.records.items → Before (g.S.PageStore.told l.initial.store) l.self low l.high l.most l.next rs l.records.items;
   room : vec_len l.records ≤ l.most;
+  within : (low : Key) → is_le (key_cmp low l.initial.next) ≡ true → list_all (is_from_to low l.high) l.initial.records.items ≡ true → (is_le (key_cmp low l.next) ≡ true) × (list_all (is_from_to low l.high) l.records.items ≡ true);
   more : vec_len l.initial.records ≤ vec_len l.records;
   faults : g.S.PageStore.faults l.initial.store ≤ g.S.PageStore.faults l.store;
   size : g.S.PageStore.size l.store ≡ g.S.PageStore.size l.initial.store;

@@ -1,6 +1,10 @@
 use Rattle.std.proofs.Common.{◌++◌, List, take, filter, ◌∙◌, ap, arith}
+use Rattle.std.specs.List.{list_all}
 use Rattle.quilt_record.specs.declared.record.Record.{Record}
+use Rattle.quilt_record.specs.Records.{key_cmp}
 use Rattle.quilt_btree.specs.Lists.{is_from_to}
+use Rattle.quilt_record.proofs.Orders.{lt_to_le}
+use Rattle.quilt_btree.proofs.Spans.{first_within, above_bound}
 use Rattle.quilt_btree.proofs.Whole.{sound_whole}
 use Rattle.quilt_btree.proofs.Rests.{first_ends, first_fills, first_sound, first_result, no_range, from_not_err}
 use Rattle.quilt_btree.proofs.tree.Tree.range.Goals as goal
@@ -47,3 +51,22 @@ returns-in-Ok-add_rest-clause-range g c =
       cut = c.in-Ok.ensures.cut;
       added = from_not_err c.add_leaf.result c.is_err.result c.is_err.ensures.value c.if-is_err.false c.add_leaf.ensures.added ∙ ap (λ (l : List Record). take c.args.most (l ++ filter (is_from_to c.args.low.now c.args.high.now) c.in-Ok.found.leaf)) c.new-records.ensures.items;
     }) c.in-Some.ensures.0 c.in-Ok-add_rest.ensures.rest
+
+pub returns-then-self-eq0-clause-within : goal.returns-then-self-eq0-clause-within
+returns-then-self-eq0-clause-within g c = ap (list_all (is_from_to c.args.low.now c.args.high.now)) c.new-records.ensures.items
+
+pub returns-then-len-most-clause-within : goal.returns-then-len-most-clause-within
+returns-then-len-most-clause-within g c =
+    first_within c.args.low.now c.args.high.now c.args.most c.in-Ok.found.leaf c.add_leaf.new.records.items
+    (from_not_err c.add_leaf.result c.is_err.result c.is_err.ensures.value c.if-is_err.false c.add_leaf.ensures.added ∙ ap (λ (l : List Record). take c.args.most (l ++ filter (is_from_to c.args.low.now c.args.high.now) c.in-Ok.found.leaf)) c.new-records.ensures.items)
+
+pub returns-in-None-clause-within : goal.returns-in-None-clause-within
+returns-in-None-clause-within g c =
+    first_within c.args.low.now c.args.high.now c.args.most c.in-Ok.found.leaf c.add_leaf.new.records.items
+    (from_not_err c.add_leaf.result c.is_err.result c.is_err.ensures.value c.if-is_err.false c.add_leaf.ensures.added ∙ ap (λ (l : List Record). take c.args.most (l ++ filter (is_from_to c.args.low.now c.args.high.now) c.in-Ok.found.leaf)) c.new-records.ensures.items)
+
+pub returns-in-Ok-add_rest-clause-within : goal.returns-in-Ok-add_rest-clause-within
+returns-in-Ok-add_rest-clause-within g c =
+    c.in-Ok-add_rest.ensures.within c.args.low.now (lt_to_le (key_cmp c.args.low.now c.in-Some.next) (above_bound c.args.low.now c.in-Some.next c.in-Ok.found.high c.in-Ok.ensures.above c.in-Some.ensures.0))
+    (first_within c.args.low.now c.args.high.now c.args.most c.in-Ok.found.leaf c.add_leaf.new.records.items
+    (from_not_err c.add_leaf.result c.is_err.result c.is_err.ensures.value c.if-is_err.false c.add_leaf.ensures.added ∙ ap (λ (l : List Record). take c.args.most (l ++ filter (is_from_to c.args.low.now c.args.high.now) c.in-Ok.found.leaf)) c.new-records.ensures.items))

@@ -2,7 +2,7 @@ use Rattle.std.proofs.Common.{◌∙◌, ap}
 use Rattle.std.proofs.lemmas.List.{take_all}
 use Rattle.quilt_world.specs.Disk.{Log}
 use Rattle.quilt_desk.specs.declared.page_state.PageState.{PageState}
-use Rattle.quilt_desk.specs.Crash.{state_after, state_of}
+use Rattle.quilt_desk.specs.PageStates.{state_after, state_of}
 use Rattle.quilt_desk.proofs.CrashLaws.{state_of-more, whole_at}
 use Rattle.quilt_desk.proofs.page_state.PageState.after.Goals as goal
 

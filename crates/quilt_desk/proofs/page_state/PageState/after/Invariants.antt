@@ -1,5 +1,5 @@
 use Rattle.std.proofs.Common.{◌≡◌, take}
-use Rattle.quilt_desk.specs.Crash.{state_of}
+use Rattle.quilt_desk.specs.PageStates.{state_of}
 use Rattle.quilt_desk.proofs.page_state.PageState.after.Given as goal
 
 abbrev pub invariant-loop-event : goal.invariant-loop-event

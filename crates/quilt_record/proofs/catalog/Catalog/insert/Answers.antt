@@ -1,7 +1,6 @@
-use Rattle.std.proofs.Common.{◌≡◌, ◌≢◌, ◌≤◌, ◌<◌, ◌∙◌, sym, ap, subst, length, lit<, All}
+use Rattle.std.proofs.Common.{◌≡◌, ◌≤◌, ◌<◌, ◌∙◌, sym, ap, subst, length, lit<}
 use Rattle.std.specs.List.{insert, position_or_len}
 use Rattle.std.specs.Ordering.{is_lt}
-use Rattle.quilt_record.specs.declared.entry.Entry.{Entry}
 use Rattle.quilt_record.specs.Catalogs.{IsCatalog, name_cmp, with_entry}
 use Rattle.quilt_record.proofs.Entries.{placed, place_most, catalog_with}
 use Rattle.quilt_record.proofs.catalog.Catalog.insert.Goals as goal

@@ -1,5 +1,3 @@
-use Rattle.std.proofs.Common.{sym}
-use Rattle.quilt_record.specs.Catalogs.{IsCatalog}
 use Rattle.quilt_record.proofs.Entries.{catalog_without}
 use Rattle.quilt_record.proofs.catalog.Catalog.remove.Goals as goal
 

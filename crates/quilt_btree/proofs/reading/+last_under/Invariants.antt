@@ -1,4 +1,0 @@
-use Rattle.quilt_btree.proofs.reading.+last_under.Given as goal
-
-abbrev pub decreases-last_under : goal.decreases-last_under
-decreases-last_under g l = l.height

@@ -1,0 +1,164 @@
+-- What is found in the entries after each step of the table.
+use Rattle.std.proofs.Common.{◌≡◌, ◌≢◌, ◌⊎◌, inl, inr, ℕ, zero, suc, ◌+◌, ◌-◌, ◌<◌, ◌≤◌, Bool, true, false, cond, nat_eq, List, [], ◌∷◌, Option, Some, None, length, take, slice_get, get_or, set, option_map, ◌||◌, refl, sym, ◌∙◌, ap, subst, arith, get_or-set_same, get_or-set_other}
+use Rattle.std.specs.Cmp.{nat_eq_equiv}
+use Rattle.std.specs.List.{IsDistinct}
+use Rattle.std.specs.Map.{keys_of, lookup, lookup_entry, remove_entry}
+use Rattle.std.specs.Option.{option_map_or}
+use Rattle.std.proofs.lemmas.Bool.{cases_Bool, cases_eq, cases_lt, false≢true, eqb-true, eqb-false}
+use Rattle.std.proofs.lemmas.List.{take_all}
+use Rattle.std.proofs.lemmas.Map.Entries.{lookup_from_place}
+use Rattle.lru.specs.LruCache.{LruCache, lru_cache, promoted, put_entries, last_entry}
+use Rattle.lru.proofs.CallerLemmas.{Contains-lookup_entry}
+use Rattle.quilt_world.specs.Disk.{Pages}
+use Rattle.quilt_journal.specs.Changed.{is_changed}
+use Rattle.quilt_pool.specs.declared.frame.Frame.{Frame}
+use Rattle.quilt_pool.specs.Entries.{Entries, frame_at, page_over, bytes_or, has_dirt, is_dirty, is_marked, IsClean}
+
+-- the last entry's frame is found at its page
+pub last_found : (es : Entries) (p : ℕ) (f : Frame) → IsDistinct nat_eq (keys_of es) → last_entry es ≡ Some (p, f) → frame_at es p ≡ Some f
+last_found es p f distinct last = lookup_from_place nat_eq_equiv es (length es - 1) p f distinct last
+
+-- the last entry leaves, and no other
+abbrev pub AtLeaving : Entries → Option (ℕ × Frame) → Entries → ℕ → Type 0
+AtLeaving old last new i = (frame_at new i ≡ frame_at old i) ⊎ ((f : Frame) × (last ≡ Some (i, f)) × (frame_at old i ≡ Some f) × (frame_at new i ≡ None))
+
+pair_at : (e : ℕ × Frame) (i : ℕ) → nat_eq i e.0 ≡ true → e ≡ (i, e.1)
+pair_at e i t = ap (λ k. (k, e.1)) (sym (eqb-true i e.0 t))
+
+left_at : (m : ℕ) (es : Entries) (i : ℕ) → length es ≡ suc m → AtLeaving es (slice_get es m) (take m es) i
+left_at m [] i size = absurd (omega (arith, size))
+left_at zero (e ∷ []) i size = elim (cases_Bool (nat_eq i e.0)) [
+  | inl t ↦ inr (e.1, ap Some (pair_at e i t), rw t refl, refl)
+  | inr f ↦ inl (rw f refl)
+]
+left_at zero (e ∷ d ∷ es) i size = absurd (omega (arith, size))
+left_at (suc m) (e ∷ es) i size = elim (cases_Bool (nat_eq i e.0)) [
+  | inl t ↦ inl (rw t refl)
+  | inr f ↦ elim (left_at m es i (omega (arith, size))) [
+    | inl same ↦ inl (rw (f, same) refl)
+    | inr (g, last, was, is) ↦ inr (g, last, rw f was, rw f is)
+  ]
+]
+
+-- an entry taken out and put first, maybe with another frame
+first_at : (k : ℕ) (es : Entries) (e : ℕ × Frame) (i : ℕ) → lookup_entry (nat_eq k) es ≡ Some e → nat_eq i k ≡ false → frame_at (remove_entry (nat_eq k) es) i ≡ frame_at es i
+first_at k [] e i h ne = cc
+first_at k (d ∷ es) e i h ne = elim (cases_Bool (nat_eq k d.0)) [
+  | inl t ↦
+      let other : nat_eq i d.0 ≡ false = subst (λ j. nat_eq i j ≡ false) (eqb-true k d.0 t) ne in
+      rw (t, other) refl
+  | inr f ↦
+      let more : lookup_entry (nat_eq k) es ≡ Some e = rw f at h in
+      let on = first_at k es e i more ne in
+      rw (f, on) refl
+]
+
+pub found_key : (k : ℕ) (es : Entries) (e : ℕ × Frame) → lookup_entry (nat_eq k) es ≡ Some e → e.0 ≡ k
+found_key k es e h = sym (eqb-true k e.0 (Contains-lookup_entry (nat_eq k) es e h).1)
+
+found_value : (k : ℕ) (es : Entries) (e : ℕ × Frame) → lookup_entry (nat_eq k) es ≡ Some e → frame_at es k ≡ Some e.1
+found_value k [] e h = cc
+found_value k (d ∷ es) e h = elim (cases_Bool (nat_eq k d.0)) [
+  | inl t ↦ let h' : Some d ≡ Some e = rw t at h in rw t (ap (option_map (λ (x : ℕ × Frame). x.1)) h')
+  | inr f ↦ rw f (found_value k es e (rw f at h))
+]
+
+pub not_found : (k : ℕ) (es : Entries) → lookup_entry (nat_eq k) es ≡ None → frame_at es k ≡ None
+not_found k [] h = refl
+not_found k (d ∷ es) h = elim (cases_Bool (nat_eq k d.0)) [
+  | inl t ↦ let h' : Some d ≡ None = rw t at h in absurd cc
+  | inr f ↦ rw f (not_found k es (rw f at h))
+]
+
+-- ---- promoted
+
+promoted_from : (k : ℕ) (es : Entries) (i : ℕ) (o : Option (ℕ × Frame)) → lookup_entry (nat_eq k) es ≡ o → frame_at (option_map_or (λ e. e ∷ remove_entry (nat_eq k) es) o es) i ≡ frame_at es i
+promoted_from k es i None h = refl
+promoted_from k es i (Some e) h = elim (cases_Bool (nat_eq i e.0)) [
+  | inl t ↦
+      let same : i ≡ k = eqb-true i e.0 t ∙ found_key k es e h in
+      rw t (sym (subst (λ j. frame_at es j ≡ Some e.1) (sym same) (found_value k es e h)))
+  | inr f ↦ rw f (first_at k es e i h (subst (λ j. nat_eq i j ≡ false) (found_key k es e h) f))
+]
+
+pub promoted_at : (k : ℕ) (es : Entries) (i : ℕ) → frame_at (promoted (nat_eq k) es) i ≡ frame_at es i
+promoted_at k es i = promoted_from k es i (lookup_entry (nat_eq k) es) refl
+
+-- ---- put
+
+-- the page k has the frame, and each other page is as it was, but that the last entry of a full table may leave
+abbrev pub AtPut : LruCache ℕ Frame → Entries → ℕ → Frame → ℕ → Type 0
+AtPut c new k v i =
+    ((i ≡ k) × (frame_at new i ≡ Some v))
+    ⊎ ((i ≢ k) × ((frame_at new i ≡ frame_at c.entries i)
+    ⊎ ((frame_at c.entries k ≡ None) × (length c.entries ≡ c.cap) × ((f : Frame) × (last_entry c.entries ≡ Some (i, f)) × (frame_at c.entries i ≡ Some f) × (frame_at new i ≡ None)))))
+
+taken_at : (c : LruCache ℕ Frame) (i m : ℕ) → c.cap ≡ suc m → length c.entries ≤ c.cap → (frame_at (take (c.cap - 1) c.entries) i ≡ frame_at c.entries i) ⊎ ((length c.entries ≡ c.cap) × ((f : Frame) × (last_entry c.entries ≡ Some (i, f)) × (frame_at c.entries i ≡ Some f) × (frame_at (take (c.cap - 1) c.entries) i ≡ None)))
+taken_at c i m cap fits =
+    let less : c.cap - 1 ≡ m = omega (arith, cap) in
+    elim (cases_lt m (length c.entries)) [
+      | inl lt ↦
+          let full : length c.entries ≡ c.cap = omega (arith, lt, cap, fits) in
+          let at : length c.entries - 1 ≡ m = omega (arith, full, cap) in
+          rw (less, at) (elim (left_at m c.entries i (full ∙ cap)) [
+            | inl same ↦ inl same
+            | inr more ↦ inr (full, more)
+          ])
+      | inr le ↦ inl (rw less (ap (λ (l : Entries). frame_at l i) (take_all m c.entries le)))
+    ]
+
+put_from : (c : LruCache ℕ Frame) (k : ℕ) (v : Frame) (i m : ℕ) (o : Option (ℕ × Frame)) → c.cap ≡ suc m → length c.entries ≤ c.cap → lookup_entry (nat_eq k) c.entries ≡ o
+    → AtPut c (option_map_or (λ e. (e.0, v) ∷ remove_entry (nat_eq k) c.entries) o ((k, v) ∷ take (c.cap - 1) c.entries)) k v i
+put_from c k v i m None cap fits h = elim (cases_Bool (nat_eq i k)) [
+  | inl t ↦ inl (eqb-true i k t, rw t refl)
+  | inr f ↦ inr (
+    eqb-false i k f,
+    rw f (elim (taken_at c i m cap fits) [
+      | inl same ↦ inl same
+      | inr (full, more) ↦ inr (not_found k c.entries h, full, more)
+    ]),
+  )
+]
+put_from c k v i m (Some e) cap fits h = elim (cases_Bool (nat_eq i e.0)) [
+  | inl t ↦ inl (eqb-true i e.0 t ∙ found_key k c.entries e h, rw t refl)
+  | inr f ↦
+      let ne : nat_eq i k ≡ false = subst (λ j. nat_eq i j ≡ false) (found_key k c.entries e h) f in
+      inr (eqb-false i k ne, inl (rw f (first_at k c.entries e i h ne)))
+]
+
+pub put_at : (c : LruCache ℕ Frame) (k : ℕ) (v : Frame) (i : ℕ) → 0 < c.cap → length c.entries ≤ c.cap → AtPut c (put_entries nat_eq c k v) k v i
+put_at c k v i some fits = put_from c k v i (c.cap - 1) (lookup_entry (nat_eq k) c.entries) (omega (arith, some)) fits refl
+
+-- ---- the pages that the pool lies over
+
+pub over_at : (old new : Entries) (pages : Pages) (i : ℕ) → frame_at new i ≡ frame_at old i → page_over new pages i ≡ page_over old pages i
+over_at old new pages i same = ap (bytes_or (get_or pages i [])) same
+
+module _ (es : Entries) (p : ℕ) (f : Frame) (at : frame_at es p ≡ Some f) where
+  pub over_set : (pages : Pages) (x : List ℕ) (i : ℕ) → page_over es (set pages p x) i ≡ page_over es pages i
+  over_set pages x i = elim (cases_eq i p) [
+    | inl same ↦
+        let here : frame_at es i ≡ Some f = subst (λ j. frame_at es j ≡ Some f) (sym same) at in
+        ap (bytes_or (get_or (set pages p x) i [])) here ∙ sym (ap (bytes_or (get_or pages i [])) here)
+    | inr ne ↦ ap (λ b. bytes_or b (frame_at es i)) (get_or-set_other pages p i x [] ne)
+  ]
+
+  module _ (dirty : f.is_dirty ≡ true) where
+    pub clean_set : (pages : Pages) (x : List ℕ) → IsClean es pages → IsClean es (set pages p x)
+    clean_set pages x clean = record {
+      each = λ i g is none. elim (cases_eq i p) [
+        | inl same ↦
+            let here : Some f ≡ Some g = sym at ∙ subst (λ j. frame_at es j ≡ Some g) same is in
+            let both : f.is_dirty ≡ g.is_dirty = ap has_dirt here in
+            absurd (false≢true (sym none ∙ sym both ∙ dirty))
+        | inr ne ↦ clean.each i g is none ∙ sym (get_or-set_other pages p i x [] ne)
+      ];
+    }
+
+    pub marked_set : (changed : List Bool) (b : Bool) (i : ℕ) → is_marked es (set changed p b) i ≡ is_marked es changed i
+    marked_set changed b i = elim (cases_eq i p) [
+      | inl same ↦
+          let here : is_dirty es i ≡ true = ap has_dirt (subst (λ j. frame_at es j ≡ Some f) (sym same) at) ∙ dirty in
+          rw here refl
+      | inr ne ↦ ap (λ c. is_dirty es i || c) (get_or-set_other changed p i b false ne)
+    ]

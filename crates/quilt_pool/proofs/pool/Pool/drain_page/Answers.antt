@@ -1,0 +1,100 @@
+use Rattle.std.proofs.Common.{◌≡◌, ◌≢◌, ℕ, ◌+◌, ◌<◌, ◌≤◌, Some, None, length, nat_eq, true, false, get_or, set, refl, sym, ◌∙◌, ap, subst, arith, get_or-set_same}
+use Rattle.std.specs.Option.{option_copied, is_some}
+use Rattle.std.proofs.lemmas.Map.{keys-set_value}
+use Rattle.quilt_world.proofs.Told.{goes_and, goes_weaker}
+use Rattle.quilt_journal.proofs.Calls.{goes_from}
+use Rattle.quilt_journal.specs.Kept.{work}
+use Rattle.quilt_pool.specs.Entries.{frame_at, has_dirt, is_dirty}
+use Rattle.quilt_pool.specs.Keeping.{IsWork, Keeps}
+use Rattle.quilt_pool.proofs.Looks.{marked_set}
+use Rattle.quilt_pool.proofs.Saving.{goes_none, keeps_set, tries_adds, tries_tore, saved_set, if_some_kept}
+use Rattle.quilt_pool.proofs.Draining.{below_clean, marked_clean, clean_here, clean_other, keeps_drained, bytes_clean, goes_no_write}
+use Rattle.quilt_pool.proofs.pool.Pool.drain_page.Goals as goal
+
+pub write_slot-requires-clause-kept : goal.write_slot-requires-clause-kept
+write_slot-requires-clause-kept g c = if_some_kept _ _ _ _ c.requires.kept
+
+pub returns-in_default-clause-kept : goal.returns-in_default-clause-kept
+returns-in_default-clause-kept g c = goes_none _ _ _ _ c.requires.kept
+
+pub returns-then-not-frame-clause-kept : goal.returns-then-not-frame-clause-kept
+returns-then-not-frame-clause-kept g c = goes_none _ _ _ _ c.requires.kept
+
+pub returns-in_err-write_slot-clause-marked : goal.returns-in_err-write_slot-clause-marked
+returns-in_err-write_slot-clause-marked g c =
+    let at = (sym c.peek.ensures ∙ ap option_copied c.in-Some.is) in
+    rw c.in_err-write_slot.ensures.unlisted (marked_set c.args.self.now.table.entries c.args.page c.in-Some.frame.now at c.if-not-frame.false c.args.journal.now.changed false)
+
+pub returns-in_err-write_slot-clause-kept : goal.returns-in_err-write_slot-clause-kept
+returns-in_err-write_slot-clause-kept g c =
+    let at = (sym c.peek.ensures ∙ ap option_copied c.in-Some.is) in
+    let j = c.args.journal.now in
+    let es = c.args.self.now.table.entries in
+    let step = goes_and _ _ _ _ c.in_err-write_slot.ensures.given_up (goes_and _ _ _ _ c.in_err-write_slot.ensures.tore c.in_err-write_slot.ensures.crash) in
+    rw c.in_err-write_slot.ensures.unlisted
+    (goes_from (IsWork j.pages es j.changed) _ _ _ _ c.requires.kept step (λ o t is h.
+    keeps_set j.pages es j.changed false c.args.page c.in-Some.frame.now _ o t at c.if-not-frame.false is h.0 (tries_tore _ o t h.1.0) h.1.1))
+
+pub returns-clause-kept : goal.returns-clause-kept
+returns-clause-kept g c =
+    let at = (sym c.peek.ensures ∙ ap option_copied c.in-Some.is) in
+    let f = c.in-Some.frame.now in
+    let es = c.args.self.now.table.entries in
+    let k = c.args.page in
+    let j = c.args.journal.now in
+    let step = goes_and _ _ _ _ c.in_ok-write_slot.ensures.kept (goes_and _ _ _ _ c.in_ok-write_slot.ensures.wrote c.in_ok-write_slot.ensures.crash) in
+    rw (c.clean_frame.ensures.entries f at, c.in_ok-write_slot.ensures.changed)
+    (goes_from (IsWork j.pages es j.changed) _ _ _ _ c.requires.kept step (λ o t is h.
+    keeps_drained es k f at j.pages j.changed (set j.changed k true) o t
+    (keeps_set j.pages es j.changed true k f f.bytes o t at c.if-not-frame.false is h.0 (tries_adds _ o t refl h.1.0) h.1.1)
+    (saved_set j.pages j.changed k f.bytes o t c.requires.page.1 h.0.2)))
+
+pub returns-clause-below : goal.returns-clause-below
+returns-clause-below g c =
+    let at = (sym c.peek.ensures ∙ ap option_copied c.in-Some.is) in
+    rw (c.clean_frame.ensures.entries c.in-Some.frame.now at) (below_clean c.args.self.now.table.entries c.args.page c.in-Some.frame.now at c.args.journal.now.pages c.requires.below)
+
+pub returns-clause-marked : goal.returns-clause-marked
+returns-clause-marked g c =
+    let at = (sym c.peek.ensures ∙ ap option_copied c.in-Some.is) in
+    let f = c.in-Some.frame.now in
+    let es = c.args.self.now.table.entries in
+    let k = c.args.page in
+    let j = c.args.journal.now in
+    rw (c.clean_frame.ensures.entries f at, c.in_ok-write_slot.ensures.changed)
+    (λ i. marked_clean es k f at (set j.changed k true) (get_or-set_same j.changed k true false (omega (arith, c.requires.bits, c.requires.page))) c.if-not-frame.false i
+    ∙ marked_set es k f at c.if-not-frame.false j.changed true i)
+
+pub returns-clause-drained : goal.returns-clause-drained
+returns-clause-drained g c =
+    let at = (sym c.peek.ensures ∙ ap option_copied c.in-Some.is) in
+    rw (c.clean_frame.ensures.entries c.in-Some.frame.now at) (clean_here c.args.self.now.table.entries c.args.page c.in-Some.frame.now at)
+
+pub returns-clause-others : goal.returns-clause-others
+returns-clause-others g c =
+    let at = (sym c.peek.ensures ∙ ap option_copied c.in-Some.is) in
+    rw (c.clean_frame.ensures.entries c.in-Some.frame.now at) (clean_other c.args.self.now.table.entries c.args.page c.in-Some.frame.now at)
+
+pub returns-clause-order : goal.returns-clause-order
+returns-clause-order g c =
+    let at = (sym c.peek.ensures ∙ ap option_copied c.in-Some.is) in
+    rw (c.clean_frame.ensures.entries c.in-Some.frame.now at) (keys-set_value (nat_eq c.args.page) c.args.self.now.table.entries (record { bytes = c.in-Some.frame.now.bytes; is_dirty = false }))
+
+pub returns-clause-bytes : goal.returns-clause-bytes
+returns-clause-bytes g c =
+    let at = (sym c.peek.ensures ∙ ap option_copied c.in-Some.is) in
+    rw (c.clean_frame.ensures.entries c.in-Some.frame.now at) (bytes_clean c.args.self.now.table.entries c.args.page c.in-Some.frame.now at)
+
+pub returns-clause-cap : goal.returns-clause-cap
+returns-clause-cap g c =
+    let at = (sym c.peek.ensures ∙ ap option_copied c.in-Some.is) in
+    rw (c.clean_frame.ensures.entries c.in-Some.frame.now at) refl
+
+pub invariant_of-self : goal.invariant_of-self
+invariant_of-self g c =
+    let at = (sym c.peek.ensures ∙ ap option_copied c.in-Some.is) in
+    record {
+      distinct = c.clean_frame.ensures.valid.0;
+      fits = c.clean_frame.ensures.valid.1;
+      least = rw (c.clean_frame.ensures.entries c.in-Some.frame.now at) c.args.self.now.least;
+    }

@@ -1,0 +1,16 @@
+-- A pool as it is seen: a capacity, and a list of entries.
+use Rattle.std.specs.Prelude.{ℕ}
+use Rattle.lru.specs.LruCache.{LruCache}
+use Rattle.quilt_pool.specs.Entries.{Entries}
+use Rattle.quilt_pool.specs.declared.frame.Frame.{Frame}
+use Rattle.quilt_pool.specs.declared.pool.Pool.{Pool}
+
+-- the entries, the last used first, and how many there may be
+abbrev pub seen : Pool → LruCache ℕ Frame
+seen p = p.table
+
+abbrev pub entries_of : Pool → Entries
+entries_of p = p.table.entries
+
+abbrev pub capacity_of : Pool → ℕ
+capacity_of p = p.table.cap

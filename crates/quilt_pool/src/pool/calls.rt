@@ -1,0 +1,261 @@
+ghost use Rattle.std.specs.Prelude.{◌≡◌, ◌⊎◌, ℕ, ◌+◌, ◌*◌, ◌<◌, ◌≤◌, nat_eq, true, false, [], ◌∷◌, IfSome, OnOk, OnErr, IfOk, IsOk, IsSome, IsTrue, Some, None, length, slice_index_or, slice_set, if◌then◌else◌, ◌==◌, ◌-◌, ◌≢◌, filter};
+ghost use Rattle.std.specs.List.{IsDistinct, range_with_len};
+ghost use Rattle.std.specs.Map.{keys_of, remove_entry};
+ghost use Rattle.lru.specs.LruCache.{lru_cache, put_entries, promoted, last_entry};
+ghost use Rattle.quilt_world.specs.Causes.{HasCause, next_count};
+ghost use Rattle.quilt_world.specs.Tale.{Goes};
+ghost use Rattle.quilt_store.specs.Store.{HasStoreCause, Touches};
+ghost use Rattle.quilt_journal.specs.declared.journal.State.TheVariants.{Idle};
+ghost use Rattle.quilt_journal.specs.Changed.{is_changed};
+ghost use Rattle.quilt_journal.specs.Kept.{work};
+ghost use Rattle.quilt_journal.specs.Writing.{Writing};
+ghost use Rattle.quilt_pool.specs.Entries.{frame_at, bytes_or, page_over, is_dirty, is_marked, AreBelow};
+ghost use Rattle.quilt_pool.specs.Views.{seen, entries_of, capacity_of};
+ghost use Rattle.quilt_pool.specs.Keeping.{IsWork, Keeps, Changes, IsSaved};
+
+use crate::frame::Frame;
+use crate::pool::Pool;
+use crate::table::{clean_frame, drop_all, drop_frame, find_frame, put_frame};
+use lru::LruCache;
+use quilt_journal::Journal;
+use quilt_store::StoreErr;
+use quilt_world::{Disk, Fault};
+use std::alloc::{AllocError, Global};
+use std::num::NonZeroUsize;
+
+impl Pool {
+    /// An empty pool of 8 to 4096 pages.
+    pub fn new(alloc: Global, pages: u32) -> Result<Pool, AllocError>
+        requires { (8 ≤ pages) × (pages ≤ 4096) }
+        ensures { IfOk result (λ pool. seen pool ≡ lru_cache [] pages) }
+    {
+        let table = LruCache::new(alloc, NonZeroUsize::new(pages as usize).unwrap())?;
+        Ok(Pool { table })
+    }
+
+    /// Writes the last entry to its slot, where the pool is full and that entry is dirty.
+    fn save_last<D: Disk>(&self, journal: &mut Journal, disk: &mut D) -> Result<(), Fault>
+        requires idle { journal.old.state ≡ Idle }
+        requires bits { length journal.old.changed ≡ journal.old.pages }
+        requires below { AreBelow journal.old.pages (entries_of self.now) }
+        requires size { D.size disk.old ≡ 3 + 2 * journal.old.pages }
+        requires kept { IfSome (D.told disk.old) (IsWork journal.old.pages (entries_of self.now) journal.old.changed) }
+        ensures cause { HasCause (D.faults disk.old) (D.faults disk.new) result }
+        ensures size { D.size disk.new ≡ D.size disk.old }
+        ensures door { D.door disk.new ≡ D.door disk.old }
+        ensures journal { (journal.new.pages ≡ journal.old.pages) × (journal.new.state ≡ journal.old.state) × (length journal.new.changed ≡ length journal.old.changed) }
+        ensures reads { Goes (λ old new. new.reads ≡ old.reads) (D.told disk.old) (D.told disk.new) }
+        ensures marked { (i : ℕ) → is_marked (entries_of self.now) journal.new.changed i ≡ is_marked (entries_of self.now) journal.old.changed i }
+        ensures kept { Goes (Keeps journal.old.pages (entries_of self.now) (entries_of self.now) journal.old.changed journal.new.changed) (D.told disk.old) (D.told disk.new) }
+        ensures listed { OnOk result (length (entries_of self.now) ≡ capacity_of self.now → (page : ℕ) (f : _) → last_entry (entries_of self.now) ≡ Some (page, f) → f.is_dirty ≡ true → is_changed journal.new.changed page ≡ true) }
+        ensures saved { OnOk result (IfSome (D.told disk.new) (λ new. IsSaved (seen self.now) (work new journal.old.pages journal.new.changed))) }
+    {
+        if self.table.len() < self.table.cap().get() {
+            return Ok(());
+        }
+        let Some((page, frame)) = self.table.peek_lru() else {
+            return Ok(());
+        };
+        if frame.is_dirty {
+            journal.write_slot(disk, *page, &frame.bytes)?;
+        }
+        Ok(())
+    }
+
+    /// Makes room for a page that is not there.
+    fn make_room<D: Disk>(
+        &self,
+        journal: &mut Journal,
+        disk: &mut D,
+        page: u32,
+    ) -> Result<(), Fault>
+        requires idle { journal.old.state ≡ Idle }
+        requires bits { length journal.old.changed ≡ journal.old.pages }
+        requires below { AreBelow journal.old.pages (entries_of self.now) }
+        requires size { D.size disk.old ≡ 3 + 2 * journal.old.pages }
+        requires kept { IfSome (D.told disk.old) (IsWork journal.old.pages (entries_of self.now) journal.old.changed) }
+        ensures cause { HasCause (D.faults disk.old) (D.faults disk.new) result }
+        ensures size { D.size disk.new ≡ D.size disk.old }
+        ensures door { D.door disk.new ≡ D.door disk.old }
+        ensures journal { (journal.new.pages ≡ journal.old.pages) × (journal.new.state ≡ journal.old.state) × (length journal.new.changed ≡ length journal.old.changed) }
+        ensures reads { Goes (λ old new. new.reads ≡ old.reads) (D.told disk.old) (D.told disk.new) }
+        ensures marked { (i : ℕ) → is_marked (entries_of self.now) journal.new.changed i ≡ is_marked (entries_of self.now) journal.old.changed i }
+        ensures kept { Goes (Keeps journal.old.pages (entries_of self.now) (entries_of self.now) journal.old.changed journal.new.changed) (D.told disk.old) (D.told disk.new) }
+        ensures there { IsSome (frame_at (entries_of self.now) page) → IsOk result × (journal.new ≡ journal.old) × (disk.new ≡ disk.old) }
+        ensures listed { OnOk result (frame_at (entries_of self.now) page ≡ None → length (entries_of self.now) ≡ capacity_of self.now → (page : ℕ) (f : _) → last_entry (entries_of self.now) ≡ Some (page, f) → f.is_dirty ≡ true → is_changed journal.new.changed page ≡ true) }
+        ensures saved { OnOk result (IfSome (D.told disk.new) (λ new. frame_at (entries_of self.now) page ≡ None → IsSaved (seen self.now) (work new journal.old.pages journal.new.changed))) }
+    {
+        if self.table.contains(&page) {
+            return Ok(());
+        }
+        self.save_last(journal, disk)?;
+        Ok(())
+    }
+
+    /// Reads a page of the work. It comes to the front.
+    pub fn read<D: Disk>(
+        &mut self,
+        journal: &mut Journal,
+        disk: &mut D,
+        page: u32,
+        into: &mut [u8; 4096],
+    ) -> Result<(), StoreErr>
+        requires idle { journal.old.state ≡ Idle }
+        requires bits { length journal.old.changed ≡ journal.old.pages }
+        requires page { (1 ≤ page) × (page < journal.old.pages) }
+        requires below { AreBelow journal.old.pages (entries_of self.old) }
+        requires size { D.size disk.old ≡ 3 + 2 * journal.old.pages }
+        requires kept { IfSome (D.told disk.old) (IsWork journal.old.pages (entries_of self.old) journal.old.changed) }
+        ensures cause { HasStoreCause (D.faults disk.old) (D.faults disk.new) result }
+        ensures size { D.size disk.new ≡ D.size disk.old }
+        ensures door { D.door disk.new ≡ D.door disk.old }
+        ensures journal { (journal.new.pages ≡ journal.old.pages) × (journal.new.state ≡ journal.old.state) × (length journal.new.changed ≡ length journal.old.changed) }
+        ensures below { AreBelow journal.old.pages (entries_of self.new) }
+        ensures cap { capacity_of self.new ≡ capacity_of self.old }
+        ensures found { IsSome (frame_at (entries_of self.old) page) → IsOk result × (seen self.new ≡ lru_cache (promoted (nat_eq page) (entries_of self.old)) (capacity_of self.old)) × (journal.new ≡ journal.old) × (disk.new ≡ disk.old) }
+        ensures entered { OnOk result (frame_at (entries_of self.old) page ≡ None → seen self.new ≡ lru_cache (put_entries nat_eq (seen self.old) page (record { bytes = into.new; is_dirty = false })) (capacity_of self.old)) }
+        ensures same { OnErr result (seen self.new ≡ seen self.old) }
+        ensures touched { OnOk result (Touches page (keys_of (entries_of self.old)) (keys_of (entries_of self.new))) }
+        ensures reads { Goes (λ old new. new.reads ≤ old.reads + 1) (D.told disk.old) (D.told disk.new) }
+        ensures held { IsSome (frame_at (entries_of self.old) page) → Goes (λ old new. new.reads ≤ old.reads) (D.told disk.old) (D.told disk.new) }
+        ensures marked { (i : ℕ) → is_marked (entries_of self.new) journal.new.changed i ≡ is_marked (entries_of self.old) journal.old.changed i }
+        ensures kept { Goes (Keeps journal.old.pages (entries_of self.old) (entries_of self.new) journal.old.changed journal.new.changed) (D.told disk.old) (D.told disk.new) }
+        ensures bytes { OnOk result (IfSome (D.told disk.old) (λ old. into.new ≡ page_over (entries_of self.old) (work old journal.old.pages journal.old.changed) page)) }
+    {
+        if find_frame(&mut self.table, page, into) {
+            return Ok(());
+        }
+        let Ok(()) = self.make_room(journal, disk, page) else {
+            return Err(StoreErr::Device);
+        };
+        let Ok(()) = journal.read_page(disk, page, into) else {
+            return Err(StoreErr::Device);
+        };
+        let frame = Frame {
+            bytes: *into,
+            is_dirty: false,
+        };
+        put_frame(&mut self.table, page, frame)?;
+        Ok(())
+    }
+
+    /// Writes a page of the work. It comes to the front, dirty.
+    pub fn write<D: Disk>(
+        &mut self,
+        journal: &mut Journal,
+        disk: &mut D,
+        page: u32,
+        bytes: &[u8; 4096],
+    ) -> Result<(), StoreErr>
+        requires idle { journal.old.state ≡ Idle }
+        requires bits { length journal.old.changed ≡ journal.old.pages }
+        requires page { (1 ≤ page) × (page < journal.old.pages) }
+        requires below { AreBelow journal.old.pages (entries_of self.old) }
+        requires size { D.size disk.old ≡ 3 + 2 * journal.old.pages }
+        requires kept { IfSome (D.told disk.old) (IsWork journal.old.pages (entries_of self.old) journal.old.changed) }
+        ensures cause { HasStoreCause (D.faults disk.old) (D.faults disk.new) result }
+        ensures size { D.size disk.new ≡ D.size disk.old }
+        ensures door { D.door disk.new ≡ D.door disk.old }
+        ensures journal { (journal.new.pages ≡ journal.old.pages) × (journal.new.state ≡ journal.old.state) × (length journal.new.changed ≡ length journal.old.changed) }
+        ensures below { AreBelow journal.old.pages (entries_of self.new) }
+        ensures cap { capacity_of self.new ≡ capacity_of self.old }
+        ensures found { IsSome (frame_at (entries_of self.old) page) → IsOk result × (journal.new ≡ journal.old) × (disk.new ≡ disk.old) }
+        ensures entered { OnOk result (seen self.new ≡ lru_cache (put_entries nat_eq (seen self.old) page (record { bytes = bytes.now; is_dirty = true })) (capacity_of self.old)) }
+        ensures same { OnErr result (seen self.new ≡ seen self.old) }
+        ensures touched { OnOk result (Touches page (keys_of (entries_of self.old)) (keys_of (entries_of self.new))) }
+        ensures reads { Goes (λ old new. new.reads ≤ old.reads) (D.told disk.old) (D.told disk.new) }
+        ensures marked { OnOk result ((i : ℕ) → is_marked (entries_of self.new) journal.new.changed i ≡ (if i == page then true else is_marked (entries_of self.old) journal.old.changed i)) }
+        ensures unmarked { OnErr result ((i : ℕ) → is_marked (entries_of self.new) journal.new.changed i ≡ is_marked (entries_of self.old) journal.old.changed i) }
+        ensures changes { OnOk result (Goes (Changes journal.old.pages page bytes.now (entries_of self.old) (entries_of self.new) journal.old.changed journal.new.changed) (D.told disk.old) (D.told disk.new)) }
+        ensures kept { OnErr result (Goes (Keeps journal.old.pages (entries_of self.old) (entries_of self.new) journal.old.changed journal.new.changed) (D.told disk.old) (D.told disk.new)) }
+    {
+        let Ok(()) = self.make_room(journal, disk, page) else {
+            return Err(StoreErr::Device);
+        };
+        let frame = Frame {
+            bytes: *bytes,
+            is_dirty: true,
+        };
+        put_frame(&mut self.table, page, frame)?;
+        Ok(())
+    }
+
+    /// Drops the page's entry, where there is one.
+    pub fn discard(&mut self, page: u32)
+        ensures table { seen self.new ≡ lru_cache (remove_entry (nat_eq page) (entries_of self.old)) (capacity_of self.old) }
+    {
+        drop_frame(&mut self.table, page);
+    }
+
+    /// Drops all entries.
+    pub fn forget(&mut self)
+        ensures table { seen self.new ≡ lru_cache [] (capacity_of self.old) }
+    {
+        drop_all(&mut self.table);
+    }
+
+    /// Writes the page to its slot, where it is dirty. It is not dirty then.
+    fn drain_page<D: Disk>(
+        &mut self,
+        journal: &mut Journal,
+        disk: &mut D,
+        page: u32,
+    ) -> Result<(), Fault>
+        requires idle { journal.old.state ≡ Idle }
+        requires bits { length journal.old.changed ≡ journal.old.pages }
+        requires page { (1 ≤ page) × (page < journal.old.pages) }
+        requires below { AreBelow journal.old.pages (entries_of self.old) }
+        requires size { D.size disk.old ≡ 3 + 2 * journal.old.pages }
+        requires kept { IfSome (D.told disk.old) (IsWork journal.old.pages (entries_of self.old) journal.old.changed) }
+        ensures cause { HasCause (D.faults disk.old) (D.faults disk.new) result }
+        ensures size { D.size disk.new ≡ D.size disk.old }
+        ensures door { D.door disk.new ≡ D.door disk.old }
+        ensures journal { (journal.new.pages ≡ journal.old.pages) × (journal.new.state ≡ journal.old.state) × (length journal.new.changed ≡ length journal.old.changed) }
+        ensures below { AreBelow journal.old.pages (entries_of self.new) }
+        ensures marked { (i : ℕ) → is_marked (entries_of self.new) journal.new.changed i ≡ is_marked (entries_of self.old) journal.old.changed i }
+        ensures kept { Goes (Keeps journal.old.pages (entries_of self.old) (entries_of self.new) journal.old.changed journal.new.changed) (D.told disk.old) (D.told disk.new) }
+        ensures writes { Goes (Writing (if is_dirty (entries_of self.old) page then 1 else 0)) (D.told disk.old) (D.told disk.new) }
+        ensures drained { OnOk result (is_dirty (entries_of self.new) page ≡ false) }
+        ensures order { keys_of (entries_of self.new) ≡ keys_of (entries_of self.old) }
+        ensures bytes { (i : ℕ) → bytes_or [] (frame_at (entries_of self.new) i) ≡ bytes_or [] (frame_at (entries_of self.old) i) }
+        ensures cap { capacity_of self.new ≡ capacity_of self.old }
+        ensures others { (i : ℕ) → i ≢ page → is_dirty (entries_of self.new) i ≡ is_dirty (entries_of self.old) i }
+    {
+        let Some(frame) = self.table.peek(&page) else {
+            return Ok(());
+        };
+        if !frame.is_dirty {
+            return Ok(());
+        }
+        journal.write_slot(disk, page, &frame.bytes)?;
+        clean_frame(&mut self.table, page);
+        Ok(())
+    }
+
+    /// Writes each dirty page to its slot. No page is dirty then.
+    pub fn drain_dirty<D: Disk>(&mut self, journal: &mut Journal, disk: &mut D) -> Result<(), Fault>
+        requires idle { journal.old.state ≡ Idle }
+        requires bits { length journal.old.changed ≡ journal.old.pages }
+        requires range { (1 ≤ journal.old.pages) × (journal.old.pages ≤ 30000) }
+        requires below { AreBelow journal.old.pages (entries_of self.old) }
+        requires size { D.size disk.old ≡ 3 + 2 * journal.old.pages }
+        requires kept { IfSome (D.told disk.old) (IsWork journal.old.pages (entries_of self.old) journal.old.changed) }
+        ensures cause { HasCause (D.faults disk.old) (D.faults disk.new) result }
+        ensures size { D.size disk.new ≡ D.size disk.old }
+        ensures door { D.door disk.new ≡ D.door disk.old }
+        ensures journal { (journal.new.pages ≡ journal.old.pages) × (journal.new.state ≡ journal.old.state) × (length journal.new.changed ≡ length journal.old.changed) }
+        ensures below { AreBelow journal.old.pages (entries_of self.new) }
+        ensures marked { (i : ℕ) → is_marked (entries_of self.new) journal.new.changed i ≡ is_marked (entries_of self.old) journal.old.changed i }
+        ensures kept { Goes (Keeps journal.old.pages (entries_of self.old) (entries_of self.new) journal.old.changed journal.new.changed) (D.told disk.old) (D.told disk.new) }
+        ensures writes { Goes (Writing (length (filter (is_dirty (entries_of self.old)) (range_with_len 1 (journal.old.pages - 1))))) (D.told disk.old) (D.told disk.new) }
+        ensures order { keys_of (entries_of self.new) ≡ keys_of (entries_of self.old) }
+        ensures bytes { (i : ℕ) → bytes_or [] (frame_at (entries_of self.new) i) ≡ bytes_or [] (frame_at (entries_of self.old) i) }
+        ensures cap { capacity_of self.new ≡ capacity_of self.old }
+        ensures drained { OnOk result ((i : ℕ) → is_dirty (entries_of self.new) i ≡ false) }
+    {
+        for page in 1..journal.pages() {
+            self.drain_page(journal, disk, page)?;
+        }
+        Ok(())
+    }
+}

@@ -1,0 +1,71 @@
+ghost use Rattle.std.specs.Prelude.{◌≡◌, ◌≢◌, nat_eq, true, false, OnOk, OnErr, IsOk, IsSome, IsTrue, Some, None, Err, []};
+ghost use Rattle.quilt_store.specs.declared.store.StoreErr.TheVariants.{Device};
+ghost use Rattle.lru.specs.LruCache.{IsValid, lru_cache, put_entries, promoted};
+ghost use Rattle.std.specs.Map.{remove_entry, set_value};
+ghost use Rattle.quilt_pool.specs.Entries.{frame_at, has_frame};
+
+use crate::frame::Frame;
+use lru::LruCache;
+use quilt_store::StoreErr;
+
+/// The page becomes the first entry, with this frame.
+pub fn put_frame(table: &mut LruCache<u32, Frame>, page: u32, frame: Frame) -> Result<(), StoreErr>
+    ensures entries { OnOk result (table.new ≡ lru_cache (put_entries nat_eq table.old page frame) table.old.cap) }
+    ensures same { OnErr result (table.new ≡ table.old) }
+    ensures there { IsSome (frame_at table.old.entries page) → IsOk result }
+    ensures valid { IsValid nat_eq table.new }
+    ensures memory { result ≢ Err Device }
+{
+    let put = table.put(page, frame);
+    let _ = table.len();
+    match put {
+        Ok(_) => Ok(()),
+        Err(_) => Err(StoreErr::Memory),
+    }
+}
+
+/// Brings the page to the front and gives its bytes, where it is there.
+pub fn find_frame(table: &mut LruCache<u32, Frame>, page: u32, into: &mut [u8; 4096]) -> bool
+    ensures found { result ≡ true → has_frame (frame_at table.old.entries page) into.new }
+    ensures entries { result ≡ true → table.new ≡ lru_cache (promoted (nat_eq page) table.old.entries) table.old.cap }
+    ensures lost { result ≡ false → (frame_at table.old.entries page ≡ None) × (table.new ≡ table.old) }
+    ensures valid { IsValid nat_eq table.new }
+{
+    if let Some(frame) = table.peek(&page) {
+        *into = frame.bytes;
+        table.promote(&page);
+        let _ = table.len();
+        return true;
+    }
+    let _ = table.len();
+    false
+}
+
+/// The page is not dirty any more, where it is there. The order stays.
+pub fn clean_frame(table: &mut LruCache<u32, Frame>, page: u32)
+    ensures entries { (f : _) → frame_at table.old.entries page ≡ Some f → table.new ≡ lru_cache (set_value (nat_eq page) table.old.entries (record { bytes = f.bytes; is_dirty = false })) table.old.cap }
+    ensures valid { IsValid nat_eq table.new }
+{
+    if let Some(frame) = table.peek_mut(&page) {
+        frame.is_dirty = false;
+    }
+    let _ = table.len();
+}
+
+/// Drops the page, where it is there.
+pub fn drop_frame(table: &mut LruCache<u32, Frame>, page: u32)
+    ensures entries { table.new ≡ lru_cache (remove_entry (nat_eq page) table.old.entries) table.old.cap }
+    ensures valid { IsValid nat_eq table.new }
+{
+    table.pop(&page);
+    let _ = table.len();
+}
+
+/// Drops all pages.
+pub fn drop_all(table: &mut LruCache<u32, Frame>)
+    ensures entries { table.new ≡ lru_cache [] table.old.cap }
+    ensures valid { IsValid nat_eq table.new }
+{
+    table.clear();
+    let _ = table.len();
+}

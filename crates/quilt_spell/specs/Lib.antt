@@ -1,0 +1,10 @@
+pub mod Apart
+pub mod LayerFacts
+pub mod Written
+pub mod Spelled
+pub mod Changing
+pub mod OfLayer
+pub mod Stepping
+pub mod Applying
+pub mod Copying
+pub mod Laws
