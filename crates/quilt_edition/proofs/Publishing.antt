@@ -4,14 +4,13 @@ use Rattle.std.specs.Option.{IfSome}
 use Rattle.std.proofs.lemmas.List.FromFn.{fill_by_all, length-map-range_with_len}
 use Rattle.quilt_types.specs.Plane.{below}
 use Rattle.quilt_world.specs.Disk.{Pages}
-use Rattle.quilt_world.specs.Stops.{Since, LeavesNow}
+use Rattle.quilt_world.specs.Stops.{Since}
 use Rattle.quilt_world.specs.Tale.{Tale, Adds, Goes}
 use Rattle.quilt_world.specs.declared.event.Event.TheVariants.{Tore}
 use Rattle.quilt_pool.proofs.Saving.{tries_both, tries_tore}
 use Rattle.quilt_edition.specs.Keeping.{IsKeptBy, told_pages, work_pages, marked_count, Moves}
-use Rattle.quilt_world.proofs.StopLaws.{since_here, since_both, since_weaker}
+use Rattle.quilt_world.proofs.StopLaws.{since_both, since_weaker}
 use Rattle.quilt_world.proofs.Told.{goes_then, goes_and, goes_weaker, goes_now}
-use Rattle.quilt_journal.proofs.Calls.{goes_from}
 use Rattle.quilt_journal.specs.Kept.{HasHome, IsIdle, IsSealed, IsCarried, home_page, published, work}
 use Rattle.quilt_journal.proofs.Homes.{length-work, published_at}
 use Rattle.quilt_journal.proofs.Clearing.{idle_none}

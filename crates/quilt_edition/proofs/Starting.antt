@@ -1,5 +1,5 @@
 -- What a book that was just opened keeps.
-use Rattle.std.proofs.Common.{inl, inr, ◌+◌, length, ◌≡◌, ℕ, ◌<◌, ◌≤◌, Bool, true, false, List, [], Option, Some, None, get_or, replicate, refl, sym, ◌∙◌, ap, subst, arith}
+use Rattle.std.proofs.Common.{inl, inr, ◌+◌, length, ◌≡◌, ℕ, ◌<◌, ◌≤◌, List, [], Option, Some, None, get_or, sym, ◌∙◌, ap, subst, arith}
 use Rattle.std.specs.Option.{IfSome}
 use Rattle.quilt_world.specs.Disk.{Pages}
 use Rattle.quilt_world.specs.Tale.{Tale, Goes}
@@ -8,20 +8,19 @@ use Rattle.quilt_journal.specs.Changed.{View}
 use Rattle.quilt_journal.specs.Kept.{IsIdle, IsKept, home_page, published, work}
 use Rattle.quilt_journal.specs.declared.journal.Begun.{Begun}
 use Rattle.quilt_journal.specs.declared.journal.Begun.TheVariants as begun
-use Rattle.quilt_journal.specs.declared.journal.State.TheVariants.{Idle}
 use Rattle.quilt_journal.proofs.Clearing.{idle_none}
 use Rattle.quilt_journal.proofs.Homes.{published_at}
 use Rattle.quilt_node.specs.declared.head.Head.{Head}
 use Rattle.quilt_node.specs.Pages.{IsHeader}
 use Rattle.quilt_pool.specs.declared.frame.Frame.{Frame}
-use Rattle.quilt_pool.specs.Entries.{Entries, frame_at, IsClean}
+use Rattle.quilt_pool.specs.Entries.{Entries, IsClean}
 use Rattle.quilt_edition.specs.Keeping.{IsBook, IsKeptBy}
 use Rattle.std.proofs.lemmas.Bool.{cases_lt}
 use Rattle.std.proofs.lemmas.List.{append-nil}
 use Rattle.quilt_world.specs.Home.{home}
 use Rattle.quilt_world.specs.Tale.{Adds}
 use Rattle.quilt_world.proofs.StopLaws.{same_file, since_nothing}
-use Rattle.quilt_journal.specs.Beginning.{Redoes, Redone, redo_count}
+use Rattle.quilt_journal.specs.Beginning.{Redoes, redo_count}
 use Rattle.quilt_journal.specs.Kept.{HasHome}
 use Rattle.quilt_journal.specs.Writing.{Writing}
 use Rattle.quilt_journal.proofs.RedoSteps.{Read}

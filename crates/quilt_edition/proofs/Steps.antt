@@ -1,9 +1,9 @@
 -- What each call of a book keeps, and what it tells after it.
 use Rattle.quilt_store.specs.declared.store.StoreErr.{StoreErr}
-use Rattle.std.proofs.Common.{Result, Ok, Err, OnOk, OnErr, IsSome, ◌||◌, ◌≡◌, ◌≢◌, ◌⊎◌, inl, inr, ℕ, ◌+◌, ◌*◌, ◌<◌, ◌≤◌, Bool, true, false, cond, nat_eq, List, [], ◌∷◌, map, length, Option, Some, None, get_or, set, refl, sym, ◌∙◌, ap, subst, arith, get_or-set_same, get_or-set_other}
+use Rattle.std.proofs.Common.{Result, Ok, Err, OnOk, OnErr, IsSome, ◌||◌, ◌≡◌, inl, inr, ℕ, ◌+◌, ◌<◌, ◌≤◌, Bool, true, false, cond, nat_eq, List, [], ◌∷◌, map, length, Option, Some, None, get_or, set, refl, sym, ◌∙◌, ap, subst, arith, get_or-set_same, get_or-set_other}
 use Rattle.std.specs.Option.{IfSome}
 use Rattle.std.specs.Map.{keys_of}
-use Rattle.std.specs.List.{list_any, range_with_len}
+use Rattle.std.specs.List.{list_any}
 use Rattle.std.proofs.Math.ListN.{length-set}
 use Rattle.std.proofs.lemmas.Bool.{cases_Bool, cases_eq, eq-eqb, ne_eqb, false≢true}
 use Rattle.std.proofs.lemmas.List.FromFn.{length-map-range_with_len, get_or-map-range_with_len, fill_by_all}
@@ -13,17 +13,15 @@ use Rattle.quilt_world.specs.Home.{home}
 use Rattle.quilt_world.specs.Stops.{Since}
 use Rattle.quilt_world.specs.Tale.{Tale, IsConsistent, Goes}
 use Rattle.quilt_world.proofs.StopLaws.{seen_page, last_from}
-use Rattle.quilt_world.proofs.Told.{goes_weaker}
 use Rattle.quilt_journal.specs.Changed.{View}
 use Rattle.quilt_journal.specs.Kept.{IsIdle, HasHome, home_page, published, work, is_open_page}
-use Rattle.quilt_journal.specs.declared.journal.State.{State}
-use Rattle.quilt_journal.specs.declared.journal.State.TheVariants.{Idle, Sealed, Carried}
+use Rattle.quilt_journal.specs.declared.journal.State.TheVariants.{Idle}
 use Rattle.quilt_journal.proofs.Homes.{map_same, home_shut, published_is, published_at}
 use Rattle.quilt_node.specs.declared.head.Head.{Head}
 use Rattle.quilt_node.specs.Pages.{IsHeader}
 use Rattle.quilt_store.specs.Store.{Tells}
 use Rattle.quilt_pool.specs.Entries.{Entries, frame_at, page_over}
-use Rattle.quilt_pool.specs.Keeping.{IsWork, Tries, Keeps, Changes}
+use Rattle.quilt_pool.specs.Keeping.{IsWork, Keeps, Changes}
 use Rattle.quilt_edition.specs.Keeping.{IsBook, IsKeptBy, WhileIdle, told_pages, told_in, work_pages, reads_of, IsLater, Moves}
 
 -- what the law of a disk says of its tale

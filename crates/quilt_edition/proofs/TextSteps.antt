@@ -1,6 +1,5 @@
 -- Bytes that are taken or put keep what a book keeps, and what it tells.
-use Rattle.std.specs.Option.{IfSome}
-use Rattle.std.proofs.Common.{Result, Ok, Err, OnErr, IfOk, ◌≡◌, ℕ, Bool, List, [], ◌∷◌, Option, Some, None, unwrap_or, map, refl, sym, ◌∙◌, ap, subst}
+use Rattle.std.proofs.Common.{Result, Ok, Err, OnErr, IfOk, ◌≡◌, ℕ, List, [], ◌∷◌, Option, Some, None, unwrap_or, map, refl, sym, ap, subst}
 use Rattle.quilt_types.specs.Plane.{below}
 use Rattle.quilt_world.specs.Added.{is_of_text, AddsOnly}
 use Rattle.quilt_world.specs.Disk.{Pages}
@@ -11,7 +10,7 @@ use Rattle.quilt_world.specs.declared.event.Event.TheVariants.{Put}
 use Rattle.quilt_world.proofs.TextLaws.{fixed_text, took_text, put_text, nothing_text}
 use Rattle.quilt_world.proofs.Told.{goes_weaker}
 use Rattle.quilt_journal.specs.Changed.{View}
-use Rattle.quilt_journal.specs.Kept.{IsIdle, home_page, published, work}
+use Rattle.quilt_journal.specs.Kept.{home_page, work}
 use Rattle.quilt_journal.specs.declared.journal.State.{State}
 use Rattle.quilt_journal.specs.declared.journal.State.TheVariants.{Idle, Sealed, Carried}
 use Rattle.quilt_journal.proofs.TextSteps.{kept_text}

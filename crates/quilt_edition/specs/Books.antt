@@ -1,5 +1,5 @@
 -- What contracts see of a book.
-use Rattle.std.specs.Prelude.{◌≡◌, ℕ, ◌+◌, Bool, Some}
+use Rattle.std.specs.Prelude.{◌≡◌, ℕ, ◌+◌, Bool}
 use Rattle.quilt_world.specs.Tale.{Tale}
 use Rattle.quilt_world.specs.declared.disk.Disk as disk
 use Rattle.quilt_journal.specs.declared.journal.State.TheVariants.{Idle}

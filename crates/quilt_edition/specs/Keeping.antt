@@ -1,17 +1,17 @@
 -- What a book keeps of its disk, and what it tells of it.
-use Rattle.std.specs.Prelude.{◌≡◌, ℕ, ◌+◌, ◌*◌, ◌<◌, ◌≤◌, Bool, true, false, List, [], ◌++◌, map, length, replicate, Option, Some, None, if◌then◌else◌, ◌&&◌, nat_le, nat_lt, ◌⊎◌, slice_set, filter, not}
+use Rattle.std.specs.Prelude.{◌≡◌, ℕ, Bool, List, map, length, Option, Some, None, ◌&&◌, nat_le, nat_lt, filter, not}
 use Rattle.quilt_types.specs.Plane.{below}
-use Rattle.quilt_world.specs.Disk.{Pages, Log}
+use Rattle.quilt_world.specs.Disk.{Pages}
 use Rattle.quilt_world.specs.Home.{home}
 use Rattle.quilt_world.specs.Stops.{Since, LeavesNow}
-use Rattle.quilt_world.specs.Tale.{Tale, IsSameFile, Goes}
-use Rattle.quilt_journal.specs.Changed.{View, is_changed, has_bit}
-use Rattle.quilt_journal.specs.Kept.{HasHome, IsIdle, work, home_page, published}
+use Rattle.quilt_world.specs.Tale.{Tale}
+use Rattle.quilt_journal.specs.Changed.{View, has_bit}
+use Rattle.quilt_journal.specs.Kept.{HasHome, work, home_page, published}
 use Rattle.quilt_journal.specs.declared.journal.State.{State}
 use Rattle.quilt_journal.specs.declared.journal.State.TheVariants.{Idle, Sealed, Carried}
 use Rattle.quilt_node.specs.declared.head.Head.{Head}
 use Rattle.quilt_node.specs.Pages.{IsHeader}
-use Rattle.quilt_pool.specs.Entries.{Entries, page_over, is_marked, IsClean}
+use Rattle.quilt_pool.specs.Entries.{Entries, page_over, is_marked}
 use Rattle.quilt_pool.specs.Keeping.{IsWork, Tries}
 
 -- ---- what is kept

@@ -1,17 +1,15 @@
 -- What a book keeps has one proof at most, so a ghost field can keep it.
-use Rattle.std.specs.Prelude.{◌≡◌, ℕ, Bool, true, List, [], Option, Some, None, refl}
+use Rattle.std.specs.Prelude.{◌≡◌, ℕ, Bool, List, [], Option, Some, None}
 use Rattle.std.proofs.Common.{◌∙◌, sym, ap, unwrap_or}
 use Rattle.std.proofs.Props.{props}
 use mathlib.Core.HLevel.{Unit-prop, Σ_prop_path}
 use Rattle.quilt_world.specs.Stops.{fixed}
 use Rattle.quilt_world.specs.Tale.{Tale}
 use Rattle.quilt_journal.specs.Changed.{View}
-use Rattle.quilt_journal.specs.Kept.{IsFile, GateIs, HomesAre, HasSlots, IsIdle, work_page, home_page, is_open_page}
-use Rattle.quilt_journal.specs.declared.journal.State.{State}
+use Rattle.quilt_journal.specs.Kept.{GateIs, IsIdle, is_open_page}
 use Rattle.quilt_journal.specs.declared.journal.State.TheVariants.{Idle, Sealed, Carried}
 use Rattle.quilt_node.specs.declared.head.Head.{Head}
-use Rattle.quilt_node.specs.Pages.{IsHead, IsHeader}
-use Rattle.quilt_pool.specs.declared.frame.Frame.{Frame}
+use Rattle.quilt_node.specs.Pages.{IsHead}
 use Rattle.quilt_pool.specs.Entries.{Entries, IsClean, AreBelow}
 use Rattle.quilt_edition.specs.Keeping.{IsBook, IsKeptBy, WhileIdle}
 

@@ -1,6 +1,5 @@
 -- What opening a file as a book finds and leaves.
-use Rattle.std.specs.Prelude.{◌≡◌, ℕ, ◌+◌, ◌*◌, ◌<◌, ◌≤◌, Bool, false, List, [], Option, Some, slice_index_or, replicate}
-use Rattle.std.specs.Option.{IfSome}
+use Rattle.std.specs.Prelude.{◌≡◌, ℕ, false, List, [], Option, slice_index_or, replicate}
 use Rattle.quilt_types.specs.declared.stop.Stop.{Stop}
 use Rattle.quilt_types.specs.declared.stop.Stop.TheVariants as stops
 use Rattle.quilt_world.specs.Causes.{Rose}
@@ -13,7 +12,6 @@ use Rattle.quilt_node.specs.declared.head.Head.{Head}
 use Rattle.quilt_node.specs.Pages.{IsHeader}
 use Rattle.lru.specs.LruCache.{lru_cache}
 use Rattle.quilt_edition.specs.Books.{IsReady, published_free}
-use Rattle.quilt_edition.specs.declared.book.Book.{Book}
 use Rattle.quilt_edition.specs.declared.start.Started.{Started}
 use Rattle.quilt_edition.specs.declared.start.Started.TheVariants.{Ready, NotMap, Stopped}
 

@@ -1,4 +1,4 @@
-use Rattle.std.proofs.Common.{◌≡◌, ℕ, ◌+◌, ◌-◌, ◌<◌, ◌≤◌, false, true, cond, length, filter, ap, sym, ◌∙◌, arith, Fits, w32}
+use Rattle.std.proofs.Common.{◌≡◌, ℕ, ◌+◌, ◌-◌, cond, length, filter, ap, sym, ◌∙◌, arith}
 use Rattle.std.specs.List.{range_with_len}
 use Rattle.quilt_edition.specs.Keeping.{is_free}
 use Rattle.quilt_edition.proofs.Counts.{count_more, count_most}

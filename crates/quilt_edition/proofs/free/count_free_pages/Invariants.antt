@@ -1,4 +1,4 @@
-use Rattle.std.proofs.Common.{◌≡◌, ◌-◌, ◌≤◌, length, filter}
+use Rattle.std.proofs.Common.{◌≡◌, ◌-◌, length, filter}
 use Rattle.std.specs.List.{range_with_len}
 use Rattle.quilt_edition.specs.Keeping.{is_free}
 use Rattle.quilt_edition.proofs.free.count_free_pages.Given as goal

@@ -1,4 +1,4 @@
-use Rattle.std.proofs.Common.{◌≡◌, ℕ, ◌-◌, ◌<◌, ◌≤◌, false, true, length, filter, arith}
+use Rattle.std.proofs.Common.{◌-◌, arith}
 use Rattle.quilt_edition.specs.Keeping.{is_free}
 use Rattle.quilt_edition.proofs.Counts.{count_none}
 use Rattle.quilt_edition.proofs.free.first_free.Goals as goal

@@ -1,4 +1,4 @@
-use Rattle.std.proofs.Common.{length, filter, set, true, ◌+◌, ◌*◌, ◌-◌, ◌≤◌, ◌≡◌, ℕ, refl, sym, ◌∙◌, ap, subst, arith}
+use Rattle.std.proofs.Common.{length, filter, set, true, ◌+◌, ◌*◌, ◌-◌, ◌≤◌, ◌≡◌, refl, ◌∙◌, ap, arith}
 use Rattle.quilt_edition.proofs.Publishing.{drain_stops, moves_drained, moves_torn, on_err_if, goes_drained, goes_old_stops, goes_listed, goes_opening, goes_opened, goes_new_stops, goes_carried, goes_finished}
 use Rattle.std.specs.List.{range_with_len}
 use Rattle.quilt_journal.specs.Changed.{changed_count}

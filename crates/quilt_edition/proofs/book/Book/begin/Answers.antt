@@ -1,4 +1,4 @@
-use Rattle.std.proofs.Common.{◌≡◌, ℕ, [], false, replicate, refl, sym, ◌∙◌, ap, subst}
+use Rattle.std.proofs.Common.{ℕ, false, replicate, refl, sym, ◌∙◌, ap, subst}
 use Rattle.quilt_journal.specs.Beginning.{Gives, IsNew}
 use Rattle.quilt_journal.specs.Changed.{View}
 use Rattle.quilt_pool.specs.declared.pool.Pool.{Pool}
@@ -7,7 +7,7 @@ use Rattle.quilt_node.specs.Pages.{IsHeader}
 use Rattle.quilt_node.specs.Nodes.{HeadFits}
 use Rattle.quilt_node.specs.declared.head.Head.{Head}
 use Rattle.quilt_pool.specs.declared.frame.Frame.{Frame}
-use Rattle.quilt_edition.proofs.Starting.{kept_begun, goes_no_map, goes_opened, goes_no_header, goes_redone}
+use Rattle.quilt_edition.proofs.Starting.{kept_begun, goes_opened, goes_no_header, goes_redone}
 use Rattle.quilt_edition.proofs.book.Book.begin.Goals as goal
 
 pub over-requires-clause-kept : goal.over-requires-clause-kept

@@ -1,4 +1,4 @@
-use Rattle.std.proofs.Common.{◌≡◌, ℕ, ◌+◌, ◌*◌, ◌<◌, ◌≤◌, refl, sym, ◌∙◌, ap, subst, arith}
+use Rattle.std.proofs.Common.{◌+◌, ◌*◌, ◌≤◌, refl, sym, ◌∙◌, ap, subst, arith}
 use Rattle.quilt_pool.specs.Entries.{AreBelow}
 use Rattle.quilt_edition.proofs.Heads.{next_head}
 use Rattle.quilt_edition.proofs.Frees.{left_out_twice, left_out_named}

@@ -1,6 +1,5 @@
 use Rattle.std.proofs.Common.{refl}
 use Rattle.quilt_edition.specs.Laws.{later_same}
-use Rattle.quilt_edition.proofs.Heads.{raised_head}
 use Rattle.quilt_edition.proofs.book.Book.raise.Goals as goal
 
 pub returns-clause-later : goal.returns-clause-later

@@ -1,4 +1,4 @@
-use Rattle.std.proofs.Common.{◌≡◌, ℕ, refl, ◌∙◌, ap}
+use Rattle.std.proofs.Common.{ℕ, refl, ◌∙◌, ap}
 use Rattle.quilt_edition.specs.Keeping.{is_free}
 use Rattle.quilt_edition.specs.Laws.{later_same}
 use Rattle.lru.specs.LruCache.{LruCache}

@@ -1,14 +1,7 @@
-use Rattle.std.proofs.Common.{◌≡◌, ℕ, ◌+◌, ◌*◌, ◌≤◌, false, true, nat_eq, inr, List, length, set, refl, sym, ◌∙◌, ap, subst, arith}
+use Rattle.std.proofs.Common.{◌+◌, ◌*◌, ◌≤◌, false, true, inr, length, refl, sym, ◌∙◌, ap, subst, arith}
 use Rattle.std.proofs.Math.ListN.{length-set}
-use Rattle.std.specs.Map.{keys_of, remove_entry}
-use Rattle.lru.specs.LruCache.{LruCache}
-use Rattle.quilt_store.specs.Store.{Tells}
-use Rattle.quilt_pool.specs.declared.frame.Frame.{Frame}
-use Rattle.quilt_pool.specs.Entries.{AreBelow}
 use Rattle.quilt_pool.proofs.Touching.{discarded_keys}
-use Rattle.quilt_edition.specs.Keeping.{IsKeptBy, told_pages, marked_count}
 use Rattle.quilt_edition.specs.Laws.{later_same}
-use Rattle.quilt_edition.proofs.Counts.{marked_less}
 use Rattle.quilt_edition.proofs.Frees.{frees_only}
 use Rattle.quilt_edition.proofs.Giving.{kept_busy, told_busy, below_gone, kept_given, told_given, marked_given, marked_dropped}
 use Rattle.quilt_node.specs.Pages.{IsHead}

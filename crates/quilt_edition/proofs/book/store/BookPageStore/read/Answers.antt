@@ -1,11 +1,10 @@
-use Rattle.std.proofs.Common.{ℕ, ◌+◌, ◌*◌, ◌≤◌, ap, subst, arith, ◌≡◌, refl, sym, ◌∙◌, IsSome}
+use Rattle.std.proofs.Common.{◌+◌, ◌*◌, ◌≤◌, ap, subst, refl, sym, ◌∙◌}
 use Rattle.quilt_world.proofs.Told.{goes_weaker}
-use Rattle.quilt_world.specs.Tale.{Goes}
 use Rattle.quilt_pool.specs.Entries.{AreBelow}
 use Rattle.quilt_edition.specs.Keeping.{marked_count, Moves}
 use Rattle.quilt_edition.specs.Laws.{later_same}
-use Rattle.quilt_edition.proofs.Counts.{marked_kept, marked_more}
-use Rattle.quilt_edition.proofs.Steps.{work_idle, of_keeps, of_changes, either, later_moves, kept_moves, told_same, told_set, told_bytes, key_found, tells_reads}
+use Rattle.quilt_edition.proofs.Counts.{marked_kept}
+use Rattle.quilt_edition.proofs.Steps.{work_idle, of_keeps, later_moves, kept_moves, told_same, told_bytes, key_found, tells_reads}
 use Rattle.quilt_node.specs.Pages.{IsHead}
 use Rattle.quilt_edition.proofs.book.store.BookPageStore.read.Goals as goal
 

@@ -1,6 +1,5 @@
 use Rattle.std.proofs.Common.{refl}
-use Rattle.quilt_edition.specs.Laws.{free_within, later_same}
-use Rattle.quilt_edition.proofs.Frees.{frees_only}
+use Rattle.quilt_edition.specs.Laws.{later_same}
 use Rattle.quilt_edition.proofs.book.store.BookPageStore.take_page.Goals as goal
 
 pub returns-clause-later : goal.returns-clause-later
