@@ -1,4 +1,12 @@
+pub mod Counts
 pub mod Creations
 pub mod Empties
+pub mod Frees
+pub mod Giving
 pub mod Headers
+pub mod Heads
+pub mod Publishing
+pub mod Starting
+pub mod Steps
+pub mod TextSteps
 pub mod Unlabelled

@@ -1,7 +1,13 @@
-//! Editions: what a map file stands for, and how a file of the empty edition is made.
+//! Editions: what a map file stands for, how a file of the empty edition is made, and the book of one edition and the work on the next.
 #![tactic(auto)]
 
+mod book;
 mod creation;
+mod free;
 mod pages;
+mod publish;
+mod start;
 
+pub use book::Book;
 pub use creation::create;
+pub use start::Started;

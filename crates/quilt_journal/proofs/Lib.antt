@@ -5,7 +5,6 @@ pub mod CarrySteps
 pub mod Clearing
 pub mod CopySteps
 pub mod Counts
-pub mod Front
 pub mod Homes
 pub mod Leaving
 pub mod Publishing

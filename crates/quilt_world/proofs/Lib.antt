@@ -1,4 +1,5 @@
 pub mod AddedLaws
+pub mod Front
 pub mod PageLaws
 pub mod StopLaws
 pub mod TextLaws

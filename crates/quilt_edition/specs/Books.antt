@@ -1,0 +1,54 @@
+-- What contracts see of a book.
+use Rattle.std.specs.Prelude.{◌≡◌, ℕ, ◌+◌, Bool}
+use Rattle.quilt_world.specs.Tale.{Tale}
+use Rattle.quilt_world.specs.declared.disk.Disk as disk
+use Rattle.quilt_journal.specs.declared.journal.State.TheVariants.{Idle}
+use Rattle.quilt_node.specs.declared.head.Head.{Head}
+use Rattle.quilt_node.specs.Pages.{header_bytes}
+use Rattle.quilt_edition.specs.Keeping.{is_left_out}
+use Rattle.quilt_edition.specs.Publishing.{Publishing, Published}
+use Rattle.quilt_edition.specs.declared.book.Book.{Book}
+
+module _ {W : Type 0} {D : disk.Ghosts W} where
+  abbrev pub world_of : Book W D → W
+  world_of b = b.world
+
+  -- the number of home pages
+  abbrev pub pages_of : Book W D → ℕ
+  pages_of b = b.journal.pages
+
+  -- what the header of the last edition says, and that of the work but for the number
+  abbrev pub last_of : Book W D → Head
+  last_of b = b.last
+
+  abbrev pub work_of : Book W D → Head
+  work_of b = b.work
+
+  -- the header of the next edition
+  abbrev pub next_of : Book W D → Head
+  next_of b = record b.work { edition = b.last.edition + 1 }
+
+  -- which pages are free in the last edition
+  abbrev pub published_free : Book W D → ℕ → Bool
+  published_free b = is_left_out b.journal.pages b.used
+
+  -- no publish has failed behind its first write
+  abbrev pub IsReady : Book W D → Type 0
+  IsReady b = b.journal.state ≡ Idle
+
+  -- a stop leaves the published pages, or the work's under the next header
+  abbrev pub Publishes : Book W D → Tale → Tale → Type 0
+  Publishes b = Publishing b.journal.pages b.pool.table.entries b.journal.changed (header_bytes (record b.work { edition = b.last.edition + 1 }))
+
+  -- the latter, which are the published pages of the new book
+  abbrev pub HasPublished : Book W D → Book W D → Tale → Tale → Type 0
+  HasPublished b c = Published b.journal.pages b.pool.table.entries b.journal.changed (header_bytes (record b.work { edition = b.last.edition + 1 })) c.pool.table.entries
+
+  -- all but the world is as before
+  pub record SameBut (old new : Book W D) : Type 0 where
+    pub journal : new.journal ≡ old.journal
+    pub pool : new.pool ≡ old.pool
+    pub last : new.last ≡ old.last
+    pub work : new.work ≡ old.work
+    pub used : new.used ≡ old.used
+    pub free : new.free ≡ old.free

@@ -1,0 +1,89 @@
+ghost use Rattle.quilt_pool.specs.Views.{entries_of};
+ghost use Rattle.std.specs.Prelude.{◌≡◌, Some, refl};
+ghost use Rattle.std.specs.Map.{keys_of};
+ghost use Rattle.quilt_world.specs.Tale.{Goes};
+ghost use Rattle.quilt_edition.specs.Keeping.{told_pages, reads_of, is_free, marked_count, IsLater};
+ghost use Rattle.quilt_edition.specs.Laws.{free_within, told_many, later_same, later_on};
+ghost use Rattle.std.proofs.Common.{◌∙◌};
+
+use crate::book::Book;
+use crate::free::{count_free_pages, first_free, is_free_page};
+use quilt_journal::{State, list_page, unlist_page};
+use quilt_store::{PageStore, StoreErr};
+use quilt_world::Disk;
+
+impl<W: Disk> PageStore for Book<W> {
+    ghost size = { λ s. s.journal.pages };
+
+    ghost told = { λ s. told_pages s.journal (entries_of s.pool) (W.told s.world) };
+
+    ghost free = { λ s. is_free s.journal.pages s.free };
+
+    ghost faults = { λ s. W.faults s.world };
+
+    ghost later = { λ s t. (t.journal.pages ≡ s.journal.pages) × (t.journal.state ≡ s.journal.state) × (t.last ≡ s.last) × (W.door t.world ≡ W.door s.world)
+        × Goes (IsLater s.journal.pages) (W.told s.world) (W.told t.world) };
+
+    ghost held = { λ s. Some (keys_of (entries_of s.pool)) };
+
+    ghost reads = { λ s. reads_of (W.told s.world) };
+
+    ghost changed = { λ s. marked_count s.journal.pages (entries_of s.pool) s.journal.changed };
+
+    fn pages(&self) -> u32 {
+        self.journal.pages()
+    }
+
+    fn free_pages(&self) -> u32 {
+        count_free_pages(&self.free, self.journal.pages())
+    }
+
+    fn is_free(&self, page: u32) -> bool {
+        is_free_page(&self.free, page, self.journal.pages())
+    }
+
+    fn read(&mut self, page: u32, into: &mut [u8; 4096]) -> Result<(), StoreErr> {
+        let State::Idle = self.journal.state() else {
+            return Err(StoreErr::Memory);
+        };
+        self.pool
+            .read(&mut self.journal, &mut self.world, page, into)?;
+        Ok(())
+    }
+
+    fn write(&mut self, page: u32, bytes: &[u8; 4096]) -> Result<(), StoreErr> {
+        let State::Idle = self.journal.state() else {
+            return Err(StoreErr::Memory);
+        };
+        self.pool
+            .write(&mut self.journal, &mut self.world, page, bytes)?;
+        Ok(())
+    }
+
+    fn take_page(&mut self) -> u32 {
+        let page = first_free(&self.free, self.journal.pages());
+        unlist_page(&mut self.free, page);
+        page
+    }
+
+    fn give_page(&mut self, page: u32) {
+        list_page(&mut self.free, page);
+        self.pool.discard(page);
+        let State::Idle = self.journal.state() else {
+            return;
+        };
+        self.journal.clear(page);
+    }
+
+    ghost in_range = { λ s. (s.least, s.most) };
+
+    ghost free_pages_are = { λ s page h. free_within s.journal.pages s.free page h };
+
+    ghost as_many = { λ s. told_many s.journal (entries_of s.pool) (W.told s.world) };
+
+    ghost held_once = { λ s. s.pool.distinct };
+
+    ghost same_time = { λ s. (refl, refl, refl, refl, later_same s.journal.pages (W.told s.world)) };
+
+    ghost goes_on = { λ s t u p q. (q.0 ∙ p.0, q.1 ∙ p.1, q.2 ∙ p.2, q.3 ∙ p.3, later_on s.journal.pages t.journal.pages (W.told s.world) (W.told t.world) (W.told u.world) p.0 p.4 q.4) };
+}

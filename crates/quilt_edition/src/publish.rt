@@ -1,0 +1,49 @@
+ghost use Rattle.quilt_pool.specs.Views.{entries_of};
+ghost use Rattle.std.specs.Prelude.{◌≡◌, ℕ, ◌+◌, ◌*◌, ◌<◌, ◌≤◌, false, replicate, length, IfSome, OnOk, OnErr};
+ghost use Rattle.quilt_world.specs.Causes.{HasCause};
+ghost use Rattle.quilt_world.specs.Tale.{Goes};
+ghost use Rattle.quilt_journal.specs.declared.journal.State.TheVariants.{Idle};
+ghost use Rattle.quilt_journal.specs.Writing.{Writing};
+ghost use Rattle.quilt_pool.specs.Entries.{AreBelow, is_dirty};
+ghost use Rattle.quilt_pool.specs.Keeping.{IsWork};
+ghost use Rattle.quilt_edition.specs.Keeping.{Moves, marked_count};
+ghost use Rattle.quilt_edition.specs.Publishing.{Publishing, Published};
+
+use quilt_journal::Journal;
+use quilt_pool::Pool;
+use quilt_world::{Disk, Fault};
+
+/// Publishes the pages of the work under a new header.
+pub fn publish_pages<W: Disk>(
+    world: &mut W,
+    journal: &mut Journal,
+    pool: &mut Pool,
+    header: &[u8; 4096],
+) -> Result<(), Fault>
+    requires idle { journal.old.state ≡ Idle }
+    requires bits { length journal.old.changed ≡ journal.old.pages }
+    requires range { (16 ≤ journal.old.pages) × (journal.old.pages ≤ 30000) }
+    requires below { AreBelow journal.old.pages (entries_of pool.old) }
+    requires size { W.size world.old ≡ 3 + 2 * journal.old.pages }
+    requires kept { IfSome (W.told world.old) (IsWork journal.old.pages (entries_of pool.old) journal.old.changed) }
+    ensures cause { HasCause (W.faults world.old) (W.faults world.new) result }
+    ensures size { W.size world.new ≡ W.size world.old }
+    ensures door { W.door world.new ≡ W.door world.old }
+    ensures pages { journal.new.pages ≡ journal.old.pages }
+    ensures below { AreBelow journal.old.pages (entries_of pool.new) }
+    ensures bits { length journal.new.changed ≡ journal.new.pages }
+    ensures left { OnErr result (journal.new.state ≡ Idle → Goes (Moves journal.old.pages (entries_of pool.new) journal.new.changed) (W.told world.old) (W.told world.new)) }
+    ensures writes { Goes (Writing (2 * marked_count journal.old.pages (entries_of pool.old) journal.old.changed + 5)) (W.told world.old) (W.told world.new) }
+    ensures state { OnOk result (journal.new.state ≡ Idle) }
+    ensures changed { OnOk result (journal.new.changed ≡ replicate journal.old.pages false) }
+    ensures clean { OnOk result ((i : ℕ) → is_dirty (entries_of pool.new) i ≡ false) }
+    ensures crash { Goes (Publishing journal.old.pages (entries_of pool.old) journal.old.changed header.now) (W.told world.old) (W.told world.new) }
+    ensures published { OnOk result (Goes (Published journal.old.pages (entries_of pool.old) journal.old.changed header.now (entries_of pool.new)) (W.told world.old) (W.told world.new)) }
+{
+    pool.drain_dirty(journal, world)?;
+    journal.write_slot(world, 0, header)?;
+    journal.seal(world)?;
+    journal.carry_home(world)?;
+    journal.unseal(world)?;
+    Ok(())
+}
