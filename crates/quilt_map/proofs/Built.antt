@@ -1,5 +1,5 @@
 -- A command that an item spells is one of those that are built, and its colour is one of the format.
-use Rattle.std.proofs.Common.{◌≡◌, ◌⊎◌, inl, inr, ℕ, ◌<◌, ◌≤◌, ◌-◌, arith, Bool, true, false, cond, ◌&&◌, nat_le, List, [], ◌∷◌, ◌++◌, length, Option, Some, None, Result, Ok, Err, refl, sym, ◌∙◌, ap, subst, ◌==◌, codes, option_map}
+use Rattle.std.proofs.Common.{◌≡◌, inl, inr, ℕ, ◌<◌, ◌≤◌, ◌-◌, arith, Bool, true, false, cond, ◌&&◌, nat_le, List, [], ◌∷◌, ◌++◌, length, Option, Some, None, Result, Ok, Err, refl, sym, ◌∙◌, ap, subst, ◌==◌, codes, option_map}
 use Rattle.std.specs.List.{list_all}
 use Rattle.std.specs.Str.{bytes_eq}
 use Rattle.std.proofs.lemmas.Bool.{and_parts, leb-true}
@@ -16,7 +16,7 @@ use Rattle.quilt_lang.specs.declared.item.Item.TheVariants.{Long, Line, Rows, Po
 use Rattle.quilt_lang.specs.Items.{held, is_plain, words_of}
 use Rattle.quilt_lang.specs.Spelling.{number, is_spelled, value_of}
 use Rattle.quilt_lang.specs.Built.{is_built as is_built_word}
-use Rattle.quilt_lang.specs.Forms.{Further, Argument, A_name, A_number, A_signed, colour, pixel, window, Entry, Value, Called, Number, Signed, entry_in_all, entry_of, with_count, or_err, ◌>>=◌, argument_value, values_of, form_of_words, form_of_line, form, Spelled, region_command, set_command, at_command, show_command, edition_command}
+use Rattle.quilt_lang.specs.Forms.{Further, Argument, A_name, A_number, A_signed, colour, pixel, window, Entry, Value, Called, Number, entry_in_all, entry_of, with_count, or_err, ◌>>=◌, argument_value, values_of, form_of_words, form_of_line, form, Spelled, region_command, set_command, at_command, show_command, edition_command}
 use Rattle.quilt_map.proofs.MapOf.{bool_cases, same_bytes}
 
 abbrev pub is_built : Command → Bool

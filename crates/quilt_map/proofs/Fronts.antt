@@ -1,9 +1,9 @@
 -- The replies to items, and then to more.
-use Rattle.std.proofs.Common.{◌≡◌, ℕ, suc, false, List, [], ◌∷◌, ◌++◌, length, length-append, take, map, refl, sym, ◌∙◌, ap, arith, append-nil, unwrap_or}
-use Rattle.std.proofs.lemmas.List.{take_at, length-map}
+use Rattle.std.proofs.Common.{◌≡◌, ℕ, suc, false, List, [], ◌∷◌, ◌++◌, length, length-append, take, refl, sym, ◌∙◌, ap, arith, append-nil, unwrap_or}
+use Rattle.std.proofs.lemmas.List.{take_at}
 use Rattle.quilt_types.specs.Layers.{Map, Edition}
 use Rattle.quilt_world.specs.Tale.{Begins}
-use Rattle.quilt_lang.specs.Items.{Group, held, items_of, whole_items}
+use Rattle.quilt_lang.specs.Items.{Group, items_of}
 use Rattle.quilt_lang.specs.Reading.{Gives}
 use Rattle.quilt_map.specs.Answers.{Reply}
 use Rattle.quilt_map.specs.Runs.{run, run_of, replies_of, outcome_of, form_in}

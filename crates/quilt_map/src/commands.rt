@@ -70,6 +70,7 @@ impl Work {
     /// Makes a region layer of one colour of the format.
     pub fn region(&mut self, a: &Name, c: Colour) -> Result<Reply, AllocError>
         requires { c.0 < layers.colours self.old.format }
+        ensures format { self.new.format ≡ self.old.format }
         ensures refused { IfOk result (λ reply. IsRefusal reply → self.new ≡ self.old) }
         ensures answer { IfOk result (λ reply. (q : ℕ) → IsWithinQuota (state_of q self.old) (commands.Region a.now c) →
             IsAnswer (state_of q self.old) (commands.Region a.now c) reply (state_of q self.new)) }
@@ -88,6 +89,7 @@ impl Work {
     /// Gives a pixel a colour of the format.
     pub fn set(&mut self, a: &Name, at: Pixel, c: Colour) -> Result<Reply, AllocError>
         requires { c.0 < layers.colours self.old.format }
+        ensures format { self.new.format ≡ self.old.format }
         ensures refused { IfOk result (λ reply. IsRefusal reply → self.new ≡ self.old) }
         ensures answer { IfOk result (λ reply. (q : ℕ) → IsWithinQuota (state_of q self.old) (commands.Set a.now at c) →
             IsAnswer (state_of q self.old) (commands.Set a.now at c) reply (state_of q self.new)) }
