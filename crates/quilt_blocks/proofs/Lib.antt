@@ -1,3 +1,4 @@
+pub mod Adding
 pub mod Chains
 pub mod Colours
 pub mod Cuts
@@ -7,3 +8,4 @@ pub mod Maximal
 pub mod Merging
 pub mod Painting
 pub mod Places
+pub mod Squares

@@ -23,7 +23,7 @@ use Rattle.quilt_blocks.proofs.Cuts.{leaves_run, leaves_members, leaf_is}
 use Rattle.quilt_blocks.proofs.Listed.{held_in}
 use Rattle.quilt_blocks.proofs.Painting.{code_in}
 use Rattle.quilt_buffer.specs.Reach.{reaches, near, is_coloured, blocks_with_colour}
-use Rattle.quilt_buffer.proofs.Squares.{grid_of-same}
+use Rattle.quilt_blocks.proofs.Squares.{grid_of-same}
 use Rattle.quilt_buffer.proofs.Reaching.{any_member, any_from, InReach, InReach-from, reaches-true}
 
 apart : (a b : ℕ) → difference_of a b ≡ (a - b) + (b - a)

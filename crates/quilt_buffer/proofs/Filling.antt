@@ -7,9 +7,9 @@ use Rattle.quilt_loc.specs.Codes.{code_from, code_to}
 use Rattle.quilt_loc.proofs.Blocks.{side_most}
 use Rattle.quilt_loc.proofs.Intervals.{held_code}
 use Rattle.quilt_blocks.specs.Painting.{Painted}
-use Rattle.quilt_buffer.specs.Adding.{Adds}
+use Rattle.quilt_blocks.specs.Adding.{Adds}
 use Rattle.quilt_buffer.specs.Reach.{near, reaches_some}
-use Rattle.quilt_buffer.proofs.Adding.{Adds-change}
+use Rattle.quilt_blocks.proofs.Adding.{Adds-change}
 use Rattle.quilt_buffer.proofs.Reaching.{near_close}
 
 pub positive : (k : ℕ) → eqb k 0 ≡ false → 0 < k

@@ -3,7 +3,7 @@ ghost use Rattle.quilt_types.specs.Plane.{IsBlock};
 ghost use Rattle.quilt_types.specs.Algebra.{buffered};
 ghost use Rattle.quilt_loc.specs.Codes.{code_from, code_to};
 ghost use Rattle.quilt_blocks.specs.Cutting.{leaves_by_code};
-ghost use Rattle.quilt_buffer.specs.Adding.{Adds};
+ghost use Rattle.quilt_blocks.specs.Adding.{Adds};
 ghost use Rattle.quilt_buffer.specs.Reach.{near, blocks_with_colour};
 
 use crate::reach::{blocks_near, is_covered};

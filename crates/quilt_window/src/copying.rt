@@ -3,7 +3,7 @@ ghost use Rattle.quilt_types.specs.declared.plane.Pixel.{Pixel as PixelValue};
 ghost use Rattle.quilt_types.specs.Plane.{side as side_of, Holds, IsBlock, Within};
 ghost use Rattle.quilt_types.specs.Algebra.{grid_of};
 ghost use Rattle.quilt_loc.specs.Codes.{code_from, code_to, IsSide};
-ghost use Rattle.quilt_window.specs.Adding.{Adds};
+ghost use Rattle.quilt_blocks.specs.Adding.{Adds};
 ghost use Rattle.quilt_window.specs.Copying.{IsSpan, copied, square};
 
 use crate::span::Span;

@@ -1,5 +1,4 @@
-use Rattle.std.proofs.Common.{◌≡◌, ℕ, ◌^◌, length, refl, sym, ◌∙◌, ap, subst, arith}
-use Rattle.quilt_types.specs.declared.plane.Block.{Block}
+use Rattle.std.proofs.Common.{◌^◌, length, sym, ◌∙◌, ap, subst, arith}
 use Rattle.quilt_types.specs.Plane.{whole, IsBlock}
 use Rattle.quilt_loc.proofs.Quartered.{IsBlock-whole}
 use Rattle.quilt_loc.proofs.Intervals.{origin_code}

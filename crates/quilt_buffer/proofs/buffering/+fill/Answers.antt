@@ -6,9 +6,9 @@ use Rattle.quilt_loc.specs.Codes.{code_from, code_to}
 use Rattle.quilt_loc.proofs.Blocks.{IsBlock-up}
 use Rattle.quilt_loc.proofs.Nesting.{side_pos}
 use Rattle.quilt_loc.proofs.Intervals.{half_codes}
-use Rattle.quilt_buffer.specs.Adding.{Adds}
+use Rattle.quilt_blocks.specs.Adding.{Adds}
 use Rattle.quilt_buffer.specs.Reach.{near}
-use Rattle.quilt_buffer.proofs.Adding.{Adds-then, Adds-push, part_at}
+use Rattle.quilt_blocks.proofs.Adding.{Adds-then, Adds-push, part_at}
 use Rattle.quilt_buffer.proofs.Filling.{filled_by_all}
 use Rattle.quilt_buffer.proofs.Reaching.{near_covered, near_none, wide_if}
 use Rattle.quilt_buffer.proofs.buffering.+fill.Goals as goal

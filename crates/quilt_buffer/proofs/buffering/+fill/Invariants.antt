@@ -1,6 +1,6 @@
 use Rattle.std.proofs.Common.{◌+◌, ◌*◌, ◌/◌}
 use Rattle.quilt_loc.specs.Codes.{code_from}
-use Rattle.quilt_buffer.specs.Adding.{Adds}
+use Rattle.quilt_blocks.specs.Adding.{Adds}
 use Rattle.quilt_buffer.specs.Reach.{near}
 use Rattle.quilt_buffer.proofs.buffering.+fill.Given as goal
 

@@ -4,9 +4,9 @@ use Rattle.quilt_loc.specs.Codes.{code_to}
 use Rattle.quilt_loc.proofs.Intervals.{origin_code}
 use Rattle.quilt_blocks.specs.Painting.{Painted, grid_by_code}
 use Rattle.quilt_blocks.specs.Cutting.{leaves_by_code}
-use Rattle.quilt_buffer.specs.Adding.{Adds}
+use Rattle.quilt_blocks.specs.Adding.{Adds}
 use Rattle.quilt_buffer.specs.Reach.{near, blocks_with_colour}
-use Rattle.quilt_buffer.proofs.Adding.{Adds-whole, Adds-all}
+use Rattle.quilt_blocks.proofs.Adding.{Adds-whole, Adds-all}
 use Rattle.quilt_buffer.proofs.Buffers.{buffered_is}
 use Rattle.quilt_buffer.proofs.buffering.buffer.Goals as goal
 

@@ -3,9 +3,9 @@ use Rattle.std.proofs.lemmas.Result.{on_ok_weaker}
 use Rattle.quilt_loc.specs.Codes.{code_from, code_to}
 use Rattle.quilt_loc.proofs.Blocks.{IsBlock-up}
 use Rattle.quilt_loc.proofs.Intervals.{half_codes}
-use Rattle.quilt_window.specs.Adding.{Adds}
+use Rattle.quilt_blocks.specs.Adding.{Adds}
 use Rattle.quilt_window.specs.Copying.{copied}
-use Rattle.quilt_window.proofs.Adding.{Adds-then, Adds-push, part_at}
+use Rattle.quilt_blocks.proofs.Adding.{Adds-then, Adds-push, part_at}
 use Rattle.quilt_window.proofs.copying.+copy_block.Goals as goal
 
 pub returns-in-Some : goal.returns-in-Some

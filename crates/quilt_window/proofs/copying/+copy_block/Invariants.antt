@@ -1,6 +1,6 @@
 use Rattle.std.proofs.Common.{◌+◌, ◌*◌, ◌/◌}
 use Rattle.quilt_loc.specs.Codes.{code_from}
-use Rattle.quilt_window.specs.Adding.{Adds}
+use Rattle.quilt_blocks.specs.Adding.{Adds}
 use Rattle.quilt_window.specs.Copying.{copied}
 use Rattle.quilt_window.proofs.copying.+copy_block.Given as goal
 

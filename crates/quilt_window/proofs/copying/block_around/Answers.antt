@@ -5,7 +5,7 @@ use Rattle.quilt_types.specs.Plane.{side, parent_of, Holds, IsBlock}
 use Rattle.quilt_loc.proofs.Blocks.{side_most}
 use Rattle.quilt_loc.proofs.Nesting.{Within-holds, Within-parent_of, IsBlock-parent_of, side_pos}
 use Rattle.quilt_loc.proofs.Quartered.{side_le}
-use Rattle.quilt_window.proofs.Squares.{IsBlock-down}
+use Rattle.quilt_blocks.proofs.Squares.{IsBlock-down}
 use Rattle.quilt_window.proofs.copying.block_around.Goals as goal
 
 pub block_at-b-requires-clause-in_x : goal.block_at-b-requires-clause-in_x

@@ -2,7 +2,7 @@ use Rattle.std.proofs.Common.{ℕ, ◌^◌, length, sym, ◌∙◌, ap}
 use Rattle.quilt_loc.proofs.Intervals.{origin_code}
 use Rattle.quilt_blocks.specs.Painting.{Painted, grid_by_code}
 use Rattle.quilt_window.specs.Copying.{copied}
-use Rattle.quilt_window.proofs.Adding.{Adds-whole, Adds-all}
+use Rattle.quilt_blocks.proofs.Adding.{Adds-whole, Adds-all}
 use Rattle.quilt_window.proofs.copying.copy.Goals as goal
 
 pub copy_block-requires-clause-next : goal.copy_block-requires-clause-next

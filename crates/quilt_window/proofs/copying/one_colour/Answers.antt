@@ -1,5 +1,5 @@
 use Rattle.std.proofs.lemmas.Option.{IfSome_then}
-use Rattle.quilt_window.proofs.Squares.{block_room}
+use Rattle.quilt_blocks.proofs.Squares.{block_room}
 use Rattle.quilt_window.proofs.Sources.{span_room, copied_in}
 use Rattle.quilt_window.proofs.copying.one_colour.Goals as goal
 

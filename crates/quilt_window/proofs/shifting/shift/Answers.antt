@@ -6,7 +6,7 @@ use Rattle.quilt_types.specs.Layers.{Grid}
 use Rattle.quilt_types.specs.Algebra.{colour_from, moved}
 use Rattle.quilt_blocks.specs.Raster.{Raster}
 use Rattle.quilt_window.specs.Copying.{copied}
-use Rattle.quilt_window.proofs.Squares.{grid_of-same}
+use Rattle.quilt_blocks.proofs.Squares.{grid_of-same}
 use Rattle.quilt_window.proofs.shifting.shift.Goals as goal
 
 pub returns : goal.returns

@@ -3,7 +3,7 @@ use Rattle.quilt_types.specs.declared.plane.Block.{Block}
 use Rattle.quilt_loc.specs.Codes.{code_to}
 use Rattle.quilt_loc.proofs.Intervals.{origin_code}
 use Rattle.quilt_blocks.specs.Painting.{Painted}
-use Rattle.quilt_window.proofs.Squares.{width, code_to-whole}
+use Rattle.quilt_blocks.proofs.Squares.{width, code_to-whole}
 use Rattle.quilt_window.proofs.tests.uniform.Goals as goal
 
 pub push-requires-clause-next : goal.push-requires-clause-next

@@ -4,7 +4,7 @@ use Rattle.quilt_types.specs.Plane.{in_window}
 use Rattle.quilt_types.specs.Layers.{Grid, colour_at}
 use Rattle.quilt_blocks.specs.Raster.{Raster}
 use Rattle.quilt_window.specs.Copying.{copied}
-use Rattle.quilt_window.proofs.Squares.{grid_of-same}
+use Rattle.quilt_blocks.proofs.Squares.{grid_of-same}
 use Rattle.quilt_window.proofs.Sources.{copied_window}
 use Rattle.quilt_window.proofs.windowing.window.Goals as goal
 

@@ -12,8 +12,8 @@ use Rattle.quilt_loc.proofs.Blocks.{side_most}
 use Rattle.quilt_loc.proofs.Intervals.{held_code, half_codes}
 use Rattle.quilt_blocks.specs.Painting.{Painted, grid_by_code}
 use Rattle.quilt_blocks.proofs.Painting.{Paints-all}
-use Rattle.quilt_buffer.specs.Adding.{Adds}
-use Rattle.quilt_buffer.proofs.Squares.{width, code_to-whole}
+use Rattle.quilt_blocks.specs.Adding.{Adds}
+use Rattle.quilt_blocks.proofs.Squares.{width, code_to-whole}
 
 pub Adds-none : (n : ℕ) (f : Pixel → ℕ) (m : Painted) → Adds n f (length m.colours) m m
 Adds-none n f m = record { level = refl; long = refl; kept = λ k lt. refl; each = λ p hx hy low high. absurd (omega arith) }
