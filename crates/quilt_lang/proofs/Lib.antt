@@ -3,6 +3,7 @@ pub mod LineLaws
 pub mod Pieces
 pub mod Long
 pub mod Holding
+pub mod Joins
 pub mod Recolours
 pub mod Remarks
 pub mod Rings

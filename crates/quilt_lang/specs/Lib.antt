@@ -6,6 +6,7 @@ pub mod Made
 pub mod Pairs
 pub mod Parsing
 pub mod Reading
+pub mod Spelled
 pub mod Spelling
 pub mod Taking
 pub mod Trials

@@ -70,18 +70,29 @@ fn value(digits: &[u8], high: u32) -> Option<u32>
     Some(v as u32)
 }
 
-/// The number from `low` to `high` that a word spells.
+/// The number from `low` to `high` that a word spells, if it spells one.
 #[tactic(auto, unfolding(crate::specs::Spelling::number))]
+pub fn number_of(low: u32, high: u32, word: &[u8]) -> Option<u32>
+    ensures is { result ≡ number low high word.now }
+    ensures within { IfSome result (IsWithin low high) }
+{
+    if !is_number(word) {
+        return None;
+    }
+    match value(word, high) {
+        Some(n) if n >= low => Some(n),
+        _ => None,
+    }
+}
+
+/// The number from `low` to `high` that a word spells.
 pub fn parse_number(low: u32, high: u32, word: &[u8]) -> Result<u32, ParseErr>
     ensures is { Answers result (or_err codes_of.Number (number low high word.now)) }
     ensures within { IfOk result (IsWithin low high) }
 {
-    if !is_number(word) {
-        return Err(ParseErr::No(Code::Number));
-    }
-    match value(word, high) {
-        Some(n) if n >= low => Ok(n),
-        _ => Err(ParseErr::No(Code::Number)),
+    match number_of(low, high, word) {
+        Some(n) => Ok(n),
+        None => Err(ParseErr::No(Code::Number)),
     }
 }
 

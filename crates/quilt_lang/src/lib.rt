@@ -15,6 +15,7 @@ mod reading;
 mod recolour;
 mod refusal;
 mod shapes;
+mod spelled;
 mod word;
 mod words;
 

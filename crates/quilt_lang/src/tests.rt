@@ -1,5 +1,9 @@
+use crate::commands::command;
+use crate::spelled::raster_rows;
+use crate::word::Word;
+use crate::words::line_words;
 use crate::{Command, Item, Pairs, ParseErr, items_in, parse, refusal_text, whole_items_in};
-use quilt_types::{Code, Colour};
+use quilt_types::{Code, Colour, Text};
 use std::alloc::Global;
 use std::test::Fail;
 
@@ -52,5 +56,93 @@ fn spells_refusals_and_pairs(rt: HostRuntime) -> Result<(), Fail> {
     let mut pairs = Pairs::of(Colour(1), Colour(2));
     pairs.push(Colour(3), Colour(4));
     assert_eq!(rt; pairs.items().len(), 2);
+    Ok(())
+}
+
+/// What a line spells where all commands are built: nothing, or the refusal.
+fn refused_by_all(alloc: Global, format: u8, line: &[u8]) -> Result<Option<Code>, Fail> {
+    let words = line_words(alloc, line)?;
+    let word = words.first().ok_or("no word")?;
+    let Some(known) = Word::of(word) else {
+        return Ok(Some(Code::Word));
+    };
+    let item = Item::Line(Text::new(alloc));
+    match command(alloc, format, known, &words[1..], &item) {
+        Ok(_) => Ok(None),
+        Err(ParseErr::No(code)) => Ok(Some(code)),
+        Err(ParseErr::Memory) => Err(Fail::from("memory")),
+    }
+}
+
+#[test]
+fn refuses_by_ranges(rt: HostRuntime) -> Result<(), Fail> {
+    let alloc = rt.alloc();
+    assert_eq!(rt;
+        refused_by_all(alloc, 1, b"region a 256")?,
+        Some(Code::Number)
+    );
+    assert_eq!(rt; refused_by_all(alloc, 2, b"region a 65535")?, None);
+    assert_eq!(rt;
+        refused_by_all(alloc, 2, b"region a 65536")?,
+        Some(Code::Number)
+    );
+    assert_eq!(rt;
+        refused_by_all(alloc, 1, b"points p 17")?,
+        Some(Code::Number)
+    );
+    assert_eq!(rt;
+        refused_by_all(alloc, 1, b"points p 0 1")?,
+        Some(Code::Count)
+    );
+    assert_eq!(rt;
+        refused_by_all(alloc, 1, b"lines l 33")?,
+        Some(Code::Number)
+    );
+    assert_eq!(rt;
+        refused_by_all(alloc, 1, b"rank l 1 1 0")?,
+        Some(Code::Number)
+    );
+    assert_eq!(rt;
+        refused_by_all(alloc, 1, b"shift a -0 1 c")?,
+        Some(Code::Number)
+    );
+    Ok(())
+}
+
+#[test]
+fn refuses_in_order(rt: HostRuntime) -> Result<(), Fail> {
+    let alloc = rt.alloc();
+    assert_eq!(rt;
+        refused_by_all(alloc, 1, b"recolour a c 1")?,
+        Some(Code::Count)
+    );
+    assert_eq!(rt;
+        refused_by_all(alloc, 1, b"recolour a c 1 2 3 256")?,
+        Some(Code::Number)
+    );
+    assert_eq!(rt;
+        refused_by_all(alloc, 1, b"show A 1 2 3 x")?,
+        Some(Code::Name)
+    );
+    assert_eq!(rt;
+        refused_by_all(alloc, 1, b"show a 1 2 0 x")?,
+        Some(Code::Number)
+    );
+    assert_eq!(rt; refused(alloc, b"publish\n")?, Some(Code::Word));
+    assert_eq!(rt; refused(alloc, b"raster a\n")?, Some(Code::Word));
+    Ok(())
+}
+
+#[test]
+fn reads_rows_of_both_formats(rt: HostRuntime) -> Result<(), Fail> {
+    let alloc = rt.alloc();
+    let lines: Vec<&[u8]> = vec![in alloc; b"00Ff".as_slice(), b"0102".as_slice()]?;
+    let narrow = raster_rows(alloc, 1, 2, &lines)?.ok_or("no rows")?;
+    assert_eq!(rt; narrow.bytes(), [0, 0, 0, 255, 0, 1, 0, 2].as_slice());
+    let wide = raster_rows(alloc, 2, 1, &lines)?.ok_or("no rows")?;
+    assert_eq!(rt; wide.bytes(), [0, 255, 1, 2].as_slice());
+    assert!(rt; raster_rows(alloc, 2, 2, &lines)?.is_none());
+    let bad: Vec<&[u8]> = vec![in alloc; b"00g0".as_slice()]?;
+    assert!(rt; raster_rows(alloc, 2, 1, &bad)?.is_none());
     Ok(())
 }

@@ -1,0 +1,148 @@
+-- Lists that are read a part at a time, and are nothing where a part is.
+use Rattle.std.proofs.Common.{◌≡◌, ◌≢◌, ◌%◌, ◌==◌, IfSome, ℕ, suc, ◌+◌, ◌*◌, ◌<◌, ◌≤◌, Bool, true, false, nat_le, List, [], ◌∷◌, ◌++◌, length, map, drop, get_or, Option, Some, None, option_map, option_and_then, if◌then◌else◌, cond, refl, sym, ◌∙◌, ap, arith, append_assoc, append-nil, drop-cons}
+use Rattle.std.proofs.lemmas.List.{drop_all}
+use Rattle.quilt_types.specs.declared.plane.Point.{Point}
+use Rattle.quilt_lang.specs.Items.{points_joined, point_of, words_of, rows_joined, colour_bytes}
+use Rattle.quilt_lang.specs.Spelled.{with_byte}
+use Rattle.quilt_lang.proofs.Holding.{Bytes, row_bytes}
+use Rattle.quilt_lang.specs.Spelling.{row}
+
+-- what one part and the others make
+abbrev pub before : {A : Type 0} → Option (List A) → Option (List A) → Option (List A)
+before first others = option_and_then (λ b. option_map (λ r. b ++ r) others) first
+
+onto_more : {A : Type 0} (got b : List A) (others : Option (List A)) → option_map (λ r. got ++ r) (before (Some b) others) ≡ option_map (λ r. (got ++ b) ++ r) others
+onto_more got b None = refl
+onto_more got b (Some r) = ap Some (sym (append_assoc got b r))
+
+-- the point of a list line
+abbrev pub one_point : List ℕ → Option Point
+one_point line = if nat_le (length line) 64 then point_of (words_of line) else None
+
+either_point : (b : Bool) (p : Option Point) (others : Option (List Point)) →
+    cond b (option_and_then (λ q. option_map (λ ps. q ∷ ps) others) p) None ≡ before (option_map (λ q. q ∷ []) (cond b p None)) others
+either_point true None others = refl
+either_point true (Some p) None = refl
+either_point true (Some p) (Some ps) = refl
+either_point false p others = refl
+
+points_next : (line : List ℕ) (lines : List (List ℕ)) → points_joined (line ∷ lines) ≡ before (option_map (λ q. q ∷ []) (one_point line)) (points_joined lines)
+points_next line lines = either_point (nat_le (length line) 64) (point_of (words_of line)) (points_joined lines)
+
+-- so far these points were read
+abbrev pub PointsSoFar : {X : Type 0} → (X → List ℕ) → List X → ℕ → List Point → Type 0
+PointsSoFar g xs i got = points_joined (map g xs) ≡ option_map (λ r. got ++ r) (points_joined (map g (drop i xs)))
+
+some_same : {A : Type 0} (r : Option (List A)) → r ≡ option_map (λ x. [] ++ x) r
+some_same None = refl
+some_same (Some x) = refl
+
+pub points_none : {X : Type 0} (g : X → List ℕ) (xs : List X) → PointsSoFar g xs 0 []
+points_none g xs = some_same (points_joined (map g xs))
+
+points_at : {X : Type 0} (g : X → List ℕ) (xs : List X) (i : ℕ) (d : X) (got : List Point) → i < length xs → PointsSoFar g xs i got →
+    points_joined (map g xs) ≡ option_map (λ r. got ++ r) (before (option_map (λ q. q ∷ []) (one_point (g (get_or xs i d)))) (points_joined (map g (drop (suc i) xs))))
+points_at g xs i d got within so =
+    so ∙ ap (λ ys. option_map (λ r. got ++ r) (points_joined (map g ys))) (drop-cons xs i d within)
+    ∙ ap (option_map (λ r. got ++ r)) (points_next (g (get_or xs i d)) (map g (drop (suc i) xs)))
+
+pub points_more : {X : Type 0} (g : X → List ℕ) (xs : List X) (i : ℕ) (d : X) (got : List Point) (p : Point) → i < length xs → PointsSoFar g xs i got →
+    Some p ≡ one_point (g (get_or xs i d)) → PointsSoFar g xs (i + 1) (got ++ p ∷ [])
+points_more g xs i d got p within so is =
+    let next : i + 1 ≡ suc i = omega arith in
+    rw next
+    (points_at g xs i d got within so
+    ∙ ap (λ (o : Option Point). option_map (λ r. got ++ r) (before (option_map (λ q. q ∷ []) o) (points_joined (map g (drop (suc i) xs))))) (sym is)
+    ∙ onto_more got (p ∷ []) (points_joined (map g (drop (suc i) xs))))
+
+pub points_fail : {X : Type 0} (g : X → List ℕ) (xs : List X) (i : ℕ) (d : X) (got : List Point) → i < length xs → PointsSoFar g xs i got →
+    None ≡ one_point (g (get_or xs i d)) → None ≡ points_joined (map g xs)
+points_fail g xs i d got within so is =
+    sym
+    (points_at g xs i d got within so
+    ∙ ap (λ (o : Option Point). option_map (λ r. got ++ r) (before (option_map (λ q. q ∷ []) o) (points_joined (map g (drop (suc i) xs))))) (sym is))
+
+pub points_end : {X : Type 0} (g : X → List ℕ) (xs : List X) (i : ℕ) (got : List Point) → length xs ≤ i → PointsSoFar g xs i got → Some got ≡ points_joined (map g xs)
+points_end g xs i got past so = sym (so ∙ ap (λ ys. option_map (λ r. got ++ r) (points_joined (map g ys))) (drop_all i xs past) ∙ ap Some (append-nil got))
+
+-- the bytes of a row
+abbrev pub BytesSoFar : List ℕ → ℕ → List ℕ → Type 0
+BytesSoFar line i got = row line ≡ option_map (λ r. got ++ r) (row (drop i line))
+
+byte_onto : (got : List ℕ) (b : ℕ) (r : Option (List ℕ)) → option_map (λ x. got ++ x) (with_byte (Some b) r) ≡ option_map (λ x. (got ++ b ∷ []) ++ x) r
+byte_onto got b None = refl
+byte_onto got b (Some r) = ap Some (sym (append_assoc got (b ∷ []) r))
+
+pub bytes_none : (line : List ℕ) → BytesSoFar line 0 []
+bytes_none line = some_same (row line)
+
+bytes_at : (line : List ℕ) (i j k : ℕ) (r : Option ℕ) (got : List ℕ) → j ≡ suc i → k ≡ suc j → j < length line → BytesSoFar line i got →
+    ((rest : List ℕ) → row (get_or line i 0 ∷ get_or line j 0 ∷ rest) ≡ with_byte r (row rest)) → row line ≡ option_map (λ x. got ++ x) (with_byte r (row (drop k line)))
+bytes_at line i j k r got second third within so is =
+    let low : i < length line = omega (arith, within, second) in
+    let next : drop (suc i) line ≡ get_or line j 0 ∷ drop k line = rw (sym second, third) (drop-cons line j 0 within) in
+    so ∙ ap (λ l. option_map (λ x. got ++ x) (row l)) (drop-cons line i 0 low ∙ ap (λ l. get_or line i 0 ∷ l) next) ∙ ap (option_map (λ x. got ++ x)) (is (drop k line))
+
+pub bytes_more : (line : List ℕ) (i b : ℕ) (got : List ℕ) → i + 1 < length line → BytesSoFar line i got →
+    ((rest : List ℕ) → row (get_or line i 0 ∷ get_or line (i + 1) 0 ∷ rest) ≡ with_byte (Some b) (row rest)) → BytesSoFar line (i + 2) (got ++ b ∷ [])
+bytes_more line i b got within so is =
+    bytes_at line i (i + 1) (i + 2) (Some b) got (omega arith) (omega arith) within so is ∙ byte_onto got b (row (drop (i + 2) line))
+
+pub bytes_fail : (line : List ℕ) (i : ℕ) (got : List ℕ) → i + 1 < length line → BytesSoFar line i got →
+    ((rest : List ℕ) → row (get_or line i 0 ∷ get_or line (i + 1) 0 ∷ rest) ≡ with_byte None (row rest)) → None ≡ row line
+bytes_fail line i got within so is = sym (bytes_at line i (i + 1) (i + 2) None got (omega arith) (omega arith) within so is)
+
+pub bytes_end : (line : List ℕ) (i : ℕ) (got : List ℕ) → length line ≤ i → BytesSoFar line i got → Some got ≡ row line
+bytes_end line i got past so = sym (so ∙ ap (λ l. option_map (λ x. got ++ x) (row l)) (drop_all i line past) ∙ ap Some (append-nil got))
+
+odd : (k : ℕ) (r : Option (List ℕ)) → IfSome r (Bytes k) → k % 2 ≢ 0 → None ≡ r
+odd k None is not_even = refl
+odd k (Some bytes) is not_even = absurd (omega (arith, is.size, not_even))
+
+-- an odd number of digits is no row
+pub odd_row : (line : List ℕ) → length line % 2 ≢ 0 → None ≡ row line
+odd_row line not_even = odd (length line) (row line) (row_bytes line) not_even
+
+-- the colours of one row
+abbrev pub one_row : ℕ → ℕ → List ℕ → Option (List ℕ)
+one_row f width line = if length line == 2 * f * width then option_map (colour_bytes f) (row line) else None
+
+either_row : (f : ℕ) (b : Bool) (r others : Option (List ℕ)) →
+    cond b (option_and_then (λ bytes. option_map (λ rest. colour_bytes f bytes ++ rest) others) r) None ≡ before (cond b (option_map (colour_bytes f) r) None) others
+either_row f true None others = refl
+either_row f true (Some r) others = refl
+either_row f false r others = refl
+
+-- so far these rows were read
+abbrev pub RowsSoFar : {X : Type 0} → ℕ → ℕ → (X → List ℕ) → List X → ℕ → List ℕ → Type 0
+RowsSoFar f width g xs i got = rows_joined f width (map g xs) ≡ option_map (λ r. got ++ r) (rows_joined f width (map g (drop i xs)))
+
+pub rows_none : {X : Type 0} (f width : ℕ) (g : X → List ℕ) (xs : List X) → RowsSoFar f width g xs 0 []
+rows_none f width g xs = some_same (rows_joined f width (map g xs))
+
+rows_at : {X : Type 0} (f width : ℕ) (g : X → List ℕ) (xs : List X) (i : ℕ) (d : X) (got : List ℕ) → i < length xs → RowsSoFar f width g xs i got →
+    rows_joined f width (map g xs) ≡ option_map (λ r. got ++ r) (before (one_row f width (g (get_or xs i d))) (rows_joined f width (map g (drop (suc i) xs))))
+rows_at f width g xs i d got within so =
+    so ∙ ap (λ ys. option_map (λ r. got ++ r) (rows_joined f width (map g ys))) (drop-cons xs i d within)
+    ∙ ap (option_map (λ r. got ++ r))
+    (either_row f (length (g (get_or xs i d)) == 2 * f * width) (row (g (get_or xs i d))) (rows_joined f width (map g (drop (suc i) xs))))
+
+pub rows_more : {X : Type 0} (f width : ℕ) (g : X → List ℕ) (xs : List X) (i : ℕ) (d : X) (got bytes : List ℕ) → i < length xs → RowsSoFar f width g xs i got →
+    Some bytes ≡ one_row f width (g (get_or xs i d)) → RowsSoFar f width g xs (i + 1) (got ++ bytes)
+rows_more f width g xs i d got bytes within so is =
+    let next : i + 1 ≡ suc i = omega arith in
+    rw next
+    (rows_at f width g xs i d got within so
+    ∙ ap (λ (o : Option (List ℕ)). option_map (λ r. got ++ r) (before o (rows_joined f width (map g (drop (suc i) xs))))) (sym is)
+    ∙ onto_more got bytes (rows_joined f width (map g (drop (suc i) xs))))
+
+pub rows_fail : {X : Type 0} (f width : ℕ) (g : X → List ℕ) (xs : List X) (i : ℕ) (d : X) (got : List ℕ) → i < length xs → RowsSoFar f width g xs i got →
+    None ≡ one_row f width (g (get_or xs i d)) → None ≡ rows_joined f width (map g xs)
+rows_fail f width g xs i d got within so is =
+    sym
+    (rows_at f width g xs i d got within so
+    ∙ ap (λ (o : Option (List ℕ)). option_map (λ r. got ++ r) (before o (rows_joined f width (map g (drop (suc i) xs))))) (sym is))
+
+pub rows_end : {X : Type 0} (f width : ℕ) (g : X → List ℕ) (xs : List X) (i : ℕ) (got : List ℕ) → length xs ≤ i → RowsSoFar f width g xs i got →
+    Some got ≡ rows_joined f width (map g xs)
+rows_end f width g xs i got past so = sym (so ∙ ap (λ ys. option_map (λ r. got ++ r) (rows_joined f width (map g ys))) (drop_all i xs past) ∙ ap Some (append-nil got))

@@ -1,0 +1,169 @@
+//! What the further lines of an item spell: rows, list lines and ring lines.
+ghost use Rattle.std.specs.Prelude.{◌≡◌, List, ◌≤◌, ◌*◌, ◌==◌, ℕ, [], ◌∷◌, ◌++◌, map, flat_map, length, nat_le, Some, None, option_map, unwrap_or, if◌then◌else◌, IfOk, codes};
+ghost use Rattle.std.specs.Str.{bytes_eq};
+ghost use Rattle.quilt_lang.specs.Items.{listed_by, colour_bytes, point, point_of, points_joined, rows_joined, words_of};
+ghost use Rattle.quilt_lang.specs.Spelling.{number, row, hex_digit};
+ghost use Rattle.quilt_lang.specs.Spelled.{with_byte};
+
+use crate::arguments::number_of;
+use crate::words::line_words;
+use quilt_types::{Pixel, Point, PointList, Text};
+use std::alloc::{AllocError, Global};
+
+/// How many list lines or ring lines the words ask for.
+pub fn listed(words: &[&[u8]]) -> u32
+    ensures { result ≡ listed_by (map (λ w. w.now) words.now) }
+{
+    match words {
+        [word, _, k] => asked_by_word(word, b"scatter", k, 100_000),
+        [word, _, _, k] => asked_by_word(word, b"polygon", k, 1000),
+        _ => 0,
+    }
+}
+
+/// The number from 1 on that a word spells behind this word; 0 where it spells none, or the word is another.
+fn asked_by_word(word: &[u8], name: &[u8], k: &[u8], most: u32) -> u32
+    ensures { result ≡ (if bytes_eq word.now name.now then unwrap_or (number 1 most k.now) 0 else 0) }
+{
+    if word != name {
+        return 0;
+    }
+    number_of(1, most, k).unwrap_or(0)
+}
+
+/// The value of a hexadecimal digit of either case.
+fn hex_value(c: u8) -> Option<u8>
+    ensures is { result ≡ hex_digit c }
+{
+    if b'0' <= c && c <= b'9' {
+        Some(c - b'0')
+    } else if b'a' <= c && c <= b'f' {
+        Some(c - b'a' + 10)
+    } else if b'A' <= c && c <= b'F' {
+        Some(c - b'A' + 10)
+    } else {
+        None
+    }
+}
+
+/// The byte that two hexadecimal digits spell.
+fn byte_of(high: u8, low: u8) -> Option<u8>
+    ensures { (rest : List ℕ) → row (high ∷ low ∷ rest) ≡ with_byte result (row rest) }
+{
+    let high = hex_value(high)?;
+    let low = hex_value(low)?;
+    Some(16 * high + low)
+}
+
+/// The bytes that pairs of hexadecimal digits spell, or none.
+fn row_bytes(alloc: Global, line: &[u8]) -> Result<Option<Vec<u8>>, AllocError>
+    ensures { IfOk result (λ bytes. option_map (λ v. v.items) bytes ≡ row line.now) }
+{
+    if line.len() % 2 != 0 {
+        return Ok(None);
+    }
+    let mut bytes = Vec::with_capacity(alloc, line.len() / 2)?;
+    let mut i = 0;
+    while i < line.len() {
+        let Some(byte) = byte_of(line[i], line[i + 1]) else {
+            return Ok(None);
+        };
+        bytes.push(byte)?;
+        i += 2;
+    }
+    Ok(Some(bytes))
+}
+
+/// The point that a list line spells.
+fn list_point(alloc: Global, line: &[u8]) -> Result<Option<Point>, AllocError>
+    ensures { IfOk result (λ p. p ≡ (if nat_le (length line.now) 64 then point_of (words_of line.now) else None)) }
+{
+    if line.len() > 64 {
+        return Ok(None);
+    }
+    let words = line_words(alloc, line)?;
+    match words.as_slice() {
+        [x, y, label] => Ok(point_in(x, y, label)),
+        _ => Ok(None),
+    }
+}
+
+fn point_in(x: &[u8], y: &[u8], label: &[u8]) -> Option<Point>
+    ensures { result ≡ point (number 0 65535 x.now) (number 0 65535 y.now) (number 0 4294967295 label.now) }
+{
+    let x = number_of(0, 65535, x)?;
+    let y = number_of(0, 65535, y)?;
+    let label = number_of(0, u32::MAX, label)?;
+    let at = Pixel {
+        x: x as u16,
+        y: y as u16,
+    };
+    Some(Point { at, label })
+}
+
+/// The points that all list lines spell, or none where one is not well formed.
+pub fn list_points(alloc: Global, lines: &[&[u8]]) -> Result<Option<PointList>, AllocError>
+    ensures { IfOk result (λ points. points ≡ points_joined (map (λ w. w.now) lines.now)) }
+{
+    let mut points = PointList::new(alloc);
+    for line in lines {
+        let Some(p) = list_point(alloc, line)? else {
+            return Ok(None);
+        };
+        points.push(p)?;
+    }
+    Ok(Some(points))
+}
+
+/// The colours that all rows of a raster spell, two bytes each with the high one first, or none where a row is not well formed:
+/// in format 1 two digits a colour, and in format 2 four.
+pub fn raster_rows(
+    alloc: Global,
+    format: u8,
+    width: u16,
+    lines: &[&[u8]],
+) -> Result<Option<Text>, AllocError>
+    ensures { IfOk result (λ rows. rows ≡ rows_joined format width (map (λ w. w.now) lines.now)) }
+{
+    let mut rows = Text::new(alloc);
+    for line in lines {
+        let Some(bytes) = row_colours(alloc, format, width, line)? else {
+            return Ok(None);
+        };
+        rows.push(&bytes)?;
+    }
+    Ok(Some(rows))
+}
+
+/// The colours that one row spells.
+fn row_colours(
+    alloc: Global,
+    format: u8,
+    width: u16,
+    line: &[u8],
+) -> Result<Option<Vec<u8>>, AllocError>
+    ensures { IfOk result (λ bytes. option_map (λ v. v.items) bytes ≡
+        (if length line.now == 2 * format * width then option_map (colour_bytes format) (row line.now) else None)) }
+{
+    if line.len() != 2 * usize::from(format) * usize::from(width) {
+        return Ok(None);
+    }
+    match row_bytes(alloc, line)? {
+        Some(bytes) if format == 1 => {
+            let wide = widened(alloc, &bytes)?;
+            Ok(Some(wide))
+        }
+        bytes => Ok(bytes),
+    }
+}
+
+/// A high byte of 0 before each byte.
+fn widened(alloc: Global, bytes: &[u8]) -> Result<Vec<u8>, AllocError>
+    ensures { IfOk result (λ wide. wide.items ≡ flat_map (λ c. 0 ∷ c ∷ []) bytes.now) }
+{
+    let mut wide = Vec::with_capacity(alloc, bytes.len())?;
+    for byte in bytes {
+        wide.extend_from_slice(&[0, *byte])?;
+    }
+    Ok(wide)
+}
