@@ -34,7 +34,7 @@ use Rattle.quilt_store.proofs.Counts.{count_behind}
 use Rattle.std.specs.List.{range_with_len}
 use Rattle.std.proofs.lemmas.List.Sums.{length-filter}
 use Rattle.std.proofs.lemmas.Bool.{cases_Bool}
-use Rattle.quilt_edition.specs.Publishing.{next_pages, Publishing, Published}
+use Rattle.quilt_edition.specs.Publishing.{next_pages, Publishing, IsPublished}
 
 -- where no page is dirty, the pages of the work are those that the pool lies over
 over_clean : (es : Entries) (pages : Pages) (i : ℕ) (o : Option Frame) → frame_at es i ≡ o → has_dirt o ≡ false → IsClean es pages → bytes_or (get_or pages i []) o ≡ get_or pages i []
@@ -110,7 +110,7 @@ module _ (n : ℕ) (es : Entries) (c : List Bool) (header : List ℕ) where
       since = since_both o t u (Alt o) at.since (since_weaker t u (HasHome n (work t n d)) (Alt o) step (λ image h. inr (subst (λ (p : Pages). HasHome n p image) at.same h)));
     }
 
-    finished : (d : List Bool) (o t u : Tale) → AtNew d o t → IsIdle n (replicate n false) u × (published u n ≡ work t n d) → Published n es c header fs o u
+    finished : (d : List Bool) (o t u : Tale) → AtNew d o t → IsIdle n (replicate n false) u × (published u n ≡ work t n d) → IsPublished n es c header fs o u
     finished d o t u at kept =
         let home : published u n ≡ next_pages n es c header o = kept.1 ∙ at.same in
         record {
@@ -159,9 +159,9 @@ module _ (n : ℕ) (es : Entries) (c : List Bool) (header : List ℕ) where
           (subst (λ k. Goes (λ a b. Since a b (HasHome k (work a k d)) × (IsCarried k d b × (work b k d ≡ work a k d))) t u) is (goes_and _ _ t u step kept))
           (λ x y z p q. record { since = (new_stops d x y z p q.0).since; same = q.1.1 ∙ p.same; clean = p.clean }))
 
-      pub goes_finished : (d : List Bool) → Goes (AtNew d) o t → Goes (λ a b. IsIdle m (replicate m false) b × (published b m ≡ work a m d)) t u → Goes (Published n es c header fs) o u
+      pub goes_finished : (d : List Bool) → Goes (AtNew d) o t → Goes (λ a b. IsIdle m (replicate m false) b × (published b m ≡ work a m d)) t u → Goes (IsPublished n es c header fs) o u
       goes_finished d at kept =
-          goes_then (AtNew d) (λ a b. IsIdle n (replicate n false) b × (published b n ≡ work a n d)) (Published n es c header fs) o t u at (subst (λ k. Goes (λ a b. IsIdle k (replicate k false) b × (published b k ≡ work a k d)) t u) is kept) (finished d)
+          goes_then (AtNew d) (λ a b. IsIdle n (replicate n false) b × (published b n ≡ work a n d)) (IsPublished n es c header fs) o t u at (subst (λ k. Goes (λ a b. IsIdle k (replicate k false) b × (published b k ≡ work a k d)) t u) is kept) (finished d)
 
 -- what the drain leaves
 pub drain_stops : (n : ℕ) (es fs : Entries) (c d : List Bool) (header : List ℕ) (o t : Option Tale) → Goes (Keeps n es fs c d) o t → Goes (Publishing n es c header) o t
@@ -233,7 +233,7 @@ unfolding next_pages
 first_page n es c header o some = get_or-set_same (map (page_over es (work o n c)) (below n)) 0 header [] (omega (arith, some, length-map-range_with_len (page_over es (work o n c)) 0 n))
 
 pub kept_published : (n : ℕ) (k : View) (es fs : Entries) (c : List Bool) (header : List ℕ) (head : Head) (o t : Option Tale) → k.pages ≡ n → k.state ≡ Idle → k.changed ≡ replicate n false → 0 < n → IsHeader n header head
-    → Goes (Published n es c header fs) o t → IsKeptBy k fs head t
+    → Goes (IsPublished n es c header fs) o t → IsKeptBy k fs head t
 kept_published n k es fs c header head None None pages state changed some is goes = tt
 kept_published n k es fs c header head None (Some t) pages state changed some is goes = absurd goes
 kept_published n k es fs c header head (Some o) None pages state changed some is goes = tt
@@ -250,13 +250,13 @@ none_marked n m fs d changed clean = count_none (is_marked fs d) 0 m (λ i le lt
 
 -- ---- what it tells after it
 
-told_next : (n : ℕ) (es fs : Entries) (c : List Bool) (header : List ℕ) (o t : Tale) → ((i : ℕ) → is_dirty fs i ≡ false) → Published n es c header fs o t → map (page_over fs (work t n (replicate n false))) (below n) ≡ next_pages n es c header o
+told_next : (n : ℕ) (es fs : Entries) (c : List Bool) (header : List ℕ) (o t : Tale) → ((i : ℕ) → is_dirty fs i ≡ false) → IsPublished n es c header fs o t → map (page_over fs (work t n (replicate n false))) (below n) ≡ next_pages n es c header o
 told_next n es fs c header o t clean is =
     let w = work t n (replicate n false) in
     sym (fill_by_all (page_over fs w) w n [] (length-work t n (replicate n false)) (λ i lt. sym (over_clean fs w i (frame_at fs i) refl (clean i) is.work.clean)))
     ∙ (idle_none n (replicate n false) t is.work.idle).1 ∙ is.home
 
-told_after : (j k : View) (es fs : Entries) (header : List ℕ) (o t : Tale) → k.pages ≡ j.pages → k.changed ≡ replicate j.pages false → ((i : ℕ) → is_dirty fs i ≡ false) → Published j.pages es j.changed header fs o t → work_pages k fs t ≡ set (work_pages j es o) 0 header
+told_after : (j k : View) (es fs : Entries) (header : List ℕ) (o t : Tale) → k.pages ≡ j.pages → k.changed ≡ replicate j.pages false → ((i : ℕ) → is_dirty fs i ≡ false) → IsPublished j.pages es j.changed header fs o t → work_pages k fs t ≡ set (work_pages j es o) 0 header
 unfolding work_pages next_pages
 told_after j k es fs header o t pages changed clean is =
     ap (λ n. map (page_over fs (work t n k.changed)) (below n)) pages
@@ -264,7 +264,7 @@ told_after j k es fs header o t pages changed clean is =
     ∙ told_next j.pages es fs j.changed header o t clean is
 
 pub told_published : (j k : View) (es fs : Entries) (header : List ℕ) (o t : Option Tale) → j.state ≡ Idle → k.pages ≡ j.pages → k.state ≡ Idle → k.changed ≡ replicate j.pages false → ((i : ℕ) → is_dirty fs i ≡ false)
-    → Goes (Published j.pages es j.changed header fs) o t → Tells (λ (old new : Pages). new ≡ set old 0 header) (told_pages j es o) (told_pages k fs t)
+    → Goes (IsPublished j.pages es j.changed header fs) o t → Tells (λ (old new : Pages). new ≡ set old 0 header) (told_pages j es o) (told_pages k fs t)
 told_published j k es fs header None None idle pages state changed clean goes = tt
 told_published j k es fs header None (Some t) idle pages state changed clean goes = absurd goes
 told_published j k es fs header (Some o) None idle pages state changed clean goes = absurd goes

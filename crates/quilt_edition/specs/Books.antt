@@ -6,7 +6,7 @@ use Rattle.quilt_journal.specs.declared.journal.State.TheVariants.{Idle}
 use Rattle.quilt_node.specs.declared.head.Head.{Head}
 use Rattle.quilt_node.specs.Pages.{header_bytes}
 use Rattle.quilt_edition.specs.Keeping.{is_left_out}
-use Rattle.quilt_edition.specs.Publishing.{Publishing, Published}
+use Rattle.quilt_edition.specs.Publishing.{Publishing, IsPublished}
 use Rattle.quilt_edition.specs.declared.book.Book.{Book}
 
 module _ {W : Type 0} {D : disk.Ghosts W} where
@@ -42,7 +42,7 @@ module _ {W : Type 0} {D : disk.Ghosts W} where
 
   -- the latter, which are the published pages of the new book
   abbrev pub HasPublished : Book W D → Book W D → Tale → Tale → Type 0
-  HasPublished b c = Published b.journal.pages b.pool.table.entries b.journal.changed (header_bytes (record b.work { edition = b.last.edition + 1 })) c.pool.table.entries
+  HasPublished b c = IsPublished b.journal.pages b.pool.table.entries b.journal.changed (header_bytes (record b.work { edition = b.last.edition + 1 })) c.pool.table.entries
 
   -- all but the world is as before
   pub record SameBut (old new : Book W D) : Type 0 where

@@ -7,7 +7,7 @@ ghost use Rattle.quilt_journal.specs.Writing.{Writing};
 ghost use Rattle.quilt_pool.specs.Entries.{AreBelow, is_dirty};
 ghost use Rattle.quilt_pool.specs.Keeping.{IsWork};
 ghost use Rattle.quilt_edition.specs.Keeping.{Moves, marked_count};
-ghost use Rattle.quilt_edition.specs.Publishing.{Publishing, Published};
+ghost use Rattle.quilt_edition.specs.Publishing.{Publishing, IsPublished};
 
 use quilt_journal::Journal;
 use quilt_pool::Pool;
@@ -38,7 +38,7 @@ pub fn publish_pages<W: Disk>(
     ensures changed { OnOk result (journal.new.changed ≡ replicate journal.old.pages false) }
     ensures clean { OnOk result ((i : ℕ) → is_dirty (entries_of pool.new) i ≡ false) }
     ensures crash { Goes (Publishing journal.old.pages (entries_of pool.old) journal.old.changed header.now) (W.told world.old) (W.told world.new) }
-    ensures published { OnOk result (Goes (Published journal.old.pages (entries_of pool.old) journal.old.changed header.now (entries_of pool.new)) (W.told world.old) (W.told world.new)) }
+    ensures published { OnOk result (Goes (IsPublished journal.old.pages (entries_of pool.old) journal.old.changed header.now (entries_of pool.new)) (W.told world.old) (W.told world.new)) }
 {
     pool.drain_dirty(journal, world)?;
     journal.write_slot(world, 0, header)?;
