@@ -1,5 +1,5 @@
 -- What an answer is, by the definition of a run.
-use Rattle.std.proofs.Common.{◌≡◌, ℕ, Bool, true, false, List, [], ◌∷◌, ◌++◌, Result, Ok, Err, map, refl, sym, ◌∙◌, ap, subst}
+use Rattle.std.proofs.Common.{◌≡◌, ℕ, true, List, Result, Ok, Err, refl, sym, ◌∙◌, ap, subst}
 use Rattle.quilt_types.specs.declared.code.Code.{Code}
 use Rattle.quilt_lang.specs.declared.command.Command.{Command}
 use Rattle.quilt_lang.specs.declared.item.Item.{Item}

@@ -1,12 +1,11 @@
 -- What a run over a file promises, by what it took and put.
-use Rattle.std.proofs.Common.{◌≡◌, inl, inr, ◌+◌, ◌≤◌, ◌<◌, ℕ, Bool, true, false, ◌&&◌, cond, List, [], ◌∷◌, ◌++◌, length, length-append, get_or, map, Option, Some, None, Result, Ok, Err, IfOk, IfErr, drop, refl, sym, ◌∙◌, ap, subst, arith, append-nil}
+use Rattle.std.proofs.Common.{◌≡◌, inl, inr, ◌+◌, ◌≤◌, ◌<◌, ℕ, Bool, true, false, ◌&&◌, cond, List, [], ◌∷◌, ◌++◌, length, length-append, get_or, Option, Some, None, Result, Ok, Err, IfOk, IfErr, drop, refl, sym, ◌∙◌, ap, subst, arith, append-nil}
 use Rattle.std.specs.Prelude.{slice_get}
 use Rattle.std.specs.Option.{IfSome}
 use Rattle.std.specs.List.{list_all}
 use Rattle.std.proofs.lemmas.List.{same_lists, get_or_default}
 use Rattle.std.proofs.lemmas.List.Folds.{list_all-append}
 use Rattle.quilt_types.specs.Layers.{Edition, Map}
-use Rattle.quilt_types.specs.declared.code.Code.{Code}
 use Rattle.quilt_world.specs.Disk.{Pages, Log, Mark, Untouched, mark_from, unsynced_from, holds, CanLeave}
 use Rattle.quilt_world.specs.Tale.{Tale, IsConsistent, Adds, Goes, put_bytes, taken_bytes, Begins}
 use Rattle.quilt_world.specs.Doors.{OpensAt}
@@ -16,7 +15,6 @@ use Rattle.quilt_world.specs.declared.disk.Door.{Door}
 use Rattle.quilt_world.specs.declared.disk.Door.TheVariants as doors
 use Rattle.quilt_world.proofs.PageLaws.{seen_left}
 use Rattle.quilt_edition.specs.Stands.{Stands}
-use Rattle.quilt_lang.specs.declared.command.Command.{Command}
 use Rattle.quilt_lang.specs.Items.{Group, items_of}
 use Rattle.quilt_map.specs.Answers.{State}
 use Rattle.quilt_map.specs.Runs.{Run, run, run_of, replies_of, output, form_in, outcome_of, text_of, prefix_of, told_within, editions_told}

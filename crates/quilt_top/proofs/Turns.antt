@@ -1,5 +1,5 @@
 -- Turns of the loop that answers items.
-use Rattle.std.proofs.Common.{◌≡◌, ℕ, ◌<◌, arith, Bool, true, false, ◌&&◌, List, [], ◌∷◌, ◌++◌, length, refl, sym, ◌∙◌, ap, append_assoc, append-nil, Option, Some, None}
+use Rattle.std.proofs.Common.{◌≡◌, ℕ, Bool, true, false, ◌&&◌, List, [], ◌∷◌, ◌++◌, refl, sym, ◌∙◌, ap, append_assoc, Option, Some, None}
 use Rattle.std.specs.List.{list_all}
 use Rattle.quilt_world.specs.Tale.{Tale, Goes}
 use Rattle.quilt_lang.specs.Items.{Group, items_of}

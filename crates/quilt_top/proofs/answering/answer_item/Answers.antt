@@ -1,4 +1,4 @@
-use Rattle.std.proofs.Common.{◌≡◌, ◌∙◌, refl, sym, ap, subst, Ok, Err}
+use Rattle.std.proofs.Common.{◌≡◌, ◌∙◌, sym, ap, subst, Ok, Err}
 use Rattle.quilt_lang.specs.Forms.{form}
 use Rattle.quilt_lang.specs.Parsing.{Answers}
 use Rattle.quilt_map.specs.Answers.{State}

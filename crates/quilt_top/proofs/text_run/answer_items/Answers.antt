@@ -1,4 +1,4 @@
-use Rattle.std.proofs.Common.{◌≡◌, ◌∙◌, ◌&&◌, refl, sym, ap, subst, rules}
+use Rattle.std.proofs.Common.{◌≡◌, ◌∙◌, ◌&&◌, sym, ap, subst, rules}
 use Rattle.quilt_world.specs.Tale.{Goes}
 use Rattle.quilt_lang.specs.declared.item.Item.{Item}
 use Rattle.quilt_map.specs.Answers.{State}
