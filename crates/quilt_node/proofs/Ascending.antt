@@ -6,7 +6,7 @@ use Rattle.std.proofs.Math.Seq.{take-append_seam, drop-append_seam}
 use Rattle.quilt_record.specs.declared.key.Key.{Key}
 use Rattle.quilt_record.specs.Records.{key_cmp}
 use Rattle.quilt_node.specs.Pages.{is_ascending}
-use Rattle.quilt_node.proofs.Orders.{lt_lt}
+use Rattle.quilt_record.proofs.Orders.{lt_lt}
 
 pub and_parts : (a b : Bool) → a && b ≡ true → (a ≡ true) × (b ≡ true)
 and_parts true b h = (refl, h)

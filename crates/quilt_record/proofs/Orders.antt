@@ -1,6 +1,7 @@
 -- The order of keys is total, and only equals tie.
-use Rattle.std.proofs.Common.{◌≡◌, true, false, refl, sym, ◌∙◌, ap, Ordering, Less, Equal, Greater}
-use Rattle.std.specs.Ordering.{ordering_reverse, is_lt, is_le, is_eq}
+use Rattle.std.proofs.Common.{◌≡◌, true, false, refl, sym, ◌∙◌, ap, nat_cmp, Ordering, Less, Equal, Greater}
+use Rattle.std.specs.Ordering.{ordering_then, ordering_reverse, is_lt, is_le, is_eq}
+use Rattle.std.specs.FinMap.{nat_cmp-IsAntisymmetric}
 use Rattle.std.specs.Cmp.{IsTotalOrder, nat_cmp_total, on_total, then_total}
 use Rattle.quilt_record.specs.declared.key.Key.{Key}
 use Rattle.quilt_record.specs.Records.{key_cmp}
@@ -64,3 +65,25 @@ not_le a b h = ap is_lt (key_total.antisymm b a) ∙ reversed (key_cmp a b) h
     reversed Less h = cc
     reversed Equal h = cc
     reversed Greater h = refl
+
+pub lt_lt : (a b c : Key) → is_lt (key_cmp a b) ≡ true → is_lt (key_cmp b c) ≡ true → is_lt (key_cmp a c) ≡ true
+lt_lt a b c h g = lt_le a b c h (lt_to_le (key_cmp b c) g)
+
+pub then_equal : (o p : Ordering) → ordering_then o p ≡ Equal → (o ≡ Equal) × (p ≡ Equal)
+then_equal Less p h = cc
+then_equal Equal p h = (refl, h)
+then_equal Greater p h = cc
+
+-- only a key itself ties with it
+pub key_equal : (a b : Key) → key_cmp a b ≡ Equal → a ≡ b
+key_equal a b h =
+    let one = then_equal (nat_cmp a.layer b.layer) _ h in
+    let two = then_equal (nat_cmp a.part b.part) _ one.1 in
+    let three = then_equal (nat_cmp a.code b.code) _ two.1 in
+    let four = then_equal (nat_cmp a.depth b.depth) _ three.1 in
+    let layer = nat_cmp-IsAntisymmetric a.layer b.layer one.0 in
+    let part = nat_cmp-IsAntisymmetric a.part b.part two.0 in
+    let code = nat_cmp-IsAntisymmetric a.code b.code three.0 in
+    let depth = nat_cmp-IsAntisymmetric a.depth b.depth four.0 in
+    let item = nat_cmp-IsAntisymmetric a.item b.item four.1 in
+    λ i. record { layer = layer i; part = part i; code = code i; depth = depth i; item = item i }
