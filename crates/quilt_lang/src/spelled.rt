@@ -121,7 +121,7 @@ pub fn list_points(alloc: Global, lines: &[&[u8]]) -> Result<Option<PointList>, 
 pub fn raster_rows(
     alloc: Global,
     format: u8,
-    width: u16,
+    width: usize,
     lines: &[&[u8]],
 ) -> Result<Option<Text>, AllocError>
     ensures { IfOk result (λ rows. rows ≡ rows_joined format width (map (λ w. w.now) lines.now)) }
@@ -140,13 +140,13 @@ pub fn raster_rows(
 fn row_colours(
     alloc: Global,
     format: u8,
-    width: u16,
+    width: usize,
     line: &[u8],
 ) -> Result<Option<Vec<u8>>, AllocError>
     ensures { IfOk result (λ bytes. option_map (λ v. v.items) bytes ≡
         (if length line.now == 2 * format * width then option_map (colour_bytes format) (row line.now) else None)) }
 {
-    if line.len() != 2 * usize::from(format) * usize::from(width) {
+    if line.len() as u128 != 2 * u128::from(format) * width as u128 {
         return Ok(None);
     }
     match row_bytes(alloc, line)? {
