@@ -142,7 +142,7 @@ next_corner k None xs one others = tt
 next_corner k (Some x) None one others = tt
 next_corner k (Some x) (Some xs) one others = record { size = omega (arith, others.size); each = All-cons IsCornerOf16 x xs one others.each }
 
-corners_are : (ws : List (List ℕ)) → IfSome (corners_of ws) (HalfAre (length ws))
+pub corners_are : (ws : List (List ℕ)) → IfSome (corners_of ws) (HalfAre (length ws))
 corners_are [] = record { size = refl; each = All-nil IsCornerOf16 }
 corners_are (x ∷ []) = tt
 corners_are (x ∷ y ∷ ws) = next_corner (length ws) _ (corners_of ws) (corner_fits x y _ _ refl refl) (corners_are ws)

@@ -1,11 +1,12 @@
 -- Lists that are read a part at a time, and are nothing where a part is.
 use Rattle.std.proofs.Common.{◌≡◌, ◌≢◌, ◌%◌, ◌==◌, IfSome, ℕ, suc, ◌+◌, ◌*◌, ◌<◌, ◌≤◌, Bool, true, false, nat_le, List, [], ◌∷◌, ◌++◌, length, map, drop, get_or, Option, Some, None, option_map, option_and_then, if◌then◌else◌, cond, refl, sym, ◌∙◌, ap, arith, append_assoc, append-nil, drop-cons}
-use Rattle.std.proofs.lemmas.List.{drop_all}
+use Rattle.std.proofs.lemmas.List.{drop_all, length-map}
 use Rattle.quilt_types.specs.declared.plane.Point.{Point}
-use Rattle.quilt_lang.specs.Items.{points_joined, point_of, words_of, rows_joined, colour_bytes}
+use Rattle.quilt_types.specs.declared.plane.Corner.{Corner}
+use Rattle.quilt_lang.specs.Items.{points_joined, point_of, words_of, rows_joined, colour_bytes, corner_of, corners_of, ring_of, rings_joined}
 use Rattle.quilt_lang.specs.Spelled.{with_byte}
-use Rattle.quilt_lang.proofs.Holding.{Bytes, row_bytes}
-use Rattle.quilt_lang.specs.Spelling.{row}
+use Rattle.quilt_lang.proofs.Holding.{Bytes, row_bytes, HalfAre, corners_are}
+use Rattle.quilt_lang.specs.Spelling.{number, row}
 
 -- what one part and the others make
 abbrev pub before : {A : Type 0} → Option (List A) → Option (List A) → Option (List A)
@@ -146,3 +147,92 @@ rows_fail f width g xs i d got within so is =
 pub rows_end : {X : Type 0} (f width : ℕ) (g : X → List ℕ) (xs : List X) (i : ℕ) (got : List ℕ) → length xs ≤ i → RowsSoFar f width g xs i got →
     Some got ≡ rows_joined f width (map g xs)
 rows_end f width g xs i got past so = sym (so ∙ ap (λ ys. option_map (λ r. got ++ r) (rows_joined f width (map g ys))) (drop_all i xs past) ∙ ap Some (append-nil got))
+
+-- the corner that two words spell
+abbrev pub one_corner : List ℕ → List ℕ → Option Corner
+one_corner x y = corner_of (number 0 65535 x) (number 0 65535 y)
+
+-- a corner before others
+abbrev pub corner_before : Option Corner → Option (List Corner) → Option (List Corner)
+corner_before first others = option_and_then (λ c. option_map (λ cs. c ∷ cs) others) first
+
+corner_onto : (got : List Corner) (c : Corner) (r : Option (List Corner)) → option_map (λ x. got ++ x) (corner_before (Some c) r) ≡ option_map (λ x. (got ++ c ∷ []) ++ x) r
+corner_onto got c None = refl
+corner_onto got c (Some r) = ap Some (sym (append_assoc got (c ∷ []) r))
+
+-- so far these corners were read
+abbrev pub CornersSoFar : {X : Type 0} → (X → List ℕ) → List X → ℕ → List Corner → Type 0
+CornersSoFar g xs i got = corners_of (map g xs) ≡ option_map (λ r. got ++ r) (corners_of (map g (drop i xs)))
+
+pub corners_none : {X : Type 0} (g : X → List ℕ) (xs : List X) → CornersSoFar g xs 0 []
+corners_none g xs = some_same (corners_of (map g xs))
+
+corners_at : {X : Type 0} (g : X → List ℕ) (xs : List X) (i j k : ℕ) (d : X) (got : List Corner) → j ≡ suc i → k ≡ suc j → j < length xs → CornersSoFar g xs i got →
+    corners_of (map g xs) ≡ option_map (λ r. got ++ r) (corner_before (one_corner (g (get_or xs i d)) (g (get_or xs j d))) (corners_of (map g (drop k xs))))
+corners_at g xs i j k d got second third within so =
+    let low : i < length xs = omega (arith, within, second) in
+    let next : drop (suc i) xs ≡ get_or xs j d ∷ drop k xs = rw (sym second, third) (drop-cons xs j d within) in
+    so ∙ ap (λ l. option_map (λ x. got ++ x) (corners_of (map g l))) (drop-cons xs i d low ∙ ap (λ l. get_or xs i d ∷ l) next)
+
+pub corners_more : {X : Type 0} (g : X → List ℕ) (xs : List X) (i : ℕ) (d : X) (got : List Corner) (c : Corner) → i + 1 < length xs → CornersSoFar g xs i got →
+    Some c ≡ one_corner (g (get_or xs i d)) (g (get_or xs (i + 1) d)) → CornersSoFar g xs (i + 2) (got ++ c ∷ [])
+corners_more g xs i d got c within so is =
+    corners_at g xs i (i + 1) (i + 2) d got (omega arith) (omega arith) within so
+    ∙ ap (λ (o : Option Corner). option_map (λ r. got ++ r) (corner_before o (corners_of (map g (drop (i + 2) xs))))) (sym is)
+    ∙ corner_onto got c (corners_of (map g (drop (i + 2) xs)))
+
+pub corners_fail : {X : Type 0} (g : X → List ℕ) (xs : List X) (i : ℕ) (d : X) (got : List Corner) → i + 1 < length xs → CornersSoFar g xs i got →
+    None ≡ one_corner (g (get_or xs i d)) (g (get_or xs (i + 1) d)) → None ≡ corners_of (map g xs)
+corners_fail g xs i d got within so is =
+    sym
+    (corners_at g xs i (i + 1) (i + 2) d got (omega arith) (omega arith) within so
+    ∙ ap (λ (o : Option Corner). option_map (λ r. got ++ r) (corner_before o (corners_of (map g (drop (i + 2) xs))))) (sym is))
+
+pub corners_end : {X : Type 0} (g : X → List ℕ) (xs : List X) (i : ℕ) (got : List Corner) → length xs ≤ i → CornersSoFar g xs i got → Some got ≡ corners_of (map g xs)
+corners_end g xs i got past so = sym (so ∙ ap (λ ys. option_map (λ r. got ++ r) (corners_of (map g ys))) (drop_all i xs past) ∙ ap Some (append-nil got))
+
+odd_half : (k : ℕ) (r : Option (List Corner)) → IfSome r (HalfAre k) → k % 2 ≢ 0 → None ≡ r
+odd_half k None is not_even = refl
+odd_half k (Some corners) is not_even = absurd (omega (arith, is.size, not_even))
+
+-- an odd number of words spells no corners
+pub odd_corners : {X : Type 0} (g : X → List ℕ) (xs : List X) → length xs % 2 ≢ 0 → None ≡ corners_of (map g xs)
+odd_corners g xs not_even = rw (length-map xs g) at (odd_half (length (map g xs)) (corners_of (map g xs)) (corners_are (map g xs))) not_even
+
+-- so far these rings were read
+abbrev pub RingsSoFar : {X : Type 0} → (X → List ℕ) → List X → ℕ → List (List Corner) → Type 0
+RingsSoFar g xs i got = rings_joined (map g xs) ≡ option_map (λ r. got ++ r) (rings_joined (map g (drop i xs)))
+
+ring_before : (r : Option (List Corner)) (others : Option (List (List Corner))) →
+    option_and_then (λ q. option_map (λ qs. q ∷ qs) others) r ≡ before (option_map (λ q. q ∷ []) r) others
+ring_before None others = refl
+ring_before (Some r) None = refl
+ring_before (Some r) (Some rs) = refl
+
+pub rings_none : {X : Type 0} (g : X → List ℕ) (xs : List X) → RingsSoFar g xs 0 []
+rings_none g xs = some_same (rings_joined (map g xs))
+
+rings_at : {X : Type 0} (g : X → List ℕ) (xs : List X) (i : ℕ) (d : X) (got : List (List Corner)) → i < length xs → RingsSoFar g xs i got →
+    rings_joined (map g xs) ≡ option_map (λ r. got ++ r) (before (option_map (λ q. q ∷ []) (ring_of (g (get_or xs i d)))) (rings_joined (map g (drop (suc i) xs))))
+rings_at g xs i d got within so =
+    so ∙ ap (λ ys. option_map (λ r. got ++ r) (rings_joined (map g ys))) (drop-cons xs i d within)
+    ∙ ap (option_map (λ r. got ++ r)) (ring_before (ring_of (g (get_or xs i d))) (rings_joined (map g (drop (suc i) xs))))
+
+pub rings_more : {X : Type 0} (g : X → List ℕ) (xs : List X) (i : ℕ) (d : X) (got : List (List Corner)) (ring : List Corner) → i < length xs → RingsSoFar g xs i got →
+    Some ring ≡ ring_of (g (get_or xs i d)) → RingsSoFar g xs (i + 1) (got ++ ring ∷ [])
+rings_more g xs i d got ring within so is =
+    let next : i + 1 ≡ suc i = omega arith in
+    rw next
+    (rings_at g xs i d got within so
+    ∙ ap (λ (o : Option (List Corner)). option_map (λ r. got ++ r) (before (option_map (λ q. q ∷ []) o) (rings_joined (map g (drop (suc i) xs))))) (sym is)
+    ∙ onto_more got (ring ∷ []) (rings_joined (map g (drop (suc i) xs))))
+
+pub rings_fail : {X : Type 0} (g : X → List ℕ) (xs : List X) (i : ℕ) (d : X) (got : List (List Corner)) → i < length xs → RingsSoFar g xs i got →
+    None ≡ ring_of (g (get_or xs i d)) → None ≡ rings_joined (map g xs)
+rings_fail g xs i d got within so is =
+    sym
+    (rings_at g xs i d got within so
+    ∙ ap (λ (o : Option (List Corner)). option_map (λ r. got ++ r) (before (option_map (λ q. q ∷ []) o) (rings_joined (map g (drop (suc i) xs))))) (sym is))
+
+pub rings_end : {X : Type 0} (g : X → List ℕ) (xs : List X) (i : ℕ) (got : List (List Corner)) → length xs ≤ i → RingsSoFar g xs i got → Some got ≡ rings_joined (map g xs)
+rings_end g xs i got past so = sym (so ∙ ap (λ ys. option_map (λ r. got ++ r) (rings_joined (map g ys))) (drop_all i xs past) ∙ ap Some (append-nil got))

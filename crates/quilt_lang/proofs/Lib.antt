@@ -1,4 +1,6 @@
+pub mod Asking
 pub mod Cuts
+pub mod Groups
 pub mod LineLaws
 pub mod Pieces
 pub mod Long

@@ -1,17 +1,17 @@
 -- A line that is too long may be cut short, since only that it is too long is held.
-use Rattle.std.proofs.Common.{◌≡◌, inl, inr, ℕ, ◌+◌, ◌<◌, ◌≤◌, Bool, true, false, ◌==◌, nat_lt, List, [], ◌∷◌, ◌++◌, length, take, map, cond, subst, refl, sym, ◌∙◌, ap, arith, length-append, length-take, filter}
+use Rattle.std.proofs.Common.{◌≡◌, inl, inr, ℕ, ◌+◌, ◌<◌, ◌≤◌, Bool, true, false, ◌==◌, nat_lt, List, [], ◌∷◌, ◌++◌, length, take, drop, map, cond, subst, refl, sym, ◌∙◌, ap, arith, length-append, length-take, filter}
 use Rattle.std.specs.List.{slice_split, onto_first}
 use Rattle.std.proofs.lemmas.List.Splits.{length-slice_split}
 use Rattle.std.proofs.lemmas.List.Elements.{All-head, All-tail}
 use Rattle.std.proofs.lemmas.Bool.{lt-ltb, ltb-true, ltb-false}
 use Rattle.std.proofs.lemmas.List.{get_or-take, take_all}
 use Rattle.quilt_lang.specs.declared.item.Item.{Item}
-use Rattle.quilt_lang.specs.declared.item.Item.TheVariants.{Long, Line}
+use Rattle.quilt_lang.specs.declared.item.Item.TheVariants.{Long}
 use Rattle.quilt_lang.specs.Items.{Group, line_limit, is_long, is_silent, lines_of, whole_lines, without_empty_end, without_last, groups_from, items_of, whole_items, held, held_as, asked, is_complete}
-use Rattle.quilt_lang.specs.Reading.{Unread, IsLine, Gives, Same, alone, kept_limit, is_some_line, begins_silent}
+use Rattle.quilt_lang.specs.Reading.{Unread, HasNewline, IsLine, Gives, Same, alone, kept_limit, is_some_line}
 use Rattle.quilt_lang.proofs.Cuts.{bool_cases}
-use Rattle.quilt_lang.proofs.Pieces.{same_by, gives_none, gives_then, gives_fed, rest_line}
-use Rattle.quilt_lang.proofs.LineLaws.{asked_none, groups_loud, complete_first, whole_none}
+use Rattle.quilt_lang.proofs.Pieces.{same_by, gives_none, gives_then, gives_fed}
+use Rattle.quilt_lang.proofs.LineLaws.{asked_long, groups_alone, complete_first, whole_line, whole_none}
 
 -- onto the first part go the bytes before
 abbrev onto : List ℕ → List (List ℕ) → List (List ℕ)
@@ -63,22 +63,21 @@ long_onto front v long = lt-ltb line_limit (length (front ++ v)) (omega (arith, 
 long_loud : (line : List ℕ) → is_long line ≡ true → is_silent line ≡ false
 long_loud line long = rw long refl
 
-pub long_item : (f n : ℕ) (line : List ℕ) → is_long line ≡ true → held f n (alone line) ≡ Long
+pub long_item : (f n : ℕ) (group : Group) → is_long group.line ≡ true → held f n group ≡ Long
 unfolding held
-long_item f n line long = rw long refl
+long_item f n group long = rw long refl
 
-pub short_item : (f n : ℕ) (line : List ℕ) → is_long line ≡ false → held f n (alone line) ≡ Line line
+pub short_item : (f n : ℕ) (group : Group) → is_long group.line ≡ false → held f n group ≡ held_as f n (asked n group.line) group
 unfolding held
-short_item f n line short =
-    ap (λ (b : Bool). cond b Long (held_as f n (asked n line) (alone line))) short ∙ ap (λ (k : ℕ). held_as f n k (alone line)) (asked_none n line)
+short_item f n group short = ap (λ (b : Bool). cond b Long (held_as f n (asked n group.line) group)) short
 
 -- two lines that are too long hold the same
 same_long : (n : ℕ) (a b : List ℕ) (gs hs : List Group) → is_long a ≡ true → is_long b ≡ true → Same n gs hs → Same n (alone a ∷ gs) (alone b ∷ hs)
 same_long n a b gs hs long_a long_b so = λ f.
-    ap (λ (i : Item). i ∷ map (held f n) gs) (long_item f n a long_a ∙ sym (long_item f n b long_b)) ∙ ap (λ (is : List Item). held f n (alone b) ∷ is) (so f)
+    ap (λ (i : Item). i ∷ map (held f n) gs) (long_item f n (alone a) long_a ∙ sym (long_item f n (alone b) long_b)) ∙ ap (λ (is : List Item). held f n (alone b) ∷ is) (so f)
 
 groups_long : (n : ℕ) (line : List ℕ) (ls : List (List ℕ)) → is_long line ≡ true → groups_from n 0 (line ∷ ls) ≡ alone line ∷ groups_from n 0 ls
-groups_long n line ls long = groups_loud n line ls (long_loud line long)
+groups_long n line ls long = groups_alone n line ls (long_loud line long) (asked_long n line long)
 
 items_onto : (n : ℕ) (front v : List ℕ) → IsLine front → line_limit < length front →
     items_of n (front ++ v) ≡ alone (front ++ first_of (pieces v)) ∷ groups_from n 0 (later_of (pieces v))
@@ -106,7 +105,7 @@ abbrev whole_from : ℕ → List (List ℕ) → List Group
 whole_from n ls = filter (is_complete n) (groups_from n 0 ls)
 
 whole_long : (n : ℕ) (line : List ℕ) (ls : List (List ℕ)) → is_long line ≡ true → whole_from n (line ∷ ls) ≡ alone line ∷ whole_from n ls
-whole_long n line ls long = ap (filter (is_complete n)) (groups_long n line ls long) ∙ complete_first n line (groups_from n 0 ls)
+whole_long n line ls long = ap (filter (is_complete n)) (groups_long n line ls long) ∙ complete_first n line (groups_from n 0 ls) (asked_long n line long)
 
 whole_swap : (n : ℕ) (a b : List ℕ) (ls : List (List ℕ)) → line_limit < length a → line_limit < length b → Same n (whole_from n (onto a ls)) (whole_from n (onto b ls))
 whole_swap n a b [] long_a long_b = λ f. refl
@@ -139,27 +138,26 @@ gives_kept n m text none enough = elim (bool_cases (nat_lt m (length text))) [
   | inr short ↦ rw (take_all m text (ltb-false m (length text) short)) (gives_none false n text)
 ]
 
--- a piece behind what is kept of a rest with no whole item
-pub fed : (s : Unread) (old bytes joined piece new : List ℕ) (m : ℕ) → old ≡ s.rest → begins_silent old ≡ false → whole_items s.level s.rest ≡ [] →
-    bytes ≡ take m old → (m < length old → line_limit < m) → joined ≡ bytes ++ piece → ((n : ℕ) → Gives false n [] joined new) →
-    Gives false s.level [] (s.rest ++ piece) new
-fed s old bytes joined piece new m rest loud none kept enough all read =
+-- a piece behind what is kept of a rest
+pub fed : (s : Unread) (old bytes joined piece new : List ℕ) (m : ℕ) → old ≡ s.rest → ((n : ℕ) → Gives false n [] old (take m old)) →
+    bytes ≡ take m old → joined ≡ bytes ++ piece → ((n : ℕ) → Gives false n [] joined new) → Gives false s.level [] (s.rest ++ piece) new
+fed s old bytes joined piece new m rest keeps kept all read =
     let n = s.level in
-    let line : IsLine old = rest_line n old loud (ap (whole_items n) rest ∙ none) in
-    let first : Gives false n [] (old ++ piece) (take m old ++ piece) = gives_fed n [] old (take m old) piece (gives_kept n m old line enough) in
+    let first : Gives false n [] (old ++ piece) (take m old ++ piece) = gives_fed n [] old (take m old) piece (keeps n) in
     let same : take m old ++ piece ≡ joined = sym (all ∙ ap (λ (l : List ℕ). l ++ piece) kept) in
     let P : List ℕ → Type 0 = λ (l : List ℕ). Gives false n [] (l ++ piece) new in
     let Q : List ℕ → Type 0 = λ (l : List ℕ). Gives false n [] (old ++ piece) l in
     subst P rest (gives_then false n [] [] (old ++ piece) joined new (subst Q same first) (read n))
 
--- a rest with no newline is kept up to what shows that it is too long
-pub kept_line : (text : List ℕ) → IsLine text → kept_limit text ≡ line_limit + 1
-kept_line text none = ap (λ (ls : List (List ℕ)). cond (is_some_line ls) (length text) (line_limit + 1)) (whole_none text none)
+-- all of a text with a whole line may be kept
+pub kept_all : (text : List ℕ) (k : ℕ) → HasNewline text k → length text ≤ kept_limit text
+kept_all text k at =
+    let lines : whole_lines text ≡ take k text ∷ whole_lines (drop (k + 1) text) = ap whole_lines at.is ∙ whole_line (take k text) (drop (k + 1) text) at.before in
+    let same : kept_limit text ≡ length text = ap (λ (ls : List (List ℕ)). cond (is_some_line ls) (length text) (line_limit + 1)) lines in
+    omega (arith, same)
 
--- what is kept is within what may be kept
-pub kept_within : (s : Unread) (old kept : List ℕ) → old ≡ s.rest → begins_silent old ≡ false → whole_items s.level s.rest ≡ [] → length kept ≤ line_limit + 1 →
-    length kept ≤ kept_limit s.rest
-kept_within s old kept rest loud none few =
-    let line : IsLine old = rest_line s.level old loud (ap (whole_items s.level) rest ∙ none) in
-    let same : kept_limit s.rest ≡ line_limit + 1 = ap kept_limit (sym rest) ∙ kept_line old line in
+-- of a text with no newline what shows that it is too long may be kept
+pub kept_line : (text : List ℕ) (m : ℕ) → IsLine text → m ≤ line_limit + 1 → m ≤ kept_limit text
+kept_line text m none few =
+    let same : kept_limit text ≡ line_limit + 1 = ap (λ (ls : List (List ℕ)). cond (is_some_line ls) (length text) (line_limit + 1)) (whole_none text none) in
     omega (arith, same, few)

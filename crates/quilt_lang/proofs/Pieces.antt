@@ -1,12 +1,12 @@
 -- What a text gives, line by line and piece by piece.
-use Rattle.std.proofs.Common.{◌≡◌, ℕ, ◌==◌, Option, Some, None, position, min, nat_lt, subst, inl, inr, ◌+◌, ◌<◌, ◌≤◌, Bool, true, false, List, [], ◌∷◌, ◌++◌, length, take, drop, refl, sym, ◌∙◌, ap, arith, append_assoc, append-nil, map}
-use Rattle.std.proofs.lemmas.List.{drop_all, take_all, drop-drop}
+use Rattle.std.proofs.Common.{◌≡◌, ℕ, min, nat_lt, subst, inl, inr, ◌+◌, ◌<◌, ◌≤◌, Bool, true, false, List, [], ◌∷◌, ◌++◌, length, take, drop, refl, sym, ◌∙◌, ap, arith, append_assoc, append-nil, map}
+use Rattle.std.proofs.lemmas.List.{drop_all, drop-drop}
 use Rattle.std.proofs.lemmas.Bool.{ltb-true, ltb-false}
 use Rattle.quilt_lang.specs.declared.item.Item.{Item}
 use Rattle.quilt_lang.specs.Items.{Group, is_silent, items_of, whole_items, held}
-use Rattle.quilt_lang.specs.Reading.{Unread, MayFollow, Gives, GivesItem, Same, HasNone, HasNewline, IsCut, IsLine, alone, begins_silent}
-use Rattle.quilt_lang.proofs.Cuts.{cut, bool_cases}
-use Rattle.quilt_lang.proofs.LineLaws.{silent_next, item_next, whole_silent_next, whole_item_next, whole_part, last_silent, last_item, items_none, begins_line}
+use Rattle.quilt_lang.specs.Reading.{Unread, MayFollow, Gives, GivesItem, Same, HasNone, HasNewline, IsLine, begins_silent}
+use Rattle.quilt_lang.proofs.Cuts.{bool_cases}
+use Rattle.quilt_lang.proofs.LineLaws.{silent_next, whole_silent_next, whole_part, last_silent, begins_line}
 
 -- lists that hold the same
 pub same_is : (n : ℕ) (xs ys : List Group) → xs ≡ ys → Same n xs ys
@@ -50,18 +50,6 @@ gives_silent n line u none silent =
     (λ v may. rw (append_assoc line (10 ∷ u) v) (silent_next n line (u ++ v) none silent))
     (λ open_ v. rw (append_assoc line (10 ∷ u) v) (whole_silent_next n line (u ++ v) none silent))
 
-pub gives_item : (n : ℕ) (line u : List ℕ) → IsLine line → is_silent line ≡ false → Gives false n (alone line ∷ []) (line ++ 10 ∷ u) u
-gives_item n line u none loud =
-    gives_of false n (alone line ∷ []) (line ++ 10 ∷ u) u
-    (λ v may. rw (append_assoc line (10 ∷ u) v) (item_next n line (u ++ v) none loud))
-    (λ open_ v. rw (append_assoc line (10 ∷ u) v) (whole_item_next n line (u ++ v) none loud))
-
--- the last line, where the input has ended
-pub gives_last : (n : ℕ) (part : List ℕ) → IsLine part → is_silent part ≡ false → Gives true n (alone part ∷ []) part []
-gives_last n part none loud =
-    gives_of true n (alone part ∷ []) part [] (λ v may. rw (may, append-nil part, items_none n) (last_item n part none loud))
-    (λ open_ v. absurd (let bad : true ≡ false = open_ in cc))
-
 moved_back : (n : ℕ) (g : List Group) (a b c : List ℕ) → a ≡ b → Gives false n g b c → Gives false n g a c
 moved_back n g a b c is so = let P : List ℕ → Type 0 = λ (t : List ℕ). Gives false n g t c in subst P (sym is) so
 
@@ -69,11 +57,6 @@ moved_back n g a b c is so = let P : List ℕ → Type 0 = λ (t : List ℕ). Gi
 pub gives_cut_silent : (n : ℕ) (text : List ℕ) (k : ℕ) → HasNewline text k → is_silent (take k text) ≡ true → Gives false n [] text (drop (k + 1) text)
 gives_cut_silent n text k at silent =
     let so = gives_silent n (take k text) (drop (k + 1) text) at.before silent in
-    moved_back n _ text (take k text ++ 10 ∷ drop (k + 1) text) (drop (k + 1) text) at.is so
-
-pub gives_cut_item : (n : ℕ) (text : List ℕ) (k : ℕ) → HasNewline text k → is_silent (take k text) ≡ false → Gives false n (alone (take k text) ∷ []) text (drop (k + 1) text)
-gives_cut_item n text k at loud =
-    let so = gives_item n (take k text) (drop (k + 1) text) at.before loud in
     moved_back n _ text (take k text ++ 10 ∷ drop (k + 1) text) (drop (k + 1) text) at.is so
 
 pub begins_cut : (text : List ℕ) (k : ℕ) → HasNewline text k → begins_silent text ≡ is_silent (take k text)
@@ -86,25 +69,6 @@ gives_fed n g a b p so = record {
   whole = λ open_ v f. rw (append_assoc a p v, append_assoc b p v) (so.whole refl (p ++ v) f);
 }
 
--- a text with no whole item that does not begin with a silent line has no newline
-pub rest_line : (n : ℕ) (text : List ℕ) → begins_silent text ≡ false → whole_items n text ≡ [] → IsLine text
-rest_line n text loud none = no_newline n text (position (λ c. c == 10) text) (cut text (position (λ c. c == 10) text) refl) loud none
-  where
-    no_newline : (n : ℕ) (text : List ℕ) (r : Option ℕ) → IsCut text r → begins_silent text ≡ false → whole_items n text ≡ [] → IsLine text
-    no_newline n text None at loud none = at
-    no_newline n text (Some k) at loud none =
-        let so = gives_cut_item n text k at (sym (begins_cut text k at) ∙ loud) in
-        let is : Same n (whole_items n text) (alone (take k text) ∷ whole_items n (drop (k + 1) text ++ [])) =
-        rw (append-nil text) at (so.whole refl []) in
-        let e : [] ≡ held 1 n (alone (take k text)) ∷ map (held 1 n) (whole_items n (drop (k + 1) text ++ [])) =
-        ap (map (held 1 n)) (sym none) ∙ is 1 in
-        absurd (cc)
-
--- the last line, where the input has ended
-pub gives_part : (n : ℕ) (text : List ℕ) → IsLine text → is_silent text ≡ false →
-    Gives true n (alone (take (length text) text) ∷ []) text (drop (length text + 1) text)
-gives_part n text none loud = rw (take_all (length text) text (omega arith), drop_all (length text + 1) text (omega arith)) (gives_last n text none loud)
-
 pub none_open : (n : ℕ) (text : List ℕ) → IsLine text → HasNone false n text
 none_open n text none = whole_part n text none
 
@@ -112,27 +76,24 @@ pub none_ended : (e : Bool) (n : ℕ) (text : List ℕ) → IsLine text → is_s
 none_ended true n text none silent = last_silent n text none silent
 none_ended false n text none silent = whole_part n text none
 
-drop_min : (m : ℕ) (l : List ℕ) → drop (min (length l) m) l ≡ drop m l
+pub drop_min : (m : ℕ) (l : List ℕ) → drop (min (length l) m) l ≡ drop m l
 drop_min m l = elim (bool_cases (nat_lt (length l) m)) [
   | inl past ↦ let over : length l < m = ltb-true (length l) m past in rw (drop_all m l (omega arith)) (drop_all (min (length l) m) l (omega arith))
   | inr within ↦ let under : m ≤ length l = ltb-false (length l) m within in let same : min (length l) m ≡ m = omega arith in rw same refl
 ]
 
 -- the next item, and the lines behind it that begin none
-pub given : (e : Bool) (f : ℕ) (s : Unread) (i : Item) (bytes behind : List ℕ) (from m k j : ℕ) → drop from bytes ≡ s.rest →
-    ((f n : ℕ) → i ≡ held f n (alone (take k s.rest))) → ((n : ℕ) → Gives e n (alone (take k s.rest) ∷ []) s.rest (drop (k + 1) s.rest)) →
-    m ≡ min (length s.rest) (k + 1) → behind ≡ drop (from + m) bytes → ((n : ℕ) → Gives false n [] behind (drop j behind)) →
+pub given : (e : Bool) (f : ℕ) (s : Unread) (i : Item) (bytes behind : List ℕ) (from m j : ℕ) → drop from bytes ≡ s.rest →
+    GivesItem e s.level f i s.rest (drop m s.rest) → behind ≡ drop (from + m) bytes → ((n : ℕ) → Gives false n [] behind (drop j behind)) →
     GivesItem e s.level f i s.rest (drop (from + m + j) bytes)
-given e f s i bytes behind from m k j rest is one least back silent =
+given e f s i bytes behind from m j rest one back silent =
     let n = s.level in
-    let same : behind ≡ drop (k + 1) s.rest =
-    back ∙ sym (drop-drop m from bytes) ∙ ap (drop m) rest ∙ ap (λ (x : ℕ). drop x s.rest) least ∙ drop_min (k + 1) s.rest in
+    let same : behind ≡ drop m s.rest = back ∙ sym (drop-drop m from bytes) ∙ ap (drop m) rest in
     let new : drop j behind ≡ drop (from + m + j) bytes = ap (drop j) back ∙ drop-drop j (from + m) bytes in
-    let group : Group = alone (take k s.rest) in
-    let Q : List ℕ → Type 0 = λ (l : List ℕ). Gives e n (group ∷ []) s.rest l in
+    let Q : List ℕ → Type 0 = λ (l : List ℕ). Gives e n (one.group ∷ []) s.rest l in
     let R : List ℕ → Type 0 = λ (l : List ℕ). Gives false n [] behind l in
     record {
-      group = group;
-      is = is f n;
-      gives = gives_then e n (group ∷ []) [] s.rest behind (drop (from + m + j) bytes) (subst Q (sym same) (one n)) (gives_ended e n [] behind (drop (from + m + j) bytes) (subst R new (silent n)));
+      group = one.group;
+      is = one.is;
+      gives = gives_then e n (one.group ∷ []) [] s.rest behind (drop (from + m + j) bytes) (subst Q (sym same) one.gives) (gives_ended e n [] behind (drop (from + m + j) bytes) (subst R new (silent n)));
     }

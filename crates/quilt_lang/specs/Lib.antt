@@ -1,4 +1,5 @@
 pub mod Built
+pub mod Cutting
 pub mod Fitting
 pub mod Forms
 pub mod Items

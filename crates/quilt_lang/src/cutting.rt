@@ -1,11 +1,9 @@
-ghost use Rattle.std.specs.Prelude.{◌≡◌, ◌==◌, ◌<◌, ◌≤◌, ◌+◌, ℕ, false, [], ◌∷◌, length, take, drop, position, IfSome, IfOk, MatchOption};
-ghost use Rattle.quilt_lang.specs.Items.{held};
-ghost use Rattle.quilt_lang.specs.Reading.{IsLine, IsCut, Gives, HasNone, begins_silent, alone};
+ghost use Rattle.std.specs.Prelude.{◌≡◌, ◌==◌, ◌<◌, ◌≤◌, ◌+◌, ℕ, false, [], ◌∷◌, length, take, drop, position, IfSome, MatchOption};
+ghost use Rattle.quilt_lang.specs.Items.{is_silent};
+ghost use Rattle.quilt_lang.specs.Reading.{IsLine, IsCut, Gives, HasNone, begins_silent, kept_limit};
+ghost use Rattle.quilt_lang.specs.Cutting.{Cuts, HasNoLine};
 
-use crate::Item;
 use crate::words::{LINE_LIMIT, is_silent_line};
-use quilt_types::Text;
-use std::alloc::{AllocError, Global};
 
 /// The index of the first newline.
 fn newline(bytes: &[u8]) -> Option<usize>
@@ -48,11 +46,42 @@ pub fn silent_front(text: &[u8]) -> usize
     from
 }
 
+/// The number of bytes of the first line, which has its newline, or ends with the input.
+pub fn first_line(text: &[u8], ended: bool) -> Option<usize>
+    ensures found { MatchOption result (HasNoLine ended text.now)
+        (λ k. Cuts ended (take k text.now ∷ []) text.now (drop (k + 1) text.now)) }
+    ensures within { IfSome result (λ k. k ≤ length text.now) }
+    ensures some { IfSome result (λ k. 0 < length text.now) }
+{
+    match newline(text) {
+        Some(k) => Some(k),
+        None => end_line(text, ended),
+    }
+}
+
+/// The number of bytes of a line with no newline, where the input has ended.
+fn end_line(text: &[u8], ended: bool) -> Option<usize>
+    requires { IsLine text.now }
+    ensures found { MatchOption result (HasNoLine ended text.now)
+        (λ k. Cuts ended (take k text.now ∷ []) text.now (drop (k + 1) text.now)) }
+    ensures within { IfSome result (λ k. k ≤ length text.now) }
+    ensures some { IfSome result (λ k. 0 < length text.now) }
+{
+    if text.is_empty() {
+        return None;
+    }
+    if !ended {
+        return None;
+    }
+    Some(text.len())
+}
+
 /// The number of bytes of the next line that begins an item; the last line has its newline, or ends with the input.
 pub fn line_len(text: &[u8], ended: bool) -> Option<usize>
     requires { begins_silent text.now ≡ false }
     ensures found { MatchOption result ((n : ℕ) → HasNone ended n text.now)
-        (λ k. (n : ℕ) → Gives ended n (alone (take k text.now) ∷ []) text.now (drop (k + 1) text.now)) }
+        (λ k. Cuts ended (take k text.now ∷ []) text.now (drop (k + 1) text.now)) }
+    ensures loud { IfSome result (λ k. is_silent (take k text.now) ≡ false) }
     ensures within { IfSome result (λ k. k ≤ length text.now) }
 {
     match newline(text) {
@@ -65,7 +94,8 @@ pub fn line_len(text: &[u8], ended: bool) -> Option<usize>
 fn last_len(text: &[u8], ended: bool) -> Option<usize>
     requires { IsLine text.now }
     ensures found { MatchOption result ((n : ℕ) → HasNone ended n text.now)
-        (λ k. (n : ℕ) → Gives ended n (alone (take k text.now) ∷ []) text.now (drop (k + 1) text.now)) }
+        (λ k. Cuts ended (take k text.now ∷ []) text.now (drop (k + 1) text.now)) }
+    ensures loud { IfSome result (λ k. is_silent (take k text.now) ≡ false) }
     ensures within { IfSome result (λ k. k ≤ length text.now) }
 {
     if !ended || is_silent_line(text) {
@@ -74,14 +104,14 @@ fn last_len(text: &[u8], ended: bool) -> Option<usize>
     Some(text.len())
 }
 
-/// The item that a line is.
-pub fn item_of(alloc: Global, line: &[u8]) -> Result<Item, AllocError>
-    ensures { IfOk result (λ item. (f n : ℕ) → item ≡ held f n (alone line.now)) }
+/// How many bytes are kept of a rest that waits for more: of a line that is not whole no more than show that it is too long.
+pub fn kept_len(rest: &[u8]) -> usize
+    ensures within { result ≤ length rest.now }
+    ensures gives { (n : ℕ) → Gives false n [] rest.now (take result rest.now) }
+    ensures short { result ≤ kept_limit rest.now }
 {
-    if line.len() > LINE_LIMIT {
-        return Ok(Item::Long);
+    match newline(rest) {
+        Some(_) => rest.len(),
+        None => rest.len().min(LINE_LIMIT + 1),
     }
-    let mut text = Text::new(alloc);
-    text.push(line)?;
-    Ok(Item::Line(text))
 }

@@ -2,10 +2,13 @@
 #![tactic(auto)]
 
 mod arguments;
+mod asked;
 mod command;
 mod commands;
 mod cutting;
+mod front;
 mod further;
+mod held;
 mod item;
 mod lines;
 mod pairs;

@@ -3,8 +3,8 @@ ghost use Rattle.quilt_lang.specs.Items.{whole_items};
 ghost use Rattle.quilt_lang.specs.Reading.{Gives, GivesItem, HasNone, kept_limit};
 
 use crate::Item;
-use crate::cutting::{item_of, line_len, silent_front};
-use crate::words::LINE_LIMIT;
+use crate::cutting::{kept_len, silent_front};
+use crate::front::front_item;
 use std::alloc::{AllocError, Global};
 use std::marker::Model;
 
@@ -50,8 +50,8 @@ impl Lines {
         ensures err { OnErr result (self.new ≡ self.old) }
     {
         let rest = &self.bytes[self.from..];
-        let kept = &rest[..rest.len().min(LINE_LIMIT + 1)];
-        let mut bytes = Vec::from_slice(*self.bytes.allocator(), kept)?;
+        let kept = kept_len(rest);
+        let mut bytes = Vec::from_slice(*self.bytes.allocator(), &rest[..kept])?;
         bytes.extend_from_slice(piece)?;
         self.from = silent_front(&bytes);
         self.bytes = bytes;
@@ -67,12 +67,12 @@ impl Lines {
             (λ item. GivesItem ended self.old.level format item self.old.rest self.new.rest)) }
         ensures err { OnErr result (self.new ≡ self.old) }
     {
+        let alloc = *self.bytes.allocator();
         let rest = &self.bytes[self.from..];
-        let Some(k) = line_len(rest, ended) else {
+        let Some((item, len)) = front_item(alloc, self.level, format, rest, ended)? else {
             return Ok(None);
         };
-        let item = item_of(*self.bytes.allocator(), &rest[..k])?;
-        let from = self.from + rest.len().min(k + 1);
+        let from = self.from + len;
         self.from = from + silent_front(&self.bytes[from..]);
         Ok(Some(item))
     }

@@ -1,13 +1,14 @@
 //! What the further lines of an item spell: rows, list lines and ring lines.
 ghost use Rattle.std.specs.Prelude.{◌≡◌, List, ◌≤◌, ◌*◌, ◌==◌, ℕ, [], ◌∷◌, ◌++◌, map, flat_map, length, nat_le, Some, None, option_map, unwrap_or, if◌then◌else◌, IfOk, codes};
 ghost use Rattle.std.specs.Str.{bytes_eq};
-ghost use Rattle.quilt_lang.specs.Items.{listed_by, colour_bytes, point, point_of, points_joined, rows_joined, words_of};
+ghost use Rattle.quilt_lang.specs.Items.{listed_by, colour_bytes, corner_of, corners_of, point, point_of, points_joined, ring_of, rings_joined, rows_joined, words_of};
 ghost use Rattle.quilt_lang.specs.Spelling.{number, row, hex_digit};
 ghost use Rattle.quilt_lang.specs.Spelled.{with_byte};
 
 use crate::arguments::number_of;
-use crate::words::line_words;
-use quilt_types::{Pixel, Point, PointList, Text};
+use crate::further::push_ring;
+use crate::words::{LINE_LIMIT, line_words};
+use quilt_types::{Corner, Pixel, Point, PointList, RingList, Text};
 use std::alloc::{AllocError, Global};
 
 /// How many list lines or ring lines the words ask for.
@@ -120,7 +121,7 @@ pub fn list_points(alloc: Global, lines: &[&[u8]]) -> Result<Option<PointList>, 
 pub fn raster_rows(
     alloc: Global,
     format: u8,
-    width: u16,
+    width: usize,
     lines: &[&[u8]],
 ) -> Result<Option<Text>, AllocError>
     ensures { IfOk result (λ rows. rows ≡ rows_joined format width (map (λ w. w.now) lines.now)) }
@@ -139,13 +140,13 @@ pub fn raster_rows(
 fn row_colours(
     alloc: Global,
     format: u8,
-    width: u16,
+    width: usize,
     line: &[u8],
 ) -> Result<Option<Vec<u8>>, AllocError>
     ensures { IfOk result (λ bytes. option_map (λ v. v.items) bytes ≡
         (if length line.now == 2 * format * width then option_map (colour_bytes format) (row line.now) else None)) }
 {
-    if line.len() != 2 * usize::from(format) * usize::from(width) {
+    if line.len() as u128 != 2 * u128::from(format) * width as u128 {
         return Ok(None);
     }
     match row_bytes(alloc, line)? {
@@ -166,4 +167,62 @@ fn widened(alloc: Global, bytes: &[u8]) -> Result<Vec<u8>, AllocError>
         wide.extend_from_slice(&[0, *byte])?;
     }
     Ok(wide)
+}
+
+/// The rings that all ring lines spell, or none where one is not well formed.
+pub fn ring_lines(alloc: Global, lines: &[&[u8]]) -> Result<Option<RingList>, AllocError>
+    ensures { IfOk result (λ rings. rings ≡ rings_joined (map (λ w. w.now) lines.now)) }
+{
+    let mut rings = RingList::new(alloc);
+    for line in lines {
+        let Some(corners) = ring_corners(alloc, line)? else {
+            return Ok(None);
+        };
+        push_ring(&mut rings, &corners)?;
+    }
+    Ok(Some(rings))
+}
+
+/// The corners that a ring line spells: at least three.
+fn ring_corners(alloc: Global, line: &[u8]) -> Result<Option<Vec<Corner>>, AllocError>
+    ensures { IfOk result (λ corners. option_map (λ v. v.items) corners ≡ ring_of line.now) }
+{
+    if line.len() > LINE_LIMIT {
+        return Ok(None);
+    }
+    let words = line_words(alloc, line)?;
+    if words.len() < 6 {
+        return Ok(None);
+    }
+    corners_in(alloc, &words)
+}
+
+/// The corners that words spell, two each.
+fn corners_in(alloc: Global, words: &[&[u8]]) -> Result<Option<Vec<Corner>>, AllocError>
+    ensures { IfOk result (λ corners. option_map (λ v. v.items) corners ≡ corners_of (map (λ w. w.now) words.now)) }
+{
+    if words.len() % 2 != 0 {
+        return Ok(None);
+    }
+    let mut corners = Vec::with_capacity(alloc, words.len() / 2)?;
+    let mut i = 0;
+    while i < words.len() {
+        let Some(c) = corner_in(words[i], words[i + 1]) else {
+            return Ok(None);
+        };
+        corners.push(c)?;
+        i += 2;
+    }
+    Ok(Some(corners))
+}
+
+fn corner_in(x: &[u8], y: &[u8]) -> Option<Corner>
+    ensures { result ≡ corner_of (number 0 65535 x.now) (number 0 65535 y.now) }
+{
+    let x = number_of(0, 65535, x)?;
+    let y = number_of(0, 65535, y)?;
+    Some(Corner {
+        x: x as u16,
+        y: y as u16,
+    })
 }

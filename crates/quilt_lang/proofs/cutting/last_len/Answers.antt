@@ -1,5 +1,7 @@
-use Rattle.std.proofs.Common.{sym, ◌∙◌}
-use Rattle.quilt_lang.proofs.Pieces.{gives_part, none_ended, none_open}
+use Rattle.std.proofs.Common.{sym, ◌∙◌, arith, length}
+use Rattle.std.proofs.lemmas.List.{take_all}
+use Rattle.quilt_lang.proofs.Pieces.{none_ended, none_open}
+use Rattle.quilt_lang.proofs.Groups.{cuts_last, loud_some}
 use Rattle.quilt_lang.proofs.cutting.last_len.Goals as goal
 use Rattle.quilt_lang.proofs.cutting.last_len.Goals.{then-not-ended-via-then-not-ended, then-not-ended-via-else-not-ended+then-is_silent_line}
 
@@ -12,5 +14,7 @@ returns-then-not-ended-clause-found c = λ n.
     ]
 
 pub returns-clause-found : goal.returns-clause-found
-returns-clause-found c = λ n.
-    rw c.if-not-ended.false (gives_part n c.args.text.now c.requires (sym c.is_silent_line.ensures ∙ c.if-is_silent_line.false))
+returns-clause-found c = cuts_last c.args.ended c.args.text.now c.if-not-ended.false c.requires (loud_some c.args.text.now (sym c.is_silent_line.ensures ∙ c.if-is_silent_line.false))
+
+pub returns-clause-loud : goal.returns-clause-loud
+returns-clause-loud c = rw (take_all (length c.args.text.now) c.args.text.now (omega arith)) (sym c.is_silent_line.ensures ∙ c.if-is_silent_line.false)

@@ -1,9 +1,15 @@
 use Rattle.std.proofs.Common.{sym, ◌∙◌}
 use Rattle.quilt_lang.specs.Reading.{HasNewline}
-use Rattle.quilt_lang.proofs.Pieces.{gives_cut_item, gives_ended, begins_cut}
+use Rattle.quilt_lang.proofs.Pieces.{begins_cut}
+use Rattle.quilt_lang.proofs.Groups.{cuts_newline}
 use Rattle.quilt_lang.proofs.cutting.line_len.Goals as goal
 
 pub returns-in-Some-clause-found : goal.returns-in-Some-clause-found
-returns-in-Some-clause-found c = λ n.
+returns-in-Some-clause-found c =
     let at : HasNewline c.args.text.now c.in-Some.k = rw c.in-Some.is at c.newline.ensures in
-    gives_ended c.args.ended n _ _ _ (gives_cut_item n c.args.text.now c.in-Some.k at (sym (begins_cut c.args.text.now c.in-Some.k at) ∙ c.requires))
+    cuts_newline c.args.ended c.args.text.now c.in-Some.k at
+
+pub returns-in-Some-clause-loud : goal.returns-in-Some-clause-loud
+returns-in-Some-clause-loud c =
+    let at : HasNewline c.args.text.now c.in-Some.k = rw c.in-Some.is at c.newline.ensures in
+    sym (begins_cut c.args.text.now c.in-Some.k at) ∙ c.requires

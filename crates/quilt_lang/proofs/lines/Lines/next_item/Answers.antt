@@ -8,12 +8,12 @@ pub returns-clause-given : goal.returns-clause-given
 returns-clause-given c =
     let bytes : List ℕ = c.self.inside.bytes.items in
     let from = c.self.inside.from in
+    let m = c.in-Some.len in
+    let level : c.self.inside.level ≡ c.args.self.now.level = ap (λ (s : Unread). s.level) c.self.view_is in
     let rest : drop from bytes ≡ c.args.self.now.rest = ap (λ (s : Unread). s.rest) c.self.view_is in
     let now : List ℕ = c.deref.result.now in
     let same : take (length now - from) (drop from now) ≡ c.args.self.now.rest = rw c.deref.ensures.value (behind from bytes ∙ rest) in
     let then_ : List ℕ = c.deref-2.result.now in
-    let back : take (length then_ - (from + c.min.result)) (drop (from + c.min.result) then_) ≡ drop (from + c.min.result) bytes =
-    rw c.deref-2.ensures.value (behind (from + c.min.result) bytes) in
-    given c.args.ended c.args.format c.args.self.now c.in_ok-item.item bytes (take (length then_ - (from + c.min.result)) (drop (from + c.min.result) then_))
-    from c.min.result c.in-Some.k c.silent_front.result rest
-    (rw same at c.in_ok-item.ensures) (rw same at c.in-Some.ensures.found) (rw same at c.min.ensures) back c.silent_front.ensures.gives
+    let back : take (length then_ - (from + m)) (drop (from + m) then_) ≡ drop (from + m) bytes = rw c.deref-2.ensures.value (behind (from + m) bytes) in
+    given c.args.ended c.args.format c.args.self.now c.in-Some.item bytes (take (length then_ - (from + m)) (drop (from + m) then_)) from m c.silent_front.result rest
+    (rw (same, level) at (rw c.in-Some.is at c.in_ok-item.ensures.given)) back c.silent_front.ensures.gives

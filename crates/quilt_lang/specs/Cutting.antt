@@ -1,0 +1,63 @@
+-- Lines cut from the front of a text, and how many further lines a line asks for.
+use Rattle.std.specs.Prelude.{◌≡◌, ℕ, ◌<◌, ◌≤◌, Bool, true, false, List, ◌∷◌, [], ◌++◌, length, codes}
+use Rattle.quilt_types.specs.Plane.{side}
+use Rattle.quilt_lang.specs.declared.asked.Asked.{Asked}
+use Rattle.quilt_lang.specs.declared.asked.Asked.TheVariants as kinds
+use Rattle.quilt_lang.specs.declared.item.Item.{Item}
+use Rattle.quilt_lang.specs.declared.item.Item.TheVariants.{Long, Line, Rows, PointLines, RingLines}
+use Rattle.quilt_lang.specs.Built.{is_built}
+use Rattle.quilt_lang.specs.Items.{Group, begins_with, lines_of, whole_lines, rows_of, points_of, rings_of}
+use Rattle.quilt_lang.specs.Reading.{MayFollow}
+
+-- a line with these further lines
+abbrev pub grouped : List ℕ → List (List ℕ) → Group
+grouped line more = record { line = line; more = more }
+
+-- Whatever may follow, the lines of the old text are these and then those of the new one, and so are the whole lines.
+pub record Cuts (ended : Bool) (lines : List (List ℕ)) (old new : List ℕ) : Type 0 where
+  pub all : (v : List ℕ) → MayFollow ended v → lines_of (old ++ v) ≡ lines ++ lines_of (new ++ v)
+  pub whole : ended ≡ false → (v : List ℕ) → whole_lines (old ++ v) ≡ lines ++ whole_lines (new ++ v)
+
+-- no line can be cut: none that is whole, or none at all where the input has ended
+abbrev pub HasNoLine : Bool → List ℕ → Type 0
+HasNoLine false text = whole_lines text ≡ []
+HasNoLine true text = lines_of text ≡ []
+
+-- so many lines are cut at most, and fewer only where there are no more
+pub record CutsUpTo (ended : Bool) (count : ℕ) (lines : List (List ℕ)) (old new : List ℕ) : Type 0 where
+  pub cuts : Cuts ended lines old new
+  pub few : length lines ≤ count
+  pub stops : length lines < count → HasNoLine ended new
+
+-- how many further lines they are
+abbrev pub number_of : ℕ → Asked → ℕ
+number_of n kinds.Nothing = 0
+number_of n kinds.Rows = side n
+number_of n (kinds.Points k) = k
+number_of n (kinds.Rings k) = k
+
+-- the words begin with the one that asks for them, and for one line at least
+abbrev pub IsAsking : List (List ℕ) → Asked → Type 0
+IsAsking ws kinds.Nothing = Unit {0}
+IsAsking ws kinds.Rows = begins_with ws (codes "raster") ≡ true
+IsAsking ws (kinds.Points k) = (0 < k) × (begins_with ws (codes "scatter") ≡ true)
+IsAsking ws (kinds.Rings k) = (0 < k) × (begins_with ws (codes "polygon") ≡ true)
+
+-- these are what words ask for that ask for so many lines
+pub record IsAsked (n count : ℕ) (ws : List (List ℕ)) (what : Asked) : Type 0 where
+  pub number : count ≡ number_of n what
+  pub kind : IsAsking ws what
+
+-- the command that asks for them is built
+abbrev pub is_built_for : Asked → Bool
+is_built_for kinds.Nothing = true
+is_built_for kinds.Rows = is_built (codes "raster")
+is_built_for (kinds.Points k) = is_built (codes "scatter")
+is_built_for (kinds.Rings k) = is_built (codes "polygon")
+
+-- what a line holds with these further lines, where it asks for such
+abbrev pub holding : ℕ → ℕ → List ℕ → List (List ℕ) → Asked → Item
+holding f n line more kinds.Nothing = Line line
+holding f n line more kinds.Rows = Rows line (rows_of f n more)
+holding f n line more (kinds.Points k) = PointLines line (points_of k more)
+holding f n line more (kinds.Rings k) = RingLines line (rings_of k more)

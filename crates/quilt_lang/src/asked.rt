@@ -1,0 +1,142 @@
+//! The further lines that a line asks for.
+ghost use Rattle.std.specs.Prelude.{◌≡◌, ◌==◌, ◌||◌, ℕ, false, codes, length, map, IfOk};
+ghost use Rattle.quilt_types.specs.Plane.{side};
+ghost use Rattle.quilt_lang.specs.Items.{asked, asked_by, asked_in_all, begins_with, words_of};
+ghost use Rattle.quilt_lang.specs.Cutting.{IsAsked, is_built_for, number_of};
+
+use crate::spelled::listed;
+use crate::word::{PointWord, RegionWord, Word};
+use crate::words::{LINE_LIMIT, is_plain_line, line_words};
+use std::alloc::{AllocError, Global};
+
+/// The further lines that a line asks for.
+#[derive(Clone, Copy, Debug, PartialEq, Eq)]
+pub enum Asked {
+    Nothing,
+    /// A row for each row of the square.
+    Rows,
+    /// So many list lines.
+    Points(u32),
+    /// So many ring lines.
+    Rings(u32),
+}
+
+impl Asked {
+    /// Whether they are so many.
+    fn is_number(self, level: u8, count: usize) -> bool
+        ensures { result ≡ (count == number_of level self) }
+    {
+        match self {
+            Asked::Nothing => count == 0,
+            Asked::Rows => is_side(level, count),
+            Asked::Points(k) => is_count(k, count),
+            Asked::Rings(k) => is_count(k, count),
+        }
+    }
+
+    /// Whether so many lines are all of them, or no more can come.
+    pub fn is_met(self, level: u8, count: usize, ended: bool) -> bool
+        ensures { result ≡ (ended || (count == number_of level self)) }
+    {
+        ended || self.is_number(level, count)
+    }
+
+    /// Whether the session has the command that asks for them.
+    fn is_built(self) -> bool
+        ensures { result ≡ is_built_for self }
+    {
+        match self {
+            Asked::Nothing => true,
+            Asked::Rows => Word::Region(RegionWord::Raster).is_built(),
+            Asked::Points(_) => Word::Point(PointWord::Scatter).is_built(),
+            Asked::Rings(_) => Word::Region(RegionWord::Polygon).is_built(),
+        }
+    }
+}
+
+/// Whether so many lines are a row for each row of the square.
+#[tactic(auto, using(crate::proofs::Asking::far_side, crate::proofs::Asking::near_side))]
+pub fn is_side(level: u8, count: usize) -> bool
+    ensures { result ≡ (count == side level) }
+{
+    if level > 63 {
+        return false;
+    }
+    count == 1 << level
+}
+
+/// Whether so many lines are k.
+pub fn is_count(k: u32, count: usize) -> bool
+    ensures { result ≡ (count == k) }
+{
+    count == k as usize
+}
+
+/// What a line asks for.
+pub fn further_asked(alloc: Global, line: &[u8]) -> Result<Asked, AllocError>
+    ensures { IfOk result (λ what. (n : ℕ) → IsAsked n (asked n line.now) (words_of line.now) what) }
+{
+    if line.len() > LINE_LIMIT {
+        return Ok(Asked::Nothing);
+    }
+    if !is_plain_line(line) {
+        return Ok(Asked::Nothing);
+    }
+    let words = line_words(alloc, line)?;
+    Ok(asked_if_built(&words))
+}
+
+/// What words ask for, where their command is built.
+fn asked_if_built(words: &[&[u8]]) -> Asked
+    ensures { (n : ℕ) → IsAsked n (asked_by n (map (λ w. w.now) words.now)) (map (λ w. w.now) words.now) result }
+{
+    let what = asked_of_all(words);
+    if what.is_built() {
+        what
+    } else {
+        Asked::Nothing
+    }
+}
+
+/// What words ask for, where all commands are built.
+pub fn asked_of_all(words: &[&[u8]]) -> Asked
+    ensures { (n : ℕ) → IsAsked n (asked_in_all n (map (λ w. w.now) words.now)) (map (λ w. w.now) words.now) result }
+{
+    if is_raster(words) {
+        Asked::Rows
+    } else {
+        asked_lists(words)
+    }
+}
+
+fn asked_lists(words: &[&[u8]]) -> Asked
+    requires { begins_with (map (λ w. w.now) words.now) (codes "raster") ≡ false }
+    ensures { (n : ℕ) → IsAsked n (asked_in_all n (map (λ w. w.now) words.now)) (map (λ w. w.now) words.now) result }
+{
+    let count = listed(words);
+    if count == 0 {
+        Asked::Nothing
+    } else if is_scatter(words) {
+        Asked::Points(count)
+    } else {
+        Asked::Rings(count)
+    }
+}
+
+fn is_raster(words: &[&[u8]]) -> bool
+    ensures { result ≡ begins_with (map (λ w. w.now) words.now) (codes "raster") }
+{
+    match words {
+        [word, ..] => *word == b"raster".as_slice(),
+        [] => false,
+    }
+}
+
+fn is_scatter(words: &[&[u8]]) -> bool
+    ensures { result ≡ begins_with (map (λ w. w.now) words.now) (codes "scatter") }
+{
+    match words {
+        [word, ..] => *word == b"scatter".as_slice(),
+        [] => false,
+    }
+}
