@@ -1,12 +1,37 @@
+ghost use Rattle.std.specs.Prelude.{◌≡◌, IfOk};
+
 use super::*;
 use quilt_blocks::LeafList;
 use quilt_types::{Colour, Corner, Pixel, RingList};
+use std::alloc::{AllocError, Global};
 use std::process::Abort;
 use std::test::Fail;
 
+/// Adds a ring with these corners, x and y of each.
+fn add_ring(
+    rt: &impl Abort,
+    rings: &mut RingList,
+    corners: &[(u16, u16)],
+) -> Result<(), AllocError> {
+    rings.begin_ring()?;
+    for (x, y) in corners {
+        assert!(rt; 0 < rings.len());
+        rings.push(Corner { x: *x, y: *y })?;
+    }
+    Ok(())
+}
+
+/// The leaves of the rings at level 3.
+fn drawn(alloc: Global, rings: &RingList, c: Colour) -> Result<LeafList, AllocError>
+    ensures { IfOk result (λ list. list.level ≡ 3) }
+{
+    region_of(alloc, rings, c, 3)
+}
+
 /// How many pixels of a list of level 3 have the colour.
-fn area(rt: &impl Abort, list: &LeafList, c: Colour) -> u32 {
-    assert!(rt; list.level() == 3);
+fn area(list: &LeafList, c: Colour) -> u32
+    requires { list.now.level ≡ 3 }
+{
     let mut count = 0_u32;
     for y in 0..8_u16 {
         for x in 0..8_u16 {
@@ -21,14 +46,10 @@ fn area(rt: &impl Abort, list: &LeafList, c: Colour) -> u32 {
 #[test]
 fn half_a_square(rt: HostRuntime) -> Result<(), Fail> {
     let mut rings = RingList::new(rt.alloc());
-    rings.begin_ring()?;
-    rings.push(Corner { x: 0, y: 0 })?;
-    rings.push(Corner { x: 8, y: 0 })?;
-    rings.push(Corner { x: 0, y: 8 })?;
-    let list = region_of(rt.alloc(), &rings, Colour(261), 3)?;
-    assert_eq!(rt; area(&rt, &list, Colour(261)), 28);
-    assert_eq!(rt; area(&rt, &list, Colour(0)), 36);
-    assert!(rt; list.level() == 3);
+    add_ring(&rt, &mut rings, &[(0, 0), (8, 0), (0, 8)])?;
+    let list = drawn(rt.alloc(), &rings, Colour(261))?;
+    assert_eq!(rt; area(&list, Colour(261)), 28);
+    assert_eq!(rt; area(&list, Colour(0)), 36);
     assert_eq!(rt; list.colour_at(Pixel { x: 3, y: 4 }), Colour(0));
     Ok(())
 }
@@ -36,20 +57,14 @@ fn half_a_square(rt: HostRuntime) -> Result<(), Fail> {
 #[test]
 fn a_square_with_a_hole(rt: HostRuntime) -> Result<(), Fail> {
     let mut rings = RingList::new(rt.alloc());
-    rings.begin_ring()?;
-    rings.push(Corner { x: 0, y: 0 })?;
-    rings.push(Corner { x: 8, y: 0 })?;
-    rings.push(Corner { x: 8, y: 8 })?;
-    rings.push(Corner { x: 0, y: 8 })?;
-    rings.begin_ring()?;
-    rings.push(Corner { x: 2, y: 2 })?;
-    rings.push(Corner { x: 6, y: 2 })?;
-    rings.push(Corner { x: 6, y: 6 })?;
-    rings.push(Corner { x: 2, y: 6 })?;
-    let list = region_of(rt.alloc(), &rings, Colour(1), 3)?;
-    assert_eq!(rt; area(&rt, &list, Colour(1)), 48);
+    add_ring(&rt, &mut rings, &[(0, 0), (8, 0), (8, 8), (0, 8)])?;
+    add_ring(&rt, &mut rings, &[(2, 2), (6, 2), (6, 6), (2, 6)])?;
+    let list = drawn(rt.alloc(), &rings, Colour(1))?;
+    assert_eq!(rt; area(&list, Colour(1)), 48);
     assert_eq!(rt; list.len(), 16);
-    assert_eq!(rt; list.leaf(5).block.side, 2);
+    for i in 0..list.len() {
+        assert_eq!(rt; list.leaf(i).block.side, 2);
+    }
     Ok(())
 }
 
@@ -57,14 +72,9 @@ fn a_square_with_a_hole(rt: HostRuntime) -> Result<(), Fail> {
 #[test]
 fn a_ring_that_crosses_itself(rt: HostRuntime) -> Result<(), Fail> {
     let mut rings = RingList::new(rt.alloc());
-    rings.begin_ring()?;
-    rings.push(Corner { x: 0, y: 0 })?;
-    rings.push(Corner { x: 8, y: 8 })?;
-    rings.push(Corner { x: 8, y: 0 })?;
-    rings.push(Corner { x: 0, y: 8 })?;
-    let list = region_of(rt.alloc(), &rings, Colour(4), 3)?;
-    assert_eq!(rt; area(&rt, &list, Colour(4)), 32);
-    assert!(rt; list.level() == 3);
+    add_ring(&rt, &mut rings, &[(0, 0), (8, 8), (8, 0), (0, 8)])?;
+    let list = drawn(rt.alloc(), &rings, Colour(4))?;
+    assert_eq!(rt; area(&list, Colour(4)), 32);
     assert_eq!(rt; list.colour_at(Pixel { x: 3, y: 3 }), Colour(0));
     assert_eq!(rt; list.colour_at(Pixel { x: 4, y: 3 }), Colour(4));
     Ok(())
@@ -73,8 +83,8 @@ fn a_ring_that_crosses_itself(rt: HostRuntime) -> Result<(), Fail> {
 #[test]
 fn no_rings(rt: HostRuntime) -> Result<(), Fail> {
     let rings = RingList::new(rt.alloc());
-    let list = region_of(rt.alloc(), &rings, Colour(7), 3)?;
+    let list = drawn(rt.alloc(), &rings, Colour(7))?;
     assert_eq!(rt; list.len(), 1);
-    assert_eq!(rt; area(&rt, &list, Colour(0)), 64);
+    assert_eq!(rt; area(&list, Colour(0)), 64);
     Ok(())
 }
