@@ -4,7 +4,7 @@
 mod reading;
 mod showing;
 
-pub use reading::leaves_of;
+pub use reading::{colour_in, leaves_of};
 pub use showing::render;
 
 #[cfg(test)]

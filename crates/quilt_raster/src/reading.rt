@@ -26,8 +26,8 @@ pub fn leaves_of(alloc: Global, colours: &[u8], level: u8) -> Result<LeafList, A
     Ok(maker.finish())
 }
 
-/// The colour at a place of the list, which has two bytes for each.
-fn colour_in(colours: &[u8], place: usize) -> Colour
+/// The colour at a place of a raster: of its two bytes there, the high one comes first.
+pub fn colour_in(colours: &[u8], place: usize) -> Colour
     requires { 2 * place + 1 < length colours.now }
     ensures { result.0 ≡ slice_index (colours_of_bytes colours.now) place }
 {

@@ -1,0 +1,183 @@
+-- The quadrants of a square, and parts that stand for them.
+use Rattle.std.proofs.Common.{◌≡◌, ℕ, zero, suc, ◌+◌, ◌-◌, ◌*◌, ◌/◌, ◌%◌, ◌^◌, ◌<◌, ◌≤◌, List, [], ◌∷◌, length, get_or, sym, ◌∙◌, ap, ap₂, subst, arith, pow_pos, pow-suc}
+use Rattle.std.proofs.lemmas.List.{get_or_default}
+use Rattle.quilt_types.specs.declared.plane.Pixel.{Pixel}
+use Rattle.quilt_types.specs.declared.plane.Block.{Block}
+use Rattle.quilt_types.specs.declared.plane.Colour.{Colour}
+use Rattle.quilt_types.specs.Plane.{side, whole, quarters_of, IsBlock}
+use Rattle.quilt_types.specs.Layers.{Grid, colour_at}
+use Rattle.quilt_loc.specs.Codes.{code_at, code_from, code_to}
+use Rattle.quilt_loc.proofs.Blocks.{side_most}
+use Rattle.quilt_loc.proofs.Quartered.{IsQuarter, IsBlock-whole, Within-whole, quarters_are}
+use Rattle.quilt_loc.proofs.Intervals.{origin_code, half_codes, held_code}
+use Rattle.quilt_blocks.specs.Raster.{Raster}
+use Rattle.quilt_blocks.specs.Adding.{Adds}
+use Rattle.quilt_blocks.specs.Painting.{Painted, grid_by_code}
+use Rattle.quilt_blocks.proofs.Painting.{Paints, code_in, colour_at-grid_by_code}
+use Rattle.quilt_blocks.proofs.Adding.{part_at, Adds-then, Adds-change}
+use Rattle.quilt_blocks.proofs.Squares.{width, code_to-whole}
+use Rattle.quilt_raster.proofs.Points.{in_square}
+use Rattle.quilt_par.specs.declared.part.Part.{Part}
+use Rattle.quilt_par.specs.declared.part.Part.TheVariants.{Single, Leaves}
+use Rattle.quilt_par.specs.Parts.{width_of, moved_colour, quadrant_at, part_in, Shows, ShowAll}
+
+pub wide_square : (n : ℕ) → 1 ≤ n → 1 < side n
+wide_square zero h = absurd (omega arith)
+wide_square (suc k) h = let p = pow-suc 2 k in let q = pow_pos k in omega arith
+
+abbrev nowhere : Block
+nowhere = record { x = 0; y = 0; side = 0 }
+
+pub quadrant_is : (n i : ℕ) → 1 ≤ n → i < 4 → IsQuarter n (whole n) (quadrant_at n i)
+quadrant_is n i some lt =
+    let qs = quarters_of (whole n) in
+    let q = quadrant_at n i in
+    quarters_are n (whole n) q (IsBlock-whole n) (wide_square n some) (i, lt, get_or_default qs i q nowhere lt)
+
+-- where its codes begin and end
+pub record HasCodes (n i : ℕ) (q : Block) : Type 0 where
+  pub from : code_from q ≡ i * (side n / 2 * (side n / 2))
+  pub to : code_to q ≡ (i + 1) * (side n / 2 * (side n / 2))
+
+pub quadrant_codes : (n i : ℕ) → 1 ≤ n → n ≤ 12 → i < 4 → HasCodes n i (quadrant_at n i)
+quadrant_codes n i some most lt =
+    let p = part_at n (whole n) (quarters_of (whole n)) i nowhere most (IsBlock-whole n) (wide_square n some) (λ k. quarters_of (whole n)) lt in
+    let z = origin_code in
+    let f = p.from in
+    let t = p.to in
+    record { from = omega arith; to = omega arith }
+
+pub four_squares : (n : ℕ) → 1 ≤ n → n ≤ 12 → 4 * (side n / 2 * (side n / 2)) ≡ 4 ^ n
+four_squares n some most =
+    let c = half_codes n (whole n) (IsBlock-whole n) most (wide_square n some) in
+    let all = c.all in
+    let z = origin_code in
+    let w = code_to-whole n in
+    omega arith
+
+pub half_side : (n k s : ℕ) → n ≡ suc k → 2 * s ≡ side n → s ≡ side k
+half_side n k s is half =
+    let e : side n ≡ 2 ^ suc k = ap (λ z. 2 ^ z) is in
+    let p = pow-suc 2 k in
+    omega arith
+
+-- the colours of four squares of half the side
+twice_squared : (a b : ℕ) → a ≡ b * 2 → a * a ≡ 4 * (b * b)
+twice_squared a b e =
+    let s : a * a ≡ b * 2 * (b * 2) = ap (λ z. z * z) e in
+    omega arith
+
+pub quarter_squared : (n k : ℕ) → n ≡ suc k → side n * side n ≡ 4 * (side k * side k)
+quarter_squared n k is = twice_squared (side n) (side k) (ap (λ z. 2 ^ z) is ∙ pow-suc 2 k)
+
+-- a pixel of a quadrant's own square
+pub record IsPlace (n k : ℕ) (b : Block) (p : Pixel) : Type 0 where
+  pub own_x : p.x < side k
+  pub own_y : p.y < side k
+  pub in_x : b.x + p.x < side n
+  pub in_y : b.y + p.y < side n
+
+pub place_in : (n k : ℕ) (b : Block) (p : Pixel) → n ≡ suc k → n ≤ 12 → IsBlock n b → 2 * b.side ≡ side n → p.x < 4096 → p.y < 4096 → code_at p < side k * side k → IsPlace n k b p
+place_in n k b p is most h half hx hy lt =
+    let sq = in_square k p (omega arith) hx hy lt in
+    let s = half_side n k b.side is half in
+    let w = Within-whole n b h in
+    let right = w.right in
+    let bottom = w.bottom in
+    let ox = sq.0 in
+    let oy = sq.1 in
+    record { own_x = ox; own_y = oy; in_x = omega arith; in_y = omega arith }
+
+abbrev pub from_corner : ℕ → Grid → Block → Pixel → ℕ
+from_corner n g b p = colour_at n g (record { x = b.x + p.x; y = b.y + p.y })
+
+-- a finished square shows the quadrant
+pub Shows-square : (n k : ℕ) (g : Grid) (b : Block) (list : Raster) (colours : List ℕ) → n ≡ suc k → n ≤ 12 → 2 * b.side ≡ side n → list ≡ record { level = k; grid = grid_by_code k colours } → length colours ≡ 4 ^ k → Paints k (from_corner n g b) colours → Shows n g b (Leaves list)
+Shows-square n k g b list colours is most half made long paints =
+    let s = half_side n k b.side is half in
+    let done : Shows n g b (Leaves (record { level = k; grid = grid_by_code k colours })) = record {
+      wide = s;
+      each = λ p h.
+          let l = h.left in
+          let r = h.right in
+          let t = h.top in
+          let d = h.bottom in
+          let q : Pixel = record { x = p.x - b.x; y = p.y - b.y } in
+          let hx : p.x - b.x < side k = omega arith in
+          let hy : p.y - b.y < side k = omega arith in
+          let c = code_in k q (omega arith) hx hy in
+          let ex : b.x + (p.x - b.x) ≡ p.x = omega arith in
+          let ey : b.y + (p.y - b.y) ≡ p.y = omega arith in
+          colour_at-grid_by_code k colours q hx hy ∙ paints.each q hx hy (omega arith) ∙ ap₂ (λ (x y : ℕ). colour_at n g (record { x = x; y = y })) ex ey;
+    } in
+    subst (λ (m : Raster). Shows n g b (Leaves m)) (sym made) done
+
+-- one pixel does
+pub Shows-pixel : (n : ℕ) (g : Grid) (b : Block) (c : Colour) (place : ℕ) → n ≡ 1 → 2 * b.side ≡ side n → place ≡ 2 * b.y + b.x → c.0 ≡ get_or g place 0 → Shows n g b (Single c)
+Shows-pixel n g b c place is half at colour =
+    let two : side n ≡ 2 = ap (λ z. 2 ^ z) is in
+    record {
+      wide = omega arith;
+      each = λ p h.
+          let l = h.left in
+          let r = h.right in
+          let t = h.top in
+          let d = h.bottom in
+          let row : p.y * side n ≡ p.y * 2 = ap (λ z. p.y * z) two in
+          let same : place ≡ p.y * side n + p.x = omega arith in
+          colour ∙ ap (λ z. get_or g z 0) same;
+    }
+
+-- the pixel's place in the raster of level 1
+pub pixel_place : (n : ℕ) (b : Block) → n ≡ 1 → IsBlock n b → 2 * b.y + b.x < side n * side n
+pixel_place n b is h =
+    let two : side n ≡ 2 = ap (λ z. 2 ^ z) is in
+    let four : side n * side n ≡ 2 * 2 = ap (λ z. z * z) two in
+    let x = h.in_x in
+    let y = h.in_y in
+    omega arith
+
+-- a quadrant as the code has it
+pub quadrant_found : (n i j : ℕ) (qs : List Block) → n ≤ 12 → qs ≡ quarters_of (record { x = 0; y = 0; side = 1 * 2 ^ n % 65536 }) → j ≡ i → get_or qs j nowhere ≡ quadrant_at n i
+quadrant_found n i j qs most are at =
+    let e : qs ≡ quarters_of (whole n) = are ∙ ap (λ (s : ℕ). let b : Block = record { x = 0; y = 0; side = s } in quarters_of b) (width n most) in
+    ap₂ (λ (l : List Block) (k : ℕ). get_or l k nowhere) e at
+
+module _ (n : ℕ) (g : Grid) (a b c d : Part) (ha : Shows n g (quadrant_at n 0) a) (hb : Shows n g (quadrant_at n 1) b) (hc : Shows n g (quadrant_at n 2) c) (hd : Shows n g (quadrant_at n 3) d) where
+  one_of_four : (i : ℕ) → i < 4 → Shows n g (quadrant_at n i) (part_in (a ∷ b ∷ c ∷ d ∷ []) i)
+  one_of_four zero lt = ha
+  one_of_four (suc zero) lt = hb
+  one_of_four (suc (suc zero)) lt = hc
+  one_of_four (suc (suc (suc zero))) lt = hd
+  one_of_four (suc (suc (suc (suc i)))) lt = absurd (omega arith)
+
+  pub ShowAll-four : ShowAll n g (a ∷ b ∷ c ∷ d ∷ [])
+  ShowAll-four = record { each = one_of_four }
+
+pub ShowAll-wide : (n : ℕ) (g : Grid) (parts : List Part) → 1 ≤ n → ShowAll n g parts → (i : ℕ) → i < 4 → 2 * width_of (part_in parts i) ≡ side n
+ShowAll-wide n g parts some all i lt =
+    let s = (all.each i lt).wide in
+    let h = (quadrant_is n i some lt).half in
+    omega arith
+
+-- the part of a number, as the code has it
+pub part_found : (parts : List Part) (i j : ℕ) (part : Part) → length parts ≡ 4 → i < 4 → j ≡ i → part ≡ get_or parts j part → part ≡ part_in parts i
+part_found parts i j part four lt at is = is ∙ ap (λ k. get_or parts k part) at ∙ get_or_default parts i part (Single (record { 0 = 0 })) (omega arith)
+
+-- one quadrant more
+pub Adds-quadrant : (n i : ℕ) (g : Grid) (part : Part) (old m new : Painted) → 1 ≤ n → n ≤ 12 → i < 4 → length old.colours ≡ 0 → Shows n g (quadrant_at n i) part → Adds n (colour_at n g) (i * (side n / 2 * (side n / 2))) old m → Adds n (moved_colour (quadrant_at n i) part) (code_to (quadrant_at n i)) m new → Adds n (colour_at n g) ((i + 1) * (side n / 2 * (side n / 2))) old new
+Adds-quadrant n i g part old m new some most lt none shows before step =
+    let q = quadrant_at n i in
+    let h = (quadrant_is n i some lt).block in
+    let codes = quadrant_codes n i some most lt in
+    let from = codes.from in
+    let to = codes.to in
+    let long = before.long in
+    let big = side_most n most in
+    let ix = h.in_x in
+    let iy = h.in_y in
+    let changed : Adds n (colour_at n g) (code_to q) m new =
+    Adds-change n (moved_colour q part) (colour_at n g) (code_to q) m new
+    (λ p hx hy low high. shows.each p (held_code n q p h most (omega arith) (omega arith) (omega arith) (omega arith) (omega arith) high)) step in
+    Adds-then n (colour_at n g) (i * (side n / 2 * (side n / 2))) ((i + 1) * (side n / 2 * (side n / 2))) old m new (omega arith) before
+    (subst (λ (k : ℕ). Adds n (colour_at n g) k m new) to changed)

@@ -1,0 +1,13 @@
+//! Rasters in parallel: the list of leaves of a raster, made of the lists of its quadrants, each of which may have a thread.
+#![tactic(auto)]
+
+mod gate;
+mod joining;
+mod part;
+mod reading;
+
+pub use gate::{Gate, NoGate};
+pub use joining::leaves_of_par;
+
+#[cfg(test)]
+mod tests;

@@ -1,0 +1,12 @@
+use Rattle.std.proofs.Common.{◌+◌, ◌*◌, ◌/◌}
+use Rattle.quilt_loc.specs.Codes.{code_from}
+use Rattle.quilt_blocks.specs.Adding.{Adds}
+use Rattle.quilt_poly.specs.Edges.{colour_by}
+use Rattle.quilt_poly.proofs.filling.+fill.Given as goal
+
+abbrev pub decreases-fill : goal.decreases-fill
+decreases-fill l = l.square.side
+
+abbrev pub invariant-loop-quarter : goal.invariant-loop-quarter
+invariant-loop-quarter l =
+    Adds l.initial.maker.level (colour_by l.near.items l.fn.c.0) (code_from l.fn.square + l.quarter-index * (l.fn.square.side / 2 * (l.fn.square.side / 2))) l.initial.maker l.maker
