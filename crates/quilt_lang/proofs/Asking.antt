@@ -1,9 +1,9 @@
 -- What lines ask for, and what they hold.
-use Rattle.std.proofs.Common.{◌≡◌, ℕ, zero, suc, ◌*◌, ◌^◌, ◌<◌, ◌≤◌, ◌==◌, ◌||◌, not, Bool, true, false, List, [], ◌∷◌, length, map, Option, Some, None, codes, cond, refl, sym, ◌∙◌, ap, subst, arith, inl, inr}
+use Rattle.std.proofs.Common.{◌≡◌, ℕ, zero, suc, ◌^◌, ◌<◌, ◌≤◌, ◌==◌, ◌||◌, not, Bool, true, false, List, [], ◌∷◌, length, map, None, codes, cond, refl, sym, ◌∙◌, ap, subst, arith, inl, inr}
 use Rattle.std.specs.List.{list_all}
 use Rattle.std.specs.Str.{bytes_eq}
 use Rattle.std.proofs.lemmas.Slice.Eq.{bytes_eq-Decides}
-use Rattle.std.proofs.lemmas.Bool.{eqb-true, eqb-false, ne_eqb}
+use Rattle.std.proofs.lemmas.Bool.{eqb-true, ne_eqb}
 use Rattle.std.proofs.lemmas.List.{length-map}
 use Rattle.std.proofs.Math.Nat.{pow-le-pow_right}
 use Rattle.quilt_types.specs.Plane.{side}
@@ -13,7 +13,7 @@ use Rattle.quilt_lang.specs.declared.asked.Asked.{Asked}
 use Rattle.quilt_lang.specs.declared.asked.Asked.TheVariants as kinds
 use Rattle.quilt_lang.specs.Built.{is_built}
 use Rattle.quilt_lang.specs.Items.{Group, asked, asked_by, asked_in_all, begins_with, held, held_as, is_long, is_plain, listed_by, words_of, rows_of, rows_joined, points_of, points_joined, rings_of, rings_joined}
-use Rattle.quilt_lang.specs.Cutting.{IsAsked, IsAsking, grouped, holding, is_built_for, number_of}
+use Rattle.quilt_lang.specs.Cutting.{IsAsked, grouped, holding, is_built_for}
 use Rattle.quilt_lang.proofs.Cuts.{bool_cases}
 use Rattle.quilt_lang.proofs.LineLaws.{asked_long}
 use Rattle.quilt_lang.proofs.Long.{long_item, short_item}

@@ -5,7 +5,7 @@ use Rattle.std.proofs.lemmas.Bool.{eqb-true, eqb-false, eq-eqb, ne_eqb}
 use Rattle.quilt_lang.specs.declared.item.Item.{Item}
 use Rattle.quilt_lang.specs.declared.asked.Asked.{Asked}
 use Rattle.quilt_lang.specs.Items.{Group, asked, held, is_complete, is_silent, groups_from, items_of, lines_of, whole_items, whole_lines, words_of}
-use Rattle.quilt_lang.specs.Reading.{MayFollow, Gives, GivesItem, HasNone, HasNewline, IsLine}
+use Rattle.quilt_lang.specs.Reading.{Gives, GivesItem, HasNone, HasNewline, IsLine}
 use Rattle.quilt_lang.specs.Cutting.{Cuts, CutsUpTo, HasNoLine, IsAsked, grouped, number_of}
 use Rattle.quilt_lang.proofs.Cuts.{bool_cases}
 use Rattle.quilt_lang.proofs.LineLaws.{groups_loud, lines_line, whole_line, whole_none, last_line, no_lines, silent_nothing}

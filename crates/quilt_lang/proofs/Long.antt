@@ -139,15 +139,28 @@ gives_kept n m text none enough = elim (bool_cases (nat_lt m (length text))) [
 ]
 
 -- a piece behind what is kept of a rest
-pub fed : (s : Unread) (old bytes joined piece new : List ℕ) (m : ℕ) → old ≡ s.rest → ((n : ℕ) → Gives false n [] old (take m old)) →
-    bytes ≡ take m old → joined ≡ bytes ++ piece → ((n : ℕ) → Gives false n [] joined new) → Gives false s.level [] (s.rest ++ piece) new
-fed s old bytes joined piece new m rest keeps kept all read =
-    let n = s.level in
-    let first : Gives false n [] (old ++ piece) (take m old ++ piece) = gives_fed n [] old (take m old) piece (keeps n) in
-    let same : take m old ++ piece ≡ joined = sym (all ∙ ap (λ (l : List ℕ). l ++ piece) kept) in
-    let P : List ℕ → Type 0 = λ (l : List ℕ). Gives false n [] (l ++ piece) new in
+pub fed : (n m : ℕ) (old joined piece : List ℕ) → Gives false n [] old (take m old) → joined ≡ take m old ++ piece → Gives false n [] (old ++ piece) joined
+fed n m old joined piece keeps all =
     let Q : List ℕ → Type 0 = λ (l : List ℕ). Gives false n [] (old ++ piece) l in
-    subst P rest (gives_then false n [] [] (old ++ piece) joined new (subst Q same first) (read n))
+    subst Q (sym all) (gives_fed n [] old (take m old) piece keeps)
+
+-- no more than what may be kept, and the piece
+pub fed_short : (m limit : ℕ) (old bytes joined piece : List ℕ) → m ≤ limit → bytes ≡ take m old → joined ≡ bytes ++ piece → length joined ≤ limit + length piece
+fed_short m limit old bytes joined piece few kept all =
+    rw (all, kept) (omega (arith, few, length-append (take m old) piece, length-take m old))
+
+-- and where all is kept
+pub fed_all : (n : ℕ) (bytes joined piece : List ℕ) → joined ≡ bytes ++ piece → Gives false n [] (drop 0 bytes ++ piece) joined
+fed_all n bytes joined piece all =
+    let Q : List ℕ → Type 0 = λ (l : List ℕ). Gives false n [] (bytes ++ piece) l in
+    subst Q (sym all) (gives_none false n (bytes ++ piece))
+
+-- and of that the lines that begin no item are let go
+pub fed_on : (s : Unread) (old joined piece new : List ℕ) → old ≡ s.rest → ((n : ℕ) → Gives false n [] (old ++ piece) joined) → ((n : ℕ) → Gives false n [] joined new) →
+    Gives false s.level [] (s.rest ++ piece) new
+fed_on s old joined piece new rest first read =
+    let P : List ℕ → Type 0 = λ (l : List ℕ). Gives false s.level [] (l ++ piece) new in
+    subst P rest (gives_then false s.level [] [] (old ++ piece) joined new (first s.level) (read s.level))
 
 -- all of a text with a whole line may be kept
 pub kept_all : (text : List ℕ) (k : ℕ) → HasNewline text k → length text ≤ kept_limit text

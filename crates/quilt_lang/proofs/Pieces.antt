@@ -1,5 +1,5 @@
 -- What a text gives, line by line and piece by piece.
-use Rattle.std.proofs.Common.{◌≡◌, ℕ, min, nat_lt, subst, inl, inr, ◌+◌, ◌<◌, ◌≤◌, Bool, true, false, List, [], ◌∷◌, ◌++◌, length, take, drop, refl, sym, ◌∙◌, ap, arith, append_assoc, append-nil, map}
+use Rattle.std.proofs.Common.{◌≡◌, ℕ, min, nat_lt, subst, inl, inr, ◌+◌, ◌<◌, ◌≤◌, Bool, true, false, List, [], ◌∷◌, ◌++◌, length, take, drop, refl, sym, ◌∙◌, ap, arith, append_assoc, map}
 use Rattle.std.proofs.lemmas.List.{drop_all, drop-drop}
 use Rattle.std.proofs.lemmas.Bool.{ltb-true, ltb-false}
 use Rattle.quilt_lang.specs.declared.item.Item.{Item}

@@ -1,10 +1,10 @@
 -- Lines cut from the front of a text, and how many further lines a line asks for.
-use Rattle.std.specs.Prelude.{◌≡◌, ℕ, ◌<◌, ◌≤◌, Bool, true, false, List, ◌∷◌, [], ◌++◌, length, codes}
+use Rattle.std.specs.Prelude.{◌≡◌, ℕ, ◌<◌, ◌≤◌, Bool, true, false, List, [], ◌++◌, length, codes}
 use Rattle.quilt_types.specs.Plane.{side}
 use Rattle.quilt_lang.specs.declared.asked.Asked.{Asked}
 use Rattle.quilt_lang.specs.declared.asked.Asked.TheVariants as kinds
 use Rattle.quilt_lang.specs.declared.item.Item.{Item}
-use Rattle.quilt_lang.specs.declared.item.Item.TheVariants.{Long, Line, Rows, PointLines, RingLines}
+use Rattle.quilt_lang.specs.declared.item.Item.TheVariants.{Line, Rows, PointLines, RingLines}
 use Rattle.quilt_lang.specs.Built.{is_built}
 use Rattle.quilt_lang.specs.Items.{Group, begins_with, lines_of, whole_lines, rows_of, points_of, rings_of}
 use Rattle.quilt_lang.specs.Reading.{MayFollow}

@@ -37,7 +37,7 @@ pub fn front_item(
 }
 
 /// The lines at the front, as many as are asked for or as there are, and the number of their bytes.
-fn further_lines<'a>(
+pub fn further_lines<'a>(
     alloc: Global,
     level: u8,
     what: Asked,

@@ -32,4 +32,6 @@ pub use reading::{items_in, whole_items_in};
 pub use refusal::refusal_text;
 
 #[cfg(test)]
+mod further_tests;
+#[cfg(test)]
 mod tests;

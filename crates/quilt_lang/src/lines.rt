@@ -1,4 +1,4 @@
-ghost use Rattle.std.specs.Prelude.{◌≡◌, ◌≤◌, ◌+◌, ℕ, false, [], ◌∷◌, ◌++◌, length, OnOk, OnErr, IfOk, MatchOption};
+ghost use Rattle.std.specs.Prelude.{◌≡◌, ◌≤◌, ◌+◌, ℕ, false, [], ◌∷◌, ◌++◌, drop, length, vec_len, OnOk, OnErr, IfOk, MatchOption};
 ghost use Rattle.quilt_lang.specs.Items.{whole_items};
 ghost use Rattle.quilt_lang.specs.Reading.{Gives, GivesItem, HasNone, kept_limit};
 
@@ -49,12 +49,8 @@ impl Lines {
         ensures short { OnOk result (length self.new.rest ≤ kept_limit self.old.rest + length piece.now) }
         ensures err { OnErr result (self.new ≡ self.old) }
     {
-        let rest = &self.bytes[self.from..];
-        let kept = kept_len(rest);
-        let mut bytes = Vec::from_slice(*self.bytes.allocator(), &rest[..kept])?;
-        bytes.extend_from_slice(piece)?;
-        self.from = silent_front(&bytes);
-        self.bytes = bytes;
+        put_behind(&mut self.bytes, self.from, piece)?;
+        self.from = silent_front(&self.bytes);
         Ok(())
     }
 
@@ -76,4 +72,24 @@ impl Lines {
         self.from = from + silent_front(&self.bytes[from..]);
         Ok(Some(item))
     }
+}
+
+/// Puts a piece behind what is kept of the bytes from an index on. An Err leaves them as they were.
+/// Where all are kept from the first on, only the piece is copied.
+fn put_behind(bytes: &mut Vec<u8>, from: usize, piece: &[u8]) -> Result<(), AllocError>
+    requires { from ≤ vec_len bytes.old }
+    ensures fed { OnOk result ((n : ℕ) → Gives false n [] (drop from bytes.old.items ++ piece.now) bytes.new.items) }
+    ensures short { OnOk result (length bytes.new.items ≤ kept_limit (drop from bytes.old.items) + length piece.now) }
+    ensures err { OnErr result (bytes.new.items ≡ bytes.old.items) }
+{
+    let rest = &bytes[from..];
+    let kept = kept_len(rest);
+    if from == 0 && kept == rest.len() {
+        bytes.extend_from_slice(piece)?;
+        return Ok(());
+    }
+    let mut joined = Vec::from_slice(*bytes.allocator(), &rest[..kept])?;
+    joined.extend_from_slice(piece)?;
+    *bytes = joined;
+    Ok(())
 }

@@ -1,4 +1,4 @@
-use Rattle.std.proofs.Common.{◌∙◌, sym, arith}
+use Rattle.std.proofs.Common.{◌∙◌, sym}
 use Rattle.quilt_lang.proofs.Groups.{cuts_last, no_more, no_whole, some_bytes}
 use Rattle.quilt_lang.proofs.cutting.end_line.Goals as goal
 

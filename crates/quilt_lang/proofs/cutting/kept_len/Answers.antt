@@ -1,6 +1,6 @@
-use Rattle.std.proofs.Common.{arith, length, ◌+◌, ap, ℕ}
+use Rattle.std.proofs.Common.{arith, length}
 use Rattle.std.proofs.lemmas.List.{take_all}
-use Rattle.quilt_lang.specs.Reading.{HasNewline, IsLine}
+use Rattle.quilt_lang.specs.Reading.{IsLine}
 use Rattle.quilt_lang.proofs.Pieces.{gives_none}
 use Rattle.quilt_lang.proofs.Long.{gives_kept, kept_all, kept_line}
 use Rattle.quilt_lang.proofs.cutting.kept_len.Goals as goal

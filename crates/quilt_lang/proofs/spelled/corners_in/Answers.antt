@@ -1,6 +1,6 @@
 use Rattle.std.proofs.Common.{◌+◌, ◌<◌, length, arith}
 use Rattle.std.proofs.lemmas.Grind.{common_steps}
-use Rattle.quilt_lang.proofs.Joins.{corners_none, corners_more, corners_fail, corners_end, odd_corners}
+use Rattle.quilt_lang.proofs.Joins.{corners_none, corners_more, odd_corners}
 use Rattle.quilt_lang.proofs.spelled.corners_in.Goals as goal
 
 pub returns-then-words-ne0 : goal.returns-then-words-ne0
