@@ -1,0 +1,52 @@
+use super::choice;
+use crate::{
+    Opening, attached, first_edition, map_file, next_edition, publish_over, reopened, stops,
+};
+use quilt_types::Stop;
+use quilt_world::Disk;
+use std::test::Fail;
+
+// Of the calls the first opens the file and the next three read its label, its gate and its header. Thirteen slots, the
+// directory and the gate are written with two syncs, which ends with the call 21. Thirteen reads and writes copy the slots,
+// and a write and two syncs close the gate. Whichever fails, a stop leaves the last edition up to the write of the gate, and
+// the next one after its sync.
+#[test]
+fn each_failing_call_leaves_old_or_new(rt: HostRuntime) -> Result<(), Fail> {
+    let old = Opening::Ready(first_edition());
+    let new = Opening::Ready(next_edition(12, 2));
+    for failing in 2..52 {
+        let Some(desk) = attached(rt.alloc(), map_file(rt.alloc())?, b"", failing)? else {
+            panic!(rt; "no desk");
+        };
+        let (answer, desk) = publish_over(rt.alloc(), desk, 8, 12);
+        let want = if failing < 51 {
+            Err(Stop::Device)
+        } else {
+            Ok(7)
+        };
+        assert_eq!(rt; answer, want, "call {failing}");
+        let file = desk.image().ok_or("no file")?.copy()?;
+        let found = reopened(rt.alloc(), file)?;
+        assert!(rt; found == old || found == new, "call {failing}");
+        assert!(rt; desk.pages() == 99);
+        for k in [0, 1, 2, 4] {
+            let all = stops(rt.alloc(), &desk, &choice(k))?;
+            for found in &all {
+                assert!(rt;
+                    *found == old || *found == new,
+                    "call {failing}, choice {k}"
+                );
+            }
+            let left = all.last().copied();
+            assert!(rt;
+                failing > 20 || left == Some(old),
+                "call {failing}, choice {k}"
+            );
+            assert!(rt;
+                failing < 22 || left == Some(new),
+                "call {failing}, choice {k}"
+            );
+        }
+    }
+    Ok(())
+}
