@@ -1,5 +1,6 @@
 pub mod Apart
 pub mod LayerFacts
+pub mod Catalogued
 pub mod Written
 pub mod Spelled
 pub mod Changing
