@@ -6,6 +6,8 @@ pub mod Giving
 pub mod Headers
 pub mod Heads
 pub mod Publishing
+pub mod OneEdition
+pub mod SameEdition
 pub mod Starting
 pub mod Steps
 pub mod TextSteps

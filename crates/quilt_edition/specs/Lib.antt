@@ -1,5 +1,6 @@
 pub mod Books
 pub mod Creating
+pub mod Editions
 pub mod Keeping
 pub mod Laws
 pub mod Props

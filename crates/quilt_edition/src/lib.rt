@@ -4,10 +4,12 @@
 mod book;
 mod creation;
 mod free;
+mod laws;
 mod pages;
 mod publish;
 mod start;
 
 pub use book::Book;
 pub use creation::create;
+pub use laws::{one_edition_law, same_edition_law};
 pub use start::Started;

@@ -1,7 +1,4 @@
-//! What a file stands for: one edition at most, and the same as long as the pages of its tree stay.
-#![tactic(auto)]
-
-ghost use Rattle.quilt_stands.specs.Laws.{OneEditionLaw, SameEditionLaw};
+ghost use Rattle.quilt_edition.specs.Editions.{OneEditionLaw, SameEditionLaw};
 
 /// A file stands for one edition at most.
 pub fn one_edition_law()

@@ -1,2 +1,0 @@
-pub mod OneEdition
-pub mod SameEdition

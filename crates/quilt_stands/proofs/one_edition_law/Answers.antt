@@ -1,5 +1,0 @@
-use Rattle.quilt_stands.proofs.OneEdition.{stands_once}
-use Rattle.quilt_stands.proofs.one_edition_law.Goals as goal
-
-pub returns : goal.returns
-returns c = record { law = stands_once }
