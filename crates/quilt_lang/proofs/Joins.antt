@@ -3,10 +3,10 @@ use Rattle.std.proofs.Common.{◌≡◌, ◌≢◌, ◌%◌, ◌==◌, IfSome, �
 use Rattle.std.proofs.lemmas.List.{drop_all, length-map}
 use Rattle.quilt_types.specs.declared.plane.Point.{Point}
 use Rattle.quilt_types.specs.declared.plane.Corner.{Corner}
-use Rattle.quilt_lang.specs.Items.{points_joined, point_of, words_of, rows_joined, colour_bytes, corner_of, corners_of, ring_of, rings_joined}
+use Rattle.quilt_words.specs.Items.{points_joined, point_of, words_of, rows_joined, colour_bytes, corner_of, corners_of, ring_of, rings_joined}
 use Rattle.quilt_lang.specs.Spelled.{with_byte}
-use Rattle.quilt_lang.proofs.Holding.{Bytes, row_bytes, HalfAre, corners_are}
-use Rattle.quilt_lang.specs.Spelling.{number, row}
+use Rattle.quilt_words.proofs.Holding.{Bytes, row_bytes, HalfAre, corners_are}
+use Rattle.quilt_words.specs.Spelling.{number, row}
 
 -- what one part and the others make
 abbrev pub before : {A : Type 0} → Option (List A) → Option (List A) → Option (List A)

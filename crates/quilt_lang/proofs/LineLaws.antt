@@ -2,7 +2,7 @@
 use Rattle.std.proofs.Common.{◌≡◌, ℕ, ◌+◌, Bool, true, false, ◌==◌, ◌||◌, not, List, [], ◌∷◌, ◌++◌, length, take, filter, refl, ◌∙◌, ap, arith, cond}
 use Rattle.std.specs.List.{slice_split, list_all}
 use Rattle.std.proofs.lemmas.List.Splits.{slice_split_at, slice_split_none, length-slice_split}
-use Rattle.quilt_lang.specs.Items.{Group, is_long, is_plain, is_silent, asked, asked_by, is_complete, lines_of, without_empty_end, without_last, whole_lines, groups_from, items_of, whole_items, words_of}
+use Rattle.quilt_words.specs.Items.{Group, is_long, is_plain, is_silent, asked, asked_by, is_complete, lines_of, without_empty_end, without_last, whole_lines, groups_from, items_of, whole_items, words_of}
 use Rattle.quilt_lang.specs.Reading.{IsLine, alone, begins_silent, first_is_silent}
 use Rattle.quilt_lang.specs.Cutting.{grouped}
 

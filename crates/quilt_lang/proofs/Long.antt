@@ -5,11 +5,11 @@ use Rattle.std.proofs.lemmas.List.Splits.{length-slice_split}
 use Rattle.std.proofs.lemmas.List.Elements.{All-head, All-tail}
 use Rattle.std.proofs.lemmas.Bool.{lt-ltb, ltb-true, ltb-false}
 use Rattle.std.proofs.lemmas.List.{get_or-take, take_all}
-use Rattle.quilt_lang.specs.declared.item.Item.{Item}
-use Rattle.quilt_lang.specs.declared.item.Item.TheVariants.{Long}
-use Rattle.quilt_lang.specs.Items.{Group, line_limit, is_long, is_silent, lines_of, whole_lines, without_empty_end, without_last, groups_from, items_of, whole_items, held, held_as, asked, is_complete}
+use Rattle.quilt_words.specs.declared.item.Item.{Item}
+use Rattle.quilt_words.specs.declared.item.Item.TheVariants.{Long}
+use Rattle.quilt_words.specs.Items.{Group, line_limit, is_long, is_silent, lines_of, whole_lines, without_empty_end, without_last, groups_from, items_of, whole_items, held, held_as, asked, is_complete}
 use Rattle.quilt_lang.specs.Reading.{Unread, HasNewline, IsLine, Gives, Same, alone, kept_limit, is_some_line}
-use Rattle.quilt_lang.proofs.Cuts.{bool_cases}
+use Rattle.quilt_words.proofs.Cases.{bool_cases}
 use Rattle.quilt_lang.proofs.Pieces.{same_by, gives_none, gives_then, gives_fed}
 use Rattle.quilt_lang.proofs.LineLaws.{asked_long, groups_alone, complete_first, whole_line, whole_none}
 

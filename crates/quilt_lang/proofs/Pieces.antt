@@ -2,10 +2,10 @@
 use Rattle.std.proofs.Common.{◌≡◌, ℕ, min, nat_lt, subst, inl, inr, ◌+◌, ◌<◌, ◌≤◌, Bool, true, false, List, [], ◌∷◌, ◌++◌, length, take, drop, refl, sym, ◌∙◌, ap, arith, append_assoc, map}
 use Rattle.std.proofs.lemmas.List.{drop_all, drop-drop}
 use Rattle.std.proofs.lemmas.Bool.{ltb-true, ltb-false}
-use Rattle.quilt_lang.specs.declared.item.Item.{Item}
-use Rattle.quilt_lang.specs.Items.{Group, is_silent, items_of, whole_items, held}
+use Rattle.quilt_words.specs.declared.item.Item.{Item}
+use Rattle.quilt_words.specs.Items.{Group, is_silent, items_of, whole_items, held}
 use Rattle.quilt_lang.specs.Reading.{Unread, MayFollow, Gives, GivesItem, Same, HasNone, HasNewline, IsLine, begins_silent}
-use Rattle.quilt_lang.proofs.Cuts.{bool_cases}
+use Rattle.quilt_words.proofs.Cases.{bool_cases}
 use Rattle.quilt_lang.proofs.LineLaws.{silent_next, whole_silent_next, whole_part, last_silent, begins_line}
 
 -- lists that hold the same

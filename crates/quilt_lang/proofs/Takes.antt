@@ -1,8 +1,8 @@
 -- Items taken one after another, and piece after piece.
 use Rattle.std.proofs.Common.{◌≡◌, ℕ, ◌<◌, Bool, true, false, List, [], ◌∷◌, ◌++◌, length, refl, sym, ◌∙◌, ap, subst, arith, append_assoc, append-nil, map}
 use Rattle.std.proofs.lemmas.List.{length-map, map-append}
-use Rattle.quilt_lang.specs.declared.item.Item.{Item}
-use Rattle.quilt_lang.specs.Items.{Group, held, items_of, whole_items}
+use Rattle.quilt_words.specs.declared.item.Item.{Item}
+use Rattle.quilt_words.specs.Items.{Group, held, items_of, whole_items}
 use Rattle.quilt_lang.specs.Reading.{Unread, Gives, GivesItem, MayFollow, HasNone, BeginWith, Same}
 use Rattle.quilt_lang.specs.Taking.{Gave, Takes}
 use Rattle.quilt_lang.proofs.Pieces.{gives_none, gives_then, gives_fed, same_then, same_onto}

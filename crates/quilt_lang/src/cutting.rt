@@ -1,9 +1,9 @@
 ghost use Rattle.std.specs.Prelude.{◌≡◌, ◌==◌, ◌<◌, ◌≤◌, ◌+◌, ℕ, false, [], ◌∷◌, length, take, drop, position, IfSome, MatchOption};
-ghost use Rattle.quilt_lang.specs.Items.{is_silent};
+ghost use Rattle.quilt_words.specs.Items.{is_silent};
 ghost use Rattle.quilt_lang.specs.Reading.{IsLine, IsCut, Gives, HasNone, begins_silent, kept_limit};
 ghost use Rattle.quilt_lang.specs.Cutting.{Cuts, HasNoLine};
 
-use crate::words::{LINE_LIMIT, is_silent_line};
+use quilt_words::{LINE_LIMIT, is_silent_line};
 
 /// The index of the first newline.
 fn newline(bytes: &[u8]) -> Option<usize>

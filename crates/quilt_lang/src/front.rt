@@ -3,10 +3,10 @@ ghost use Rattle.std.specs.Prelude.{◌≡◌, ◌≤◌, false, length, drop, m
 ghost use Rattle.quilt_lang.specs.Reading.{GivesItem, HasNone, begins_silent};
 ghost use Rattle.quilt_lang.specs.Cutting.{CutsUpTo, number_of};
 
-use crate::Item;
 use crate::asked::{Asked, further_asked};
 use crate::cutting::{first_line, line_len};
 use crate::held::item_of;
+use quilt_words::Item;
 use std::alloc::{AllocError, Global};
 
 /// The item at the front, and the number of bytes of its lines: where all of them stand there with their newlines, or where the

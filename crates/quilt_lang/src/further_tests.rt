@@ -1,10 +1,9 @@
 //! Rows, list lines and ring lines that are drawn, and cut anywhere.
-use crate::Item;
 use crate::asked::{Asked, asked_of_all};
 use crate::front::further_lines;
 use crate::held::item_with;
-use crate::words::line_words;
 use quilt_types::{Corner, Pixel, Point, Text};
+use quilt_words::{Item, line_words};
 use std::alloc::Global;
 use std::test::Fail;
 

@@ -1,10 +1,10 @@
 ghost use Rattle.std.specs.Prelude.{◌≡◌, ◌≤◌, ◌+◌, ℕ, false, [], ◌∷◌, ◌++◌, drop, length, vec_len, OnOk, OnErr, IfOk, MatchOption};
-ghost use Rattle.quilt_lang.specs.Items.{whole_items};
+ghost use Rattle.quilt_words.specs.Items.{whole_items};
 ghost use Rattle.quilt_lang.specs.Reading.{Gives, GivesItem, HasNone, kept_limit};
 
-use crate::Item;
 use crate::cutting::{kept_len, silent_front};
 use crate::front::front_item;
+use quilt_words::Item;
 use std::alloc::{AllocError, Global};
 use std::marker::Model;
 

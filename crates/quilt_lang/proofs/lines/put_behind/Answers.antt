@@ -1,6 +1,6 @@
 use Rattle.std.proofs.Common.{◌≡◌, ◌≤◌, ◌∙◌, ◌++◌, ap, List, ℕ, drop, take}
 use Rattle.quilt_lang.specs.Reading.{kept_limit}
-use Rattle.quilt_lang.proofs.Slices.{behind}
+use Rattle.quilt_words.proofs.Slices.{behind}
 use Rattle.quilt_lang.proofs.Long.{fed, fed_all, fed_short}
 use Rattle.quilt_lang.proofs.lines.put_behind.Goals as goal
 

@@ -1,6 +1,6 @@
 use Rattle.std.proofs.Common.{◌≡◌, ◌∙◌, ◌+◌, ◌-◌, ap, List, ℕ, take, drop, length}
 use Rattle.quilt_lang.specs.Reading.{Unread}
-use Rattle.quilt_lang.proofs.Slices.{behind}
+use Rattle.quilt_words.proofs.Slices.{behind}
 use Rattle.quilt_lang.proofs.Pieces.{given}
 use Rattle.quilt_lang.proofs.lines.Lines.next_item.Goals as goal
 
