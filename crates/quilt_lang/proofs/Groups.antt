@@ -246,7 +246,3 @@ lines_behind e count taken text k m len least is =
     let P : List ℕ → Type 0 = λ (u : List ℕ). CutsUpTo e count taken u (drop (m + len) text) in
     let Q : List ℕ → Type 0 = λ (u : List ℕ). CutsUpTo e count taken (take (length text - m) (drop m text)) u in
     subst P (from_behind text k m least) (subst Q (ap (drop len) (behind m text) ∙ drop-drop len m text) is)
-
--- so many lines are all, or not
-pub met_as : {X : Type 0} (g : X → List ℕ) (e b : Bool) (count size : ℕ) (xs : List X) → (e || (size == count)) ≡ b → size ≡ length xs → (e || (length (map g xs) == count)) ≡ b
-met_as g e b count size xs is many = ap (λ (s : ℕ). e || (s == count)) (length-map xs g ∙ sym many) ∙ is

@@ -1,4 +1,5 @@
 pub mod Asking
+pub mod Counts
 pub mod Cuts
 pub mod Groups
 pub mod Joins

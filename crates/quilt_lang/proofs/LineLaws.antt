@@ -77,10 +77,6 @@ pub whole_part : (n : ℕ) (part : List ℕ) → IsLine part → whole_items n p
 unfolding whole_items
 whole_part n part last = rw (whole_none part last) refl
 
-pub items_none : (n : ℕ) → items_of n [] ≡ []
-unfolding items_of
-items_none n = rw no_lines refl
-
 -- what is left at the end, with no newline: a line that begins no item, or one that does
 pub last_silent : (n : ℕ) (part : List ℕ) → IsLine part → is_silent part ≡ true → items_of n part ≡ []
 unfolding items_of

@@ -144,17 +144,6 @@ fed n m old joined piece keeps all =
     let Q : List ℕ → Type 0 = λ (l : List ℕ). Gives false n [] (old ++ piece) l in
     subst Q (sym all) (gives_fed n [] old (take m old) piece keeps)
 
--- no more than what may be kept, and the piece
-pub fed_short : (m limit : ℕ) (old bytes joined piece : List ℕ) → m ≤ limit → bytes ≡ take m old → joined ≡ bytes ++ piece → length joined ≤ limit + length piece
-fed_short m limit old bytes joined piece few kept all =
-    rw (all, kept) (omega (arith, few, length-append (take m old) piece, length-take m old))
-
--- and where all is kept
-pub fed_all : (n : ℕ) (bytes joined piece : List ℕ) → joined ≡ bytes ++ piece → Gives false n [] (drop 0 bytes ++ piece) joined
-fed_all n bytes joined piece all =
-    let Q : List ℕ → Type 0 = λ (l : List ℕ). Gives false n [] (bytes ++ piece) l in
-    subst Q (sym all) (gives_none false n (bytes ++ piece))
-
 -- and of that the lines that begin no item are let go
 pub fed_on : (s : Unread) (old joined piece new : List ℕ) → old ≡ s.rest → ((n : ℕ) → Gives false n [] (old ++ piece) joined) → ((n : ℕ) → Gives false n [] joined new) →
     Gives false s.level [] (s.rest ++ piece) new

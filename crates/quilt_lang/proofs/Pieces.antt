@@ -15,9 +15,6 @@ same_is n xs ys is = λ f. ap (map (held f n)) is
 pub same_then : (n : ℕ) (xs ys zs : List Group) → Same n xs ys → Same n ys zs → Same n xs zs
 same_then n xs ys zs first second = λ f. first f ∙ second f
 
-pub same_back : (n : ℕ) (xs ys : List Group) → Same n xs ys → Same n ys xs
-same_back n xs ys so = λ f. sym (so f)
-
 pub same_onto : (n : ℕ) (gs xs ys : List Group) → Same n xs ys → Same n (gs ++ xs) (gs ++ ys)
 same_onto n [] xs ys so = so
 same_onto n (g ∷ gs) xs ys so = λ f. ap (λ (l : List Item). held f n g ∷ l) (same_onto n gs xs ys so f)

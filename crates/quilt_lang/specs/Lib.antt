@@ -1,4 +1,5 @@
 pub mod Cutting
+pub mod Progress
 pub mod Reading
 pub mod Spelled
 pub mod Taking

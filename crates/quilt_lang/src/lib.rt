@@ -2,10 +2,12 @@
 #![tactic(auto)]
 
 mod asked;
+mod counting;
 mod cutting;
 mod front;
 mod held;
 mod lines;
+mod progress;
 mod reading;
 mod spelled;
 

@@ -19,10 +19,6 @@ use Rattle.quilt_words.specs.Spelling.{number, row, hex_digit, cons_both, is_spe
 use Rattle.quilt_words.specs.Made.{further_of}
 use Rattle.quilt_words.proofs.Cases.{bool_cases}
 
-both_left : (a b : Bool) → (a && b) ≡ true → a ≡ true
-both_left true b is = refl
-both_left false b is = is
-
 both_right : (a b : Bool) → (a && b) ≡ true → b ≡ true
 both_right true b is = is
 both_right false b is = cc

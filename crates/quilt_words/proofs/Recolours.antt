@@ -65,9 +65,6 @@ recoloured_is f more a c ws is =
     let size : length ws ≡ 2 * pairs = omega (arith, pair_number (length (a ∷ c ∷ ws)) is) in
     rw is (with_names f more (name a) (name c) (values_of (paired f 0 pairs) ws) (pairs_in f ws) (same_pairs f 0 pairs ws size))
 
-pub recoloured_none : (f : ℕ) (more : Further) (ws : List (List ℕ)) → has_pairs (length ws) ≡ false → recoloured f more ws ≡ Err codes_of.Count
-recoloured_none f more ws not_ = rw not_ refl
-
 -- two words more, as two elements of a list say them
 two_at : {X : Type 0} (g : X → List ℕ) (xs : List X) (i j k : ℕ) (d : X) → j ≡ suc i → k ≡ suc j → j < length xs →
     map g (drop i xs) ≡ g (get_or xs i d) ∷ g (get_or xs j d) ∷ map g (drop k xs)

@@ -11,9 +11,6 @@ corner_more [] ring c = refl
 corner_more (r ∷ []) ring c = refl
 corner_more (r ∷ s ∷ rings) ring c = ap (λ (l : List (List Corner)). r ∷ l) (corner_more (s ∷ rings) ring c)
 
-pub some_ring : (all rings : List (List Corner)) (ring : List Corner) → all ≡ rings ++ ring ∷ [] → 0 < length all
-some_ring all rings ring is = omega (arith, ap length is, length-append rings (ring ∷ []))
-
 -- the ring with one corner more of those that it is to have
 pub ring_more : (old all rings : List (List Corner)) (corners : List Corner) (i : ℕ) (d : Corner) → i < length corners → old ≡ rings ++ take i corners ∷ [] →
     all ≡ with_corner old (get_or corners i d) → all ≡ rings ++ take (i + 1) corners ∷ []

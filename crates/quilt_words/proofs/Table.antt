@@ -51,6 +51,7 @@ part_fails p xs (y ∷ ys) part none = elim (bool_cases (list_any (λ v. bytes_e
 ]
 
 is_part : (bs : List ℕ) → list_any (λ w. bytes_eq w bs) (map spelling all_words) ≡ false → is_built bs ≡ false
+unfolding built
 is_part bs none = part_fails (λ (w : List ℕ). bytes_eq w bs) (map spelling all_words) built refl none
 
 -- bytes that are no word have no form

@@ -4,7 +4,7 @@ use Rattle.std.specs.List.{list_any}
 use Rattle.std.specs.Str.{bytes_eq}
 
 -- a word for each command that is built
-abbrev pub built : List (List ℕ)
+unfoldable pub built : List (List ℕ)
 built = codes "region" ∷ codes "set" ∷ codes "at" ∷ codes "show" ∷ codes "edition" ∷ []
 
 abbrev pub is_built : List ℕ → Bool

@@ -232,6 +232,7 @@ impl Word {
     }
 
     /// Whether the session has the word's command. A command is taken in by its words here and in `built` of specs/Built.antt.
+    #[tactic(auto, unfolding(crate::specs::Built::built))]
     pub fn is_built(self) -> bool
         ensures { result ≡ is_built (spelling self) }
     {
