@@ -2,7 +2,7 @@ ghost use Rattle.std.specs.Prelude.{◌≡◌, ◌<◌};
 ghost use Rattle.quilt_lang.specs.Trials.{stepped, drawn};
 
 /// A linear congruential generator of 64 bits (Knuth 1997, 3.2.1).
-#[derive(Clone, Copy, Debug, PartialEq, Eq)]
+#[derive(Clone, Copy)]
 pub struct Generator {
     pub state: u64,
 }
