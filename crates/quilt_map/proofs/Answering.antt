@@ -10,8 +10,8 @@ use Rattle.quilt_types.specs.Plane.{is_pixel, is_window, below}
 use Rattle.quilt_types.specs.Layers.{Layer, Region, Map, Grid, colour_at}
 use Rattle.quilt_types.specs.Algebra.{uniform, painted}
 use Rattle.quilt_types.specs.Facts.{records}
-use Rattle.quilt_lang.specs.declared.command.Command.{Command}
-use Rattle.quilt_lang.specs.declared.command.Command.TheVariants as commands
+use Rattle.quilt_words.specs.declared.command.Command.{Command}
+use Rattle.quilt_words.specs.declared.command.Command.TheVariants as commands
 use Rattle.quilt_map.specs.Answers.{State, Outcome, Done, Refused, answer, layer, with, row_line}
 use Rattle.quilt_lang.specs.Trials.{spaced}
 use Rattle.quilt_map.specs.Runs.{text_of, is_done}

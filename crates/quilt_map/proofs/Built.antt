@@ -9,14 +9,14 @@ use Rattle.quilt_types.specs.declared.plane.Colour.{Colour}
 use Rattle.quilt_types.specs.Layers.{colours}
 use Rattle.quilt_types.specs.declared.code.Code.{Code}
 use Rattle.quilt_types.specs.declared.code.Code.TheVariants as codes_of
-use Rattle.quilt_lang.specs.declared.command.Command.{Command}
-use Rattle.quilt_lang.specs.declared.command.Command.TheVariants as commands
-use Rattle.quilt_lang.specs.declared.item.Item.{Item}
-use Rattle.quilt_lang.specs.declared.item.Item.TheVariants.{Long, Line, Rows, PointLines, RingLines}
-use Rattle.quilt_lang.specs.Items.{held, is_plain, words_of}
-use Rattle.quilt_lang.specs.Spelling.{number, is_spelled, value_of}
-use Rattle.quilt_lang.specs.Built.{is_built as is_built_word}
-use Rattle.quilt_lang.specs.Forms.{Further, Argument, A_name, A_number, A_signed, colour, pixel, window, Entry, Value, Called, Number, entry_in_all, entry_of, with_count, or_err, ◌>>=◌, argument_value, values_of, form_of_words, form_of_line, form, Spelled, region_command, set_command, at_command, show_command, edition_command}
+use Rattle.quilt_words.specs.declared.command.Command.{Command}
+use Rattle.quilt_words.specs.declared.command.Command.TheVariants as commands
+use Rattle.quilt_words.specs.declared.item.Item.{Item}
+use Rattle.quilt_words.specs.declared.item.Item.TheVariants.{Long, Line, Rows, PointLines, RingLines}
+use Rattle.quilt_words.specs.Items.{held, is_plain, words_of}
+use Rattle.quilt_words.specs.Spelling.{number, is_spelled, value_of}
+use Rattle.quilt_words.specs.Built.{built as built_words, is_built as is_built_word}
+use Rattle.quilt_words.specs.Forms.{Further, Argument, A_name, A_number, A_signed, colour, pixel, window, Entry, Value, Called, Number, entry_in_all, entry_of, with_count, or_err, ◌>>=◌, argument_value, values_of, form_of_words, form_of_line, form, Spelled, region_command, set_command, at_command, show_command, edition_command}
 use Rattle.quilt_map.proofs.MapOf.{bool_cases, same_bytes}
 
 abbrev pub is_built : Command → Bool
@@ -150,6 +150,7 @@ module _ (f : ℕ) where
       counted count row e makes (sym here ∙ there)
 
   built_entry : (word : List ℕ) (count : ℕ) (e : Entry) → is_built_word word ≡ true → entry_in_all f word count ≡ Ok e → Makes f e
+  unfolding built_words
   built_entry word count e built is = elim (bool_cases (bytes_eq (codes "region") word)) [
     | inl yes_ ↦ row_of count word (codes "region") region_row e (same_bytes _ _ yes_) region_makes refl is
     | inr no_ ↦ elim (bool_cases (bytes_eq (codes "set") word)) [

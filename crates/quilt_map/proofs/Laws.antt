@@ -1,7 +1,7 @@
 -- The public laws of this crate, which crates above may cite.
 use Rattle.std.proofs.Common.{◌≡◌, ℕ, None, ap}
-use Rattle.quilt_lang.specs.declared.command.Command.{Command}
-use Rattle.quilt_lang.specs.Forms.{Spelled}
+use Rattle.quilt_words.specs.declared.command.Command.{Command}
+use Rattle.quilt_words.specs.Forms.{Spelled}
 use Rattle.quilt_map.specs.Answers.{State, answer}
 use Rattle.quilt_map.specs.declared.session.Session.{Session}
 use Rattle.quilt_map.specs.Sessions.{IsAt, format_of, level_of}

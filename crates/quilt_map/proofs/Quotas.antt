@@ -19,8 +19,8 @@ use Rattle.quilt_types.specs.declared.code.Code.TheVariants as no
 use Rattle.quilt_types.specs.declared.plane.Pixel.{Pixel}
 use Rattle.quilt_types.specs.declared.plane.Colour.{Colour}
 use Rattle.quilt_types.specs.Algebra.{uniform, painted}
-use Rattle.quilt_lang.specs.declared.command.Command.{Command}
-use Rattle.quilt_lang.specs.declared.command.Command.TheVariants as commands
+use Rattle.quilt_words.specs.declared.command.Command.{Command}
+use Rattle.quilt_words.specs.declared.command.Command.TheVariants as commands
 use Rattle.quilt_map.specs.Answers.{State, Outcome, Done, Refused, unless, layer, is_region, exists, too_many, unknown, unless_region, outside, window_outside, told, row_line, full, makes, changed, with, grid, answer}
 use Rattle.quilt_map.specs.declared.layer.Layer as kept
 use Rattle.quilt_map.specs.declared.work.Work.{Work}

@@ -3,7 +3,7 @@ use Rattle.std.proofs.Common.{◌≡◌, ℕ, List, refl, sym, subst, ◌∙◌,
 use Rattle.std.specs.Fmt.{digits}
 use Rattle.quilt_types.specs.declared.code.Code.{Code}
 use Rattle.quilt_types.specs.declared.code.Code.TheVariants as no
-use Rattle.quilt_lang.specs.Parsing.{refusal}
+use Rattle.quilt_words.specs.Parsing.{refusal}
 use Rattle.quilt_map.specs.Answers.{Reply, Refused}
 use Rattle.quilt_map.specs.Runs.{text_of}
 use Rattle.quilt_map.specs.States.{Tells}

@@ -1,8 +1,8 @@
 -- What an answer of the work is to a session.
 use Rattle.std.proofs.Common.{◌≡◌, ℕ, true, Option, unwrap_or, refl, sym, ◌∙◌, ap, subst}
 use Rattle.quilt_types.specs.Layers.{Edition}
-use Rattle.quilt_lang.specs.declared.command.Command.{Command}
-use Rattle.quilt_lang.specs.Forms.{Spelled}
+use Rattle.quilt_words.specs.declared.command.Command.{Command}
+use Rattle.quilt_words.specs.Forms.{Spelled}
 use Rattle.quilt_map.specs.Answers.{State, answer}
 use Rattle.quilt_map.specs.Quotas.{most_records}
 use Rattle.quilt_map.specs.States.{state_of, Tells, IsAnswer, IsWithinQuota, after}

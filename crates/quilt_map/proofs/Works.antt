@@ -18,7 +18,7 @@ use Rattle.quilt_types.specs.declared.code.Code.TheVariants as no
 use Rattle.quilt_types.specs.Plane.{side, is_pixel, is_window, below}
 use Rattle.quilt_types.specs.Layers.{Layer, Region, colour_at, colours}
 use Rattle.quilt_types.specs.Algebra.{uniform, painted}
-use Rattle.quilt_lang.specs.declared.command.Command.TheVariants as commands
+use Rattle.quilt_words.specs.declared.command.Command.TheVariants as commands
 use Rattle.quilt_map.specs.Answers.{State, layer, Done, row_line}
 use Rattle.quilt_map.specs.Runs.{text_of}
 use Rattle.quilt_map.specs.declared.layer.Layer as kept

@@ -1,7 +1,7 @@
 ghost use Rattle.std.specs.Prelude.{◌≡◌, ℕ, ◌<◌, ◌≤◌, ◌+◌, ◌*◌, Some, None, IfOk, OnOk, IfSome, MatchOption, codes, decimal, ◌++◌, is_some, nat_le, position, length};
 ghost use Rattle.quilt_types.specs.Layers as layers;
-ghost use Rattle.quilt_lang.specs.Forms.{Spelled};
-ghost use Rattle.quilt_lang.specs.declared.command.Command.TheVariants as commands;
+ghost use Rattle.quilt_words.specs.Forms.{Spelled};
+ghost use Rattle.quilt_words.specs.declared.command.Command.TheVariants as commands;
 
 use crate::layer::Layer;
 use crate::reply::Reply;

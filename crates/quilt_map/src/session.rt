@@ -6,7 +6,7 @@ ghost use Rattle.quilt_world.specs.Causes.{HasCause, Rose};
 ghost use Rattle.quilt_world.specs.Doors.{TakesFrom};
 ghost use Rattle.quilt_world.specs.declared.event.Event.TheVariants.{Put};
 ghost use Rattle.quilt_world.specs.declared.disk.Door.TheVariants as doors;
-ghost use Rattle.quilt_lang.specs.Forms.{Spelled};
+ghost use Rattle.quilt_words.specs.Forms.{Spelled};
 ghost use Rattle.quilt_map.specs.Answers.{State, answer};
 ghost use Rattle.quilt_map.specs.Quotas.{most_records};
 ghost use Rattle.quilt_map.specs.States.{Tells, IsRefusal, after};

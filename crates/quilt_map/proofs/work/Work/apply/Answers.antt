@@ -1,5 +1,5 @@
 use Rattle.std.proofs.Common.{subst}
-use Rattle.quilt_lang.specs.declared.command.Command.{Command}
+use Rattle.quilt_words.specs.declared.command.Command.{Command}
 use Rattle.quilt_map.proofs.Built.{IsColoured, spelled_built, spelled_coloured, none_other}
 use Rattle.quilt_map.proofs.work.Work.apply.Goals as goal
 
