@@ -7,3 +7,6 @@ pub mod Progress
 pub mod Parts
 pub mod Results
 pub mod Edited
+pub mod LayerPlans
+pub mod GridsFit
+pub mod RegionLaws
