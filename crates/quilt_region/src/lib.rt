@@ -3,6 +3,7 @@
 #![tactic(auto)]
 
 mod bounding;
+mod comparing;
 mod laws;
 mod painting;
 mod planning;
