@@ -148,16 +148,16 @@ pub none_left : (n layer : ℕ) (p : Block × ℕ → Bool) (records all : List 
 none_left n layer p records all rest e h = sym (append-nil records) ∙ ap (λ l. records ++ map (leaf_record n layer) (filter p l)) (sym e) ∙ h
 
 -- what the test of two leaves says
-abbrev same_leaves : Leaf → Leaf → Bool
+abbrev pub same_leaves : Leaf → Leaf → Bool
 same_leaves a b = (eqb a.block.y b.block.y && (eqb a.block.x b.block.x && eqb a.block.side b.block.side)) && eqb a.colour.0 b.colour.0
 
 to_true : (t : Bool) → false ≡ not t → t ≡ true
 to_true true h = refl
 to_true false h = cc
 
-pub leaves_equal : (a b : Leaf) → false ≡ not (same_leaves a b) → pair_of a ≡ pair_of b
-leaves_equal a b h =
-    let both = and_parts (eqb a.block.y b.block.y && (eqb a.block.x b.block.x && eqb a.block.side b.block.side)) (eqb a.colour.0 b.colour.0) (to_true (same_leaves a b) h) in
+pub leaves_are : (a b : Leaf) → same_leaves a b ≡ true → pair_of a ≡ pair_of b
+leaves_are a b h =
+    let both = and_parts (eqb a.block.y b.block.y && (eqb a.block.x b.block.x && eqb a.block.side b.block.side)) (eqb a.colour.0 b.colour.0) h in
     let block = and_parts (eqb a.block.y b.block.y) (eqb a.block.x b.block.x && eqb a.block.side b.block.side) both.0 in
     let last = and_parts (eqb a.block.x b.block.x) (eqb a.block.side b.block.side) block.1 in
     let y = eqb-true a.block.y b.block.y block.0 in
@@ -166,15 +166,19 @@ leaves_equal a b h =
     let colour = eqb-true a.colour.0 b.colour.0 both.1 in
     λ i. (record { y = y i; x = x i; side = size i }, colour i)
 
-pub leaves_differ : (a b : Leaf) → true ≡ not (same_leaves a b) → pair_of a ≡ pair_of b → ⊥
-leaves_differ a b h e =
+pub leaves_equal : (a b : Leaf) → false ≡ not (same_leaves a b) → pair_of a ≡ pair_of b
+leaves_equal a b h = leaves_are a b (to_true (same_leaves a b) h)
+
+pub leaves_test : (a b : Leaf) → pair_of a ≡ pair_of b → same_leaves a b ≡ true
+leaves_test a b e =
     let y = eq-eqb a.block.y b.block.y (ap (λ (d : Block × ℕ). d.0.y) e) in
     let x = eq-eqb a.block.x b.block.x (ap (λ (d : Block × ℕ). d.0.x) e) in
     let size = eq-eqb a.block.side b.block.side (ap (λ (d : Block × ℕ). d.0.side) e) in
     let colour = eq-eqb a.colour.0 b.colour.0 (ap (λ (d : Block × ℕ). d.1) e) in
-    let t : same_leaves a b ≡ true = and_from _ _ (and_from _ _ y (and_from _ _ x size)) colour in
-    let no : true ≡ false = h ∙ ap not t in
-    cc
+    and_from _ _ (and_from _ _ y (and_from _ _ x size)) colour
+
+pub leaves_differ : (a b : Leaf) → true ≡ not (same_leaves a b) → pair_of a ≡ pair_of b → ⊥
+leaves_differ a b h e = let no : true ≡ false = h ∙ ap not (leaves_test a b e) in cc
 
 module _ (n : ℕ) (g h : Grid) (le : n ≤ 12) (at : ℕ) (a b : Leaf) (first : IsLeafAt n g at (pair_of a)) (second : IsLeafAt n h at (pair_of b)) where
   -- one leaf is in both

@@ -65,7 +65,7 @@ moved_less j k r s a b less =
     let rest = ordering_then (nat_cmp r.key.part s.key.part) (ordering_then (nat_cmp r.key.code s.key.code) (ordering_then (nat_cmp r.key.depth s.key.depth) (nat_cmp r.key.item s.key.item))) in
     then_equal (nat_cmp j j) rest (nat_same j j refl) ∙ sym (then_equal (nat_cmp r.key.layer s.key.layer) rest (nat_same r.key.layer s.key.layer (a ∙ sym b))) ∙ less
 
-shorter : {X : Type 0} (p : X → Bool) (xs : List X) (R : Apart xs) → length (filter p xs) ≤ length xs
+pub shorter : {X : Type 0} (p : X → Bool) (xs : List X) (R : Apart xs) → length (filter p xs) ≤ length xs
 shorter p xs once = Apart-le (filter p xs) xs (Apart-filter p xs once) (λ x c. (Contains-filter_from p xs x c).0)
 
 module _ (form n : ℕ) (numbers : Numbering) (rs : List Record) (layers : Map) (name : List ℕ) (l : Layer) (le : n ≤ 12) (s : SpellsUnder form n numbers rs layers) (at : finmap.get layers name ≡ Some l) (most : ℕ) (room : length rs ≤ most) where

@@ -12,3 +12,9 @@ pub mod InStep
 pub mod LayerPlans
 pub mod GridsFit
 pub mod RegionLaws
+pub mod Apart
+pub mod Within
+pub mod Beside
+pub mod Counting
+pub mod Nearby
+pub mod WithinKeys

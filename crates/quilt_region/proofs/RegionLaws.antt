@@ -46,7 +46,7 @@ module _ (n : ℕ) (number : ℕ) (g other : Grid) where
   unfolding records_without
   only_are = refl
 
-  only_rises : n ≤ 12 → Rises by_key (records_without n number g other)
+  pub only_rises : n ≤ 12 → Rises by_key (records_without n number g other)
   only_rises le =
       subst (Rises by_key) (sym only_are)
       (Rises-map leaf_cmp by_key (leaf_record n number) (filter (only_test n other) (leaves_by_code n g)) (λ d e _ _ h. leaf_less n number d e h)

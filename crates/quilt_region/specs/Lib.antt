@@ -2,3 +2,4 @@ pub mod Laws
 pub mod Painting
 pub mod Plans
 pub mod Regions
+pub mod Windows

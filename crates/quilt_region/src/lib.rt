@@ -4,7 +4,10 @@
 
 mod bounding;
 mod comparing;
+mod filling;
+mod known;
 mod laws;
+mod nearing;
 mod painting;
 mod planning;
 mod reading;
