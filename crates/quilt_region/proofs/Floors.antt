@@ -20,7 +20,7 @@ use Rattle.quilt_record.specs.declared.key.Key.{Key}
 use Rattle.quilt_record.specs.declared.record.Record.{Record}
 use Rattle.quilt_record.specs.Records.{key_cmp}
 use Rattle.quilt_blocks.specs.declared.leaf.Leaf.{Leaf}
-use Rattle.quilt_blocks.specs.Cutting.{leaves_by_code}
+use Rattle.quilt_blocks.specs.Cutting.{leaves_by_code, pair_of}
 use Rattle.quilt_blocks.specs.Listing.{Follows}
 use Rattle.quilt_blocks.proofs.Chains.{member_pos, Follows-member, member_with}
 use Rattle.quilt_blocks.proofs.Cuts.{IsLeaf, leaf_is, leaves_run, leaves_members}
@@ -185,6 +185,7 @@ held n g p e le hx hy h =
 pub record IsRead (n : ℕ) (g : Grid) (p : Pixel) (read : Option Leaf) : Type 0 where
   pub leaf : Leaf
   pub is : read ≡ Some leaf
+  pub member : Contains (leaves n g) (pair_of leaf)
   pub holds : in_block leaf.block p ≡ true
   pub colour : leaf.colour.0 ≡ colour_at n g p
 
@@ -201,6 +202,7 @@ leaf_read told t layer n g p k found r read least le hx hy key is some one h =
     record {
       leaf = record { block = e.0; colour = record { 0 = e.1 } };
       is = one e.0 (record { 0 = e.1 }) least leaf.maximal.block (some_same r (leaf_record n layer e) (sym some ∙ f.2));
+      member = (f.1).member;
       holds = in_block-true e.0 p holds;
       colour = sym (leaf.colour.each p holds);
     }

@@ -47,6 +47,7 @@ pub record IsPart (n : ℕ) (b : Block) (i : ℕ) (q : Block) : Type 0 where
   pub block : IsBlock n q
   pub within : Within q b
   pub smaller : q.side < b.side
+  pub half : 2 * q.side ≡ b.side
   pub from : code_from q ≡ code_from b + i * (b.side / 2 * (b.side / 2))
   pub to : code_to q ≡ code_from b + (i + 1) * (b.side / 2 * (b.side / 2))
 
@@ -57,7 +58,7 @@ part_is n b i q le h wide lt is =
     let from = quarter_from n b i q le h wide lt is in
     let half : q.side ≡ b.side / 2 = omega arith in
     let square : q.side * q.side ≡ b.side / 2 * (b.side / 2) = ap (λ z. z * z) half in
-    record { block = r.block; within = r.within; smaller = omega arith; from = from; to = omega arith }
+    record { block = r.block; within = r.within; smaller = omega arith; half = r.half; from = from; to = omega arith }
 
 pub part_at : (n : ℕ) (b : Block) (qs : List Block) (i : ℕ) (d : Block) → n ≤ 12 → IsBlock n b → 1 < b.side → qs ≡ quarters_of b → i < 4 → IsPart n b i (get_or qs i d)
 part_at n b qs i d le h wide are lt =

@@ -1,3 +1,5 @@
+pub mod Laws
 pub mod Painting
 pub mod Plans
 pub mod Regions
+pub mod Windows

@@ -1,18 +1,21 @@
-ghost use Rattle.std.specs.Prelude.{◌≡◌, ℕ, ◌≤◌, IfOk, IfErr, IfSome, Some, IsErrOf};
+ghost use Rattle.std.specs.Prelude.{◌≡◌, ℕ, ◌≤◌, length, IfOk, IfErr, OnOk, IfSome, Some, IsErrOf};
 ghost use Rattle.quilt_types.specs.declared.plane.Block.{Block as AnyBlock};
 ghost use Rattle.quilt_types.specs.declared.plane.Colour.{Colour as AnyColour};
 ghost use Rattle.quilt_types.specs.declared.stop.Stop.TheVariants.{Device};
-ghost use Rattle.quilt_types.specs.Plane.{IsBlock};
-ghost use Rattle.quilt_types.specs.Layers.{Grid, IsGrid};
-ghost use Rattle.quilt_loc.specs.Codes.{code_from};
+ghost use Rattle.quilt_types.specs.declared.plane.Pixel.{Pixel as AnyPixel};
+ghost use Rattle.quilt_types.specs.Plane.{Holds, IsBlock};
+ghost use Rattle.quilt_types.specs.Layers.{Grid, IsGrid, colour_at};
+ghost use Rattle.quilt_loc.specs.Codes.{code_from, code_to};
 ghost use Rattle.quilt_blocks.specs.Cutting.{pair_of};
 ghost use Rattle.quilt_btree.specs.Stops.{IsSound};
+ghost use Rattle.quilt_region.specs.Painting.{HasColours};
 ghost use Rattle.quilt_region.specs.Regions.{leaf_record, region_records};
+ghost use Rattle.quilt_region.specs.Windows.{IsCutOut, records_within};
 
 use quilt_blocks::{Leaf, LeafList, Maker};
-use quilt_loc::end_of;
+use quilt_loc::{code_of, end_of};
 use quilt_record::{Record, read_region};
-use quilt_types::Stop;
+use quilt_types::{Block, Pixel, Stop};
 use std::alloc::Global;
 
 /// What is answered where records are none of a region layer, or their blocks do not cover the square.
@@ -60,4 +63,44 @@ pub fn list_of(alloc: Global, records: &[Record], layer: u8, level: u8) -> Resul
         return Err(DAMAGED);
     }
     Ok(maker.finish())
+}
+
+/// Puts down the leaves that the records are, which stand one behind the other from the first code of a block to its last.
+pub fn put_records(
+    maker: &mut Maker,
+    records: &[Record],
+    layer: u8,
+    level: u8,
+    b: Block,
+) -> Result<(), Stop>
+    requires layer { 1 ≤ layer }
+    requires level { (1 ≤ level) × (level ≤ 12) }
+    requires same_level { maker.old.level ≡ level }
+    requires block { IsBlock level b }
+    requires next { length maker.old.colours ≡ code_from b }
+    ensures level { OnOk result (maker.new.level ≡ level) }
+    ensures end { OnOk result (length maker.new.colours ≡ code_to b) }
+    ensures colours { OnOk result ((g : Grid) (f : AnyPixel → ℕ) → records.now ≡ records_within level layer g b → ((p : AnyPixel) → Holds b p → f p ≡ colour_at level g p) → HasColours level f maker.old.colours → HasColours level f maker.new.colours) }
+    ensures sound { IfErr result (λ e. (g : Grid) → records.now ≡ records_within level layer g b → IsCutOut level g b → IsSound e) }
+    ensures no_fault { IsErrOf result Device → ⊥ }
+{
+    let last = end_of(b);
+    let mut end = code_of(Pixel { x: b.x, y: b.y });
+    for r in records {
+        let Some(leaf) = leaf_of(r, layer, level) else {
+            return Err(DAMAGED);
+        };
+        let next = end_of(leaf.block);
+        if r.key.code != end || last < next {
+            return Err(DAMAGED);
+        }
+        if maker.push(leaf.block, leaf.colour).is_err() {
+            return Err(Stop::Memory);
+        }
+        end = next;
+    }
+    if end != last {
+        return Err(DAMAGED);
+    }
+    Ok(())
 }

@@ -1,0 +1,21 @@
+-- How many pages calls read, one after another.
+use Rattle.std.proofs.Common.{◌≡◌, ℕ, ◌+◌, ◌≤◌, Option, Some, None, subst, arith}
+use Rattle.quilt_store.specs.Store.{Tells}
+
+pub reads_then : (i j k : ℕ) (a b c : Option ℕ) → i + j ≤ k → Tells {A = ℕ} (λ old new. new ≤ old + i) a b → Tells {A = ℕ} (λ old new. new ≤ old + j) b c → Tells {A = ℕ} (λ old new. new ≤ old + k) a c
+reads_then i j k (Some a) (Some b) (Some c) h x y = omega arith
+reads_then i j k (Some a) (Some b) None h x y = absurd y
+reads_then i j k (Some a) None c h x y = absurd x
+reads_then i j k None (Some b) c h x y = absurd x
+reads_then i j k None None (Some c) h x y = absurd y
+reads_then i j k None None None h x y = tt
+
+pub reads_more : (i k : ℕ) (a b : Option ℕ) → i ≤ k → Tells {A = ℕ} (λ old new. new ≤ old + i) a b → Tells {A = ℕ} (λ old new. new ≤ old + k) a b
+reads_more i k (Some a) (Some b) h x = omega arith
+reads_more i k (Some a) None h x = absurd x
+reads_more i k None (Some b) h x = absurd x
+reads_more i k None None h x = tt
+
+pub reads_none : (k : ℕ) (a : Option ℕ) → Tells {A = ℕ} (λ old new. new ≤ old + k) a a
+reads_none k (Some a) = omega arith
+reads_none k None = tt

@@ -1,0 +1,25 @@
+use Rattle.std.proofs.Common.{◌≡◌, ℕ, ◌+◌, ◌-◌, ◌*◌, ◌^◌, ◌≤◌}
+use Rattle.quilt_types.specs.Plane.{IsBlock, Within}
+use Rattle.quilt_types.specs.Layers.{Grid}
+use Rattle.quilt_store.specs.Store.{Tells}
+use Rattle.quilt_region.specs.Regions.{HasRegion}
+use Rattle.quilt_region.specs.Windows.{HasAround, IsCutOut}
+use Rattle.quilt_region.proofs.nearing.block_up_to.Given as goal
+
+abbrev pub decreases-loop-larger : goal.decreases-loop-larger
+decreases-loop-larger g l = 4096 - l.top.side
+
+abbrev pub invariant-loop-larger : goal.invariant-loop-larger
+invariant-loop-larger g l = record {
+  block : IsBlock l.level l.top;
+  inside : Within l.fn.b l.top;
+  same : (grid : Grid) → HasRegion (g.S.PageStore.told l.initial.store) l.tree l.layer l.level grid → HasAround l.level grid l.top l.fn.b l.c.0;
+  cut_out : (grid : Grid) → HasRegion (g.S.PageStore.told l.initial.store) l.tree l.layer l.level grid → IsCutOut l.level grid l.fn.b → IsCutOut l.level grid l.top;
+  size : g.S.PageStore.size l.store ≡ g.S.PageStore.size l.initial.store;
+  told : g.S.PageStore.told l.store ≡ g.S.PageStore.told l.initial.store;
+  free : g.S.PageStore.free l.store ≡ g.S.PageStore.free l.initial.store;
+  later : g.S.PageStore.later l.initial.store l.store;
+  faults : g.S.PageStore.faults l.initial.store ≤ g.S.PageStore.faults l.store;
+  reads : (k : ℕ) → l.top.side ≡ 2 ^ k → Tells {A = ℕ} (λ old new. new ≤ old + 24 * k) (g.S.PageStore.reads l.initial.store) (g.S.PageStore.reads l.store);
+  changed : g.S.PageStore.changed l.store ≤ g.S.PageStore.changed l.initial.store;
+}
