@@ -1,0 +1,22 @@
+-- A walk over the pages of a tree that marks each of them and hands on their records.
+use Rattle.std.specs.Prelude.{◌≡◌, ℕ, ◌+◌, ◌≤◌, Bool, List, length, Option, Some}
+use Rattle.quilt_record.specs.declared.record.Record.{Record}
+use Rattle.quilt_node.specs.Tree.{Bounds, Walk, Whole, walk, each_child}
+use Rattle.quilt_store.specs.Store.{Tells}
+use Rattle.quilt_audit.specs.declared.surveying.Surveying.{Surveying}
+use Rattle.quilt_audit.specs.Bits.{Marks, AreWithin}
+use Rattle.quilt_audit.specs.Checking.{Takes}
+
+-- these records were handed on, these pages are marked now, and each of those that are new was read once
+pub record Added (size : ℕ) (visited : List ℕ) (old new : Surveying) (before after : Option ℕ) (rs : List Record) (now : List ℕ) : Type 0 where
+  pub takes : Takes old.checker rs new.checker
+  pub marks : Marks new.used now
+  pub within : AreWithin size old.used → AreWithin size new.used
+  pub reads : Tells (λ was is. is + length visited ≤ was + length now) before after
+
+-- a walk whose result is this, where the pages are told, has found what it added
+pub record Found (size : ℕ) (told : Option (List (List ℕ))) (found : List (List ℕ) → Walk) (visited : List ℕ) (old new : Surveying) (before after : Option ℕ) : Type 0 where
+  pub rs : List Record
+  pub now : List ℕ
+  pub added : Added size visited old new before after rs now
+  pub walks : (pages : List (List ℕ)) → told ≡ Some pages → found pages ≡ Whole rs now

@@ -1,0 +1,64 @@
+ghost use Rattle.std.specs.Prelude.{◌≡◌, ℕ, ◌+◌, ◌≤◌, List, length, Some, IfOk, IfErr};
+ghost use Rattle.quilt_record.specs.declared.record.Record.{Record};
+ghost use Rattle.quilt_node.specs.Pages.{IsHead};
+ghost use Rattle.quilt_node.specs.Tree.{Whole, walk_of};
+ghost use Rattle.quilt_store.specs.Store.{Tells};
+ghost use Rattle.quilt_btree.specs.Stops.{HasStopCause};
+ghost use Rattle.quilt_audit.specs.Bits.{AreWithin};
+ghost use Rattle.quilt_audit.specs.Surveys.{OnDamaged, IsSurvey, IsDamage, AreNumbered};
+
+use crate::checker::Checker;
+use crate::surveying::Surveying;
+use crate::walking::survey_page;
+use quilt_node::Head;
+use quilt_record::Catalog;
+use quilt_store::PageStore;
+use quilt_types::Stop;
+
+/// What an audit finds of a tree that spells a map: the catalog, and the pages of the tree.
+#[derive(Drop)]
+pub struct Survey {
+    pub catalog: Catalog,
+    /// The bit of page p is bit p mod 8 of byte p / 8.
+    pub used: [u8; 3750],
+}
+
+/// Reads the tree of a store of `pages` home pages once, and decides whether it spells a map of region layers with the
+/// head's format, level and number of records. Where it does not, it answers the first page in the order of the walk that
+/// is damaged, or page 0 where every page passes. It takes no memory.
+pub fn audit<S: PageStore>(store: &mut S, head: &Head, pages: u32) -> Result<Survey, Stop>
+    requires size { pages ≡ S.size store.old }
+    requires head { IsHead pages head.now }
+    ensures survey { IfOk result (λ s. (told : List (List ℕ)) → S.told store.old ≡ Some told → IsSurvey told head.now s.catalog s.used) }
+    ensures damaged { IfErr result (OnDamaged (λ page. (told : List (List ℕ)) → S.told store.old ≡ Some told → IsDamage told head.now page)) }
+    ensures within { IfOk result (λ s. AreWithin pages s.used) }
+    ensures numbered { IfOk result (λ s. AreNumbered head.now.format s.catalog) }
+    ensures cause { HasStopCause (S.faults store.old) (S.faults store.new) result }
+    ensures size { S.size store.new ≡ S.size store.old }
+    ensures told { S.told store.new ≡ S.told store.old }
+    ensures free { S.free store.new ≡ S.free store.old }
+    ensures later { S.later store.old store.new }
+    ensures reads { IfOk result (λ s. (told : List (List ℕ)) (records : List Record) (visited : List ℕ) → S.told store.old ≡ Some told → walk_of told head.now.root head.now.height ≡ Whole records visited → Tells (λ old new. new ≤ old + length visited) (S.reads store.old) (S.reads store.new)) }
+    ensures changed { S.changed store.new ≤ S.changed store.old }
+{
+    let mut state = Surveying {
+        used: [0; 3750],
+        checker: Checker::new(head),
+    };
+    if head.height != 0 {
+        survey_page(
+            store,
+            &mut state,
+            head.root,
+            head.height,
+            true,
+            &None,
+            &None,
+        )?;
+    }
+    let Surveying { used, checker } = state;
+    match checker.finish() {
+        None => Err(Stop::Damaged { page: 0 }),
+        Some(catalog) => Ok(Survey { catalog, used }),
+    }
+}
