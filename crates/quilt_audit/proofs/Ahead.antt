@@ -73,17 +73,17 @@ pub record HasLayer (layers : Map) (numbers : Numbering) (name : List ℕ) (k : 
 
 module _ (form n : ℕ) (numbers : Numbering) (layers : Map) (rs ahead : List Record) (least : 1 ≤ n) (le : n ≤ 12) (regions : AreRegions layers) (s : SpellsUnder form n numbers (rs ++ ahead) layers) where
   -- ---- the layers of the map
-  named_in : (name : List ℕ) (l : Layer) → finmap.get layers name ≡ Some l → is_name name ≡ true
+  pub named_in : (name : List ℕ) (l : Layer) → finmap.get layers name ≡ Some l → is_name name ≡ true
   named_in name l at =
       All-contains (λ (e : List ℕ × Layer). is_name e.0 ≡ true) (finmap.entries layers) (name, l) s.map.named (entry_from_get (slice_cmp nat_cmp) nat_list_cmp_total name_same layers name l at)
 
   as_region : (name : List ℕ) (l : Layer) → finmap.get layers name ≡ Some l → HasLayer layers numbers name (number_of numbers name)
   as_region name l at = let g = regions.each name l at in record { grid = g.0; at = at ∙ ap Some g.1; number = refl }
 
-  grid_of_layer : (name : List ℕ) (k : ℕ) (h : HasLayer layers numbers name k) → IsGrid form n h.grid
+  pub grid_of_layer : (name : List ℕ) (k : ℕ) (h : HasLayer layers numbers name k) → IsGrid form n h.grid
   grid_of_layer name k h = layer_fits form n numbers layers le s.map s.numbering name (Region h.grid) h.at
 
-  number_range : (name : List ℕ) (k : ℕ) (h : HasLayer layers numbers name k) → (1 ≤ k) × (k ≤ 255)
+  pub number_range : (name : List ℕ) (k : ℕ) (h : HasLayer layers numbers name k) → (1 ≤ k) × (k ≤ 255)
   number_range name k h = let f = number_fits layers numbers s.numbering name (Region h.grid) h.at in let e = h.number in (omega arith, omega arith)
 
   -- a record of the catalog is that of a layer
@@ -143,7 +143,7 @@ module _ (form n : ℕ) (numbers : Numbering) (layers : Map) (rs ahead : List Re
           (e, (layer_spelled_at name k h).each e ((leaves_members n h.grid e).0 (subst (λ (l : List (Block × ℕ)). Contains l e) is (Contains-here e es))))
 
   -- what stands behind is greater
-  in_order : (a b : Record) → Contains rs a → Contains ahead b → by_key a b ≡ Less
+  pub in_order : (a b : Record) → Contains rs a → Contains ahead b → by_key a b ≡ Less
   in_order a b c d = rises_before by_key rs ahead a b s.ascending c d
 
   not_both : (a : Record) → Contains rs a → Contains ahead a → ⊥

@@ -1,3 +1,5 @@
 pub mod Lists
 pub mod Laid
 pub mod Ahead
+pub mod Next
+pub mod Steps
