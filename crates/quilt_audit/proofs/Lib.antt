@@ -3,3 +3,4 @@ pub mod Laid
 pub mod Ahead
 pub mod Next
 pub mod Steps
+pub mod Making
