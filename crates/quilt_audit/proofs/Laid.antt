@@ -55,13 +55,14 @@ HasBlocks-none rs k n apart = record { each = λ e c. absurd (Contains-nil e c);
 -- ---- the last blocks
 pub EndsIn-more : (bs : List (Block × ℕ)) (a b c d : Leaf) → EndsIn bs (a ∷ b ∷ c ∷ []) → EndsIn (bs ++ pair_of d ∷ []) (b ∷ c ∷ d ∷ [])
 EndsIn-more bs a b c d h = record {
+  three = refl;
   front = h.front ++ pair_of a ∷ [];
   split = sym (append_assoc (pairs_of no_leaves) bs (pair_of d ∷ [])) ∙ ap (λ l. l ++ pair_of d ∷ []) h.split
       ∙ append_assoc h.front (pairs_of (a ∷ b ∷ c ∷ [])) (pair_of d ∷ []) ∙ sym (append_assoc h.front (pair_of a ∷ []) (pairs_of (b ∷ c ∷ d ∷ [])));
 }
 
 pub EndsIn-none : EndsIn [] no_leaves
-EndsIn-none = record { front = []; split = refl }
+EndsIn-none = record { three = refl; front = []; split = refl }
 
 cut_front : (bs front : List (Block × ℕ)) (w : Block × ℕ) → 1 < w.0.side → pairs_of no_leaves ++ bs ≡ front ++ map (λ q. (q, w.1)) (quarters_of w.0)
     → (f : List (Block × ℕ)) × (bs ≡ f ++ map (λ q. (q, w.1)) (quarters_of w.0))

@@ -1,6 +1,10 @@
+pub mod Bits
 pub mod Lists
 pub mod Laid
 pub mod Ahead
 pub mod Next
 pub mod Steps
+pub mod Walked
 pub mod Making
+pub mod FourLeaves
+pub mod Taking

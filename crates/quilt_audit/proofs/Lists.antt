@@ -1,6 +1,7 @@
 -- Lists with an element more at the end, and lists that begin others.
-use Rattle.std.proofs.Common.{◌≡◌, ℕ, suc, ◌<◌, ◌⊎◌, List, [], ◌∷◌, ◌++◌, length, take, get_or, refl, sym, ◌∙◌, ap, ap₂, subst, inl, inr, ⊎_elim, arith, Contains, length-append, Ordering, Less, Equal}
+use Rattle.std.proofs.Common.{◌≡◌, ℕ, suc, ◌+◌, ◌<◌, ◌≤◌, ◌⊎◌, List, [], ◌∷◌, ◌++◌, length, take, get_or, refl, sym, ◌∙◌, ap, ap₂, subst, inl, inr, ⊎_elim, arith, Contains, length-append, Ordering, Less, Equal}
 use Rattle.std.specs.Cmp.{IsTotalOrder, tied_itself}
+use Rattle.std.proofs.lemmas.List.{take_more, take_all}
 use Rattle.std.proofs.lemmas.List.Elements.{Contains-append_left, Contains-append_right, Contains-append_cases}
 use Rattle.quilt_loc.specs.Codes.{Rises}
 use Rattle.quilt_loc.proofs.Members.{Contains-nil, Contains-here, Contains-there, Contains-cons_cases}
@@ -25,6 +26,9 @@ module _ {X : Type 0} where
   pub at_last : (xs : List X) (y : X) → Contains (xs ++ y ∷ []) y
   at_last xs y = Contains-append_right xs (y ∷ []) y (Contains-here y [])
 
+  joined : (x y : X) (xs ys more : List X) → y ≡ x → ys ≡ xs ++ more → y ∷ ys ≡ x ∷ xs ++ more
+  joined x y xs ys more e h = cc
+
   -- the first list begins the second: the second has its elements, and others that are not less
   pub begins : (R : X → X → Ordering) → IsTotalOrder R → (xs ys : List X) → Rises R xs → Rises R ys → ((x : X) → Contains xs x → Contains ys x)
       → ((x y : X) → Contains xs x → Contains ys y → Contains xs y ⊎ (R y x ≡ Less → ⊥)) → (more : List X) × (ys ≡ xs ++ more)
@@ -48,8 +52,7 @@ module _ {X : Type 0} where
       (λ m. ⊎_elim (λ e. absurd (below_itself R o y (subst (λ (w : X). R y w ≡ Less) (sym e ∙ sym first) (k.0 b cb)))) (λ d. inl d) (Contains-cons_cases x xs b m))
       (λ no. inr no)
       (near a b (Contains-there x xs a ca) (Contains-there y ys b cb))) in
-      let is = rest.1 in
-      (rest.0, ap₂ ◌∷◌ first is)
+      (rest.0, joined x y xs ys rest.0 first rest.1)
 
   -- as many elements at the end are the same
   pub same_tail : (xs ys s t : List X) → length s ≡ length t → xs ++ s ≡ ys ++ t → s ≡ t
@@ -74,3 +77,14 @@ module _ {X : Type 0} where
   pub rises_behind : (R : X → X → Ordering) (xs ys : List X) → Rises R (xs ++ ys) → Rises R ys
   rises_behind R [] ys h = h
   rises_behind R (z ∷ zs) ys h = rises_behind R zs ys h.1
+
+  -- one element more at the front
+  pub take_cases : (xs : List X) (i : ℕ) (e x : X) → i < length xs → e ≡ get_or xs i e → Contains (take (i + 1) xs) x → Contains (take i xs) x ⊎ (e ≡ x)
+  take_cases xs i e x lt is c =
+      ⊎_elim (λ d. inl d) (λ same. inr (is ∙ same)) (last_cases (take i xs) (get_or xs i e) x (subst (λ (l : List X). Contains l x) (take_more xs i e lt) c))
+
+  pub item_there : (xs : List X) (i : ℕ) (e : X) → i < length xs → e ≡ get_or xs i e → Contains xs e
+  item_there xs i e lt is = (i, lt, sym is)
+
+  pub take_whole : (xs : List X) (i : ℕ) (x : X) → length xs ≤ i → Contains xs x → Contains (take i xs) x
+  take_whole xs i x le c = subst (λ (l : List X). Contains l x) (sym (take_all i xs le)) c

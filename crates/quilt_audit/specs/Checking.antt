@@ -49,6 +49,7 @@ no_leaves = nothing ∷ nothing ∷ nothing ∷ []
 
 -- these are the last three blocks, or fewer behind blocks that are none
 pub record EndsIn (bs : List (Block × ℕ)) (recent : List Leaf) : Type 0 where
+  pub three : length recent ≡ 3
   pub front : List (Block × ℕ)
   pub split : pairs_of no_leaves ++ bs ≡ front ++ pairs_of recent
 
@@ -77,6 +78,20 @@ pub record IsSoFar (form n : ℕ) (entries : List Entry) (last layer end : ℕ) 
 -- a record of this layer has come, where it is not the catalog
 abbrev pub HasBegun : ℕ → List Record → Type 0
 HasBegun layer rs = 1 ≤ layer → (r : Record) × Contains rs r × (r.key.layer ≡ layer)
+
+-- the entry may be the next one of the catalog: a region under a new name and with a greater number, before any block
+pub record MayList (c : Checker) (e : Entry) : Type 0 where
+  pub first : c.layer ≡ 0
+  pub region : e.kind ≡ kinds.Region
+  pub above : c.last < e.number
+  pub fresh : (d : Entry) → Contains c.catalog d → d.name ≡ e.name → ⊥
+
+-- the records that a checker was given may be all
+pub record IsWhole (c : Checker) : Type 0 where
+  pub sound : c.sound ≡ true
+  pub none_due : c.due ≡ 0
+  pub covered : 1 ≤ c.layer → c.end ≡ 4 ^ c.level
+  pub reached : (e : Entry) → Contains c.catalog e → e.number ≤ c.layer
 
 -- no map of region layers has these records first and then this one
 abbrev pub Stops : ℕ → ℕ → List Record → Record → Type 0

@@ -41,6 +41,7 @@ pub struct Checker {
     ghost level_least: { 1 ≤ level },
     ghost level_most: { level ≤ 12 },
     ghost few: { length catalog ≤ last },
+    ghost last_most: { last ≤ 255 },
 }
 
 impl Checker {
@@ -49,6 +50,7 @@ impl Checker {
     ghost use Rattle.quilt_types.specs.Plane.{IsBlock};
     ghost use Rattle.quilt_types.specs.Layers.{colours, Map};
     ghost use Rattle.quilt_loc.specs.Codes.{code_from, Rises};
+    ghost use Rattle.quilt_record.specs.Catalogs.{IsCatalog};
     ghost use Rattle.quilt_record.specs.Records.{Numbering};
     ghost use Rattle.quilt_spell.specs.Written.{by_key};
     ghost use Rattle.quilt_spell.specs.Spelled.{SpellsUnder};
@@ -56,7 +58,7 @@ impl Checker {
     ghost use Rattle.quilt_record.specs.declared.record.Record.{Record as AnyRecord};
     ghost use Rattle.quilt_region.specs.Regions.{leaf_record};
     ghost use Rattle.quilt_audit.specs.Surveys.{AreNumbered, AreRegions};
-    ghost use Rattle.quilt_audit.specs.Checking.{IsSoFar, HasBegun, Stops, AreRefused, IsFed, Takes, IsSpelled};
+    ghost use Rattle.quilt_audit.specs.Checking.{IsSoFar, HasBegun, Stops, AreRefused, IsFed, Takes, IsSpelled, MayList, IsWhole};
 
     /// No records yet, of a map as a file's head says.
     pub fn new(head: &Head) -> Checker
@@ -120,15 +122,23 @@ impl Checker {
         let Some(e) = read_catalog(r, self.format) else {
             return false;
         };
-        if self.layer != 0 || !is_region(e.kind) || e.number <= self.last {
-            return false;
-        }
-        if has_name(self.catalog.entries(), &e.name) {
+        if !self.may_list(&e) {
             return false;
         }
         self.last = e.number;
         self.catalog.insert(e);
         true
+    }
+
+    /// Whether the entry may be the next one of the catalog.
+    fn may_list(&self, e: &Entry) -> bool
+        ensures yes { result ≡ true → MayList self.now e.now }
+        ensures no { result ≡ false → MayList self.now e.now → ⊥ }
+    {
+        if self.layer != 0 || e.number <= self.last {
+            return false;
+        }
+        is_region(e.kind) && !has_name(self.catalog.entries(), &e.name)
     }
 
     /// Takes a record of a block, where it may be the next one.
@@ -211,12 +221,22 @@ impl Checker {
         ensures none { IfNone result ((total : ℕ) (rs : List AnyRecord) → IsFed total self rs → (numbers : Numbering) (layers : Map) → AreRegions layers → SpellsUnder self.format self.level numbers rs layers → length rs ≡ total → ⊥) }
         ensures numbered { IfSome result (λ entries. (total : ℕ) (rs : List AnyRecord) → IsFed total self rs → AreNumbered self.format entries) }
     {
-        let is_whole = self.sound
-            && self.due == 0
-            && self.is_covered()
-            && next_number(self.catalog.entries(), self.layer) == 256;
+        let is_whole = self.is_whole();
         let Checker { catalog, .. } = self;
         if is_whole { Some(catalog) } else { None }
+    }
+
+    /// Whether the records may be all.
+    fn is_whole(&self) -> bool
+        ensures yes { result ≡ true → IsWhole self.now }
+        ensures no { result ≡ false → IsWhole self.now → ⊥ }
+        ensures catalog { IsCatalog self.now.catalog }
+    {
+        let entries = self.catalog.entries();
+        if !self.sound || self.due != 0 {
+            return false;
+        }
+        self.is_covered() && next_number(entries, self.layer) == 256
     }
 }
 
@@ -236,18 +256,29 @@ fn has_name(entries: &[Entry], name: &Name) -> bool
     entries.iter().any(|e| e.name == *name)
 }
 
+/// The number, where it is over one and below the other, or else that other one.
+fn nearer(number: u8, above: u8, next: u16) -> u16
+    requires { above < next }
+    ensures over { (above < result) × (result ≤ next) }
+    ensures one { (result ≡ next) ⊎ (result ≡ number) }
+    ensures least { (number ≤ above) ⊎ ((result ≤ number) × (number ≤ 255)) }
+{
+    if above < number && u16::from(number) < next {
+        u16::from(number)
+    } else {
+        next
+    }
+}
+
 /// The least number of an entry that is over this one, or 256.
 fn next_number(entries: &[Entry], above: u8) -> u16
     ensures over { (above < result) × (result ≤ 256) }
     ensures reached { (result ≡ 256) ⊎ ((e : AnyEntry) × Contains entries.now e × (e.number ≡ result)) }
-    ensures least { (e : AnyEntry) → Contains entries.now e → (e.number ≤ above) ⊎ (result ≤ e.number) }
+    ensures least { (e : AnyEntry) → Contains entries.now e → (e.number ≤ above) ⊎ ((result ≤ e.number) × (e.number ≤ 255)) }
 {
     let mut next = 256;
     for e in entries {
-        let number = u16::from(e.number);
-        if u16::from(above) < number && number < next {
-            next = number;
-        }
+        next = nearer(e.number, above, next);
     }
     next
 }

@@ -41,13 +41,20 @@ fn is_below(high: &Option<Key>, k: &Key) -> bool
     }
 }
 
+/// Whether the key is within the bounds.
+fn is_within(k: &Key, low: &Option<Key>, high: &Option<Key>) -> bool
+    ensures { result ≡ (is_above_of low.now k.now && is_below_of high.now k.now) }
+{
+    is_above(low, k) && is_below(high, k)
+}
+
 /// Whether each key of the leaf is within the bounds.
 fn leaf_is_within(leaf: &LeafPage, low: &Option<Key>, high: &Option<Key>) -> bool
     ensures { result ≡ are_within (record { low = low.now; high = high.now }) (map (λ r. r.key) leaf.now) }
 {
     for i in 0..leaf.len() {
         let r = leaf.rec(i);
-        if !is_above(low, &r.key) || !is_below(high, &r.key) {
+        if !is_within(&r.key, low, high) {
             return false;
         }
     }
@@ -60,7 +67,7 @@ fn inner_is_within(inner: &InnerPage, low: &Option<Key>, high: &Option<Key>) -> 
 {
     for i in 0..inner.len() - 1 {
         let k = inner.key(i);
-        if !is_above(low, &k) || !is_below(high, &k) {
+        if !is_within(&k, low, high) {
             return false;
         }
     }

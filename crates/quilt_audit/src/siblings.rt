@@ -16,6 +16,14 @@ fn is(leaf: Leaf, block: Block, colour: Colour) -> bool
     leaf.block == block && leaf.colour == colour
 }
 
+/// Whether the two leaves are these blocks with this colour.
+fn are(a: Leaf, first: Block, b: Leaf, second: Block, colour: Colour) -> bool
+    ensures yes { result ≡ true → (pair_of a ≡ (first, colour.0)) × (pair_of b ≡ (second, colour.0)) }
+    ensures no { pair_of a ≡ (first, colour.0) → pair_of b ≡ (second, colour.0) → result ≡ true }
+{
+    is(a, first, colour) && is(b, second, colour)
+}
+
 /// Whether the leaves are the four quarters of a block, in the order of their codes, and have one colour.
 pub fn are_siblings(a: Leaf, b: Leaf, c: Leaf, d: Leaf, level: u8) -> bool
     requires level { (1 ≤ level) × (level ≤ 12) }
@@ -27,5 +35,5 @@ pub fn are_siblings(a: Leaf, b: Leaf, c: Leaf, d: Leaf, level: u8) -> bool
         return false;
     };
     let [p, q, r, s] = quarters(block);
-    is(a, p, d.colour) && is(b, q, d.colour) && is(c, r, d.colour) && is(d, s, d.colour)
+    are(a, p, b, q, d.colour) && are(c, r, d, s, d.colour)
 }

@@ -33,7 +33,7 @@ fn bound_behind(inner: &InnerPage, i: usize, high: &Option<Key>) -> Option<Key>
     requires { i < length inner.now.children }
     ensures { result ≡ option_or (slice_get inner.now.keys i) high.now }
 {
-    if i + 1 < inner.len() {
+    if i < inner.len() - 1 {
         Some(inner.key(i))
     } else {
         *high
