@@ -4,6 +4,7 @@ pub mod Laid
 pub mod Ahead
 pub mod Next
 pub mod Steps
+pub mod Feeding
 pub mod Walked
 pub mod Making
 pub mod FourLeaves

@@ -131,7 +131,10 @@ fn survey_children<S: PageStore>(
     let mut from = *low;
     for i in 0..inner.len() {
         let to = bound_behind(inner, i, high);
-        survey_page(store, state, inner.child(i), height, false, &from, &to)?;
+        let page = inner.child(i);
+        if let Err(e) = survey_page(store, state, page, height, false, &from, &to) {
+            return Err(e);
+        }
         from = to;
     }
     Ok(())
