@@ -215,3 +215,16 @@ pub stop_map : (e : Stop) (P Q : ℕ → Type 0) → ((p : ℕ) → P p → Q p)
 stop_map Device P Q f h = tt
 stop_map Memory P Q f h = tt
 stop_map (Says page) P Q f h = f page h
+
+-- an inner page, and then its children
+pub page_found : (size : ℕ) (told : Option (List (List ℕ))) (height : ℕ) (is_root : Bool) (page : ℕ) (b : Bounds) (visited : List ℕ) (old mid new : Surveying) (x y z : Option ℕ) (children : List ℕ) (keys : List Key)
+    (now_size : ℕ) (now_told : Option (List (List ℕ))) → now_size ≡ size → now_told ≡ told → 2 ≤ height → list_any (λ v. v == page) visited ≡ false → Added size visited old mid x y [] (page ∷ visited)
+    → ((pages : List (List ℕ)) (visit : ℕ × Bounds → List ℕ → Walk) → told ≡ Some pages → inner_walk visit height is_root b page visited (inner_of (length pages) (slice_index_or pages page [])) ≡ each_child visit (bounded children keys b) (Whole [] (page ∷ visited)))
+    → Found now_size now_told (λ pages. each_child (walk pages (height - 1) false) (bounded children keys b) (Whole [] (page ∷ visited))) (page ∷ visited) mid new y z
+    → Found size told (λ pages. walk pages height is_root (page, b) visited) visited old new x z
+page_found size told height is_root page b visited old mid new x y z children keys now_size now_told same_size same_told few fresh a read f = record {
+  rs = f.rs;
+  now = f.now;
+  added = Added-then size visited (page ∷ visited) f.now old mid new x y z [] f.rs a (subst (λ (k : ℕ). Added k (page ∷ visited) mid new y z f.rs f.now) same_size f.added);
+  walks = λ pages e. walk_inner pages height is_root (page, b) visited few fresh ∙ read pages (walk pages (height - 1) false) e ∙ f.walks pages (same_told ∙ e);
+}
