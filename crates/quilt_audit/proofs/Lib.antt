@@ -9,3 +9,4 @@ pub mod Walked
 pub mod Making
 pub mod FourLeaves
 pub mod Taking
+pub mod Whole

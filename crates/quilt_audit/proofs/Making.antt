@@ -182,9 +182,11 @@ module _ (form n : ℕ) (rs : List Record) (least : 1 ≤ n) (le : n ≤ 12) (es
 
   layer_there : (e : Entry) → Contains es e → (h : IsCovered form n rs e.number) × (finmap.get made e.name ≡ Some (Region (grid_from n h.blocks)))
   layer_there e c =
-      let m = made_there form n rs es cover e c in
-      (m.0, get_from_entry names nat_list_cmp_total name_same made (e.name, Region (grid_from n m.0.blocks))
-      (subst (λ (l : List (List ℕ × Layer)). Contains l (e.name, Region (grid_from n m.0.blocks))) (sym entries_are) m.1))
+      let m = made_there form n rs es cover e c in (
+        m.0,
+        get_from_entry names nat_list_cmp_total name_same made (e.name, Region (grid_from n m.0.blocks))
+            (subst (λ (l : List (List ℕ × Layer)). Contains l (e.name, Region (grid_from n m.0.blocks))) (sym entries_are) m.1),
+      )
 
   layer_got : (name : List ℕ) (l : Layer) → finmap.get made name ≡ Some l → IsMade form n rs es (name, l)
   layer_got name l at =

@@ -1,11 +1,12 @@
 -- A walk over the pages of a tree that marks each of them and hands on their records.
 use Rattle.std.specs.Prelude.{◌≡◌, ℕ, ◌+◌, ◌≤◌, Bool, List, length, Option, Some}
 use Rattle.quilt_record.specs.declared.record.Record.{Record}
-use Rattle.quilt_node.specs.Tree.{Bounds, Walk, Whole, walk, each_child}
+use Rattle.quilt_node.specs.Tree.{Walk, Whole, walk_of}
+use Rattle.quilt_node.specs.declared.head.Head.{Head}
 use Rattle.quilt_store.specs.Store.{Tells}
 use Rattle.quilt_audit.specs.declared.surveying.Surveying.{Surveying}
 use Rattle.quilt_audit.specs.Bits.{Marks, AreWithin}
-use Rattle.quilt_audit.specs.Checking.{Takes}
+use Rattle.quilt_audit.specs.Checking.{Takes, IsFed}
 
 -- these records were handed on, these pages are marked now, and each of those that are new was read once
 pub record Added (size : ℕ) (visited : List ℕ) (old new : Surveying) (before after : Option ℕ) (rs : List Record) (now : List ℕ) : Type 0 where
@@ -27,3 +28,15 @@ pub record Reached (size : ℕ) (told : Option (List (List ℕ))) (all : List (L
   pub now : List ℕ
   pub added : Added size visited old new before after rs now
   pub walks : (pages : List (List ℕ)) → told ≡ Some pages → all pages ≡ rest pages rs now
+
+-- The whole tree was visited: these bits are those of its pages, and the checker was given its records.
+pub record IsWalked (size : ℕ) (told : Option (List (List ℕ))) (head : Head) (s : Surveying) (before after : Option ℕ) : Type 0 where
+  pub rs : List Record
+  pub now : List ℕ
+  pub format : s.checker.format ≡ head.format
+  pub level : s.checker.level ≡ head.level
+  pub fed : IsFed head.records s.checker rs
+  pub marks : Marks s.used now
+  pub within : AreWithin size s.used
+  pub reads : Tells (λ was is. is ≤ was + length now) before after
+  pub walks : (pages : List (List ℕ)) → told ≡ Some pages → walk_of pages head.root head.height ≡ Whole rs now

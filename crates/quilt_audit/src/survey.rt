@@ -1,11 +1,13 @@
-ghost use Rattle.std.specs.Prelude.{◌≡◌, ℕ, ◌+◌, ◌≤◌, List, length, Some, IfOk, IfErr};
+ghost use Rattle.std.specs.Prelude.{◌≡◌, ℕ, ◌+◌, ◌≤◌, List, [], length, replicate, Some, IfOk, IfErr};
 ghost use Rattle.quilt_record.specs.declared.record.Record.{Record};
 ghost use Rattle.quilt_node.specs.Pages.{IsHead};
-ghost use Rattle.quilt_node.specs.Tree.{Whole, walk_of};
+ghost use Rattle.quilt_node.specs.Tree.{Whole, Damaged, walk_of};
 ghost use Rattle.quilt_store.specs.Store.{Tells};
 ghost use Rattle.quilt_btree.specs.Stops.{HasStopCause};
 ghost use Rattle.quilt_audit.specs.Bits.{AreWithin};
 ghost use Rattle.quilt_audit.specs.Surveys.{OnDamaged, IsSurvey, IsDamage, AreNumbered};
+ghost use Rattle.quilt_audit.specs.Walking.{IsWalked};
+ghost use Rattle.quilt_audit.specs.Checking.{IsFed};
 
 use crate::checker::Checker;
 use crate::surveying::Surveying;
@@ -41,24 +43,58 @@ pub fn audit<S: PageStore>(store: &mut S, head: &Head, pages: u32) -> Result<Sur
     ensures reads { IfOk result (λ s. (told : List (List ℕ)) (records : List Record) (visited : List ℕ) → S.told store.old ≡ Some told → walk_of told head.now.root head.now.height ≡ Whole records visited → Tells (λ old new. new ≤ old + length visited) (S.reads store.old) (S.reads store.new)) }
     ensures changed { S.changed store.new ≤ S.changed store.old }
 {
-    let mut state = Surveying {
+    match survey_tree(store, head) {
+        Err(e) => Err(e),
+        Ok(state) => {
+            let Surveying { used, checker } = state;
+            match checker.finish() {
+                None => Err(Stop::Damaged { page: 0 }),
+                Some(catalog) => Ok(Survey { catalog, used }),
+            }
+        }
+    }
+}
+
+/// Visits all pages of the tree, and hands its records to a checker.
+fn survey_tree<S: PageStore>(store: &mut S, head: &Head) -> Result<Surveying, Stop>
+    requires { IsHead (S.size store.old) head.now }
+    ensures walked { IfOk result (λ s. IsWalked (S.size store.old) (S.told store.old) head.now s (S.reads store.old) (S.reads store.new)) }
+    ensures damaged { IfErr result (OnDamaged (λ page. (told : List (List ℕ)) → S.told store.old ≡ Some told → walk_of told head.now.root head.now.height ≡ Damaged page)) }
+    ensures cause { HasStopCause (S.faults store.old) (S.faults store.new) result }
+    ensures size { S.size store.new ≡ S.size store.old }
+    ensures told { S.told store.new ≡ S.told store.old }
+    ensures free { S.free store.new ≡ S.free store.old }
+    ensures later { S.later store.old store.new }
+    ensures changed { S.changed store.new ≤ S.changed store.old }
+{
+    let mut state = unvisited(head);
+    if head.height == 0 {
+        return Ok(state);
+    }
+    match survey_page(
+        store,
+        &mut state,
+        head.root,
+        head.height,
+        true,
+        &None,
+        &None,
+    ) {
+        Err(e) => Err(e),
+        Ok(()) => Ok(state),
+    }
+}
+
+/// No page visited, and no record found.
+fn unvisited(head: &Head) -> Surveying
+    requires { (1 ≤ head.now.level) × (head.now.level ≤ 12) }
+    ensures used { result.used ≡ replicate 3750 0 }
+    ensures level { result.checker.level ≡ head.now.level }
+    ensures format { result.checker.format ≡ head.now.format }
+    ensures fed { IsFed head.now.records result.checker [] }
+{
+    Surveying {
         used: [0; 3750],
         checker: Checker::new(head),
-    };
-    if head.height != 0 {
-        survey_page(
-            store,
-            &mut state,
-            head.root,
-            head.height,
-            true,
-            &None,
-            &None,
-        )?;
-    }
-    let Surveying { used, checker } = state;
-    match checker.finish() {
-        None => Err(Stop::Damaged { page: 0 }),
-        Some(catalog) => Ok(Survey { catalog, used }),
     }
 }
