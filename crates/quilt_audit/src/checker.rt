@@ -233,7 +233,8 @@ impl Checker {
         ensures catalog { IsCatalog self.now.catalog }
     {
         let entries = self.catalog.entries();
-        if !self.sound || self.due != 0 {
+        let due = self.due;
+        if !self.sound || due != 0 {
             return false;
         }
         self.is_covered() && next_number(entries, self.layer) == 256

@@ -10,3 +10,6 @@ mod surveying;
 mod walking;
 
 pub use survey::{Survey, audit};
+
+#[cfg(test)]
+mod tests;

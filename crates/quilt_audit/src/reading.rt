@@ -113,12 +113,11 @@ fn leaf_in(
     ensures some { IfSome result (λ leaf. (page : ℕ) (visited : List ℕ) → leaf_walk is_root (record { low = low.now; high = high.now }) page visited (spec.leaf_of bytes.now) ≡ Whole leaf (page ∷ visited)) }
     ensures none { IfNone result ((page : ℕ) (visited : List ℕ) → leaf_walk is_root (record { low = low.now; high = high.now }) page visited (spec.leaf_of bytes.now) ≡ Damaged page) }
 {
-    match leaf_of(bytes) {
-        Some(leaf) if (is_root || 72 <= leaf.len()) && leaf_is_within(&leaf, low, high) => Some(
-            leaf,
-        ),
-        _ => None,
+    let leaf = leaf_of(bytes)?;
+    if (is_root || 72 <= leaf.len()) && leaf_is_within(&leaf, low, high) {
+        return Some(leaf);
     }
+    None
 }
 
 /// The inner page at a page of the store, where it is well formed, stands at its height, has its minimum of children and
@@ -167,11 +166,12 @@ fn inner_in(
     ensures children { IfSome result (λ inner. are_pages pages inner.children ≡ true) }
     ensures none { IfNone result ((page : ℕ) (visited : List ℕ) (visit : ℕ × Bounds → List ℕ → Walk) → inner_walk visit height is_root (record { low = low.now; high = high.now }) page visited (spec.inner_of pages bytes.now) ≡ Damaged page) }
 {
-    match inner_of(bytes, pages) {
-        Some(inner)
-            if inner.height() == height
-                && (is_root || 127 <= inner.len())
-                && inner_is_within(&inner, low, high) => { Some(inner) }
-        _ => None,
+    let inner = inner_of(bytes, pages)?;
+    if inner.height() == height
+        && (is_root || 127 <= inner.len())
+        && inner_is_within(&inner, low, high)
+    {
+        return Some(inner);
     }
+    None
 }

@@ -7,7 +7,7 @@ returns-then-is_covered-clause-yes c t =
     let e = eqb-true c.next_number.result 256 t in
     record {
       sound = c.if-not-self.false;
-      none_due = c.if-self-ne0.false;
+      none_due = c.if-due-ne0.false;
       covered = c.is_covered.ensures.yes c.if-is_covered.true;
       reached = λ d m. ⊎_elim (λ low. low) (λ high. let a = high.0 in let b = high.1 in absurd (omega arith))
           (c.next_number.ensures.least d (subst (λ (l : List Entry). Contains l d) (sym c.entries-entries.ensures.entries) m));
