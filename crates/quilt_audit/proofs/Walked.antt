@@ -1,13 +1,14 @@
 -- Tests of the keys of a page, and the children of one with their bounds.
-use Rattle.std.proofs.Common.{◌≡◌, ℕ, zero, suc, ◌+◌, ◌-◌, ◌<◌, ◌≤◌, Bool, true, false, ◌&&◌, nat_le, nat_lt, List, [], ◌∷◌, ◌++◌, map, length, take, drop, get_or, Option, Some, None, refl, sym, ◌∙◌, ap, ap₂, subst, arith, append_assoc, add-one, slice_index, slice_index_or, ltb-true, cond, eqb, Result, Ok, Err, OnOk, IfErr}
+use Rattle.std.proofs.Common.{◌≡◌, ℕ, zero, suc, ◌+◌, ◌-◌, ◌<◌, ◌≤◌, Bool, true, false, ◌&&◌, nat_le, nat_lt, List, [], ◌∷◌, ◌++◌, map, length, take, drop, get_or, Option, Some, None, refl, sym, ◌∙◌, ap, ap₂, subst, arith, append_assoc, add-one, slice_index, slice_index_or, ltb-true, cond, eqb, eq-eqb, ⊎_elim, Result, Ok, Err, OnOk, OnErr, IfErr}
 use Rattle.std.specs.Prelude.{◌==◌}
-use Rattle.std.specs.List.{list_all, list_any, slice_get}
+use Rattle.std.specs.List.{list_all, list_any, slice_get, range_with_len}
+use Rattle.std.proofs.lemmas.List.FromFn.{length-range_with_len}
 use Rattle.std.specs.Option.{option_or, option_map}
 use Rattle.std.proofs.lemmas.Option.{slice_get-map, slice_get_within, get_or_from_slice_get}
 use Rattle.std.proofs.lemmas.List.{take_more, take_all, get_or_default, drop_all}
 use Rattle.quilt_record.specs.declared.key.Key.{Key}
 use Rattle.quilt_record.specs.declared.record.Record.{Record}
-use Rattle.quilt_loc.proofs.Members.{list_all-at}
+use Rattle.quilt_loc.proofs.Members.{list_all-at, Contains-nil, Contains-cons_cases, Contains-range}
 use Rattle.quilt_node.specs.Nodes.{are_pages}
 use Rattle.quilt_node.specs.Pages.{leaf_of, inner_of}
 use Rattle.quilt_node.specs.Tree.{Bounds, Walk, Whole, Damaged, bounded, behind, and_then, each_child, leaf_walk, inner_walk, walk}
@@ -20,7 +21,9 @@ use Rattle.quilt_audit.specs.Surveys.{OnDamaged}
 use Rattle.quilt_audit.specs.Checking.{Takes}
 use Rattle.quilt_audit.specs.declared.surveying.Surveying.{Surveying}
 use Rattle.quilt_audit.specs.Bits.{has_bit, Marks, AreWithin}
-use Rattle.quilt_audit.specs.Walking.{Added, Found, Reached}
+use Rattle.quilt_audit.specs.Walking.{Spent, SpentSome, Added, Found, Reached}
+use Rattle.quilt_spell.proofs.Lists.{Apart-le}
+use Rattle.quilt_spell.proofs.SameFacts.{member_any}
 use Rattle.quilt_audit.proofs.Bits.{Marks-more, AreWithin-more}
 use Rattle.quilt_audit.proofs.Feeding.{Takes-none, Takes-then}
 
@@ -80,15 +83,47 @@ tells_one v (Some m) (Some n) h = omega arith
 tells_one v None (Some n) h = absurd h
 tells_one v (Some m) None h = absurd h
 
+pub Spent-none : (size : ℕ) (visited : List ℕ) (reads : Option ℕ) → Spent size visited visited reads reads
+Spent-none size visited reads = record { apart = λ a. a; in_store = λ h. h; reads = tells_same (length visited) reads }
+
+pub Spent-then : (size : ℕ) (visited now later : List ℕ) (x y z : Option ℕ) → Spent size visited now x y → Spent size now later y z → Spent size visited later x z
+Spent-then size visited now later x y z h k = record {
+  apart = λ a. k.apart (h.apart a);
+  in_store = λ w. k.in_store (h.in_store w);
+  reads = tells_then (length visited) (length now) (length later) x y z h.reads k.reads;
+}
+
+-- one page that was not visited before
+pub Spent-page : (size : ℕ) (visited : List ℕ) (before after : Option ℕ) (page : ℕ) → 1 ≤ page → page < size → list_any (λ v. v == page) visited ≡ false → Tells {A = ℕ} (λ was is. is ≤ was + 1) before after
+    → Spent size visited (page ∷ visited) before after
+Spent-page size visited before after page low high fresh reads = record {
+  apart = λ a. ((λ c. let t = member_any (λ v. v == page) visited page c (eq-eqb page page refl) in let clash : false ≡ true = sym fresh ∙ t in cc), a);
+  in_store = λ w p c. ⊎_elim (λ same. (omega arith, omega arith)) (λ d. w p d) (Contains-cons_cases page visited p c);
+  reads = tells_one (length visited) before after reads;
+}
+
+-- fewer pages than the store has
+pub spent_few : (size : ℕ) (now : List ℕ) (before after : Option ℕ) → 16 ≤ size → Spent size [] now before after → Tells {A = ℕ} (λ was is. is < was + size) before after
+spent_few size now before after some h =
+    let all = Apart-le now (range_with_len 1 (size - 1)) (h.apart tt) (λ p c. let w = h.in_store (λ q d. absurd (Contains-nil q d)) p c in let a = w.0 in let b = w.1 in Contains-range 1 (size - 1) p (omega arith) (omega arith)) in
+    let long = length-range_with_len 1 (size - 1) in
+    below (length now) before after (omega arith) h.reads
+  where
+    below : (n : ℕ) (a b : Option ℕ) → n < size → Tells {A = ℕ} (λ was is. is + 0 ≤ was + n) a b → Tells {A = ℕ} (λ was is. is < was + size) a b
+    below n None None lt r = tt
+    below n (Some x) (Some y) lt r = omega arith
+    below n None (Some y) lt r = absurd r
+    below n (Some x) None lt r = absurd r
+
 pub Added-none : (size : ℕ) (visited : List ℕ) (s : Surveying) (reads : Option ℕ) → Marks s.used visited → Added size visited s s reads reads [] visited
-Added-none size visited s reads m = record { takes = Takes-none s.checker; marks = m; within = λ h. h; reads = tells_same (length visited) reads }
+Added-none size visited s reads m = record { takes = Takes-none s.checker; marks = m; within = λ h. h; spent = Spent-none size visited reads }
 
 pub Added-then : (size : ℕ) (visited now later : List ℕ) (a b c : Surveying) (x y z : Option ℕ) (rs ss : List Record) → Added size visited a b x y rs now → Added size now b c y z ss later → Added size visited a c x z (rs ++ ss) later
 Added-then size visited now later a b c x y z rs ss h k = record {
   takes = Takes-then a.checker b.checker c.checker rs ss h.takes k.takes;
   marks = k.marks;
   within = λ w. k.within (h.within w);
-  reads = tells_then (length visited) (length now) (length later) x y z h.reads k.reads;
+  spent = Spent-then size visited now later x y z h.spent k.spent;
 }
 
 -- ---- the children from left to right
@@ -190,14 +225,14 @@ walk_inner pages (suc (suc h)) is_root at visited few f =
     ∙ ap (λ k. inner_walk (walk pages k false) (suc (suc h)) is_root at.1 at.0 visited (inner_of (length pages) (slice_index_or pages at.0 []))) (let e : suc h ≡ suc (suc h) - 1 = omega arith in e)
 
 -- a page that was marked, and the records that it gave
-pub Added-page : (size : ℕ) (visited : List ℕ) (old new : Surveying) (before after : Option ℕ) (page : ℕ) (rs : List Record) → 1 ≤ page → page < size → Marks old.used visited
+pub Added-page : (size : ℕ) (visited : List ℕ) (old new : Surveying) (before after : Option ℕ) (page : ℕ) (rs : List Record) → 1 ≤ page → page < size → Marks old.used visited → list_any (λ v. v == page) visited ≡ false
     → ((j : ℕ) → has_bit new.used j ≡ cond (eqb j page) true (has_bit old.used j)) → Takes old.checker rs new.checker → Tells {A = ℕ} (λ was is. is ≤ was + 1) before after
     → Added size visited old new before after rs (page ∷ visited)
-Added-page size visited old new before after page rs low high m one t reads = record {
+Added-page size visited old new before after page rs low high m fresh one t reads = record {
   takes = t;
   marks = Marks-more old.used new.used visited page m one;
   within = AreWithin-more size old.used new.used page low high one;
-  reads = tells_one (length visited) before after reads;
+  spent = Spent-page size visited before after page low high fresh reads;
 }
 
 -- ---- what is answered
@@ -228,3 +263,12 @@ page_found size told height is_root page b visited old mid new x y z children ke
   added = Added-then size visited (page ∷ visited) f.now old mid new x y z [] f.rs a (subst (λ (k : ℕ). Added k (page ∷ visited) mid new y z f.rs f.now) same_size f.added);
   walks = λ pages e. walk_inner pages height is_root (page, b) visited few fresh ∙ read pages (walk pages (height - 1) false) e ∙ f.walks pages (same_told ∙ e);
 }
+
+pub on_err_map : {T E : Type 0} (r : Result T E) (P Q : Type 0) → (P → Q) → OnErr r P → OnErr r Q
+on_err_map (Ok x) P Q f h = tt
+on_err_map (Err e) P Q f h = f h
+
+-- what was read before some more
+pub SpentSome-then : (size : ℕ) (visited now : List ℕ) (x y z : Option ℕ) (now_size : ℕ) → now_size ≡ size → Spent size visited now x y → SpentSome now_size now y z → SpentSome size visited x z
+SpentSome-then size visited now x y z now_size same h k =
+    record { now = k.now; spent = Spent-then size visited now k.now x y z h (subst (λ (n : ℕ). Spent n now k.now y z) same k.spent) }

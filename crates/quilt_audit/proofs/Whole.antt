@@ -22,7 +22,7 @@ use Rattle.quilt_audit.specs.Surveys.{first_damaged, AreRegions, IsSurvey, IsDam
 use Rattle.quilt_audit.specs.Checking.{IsFed, IsSpelled}
 use Rattle.quilt_audit.specs.Walking.{Added, Found, IsWalked}
 use Rattle.quilt_audit.proofs.Bits.{Marks-none, AreWithin-none}
-use Rattle.quilt_audit.proofs.Walked.{from_to}
+use Rattle.quilt_audit.proofs.Walked.{from_to, spent_few}
 
 -- ---- the tree and the walk of its root
 pub tree_of_none : (pages : List (List ℕ)) (root height : ℕ) → height ≡ 0 → walk_of pages root height ≡ Whole [] []
@@ -39,6 +39,10 @@ reads_same : (o : Option ℕ) → Tells {A = ℕ} (λ was is. is ≤ was + 0) o 
 reads_same None = tt
 reads_same (Some n) = omega arith
 
+few_same : (size : ℕ) (o : Option ℕ) → 16 ≤ size → Tells {A = ℕ} (λ was is. is < was + size) o o
+few_same size None room = tt
+few_same size (Some n) room = omega arith
+
 reads_new : (n : ℕ) (a b : Option ℕ) → Tells {A = ℕ} (λ was is. is + 0 ≤ was + n) a b → Tells {A = ℕ} (λ was is. is ≤ was + n) a b
 reads_new n None None h = tt
 reads_new n (Some x) (Some y) h = omega arith
@@ -49,9 +53,9 @@ pub unmarked : (used : List ℕ) → used ≡ replicate 3750 0 → Marks used []
 unmarked used e = subst (λ (l : List ℕ). Marks l []) (sym e) (Marks-none 3750)
 
 -- no tree
-pub walked_none : (size : ℕ) (told : Option (List (List ℕ))) (head : Head) (s : Surveying) (reads : Option ℕ) → head.height ≡ 0 → s.used ≡ replicate 3750 0 → s.checker.format ≡ head.format → s.checker.level ≡ head.level
+pub walked_none : (size : ℕ) → 16 ≤ size → (told : Option (List (List ℕ))) (head : Head) (s : Surveying) (reads : Option ℕ) → head.height ≡ 0 → s.used ≡ replicate 3750 0 → s.checker.format ≡ head.format → s.checker.level ≡ head.level
     → IsFed head.records s.checker [] → IsWalked size told head s reads reads
-walked_none size told head s reads none used format level fed = record {
+walked_none size room told head s reads none used format level fed = record {
   rs = [];
   now = [];
   format = format;
@@ -60,14 +64,15 @@ walked_none size told head s reads none used format level fed = record {
   marks = subst (λ (l : List ℕ). Marks l []) (sym used) (Marks-none 3750);
   within = subst (AreWithin size) (sym used) (AreWithin-none size 3750);
   reads = reads_same reads;
+  few = few_same size reads room;
   walks = λ pages e. tree_of_none pages head.root head.height none;
 }
 
 -- a tree from its root on
-pub walked_root : (size : ℕ) (told : Option (List (List ℕ))) (head : Head) (old new : Surveying) (before after : Option ℕ) → (head.height ≡ 0 → ⊥) → old.used ≡ replicate 3750 0 → old.checker.format ≡ head.format → old.checker.level ≡ head.level
+pub walked_root : (size : ℕ) → 16 ≤ size → (told : Option (List (List ℕ))) (head : Head) (old new : Surveying) (before after : Option ℕ) → (head.height ≡ 0 → ⊥) → old.used ≡ replicate 3750 0 → old.checker.format ≡ head.format → old.checker.level ≡ head.level
     → IsFed head.records old.checker []
     → ((visited : List ℕ) → Marks old.used visited → Found size told (λ pages. walk pages head.height true (head.root, from_to None None) visited) visited old new before after) → IsWalked size told head new before after
-walked_root size told head old new before after some used format level fed found =
+walked_root size room told head old new before after some used format level fed found =
     let f = found [] (subst (λ (l : List ℕ). Marks l []) (sym used) (Marks-none 3750)) in
     record {
       rs = f.rs;
@@ -77,7 +82,8 @@ walked_root size told head old new before after some used format level fed found
       fed = f.added.takes.fed head.records [] fed;
       marks = f.added.marks;
       within = f.added.within (subst (AreWithin size) (sym used) (AreWithin-none size 3750));
-      reads = reads_new (length f.now) before after f.added.reads;
+      reads = reads_new (length f.now) before after f.added.spent.reads;
+      few = spent_few size f.now before after room f.added.spent;
       walks = λ pages e. tree_of_root pages head.root head.height some ∙ f.walks pages e;
     }
 

@@ -3,7 +3,7 @@ ghost use Rattle.quilt_node.specs.Nodes.{are_pages};
 ghost use Rattle.quilt_node.specs.Pages as spec;
 ghost use Rattle.quilt_node.specs.Tree.{Bounds, Walk, Whole, Damaged, are_within, bounded, each_child, leaf_walk, inner_walk, is_above as is_above_of, is_below as is_below_of};
 ghost use Rattle.quilt_store.specs.Store.{Tells};
-ghost use Rattle.quilt_btree.specs.Stops.{store_stop, HasStopCause};
+ghost use Rattle.quilt_btree.specs.Stops.{store_stop, HasStopCause, NamesPage};
 ghost use Rattle.quilt_audit.specs.Surveys.{OnDamaged};
 
 use quilt_node::{InnerPage, LeafPage, inner_of, leaf_of};
@@ -85,6 +85,7 @@ pub fn read_leaf<S: PageStore>(
     requires { (1 ≤ page) × (page < S.size store.old) }
     ensures leaf { IfOk result (λ leaf. (pages : List (List ℕ)) (visited : List ℕ) → S.told store.old ≡ Some pages → leaf_walk is_root (record { low = low.now; high = high.now }) page visited (spec.leaf_of (slice_index_or pages page [])) ≡ Whole leaf (page ∷ visited)) }
     ensures damaged { IfErr result (OnDamaged (λ p. (pages : List (List ℕ)) (visited : List ℕ) → S.told store.old ≡ Some pages → leaf_walk is_root (record { low = low.now; high = high.now }) page visited (spec.leaf_of (slice_index_or pages page [])) ≡ Damaged p)) }
+    ensures names { IfErr result (NamesPage (S.size store.old)) }
     ensures cause { HasStopCause (S.faults store.old) (S.faults store.new) result }
     ensures size { S.size store.new ≡ S.size store.old }
     ensures told { S.told store.new ≡ S.told store.old }
@@ -134,6 +135,7 @@ pub fn read_inner<S: PageStore>(
     ensures inner { IfOk result (λ inner. (pages : List (List ℕ)) (visited : List ℕ) (visit : ℕ × Bounds → List ℕ → Walk) → S.told store.old ≡ Some pages → inner_walk visit height is_root (record { low = low.now; high = high.now }) page visited (spec.inner_of (length pages) (slice_index_or pages page [])) ≡ each_child visit (bounded inner.children inner.keys (record { low = low.now; high = high.now })) (Whole [] (page ∷ visited))) }
     ensures children { IfOk result (λ inner. are_pages (S.size store.old) inner.children ≡ true) }
     ensures damaged { IfErr result (OnDamaged (λ p. (pages : List (List ℕ)) (visited : List ℕ) (visit : ℕ × Bounds → List ℕ → Walk) → S.told store.old ≡ Some pages → inner_walk visit height is_root (record { low = low.now; high = high.now }) page visited (spec.inner_of (length pages) (slice_index_or pages page [])) ≡ Damaged p)) }
+    ensures names { IfErr result (NamesPage (S.size store.old)) }
     ensures cause { HasStopCause (S.faults store.old) (S.faults store.new) result }
     ensures size { S.size store.new ≡ S.size store.old }
     ensures told { S.told store.new ≡ S.told store.old }

@@ -1,9 +1,9 @@
-ghost use Rattle.std.specs.Prelude.{◌≡◌, ℕ, ◌+◌, ◌≤◌, List, [], length, replicate, Some, IfOk, IfErr};
+ghost use Rattle.std.specs.Prelude.{◌≡◌, ℕ, ◌+◌, ◌<◌, ◌≤◌, List, [], length, replicate, Some, OnErr, IfOk, IfErr};
 ghost use Rattle.quilt_record.specs.declared.record.Record.{Record};
 ghost use Rattle.quilt_node.specs.Pages.{IsHead};
 ghost use Rattle.quilt_node.specs.Tree.{Whole, Damaged, walk_of};
 ghost use Rattle.quilt_store.specs.Store.{Tells};
-ghost use Rattle.quilt_btree.specs.Stops.{HasStopCause};
+ghost use Rattle.quilt_btree.specs.Stops.{HasStopCause, NamesPage};
 ghost use Rattle.quilt_audit.specs.Bits.{AreWithin};
 ghost use Rattle.quilt_audit.specs.Surveys.{OnDamaged, IsSurvey, IsDamage, AreNumbered};
 ghost use Rattle.quilt_audit.specs.Walking.{IsWalked};
@@ -35,11 +35,13 @@ pub fn audit<S: PageStore>(store: &mut S, head: &Head, pages: u32) -> Result<Sur
     ensures damaged { IfErr result (OnDamaged (λ page. (told : List (List ℕ)) → S.told store.old ≡ Some told → IsDamage told head.now page)) }
     ensures within { IfOk result (λ s. AreWithin pages s.used) }
     ensures numbered { IfOk result (λ s. AreNumbered head.now.format s.catalog) }
+    ensures names { IfErr result (NamesPage pages) }
     ensures cause { HasStopCause (S.faults store.old) (S.faults store.new) result }
     ensures size { S.size store.new ≡ S.size store.old }
     ensures told { S.told store.new ≡ S.told store.old }
     ensures free { S.free store.new ≡ S.free store.old }
     ensures later { S.later store.old store.new }
+    ensures few { Tells (λ old new. new < old + pages) (S.reads store.old) (S.reads store.new) }
     ensures reads { IfOk result (λ s. (told : List (List ℕ)) (records : List Record) (visited : List ℕ) → S.told store.old ≡ Some told → walk_of told head.now.root head.now.height ≡ Whole records visited → Tells (λ old new. new ≤ old + length visited) (S.reads store.old) (S.reads store.new)) }
     ensures changed { S.changed store.new ≤ S.changed store.old }
 {
@@ -60,6 +62,8 @@ fn survey_tree<S: PageStore>(store: &mut S, head: &Head) -> Result<Surveying, St
     requires { IsHead (S.size store.old) head.now }
     ensures walked { IfOk result (λ s. IsWalked (S.size store.old) (S.told store.old) head.now s (S.reads store.old) (S.reads store.new)) }
     ensures damaged { IfErr result (OnDamaged (λ page. (told : List (List ℕ)) → S.told store.old ≡ Some told → walk_of told head.now.root head.now.height ≡ Damaged page)) }
+    ensures few { OnErr result (Tells (λ old new. new < old + S.size store.old) (S.reads store.old) (S.reads store.new)) }
+    ensures names { IfErr result (NamesPage (S.size store.old)) }
     ensures cause { HasStopCause (S.faults store.old) (S.faults store.new) result }
     ensures size { S.size store.new ≡ S.size store.old }
     ensures told { S.told store.new ≡ S.told store.old }

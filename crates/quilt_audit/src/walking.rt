@@ -1,14 +1,14 @@
-ghost use Rattle.std.specs.Prelude.{◌≡◌, ℕ, zero, suc, ◌+◌, ◌<◌, ◌≤◌, false, true, List, [], ◌∷◌, length, Some, OnOk, IfErr, slice_get, slice_index_or, ◌==◌};
+ghost use Rattle.std.specs.Prelude.{◌≡◌, ℕ, zero, suc, ◌+◌, ◌<◌, ◌≤◌, false, true, List, [], ◌∷◌, length, Some, OnOk, OnErr, IfErr, slice_get, slice_index_or, ◌==◌};
 ghost use Rattle.std.specs.List.{list_any};
 ghost use Rattle.std.specs.Option.{option_or};
 ghost use Rattle.quilt_node.specs.Nodes.{are_pages};
 ghost use Rattle.quilt_node.specs.Tree.{Bounds, Walk, Whole, Damaged, bounded, each_child, walk};
 ghost use Rattle.quilt_store.specs.Store.{Tells};
-ghost use Rattle.quilt_btree.specs.Stops.{HasStopCause};
+ghost use Rattle.quilt_btree.specs.Stops.{HasStopCause, NamesPage};
 ghost use Rattle.quilt_audit.specs.Bits.{Marks};
 ghost use Rattle.quilt_audit.specs.Surveys.{OnDamaged};
 ghost use Rattle.quilt_audit.specs.Checking.{Takes};
-ghost use Rattle.quilt_audit.specs.Walking.{Found};
+ghost use Rattle.quilt_audit.specs.Walking.{Found, SpentSome};
 
 use crate::checker::Checker;
 use crate::marks::{is_marked, mark};
@@ -52,6 +52,8 @@ fn survey_leaf<S: PageStore>(
     requires page { (1 ≤ page) × (page < S.size store.old) }
     ensures found { OnOk result ((visited : List ℕ) → Marks state.old.used visited → list_any (λ v. v == page) visited ≡ false → Found (S.size store.old) (S.told store.old) (λ pages. walk pages 1 is_root (page, record { low = low.now; high = high.now }) visited) visited state.old state.new (S.reads store.old) (S.reads store.new)) }
     ensures damaged { IfErr result (OnDamaged (λ p. (pages : List (List ℕ)) (visited : List ℕ) → S.told store.old ≡ Some pages → list_any (λ v. v == page) visited ≡ false → walk pages 1 is_root (page, record { low = low.now; high = high.now }) visited ≡ Damaged p)) }
+    ensures spent { OnErr result ((visited : List ℕ) → list_any (λ v. v == page) visited ≡ false → SpentSome (S.size store.old) visited (S.reads store.old) (S.reads store.new)) }
+    ensures names { IfErr result (NamesPage (S.size store.old)) }
     ensures cause { HasStopCause (S.faults store.old) (S.faults store.new) result }
     ensures size { S.size store.new ≡ S.size store.old }
     ensures told { S.told store.new ≡ S.told store.old }
@@ -85,6 +87,8 @@ pub fn survey_page<S: PageStore>(
     requires height { 1 ≤ height }
     ensures found { OnOk result ((visited : List ℕ) → Marks state.old.used visited → Found (S.size store.old) (S.told store.old) (λ pages. walk pages height is_root (page, record { low = low.now; high = high.now }) visited) visited state.old state.new (S.reads store.old) (S.reads store.new)) }
     ensures damaged { IfErr result (OnDamaged (λ p. (pages : List (List ℕ)) (visited : List ℕ) → S.told store.old ≡ Some pages → Marks state.old.used visited → walk pages height is_root (page, record { low = low.now; high = high.now }) visited ≡ Damaged p)) }
+    ensures spent { OnErr result ((visited : List ℕ) → Marks state.old.used visited → SpentSome (S.size store.old) visited (S.reads store.old) (S.reads store.new)) }
+    ensures names { IfErr result (NamesPage (S.size store.old)) }
     ensures cause { HasStopCause (S.faults store.old) (S.faults store.new) result }
     ensures size { S.size store.new ≡ S.size store.old }
     ensures told { S.told store.new ≡ S.told store.old }
@@ -121,6 +125,8 @@ fn survey_children<S: PageStore>(
     requires height { 1 ≤ height }
     ensures found { OnOk result ((visited : List ℕ) → Marks state.old.used visited → Found (S.size store.old) (S.told store.old) (λ pages. each_child (walk pages height false) (bounded inner.now.children inner.now.keys (record { low = low.now; high = high.now })) (Whole [] visited)) visited state.old state.new (S.reads store.old) (S.reads store.new)) }
     ensures damaged { IfErr result (OnDamaged (λ p. (pages : List (List ℕ)) (visited : List ℕ) → S.told store.old ≡ Some pages → Marks state.old.used visited → each_child (walk pages height false) (bounded inner.now.children inner.now.keys (record { low = low.now; high = high.now })) (Whole [] visited) ≡ Damaged p)) }
+    ensures spent { OnErr result ((visited : List ℕ) → Marks state.old.used visited → SpentSome (S.size store.old) visited (S.reads store.old) (S.reads store.new)) }
+    ensures names { IfErr result (NamesPage (S.size store.old)) }
     ensures cause { HasStopCause (S.faults store.old) (S.faults store.new) result }
     ensures size { S.size store.new ≡ S.size store.old }
     ensures told { S.told store.new ≡ S.told store.old }

@@ -4,7 +4,7 @@ use Rattle.quilt_audit.specs.declared.surveying.Surveying.{Surveying}
 use Rattle.quilt_audit.specs.Bits.{Marks}
 use Rattle.quilt_audit.specs.Walking.{Found}
 use Rattle.quilt_audit.proofs.Feeding.{Takes-none}
-use Rattle.quilt_audit.proofs.Walked.{Added-page, from_to, reached_first, reached_next, reached_stop, walk_inner, page_found, on_ok_map, damaged_map, stop_map}
+use Rattle.quilt_audit.proofs.Walked.{Added-page, from_to, reached_first, reached_next, reached_stop, walk_inner, page_found, on_ok_map, on_err_map, damaged_map, Spent-none, Spent-page, SpentSome-then, stop_map}
 use Rattle.quilt_audit.proofs.walking.+walking.Goals as goal
 
 pub survey_children-loop-i-init : goal.survey_children-loop-i-init
@@ -80,7 +80,7 @@ survey_page-returns-in-Ok-clause-found g t c =
     on_ok_map c.survey_children.result _ _
     (λ found visited m.
     let a = Added-page (g.S.PageStore.size c.args.store.now) visited c.args.state.now mid (g.S.PageStore.reads c.args.store.now) (g.S.PageStore.reads c.read_inner.new.store) c.args.page []
-    c.requires.page.0 c.requires.page.1 m c.mark.ensures (Takes-none c.args.state.now.checker) c.in-Ok.ensures.reads in
+    c.requires.page.0 c.requires.page.1 m (sym (m.each c.args.page) ∙ sym c.is_marked.ensures ∙ c.if-is_marked.false) c.mark.ensures (Takes-none c.args.state.now.checker) c.in-Ok.ensures.reads in
     page_found (g.S.PageStore.size c.args.store.now) (g.S.PageStore.told c.args.store.now) c.args.height c.args.is_root c.args.page b visited c.args.state.now mid c.survey_children.new.state
     (g.S.PageStore.reads c.args.store.now) (g.S.PageStore.reads c.read_inner.new.store) (g.S.PageStore.reads c.survey_children.new.store) c.in-Ok.inner.children c.in-Ok.inner.keys
     (g.S.PageStore.size c.read_inner.new.store) (g.S.PageStore.told c.read_inner.new.store) c.in-Ok.ensures.size c.in-Ok.ensures.told (omega arith)
@@ -97,8 +97,37 @@ survey_page-returns-in-Ok-clause-damaged g t c =
     damaged_map c.survey_children.result _ _
     (λ p w pages visited e m.
     let a = Added-page (g.S.PageStore.size c.args.store.now) visited c.args.state.now mid (g.S.PageStore.reads c.args.store.now) (g.S.PageStore.reads c.read_inner.new.store) c.args.page []
-    c.requires.page.0 c.requires.page.1 m c.mark.ensures (Takes-none c.args.state.now.checker) c.in-Ok.ensures.reads in
+    c.requires.page.0 c.requires.page.1 m (sym (m.each c.args.page) ∙ sym c.is_marked.ensures ∙ c.if-is_marked.false) c.mark.ensures (Takes-none c.args.state.now.checker) c.in-Ok.ensures.reads in
     walk_inner pages c.args.height c.args.is_root (c.args.page, b) visited (omega arith) (sym (m.each c.args.page) ∙ sym c.is_marked.ensures ∙ c.if-is_marked.false)
     ∙ c.in-Ok.ensures.inner pages visited (walk pages (c.args.height - 1) false) e
     ∙ w pages (c.args.page ∷ visited) (c.in-Ok.ensures.told ∙ e) a.marks)
     c.survey_children.ensures.damaged
+
+pub survey_page-returns-then-is_marked-clause-spent : goal.survey_page-returns-then-is_marked-clause-spent
+survey_page-returns-then-is_marked-clause-spent g t c visited m =
+    record { now = visited; spent = Spent-none (g.S.PageStore.size c.args.store.now) visited (g.S.PageStore.reads c.args.store.now) }
+
+pub survey_page-returns-in-Err-clause-spent : goal.survey_page-returns-in-Err-clause-spent
+survey_page-returns-in-Err-clause-spent g t c visited m = record {
+  now = c.args.page ∷ visited;
+  spent = Spent-page (g.S.PageStore.size c.args.store.now) visited (g.S.PageStore.reads c.args.store.now) (g.S.PageStore.reads c.read_inner.new.store) c.args.page c.requires.page.0 c.requires.page.1
+      (sym (m.each c.args.page) ∙ sym c.is_marked.ensures ∙ c.if-is_marked.false) c.in-Err.ensures.reads;
+}
+
+pub survey_page-returns-in-Ok-clause-spent : goal.survey_page-returns-in-Ok-clause-spent
+survey_page-returns-in-Ok-clause-spent g t c =
+    let mid : Surveying = record { used = c.mark.new.bits; checker = c.args.state.now.checker } in
+    on_err_map c.survey_children.result _ _
+    (λ spent visited m.
+    let a = Added-page (g.S.PageStore.size c.args.store.now) visited c.args.state.now mid (g.S.PageStore.reads c.args.store.now) (g.S.PageStore.reads c.read_inner.new.store) c.args.page []
+    c.requires.page.0 c.requires.page.1 m (sym (m.each c.args.page) ∙ sym c.is_marked.ensures ∙ c.if-is_marked.false) c.mark.ensures (Takes-none c.args.state.now.checker) c.in-Ok.ensures.reads in
+    SpentSome-then (g.S.PageStore.size c.args.store.now) visited (c.args.page ∷ visited) (g.S.PageStore.reads c.args.store.now) (g.S.PageStore.reads c.read_inner.new.store) (g.S.PageStore.reads c.survey_children.new.store)
+    (g.S.PageStore.size c.read_inner.new.store) c.in-Ok.ensures.size a.spent (spent (c.args.page ∷ visited) a.marks))
+    c.survey_children.ensures.spent
+
+pub survey_children-returns-in-Err-clause-spent : goal.survey_children-returns-in-Err-clause-spent
+survey_children-returns-in-Err-clause-spent g t c visited m =
+    let inv = c.loop-i.invariant in
+    let h = inv.found visited m in
+    SpentSome-then (g.S.PageStore.size c.args.store.now) visited h.now (g.S.PageStore.reads c.args.store.now) (g.S.PageStore.reads c.loop-i.store) (g.S.PageStore.reads c.survey_page.new.store)
+    (g.S.PageStore.size c.loop-i.store) inv.size h.added.spent (c.in-Err.ensures.spent h.now h.added.marks)
