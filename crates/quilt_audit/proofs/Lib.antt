@@ -1,0 +1,12 @@
+pub mod Bits
+pub mod Lists
+pub mod Laid
+pub mod Ahead
+pub mod Next
+pub mod Steps
+pub mod Feeding
+pub mod Walked
+pub mod Making
+pub mod FourLeaves
+pub mod Taking
+pub mod Whole

@@ -1,0 +1,4 @@
+pub mod Bits
+pub mod Checking
+pub mod Surveys
+pub mod Walking

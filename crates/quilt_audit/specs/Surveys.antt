@@ -1,0 +1,56 @@
+-- What an audit finds of the tree of a map.
+use Rattle.std.specs.Prelude.{◌≡◌, ℕ, ◌≤◌, List, length, Some, Contains}
+use Rattle.std.specs.FinMap as finmap
+use Rattle.quilt_types.specs.declared.stop.Stop.{Stop}
+use Rattle.quilt_types.specs.declared.stop.Stop.TheVariants.{Device, Memory, Damaged as Says}
+use Rattle.quilt_types.specs.Layers.{Layer, Region, Grid, Map}
+use Rattle.quilt_record.specs.declared.record.Record.{Record}
+use Rattle.quilt_record.specs.declared.entry.Entry.{Entry}
+use Rattle.quilt_record.specs.Records.{Numbering, Spells}
+use Rattle.quilt_record.specs.Listing.{KindFits}
+use Rattle.quilt_node.specs.declared.head.Head.{Head}
+use Rattle.quilt_node.specs.Tree.{Walk, Whole, Damaged, walk_of}
+use Rattle.quilt_spell.specs.Spelled.{SpellsUnder}
+use Rattle.quilt_spell.specs.Catalogued.{IsCatalogOf}
+use Rattle.quilt_audit.specs.Bits.{Marks}
+
+-- the first damaged page in the order of the walk, and 0 where every page passes
+abbrev pub first_damaged : Walk → ℕ
+first_damaged (Damaged page) = page
+first_damaged (Whole records visited) = 0
+
+-- what holds of the page that is said to be damaged
+abbrev pub OnDamaged : (ℕ → Type 0) → Stop → Type 0
+OnDamaged P Device = Unit {0}
+OnDamaged P Memory = Unit {0}
+OnDamaged P (Says page) = P page
+
+-- each layer of the map is a region
+pub record AreRegions (layers : Map) : Type 0 where
+  pub each : (name : List ℕ) (layer : Layer) → finmap.get layers name ≡ Some layer → (grid : Grid) × (layer ≡ Region grid)
+
+-- The tree spells a map of region layers with the head's number of records, of which this is the catalog, and these bits are those of its pages.
+pub record IsSurvey (pages : List (List ℕ)) (head : Head) (catalog : List Entry) (used : List ℕ) : Type 0 where
+  pub records : List Record
+  pub visited : List ℕ
+  pub tree : walk_of pages head.root head.height ≡ Whole records visited
+  pub count : length records ≡ head.records
+  pub numbers : Numbering
+  pub layers : Map
+  pub regions : AreRegions layers
+  pub spelled : SpellsUnder head.format head.level numbers records layers
+  pub catalogued : IsCatalogOf layers numbers catalog
+  pub marks : Marks used visited
+
+-- The page is the first damaged one, and the tree spells no map of region layers with the head's number of records.
+pub record IsDamage (pages : List (List ℕ)) (head : Head) (page : ℕ) : Type 0 where
+  pub first : page ≡ first_damaged (walk_of pages head.root head.height)
+  pub none : (records : List Record) (visited : List ℕ) (layers : Map) → walk_of pages head.root head.height ≡ Whole records visited → AreRegions layers
+      → Spells head.format head.level records layers → length records ≡ head.records → ⊥
+
+-- The entries have numbers from 1 to 255 that differ, and kinds of the format.
+pub record AreNumbered (format : ℕ) (entries : List Entry) : Type 0 where
+  pub least : (e : Entry) → Contains entries e → 1 ≤ e.number
+  pub most : (e : Entry) → Contains entries e → e.number ≤ 255
+  pub differ : (d e : Entry) → Contains entries d → Contains entries e → d.number ≡ e.number → d ≡ e
+  pub kinds : (e : Entry) → Contains entries e → KindFits format e.kind

@@ -1,0 +1,147 @@
+ghost use Rattle.std.specs.Prelude.{◌≡◌, ℕ, zero, suc, ◌+◌, ◌<◌, ◌≤◌, false, true, List, [], ◌∷◌, length, Some, OnOk, OnErr, IfErr, slice_get, slice_index_or, ◌==◌};
+ghost use Rattle.std.specs.List.{list_any};
+ghost use Rattle.std.specs.Option.{option_or};
+ghost use Rattle.quilt_node.specs.Nodes.{are_pages};
+ghost use Rattle.quilt_node.specs.Tree.{Bounds, Walk, Whole, Damaged, bounded, each_child, walk};
+ghost use Rattle.quilt_store.specs.Store.{Tells};
+ghost use Rattle.quilt_btree.specs.Stops.{HasStopCause, NamesPage};
+ghost use Rattle.quilt_audit.specs.Bits.{Marks};
+ghost use Rattle.quilt_audit.specs.Surveys.{OnDamaged};
+ghost use Rattle.quilt_audit.specs.Checking.{Takes};
+ghost use Rattle.quilt_audit.specs.Walking.{Found, SpentSome};
+
+use crate::checker::Checker;
+use crate::marks::{is_marked, mark};
+use crate::reading::{read_inner, read_leaf};
+use crate::surveying::Surveying;
+use quilt_node::{InnerPage, LeafPage};
+use quilt_record::Key;
+use quilt_store::PageStore;
+use quilt_types::Stop;
+
+/// Hands the records of a leaf to the checker.
+fn feed(checker: &mut Checker, leaf: &LeafPage)
+    ensures { Takes checker.old leaf.now checker.new }
+{
+    for i in 0..leaf.len() {
+        checker.push(&leaf.rec(i));
+    }
+}
+
+/// The bound below which the keys under child `i` stay.
+fn bound_behind(inner: &InnerPage, i: usize, high: &Option<Key>) -> Option<Key>
+    requires { i < length inner.now.children }
+    ensures { result ≡ option_or (slice_get inner.now.keys i) high.now }
+{
+    if i < inner.len() - 1 {
+        Some(inner.key(i))
+    } else {
+        *high
+    }
+}
+
+/// Visits the page of a leaf that was not visited before.
+fn survey_leaf<S: PageStore>(
+    store: &mut S,
+    state: &mut Surveying,
+    page: u32,
+    is_root: bool,
+    low: &Option<Key>,
+    high: &Option<Key>,
+) -> Result<(), Stop>
+    requires page { (1 ≤ page) × (page < S.size store.old) }
+    ensures found { OnOk result ((visited : List ℕ) → Marks state.old.used visited → list_any (λ v. v == page) visited ≡ false → Found (S.size store.old) (S.told store.old) (λ pages. walk pages 1 is_root (page, record { low = low.now; high = high.now }) visited) visited state.old state.new (S.reads store.old) (S.reads store.new)) }
+    ensures damaged { IfErr result (OnDamaged (λ p. (pages : List (List ℕ)) (visited : List ℕ) → S.told store.old ≡ Some pages → list_any (λ v. v == page) visited ≡ false → walk pages 1 is_root (page, record { low = low.now; high = high.now }) visited ≡ Damaged p)) }
+    ensures spent { OnErr result ((visited : List ℕ) → list_any (λ v. v == page) visited ≡ false → SpentSome (S.size store.old) visited (S.reads store.old) (S.reads store.new)) }
+    ensures names { IfErr result (NamesPage (S.size store.old)) }
+    ensures cause { HasStopCause (S.faults store.old) (S.faults store.new) result }
+    ensures size { S.size store.new ≡ S.size store.old }
+    ensures told { S.told store.new ≡ S.told store.old }
+    ensures free { S.free store.new ≡ S.free store.old }
+    ensures later { S.later store.old store.new }
+    ensures changed { S.changed store.new ≤ S.changed store.old }
+{
+    match read_leaf(store, page, is_root, low, high) {
+        Err(e) => Err(e),
+        Ok(leaf) => {
+            mark(&mut state.used, page);
+            feed(&mut state.checker, &leaf);
+            Ok(())
+        }
+    }
+}
+
+/// Visits a page of the tree at a height, and all below it: a page before its children, and these from left to right.
+/// It reads each page once, and stops at the first that is damaged.
+#[cycle(walking)]
+pub fn survey_page<S: PageStore>(
+    store: &mut S,
+    state: &mut Surveying,
+    page: u32,
+    height: u8,
+    is_root: bool,
+    low: &Option<Key>,
+    high: &Option<Key>,
+) -> Result<(), Stop>
+    requires page { (1 ≤ page) × (page < S.size store.old) }
+    requires height { 1 ≤ height }
+    ensures found { OnOk result ((visited : List ℕ) → Marks state.old.used visited → Found (S.size store.old) (S.told store.old) (λ pages. walk pages height is_root (page, record { low = low.now; high = high.now }) visited) visited state.old state.new (S.reads store.old) (S.reads store.new)) }
+    ensures damaged { IfErr result (OnDamaged (λ p. (pages : List (List ℕ)) (visited : List ℕ) → S.told store.old ≡ Some pages → Marks state.old.used visited → walk pages height is_root (page, record { low = low.now; high = high.now }) visited ≡ Damaged p)) }
+    ensures spent { OnErr result ((visited : List ℕ) → Marks state.old.used visited → SpentSome (S.size store.old) visited (S.reads store.old) (S.reads store.new)) }
+    ensures names { IfErr result (NamesPage (S.size store.old)) }
+    ensures cause { HasStopCause (S.faults store.old) (S.faults store.new) result }
+    ensures size { S.size store.new ≡ S.size store.old }
+    ensures told { S.told store.new ≡ S.told store.old }
+    ensures free { S.free store.new ≡ S.free store.old }
+    ensures later { S.later store.old store.new }
+    ensures changed { S.changed store.new ≤ S.changed store.old }
+{
+    if is_marked(&state.used, page) {
+        return Err(Stop::Damaged { page });
+    }
+    if height == 1 {
+        return survey_leaf(store, state, page, is_root, low, high);
+    }
+    match read_inner(store, page, height, is_root, low, high) {
+        Err(e) => Err(e),
+        Ok(inner) => {
+            mark(&mut state.used, page);
+            survey_children(store, state, &inner, height - 1, low, high)
+        }
+    }
+}
+
+/// Visits the children of an inner page, at a height, from left to right.
+#[cycle(walking)]
+fn survey_children<S: PageStore>(
+    store: &mut S,
+    state: &mut Surveying,
+    inner: &InnerPage,
+    height: u8,
+    low: &Option<Key>,
+    high: &Option<Key>,
+) -> Result<(), Stop>
+    requires pages { are_pages (S.size store.old) inner.now.children ≡ true }
+    requires height { 1 ≤ height }
+    ensures found { OnOk result ((visited : List ℕ) → Marks state.old.used visited → Found (S.size store.old) (S.told store.old) (λ pages. each_child (walk pages height false) (bounded inner.now.children inner.now.keys (record { low = low.now; high = high.now })) (Whole [] visited)) visited state.old state.new (S.reads store.old) (S.reads store.new)) }
+    ensures damaged { IfErr result (OnDamaged (λ p. (pages : List (List ℕ)) (visited : List ℕ) → S.told store.old ≡ Some pages → Marks state.old.used visited → each_child (walk pages height false) (bounded inner.now.children inner.now.keys (record { low = low.now; high = high.now })) (Whole [] visited) ≡ Damaged p)) }
+    ensures spent { OnErr result ((visited : List ℕ) → Marks state.old.used visited → SpentSome (S.size store.old) visited (S.reads store.old) (S.reads store.new)) }
+    ensures names { IfErr result (NamesPage (S.size store.old)) }
+    ensures cause { HasStopCause (S.faults store.old) (S.faults store.new) result }
+    ensures size { S.size store.new ≡ S.size store.old }
+    ensures told { S.told store.new ≡ S.told store.old }
+    ensures free { S.free store.new ≡ S.free store.old }
+    ensures later { S.later store.old store.new }
+    ensures changed { S.changed store.new ≤ S.changed store.old }
+{
+    let mut from = *low;
+    for i in 0..inner.len() {
+        let to = bound_behind(inner, i, high);
+        let page = inner.child(i);
+        if let Err(e) = survey_page(store, state, page, height, false, &from, &to) {
+            return Err(e);
+        }
+        from = to;
+    }
+    Ok(())
+}
