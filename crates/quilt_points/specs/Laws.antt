@@ -1,0 +1,1 @@
+-- What a map says of its point layers.

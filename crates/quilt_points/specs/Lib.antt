@@ -1,0 +1,4 @@
+pub mod Layers
+pub mod Plans
+pub mod Reads
+pub mod Laws

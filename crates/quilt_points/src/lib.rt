@@ -1,0 +1,7 @@
+//! Point layers in a tree of records: points are found in the records of their blocks, and plans of the records that go and
+//! come when points do (PR quadtrees with buckets, Samet 1990).
+#![tactic(auto)]
+
+mod reading;
+
+pub use reading::find;
