@@ -12,6 +12,7 @@ ghost use Rattle.quilt_btree.specs.Trees.{IsRooted};
 ghost use Rattle.quilt_points.specs.Layers.{HasPoints, pixel_key};
 ghost use Rattle.quilt_points.specs.Reads.{IsBlockRead, label_at};
 
+use crate::layer::PointLayer;
 use quilt_btree::Tree;
 use quilt_loc::{code_of, covers};
 use quilt_record::{Key, Record, point_record, read_point};
@@ -48,13 +49,18 @@ pub fn find<S: PageStore>(
     ensures reads { Tells (λ old new. new ≤ old + (if bucket == 1 then 6 else 9)) (S.reads store.old) (S.reads store.new) }
     ensures changed { S.changed store.new ≤ S.changed store.old }
 {
-    match block_around(store, tree, layer, level, bucket, at) {
+    let layer = PointLayer {
+        number: layer,
+        level,
+        bucket,
+    };
+    match block_around(store, tree, layer, at) {
         Err(e) => Err(e),
         Ok((b, held)) => {
             if bucket == 1 {
                 Ok(label_of(held, at))
             } else {
-                label_in(store, tree, layer, level, bucket, b, at)
+                label_in(store, tree, layer, b, at)
             }
         }
     }
@@ -65,21 +71,16 @@ pub fn find<S: PageStore>(
 pub(crate) fn block_around<S: PageStore>(
     store: &mut S,
     tree: &Tree,
-    layer: u8,
-    level: u8,
-    bucket: u8,
+    layer: PointLayer,
     at: Pixel,
 ) -> Result<(Block, Option<Point>), Stop>
     requires rooted { IsRooted (S.size store.old) tree.now }
-    requires layer { 1 ≤ layer }
-    requires level { (1 ≤ level) × (level ≤ 12) }
-    requires bucket { 1 ≤ bucket }
-    requires in_x { at.x < side level }
-    requires in_y { at.y < side level }
-    ensures read { IfOk result (λ v. (points : PointMap) → HasPoints (S.told store.old) tree.now layer level bucket points → IsBlockRead level bucket points v.0 v.1) }
-    ensures block { IfOk result (λ v. IsBlock level v.0) }
+    requires in_x { at.x < side layer.level }
+    requires in_y { at.y < side layer.level }
+    ensures read { IfOk result (λ v. (points : PointMap) → HasPoints (S.told store.old) tree.now layer.number layer.level layer.bucket points → IsBlockRead layer.level layer.bucket points v.0 v.1) }
+    ensures block { IfOk result (λ v. IsBlock layer.level v.0) }
     ensures holds { IfOk result (λ v. in_block v.0 at ≡ true) }
-    ensures sound { IfErr result (λ e. (points : PointMap) → HasPoints (S.told store.old) tree.now layer level bucket points → IsSound e) }
+    ensures sound { IfErr result (λ e. (points : PointMap) → HasPoints (S.told store.old) tree.now layer.number layer.level layer.bucket points → IsSound e) }
     ensures cause { HasStopCause (S.faults store.old) (S.faults store.new) result }
     ensures size { S.size store.new ≡ S.size store.old }
     ensures told { S.told store.new ≡ S.told store.old }
@@ -88,11 +89,11 @@ pub(crate) fn block_around<S: PageStore>(
     ensures reads { Tells (λ old new. new ≤ old + 6) (S.reads store.old) (S.reads store.new) }
     ensures changed { S.changed store.new ≤ S.changed store.old }
 {
-    let k = key_behind(layer, at);
+    let k = key_behind(layer.number, at);
     match tree.floor(store, &k) {
         Err(e) => Err(e),
         Ok(None) => Err(DAMAGED),
-        Ok(Some(r)) => match block_of(&r, layer, level, bucket) {
+        Ok(Some(r)) => match block_of(&r, layer) {
             Some((b, held)) if covers(b, at) => Ok((b, held)),
             _ => Err(DAMAGED),
         },
@@ -115,27 +116,25 @@ fn key_behind(layer: u8, at: Pixel) -> Key
 }
 
 /// The block of the layer and the point that the record says, if it is one of the layer.
-fn block_of(r: &Record, layer: u8, level: u8, bucket: u8) -> Option<(Block, Option<Point>)>
-    requires level { (1 ≤ level) × (level ≤ 12) }
-    ensures block { IfSome result (λ v. IsBlock level v.0) }
-    ensures pixel { IfSome result (λ v. IfSome v.1 (λ p. is_pixel level p.at ≡ true)) }
-    ensures one { (b : AnyBlock) (held : Option AnyPoint) → IsRecordOf level bucket r.now layer (point_fact b held) → result ≡ Some (b, held) }
+fn block_of(r: &Record, layer: PointLayer) -> Option<(Block, Option<Point>)>
+    ensures block { IfSome result (λ v. IsBlock layer.level v.0) }
+    ensures pixel { IfSome result (λ v. IfSome v.1 (λ p. is_pixel layer.level p.at ≡ true)) }
+    ensures one { (b : AnyBlock) (held : Option AnyPoint) → IsRecordOf layer.level layer.bucket r.now layer.number (point_fact b held) → result ≡ Some (b, held) }
 {
-    let Some((b, held)) = read_point(r, level, bucket) else {
+    let Some((b, held)) = read_point(r, layer.level, layer.bucket) else {
         return None;
     };
-    if r.key.layer != u16::from(layer) {
+    if r.key.layer != u16::from(layer.number) {
         return None;
     }
     Some((b, held))
 }
 
 /// The point of the layer that the record says, if it says one.
-fn point_of(r: &Record, layer: u8, level: u8, bucket: u8) -> Option<Point>
-    requires level { (1 ≤ level) × (level ≤ 12) }
-    ensures { (b : AnyBlock) (p : AnyPoint) → IsRecordOf level bucket r.now layer (point_fact b (Some p)) → result ≡ Some p }
+fn point_of(r: &Record, layer: PointLayer) -> Option<Point>
+    ensures { (b : AnyBlock) (p : AnyPoint) → IsRecordOf layer.level layer.bucket r.now layer.number (point_fact b (Some p)) → result ≡ Some p }
 {
-    match block_of(r, layer, level, bucket) {
+    match block_of(r, layer) {
         Some((_, held)) => held,
         None => None,
     }
@@ -156,20 +155,16 @@ fn label_of(held: Option<Point>, at: Pixel) -> Option<u32>
 fn label_in<S: PageStore>(
     store: &mut S,
     tree: &Tree,
-    layer: u8,
-    level: u8,
-    bucket: u8,
+    layer: PointLayer,
     b: Block,
     at: Pixel,
 ) -> Result<Option<u32>, Stop>
     requires rooted { IsRooted (S.size store.old) tree.now }
-    requires layer { 1 ≤ layer }
-    requires level { (1 ≤ level) × (level ≤ 12) }
-    requires bucket { 1 < bucket }
-    requires block { IsBlock level b }
-    requires pixel { is_pixel level at ≡ true }
-    ensures label { IfOk result (λ label. (points : PointMap) → HasPoints (S.told store.old) tree.now layer level bucket points → Contains (point_blocks level bucket points) b → in_block b at ≡ true → label ≡ finmap.get points at) }
-    ensures sound { IfErr result (λ e. (points : PointMap) → HasPoints (S.told store.old) tree.now layer level bucket points → Contains (point_blocks level bucket points) b → in_block b at ≡ true → IsSound e) }
+    requires bucket { 1 < layer.bucket }
+    requires block { IsBlock layer.level b }
+    requires pixel { is_pixel layer.level at ≡ true }
+    ensures label { IfOk result (λ label. (points : PointMap) → HasPoints (S.told store.old) tree.now layer.number layer.level layer.bucket points → Contains (point_blocks layer.level layer.bucket points) b → in_block b at ≡ true → label ≡ finmap.get points at) }
+    ensures sound { IfErr result (λ e. (points : PointMap) → HasPoints (S.told store.old) tree.now layer.number layer.level layer.bucket points → Contains (point_blocks layer.level layer.bucket points) b → in_block b at ≡ true → IsSound e) }
     ensures cause { HasStopCause (S.faults store.old) (S.faults store.new) result }
     ensures size { S.size store.new ≡ S.size store.old }
     ensures told { S.told store.new ≡ S.told store.old }
@@ -178,12 +173,12 @@ fn label_in<S: PageStore>(
     ensures reads { Tells (λ old new. new ≤ old + 3) (S.reads store.old) (S.reads store.new) }
     ensures changed { S.changed store.new ≤ S.changed store.old }
 {
-    let like = point_record(layer, b, level, bucket, Some(Point { at, label: 0 }));
+    let like = point_record(layer.number, b, layer.level, layer.bucket, Some(Point { at, label: 0 }));
     let key = like.key;
     match tree.get(store, &key) {
         Err(e) => Err(e),
         Ok(None) => Ok(None),
-        Ok(Some(value)) => match point_of(&Record { key, value }, layer, level, bucket) {
+        Ok(Some(value)) => match point_of(&Record { key, value }, layer) {
             Some(p) => Ok(Some(p.label)),
             None => Err(DAMAGED),
         },
