@@ -2,3 +2,5 @@ pub mod Shapes
 pub mod Records
 pub mod Floors
 pub mod Finds
+pub mod Ranges
+pub mod Said

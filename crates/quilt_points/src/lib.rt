@@ -3,6 +3,7 @@
 #![tactic(auto)]
 
 mod layer;
+mod listing;
 mod reading;
 
 pub use reading::find;

@@ -116,7 +116,8 @@ fn key_behind(layer: u8, at: Pixel) -> Key
 }
 
 /// The block of the layer and the point that the record says, if it is one of the layer.
-fn block_of(r: &Record, layer: PointLayer) -> Option<(Block, Option<Point>)>
+pub(crate) fn block_of(r: &Record, layer: PointLayer) -> Option<(Block, Option<Point>)>
+    ensures record { IfSome result (λ v. IsRecordOf layer.level layer.bucket r.now layer.number (point_fact v.0 v.1)) }
     ensures block { IfSome result (λ v. IsBlock layer.level v.0) }
     ensures pixel { IfSome result (λ v. IfSome v.1 (λ p. is_pixel layer.level p.at ≡ true)) }
     ensures one { (b : AnyBlock) (held : Option AnyPoint) → IsRecordOf layer.level layer.bucket r.now layer.number (point_fact b held) → result ≡ Some (b, held) }
