@@ -4,3 +4,5 @@ pub mod Floors
 pub mod Finds
 pub mod Ranges
 pub mod Said
+pub mod Ascents
+pub mod Growths

@@ -165,3 +165,7 @@ take_next xs i d lt = let e : i + 1 ≡ suc i = omega arith in ap (λ n. take n 
 pub nonzero : (n : ℕ) → false ≡ (n == 0) → 0 < n
 nonzero zero e = cc
 nonzero (suc n) e = omega arith
+
+-- what is pushed after a prefix
+pub pushed : {X : Type 0} (old new xs : List X) (i : ℕ) (d : X) → new ≡ old ++ get_or xs i d ∷ [] → old ≡ take i xs → i < length xs → new ≡ take (i + 1) xs
+pushed old new xs i d is prefix lt = is ∙ ap (λ (l : List _). l ++ get_or xs i d ∷ []) prefix ∙ sym (take_next xs i d lt)

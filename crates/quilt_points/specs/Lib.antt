@@ -1,4 +1,5 @@
 pub mod Layers
-pub mod Plans
 pub mod Reads
+pub mod Growing
+pub mod Plans
 pub mod Laws

@@ -2,6 +2,8 @@
 //! come when points do (PR quadtrees with buckets, Samet 1990).
 #![tactic(auto)]
 
+mod edits;
+mod growing;
 mod layer;
 mod listing;
 mod reading;
