@@ -1,6 +1,6 @@
 -- What is found at a pixel of a point layer.
 use Rattle.std.proofs.Common.{◌≡◌, ℕ, ◌+◌, ◌-◌, ◌<◌, ◌≤◌, ◌^◌, Bool, true, false, List, [], ◌∷◌, length, Option, Some, None, refl, sym, ◌∙◌, ap, subst, ⊎_elim, arith, Contains, ◌⊎◌, inl, inr, filter, cond, leb-true, eqb-true, ne_eqb, nat_lt, ltb-true, lt-ltb, Ordering, Less, Equal, Greater}
-use Rattle.std.specs.Prelude.{unwrap_or, find, ◌&&◌, ◌==◌}
+use Rattle.std.specs.Prelude.{unwrap_or, find, MatchOption, IfSome, ◌&&◌, ◌==◌}
 use Rattle.std.specs.Ordering.{is_le, is_eq}
 use Rattle.std.specs.FinMap as finmap
 use Rattle.std.proofs.lemmas.Bool.{cases_Bool, cond-true, cond-false, and_parts, and_from}
@@ -288,3 +288,16 @@ label_same points at read p e i =
 -- what a store tells after a call that left it
 pub has_along : (old new : Option (List (List ℕ))) (t : Tree) (layer n capacity : ℕ) (points : PointMap) → new ≡ old → HasPoints old t layer n capacity points → HasPoints new t layer n capacity points
 has_along old new t layer n capacity points e h = subst (λ (z : Option (List (List ℕ))). HasPoints z t layer n capacity points) (sym e) h
+
+-- ---- answers that may be none
+pub match_none : {X : Type 0} (o : Option X) (P : Type 0) (Q : X → Type 0) → o ≡ None → MatchOption o P Q → P
+match_none None P Q e h = h
+match_none (Some x) P Q e h = absurd (none_some x (sym e))
+
+pub match_some : {X : Type 0} (o : Option X) (P : Type 0) (Q : X → Type 0) (x : X) → o ≡ Some x → MatchOption o P Q → Q x
+match_some None P Q x e h = absurd (none_some x e)
+match_some (Some y) P Q x e h = subst Q (some_same y x e) h
+
+pub if_some_weaker : {X : Type 0} (o : Option X) (P Q : X → Type 0) → ((x : X) → P x → Q x) → IfSome o P → IfSome o Q
+if_some_weaker None P Q f h = tt
+if_some_weaker (Some x) P Q f h = f x h

@@ -6,3 +6,5 @@ pub mod Ranges
 pub mod Said
 pub mod Ascents
 pub mod Growths
+pub mod Plans
+pub mod Puts

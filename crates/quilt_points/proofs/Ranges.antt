@@ -70,7 +70,7 @@ le_depth a b l p c h =
     ⊎_elim (λ lt. absurd (both_ways (is_le (key_cmp a b)) (gt_not_le b a (ap is_lt (less_depth b a (sym l) (sym p) (sym c) lt))) h)) (λ ge. ge) (cases_lt b.depth a.depth)
 
 -- blocks of one corner and depth
-same_block : (n : ℕ) (a b : Block) → n ≤ 12 → (ha : IsBlock n a) → (hb : IsBlock n b) → code_from a ≡ code_from b → n - ha.level ≡ n - hb.level → a ≡ b
+pub same_block : (n : ℕ) (a b : Block) → n ≤ 12 → (ha : IsBlock n a) → (hb : IsBlock n b) → code_from a ≡ code_from b → n - ha.level ≡ n - hb.level → a ≡ b
 same_block n a b le ha hb e f =
     let m = side_most n le in
     let ax = ha.in_x in

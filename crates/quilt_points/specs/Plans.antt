@@ -1,5 +1,7 @@
 -- The records that go and come when the points of a layer become others.
-use Rattle.std.specs.Prelude.{◌≡◌, ℕ, true, List, Contains, Some}
+use Rattle.std.specs.Prelude.{◌≡◌, ◌≢◌, ℕ, true, List, Contains, All, AllPairs, fold, Some, None}
+use Rattle.std.specs.FinMap as finmap
+use Rattle.quilt_types.specs.declared.plane.Point.{Point}
 use Rattle.quilt_types.specs.Layers.{Points, PointMap, IsPointMap}
 use Rattle.quilt_record.specs.declared.record.Record.{Record}
 use Rattle.quilt_record.specs.declared.edits.Edits.{Edits}
@@ -29,3 +31,12 @@ pub record CanBeEdits (remove add : List Record) : Type 0 where
   pub remove_keys : HaveOwnKeys remove
   pub add_keys : HaveOwnKeys add
   pub apart : (r : Record) → Contains remove r → Contains add r → ⊥
+
+-- the points are at different pixels, and none is at a pixel that has a point
+pub record AreNew (points : PointMap) (news : List Point) : Type 0 where
+  pub differ : AllPairs (λ p q. p.at ≢ q.at) news
+  pub free : All (λ p. finmap.get points p.at ≡ None) news
+
+-- the map with these points too
+abbrev pub with_points : PointMap → List Point → PointMap
+with_points points news = fold (λ now p. finmap.insert now p.at p.label) points news

@@ -6,6 +6,8 @@ mod edits;
 mod growing;
 mod layer;
 mod listing;
+mod planning;
 mod reading;
 
+pub use planning::plan_put;
 pub use reading::find;

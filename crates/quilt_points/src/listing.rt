@@ -1,8 +1,8 @@
-ghost use Rattle.std.specs.Prelude.{◌≡◌, ◌≤◌, ◌++◌, true, All, Contains, Option, IfOk, IfErr, IfSome, IsErrOf, MatchOption, OnOk};
+ghost use Rattle.std.specs.Prelude.{◌≡◌, ◌<◌, ◌≤◌, ◌++◌, true, All, Contains, Option, IfOk, IfErr, IfSome, IsErrOf, MatchOption, OnOk};
 ghost use Rattle.std.specs.Option.{option_to_list};
 ghost use Rattle.quilt_types.specs.declared.plane.Point.{Point as AnyPoint};
 ghost use Rattle.quilt_types.specs.declared.stop.Stop.TheVariants.{Device};
-ghost use Rattle.quilt_types.specs.Plane.{is_pixel, IsBlock};
+ghost use Rattle.quilt_types.specs.Plane.{side, is_pixel, in_block, IsBlock};
 ghost use Rattle.quilt_types.specs.Layers.{PointMap, IsPointMap};
 ghost use Rattle.quilt_types.specs.Quadtrees.{point_blocks};
 ghost use Rattle.quilt_btree.specs.Stops.{HasStopCause, IsSound};
@@ -11,12 +11,19 @@ ghost use Rattle.quilt_points.specs.Layers.{HasPoints};
 ghost use Rattle.quilt_points.specs.Reads.{AreRecordsOf, IsHeld, IsRow};
 
 use crate::layer::PointLayer;
-use crate::reading::{DAMAGED, block_of};
+use crate::reading::{DAMAGED, block_around, block_of};
 use quilt_btree::Tree;
 use quilt_record::{Key, Record, point_record};
 use quilt_store::PageStore;
-use quilt_types::{Block, Point, Stop};
+use quilt_types::{Block, Pixel, Point, Stop};
 use std::alloc::Global;
+
+/// A block of a point layer with its points.
+#[derive(Drop)]
+pub(crate) struct Leaf {
+    pub block: Block,
+    pub points: Vec<Point>,
+}
 
 /// The points of a block, from the block's records: None exactly where it is none of the layer's blocks.
 pub(crate) fn points_of<S: PageStore>(
@@ -102,4 +109,37 @@ fn is_same(a: Block, b: Block) -> bool
     ensures no { a ≡ b → result ≡ true }
 {
     a == b
+}
+
+/// The block of the layer that holds a pixel, with its points.
+pub(crate) fn leaf_around<S: PageStore>(
+    alloc: Global,
+    store: &mut S,
+    tree: &Tree,
+    layer: PointLayer,
+    at: Pixel,
+) -> Result<Leaf, Stop>
+    requires rooted { IsRooted (S.size store.old) tree.now }
+    requires in_x { at.x < side layer.level }
+    requires in_y { at.y < side layer.level }
+    ensures read { IfOk result (λ leaf. (points : PointMap) → HasPoints (S.told store.old) tree.now layer.number layer.level layer.bucket points → IsHeld layer.level layer.bucket points leaf.block leaf.points.items) }
+    ensures block { IfOk result (λ leaf. IsBlock layer.level leaf.block) }
+    ensures holds { IfOk result (λ leaf. in_block leaf.block at ≡ true) }
+    ensures pixels { IfOk result (λ leaf. All (λ p. is_pixel layer.level p.at ≡ true) leaf.points.items) }
+    ensures sound { IfErr result (λ e. (points : PointMap) → HasPoints (S.told store.old) tree.now layer.number layer.level layer.bucket points → IsSound e) }
+    ensures cause { HasStopCause (S.faults store.old) (S.faults store.new) result }
+    ensures size { S.size store.new ≡ S.size store.old }
+    ensures told { S.told store.new ≡ S.told store.old }
+    ensures free { S.free store.new ≡ S.free store.old }
+    ensures later { S.later store.old store.new }
+    ensures changed { S.changed store.new ≤ S.changed store.old }
+{
+    match block_around(store, tree, layer, at) {
+        Err(e) => Err(e),
+        Ok((block, _)) => match points_of(alloc, store, tree, layer, block) {
+            Err(e) => Err(e),
+            Ok(None) => Err(DAMAGED),
+            Ok(Some(points)) => Ok(Leaf { block, points }),
+        },
+    }
 }

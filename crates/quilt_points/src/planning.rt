@@ -1,0 +1,123 @@
+ghost use Rattle.std.specs.Prelude.{◌≡◌, ◌<◌, ◌≤◌, ◌↔◌, ◌^◌, ℕ, true, [], ◌∷◌, map, All, Contains, IfOk, IfErr, IfSome, IsNone, IsSome, IsErrOf};
+ghost use Rattle.std.specs.FinMap as finmap;
+ghost use Rattle.quilt_types.specs.declared.plane.Point.{Point as AnyPoint};
+ghost use Rattle.quilt_types.specs.declared.stop.Stop.TheVariants.{Device};
+ghost use Rattle.quilt_types.specs.Plane.{side, is_pixel, in_block, IsBlock};
+ghost use Rattle.quilt_types.specs.Layers.{PointMap, IsPointMap};
+ghost use Rattle.quilt_btree.specs.Stops.{HasStopCause, IsSound};
+ghost use Rattle.quilt_btree.specs.Trees.{IsRooted};
+ghost use Rattle.quilt_points.specs.Layers.{HasPoints, entries_of, block_record};
+ghost use Rattle.quilt_points.specs.Reads.{IsHeld};
+ghost use Rattle.quilt_points.specs.Growing.{gone_of, come_of};
+ghost use Rattle.quilt_points.specs.Plans.{IsPlan, AreInOrder};
+
+use crate::edits::edits_of;
+use crate::growing::{Growth, add_growth};
+use crate::layer::PointLayer;
+use crate::listing::leaf_around;
+use quilt_btree::Tree;
+use quilt_record::Edits;
+use quilt_store::PageStore;
+use quilt_types::{Block, Pixel, Point, Stop};
+use std::alloc::{AllocError, Global};
+
+/// The records that go and those that come, each in the order of their keys, when a point comes to a pixel of the point layer
+/// with this number, from 1 to 255, of a map of this level, from 1 to 12, whose blocks hold at most `bucket` points, from 1
+/// to 16: None exactly where a point is there. It reads the block that holds the pixel.
+pub fn plan_put<S: PageStore>(
+    alloc: Global,
+    store: &mut S,
+    tree: &Tree,
+    layer: u8,
+    level: u8,
+    bucket: u8,
+    at: Pixel,
+    label: u32,
+) -> Result<Option<Edits>, Stop>
+    requires rooted { IsRooted (S.size store.old) tree.now }
+    requires layer { 1 ≤ layer }
+    requires level { (1 ≤ level) × (level ≤ 12) }
+    requires bucket { (1 ≤ bucket) × (bucket ≤ 16) }
+    requires in_x { at.x < side level }
+    requires in_y { at.y < side level }
+    ensures plan { IfOk result (λ o. IfSome o (λ edits. (points : PointMap) → HasPoints (S.told store.old) tree.now layer level bucket points → IsPlan level layer bucket points (finmap.insert points at label) edits)) }
+    ensures none { IfOk result (λ o. (points : PointMap) → HasPoints (S.told store.old) tree.now layer level bucket points → IsNone o ↔ IsSome (finmap.get points at)) }
+    ensures order { IfOk result (λ o. IfSome o AreInOrder) }
+    ensures sound { IfErr result (λ e. (points : PointMap) → HasPoints (S.told store.old) tree.now layer level bucket points → IsSound e) }
+    ensures cause { HasStopCause (S.faults store.old) (S.faults store.new) result }
+    ensures size { S.size store.new ≡ S.size store.old }
+    ensures told { S.told store.new ≡ S.told store.old }
+    ensures free { S.free store.new ≡ S.free store.old }
+    ensures later { S.later store.old store.new }
+    ensures changed { S.changed store.new ≤ S.changed store.old }
+{
+    let layer = PointLayer {
+        number: layer,
+        level,
+        bucket,
+    };
+    match leaf_around(alloc, store, tree, layer, at) {
+        Err(e) => Err(e),
+        Ok(leaf) => put_into(alloc, layer, leaf.block, &leaf.points, Point { at, label }),
+    }
+}
+
+/// What changes when a point comes into the block that holds its pixel.
+fn put_into(
+    alloc: Global,
+    layer: PointLayer,
+    b: Block,
+    held: &[Point],
+    p: Point,
+) -> Result<Option<Edits>, Stop>
+    requires block { IsBlock layer.level b }
+    requires held { All (λ q. is_pixel layer.level q.at ≡ true) held.now }
+    requires pixel { is_pixel layer.level p.at ≡ true }
+    requires label { p.label < 2 ^ 32 }
+    ensures plan { IfOk result (λ o. IfSome o (λ edits. (points : PointMap) → IsPointMap 2 layer.level layer.bucket points → IsHeld layer.level layer.bucket points b held.now → in_block b p.at ≡ true → IsPlan layer.level layer.number layer.bucket points (finmap.insert points p.at p.label) edits)) }
+    ensures none { IfOk result (λ o. (points : PointMap) → IsHeld layer.level layer.bucket points b held.now → in_block b p.at ≡ true → IsNone o ↔ IsSome (finmap.get points p.at)) }
+    ensures order { IfOk result (λ o. IfSome o AreInOrder) }
+    ensures sound { IfErr result (λ e. (points : PointMap) → IsPointMap 2 layer.level layer.bucket points → IsHeld layer.level layer.bucket points b held.now → in_block b p.at ≡ true → IsSound e) }
+    ensures no_fault { IsErrOf result Device → ⊥ }
+{
+    if has_point(held, p.at) {
+        return Ok(None);
+    }
+    match growth_of(alloc, layer, b, held, p) {
+        Err(_) => Err(Stop::Memory),
+        Ok(growth) => match edits_of(alloc, growth.without, growth.with) {
+            Err(e) => Err(e),
+            Ok(edits) => Ok(Some(edits)),
+        },
+    }
+}
+
+/// The records of a block that change when one point comes into it.
+fn growth_of(
+    alloc: Global,
+    layer: PointLayer,
+    b: Block,
+    held: &[Point],
+    p: Point,
+) -> Result<Growth, AllocError>
+    requires block { IsBlock layer.level b }
+    requires held { All (λ q. is_pixel layer.level q.at ≡ true) held.now }
+    requires pixel { is_pixel layer.level p.at ≡ true }
+    ensures without { IfOk result (λ growth. growth.without.items ≡ map (block_record layer.level layer.bucket layer.number) (gone_of layer.bucket b (entries_of held.now) (entries_of (p ∷ [])))) }
+    ensures with { IfOk result (λ growth. (k : ℕ) → b.side ≡ 2 ^ k → growth.with.items ≡ map (block_record layer.level layer.bucket layer.number) (come_of layer.bucket k b (entries_of held.now) (entries_of (p ∷ [])))) }
+{
+    let mut growth = Growth {
+        without: Vec::new(alloc),
+        with: Vec::new(alloc),
+    };
+    add_growth(alloc, &mut growth, layer, b, held, &[p])?;
+    Ok(growth)
+}
+
+/// Whether one of the points is at the pixel.
+fn has_point(points: &[Point], at: Pixel) -> bool
+    ensures yes { result ≡ true → (p : AnyPoint) × Contains points.now p × (p.at ≡ at) }
+    ensures no { (p : AnyPoint) → Contains points.now p → p.at ≡ at → result ≡ true }
+{
+    points.iter().any(|p| p.at == at)
+}
