@@ -301,3 +301,7 @@ match_some (Some y) P Q x e h = subst Q (some_same y x e) h
 pub if_some_weaker : {X : Type 0} (o : Option X) (P Q : X → Type 0) → ((x : X) → P x → Q x) → IfSome o P → IfSome o Q
 if_some_weaker None P Q f h = tt
 if_some_weaker (Some x) P Q f h = f x h
+
+pub if_some_at : {X : Type 0} (o : Option X) (P : X → Type 0) (x : X) → o ≡ Some x → IfSome o P → P x
+if_some_at None P x e h = absurd (none_some x e)
+if_some_at (Some y) P x e h = subst P (some_same y x e) h

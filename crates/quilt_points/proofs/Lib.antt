@@ -8,3 +8,6 @@ pub mod Ascents
 pub mod Growths
 pub mod Plans
 pub mod Puts
+pub mod Unions
+pub mod Ways
+pub mod Adds

@@ -1,8 +1,10 @@
 -- What is read of the blocks of a point layer.
-use Rattle.std.specs.Prelude.{◌≡◌, ◌↔◌, ℕ, List, map, Contains, Option, Some, None, if◌then◌else◌}
+use Rattle.std.specs.Prelude.{◌≡◌, ◌↔◌, ℕ, Bool, true, List, map, Contains, Option, Some, None, if◌then◌else◌}
 use Rattle.quilt_types.specs.declared.plane.Pixel.{Pixel}
 use Rattle.quilt_types.specs.declared.plane.Block.{Block}
 use Rattle.quilt_types.specs.declared.plane.Point.{Point}
+use Rattle.std.specs.FinMap as finmap
+use Rattle.quilt_types.specs.Plane.{in_block}
 use Rattle.quilt_types.specs.Layers.{PointMap}
 use Rattle.quilt_types.specs.Facts.{same_pixel, point_facts}
 use Rattle.quilt_types.specs.Quadtrees.{point_blocks}
@@ -43,3 +45,8 @@ pub record AreSaid (n capacity number : ℕ) (b : Block) (records : List Record)
   pub from : (p : Point) → Contains said p → (r : Record) × Contains records r × IsRow n capacity number b (Some p) r
   pub to : (r : Record) (p : Point) → Contains records r → IsRow n capacity number b (Some p) r → Contains said p
   pub once : Apart records → Apart said
+
+-- the points of a block whose pixels pass a test, each once
+pub record AreOf (points : PointMap) (test : Pixel → Bool) (b : Block) (held : List (Pixel × ℕ)) : Type 0 where
+  pub once : Apart held
+  pub members : (e : Pixel × ℕ) → Contains held e ↔ (Contains (finmap.entries points) e × (test e.0 ≡ true) × (in_block b e.0 ≡ true))

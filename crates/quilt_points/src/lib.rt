@@ -2,6 +2,7 @@
 //! come when points do (PR quadtrees with buckets, Samet 1990).
 #![tactic(auto)]
 
+mod climbing;
 mod edits;
 mod growing;
 mod layer;

@@ -104,7 +104,7 @@ fn add_point(points: &mut Vec<Point>, r: &Record, layer: PointLayer, b: Block) -
 }
 
 /// Whether two blocks are the same.
-fn is_same(a: Block, b: Block) -> bool
+pub(crate) fn is_same(a: Block, b: Block) -> bool
     ensures yes { result ≡ true → a ≡ b }
     ensures no { a ≡ b → result ≡ true }
 {
