@@ -117,14 +117,14 @@ pixel_in n p t = let w = and_parts (nat_lt p.x (side n)) (nat_lt p.y (side n)) t
 pub pixel_from : (n : ℕ) (p : Pixel) → p.x < side n → p.y < side n → is_pixel n p ≡ true
 pixel_from n p hx hy = and_from (nat_lt p.x (side n)) (nat_lt p.y (side n)) (lt-ltb p.x (side n) hx) (lt-ltb p.y (side n) hy)
 
-same_pixel_is : (p q : Pixel) → same_pixel p q ≡ true → p ≡ q
+pub same_pixel_is : (p q : Pixel) → same_pixel p q ≡ true → p ≡ q
 same_pixel_is p q t =
     let w = and_parts (p.x == q.x) (p.y == q.y) t in
     let x : p.x ≡ q.x = eqb-true p.x q.x w.0 in
     let y : p.y ≡ q.y = eqb-true p.y q.y w.1 in
     λ i. record { y = y i; x = x i }
 
-same_pixel_self : (p q : Pixel) → p ≡ q → same_pixel p q ≡ true
+pub same_pixel_self : (p q : Pixel) → p ≡ q → same_pixel p q ≡ true
 same_pixel_self p q e = ap (λ z. same_pixel z q) e ∙ all_same q
   where
     all_same : (q : Pixel) → same_pixel q q ≡ true

@@ -11,3 +11,5 @@ pub mod Puts
 pub mod Unions
 pub mod Ways
 pub mod Adds
+pub mod Dels
+pub mod Results

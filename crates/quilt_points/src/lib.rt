@@ -10,5 +10,5 @@ mod listing;
 mod planning;
 mod reading;
 
-pub use planning::plan_put;
+pub use planning::{plan_del, plan_put};
 pub use reading::find;
