@@ -13,3 +13,4 @@ pub mod Ways
 pub mod Adds
 pub mod Dels
 pub mod Results
+pub mod Spelled

@@ -42,7 +42,7 @@ same_map f g [] h = refl
 same_map f g (x ∷ xs) h = λ i. h x (Contains-here x xs) i ∷ same_map f g xs (λ y c. h y (Contains-there x xs y c)) i
 
 -- the record of a fact on a block does not depend on the name
-nameless : (n capacity number : ℕ) (name : List ℕ) (points : PointMap) (b : Block) (f : Fact) → IsOn points b f → record_of n capacity name number f ≡ block_record n capacity number f
+pub nameless : (n capacity number : ℕ) (name : List ℕ) (points : PointMap) (b : Block) (f : Fact) → IsOn points b f → record_of n capacity name number f ≡ block_record n capacity number f
 nameless n capacity number name points b (HoldsPoint d q k) o = refl
 nameless n capacity number name points b (HoldsNoPoint d) o = refl
 nameless n capacity number name points b f o = absurd o

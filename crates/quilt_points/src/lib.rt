@@ -5,10 +5,12 @@
 mod climbing;
 mod edits;
 mod growing;
+mod laws;
 mod layer;
 mod listing;
 mod planning;
 mod reading;
 
+pub use laws::points_laws;
 pub use planning::{plan_del, plan_put};
 pub use reading::find;
