@@ -1,0 +1,14 @@
+pub mod Narrowing
+pub mod Counts
+pub mod OnBlocks
+pub mod LocalFacts
+pub mod Climbs
+pub mod Spreads
+pub mod Cuts
+pub mod Leads
+pub mod Orders
+pub mod Plans
+pub mod Merging
+pub mod Scattering
+pub mod Finding
+pub mod Stepping

@@ -1,0 +1,6 @@
+pub mod Swapping
+pub mod Local
+pub mod Climbing
+pub mod Spreading
+pub mod Plans
+pub mod Laws

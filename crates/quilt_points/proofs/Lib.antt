@@ -1,0 +1,16 @@
+pub mod Shapes
+pub mod Records
+pub mod Floors
+pub mod Finds
+pub mod Ranges
+pub mod Said
+pub mod Ascents
+pub mod Growths
+pub mod Plans
+pub mod Puts
+pub mod Unions
+pub mod Ways
+pub mod Adds
+pub mod Dels
+pub mod Results
+pub mod Spelled

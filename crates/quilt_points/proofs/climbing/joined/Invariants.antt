@@ -1,0 +1,21 @@
+use Rattle.std.proofs.Common.{◌≡◌, ℕ, ◌≤◌, true, All, take, Option, Some}
+use Rattle.std.specs.FinMap as finmap
+use Rattle.quilt_types.specs.declared.plane.Pixel.{Pixel}
+use Rattle.quilt_types.specs.Plane.{is_pixel}
+use Rattle.quilt_types.specs.Layers.{PointMap}
+use Rattle.quilt_points.specs.Layers.{HasPoints, entries_of}
+use Rattle.quilt_points.specs.Climbing.{IsOnWay}
+use Rattle.quilt_points.proofs.Unions.{AreOfAll}
+use Rattle.quilt_points.proofs.climbing.joined.Given as goal
+
+abbrev pub invariant-loop-q : goal.invariant-loop-q
+invariant-loop-q g l = record {
+  all : (points : PointMap) (p : Pixel) (label : ℕ) → HasPoints (g.S.PageStore.told l.initial.store) l.tree l.layer.number l.layer.level l.layer.bucket points → finmap.get points p ≡ Some label → IsOnWay l.layer.level l.layer.bucket points p l.leaf.block l.leaf.points.items → AreOfAll (finmap.remove points p) (λ q. true) (take l.q-index l.q-items) (entries_of l.all.items);
+  pixels : All (λ p. is_pixel l.layer.level p.at ≡ true) l.all.items;
+  faults : g.S.PageStore.faults l.initial.store ≤ g.S.PageStore.faults l.store;
+  size : g.S.PageStore.size l.store ≡ g.S.PageStore.size l.initial.store;
+  told : g.S.PageStore.told l.store ≡ g.S.PageStore.told l.initial.store;
+  free : g.S.PageStore.free l.store ≡ g.S.PageStore.free l.initial.store;
+  later : g.S.PageStore.later l.initial.store l.store;
+  changed : g.S.PageStore.changed l.store ≤ g.S.PageStore.changed l.initial.store;
+}

@@ -1,0 +1,46 @@
+use Rattle.std.proofs.Common.{◌≡◌, ℕ, ◌<◌, ◌≤◌, true, false, List, length, Option, None, Some, refl, sym, ◌∙◌, ap, subst, arith}
+use Rattle.std.specs.FinMap as finmap
+use Rattle.quilt_types.specs.declared.plane.Block.{Block}
+use Rattle.quilt_types.specs.declared.plane.Point.{Point}
+use Rattle.quilt_types.specs.Plane.{parent_of, IsBlock}
+use Rattle.quilt_types.specs.Quadtrees.{holds_few}
+use Rattle.quilt_loc.proofs.Nesting.{IsBlock-parent_of}
+use Rattle.quilt_point_laws.specs.Laws.{AreIn}
+use Rattle.quilt_points.specs.Layers.{entries_of}
+use Rattle.quilt_points.specs.Climbing.{IsOnWay}
+use Rattle.quilt_points.proofs.Finds.{match_none, match_some, if_some_at, none_some}
+use Rattle.quilt_points.proofs.Ways.{way_last, way_up, way_many, inner_from}
+use Rattle.quilt_points.proofs.climbing.merged.Goals as goal
+
+true_false : true ≡ false → ⊥
+true_false e = cc
+
+pub returns-in_default-clause-last : goal.returns-in_default-clause-last
+returns-in_default-clause-last g c _ points p label h some way =
+    let whole = c.in_default.ensures.whole.0 refl in
+    way_last c.args.layer.level c.args.layer.bucket points p label some c.args.leaf.now.block c.args.leaf.now.points.items way (λ lt. absurd (omega arith))
+
+pub joined-requires-clause-inner : goal.joined-requires-clause-inner
+joined-requires-clause-inner g c = inner_from c.args.layer.level c.args.leaf.now.block c.requires.block (λ e. true_false (c.in-Some.ensures.whole.1 e))
+
+pub returns-then-not-are_few-clause-last : goal.returns-then-not-are_few-clause-last
+returns-then-not-are_few-clause-last g c _ points p label h some way =
+    way_last c.args.layer.level c.args.layer.bucket points p label some c.args.leaf.now.block c.args.leaf.now.points.items way (λ lt.
+    way_many c.args.layer.level c.args.layer.bucket points p label some c.args.leaf.now.block c.args.leaf.now.points.items way lt c.in-Ok-Some.points.items
+    (subst (λ (b : Block). AreIn (finmap.remove points p) b (entries_of c.in-Ok-Some.points.items)) c.in-Some.ensures.value
+    (if_some_at c.in-Ok-Some.field-0 _ c.in-Ok-Some.points c.in-Ok-Some.field-0-is c.in-Ok-Some.ensures.all points p label h some way)) (subst (λ (l : List Point). c.args.layer.bucket < length l) c.deref.ensures.value (c.are_few.ensures.no c.if-not-are_few.true)))
+
+pub returns-in-Ok-None-clause-last : goal.returns-in-Ok-None-clause-last
+returns-in-Ok-None-clause-last g c _ points p label h some way =
+    way_last c.args.layer.level c.args.layer.bucket points p label some c.args.leaf.now.block c.args.leaf.now.points.items way (λ lt.
+    ap (holds_few c.args.layer.bucket (finmap.remove points p)) (sym c.in-Some.ensures.value) ∙ c.in-Ok-None.ensures.none c.in-Ok-None.field-0-is points p label h some way)
+
+pub returns-else-not-are_few-clause-up : goal.returns-else-not-are_few-clause-up
+returns-else-not-are_few-clause-up g c points p label h some way =
+    subst (λ (b : Block). IsOnWay c.args.layer.level c.args.layer.bucket points p b c.in-Ok-Some.points.items) (sym c.in-Some.ensures.value)
+    (way_up c.args.layer.level c.args.layer.bucket points p label some c.args.leaf.now.block c.args.leaf.now.points.items way (inner_from c.args.layer.level c.args.leaf.now.block c.requires.block (λ e. true_false (c.in-Some.ensures.whole.1 e))) c.in-Ok-Some.points.items
+    (subst (λ (b : Block). AreIn (finmap.remove points p) b (entries_of c.in-Ok-Some.points.items)) c.in-Some.ensures.value
+    (if_some_at c.in-Ok-Some.field-0 _ c.in-Ok-Some.points c.in-Ok-Some.field-0-is c.in-Ok-Some.ensures.all points p label h some way)) (subst (λ (l : List Point). length l ≤ c.args.layer.bucket) c.deref.ensures.value (c.are_few.ensures.yes c.if-not-are_few.false)))
+
+pub returns-else-not-are_few-clause-block : goal.returns-else-not-are_few-clause-block
+returns-else-not-are_few-clause-block g c = subst (IsBlock c.args.layer.level) (sym c.in-Some.ensures.value) (IsBlock-parent_of c.args.layer.level c.args.leaf.now.block c.requires.block (inner_from c.args.layer.level c.args.leaf.now.block c.requires.block (λ e. true_false (c.in-Some.ensures.whole.1 e))))

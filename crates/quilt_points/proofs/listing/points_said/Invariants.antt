@@ -1,0 +1,10 @@
+use Rattle.std.proofs.Common.{◌≡◌, true, All, take}
+use Rattle.quilt_types.specs.Plane.{is_pixel}
+use Rattle.quilt_points.specs.Reads.{AreSaid}
+use Rattle.quilt_points.proofs.listing.points_said.Given as goal
+
+abbrev pub invariant-loop-r : goal.invariant-loop-r
+invariant-loop-r l = record {
+  said : AreSaid l.layer.level l.layer.bucket l.layer.number l.b (take l.r-index l.records) l.points.items;
+  pixels : All (λ p. is_pixel l.layer.level p.at ≡ true) l.points.items;
+}

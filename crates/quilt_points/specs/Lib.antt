@@ -1,0 +1,6 @@
+pub mod Layers
+pub mod Reads
+pub mod Growing
+pub mod Climbing
+pub mod Plans
+pub mod Laws

@@ -1,0 +1,145 @@
+ghost use Rattle.std.specs.Prelude.{◌≡◌, ◌<◌, ◌≤◌, ◌++◌, true, All, Contains, Option, IfOk, IfErr, IfSome, IsErrOf, MatchOption, OnOk};
+ghost use Rattle.std.specs.Option.{option_to_list};
+ghost use Rattle.quilt_types.specs.declared.plane.Point.{Point as AnyPoint};
+ghost use Rattle.quilt_types.specs.declared.stop.Stop.TheVariants.{Device};
+ghost use Rattle.quilt_types.specs.Plane.{side, is_pixel, in_block, IsBlock};
+ghost use Rattle.quilt_types.specs.Layers.{PointMap, IsPointMap};
+ghost use Rattle.quilt_types.specs.Quadtrees.{point_blocks};
+ghost use Rattle.quilt_btree.specs.Stops.{HasStopCause, IsSound};
+ghost use Rattle.quilt_btree.specs.Trees.{IsRooted};
+ghost use Rattle.quilt_points.specs.Layers.{HasPoints};
+ghost use Rattle.quilt_points.specs.Reads.{AreRecordsOf, IsHeld, IsRow};
+
+use crate::layer::PointLayer;
+use crate::reading::{DAMAGED, block_around, block_of};
+use quilt_btree::Tree;
+use quilt_record::{Key, Record, point_record};
+use quilt_store::PageStore;
+use quilt_types::{Block, Pixel, Point, Stop};
+use std::alloc::Global;
+
+/// A block of a point layer with its points.
+#[derive(Drop)]
+pub(crate) struct Leaf {
+    pub block: Block,
+    pub points: Vec<Point>,
+}
+
+/// The points of a block, from the block's records: None exactly where it is none of the layer's blocks.
+pub(crate) fn points_of<S: PageStore>(
+    alloc: Global,
+    store: &mut S,
+    tree: &Tree,
+    layer: PointLayer,
+    b: Block,
+) -> Result<Option<Vec<Point>>, Stop>
+    requires rooted { IsRooted (S.size store.old) tree.now }
+    requires block { IsBlock layer.level b }
+    ensures read { IfOk result (λ o. (points : PointMap) → HasPoints (S.told store.old) tree.now layer.number layer.level layer.bucket points → MatchOption o (Contains (point_blocks layer.level layer.bucket points) b → ⊥) (λ v. IsHeld layer.level layer.bucket points b v.items)) }
+    ensures pixels { IfOk result (λ o. IfSome o (λ v. All (λ p. is_pixel layer.level p.at ≡ true) v.items)) }
+    ensures sound { IfErr result (λ e. (points : PointMap) → HasPoints (S.told store.old) tree.now layer.number layer.level layer.bucket points → IsSound e) }
+    ensures cause { HasStopCause (S.faults store.old) (S.faults store.new) result }
+    ensures size { S.size store.new ≡ S.size store.old }
+    ensures told { S.told store.new ≡ S.told store.old }
+    ensures free { S.free store.new ≡ S.free store.old }
+    ensures later { S.later store.old store.new }
+    ensures changed { S.changed store.new ≤ S.changed store.old }
+{
+    let low = point_record(layer.number, b, layer.level, layer.bucket, None).key;
+    let high = Key {
+        item: u32::MAX,
+        ..low
+    };
+    match tree.range(alloc, store, &low, &high, u32::from(layer.bucket)) {
+        Err(e) => Err(e),
+        Ok(records) => points_said(alloc, &records, layer, b),
+    }
+}
+
+/// The points that the records of a block say: None where there are no records.
+fn points_said(
+    alloc: Global,
+    records: &[Record],
+    layer: PointLayer,
+    b: Block,
+) -> Result<Option<Vec<Point>>, Stop>
+    ensures read { IfOk result (λ o. (points : PointMap) → IsPointMap 2 layer.level layer.bucket points → AreRecordsOf layer.level layer.bucket layer.number points b records.now → MatchOption o (Contains (point_blocks layer.level layer.bucket points) b → ⊥) (λ v. IsHeld layer.level layer.bucket points b v.items)) }
+    ensures pixels { IfOk result (λ o. IfSome o (λ v. All (λ p. is_pixel layer.level p.at ≡ true) v.items)) }
+    ensures sound { IfErr result (λ e. (points : PointMap) → IsPointMap 2 layer.level layer.bucket points → AreRecordsOf layer.level layer.bucket layer.number points b records.now → IsSound e) }
+    ensures no_fault { IsErrOf result Device → ⊥ }
+{
+    if records.is_empty() {
+        return Ok(None);
+    }
+    let mut points = Vec::new(alloc);
+    for r in records {
+        match add_point(&mut points, r, layer, b) {
+            Err(e) => return Err(e),
+            Ok(()) => {}
+        }
+    }
+    Ok(Some(points))
+}
+
+/// Adds the point that the record of a block says, if it says one.
+fn add_point(points: &mut Vec<Point>, r: &Record, layer: PointLayer, b: Block) -> Result<(), Stop>
+    ensures added { OnOk result ((held : Option AnyPoint) × IsRow layer.level layer.bucket layer.number b held r.now × (points.new.items ≡ points.old.items ++ option_to_list held)) }
+    ensures pixels { OnOk result (All (λ p. is_pixel layer.level p.at ≡ true) points.old.items → All (λ p. is_pixel layer.level p.at ≡ true) points.new.items) }
+    ensures sound { IfErr result (λ e. (held : Option AnyPoint) → IsRow layer.level layer.bucket layer.number b held r.now → IsSound e) }
+    ensures no_fault { IsErrOf result Device → ⊥ }
+{
+    let Some((block, held)) = block_of(r, layer) else {
+        return Err(DAMAGED);
+    };
+    if !is_same(block, b) {
+        return Err(DAMAGED);
+    }
+    let Some(p) = held else {
+        return Ok(());
+    };
+    match points.push(p) {
+        Ok(()) => Ok(()),
+        Err(_) => Err(Stop::Memory),
+    }
+}
+
+/// Whether two blocks are the same.
+pub(crate) fn is_same(a: Block, b: Block) -> bool
+    ensures yes { result ≡ true → a ≡ b }
+    ensures no { a ≡ b → result ≡ true }
+{
+    a == b
+}
+
+/// The block of the layer that holds a pixel, with its points.
+pub(crate) fn leaf_around<S: PageStore>(
+    alloc: Global,
+    store: &mut S,
+    tree: &Tree,
+    layer: PointLayer,
+    at: Pixel,
+) -> Result<Leaf, Stop>
+    requires rooted { IsRooted (S.size store.old) tree.now }
+    requires in_x { at.x < side layer.level }
+    requires in_y { at.y < side layer.level }
+    ensures read { IfOk result (λ leaf. (points : PointMap) → HasPoints (S.told store.old) tree.now layer.number layer.level layer.bucket points → IsHeld layer.level layer.bucket points leaf.block leaf.points.items) }
+    ensures block { IfOk result (λ leaf. IsBlock layer.level leaf.block) }
+    ensures holds { IfOk result (λ leaf. in_block leaf.block at ≡ true) }
+    ensures pixels { IfOk result (λ leaf. All (λ p. is_pixel layer.level p.at ≡ true) leaf.points.items) }
+    ensures sound { IfErr result (λ e. (points : PointMap) → HasPoints (S.told store.old) tree.now layer.number layer.level layer.bucket points → IsSound e) }
+    ensures cause { HasStopCause (S.faults store.old) (S.faults store.new) result }
+    ensures size { S.size store.new ≡ S.size store.old }
+    ensures told { S.told store.new ≡ S.told store.old }
+    ensures free { S.free store.new ≡ S.free store.old }
+    ensures later { S.later store.old store.new }
+    ensures changed { S.changed store.new ≤ S.changed store.old }
+{
+    match block_around(store, tree, layer, at) {
+        Err(e) => Err(e),
+        Ok((block, _)) => match points_of(alloc, store, tree, layer, block) {
+            Err(e) => Err(e),
+            Ok(None) => Err(DAMAGED),
+            Ok(Some(points)) => Ok(Leaf { block, points }),
+        },
+    }
+}
