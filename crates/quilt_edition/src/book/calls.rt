@@ -1,5 +1,5 @@
 ghost use Rattle.quilt_pool.specs.Views.{entries_of};
-ghost use Rattle.std.specs.Prelude.{◌≡◌, ℕ, ◌+◌, ◌*◌, ◌≤◌, length, Some, None, [], ◌∷◌, ◌++◌, ◌⊎◌, ◌<◌, true, false, take, refl, IfOk, IfSome, OnOk, OnErr, slice_set};
+ghost use Rattle.std.specs.Prelude.{◌≡◌, ◌↔◌, IsTrue, ℕ, ◌+◌, ◌*◌, ◌≤◌, length, Some, None, [], ◌∷◌, ◌++◌, ◌⊎◌, ◌<◌, true, false, take, refl, IfOk, IfSome, OnOk, OnErr, slice_set};
 ghost use Rattle.std.specs.Map.{keys_of};
 ghost use Rattle.quilt_world.specs.Tale.{Adds, Goes};
 ghost use Rattle.quilt_world.specs.Doors.{TakesFrom};
@@ -11,7 +11,7 @@ ghost use Rattle.quilt_journal.specs.Writing.{Writing};
 ghost use Rattle.quilt_journal.specs.Kept.{published};
 ghost use Rattle.quilt_node.specs.Pages.{IsHead, header_bytes};
 ghost use Rattle.quilt_journal.specs.declared.journal.State.TheVariants.{Idle};
-ghost use Rattle.quilt_edition.specs.Books.{world_of, pages_of, last_of, work_of, next_of, published_free, IsReady, Publishes, HasPublished, SameBut};
+ghost use Rattle.quilt_edition.specs.Books.{world_of, pages_of, last_of, work_of, next_of, published_free, IsReady, GoesOn, Publishes, HasPublished, SameBut};
 ghost use Rattle.quilt_journal.specs.Changed.{has_bit};
 ghost use Rattle.quilt_pool.specs.Entries.{AreBelow};
 ghost use Rattle.quilt_edition.specs.Keeping.{IsKeptBy, told_pages, reads_of, is_free, is_left_out, marked_count, IsLater};
@@ -19,7 +19,7 @@ ghost use Rattle.quilt_edition.specs.Keeping.{IsKeptBy, told_pages, reads_of, is
 use crate::book::Book;
 use crate::free::others_of;
 use crate::publish::publish_pages;
-use quilt_journal::Journal;
+use quilt_journal::{Journal, State};
 use quilt_node::{Head, header_bytes};
 use quilt_pool::Pool;
 use quilt_store::PageStore;
@@ -58,8 +58,10 @@ impl<W: Disk> Book<W> {
         requires ready { IsReady self.old }
         ensures head { work_of self.new ≡ last_of self.old }
         ensures free { (page : ℕ) → ⟦<Book<W> as PageStore>⟧.free self.new page ≡ published_free self.old page }
-        ensures later { ⟦<Book<W> as PageStore>⟧.later self.old self.new }
+        ensures world { world_of self.new ≡ world_of self.old }
+        ensures goes_on { GoesOn self.old self.new }
         ensures ready { IsReady self.new }
+        ensures used { published_free self.new ≡ published_free self.old }
         ensures changed { ⟦<Book<W> as PageStore>⟧.changed self.new ≡ 0 }
         ensures told { IfSome (W.told (world_of self.new)) (λ t. ⟦<Book<W> as PageStore>⟧.told self.new ≡ Some (published t (pages_of self.new))) }
     {
@@ -76,7 +78,8 @@ impl<W: Disk> Book<W> {
         ensures free { (page : ℕ) → ⟦<Book<W> as PageStore>⟧.free self.new page ≡ is_left_out (pages_of self.old) used.now page }
         ensures used { (page : ℕ) → published_free self.new page ≡ is_left_out (pages_of self.old) used.now page }
         ensures told { ⟦<Book<W> as PageStore>⟧.told self.new ≡ ⟦<Book<W> as PageStore>⟧.told self.old }
-        ensures later { ⟦<Book<W> as PageStore>⟧.later self.old self.new }
+        ensures world { world_of self.new ≡ world_of self.old }
+        ensures goes_on { GoesOn self.old self.new }
         ensures heads { (last_of self.new ≡ last_of self.old) × (work_of self.new ≡ work_of self.old) }
         ensures changed { ⟦<Book<W> as PageStore>⟧.changed self.new ≡ 0 }
     {
@@ -93,11 +96,22 @@ impl<W: Disk> Book<W> {
         self.work
     }
 
+    /// Whether no publish has failed behind its first write.
+    pub fn is_ready(&self) -> bool
+        ensures { IsTrue result ↔ IsReady self.now }
+    {
+        self.journal.state() == State::Idle
+    }
+
     /// States the tree of the work.
     pub fn set_tree(&mut self, root: u32, height: u8, records: u32)
         requires { IsHead (pages_of self.old) (record (work_of self.old) { root = root; height = height; records = records }) }
         ensures work { work_of self.new ≡ record (work_of self.old) { root = root; height = height; records = records } }
-        ensures later { ⟦<Book<W> as PageStore>⟧.later self.old self.new }
+        ensures used { published_free self.new ≡ published_free self.old }
+        ensures free { ⟦<Book<W> as PageStore>⟧.free self.new ≡ ⟦<Book<W> as PageStore>⟧.free self.old }
+        ensures changed { ⟦<Book<W> as PageStore>⟧.changed self.new ≡ ⟦<Book<W> as PageStore>⟧.changed self.old }
+        ensures world { world_of self.new ≡ world_of self.old }
+        ensures goes_on { GoesOn self.old self.new }
         ensures told { ⟦<Book<W> as PageStore>⟧.told self.new ≡ ⟦<Book<W> as PageStore>⟧.told self.old }
     {
         self.work = Head {
@@ -112,9 +126,11 @@ impl<W: Disk> Book<W> {
     pub fn raise(&mut self)
         ensures work { work_of self.new ≡ record (work_of self.old) { format = 2 } }
         ensures last { last_of self.new ≡ last_of self.old }
+        ensures used { published_free self.new ≡ published_free self.old }
         ensures free { ⟦<Book<W> as PageStore>⟧.free self.new ≡ ⟦<Book<W> as PageStore>⟧.free self.old }
         ensures changed { ⟦<Book<W> as PageStore>⟧.changed self.new ≡ ⟦<Book<W> as PageStore>⟧.changed self.old }
-        ensures later { ⟦<Book<W> as PageStore>⟧.later self.old self.new }
+        ensures world { world_of self.new ≡ world_of self.old }
+        ensures goes_on { GoesOn self.old self.new }
         ensures told { ⟦<Book<W> as PageStore>⟧.told self.new ≡ ⟦<Book<W> as PageStore>⟧.told self.old }
     {
         self.work.format = 2;
