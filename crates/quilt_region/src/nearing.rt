@@ -151,7 +151,12 @@ fn has_quarter<S: PageStore>(
     }
     match leaf_with(store, tree, layer, level, Pixel { x: q.x, y: q.y }) {
         Err(e) => Err(e),
-        Ok(leaf) => Ok(leaf == (Leaf { block: q, colour: c })),
+        Ok(leaf) => Ok(
+            leaf == (Leaf {
+                block: q,
+                colour: c,
+            }),
+        ),
     }
 }
 
