@@ -1,11 +1,11 @@
 -- What contracts see of a book.
 use Rattle.std.specs.Prelude.{◌≡◌, ℕ, ◌+◌, Bool}
-use Rattle.quilt_world.specs.Tale.{Tale}
+use Rattle.quilt_world.specs.Tale.{Tale, Goes}
 use Rattle.quilt_world.specs.declared.disk.Disk as disk
 use Rattle.quilt_journal.specs.declared.journal.State.TheVariants.{Idle}
 use Rattle.quilt_node.specs.declared.head.Head.{Head}
 use Rattle.quilt_node.specs.Pages.{header_bytes}
-use Rattle.quilt_edition.specs.Keeping.{is_left_out}
+use Rattle.quilt_edition.specs.Keeping.{is_left_out, IsLater}
 use Rattle.quilt_edition.specs.Publishing.{Publishing, IsPublished}
 use Rattle.quilt_edition.specs.declared.book.Book.{Book}
 
@@ -35,6 +35,12 @@ module _ {W : Type 0} {D : disk.Ghosts W} where
   -- no publish has failed behind its first write
   abbrev pub IsReady : Book W D → Type 0
   IsReady b = b.journal.state ≡ Idle
+
+  -- It goes on over the same edition: its size, the journal's state, the last edition's header and the door are the same, and the log goes on with
+  -- writes that leave the published pages.
+  abbrev pub GoesOn : Book W D → Book W D → Type 0
+  GoesOn a b = (b.journal.pages ≡ a.journal.pages) × (b.journal.state ≡ a.journal.state) × (b.last ≡ a.last) × (D.door b.world ≡ D.door a.world)
+      × Goes (IsLater a.journal.pages) (D.told a.world) (D.told b.world)
 
   -- a stop leaves the published pages, or the work's under the next header
   abbrev pub Publishes : Book W D → Tale → Tale → Type 0

@@ -1,13 +1,2 @@
-pub mod Answering
-pub mod Built
 pub mod Fronts
-pub mod Laws
-pub mod MapOf
-pub mod Paints
-pub mod Quotas
-pub mod Refusals
-pub mod Rows
-pub mod Sessions
-pub mod Shown
 pub mod TextLaws
-pub mod Works

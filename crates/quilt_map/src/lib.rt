@@ -1,13 +1,9 @@
-//! The reply to each command, and the work that it leaves.
+//! The reply to each command, the work that it leaves, and the editions that are published.
 #![tactic(auto)]
 
-mod commands;
-mod layer;
 mod reply;
 mod session;
 mod settled;
-mod show;
-mod work;
 
 pub use reply::Reply;
 pub use session::Session;

@@ -11,7 +11,7 @@ ghost use Rattle.quilt_journal.specs.Writing.{Writing};
 ghost use Rattle.quilt_journal.specs.Kept.{published};
 ghost use Rattle.quilt_node.specs.Pages.{IsHead, header_bytes};
 ghost use Rattle.quilt_journal.specs.declared.journal.State.TheVariants.{Idle};
-ghost use Rattle.quilt_edition.specs.Books.{world_of, pages_of, last_of, work_of, next_of, published_free, IsReady, Publishes, HasPublished, SameBut};
+ghost use Rattle.quilt_edition.specs.Books.{world_of, pages_of, last_of, work_of, next_of, published_free, IsReady, GoesOn, Publishes, HasPublished, SameBut};
 ghost use Rattle.quilt_journal.specs.Changed.{has_bit};
 ghost use Rattle.quilt_pool.specs.Entries.{AreBelow};
 ghost use Rattle.quilt_edition.specs.Keeping.{IsKeptBy, told_pages, reads_of, is_free, is_left_out, marked_count, IsLater};
@@ -58,8 +58,9 @@ impl<W: Disk> Book<W> {
         requires ready { IsReady self.old }
         ensures head { work_of self.new ≡ last_of self.old }
         ensures free { (page : ℕ) → ⟦<Book<W> as PageStore>⟧.free self.new page ≡ published_free self.old page }
-        ensures later { ⟦<Book<W> as PageStore>⟧.later self.old self.new }
+        ensures goes_on { GoesOn self.old self.new }
         ensures ready { IsReady self.new }
+        ensures used { published_free self.new ≡ published_free self.old }
         ensures changed { ⟦<Book<W> as PageStore>⟧.changed self.new ≡ 0 }
         ensures told { IfSome (W.told (world_of self.new)) (λ t. ⟦<Book<W> as PageStore>⟧.told self.new ≡ Some (published t (pages_of self.new))) }
     {
@@ -76,7 +77,7 @@ impl<W: Disk> Book<W> {
         ensures free { (page : ℕ) → ⟦<Book<W> as PageStore>⟧.free self.new page ≡ is_left_out (pages_of self.old) used.now page }
         ensures used { (page : ℕ) → published_free self.new page ≡ is_left_out (pages_of self.old) used.now page }
         ensures told { ⟦<Book<W> as PageStore>⟧.told self.new ≡ ⟦<Book<W> as PageStore>⟧.told self.old }
-        ensures later { ⟦<Book<W> as PageStore>⟧.later self.old self.new }
+        ensures goes_on { GoesOn self.old self.new }
         ensures heads { (last_of self.new ≡ last_of self.old) × (work_of self.new ≡ work_of self.old) }
         ensures changed { ⟦<Book<W> as PageStore>⟧.changed self.new ≡ 0 }
     {
@@ -97,7 +98,10 @@ impl<W: Disk> Book<W> {
     pub fn set_tree(&mut self, root: u32, height: u8, records: u32)
         requires { IsHead (pages_of self.old) (record (work_of self.old) { root = root; height = height; records = records }) }
         ensures work { work_of self.new ≡ record (work_of self.old) { root = root; height = height; records = records } }
-        ensures later { ⟦<Book<W> as PageStore>⟧.later self.old self.new }
+        ensures used { published_free self.new ≡ published_free self.old }
+        ensures free { ⟦<Book<W> as PageStore>⟧.free self.new ≡ ⟦<Book<W> as PageStore>⟧.free self.old }
+        ensures changed { ⟦<Book<W> as PageStore>⟧.changed self.new ≡ ⟦<Book<W> as PageStore>⟧.changed self.old }
+        ensures goes_on { GoesOn self.old self.new }
         ensures told { ⟦<Book<W> as PageStore>⟧.told self.new ≡ ⟦<Book<W> as PageStore>⟧.told self.old }
     {
         self.work = Head {
@@ -112,9 +116,10 @@ impl<W: Disk> Book<W> {
     pub fn raise(&mut self)
         ensures work { work_of self.new ≡ record (work_of self.old) { format = 2 } }
         ensures last { last_of self.new ≡ last_of self.old }
+        ensures used { published_free self.new ≡ published_free self.old }
         ensures free { ⟦<Book<W> as PageStore>⟧.free self.new ≡ ⟦<Book<W> as PageStore>⟧.free self.old }
         ensures changed { ⟦<Book<W> as PageStore>⟧.changed self.new ≡ ⟦<Book<W> as PageStore>⟧.changed self.old }
-        ensures later { ⟦<Book<W> as PageStore>⟧.later self.old self.new }
+        ensures goes_on { GoesOn self.old self.new }
         ensures told { ⟦<Book<W> as PageStore>⟧.told self.new ≡ ⟦<Book<W> as PageStore>⟧.told self.old }
     {
         self.work.format = 2;

@@ -24,5 +24,5 @@ returns-clause-free g c =
     λ page. ap (λ k. is_free k c.others_of-self.result page) same
     ∙ free_left_out s.journal.pages s.used c.others_of-self.result (left_out_named c.pages.result s.journal.pages s.used c.others_of-self.result (c.pages.ensures.pages ∙ same) c.others_of-self.ensures) page
 
-pub returns-clause-later : goal.returns-clause-later
-returns-clause-later g c = (c.clear_all.ensures.same.0, c.clear_all.ensures.same.1, refl, refl, later_same c.args.self.now.journal.pages (g.W.Disk.told c.args.self.now.world))
+pub returns-clause-goes_on : goal.returns-clause-goes_on
+returns-clause-goes_on g c = (c.clear_all.ensures.same.0, c.clear_all.ensures.same.1, refl, refl, later_same c.args.self.now.journal.pages (g.W.Disk.told c.args.self.now.world))

@@ -25,7 +25,7 @@ invariant_of-self g c =
     }
 
 pub returns-in_default-clause-later : goal.returns-in_default-clause-later
-returns-in_default-clause-later g c = (refl, refl, refl, refl, later_same c.args.self.now.journal.pages (g.W.Disk.told c.args.self.now.world))
+returns-in_default-clause-later g c = (refl, refl, (refl, refl, refl), refl, later_same c.args.self.now.journal.pages (g.W.Disk.told c.args.self.now.world))
 
 pub returns-in_default-clause-free : goal.returns-in_default-clause-free
 returns-in_default-clause-free g c = frees_only c.args.self.now.journal.pages c.args.self.now.free c.list_page.new.bits c.args.page true c.requires.page.0 c.requires.page.1 c.list_page.ensures
@@ -60,7 +60,7 @@ invariant_of-self-2 g c =
     }
 
 pub returns-clause-later : goal.returns-clause-later
-returns-clause-later g c = (c.clear.ensures.same.0, c.clear.ensures.same.1, refl, refl, later_same c.args.self.now.journal.pages (g.W.Disk.told c.args.self.now.world))
+returns-clause-later g c = (c.clear.ensures.same.0, c.clear.ensures.same.1, (refl, refl, refl), refl, later_same c.args.self.now.journal.pages (g.W.Disk.told c.args.self.now.world))
 
 pub returns-clause-told : goal.returns-clause-told
 returns-clause-told g c =

@@ -9,7 +9,7 @@ use Rattle.quilt_node.specs.Pages.{IsHead}
 use Rattle.quilt_edition.proofs.book.store.BookPageStore.read.Goals as goal
 
 pub returns-in_default-clause-later : goal.returns-in_default-clause-later
-returns-in_default-clause-later g c = (refl, refl, refl, refl, later_same c.args.self.now.journal.pages (g.W.Disk.told c.args.self.now.world))
+returns-in_default-clause-later g c = (refl, refl, (refl, refl, refl), refl, later_same c.args.self.now.journal.pages (g.W.Disk.told c.args.self.now.world))
 
 pub read-requires-clause-kept : goal.read-requires-clause-kept
 read-requires-clause-kept g c =
@@ -39,7 +39,7 @@ returns-in_err-read-clause-later g c =
     let s = c.args.self.now in (
       c.read.ensures.journal.0,
       c.read.ensures.journal.1,
-      refl,
+      (refl, refl, refl),
       c.read.ensures.door,
       later_moves s.journal c.read.new.journal s.pool.table.entries c.read.new.self.table.entries s.last (sym c.state.ensures ∙ c.in-Idle.is) c.read.ensures.journal.0 c.read.ensures.journal.1 _ _ _ _ (g.met.W.Disk.is_consistent s.world) (g.met.W.Disk.is_consistent c.read.new.disk) s.kept (goes_weaker _ (Moves s.journal.pages c.read.new.self.table.entries c.read.new.journal.changed) _ _ c.read.ensures.kept (of_keeps s.journal.pages s.pool.table.entries c.read.new.self.table.entries s.journal.changed c.read.new.journal.changed)),
     )
@@ -49,7 +49,7 @@ returns-clause-later g c =
     let s = c.args.self.now in (
       c.read.ensures.journal.0,
       c.read.ensures.journal.1,
-      refl,
+      (refl, refl, refl),
       c.read.ensures.door,
       later_moves s.journal c.read.new.journal s.pool.table.entries c.read.new.self.table.entries s.last (sym c.state.ensures ∙ c.in-Idle.is) c.read.ensures.journal.0 c.read.ensures.journal.1 _ _ _ _ (g.met.W.Disk.is_consistent s.world) (g.met.W.Disk.is_consistent c.read.new.disk) s.kept (goes_weaker _ (Moves s.journal.pages c.read.new.self.table.entries c.read.new.journal.changed) _ _ c.read.ensures.kept (of_keeps s.journal.pages s.pool.table.entries c.read.new.self.table.entries s.journal.changed c.read.new.journal.changed)),
     )

@@ -9,7 +9,7 @@ use Rattle.quilt_node.specs.Pages.{IsHead}
 use Rattle.quilt_edition.proofs.book.store.BookPageStore.write.Goals as goal
 
 pub returns-in_default-clause-later : goal.returns-in_default-clause-later
-returns-in_default-clause-later g c = (refl, refl, refl, refl, later_same c.args.self.now.journal.pages (g.W.Disk.told c.args.self.now.world))
+returns-in_default-clause-later g c = (refl, refl, (refl, refl, refl), refl, later_same c.args.self.now.journal.pages (g.W.Disk.told c.args.self.now.world))
 
 pub write-requires-clause-kept : goal.write-requires-clause-kept
 write-requires-clause-kept g c =
@@ -41,7 +41,7 @@ returns-in_err-write-clause-later g c =
     let s = c.args.self.now in (
       c.write.ensures.journal.0,
       c.write.ensures.journal.1,
-      refl,
+      (refl, refl, refl),
       c.write.ensures.door,
       later_moves s.journal c.write.new.journal s.pool.table.entries c.write.new.self.table.entries s.last (sym c.state.ensures ∙ c.in-Idle.is) c.write.ensures.journal.0 c.write.ensures.journal.1 _ _ _ _ (g.met.W.Disk.is_consistent s.world) (g.met.W.Disk.is_consistent c.write.new.disk) s.kept (goes_weaker _ (Moves s.journal.pages c.write.new.self.table.entries c.write.new.journal.changed) _ _ c.in_err-write.ensures.kept (of_keeps s.journal.pages s.pool.table.entries c.write.new.self.table.entries s.journal.changed c.write.new.journal.changed)),
     )
@@ -51,7 +51,7 @@ returns-clause-later g c =
     let s = c.args.self.now in (
       c.write.ensures.journal.0,
       c.write.ensures.journal.1,
-      refl,
+      (refl, refl, refl),
       c.write.ensures.door,
       later_moves s.journal c.write.new.journal s.pool.table.entries c.write.new.self.table.entries s.last (sym c.state.ensures ∙ c.in-Idle.is) c.write.ensures.journal.0 c.write.ensures.journal.1 _ _ _ _ (g.met.W.Disk.is_consistent s.world) (g.met.W.Disk.is_consistent c.write.new.disk) s.kept (goes_weaker _ (Moves s.journal.pages c.write.new.self.table.entries c.write.new.journal.changed) _ _ c.in_ok-write.ensures.changes (of_changes s.journal.pages c.args.page c.args.bytes.now s.pool.table.entries c.write.new.self.table.entries s.journal.changed c.write.new.journal.changed)),
     )
