@@ -1,7 +1,9 @@
+pub mod ChangeSteps
 pub mod Fronts
 pub mod Going
 pub mod Holding
 pub mod Keeping
 pub mod Laws
 pub mod Moving
+pub mod Plans
 pub mod TextLaws

@@ -55,12 +55,15 @@ module _ {W : Type 0} {D : disk.Ghosts W} where
   abbrev pub with_book : Session W D → Book W D → Session W D
   with_book s b = record { book = b; catalog = s.catalog; last = s.last; changes = s.changes; warm = s.warm; alloc = s.alloc }
 
-  pub published_as : (a b : Book W D) (t u : Tale) (entries : List Entry) (e : Edition) → b.journal.pages ≡ a.journal.pages → b.last ≡ a.last → b.used ≡ a.used
-      → published u b.journal.pages ≡ published t a.journal.pages → IsPublishedAs a t entries e → IsPublishedAs b u entries e
-  published_as a b t u entries e size last used same holds = record {
+  pub published_as : (a b : Book W D) (t u : Tale) (entries : List Entry) (e : Edition) → b.journal.pages ≡ a.journal.pages → b.last ≡ a.last
+      → books.published_free b ≡ books.published_free a → published u b.journal.pages ≡ published t a.journal.pages → IsPublishedAs a t entries e → IsPublishedAs b u entries e
+  published_as a b t u entries e size last free same holds = record {
     head = subst (λ (h : Head). IsHeadOf h e) (sym last) holds.head;
-    spelled = spelled_as _ _ _ _ _ _ _ _ entries e.layers (ap Some same) (ap (λ n. is_left_out n b.used) size ∙ ap (λ bits. is_left_out a.journal.pages bits) used) size last holds.spelled;
+    spelled = spelled_as _ _ _ _ _ _ _ _ entries e.layers (ap Some same) free size last holds.spelled;
   }
+
+  pub free_as : (a b : Book W D) → b.journal.pages ≡ a.journal.pages → b.used ≡ a.used → books.published_free b ≡ books.published_free a
+  free_as a b size used = ap (λ n. is_left_out n b.used) size ∙ ap (λ bits. is_left_out a.journal.pages bits) used
 
   pub counted_as : (a b : Book W D) → b.journal.pages ≡ a.journal.pages → b.pool ≡ a.pool → b.journal.changed ≡ a.journal.changed → changed_of b ≡ changed_of a
   counted_as a b size pool changed =
@@ -83,7 +86,7 @@ module _ {W : Type 0} {D : disk.Ghosts W} where
         told = new.1;
         lawful = law_of (D.size b.world) (D.told b.world) new.0 new.1 law;
         ready = ap (λ (j : View). j.state) same.journal ∙ at.ready;
-        last = published_as a b at.tale new.0 session.last s.last size same.last same.used pages at.last;
+        last = published_as a b at.tale new.0 session.last s.last size same.last (free_as a b size same.used) pages at.last;
         pages = at.pages;
         pages_told = told ∙ at.pages_told;
         work = spelled_as _ _ _ _ _ _ _ _ session.catalog s.work refl (ap (λ n. is_free n b.free) size ∙ ap (λ bits. is_free a.journal.pages bits) same.free) size same.work at.work;
@@ -107,7 +110,7 @@ module _ {W : Type 0} {D : disk.Ghosts W} where
         told = new.1;
         lawful = lawful;
         ready = ready;
-        last = published_as a b at.tale new.0 session.last s.last size later.2.0 later.2.2 (published_on a b at.tale new.0 at.told new.1 at.ready ready at.lawful lawful size new.2) at.last;
+        last = published_as a b at.tale new.0 session.last s.last size later.2.0 (free_as a b size later.2.2) (published_on a b at.tale new.0 at.told new.1 at.ready ready at.lawful lawful size new.2) at.last;
         pages = at.pages;
         pages_told = told ∙ at.pages_told;
         work = spelled_as _ _ _ _ _ _ _ _ entries s.work refl free size later.2.1 at.work;

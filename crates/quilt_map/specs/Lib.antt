@@ -1,5 +1,6 @@
 pub mod Answers
 pub mod Editing
+pub mod Planning
 pub mod Runs
 pub mod Sessions
 pub mod Settled
