@@ -7,3 +7,4 @@ pub mod Laws
 pub mod Moving
 pub mod Plans
 pub mod TextLaws
+pub mod ZeroPage
