@@ -1,3 +1,5 @@
+pub mod Catalogs
 pub mod Fronts
 pub mod Laws
+pub mod Numbered
 pub mod TextLaws
