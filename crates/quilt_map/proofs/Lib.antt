@@ -2,4 +2,5 @@ pub mod Catalogs
 pub mod Fronts
 pub mod Laws
 pub mod Numbered
+pub mod Replies
 pub mod TextLaws

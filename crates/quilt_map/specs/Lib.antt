@@ -1,4 +1,5 @@
 pub mod Answers
+pub mod Bodies
 pub mod Lookups
 pub mod Runs
 pub mod Sessions
