@@ -1,3 +1,4 @@
+pub mod Catalogs
 pub mod ChangeSteps
 pub mod Fronts
 pub mod Going
@@ -5,6 +6,8 @@ pub mod Holding
 pub mod Keeping
 pub mod Laws
 pub mod Moving
+pub mod Numbered
 pub mod Plans
+pub mod Replies
 pub mod TextLaws
 pub mod ZeroPage

@@ -1,8 +1,10 @@
 //! The reply to each command, the work that it leaves, and the editions that are published.
 #![tactic(auto)]
 
+mod bodies;
 mod changing;
 mod editing;
+mod entries;
 mod reply;
 mod session;
 mod settled;

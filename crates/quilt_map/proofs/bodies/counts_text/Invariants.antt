@@ -1,0 +1,11 @@
+use Rattle.std.proofs.Common.{◌≡◌, ℕ, ◌≤◌, ◌+◌, ◌++◌, List, reverse}
+use Rattle.quilt_types.specs.Plane.{below}
+use Rattle.quilt_map.specs.Bodies.{HasCounts}
+use Rattle.quilt_map.proofs.Replies.{IsCounting}
+use Rattle.quilt_map.proofs.bodies.counts_text.Given as goal
+
+abbrev pub invariant-loop-k : goal.invariant-loop-k
+invariant-loop-k l = IsCounting l.level l.counts l.k l.text
+
+abbrev pub decreases-loop-k : goal.decreases-loop-k
+decreases-loop-k l = l.k
