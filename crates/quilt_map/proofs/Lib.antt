@@ -8,6 +8,7 @@ pub mod Laws
 pub mod Moving
 pub mod Numbered
 pub mod Plans
+pub mod Renewed
 pub mod Replies
 pub mod TextLaws
 pub mod ZeroPage

@@ -3,6 +3,7 @@ pub mod Bodies
 pub mod Editing
 pub mod Lookups
 pub mod Planning
+pub mod Renewing
 pub mod Runs
 pub mod Sessions
 pub mod Settled

@@ -4,6 +4,7 @@
 mod bodies;
 mod changing;
 mod editing;
+mod editions;
 mod entries;
 mod reply;
 mod session;
