@@ -1,6 +1,6 @@
 ghost use Rattle.std.specs.Prelude.{◌≡◌, IfOk};
 ghost use Rattle.quilt_types.specs.declared.code.Code.{Code as RefusalCode};
-ghost use Rattle.quilt_lang.specs.Parsing.{refusal};
+ghost use Rattle.quilt_words.specs.Parsing.{refusal};
 ghost use Rattle.quilt_map.specs.Answers as answers;
 ghost use Rattle.quilt_map.specs.Answers.{Refused};
 ghost use Rattle.quilt_map.specs.Runs.{text_of};

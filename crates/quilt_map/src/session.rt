@@ -7,7 +7,7 @@ ghost use Rattle.quilt_world.specs.Causes.{HasCause, Rose};
 ghost use Rattle.quilt_world.specs.Doors.{TakesFrom};
 ghost use Rattle.quilt_world.specs.declared.event.Event.TheVariants.{Put};
 ghost use Rattle.quilt_world.specs.declared.disk.Door.TheVariants as doors;
-ghost use Rattle.quilt_lang.specs.Forms.{Spelled};
+ghost use Rattle.quilt_words.specs.Forms.{Spelled};
 ghost use Rattle.quilt_edition.specs.Books as books;
 ghost use Rattle.quilt_map.specs.Answers.{State, answer};
 ghost use Rattle.quilt_map.specs.Sessions.{IsNumbered, IsOpened, changed_of, free_of, first_state};
