@@ -1,3 +1,4 @@
+pub mod Answered
 pub mod Catalogs
 pub mod ChangeSteps
 pub mod Fronts

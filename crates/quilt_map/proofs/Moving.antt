@@ -94,6 +94,7 @@ module _ {W : Type 0} {D : disk.Ghosts W} where
         level = ap (λ (h : Head). h.level) same.work ∙ at.level ∙ sym (ap (λ (h : Head). h.level) same.last);
         quota = at.quota ∙ sym (ap quota size);
         few = subst (λ k. (k ≤ 9 * session.changes) ⊎ (session.changes ≡ last_count)) (sym (counted_as a b size same.pool (ap (λ (j : View). j.changed) same.journal))) at.few;
+        bounded = at.bounded;
       }
 
   -- calls on the book that leave its pages, the free ones and the heads leave the state
@@ -118,4 +119,5 @@ module _ {W : Type 0} {D : disk.Ghosts W} where
         level = ap (λ (h : Head). h.level) later.2.1 ∙ at.level ∙ sym (ap (λ (h : Head). h.level) later.2.0);
         quota = at.quota ∙ sym (ap quota size);
         few = ⊎_elim (λ le. inl (omega arith)) (λ e. inr e) at.few;
+        bounded = at.bounded;
       }

@@ -152,6 +152,7 @@ module _ {W : Type 0} {D : disk.Ghosts W} (session : Session W D) (s : State) (e
           level = ap (λ (h : Head). h.level) work_is_next ∙ sym (ap (λ (h : Head). h.level) last_is);
           quota = can.quota ∙ sym (ap quota size);
           few = inl (omega arith);
+          bounded = omega arith;
         };
         count = refl;
       }

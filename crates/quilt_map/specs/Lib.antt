@@ -1,5 +1,6 @@
 pub mod Answers
 pub mod Bodies
+pub mod Commanding
 pub mod Editing
 pub mod Lookups
 pub mod Planning

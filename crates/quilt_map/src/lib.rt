@@ -6,6 +6,7 @@ mod changing;
 mod editing;
 mod editions;
 mod entries;
+mod publishing;
 mod reply;
 mod session;
 mod settled;

@@ -16,7 +16,7 @@ ghost use Rattle.quilt_map.specs.Steps.{Leaves, WritesFew, changes_after};
 
 use crate::reply::Reply;
 use quilt_edition::Book;
-use quilt_lang::Command;
+use quilt_words::Command;
 use quilt_node::Head;
 use quilt_par::Gate;
 use quilt_record::Catalog;
