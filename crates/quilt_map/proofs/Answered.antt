@@ -1,6 +1,6 @@
 -- Commands that are refused or change nothing, and those that give an edition.
 use Rattle.std.specs.Prelude.{if◌then◌else◌, codes, decimal}
-use Rattle.std.proofs.Common.{◌≡◌, ◌⊎◌, inl, inr, ⊎_elim, ℕ, ◌+◌, ◌*◌, ◌<◌, ◌≤◌, ◌==◌, min, cond, Bool, true, false, ◌||◌, List, [], ◌∷◌, Option, Some, None, is_some, unwrap_or, IfSome, refl, sym, ◌∙◌, ap, subst, arith}
+use Rattle.std.proofs.Common.{◌≡◌, ◌⊎◌, inl, inr, ⊎_elim, ℕ, ◌+◌, ◌*◌, ◌<◌, ◌≤◌, ◌==◌, min, Bool, true, false, ◌||◌, List, [], ◌∷◌, Option, Some, None, is_some, unwrap_or, IfSome, refl, sym, ◌∙◌, ap, subst, arith}
 use Rattle.std.proofs.Math.Nat.{min-eq_left}
 use Rattle.std.proofs.lemmas.Bool.{cases_Bool, cases_lt, eqb-false}
 use Rattle.quilt_btree.proofs.Walks.{same_number}
@@ -21,8 +21,6 @@ use Rattle.quilt_journal.specs.Writing.{Writing}
 use Rattle.quilt_record.specs.declared.entry.Entry.{Entry}
 use Rattle.quilt_record.specs.declared.record.Record.{Record}
 use Rattle.quilt_node.specs.declared.head.Head.{Head}
-use Rattle.quilt_btree.specs.declared.tree.Tree.{Tree}
-use Rattle.quilt_btree.specs.Edits.{IsWhole, times}
 use Rattle.quilt_spell.specs.Spelled.{SpellsUnder}
 use Rattle.quilt_edition.specs.declared.book.Book.{Book}
 use Rattle.quilt_edition.specs.Books as books
@@ -39,7 +37,7 @@ use Rattle.quilt_map.specs.declared.reply.Reply as replies
 use Rattle.quilt_map.specs.declared.reply.Reply.TheVariants as given
 use Rattle.quilt_map.specs.declared.session.Session.{Session}
 use Rattle.quilt_map.proofs.Keeping.{book_leaves, book_stands}
-use Rattle.quilt_map.proofs.Moving.{goes_to, published_as, spelled_as, with_book}
+use Rattle.quilt_map.proofs.Moving.{goes_to, published_as, spelled_as, with_book, whole_free}
 
 -- ---- an outcome that changes nothing
 
@@ -105,14 +103,6 @@ tells_edition s e text k number is = (is ∙ ap (λ m. text_of (Done (spaced (co
 
 is_one : (a b : ℕ) → a ≡ b → (1 ≤ b) × (b ≤ 2) → (a ≡ 2 → ⊥) → b ≡ 1
 is_one a b same range apart = ⊎_elim (λ more. absurd (apart (omega arith))) (λ less. omega arith) (cases_lt 1 b)
-
--- a whole tree stays where the same pages are free
-pub whole_free : (told : Option Pages) (free now : ℕ → Bool) (n : ℕ) (t : Tree) (rs : List Record) → ((p : ℕ) → now p ≡ free p) → IsWhole told free n t rs → IsWhole told now n t rs
-whole_free told free now n t rs same whole = record {
-  tree = whole.tree;
-  number = whole.number;
-  balance = λ p low high. ap (λ b. cond b 1 0 + times p whole.tree.visited) (same p) ∙ whole.balance p low high;
-}
 
 module _ {W : Type 0} {D : disk.Ghosts W} where
   -- a session that was not touched, where the command changes nothing
@@ -236,3 +226,15 @@ module _ {W : Type 0} {D : disk.Ghosts W} where
 pub revert_is : (s : State) → answer s commands.Revert ≡ record { reply = Done []; work = s.last.layers; published = None }
 unfolding answer
 revert_is s = refl
+
+pub reverted_count : (s : State) (c : ℕ) → changes_after s commands.Revert c ≡ 0
+reverted_count s c = ap (λ (o : Outcome). if is_some o.published || is_revert commands.Revert then 0 else min (c + changes s.last.level s.work o.work) last_count) (revert_is s)
+
+module _ {W : Type 0} {D : disk.Ghosts W} where
+  pub answered_reverted : (s : State) (old new : Session W D) (text : List ℕ) → text ≡ text_of (Done []) → IsAtState new (record { quota = s.quota; last = s.last; work = s.last.layers }) → new.changes ≡ 0
+      → Answered s commands.Revert old new (given.Ok text)
+  answered_reverted s old new text is at none = record {
+    tells = subst (λ (o : Outcome). Tells (given.Ok text) o.reply) (sym (revert_is s)) (is, refl);
+    at = subst (λ (o : Outcome). IsAtState new (after_outcome s o)) (sym (revert_is s)) at;
+    count = none ∙ sym (reverted_count s old.changes);
+  }

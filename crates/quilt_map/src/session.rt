@@ -14,6 +14,7 @@ ghost use Rattle.quilt_map.specs.Sessions.{IsNumbered, IsOpened, changed_of, fre
 ghost use Rattle.quilt_map.specs.States.{Tells, IsRefusal, after};
 ghost use Rattle.quilt_map.specs.Steps.{Leaves, WritesFew, changes_after};
 
+use crate::entries::copy_of;
 use crate::reply::Reply;
 use quilt_edition::Book;
 use quilt_words::Command;
@@ -52,7 +53,7 @@ impl<W: World> Session<W> {
         ensures changes { changes_of result ≡ 0 }
         ensures at { (e : Edition) → IsOpened book catalog e → IsAt result (first_state (books.pages_of book) e) }
     {
-        let last = Catalog::new();
+        let last = copy_of(&catalog);
         Session {
             book,
             catalog,
