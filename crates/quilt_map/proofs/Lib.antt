@@ -1,4 +1,4 @@
-pub mod Answered
+pub mod Outcomes
 pub mod Catalogs
 pub mod ChangeSteps
 pub mod Fronts

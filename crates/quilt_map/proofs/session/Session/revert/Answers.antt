@@ -1,5 +1,5 @@
 use Rattle.std.proofs.Common.{refl}
-use Rattle.quilt_map.proofs.Answered.{is_reverted, answered_reverted}
+use Rattle.quilt_map.proofs.Outcomes.{is_reverted, answered_reverted}
 use Rattle.quilt_map.proofs.session.Session.revert.Goals as goal
 
 pub returns-clause-answer : goal.returns-clause-answer
