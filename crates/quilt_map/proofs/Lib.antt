@@ -3,4 +3,5 @@ pub mod Fronts
 pub mod Laws
 pub mod Numbered
 pub mod Replies
+pub mod Rows
 pub mod TextLaws
