@@ -88,7 +88,7 @@ module _ (pages : List (List ℕ)) (most : length pages ≤ 30000) (d e : Editio
       let level = a.level ∙ ap (λ (h : Head). h.level) head ∙ sym b.level in
       λ i. record { format = format i; number = number i; level = level i; layers = layers i }
 
-home_length : (image : List (List ℕ)) (pages : ℕ) → length (home image pages) ≡ pages
+pub home_length : (image : List (List ℕ)) (pages : ℕ) → length (home image pages) ≡ pages
 unfolding home
 home_length image pages = length-map (below pages) _ ∙ length-range_with_len 0 pages
 

@@ -1,7 +1,14 @@
 pub mod Catalogs
+pub mod ChangeSteps
 pub mod Fronts
+pub mod Going
+pub mod Holding
+pub mod Keeping
 pub mod Laws
+pub mod Moving
 pub mod Numbered
+pub mod Plans
 pub mod Replies
 pub mod Rows
 pub mod TextLaws
+pub mod ZeroPage

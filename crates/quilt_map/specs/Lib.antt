@@ -1,6 +1,8 @@
 pub mod Answers
 pub mod Bodies
+pub mod Editing
 pub mod Lookups
+pub mod Planning
 pub mod Runs
 pub mod Sessions
 pub mod Settled

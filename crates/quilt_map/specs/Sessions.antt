@@ -7,24 +7,20 @@ use Rattle.quilt_types.specs.declared.plane.Pixel.{Pixel}
 use Rattle.quilt_types.specs.Facts.{quota}
 use Rattle.quilt_types.specs.Layers.{Map, Edition}
 use Rattle.quilt_world.specs.Disk.{Pages}
-use Rattle.quilt_world.specs.Home.{home, page_of}
-use Rattle.quilt_world.specs.Stops.{LeavesNow}
-use Rattle.quilt_world.specs.Tale.{Tale}
+use Rattle.quilt_world.specs.Tale.{Tale, IsConsistent, Goes}
 use Rattle.quilt_world.specs.declared.disk.Disk as disk
-use Rattle.quilt_journal.specs.Kept.{HasHome}
+use Rattle.quilt_journal.specs.Kept.{published}
 use Rattle.quilt_record.specs.declared.entry.Entry.{Entry}
 use Rattle.quilt_record.specs.declared.record.Record.{Record}
 use Rattle.quilt_record.specs.Records.{Numbering}
 use Rattle.quilt_node.specs.declared.head.Head.{Head}
-use Rattle.quilt_node.specs.Pages.{IsHeader}
 use Rattle.quilt_btree.specs.declared.tree.Tree.{Tree}
 use Rattle.quilt_btree.specs.Edits.{IsWhole}
 use Rattle.quilt_spell.specs.Spelled.{SpellsUnder}
 use Rattle.quilt_spell.specs.Catalogued.{IsCatalogOf}
 use Rattle.quilt_edition.specs.declared.book.Book.{Book}
 use Rattle.quilt_edition.specs.Books as books
-use Rattle.quilt_edition.specs.Keeping.{told_pages, is_free, is_left_out, marked_count}
-use Rattle.quilt_edition.specs.Stands.{Stands}
+use Rattle.quilt_edition.specs.Keeping.{told_pages, is_free, marked_count, IsLater}
 use Rattle.quilt_pool.specs.Views.{entries_of}
 use Rattle.quilt_map.specs.Answers.{State}
 use Rattle.quilt_map.specs.declared.session.Session.{Session}
@@ -73,19 +69,23 @@ module _ {W : Type 0} {D : disk.Ghosts W} where
   abbrev pub changed_of : Book W D → ℕ
   changed_of b = marked_count b.journal.pages (entries_of b.pool) b.journal.changed
 
-  -- The published pages hold the edition in each image that a stop may leave, with this catalog.
+  -- a book as a store goes on: it is later, and the heads and the pages of the published tree are the same
+  abbrev pub IsLaterBook : Book W D → Book W D → Type 0
+  IsLaterBook a b = (b.journal.pages ≡ a.journal.pages) × (b.journal.state ≡ a.journal.state) × ((b.last ≡ a.last) × (b.work ≡ a.work) × (b.used ≡ a.used))
+      × (D.door b.world ≡ D.door a.world) × Goes (IsLater a.journal.pages) (D.told a.world) (D.told b.world)
+
+  -- The published pages of a book hold the edition, with this catalog.
   pub record IsPublishedAs (b : Book W D) (t : Tale) (entries : List Entry) (e : Edition) : Type 0 where
-    pub left : LeavesNow t (HasHome (books.pages_of b) (home t.seen (books.pages_of b)))
-    pub header : IsHeader (books.pages_of b) (page_of (home t.seen (books.pages_of b)) 0) (books.last_of b)
     pub head : IsHeadOf (books.last_of b) e
-    pub spelled : IsSpelled (Some (home t.seen (books.pages_of b))) (books.published_free b) (books.pages_of b) (books.last_of b) entries e.layers
+    pub spelled : IsSpelled (Some (published t (books.pages_of b))) (books.published_free b) (books.pages_of b) (books.last_of b) entries e.layers
 
   -- A book that was just opened, over a file that stands for the edition: its work is the edition.
   pub record IsOpened (b : Book W D) (entries : List Entry) (e : Edition) : Type 0 where
     pub tale : Tale
     pub told : D.told b.world ≡ Some tale
-    pub pages : told_of b ≡ Some (home tale.seen (books.pages_of b))
-    pub published : IsPublishedAs b tale entries e
+    pub lawful : IsConsistent tale
+    pub pages : told_of b ≡ Some (published tale (books.pages_of b))
+    pub holds : IsPublishedAs b tale entries e
 
 -- the state over an edition that was just opened, in a file of so many home pages
 abbrev pub first_state : ℕ → Edition → State
@@ -107,19 +107,25 @@ module _ {W : Type 0} {D : disk.Ghosts W} where
   unfoldable pub changes_of : Session W D → ℕ
   changes_of s = s.changes
 
-  -- The work's tree spells the work, and the published pages hold the last edition, each with its catalog. As many pages at most
-  -- are changed as the count of changes allows.
-  pub record IsAtState (session : Session W D) (s : State) : Type 0 where
+  -- The work's tree spells the work with this catalog, and the published pages hold the last edition. As many pages at most are
+  -- changed as the count of changes allows.
+  pub record IsAtWith (session : Session W D) (entries : List Entry) (s : State) : Type 0 where
     pub tale : Tale
     pub told : D.told session.book.world ≡ Some tale
+    pub lawful : IsConsistent tale
     pub ready : books.IsReady session.book
-    pub pages : List (List ℕ)
+    pub last : IsPublishedAs session.book tale session.last s.last
+    pub pages : Pages
     pub pages_told : told_of session.book ≡ Some pages
-    pub published : IsPublishedAs session.book tale session.last s.last
-    pub work : IsSpelled (Some pages) (free_of session.book) (books.pages_of session.book) (books.work_of session.book) session.catalog s.work
+    pub work : IsSpelled (Some pages) (free_of session.book) (books.pages_of session.book) (books.work_of session.book) entries s.work
     pub format : (books.work_of session.book).format ≡ (books.last_of session.book).format
+    pub level : (books.work_of session.book).level ≡ (books.last_of session.book).level
     pub quota : s.quota ≡ quota (books.pages_of session.book)
     pub few : (changed_of session.book ≤ 9 * session.changes) ⊎ (session.changes ≡ last_count)
+
+  -- with the catalog that the session keeps
+  abbrev pub IsAtState : Session W D → State → Type 0
+  IsAtState session s = IsAtWith session session.catalog s
 
   -- The session stands for this state: its work, its last edition and its quota. Above this crate nothing else is known of a session.
   unfoldable pub IsAt : Session W D → State → Type 0

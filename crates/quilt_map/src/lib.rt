@@ -2,6 +2,8 @@
 #![tactic(auto)]
 
 mod bodies;
+mod changing;
+mod editing;
 mod entries;
 mod reply;
 mod session;

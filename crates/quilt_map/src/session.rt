@@ -28,12 +28,12 @@ use std::thread::Threads;
 /// A map being worked on: the book of its file, and the catalogs of the work and of the last edition.
 #[derive(Drop)]
 pub struct Session<W: Disk> {
-    book: Book<W>,
-    catalog: Catalog,
-    last: Catalog,
-    changes: u64,
-    warm: Option<(Name, Pixel)>,
-    alloc: Global,
+    pub(crate) book: Book<W>,
+    pub(crate) catalog: Catalog,
+    pub(crate) last: Catalog,
+    pub(crate) changes: u64,
+    pub(crate) warm: Option<(Name, Pixel)>,
+    pub(crate) alloc: Global,
 }
 
 impl<W: World> Session<W> {

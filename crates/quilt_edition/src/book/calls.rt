@@ -58,6 +58,7 @@ impl<W: Disk> Book<W> {
         requires ready { IsReady self.old }
         ensures head { work_of self.new ≡ last_of self.old }
         ensures free { (page : ℕ) → ⟦<Book<W> as PageStore>⟧.free self.new page ≡ published_free self.old page }
+        ensures world { world_of self.new ≡ world_of self.old }
         ensures goes_on { GoesOn self.old self.new }
         ensures ready { IsReady self.new }
         ensures used { published_free self.new ≡ published_free self.old }
@@ -77,6 +78,7 @@ impl<W: Disk> Book<W> {
         ensures free { (page : ℕ) → ⟦<Book<W> as PageStore>⟧.free self.new page ≡ is_left_out (pages_of self.old) used.now page }
         ensures used { (page : ℕ) → published_free self.new page ≡ is_left_out (pages_of self.old) used.now page }
         ensures told { ⟦<Book<W> as PageStore>⟧.told self.new ≡ ⟦<Book<W> as PageStore>⟧.told self.old }
+        ensures world { world_of self.new ≡ world_of self.old }
         ensures goes_on { GoesOn self.old self.new }
         ensures heads { (last_of self.new ≡ last_of self.old) × (work_of self.new ≡ work_of self.old) }
         ensures changed { ⟦<Book<W> as PageStore>⟧.changed self.new ≡ 0 }
@@ -101,6 +103,7 @@ impl<W: Disk> Book<W> {
         ensures used { published_free self.new ≡ published_free self.old }
         ensures free { ⟦<Book<W> as PageStore>⟧.free self.new ≡ ⟦<Book<W> as PageStore>⟧.free self.old }
         ensures changed { ⟦<Book<W> as PageStore>⟧.changed self.new ≡ ⟦<Book<W> as PageStore>⟧.changed self.old }
+        ensures world { world_of self.new ≡ world_of self.old }
         ensures goes_on { GoesOn self.old self.new }
         ensures told { ⟦<Book<W> as PageStore>⟧.told self.new ≡ ⟦<Book<W> as PageStore>⟧.told self.old }
     {
@@ -119,6 +122,7 @@ impl<W: Disk> Book<W> {
         ensures used { published_free self.new ≡ published_free self.old }
         ensures free { ⟦<Book<W> as PageStore>⟧.free self.new ≡ ⟦<Book<W> as PageStore>⟧.free self.old }
         ensures changed { ⟦<Book<W> as PageStore>⟧.changed self.new ≡ ⟦<Book<W> as PageStore>⟧.changed self.old }
+        ensures world { world_of self.new ≡ world_of self.old }
         ensures goes_on { GoesOn self.old self.new }
         ensures told { ⟦<Book<W> as PageStore>⟧.told self.new ≡ ⟦<Book<W> as PageStore>⟧.told self.old }
     {
