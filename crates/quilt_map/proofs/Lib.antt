@@ -1,3 +1,4 @@
+pub mod Asked
 pub mod Catalogs
 pub mod ChangeSteps
 pub mod Fronts

@@ -5,6 +5,7 @@ mod bodies;
 mod changing;
 mod editing;
 mod entries;
+mod regions;
 mod reply;
 mod session;
 mod settled;
