@@ -1,4 +1,4 @@
-pub mod Outcomes
+pub mod Asked
 pub mod Catalogs
 pub mod ChangeSteps
 pub mod Fronts
@@ -8,8 +8,10 @@ pub mod Keeping
 pub mod Laws
 pub mod Moving
 pub mod Numbered
+pub mod Outcomes
 pub mod Plans
 pub mod Renewed
 pub mod Replies
+pub mod Rows
 pub mod TextLaws
 pub mod ZeroPage

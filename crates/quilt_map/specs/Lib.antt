@@ -1,4 +1,5 @@
 pub mod Answers
+pub mod Asking
 pub mod Bodies
 pub mod Commanding
 pub mod Editing

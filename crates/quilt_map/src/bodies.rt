@@ -1,11 +1,15 @@
-ghost use Rattle.std.specs.Prelude.{◌≡◌, ◌==◌, ◌<◌, ◌≤◌, ◌^◌, ◌+◌, ℕ, List, [], ◌∷◌, ◌++◌, map, codes, decimal, slice_index, if◌then◌else◌, IfOk, OnOk};
+ghost use Rattle.std.specs.Prelude.{◌≡◌, ◌==◌, ◌<◌, ◌≤◌, ◌^◌, ◌+◌, ◌↔◌, ℕ, List, Contains, [], ◌∷◌, ◌++◌, map, codes, decimal, slice_index, if◌then◌else◌, IfOk, OnOk};
 ghost use Rattle.std.specs.FinMap as finmap;
+ghost use Rattle.quilt_types.specs.declared.plane.Block.{Block as BlockValue};
 ghost use Rattle.quilt_types.specs.Plane.{side as side_of, below};
+ghost use Rattle.quilt_types.specs.Quadtrees.{leaves as leaves_of};
+ghost use Rattle.quilt_loc.specs.Codes.{Rises};
+ghost use Rattle.quilt_blocks.specs.Cutting.{leaves_by_code, leaf_cmp};
 ghost use Rattle.quilt_types.specs.Layers.{Map, Region, IsGrid};
 ghost use Rattle.quilt_record.specs.Records.{Numbering};
 ghost use Rattle.quilt_spell.specs.Catalogued.{IsCatalogOf};
 ghost use Rattle.quilt_lang.specs.Trials.{spaced};
-ghost use Rattle.quilt_map.specs.Answers.{Done, layer_line, block_lines, sides_of, row_line};
+ghost use Rattle.quilt_map.specs.Answers.{Done, layer_line, leaf_line, block_lines, sides_of, row_line};
 ghost use Rattle.quilt_map.specs.Bodies.{lines, words_of_kind, entry_line, HasCounts};
 ghost use Rattle.quilt_map.specs.Runs.{text_of};
 
@@ -13,7 +17,7 @@ use quilt_blocks::LeafList;
 use quilt_measure::histogram;
 use quilt_raster::render;
 use quilt_record::Entry;
-use quilt_types::{Kind, Text, Window};
+use quilt_types::{Block, Kind, Text, Window};
 use std::alloc::{AllocError, Global};
 
 /// Adds a number in decimal digits.
@@ -131,11 +135,7 @@ fn push_count(text: &mut Text, k: u8, count: u32) -> Result<(), AllocError>
 }
 
 /// The reply that says how many blocks there are of each side that occurs, the greatest first.
-pub(crate) fn counts_text(
-    alloc: Global,
-    level: u8,
-    counts: &[u32; 13],
-) -> Result<Text, AllocError>
+pub(crate) fn counts_text(alloc: Global, level: u8, counts: &[u32; 13]) -> Result<Text, AllocError>
     requires { level ≤ 12 }
     ensures { IfOk result (λ text. (sides : List ℕ) → HasCounts counts.now sides → text ≡ text_of (Done (block_lines level sides))) }
 {
@@ -169,4 +169,53 @@ pub(crate) fn show_text(
     ensures { IfOk result (λ text. IsGrid format list.now.level list.now.grid → text ≡ text_of (Done (map (row_line format list.now.level list.now.grid w) (below w.h)))) }
 {
     finish(render(alloc, list, w, format)?)
+}
+
+/// The leaves in the order of their codes, each with its block and its colour.
+fn by_code(alloc: Global, list: &LeafList) -> Result<Vec<(Block, u16)>, AllocError>
+    ensures leaves { IfOk result (λ v. v.items ≡ leaves_by_code list.now.level list.now.grid) }
+    ensures members { (e : BlockValue × ℕ) → Contains (leaves_by_code list.now.level list.now.grid) e ↔ Contains (leaves_of list.now.level list.now.grid) e }
+    ensures order { Rises leaf_cmp (leaves_by_code list.now.level list.now.grid) }
+{
+    let mut leaves = Vec::new(alloc);
+    for i in 0..list.len() {
+        let leaf = list.leaf(i);
+        leaves.push((leaf.block, leaf.colour.0))?;
+    }
+    Ok(leaves)
+}
+
+/// The leaves by y and then x.
+fn by_rows(alloc: Global, list: &LeafList) -> Result<Vec<(Block, u16)>, AllocError>
+    ensures { IfOk result (λ v. v.items ≡ leaves_of list.now.level list.now.grid) }
+{
+    let mut leaves = by_code(alloc, list)?;
+    leaves.sort_unstable();
+    Ok(leaves)
+}
+
+/// Adds the line of a leaf.
+fn push_leaf(text: &mut Text, block: Block, colour: u16) -> Result<(), AllocError>
+    ensures { OnOk result (text.new ≡ text.old ++ leaf_line (block, colour) ++ 10 ∷ []) }
+{
+    push_number(text, u64::from(block.x))?;
+    text.push(b" ")?;
+    push_number(text, u64::from(block.y))?;
+    text.push(b" ")?;
+    push_number(text, u64::from(block.side))?;
+    text.push(b" ")?;
+    push_number(text, u64::from(colour))?;
+    text.push(b"\n")
+}
+
+/// The reply that lists the leaves of a region layer, by y and then x.
+pub(crate) fn leaves_text(alloc: Global, list: &LeafList) -> Result<Text, AllocError>
+    ensures { IfOk result (λ text. text ≡ text_of (Done (map leaf_line (leaves_of list.now.level list.now.grid)))) }
+{
+    let leaves = by_rows(alloc, list)?;
+    let mut text = Text::new(alloc);
+    for (block, colour) in leaves.iter() {
+        push_leaf(&mut text, *block, *colour)?;
+    }
+    finish(text)
 }

@@ -7,6 +7,7 @@ mod editing;
 mod editions;
 mod entries;
 mod publishing;
+mod regions;
 mod reply;
 mod session;
 mod settled;
