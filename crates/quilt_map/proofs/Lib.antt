@@ -7,8 +7,10 @@ pub mod Holding
 pub mod Keeping
 pub mod Laws
 pub mod Moving
+pub mod NewLayers
 pub mod Numbered
 pub mod Outcomes
+pub mod Placing
 pub mod Plans
 pub mod Renewed
 pub mod Replies

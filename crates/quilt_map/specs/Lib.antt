@@ -4,6 +4,7 @@ pub mod Bodies
 pub mod Commanding
 pub mod Editing
 pub mod Lookups
+pub mod Making
 pub mod Planning
 pub mod Renewing
 pub mod Runs

@@ -6,6 +6,7 @@ mod changing;
 mod editing;
 mod editions;
 mod entries;
+mod making;
 mod publishing;
 mod regions;
 mod reply;
