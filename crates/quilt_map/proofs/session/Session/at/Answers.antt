@@ -1,4 +1,4 @@
-use Rattle.std.proofs.Common.{true, false, ◌∙◌, ap, Some, None, sym}
+use Rattle.std.proofs.Common.{true, false, ◌∙◌, ap, Some, None}
 use Rattle.quilt_types.specs.Plane.{is_pixel}
 use Rattle.quilt_node.specs.declared.head.Head.{Head}
 use Rattle.quilt_lang.specs.declared.command.Command.TheVariants as commands

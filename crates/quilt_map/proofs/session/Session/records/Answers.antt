@@ -1,5 +1,4 @@
-use Rattle.std.proofs.Common.{sym, ◌∙◌, ap}
-use Rattle.quilt_types.specs.Facts.{quota}
+use Rattle.std.proofs.Common.{ap}
 use Rattle.quilt_node.specs.declared.head.Head.{Head}
 use Rattle.quilt_lang.specs.declared.command.Command.TheVariants as commands
 use Rattle.quilt_map.specs.Answers.{answer}
