@@ -1,16 +1,20 @@
 -- What commands that change nothing find, and what they leave.
-use Rattle.std.specs.Prelude.{◌≡◌, ℕ, ◌≤◌, ◌∷◌, List, Bool, Result, Ok, Err, Option, Some}
+use Rattle.std.specs.Prelude.{◌≡◌, ℕ, ◌≤◌, ◌∷◌, List, Bool, Result, Ok, Err, Option, Some, None, All}
 use Rattle.std.specs.FinMap as finmap
 use Rattle.std.specs.Map.{keys_of}
 use Rattle.quilt_types.specs.declared.code.Code.{Code}
+use Rattle.quilt_types.specs.declared.plane.Kind.{Kind}
+use Rattle.quilt_types.specs.declared.plane.Kind.TheVariants as kinds
 use Rattle.quilt_types.specs.declared.plane.Pixel.{Pixel}
 
-use Rattle.quilt_types.specs.Layers.{Region, Map, Grid}
+use Rattle.quilt_types.specs.Layers.{Layer, Region, Map, Grid}
 use Rattle.quilt_world.specs.declared.disk.Disk as disk
+use Rattle.quilt_record.specs.declared.entry.Entry.{Entry}
 use Rattle.quilt_record.specs.Records.{Numbering}
 use Rattle.quilt_node.specs.declared.head.Head.{Head}
 use Rattle.quilt_btree.specs.Floors.{floor_pages}
 use Rattle.quilt_region.specs.Regions.{pixel_key}
+use Rattle.quilt_spell.specs.Catalogued.{kind_of}
 use Rattle.quilt_spell.specs.Written.{number_of}
 use Rattle.quilt_pool.specs.Views.{entries_of}
 use Rattle.quilt_edition.specs.Keeping.{reads_of}
@@ -30,6 +34,23 @@ pub record IsRegionAt (layers : Map) (numbers : Numbering) (name : List ℕ) (nu
 -- where these tests come first, they refuse with the code
 abbrev pub IsRefusedFirst : State → List ℕ → Code → Type 0
 IsRefusedFirst s name code = (rs : List (Bool × Code)) (done : Outcome) → (unless (unknown s name ∷ unless_region s name ∷ rs) s done).reply ≡ Refused code
+
+-- the map has a layer of this kind under the name, and its records have this number
+pub record IsLayerUnder (layers : Map) (numbers : Numbering) (name : List ℕ) (number : ℕ) (kind : Kind) : Type 0 where
+  pub layer : Layer
+  pub got : finmap.get layers name ≡ Some layer
+  pub numbered : number ≡ number_of numbers name
+  pub kinded : kind ≡ kind_of layer
+
+-- all layers are regions
+abbrev pub AreRegions : List Entry → Type 0
+AreRegions entries = All (λ e. e.kind ≡ kinds.Region) entries
+
+-- the layer and the pixel that was asked for, where it was answered
+abbrev pub warm_after : {E : Type 0} → Result replies.Reply E → List ℕ → Pixel → Option (List ℕ × Pixel)
+warm_after (Ok (reply.Ok text)) name at = Some (name, at)
+warm_after (Ok (reply.No code)) name at = None
+warm_after (Err e) name at = None
 
 -- the reply has the text
 abbrev pub HasText : {E : Type 0} → Result (List ℕ) E → replies.Reply → Type 0

@@ -1,6 +1,7 @@
 //! The reply to each command, the work that it leaves, and the editions that are published.
 #![tactic(auto)]
 
+mod asking;
 mod bodies;
 mod changing;
 mod editing;

@@ -1,4 +1,6 @@
-ghost use Rattle.std.specs.Prelude.{◌≡◌, ℕ, ◌+◌, ◌<◌, ◌≤◌, List, IfOk, IfErr, OnOk};
+ghost use Rattle.std.specs.Prelude.{◌≡◌, ℕ, ◌+◌, ◌<◌, ◌≤◌, List, None, IsNone, IfSome, IfOk, IfErr, OnOk};
+ghost use Rattle.std.specs.FinMap as finmap;
+ghost use Rattle.quilt_types.specs.declared.plane.Kind.TheVariants as kinds;
 ghost use Rattle.quilt_types.specs.Layers.{Map, Grid, colour_at as colour_in};
 ghost use Rattle.quilt_types.specs.Plane.{side};
 ghost use Rattle.quilt_record.specs.declared.record.Record.{Record as AnyRecord};
@@ -11,7 +13,7 @@ ghost use Rattle.quilt_region.specs.Regions.{HasRegion};
 ghost use Rattle.quilt_spell.specs.Catalogued.{IsCatalogOf};
 ghost use Rattle.quilt_edition.specs.Books.{world_of, last_of, work_of};
 ghost use Rattle.quilt_map.specs.Answers.{State};
-ghost use Rattle.quilt_map.specs.Asking.{IsRegionAt, IsRefusedFirst, IsStill, pages_asked, reads_in, held_of};
+ghost use Rattle.quilt_map.specs.Asking.{AreRegions, IsLayerUnder, IsRegionAt, IsRefusedFirst, IsStill, pages_asked, reads_in, held_of};
 ghost use Rattle.quilt_map.specs.Sessions.{told_of, tree_in};
 
 use crate::changing::DAMAGED;
@@ -26,17 +28,25 @@ use quilt_types::{Code, Colour, Kind, Name, Pixel, Stop};
 use quilt_world::Disk;
 use std::alloc::Global;
 
+/// The number and the kind of the layer with this name.
+pub(crate) fn layer_under(entries: &[Entry], name: &Name) -> Option<(u8, Kind)>
+    ensures none { IsNone result → (layers : Map) (numbers : Numbering) → IsCatalogOf layers numbers entries.now → finmap.get layers name.now ≡ None }
+    ensures some { IfSome result (λ found. (layers : Map) (numbers : Numbering) → IsCatalogOf layers numbers entries.now → IsLayerUnder layers numbers name.now found.0 found.1) }
+    ensures regions { IfSome result (λ found. AreRegions entries.now → found.1 ≡ kinds.Region) }
+{
+    let i = index_of(entries, name)?;
+    Some((entries[i].number, entries[i].kind))
+}
+
 /// The number of the region layer with this name, or why there is none.
 pub(crate) fn region_number(entries: &[Entry], name: &Name) -> Result<u8, Code>
     ensures found { IfOk result (λ number. (layers : Map) (numbers : Numbering) → IsCatalogOf layers numbers entries.now → IsRegionAt layers numbers name.now number) }
     ensures refused { IfErr result (λ code. (s : State) (numbers : Numbering) → IsCatalogOf s.work numbers entries.now → IsRefusedFirst s name.now code) }
 {
-    match index_of(entries, name) {
+    match layer_under(entries, name) {
         None => Err(Code::Unknown),
-        Some(i) => match entries[i].kind {
-            Kind::Region => Ok(entries[i].number),
-            _ => Err(Code::Kind),
-        },
+        Some((number, Kind::Region)) => Ok(number),
+        Some(_) => Err(Code::Kind),
     }
 }
 

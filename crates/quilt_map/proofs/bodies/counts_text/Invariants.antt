@@ -1,6 +1,3 @@
-use Rattle.std.proofs.Common.{◌≡◌, ℕ, ◌≤◌, ◌+◌, ◌++◌, List, reverse}
-use Rattle.quilt_types.specs.Plane.{below}
-use Rattle.quilt_map.specs.Bodies.{HasCounts}
 use Rattle.quilt_map.proofs.Replies.{IsCounting}
 use Rattle.quilt_map.proofs.bodies.counts_text.Given as goal
 

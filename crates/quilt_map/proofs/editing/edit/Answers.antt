@@ -1,4 +1,4 @@
-use Rattle.std.proofs.Common.{◌≡◌, refl, sym, ◌∙◌, ap}
+use Rattle.std.proofs.Common.{refl, sym}
 use Rattle.quilt_btree.specs.Runs.{put_all, without_all}
 use Rattle.quilt_edition.specs.Books.{work_of}
 use Rattle.quilt_map.specs.Sessions.{told_of, free_of}

@@ -1,4 +1,4 @@
-use Rattle.std.proofs.Common.{sym, ap}
+use Rattle.std.proofs.Common.{ap}
 use Rattle.quilt_node.specs.declared.head.Head.{Head}
 use Rattle.quilt_map.specs.Sessions.{told_of}
 use Rattle.quilt_map.proofs.Asked.{still_here, has_as, if_err, if_ok, raster_as}
