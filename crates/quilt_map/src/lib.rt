@@ -9,6 +9,7 @@ mod editions;
 mod entries;
 mod making;
 mod publishing;
+mod refusals;
 mod regions;
 mod reply;
 mod session;
