@@ -18,4 +18,5 @@ pub mod Replies
 pub mod Rows
 pub mod Tests
 pub mod TextLaws
+pub mod Uniforms
 pub mod ZeroPage

@@ -14,6 +14,7 @@ mod regions;
 mod reply;
 mod session;
 mod settled;
+mod uniform;
 
 pub use reply::Reply;
 pub use session::Session;
