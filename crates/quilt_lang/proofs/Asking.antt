@@ -7,14 +7,14 @@ use Rattle.std.proofs.lemmas.Bool.{eqb-true, ne_eqb}
 use Rattle.std.proofs.lemmas.List.{length-map}
 use Rattle.std.proofs.Math.Nat.{pow-le-pow_right}
 use Rattle.quilt_types.specs.Plane.{side}
-use Rattle.quilt_lang.specs.declared.item.Item.{Item}
-use Rattle.quilt_lang.specs.declared.item.Item.TheVariants.{Long, Line, Rows, PointLines, RingLines}
+use Rattle.quilt_words.specs.declared.item.Item.{Item}
+use Rattle.quilt_words.specs.declared.item.Item.TheVariants.{Long, Line, Rows, PointLines, RingLines}
 use Rattle.quilt_lang.specs.declared.asked.Asked.{Asked}
 use Rattle.quilt_lang.specs.declared.asked.Asked.TheVariants as kinds
-use Rattle.quilt_lang.specs.Built.{is_built}
-use Rattle.quilt_lang.specs.Items.{Group, asked, asked_by, asked_in_all, begins_with, held, held_as, is_long, is_plain, listed_by, words_of, rows_of, rows_joined, points_of, points_joined, rings_of, rings_joined}
+use Rattle.quilt_words.specs.Built.{is_built}
+use Rattle.quilt_words.specs.Items.{Group, asked, asked_by, asked_in_all, begins_with, held, held_as, is_long, is_plain, listed_by, words_of, rows_of, rows_joined, points_of, points_joined, rings_of, rings_joined}
 use Rattle.quilt_lang.specs.Cutting.{IsAsked, grouped, holding, is_built_for}
-use Rattle.quilt_lang.proofs.Cuts.{bool_cases}
+use Rattle.quilt_words.proofs.Cases.{bool_cases}
 use Rattle.quilt_lang.proofs.LineLaws.{asked_long}
 use Rattle.quilt_lang.proofs.Long.{long_item, short_item}
 

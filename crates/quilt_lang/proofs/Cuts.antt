@@ -1,14 +1,11 @@
 -- Where the first newline stands.
-use Rattle.std.proofs.Common.{◌≡◌, ◌⊎◌, inl, inr, ℕ, ◌+◌, ◌<◌, Bool, true, false, ◌==◌, List, ◌∷◌, ◌++◌, length, take, drop, Option, Some, None, refl, ◌∙◌, ap, arith, position, nat_lt, length-take}
+use Rattle.std.proofs.Common.{◌≡◌, inl, inr, ℕ, ◌+◌, ◌<◌, Bool, ◌==◌, List, ◌∷◌, ◌++◌, length, take, drop, Option, Some, None, ◌∙◌, ap, arith, position, nat_lt, length-take}
 use Rattle.std.specs.List.{position_or_len}
 use Rattle.std.proofs.lemmas.List.{get_or-take}
 use Rattle.std.proofs.lemmas.List.Sums.{fails_before_first, split_at_first, passes_at_first}
 use Rattle.std.proofs.lemmas.Bool.{eqb-true, ltb-true, ltb-false}
+use Rattle.quilt_words.proofs.Cases.{bool_cases}
 use Rattle.quilt_lang.specs.Reading.{IsCut, HasNewline}
-
-pub bool_cases : (b : Bool) → (b ≡ true) ⊎ (b ≡ false)
-bool_cases true = inl refl
-bool_cases false = inr refl
 
 abbrev is_newline : ℕ → Bool
 is_newline c = c == 10

@@ -2,15 +2,15 @@
 use Rattle.std.proofs.Common.{◌≡◌, ◌≢◌, ℕ, zero, suc, ◌+◌, ◌-◌, ◌<◌, ◌≤◌, ◌==◌, ◌||◌, Bool, true, false, List, [], ◌∷◌, ◌++◌, length, take, drop, map, filter, min, refl, sym, ◌∙◌, ap, subst, arith, append_assoc, append-nil, inl, inr, length-append, length-drop}
 use Rattle.std.proofs.lemmas.List.{drop_all, take_all, drop-drop, take-append-le, length-map, map-append}
 use Rattle.std.proofs.lemmas.Bool.{eqb-true, eqb-false, eq-eqb, ne_eqb}
-use Rattle.quilt_lang.specs.declared.item.Item.{Item}
+use Rattle.quilt_words.specs.declared.item.Item.{Item}
 use Rattle.quilt_lang.specs.declared.asked.Asked.{Asked}
-use Rattle.quilt_lang.specs.Items.{Group, asked, held, is_complete, is_silent, groups_from, items_of, lines_of, whole_items, whole_lines, words_of}
+use Rattle.quilt_words.specs.Items.{Group, asked, held, is_complete, is_silent, groups_from, items_of, lines_of, whole_items, whole_lines, words_of}
 use Rattle.quilt_lang.specs.Reading.{Gives, GivesItem, HasNone, HasNewline, IsLine}
 use Rattle.quilt_lang.specs.Cutting.{Cuts, CutsUpTo, HasNoLine, IsAsked, grouped, number_of}
-use Rattle.quilt_lang.proofs.Cuts.{bool_cases}
+use Rattle.quilt_words.proofs.Cases.{bool_cases}
 use Rattle.quilt_lang.proofs.LineLaws.{groups_loud, lines_line, whole_line, whole_none, last_line, no_lines, silent_nothing}
 use Rattle.quilt_lang.proofs.Pieces.{gives_of, drop_min}
-use Rattle.quilt_lang.proofs.Slices.{behind}
+use Rattle.quilt_words.proofs.Slices.{behind}
 
 pub cuts_none : (e : Bool) (a : List ℕ) → Cuts e [] a a
 cuts_none e a = record { all = λ v may. refl; whole = λ open_ v. refl }
@@ -246,7 +246,3 @@ lines_behind e count taken text k m len least is =
     let P : List ℕ → Type 0 = λ (u : List ℕ). CutsUpTo e count taken u (drop (m + len) text) in
     let Q : List ℕ → Type 0 = λ (u : List ℕ). CutsUpTo e count taken (take (length text - m) (drop m text)) u in
     subst P (from_behind text k m least) (subst Q (ap (drop len) (behind m text) ∙ drop-drop len m text) is)
-
--- so many lines are all, or not
-pub met_as : {X : Type 0} (g : X → List ℕ) (e b : Bool) (count size : ℕ) (xs : List X) → (e || (size == count)) ≡ b → size ≡ length xs → (e || (length (map g xs) == count)) ≡ b
-met_as g e b count size xs is many = ap (λ (s : ℕ). e || (s == count)) (length-map xs g ∙ sym many) ∙ is

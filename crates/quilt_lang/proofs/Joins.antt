@@ -3,10 +3,10 @@ use Rattle.std.proofs.Common.{◌≡◌, ◌≢◌, ◌%◌, ◌==◌, IfSome, �
 use Rattle.std.proofs.lemmas.List.{drop_all, length-map}
 use Rattle.quilt_types.specs.declared.plane.Point.{Point}
 use Rattle.quilt_types.specs.declared.plane.Corner.{Corner}
-use Rattle.quilt_lang.specs.Items.{points_joined, point_of, words_of, rows_joined, colour_bytes, corner_of, corners_of, ring_of, rings_joined}
+use Rattle.quilt_words.specs.Items.{points_joined, point_of, words_of, rows_joined, colour_bytes, corner_of, corners_of, ring_of, rings_joined}
 use Rattle.quilt_lang.specs.Spelled.{with_byte}
-use Rattle.quilt_lang.proofs.Holding.{Bytes, row_bytes, HalfAre, corners_are}
-use Rattle.quilt_lang.specs.Spelling.{number, row}
+use Rattle.quilt_words.proofs.Holding.{Bytes, row_bytes, HalfAre, corners_are}
+use Rattle.quilt_words.specs.Spelling.{number, row}
 
 -- what one part and the others make
 abbrev pub before : {A : Type 0} → Option (List A) → Option (List A) → Option (List A)
@@ -88,13 +88,6 @@ pub bytes_more : (line : List ℕ) (i b : ℕ) (got : List ℕ) → i + 1 < leng
     ((rest : List ℕ) → row (get_or line i 0 ∷ get_or line (i + 1) 0 ∷ rest) ≡ with_byte (Some b) (row rest)) → BytesSoFar line (i + 2) (got ++ b ∷ [])
 bytes_more line i b got within so is =
     bytes_at line i (i + 1) (i + 2) (Some b) got (omega arith) (omega arith) within so is ∙ byte_onto got b (row (drop (i + 2) line))
-
-pub bytes_fail : (line : List ℕ) (i : ℕ) (got : List ℕ) → i + 1 < length line → BytesSoFar line i got →
-    ((rest : List ℕ) → row (get_or line i 0 ∷ get_or line (i + 1) 0 ∷ rest) ≡ with_byte None (row rest)) → None ≡ row line
-bytes_fail line i got within so is = sym (bytes_at line i (i + 1) (i + 2) None got (omega arith) (omega arith) within so is)
-
-pub bytes_end : (line : List ℕ) (i : ℕ) (got : List ℕ) → length line ≤ i → BytesSoFar line i got → Some got ≡ row line
-bytes_end line i got past so = sym (so ∙ ap (λ l. option_map (λ x. got ++ x) (row l)) (drop_all i line past) ∙ ap Some (append-nil got))
 
 odd : (k : ℕ) (r : Option (List ℕ)) → IfSome r (Bytes k) → k % 2 ≢ 0 → None ≡ r
 odd k None is not_even = refl
@@ -180,16 +173,6 @@ corners_more g xs i d got c within so is =
     corners_at g xs i (i + 1) (i + 2) d got (omega arith) (omega arith) within so
     ∙ ap (λ (o : Option Corner). option_map (λ r. got ++ r) (corner_before o (corners_of (map g (drop (i + 2) xs))))) (sym is)
     ∙ corner_onto got c (corners_of (map g (drop (i + 2) xs)))
-
-pub corners_fail : {X : Type 0} (g : X → List ℕ) (xs : List X) (i : ℕ) (d : X) (got : List Corner) → i + 1 < length xs → CornersSoFar g xs i got →
-    None ≡ one_corner (g (get_or xs i d)) (g (get_or xs (i + 1) d)) → None ≡ corners_of (map g xs)
-corners_fail g xs i d got within so is =
-    sym
-    (corners_at g xs i (i + 1) (i + 2) d got (omega arith) (omega arith) within so
-    ∙ ap (λ (o : Option Corner). option_map (λ r. got ++ r) (corner_before o (corners_of (map g (drop (i + 2) xs))))) (sym is))
-
-pub corners_end : {X : Type 0} (g : X → List ℕ) (xs : List X) (i : ℕ) (got : List Corner) → length xs ≤ i → CornersSoFar g xs i got → Some got ≡ corners_of (map g xs)
-corners_end g xs i got past so = sym (so ∙ ap (λ ys. option_map (λ r. got ++ r) (corners_of (map g ys))) (drop_all i xs past) ∙ ap Some (append-nil got))
 
 odd_half : (k : ℕ) (r : Option (List Corner)) → IfSome r (HalfAre k) → k % 2 ≢ 0 → None ≡ r
 odd_half k None is not_even = refl

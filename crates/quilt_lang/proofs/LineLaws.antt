@@ -2,7 +2,7 @@
 use Rattle.std.proofs.Common.{◌≡◌, ℕ, ◌+◌, Bool, true, false, ◌==◌, ◌||◌, not, List, [], ◌∷◌, ◌++◌, length, take, filter, refl, ◌∙◌, ap, arith, cond}
 use Rattle.std.specs.List.{slice_split, list_all}
 use Rattle.std.proofs.lemmas.List.Splits.{slice_split_at, slice_split_none, length-slice_split}
-use Rattle.quilt_lang.specs.Items.{Group, is_long, is_plain, is_silent, asked, asked_by, is_complete, lines_of, without_empty_end, without_last, whole_lines, groups_from, items_of, whole_items, words_of}
+use Rattle.quilt_words.specs.Items.{Group, is_long, is_plain, is_silent, asked, asked_by, is_complete, lines_of, without_empty_end, without_last, whole_lines, groups_from, items_of, whole_items, words_of}
 use Rattle.quilt_lang.specs.Reading.{IsLine, alone, begins_silent, first_is_silent}
 use Rattle.quilt_lang.specs.Cutting.{grouped}
 
@@ -76,10 +76,6 @@ whole_silent_next n line v none silent =
 pub whole_part : (n : ℕ) (part : List ℕ) → IsLine part → whole_items n part ≡ []
 unfolding whole_items
 whole_part n part last = rw (whole_none part last) refl
-
-pub items_none : (n : ℕ) → items_of n [] ≡ []
-unfolding items_of
-items_none n = rw no_lines refl
 
 -- what is left at the end, with no newline: a line that begins no item, or one that does
 pub last_silent : (n : ℕ) (part : List ℕ) → IsLine part → is_silent part ≡ true → items_of n part ≡ []

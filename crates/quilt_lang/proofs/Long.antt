@@ -5,11 +5,11 @@ use Rattle.std.proofs.lemmas.List.Splits.{length-slice_split}
 use Rattle.std.proofs.lemmas.List.Elements.{All-head, All-tail}
 use Rattle.std.proofs.lemmas.Bool.{lt-ltb, ltb-true, ltb-false}
 use Rattle.std.proofs.lemmas.List.{get_or-take, take_all}
-use Rattle.quilt_lang.specs.declared.item.Item.{Item}
-use Rattle.quilt_lang.specs.declared.item.Item.TheVariants.{Long}
-use Rattle.quilt_lang.specs.Items.{Group, line_limit, is_long, is_silent, lines_of, whole_lines, without_empty_end, without_last, groups_from, items_of, whole_items, held, held_as, asked, is_complete}
+use Rattle.quilt_words.specs.declared.item.Item.{Item}
+use Rattle.quilt_words.specs.declared.item.Item.TheVariants.{Long}
+use Rattle.quilt_words.specs.Items.{Group, line_limit, is_long, is_silent, lines_of, whole_lines, without_empty_end, without_last, groups_from, items_of, whole_items, held, held_as, asked, is_complete}
 use Rattle.quilt_lang.specs.Reading.{Unread, HasNewline, IsLine, Gives, Same, alone, kept_limit, is_some_line}
-use Rattle.quilt_lang.proofs.Cuts.{bool_cases}
+use Rattle.quilt_words.proofs.Cases.{bool_cases}
 use Rattle.quilt_lang.proofs.Pieces.{same_by, gives_none, gives_then, gives_fed}
 use Rattle.quilt_lang.proofs.LineLaws.{asked_long, groups_alone, complete_first, whole_line, whole_none}
 
@@ -143,17 +143,6 @@ pub fed : (n m : ℕ) (old joined piece : List ℕ) → Gives false n [] old (ta
 fed n m old joined piece keeps all =
     let Q : List ℕ → Type 0 = λ (l : List ℕ). Gives false n [] (old ++ piece) l in
     subst Q (sym all) (gives_fed n [] old (take m old) piece keeps)
-
--- no more than what may be kept, and the piece
-pub fed_short : (m limit : ℕ) (old bytes joined piece : List ℕ) → m ≤ limit → bytes ≡ take m old → joined ≡ bytes ++ piece → length joined ≤ limit + length piece
-fed_short m limit old bytes joined piece few kept all =
-    rw (all, kept) (omega (arith, few, length-append (take m old) piece, length-take m old))
-
--- and where all is kept
-pub fed_all : (n : ℕ) (bytes joined piece : List ℕ) → joined ≡ bytes ++ piece → Gives false n [] (drop 0 bytes ++ piece) joined
-fed_all n bytes joined piece all =
-    let Q : List ℕ → Type 0 = λ (l : List ℕ). Gives false n [] (bytes ++ piece) l in
-    subst Q (sym all) (gives_none false n (bytes ++ piece))
 
 -- and of that the lines that begin no item are let go
 pub fed_on : (s : Unread) (old joined piece new : List ℕ) → old ≡ s.rest → ((n : ℕ) → Gives false n [] (old ++ piece) joined) → ((n : ℕ) → Gives false n [] joined new) →

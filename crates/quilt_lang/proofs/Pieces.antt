@@ -2,10 +2,10 @@
 use Rattle.std.proofs.Common.{◌≡◌, ℕ, min, nat_lt, subst, inl, inr, ◌+◌, ◌<◌, ◌≤◌, Bool, true, false, List, [], ◌∷◌, ◌++◌, length, take, drop, refl, sym, ◌∙◌, ap, arith, append_assoc, map}
 use Rattle.std.proofs.lemmas.List.{drop_all, drop-drop}
 use Rattle.std.proofs.lemmas.Bool.{ltb-true, ltb-false}
-use Rattle.quilt_lang.specs.declared.item.Item.{Item}
-use Rattle.quilt_lang.specs.Items.{Group, is_silent, items_of, whole_items, held}
+use Rattle.quilt_words.specs.declared.item.Item.{Item}
+use Rattle.quilt_words.specs.Items.{Group, is_silent, items_of, whole_items, held}
 use Rattle.quilt_lang.specs.Reading.{Unread, MayFollow, Gives, GivesItem, Same, HasNone, HasNewline, IsLine, begins_silent}
-use Rattle.quilt_lang.proofs.Cuts.{bool_cases}
+use Rattle.quilt_words.proofs.Cases.{bool_cases}
 use Rattle.quilt_lang.proofs.LineLaws.{silent_next, whole_silent_next, whole_part, last_silent, begins_line}
 
 -- lists that hold the same
@@ -14,9 +14,6 @@ same_is n xs ys is = λ f. ap (map (held f n)) is
 
 pub same_then : (n : ℕ) (xs ys zs : List Group) → Same n xs ys → Same n ys zs → Same n xs zs
 same_then n xs ys zs first second = λ f. first f ∙ second f
-
-pub same_back : (n : ℕ) (xs ys : List Group) → Same n xs ys → Same n ys xs
-same_back n xs ys so = λ f. sym (so f)
 
 pub same_onto : (n : ℕ) (gs xs ys : List Group) → Same n xs ys → Same n (gs ++ xs) (gs ++ ys)
 same_onto n [] xs ys so = so

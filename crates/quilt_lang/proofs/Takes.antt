@@ -1,9 +1,9 @@
 -- Items taken one after another, and piece after piece.
 use Rattle.std.proofs.Common.{◌≡◌, ℕ, ◌<◌, Bool, true, false, List, [], ◌∷◌, ◌++◌, length, refl, sym, ◌∙◌, ap, subst, arith, append_assoc, append-nil, map}
 use Rattle.std.proofs.lemmas.List.{length-map, map-append}
-use Rattle.quilt_lang.specs.declared.item.Item.{Item}
-use Rattle.quilt_lang.specs.Items.{Group, held, items_of, whole_items}
-use Rattle.quilt_lang.specs.Reading.{Unread, Gives, GivesItem, MayFollow, HasNone, BeginWith, Same}
+use Rattle.quilt_words.specs.declared.item.Item.{Item}
+use Rattle.quilt_words.specs.Items.{Group, held, items_of, whole_items}
+use Rattle.quilt_lang.specs.Reading.{Unread, Gives, GivesItem, MayFollow, BeginWith, Same}
 use Rattle.quilt_lang.specs.Taking.{Gave, Takes}
 use Rattle.quilt_lang.proofs.Pieces.{gives_none, gives_then, gives_fed, same_then, same_onto}
 
@@ -25,20 +25,6 @@ gave_next e f s t u before after i so same next =
           ap (λ (l : List Item). l ++ i ∷ []) so.put ∙ append_assoc before (map (held f n) so.items) (i ∷ [])
           ∙ ap (λ (l : List Item). before ++ l) (ap (λ (x : Item). map (held f n) so.items ++ x ∷ []) is ∙ sym (map-append (held f n) so.items (next.group ∷ [])));
     }
-
-pub takes_all : (e : Bool) (f : ℕ) (s t u : Unread) (before after : List Item) → Gave e f s t before after → u.level ≡ t.level → u.rest ≡ t.rest → HasNone e t.level t.rest → Takes e f s u before after
-takes_all e f s t u before after so same rest none = record {
-  gave = record {
-    level = same ∙ so.level;
-    items = so.items;
-    gives = let P : List ℕ → Type 0 = λ (r : List ℕ). Gives e s.level so.items s.rest r in subst P (sym rest) so.gives;
-    put = so.put;
-  };
-  none =
-      let P : ℕ → Type 0 = λ (n : ℕ). HasNone e n t.rest in
-      let Q : List ℕ → Type 0 = λ (r : List ℕ). HasNone e s.level r in
-      subst Q (sym rest) (subst P so.level none);
-}
 
 -- with each item there are fewer
 pub fewer : (e : Bool) (n f : ℕ) (i : Item) (a b : List ℕ) → MayFollow e [] → GivesItem e n f i a b → length (items_of n b) < length (items_of n a)

@@ -3,10 +3,10 @@ use Rattle.std.specs.Prelude.{◌≡◌, ℕ, ◌<◌, ◌≤◌, Bool, true, fa
 use Rattle.quilt_types.specs.Plane.{side}
 use Rattle.quilt_lang.specs.declared.asked.Asked.{Asked}
 use Rattle.quilt_lang.specs.declared.asked.Asked.TheVariants as kinds
-use Rattle.quilt_lang.specs.declared.item.Item.{Item}
-use Rattle.quilt_lang.specs.declared.item.Item.TheVariants.{Line, Rows, PointLines, RingLines}
-use Rattle.quilt_lang.specs.Built.{is_built}
-use Rattle.quilt_lang.specs.Items.{Group, begins_with, lines_of, whole_lines, rows_of, points_of, rings_of}
+use Rattle.quilt_words.specs.declared.item.Item.{Item}
+use Rattle.quilt_words.specs.declared.item.Item.TheVariants.{Line, Rows, PointLines, RingLines}
+use Rattle.quilt_words.specs.Built.{is_built}
+use Rattle.quilt_words.specs.Items.{Group, begins_with, lines_of, whole_lines, rows_of, points_of, rings_of}
 use Rattle.quilt_lang.specs.Reading.{MayFollow}
 
 -- a line with these further lines

@@ -1,14 +1,6 @@
-pub mod Built
 pub mod Cutting
-pub mod Fitting
-pub mod Forms
-pub mod Items
-pub mod Made
-pub mod Pairs
-pub mod Parsing
+pub mod Progress
 pub mod Reading
 pub mod Spelled
-pub mod Spelling
 pub mod Taking
 pub mod Trials
-pub mod Words

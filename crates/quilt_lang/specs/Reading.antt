@@ -1,7 +1,7 @@
 -- What reading a text in pieces gives.
 use Rattle.std.specs.Prelude.{◌≡◌, ℕ, ◌+◌, ◌<◌, ◌==◌, Bool, true, false, List, [], ◌∷◌, ◌++◌, length, take, drop, map, All, Option, Some, None, if◌then◌else◌}
-use Rattle.quilt_lang.specs.declared.item.Item.{Item}
-use Rattle.quilt_lang.specs.Items.{Group, is_silent, line_limit, whole_lines, items_of, whole_items, held}
+use Rattle.quilt_words.specs.declared.item.Item.{Item}
+use Rattle.quilt_words.specs.Items.{Group, is_silent, line_limit, whole_lines, items_of, whole_items, held}
 
 -- what contracts see of a reader of pieces: the level, and a text that has the items not given yet
 pub record Unread : Type 0 where

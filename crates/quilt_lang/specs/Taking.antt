@@ -1,7 +1,7 @@
 -- Items taken from a reader, one after another.
 use Rattle.std.specs.Prelude.{◌≡◌, ℕ, Bool, List, ◌++◌, map}
-use Rattle.quilt_lang.specs.declared.item.Item.{Item}
-use Rattle.quilt_lang.specs.Items.{Group, held}
+use Rattle.quilt_words.specs.declared.item.Item.{Item}
+use Rattle.quilt_words.specs.Items.{Group, held}
 use Rattle.quilt_lang.specs.Reading.{Unread, Gives, HasNone}
 
 -- these items were given and put behind the ones before, each read in the format

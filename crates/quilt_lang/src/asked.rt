@@ -1,12 +1,11 @@
 //! The further lines that a line asks for.
 ghost use Rattle.std.specs.Prelude.{◌≡◌, ◌==◌, ◌||◌, ℕ, false, codes, length, map, IfOk};
 ghost use Rattle.quilt_types.specs.Plane.{side};
-ghost use Rattle.quilt_lang.specs.Items.{asked, asked_by, asked_in_all, begins_with, words_of};
+ghost use Rattle.quilt_words.specs.Items.{asked, asked_by, asked_in_all, begins_with, words_of};
 ghost use Rattle.quilt_lang.specs.Cutting.{IsAsked, is_built_for, number_of};
 
 use crate::spelled::listed;
-use crate::word::{PointWord, RegionWord, Word};
-use crate::words::{LINE_LIMIT, is_plain_line, line_words};
+use quilt_words::{LINE_LIMIT, PointWord, RegionWord, Word, is_plain_line, line_words};
 use std::alloc::{AllocError, Global};
 
 /// The further lines that a line asks for.

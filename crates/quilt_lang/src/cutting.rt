@@ -1,9 +1,10 @@
 ghost use Rattle.std.specs.Prelude.{◌≡◌, ◌==◌, ◌<◌, ◌≤◌, ◌+◌, ℕ, false, [], ◌∷◌, length, take, drop, position, IfSome, MatchOption};
-ghost use Rattle.quilt_lang.specs.Items.{is_silent};
+ghost use Rattle.quilt_words.specs.Items.{is_silent};
 ghost use Rattle.quilt_lang.specs.Reading.{IsLine, IsCut, Gives, HasNone, begins_silent, kept_limit};
 ghost use Rattle.quilt_lang.specs.Cutting.{Cuts, HasNoLine};
+ghost use Rattle.quilt_lang.specs.Progress.{IsUncut, IsFirstLine};
 
-use crate::words::{LINE_LIMIT, is_silent_line};
+use quilt_words::{LINE_LIMIT, is_silent_line};
 
 /// The index of the first newline.
 fn newline(bytes: &[u8]) -> Option<usize>
@@ -18,32 +19,60 @@ fn first_newline(bytes: &[u8]) -> Option<usize>
     bytes.iter().position(|c| *c == b'\n')
 }
 
-/// The number of bytes of the first line with its newline, where it begins no item.
-fn silent_line(text: &[u8]) -> Option<usize>
-    ensures { MatchOption result (begins_silent text.now ≡ false)
-        (λ k. (0 < k) × (k ≤ length text.now) × ((n : ℕ) → Gives false n [] text.now (drop k text.now))) }
+/// The index of the first newline, where so many bytes are known to have none.
+pub fn newline_behind(bytes: &[u8], scanned: usize) -> Option<usize>
+    requires { IsUncut scanned bytes.now }
+    ensures { IsCut bytes.now result }
 {
-    let Some(k) = newline(text) else {
-        return None;
-    };
-    if is_silent_line(&text[..k]) {
-        Some(k + 1)
-    } else {
-        None
+    match newline(&bytes[scanned..]) {
+        Some(k) => Some(scanned + k),
+        None => None,
     }
 }
 
-/// The number of bytes of the whole lines at the front that begin no item.
-pub fn silent_front(text: &[u8]) -> usize
-    ensures within { result ≤ length text.now }
-    ensures gives { (n : ℕ) → Gives false n [] text.now (drop result text.now) }
-    ensures loud { begins_silent (drop result text.now) ≡ false }
+/// The first line of a text.
+#[derive(Clone, Copy, Debug, PartialEq, Eq)]
+pub enum FirstLine {
+    /// It begins no item, and has so many bytes with its newline.
+    Silent(usize),
+    /// It begins an item or is not whole, and so many bytes have no newline.
+    Begun(usize),
+}
+
+/// What the first line is, where so many bytes are known to have no newline.
+fn first_of(text: &[u8], scanned: usize) -> FirstLine
+    requires { IsUncut scanned text.now }
+    ensures { IsFirstLine text.now result }
+{
+    let Some(k) = newline_behind(text, scanned) else {
+        return FirstLine::Begun(text.len());
+    };
+    if is_silent_line(&text[..k]) {
+        FirstLine::Silent(k + 1)
+    } else {
+        FirstLine::Begun(k)
+    }
+}
+
+/// The number of bytes of the whole lines at the front that begin no item, and how many bytes behind them have no newline.
+pub fn silent_front(text: &[u8], scanned: usize) -> (usize, usize)
+    requires { IsUncut scanned text.now }
+    ensures within { result.0 ≤ length text.now }
+    ensures gives { (n : ℕ) → Gives false n [] text.now (drop result.0 text.now) }
+    ensures loud { begins_silent (drop result.0 text.now) ≡ false }
+    ensures uncut { IsUncut result.1 (drop result.0 text.now) }
 {
     let mut from = 0;
-    while let Some(k) = silent_line(&text[from..]) {
-        from += k;
+    let mut known = scanned;
+    loop {
+        match first_of(&text[from..], known) {
+            FirstLine::Silent(k) => {
+                from += k;
+                known = 0;
+            }
+            FirstLine::Begun(k) => return (from, k),
+        }
     }
-    from
 }
 
 /// The number of bytes of the first line, which has its newline, or ends with the input.
@@ -76,15 +105,18 @@ fn end_line(text: &[u8], ended: bool) -> Option<usize>
     Some(text.len())
 }
 
-/// The number of bytes of the next line that begins an item; the last line has its newline, or ends with the input.
-pub fn line_len(text: &[u8], ended: bool) -> Option<usize>
-    requires { begins_silent text.now ≡ false }
-    ensures found { MatchOption result ((n : ℕ) → HasNone ended n text.now)
+/// The number of bytes of the next line that begins an item, where so many bytes are known to have no newline; the last line has
+/// its newline, or ends with the input.
+pub fn line_len(text: &[u8], scanned: usize, ended: bool) -> Option<usize>
+    requires loud { begins_silent text.now ≡ false }
+    requires cut { IsUncut scanned text.now }
+    ensures found { MatchOption result (IsLine text.now × ((n : ℕ) → HasNone ended n text.now))
         (λ k. Cuts ended (take k text.now ∷ []) text.now (drop (k + 1) text.now)) }
     ensures loud { IfSome result (λ k. is_silent (take k text.now) ≡ false) }
     ensures within { IfSome result (λ k. k ≤ length text.now) }
+    ensures whole { IfSome result (λ k. ended ≡ false → k < length text.now) }
 {
-    match newline(text) {
+    match newline_behind(text, scanned) {
         Some(k) => Some(k),
         None => last_len(text, ended),
     }
@@ -93,10 +125,11 @@ pub fn line_len(text: &[u8], ended: bool) -> Option<usize>
 /// The number of bytes of a last line that begins an item, where the input has ended.
 fn last_len(text: &[u8], ended: bool) -> Option<usize>
     requires { IsLine text.now }
-    ensures found { MatchOption result ((n : ℕ) → HasNone ended n text.now)
+    ensures found { MatchOption result (IsLine text.now × ((n : ℕ) → HasNone ended n text.now))
         (λ k. Cuts ended (take k text.now ∷ []) text.now (drop (k + 1) text.now)) }
     ensures loud { IfSome result (λ k. is_silent (take k text.now) ≡ false) }
     ensures within { IfSome result (λ k. k ≤ length text.now) }
+    ensures whole { IfSome result (λ k. ended ≡ false → k < length text.now) }
 {
     if !ended || is_silent_line(text) {
         return None;
@@ -104,13 +137,15 @@ fn last_len(text: &[u8], ended: bool) -> Option<usize>
     Some(text.len())
 }
 
-/// How many bytes are kept of a rest that waits for more: of a line that is not whole no more than show that it is too long.
-pub fn kept_len(rest: &[u8]) -> usize
+/// How many bytes are kept of a rest that waits for more, whose first line is not cut and has so many bytes with no newline: of a
+/// line that is not whole no more than show that it is too long.
+pub fn kept_len(rest: &[u8], scanned: usize) -> usize
+    requires { IsUncut scanned rest.now }
     ensures within { result ≤ length rest.now }
     ensures gives { (n : ℕ) → Gives false n [] rest.now (take result rest.now) }
     ensures short { result ≤ kept_limit rest.now }
 {
-    match newline(rest) {
+    match newline_behind(rest, scanned) {
         Some(_) => rest.len(),
         None => rest.len().min(LINE_LIMIT + 1),
     }

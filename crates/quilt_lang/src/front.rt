@@ -1,39 +1,110 @@
 //! The item at the front of a text: a line, with the further lines that there are of those that it asks for.
-ghost use Rattle.std.specs.Prelude.{◌≡◌, ◌≤◌, false, length, drop, map, IfOk, IfSome, MatchOption};
-ghost use Rattle.quilt_lang.specs.Reading.{GivesItem, HasNone, begins_silent};
+ghost use Rattle.std.specs.Prelude.{◌≡◌, ◌+◌, ◌≤◌, false, length, drop, map, IfOk};
+ghost use Rattle.quilt_words.specs.Items.{whole_lines};
+ghost use Rattle.quilt_lang.specs.Reading.{GivesItem, begins_silent};
 ghost use Rattle.quilt_lang.specs.Cutting.{CutsUpTo, number_of};
+ghost use Rattle.quilt_lang.specs.Progress.{IsFirst, IsFront, IsProgress, IsUncut, IsWaiting};
 
-use crate::Item;
 use crate::asked::{Asked, further_asked};
+use crate::counting::count_lines;
 use crate::cutting::{first_line, line_len};
 use crate::held::item_of;
+use crate::progress::{CutLines, Progress, Waiting};
+use quilt_words::Item;
 use std::alloc::{AllocError, Global};
 
-/// The item at the front, and the number of bytes of its lines: where all of them stand there with their newlines, or where the
-/// input has ended.
+/// What stands at the front of a text.
+#[derive(Drop)]
+pub enum Front {
+    /// An item, whose lines have so many bytes.
+    Given(Item, usize),
+    /// None that can be given yet, and how far it is cut.
+    Waits(Progress),
+}
+
+/// The item at the front, where all of its lines stand there with their newlines, or where the input has ended.
 pub fn front_item(
     alloc: Global,
     level: u8,
     format: u8,
     text: &[u8],
+    progress: Progress,
     ended: bool,
-) -> Result<Option<(Item, usize)>, AllocError>
-    requires { begins_silent text.now ≡ false }
-    ensures given { IfOk result (λ found. MatchOption found (HasNone ended level text.now)
-        (λ front. GivesItem ended level format front.0 text.now (drop front.1 text.now))) }
-    ensures within { IfOk result (λ found. IfSome found (λ front. front.1 ≤ length text.now)) }
+) -> Result<Front, AllocError>
+    requires loud { begins_silent text.now ≡ false }
+    requires cut { IsProgress level progress text.now }
+    ensures { IfOk result (IsFront ended level format text.now) }
 {
-    let Some(k) = line_len(text, ended) else {
-        return Ok(None);
-    };
-    let from = text.len().min(k + 1);
-    let what = further_asked(alloc, &text[..k])?;
-    let (more, len) = further_lines(alloc, level, what, &text[from..], ended)?;
-    if !what.is_met(level, more.len(), ended) {
-        return Ok(None);
+    match progress {
+        Progress::Waiting(waiting) => further_item(alloc, level, format, text, waiting, ended),
+        Progress::Begun(scanned) => begun_item(alloc, level, format, text, scanned, ended),
     }
-    let item = item_of(alloc, level, format, &text[..k], what, &more)?;
-    Ok(Some((item, from + len)))
+}
+
+/// The same where the line that begins the item is not cut yet, and so many bytes have no newline.
+fn begun_item(
+    alloc: Global,
+    level: u8,
+    format: u8,
+    text: &[u8],
+    scanned: usize,
+    ended: bool,
+) -> Result<Front, AllocError>
+    requires loud { begins_silent text.now ≡ false }
+    requires cut { IsUncut scanned text.now }
+    ensures { IfOk result (IsFront ended level format text.now) }
+{
+    let Some(line) = line_len(text, scanned, ended) else {
+        return Ok(Front::Waits(Progress::Begun(text.len())));
+    };
+    let what = further_asked(alloc, &text[..line])?;
+    let cut = CutLines::NONE;
+    let waiting = Waiting { line, what, cut };
+    further_item(alloc, level, format, text, waiting, ended)
+}
+
+/// The same where the line that begins the item is cut.
+fn further_item(
+    alloc: Global,
+    level: u8,
+    format: u8,
+    text: &[u8],
+    waiting: Waiting,
+    ended: bool,
+) -> Result<Front, AllocError>
+    requires { IsWaiting ended level waiting text.now }
+    ensures { IfOk result (IsFront ended level format text.now) }
+{
+    let Waiting { line, what, cut } = waiting;
+    if ended {
+        return held_item(alloc, level, format, text, line, what, true);
+    }
+    let behind = &text[line + 1..];
+    let cut = count_lines(level, what, behind, cut);
+    if !what.is_met(level, cut.count, false) {
+        return Ok(Front::Waits(Progress::Waiting(Waiting { line, what, cut })));
+    }
+    held_item(alloc, level, format, text, line, what, false)
+}
+
+/// The item of a line and of the lines behind it, which are all there, or as many as there are where the input has ended.
+fn held_item(
+    alloc: Global,
+    level: u8,
+    format: u8,
+    text: &[u8],
+    line: usize,
+    what: Asked,
+    ended: bool,
+) -> Result<Front, AllocError>
+    requires first { IsFirst ended level line what text.now }
+    requires there { ended ≡ false → number_of level what ≤ length (whole_lines (drop (line + 1) text.now)) }
+    ensures { IfOk result (IsFront ended level format text.now) }
+{
+    let from = text.len().min(line + 1);
+    let (more, len) = further_lines(alloc, level, what, &text[from..], ended)?;
+    let item = item_of(alloc, level, format, &text[..line], what, &more)?;
+    Ok(Front::Given(item, from + len))
 }
 
 /// The lines at the front, as many as are asked for or as there are, and the number of their bytes.

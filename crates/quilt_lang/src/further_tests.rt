@@ -1,10 +1,13 @@
 //! Rows, list lines and ring lines that are drawn, and cut anywhere.
-use crate::Item;
+ghost use Rattle.std.specs.Prelude.{◌≤◌, length};
+
 use crate::asked::{Asked, asked_of_all};
+use crate::counting::count_lines;
 use crate::front::further_lines;
 use crate::held::item_with;
-use crate::words::line_words;
+use crate::progress::CutLines;
 use quilt_types::{Corner, Pixel, Point, Text};
+use quilt_words::{Item, line_words};
 use std::alloc::Global;
 use std::test::Fail;
 
@@ -26,10 +29,25 @@ fn held(
     Ok(Some(item))
 }
 
-/// Whether a text that is cut before its end gives an item while more may come.
-fn is_given_too_early(alloc: Global, what: Asked, text: &[u8]) -> Result<bool, Fail> {
+/// The lines of a text that comes in two pieces, of which those of the first are counted before the second is there.
+fn counted_in_two(what: Asked, text: &[u8], cut: usize) -> (CutLines, CutLines)
+    requires { cut ≤ length text.now }
+{
+    let first = count_lines(LEVEL, what, &text[..cut], CutLines::NONE);
+    let both = count_lines(LEVEL, what, text, first);
+    (first, both)
+}
+
+/// Whether a text that is cut before its end gives an item while more may come, or has other lines once all of it is there.
+fn is_cut_otherwise(alloc: Global, what: Asked, text: &[u8]) -> Result<bool, Fail> {
     for cut in 0..text.len() {
-        if held(alloc, 1, what, &text[..cut], false)?.is_some() {
+        let (first, both) = counted_in_two(what, text, cut);
+        if held(alloc, 1, what, &text[..cut], false)?.is_some()
+            || what.is_met(LEVEL, first.count, false)
+        {
+            return Ok(true);
+        }
+        if !what.is_met(LEVEL, both.count, false) || both.len != text.len() {
             return Ok(true);
         }
     }
@@ -108,8 +126,8 @@ fn check_rows(alloc: Global, format: u8, start: u64) -> Result<u64, Fail> {
             text.push(b'\n')?;
         }
     }
-    if is_given_too_early(alloc, Asked::Rows, &text)? {
-        return Err(Fail::from("given too early"));
+    if is_cut_otherwise(alloc, Asked::Rows, &text)? {
+        return Err(Fail::from("cut otherwise"));
     }
     let Some(item) = held(alloc, format, Asked::Rows, &text, false)? else {
         return Err(Fail::from("no item"));
@@ -145,8 +163,8 @@ fn check_points(alloc: Global, start: u64) -> Result<u64, Fail> {
         let at = Pixel { x, y };
         points.push(Point { at, label })?;
     }
-    if is_given_too_early(alloc, Asked::Points(3), &text)? {
-        return Err(Fail::from("given too early"));
+    if is_cut_otherwise(alloc, Asked::Points(3), &text)? {
+        return Err(Fail::from("cut otherwise"));
     }
     let Some(item) = held(alloc, 1, Asked::Points(3), &text, false)? else {
         return Err(Fail::from("no item"));
@@ -180,8 +198,8 @@ fn check_ring(alloc: Global, start: u64) -> Result<u64, Fail> {
         corners.push(Corner { x, y })?;
     }
     text.push(b'\n')?;
-    if is_given_too_early(alloc, Asked::Rings(1), &text)? {
-        return Err(Fail::from("given too early"));
+    if is_cut_otherwise(alloc, Asked::Rings(1), &text)? {
+        return Err(Fail::from("cut otherwise"));
     }
     let Some(item) = held(alloc, 1, Asked::Rings(1), &text, false)? else {
         return Err(Fail::from("no item"));

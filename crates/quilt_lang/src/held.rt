@@ -1,13 +1,12 @@
 //! What an item holds: its line, and what its further lines spell.
 ghost use Rattle.std.specs.Prelude.{◌≡◌, map, IfOk};
-ghost use Rattle.quilt_lang.specs.Items.{asked, held, words_of, rows_of, points_of, rings_of};
+ghost use Rattle.quilt_words.specs.Items.{asked, held, words_of, rows_of, points_of, rings_of};
 ghost use Rattle.quilt_lang.specs.Cutting.{IsAsked, grouped, holding};
 
-use crate::Item;
 use crate::asked::{Asked, is_count, is_side};
 use crate::spelled::{list_points, raster_rows, ring_lines};
-use crate::words::LINE_LIMIT;
 use quilt_types::{PointList, RingList, Text};
+use quilt_words::{Item, LINE_LIMIT};
 use std::alloc::{AllocError, Global};
 
 /// The item that a line is with these further lines, read in the format, where it asks for such.

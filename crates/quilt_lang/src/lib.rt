@@ -1,35 +1,19 @@
-//! The command language: items of a text, and the commands that they spell.
+//! The lines of a text: it is cut into items, each a line with the further lines that it asks for, as its pieces come.
 #![tactic(auto)]
 
-mod arguments;
 mod asked;
-mod command;
-mod commands;
+mod counting;
 mod cutting;
 mod front;
-mod further;
 mod held;
-mod item;
 mod lines;
-mod pairs;
-mod parse_err;
-mod parser;
+mod progress;
 mod reading;
-mod recolour;
-mod refusal;
-mod shapes;
 mod spelled;
-mod word;
-mod words;
 
-pub use command::Command;
-pub use item::Item;
 pub use lines::Lines;
-pub use pairs::Pairs;
-pub use parse_err::ParseErr;
-pub use parser::parse;
+pub use quilt_words::{Command, Item, Pairs, ParseErr, parse, refusal_text};
 pub use reading::{items_in, whole_items_in};
-pub use refusal::refusal_text;
 
 #[cfg(test)]
 mod further_tests;

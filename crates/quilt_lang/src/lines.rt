@@ -1,10 +1,11 @@
-ghost use Rattle.std.specs.Prelude.{◌≡◌, ◌≤◌, ◌+◌, ℕ, false, [], ◌∷◌, ◌++◌, drop, length, vec_len, OnOk, OnErr, IfOk, MatchOption};
-ghost use Rattle.quilt_lang.specs.Items.{whole_items};
+ghost use Rattle.std.specs.Prelude.{◌≡◌, ◌≤◌, ◌+◌, ℕ, false, [], ◌∷◌, ◌++◌, drop, take, length, vec_len, OnOk, OnErr, IfOk, MatchOption};
+ghost use Rattle.quilt_words.specs.Items.{whole_items};
 ghost use Rattle.quilt_lang.specs.Reading.{Gives, GivesItem, HasNone, kept_limit};
 
-use crate::Item;
 use crate::cutting::{kept_len, silent_front};
-use crate::front::front_item;
+use crate::front::{Front, front_item};
+use crate::progress::Progress;
+use quilt_words::Item;
 use std::alloc::{AllocError, Global};
 use std::marker::Model;
 
@@ -14,17 +15,20 @@ pub struct Lines {
     level: u8,
     bytes: Vec<u8>,
     from: usize,
+    progress: Progress,
 }
 
 impl Model for Lines {
     ghost use Rattle.std.specs.Prelude.{◌≡◌, ◌≤◌, false, drop, vec_len};
     ghost use Rattle.quilt_lang.specs.Reading.{Unread, begins_silent};
+    ghost use Rattle.quilt_lang.specs.Progress.{IsProgress};
 
     ghost Value = { Unread };
 
     ghost view = { λ l. record { level = l.level; rest = drop l.from l.bytes.items } };
 
-    ghost invariant = { λ l. (l.from ≤ vec_len l.bytes) × (begins_silent (drop l.from l.bytes.items) ≡ false) };
+    ghost invariant = { λ l. (l.from ≤ vec_len l.bytes) × (begins_silent (drop l.from l.bytes.items) ≡ false)
+        × IsProgress l.level l.progress (drop l.from l.bytes.items) };
 }
 
 impl Lines {
@@ -37,11 +41,13 @@ impl Lines {
             level,
             bytes: Vec::new(alloc),
             from: 0,
+            progress: Progress::Begun(0),
         }
     }
 
     /// Reads a piece more, where all whole items were given. An Err leaves it as it was.
-    /// It takes time and memory in the piece's length and in what it may keep.
+    /// It takes time in the piece's length and in that of the lines that end in it, and memory in the piece's length and in what
+    /// it may keep.
     pub fn feed(&mut self, piece: &[u8]) -> Result<(), AllocError>
         requires { whole_items self.old.level self.old.rest ≡ [] }
         ensures level { self.new.level ≡ self.old.level }
@@ -49,13 +55,26 @@ impl Lines {
         ensures short { OnOk result (length self.new.rest ≤ kept_limit self.old.rest + length piece.now) }
         ensures err { OnErr result (self.new ≡ self.old) }
     {
-        put_behind(&mut self.bytes, self.from, piece)?;
-        self.from = silent_front(&self.bytes);
-        Ok(())
+        match self.progress {
+            Progress::Waiting(_) => {
+                let kept = self.bytes.len() - self.from;
+                put_behind(&mut self.bytes, self.from, kept, piece)?;
+                self.from = 0;
+                Ok(())
+            }
+            Progress::Begun(scanned) => {
+                let kept = kept_len(&self.bytes[self.from..], scanned);
+                put_behind(&mut self.bytes, self.from, kept, piece)?;
+                let (from, known) = silent_front(&self.bytes, scanned.min(kept));
+                self.from = from;
+                self.progress = Progress::Begun(known);
+                Ok(())
+            }
+        }
     }
 
     /// The next item: one whose lines all stand there with their newlines, or, where the input has ended, any. Its further lines
-    /// are read in the format. An Err leaves it as it was.
+    /// are read in the format. An Err leaves it as it was. Where it waits for further lines, those that are there are cut but once.
     pub fn next_item(&mut self, format: u8, ended: bool) -> Result<Option<Item>, AllocError>
         ensures level { self.new.level ≡ self.old.level }
         ensures given { IfOk result (λ found. MatchOption found
@@ -65,30 +84,34 @@ impl Lines {
     {
         let alloc = *self.bytes.allocator();
         let rest = &self.bytes[self.from..];
-        let Some((item, len)) = front_item(alloc, self.level, format, rest, ended)? else {
-            return Ok(None);
-        };
-        let from = self.from + len;
-        self.from = from + silent_front(&self.bytes[from..]);
-        Ok(Some(item))
+        match front_item(alloc, self.level, format, rest, self.progress, ended)? {
+            Front::Waits(progress) => {
+                self.progress = progress;
+                Ok(None)
+            }
+            Front::Given(item, len) => {
+                let from = self.from + len;
+                let (silent, scanned) = silent_front(&self.bytes[from..], 0);
+                self.from = from + silent;
+                self.progress = Progress::Begun(scanned);
+                Ok(Some(item))
+            }
+        }
     }
 }
 
-/// Puts a piece behind what is kept of the bytes from an index on. An Err leaves them as they were.
+/// Puts a piece behind so many bytes from an index on, and gives the others up. An Err leaves them as they were.
 /// Where all are kept from the first on, only the piece is copied.
-fn put_behind(bytes: &mut Vec<u8>, from: usize, piece: &[u8]) -> Result<(), AllocError>
-    requires { from ≤ vec_len bytes.old }
-    ensures fed { OnOk result ((n : ℕ) → Gives false n [] (drop from bytes.old.items ++ piece.now) bytes.new.items) }
-    ensures short { OnOk result (length bytes.new.items ≤ kept_limit (drop from bytes.old.items) + length piece.now) }
+fn put_behind(bytes: &mut Vec<u8>, from: usize, kept: usize, piece: &[u8]) -> Result<(), AllocError>
+    requires { from + kept ≤ vec_len bytes.old }
+    ensures put { OnOk result (bytes.new.items ≡ take kept (drop from bytes.old.items) ++ piece.now) }
     ensures err { OnErr result (bytes.new.items ≡ bytes.old.items) }
 {
-    let rest = &bytes[from..];
-    let kept = kept_len(rest);
-    if from == 0 && kept == rest.len() {
+    if from == 0 && kept == bytes.len() {
         bytes.extend_from_slice(piece)?;
         return Ok(());
     }
-    let mut joined = Vec::from_slice(*bytes.allocator(), &rest[..kept])?;
+    let mut joined = Vec::from_slice(*bytes.allocator(), &bytes[from..from + kept])?;
     joined.extend_from_slice(piece)?;
     *bytes = joined;
     Ok(())

@@ -1,9 +1,10 @@
 ghost use Rattle.std.specs.Prelude.{◌≡◌, ℕ, List, [], ◌++◌, map, flat_map, OnOk, IfOk};
-ghost use Rattle.quilt_lang.specs.Items.{held, items_of, whole_items};
+ghost use Rattle.quilt_words.specs.Items.{held, items_of, whole_items};
 ghost use Rattle.quilt_lang.specs.Reading.{BeginWith};
 ghost use Rattle.quilt_lang.specs.Taking.{Takes};
 
-use crate::{Item, Lines};
+use crate::Lines;
+use quilt_words::Item;
 use std::alloc::{AllocError, Global};
 
 /// The items of a text that comes in pieces, each read in the format. They do not depend on how the text is cut.

@@ -1,14 +1,12 @@
 //! What the further lines of an item spell: rows, list lines and ring lines.
 ghost use Rattle.std.specs.Prelude.{◌≡◌, List, ◌≤◌, ◌*◌, ◌==◌, ℕ, [], ◌∷◌, ◌++◌, map, flat_map, length, nat_le, Some, None, option_map, unwrap_or, if◌then◌else◌, IfOk, codes};
 ghost use Rattle.std.specs.Str.{bytes_eq};
-ghost use Rattle.quilt_lang.specs.Items.{listed_by, colour_bytes, corner_of, corners_of, point, point_of, points_joined, ring_of, rings_joined, rows_joined, words_of};
-ghost use Rattle.quilt_lang.specs.Spelling.{number, row, hex_digit};
+ghost use Rattle.quilt_words.specs.Items.{listed_by, colour_bytes, corner_of, corners_of, point, point_of, points_joined, ring_of, rings_joined, rows_joined, words_of};
+ghost use Rattle.quilt_words.specs.Spelling.{number, row, hex_digit};
 ghost use Rattle.quilt_lang.specs.Spelled.{with_byte};
 
-use crate::arguments::number_of;
-use crate::further::push_ring;
-use crate::words::{LINE_LIMIT, line_words};
 use quilt_types::{Corner, Pixel, Point, PointList, RingList, Text};
+use quilt_words::{LINE_LIMIT, line_words, number_of, push_ring};
 use std::alloc::{AllocError, Global};
 
 /// How many list lines or ring lines the words ask for.

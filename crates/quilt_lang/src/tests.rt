@@ -1,9 +1,6 @@
-use crate::commands::command;
 use crate::spelled::raster_rows;
-use crate::word::Word;
-use crate::words::line_words;
-use crate::{Command, Item, Pairs, ParseErr, items_in, parse, refusal_text, whole_items_in};
-use quilt_types::{Code, Colour, Text};
+use crate::{Command, Item, ParseErr, items_in, parse, whole_items_in};
+use quilt_types::Code;
 use std::alloc::Global;
 use std::test::Fail;
 
@@ -24,6 +21,8 @@ fn refuses_by_form(rt: HostRuntime) -> Result<(), Fail> {
     assert_eq!(rt; refused(alloc, b"set nosuch 99 x 1\n")?, Some(Code::Number));
     assert_eq!(rt; refused(alloc, b"set nosuch 99 0 1\n")?, None);
     assert_eq!(rt; refused(alloc, b"frob\n")?, Some(Code::Word));
+    assert_eq!(rt; refused(alloc, b"publish\n")?, Some(Code::Word));
+    assert_eq!(rt; refused(alloc, b"raster a\n")?, Some(Code::Word));
     assert_eq!(rt; refused(alloc, b"at\n")?, Some(Code::Count));
     assert_eq!(rt; refused(alloc, b"region 9a 0\n")?, Some(Code::Name));
     assert_eq!(rt; refused(alloc, b"region a 256\n")?, Some(Code::Number));
@@ -46,90 +45,6 @@ fn reads_in_pieces(rt: HostRuntime) -> Result<(), Fail> {
         Ok(Command::Show { w, .. }) => assert_eq!(rt; (w.x, w.y, w.w, w.h), (1, 2, 3, 4)),
         _ => assert!(rt; false, "no show"),
     }
-    Ok(())
-}
-
-#[test]
-fn spells_refusals_and_pairs(rt: HostRuntime) -> Result<(), Fail> {
-    let text = refusal_text(rt.alloc(), Code::Long)?;
-    assert_eq!(rt; text.bytes(), b"no 13 long\n".as_slice());
-    let mut pairs = Pairs::of(Colour(1), Colour(2));
-    pairs.push(Colour(3), Colour(4));
-    assert_eq!(rt; pairs.items().len(), 2);
-    Ok(())
-}
-
-/// What a line spells where all commands are built: nothing, or the refusal.
-fn refused_by_all(alloc: Global, format: u8, line: &[u8]) -> Result<Option<Code>, Fail> {
-    let words = line_words(alloc, line)?;
-    let word = words.first().ok_or("no word")?;
-    let Some(known) = Word::of(word) else {
-        return Ok(Some(Code::Word));
-    };
-    let item = Item::Line(Text::new(alloc));
-    match command(alloc, format, known, &words[1..], &item) {
-        Ok(_) => Ok(None),
-        Err(ParseErr::No(code)) => Ok(Some(code)),
-        Err(ParseErr::Memory) => Err(Fail::from("memory")),
-    }
-}
-
-#[test]
-fn refuses_by_ranges(rt: HostRuntime) -> Result<(), Fail> {
-    let alloc = rt.alloc();
-    assert_eq!(rt;
-        refused_by_all(alloc, 1, b"region a 256")?,
-        Some(Code::Number)
-    );
-    assert_eq!(rt; refused_by_all(alloc, 2, b"region a 65535")?, None);
-    assert_eq!(rt;
-        refused_by_all(alloc, 2, b"region a 65536")?,
-        Some(Code::Number)
-    );
-    assert_eq!(rt;
-        refused_by_all(alloc, 1, b"points p 17")?,
-        Some(Code::Number)
-    );
-    assert_eq!(rt;
-        refused_by_all(alloc, 1, b"points p 0 1")?,
-        Some(Code::Count)
-    );
-    assert_eq!(rt;
-        refused_by_all(alloc, 1, b"lines l 33")?,
-        Some(Code::Number)
-    );
-    assert_eq!(rt;
-        refused_by_all(alloc, 1, b"rank l 1 1 0")?,
-        Some(Code::Number)
-    );
-    assert_eq!(rt;
-        refused_by_all(alloc, 1, b"shift a -0 1 c")?,
-        Some(Code::Number)
-    );
-    Ok(())
-}
-
-#[test]
-fn refuses_in_order(rt: HostRuntime) -> Result<(), Fail> {
-    let alloc = rt.alloc();
-    assert_eq!(rt;
-        refused_by_all(alloc, 1, b"recolour a c 1")?,
-        Some(Code::Count)
-    );
-    assert_eq!(rt;
-        refused_by_all(alloc, 1, b"recolour a c 1 2 3 256")?,
-        Some(Code::Number)
-    );
-    assert_eq!(rt;
-        refused_by_all(alloc, 1, b"show A 1 2 3 x")?,
-        Some(Code::Name)
-    );
-    assert_eq!(rt;
-        refused_by_all(alloc, 1, b"show a 1 2 0 x")?,
-        Some(Code::Number)
-    );
-    assert_eq!(rt; refused(alloc, b"publish\n")?, Some(Code::Word));
-    assert_eq!(rt; refused(alloc, b"raster a\n")?, Some(Code::Word));
     Ok(())
 }
 

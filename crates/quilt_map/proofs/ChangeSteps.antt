@@ -1,7 +1,7 @@
 -- What a change of the work leaves of the state.
 use Rattle.std.proofs.Common.{◌≡◌, ◌⊎◌, inl, inr, ⊎_elim, ℕ, ◌+◌, ◌-◌, ◌*◌, ◌^◌, ◌<◌, ◌≤◌, min, nat_lt, Bool, true, false, List, length, Option, Some, None, IfErr, refl, sym, ◌∙◌, ap, subst, arith}
 use Rattle.std.proofs.lemmas.Bool.{ltb-true, ltb-false, cases_lt}
-use Rattle.std.proofs.Math.Nat.{min-eq_left, min-eq_right}
+use Rattle.std.proofs.Math.Nat.{min-eq_left, min-eq_right, min-le_right}
 use Rattle.quilt_types.specs.Facts.{quota, records, changes}
 use Rattle.quilt_types.specs.Layers.{Layer, Map}
 use Rattle.quilt_world.specs.Disk.{Pages}
@@ -145,6 +145,7 @@ module _ {W : Type 0} {D : disk.Ghosts W} where
               level = level ∙ at.level ∙ sym (ap (λ (h : Head). h.level) goes.2);
               quota = at.quota ∙ sym (ap quota size);
               few = few_of (changed_of a) (changed_of b) session.changes (length removed) (length added) count at.few changed counts;
+              bounded = let m = min-le_right (session.changes + length removed + length added) last_count in omega arith;
             };
             within = within;
             count = counts ∙ ap (λ k. min k last_count) (let c = stepped.changed in omega arith);

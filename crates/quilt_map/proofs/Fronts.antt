@@ -3,7 +3,7 @@ use Rattle.std.proofs.Common.{◌≡◌, ℕ, suc, false, List, [], ◌∷◌, �
 use Rattle.std.proofs.lemmas.List.{take_at}
 use Rattle.quilt_types.specs.Layers.{Map, Edition}
 use Rattle.quilt_world.specs.Tale.{Begins}
-use Rattle.quilt_lang.specs.Items.{Group, items_of}
+use Rattle.quilt_words.specs.Items.{Group, items_of}
 use Rattle.quilt_lang.specs.Reading.{Gives}
 use Rattle.quilt_map.specs.Answers.{Reply}
 use Rattle.quilt_map.specs.Runs.{run, run_of, replies_of, outcome_of, form_in}

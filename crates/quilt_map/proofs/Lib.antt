@@ -8,9 +8,14 @@ pub mod Holding
 pub mod Keeping
 pub mod Laws
 pub mod Moving
+pub mod NewLayers
 pub mod Numbered
+pub mod Outcomes
+pub mod Placing
 pub mod Plans
+pub mod Renewed
 pub mod Replies
 pub mod Rows
+pub mod Tests
 pub mod TextLaws
 pub mod ZeroPage

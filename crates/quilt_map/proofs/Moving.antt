@@ -1,5 +1,5 @@
 -- A session whose book goes on stands for what it stood for.
-use Rattle.std.proofs.Common.{◌≡◌, ◌⊎◌, inl, inr, ⊎_elim, ℕ, ◌+◌, ◌*◌, ◌≤◌, Bool, List, length, Option, Some, None, IfSome, refl, sym, ◌∙◌, ap, subst, arith}
+use Rattle.std.proofs.Common.{◌≡◌, ◌⊎◌, inl, inr, ⊎_elim, ℕ, ◌+◌, ◌*◌, ◌≤◌, Bool, cond, List, length, Option, Some, None, IfSome, refl, sym, ◌∙◌, ap, subst, arith}
 use Rattle.quilt_types.specs.Facts.{quota}
 use Rattle.quilt_types.specs.Layers.{Map, Edition}
 use Rattle.quilt_world.specs.Added.{AddsOnly, is_of_text}
@@ -12,14 +12,18 @@ use Rattle.quilt_journal.specs.declared.journal.State.{State as JournalState}
 use Rattle.quilt_journal.specs.declared.journal.State.TheVariants.{Idle}
 use Rattle.quilt_journal.proofs.TextSteps.{kept_text}
 use Rattle.quilt_record.specs.declared.entry.Entry.{Entry}
+use Rattle.quilt_record.specs.declared.record.Record.{Record}
 use Rattle.quilt_node.specs.declared.head.Head.{Head}
+use Rattle.quilt_btree.specs.declared.tree.Tree.{Tree}
+use Rattle.quilt_btree.specs.Edits.{IsWhole, times}
+use Rattle.quilt_spell.specs.Spelled.{SpellsUnder}
 use Rattle.quilt_pool.specs.Views.{entries_of}
 use Rattle.quilt_pool.specs.declared.pool.Pool.{Pool}
 use Rattle.quilt_edition.specs.declared.book.Book.{Book}
 use Rattle.quilt_edition.specs.Books as books
 use Rattle.quilt_edition.specs.Keeping.{IsLater, is_left_out, is_free, marked_count}
 use Rattle.quilt_map.specs.Answers.{State}
-use Rattle.quilt_map.specs.Sessions.{IsHeadOf, IsSpelled, IsPublishedAs, IsAtWith, IsAtState, IsLaterBook, told_of, free_of, changed_of, last_count}
+use Rattle.quilt_map.specs.Sessions.{IsHeadOf, IsSpelled, IsPublishedAs, IsAtWith, IsAtState, IsLaterBook, IsOpened, first_state, tree_in, told_of, free_of, changed_of, last_count}
 use Rattle.quilt_map.specs.declared.session.Session.{Session}
 use Rattle.quilt_map.proofs.Keeping.{book_idle, published_on}
 
@@ -49,6 +53,14 @@ spelled_as told now_told free now_free n m h k entries layers told_is free_is si
     (subst (λ (f : ℕ → Bool). IsSpelled told f m k entries layers) (sym free_is)
     (subst (λ i. IsSpelled told free i k entries layers) (sym size_is)
     (subst (λ (x : Head). IsSpelled told free n x entries layers) (sym head_is) spelled)))
+
+-- a whole tree stays where the same pages are free
+pub whole_free : (told : Option Pages) (free now : ℕ → Bool) (n : ℕ) (t : Tree) (rs : List Record) → ((p : ℕ) → now p ≡ free p) → IsWhole told free n t rs → IsWhole told now n t rs
+whole_free told free now n t rs same whole = record {
+  tree = whole.tree;
+  number = whole.number;
+  balance = λ p low high. ap (λ b. cond b 1 0 + times p whole.tree.visited) (same p) ∙ whole.balance p low high;
+}
 
 module _ {W : Type 0} {D : disk.Ghosts W} where
   -- the session with another book
@@ -94,6 +106,7 @@ module _ {W : Type 0} {D : disk.Ghosts W} where
         level = ap (λ (h : Head). h.level) same.work ∙ at.level ∙ sym (ap (λ (h : Head). h.level) same.last);
         quota = at.quota ∙ sym (ap quota size);
         few = subst (λ k. (k ≤ 9 * session.changes) ⊎ (session.changes ≡ last_count)) (sym (counted_as a b size same.pool (ap (λ (j : View). j.changed) same.journal))) at.few;
+        bounded = at.bounded;
       }
 
   -- calls on the book that leave its pages, the free ones and the heads leave the state
@@ -118,4 +131,38 @@ module _ {W : Type 0} {D : disk.Ghosts W} where
         level = ap (λ (h : Head). h.level) later.2.1 ∙ at.level ∙ sym (ap (λ (h : Head). h.level) later.2.0);
         quota = at.quota ∙ sym (ap quota size);
         few = ⊎_elim (λ le. inl (omega arith)) (λ e. inr e) at.few;
+        bounded = at.bounded;
+      }
+
+  -- a session over a book that was just opened
+  pub opened_at : (session : Session W D) (e : Edition) → session.last ≡ session.catalog → books.IsReady session.book → changed_of session.book ≡ 0
+      → session.book.work ≡ session.book.last → ((page : ℕ) → free_of session.book page ≡ books.published_free session.book page) → session.changes ≡ 0
+      → IsOpened session.book session.catalog e → IsAtState session (first_state session.book.journal.pages e)
+  opened_at session e catalog ready count heads free none opened =
+      let n = session.book.journal.pages in
+      let spelled = opened.holds.spelled in
+      record {
+        tale = opened.tale;
+        told = opened.told;
+        lawful = opened.lawful;
+        ready = ready;
+        last = record {
+          head = opened.holds.head;
+          spelled = subst (λ (es : List Entry). IsSpelled (Some (published opened.tale n)) (books.published_free session.book) n session.book.last es e.layers) (sym catalog) spelled;
+        };
+        pages = published opened.tale n;
+        pages_told = opened.pages;
+        work = record {
+          numbers = spelled.numbers;
+          records = spelled.records;
+          whole = subst (λ (h : Head). IsWhole (Some (published opened.tale n)) (free_of session.book) n (tree_in h) spelled.records) (sym heads)
+              (whole_free (Some (published opened.tale n)) (books.published_free session.book) (free_of session.book) n (tree_in session.book.last) spelled.records free spelled.whole);
+          spelled = subst (λ (h : Head). SpellsUnder h.format h.level spelled.numbers spelled.records e.layers) (sym heads) spelled.spelled;
+          catalog = spelled.catalog;
+        };
+        format = ap (λ (h : Head). h.format) heads;
+        level = ap (λ (h : Head). h.level) heads;
+        quota = refl;
+        few = inl (omega arith);
+        bounded = omega arith;
       }

@@ -3,10 +3,10 @@ use Rattle.std.proofs.Common.{◌≡◌, ℕ, ◌<◌, Bool, true, false, List, 
 use Rattle.std.proofs.lemmas.List.{map-append, length-map}
 use Rattle.quilt_types.specs.Layers.{Map, Edition}
 use Rattle.quilt_types.specs.declared.code.Code.{Code}
-use Rattle.quilt_lang.specs.declared.command.Command.{Command}
-use Rattle.quilt_lang.specs.Items.{Group, held, items_of, whole_items, whole_lines}
+use Rattle.quilt_words.specs.declared.command.Command.{Command}
+use Rattle.quilt_words.specs.Items.{Group, held, items_of, whole_items, whole_lines}
 use Rattle.quilt_lang.specs.Reading.{Same, Gives, MayFollow}
-use Rattle.quilt_lang.specs.Forms.{form}
+use Rattle.quilt_words.specs.Forms.{form}
 use Rattle.quilt_map.specs.Answers.{State}
 use Rattle.quilt_map.specs.Runs.{Run, run_of, outcome_of, form_in, with_first}
 use Rattle.quilt_map.proofs.Laws.{none_published}

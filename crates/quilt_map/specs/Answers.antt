@@ -21,8 +21,8 @@ use Rattle.quilt_types.specs.Algebra.{uniform, painted, union, intersection, dif
 use Rattle.quilt_types.specs.Layers.{Edition}
 use Rattle.quilt_types.specs.declared.code.Code.{Code}
 use Rattle.quilt_types.specs.declared.code.Code.TheVariants as no
-use Rattle.quilt_lang.specs.declared.command.Command.{Command}
-use Rattle.quilt_lang.specs.declared.command.Command.TheVariants as commands
+use Rattle.quilt_words.specs.declared.command.Command.{Command}
+use Rattle.quilt_words.specs.declared.command.Command.TheVariants as commands
 use Rattle.quilt_lang.specs.Trials.{spaced}
 
 -- the lines of the body, or the code of a refusal

@@ -1,9 +1,12 @@
 pub mod Answers
 pub mod Asking
 pub mod Bodies
+pub mod Commanding
 pub mod Editing
 pub mod Lookups
+pub mod Making
 pub mod Planning
+pub mod Renewing
 pub mod Runs
 pub mod Sessions
 pub mod Settled

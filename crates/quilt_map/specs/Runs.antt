@@ -3,11 +3,11 @@ use Rattle.std.specs.Prelude.{ℕ, ◌+◌, Bool, true, false, ◌&&◌, ◌||�
 use Rattle.quilt_types.specs.Layers.{Map, Edition}
 use Rattle.quilt_types.specs.declared.code.Code.{Code}
 use Rattle.quilt_types.specs.declared.code.Code.TheVariants as no
-use Rattle.quilt_lang.specs.declared.command.Command.{Command}
-use Rattle.quilt_lang.specs.declared.command.Command.TheVariants as commands
+use Rattle.quilt_words.specs.declared.command.Command.{Command}
+use Rattle.quilt_words.specs.declared.command.Command.TheVariants as commands
 use Rattle.quilt_types.specs.Facts.{changes}
-use Rattle.quilt_lang.specs.Items.{Group, held, items_of}
-use Rattle.quilt_lang.specs.Forms.{form}
+use Rattle.quilt_words.specs.Items.{Group, held, items_of}
+use Rattle.quilt_words.specs.Forms.{form}
 use Rattle.quilt_map.specs.Answers.{Reply, Done, Refused, Outcome, State, answer}
 
 abbrev pub code_text : Code → List ℕ

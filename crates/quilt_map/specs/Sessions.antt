@@ -122,6 +122,7 @@ module _ {W : Type 0} {D : disk.Ghosts W} where
     pub level : (books.work_of session.book).level ≡ (books.last_of session.book).level
     pub quota : s.quota ≡ quota (books.pages_of session.book)
     pub few : (changed_of session.book ≤ 9 * session.changes) ⊎ (session.changes ≡ last_count)
+    pub bounded : session.changes ≤ last_count
 
   -- with the catalog that the session keeps
   abbrev pub IsAtState : Session W D → State → Type 0

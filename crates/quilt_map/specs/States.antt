@@ -2,7 +2,7 @@
 use Rattle.std.specs.Prelude.{◌≡◌, ℕ, Bool, true, false, Option, Some, None, unwrap_or}
 use Rattle.quilt_types.specs.declared.code.Code.{Code}
 use Rattle.quilt_types.specs.declared.code.Code.TheVariants as no
-use Rattle.quilt_lang.specs.declared.command.Command.{Command}
+use Rattle.quilt_words.specs.declared.command.Command.{Command}
 use Rattle.quilt_map.specs.Answers.{State, Outcome, Refused, answer}
 use Rattle.quilt_map.specs.Runs.{text_of, is_done}
 use Rattle.quilt_map.specs.Answers as answers

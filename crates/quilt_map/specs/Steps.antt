@@ -5,8 +5,8 @@ use Rattle.quilt_types.specs.Layers.{Edition}
 use Rattle.quilt_world.specs.Disk.{Pages}
 use Rattle.quilt_world.specs.Stops.{Since}
 use Rattle.quilt_world.specs.Tale.{Tale}
-use Rattle.quilt_lang.specs.declared.command.Command.{Command}
-use Rattle.quilt_lang.specs.declared.command.Command.TheVariants as commands
+use Rattle.quilt_words.specs.declared.command.Command.{Command}
+use Rattle.quilt_words.specs.declared.command.Command.TheVariants as commands
 use Rattle.quilt_journal.specs.Writing.{Writing}
 use Rattle.quilt_edition.specs.Stands.{Stands}
 use Rattle.quilt_map.specs.Answers.{State, answer}

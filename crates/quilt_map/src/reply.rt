@@ -1,13 +1,13 @@
 ghost use Rattle.std.specs.Prelude.{◌≡◌, IfOk};
 ghost use Rattle.quilt_types.specs.declared.code.Code.{Code as RefusalCode};
-ghost use Rattle.quilt_lang.specs.Parsing.{refusal};
+ghost use Rattle.quilt_words.specs.Parsing.{refusal};
 ghost use Rattle.quilt_map.specs.Answers as answers;
 ghost use Rattle.quilt_map.specs.Answers.{Refused};
 ghost use Rattle.quilt_map.specs.Runs.{text_of};
 ghost use Rattle.quilt_map.specs.States.{Tells};
 ghost use Rattle.quilt_map.specs.declared.reply.Reply.TheVariants as replies;
 
-use quilt_lang::refusal_text;
+use quilt_words::refusal_text;
 use quilt_types::{Code, Text};
 use std::alloc::{AllocError, Global};
 

@@ -7,16 +7,17 @@ ghost use Rattle.quilt_world.specs.Causes.{HasCause, Rose};
 ghost use Rattle.quilt_world.specs.Doors.{TakesFrom};
 ghost use Rattle.quilt_world.specs.declared.event.Event.TheVariants.{Put};
 ghost use Rattle.quilt_world.specs.declared.disk.Door.TheVariants as doors;
-ghost use Rattle.quilt_lang.specs.Forms.{Spelled};
+ghost use Rattle.quilt_words.specs.Forms.{Spelled};
 ghost use Rattle.quilt_edition.specs.Books as books;
 ghost use Rattle.quilt_map.specs.Answers.{State, answer};
 ghost use Rattle.quilt_map.specs.Sessions.{IsNumbered, IsOpened, changed_of, free_of, first_state};
 ghost use Rattle.quilt_map.specs.States.{Tells, IsRefusal, after};
 ghost use Rattle.quilt_map.specs.Steps.{Leaves, WritesFew, changes_after};
 
+use crate::entries::copy_of;
 use crate::reply::Reply;
 use quilt_edition::Book;
-use quilt_lang::Command;
+use quilt_words::Command;
 use quilt_node::Head;
 use quilt_par::Gate;
 use quilt_record::Catalog;
@@ -52,7 +53,7 @@ impl<W: World> Session<W> {
         ensures changes { changes_of result ≡ 0 }
         ensures at { (e : Edition) → IsOpened book catalog e → IsAt result (first_state (books.pages_of book) e) }
     {
-        let last = Catalog::new();
+        let last = copy_of(&catalog);
         Session {
             book,
             catalog,

@@ -16,13 +16,13 @@ by_key r s = key_cmp r.key s.key
 pub by_key_total : IsTotalOrder by_key
 by_key_total = on_total (λ (r : Record). r.key) key_total
 
-then_equal : (o p : Ordering) → o ≡ Equal → ordering_then o p ≡ p
+pub then_equal : (o p : Ordering) → o ≡ Equal → ordering_then o p ≡ p
 then_equal o p e = ap (λ q. ordering_then q p) e
 
 then_less : (o p : Ordering) → o ≡ Less → ordering_then o p ≡ Less
 then_less o p e = ap (λ q. ordering_then q p) e
 
-nat_same : (a b : ℕ) → a ≡ b → nat_cmp a b ≡ Equal
+pub nat_same : (a b : ℕ) → a ≡ b → nat_cmp a b ≡ Equal
 nat_same a b e = ap (λ c. nat_cmp a c) (sym e) ∙ tied_itself nat_cmp_total a
 
 nat_greater : (a b : ℕ) → b < a → nat_cmp a b ≡ Greater
@@ -45,6 +45,9 @@ pub le_code : (a b : Key) → a.layer ≡ b.layer → a.part ≡ b.part → is_l
 le_code a b l p h = le_number a.code b.code _ (sym (ap is_le (same_part a b l p)) ∙ h)
 
 -- a key that is less than another
+pub less_layer : (a b : Key) → a.layer < b.layer → key_cmp a b ≡ Less
+less_layer a b lt = then_less _ _ (nat_less a.layer b.layer lt)
+
 pub less_part : (a b : Key) → a.layer ≡ b.layer → a.part < b.part → key_cmp a b ≡ Less
 less_part a b l lt = then_equal _ _ (nat_same a.layer b.layer l) ∙ then_less _ _ (nat_less a.part b.part lt)
 

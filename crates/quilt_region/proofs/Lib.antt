@@ -7,3 +7,8 @@ pub mod Progress
 pub mod Parts
 pub mod Results
 pub mod Edited
+pub mod Nested
+pub mod InStep
+pub mod LayerPlans
+pub mod GridsFit
+pub mod RegionLaws

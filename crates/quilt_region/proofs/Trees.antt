@@ -1,8 +1,9 @@
 -- The records of a tree rise by their keys.
-use Rattle.std.proofs.Common.{◌≡◌, ℕ, zero, suc, ◌≤◌, true, List, [], ◌∷◌, map, Option, refl, sym, subst, arith}
+use Rattle.std.proofs.Common.{◌≡◌, ℕ, zero, suc, ◌≤◌, true, List, [], ◌∷◌, map, Option, refl, sym, ap, subst, arith}
 use Rattle.std.specs.Ordering.{is_lt}
+use Rattle.std.proofs.lemmas.Bool.{and_from}
 use Rattle.quilt_loc.specs.Codes.{Rises}
-use Rattle.quilt_loc.proofs.Members.{list_all-at, Contains-map}
+use Rattle.quilt_loc.proofs.Members.{list_all-at, Contains-here, Contains-map}
 use Rattle.quilt_record.specs.declared.key.Key.{Key}
 use Rattle.quilt_record.specs.declared.record.Record.{Record}
 use Rattle.quilt_record.specs.Records.{key_cmp}
@@ -23,6 +24,11 @@ ascending_rises (r ∷ rs) h = (
   λ s c. is_Less (key_cmp r.key s.key) (list_all-at (λ l. is_lt (key_cmp r.key l)) (keys_of rs) s.key (ascending_first r.key (keys_of rs) h) (Contains-map (λ (u : Record). u.key) rs s c)),
   ascending_rises rs (ascending_rest r.key (keys_of rs) h),
 )
+
+pub rises_ascend : (rs : List Record) → Rises by_key rs → is_ascending (keys_of rs) ≡ true
+rises_ascend [] h = refl
+rises_ascend (r ∷ []) h = refl
+rises_ascend (r ∷ s ∷ rs) h = and_from (is_lt (key_cmp r.key s.key)) (is_ascending (keys_of (s ∷ rs))) (ap is_lt (h.0 s (Contains-here s rs))) (rises_ascend (s ∷ rs) h.1)
 
 rises_at : (told : Option (List (List ℕ))) (t : Tree) (rs : List Record) (height : ℕ) → t.height ≡ height → IsTree told t rs → Rises by_key rs
 rises_at told t rs zero e is = subst (Rises by_key) (sym (no_records told t rs e is)) tt

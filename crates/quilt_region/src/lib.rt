@@ -2,11 +2,16 @@
 //! go and come when it changes.
 #![tactic(auto)]
 
+mod bounding;
+mod comparing;
+mod laws;
 mod painting;
 mod planning;
 mod reading;
 mod spelling;
 
+pub use bounding::{first_key, last_key};
+pub use laws::{layer_laws, region_laws};
 pub use planning::{plan_new, plan_rect, plan_replace};
 pub use reading::{colour_at, read_list};
 

@@ -1,21 +1,21 @@
 ghost use Rattle.std.specs.Prelude.{◌≡◌, ℕ, ◌+◌, ◌*◌, ◌≤◌, true, IfOk, IfErr, List, length};
-ghost use Rattle.quilt_types.specs.Plane.{IsBlock, is_window};
+ghost use Rattle.quilt_types.specs.Plane.{is_window};
 ghost use Rattle.quilt_types.specs.Layers.{Grid, IsGrid};
 ghost use Rattle.quilt_types.specs.Algebra.{painted};
 ghost use Rattle.quilt_record.specs.declared.record.Record.{Record};
 ghost use Rattle.quilt_record.specs.declared.edits.Edits.{Edits as AnyEdits};
 ghost use Rattle.quilt_store.specs.Store.{Tells};
-ghost use Rattle.quilt_blocks.specs.Cutting.{leaves_by_code, pair_of};
+ghost use Rattle.quilt_blocks.specs.Cutting.{leaves_by_code};
 ghost use Rattle.quilt_btree.specs.Stops.{HasStopCause, IsSound};
 ghost use Rattle.quilt_btree.specs.Trees.{IsRooted};
 ghost use Rattle.quilt_region.specs.Regions.{HasRegion, SpellsRegion};
-ghost use Rattle.quilt_region.specs.Plans.{LeadsTo, IsEdited, IsFresh, is_leaf, records_without};
+ghost use Rattle.quilt_region.specs.Plans.{LeadsTo, IsEdited, IsFresh};
 
+use crate::comparing::edits_between;
 use crate::painting::paint;
 use crate::reading::read_list;
-use quilt_blocks::{Cursor, Leaf, LeafList};
+use quilt_blocks::{Cursor, LeafList};
 use quilt_btree::Tree;
-use quilt_loc::parent;
 use quilt_record::{Edits, RecordList, region_record};
 use quilt_store::PageStore;
 use quilt_types::{Colour, Stop, Window};
@@ -89,8 +89,8 @@ pub fn plan_new(alloc: Global, layer: u8, list: &LeafList) -> Result<Edits, Allo
 }
 
 /// The records that go and those that come when a region layer becomes another one of its level: those of the leaves that
-/// only the old or only the new one has, in the order of their codes. Each leaf costs three binary searches in the other
-/// list at most.
+/// only the old or only the new one has, in the order of their codes. It walks over both lists in step, so its work grows
+/// with their leaves (Samet 1990; Shaffer, Samet and Nelson 1990).
 pub fn plan_replace(
     alloc: Global,
     layer: u8,
@@ -104,48 +104,5 @@ pub fn plan_replace(
     // Such edits turn records that spell the layer as the old grid into records that spell it as the new one.
     ensures law { (n number : ℕ) (g h : Grid) (edits : AnyEdits) (rs now : List Record) → n ≤ 12 → IsGrid 2 n h → LeadsTo n number g h edits → SpellsRegion rs number n g → IsEdited rs edits now → SpellsRegion now number n h }
 {
-    let remove = records_only_in(alloc, layer, old, new)?;
-    let add = records_only_in(alloc, layer, new, old)?;
-    Ok(Edits { remove, add })
-}
-
-/// The records of the leaves of a list that the other does not have.
-fn records_only_in(
-    alloc: Global,
-    layer: u8,
-    list: &LeafList,
-    other: &LeafList,
-) -> Result<RecordList, AllocError>
-    requires layer { 1 ≤ layer }
-    requires level { list.now.level ≡ other.now.level }
-    ensures records { IfOk result (λ records. records ≡ records_without list.now.level layer list.now.grid other.now.grid) }
-    ensures most { list.now.level ≤ 12 }
-{
-    let level = list.level();
-    let mut records = RecordList::new(alloc);
-    let mut leaves = Cursor::new(list);
-    while let Some(leaf) = leaves.next() {
-        if !has_leaf(other, leaf) {
-            records.push(&region_record(layer, leaf.block, level, leaf.colour))?;
-        }
-    }
-    Ok(records)
-}
-
-/// Whether the list has this leaf: its block has this colour alone, and is the whole square or lies in a larger one of two
-/// colours.
-fn has_leaf(list: &LeafList, leaf: Leaf) -> bool
-    requires { IsBlock list.now.level leaf.block }
-    ensures { result ≡ is_leaf list.now.level list.now.grid (pair_of leaf) }
-{
-    let Some(colour) = list.uniform_in(leaf.block) else {
-        return false;
-    };
-    if colour != leaf.colour {
-        return false;
-    }
-    match parent(leaf.block, list.level()) {
-        None => true,
-        Some(larger) => list.uniform_in(larger).is_none(),
-    }
+    edits_between(alloc, layer, old, new)
 }

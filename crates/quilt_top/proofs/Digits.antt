@@ -3,7 +3,7 @@ use Rattle.std.proofs.Common.{◌≡◌, ◌≢◌, ◌≤◌, ◌+◌, ◌-◌,
 use Rattle.std.specs.List.{list_all}
 use Rattle.std.proofs.lemmas.Bool.{ne_eqb}
 use Rattle.std.proofs.lemmas.List.Sums.{fold-append}
-use Rattle.quilt_lang.specs.Spelling.{is_digit, is_spelled, value_of}
+use Rattle.quilt_words.specs.Spelling.{is_digit, is_spelled, value_of}
 
 and_one : (b : Bool) → b ≡ (b && true)
 and_one true = refl

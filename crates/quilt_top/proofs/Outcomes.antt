@@ -1,13 +1,13 @@
 -- What an answer is, by the definition of a run.
 use Rattle.std.proofs.Common.{◌≡◌, ℕ, true, List, Result, Ok, Err, refl, sym, ◌∙◌, ap, subst}
 use Rattle.quilt_types.specs.declared.code.Code.{Code}
-use Rattle.quilt_lang.specs.declared.command.Command.{Command}
-use Rattle.quilt_lang.specs.declared.item.Item.{Item}
-use Rattle.quilt_lang.specs.Items.{Group, held}
-use Rattle.quilt_lang.specs.Forms.{form}
-use Rattle.quilt_lang.specs.Parsing.{Answers}
-use Rattle.quilt_lang.specs.declared.parse_err.ParseErr.{ParseErr}
-use Rattle.quilt_lang.specs.declared.parse_err.ParseErr.TheVariants as errs
+use Rattle.quilt_words.specs.declared.command.Command.{Command}
+use Rattle.quilt_words.specs.declared.item.Item.{Item}
+use Rattle.quilt_words.specs.Items.{Group, held}
+use Rattle.quilt_words.specs.Forms.{form}
+use Rattle.quilt_words.specs.Parsing.{Answers}
+use Rattle.quilt_words.specs.declared.parse_err.ParseErr.{ParseErr}
+use Rattle.quilt_words.specs.declared.parse_err.ParseErr.TheVariants as errs
 use Rattle.quilt_map.specs.Answers.{State, Refused, answer}
 use Rattle.quilt_map.specs.Runs.{outcome_of, text_of, is_done}
 use Rattle.quilt_map.specs.States.{Tells, after, after_outcome}

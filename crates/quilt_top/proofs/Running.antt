@@ -15,7 +15,7 @@ use Rattle.quilt_world.specs.declared.disk.Door.{Door}
 use Rattle.quilt_world.specs.declared.disk.Door.TheVariants as doors
 use Rattle.quilt_world.proofs.PageLaws.{seen_left}
 use Rattle.quilt_edition.specs.Stands.{Stands}
-use Rattle.quilt_lang.specs.Items.{Group, items_of}
+use Rattle.quilt_words.specs.Items.{Group, items_of}
 use Rattle.quilt_map.specs.Answers.{State}
 use Rattle.quilt_map.specs.Runs.{Run, run, run_of, replies_of, output, form_in, outcome_of, text_of, prefix_of, told_within, editions_told}
 use Rattle.quilt_map.specs.Quotas.{most_records}

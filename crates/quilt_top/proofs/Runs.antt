@@ -6,7 +6,7 @@ use Rattle.quilt_world.specs.Disk.{Log}
 use Rattle.quilt_world.specs.Tale.{Tale, Goes, Adds, Begins, put_bytes, taken_bytes}
 use Rattle.quilt_world.specs.Doors.{TakesFrom}
 use Rattle.quilt_world.specs.declared.event.Event.TheVariants.{Took}
-use Rattle.quilt_lang.specs.Items.{Group, held, items_of, whole_items}
+use Rattle.quilt_words.specs.Items.{Group, held, items_of, whole_items}
 use Rattle.quilt_lang.specs.Reading.{Same, Gives, MayFollow}
 use Rattle.quilt_map.specs.Answers.{State, Reply}
 use Rattle.quilt_map.specs.Runs.{is_done}

@@ -11,7 +11,7 @@ use Rattle.quilt_world.proofs.AddedLaws.{only-append, adds_only_both}
 use Rattle.quilt_world.proofs.TextLaws.{put_text, nothing_text}
 use Rattle.quilt_world.proofs.Told.{goes_then}
 use Rattle.quilt_world.proofs.StopLaws.{same_file}
-use Rattle.quilt_lang.specs.Items.{Group}
+use Rattle.quilt_words.specs.Items.{Group}
 use Rattle.quilt_lang.specs.Reading.{Same}
 use Rattle.quilt_map.proofs.TextLaws.{run_same, outcome_none}
 use Rattle.quilt_map.specs.Answers.{State, Reply}

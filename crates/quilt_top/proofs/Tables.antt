@@ -2,7 +2,7 @@
 use Rattle.std.proofs.Common.{◌≡◌, ◌≢◌, ℕ, Bool, true, false, ◌&&◌, ◌||◌, cond, List, [], ◌∷◌, length, get_or, map, Some, None, codes, option_and_then, refl, ◌∙◌, ap, arith}
 use Rattle.std.specs.List.{list_any}
 use Rattle.std.specs.Str.{bytes_eq}
-use Rattle.quilt_lang.specs.Spelling.{number}
+use Rattle.quilt_words.specs.Spelling.{number}
 use Rattle.quilt_top.specs.Words.{is_dashed, with_word, parts_of, new_order, run_order, order_of_words, order_of, asked_for}
 
 both_false : (a b : Bool) → (a || b) ≡ false → (a ≡ false) × (b ≡ false)

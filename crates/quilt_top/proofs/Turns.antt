@@ -2,7 +2,7 @@
 use Rattle.std.proofs.Common.{◌≡◌, ℕ, Bool, true, false, ◌&&◌, List, [], ◌∷◌, ◌++◌, refl, sym, ◌∙◌, ap, append_assoc, Option, Some, None}
 use Rattle.std.specs.List.{list_all}
 use Rattle.quilt_world.specs.Tale.{Tale, Goes}
-use Rattle.quilt_lang.specs.Items.{Group, items_of}
+use Rattle.quilt_words.specs.Items.{Group, items_of}
 use Rattle.quilt_lang.specs.Reading.{Gives, MayFollow}
 use Rattle.quilt_map.specs.Answers.{State}
 use Rattle.quilt_map.specs.Runs.{text_of, is_done}

@@ -3,7 +3,7 @@ use Rattle.std.specs.Prelude.{◌≡◌, ℕ, Bool, ◌&&◌, List, ◌++◌, Op
 use Rattle.std.specs.List.{list_all}
 use Rattle.quilt_world.specs.Added.{AddsOnly, is_of_text}
 use Rattle.quilt_world.specs.Tale.{Tale, Goes, Begins}
-use Rattle.quilt_lang.specs.Items.{Group, items_of}
+use Rattle.quilt_words.specs.Items.{Group, items_of}
 use Rattle.quilt_lang.specs.Reading.{Gives, MayFollow}
 use Rattle.quilt_map.specs.Answers.{State}
 use Rattle.quilt_map.specs.Runs.{is_done}

@@ -3,7 +3,7 @@ use Rattle.std.specs.Prelude.{◌≡◌, ℕ, Bool, false, List, ◌++◌, lengt
 use Rattle.std.specs.List.{list_all}
 use Rattle.quilt_world.specs.Added.{AddsOnly, AtEachTook, is_of_text}
 use Rattle.quilt_world.specs.Tale.{Tale, put_bytes, taken_bytes}
-use Rattle.quilt_lang.specs.Items.{Group}
+use Rattle.quilt_words.specs.Items.{Group}
 use Rattle.quilt_lang.specs.Reading.{Gives}
 use Rattle.quilt_map.specs.Answers.{State}
 use Rattle.quilt_map.specs.Runs.{is_done}

@@ -1,8 +1,8 @@
 -- The replies to items, one after another.
 use Rattle.std.specs.Prelude.{◌≡◌, ℕ, List, [], ◌∷◌}
-use Rattle.quilt_lang.specs.declared.item.Item.{Item}
-use Rattle.quilt_lang.specs.Items.{Group, held}
-use Rattle.quilt_lang.specs.Forms.{form}
+use Rattle.quilt_words.specs.declared.item.Item.{Item}
+use Rattle.quilt_words.specs.Items.{Group, held}
+use Rattle.quilt_words.specs.Forms.{form}
 use Rattle.quilt_map.specs.Answers.{State, Outcome, Reply}
 use Rattle.quilt_map.specs.Runs.{outcome_of, output}
 use Rattle.quilt_map.specs.States.{after_outcome}

@@ -5,7 +5,7 @@ use Rattle.quilt_world.specs.Added.{Only, AddsOnly, AtEachTook, is_of_pages, is_
 use Rattle.quilt_world.specs.Disk.{Log}
 use Rattle.quilt_world.specs.Tale.{Tale, put_bytes, taken_bytes, Begins}
 use Rattle.quilt_world.specs.declared.event.Event.TheVariants.{Took}
-use Rattle.quilt_lang.specs.Items.{Group, items_of, whole_items}
+use Rattle.quilt_words.specs.Items.{Group, items_of, whole_items}
 use Rattle.quilt_map.specs.Answers.{State}
 use Rattle.quilt_map.specs.Runs.{Run, run_of, replies_of, is_done, output}
 

@@ -1,5 +1,5 @@
 ghost use Rattle.std.specs.Prelude.{◌≡◌, ◌≤◌, ◌&&◌, true, codes, map, nat_le, if◌then◌else◌, Some, None, option_map, IfSome};
-ghost use Rattle.quilt_lang.specs.Spelling as spelling;
+ghost use Rattle.quilt_words.specs.Spelling as spelling;
 ghost use Rattle.std.specs.Str.{bytes_eq};
 ghost use Rattle.quilt_top.specs.Meanings.{meant};
 ghost use Rattle.quilt_top.specs.Words as table;
@@ -40,7 +40,7 @@ fn value_within(high: u32, digits: &[u8]) -> Option<u32>
 }
 
 /// The number from `low` to `high` that the word spells.
-#[tactic(auto, unfolding(quilt_lang::specs::Spelling::number))]
+#[tactic(auto, unfolding(quilt_words::specs::Spelling::number))]
 fn number(low: u32, high: u32, word: &str) -> Option<u32>
     requires { high ≤ 30000 }
     ensures value { result ≡ spelling.number low high word.now }

@@ -1,5 +1,5 @@
 ghost use Rattle.quilt_pool.specs.Views.{entries_of};
-ghost use Rattle.std.specs.Prelude.{◌≡◌, ℕ, ◌+◌, ◌*◌, ◌≤◌, length, Some, None, [], ◌∷◌, ◌++◌, ◌⊎◌, ◌<◌, true, false, take, refl, IfOk, IfSome, OnOk, OnErr, slice_set};
+ghost use Rattle.std.specs.Prelude.{◌≡◌, ◌↔◌, IsTrue, ℕ, ◌+◌, ◌*◌, ◌≤◌, length, Some, None, [], ◌∷◌, ◌++◌, ◌⊎◌, ◌<◌, true, false, take, refl, IfOk, IfSome, OnOk, OnErr, slice_set};
 ghost use Rattle.std.specs.Map.{keys_of};
 ghost use Rattle.quilt_world.specs.Tale.{Adds, Goes};
 ghost use Rattle.quilt_world.specs.Doors.{TakesFrom};
@@ -19,7 +19,7 @@ ghost use Rattle.quilt_edition.specs.Keeping.{IsKeptBy, told_pages, reads_of, is
 use crate::book::Book;
 use crate::free::others_of;
 use crate::publish::publish_pages;
-use quilt_journal::Journal;
+use quilt_journal::{Journal, State};
 use quilt_node::{Head, header_bytes};
 use quilt_pool::Pool;
 use quilt_store::PageStore;
@@ -94,6 +94,13 @@ impl<W: Disk> Book<W> {
         ensures numbers { IsHead (pages_of self.now) result }
     {
         self.work
+    }
+
+    /// Whether no publish has failed behind its first write.
+    pub fn is_ready(&self) -> bool
+        ensures { IsTrue result ↔ IsReady self.now }
+    {
+        self.journal.state() == State::Idle
     }
 
     /// States the tree of the work.

@@ -1,6 +1,6 @@
 use Rattle.std.proofs.Common.{◌∙◌, sym, arith, length}
 use Rattle.std.proofs.lemmas.Bool.{lt-ltb, le-ltb}
-use Rattle.quilt_lang.specs.Items.{line_limit}
+use Rattle.quilt_words.specs.Items.{line_limit}
 use Rattle.quilt_lang.proofs.Asking.{line_long, line_odd, line_asks}
 use Rattle.quilt_lang.proofs.asked.further_asked.Goals as goal
 

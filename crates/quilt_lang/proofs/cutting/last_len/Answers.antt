@@ -6,12 +6,15 @@ use Rattle.quilt_lang.proofs.cutting.last_len.Goals as goal
 use Rattle.quilt_lang.proofs.cutting.last_len.Goals.{then-not-ended-via-then-not-ended, then-not-ended-via-else-not-ended+then-is_silent_line}
 
 pub returns-then-not-ended-clause-found : goal.returns-then-not-ended-clause-found
-returns-then-not-ended-clause-found c = λ n.
-    elim c.then-not-ended.branch [
-      | then-not-ended-via-then-not-ended w ↦
-          rw w.if-not-ended.true (none_open n c.args.text.now c.requires)
-      | then-not-ended-via-else-not-ended+then-is_silent_line w ↦ none_ended c.args.ended n c.args.text.now c.requires (sym w.is_silent_line.ensures ∙ w.if-is_silent_line.true)
-    ]
+returns-then-not-ended-clause-found c = (
+  c.requires,
+  λ n.
+      elim c.then-not-ended.branch [
+        | then-not-ended-via-then-not-ended w ↦
+            rw w.if-not-ended.true (none_open n c.args.text.now c.requires)
+        | then-not-ended-via-else-not-ended+then-is_silent_line w ↦ none_ended c.args.ended n c.args.text.now c.requires (sym w.is_silent_line.ensures ∙ w.if-is_silent_line.true)
+      ],
+)
 
 pub returns-clause-found : goal.returns-clause-found
 returns-clause-found c = cuts_last c.args.ended c.args.text.now c.if-not-ended.false c.requires (loud_some c.args.text.now (sym c.is_silent_line.ensures ∙ c.if-is_silent_line.false))

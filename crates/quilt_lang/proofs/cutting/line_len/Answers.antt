@@ -6,10 +6,10 @@ use Rattle.quilt_lang.proofs.cutting.line_len.Goals as goal
 
 pub returns-in-Some-clause-found : goal.returns-in-Some-clause-found
 returns-in-Some-clause-found c =
-    let at : HasNewline c.args.text.now c.in-Some.k = rw c.in-Some.is at c.newline.ensures in
+    let at : HasNewline c.args.text.now c.in-Some.k = rw c.in-Some.is at c.newline_behind.ensures in
     cuts_newline c.args.ended c.args.text.now c.in-Some.k at
 
 pub returns-in-Some-clause-loud : goal.returns-in-Some-clause-loud
 returns-in-Some-clause-loud c =
-    let at : HasNewline c.args.text.now c.in-Some.k = rw c.in-Some.is at c.newline.ensures in
-    sym (begins_cut c.args.text.now c.in-Some.k at) ∙ c.requires
+    let at : HasNewline c.args.text.now c.in-Some.k = rw c.in-Some.is at c.newline_behind.ensures in
+    sym (begins_cut c.args.text.now c.in-Some.k at) ∙ c.requires.loud

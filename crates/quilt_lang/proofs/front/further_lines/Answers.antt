@@ -1,6 +1,6 @@
 use Rattle.std.proofs.Common.{◌-◌, ◌∙◌, List, ℕ, drop, length, take, arith, refl, sym}
 use Rattle.quilt_lang.specs.Cutting.{number_of}
-use Rattle.quilt_lang.proofs.Slices.{behind}
+use Rattle.quilt_words.proofs.Slices.{behind}
 use Rattle.quilt_lang.proofs.Groups.{so_far_first, so_far_put, so_far_smaller, so_far_all, so_far_end}
 use Rattle.quilt_lang.proofs.front.further_lines.Goals as goal
 

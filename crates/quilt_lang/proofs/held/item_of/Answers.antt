@@ -1,7 +1,7 @@
 use Rattle.std.proofs.Common.{◌∙◌, ap, arith, length, List, ℕ, ◌++◌, map}
 use Rattle.std.proofs.lemmas.Bool.{lt-ltb, le-ltb}
 use Rattle.std.proofs.lemmas.Result.{IfOk-weaker}
-use Rattle.quilt_lang.specs.Items.{line_limit}
+use Rattle.quilt_words.specs.Items.{line_limit}
 use Rattle.quilt_lang.specs.Cutting.{holding}
 use Rattle.quilt_lang.proofs.Asking.{holds, holds_long}
 use Rattle.quilt_lang.proofs.held.item_of.Goals as goal

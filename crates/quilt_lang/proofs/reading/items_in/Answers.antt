@@ -2,7 +2,7 @@ use Rattle.std.proofs.Common.{arith, [], flat_map, map, ℕ, ◌≡◌, ◌==◌
 use Rattle.std.proofs.lemmas.List.{take_all}
 use Rattle.std.proofs.lemmas.List.Elements.{All-nil}
 use Rattle.std.proofs.lemmas.Grind.{common_steps}
-use Rattle.quilt_lang.specs.Items.{held, items_of}
+use Rattle.quilt_words.specs.Items.{held, items_of}
 use Rattle.quilt_lang.proofs.LineLaws.{whole_part}
 use Rattle.quilt_lang.proofs.Takes.{so_far_first, so_far_next, all_of_it}
 use Rattle.quilt_lang.proofs.reading.items_in.Goals as goal

@@ -1,5 +1,5 @@
 use Rattle.std.proofs.Common.{length}
-use Rattle.quilt_lang.specs.Items.{items_of}
+use Rattle.quilt_words.specs.Items.{items_of}
 use Rattle.quilt_lang.specs.Taking.{Gave}
 use Rattle.quilt_lang.proofs.reading.take_items.Given as goal
 

@@ -1,5 +1,5 @@
 use Rattle.std.proofs.Common.{◌≡◌, false, List, length}
-use Rattle.quilt_lang.specs.Items.{Group, items_of}
+use Rattle.quilt_words.specs.Items.{Group, items_of}
 use Rattle.quilt_lang.specs.Reading.{Gives}
 use Rattle.quilt_map.proofs.settled.settled_replies.Given as goal
 

@@ -1,6 +1,6 @@
 use Rattle.std.proofs.Common.{◌≡◌, ◌∙◌, sym, ap, subst, Ok, Err}
-use Rattle.quilt_lang.specs.Forms.{form}
-use Rattle.quilt_lang.specs.Parsing.{Answers}
+use Rattle.quilt_words.specs.Forms.{form}
+use Rattle.quilt_words.specs.Parsing.{Answers}
 use Rattle.quilt_map.specs.Answers.{State}
 use Rattle.quilt_map.specs.Runs.{text_of, is_done}
 use Rattle.quilt_map.specs.Sessions.{IsAt}

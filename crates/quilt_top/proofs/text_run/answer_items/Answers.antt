@@ -1,6 +1,6 @@
 use Rattle.std.proofs.Common.{◌≡◌, ◌∙◌, ◌&&◌, sym, ap, subst, rules}
 use Rattle.quilt_world.specs.Tale.{Goes}
-use Rattle.quilt_lang.specs.declared.item.Item.{Item}
+use Rattle.quilt_words.specs.declared.item.Item.{Item}
 use Rattle.quilt_map.specs.Answers.{State}
 use Rattle.quilt_map.specs.Runs.{text_of, is_done}
 use Rattle.quilt_map.specs.Sessions.{world_of}

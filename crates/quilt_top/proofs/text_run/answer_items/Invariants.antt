@@ -1,5 +1,5 @@
 use Rattle.std.proofs.Common.{◌≡◌, ◌≤◌, length}
-use Rattle.quilt_lang.specs.Items.{items_of}
+use Rattle.quilt_words.specs.Items.{items_of}
 use Rattle.quilt_map.specs.Answers.{State}
 use Rattle.quilt_map.specs.Sessions.{world_of, level_of, IsAt}
 use Rattle.quilt_top.specs.Answered.{Answered}

@@ -1,6 +1,6 @@
 use Rattle.std.proofs.Common.{◌≡◌, ◌≤◌, ◌-◌, ◌^◌, []}
 use Rattle.quilt_world.specs.Tale.{Goes}
-use Rattle.quilt_lang.specs.Items.{whole_items}
+use Rattle.quilt_words.specs.Items.{whole_items}
 use Rattle.quilt_map.specs.Answers.{State}
 use Rattle.quilt_map.specs.Sessions.{world_of, level_of, IsAt}
 use Rattle.quilt_top.specs.Reading.{Reading}

@@ -1,7 +1,7 @@
 use Rattle.std.proofs.Common.{◌≡◌, ◌<◌, ◌+◌, Some, None, Bool, cond, sym, ap, arith, take}
 use Rattle.std.proofs.lemmas.List.Sums.{fold_more}
 use Rattle.std.proofs.lemmas.Bool.{lt-leb}
-use Rattle.quilt_lang.specs.Spelling.{value_of}
+use Rattle.quilt_words.specs.Spelling.{value_of}
 use Rattle.quilt_top.proofs.Digits.{shifted, value_of-take}
 use Rattle.quilt_top.proofs.words.value_within.Goals as goal
 

@@ -1,5 +1,5 @@
 use Rattle.std.proofs.Common.{◌≡◌, ◌≤◌, take}
-use Rattle.quilt_lang.specs.Spelling.{value_of}
+use Rattle.quilt_words.specs.Spelling.{value_of}
 use Rattle.quilt_top.proofs.words.value_within.Given as goal
 
 abbrev pub invariant-loop-digit : goal.invariant-loop-digit

@@ -1,0 +1,179 @@
+-- Lines counted as they come, and bytes that are known to have no newline.
+use Rattle.std.proofs.Common.{◌≡◌, ℕ, ◌+◌, ◌-◌, ◌<◌, ◌≤◌, ◌==◌, ◌||◌, Bool, true, false, List, [], ◌∷◌, ◌++◌, length, take, drop, min, cond, refl, sym, ◌∙◌, ap, subst, arith, append_assoc, append-nil, inl, inr, length-append, length-drop, length-take}
+use Rattle.std.proofs.lemmas.List.{take_all, drop-drop, take-append-le, drop-append-le, take-append-drop, length-take-le}
+use Rattle.std.proofs.lemmas.List.Elements.{All-append, All-take}
+use Rattle.std.proofs.Math.Seq.{take-add, drop-append_seam}
+use Rattle.std.proofs.lemmas.Bool.{eqb-true, eqb-false}
+use Rattle.quilt_lang.specs.declared.asked.Asked.{Asked}
+use Rattle.quilt_lang.specs.declared.progress.CutLines.{CutLines}
+use Rattle.quilt_lang.specs.declared.progress.Waiting.{Waiting}
+use Rattle.quilt_words.specs.Items.{line_limit, whole_lines}
+use Rattle.quilt_lang.specs.Reading.{HasNewline, HasNone, IsLine, is_some_line, kept_limit}
+use Rattle.quilt_lang.specs.Cutting.{Cuts, CutsUpTo, number_of}
+use Rattle.quilt_lang.specs.Progress.{IsCount, IsFirst, IsUncut, IsWaiting}
+use Rattle.quilt_words.proofs.Cases.{bool_cases}
+use Rattle.quilt_lang.proofs.LineLaws.{whole_none}
+use Rattle.quilt_lang.proofs.Groups.{cuts_none, cuts_then, cuts_newline, front_none}
+
+-- bytes with no newline at the front
+pub uncut_first : (text : List ℕ) → IsUncut 0 text
+uncut_first text = record { within = omega arith; none = λ j d below. absurd (omega (arith, below, length-take 0 text)) }
+
+pub uncut_all : (text : List ℕ) → IsLine text → IsUncut (length text) text
+uncut_all text none = record { within = omega arith; none = rw (take_all (length text) text (omega arith)) none }
+
+pub uncut_at : (text : List ℕ) (k : ℕ) → HasNewline text k → IsUncut k text
+uncut_at text k at = record { within = omega (arith, at.within); none = at.before }
+
+line_as : (a b : List ℕ) → a ≡ b → IsLine a → IsLine b
+line_as a b same none = subst (λ (l : List ℕ). IsLine l) same none
+
+line_joined : (a b : List ℕ) → IsLine a → IsLine b → IsLine (a ++ b)
+line_joined a b first second = All-append (λ (c : ℕ). (c == 10) ≡ false) a b first second
+
+-- no newline in all the bytes, and the first one behind those that have none
+pub cut_none : (text rest : List ℕ) (scanned : ℕ) → IsUncut scanned text → rest ≡ drop scanned text → IsLine rest → IsLine text
+cut_none text rest scanned so same none =
+    line_as (take scanned text ++ drop scanned text) text (take-append-drop scanned text)
+    (line_joined (take scanned text) (drop scanned text) so.none (line_as rest (drop scanned text) same none))
+
+newline_drop : (rest : List ℕ) (k : ℕ) → HasNewline rest k → drop k rest ≡ 10 ∷ drop (k + 1) rest
+newline_drop rest k at =
+    let front : List ℕ = take k rest in
+    let behind : List ℕ = 10 ∷ drop (k + 1) rest in
+    let size : length front ≡ k = length-take-le k rest (omega (arith, at.within)) in
+    ap (drop k) at.is ∙ ap (λ (m : ℕ). drop m (front ++ behind)) (sym size) ∙ drop-append_seam front behind
+
+pub cut_some : (text rest : List ℕ) (scanned k : ℕ) → IsUncut scanned text → rest ≡ drop scanned text → HasNewline rest k → HasNewline text (scanned + k)
+cut_some text rest scanned k so same at =
+    let left : length rest ≡ length text - scanned = ap length same ∙ length-drop scanned text in
+    let front : take (scanned + k) text ≡ take scanned text ++ take k rest = take-add scanned k text ∙ ap (λ (l : List ℕ). take scanned text ++ take k l) (sym same) in
+    let back : drop (scanned + k) text ≡ 10 ∷ drop (scanned + k + 1) text =
+    sym (drop-drop k scanned text) ∙ ap (drop k) (sym same) ∙ newline_drop rest k at ∙ ap (λ (l : List ℕ). 10 ∷ drop (k + 1) l) same
+    ∙ ap (λ (l : List ℕ). 10 ∷ l) (drop-drop (k + 1) scanned text ∙ ap (λ (m : ℕ). drop m text) (omega arith)) in
+    record {
+      within = omega (arith, left, at.within, so.within);
+      before = line_as (take scanned text ++ take k rest) (take (scanned + k) text) (sym front) (line_joined (take scanned text) (take k rest) so.none at.before);
+      is = sym (take-append-drop (scanned + k) text) ∙ ap (λ (l : List ℕ). take (scanned + k) text ++ l) back;
+    }
+
+-- with a piece behind them
+pub uncut_grown : (scanned : ℕ) (text piece : List ℕ) → IsUncut scanned text → IsUncut scanned (text ++ piece)
+uncut_grown scanned text piece so = record {
+  within = omega (arith, so.within, length-append text piece);
+  none = line_as (take scanned text) (take scanned (text ++ piece)) (sym (take-append-le scanned text piece so.within)) so.none;
+}
+
+take_less : (k m : ℕ) (text : List ℕ) → k ≤ m → k ≤ length text → take k (take m text) ≡ take k text
+take_less k m text less within =
+    let sum : k + (m - k) ≡ m = omega (arith, less) in
+    let size : length (take k text) ≡ k = length-take-le k text within in
+    ap (take k) (ap (λ (x : ℕ). take x text) (sym sum) ∙ take-add k (m - k) text) ∙ take-append-le k (take k text) (take (m - k) (drop k text)) (omega (arith, size))
+    ∙ take_all k (take k text) (omega (arith, size))
+
+pub uncut_kept : (scanned kept known : ℕ) (rest bytes piece : List ℕ) → IsUncut scanned rest → kept ≤ length rest → known ≡ min scanned kept → bytes ≡ take kept rest ++ piece → IsUncut known bytes
+uncut_kept scanned kept known rest bytes piece so within least put =
+    let low : known ≤ length rest = omega (arith, least, within) in
+    let same : take known (take scanned rest) ≡ take known (take kept rest) =
+    take_less known scanned rest (omega (arith, least)) low ∙ sym (take_less known kept rest (omega (arith, least)) low) in
+    let none : IsLine (take known (take scanned rest)) = All-take (λ (c : ℕ). (c == 10) ≡ false) known (take scanned rest) so.none in
+    let P : List ℕ → Type 0 = λ (b : List ℕ). IsUncut known b in
+    subst P (sym put) (uncut_grown known (take kept rest) piece (record {
+      within = omega (arith, least, length-take-le kept rest within);
+      none = line_as (take known (take scanned rest)) (take known (take kept rest)) same none;
+    }))
+
+-- what is cut of a text is cut of a longer one
+cuts_grown : (lines : List (List ℕ)) (len : ℕ) (text piece : List ℕ) → len ≤ length text → Cuts false lines text (drop len text) → Cuts false lines (text ++ piece) (drop len (text ++ piece))
+cuts_grown lines len text piece within cuts =
+    let P : List ℕ → Type 0 = λ (l : List ℕ). Cuts false lines (text ++ piece) l in
+    subst P (sym (drop-append-le len text piece within)) (record {
+      all = λ v may. rw (append_assoc text piece v, append_assoc (drop len text) piece v) (cuts.all (piece ++ v) tt);
+      whole = λ open_ v. rw (append_assoc text piece v, append_assoc (drop len text) piece v) (cuts.whole refl (piece ++ v));
+    })
+
+pub count_grown : (most : ℕ) (cut : CutLines) (text piece : List ℕ) → IsCount most cut text → IsCount most cut (text ++ piece)
+count_grown most cut text piece so =
+    let P : List ℕ → Type 0 = λ (l : List ℕ). IsUncut cut.scanned l in
+    record {
+      within = omega (arith, so.within, length-append text piece);
+      lines = so.lines;
+      number = so.number;
+      few = so.few;
+      short = so.short;
+      cuts = cuts_grown so.lines cut.len text piece so.within so.cuts;
+      behind = subst P (sym (drop-append-le cut.len text piece so.within)) (uncut_grown cut.scanned (drop cut.len text) piece so.behind);
+    }
+
+-- a text whose first line is cut
+first_whole : (n line : ℕ) (what : Asked) (text : List ℕ) → IsFirst false n line what text → whole_lines text ≡ take line text ∷ whole_lines (drop (line + 1) text)
+first_whole n line what text so = rw (append-nil text, append-nil (drop (line + 1) text)) at (so.cuts.whole refl [])
+
+pub waiting_kept : (n : ℕ) (waiting : Waiting) (text : List ℕ) → IsWaiting false n waiting text → kept_limit text ≡ length text
+waiting_kept n waiting text so =
+    ap (λ (ls : List (List ℕ)). cond (is_some_line ls) (length text) (line_limit + 1)) (first_whole n waiting.line waiting.what text so.first)
+
+-- lines counted one after another
+pub count_first : (most : ℕ) (text : List ℕ) → IsCount most (record { count = 0; len = 0; scanned = 0 }) text
+count_first most text = record {
+  within = omega arith;
+  lines = [];
+  number = refl;
+  few = omega arith;
+  short = omega arith;
+  cuts = cuts_none false text;
+  behind = uncut_first text;
+}
+
+pub count_next : (most k : ℕ) (cut : CutLines) (text rest : List ℕ) → IsCount most cut text → (cut.count == most) ≡ false → rest ≡ drop cut.len text → HasNewline rest k →
+    IsCount most (record { count = cut.count + 1; len = cut.len + k + 1; scanned = 0 }) text
+count_next most k cut text rest so other same at =
+    let new = cut.len + k + 1 in
+    let left : length rest ≡ length text - cut.len = ap length same ∙ length-drop cut.len text in
+    let next : drop (k + 1) rest ≡ drop new text = ap (drop (k + 1)) same ∙ drop-drop (k + 1) cut.len text ∙ ap (λ (m : ℕ). drop m text) (omega arith) in
+    let P : List ℕ → Type 0 = λ (l : List ℕ). Cuts false (take k rest ∷ []) l (drop new text) in
+    let Q : List ℕ → Type 0 = λ (l : List ℕ). Cuts false (take k rest ∷ []) rest l in
+    record {
+      within = omega (arith, left, so.within, at.within);
+      lines = so.lines ++ take k rest ∷ [];
+      number = omega (arith, so.number, length-append so.lines (take k rest ∷ []));
+      few = omega (arith, so.few, eqb-false cut.count most other);
+      short = omega (arith, so.short);
+      cuts = cuts_then false so.lines (take k rest ∷ []) text (drop cut.len text) (drop new text) so.cuts (subst P same (subst Q next (cuts_newline false rest k at)));
+      behind = uncut_first (drop new text);
+    }
+
+pub count_stops : (len : ℕ) (text rest : List ℕ) → rest ≡ drop len text → IsLine rest → whole_lines (drop len text) ≡ []
+count_stops len text rest same none = ap whole_lines (sym same) ∙ whole_none rest none
+
+-- so many whole lines stand there
+pub count_there : (most : ℕ) (cut : CutLines) (text : List ℕ) → IsCount most cut text → (cut.count == most) ≡ true → most ≤ length (whole_lines text)
+count_there most cut text so all =
+    let lines : whole_lines text ≡ so.lines ++ whole_lines (drop cut.len text) = rw (append-nil text, append-nil (drop cut.len text)) at (so.cuts.whole refl []) in
+    omega (arith, ap length lines, length-append so.lines (whole_lines (drop cut.len text)), so.number, eqb-true cut.count most all)
+
+-- and then as many are cut, or the input has ended
+pub lines_there : (e : Bool) (count : ℕ) (taken : List (List ℕ)) (text new : List ℕ) → CutsUpTo e count taken text new → (e ≡ false → count ≤ length (whole_lines text)) →
+    (e || (length taken == count)) ≡ true
+lines_there true count taken text new more there = refl
+lines_there false count taken text new more there = elim (bool_cases (length taken == count)) [
+  | inl is ↦ is
+  | inr short ↦
+      let few : length taken < count = omega (arith, more.few, eqb-false (length taken) count short) in
+      let lines : whole_lines text ≡ taken ++ whole_lines new = rw (append-nil text, append-nil new) at (more.cuts.whole refl []) in
+      let none : whole_lines new ≡ [] = more.stops few in
+      absurd (omega (arith, few, there refl, ap length lines, length-append taken (whole_lines new), ap length none))
+]
+
+-- and where there are fewer, the item waits
+pub count_waits : (n line : ℕ) (what : Asked) (cut : CutLines) (text : List ℕ) → IsFirst false n line what text → IsCount (number_of n what) cut (drop (line + 1) text) →
+    (cut.count == number_of n what) ≡ false → (cut.count < number_of n what → whole_lines (drop cut.len (drop (line + 1) text)) ≡ []) → HasNone false n text
+count_waits n line what cut text first so other stops =
+    let behind : List ℕ = drop (line + 1) text in
+    front_none false n what (take line text) text behind (drop cut.len behind) so.lines first.loud first.cuts first.asks
+    (record {
+      cuts = so.cuts;
+      few = omega (arith, so.few, so.number);
+      stops = λ few. stops (omega (arith, few, so.number));
+    })
+    (ap (λ (m : ℕ). m == number_of n what) so.number ∙ other)

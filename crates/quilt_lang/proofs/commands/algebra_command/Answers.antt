@@ -1,4 +1,0 @@
-use Rattle.quilt_lang.proofs.commands.algebra_command.Goals as goal
-
-pub returns-in-Recolour-clause-is : goal.returns-in-Recolour-clause-is
-returns-in-Recolour-clause-is c = λ more. rw c.in-Recolour.is (c.recolour_command.ensures.is more)

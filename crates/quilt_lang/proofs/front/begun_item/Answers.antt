@@ -1,0 +1,14 @@
+use Rattle.quilt_lang.proofs.Counts.{count_first}
+use Rattle.quilt_lang.proofs.front.begun_item.Goals as goal
+
+pub further_item-requires : goal.further_item-requires
+further_item-requires c = record {
+  first = record {
+    within = c.in-Some.ensures.within;
+    whole = c.in-Some.ensures.whole;
+    cuts = c.in-Some.ensures.found;
+    loud = c.in-Some.ensures.loud;
+    asks = c.in_ok-what.ensures c.args.level;
+  };
+  further = count_first _ _;
+}

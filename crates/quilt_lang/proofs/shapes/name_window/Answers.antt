@@ -1,6 +1,0 @@
-use Rattle.std.proofs.Common.{[]}
-use Rattle.quilt_lang.proofs.Slices.{map_five}
-use Rattle.quilt_lang.proofs.shapes.name_window.Goals as goal
-
-pub returns-clause-is : goal.returns-clause-is
-returns-clause-is c = rw (map_five (λ w. w.now) c.args.words.now (record { ref_ptr = (0, 0); now = [] }) c.in-len5.len_at_least c.in-len5.len_below) c.read_name_window.ensures.is

@@ -1,0 +1,57 @@
+-- How far the item at the front of a text is cut.
+use Rattle.std.specs.Prelude.{◌≡◌, ℕ, ◌+◌, ◌<◌, ◌≤◌, Bool, false, List, [], ◌∷◌, length, take, drop}
+use Rattle.quilt_lang.specs.declared.asked.Asked.{Asked}
+use Rattle.quilt_lang.specs.declared.progress.CutLines.{CutLines}
+use Rattle.quilt_lang.specs.declared.progress.Waiting.{Waiting}
+use Rattle.quilt_lang.specs.declared.progress.Progress.{Progress}
+use Rattle.quilt_lang.specs.declared.progress.Progress.TheVariants as progresses
+use Rattle.quilt_lang.specs.declared.front.Front.{Front}
+use Rattle.quilt_lang.specs.declared.front.Front.TheVariants as fronts
+use Rattle.quilt_lang.specs.declared.cutting.FirstLine.{FirstLine}
+use Rattle.quilt_lang.specs.declared.cutting.FirstLine.TheVariants as firsts
+use Rattle.quilt_words.specs.Items.{asked, is_silent, words_of}
+use Rattle.quilt_lang.specs.Reading.{Gives, GivesItem, HasNone, IsLine, begins_silent}
+use Rattle.quilt_lang.specs.Cutting.{Cuts, IsAsked, number_of}
+
+-- so many bytes at the front have no newline
+pub record IsUncut (scanned : ℕ) (text : List ℕ) : Type 0 where
+  pub within : scanned ≤ length text
+  pub none : IsLine (take scanned text)
+
+-- these are the lines cut so far, of so many at most
+pub record IsCount (most : ℕ) (cut : CutLines) (text : List ℕ) : Type 0 where
+  pub within : cut.len ≤ length text
+  pub lines : List (List ℕ)
+  pub number : length lines ≡ cut.count
+  pub few : cut.count ≤ most
+  pub short : cut.count ≤ cut.len
+  pub cuts : Cuts false lines text (drop cut.len text)
+  pub behind : IsUncut cut.scanned (drop cut.len text)
+
+-- the first line has so many bytes, begins an item and asks for this
+pub record IsFirst (ended : Bool) (n : ℕ) (line : ℕ) (what : Asked) (text : List ℕ) : Type 0 where
+  pub within : line ≤ length text
+  pub whole : ended ≡ false → line < length text
+  pub cuts : Cuts ended (take line text ∷ []) text (drop (line + 1) text)
+  pub loud : is_silent (take line text) ≡ false
+  pub asks : IsAsked n (asked n (take line text)) (words_of (take line text)) what
+
+-- the first line is cut, and so far these lines behind it
+pub record IsWaiting (ended : Bool) (n : ℕ) (waiting : Waiting) (text : List ℕ) : Type 0 where
+  pub first : IsFirst ended n waiting.line waiting.what text
+  pub further : IsCount (number_of n waiting.what) waiting.cut (drop (waiting.line + 1) text)
+
+-- the item at the front is cut so far
+abbrev pub IsProgress : ℕ → Progress → List ℕ → Type 0
+IsProgress n (progresses.Begun scanned) text = IsUncut scanned text
+IsProgress n (progresses.Waiting waiting) text = IsWaiting false n waiting text
+
+-- what the item at the front is, with its number of bytes, or how far it is cut where none can be given
+abbrev pub IsFront : Bool → ℕ → ℕ → List ℕ → Front → Type 0
+IsFront ended n f text (fronts.Given item len) = (len ≤ length text) × GivesItem ended n f item text (drop len text)
+IsFront ended n f text (fronts.Waits progress) = HasNone ended n text × IsProgress n progress text
+
+-- what the first line is: one that begins no item, with its number of bytes, or another
+abbrev pub IsFirstLine : List ℕ → FirstLine → Type 0
+IsFirstLine text (firsts.Silent k) = (0 < k) × (k ≤ length text) × ((n : ℕ) → Gives false n [] text (drop k text))
+IsFirstLine text (firsts.Begun scanned) = (begins_silent text ≡ false) × IsUncut scanned text

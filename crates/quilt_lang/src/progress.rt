@@ -1,0 +1,40 @@
+use crate::asked::Asked;
+
+/// Lines that are cut from the front of a text.
+#[derive(Clone, Copy, Debug, PartialEq, Eq)]
+pub struct CutLines {
+    /// How many they are.
+    pub count: usize,
+    /// The number of their bytes, with the newlines.
+    pub len: usize,
+    /// How many of the bytes behind them are known to have no newline.
+    pub scanned: usize,
+}
+
+impl CutLines {
+    pub const NONE: CutLines = CutLines {
+        count: 0,
+        len: 0,
+        scanned: 0,
+    };
+}
+
+/// The line that begins an item, and how far the lines behind it are cut.
+#[derive(Clone, Copy, Debug, PartialEq, Eq)]
+pub struct Waiting {
+    /// The number of the line's bytes.
+    pub line: usize,
+    /// What it asks for.
+    pub what: Asked,
+    /// The lines behind it that are cut so far.
+    pub cut: CutLines,
+}
+
+/// How far the item at the front of a text is cut.
+#[derive(Clone, Copy, Debug, PartialEq, Eq)]
+pub enum Progress {
+    /// Its line is not cut: so many bytes are known to have no newline.
+    Begun(usize),
+    /// Its line is cut, and further lines behind it.
+    Waiting(Waiting),
+}

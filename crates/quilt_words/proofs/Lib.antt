@@ -1,0 +1,10 @@
+pub mod Cases
+pub mod Holding
+pub mod Names
+pub mod Numbers
+pub mod Recolours
+pub mod Remarks
+pub mod Rings
+pub mod Rows
+pub mod Slices
+pub mod Table

@@ -1,0 +1,11 @@
+-- The commands that the session has. The word of any other is unknown, and takes no further lines.
+use Rattle.std.specs.Prelude.{ℕ, Bool, List, [], ◌∷◌, codes}
+use Rattle.std.specs.List.{list_any}
+use Rattle.std.specs.Str.{bytes_eq}
+
+-- a word for each command that is built
+unfoldable pub built : List (List ℕ)
+built = codes "region" ∷ codes "set" ∷ codes "at" ∷ codes "show" ∷ codes "edition" ∷ []
+
+abbrev pub is_built : List ℕ → Bool
+is_built word = list_any (λ w. bytes_eq w word) built

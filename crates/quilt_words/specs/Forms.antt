@@ -1,0 +1,357 @@
+-- The command that an item spells, or the code of its refusal.
+use Rattle.std.specs.Prelude.{◌≡◌, ℕ, ◌-◌, ◌/◌, ◌%◌, ◌&&◌, ◌==◌, nat_le, List, [], ◌∷◌, ◌++◌, length, Option, Some, None, if◌then◌else◌, codes, ℤ, Result, Ok, Err, find, option_map, flat_map}
+use Rattle.std.specs.List.{list_all, range_with_len}
+use Rattle.std.specs.Str.{bytes_eq}
+use Rattle.quilt_types.specs.declared.plane.Pixel.{Pixel}
+use Rattle.quilt_types.specs.declared.plane.Window.{Window}
+use Rattle.quilt_types.specs.declared.plane.Colour.{Colour}
+use Rattle.quilt_types.specs.declared.plane.Point.{Point}
+use Rattle.quilt_types.specs.declared.plane.Corner.{Corner}
+use Rattle.quilt_types.specs.Layers.{colours}
+use Rattle.quilt_types.specs.declared.code.Code.{Code}
+use Rattle.quilt_types.specs.declared.code.Code.TheVariants as codes_of
+use Rattle.quilt_words.specs.declared.command.Command.{Command}
+use Rattle.quilt_words.specs.declared.command.Command.TheVariants as commands
+use Rattle.quilt_words.specs.declared.item.Item.{Item}
+use Rattle.quilt_words.specs.declared.item.Item.TheVariants.{Long, Line, Rows, PointLines, RingLines}
+use Rattle.quilt_words.specs.Items.{Group, held, is_plain, words_of}
+use Rattle.quilt_words.specs.Built.{is_built}
+use Rattle.quilt_words.specs.Spelling.{number, signed, name}
+
+-- what an argument may be
+pub data Argument : Type 0 where
+  A_name : Argument
+  A_number : (low high : ℕ) → Argument
+  A_signed : Argument
+
+-- what an argument is
+pub data Value : Type 0 where
+  Called : (bytes : List ℕ) → Value
+  Number : (n : ℕ) → Value
+  Signed : (z : ℤ) → Value
+
+abbrev pub coordinate : Argument
+coordinate = A_number 0 65535
+
+abbrev pub extent : Argument
+extent = A_number 1 65535
+
+-- a colour of the format
+abbrev pub colour : ℕ → Argument
+colour f = A_number 0 (colours f - 1)
+
+-- a label or an id
+abbrev pub label : Argument
+label = A_number 0 4294967295
+
+abbrev pub pixel : List Argument
+pixel = coordinate ∷ coordinate ∷ []
+
+abbrev pub window : List Argument
+window = coordinate ∷ coordinate ∷ extent ∷ extent ∷ []
+
+abbrev pub at : ℕ → ℕ → Pixel
+at x y = record { x = x; y = y }
+
+abbrev pub over : ℕ → ℕ → ℕ → ℕ → Window
+over x y w h = record { x = x; y = y; w = w; h = h }
+
+-- what the further lines of an item spell
+pub record Further : Type 0 where
+  pub rows : Option (List ℕ)
+  pub points : Option (List Point)
+  pub rings : Option (List (List Corner))
+
+-- a command's word, its arguments, and the command that they make with the further lines
+pub record Entry : Type 0 where
+  pub word : List ℕ
+  pub arguments : List Argument
+  pub command : Further → List Value → Option Command
+
+abbrev pub region_command : Further → List Value → Option Command
+region_command more (Called a ∷ Number c ∷ []) = Some (commands.Region a (record { 0 = c }))
+region_command more vs = None
+
+abbrev pub points_command : Further → List Value → Option Command
+points_command more (Called p ∷ []) = Some (commands.Points p 1)
+points_command more (Called p ∷ Number b ∷ []) = Some (commands.Points p b)
+points_command more vs = None
+
+abbrev pub lines_command : Further → List Value → Option Command
+lines_command more (Called l ∷ Number t ∷ []) = Some (commands.Lines l t)
+lines_command more vs = None
+
+abbrev pub drop_command : Further → List Value → Option Command
+drop_command more (Called a ∷ []) = Some (commands.Drop a)
+drop_command more vs = None
+
+abbrev pub copy_command : Further → List Value → Option Command
+copy_command more (Called a ∷ Called b ∷ []) = Some (commands.Copy a b)
+copy_command more vs = None
+
+abbrev pub layers_command : Further → List Value → Option Command
+layers_command more ([]) = Some (commands.Layers)
+layers_command more vs = None
+
+abbrev pub blocks_command : Further → List Value → Option Command
+blocks_command more (Called a ∷ []) = Some (commands.Blocks a)
+blocks_command more vs = None
+
+abbrev pub records_command : Further → List Value → Option Command
+records_command more ([]) = Some (commands.Records)
+records_command more vs = None
+
+abbrev pub set_command : Further → List Value → Option Command
+set_command more (Called a ∷ Number x ∷ Number y ∷ Number c ∷ []) = Some (commands.Set a (at x y) (record { 0 = c }))
+set_command more vs = None
+
+abbrev pub rect_command : Further → List Value → Option Command
+rect_command more (Called a ∷ Number x ∷ Number y ∷ Number w ∷ Number h ∷ Number c ∷ []) = Some (commands.Rect a (over x y w h) (record { 0 = c }))
+rect_command more vs = None
+
+abbrev pub raster_command : Further → List Value → Option Command
+raster_command more (Called a ∷ []) = Some (commands.Raster a more.rows)
+raster_command more vs = None
+
+abbrev pub at_command : Further → List Value → Option Command
+at_command more (Called a ∷ Number x ∷ Number y ∷ []) = Some (commands.At a (at x y))
+at_command more vs = None
+
+abbrev pub show_command : Further → List Value → Option Command
+show_command more (Called a ∷ Number x ∷ Number y ∷ Number w ∷ Number h ∷ []) = Some (commands.Show a (over x y w h))
+show_command more vs = None
+
+abbrev pub leaves_command : Further → List Value → Option Command
+leaves_command more (Called a ∷ []) = Some (commands.Leaves a)
+leaves_command more vs = None
+
+abbrev pub union_command : Further → List Value → Option Command
+union_command more (Called a ∷ Called b ∷ Called c ∷ []) = Some (commands.Union a b c)
+union_command more vs = None
+
+abbrev pub inter_command : Further → List Value → Option Command
+inter_command more (Called a ∷ Called b ∷ Called c ∷ []) = Some (commands.Inter a b c)
+inter_command more vs = None
+
+abbrev pub diff_command : Further → List Value → Option Command
+diff_command more (Called a ∷ Called b ∷ Called c ∷ []) = Some (commands.Diff a b c)
+diff_command more vs = None
+
+abbrev pub window_command : Further → List Value → Option Command
+window_command more (Called a ∷ Number x ∷ Number y ∷ Number w ∷ Number h ∷ Called c ∷ []) = Some (commands.Window a (over x y w h) c)
+window_command more vs = None
+
+abbrev pub shift_command : Further → List Value → Option Command
+shift_command more (Called a ∷ Signed dx ∷ Signed dy ∷ Called c ∷ []) = Some (commands.Shift a dx dy c)
+shift_command more vs = None
+
+abbrev pub buffer_command : Further → List Value → Option Command
+buffer_command more (Called a ∷ Number r ∷ Called c ∷ []) = Some (commands.Buffer a r c)
+buffer_command more vs = None
+
+abbrev pub area_command : Further → List Value → Option Command
+area_command more (Called a ∷ Number c ∷ []) = Some (commands.Area a (record { 0 = c }))
+area_command more vs = None
+
+abbrev pub perimeter_command : Further → List Value → Option Command
+perimeter_command more (Called a ∷ Number c ∷ []) = Some (commands.Perimeter a (record { 0 = c }))
+perimeter_command more vs = None
+
+abbrev pub put_command : Further → List Value → Option Command
+put_command more (Called p ∷ Number x ∷ Number y ∷ Number l ∷ []) = Some (commands.Put p (at x y) l)
+put_command more vs = None
+
+abbrev pub del_command : Further → List Value → Option Command
+del_command more (Called p ∷ Number x ∷ Number y ∷ []) = Some (commands.Del p (at x y))
+del_command more vs = None
+
+abbrev pub scatter_command : Further → List Value → Option Command
+scatter_command more (Called p ∷ Number k ∷ []) = Some (commands.Scatter p more.points)
+scatter_command more vs = None
+
+abbrev pub find_command : Further → List Value → Option Command
+find_command more (Called p ∷ Number x ∷ Number y ∷ []) = Some (commands.Find p (at x y))
+find_command more vs = None
+
+abbrev pub within_command : Further → List Value → Option Command
+within_command more (Called p ∷ Number x ∷ Number y ∷ Number w ∷ Number h ∷ []) = Some (commands.Within p (over x y w h))
+within_command more vs = None
+
+abbrev pub line_command : Further → List Value → Option Command
+line_command more (Called l ∷ Number i ∷ Number x ∷ Number y ∷ Number u ∷ Number v ∷ []) = Some (commands.Line l i (record { x1 = x; y1 = y; x2 = u; y2 = v }))
+line_command more vs = None
+
+abbrev pub unline_command : Further → List Value → Option Command
+unline_command more (Called l ∷ Number i ∷ []) = Some (commands.Unline l i)
+unline_command more vs = None
+
+abbrev pub cross_command : Further → List Value → Option Command
+cross_command more (Called l ∷ Number x ∷ Number y ∷ Number w ∷ Number h ∷ []) = Some (commands.Cross l (over x y w h))
+cross_command more vs = None
+
+abbrev pub clip_command : Further → List Value → Option Command
+clip_command more (Called l ∷ Number x ∷ Number y ∷ Number w ∷ Number h ∷ []) = Some (commands.Clip l (over x y w h))
+clip_command more vs = None
+
+abbrev pub nearest_command : Further → List Value → Option Command
+nearest_command more (Called l ∷ Number x ∷ Number y ∷ []) = Some (commands.Nearest l (at x y))
+nearest_command more vs = None
+
+abbrev pub over_command : Further → List Value → Option Command
+over_command more (Called l ∷ Called a ∷ []) = Some (commands.Over l a)
+over_command more vs = None
+
+abbrev pub edition_command : Further → List Value → Option Command
+edition_command more ([]) = Some (commands.Edition)
+edition_command more vs = None
+
+abbrev pub publish_command : Further → List Value → Option Command
+publish_command more ([]) = Some (commands.Publish)
+publish_command more vs = None
+
+abbrev pub upgrade_command : Further → List Value → Option Command
+upgrade_command more ([]) = Some (commands.Upgrade)
+upgrade_command more vs = None
+
+abbrev pub polygon_command : Further → List Value → Option Command
+polygon_command more (Called a ∷ Number c ∷ Number k ∷ []) = Some (commands.Polygon a (record { 0 = c }) more.rings)
+polygon_command more vs = None
+
+abbrev pub rank_command : Further → List Value → Option Command
+rank_command more (Called l ∷ Number x ∷ Number y ∷ Number k ∷ []) = Some (commands.Rank l (at x y) k)
+rank_command more vs = None
+
+abbrev pub crossings_command : Further → List Value → Option Command
+crossings_command more (Called l ∷ Called m ∷ []) = Some (commands.Crossings l m)
+crossings_command more vs = None
+
+abbrev pub revert_command : Further → List Value → Option Command
+revert_command more ([]) = Some (commands.Revert)
+revert_command more vs = None
+
+-- all commands but `recolour` and `points`
+abbrev pub table : ℕ → List Entry
+table f =
+    record { word = codes "region"; arguments = A_name ∷ colour f ∷ []; command = region_command }
+    ∷ record { word = codes "lines"; arguments = A_name ∷ A_number 1 32 ∷ []; command = lines_command }
+    ∷ record { word = codes "drop"; arguments = A_name ∷ []; command = drop_command }
+    ∷ record { word = codes "copy"; arguments = A_name ∷ A_name ∷ []; command = copy_command }
+    ∷ record { word = codes "layers"; arguments = []; command = layers_command }
+    ∷ record { word = codes "blocks"; arguments = A_name ∷ []; command = blocks_command }
+    ∷ record { word = codes "records"; arguments = []; command = records_command }
+    ∷ record { word = codes "set"; arguments = A_name ∷ pixel ++ colour f ∷ []; command = set_command }
+    ∷ record { word = codes "rect"; arguments = A_name ∷ window ++ colour f ∷ []; command = rect_command }
+    ∷ record { word = codes "raster"; arguments = A_name ∷ []; command = raster_command }
+    ∷ record { word = codes "at"; arguments = A_name ∷ pixel; command = at_command }
+    ∷ record { word = codes "show"; arguments = A_name ∷ window; command = show_command }
+    ∷ record { word = codes "leaves"; arguments = A_name ∷ []; command = leaves_command }
+    ∷ record { word = codes "union"; arguments = A_name ∷ A_name ∷ A_name ∷ []; command = union_command }
+    ∷ record { word = codes "inter"; arguments = A_name ∷ A_name ∷ A_name ∷ []; command = inter_command }
+    ∷ record { word = codes "diff"; arguments = A_name ∷ A_name ∷ A_name ∷ []; command = diff_command }
+    ∷ record { word = codes "window"; arguments = A_name ∷ window ++ A_name ∷ []; command = window_command }
+    ∷ record { word = codes "shift"; arguments = A_name ∷ A_signed ∷ A_signed ∷ A_name ∷ []; command = shift_command }
+    ∷ record { word = codes "buffer"; arguments = A_name ∷ coordinate ∷ A_name ∷ []; command = buffer_command }
+    ∷ record { word = codes "area"; arguments = A_name ∷ colour f ∷ []; command = area_command }
+    ∷ record { word = codes "perimeter"; arguments = A_name ∷ colour f ∷ []; command = perimeter_command }
+    ∷ record { word = codes "put"; arguments = A_name ∷ pixel ++ label ∷ []; command = put_command }
+    ∷ record { word = codes "del"; arguments = A_name ∷ pixel; command = del_command }
+    ∷ record { word = codes "scatter"; arguments = A_name ∷ A_number 1 100000 ∷ []; command = scatter_command }
+    ∷ record { word = codes "find"; arguments = A_name ∷ pixel; command = find_command }
+    ∷ record { word = codes "within"; arguments = A_name ∷ window; command = within_command }
+    ∷ record { word = codes "line"; arguments = A_name ∷ label ∷ pixel ++ pixel; command = line_command }
+    ∷ record { word = codes "unline"; arguments = A_name ∷ label ∷ []; command = unline_command }
+    ∷ record { word = codes "cross"; arguments = A_name ∷ window; command = cross_command }
+    ∷ record { word = codes "clip"; arguments = A_name ∷ window; command = clip_command }
+    ∷ record { word = codes "nearest"; arguments = A_name ∷ pixel; command = nearest_command }
+    ∷ record { word = codes "over"; arguments = A_name ∷ A_name ∷ []; command = over_command }
+    ∷ record { word = codes "edition"; arguments = []; command = edition_command }
+    ∷ record { word = codes "publish"; arguments = []; command = publish_command }
+    ∷ record { word = codes "upgrade"; arguments = []; command = upgrade_command }
+    ∷ record { word = codes "revert"; arguments = []; command = revert_command }
+    ∷ record { word = codes "polygon"; arguments = A_name ∷ colour f ∷ A_number 1 1000 ∷ []; command = polygon_command }
+    ∷ record { word = codes "rank"; arguments = A_name ∷ pixel ++ A_number 1 100000 ∷ []; command = rank_command }
+    ∷ record { word = codes "crossings"; arguments = A_name ∷ A_name ∷ []; command = crossings_command }
+    ∷ []
+
+-- a `recolour` has 1 to 16 pairs
+abbrev pub recolour_arguments : ℕ → ℕ → List Argument
+recolour_arguments f pairs = A_name ∷ A_name ∷ flat_map (λ i. colour f ∷ colour f ∷ []) (range_with_len 0 pairs)
+
+abbrev pub pairs_of : List Value → List (Colour × Colour)
+pairs_of (Number o ∷ Number c ∷ vs) = (record { 0 = o }, record { 0 = c }) ∷ pairs_of vs
+pairs_of vs = []
+
+abbrev pub recolour_command : Further → List Value → Option Command
+recolour_command more (Called a ∷ Called c ∷ vs) = Some (commands.Recolour a c (pairs_of vs))
+recolour_command more vs = None
+
+abbrev pub recolour_entry : ℕ → ℕ → Entry
+recolour_entry f pairs = record { word = codes "recolour"; arguments = recolour_arguments f pairs; command = recolour_command }
+
+-- how many points a block may hold can be left out
+abbrev pub points_arguments : ℕ → List Argument
+points_arguments count = A_name ∷ (if count == 1 then [] else A_number 1 16 ∷ [])
+
+abbrev pub points_entry : ℕ → Entry
+points_entry count = record { word = codes "points"; arguments = points_arguments count; command = points_command }
+
+infixl 10 ◌>>=◌
+abbrev pub ◌>>=◌ : {A B : Type 0} → Result A Code → (A → Result B Code) → Result B Code
+◌>>=◌ (Ok x) f = f x
+◌>>=◌ (Err e) f = Err e
+
+abbrev pub or_err : {A : Type 0} → Code → Option A → Result A Code
+or_err code None = Err code
+or_err code (Some x) = Ok x
+
+abbrev pub with_count : ℕ → Entry → Result Entry Code
+with_count count e = if length e.arguments == count then Ok e else Err codes_of.Count
+
+-- the entry of a word that so many words follow, in a format, of all commands
+abbrev pub entry_in_all : ℕ → List ℕ → ℕ → Result Entry Code
+entry_in_all f word count =
+    if bytes_eq word (codes "recolour")
+    then (if nat_le 4 count && nat_le count 34 && (count % 2 == 0) then Ok (recolour_entry f ((count - 2) / 2)) else Err codes_of.Count)
+    else if bytes_eq word (codes "points") then with_count count (points_entry count)
+    else (or_err codes_of.Word (find (λ e. bytes_eq e.word word) (table f)) >>= with_count count)
+
+-- the entry of a word that so many words follow, where its command is built
+abbrev pub entry_of : ℕ → List ℕ → ℕ → Result Entry Code
+entry_of f word count = if is_built word then entry_in_all f word count else Err codes_of.Word
+
+abbrev pub argument_value : Argument → List ℕ → Result Value Code
+argument_value A_name word = or_err codes_of.Name (option_map Called (name word))
+argument_value (A_number low high) word = or_err codes_of.Number (option_map Number (number low high word))
+argument_value A_signed word = or_err codes_of.Number (option_map Signed (signed 65535 word))
+
+-- the values of the arguments, or the code of the leftmost that is ill-spelled
+abbrev pub values_of : List Argument → List (List ℕ) → Result (List Value) Code
+values_of [] words = Ok []
+values_of (a ∷ rest) [] = Ok []
+values_of (a ∷ rest) (w ∷ ws) = argument_value a w >>= λ v. values_of rest ws >>= λ vs. Ok (v ∷ vs)
+
+-- what words spell, where all commands are built
+unfoldable pub form_in_all : ℕ → Further → List (List ℕ) → Result Command Code
+form_in_all f more [] = Err codes_of.Word
+form_in_all f more (word ∷ words) =
+    entry_in_all f word (length words) >>= λ e. values_of e.arguments words >>= λ vs. or_err codes_of.Word (e.command more vs)
+
+unfoldable pub form_of_words : ℕ → Further → List (List ℕ) → Result Command Code
+form_of_words f more [] = Err codes_of.Word
+form_of_words f more (word ∷ words) =
+    entry_of f word (length words) >>= λ e. values_of e.arguments words >>= λ vs. or_err codes_of.Word (e.command more vs)
+
+abbrev pub form_of_line : ℕ → List ℕ → Further → Result Command Code
+form_of_line f line more = if list_all is_plain line then form_of_words f more (words_of line) else Err codes_of.Bytes
+
+-- what an item spells in a format
+unfoldable pub form : ℕ → Item → Result Command Code
+form f Long = Err codes_of.Long
+form f (Line line) = form_of_line f line (record { rows = None; points = None; rings = None })
+form f (Rows line rows) = form_of_line f line (record { rows = rows; points = None; rings = None })
+form f (PointLines line points) = form_of_line f line (record { rows = None; points = points; rings = None })
+form f (RingLines line rings) = form_of_line f line (record { rows = None; points = None; rings = rings })
+
+-- some item of a text at this level spells the command in this format
+abbrev pub Spelled : ℕ → ℕ → Command → Type 0
+Spelled f n command = (group : Group) × (form f (held f n group) ≡ Ok command)

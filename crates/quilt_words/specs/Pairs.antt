@@ -1,0 +1,26 @@
+-- Pairs of colours, each as two words spell it.
+use Rattle.std.specs.Prelude.{◌≡◌, ℕ, ◌-◌, List, [], ◌∷◌, Result, Ok, Err}
+use Rattle.quilt_types.specs.declared.plane.Colour.{Colour}
+use Rattle.quilt_types.specs.declared.code.Code.{Code}
+use Rattle.quilt_types.specs.declared.code.Code.TheVariants as codes_of
+use Rattle.quilt_types.specs.Layers.{colours}
+use Rattle.quilt_words.specs.declared.parse_err.ParseErr.{ParseErr}
+use Rattle.quilt_words.specs.declared.parse_err.ParseErr.TheVariants as errs
+use Rattle.quilt_words.specs.Forms.{or_err, ◌>>=◌}
+use Rattle.quilt_words.specs.Spelling.{number}
+
+abbrev pub number_in : ℕ → List ℕ → Result ℕ Code
+number_in f word = or_err codes_of.Number (number 0 (colours f - 1) word)
+
+-- the pairs of a format that these words spell, or the code of the first that is ill-spelled
+abbrev pub pairs_in : ℕ → List (List ℕ) → Result (List (Colour × Colour)) Code
+pairs_in f [] = Ok []
+pairs_in f (o ∷ []) = Ok []
+pairs_in f (o ∷ n ∷ ws) =
+    number_in f o >>= λ a. number_in f n >>= λ b. pairs_in f ws >>= λ ps. Ok ((record { 0 = a }, record { 0 = b }) ∷ ps)
+
+-- what one pair says of the words that begin with it
+abbrev pub ReadsPair : ℕ → Result (Colour × Colour) ParseErr → List ℕ → List ℕ → Type 0
+ReadsPair f (Ok pair) o n = (ws : List (List ℕ)) → pairs_in f (o ∷ n ∷ ws) ≡ (pairs_in f ws >>= λ ps. Ok (pair ∷ ps))
+ReadsPair f (Err (errs.No code)) o n = (ws : List (List ℕ)) → pairs_in f (o ∷ n ∷ ws) ≡ Err code
+ReadsPair f (Err errs.Memory) o n = Unit {0}

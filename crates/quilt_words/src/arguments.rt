@@ -1,0 +1,137 @@
+ghost use Rattle.std.specs.Prelude.{◌≡◌, ◌≤◌, ◌<◌, ◌+◌, ◌*◌, ◌-◌, ℕ, Ok, Err, Some, None, Option, Bool, cond, nat_le, if◌then◌else◌, Result, option_map, IfOk, IfSome};
+ghost use Rattle.std.specs.List.{list_all};
+ghost use Rattle.quilt_types.specs.declared.code.Code.TheVariants as codes_of;
+ghost use Rattle.quilt_words.specs.Spelling.{number, signed, name, is_digit, is_spelled, value_of};
+ghost use Rattle.quilt_words.specs.Forms.{or_err};
+ghost use Rattle.quilt_words.specs.Parsing.{Answers};
+ghost use Rattle.quilt_words.specs.Fitting.{IsName, IsWithin, IsShift};
+ghost use Rattle.quilt_types.specs.Layers.{colours};
+
+use crate::ParseErr;
+use quilt_types::{Code, Name};
+use std::str;
+
+/// The name that a word is.
+#[tactic(auto, unfolding(crate::specs::Spelling::name))]
+pub fn parse_name(word: &[u8]) -> Result<Name, ParseErr>
+    ensures is { Answers result (or_err codes_of.Name (name word.now)) }
+    ensures named { IfOk result IsName }
+{
+    match name_of(word) {
+        Some(name) => Ok(name),
+        None => Err(ParseErr::No(Code::Name)),
+    }
+}
+
+fn name_of(word: &[u8]) -> Option<Name>
+    ensures is { result ≡ name word.now }
+    ensures named { IfSome result IsName }
+{
+    match str::from_utf8(word) {
+        Ok(text) => Name::of(text),
+        Err(_) => None,
+    }
+}
+
+fn is_digit_byte(c: u8) -> bool
+    ensures { result ≡ is_digit c }
+{
+    b'0' <= c && c <= b'9'
+}
+
+fn are_digits(bytes: &[u8]) -> bool
+    ensures { result ≡ list_all is_digit bytes.now }
+{
+    bytes.iter().all(|c| is_digit_byte(*c))
+}
+
+/// Whether the bytes are decimal digits, with no zero at the front of others.
+fn is_number(bytes: &[u8]) -> bool
+    ensures { result ≡ is_spelled bytes.now }
+{
+    match bytes {
+        [] => false,
+        [c] => is_digit_byte(*c),
+        [c, ..] => *c != b'0' && are_digits(bytes),
+    }
+}
+
+/// The number that decimal digits spell, where it is at most so much.
+fn value(digits: &[u8], high: u32) -> Option<u32>
+    ensures { result ≡ (if nat_le (value_of digits.now) high then Some (value_of digits.now) else None) }
+{
+    let mut v: u64 = 0;
+    for c in digits {
+        v = 10 * v + u64::from(c.saturating_sub(b'0'));
+        if v > u64::from(high) {
+            return None;
+        }
+    }
+    Some(v as u32)
+}
+
+/// The number from `low` to `high` that a word spells, if it spells one.
+#[tactic(auto, unfolding(crate::specs::Spelling::number))]
+pub fn number_of(low: u32, high: u32, word: &[u8]) -> Option<u32>
+    ensures is { result ≡ number low high word.now }
+    ensures within { IfSome result (IsWithin low high) }
+{
+    if !is_number(word) {
+        return None;
+    }
+    match value(word, high) {
+        Some(n) if n >= low => Some(n),
+        _ => None,
+    }
+}
+
+/// The number from `low` to `high` that a word spells.
+pub fn parse_number(low: u32, high: u32, word: &[u8]) -> Result<u32, ParseErr>
+    ensures is { Answers result (or_err codes_of.Number (number low high word.now)) }
+    ensures within { IfOk result (IsWithin low high) }
+{
+    match number_of(low, high, word) {
+        Some(n) => Ok(n),
+        None => Err(ParseErr::No(Code::Number)),
+    }
+}
+
+/// A coordinate.
+pub fn parse_coordinate(word: &[u8]) -> Result<u16, ParseErr>
+    ensures { Answers result (or_err codes_of.Number (number 0 65535 word.now)) }
+{
+    let n = parse_number(0, 65535, word)?;
+    Ok(n as u16)
+}
+
+/// An extent of a window, at least 1.
+pub fn parse_extent(word: &[u8]) -> Result<u16, ParseErr>
+    ensures is { Answers result (or_err codes_of.Number (number 1 65535 word.now)) }
+    ensures within { IfOk result (IsWithin 1 65535) }
+{
+    let n = parse_number(1, 65535, word)?;
+    Ok(n as u16)
+}
+
+/// A number of at most 65535, or a minus before one that is not 0.
+pub fn parse_signed(word: &[u8]) -> Result<i32, ParseErr>
+    ensures is { Answers result (or_err codes_of.Number (signed 65535 word.now)) }
+    ensures within { IfOk result IsShift }
+{
+    let Some((first, digits)) = word.split_first() else {
+        return Err(ParseErr::No(Code::Number));
+    };
+    if *first == b'-' {
+        let n = parse_number(1, 65535, digits)?;
+        return Ok(-(n as i32));
+    }
+    let n = parse_number(0, 65535, word)?;
+    Ok(n as i32)
+}
+
+/// The greatest colour of a format.
+pub fn most_colour(format: u8) -> u32
+    ensures { result ≡ colours format - 1 }
+{
+    if format == 1 { 255 } else { 65535 }
+}

@@ -1,0 +1,30 @@
+//! The words of the command language: the commands that a line spells, and the items that hold what its further lines spell.
+#![tactic(auto)]
+
+mod arguments;
+mod command;
+mod commands;
+mod further;
+mod item;
+mod pairs;
+mod parse_err;
+mod parser;
+mod recolour;
+mod refusal;
+mod shapes;
+mod word;
+mod words;
+
+pub use arguments::number_of;
+pub use command::Command;
+pub use further::push_ring;
+pub use item::Item;
+pub use pairs::Pairs;
+pub use parse_err::ParseErr;
+pub use parser::parse;
+pub use refusal::refusal_text;
+pub use word::{AlgebraWord, LineWord, MapWord, PointWord, RegionWord, Word};
+pub use words::{LINE_LIMIT, is_plain_line, is_silent_line, line_words};
+
+#[cfg(test)]
+mod tests;

@@ -1,0 +1,62 @@
+//! The command that gives colours new ones.
+ghost use Rattle.std.specs.Prelude.{◌≡◌, ◌≤◌, ◌-◌, ◌*◌, ◌/◌, ℕ, true, [], ◌∷◌, map, length, Ok, Err, IfOk};
+ghost use Rattle.quilt_words.specs.Fitting.{IsFitting, ArePairs, IsColour};
+ghost use Rattle.quilt_words.specs.Forms.{Further};
+ghost use Rattle.quilt_words.specs.Made.{recoloured, has_pairs};
+ghost use Rattle.quilt_words.specs.Pairs.{pairs_in, ReadsPair};
+ghost use Rattle.quilt_words.specs.Parsing.{Answers};
+
+use crate::arguments::{most_colour, parse_name, parse_number};
+use crate::{Command, Pairs, ParseErr};
+use quilt_types::{Code, Colour, Name};
+
+/// The command that makes a layer of another by 1 to 16 pairs of colours.
+pub fn recolour_command(format: u8, words: &[&[u8]]) -> Result<Command, ParseErr>
+    ensures is { (more : Further) → Answers result (recoloured format more (map (λ w. w.now) words.now)) }
+    ensures fits { (n : ℕ) → IfOk result (IsFitting format n) }
+{
+    if !is_number_of_words(words.len()) {
+        return Err(ParseErr::No(Code::Count));
+    }
+    let a = parse_name(words[0])?;
+    let c = parse_name(words[1])?;
+    let pairs = parse_pairs(format, &words[2..])?;
+    Ok(Command::Recolour { a, c, pairs })
+}
+
+/// Whether so many words are two layers and from 1 to 16 pairs.
+fn is_number_of_words(count: usize) -> bool
+    ensures { result ≡ has_pairs count }
+{
+    count >= 4 && count <= 34 && count % 2 == 0
+}
+
+/// One pair of colours: an old one, and what it becomes.
+fn parse_pair(format: u8, o: &[u8], n: &[u8]) -> Result<(Colour, Colour), ParseErr>
+    ensures is { ReadsPair format result o.now n.now }
+    ensures fits { IfOk result (λ pair. IsColour format pair.0 × IsColour format pair.1) }
+{
+    let most = most_colour(format);
+    let o = parse_number(0, most, o)?;
+    let n = parse_number(0, most, n)?;
+    Ok((Colour(o as u16), Colour(n as u16)))
+}
+
+/// From 1 to 16 pairs of colours.
+fn parse_pairs(format: u8, words: &[&[u8]]) -> Result<Pairs, ParseErr>
+    requires few { length words.now ≤ 32 }
+    requires some { 2 ≤ length words.now }
+    requires even { (length words.now / 2) * 2 ≡ length words.now }
+    ensures is { Answers result (pairs_in format (map (λ w. w.now) words.now)) }
+    ensures fits { IfOk result (ArePairs format) }
+{
+    let (o, n) = parse_pair(format, words[0], words[1])?;
+    let mut pairs = Pairs::of(o, n);
+    let mut i = 2;
+    while i < words.len() {
+        let (o, n) = parse_pair(format, words[i], words[i + 1])?;
+        pairs.push(o, n);
+        i += 2;
+    }
+    Ok(pairs)
+}

@@ -1,0 +1,348 @@
+//! The arguments of commands, by what they are.
+ghost use Rattle.std.specs.Prelude.{◌≡◌, ◌≤◌, ◌<◌, ◌^◌, ℕ, [], ◌∷◌, map, IfOk};
+ghost use Rattle.quilt_words.specs.Forms.{A_name, A_number, A_signed, Called, Number, Signed, coordinate, extent, label, values_of};
+ghost use Rattle.quilt_words.specs.Fitting.{IsName, IsWithin, IsPixelOf16, IsWindowOf16, IsShift, IsSegOf16};
+ghost use Rattle.quilt_words.specs.Parsing.{Reads, counted};
+
+use crate::ParseErr;
+use crate::arguments::{parse_coordinate, parse_extent, parse_name, parse_number, parse_signed};
+use quilt_types::{Code, Name, Pixel, Seg, Window};
+
+/// No arguments.
+pub fn nothing(words: &[&[u8]]) -> Result<(), ParseErr>
+    ensures { Reads (λ v. []) result (counted [] (map (λ w. w.now) words.now)) }
+{
+    match words {
+        [] => Ok(()),
+        _ => Err(ParseErr::No(Code::Count)),
+    }
+}
+
+/// A layer.
+pub fn one_name(words: &[&[u8]]) -> Result<Name, ParseErr>
+    ensures is { Reads (λ v. Called v ∷ []) result (counted (A_name ∷ []) (map (λ w. w.now) words.now)) }
+    ensures fits { IfOk result (λ v. IsName v) }
+{
+    match words {
+        [a] => parse_name(a),
+        _ => Err(ParseErr::No(Code::Count)),
+    }
+}
+
+/// Two layers.
+pub fn two_names(words: &[&[u8]]) -> Result<(Name, Name), ParseErr>
+    ensures is { Reads (λ v. Called v.0 ∷ Called v.1 ∷ []) result (counted (A_name ∷ A_name ∷ []) (map (λ w. w.now) words.now)) }
+    ensures fits { IfOk result (λ v. IsName v.0 × IsName v.1) }
+{
+    let [a, b] = words else {
+        return Err(ParseErr::No(Code::Count));
+    };
+    read_two_names(a, b)
+}
+
+fn read_two_names(a: &[u8], b: &[u8]) -> Result<(Name, Name), ParseErr>
+    ensures is { Reads (λ v. Called v.0 ∷ Called v.1 ∷ []) result (values_of (A_name ∷ A_name ∷ []) (a.now ∷ b.now ∷ [])) }
+    ensures fits { IfOk result (λ v. IsName v.0 × IsName v.1) }
+{
+    let a = parse_name(a)?;
+    let b = parse_name(b)?;
+    Ok((a, b))
+}
+
+/// Three layers.
+pub fn three_names(words: &[&[u8]]) -> Result<(Name, Name, Name), ParseErr>
+    ensures is { Reads (λ v. Called v.0 ∷ Called v.1 ∷ Called v.2 ∷ []) result (counted (A_name ∷ A_name ∷ A_name ∷ []) (map (λ w. w.now) words.now)) }
+    ensures fits { IfOk result (λ v. IsName v.0 × IsName v.1 × IsName v.2) }
+{
+    let [a, b, c] = words else {
+        return Err(ParseErr::No(Code::Count));
+    };
+    read_three_names(a, b, c)
+}
+
+fn read_three_names(a: &[u8], b: &[u8], c: &[u8]) -> Result<(Name, Name, Name), ParseErr>
+    ensures is { Reads (λ v. Called v.0 ∷ Called v.1 ∷ Called v.2 ∷ []) result (values_of (A_name ∷ A_name ∷ A_name ∷ []) (a.now ∷ b.now ∷ c.now ∷ [])) }
+    ensures fits { IfOk result (λ v. IsName v.0 × IsName v.1 × IsName v.2) }
+{
+    let a = parse_name(a)?;
+    let b = parse_name(b)?;
+    let c = parse_name(c)?;
+    Ok((a, b, c))
+}
+
+/// A layer and a number from `low` to `high`.
+pub fn name_number(words: &[&[u8]], low: u32, high: u32) -> Result<(Name, u32), ParseErr>
+    ensures is { Reads (λ v. Called v.0 ∷ Number v.1 ∷ []) result (counted (A_name ∷ A_number low high ∷ []) (map (λ w. w.now) words.now)) }
+    ensures fits { IfOk result (λ v. IsName v.0 × IsWithin low high v.1) }
+{
+    let [a, n] = words else {
+        return Err(ParseErr::No(Code::Count));
+    };
+    read_name_number(a, n, low, high)
+}
+
+fn read_name_number(a: &[u8], n: &[u8], low: u32, high: u32) -> Result<(Name, u32), ParseErr>
+    ensures is { Reads (λ v. Called v.0 ∷ Number v.1 ∷ []) result (values_of (A_name ∷ A_number low high ∷ []) (a.now ∷ n.now ∷ [])) }
+    ensures fits { IfOk result (λ v. IsName v.0 × IsWithin low high v.1) }
+{
+    let a = parse_name(a)?;
+    let n = parse_number(low, high, n)?;
+    Ok((a, n))
+}
+
+/// A layer and a pixel.
+pub fn name_pixel(words: &[&[u8]]) -> Result<(Name, Pixel), ParseErr>
+    ensures is { Reads (λ v. Called v.0 ∷ Number v.1.x ∷ Number v.1.y ∷ []) result (counted (A_name ∷ coordinate ∷ coordinate ∷ []) (map (λ w. w.now) words.now)) }
+    ensures fits { IfOk result (λ v. IsName v.0 × IsPixelOf16 v.1) }
+{
+    let [a, x, y] = words else {
+        return Err(ParseErr::No(Code::Count));
+    };
+    read_name_pixel(a, x, y)
+}
+
+fn read_name_pixel(a: &[u8], x: &[u8], y: &[u8]) -> Result<(Name, Pixel), ParseErr>
+    ensures is { Reads (λ v. Called v.0 ∷ Number v.1.x ∷ Number v.1.y ∷ []) result (values_of (A_name ∷ coordinate ∷ coordinate ∷ []) (a.now ∷ x.now ∷ y.now ∷ [])) }
+    ensures fits { IfOk result (λ v. IsName v.0 × IsPixelOf16 v.1) }
+{
+    let a = parse_name(a)?;
+    let x = parse_coordinate(x)?;
+    let y = parse_coordinate(y)?;
+    Ok((a, Pixel { x, y }))
+}
+
+/// A layer, a pixel and a number from `low` to `high`.
+pub fn name_pixel_number(
+    words: &[&[u8]],
+    low: u32,
+    high: u32,
+) -> Result<(Name, Pixel, u32), ParseErr>
+    ensures is { Reads (λ v. Called v.0 ∷ Number v.1.x ∷ Number v.1.y ∷ Number v.2 ∷ []) result (counted (A_name ∷ coordinate ∷ coordinate ∷ A_number low high ∷ []) (map (λ w. w.now) words.now)) }
+    ensures fits { IfOk result (λ v. IsName v.0 × IsPixelOf16 v.1 × IsWithin low high v.2) }
+{
+    let [a, x, y, n] = words else {
+        return Err(ParseErr::No(Code::Count));
+    };
+    read_name_pixel_number(a, x, y, n, low, high)
+}
+
+fn read_name_pixel_number(
+    a: &[u8],
+    x: &[u8],
+    y: &[u8],
+    n: &[u8],
+    low: u32,
+    high: u32,
+) -> Result<(Name, Pixel, u32), ParseErr>
+    ensures is { Reads (λ v. Called v.0 ∷ Number v.1.x ∷ Number v.1.y ∷ Number v.2 ∷ []) result (values_of (A_name ∷ coordinate ∷ coordinate ∷ A_number low high ∷ []) (a.now ∷ x.now ∷ y.now ∷ n.now ∷ [])) }
+    ensures fits { IfOk result (λ v. IsName v.0 × IsPixelOf16 v.1 × IsWithin low high v.2) }
+{
+    let a = parse_name(a)?;
+    let x = parse_coordinate(x)?;
+    let y = parse_coordinate(y)?;
+    let n = parse_number(low, high, n)?;
+    Ok((a, Pixel { x, y }, n))
+}
+
+/// A layer and a window.
+pub fn name_window(words: &[&[u8]]) -> Result<(Name, Window), ParseErr>
+    ensures is { Reads (λ v. Called v.0 ∷ Number v.1.x ∷ Number v.1.y ∷ Number v.1.w ∷ Number v.1.h ∷ []) result (counted (A_name ∷ coordinate ∷ coordinate ∷ extent ∷ extent ∷ []) (map (λ w. w.now) words.now)) }
+    ensures fits { IfOk result (λ v. IsName v.0 × IsWindowOf16 v.1) }
+{
+    let [a, x, y, w, h] = words else {
+        return Err(ParseErr::No(Code::Count));
+    };
+    read_name_window(a, x, y, w, h)
+}
+
+fn read_name_window(
+    a: &[u8],
+    x: &[u8],
+    y: &[u8],
+    w: &[u8],
+    h: &[u8],
+) -> Result<(Name, Window), ParseErr>
+    ensures is { Reads (λ v. Called v.0 ∷ Number v.1.x ∷ Number v.1.y ∷ Number v.1.w ∷ Number v.1.h ∷ []) result (values_of (A_name ∷ coordinate ∷ coordinate ∷ extent ∷ extent ∷ []) (a.now ∷ x.now ∷ y.now ∷ w.now ∷ h.now ∷ [])) }
+    ensures fits { IfOk result (λ v. IsName v.0 × IsWindowOf16 v.1) }
+{
+    let a = parse_name(a)?;
+    let x = parse_coordinate(x)?;
+    let y = parse_coordinate(y)?;
+    let w = parse_extent(w)?;
+    let h = parse_extent(h)?;
+    Ok((a, Window { x, y, w, h }))
+}
+
+/// A layer, a window and a number from `low` to `high`.
+pub fn name_window_number(
+    words: &[&[u8]],
+    low: u32,
+    high: u32,
+) -> Result<(Name, Window, u32), ParseErr>
+    ensures is { Reads (λ v. Called v.0 ∷ Number v.1.x ∷ Number v.1.y ∷ Number v.1.w ∷ Number v.1.h ∷ Number v.2 ∷ []) result (counted (A_name ∷ coordinate ∷ coordinate ∷ extent ∷ extent ∷ A_number low high ∷ []) (map (λ w. w.now) words.now)) }
+    ensures fits { IfOk result (λ v. IsName v.0 × IsWindowOf16 v.1 × IsWithin low high v.2) }
+{
+    let [a, x, y, w, h, n] = words else {
+        return Err(ParseErr::No(Code::Count));
+    };
+    read_name_window_number(a, x, y, w, h, n, low, high)
+}
+
+fn read_name_window_number(
+    a: &[u8],
+    x: &[u8],
+    y: &[u8],
+    w: &[u8],
+    h: &[u8],
+    n: &[u8],
+    low: u32,
+    high: u32,
+) -> Result<(Name, Window, u32), ParseErr>
+    ensures is { Reads (λ v. Called v.0 ∷ Number v.1.x ∷ Number v.1.y ∷ Number v.1.w ∷ Number v.1.h ∷ Number v.2 ∷ []) result (values_of (A_name ∷ coordinate ∷ coordinate ∷ extent ∷ extent ∷ A_number low high ∷ []) (a.now ∷ x.now ∷ y.now ∷ w.now ∷ h.now ∷ n.now ∷ [])) }
+    ensures fits { IfOk result (λ v. IsName v.0 × IsWindowOf16 v.1 × IsWithin low high v.2) }
+{
+    let a = parse_name(a)?;
+    let x = parse_coordinate(x)?;
+    let y = parse_coordinate(y)?;
+    let w = parse_extent(w)?;
+    let h = parse_extent(h)?;
+    let n = parse_number(low, high, n)?;
+    Ok((a, Window { x, y, w, h }, n))
+}
+
+/// A layer, a window and a layer.
+pub fn name_window_name(words: &[&[u8]]) -> Result<(Name, Window, Name), ParseErr>
+    ensures is { Reads (λ v. Called v.0 ∷ Number v.1.x ∷ Number v.1.y ∷ Number v.1.w ∷ Number v.1.h ∷ Called v.2 ∷ []) result (counted (A_name ∷ coordinate ∷ coordinate ∷ extent ∷ extent ∷ A_name ∷ []) (map (λ w. w.now) words.now)) }
+    ensures fits { IfOk result (λ v. IsName v.0 × IsWindowOf16 v.1 × IsName v.2) }
+{
+    let [a, x, y, w, h, c] = words else {
+        return Err(ParseErr::No(Code::Count));
+    };
+    read_name_window_name(a, x, y, w, h, c)
+}
+
+fn read_name_window_name(
+    a: &[u8],
+    x: &[u8],
+    y: &[u8],
+    w: &[u8],
+    h: &[u8],
+    c: &[u8],
+) -> Result<(Name, Window, Name), ParseErr>
+    ensures is { Reads (λ v. Called v.0 ∷ Number v.1.x ∷ Number v.1.y ∷ Number v.1.w ∷ Number v.1.h ∷ Called v.2 ∷ []) result (values_of (A_name ∷ coordinate ∷ coordinate ∷ extent ∷ extent ∷ A_name ∷ []) (a.now ∷ x.now ∷ y.now ∷ w.now ∷ h.now ∷ c.now ∷ [])) }
+    ensures fits { IfOk result (λ v. IsName v.0 × IsWindowOf16 v.1 × IsName v.2) }
+{
+    let a = parse_name(a)?;
+    let x = parse_coordinate(x)?;
+    let y = parse_coordinate(y)?;
+    let w = parse_extent(w)?;
+    let h = parse_extent(h)?;
+    let c = parse_name(c)?;
+    Ok((a, Window { x, y, w, h }, c))
+}
+
+/// A layer, how far to the right and down, and a layer.
+pub fn name_shift_name(words: &[&[u8]]) -> Result<(Name, i32, i32, Name), ParseErr>
+    ensures is { Reads (λ v. Called v.0 ∷ Signed v.1 ∷ Signed v.2 ∷ Called v.3 ∷ []) result (counted (A_name ∷ A_signed ∷ A_signed ∷ A_name ∷ []) (map (λ w. w.now) words.now)) }
+    ensures fits { IfOk result (λ v. IsName v.0 × IsShift v.1 × IsShift v.2 × IsName v.3) }
+{
+    let [a, x, y, c] = words else {
+        return Err(ParseErr::No(Code::Count));
+    };
+    read_name_shift_name(a, x, y, c)
+}
+
+fn read_name_shift_name(
+    a: &[u8],
+    x: &[u8],
+    y: &[u8],
+    c: &[u8],
+) -> Result<(Name, i32, i32, Name), ParseErr>
+    ensures is { Reads (λ v. Called v.0 ∷ Signed v.1 ∷ Signed v.2 ∷ Called v.3 ∷ []) result (values_of (A_name ∷ A_signed ∷ A_signed ∷ A_name ∷ []) (a.now ∷ x.now ∷ y.now ∷ c.now ∷ [])) }
+    ensures fits { IfOk result (λ v. IsName v.0 × IsShift v.1 × IsShift v.2 × IsName v.3) }
+{
+    let a = parse_name(a)?;
+    let x = parse_signed(x)?;
+    let y = parse_signed(y)?;
+    let c = parse_name(c)?;
+    Ok((a, x, y, c))
+}
+
+/// A layer, a radius and a layer.
+pub fn name_radius_name(words: &[&[u8]]) -> Result<(Name, u16, Name), ParseErr>
+    ensures is { Reads (λ v. Called v.0 ∷ Number v.1 ∷ Called v.2 ∷ []) result (counted (A_name ∷ coordinate ∷ A_name ∷ []) (map (λ w. w.now) words.now)) }
+    ensures fits { IfOk result (λ v. IsName v.0 × (v.1 ≤ 65535) × IsName v.2) }
+{
+    let [a, r, c] = words else {
+        return Err(ParseErr::No(Code::Count));
+    };
+    read_name_radius_name(a, r, c)
+}
+
+fn read_name_radius_name(a: &[u8], r: &[u8], c: &[u8]) -> Result<(Name, u16, Name), ParseErr>
+    ensures is { Reads (λ v. Called v.0 ∷ Number v.1 ∷ Called v.2 ∷ []) result (values_of (A_name ∷ coordinate ∷ A_name ∷ []) (a.now ∷ r.now ∷ c.now ∷ [])) }
+    ensures fits { IfOk result (λ v. IsName v.0 × (v.1 ≤ 65535) × IsName v.2) }
+{
+    let a = parse_name(a)?;
+    let r = parse_coordinate(r)?;
+    let c = parse_name(c)?;
+    Ok((a, r, c))
+}
+
+/// A layer, a number from `low` to `high`, and a number of rings.
+pub fn name_number_rings(words: &[&[u8]], low: u32, high: u32) -> Result<(Name, u32, u32), ParseErr>
+    ensures is { Reads (λ v. Called v.0 ∷ Number v.1 ∷ Number v.2 ∷ []) result (counted (A_name ∷ A_number low high ∷ A_number 1 1000 ∷ []) (map (λ w. w.now) words.now)) }
+    ensures fits { IfOk result (λ v. IsName v.0 × IsWithin low high v.1) }
+{
+    let [a, n, k] = words else {
+        return Err(ParseErr::No(Code::Count));
+    };
+    read_name_number_rings(a, n, k, low, high)
+}
+
+fn read_name_number_rings(
+    a: &[u8],
+    n: &[u8],
+    k: &[u8],
+    low: u32,
+    high: u32,
+) -> Result<(Name, u32, u32), ParseErr>
+    ensures is { Reads (λ v. Called v.0 ∷ Number v.1 ∷ Number v.2 ∷ []) result (values_of (A_name ∷ A_number low high ∷ A_number 1 1000 ∷ []) (a.now ∷ n.now ∷ k.now ∷ [])) }
+    ensures fits { IfOk result (λ v. IsName v.0 × IsWithin low high v.1) }
+{
+    let a = parse_name(a)?;
+    let n = parse_number(low, high, n)?;
+    let k = parse_number(1, 1000, k)?;
+    Ok((a, n, k))
+}
+
+/// A layer, an id and the ends of a segment.
+pub fn name_id_segment(words: &[&[u8]]) -> Result<(Name, u32, Seg), ParseErr>
+    ensures is { Reads (λ v. Called v.0 ∷ Number v.1 ∷ Number v.2.x1 ∷ Number v.2.y1 ∷ Number v.2.x2 ∷ Number v.2.y2 ∷ []) result (counted (A_name ∷ label ∷ coordinate ∷ coordinate ∷ coordinate ∷ coordinate ∷ []) (map (λ w. w.now) words.now)) }
+    ensures fits { IfOk result (λ v. IsName v.0 × (v.1 < 2 ^ 32) × IsSegOf16 v.2) }
+{
+    let [a, id, x1, y1, x2, y2] = words else {
+        return Err(ParseErr::No(Code::Count));
+    };
+    read_name_id_segment(a, id, x1, y1, x2, y2)
+}
+
+fn read_name_id_segment(
+    a: &[u8],
+    id: &[u8],
+    x1: &[u8],
+    y1: &[u8],
+    x2: &[u8],
+    y2: &[u8],
+) -> Result<(Name, u32, Seg), ParseErr>
+    ensures is { Reads (λ v. Called v.0 ∷ Number v.1 ∷ Number v.2.x1 ∷ Number v.2.y1 ∷ Number v.2.x2 ∷ Number v.2.y2 ∷ []) result (values_of (A_name ∷ label ∷ coordinate ∷ coordinate ∷ coordinate ∷ coordinate ∷ []) (a.now ∷ id.now ∷ x1.now ∷ y1.now ∷ x2.now ∷ y2.now ∷ [])) }
+    ensures fits { IfOk result (λ v. IsName v.0 × (v.1 < 2 ^ 32) × IsSegOf16 v.2) }
+{
+    let a = parse_name(a)?;
+    let id = parse_number(0, u32::MAX, id)?;
+    let x1 = parse_coordinate(x1)?;
+    let y1 = parse_coordinate(y1)?;
+    let x2 = parse_coordinate(x2)?;
+    let y2 = parse_coordinate(y2)?;
+    Ok((a, id, Seg { x1, y1, x2, y2 }))
+}

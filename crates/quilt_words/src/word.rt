@@ -1,0 +1,254 @@
+ghost use Rattle.std.specs.Prelude.{◌≡◌, find, IfSome};
+ghost use Rattle.std.specs.Str.{bytes_eq};
+ghost use Rattle.quilt_words.specs.Built.{is_built};
+ghost use Rattle.quilt_words.specs.Words.{spelling, map_spelling, region_spelling, algebra_spelling, point_spelling, line_spelling, all_words};
+
+/// A word of a command on the map and its layers.
+#[derive(Clone, Copy, Debug, PartialEq, Eq)]
+pub enum MapWord {
+    Region,
+    Lines,
+    Drop,
+    Copy,
+    Layers,
+    Blocks,
+    Records,
+    Edition,
+    Publish,
+    Upgrade,
+    Revert,
+    Points,
+}
+
+impl MapWord {
+    fn spelling(self) -> &'static [u8]
+        ensures { result.now ≡ map_spelling self }
+    {
+        match self {
+            MapWord::Region => b"region",
+            MapWord::Lines => b"lines",
+            MapWord::Drop => b"drop",
+            MapWord::Copy => b"copy",
+            MapWord::Layers => b"layers",
+            MapWord::Blocks => b"blocks",
+            MapWord::Records => b"records",
+            MapWord::Edition => b"edition",
+            MapWord::Publish => b"publish",
+            MapWord::Upgrade => b"upgrade",
+            MapWord::Revert => b"revert",
+            MapWord::Points => b"points",
+        }
+    }
+}
+
+/// A word of a command on one region layer.
+#[derive(Clone, Copy, Debug, PartialEq, Eq)]
+pub enum RegionWord {
+    Set,
+    Rect,
+    Raster,
+    At,
+    Show,
+    Leaves,
+    Area,
+    Perimeter,
+    Polygon,
+}
+
+impl RegionWord {
+    fn spelling(self) -> &'static [u8]
+        ensures { result.now ≡ region_spelling self }
+    {
+        match self {
+            RegionWord::Set => b"set",
+            RegionWord::Rect => b"rect",
+            RegionWord::Raster => b"raster",
+            RegionWord::At => b"at",
+            RegionWord::Show => b"show",
+            RegionWord::Leaves => b"leaves",
+            RegionWord::Area => b"area",
+            RegionWord::Perimeter => b"perimeter",
+            RegionWord::Polygon => b"polygon",
+        }
+    }
+}
+
+/// A word of a command on region layers that make another.
+#[derive(Clone, Copy, Debug, PartialEq, Eq)]
+pub enum AlgebraWord {
+    Union,
+    Inter,
+    Diff,
+    Window,
+    Shift,
+    Buffer,
+    Recolour,
+}
+
+impl AlgebraWord {
+    fn spelling(self) -> &'static [u8]
+        ensures { result.now ≡ algebra_spelling self }
+    {
+        match self {
+            AlgebraWord::Union => b"union",
+            AlgebraWord::Inter => b"inter",
+            AlgebraWord::Diff => b"diff",
+            AlgebraWord::Window => b"window",
+            AlgebraWord::Shift => b"shift",
+            AlgebraWord::Buffer => b"buffer",
+            AlgebraWord::Recolour => b"recolour",
+        }
+    }
+}
+
+/// A word of a command on a point layer.
+#[derive(Clone, Copy, Debug, PartialEq, Eq)]
+pub enum PointWord {
+    Put,
+    Del,
+    Scatter,
+    Find,
+    Within,
+}
+
+impl PointWord {
+    fn spelling(self) -> &'static [u8]
+        ensures { result.now ≡ point_spelling self }
+    {
+        match self {
+            PointWord::Put => b"put",
+            PointWord::Del => b"del",
+            PointWord::Scatter => b"scatter",
+            PointWord::Find => b"find",
+            PointWord::Within => b"within",
+        }
+    }
+}
+
+/// A word of a command on line layers.
+#[derive(Clone, Copy, Debug, PartialEq, Eq)]
+pub enum LineWord {
+    Line,
+    Unline,
+    Cross,
+    Clip,
+    Nearest,
+    Over,
+    Rank,
+    Crossings,
+}
+
+impl LineWord {
+    fn spelling(self) -> &'static [u8]
+        ensures { result.now ≡ line_spelling self }
+    {
+        match self {
+            LineWord::Line => b"line",
+            LineWord::Unline => b"unline",
+            LineWord::Cross => b"cross",
+            LineWord::Clip => b"clip",
+            LineWord::Nearest => b"nearest",
+            LineWord::Over => b"over",
+            LineWord::Rank => b"rank",
+            LineWord::Crossings => b"crossings",
+        }
+    }
+}
+
+/// A command's word.
+#[derive(Clone, Copy, Debug, PartialEq, Eq)]
+pub enum Word {
+    Map(MapWord),
+    Region(RegionWord),
+    Algebra(AlgebraWord),
+    Point(PointWord),
+    Line(LineWord),
+}
+
+const ALL: [Word; 41] = [
+    Word::Map(MapWord::Region),
+    Word::Map(MapWord::Lines),
+    Word::Map(MapWord::Drop),
+    Word::Map(MapWord::Copy),
+    Word::Map(MapWord::Layers),
+    Word::Map(MapWord::Blocks),
+    Word::Map(MapWord::Records),
+    Word::Region(RegionWord::Set),
+    Word::Region(RegionWord::Rect),
+    Word::Region(RegionWord::Raster),
+    Word::Region(RegionWord::At),
+    Word::Region(RegionWord::Show),
+    Word::Region(RegionWord::Leaves),
+    Word::Algebra(AlgebraWord::Union),
+    Word::Algebra(AlgebraWord::Inter),
+    Word::Algebra(AlgebraWord::Diff),
+    Word::Algebra(AlgebraWord::Window),
+    Word::Algebra(AlgebraWord::Shift),
+    Word::Algebra(AlgebraWord::Buffer),
+    Word::Region(RegionWord::Area),
+    Word::Region(RegionWord::Perimeter),
+    Word::Point(PointWord::Put),
+    Word::Point(PointWord::Del),
+    Word::Point(PointWord::Scatter),
+    Word::Point(PointWord::Find),
+    Word::Point(PointWord::Within),
+    Word::Line(LineWord::Line),
+    Word::Line(LineWord::Unline),
+    Word::Line(LineWord::Cross),
+    Word::Line(LineWord::Clip),
+    Word::Line(LineWord::Nearest),
+    Word::Line(LineWord::Over),
+    Word::Map(MapWord::Edition),
+    Word::Map(MapWord::Publish),
+    Word::Map(MapWord::Upgrade),
+    Word::Map(MapWord::Revert),
+    Word::Region(RegionWord::Polygon),
+    Word::Line(LineWord::Rank),
+    Word::Line(LineWord::Crossings),
+    Word::Algebra(AlgebraWord::Recolour),
+    Word::Map(MapWord::Points),
+];
+
+impl Word {
+    /// How it is spelled.
+    pub fn spelling(self) -> &'static [u8]
+        ensures { result.now ≡ spelling self }
+    {
+        match self {
+            Word::Map(word) => word.spelling(),
+            Word::Region(word) => word.spelling(),
+            Word::Algebra(word) => word.spelling(),
+            Word::Point(word) => word.spelling(),
+            Word::Line(word) => word.spelling(),
+        }
+    }
+
+    /// The word that the bytes spell.
+    pub fn of(bytes: &[u8]) -> Option<Word>
+        ensures found { result ≡ find (λ w. bytes_eq (spelling w) bytes.now) all_words }
+        ensures spelled { IfSome result (λ w. bytes.now ≡ spelling w) }
+    {
+        look_up(bytes)
+    }
+
+    /// Whether the session has the word's command. A command is taken in by its words here and in `built` of specs/Built.antt.
+    #[tactic(auto, unfolding(crate::specs::Built::built))]
+    pub fn is_built(self) -> bool
+        ensures { result ≡ is_built (spelling self) }
+    {
+        matches!(
+            self,
+            Word::Map(MapWord::Region)
+                | Word::Region(RegionWord::Set)
+                | Word::Region(RegionWord::At)
+                | Word::Region(RegionWord::Show)
+                | Word::Map(MapWord::Edition)
+        )
+    }
+}
+
+fn look_up(bytes: &[u8]) -> Option<Word>
+    ensures { result ≡ find (λ w. bytes_eq (spelling w) bytes.now) all_words }
+{
+    ALL.iter().copied().find(|w| w.spelling() == bytes)
+}
