@@ -1,5 +1,6 @@
 pub mod Answered
 pub mod Asked
+pub mod Asks
 pub mod Catalogs
 pub mod ChangeSteps
 pub mod Fronts

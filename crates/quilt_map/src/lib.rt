@@ -21,4 +21,6 @@ pub use session::Session;
 pub use settled::settled_replies;
 
 #[cfg(test)]
+mod bodies_tests;
+#[cfg(test)]
 mod tests;
