@@ -1,6 +1,7 @@
 pub mod Answered
 pub mod Asked
 pub mod Asks
+pub mod Built
 pub mod Catalogs
 pub mod ChangeSteps
 pub mod Fronts
@@ -11,6 +12,7 @@ pub mod Laws
 pub mod Moving
 pub mod NewLayers
 pub mod Numbered
+pub mod Orderly
 pub mod Outcomes
 pub mod Placing
 pub mod Plans
