@@ -12,6 +12,7 @@ mod publishing;
 mod refusals;
 mod regions;
 mod reply;
+mod serving;
 mod session;
 mod settled;
 mod uniform;
