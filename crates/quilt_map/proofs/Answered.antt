@@ -147,6 +147,7 @@ module _ {W : Type 0} {D : disk.Ghosts W} where
         level = r.level;
         quota = r.quota;
         few = r.few;
+        bounded = r.bounded;
       }
 
   module _ (old : Session W D) (s : State) (at : IsAtState old s) where

@@ -11,6 +11,7 @@ pub mod Moving
 pub mod NewLayers
 pub mod Numbered
 pub mod Outcomes
+pub mod PaintPlans
 pub mod Placing
 pub mod Plans
 pub mod Renewed
