@@ -24,7 +24,7 @@ returns-in-Err-change-clause-sound g c = λ s at name grid is low.
     let still = c.plan_paint.ensures.still in
     let law = g.met.W.Disk.is_consistent book.world in
     let plan = mid_plan {D = g.W.Disk} old s at book still law name c.args.number grid is c.args.w c.args.c.0 low c.in-Ok-plan_paint.edits c.records.result.now c.records-in-Ok-plan_paint.result.now
-        c.records.ensures c.records-in-Ok-plan_paint.ensures c.in-Ok-plan_paint.ensures.plan in
+    c.records.ensures c.records-in-Ok-plan_paint.ensures c.in-Ok-plan_paint.ensures.plan in
     c.in-Err-change.ensures.sound s (mid_at {D = g.W.Disk} old s at book still law) name c.args.number (Some (Region (painted s.last.level grid c.args.w c.args.c.0))) plan
 
 pub returns-in-Err-change-clause-goes_on : goal.returns-in-Err-change-clause-goes_on
@@ -42,7 +42,7 @@ returns-in-Ok-true-clause-painted g c = λ s at name grid is low.
     let there = mid_at {D = g.W.Disk} old s at book still law in
     let next = painted s.last.level grid c.args.w c.args.c.0 in
     let plan = mid_plan {D = g.W.Disk} old s at book still law name c.args.number grid is c.args.w c.args.c.0 low c.in-Ok-plan_paint.edits c.records.result.now c.records-in-Ok-plan_paint.result.now
-        c.records.ensures c.records-in-Ok-plan_paint.ensures c.in-Ok-plan_paint.ensures.plan in
+    c.records.ensures c.records-in-Ok-plan_paint.ensures c.in-Ok-plan_paint.ensures.plan in
     let catalog = paint_catalog {D = g.W.Disk} mid s there name c.args.number grid is next new.catalog c.change.ensures.catalogs.0 in
     let has = c.in-Ok-true.ensures.changed s there name c.args.number (Some (Region next)) new.catalog plan catalog in
     painted_answer {D = g.W.Disk} old mid new s name (Region next) c.in-Ok.text refl
@@ -63,7 +63,7 @@ returns-in-Ok-false-clause-painted g c = λ s at name grid is low.
     let there = mid_at {D = g.W.Disk} old s at book still law in
     let next = painted s.last.level grid c.args.w c.args.c.0 in
     let plan = mid_plan {D = g.W.Disk} old s at book still law name c.args.number grid is c.args.w c.args.c.0 low c.in-Ok-plan_paint.edits c.records.result.now c.records-in-Ok-plan_paint.result.now
-        c.records.ensures c.records-in-Ok-plan_paint.ensures c.in-Ok-plan_paint.ensures.plan in
+    c.records.ensures c.records-in-Ok-plan_paint.ensures c.in-Ok-plan_paint.ensures.plan in
     let catalog = paint_catalog {D = g.W.Disk} mid s there name c.args.number grid is next new.catalog c.change.ensures.catalogs.0 in
     let has = c.in-Ok-false.ensures.changed s there name c.args.number (Some (Region next)) new.catalog plan catalog in
     painted_full {D = g.W.Disk} old mid new s name (Region next) refl there
