@@ -14,6 +14,7 @@ pub mod NewLayers
 pub mod Numbered
 pub mod Orderly
 pub mod Outcomes
+pub mod PaintPlans
 pub mod Placing
 pub mod Plans
 pub mod Renewed

@@ -5,6 +5,7 @@ pub mod Commanding
 pub mod Editing
 pub mod Lookups
 pub mod Making
+pub mod Painting
 pub mod Planning
 pub mod Renewing
 pub mod Runs

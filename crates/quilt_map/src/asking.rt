@@ -43,7 +43,7 @@ fn has_pixel(level: u8, p: Pixel) -> bool
 }
 
 /// Whether the window lies in the square and has a pixel.
-fn has_window(level: u8, w: Window) -> bool
+pub(crate) fn has_window(level: u8, w: Window) -> bool
     requires { level ≤ 12 }
     ensures { result ≡ is_window level w }
 {

@@ -8,6 +8,7 @@ mod editing;
 mod editions;
 mod entries;
 mod making;
+mod painting;
 mod publishing;
 mod refusals;
 mod regions;
