@@ -2,6 +2,7 @@ pub mod Answered
 pub mod Asked
 pub mod Catalogs
 pub mod ChangeSteps
+pub mod Copies
 pub mod Fronts
 pub mod Going
 pub mod Holding
