@@ -16,7 +16,7 @@ use Rattle.quilt_record.specs.declared.entry.Entry.{Entry}
 use Rattle.quilt_record.specs.Records.{Numbering}
 use Rattle.quilt_node.specs.declared.head.Head.{Head}
 use Rattle.quilt_lang.specs.Trials.{spaced}
-use Rattle.quilt_lang.specs.declared.command.Command.TheVariants as commands
+use Rattle.quilt_words.specs.declared.command.Command.TheVariants as commands
 use Rattle.quilt_blocks.specs.Raster.{Raster}
 use Rattle.quilt_region.specs.Regions.{HasRegion}
 use Rattle.quilt_spell.specs.Catalogued.{kind_of, IsCatalogOf}

@@ -17,5 +17,6 @@ pub mod Plans
 pub mod Renewed
 pub mod Replies
 pub mod Rows
+pub mod Tests
 pub mod TextLaws
 pub mod ZeroPage

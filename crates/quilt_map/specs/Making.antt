@@ -1,13 +1,18 @@
 -- What a command that was not refused before its quota leaves.
-use Rattle.std.specs.Prelude.{◌≡◌, ℕ, ◌+◌, min, List, []}
+use Rattle.std.specs.Prelude.{◌≡◌, ℕ, ◌+◌, min, List, [], None}
 use Rattle.quilt_types.specs.Facts.{changes}
 use Rattle.quilt_types.specs.Layers.{Layer}
 use Rattle.quilt_world.specs.declared.disk.Disk as disk
-use Rattle.quilt_map.specs.Answers.{State, Outcome, makes}
+use Rattle.quilt_types.specs.declared.code.Code.{Code}
+use Rattle.quilt_map.specs.Answers.{State, Outcome, Refused, makes}
 use Rattle.quilt_map.specs.Sessions.{IsAtState, last_count}
 use Rattle.quilt_map.specs.States.{Tells, after_outcome}
 use Rattle.quilt_map.specs.declared.reply.Reply.{Reply}
 use Rattle.quilt_map.specs.declared.session.Session.{Session}
+
+-- a refusal, which changes nothing
+abbrev pub refused : State → Code → Outcome
+refused s code = record { reply = Refused code; work = s.work; published = None }
 
 -- the layer stands under the name, unless the quota refuses it
 abbrev pub placed : State → List ℕ → Layer → Outcome

@@ -10,6 +10,7 @@ mod editions;
 mod entries;
 mod making;
 mod publishing;
+mod refusals;
 mod regions;
 mod reply;
 mod session;

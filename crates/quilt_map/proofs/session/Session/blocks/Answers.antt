@@ -1,5 +1,5 @@
 use Rattle.std.proofs.Common.{refl, subst}
-use Rattle.quilt_lang.specs.declared.command.Command.TheVariants as commands
+use Rattle.quilt_words.specs.declared.command.Command.TheVariants as commands
 use Rattle.quilt_map.specs.Answers.{answer}
 use Rattle.quilt_map.specs.Asking.{IsLayerUnder}
 use Rattle.quilt_map.specs.Sessions.{IsAtState}

@@ -1,4 +1,4 @@
-use Rattle.quilt_lang.specs.declared.command.Command.TheVariants as commands
+use Rattle.quilt_words.specs.declared.command.Command.TheVariants as commands
 use Rattle.quilt_map.specs.Answers.{answer}
 use Rattle.quilt_map.specs.Sessions.{IsAtState}
 use Rattle.quilt_map.proofs.Answered.{told_reply, edition_body}

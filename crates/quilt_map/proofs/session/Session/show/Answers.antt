@@ -1,7 +1,7 @@
 use Rattle.std.proofs.Common.{true, false, ◌∙◌, ap}
 use Rattle.quilt_types.specs.Plane.{is_window}
 use Rattle.quilt_node.specs.declared.head.Head.{Head}
-use Rattle.quilt_lang.specs.declared.command.Command.TheVariants as commands
+use Rattle.quilt_words.specs.declared.command.Command.TheVariants as commands
 use Rattle.quilt_map.specs.Answers.{answer}
 use Rattle.quilt_map.specs.Sessions.{IsAtState}
 use Rattle.quilt_map.proofs.Answered.{told_reply, show_refused, show_outside, show_body, level_is, test_at, catalog_as, keeps_here, keeps_at, has_region, has_number}
