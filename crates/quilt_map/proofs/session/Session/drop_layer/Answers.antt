@@ -1,9 +1,8 @@
-use Rattle.std.proofs.Common.{◌≡◌, ℕ, List, Bool, Option, Some, None, refl, sym, ◌∙◌, ap, subst}
+use Rattle.std.proofs.Common.{◌≡◌, List, Bool, None, refl, sym, ◌∙◌, ap, subst}
 use Rattle.quilt_types.specs.Layers.{Map}
 use Rattle.quilt_record.specs.declared.entry.Entry.{Entry}
 use Rattle.quilt_record.specs.Records.{Numbering}
 use Rattle.quilt_spell.specs.Catalogued.{IsCatalogOf}
-use Rattle.quilt_spell.specs.Changing.{with_layer, with_number}
 use Rattle.quilt_words.specs.declared.command.Command.TheVariants as commands
 use Rattle.quilt_map.specs.Answers.{Refused}
 use Rattle.quilt_types.specs.declared.code.Code.TheVariants as no
