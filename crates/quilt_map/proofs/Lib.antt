@@ -4,6 +4,7 @@ pub mod Asks
 pub mod Built
 pub mod Catalogs
 pub mod ChangeSteps
+pub mod Copies
 pub mod Fronts
 pub mod Going
 pub mod Holding

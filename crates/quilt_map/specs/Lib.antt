@@ -2,6 +2,7 @@ pub mod Answers
 pub mod Asking
 pub mod Bodies
 pub mod Commanding
+pub mod Copying
 pub mod Editing
 pub mod Lookups
 pub mod Making

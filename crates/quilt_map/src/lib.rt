@@ -4,6 +4,7 @@
 mod asking;
 mod bodies;
 mod changing;
+mod copying;
 mod editing;
 mod editions;
 mod entries;

@@ -27,7 +27,7 @@ use quilt_world::World;
 use std::alloc::{AllocError, Global};
 
 /// The record of the catalog for an entry, and these records behind it.
-fn listed(alloc: Global, entry: &Entry, records: &[Record]) -> Result<RecordList, AllocError>
+pub(crate) fn listed(alloc: Global, entry: &Entry, records: &[Record]) -> Result<RecordList, AllocError>
     requires { 1 ≤ entry.now.number }
     ensures { IfOk result (λ all. (first : AnyRecord) × (all ≡ first ∷ records.now) × ((n capacity : ℕ) → first ≡ record_of n capacity entry.now.name entry.now.number (kind_fact entry.now.kind))) }
 {
