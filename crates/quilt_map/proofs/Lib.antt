@@ -3,6 +3,7 @@ pub mod Asked
 pub mod Asks
 pub mod Built
 pub mod Catalogs
+pub mod Commanded
 pub mod ChangeSteps
 pub mod Copies
 pub mod Fronts

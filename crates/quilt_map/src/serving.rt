@@ -27,6 +27,10 @@ impl<W: World> Session<W> {
     {
         match command {
             Command::Region { a, c } => self.region(a, *c),
+            Command::Drop { a } => self.drop_layer(a),
+            Command::Copy { a, b } => self.copy_layer(a, b),
+            Command::Set { a, at, c } => self.set(a, *at, *c),
+            Command::Rect { a, w, c } => self.rect(a, *w, *c),
             Command::At { a, at } => self.at(a, *at),
             Command::Show { a, w } => self.show(a, *w),
             Command::Leaves { a } => self.leaves(a),
