@@ -56,13 +56,25 @@ only_pages : (added : List Event) → Only is_write added → Only is_of_pages a
 only_pages [] only = refl
 only_pages (e ∷ es) only = let parts = and_parts (is_write e) (list_all is_write es) only in rw (write_of_pages e parts.0) (only_pages es parts.1)
 
-pub damaged_of : {T : Type 0} (At : State → Type 0) (r : Result T Stop) → IfErr r (λ e. (s : State) → At s → IsSound e) → IfErr r (λ stop. (page : ℕ) → stop ≡ stops.Damaged page → (s : State) → At s → ⊥)
+damaged_of : {T : Type 0} (At : State → Type 0) (r : Result T Stop) → IfErr r (λ e. (s : State) → At s → IsSound e) → IfErr r (λ stop. (page : ℕ) → stop ≡ stops.Damaged page → (s : State) → At s → ⊥)
 damaged_of At (Ok x) h = tt
 damaged_of At (Err e) h = λ page is s at. h s at page is
 
-pub device_of : {T : Type 0} (before now : ℕ) (r : Result T Stop) → HasStopCause before now r → IfErr r (λ stop. stop ≡ stops.Device → Rose before now)
+device_of : {T : Type 0} (before now : ℕ) (r : Result T Stop) → HasStopCause before now r → IfErr r (λ stop. stop ≡ stops.Device → Rose before now)
 device_of before now (Ok x) h = tt
 device_of before now (Err e) h = λ is. h.device (ap Err is)
+
+pub quiet_revert : (c : Command) → c ≡ commands.Revert → gives_edition c ≡ false
+quiet_revert c is = ap gives_edition is
+
+pub quiet_else : (c : Command) → (c ≡ commands.Publish → ⊥) → (c ≡ commands.Upgrade → ⊥) → gives_edition c ≡ false
+quiet_else commands.Publish publish upgrade = absurd (publish refl)
+quiet_else commands.Upgrade publish upgrade = absurd (upgrade refl)
+quiet_else c publish upgrade = refl
+
+pub forward_else : (c : Command) → (c ≡ commands.Revert → ⊥) → is_revert c ≡ false
+forward_else commands.Revert revert = absurd (revert refl)
+forward_else c revert = refl
 
 pub not_publish : (c : Command) → gives_edition c ≡ false → c ≡ commands.Publish → ⊥
 not_publish c quiet is = let no_ : gives_edition commands.Publish ≡ false = subst (λ (x : Command). gives_edition x ≡ false) is quiet in cc
@@ -103,7 +115,7 @@ module _ {W : Type 0} {D : disk.Ghosts W} where
 
   -- ---- a book that goes on
   module _ (old new : Session W D) (goes : books.GoesOn old.book new.book) where
-    pub level_on : level_of new ≡ level_of old
+    level_on : level_of new ≡ level_of old
     unfolding level_of
     level_on = ap (λ (h : Head). h.level) goes.2
 
@@ -148,11 +160,65 @@ module _ {W : Type 0} {D : disk.Ghosts W} where
 abbrev pub WritesPages : Option Tale → Option Tale → Type 0
 WritesPages a b = Goes (λ old new. (most : ℕ) × Writing most old new) a b
 
-pub writing_events : (a b : Option Tale) → WritesPages a b → Goes (AddsOnly is_of_pages) a b
+writing_events : (a b : Option Tale) → WritesPages a b → Goes (AddsOnly is_of_pages) a b
 writing_events a b w = goes_map (λ old new. (most : ℕ) × Writing most old new) (AddsOnly is_of_pages) a b (λ t u is x. record { file = x.1.file; events = x.1.added; log = x.1.log; only = x.1.only }) w
 
-pub writing_input : (a b : Option Tale) → WritesPages a b → Goes (λ old new. new.input ≡ old.input) a b
+writing_input : (a b : Option Tale) → WritesPages a b → Goes (λ old new. new.input ≡ old.input) a b
 writing_input a b w = goes_map (λ old new. (most : ℕ) × Writing most old new) (λ t u. u.input ≡ t.input) a b (λ t u is x. x.1.input) w
 
-pub writing_few : (a b : Option Tale) (s : State) (command : Command) (k : ℕ) → Goes (Writing (18 * k + 8)) a b → Goes (WritesFew s command k) a b
+writing_few : (a b : Option Tale) (s : State) (command : Command) (k : ℕ) → Goes (Writing (18 * k + 8)) a b → Goes (WritesFew s command k) a b
 writing_few a b s command k w = goes_map (Writing (18 * k + 8)) (WritesFew s command k) a b (λ t u is x some. x) w
+
+on_ok : {T E : Type 0} (P : Type 0) (r : Result T E) → P → OnOk r P
+on_ok P (Ok x) h = h
+on_ok P (Err e) h = tt
+
+sound_at : {T : Type 0} (At : State → Type 0) (r : Result T Stop) → IfErr r IsSound → IfErr r (λ e. (s : State) → At s → IsSound e)
+sound_at At (Ok x) h = tt
+sound_at At (Err e) h = λ s at. h
+
+module _ {W : Type 0} {D : disk.Ghosts W} (old new : Session W D) where
+  pub later_at : {T : Type 0} (r : Result T Stop) → HasStopCause (D.faults old.book.world) (D.faults new.book.world) r → D.faults (world_of old) ≤ D.faults (world_of new)
+  unfolding world_of
+  later_at r h = h.later
+
+  pub device_at : {T : Type 0} (r : Result T Stop) → HasStopCause (D.faults old.book.world) (D.faults new.book.world) r
+      → IfErr r (λ stop. stop ≡ stops.Device → Rose (D.faults (world_of old)) (D.faults (world_of new)))
+  unfolding world_of
+  device_at r h = device_of (D.faults old.book.world) (D.faults new.book.world) r h
+
+  pub damaged_at : {T : Type 0} (r : Result T Stop) → IfErr r (λ e. (s : State) → IsAtState old s → IsSound e)
+      → IfErr r (λ stop. (page : ℕ) → stop ≡ stops.Damaged page → (s : State) → IsAt old s → ⊥)
+  unfolding IsAt
+  damaged_at r h = damaged_of (IsAtState old) r h
+
+  pub damaged_by : {T : Type 0} (r : Result T Stop) → IfErr r IsSound → IfErr r (λ stop. (page : ℕ) → stop ≡ stops.Damaged page → (s : State) → IsAt old s → ⊥)
+  damaged_by r h = damaged_at r (sound_at (IsAtState old) r h)
+
+  pub level_at : {T : Type 0} (r : Result T Stop) → OnOk r (new.book.last.level ≡ old.book.last.level) → OnOk r (level_of new ≡ level_of old)
+  unfolding level_of
+  level_at r h = h
+
+  pub level_going : {T : Type 0} (r : Result T Stop) → books.GoesOn old.book new.book → OnOk r (level_of new ≡ level_of old)
+  level_going r goes = on_ok (level_of new ≡ level_of old) r (level_on old new goes)
+
+  pub door_at : D.door new.book.world ≡ D.door old.book.world → D.door (world_of new) ≡ D.door (world_of old)
+  unfolding world_of
+  door_at h = h
+
+  pub events_at : WritesPages (D.told old.book.world) (D.told new.book.world) → Goes (AddsOnly is_of_pages) (D.told (world_of old)) (D.told (world_of new))
+  unfolding world_of
+  events_at h = writing_events (D.told old.book.world) (D.told new.book.world) h
+
+  pub input_at : WritesPages (D.told old.book.world) (D.told new.book.world) → Goes (λ old new. new.input ≡ old.input) (D.told (world_of old)) (D.told (world_of new))
+  unfolding world_of
+  input_at h = writing_input (D.told old.book.world) (D.told new.book.world) h
+
+  module _ (command other : Command) (same : other ≡ command) where
+    pub leaves_at : ((s : State) → IsAtState old s → Goes (Leaves s other) (D.told old.book.world) (D.told new.book.world)) → (s : State) → IsAt old s → Goes (Leaves s command) (D.told (world_of old)) (D.told (world_of new))
+    unfolding IsAt world_of
+    leaves_at h s at = subst (λ (c : Command). Goes (Leaves s c) (D.told old.book.world) (D.told new.book.world)) same (h s at)
+
+    pub few_at : ((s : State) → IsAtState old s → Goes (Writing (18 * old.changes + 8)) (D.told old.book.world) (D.told new.book.world)) → (s : State) → IsAt old s → Goes (WritesFew s command (changes_of old)) (D.told (world_of old)) (D.told (world_of new))
+    unfolding IsAt world_of changes_of
+    few_at h s at = writing_few (D.told old.book.world) (D.told new.book.world) s command old.changes (h s at)
