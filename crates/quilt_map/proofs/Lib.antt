@@ -19,6 +19,7 @@ pub mod Outcomes
 pub mod PaintPlans
 pub mod Placing
 pub mod Plans
+pub mod RefusalTexts
 pub mod Renewed
 pub mod Replies
 pub mod Rows
