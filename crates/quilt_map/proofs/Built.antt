@@ -3,6 +3,7 @@ use Rattle.std.proofs.Common.{◌≡◌, inl, inr, ℕ, ◌<◌, ◌≤◌, ◌-
 use Rattle.std.specs.List.{list_all}
 use Rattle.std.specs.Str.{bytes_eq}
 use Rattle.std.proofs.lemmas.Bool.{and_parts, leb-true}
+use Rattle.std.proofs.lemmas.Slice.Eq.{bytes_eq-Decides}
 use Rattle.quilt_types.specs.declared.plane.Pixel.{Pixel}
 use Rattle.quilt_types.specs.declared.plane.Window.{Window}
 use Rattle.quilt_types.specs.declared.plane.Colour.{Colour}
@@ -15,22 +16,32 @@ use Rattle.quilt_words.specs.declared.item.Item.{Item}
 use Rattle.quilt_words.specs.declared.item.Item.TheVariants.{Long, Line, Rows, PointLines, RingLines}
 use Rattle.quilt_words.specs.Items.{held, is_plain, words_of}
 use Rattle.quilt_words.specs.Spelling.{number, is_spelled, value_of}
-use Rattle.quilt_words.specs.Built.{built as built_words, is_built as is_built_word}
-use Rattle.quilt_words.specs.Forms.{Further, Argument, A_name, A_number, A_signed, colour, pixel, window, Entry, Value, Called, Number, entry_in_all, entry_of, with_count, or_err, ◌>>=◌, argument_value, values_of, form_of_words, form_of_line, form, Spelled, region_command, set_command, at_command, show_command, edition_command}
-use Rattle.quilt_map.proofs.MapOf.{bool_cases, same_bytes}
+use Rattle.quilt_words.specs.Built.{built, is_built as is_built_word}
+use Rattle.quilt_words.specs.Forms.{Further, Argument, A_name, A_number, A_signed, colour, pixel, window, Entry, Value, Called, Number, entry_in_all, entry_of, with_count, or_err, ◌>>=◌, argument_value, values_of, form_of_words, form_of_line, form, Spelled, region_command, drop_command, copy_command, layers_command, records_command, set_command, rect_command, at_command, show_command, leaves_command, edition_command, publish_command, upgrade_command, revert_command}
+use Rattle.quilt_words.proofs.Cases.{bool_cases}
 
 abbrev pub is_built : Command → Bool
 is_built (commands.Region a c) = true
+is_built (commands.Drop a) = true
+is_built (commands.Copy a b) = true
+is_built commands.Layers = true
+is_built commands.Records = true
 is_built (commands.Set a p c) = true
+is_built (commands.Rect a w c) = true
 is_built (commands.At a p) = true
 is_built (commands.Show a w) = true
+is_built (commands.Leaves a) = true
 is_built commands.Edition = true
+is_built commands.Publish = true
+is_built commands.Upgrade = true
+is_built commands.Revert = true
 is_built command = false
 
 -- the colour of a command that has one is of the format
 abbrev pub IsColoured : ℕ → Command → Type 0
 IsColoured f (commands.Region a c) = c.0 < colours f
 IsColoured f (commands.Set a p c) = c.0 < colours f
+IsColoured f (commands.Rect a w c) = c.0 < colours f
 IsColoured f command = Unit {0}
 
 -- what is shown of each command that is spelled
@@ -105,8 +116,23 @@ module _ (f : ℕ) where
   abbrev region_row : Entry
   region_row = record { word = codes "region"; arguments = A_name ∷ colour f ∷ []; command = region_command }
 
+  abbrev drop_row : Entry
+  drop_row = record { word = codes "drop"; arguments = A_name ∷ []; command = drop_command }
+
+  abbrev copy_row : Entry
+  copy_row = record { word = codes "copy"; arguments = A_name ∷ A_name ∷ []; command = copy_command }
+
+  abbrev layers_row : Entry
+  layers_row = record { word = codes "layers"; arguments = []; command = layers_command }
+
+  abbrev records_row : Entry
+  records_row = record { word = codes "records"; arguments = []; command = records_command }
+
   abbrev set_row : Entry
   set_row = record { word = codes "set"; arguments = A_name ∷ pixel ++ colour f ∷ []; command = set_command }
+
+  abbrev rect_row : Entry
+  rect_row = record { word = codes "rect"; arguments = A_name ∷ window ++ colour f ∷ []; command = rect_command }
 
   abbrev at_row : Entry
   at_row = record { word = codes "at"; arguments = A_name ∷ pixel; command = at_command }
@@ -114,16 +140,48 @@ module _ (f : ℕ) where
   abbrev show_row : Entry
   show_row = record { word = codes "show"; arguments = A_name ∷ window; command = show_command }
 
+  abbrev leaves_row : Entry
+  leaves_row = record { word = codes "leaves"; arguments = A_name ∷ []; command = leaves_command }
+
   abbrev edition_row : Entry
   edition_row = record { word = codes "edition"; arguments = []; command = edition_command }
+
+  abbrev publish_row : Entry
+  publish_row = record { word = codes "publish"; arguments = []; command = publish_command }
+
+  abbrev upgrade_row : Entry
+  upgrade_row = record { word = codes "upgrade"; arguments = []; command = upgrade_command }
+
+  abbrev revert_row : Entry
+  revert_row = record { word = codes "revert"; arguments = []; command = revert_command }
 
   region_makes : Makes f region_row
   region_makes more (Called a ∷ Number n ∷ []) c fit is = good_at f _ c (record { built = refl; coloured = few_colours f n fit.1.0 }) is
   region_makes more vs c fit is = cc
 
+  drop_makes : Makes f drop_row
+  drop_makes more (Called a ∷ []) c fit is = good_at f _ c (record { built = refl; coloured = tt }) is
+  drop_makes more vs c fit is = cc
+
+  copy_makes : Makes f copy_row
+  copy_makes more (Called a ∷ Called b ∷ []) c fit is = good_at f _ c (record { built = refl; coloured = tt }) is
+  copy_makes more vs c fit is = cc
+
+  layers_makes : Makes f layers_row
+  layers_makes more ([]) c fit is = good_at f _ c (record { built = refl; coloured = tt }) is
+  layers_makes more (v ∷ vs) c fit is = cc
+
+  records_makes : Makes f records_row
+  records_makes more ([]) c fit is = good_at f _ c (record { built = refl; coloured = tt }) is
+  records_makes more (v ∷ vs) c fit is = cc
+
   set_makes : Makes f set_row
   set_makes more (Called a ∷ Number x ∷ Number y ∷ Number n ∷ []) c fit is = good_at f _ c (record { built = refl; coloured = few_colours f n fit.1.1.1.0 }) is
   set_makes more vs c fit is = cc
+
+  rect_makes : Makes f rect_row
+  rect_makes more (Called a ∷ Number x ∷ Number y ∷ Number w ∷ Number h ∷ Number n ∷ []) c fit is = good_at f _ c (record { built = refl; coloured = few_colours f n fit.1.1.1.1.1.0 }) is
+  rect_makes more vs c fit is = cc
 
   at_makes : Makes f at_row
   at_makes more (Called a ∷ Number x ∷ Number y ∷ []) c fit is = good_at f _ c (record { built = refl; coloured = tt }) is
@@ -133,9 +191,28 @@ module _ (f : ℕ) where
   show_makes more (Called a ∷ Number x ∷ Number y ∷ Number w ∷ Number h ∷ []) c fit is = good_at f _ c (record { built = refl; coloured = tt }) is
   show_makes more vs c fit is = cc
 
+  leaves_makes : Makes f leaves_row
+  leaves_makes more (Called a ∷ []) c fit is = good_at f _ c (record { built = refl; coloured = tt }) is
+  leaves_makes more vs c fit is = cc
+
   edition_makes : Makes f edition_row
-  edition_makes more [] c fit is = good_at f _ c (record { built = refl; coloured = tt }) is
+  edition_makes more ([]) c fit is = good_at f _ c (record { built = refl; coloured = tt }) is
   edition_makes more (v ∷ vs) c fit is = cc
+
+  publish_makes : Makes f publish_row
+  publish_makes more ([]) c fit is = good_at f _ c (record { built = refl; coloured = tt }) is
+  publish_makes more (v ∷ vs) c fit is = cc
+
+  upgrade_makes : Makes f upgrade_row
+  upgrade_makes more ([]) c fit is = good_at f _ c (record { built = refl; coloured = tt }) is
+  upgrade_makes more (v ∷ vs) c fit is = cc
+
+  revert_makes : Makes f revert_row
+  revert_makes more ([]) c fit is = good_at f _ c (record { built = refl; coloured = tt }) is
+  revert_makes more (v ∷ vs) c fit is = cc
+
+  same_bytes : (a b : List ℕ) → bytes_eq a b ≡ true → a ≡ b
+  same_bytes a b is = (bytes_eq-Decides a b).0 is
 
   counted : (count : ℕ) (row e : Entry) → Makes f row → with_count count row ≡ Ok e → Makes f e
   counted count row e makes is = elim (bool_cases (length row.arguments == count)) [
@@ -150,18 +227,45 @@ module _ (f : ℕ) where
       counted count row e makes (sym here ∙ there)
 
   built_entry : (word : List ℕ) (count : ℕ) (e : Entry) → is_built_word word ≡ true → entry_in_all f word count ≡ Ok e → Makes f e
-  unfolding built_words
+  unfolding built
   built_entry word count e built is = elim (bool_cases (bytes_eq (codes "region") word)) [
     | inl yes_ ↦ row_of count word (codes "region") region_row e (same_bytes _ _ yes_) region_makes refl is
-    | inr no_ ↦ elim (bool_cases (bytes_eq (codes "set") word)) [
-      | inl yes_ ↦ row_of count word (codes "set") set_row e (same_bytes _ _ yes_) set_makes refl is
-      | inr no1 ↦ elim (bool_cases (bytes_eq (codes "at") word)) [
-        | inl yes_ ↦ row_of count word (codes "at") at_row e (same_bytes _ _ yes_) at_makes refl is
-        | inr no2 ↦ elim (bool_cases (bytes_eq (codes "show") word)) [
-          | inl yes_ ↦ row_of count word (codes "show") show_row e (same_bytes _ _ yes_) show_makes refl is
-          | inr no3 ↦ elim (bool_cases (bytes_eq (codes "edition") word)) [
-            | inl yes_ ↦ row_of count word (codes "edition") edition_row e (same_bytes _ _ yes_) edition_makes refl is
-            | inr no4 ↦ absurd (let none : false ≡ true = rw (no_, no1, no2, no3, no4) at built in cc)
+    | inr no0 ↦ elim (bool_cases (bytes_eq (codes "drop") word)) [
+      | inl yes_ ↦ row_of count word (codes "drop") drop_row e (same_bytes _ _ yes_) drop_makes refl is
+      | inr no1 ↦ elim (bool_cases (bytes_eq (codes "copy") word)) [
+        | inl yes_ ↦ row_of count word (codes "copy") copy_row e (same_bytes _ _ yes_) copy_makes refl is
+        | inr no2 ↦ elim (bool_cases (bytes_eq (codes "layers") word)) [
+          | inl yes_ ↦ row_of count word (codes "layers") layers_row e (same_bytes _ _ yes_) layers_makes refl is
+          | inr no3 ↦ elim (bool_cases (bytes_eq (codes "records") word)) [
+            | inl yes_ ↦ row_of count word (codes "records") records_row e (same_bytes _ _ yes_) records_makes refl is
+            | inr no4 ↦ elim (bool_cases (bytes_eq (codes "set") word)) [
+              | inl yes_ ↦ row_of count word (codes "set") set_row e (same_bytes _ _ yes_) set_makes refl is
+              | inr no5 ↦ elim (bool_cases (bytes_eq (codes "rect") word)) [
+                | inl yes_ ↦ row_of count word (codes "rect") rect_row e (same_bytes _ _ yes_) rect_makes refl is
+                | inr no6 ↦ elim (bool_cases (bytes_eq (codes "at") word)) [
+                  | inl yes_ ↦ row_of count word (codes "at") at_row e (same_bytes _ _ yes_) at_makes refl is
+                  | inr no7 ↦ elim (bool_cases (bytes_eq (codes "show") word)) [
+                    | inl yes_ ↦ row_of count word (codes "show") show_row e (same_bytes _ _ yes_) show_makes refl is
+                    | inr no8 ↦ elim (bool_cases (bytes_eq (codes "leaves") word)) [
+                      | inl yes_ ↦ row_of count word (codes "leaves") leaves_row e (same_bytes _ _ yes_) leaves_makes refl is
+                      | inr no9 ↦ elim (bool_cases (bytes_eq (codes "edition") word)) [
+                        | inl yes_ ↦ row_of count word (codes "edition") edition_row e (same_bytes _ _ yes_) edition_makes refl is
+                        | inr no10 ↦ elim (bool_cases (bytes_eq (codes "publish") word)) [
+                          | inl yes_ ↦ row_of count word (codes "publish") publish_row e (same_bytes _ _ yes_) publish_makes refl is
+                          | inr no11 ↦ elim (bool_cases (bytes_eq (codes "upgrade") word)) [
+                            | inl yes_ ↦ row_of count word (codes "upgrade") upgrade_row e (same_bytes _ _ yes_) upgrade_makes refl is
+                            | inr no12 ↦ elim (bool_cases (bytes_eq (codes "revert") word)) [
+                              | inl yes_ ↦ row_of count word (codes "revert") revert_row e (same_bytes _ _ yes_) revert_makes refl is
+                              | inr no13 ↦ absurd (let none : false ≡ true = rw (no0, no1, no2, no3, no4, no5, no6, no7, no8, no9, no10, no11, no12, no13) at built in cc)
+                            ]
+                          ]
+                        ]
+                      ]
+                    ]
+                  ]
+                ]
+              ]
+            ]
           ]
         ]
       ]
@@ -203,11 +307,33 @@ pub spelled_coloured : (f n : ℕ) (c : Command) → Spelled f n c → IsColoure
 spelled_coloured f n c spelled = (form_good f (held f n spelled.0) c spelled.1).coloured
 
 -- a command that is none of these is not spelled
-pub none_other : (c : Command) → is_built c ≡ true → ((a : List ℕ) (k : Colour) → c ≡ commands.Region a k → ⊥) → ((a : List ℕ) (p : Pixel) (k : Colour) → c ≡ commands.Set a p k → ⊥) →
-    ((a : List ℕ) (p : Pixel) → c ≡ commands.At a p → ⊥) → ((a : List ℕ) (w : Window) → c ≡ commands.Show a w → ⊥) → (c ≡ commands.Edition → ⊥) → ⊥
-none_other (commands.Region a k) is region set at show edition = region a k refl
-none_other (commands.Set a p k) is region set at show edition = set a p k refl
-none_other (commands.At a p) is region set at show edition = at a p refl
-none_other (commands.Show a w) is region set at show edition = show a w refl
-none_other commands.Edition is region set at show edition = edition refl
-none_other c is region set at show edition = cc
+pub none_other : (c : Command) → is_built c ≡ true → ((a : List ℕ) (k : Colour) → c ≡ commands.Region a k → ⊥)
+    → ((a : List ℕ) → c ≡ commands.Drop a → ⊥)
+    → ((a b : List ℕ) → c ≡ commands.Copy a b → ⊥)
+    → (c ≡ commands.Layers → ⊥)
+    → (c ≡ commands.Records → ⊥)
+    → ((a : List ℕ) (p : Pixel) (k : Colour) → c ≡ commands.Set a p k → ⊥)
+    → ((a : List ℕ) (w : Window) (k : Colour) → c ≡ commands.Rect a w k → ⊥)
+    → ((a : List ℕ) (p : Pixel) → c ≡ commands.At a p → ⊥)
+    → ((a : List ℕ) (w : Window) → c ≡ commands.Show a w → ⊥)
+    → ((a : List ℕ) → c ≡ commands.Leaves a → ⊥)
+    → (c ≡ commands.Edition → ⊥)
+    → (c ≡ commands.Publish → ⊥)
+    → (c ≡ commands.Upgrade → ⊥)
+    → (c ≡ commands.Revert → ⊥)
+    → ⊥
+none_other (commands.Region a k) is region drop copy layers records set rect at show leaves edition publish upgrade revert = region a k refl
+none_other (commands.Drop a) is region drop copy layers records set rect at show leaves edition publish upgrade revert = drop a refl
+none_other (commands.Copy a b) is region drop copy layers records set rect at show leaves edition publish upgrade revert = copy a b refl
+none_other commands.Layers is region drop copy layers records set rect at show leaves edition publish upgrade revert = layers refl
+none_other commands.Records is region drop copy layers records set rect at show leaves edition publish upgrade revert = records refl
+none_other (commands.Set a p k) is region drop copy layers records set rect at show leaves edition publish upgrade revert = set a p k refl
+none_other (commands.Rect a w k) is region drop copy layers records set rect at show leaves edition publish upgrade revert = rect a w k refl
+none_other (commands.At a p) is region drop copy layers records set rect at show leaves edition publish upgrade revert = at a p refl
+none_other (commands.Show a w) is region drop copy layers records set rect at show leaves edition publish upgrade revert = show a w refl
+none_other (commands.Leaves a) is region drop copy layers records set rect at show leaves edition publish upgrade revert = leaves a refl
+none_other commands.Edition is region drop copy layers records set rect at show leaves edition publish upgrade revert = edition refl
+none_other commands.Publish is region drop copy layers records set rect at show leaves edition publish upgrade revert = publish refl
+none_other commands.Upgrade is region drop copy layers records set rect at show leaves edition publish upgrade revert = upgrade refl
+none_other commands.Revert is region drop copy layers records set rect at show leaves edition publish upgrade revert = revert refl
+none_other c is region drop copy layers records set rect at show leaves edition publish upgrade revert = cc

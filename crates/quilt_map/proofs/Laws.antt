@@ -1,22 +1,33 @@
 -- The public laws of this crate, which crates above may cite.
-use Rattle.std.proofs.Common.{◌≡◌, ℕ, None, ap}
-use Rattle.quilt_words.specs.declared.command.Command.{Command}
-use Rattle.quilt_words.specs.Forms.{Spelled}
-use Rattle.quilt_map.specs.Answers.{State, answer}
+use Rattle.std.proofs.Common.{◌≡◌, ℕ, Some, ap, sym, ◌∙◌}
+use Rattle.quilt_types.specs.Layers.{Edition}
+use Rattle.quilt_types.specs.Facts.{quota}
+use Rattle.quilt_world.specs.Stops.{LeavesNow}
+use Rattle.quilt_world.specs.Tale.{Tale}
+use Rattle.quilt_world.specs.declared.disk.Disk as disk
+use Rattle.quilt_edition.specs.Stands.{Stands}
+use Rattle.quilt_world.specs.Disk.{Pages}
+use Rattle.quilt_journal.specs.Kept.{HasHome, published}
+use Rattle.quilt_map.specs.Answers.{State}
 use Rattle.quilt_map.specs.declared.session.Session.{Session}
-use Rattle.quilt_map.specs.Sessions.{IsAt, format_of, level_of}
-use Rattle.quilt_map.proofs.Built.{spelled_built}
-use Rattle.quilt_map.proofs.Quotas.{unpublished}
+use Rattle.quilt_map.proofs.Keeping.{book_leaves, book_seen, book_stands}
+use Rattle.quilt_map.specs.Sessions.{IsAt, world_of, format_of, level_of}
 
--- in this version no command that an item spells gives an edition
-pub none_published : (f n : ℕ) (s : State) (c : Command) → Spelled f n c → (answer s c).published ≡ None
-none_published f n s c spelled = unpublished s c (spelled_built f n c spelled)
+module _ {W : Type 0} {D : disk.Ghosts W} (session : Session W D) (s : State) where
+  -- the world tells its tale, each image that a stop may leave stands for the last edition, and so does the file as it reads
+  pub at_told : IsAt session s → (t : Tale) × (D.told (world_of session) ≡ Some t) × LeavesNow t (λ image. Stands image s.last) × Stands t.seen s.last
+  unfolding IsAt world_of
+  at_told at =
+      let stands = λ (image : Pages) (has : HasHome session.book.journal.pages (published at.tale session.book.journal.pages) image).
+          book_stands session.book at.tale at.told at.ready session.last s.last image at.last has in
+      (at.tale, at.told, λ image leaves. stands image (book_leaves session.book at.tale at.told at.ready image leaves),
+      stands at.tale.seen (book_seen session.book at.tale at.told at.ready at.lawful))
 
--- the last edition has the session's format and level
-pub at_format : {W : Type 0} (session : Session W) (s : State) → IsAt session s → s.last.format ≡ format_of session
-unfolding IsAt format_of
-at_format session s at = ap (λ (t : State). t.last.format) at
+  -- the last edition has the session's format and level
+  pub at_format : IsAt session s → s.last.format ≡ format_of session
+  unfolding IsAt format_of
+  at_format at = at.last.head.format ∙ sym at.format
 
-pub at_level : {W : Type 0} (session : Session W) (s : State) → IsAt session s → s.last.level ≡ level_of session
-unfolding IsAt level_of
-at_level session s at = ap (λ (t : State). t.last.level) at
+  pub at_level : IsAt session s → s.last.level ≡ level_of session
+  unfolding IsAt level_of
+  at_level at = at.last.head.level

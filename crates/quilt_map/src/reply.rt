@@ -7,7 +7,7 @@ ghost use Rattle.quilt_map.specs.Runs.{text_of};
 ghost use Rattle.quilt_map.specs.States.{Tells};
 ghost use Rattle.quilt_map.specs.declared.reply.Reply.TheVariants as replies;
 
-use quilt_lang::refusal_text;
+use quilt_words::refusal_text;
 use quilt_types::{Code, Text};
 use std::alloc::{AllocError, Global};
 

@@ -1,145 +1,165 @@
-ghost use Rattle.std.specs.Prelude.{◌≡◌, ◌⊎◌, ℕ, ◌<◌, ◌≤◌, [], ◌∷◌, take, length, IfOk, IfErr, OnErr};
-ghost use Rattle.std.specs.FinMap as finmap;
+ghost use Rattle.std.specs.Prelude.{◌≡◌, ◌⊎◌, ℕ, ◌<◌, ◌≤◌, [], ◌∷◌, Some, None, take, length, IfOk, IfErr, OnErr, OnOk};
+ghost use Rattle.quilt_types.specs.Layers.{Edition};
 ghost use Rattle.quilt_types.specs.declared.stop.Stop.TheVariants as stops;
+ghost use Rattle.quilt_world.specs.Added.{AddsOnly, is_of_pages};
 ghost use Rattle.quilt_world.specs.Tale.{Tale, Adds, Goes};
 ghost use Rattle.quilt_world.specs.Causes.{HasCause, Rose};
 ghost use Rattle.quilt_world.specs.Doors.{TakesFrom};
 ghost use Rattle.quilt_world.specs.declared.event.Event.TheVariants.{Put};
 ghost use Rattle.quilt_world.specs.declared.disk.Door.TheVariants as doors;
 ghost use Rattle.quilt_words.specs.Forms.{Spelled};
+ghost use Rattle.quilt_edition.specs.Books as books;
 ghost use Rattle.quilt_map.specs.Answers.{State, answer};
-ghost use Rattle.quilt_map.specs.Quotas.{most_records};
+ghost use Rattle.quilt_map.specs.Sessions.{IsNumbered, IsOpened, changed_of, free_of, first_state};
 ghost use Rattle.quilt_map.specs.States.{Tells, IsRefusal, after};
+ghost use Rattle.quilt_map.specs.Steps.{Leaves, WritesFew, changes_after};
 
+use crate::entries::copy_of;
 use crate::reply::Reply;
-use crate::work::Work;
-use quilt_lang::Command;
-use quilt_types::Stop;
-use quilt_world::{Fault, World};
-use std::alloc::{AllocError, Global};
+use quilt_edition::Book;
+use quilt_words::Command;
+use quilt_node::Head;
+use quilt_par::Gate;
+use quilt_record::Catalog;
+use quilt_types::{Name, Pixel, Stop};
+use quilt_world::{Disk, Fault, World};
+use std::alloc::Global;
+use std::thread::Threads;
 
-/// A map being worked on: the world that its file is in, the work and the last edition.
-pub struct Session<W> {
-    world: W,
-    work: Work,
+/// A map being worked on: the book of its file, and the catalogs of the work and of the last edition.
+#[derive(Drop)]
+pub struct Session<W: Disk> {
+    pub(crate) book: Book<W>,
+    pub(crate) catalog: Catalog,
+    pub(crate) last: Catalog,
+    pub(crate) changes: u64,
+    pub(crate) warm: Option<(Name, Pixel)>,
+    pub(crate) alloc: Global,
 }
 
 impl<W: World> Session<W> {
-    ghost use Rattle.quilt_map.specs.Sessions.{world_of, format_of, level_of, IsAt};
+    ghost use Rattle.quilt_map.specs.Sessions.{world_of, format_of, level_of, changes_of, IsAt};
 
-    /// A session over a file with this many home pages, whose last edition is empty. An Err is want of memory, and gives the world back.
-    #[tactic(auto, unfolding(crate::specs::Sessions::world_of, crate::specs::Sessions::format_of, crate::specs::Sessions::level_of, crate::specs::Sessions::IsAt))]
-    pub fn start(
-        alloc: Global,
-        world: W,
-        pages: u32,
-        format: u8,
-        level: u8,
-        edition: u32,
-    ) -> Result<Session<W>, W>
-        requires pages_low { 16 ≤ pages }
-        requires pages_high { pages ≤ 30000 }
-        requires level_low { 1 ≤ level }
-        requires level_high { level ≤ 12 }
-        ensures world { IfOk result (λ s. world_of s ≡ world) }
-        ensures format { IfOk result (λ s. format_of s ≡ format) }
-        ensures level { IfOk result (λ s. level_of s ≡ level) }
-        ensures at { IfOk result (λ s. IsAt s (record { quota = most_records level; last = record { format = format; number = edition; level = level; layers = finmap.empty }; work = finmap.empty })) }
-        ensures err { IfErr result (λ back. back ≡ world) }
+    /// The session over a book that was just opened, with the catalog that was found in it. Nothing is changed yet. It takes no memory.
+    #[tactic(auto, unfolding(crate::specs::Sessions::world_of, crate::specs::Sessions::format_of, crate::specs::Sessions::level_of, crate::specs::Sessions::changes_of, crate::specs::Sessions::IsAt))]
+    pub fn new(alloc: Global, book: Book<W>, catalog: Catalog) -> Session<W>
+        requires ready { books.IsReady book }
+        requires numbered { IsNumbered catalog }
+        requires unchanged { changed_of book ≡ 0 }
+        requires heads { books.work_of book ≡ books.last_of book }
+        requires free { (page : ℕ) → free_of book page ≡ books.published_free book page }
+        ensures world { world_of result ≡ books.world_of book }
+        ensures level { level_of result ≡ (books.last_of book).level }
+        ensures changes { changes_of result ≡ 0 }
+        ensures at { (e : Edition) → IsOpened book catalog e → IsAt result (first_state (books.pages_of book) e) }
     {
-        let _ = pages;
-        let work = Work::new(alloc, format, level, edition);
-        Ok(Session { world, work })
+        let last = copy_of(&catalog);
+        Session {
+            book,
+            catalog,
+            last,
+            changes: 0,
+            warm: None,
+            alloc,
+        }
     }
 
     /// The reply to a command, and the work that it leaves. A refused command changes nothing. After an Err the session is only given up.
-    /// `set` and `at` take a look at the names; the other commands take time in the pixels that they make or show.
-    #[tactic(auto, unfolding(crate::specs::Sessions::world_of, crate::specs::Sessions::format_of, crate::specs::Sessions::level_of, crate::specs::Sessions::IsAt))]
-    pub fn apply(&mut self, command: &Command) -> Result<Reply, Stop>
+    #[tactic(auto, unfolding(crate::specs::Sessions::world_of, crate::specs::Sessions::format_of, crate::specs::Sessions::level_of, crate::specs::Sessions::changes_of, crate::specs::Sessions::IsAt))]
+    pub fn apply<R: Threads + Sync, G: Gate + Sync>(
+        &mut self,
+        rt: &R,
+        gate: &G,
+        command: &Command,
+    ) -> Result<Reply, Stop>
         requires { Spelled (format_of self.old) (level_of self.old) command.now }
         ensures answer { IfOk result (λ reply. (s : State) → IsAt self.old s → Tells reply (answer s command.now).reply × IsAt self.new (after s command.now)) }
         ensures refused { IfOk result (λ reply. IsRefusal reply → (s : State) → IsAt self.old s → IsAt self.new s) }
-        ensures format { IfOk result (λ reply. format_of self.new ≡ format_of self.old) }
-        ensures level { IfOk result (λ reply. level_of self.new ≡ level_of self.old) }
-        ensures memory { IfErr result (λ stop. stop ≡ stops.Memory) }
+        ensures changes { IfOk result (λ reply. (s : State) → IsAt self.old s → changes_of self.new ≡ changes_after s command.now (changes_of self.old)) }
+        ensures level { OnOk result (level_of self.new ≡ level_of self.old) }
+        ensures later { W.faults (world_of self.old) ≤ W.faults (world_of self.new) }
         ensures device { IfErr result (λ stop. stop ≡ stops.Device → Rose (W.faults (world_of self.old)) (W.faults (world_of self.new))) }
         ensures damaged { IfErr result (λ stop. (page : ℕ) → stop ≡ stops.Damaged page → (s : State) → IsAt self.old s → ⊥) }
-        ensures world { world_of self.new ≡ world_of self.old }
+        ensures door { W.door (world_of self.new) ≡ W.door (world_of self.old) }
+
+        // Pages are written and synced alone, and at each event a stop leaves the last edition, or the one that the command gives.
+        ensures events { Goes (AddsOnly is_of_pages) (W.told (world_of self.old)) (W.told (world_of self.new)) }
+        ensures input { Goes (λ old new. new.input ≡ old.input) (W.told (world_of self.old)) (W.told (world_of self.new)) }
+        ensures crash { (s : State) → IsAt self.old s → Goes (Leaves s command.now) (W.told (world_of self.old)) (W.told (world_of self.new)) }
+        ensures writes { (s : State) → IsAt self.old s → Goes (WritesFew s command.now (changes_of self.old)) (W.told (world_of self.old)) (W.told (world_of self.new)) }
     {
-        match self.work.apply(command) {
-            Ok(reply) => Ok(reply),
-            Err(AllocError) => Err(Stop::Memory),
+        let _ = rt;
+        let _ = gate;
+        match command {
+            Command::Publish => self.publish(),
+            Command::Upgrade => self.upgrade(),
+            Command::Revert => self.revert(),
+            _ => self.serve(command),
         }
     }
 
     /// The next bytes of the input, as the world takes them. 0 says that it has ended.
-    #[tactic(auto, unfolding(crate::specs::Sessions::world_of, crate::specs::Sessions::format_of, crate::specs::Sessions::level_of, crate::specs::Sessions::IsAt))]
+    #[tactic(auto, unfolding(crate::specs::Sessions::world_of, crate::specs::Sessions::format_of, crate::specs::Sessions::level_of, crate::specs::Sessions::changes_of, crate::specs::Sessions::IsAt))]
     pub fn take(&mut self, into: &mut [u8]) -> Result<usize, Fault>
         requires open { (W.door (world_of self.old) ≡ doors.Ready) ⊎ (W.door (world_of self.old) ≡ doors.Made) }
         requires room { 0 < length into.old }
         ensures cause { HasCause (W.faults (world_of self.old)) (W.faults (world_of self.new)) result }
         ensures door { W.door (world_of self.new) ≡ W.door (world_of self.old) }
-        ensures size { W.size (world_of self.new) ≡ W.size (world_of self.old) }
         ensures count { IfOk result (λ n. n ≤ length into.old) }
         ensures took { IfOk result (λ n. Goes (TakesFrom (take n into.new)) (W.told (world_of self.old)) (W.told (world_of self.new))) }
         ensures nothing { OnErr result (Goes (Adds []) (W.told (world_of self.old)) (W.told (world_of self.new))) }
         ensures format { format_of self.new ≡ format_of self.old }
         ensures level { level_of self.new ≡ level_of self.old }
+        ensures changes { changes_of self.new ≡ changes_of self.old }
         ensures at { (s : State) → IsAt self.old s → IsAt self.new s }
     {
-        self.world.take(into)
+        self.book.take(into)
     }
 
     /// Puts a front of the bytes to the output, as the world puts them.
-    #[tactic(auto, unfolding(crate::specs::Sessions::world_of, crate::specs::Sessions::format_of, crate::specs::Sessions::level_of, crate::specs::Sessions::IsAt))]
+    #[tactic(auto, unfolding(crate::specs::Sessions::world_of, crate::specs::Sessions::format_of, crate::specs::Sessions::level_of, crate::specs::Sessions::changes_of, crate::specs::Sessions::IsAt))]
     pub fn put(&mut self, bytes: &[u8]) -> Result<usize, Fault>
         requires open { (W.door (world_of self.old) ≡ doors.Ready) ⊎ (W.door (world_of self.old) ≡ doors.Made) }
         requires some { 0 < length bytes.now }
         ensures cause { HasCause (W.faults (world_of self.old)) (W.faults (world_of self.new)) result }
         ensures door { W.door (world_of self.new) ≡ W.door (world_of self.old) }
-        ensures size { W.size (world_of self.new) ≡ W.size (world_of self.old) }
         ensures count { IfOk result (λ n. (1 ≤ n) × (n ≤ length bytes.now)) }
         ensures put { IfOk result (λ n. Goes (Adds (Put (take n bytes.now) ∷ [])) (W.told (world_of self.old)) (W.told (world_of self.new))) }
         ensures nothing { OnErr result (Goes (Adds []) (W.told (world_of self.old)) (W.told (world_of self.new))) }
         ensures format { format_of self.new ≡ format_of self.old }
         ensures level { level_of self.new ≡ level_of self.old }
+        ensures changes { changes_of self.new ≡ changes_of self.old }
         ensures at { (s : State) → IsAt self.old s → IsAt self.new s }
     {
-        self.world.put(bytes)
+        self.book.put(bytes)
     }
 
-    /// The level of the map.
-    #[tactic(auto, unfolding(crate::specs::Sessions::level_of, crate::specs::Sessions::IsAt))]
-    pub fn level(&self) -> u8
-        ensures is { result ≡ level_of self.now }
-        ensures at { (s : State) → IsAt self.now s → s.last.level ≡ result }
+    /// The last edition's format, number and level, and the work's tree. It takes no memory.
+    #[tactic(auto, unfolding(crate::specs::Sessions::world_of, crate::specs::Sessions::format_of, crate::specs::Sessions::level_of, crate::specs::Sessions::changes_of, crate::specs::Sessions::IsAt))]
+    pub fn head(&self) -> Head
+        ensures format { (s : State) → IsAt self.now s → s.last.format ≡ result.format }
+        ensures is_format { result.format ≡ format_of self.now }
+        ensures number { (s : State) → IsAt self.now s → s.last.number ≡ result.edition }
+        ensures level { (s : State) → IsAt self.now s → s.last.level ≡ result.level }
+        ensures is_level { result.level ≡ level_of self.now }
+        ensures range { (1 ≤ result.level) × (result.level ≤ 12) }
     {
-        self.work.level
+        self.book.head()
     }
 
-    /// The format of the last edition, in which the next item is read.
-    #[tactic(auto, unfolding(crate::specs::Sessions::format_of, crate::specs::Sessions::IsAt))]
-    pub fn format(&self) -> u8
-        ensures is { result ≡ format_of self.now }
-        ensures at { (s : State) → IsAt self.now s → s.last.format ≡ result }
+    /// How many records were removed and added since the file was opened, or since the last edition or revert: 2^64 - 1 where there are more.
+    #[tactic(auto, unfolding(crate::specs::Sessions::world_of, crate::specs::Sessions::format_of, crate::specs::Sessions::level_of, crate::specs::Sessions::changes_of, crate::specs::Sessions::IsAt))]
+    pub fn changes(&self) -> u64
+        ensures { result ≡ changes_of self.now }
     {
-        self.work.format
-    }
-
-    /// The number of the last edition.
-    #[tactic(auto, unfolding(crate::specs::Sessions::IsAt))]
-    pub fn edition(&self) -> u32
-        ensures { (s : State) → IsAt self.now s → s.last.number ≡ result }
-    {
-        self.work.edition
+        self.changes
     }
 
     /// The world as it is. The work that was not published is given up.
-    #[tactic(auto, unfolding(crate::specs::Sessions::world_of))]
+    #[tactic(auto, unfolding(crate::specs::Sessions::world_of, crate::specs::Sessions::format_of, crate::specs::Sessions::level_of, crate::specs::Sessions::changes_of, crate::specs::Sessions::IsAt))]
     pub fn into_world(self) -> W
         ensures { result ≡ world_of self }
     {
-        let Session { world, work: _ } = self;
-        world
+        self.book.into_world()
     }
 }

@@ -1,0 +1,52 @@
+use Rattle.std.proofs.Common.{ℕ, List, [], Some, refl, sym, ◌∙◌, ap, subst}
+use Rattle.quilt_types.specs.Layers.{Region}
+use Rattle.quilt_types.specs.declared.plane.Kind.{Kind}
+use Rattle.quilt_record.specs.declared.entry.Entry.{Entry}
+use Rattle.quilt_record.specs.Records.{record_of}
+use Rattle.quilt_record.specs.Listing.{kind_fact}
+use Rattle.quilt_spell.specs.Catalogued.{IsCatalogOf}
+use Rattle.quilt_map.specs.Making.{AnsweredBy, placed}
+use Rattle.quilt_map.specs.Planning.{IsPlan}
+use Rattle.quilt_map.proofs.ChangeSteps.{goes_here}
+use Rattle.quilt_map.proofs.Asked.{if_ok, if_err}
+use Rattle.quilt_map.proofs.NewLayers.{region_plan}
+use Rattle.quilt_map.proofs.session.Session.make_region.Goals as goal
+
+pub returns-in_default-clause-goes_on : goal.returns-in_default-clause-goes_on
+returns-in_default-clause-goes_on g c = goes_here {D = g.W.Disk} c.args.self.now.book
+
+pub returns-in_default-plan_new-clause-goes_on : goal.returns-in_default-plan_new-clause-goes_on
+returns-in_default-plan_new-clause-goes_on g c = goes_here {D = g.W.Disk} c.args.self.now.book
+
+pub returns-in_default-listed-clause-goes_on : goal.returns-in_default-listed-clause-goes_on
+returns-in_default-listed-clause-goes_on g c = goes_here {D = g.W.Disk} c.args.self.now.book
+
+pub returns-clause-made : goal.returns-clause-made
+returns-clause-made g c =
+    if_ok _ _ c.place.result (λ reply p s at level grid.
+    let old = c.args.self.now in
+    let e = c.new_entry-entry.ensures in
+    let entry = c.new_entry-entry.result in
+    let name = c.args.name.now in
+    let listed = c.in-Ok-listed.ensures in
+    let catalog = subst (λ (es : List Entry). IsCatalogOf s.work at.work.numbers es) (sym c.entries.ensures.entries) at.work.catalog in
+    let first_is = λ (n k : ℕ). listed.2 n k ∙ ap (λ (b : List ℕ). record_of n k b entry.number (kind_fact entry.kind)) e.name ∙ ap (λ (x : Kind). record_of n k name entry.number (kind_fact x)) e.kind in
+    let plan = region_plan {D = g.W.Disk} old s at name entry.number c.args.list.now c.records-3.result.now c.records.result.now level grid e.named c.requires.few c.requires.new e.number.0 e.number.1
+        (e.unused s.work at.work.numbers catalog at.work.spelled.numbering) listed.0 (c.records-3.ensures ∙ listed.1) first_is (c.records.ensures ∙ c.in-Ok-plan_new.ensures.add) in
+    let planned = subst (λ (b : List ℕ). IsPlan s at.work.numbers b entry.number (Some (Region c.args.list.now.grid)) [] c.records-3.result.now) (sym e.name) plan in
+    subst (λ (b : List ℕ). AnsweredBy {D = g.W.Disk} s (placed s b (Region c.args.list.now.grid)) old c.place.new.self reply) e.name (p s at (Region c.args.list.now.grid) e.kind planned)) c.place.ensures.placed
+
+pub returns-clause-sound : goal.returns-clause-sound
+returns-clause-sound g c =
+    if_err _ _ c.place.result (λ err p s at level grid.
+    let old = c.args.self.now in
+    let e = c.new_entry-entry.ensures in
+    let entry = c.new_entry-entry.result in
+    let name = c.args.name.now in
+    let listed = c.in-Ok-listed.ensures in
+    let catalog = subst (λ (es : List Entry). IsCatalogOf s.work at.work.numbers es) (sym c.entries.ensures.entries) at.work.catalog in
+    let first_is = λ (n k : ℕ). listed.2 n k ∙ ap (λ (b : List ℕ). record_of n k b entry.number (kind_fact entry.kind)) e.name ∙ ap (λ (x : Kind). record_of n k name entry.number (kind_fact x)) e.kind in
+    let plan = region_plan {D = g.W.Disk} old s at name entry.number c.args.list.now c.records-3.result.now c.records.result.now level grid e.named c.requires.few c.requires.new e.number.0 e.number.1
+        (e.unused s.work at.work.numbers catalog at.work.spelled.numbering) listed.0 (c.records-3.ensures ∙ listed.1) first_is (c.records.ensures ∙ c.in-Ok-plan_new.ensures.add) in
+    let planned = subst (λ (b : List ℕ). IsPlan s at.work.numbers b entry.number (Some (Region c.args.list.now.grid)) [] c.records-3.result.now) (sym e.name) plan in
+    p s at (Region c.args.list.now.grid) planned) c.place.ensures.sound

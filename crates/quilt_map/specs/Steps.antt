@@ -1,0 +1,46 @@
+-- What a command does to the file, by the tales before it and after it.
+use Rattle.std.specs.Prelude.{◌≡◌, ◌⊎◌, ℕ, ◌+◌, ◌*◌, ◌≤◌, Bool, true, false, min, Option, Some, None, is_some, ◌||◌, if◌then◌else◌}
+use Rattle.quilt_types.specs.Facts.{changes}
+use Rattle.quilt_types.specs.Layers.{Edition}
+use Rattle.quilt_world.specs.Disk.{Pages}
+use Rattle.quilt_world.specs.Stops.{Since}
+use Rattle.quilt_world.specs.Tale.{Tale}
+use Rattle.quilt_words.specs.declared.command.Command.{Command}
+use Rattle.quilt_words.specs.declared.command.Command.TheVariants as commands
+use Rattle.quilt_journal.specs.Writing.{Writing}
+use Rattle.quilt_edition.specs.Stands.{Stands}
+use Rattle.quilt_map.specs.Answers.{State, answer}
+use Rattle.quilt_map.specs.Sessions.{last_count}
+
+-- the file stands for the edition, where there is one
+abbrev pub StandsForNew : Option Edition → Pages → Type 0
+StandsForNew None image = ⊥
+StandsForNew (Some e) image = Stands image e
+
+-- the file stands for the last edition, or for the one that the command gives
+abbrev pub StandsFor : State → Command → Pages → Type 0
+StandsFor s command image = Stands image s.last ⊎ StandsForNew (answer s command).published image
+
+-- At each event since, a stop leaves the last edition, or the one that the command gives.
+pub record Leaves (s : State) (command : Command) (old new : Tale) : Type 0 where
+  pub since : Since old new (StandsFor s command)
+
+-- A command that gives an edition writes at most 18 pages for each record that was changed, and 8 more.
+abbrev pub WritesFew : State → Command → ℕ → Tale → Tale → Type 0
+WritesFew s command changed old new = is_some (answer s command).published ≡ true → Writing (18 * changed + 8) old new
+
+-- the commands that give an edition
+abbrev pub gives_edition : Command → Bool
+gives_edition commands.Publish = true
+gives_edition commands.Upgrade = true
+gives_edition command = false
+
+abbrev pub is_revert : Command → Bool
+is_revert commands.Revert = true
+is_revert command = false
+
+-- how many records were changed since the last edition or revert, after a command
+abbrev pub changes_after : State → Command → ℕ → ℕ
+changes_after s command changed =
+    if is_some (answer s command).published || is_revert command then 0
+    else min (changed + changes s.last.level s.work (answer s command).work) last_count

@@ -1,0 +1,79 @@
+ghost use Rattle.std.specs.Prelude.{◌≡◌, ℕ, ◌+◌, ◌*◌, ◌<◌, ◌≤◌, nat_lt, true, false, List, Option, IfOk, IfErr, OnOk, length, map};
+ghost use Rattle.quilt_types.specs.Facts.{quota};
+ghost use Rattle.quilt_types.specs.Layers.{Layer};
+ghost use Rattle.quilt_record.specs.declared.entry.Entry.{Entry};
+ghost use Rattle.quilt_node.specs.Nodes.{keys_of};
+ghost use Rattle.quilt_btree.specs.Stops.{HasStopCause, IsSound};
+ghost use Rattle.quilt_spell.specs.Catalogued.{IsCatalogOf};
+ghost use Rattle.quilt_spell.specs.Changing.{with_layer, with_number};
+ghost use Rattle.quilt_edition.specs.Books as books;
+ghost use Rattle.quilt_map.specs.Answers.{State};
+ghost use Rattle.quilt_map.specs.Sessions.{IsAtState, world_of, changed_of, last_count};
+ghost use Rattle.quilt_map.specs.Planning.{IsPlan, HasChanged};
+
+use crate::editing::edit;
+use crate::session::Session;
+use quilt_btree::{keys_ascend, records_ascend};
+use quilt_record::{Edits, Key, Record};
+use quilt_store::PageStore;
+use quilt_types::Stop;
+use quilt_world::World;
+use std::alloc::{AllocError, Global};
+
+/// What is answered where pages read disagree with one another or with numbers kept.
+pub(crate) const DAMAGED: Stop = Stop::Damaged { page: 0 };
+
+/// The keys of these records.
+fn keys_in(alloc: Global, records: &[Record]) -> Result<Vec<Key>, AllocError>
+    ensures { IfOk result (λ keys. keys.items ≡ keys_of records.now) }
+{
+    let mut keys = Vec::new(alloc);
+    for r in records {
+        keys.push(r.key)?;
+    }
+    Ok(keys)
+}
+
+/// Whether a map with so many records has too many, once some went and others came.
+fn is_over(records: u32, removed: usize, added: usize, quota: u32) -> bool
+    ensures { result ≡ nat_lt (quota + removed) (records + added) }
+{
+    let kept = u128::from(quota) + (removed as u128);
+    kept < u128::from(records) + (added as u128)
+}
+
+impl<W: World> Session<W> {
+    /// Takes the records out of the work's tree and puts the others in, each in the order of keys. False where the work would then have more
+    /// records than the quota of its file, and nothing changes. The catalog is left as it was.
+    pub(crate) fn change(&mut self, removed: &[Record], added: &[Record]) -> Result<bool, Stop>
+        ensures changed { IfOk result (λ done. (s : State) (at : IsAtState self.old s) (name : List ℕ) (number : ℕ) (layer : Option Layer) (entries : List Entry) →
+            IsPlan s at.work.numbers name number layer removed.now added.now →
+            IsCatalogOf (with_layer s.work name layer) (with_number at.work.numbers name number layer) entries →
+            HasChanged done self.old self.new s name layer entries) }
+        ensures sound { IfErr result (λ e. (s : State) (at : IsAtState self.old s) (name : List ℕ) (number : ℕ) (layer : Option Layer) →
+            IsPlan s at.work.numbers name number layer removed.now added.now → IsSound e) }
+        ensures goes_on { books.GoesOn self.old.book self.new.book }
+        ensures used { books.published_free self.new.book ≡ books.published_free self.old.book }
+        ensures catalogs { (self.new.catalog ≡ self.old.catalog) × (self.new.last ≡ self.old.last) }
+        ensures cause { HasStopCause (W.faults (books.world_of self.old.book)) (W.faults (books.world_of self.new.book)) result }
+    {
+        let records = self.book.head().records;
+        let quota = 64 * (self.book.pages() - 8);
+        if is_over(records, removed.len(), added.len(), quota) {
+            return Ok(false);
+        }
+        let Ok(keys) = keys_in(self.alloc, removed) else {
+            return Err(Stop::Memory);
+        };
+        if !keys_ascend(&keys) || !records_ascend(added) {
+            return Err(DAMAGED);
+        }
+        match edit(&mut self.book, &keys, added) {
+            Err(e) => return Err(e),
+            Ok(()) => {}
+        }
+        let count = self.changes.saturating_add(removed.len() as u64);
+        self.changes = count.saturating_add(added.len() as u64);
+        Ok(true)
+    }
+}

@@ -1,0 +1,130 @@
+ghost use Rattle.std.specs.Prelude.{◌≡◌, true, ℕ, ◌+◌, ◌<◌, ◌≤◌, List, None, IsNone, IfSome, IfOk, IfErr, OnOk};
+ghost use Rattle.std.specs.FinMap as finmap;
+ghost use Rattle.quilt_types.specs.declared.plane.Kind.TheVariants as kinds;
+ghost use Rattle.quilt_types.specs.Layers.{Map, Grid, colour_at as colour_in};
+ghost use Rattle.quilt_types.specs.Plane.{side, is_window};
+ghost use Rattle.quilt_types.specs.Algebra.{painted};
+ghost use Rattle.quilt_record.specs.declared.record.Record.{Record as AnyRecord};
+ghost use Rattle.quilt_record.specs.Records.{Numbering};
+ghost use Rattle.quilt_store.specs.Store.{Tells as StoreTells};
+ghost use Rattle.quilt_btree.specs.Floors.{HoldsFirst, ReadsNone};
+ghost use Rattle.quilt_btree.specs.Stops.{HasStopCause, IsSound};
+ghost use Rattle.quilt_btree.specs.Trees.{IsTree};
+ghost use Rattle.quilt_region.specs.Regions.{HasRegion};
+ghost use Rattle.quilt_region.specs.Plans.{LeadsTo};
+ghost use Rattle.quilt_spell.specs.Catalogued.{IsCatalogOf};
+ghost use Rattle.quilt_edition.specs.Books.{world_of, last_of, work_of};
+ghost use Rattle.quilt_map.specs.Answers.{State};
+ghost use Rattle.quilt_map.specs.Asking.{AreRegions, IsLayerUnder, IsRegionAt, IsRefusedFirst, IsStill, pages_asked, reads_in, held_of};
+ghost use Rattle.quilt_map.specs.Sessions.{told_of, tree_in};
+
+use crate::changing::DAMAGED;
+use crate::entries::index_of;
+use quilt_blocks::LeafList;
+use quilt_btree::Tree;
+use quilt_edition::Book;
+use quilt_node::Head;
+use quilt_record::{Edits, Entry};
+use quilt_region::{colour_at, plan_rect, read_list};
+use quilt_types::{Code, Colour, Kind, Name, Pixel, Stop, Window};
+use quilt_world::Disk;
+use std::alloc::Global;
+
+/// The number and the kind of the layer with this name.
+pub(crate) fn layer_under(entries: &[Entry], name: &Name) -> Option<(u8, Kind)>
+    ensures none { IsNone result → (layers : Map) (numbers : Numbering) → IsCatalogOf layers numbers entries.now → finmap.get layers name.now ≡ None }
+    ensures some { IfSome result (λ found. (layers : Map) (numbers : Numbering) → IsCatalogOf layers numbers entries.now → IsLayerUnder layers numbers name.now found.0 found.1) }
+    ensures regions { IfSome result (λ found. AreRegions entries.now → found.1 ≡ kinds.Region) }
+{
+    let i = index_of(entries, name)?;
+    Some((entries[i].number, entries[i].kind))
+}
+
+/// The number of the region layer with this name, or why there is none.
+pub(crate) fn region_number(entries: &[Entry], name: &Name) -> Result<u8, Code>
+    ensures found { IfOk result (λ number. (layers : Map) (numbers : Numbering) → IsCatalogOf layers numbers entries.now → IsRegionAt layers numbers name.now number) }
+    ensures refused { IfErr result (λ code. (s : State) (numbers : Numbering) → IsCatalogOf s.work numbers entries.now → IsRefusedFirst s name.now code) }
+{
+    match layer_under(entries, name) {
+        None => Err(Code::Unknown),
+        Some((number, Kind::Region)) => Ok(number),
+        Some(_) => Err(Code::Kind),
+    }
+}
+
+/// The tree of a header.
+fn tree_of(head: &Head) -> Tree
+    ensures { result ≡ tree_in head.now }
+{
+    Tree {
+        root: head.root,
+        height: head.height,
+        records: head.records,
+    }
+}
+
+/// The leaves of the work's region layer with this number.
+pub(crate) fn read_region<W: Disk>(
+    alloc: Global,
+    book: &mut Book<W>,
+    number: u8,
+) -> Result<LeafList, Stop>
+    ensures list { IfOk result (λ list. (g : Grid) → HasRegion (told_of book.old) (tree_in (work_of book.old)) number (work_of book.old).level g → list ≡ record { level = (work_of book.old).level; grid = g }) }
+    ensures level { IfOk result (λ list. list.level ≡ (work_of book.old).level) }
+    ensures sound { IfErr result (λ e. (g : Grid) → 1 ≤ number → HasRegion (told_of book.old) (tree_in (work_of book.old)) number (work_of book.old).level g → IsSound e) }
+    ensures still { IsStill book.old book.new }
+    ensures cause { HasStopCause (W.faults (world_of book.old)) (W.faults (world_of book.new)) result }
+{
+    if number == 0 {
+        return Err(DAMAGED);
+    }
+    let head = book.head();
+    read_list(alloc, book, &tree_of(&head), number, head.level)
+}
+
+/// The colour of a pixel of the work's region layer with this number. It reads at most 6 pages.
+pub(crate) fn read_colour<W: Disk>(
+    book: &mut Book<W>,
+    number: u8,
+    at: Pixel,
+) -> Result<Colour, Stop>
+    requires in_x { at.x < side (last_of book.old).level }
+    requires in_y { at.y < side (last_of book.old).level }
+    ensures colour { IfOk result (λ c. (g : Grid) → HasRegion (told_of book.old) (tree_in (work_of book.old)) number (work_of book.old).level g → c.0 ≡ colour_in (work_of book.old).level g at) }
+    ensures sound { IfErr result (λ e. (g : Grid) → 1 ≤ number → HasRegion (told_of book.old) (tree_in (work_of book.old)) number (work_of book.old).level g → IsSound e) }
+    ensures still { IsStill book.old book.new }
+    ensures cause { HasStopCause (W.faults (world_of book.old)) (W.faults (world_of book.new)) result }
+    ensures reads { StoreTells (λ old new. new ≤ old + 6) (reads_in book.old) (reads_in book.new) }
+
+    // The pages that it reads are then among the first eight that are held, and where they were, none is read.
+    ensures held { OnOk result ((rs : List AnyRecord) → IsTree (told_of book.old) (tree_in (work_of book.old)) rs → HoldsFirst (pages_asked number at (work_of book.old)) (told_of book.old) (held_of book.old) (held_of book.new)) }
+    ensures again { (rs : List AnyRecord) → IsTree (told_of book.old) (tree_in (work_of book.old)) rs → ReadsNone (pages_asked number at (work_of book.old)) (told_of book.old) (held_of book.old) (reads_in book.old) (reads_in book.new) }
+{
+    if number == 0 {
+        return Err(DAMAGED);
+    }
+    let head = book.head();
+    colour_at(book, &tree_of(&head), number, head.level, at)
+}
+
+/// The records that go and those that come when a window of the work's region layer with this number gets one colour.
+pub(crate) fn plan_paint<W: Disk>(
+    alloc: Global,
+    book: &mut Book<W>,
+    number: u8,
+    w: Window,
+    c: Colour,
+) -> Result<Edits, Stop>
+    requires window { is_window (work_of book.old).level w ≡ true }
+    ensures plan { IfOk result (λ edits. (g : Grid) → HasRegion (told_of book.old) (tree_in (work_of book.old)) number (work_of book.old).level g →
+        LeadsTo (work_of book.old).level number g (painted (work_of book.old).level g w c.0) edits) }
+    ensures sound { IfErr result (λ e. (g : Grid) → 1 ≤ number → HasRegion (told_of book.old) (tree_in (work_of book.old)) number (work_of book.old).level g → IsSound e) }
+    ensures still { IsStill book.old book.new }
+    ensures cause { HasStopCause (W.faults (world_of book.old)) (W.faults (world_of book.new)) result }
+{
+    if number == 0 {
+        return Err(DAMAGED);
+    }
+    let head = book.head();
+    plan_rect(alloc, book, &tree_of(&head), number, head.level, w, c)
+}
