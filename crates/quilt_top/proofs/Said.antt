@@ -1,6 +1,7 @@
 -- What is put, call after call.
-use Rattle.std.proofs.Common.{◌≡◌, ℕ, ◌+◌, ◌≤◌, arith, ◌&&◌, List, [], ◌∷◌, ◌++◌, length, suc, take, drop, refl, sym, ◌∙◌, ap, append_assoc, append-nil, Option, unwrap_or, Result, Ok, Err, OnErr, IfOk, IfErr}
+use Rattle.std.proofs.Common.{◌≡◌, ℕ, ◌+◌, ◌≤◌, arith, ◌&&◌, List, [], ◌∷◌, ◌++◌, length, suc, take, drop, refl, sym, ◌∙◌, ap, subst, append_assoc, append-nil, Option, Result, Ok, Err, OnErr, IfOk, IfErr}
 use Rattle.std.specs.List.{list_all}
+use Rattle.std.specs.Result.{IsErrAnd}
 use Rattle.std.proofs.lemmas.List.{take-take, drop-take, take-append-drop}
 use Rattle.std.proofs.lemmas.List.Folds.{list_all-append}
 use Rattle.quilt_world.specs.Disk.{Log}
@@ -11,12 +12,13 @@ use Rattle.quilt_world.proofs.AddedLaws.{only-append, adds_only_both}
 use Rattle.quilt_world.proofs.TextLaws.{put_text, nothing_text}
 use Rattle.quilt_world.proofs.Told.{goes_then}
 use Rattle.quilt_world.proofs.StopLaws.{same_file}
+use Rattle.quilt_words.specs.declared.item.Item.{Item}
+use Rattle.quilt_words.specs.Forms.{form}
 use Rattle.quilt_words.specs.Items.{Group}
 use Rattle.quilt_lang.specs.Reading.{Same}
-use Rattle.quilt_map.proofs.TextLaws.{run_same, outcome_none}
+use Rattle.quilt_map.proofs.TextLaws.{run_same, outcome_keeps_level}
 use Rattle.quilt_map.specs.Answers.{State, Reply}
-use Rattle.quilt_map.specs.Runs.{Run, replies_of, form_in, text_of, output, is_done}
-use Rattle.quilt_types.specs.Layers.{Edition}
+use Rattle.quilt_map.specs.Runs.{Run, replies_of, text_of, output, is_done}
 use Rattle.quilt_top.specs.Replies.{held_at, reply_to, state_then, state_after, replies_from, said_for}
 use Rattle.quilt_top.specs.TextRun.{run_in}
 use Rattle.quilt_top.specs.Saying.{takes_none, Says, SaysFront}
@@ -60,6 +62,11 @@ on_err (Err e) P p = p
 
 pub on_err_all : {A E S : Type 0} (r : Result A E) (At Q : S → Type 0) → ((t : S) → At t → Q t) → OnErr r ((t : S) → At t → Q t)
 on_err_all r At Q all = on_err r _ all
+
+-- an error that was handed on
+pub err_from : {A E : Type 0} (r : Result A E) (x : E) (P Q : E → Type 0) → IsErrAnd r P → ((e : E) → P e → e ≡ x) → Q x → IfErr r Q
+err_from (Ok a) x P Q given is so = tt
+err_from (Err e) x P Q given is so = subst Q (sym (is e given)) so
 
 pub take_two : (d n m : ℕ) (b : List ℕ) → n ≤ m → take d b ++ take n (take m (drop d b)) ≡ take (d + n) b
 take_two d n m b le =
@@ -149,14 +156,11 @@ pub said_same : (s : State) (n : ℕ) (g h : List Group) → s.last.level ≡ n 
 unfolding said_for
 said_same s n g h at same = ap output (replies_same s n g h at same)
 
--- no item changes the last edition
-last_then : (s : State) (i : Group) → (state_then s (held_at s i)).last ≡ s.last
+-- no item changes the level
+level_then : (s : State) (i : Item) → (state_then s i).last.level ≡ s.last.level
 unfolding state_then
-last_then s i = ap (λ (o : Option Edition). unwrap_or o s.last) (outcome_none s i (form_in s.last i) refl)
-
-pub last_after : (s : State) (g : List Group) → (state_after s g).last ≡ s.last
-last_after s [] = refl
-last_after s (i ∷ g) = last_after (state_then s (held_at s i)) g ∙ last_then s i
+level_then s i = outcome_keeps_level s (form s.last.format i)
 
 pub level_after : (s : State) (n : ℕ) (g : List Group) → s.last.level ≡ n → (state_after s g).last.level ≡ n
-level_after s n g at = ap (λ (e : Edition). e.level) (last_after s g) ∙ at
+level_after s n [] at = at
+level_after s n (i ∷ g) at = level_after (state_then s (held_at s i)) n g (level_then s (held_at s i) ∙ at)

@@ -1,4 +1,5 @@
 pub mod Answered
+pub mod Answering
 pub mod Ends
 pub mod Headline
 pub mod Meanings

@@ -1,64 +1,80 @@
--- What a file is at opening, and how a run over it goes on.
-use Rattle.std.specs.Prelude.{◌≡◌, ℕ, ◌≤◌, Bool, true, false, Result, Ok, Err, List, [], ◌∷◌}
-use Rattle.std.specs.FinMap as finmap
+-- What opening a file finds and leaves, and how a run over it goes on.
+use Rattle.std.specs.Prelude.{◌≡◌, ℕ, Bool, true, false, Result, Ok, Err, List, [], ◌∷◌}
 use Rattle.quilt_types.specs.Layers.{Edition}
 use Rattle.quilt_types.specs.declared.stop.Stop.{Stop}
 use Rattle.quilt_types.specs.declared.stop.Stop.TheVariants as stops
-use Rattle.quilt_node.specs.declared.head.Head.{Head}
-use Rattle.quilt_node.specs.Pages.{IsHeader}
+use Rattle.quilt_world.specs.Added.{AddsOnly, is_of_pages}
+use Rattle.quilt_world.specs.Causes.{Rose}
 use Rattle.quilt_world.specs.Disk.{Pages}
+use Rattle.quilt_world.specs.Home.{IsMapFile, home}
+use Rattle.quilt_world.specs.Stops.{Since}
 use Rattle.quilt_world.specs.Tale.{Tale}
-use Rattle.quilt_world.specs.Home.{IsMapFile}
+use Rattle.quilt_world.specs.declared.disk.Disk as disk
+use Rattle.quilt_journal.specs.Kept.{HasHome}
+use Rattle.quilt_node.specs.declared.head.Head.{Head}
+use Rattle.quilt_edition.specs.Stands.{HoldsEdition, IsDamagePage}
+use Rattle.quilt_audit.specs.Surveys.{AreRegions, IsDamage}
 use Rattle.quilt_map.specs.Answers.{State}
+use Rattle.quilt_map.specs.Sessions.{IsAt, world_of, changes_of, first_state}
 use Rattle.quilt_top.specs.declared.halt.Halt.{Halt}
 use Rattle.quilt_top.specs.declared.halt.Halt.TheVariants as halts
-use Rattle.quilt_map.specs.Quotas.{most_records}
-use Rattle.quilt_top.specs.TextRun.{RunsFrom, RunsWhole, Overruns}
 use Rattle.quilt_top.specs.declared.opening.Opened.{Opened}
 use Rattle.quilt_top.specs.declared.opening.Opened.TheVariants as opened
 use Rattle.quilt_top.specs.declared.run.End.{End}
 use Rattle.quilt_top.specs.declared.run.End.TheVariants as ends
-use Rattle.quilt_top.specs.Headline.{IsNoMap, StandsPlain, StandsForNothing}
+use Rattle.quilt_top.specs.Headline.{IsNoMap, StandsForRegions, StandsForNothing}
+use Rattle.quilt_top.specs.TextRun.{RunsFrom, RunsWhole, Overruns}
 
 -- nothing was done yet
 pub record IsNew (t : Tale) : Type 0 where
   pub log : t.log ≡ []
 
--- the edition of a header with no tree
-abbrev pub plain_edition : ℕ → ℕ → ℕ → Edition
-plain_edition format number level = record { format = format; number = number; level = level; layers = finmap.empty }
+-- Pages alone are written: at each event a map file keeps its home pages, and another file is left alone.
+pub record Keeps (old new : Tale) : Type 0 where
+  pub input : new.input ≡ old.input
+  pub pages : AddsOnly is_of_pages old new
+  pub homes : (n : ℕ) → IsMapFile old.start n → Since old new (HasHome n (home old.start n))
+  pub other : IsNoMap old.start → new.log ≡ old.log
 
--- the header of that edition
-abbrev pub plain_head : ℕ → ℕ → ℕ → Head
-plain_head format number level = record { format = format; edition = number; level = level; root = 0; height = 0; records = 0 }
+module _ {W : Type 0} {D : disk.Ghosts W} where
+  -- the world that each answer holds
+  abbrev pub world_in : Opened W D → W
+  world_in (opened.Map session) = world_of session
+  world_in (opened.NotMap world) = world
+  world_in (opened.Stopped world stop) = world
 
--- what the page of the header says
-abbrev pub Heads : ℕ → List ℕ → Opened → Type 0
-Heads pages page opened.NotMap = ⊥
-Heads pages page opened.Damaged = (h : Head) → h.height ≡ 0 → IsHeader pages page h → ⊥
-Heads pages page (opened.Plain n format level number) = (n ≡ pages) × IsHeader pages page (plain_head format number level)
+  -- nothing is changed yet
+  abbrev pub IsUnchanged : Opened W D → Type 0
+  IsUnchanged (opened.Map session) = changes_of session ≡ 0
+  IsUnchanged (opened.NotMap world) = Unit {0}
+  IsUnchanged (opened.Stopped world stop) = Unit {0}
 
--- what a file is
-abbrev pub Finds : Opened → Pages → Type 0
-Finds opened.NotMap start = IsNoMap start
-Finds opened.Damaged start = ((pages : ℕ) × IsMapFile start pages) × StandsForNothing start
-Finds (opened.Plain pages format level number) start = IsMapFile start pages × StandsPlain start (plain_edition format number level)
+  -- a device fault comes only where faults rose
+  abbrev pub HasCauseOf : ℕ → ℕ → Opened W D → Type 0
+  HasCauseOf before now (opened.Map session) = Unit {0}
+  HasCauseOf before now (opened.NotMap world) = Unit {0}
+  HasCauseOf before now (opened.Stopped world stop) = stop ≡ stops.Device → Rose before now
 
--- the numbers of a file that can be worked on
-abbrev pub InRange : Opened → Type 0
-InRange opened.NotMap = Unit {0}
-InRange opened.Damaged = Unit {0}
-InRange (opened.Plain pages format level number) = (16 ≤ pages) × (pages ≤ 30000) × (1 ≤ level) × (level ≤ 12)
+  -- what the home pages of a book with this header are found to hold
+  abbrev pub HoldsAs : ℕ → Head → Pages → Opened W D → Type 0
+  HoldsAs n last pages (opened.Map session) =
+      (e : Edition) × HoldsEdition pages e × AreRegions e.layers × IsAt session (first_state n e)
+  HoldsAs n last pages (opened.NotMap world) = ⊥
+  HoldsAs n last pages (opened.Stopped world stop) = (page : ℕ) → stop ≡ stops.Damaged page → IsDamage pages last page
 
--- the state over an edition
-abbrev pub first_state : Edition → State
-first_state first = record { quota = most_records first.level; last = first; work = first.layers }
+  -- what a file is found to be
+  abbrev pub FindsAt : Pages → Opened W D → Type 0
+  FindsAt start (opened.Map session) =
+      (n : ℕ) × IsMapFile start n × (e : Edition) × StandsForRegions start e × IsAt session (first_state n e)
+  FindsAt start (opened.NotMap world) = IsNoMap start
+  FindsAt start (opened.Stopped world stop) =
+      (page : ℕ) → stop ≡ stops.Damaged page → (n : ℕ) × IsMapFile start n × IsDamagePage (home start n) page × StandsForNothing start
 
--- how a run over a plain file ends
-pub record RunsPlain (first : Edition) (end : End) (old new : Tale) : Type 0 where
-  pub runs : RunsFrom first.level (first_state first) old new
-  pub done : end ≡ ends.Done → RunsWhole first.level true (first_state first) old new
-  pub refused : end ≡ ends.Refused → RunsWhole first.level false (first_state first) old new
+-- how a run from this state ends
+pub record RunsTo (n : ℕ) (s : State) (end : End) (old new : Tale) : Type 0 where
+  pub runs : RunsFrom n s old new
+  pub done : end ≡ ends.Done → RunsWhole n true s old new
+  pub refused : end ≡ ends.Refused → RunsWhole n false s old new
   pub too_much : end ≡ ends.TooMuch → Overruns new
 
 -- how a run ends where a call gave up
@@ -74,6 +90,16 @@ end_of (Ok false) = ends.Refused
 end_of (Err (halts.Stopped stop)) = end_of_stop stop
 end_of (Err halts.TooMuch) = ends.TooMuch
 
--- the ends of a run over a plain file
+-- the ends of a run of a text
 abbrev pub run_ends : List End
 run_ends = ends.Done ∷ ends.Refused ∷ ends.Device ∷ ends.Memory ∷ ends.TooMuch ∷ []
+
+-- the same, and that a page is damaged
+abbrev pub is_run_end : End → Bool
+is_run_end ends.Done = true
+is_run_end ends.Refused = true
+is_run_end ends.Device = true
+is_run_end ends.Memory = true
+is_run_end ends.TooMuch = true
+is_run_end (ends.Damaged page) = true
+is_run_end end = false

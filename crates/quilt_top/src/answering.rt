@@ -1,23 +1,24 @@
 ghost use Rattle.std.specs.Prelude.{◌≡◌, ◌⊎◌, ℕ, ◌≤◌, ◌&&◌, false, OnOk, OnErr, IfOk, IfErr};
 ghost use Rattle.quilt_types.specs.declared.stop.Stop.TheVariants as stops;
-ghost use Rattle.quilt_world.specs.Added.{AddsOnly, is_of_text};
 ghost use Rattle.quilt_world.specs.Tale.{Goes};
 ghost use Rattle.quilt_world.specs.Causes.{Rose};
 ghost use Rattle.quilt_world.specs.declared.disk.Door.TheVariants as doors;
-ghost use Rattle.quilt_top.specs.Saying.{Says, SaysFront};
+ghost use Rattle.quilt_top.specs.Answering.{Applies, Answers, AnswersFront, changes_then};
 ghost use Rattle.quilt_top.specs.declared.halt.Halt.TheVariants as halts;
 ghost use Rattle.quilt_map.specs.Answers.{State, Refused};
 ghost use Rattle.quilt_map.specs.Runs.{text_of, is_done};
-ghost use Rattle.quilt_map.specs.Sessions.{world_of, format_of, level_of, IsAt};
+ghost use Rattle.quilt_map.specs.Sessions.{world_of, format_of, level_of, changes_of, IsAt};
 ghost use Rattle.quilt_top.specs.Replies.{IsItem, reply_to, state_then};
 
 use crate::halt::Halt;
 use crate::output::put_reply;
 use quilt_lang::{Item, ParseErr, parse};
 use quilt_map::{Reply, Session};
+use quilt_par::NoGate;
 use quilt_types::{Code, Stop, Text};
 use quilt_world::World;
 use std::alloc::{AllocError, Global};
+use std::thread::Threads;
 
 /// The text of a reply, and whether it is no refusal.
 #[derive(Drop)]
@@ -37,7 +38,8 @@ fn refusal(alloc: Global, code: Code) -> Result<Answer, AllocError>
 }
 
 /// The answer to an item of the session's level, and the work that it leaves.
-fn answer_item<W: World>(
+fn answer_item<R: Threads + Sync, W: World>(
+    rt: &R,
     alloc: Global,
     session: &mut Session<W>,
     item: &Item,
@@ -46,18 +48,21 @@ fn answer_item<W: World>(
     ensures text { IfOk result (λ a. (s : State) → IsAt session.old s → a.text ≡ text_of (reply_to s item.now)) }
     ensures done { IfOk result (λ a. (s : State) → IsAt session.old s → a.is_done ≡ is_done (reply_to s item.now)) }
     ensures at { OnOk result ((s : State) → IsAt session.old s → IsAt session.new (state_then s item.now)) }
+    ensures changes { OnOk result ((s : State) → IsAt session.old s → changes_of session.new ≡ changes_then s item.now (changes_of session.old)) }
     ensures level { OnOk result (level_of session.new ≡ level_of session.old) }
+    ensures later { W.faults (world_of session.old) ≤ W.faults (world_of session.new) }
     ensures device { IfErr result (λ e. e ≡ halts.Stopped stops.Device → Rose (W.faults (world_of session.old)) (W.faults (world_of session.new))) }
     ensures damaged { IfErr result (λ e. (page : ℕ) → e ≡ halts.Stopped (stops.Damaged page) → (s : State) → IsAt session.old s → ⊥) }
     ensures short { IfErr result (λ e. e ≡ halts.TooMuch → ⊥) }
-    ensures world { world_of session.new ≡ world_of session.old }
+    ensures door { W.door (world_of session.new) ≡ W.door (world_of session.old) }
+    ensures applies { (s : State) → IsAt session.old s → Goes (Applies s item.now (changes_of session.old)) (W.told (world_of session.old)) (W.told (world_of session.new)) }
 {
-    let command = match parse(alloc, session.format(), item) {
+    let command = match parse(alloc, session.head().format, item) {
         Ok(command) => command,
         Err(ParseErr::No(code)) => return Ok(refusal(alloc, code)?),
         Err(ParseErr::Memory) => return Err(Halt::Stopped(Stop::Memory)),
     };
-    let reply = match session.apply(&command) {
+    let reply = match session.apply(rt, &NoGate, &command) {
         Ok(reply) => reply,
         Err(stop) => return Err(Halt::Stopped(stop)),
     };
@@ -71,7 +76,8 @@ fn answer_item<W: World>(
 }
 
 /// Answers an item and puts its reply whole. Says whether no reply so far was a refusal, this one with them.
-pub(crate) fn put_answer<W: World>(
+pub(crate) fn put_answer<R: Threads + Sync, W: World>(
+    rt: &R,
     alloc: Global,
     session: &mut Session<W>,
     item: Item,
@@ -85,13 +91,13 @@ pub(crate) fn put_answer<W: World>(
     ensures short { IfErr result (λ e. e ≡ halts.TooMuch → ⊥) }
     ensures door { W.door (world_of session.new) ≡ W.door (world_of session.old) }
     ensures level { OnOk result (level_of session.new ≡ level_of session.old) }
-    ensures text { Goes (AddsOnly is_of_text) (W.told (world_of session.old)) (W.told (world_of session.new)) }
     ensures done { IfOk result (λ done. (s : State) → IsAt session.old s → done ≡ (so_far && is_done (reply_to s item))) }
     ensures at { OnOk result ((s : State) → IsAt session.old s → IsAt session.new (state_then s item)) }
-    ensures said { OnOk result ((s : State) → IsAt session.old s → Goes (Says (text_of (reply_to s item))) (W.told (world_of session.old)) (W.told (world_of session.new))) }
-    ensures part { OnErr result ((s : State) → IsAt session.old s → Goes (SaysFront (text_of (reply_to s item))) (W.told (world_of session.old)) (W.told (world_of session.new))) }
+    ensures changes { OnOk result ((s : State) → IsAt session.old s → changes_of session.new ≡ changes_then s item (changes_of session.old)) }
+    ensures said { OnOk result ((s : State) → IsAt session.old s → Goes (Answers s item (changes_of session.old) (text_of (reply_to s item))) (W.told (world_of session.old)) (W.told (world_of session.new))) }
+    ensures part { OnErr result ((s : State) → IsAt session.old s → Goes (AnswersFront s item (changes_of session.old)) (W.told (world_of session.old)) (W.told (world_of session.new))) }
 {
-    let answer = answer_item(alloc, session, &item)?;
+    let answer = answer_item(rt, alloc, session, &item)?;
     put_reply(session, answer.text.bytes())?;
     Ok(so_far && answer.is_done)
 }

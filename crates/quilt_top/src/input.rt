@@ -1,12 +1,14 @@
-ghost use Rattle.std.specs.Prelude.{◌≡◌, ◌≢◌, ◌≤◌, Some};
+ghost use Rattle.std.specs.Prelude.{◌≡◌, ◌≢◌, ◌≤◌, Some, true};
 ghost use Rattle.std.specs.Option.{IfSome};
 ghost use Rattle.quilt_world.specs.Tale.{Goes};
 ghost use Rattle.quilt_world.specs.Causes.{Rose};
 ghost use Rattle.quilt_world.specs.declared.disk.Door.TheVariants as doors;
+ghost use Rattle.quilt_map.specs.Answers.{State};
+ghost use Rattle.quilt_map.specs.Sessions.{IsAt, world_of, level_of, changes_of};
 ghost use Rattle.quilt_top.specs.TextRun.{IsUntold};
 ghost use Rattle.quilt_top.specs.declared.run.End.TheVariants as ends;
 ghost use Rattle.quilt_top.specs.Openings as endings;
-ghost use Rattle.quilt_top.specs.Openings.{RunsPlain, plain_edition, run_ends};
+ghost use Rattle.quilt_top.specs.Openings.{RunsTo, run_ends, is_run_end};
 ghost use Rattle.quilt_top.specs.Words.{Run};
 ghost use Rattle.quilt_top.specs.Headline.{KeepsPromises, WhereTold, HasEndCause, IsOneOf};
 
@@ -17,6 +19,7 @@ use crate::text_run::run_text;
 use quilt_map::Session;
 use quilt_world::{Attached, World};
 use std::alloc::Global;
+use std::thread::Threads;
 
 /// How a run ends that answered whether none of its replies was a refusal, or that stopped.
 fn end_of(outcome: Result<bool, Halt>) -> End
@@ -30,35 +33,30 @@ fn end_of(outcome: Result<bool, Halt>) -> End
     }
 }
 
-/// Runs the input over a file whose last edition is empty.
-fn run_plain<W: World>(
-    alloc: Global,
-    world: W,
-    pages: u32,
-    format: u8,
-    level: u8,
-    edition: u32,
-) -> (End, W)
-    requires door { W.door world ≡ doors.Ready }
-    requires pages { (16 ≤ pages) × (pages ≤ 30000) }
-    requires level { (1 ≤ level) × (level ≤ 12) }
-    requires untold { IfSome (W.told world) IsUntold }
-    ensures later { W.faults world ≤ W.faults result.1 }
-    ensures device { result.0 ≡ ends.Device → Rose (W.faults world) (W.faults result.1) }
-    ensures door { W.door result.1 ≡ W.door world }
-    ensures ends { IsOneOf result.0 run_ends }
-    ensures runs { Goes (RunsPlain (plain_edition format edition level) result.0) (W.told world) (W.told result.1) }
+/// Runs the input over a session.
+fn run_session<R: Threads + Sync, W: World>(rt: &R, alloc: Global, session: Session<W>) -> (End, W)
+    requires door { W.door (world_of session) ≡ doors.Ready }
+    requires untold { IfSome (W.told (world_of session)) IsUntold }
+    requires unchanged { changes_of session ≡ 0 }
+    ensures later { W.faults (world_of session) ≤ W.faults result.1 }
+    ensures device { result.0 ≡ ends.Device → Rose (W.faults (world_of session)) (W.faults result.1) }
+    ensures door { W.door result.1 ≡ W.door (world_of session) }
+    ensures ends { is_run_end result.0 ≡ true }
+    ensures sound { (s : State) → IsAt session s → IsOneOf result.0 run_ends }
+    ensures runs { (s : State) → IsAt session s → Goes (RunsTo (level_of session) s result.0) (W.told (world_of session)) (W.told result.1) }
 {
-    let mut session = match Session::start(alloc, world, pages, format, level, edition) {
-        Ok(session) => session,
-        Err(world) => return (End::Memory, world),
-    };
-    let end = end_of(run_text(alloc, &mut session));
+    let mut session = session;
+    let end = end_of(run_text(rt, alloc, &mut session));
     (end, session.into_world())
 }
 
 /// Runs the input over the file of this path.
-pub(crate) fn run_file<W: World>(alloc: Global, world: W, path: &str) -> (End, W)
+pub(crate) fn run_file<R: Threads + Sync, W: World>(
+    rt: &R,
+    alloc: Global,
+    world: W,
+    path: &str,
+) -> (End, W)
     requires { W.door world ≡ doors.Shut }
     ensures cause { HasEndCause (Some (Run path.now 256)) (W.faults world) (W.faults result.1) (W.door result.1) result.0 }
     ensures usage { result.0 ≢ ends.Usage }
@@ -73,17 +71,9 @@ pub(crate) fn run_file<W: World>(alloc: Global, world: W, path: &str) -> (End, W
         Attached::Ready => {}
         Attached::Missing => return (End::Missing, world),
     }
-    let Ok(opened) = open(&mut world) else {
-        return (End::Device, world);
-    };
-    match opened {
-        Opened::NotMap => (End::NotMap, world),
-        Opened::Damaged => (End::Damaged { page: 0 }, world),
-        Opened::Plain {
-            pages,
-            format,
-            level,
-            edition,
-        } => run_plain(alloc, world, pages, format, level, edition),
+    match open(alloc, world) {
+        Opened::Map(session) => run_session(rt, alloc, session),
+        Opened::NotMap(world) => (End::NotMap, world),
+        Opened::Stopped(world, stop) => (End::of_stop(stop), world),
     }
 }

@@ -4,7 +4,6 @@
 mod answering;
 mod halt;
 mod input;
-mod label;
 mod make;
 mod opening;
 mod orders;

@@ -1,103 +1,75 @@
-ghost use Rattle.std.specs.Prelude.{◌≡◌, ◌+◌, ◌*◌, ◌<◌, ◌≤◌, [], OnOk, IfOk, IfSome, slice_index_or};
-ghost use Rattle.quilt_world.specs.Tale.{Adds, Goes};
-ghost use Rattle.quilt_world.specs.Causes.{HasCause};
-ghost use Rattle.quilt_world.specs.Home.{label};
-ghost use Rattle.quilt_top.specs.Openings.{IsNew, Heads, Finds, InRange};
+ghost use Rattle.std.specs.Prelude.{◌≡◌, ◌≤◌, ℕ, IfSome, Some};
+ghost use Rattle.quilt_world.specs.Disk.{Pages};
+ghost use Rattle.quilt_world.specs.Stops.{LeavesNow};
+ghost use Rattle.quilt_world.specs.Tale.{Tale, Goes};
+ghost use Rattle.quilt_journal.specs.Kept.{published};
+ghost use Rattle.quilt_edition.specs.Books as books;
+ghost use Rattle.quilt_edition.specs.Keeping.{IsLater};
+ghost use Rattle.quilt_map.specs.Sessions.{told_of, changed_of};
+ghost use Rattle.quilt_top.specs.Openings.{IsNew, Keeps, world_in, IsUnchanged, HasCauseOf, HoldsAs, FindsAt};
 
-use crate::label::{home_pages, is_label};
-use quilt_node::header_of;
-use quilt_world::{Disk, Fault};
+use quilt_audit::audit;
+use quilt_edition::{Book, Started};
+use quilt_map::Session;
+use quilt_store::PageStore;
+use quilt_types::Stop;
+use quilt_world::{Disk, World};
+use std::alloc::Global;
 
-const LABEL_AT: u32 = 0;
+/// How many pages the pool of a run has.
+const POOL: u32 = 256;
 
-const GATE_AT: u32 = 1;
-
-/// The first home page of a file.
-const HEADER_AT: u32 = 3;
-
-/// What a file is at opening.
-#[derive(Clone, Copy)]
-pub(crate) enum Opened {
-    NotMap,
-    Damaged,
-    /// A file with its gate shut and a header with no tree.
-    Plain {
-        pages: u32,
-        format: u8,
-        level: u8,
-        edition: u32,
-    },
+/// What opening a file gives. Each answer holds the world.
+#[derive(Drop)]
+pub(crate) enum Opened<W: Disk> {
+    /// A session over the edition that the file stands for.
+    Map(Session<W>),
+    /// The file is no map file.
+    NotMap(W),
+    /// The device failed, there was no memory, or the file stands for nothing.
+    Stopped(W, Stop),
 }
 
-/// Reads a page as it was when the file was opened.
-fn read_first<D: Disk>(disk: &mut D, i: u32, into: &mut [u8; 4096]) -> Result<(), Fault>
-    requires within { i < D.size disk.old }
-    requires new { IfSome (D.told disk.old) IsNew }
-    ensures cause { HasCause (D.faults disk.old) (D.faults disk.new) result }
-    ensures size { D.size disk.new ≡ D.size disk.old }
-    ensures door { D.door disk.new ≡ D.door disk.old }
-    ensures nothing { Goes (Adds []) (D.told disk.old) (D.told disk.new) }
-    ensures bytes { OnOk result (IfSome (D.told disk.new) (λ t. into.new ≡ slice_index_or t.start i [])) }
-    ensures same { IfSome (D.told disk.new) IsNew }
+/// Surveys the tree of a book that was just opened, and begins a session over it.
+fn survey_book<W: World>(alloc: Global, mut book: Book<W>) -> Opened<W>
+    requires ready { books.IsReady book }
+    requires heads { books.work_of book ≡ books.last_of book }
+    requires unchanged { changed_of book ≡ 0 }
+    requires pages { (t : Tale) → W.told (books.world_of book) ≡ Some t → told_of book ≡ Some (published t (books.pages_of book)) }
+    ensures later { W.faults (books.world_of book) ≤ W.faults (world_in result) }
+    ensures door { W.door (world_in result) ≡ W.door (books.world_of book) }
+    ensures unchanged { IsUnchanged result }
+    ensures cause { HasCauseOf (W.faults (books.world_of book)) (W.faults (world_in result)) result }
+    ensures tale { Goes (IsLater (books.pages_of book)) (W.told (books.world_of book)) (W.told (world_in result)) }
+    ensures holds { IfSome (W.told (books.world_of book)) (λ t. HoldsAs (books.pages_of book) (books.last_of book) (published t (books.pages_of book)) result) }
 {
-    disk.read_page(i, into)
-}
-
-/// What a file with the label is, by the page of its header.
-fn opened_by(page: &[u8; 4096], pages: u32) -> Opened
-    requires low { 16 ≤ pages }
-    requires high { pages ≤ 30000 }
-    ensures heads { Heads pages page.now result }
-    ensures range { InRange result }
-{
-    match header_of(page, pages) {
-        Some(head) if head.height == 0 => Opened::Plain {
-            pages,
-            format: head.format,
-            level: head.level,
-            edition: head.edition,
-        },
-        _ => Opened::Damaged,
+    let pages = book.pages();
+    let head = book.head();
+    match audit(&mut book, &head, pages) {
+        Ok(survey) => {
+            let used = survey.used;
+            book.set_used(&used);
+            // They are in the order of their names, so no entry stands there twice.
+            let _ = survey.catalog.entries();
+            Opened::Map(Session::new(alloc, book, survey.catalog))
+        }
+        Err(stop) => Opened::Stopped(book.into_world(), stop),
     }
 }
 
-/// What a file of so many home pages is, if it has the label.
-fn open_labelled<D: Disk>(disk: &mut D, pages: u32) -> Result<Opened, Fault>
-    requires low { 16 ≤ pages }
-    requires high { pages ≤ 30000 }
-    requires size { D.size disk.old ≡ 3 + 2 * pages }
-    requires new { IfSome (D.told disk.old) IsNew }
-    ensures cause { HasCause (D.faults disk.old) (D.faults disk.new) result }
-    ensures door { D.door disk.new ≡ D.door disk.old }
-    ensures nothing { Goes (Adds []) (D.told disk.old) (D.told disk.new) }
-    ensures finds { IfOk result (λ o. IfSome (D.told disk.new) (λ t. slice_index_or t.start 0 [] ≡ label → Finds o t.start)) }
-    ensures range { IfOk result InRange }
+/// Opens the file that the world has attached. A map file keeps its home pages, and another file is left alone.
+pub(crate) fn open<W: World>(alloc: Global, world: W) -> Opened<W>
+    requires { IfSome (W.told world) IsNew }
+    ensures later { W.faults world ≤ W.faults (world_in result) }
+    ensures door { W.door (world_in result) ≡ W.door world }
+    ensures unchanged { IsUnchanged result }
+    ensures cause { HasCauseOf (W.faults world) (W.faults (world_in result)) result }
+    ensures keeps { Goes Keeps (W.told world) (W.told (world_in result)) }
+    ensures finds { IfSome (W.told world) (λ t. FindsAt t.start result) }
 {
-    let mut page = [0; 4096];
-    read_first(disk, GATE_AT, &mut page)?;
-    if page[0] == 1 {
-        return Ok(Opened::Damaged);
+    match Book::begin(alloc, world, POOL) {
+        Started::Ready(book) => survey_book(alloc, book),
+        Started::NotMap(world) => Opened::NotMap(world),
+        Started::Stopped(world, stop) => Opened::Stopped(world, stop),
     }
-    read_first(disk, HEADER_AT, &mut page)?;
-    Ok(opened_by(&page, pages))
-}
-
-/// What the file is that the world has opened. It reads three pages at most.
-pub(crate) fn open<D: Disk>(disk: &mut D) -> Result<Opened, Fault>
-    requires { IfSome (D.told disk.old) IsNew }
-    ensures cause { HasCause (D.faults disk.old) (D.faults disk.new) result }
-    ensures door { D.door disk.new ≡ D.door disk.old }
-    ensures nothing { Goes (Adds []) (D.told disk.old) (D.told disk.new) }
-    ensures finds { IfOk result (λ o. IfSome (D.told disk.new) (λ t. Finds o t.start)) }
-    ensures range { IfOk result InRange }
-{
-    let Some(pages) = home_pages(disk.pages()) else {
-        return Ok(Opened::NotMap);
-    };
-    let mut page = [0; 4096];
-    read_first(disk, LABEL_AT, &mut page)?;
-    if !is_label(&page) {
-        return Ok(Opened::NotMap);
-    }
-    open_labelled(disk, pages)
 }

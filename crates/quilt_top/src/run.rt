@@ -84,11 +84,10 @@ pub fn run_quilt<'a, R: Threads + Sync, W: World>(
     ensures cause { HasEndCause (asked_for (map (λ w. w.now) words.entry.now)) (W.faults world) (W.faults result.1) (W.door result.1) result.0 }
     ensures promises { WhereTold (KeepsPromises (asked_for (map (λ w. w.now) words.entry.now)) (Rose (W.faults world) (W.faults result.1)) (W.door result.1) result.0) (W.told world) (W.told result.1) }
 {
-    let _ = rt;
     match read_order(words) {
         None => (End::Usage, world),
         Some(Order::New(file)) => new_file(alloc, world, file),
-        Some(Order::Run(path)) => run_file(alloc, world, path),
+        Some(Order::Run(path)) => run_file(rt, alloc, world, path),
     }
 }
 

@@ -5,7 +5,7 @@ ghost use Rattle.quilt_world.specs.Causes.{Rose};
 ghost use Rattle.quilt_world.specs.declared.disk.Door.TheVariants as doors;
 ghost use Rattle.quilt_lang.specs.Reading.{HasNone};
 ghost use Rattle.quilt_map.specs.Answers.{State};
-ghost use Rattle.quilt_map.specs.Sessions.{world_of, level_of, IsAt};
+ghost use Rattle.quilt_map.specs.Sessions.{world_of, level_of, changes_of, IsAt};
 ghost use Rattle.quilt_top.specs.declared.halt.Halt.TheVariants as halts;
 ghost use Rattle.quilt_top.specs.Answered.{Answered, FrontOfAll};
 ghost use Rattle.quilt_top.specs.TextRun.{IsUntold, RunsFrom, RunsWhole, Overruns};
@@ -16,12 +16,14 @@ use quilt_lang::Lines;
 use quilt_map::Session;
 use quilt_world::World;
 use std::alloc::Global;
+use std::thread::Threads;
 
 /// The most bytes that a run may take.
 const LIMIT: u32 = 1 << 30;
 
 /// Answers each item that can be given and puts its reply. Says whether no reply so far was a refusal, these with them.
-fn answer_items<W: World>(
+fn answer_items<R: Threads + Sync, W: World>(
+    rt: &R,
     alloc: Global,
     lines: &mut Lines,
     session: &mut Session<W>,
@@ -37,14 +39,14 @@ fn answer_items<W: World>(
     ensures door { W.door (world_of session.new) ≡ W.door (world_of session.old) }
     ensures level { lines.new.level ≡ lines.old.level }
     ensures same { IfOk result (λ done. level_of session.new ≡ level_of session.old) }
-    ensures answered { IfOk result (λ done. (s : State) → IsAt session.old s → (now : State) × IsAt session.new now × Answered ended lines.old.level so_far done s now
+    ensures answered { IfOk result (λ done. (s : State) → IsAt session.old s → (now : State) × IsAt session.new now × Answered ended lines.old.level so_far done s now (changes_of session.old) (changes_of session.new)
         lines.old.rest lines.new.rest (W.told (world_of session.old)) (W.told (world_of session.new))) }
     ensures none { IfOk result (λ done. HasNone ended lines.old.level lines.new.rest) }
-    ensures stopped { OnErr result ((s : State) → IsAt session.old s → Goes (FrontOfAll ended lines.old.level s lines.old.rest) (W.told (world_of session.old)) (W.told (world_of session.new))) }
+    ensures stopped { OnErr result ((s : State) → IsAt session.old s → Goes (FrontOfAll ended lines.old.level s (changes_of session.old) lines.old.rest) (W.told (world_of session.old)) (W.told (world_of session.new))) }
 {
     let mut all_done = so_far;
-    'items: while let Some(item) = lines.next_item(session.format(), ended)? {
-        all_done = put_answer(alloc, session, item, all_done)?;
+    'items: while let Some(item) = lines.next_item(session.head().format, ended)? {
+        all_done = put_answer(rt, alloc, session, item, all_done)?;
     }
     Ok(all_done)
 }
@@ -67,9 +69,14 @@ fn counted(total: u32, piece: usize) -> Result<u32, Halt>
 /// Takes the input to its end, at most 4096 bytes a call, and puts each reply before more is taken. Says whether none was a refusal.
 /// More than 2^30 bytes of input are too much, which is told once they are taken, and before their items are answered.
 /// After an Err a front of the replies was put, and the session is only given up.
-pub(crate) fn run_text<W: World>(alloc: Global, session: &mut Session<W>) -> Result<bool, Halt>
+pub(crate) fn run_text<R: Threads + Sync, W: World>(
+    rt: &R,
+    alloc: Global,
+    session: &mut Session<W>,
+) -> Result<bool, Halt>
     requires open { (W.door (world_of session.old) ≡ doors.Ready) ⊎ (W.door (world_of session.old) ≡ doors.Made) }
     requires untold { IfSome (W.told (world_of session.old)) IsUntold }
+    requires unchanged { changes_of session.old ≡ 0 }
     ensures later { W.faults (world_of session.old) ≤ W.faults (world_of session.new) }
     ensures device { IfErr result (λ e. e ≡ halts.Stopped stops.Device → Rose (W.faults (world_of session.old)) (W.faults (world_of session.new))) }
     ensures damaged { IfErr result (λ e. (page : ℕ) → e ≡ halts.Stopped (stops.Damaged page) → (s : State) → IsAt session.old s → ⊥) }
@@ -78,7 +85,7 @@ pub(crate) fn run_text<W: World>(alloc: Global, session: &mut Session<W>) -> Res
     ensures whole { IfOk result (λ done. (s : State) → IsAt session.old s → Goes (RunsWhole (level_of session.old) done s) (W.told (world_of session.old)) (W.told (world_of session.new))) }
     ensures too_much { IfErr result (λ e. e ≡ halts.TooMuch → (s : State) → IsAt session.old s → Goes (λ old new. Overruns new) (W.told (world_of session.old)) (W.told (world_of session.new))) }
 {
-    let mut lines = Lines::new(alloc, session.level());
+    let mut lines = Lines::new(alloc, session.head().level);
     let mut buffer = [0; 4096];
     let mut total = 0;
     let mut all_done = true;
@@ -89,10 +96,7 @@ pub(crate) fn run_text<W: World>(alloc: Global, session: &mut Session<W>) -> Res
         }
         total = counted(total, n)?;
         lines.feed(&buffer[..n])?;
-        all_done = answer_items(alloc, &mut lines, session, false, all_done)?;
+        all_done = answer_items(rt, alloc, &mut lines, session, false, all_done)?;
     }
-    answer_items(alloc, &mut lines, session, true, all_done)
+    answer_items(rt, alloc, &mut lines, session, true, all_done)
 }
-
-#[cfg(test)]
-mod tests;

@@ -22,6 +22,7 @@ loop-done-preserved g c =
     let fits : n ≤ m = omega (arith, c.in_ok-done.ensures.count.1, length-take m (drop done bytes), length-drop done bytes) in
     record {
       level = c.in_ok-done.ensures.level ∙ c.loop-done.invariant.level;
+      changes = c.in_ok-done.ensures.changes ∙ c.loop-done.invariant.changes;
       at = λ s at. c.in_ok-done.ensures.at s (c.loop-done.invariant.at s at);
       within = omega (arith, c.loop-done.invariant.within);
       door = search rules;

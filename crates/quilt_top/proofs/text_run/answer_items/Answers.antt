@@ -1,15 +1,18 @@
-use Rattle.std.proofs.Common.{◌≡◌, ◌∙◌, ◌&&◌, sym, ap, subst, rules}
+use Rattle.std.proofs.Common.{◌≡◌, ◌∙◌, ◌&&◌, ℕ, ap, subst, rules}
 use Rattle.quilt_world.specs.Tale.{Goes}
 use Rattle.quilt_words.specs.declared.item.Item.{Item}
 use Rattle.quilt_map.specs.Answers.{State}
 use Rattle.quilt_map.specs.Runs.{text_of, is_done}
-use Rattle.quilt_map.specs.Sessions.{world_of}
+use Rattle.quilt_map.specs.Sessions.{world_of, changes_of, IsAt}
 use Rattle.quilt_map.proofs.Laws.{at_level}
 use Rattle.quilt_map.proofs.TextLaws.{fewer_left}
+use Rattle.quilt_types.specs.declared.stop.Stop.TheVariants as stops
+use Rattle.quilt_top.specs.declared.halt.Halt.{Halt}
+use Rattle.quilt_top.specs.declared.halt.Halt.TheVariants as halts
+use Rattle.quilt_top.specs.Answering.{Answers, AnswersFront, changes_then}
 use Rattle.quilt_top.specs.Replies.{held_at, reply_to, state_then}
-use Rattle.quilt_top.specs.Saying.{Says, SaysFront}
-use Rattle.quilt_top.proofs.Said.{on_err_all}
-use Rattle.quilt_top.proofs.Outcomes.{item_is, held_is}
+use Rattle.quilt_top.proofs.Said.{on_err_all, err_from}
+use Rattle.quilt_top.proofs.Outcomes.{held_is}
 use Rattle.quilt_top.proofs.Turns.{answered_first, stopped_now, stopped_part, answered_next}
 use Rattle.quilt_top.proofs.text_run.answer_items.Goals as goal
 
@@ -19,17 +22,12 @@ items-init g c = record {
   faults = search rules;
   level = search rules;
   same = search rules;
-  done = λ s at. (s, at, answered_first _ _ _ _ _ (at_level c.args.session.now s at ∙ c.requires.level) _);
+  done = λ s at. (s, at, answered_first _ _ _ _ _ _ (at_level c.args.session.now s at ∙ c.requires.level) _);
 }
 
 pub returns-in_err-item-clause-stopped : goal.returns-in_err-item-clause-stopped
 returns-in_err-item-clause-stopped g c =
-    on_err_all {S = State} _ _ _ (λ s at. stopped_now _ _ _ _ _ (at_level c.args.session.now s at ∙ c.requires.level) _ _ _ _ _ (c.items.invariant.done s at).2)
-
-pub put_answer-requires-clause-item : goal.put_answer-requires-clause-item
-put_answer-requires-clause-item g c =
-    let given = rw c.in-Some.is at c.in_ok-item.ensures.given in
-    item_is _ _ _ _ given.group c.in-Some.item given.is c.format.ensures.is (c.items.invariant.level ∙ sym c.requires.level ∙ sym c.items.invariant.same)
+    on_err_all {S = State} _ _ _ (λ s at. stopped_now _ _ _ _ _ _ (at_level c.args.session.now s at ∙ c.requires.level) _ _ _ _ _ _ (c.items.invariant.done s at).2)
 
 pub returns-in_err-all_done-clause-stopped : goal.returns-in_err-all_done-clause-stopped
 returns-in_err-all_done-clause-stopped g c =
@@ -37,10 +35,10 @@ returns-in_err-all_done-clause-stopped g c =
     on_err_all {S = State} _ _ _ (λ s at.
     let so = c.items.invariant.done s at in
     let held_ : c.in-Some.item ≡ held_at so.0 given.group =
-    held_is _ _ so.0 given.group c.in-Some.item given.is (c.format.ensures.at so.0 so.1) (at_level c.items.session so.0 so.1 ∙ c.items.invariant.same ∙ c.requires.level) in
-    let part = subst (λ (i : Item). Goes (SaysFront (text_of (reply_to so.0 i))) (g.W.Disk.told (world_of c.items.session)) (g.W.Disk.told (world_of c.put_answer.new.session)))
+    held_is _ _ so.0 given.group c.in-Some.item given.is (c.head.ensures.format so.0 so.1) (at_level c.items.session so.0 so.1 ∙ c.items.invariant.same ∙ c.requires.level) in
+    let part = subst (λ (i : Item). Goes (AnswersFront so.0 i (changes_of c.items.session)) (g.W.Disk.told (world_of c.items.session)) (g.W.Disk.told (world_of c.put_answer.new.session)))
     held_ (c.in_err-all_done.ensures.part so.0 so.1) in
-    stopped_part _ _ _ _ _ (at_level c.args.session.now s at ∙ c.requires.level) _ _ _ _ _ _ _ _ so.2 given.gives part c.put_answer.ensures.text)
+    stopped_part _ _ _ _ _ _ (at_level c.args.session.now s at ∙ c.requires.level) _ _ _ _ _ _ _ _ _ so.2 given.gives part)
 
 pub items-smaller : goal.items-smaller
 items-smaller g c =
@@ -58,13 +56,14 @@ items-preserved g c =
       done = λ s at.
           let so = c.items.invariant.done s at in
           let held_ : c.in-Some.item ≡ held_at so.0 given.group =
-          held_is _ _ so.0 given.group c.in-Some.item given.is (c.format.ensures.at so.0 so.1) (at_level c.items.session so.0 so.1 ∙ c.items.invariant.same ∙ c.requires.level) in
-          let said = subst (λ (i : Item). Goes (Says (text_of (reply_to so.0 i))) (g.W.Disk.told (world_of c.items.session)) (g.W.Disk.told (world_of c.put_answer.new.session)))
+          held_is _ _ so.0 given.group c.in-Some.item given.is (c.head.ensures.format so.0 so.1) (at_level c.items.session so.0 so.1 ∙ c.items.invariant.same ∙ c.requires.level) in
+          let said = subst (λ (i : Item). Goes (Answers so.0 i (changes_of c.items.session) (text_of (reply_to so.0 i))) (g.W.Disk.told (world_of c.items.session)) (g.W.Disk.told (world_of c.put_answer.new.session)))
           held_ (c.in_ok-all_done.ensures.said so.0 so.1) in (
             state_then so.0 c.in-Some.item,
             c.in_ok-all_done.ensures.at so.0 so.1,
-            answered_next _ _ _ _ _ (at_level c.args.session.now s at ∙ c.requires.level) _ _ _ _ _ _ _ _ _ _ so.2 given.gives said c.put_answer.ensures.text
+            answered_next _ _ _ _ _ _ (at_level c.args.session.now s at ∙ c.requires.level) _ _ _ _ _ _ _ _ _ _ _ _ so.2 given.gives said
                 (ap (λ (i : Item). state_then so.0 i) held_)
+                (c.in_ok-all_done.ensures.changes so.0 so.1 ∙ ap (λ (i : Item). changes_then so.0 i (changes_of c.items.session)) held_)
                 (c.in_ok-all_done.ensures.done so.0 so.1 ∙ ap (λ (i : Item). c.items.all_done && is_done (reply_to so.0 i)) held_),
           );
     }
@@ -73,3 +72,9 @@ pub returns-clause-answered : goal.returns-clause-answered
 returns-clause-answered g c =
     let given = rw c.in_default.is at c.in_ok-item.ensures.given in
     rw given.0 c.items.invariant.done
+
+pub returns-in_err-all_done-clause-damaged : goal.returns-in_err-all_done-clause-damaged
+returns-in_err-all_done-clause-damaged g c =
+    let Sound = λ (e : Halt). (page : ℕ) → e ≡ halts.Stopped (stops.Damaged page) → (s : State) → IsAt c.args.session.now s → ⊥ in
+    let here : Sound c.in_err-all_done.field-0.0 = λ page is s at. let so = c.items.invariant.done s at in c.in_err-all_done.ensures.damaged page is so.0 so.1 in
+    err_from _ c.in_err-all_done.field-0.0 _ Sound c.from_residual-in_err-all_done.ensures.1 (λ e is. is) here

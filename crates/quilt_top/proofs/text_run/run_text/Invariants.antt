@@ -2,7 +2,7 @@ use Rattle.std.proofs.Common.{◌≡◌, ◌≤◌, ◌-◌, ◌^◌, []}
 use Rattle.quilt_world.specs.Tale.{Goes}
 use Rattle.quilt_words.specs.Items.{whole_items}
 use Rattle.quilt_map.specs.Answers.{State}
-use Rattle.quilt_map.specs.Sessions.{world_of, level_of, IsAt}
+use Rattle.quilt_map.specs.Sessions.{world_of, level_of, changes_of, IsAt}
 use Rattle.quilt_top.specs.Reading.{Reading}
 use Rattle.quilt_top.proofs.text_run.run_text.Given as goal
 
@@ -15,7 +15,7 @@ invariant-pieces g l = record {
   same : level_of l.session ≡ level_of l.initial.session;
   none : whole_items (level_of l.initial.session) l.lines.rest ≡ [];
   tale : (s : State) → IsAt l.initial.session s → (now : State) × IsAt l.session now
-      × Goes (Reading (level_of l.initial.session) l.total l.all_done s now l.lines.rest) (g.W.Disk.told (world_of l.initial.session)) (g.W.Disk.told (world_of l.session));
+      × Goes (Reading (level_of l.initial.session) l.total l.all_done s now (changes_of l.session) l.lines.rest) (g.W.Disk.told (world_of l.initial.session)) (g.W.Disk.told (world_of l.session));
 }
 
 abbrev pub decreases-pieces : goal.decreases-pieces
