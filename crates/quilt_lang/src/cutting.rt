@@ -31,7 +31,7 @@ pub fn newline_behind(bytes: &[u8], scanned: usize) -> Option<usize>
 }
 
 /// The first line of a text.
-#[derive(Clone, Copy, Debug, PartialEq, Eq)]
+#[derive(Clone, Copy)]
 pub enum FirstLine {
     /// It begins no item, and has so many bytes with its newline.
     Silent(usize),

@@ -46,8 +46,8 @@ impl Lines {
     }
 
     /// Reads a piece more, where all whole items were given. An Err leaves it as it was.
-    /// It takes time in the piece's length and in that of the lines that end in it, and memory in the piece's length and in what
-    /// it may keep.
+    /// It takes time and memory in the piece's length and in what it may keep; while an item waits for further lines, time in the
+    /// lengths of the pieces alone.
     pub fn feed(&mut self, piece: &[u8]) -> Result<(), AllocError>
         requires { whole_items self.old.level self.old.rest ≡ [] }
         ensures level { self.new.level ≡ self.old.level }
@@ -74,7 +74,7 @@ impl Lines {
     }
 
     /// The next item: one whose lines all stand there with their newlines, or, where the input has ended, any. Its further lines
-    /// are read in the format. An Err leaves it as it was. Where it waits for further lines, those that are there are cut but once.
+    /// are read in the format. An Err leaves it as it was. Where it waits for further lines, those that are there are not counted again.
     pub fn next_item(&mut self, format: u8, ended: bool) -> Result<Option<Item>, AllocError>
         ensures level { self.new.level ≡ self.old.level }
         ensures given { IfOk result (λ found. MatchOption found

@@ -1,7 +1,7 @@
 use crate::asked::Asked;
 
 /// Lines that are cut from the front of a text.
-#[derive(Clone, Copy, Debug, PartialEq, Eq)]
+#[derive(Clone, Copy)]
 pub struct CutLines {
     /// How many they are.
     pub count: usize,
@@ -20,7 +20,7 @@ impl CutLines {
 }
 
 /// The line that begins an item, and how far the lines behind it are cut.
-#[derive(Clone, Copy, Debug, PartialEq, Eq)]
+#[derive(Clone, Copy)]
 pub struct Waiting {
     /// The number of the line's bytes.
     pub line: usize,
@@ -31,7 +31,7 @@ pub struct Waiting {
 }
 
 /// How far the item at the front of a text is cut.
-#[derive(Clone, Copy, Debug, PartialEq, Eq)]
+#[derive(Clone, Copy)]
 pub enum Progress {
     /// Its line is not cut: so many bytes are known to have no newline.
     Begun(usize),

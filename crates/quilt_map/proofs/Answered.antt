@@ -130,6 +130,25 @@ module _ {W : Type 0} {D : disk.Ghosts W} where
   pub keeps_here : (old : Session W D) (w : Option (List ℕ × Pixel)) → KeepsAll old (record { book = old.book; catalog = old.catalog; last = old.last; changes = old.changes; warm = w; alloc = old.alloc })
   keeps_here old w = record { book = still_here old.book; catalog = refl; last = refl; changes = refl }
 
+  -- another last pixel leaves the state
+  pub warm_at : (old : Session W D) (w : Option (List ℕ × Pixel)) (s : State) → IsAtState old s
+      → IsAtState (record { book = old.book; catalog = old.catalog; last = old.last; changes = old.changes; warm = w; alloc = old.alloc }) s
+  warm_at old w s at = record {
+    tale = at.tale;
+    told = at.told;
+    lawful = at.lawful;
+    ready = at.ready;
+    last = at.last;
+    pages = at.pages;
+    pages_told = at.pages_told;
+    work = at.work;
+    format = at.format;
+    level = at.level;
+    quota = at.quota;
+    few = at.few;
+    bounded = at.bounded;
+  }
+
   -- a book that goes on with the same pages leaves the state
   pub keeps_at : (old : Session W D) (b : Book W D) (w : Option (List ℕ × Pixel)) (s : State) → IsStill old.book b → IsLawful (D.size b.world) (D.told b.world) → IsAtState old s
       → IsAtWith (record { book = b; catalog = old.catalog; last = old.last; changes = old.changes; warm = w; alloc = old.alloc }) old.catalog s
@@ -147,6 +166,7 @@ module _ {W : Type 0} {D : disk.Ghosts W} where
         level = r.level;
         quota = r.quota;
         few = r.few;
+        bounded = r.bounded;
       }
 
   module _ (old : Session W D) (s : State) (at : IsAtState old s) where

@@ -1,6 +1,9 @@
 pub mod Answered
 pub mod Asked
+pub mod Asks
+pub mod Built
 pub mod Catalogs
+pub mod Commanded
 pub mod ChangeSteps
 pub mod Copies
 pub mod Fronts
@@ -11,12 +14,16 @@ pub mod Laws
 pub mod Moving
 pub mod NewLayers
 pub mod Numbered
+pub mod Orderly
 pub mod Outcomes
+pub mod PaintPlans
 pub mod Placing
 pub mod Plans
+pub mod RefusalTexts
 pub mod Renewed
 pub mod Replies
 pub mod Rows
 pub mod Tests
 pub mod TextLaws
+pub mod Uniforms
 pub mod ZeroPage

@@ -35,6 +35,13 @@ placed_full s name layer past = ap (by_quota s (with s name layer)) (lt-ltb s.qu
 pub placed_within : (s : State) (name : List ℕ) (layer : Layer) → records s.last.level (with s name layer) ≤ s.quota → placed s name layer ≡ changed (with s name layer)
 placed_within s name layer within = ap (by_quota s (with s name layer)) (le-ltb s.quota (records s.last.level (with s name layer)) within)
 
+none_given : (s : State) (work : Map) (b : Bool) → (by_quota s work b).published ≡ None
+none_given s work true = refl
+none_given s work false = refl
+
+pub placed_none : (s : State) (name : List ℕ) (layer : Layer) → (placed s name layer).published ≡ None
+placed_none s name layer = none_given s (with s name layer) (nat_lt s.quota (records s.last.level (with s name layer)))
+
 module _ {W : Type 0} {D : disk.Ghosts W} where
   -- the quota refuses
   pub full_answer : (old new : Session W D) (s : State) (name : List ℕ) (layer : Layer) → IsAtState old s → IsFull old new s name (Some layer) → AnsweredBy s (placed s name layer) old new (given.No no.Full)

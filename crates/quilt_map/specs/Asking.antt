@@ -6,7 +6,6 @@ use Rattle.quilt_types.specs.declared.code.Code.{Code}
 use Rattle.quilt_types.specs.declared.plane.Kind.{Kind}
 use Rattle.quilt_types.specs.declared.plane.Kind.TheVariants as kinds
 use Rattle.quilt_types.specs.declared.plane.Pixel.{Pixel}
-
 use Rattle.quilt_types.specs.Layers.{Layer, Region, Map, Grid}
 use Rattle.quilt_world.specs.declared.disk.Disk as disk
 use Rattle.quilt_record.specs.declared.entry.Entry.{Entry}

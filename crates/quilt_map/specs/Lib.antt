@@ -6,6 +6,7 @@ pub mod Copying
 pub mod Editing
 pub mod Lookups
 pub mod Making
+pub mod Painting
 pub mod Planning
 pub mod Renewing
 pub mod Runs

@@ -29,6 +29,12 @@ pub record Leaves (s : State) (command : Command) (old new : Tale) : Type 0 wher
 abbrev pub WritesFew : State → Command → ℕ → Tale → Tale → Type 0
 WritesFew s command changed old new = is_some (answer s command).published ≡ true → Writing (18 * changed + 8) old new
 
+-- the commands that give an edition
+abbrev pub gives_edition : Command → Bool
+gives_edition commands.Publish = true
+gives_edition commands.Upgrade = true
+gives_edition command = false
+
 abbrev pub is_revert : Command → Bool
 is_revert commands.Revert = true
 is_revert command = false

@@ -5,10 +5,10 @@ ghost use Rattle.quilt_words.specs.declared.command.Command.TheVariants as comma
 ghost use Rattle.quilt_store.specs.Store.{Tells as StoreTells};
 ghost use Rattle.quilt_btree.specs.Stops.{HasStopCause, IsSound};
 ghost use Rattle.quilt_edition.specs.Books as books;
-ghost use Rattle.quilt_map.specs.Answers.{State, answer};
+ghost use Rattle.quilt_map.specs.Answers.{State};
 ghost use Rattle.quilt_map.specs.Asking.{HasText, KeepsAll, AreRegions, warm_after, reads_in};
+ghost use Rattle.quilt_map.specs.Commanding.{Answered};
 ghost use Rattle.quilt_map.specs.Sessions.{IsAtState};
-ghost use Rattle.quilt_map.specs.States.{Tells};
 
 use crate::bodies::{
     blocks_text, edition_text, layers_text, leaves_text, number_text, records_text, show_text,
@@ -43,7 +43,7 @@ fn has_pixel(level: u8, p: Pixel) -> bool
 }
 
 /// Whether the window lies in the square and has a pixel.
-fn has_window(level: u8, w: Window) -> bool
+pub(crate) fn has_window(level: u8, w: Window) -> bool
     requires { level ≤ 12 }
     ensures { result ≡ is_window level w }
 {
@@ -57,7 +57,7 @@ fn has_window(level: u8, w: Window) -> bool
 impl<W: World> Session<W> {
     /// The layers, in the order of their names.
     pub(crate) fn layers(&self) -> Result<Reply, Stop>
-        ensures answer { IfOk result (λ reply. (s : State) → IsAtState self.now s → Tells reply (answer s commands.Layers).reply) }
+        ensures answer { IfOk result (λ reply. (s : State) → IsAtState self.now s → Answered s commands.Layers self.now self.now reply) }
         ensures memory { IfErr result (λ stop. stop ≡ stops.Memory) }
     {
         told(layers_text(self.alloc, self.catalog.entries()))
@@ -65,7 +65,7 @@ impl<W: World> Session<W> {
 
     /// How many records the work has, of how many it may have.
     pub(crate) fn records(&self) -> Result<Reply, Stop>
-        ensures answer { IfOk result (λ reply. (s : State) → IsAtState self.now s → Tells reply (answer s commands.Records).reply) }
+        ensures answer { IfOk result (λ reply. (s : State) → IsAtState self.now s → Answered s commands.Records self.now self.now reply) }
         ensures memory { IfErr result (λ stop. stop ≡ stops.Memory) }
     {
         let records = self.book.head().records;
@@ -75,7 +75,7 @@ impl<W: World> Session<W> {
 
     /// The number of the last edition.
     pub(crate) fn edition(&self) -> Result<Reply, Stop>
-        ensures answer { IfOk result (λ reply. (s : State) → IsAtState self.now s → Tells reply (answer s commands.Edition).reply) }
+        ensures answer { IfOk result (λ reply. (s : State) → IsAtState self.now s → Answered s commands.Edition self.now self.now reply) }
         ensures memory { IfErr result (λ stop. stop ≡ stops.Memory) }
     {
         told(edition_text(self.alloc, self.book.head().edition))
@@ -83,12 +83,11 @@ impl<W: World> Session<W> {
 
     /// How many blocks the layer has of each side.
     pub(crate) fn blocks(&mut self, name: &Name) -> Result<Reply, Stop>
-        ensures answer { IfOk result (λ reply. (s : State) → IsAtState self.old s → Tells reply (answer s (commands.Blocks name.now)).reply) }
+        ensures answer { IfOk result (λ reply. (s : State) → IsAtState self.old s → Answered s (commands.Blocks name.now) self.old self.new reply) }
         ensures sound { IfErr result (λ stop. (s : State) → IsAtState self.old s → AreRegions self.old.catalog → IsSound stop) }
         ensures cause { HasStopCause (W.faults (books.world_of self.old.book)) (W.faults (books.world_of self.new.book)) result }
         ensures keeps { KeepsAll self.old self.new }
         ensures warm { self.new.warm ≡ self.old.warm }
-        ensures at { (s : State) → IsAtState self.old s → IsAtState self.new s }
     {
         match layer_under(self.catalog.entries(), name) {
             None => Ok(Reply::No(Code::Unknown)),
@@ -103,13 +102,12 @@ impl<W: World> Session<W> {
 
     /// The colour of a pixel of the region layer. It reads at most 6 pages.
     pub(crate) fn at(&mut self, name: &Name, at: Pixel) -> Result<Reply, Stop>
-        ensures answer { IfOk result (λ reply. (s : State) → IsAtState self.old s → Tells reply (answer s (commands.At name.now at)).reply) }
+        ensures answer { IfOk result (λ reply. (s : State) → IsAtState self.old s → Answered s (commands.At name.now at) self.old self.new reply) }
         ensures sound { IfErr result (λ stop. (s : State) → IsAtState self.old s → IsSound stop) }
         ensures cause { HasStopCause (W.faults (books.world_of self.old.book)) (W.faults (books.world_of self.new.book)) result }
         ensures keeps { KeepsAll self.old self.new }
         ensures warm { self.new.warm ≡ warm_after result name.now at }
         ensures reads { StoreTells (λ old new. new ≤ old + 6) (reads_in self.old.book) (reads_in self.new.book) }
-        ensures at { (s : State) → IsAtState self.old s → IsAtState self.new s }
     {
         self.warm = None;
         match region_number(self.catalog.entries(), name) {
@@ -134,12 +132,11 @@ impl<W: World> Session<W> {
 
     /// A window of the region layer, a line for each row.
     pub(crate) fn show(&mut self, name: &Name, w: Window) -> Result<Reply, Stop>
-        ensures answer { IfOk result (λ reply. (s : State) → IsAtState self.old s → Tells reply (answer s (commands.Show name.now w)).reply) }
+        ensures answer { IfOk result (λ reply. (s : State) → IsAtState self.old s → Answered s (commands.Show name.now w) self.old self.new reply) }
         ensures sound { IfErr result (λ stop. (s : State) → IsAtState self.old s → IsSound stop) }
         ensures cause { HasStopCause (W.faults (books.world_of self.old.book)) (W.faults (books.world_of self.new.book)) result }
         ensures keeps { KeepsAll self.old self.new }
         ensures warm { self.new.warm ≡ self.old.warm }
-        ensures at { (s : State) → IsAtState self.old s → IsAtState self.new s }
     {
         match region_number(self.catalog.entries(), name) {
             Err(code) => Ok(Reply::No(code)),
@@ -158,12 +155,11 @@ impl<W: World> Session<W> {
 
     /// The leaves of the region layer, by y and then x.
     pub(crate) fn leaves(&mut self, name: &Name) -> Result<Reply, Stop>
-        ensures answer { IfOk result (λ reply. (s : State) → IsAtState self.old s → Tells reply (answer s (commands.Leaves name.now)).reply) }
+        ensures answer { IfOk result (λ reply. (s : State) → IsAtState self.old s → Answered s (commands.Leaves name.now) self.old self.new reply) }
         ensures sound { IfErr result (λ stop. (s : State) → IsAtState self.old s → IsSound stop) }
         ensures cause { HasStopCause (W.faults (books.world_of self.old.book)) (W.faults (books.world_of self.new.book)) result }
         ensures keeps { KeepsAll self.old self.new }
         ensures warm { self.new.warm ≡ self.old.warm }
-        ensures at { (s : State) → IsAtState self.old s → IsAtState self.new s }
     {
         match region_number(self.catalog.entries(), name) {
             Err(code) => Ok(Reply::No(code)),

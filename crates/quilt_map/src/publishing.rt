@@ -21,7 +21,7 @@ impl<W: World> Session<W> {
     pub(crate) fn publish(&mut self) -> Result<Reply, Stop>
         ensures answer { IfOk result (λ reply. (s : State) → IsAtState self.old s → Answered s commands.Publish self.old self.new reply) }
         ensures sound { IfErr result IsSound }
-        ensures level { OnOk result ((books.last_of self.new.book).level ≡ (books.work_of self.old.book).level) }
+        ensures level { OnOk result ((books.last_of self.new.book).level ≡ (books.last_of self.old.book).level) }
         ensures crash { (s : State) → IsAtState self.old s → Goes (Leaves s commands.Publish) (W.told (books.world_of self.old.book)) (W.told (books.world_of self.new.book)) }
         ensures writes { (s : State) → IsAtState self.old s → Goes (Writing (18 * self.old.changes + 8)) (W.told (books.world_of self.old.book)) (W.told (books.world_of self.new.book)) }
         ensures events { Goes (λ old new. (most : ℕ) × Writing most old new) (W.told (books.world_of self.old.book)) (W.told (books.world_of self.new.book)) }
@@ -45,7 +45,7 @@ impl<W: World> Session<W> {
     pub(crate) fn upgrade(&mut self) -> Result<Reply, Stop>
         ensures answer { IfOk result (λ reply. (s : State) → IsAtState self.old s → Answered s commands.Upgrade self.old self.new reply) }
         ensures sound { IfErr result IsSound }
-        ensures level { OnOk result ((books.last_of self.new.book).level ≡ (books.work_of self.old.book).level) }
+        ensures level { OnOk result ((books.last_of self.new.book).level ≡ (books.last_of self.old.book).level) }
         ensures crash { (s : State) → IsAtState self.old s → Goes (Leaves s commands.Upgrade) (W.told (books.world_of self.old.book)) (W.told (books.world_of self.new.book)) }
         ensures writes { (s : State) → IsAtState self.old s → Goes (Writing (18 * self.old.changes + 8)) (W.told (books.world_of self.old.book)) (W.told (books.world_of self.new.book)) }
         ensures events { Goes (λ old new. (most : ℕ) × Writing most old new) (W.told (books.world_of self.old.book)) (W.told (books.world_of self.new.book)) }
@@ -75,7 +75,7 @@ impl<W: World> Session<W> {
         ensures memory { IfErr result IsSound }
         ensures world { books.world_of self.new.book ≡ books.world_of self.old.book }
         ensures cause { HasStopCause (W.faults (books.world_of self.old.book)) (W.faults (books.world_of self.new.book)) result }
-        ensures level { OnOk result (books.last_of self.new.book ≡ books.last_of self.old.book) }
+        ensures goes_on { books.GoesOn self.old.book self.new.book }
     {
         let Ok(text) = done_text(self.alloc) else {
             return Err(Stop::Memory);

@@ -1,8 +1,9 @@
-ghost use Rattle.std.specs.Prelude.{◌≡◌, ℕ, ◌+◌, ◌<◌, ◌≤◌, List, None, IsNone, IfSome, IfOk, IfErr, OnOk};
+ghost use Rattle.std.specs.Prelude.{◌≡◌, true, ℕ, ◌+◌, ◌<◌, ◌≤◌, List, None, IsNone, IfSome, IfOk, IfErr, OnOk};
 ghost use Rattle.std.specs.FinMap as finmap;
 ghost use Rattle.quilt_types.specs.declared.plane.Kind.TheVariants as kinds;
 ghost use Rattle.quilt_types.specs.Layers.{Map, Grid, colour_at as colour_in};
-ghost use Rattle.quilt_types.specs.Plane.{side};
+ghost use Rattle.quilt_types.specs.Plane.{side, is_window};
+ghost use Rattle.quilt_types.specs.Algebra.{painted};
 ghost use Rattle.quilt_record.specs.declared.record.Record.{Record as AnyRecord};
 ghost use Rattle.quilt_record.specs.Records.{Numbering};
 ghost use Rattle.quilt_store.specs.Store.{Tells as StoreTells};
@@ -10,6 +11,7 @@ ghost use Rattle.quilt_btree.specs.Floors.{HoldsFirst, ReadsNone};
 ghost use Rattle.quilt_btree.specs.Stops.{HasStopCause, IsSound};
 ghost use Rattle.quilt_btree.specs.Trees.{IsTree};
 ghost use Rattle.quilt_region.specs.Regions.{HasRegion};
+ghost use Rattle.quilt_region.specs.Plans.{LeadsTo};
 ghost use Rattle.quilt_spell.specs.Catalogued.{IsCatalogOf};
 ghost use Rattle.quilt_edition.specs.Books.{world_of, last_of, work_of};
 ghost use Rattle.quilt_map.specs.Answers.{State};
@@ -22,9 +24,9 @@ use quilt_blocks::LeafList;
 use quilt_btree::Tree;
 use quilt_edition::Book;
 use quilt_node::Head;
-use quilt_record::Entry;
-use quilt_region::{colour_at, read_list};
-use quilt_types::{Code, Colour, Kind, Name, Pixel, Stop};
+use quilt_record::{Edits, Entry};
+use quilt_region::{colour_at, plan_rect, read_list};
+use quilt_types::{Code, Colour, Kind, Name, Pixel, Stop, Window};
 use quilt_world::Disk;
 use std::alloc::Global;
 
@@ -103,4 +105,26 @@ pub(crate) fn read_colour<W: Disk>(
     }
     let head = book.head();
     colour_at(book, &tree_of(&head), number, head.level, at)
+}
+
+/// The records that go and those that come when a window of the work's region layer with this number gets one colour.
+pub(crate) fn plan_paint<W: Disk>(
+    alloc: Global,
+    book: &mut Book<W>,
+    number: u8,
+    w: Window,
+    c: Colour,
+) -> Result<Edits, Stop>
+    requires window { is_window (work_of book.old).level w ≡ true }
+    ensures plan { IfOk result (λ edits. (g : Grid) → HasRegion (told_of book.old) (tree_in (work_of book.old)) number (work_of book.old).level g →
+        LeadsTo (work_of book.old).level number g (painted (work_of book.old).level g w c.0) edits) }
+    ensures sound { IfErr result (λ e. (g : Grid) → 1 ≤ number → HasRegion (told_of book.old) (tree_in (work_of book.old)) number (work_of book.old).level g → IsSound e) }
+    ensures still { IsStill book.old book.new }
+    ensures cause { HasStopCause (W.faults (world_of book.old)) (W.faults (world_of book.new)) result }
+{
+    if number == 0 {
+        return Err(DAMAGED);
+    }
+    let head = book.head();
+    plan_rect(alloc, book, &tree_of(&head), number, head.level, w, c)
 }

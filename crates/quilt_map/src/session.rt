@@ -90,8 +90,12 @@ impl<W: World> Session<W> {
     {
         let _ = rt;
         let _ = gate;
-        let _ = command;
-        Err(Stop::Memory)
+        match command {
+            Command::Publish => self.publish(),
+            Command::Upgrade => self.upgrade(),
+            Command::Revert => self.revert(),
+            _ => self.serve(command),
+        }
     }
 
     /// The next bytes of the input, as the world takes them. 0 says that it has ended.

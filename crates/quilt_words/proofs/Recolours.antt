@@ -1,5 +1,5 @@
 -- The pairs of a recolouring, as the table's arguments read them.
-use Rattle.std.proofs.Common.{◌≡◌, ℕ, zero, suc, ◌+◌, ◌-◌, ◌*◌, ◌/◌, ◌<◌, true, false, List, [], ◌∷◌, ◌++◌, length, map, drop, get_or, append_assoc, drop-cons, flat_map, Option, Some, None, Result, Ok, Err, option_map, refl, sym, ◌∙◌, ap, arith}
+use Rattle.std.proofs.Common.{◌≡◌, ℕ, zero, suc, ◌+◌, ◌-◌, ◌*◌, ◌/◌, ◌<◌, true, List, [], ◌∷◌, ◌++◌, length, map, drop, get_or, append_assoc, drop-cons, flat_map, Option, Some, None, Result, Ok, Err, option_map, refl, sym, ◌∙◌, ap, arith}
 use Rattle.std.specs.List.{range_with_len}
 use Rattle.quilt_types.specs.declared.plane.Colour.{Colour}
 use Rattle.quilt_types.specs.declared.code.Code.{Code}

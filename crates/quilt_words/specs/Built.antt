@@ -5,7 +5,22 @@ use Rattle.std.specs.Str.{bytes_eq}
 
 -- a word for each command that is built
 unfoldable pub built : List (List ℕ)
-built = codes "region" ∷ codes "set" ∷ codes "at" ∷ codes "show" ∷ codes "edition" ∷ []
+built =
+    codes "region"
+    ∷ codes "drop"
+    ∷ codes "copy"
+    ∷ codes "layers"
+    ∷ codes "records"
+    ∷ codes "set"
+    ∷ codes "rect"
+    ∷ codes "at"
+    ∷ codes "show"
+    ∷ codes "leaves"
+    ∷ codes "edition"
+    ∷ codes "publish"
+    ∷ codes "upgrade"
+    ∷ codes "revert"
+    ∷ []
 
 abbrev pub is_built : List ℕ → Bool
 is_built word = list_any (λ w. bytes_eq w word) built

@@ -239,10 +239,19 @@ impl Word {
         matches!(
             self,
             Word::Map(MapWord::Region)
+                | Word::Map(MapWord::Drop)
+                | Word::Map(MapWord::Copy)
+                | Word::Map(MapWord::Layers)
+                | Word::Map(MapWord::Records)
                 | Word::Region(RegionWord::Set)
+                | Word::Region(RegionWord::Rect)
                 | Word::Region(RegionWord::At)
                 | Word::Region(RegionWord::Show)
+                | Word::Region(RegionWord::Leaves)
                 | Word::Map(MapWord::Edition)
+                | Word::Map(MapWord::Publish)
+                | Word::Map(MapWord::Upgrade)
+                | Word::Map(MapWord::Revert)
         )
     }
 }

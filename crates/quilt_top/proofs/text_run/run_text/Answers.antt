@@ -9,6 +9,8 @@ use Rattle.quilt_top.proofs.Said.{either_way, if_err_const, if_ok_both, ok_at, e
 use Rattle.quilt_top.proofs.Runs.{reading_first, runs_quiet, goes_took, goes_fed, goes_runs, goes_past, goes_stopped, goes_stopped_end, goes_ended, runs_answered, reading_answered, goes_left, goes_right}
 use Rattle.quilt_map.proofs.TextLaws.{whole_empty}
 use Rattle.quilt_map.proofs.Laws.{at_level}
+use Rattle.quilt_types.specs.declared.stop.Stop.TheVariants as stops
+use Rattle.quilt_top.specs.declared.halt.Halt.TheVariants as halts
 use Rattle.quilt_top.proofs.text_run.run_text.Goals as goal
 
 pub pieces-init : goal.pieces-init
@@ -117,3 +119,10 @@ returns-clause-whole g c =
     let ended = goes_ended _ _ (at_level c.args.session.now s at) _ _ _ _ _ _ _ so.2 (rw c.if-n-eq0.true at c.in_ok-n.ensures.took) in
     let next = all.0 so.0 (c.take.ensures.at so.0 so.1) in
     goes_right _ _ _ _ (runs_answered _ _ (at_level c.args.session.now s at) _ _ _ _ _ _ _ _ _ _ c.pieces.invariant.few ended next.2 all.1)) (if_ok_both _ _ _ ok none)
+
+pub returns-in_err-all_done-clause-damaged : goal.returns-in_err-all_done-clause-damaged
+unfolding IsAt
+returns-in_err-all_done-clause-damaged g c =
+    let bad : (page : ℕ) → c.in_err-all_done.field-0.0 ≡ halts.Stopped (stops.Damaged page) → (s : State) → IsAt c.args.session.now s → ⊥ = λ page is s at.
+    let so = c.pieces.invariant.tale s at in c.in_err-all_done.ensures.damaged page is so.0 (c.take.ensures.at so.0 so.1) in
+    search (rules, bad)

@@ -1,5 +1,5 @@
 use Rattle.std.proofs.lemmas.Result.{IfOk-weaker}
-use Rattle.quilt_map.proofs.Refusals.{told, refused}
+use Rattle.quilt_map.proofs.RefusalTexts.{told, refused}
 use Rattle.quilt_map.proofs.reply.Reply.into_text.Goals as goal
 
 pub returns-in-No-clause-told : goal.returns-in-No-clause-told

@@ -1,0 +1,224 @@
+-- What the contracts of commands say of all commands.
+use Rattle.std.proofs.Common.{◌≡◌, ◌⊎◌, inl, inr, ⊎_elim, ℕ, ◌+◌, ◌*◌, ◌<◌, ◌≤◌, Bool, true, false, List, [], ◌∷◌, Option, Some, None, is_some, Result, Ok, Err, IfOk, IfErr, OnOk, refl, sym, ◌∙◌, ap, subst}
+use Rattle.std.specs.List.{list_all}
+use Rattle.std.proofs.lemmas.Bool.{and_parts}
+use Rattle.quilt_types.specs.declared.code.Code.{Code}
+use Rattle.quilt_types.specs.declared.stop.Stop.{Stop}
+use Rattle.quilt_types.specs.declared.stop.Stop.TheVariants as stops
+use Rattle.quilt_types.specs.Layers.{Edition, colours}
+use Rattle.quilt_world.specs.Added.{AddsOnly, Only, is_of_pages, is_write}
+use Rattle.quilt_world.specs.Disk.{Pages}
+use Rattle.quilt_world.specs.Home.{home}
+use Rattle.quilt_world.specs.Stops.{LeavesNow}
+use Rattle.quilt_world.specs.declared.event.Event.{Event}
+use Rattle.quilt_world.specs.declared.event.Event.TheVariants as event
+use Rattle.quilt_world.specs.Causes.{Rose}
+use Rattle.quilt_world.specs.Tale.{Tale, IsConsistent, Goes}
+use Rattle.quilt_world.specs.declared.disk.Disk as disk
+use Rattle.quilt_world.proofs.StopLaws.{since_weaker}
+use Rattle.quilt_words.specs.Forms.{Spelled}
+use Rattle.quilt_words.specs.declared.command.Command.{Command}
+use Rattle.quilt_words.specs.declared.command.Command.TheVariants as commands
+use Rattle.quilt_journal.specs.Kept.{HasHome}
+use Rattle.quilt_journal.specs.Writing.{Writing}
+use Rattle.quilt_btree.specs.Stops.{HasStopCause, IsSound}
+use Rattle.quilt_edition.specs.Books as books
+use Rattle.quilt_edition.specs.Keeping.{IsLater}
+use Rattle.quilt_edition.proofs.Steps.{seen_home}
+use Rattle.quilt_node.specs.declared.head.Head.{Head}
+use Rattle.quilt_map.specs.Answers.{State, Refused, answer}
+use Rattle.quilt_map.specs.Commanding.{Answered}
+use Rattle.quilt_map.specs.Sessions.{IsAt, IsAtState, IsPublishedAs, world_of, level_of, changes_of}
+use Rattle.quilt_map.specs.States.{Tells, IsRefusal, after}
+use Rattle.quilt_map.specs.Steps.{Leaves, StandsFor, WritesFew, changes_after, gives_edition, is_revert}
+use Rattle.quilt_map.specs.declared.reply.Reply.{Reply}
+use Rattle.quilt_map.specs.declared.reply.Reply.TheVariants as given
+use Rattle.quilt_map.specs.declared.session.Session.{Session}
+use Rattle.quilt_map.proofs.Answered.{format_is}
+use Rattle.quilt_map.proofs.Built.{IsColoured, spelled_coloured}
+use Rattle.quilt_map.proofs.Keeping.{book_idle, book_leaves, book_stands}
+use Rattle.quilt_map.proofs.Orderly.{quiet_none, refused_after}
+
+goes_map : (R S : Tale → Tale → Type 0) (a b : Option Tale) → ((t u : Tale) → a ≡ Some t → R t u → S t u) → Goes R a b → Goes S a b
+goes_map R S None None f g = tt
+goes_map R S None (Some u) f g = absurd g
+goes_map R S (Some t) None f g = absurd g
+goes_map R S (Some t) (Some u) f g = f t u refl g
+
+write_of_pages : (e : Event) → is_write e ≡ true → is_of_pages e ≡ true
+write_of_pages (event.Took bytes) is = absurd (cc)
+write_of_pages (event.Put bytes) is = absurd (cc)
+write_of_pages (event.Wrote page bytes) is = refl
+write_of_pages (event.Tore page) is = refl
+write_of_pages event.Synced is = refl
+
+only_pages : (added : List Event) → Only is_write added → Only is_of_pages added
+only_pages [] only = refl
+only_pages (e ∷ es) only = let parts = and_parts (is_write e) (list_all is_write es) only in rw (write_of_pages e parts.0) (only_pages es parts.1)
+
+damaged_of : {T : Type 0} (At : State → Type 0) (r : Result T Stop) → IfErr r (λ e. (s : State) → At s → IsSound e) → IfErr r (λ stop. (page : ℕ) → stop ≡ stops.Damaged page → (s : State) → At s → ⊥)
+damaged_of At (Ok x) h = tt
+damaged_of At (Err e) h = λ page is s at. h s at page is
+
+device_of : {T : Type 0} (before now : ℕ) (r : Result T Stop) → HasStopCause before now r → IfErr r (λ stop. stop ≡ stops.Device → Rose before now)
+device_of before now (Ok x) h = tt
+device_of before now (Err e) h = λ is. h.device (ap Err is)
+
+pub quiet_revert : (c : Command) → c ≡ commands.Revert → gives_edition c ≡ false
+quiet_revert c is = ap gives_edition is
+
+pub quiet_else : (c : Command) → (c ≡ commands.Publish → ⊥) → (c ≡ commands.Upgrade → ⊥) → gives_edition c ≡ false
+quiet_else commands.Publish publish upgrade = absurd (publish refl)
+quiet_else commands.Upgrade publish upgrade = absurd (upgrade refl)
+quiet_else c publish upgrade = refl
+
+pub forward_else : (c : Command) → (c ≡ commands.Revert → ⊥) → is_revert c ≡ false
+forward_else commands.Revert revert = absurd (revert refl)
+forward_else c revert = refl
+
+pub not_publish : (c : Command) → gives_edition c ≡ false → c ≡ commands.Publish → ⊥
+not_publish c quiet is = let no_ : gives_edition commands.Publish ≡ false = subst (λ (x : Command). gives_edition x ≡ false) is quiet in cc
+
+pub not_upgrade : (c : Command) → gives_edition c ≡ false → c ≡ commands.Upgrade → ⊥
+not_upgrade c quiet is = let no_ : gives_edition commands.Upgrade ≡ false = subst (λ (x : Command). gives_edition x ≡ false) is quiet in cc
+
+pub not_revert : (c : Command) → is_revert c ≡ false → c ≡ commands.Revert → ⊥
+not_revert c forward is = let no_ : is_revert commands.Revert ≡ false = subst (λ (x : Command). is_revert x ≡ false) is forward in cc
+
+-- the colour of a command that has one is of the format of the last edition
+module _ {W : Type 0} {D : disk.Ghosts W} where
+  pub colour_of : (old : Session W D) (n : ℕ) (command other : Command) (s : State) → Spelled old.book.work.format n command → command ≡ other → IsAtState old s → IsColoured s.last.format other
+  colour_of old n command other s spelled is at =
+      subst (λ (f : ℕ). IsColoured f other) (format_is old s at) (subst (λ (x : Command). IsColoured old.book.work.format x) is (spelled_coloured old.book.work.format n command spelled))
+
+  module _ (old new : Session W D) (command other : Command) (same : other ≡ command) where
+    abbrev pub Says : Reply → Type 0
+    Says reply = (s : State) → IsAtState old s → Answered s other old new reply
+
+    pub answer_of : (r : Result Reply Stop) → IfOk r Says → IfOk r (λ reply. (s : State) → IsAt old s → Tells reply (answer s command).reply × IsAt new (after s command))
+    unfolding IsAt
+    answer_of (Err e) h = tt
+    answer_of (Ok reply) h = λ s at. let a = subst (λ (x : Command). Answered s x old new reply) same (h s at) in (a.tells, a.at)
+
+    pub changes_are : (r : Result Reply Stop) → IfOk r Says → IfOk r (λ reply. (s : State) → IsAt old s → changes_of new ≡ changes_after s command (changes_of old))
+    unfolding IsAt changes_of
+    changes_are (Err e) h = tt
+    changes_are (Ok reply) h = λ s at. let a = subst (λ (x : Command). Answered s x old new reply) same (h s at) in a.count
+
+    pub refused_keeps : (r : Result Reply Stop) → IfOk r Says → IfOk r (λ reply. IsRefusal reply → (s : State) → IsAt old s → IsAt new s)
+    unfolding IsAt
+    refused_keeps (Err e) h = tt
+    refused_keeps (Ok (given.Ok text)) h = λ no_. absurd no_
+    refused_keeps (Ok (given.No code)) h = λ refused s at.
+        let a = subst (λ (x : Command). Answered s x old new (given.No code)) same (h s at) in
+        subst (λ (x : State). IsAtState new x) (refused_after s command code a.tells) a.at
+
+  -- ---- a book that goes on
+  module _ (old new : Session W D) (goes : books.GoesOn old.book new.book) where
+    level_on : level_of new ≡ level_of old
+    unfolding level_of
+    level_on = ap (λ (h : Head). h.level) goes.2
+
+    pub door_on : D.door (world_of new) ≡ D.door (world_of old)
+    unfolding world_of
+    door_on = goes.3
+
+    pub events_on : Goes (AddsOnly is_of_pages) (D.told (world_of old)) (D.told (world_of new))
+    unfolding world_of
+    events_on =
+        goes_map (IsLater old.book.journal.pages) (AddsOnly is_of_pages) (D.told old.book.world) (D.told new.book.world)
+        (λ t u is l. record { file = l.tries.file; events = l.tries.added; log = l.tries.log; only = only_pages l.tries.added l.tries.only }) goes.4
+
+    pub input_on : Goes (λ old new. new.input ≡ old.input) (D.told (world_of old)) (D.told (world_of new))
+    unfolding world_of
+    input_on = goes_map (IsLater old.book.journal.pages) (λ t u. u.input ≡ t.input) (D.told old.book.world) (D.told new.book.world) (λ t u is l. l.tries.input) goes.4
+
+    leaves_from : (command : Command) (s : State) → IsAtState old s → (t u : Tale) → D.told old.book.world ≡ Some t → IsLater old.book.journal.pages t u → Leaves s command t u
+    leaves_from command s at t u told later =
+        let n = old.book.journal.pages in
+        let same : at.tale ≡ t = let e : Some at.tale ≡ Some t = sym at.told ∙ told in cc in
+        let law = subst (λ (x : Tale). IsConsistent x) same at.lawful in
+        let last = subst (λ (x : Tale). IsPublishedAs old.book x old.last s.last) same at.last in
+        let home_is = seen_home n old.book.journal.changed t law (book_idle old.book t told at.ready).work.idle in
+        let stays = later.stays (subst (λ (p : Pages). LeavesNow t (HasHome n p)) (sym home_is) (book_leaves old.book t told at.ready)) in
+        record {
+          since = since_weaker t u (HasHome n (home t.seen n)) (StandsFor s command) stays
+              (λ image has. inl (book_stands old.book t told at.ready old.last s.last image last (subst (λ (p : Pages). HasHome n p image) home_is has)));
+        }
+
+    pub leaves_on : (command : Command) (s : State) → IsAt old s → Goes (Leaves s command) (D.told (world_of old)) (D.told (world_of new))
+    unfolding IsAt world_of
+    leaves_on command s at = goes_map (IsLater old.book.journal.pages) (Leaves s command) (D.told old.book.world) (D.told new.book.world) (λ t u is l. leaves_from command s at t u is l) goes.4
+
+    pub few_on : (command : Command) → gives_edition command ≡ false → (s : State) → Goes (WritesFew s command (changes_of old)) (D.told (world_of old)) (D.told (world_of new))
+    unfolding world_of changes_of
+    few_on command quiet s =
+        goes_map (IsLater old.book.journal.pages) (WritesFew s command old.changes) (D.told old.book.world) (D.told new.book.world)
+        (λ t u is l some. absurd (let no_ : false ≡ true = sym (ap (λ (o : Option Edition). is_some o) (quiet_none s command quiet)) ∙ some in cc)) goes.4
+
+-- ---- a session that may give an edition
+abbrev pub WritesPages : Option Tale → Option Tale → Type 0
+WritesPages a b = Goes (λ old new. (most : ℕ) × Writing most old new) a b
+
+writing_events : (a b : Option Tale) → WritesPages a b → Goes (AddsOnly is_of_pages) a b
+writing_events a b w = goes_map (λ old new. (most : ℕ) × Writing most old new) (AddsOnly is_of_pages) a b (λ t u is x. record { file = x.1.file; events = x.1.added; log = x.1.log; only = x.1.only }) w
+
+writing_input : (a b : Option Tale) → WritesPages a b → Goes (λ old new. new.input ≡ old.input) a b
+writing_input a b w = goes_map (λ old new. (most : ℕ) × Writing most old new) (λ t u. u.input ≡ t.input) a b (λ t u is x. x.1.input) w
+
+writing_few : (a b : Option Tale) (s : State) (command : Command) (k : ℕ) → Goes (Writing (18 * k + 8)) a b → Goes (WritesFew s command k) a b
+writing_few a b s command k w = goes_map (Writing (18 * k + 8)) (WritesFew s command k) a b (λ t u is x some. x) w
+
+on_ok : {T E : Type 0} (P : Type 0) (r : Result T E) → P → OnOk r P
+on_ok P (Ok x) h = h
+on_ok P (Err e) h = tt
+
+sound_at : {T : Type 0} (At : State → Type 0) (r : Result T Stop) → IfErr r IsSound → IfErr r (λ e. (s : State) → At s → IsSound e)
+sound_at At (Ok x) h = tt
+sound_at At (Err e) h = λ s at. h
+
+module _ {W : Type 0} {D : disk.Ghosts W} (old new : Session W D) where
+  pub later_at : {T : Type 0} (r : Result T Stop) → HasStopCause (D.faults old.book.world) (D.faults new.book.world) r → D.faults (world_of old) ≤ D.faults (world_of new)
+  unfolding world_of
+  later_at r h = h.later
+
+  pub device_at : {T : Type 0} (r : Result T Stop) → HasStopCause (D.faults old.book.world) (D.faults new.book.world) r
+      → IfErr r (λ stop. stop ≡ stops.Device → Rose (D.faults (world_of old)) (D.faults (world_of new)))
+  unfolding world_of
+  device_at r h = device_of (D.faults old.book.world) (D.faults new.book.world) r h
+
+  pub damaged_at : {T : Type 0} (r : Result T Stop) → IfErr r (λ e. (s : State) → IsAtState old s → IsSound e)
+      → IfErr r (λ stop. (page : ℕ) → stop ≡ stops.Damaged page → (s : State) → IsAt old s → ⊥)
+  unfolding IsAt
+  damaged_at r h = damaged_of (IsAtState old) r h
+
+  pub damaged_by : {T : Type 0} (r : Result T Stop) → IfErr r IsSound → IfErr r (λ stop. (page : ℕ) → stop ≡ stops.Damaged page → (s : State) → IsAt old s → ⊥)
+  damaged_by r h = damaged_at r (sound_at (IsAtState old) r h)
+
+  pub level_at : {T : Type 0} (r : Result T Stop) → OnOk r (new.book.last.level ≡ old.book.last.level) → OnOk r (level_of new ≡ level_of old)
+  unfolding level_of
+  level_at r h = h
+
+  pub level_going : {T : Type 0} (r : Result T Stop) → books.GoesOn old.book new.book → OnOk r (level_of new ≡ level_of old)
+  level_going r goes = on_ok (level_of new ≡ level_of old) r (level_on old new goes)
+
+  pub door_at : D.door new.book.world ≡ D.door old.book.world → D.door (world_of new) ≡ D.door (world_of old)
+  unfolding world_of
+  door_at h = h
+
+  pub events_at : WritesPages (D.told old.book.world) (D.told new.book.world) → Goes (AddsOnly is_of_pages) (D.told (world_of old)) (D.told (world_of new))
+  unfolding world_of
+  events_at h = writing_events (D.told old.book.world) (D.told new.book.world) h
+
+  pub input_at : WritesPages (D.told old.book.world) (D.told new.book.world) → Goes (λ old new. new.input ≡ old.input) (D.told (world_of old)) (D.told (world_of new))
+  unfolding world_of
+  input_at h = writing_input (D.told old.book.world) (D.told new.book.world) h
+
+  module _ (command other : Command) (same : other ≡ command) where
+    pub leaves_at : ((s : State) → IsAtState old s → Goes (Leaves s other) (D.told old.book.world) (D.told new.book.world)) → (s : State) → IsAt old s → Goes (Leaves s command) (D.told (world_of old)) (D.told (world_of new))
+    unfolding IsAt world_of
+    leaves_at h s at = subst (λ (c : Command). Goes (Leaves s c) (D.told old.book.world) (D.told new.book.world)) same (h s at)
+
+    pub few_at : ((s : State) → IsAtState old s → Goes (Writing (18 * old.changes + 8)) (D.told old.book.world) (D.told new.book.world)) → (s : State) → IsAt old s → Goes (WritesFew s command (changes_of old)) (D.told (world_of old)) (D.told (world_of new))
+    unfolding IsAt world_of changes_of
+    few_at h s at = writing_few (D.told old.book.world) (D.told new.book.world) s command old.changes (h s at)

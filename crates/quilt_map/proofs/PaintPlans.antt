@@ -1,0 +1,200 @@
+-- A region layer that is painted, as a plan of the work, and what its command is answered.
+use Rattle.std.specs.Prelude.{if◌then◌else◌}
+use Rattle.std.proofs.Common.{◌≡◌, ◌⊎◌, ⊎_elim, ℕ, ◌+◌, ◌<◌, ◌≤◌, min, nat_lt, nat_le, Bool, true, false, ◌&&◌, ◌||◌, not, List, [], ◌∷◌, Option, Some, None, is_some, refl, sym, ◌∙◌, ap, subst, arith}
+use Rattle.std.proofs.lemmas.Bool.{cases_lt, lt-ltb, le-ltb, lt-leb, le-leb}
+use Rattle.std.specs.FinMap as finmap
+use Rattle.quilt_types.specs.Algebra.{painted}
+use Rattle.quilt_types.specs.Facts.{changes}
+use Rattle.quilt_types.specs.Layers.{Layer, Map, Region, Grid, IsGrid, colours}
+use Rattle.quilt_types.specs.Plane.{side, is_pixel, is_window}
+use Rattle.quilt_types.specs.declared.code.Code.{Code}
+use Rattle.quilt_types.specs.declared.code.Code.TheVariants as no
+use Rattle.quilt_types.specs.declared.plane.Colour.{Colour}
+use Rattle.quilt_types.specs.declared.plane.Pixel.{Pixel}
+use Rattle.quilt_types.specs.declared.plane.Window.{Window}
+use Rattle.quilt_world.specs.declared.disk.Disk as disk
+use Rattle.quilt_words.specs.declared.command.Command.TheVariants as commands
+use Rattle.quilt_record.specs.declared.edits.Edits.{Edits}
+use Rattle.quilt_record.specs.declared.entry.Entry.{Entry}
+use Rattle.quilt_record.specs.declared.record.Record.{Record}
+use Rattle.quilt_record.specs.Records.{Numbering}
+use Rattle.quilt_spell.specs.Catalogued.{IsCatalogOf}
+use Rattle.quilt_spell.specs.Changing.{IsKept, with_layer, with_number}
+use Rattle.quilt_spell.specs.Changing as changing
+use Rattle.quilt_spell.specs.Stepping.{IsPlaced}
+use Rattle.quilt_spell.specs.Written.{number_of}
+use Rattle.quilt_region.specs.Plans.{LeadsTo}
+use Rattle.quilt_region.specs.Regions.{HasRegion}
+use Rattle.quilt_region.proofs.GridsFit.{fits_law}
+use Rattle.quilt_region.proofs.RegionLaws.{changes_law}
+use Rattle.quilt_edition.specs.declared.book.Book.{Book}
+use Rattle.quilt_map.specs.Answers.{State, Outcome, Refused, Done, answer, unless, unknown, unless_region, outside, window_outside, full, changed, with, grid, grid_in}
+use Rattle.quilt_map.specs.Asking.{IsRegionAt, IsRefusedFirst, IsStill}
+use Rattle.quilt_map.specs.Commanding.{Answered}
+use Rattle.quilt_map.specs.Making.{AnsweredBy, placed}
+use Rattle.quilt_map.specs.Painting.{IsRegionIn}
+use Rattle.quilt_map.specs.Planning.{IsPlan, HasLayer, IsFull}
+use Rattle.quilt_map.specs.Runs.{text_of}
+use Rattle.quilt_map.specs.Sessions.{IsAtState, told_of, tree_in, last_count}
+use Rattle.quilt_map.specs.States.{Tells, after_outcome}
+use Rattle.quilt_map.specs.declared.reply.Reply as replies
+use Rattle.quilt_map.specs.declared.reply.Reply.TheVariants as given
+use Rattle.quilt_map.specs.declared.session.Session.{Session}
+use Rattle.quilt_map.proofs.Answered.{has_region, level_is, keeps_at}
+use Rattle.quilt_map.proofs.Asked.{layer_is}
+use Rattle.quilt_map.proofs.Catalogs.{catalog_stays}
+use Rattle.quilt_map.proofs.ChangeSteps.{at_most, at_spelled}
+use Rattle.quilt_map.proofs.Moving.{IsLawful, with_book}
+use Rattle.quilt_map.proofs.Outcomes.{nothing_done}
+use Rattle.quilt_map.proofs.Placing.{placed_within, full_answer, answered_by}
+use Rattle.quilt_map.proofs.Tests.{region_refused, region_passes, first_true, first_false}
+
+-- the layer that was found, under each numbering that the entries give
+pub region_in : (layers : Map) (numbers : Numbering) (es entries : List Entry) (name : List ℕ) (number : ℕ) → es ≡ entries → IsCatalogOf layers numbers entries
+    → ((m : Map) (k : Numbering) → IsCatalogOf m k es → IsRegionAt m k name number) → (g : Grid) × IsRegionIn layers entries name number g
+region_in layers numbers es entries name number same catalog found =
+    let under = λ (k : Numbering) (c : IsCatalogOf layers k entries). found layers k (subst (IsCatalogOf layers k) (sym same) c) in
+    let first = under numbers catalog in
+    (first.grid, record { got = first.got; numbered = λ k c. (under k c).numbered })
+
+-- ---- the plan
+module _ {W : Type 0} {D : disk.Ghosts W} (session : Session W D) (s : State) (at : IsAtState session s) (name : List ℕ) (number : ℕ) (g : Grid) (is : IsRegionIn s.work session.catalog name number g) where
+  here : number ≡ number_of at.work.numbers name
+  here = is.numbered at.work.numbers at.work.catalog
+
+  pub as_region : IsRegionAt s.work at.work.numbers name number
+  as_region = record { grid = g; got = is.got; numbered = here }
+
+  pub region_there : HasRegion (told_of session.book) (tree_in session.book.work) number session.book.work.level g
+  unfolding as_region
+  region_there = has_region {D = D} session s at name number as_region
+
+  -- a region layer becomes one with a window painted
+  pub paint_plan : (w : Window) (c : ℕ) (edits : Edits) (removed added : List Record) → removed ≡ edits.remove → added ≡ edits.add → c < colours s.last.format
+      → LeadsTo s.last.level number g (painted s.last.level g w c) edits → IsPlan s at.work.numbers name number (Some (Region (painted s.last.level g w c))) removed added
+  paint_plan w c edits removed added go come low leads =
+      let n = s.last.level in
+      let form = s.last.format in
+      let next : Option Layer = Some (Region (painted n g w c)) in
+      let most = at_most {D = D} session s at in
+      let old : IsGrid form n g = layer_is form n s.work (at_spelled {D = D} session s at).map name (Region g) is.got in
+      let new : IsGrid form n (painted n g w c) = fits_law.painted_fits form n g w c old low in
+      let plan = changes_law form n name number g (painted n g w c) edits most old new leads in
+      let planned : IsPlan s at.work.numbers name number next edits.remove edits.add = record {
+        step = record {
+          fits = new;
+          kept = subst (λ (o : Option Layer). IsKept o next) (sym is.got) refl;
+          placed = subst (λ (o : Option Layer). IsPlaced s.work at.work.numbers name number o) (sym is.got) here;
+          leads = subst (λ (o : Option Layer). changing.LeadsTo n name number o next edits.remove edits.add) (sym is.got) plan.leads;
+        };
+        some = λ e none. some_none (Region (painted n g w c)) none;
+        removed_ascend = plan.removed_ascend;
+        added_ascend = plan.added_ascend;
+      } in
+      subst (λ (rs : List Record). IsPlan s at.work.numbers name number next rs added) (sym go)
+      (subst (λ (rs : List Record). IsPlan s at.work.numbers name number next edits.remove rs) (sym come) planned)
+    where
+      some_none : (l : Layer) → Some l ≡ None → ⊥
+      some_none l e = cc
+
+  -- the entries stay
+  pub paint_catalog : (h : Grid) (entries : List Entry) → entries ≡ session.catalog → IsCatalogOf (with_layer s.work name (Some (Region h))) (with_number at.work.numbers name number (Some (Region h))) entries
+  paint_catalog h entries same =
+      subst (IsCatalogOf (with_layer s.work name (Some (Region h))) (with_number at.work.numbers name number (Some (Region h)))) (sym same)
+      (catalog_stays s.work at.work.numbers session.catalog at.work.catalog name (Region g) (Region h) number is.got refl (sym here))
+
+-- ---- once the layer was read
+module _ {W : Type 0} {D : disk.Ghosts W} (old : Session W D) (s : State) (at : IsAtState old s) (b : Book W D) (still : IsStill old.book b) (law : IsLawful (D.size b.world) (D.told b.world)) where
+  pub mid_at : IsAtState (with_book old b) s
+  mid_at = keeps_at {D = D} old b old.warm s still law at
+
+  pub mid_plan : (name : List ℕ) (number : ℕ) (g : Grid) → IsRegionIn s.work old.catalog name number g → (w : Window) (c : ℕ) → c < colours s.last.format
+      → (edits : Edits) (removed added : List Record) → removed ≡ edits.remove → added ≡ edits.add
+      → ((h : Grid) → HasRegion (told_of old.book) (tree_in old.book.work) number old.book.work.level h → LeadsTo old.book.work.level number h (painted old.book.work.level h w c) edits)
+      → IsPlan s mid_at.work.numbers name number (Some (Region (painted s.last.level g w c))) removed added
+  mid_plan name number g is w c low edits removed added go come leads =
+      let led = subst (λ (k : ℕ). LeadsTo k number g (painted k g w c) edits) (level_is {D = D} old s at) (leads g (region_there {D = D} old s at name number g is)) in
+      paint_plan {D = D} (with_book old b) s mid_at name number g is w c edits removed added go come low led
+
+module _ {W : Type 0} {D : disk.Ghosts W} where
+  -- the layer stands, and the entries are as they were
+  pub painted_answer : (old mid new : Session W D) (s : State) (name : List ℕ) (layer : Layer) (text : List ℕ) → mid.changes ≡ old.changes → HasLayer mid new s name (Some layer) new.catalog
+      → text ≡ text_of (Done []) → AnsweredBy s (placed s name layer) old new (given.Ok text)
+  painted_answer old mid new s name layer text same has told =
+      subst (λ (o : Outcome). AnsweredBy s o old new (given.Ok text)) (sym (placed_within s name layer has.within)) (record {
+        tells = (told, refl);
+        at = has.at;
+        count = has.count ∙ ap (λ k. min (k + changes s.last.level s.work (with_layer s.work name (Some layer))) last_count) same;
+      })
+
+  -- the quota refuses
+  pub painted_full : (old mid new : Session W D) (s : State) (name : List ℕ) (layer : Layer) → mid.changes ≡ old.changes → IsAtState mid s → IsFull mid new s name (Some layer)
+      → AnsweredBy s (placed s name layer) old new (given.No no.Full)
+  painted_full old mid new s name layer same was is =
+      let by = full_answer {D = D} mid new s name layer was is in record {
+        tells = by.tells;
+        at = by.at;
+        count = by.count ∙ ap (λ k. min (k + changes s.last.level s.work (placed s name layer).work) last_count) same;
+      }
+
+-- ---- what the definition answers
+abbrev by_quota : State → Map → Bool → Outcome
+by_quota s work b = unless ((b, no.Full) ∷ []) s (changed work)
+
+none_published : (s : State) (work : Map) (b : Bool) → (by_quota s work b).published ≡ None
+none_published s work true = refl
+none_published s work false = refl
+
+module _ (s : State) (a : List ℕ) (w : Window) (c : Colour) where
+  work_then : Map
+  work_then = with s a (Region (painted s.last.level (grid s a) w c.0))
+
+  pub rect_refused : (code : Code) → IsRefusedFirst s a code → answer s (commands.Rect a w c) ≡ nothing_done s (Refused code)
+  unfolding answer work_then
+  rect_refused code first = region_refused s a code first (window_outside s w ∷ full s work_then ∷ []) (changed work_then)
+
+  module _ (g : Grid) (got : finmap.get s.work a ≡ Some (Region g)) where
+    rect_tests : answer s (commands.Rect a w c) ≡ unless (window_outside s w ∷ full s work_then ∷ []) s (changed work_then)
+    unfolding answer work_then
+    rect_tests = region_passes s a g (window_outside s w ∷ full s work_then ∷ []) (changed work_then) got
+
+    pub rect_outside : is_window s.last.level w ≡ false → answer s (commands.Rect a w c) ≡ nothing_done s (Refused no.Outside)
+    rect_outside out = rect_tests ∙ first_true (window_outside s w).0 no.Outside (full s work_then ∷ []) s (changed work_then) (ap not out)
+
+    pub rect_done : is_window s.last.level w ≡ true → answer s (commands.Rect a w c) ≡ placed s a (Region (painted s.last.level g w c.0))
+    unfolding work_then
+    rect_done inside =
+        rect_tests ∙ first_false (window_outside s w).0 no.Outside (full s work_then ∷ []) s (changed work_then) (ap not inside)
+        ∙ ap (λ (o : Option Layer). placed s a (Region (painted s.last.level (grid_in o) w c.0))) got
+
+-- the window of one pixel
+abbrev pub pixel_window : Pixel → Window
+pixel_window p = record { x = p.x; y = p.y; w = 1; h = 1 }
+
+lt_le : (a b : ℕ) → nat_lt a b ≡ nat_le (a + 1) b
+lt_le a b = ⊎_elim (λ lt. lt-ltb a b lt ∙ sym (le-leb (a + 1) b (omega arith))) (λ ge. le-ltb a b ge ∙ sym (lt-leb (a + 1) b (omega arith))) (cases_lt a b)
+
+pub pixel_is : (n : ℕ) (p : Pixel) → is_pixel n p ≡ is_window n (pixel_window p)
+pixel_is n p = λ i. lt_le p.x (side n) i && lt_le p.y (side n) i
+
+pub set_as_rect : (s : State) (a : List ℕ) (p : Pixel) (c : Colour) → answer s (commands.Set a p c) ≡ answer s (commands.Rect a (pixel_window p) c)
+unfolding answer
+set_as_rect s a p c =
+    let work = with s a (Region (painted s.last.level (grid s a) (pixel_window p) c.0)) in
+    ap (λ (b : Bool). unless (unknown s a ∷ unless_region s a ∷ (not b, no.Outside) ∷ full s work ∷ []) s (changed work)) (pixel_is s.last.level p)
+
+module _ {W : Type 0} {D : disk.Ghosts W} where
+  pub rect_answered : (old new : Session W D) (s : State) (a : List ℕ) (w : Window) (c : Colour) (g : Grid) (reply : replies.Reply) → finmap.get s.work a ≡ Some (Region g)
+      → is_window s.last.level w ≡ true → AnsweredBy s (placed s a (Region (painted s.last.level g w c.0))) old new reply → Answered s (commands.Rect a w c) old new reply
+  rect_answered old new s a w c g reply got inside by =
+      let layer = Region (painted s.last.level g w c.0) in
+      answered_by {D = D} s (commands.Rect a w c) (placed s a layer) old new reply (rect_done s a w c g got inside) (none_published s (with s a layer) (full s (with s a layer)).0) refl by
+
+  pub set_answered : (old new : Session W D) (s : State) (a : List ℕ) (p : Pixel) (c : Colour) (reply : replies.Reply) → Answered s (commands.Rect a (pixel_window p) c) old new reply
+      → Answered s (commands.Set a p c) old new reply
+  set_answered old new s a p c reply by =
+      let same = sym (set_as_rect s a p c) in record {
+        tells = subst (λ (o : Outcome). Tells reply o.reply) same by.tells;
+        at = subst (λ (o : Outcome). IsAtState new (after_outcome s o)) same by.at;
+        count = by.count ∙ ap (λ (o : Outcome). if is_some o.published || false then 0 else min (old.changes + changes s.last.level s.work o.work) last_count) same;
+      }

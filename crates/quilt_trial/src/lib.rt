@@ -1,0 +1,11 @@
+//! The text of a trial, line by line: commands that a generator of 64 bits draws.
+#![tactic(auto)]
+
+mod drawing;
+mod generator;
+mod trial;
+
+pub use trial::{Trial, trial_text};
+
+#[cfg(test)]
+mod tests;
