@@ -1,34 +1,32 @@
 -- What has to come behind records that begin those of a map of region layers.
-use Rattle.std.proofs.Common.{◌≡◌, ℕ, ◌+◌, ◌*◌, ◌^◌, ◌<◌, ◌≤◌, true, ◌⊎◌, List, [], ◌∷◌, ◌++◌, map, length, take, Some, refl, sym, ◌∙◌, ap, subst, inl, inr, ⊎_elim, arith, Contains, append_assoc, pow_pos, nat_cmp, eqb, ne_eqb, Ordering, Less, Equal}
+use Rattle.std.proofs.Common.{◌≡◌, ℕ, ◌^◌, ◌<◌, ◌≤◌, true, List, [], ◌∷◌, ◌++◌, map, length, Some, refl, sym, ◌∙◌, ap, subst, inl, inr, ⊎_elim, arith, Contains, nat_cmp, eqb, ne_eqb, Less}
 use Rattle.std.specs.Ordering.{is_le}
 use Rattle.std.specs.Cmp.Lexicographic.{slice_cmp, nat_list_cmp_total}
 use Rattle.std.specs.FinMap as finmap
-use Rattle.std.proofs.lemmas.Bool.{cases_lt, cond-false}
+use Rattle.std.proofs.lemmas.Bool.{cond-false}
 use Rattle.std.proofs.lemmas.List.{append-nil}
 use Rattle.std.proofs.lemmas.List.Elements.{All-contains, Contains-append_left, Contains-append_right, Contains-append_cases}
 use Rattle.quilt_types.specs.declared.plane.Block.{Block}
-use Rattle.quilt_types.specs.declared.plane.Pixel.{Pixel}
 use Rattle.quilt_types.specs.declared.plane.Kind.TheVariants as kinds
-use Rattle.quilt_types.specs.Plane.{side, quarters_of, IsBlock}
-use Rattle.quilt_types.specs.Layers.{Layer, Region, Grid, Map, IsGrid, IsLayer, is_name, colours}
+use Rattle.quilt_types.specs.Plane.{quarters_of, IsBlock}
+use Rattle.quilt_types.specs.Layers.{Layer, Region, Grid, Map, IsGrid, is_name}
 use Rattle.quilt_types.specs.Quadtrees.{leaves}
 use Rattle.quilt_types.specs.Facts.{IsOfKind}
 use Rattle.quilt_loc.specs.Codes.{Rises, code_from}
-use Rattle.quilt_loc.proofs.Members.{Contains-nil, Contains-here, Contains-there, Contains-cons_cases, Contains-map, Contains-map_from}
+use Rattle.quilt_loc.proofs.Members.{Contains-nil, Contains-here, Contains-cons_cases, Contains-map, Contains-map_from}
 use Rattle.quilt_loc.proofs.Rising.{nat_less_from}
 use Rattle.quilt_record.specs.declared.record.Record.{Record}
 use Rattle.quilt_record.specs.declared.entry.Entry.{Entry}
-use Rattle.quilt_record.specs.Records.{Numbering, record_of, filled}
+use Rattle.quilt_record.specs.Records.{Numbering, record_of}
 use Rattle.quilt_record.specs.Listing.{IsEntryOf}
 use Rattle.quilt_record.proofs.Names.{entry_name, name_alone}
 use Rattle.quilt_blocks.specs.declared.leaf.Leaf.{Leaf}
 use Rattle.quilt_blocks.specs.Cutting.{leaves_by_code, leaf_cmp}
 use Rattle.quilt_blocks.specs.Walk.{size_of}
-use Rattle.quilt_blocks.specs.Listing.{Follows, IsUnmerged, EndsInQuarters}
+use Rattle.quilt_blocks.specs.Listing.{Follows, EndsInQuarters}
 use Rattle.quilt_blocks.proofs.Chains.{Follows-back, Follows-rises, Follows-member}
 use Rattle.quilt_blocks.proofs.Cuts.{leaves_run, leaves_rise, leaves_members, leaf_is, leaf_total}
 use Rattle.quilt_blocks.proofs.Listed.{some_leaf}
-use Rattle.quilt_blocks.proofs.Merging.{IsUnmerged-less}
 use Rattle.quilt_spell.specs.Spelled.{SpellsUnder}
 use Rattle.quilt_spell.specs.Written.{by_key, number_of}
 use Rattle.quilt_spell.specs.OfLayer.{kind_record, SpellsRegion}
@@ -36,10 +34,10 @@ use Rattle.quilt_spell.proofs.OfLayer.{catalog_each, catalog_only, region_spelle
 use Rattle.quilt_spell.proofs.Maps.{entry_from_get}
 use Rattle.quilt_spell.proofs.Written.{by_key_total, name_same, number_fits, layer_fits, number_in_layer}
 use Rattle.quilt_region.specs.Regions.{leaf_record}
-use Rattle.quilt_region.proofs.Keys.{le_layer, le_code, less_code}
+use Rattle.quilt_region.proofs.Keys.{le_layer, less_code}
 use Rattle.quilt_region.proofs.Records.{leaf_alone}
 use Rattle.quilt_audit.specs.Surveys.{AreRegions}
-use Rattle.quilt_audit.specs.Checking.{entry_record, HasBlocks, AreLaid, IsGoing, IsSoFar, HasBegun}
+use Rattle.quilt_audit.specs.Checking.{entry_record, AreLaid, IsGoing, IsSoFar}
 use Rattle.quilt_audit.proofs.Lists.{begins, last_cases, below_itself, both_below, rises_before, rises_behind}
 use Rattle.quilt_audit.proofs.Laid.{leaves_laid}
 

@@ -1,27 +1,25 @@
 -- Blocks of one layer that come one after another.
-use Rattle.std.proofs.Common.{◌≡◌, ℕ, ◌+◌, ◌*◌, ◌/◌, ◌^◌, ◌<◌, ◌≤◌, Bool, true, false, List, [], ◌∷◌, ◌++◌, map, length, get_or, drop, refl, sym, ◌∙◌, ap, ap₂, subst, inl, inr, ⊎_elim, arith, Contains, append_assoc, eqb}
+use Rattle.std.proofs.Common.{◌≡◌, ℕ, ◌+◌, ◌*◌, ◌/◌, ◌^◌, ◌<◌, ◌≤◌, true, List, [], ◌∷◌, ◌++◌, map, length, get_or, drop, refl, sym, ◌∙◌, ap, subst, ⊎_elim, arith, Contains, append_assoc, eqb}
 use Rattle.std.proofs.lemmas.Bool.{cases_Bool, cases_lt, cond-true, cond-false}
-use Rattle.std.proofs.lemmas.List.{map-append, get_or_past}
-use Rattle.std.proofs.lemmas.List.Elements.{All-contains, Contains-append_left, Contains-append_right}
+use Rattle.std.proofs.lemmas.List.{get_or_past}
 use Rattle.quilt_types.specs.declared.plane.Pixel.{Pixel}
 use Rattle.quilt_types.specs.declared.plane.Block.{Block}
-use Rattle.quilt_types.specs.Plane.{side, corner, quarters_of, parent_of, Holds, IsBlock}
-use Rattle.quilt_types.specs.Layers.{Grid, IsGrid, colours, colour_at}
+use Rattle.quilt_types.specs.Plane.{side, quarters_of, Holds, IsBlock}
+use Rattle.quilt_types.specs.Layers.{Grid, IsGrid, colours}
 use Rattle.quilt_types.specs.Quadtrees.{leaves, is_uniform}
 use Rattle.quilt_loc.specs.Codes.{code_from}
-use Rattle.quilt_loc.proofs.Members.{Contains-nil, Contains-here, Contains-cons_cases, Contains-map, Contains-map_from}
+use Rattle.quilt_loc.proofs.Members.{Contains-nil, Contains-map, Contains-map_from}
 use Rattle.quilt_loc.proofs.Nesting.{side_pos}
 use Rattle.quilt_loc.proofs.Quartered.{quarters_are, side_le}
 use Rattle.quilt_record.specs.declared.record.Record.{Record}
 use Rattle.quilt_blocks.specs.declared.leaf.Leaf.{Leaf}
 use Rattle.quilt_blocks.specs.Cutting.{leaves_by_code, pair_of}
 use Rattle.quilt_blocks.specs.Mosaic.{HasColour}
-use Rattle.quilt_blocks.specs.Walk.{size_of}
-use Rattle.quilt_blocks.specs.Listing.{Follows, IsUnmerged, IsMaking, EndsInQuarters, pairs_of}
-use Rattle.quilt_blocks.proofs.Chains.{size_of-nil, size_of-cons, size_of-append, Follows-append, Follows-member}
+use Rattle.quilt_blocks.specs.Listing.{IsUnmerged, IsMaking, EndsInQuarters, pairs_of}
+use Rattle.quilt_blocks.proofs.Chains.{size_of-nil, size_of-cons, size_of-append}
 use Rattle.quilt_blocks.proofs.Colours.{uniform-from_HasColour, colour_is}
 use Rattle.quilt_blocks.proofs.Cuts.{leaves_run, leaves_members, leaf_is}
-use Rattle.quilt_blocks.proofs.Merging.{IsGrowing-push, IsUnmerged-end, IsUnmerged-less}
+use Rattle.quilt_blocks.proofs.Merging.{IsGrowing-push, IsUnmerged-end}
 use Rattle.quilt_spell.proofs.Spelling.{all_from}
 use Rattle.quilt_region.specs.Regions.{leaf_record}
 use Rattle.quilt_audit.specs.Checking.{HasBlocks, AreLaid, nothing, no_leaves, EndsIn, AreSiblings}

@@ -1,20 +1,18 @@
 -- Records of which all is known spell a map of region layers.
-use Rattle.std.proofs.Common.{◌≡◌, ℕ, suc, ◌+◌, ◌-◌, ◌*◌, ◌^◌, ◌<◌, ◌≤◌, ◌&&◌, Bool, true, false, T, ◌⊎◌, List, [], ◌∷◌, ◌++◌, map, length, get_or, Some, None, refl, sym, ◌∙◌, ap, ap₂, subst, inl, inr, ⊎_elim, arith, Contains, pow_pos, nat_cmp, Ordering, Less}
-use Rattle.std.specs.List.{list_all}
+use Rattle.std.proofs.Common.{◌≡◌, ℕ, suc, ◌-◌, ◌*◌, ◌^◌, ◌<◌, ◌≤◌, ◌&&◌, Bool, true, false, T, List, [], ◌∷◌, map, length, get_or, Some, refl, sym, ◌∙◌, ap, ap₂, subst, ⊎_elim, arith, Contains, pow_pos, nat_cmp, Ordering, Less}
 use Rattle.std.specs.Ordering.{is_lt}
 use Rattle.std.specs.Cmp.Lexicographic.{slice_cmp, nat_list_cmp_total}
 use Rattle.std.specs.FinMap as finmap
 use Rattle.std.specs.FinMap.Entries as sorted
 use Rattle.std.proofs.lemmas.Bool.{cases_lt}
 use Rattle.std.proofs.lemmas.Nat.{mod_below, div_below}
-use Rattle.std.proofs.lemmas.List.{length-map}
 use Rattle.std.proofs.lemmas.List.Elements.{All-from_get_or}
 use Rattle.quilt_types.specs.declared.plane.Block.{Block}
 use Rattle.quilt_types.specs.declared.plane.Pixel.{Pixel}
 use Rattle.quilt_types.specs.declared.plane.Kind.TheVariants as kinds
 use Rattle.quilt_types.specs.Plane.{side, pixel_at}
-use Rattle.quilt_types.specs.Layers.{Layer, Region, Grid, Map, IsGrid, IsLayer, IsMap, is_name, colours}
-use Rattle.quilt_types.specs.Facts.{Fact, IsOfKind, HasColour, facts}
+use Rattle.quilt_types.specs.Layers.{Layer, Region, Map, IsGrid, IsLayer, IsMap, is_name, colours}
+use Rattle.quilt_types.specs.Facts.{Fact, IsOfKind, HasColour}
 use Rattle.quilt_types.specs.Quadtrees.{leaves}
 use Rattle.quilt_loc.specs.Codes.{Rises, code_at}
 use Rattle.quilt_loc.proofs.Members.{Contains-nil, Contains-here, Contains-there, Contains-cons_cases, Contains-map, Contains-map_from, list_all-at}
@@ -27,22 +25,19 @@ use Rattle.quilt_record.proofs.Orders.{is_Less}
 use Rattle.quilt_blocks.specs.declared.leaf.Leaf.{Leaf}
 use Rattle.quilt_blocks.specs.Cutting.{leaves_by_code}
 use Rattle.quilt_blocks.specs.Painting.{colours_of, grid_by_code}
-use Rattle.quilt_blocks.specs.Walk.{size_of}
 use Rattle.quilt_blocks.specs.Listing.{IsListed, grid_from}
 use Rattle.quilt_blocks.proofs.Chains.{length-colours_of, member_with, colour_in}
 use Rattle.quilt_blocks.proofs.Cuts.{leaves_members}
 use Rattle.quilt_blocks.proofs.Listed.{IsListed-made}
 use Rattle.quilt_blocks.proofs.Painting.{code_in}
 use Rattle.quilt_spell.specs.Written.{by_key, number_of, layer_records, IsWritten, IsNumbering}
-use Rattle.quilt_spell.specs.Spelled.{SpellsUnder}
-use Rattle.quilt_spell.specs.Catalogued.{entry_of, IsCatalogOf}
-use Rattle.quilt_spell.proofs.Maps.{by_first, entry_from_get, get_from_entry}
+use Rattle.quilt_spell.specs.Catalogued.{entry_of}
+use Rattle.quilt_spell.proofs.Maps.{entry_from_get, get_from_entry}
 use Rattle.quilt_spell.proofs.Spelling.{all_from}
 use Rattle.quilt_spell.proofs.Written.{name_same, layer_record, layer_record_from, number_at}
 use Rattle.quilt_region.specs.Regions.{leaf_record}
-use Rattle.quilt_audit.specs.Surveys.{AreRegions}
-use Rattle.quilt_audit.specs.Checking.{entry_record, HasBlocks, AreLaid, IsCovered, IsSoFar, IsSpelled}
-use Rattle.quilt_audit.proofs.Laid.{making, few_colours}
+use Rattle.quilt_audit.specs.Checking.{AreLaid, IsCovered, IsSoFar, IsSpelled}
+use Rattle.quilt_audit.proofs.Laid.{making}
 
 -- ---- the grid that blocks paint
 colour_fits : (form n : ℕ) (bs : List (Block × ℕ)) → n ≤ 12 → AreLaid form n (4 ^ n) bs → (p : Pixel) → p.x < side n → p.y < side n → get_or (colours_of bs) (code_at p) 0 < colours form

@@ -1,5 +1,5 @@
 -- What the next record is, or what is there at the end, where the records are those of a map of region layers.
-use Rattle.std.proofs.Common.{◌≡◌, ℕ, ◌+◌, ◌^◌, ◌<◌, ◌≤◌, ◌⊎◌, List, [], ◌∷◌, ◌++◌, refl, sym, ◌∙◌, ap, subst, inl, inr, ⊎_elim, arith, Contains, Less}
+use Rattle.std.proofs.Common.{◌≡◌, ℕ, ◌^◌, ◌<◌, ◌≤◌, ◌⊎◌, List, [], ◌∷◌, ◌++◌, refl, sym, ◌∙◌, ap, subst, inl, inr, ⊎_elim, arith, Contains}
 use Rattle.std.proofs.lemmas.Bool.{cases_lt}
 use Rattle.std.proofs.lemmas.List.{append-nil}
 use Rattle.std.proofs.lemmas.List.Elements.{Contains-append_right}
@@ -7,7 +7,7 @@ use Rattle.quilt_types.specs.declared.plane.Block.{Block}
 use Rattle.quilt_types.specs.declared.plane.Kind.TheVariants as kinds
 use Rattle.quilt_types.specs.Plane.{IsBlock}
 use Rattle.quilt_types.specs.Layers.{Map, colours}
-use Rattle.quilt_loc.specs.Codes.{Rises, code_from}
+use Rattle.quilt_loc.specs.Codes.{code_from}
 use Rattle.quilt_loc.proofs.Members.{Contains-nil, Contains-here, Contains-cons_cases}
 use Rattle.quilt_loc.proofs.Rising.{nat_less_from}
 use Rattle.quilt_record.specs.declared.record.Record.{Record}

@@ -1,5 +1,5 @@
 -- What is known of the records so far after one more.
-use Rattle.std.proofs.Common.{◌≡◌, ℕ, zero, suc, ◌+◌, ◌*◌, ◌^◌, ◌<◌, ◌≤◌, ◌⊎◌, Bool, true, false, List, [], ◌∷◌, ◌++◌, length, refl, sym, ◌∙◌, ap, subst, inl, inr, ⊎_elim, arith, Contains}
+use Rattle.std.proofs.Common.{◌≡◌, ℕ, suc, ◌+◌, ◌*◌, ◌^◌, ◌<◌, ◌≤◌, ◌⊎◌, Bool, true, false, List, [], ◌∷◌, ◌++◌, length, refl, sym, ◌∙◌, ap, subst, inl, inr, ⊎_elim, arith, Contains}
 use Rattle.std.specs.Prelude.{if◌then◌else◌}
 use Rattle.std.specs.Ordering.{is_lt}
 use Rattle.std.proofs.lemmas.Bool.{cases_lt}
@@ -17,7 +17,7 @@ use Rattle.quilt_record.specs.Listing.{IsEntryOf, kind_fact}
 use Rattle.quilt_blocks.specs.declared.leaf.Leaf.{Leaf}
 use Rattle.quilt_blocks.specs.Cutting.{pair_of}
 use Rattle.quilt_region.specs.Regions.{leaf_record}
-use Rattle.quilt_audit.specs.Checking.{entry_record, HasBlocks, AreLaid, IsCovered, IsGoing, no_leaves, AreSiblings, IsSoFar}
+use Rattle.quilt_audit.specs.Checking.{entry_record, AreLaid, IsCovered, no_leaves, AreSiblings, IsSoFar}
 use Rattle.quilt_audit.proofs.Lists.{last_cases, in_front, at_last}
 use Rattle.quilt_audit.proofs.Laid.{HasBlocks-other, HasBlocks-more, HasBlocks-none, EndsIn-more, EndsIn-none, end_siblings, AreLaid-none, AreLaid-more}
 

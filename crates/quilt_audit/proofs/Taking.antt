@@ -1,7 +1,7 @@
 -- What the steps of the checker do and find, over the numbers that it keeps.
-use Rattle.std.proofs.Common.{◌≡◌, ℕ, ◌+◌, ◌*◌, ◌^◌, ◌<◌, ◌≤◌, ◌⊎◌, Bool, true, false, not, List, [], ◌∷◌, ◌++◌, length, get_or, Option, Some, None, refl, sym, ◌∙◌, ap, subst, inl, inr, ⊎_elim, arith, Contains, append_assoc, length-append}
+use Rattle.std.proofs.Common.{◌≡◌, ℕ, ◌+◌, ◌*◌, ◌<◌, ◌≤◌, ◌⊎◌, Bool, true, false, not, List, [], ◌∷◌, ◌++◌, length, get_or, Option, Some, None, refl, sym, ◌∙◌, ap, subst, ⊎_elim, arith, Contains}
 use Rattle.std.specs.Bool.{OnTrue, OnFalse}
-use Rattle.std.proofs.lemmas.Bool.{cases_Bool, cases_lt}
+use Rattle.std.proofs.lemmas.Bool.{cases_Bool}
 use Rattle.std.proofs.lemmas.List.{append-nil}
 use Rattle.quilt_types.specs.declared.plane.Block.{Block}
 use Rattle.quilt_types.specs.declared.plane.Colour.{Colour}
@@ -11,7 +11,7 @@ use Rattle.quilt_types.specs.Facts.{HasColour}
 use Rattle.quilt_loc.specs.Codes.{Rises, code_from, code_to}
 use Rattle.quilt_record.specs.declared.record.Record.{Record}
 use Rattle.quilt_record.specs.declared.entry.Entry.{Entry}
-use Rattle.quilt_record.specs.Catalogs.{IsCatalog, with_entry}
+use Rattle.quilt_record.specs.Catalogs.{IsCatalog}
 use Rattle.quilt_record.specs.Canonical.{IsRecordOf}
 use Rattle.quilt_record.specs.Listing.{IsEntryOf, KindFits}
 use Rattle.quilt_record.specs.Records.{Numbering}
@@ -23,10 +23,10 @@ use Rattle.quilt_region.specs.Regions.{leaf_record}
 use Rattle.quilt_region.proofs.Records.{leaf_is_record}
 use Rattle.quilt_audit.specs.declared.checker.Checker.{Checker}
 use Rattle.quilt_audit.specs.Surveys.{AreRegions, AreNumbered}
-use Rattle.quilt_audit.specs.Checking.{no_leaves, AreSiblings, EndsIn, IsSoFar, HasBegun, Stops, AreRefused, MayList, IsWhole, IsFed, Takes, IsSpelled}
+use Rattle.quilt_audit.specs.Checking.{AreSiblings, IsSoFar, HasBegun, Stops, MayList, IsWhole, IsFed, IsSpelled}
 use Rattle.quilt_audit.proofs.Lists.{at_last}
 use Rattle.quilt_audit.proofs.Next.{NextEntry, NextBlock, NextLayer, next_entry, next_block, next_layer, next_leaf_code, next_leaf_apart, end_covered, end_listed}
-use Rattle.quilt_audit.proofs.Steps.{IsSoFar-entry, IsSoFar-turn, IsSoFar-leaf, all_covered}
+use Rattle.quilt_audit.proofs.Steps.{IsSoFar-leaf, all_covered}
 use Rattle.quilt_audit.proofs.Making.{is_spelled}
 
 -- ---- a list of three

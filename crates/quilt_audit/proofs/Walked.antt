@@ -1,5 +1,5 @@
 -- Tests of the keys of a page, and the children of one with their bounds.
-use Rattle.std.proofs.Common.{◌≡◌, ℕ, zero, suc, ◌+◌, ◌-◌, ◌<◌, ◌≤◌, Bool, true, false, ◌&&◌, nat_le, nat_lt, List, [], ◌∷◌, ◌++◌, map, length, take, drop, get_or, Option, Some, None, refl, sym, ◌∙◌, ap, ap₂, subst, arith, append_assoc, add-one, slice_index, slice_index_or, ltb-true, cond, eqb, eq-eqb, ⊎_elim, Result, Ok, Err, OnOk, OnErr, IfErr}
+use Rattle.std.proofs.Common.{◌≡◌, ℕ, zero, suc, ◌+◌, ◌-◌, ◌<◌, ◌≤◌, Bool, true, false, ◌&&◌, nat_le, nat_lt, List, [], ◌∷◌, ◌++◌, map, length, take, drop, get_or, Option, Some, None, refl, sym, ◌∙◌, ap, subst, arith, slice_index, slice_index_or, ltb-true, cond, eqb, eq-eqb, ⊎_elim, Result, Ok, Err, OnOk, OnErr, IfErr}
 use Rattle.std.specs.Prelude.{◌==◌}
 use Rattle.std.specs.List.{list_all, list_any, slice_get, range_with_len}
 use Rattle.std.proofs.lemmas.List.FromFn.{length-range_with_len}
@@ -11,7 +11,7 @@ use Rattle.quilt_record.specs.declared.record.Record.{Record}
 use Rattle.quilt_loc.proofs.Members.{list_all-at, Contains-nil, Contains-cons_cases, Contains-range}
 use Rattle.quilt_node.specs.Nodes.{are_pages}
 use Rattle.quilt_node.specs.Pages.{leaf_of, inner_of}
-use Rattle.quilt_node.specs.Tree.{Bounds, Walk, Whole, Damaged, bounded, behind, and_then, each_child, leaf_walk, inner_walk, walk}
+use Rattle.quilt_node.specs.Tree.{Bounds, Walk, Whole, Damaged, bounded, behind, each_child, leaf_walk, inner_walk, walk}
 use Rattle.quilt_store.specs.Store.{Tells}
 use Rattle.quilt_btree.proofs.Walks.{and_parts, if_true, if_false}
 use Rattle.quilt_btree.proofs.Trees.{nat_le_is}
@@ -20,7 +20,7 @@ use Rattle.quilt_types.specs.declared.stop.Stop.TheVariants.{Device, Memory, Dam
 use Rattle.quilt_audit.specs.Surveys.{OnDamaged}
 use Rattle.quilt_audit.specs.Checking.{Takes}
 use Rattle.quilt_audit.specs.declared.surveying.Surveying.{Surveying}
-use Rattle.quilt_audit.specs.Bits.{has_bit, Marks, AreWithin}
+use Rattle.quilt_audit.specs.Bits.{has_bit, Marks}
 use Rattle.quilt_audit.specs.Walking.{Spent, SpentSome, Added, Found, Reached}
 use Rattle.quilt_spell.proofs.Lists.{Apart-le}
 use Rattle.quilt_spell.proofs.SameFacts.{member_any}

@@ -1,26 +1,24 @@
 -- The whole tree, and what its records spell.
-use Rattle.std.proofs.Common.{◌≡◌, ℕ, zero, suc, ◌+◌, ◌<◌, ◌≤◌, true, false, cond, eqb, List, [], ◌∷◌, ◌++◌, length, replicate, Option, Some, None, refl, sym, ◌∙◌, ap, subst, arith}
+use Rattle.std.proofs.Common.{◌≡◌, ℕ, zero, suc, ◌+◌, ◌<◌, ◌≤◌, true, List, [], length, replicate, Option, Some, None, refl, sym, ◌∙◌, ap, subst, arith}
 use Rattle.quilt_types.specs.Layers.{Map}
 use Rattle.quilt_loc.specs.Codes.{Rises}
 use Rattle.quilt_record.specs.declared.record.Record.{Record}
 use Rattle.quilt_record.specs.declared.entry.Entry.{Entry}
-use Rattle.quilt_record.specs.Records.{Numbering, Spells}
+use Rattle.quilt_record.specs.Records.{Numbering}
 use Rattle.quilt_node.specs.declared.head.Head.{Head}
 use Rattle.quilt_node.specs.Pages.{IsHead}
-use Rattle.quilt_node.specs.Tree.{Walk, Whole, Damaged, walk, walk_of}
+use Rattle.quilt_node.specs.Tree.{Whole, Damaged, walk, walk_of}
 use Rattle.quilt_store.specs.Store.{Tells}
 use Rattle.quilt_btree.specs.declared.tree.Tree.{Tree}
-use Rattle.quilt_btree.specs.Trees.{IsTree}
 use Rattle.quilt_spell.specs.Spelled.{SpellsUnder}
 use Rattle.quilt_spell.specs.Written.{by_key}
 use Rattle.quilt_spell.proofs.Laws.{members}
 use Rattle.quilt_region.proofs.Trees.{tree_rises}
-use Rattle.quilt_audit.specs.declared.checker.Checker.{Checker}
 use Rattle.quilt_audit.specs.declared.surveying.Surveying.{Surveying}
 use Rattle.quilt_audit.specs.Bits.{Marks, AreWithin}
-use Rattle.quilt_audit.specs.Surveys.{first_damaged, AreRegions, IsSurvey, IsDamage, AreNumbered}
+use Rattle.quilt_audit.specs.Surveys.{first_damaged, AreRegions, IsSurvey, IsDamage}
 use Rattle.quilt_audit.specs.Checking.{IsFed, IsSpelled}
-use Rattle.quilt_audit.specs.Walking.{Added, Found, IsWalked}
+use Rattle.quilt_audit.specs.Walking.{Found, IsWalked}
 use Rattle.quilt_audit.proofs.Bits.{Marks-none, AreWithin-none}
 use Rattle.quilt_audit.proofs.Walked.{from_to, spent_few}
 

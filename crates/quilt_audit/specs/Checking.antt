@@ -1,5 +1,5 @@
 -- Records of a map of region layers that come in the order of their keys: what is known of those that have come.
-use Rattle.std.specs.Prelude.{◌≡◌, ◌⊎◌, ℕ, ◌+◌, ◌^◌, ◌<◌, ◌≤◌, Bool, true, false, List, [], ◌∷◌, ◌++◌, map, length, Contains}
+use Rattle.std.specs.Prelude.{◌≡◌, ◌⊎◌, ℕ, ◌+◌, ◌^◌, ◌<◌, ◌≤◌, true, false, List, [], ◌∷◌, ◌++◌, map, length, Contains}
 use Rattle.quilt_types.specs.declared.plane.Block.{Block}
 use Rattle.quilt_types.specs.declared.plane.Kind.TheVariants as kinds
 use Rattle.quilt_types.specs.Plane.{IsBlock, quarters_of}
@@ -9,7 +9,6 @@ use Rattle.quilt_record.specs.declared.record.Record.{Record}
 use Rattle.quilt_record.specs.declared.entry.Entry.{Entry}
 use Rattle.quilt_record.specs.Records.{Numbering, record_of}
 use Rattle.quilt_blocks.specs.declared.leaf.Leaf.{Leaf}
-use Rattle.quilt_blocks.specs.Cutting.{pair_of}
 use Rattle.quilt_blocks.specs.Listing.{Follows, IsUnmerged, pairs_of}
 use Rattle.quilt_blocks.specs.Walk.{size_of}
 use Rattle.quilt_spell.specs.Spelled.{SpellsUnder}

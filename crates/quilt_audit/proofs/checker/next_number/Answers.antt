@@ -1,4 +1,4 @@
-use Rattle.std.proofs.Common.{◌≡◌, ◌≤◌, ◌⊎◌, ◌∙◌, sym, ap, inl, inr, ⊎_elim, arith}
+use Rattle.std.proofs.Common.{◌∙◌, sym, ap, inl, inr, ⊎_elim, arith}
 use Rattle.quilt_record.specs.declared.entry.Entry.{Entry}
 use Rattle.quilt_audit.proofs.Lists.{take_cases, item_there, take_whole}
 use Rattle.quilt_audit.proofs.checker.next_number.Goals as goal

@@ -1,9 +1,8 @@
-use Rattle.std.proofs.Common.{◌≡◌, ℕ, ◌≤◌, ◌&&◌, Bool, map, length, sym, ◌∙◌, arith}
-use Rattle.std.proofs.lemmas.List.{length-map}
+use Rattle.std.proofs.Common.{◌&&◌, Bool, map, sym, ◌∙◌}
 use Rattle.quilt_record.specs.declared.key.Key.{Key}
 use Rattle.quilt_record.specs.declared.record.Record.{Record}
 use Rattle.quilt_node.specs.Tree.{is_above, is_below}
-use Rattle.quilt_audit.proofs.Walked.{all_more, all_stops, all_whole, key_of_record}
+use Rattle.quilt_audit.proofs.Walked.{all_more, all_stops, key_of_record}
 use Rattle.quilt_audit.proofs.reading.leaf_is_within.Goals as goal
 
 pub returns-then-not-is_within : goal.returns-then-not-is_within

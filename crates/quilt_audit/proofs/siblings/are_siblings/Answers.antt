@@ -1,7 +1,6 @@
-use Rattle.std.proofs.Common.{◌≡◌, refl, sym, ◌∙◌}
 use Rattle.quilt_types.specs.declared.plane.Block.{Block}
 use Rattle.quilt_loc.proofs.Blocks.{IsBlock-up}
-use Rattle.quilt_audit.proofs.FourLeaves.{IsParent, parent_is, siblings_from, siblings_small, siblings_are}
+use Rattle.quilt_audit.proofs.FourLeaves.{IsParent, parent_is, siblings_from, siblings_are}
 use Rattle.quilt_audit.proofs.siblings.are_siblings.Goals as goal
 
 found : (c : goal.In-Some) → IsParent c.args.level c.args.d.block c.in-Some.block

@@ -1,7 +1,7 @@
-use Rattle.std.proofs.Common.{◌≡◌, sym, ap, subst}
+use Rattle.std.proofs.Common.{subst}
 use Rattle.quilt_node.specs.Pages.{IsHead}
 use Rattle.quilt_audit.proofs.Walked.{stop_map}
-use Rattle.quilt_audit.proofs.Whole.{survey_from, damage_from, reads_from, damage_at}
+use Rattle.quilt_audit.proofs.Whole.{survey_from, damage_from, damage_at}
 use Rattle.quilt_audit.proofs.survey.audit.Goals as goal
 
 pub returns-in-Err-clause-damaged : goal.returns-in-Err-clause-damaged

@@ -1,6 +1,4 @@
-use Rattle.std.proofs.Common.{◌≡◌, [], refl, ◌∙◌, subst}
-use Rattle.quilt_audit.specs.Bits.{Marks}
-use Rattle.quilt_audit.proofs.Bits.{Marks-none}
+use Rattle.std.proofs.Common.{[], ◌∙◌}
 use Rattle.quilt_audit.proofs.Walked.{stop_map, spent_few}
 use Rattle.quilt_audit.proofs.Whole.{walked_none, walked_root, tree_of_root, unmarked}
 use Rattle.quilt_audit.proofs.survey.survey_tree.Goals as goal

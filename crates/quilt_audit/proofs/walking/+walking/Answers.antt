@@ -1,8 +1,6 @@
-use Rattle.std.proofs.Common.{◌≡◌, ℕ, ◌+◌, ◌-◌, ◌*◌, ◌<◌, ◌≤◌, [], ◌∷◌, List, Bool, true, false, length, refl, sym, ◌∙◌, ap, arith}
-use Rattle.quilt_node.specs.Tree.{Whole, Damaged, bounded, each_child, walk}
+use Rattle.std.proofs.Common.{◌-◌, [], ◌∷◌, false, refl, sym, ◌∙◌, arith}
+use Rattle.quilt_node.specs.Tree.{walk}
 use Rattle.quilt_audit.specs.declared.surveying.Surveying.{Surveying}
-use Rattle.quilt_audit.specs.Bits.{Marks}
-use Rattle.quilt_audit.specs.Walking.{Found}
 use Rattle.quilt_audit.proofs.Feeding.{Takes-none}
 use Rattle.quilt_audit.proofs.Walked.{Added-page, from_to, reached_first, reached_next, reached_stop, walk_inner, page_found, on_ok_map, on_err_map, damaged_map, Spent-none, Spent-page, SpentSome-then, stop_map}
 use Rattle.quilt_audit.proofs.walking.+walking.Goals as goal

@@ -1,4 +1,4 @@
-use Rattle.std.proofs.Common.{◌≡◌, Option, sym, ap, arith}
+use Rattle.std.proofs.Common.{Option, sym, ap, arith}
 use Rattle.std.specs.Option.{option_or}
 use Rattle.std.proofs.lemmas.Option.{slice_get_past}
 use Rattle.quilt_record.specs.declared.key.Key.{Key}

@@ -1,4 +1,4 @@
-use Rattle.std.proofs.Common.{◌≤◌, length, arith}
+use Rattle.std.proofs.Common.{arith}
 use Rattle.quilt_audit.proofs.Feeding.{Takes-none, Takes-more, Takes-all}
 use Rattle.quilt_audit.proofs.walking.feed.Goals as goal
 

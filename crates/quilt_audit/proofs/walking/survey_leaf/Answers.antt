@@ -1,4 +1,4 @@
-use Rattle.std.proofs.Common.{◌≡◌, ◌∷◌, ◌∙◌}
+use Rattle.std.proofs.Common.{◌∷◌, ◌∙◌}
 use Rattle.quilt_audit.specs.declared.surveying.Surveying.{Surveying}
 use Rattle.quilt_audit.proofs.Walked.{Spent-page, Added-page, walk_leaf, from_to}
 use Rattle.quilt_audit.proofs.walking.survey_leaf.Goals as goal

@@ -1,4 +1,4 @@
-use Rattle.std.proofs.Common.{◌≡◌, sym, ◌∙◌, arith, eqb-true, eq-eqb}
+use Rattle.std.proofs.Common.{sym, ◌∙◌, arith, eqb-true, eq-eqb}
 use Rattle.quilt_region.proofs.Progress.{codes_are}
 use Rattle.quilt_audit.proofs.checker.Checker.is_covered.Goals as goal
 

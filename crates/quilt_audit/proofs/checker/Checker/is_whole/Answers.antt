@@ -1,4 +1,4 @@
-use Rattle.std.proofs.Common.{◌≡◌, ◌≤◌, List, sym, ◌∙◌, ap, subst, ⊎_elim, arith, Contains, eqb-true, eq-eqb}
+use Rattle.std.proofs.Common.{List, sym, subst, ⊎_elim, arith, Contains, eqb-true, eq-eqb}
 use Rattle.quilt_record.specs.declared.entry.Entry.{Entry}
 use Rattle.quilt_audit.proofs.checker.Checker.is_whole.Goals as goal
 

@@ -1,6 +1,5 @@
-use Rattle.std.proofs.Common.{◌≡◌, sym, ◌∙◌}
+use Rattle.std.proofs.Common.{sym, ◌∙◌}
 use Rattle.quilt_loc.proofs.Blocks.{IsBlock-up}
-use Rattle.quilt_blocks.specs.declared.leaf.Leaf.{Leaf}
 use Rattle.quilt_audit.specs.Checking.{nothing}
 use Rattle.quilt_audit.proofs.Taking.{leaf_yes, leaf_no_code, leaf_no_siblings}
 use Rattle.quilt_audit.proofs.checker.Checker.lay.Goals as goal

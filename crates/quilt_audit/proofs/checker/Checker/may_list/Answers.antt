@@ -1,4 +1,4 @@
-use Rattle.std.proofs.Common.{◌≡◌, List, Bool, true, false, not, refl, sym, ap, subst, arith, Contains}
+use Rattle.std.proofs.Common.{List, sym, subst, Contains}
 use Rattle.quilt_record.specs.declared.entry.Entry.{Entry}
 use Rattle.quilt_audit.proofs.Taking.{not_true, not_false}
 use Rattle.quilt_audit.proofs.checker.Checker.may_list.Goals as goal

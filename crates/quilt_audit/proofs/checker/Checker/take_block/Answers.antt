@@ -1,4 +1,4 @@
-use Rattle.std.proofs.Common.{◌≡◌, [], sym, ◌∙◌, ap, arith}
+use Rattle.std.proofs.Common.{[], ap}
 use Rattle.quilt_record.specs.declared.record.Record.{Record}
 use Rattle.quilt_audit.proofs.Taking.{block_no, block_read, from_true, laid_yes, laid_no}
 use Rattle.quilt_audit.proofs.checker.Checker.take_block.Goals as goal

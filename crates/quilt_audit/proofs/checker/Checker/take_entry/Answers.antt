@@ -1,5 +1,4 @@
-use Rattle.std.proofs.Common.{◌≡◌, ◌++◌, ◌∷◌, [], ◌≤◌, List, length, suc, sym, ◌∙◌, ap, subst, arith}
-use Rattle.quilt_record.specs.declared.record.Record.{Record}
+use Rattle.std.proofs.Common.{◌≡◌, ◌++◌, ◌∷◌, [], List, length, suc, sym, ◌∙◌, ap, subst, arith}
 use Rattle.quilt_record.specs.declared.entry.Entry.{Entry}
 use Rattle.quilt_spell.proofs.Spelling.{all_from}
 use Rattle.quilt_audit.specs.Checking.{IsSoFar}

@@ -1,4 +1,4 @@
-use Rattle.std.proofs.Common.{◌≡◌, ◌<◌, ◌≤◌, List, refl, sym, ◌∙◌, ap, subst, inl, inr, ⊎_elim, arith, Contains}
+use Rattle.std.proofs.Common.{List, refl, sym, ◌∙◌, subst, inl, inr, ⊎_elim, arith, Contains}
 use Rattle.quilt_record.specs.declared.entry.Entry.{Entry}
 use Rattle.quilt_audit.proofs.Steps.{IsSoFar-turn}
 use Rattle.quilt_audit.proofs.Taking.{layer_no, next_reached}
