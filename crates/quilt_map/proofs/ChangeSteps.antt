@@ -118,10 +118,10 @@ module _ {W : Type 0} {D : disk.Ghosts W} where
           let level : b.work.level ≡ a.work.level = head.level in
           let list = plan_list s.last.format s.last.level at.work.numbers at.work.records s.work at_most at_spelled name number layer removed added plan.step in
           let spelled : SpellsUnder b.work.format b.work.level (with_number at.work.numbers name number layer) (put_all added (without_all (keys_of removed) at.work.records)) (with_layer s.work name layer) =
-              subst (λ (l : List Record). SpellsUnder b.work.format b.work.level (with_number at.work.numbers name number layer) l (with_layer s.work name layer)) (sym list)
-              (subst (λ f. SpellsUnder f b.work.level (with_number at.work.numbers name number layer) (given (taken at.work.records removed) added) (with_layer s.work name layer)) (same_format ∙ sym format)
-              (subst (λ n. SpellsUnder s.last.format n (with_number at.work.numbers name number layer) (given (taken at.work.records removed) added) (with_layer s.work name layer)) (same_level ∙ sym level)
-              stepped.spelled)) in
+          subst (λ (l : List Record). SpellsUnder b.work.format b.work.level (with_number at.work.numbers name number layer) l (with_layer s.work name layer)) (sym list)
+          (subst (λ f. SpellsUnder f b.work.level (with_number at.work.numbers name number layer) (given (taken at.work.records removed) added) (with_layer s.work name layer)) (same_format ∙ sym format)
+          (subst (λ n. SpellsUnder s.last.format n (with_number at.work.numbers name number layer) (given (taken at.work.records removed) added) (with_layer s.work name layer)) (same_level ∙ sym level)
+          stepped.spelled)) in
           let tree = whole.tree in
           record {
             at = record {

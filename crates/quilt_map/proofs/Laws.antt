@@ -19,9 +19,12 @@ module _ {W : Type 0} {D : disk.Ghosts W} (session : Session W D) (s : State) wh
   unfolding IsAt world_of
   at_told at =
       let stands = λ (image : Pages) (has : HasHome session.book.journal.pages (published at.tale session.book.journal.pages) image).
-          book_stands session.book at.tale at.told at.ready session.last s.last image at.last has in
-      (at.tale, at.told, λ image leaves. stands image (book_leaves session.book at.tale at.told at.ready image leaves),
-      stands at.tale.seen (book_seen session.book at.tale at.told at.ready at.lawful))
+      book_stands session.book at.tale at.told at.ready session.last s.last image at.last has in (
+        at.tale,
+        at.told,
+        λ image leaves. stands image (book_leaves session.book at.tale at.told at.ready image leaves),
+        stands at.tale.seen (book_seen session.book at.tale at.told at.ready at.lawful),
+      )
 
   -- the last edition has the session's format and level
   pub at_format : IsAt session s → s.last.format ≡ format_of session

@@ -92,7 +92,7 @@ module _ {W : Type 0} {D : disk.Ghosts W} where
       let size : b.journal.pages ≡ a.journal.pages = ap (λ (j : View). j.pages) same.journal in
       let idle = book_idle a at.tale at.told at.ready in
       let pages : published new.0 b.journal.pages ≡ published at.tale a.journal.pages =
-          ap (λ n. published new.0 n) size ∙ (kept_text a.journal.pages a.journal.changed at.tale new.0 new.2 Idle idle.work.idle).1 in
+      ap (λ n. published new.0 n) size ∙ (kept_text a.journal.pages a.journal.changed at.tale new.0 new.2 Idle idle.work.idle).1 in
       record {
         tale = new.0;
         told = new.1;

@@ -162,7 +162,7 @@ module _ {W : Type 0} {D : disk.Ghosts W} where
       let one = is_one s.last.format session.book.last.format at.last.head.format session.book.published.format (eqb-false s.last.format 2 first) in
       let old_one : session.book.work.format ≡ 1 = at.format ∙ one in
       let spelled = upgrade_spells session.book.work.level at.work.numbers at.work.records s.work
-          (subst (λ f. SpellsUnder f session.book.work.level at.work.numbers at.work.records s.work) old_one at.work.spelled) in
+      (subst (λ f. SpellsUnder f session.book.work.level at.work.numbers at.work.records s.work) old_one at.work.spelled) in
       let raised : IsSpelled (Some at.pages) (free_of session.book) session.book.journal.pages (record session.book.work { format = 2 }) session.catalog s.work = record {
         numbers = at.work.numbers;
         records = at.work.records;

@@ -53,7 +53,7 @@ subtree_from pages (suc zero) is_root at rs used some s = ap has_zero s.is_used 
 subtree_from pages (suc (suc h)) is_root at rs used some s =
     let list = inner_list (length pages) _ s.inner s.page in
     let under = row_from (Subtree pages (suc h) false) (λ c ss us one t. subtree_from pages (suc h) false c ss us one t) (bounded s.inner.children s.inner.keys at.1) rs s.under
-        (bounded_from (length pages) s.inner.children s.inner.keys at.1 list.in_range) s.children in
+    (bounded_from (length pages) s.inner.children s.inner.keys at.1 list.in_range) s.children in
     ap has_zero s.is_used ∙ neither s.under (at.0 ∷ []) under (ap (λ b. b || false) (not_zero at.0 some))
 
 visited_from : (pages : Pages) (root height : ℕ) (rs : List Record) (visited : List ℕ) → (1 ≤ height → 1 ≤ root) → walk_of pages root height ≡ Whole rs visited → has_zero visited ≡ false

@@ -17,11 +17,7 @@ use quilt_types::Stop;
 use quilt_world::Disk;
 
 /// Takes the records of these keys out of the tree of the work, and puts the others in. Both stand in the order of their keys.
-pub(crate) fn edit<W: Disk>(
-    book: &mut Book<W>,
-    keys: &[Key],
-    added: &[Record],
-) -> Result<(), Stop>
+pub(crate) fn edit<W: Disk>(book: &mut Book<W>, keys: &[Key], added: &[Record]) -> Result<(), Stop>
     requires room { (work_of book.old).records + length added.now ≤ quota (pages_of book.old) + length keys.now }
     requires keys { is_ascending keys.now ≡ true }
     requires added { is_ascending (keys_of added.now) ≡ true }

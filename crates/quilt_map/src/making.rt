@@ -27,7 +27,11 @@ use quilt_world::World;
 use std::alloc::{AllocError, Global};
 
 /// The record of the catalog for an entry, and these records behind it.
-pub(crate) fn listed(alloc: Global, entry: &Entry, records: &[Record]) -> Result<RecordList, AllocError>
+pub(crate) fn listed(
+    alloc: Global,
+    entry: &Entry,
+    records: &[Record],
+) -> Result<RecordList, AllocError>
     requires { 1 ≤ entry.now.number }
     ensures { IfOk result (λ all. (first : AnyRecord) × (all ≡ first ∷ records.now) × ((n capacity : ℕ) → first ≡ record_of n capacity entry.now.name entry.now.number (kind_fact entry.now.kind))) }
 {
@@ -59,7 +63,12 @@ pub(crate) fn new_entry(entries: &[Entry], name: &Name, kind: Kind) -> Entry
 
 impl<W: World> Session<W> {
     /// Puts a new layer with this entry and these records into the work. The text is that of the reply.
-    pub(crate) fn place(&mut self, entry: Entry, records: &[Record], text: Text) -> Result<Reply, Stop>
+    pub(crate) fn place(
+        &mut self,
+        entry: Entry,
+        records: &[Record],
+        text: Text,
+    ) -> Result<Reply, Stop>
         requires few { length self.old.catalog < 255 }
         requires new { All (λ e. e.name ≢ entry.name) self.old.catalog }
         requires text { text ≡ text_of (Done []) }

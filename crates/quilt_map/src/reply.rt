@@ -7,8 +7,8 @@ ghost use Rattle.quilt_map.specs.Runs.{text_of};
 ghost use Rattle.quilt_map.specs.States.{Tells};
 ghost use Rattle.quilt_map.specs.declared.reply.Reply.TheVariants as replies;
 
-use quilt_words::refusal_text;
 use quilt_types::{Code, Text};
+use quilt_words::refusal_text;
 use std::alloc::{AllocError, Global};
 
 /// What a command is answered: its body and the line `ok`, or a refusal.

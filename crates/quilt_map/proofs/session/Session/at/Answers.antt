@@ -35,8 +35,6 @@ returns-in-Err-read_colour-clause-sound g c = λ s at.
     let region = c.in-Ok.ensures.found s.work at.work.numbers (catalog_as {D = g.W.Disk} old s at c.entries.result.now c.entries.ensures.entries) in
     c.in-Err-read_colour.ensures.sound region.grid (has_number {D = g.W.Disk} old s at name c.in-Ok.number region) (has_region {D = g.W.Disk} old s at name c.in-Ok.number region)
 
-
-
 pub returns-in-Ok-number_text-clause-answer : goal.returns-in-Ok-number_text-clause-answer
 returns-in-Ok-number_text-clause-answer g c = λ s at.
     let old = c.args.self.now in
@@ -46,4 +44,3 @@ returns-in-Ok-number_text-clause-answer g c = λ s at.
     asked_on {D = g.W.Disk} s (commands.At name c.args.at) (at_asks s name c.args.at) old at c.read_colour.new.book (Some (c.copy.result, c.args.at)) (reply.Ok c.in-Ok-number_text.text) c.read_colour.ensures.still (g.met.W.Disk.is_consistent c.read_colour.new.book.world)
     (text_tells ((answer s (commands.At name c.args.at)).reply) c.in-Ok-number_text.text
     (at_body {D = g.W.Disk} old s at name c.in-Ok.number region c.args.at c.in-Ok-read_colour.colour.0 c.from.result inside c.in-Ok-read_colour.ensures.colour c.from.ensures c.in-Ok-number_text.text c.in-Ok-number_text.ensures))
-

@@ -31,7 +31,6 @@ returns-in-Err-clause-sound g c = λ s at all.
     let region = region_under {D = g.W.Disk} old s at name number under in
     c.in-Err.ensures.sound region.grid (has_number {D = g.W.Disk} old s at name number region) (has_region {D = g.W.Disk} old s at name number region)
 
-
 pub returns-in-Ok-clause-answer : goal.returns-in-Ok-clause-answer
 returns-in-Ok-clause-answer g c =
     let old = c.args.self.now in
@@ -41,4 +40,3 @@ returns-in-Ok-clause-answer g c =
     let under = subst (IsLayerUnder s.work at.work.numbers name number) c.in-Some-default-Region.field-0-1-is (c.in-Some-default-Region.ensures.some s.work at.work.numbers (catalog_as {D = g.W.Disk} old s at c.entries.result.now c.entries.ensures.entries)) in
     let region = region_under {D = g.W.Disk} old s at name number under in
     if_ok _ _ c.blocks_text.result (λ t h. blocks_body {D = g.W.Disk} old s at name number region c.in-Ok.list c.in-Ok.ensures.list t h) c.blocks_text.ensures)
-

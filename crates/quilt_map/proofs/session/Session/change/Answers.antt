@@ -41,8 +41,8 @@ returns-clause-changed g c = λ s at name number layer entries plan catalog.
     let edited = c.in-Ok-edit.ensures.edited at.work.records (at_whole {D = g.W.Disk} old s at) in
     let whole = subst (λ (k : List Key). IsWhole (told_of book) (free_of book) old.book.journal.pages (tree_in book.work) (put_all added (without_all k at.work.records))) same edited in
     let changed : changed_of {D = g.W.Disk} book ≤ changed_of {D = g.W.Disk} old.book + 7 * length removed + 6 * length added =
-        subst (λ k. changed_of {D = g.W.Disk} book ≤ changed_of {D = g.W.Disk} old.book + 7 * k + 6 * length added) few c.edit.ensures.changed in
+    subst (λ k. changed_of {D = g.W.Disk} book ≤ changed_of {D = g.W.Disk} old.book + 7 * k + 6 * length added) few c.edit.ensures.changed in
     let within = is_within {D = g.W.Disk} old s at name number layer removed added plan c.pages.result c.head-records.result.records c.pages.ensures (ap (λ (h : Head). h.records) c.head-records.ensures.work)
-        (sym c.is_over.ensures ∙ c.if-is_over.false) in
+    (sym c.is_over.ensures ∙ c.if-is_over.false) in
     has_layer {D = g.W.Disk} old s at name number layer removed added plan book c.saturating_add-self.result entries catalog c.edit.ensures.goes_on c.edit.ensures.used
     (g.met.W.Disk.is_consistent book.world) whole c.in-Ok-edit.ensures.head changed (counted_twice old.changes (length removed) (length added) _ _ c.saturating_add-count.ensures c.saturating_add-self.ensures) within

@@ -20,7 +20,6 @@ returns-in-Err-read_region-clause-sound g c = λ s at.
     let region = c.in-Ok.ensures.found s.work at.work.numbers (catalog_as {D = g.W.Disk} old s at c.entries.result.now c.entries.ensures.entries) in
     c.in-Err-read_region.ensures.sound region.grid (has_number {D = g.W.Disk} old s at name c.in-Ok.number region) (has_region {D = g.W.Disk} old s at name c.in-Ok.number region)
 
-
 pub returns-in-Ok-read_region-clause-answer : goal.returns-in-Ok-read_region-clause-answer
 returns-in-Ok-read_region-clause-answer g c =
     let old = c.args.self.now in
@@ -28,4 +27,3 @@ returns-in-Ok-read_region-clause-answer g c =
     told_on {D = g.W.Disk} (commands.Leaves name) (λ s. leaves_asks s name) old c.read_region.new.book old.warm c.leaves_text.result c.told.result c.read_region.ensures.still (g.met.W.Disk.is_consistent c.read_region.new.book.world) c.told.ensures.text (λ s at.
     let region = c.in-Ok.ensures.found s.work at.work.numbers (catalog_as {D = g.W.Disk} old s at c.entries.result.now c.entries.ensures.entries) in
     if_ok _ _ c.leaves_text.result (λ t h. leaves_body {D = g.W.Disk} old s at name c.in-Ok.number region c.in-Ok-read_region.list c.in-Ok-read_region.ensures.list t h) c.leaves_text.ensures)
-

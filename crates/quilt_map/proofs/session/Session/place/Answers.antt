@@ -18,7 +18,7 @@ returns-in-Ok-true-clause-placed g c = λ s at layer kind plan.
     let is : e ≡ record { number = e.number; name = e.name; kind = kind_of layer } = λ i. record { number = e.number; name = e.name; kind = kind i } in
     let comes = catalog_comes s.work at.work.numbers old.catalog at.work.catalog e.name layer e.number e c.requires.new is in
     let now = subst (λ (es : List Entry). IsCatalogOf (with_layer s.work e.name (Some layer)) (with_number at.work.numbers e.name e.number (Some layer)) es)
-        (sym (c.insert.ensures ∙ ap (with_entry e) c.change.ensures.catalogs.0)) comes in
+    (sym (c.insert.ensures ∙ ap (with_entry e) c.change.ensures.catalogs.0)) comes in
     let has = c.in-Ok-true.ensures.changed s at e.name e.number (Some layer) c.insert.new.self plan now in
     placed_answer {D = g.W.Disk} old c.change.new.self _ s e.name layer c.insert.new.self c.args.text
     (subst (λ b. HasChanged {D = g.W.Disk} b old c.change.new.self s e.name (Some layer) c.insert.new.self) c.in-Ok-true.field-0-test has) refl c.requires.text

@@ -24,7 +24,6 @@ returns-in-Err-read_region-clause-sound g c = λ s at.
     let region = c.in-Ok.ensures.found s.work at.work.numbers (catalog_as {D = g.W.Disk} old s at c.entries.result.now c.entries.ensures.entries) in
     c.in-Err-read_region.ensures.sound region.grid (has_number {D = g.W.Disk} old s at name c.in-Ok.number region) (has_region {D = g.W.Disk} old s at name c.in-Ok.number region)
 
-
 pub returns-in-Ok-read_region-clause-answer : goal.returns-in-Ok-read_region-clause-answer
 returns-in-Ok-read_region-clause-answer g c =
     let old = c.args.self.now in
@@ -33,7 +32,6 @@ returns-in-Ok-read_region-clause-answer g c =
     let region = c.in-Ok.ensures.found s.work at.work.numbers (catalog_as {D = g.W.Disk} old s at c.entries.result.now c.entries.ensures.entries) in
     if_ok _ _ c.show_text.result (λ t h. show_body {D = g.W.Disk} old s at name c.in-Ok.number region c.args.w c.head-head.result.format c.in-Ok-read_region.list (ap (λ (h : Head). h.format) c.head-head.ensures.work)
     (test_at (λ n. is_window n c.args.w) c.head-head.result.level s.last.level c.has_window.result true (ap (λ (h : Head). h.level) c.head-head.ensures.work ∙ level_is {D = g.W.Disk} old s at) c.has_window.ensures c.if-not-has_window.false) c.in-Ok-read_region.ensures.list t h) c.show_text.ensures)
-
 
 pub returns-then-not-has_window-clause-answer : goal.returns-then-not-has_window-clause-answer
 returns-then-not-has_window-clause-answer g c = λ s at.
