@@ -1,25 +1,22 @@
 -- Leaves on both sides of a line that no block of one colour crosses: each side depends on its own colours alone.
-use Rattle.std.proofs.Common.{◌≡◌, ◌↔◌, ◌⊎◌, ℕ, ◌<◌, ◌≤◌, ◌^◌, Bool, true, false, not, List, map, filter, inl, inr, refl, sym, ◌∙◌, ap, subst, ⊎_elim, Contains, arith}
-use Rattle.std.proofs.lemmas.Bool.{cases_Bool, false_from_ne_true}
+use Rattle.std.proofs.Common.{◌≡◌, ◌⊎◌, ℕ, ◌<◌, ◌≤◌, Bool, true, false, sym, ◌∙◌, subst, ⊎_elim, Contains}
+use Rattle.std.proofs.lemmas.Bool.{false_from_ne_true}
 use Rattle.quilt_types.specs.declared.plane.Pixel.{Pixel}
 use Rattle.quilt_types.specs.declared.plane.Block.{Block}
-use Rattle.quilt_types.specs.Plane.{side, corner, parent_of, Holds, IsBlock, Within}
+use Rattle.quilt_types.specs.Plane.{side, corner, parent_of, Holds, IsBlock}
 use Rattle.quilt_types.specs.Layers.{Grid, colour_at}
 use Rattle.quilt_types.specs.Quadtrees.{is_uniform, leaves}
-use Rattle.quilt_loc.proofs.Members.{Contains-map, Contains-filter}
 use Rattle.quilt_loc.proofs.Nesting.{Within-holds, Holds-corner, IsBlock-parent_of, Within-parent_of}
 use Rattle.quilt_loc.proofs.Rising.{same_rising}
 use Rattle.quilt_record.specs.declared.record.Record.{Record}
 use Rattle.quilt_blocks.specs.Mosaic.{HasColour}
-use Rattle.quilt_blocks.specs.Cutting.{leaves_by_code}
 use Rattle.quilt_blocks.proofs.Colours.{HasColour-from_uniform, uniform-from_HasColour}
 use Rattle.quilt_blocks.proofs.Maximal.{IsMaximal}
-use Rattle.quilt_blocks.proofs.Cuts.{IsLeaf, leaf_is, leaves_members}
+use Rattle.quilt_blocks.proofs.Cuts.{leaf_is}
 use Rattle.quilt_blocks.proofs.Listed.{held_in}
-use Rattle.quilt_region.specs.Regions.{leaf_record}
 use Rattle.quilt_region.specs.Plans.{is_leaf, records_without}
 use Rattle.quilt_region.proofs.Keys.{by_key, by_key_total}
-use Rattle.quilt_region.proofs.Leaves.{is_leaf_from, is_leaf_at, maximal_leaf, only_leaf, only_test}
+use Rattle.quilt_region.proofs.Leaves.{is_leaf_from, is_leaf_at, maximal_leaf, only_leaf}
 use Rattle.quilt_region.proofs.Edited.{only_in}
 use Rattle.quilt_region.proofs.RegionLaws.{only_rises}
 

@@ -1,5 +1,5 @@
 -- The colour of a block beside the one that was read.
-use Rattle.std.proofs.Common.{◌≡◌, ℕ, ◌<◌, ◌≤◌, Bool, true, false, cond, refl, sym, ◌∙◌, ap, ap₂, subst, ⊎_elim, arith, eqb, eqb-true, eq-eqb, ◌&&◌, Result, Ok, Err, IfErr}
+use Rattle.std.proofs.Common.{◌≡◌, ℕ, ◌<◌, ◌≤◌, Bool, true, false, sym, ◌∙◌, ap, ⊎_elim, arith, eqb, eqb-true, eq-eqb, ◌&&◌, Result, Ok, Err, IfOk, IfErr}
 use Rattle.std.specs.Bool.{if◌then◌else◌}
 use Rattle.std.proofs.lemmas.Bool.{cases_lt, cases_Bool, false_from_ne_true, and_parts, and_from}
 use Rattle.quilt_types.specs.declared.plane.Pixel.{Pixel}
@@ -87,3 +87,7 @@ blocks_differ a b h e =
 pub if_err_weaker : {T E : Type 0} {P Q : E → Type 0} (r : Result T E) → ((e : E) → P e → Q e) → IfErr r P → IfErr r Q
 if_err_weaker (Ok x) f h = tt
 if_err_weaker (Err e) f h = f e h
+
+pub if_ok_weaker : {T E : Type 0} {P Q : T → Type 0} (r : Result T E) → ((x : T) → P x → Q x) → IfOk r P → IfOk r Q
+if_ok_weaker (Ok x) f h = f x h
+if_ok_weaker (Err e) f h = tt

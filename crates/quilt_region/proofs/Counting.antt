@@ -1,5 +1,5 @@
 -- How many pages calls read, one after another.
-use Rattle.std.proofs.Common.{◌≡◌, ℕ, ◌+◌, ◌≤◌, Option, Some, None, subst, arith}
+use Rattle.std.proofs.Common.{ℕ, ◌+◌, ◌≤◌, Option, Some, None, arith}
 use Rattle.quilt_store.specs.Store.{Tells}
 
 pub reads_then : (i j k : ℕ) (a b c : Option ℕ) → i + j ≤ k → Tells {A = ℕ} (λ old new. new ≤ old + i) a b → Tells {A = ℕ} (λ old new. new ≤ old + j) b c → Tells {A = ℕ} (λ old new. new ≤ old + k) a c
@@ -19,3 +19,9 @@ reads_more i k None None h x = tt
 pub reads_none : (k : ℕ) (a : Option ℕ) → Tells {A = ℕ} (λ old new. new ≤ old + k) a a
 reads_none k (Some a) = omega arith
 reads_none k None = tt
+
+pub reads_plain : (i j : ℕ) (a b : Option ℕ) → Tells {A = ℕ} (λ old new. new ≤ old + i + j) a b → Tells {A = ℕ} (λ old new. new ≤ old + (i + j)) a b
+reads_plain i j (Some a) (Some b) x = omega arith
+reads_plain i j (Some a) None x = absurd x
+reads_plain i j None (Some b) x = absurd x
+reads_plain i j None None x = tt

@@ -1,19 +1,16 @@
 -- Which leaves a grid has, and the records of those that only one of two grids has.
-use Rattle.std.proofs.Common.{◌≡◌, ℕ, ◌≤◌, Bool, true, false, ◌&&◌, ◌==◌, not, cond, List, [], ◌∷◌, ◌++◌, map, filter, refl, sym, ◌∙◌, ap, subst, ⊎_elim, Contains, eqb, eq-eqb, eqb-true, append_assoc, arith}
+use Rattle.std.proofs.Common.{◌≡◌, ℕ, ◌≤◌, Bool, true, false, ◌&&◌, ◌==◌, not, cond, List, [], ◌∷◌, ◌++◌, map, filter, refl, sym, ◌∙◌, ap, subst, ⊎_elim, Contains, eq-eqb, eqb-true, append_assoc}
 use Rattle.std.specs.List.{list_any}
-use Rattle.std.proofs.lemmas.Bool.{and_parts, and_from, or_cases, or_left, or_right, false_from_ne_true}
+use Rattle.std.proofs.lemmas.Bool.{and_parts, and_from, or_cases, or_left, or_right}
 use Rattle.quilt_types.specs.declared.plane.Block.{Block}
-use Rattle.quilt_types.specs.Plane.{side, parent_of, IsBlock}
 use Rattle.quilt_types.specs.Layers.{Grid}
 use Rattle.quilt_types.specs.Facts.{same_block}
 use Rattle.quilt_types.specs.Quadtrees.{is_uniform, coloured, maximal_blocks, leaves}
-use Rattle.quilt_loc.proofs.Nesting.{IsBlock-parent_of}
-use Rattle.quilt_loc.proofs.Quartered.{side_le}
 use Rattle.quilt_loc.proofs.Members.{Contains-nil, Contains-here, Contains-there, Contains-cons_cases, Contains-map, Contains-map_from, Contains-filter_from}
 use Rattle.quilt_record.specs.declared.record.Record.{Record}
 use Rattle.quilt_blocks.specs.Cutting.{leaves_by_code}
 use Rattle.quilt_blocks.specs.Mosaic.{HasColour}
-use Rattle.quilt_blocks.proofs.Colours.{colour_is, uniform-from_HasColour}
+use Rattle.quilt_blocks.proofs.Colours.{colour_is}
 use Rattle.quilt_blocks.proofs.Maximal.{IsMaximal, Contains-maximal}
 use Rattle.quilt_blocks.proofs.Cuts.{IsLeaf, leaf_is, leaves_members}
 use Rattle.quilt_region.specs.Regions.{leaf_record, region_records}
@@ -66,46 +63,6 @@ maximal_leaf n g b c m has =
     is_leaf_at n g (b, c) (subst (Contains (leaves n g)) (let e : coloured n g b ≡ (b, c) = λ i. (b, same i) in e)
     (Contains-map (coloured n g) (maximal_blocks n (is_uniform n g)) b (Contains-maximal n (is_uniform n g) b m)))
 
--- where the block has more than one colour, or another one, it is no leaf
-pub other_leaf : (n : ℕ) (g : Grid) (b : Block) (c : ℕ) → (IsLeaf n g (b, c) → ⊥) → is_leaf n g (b, c) ≡ false
-other_leaf n g b c none = false_from_ne_true (is_leaf n g (b, c)) (λ t. none (leaf_is n g (b, c) (is_leaf_from n g (b, c) t)))
-
-pub no_colour : (n : ℕ) (g : Grid) (b : Block) (c : ℕ) → is_uniform n g b ≡ false → is_leaf n g (b, c) ≡ false
-no_colour n g b c no' = other_leaf n g b c (λ leaf. true_false (sym leaf.maximal.passes ∙ no'))
-
-pub other_colour : (n : ℕ) (g : Grid) (b : Block) (c d : ℕ) → IsBlock n b → HasColour n g b d → true ≡ not (eqb d c) → is_leaf n g (b, c) ≡ false
-other_colour n g b c d hb has differ =
-    other_leaf n g b c (λ leaf.
-    let same : d ≡ c = sym (colour_is n g b d hb has) ∙ colour_is n g b c hb leaf.colour in
-    true_false (differ ∙ ap not (eq-eqb d c same)))
-
-same_colour : (n : ℕ) (g : Grid) (b : Block) (c d : ℕ) → HasColour n g b d → false ≡ not (eqb d c) → HasColour n g b c
-same_colour n g b c d has same = subst (HasColour n g b) (eqb-true d c (turned (eqb d c) same)) has
-  where
-    turned : (t : Bool) → false ≡ not t → t ≡ true
-    turned true h = refl
-    turned false h = cc
-
-pub whole_leaf : (n : ℕ) (g : Grid) (b : Block) (c d : ℕ) → IsBlock n b → HasColour n g b d → false ≡ not (eqb d c) → b.side ≡ side n → is_leaf n g (b, c) ≡ true
-whole_leaf n g b c d hb has same size =
-    let own = same_colour n g b c d has same in
-    maximal_leaf n g b c (record { block = hb; passes = uniform-from_HasColour n g b c hb own; last = λ lt. absurd (omega arith) }) own
-
-pub large_parent : (n : ℕ) (g : Grid) (b larger : Block) → IsBlock n b → larger ≡ parent_of b → (b.side ≡ side n → ⊥) → IsBlock n larger
-large_parent n g b larger hb is small =
-    let top = side_le n b hb in
-    subst (IsBlock n) (sym is) (IsBlock-parent_of n b hb (omega arith))
-
--- it is a leaf exactly where the larger one has more than one colour
-pub part_leaf : (n : ℕ) (g : Grid) (b larger : Block) (c d : ℕ) → IsBlock n b → HasColour n g b d → false ≡ not (eqb d c) → larger ≡ parent_of b → (b.side ≡ side n → ⊥)
-    → (t : Bool) → is_uniform n g larger ≡ t → not t ≡ is_leaf n g (b, c)
-part_leaf n g b larger c d hb has same is small true u =
-    let top = side_le n b hb in
-    sym (other_leaf n g b c (λ leaf. leaf.maximal.last (omega arith) (ap (is_uniform n g) (sym is) ∙ u)))
-part_leaf n g b larger c d hb has same is small false u =
-    let own = same_colour n g b c d has same in
-    sym (maximal_leaf n g b c (record { block = hb; passes = uniform-from_HasColour n g b c hb own; last = λ lt p. true_false (sym p ∙ ap (is_uniform n g) (sym is) ∙ u) }) own)
-
 -- A list of records that grows along the leaves that pass a test.
 module _ (n layer : ℕ) (p : Block × ℕ → Bool) (done all : List Record) (e : Block × ℕ) (rest : List (Block × ℕ)) where
   abbrev made : List (Block × ℕ) → List Record
@@ -145,17 +102,11 @@ only_apart n layer g other r le c d =
 abbrev pub only_test : ℕ → Grid → Block × ℕ → Bool
 only_test n other e = not (is_leaf n other e)
 
--- the records of the leaves that the other grid does not have, before the first and after one more
+-- the records of the leaves that the other grid does not have, before the first
 pub none_yet : (n layer : ℕ) (g other : Grid) (done : List Record) (rest : List (Block × ℕ)) → done ≡ [] → rest ≡ leaves_by_code n g → done ++ map (leaf_record n layer) (filter (only_test n other) rest) ≡ records_without n layer g other
 unfolding records_without
 none_yet n layer g other done rest e f =
     ap (λ l. l ++ map (leaf_record n layer) (filter (only_test n other) rest)) e ∙ ap (λ l. map (leaf_record n layer) (filter (only_test n other) l)) f
-
-pub one_more : (n layer : ℕ) (other : Grid) (old new all : List Record) (r : Record) (e : Block × ℕ) (before rest : List (Block × ℕ)) → new ≡ old ++ r ∷ [] → r ≡ leaf_record n layer e → before ≡ e ∷ rest → only_test n other e ≡ true
-    → old ++ map (leaf_record n layer) (filter (only_test n other) before) ≡ all → new ++ map (leaf_record n layer) (filter (only_test n other) rest) ≡ all
-one_more n layer other old new all r e before rest is record_is first test h =
-    ap (λ l. l ++ map (leaf_record n layer) (filter (only_test n other) rest)) (is ∙ ap (λ s. old ++ s ∷ []) record_is)
-    ∙ passed_in n layer (only_test n other) old all e rest test (ap (λ l. old ++ map (leaf_record n layer) (filter (only_test n other) l)) (sym first) ∙ h)
 
 -- and of all leaves
 pub none_made : (n layer : ℕ) (g : Grid) (done : List Record) (rest : List (Block × ℕ)) → done ≡ [] → rest ≡ leaves_by_code n g → done ++ map (leaf_record n layer) rest ≡ region_records n layer g

@@ -18,3 +18,4 @@ pub mod Beside
 pub mod Counting
 pub mod Nearby
 pub mod WithinKeys
+pub mod KnownPlans

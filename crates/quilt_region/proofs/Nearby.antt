@@ -1,16 +1,16 @@
 -- Blocks around a window, and what the quarters of a block around another one say.
-use Rattle.std.proofs.Common.{◌≡◌, ℕ, suc, pow-suc, ◌+◌, ◌-◌, ◌*◌, ◌/◌, ◌%◌, ◌^◌, ◌<◌, ◌≤◌, Bool, true, false, ◌&&◌, List, [], ◌∷◌, length, get_or, filter, refl, sym, ◌∙◌, ap, subst, ⊎_elim, Contains, arith, nat_le, eqb, eqb-true, eq-eqb, Option, Some, None}
+use Rattle.std.proofs.Common.{◌≡◌, ℕ, suc, pow-suc, ◌+◌, ◌*◌, ◌^◌, ◌<◌, ◌≤◌, true, false, ◌&&◌, List, [], ◌∷◌, length, get_or, refl, sym, ◌∙◌, ap, subst, ⊎_elim, Contains, arith, nat_le}
 use Rattle.std.proofs.lemmas.Bool.{cases_lt, cases_Bool, and_parts, leb-true}
 use Rattle.quilt_types.specs.declared.plane.Pixel.{Pixel}
 use Rattle.quilt_types.specs.declared.plane.Block.{Block}
 use Rattle.quilt_types.specs.declared.plane.Window.{Window}
-use Rattle.quilt_types.specs.Plane.{side, corner, parent_of, quarters_of, whole, is_window, in_block, Holds, IsBlock, Within}
-use Rattle.quilt_types.specs.Layers.{Grid, colour_at}
+use Rattle.quilt_types.specs.Plane.{side, corner, parent_of, quarters_of, is_window, in_block, Holds, IsBlock, Within}
+use Rattle.quilt_types.specs.Layers.{Grid}
 use Rattle.quilt_types.specs.Quadtrees.{is_uniform, leaves}
-use Rattle.quilt_loc.specs.Codes.{code_from, code_to, Rises}
+use Rattle.quilt_loc.specs.Codes.{code_from}
 use Rattle.quilt_loc.proofs.Members.{Contains-here}
-use Rattle.quilt_loc.proofs.Blocks.{side_most, in_block-true, Holds-from}
-use Rattle.quilt_loc.proofs.Nesting.{around, Within-holds, Holds-corner, side_pos, nested, same_block_from, IsBlock-parent_of, Within-parent_of, parent_within, twice_le}
+use Rattle.quilt_loc.proofs.Blocks.{Holds-from}
+use Rattle.quilt_loc.proofs.Nesting.{around, Within-holds, Holds-corner, side_pos, nested, same_block_from, IsBlock-parent_of, Within-parent_of, parent_within}
 use Rattle.quilt_loc.proofs.Intervals.{code_held}
 use Rattle.quilt_loc.proofs.CodeLaws.{pow_same}
 use Rattle.quilt_loc.proofs.Around.{IsBlock-around, Holds-around}
@@ -22,10 +22,11 @@ use Rattle.quilt_blocks.proofs.Colours.{uniform-from_HasColour}
 use Rattle.quilt_blocks.proofs.Cuts.{leaf_is, leaf_total, leaves_run, leaves_members}
 use Rattle.quilt_blocks.proofs.Leaves.{uniform_down}
 use Rattle.quilt_blocks.proofs.Listed.{held_in}
-use Rattle.quilt_blocks.proofs.Maximal.{IsMaximal, alone}
+use Rattle.quilt_blocks.proofs.Maximal.{alone}
+use Rattle.quilt_spell.specs.Apart.{Apart}
 use Rattle.quilt_spell.proofs.Lists.{Apart-le, Apart-rises}
 use Rattle.quilt_region.specs.Windows.{HoldsWindow, IsLeafWith, IsCutOut, HasAround, leaves_within}
-use Rattle.quilt_region.proofs.Beside.{true_false, not_held, held_not}
+use Rattle.quilt_region.proofs.Beside.{not_held, held_not}
 use Rattle.quilt_region.proofs.Floors.{same_member}
 use Rattle.quilt_region.proofs.Leaves.{is_leaf_from, maximal_leaf}
 use Rattle.quilt_region.proofs.Nested.{smaller_inside}
@@ -271,3 +272,36 @@ level_room n b hb lt =
     let e = level_more n b hb lt larger.level larger.size in
     let low = larger.low in
     omega arith
+
+-- a window of one pixel
+pub pixel_block : (n : ℕ) (w : Window) → is_window n w ≡ true → IsBlock n (record { y = w.y; x = w.x; side = 1 })
+pixel_block n w t =
+    let i = window_in n w t in
+    let wide = i.wide in
+    let high = i.high in
+    let right = i.right in
+    let bottom = i.bottom in
+    record { level = 0; low = omega arith; size = refl; on_x = omega arith; on_y = omega arith; in_x = omega arith; in_y = omega arith }
+
+pub pixel_holds : (w : Window) → w.w ≡ 1 → w.h ≡ 1 → HoldsWindow (record { y = w.y; x = w.x; side = 1 }) w
+pixel_holds w a b = record { left = omega arith; right = omega arith; top = omega arith; bottom = omega arith }
+
+-- at most one leaf begins at it
+pub pixel_within : (n : ℕ) (g : Grid) (x y : ℕ) → n ≤ 12 → IsBlock n (record { y = y; x = x; side = 1 }) → length (leaves_within n g (record { y = y; x = x; side = 1 })) ≤ 1
+pixel_within n g x y le hb =
+    let b : Block = record { y = y; x = x; side = 1 } in
+    few (leaves_within n g b) (Apart-rises _ leaf_total (leaves_within n g b) (within_rise n g b le hb))
+    (λ d e c k.
+    let run = leaves_run n g le in
+    let u = within_from n g b le hb d c in
+    let v = within_from n g b le hb e k in
+    let du = u.1 in
+    let dv = u.2 in
+    let eu = v.1 in
+    let ev = v.2 in
+    let pos = member_pos n d.0 (leaf_is n g d u.0).maximal.block in
+    same_member n 0 (leaves_by_code n g) d e run.follows ((leaves_members n g d).1 u.0) ((leaves_members n g e).1 v.0) (omega arith) (omega arith))
+  where
+    few : (es : List (Block × ℕ)) → Apart es → ((d e : Block × ℕ) → Contains es d → Contains es e → d ≡ e) → length es ≤ 1
+    few [] apart same = omega arith
+    few (x ∷ xs) apart same = Apart-le (x ∷ xs) (x ∷ []) apart (λ d c. subst (Contains (x ∷ [])) (same x d (Contains-here x xs) c) (Contains-here x []))

@@ -1,15 +1,15 @@
 -- The leaves within a block: they stand one behind the other from its first code to its last.
-use Rattle.std.proofs.Common.{◌≡◌, ◌↔◌, ℕ, ◌+◌, ◌*◌, ◌^◌, ◌<◌, ◌≤◌, Bool, true, false, ◌&&◌, List, [], ◌∷◌, ◌++◌, map, filter, length, take, get_or, Option, Some, None, refl, sym, ◌∙◌, ap, subst, ⊎_elim, Contains, arith, nat_le, nat_lt, replicate}
+use Rattle.std.proofs.Common.{◌≡◌, ◌↔◌, ℕ, ◌+◌, ◌*◌, ◌^◌, ◌<◌, ◌≤◌, Bool, ◌&&◌, List, ◌++◌, map, filter, length, take, get_or, Option, Some, None, refl, sym, ◌∙◌, ap, subst, ⊎_elim, Contains, arith, nat_le, nat_lt, replicate}
 use Rattle.std.proofs.lemmas.Bool.{cases_lt, and_parts, and_from, ltb-true, leb-true, le-leb, lt-ltb}
 use Rattle.std.proofs.lemmas.List.{length-map, get_or-map, take_all}
 use Rattle.std.proofs.lemmas.List.Elements.{Contains-get_or}
 use Rattle.quilt_types.specs.declared.plane.Pixel.{Pixel}
 use Rattle.quilt_types.specs.declared.plane.Block.{Block}
 use Rattle.quilt_types.specs.declared.plane.Colour.{Colour}
-use Rattle.quilt_types.specs.Plane.{side, corner, parent_of, whole, Holds, IsBlock, Within}
+use Rattle.quilt_types.specs.Plane.{corner, parent_of, whole, Holds, IsBlock, Within}
 use Rattle.quilt_types.specs.Layers.{Grid, colour_at}
 use Rattle.quilt_types.specs.Quadtrees.{is_uniform, maximal_blocks, coloured, leaves}
-use Rattle.quilt_loc.specs.Codes.{code_at, code_from, code_to, Rises}
+use Rattle.quilt_loc.specs.Codes.{code_from, code_to, Rises}
 use Rattle.quilt_loc.proofs.Members.{Contains-map, Contains-map_from, Contains-filter, Contains-filter_from}
 use Rattle.quilt_loc.proofs.Blocks.{side_most}
 use Rattle.quilt_loc.proofs.Intervals.{code_held, held_code}
@@ -19,12 +19,11 @@ use Rattle.quilt_loc.proofs.Rising.{same_rising, Rises-filter}
 use Rattle.quilt_record.specs.declared.record.Record.{Record}
 use Rattle.quilt_blocks.specs.declared.leaf.Leaf.{Leaf}
 use Rattle.quilt_blocks.specs.Cutting.{cut, leaves_by_code, leaf_cmp, pair_of}
-use Rattle.quilt_blocks.specs.Listing.{Follows}
 use Rattle.quilt_blocks.specs.Mosaic.{HasColour}
 use Rattle.quilt_blocks.specs.Walk.{size_of}
 use Rattle.quilt_blocks.proofs.Chains.{Follows-rises, Follows-place, size_of-take_more, member_pos}
 use Rattle.quilt_blocks.proofs.Leaves.{uniform_down, uniform_pixel}
-use Rattle.quilt_blocks.proofs.Maximal.{IsMaximal, IsMaximal-from, Contains-maximal, cut_law}
+use Rattle.quilt_blocks.proofs.Maximal.{IsMaximal-from, Contains-maximal, cut_law}
 use Rattle.quilt_blocks.proofs.Cuts.{Runs, cut_runs, leaf_total, leaf_is, leaves_rise, leaves_members}
 use Rattle.quilt_blocks.proofs.Listed.{held_in}
 use Rattle.quilt_region.specs.Painting.{HasColours}

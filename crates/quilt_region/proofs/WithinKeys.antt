@@ -1,5 +1,5 @@
 -- A range over the keys of a block gives the records of the leaves that begin in it.
-use Rattle.std.proofs.Common.{◌≡◌, ℕ, zero, suc, ◌+◌, ◌-◌, ◌<◌, ◌≤◌, true, List, map, length, filter, take, Option, Result, refl, sym, ◌∙◌, ap, subst, ⊎_elim, Contains, arith}
+use Rattle.std.proofs.Common.{◌≡◌, ℕ, zero, suc, ◌+◌, ◌<◌, ◌≤◌, true, List, map, length, filter, take, Option, refl, sym, ◌∙◌, ap, subst, ⊎_elim, Contains, arith}
 use Rattle.std.specs.Cmp.{tied_itself}
 use Rattle.std.specs.Ordering.{is_le}
 use Rattle.std.proofs.lemmas.Bool.{cases_lt, and_parts, and_from}
@@ -22,7 +22,7 @@ use Rattle.quilt_blocks.proofs.Cuts.{leaf_is, leaf_total, leaves_rise}
 use Rattle.quilt_btree.specs.declared.tree.Tree.{Tree}
 use Rattle.quilt_btree.specs.Lists.{is_from_to, range_of}
 use Rattle.quilt_btree.specs.Trees.{IsTree}
-use Rattle.quilt_region.specs.Regions.{leaf_record, SpellsRegion, HasRegion, region_records}
+use Rattle.quilt_region.specs.Regions.{leaf_record, SpellsRegion, HasRegion}
 use Rattle.quilt_region.specs.Windows.{leaves_within, records_within}
 use Rattle.quilt_region.proofs.Keys.{by_key, by_key_total, le_layer, le_code, less_code, less_depth}
 use Rattle.quilt_region.proofs.LayerPlans.{shorter}

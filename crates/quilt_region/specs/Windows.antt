@@ -1,12 +1,10 @@
 -- What a plan of a window reads of a layer, and what is known of it then.
-use Rattle.std.specs.Prelude.{◌≡◌, ℕ, ◌+◌, ◌<◌, ◌≤◌, Bool, true, false, ◌&&◌, nat_le, nat_lt, List, map, filter, Contains, if◌then◌else◌}
+use Rattle.std.specs.Prelude.{◌≡◌, ◌≢◌, ℕ, ◌+◌, ◌<◌, ◌≤◌, true, false, ◌&&◌, nat_le, nat_lt, List, map, filter, Contains, if◌then◌else◌}
 use Rattle.quilt_types.specs.declared.plane.Pixel.{Pixel}
 use Rattle.quilt_types.specs.declared.plane.Window.{Window}
 use Rattle.quilt_types.specs.declared.plane.Block.{Block}
-use Rattle.quilt_types.specs.declared.plane.Colour.{Colour}
 use Rattle.quilt_types.specs.Plane.{side, parent_of, in_block, Holds, IsBlock, Within}
 use Rattle.quilt_types.specs.Layers.{Grid, colour_at}
-use Rattle.quilt_types.specs.Algebra.{grid_of}
 use Rattle.quilt_types.specs.Quadtrees.{is_uniform, leaves}
 use Rattle.quilt_loc.specs.Codes.{code_from, code_to}
 use Rattle.quilt_record.specs.declared.record.Record.{Record}
@@ -51,3 +49,15 @@ pub record IsKnown (n : ℕ) (k : Known) : Type 0 where
   pub read : IsBlock n k.read
   pub top : IsBlock n k.top
   pub inside : Within k.read k.top
+
+-- What is known tells the layer around a window: all of it in the block that was read, one colour up to the upper block,
+-- beside which there is another colour, and a colour elsewhere that is neither of two.
+pub record Knows (n : ℕ) (g : Grid) (w : Window) (k : Known) : Type 0 where
+  pub blocks : IsKnown n k
+  pub holds : HoldsWindow k.read w
+  pub read_cut : IsCutOut n g k.read
+  pub top_cut : IsCutOut n g k.top
+  pub around : HasAround n g k.top k.read k.around.0
+  pub ends : k.top.side < side n → HasAround n g (parent_of k.top) k.top k.around.0 → ⊥
+  pub other : k.elsewhere.0 ≢ k.around.0
+  pub first : k.elsewhere.0 ≢ colour_at n g (record { x = w.x; y = w.y })

@@ -1,7 +1,7 @@
 ghost use Rattle.std.specs.Prelude.{◌≡◌, ℕ, ◌+◌, ◌*◌, ◌<◌, ◌≤◌, true, false, length, Contains, IfOk, IfErr};
 ghost use Rattle.quilt_types.specs.declared.plane.Block.{Block as AnyBlock};
 ghost use Rattle.quilt_types.specs.Plane.{parent_of, side as side_of, is_window, IsBlock, Within};
-ghost use Rattle.quilt_types.specs.Layers.{Grid};
+ghost use Rattle.quilt_types.specs.Layers.{Grid, colour_at};
 ghost use Rattle.quilt_types.specs.Quadtrees.{leaves};
 ghost use Rattle.quilt_store.specs.Store.{Tells};
 ghost use Rattle.quilt_btree.specs.Stops.{HasStopCause, IsSound};
@@ -51,22 +51,23 @@ fn block_around(w: Window, level: u8) -> Block
 }
 
 /// A block that has all pixels of a window, and lies in no larger one of one colour: the leaf that holds the window, or
-/// else the smallest block that does. It reads at most 6 pages.
+/// else the smallest block that does; and the colour of the window's first pixel. It reads at most 6 pages.
 pub fn block_with<S: PageStore>(
     store: &mut S,
     tree: &Tree,
     layer: u8,
     level: u8,
     w: Window,
-) -> Result<Block, Stop>
+) -> Result<(Block, Colour), Stop>
     requires rooted { IsRooted (S.size store.old) tree.now }
     requires layer { 1 ≤ layer }
     requires level { (1 ≤ level) × (level ≤ 12) }
     requires window { is_window level w ≡ true }
-    ensures block { IfOk result (IsBlock level) }
-    ensures holds { IfOk result (λ b. HoldsWindow b w) }
-    ensures cut_out { IfOk result (λ b. (g : Grid) → HasRegion (S.told store.old) tree.now layer level g → IsCutOut level g b) }
-    ensures few { IfOk result (λ b. (g : Grid) (a : AnyBlock) → HasRegion (S.told store.old) tree.now layer level g → IsBlock level a → HoldsWindow a w → length (leaves_within level g b) ≤ 1 + length (leaves_within level g a)) }
+    ensures block { IfOk result (λ r. IsBlock level r.0) }
+    ensures holds { IfOk result (λ r. HoldsWindow r.0 w) }
+    ensures cut_out { IfOk result (λ r. (g : Grid) → HasRegion (S.told store.old) tree.now layer level g → IsCutOut level g r.0) }
+    ensures first { IfOk result (λ r. (g : Grid) → HasRegion (S.told store.old) tree.now layer level g → r.1.0 ≡ colour_at level g (record { x = w.x; y = w.y })) }
+    ensures few { IfOk result (λ r. (g : Grid) (a : AnyBlock) → HasRegion (S.told store.old) tree.now layer level g → IsBlock level a → HoldsWindow a w → length (leaves_within level g r.0) ≤ 1 + length (leaves_within level g a)) }
     ensures sound { IfErr result (λ e. (g : Grid) → HasRegion (S.told store.old) tree.now layer level g → IsSound e) }
     ensures cause { HasStopCause (S.faults store.old) (S.faults store.new) result }
     ensures size { S.size store.new ≡ S.size store.old }
@@ -78,8 +79,8 @@ pub fn block_with<S: PageStore>(
 {
     match leaf_with(store, tree, layer, level, Pixel { x: w.x, y: w.y }) {
         Err(e) => Err(e),
-        Ok(leaf) if holds_window(leaf.block, w) => Ok(leaf.block),
-        Ok(_) => Ok(block_around(w, level)),
+        Ok(leaf) if holds_window(leaf.block, w) => Ok((leaf.block, leaf.colour)),
+        Ok(leaf) => Ok((block_around(w, level), leaf.colour)),
     }
 }
 

@@ -1,28 +1,34 @@
-ghost use Rattle.std.specs.Prelude.{◌≡◌, ℕ, ◌+◌, ◌*◌, ◌≤◌, true, IfOk, IfErr, List, length};
-ghost use Rattle.quilt_types.specs.Plane.{is_window};
+ghost use Rattle.std.specs.Prelude.{◌≡◌, ◌≢◌, ℕ, ◌+◌, ◌*◌, ◌≤◌, true, IfOk, IfErr, IsErrOf, List, length};
+ghost use Rattle.quilt_types.specs.declared.plane.Block.{Block as AnyBlock};
+ghost use Rattle.quilt_types.specs.declared.stop.Stop.TheVariants.{Device};
+ghost use Rattle.quilt_types.specs.Plane.{is_window, IsBlock};
 ghost use Rattle.quilt_types.specs.Layers.{Grid, IsGrid};
 ghost use Rattle.quilt_types.specs.Algebra.{painted};
-ghost use Rattle.quilt_record.specs.declared.record.Record.{Record};
+ghost use Rattle.quilt_record.specs.declared.record.Record.{Record as AnyRecord};
 ghost use Rattle.quilt_record.specs.declared.edits.Edits.{Edits as AnyEdits};
 ghost use Rattle.quilt_store.specs.Store.{Tells};
-ghost use Rattle.quilt_blocks.specs.Cutting.{leaves_by_code};
 ghost use Rattle.quilt_btree.specs.Stops.{HasStopCause, IsSound};
 ghost use Rattle.quilt_btree.specs.Trees.{IsRooted};
 ghost use Rattle.quilt_region.specs.Regions.{HasRegion, SpellsRegion};
 ghost use Rattle.quilt_region.specs.Plans.{LeadsTo, IsEdited, IsFresh};
+ghost use Rattle.quilt_region.specs.Windows.{HoldsWindow, IsKnown, Knows, leaves_within, records_within};
 
 use crate::comparing::edits_between;
+use crate::filling::fill;
+use crate::known::Known;
+use crate::nearing::{block_up_to, block_with};
 use crate::painting::paint;
-use crate::reading::read_list;
+use crate::reading::records_in;
 use quilt_blocks::{Cursor, LeafList};
 use quilt_btree::Tree;
-use quilt_record::{Edits, RecordList, region_record};
+use quilt_record::{Edits, Record, RecordList, region_record};
 use quilt_store::PageStore;
 use quilt_types::{Colour, Stop, Window};
 use std::alloc::{AllocError, Global};
 
 /// The records that go and those that come when the pixels of a window of the region layer get one colour, each in the
-/// order of their codes. It reads the layer once: the cost of a small window too is that of the whole layer.
+/// order of their codes. It reads the leaf that holds the window, or else those within the smallest block that does, and
+/// goes up from there while the quarters beside it are leaves of the new colour (Samet 1990).
 pub fn plan_rect<S: PageStore>(
     alloc: Global,
     store: &mut S,
@@ -43,12 +49,95 @@ pub fn plan_rect<S: PageStore>(
     ensures told { S.told store.new ≡ S.told store.old }
     ensures free { S.free store.new ≡ S.free store.old }
     ensures later { S.later store.old store.new }
-    ensures reads { IfOk result (λ edits. (g : Grid) → HasRegion (S.told store.old) tree.now layer level g → Tells (λ old new. new ≤ old + 6 + 3 * length (leaves_by_code level g)) (S.reads store.old) (S.reads store.new)) }
+
+    // Of the leaves it reads no more than one and those that begin in any one block that has the whole window.
+    ensures reads { IfOk result (λ edits. (g : Grid) (b : AnyBlock) → HasRegion (S.told store.old) tree.now layer level g → IsBlock level b → HoldsWindow b w → Tells (λ old new. new ≤ old + (15 + 24 * level + 3 * length (leaves_within level g b))) (S.reads store.old) (S.reads store.new)) }
+    ensures pixel { w.w ≡ 1 → w.h ≡ 1 → IfOk result (λ edits. (g : Grid) → HasRegion (S.told store.old) tree.now layer level g → Tells (λ old new. new ≤ old + (18 + 24 * level)) (S.reads store.old) (S.reads store.new)) }
     ensures changed { S.changed store.new ≤ S.changed store.old }
 {
-    match read_list(alloc, store, tree, layer, level) {
+    match what_is_around(store, tree, layer, level, w, c) {
         Err(e) => Err(e),
-        Ok(old) => match repaint(alloc, layer, &old, w, c) {
+        Ok(known) => match records_in(alloc, store, tree, layer, level, known.read) {
+            Err(e) => Err(e),
+            Ok(records) => plan_known(alloc, &records, layer, level, &known, w),
+        },
+    }
+}
+
+/// What is to be known of a layer where a window is painted. It reads at most 6 pages, and 24 more for each level.
+fn what_is_around<S: PageStore>(
+    store: &mut S,
+    tree: &Tree,
+    layer: u8,
+    level: u8,
+    w: Window,
+    c: Colour,
+) -> Result<Known, Stop>
+    requires rooted { IsRooted (S.size store.old) tree.now }
+    requires layer { 1 ≤ layer }
+    requires level { (1 ≤ level) × (level ≤ 12) }
+    requires window { is_window level w ≡ true }
+    ensures blocks { IfOk result (IsKnown level) }
+    ensures colour { IfOk result (λ k. k.around ≡ c) }
+    ensures knows { IfOk result (λ k. (g : Grid) → HasRegion (S.told store.old) tree.now layer level g → Knows level g w k) }
+    ensures few { IfOk result (λ k. (g : Grid) (a : AnyBlock) → HasRegion (S.told store.old) tree.now layer level g → IsBlock level a → HoldsWindow a w → length (leaves_within level g k.read) ≤ 1 + length (leaves_within level g a)) }
+    ensures sound { IfErr result (λ e. (g : Grid) → HasRegion (S.told store.old) tree.now layer level g → IsSound e) }
+    ensures cause { HasStopCause (S.faults store.old) (S.faults store.new) result }
+    ensures size { S.size store.new ≡ S.size store.old }
+    ensures told { S.told store.new ≡ S.told store.old }
+    ensures free { S.free store.new ≡ S.free store.old }
+    ensures later { S.later store.old store.new }
+    ensures reads { Tells (λ old new. new ≤ old + (6 + 24 * level)) (S.reads store.old) (S.reads store.new) }
+    ensures changed { S.changed store.new ≤ S.changed store.old }
+{
+    match block_with(store, tree, layer, level, w) {
+        Err(e) => Err(e),
+        Ok((read, first)) => match block_up_to(store, tree, layer, level, read, c) {
+            Err(e) => Err(e),
+            Ok(top) => Ok(Known {
+                read,
+                top,
+                around: c,
+                elsewhere: other_colour(c, first),
+            }),
+        },
+    }
+}
+
+/// A colour that is neither of two.
+fn other_colour(a: Colour, b: Colour) -> Colour
+    ensures first { result.0 ≢ a.0 }
+    ensures second { result.0 ≢ b.0 }
+{
+    if a.0 != 0 && b.0 != 0 {
+        return Colour(0);
+    }
+    if a.0 != 1 && b.0 != 1 {
+        return Colour(1);
+    }
+    Colour(2)
+}
+
+/// The records that go and those that come, where this is known of a layer.
+fn plan_known(
+    alloc: Global,
+    records: &[Record],
+    layer: u8,
+    level: u8,
+    known: &Known,
+    w: Window,
+) -> Result<Edits, Stop>
+    requires layer { 1 ≤ layer }
+    requires level { (1 ≤ level) × (level ≤ 12) }
+    requires window { is_window level w ≡ true }
+    requires blocks { IsKnown level known.now }
+    ensures plan { IfOk result (λ edits. (g : Grid) → records.now ≡ records_within level layer g known.now.read → Knows level g w known.now → LeadsTo level layer g (painted level g w known.now.around.0) edits) }
+    ensures sound { IfErr result (λ e. (g : Grid) → records.now ≡ records_within level layer g known.now.read → Knows level g w known.now → IsSound e) }
+    ensures no_fault { IsErrOf result Device → ⊥ }
+{
+    match fill(alloc, records, layer, level, known) {
+        Err(e) => Err(e),
+        Ok(old) => match repaint(alloc, layer, &old, w, known.around) {
             Ok(edits) => Ok(edits),
             Err(_) => Err(Stop::Memory),
         },
@@ -102,7 +191,7 @@ pub fn plan_replace(
     ensures plan { IfOk result (λ edits. LeadsTo old.now.level layer old.now.grid new.now.grid edits) }
 
     // Such edits turn records that spell the layer as the old grid into records that spell it as the new one.
-    ensures law { (n number : ℕ) (g h : Grid) (edits : AnyEdits) (rs now : List Record) → n ≤ 12 → IsGrid 2 n h → LeadsTo n number g h edits → SpellsRegion rs number n g → IsEdited rs edits now → SpellsRegion now number n h }
+    ensures law { (n number : ℕ) (g h : Grid) (edits : AnyEdits) (rs now : List AnyRecord) → n ≤ 12 → IsGrid 2 n h → LeadsTo n number g h edits → SpellsRegion rs number n g → IsEdited rs edits now → SpellsRegion now number n h }
 {
     edits_between(alloc, layer, old, new)
 }

@@ -116,6 +116,45 @@ fn a_layer_in_a_store(rt: HostRuntime) -> Result<(), Fail> {
 }
 
 #[test]
+fn plans_of_windows_in_a_store(rt: HostRuntime) -> Result<(), Fail> {
+    let blank = uniform(rt.alloc(), Colour(0))?;
+    let plan = plan_new(rt.alloc(), 1, &blank)?;
+    let (mut store, tree) = planted(rt.alloc(), plan.add.records())?;
+    let one = plan_rect(rt.alloc(), &mut store, &tree, 1, 3, PIXEL, Colour(7))?;
+    assert_eq!(rt; one.remove.records(), plan.add.records());
+    assert_eq!(rt; one.add.records().len(), 10);
+    let none = plan_rect(rt.alloc(), &mut store, &tree, 1, 3, PIXEL, Colour(0))?;
+    assert_eq!(rt; none.remove.records().len(), 0);
+    assert_eq!(rt; none.add.records().len(), 0);
+    let across = Window {
+        x: 3,
+        y: 3,
+        w: 2,
+        h: 2,
+    };
+    let four = plan_rect(rt.alloc(), &mut store, &tree, 1, 3, across, Colour(7))?;
+    assert_eq!(rt; four.remove.records().len(), 1);
+    assert_eq!(rt; four.add.records().len(), 28);
+    Ok(())
+}
+
+#[test]
+fn keys_around_a_layer(rt: HostRuntime) -> Result<(), Fail> {
+    layer_laws();
+    region_laws();
+    assert_eq!(rt;
+        key_bytes(&first_key(9)),
+        [0, 9, 0, 0, 0, 0, 0, 0, 0, 0, 0, 0]
+    );
+    let last = key_bytes(&last_key(9));
+    assert_eq!(rt;
+        last,
+        [0, 9, 255, 255, 255, 255, 255, 255, 255, 255, 255, 255]
+    );
+    Ok(())
+}
+
+#[test]
 fn damaged_layers(rt: HostRuntime) -> Result<(), Fail> {
     let blank = uniform(rt.alloc(), Colour(0))?;
     let map = paint(rt.alloc(), &blank, PIXEL, Colour(7))?;

@@ -1,16 +1,14 @@
-use Rattle.std.proofs.Common.{◌≡◌, ◌+◌, ◌*◌, ◌/◌, ◌<◌, ◌≤◌, true, refl, sym, ◌∙◌, ap, subst, arith}
+use Rattle.std.proofs.Common.{◌≡◌, ◌+◌, ◌*◌, ◌/◌, sym, ◌∙◌, ap, subst, arith}
 use Rattle.std.proofs.lemmas.Result.{on_ok_weaker}
 use Rattle.quilt_types.specs.declared.plane.Block.{Block}
-use Rattle.quilt_types.specs.declared.stop.Stop.{Stop}
-use Rattle.quilt_types.specs.Layers.{Grid}
-use Rattle.quilt_types.specs.Plane.{corner, Holds, IsBlock}
+use Rattle.quilt_types.specs.Plane.{corner, Holds}
 use Rattle.quilt_loc.specs.Codes.{code_from}
 use Rattle.quilt_loc.proofs.Blocks.{IsBlock-up, Holds-from}
 use Rattle.quilt_loc.proofs.Intervals.{half_codes}
 use Rattle.quilt_loc.proofs.Nesting.{side_pos, twice_le}
 use Rattle.quilt_region.specs.Windows.{IsCutOut, known_colour, records_within}
 use Rattle.quilt_region.proofs.Beside.{wider, read_colour, blocks_equal, blocks_differ, if_err_weaker}
-use Rattle.quilt_region.proofs.Parts.{part_at, HasColours-at, IsBlock-at}
+use Rattle.quilt_region.proofs.Parts.{part_at}
 use Rattle.quilt_region.proofs.filling.+put_around.Goals as goal
 
 pub returns-then-eq-clause-colours : goal.returns-then-eq-clause-colours

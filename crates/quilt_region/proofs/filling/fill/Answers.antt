@@ -1,7 +1,6 @@
-use Rattle.std.proofs.Common.{◌≡◌, ℕ, ◌*◌, ◌%◌, ◌^◌, ◌<◌, ◌≤◌, [], length, refl, sym, ◌∙◌, ap, subst, arith}
-use Rattle.quilt_types.specs.declared.plane.Block.{Block}
-use Rattle.quilt_types.specs.Plane.{side, whole, IsBlock}
-use Rattle.quilt_loc.specs.Codes.{code_from, code_to}
+use Rattle.std.proofs.Common.{◌≡◌, ℕ, ◌*◌, ◌%◌, ◌^◌, ◌≤◌, length, sym, ◌∙◌, ap, subst, arith}
+use Rattle.quilt_types.specs.Plane.{whole, IsBlock}
+use Rattle.quilt_loc.specs.Codes.{code_to}
 use Rattle.quilt_loc.proofs.Intervals.{origin_code}
 use Rattle.quilt_loc.proofs.Quartered.{IsBlock-whole, side_le}
 use Rattle.quilt_blocks.specs.Painting.{Painted, grid_by_code}

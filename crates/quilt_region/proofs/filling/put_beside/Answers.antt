@@ -1,4 +1,4 @@
-use Rattle.std.proofs.Common.{◌≡◌, sym, ◌∙◌, ap}
+use Rattle.std.proofs.Common.{sym, ◌∙◌, ap}
 use Rattle.quilt_loc.proofs.Blocks.{IsBlock-up}
 use Rattle.quilt_blocks.specs.Painting.{Painted}
 use Rattle.quilt_region.specs.Windows.{known_colour}

@@ -1,6 +1,6 @@
-use Rattle.std.proofs.Common.{◌≡◌, ℕ, ◌+◌, ◌*◌, ◌<◌, ◌≤◌, true, false, refl, sym, ◌∙◌, ap, subst, arith}
+use Rattle.std.proofs.Common.{◌≡◌, ◌*◌, true, false, refl, sym, ap, subst, arith}
 use Rattle.quilt_types.specs.declared.plane.Block.{Block}
-use Rattle.quilt_types.specs.Plane.{side, parent_of, IsBlock, Within}
+use Rattle.quilt_types.specs.Plane.{IsBlock, Within}
 use Rattle.quilt_loc.proofs.Blocks.{side_most}
 use Rattle.quilt_loc.proofs.Nesting.{side_pos, IsBlock-parent_of}
 use Rattle.quilt_region.proofs.Parts.{block_room, window_room}

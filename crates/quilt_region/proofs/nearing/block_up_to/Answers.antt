@@ -1,12 +1,11 @@
-use Rattle.std.proofs.Common.{◌≡◌, ℕ, ◌+◌, ◌*◌, ◌^◌, ◌<◌, ◌≤◌, true, false, refl, sym, ◌∙◌, ap, subst, arith}
+use Rattle.std.proofs.Common.{◌≡◌, ◌*◌, refl, sym, ◌∙◌, ap, subst, arith}
 use Rattle.quilt_types.specs.declared.plane.Block.{Block}
-use Rattle.quilt_types.specs.Plane.{side, parent_of, IsBlock, Within}
-use Rattle.quilt_types.specs.Layers.{Grid}
+use Rattle.quilt_types.specs.Plane.{parent_of, IsBlock, Within}
 use Rattle.quilt_loc.proofs.Blocks.{side_most}
 use Rattle.quilt_loc.proofs.Nesting.{side_pos, IsBlock-parent_of, Within-parent_of, Within-trans}
 use Rattle.quilt_blocks.proofs.Maximal.{Within-self}
 use Rattle.quilt_region.specs.Regions.{HasRegion}
-use Rattle.quilt_region.specs.Windows.{HasAround, IsCutOut}
+use Rattle.quilt_region.specs.Windows.{HasAround}
 use Rattle.quilt_region.proofs.Beside.{true_false}
 use Rattle.quilt_region.proofs.Counting.{reads_then, reads_more, reads_none}
 use Rattle.quilt_region.proofs.Nearby.{not_whole, around_more, around_self, level_more, level_room}

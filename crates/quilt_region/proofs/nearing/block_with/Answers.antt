@@ -1,6 +1,6 @@
-use Rattle.std.proofs.Common.{◌≡◌, ℕ, ◌+◌, ◌<◌, ◌≤◌, true, false, length, refl, sym, ◌∙◌, ap, subst, arith}
-use Rattle.quilt_types.specs.declared.plane.Block.{Block}
+use Rattle.std.proofs.Common.{◌≤◌, length, sym, arith}
 use Rattle.quilt_blocks.specs.Cutting.{pair_of}
+use Rattle.quilt_blocks.proofs.Cuts.{leaf_is}
 use Rattle.quilt_region.specs.Windows.{leaves_within}
 use Rattle.quilt_region.proofs.Parts.{block_room, window_room}
 use Rattle.quilt_region.proofs.Nearby.{window_in, leaf_cut, around_cut, one_within, more_within}
@@ -41,3 +41,13 @@ pub returns-in-Ok-2-clause-few : goal.returns-in-Ok-2-clause-few
 returns-in-Ok-2-clause-few g c grid a h ha holds =
     let more = more_within c.args.level grid c.requires.level.1 c.block_around.result a c.block_around.ensures.valid ha (c.block_around.ensures.least a ha holds) in
     omega arith
+
+pub returns-in-Ok-clause-first : goal.returns-in-Ok-clause-first
+returns-in-Ok-clause-first g c grid h =
+    let l = c.in-Ok.ensures.leaf grid h in
+    sym ((leaf_is c.args.level grid (pair_of c.in-Ok.leaf) l.member).colour.each _ l.holds)
+
+pub returns-in-Ok-2-clause-first : goal.returns-in-Ok-2-clause-first
+returns-in-Ok-2-clause-first g c grid h =
+    let l = c.in-Ok.ensures.leaf grid h in
+    sym ((leaf_is c.args.level grid (pair_of c.in-Ok.leaf) l.member).colour.each _ l.holds)

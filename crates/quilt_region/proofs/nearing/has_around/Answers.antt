@@ -1,15 +1,14 @@
-use Rattle.std.proofs.Common.{◌≡◌, ℕ, ◌+◌, ◌*◌, ◌^◌, ◌<◌, ◌≤◌, true, false, get_or, refl, sym, ◌∙◌, ap, subst, ⊎_elim, Contains, arith}
+use Rattle.std.proofs.Common.{◌≡◌, ℕ, ◌+◌, ◌*◌, ◌^◌, ◌<◌, get_or, sym, ◌∙◌, ap, subst, ⊎_elim, Contains, arith}
 use Rattle.std.proofs.lemmas.Bool.{cases_lt}
 use Rattle.std.proofs.lemmas.List.{get_or_default}
 use Rattle.quilt_types.specs.declared.plane.Block.{Block}
 use Rattle.quilt_types.specs.Plane.{quarters_of, parent_of, IsBlock}
-use Rattle.quilt_types.specs.Layers.{Grid}
 use Rattle.quilt_types.specs.Quadtrees.{is_uniform, leaves}
 use Rattle.quilt_blocks.proofs.Leaves.{uniform_down}
 use Rattle.quilt_loc.proofs.Blocks.{IsBlock-up}
 use Rattle.quilt_loc.proofs.Nesting.{side_pos, IsBlock-parent_of, Within-parent_of}
 use Rattle.quilt_region.specs.Regions.{HasRegion}
-use Rattle.quilt_region.specs.Windows.{HasAround, IsCutOut}
+use Rattle.quilt_region.specs.Windows.{HasAround}
 use Rattle.quilt_region.proofs.Counting.{reads_then}
 use Rattle.quilt_region.proofs.Nearby.{around_has, around_several, quarter_leaf}
 use Rattle.quilt_region.proofs.Parts.{part_at}

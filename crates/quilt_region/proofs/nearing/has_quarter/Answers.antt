@@ -1,5 +1,4 @@
-use Rattle.std.proofs.Common.{◌≡◌, ℕ, ◌<◌, ◌≤◌, true, false, refl, sym, ◌∙◌, ap, subst, Contains, arith}
-use Rattle.quilt_types.specs.declared.plane.Block.{Block}
+use Rattle.std.proofs.Common.{sym, ◌∙◌, subst, Contains}
 use Rattle.quilt_types.specs.Plane.{corner}
 use Rattle.quilt_types.specs.Quadtrees.{leaves}
 use Rattle.quilt_loc.proofs.Nesting.{Holds-corner}

@@ -1,9 +1,8 @@
-use Rattle.std.proofs.Common.{◌≡◌, ℕ, ◌+◌, ◌*◌, ◌≤◌, length, refl, sym, ◌∙◌, ap, subst, arith}
-use Rattle.quilt_loc.specs.Codes.{code_from, code_to}
+use Rattle.std.proofs.Common.{ℕ, ◌+◌, ◌*◌, ◌≤◌, length, refl, ◌∙◌, ap, subst, arith}
 use Rattle.quilt_loc.proofs.Blocks.{IsBlock-up, side_most}
 use Rattle.quilt_store.specs.Store.{Tells}
 use Rattle.quilt_blocks.proofs.Chains.{member_pos}
-use Rattle.quilt_region.proofs.WithinKeys.{AreEnds, length_within, read_within}
+use Rattle.quilt_region.proofs.WithinKeys.{length_within, read_within}
 use Rattle.quilt_region.proofs.reading.records_in.Goals as goal
 
 pub code_of-requires-clause-in_x : goal.code_of-requires-clause-in_x

@@ -1,7 +1,7 @@
-use Rattle.std.proofs.Common.{◌≡◌, ℕ, ◌+◌, ◌^◌, ◌<◌, ◌≤◌, true, false, Result, Ok, Err, length, refl, sym, ◌∙◌, ap, subst, ⊎_elim, arith}
+use Rattle.std.proofs.Common.{◌≡◌, true, false, Result, Ok, Err, sym, ◌∙◌, ap, ⊎_elim, arith}
 use Rattle.std.specs.Prelude.{OnOk}
 use Rattle.std.specs.Result.{is_err}
-use Rattle.quilt_loc.specs.Codes.{code_from, code_to}
+use Rattle.quilt_loc.specs.Codes.{code_from}
 use Rattle.quilt_loc.proofs.Blocks.{IsBlock-up, side_most}
 use Rattle.quilt_blocks.specs.Painting.{Painted}
 use Rattle.quilt_blocks.proofs.Chains.{size_of-nil, member_pos}

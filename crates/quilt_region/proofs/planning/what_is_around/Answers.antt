@@ -1,0 +1,32 @@
+use Rattle.std.proofs.Common.{◌+◌, ◌*◌, sym, ◌∙◌, subst, arith}
+use Rattle.quilt_region.specs.Regions.{HasRegion}
+use Rattle.quilt_region.proofs.Counting.{reads_then, reads_more}
+use Rattle.quilt_region.proofs.planning.what_is_around.Goals as goal
+
+pub returns-in-Ok-block_up_to-clause-knows : goal.returns-in-Ok-block_up_to-clause-knows
+returns-in-Ok-block_up_to-clause-knows g c grid h =
+    let after = subst (λ told. HasRegion told c.args.tree.now c.args.layer c.args.level grid) (sym c.in-Ok.ensures.told) h in
+    let cut_out = c.in-Ok.ensures.cut_out grid h in
+    let up = c.in-Ok-block_up_to.ensures in
+    record {
+      blocks = record { read = c.in-Ok.ensures.block; top = up.block; inside = up.inside };
+      holds = c.in-Ok.ensures.holds;
+      read_cut = cut_out;
+      top_cut = up.cut_out grid after cut_out;
+      around = up.same grid after;
+      ends = up.ends grid after cut_out;
+      other = c.other_colour.ensures.first;
+      first = λ e. c.other_colour.ensures.second (e ∙ sym (c.in-Ok.ensures.first grid h));
+    }
+
+pub returns-in-Err-clause-reads : goal.returns-in-Err-clause-reads
+returns-in-Err-clause-reads g c = reads_more 6 (6 + 24 * c.args.level) _ _ (omega arith) c.in-Err.ensures.reads
+
+pub returns-in-Err-block_up_to-clause-sound : goal.returns-in-Err-block_up_to-clause-sound
+returns-in-Err-block_up_to-clause-sound g c grid h = c.in-Err-block_up_to.ensures.sound grid (subst (λ told. HasRegion told c.args.tree.now c.args.layer c.args.level grid) (sym c.in-Ok.ensures.told) h)
+
+pub returns-in-Err-block_up_to-clause-reads : goal.returns-in-Err-block_up_to-clause-reads
+returns-in-Err-block_up_to-clause-reads g c = reads_then 6 (24 * c.args.level) (6 + 24 * c.args.level) _ _ _ (omega arith) c.in-Ok.ensures.reads c.in-Err-block_up_to.ensures.reads
+
+pub returns-in-Ok-block_up_to-clause-reads : goal.returns-in-Ok-block_up_to-clause-reads
+returns-in-Ok-block_up_to-clause-reads g c = reads_then 6 (24 * c.args.level) (6 + 24 * c.args.level) _ _ _ (omega arith) c.in-Ok.ensures.reads c.in-Ok-block_up_to.ensures.reads
