@@ -101,7 +101,7 @@ pub Apart-permuted : {X : Type 0} (xs ys : List X) → IsPermutation xs ys → A
 Apart-permuted xs ys p h = let l = length_permutation xs ys p in Apart-shuffled xs ys h (omega arith) (permuted xs ys p)
 
 -- elements at two places of such a list differ
-apart_at : {X : Type 0} (xs : List X) (k : ℕ) (d : X) → Apart xs → suc k < length xs → get_or xs k d ≡ get_or xs (suc k) d → ⊥
+pub apart_at : {X : Type 0} (xs : List X) (k : ℕ) (d : X) → Apart xs → suc k < length xs → get_or xs k d ≡ get_or xs (suc k) d → ⊥
 apart_at [] k d h lt e = absurd (omega arith)
 apart_at (x ∷ []) k d h lt e = absurd (omega arith)
 apart_at (x ∷ y ∷ xs) zero d h lt e = h.0 (subst (Contains (y ∷ xs)) (sym e) (Contains-here y xs))
