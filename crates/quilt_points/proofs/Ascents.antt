@@ -71,8 +71,8 @@ Apart-shuffled {X} xs (y ∷ ys) h le same =
     let a = length-append p (y ∷ q) in
     let b = length-append p q in
     let away : Contains ys y → ⊥ = λ c.
-        let l = Apart-le xs ys h (λ z m. ⊎_elim (λ e. subst (Contains ys) e c) (λ d. d) (Contains-cons_cases y ys z ((same z).0 m))) in
-        absurd (omega arith) in (
+    let l = Apart-le xs ys h (λ z m. ⊎_elim (λ e. subst (Contains ys) e c) (λ d. d) (Contains-cons_cases y ys z ((same z).0 m))) in
+    absurd (omega arith) in (
       away,
       Apart-shuffled (p ++ q) ys parts.0 (omega arith) (λ z. (
         λ m. ⊎_elim (λ e. absurd (parts.1 (subst (Contains (p ++ q)) (sym e) m))) (λ d. d)

@@ -90,8 +90,8 @@ found_next points test n b qs i d hb wide are lt first old new h k =
       h.0 ++ k.0,
       k.1 ∙ ap (λ (l : List Point). l ++ k.0) h.1 ∙ append_assoc first h.0 k.0,
       subst (λ (l : List Block). AreOfAll points test l (entries_of (h.0 ++ k.0))) (sym (take_next qs i d (omega arith)))
-      (subst (AreOfAll points test (take i qs ++ get_or qs i d ∷ [])) (sym (map-append entry_of h.0 k.0))
-      (all_next points test (take i qs) (get_or qs i d) (entries_of h.0) (entries_of k.0) h.2 k.2 (quarter_before n b qs i d hb wide are lt))),
+          (subst (AreOfAll points test (take i qs ++ get_or qs i d ∷ [])) (sym (map-append entry_of h.0 k.0))
+          (all_next points test (take i qs) (get_or qs i d) (entries_of h.0) (entries_of k.0) h.2 k.2 (quarter_before n b qs i d hb wide are lt))),
     )
 
 pub found_all : (points : PointMap) (test : Pixel → Bool) (n : ℕ) (b : Block) (qs : List Block) (i : ℕ) → IsBlock n b → 1 < b.side → qs ≡ quarters_of b → 4 ≤ i → (first all : List Point)

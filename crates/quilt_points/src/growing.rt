@@ -73,7 +73,11 @@ fn covered(alloc: Global, points: &[Point], b: Block) -> Result<Vec<Point>, Allo
     requires { IsBlock 12 b }
     ensures { IfOk result (λ v. v.items ≡ filter (λ p. in_block b p.at) points.now) }
 {
-    points.iter().filter(|p| covers(b, p.at)).copied().collect(alloc)
+    points
+        .iter()
+        .filter(|p| covers(b, p.at))
+        .copied()
+        .collect(alloc)
 }
 
 /// Adds the records of a block with these points: one that says that there is none, where there is none.

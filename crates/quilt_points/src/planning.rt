@@ -183,7 +183,11 @@ fn point_at(points: &[Point], at: Pixel) -> Option<Point>
 fn others(alloc: Global, points: &[Point], at: Pixel) -> Result<Vec<Point>, AllocError>
     ensures { IfOk result (λ v. v.items ≡ filter (λ p. not (same_pixel p.at at)) points.now) }
 {
-    points.iter().filter(|p| !is_at(p, at)).copied().collect(alloc)
+    points
+        .iter()
+        .filter(|p| !is_at(p, at))
+        .copied()
+        .collect(alloc)
 }
 
 /// Whether the point is at the pixel.

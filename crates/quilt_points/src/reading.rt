@@ -174,7 +174,13 @@ fn label_in<S: PageStore>(
     ensures reads { Tells (λ old new. new ≤ old + 3) (S.reads store.old) (S.reads store.new) }
     ensures changed { S.changed store.new ≤ S.changed store.old }
 {
-    let like = point_record(layer.number, b, layer.level, layer.bucket, Some(Point { at, label: 0 }));
+    let like = point_record(
+        layer.number,
+        b,
+        layer.level,
+        layer.bucket,
+        Some(Point { at, label: 0 }),
+    );
     let key = like.key;
     match tree.get(store, &key) {
         Err(e) => Err(e),

@@ -17,8 +17,8 @@ returns-then-points-from t c =
     on_ok_weaker c.add_held.result
     (λ is. spread_few c.args.layer.level c.args.layer.bucket c.args.layer.number c.args.points.now c.args.b c.args.records.now.items c.add_held.new.records.items is
     (elim c.then-points-from.branch [
-      then-points-from-via-then-points-from w ↦ let few = w.if-points-from.true in let same = c.from.ensures in inl (omega arith)
-    | then-points-from-via-else-points-from+then-b-le1 w ↦ inr w.if-b-le1.true
+      | then-points-from-via-then-points-from w ↦ let few = w.if-points-from.true in let same = c.from.ensures in inl (omega arith)
+      | then-points-from-via-else-points-from+then-b-le1 w ↦ inr w.if-b-le1.true
     ]))
     c.add_held.ensures
 
@@ -36,9 +36,14 @@ covered-requires t c =
 pub spread-requires : goal.spread-requires
 spread-requires t c =
     let q = part_at c.args.layer.level c.args.b c.quarters-q-items.result c.loop-q.q-index (record { y = 0; x = 0; side = 0 }) c.args.layer.has_level.1 c.requires.block c.if-b-le1.false c.quarters-q-items.ensures.value c.loop-q-test.true in
-    let smaller = q.smaller in
-    (omega arith, (q.block, subst (All (λ (p : Point). is_pixel c.args.layer.level p.at ≡ true)) (sym (c.deref.ensures.value ∙ c.in_ok-here.ensures))
-    (All-filter (λ (p : Point). in_block (get_or c.quarters-q-items.result c.loop-q.q-index (record { y = 0; x = 0; side = 0 })) p.at) (λ (p : Point). is_pixel c.args.layer.level p.at ≡ true) c.args.points.now c.requires.points)))
+    let smaller = q.smaller in (
+      omega arith,
+      (
+        q.block,
+        subst (All (λ (p : Point). is_pixel c.args.layer.level p.at ≡ true)) (sym (c.deref.ensures.value ∙ c.in_ok-here.ensures))
+            (All-filter (λ (p : Point). in_block (get_or c.quarters-q-items.result c.loop-q.q-index (record { y = 0; x = 0; side = 0 })) p.at) (λ (p : Point). is_pixel c.args.layer.level p.at ≡ true) c.args.points.now c.requires.points),
+      ),
+    )
 
 pub loop-q-preserved : goal.loop-q-preserved
 loop-q-preserved t c =
