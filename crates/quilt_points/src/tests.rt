@@ -5,7 +5,7 @@ use super::*;
 use quilt_btree::Tree;
 use quilt_record::{Record, key_bytes, point_record};
 use quilt_store::{MemStore, PageStore};
-use quilt_types::{Block, Pixel, Point, Stop};
+use quilt_types::{Block, Pixel, Point, Stop, Window};
 use std::alloc::Global;
 use std::test::Fail;
 
@@ -92,6 +92,14 @@ fn a_second_point_and_back(rt: HostRuntime) -> Result<(), Fail> {
     assert_eq!(rt; find(&mut cut, &tree, 1, 3, 1, first.at)?, Some(5));
     assert_eq!(rt; find(&mut cut, &tree, 1, 3, 1, at)?, Some(6));
     assert_eq!(rt; find(&mut cut, &tree, 1, 3, 1, Pixel { x: 7, y: 7 })?, None);
+    let row = Window {
+        x: 0,
+        y: 0,
+        w: 2,
+        h: 1,
+    };
+    let found = within(rt.alloc(), &mut cut, &tree, 1, 3, 1, row)?;
+    assert_eq!(rt; found.items(), [first, Point { at, label: 6 }].as_slice());
     let back = plan_del(rt.alloc(), &mut cut, &tree, 1, 3, 1, at)?.ok_or("a point is there")?;
     assert_eq!(rt; back.remove.records(), plan.add.records());
     assert_eq!(rt; back.add.records(), [one].as_slice());
