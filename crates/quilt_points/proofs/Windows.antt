@@ -1,5 +1,5 @@
 -- The points of a layer in a window.
-use Rattle.std.proofs.Common.{◌≡◌, ℕ, zero, suc, ◌+◌, ◌<◌, ◌≤◌, ◌^◌, Bool, true, false, cond, List, [], ◌∷◌, ◌++◌, map, length, take, get_or, refl, sym, ◌∙◌, ap, subst, ⊎_elim, arith, Contains, filter, Ordering, Less, Equal, Greater, Some, append_assoc}
+use Rattle.std.proofs.Common.{◌≡◌, ℕ, suc, ◌+◌, ◌<◌, ◌≤◌, Bool, true, false, cond, List, [], ◌∷◌, ◌++◌, length, take, get_or, refl, sym, ◌∙◌, ap, subst, ⊎_elim, arith, Contains, filter, Ordering, Less, Equal, Greater, Some, append_assoc}
 use Rattle.std.specs.FinMap as finmap
 use Rattle.std.specs.Ordering.{is_lt, ordering_reverse}
 use Rattle.std.specs.Cmp.{IsTotalOrder, on_total}
@@ -11,17 +11,16 @@ use Rattle.quilt_types.specs.declared.plane.Pixel.{Pixel}
 use Rattle.quilt_types.specs.declared.plane.Block.{Block}
 use Rattle.quilt_types.specs.declared.plane.Point.{Point}
 use Rattle.quilt_types.specs.declared.plane.Window.{Window}
-use Rattle.quilt_types.specs.Plane.{side, whole, in_block, in_window, is_pixel, pixel_cmp, parent_of, quarters_of, IsBlock, Holds}
+use Rattle.quilt_types.specs.Plane.{whole, in_block, in_window, is_pixel, pixel_cmp, parent_of, quarters_of, IsBlock}
 use Rattle.quilt_types.specs.Layers.{PointMap, IsPointMap}
 use Rattle.quilt_types.specs.Quadtrees.{holds_few, point_blocks}
 use Rattle.quilt_loc.specs.Codes.{Rises}
-use Rattle.quilt_loc.proofs.Members.{Contains-nil, Contains-here, Contains-there, Contains-cons_cases, Contains-map, Contains-map_from, Contains-filter, Contains-filter_from}
+use Rattle.quilt_loc.proofs.Members.{Contains-nil, Contains-cons_cases, Contains-map, Contains-map_from, Contains-filter, Contains-filter_from}
 use Rattle.quilt_loc.proofs.Blocks.{in_block-true}
 use Rattle.quilt_loc.proofs.Rising.{Rises-filter, Rises-map, same_rising}
 use Rattle.quilt_loc.proofs.PlaneOrders.{pixel_total}
 use Rattle.quilt_loc.proofs.Quartered.{quarters_are, IsBlock-whole}
 use Rattle.quilt_loc.proofs.Nesting.{side_pos}
-use Rattle.quilt_blocks.proofs.Maximal.{IsMaximal}
 use Rattle.quilt_spell.specs.Apart.{Apart}
 use Rattle.quilt_spell.proofs.Lists.{Apart-filter}
 use Rattle.quilt_spell.proofs.Maps.{by_first, Rises-entries, get_from_entry}
@@ -29,7 +28,7 @@ use Rattle.quilt_spell.proofs.FactKeys.{pixel_same}
 use Rattle.quilt_point_laws.specs.Laws.{AreIn}
 use Rattle.quilt_point_laws.proofs.Counts.{few_pixel}
 use Rattle.quilt_points.specs.Layers.{entry_of, entries_of}
-use Rattle.quilt_points.specs.Reads.{IsHeld, AreOf}
+use Rattle.quilt_points.specs.Reads.{AreOf}
 use Rattle.quilt_points.specs.Windows.{IsOpen}
 use Rattle.quilt_points.proofs.Finds.{some_same, pixel_in}
 use Rattle.quilt_points.proofs.Said.{member_at, take_next}

@@ -1,4 +1,4 @@
-use Rattle.std.proofs.Common.{◌≡◌, ℕ, ◌≤◌, ◌++◌, true, List, take}
+use Rattle.std.proofs.Common.{◌≡◌, ◌≤◌, ◌++◌, List, take}
 use Rattle.quilt_types.specs.declared.plane.Point.{Point}
 use Rattle.quilt_types.specs.Plane.{in_window}
 use Rattle.quilt_types.specs.Layers.{PointMap}

@@ -1,4 +1,4 @@
-use Rattle.std.proofs.Common.{◌≡◌, ◌++◌, [], ◌∷◌, take, length, sym, ◌∙◌, ap, arith, List}
+use Rattle.std.proofs.Common.{◌∙◌, arith}
 use Rattle.std.proofs.lemmas.List.{take_all}
 use Rattle.quilt_points.proofs.Said.{pushed}
 use Rattle.quilt_points.proofs.windowing.list_of.Goals as goal

@@ -1,4 +1,4 @@
-use Rattle.std.proofs.Common.{◌≡◌, ℕ, ◌++◌, [], true, List, sym, ◌∙◌, ap, subst}
+use Rattle.std.proofs.Common.{◌++◌, List, sym, ◌∙◌, ap, subst}
 use Rattle.quilt_types.specs.declared.plane.Point.{Point}
 use Rattle.quilt_types.specs.Plane.{in_window, IsBlock}
 use Rattle.quilt_loc.proofs.Quartered.{IsBlock-whole}
