@@ -1,5 +1,5 @@
 -- Lists of records whose keys ascend.
-use Rattle.std.proofs.Common.{◌≡◌, ℕ, zero, suc, ◌+◌, ◌-◌, ◌<◌, ◌≤◌, Bool, true, false, ◌&&◌, not, List, [], ◌∷◌, ◌++◌, map, length, drop, get_or, refl, sym, ◌∙◌, ap, subst, ⊎_elim, ◌⊎◌, inl, inr, arith, Contains, Ordering, Less, Equal, Greater, length-append}
+use Rattle.std.proofs.Common.{◌≡◌, ℕ, zero, suc, ◌+◌, ◌-◌, ◌<◌, ◌≤◌, true, false, List, [], ◌∷◌, ◌++◌, length, drop, get_or, refl, sym, ◌∙◌, ap, subst, ⊎_elim, ◌⊎◌, inl, inr, arith, Contains, Ordering, Less, Equal, Greater, length-append}
 use Rattle.std.specs.Ordering.{is_lt, ordering_reverse}
 use Rattle.std.specs.Cmp.{tied_itself}
 use Rattle.std.proofs.lemmas.List.Elements.{Contains-append_left, Contains-append_right, Contains-append_cases}
@@ -8,11 +8,11 @@ use Rattle.std.proofs.lemmas.Bool.{cases_lt, and_parts, and_from, both_ways}
 use Rattle.std.proofs.lemmas.List.{get_or_default, drop_more}
 use Rattle.std.proofs.lemmas.List.Sorted.{Contains-permutation, IsPermutation-sym, length_permutation}
 use Rattle.quilt_loc.specs.Codes.{Rises}
-use Rattle.quilt_loc.proofs.Members.{Contains-nil, Contains-here, Contains-there, Contains-cons_cases, list_all-at, Contains-map}
+use Rattle.quilt_loc.proofs.Members.{Contains-nil, Contains-here, Contains-there, Contains-cons_cases}
 use Rattle.quilt_record.specs.declared.key.Key.{Key}
 use Rattle.quilt_record.specs.declared.record.Record.{Record}
 use Rattle.quilt_record.specs.Records.{key_cmp}
-use Rattle.quilt_record.proofs.Orders.{is_Less, key_equal, lt_lt, lt_not_eq, key_total}
+use Rattle.quilt_record.proofs.Orders.{is_Less, key_equal, lt_lt, key_total}
 use Rattle.quilt_node.specs.Pages.{is_ascending}
 use Rattle.quilt_node.specs.Nodes.{keys_of}
 use Rattle.quilt_spell.specs.Apart.{Apart, SameMembers}
@@ -101,7 +101,7 @@ pub Apart-permuted : {X : Type 0} (xs ys : List X) → IsPermutation xs ys → A
 Apart-permuted xs ys p h = let l = length_permutation xs ys p in Apart-shuffled xs ys h (omega arith) (permuted xs ys p)
 
 -- elements at two places of such a list differ
-apart_at : {X : Type 0} (xs : List X) (k : ℕ) (d : X) → Apart xs → suc k < length xs → get_or xs k d ≡ get_or xs (suc k) d → ⊥
+pub apart_at : {X : Type 0} (xs : List X) (k : ℕ) (d : X) → Apart xs → suc k < length xs → get_or xs k d ≡ get_or xs (suc k) d → ⊥
 apart_at [] k d h lt e = absurd (omega arith)
 apart_at (x ∷ []) k d h lt e = absurd (omega arith)
 apart_at (x ∷ y ∷ xs) zero d h lt e = h.0 (subst (Contains (y ∷ xs)) (sym e) (Contains-here y xs))

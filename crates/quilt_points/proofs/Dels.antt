@@ -1,21 +1,20 @@
 -- A point that goes.
-use Rattle.std.proofs.Common.{◌≡◌, ℕ, ◌^◌, ◌<◌, ◌≤◌, Bool, true, false, cond, not, List, [], ◌∷◌, map, Option, Some, None, refl, sym, ◌∙◌, ap, subst, ⊎_elim, ◌⊎◌, inl, inr, Contains, filter}
+use Rattle.std.proofs.Common.{◌≡◌, ℕ, ◌^◌, ◌≤◌, Bool, true, false, cond, not, List, [], ◌∷◌, map, Option, Some, None, refl, sym, ◌∙◌, ap, subst, ⊎_elim, inl, Contains, filter}
 use Rattle.std.specs.Prelude.{IsNone}
 use Rattle.std.specs.FinMap as finmap
 use Rattle.std.specs.List.Sorted.{IsPermutation}
-use Rattle.std.proofs.lemmas.Bool.{cases_Bool, both_ways}
 use Rattle.quilt_types.specs.declared.plane.Pixel.{Pixel}
 use Rattle.quilt_types.specs.declared.plane.Block.{Block}
 use Rattle.quilt_types.specs.declared.plane.Point.{Point}
-use Rattle.quilt_types.specs.Plane.{in_block, is_pixel, IsBlock}
+use Rattle.quilt_types.specs.Plane.{in_block}
 use Rattle.quilt_types.specs.Layers.{Points, PointMap, IsPointMap}
-use Rattle.quilt_types.specs.Quadtrees.{holds_few, point_blocks}
-use Rattle.quilt_types.specs.Facts.{Fact, facts, same_pixel}
+use Rattle.quilt_types.specs.Quadtrees.{point_blocks}
+use Rattle.quilt_types.specs.Facts.{facts, same_pixel}
 use Rattle.quilt_loc.proofs.Members.{Contains-filter, Contains-filter_from}
 use Rattle.quilt_loc.proofs.Blocks.{Holds-from}
 use Rattle.quilt_record.specs.declared.record.Record.{Record}
 use Rattle.quilt_record.specs.declared.edits.Edits.{Edits}
-use Rattle.quilt_blocks.proofs.Maximal.{IsMaximal, Within-self}
+use Rattle.quilt_blocks.proofs.Maximal.{Within-self}
 use Rattle.quilt_spell.proofs.Lists.{Apart-filter}
 use Rattle.quilt_point_laws.specs.Laws.{AreIn}
 use Rattle.quilt_point_laws.specs.Plans.{without_it, with_it}
@@ -28,7 +27,7 @@ use Rattle.quilt_points.specs.Growing.{gone_of, come_of}
 use Rattle.quilt_points.specs.Plans.{IsPlan, CanBeEdits}
 use Rattle.quilt_points.proofs.Finds.{same_pixel_is, same_pixel_self, none_some}
 use Rattle.quilt_points.proofs.Shapes.{block_is}
-use Rattle.quilt_points.proofs.Puts.{one_gone, one_come, held_point}
+use Rattle.quilt_points.proofs.Puts.{one_gone, one_come}
 use Rattle.quilt_points.proofs.Ways.{way_holds}
 use Rattle.quilt_points.proofs.Plans as plans
 

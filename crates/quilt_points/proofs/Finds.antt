@@ -1,7 +1,7 @@
 -- What is found at a pixel of a point layer.
-use Rattle.std.proofs.Common.{◌≡◌, ℕ, ◌+◌, ◌-◌, ◌<◌, ◌≤◌, ◌^◌, Bool, true, false, List, [], ◌∷◌, length, Option, Some, None, refl, sym, ◌∙◌, ap, subst, ⊎_elim, arith, Contains, ◌⊎◌, inl, inr, filter, cond, leb-true, eqb-true, ne_eqb, nat_lt, ltb-true, lt-ltb, Ordering, Less, Equal, Greater}
-use Rattle.std.specs.Prelude.{unwrap_or, find, MatchOption, IfSome, ◌&&◌, ◌==◌}
-use Rattle.std.specs.Ordering.{is_le, is_eq}
+use Rattle.std.proofs.Common.{◌≡◌, ℕ, ◌+◌, ◌<◌, ◌≤◌, ◌^◌, Bool, true, false, List, [], ◌∷◌, length, Option, Some, None, refl, sym, ◌∙◌, ap, subst, ⊎_elim, arith, Contains, ◌⊎◌, inl, inr, filter, leb-true, eqb-true, ne_eqb, nat_lt, ltb-true, lt-ltb, Ordering, Less, Equal, Greater}
+use Rattle.std.specs.Prelude.{unwrap_or, find, MatchOption, IfSome, ◌==◌}
+use Rattle.std.specs.Ordering.{is_eq}
 use Rattle.std.specs.FinMap as finmap
 use Rattle.std.proofs.lemmas.Bool.{cases_Bool, cond-true, cond-false, and_parts, and_from}
 use Rattle.std.proofs.lemmas.List.Elements.{All-contains}
@@ -9,10 +9,10 @@ use Rattle.std.proofs.lemmas.List.Sums.{length-filter}
 use Rattle.quilt_types.specs.declared.plane.Pixel.{Pixel}
 use Rattle.quilt_types.specs.declared.plane.Block.{Block}
 use Rattle.quilt_types.specs.declared.plane.Point.{Point}
-use Rattle.quilt_types.specs.Plane.{side, in_block, is_pixel, pixel_cmp, Holds, IsBlock}
+use Rattle.quilt_types.specs.Plane.{side, in_block, is_pixel, pixel_cmp}
 use Rattle.quilt_types.specs.Layers.{PointMap}
 use Rattle.quilt_types.specs.Facts.{Fact, HoldsPoint, HoldsNoPoint, same_pixel}
-use Rattle.quilt_types.specs.Quadtrees.{points_in, holds_few, point_blocks}
+use Rattle.quilt_types.specs.Quadtrees.{points_in, point_blocks}
 use Rattle.quilt_loc.specs.Codes.{code_at, Rises}
 use Rattle.quilt_loc.proofs.Members.{Contains-nil, Contains-here, Contains-there, Contains-cons_cases, Contains-filter}
 use Rattle.quilt_loc.proofs.Blocks.{in_block-true, side_most}
@@ -24,21 +24,19 @@ use Rattle.quilt_record.specs.Records.{key_cmp, point_item}
 use Rattle.quilt_record.specs.Lists.{has_key}
 use Rattle.quilt_record.specs.Canonical.{IsRecordOf, point_fact}
 use Rattle.quilt_record.proofs.Orders.{key_equal, key_total}
-use Rattle.quilt_blocks.proofs.Maximal.{IsMaximal}
 use Rattle.quilt_btree.specs.Lists.{value_in, value_of}
 use Rattle.quilt_btree.specs.declared.tree.Tree.{Tree}
 use Rattle.quilt_btree.specs.Lists.{floor_of}
 use Rattle.quilt_btree.specs.Trees.{IsTree}
-use Rattle.quilt_btree.proofs.Lists.{find_none}
-use Rattle.quilt_region.proofs.Keys.{by_key, by_key_total}
+use Rattle.quilt_region.proofs.Keys.{by_key}
 use Rattle.quilt_region.proofs.Trees.{tree_rises}
 use Rattle.quilt_spell.proofs.Maps.{entry_from_get, get_from_entry}
 use Rattle.quilt_spell.proofs.FactKeys.{pixel_same}
 use Rattle.std.specs.Cmp.{tied_itself}
-use Rattle.quilt_point_laws.proofs.OnBlocks.{IsOn, OfBlock}
+use Rattle.quilt_point_laws.proofs.OnBlocks.{OfBlock}
 use Rattle.quilt_points.specs.Layers.{block_facts, block_record, pixel_key, SpellsPoints, HasPoints}
 use Rattle.quilt_points.specs.Reads.{IsBlockRead, label_at}
-use Rattle.quilt_points.proofs.Shapes.{block_is, block_fact_from, block_fact_is, IsShaped, shaped, point_record_is, block_from}
+use Rattle.quilt_points.proofs.Shapes.{block_is, block_fact_from, block_fact_is, shaped, point_record_is, block_from}
 use Rattle.quilt_points.proofs.Records.{fact_there, fact_at}
 use Rattle.quilt_points.proofs.Floors.{IsAround, floor_around}
 

@@ -1,39 +1,35 @@
 -- The last record at or before the key of a pixel is one of the block that holds the pixel.
-use Rattle.std.proofs.Common.{◌≡◌, ℕ, ◌+◌, ◌*◌, ◌<◌, ◌≤◌, true, List, [], ◌∷◌, Option, Some, None, refl, sym, ◌∙◌, ap, subst, ⊎_elim, arith, Contains, Less, ◌⊎◌, inl, inr, filter}
+use Rattle.std.proofs.Common.{◌≡◌, ℕ, ◌<◌, ◌≤◌, true, List, [], ◌∷◌, Option, Some, None, refl, sym, ◌∙◌, ap, subst, ⊎_elim, arith, Contains, filter}
 use Rattle.std.specs.List.{last_or}
 use Rattle.std.specs.Ordering.{is_le}
 use Rattle.std.proofs.lemmas.Bool.{cases_lt}
 use Rattle.quilt_types.specs.declared.plane.Pixel.{Pixel}
 use Rattle.quilt_types.specs.declared.plane.Block.{Block}
-use Rattle.quilt_types.specs.Plane.{side, corner, in_block, Holds}
+use Rattle.quilt_types.specs.Plane.{side, corner, Holds}
 use Rattle.quilt_types.specs.Layers.{PointMap}
 use Rattle.quilt_types.specs.Facts.{Fact}
 use Rattle.quilt_types.specs.Quadtrees.{holds_few}
-use Rattle.quilt_loc.specs.Codes.{code_at, code_from, code_to, Rises}
+use Rattle.quilt_loc.specs.Codes.{code_at, code_from, Rises}
 use Rattle.quilt_loc.proofs.Members.{Contains-nil, Contains-here, Contains-there, Contains-cons_cases, Contains-filter, Contains-filter_from}
-use Rattle.quilt_loc.proofs.Blocks.{side_most, in_block-true}
+use Rattle.quilt_loc.proofs.Blocks.{side_most}
 use Rattle.quilt_loc.proofs.Rising.{Rises-filter}
 use Rattle.quilt_loc.proofs.CodeLaws.{depth_is}
-use Rattle.quilt_loc.proofs.Intervals.{code_held, held_code, square_pos}
-use Rattle.quilt_loc.proofs.Nesting.{side_pos, Holds-corner}
+use Rattle.quilt_loc.proofs.Intervals.{code_held, held_code}
+use Rattle.quilt_loc.proofs.Nesting.{Holds-corner}
 use Rattle.quilt_record.specs.declared.key.Key.{Key}
 use Rattle.quilt_record.specs.declared.record.Record.{Record}
 use Rattle.quilt_record.specs.Records.{key_cmp}
-use Rattle.quilt_record.proofs.Orders.{le_le}
 use Rattle.quilt_blocks.proofs.Maximal.{IsMaximal, IsMaximal-from}
-use Rattle.quilt_btree.specs.declared.tree.Tree.{Tree}
 use Rattle.quilt_btree.specs.Lists.{is_at_most, floor_of}
-use Rattle.quilt_btree.specs.Trees.{IsTree}
 use Rattle.quilt_region.proofs.Keys.{by_key, by_key_total, le_layer, le_code, less_code, less_depth}
-use Rattle.quilt_region.proofs.Trees.{tree_rises}
 use Rattle.quilt_spell.proofs.Holding.{HeldBy}
 use Rattle.std.specs.Cmp.{tied_itself}
 use Rattle.quilt_point_laws.proofs.Narrowing.{one_maximal}
 use Rattle.quilt_point_laws.proofs.Counts.{few_down}
 use Rattle.quilt_point_laws.proofs.OnBlocks.{OfBlock}
 use Rattle.quilt_point_laws.proofs.Plans.{block_around}
-use Rattle.quilt_points.specs.Layers.{pixel_key, block_record, SpellsPoints, HasPoints}
-use Rattle.quilt_points.proofs.Shapes.{block_is, IsKeyOf, key_is}
+use Rattle.quilt_points.specs.Layers.{pixel_key, block_record, SpellsPoints}
+use Rattle.quilt_points.proofs.Shapes.{key_is}
 use Rattle.quilt_points.proofs.Records.{fact_there, fact_at, some_on}
 
 -- the last of a rising list

@@ -1,5 +1,5 @@
 -- The records that are pushed for the points of a block.
-use Rattle.std.proofs.Common.{◌≡◌, ℕ, zero, suc, ◌+◌, ◌/◌, ◌<◌, ◌≤◌, ◌^◌, Bool, true, false, cond, nat_le, List, [], ◌∷◌, ◌++◌, map, length, take, get_or, filter, flat_map, refl, sym, ◌∙◌, ap, ap₂, subst, ⊎_elim, arith, append_assoc, pow_pos, pow-suc, ◌⊎◌, leb-true, le-leb}
+use Rattle.std.proofs.Common.{◌≡◌, ℕ, zero, suc, ◌+◌, ◌<◌, ◌≤◌, ◌^◌, Bool, true, false, cond, nat_le, List, [], ◌∷◌, ◌++◌, map, length, take, get_or, filter, flat_map, refl, sym, ◌∙◌, ap, ap₂, ⊎_elim, arith, append_assoc, pow_pos, pow-suc, ◌⊎◌, leb-true, le-leb}
 use Rattle.std.proofs.lemmas.Bool.{cases_Bool, cond-true, cond-false}
 use Rattle.std.proofs.lemmas.List.{map-append, length-map, take_all, append-nil, get_or_default}
 use Rattle.std.proofs.lemmas.Grind.{flat_map-append}

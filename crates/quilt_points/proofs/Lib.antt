@@ -14,3 +14,4 @@ pub mod Adds
 pub mod Dels
 pub mod Results
 pub mod Spelled
+pub mod Windows

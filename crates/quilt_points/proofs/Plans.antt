@@ -1,19 +1,16 @@
 -- What goes and comes in a point layer, as edits of its records.
-use Rattle.std.proofs.Common.{◌≡◌, ℕ, ◌-◌, ◌≤◌, ◌↔◌, List, [], ◌∷◌, map, Option, Some, None, refl, sym, ◌∙◌, ap, subst, ⊎_elim, ◌⊎◌, Contains}
+use Rattle.std.proofs.Common.{◌≡◌, ℕ, ◌≤◌, List, [], ◌∷◌, map, Option, Some, refl, sym, ◌∙◌, ap, subst, ⊎_elim, Contains}
 use Rattle.std.specs.List.Sorted.{IsPermutation}
 use Rattle.quilt_types.specs.declared.plane.Block.{Block}
-use Rattle.quilt_types.specs.declared.plane.Point.{Point}
 use Rattle.quilt_types.specs.Layers.{Layer, Points, PointMap, IsPointMap}
-use Rattle.quilt_types.specs.Facts.{Fact, IsOfKind, HoldsPoint, HoldsNoPoint, facts}
-use Rattle.quilt_loc.specs.Codes.{code_from}
-use Rattle.quilt_loc.proofs.Members.{Contains-here, Contains-there, Contains-map, Contains-map_from}
+use Rattle.quilt_types.specs.Facts.{Fact, HoldsPoint, HoldsNoPoint, facts}
+use Rattle.quilt_loc.proofs.Members.{Contains-here, Contains-there, Contains-map_from}
 use Rattle.quilt_loc.proofs.CodeLaws.{depth_is}
-use Rattle.quilt_record.specs.declared.key.Key.{Key}
 use Rattle.quilt_record.specs.declared.record.Record.{Record}
 use Rattle.quilt_record.specs.Records.{record_of}
 use Rattle.quilt_record.specs.Canonical.{point_fact}
-use Rattle.quilt_spell.specs.Apart.{Apart, SameMembers}
-use Rattle.quilt_spell.specs.Changing.{records_alone, LeadsTo}
+use Rattle.quilt_spell.specs.Apart.{Apart}
+use Rattle.quilt_spell.specs.Changing.{LeadsTo}
 use Rattle.quilt_spell.proofs.FactKeys.{fact_alone}
 use Rattle.quilt_point_laws.specs.Swapping.{Swaps}
 use Rattle.quilt_point_laws.proofs.Leads.{points_lead}
@@ -22,7 +19,7 @@ use Rattle.quilt_record.specs.declared.edits.Edits.{Edits}
 use Rattle.quilt_points.specs.Layers.{block_record}
 use Rattle.quilt_points.specs.Reads.{IsRow}
 use Rattle.quilt_points.specs.Plans.{IsPlan, HaveOwnKeys, CanBeEdits}
-use Rattle.quilt_points.proofs.Shapes.{IsShaped, shaped, point_record_is, IsKeyOf, key_is, fits_block}
+use Rattle.quilt_points.proofs.Shapes.{shaped, point_record_is, key_is}
 use Rattle.quilt_points.proofs.Ranges.{same_block}
 use Rattle.quilt_points.proofs.Said.{row_alone}
 use Rattle.quilt_points.proofs.Ascents.{permuted, Apart-permuted}

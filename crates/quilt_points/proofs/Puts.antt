@@ -1,30 +1,27 @@
 -- A point that comes into a block, and one that goes.
-use Rattle.std.proofs.Common.{◌≡◌, ℕ, ◌+◌, ◌<◌, ◌≤◌, ◌^◌, ◌↔◌, Bool, true, false, cond, nat_lt, nat_le, List, [], ◌∷◌, ◌++◌, map, length, Option, Some, None, refl, sym, ◌∙◌, ap, ap₂, subst, ⊎_elim, ◌⊎◌, inl, inr, arith, Contains, filter, leb-true, le-leb, ltb-true, lt-ltb}
-use Rattle.std.specs.Prelude.{IsNone, IsSome, ◌==◌}
+use Rattle.std.proofs.Common.{◌≡◌, ℕ, ◌+◌, ◌<◌, ◌≤◌, ◌^◌, true, cond, nat_lt, nat_le, List, [], ◌∷◌, map, length, Option, Some, None, refl, sym, ◌∙◌, ap, subst, ⊎_elim, arith, Contains, leb-true, le-leb, ltb-true, lt-ltb}
+use Rattle.std.specs.Prelude.{IsSome, ◌==◌}
 use Rattle.std.specs.FinMap as finmap
 use Rattle.std.specs.List.Sorted.{IsPermutation}
 use Rattle.std.proofs.lemmas.Bool.{cases_Bool, both_ways}
-use Rattle.std.proofs.lemmas.List.Elements.{All-contains}
 use Rattle.quilt_types.specs.declared.plane.Pixel.{Pixel}
 use Rattle.quilt_types.specs.declared.plane.Block.{Block}
 use Rattle.quilt_types.specs.declared.plane.Point.{Point}
-use Rattle.quilt_types.specs.Plane.{in_block, is_pixel, pixel_cmp, Holds, IsBlock}
+use Rattle.quilt_types.specs.Plane.{in_block, is_pixel, pixel_cmp}
 use Rattle.quilt_types.specs.Layers.{Points, PointMap, IsPointMap}
-use Rattle.quilt_types.specs.Quadtrees.{holds_few, point_blocks}
-use Rattle.quilt_types.specs.Facts.{Fact, HoldsPoint, HoldsNoPoint, facts}
+use Rattle.quilt_types.specs.Facts.{HoldsPoint, HoldsNoPoint, facts}
 use Rattle.quilt_loc.proofs.Members.{Contains-map, Contains-map_from, Contains-filter, Contains-filter_from}
 use Rattle.quilt_loc.proofs.Blocks.{Holds-from}
 use Rattle.quilt_loc.proofs.PlaneOrders.{pixel_total}
 use Rattle.quilt_record.specs.declared.record.Record.{Record}
 use Rattle.quilt_record.specs.declared.edits.Edits.{Edits}
-use Rattle.quilt_blocks.proofs.Maximal.{IsMaximal}
 use Rattle.quilt_spell.proofs.Maps.{entry_from_get, get_from_entry}
 use Rattle.quilt_spell.proofs.FactKeys.{pixel_same}
 use Rattle.quilt_point_laws.specs.Laws.{AreIn}
 use Rattle.quilt_point_laws.specs.Plans.{without_it, with_it}
 use Rattle.quilt_point_laws.specs.Spreading.{held_facts, spread}
-use Rattle.quilt_point_laws.proofs.Counts.{Comes, put_comes, del_comes}
-use Rattle.quilt_point_laws.proofs.Plans.{Changes, one_more, one_less, put_valid, del_valid}
+use Rattle.quilt_point_laws.proofs.Counts.{Comes, put_comes}
+use Rattle.quilt_point_laws.proofs.Plans.{Changes, one_more, put_valid}
 use Rattle.quilt_points.specs.Layers.{entry_of, entries_of, block_record}
 use Rattle.quilt_points.specs.Reads.{IsHeld}
 use Rattle.quilt_points.specs.Growing.{gone_of, come_of}

@@ -1,5 +1,5 @@
 -- The records between the first and the last key of a block are those of the facts on it.
-use Rattle.std.proofs.Common.{◌≡◌, ℕ, ◌+◌, ◌-◌, ◌<◌, ◌≤◌, ◌^◌, Bool, ◌⊎◌, inl, inr, true, false, List, [], ◌∷◌, map, length, take, Option, refl, sym, ◌∙◌, ap, subst, ⊎_elim, arith, Contains, filter, Ordering, Less, Equal, Greater, nat_cmp, cond, leb-true, lit<}
+use Rattle.std.proofs.Common.{◌≡◌, ℕ, ◌+◌, ◌-◌, ◌<◌, ◌≤◌, ◌^◌, Bool, ◌⊎◌, inl, inr, true, List, [], ◌∷◌, map, length, Option, refl, sym, ◌∙◌, ap, subst, ⊎_elim, arith, Contains, filter, Ordering, Equal, nat_cmp, leb-true}
 use Rattle.std.specs.Ordering.{ordering_then, is_le, is_lt}
 use Rattle.std.specs.Cmp.{nat_cmp_total, tied_itself}
 use Rattle.std.specs.FinMap as finmap
@@ -11,11 +11,10 @@ use Rattle.std.proofs.lemmas.List.{length-map, take_all}
 use Rattle.std.proofs.lemmas.List.Sums.{length-filter}
 use Rattle.quilt_types.specs.declared.plane.Pixel.{Pixel}
 use Rattle.quilt_types.specs.declared.plane.Block.{Block}
-use Rattle.quilt_types.specs.declared.plane.Point.{Point}
 use Rattle.quilt_types.specs.Plane.{corner, in_block, is_pixel, IsBlock}
 use Rattle.quilt_types.specs.Layers.{PointMap, IsPointMap}
 use Rattle.quilt_types.specs.Facts.{Fact, HoldsPoint, HoldsNoPoint, or_none, point_facts}
-use Rattle.quilt_types.specs.Quadtrees.{points_in, holds_few, point_blocks}
+use Rattle.quilt_types.specs.Quadtrees.{points_in, point_blocks}
 use Rattle.quilt_loc.specs.Codes.{Rises, code_at, code_from}
 use Rattle.quilt_loc.proofs.Members.{Contains-here, Contains-map, Contains-map_from, Contains-filter, Contains-filter_from}
 use Rattle.quilt_loc.proofs.Blocks.{side_most}
@@ -24,20 +23,16 @@ use Rattle.quilt_loc.proofs.Rising.{nat_less, Rises-filter}
 use Rattle.quilt_record.specs.declared.key.Key.{Key}
 use Rattle.quilt_record.specs.declared.record.Record.{Record}
 use Rattle.quilt_record.specs.Records.{key_cmp}
-use Rattle.quilt_record.specs.Canonical.{FactFits, point_fact}
-use Rattle.quilt_record.proofs.Orders.{lt_not_eq, key_total}
 use Rattle.quilt_btree.specs.declared.tree.Tree.{Tree}
 use Rattle.quilt_btree.specs.Lists.{is_from_to, range_of}
 use Rattle.quilt_btree.specs.Trees.{IsTree}
 use Rattle.quilt_btree.proofs.Lists.{gt_not_le}
 use Rattle.quilt_region.proofs.Keys.{le_layer, le_code, less_depth}
 use Rattle.quilt_region.proofs.Trees.{tree_rises}
-use Rattle.quilt_spell.specs.Apart.{Apart}
 use Rattle.quilt_spell.specs.Written.{by_key}
 use Rattle.quilt_spell.proofs.Lists.{Apart-rises, Apart-le}
 use Rattle.quilt_spell.proofs.Written.{by_key_total}
 use Rattle.quilt_point_laws.proofs.OnBlocks.{IsOn, on_from, on_is, OfBlock}
-use Rattle.quilt_point_laws.proofs.Cuts.{point_facts_apart}
 use Rattle.quilt_points.specs.Layers.{block_record, SpellsPoints, HasPoints}
 use Rattle.quilt_points.specs.Reads.{AreRecordsOf}
 use Rattle.quilt_points.proofs.Shapes.{block_is, block_from, IsKeyOf, key_is}

@@ -1,5 +1,5 @@
 -- The points that the records of a block say.
-use Rattle.std.proofs.Common.{◌≡◌, ℕ, zero, suc, ◌+◌, false, take, ◌<◌, ◌≤◌, arith, length, get_or, List, [], ◌∷◌, ◌++◌, map, Option, Some, None, refl, sym, ◌∙◌, ap, subst, ⊎_elim, Contains, filter}
+use Rattle.std.proofs.Common.{◌≡◌, ℕ, zero, suc, ◌+◌, false, take, ◌<◌, ◌≤◌, arith, length, get_or, List, [], ◌∷◌, ◌++◌, Option, Some, None, refl, sym, ◌∙◌, ap, subst, ⊎_elim, Contains, filter}
 use Rattle.std.specs.Option.{option_to_list}
 use Rattle.std.specs.Prelude.{◌==◌}
 use Rattle.std.proofs.Math.Seq.{take-suc}
@@ -11,9 +11,9 @@ use Rattle.quilt_types.specs.declared.plane.Block.{Block}
 use Rattle.quilt_types.specs.declared.plane.Point.{Point}
 use Rattle.quilt_types.specs.Plane.{in_block, IsBlock}
 use Rattle.quilt_types.specs.Layers.{PointMap, IsPointMap}
-use Rattle.quilt_types.specs.Facts.{Fact, HoldsPoint, HoldsNoPoint, point_facts}
+use Rattle.quilt_types.specs.Facts.{Fact, point_facts}
 use Rattle.quilt_types.specs.Quadtrees.{point_blocks}
-use Rattle.quilt_loc.proofs.Members.{Contains-nil, Contains-here, Contains-there, Contains-cons_cases, Contains-map, Contains-map_from, Contains-filter, Contains-filter_from}
+use Rattle.quilt_loc.proofs.Members.{Contains-nil, Contains-here, Contains-cons_cases, Contains-map, Contains-map_from, Contains-filter, Contains-filter_from}
 use Rattle.quilt_record.specs.declared.record.Record.{Record}
 use Rattle.quilt_record.specs.Canonical.{point_fact}
 use Rattle.quilt_record.proofs.Readers.{point_held}
@@ -25,7 +25,7 @@ use Rattle.quilt_point_laws.specs.Laws.{AreIn}
 use Rattle.quilt_point_laws.proofs.OnBlocks.{IsOn, on_from, on_is}
 use Rattle.quilt_points.specs.Layers.{entry_of, entries_of, block_record}
 use Rattle.quilt_points.specs.Reads.{AreRecordsOf, IsHeld, IsRow, AreSaid}
-use Rattle.quilt_points.proofs.Shapes.{block_is, IsShaped, shaped_on, point_record_is}
+use Rattle.quilt_points.proofs.Shapes.{block_is, shaped_on, point_record_is}
 use Rattle.quilt_points.proofs.Records.{some_on}
 
 -- ---- record by record

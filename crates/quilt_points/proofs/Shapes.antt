@@ -1,5 +1,5 @@
 -- The facts on the blocks of a point layer: what each is, and the record that it has.
-use Rattle.std.proofs.Common.{◌≡◌, ℕ, ◌≤◌, ◌<◌, ◌^◌, true, List, [], Option, Some, None, refl, sym, ap, subst, Contains, flat_map}
+use Rattle.std.proofs.Common.{◌≡◌, ℕ, ◌≤◌, ◌<◌, ◌^◌, true, [], Option, Some, None, refl, ap, Contains}
 use Rattle.std.specs.FinMap as finmap
 use Rattle.std.proofs.lemmas.List.Elements.{All-contains}
 use Rattle.quilt_types.specs.declared.plane.Pixel.{Pixel}
@@ -14,7 +14,6 @@ use Rattle.quilt_loc.specs.Codes.{code_from}
 use Rattle.quilt_loc.proofs.Members.{Contains-flat_map, Contains-flat_map_from}
 use Rattle.quilt_record.specs.declared.key.Key.{Key}
 use Rattle.quilt_record.specs.declared.record.Record.{Record}
-use Rattle.quilt_record.specs.Records.{record_of}
 use Rattle.quilt_record.specs.Canonical.{FactFits, IsRecordOf, point_fact}
 use Rattle.quilt_blocks.proofs.Maximal.{IsMaximal, IsMaximal-from, Contains-maximal}
 use Rattle.quilt_point_laws.proofs.OnBlocks.{IsOn, on_from, on_is, OfBlock}

@@ -1,20 +1,17 @@
 -- A list that spells a map spells each of its point layers.
-use Rattle.std.proofs.Common.{◌≡◌, ℕ, ◌≤◌, Bool, true, false, cond, List, [], map, Some, sym, ◌∙◌, ap, subst, ⊎_elim, arith, Contains, flat_map, eqb, ne_eqb}
+use Rattle.std.proofs.Common.{◌≡◌, ℕ, ◌≤◌, Bool, true, false, cond, List, map, sym, ◌∙◌, ap, subst, ⊎_elim, arith, Contains, flat_map, eqb, ne_eqb}
 use Rattle.std.specs.Prelude.{◌==◌}
-use Rattle.std.specs.FinMap as finmap
 use Rattle.std.proofs.lemmas.Bool.{cond-false}
-use Rattle.quilt_types.specs.declared.plane.Block.{Block}
-use Rattle.quilt_types.specs.Layers.{Points, PointMap, Map, IsPointMap}
-use Rattle.quilt_types.specs.Facts.{Fact, IsOfKind, HoldsPoint, HoldsNoPoint, point_facts, facts}
+use Rattle.quilt_types.specs.Layers.{Points, PointMap, IsPointMap}
+use Rattle.quilt_types.specs.Facts.{Fact, IsOfKind, point_facts}
 use Rattle.quilt_types.specs.Quadtrees.{point_blocks}
 use Rattle.quilt_loc.proofs.Members.{Contains-there, Contains-cons_cases, Contains-map}
 use Rattle.quilt_record.specs.declared.record.Record.{Record}
-use Rattle.quilt_record.specs.Records.{Numbering, record_of}
-use Rattle.quilt_spell.specs.Spelled.{SpellsUnder}
+use Rattle.quilt_record.specs.Records.{record_of}
 use Rattle.quilt_spell.specs.Written.{number_of, number_in}
 use Rattle.quilt_spell.proofs.OfLayer.{layer_spelled}
 use Rattle.quilt_spell.proofs.Written.{layer_record_from, number_fits, layer_fits}
-use Rattle.quilt_points.specs.Layers.{block_facts, block_record, SpellsPoints}
+use Rattle.quilt_points.specs.Layers.{block_record}
 use Rattle.quilt_points.specs.Laws.{PointsLaw}
 use Rattle.quilt_points.proofs.Shapes.{block_fact_from}
 use Rattle.quilt_points.proofs.Plans.{nameless}

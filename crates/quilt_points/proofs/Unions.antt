@@ -1,11 +1,10 @@
 -- The points of the quarters of a block together.
-use Rattle.std.proofs.Common.{◌≡◌, ℕ, zero, suc, ◌+◌, ◌<◌, ◌≤◌, ◌^◌, ◌↔◌, Bool, true, List, [], ◌∷◌, ◌++◌, length, take, get_or, refl, sym, ◌∙◌, ap, subst, ⊎_elim, arith, Contains, filter, pow_pos, pow-suc}
+use Rattle.std.proofs.Common.{◌≡◌, ℕ, zero, suc, ◌<◌, ◌^◌, ◌↔◌, Bool, true, List, [], ◌∷◌, ◌++◌, length, take, get_or, refl, sym, ◌∙◌, ap, subst, ⊎_elim, arith, Contains, pow_pos, pow-suc}
 use Rattle.std.specs.FinMap as finmap
-use Rattle.std.proofs.lemmas.List.{get_or_default}
 use Rattle.std.proofs.lemmas.List.Elements.{Contains-append_left, Contains-append_right, Contains-append_cases}
 use Rattle.quilt_types.specs.declared.plane.Pixel.{Pixel}
 use Rattle.quilt_types.specs.declared.plane.Block.{Block}
-use Rattle.quilt_types.specs.Plane.{in_block, quarters_of, whole, Holds, IsBlock}
+use Rattle.quilt_types.specs.Plane.{in_block, quarters_of, whole, IsBlock}
 use Rattle.quilt_types.specs.Layers.{PointMap}
 use Rattle.quilt_loc.proofs.Members.{Contains-nil, Contains-here, Contains-there, Contains-cons_cases, Contains-filter, Contains-filter_from}
 use Rattle.quilt_loc.proofs.Blocks.{Holds-from, in_block-true}
@@ -18,7 +17,7 @@ use Rattle.quilt_spell.proofs.Lists.{Apart-append}
 use Rattle.quilt_point_laws.specs.Laws.{AreIn}
 use Rattle.quilt_point_laws.proofs.Cuts.{quarters_apart}
 use Rattle.quilt_points.specs.Reads.{AreOf}
-use Rattle.quilt_points.proofs.Said.{take_next, member_at}
+use Rattle.quilt_points.proofs.Said.{member_at}
 
 -- ---- which quarters come first
 taken_there : {X : Type 0} (xs : List X) (i : ℕ) (x : X) → Contains (take i xs) x → Contains xs x

@@ -1,12 +1,12 @@
 -- Up from the block around a point that goes: what the quarters beside the way are, and where it ends.
-use Rattle.std.proofs.Common.{◌≡◌, ℕ, ◌+◌, ◌*◌, ◌<◌, ◌≤◌, ◌^◌, Bool, true, false, List, [], ◌∷◌, ◌++◌, take, get_or, length, Option, Some, None, sym, ◌∙◌, ap, subst, ⊎_elim, ◌⊎◌, arith, Contains, leb-true, le-leb}
+use Rattle.std.proofs.Common.{◌≡◌, ℕ, ◌+◌, ◌<◌, ◌≤◌, true, false, List, [], ◌∷◌, ◌++◌, take, get_or, length, Some, sym, ◌∙◌, ap, subst, ⊎_elim, arith, Contains, leb-true, le-leb}
 use Rattle.std.specs.FinMap as finmap
 use Rattle.std.proofs.lemmas.Bool.{cases_Bool, cases_lt, both_ways}
 use Rattle.std.proofs.lemmas.List.{length-map, map-append, take_all}
 use Rattle.quilt_types.specs.declared.plane.Pixel.{Pixel}
 use Rattle.quilt_types.specs.declared.plane.Block.{Block}
 use Rattle.quilt_types.specs.declared.plane.Point.{Point}
-use Rattle.quilt_types.specs.Plane.{side, block_cmp, parent_of, quarters_of, Holds, IsBlock, Within}
+use Rattle.quilt_types.specs.Plane.{side, block_cmp, parent_of, quarters_of, Holds, IsBlock}
 use Rattle.quilt_types.specs.Layers.{PointMap}
 use Rattle.quilt_types.specs.Quadtrees.{points_in, holds_few, point_blocks}
 use Rattle.quilt_loc.proofs.Nesting.{Within-holds, Within-trans, same_block_from, side_pos, IsBlock-parent_of, Within-parent_of}
@@ -14,7 +14,6 @@ use Rattle.quilt_loc.proofs.Quartered.{quarters_are, side_le}
 use Rattle.quilt_loc.proofs.PlaneOrders.{block_total}
 use Rattle.quilt_spell.proofs.Maps.{same_or_not}
 use Rattle.quilt_spell.proofs.FactKeys.{block_same}
-use Rattle.quilt_blocks.proofs.Maximal.{IsMaximal}
 use Rattle.quilt_point_laws.specs.Laws.{AreIn}
 use Rattle.quilt_point_laws.proofs.Counts.{Comes, del_comes, few_down, few_narrows}
 use Rattle.quilt_point_laws.proofs.Merging.{siblings, AreIn-same}

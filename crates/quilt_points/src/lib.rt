@@ -10,7 +10,12 @@ mod layer;
 mod listing;
 mod planning;
 mod reading;
+mod windowing;
 
 pub use laws::points_laws;
 pub use planning::{plan_del, plan_put};
 pub use reading::find;
+pub use windowing::within;
+
+#[cfg(test)]
+mod tests;

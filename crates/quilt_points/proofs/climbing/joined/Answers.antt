@@ -1,8 +1,8 @@
-use Rattle.std.proofs.Common.{◌≡◌, ℕ, ◌≤◌, true, [], length, get_or, refl, sym, ◌∙◌, ap, subst, arith, Contains, List}
+use Rattle.std.proofs.Common.{true, [], length, get_or, refl, sym, ◌∙◌, ap, subst, arith, Contains, List}
 use Rattle.std.specs.FinMap as finmap
 use Rattle.quilt_types.specs.declared.plane.Block.{Block}
 use Rattle.quilt_types.specs.declared.plane.Point.{Point}
-use Rattle.quilt_types.specs.Plane.{parent_of, quarters_of, IsBlock}
+use Rattle.quilt_types.specs.Plane.{quarters_of, IsBlock}
 use Rattle.quilt_types.specs.Quadtrees.{holds_few}
 use Rattle.quilt_loc.proofs.Blocks.{IsBlock-up}
 use Rattle.quilt_loc.proofs.Nesting.{IsBlock-parent_of, side_pos}

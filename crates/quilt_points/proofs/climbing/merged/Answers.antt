@@ -1,14 +1,14 @@
-use Rattle.std.proofs.Common.{◌≡◌, ℕ, ◌<◌, ◌≤◌, true, false, List, length, Option, None, Some, refl, sym, ◌∙◌, ap, subst, arith}
+use Rattle.std.proofs.Common.{◌≡◌, ◌<◌, ◌≤◌, true, false, List, length, refl, sym, ◌∙◌, ap, subst, arith}
 use Rattle.std.specs.FinMap as finmap
 use Rattle.quilt_types.specs.declared.plane.Block.{Block}
 use Rattle.quilt_types.specs.declared.plane.Point.{Point}
-use Rattle.quilt_types.specs.Plane.{parent_of, IsBlock}
+use Rattle.quilt_types.specs.Plane.{IsBlock}
 use Rattle.quilt_types.specs.Quadtrees.{holds_few}
 use Rattle.quilt_loc.proofs.Nesting.{IsBlock-parent_of}
 use Rattle.quilt_point_laws.specs.Laws.{AreIn}
 use Rattle.quilt_points.specs.Layers.{entries_of}
 use Rattle.quilt_points.specs.Climbing.{IsOnWay}
-use Rattle.quilt_points.proofs.Finds.{match_none, match_some, if_some_at, none_some}
+use Rattle.quilt_points.proofs.Finds.{if_some_at}
 use Rattle.quilt_points.proofs.Ways.{way_last, way_up, way_many, inner_from}
 use Rattle.quilt_points.proofs.climbing.merged.Goals as goal
 

@@ -1,5 +1,4 @@
-use Rattle.std.proofs.Common.{◌≡◌, ℕ, ◌+◌, ◌-◌, ◌<◌, ◌≤◌, true, false, get_or, sym, ◌∙◌, ap, subst, arith, length, Contains}
-use Rattle.quilt_record.specs.declared.record.Record.{Record}
+use Rattle.std.proofs.Common.{sym, ◌∙◌, subst, arith, Contains}
 use Rattle.quilt_points.proofs.Said.{member_at}
 use Rattle.quilt_points.proofs.Finds.{false_true}
 use Rattle.quilt_points.proofs.Ascents.{ascending_rises, first_passed, second_passed, none_ahead}

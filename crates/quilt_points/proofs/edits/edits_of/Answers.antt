@@ -1,4 +1,4 @@
-use Rattle.std.proofs.Common.{◌≡◌, true, false, List, sym, ◌∙◌, ap, subst, Contains}
+use Rattle.std.proofs.Common.{List, sym, ◌∙◌, ap, subst, Contains}
 use Rattle.quilt_node.specs.Pages.{is_ascending}
 use Rattle.quilt_node.specs.Nodes.{keys_of}
 use Rattle.quilt_record.specs.declared.record.Record.{Record}

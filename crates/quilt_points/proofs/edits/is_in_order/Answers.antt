@@ -1,9 +1,4 @@
-use Rattle.std.proofs.Common.{◌≡◌, ℕ, suc, ◌+◌, ◌-◌, ◌<◌, ◌≤◌, true, get_or, sym, ◌∙◌, ap, ap₂, subst, ⊎_elim, arith, length}
-use Rattle.std.specs.Ordering.{is_lt}
-use Rattle.std.proofs.lemmas.Bool.{cases_lt}
-use Rattle.std.proofs.lemmas.List.{get_or_default}
-use Rattle.quilt_record.specs.declared.record.Record.{Record}
-use Rattle.quilt_record.specs.Records.{key_cmp}
+use Rattle.std.proofs.Common.{◌∙◌, arith}
 use Rattle.quilt_points.proofs.Ascents.{step_before, step_more, ascending_from, ascending_at}
 use Rattle.quilt_points.proofs.edits.is_in_order.Goals as goal
 

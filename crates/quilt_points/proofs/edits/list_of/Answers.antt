@@ -1,6 +1,5 @@
-use Rattle.std.proofs.Common.{◌≡◌, ◌++◌, [], ◌∷◌, take, length, sym, ◌∙◌, ap, arith, List}
+use Rattle.std.proofs.Common.{◌∙◌, arith}
 use Rattle.std.proofs.lemmas.List.{take_all}
-use Rattle.quilt_record.specs.declared.record.Record.{Record}
 use Rattle.quilt_points.proofs.Said.{pushed}
 use Rattle.quilt_points.proofs.edits.list_of.Goals as goal
 

@@ -1,4 +1,4 @@
-use Rattle.std.proofs.Common.{◌≡◌, ℕ, suc, ◌<◌, ◌≤◌, ◌^◌, ◌++◌, true, inl, inr, List, map, length, sym, ◌∙◌, ap, subst, arith, filter, All, get_or}
+use Rattle.std.proofs.Common.{◌≡◌, ◌++◌, true, inl, inr, List, map, length, sym, ◌∙◌, ap, subst, arith, All, get_or}
 use Rattle.std.proofs.lemmas.List.{append-nil}
 use Rattle.quilt_point_laws.specs.Spreading.{spread}
 use Rattle.quilt_points.specs.Layers.{entries_of, block_record}

@@ -1,4 +1,4 @@
-use Rattle.std.proofs.Common.{◌≡◌, ◌++◌, [], ◌∷◌, List, length, sym, ◌∙◌, ap, ap₂, arith, eqb-true}
+use Rattle.std.proofs.Common.{◌++◌, [], ◌∷◌, List, length, sym, ◌∙◌, ap, eqb-true}
 use Rattle.std.proofs.lemmas.Result.{on_ok_weaker}
 use Rattle.quilt_record.specs.declared.record.Record.{Record}
 use Rattle.quilt_points.proofs.Said.{nonzero}

@@ -1,4 +1,4 @@
-use Rattle.std.proofs.Common.{◌≡◌, [], sym, ◌∙◌, arith}
+use Rattle.std.proofs.Common.{[], arith}
 use Rattle.quilt_points.proofs.Growths.{rows_next, rows_all}
 use Rattle.quilt_points.proofs.growing.add_points.Goals as goal
 

@@ -1,4 +1,3 @@
-use Rattle.std.proofs.Common.{◌≡◌}
 use Rattle.quilt_points.proofs.Finds.{has_along, match_none, match_some}
 use Rattle.quilt_points.proofs.listing.leaf_around.Goals as goal
 

@@ -1,7 +1,5 @@
-use Rattle.std.proofs.Common.{◌≡◌, ℕ, ◌<◌, ◌≤◌, List, [], ◌∷◌, ◌++◌, length, take, sym, ◌∙◌, ap, subst, arith, eqb-true}
+use Rattle.std.proofs.Common.{List, [], length, take, sym, ap, subst, arith, eqb-true}
 use Rattle.std.proofs.lemmas.List.{take_all}
-use Rattle.std.specs.Option.{option_to_list}
-use Rattle.quilt_types.specs.declared.plane.Point.{Point}
 use Rattle.quilt_record.specs.declared.record.Record.{Record}
 use Rattle.quilt_points.specs.Reads.{AreSaid}
 use Rattle.quilt_points.proofs.Said.{said_none, said_more, member_at, row_there, rows_some, said_held, take_next, nonzero}

@@ -1,9 +1,9 @@
-use Rattle.std.proofs.Common.{◌≡◌, true, false, List, Option, Some, None, refl, sym, ◌∙◌, ap, subst, Contains}
+use Rattle.std.proofs.Common.{List, refl, sym, ◌∙◌, ap, subst, Contains}
 use Rattle.std.specs.FinMap as finmap
 use Rattle.quilt_types.specs.declared.plane.Point.{Point}
 use Rattle.quilt_types.specs.Plane.{in_block}
 use Rattle.quilt_points.specs.Plans.{IsPlan}
-use Rattle.quilt_points.proofs.Finds.{has_along, if_some_at, false_true, none_some}
+use Rattle.quilt_points.proofs.Finds.{has_along, false_true, none_some}
 use Rattle.quilt_points.proofs.Puts.{free_from, held_point}
 use Rattle.quilt_points.proofs.Dels.{is_none_from, none_is}
 use Rattle.quilt_points.proofs.planning.plan_del.Goals as goal

@@ -1,4 +1,4 @@
-use Rattle.std.proofs.lemmas.Result.{IfOk-weaker, IfErr-weaker}
+use Rattle.std.proofs.lemmas.Result.{IfErr-weaker}
 use Rattle.quilt_points.proofs.Results.{if_ok_both}
 use Rattle.quilt_points.proofs.Dels.{del_can, del_plan}
 use Rattle.quilt_points.proofs.planning.take_out.Goals as goal

@@ -1,4 +1,4 @@
-use Rattle.std.proofs.Common.{◌≡◌, ℕ, true, false, Option, Some, None, List, refl, sym, ◌∙◌, ap, subst, arith}
+use Rattle.std.proofs.Common.{sym, ◌∙◌, arith}
 use Rattle.quilt_loc.proofs.Blocks.{IsBlock-up, side_most}
 use Rattle.quilt_points.proofs.Finds.{none_some, false_true, block_read, around_read, read_same, read_holds}
 use Rattle.quilt_points.proofs.reading.block_around.Goals as goal

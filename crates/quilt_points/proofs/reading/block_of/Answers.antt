@@ -1,8 +1,5 @@
-use Rattle.std.proofs.Common.{◌≡◌, ℕ, ◌≤◌, true, false, Option, Some, None, List, refl, sym, ◌∙◌, ap, subst, ⊎_elim, arith, Contains}
-use Rattle.quilt_record.specs.declared.record.Record.{Record}
-use Rattle.quilt_record.specs.Canonical.{point_fact}
+use Rattle.std.proofs.Common.{sym, ◌∙◌}
 use Rattle.quilt_points.proofs.Shapes.{record_layer}
-use Rattle.quilt_points.proofs.Finds.{none_some}
 use Rattle.quilt_points.proofs.reading.block_of.Goals as goal
 
 pub returns-in_default-clause-one : goal.returns-in_default-clause-one

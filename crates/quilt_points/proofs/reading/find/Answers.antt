@@ -1,4 +1,4 @@
-use Rattle.std.proofs.Common.{◌≡◌, ◌∙◌}
+use Rattle.std.proofs.Common.{◌∙◌}
 use Rattle.std.proofs.lemmas.Result.{IfErr-weaker}
 use Rattle.quilt_points.proofs.Finds.{one_found_at, has_along}
 use Rattle.quilt_points.proofs.reading.find.Goals as goal

@@ -1,4 +1,4 @@
-use Rattle.std.proofs.Common.{◌≡◌, ℕ, ◌≤◌, true, false, Option, Some, None, List, [], refl, sym, ◌∙◌, ap, subst, ⊎_elim, arith, Contains}
+use Rattle.std.proofs.Common.{[], sym, ◌∙◌, ap}
 use Rattle.quilt_record.specs.declared.record.Record.{Record}
 use Rattle.quilt_points.proofs.Finds.{none_some, none_read, label_read, label_same}
 use Rattle.quilt_points.proofs.reading.label_in.Goals as goal

@@ -1,0 +1,173 @@
+-- The points of a layer in a window.
+use Rattle.std.proofs.Common.{◌≡◌, ℕ, suc, ◌+◌, ◌<◌, ◌≤◌, Bool, true, false, cond, List, [], ◌∷◌, ◌++◌, length, take, get_or, refl, sym, ◌∙◌, ap, subst, ⊎_elim, arith, Contains, filter, Ordering, Less, Equal, Greater, Some, append_assoc}
+use Rattle.std.specs.FinMap as finmap
+use Rattle.std.specs.Ordering.{is_lt, ordering_reverse}
+use Rattle.std.specs.Cmp.{IsTotalOrder, on_total}
+use Rattle.std.specs.List.Sorted.{IsPermutation, IsSortedByKey}
+use Rattle.std.proofs.lemmas.Bool.{cases_Bool, both_ways}
+use Rattle.std.proofs.lemmas.List.{map-append, take_all}
+use Rattle.std.proofs.lemmas.List.Elements.{All-contains}
+use Rattle.quilt_types.specs.declared.plane.Pixel.{Pixel}
+use Rattle.quilt_types.specs.declared.plane.Block.{Block}
+use Rattle.quilt_types.specs.declared.plane.Point.{Point}
+use Rattle.quilt_types.specs.declared.plane.Window.{Window}
+use Rattle.quilt_types.specs.Plane.{whole, in_block, in_window, is_pixel, pixel_cmp, parent_of, quarters_of, IsBlock}
+use Rattle.quilt_types.specs.Layers.{PointMap, IsPointMap}
+use Rattle.quilt_types.specs.Quadtrees.{holds_few, point_blocks}
+use Rattle.quilt_loc.specs.Codes.{Rises}
+use Rattle.quilt_loc.proofs.Members.{Contains-nil, Contains-cons_cases, Contains-map, Contains-map_from, Contains-filter, Contains-filter_from}
+use Rattle.quilt_loc.proofs.Blocks.{in_block-true}
+use Rattle.quilt_loc.proofs.Rising.{Rises-filter, Rises-map, same_rising}
+use Rattle.quilt_loc.proofs.PlaneOrders.{pixel_total}
+use Rattle.quilt_loc.proofs.Quartered.{quarters_are, IsBlock-whole}
+use Rattle.quilt_loc.proofs.Nesting.{side_pos}
+use Rattle.quilt_spell.specs.Apart.{Apart}
+use Rattle.quilt_spell.proofs.Lists.{Apart-filter}
+use Rattle.quilt_spell.proofs.Maps.{by_first, Rises-entries, get_from_entry}
+use Rattle.quilt_spell.proofs.FactKeys.{pixel_same}
+use Rattle.quilt_point_laws.specs.Laws.{AreIn}
+use Rattle.quilt_point_laws.proofs.Counts.{few_pixel}
+use Rattle.quilt_points.specs.Layers.{entry_of, entries_of}
+use Rattle.quilt_points.specs.Reads.{AreOf}
+use Rattle.quilt_points.specs.Windows.{IsOpen}
+use Rattle.quilt_points.proofs.Finds.{some_same, pixel_in}
+use Rattle.quilt_points.proofs.Said.{member_at, take_next}
+use Rattle.quilt_points.proofs.Shapes.{block_from}
+use Rattle.quilt_points.proofs.Ascents.{permuted, next_at, apart_at}
+use Rattle.quilt_points.proofs.Unions.{AreOfAll, all_next, all_quarters, quarter_before}
+use Rattle.quilt_points.proofs.Ascents as ascents
+
+-- ---- what is found in one block
+kept_entries : (p : Point) (ps : List Point) (rest : List (Pixel × ℕ)) (t : Bool) → entries_of ps ≡ rest → entries_of (cond t (p ∷ ps) ps) ≡ cond t (entry_of p ∷ rest) rest
+kept_entries p ps rest true e = ap (λ l. entry_of p ∷ l) e
+kept_entries p ps rest false e = e
+
+entries-kept : (test : Pixel → Bool) (ps : List Point) → entries_of (filter (λ p. test p.at) ps) ≡ filter (λ e. test e.0) (entries_of ps)
+entries-kept test [] = refl
+entries-kept test (p ∷ ps) = kept_entries p (filter (λ (q : Point). test q.at) ps) (filter (λ (e : Pixel × ℕ). test e.0) (entries_of ps)) (test p.at) (entries-kept test ps)
+
+pub kept_of : (points : PointMap) (test : Pixel → Bool) (b : Block) (held : List Point) → AreIn points b (entries_of held) → AreOf points test b (entries_of (filter (λ p. test p.at) held))
+kept_of points test b held are =
+    let keep : Pixel × ℕ → Bool = λ e. test e.0 in
+    let inside : Pixel × ℕ → Bool = λ e. in_block b e.0 in
+    subst (AreOf points test b) (sym (entries-kept test held)) (record {
+      once = Apart-filter keep (entries_of held) are.once;
+      members = λ e. (
+        λ c.
+            let w = Contains-filter_from keep (entries_of held) e c in
+            let k = Contains-filter_from inside (finmap.entries points) e ((are.members e).0 w.0) in
+            (k.0, w.1, k.1),
+        λ w. Contains-filter keep (entries_of held) e ((are.members e).1 (Contains-filter inside (finmap.entries points) e w.0 w.2)) w.1,
+      );
+    })
+
+pub none_of : (points : PointMap) (test : Pixel → Bool) (b : Block) → ((p : Pixel) → in_block b p ≡ true → test p ≡ true → ⊥) → AreOf points test b []
+none_of points test b away = record { once = tt; members = λ e. (λ c. absurd (Contains-nil e c), λ w. absurd (away e.0 w.2 w.1)) }
+
+-- ---- which blocks are come to
+module _ (n capacity : ℕ) (points : PointMap) (b : Block) (h : IsOpen n capacity points b) (away : Contains (point_blocks n capacity points) b → ⊥) where
+  open_many : holds_few capacity points b ≡ false
+  open_many = ⊎_elim (λ t. absurd (away (block_from n capacity points b (record { block = h.block; passes = t; last = λ lt u. both_ways (holds_few capacity points (parent_of b)) (h.many lt) u })))) (λ f. f) (cases_Bool (holds_few capacity points b))
+
+  pub open_pixel : 1 ≤ capacity → b.side ≤ 1 → ⊥
+  open_pixel least small = let pos = side_pos n b h.block in both_ways (holds_few capacity points b) open_many (few_pixel n capacity points least b h.block (omega arith))
+
+  pub open_quarter : 1 < b.side → (q : Block) → Contains (quarters_of b) q → IsOpen n capacity points q
+  open_quarter wide q c = let r = quarters_are n b q h.block wide c in record { block = r.block; many = λ lt. ap (holds_few capacity points) r.parent ∙ open_many }
+
+pub open_whole : (n capacity : ℕ) (points : PointMap) (b : Block) → b ≡ whole n → IsOpen n capacity points b
+open_whole n capacity points b is =
+    let s = ap (λ (z : Block). z.side) is in
+    record { block = subst (IsBlock n) (sym is) (IsBlock-whole n); many = λ lt. absurd (omega arith) }
+
+-- the next quarter's points
+pub found_next : (points : PointMap) (test : Pixel → Bool) (n : ℕ) (b : Block) (qs : List Block) (i : ℕ) (d : Block) → IsBlock n b → 1 < b.side → qs ≡ quarters_of b → i < 4 → (first old new : List Point)
+    → ((here : List Point) × (old ≡ first ++ here) × AreOfAll points test (take i qs) (entries_of here)) → ((here : List Point) × (new ≡ old ++ here) × AreOf points test (get_or qs i d) (entries_of here))
+    → (here : List Point) × (new ≡ first ++ here) × AreOfAll points test (take (i + 1) qs) (entries_of here)
+found_next points test n b qs i d hb wide are lt first old new h k =
+    let four = ap length are in (
+      h.0 ++ k.0,
+      k.1 ∙ ap (λ (l : List Point). l ++ k.0) h.1 ∙ append_assoc first h.0 k.0,
+      subst (λ (l : List Block). AreOfAll points test l (entries_of (h.0 ++ k.0))) (sym (take_next qs i d (omega arith)))
+          (subst (AreOfAll points test (take i qs ++ get_or qs i d ∷ [])) (sym (map-append entry_of h.0 k.0))
+          (all_next points test (take i qs) (get_or qs i d) (entries_of h.0) (entries_of k.0) h.2 k.2 (quarter_before n b qs i d hb wide are lt))),
+    )
+
+pub found_all : (points : PointMap) (test : Pixel → Bool) (n : ℕ) (b : Block) (qs : List Block) (i : ℕ) → IsBlock n b → 1 < b.side → qs ≡ quarters_of b → 4 ≤ i → (first all : List Point)
+    → ((here : List Point) × (all ≡ first ++ here) × AreOfAll points test (take i qs) (entries_of here)) → (here : List Point) × (all ≡ first ++ here) × AreOf points test b (entries_of here)
+found_all points test n b qs i hb wide are four first all h =
+    let long = ap length are in
+    (h.0, h.1, all_quarters points test n b (entries_of h.0) hb wide (subst (λ (l : List Block). AreOfAll points test l (entries_of h.0)) (take_all i qs (omega arith) ∙ are) h.2))
+
+-- ---- in rows
+-- the points are in the square
+abbrev pub IsInside : ℕ → PointMap → Type 0
+IsInside n points = (e : Pixel × ℕ) → Contains (finmap.entries points) e → in_block (whole n) e.0 ≡ true
+
+module _ {X : Type 0} (R : X → X → Ordering) (o : IsTotalOrder R) where
+  tail_rises : (x y : X) (ys : List X) → R x y ≡ Less → Rises R (y ∷ ys) → (z : X) → Contains (y ∷ ys) z → R x z ≡ Less
+  tail_rises x y ys less up z c = ⊎_elim (λ e. subst (λ (w : X). R x w ≡ Less) e less) (λ d. o.trans x y z less (up.0 z d)) (Contains-cons_cases y ys z c)
+
+  steps_rise : (xs : List X) → ((k : ℕ) (d : X) → suc k < length xs → R (get_or xs k d) (get_or xs (suc k) d) ≡ Less) → Rises R xs
+  steps_rise [] h = tt
+  steps_rise (x ∷ []) h = (λ y c. absurd (Contains-nil y c), tt)
+  steps_rise (x ∷ y ∷ xs) h =
+      let rest = steps_rise (y ∷ xs) (λ k d lt. h (suc k) d (omega arith)) in
+      (tail_rises x y xs (h 0 x (omega arith)) rest, rest)
+
+module _ (points : PointMap) (n : ℕ) (inside : IsInside n points) (w : Window) (found : List Point) (b : Block) (is : b ≡ whole n) (are : AreOf points (in_window w) b (entries_of found)) (list : List Point)
+    (p : IsPermutation found list) (sorted : IsSortedByKey (λ q. q.at) pixel_cmp list) where
+  there : (q : Point) → Contains list q → finmap.get points q.at ≡ Some q.label
+  there q c = get_from_entry pixel_cmp pixel_total pixel_same points (entry_of q) (((are.members (entry_of q)).0 (Contains-map entry_of found q ((permuted found list p q).1 c))).0)
+
+  once : Apart list
+  once = ascents.Apart-permuted found list p (apart_back found are.once)
+    where
+      apart_back : (ps : List Point) → Apart (entries_of ps) → Apart ps
+      apart_back [] h = tt
+      apart_back (q ∷ ps) h = (λ c. h.0 (Contains-map entry_of ps q c), apart_back ps h.1)
+
+  rises : Rises (λ q r. pixel_cmp q.at r.at) list
+  rises = steps_rise (λ q r. pixel_cmp q.at r.at) (on_total (λ (q : Point). q.at) pixel_total) list (λ k d lt.
+      let q = get_or list k d in
+      let r = get_or list (suc k) d in
+      let cq = member_at list k d (omega arith) in
+      let cr = member_at list (suc k) d lt in
+      let up = ap (λ (z : Point). is_lt (pixel_cmp z.at q.at)) (next_at list k d) ∙ sorted k d (omega arith) (omega arith) in
+      less_from q.at r.at up (λ e. apart_at list k d once lt (same_point q r e (some_same q.label r.label (sym (there q cq) ∙ ap (finmap.get points) e ∙ there r cr)))))
+    where
+      same_point : (q r : Point) → q.at ≡ r.at → q.label ≡ r.label → q ≡ r
+      same_point q r at label = λ i. record { at = at i; label = label i }
+
+      less_from : (a c : Pixel) → is_lt (pixel_cmp c a) ≡ false → (a ≡ c → ⊥) → pixel_cmp a c ≡ Less
+      less_from a c down other = by_order (pixel_cmp a c) (pixel_cmp c a) (pixel_total.antisymm c a) refl down
+        where
+          by_order : (o r : Ordering) → r ≡ ordering_reverse o → o ≡ pixel_cmp a c → is_lt r ≡ false → o ≡ Less
+          by_order Less r e is n = refl
+          by_order Equal r e is n = absurd (other (pixel_same a c (sym is)))
+          by_order Greater r e is n = absurd (both_ways (is_lt r) n (ap is_lt e))
+
+  pub rows_are : entries_of list ≡ filter (λ e. in_window w e.0) (finmap.entries points)
+  rows_are =
+      same_rising (by_first pixel_cmp) (on_total (λ (e : Pixel × ℕ). e.0) pixel_total) (entries_of list) (filter (λ (e : Pixel × ℕ). in_window w e.0) (finmap.entries points))
+      (Rises-map (λ (q r : Point). pixel_cmp q.at r.at) (by_first pixel_cmp) entry_of list (λ q r _ _ lt. lt) rises)
+      (Rises-filter (by_first pixel_cmp) (λ (e : Pixel × ℕ). in_window w e.0) (finmap.entries points) (Rises-entries pixel_cmp points))
+      (λ e. (
+        λ c.
+            let q = Contains-map_from entry_of list e c in
+            let v = (are.members (entry_of q.0)).0 (Contains-map entry_of found q.0 ((permuted found list p q.0).1 q.1)) in
+            subst (Contains (filter (λ (e : Pixel × ℕ). in_window w e.0) (finmap.entries points))) q.2 (Contains-filter (λ (e : Pixel × ℕ). in_window w e.0) (finmap.entries points) (entry_of q.0) v.0 v.1),
+        λ c.
+            let v = Contains-filter_from (λ (e : Pixel × ℕ). in_window w e.0) (finmap.entries points) e c in
+            let on = inside e v.0 in
+            let q = Contains-map_from entry_of found e ((are.members e).1 (v.0, v.1, ap (λ (z : Block). in_block z e.0) is ∙ on)) in
+            subst (Contains (entries_of list)) q.2 (Contains-map entry_of list q.0 ((permuted found list p q.0).0 q.1)),
+      ))
+
+-- each point is in the whole square
+pub inside_whole : (n capacity : ℕ) (points : PointMap) → IsPointMap 2 n capacity points → IsInside n points
+inside_whole n capacity points valid = λ e c.
+    let on = pixel_in n e.0 (All-contains (λ (d : Pixel × ℕ). is_pixel n d.0 ≡ true) (finmap.entries points) e valid.inside c) in
+    let x = on.0 in
+    let y = on.1 in
+    in_block-true (whole n) e.0 (record { left = omega arith; right = omega arith; top = omega arith; bottom = omega arith })

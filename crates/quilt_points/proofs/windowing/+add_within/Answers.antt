@@ -1,0 +1,88 @@
+use Rattle.std.proofs.Common.{ℕ, ◌++◌, [], List, length, filter, get_or, sym, ◌∙◌, ap, subst, arith, Contains}
+use Rattle.std.proofs.lemmas.List.{append-nil}
+use Rattle.std.proofs.lemmas.Result.{on_ok_weaker}
+use Rattle.quilt_types.specs.declared.plane.Block.{Block}
+use Rattle.quilt_types.specs.declared.plane.Point.{Point}
+use Rattle.quilt_types.specs.Plane.{in_window}
+use Rattle.quilt_loc.proofs.Blocks.{IsBlock-up}
+use Rattle.quilt_region.proofs.Parts.{part_at, block_room}
+use Rattle.quilt_btree.specs.Trees.{IsRooted}
+use Rattle.quilt_points.proofs.Finds.{has_along, match_none, match_some}
+use Rattle.quilt_points.proofs.Said.{member_at}
+use Rattle.quilt_points.proofs.Unions.{all_none}
+use Rattle.quilt_points.proofs.Windows.{kept_of, none_of, open_pixel, open_quarter, found_next, found_all}
+use Rattle.quilt_points.proofs.windowing.+add_within.Goals as goal
+
+pub meets-requires-clause-block_width : goal.meets-requires-clause-block_width
+meets-requires-clause-block_width g t c = (block_room c.args.layer.level c.args.b c.args.layer.has_level.1 c.requires.block).0
+
+pub meets-requires-clause-block_height : goal.meets-requires-clause-block_height
+meets-requires-clause-block_height g t c = (block_room c.args.layer.level c.args.b c.args.layer.has_level.1 c.requires.block).1
+
+pub returns-then-not-meets-clause-found : goal.returns-then-not-meets-clause-found
+returns-then-not-meets-clause-found g t c points h o =
+    ([], sym (append-nil c.args.found.now.items), none_of points (in_window c.args.w) c.args.b (c.meets.ensures c.if-not-meets.true))
+
+pub returns-in-Err-clause-sound : goal.returns-in-Err-clause-sound
+returns-in-Err-clause-sound g t c points h o = c.in-Err.ensures.sound points h
+
+pub returns-in-Ok-Some-clause-found : goal.returns-in-Ok-Some-clause-found
+returns-in-Ok-Some-clause-found g t c =
+    on_ok_weaker c.add_inside.result
+    (λ is points h o.
+    let held = match_some c.in-Ok-Some.field-0 _ _ c.in-Ok-Some.points c.in-Ok-Some.field-0-is (c.in-Ok-Some.ensures.read points h) in (
+      filter (λ (p : Point). in_window c.args.w p.at) c.in-Ok-Some.points.items,
+      is ∙ ap (λ (l : List Point). c.args.found.now.items ++ filter (λ (p : Point). in_window c.args.w p.at) l) c.deref.ensures.value,
+      kept_of points (in_window c.args.w) c.args.b c.in-Ok-Some.points.items held.are,
+    ))
+    c.add_inside.ensures.found
+
+pub returns-then-b-le1-clause-sound : goal.returns-then-b-le1-clause-sound
+returns-then-b-le1-clause-sound g t c points h o page e =
+    open_pixel c.args.layer.level c.args.layer.bucket points c.args.b o (match_none c.in-Ok-None.field-0 _ _ c.in-Ok-None.field-0-is (c.in-Ok-None.ensures.read points h)) c.args.layer.has_bucket.0 c.if-b-le1.true
+
+pub quarters-q-items-requires-clause-valid : goal.quarters-q-items-requires-clause-valid
+quarters-q-items-requires-clause-valid g t c = IsBlock-up c.args.layer.level 12 c.args.b c.args.layer.has_level.1 c.requires.block
+
+pub loop-q-init : goal.loop-q-init
+loop-q-init g t c = record {
+  found = λ points h o. ([], sym (append-nil c.args.found.now.items), all_none points (in_window c.args.w));
+  faults = c.in-Ok-None.ensures.cause.later;
+  size = c.in-Ok-None.ensures.size;
+  told = c.in-Ok-None.ensures.told;
+  free = c.in-Ok-None.ensures.free;
+  later = c.in-Ok-None.ensures.later;
+  changed = c.in-Ok-None.ensures.changed;
+}
+
+pub add_within-requires : goal.add_within-requires
+add_within-requires g t c κs within =
+    let q = (part_at c.args.layer.level c.args.b c.quarters-q-items.result c.loop-q.q-index (record { y = 0; x = 0; side = 0 }) c.args.layer.has_level.1 c.requires.block c.if-b-le1.false c.quarters-q-items.ensures.value c.loop-q-test.true) in
+    let smaller = q.smaller in
+    let rooted = subst (λ (s : ℕ). IsRooted s c.args.tree.now) (sym c.loop-q.invariant.size) c.requires.rooted in
+    (omega arith, (within, (rooted, (q.block, (c.requires.width, c.requires.height)))))
+
+pub returns-in-Err-add_within-clause-sound : goal.returns-in-Err-add_within-clause-sound
+returns-in-Err-add_within-clause-sound g t c points h o =
+    c.in-Err-add_within.ensures.sound points (has_along _ _ c.args.tree.now c.args.layer.number c.args.layer.level c.args.layer.bucket points c.loop-q.invariant.told h)
+    (open_quarter c.args.layer.level c.args.layer.bucket points c.args.b o (match_none c.in-Ok-None.field-0 _ _ c.in-Ok-None.field-0-is (c.in-Ok-None.ensures.read points h)) c.if-b-le1.false (get_or c.quarters-q-items.result c.loop-q.q-index (record { y = 0; x = 0; side = 0 })) (subst (λ (l : List Block). Contains l (get_or c.quarters-q-items.result c.loop-q.q-index (record { y = 0; x = 0; side = 0 }))) c.quarters-q-items.ensures.value (member_at c.quarters-q-items.result c.loop-q.q-index (record { y = 0; x = 0; side = 0 }) (let lt = c.loop-q-test.true in let four = ap length c.quarters-q-items.ensures.value in omega arith))))
+
+pub loop-q-preserved : goal.loop-q-preserved
+loop-q-preserved g t c = record {
+  found = λ points h o.
+      found_next points (in_window c.args.w) c.args.layer.level c.args.b c.quarters-q-items.result c.loop-q.q-index (record { y = 0; x = 0; side = 0 }) c.requires.block c.if-b-le1.false c.quarters-q-items.ensures.value c.loop-q-test.true
+      c.args.found.now.items c.loop-q.found.items c.add_within.new.found.items (c.loop-q.invariant.found points h o)
+      (c.in-Ok.ensures.found points (has_along _ _ c.args.tree.now c.args.layer.number c.args.layer.level c.args.layer.bucket points c.loop-q.invariant.told h)
+      (open_quarter c.args.layer.level c.args.layer.bucket points c.args.b o (match_none c.in-Ok-None.field-0 _ _ c.in-Ok-None.field-0-is (c.in-Ok-None.ensures.read points h)) c.if-b-le1.false (get_or c.quarters-q-items.result c.loop-q.q-index (record { y = 0; x = 0; side = 0 })) (subst (λ (l : List Block). Contains l (get_or c.quarters-q-items.result c.loop-q.q-index (record { y = 0; x = 0; side = 0 }))) c.quarters-q-items.ensures.value (member_at c.quarters-q-items.result c.loop-q.q-index (record { y = 0; x = 0; side = 0 }) (let lt = c.loop-q-test.true in let four = ap length c.quarters-q-items.ensures.value in omega arith)))));
+  faults = let m = c.loop-q.invariant.faults in let n = c.in-Ok.ensures.cause.later in omega arith;
+  size = c.in-Ok.ensures.size ∙ c.loop-q.invariant.size;
+  told = c.in-Ok.ensures.told ∙ c.loop-q.invariant.told;
+  free = c.in-Ok.ensures.free ∙ c.loop-q.invariant.free;
+  later = g.met.S.PageStore.goes_on _ _ _ c.loop-q.invariant.later c.in-Ok.ensures.later;
+  changed = let m = c.loop-q.invariant.changed in let n = c.in-Ok.ensures.changed in omega arith;
+}
+
+pub returns-clause-found : goal.returns-clause-found
+returns-clause-found g t c points h o =
+    found_all points (in_window c.args.w) c.args.layer.level c.args.b c.quarters-q-items.result c.loop-q.q-index c.requires.block c.if-b-le1.false c.quarters-q-items.ensures.value c.loop-q-test.false
+    c.args.found.now.items c.loop-q.found.items (c.loop-q.invariant.found points h o)

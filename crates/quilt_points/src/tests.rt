@@ -1,0 +1,126 @@
+ghost use Rattle.std.specs.Prelude.{◌≡◌, ◌≤◌, length, IfOk};
+ghost use Rattle.quilt_btree.specs.Trees.{IsRooted};
+
+use super::*;
+use quilt_btree::Tree;
+use quilt_record::{Record, key_bytes, point_record};
+use quilt_store::{MemStore, PageStore};
+use quilt_types::{Block, Pixel, Point, Stop, Window};
+use std::alloc::Global;
+use std::test::Fail;
+
+/// The whole square of level 3.
+const WHOLE: Block = Block {
+    x: 0,
+    y: 0,
+    side: 8,
+};
+
+/// The bytes of a leaf page with these records, at most 144.
+fn leaf_page(records: &[Record]) -> [u8; 4096]
+    requires { length records.now ≤ 144 }
+{
+    let mut page = [0; 4096];
+    page[0] = 1;
+    page[1] = 1;
+    page[3] = records.len() as u8;
+    let mut at = 64;
+    for r in records {
+        if at > 4068 {
+            return page;
+        }
+        page[at..at + 12].copy_from_slice(&key_bytes(&r.key));
+        page[at + 12..at + 28].copy_from_slice(&r.value);
+        at += 28;
+    }
+    page
+}
+
+/// A store of 16 pages and the tree of these records, of 1 to 144, in one leaf page.
+fn planted(alloc: Global, records: &[Record]) -> Result<(MemStore, Tree), Fail>
+    ensures { IfOk result (λ both. IsRooted (⟦<MemStore as PageStore>⟧.size both.0) both.1) }
+{
+    let mut store = MemStore::new(alloc, 16)?;
+    if store.free_pages() == 0 || records.is_empty() || records.len() > 144 {
+        return Err(Fail::from("a page of records"));
+    }
+    let root = store.take_page();
+    if root == 0 || root >= 16 {
+        return Err(Fail::from("a page"));
+    }
+    if store.write(root, &leaf_page(records)).is_err() {
+        return Err(Fail::from("a store in memory"));
+    }
+    let tree = Tree {
+        root,
+        height: 1,
+        records: records.len() as u32,
+    };
+    Ok((store, tree))
+}
+
+#[test]
+fn a_first_point(rt: HostRuntime) -> Result<(), Fail> {
+    let empty = point_record(1, WHOLE, 3, 2, None);
+    let (mut store, tree) = planted(rt.alloc(), &[empty])?;
+    let at = Pixel { x: 5, y: 2 };
+    assert_eq!(rt; find(&mut store, &tree, 1, 3, 2, at)?, None);
+    assert!(rt; plan_del(rt.alloc(), &mut store, &tree, 1, 3, 2, at)?.is_none());
+    let plan = plan_put(rt.alloc(), &mut store, &tree, 1, 3, 2, at, 7)?.ok_or("no point is there")?;
+    assert_eq!(rt; plan.remove.records(), [empty].as_slice());
+    assert_eq!(rt; plan.add.records().len(), 1);
+    let one = plan.add.records().first().ok_or("one record")?;
+    assert_eq!(rt; key_bytes(&one.key), *b"\0\x01\x02\0\0\0\0\0\0\0\0\x1a");
+    assert_eq!(rt; one.value, *b"\x01\0\x05\0\x02\0\0\0\x07\0\0\0\0\0\0\0");
+    Ok(())
+}
+
+#[test]
+fn a_second_point_and_back(rt: HostRuntime) -> Result<(), Fail> {
+    let first = Point {
+        at: Pixel { x: 0, y: 0 },
+        label: 5,
+    };
+    let one = point_record(1, WHOLE, 3, 1, Some(first));
+    let (mut store, tree) = planted(rt.alloc(), &[one])?;
+    let at = Pixel { x: 1, y: 0 };
+    assert!(rt; plan_put(rt.alloc(), &mut store, &tree, 1, 3, 1, first.at, 9)?.is_none());
+    let plan = plan_put(rt.alloc(), &mut store, &tree, 1, 3, 1, at, 6)?.ok_or("no point is there")?;
+    assert_eq!(rt; plan.remove.records(), [one].as_slice());
+    assert_eq!(rt; plan.add.records().len(), 10);
+    let (mut cut, tree) = planted(rt.alloc(), plan.add.records())?;
+    assert_eq!(rt; find(&mut cut, &tree, 1, 3, 1, first.at)?, Some(5));
+    assert_eq!(rt; find(&mut cut, &tree, 1, 3, 1, at)?, Some(6));
+    assert_eq!(rt; find(&mut cut, &tree, 1, 3, 1, Pixel { x: 7, y: 7 })?, None);
+    let row = Window {
+        x: 0,
+        y: 0,
+        w: 2,
+        h: 1,
+    };
+    let found = within(rt.alloc(), &mut cut, &tree, 1, 3, 1, row)?;
+    assert_eq!(rt; found.items(), [first, Point { at, label: 6 }].as_slice());
+    let back = plan_del(rt.alloc(), &mut cut, &tree, 1, 3, 1, at)?.ok_or("a point is there")?;
+    assert_eq!(rt; back.remove.records(), plan.add.records());
+    assert_eq!(rt; back.add.records(), [one].as_slice());
+    Ok(())
+}
+
+#[test]
+fn a_damaged_layer(rt: HostRuntime) -> Result<(), Fail> {
+    let small = Block {
+        x: 4,
+        y: 4,
+        side: 4,
+    };
+    let (mut store, tree) = planted(rt.alloc(), &[point_record(1, small, 3, 1, None)])?;
+    let damaged = Some(Stop::Damaged { page: 0 });
+    let at = Pixel { x: 0, y: 0 };
+    assert_eq!(rt; find(&mut store, &tree, 1, 3, 1, at).err(), damaged);
+    assert_eq!(rt;
+        plan_put(rt.alloc(), &mut store, &tree, 1, 3, 1, at, 1).err(),
+        damaged
+    );
+    assert_eq!(rt; find(&mut store, &tree, 2, 3, 1, at).err(), damaged);
+    Ok(())
+}

@@ -1,0 +1,181 @@
+ghost use Rattle.std.specs.Prelude.{◌≡◌, ◌+◌, ◌<◌, ◌≤◌, ◌++◌, List, true, false, filter, Contains, IfOk, IfErr, IsErrOf, IsPermutation, OnOk};
+ghost use Rattle.std.specs.FinMap as finmap;
+ghost use Rattle.std.specs.List.Sorted.{IsSortedByKey};
+ghost use Rattle.quilt_types.specs.declared.plane.Pixel.{Pixel as AnyPixel};
+ghost use Rattle.quilt_types.specs.declared.plane.Point.{Point as AnyPoint};
+ghost use Rattle.quilt_types.specs.declared.stop.Stop.TheVariants.{Device};
+ghost use Rattle.quilt_types.specs.Plane.{whole, is_window, in_window, in_block, pixel_cmp, IsBlock};
+ghost use Rattle.quilt_types.specs.Layers.{PointMap};
+ghost use Rattle.quilt_btree.specs.Stops.{HasStopCause, IsSound};
+ghost use Rattle.quilt_btree.specs.Trees.{IsRooted};
+ghost use Rattle.quilt_points.specs.Layers.{HasPoints, entries_of};
+ghost use Rattle.quilt_points.specs.Reads.{AreOf};
+ghost use Rattle.quilt_points.specs.Windows.{IsOpen};
+
+use crate::layer::PointLayer;
+use crate::listing::points_of;
+use crate::reading::DAMAGED;
+use quilt_btree::Tree;
+use quilt_loc::quarters;
+use quilt_store::PageStore;
+use quilt_types::{Block, Point, PointList, Stop, Window};
+use std::alloc::{AllocError, Global};
+
+/// The points in a window of the point layer with this number, from 1 to 255, of a map of this level, from 1 to 12, whose
+/// blocks hold at most `bucket` points, from 1 to 16, by y and then x. Its work grows with the blocks that meet the window.
+pub fn within<S: PageStore>(
+    alloc: Global,
+    store: &mut S,
+    tree: &Tree,
+    layer: u8,
+    level: u8,
+    bucket: u8,
+    w: Window,
+) -> Result<PointList, Stop>
+    requires rooted { IsRooted (S.size store.old) tree.now }
+    requires layer { 1 ≤ layer }
+    requires level { (1 ≤ level) × (level ≤ 12) }
+    requires bucket { (1 ≤ bucket) × (bucket ≤ 16) }
+    requires window { is_window level w ≡ true }
+    ensures points { IfOk result (λ list. (points : PointMap) → HasPoints (S.told store.old) tree.now layer level bucket points → entries_of list ≡ filter (λ e. in_window w e.0) (finmap.entries points)) }
+    ensures sound { IfErr result (λ e. (points : PointMap) → HasPoints (S.told store.old) tree.now layer level bucket points → IsSound e) }
+    ensures cause { HasStopCause (S.faults store.old) (S.faults store.new) result }
+    ensures size { S.size store.new ≡ S.size store.old }
+    ensures told { S.told store.new ≡ S.told store.old }
+    ensures free { S.free store.new ≡ S.free store.old }
+    ensures later { S.later store.old store.new }
+    ensures changed { S.changed store.new ≤ S.changed store.old }
+{
+    let layer = PointLayer {
+        number: layer,
+        level,
+        bucket,
+    };
+    let whole = whole_square(level);
+    let mut found = Vec::new(alloc);
+    match add_within(alloc, store, tree, layer, whole, w, &mut found) {
+        Err(e) => Err(e),
+        Ok(()) => match in_rows(alloc, found) {
+            Ok(list) => Ok(list),
+            Err(_) => Err(Stop::Memory),
+        },
+    }
+}
+
+/// The whole square of a level.
+fn whole_square(level: u8) -> Block
+    requires { level ≤ 12 }
+    ensures { result ≡ whole level }
+{
+    Block {
+        x: 0,
+        y: 0,
+        side: 1 << level,
+    }
+}
+
+/// Adds the points of the layer that are in a window, from the blocks in one.
+fn add_within<S: PageStore>(
+    alloc: Global,
+    store: &mut S,
+    tree: &Tree,
+    layer: PointLayer,
+    b: Block,
+    w: Window,
+    found: &mut Vec<Point>,
+) -> Result<(), Stop>
+    requires rooted { IsRooted (S.size store.old) tree.now }
+    requires block { IsBlock layer.level b }
+    requires width { w.x + w.w ≤ 4096 }
+    requires height { w.y + w.h ≤ 4096 }
+    ensures found { OnOk result ((points : PointMap) → HasPoints (S.told store.old) tree.now layer.number layer.level layer.bucket points → IsOpen layer.level layer.bucket points b → (here : List AnyPoint) × (found.new.items ≡ found.old.items ++ here) × AreOf points (in_window w) b (entries_of here)) }
+    ensures sound { IfErr result (λ e. (points : PointMap) → HasPoints (S.told store.old) tree.now layer.number layer.level layer.bucket points → IsOpen layer.level layer.bucket points b → IsSound e) }
+    ensures cause { HasStopCause (S.faults store.old) (S.faults store.new) result }
+    ensures size { S.size store.new ≡ S.size store.old }
+    ensures told { S.told store.new ≡ S.told store.old }
+    ensures free { S.free store.new ≡ S.free store.old }
+    ensures later { S.later store.old store.new }
+    ensures changed { S.changed store.new ≤ S.changed store.old }
+{
+    if !meets(b, w) {
+        return Ok(());
+    }
+    match points_of(alloc, store, tree, layer, b) {
+        Err(e) => return Err(e),
+        Ok(Some(points)) => return add_inside(found, &points, w),
+        Ok(None) => {}
+    }
+    if b.side <= 1 {
+        return Err(DAMAGED);
+    }
+    for q in quarters(b) {
+        match add_within(alloc, store, tree, layer, q, w, found) {
+            Err(e) => return Err(e),
+            Ok(()) => {}
+        }
+    }
+    Ok(())
+}
+
+/// Whether a block and a window may have a pixel in common.
+fn meets(b: Block, w: Window) -> bool
+    requires block_width { b.x + b.side ≤ 4096 }
+    requires block_height { b.y + b.side ≤ 4096 }
+    requires width { w.x + w.w ≤ 4096 }
+    requires height { w.y + w.h ≤ 4096 }
+    ensures { result ≡ false → (p : AnyPixel) → in_block b p ≡ true → in_window w p ≡ true → ⊥ }
+{
+    b.x < w.x + w.w && w.x < b.x + b.side && b.y < w.y + w.h && w.y < b.y + b.side
+}
+
+/// Adds those of the points that are in the window.
+fn add_inside(found: &mut Vec<Point>, points: &[Point], w: Window) -> Result<(), Stop>
+    requires width { w.x + w.w ≤ 4096 }
+    requires height { w.y + w.h ≤ 4096 }
+    ensures found { OnOk result (found.new.items ≡ found.old.items ++ filter (λ p. in_window w p.at) points.now) }
+    ensures memory { IfErr result (λ e. e ≡ Stop.Memory) }
+{
+    for p in points {
+        if is_inside(p, w) && found.push(*p).is_err() {
+            return Err(Stop::Memory);
+        }
+    }
+    Ok(())
+}
+
+/// Whether the point is in the window.
+fn is_inside(p: &Point, w: Window) -> bool
+    requires width { w.x + w.w ≤ 4096 }
+    requires height { w.y + w.h ≤ 4096 }
+    ensures { result ≡ in_window w p.now.at }
+{
+    w.x <= p.at.x && p.at.x < w.x + w.w && w.y <= p.at.y && p.at.y < w.y + w.h
+}
+
+/// The points by y and then x.
+fn in_rows(alloc: Global, mut points: Vec<Point>) -> Result<PointList, AllocError>
+    ensures permutation { IfOk result (λ list. IsPermutation points.items list) }
+    ensures sorted { IfOk result (λ list. IsSortedByKey (λ p. p.at) pixel_cmp list) }
+{
+    sort(&mut points);
+    list_of(alloc, &points)
+}
+
+/// Puts the points in the order of their pixels.
+fn sort(points: &mut Vec<Point>)
+    ensures permutation { IsPermutation points.old.items points.new.items }
+    ensures sorted { IsSortedByKey (λ p. p.at) pixel_cmp points.new.items }
+{
+    points.sort_unstable_by_key(|p| p.at);
+}
+
+/// The points as a list.
+fn list_of(alloc: Global, points: &[Point]) -> Result<PointList, AllocError>
+    ensures { IfOk result (λ list. list ≡ points.now) }
+{
+    let mut list = PointList::new(alloc);
+    for p in points {
+        list.push(*p)?;
+    }
+    Ok(list)
+}
