@@ -1,6 +1,6 @@
 -- The replies of commands that change nothing, and the state that they leave.
-use Rattle.std.proofs.Common.{◌≡◌, ◌⊎◌, ℕ, ◌+◌, ◌*◌, ◌<◌, ◌≤◌, Bool, true, false, not, List, [], ◌∷◌, Option, Some, None, Result, Ok, Err, refl, sym, ◌∙◌, ap, subst, arith}
-use Rattle.std.specs.Prelude.{IfOk, IfErr, codes, decimal, map, ◌-◌, is_none, unwrap_or, option_map}
+use Rattle.std.proofs.Common.{◌≡◌, ℕ, ◌*◌, ◌≤◌, Bool, true, false, not, List, [], ◌∷◌, Option, Some, None, Result, Ok, Err, refl, sym, ◌∙◌, ap, subst, arith}
+use Rattle.std.specs.Prelude.{IfOk, codes, decimal, map, ◌-◌, is_none, unwrap_or, option_map}
 use Rattle.std.specs.FinMap as finmap
 use Rattle.quilt_types.specs.declared.code.Code.{Code}
 use Rattle.quilt_types.specs.declared.code.Code.TheVariants as no
@@ -8,20 +8,17 @@ use Rattle.quilt_types.specs.declared.plane.Kind.TheVariants as kinds
 use Rattle.quilt_types.specs.declared.plane.Pixel.{Pixel}
 use Rattle.quilt_types.specs.declared.plane.Window.{Window}
 use Rattle.quilt_types.specs.Facts.{records, quota}
-use Rattle.quilt_types.specs.Layers.{Layer, Region, Points, Lines, Map, Grid, IsGrid, colour_at}
+use Rattle.quilt_types.specs.Layers.{Layer, Region, Points, Lines, Grid, IsGrid, colour_at}
 use Rattle.quilt_types.specs.Plane.{below, is_pixel, is_window}
 use Rattle.quilt_types.specs.Quadtrees.{leaves}
 use Rattle.quilt_world.specs.declared.disk.Disk as disk
 use Rattle.quilt_record.specs.declared.entry.Entry.{Entry}
-use Rattle.quilt_record.specs.Records.{Numbering}
-use Rattle.quilt_node.specs.declared.head.Head.{Head}
 use Rattle.quilt_lang.specs.Trials.{spaced}
 use Rattle.quilt_words.specs.declared.command.Command.TheVariants as commands
 use Rattle.quilt_blocks.specs.Raster.{Raster}
 use Rattle.quilt_region.specs.Regions.{HasRegion}
 use Rattle.quilt_spell.specs.Catalogued.{kind_of, IsCatalogOf}
 use Rattle.quilt_spell.specs.Written.{number_of}
-use Rattle.quilt_spell.proofs.Laws.{count, members}
 use Rattle.quilt_spell.proofs.Stepping.{spelled_count}
 use Rattle.quilt_spell.proofs.Written.{number_fits}
 use Rattle.quilt_edition.specs.declared.book.Book.{Book}
@@ -32,7 +29,6 @@ use Rattle.quilt_map.specs.Runs.{text_of, is_done}
 use Rattle.quilt_map.specs.Sessions.{IsAtWith, IsAtState, told_of, tree_in}
 use Rattle.quilt_map.specs.States.{Tells}
 use Rattle.quilt_map.specs.declared.reply.Reply as replies
-use Rattle.quilt_map.specs.declared.reply.Reply.TheVariants as reply
 use Rattle.quilt_map.specs.declared.session.Session.{Session}
 use Rattle.quilt_map.proofs.Asked.{still_here, region_of, layer_is}
 use Rattle.quilt_map.proofs.Moving.{IsLawful, later_at}

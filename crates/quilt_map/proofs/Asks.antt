@@ -1,5 +1,5 @@
 -- Commands that change nothing, as the definition has them and as a session answers them.
-use Rattle.std.proofs.Common.{◌≡◌, ℕ, Bool, true, false, List, [], ◌∷◌, Option, Some, None, Result, refl, sym, ◌∙◌, ap}
+use Rattle.std.proofs.Common.{◌≡◌, ℕ, Bool, true, false, List, [], ◌∷◌, Option, Result, refl}
 use Rattle.std.specs.Prelude.{IfOk, decimal, map, unwrap_or, option_map}
 use Rattle.quilt_types.specs.Layers.{colour_at}
 use Rattle.quilt_types.specs.Plane.{below}

@@ -1,15 +1,13 @@
 -- What a change of the work leaves of the state.
-use Rattle.std.proofs.Common.{◌≡◌, ◌⊎◌, inl, inr, ⊎_elim, ℕ, ◌+◌, ◌-◌, ◌*◌, ◌^◌, ◌<◌, ◌≤◌, min, nat_lt, Bool, true, false, List, length, Option, Some, None, IfErr, refl, sym, ◌∙◌, ap, subst, arith}
+use Rattle.std.proofs.Common.{◌≡◌, ◌⊎◌, inl, inr, ⊎_elim, ℕ, ◌+◌, ◌-◌, ◌*◌, ◌≤◌, min, nat_lt, true, false, List, length, Option, Some, refl, sym, ◌∙◌, ap, subst, arith}
 use Rattle.std.proofs.lemmas.Bool.{ltb-true, ltb-false, cases_lt}
 use Rattle.std.proofs.Math.Nat.{min-eq_left, min-eq_right, min-le_right}
 use Rattle.quilt_types.specs.Facts.{quota, records, changes}
-use Rattle.quilt_types.specs.Layers.{Layer, Map}
+use Rattle.quilt_types.specs.Layers.{Layer}
 use Rattle.quilt_world.specs.Disk.{Pages}
-use Rattle.quilt_world.specs.Tale.{Tale, Goes}
 use Rattle.quilt_world.specs.declared.disk.Disk as disk
 use Rattle.quilt_record.specs.declared.entry.Entry.{Entry}
 use Rattle.quilt_record.specs.declared.record.Record.{Record}
-use Rattle.quilt_record.specs.Records.{Numbering}
 use Rattle.quilt_node.specs.declared.head.Head.{Head}
 use Rattle.quilt_node.specs.Nodes.{keys_of}
 use Rattle.quilt_btree.specs.Edits.{IsWhole}
@@ -25,8 +23,8 @@ use Rattle.quilt_edition.specs.Keeping.{IsLater}
 use Rattle.quilt_edition.specs.Laws.{later_same}
 use Rattle.quilt_map.specs.Answers.{State}
 use Rattle.quilt_map.specs.Editing.{SameButTree}
-use Rattle.quilt_map.specs.Planning.{IsPlan, HasLayer, IsFull, changed_state}
-use Rattle.quilt_map.specs.Sessions.{IsAtWith, IsAtState, tree_in, told_of, free_of, changed_of, last_count}
+use Rattle.quilt_map.specs.Planning.{IsPlan, HasLayer, IsFull}
+use Rattle.quilt_map.specs.Sessions.{IsAtState, tree_in, told_of, free_of, changed_of, last_count}
 use Rattle.quilt_map.specs.declared.session.Session.{Session}
 use Rattle.quilt_map.proofs.Keeping.{published_on}
 use Rattle.quilt_map.proofs.Moving.{goes_to, law_of, IsLawful, published_as}

@@ -1,11 +1,10 @@
 -- What the contracts of commands say of all commands.
-use Rattle.std.proofs.Common.{◌≡◌, ◌⊎◌, inl, inr, ⊎_elim, ℕ, ◌+◌, ◌*◌, ◌<◌, ◌≤◌, Bool, true, false, List, [], ◌∷◌, Option, Some, None, is_some, Result, Ok, Err, IfOk, IfErr, OnOk, refl, sym, ◌∙◌, ap, subst}
+use Rattle.std.proofs.Common.{◌≡◌, inl, ℕ, ◌+◌, ◌*◌, ◌≤◌, true, false, List, [], ◌∷◌, Option, Some, None, is_some, Result, Ok, Err, IfOk, IfErr, OnOk, refl, sym, ◌∙◌, ap, subst}
 use Rattle.std.specs.List.{list_all}
 use Rattle.std.proofs.lemmas.Bool.{and_parts}
-use Rattle.quilt_types.specs.declared.code.Code.{Code}
 use Rattle.quilt_types.specs.declared.stop.Stop.{Stop}
 use Rattle.quilt_types.specs.declared.stop.Stop.TheVariants as stops
-use Rattle.quilt_types.specs.Layers.{Edition, colours}
+use Rattle.quilt_types.specs.Layers.{Edition}
 use Rattle.quilt_world.specs.Added.{AddsOnly, Only, is_of_pages, is_write}
 use Rattle.quilt_world.specs.Disk.{Pages}
 use Rattle.quilt_world.specs.Home.{home}
@@ -26,7 +25,7 @@ use Rattle.quilt_edition.specs.Books as books
 use Rattle.quilt_edition.specs.Keeping.{IsLater}
 use Rattle.quilt_edition.proofs.Steps.{seen_home}
 use Rattle.quilt_node.specs.declared.head.Head.{Head}
-use Rattle.quilt_map.specs.Answers.{State, Refused, answer}
+use Rattle.quilt_map.specs.Answers.{State, answer}
 use Rattle.quilt_map.specs.Commanding.{Answered}
 use Rattle.quilt_map.specs.Sessions.{IsAt, IsAtState, IsPublishedAs, world_of, level_of, changes_of}
 use Rattle.quilt_map.specs.States.{Tells, IsRefusal, after}

@@ -1,5 +1,5 @@
 -- Calls on a book one after another.
-use Rattle.std.proofs.Common.{◌≡◌, ℕ, Bool, List, Option, Some, refl, sym, ◌∙◌, ap, subst}
+use Rattle.std.proofs.Common.{◌≡◌, ℕ, Bool, List, Option, sym, ◌∙◌, subst}
 use Rattle.quilt_world.specs.Disk.{Pages}
 use Rattle.quilt_world.specs.declared.disk.Disk as disk
 use Rattle.quilt_record.specs.declared.record.Record.{Record}

@@ -1,11 +1,8 @@
 -- Home pages whose tree spells a map hold the edition.
-use Rattle.std.proofs.Common.{◌≡◌, ℕ, ◌≤◌, Bool, List, length, Some, refl, sym, ◌∙◌, subst}
-use Rattle.std.proofs.lemmas.List.{length-map}
-use Rattle.std.proofs.lemmas.List.FromFn.{length-range_with_len}
+use Rattle.std.proofs.Common.{◌≡◌, ℕ, Bool, List, length, Some, sym, subst}
 use Rattle.quilt_types.specs.Layers.{Edition}
-use Rattle.quilt_types.specs.Plane.{below}
 use Rattle.quilt_world.specs.Disk.{Pages}
-use Rattle.quilt_world.specs.Home.{home, page_of}
+use Rattle.quilt_world.specs.Home.{page_of}
 use Rattle.quilt_journal.specs.Kept.{HasHome}
 use Rattle.quilt_record.specs.declared.entry.Entry.{Entry}
 use Rattle.quilt_record.proofs.Names.{some_same}

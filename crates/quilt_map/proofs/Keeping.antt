@@ -1,13 +1,13 @@
 -- What a book keeps where its world tells its tale, and what lasts over its calls.
-use Rattle.std.proofs.Common.{◌≡◌, ℕ, ◌+◌, ◌<◌, ◌≤◌, Bool, List, [], length, get_or, Option, Some, None, refl, sym, ◌∙◌, ap, subst, arith}
+use Rattle.std.proofs.Common.{◌≡◌, ℕ, List, Option, Some, sym, ◌∙◌, ap, subst, arith}
 use Rattle.quilt_types.specs.Layers.{Edition}
-use Rattle.quilt_world.specs.Disk.{Pages, CanLeave}
+use Rattle.quilt_world.specs.Disk.{Pages}
 use Rattle.quilt_world.specs.Home.{home, page_of}
 use Rattle.quilt_world.specs.Stops.{LeavesNow}
-use Rattle.quilt_world.specs.Tale.{Tale, IsConsistent, Goes}
+use Rattle.quilt_world.specs.Tale.{Tale, IsConsistent}
 use Rattle.quilt_world.specs.declared.disk.Disk as disk
 use Rattle.quilt_world.proofs.PageLaws.{seen_left}
-use Rattle.quilt_journal.specs.Kept.{HasHome, published, home_page}
+use Rattle.quilt_journal.specs.Kept.{HasHome, published}
 use Rattle.quilt_journal.proofs.Homes.{published_at}
 use Rattle.quilt_journal.proofs.Leaving.{idle_leaves}
 use Rattle.quilt_record.specs.declared.entry.Entry.{Entry}

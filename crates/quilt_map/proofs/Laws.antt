@@ -1,7 +1,5 @@
 -- The public laws of this crate, which crates above may cite.
-use Rattle.std.proofs.Common.{◌≡◌, ℕ, Some, ap, sym, ◌∙◌}
-use Rattle.quilt_types.specs.Layers.{Edition}
-use Rattle.quilt_types.specs.Facts.{quota}
+use Rattle.std.proofs.Common.{◌≡◌, Some, sym, ◌∙◌}
 use Rattle.quilt_world.specs.Stops.{LeavesNow}
 use Rattle.quilt_world.specs.Tale.{Tale}
 use Rattle.quilt_world.specs.declared.disk.Disk as disk

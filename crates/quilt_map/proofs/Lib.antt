@@ -6,6 +6,7 @@ pub mod Catalogs
 pub mod Commanded
 pub mod ChangeSteps
 pub mod Copies
+pub mod FirstTests
 pub mod Fronts
 pub mod Going
 pub mod Holding
@@ -23,7 +24,6 @@ pub mod RefusalTexts
 pub mod Renewed
 pub mod Replies
 pub mod Rows
-pub mod Tests
 pub mod TextLaws
 pub mod Uniforms
 pub mod ZeroPage

@@ -8,7 +8,6 @@ use Rattle.quilt_world.specs.Tale.{Tale, IsConsistent, Goes}
 use Rattle.quilt_world.specs.declared.disk.Disk as disk
 use Rattle.quilt_journal.specs.Changed.{View}
 use Rattle.quilt_journal.specs.Kept.{published}
-use Rattle.quilt_journal.specs.declared.journal.State.{State as JournalState}
 use Rattle.quilt_journal.specs.declared.journal.State.TheVariants.{Idle}
 use Rattle.quilt_journal.proofs.TextSteps.{kept_text}
 use Rattle.quilt_record.specs.declared.entry.Entry.{Entry}

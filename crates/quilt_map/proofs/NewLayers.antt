@@ -1,10 +1,9 @@
 -- A layer that comes, as a plan of the work.
-use Rattle.std.proofs.Common.{◌≡◌, ◌≢◌, ℕ, ◌+◌, ◌<◌, ◌≤◌, true, List, [], ◌∷◌, length, All, Option, Some, None, refl, sym, ◌∙◌, ap, subst, arith}
+use Rattle.std.proofs.Common.{◌≡◌, ◌≢◌, ℕ, ◌<◌, ◌≤◌, true, List, [], ◌∷◌, length, All, Option, Some, None, sym, ◌∙◌, ap, subst, arith}
 use Rattle.std.specs.FinMap as finmap
-use Rattle.quilt_types.specs.Layers.{Layer, Map, Region, Grid, IsGrid, is_name}
+use Rattle.quilt_types.specs.Layers.{Layer, Region, IsGrid, is_name}
 use Rattle.quilt_world.specs.declared.disk.Disk as disk
 use Rattle.quilt_record.specs.declared.record.Record.{Record}
-use Rattle.quilt_record.specs.Records.{Numbering}
 use Rattle.quilt_spell.specs.Changing.{IsOne, IsKept, LeadsTo}
 use Rattle.quilt_spell.specs.Stepping.{IsPlaced}
 use Rattle.quilt_types.specs.declared.plane.Kind.TheVariants as Kind

@@ -1,5 +1,5 @@
 -- The numbers of a catalog's entries stay apart.
-use Rattle.std.proofs.Common.{◌≡◌, ◌≢◌, ℕ, zero, suc, ◌+◌, ◌<◌, ◌≤◌, Bool, true, false, cond, ◌⊎◌, List, [], ◌∷◌, map, length, Option, Some, None, refl, sym, ◌∙◌, ap, subst, inl, inr, ⊎_elim, arith, All, Contains, nat_cmp, eq-eqb, ne_eqb}
+use Rattle.std.proofs.Common.{◌≡◌, ◌≢◌, ℕ, zero, suc, ◌≤◌, Bool, true, false, cond, List, [], ◌∷◌, map, Some, sym, ◌∙◌, ap, subst, ⊎_elim, arith, All, Contains, nat_cmp, eq-eqb, ne_eqb}
 use Rattle.std.specs.Prelude.{nat_eq, if◌then◌else◌, ◌==◌}
 use Rattle.std.specs.List.{IsDistinct, remove}
 use Rattle.std.specs.Ordering.{is_lt}
@@ -12,8 +12,8 @@ use Rattle.quilt_record.specs.Catalogs.{name_cmp, with_entry}
 use Rattle.quilt_record.specs.Records.{Numbering}
 use Rattle.quilt_loc.specs.Codes.{Rises}
 use Rattle.quilt_loc.proofs.Members.{Contains-here, Contains-there, Contains-cons_cases, Contains-map, Contains-map_from}
-use Rattle.quilt_spell.specs.Written.{number_of, IsNumbering}
-use Rattle.quilt_spell.specs.Catalogued.{kind_of, entry_of, IsCatalogOf}
+use Rattle.quilt_spell.specs.Written.{IsNumbering}
+use Rattle.quilt_spell.specs.Catalogued.{kind_of, IsCatalogOf}
 use Rattle.quilt_spell.proofs.Maps.{entry_from_get}
 use Rattle.quilt_spell.proofs.Spelling.{all_from}
 use Rattle.quilt_spell.proofs.Written.{name_same, number_at}

@@ -1,10 +1,10 @@
 -- What a command gives is orderly: a refusal changes nothing, and an edition has the level of the last one.
-use Rattle.std.proofs.Common.{◌≡◌, ℕ, ◌+◌, ◌==◌, Bool, true, false, ◌&&◌, not, cond, List, [], ◌∷◌, ◌++◌, map, filter, flat_map, length, codes, decimal, Option, Some, None, is_some, is_none, option_map, unwrap_or, Result, Ok, Err, refl, sym, ◌∙◌, ap, subst}
+use Rattle.std.proofs.Common.{◌≡◌, ℕ, ◌==◌, Bool, true, false, not, cond, List, [], ◌∷◌, ◌++◌, map, filter, flat_map, length, decimal, Option, Some, None, is_some, is_none, option_map, unwrap_or, Result, Ok, Err, refl, sym, ◌∙◌, ap, subst}
 use Rattle.std.specs.Prelude.{nat_lt}
 use Rattle.std.specs.List.{list_any}
 use Rattle.std.specs.FinMap as finmap
 use Rattle.quilt_types.specs.Sets as finset
-use Rattle.quilt_types.specs.Plane.{side, below, is_pixel, is_window, in_window}
+use Rattle.quilt_types.specs.Plane.{side, below, is_pixel, in_window}
 use Rattle.quilt_types.specs.Layers.{is_in_square, Map, Layer, Region, Points, Lines, colour_at, Edition}
 use Rattle.quilt_types.specs.Segments.{meets, nearest}
 use Rattle.quilt_types.specs.Quadtrees.{leaves, after_add, after_remove}
@@ -16,7 +16,6 @@ use Rattle.quilt_types.specs.declared.code.Code.{Code}
 use Rattle.quilt_types.specs.declared.code.Code.TheVariants as no
 use Rattle.quilt_words.specs.declared.command.Command.{Command}
 use Rattle.quilt_words.specs.declared.command.Command.TheVariants as commands
-use Rattle.quilt_lang.specs.Trials.{spaced}
 use Rattle.quilt_map.specs.Answers.{State, Outcome, Reply, Refused, Done, unless, told, changed, layer, unknown, unless_region, unless_points, unless_lines, exists, too_many, outside, window_outside, full, capacity_in, threshold_in, points_in, segs_in, cover_in, grid, with, sides_of, block_lines, row_line, leaf_line, point_line, seg_line, clip_lines, nearest_lines, is_over, collide, with_points, ranked_line, pair_line, colours_of_bytes, unless_written, makes, edition_after, upgraded, no_more_editions, publishes_it, answer}
 use Rattle.quilt_map.specs.Runs.{outcome_of}
 use Rattle.quilt_map.specs.States.{after}

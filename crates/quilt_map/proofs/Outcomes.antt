@@ -1,14 +1,12 @@
 -- Commands that are refused or change nothing, and those that give an edition.
 use Rattle.std.specs.Prelude.{if◌then◌else◌, codes, decimal}
-use Rattle.std.proofs.Common.{◌≡◌, ◌⊎◌, inl, inr, ⊎_elim, ℕ, ◌+◌, ◌*◌, ◌<◌, ◌≤◌, ◌==◌, min, Bool, true, false, ◌||◌, List, [], ◌∷◌, Option, Some, None, is_some, unwrap_or, IfSome, refl, sym, ◌∙◌, ap, subst, arith}
+use Rattle.std.proofs.Common.{◌≡◌, ◌⊎◌, inl, inr, ⊎_elim, ℕ, ◌+◌, ◌*◌, ◌≤◌, ◌==◌, min, Bool, true, false, ◌||◌, List, [], ◌∷◌, Option, Some, None, is_some, IfSome, refl, sym, ◌∙◌, ap, subst, arith}
 use Rattle.std.proofs.Math.Nat.{min-eq_left}
 use Rattle.std.proofs.lemmas.Bool.{cases_Bool, cases_lt, eqb-false}
 use Rattle.quilt_btree.proofs.Walks.{same_number}
 use Rattle.quilt_types.specs.Facts.{changes, quota}
-use Rattle.quilt_types.specs.Layers.{Map, Edition}
+use Rattle.quilt_types.specs.Layers.{Edition}
 use Rattle.quilt_types.specs.declared.code.Code.TheVariants as no
-use Rattle.quilt_world.specs.Disk.{Pages}
-use Rattle.quilt_world.specs.Stops.{LeavesNow}
 use Rattle.quilt_world.specs.Tale.{Tale, Goes}
 use Rattle.quilt_world.specs.declared.disk.Disk as disk
 use Rattle.quilt_world.proofs.StopLaws.{since_here, since_weaker}
@@ -16,10 +14,8 @@ use Rattle.quilt_words.specs.declared.command.Command.{Command}
 use Rattle.quilt_words.specs.declared.command.Command.TheVariants as commands
 use Rattle.quilt_spell.proofs.Commands.{upgrade_spells}
 use Rattle.quilt_spell.proofs.Looping.{changes_none}
-use Rattle.quilt_journal.specs.Kept.{HasHome, published}
-use Rattle.quilt_journal.specs.Writing.{Writing}
+use Rattle.quilt_journal.specs.Kept.{published}
 use Rattle.quilt_record.specs.declared.entry.Entry.{Entry}
-use Rattle.quilt_record.specs.declared.record.Record.{Record}
 use Rattle.quilt_node.specs.declared.head.Head.{Head}
 use Rattle.quilt_spell.specs.Spelled.{SpellsUnder}
 use Rattle.quilt_edition.specs.declared.book.Book.{Book}
@@ -28,7 +24,7 @@ use Rattle.quilt_edition.specs.Stands.{Stands}
 use Rattle.quilt_map.specs.Answers.{State, Outcome, Reply, Refused, Done, answer, unless, no_more_editions, edition_after, upgraded, publishes_it}
 use Rattle.quilt_map.specs.Commanding.{Answered}
 use Rattle.quilt_map.specs.Renewing.{CanPublish, IsRenewed, LeavesEither}
-use Rattle.quilt_map.specs.Sessions.{IsAtState, IsHeadOf, IsSpelled, told_of, free_of, changed_of, last_count}
+use Rattle.quilt_map.specs.Sessions.{IsAtState, IsSpelled, told_of, free_of, changed_of, last_count}
 use Rattle.quilt_map.specs.States.{Tells, after, after_outcome}
 use Rattle.quilt_map.specs.Steps.{Leaves, StandsFor, StandsForNew, changes_after, is_revert}
 use Rattle.quilt_map.specs.Runs.{text_of}
@@ -37,7 +33,7 @@ use Rattle.quilt_map.specs.declared.reply.Reply as replies
 use Rattle.quilt_map.specs.declared.reply.Reply.TheVariants as given
 use Rattle.quilt_map.specs.declared.session.Session.{Session}
 use Rattle.quilt_map.proofs.Keeping.{book_leaves, book_stands}
-use Rattle.quilt_map.proofs.Moving.{goes_to, published_as, spelled_as, with_book, whole_free}
+use Rattle.quilt_map.proofs.Moving.{published_as, spelled_as, with_book, whole_free}
 
 -- ---- an outcome that changes nothing
 

@@ -1,6 +1,6 @@
 -- A region layer that is painted, as a plan of the work, and what its command is answered.
 use Rattle.std.specs.Prelude.{if◌then◌else◌}
-use Rattle.std.proofs.Common.{◌≡◌, ◌⊎◌, ⊎_elim, ℕ, ◌+◌, ◌<◌, ◌≤◌, min, nat_lt, nat_le, Bool, true, false, ◌&&◌, ◌||◌, not, List, [], ◌∷◌, Option, Some, None, is_some, refl, sym, ◌∙◌, ap, subst, arith}
+use Rattle.std.proofs.Common.{◌≡◌, ⊎_elim, ℕ, ◌+◌, ◌<◌, min, nat_lt, nat_le, Bool, true, false, ◌&&◌, ◌||◌, not, List, [], ◌∷◌, Option, Some, None, is_some, refl, sym, ◌∙◌, ap, subst, arith}
 use Rattle.std.proofs.lemmas.Bool.{cases_lt, lt-ltb, le-ltb, lt-leb, le-leb}
 use Rattle.std.specs.FinMap as finmap
 use Rattle.quilt_types.specs.Algebra.{painted}
@@ -28,7 +28,7 @@ use Rattle.quilt_region.specs.Regions.{HasRegion}
 use Rattle.quilt_region.proofs.GridsFit.{fits_law}
 use Rattle.quilt_region.proofs.RegionLaws.{changes_law}
 use Rattle.quilt_edition.specs.declared.book.Book.{Book}
-use Rattle.quilt_map.specs.Answers.{State, Outcome, Refused, Done, answer, unless, unknown, unless_region, outside, window_outside, full, changed, with, grid, grid_in}
+use Rattle.quilt_map.specs.Answers.{State, Outcome, Refused, Done, answer, unless, unknown, unless_region, window_outside, full, changed, with, grid, grid_in}
 use Rattle.quilt_map.specs.Asking.{IsRegionAt, IsRefusedFirst, IsStill}
 use Rattle.quilt_map.specs.Commanding.{Answered}
 use Rattle.quilt_map.specs.Making.{AnsweredBy, placed}
@@ -47,7 +47,7 @@ use Rattle.quilt_map.proofs.ChangeSteps.{at_most, at_spelled}
 use Rattle.quilt_map.proofs.Moving.{IsLawful, with_book}
 use Rattle.quilt_map.proofs.Outcomes.{nothing_done}
 use Rattle.quilt_map.proofs.Placing.{placed_within, full_answer, answered_by}
-use Rattle.quilt_map.proofs.Tests.{region_refused, region_passes, first_true, first_false}
+use Rattle.quilt_map.proofs.FirstTests.{region_refused, region_passes, first_true, first_false}
 
 -- the layer that was found, under each numbering that the entries give
 pub region_in : (layers : Map) (numbers : Numbering) (es entries : List Entry) (name : List ℕ) (number : ℕ) → es ≡ entries → IsCatalogOf layers numbers entries

@@ -1,26 +1,23 @@
 -- What a command that was not refused before its quota is answered.
 use Rattle.std.specs.Prelude.{if◌then◌else◌}
-use Rattle.std.proofs.Common.{◌≡◌, ◌≢◌, ℕ, ◌+◌, ◌<◌, ◌≤◌, min, nat_lt, Bool, true, false, ◌||◌, List, [], ◌∷◌, length, All, Option, Some, None, is_some, refl, sym, ◌∙◌, ap, subst, arith}
+use Rattle.std.proofs.Common.{◌≡◌, ℕ, ◌+◌, ◌<◌, ◌≤◌, min, nat_lt, Bool, true, false, ◌||◌, List, [], ◌∷◌, Option, Some, None, is_some, refl, sym, ◌∙◌, ap, subst, arith}
 use Rattle.std.proofs.Math.Nat.{min-eq_left}
 use Rattle.std.proofs.lemmas.Bool.{lt-ltb, le-ltb}
-use Rattle.std.specs.FinMap as finmap
-use Rattle.quilt_types.specs.Facts.{records, changes, quota}
+use Rattle.quilt_types.specs.Facts.{records, changes}
 use Rattle.quilt_types.specs.Layers.{Layer, Map, Edition}
 use Rattle.quilt_types.specs.declared.code.Code.TheVariants as no
 use Rattle.quilt_world.specs.declared.disk.Disk as disk
 use Rattle.quilt_record.specs.declared.entry.Entry.{Entry}
-use Rattle.quilt_record.specs.declared.record.Record.{Record}
-use Rattle.quilt_spell.specs.Changing.{with_layer}
 use Rattle.quilt_spell.proofs.Looping.{changes_none}
 use Rattle.quilt_words.specs.declared.command.Command.{Command}
-use Rattle.quilt_map.specs.Answers.{State, Outcome, Reply, Refused, Done, answer, unless, full, changed, with, makes}
+use Rattle.quilt_map.specs.Answers.{State, Outcome, Refused, Done, answer, unless, changed, with}
 use Rattle.quilt_map.specs.Commanding.{Answered}
 use Rattle.quilt_map.specs.Making.{AnsweredBy, placed}
 use Rattle.quilt_map.specs.Planning.{HasLayer, IsFull, changed_state}
 use Rattle.quilt_map.specs.Runs.{text_of}
 use Rattle.quilt_map.specs.Sessions.{IsAtWith, IsAtState, last_count}
 use Rattle.quilt_map.specs.States.{Tells, after_outcome}
-use Rattle.quilt_map.specs.Steps.{changes_after, is_revert}
+use Rattle.quilt_map.specs.Steps.{is_revert}
 use Rattle.quilt_map.specs.declared.reply.Reply as replies
 use Rattle.quilt_map.specs.declared.reply.Reply.TheVariants as given
 use Rattle.quilt_map.specs.declared.session.Session.{Session}

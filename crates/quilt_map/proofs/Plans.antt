@@ -1,18 +1,15 @@
 -- A plan of records as the tree takes it, and the work that it makes.
-use Rattle.std.proofs.Common.{◌≡◌, ℕ, ◌+◌, ◌<◌, ◌≤◌, Bool, true, false, ◌&&◌, ◌||◌, List, [], ◌∷◌, length, map, Option, Some, None, Contains, refl, sym, ◌∙◌, ap, subst, arith}
+use Rattle.std.proofs.Common.{◌≡◌, ℕ, ◌≤◌, Bool, true, false, ◌&&◌, ◌||◌, List, [], ◌∷◌, Option, None, Contains, refl, sym, ◌∙◌, ap, subst}
 use Rattle.std.specs.FinMap as finmap
-use Rattle.std.specs.List.{list_all, list_any}
-use Rattle.quilt_types.specs.Facts.{records, changes}
+use Rattle.std.specs.List.{list_any}
 use Rattle.quilt_types.specs.Layers.{Layer, Map}
 use Rattle.quilt_loc.proofs.Members.{Contains-here, Contains-there}
-use Rattle.quilt_record.specs.declared.key.Key.{Key}
 use Rattle.quilt_record.specs.declared.record.Record.{Record}
 use Rattle.quilt_record.specs.Records.{Numbering}
 use Rattle.quilt_record.specs.Lists.{has_key, put, without}
 use Rattle.quilt_node.specs.Nodes.{keys_of}
 use Rattle.quilt_btree.specs.Runs.{put_all, has_any, without_all, has_each}
 use Rattle.quilt_spell.specs.Applying.{taken, given}
-use Rattle.quilt_spell.specs.Changing.{with_layer, with_number}
 use Rattle.quilt_spell.specs.Laws.{IsStepped}
 use Rattle.quilt_spell.specs.Spelled.{SpellsUnder}
 use Rattle.quilt_spell.specs.Stepping.{IsStep}

@@ -1,5 +1,5 @@
 -- What a publish leaves of the state, and what a stop leaves while it goes on.
-use Rattle.std.proofs.Common.{◌≡◌, ◌⊎◌, inl, inr, ⊎_elim, ℕ, ◌+◌, ◌*◌, ◌^◌, ◌<◌, ◌≤◌, Bool, List, [], length, set, get_or, filter, map, Option, Some, None, IfSome, refl, sym, ◌∙◌, ap, subst, arith}
+use Rattle.std.proofs.Common.{◌≡◌, ◌⊎◌, inl, inr, ⊎_elim, ℕ, ◌+◌, ◌*◌, ◌<◌, ◌≤◌, Bool, List, [], length, set, Option, Some, None, IfSome, refl, sym, ◌∙◌, ap, subst, arith}
 use Rattle.std.proofs.lemmas.List.{get_or-set_same}
 use Rattle.std.proofs.lemmas.List.FromFn.{length-range_with_len}
 use Rattle.std.proofs.lemmas.List.Sums.{length-filter, count_by-le-length}
@@ -30,7 +30,7 @@ use Rattle.quilt_edition.proofs.Publishing.{goes_more_writes}
 use Rattle.quilt_edition.proofs.Steps.{told_idle}
 use Rattle.quilt_map.specs.Answers.{State}
 use Rattle.quilt_map.specs.Renewing.{CanPublish, IsRenewed, LeavesEither}
-use Rattle.quilt_map.specs.Sessions.{IsHeadOf, IsSpelled, IsPublishedAs, IsAtState, told_of, free_of, changed_of, last_count}
+use Rattle.quilt_map.specs.Sessions.{IsHeadOf, IsSpelled, told_of, free_of, changed_of}
 use Rattle.quilt_map.specs.declared.session.Session.{Session}
 use Rattle.quilt_map.proofs.Holding.{stands_with}
 use Rattle.quilt_map.proofs.Keeping.{book_stands}

@@ -1,12 +1,11 @@
 -- The texts of replies, line by line.
-use Rattle.std.proofs.Common.{◌≡◌, ℕ, zero, suc, ◌+◌, ◌-◌, ◌/◌, ◌%◌, ◌^◌, ◌<◌, ◌≤◌, Bool, true, false, cond, List, [], ◌∷◌, ◌++◌, map, flat_map, length, take, get_or, Result, Ok, Err, refl, sym, ◌∙◌, ap, subst, arith, append_assoc}
+use Rattle.std.proofs.Common.{◌≡◌, ℕ, zero, suc, ◌+◌, ◌-◌, ◌/◌, ◌%◌, ◌^◌, ◌<◌, ◌≤◌, Bool, cond, List, [], ◌∷◌, ◌++◌, map, flat_map, Result, Ok, Err, refl, sym, ◌∙◌, ap, subst, arith, append_assoc}
 use Rattle.std.specs.Prelude.{IfOk, reverse, count_by, codes, decimal, slice_index, ◌==◌, if◌then◌else◌}
 use Rattle.std.specs.List.{range_with_len}
 use Rattle.std.proofs.lemmas.List.{append-nil, reverse-append}
 use Rattle.std.proofs.lemmas.Grind.{flat_map-append}
 use Rattle.std.proofs.lemmas.Fmt.{decimal_step}
 use Rattle.std.proofs.lemmas.List.Sums.{sum_by-cons}
-use Rattle.quilt_types.specs.declared.plane.Kind.TheVariants as kinds
 use Rattle.quilt_types.specs.declared.plane.Window.{Window}
 use Rattle.quilt_types.specs.Layers.{Layer, Region, Points, Lines, Map, IsGrid, colour_at}
 use Rattle.quilt_types.specs.Quadtrees.{leaves}

@@ -1,5 +1,5 @@
 -- Public laws of items that are read in pieces: of groups of lines that hold the same items, and of what is given one after another.
-use Rattle.std.proofs.Common.{◌≡◌, ℕ, ◌<◌, Bool, true, false, List, [], ◌∷◌, ◌++◌, length, map, refl, sym, ◌∙◌, ap, subst, arith, append_assoc, append-nil, unwrap_or, is_some, Option, None, Result, Ok, Err}
+use Rattle.std.proofs.Common.{◌≡◌, ℕ, ◌<◌, Bool, true, false, List, [], ◌∷◌, ◌++◌, length, map, refl, sym, ◌∙◌, ap, subst, arith, append_assoc, append-nil, unwrap_or, is_some, Result}
 use Rattle.std.proofs.lemmas.List.{map-append, length-map}
 use Rattle.std.specs.Prelude.{if◌then◌else◌, ◌+◌, ◌||◌}
 use Rattle.quilt_types.specs.Facts.{changes}

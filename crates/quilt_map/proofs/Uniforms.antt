@@ -1,5 +1,5 @@
 -- A region layer of one colour.
-use Rattle.std.proofs.Common.{◌≡◌, ℕ, ◌*◌, ◌^◌, ◌%◌, ◌<◌, ◌≤◌, Bool, false, List, [], ◌∷◌, ◌++◌, length, replicate, None, refl, sym, ◌∙◌, ap, subst}
+use Rattle.std.proofs.Common.{◌≡◌, ℕ, ◌*◌, ◌^◌, ◌%◌, ◌<◌, ◌≤◌, Bool, false, List, [], ◌∷◌, ◌++◌, length, replicate, refl, sym, ◌∙◌, ap, subst}
 use Rattle.quilt_types.specs.declared.plane.Block.{Block}
 use Rattle.quilt_types.specs.declared.plane.Colour.{Colour}
 use Rattle.quilt_types.specs.declared.code.Code.{Code}
@@ -25,7 +25,7 @@ use Rattle.quilt_map.specs.declared.reply.Reply.{Reply}
 use Rattle.quilt_map.specs.declared.session.Session.{Session}
 use Rattle.quilt_map.proofs.Outcomes.{nothing_done}
 use Rattle.quilt_map.proofs.Placing.{answered_by, placed_none}
-use Rattle.quilt_map.proofs.Tests.{first_false}
+use Rattle.quilt_map.proofs.FirstTests.{first_false}
 
 -- the whole square, as its side is computed
 abbrev square : ℕ → Block

@@ -1,5 +1,5 @@
 -- Home page 0 stands in no tree, so a tree stays while its bytes change.
-use Rattle.std.proofs.Common.{◌≡◌, ◌≢◌, ℕ, zero, suc, ◌≤◌, ◌==◌, Bool, true, false, ◌&&◌, ◌||◌, nat_le, nat_lt, List, [], ◌∷◌, ◌++◌, ◌+◌, cond, length, set, get_or, Option, Some, refl, sym, ◌∙◌, ap, subst, ⊎_elim, arith, append-nil}
+use Rattle.std.proofs.Common.{◌≡◌, ℕ, zero, suc, ◌≤◌, ◌==◌, Bool, true, false, ◌&&◌, ◌||◌, nat_le, nat_lt, List, [], ◌∷◌, ◌++◌, ◌+◌, cond, length, set, Some, refl, sym, ◌∙◌, ap, subst, ⊎_elim, arith, append-nil}
 use Rattle.std.specs.List.{list_any, list_all}
 use Rattle.std.proofs.lemmas.Bool.{cases_Bool, leb-true, false≢true}
 use Rattle.std.proofs.lemmas.List.{get_or-set_other}
@@ -15,7 +15,7 @@ use Rattle.quilt_btree.specs.Subtree.{Reading, Row, Subtree}
 use Rattle.quilt_btree.specs.Edits.{IsWhole, times}
 use Rattle.quilt_btree.proofs.TreeGrowth.{root_found}
 use Rattle.quilt_btree.proofs.Trees.{inner_list}
-use Rattle.quilt_btree.proofs.Walks.{and_parts, same_number, number_test}
+use Rattle.quilt_btree.proofs.Walks.{and_parts, same_number}
 use Rattle.quilt_edition.proofs.SameEdition.{same_walk}
 
 abbrev has_zero : List ℕ → Bool

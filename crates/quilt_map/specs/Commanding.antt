@@ -1,5 +1,5 @@
 -- What a command is answered, and what it leaves of a session.
-use Rattle.std.specs.Prelude.{◌≡◌, ℕ}
+use Rattle.std.specs.Prelude.{◌≡◌}
 use Rattle.quilt_world.specs.declared.disk.Disk as disk
 use Rattle.quilt_words.specs.declared.command.Command.{Command}
 use Rattle.quilt_map.specs.Answers.{State, answer}

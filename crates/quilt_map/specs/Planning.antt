@@ -1,16 +1,15 @@
 -- What a plan of records makes of the work.
-use Rattle.std.specs.Prelude.{◌≡◌, ◌⊎◌, ℕ, ◌+◌, ◌<◌, ◌≤◌, min, Bool, true, false, List, length, Option, Some, None}
+use Rattle.std.specs.Prelude.{◌≡◌, ℕ, ◌+◌, ◌<◌, ◌≤◌, min, Bool, true, false, List, Option, None}
 use Rattle.std.specs.FinMap as finmap
 use Rattle.quilt_types.specs.Facts.{records, changes}
-use Rattle.quilt_types.specs.Layers.{Layer, Map}
+use Rattle.quilt_types.specs.Layers.{Layer}
 use Rattle.quilt_world.specs.declared.disk.Disk as disk
 use Rattle.quilt_record.specs.declared.entry.Entry.{Entry}
 use Rattle.quilt_record.specs.declared.record.Record.{Record}
 use Rattle.quilt_record.specs.Records.{Numbering}
 use Rattle.quilt_node.specs.Pages.{is_ascending}
 use Rattle.quilt_node.specs.Nodes.{keys_of}
-use Rattle.quilt_spell.specs.Catalogued.{IsCatalogOf}
-use Rattle.quilt_spell.specs.Changing.{with_layer, with_number}
+use Rattle.quilt_spell.specs.Changing.{with_layer}
 use Rattle.quilt_spell.specs.Stepping.{IsStep}
 use Rattle.quilt_map.specs.Answers.{State}
 use Rattle.quilt_map.specs.declared.session.Session.{Session}

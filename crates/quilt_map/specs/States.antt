@@ -1,7 +1,5 @@
 -- What answering a command is, and the state that it leaves.
-use Rattle.std.specs.Prelude.{◌≡◌, ℕ, Bool, true, false, Option, Some, None, unwrap_or}
-use Rattle.quilt_types.specs.declared.code.Code.{Code}
-use Rattle.quilt_types.specs.declared.code.Code.TheVariants as no
+use Rattle.std.specs.Prelude.{◌≡◌, true, unwrap_or}
 use Rattle.quilt_words.specs.declared.command.Command.{Command}
 use Rattle.quilt_map.specs.Answers.{State, Outcome, Refused, answer}
 use Rattle.quilt_map.specs.Runs.{text_of, is_done}

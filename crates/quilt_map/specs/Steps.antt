@@ -1,5 +1,5 @@
 -- What a command does to the file, by the tales before it and after it.
-use Rattle.std.specs.Prelude.{◌≡◌, ◌⊎◌, ℕ, ◌+◌, ◌*◌, ◌≤◌, Bool, true, false, min, Option, Some, None, is_some, ◌||◌, if◌then◌else◌}
+use Rattle.std.specs.Prelude.{◌≡◌, ◌⊎◌, ℕ, ◌+◌, ◌*◌, Bool, true, false, min, Option, Some, None, is_some, ◌||◌, if◌then◌else◌}
 use Rattle.quilt_types.specs.Facts.{changes}
 use Rattle.quilt_types.specs.Layers.{Edition}
 use Rattle.quilt_world.specs.Disk.{Pages}

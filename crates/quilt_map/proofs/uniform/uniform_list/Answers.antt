@@ -1,4 +1,4 @@
-use Rattle.std.proofs.Common.{ℕ, ◌^◌, refl, sym, ◌∙◌, ap}
+use Rattle.std.proofs.Common.{ℕ, ◌^◌, sym, ◌∙◌, ap}
 use Rattle.quilt_blocks.specs.Painting.{Painted, grid_by_code}
 use Rattle.quilt_blocks.proofs.Adding.{Adds-all}
 use Rattle.quilt_map.proofs.Uniforms.{square_valid, square_next, square_added}

@@ -1,6 +1,5 @@
-use Rattle.std.proofs.Common.{refl, sym, false}
+use Rattle.std.proofs.Common.{refl, sym}
 use Rattle.quilt_words.specs.declared.command.Command.TheVariants as commands
-use Rattle.quilt_map.specs.Steps.{gives_edition, is_revert}
 use Rattle.quilt_map.proofs.Commanded.{answer_of, changes_are, refused_keeps, later_at, device_at, damaged_at, damaged_by, level_at, level_going, door_at, door_on, events_at, events_on, input_at, input_on, leaves_at, leaves_on, few_at, few_on, quiet_else, forward_else, quiet_revert}
 use Rattle.quilt_map.proofs.session.Session.apply.Goals as goal
 

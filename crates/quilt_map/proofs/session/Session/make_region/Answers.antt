@@ -1,4 +1,4 @@
-use Rattle.std.proofs.Common.{ℕ, List, [], Some, refl, sym, ◌∙◌, ap, subst}
+use Rattle.std.proofs.Common.{ℕ, List, [], Some, sym, ◌∙◌, ap, subst}
 use Rattle.quilt_types.specs.Layers.{Region}
 use Rattle.quilt_types.specs.declared.plane.Kind.{Kind}
 use Rattle.quilt_record.specs.declared.entry.Entry.{Entry}

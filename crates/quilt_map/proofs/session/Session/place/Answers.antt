@@ -1,4 +1,4 @@
-use Rattle.std.proofs.Common.{◌≡◌, Bool, Some, None, List, refl, sym, ◌∙◌, ap, subst}
+use Rattle.std.proofs.Common.{◌≡◌, Some, List, refl, sym, ◌∙◌, ap, subst}
 use Rattle.quilt_record.specs.declared.entry.Entry.{Entry}
 use Rattle.quilt_record.specs.Catalogs.{with_entry}
 use Rattle.quilt_spell.specs.Catalogued.{IsCatalogOf, kind_of}

@@ -1,4 +1,3 @@
-use Rattle.std.proofs.Common.{sym, ◌∙◌}
 use Rattle.quilt_map.proofs.Renewed.{leaves_either, writes_few, is_renewed}
 use Rattle.quilt_map.proofs.session.Session.renew.Goals as goal
 

@@ -1,4 +1,4 @@
-use Rattle.std.proofs.Common.{◌≡◌, ◌==◌, ◌+◌, ◌*◌, ℕ, true, false, Option, Some, eq-eqb, refl, sym, ◌∙◌, ap, subst}
+use Rattle.std.proofs.Common.{◌≡◌, ◌==◌, ◌+◌, ◌*◌, true, false, Option, eq-eqb, refl, sym, ◌∙◌, ap, subst}
 use Rattle.quilt_types.specs.declared.code.Code.TheVariants as no
 use Rattle.quilt_world.specs.Tale.{Tale, Goes}
 use Rattle.quilt_words.specs.declared.command.Command.TheVariants as commands

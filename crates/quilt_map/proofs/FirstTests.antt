@@ -1,11 +1,11 @@
 -- The tests that come before a command does anything.
-use Rattle.std.proofs.Common.{◌≡◌, ℕ, ◌<◌, ◌≤◌, nat_le, Bool, true, false, List, [], ◌∷◌, length, Option, Some, None, is_some, is_none, not, refl, sym, ◌∙◌, ap, subst, arith}
+use Rattle.std.proofs.Common.{◌≡◌, ℕ, ◌<◌, ◌≤◌, Bool, true, false, List, [], ◌∷◌, Option, Some, None, is_some, is_none, not, ap}
 use Rattle.std.proofs.lemmas.Bool.{lt-leb, le-leb}
 use Rattle.std.specs.FinMap as finmap
 use Rattle.quilt_types.specs.Layers.{Layer, Region, Grid}
 use Rattle.quilt_types.specs.declared.code.Code.{Code}
 use Rattle.quilt_types.specs.declared.code.Code.TheVariants as no
-use Rattle.quilt_map.specs.Answers.{State, Outcome, Reply, Refused, Done, unless, exists, too_many, unknown, unless_region, layer, is_region}
+use Rattle.quilt_map.specs.Answers.{State, Outcome, Reply, Refused, Done, unless, exists, too_many, unknown, unless_region, is_region}
 use Rattle.quilt_map.specs.Asking.{IsRefusedFirst}
 use Rattle.quilt_map.specs.Making.{refused}
 
