@@ -1,5 +1,5 @@
 -- What the contracts of commands say of all commands.
-use Rattle.std.proofs.Common.{◌≡◌, inl, ℕ, ◌+◌, ◌*◌, ◌≤◌, true, false, List, [], ◌∷◌, Option, Some, None, is_some, Result, Ok, Err, IfOk, IfErr, OnOk, refl, sym, ◌∙◌, ap, subst}
+use Rattle.std.proofs.Common.{◌≡◌, inl, ℕ, ◌+◌, ◌*◌, true, false, List, [], ◌∷◌, Option, Some, None, is_some, Result, Ok, Err, IfOk, IfErr, OnOk, refl, sym, ◌∙◌, ap, subst}
 use Rattle.std.specs.List.{list_all}
 use Rattle.std.proofs.lemmas.Bool.{and_parts}
 use Rattle.quilt_types.specs.declared.stop.Stop.{Stop}
@@ -26,7 +26,7 @@ use Rattle.quilt_edition.specs.Keeping.{IsLater}
 use Rattle.quilt_edition.proofs.Steps.{seen_home}
 use Rattle.quilt_node.specs.declared.head.Head.{Head}
 use Rattle.quilt_map.specs.Answers.{State, answer}
-use Rattle.quilt_map.specs.Commanding.{Answered}
+use Rattle.quilt_map.specs.Commanding.{Answered, IsApplied}
 use Rattle.quilt_map.specs.Sessions.{IsAt, IsAtState, IsPublishedAs, world_of, level_of, changes_of}
 use Rattle.quilt_map.specs.States.{Tells, IsRefusal, after}
 use Rattle.quilt_map.specs.Steps.{Leaves, StandsFor, WritesFew, changes_after, gives_edition, is_revert}
@@ -91,20 +91,20 @@ module _ {W : Type 0} {D : disk.Ghosts W} where
       subst (λ (f : ℕ). IsColoured f other) (format_is old s at) (subst (λ (x : Command). IsColoured old.book.work.format x) is (spelled_coloured old.book.work.format n command spelled))
 
   module _ (old new : Session W D) (command other : Command) (same : other ≡ command) where
-    abbrev pub Says : Reply → Type 0
+    abbrev Says : Reply → Type 0
     Says reply = (s : State) → IsAtState old s → Answered s other old new reply
 
-    pub answer_of : (r : Result Reply Stop) → IfOk r Says → IfOk r (λ reply. (s : State) → IsAt old s → Tells reply (answer s command).reply × IsAt new (after s command))
+    answer_of : (r : Result Reply Stop) → IfOk r Says → IfOk r (λ reply. (s : State) → IsAt old s → Tells reply (answer s command).reply × IsAt new (after s command))
     unfolding IsAt
     answer_of (Err e) h = tt
     answer_of (Ok reply) h = λ s at. let a = subst (λ (x : Command). Answered s x old new reply) same (h s at) in (a.tells, a.at)
 
-    pub changes_are : (r : Result Reply Stop) → IfOk r Says → IfOk r (λ reply. (s : State) → IsAt old s → changes_of new ≡ changes_after s command (changes_of old))
+    changes_are : (r : Result Reply Stop) → IfOk r Says → IfOk r (λ reply. (s : State) → IsAt old s → changes_of new ≡ changes_after s command (changes_of old))
     unfolding IsAt changes_of
     changes_are (Err e) h = tt
     changes_are (Ok reply) h = λ s at. let a = subst (λ (x : Command). Answered s x old new reply) same (h s at) in a.count
 
-    pub refused_keeps : (r : Result Reply Stop) → IfOk r Says → IfOk r (λ reply. IsRefusal reply → (s : State) → IsAt old s → IsAt new s)
+    refused_keeps : (r : Result Reply Stop) → IfOk r Says → IfOk r (λ reply. IsRefusal reply → (s : State) → IsAt old s → IsAt new s)
     unfolding IsAt
     refused_keeps (Err e) h = tt
     refused_keeps (Ok (given.Ok text)) h = λ no_. absurd no_
@@ -118,17 +118,13 @@ module _ {W : Type 0} {D : disk.Ghosts W} where
     unfolding level_of
     level_on = ap (λ (h : Head). h.level) goes.2
 
-    pub door_on : D.door (world_of new) ≡ D.door (world_of old)
-    unfolding world_of
-    door_on = goes.3
-
-    pub events_on : Goes (AddsOnly is_of_pages) (D.told (world_of old)) (D.told (world_of new))
+    events_on : Goes (AddsOnly is_of_pages) (D.told (world_of old)) (D.told (world_of new))
     unfolding world_of
     events_on =
         goes_map (IsLater old.book.journal.pages) (AddsOnly is_of_pages) (D.told old.book.world) (D.told new.book.world)
         (λ t u is l. record { file = l.tries.file; events = l.tries.added; log = l.tries.log; only = only_pages l.tries.added l.tries.only }) goes.4
 
-    pub input_on : Goes (λ old new. new.input ≡ old.input) (D.told (world_of old)) (D.told (world_of new))
+    input_on : Goes (λ old new. new.input ≡ old.input) (D.told (world_of old)) (D.told (world_of new))
     unfolding world_of
     input_on = goes_map (IsLater old.book.journal.pages) (λ t u. u.input ≡ t.input) (D.told old.book.world) (D.told new.book.world) (λ t u is l. l.tries.input) goes.4
 
@@ -145,11 +141,11 @@ module _ {W : Type 0} {D : disk.Ghosts W} where
               (λ image has. inl (book_stands old.book t told at.ready old.last s.last image last (subst (λ (p : Pages). HasHome n p image) home_is has)));
         }
 
-    pub leaves_on : (command : Command) (s : State) → IsAt old s → Goes (Leaves s command) (D.told (world_of old)) (D.told (world_of new))
+    leaves_on : (command : Command) (s : State) → IsAt old s → Goes (Leaves s command) (D.told (world_of old)) (D.told (world_of new))
     unfolding IsAt world_of
     leaves_on command s at = goes_map (IsLater old.book.journal.pages) (Leaves s command) (D.told old.book.world) (D.told new.book.world) (λ t u is l. leaves_from command s at t u is l) goes.4
 
-    pub few_on : (command : Command) → gives_edition command ≡ false → (s : State) → Goes (WritesFew s command (changes_of old)) (D.told (world_of old)) (D.told (world_of new))
+    few_on : (command : Command) → gives_edition command ≡ false → (s : State) → Goes (WritesFew s command (changes_of old)) (D.told (world_of old)) (D.told (world_of new))
     unfolding world_of changes_of
     few_on command quiet s =
         goes_map (IsLater old.book.journal.pages) (WritesFew s command old.changes) (D.told old.book.world) (D.told new.book.world)
@@ -172,52 +168,47 @@ on_ok : {T E : Type 0} (P : Type 0) (r : Result T E) → P → OnOk r P
 on_ok P (Ok x) h = h
 on_ok P (Err e) h = tt
 
-sound_at : {T : Type 0} (At : State → Type 0) (r : Result T Stop) → IfErr r IsSound → IfErr r (λ e. (s : State) → At s → IsSound e)
+pub sound_at : {T : Type 0} (At : State → Type 0) (r : Result T Stop) → IfErr r IsSound → IfErr r (λ e. (s : State) → At s → IsSound e)
 sound_at At (Ok x) h = tt
 sound_at At (Err e) h = λ s at. h
 
-module _ {W : Type 0} {D : disk.Ghosts W} (old new : Session W D) where
-  pub later_at : {T : Type 0} (r : Result T Stop) → HasStopCause (D.faults old.book.world) (D.faults new.book.world) r → D.faults (world_of old) ≤ D.faults (world_of new)
-  unfolding world_of
-  later_at r h = h.later
+module _ {W : Type 0} {D : disk.Ghosts W} (old new : Session W D) (command other : Command) (same : other ≡ command) (r : Result Reply Stop)
+    (answers : IfOk r (λ reply. (s : State) → IsAtState old s → Answered s other old new reply)) (sound : IfErr r (λ e. (s : State) → IsAtState old s → IsSound e))
+    (cause : HasStopCause (D.faults old.book.world) (D.faults new.book.world) r) where
+  -- a command that gives no edition
+  pub applied_going : books.GoesOn old.book new.book → gives_edition command ≡ false → IsApplied command old new r
+  unfolding world_of IsAt
+  applied_going goes quiet = record {
+    answer = answer_of old new command other same r answers;
+    refused = refused_keeps old new command other same r answers;
+    changes = changes_are old new command other same r answers;
+    level = on_ok (level_of new ≡ level_of old) r (level_on old new goes);
+    later = cause.later;
+    device = device_of (D.faults old.book.world) (D.faults new.book.world) r cause;
+    damaged = damaged_of (IsAtState old) r sound;
+    door = goes.3;
+    events = events_on old new goes;
+    input = input_on old new goes;
+    crash = leaves_on old new goes command;
+    writes = λ s at. few_on old new goes command quiet s;
+  }
 
-  pub device_at : {T : Type 0} (r : Result T Stop) → HasStopCause (D.faults old.book.world) (D.faults new.book.world) r
-      → IfErr r (λ stop. stop ≡ stops.Device → Rose (D.faults (world_of old)) (D.faults (world_of new)))
-  unfolding world_of
-  device_at r h = device_of (D.faults old.book.world) (D.faults new.book.world) r h
-
-  pub damaged_at : {T : Type 0} (r : Result T Stop) → IfErr r (λ e. (s : State) → IsAtState old s → IsSound e)
-      → IfErr r (λ stop. (page : ℕ) → stop ≡ stops.Damaged page → (s : State) → IsAt old s → ⊥)
-  unfolding IsAt
-  damaged_at r h = damaged_of (IsAtState old) r h
-
-  pub damaged_by : {T : Type 0} (r : Result T Stop) → IfErr r IsSound → IfErr r (λ stop. (page : ℕ) → stop ≡ stops.Damaged page → (s : State) → IsAt old s → ⊥)
-  damaged_by r h = damaged_at r (sound_at (IsAtState old) r h)
-
-  pub level_at : {T : Type 0} (r : Result T Stop) → OnOk r (new.book.last.level ≡ old.book.last.level) → OnOk r (level_of new ≡ level_of old)
-  unfolding level_of
-  level_at r h = h
-
-  pub level_going : {T : Type 0} (r : Result T Stop) → books.GoesOn old.book new.book → OnOk r (level_of new ≡ level_of old)
-  level_going r goes = on_ok (level_of new ≡ level_of old) r (level_on old new goes)
-
-  pub door_at : D.door new.book.world ≡ D.door old.book.world → D.door (world_of new) ≡ D.door (world_of old)
-  unfolding world_of
-  door_at h = h
-
-  pub events_at : WritesPages (D.told old.book.world) (D.told new.book.world) → Goes (AddsOnly is_of_pages) (D.told (world_of old)) (D.told (world_of new))
-  unfolding world_of
-  events_at h = writing_events (D.told old.book.world) (D.told new.book.world) h
-
-  pub input_at : WritesPages (D.told old.book.world) (D.told new.book.world) → Goes (λ old new. new.input ≡ old.input) (D.told (world_of old)) (D.told (world_of new))
-  unfolding world_of
-  input_at h = writing_input (D.told old.book.world) (D.told new.book.world) h
-
-  module _ (command other : Command) (same : other ≡ command) where
-    pub leaves_at : ((s : State) → IsAtState old s → Goes (Leaves s other) (D.told old.book.world) (D.told new.book.world)) → (s : State) → IsAt old s → Goes (Leaves s command) (D.told (world_of old)) (D.told (world_of new))
-    unfolding IsAt world_of
-    leaves_at h s at = subst (λ (c : Command). Goes (Leaves s c) (D.told old.book.world) (D.told new.book.world)) same (h s at)
-
-    pub few_at : ((s : State) → IsAtState old s → Goes (Writing (18 * old.changes + 8)) (D.told old.book.world) (D.told new.book.world)) → (s : State) → IsAt old s → Goes (WritesFew s command (changes_of old)) (D.told (world_of old)) (D.told (world_of new))
-    unfolding IsAt world_of changes_of
-    few_at h s at = writing_few (D.told old.book.world) (D.told new.book.world) s command old.changes (h s at)
+  -- and one that may give one
+  pub applied_giving : OnOk r (new.book.last.level ≡ old.book.last.level) → D.door new.book.world ≡ D.door old.book.world → WritesPages (D.told old.book.world) (D.told new.book.world)
+      → ((s : State) → IsAtState old s → Goes (Leaves s other) (D.told old.book.world) (D.told new.book.world))
+      → ((s : State) → IsAtState old s → Goes (Writing (18 * old.changes + 8)) (D.told old.book.world) (D.told new.book.world)) → IsApplied command old new r
+  unfolding world_of IsAt level_of changes_of
+  applied_giving level door events crash writes = record {
+    answer = answer_of old new command other same r answers;
+    refused = refused_keeps old new command other same r answers;
+    changes = changes_are old new command other same r answers;
+    level = level;
+    later = cause.later;
+    device = device_of (D.faults old.book.world) (D.faults new.book.world) r cause;
+    damaged = damaged_of (IsAtState old) r sound;
+    door = door;
+    events = writing_events (D.told old.book.world) (D.told new.book.world) events;
+    input = writing_input (D.told old.book.world) (D.told new.book.world) events;
+    crash = λ s at. subst (λ (c : Command). Goes (Leaves s c) (D.told old.book.world) (D.told new.book.world)) same (crash s at);
+    writes = λ s at. writing_few (D.told old.book.world) (D.told new.book.world) s command old.changes (writes s at);
+  }

@@ -1,11 +1,16 @@
 -- What a command is answered, and what it leaves of a session.
-use Rattle.std.specs.Prelude.{◌≡◌}
+use Rattle.std.specs.Prelude.{◌≡◌, ℕ, ◌≤◌, Result, IfOk, IfErr, OnOk}
+use Rattle.quilt_types.specs.declared.stop.Stop.{Stop}
+use Rattle.quilt_types.specs.declared.stop.Stop.TheVariants as stops
+use Rattle.quilt_world.specs.Added.{AddsOnly, is_of_pages}
+use Rattle.quilt_world.specs.Causes.{Rose}
+use Rattle.quilt_world.specs.Tale.{Goes}
 use Rattle.quilt_world.specs.declared.disk.Disk as disk
 use Rattle.quilt_words.specs.declared.command.Command.{Command}
 use Rattle.quilt_map.specs.Answers.{State, answer}
-use Rattle.quilt_map.specs.Sessions.{IsAtState}
-use Rattle.quilt_map.specs.States.{Tells, after}
-use Rattle.quilt_map.specs.Steps.{changes_after}
+use Rattle.quilt_map.specs.Sessions.{IsAt, IsAtState, world_of, level_of, changes_of}
+use Rattle.quilt_map.specs.States.{Tells, IsRefusal, after}
+use Rattle.quilt_map.specs.Steps.{Leaves, WritesFew, changes_after}
 use Rattle.quilt_map.specs.declared.reply.Reply.{Reply}
 use Rattle.quilt_map.specs.declared.session.Session.{Session}
 
@@ -15,3 +20,18 @@ module _ {W : Type 0} {D : disk.Ghosts W} where
     pub tells : Tells reply (answer s command).reply
     pub at : IsAtState new (after s command)
     pub count : new.changes ≡ changes_after s command old.changes
+
+  -- all that is promised of the answer to a command
+  pub record IsApplied (command : Command) (old new : Session W D) (r : Result Reply Stop) : Type 0 where
+    pub answer : IfOk r (λ reply. (s : State) → IsAt old s → Tells reply (answer s command).reply × IsAt new (after s command))
+    pub refused : IfOk r (λ reply. IsRefusal reply → (s : State) → IsAt old s → IsAt new s)
+    pub changes : IfOk r (λ reply. (s : State) → IsAt old s → changes_of new ≡ changes_after s command (changes_of old))
+    pub level : OnOk r (level_of new ≡ level_of old)
+    pub later : D.faults (world_of old) ≤ D.faults (world_of new)
+    pub device : IfErr r (λ stop. stop ≡ stops.Device → Rose (D.faults (world_of old)) (D.faults (world_of new)))
+    pub damaged : IfErr r (λ stop. (page : ℕ) → stop ≡ stops.Damaged page → (s : State) → IsAt old s → ⊥)
+    pub door : D.door (world_of new) ≡ D.door (world_of old)
+    pub events : Goes (AddsOnly is_of_pages) (D.told (world_of old)) (D.told (world_of new))
+    pub input : Goes (λ before now. now.input ≡ before.input) (D.told (world_of old)) (D.told (world_of new))
+    pub crash : (s : State) → IsAt old s → Goes (Leaves s command) (D.told (world_of old)) (D.told (world_of new))
+    pub writes : (s : State) → IsAt old s → Goes (WritesFew s command (changes_of old)) (D.told (world_of old)) (D.told (world_of new))

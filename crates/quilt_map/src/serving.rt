@@ -4,7 +4,7 @@ ghost use Rattle.quilt_words.specs.Forms.{Spelled};
 ghost use Rattle.quilt_btree.specs.Stops.{HasStopCause, IsSound};
 ghost use Rattle.quilt_edition.specs.Books as books;
 ghost use Rattle.quilt_map.specs.Answers.{State};
-ghost use Rattle.quilt_map.specs.Commanding.{Answered};
+ghost use Rattle.quilt_map.specs.Commanding.{Answered, IsApplied};
 ghost use Rattle.quilt_map.specs.Sessions.{IsAtState};
 ghost use Rattle.quilt_map.specs.Steps.{gives_edition, is_revert};
 
@@ -15,6 +15,19 @@ use quilt_words::Command;
 use quilt_world::World;
 
 impl<W: World> Session<W> {
+    /// The reply to a command, from the call that it is for.
+    pub(crate) fn dispatch(&mut self, command: &Command) -> Result<Reply, Stop>
+        requires { Spelled (books.work_of self.old.book).format (books.last_of self.old.book).level command.now }
+        ensures { IsApplied command.now self.old self.new result }
+    {
+        match command {
+            Command::Publish => self.publish(),
+            Command::Upgrade => self.upgrade(),
+            Command::Revert => self.revert(),
+            _ => self.serve(command),
+        }
+    }
+
     /// The reply to a command that neither gives an edition nor goes back to one.
     pub(crate) fn serve(&mut self, command: &Command) -> Result<Reply, Stop>
         requires spelled { Spelled (books.work_of self.old.book).format (books.last_of self.old.book).level command.now }

@@ -90,12 +90,7 @@ impl<W: World> Session<W> {
     {
         let _ = rt;
         let _ = gate;
-        match command {
-            Command::Publish => self.publish(),
-            Command::Upgrade => self.upgrade(),
-            Command::Revert => self.revert(),
-            _ => self.serve(command),
-        }
+        self.dispatch(command)
     }
 
     /// The next bytes of the input, as the world takes them. 0 says that it has ended.
