@@ -13,7 +13,7 @@ use Rattle.quilt_words.specs.declared.item.Item.TheVariants.{Long}
 use Rattle.quilt_words.specs.declared.command.Command.{Command}
 use Rattle.quilt_words.specs.declared.parse_err.ParseErr.{ParseErr}
 use Rattle.quilt_words.specs.Built.{is_built}
-use Rattle.quilt_words.specs.Fitting.{AreColours, IsRows, ArePoints, AreRings, IsRing, IsPointOf16, IsCornerOf16, FurtherFits, IsFitting}
+use Rattle.quilt_words.specs.Fitting.{IsWithin, AreColours, IsRows, ArePoints, AreRings, IsRing, IsPointOf16, IsCornerOf16, FurtherFits, IsFitting}
 use Rattle.quilt_words.specs.Items.{Group, held, held_as, asked, asked_by, asked_in_all, listed_by, is_long, is_plain, words_of, begins_with, rows_of, rows_joined, colour_bytes, points_of, points_joined, point_of, point, rings_of, rings_joined, ring_of, corners_of, corner_of}
 use Rattle.quilt_words.specs.Spelling.{number, row, hex_digit, cons_both, is_spelled, value_of}
 use Rattle.quilt_words.specs.Made.{further_of}
@@ -23,17 +23,26 @@ both_right : (a b : Bool) → (a && b) ≡ true → b ≡ true
 both_right true b is = is
 both_right false b is = cc
 
+both_left : (a b : Bool) → (a && b) ≡ true → a ≡ true
+both_left true b is = refl
+both_left false b is = is
+
 -- a number within its range
-pub number_some : (low high : ℕ) (cs : List ℕ) (n : ℕ) → number low high cs ≡ Some n → n ≤ high
+pub number_within : (low high : ℕ) (cs : List ℕ) (n : ℕ) → number low high cs ≡ Some n → IsWithin low high n
 unfolding number
-number_some low high cs n is = elim (bool_cases (is_spelled cs && nat_le low (value_of cs) && nat_le (value_of cs) high)) [
+number_within low high cs n is = elim (bool_cases (is_spelled cs && nat_le low (value_of cs) && nat_le (value_of cs) high)) [
   | inl holds ↦
       let e : Some (value_of cs) ≡ Some n = rw holds at is in
       let same : value_of cs ≡ n = cc in
+      let first = both_left (is_spelled cs && nat_le low (value_of cs)) (nat_le (value_of cs) high) holds in
+      let least : low ≤ value_of cs = leb-true low (value_of cs) (both_right (is_spelled cs) (nat_le low (value_of cs)) first) in
       let most : value_of cs ≤ high = leb-true (value_of cs) high (both_right (is_spelled cs && nat_le low (value_of cs)) (nat_le (value_of cs) high) holds) in
-      omega (arith, same, most)
+      record { least = omega (arith, same, least); most = omega (arith, same, most) }
   | inr not_ ↦ let e : None ≡ Some n = rw not_ at is in absurd (cc)
 ]
+
+pub number_some : (low high : ℕ) (cs : List ℕ) (n : ℕ) → number low high cs ≡ Some n → n ≤ high
+number_some low high cs n is = (number_within low high cs n is).most
 
 most_of : (low high : ℕ) (cs : List ℕ) (r : Option ℕ) → number low high cs ≡ r → unwrap_or r 0 ≤ high
 most_of low high cs None is = omega arith

@@ -7,4 +7,5 @@ pub mod Remarks
 pub mod Rings
 pub mod Rows
 pub mod Slices
+pub mod SpelledLaws
 pub mod Table

@@ -1,0 +1,511 @@
+-- What is known of a command that an item spells: its word is built, and what it has fits the format and the level.
+use Rattle.std.proofs.Common.{◌≡◌, inl, inr, ℕ, zero, suc, ◌+◌, ◌-◌, ◌*◌, ◌/◌, ◌<◌, ◌≤◌, ◌^◌, arith, Bool, true, false, cond, List, [], ◌∷◌, ◌++◌, length, All, Option, Some, None, Result, Ok, Err, refl, sym, ◌∙◌, ap, subst, ◌==◌, option_map, find, ℤ, pos, neg_ℤ}
+use Rattle.std.specs.List.{list_all}
+use Rattle.std.specs.Str.{bytes_eq}
+use Rattle.std.proofs.lemmas.Bool.{eqb-true}
+use Rattle.std.proofs.Math.Dec.{le→leb}
+use Rattle.std.proofs.lemmas.List.Elements.{All-nil, All-cons}
+use Rattle.quilt_types.specs.declared.plane.Colour.{Colour}
+use Rattle.quilt_types.specs.Layers.{colours, is_name}
+use Rattle.quilt_types.specs.declared.code.Code.{Code}
+use Rattle.quilt_types.specs.declared.code.Code.TheVariants as codes_of
+use Rattle.quilt_words.specs.declared.command.Command.{Command}
+use Rattle.quilt_words.specs.declared.command.Command.TheVariants as commands
+use Rattle.quilt_words.specs.declared.item.Item.{Item}
+use Rattle.quilt_words.specs.declared.item.Item.TheVariants.{Long, Line, Rows, PointLines, RingLines}
+use Rattle.quilt_words.specs.declared.word.MapWord.{MapWord}
+use Rattle.quilt_words.specs.declared.word.MapWord.TheVariants as map_words
+use Rattle.quilt_words.specs.declared.word.RegionWord.{RegionWord}
+use Rattle.quilt_words.specs.declared.word.RegionWord.TheVariants as region_words
+use Rattle.quilt_words.specs.declared.word.AlgebraWord.{AlgebraWord}
+use Rattle.quilt_words.specs.declared.word.AlgebraWord.TheVariants as algebra_words
+use Rattle.quilt_words.specs.declared.word.PointWord.{PointWord}
+use Rattle.quilt_words.specs.declared.word.PointWord.TheVariants as point_words
+use Rattle.quilt_words.specs.declared.word.LineWord.{LineWord}
+use Rattle.quilt_words.specs.declared.word.LineWord.TheVariants as line_words
+use Rattle.quilt_words.specs.declared.word.Word.{Word}
+use Rattle.quilt_words.specs.declared.word.Word.TheVariants as words
+use Rattle.quilt_words.specs.Built.{is_built}
+use Rattle.quilt_words.specs.Fitting.{IsFitting, FurtherFits, IsName, IsWithin, IsShift, IsColour, IsPixelOf16, IsWindowOf16}
+use Rattle.quilt_words.specs.Forms.{Further, Argument, A_name, A_number, A_signed, Value, Called, Number, Signed, coordinate, colour, label, pixel, window, pairs_of, or_err, ◌>>=◌, argument_value, values_of, form_of_words, form_of_line, form, Spelled, area_command, at_command, blocks_command, buffer_command, clip_command, copy_command, cross_command, crossings_command, del_command, diff_command, drop_command, edition_command, find_command, inter_command, layers_command, leaves_command, line_command, lines_command, nearest_command, over_command, perimeter_command, points_command, polygon_command, publish_command, put_command, rank_command, raster_command, recolour_command, records_command, rect_command, region_command, revert_command, scatter_command, set_command, shift_command, show_command, union_command, unline_command, upgrade_command, window_command, within_command}
+use Rattle.quilt_words.specs.Items.{held, is_plain, words_of}
+use Rattle.quilt_words.specs.Made.{made, recoloured, has_pairs, formed, map_formed, region_formed, algebra_formed, point_formed, line_formed, further_of}
+use Rattle.quilt_words.specs.Spelling.{number, signed, name}
+use Rattle.quilt_words.specs.Words.{all_words, spelling}
+use Rattle.quilt_words.proofs.Cases.{bool_cases}
+use Rattle.quilt_words.proofs.Holding.{number_within, further_fits}
+use Rattle.quilt_words.proofs.Recolours.{paired, pair_number}
+use Rattle.quilt_words.proofs.Table.{unspelled, spelled_is, unbuilt, known_is}
+
+-- the word of a command
+abbrev pub word_in : Command → Word
+word_in (commands.Region a k) = words.Map map_words.Region
+word_in (commands.Lines l t) = words.Map map_words.Lines
+word_in (commands.Drop a) = words.Map map_words.Drop
+word_in (commands.Copy a b) = words.Map map_words.Copy
+word_in commands.Layers = words.Map map_words.Layers
+word_in (commands.Blocks a) = words.Map map_words.Blocks
+word_in commands.Records = words.Map map_words.Records
+word_in commands.Edition = words.Map map_words.Edition
+word_in commands.Publish = words.Map map_words.Publish
+word_in commands.Upgrade = words.Map map_words.Upgrade
+word_in commands.Revert = words.Map map_words.Revert
+word_in (commands.Set a p k) = words.Region region_words.Set
+word_in (commands.Rect a w k) = words.Region region_words.Rect
+word_in (commands.Raster a rows) = words.Region region_words.Raster
+word_in (commands.At a p) = words.Region region_words.At
+word_in (commands.Show a w) = words.Region region_words.Show
+word_in (commands.Leaves a) = words.Region region_words.Leaves
+word_in (commands.Area a k) = words.Region region_words.Area
+word_in (commands.Perimeter a k) = words.Region region_words.Perimeter
+word_in (commands.Polygon a k rings) = words.Region region_words.Polygon
+word_in (commands.Union a b d) = words.Algebra algebra_words.Union
+word_in (commands.Inter a b d) = words.Algebra algebra_words.Inter
+word_in (commands.Diff a b d) = words.Algebra algebra_words.Diff
+word_in (commands.Window a w d) = words.Algebra algebra_words.Window
+word_in (commands.Shift a dx dy d) = words.Algebra algebra_words.Shift
+word_in (commands.Buffer a r d) = words.Algebra algebra_words.Buffer
+word_in (commands.Put p at j) = words.Point point_words.Put
+word_in (commands.Del p at) = words.Point point_words.Del
+word_in (commands.Scatter p points) = words.Point point_words.Scatter
+word_in (commands.Find p at) = words.Point point_words.Find
+word_in (commands.Within p w) = words.Point point_words.Within
+word_in (commands.Line l i s) = words.Line line_words.Line
+word_in (commands.Unline l i) = words.Line line_words.Unline
+word_in (commands.Cross l w) = words.Line line_words.Cross
+word_in (commands.Clip l w) = words.Line line_words.Clip
+word_in (commands.Nearest l at) = words.Line line_words.Nearest
+word_in (commands.Over l a) = words.Line line_words.Over
+word_in (commands.Rank l at k) = words.Line line_words.Rank
+word_in (commands.Crossings l m) = words.Line line_words.Crossings
+word_in (commands.Points p b) = words.Map map_words.Points
+word_in (commands.Recolour a d pairs) = words.Algebra algebra_words.Recolour
+
+-- ---- the values of arguments
+
+abbrev Fits : Argument → Value → Type 0
+Fits A_name (Called a) = IsName a
+Fits (A_number low high) (Number k) = IsWithin low high k
+Fits A_signed (Signed z) = IsShift z
+Fits a v = ⊥
+
+abbrev AllFit : List Argument → List Value → Type 0
+AllFit [] [] = Unit {0}
+AllFit [] (v ∷ vs) = ⊥
+AllFit (a ∷ rest) [] = ⊥
+AllFit (a ∷ rest) (v ∷ vs) = Fits a v × AllFit rest vs
+
+-- as many values as arguments, each one that its argument may be
+record AreValues (arguments : List Argument) (vs : List Value) : Type 0 where
+  pub each : AllFit arguments vs
+
+bound : {A B : Type 0} (r : Result A Code) (f : A → Result B Code) (y : B) → (r >>= f) ≡ Ok y → (x : A) × (r ≡ Ok x) × (f x ≡ Ok y)
+bound (Ok x) f y is = (x, refl, is)
+bound (Err e) f y is = cc
+
+or_some : {A : Type 0} (code : Code) (o : Option A) (x : A) → or_err code o ≡ Ok x → o ≡ Some x
+or_some code None x is = cc
+or_some code (Some z) x is = let same : z ≡ x = cc in ap Some same
+
+-- what a value was made of
+made_of : {A : Type 0} (value : A → Value) (code : Code) (o : Option A) (v : Value) → or_err code (option_map value o) ≡ Ok v → (x : A) × (o ≡ Some x) × (value x ≡ v)
+made_of value code None v is = cc
+made_of value code (Some x) v is = (x, refl, let same : value x ≡ v = cc in same)
+
+name_fits : (word a : List ℕ) → name word ≡ Some a → IsName a
+unfolding name
+name_fits word a is = elim (bool_cases (is_name word)) [
+  | inl yes_ ↦ let e : Some word ≡ Some a = rw yes_ at is in let same : word ≡ a = cc in subst IsName same yes_
+  | inr not_ ↦ let e : None ≡ Some a = rw not_ at is in absurd (cc)
+]
+
+positive_fits : (k : ℕ) → k ≤ 65535 → IsShift (pos k)
+positive_fits k le = record { least = omega arith; most = omega (arith, le→leb, le) }
+
+negative_fits : (k : ℕ) → k ≤ 65535 → IsShift (neg_ℤ (pos k))
+negative_fits zero le = record { least = omega arith; most = omega arith }
+negative_fits (suc k) le = record { least = omega (arith, le→leb, le); most = omega arith }
+
+mapped_from : (value : ℕ → ℤ) (o : Option ℕ) (z : ℤ) → option_map value o ≡ Some z → (k : ℕ) × (o ≡ Some k) × (value k ≡ z)
+mapped_from value None z is = cc
+mapped_from value (Some k) z is = (k, refl, let same : value k ≡ z = cc in same)
+
+sign_fits : (b : Bool) (cs word : List ℕ) (z : ℤ) → cond b (option_map (λ v. neg_ℤ (pos v)) (number 1 65535 cs)) (option_map pos (number 0 65535 word)) ≡ Some z → IsShift z
+sign_fits true cs word z is =
+    let from = mapped_from (λ v. neg_ℤ (pos v)) (number 1 65535 cs) z is in subst IsShift from.2 (negative_fits from.0 (number_within 1 65535 cs from.0 from.1).most)
+sign_fits false cs word z is =
+    let from = mapped_from pos (number 0 65535 word) z is in subst IsShift from.2 (positive_fits from.0 (number_within 0 65535 word from.0 from.1).most)
+
+signed_fits : (word : List ℕ) (z : ℤ) → signed 65535 word ≡ Some z → IsShift z
+signed_fits [] z is = cc
+signed_fits (c ∷ cs) z is = sign_fits (c == 45) cs (c ∷ cs) z is
+
+argument_fits : (a : Argument) (word : List ℕ) (v : Value) → argument_value a word ≡ Ok v → Fits a v
+argument_fits A_name word v is = let from = made_of Called codes_of.Name (name word) v is in subst (Fits A_name) from.2 (name_fits word from.0 from.1)
+argument_fits (A_number low high) word v is =
+    let from = made_of Number codes_of.Number (number low high word) v is in subst (Fits (A_number low high)) from.2 (number_within low high word from.0 from.1)
+argument_fits A_signed word v is = let from = made_of Signed codes_of.Number (signed 65535 word) v is in subst (Fits A_signed) from.2 (signed_fits word from.0 from.1)
+
+values_fit : (rest : List Argument) (ws : List (List ℕ)) (vs : List Value) → length rest ≡ length ws → values_of rest ws ≡ Ok vs → AllFit rest vs
+values_fit [] ws vs size is = let e : [] ≡ vs = cc in subst (AllFit []) e tt
+values_fit (a ∷ rest) [] vs size is = absurd (omega (arith, size))
+values_fit (a ∷ rest) (w ∷ ws) vs size is =
+    let first = bound (argument_value a w) _ vs is in
+    let second = bound (values_of rest ws) _ vs first.2 in
+    let e : first.0 ∷ second.0 ≡ vs = let g : Ok (first.0 ∷ second.0) ≡ Ok vs = second.2 in cc in
+    subst (AllFit (a ∷ rest)) e (argument_fits a w first.0 first.1, values_fit rest ws second.0 (omega (arith, size)) second.1)
+
+few_colours : (f k : ℕ) → IsWithin 0 (colours f - 1) k → k < colours f
+few_colours f k fit = less (f == 1) fit.most
+  where
+    less : (b : Bool) → k ≤ cond b 256 65536 - 1 → k < cond b 256 65536
+    less true le = omega (arith, le)
+    less false le = omega (arith, le)
+
+few_labels : (k : ℕ) → IsWithin 0 4294967295 k → k < 2 ^ 32
+few_labels k fit = let most = fit.most in omega (arith, most)
+
+pixel_within : {x y : ℕ} → IsWithin 0 65535 x → IsWithin 0 65535 y → IsPixelOf16 (record { x = x; y = y })
+pixel_within first second = record { x = first.most; y = second.most }
+
+window_within : {x y w h : ℕ} → IsWithin 0 65535 x → IsWithin 0 65535 y → IsWithin 1 65535 w → IsWithin 1 65535 h → IsWindowOf16 (record { x = x; y = y; w = w; h = h })
+window_within first second third fourth = record { x = first.most; y = second.most; w = third; h = fourth }
+
+-- ---- the pairs of a recolouring
+
+abbrev ArePaired : ℕ → ℕ → List (Colour × Colour) → Type 0
+ArePaired f m pairs = (length pairs ≡ m) × All (λ pair. IsColour f pair.0 × IsColour f pair.1) pairs
+
+pairs_fit : (f k m : ℕ) (vs : List Value) → AllFit (paired f k m) vs → ArePaired f m (pairs_of vs)
+pairs_fit f k zero [] fit = (refl, All-nil _)
+pairs_fit f k zero (v ∷ vs) fit = absurd fit
+pairs_fit f k (suc m) [] fit = absurd fit
+pairs_fit f k (suc m) (Called a ∷ vs) fit = absurd (fit.0)
+pairs_fit f k (suc m) (Signed z ∷ vs) fit = absurd (fit.0)
+pairs_fit f k (suc m) (Number o ∷ []) fit = absurd (fit.1)
+pairs_fit f k (suc m) (Number o ∷ Called a ∷ vs) fit = absurd (fit.1.0)
+pairs_fit f k (suc m) (Number o ∷ Signed z ∷ vs) fit = absurd (fit.1.0)
+pairs_fit f k (suc m) (Number o ∷ Number p ∷ vs) fit =
+    let rest = pairs_fit f (k + 1) m vs fit.1.1 in
+    let one : Colour × Colour = (record { 0 = o }, record { 0 = p }) in
+    let P : Colour × Colour → Type 0 = λ (pair : Colour × Colour). IsColour f pair.0 × IsColour f pair.1 in
+    let fits : P one = (few_colours f o fit.0, few_colours f p fit.1.0) in
+    (omega (arith, rest.0), All-cons P one (pairs_of vs) fits rest.1)
+
+number_of_pairs : (count : ℕ) → has_pairs count ≡ true → IsWithin 1 16 ((count - 2) / 2)
+number_of_pairs count is = record { least = grind arith; most = grind arith }
+
+paired_length : (f k m : ℕ) → length (paired f k m) ≡ 2 * m
+paired_length f k zero = refl
+paired_length f k (suc m) = omega (arith, paired_length f (k + 1) m)
+
+-- ---- the rows of the table
+
+-- the command has the word, and what it has fits
+record IsMadeBy (f n : ℕ) (more : Further) (w : Word) (c : Command) : Type 0 where
+  pub word : word_in c ≡ w
+  pub fits : FurtherFits f n more → IsFitting f n c
+
+module _ (f n : ℕ) where
+  abbrev Row : List Argument → (Further → List Value → Option Command) → Word → Type 0
+  Row arguments command w = (more : Further) (vs : List Value) (c : Command) → AreValues arguments vs → command more vs ≡ Some c → IsMadeBy f n more w c
+
+  made_by : (more : Further) (w : Word) (d c : Command) → IsMadeBy f n more w d → Some d ≡ Some c → IsMadeBy f n more w c
+  made_by more w d c by is = let same : d ≡ c = cc in subst (IsMadeBy f n more w) same by
+
+  by_row : (arguments : List Argument) (command : Further → List Value → Option Command) (w : Word) (more : Further) (ws : List (List ℕ)) (c : Command)
+      → Row arguments command w → made arguments command more ws ≡ Ok c → IsMadeBy f n more w c
+  by_row arguments command w more ws c row is = elim (bool_cases (length arguments == length ws)) [
+    | inl same ↦
+        let all : (values_of arguments ws >>= λ vs. or_err codes_of.Word (command more vs)) ≡ Ok c = rw same at is in
+        let first = bound (values_of arguments ws) _ c all in
+        row more first.0 c (record { each = values_fit arguments ws first.0 (eqb-true (length arguments) (length ws) same) first.1 }) (or_some codes_of.Word _ c first.2)
+    | inr other ↦ let none : Err codes_of.Count ≡ Ok c = rw other at is in absurd (cc)
+  ]
+
+  region_fits : Row (A_name ∷ colour f ∷ []) region_command (words.Map map_words.Region)
+  region_fits more (Called a ∷ Number k ∷ []) c fit is = made_by more (words.Map map_words.Region) _ c (record { word = refl; fits = λ further. (fit.each.0, few_colours f k fit.each.1.0) }) is
+  region_fits more vs c fit is = cc
+
+  lines_fits : Row (A_name ∷ A_number 1 32 ∷ []) lines_command (words.Map map_words.Lines)
+  lines_fits more (Called l ∷ Number t ∷ []) c fit is = made_by more (words.Map map_words.Lines) _ c (record { word = refl; fits = λ further. (fit.each.0, fit.each.1.0) }) is
+  lines_fits more vs c fit is = cc
+
+  drop_fits : Row (A_name ∷ []) drop_command (words.Map map_words.Drop)
+  drop_fits more (Called a ∷ []) c fit is = made_by more (words.Map map_words.Drop) _ c (record { word = refl; fits = λ further. fit.each.0 }) is
+  drop_fits more vs c fit is = cc
+
+  copy_fits : Row (A_name ∷ A_name ∷ []) copy_command (words.Map map_words.Copy)
+  copy_fits more (Called a ∷ Called b ∷ []) c fit is = made_by more (words.Map map_words.Copy) _ c (record { word = refl; fits = λ further. (fit.each.0, fit.each.1.0) }) is
+  copy_fits more vs c fit is = cc
+
+  layers_fits : Row ([]) layers_command (words.Map map_words.Layers)
+  layers_fits more ([]) c fit is = made_by more (words.Map map_words.Layers) _ c (record { word = refl; fits = λ further. tt }) is
+  layers_fits more (v ∷ vs) c fit is = cc
+
+  blocks_fits : Row (A_name ∷ []) blocks_command (words.Map map_words.Blocks)
+  blocks_fits more (Called a ∷ []) c fit is = made_by more (words.Map map_words.Blocks) _ c (record { word = refl; fits = λ further. fit.each.0 }) is
+  blocks_fits more vs c fit is = cc
+
+  records_fits : Row ([]) records_command (words.Map map_words.Records)
+  records_fits more ([]) c fit is = made_by more (words.Map map_words.Records) _ c (record { word = refl; fits = λ further. tt }) is
+  records_fits more (v ∷ vs) c fit is = cc
+
+  edition_fits : Row ([]) edition_command (words.Map map_words.Edition)
+  edition_fits more ([]) c fit is = made_by more (words.Map map_words.Edition) _ c (record { word = refl; fits = λ further. tt }) is
+  edition_fits more (v ∷ vs) c fit is = cc
+
+  publish_fits : Row ([]) publish_command (words.Map map_words.Publish)
+  publish_fits more ([]) c fit is = made_by more (words.Map map_words.Publish) _ c (record { word = refl; fits = λ further. tt }) is
+  publish_fits more (v ∷ vs) c fit is = cc
+
+  upgrade_fits : Row ([]) upgrade_command (words.Map map_words.Upgrade)
+  upgrade_fits more ([]) c fit is = made_by more (words.Map map_words.Upgrade) _ c (record { word = refl; fits = λ further. tt }) is
+  upgrade_fits more (v ∷ vs) c fit is = cc
+
+  revert_fits : Row ([]) revert_command (words.Map map_words.Revert)
+  revert_fits more ([]) c fit is = made_by more (words.Map map_words.Revert) _ c (record { word = refl; fits = λ further. tt }) is
+  revert_fits more (v ∷ vs) c fit is = cc
+
+  set_fits : Row (A_name ∷ pixel ++ colour f ∷ []) set_command (words.Region region_words.Set)
+  set_fits more (Called a ∷ Number x ∷ Number y ∷ Number k ∷ []) c fit is = made_by more (words.Region region_words.Set) _ c (record { word = refl; fits = λ further. (fit.each.0, pixel_within fit.each.1.0 fit.each.1.1.0, few_colours f k fit.each.1.1.1.0) }) is
+  set_fits more vs c fit is = cc
+
+  rect_fits : Row (A_name ∷ window ++ colour f ∷ []) rect_command (words.Region region_words.Rect)
+  rect_fits more (Called a ∷ Number x ∷ Number y ∷ Number w ∷ Number h ∷ Number k ∷ []) c fit is = made_by more (words.Region region_words.Rect) _ c (record { word = refl; fits = λ further. (fit.each.0, window_within fit.each.1.0 fit.each.1.1.0 fit.each.1.1.1.0 fit.each.1.1.1.1.0, few_colours f k fit.each.1.1.1.1.1.0) }) is
+  rect_fits more vs c fit is = cc
+
+  raster_fits : Row (A_name ∷ []) raster_command (words.Region region_words.Raster)
+  raster_fits more (Called a ∷ []) c fit is = made_by more (words.Region region_words.Raster) _ c (record { word = refl; fits = λ further. (fit.each.0, further.rows) }) is
+  raster_fits more vs c fit is = cc
+
+  at_fits : Row (A_name ∷ pixel) at_command (words.Region region_words.At)
+  at_fits more (Called a ∷ Number x ∷ Number y ∷ []) c fit is = made_by more (words.Region region_words.At) _ c (record { word = refl; fits = λ further. (fit.each.0, pixel_within fit.each.1.0 fit.each.1.1.0) }) is
+  at_fits more vs c fit is = cc
+
+  show_fits : Row (A_name ∷ window) show_command (words.Region region_words.Show)
+  show_fits more (Called a ∷ Number x ∷ Number y ∷ Number w ∷ Number h ∷ []) c fit is = made_by more (words.Region region_words.Show) _ c (record { word = refl; fits = λ further. (fit.each.0, window_within fit.each.1.0 fit.each.1.1.0 fit.each.1.1.1.0 fit.each.1.1.1.1.0) }) is
+  show_fits more vs c fit is = cc
+
+  leaves_fits : Row (A_name ∷ []) leaves_command (words.Region region_words.Leaves)
+  leaves_fits more (Called a ∷ []) c fit is = made_by more (words.Region region_words.Leaves) _ c (record { word = refl; fits = λ further. fit.each.0 }) is
+  leaves_fits more vs c fit is = cc
+
+  area_fits : Row (A_name ∷ colour f ∷ []) area_command (words.Region region_words.Area)
+  area_fits more (Called a ∷ Number k ∷ []) c fit is = made_by more (words.Region region_words.Area) _ c (record { word = refl; fits = λ further. (fit.each.0, few_colours f k fit.each.1.0) }) is
+  area_fits more vs c fit is = cc
+
+  perimeter_fits : Row (A_name ∷ colour f ∷ []) perimeter_command (words.Region region_words.Perimeter)
+  perimeter_fits more (Called a ∷ Number k ∷ []) c fit is = made_by more (words.Region region_words.Perimeter) _ c (record { word = refl; fits = λ further. (fit.each.0, few_colours f k fit.each.1.0) }) is
+  perimeter_fits more vs c fit is = cc
+
+  polygon_fits : Row (A_name ∷ colour f ∷ A_number 1 1000 ∷ []) polygon_command (words.Region region_words.Polygon)
+  polygon_fits more (Called a ∷ Number k ∷ Number j ∷ []) c fit is = made_by more (words.Region region_words.Polygon) _ c (record { word = refl; fits = λ further. (fit.each.0, few_colours f k fit.each.1.0, further.rings) }) is
+  polygon_fits more vs c fit is = cc
+
+  union_fits : Row (A_name ∷ A_name ∷ A_name ∷ []) union_command (words.Algebra algebra_words.Union)
+  union_fits more (Called a ∷ Called b ∷ Called d ∷ []) c fit is = made_by more (words.Algebra algebra_words.Union) _ c (record { word = refl; fits = λ further. (fit.each.0, fit.each.1.0, fit.each.1.1.0) }) is
+  union_fits more vs c fit is = cc
+
+  inter_fits : Row (A_name ∷ A_name ∷ A_name ∷ []) inter_command (words.Algebra algebra_words.Inter)
+  inter_fits more (Called a ∷ Called b ∷ Called d ∷ []) c fit is = made_by more (words.Algebra algebra_words.Inter) _ c (record { word = refl; fits = λ further. (fit.each.0, fit.each.1.0, fit.each.1.1.0) }) is
+  inter_fits more vs c fit is = cc
+
+  diff_fits : Row (A_name ∷ A_name ∷ A_name ∷ []) diff_command (words.Algebra algebra_words.Diff)
+  diff_fits more (Called a ∷ Called b ∷ Called d ∷ []) c fit is = made_by more (words.Algebra algebra_words.Diff) _ c (record { word = refl; fits = λ further. (fit.each.0, fit.each.1.0, fit.each.1.1.0) }) is
+  diff_fits more vs c fit is = cc
+
+  window_fits : Row (A_name ∷ window ++ A_name ∷ []) window_command (words.Algebra algebra_words.Window)
+  window_fits more (Called a ∷ Number x ∷ Number y ∷ Number w ∷ Number h ∷ Called d ∷ []) c fit is = made_by more (words.Algebra algebra_words.Window) _ c (record { word = refl; fits = λ further. (fit.each.0, window_within fit.each.1.0 fit.each.1.1.0 fit.each.1.1.1.0 fit.each.1.1.1.1.0, fit.each.1.1.1.1.1.0) }) is
+  window_fits more vs c fit is = cc
+
+  shift_fits : Row (A_name ∷ A_signed ∷ A_signed ∷ A_name ∷ []) shift_command (words.Algebra algebra_words.Shift)
+  shift_fits more (Called a ∷ Signed dx ∷ Signed dy ∷ Called d ∷ []) c fit is = made_by more (words.Algebra algebra_words.Shift) _ c (record { word = refl; fits = λ further. (fit.each.0, fit.each.1.0, fit.each.1.1.0, fit.each.1.1.1.0) }) is
+  shift_fits more vs c fit is = cc
+
+  buffer_fits : Row (A_name ∷ coordinate ∷ A_name ∷ []) buffer_command (words.Algebra algebra_words.Buffer)
+  buffer_fits more (Called a ∷ Number r ∷ Called d ∷ []) c fit is = made_by more (words.Algebra algebra_words.Buffer) _ c (record { word = refl; fits = λ further. (fit.each.0, fit.each.1.0.most, fit.each.1.1.0) }) is
+  buffer_fits more vs c fit is = cc
+
+  put_fits : Row (A_name ∷ pixel ++ label ∷ []) put_command (words.Point point_words.Put)
+  put_fits more (Called p ∷ Number x ∷ Number y ∷ Number j ∷ []) c fit is = made_by more (words.Point point_words.Put) _ c (record { word = refl; fits = λ further. (fit.each.0, pixel_within fit.each.1.0 fit.each.1.1.0, few_labels j fit.each.1.1.1.0) }) is
+  put_fits more vs c fit is = cc
+
+  del_fits : Row (A_name ∷ pixel) del_command (words.Point point_words.Del)
+  del_fits more (Called p ∷ Number x ∷ Number y ∷ []) c fit is = made_by more (words.Point point_words.Del) _ c (record { word = refl; fits = λ further. (fit.each.0, pixel_within fit.each.1.0 fit.each.1.1.0) }) is
+  del_fits more vs c fit is = cc
+
+  scatter_fits : Row (A_name ∷ A_number 1 100000 ∷ []) scatter_command (words.Point point_words.Scatter)
+  scatter_fits more (Called p ∷ Number k ∷ []) c fit is = made_by more (words.Point point_words.Scatter) _ c (record { word = refl; fits = λ further. (fit.each.0, further.points) }) is
+  scatter_fits more vs c fit is = cc
+
+  find_fits : Row (A_name ∷ pixel) find_command (words.Point point_words.Find)
+  find_fits more (Called p ∷ Number x ∷ Number y ∷ []) c fit is = made_by more (words.Point point_words.Find) _ c (record { word = refl; fits = λ further. (fit.each.0, pixel_within fit.each.1.0 fit.each.1.1.0) }) is
+  find_fits more vs c fit is = cc
+
+  within_fits : Row (A_name ∷ window) within_command (words.Point point_words.Within)
+  within_fits more (Called p ∷ Number x ∷ Number y ∷ Number w ∷ Number h ∷ []) c fit is = made_by more (words.Point point_words.Within) _ c (record { word = refl; fits = λ further. (fit.each.0, window_within fit.each.1.0 fit.each.1.1.0 fit.each.1.1.1.0 fit.each.1.1.1.1.0) }) is
+  within_fits more vs c fit is = cc
+
+  line_fits : Row (A_name ∷ label ∷ pixel ++ pixel) line_command (words.Line line_words.Line)
+  line_fits more (Called l ∷ Number i ∷ Number x ∷ Number y ∷ Number u ∷ Number v ∷ []) c fit is = made_by more (words.Line line_words.Line) _ c (record { word = refl; fits = λ further. (fit.each.0, few_labels i fit.each.1.0, record { first = pixel_within fit.each.1.1.0 fit.each.1.1.1.0; second = pixel_within fit.each.1.1.1.1.0 fit.each.1.1.1.1.1.0 }) }) is
+  line_fits more vs c fit is = cc
+
+  unline_fits : Row (A_name ∷ label ∷ []) unline_command (words.Line line_words.Unline)
+  unline_fits more (Called l ∷ Number i ∷ []) c fit is = made_by more (words.Line line_words.Unline) _ c (record { word = refl; fits = λ further. (fit.each.0, few_labels i fit.each.1.0) }) is
+  unline_fits more vs c fit is = cc
+
+  cross_fits : Row (A_name ∷ window) cross_command (words.Line line_words.Cross)
+  cross_fits more (Called l ∷ Number x ∷ Number y ∷ Number w ∷ Number h ∷ []) c fit is = made_by more (words.Line line_words.Cross) _ c (record { word = refl; fits = λ further. (fit.each.0, window_within fit.each.1.0 fit.each.1.1.0 fit.each.1.1.1.0 fit.each.1.1.1.1.0) }) is
+  cross_fits more vs c fit is = cc
+
+  clip_fits : Row (A_name ∷ window) clip_command (words.Line line_words.Clip)
+  clip_fits more (Called l ∷ Number x ∷ Number y ∷ Number w ∷ Number h ∷ []) c fit is = made_by more (words.Line line_words.Clip) _ c (record { word = refl; fits = λ further. (fit.each.0, window_within fit.each.1.0 fit.each.1.1.0 fit.each.1.1.1.0 fit.each.1.1.1.1.0) }) is
+  clip_fits more vs c fit is = cc
+
+  nearest_fits : Row (A_name ∷ pixel) nearest_command (words.Line line_words.Nearest)
+  nearest_fits more (Called l ∷ Number x ∷ Number y ∷ []) c fit is = made_by more (words.Line line_words.Nearest) _ c (record { word = refl; fits = λ further. (fit.each.0, pixel_within fit.each.1.0 fit.each.1.1.0) }) is
+  nearest_fits more vs c fit is = cc
+
+  over_fits : Row (A_name ∷ A_name ∷ []) over_command (words.Line line_words.Over)
+  over_fits more (Called l ∷ Called a ∷ []) c fit is = made_by more (words.Line line_words.Over) _ c (record { word = refl; fits = λ further. (fit.each.0, fit.each.1.0) }) is
+  over_fits more vs c fit is = cc
+
+  rank_fits : Row (A_name ∷ pixel ++ A_number 1 100000 ∷ []) rank_command (words.Line line_words.Rank)
+  rank_fits more (Called l ∷ Number x ∷ Number y ∷ Number k ∷ []) c fit is = made_by more (words.Line line_words.Rank) _ c (record { word = refl; fits = λ further. (fit.each.0, pixel_within fit.each.1.0 fit.each.1.1.0, fit.each.1.1.1.0) }) is
+  rank_fits more vs c fit is = cc
+
+  crossings_fits : Row (A_name ∷ A_name ∷ []) crossings_command (words.Line line_words.Crossings)
+  crossings_fits more (Called l ∷ Called m ∷ []) c fit is = made_by more (words.Line line_words.Crossings) _ c (record { word = refl; fits = λ further. (fit.each.0, fit.each.1.0) }) is
+  crossings_fits more vs c fit is = cc
+
+  points_fits : (b : Bool) → Row (A_name ∷ cond b [] (A_number 1 16 ∷ [])) points_command (words.Map map_words.Points)
+  points_fits true more (Called p ∷ []) c fit is = made_by more (words.Map map_words.Points) _ c (record { word = refl; fits = λ further. (fit.each.0, record { least = omega arith; most = omega arith }) }) is
+  points_fits true more (v ∷ u ∷ vs) c fit is = absurd (fit.each.1)
+  points_fits false more (v ∷ []) c fit is = absurd (fit.each.1)
+  points_fits false more (Called p ∷ Number b ∷ []) c fit is = made_by more (words.Map map_words.Points) _ c (record { word = refl; fits = λ further. (fit.each.0, fit.each.1.0) }) is
+  points_fits b more vs c fit is = cc
+
+  recolour_fits : (m : ℕ) → IsWithin 1 16 m → Row (A_name ∷ A_name ∷ paired f 0 m) recolour_command (words.Algebra algebra_words.Recolour)
+  recolour_fits m within more (Called a ∷ Called d ∷ vs) c fit is =
+      let pairs = pairs_fit f 0 m vs fit.each.1.1 in
+      let many : IsWithin 1 16 (length (pairs_of vs)) = subst (IsWithin 1 16) (sym pairs.0) within in
+      made_by more (words.Algebra algebra_words.Recolour) _ c (record { word = refl; fits = λ further. (fit.each.0, fit.each.1.0, record { number = many; each = pairs.1 }) }) is
+  recolour_fits m within more vs c fit is = cc
+
+  recolour_made : (more : Further) (ws : List (List ℕ)) (c : Command) → recoloured f more ws ≡ Ok c → IsMadeBy f n more (words.Algebra algebra_words.Recolour) c
+  recolour_made more ws c is = elim (bool_cases (has_pairs (length ws))) [
+    | inl some ↦
+        let m : ℕ = (length ws - 2) / 2 in
+        let all : (values_of (A_name ∷ A_name ∷ paired f 0 m) ws >>= λ vs. or_err codes_of.Word (recolour_command more vs)) ≡ Ok c = rw some at is in
+        let first = bound (values_of (A_name ∷ A_name ∷ paired f 0 m) ws) _ c all in
+        let size : length (A_name ∷ A_name ∷ paired f 0 m) ≡ length ws = omega (arith, paired_length f 0 m, pair_number (length ws) some) in
+        recolour_fits m (number_of_pairs (length ws) some) more first.0 c (record { each = values_fit (A_name ∷ A_name ∷ paired f 0 m) ws first.0 size first.1 }) (or_some codes_of.Word _ c first.2)
+    | inr not_ ↦ let none : Err codes_of.Count ≡ Ok c = rw not_ at is in absurd (cc)
+  ]
+
+  map_made : (more : Further) (w : MapWord) (ws : List (List ℕ)) (c : Command) → map_formed f more w ws ≡ Ok c → IsMadeBy f n more (words.Map w) c
+  map_made more map_words.Region ws c is = by_row _ _ (words.Map map_words.Region) more ws c region_fits is
+  map_made more map_words.Lines ws c is = by_row _ _ (words.Map map_words.Lines) more ws c lines_fits is
+  map_made more map_words.Drop ws c is = by_row _ _ (words.Map map_words.Drop) more ws c drop_fits is
+  map_made more map_words.Copy ws c is = by_row _ _ (words.Map map_words.Copy) more ws c copy_fits is
+  map_made more map_words.Layers ws c is = by_row _ _ (words.Map map_words.Layers) more ws c layers_fits is
+  map_made more map_words.Blocks ws c is = by_row _ _ (words.Map map_words.Blocks) more ws c blocks_fits is
+  map_made more map_words.Records ws c is = by_row _ _ (words.Map map_words.Records) more ws c records_fits is
+  map_made more map_words.Edition ws c is = by_row _ _ (words.Map map_words.Edition) more ws c edition_fits is
+  map_made more map_words.Publish ws c is = by_row _ _ (words.Map map_words.Publish) more ws c publish_fits is
+  map_made more map_words.Upgrade ws c is = by_row _ _ (words.Map map_words.Upgrade) more ws c upgrade_fits is
+  map_made more map_words.Revert ws c is = by_row _ _ (words.Map map_words.Revert) more ws c revert_fits is
+  map_made more map_words.Points ws c is = by_row _ _ (words.Map map_words.Points) more ws c (points_fits (length ws == 1)) is
+
+  region_made : (more : Further) (w : RegionWord) (ws : List (List ℕ)) (c : Command) → region_formed f more w ws ≡ Ok c → IsMadeBy f n more (words.Region w) c
+  region_made more region_words.Set ws c is = by_row _ _ (words.Region region_words.Set) more ws c set_fits is
+  region_made more region_words.Rect ws c is = by_row _ _ (words.Region region_words.Rect) more ws c rect_fits is
+  region_made more region_words.Raster ws c is = by_row _ _ (words.Region region_words.Raster) more ws c raster_fits is
+  region_made more region_words.At ws c is = by_row _ _ (words.Region region_words.At) more ws c at_fits is
+  region_made more region_words.Show ws c is = by_row _ _ (words.Region region_words.Show) more ws c show_fits is
+  region_made more region_words.Leaves ws c is = by_row _ _ (words.Region region_words.Leaves) more ws c leaves_fits is
+  region_made more region_words.Area ws c is = by_row _ _ (words.Region region_words.Area) more ws c area_fits is
+  region_made more region_words.Perimeter ws c is = by_row _ _ (words.Region region_words.Perimeter) more ws c perimeter_fits is
+  region_made more region_words.Polygon ws c is = by_row _ _ (words.Region region_words.Polygon) more ws c polygon_fits is
+
+  algebra_made : (more : Further) (w : AlgebraWord) (ws : List (List ℕ)) (c : Command) → algebra_formed f more w ws ≡ Ok c → IsMadeBy f n more (words.Algebra w) c
+  algebra_made more algebra_words.Union ws c is = by_row _ _ (words.Algebra algebra_words.Union) more ws c union_fits is
+  algebra_made more algebra_words.Inter ws c is = by_row _ _ (words.Algebra algebra_words.Inter) more ws c inter_fits is
+  algebra_made more algebra_words.Diff ws c is = by_row _ _ (words.Algebra algebra_words.Diff) more ws c diff_fits is
+  algebra_made more algebra_words.Window ws c is = by_row _ _ (words.Algebra algebra_words.Window) more ws c window_fits is
+  algebra_made more algebra_words.Shift ws c is = by_row _ _ (words.Algebra algebra_words.Shift) more ws c shift_fits is
+  algebra_made more algebra_words.Buffer ws c is = by_row _ _ (words.Algebra algebra_words.Buffer) more ws c buffer_fits is
+  algebra_made more algebra_words.Recolour ws c is = recolour_made more ws c is
+
+  point_made : (more : Further) (w : PointWord) (ws : List (List ℕ)) (c : Command) → point_formed f more w ws ≡ Ok c → IsMadeBy f n more (words.Point w) c
+  point_made more point_words.Put ws c is = by_row _ _ (words.Point point_words.Put) more ws c put_fits is
+  point_made more point_words.Del ws c is = by_row _ _ (words.Point point_words.Del) more ws c del_fits is
+  point_made more point_words.Scatter ws c is = by_row _ _ (words.Point point_words.Scatter) more ws c scatter_fits is
+  point_made more point_words.Find ws c is = by_row _ _ (words.Point point_words.Find) more ws c find_fits is
+  point_made more point_words.Within ws c is = by_row _ _ (words.Point point_words.Within) more ws c within_fits is
+
+  line_made : (more : Further) (w : LineWord) (ws : List (List ℕ)) (c : Command) → line_formed f more w ws ≡ Ok c → IsMadeBy f n more (words.Line w) c
+  line_made more line_words.Line ws c is = by_row _ _ (words.Line line_words.Line) more ws c line_fits is
+  line_made more line_words.Unline ws c is = by_row _ _ (words.Line line_words.Unline) more ws c unline_fits is
+  line_made more line_words.Cross ws c is = by_row _ _ (words.Line line_words.Cross) more ws c cross_fits is
+  line_made more line_words.Clip ws c is = by_row _ _ (words.Line line_words.Clip) more ws c clip_fits is
+  line_made more line_words.Nearest ws c is = by_row _ _ (words.Line line_words.Nearest) more ws c nearest_fits is
+  line_made more line_words.Over ws c is = by_row _ _ (words.Line line_words.Over) more ws c over_fits is
+  line_made more line_words.Rank ws c is = by_row _ _ (words.Line line_words.Rank) more ws c rank_fits is
+  line_made more line_words.Crossings ws c is = by_row _ _ (words.Line line_words.Crossings) more ws c crossings_fits is
+
+  word_made : (more : Further) (w : Word) (ws : List (List ℕ)) (c : Command) → formed f more w ws ≡ Ok c → IsMadeBy f n more w c
+  word_made more (words.Map w) ws c is = map_made more w ws c is
+  word_made more (words.Region w) ws c is = region_made more w ws c is
+  word_made more (words.Algebra w) ws c is = algebra_made more w ws c is
+  word_made more (words.Point w) ws c is = point_made more w ws c is
+  word_made more (words.Line w) ws c is = line_made more w ws c is
+
+  -- ---- items
+
+  -- the word is built
+  record IsGood (more : Further) (c : Command) : Type 0 where
+    pub built : is_built (spelling (word_in c)) ≡ true
+    pub fits : FurtherFits f n more → IsFitting f n c
+
+  known_good : (more : Further) (bs : List ℕ) (ws : List (List ℕ)) (c : Command) (w : Option Word) → find (λ v. bytes_eq (spelling v) bs) all_words ≡ w
+      → form_of_words f more (bs ∷ ws) ≡ Ok c → IsGood more c
+  known_good more bs ws c None none is = let bad : Err codes_of.Word ≡ Ok c = sym (unspelled f more bs ws none) ∙ is in cc
+  known_good more bs ws c (Some w) some is =
+      let same : bs ≡ spelling w = spelled_is bs w some in
+      elim (bool_cases (is_built (spelling w))) [
+        | inl built ↦
+            let by = word_made more w ws c (sym (known_is f more bs w ws same built) ∙ is) in
+            record { built = subst (λ (v : Word). is_built (spelling v) ≡ true) (sym by.word) built; fits = by.fits }
+        | inr not_ ↦
+            let there : form_of_words f more (spelling w ∷ ws) ≡ Ok c = subst (λ (v : List ℕ). form_of_words f more (v ∷ ws) ≡ Ok c) same is in
+            let bad : Err codes_of.Word ≡ Ok c = sym (unbuilt f more (spelling w) ws not_) ∙ there in absurd (cc)
+      ]
+
+  words_good : (more : Further) (ws : List (List ℕ)) (c : Command) → form_of_words f more ws ≡ Ok c → IsGood more c
+  unfolding form_of_words
+  words_good more [] c is = cc
+  words_good more (bs ∷ ws) c is = known_good more bs ws c (find (λ v. bytes_eq (spelling v) bs) all_words) refl is
+
+  line_good : (line : List ℕ) (more : Further) (c : Command) → form_of_line f line more ≡ Ok c → IsGood more c
+  line_good line more c is = elim (bool_cases (list_all is_plain line)) [
+    | inl plain ↦ words_good more (words_of line) c (rw plain at is)
+    | inr not_ ↦ let bad : Err codes_of.Bytes ≡ Ok c = rw not_ at is in absurd (cc)
+  ]
+
+  item_good : (item : Item) (c : Command) → form f item ≡ Ok c → IsGood (further_of item) c
+  unfolding form
+  item_good Long c is = cc
+  item_good (Line line) c is = line_good line _ c is
+  item_good (Rows line rows) c is = line_good line _ c is
+  item_good (PointLines line points) c is = line_good line _ c is
+  item_good (RingLines line rings) c is = line_good line _ c is
+
+-- the word of a command that an item spells is built
+pub spelled_built : (f n : ℕ) (c : Command) → Spelled f n c → is_built (spelling (word_in c)) ≡ true
+spelled_built f n c spelled = (item_good f n (held f n spelled.0) c spelled.1).built
+
+-- and what it has fits
+pub spelled_fits : (f n : ℕ) (c : Command) → 1 ≤ f → f ≤ 2 → Spelled f n c → IsFitting f n c
+spelled_fits f n c low high spelled = (item_good f n (held f n spelled.0) c spelled.1).fits (further_fits f n spelled.0 low high)
