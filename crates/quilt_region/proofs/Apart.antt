@@ -15,7 +15,8 @@ use Rattle.quilt_blocks.proofs.Maximal.{IsMaximal}
 use Rattle.quilt_blocks.proofs.Cuts.{leaf_is}
 use Rattle.quilt_blocks.proofs.Listed.{held_in}
 use Rattle.quilt_region.specs.Plans.{is_leaf, records_without}
-use Rattle.quilt_region.proofs.Keys.{by_key, by_key_total}
+use Rattle.quilt_spell.specs.Written.{by_key}
+use Rattle.quilt_spell.proofs.Written.{by_key_total}
 use Rattle.quilt_region.proofs.Leaves.{is_leaf_from, is_leaf_at, maximal_leaf, only_leaf}
 use Rattle.quilt_region.proofs.Edited.{only_in}
 use Rattle.quilt_region.proofs.RegionLaws.{only_rises}

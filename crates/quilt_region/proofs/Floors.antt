@@ -32,7 +32,9 @@ use Rattle.quilt_btree.proofs.Lists.{filter_cond, floor_between}
 use Rattle.quilt_record.proofs.Orders.{lt_le, not_le}
 use Rattle.std.specs.Cmp.{tied_itself}
 use Rattle.quilt_region.specs.Regions.{leaf_record, pixel_key, SpellsRegion, HasRegion}
-use Rattle.quilt_region.proofs.Keys.{Less≢Equal, by_key, by_key_total, le_layer, le_code, less_code, less_depth}
+use Rattle.quilt_spell.specs.Written.{by_key}
+use Rattle.quilt_spell.proofs.Written.{by_key_total}
+use Rattle.quilt_edits.proofs.Keys.{Less≢Equal, le_layer, le_code, less_code, less_depth}
 use Rattle.quilt_region.proofs.Trees.{tree_rises}
 use Rattle.quilt_region.proofs.Records.{spelled_leaf}
 

@@ -24,8 +24,10 @@ use Rattle.quilt_spell.proofs.Copying.{moved_is, copy_leads}
 use Rattle.quilt_spell.proofs.Commands.{drop_leads}
 use Rattle.quilt_btree.specs.Lists.{is_from_to, range_of}
 use Rattle.quilt_region.specs.Laws.{first_key, last_key, records_under, IsEntryRecord, IsPlan, NumberLaw, DropLaw, CopyLaw}
-use Rattle.quilt_region.proofs.Keys.{by_key, by_key_total, then_equal, nat_same, le_layer, less_layer, less_part}
-use Rattle.quilt_region.proofs.Trees.{rises_ascend}
+use Rattle.quilt_spell.specs.Written.{by_key}
+use Rattle.quilt_spell.proofs.Written.{by_key_total}
+use Rattle.quilt_edits.proofs.Keys.{then_equal, nat_same, le_layer, less_layer, less_part}
+use Rattle.quilt_edits.proofs.Ascents.{rises_ascend}
 
 -- the catalog's record for a layer, in both words
 pub entry_record : (n : ℕ) (r : Record) (name : List ℕ) (number : ℕ) (l : Layer) → IsEntryRecord r name number l → r ≡ kind_record n name number l

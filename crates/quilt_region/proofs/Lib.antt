@@ -1,4 +1,3 @@
-pub mod Keys
 pub mod Trees
 pub mod Records
 pub mod Floors

@@ -27,7 +27,9 @@ use Rattle.quilt_btree.specs.declared.tree.Tree.{Tree}
 use Rattle.quilt_btree.specs.Lists.{is_from_to, range_of}
 use Rattle.quilt_btree.specs.Trees.{IsTree}
 use Rattle.quilt_region.specs.Regions.{leaf_record, region_records, SpellsRegion, HasRegion}
-use Rattle.quilt_region.proofs.Keys.{by_key, by_key_total, le_layer, less_part, less_code}
+use Rattle.quilt_spell.specs.Written.{by_key}
+use Rattle.quilt_spell.proofs.Written.{by_key_total}
+use Rattle.quilt_edits.proofs.Keys.{le_layer, less_part, less_code}
 use Rattle.quilt_region.proofs.Trees.{tree_rises}
 
 pub leaf_is_record : (n layer : ℕ) (b : Block) (c : ℕ) → 1 ≤ layer → layer ≤ 255 → IsBlock n b → IsRecordOf n 0 (leaf_record n layer (b, c)) layer (HasColour b c)

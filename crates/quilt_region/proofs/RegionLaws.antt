@@ -24,8 +24,10 @@ use Rattle.quilt_blocks.proofs.Cuts.{leaves_rise, leaves_members}
 use Rattle.quilt_region.specs.Regions.{leaf_record, region_records}
 use Rattle.quilt_region.specs.Plans.{records_without}
 use Rattle.quilt_region.specs.Laws.{IsPlan, ReadLaw, ChangeLaw, FreshLaw}
-use Rattle.quilt_region.proofs.Keys.{by_key, by_key_total, less_layer}
-use Rattle.quilt_region.proofs.Trees.{rises_ascend}
+use Rattle.quilt_spell.specs.Written.{by_key}
+use Rattle.quilt_spell.proofs.Written.{by_key_total}
+use Rattle.quilt_edits.proofs.Keys.{less_layer}
+use Rattle.quilt_edits.proofs.Ascents.{rises_ascend}
 use Rattle.quilt_region.proofs.Records.{records_rise, leaf_with, record_of_leaf}
 use Rattle.quilt_region.proofs.Leaves.{only_test}
 use Rattle.quilt_region.proofs.LayerPlans.{entry_record}

@@ -24,7 +24,9 @@ use Rattle.quilt_btree.specs.Lists.{is_from_to, range_of}
 use Rattle.quilt_btree.specs.Trees.{IsTree}
 use Rattle.quilt_region.specs.Regions.{leaf_record, SpellsRegion, HasRegion}
 use Rattle.quilt_region.specs.Windows.{leaves_within, records_within}
-use Rattle.quilt_region.proofs.Keys.{by_key, by_key_total, le_layer, le_code, less_code, less_depth}
+use Rattle.quilt_spell.specs.Written.{by_key}
+use Rattle.quilt_spell.proofs.Written.{by_key_total}
+use Rattle.quilt_edits.proofs.Keys.{le_layer, le_code, less_code, less_depth}
 use Rattle.quilt_region.proofs.LayerPlans.{shorter}
 use Rattle.quilt_region.proofs.Records.{region_small, region_length, spelled_leaf}
 use Rattle.quilt_region.proofs.Trees.{tree_rises}

@@ -1,20 +1,11 @@
--- What the order of keys says of their numbers, and lists of records in this order.
+-- What the order of keys says of their numbers.
 use Rattle.std.proofs.Common.{◌≡◌, ℕ, ◌<◌, ◌≤◌, true, sym, ◌∙◌, ap, subst, ⊎_elim, Ordering, Less, Equal, Greater, nat_cmp}
 use Rattle.std.specs.Ordering.{ordering_then, ordering_reverse, is_le}
-use Rattle.std.specs.Cmp.{IsTotalOrder, nat_cmp_total, on_total, tied_itself}
+use Rattle.std.specs.Cmp.{nat_cmp_total, tied_itself}
 use Rattle.std.proofs.lemmas.Bool.{cases_lt}
 use Rattle.quilt_loc.proofs.Rising.{nat_less}
 use Rattle.quilt_record.specs.declared.key.Key.{Key}
-use Rattle.quilt_record.specs.declared.record.Record.{Record}
 use Rattle.quilt_record.specs.Records.{key_cmp}
-use Rattle.quilt_record.proofs.Orders.{key_total}
-
--- records by their keys
-abbrev pub by_key : Record → Record → Ordering
-by_key r s = key_cmp r.key s.key
-
-pub by_key_total : IsTotalOrder by_key
-by_key_total = on_total (λ (r : Record). r.key) key_total
 
 pub then_equal : (o p : Ordering) → o ≡ Equal → ordering_then o p ≡ p
 then_equal o p e = ap (λ q. ordering_then q p) e
