@@ -32,8 +32,8 @@ pub fn histogram(a: &LeafList) -> [u32; 13]
     counts
 }
 
-/// The k where the side is 2 ^ k.
-fn exponent_of(side: u16) -> usize
+/// The k where the side is 2 ^ k, from 0 to 12.
+pub fn exponent_of(side: u16) -> usize
     requires { IsSide side }
     ensures most { result ≤ 12 }
     ensures value { side ≡ side_of result }

@@ -5,7 +5,7 @@ mod bounding;
 mod counting;
 
 pub use bounding::perimeter;
-pub use counting::{area, histogram};
+pub use counting::{area, exponent_of, histogram};
 
 #[cfg(test)]
 mod tests;

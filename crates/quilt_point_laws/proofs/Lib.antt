@@ -10,5 +10,8 @@ pub mod Orders
 pub mod Plans
 pub mod Merging
 pub mod Scattering
+pub mod Gains
 pub mod Finding
 pub mod Stepping
+pub mod Fewer
+pub mod Beginnings

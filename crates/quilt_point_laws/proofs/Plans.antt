@@ -41,7 +41,7 @@ AreIn-length points b held h =
     same_length held (filter test (finmap.entries points)) h.once (Apart-filter test (finmap.entries points) (entries_apart points)) h.members
     ∙ length-filter test (finmap.entries points)
 
-Swaps-same : (old new g h c d : List Fact) → Swaps old new g c → SameMembers h g → SameMembers d c → Swaps old new h d
+pub Swaps-same : (old new g h c d : List Fact) → Swaps old new g c → SameMembers h g → SameMembers d c → Swaps old new h d
 Swaps-same old new g h c d s sg sc = record {
   goes = λ f. (λ m. (s.goes f).0 ((sg f).0 m), λ w. (sg f).1 ((s.goes f).1 w));
   comes = λ f. (λ m. (s.comes f).0 ((sc f).0 m), λ w. (sc f).1 ((s.comes f).1 w));
@@ -56,13 +56,13 @@ pub record Changes (old new gone come : List Fact) : Type 0 where
 itself : {X : Type 0} (xs : List X) → SameMembers xs xs
 itself xs x = (λ c. c, λ c. c)
 
-equal : {X : Type 0} (xs ys : List X) → xs ≡ ys → SameMembers xs ys
+pub equal : {X : Type 0} (xs ys : List X) → xs ≡ ys → SameMembers xs ys
 equal xs ys e x = (λ c. subst (λ (l : List _). Contains l x) e c, λ c. subst (λ (l : List _). Contains l x) (sym e) c)
 
-joined : {X : Type 0} (xs ys zs : List X) → SameMembers xs ys → SameMembers ys zs → SameMembers xs zs
+pub joined : {X : Type 0} (xs ys zs : List X) → SameMembers xs ys → SameMembers ys zs → SameMembers xs zs
 joined xs ys zs h k x = (λ c. (k x).0 ((h x).0 c), λ c. (h x).1 ((k x).1 c))
 
-apart_by : (t : Bool) (f : Fact) → Apart (cond t (f ∷ []) [])
+pub apart_by : (t : Bool) (f : Fact) → Apart (cond t (f ∷ []) [])
 apart_by true f = Apart-one f
 apart_by false f = tt
 

@@ -108,7 +108,7 @@ module _ (small big : PointMap) (more : (e : Pixel × ℕ) → Contains (finmap.
     cut_here : (c : Block) → IsMaximal n (holds_few capacity small) c → (e : Block) → Contains (cut (holds_few capacity big) (level c) c) e ↔ (IsMaximal n (holds_few capacity big) e × Within e c)
     cut_here c gc e = cut_one n (holds_few capacity small) (holds_few capacity big) (few_less capacity) dw dt (few_pixel n capacity big least) c gc (level c) (sized c gc) e
 
-    inner_from : (c : Block) → IsMaximal n (holds_few capacity small) c → (f : Fact) → Contains (inner c) f → (w : OfBlock n capacity big f) × Within w.block c
+    pub inner_from : (c : Block) → IsMaximal n (holds_few capacity small) c → (f : Fact) → Contains (inner c) f → (w : OfBlock n capacity big f) × Within w.block c
     inner_from c gc f m =
         let r = Contains-flat_map_from (point_facts big) (cut (holds_few capacity big) (level c) c) f m in
         let l = (cut_here c gc r.0).0 r.1 in
@@ -183,9 +183,9 @@ module _ (small big : PointMap) (more : (e : Pixel × ℕ) → Contains (finmap.
         new_one c f o off = absurd o
 
     -- Given what goes and comes in each block with new points, all that goes and comes.
-    module _ (bs : List Block) (gone come : Block → List Fact) (only : (c : Block) → Contains bs c → IsMaximal n (holds_few capacity small) c)
-        (each : (c : Block) → IsMaximal n (holds_few capacity small) c → Contains bs c ⊎ IsOld c)
-        (swaps : (c : Block) → Contains bs c → Swaps (point_facts small c) (inner c) (gone c) (come c)) where
+    module _ {X : Type 0} (xs : List X) (block_of : X → Block) (gone come : X → List Fact) (only : (x : X) → Contains xs x → IsMaximal n (holds_few capacity small) (block_of x))
+        (each : (c : Block) → IsMaximal n (holds_few capacity small) c → ((x : X) × Contains xs x × (block_of x ≡ c)) ⊎ IsOld c)
+        (swaps : (x : X) → Contains xs x → Swaps (point_facts small (block_of x)) (inner (block_of x)) (gone x) (come x)) where
       was : (c : Block) → IsMaximal n (holds_few capacity small) c → (f : Fact) → Contains (point_facts small c) f → Contains before f
       was c gc f m = fact_is n capacity small f (record { block = c; maximal = gc; on = on_from small c f m })
 
@@ -195,9 +195,10 @@ module _ (small big : PointMap) (more : (e : Pixel × ℕ) → Contains (finmap.
       kind_off : (points : PointMap) (b : Block) (f : Fact) → f ≡ IsOfKind 2 capacity → IsOn points b f → ⊥
       kind_off points b f e o = subst (IsOn points b) e o
 
-      goes_out : (c : Block) → Contains bs c → (f : Fact) → Contains (point_facts small c) f → (Contains (inner c) f → ⊥) → Contains after f → ⊥
-      goes_out c mc f m off there =
-          let gc = only c mc in
+      goes_out : (x : X) → Contains xs x → (f : Fact) → Contains (point_facts small (block_of x)) f → (Contains (inner (block_of x)) f → ⊥) → Contains after f → ⊥
+      goes_out x mx f m off there =
+          let c = block_of x in
+          let gc = only x mx in
           let o = on_from small c f m in
           ⊎_elim (λ e. kind_off small c f e o)
           (λ w.
@@ -205,9 +206,10 @@ module _ (small big : PointMap) (more : (e : Pixel × ℕ) → Contains (finmap.
           off (inner_is c gc f w (subst (λ (z : Block). Within z c) same (Within-self c))))
           (fact_from n capacity big f there)
 
-      comes_in : (c : Block) → Contains bs c → (f : Fact) → Contains (inner c) f → (Contains (point_facts small c) f → ⊥) → Contains before f → ⊥
-      comes_in c mc f m off here =
-          let gc = only c mc in
+      comes_in : (x : X) → Contains xs x → (f : Fact) → Contains (inner (block_of x)) f → (Contains (point_facts small (block_of x)) f → ⊥) → Contains before f → ⊥
+      comes_in x mx f m off here =
+          let c = block_of x in
+          let gc = only x mx in
           let r = inner_from c gc f m in
           ⊎_elim (λ e. kind_off big (r.0).block f e (r.0).on)
           (λ w.
@@ -217,33 +219,37 @@ module _ (small big : PointMap) (more : (e : Pixel × ℕ) → Contains (finmap.
           off (on_is small c f (subst (λ (z : Block). IsOn small z f) is w.on)))
           (fact_from n capacity small f here)
 
-      pub scatter_swaps : Swaps before after (flat_map gone bs) (flat_map come bs)
+      pub scatter_swaps : Swaps before after (flat_map gone xs) (flat_map come xs)
       scatter_swaps = record {
         goes = λ f. (
           λ m.
-              let r = Contains-flat_map_from gone bs f m in
+              let r = Contains-flat_map_from gone xs f m in
               let w = ((swaps r.0 r.1).goes f).0 r.2 in
-              (was r.0 (only r.0 r.1) f w.0, goes_out r.0 r.1 f w.0 w.1),
+              (was (block_of r.0) (only r.0 r.1) f w.0, goes_out r.0 r.1 f w.0 w.1),
           λ w. ⊎_elim (λ e. absurd (w.1 (kind_is n capacity big f e)))
               (λ v.
               let m = on_is small v.block f v.on in
               ⊎_elim
-              (λ mc. Contains-flat_map gone bs v.block f mc (((swaps v.block mc).goes f).1 (m, λ i. w.1 (is' v.block v.maximal f i))))
+              (λ x.
+              let here = subst (λ (z : Block). Contains (point_facts small z) f) (sym x.2) m in
+              Contains-flat_map gone xs x.0 f x.1 (((swaps x.0 x.1).goes f).1 (here, λ i. w.1 (is' (block_of x.0) (only x.0 x.1) f i))))
               (λ old. absurd (w.1 (is' v.block v.maximal f ((old_stays v.block v.maximal old f).1 m))))
               (each v.block v.maximal))
               (fact_from n capacity small f w.0),
         );
         comes = λ f. (
           λ m.
-              let r = Contains-flat_map_from come bs f m in
+              let r = Contains-flat_map_from come xs f m in
               let w = ((swaps r.0 r.1).comes f).0 r.2 in
-              (is' r.0 (only r.0 r.1) f w.0, comes_in r.0 r.1 f w.0 w.1),
+              (is' (block_of r.0) (only r.0 r.1) f w.0, comes_in r.0 r.1 f w.0 w.1),
           λ w. ⊎_elim (λ e. absurd (w.1 (kind_is n capacity small f e)))
               (λ v.
               let one = in_one n (holds_few capacity small) (holds_few capacity big) (few_less capacity) dw dt (few_pixel n capacity big least) v.block v.maximal in
               let i = inner_is one.block one.maximal f v one.within in
               ⊎_elim
-              (λ mc. Contains-flat_map come bs one.block f mc (((swaps one.block mc).comes f).1 (i, λ m. w.1 (was one.block one.maximal f m))))
+              (λ x.
+              let here = subst (λ (z : Block). Contains (inner z) f) (sym x.2) i in
+              Contains-flat_map come xs x.0 f x.1 (((swaps x.0 x.1).comes f).1 (here, λ m. w.1 (was (block_of x.0) (only x.0 x.1) f m))))
               (λ old. absurd (w.1 (was one.block one.maximal f ((old_stays one.block one.maximal old f).0 i))))
               (each one.block one.maximal))
               (fact_from n capacity big f w.0),

@@ -4,3 +4,4 @@ pub mod Climbing
 pub mod Spreading
 pub mod Plans
 pub mod Laws
+pub mod Growing

@@ -23,8 +23,9 @@ use Rattle.quilt_point_laws.proofs.Plans.{Changes, one_less, del_valid}
 use Rattle.quilt_points.specs.Layers.{entry_of, entries_of, block_record}
 use Rattle.quilt_points.specs.Reads.{IsHeld}
 use Rattle.quilt_points.specs.Climbing.{IsOnWay}
-use Rattle.quilt_points.specs.Growing.{gone_of, come_of}
-use Rattle.quilt_points.specs.Plans.{IsPlan, CanBeEdits}
+use Rattle.quilt_point_laws.specs.Growing.{gone_of, come_of}
+use Rattle.quilt_edits.specs.Edits.{CanBeEdits}
+use Rattle.quilt_points.specs.Plans.{IsPlan}
 use Rattle.quilt_points.proofs.Finds.{same_pixel_is, same_pixel_self, none_some}
 use Rattle.quilt_points.proofs.Shapes.{block_is}
 use Rattle.quilt_points.proofs.Puts.{one_gone, one_come}

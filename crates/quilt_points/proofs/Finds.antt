@@ -1,7 +1,6 @@
 -- What is found at a pixel of a point layer.
-use Rattle.std.proofs.Common.{◌≡◌, ℕ, ◌+◌, ◌<◌, ◌≤◌, ◌^◌, Bool, true, false, List, [], ◌∷◌, length, Option, Some, None, refl, sym, ◌∙◌, ap, subst, ⊎_elim, arith, Contains, ◌⊎◌, inl, inr, filter, leb-true, eqb-true, ne_eqb, nat_lt, ltb-true, lt-ltb, Ordering, Less, Equal, Greater}
-use Rattle.std.specs.Prelude.{unwrap_or, find, MatchOption, IfSome, ◌==◌}
-use Rattle.std.specs.Ordering.{is_eq}
+use Rattle.std.proofs.Common.{◌≡◌, ℕ, ◌+◌, ◌<◌, ◌≤◌, ◌^◌, Bool, true, false, List, [], ◌∷◌, length, Option, Some, None, refl, sym, ◌∙◌, ap, subst, ⊎_elim, arith, Contains, ◌⊎◌, inl, inr, filter, leb-true, eqb-true, ne_eqb, nat_lt, ltb-true, lt-ltb}
+use Rattle.std.specs.Prelude.{unwrap_or, MatchOption, IfSome, ◌==◌}
 use Rattle.std.specs.FinMap as finmap
 use Rattle.std.proofs.lemmas.Bool.{cases_Bool, cond-true, cond-false, and_parts, and_from}
 use Rattle.std.proofs.lemmas.List.Elements.{All-contains}
@@ -14,25 +13,23 @@ use Rattle.quilt_types.specs.Layers.{PointMap}
 use Rattle.quilt_types.specs.Facts.{Fact, HoldsPoint, HoldsNoPoint, same_pixel}
 use Rattle.quilt_types.specs.Quadtrees.{points_in, point_blocks}
 use Rattle.quilt_loc.specs.Codes.{code_at, Rises}
-use Rattle.quilt_loc.proofs.Members.{Contains-nil, Contains-here, Contains-there, Contains-cons_cases, Contains-filter}
+use Rattle.quilt_loc.proofs.Members.{Contains-nil, Contains-cons_cases, Contains-filter}
 use Rattle.quilt_loc.proofs.Blocks.{in_block-true, side_most}
 use Rattle.quilt_loc.proofs.CodeLaws.{code_alone}
 use Rattle.quilt_loc.proofs.PlaneOrders.{pixel_total}
 use Rattle.quilt_record.specs.declared.key.Key.{Key}
 use Rattle.quilt_record.specs.declared.record.Record.{Record}
-use Rattle.quilt_record.specs.Records.{key_cmp, point_item}
-use Rattle.quilt_record.specs.Lists.{has_key}
+use Rattle.quilt_record.specs.Records.{point_item}
 use Rattle.quilt_record.specs.Canonical.{IsRecordOf, point_fact}
-use Rattle.quilt_record.proofs.Orders.{key_equal, key_total}
 use Rattle.quilt_btree.specs.Lists.{value_in, value_of}
 use Rattle.quilt_btree.specs.declared.tree.Tree.{Tree}
 use Rattle.quilt_btree.specs.Lists.{floor_of}
 use Rattle.quilt_btree.specs.Trees.{IsTree}
-use Rattle.quilt_region.proofs.Keys.{by_key}
-use Rattle.quilt_region.proofs.Trees.{tree_rises}
+use Rattle.quilt_spell.specs.Written.{by_key}
+use Rattle.quilt_points.proofs.Trees.{tree_rises}
+use Rattle.quilt_edits.proofs.Lookups.{find_away, find_at}
 use Rattle.quilt_spell.proofs.Maps.{entry_from_get, get_from_entry}
 use Rattle.quilt_spell.proofs.FactKeys.{pixel_same}
-use Rattle.std.specs.Cmp.{tied_itself}
 use Rattle.quilt_point_laws.proofs.OnBlocks.{OfBlock}
 use Rattle.quilt_points.specs.Layers.{block_facts, block_record, pixel_key, SpellsPoints, HasPoints}
 use Rattle.quilt_points.specs.Reads.{IsBlockRead, label_at}
@@ -161,30 +158,6 @@ module _ (n : ℕ) (points : PointMap) (b : Block) (at : Pixel) (holds : in_bloc
   one_found_at capacity held e r = one_found held (subst (λ (z : ℕ). IsBlockRead n z points b held) e r)
 
 -- ---- a bucket of more
-other_key : (k : Key) (r : Record) → (r.key ≡ k → ⊥) → has_key k r ≡ false
-other_key k r away = ⊎_elim (λ t. absurd (away (key_equal r.key k (tied (key_cmp r.key k) t)))) (λ f. f) (cases_Bool (has_key k r))
-  where
-    tied : (o : Ordering) → is_eq o ≡ true → o ≡ Equal
-    tied Less p = cc
-    tied Equal p = refl
-    tied Greater p = cc
-
-find_away : (k : Key) (xs : List Record) → ((r : Record) → Contains xs r → r.key ≡ k → ⊥) → find (has_key k) xs ≡ None
-find_away k [] h = refl
-find_away k (x ∷ xs) h =
-    cond-false (has_key k x) (Some x) (find (has_key k) xs) (other_key k x (h x (Contains-here x xs)))
-    ∙ find_away k xs (λ r c. h r (Contains-there x xs r c))
-
-find_at : (k : Key) (xs : List Record) (r : Record) → Rises by_key xs → Contains xs r → r.key ≡ k → find (has_key k) xs ≡ Some r
-find_at k [] r up c e = absurd (Contains-nil r c)
-find_at k (x ∷ xs) r up c e =
-    ⊎_elim
-    (λ is. cond-true (has_key k x) (Some x) (find (has_key k) xs) (ap is_eq (ap (λ z. key_cmp z k) (ap (λ (z : Record). z.key) is ∙ e) ∙ tied_itself key_total k)) ∙ ap Some is)
-    (λ d.
-    let less = up.0 r d in
-    cond-false (has_key k x) (Some x) (find (has_key k) xs) (ap is_eq (ap (key_cmp x.key) (sym e) ∙ less)) ∙ find_at k xs r up.1 d e)
-    (Contains-cons_cases x xs r c)
-
 value_none : (k : Key) (rs : List Record) → ((r : Record) → Contains rs r → r.key ≡ k → ⊥) → value_of k rs ≡ None
 unfolding value_of
 value_none k rs away = ap value_in (find_away k rs away)

@@ -21,7 +21,9 @@ use Rattle.quilt_record.specs.declared.record.Record.{Record}
 use Rattle.quilt_record.specs.Records.{key_cmp}
 use Rattle.quilt_blocks.proofs.Maximal.{IsMaximal, IsMaximal-from}
 use Rattle.quilt_btree.specs.Lists.{is_at_most, floor_of}
-use Rattle.quilt_region.proofs.Keys.{by_key, by_key_total, le_layer, le_code, less_code, less_depth}
+use Rattle.quilt_spell.specs.Written.{by_key}
+use Rattle.quilt_spell.proofs.Written.{by_key_total}
+use Rattle.quilt_edits.proofs.Keys.{le_layer, le_code, less_code, less_depth}
 use Rattle.quilt_spell.proofs.Holding.{HeldBy}
 use Rattle.std.specs.Cmp.{tied_itself}
 use Rattle.quilt_point_laws.proofs.Narrowing.{one_maximal}

@@ -12,7 +12,7 @@ use Rattle.quilt_types.specs.Facts.{Fact, HoldsPoint, HoldsNoPoint, or_none}
 use Rattle.quilt_record.specs.declared.record.Record.{Record}
 use Rattle.quilt_point_laws.specs.Spreading.{held_facts, spread}
 use Rattle.quilt_points.specs.Layers.{entry_of, entries_of, block_record}
-use Rattle.quilt_points.proofs.Said.{take_next}
+use Rattle.quilt_edits.proofs.Lists.{take_next}
 
 -- ---- points one by one
 module _ (n capacity number : ℕ) (b : Block) where

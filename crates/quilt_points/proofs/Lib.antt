@@ -1,10 +1,11 @@
 pub mod Shapes
 pub mod Records
+pub mod Trees
+pub mod Quarters
 pub mod Floors
 pub mod Finds
 pub mod Ranges
 pub mod Said
-pub mod Ascents
 pub mod Growths
 pub mod Plans
 pub mod Puts
@@ -15,3 +16,7 @@ pub mod Dels
 pub mod Results
 pub mod Spelled
 pub mod Windows
+pub mod Beginnings
+pub mod Countings
+pub mod Codings
+pub mod Scatters

@@ -18,11 +18,12 @@ use Rattle.quilt_point_laws.proofs.OnBlocks.{IsOn, OfBlock, fact_from, kind_is}
 use Rattle.quilt_record.specs.declared.edits.Edits.{Edits}
 use Rattle.quilt_points.specs.Layers.{block_record}
 use Rattle.quilt_points.specs.Reads.{IsRow}
-use Rattle.quilt_points.specs.Plans.{IsPlan, HaveOwnKeys, CanBeEdits}
+use Rattle.quilt_edits.specs.Edits.{HaveOwnKeys, CanBeEdits}
+use Rattle.quilt_points.specs.Plans.{IsPlan}
 use Rattle.quilt_points.proofs.Shapes.{shaped, point_record_is, key_is}
 use Rattle.quilt_points.proofs.Ranges.{same_block}
 use Rattle.quilt_points.proofs.Said.{row_alone}
-use Rattle.quilt_points.proofs.Ascents.{permuted, Apart-permuted}
+use Rattle.quilt_edits.proofs.Ascents.{permuted, Apart-permuted}
 
 -- edits may be listed otherwise
 pub leads_permuted : (n : ℕ) (name : List ℕ) (number : ℕ) (old new : Option Layer) (removed added remove add : List Record) → IsPermutation removed remove → IsPermutation added add

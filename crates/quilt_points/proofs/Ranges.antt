@@ -1,7 +1,6 @@
 -- The records between the first and the last key of a block are those of the facts on it.
-use Rattle.std.proofs.Common.{◌≡◌, ℕ, ◌+◌, ◌-◌, ◌<◌, ◌≤◌, ◌^◌, Bool, ◌⊎◌, inl, inr, true, List, [], ◌∷◌, map, length, Option, refl, sym, ◌∙◌, ap, subst, ⊎_elim, arith, Contains, filter, Ordering, Equal, nat_cmp, leb-true}
-use Rattle.std.specs.Ordering.{ordering_then, is_le, is_lt}
-use Rattle.std.specs.Cmp.{nat_cmp_total, tied_itself}
+use Rattle.std.proofs.Common.{◌≡◌, ℕ, ◌+◌, ◌-◌, ◌<◌, ◌≤◌, ◌^◌, Bool, ◌⊎◌, inl, inr, true, List, [], ◌∷◌, map, length, Option, refl, sym, ◌∙◌, ap, subst, ⊎_elim, arith, Contains, filter, nat_cmp, leb-true}
+use Rattle.std.specs.Ordering.{is_le, is_lt}
 use Rattle.std.specs.FinMap as finmap
 use Rattle.std.proofs.lemmas.Bool.{cases_lt, cases_Bool, cond-true, cond-false, and_parts, and_from, both_ways}
 use Rattle.std.proofs.lemmas.List.Elements.{All-contains}
@@ -27,8 +26,8 @@ use Rattle.quilt_btree.specs.declared.tree.Tree.{Tree}
 use Rattle.quilt_btree.specs.Lists.{is_from_to, range_of}
 use Rattle.quilt_btree.specs.Trees.{IsTree}
 use Rattle.quilt_btree.proofs.Lists.{gt_not_le}
-use Rattle.quilt_region.proofs.Keys.{le_layer, le_code, less_depth}
-use Rattle.quilt_region.proofs.Trees.{tree_rises}
+use Rattle.quilt_edits.proofs.Keys.{then_equal, nat_same, le_layer, le_code, less_depth}
+use Rattle.quilt_points.proofs.Trees.{tree_rises}
 use Rattle.quilt_spell.specs.Written.{by_key}
 use Rattle.quilt_spell.proofs.Lists.{Apart-rises, Apart-le}
 use Rattle.quilt_spell.proofs.Written.{by_key_total}
@@ -41,12 +40,6 @@ use Rattle.quilt_points.proofs.Finds.{pixel_in}
 use Rattle.quilt_blocks.proofs.Painting.{code_in}
 
 -- ---- keys that differ by their items alone
-then_equal : (o p : Ordering) → o ≡ Equal → ordering_then o p ≡ p
-then_equal o p e = ap (λ q. ordering_then q p) e
-
-nat_same : (a b : ℕ) → a ≡ b → nat_cmp a b ≡ Equal
-nat_same a b e = ap (λ c. nat_cmp a c) (sym e) ∙ tied_itself nat_cmp_total a
-
 -- two keys of one block
 record AreAlike (a b : Key) : Type 0 where
   layer : a.layer ≡ b.layer

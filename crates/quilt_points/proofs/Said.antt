@@ -1,10 +1,8 @@
 -- The points that the records of a block say.
-use Rattle.std.proofs.Common.{◌≡◌, ℕ, zero, suc, ◌+◌, false, take, ◌<◌, ◌≤◌, arith, length, get_or, List, [], ◌∷◌, ◌++◌, Option, Some, None, refl, sym, ◌∙◌, ap, subst, ⊎_elim, Contains, filter}
+use Rattle.std.proofs.Common.{◌≡◌, ℕ, zero, suc, false, ◌<◌, ◌≤◌, arith, length, List, [], ◌∷◌, ◌++◌, Option, Some, None, refl, sym, ◌∙◌, ap, subst, ⊎_elim, Contains, filter}
 use Rattle.std.specs.Option.{option_to_list}
 use Rattle.std.specs.Prelude.{◌==◌}
-use Rattle.std.proofs.Math.Seq.{take-suc}
 use Rattle.std.specs.FinMap as finmap
-use Rattle.std.proofs.lemmas.List.{get_or_default}
 use Rattle.std.proofs.lemmas.List.Elements.{Contains-append_left, Contains-append_right, Contains-append_cases}
 use Rattle.quilt_types.specs.declared.plane.Pixel.{Pixel}
 use Rattle.quilt_types.specs.declared.plane.Block.{Block}
@@ -124,9 +122,6 @@ module _ (n capacity number : ℕ) (points : PointMap) (b : Block) (least : 1 �
       held_same None p e = cc
       held_same (Some q) p e = let at : q.at ≡ p.at = cc in let label : q.label ≡ p.label = cc in λ i. Some (record { at = at i; label = label i })
 
-pub member_at : {X : Type 0} (xs : List X) (i : ℕ) (d : X) → i < length xs → Contains xs (get_or xs i d)
-member_at xs i d lt = (i, lt, get_or_default xs i (get_or xs i d) d lt)
-
 -- each record says something of the block
 pub row_there : (n capacity number : ℕ) (points : PointMap) (b : Block) → 1 ≤ number → number ≤ 255 → IsPointMap 2 n capacity points → (records : List Record) → AreRecordsOf n capacity number points b records
     → (r : Record) → Contains records r → (held : Option Point) × IsRow n capacity number b held r
@@ -158,14 +153,6 @@ said_held n capacity number points b le least most valid records some rows ps sa
     first_one [] lt = absurd (omega arith)
     first_one (x ∷ xs) lt = (x, Contains-here x xs)
 
--- one element more
-pub take_next : {X : Type 0} (xs : List X) (i : ℕ) (d : X) → i < length xs → take (i + 1) xs ≡ take i xs ++ get_or xs i d ∷ []
-take_next xs i d lt = let e : i + 1 ≡ suc i = omega arith in ap (λ n. take n xs) e ∙ take-suc xs i d lt
-
 pub nonzero : (n : ℕ) → false ≡ (n == 0) → 0 < n
 nonzero zero e = cc
 nonzero (suc n) e = omega arith
-
--- what is pushed after a prefix
-pub pushed : {X : Type 0} (old new xs : List X) (i : ℕ) (d : X) → new ≡ old ++ get_or xs i d ∷ [] → old ≡ take i xs → i < length xs → new ≡ take (i + 1) xs
-pushed old new xs i d is prefix lt = is ∙ ap (λ (l : List _). l ++ get_or xs i d ∷ []) prefix ∙ sym (take_next xs i d lt)

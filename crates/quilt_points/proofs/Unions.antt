@@ -6,7 +6,7 @@ use Rattle.quilt_types.specs.declared.plane.Pixel.{Pixel}
 use Rattle.quilt_types.specs.declared.plane.Block.{Block}
 use Rattle.quilt_types.specs.Plane.{in_block, quarters_of, whole, IsBlock}
 use Rattle.quilt_types.specs.Layers.{PointMap}
-use Rattle.quilt_loc.proofs.Members.{Contains-nil, Contains-here, Contains-there, Contains-cons_cases, Contains-filter, Contains-filter_from}
+use Rattle.quilt_loc.proofs.Members.{Contains-nil, Contains-here, Contains-cons_cases, Contains-filter, Contains-filter_from}
 use Rattle.quilt_loc.proofs.Blocks.{Holds-from, in_block-true}
 use Rattle.quilt_loc.proofs.Nesting.{around, Within-holds, nested, same_block_from, side_pos}
 use Rattle.quilt_loc.proofs.Around.{IsBlock-around, Holds-around}
@@ -17,15 +17,9 @@ use Rattle.quilt_spell.proofs.Lists.{Apart-append}
 use Rattle.quilt_point_laws.specs.Laws.{AreIn}
 use Rattle.quilt_point_laws.proofs.Cuts.{quarters_apart}
 use Rattle.quilt_points.specs.Reads.{AreOf}
-use Rattle.quilt_points.proofs.Said.{member_at}
+use Rattle.quilt_edits.proofs.Lists.{member_at, taken_there}
 
 -- ---- which quarters come first
-taken_there : {X : Type 0} (xs : List X) (i : ℕ) (x : X) → Contains (take i xs) x → Contains xs x
-taken_there [] zero x c = c
-taken_there [] (suc i) x c = c
-taken_there (y ∷ ys) zero x c = absurd (Contains-nil x c)
-taken_there (y ∷ ys) (suc i) x c = ⊎_elim (λ e. subst (Contains (y ∷ ys)) e (Contains-here y ys)) (λ d. Contains-there y ys x (taken_there ys i x d)) (Contains-cons_cases y (take i ys) x c)
-
 not_taken : {X : Type 0} (xs : List X) (i : ℕ) (d : X) → Apart xs → i < length xs → Contains (take i xs) (get_or xs i d) → ⊥
 not_taken [] i d h lt c = absurd (omega arith)
 not_taken (x ∷ xs) zero d h lt c = Contains-nil x c

@@ -21,7 +21,7 @@ use Rattle.quilt_point_laws.proofs.Plans.{AreIn-length}
 use Rattle.quilt_points.specs.Layers.{entry_of, entries_of}
 use Rattle.quilt_points.specs.Climbing.{IsOnWay}
 use Rattle.quilt_points.proofs.Shapes.{block_is, block_from}
-use Rattle.quilt_points.proofs.Said.{take_next, member_at}
+use Rattle.quilt_edits.proofs.Lists.{take_next, member_at}
 use Rattle.quilt_points.proofs.Unions.{AreOfAll, quarter_before, all_next, all_quarters, of_from, of_is}
 
 module _ (n capacity : ℕ) (points : PointMap) (p : Pixel) (label : ℕ) (some : finmap.get points p ≡ Some label) (x : Block) (held : List Point) (way : IsOnWay n capacity points p x held) where

@@ -1,10 +1,10 @@
 -- The points of a layer in a window.
-use Rattle.std.proofs.Common.{◌≡◌, ℕ, suc, ◌+◌, ◌<◌, ◌≤◌, Bool, true, false, cond, List, [], ◌∷◌, ◌++◌, length, take, get_or, refl, sym, ◌∙◌, ap, subst, ⊎_elim, arith, Contains, filter, Ordering, Less, Equal, Greater, Some, append_assoc}
+use Rattle.std.proofs.Common.{◌≡◌, ℕ, suc, ◌+◌, ◌<◌, ◌≤◌, Bool, true, false, cond, ◌&&◌, nat_le, nat_lt, leb-true, ltb-true, List, [], ◌∷◌, ◌++◌, length, take, get_or, refl, sym, ◌∙◌, ap, subst, ⊎_elim, arith, Contains, filter, Ordering, Less, Equal, Greater, Some, append_assoc}
 use Rattle.std.specs.FinMap as finmap
 use Rattle.std.specs.Ordering.{is_lt, ordering_reverse}
 use Rattle.std.specs.Cmp.{IsTotalOrder, on_total}
 use Rattle.std.specs.List.Sorted.{IsPermutation, IsSortedByKey}
-use Rattle.std.proofs.lemmas.Bool.{cases_Bool, both_ways}
+use Rattle.std.proofs.lemmas.Bool.{cases_Bool, both_ways, and_parts}
 use Rattle.std.proofs.lemmas.List.{map-append, take_all}
 use Rattle.std.proofs.lemmas.List.Elements.{All-contains}
 use Rattle.quilt_types.specs.declared.plane.Pixel.{Pixel}
@@ -31,11 +31,11 @@ use Rattle.quilt_points.specs.Layers.{entry_of, entries_of}
 use Rattle.quilt_points.specs.Reads.{AreOf}
 use Rattle.quilt_points.specs.Windows.{IsOpen}
 use Rattle.quilt_points.proofs.Finds.{some_same, pixel_in}
-use Rattle.quilt_points.proofs.Said.{member_at, take_next}
+use Rattle.quilt_edits.proofs.Lists.{member_at, take_next}
 use Rattle.quilt_points.proofs.Shapes.{block_from}
-use Rattle.quilt_points.proofs.Ascents.{permuted, next_at, apart_at}
+use Rattle.quilt_edits.proofs.Ascents.{permuted, next_at, apart_at}
 use Rattle.quilt_points.proofs.Unions.{AreOfAll, all_next, all_quarters, quarter_before}
-use Rattle.quilt_points.proofs.Ascents as ascents
+use Rattle.quilt_edits.proofs.Ascents as ascents
 
 -- ---- what is found in one block
 kept_entries : (p : Point) (ps : List Point) (rest : List (Pixel × ℕ)) (t : Bool) → entries_of ps ≡ rest → entries_of (cond t (p ∷ ps) ps) ≡ cond t (entry_of p ∷ rest) rest
@@ -108,7 +108,7 @@ module _ {X : Type 0} (R : X → X → Ordering) (o : IsTotalOrder R) where
   tail_rises : (x y : X) (ys : List X) → R x y ≡ Less → Rises R (y ∷ ys) → (z : X) → Contains (y ∷ ys) z → R x z ≡ Less
   tail_rises x y ys less up z c = ⊎_elim (λ e. subst (λ (w : X). R x w ≡ Less) e less) (λ d. o.trans x y z less (up.0 z d)) (Contains-cons_cases y ys z c)
 
-  steps_rise : (xs : List X) → ((k : ℕ) (d : X) → suc k < length xs → R (get_or xs k d) (get_or xs (suc k) d) ≡ Less) → Rises R xs
+  pub steps_rise : (xs : List X) → ((k : ℕ) (d : X) → suc k < length xs → R (get_or xs k d) (get_or xs (suc k) d) ≡ Less) → Rises R xs
   steps_rise [] h = tt
   steps_rise (x ∷ []) h = (λ y c. absurd (Contains-nil y c), tt)
   steps_rise (x ∷ y ∷ xs) h =
@@ -171,3 +171,20 @@ inside_whole n capacity points valid = λ e c.
     let x = on.0 in
     let y = on.1 in
     in_block-true (whole n) e.0 (record { left = omega arith; right = omega arith; top = omega arith; bottom = omega arith })
+
+-- where the pixels of a window are
+pub record IsInWindow (w : Window) (p : Pixel) : Type 0 where
+  pub left : w.x ≤ p.x
+  pub right : p.x < w.x + w.w
+  pub top : w.y ≤ p.y
+  pub bottom : p.y < w.y + w.h
+
+pub window_from : (w : Window) (p : Pixel) → in_window w p ≡ true → IsInWindow w p
+window_from w p t =
+    let a = nat_le w.x p.x in
+    let b = nat_lt p.x (w.x + w.w) in
+    let c = nat_le w.y p.y in
+    let last = and_parts (a && b && c) (nat_lt p.y (w.y + w.h)) t in
+    let third = and_parts (a && b) c last.0 in
+    let second = and_parts a b third.0 in
+    record { left = leb-true w.x p.x second.0; right = ltb-true p.x (w.x + w.w) second.1; top = leb-true w.y p.y third.1; bottom = ltb-true p.y (w.y + w.h) last.1 }

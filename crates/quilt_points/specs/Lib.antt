@@ -1,7 +1,8 @@
 pub mod Layers
 pub mod Reads
-pub mod Growing
 pub mod Climbing
 pub mod Windows
 pub mod Plans
 pub mod Laws
+pub mod Coding
+pub mod Scattering

@@ -3,7 +3,7 @@ ghost use Rattle.quilt_types.specs.Plane.{is_pixel, in_block, IsBlock};
 ghost use Rattle.quilt_types.specs.Facts.{HoldsPoint};
 ghost use Rattle.quilt_point_laws.specs.Spreading.{held_facts, spread as spread_facts};
 ghost use Rattle.quilt_points.specs.Layers.{entries_of, block_record};
-ghost use Rattle.quilt_points.specs.Growing.{gone_of, come_of};
+ghost use Rattle.quilt_point_laws.specs.Growing.{gone_of, come_of};
 
 use crate::layer::PointLayer;
 use quilt_loc::{covers, quarters};

@@ -11,15 +11,16 @@ ghost use Rattle.quilt_btree.specs.Trees.{IsRooted};
 ghost use Rattle.quilt_points.specs.Layers.{HasPoints, entries_of, block_record};
 ghost use Rattle.quilt_points.specs.Reads.{IsHeld};
 ghost use Rattle.quilt_points.specs.Climbing.{IsOnWay};
-ghost use Rattle.quilt_points.specs.Growing.{gone_of, come_of};
-ghost use Rattle.quilt_points.specs.Plans.{IsPlan, AreInOrder};
+ghost use Rattle.quilt_point_laws.specs.Growing.{gone_of, come_of};
+ghost use Rattle.quilt_edits.specs.Edits.{AreInOrder};
+ghost use Rattle.quilt_points.specs.Plans.{IsPlan};
 
 use crate::climbing::topmost;
-use crate::edits::edits_of;
 use crate::growing::{Growth, add_growth};
 use crate::layer::PointLayer;
 use crate::listing::{Leaf, leaf_around};
 use quilt_btree::Tree;
+use quilt_edits::edits_of;
 use quilt_record::Edits;
 use quilt_store::PageStore;
 use quilt_types::{Block, Pixel, Point, Stop};
@@ -250,7 +251,7 @@ fn growth_of(
 }
 
 /// Whether one of the points is at the pixel.
-fn has_point(points: &[Point], at: Pixel) -> bool
+pub(crate) fn has_point(points: &[Point], at: Pixel) -> bool
     ensures yes { result ≡ true → (p : AnyPoint) × Contains points.now p × (p.at ≡ at) }
     ensures no { (p : AnyPoint) → Contains points.now p → p.at ≡ at → result ≡ true }
 {

@@ -5,7 +5,7 @@ use super::*;
 use quilt_btree::Tree;
 use quilt_record::{Record, key_bytes, point_record};
 use quilt_store::{MemStore, PageStore};
-use quilt_types::{Block, Pixel, Point, Stop, Window};
+use quilt_types::{Block, Pixel, Point, PointList, Stop, Window};
 use std::alloc::Global;
 use std::test::Fail;
 
@@ -122,5 +122,44 @@ fn a_damaged_layer(rt: HostRuntime) -> Result<(), Fail> {
         damaged
     );
     assert_eq!(rt; find(&mut store, &tree, 2, 3, 1, at).err(), damaged);
+    Ok(())
+}
+
+#[test]
+fn three_points_at_once(rt: HostRuntime) -> Result<(), Fail> {
+    let first = Point {
+        at: Pixel { x: 0, y: 0 },
+        label: 5,
+    };
+    let one = point_record(1, WHOLE, 3, 1, Some(first));
+    let (mut store, tree) = planted(rt.alloc(), &[one])?;
+    let far = Point {
+        at: Pixel { x: 7, y: 7 },
+        label: 8,
+    };
+    let near = Point {
+        at: Pixel { x: 4, y: 0 },
+        label: 9,
+    };
+    let mut points = PointList::new(rt.alloc());
+    points.push(far)?;
+    points.push(near)?;
+    let plan = plan_scatter(rt.alloc(), &mut store, &tree, 1, 3, 1, &points)?;
+    let plan = plan.ok_or("no point is there")?;
+    assert_eq!(rt; plan.remove.records(), [one].as_slice());
+    assert_eq!(rt; plan.add.records().len(), 4);
+    let (mut cut, cut_tree) = planted(rt.alloc(), plan.add.records())?;
+    let counts = block_counts(&mut cut, &cut_tree, 1, 3, 1)?;
+    assert_eq!(rt; counts, [0, 0, 4, 0, 0, 0, 0, 0, 0, 0, 0, 0, 0]);
+    assert_eq!(rt; find(&mut cut, &cut_tree, 1, 3, 1, near.at)?, Some(9));
+    points.push(Point {
+        at: far.at,
+        label: 1,
+    })?;
+    assert!(rt; plan_scatter(rt.alloc(), &mut store, &tree, 1, 3, 1, &points)?.is_none());
+    let mut taken = PointList::new(rt.alloc());
+    taken.push(near)?;
+    taken.push(first)?;
+    assert!(rt; plan_scatter(rt.alloc(), &mut store, &tree, 1, 3, 1, &taken)?.is_none());
     Ok(())
 }

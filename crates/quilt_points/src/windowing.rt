@@ -1,10 +1,10 @@
-ghost use Rattle.std.specs.Prelude.{◌≡◌, ◌+◌, ◌<◌, ◌≤◌, ◌++◌, List, true, false, filter, Contains, IfOk, IfErr, IsErrOf, IsPermutation, OnOk};
+ghost use Rattle.std.specs.Prelude.{◌≡◌, ℕ, ◌+◌, ◌<◌, ◌≤◌, ◌++◌, List, true, false, filter, Contains, IfOk, IfErr, IsErrOf, IsPermutation, OnOk};
 ghost use Rattle.std.specs.FinMap as finmap;
 ghost use Rattle.std.specs.List.Sorted.{IsSortedByKey};
 ghost use Rattle.quilt_types.specs.declared.plane.Pixel.{Pixel as AnyPixel};
 ghost use Rattle.quilt_types.specs.declared.plane.Point.{Point as AnyPoint};
 ghost use Rattle.quilt_types.specs.declared.stop.Stop.TheVariants.{Device};
-ghost use Rattle.quilt_types.specs.Plane.{whole, is_window, in_window, in_block, pixel_cmp, IsBlock};
+ghost use Rattle.quilt_types.specs.Plane.{is_window, in_window, in_block, pixel_cmp, IsBlock};
 ghost use Rattle.quilt_types.specs.Layers.{PointMap};
 ghost use Rattle.quilt_btree.specs.Stops.{HasStopCause, IsSound};
 ghost use Rattle.quilt_btree.specs.Trees.{IsRooted};
@@ -15,6 +15,7 @@ ghost use Rattle.quilt_points.specs.Windows.{IsOpen};
 use crate::layer::PointLayer;
 use crate::listing::points_of;
 use crate::reading::DAMAGED;
+use crate::square::whole_square;
 use quilt_btree::Tree;
 use quilt_loc::quarters;
 use quilt_store::PageStore;
@@ -62,18 +63,6 @@ pub fn within<S: PageStore>(
     }
 }
 
-/// The whole square of a level.
-fn whole_square(level: u8) -> Block
-    requires { level ≤ 12 }
-    ensures { result ≡ whole level }
-{
-    Block {
-        x: 0,
-        y: 0,
-        side: 1 << level,
-    }
-}
-
 /// Adds the points of the layer that are in a window, from the blocks in one.
 fn add_within<S: PageStore>(
     alloc: Global,
@@ -86,8 +75,6 @@ fn add_within<S: PageStore>(
 ) -> Result<(), Stop>
     requires rooted { IsRooted (S.size store.old) tree.now }
     requires block { IsBlock layer.level b }
-    requires width { w.x + w.w ≤ 4096 }
-    requires height { w.y + w.h ≤ 4096 }
     ensures found { OnOk result ((points : PointMap) → HasPoints (S.told store.old) tree.now layer.number layer.level layer.bucket points → IsOpen layer.level layer.bucket points b → (here : List AnyPoint) × (found.new.items ≡ found.old.items ++ here) × AreOf points (in_window w) b (entries_of here)) }
     ensures sound { IfErr result (λ e. (points : PointMap) → HasPoints (S.told store.old) tree.now layer.number layer.level layer.bucket points → IsOpen layer.level layer.bucket points b → IsSound e) }
     ensures cause { HasStopCause (S.faults store.old) (S.faults store.new) result }
@@ -119,19 +106,24 @@ fn add_within<S: PageStore>(
 
 /// Whether a block and a window may have a pixel in common.
 fn meets(b: Block, w: Window) -> bool
-    requires block_width { b.x + b.side ≤ 4096 }
-    requires block_height { b.y + b.side ≤ 4096 }
-    requires width { w.x + w.w ≤ 4096 }
-    requires height { w.y + w.h ≤ 4096 }
     ensures { result ≡ false → (p : AnyPixel) → in_block b p ≡ true → in_window w p ≡ true → ⊥ }
 {
-    b.x < w.x + w.w && w.x < b.x + b.side && b.y < w.y + w.h && w.y < b.y + b.side
+    overlap(b.x, b.side, w.x, w.w) && overlap(b.y, b.side, w.y, w.h)
+}
+
+/// Whether two stretches, each from its first number on and so long, have a number in common, if both have any.
+fn overlap(a: u16, length: u16, b: u16, other: u16) -> bool
+    ensures { result ≡ false → (m : ℕ) → a ≤ m → m < a + length → b ≤ m → m < b + other → ⊥ }
+{
+    if a <= b {
+        b - a < length
+    } else {
+        a - b < other
+    }
 }
 
 /// Adds those of the points that are in the window.
 fn add_inside(found: &mut Vec<Point>, points: &[Point], w: Window) -> Result<(), Stop>
-    requires width { w.x + w.w ≤ 4096 }
-    requires height { w.y + w.h ≤ 4096 }
     ensures found { OnOk result (found.new.items ≡ found.old.items ++ filter (λ p. in_window w p.at) points.now) }
     ensures memory { IfErr result (λ e. e ≡ Stop.Memory) }
 {
@@ -145,11 +137,9 @@ fn add_inside(found: &mut Vec<Point>, points: &[Point], w: Window) -> Result<(),
 
 /// Whether the point is in the window.
 fn is_inside(p: &Point, w: Window) -> bool
-    requires width { w.x + w.w ≤ 4096 }
-    requires height { w.y + w.h ≤ 4096 }
     ensures { result ≡ in_window w p.now.at }
 {
-    w.x <= p.at.x && p.at.x < w.x + w.w && w.y <= p.at.y && p.at.y < w.y + w.h
+    w.x <= p.at.x && p.at.x - w.x < w.w && w.y <= p.at.y && p.at.y - w.y < w.h
 }
 
 /// The points by y and then x.

@@ -6,11 +6,11 @@ use Rattle.quilt_types.specs.Plane.{quarters_of, IsBlock}
 use Rattle.quilt_types.specs.Quadtrees.{holds_few}
 use Rattle.quilt_loc.proofs.Blocks.{IsBlock-up}
 use Rattle.quilt_loc.proofs.Nesting.{IsBlock-parent_of, side_pos}
-use Rattle.quilt_region.proofs.Parts.{part_at}
+use Rattle.quilt_points.proofs.Quarters.{quarter_at}
 use Rattle.quilt_point_laws.specs.Laws.{AreIn}
 use Rattle.quilt_points.specs.Layers.{entries_of}
 use Rattle.quilt_points.proofs.Finds.{has_along}
-use Rattle.quilt_points.proofs.Said.{member_at}
+use Rattle.quilt_edits.proofs.Lists.{member_at}
 use Rattle.quilt_points.proofs.Unions.{AreOfAll, all_none}
 use Rattle.quilt_points.proofs.Ways.{way_next, way_all, way_fails}
 use Rattle.quilt_points.proofs.climbing.joined.Goals as goal
@@ -36,7 +36,7 @@ add_quarter-requires-clause-block g c =
     let hb = subst (IsBlock c.args.layer.level) (sym c.requires.parent) (IsBlock-parent_of c.args.layer.level c.args.leaf.now.block c.requires.block c.requires.inner) in
     let pos = side_pos c.args.layer.level c.args.leaf.now.block c.requires.block in
     let twice = ap (λ (b : Block). b.side) c.requires.parent in
-    (part_at c.args.layer.level c.args.up c.quarters-q-items.result c.loop-q.q-index (record { y = 0; x = 0; side = 0 }) c.args.layer.has_level.1 hb (omega arith) c.quarters-q-items.ensures.value c.loop-q-test.true).block
+    (quarter_at c.args.layer.level c.args.up c.quarters-q-items.result c.loop-q.q-index (record { y = 0; x = 0; side = 0 }) hb (omega arith) c.quarters-q-items.ensures.value c.loop-q-test.true).block
 
 pub returns-in-Err-clause-sound : goal.returns-in-Err-clause-sound
 returns-in-Err-clause-sound g c points h = c.in-Err.ensures.sound points (has_along _ _ c.args.tree.now c.args.layer.number c.args.layer.level c.args.layer.bucket points c.loop-q.invariant.told h)

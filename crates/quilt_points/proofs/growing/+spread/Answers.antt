@@ -7,7 +7,7 @@ use Rattle.std.proofs.lemmas.List.Elements.{All-filter}
 use Rattle.quilt_types.specs.declared.plane.Point.{Point}
 use Rattle.quilt_types.specs.Plane.{in_block, is_pixel}
 use Rattle.quilt_loc.proofs.Blocks.{IsBlock-up}
-use Rattle.quilt_region.proofs.Parts.{part_at}
+use Rattle.quilt_points.proofs.Quarters.{quarter_at}
 use Rattle.quilt_points.proofs.Growths.{spread_next, spread_all, spread_few, part_half}
 use Rattle.quilt_points.proofs.growing.+spread.Goals as goal
 use Rattle.quilt_points.proofs.growing.+spread.Goals.{then-points-from-via-then-points-from, then-points-from-via-else-points-from+then-b-le1}
@@ -30,13 +30,13 @@ loop-q-init t c = λ k s. sym (append-nil c.args.records.now.items)
 
 pub covered-requires : goal.covered-requires
 covered-requires t c =
-    let q = part_at c.args.layer.level c.args.b c.quarters-q-items.result c.loop-q.q-index (record { y = 0; x = 0; side = 0 }) c.args.layer.has_level.1 c.requires.block c.if-b-le1.false c.quarters-q-items.ensures.value c.loop-q-test.true in
+    let q = quarter_at c.args.layer.level c.args.b c.quarters-q-items.result c.loop-q.q-index (record { y = 0; x = 0; side = 0 }) c.requires.block c.if-b-le1.false c.quarters-q-items.ensures.value c.loop-q-test.true in
     IsBlock-up c.args.layer.level 12 _ c.args.layer.has_level.1 q.block
 
 pub spread-requires : goal.spread-requires
 spread-requires t c =
-    let q = part_at c.args.layer.level c.args.b c.quarters-q-items.result c.loop-q.q-index (record { y = 0; x = 0; side = 0 }) c.args.layer.has_level.1 c.requires.block c.if-b-le1.false c.quarters-q-items.ensures.value c.loop-q-test.true in
-    let smaller = q.smaller in (
+    let q = quarter_at c.args.layer.level c.args.b c.quarters-q-items.result c.loop-q.q-index (record { y = 0; x = 0; side = 0 }) c.requires.block c.if-b-le1.false c.quarters-q-items.ensures.value c.loop-q-test.true in
+    let half = q.half in (
       omega arith,
       (
         q.block,

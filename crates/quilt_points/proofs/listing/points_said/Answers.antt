@@ -2,7 +2,8 @@ use Rattle.std.proofs.Common.{List, [], length, take, sym, ap, subst, arith, eqb
 use Rattle.std.proofs.lemmas.List.{take_all}
 use Rattle.quilt_record.specs.declared.record.Record.{Record}
 use Rattle.quilt_points.specs.Reads.{AreSaid}
-use Rattle.quilt_points.proofs.Said.{said_none, said_more, member_at, row_there, rows_some, said_held, take_next, nonzero}
+use Rattle.quilt_edits.proofs.Lists.{member_at, take_next}
+use Rattle.quilt_points.proofs.Said.{said_none, said_more, row_there, rows_some, said_held, nonzero}
 use Rattle.quilt_points.proofs.listing.points_said.Goals as goal
 
 pub returns-then-is_empty-clause-read : goal.returns-then-is_empty-clause-read

@@ -1,5 +1,5 @@
 use Rattle.std.proofs.lemmas.Result.{IfErr-weaker}
-use Rattle.quilt_points.proofs.Results.{if_ok_both}
+use Rattle.quilt_points.proofs.Results.{if_ok_both, memory_sound}
 use Rattle.quilt_points.proofs.Dels.{del_can, del_plan}
 use Rattle.quilt_points.proofs.planning.take_out.Goals as goal
 
@@ -12,6 +12,6 @@ returns-in-Ok-clause-plan c =
 
 pub returns-in-Ok-clause-sound : goal.returns-in-Ok-clause-sound
 returns-in-Ok-clause-sound c =
-    IfErr-weaker c.edits_of.result _ _ (λ e f points valid some way mb. f
+    IfErr-weaker c.edits_of.result _ _ (λ e f points valid some way mb. memory_sound e (f
     (del_can c.args.layer.level c.args.layer.bucket c.args.layer.number c.args.layer.has_level.1 c.args.layer.has_number.0 c.args.layer.has_number.1 points valid c.args.b c.args.held.now c.args.p some way mb
-    c.requires.block.level c.requires.block.size _ _ c.in-Ok.ensures.without (c.in-Ok.ensures.with c.requires.block.level c.requires.block.size))) c.edits_of.ensures.sound
+    c.requires.block.level c.requires.block.size _ _ c.in-Ok.ensures.without (c.in-Ok.ensures.with c.requires.block.level c.requires.block.size)))) c.edits_of.ensures.memory

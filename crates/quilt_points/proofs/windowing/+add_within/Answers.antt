@@ -5,19 +5,13 @@ use Rattle.quilt_types.specs.declared.plane.Block.{Block}
 use Rattle.quilt_types.specs.declared.plane.Point.{Point}
 use Rattle.quilt_types.specs.Plane.{in_window}
 use Rattle.quilt_loc.proofs.Blocks.{IsBlock-up}
-use Rattle.quilt_region.proofs.Parts.{part_at, block_room}
+use Rattle.quilt_points.proofs.Quarters.{quarter_at}
 use Rattle.quilt_btree.specs.Trees.{IsRooted}
 use Rattle.quilt_points.proofs.Finds.{has_along, match_none, match_some}
-use Rattle.quilt_points.proofs.Said.{member_at}
+use Rattle.quilt_edits.proofs.Lists.{member_at}
 use Rattle.quilt_points.proofs.Unions.{all_none}
 use Rattle.quilt_points.proofs.Windows.{kept_of, none_of, open_pixel, open_quarter, found_next, found_all}
 use Rattle.quilt_points.proofs.windowing.+add_within.Goals as goal
-
-pub meets-requires-clause-block_width : goal.meets-requires-clause-block_width
-meets-requires-clause-block_width g t c = (block_room c.args.layer.level c.args.b c.args.layer.has_level.1 c.requires.block).0
-
-pub meets-requires-clause-block_height : goal.meets-requires-clause-block_height
-meets-requires-clause-block_height g t c = (block_room c.args.layer.level c.args.b c.args.layer.has_level.1 c.requires.block).1
 
 pub returns-then-not-meets-clause-found : goal.returns-then-not-meets-clause-found
 returns-then-not-meets-clause-found g t c points h o =
@@ -57,10 +51,10 @@ loop-q-init g t c = record {
 
 pub add_within-requires : goal.add_within-requires
 add_within-requires g t c κs within =
-    let q = (part_at c.args.layer.level c.args.b c.quarters-q-items.result c.loop-q.q-index (record { y = 0; x = 0; side = 0 }) c.args.layer.has_level.1 c.requires.block c.if-b-le1.false c.quarters-q-items.ensures.value c.loop-q-test.true) in
-    let smaller = q.smaller in
+    let q = quarter_at c.args.layer.level c.args.b c.quarters-q-items.result c.loop-q.q-index (record { y = 0; x = 0; side = 0 }) c.requires.block c.if-b-le1.false c.quarters-q-items.ensures.value c.loop-q-test.true in
+    let half = q.half in
     let rooted = subst (λ (s : ℕ). IsRooted s c.args.tree.now) (sym c.loop-q.invariant.size) c.requires.rooted in
-    (omega arith, (within, (rooted, (q.block, (c.requires.width, c.requires.height)))))
+    (omega arith, (within, (rooted, q.block)))
 
 pub returns-in-Err-add_within-clause-sound : goal.returns-in-Err-add_within-clause-sound
 returns-in-Err-add_within-clause-sound g t c points h o =

@@ -1,6 +1,6 @@
 use Rattle.std.proofs.Common.{◌∙◌, arith}
 use Rattle.std.proofs.lemmas.List.{take_all}
-use Rattle.quilt_points.proofs.Said.{pushed}
+use Rattle.quilt_edits.proofs.Lists.{pushed}
 use Rattle.quilt_points.proofs.windowing.list_of.Goals as goal
 
 pub loop-p-preserved : goal.loop-p-preserved

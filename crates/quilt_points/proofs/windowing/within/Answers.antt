@@ -2,7 +2,6 @@ use Rattle.std.proofs.Common.{◌++◌, List, sym, ◌∙◌, ap, subst}
 use Rattle.quilt_types.specs.declared.plane.Point.{Point}
 use Rattle.quilt_types.specs.Plane.{in_window, IsBlock}
 use Rattle.quilt_loc.proofs.Quartered.{IsBlock-whole}
-use Rattle.quilt_region.proofs.Parts.{window_room}
 use Rattle.quilt_points.specs.Layers.{entries_of}
 use Rattle.quilt_points.specs.Reads.{AreOf}
 use Rattle.quilt_points.proofs.Windows.{open_whole, inside_whole, rows_are}
@@ -10,12 +9,6 @@ use Rattle.quilt_points.proofs.windowing.within.Goals as goal
 
 pub add_within-requires-clause-block : goal.add_within-requires-clause-block
 add_within-requires-clause-block g c = subst (IsBlock c.args.level) (sym c.whole_square-whole.ensures) (IsBlock-whole c.args.level)
-
-pub add_within-requires-clause-width : goal.add_within-requires-clause-width
-add_within-requires-clause-width g c = (window_room c.args.level c.args.w c.requires.level.1 c.requires.window).0
-
-pub add_within-requires-clause-height : goal.add_within-requires-clause-height
-add_within-requires-clause-height g c = (window_room c.args.level c.args.w c.requires.level.1 c.requires.window).1
 
 pub returns-in-Err-clause-sound : goal.returns-in-Err-clause-sound
 returns-in-Err-clause-sound g c points h = c.in-Err.ensures.sound points h (open_whole c.args.level c.args.bucket points c.whole_square-whole.result c.whole_square-whole.ensures)

@@ -1,0 +1,183 @@
+ghost use Rattle.std.specs.Prelude.{◌≡◌, ◌+◌, ◌<◌, ◌≤◌, ◌^◌, ◌↔◌, ℕ, true, false, [], All, Contains, Some, None, take, drop, length, map, slice_index_or, IfOk, IfErr, IfSome, IsNone, IsSome, IsErrOf};
+ghost use Rattle.std.specs.FinMap as finmap;
+ghost use Rattle.quilt_types.specs.declared.plane.Point.{Point as AnyPoint};
+ghost use Rattle.quilt_types.specs.declared.stop.Stop.TheVariants.{Device};
+ghost use Rattle.quilt_types.specs.Plane.{is_pixel, in_block, IsBlock};
+ghost use Rattle.quilt_types.specs.Layers.{PointMap};
+ghost use Rattle.quilt_loc.specs.Codes.{code_at, Rises};
+ghost use Rattle.quilt_btree.specs.Stops.{HasStopCause, IsSound};
+ghost use Rattle.quilt_btree.specs.Trees.{IsRooted};
+ghost use Rattle.quilt_edits.specs.Edits.{AreInOrder};
+ghost use Rattle.quilt_points.specs.Layers.{HasPoints};
+ghost use Rattle.quilt_points.specs.Coding.{by_code};
+ghost use Rattle.quilt_points.specs.Plans.{IsPlan, AreNew, with_points};
+ghost use Rattle.quilt_points.specs.Scattering.{IsTaken, IsGrown};
+
+use crate::coding::in_order;
+use crate::growing::{Growth, add_growth};
+use crate::layer::PointLayer;
+use crate::listing::leaf_around;
+use crate::planning::has_point;
+use quilt_btree::Tree;
+use quilt_edits::edits_of;
+use quilt_loc::{code_of, end_of};
+use quilt_record::Edits;
+use quilt_store::PageStore;
+use quilt_types::{Point, PointList, Stop};
+use std::alloc::Global;
+
+/// The records that go and those that come, each in the order of their keys, when these points come at once into the point
+/// layer with this number, from 1 to 255, of a map of this level, from 1 to 12, whose blocks hold at most `bucket` points, from
+/// 1 to 16: None exactly where two of them share a pixel or a point is at one of their pixels. Each block that gets points is
+/// read and planned once.
+pub fn plan_scatter<S: PageStore>(
+    alloc: Global,
+    store: &mut S,
+    tree: &Tree,
+    layer: u8,
+    level: u8,
+    bucket: u8,
+    points: &PointList,
+) -> Result<Option<Edits>, Stop>
+    requires rooted { IsRooted (S.size store.old) tree.now }
+    requires layer { 1 ≤ layer }
+    requires level { (1 ≤ level) × (level ≤ 12) }
+    requires bucket { (1 ≤ bucket) × (bucket ≤ 16) }
+    requires pixels { All (λ p. is_pixel level p.at ≡ true) points.now }
+    ensures plan { IfOk result (λ o. IfSome o (λ edits. (old : PointMap) → HasPoints (S.told store.old) tree.now layer level bucket old → IsPlan level layer bucket old (with_points old points.now) edits)) }
+    ensures none { IfOk result (λ o. (old : PointMap) → HasPoints (S.told store.old) tree.now layer level bucket old → IsNone o ↔ (AreNew old points.now → ⊥)) }
+    ensures order { IfOk result (λ o. IfSome o AreInOrder) }
+    ensures sound { IfErr result (λ e. (old : PointMap) → HasPoints (S.told store.old) tree.now layer level bucket old → IsSound e) }
+    ensures cause { HasStopCause (S.faults store.old) (S.faults store.new) result }
+    ensures size { S.size store.new ≡ S.size store.old }
+    ensures told { S.told store.new ≡ S.told store.old }
+    ensures free { S.free store.new ≡ S.free store.old }
+    ensures later { S.later store.old store.new }
+    ensures changed { S.changed store.new ≤ S.changed store.old }
+{
+    let place = PointLayer {
+        number: layer,
+        level,
+        bucket,
+    };
+    let news = match in_order(alloc, points.items()) {
+        Err(_) => return Err(Stop::Memory),
+        Ok(None) => return Ok(None),
+        Ok(Some(news)) => news,
+    };
+    match grown(alloc, store, tree, place, &news) {
+        Err(e) => Err(e),
+        Ok(None) => Ok(None),
+        Ok(Some(growth)) => match edits_of(alloc, growth.without, growth.with) {
+            Err(e) => Err(e),
+            Ok(edits) => Ok(Some(edits)),
+        },
+    }
+}
+
+/// The records that change when these points come, in the order of their codes: None where a point is at one of their pixels.
+fn grown<S: PageStore>(
+    alloc: Global,
+    store: &mut S,
+    tree: &Tree,
+    layer: PointLayer,
+    news: &[Point],
+) -> Result<Option<Growth>, Stop>
+    requires rooted { IsRooted (S.size store.old) tree.now }
+    requires pixels { All (λ p. is_pixel layer.level p.at ≡ true) news.now }
+    requires order { Rises by_code news.now }
+    ensures grown { IfOk result (λ o. IfSome o (λ growth. (old : PointMap) → HasPoints (S.told store.old) tree.now layer.number layer.level layer.bucket old → IsGrown layer.level layer.number layer.bucket old news.now [] growth.without.items growth.with.items)) }
+    ensures taken { IfOk result (λ o. o ≡ None → (old : PointMap) → HasPoints (S.told store.old) tree.now layer.number layer.level layer.bucket old → (p : AnyPoint) × Contains news.now p × IsSome (finmap.get old p.at)) }
+    ensures sound { IfErr result (λ e. (old : PointMap) → HasPoints (S.told store.old) tree.now layer.number layer.level layer.bucket old → IsSound e) }
+    ensures cause { HasStopCause (S.faults store.old) (S.faults store.new) result }
+    ensures size { S.size store.new ≡ S.size store.old }
+    ensures told { S.told store.new ≡ S.told store.old }
+    ensures free { S.free store.new ≡ S.free store.old }
+    ensures later { S.later store.old store.new }
+    ensures changed { S.changed store.new ≤ S.changed store.old }
+{
+    let mut growth = Growth {
+        without: Vec::new(alloc),
+        with: Vec::new(alloc),
+    };
+    let mut done = 0;
+    while done < news.len() {
+        match add_block(alloc, store, tree, layer, &news[done..], &mut growth) {
+            Err(e) => return Err(e),
+            Ok(None) => return Ok(None),
+            Ok(Some(count)) => done += count,
+        }
+    }
+    Ok(Some(growth))
+}
+
+/// Adds the records of the block around the first of the points that change when those of them in the block come, and answers
+/// how many these are: None where a point is at one of their pixels.
+fn add_block<S: PageStore>(
+    alloc: Global,
+    store: &mut S,
+    tree: &Tree,
+    layer: PointLayer,
+    news: &[Point],
+    growth: &mut Growth,
+) -> Result<Option<usize>, Stop>
+    requires rooted { IsRooted (S.size store.old) tree.now }
+    requires some { 0 < length news.now }
+    requires pixels { All (λ p. is_pixel layer.level p.at ≡ true) news.now }
+    requires order { Rises by_code news.now }
+    ensures count { IfOk result (λ o. IfSome o (λ count. (0 < count) × (count ≤ length news.now))) }
+    ensures added { IfOk result (λ o. IfSome o (λ count. (old : PointMap) → HasPoints (S.told store.old) tree.now layer.number layer.level layer.bucket old → IsTaken layer.level layer.number layer.bucket old news.now count growth.old.without.items growth.new.without.items growth.old.with.items growth.new.with.items)) }
+    ensures taken { IfOk result (λ o. o ≡ None → (old : PointMap) → HasPoints (S.told store.old) tree.now layer.number layer.level layer.bucket old → (p : AnyPoint) × Contains news.now p × IsSome (finmap.get old p.at)) }
+    ensures sound { IfErr result (λ e. (old : PointMap) → HasPoints (S.told store.old) tree.now layer.number layer.level layer.bucket old → IsSound e) }
+    ensures cause { HasStopCause (S.faults store.old) (S.faults store.new) result }
+    ensures size { S.size store.new ≡ S.size store.old }
+    ensures told { S.told store.new ≡ S.told store.old }
+    ensures free { S.free store.new ≡ S.free store.old }
+    ensures later { S.later store.old store.new }
+    ensures changed { S.changed store.new ≤ S.changed store.old }
+{
+    match leaf_around(alloc, store, tree, layer, news[0].at) {
+        Err(e) => Err(e),
+        Ok(leaf) => {
+            let count = count_before(news, end_of(leaf.block));
+            let here = &news[..count];
+            if has_common(&leaf.points, here) {
+                return Ok(None);
+            }
+            match add_growth(alloc, growth, layer, leaf.block, &leaf.points, here) {
+                Err(_) => Err(Stop::Memory),
+                Ok(()) => Ok(Some(count)),
+            }
+        }
+    }
+}
+
+/// How many of the points, the first of them on, have codes below the end.
+fn count_before(points: &[Point], end: u32) -> usize
+    requires { All (λ p. is_pixel 12 p.at ≡ true) points.now }
+    ensures most { result ≤ length points.now }
+    ensures before { All (λ p. code_at p.at < end) (take result points.now) }
+    ensures behind { result < length points.now → (d : AnyPoint) → end ≤ code_at (slice_index_or points.now result d).at }
+{
+    let mut count = 0;
+    for p in points {
+        if code_of(p.at) >= end {
+            return count;
+        }
+        count += 1;
+    }
+    count
+}
+
+/// Whether one of the points is at a pixel of one of the others.
+fn has_common(held: &[Point], news: &[Point]) -> bool
+    ensures yes { result ≡ true → (p : AnyPoint) × (q : AnyPoint) × Contains news.now p × Contains held.now q × (q.at ≡ p.at) }
+    ensures no { result ≡ false → (p q : AnyPoint) → Contains news.now p → Contains held.now q → q.at ≡ p.at → ⊥ }
+{
+    for p in news {
+        if has_point(held, p.at) {
+            return true;
+        }
+    }
+    false
+}
