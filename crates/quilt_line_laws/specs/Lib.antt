@@ -1,0 +1,9 @@
+pub mod Lines
+pub mod Merging
+pub mod Removing
+pub mod Once
+pub mod Counting
+pub mod Lawful
+pub mod Meeting
+pub mod Settling
+pub mod Leads

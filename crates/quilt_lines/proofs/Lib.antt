@@ -1,0 +1,9 @@
+pub mod Trees
+pub mod Keys
+pub mod Shown
+pub mod Ranges
+pub mod Lookups
+pub mod Listed
+pub mod Sums
+pub mod Scans
+pub mod Spelled

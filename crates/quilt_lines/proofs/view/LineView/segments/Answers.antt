@@ -1,0 +1,41 @@
+use Rattle.std.proofs.Common.{◌≡◌, ℕ, ◌*◌, true, Some, [], ◌∷◌, ◌++◌, List, All, length, get_or, sym, ◌∙◌, ap, subst, arith, length-append}
+use Rattle.std.specs.FinMap as finmap
+use Rattle.std.proofs.lemmas.List.{map-append}
+use Rattle.std.proofs.lemmas.List.Elements.{All-append}
+use Rattle.quilt_types.specs.declared.plane.Seg.{Seg}
+use Rattle.quilt_types.specs.Layers.{is_in_square}
+use Rattle.quilt_edits.proofs.Lists.{member_at, take_next}
+use Rattle.quilt_lines.specs.Reads.{ids_of}
+use Rattle.quilt_lines.proofs.Listed.{all_one}
+use Rattle.quilt_lines.proofs.Lookups.{lines_along}
+use Rattle.quilt_lines.proofs.Sums.{reads_sum}
+use Rattle.quilt_lines.proofs.view.LineView.segments.Goals as goal
+
+pub returns-in-Err-clause-sound : goal.returns-in-Err-clause-sound
+returns-in-Err-clause-sound g c t segs cover h all =
+    let w = all _ (member_at c.args.ids.now c.loop-id.id-index _ c.loop-id-test.true) in
+    c.in-Err.ensures.sound t segs cover (lines_along _ _ c.args.self.now.tree c.args.self.now.layer c.args.self.now.level t segs cover c.loop-id.invariant.told h) w.0 w.1
+
+pub loop-id-preserved : goal.loop-id-preserved
+loop-id-preserved g c =
+    let a = c.in-Ok.ensures.added in
+    let id = get_or c.args.ids.now c.loop-id.id-index _ in
+    let more : List (ℕ × Seg) = (id, a.0) ∷ [] in
+    let longer = ap length a.1 ∙ length-append c.loop-id.list more in
+    record {
+      ids = ap ids_of a.1 ∙ map-append (λ (e : ℕ × Seg). e.0) c.loop-id.list more ∙ ap (λ (l : List ℕ). l ++ id ∷ []) c.loop-id.invariant.ids ∙ sym (take_next c.args.ids.now c.loop-id.id-index _ c.loop-id-test.true);
+      found = λ t segs cover h.
+          let P = λ (e : ℕ × Seg). finmap.get segs e.0 ≡ Some e.1 in
+          subst (All P) (sym a.1) (All-append P c.loop-id.list more (c.loop-id.invariant.found t segs cover h)
+          (all_one P (id, a.0) (a.3 t segs cover (lines_along _ _ c.args.self.now.tree c.args.self.now.layer c.args.self.now.level t segs cover c.loop-id.invariant.told h))));
+      inside =
+          let P = λ (e : ℕ × Seg). is_in_square c.args.self.now.level e.1 ≡ true in
+          subst (All P) (sym a.1) (All-append P c.loop-id.list more c.loop-id.invariant.inside (all_one P (id, a.0) a.2));
+      faults = let m = c.loop-id.invariant.faults in let n = c.in-Ok.ensures.cause.later in omega arith;
+      size = c.in-Ok.ensures.size ∙ c.loop-id.invariant.size;
+      told = c.in-Ok.ensures.told ∙ c.loop-id.invariant.told;
+      free = c.in-Ok.ensures.free ∙ c.loop-id.invariant.free;
+      later = g.met.S.PageStore.goes_on _ _ _ c.loop-id.invariant.later c.in-Ok.ensures.later;
+      reads = reads_sum _ _ _ (3 * length c.loop-id.list) 3 (3 * length c.add_segment.new.list) (omega arith) c.loop-id.invariant.reads c.in-Ok.ensures.reads;
+      changed = let m = c.loop-id.invariant.changed in let n = c.in-Ok.ensures.changed in omega arith;
+    }

@@ -1,0 +1,21 @@
+use Rattle.std.proofs.Common.{◌≡◌, ℕ, ◌+◌, ◌*◌, ◌≤◌, true, All, take, length, Some}
+use Rattle.std.specs.FinMap as finmap
+use Rattle.quilt_types.specs.Layers.{SegMap, BlockSet, is_in_square}
+use Rattle.quilt_store.specs.Store.{Tells}
+use Rattle.quilt_lines.specs.Layers.{HasLines}
+use Rattle.quilt_lines.specs.Reads.{ids_of}
+use Rattle.quilt_lines.proofs.view.LineView.segments.Given as goal
+
+abbrev pub invariant-loop-id : goal.invariant-loop-id
+invariant-loop-id g l = record {
+  ids : ids_of l.list ≡ take l.id-index l.ids;
+  found : (t : ℕ) (segs : SegMap) (cover : BlockSet) → HasLines (g.S.PageStore.told l.initial.store) l.self.tree l.self.layer l.self.level t segs cover → All (λ e. finmap.get segs e.0 ≡ Some e.1) l.list;
+  inside : All (λ e. is_in_square l.self.level e.1 ≡ true) l.list;
+  faults : g.S.PageStore.faults l.initial.store ≤ g.S.PageStore.faults l.store;
+  size : g.S.PageStore.size l.store ≡ g.S.PageStore.size l.initial.store;
+  told : g.S.PageStore.told l.store ≡ g.S.PageStore.told l.initial.store;
+  free : g.S.PageStore.free l.store ≡ g.S.PageStore.free l.initial.store;
+  later : g.S.PageStore.later l.initial.store l.store;
+  reads : Tells (λ old new. new ≤ old + 3 * length l.list) (g.S.PageStore.reads l.initial.store) (g.S.PageStore.reads l.store);
+  changed : g.S.PageStore.changed l.store ≤ g.S.PageStore.changed l.initial.store;
+}

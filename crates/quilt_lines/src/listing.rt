@@ -1,0 +1,128 @@
+ghost use Rattle.std.specs.Prelude.{◌≡◌, ℕ, ◌+◌, ◌*◌, ◌<◌, ◌≤◌, true, Some, None, IfOk, IfErr, IfSome, IsErrOf, List, [], ◌∷◌, map, length, vec_len, MatchOption, unwrap_or, false};
+ghost use Rattle.std.specs.Option.{option_map};
+ghost use Rattle.quilt_types.specs.Sets as finset;
+ghost use Rattle.quilt_types.specs.declared.stop.Stop.TheVariants.{Device};
+ghost use Rattle.quilt_types.specs.Plane.{IsBlock};
+ghost use Rattle.quilt_types.specs.Layers.{SegMap, BlockSet};
+ghost use Rattle.quilt_store.specs.Store.{Tells};
+ghost use Rattle.quilt_btree.specs.Stops.{HasStopCause, IsSound};
+ghost use Rattle.quilt_btree.specs.Trees.{IsRooted};
+ghost use Rattle.quilt_lines.specs.Layers.{HasLines};
+ghost use Rattle.quilt_lines.specs.Reads.{pair_of, none_of, block_records, AreIdsAt};
+
+use crate::view::{DAMAGED, LineView};
+use quilt_record::{Key, Record, pair_record};
+use quilt_store::PageStore;
+use quilt_types::{Block, Stop};
+use std::alloc::Global;
+
+/// Whether two records are the same.
+fn is_same(a: &Record, b: &Record) -> bool
+    ensures yes { result ≡ true → a.now ≡ b.now }
+    ensures no { a.now ≡ b.now → result ≡ true }
+{
+    a == b
+}
+
+impl LineView {
+    /// The ids of the segments that meet a block, from the block's records: None exactly where it is none of the layer's. It
+    /// reads at most 9 pages, and 3 more for each id.
+    pub(crate) fn ids_at<S: PageStore>(
+        &self,
+        alloc: Global,
+        store: &mut S,
+        b: Block,
+    ) -> Result<Option<Vec<u32>>, Stop>
+        requires rooted { IsRooted (S.size store.old) self.now.tree }
+        requires block { IsBlock self.now.level b }
+        ensures ids { IfOk result (λ o. (t : ℕ) (segs : SegMap) (cover : BlockSet) → HasLines (S.told store.old) self.now.tree self.now.layer self.now.level t segs cover → MatchOption o (finset.contains cover b ≡ false) (λ ids. AreIdsAt segs cover b ids.items)) }
+        ensures sound { IfErr result (λ e. (t : ℕ) (segs : SegMap) (cover : BlockSet) → HasLines (S.told store.old) self.now.tree self.now.layer self.now.level t segs cover → IsSound e) }
+        ensures cause { HasStopCause (S.faults store.old) (S.faults store.new) result }
+        ensures size { S.size store.new ≡ S.size store.old }
+        ensures told { S.told store.new ≡ S.told store.old }
+        ensures free { S.free store.new ≡ S.free store.old }
+        ensures later { S.later store.old store.new }
+        ensures reads { IfOk result (λ o. Tells (λ old new. new ≤ old + 9 + 3 * unwrap_or (option_map vec_len o) 0) (S.reads store.old) (S.reads store.new)) }
+        ensures changed { S.changed store.new ≤ S.changed store.old }
+    {
+        let low = pair_record(self.layer, b, self.level, None).key;
+        let high = Key {
+            item: u32::MAX,
+            ..low
+        };
+        match self.tree.range(alloc, store, &low, &high, u32::MAX) {
+            Err(e) => Err(e),
+            Ok(records) => self.ids_said(alloc, &records, b),
+        }
+    }
+
+    /// The ids that the records of a block say: None where there are no records.
+    fn ids_said(
+        &self,
+        alloc: Global,
+        records: &[Record],
+        b: Block,
+    ) -> Result<Option<Vec<u32>>, Stop>
+        requires { IsBlock self.now.level b }
+        ensures ids { IfOk result (λ o. (segs : SegMap) (cover : BlockSet) → records.now ≡ block_records self.now.level self.now.layer segs cover b → MatchOption o (finset.contains cover b ≡ false) (λ ids. AreIdsAt segs cover b ids.items)) }
+        ensures few { IfOk result (λ o. length records.now ≤ 1 + unwrap_or (option_map vec_len o) 0) }
+        ensures sound { IfErr result (λ e. (segs : SegMap) (cover : BlockSet) → records.now ≡ block_records self.now.level self.now.layer segs cover b → IsSound e) }
+        ensures no_fault { IsErrOf result Device → ⊥ }
+    {
+        if records.is_empty() {
+            return Ok(None);
+        }
+        if self.says_none(records, b) {
+            return Ok(Some(Vec::new(alloc)));
+        }
+        match self.all_ids(alloc, records, b) {
+            Err(e) => Err(e),
+            Ok(ids) => Ok(Some(ids)),
+        }
+    }
+
+    /// Whether the records of a block are the one that says that no segment meets it.
+    fn says_none(&self, records: &[Record], b: Block) -> bool
+        requires { IsBlock self.now.level b }
+        ensures yes { result ≡ true → records.now ≡ none_of self.now.level self.now.layer b ∷ [] }
+        ensures no { records.now ≡ none_of self.now.level self.now.layer b ∷ [] → result ≡ true }
+    {
+        if records.len() != 1 {
+            return false;
+        }
+        let none = pair_record(self.layer, b, self.level, None);
+        is_same(&records[0], &none)
+    }
+
+    /// The id of the segment that a record of the block says.
+    fn id_said(&self, r: &Record, b: Block) -> Option<u32>
+        requires { IsBlock self.now.level b }
+        ensures some { IfSome result (λ id. r.now ≡ pair_of self.now.level self.now.layer b id) }
+        ensures none { result ≡ None → (id : ℕ) → r.now ≡ pair_of self.now.level self.now.layer b id → ⊥ }
+    {
+        let pair = pair_record(self.layer, b, self.level, Some(r.key.item));
+        if is_same(r, &pair) {
+            return Some(r.key.item);
+        }
+        None
+    }
+
+    /// The ids that the records of a block say, one each.
+    fn all_ids(&self, alloc: Global, records: &[Record], b: Block) -> Result<Vec<u32>, Stop>
+        requires { IsBlock self.now.level b }
+        ensures ids { IfOk result (λ ids. records.now ≡ map (pair_of self.now.level self.now.layer b) ids.items) }
+        ensures sound { IfErr result (λ e. (ids : List ℕ) → records.now ≡ map (pair_of self.now.level self.now.layer b) ids → IsSound e) }
+        ensures no_fault { IsErrOf result Device → ⊥ }
+    {
+        let mut ids = Vec::new(alloc);
+        for r in records {
+            let Some(id) = self.id_said(r, b) else {
+                return Err(DAMAGED);
+            };
+            if ids.push(id).is_err() {
+                return Err(Stop::Memory);
+            }
+        }
+        Ok(ids)
+    }
+}

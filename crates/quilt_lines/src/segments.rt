@@ -1,0 +1,231 @@
+ghost use Rattle.std.specs.Prelude.{◌≡◌, ℕ, ◌+◌, ◌*◌, ◌<◌, ◌≤◌, ◌&&◌, true, All, Contains, Some, IfOk, IfErr, IfSome, IsErrOf, OnOk, [], ◌∷◌, ◌++◌, map, length};
+ghost use Rattle.std.specs.FinMap as finmap;
+ghost use Rattle.std.specs.Ordering.{nat_cmp};
+ghost use Rattle.quilt_types.specs.declared.plane.Seg.{Seg as AnySeg};
+ghost use Rattle.quilt_types.specs.declared.stop.Stop.TheVariants.{Device};
+ghost use Rattle.quilt_types.specs.Facts.{IsSegment};
+ghost use Rattle.quilt_types.specs.Layers.{SegMap, BlockSet, IsLineMap, is_in_square as is_seg_in_square};
+ghost use Rattle.quilt_loc.specs.Codes.{Rises};
+ghost use Rattle.quilt_record.specs.Canonical.{FactFits};
+ghost use Rattle.quilt_store.specs.Store.{Tells};
+ghost use Rattle.quilt_btree.specs.Stops.{HasStopCause, IsSound};
+ghost use Rattle.quilt_btree.specs.Trees.{IsRooted};
+ghost use Rattle.quilt_lines.specs.Layers.{HasLines, fact_record, segment_facts};
+ghost use Rattle.quilt_lines.specs.Reads.{segment_key as key_of, ids_of};
+
+use crate::view::{DAMAGED, LineView};
+use quilt_btree::Tree;
+use quilt_near::SegList;
+use quilt_record::{Key, Record, read_segment};
+use quilt_store::PageStore;
+use quilt_types::{Seg, Stop};
+use std::alloc::Global;
+
+/// The segment of an id in the line layer with this number, from 1 to 255, of a map of this level, from 1 to 12: None exactly
+/// where the id is not there. It reads at most 3 pages.
+pub fn segment<S: PageStore>(
+    store: &mut S,
+    tree: &Tree,
+    layer: u8,
+    level: u8,
+    id: u32,
+) -> Result<Option<Seg>, Stop>
+    requires rooted { IsRooted (S.size store.old) tree.now }
+    requires layer { 1 ≤ layer }
+    requires level { (1 ≤ level) × (level ≤ 12) }
+    ensures segment { IfOk result (λ o. (t : ℕ) (segs : SegMap) (cover : BlockSet) → HasLines (S.told store.old) tree.now layer level t segs cover → o ≡ finmap.get segs id) }
+    ensures inside { IfOk result (λ o. IfSome o (λ s. is_seg_in_square level s ≡ true)) }
+    ensures sound { IfErr result (λ e. (t : ℕ) (segs : SegMap) (cover : BlockSet) → HasLines (S.told store.old) tree.now layer level t segs cover → IsSound e) }
+    ensures cause { HasStopCause (S.faults store.old) (S.faults store.new) result }
+    ensures size { S.size store.new ≡ S.size store.old }
+    ensures told { S.told store.new ≡ S.told store.old }
+    ensures free { S.free store.new ≡ S.free store.old }
+    ensures later { S.later store.old store.new }
+    ensures reads { Tells (λ old new. new ≤ old + 3) (S.reads store.old) (S.reads store.new) }
+    ensures changed { S.changed store.new ≤ S.changed store.old }
+{
+    let view = LineView {
+        tree: *tree,
+        layer,
+        level,
+    };
+    view.segment(store, id)
+}
+
+/// All segments by id of the line layer with this number, from 1 to 255, of a map of this level, from 1 to 12.
+pub fn scan<S: PageStore>(
+    alloc: Global,
+    store: &mut S,
+    tree: &Tree,
+    layer: u8,
+    level: u8,
+) -> Result<SegList, Stop>
+    requires rooted { IsRooted (S.size store.old) tree.now }
+    requires layer { 1 ≤ layer }
+    requires level { (1 ≤ level) × (level ≤ 12) }
+    ensures segments { IfOk result (λ list. (t : ℕ) (segs : SegMap) (cover : BlockSet) → HasLines (S.told store.old) tree.now layer level t segs cover → list ≡ finmap.entries segs) }
+    ensures inside { IfOk result (λ list. All (λ e. is_seg_in_square level e.1 ≡ true) list) }
+    ensures order { IfOk result (λ list. Rises nat_cmp (ids_of list)) }
+    ensures sound { IfErr result (λ e. (t : ℕ) (segs : SegMap) (cover : BlockSet) → HasLines (S.told store.old) tree.now layer level t segs cover → IsSound e) }
+    ensures cause { HasStopCause (S.faults store.old) (S.faults store.new) result }
+    ensures size { S.size store.new ≡ S.size store.old }
+    ensures told { S.told store.new ≡ S.told store.old }
+    ensures free { S.free store.new ≡ S.free store.old }
+    ensures later { S.later store.old store.new }
+    ensures changed { S.changed store.new ≤ S.changed store.old }
+{
+    let view = LineView {
+        tree: *tree,
+        layer,
+        level,
+    };
+    let low = segment_key(layer, 0);
+    let high = segment_key(layer, u32::MAX);
+    match tree.range(alloc, store, &low, &high, u32::MAX) {
+        Err(e) => Err(e),
+        Ok(records) => view.all_segments(alloc, &records),
+    }
+}
+
+/// The key of the segment with an id.
+fn segment_key(layer: u8, id: u32) -> Key
+    ensures { result ≡ key_of layer id }
+{
+    Key {
+        layer: u16::from(layer),
+        part: 4,
+        code: 0,
+        depth: 0,
+        item: id,
+    }
+}
+
+/// Whether both ends of the segment are pixels of the level, which is at most 12.
+fn is_in_square(s: Seg, level: u8) -> bool
+    requires { level ≤ 12 }
+    ensures { result ≡ is_seg_in_square level s }
+{
+    let side = 1_u16 << level;
+    (s.x1 < side && s.y1 < side) && (s.x2 < side && s.y2 < side)
+}
+
+impl LineView {
+    /// The segment of an id. It reads at most 3 pages.
+    pub(crate) fn segment<S: PageStore>(&self, store: &mut S, id: u32) -> Result<Option<Seg>, Stop>
+        requires rooted { IsRooted (S.size store.old) self.now.tree }
+        ensures segment { IfOk result (λ o. (t : ℕ) (segs : SegMap) (cover : BlockSet) → HasLines (S.told store.old) self.now.tree self.now.layer self.now.level t segs cover → o ≡ finmap.get segs id) }
+        ensures inside { IfOk result (λ o. IfSome o (λ s. is_seg_in_square self.now.level s ≡ true)) }
+        ensures sound { IfErr result (λ e. (t : ℕ) (segs : SegMap) (cover : BlockSet) → HasLines (S.told store.old) self.now.tree self.now.layer self.now.level t segs cover → IsSound e) }
+        ensures cause { HasStopCause (S.faults store.old) (S.faults store.new) result }
+        ensures size { S.size store.new ≡ S.size store.old }
+        ensures told { S.told store.new ≡ S.told store.old }
+        ensures free { S.free store.new ≡ S.free store.old }
+        ensures later { S.later store.old store.new }
+        ensures reads { Tells (λ old new. new ≤ old + 3) (S.reads store.old) (S.reads store.new) }
+        ensures changed { S.changed store.new ≤ S.changed store.old }
+    {
+        let key = segment_key(self.layer, id);
+        match self.tree.get(store, &key) {
+            Err(e) => Err(e),
+            Ok(None) => Ok(None),
+            Ok(Some(value)) => match self.segment_said(&Record { key, value }) {
+                Some((_, s)) => Ok(Some(s)),
+                None => Err(DAMAGED),
+            },
+        }
+    }
+
+    /// The id and the segment that a record says, where both its ends are pixels of the level.
+    fn segment_said(&self, r: &Record) -> Option<(u32, Seg)>
+        ensures inside { IfSome result (λ v. is_seg_in_square self.now.level v.1 ≡ true) }
+        ensures one { (id : ℕ) (s : AnySeg) → r.now ≡ fact_record self.now.level self.now.layer (IsSegment id s) → FactFits self.now.level (IsSegment id s) → is_seg_in_square self.now.level s ≡ true → result ≡ Some (id, s) }
+    {
+        match read_segment(r) {
+            Some((id, s)) if is_in_square(s, self.level) => Some((id, s)),
+            _ => None,
+        }
+    }
+
+    /// The segments of these ids. It reads at most 3 pages for each.
+    pub(crate) fn segments<S: PageStore>(
+        &self,
+        alloc: Global,
+        store: &mut S,
+        ids: &[u32],
+    ) -> Result<SegList, Stop>
+        requires rooted { IsRooted (S.size store.old) self.now.tree }
+        ensures ids { IfOk result (λ list. ids_of list ≡ ids.now) }
+        ensures found { IfOk result (λ list. (t : ℕ) (segs : SegMap) (cover : BlockSet) → HasLines (S.told store.old) self.now.tree self.now.layer self.now.level t segs cover → All (λ e. finmap.get segs e.0 ≡ Some e.1) list) }
+        ensures inside { IfOk result (λ list. All (λ e. is_seg_in_square self.now.level e.1 ≡ true) list) }
+        ensures sound { IfErr result (λ e. (t : ℕ) (segs : SegMap) (cover : BlockSet) → HasLines (S.told store.old) self.now.tree self.now.layer self.now.level t segs cover → ((id : ℕ) → Contains ids.now id → (s : AnySeg) × (finmap.get segs id ≡ Some s)) → IsSound e) }
+        ensures cause { HasStopCause (S.faults store.old) (S.faults store.new) result }
+        ensures size { S.size store.new ≡ S.size store.old }
+        ensures told { S.told store.new ≡ S.told store.old }
+        ensures free { S.free store.new ≡ S.free store.old }
+        ensures later { S.later store.old store.new }
+        ensures reads { IfOk result (λ list. Tells (λ old new. new ≤ old + 3 * length list) (S.reads store.old) (S.reads store.new)) }
+        ensures changed { S.changed store.new ≤ S.changed store.old }
+    {
+        let mut list = SegList::new(alloc);
+        for id in ids {
+            match self.add_segment(store, &mut list, *id) {
+                Err(e) => return Err(e),
+                Ok(()) => {}
+            }
+        }
+        Ok(list)
+    }
+
+    /// Adds the segment of an id, which is there. It reads at most 3 pages.
+    fn add_segment<S: PageStore>(
+        &self,
+        store: &mut S,
+        list: &mut SegList,
+        id: u32,
+    ) -> Result<(), Stop>
+        requires rooted { IsRooted (S.size store.old) self.now.tree }
+        ensures added { OnOk result ((s : AnySeg) × (list.new ≡ list.old ++ (id, s) ∷ []) × (is_seg_in_square self.now.level s ≡ true) × ((t : ℕ) (segs : SegMap) (cover : BlockSet) → HasLines (S.told store.old) self.now.tree self.now.layer self.now.level t segs cover → finmap.get segs id ≡ Some s)) }
+        ensures sound { IfErr result (λ e. (t : ℕ) (segs : SegMap) (cover : BlockSet) → HasLines (S.told store.old) self.now.tree self.now.layer self.now.level t segs cover → (s : AnySeg) → finmap.get segs id ≡ Some s → IsSound e) }
+        ensures cause { HasStopCause (S.faults store.old) (S.faults store.new) result }
+        ensures size { S.size store.new ≡ S.size store.old }
+        ensures told { S.told store.new ≡ S.told store.old }
+        ensures free { S.free store.new ≡ S.free store.old }
+        ensures later { S.later store.old store.new }
+        ensures reads { Tells (λ old new. new ≤ old + 3) (S.reads store.old) (S.reads store.new) }
+        ensures changed { S.changed store.new ≤ S.changed store.old }
+    {
+        match self.segment(store, id) {
+            Err(e) => Err(e),
+            Ok(None) => Err(DAMAGED),
+            Ok(Some(s)) => match list.push(id, s) {
+                Ok(()) => Ok(()),
+                Err(_) => Err(Stop::Memory),
+            },
+        }
+    }
+
+    /// The segments that records say, one each, by their ids.
+    fn all_segments(&self, alloc: Global, records: &[Record]) -> Result<SegList, Stop>
+        ensures segments { IfOk result (λ list. (t : ℕ) (segs : SegMap) (cover : BlockSet) → IsLineMap self.now.level t segs cover → records.now ≡ map (fact_record self.now.level self.now.layer) (segment_facts segs) → list ≡ finmap.entries segs) }
+        ensures inside { IfOk result (λ list. All (λ e. is_seg_in_square self.now.level e.1 ≡ true) list) }
+        ensures order { IfOk result (λ list. Rises nat_cmp (ids_of list)) }
+        ensures sound { IfErr result (λ e. (t : ℕ) (segs : SegMap) (cover : BlockSet) → IsLineMap self.now.level t segs cover → records.now ≡ map (fact_record self.now.level self.now.layer) (segment_facts segs) → IsSound e) }
+        ensures no_fault { IsErrOf result Device → ⊥ }
+    {
+        let mut list = SegList::new(alloc);
+        let mut least = 0_u64;
+        for r in records {
+            let Some((id, s)) = self.segment_said(r) else {
+                return Err(DAMAGED);
+            };
+            if u64::from(id) < least {
+                return Err(DAMAGED);
+            }
+            match list.push(id, s) {
+                Ok(()) => least = u64::from(id) + 1,
+                Err(_) => return Err(Stop::Memory),
+            }
+        }
+        Ok(list)
+    }
+}

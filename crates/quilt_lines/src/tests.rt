@@ -1,0 +1,124 @@
+ghost use Rattle.std.specs.Prelude.{◌≡◌, IfOk};
+ghost use Rattle.quilt_types.specs.Plane.{IsBlock};
+ghost use Rattle.quilt_btree.specs.Trees.{IsRooted};
+
+use super::*;
+use quilt_btree::{Tree, records_ascend};
+use quilt_near::nearest;
+use quilt_record::{Record, pair_record, segment_record};
+use quilt_store::{MemStore, PageStore};
+use quilt_types::{Block, Pixel, Seg, Stop};
+use std::alloc::Global;
+use std::test::Fail;
+
+/// The quarters of the square of level 3, in the order of their codes.
+const TOP_LEFT: Block = Block {
+    x: 0,
+    y: 0,
+    side: 4,
+};
+
+const TOP_RIGHT: Block = Block {
+    x: 4,
+    y: 0,
+    side: 4,
+};
+
+const BOTTOM_LEFT: Block = Block {
+    x: 0,
+    y: 4,
+    side: 4,
+};
+
+const BOTTOM_RIGHT: Block = Block {
+    x: 4,
+    y: 4,
+    side: 4,
+};
+
+/// A segment along the upper border of the square of level 3.
+const BORDER: Seg = Seg {
+    x1: 0,
+    y1: 0,
+    x2: 7,
+    y2: 0,
+};
+
+/// A segment of one pixel, the last of that square.
+const CORNER: Seg = Seg {
+    x1: 7,
+    y1: 7,
+    x2: 7,
+    y2: 7,
+};
+
+/// A store of 16 pages and the tree of these records, whose keys ascend.
+fn planted(alloc: Global, records: &[Record]) -> Result<(MemStore, Tree), Fail>
+    ensures { IfOk result (λ both. IsRooted (⟦<MemStore as PageStore>⟧.size both.0) both.1) }
+{
+    let mut store = MemStore::new(alloc, 16)?;
+    let mut tree = Tree {
+        root: 0,
+        height: 0,
+        records: 0,
+    };
+    if records.len() > 512 || !records_ascend(records) {
+        return Err(Fail::from("records of a tree"));
+    }
+    match tree.insert_all(&mut store, records) {
+        Ok(()) => Ok((store, tree)),
+        Err(_) => Err(Fail::from("a store in memory")),
+    }
+}
+
+#[test]
+fn segments_and_the_nearest(rt: HostRuntime) -> Result<(), Fail> {
+    let records = [
+        pair_record(1, TOP_LEFT, 3, Some(5)),
+        pair_record(1, TOP_RIGHT, 3, Some(5)),
+        pair_record(1, BOTTOM_LEFT, 3, None),
+        pair_record(1, BOTTOM_RIGHT, 3, Some(9)),
+        segment_record(1, 5, BORDER),
+        segment_record(1, 9, CORNER),
+    ];
+    let (mut store, tree) = planted(rt.alloc(), &records)?;
+    assert_eq!(rt; segment(&mut store, &tree, 1, 3, 5)?, Some(BORDER));
+    assert_eq!(rt; segment(&mut store, &tree, 1, 3, 6)?, None);
+    assert_eq!(rt; segment(&mut store, &tree, 2, 3, 5)?, None);
+    let all = scan(rt.alloc(), &mut store, &tree, 1, 3)?;
+    assert_eq!(rt; all.items(), [(5, BORDER), (9, CORNER)].as_slice());
+    let view = LineView::new(&tree, 1, 3);
+    let found = nearest(rt.alloc(), &view, &mut store, Pixel { x: 1, y: 5 })?;
+    let (id, far) = found.ok_or("a segment is near")?;
+    assert_eq!(rt; id, 5);
+    assert_eq!(rt; far.num(), 25);
+    let found = nearest(rt.alloc(), &view, &mut store, Pixel { x: 5, y: 7 })?;
+    let (id, far) = found.ok_or("a segment is near")?;
+    assert_eq!(rt; id, 9);
+    assert_eq!(rt; far.num(), 4);
+    Ok(())
+}
+
+#[test]
+fn damaged_layers(rt: HostRuntime) -> Result<(), Fail> {
+    let damaged = Some(Stop::Damaged { page: 0 });
+    let whole = Block {
+        x: 0,
+        y: 0,
+        side: 8,
+    };
+    let at = Pixel { x: 1, y: 1 };
+    let (mut store, tree) = planted(rt.alloc(), &[pair_record(1, whole, 3, Some(5))])?;
+    let view = LineView::new(&tree, 1, 3);
+    assert_eq!(rt; nearest(rt.alloc(), &view, &mut store, at).err(), damaged);
+    let far = Seg { x2: 8, ..BORDER };
+    let (mut store, tree) = planted(rt.alloc(), &[segment_record(1, 5, far)])?;
+    let view = LineView::new(&tree, 1, 3);
+    assert_eq!(rt; segment(&mut store, &tree, 1, 3, 5).err(), damaged);
+    assert_eq!(rt; scan(rt.alloc(), &mut store, &tree, 1, 3).err(), damaged);
+    assert_eq!(rt; nearest(rt.alloc(), &view, &mut store, at).err(), damaged);
+    let elsewhere = Tree { root: 16, ..tree };
+    let view = LineView::new(&elsewhere, 1, 3);
+    assert_eq!(rt; nearest(rt.alloc(), &view, &mut store, at).err(), damaged);
+    Ok(())
+}

@@ -1,0 +1,98 @@
+ghost use Rattle.std.specs.Prelude.{◌≡◌, ◌≤◌, true};
+ghost use Rattle.std.proofs.Common.{◌∙◌};
+ghost use Rattle.quilt_btree.specs.Trees.{IsRooted};
+ghost use Rattle.quilt_lines.specs.Layers.{ShowsLines};
+
+use quilt_btree::Tree;
+use quilt_near::{Part, SegBlocks};
+use quilt_store::PageStore;
+use quilt_types::{Block, Stop};
+use std::alloc::Global;
+
+/// What is answered where records are none of a line layer.
+pub(crate) const DAMAGED: Stop = Stop::Damaged { page: 0 };
+
+/// A line layer of a map: the tree of the map, the layer's number, from 1 to 255, and the level of the map, from 1 to 12. It
+/// holds no store.
+#[derive(Clone, Copy)]
+pub struct LineView {
+    pub tree: Tree,
+    pub layer: u8,
+    pub level: u8,
+    ghost has_layer: { (1 ≤ layer) × (layer ≤ 255) },
+    ghost has_level: { (1 ≤ level) × (level ≤ 12) },
+}
+
+impl LineView {
+    /// The layer with a number, from 1 to 255, of a map of a level, from 1 to 12. It takes no memory.
+    pub fn new(tree: &Tree, layer: u8, level: u8) -> LineView
+        requires layer { 1 ≤ layer }
+        requires level { (1 ≤ level) × (level ≤ 12) }
+        ensures tree { result.tree ≡ tree.now }
+        ensures layer { result.layer ≡ layer }
+        ensures level { result.level ≡ level }
+    {
+        LineView {
+            tree: *tree,
+            layer,
+            level,
+        }
+    }
+}
+
+/// Whether the numbers of a tree may be those of one in a store of so many pages.
+fn is_rooted(tree: &Tree, pages: u32) -> bool
+    requires { (16 ≤ pages) × (pages ≤ 30000) }
+    ensures yes { result ≡ true → IsRooted pages tree.now }
+    ensures no { IsRooted pages tree.now → result ≡ true }
+{
+    if tree.height == 0 {
+        return tree.root == 0 && tree.records == 0;
+    }
+    tree.height <= 3
+        && 1 <= tree.root
+        && tree.root < pages
+        && 1 <= tree.records
+        && tree.records <= 64 * (pages - 8)
+}
+
+impl<S: PageStore> SegBlocks<S> for LineView {
+    ghost level_of = { λ v. v.level };
+
+    ghost shows = { λ v s l. ShowsLines (S.told s) v.tree v.layer v.level l };
+
+    fn level(&self) -> u8 {
+        self.level
+    }
+
+    fn part(&self, alloc: Global, store: &mut S, b: Block) -> Result<Part, Stop> {
+        if !is_rooted(&self.tree, store.pages()) {
+            return Err(DAMAGED);
+        }
+        match self.ids_at(alloc, store, b) {
+            Err(e) => Err(e),
+            Ok(None) => {
+                if b.side <= 1 {
+                    return Err(DAMAGED);
+                }
+                Ok(Part::Split)
+            }
+            Ok(Some(ids)) => match self.segments(alloc, store, &ids) {
+                Err(e) => Err(e),
+                Ok(list) => Ok(Part::Leaf(list)),
+            },
+        }
+    }
+
+    ghost lines = { λ v s l h. record { inside = h.has.spelled.valid.inside; each = h.has.spelled.valid.each; once = h.has.spelled.valid.once } };
+
+    ghost same = { λ v s t l e h. record {
+      threshold = h.threshold;
+      has = record {
+        records = h.has.records;
+        is_tree = record { pages = h.has.is_tree.pages; is_told = e ∙ h.has.is_tree.is_told; visited = h.has.is_tree.visited; walk = h.has.is_tree.walk };
+        spelled = h.has.spelled;
+      };
+      rooted = h.rooted;
+    } };
+}
