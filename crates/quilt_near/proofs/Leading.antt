@@ -36,7 +36,7 @@ IsReal p es (Some r) = IsOne p es r
 abbrev pub far_of : Pixel → ℕ × Seg → ℕ × Fraction
 far_of p e = (e.0, square_distance p e.1)
 
-positive : (p : Pixel) (s : Seg) → 0 < (square_distance p s).den
+pub positive : (p : Pixel) (s : Seg) → 0 < (square_distance p s).den
 positive p s = (nearest_point p s).1.positive
 
 pub real_positive : (p : Pixel) (es : List (ℕ × Seg)) (r : ℕ × Fraction) → IsOne p es r → 0 < r.1.den
@@ -45,10 +45,10 @@ real_positive p es r h = subst (λ (z : Fraction). 0 < z.den) h.distance (positi
 not_less : (a b : Fraction) → is_less a b ≡ true → UpTo b a → ⊥
 not_less a b h u = let lt = ltb-true _ _ h in let c = u.cross in omega arith
 
-leads_itself : (a : ℕ × Fraction) → Leads a a
+pub leads_itself : (a : ℕ × Fraction) → Leads a a
 leads_itself a = record { near = up_to_itself a.1; first = λ _. omega arith }
 
-leads_trans : (a b c : ℕ × Fraction) → 0 < a.1.den → 0 < b.1.den → 0 < c.1.den → Leads a b → Leads b c → Leads a c
+pub leads_trans : (a b c : ℕ × Fraction) → 0 < a.1.den → 0 < b.1.den → 0 < c.1.den → Leads a b → Leads b c → Leads a c
 leads_trans a b c pa pb pc h k = record {
   near = up_to_trans a.1 b.1 c.1 pb h.near k.near;
   first = λ u.
@@ -59,13 +59,13 @@ leads_trans a b c pa pb pc h k = record {
       omega arith;
 }
 
-first_leads : (a b : ℕ × Fraction) (s t u : Bool) → is_less a.1 b.1 ≡ s → is_less b.1 a.1 ≡ t → nat_le a.0 b.0 ≡ u → (s || (not t && u)) ≡ true → Leads a b
+pub first_leads : (a b : ℕ × Fraction) (s t u : Bool) → is_less a.1 b.1 ≡ s → is_less b.1 a.1 ≡ t → nat_le a.0 b.0 ≡ u → (s || (not t && u)) ≡ true → Leads a b
 first_leads a b true t u e f g h = record { near = up_to_if_less a.1 b.1 e; first = λ k. absurd (not_less a.1 b.1 e k) }
 first_leads a b false false true e f g h = record { near = up_to_unless_less b.1 a.1 f; first = λ _. leb-true a.0 b.0 g }
 first_leads a b false false false e f g h = cc
 first_leads a b false true u e f g h = cc
 
-last_leads : (a b : ℕ × Fraction) (s t u : Bool) → is_less a.1 b.1 ≡ s → is_less b.1 a.1 ≡ t → nat_le a.0 b.0 ≡ u → (s || (not t && u)) ≡ false → Leads b a
+pub last_leads : (a b : ℕ × Fraction) (s t u : Bool) → is_less a.1 b.1 ≡ s → is_less b.1 a.1 ≡ t → nat_le a.0 b.0 ≡ u → (s || (not t && u)) ≡ false → Leads b a
 last_leads a b true t u e f g h = cc
 last_leads a b false true u e f g h = record { near = up_to_unless_less a.1 b.1 e; first = λ k. absurd (not_less b.1 a.1 f k) }
 last_leads a b false false false e f g h = record { near = up_to_unless_less a.1 b.1 e; first = λ _. let l = leb-false a.0 b.0 g in omega arith }

@@ -1,0 +1,27 @@
+-- What the opening of a block does to a search for the first k.
+use Rattle.std.specs.Prelude.{◌≡◌, ℕ, ◌+◌, ◌≤◌, List, ◌++◌, map, fold, Option}
+use Rattle.std.specs.List.Sorted.{IsPermutation}
+use Rattle.quilt_types.specs.declared.plane.Block.{Block}
+use Rattle.quilt_types.specs.declared.plane.Pixel.{Pixel}
+use Rattle.quilt_types.specs.Plane.{quarters_of}
+use Rattle.quilt_types.specs.Fractions.{Fraction}
+use Rattle.quilt_store.specs.Store.{Tells}
+use Rattle.quilt_near.specs.Choices.{placed_at}
+use Rattle.quilt_near.specs.Lines.{Lines}
+use Rattle.quilt_near.specs.Parts.{IsPart, IsPartOf, pages_for}
+use Rattle.quilt_near.specs.declared.part.Part.{Part}
+use Rattle.quilt_near.specs.declared.part.Part.TheVariants.{Split, Leaf}
+use Rattle.quilt_rank.specs.Ranks.{with_seg}
+
+-- what the opening of a block does to the queue and the first k so far
+abbrev pub After : Pixel → ℕ → Block → Part → List (ℕ × Block) → List (ℕ × Block) → List (ℕ × Fraction) → List (ℕ × Fraction) → Type 0
+After p k b Split old new was now = IsPermutation (map (placed_at p) (quarters_of b) ++ old) new × (now ≡ was)
+After p k b (Leaf list) old new was now = (new ≡ old) × (now ≡ fold (with_seg p k) was list)
+
+-- a block was opened: what it was found to be, where the layer shows its lines, and what it cost
+pub record IsOpened (n : ℕ) (p : Pixel) (k : ℕ) (b : Block) (shown : Lines → Type 0) (old new : List (ℕ × Block)) (was now : List (ℕ × Fraction)) (reads_old reads_new : Option ℕ) : Type 0 where
+  pub part : Part
+  pub found : (l : Lines) → shown l → IsPart l b part
+  pub found_of : IsPartOf n b part
+  pub after : After p k b part old new was now
+  pub reads : Tells (λ before after. after ≤ before + pages_for part) reads_old reads_new

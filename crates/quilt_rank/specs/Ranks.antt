@@ -1,0 +1,26 @@
+-- Lists of ids with distances, in the order of distance and then id.
+use Rattle.std.specs.Prelude.{ℕ, ◌*◌, Bool, ◌&&◌, nat_lt, List, [], ◌∷◌, length, take, ◌==◌, if◌then◌else◌}
+use Rattle.quilt_types.specs.declared.plane.Pixel.{Pixel}
+use Rattle.quilt_types.specs.declared.plane.Seg.{Seg}
+use Rattle.quilt_types.specs.Fractions.{Fraction}
+use Rattle.quilt_types.specs.Segments.{square_distance}
+use Rattle.quilt_types.specs.Ranking.{comes_first}
+
+-- an id with its distance comes to its place, unless the id is met on the way
+abbrev pub put : List (ℕ × Fraction) → ℕ × Fraction → List (ℕ × Fraction)
+put [] e = e ∷ []
+put (f ∷ fs) e = if f.0 == e.0 then f ∷ fs else if comes_first e f then e ∷ f ∷ fs else f ∷ put fs e
+
+-- the first k after one more segment
+abbrev pub with_seg : Pixel → ℕ → List (ℕ × Fraction) → ℕ × Seg → List (ℕ × Fraction)
+with_seg p k rs e = take k (put rs (e.0, square_distance p e.1))
+
+-- the distance of the last one
+abbrev pub last_far : List (ℕ × Fraction) → Fraction
+last_far [] = record { num = 0; den = 1 }
+last_far (r ∷ []) = r.1
+last_far (r ∷ s ∷ rs) = last_far (s ∷ rs)
+
+-- there are k, and a whole distance is greater than that of the last
+abbrev pub is_past : ℕ → List (ℕ × Fraction) → ℕ → Bool
+is_past k rs d = (length rs == k) && nat_lt (last_far rs).num (d * (last_far rs).den)

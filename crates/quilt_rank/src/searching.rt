@@ -1,0 +1,111 @@
+ghost use Rattle.std.specs.Prelude.{◌≡◌, ℕ, ◌+◌, ◌<◌, ◌≤◌, true, fold, length, All, IfOk, IfErr, OnOk};
+ghost use Rattle.quilt_types.specs.Plane.{IsBlock};
+ghost use Rattle.quilt_types.specs.Quadtrees.{is_reached, reach};
+ghost use Rattle.quilt_types.specs.Ranking.{ranked as ranked_of};
+ghost use Rattle.quilt_store.specs.Store.{Tells};
+ghost use Rattle.quilt_near.specs.Budgets.{is_close};
+ghost use Rattle.quilt_near.specs.Lines.{Lines};
+ghost use Rattle.quilt_near.specs.Parts.{HasStopCause, IsSound};
+ghost use Rattle.quilt_rank.specs.Ranks.{with_seg, last_far};
+ghost use Rattle.quilt_rank.specs.Opened.{IsOpened};
+
+use crate::ranks::RankList;
+use quilt_near::{Part, Queue, SegBlocks, block_distance, push_quarters, sqdist};
+use quilt_store::PageStore;
+use quilt_types::{Block, Pixel, Seg, Stop};
+use std::alloc::{AllocError, Global};
+
+/// Puts the segments of a list to their places among the first k.
+fn rank_all(ranks: &mut RankList, list: &[(u32, Seg)], p: Pixel, k: usize) -> Result<(), AllocError>
+    requires x { p.x < 8192 }
+    requires y { p.y < 8192 }
+    requires ends { All (λ e. (e.1.x1 < 8192) × (e.1.y1 < 8192) × (e.1.x2 < 8192) × (e.1.y2 < 8192)) list.now }
+    ensures { OnOk result (ranks.new ≡ fold (with_seg p k) ranks.old list.now) }
+{
+    for (id, s) in list {
+        ranks.put(*id, sqdist(p, *s), k)?;
+    }
+    Ok(())
+}
+
+/// Opens a block: its segments are put to their places, or its quarters wait.
+fn open<S: PageStore, B: SegBlocks<S>>(
+    alloc: Global,
+    blocks: &B,
+    store: &mut S,
+    queue: &mut Queue,
+    ranks: &mut RankList,
+    p: Pixel,
+    k: usize,
+    b: Block,
+) -> Result<(), Stop>
+    requires x { p.x < 8192 }
+    requires y { p.y < 8192 }
+    requires low { B.level_of blocks.now ≤ 12 }
+    requires block { IsBlock (B.level_of blocks.now) b }
+    requires reached { (l : Lines) → B.shows blocks.now store.old l → is_reached l.cover b ≡ true }
+    ensures opened { OnOk result (IsOpened (B.level_of blocks.now) p k b (B.shows blocks.now store.old) queue.old queue.new ranks.old ranks.new (S.reads store.old) (S.reads store.new)) }
+    ensures sound { IfErr result (λ e. (l : Lines) → B.shows blocks.now store.old l → IsSound e) }
+    ensures cause { HasStopCause (S.faults store.old) (S.faults store.new) result }
+    ensures size { S.size store.new ≡ S.size store.old }
+    ensures told { S.told store.new ≡ S.told store.old }
+    ensures free { S.free store.new ≡ S.free store.old }
+    ensures later { S.later store.old store.new }
+    ensures changed { S.changed store.new ≤ S.changed store.old }
+{
+    match blocks.part(alloc, store, b) {
+        Err(e) => Err(e),
+        Ok(Part::Leaf(list)) => match rank_all(ranks, list.items(), p, k) {
+            Err(_) => Err(Stop::Memory),
+            Ok(()) => Ok(()),
+        },
+        Ok(Part::Split) => match push_quarters(queue, p, b) {
+            Err(_) => Err(Stop::Memory),
+            Ok(()) => Ok(()),
+        },
+    }
+}
+
+/// The first k segments by distance from the pixel and then id, with their distances: all where there are fewer. Where it
+/// gives k it opens no block that is farther than the last, and none twice.
+pub fn ranked<S: PageStore, B: SegBlocks<S>>(
+    alloc: Global,
+    blocks: &B,
+    store: &mut S,
+    p: Pixel,
+    k: u32,
+) -> Result<RankList, Stop>
+    requires some { 1 ≤ k }
+    requires x { p.x < 8192 }
+    requires y { p.y < 8192 }
+    ensures ranked { IfOk result (λ list. (l : Lines) → B.shows blocks.now store.old l → list ≡ ranked_of l.segs p k) }
+    ensures reads { IfOk result (λ list. (l : Lines) → B.shows blocks.now store.old l → length list ≡ k → Tells (λ old new. new ≤ old + reach (B.level_of blocks.now) l.segs l.cover (is_close p (last_far list))) (S.reads store.old) (S.reads store.new)) }
+    ensures sound { IfErr result (λ e. (l : Lines) → B.shows blocks.now store.old l → IsSound e) }
+    ensures cause { HasStopCause (S.faults store.old) (S.faults store.new) result }
+    ensures size { S.size store.new ≡ S.size store.old }
+    ensures told { S.told store.new ≡ S.told store.old }
+    ensures free { S.free store.new ≡ S.free store.old }
+    ensures later { S.later store.old store.new }
+    ensures changed { S.changed store.new ≤ S.changed store.old }
+{
+    let side = 1 << blocks.level();
+    let whole = Block { x: 0, y: 0, side };
+    let mut queue = Queue::new(alloc);
+    match queue.push(block_distance(p, whole), whole) {
+        Err(_) => return Err(Stop::Memory),
+        Ok(()) => {}
+    }
+    let mut ranks = RankList::new(alloc);
+    while let Some((distance, block)) = queue.pop() {
+        if ranks.is_past(k as usize, distance) {
+            break;
+        }
+        match open(
+            alloc, blocks, store, &mut queue, &mut ranks, p, k as usize, block,
+        ) {
+            Err(e) => return Err(e),
+            Ok(()) => {}
+        }
+    }
+    Ok(ranks)
+}

@@ -1,0 +1,46 @@
+use Rattle.std.proofs.Common.{◌+◌, ◌≤◌, Some, None, fold, length, eqb-true, refl, sym, ◌∙◌, ap, subst, arith}
+use Rattle.quilt_store.specs.Store.{Tells}
+use Rattle.quilt_loc.proofs.Blocks.{IsBlock-up}
+use Rattle.quilt_near.specs.Parts.{IsPart, IsPartOf, pages_for}
+use Rattle.quilt_near.specs.declared.part.Part.{Part}
+use Rattle.quilt_near.specs.declared.part.Part.TheVariants.{Split, Leaf}
+use Rattle.quilt_near.proofs.Telling.{tells_same}
+use Rattle.quilt_select.specs.Descents.{with_seg}
+use Rattle.quilt_select.proofs.Descending.{some_length}
+use Rattle.quilt_select.proofs.descent.open.Goals as goal
+
+pub returns-then-is_empty-clause-opened : goal.returns-then-is_empty-clause-opened
+returns-then-is_empty-clause-opened g c = record {
+  part = None;
+  found = λ l s. tt;
+  after = (eqb-true (length c.args.near.now) 0 (sym c.is_empty.ensures ∙ c.if-is_empty.true), refl, refl);
+  reads = tells_same (λ x y. y ≤ x + 0) (λ x. omega arith) (g.S.PageStore.reads c.args.store.now);
+}
+
+pub returns-in-Ok-Leaf-clause-opened : goal.returns-in-Ok-Leaf-clause-opened
+returns-in-Ok-Leaf-clause-opened g c = record {
+  part = Some (Leaf c.in-Ok-Leaf.list);
+  found = λ l s. subst (λ (part : Part). IsPart l c.args.b part) c.in-Ok-Leaf.field-0-is (c.in-Ok-Leaf.ensures.part l s);
+  after = (
+    some_length (length c.args.near.now) (sym c.is_empty.ensures ∙ c.if-is_empty.false),
+    refl,
+    c.in-Ok.ensures ∙ ap (fold (with_seg c.args.near.now) c.args.found.now.entries) c.items.ensures,
+  );
+  reads = subst (λ (part : Part). Tells (λ old new. new ≤ old + pages_for part) (g.S.PageStore.reads c.args.store.now) (g.S.PageStore.reads c.part.new.store)) c.in-Ok-Leaf.field-0-is c.in-Ok-Leaf.ensures.reads;
+}
+
+pub push_quarters-requires-clause-valid : goal.push_quarters-requires-clause-valid
+push_quarters-requires-clause-valid g c = IsBlock-up _ 12 _ c.requires.low c.requires.block
+
+pub returns-clause-opened : goal.returns-clause-opened
+returns-clause-opened g c = record {
+  part = Some Split;
+  found = λ l s. subst (λ (part : Part). IsPart l c.args.b part) c.in-Ok-Split.field-0-is (c.in-Ok-Split.ensures.part l s);
+  after = (
+    some_length (length c.args.near.now) (sym c.is_empty.ensures ∙ c.if-is_empty.false),
+    subst (λ (part : Part). IsPartOf (g.B.SegBlocks.level_of c.args.blocks.now) c.args.b part) c.in-Ok-Split.field-0-is c.in-Ok-Split.ensures.part_of,
+    c.in-Ok-push_quarters.ensures,
+    refl,
+  );
+  reads = subst (λ (part : Part). Tells (λ old new. new ≤ old + pages_for part) (g.S.PageStore.reads c.args.store.now) (g.S.PageStore.reads c.part.new.store)) c.in-Ok-Split.field-0-is c.in-Ok-Split.ensures.reads;
+}

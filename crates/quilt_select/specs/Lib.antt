@@ -1,0 +1,4 @@
+pub mod Clips
+pub mod Descents
+pub mod Regions
+pub mod Shares

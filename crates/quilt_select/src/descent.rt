@@ -1,0 +1,180 @@
+ghost use Rattle.std.specs.Prelude.{◌≡◌, ℕ, ◌+◌, ◌<◌, ◌≤◌, true, ◌++◌, filter, fold, length, All, IfOk, IfErr, OnOk};
+ghost use Rattle.std.specs.Ordering.{nat_cmp};
+ghost use Rattle.std.specs.BTreeMap.{IsOrdered};
+ghost use Rattle.std.specs.FinMap as finmap;
+ghost use Rattle.quilt_types.specs.Plane.{IsBlock, is_window};
+ghost use Rattle.quilt_types.specs.Quadtrees.{is_reached, reach};
+ghost use Rattle.quilt_store.specs.Store.{Tells};
+ghost use Rattle.quilt_near.specs.Lines.{Lines};
+ghost use Rattle.quilt_near.specs.Parts.{HasStopCause, IsSound};
+ghost use Rattle.quilt_select.specs.Shares.{shares as shares_of, holds_any, meets_any as meets_any_of};
+ghost use Rattle.quilt_select.specs.Descents.{four, with_seg, IsOpened};
+
+use crate::stack::Stack;
+use quilt_clip::clip;
+use quilt_loc::quarters;
+use quilt_near::{Part, SegBlocks, SegList};
+use quilt_store::PageStore;
+use quilt_types::{Block, Seg, Stop, Window};
+use std::alloc::{AllocError, Global};
+use std::collections::BTreeMap;
+
+/// Whether the block and the window have a pixel in common.
+fn shares(b: Block, w: Window) -> bool
+    ensures { result ≡ shares_of b w }
+{
+    (b.x as u32) < w.x as u32 + w.w as u32
+        && (w.x as u32) < b.x as u32 + b.side as u32
+        && (b.y as u32) < w.y as u32 + w.h as u32
+        && (w.y as u32) < b.y as u32 + b.side as u32
+}
+
+/// The windows that have a pixel in common with the block.
+fn sharing(alloc: Global, near: &[Window], b: Block) -> Result<Vec<Window>, AllocError>
+    ensures { IfOk result (λ v. v.items ≡ filter (shares_of b) near.now) }
+{
+    let mut list = Vec::new(alloc);
+    for w in near {
+        if shares(b, *w) {
+            list.push(*w)?;
+        }
+    }
+    Ok(list)
+}
+
+/// Whether the segment meets the closed rectangle of one of the windows.
+fn meets_any(s: Seg, near: &[Window]) -> bool
+    ensures { result ≡ meets_any_of near.now s }
+{
+    for w in near {
+        if clip(s, *w).is_some() {
+            return true;
+        }
+    }
+    false
+}
+
+/// Puts those segments of a list that meet one of the windows among the found ones.
+fn gather(
+    found: &mut BTreeMap<u32, Seg>,
+    list: &[(u32, Seg)],
+    near: &[Window],
+) -> Result<(), AllocError>
+    ensures { OnOk result (found.new.entries ≡ fold (with_seg near.now) found.old.entries list.now) }
+{
+    for (id, s) in list {
+        if meets_any(*s, near) {
+            found.insert(*id, *s)?;
+        }
+    }
+    Ok(())
+}
+
+/// Puts the quarters of a block on the stack, each with its windows.
+fn push_quarters(
+    alloc: Global,
+    stack: &mut Stack,
+    b: Block,
+    near: &[Window],
+) -> Result<(), AllocError>
+    requires valid { IsBlock 12 b }
+    requires wide { 1 < b.side }
+    ensures { OnOk result (stack.new ≡ four b near.now ++ stack.old) }
+{
+    let [first, right, under, last] = quarters(b);
+    stack.push(last, sharing(alloc, near, last)?)?;
+    stack.push(under, sharing(alloc, near, under)?)?;
+    stack.push(right, sharing(alloc, near, right)?)?;
+    stack.push(first, sharing(alloc, near, first)?)?;
+    Ok(())
+}
+
+/// Opens a block that came out: its segments are gathered, or its quarters wait. A block without windows stays shut.
+fn open<S: PageStore, B: SegBlocks<S>>(
+    alloc: Global,
+    blocks: &B,
+    store: &mut S,
+    stack: &mut Stack,
+    found: &mut BTreeMap<u32, Seg>,
+    b: Block,
+    near: &[Window],
+) -> Result<(), Stop>
+    requires low { B.level_of blocks.now ≤ 12 }
+    requires block { IsBlock (B.level_of blocks.now) b }
+    requires reached { (l : Lines) → B.shows blocks.now store.old l → is_reached l.cover b ≡ true }
+    ensures opened { OnOk result (IsOpened b near.now (B.shows blocks.now store.old) stack.old stack.new found.old.entries found.new.entries (S.reads store.old) (S.reads store.new)) }
+    ensures sound { IfErr result (λ e. (l : Lines) → B.shows blocks.now store.old l → IsSound e) }
+    ensures cause { HasStopCause (S.faults store.old) (S.faults store.new) result }
+    ensures size { S.size store.new ≡ S.size store.old }
+    ensures told { S.told store.new ≡ S.told store.old }
+    ensures free { S.free store.new ≡ S.free store.old }
+    ensures later { S.later store.old store.new }
+    ensures changed { S.changed store.new ≤ S.changed store.old }
+{
+    if near.is_empty() {
+        return Ok(());
+    }
+    match blocks.part(alloc, store, b) {
+        Err(e) => Err(e),
+        Ok(Part::Leaf(list)) => match gather(found, list.items(), near) {
+            Err(_) => Err(Stop::Memory),
+            Ok(()) => Ok(()),
+        },
+        Ok(Part::Split) => match push_quarters(alloc, stack, b, near) {
+            Err(_) => Err(Stop::Memory),
+            Ok(()) => Ok(()),
+        },
+    }
+}
+
+/// The found segments as a list.
+fn listed(alloc: Global, found: &BTreeMap<u32, Seg>) -> Result<SegList, AllocError>
+    ensures list { IfOk result (λ list. list ≡ found.now.entries) }
+    ensures ordered { IsOrdered nat_cmp found.now }
+{
+    let mut list = SegList::new(alloc);
+    for (id, s) in found {
+        list.push(*id, *s)?;
+    }
+    Ok(list)
+}
+
+/// The segments that meet the closed rectangle of one of the windows, by id. It opens no block without a pixel of a
+/// window, and none twice.
+pub fn select<S: PageStore, B: SegBlocks<S>>(
+    alloc: Global,
+    blocks: &B,
+    store: &mut S,
+    windows: Vec<Window>,
+) -> Result<SegList, Stop>
+    requires { All (λ w. is_window (B.level_of blocks.now) w ≡ true) windows.items }
+    ensures level { B.level_of blocks.now ≤ 12 }
+    ensures selected { IfOk result (λ list. (l : Lines) → B.shows blocks.now store.old l → list ≡ filter (λ e. meets_any_of windows.items e.1) (finmap.entries l.segs)) }
+    ensures reads { IfOk result (λ _. (l : Lines) → B.shows blocks.now store.old l → Tells (λ old new. new ≤ old + reach (B.level_of blocks.now) l.segs l.cover (holds_any windows.items)) (S.reads store.old) (S.reads store.new)) }
+    ensures sound { IfErr result (λ e. (l : Lines) → B.shows blocks.now store.old l → IsSound e) }
+    ensures cause { HasStopCause (S.faults store.old) (S.faults store.new) result }
+    ensures size { S.size store.new ≡ S.size store.old }
+    ensures told { S.told store.new ≡ S.told store.old }
+    ensures free { S.free store.new ≡ S.free store.old }
+    ensures later { S.later store.old store.new }
+    ensures changed { S.changed store.new ≤ S.changed store.old }
+{
+    let side = 1 << blocks.level();
+    let whole = Block { x: 0, y: 0, side };
+    let mut stack = Stack::new(alloc);
+    match stack.push(whole, windows) {
+        Err(_) => return Err(Stop::Memory),
+        Ok(()) => {}
+    }
+    let mut found = BTreeMap::new(alloc);
+    while let Some((block, near)) = stack.pop() {
+        match open(alloc, blocks, store, &mut stack, &mut found, block, &near) {
+            Err(e) => return Err(e),
+            Ok(()) => {}
+        }
+    }
+    match listed(alloc, &found) {
+        Err(_) => Err(Stop::Memory),
+        Ok(list) => Ok(list),
+    }
+}
