@@ -8,7 +8,8 @@ use Rattle.quilt_loc.proofs.Quartered.{IsQuarter, quarters_are, side_le}
 use Rattle.quilt_blocks.specs.declared.leaf.Leaf.{Leaf}
 use Rattle.quilt_blocks.specs.Cutting.{pair_of}
 use Rattle.quilt_blocks.specs.Listing.{pairs_of}
-use Rattle.quilt_audit.specs.Checking.{AreSiblings}
+use Rattle.quilt_audit.specs.Covers.{AreFour}
+use Rattle.quilt_audit.specs.Regions.{AreSiblings}
 
 -- the parent of a block that is not the whole square
 pub record IsParent (n : ℕ) (b p : Block) : Type 0 where
@@ -81,3 +82,23 @@ siblings_are n a b c d w p qs z s is qs_are = record {
         e ∙ ap (λ (b : Block). let y : Block × ℕ = (get_or (quarters_of b) i z, w.1) in y) whole
         ∙ ap (λ (l : List Block). let y : Block × ℕ = (get_or l i z, w.1) in y) (sym qs_are)
         ∙ ap (λ (k : ℕ). let y : Block × ℕ = (get_or qs i z, k) in y) colour
+
+-- four blocks of the colour 0
+abbrev uncoloured : Block → Leaf
+uncoloured b = record { block = b; colour = record { 0 = 0 } }
+
+pub siblings_four : (n : ℕ) (a b c d : Block) (p q r s : Leaf) → p ≡ uncoloured a → q ≡ uncoloured b → r ≡ uncoloured c → s ≡ uncoloured d → (w : Block × ℕ) → AreSiblings n (p ∷ q ∷ r ∷ s ∷ []) w
+    → AreFour n (a ∷ b ∷ c ∷ d ∷ []) w.0
+siblings_four n a b c d p q r s ep eq er es w h = record {
+  block = h.block;
+  wide = h.wide;
+  quarters = sym (ap (map (λ (x : Block × ℕ). x.0)) h.quarters) ∙ (λ i. (ep i).block ∷ (eq i).block ∷ (er i).block ∷ (es i).block ∷ []);
+}
+
+pub four_siblings : (n : ℕ) (a b c d : Block) (p q r s : Leaf) → p ≡ uncoloured a → q ≡ uncoloured b → r ≡ uncoloured c → s ≡ uncoloured d → (w : Block) → AreFour n (a ∷ b ∷ c ∷ d ∷ []) w
+    → AreSiblings n (p ∷ q ∷ r ∷ s ∷ []) (w, 0)
+four_siblings n a b c d p q r s ep eq er es w h = record {
+  block = h.block;
+  wide = h.wide;
+  quarters = (λ i. pair_of (ep i) ∷ pair_of (eq i) ∷ pair_of (er i) ∷ pair_of (es i) ∷ []) ∙ ap (map (λ (z : Block). let x : Block × ℕ = (z, 0) in x)) (sym h.quarters);
+}

@@ -22,7 +22,7 @@ use Rattle.quilt_blocks.proofs.Cuts.{leaves_run, leaves_members, leaf_is}
 use Rattle.quilt_blocks.proofs.Merging.{IsGrowing-push, IsUnmerged-end}
 use Rattle.quilt_spell.proofs.Spelling.{all_from}
 use Rattle.quilt_region.specs.Regions.{leaf_record}
-use Rattle.quilt_audit.specs.Checking.{HasBlocks, AreLaid, nothing, no_leaves, EndsIn, AreSiblings}
+use Rattle.quilt_audit.specs.Regions.{HasBlocks, AreLaid, nothing, no_leaves, EndsIn, AreSiblings}
 use Rattle.quilt_audit.proofs.Lists.{last_cases, in_front, at_last, same_tail}
 
 -- ---- the records of blocks
@@ -140,7 +140,7 @@ leaf_colour form n g e h c =
     (⊎_elim (λ lt. h.colours i 0 lt) (λ past. subst (λ (x : ℕ). x < colours form) (sym (get_or_past g i 0 past)) (some_colour form)) (cases_lt i (length g)))
 
 -- the quarter that holds a pixel of a block
-quarter_held : (b : Block) (h : ℕ) (p : Pixel) → b.side ≡ h + h → h ≡ b.side / 2 → Holds b p → (q : Block) × Contains (quarters_of b) q × Holds q p
+pub quarter_held : (b : Block) (h : ℕ) (p : Pixel) → b.side ≡ h + h → h ≡ b.side / 2 → Holds b p → (q : Block) × Contains (quarters_of b) q × Holds q p
 quarter_held b h p e half held =
     let l = held.left in
     let r = held.right in

@@ -78,6 +78,10 @@ module _ {X : Type 0} where
   rises_behind R [] ys h = h
   rises_behind R (z ∷ zs) ys h = rises_behind R zs ys h.1
 
+  pub rises_front : (R : X → X → Ordering) (xs ys : List X) → Rises R (xs ++ ys) → Rises R xs
+  rises_front R [] ys h = tt
+  rises_front R (z ∷ zs) ys h = (λ y c. h.0 y (Contains-append_left zs ys y c), rises_front R zs ys h.1)
+
   -- one element more at the front
   pub take_cases : (xs : List X) (i : ℕ) (e x : X) → i < length xs → e ≡ get_or xs i e → Contains (take (i + 1) xs) x → Contains (take i xs) x ⊎ (e ≡ x)
   take_cases xs i e x lt is c =

@@ -1,74 +1,32 @@
--- Records of which all is known spell a map of region layers.
-use Rattle.std.proofs.Common.{◌≡◌, ℕ, suc, ◌-◌, ◌*◌, ◌^◌, ◌<◌, ◌≤◌, ◌&&◌, Bool, true, false, T, List, [], ◌∷◌, map, length, get_or, Some, refl, sym, ◌∙◌, ap, ap₂, subst, ⊎_elim, arith, Contains, pow_pos, nat_cmp, Ordering, Less}
-use Rattle.std.specs.Ordering.{is_lt}
+-- Records of which all is known spell a map of regions and points.
+use Rattle.std.proofs.Common.{◌≡◌, ℕ, suc, ◌≤◌, ◌&&◌, Bool, true, false, T, List, [], ◌∷◌, map, length, Some, refl, sym, ◌∙◌, ap, ap₂, subst, ⊎_elim, arith, Contains, Ordering, Less}
+use Rattle.std.specs.Ordering.{is_lt, nat_cmp}
 use Rattle.std.specs.Cmp.Lexicographic.{slice_cmp, nat_list_cmp_total}
 use Rattle.std.specs.FinMap as finmap
 use Rattle.std.specs.FinMap.Entries as sorted
 use Rattle.std.proofs.lemmas.Bool.{cases_lt}
-use Rattle.std.proofs.lemmas.Nat.{mod_below, div_below}
-use Rattle.std.proofs.lemmas.List.Elements.{All-from_get_or}
-use Rattle.quilt_types.specs.declared.plane.Block.{Block}
-use Rattle.quilt_types.specs.declared.plane.Pixel.{Pixel}
-use Rattle.quilt_types.specs.declared.plane.Kind.TheVariants as kinds
-use Rattle.quilt_types.specs.Plane.{side, pixel_at}
-use Rattle.quilt_types.specs.Layers.{Layer, Region, Map, IsGrid, IsLayer, IsMap, is_name, colours}
-use Rattle.quilt_types.specs.Facts.{Fact, IsOfKind, HasColour}
-use Rattle.quilt_types.specs.Quadtrees.{leaves}
-use Rattle.quilt_loc.specs.Codes.{Rises, code_at}
+use Rattle.quilt_types.specs.Layers.{Layer, Map, IsLayer, IsMap, is_name}
+use Rattle.quilt_types.specs.Facts.{Fact}
+use Rattle.quilt_loc.specs.Codes.{Rises}
 use Rattle.quilt_loc.proofs.Members.{Contains-nil, Contains-here, Contains-there, Contains-cons_cases, Contains-map, Contains-map_from, list_all-at}
-use Rattle.quilt_loc.proofs.Rows.{length-grid_of, get_or-grid_of}
+use Rattle.quilt_types.specs.declared.plane.Kind.{Kind}
 use Rattle.quilt_record.specs.declared.record.Record.{Record}
 use Rattle.quilt_record.specs.declared.entry.Entry.{Entry}
 use Rattle.quilt_record.specs.Catalogs.{IsCatalog, AreInOrder, name_cmp}
-use Rattle.quilt_record.specs.Records.{Numbering, record_of}
+use Rattle.quilt_record.specs.Records.{Numbering, capacity_of, record_of}
 use Rattle.quilt_record.proofs.Orders.{is_Less}
-use Rattle.quilt_blocks.specs.declared.leaf.Leaf.{Leaf}
-use Rattle.quilt_blocks.specs.Cutting.{leaves_by_code}
-use Rattle.quilt_blocks.specs.Painting.{colours_of, grid_by_code}
-use Rattle.quilt_blocks.specs.Listing.{IsListed, grid_from}
-use Rattle.quilt_blocks.proofs.Chains.{length-colours_of, member_with, colour_in}
-use Rattle.quilt_blocks.proofs.Cuts.{leaves_members}
-use Rattle.quilt_blocks.proofs.Listed.{IsListed-made}
-use Rattle.quilt_blocks.proofs.Painting.{code_in}
 use Rattle.quilt_spell.specs.Written.{by_key, number_of, layer_records, IsWritten, IsNumbering}
-use Rattle.quilt_spell.specs.Catalogued.{entry_of}
+use Rattle.quilt_spell.specs.Catalogued.{entry_of, kind_of}
+use Rattle.quilt_spell.specs.OfLayer.{kind_fact, kind_record}
 use Rattle.quilt_spell.proofs.Maps.{entry_from_get, get_from_entry}
+use Rattle.quilt_spell.proofs.OfLayer.{kind_there, kind_only}
 use Rattle.quilt_spell.proofs.Spelling.{all_from}
 use Rattle.quilt_spell.proofs.Written.{name_same, layer_record, layer_record_from, number_at}
-use Rattle.quilt_region.specs.Regions.{leaf_record}
-use Rattle.quilt_audit.specs.Checking.{AreLaid, IsCovered, IsSoFar, IsSpelled}
-use Rattle.quilt_audit.proofs.Laid.{making}
-
--- ---- the grid that blocks paint
-colour_fits : (form n : ℕ) (bs : List (Block × ℕ)) → n ≤ 12 → AreLaid form n (4 ^ n) bs → (p : Pixel) → p.x < side n → p.y < side n → get_or (colours_of bs) (code_at p) 0 < colours form
-colour_fits form n bs le h p hx hy =
-    let s = h.size in
-    let i = code_in n p le hx hy in
-    let w = member_with n 0 bs (code_at p) h.follows (omega arith) (omega arith) in
-    let z : code_at p ≡ code_at p - 0 = omega arith in
-    let e : get_or (colours_of bs) (code_at p) 0 ≡ (w.0).1 = ap (λ k. get_or (colours_of bs) k 0) z ∙ colour_in n 0 bs w.0 (code_at p) h.follows w.1 w.2 w.3 in
-    let b = h.colours_fit w.0 w.1 in
-    omega arith
-
-pub grid_fits : (form n : ℕ) (bs : List (Block × ℕ)) → n ≤ 12 → AreLaid form n (4 ^ n) bs → IsGrid form n (grid_from n bs)
-unfolding grid_by_code
-grid_fits form n bs le h =
-    let f : Pixel → ℕ = λ p. get_or (colours_of bs) (code_at p) 0 in
-    let long = length-grid_of n f in
-    record {
-      size = long;
-      colours = All-from_get_or (λ (c : ℕ). c < colours form) (grid_from n bs) 0 (λ k lt.
-          let lt' : k < side n * side n = omega arith in
-          let e = get_or-grid_of n f k lt' in
-          let s = colour_fits form n bs le h (pixel_at n k) (mod_below k (side n) (pow_pos n)) (div_below k (side n) (side n) (pow_pos n) lt') in
-          omega arith);
-    }
-
-pub laid_leaves : (form n : ℕ) (bs : List (Block × ℕ)) → 1 ≤ n → n ≤ 12 → AreLaid form n (4 ^ n) bs → bs ≡ leaves_by_code n (grid_from n bs)
-laid_leaves form n bs least le h =
-    let s = h.size in
-    let l : IsListed n bs = IsListed-made n bs (making form n (4 ^ n) bs least le h) (length-colours_of bs ∙ s) in
-    l.ordered
+use Rattle.quilt_audit.specs.declared.run.Run.{Run}
+use Rattle.quilt_audit.specs.Covers.{IsLayerOf}
+use Rattle.quilt_audit.specs.Runs.{IsChecked}
+use Rattle.quilt_audit.specs.Checking.{entry_record, IsSoFar, IsSpelled}
+use Rattle.quilt_audit.proofs.Catalog.{kind_record_is, checked_is, free_or_kind}
 
 -- ---- lists in the order of names
 both_true : (a b : Bool) → T a → T b → T (a && b)
@@ -95,18 +53,18 @@ numbers_sorted (e ∷ es) h =
 
 module _ (form n : ℕ) (rs : List Record) where
   -- the layers under their names
-  layers_of : (es : List Entry) → ((e : Entry) → Contains es e → IsCovered form n rs e.number) → List (List ℕ × Layer)
+  layers_of : (es : List Entry) → ((e : Entry) → Contains es e → IsLayerOf form n rs e.number e.kind) → List (List ℕ × Layer)
   layers_of [] cover = []
-  layers_of (e ∷ es) cover = (e.name, Region (grid_from n (cover e (Contains-here e es)).blocks)) ∷ layers_of es (λ d c. cover d (Contains-there e es d c))
+  layers_of (e ∷ es) cover = (e.name, (cover e (Contains-here e es)).layer) ∷ layers_of es (λ d c. cover d (Contains-there e es d c))
 
   -- what stands there
   record IsMade (es : List Entry) (x : List ℕ × Layer) : Type 0 where
     entry : Entry
     member : Contains es entry
-    covered : IsCovered form n rs entry.number
-    is : x ≡ (entry.name, Region (grid_from n covered.blocks))
+    covered : IsLayerOf form n rs entry.number entry.kind
+    is : x ≡ (entry.name, covered.layer)
 
-  made_from : (es : List Entry) (cover : (e : Entry) → Contains es e → IsCovered form n rs e.number) (x : List ℕ × Layer) → Contains (layers_of es cover) x → IsMade es x
+  made_from : (es : List Entry) (cover : (e : Entry) → Contains es e → IsLayerOf form n rs e.number e.kind) (x : List ℕ × Layer) → Contains (layers_of es cover) x → IsMade es x
   unfolding layers_of
   made_from [] cover x c = absurd (Contains-nil x c)
   made_from (e ∷ es) cover x c =
@@ -115,25 +73,25 @@ module _ (form n : ℕ) (rs : List Record) where
       (λ d.
       let m = made_from es (λ d c. cover d (Contains-there e es d c)) x d in
       record { entry = m.entry; member = Contains-there e es m.entry m.member; covered = m.covered; is = m.is })
-      (Contains-cons_cases (e.name, Region (grid_from n (cover e (Contains-here e es)).blocks)) (layers_of es (λ d c. cover d (Contains-there e es d c))) x c)
+      (Contains-cons_cases (e.name, (cover e (Contains-here e es)).layer) (layers_of es (λ d c. cover d (Contains-there e es d c))) x c)
 
-  made_there : (es : List Entry) (cover : (e : Entry) → Contains es e → IsCovered form n rs e.number) (e : Entry) → Contains es e
-      → (h : IsCovered form n rs e.number) × Contains (layers_of es cover) (e.name, Region (grid_from n h.blocks))
+  made_there : (es : List Entry) (cover : (e : Entry) → Contains es e → IsLayerOf form n rs e.number e.kind) (e : Entry) → Contains es e
+      → (h : IsLayerOf form n rs e.number e.kind) × Contains (layers_of es cover) (e.name, h.layer)
   unfolding layers_of
   made_there [] cover e c = absurd (Contains-nil e c)
   made_there (f ∷ es) cover e c =
       ⊎_elim
-      (λ same. subst (λ (x : Entry). (h : IsCovered form n rs x.number) × Contains (layers_of (f ∷ es) cover) (x.name, Region (grid_from n h.blocks))) same
+      (λ same. subst (λ (x : Entry). (h : IsLayerOf form n rs x.number x.kind) × Contains (layers_of (f ∷ es) cover) (x.name, h.layer)) same
       (cover f (Contains-here f es), Contains-here _ _))
       (λ d. let m = made_there es (λ d c. cover d (Contains-there f es d c)) e d in (m.0, Contains-there _ _ _ m.1))
       (Contains-cons_cases f es e c)
 
-  made_length : (es : List Entry) (cover : (e : Entry) → Contains es e → IsCovered form n rs e.number) → length (layers_of es cover) ≡ length es
+  made_length : (es : List Entry) (cover : (e : Entry) → Contains es e → IsLayerOf form n rs e.number e.kind) → length (layers_of es cover) ≡ length es
   unfolding layers_of
   made_length [] cover = refl
   made_length (e ∷ es) cover = ap (λ k. suc k) (made_length es (λ d c. cover d (Contains-there e es d c)))
 
-  made_sorted : (es : List Entry) (cover : (e : Entry) → Contains es e → IsCovered form n rs e.number) → AreInOrder es → T (sorted.is_sorted (slice_cmp nat_cmp) (layers_of es cover))
+  made_sorted : (es : List Entry) (cover : (e : Entry) → Contains es e → IsLayerOf form n rs e.number e.kind) → AreInOrder es → T (sorted.is_sorted (slice_cmp nat_cmp) (layers_of es cover))
   unfolding layers_of
   made_sorted [] cover h = tt
   made_sorted (e ∷ es) cover h =
@@ -145,19 +103,19 @@ module _ (form n : ℕ) (rs : List Record) where
       (made_sorted es (λ d c. cover d (Contains-there e es d c)) h.1)
 
   -- the catalog of these layers
-  made_catalog : (numbers : Numbering) (es : List Entry) (cover : (e : Entry) → Contains es e → IsCovered form n rs e.number) → ((e : Entry) → Contains es e → e.kind ≡ kinds.Region)
+  made_catalog : (numbers : Numbering) (es : List Entry) (cover : (e : Entry) → Contains es e → IsLayerOf form n rs e.number e.kind)
       → ((e : Entry) → Contains es e → number_of numbers e.name ≡ e.number) → es ≡ map (entry_of numbers) (layers_of es cover)
   unfolding layers_of
-  made_catalog numbers [] cover regions are = refl
-  made_catalog numbers (e ∷ es) cover regions are =
-      ap₂ ◌∷◌ (one e (regions e (Contains-here e es)) (are e (Contains-here e es)))
-      (made_catalog numbers es (λ d c. cover d (Contains-there e es d c)) (λ d c. regions d (Contains-there e es d c)) (λ d c. are d (Contains-there e es d c)))
+  made_catalog numbers [] cover are = refl
+  made_catalog numbers (e ∷ es) cover are =
+      ap₂ ◌∷◌ (one e (cover e (Contains-here e es)).layer (cover e (Contains-here e es)).is (are e (Contains-here e es)))
+      (made_catalog numbers es (λ d c. cover d (Contains-there e es d c)) (λ d c. are d (Contains-there e es d c)))
     where
-      one : (d : Entry) → d.kind ≡ kinds.Region → number_of numbers d.name ≡ d.number → d ≡ record { number = number_of numbers d.name; name = d.name; kind = kinds.Region }
-      one d k m = λ i. record { number = sym m i; name = d.name; kind = k i }
+      one : (d : Entry) (l : Layer) → kind_of l ≡ d.kind → number_of numbers d.name ≡ d.number → d ≡ record { number = number_of numbers d.name; name = d.name; kind = kind_of l }
+      one d l k m = λ i. record { number = sym m i; name = d.name; kind = sym k i }
 
-module _ (form n : ℕ) (rs : List Record) (least : 1 ≤ n) (le : n ≤ 12) (es : List Entry) (last layer end : ℕ) (recent : List Leaf) (f : IsSoFar form n es last layer end recent rs)
-    (most : last ≤ 255) (order : IsCatalog es) (cover : (e : Entry) → Contains es e → IsCovered form n rs e.number) (up : Rises by_key rs) where
+module _ (form n : ℕ) (rs : List Record) (least : 1 ≤ n) (le : n ≤ 12) (es : List Entry) (last layer : ℕ) (run : Run) (f : IsSoFar form n es last layer run rs)
+    (most : last ≤ 255) (order : IsCatalog es) (cover : (e : Entry) → Contains es e → IsLayerOf form n rs e.number e.kind) (up : Rises by_key rs) where
   abbrev names : List ℕ → List ℕ → Ordering
   names = slice_cmp nat_cmp
 
@@ -175,12 +133,12 @@ module _ (form n : ℕ) (rs : List Record) (least : 1 ≤ n) (le : n ≤ 12) (es
   unfolding numbers
   numbers_are = finmap.entries-from_sorted names (map numbered es) (numbers_sorted es order.order)
 
-  layer_there : (e : Entry) → Contains es e → (h : IsCovered form n rs e.number) × (finmap.get made e.name ≡ Some (Region (grid_from n h.blocks)))
+  layer_there : (e : Entry) → Contains es e → (h : IsLayerOf form n rs e.number e.kind) × (finmap.get made e.name ≡ Some (h.layer))
   layer_there e c =
       let m = made_there form n rs es cover e c in (
         m.0,
-        get_from_entry names nat_list_cmp_total name_same made (e.name, Region (grid_from n m.0.blocks))
-            (subst (λ (l : List (List ℕ × Layer)). Contains l (e.name, Region (grid_from n m.0.blocks))) (sym entries_are) m.1),
+        get_from_entry names nat_list_cmp_total name_same made (e.name, m.0.layer)
+            (subst (λ (l : List (List ℕ × Layer)). Contains l (e.name, m.0.layer)) (sym entries_are) m.1),
       )
 
   layer_got : (name : List ℕ) (l : Layer) → finmap.get made name ≡ Some l → IsMade form n rs es (name, l)
@@ -214,7 +172,7 @@ module _ (form n : ℕ) (rs : List Record) (least : 1 ≤ n) (le : n ≤ 12) (es
     only = λ name k at.
         let w = number_got name k at in
         let l = layer_there w.0 w.1 in
-        (Region (grid_from n l.0.blocks), ap (finmap.get made) (sym w.2) ∙ l.1);
+        (l.0.layer, ap (finmap.get made) (sym w.2) ∙ l.1);
     in_range = λ name k at.
         let w = number_got name k at in
         let a = f.least w.0 w.1 in
@@ -239,22 +197,16 @@ module _ (form n : ℕ) (rs : List Record) (least : 1 ≤ n) (le : n ≤ 12) (es
         named = all_from (λ (x : List ℕ × Layer). is_name x.0 ≡ true) (finmap.entries made)
             (λ x c. let m = entry_got x c in ap (λ (y : List ℕ × Layer). is_name y.0) m.is ∙ f.named m.entry m.member);
         each = all_from (λ (x : List ℕ × Layer). IsLayer form n x.1) (finmap.entries made)
-            (λ x c.
-            let m = entry_got x c in
-            subst (λ (y : List ℕ × Layer). IsLayer form n y.1) (sym m.is) (grid_fits form n m.covered.blocks le m.covered.laid));
+            (λ x c. let m = entry_got x c in subst (λ (y : List ℕ × Layer). IsLayer form n y.1) (sym m.is) m.covered.spelled.fits);
       }
 
-  -- the leaves are the blocks
-  block_leaf : (k : ℕ) (h : IsCovered form n rs k) (b : Block × ℕ) → Contains h.blocks b → Contains (leaves n (grid_from n h.blocks)) b
-  block_leaf k h b c =
-      (leaves_members n (grid_from n h.blocks) b).0 (subst (λ (l : List (Block × ℕ)). Contains l b) (laid_leaves form n h.blocks least le h.laid) c)
+  -- the record of the catalog for an entry is that of its layer's kind
+  kind_is : (e : Entry) (h : IsLayerOf form n rs e.number e.kind) → entry_record n e ≡ kind_record n e.name e.number h.layer
+  kind_is e h = sym (kind_record_is n e.name e.number h.layer ∙ ap (λ (k : Kind). entry_record n (record { number = e.number; name = e.name; kind = k })) h.is)
 
-  leaf_block : (k : ℕ) (h : IsCovered form n rs k) (b : Block × ℕ) → Contains (leaves n (grid_from n h.blocks)) b → Contains h.blocks b
-  leaf_block k h b c =
-      subst (λ (l : List (Block × ℕ)). Contains l b) (sym (laid_leaves form n h.blocks least le h.laid)) ((leaves_members n (grid_from n h.blocks) b).1 c)
-
-  abbrev leaf_fact : Block × ℕ → Fact
-  leaf_fact b = HasColour b.0 b.1
+  -- a record of the layer, under the name of an entry
+  written_as : (e : Entry) (c : Contains es e) (l : Layer) (r : Record) → Contains (layer_records n e.name e.number l) r → finmap.get made e.name ≡ Some l → IsWritten n numbers made r
+  written_as e c l r w at = record { name = e.name; layer = l; at = at; written = subst (λ (k : ℕ). Contains (layer_records n e.name k l) r) (sym (number_is e c)) w }
 
   -- each record is written
   record_written : (r : Record) → Contains rs r → IsWritten n numbers made r
@@ -264,41 +216,34 @@ module _ (form n : ℕ) (rs : List Record) (least : 1 ≤ n) (le : n ≤ 12) (es
       let w = (f.layers_only r c some).1 in
       let e = w.0 in
       let l = layer_there e w.1 in
-      let g = grid_from n l.0.blocks in
-      let m = Contains-map_from (leaf_record n e.number) l.0.blocks r (l.0.has.only r c (sym w.2)) in
-      let fact = Contains-there (IsOfKind 1 0) (map leaf_fact (leaves n g)) (leaf_fact m.0) (Contains-map leaf_fact (leaves n g) m.0 (block_leaf e.number l.0 m.0 m.1)) in
-      record {
-        name = e.name;
-        layer = Region g;
-        at = l.1;
-        written = subst (Contains (layer_records n e.name (number_of numbers e.name) (Region g))) (ap (λ k. leaf_record n k m.0) (number_is e w.1) ∙ m.2)
-            (layer_record n e.name (number_of numbers e.name) (Region g) (leaf_fact m.0) fact);
-      })
+      let h = l.0 in
+      let cap = capacity_of h.layer in
+      let m = h.spelled.only r c (sym w.2) in
+      let number = w.2 in
+      written_as e w.1 h.layer r
+      (⊎_elim (λ zero'. let k = ap (λ (q : Record). q.key.layer) m.2 in absurd (omega arith))
+      (λ same. subst (Contains (layer_records n e.name e.number h.layer)) (sym same ∙ m.2) (layer_record n e.name e.number h.layer m.0 m.1))
+      (free_or_kind n cap e.number [] e.name m.0)) l.1)
       (λ none.
       let w = f.entries_only r c (let z : r.key.layer ≡ 0 = omega arith in z) in
       let e = w.0 in
       let l = layer_there e w.1 in
-      let g = grid_from n l.0.blocks in
-      record {
-        name = e.name;
-        layer = Region g;
-        at = l.1;
-        written = subst (Contains (layer_records n e.name (number_of numbers e.name) (Region g))) (ap (λ k. record_of n 0 e.name k (IsOfKind 1 0)) (number_is e w.1) ∙ sym w.2)
-            (layer_record n e.name (number_of numbers e.name) (Region g) (IsOfKind 1 0) (Contains-here (IsOfKind 1 0) (map leaf_fact (leaves n g))));
-      })
+      let h = l.0 in
+      written_as e w.1 h.layer r
+      (subst (Contains (layer_records n e.name e.number h.layer)) (sym (w.2 ∙ kind_is e h)) (layer_record n e.name e.number h.layer (kind_fact h.layer) (kind_there n h.layer))) l.1)
       (cases_lt 0 r.key.layer)
 
   -- and each that is written is there
-  written_there : (e : Entry) → Contains es e → (h : IsCovered form n rs e.number) (r : Record) → Contains (layer_records n e.name e.number (Region (grid_from n h.blocks))) r → Contains rs r
+  written_there : (e : Entry) → Contains es e → (h : IsLayerOf form n rs e.number e.kind) (r : Record) → Contains (layer_records n e.name e.number h.layer) r → Contains rs r
   written_there e c h r w =
-      let g = grid_from n h.blocks in
-      let m = layer_record_from n e.name e.number (Region g) r w in
+      let cap = capacity_of h.layer in
+      let m = layer_record_from n e.name e.number h.layer r w in
+      let listed : m.0 ≡ kind_fact h.layer → Contains rs r = λ kind.
+      subst (Contains rs) (kind_is e h ∙ ap (λ (x : Fact). record_of n cap e.name e.number x) (sym kind) ∙ m.2) (f.listed e c) in
       ⊎_elim
-      (λ kind. subst (Contains rs) (ap (λ (x : Fact). record_of n 0 e.name e.number x) kind ∙ m.2) (f.listed e c))
-      (λ leaf.
-      let d = Contains-map_from leaf_fact (leaves n g) m.0 leaf in
-      subst (Contains rs) (ap (λ (x : Fact). record_of n 0 e.name e.number x) d.2 ∙ m.2) (h.has.each d.0 (leaf_block e.number h d.0 d.1)))
-      (Contains-cons_cases (IsOfKind 1 0) (map leaf_fact (leaves n g)) m.0 m.1)
+      (λ zero'. listed (kind_only form n h.layer cap e.number e.name m.0 h.spelled.fits (f.least e c) m.1 zero'))
+      (λ same. ⊎_elim listed (λ there. subst (Contains rs) (sym same ∙ m.2) there) (h.spelled.each m.0 m.1))
+      (free_or_kind n cap e.number e.name [] m.0)
 
   written_record : (r : Record) → IsWritten n numbers made r → Contains rs r
   written_record r w =
@@ -315,12 +260,17 @@ module _ (form n : ℕ) (rs : List Record) (least : 1 ≤ n) (le : n ≤ 12) (es
   is_spelled = record {
     numbers = numbers;
     layers = made;
-    regions = record { each = λ name l at. let m = layer_got name l at in (grid_from n m.covered.blocks, ap (λ (x : List ℕ × Layer). x.1) m.is) };
+    kinds = record {
+      each = λ name l at.
+          let m = layer_got name l at in
+          let value = ap (λ (x : List ℕ × Layer). x.1) m.is in
+          checked_is l (subst IsChecked (sym (ap kind_of value ∙ m.covered.is)) (f.checked m.entry m.member));
+    };
     spelled = record {
       map = is_map;
       numbering = numbering;
       ascending = up;
       written = λ r. (record_written r, written_record r);
     };
-    catalogued = record { each = made_catalog form n rs numbers es cover f.regions number_is ∙ ap (map (entry_of numbers)) (sym entries_are) };
+    catalogued = record { each = made_catalog form n rs numbers es cover number_is ∙ ap (map (entry_of numbers)) (sym entries_are) };
   }

@@ -1,93 +1,46 @@
 -- What the steps of the checker do and find, over the numbers that it keeps.
-use Rattle.std.proofs.Common.{◌≡◌, ℕ, ◌+◌, ◌*◌, ◌<◌, ◌≤◌, ◌⊎◌, Bool, true, false, not, List, [], ◌∷◌, ◌++◌, length, get_or, Option, Some, None, refl, sym, ◌∙◌, ap, subst, ⊎_elim, arith, Contains}
+use Rattle.std.proofs.Common.{◌≡◌, ℕ, ◌+◌, ◌-◌, ◌<◌, ◌≤◌, ◌⊎◌, Bool, true, false, not, List, [], ◌∷◌, ◌++◌, length, Option, Some, None, refl, sym, ◌∙◌, ap, subst, ⊎_elim, arith, Contains, append_assoc, length-append}
 use Rattle.std.specs.Bool.{OnTrue, OnFalse}
-use Rattle.std.proofs.lemmas.Bool.{cases_Bool}
+use Rattle.std.proofs.lemmas.Bool.{cases_Bool, cases_lt}
 use Rattle.std.proofs.lemmas.List.{append-nil}
-use Rattle.quilt_types.specs.declared.plane.Block.{Block}
-use Rattle.quilt_types.specs.declared.plane.Colour.{Colour}
-use Rattle.quilt_types.specs.Plane.{IsBlock}
-use Rattle.quilt_types.specs.Layers.{Map, colours}
-use Rattle.quilt_types.specs.Facts.{HasColour}
-use Rattle.quilt_loc.specs.Codes.{Rises, code_from, code_to}
+use Rattle.quilt_types.specs.declared.plane.Kind.{Kind}
+use Rattle.quilt_types.specs.Layers.{Map}
+use Rattle.quilt_loc.specs.Codes.{Rises}
 use Rattle.quilt_record.specs.declared.record.Record.{Record}
 use Rattle.quilt_record.specs.declared.entry.Entry.{Entry}
 use Rattle.quilt_record.specs.Catalogs.{IsCatalog}
-use Rattle.quilt_record.specs.Canonical.{IsRecordOf}
-use Rattle.quilt_record.specs.Listing.{IsEntryOf, KindFits}
+use Rattle.quilt_record.specs.Listing.{IsEntryOf}
 use Rattle.quilt_record.specs.Records.{Numbering}
-use Rattle.quilt_blocks.specs.declared.leaf.Leaf.{Leaf}
-use Rattle.quilt_blocks.specs.Cutting.{pair_of}
 use Rattle.quilt_spell.specs.Spelled.{SpellsUnder}
 use Rattle.quilt_spell.specs.Written.{by_key}
-use Rattle.quilt_region.specs.Regions.{leaf_record}
-use Rattle.quilt_region.proofs.Records.{leaf_is_record}
 use Rattle.quilt_audit.specs.declared.checker.Checker.{Checker}
-use Rattle.quilt_audit.specs.Surveys.{AreRegions, AreNumbered}
-use Rattle.quilt_audit.specs.Checking.{AreSiblings, IsSoFar, HasBegun, Stops, MayList, IsWhole, IsFed, IsSpelled}
-use Rattle.quilt_audit.proofs.Lists.{at_last}
-use Rattle.quilt_audit.proofs.Next.{NextEntry, NextBlock, NextLayer, next_entry, next_block, next_layer, next_leaf_code, next_leaf_apart, end_covered, end_listed}
-use Rattle.quilt_audit.proofs.Steps.{IsSoFar-leaf, all_covered}
+use Rattle.quilt_audit.specs.declared.run.Run.{Run}
+use Rattle.quilt_audit.specs.Covers.{Refuses}
+use Rattle.quilt_audit.specs.Runs.{IsRun, IsRunFinished}
+use Rattle.quilt_audit.specs.Surveys.{AreRegionsOrPoints, AreNumbered}
+use Rattle.quilt_audit.specs.Checking.{IsSoFar, HasBegun, Stops, MayList, IsWhole, AreRefused, IsFed, IsSpelled}
+use Rattle.quilt_audit.proofs.Next.{NextEntry, NextLayer, next_entry, next_layer, next_taken, end_covered, end_listed}
+use Rattle.quilt_audit.proofs.Steps.{all_covered}
 use Rattle.quilt_audit.proofs.Making.{is_spelled}
 
--- ---- a list of three
-pub three_are : (xs : List Leaf) (z : Leaf) → length xs ≡ 3 → xs ≡ get_or xs 0 z ∷ get_or xs 1 z ∷ get_or xs 2 z ∷ []
-three_are [] z e = absurd (omega arith)
-three_are (a ∷ []) z e = absurd (omega arith)
-three_are (a ∷ b ∷ []) z e = absurd (omega arith)
-three_are (a ∷ b ∷ c ∷ []) z e = refl
-three_are (a ∷ b ∷ c ∷ d ∷ xs) z e = absurd (omega arith)
-
-module _ (form n : ℕ) (least : 1 ≤ n) (le : n ≤ 12) (es : List Entry) (last layer end : ℕ) (recent : List Leaf) where
-  -- ---- a leaf is put down
-  three_here : (rs : List Record) → 1 ≤ layer → (f : IsSoFar form n es last layer end recent rs) → (z : Leaf) → recent ≡ get_or recent 0 z ∷ get_or recent 1 z ∷ get_or recent 2 z ∷ []
-  three_here rs some f z = three_are recent z ((f.current some).1.ends.three)
-
-  pub leaf_yes : (leaf : Leaf) (z : Leaf) (next : ℕ) → IsBlock n leaf.block → code_from leaf.block ≡ end → next ≡ code_to leaf.block
-      → ((w : Block × ℕ) → AreSiblings n (get_or recent 0 z ∷ get_or recent 1 z ∷ get_or recent 2 z ∷ leaf ∷ []) w → ⊥)
-      → (rs : List Record) → 1 ≤ layer → leaf.colour.0 < colours form → IsSoFar form n es last layer end recent rs
-      → IsSoFar form n es last layer next (get_or recent 1 z ∷ get_or recent 2 z ∷ leaf ∷ []) (rs ++ leaf_record n layer (pair_of leaf) ∷ [])
-  leaf_yes leaf z next block at to apart rs some small f =
-      let e : end + leaf.block.side * leaf.block.side ≡ next = omega arith in
-      subst (λ (k : ℕ). IsSoFar form n es last layer k (get_or recent 1 z ∷ get_or recent 2 z ∷ leaf ∷ []) (rs ++ leaf_record n layer (pair_of leaf) ∷ [])) e
-      (IsSoFar-leaf form n es last layer end (get_or recent 0 z) (get_or recent 1 z) (get_or recent 2 z) rs least le
-      (subst (λ (l : List Leaf). IsSoFar form n es last layer end l rs) (three_here rs some f z) f) some leaf block at small apart)
-
-  pub leaf_no_code : (leaf : Leaf) → IsBlock n leaf.block → (code_from leaf.block ≡ end → ⊥)
-      → (rs : List Record) → 1 ≤ layer → IsSoFar form n es last layer end recent rs → Stops form n rs (leaf_record n layer (pair_of leaf))
-  leaf_no_code leaf block differs rs some f rest numbers layers regions s =
-      differs (next_leaf_code form n least le es last layer end recent rs f rest numbers layers regions (leaf_record n layer (pair_of leaf)) s some leaf block refl)
-
-  pub leaf_no_siblings : (leaf z : Leaf) → IsBlock n leaf.block → (w : Block × ℕ) → AreSiblings n (get_or recent 0 z ∷ get_or recent 1 z ∷ get_or recent 2 z ∷ leaf ∷ []) w
-      → (rs : List Record) → 1 ≤ layer → IsSoFar form n es last layer end recent rs → Stops form n rs (leaf_record n layer (pair_of leaf))
-  leaf_no_siblings leaf z block w q rs some f rest numbers layers regions s =
-      next_leaf_apart form n least le es last layer end recent rs f rest numbers layers regions (leaf_record n layer (pair_of leaf)) s some leaf block refl
-      (get_or recent 0 z) (get_or recent 1 z) (get_or recent 2 z) (three_here rs some f z) w q
-
+module _ (form n : ℕ) (least : 1 ≤ n) (le : n ≤ 12) (es : List Entry) (last layer : ℕ) (run : Run) (top : last ≤ 255) where
   -- ---- the layer of the next record
-  pub layer_no : (number : ℕ) → 1 ≤ number → (NextLayer n es layer end number → ⊥)
-      → (rs : List Record) (r : Record) → IsSoFar form n es last layer end recent rs → HasBegun layer rs → r.key.layer ≡ number → Stops form n rs r
-  layer_no number some none rs r f begun is rest numbers layers regions s =
-      none (subst (NextLayer n es layer end) is (next_layer form n least le es last layer end recent rs f rest numbers layers regions r s begun (omega arith)))
-
-  -- ---- a record of a block
-  pub block_no : (r : Record) → 1 ≤ r.key.layer → (NextBlock form n r → ⊥) → (rs : List Record) → IsSoFar form n es last layer end recent rs → Stops form n rs r
-  block_no r some none rs f rest numbers layers regions s = none (next_block form n least le es last layer end recent rs f rest numbers layers regions r s some)
+  pub layer_no : (number : ℕ) → 1 ≤ number → (NextLayer n es layer run number → ⊥)
+      → (rs : List Record) (r : Record) → IsSoFar form n es last layer run rs → HasBegun layer rs → r.key.layer ≡ number → Stops form n rs r
+  layer_no number some none rs r f begun is rest numbers layers kinds s =
+      none (subst (NextLayer n es layer run) is (next_layer form n least le es last layer run rs f top rest numbers layers kinds r s begun (omega arith)))
 
   -- ---- a record of the catalog
-  pub entry_no : (r : Record) → r.key.layer ≡ 0 → (NextEntry form es last layer r → ⊥) → (rs : List Record) → IsSoFar form n es last layer end recent rs → HasBegun layer rs → Stops form n rs r
-  entry_no r zero' none rs f begun rest numbers layers regions s = none (next_entry form n least le es last layer end recent rs f rest numbers layers regions r s begun zero')
+  pub entry_no : (r : Record) → r.key.layer ≡ 0 → (NextEntry form es last layer r → ⊥) → (rs : List Record) → IsSoFar form n es last layer run rs → HasBegun layer rs → Stops form n rs r
+  entry_no r zero' none rs f begun rest numbers layers kinds s = none (next_entry form n least le es last layer run rs f top rest numbers layers kinds r s begun zero')
 
--- the record of a block that may come next is read
-pub block_read : (form n : ℕ) (r : Record) → 1 ≤ r.key.layer → (o : Option (Block × Colour)) → o ≡ None
-    → ((layer : ℕ) (b : Block) (c : Colour) → (form ≡ 1 → c.0 < 256) → IsRecordOf n 0 r layer (HasColour b c.0) → o ≡ Some (b, c)) → NextBlock form n r → ⊥
-block_read form n r some o none one w =
-    let c : Colour = record { 0 = w.leaf.1 } in
-    let is = subst (λ (z : Record). IsRecordOf n 0 z r.key.layer (HasColour w.leaf.0 w.leaf.1)) (sym w.is) (leaf_is_record n r.key.layer w.leaf.0 w.leaf.1 some w.most w.block) in
-    let small : form ≡ 1 → w.leaf.1 < 256 = λ e. let k = w.colour_fits in subst (λ (z : ℕ). w.leaf.1 < colours z) e k in
-    let found = one r.key.layer w.leaf.0 c small is in
-    let clash : ◌≡◌ {A = Option (Block × Colour)} None (Some (w.leaf.0, c)) = sym none ∙ found in cc
+  -- ---- a record of the layer that comes
+  pub record_no : (r : Record) (rs : List Record) → 1 ≤ layer → r.key.layer ≡ layer → ((kind : Kind) → IsRun form n rs layer kind run → Refuses form n rs layer kind r)
+      → IsSoFar form n es last layer run rs → Stops form n rs r
+  record_no r rs some is refused f rest numbers layers kinds s =
+      next_taken form n least le es last layer run rs f top rest numbers layers kinds r s some is (λ e c same h. refused e.kind h)
 
--- and so is one of the catalog
+-- a record of the catalog that may come next is read
 pub entry_read : (form last layer : ℕ) (es : List Entry) (r : Record) (o : Option Entry) → o ≡ None → ((e : Entry) → IsEntryOf form r e → o ≡ Some e) → NextEntry form es last layer r → ⊥
 entry_read form last layer es r o none one w = let clash : None ≡ Some w.entry = sym none ∙ one w.entry w.is in cc
 
@@ -103,13 +56,14 @@ not_false true h = refl
 not_false false h = cc
 
 -- the next number of the catalog is that of the layer that comes
-pub next_reached : (n : ℕ) (entries es : List Entry) (layer end number next : ℕ) → entries ≡ es → layer < number → number ≤ 255 → layer < next
+pub next_reached : (n : ℕ) (entries es : List Entry) (layer : ℕ) (run : Run) (number next : ℕ) → entries ≡ es → layer < number → layer < next
     → (next ≡ 256) ⊎ ((e : Entry) × Contains entries e × (e.number ≡ next)) → ((e : Entry) → Contains entries e → (e.number ≤ layer) ⊎ ((next ≤ e.number) × (e.number ≤ 255)))
-    → NextLayer n es layer end number → next ≡ number
-next_reached n entries es layer end number next is lt small over reached below w =
+    → NextLayer n es layer run number → next ≡ number
+next_reached n entries es layer run number next is lt over reached below w =
     let l = w.listed in
     let at = below l.0 (subst (λ (xs : List Entry). Contains xs l.0) (sym is) l.1) in
     let e = l.2 in
+    let small = w.most in
     let le : next ≤ number = ⊎_elim (λ low. absurd (omega arith)) (λ high. let a = high.0 in omega arith) at in
     ⊎_elim (λ none. absurd (omega arith))
     (λ some.
@@ -123,8 +77,8 @@ module _ (c : Checker) (total : ℕ) (rs : List Record) (fed : IsFed total c rs)
       let s = fed.sound w.sound in
       let d = w.none_due in
       let e = s.2 in (
-        is_spelled c.format c.level rs c.level_least c.level_most c.catalog c.last c.layer c.end c.recent s.0 c.last_most order
-            (all_covered c.format c.level c.catalog c.last c.layer c.end c.recent rs s.0 w.covered w.reached) up,
+        is_spelled c.format c.level rs c.level_least c.level_most c.catalog c.last c.layer c.run s.0 c.last_most order
+            (all_covered c.format c.level c.catalog c.last c.layer c.run rs s.0 c.level_least c.level_most w.covered up w.reached) up,
         omega arith,
       )
 
@@ -135,73 +89,71 @@ module _ (c : Checker) (total : ℕ) (rs : List Record) (fed : IsFed total c rs)
         least = f.least;
         most = λ e m. let a = f.most e m in let b = c.last_most in omega arith;
         differ = f.differ;
-        kinds = λ e m. subst (KindFits c.format) (sym (f.regions e m)) tt;
+        kinds = f.fitting;
       }
 
-  pub not_whole : (IsWhole c → ⊥) → (numbers : Numbering) (layers : Map) → AreRegions layers → SpellsUnder c.format c.level numbers rs layers → length rs ≡ total → ⊥
-  not_whole none numbers layers regions s long =
+  pub not_whole : (IsWhole c → ⊥) → (numbers : Numbering) (layers : Map) → AreRegionsOrPoints layers → SpellsUnder c.format c.level numbers rs layers → length rs ≡ total → ⊥
+  not_whole none numbers layers kinds s long =
       ⊎_elim
       (λ t.
       let k = fed.sound t in
       let e = k.2 in
-      none (record {
-        sound = t;
-        none_due = omega arith;
-        covered = end_covered c.format c.level c.level_least c.level_most c.catalog c.last c.layer c.end c.recent rs k.0 numbers layers regions s;
-        reached = end_listed c.format c.level c.level_least c.level_most c.catalog c.last c.layer c.end c.recent rs k.0 numbers layers regions s;
-      }))
+      let reached = end_listed c.format c.level c.level_least c.level_most c.catalog c.last c.layer c.run rs k.0 c.last_most numbers layers kinds s in
+      let but : ((1 ≤ c.layer → IsRunFinished c.level c.run) → ⊥) = λ covered. none (record { sound = t; none_due = omega arith; covered = covered; reached = reached }) in
+      ⊎_elim (λ some. end_covered c.format c.level c.level_least c.level_most c.catalog c.last c.layer c.run rs k.0 c.last_most numbers layers kinds s some (λ done. but (λ one. done)))
+      (λ zero'. but (λ some. absurd (omega arith))) (cases_lt 0 c.layer))
       (λ f.
-      fed.unsound f [] numbers layers regions (subst (λ (l : List Record). SpellsUnder c.format c.level numbers l layers) (sym (append-nil rs)) s)
+      fed.unsound f [] numbers layers kinds (subst (λ (l : List Record). SpellsUnder c.format c.level numbers l layers) (sym (append-nil rs)) s)
       (ap length (append-nil rs) ∙ long))
       (cases_Bool c.sound)
 
+-- ---- a record is taken or refused behind a turn
+module _ (form n form' n' layer k : ℕ) (same_form : form' ≡ form) (same_level : n' ≡ n) (here : layer ≡ k) (rs : List Record) (r : Record) (kind : Kind) (run : Run) where
+  pub no_moved : (IsRun form' n' rs k kind run → Refuses form' n' rs k kind r) → IsRun form n rs layer kind run → Refuses form n rs layer kind r
+  no_moved f =
+      subst (λ (z : ℕ). IsRun z n rs layer kind run → Refuses z n rs layer kind r) same_form
+      (subst (λ (z : ℕ). IsRun form' z rs layer kind run → Refuses form' z rs layer kind r) same_level
+      (subst (λ (z : ℕ). IsRun form' n' rs z kind run → Refuses form' n' rs z kind r) (sym here) f))
+
+  pub run_moved : (next : Run) → (IsRun form' n' rs k kind run → IsRun form' n' (rs ++ r ∷ []) k kind next) → IsRun form n rs layer kind run → IsRun form n (rs ++ r ∷ []) layer kind next
+  run_moved next f =
+      subst (λ (z : ℕ). IsRun z n rs layer kind run → IsRun z n (rs ++ r ∷ []) layer kind next) same_form
+      (subst (λ (z : ℕ). IsRun form' z rs layer kind run → IsRun form' z (rs ++ r ∷ []) layer kind next) same_level
+      (subst (λ (z : ℕ). IsRun form' n' rs z kind run → IsRun form' n' (rs ++ r ∷ []) z kind next) (sym here) f))
+
 -- ---- what is asked of an entry
 pub may_from : (form : ℕ) (c : Checker) (r : Record) (e : Entry) (w : NextEntry form c.catalog c.last c.layer r) → w.entry ≡ e → MayList c e
-may_from form c r e w same = subst (MayList c) same (record { first = w.first; region = w.region; above = w.above; fresh = w.fresh })
-
--- ---- answers that hold for one value of a test
-pub on_true : (b : Bool) (P Q : Type 0) → (P → Q) → OnTrue b P → OnTrue b Q
-on_true true P Q f h = f h
-on_true false P Q f h = tt
-
-pub on_false : (b : Bool) (P Q : Type 0) → (P → Q) → OnFalse b P → OnFalse b Q
-on_false true P Q f h = tt
-on_false false P Q f h = f h
+may_from form c r e w same = subst (MayList c) same (record { first = w.first; checked = w.checked; above = w.above; fresh = w.fresh })
 
 pub from_true : (b : Bool) (P : Type 0) → b ≡ true → OnTrue b P → P
 from_true true P e h = h
 from_true false P e h = cc
 
-pub from_false : (b : Bool) (P : Type 0) → b ≡ false → OnFalse b P → P
+from_false : (b : Bool) (P : Type 0) → b ≡ false → OnFalse b P → P
 from_false true P e h = cc
 from_false false P e h = h
 
--- ---- a leaf is put down behind a turn
-module _ (form n form' n' : ℕ) (es : List Entry) (last layer end : ℕ) (recent : List Leaf) (r : Record) (leaf : Leaf) (same_form : form' ≡ form) (same_level : n' ≡ n) (here : layer ≡ r.key.layer)
-    (some : 1 ≤ r.key.layer) (is : r ≡ leaf_record n r.key.layer (pair_of leaf)) where
-  moved : (rs : List Record) → IsSoFar form n es last layer end recent rs → IsSoFar form' n' es last layer end recent rs
-  moved rs f =
-      subst (λ (z : ℕ). IsSoFar z n' es last layer end recent rs) (sym same_form) (subst (λ (z : ℕ). IsSoFar form z es last layer end recent rs) (sym same_level) f)
+-- ---- a record is pushed
+module _ (total : ℕ) (before : List Record) (r : Record) (old : Checker) (fed : IsFed total old before) (was : old.sound ≡ true) (some : old.due ≡ 0 → ⊥) (level format : ℕ) (sound : Bool)
+    (same_level : level ≡ old.level) (same_format : format ≡ old.format) where
+  pub push_sound : (due : ℕ) (es : List Entry) (last layer : ℕ) (run : Run) → due ≡ old.due - 1
+      → ((rs : List Record) → IsSoFar old.format old.level old.catalog old.last old.layer old.run rs → OnTrue sound (IsSoFar old.format old.level es last layer run (rs ++ r ∷ []) × HasBegun layer (rs ++ r ∷ [])))
+      → sound ≡ true → IsSoFar format level es last layer run (before ++ r ∷ []) × HasBegun layer (before ++ r ∷ []) × (length (before ++ r ∷ []) + due ≡ total)
+  push_sound due es last layer run less taken t =
+      let k = fed.sound was in
+      let all = k.2 in
+      let w = from_true sound _ t (taken before k.0) in
+      let long = length-append before (r ∷ []) in (
+        subst (λ (z : ℕ). IsSoFar z level es last layer run (before ++ r ∷ [])) (sym same_format) (subst (λ (z : ℕ). IsSoFar old.format z es last layer run (before ++ r ∷ [])) (sym same_level) w.0),
+        w.1,
+        omega arith,
+      )
 
-  record_is : leaf_record n' layer (pair_of leaf) ≡ r
-  record_is = ap (λ (z : ℕ). leaf_record z layer (pair_of leaf)) same_level ∙ ap (λ (z : ℕ). leaf_record n z (pair_of leaf)) here ∙ sym is
-
-  pub laid_yes : (b : Bool) (es' : List Entry) (last' layer' end' : ℕ) (recent' : List Leaf) → layer' ≡ layer → leaf.colour.0 < colours form
-      → ((rs : List Record) → 1 ≤ layer → leaf.colour.0 < colours form' → IsSoFar form' n' es last layer end recent rs → OnTrue b (IsSoFar form' n' es' last' layer' end' recent' (rs ++ leaf_record n' layer (pair_of leaf) ∷ [])))
-      → (rs : List Record) → IsSoFar form n es last layer end recent rs → OnTrue b (IsSoFar form n es' last' layer' end' recent' (rs ++ r ∷ []) × HasBegun layer' (rs ++ r ∷ []))
-  laid_yes b es' last' layer' end' recent' stays small given rs f =
-      on_true b _ _
-      (λ h. (
-        subst (λ (z : ℕ). IsSoFar z n es' last' layer' end' recent' (rs ++ r ∷ [])) same_form
-            (subst (λ (z : ℕ). IsSoFar form' z es' last' layer' end' recent' (rs ++ r ∷ [])) same_level
-            (subst (λ (z : Record). IsSoFar form' n' es' last' layer' end' recent' (rs ++ z ∷ [])) record_is h)),
-        λ one. (r, at_last rs r, sym here ∙ sym stays),
-      ))
-      (given rs (omega arith) (subst (λ (z : ℕ). leaf.colour.0 < colours z) (sym same_form) small) (moved rs f))
-
-  pub laid_no : (b : Bool) → ((rs : List Record) → 1 ≤ layer → IsSoFar form' n' es last layer end recent rs → OnFalse b (Stops form' n' rs (leaf_record n' layer (pair_of leaf))))
-      → (rs : List Record) → IsSoFar form n es last layer end recent rs → OnFalse b (Stops form n rs r)
-  laid_no b no' rs f =
-      on_false b _ _
-      (λ h. subst (λ (z : ℕ). Stops z n rs r) same_form (subst (λ (z : ℕ). Stops form' z rs r) same_level (subst (Stops form' n' rs) record_is h)))
-      (no' rs (omega arith) (moved rs f))
+  pub push_refused : ((rs : List Record) → IsSoFar old.format old.level old.catalog old.last old.layer old.run rs → HasBegun old.layer rs → OnFalse sound (Stops old.format old.level rs r))
+      → sound ≡ false → AreRefused format level total (before ++ r ∷ [])
+  push_refused refused f =
+      let k = fed.sound was in
+      let stops = from_false sound _ f (refused before k.0 k.1) in
+      subst (λ (z : ℕ). AreRefused z level total (before ++ r ∷ [])) (sym same_format)
+      (subst (λ (z : ℕ). AreRefused old.format z total (before ++ r ∷ [])) (sym same_level)
+      (λ rest numbers layers kinds s long. stops rest numbers layers kinds (subst (λ (l : List Record). SpellsUnder old.format old.level numbers l layers) (append_assoc before (r ∷ []) rest) s)))

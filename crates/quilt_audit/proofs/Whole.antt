@@ -16,7 +16,7 @@ use Rattle.quilt_spell.proofs.Laws.{members}
 use Rattle.quilt_region.proofs.Trees.{tree_rises}
 use Rattle.quilt_audit.specs.declared.surveying.Surveying.{Surveying}
 use Rattle.quilt_audit.specs.Bits.{Marks, AreWithin}
-use Rattle.quilt_audit.specs.Surveys.{first_damaged, AreRegions, IsSurvey, IsDamage}
+use Rattle.quilt_audit.specs.Surveys.{first_damaged, AreRegionsOrPoints, IsSurvey, IsDamage}
 use Rattle.quilt_audit.specs.Checking.{IsFed, IsSpelled}
 use Rattle.quilt_audit.specs.Walking.{Found, IsWalked}
 use Rattle.quilt_audit.proofs.Bits.{Marks-none, AreWithin-none}
@@ -106,13 +106,13 @@ module _ (size : ℕ) (told : Option (List (List ℕ))) (head : Head) (s : Surve
         count = w.1;
         numbers = g.numbers;
         layers = g.layers;
-        regions = g.regions;
+        kinds = g.kinds;
         spelled = subst (λ (f : ℕ). SpellsUnder f head.level g.numbers h.rs g.layers) h.format (subst (λ (n : ℕ). SpellsUnder s.checker.format n g.numbers h.rs g.layers) h.level g.spelled);
         catalogued = g.catalogued;
         marks = h.marks;
       }
 
-  pub damage_from : ((total : ℕ) (rs : List Record) → IsFed total s.checker rs → (numbers : Numbering) (layers : Map) → AreRegions layers → SpellsUnder s.checker.format s.checker.level numbers rs layers → length rs ≡ total → ⊥) → IsDamage pages head 0
+  pub damage_from : ((total : ℕ) (rs : List Record) → IsFed total s.checker rs → (numbers : Numbering) (layers : Map) → AreRegionsOrPoints layers → SpellsUnder s.checker.format s.checker.level numbers rs layers → length rs ≡ total → ⊥) → IsDamage pages head 0
   damage_from refused = record {
     first = sym (ap first_damaged (h.walks pages is_told));
     none = λ records visited layers w regions spells count.

@@ -1,4 +1,8 @@
 pub mod Bits
 pub mod Checking
+pub mod Covers
+pub mod Points
+pub mod Regions
+pub mod Runs
 pub mod Surveys
 pub mod Walking

@@ -1,26 +1,15 @@
-ghost use Rattle.std.specs.Prelude.{◌≡◌, ◌≢◌, ◌⊎◌, ◌<◌, ◌≤◌, true, false, length, Contains};
-ghost use Rattle.quilt_types.specs.declared.plane.Kind.TheVariants as kinds;
+ghost use Rattle.std.specs.Prelude.{◌≡◌, ◌≢◌, ◌⊎◌, ◌<◌, ◌≤◌, true, false, length, Contains, IfSome, IfNone};
 ghost use Rattle.quilt_record.specs.declared.entry.Entry.{Entry as AnyEntry};
+ghost use Rattle.quilt_audit.specs.Runs.{IsChecked, Starts};
 
-use crate::siblings::are_siblings;
-use quilt_blocks::Leaf;
-use quilt_loc::end_of;
+use crate::regions::RegionRun;
+use crate::run::Run;
 use quilt_node::Head;
-use quilt_record::{Catalog, Entry, Record, read_catalog, read_region};
-use quilt_types::{Block, Colour, Kind, Name};
+use quilt_record::{Catalog, Entry, Record, read_catalog};
+use quilt_types::{Kind, Name};
 
-/// No leaf, which stands for one before the first.
-const NOTHING: Leaf = Leaf {
-    block: Block {
-        y: 0,
-        x: 0,
-        side: 0,
-    },
-    colour: Colour(0),
-};
-
-/// Decides whether records that come in the order of their keys spell a map of region layers. Its memory is that of the
-/// catalog.
+/// Decides whether records that come in the order of their keys spell a map of regions and points. Its memory is that of the
+/// catalog and of four blocks.
 #[derive(Drop)]
 pub struct Checker {
     level: u8,
@@ -34,10 +23,8 @@ pub struct Checker {
     last: u8,
     /// The number of the layer whose blocks come, or 0 where none has come.
     layer: u8,
-    /// The code at which the last block of the layer ended.
-    end: u32,
-    /// The last three leaves of the layer.
-    recent: [Leaf; 3],
+    /// How far the records of that layer have come.
+    run: Run,
     ghost level_least: { 1 ≤ level },
     ghost level_most: { level ≤ 12 },
     ghost few: { length catalog ≤ last },
@@ -45,19 +32,17 @@ pub struct Checker {
 }
 
 impl Checker {
-    ghost use Rattle.std.specs.Prelude.{◌≡◌, ◌≢◌, ℕ, ◌+◌, ◌^◌, ◌<◌, ◌++◌, ◌∷◌, [], true, false, List, Contains, IfSome, IfNone};
+    ghost use Rattle.std.specs.Prelude.{◌≡◌, ℕ, ◌++◌, ◌∷◌, [], true, false, List, IfSome, IfNone};
     ghost use Rattle.std.specs.Bool.{OnTrue, OnFalse};
-    ghost use Rattle.quilt_types.specs.Plane.{IsBlock};
-    ghost use Rattle.quilt_types.specs.Layers.{colours, Map};
-    ghost use Rattle.quilt_loc.specs.Codes.{code_from, Rises};
+    ghost use Rattle.quilt_types.specs.Layers.{Map};
+    ghost use Rattle.quilt_loc.specs.Codes.{Rises};
     ghost use Rattle.quilt_record.specs.Catalogs.{IsCatalog};
     ghost use Rattle.quilt_record.specs.Records.{Numbering};
     ghost use Rattle.quilt_spell.specs.Written.{by_key};
     ghost use Rattle.quilt_spell.specs.Spelled.{SpellsUnder};
-    ghost use Rattle.quilt_blocks.specs.Cutting.{pair_of};
     ghost use Rattle.quilt_record.specs.declared.record.Record.{Record as AnyRecord};
-    ghost use Rattle.quilt_region.specs.Regions.{leaf_record};
-    ghost use Rattle.quilt_audit.specs.Surveys.{AreNumbered, AreRegions};
+    ghost use Rattle.quilt_audit.specs.Surveys.{AreNumbered, AreRegionsOrPoints};
+    ghost use Rattle.quilt_audit.specs.Runs.{IsRunFinished};
     ghost use Rattle.quilt_audit.specs.Checking.{IsSoFar, HasBegun, Stops, AreRefused, IsFed, Takes, IsSpelled, MayList, IsWhole};
 
     /// No records yet, of a map as a file's head says.
@@ -75,8 +60,7 @@ impl Checker {
             catalog: Catalog::new(),
             last: 0,
             layer: 0,
-            end: 0,
-            recent: [NOTHING; 3],
+            run: Run::Region(RegionRun::new()),
         }
     }
 
@@ -97,8 +81,8 @@ impl Checker {
 
     /// Takes a record, where it may be the next one.
     fn take(&mut self, r: &Record) -> bool
-        ensures yes { (rs : List AnyRecord) → IsSoFar self.old.format self.old.level self.old.catalog self.old.last self.old.layer self.old.end self.old.recent rs → OnTrue result (IsSoFar self.old.format self.old.level self.new.catalog self.new.last self.new.layer self.new.end self.new.recent (rs ++ r.now ∷ []) × HasBegun self.new.layer (rs ++ r.now ∷ [])) }
-        ensures no { (rs : List AnyRecord) → IsSoFar self.old.format self.old.level self.old.catalog self.old.last self.old.layer self.old.end self.old.recent rs → HasBegun self.old.layer rs → OnFalse result (Stops self.old.format self.old.level rs r.now) }
+        ensures yes { (rs : List AnyRecord) → IsSoFar self.old.format self.old.level self.old.catalog self.old.last self.old.layer self.old.run rs → OnTrue result (IsSoFar self.old.format self.old.level self.new.catalog self.new.last self.new.layer self.new.run (rs ++ r.now ∷ []) × HasBegun self.new.layer (rs ++ r.now ∷ [])) }
+        ensures no { (rs : List AnyRecord) → IsSoFar self.old.format self.old.level self.old.catalog self.old.last self.old.layer self.old.run rs → HasBegun self.old.layer rs → OnFalse result (Stops self.old.format self.old.level rs r.now) }
         ensures level { self.new.level ≡ self.old.level }
         ensures format { self.new.format ≡ self.old.format }
         ensures due { self.new.due ≡ self.old.due }
@@ -113,8 +97,8 @@ impl Checker {
     /// Takes a record of the catalog, where it may be the next one.
     fn take_entry(&mut self, r: &Record) -> bool
         requires { r.now.key.layer ≡ 0 }
-        ensures yes { (rs : List AnyRecord) → IsSoFar self.old.format self.old.level self.old.catalog self.old.last self.old.layer self.old.end self.old.recent rs → OnTrue result (IsSoFar self.old.format self.old.level self.new.catalog self.new.last self.new.layer self.new.end self.new.recent (rs ++ r.now ∷ []) × HasBegun self.new.layer (rs ++ r.now ∷ [])) }
-        ensures no { (rs : List AnyRecord) → IsSoFar self.old.format self.old.level self.old.catalog self.old.last self.old.layer self.old.end self.old.recent rs → HasBegun self.old.layer rs → OnFalse result (Stops self.old.format self.old.level rs r.now) }
+        ensures yes { (rs : List AnyRecord) → IsSoFar self.old.format self.old.level self.old.catalog self.old.last self.old.layer self.old.run rs → OnTrue result (IsSoFar self.old.format self.old.level self.new.catalog self.new.last self.new.layer self.new.run (rs ++ r.now ∷ []) × HasBegun self.new.layer (rs ++ r.now ∷ [])) }
+        ensures no { (rs : List AnyRecord) → IsSoFar self.old.format self.old.level self.old.catalog self.old.last self.old.layer self.old.run rs → HasBegun self.old.layer rs → OnFalse result (Stops self.old.format self.old.level rs r.now) }
         ensures level { self.new.level ≡ self.old.level }
         ensures format { self.new.format ≡ self.old.format }
         ensures due { self.new.due ≡ self.old.due }
@@ -138,32 +122,36 @@ impl Checker {
         if self.layer != 0 || e.number <= self.last {
             return false;
         }
-        is_region(e.kind) && !has_name(self.catalog.entries(), &e.name)
+        is_checked(e.kind) && !has_name(self.catalog.entries(), &e.name)
     }
 
-    /// Takes a record of a block, where it may be the next one.
+    /// Takes a record of a layer, where it may be the next one.
     fn take_block(&mut self, r: &Record) -> bool
         requires { 1 ≤ r.now.key.layer }
-        ensures yes { (rs : List AnyRecord) → IsSoFar self.old.format self.old.level self.old.catalog self.old.last self.old.layer self.old.end self.old.recent rs → OnTrue result (IsSoFar self.old.format self.old.level self.new.catalog self.new.last self.new.layer self.new.end self.new.recent (rs ++ r.now ∷ []) × HasBegun self.new.layer (rs ++ r.now ∷ [])) }
-        ensures no { (rs : List AnyRecord) → IsSoFar self.old.format self.old.level self.old.catalog self.old.last self.old.layer self.old.end self.old.recent rs → HasBegun self.old.layer rs → OnFalse result (Stops self.old.format self.old.level rs r.now) }
+        ensures yes { (rs : List AnyRecord) → IsSoFar self.old.format self.old.level self.old.catalog self.old.last self.old.layer self.old.run rs → OnTrue result (IsSoFar self.old.format self.old.level self.new.catalog self.new.last self.new.layer self.new.run (rs ++ r.now ∷ []) × HasBegun self.new.layer (rs ++ r.now ∷ [])) }
+        ensures no { (rs : List AnyRecord) → IsSoFar self.old.format self.old.level self.old.catalog self.old.last self.old.layer self.old.run rs → HasBegun self.old.layer rs → OnFalse result (Stops self.old.format self.old.level rs r.now) }
         ensures level { self.new.level ≡ self.old.level }
         ensures format { self.new.format ≡ self.old.format }
         ensures due { self.new.due ≡ self.old.due }
     {
-        let Some((block, colour)) = read_region(r, self.level, self.format) else {
+        if 255 < r.key.layer {
             return false;
-        };
+        }
         if !self.turn_to(r.key.layer) {
             return false;
         }
-        self.lay(r.key.code, Leaf { block, colour })
+        let Some(run) = self.run.next(r, self.level, self.format) else {
+            return false;
+        };
+        self.run = run;
+        true
     }
 
-    /// Turns to the layer with this number, which is the one whose blocks come or the next one of the catalog.
+    /// Turns to the layer with this number, which is the one whose records come or the next one of the catalog.
     fn turn_to(&mut self, layer: u16) -> bool
         requires { (1 ≤ layer) × (layer ≤ 255) }
-        ensures yes { (rs : List AnyRecord) → IsSoFar self.old.format self.old.level self.old.catalog self.old.last self.old.layer self.old.end self.old.recent rs → OnTrue result (IsSoFar self.old.format self.old.level self.new.catalog self.new.last self.new.layer self.new.end self.new.recent rs × (self.new.layer ≡ layer)) }
-        ensures no { (rs : List AnyRecord) (r : AnyRecord) → IsSoFar self.old.format self.old.level self.old.catalog self.old.last self.old.layer self.old.end self.old.recent rs → HasBegun self.old.layer rs → r.key.layer ≡ layer → OnFalse result (Stops self.old.format self.old.level rs r) }
+        ensures yes { (rs : List AnyRecord) → IsSoFar self.old.format self.old.level self.old.catalog self.old.last self.old.layer self.old.run rs → OnTrue result (IsSoFar self.old.format self.old.level self.new.catalog self.new.last self.new.layer self.new.run rs × (self.new.layer ≡ layer)) }
+        ensures no { (rs : List AnyRecord) (r : AnyRecord) → IsSoFar self.old.format self.old.level self.old.catalog self.old.last self.old.layer self.old.run rs → HasBegun self.old.layer rs → r.key.layer ≡ layer → OnFalse result (Stops self.old.format self.old.level rs r) }
         ensures level { self.new.level ≡ self.old.level }
         ensures format { self.new.format ≡ self.old.format }
         ensures due { self.new.due ≡ self.old.due }
@@ -177,48 +165,26 @@ impl Checker {
         if next_number(self.catalog.entries(), self.layer) != layer {
             return false;
         }
+        let Some(run) = run_of(self.catalog.entries(), layer) else {
+            return false;
+        };
         self.layer = layer as u8;
-        self.end = 0;
-        self.recent = [NOTHING; 3];
+        self.run = run;
         true
     }
 
-    /// Whether the blocks of the layer cover the square, or none has come.
+    /// Whether the records of the layer may be all, or none has come.
     fn is_covered(&self) -> bool
-        ensures yes { result ≡ true → 1 ≤ self.now.layer → self.now.end ≡ 4 ^ self.now.level }
-        ensures no { result ≡ false → (1 ≤ self.now.layer) × (self.now.end ≢ 4 ^ self.now.level) }
+        ensures yes { result ≡ true → 1 ≤ self.now.layer → IsRunFinished self.now.level self.now.run }
+        ensures no { result ≡ false → (1 ≤ self.now.layer) × (IsRunFinished self.now.level self.now.run → ⊥) }
     {
-        self.layer == 0 || self.end == 1 << (2 * self.level)
+        self.layer == 0 || self.run.is_finished(self.level)
     }
 
-    /// Puts a leaf down whose block begins at this code, where the last one ended there and the two make no four siblings of
-    /// one colour.
-    fn lay(&mut self, code: u32, leaf: Leaf) -> bool
-        requires block { IsBlock self.old.level leaf.block }
-        requires code { code ≡ code_from leaf.block }
-        ensures yes { (rs : List AnyRecord) → 1 ≤ self.old.layer → leaf.colour.0 < colours self.old.format → IsSoFar self.old.format self.old.level self.old.catalog self.old.last self.old.layer self.old.end self.old.recent rs → OnTrue result (IsSoFar self.old.format self.old.level self.new.catalog self.new.last self.new.layer self.new.end self.new.recent (rs ++ leaf_record self.old.level self.old.layer (pair_of leaf) ∷ [])) }
-        ensures no { (rs : List AnyRecord) → 1 ≤ self.old.layer → IsSoFar self.old.format self.old.level self.old.catalog self.old.last self.old.layer self.old.end self.old.recent rs → OnFalse result (Stops self.old.format self.old.level rs (leaf_record self.old.level self.old.layer (pair_of leaf))) }
-        ensures layer { self.new.layer ≡ self.old.layer }
-        ensures level { self.new.level ≡ self.old.level }
-        ensures format { self.new.format ≡ self.old.format }
-        ensures due { self.new.due ≡ self.old.due }
-    {
-        if code != self.end {
-            return false;
-        }
-        let [a, b, c] = self.recent;
-        if are_siblings(a, b, c, leaf, self.level) {
-            return false;
-        }
-        self.recent = [b, c, leaf];
-        self.end = end_of(leaf.block);
-        true
-    }
-
-    /// The catalog, where the records were those of a map of region layers.
+    /// The catalog, where the records were those of a map of regions and points.
     pub fn finish(self) -> Option<Catalog>
         ensures some { IfSome result (λ entries. (total : ℕ) (rs : List AnyRecord) → IsFed total self rs → Rises by_key rs → IsSpelled self.format self.level entries rs × (length rs ≡ total)) }
-        ensures none { IfNone result ((total : ℕ) (rs : List AnyRecord) → IsFed total self rs → (numbers : Numbering) (layers : Map) → AreRegions layers → SpellsUnder self.format self.level numbers rs layers → length rs ≡ total → ⊥) }
+        ensures none { IfNone result ((total : ℕ) (rs : List AnyRecord) → IsFed total self rs → (numbers : Numbering) (layers : Map) → AreRegionsOrPoints layers → SpellsUnder self.format self.level numbers rs layers → length rs ≡ total → ⊥) }
         ensures numbered { IfSome result (λ entries. (total : ℕ) (rs : List AnyRecord) → IsFed total self rs → AreNumbered self.format entries) }
     {
         let is_whole = self.is_whole();
@@ -241,12 +207,26 @@ impl Checker {
     }
 }
 
-/// Whether the layer is a region.
-fn is_region(kind: Kind) -> bool
-    ensures yes { result ≡ true → kind ≡ kinds.Region }
-    ensures no { result ≡ false → kind ≢ kinds.Region }
+/// Whether a layer of the kind can be checked.
+fn is_checked(kind: Kind) -> bool
+    ensures yes { result ≡ true → IsChecked kind }
+    ensures no { result ≡ false → IsChecked kind → ⊥ }
 {
-    kind == Kind::Region
+    match kind {
+        Kind::Region | Kind::Points { .. } => true,
+        Kind::Lines { .. } => false,
+    }
+}
+
+/// No record yet of the layer with this number, where an entry has it and its kind can be checked.
+fn run_of(entries: &[Entry], number: u16) -> Option<Run>
+    ensures some { IfSome result (λ run. (e : AnyEntry) × Contains entries.now e × (e.number ≡ number) × Starts e.kind run) }
+    ensures none { IfNone result ((e : AnyEntry) → Contains entries.now e → e.number ≡ number → (d : AnyEntry) × Contains entries.now d × (d.number ≡ number) × (IsChecked d.kind → ⊥)) }
+{
+    match entries.iter().find(|e| u16::from(e.number) == number) {
+        None => None,
+        Some(e) => Run::new(e.kind),
+    }
 }
 
 /// Whether an entry has the name.

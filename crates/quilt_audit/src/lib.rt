@@ -3,13 +3,21 @@
 
 mod checker;
 mod marks;
+mod points;
 mod reading;
+mod regions;
+mod run;
 mod siblings;
 mod survey;
 mod surveying;
+mod tally;
 mod walking;
 
 pub use survey::{Survey, audit};
 
+#[cfg(test)]
+mod drawn_tests;
+#[cfg(test)]
+mod point_tests;
 #[cfg(test)]
 mod tests;

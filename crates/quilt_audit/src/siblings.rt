@@ -2,7 +2,7 @@ ghost use Rattle.std.specs.Prelude.{◌≡◌, ℕ, ◌≤◌, [], ◌∷◌, tr
 ghost use Rattle.quilt_types.specs.declared.plane.Block.{Block as BlockValue};
 ghost use Rattle.quilt_types.specs.Plane.{IsBlock};
 ghost use Rattle.quilt_blocks.specs.Cutting.{pair_of};
-ghost use Rattle.quilt_audit.specs.Checking.{AreSiblings};
+ghost use Rattle.quilt_audit.specs.Regions.{AreSiblings};
 
 use quilt_blocks::Leaf;
 use quilt_loc::{parent, quarters};

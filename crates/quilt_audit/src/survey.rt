@@ -25,8 +25,8 @@ pub struct Survey {
     pub used: [u8; 3750],
 }
 
-/// Reads the tree of a store of `pages` home pages once, and decides whether it spells a map of region layers with the
-/// head's format, level and number of records. Where it does not, it answers the first page in the order of the walk that
+/// Reads the tree of a store of `pages` home pages once, and decides whether it spells a map of regions and points with
+/// the head's format, level and number of records. Where it does not, it answers the first page in the order of the walk that
 /// is damaged, or page 0 where every page passes. It takes no memory.
 pub fn audit<S: PageStore>(store: &mut S, head: &Head, pages: u32) -> Result<Survey, Stop>
     requires size { pages ≡ S.size store.old }

@@ -10,7 +10,7 @@ use std::alloc::Global;
 use std::test::Fail;
 
 /// The bytes of a leaf page with these records, at most 144.
-fn leaf_page(records: &[Record]) -> [u8; 4096]
+pub fn leaf_page(records: &[Record]) -> [u8; 4096]
     requires { length records.now ≤ 144 }
 {
     let mut page = [0; 4096];
@@ -47,7 +47,7 @@ fn put(store: &mut MemStore, bytes: &[u8; 4096]) -> Result<(), Fail>
 }
 
 /// A store of 16 pages with these as the pages 1 and 2.
-fn stored(alloc: Global, one: &[u8; 4096], two: &[u8; 4096]) -> Result<MemStore, Fail>
+pub fn stored(alloc: Global, one: &[u8; 4096], two: &[u8; 4096]) -> Result<MemStore, Fail>
     ensures { IfOk result (λ s. ⟦<MemStore as PageStore>⟧.size s ≡ 16) }
 {
     let mut store = MemStore::new(alloc, 16)?;
@@ -57,7 +57,7 @@ fn stored(alloc: Global, one: &[u8; 4096], two: &[u8; 4096]) -> Result<MemStore,
 }
 
 /// A page of zeros.
-const BLANK: [u8; 4096] = [0; 4096];
+pub const BLANK: [u8; 4096] = [0; 4096];
 
 /// The head of a map of level 1 whose tree has its root at page 1.
 fn head(format: u8, height: u8, records: u32) -> Head
@@ -77,7 +77,7 @@ fn head(format: u8, height: u8, records: u32) -> Head
 }
 
 /// The record of a layer of the catalog with a name of one letter.
-fn entry(number: u32, letter: u8, kind: u8) -> Record {
+pub fn entry(number: u32, letter: u8, kind: u8) -> Record {
     Record {
         key: Key {
             layer: 0,
@@ -105,7 +105,7 @@ fn pixel(code: u32, low: u8, high: u8) -> Record {
 }
 
 /// What an audit answers of a tree of one leaf with these records, at most 144.
-fn audited(
+pub fn audited(
     alloc: Global,
     records: &[Record],
     format: u8,
@@ -120,7 +120,7 @@ fn audited(
 }
 
 /// Page 0 is what is answered where each page passes.
-const NO_MAP: Option<Stop> = Some(Stop::Damaged { page: 0 });
+pub const NO_MAP: Option<Stop> = Some(Stop::Damaged { page: 0 });
 
 #[test]
 fn a_region_of_four_pixels(rt: HostRuntime) -> Result<(), Fail> {
@@ -179,6 +179,8 @@ fn records_that_are_no_catalog(rt: HostRuntime) -> Result<(), Fail> {
     assert_eq!(rt; audited(rt.alloc(), &nought, 1, 1)?.err(), NO_MAP);
     let points = [entry(1, b'a', 2)];
     assert_eq!(rt; audited(rt.alloc(), &points, 1, 1)?.err(), NO_MAP);
+    let lines = [entry(1, b'a', 3)];
+    assert_eq!(rt; audited(rt.alloc(), &lines, 1, 1)?.err(), NO_MAP);
     let alone = [entry(1, b'a', 1)];
     assert_eq!(rt; audited(rt.alloc(), &alone, 1, 1)?.err(), NO_MAP);
     Ok(())

@@ -9,13 +9,13 @@ use Rattle.quilt_audit.proofs.checker.Checker.take_entry.Goals as goal
 pub returns-in_default-clause-no : goal.returns-in_default-clause-no
 returns-in_default-clause-no c =
     let s = c.args.self.now in
-    entry_no s.format s.level s.level_least s.level_most s.catalog s.last s.layer s.end s.recent c.args.r.now c.requires
+    entry_no s.format s.level s.level_least s.level_most s.catalog s.last s.layer s.run s.last_most c.args.r.now c.requires
     (entry_read s.format s.last s.layer s.catalog c.args.r.now c.read_catalog.result c.in_default.is c.read_catalog.ensures.one)
 
 pub returns-then-not-may_list-clause-no : goal.returns-then-not-may_list-clause-no
 returns-then-not-may_list-clause-no c =
     let s = c.args.self.now in
-    entry_no s.format s.level s.level_least s.level_most s.catalog s.last s.layer s.end s.recent c.args.r.now c.requires
+    entry_no s.format s.level s.level_least s.level_most s.catalog s.last s.layer s.run s.last_most c.args.r.now c.requires
     (λ w. c.may_list.ensures.no c.if-not-may_list.true
     (may_from s.format s c.args.r.now c.in-Some.e w (entry_same s.format s.last s.layer s.catalog c.args.r.now c.read_catalog.result c.in-Some.e c.in-Some.is c.read_catalog.ensures.one w)))
 
@@ -35,7 +35,7 @@ returns-clause-yes c rs f =
     let s = c.args.self.now in
     let may = c.may_list.ensures.yes c.if-not-may_list.false in
     let first = may.first in (
-      subst (λ (l : List Entry). IsSoFar s.format s.level l c.in-Some.e.number s.layer s.end s.recent (rs ++ c.args.r.now ∷ [])) (sym c.insert.ensures)
-          (IsSoFar-entry s.format s.level s.catalog s.last s.layer s.end s.recent rs f c.args.r.now c.in-Some.e c.in-Some.ensures.some may.region may.first may.above),
+      subst (λ (l : List Entry). IsSoFar s.format s.level l c.in-Some.e.number s.layer s.run (rs ++ c.args.r.now ∷ [])) (sym c.insert.ensures)
+          (IsSoFar-entry s.format s.level s.catalog s.last s.layer s.run rs f c.args.r.now c.in-Some.e c.in-Some.ensures.some may.checked may.first may.above),
       λ some. absurd (omega arith),
     )
