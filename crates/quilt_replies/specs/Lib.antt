@@ -1,0 +1,4 @@
+pub mod Answers
+pub mod Bodies
+pub mod Runs
+pub mod States
