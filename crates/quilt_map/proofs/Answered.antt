@@ -22,13 +22,13 @@ use Rattle.quilt_spell.specs.Written.{number_of}
 use Rattle.quilt_spell.proofs.Stepping.{spelled_count}
 use Rattle.quilt_spell.proofs.Written.{number_fits}
 use Rattle.quilt_edition.specs.declared.book.Book.{Book}
-use Rattle.quilt_map.specs.Answers as answers
-use Rattle.quilt_map.specs.Answers.{State, Outcome, Done, Refused, answer, unless, unknown, unless_region, is_region, grid_in, layer_line, leaf_line, row_line, block_lines, sides_of}
+use Rattle.quilt_replies.specs.Answers as answers
+use Rattle.quilt_replies.specs.Answers.{State, Outcome, Done, Refused, answer, unless, unknown, unless_region, is_region, grid_in, layer_line, leaf_line, row_line, block_lines, sides_of}
 use Rattle.quilt_map.specs.Asking.{IsLayerUnder, IsRegionAt, IsRefusedFirst, IsStill, KeepsAll, HasText}
-use Rattle.quilt_map.specs.Runs.{text_of, is_done}
+use Rattle.quilt_replies.specs.Runs.{text_of, is_done}
 use Rattle.quilt_map.specs.Sessions.{IsAtWith, IsAtState, told_of, tree_in}
-use Rattle.quilt_map.specs.States.{Tells}
-use Rattle.quilt_map.specs.declared.reply.Reply as replies
+use Rattle.quilt_replies.specs.States.{Tells}
+use Rattle.quilt_replies.specs.declared.reply.Reply as replies
 use Rattle.quilt_map.specs.declared.session.Session.{Session}
 use Rattle.quilt_map.proofs.Asked.{still_here, region_of, layer_is}
 use Rattle.quilt_map.proofs.Moving.{IsLawful, later_at}
@@ -199,7 +199,7 @@ module _ {W : Type 0} {D : disk.Ghosts W} where
           (subst (λ (n : ℕ). IsGrid old.book.work.format n r.grid) level_is (layer_is old.book.work.format old.book.work.level s.work at.work.spelled.map name (Region r.grid) r.got))
 
       -- the list of its leaves
-      raster_is : (l : Raster) → ((g : Grid) → HasRegion (told_of old.book) (tree_in old.book.work) number old.book.work.level g → l ≡ record { level = old.book.work.level; grid = g }) → l ≡ record { level = s.last.level; grid = r.grid }
+      pub raster_is : (l : Raster) → ((g : Grid) → HasRegion (told_of old.book) (tree_in old.book.work) number old.book.work.level g → l ≡ record { level = old.book.work.level; grid = g }) → l ≡ record { level = s.last.level; grid = r.grid }
       raster_is l is = is r.grid has_region ∙ ap (λ (n : ℕ). record { level = n; grid = r.grid }) level_is
 
       pub blocks_body : (l : Raster) → ((g : Grid) → HasRegion (told_of old.book) (tree_in old.book.work) number old.book.work.level g → l ≡ record { level = old.book.work.level; grid = g })

@@ -11,14 +11,14 @@ use Rattle.quilt_world.specs.declared.disk.Disk as disk
 use Rattle.quilt_words.specs.declared.command.Command.{Command}
 use Rattle.quilt_words.specs.declared.command.Command.TheVariants as commands
 use Rattle.quilt_edition.specs.declared.book.Book.{Book}
-use Rattle.quilt_map.specs.Answers as answers
-use Rattle.quilt_map.specs.Answers.{State, Reply, answer, unless}
+use Rattle.quilt_replies.specs.Answers as answers
+use Rattle.quilt_replies.specs.Answers.{State, Reply, answer, unless}
 use Rattle.quilt_map.specs.Asking.{IsStill, HasText}
 use Rattle.quilt_map.specs.Commanding.{Answered}
 use Rattle.quilt_map.specs.Sessions.{IsAtState}
-use Rattle.quilt_map.specs.States.{Tells}
-use Rattle.quilt_map.specs.Steps.{is_revert}
-use Rattle.quilt_map.specs.declared.reply.Reply as replies
+use Rattle.quilt_replies.specs.States.{Tells}
+use Rattle.quilt_map.specs.Steps.{goes_back}
+use Rattle.quilt_replies.specs.declared.reply.Reply as replies
 use Rattle.quilt_map.specs.declared.session.Session.{Session}
 use Rattle.quilt_map.proofs.Answered.{IsBodyOf, told_reply, keeps_at, warm_at}
 use Rattle.quilt_map.proofs.Asked.{if_ok}
@@ -28,9 +28,9 @@ use Rattle.quilt_map.proofs.Outcomes.{nothing_done, answered_same}
 -- the command only tells
 pub record Asks (s : State) (command : Command) : Type 0 where
   pub nothing : answer s command ≡ nothing_done s ((answer s command).reply)
-  pub forward : is_revert command ≡ false
+  pub forward : goes_back command ≡ false
 
-alone : (s : State) (rs : List (Bool × Code)) (body : List (List ℕ)) → unless rs s (answers.told s body) ≡ nothing_done s ((unless rs s (answers.told s body)).reply)
+pub alone : (s : State) (rs : List (Bool × Code)) (body : List (List ℕ)) → unless rs s (answers.told s body) ≡ nothing_done s ((unless rs s (answers.told s body)).reply)
 alone s [] body = refl
 alone s (r ∷ rs) body = by_case r.0 r.1 (alone s rs body)
   where

@@ -21,7 +21,7 @@ use Rattle.quilt_edition.specs.declared.book.Book.{Book}
 use Rattle.quilt_edition.specs.Books as books
 use Rattle.quilt_edition.specs.Keeping.{IsLater}
 use Rattle.quilt_edition.specs.Laws.{later_same}
-use Rattle.quilt_map.specs.Answers.{State}
+use Rattle.quilt_replies.specs.Answers.{State}
 use Rattle.quilt_map.specs.Editing.{SameButTree}
 use Rattle.quilt_map.specs.Planning.{IsPlan, HasLayer, IsFull}
 use Rattle.quilt_map.specs.Sessions.{IsAtState, tree_in, told_of, free_of, changed_of, last_count}

@@ -15,7 +15,9 @@ use Rattle.quilt_world.specs.Causes.{Rose}
 use Rattle.quilt_world.specs.Tale.{Tale, IsConsistent, Goes}
 use Rattle.quilt_world.specs.declared.disk.Disk as disk
 use Rattle.quilt_world.proofs.StopLaws.{since_weaker}
+use Rattle.quilt_words.specs.Fitting.{IsFitting}
 use Rattle.quilt_words.specs.Forms.{Spelled}
+use Rattle.quilt_words.proofs.SpelledLaws.{spelled_fits}
 use Rattle.quilt_words.specs.declared.command.Command.{Command}
 use Rattle.quilt_words.specs.declared.command.Command.TheVariants as commands
 use Rattle.quilt_journal.specs.Kept.{HasHome}
@@ -25,16 +27,15 @@ use Rattle.quilt_edition.specs.Books as books
 use Rattle.quilt_edition.specs.Keeping.{IsLater}
 use Rattle.quilt_edition.proofs.Steps.{seen_home}
 use Rattle.quilt_node.specs.declared.head.Head.{Head}
-use Rattle.quilt_map.specs.Answers.{State, answer}
+use Rattle.quilt_replies.specs.Answers.{State, answer}
 use Rattle.quilt_map.specs.Commanding.{Answered, IsApplied}
 use Rattle.quilt_map.specs.Sessions.{IsAt, IsAtState, IsPublishedAs, world_of, level_of, changes_of}
-use Rattle.quilt_map.specs.States.{Tells, IsRefusal, after}
-use Rattle.quilt_map.specs.Steps.{Leaves, StandsFor, WritesFew, changes_after, gives_edition, is_revert}
-use Rattle.quilt_map.specs.declared.reply.Reply.{Reply}
-use Rattle.quilt_map.specs.declared.reply.Reply.TheVariants as given
+use Rattle.quilt_replies.specs.States.{Tells, IsRefusal, after}
+use Rattle.quilt_map.specs.Steps.{Leaves, StandsFor, WritesFew, changes_after, gives_edition, goes_back}
+use Rattle.quilt_replies.specs.declared.reply.Reply.{Reply}
+use Rattle.quilt_replies.specs.declared.reply.Reply.TheVariants as given
 use Rattle.quilt_map.specs.declared.session.Session.{Session}
 use Rattle.quilt_map.proofs.Answered.{format_is}
-use Rattle.quilt_map.proofs.Built.{IsColoured, spelled_coloured}
 use Rattle.quilt_map.proofs.Keeping.{book_idle, book_leaves, book_stands}
 use Rattle.quilt_map.proofs.Orderly.{quiet_none, refused_after}
 
@@ -71,7 +72,7 @@ quiet_else commands.Publish publish upgrade = absurd (publish refl)
 quiet_else commands.Upgrade publish upgrade = absurd (upgrade refl)
 quiet_else c publish upgrade = refl
 
-pub forward_else : (c : Command) → (c ≡ commands.Revert → ⊥) → is_revert c ≡ false
+pub forward_else : (c : Command) → (c ≡ commands.Revert → ⊥) → goes_back c ≡ false
 forward_else commands.Revert revert = absurd (revert refl)
 forward_else c revert = refl
 
@@ -81,14 +82,21 @@ not_publish c quiet is = let no_ : gives_edition commands.Publish ≡ false = su
 pub not_upgrade : (c : Command) → gives_edition c ≡ false → c ≡ commands.Upgrade → ⊥
 not_upgrade c quiet is = let no_ : gives_edition commands.Upgrade ≡ false = subst (λ (x : Command). gives_edition x ≡ false) is quiet in cc
 
-pub not_revert : (c : Command) → is_revert c ≡ false → c ≡ commands.Revert → ⊥
-not_revert c forward is = let no_ : is_revert commands.Revert ≡ false = subst (λ (x : Command). is_revert x ≡ false) is forward in cc
+pub not_revert : (c : Command) → goes_back c ≡ false → c ≡ commands.Revert → ⊥
+not_revert c forward is = let no_ : goes_back commands.Revert ≡ false = subst (λ (x : Command). goes_back x ≡ false) is forward in cc
 
--- the colour of a command that has one is of the format of the last edition
+-- what a command has that is spelled is of the format and the level of the work, and so of the last edition
 module _ {W : Type 0} {D : disk.Ghosts W} where
-  pub colour_of : (old : Session W D) (n : ℕ) (command other : Command) (s : State) → Spelled old.book.work.format n command → command ≡ other → IsAtState old s → IsColoured s.last.format other
-  colour_of old n command other s spelled is at =
-      subst (λ (f : ℕ). IsColoured f other) (format_is old s at) (subst (λ (x : Command). IsColoured old.book.work.format x) is (spelled_coloured old.book.work.format n command spelled))
+  pub fitting_here : (old : Session W D) (command other : Command) → Spelled old.book.work.format old.book.last.level command → command ≡ other
+      → IsFitting old.book.work.format old.book.last.level other
+  fitting_here old command other spelled is =
+      let format = old.book.work.format in
+      subst (IsFitting format old.book.last.level) is (spelled_fits format old.book.last.level command old.book.next.format.0 old.book.next.format.1 spelled)
+
+  pub fitting_of : (old : Session W D) (command other : Command) (s : State) → Spelled old.book.work.format old.book.last.level command → command ≡ other → IsAtState old s → IsFitting s.last.format s.last.level other
+  fitting_of old command other s spelled is at =
+      subst (λ (f : ℕ). IsFitting f s.last.level other) (format_is old s at)
+      (subst (λ (n : ℕ). IsFitting old.book.work.format n other) (sym at.last.head.level) (fitting_here old command other spelled is))
 
   module _ (old new : Session W D) (command other : Command) (same : other ≡ command) where
     abbrev Says : Reply → Type 0

@@ -25,24 +25,24 @@ use Rattle.quilt_region.specs.Laws as regions
 use Rattle.quilt_region.proofs.LayerPlans.{numbers_law, drops_law, copies_law}
 use Rattle.quilt_edition.specs.declared.book.Book.{Book}
 use Rattle.quilt_words.specs.declared.command.Command.TheVariants as commands
-use Rattle.quilt_map.specs.Answers.{State, Outcome, Refused, Done, answer, unless, exists, too_many, full, with, makes, changed}
+use Rattle.quilt_replies.specs.Answers.{State, Outcome, Refused, Done, answer, unless, exists, too_many, full, with, makes, changed}
 use Rattle.quilt_map.specs.Asking.{IsStill}
 use Rattle.quilt_map.specs.Commanding.{Answered}
 use Rattle.quilt_map.specs.Copying.{IsListed, records_of}
 use Rattle.quilt_map.specs.Making.{AnsweredBy, placed}
 use Rattle.quilt_map.specs.Lookups.{IsLayerAt}
 use Rattle.quilt_map.specs.Planning.{IsPlan, HasLayer, IsFull, changed_state}
-use Rattle.quilt_map.specs.Runs.{text_of}
+use Rattle.quilt_replies.specs.Runs.{text_of}
 use Rattle.quilt_map.specs.Sessions.{IsAtWith, IsAtState, told_of, tree_in, last_count}
-use Rattle.quilt_map.specs.declared.reply.Reply as replies
-use Rattle.quilt_map.specs.declared.reply.Reply.TheVariants as given
+use Rattle.quilt_replies.specs.declared.reply.Reply as replies
+use Rattle.quilt_replies.specs.declared.reply.Reply.TheVariants as given
 use Rattle.quilt_map.specs.declared.session.Session.{Session}
 use Rattle.quilt_map.proofs.Asked.{layer_is}
 use Rattle.quilt_map.proofs.Catalogs.{catalog_goes, some_entry}
 use Rattle.quilt_map.proofs.ChangeSteps.{at_most, at_spelled, counted}
 use Rattle.quilt_map.proofs.NewLayers.{new_plan}
 use Rattle.quilt_map.proofs.Outcomes.{nothing_done}
-use Rattle.quilt_map.proofs.Placing.{answered_by}
+use Rattle.quilt_map.proofs.Placing.{answered_by, answered_from}
 
 -- ---- what the definition answers
 
@@ -165,11 +165,8 @@ module _ {W : Type 0} {D : disk.Ghosts W} where
   pub copy_answer : (old mid new : Session W D) (s : State) (a b : List ℕ) (l : Layer) (reply : replies.Reply) → finmap.get s.work a ≡ Some l → (exists s b).0 ≡ false → (too_many s).0 ≡ false
       → mid.changes ≡ old.changes → AnsweredBy s (placed s b l) mid new reply → Answered s (commands.Copy a b) old new reply
   copy_answer old mid new s a b l reply got fresh few same by =
-      answered_by s (commands.Copy a b) (placed s b l) old new reply (copy_gives s a b l got fresh few) (none_published (full s (with s b l)).0 s (with s b l)) refl (record {
-        tells = by.tells;
-        at = by.at;
-        count = by.count ∙ ap (λ k. min (k + changes s.last.level s.work (placed s b l).work) last_count) same;
-      })
+      answered_by s (commands.Copy a b) (placed s b l) old new reply (copy_gives s a b l got fresh few) (none_published (full s (with s b l)).0 s (with s b l)) refl
+      (answered_from old mid new s (placed s b l) reply same by)
 
   -- the layer is gone, with its catalog renewed
   pub drop_answer : (old mid new : Session W D) (s : State) (name : List ℕ) (layer : Layer) (entries : List Entry) (text : List ℕ) → finmap.get s.work name ≡ Some layer

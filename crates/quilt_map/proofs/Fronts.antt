@@ -5,8 +5,8 @@ use Rattle.quilt_types.specs.Layers.{Map, Edition}
 use Rattle.quilt_world.specs.Tale.{Begins}
 use Rattle.quilt_words.specs.Items.{Group, items_of}
 use Rattle.quilt_lang.specs.Reading.{Gives}
-use Rattle.quilt_map.specs.Answers.{Reply}
-use Rattle.quilt_map.specs.Runs.{run, run_of, replies_of, outcome_of, form_in}
+use Rattle.quilt_replies.specs.Answers.{Reply}
+use Rattle.quilt_replies.specs.Runs.{run, run_of, replies_of, outcome_of, form_in}
 use Rattle.quilt_map.specs.Settled.{IsSettled}
 use Rattle.quilt_map.proofs.TextLaws.{run_same}
 

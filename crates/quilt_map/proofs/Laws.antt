@@ -6,7 +6,7 @@ use Rattle.quilt_world.specs.declared.disk.Disk as disk
 use Rattle.quilt_edition.specs.Stands.{Stands}
 use Rattle.quilt_world.specs.Disk.{Pages}
 use Rattle.quilt_journal.specs.Kept.{HasHome, published}
-use Rattle.quilt_map.specs.Answers.{State}
+use Rattle.quilt_replies.specs.Answers.{State}
 use Rattle.quilt_map.specs.declared.session.Session.{Session}
 use Rattle.quilt_map.proofs.Keeping.{book_leaves, book_seen, book_stands}
 use Rattle.quilt_map.specs.Sessions.{IsAt, world_of, format_of, level_of}

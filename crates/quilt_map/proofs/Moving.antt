@@ -21,7 +21,7 @@ use Rattle.quilt_pool.specs.declared.pool.Pool.{Pool}
 use Rattle.quilt_edition.specs.declared.book.Book.{Book}
 use Rattle.quilt_edition.specs.Books as books
 use Rattle.quilt_edition.specs.Keeping.{IsLater, is_left_out, is_free, marked_count}
-use Rattle.quilt_map.specs.Answers.{State}
+use Rattle.quilt_replies.specs.Answers.{State}
 use Rattle.quilt_map.specs.Sessions.{IsHeadOf, IsSpelled, IsPublishedAs, IsAtWith, IsAtState, IsLaterBook, IsOpened, first_state, tree_in, told_of, free_of, changed_of, last_count}
 use Rattle.quilt_map.specs.declared.session.Session.{Session}
 use Rattle.quilt_map.proofs.Keeping.{book_idle, published_on}

@@ -13,7 +13,7 @@ use Rattle.quilt_blocks.specs.Raster.{Raster}
 use Rattle.quilt_region.specs.Laws as regions
 use Rattle.quilt_region.specs.Regions.{region_records}
 use Rattle.quilt_region.proofs.RegionLaws.{fresh_law}
-use Rattle.quilt_map.specs.Answers.{State}
+use Rattle.quilt_replies.specs.Answers.{State}
 use Rattle.quilt_map.specs.Planning.{IsPlan}
 use Rattle.quilt_map.specs.Sessions.{IsAtState}
 use Rattle.quilt_map.specs.declared.session.Session.{Session}

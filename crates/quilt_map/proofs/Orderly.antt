@@ -16,9 +16,9 @@ use Rattle.quilt_types.specs.declared.code.Code.{Code}
 use Rattle.quilt_types.specs.declared.code.Code.TheVariants as no
 use Rattle.quilt_words.specs.declared.command.Command.{Command}
 use Rattle.quilt_words.specs.declared.command.Command.TheVariants as commands
-use Rattle.quilt_map.specs.Answers.{State, Outcome, Reply, Refused, Done, unless, told, changed, layer, unknown, unless_region, unless_points, unless_lines, exists, too_many, outside, window_outside, full, capacity_in, threshold_in, points_in, segs_in, cover_in, grid, with, sides_of, block_lines, row_line, leaf_line, point_line, seg_line, clip_lines, nearest_lines, is_over, collide, with_points, ranked_line, pair_line, colours_of_bytes, unless_written, makes, edition_after, upgraded, no_more_editions, publishes_it, answer}
-use Rattle.quilt_map.specs.Runs.{outcome_of}
-use Rattle.quilt_map.specs.States.{after}
+use Rattle.quilt_replies.specs.Answers.{State, Outcome, Reply, Refused, Done, unless, told, changed, layer, unknown, unless_region, unless_points, unless_lines, exists, too_many, outside, window_outside, full, capacity_in, threshold_in, points_in, segs_in, cover_in, grid, with, sides_of, block_lines, row_line, leaf_line, point_line, seg_line, clip_lines, nearest_lines, is_over, collide, with_points, ranked_line, pair_line, colours_of_bytes, unless_written, makes, edition_after, upgraded, no_more_editions, publishes_it, answer}
+use Rattle.quilt_replies.specs.Runs.{outcome_of}
+use Rattle.quilt_replies.specs.States.{after}
 use Rattle.quilt_map.specs.Steps.{gives_edition}
 
 -- the edition has this level, where there is one

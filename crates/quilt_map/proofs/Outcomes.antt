@@ -21,16 +21,16 @@ use Rattle.quilt_spell.specs.Spelled.{SpellsUnder}
 use Rattle.quilt_edition.specs.declared.book.Book.{Book}
 use Rattle.quilt_edition.specs.Books as books
 use Rattle.quilt_edition.specs.Stands.{Stands}
-use Rattle.quilt_map.specs.Answers.{State, Outcome, Reply, Refused, Done, answer, unless, no_more_editions, edition_after, upgraded, publishes_it}
+use Rattle.quilt_replies.specs.Answers.{State, Outcome, Reply, Refused, Done, answer, unless, no_more_editions, edition_after, upgraded, publishes_it}
 use Rattle.quilt_map.specs.Commanding.{Answered}
 use Rattle.quilt_map.specs.Renewing.{CanPublish, IsRenewed, LeavesEither}
 use Rattle.quilt_map.specs.Sessions.{IsAtState, IsSpelled, told_of, free_of, changed_of, last_count}
-use Rattle.quilt_map.specs.States.{Tells, after, after_outcome}
-use Rattle.quilt_map.specs.Steps.{Leaves, StandsFor, StandsForNew, changes_after, is_revert}
-use Rattle.quilt_map.specs.Runs.{text_of}
+use Rattle.quilt_replies.specs.States.{Tells, after, after_outcome}
+use Rattle.quilt_map.specs.Steps.{Leaves, StandsFor, StandsForNew, changes_after, goes_back}
+use Rattle.quilt_replies.specs.Runs.{text_of}
 use Rattle.quilt_lang.specs.Trials.{spaced}
-use Rattle.quilt_map.specs.declared.reply.Reply as replies
-use Rattle.quilt_map.specs.declared.reply.Reply.TheVariants as given
+use Rattle.quilt_replies.specs.declared.reply.Reply as replies
+use Rattle.quilt_replies.specs.declared.reply.Reply.TheVariants as given
 use Rattle.quilt_map.specs.declared.session.Session.{Session}
 use Rattle.quilt_map.proofs.Keeping.{book_leaves, book_stands}
 use Rattle.quilt_map.proofs.Moving.{published_as, spelled_as, with_book, whole_free}
@@ -47,10 +47,10 @@ module _ (s : State) (command : Command) (r : Reply) (e : answer s command ≡ n
   pub same_reply : (answer s command).reply ≡ r
   same_reply = ap (λ (o : Outcome). o.reply) e
 
-  pub same_count : (c : ℕ) → is_revert command ≡ false → c ≤ last_count → changes_after s command c ≡ c
+  pub same_count : (c : ℕ) → goes_back command ≡ false → c ≤ last_count → changes_after s command c ≡ c
   same_count c forward low =
       ap (λ (b : Bool). if b then 0 else min (c + changes s.last.level s.work (answer s command).work) last_count)
-      (ap (λ (o : Outcome). is_some o.published || is_revert command) e ∙ forward)
+      (ap (λ (o : Outcome). is_some o.published || goes_back command) e ∙ forward)
       ∙ ap (λ (o : Outcome). min (c + changes s.last.level s.work o.work) last_count) e
       ∙ ap (λ k. min (c + k) last_count) (changes_none s.last.level s.work)
       ∙ min-eq_left {n = c + 0} {m = last_count} (omega arith) ∙ omega arith
@@ -102,7 +102,7 @@ is_one a b same range apart = ⊎_elim (λ more. absurd (apart (omega arith))) (
 
 module _ {W : Type 0} {D : disk.Ghosts W} where
   -- a session that was not touched, where the command changes nothing
-  pub answered_same : (s : State) (command : Command) (old new : Session W D) (r : Reply) (given : replies.Reply) → answer s command ≡ nothing_done s r → is_revert command ≡ false
+  pub answered_same : (s : State) (command : Command) (old new : Session W D) (r : Reply) (given : replies.Reply) → answer s command ≡ nothing_done s r → goes_back command ≡ false
       → Tells given r → new.changes ≡ old.changes → IsAtState old s → IsAtState new s → Answered s command old new given
   answered_same s command old new r given e forward tells count was at = record {
     tells = subst (λ (x : Reply). Tells given x) (sym (same_reply s command r e)) tells;
@@ -146,7 +146,7 @@ module _ {W : Type 0} {D : disk.Ghosts W} where
     at = subst (λ (o : Outcome). IsAtState new (after_outcome s o)) (sym is) renewed.at;
     count =
         renewed.count
-        ∙ sym (ap (λ (o : Outcome). if is_some o.published || is_revert command then 0 else min (old.changes + changes s.last.level s.work o.work) last_count) is);
+        ∙ sym (ap (λ (o : Outcome). if is_some o.published || goes_back command then 0 else min (old.changes + changes s.last.level s.work o.work) last_count) is);
   }
 
   -- the work may become the next edition in format 2, once the header is raised
@@ -224,7 +224,7 @@ unfolding answer
 revert_is s = refl
 
 pub reverted_count : (s : State) (c : ℕ) → changes_after s commands.Revert c ≡ 0
-reverted_count s c = ap (λ (o : Outcome). if is_some o.published || is_revert commands.Revert then 0 else min (c + changes s.last.level s.work o.work) last_count) (revert_is s)
+reverted_count s c = ap (λ (o : Outcome). if is_some o.published || goes_back commands.Revert then 0 else min (c + changes s.last.level s.work o.work) last_count) (revert_is s)
 
 module _ {W : Type 0} {D : disk.Ghosts W} where
   pub answered_reverted : (s : State) (old new : Session W D) (text : List ℕ) → text ≡ text_of (Done []) → IsAtState new (record { quota = s.quota; last = s.last; work = s.last.layers }) → new.changes ≡ 0

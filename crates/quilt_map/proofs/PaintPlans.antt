@@ -16,37 +16,31 @@ use Rattle.quilt_world.specs.declared.disk.Disk as disk
 use Rattle.quilt_words.specs.declared.command.Command.TheVariants as commands
 use Rattle.quilt_record.specs.declared.edits.Edits.{Edits}
 use Rattle.quilt_record.specs.declared.entry.Entry.{Entry}
-use Rattle.quilt_record.specs.declared.record.Record.{Record}
 use Rattle.quilt_record.specs.Records.{Numbering}
 use Rattle.quilt_spell.specs.Catalogued.{IsCatalogOf}
-use Rattle.quilt_spell.specs.Changing.{IsKept, with_layer, with_number}
-use Rattle.quilt_spell.specs.Changing as changing
-use Rattle.quilt_spell.specs.Stepping.{IsPlaced}
 use Rattle.quilt_spell.specs.Written.{number_of}
 use Rattle.quilt_region.specs.Plans.{LeadsTo}
 use Rattle.quilt_region.specs.Regions.{HasRegion}
 use Rattle.quilt_region.proofs.GridsFit.{fits_law}
 use Rattle.quilt_region.proofs.RegionLaws.{changes_law}
 use Rattle.quilt_edition.specs.declared.book.Book.{Book}
-use Rattle.quilt_map.specs.Answers.{State, Outcome, Refused, Done, answer, unless, unknown, unless_region, window_outside, full, changed, with, grid, grid_in}
+use Rattle.quilt_replies.specs.Answers.{State, Outcome, Refused, answer, unless, unknown, unless_region, window_outside, full, changed, with, grid, grid_in}
 use Rattle.quilt_map.specs.Asking.{IsRegionAt, IsRefusedFirst, IsStill}
 use Rattle.quilt_map.specs.Commanding.{Answered}
 use Rattle.quilt_map.specs.Making.{AnsweredBy, placed}
 use Rattle.quilt_map.specs.Painting.{IsRegionIn}
-use Rattle.quilt_map.specs.Planning.{IsPlan, HasLayer, IsFull}
-use Rattle.quilt_map.specs.Runs.{text_of}
+use Rattle.quilt_map.specs.Planning.{IsAmendment}
 use Rattle.quilt_map.specs.Sessions.{IsAtState, told_of, tree_in, last_count}
-use Rattle.quilt_map.specs.States.{Tells, after_outcome}
-use Rattle.quilt_map.specs.declared.reply.Reply as replies
-use Rattle.quilt_map.specs.declared.reply.Reply.TheVariants as given
+use Rattle.quilt_replies.specs.States.{Tells, after_outcome}
+use Rattle.quilt_replies.specs.declared.reply.Reply as replies
 use Rattle.quilt_map.specs.declared.session.Session.{Session}
-use Rattle.quilt_map.proofs.Answered.{has_region, level_is, keeps_at}
+use Rattle.quilt_map.proofs.Amends.{amendment, mid_at}
+use Rattle.quilt_map.proofs.Answered.{has_region, level_is}
 use Rattle.quilt_map.proofs.Asked.{layer_is}
-use Rattle.quilt_map.proofs.Catalogs.{catalog_stays}
 use Rattle.quilt_map.proofs.ChangeSteps.{at_most, at_spelled}
 use Rattle.quilt_map.proofs.Moving.{IsLawful, with_book}
 use Rattle.quilt_map.proofs.Outcomes.{nothing_done}
-use Rattle.quilt_map.proofs.Placing.{placed_within, full_answer, answered_by}
+use Rattle.quilt_map.proofs.Placing.{placed_none, answered_by}
 use Rattle.quilt_map.proofs.FirstTests.{region_refused, region_passes, first_true, first_false}
 
 -- the layer that was found, under each numbering that the entries give
@@ -69,82 +63,30 @@ module _ {W : Type 0} {D : disk.Ghosts W} (session : Session W D) (s : State) (a
   unfolding as_region
   region_there = has_region {D = D} session s at name number as_region
 
-  -- a region layer becomes one with a window painted
-  pub paint_plan : (w : Window) (c : ℕ) (edits : Edits) (removed added : List Record) → removed ≡ edits.remove → added ≡ edits.add → c < colours s.last.format
-      → LeadsTo s.last.level number g (painted s.last.level g w c) edits → IsPlan s at.work.numbers name number (Some (Region (painted s.last.level g w c))) removed added
-  paint_plan w c edits removed added go come low leads =
-      let n = s.last.level in
-      let form = s.last.format in
-      let next : Option Layer = Some (Region (painted n g w c)) in
-      let most = at_most {D = D} session s at in
-      let old : IsGrid form n g = layer_is form n s.work (at_spelled {D = D} session s at).map name (Region g) is.got in
-      let new : IsGrid form n (painted n g w c) = fits_law.painted_fits form n g w c old low in
-      let plan = changes_law form n name number g (painted n g w c) edits most old new leads in
-      let planned : IsPlan s at.work.numbers name number next edits.remove edits.add = record {
-        step = record {
-          fits = new;
-          kept = subst (λ (o : Option Layer). IsKept o next) (sym is.got) refl;
-          placed = subst (λ (o : Option Layer). IsPlaced s.work at.work.numbers name number o) (sym is.got) here;
-          leads = subst (λ (o : Option Layer). changing.LeadsTo n name number o next edits.remove edits.add) (sym is.got) plan.leads;
-        };
-        some = λ e none. some_none (Region (painted n g w c)) none;
-        removed_ascend = plan.removed_ascend;
-        added_ascend = plan.added_ascend;
-      } in
-      subst (λ (rs : List Record). IsPlan s at.work.numbers name number next rs added) (sym go)
-      (subst (λ (rs : List Record). IsPlan s at.work.numbers name number next edits.remove rs) (sym come) planned)
-    where
-      some_none : (l : Layer) → Some l ≡ None → ⊥
-      some_none l e = cc
+  -- its grid is one of the format
+  pub region_grid : IsGrid s.last.format s.last.level g
+  region_grid = layer_is s.last.format s.last.level s.work (at_spelled {D = D} session s at).map name (Region g) is.got
 
-  -- the entries stay
-  pub paint_catalog : (h : Grid) (entries : List Entry) → entries ≡ session.catalog → IsCatalogOf (with_layer s.work name (Some (Region h))) (with_number at.work.numbers name number (Some (Region h))) entries
-  paint_catalog h entries same =
-      subst (IsCatalogOf (with_layer s.work name (Some (Region h))) (with_number at.work.numbers name number (Some (Region h)))) (sym same)
-      (catalog_stays s.work at.work.numbers session.catalog at.work.catalog name (Region g) (Region h) number is.got refl (sym here))
+  pub painted_grid : (w : Window) (c : ℕ) → c < colours s.last.format → IsGrid s.last.format s.last.level (painted s.last.level g w c)
+  painted_grid w c low = fits_law.painted_fits s.last.format s.last.level g w c region_grid low
+
+  -- a region layer becomes another grid
+  pub region_amendment : (h : Grid) (edits : Edits) → IsGrid s.last.format s.last.level h → LeadsTo s.last.level number g h edits
+      → IsAmendment s at.work.numbers session.catalog name number (Region h) edits.remove edits.add
+  region_amendment h edits fits leads =
+      amendment {D = D} session s at name number (Region g) (Region h) is.got here refl refl fits edits.remove edits.add
+      (changes_law s.last.format s.last.level name number g h edits (at_most {D = D} session s at) region_grid fits leads)
 
 -- ---- once the layer was read
 module _ {W : Type 0} {D : disk.Ghosts W} (old : Session W D) (s : State) (at : IsAtState old s) (b : Book W D) (still : IsStill old.book b) (law : IsLawful (D.size b.world) (D.told b.world)) where
-  pub mid_at : IsAtState (with_book old b) s
-  mid_at = keeps_at {D = D} old b old.warm s still law at
-
-  pub mid_plan : (name : List ℕ) (number : ℕ) (g : Grid) → IsRegionIn s.work old.catalog name number g → (w : Window) (c : ℕ) → c < colours s.last.format
-      → (edits : Edits) (removed added : List Record) → removed ≡ edits.remove → added ≡ edits.add
-      → ((h : Grid) → HasRegion (told_of old.book) (tree_in old.book.work) number old.book.work.level h → LeadsTo old.book.work.level number h (painted old.book.work.level h w c) edits)
-      → IsPlan s mid_at.work.numbers name number (Some (Region (painted s.last.level g w c))) removed added
-  mid_plan name number g is w c low edits removed added go come leads =
-      let led = subst (λ (k : ℕ). LeadsTo k number g (painted k g w c) edits) (level_is {D = D} old s at) (leads g (region_there {D = D} old s at name number g is)) in
-      paint_plan {D = D} (with_book old b) s mid_at name number g is w c edits removed added go come low led
-
-module _ {W : Type 0} {D : disk.Ghosts W} where
-  -- the layer stands, and the entries are as they were
-  pub painted_answer : (old mid new : Session W D) (s : State) (name : List ℕ) (layer : Layer) (text : List ℕ) → mid.changes ≡ old.changes → HasLayer mid new s name (Some layer) new.catalog
-      → text ≡ text_of (Done []) → AnsweredBy s (placed s name layer) old new (given.Ok text)
-  painted_answer old mid new s name layer text same has told =
-      subst (λ (o : Outcome). AnsweredBy s o old new (given.Ok text)) (sym (placed_within s name layer has.within)) (record {
-        tells = (told, refl);
-        at = has.at;
-        count = has.count ∙ ap (λ k. min (k + changes s.last.level s.work (with_layer s.work name (Some layer))) last_count) same;
-      })
-
-  -- the quota refuses
-  pub painted_full : (old mid new : Session W D) (s : State) (name : List ℕ) (layer : Layer) → mid.changes ≡ old.changes → IsAtState mid s → IsFull mid new s name (Some layer)
-      → AnsweredBy s (placed s name layer) old new (given.No no.Full)
-  painted_full old mid new s name layer same was is =
-      let by = full_answer {D = D} mid new s name layer was is in record {
-        tells = by.tells;
-        at = by.at;
-        count = by.count ∙ ap (λ k. min (k + changes s.last.level s.work (placed s name layer).work) last_count) same;
-      }
+  pub mid_amendment : (name : List ℕ) (number : ℕ) (g : Grid) → IsRegionIn s.work old.catalog name number g → (next : ℕ → Grid → Grid) → IsGrid s.last.format s.last.level (next s.last.level g)
+      → (edits : Edits) → ((h : Grid) → HasRegion (told_of old.book) (tree_in old.book.work) number old.book.work.level h → LeadsTo old.book.work.level number h (next old.book.work.level h) edits)
+      → IsAmendment s (mid_at old s at b still law).work.numbers old.catalog name number (Region (next s.last.level g)) edits.remove edits.add
+  mid_amendment name number g is next fits edits leads =
+      region_amendment {D = D} (with_book old b) s (mid_at old s at b still law) name number g is (next s.last.level g) edits fits
+      (subst (λ (k : ℕ). LeadsTo k number g (next k g) edits) (level_is {D = D} old s at) (leads g (region_there {D = D} old s at name number g is)))
 
 -- ---- what the definition answers
-abbrev by_quota : State → Map → Bool → Outcome
-by_quota s work b = unless ((b, no.Full) ∷ []) s (changed work)
-
-none_published : (s : State) (work : Map) (b : Bool) → (by_quota s work b).published ≡ None
-none_published s work true = refl
-none_published s work false = refl
-
 module _ (s : State) (a : List ℕ) (w : Window) (c : Colour) where
   work_then : Map
   work_then = with s a (Region (painted s.last.level (grid s a) w c.0))
@@ -188,7 +130,7 @@ module _ {W : Type 0} {D : disk.Ghosts W} where
       → is_window s.last.level w ≡ true → AnsweredBy s (placed s a (Region (painted s.last.level g w c.0))) old new reply → Answered s (commands.Rect a w c) old new reply
   rect_answered old new s a w c g reply got inside by =
       let layer = Region (painted s.last.level g w c.0) in
-      answered_by {D = D} s (commands.Rect a w c) (placed s a layer) old new reply (rect_done s a w c g got inside) (none_published s (with s a layer) (full s (with s a layer)).0) refl by
+      answered_by {D = D} s (commands.Rect a w c) (placed s a layer) old new reply (rect_done s a w c g got inside) (placed_none s a layer) refl by
 
   pub set_answered : (old new : Session W D) (s : State) (a : List ℕ) (p : Pixel) (c : Colour) (reply : replies.Reply) → Answered s (commands.Rect a (pixel_window p) c) old new reply
       → Answered s (commands.Set a p c) old new reply

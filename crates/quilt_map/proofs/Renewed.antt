@@ -28,7 +28,7 @@ use Rattle.quilt_edition.specs.Publishing.{next_pages}
 use Rattle.quilt_edition.specs.Stands.{Stands}
 use Rattle.quilt_edition.proofs.Publishing.{goes_more_writes}
 use Rattle.quilt_edition.proofs.Steps.{told_idle}
-use Rattle.quilt_map.specs.Answers.{State}
+use Rattle.quilt_replies.specs.Answers.{State}
 use Rattle.quilt_map.specs.Renewing.{CanPublish, IsRenewed, LeavesEither}
 use Rattle.quilt_map.specs.Sessions.{IsHeadOf, IsSpelled, told_of, free_of, changed_of}
 use Rattle.quilt_map.specs.declared.session.Session.{Session}

@@ -9,8 +9,8 @@ use Rattle.quilt_words.specs.declared.command.Command.{Command}
 use Rattle.quilt_words.specs.Items.{Group, held, items_of, whole_items, whole_lines}
 use Rattle.quilt_lang.specs.Reading.{Same, Gives, MayFollow}
 use Rattle.quilt_words.specs.Forms.{form}
-use Rattle.quilt_map.specs.Answers.{State}
-use Rattle.quilt_map.specs.Runs.{Run, Published, run_of, outcome_of, form_in, with_first, is_revert, publishes_of}
+use Rattle.quilt_replies.specs.Answers.{State}
+use Rattle.quilt_replies.specs.Runs.{Run, Published, run_of, outcome_of, form_in, with_first, is_revert, publishes_of}
 use Rattle.quilt_map.proofs.Orderly.{outcome_level, level_then}
 
 -- the run of an item that spells this, and of more

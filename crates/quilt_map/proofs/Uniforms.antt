@@ -18,10 +18,10 @@ use Rattle.quilt_blocks.proofs.Squares.{width}
 use Rattle.quilt_blocks.proofs.Adding.{Adds-push, Adds-whole}
 use Rattle.quilt_region.proofs.GridsFit.{fits_law}
 use Rattle.quilt_words.specs.declared.command.Command.TheVariants as commands
-use Rattle.quilt_map.specs.Answers.{State, Outcome, Refused, answer, unless, exists, too_many, full, with, changed}
+use Rattle.quilt_replies.specs.Answers.{State, Outcome, Refused, answer, unless, exists, too_many, full, with, changed}
 use Rattle.quilt_map.specs.Commanding.{Answered}
 use Rattle.quilt_map.specs.Making.{AnsweredBy, placed, refused}
-use Rattle.quilt_map.specs.declared.reply.Reply.{Reply}
+use Rattle.quilt_replies.specs.declared.reply.Reply.{Reply}
 use Rattle.quilt_map.specs.declared.session.Session.{Session}
 use Rattle.quilt_map.proofs.Outcomes.{nothing_done}
 use Rattle.quilt_map.proofs.Placing.{answered_by, placed_none}

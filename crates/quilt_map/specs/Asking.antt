@@ -18,10 +18,10 @@ use Rattle.quilt_spell.specs.Written.{number_of}
 use Rattle.quilt_pool.specs.Views.{entries_of}
 use Rattle.quilt_edition.specs.Keeping.{reads_of}
 use Rattle.quilt_edition.specs.declared.book.Book.{Book}
-use Rattle.quilt_map.specs.Answers.{State, Outcome, Refused, unless, unknown, unless_region}
+use Rattle.quilt_replies.specs.Answers.{State, Outcome, Refused, unless, unknown, unless_region}
 use Rattle.quilt_map.specs.Sessions.{IsLaterBook, told_of, free_of, changed_of}
-use Rattle.quilt_map.specs.declared.reply.Reply as replies
-use Rattle.quilt_map.specs.declared.reply.Reply.TheVariants as reply
+use Rattle.quilt_replies.specs.declared.reply.Reply as replies
+use Rattle.quilt_replies.specs.declared.reply.Reply.TheVariants as reply
 use Rattle.quilt_map.specs.declared.session.Session.{Session}
 
 -- the map has a region layer under the name, and its records have this number

@@ -7,11 +7,11 @@ use Rattle.quilt_world.specs.Causes.{Rose}
 use Rattle.quilt_world.specs.Tale.{Goes}
 use Rattle.quilt_world.specs.declared.disk.Disk as disk
 use Rattle.quilt_words.specs.declared.command.Command.{Command}
-use Rattle.quilt_map.specs.Answers.{State, answer}
+use Rattle.quilt_replies.specs.Answers.{State, answer}
 use Rattle.quilt_map.specs.Sessions.{IsAt, IsAtState, world_of, level_of, changes_of}
-use Rattle.quilt_map.specs.States.{Tells, IsRefusal, after}
+use Rattle.quilt_replies.specs.States.{Tells, IsRefusal, after}
 use Rattle.quilt_map.specs.Steps.{Leaves, WritesFew, changes_after}
-use Rattle.quilt_map.specs.declared.reply.Reply.{Reply}
+use Rattle.quilt_replies.specs.declared.reply.Reply.{Reply}
 use Rattle.quilt_map.specs.declared.session.Session.{Session}
 
 module _ {W : Type 0} {D : disk.Ghosts W} where

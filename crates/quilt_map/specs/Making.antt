@@ -4,10 +4,10 @@ use Rattle.quilt_types.specs.Facts.{changes}
 use Rattle.quilt_types.specs.Layers.{Layer}
 use Rattle.quilt_world.specs.declared.disk.Disk as disk
 use Rattle.quilt_types.specs.declared.code.Code.{Code}
-use Rattle.quilt_map.specs.Answers.{State, Outcome, Refused, makes}
+use Rattle.quilt_replies.specs.Answers.{State, Outcome, Refused, makes}
 use Rattle.quilt_map.specs.Sessions.{IsAtState, last_count}
-use Rattle.quilt_map.specs.States.{Tells, after_outcome}
-use Rattle.quilt_map.specs.declared.reply.Reply.{Reply}
+use Rattle.quilt_replies.specs.States.{Tells, after_outcome}
+use Rattle.quilt_replies.specs.declared.reply.Reply.{Reply}
 use Rattle.quilt_map.specs.declared.session.Session.{Session}
 
 -- a refusal, which changes nothing

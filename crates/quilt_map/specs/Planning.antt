@@ -1,5 +1,5 @@
 -- What a plan of records makes of the work.
-use Rattle.std.specs.Prelude.{◌≡◌, ℕ, ◌+◌, ◌<◌, ◌≤◌, min, Bool, true, false, List, Option, None}
+use Rattle.std.specs.Prelude.{◌≡◌, ℕ, ◌+◌, ◌<◌, ◌≤◌, min, Bool, true, false, List, Option, Some, None}
 use Rattle.std.specs.FinMap as finmap
 use Rattle.quilt_types.specs.Facts.{records, changes}
 use Rattle.quilt_types.specs.Layers.{Layer}
@@ -9,9 +9,10 @@ use Rattle.quilt_record.specs.declared.record.Record.{Record}
 use Rattle.quilt_record.specs.Records.{Numbering}
 use Rattle.quilt_node.specs.Pages.{is_ascending}
 use Rattle.quilt_node.specs.Nodes.{keys_of}
-use Rattle.quilt_spell.specs.Changing.{with_layer}
+use Rattle.quilt_spell.specs.Catalogued.{IsCatalogOf}
+use Rattle.quilt_spell.specs.Changing.{with_layer, with_number}
 use Rattle.quilt_spell.specs.Stepping.{IsStep}
-use Rattle.quilt_map.specs.Answers.{State}
+use Rattle.quilt_replies.specs.Answers.{State}
 use Rattle.quilt_map.specs.declared.session.Session.{Session}
 use Rattle.quilt_map.specs.Sessions.{IsAtWith, IsAtState, last_count}
 
@@ -21,6 +22,11 @@ pub record IsPlan (s : State) (numbers : Numbering) (name : List ℕ) (number : 
   pub some : finmap.get s.work name ≡ None → new ≡ None → ⊥
   pub removed_ascend : is_ascending (keys_of removed) ≡ true
   pub added_ascend : is_ascending (keys_of added) ≡ true
+
+-- the records that go and come make the layer under the name the new one, and the entries stay those of the map
+pub record IsAmendment (s : State) (numbers : Numbering) (entries : List Entry) (name : List ℕ) (number : ℕ) (new : Layer) (removed added : List Record) : Type 0 where
+  pub plan : IsPlan s numbers name number (Some new) removed added
+  pub catalog : IsCatalogOf (with_layer s.work name (Some new)) (with_number numbers name number (Some new)) entries
 
 -- the state with the layer under the name changed
 abbrev pub changed_state : State → List ℕ → Option Layer → State

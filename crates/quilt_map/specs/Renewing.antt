@@ -8,7 +8,7 @@ use Rattle.quilt_world.specs.Tale.{Tale, IsConsistent}
 use Rattle.quilt_world.specs.declared.disk.Disk as disk
 use Rattle.quilt_edition.specs.Books as books
 use Rattle.quilt_edition.specs.Stands.{Stands}
-use Rattle.quilt_map.specs.Answers.{State}
+use Rattle.quilt_replies.specs.Answers.{State}
 use Rattle.quilt_map.specs.Sessions.{IsSpelled, IsHeadOf, IsPublishedAs, IsAtState, told_of, free_of, changed_of, last_count}
 use Rattle.quilt_map.specs.declared.session.Session.{Session}
 

@@ -21,7 +21,7 @@ use Rattle.quilt_edition.specs.declared.book.Book.{Book}
 use Rattle.quilt_edition.specs.Books as books
 use Rattle.quilt_edition.specs.Keeping.{told_pages, is_free, marked_count, IsLater}
 use Rattle.quilt_pool.specs.Views.{entries_of}
-use Rattle.quilt_map.specs.Answers.{State}
+use Rattle.quilt_replies.specs.Answers.{State}
 use Rattle.quilt_map.specs.declared.session.Session.{Session}
 
 -- The numbers of a catalog's entries are from 1 to 255 and differ, each capacity is 1 to 16, and each threshold 1 to 32.

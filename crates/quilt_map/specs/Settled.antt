@@ -1,7 +1,7 @@
 -- What a longer text leaves of the run of its front.
 use Rattle.std.specs.Prelude.{ℕ, ◌≤◌, take, length}
 use Rattle.quilt_world.specs.Tale.{Begins}
-use Rattle.quilt_map.specs.Runs.{Run, replies_of}
+use Rattle.quilt_replies.specs.Runs.{Run, replies_of}
 
 -- the run has so many replies, and the other's replies begin with them
 pub record IsSettled (k : ℕ) (r longer : Run) : Type 0 where

@@ -9,7 +9,7 @@ use Rattle.quilt_words.specs.declared.command.Command.{Command}
 use Rattle.quilt_words.specs.declared.command.Command.TheVariants as commands
 use Rattle.quilt_journal.specs.Writing.{Writing}
 use Rattle.quilt_edition.specs.Stands.{Stands}
-use Rattle.quilt_map.specs.Answers.{State, answer}
+use Rattle.quilt_replies.specs.Answers.{State, answer}
 use Rattle.quilt_map.specs.Sessions.{last_count}
 
 -- the file stands for the edition, where there is one
@@ -35,12 +35,12 @@ gives_edition commands.Publish = true
 gives_edition commands.Upgrade = true
 gives_edition command = false
 
-abbrev pub is_revert : Command → Bool
-is_revert commands.Revert = true
-is_revert command = false
+abbrev pub goes_back : Command → Bool
+goes_back commands.Revert = true
+goes_back command = false
 
 -- how many records were changed since the last edition or revert, after a command
 abbrev pub changes_after : State → Command → ℕ → ℕ
 changes_after s command changed =
-    if is_some (answer s command).published || is_revert command then 0
+    if is_some (answer s command).published || goes_back command then 0
     else min (changed + changes s.last.level s.work (answer s command).work) last_count

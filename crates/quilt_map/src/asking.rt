@@ -5,25 +5,25 @@ ghost use Rattle.quilt_words.specs.declared.command.Command.TheVariants as comma
 ghost use Rattle.quilt_store.specs.Store.{Tells as StoreTells};
 ghost use Rattle.quilt_btree.specs.Stops.{HasStopCause, IsSound};
 ghost use Rattle.quilt_edition.specs.Books as books;
-ghost use Rattle.quilt_map.specs.Answers.{State};
+ghost use Rattle.quilt_replies.specs.Answers.{State};
 ghost use Rattle.quilt_map.specs.Asking.{HasText, KeepsAll, AreRegions, warm_after, reads_in};
 ghost use Rattle.quilt_map.specs.Commanding.{Answered};
 ghost use Rattle.quilt_map.specs.Sessions.{IsAtState};
 
-use crate::bodies::{
-    blocks_text, edition_text, layers_text, leaves_text, number_text, records_text, show_text,
-};
 use crate::changing::DAMAGED;
 use crate::regions::{layer_under, read_colour, read_region, region_number};
-use crate::reply::Reply;
 use crate::session::Session;
+use quilt_replies::{
+    Reply, blocks_text, edition_text, layers_text, leaves_text, number_text, records_text,
+    show_text,
+};
 use quilt_store::PageStore;
 use quilt_types::{Code, Kind, Name, Pixel, Stop, Text, Window};
 use quilt_world::World;
 use std::alloc::AllocError;
 
 /// The reply of this text.
-fn told(text: Result<Text, AllocError>) -> Result<Reply, Stop>
+pub(crate) fn told(text: Result<Text, AllocError>) -> Result<Reply, Stop>
     ensures text { IfOk result (HasText text) }
     ensures memory { IfErr result (λ stop. stop ≡ stops.Memory) }
 {
@@ -34,7 +34,7 @@ fn told(text: Result<Text, AllocError>) -> Result<Reply, Stop>
 }
 
 /// Whether the pixel is one of the square.
-fn has_pixel(level: u8, p: Pixel) -> bool
+pub(crate) fn has_pixel(level: u8, p: Pixel) -> bool
     requires { level ≤ 12 }
     ensures { result ≡ is_pixel level p }
 {

@@ -7,7 +7,7 @@ ghost use Rattle.quilt_btree.specs.Stops.{HasStopCause, IsSound};
 ghost use Rattle.quilt_spell.specs.Catalogued.{IsCatalogOf};
 ghost use Rattle.quilt_spell.specs.Changing.{with_layer, with_number};
 ghost use Rattle.quilt_edition.specs.Books as books;
-ghost use Rattle.quilt_map.specs.Answers.{State};
+ghost use Rattle.quilt_replies.specs.Answers.{State};
 ghost use Rattle.quilt_map.specs.Sessions.{IsAtState, world_of, changed_of, last_count};
 ghost use Rattle.quilt_map.specs.Planning.{IsPlan, HasChanged};
 

@@ -4,7 +4,7 @@ ghost use Rattle.quilt_world.specs.Tale.{Goes};
 ghost use Rattle.quilt_btree.specs.Stops.{HasStopCause, IsSound};
 ghost use Rattle.quilt_journal.specs.Writing.{Writing};
 ghost use Rattle.quilt_edition.specs.Books as books;
-ghost use Rattle.quilt_map.specs.Answers.{State};
+ghost use Rattle.quilt_replies.specs.Answers.{State};
 ghost use Rattle.quilt_map.specs.Sessions.{IsAtState};
 ghost use Rattle.quilt_map.specs.Renewing.{CanPublish, IsRenewed, LeavesEither};
 

@@ -1,29 +1,35 @@
 //! The reply to each command, the work that it leaves, and the editions that are published.
 #![tactic(auto)]
 
+mod amending;
 mod asking;
-mod bodies;
+mod beginning;
 mod changing;
 mod copying;
+mod derivation;
 mod editing;
 mod editions;
 mod entries;
+mod filling;
 mod making;
+mod measuring;
+mod overlaying;
 mod painting;
+mod pointing;
+mod points;
 mod publishing;
 mod refusals;
 mod regions;
-mod reply;
+mod replacing;
+mod scattering;
 mod serving;
 mod session;
 mod settled;
 mod uniform;
 
-pub use reply::Reply;
+pub use quilt_replies::Reply;
 pub use session::Session;
 pub use settled::settled_replies;
 
-#[cfg(test)]
-mod bodies_tests;
 #[cfg(test)]
 mod tests;

@@ -5,17 +5,16 @@ ghost use Rattle.quilt_types.specs.Plane.{is_window};
 ghost use Rattle.quilt_words.specs.declared.command.Command.TheVariants as commands;
 ghost use Rattle.quilt_btree.specs.Stops.{HasStopCause, IsSound};
 ghost use Rattle.quilt_edition.specs.Books as books;
-ghost use Rattle.quilt_map.specs.Answers.{State};
+ghost use Rattle.quilt_replies.specs.Answers.{State};
 ghost use Rattle.quilt_map.specs.Commanding.{Answered};
 ghost use Rattle.quilt_map.specs.Making.{AnsweredBy, placed};
 ghost use Rattle.quilt_map.specs.Painting.{IsRegionIn};
 ghost use Rattle.quilt_map.specs.Sessions.{IsAtState};
 
 use crate::asking::has_window;
-use crate::bodies::done_text;
 use crate::regions::{plan_paint, region_number};
-use crate::reply::Reply;
 use crate::session::Session;
+use quilt_replies::{Reply, done_text};
 use quilt_types::{Code, Colour, Name, Pixel, Stop, Window};
 use quilt_world::World;
 
@@ -34,11 +33,7 @@ impl<W: World> Session<W> {
         };
         match plan_paint(self.alloc, &mut self.book, number, w, c) {
             Err(e) => Err(e),
-            Ok(edits) => match self.change(edits.remove.records(), edits.add.records()) {
-                Err(e) => Err(e),
-                Ok(false) => Ok(Reply::No(Code::Full)),
-                Ok(true) => Ok(Reply::Ok(text)),
-            },
+            Ok(edits) => self.amend(&edits, text),
         }
     }
 

@@ -4,15 +4,14 @@ ghost use Rattle.quilt_words.specs.declared.command.Command.TheVariants as comma
 ghost use Rattle.quilt_btree.specs.Stops.{HasStopCause, IsSound};
 ghost use Rattle.quilt_journal.specs.Writing.{Writing};
 ghost use Rattle.quilt_edition.specs.Books as books;
-ghost use Rattle.quilt_map.specs.Answers.{State};
+ghost use Rattle.quilt_replies.specs.Answers.{State};
 ghost use Rattle.quilt_map.specs.Commanding.{Answered};
 ghost use Rattle.quilt_map.specs.Sessions.{IsAtState};
 ghost use Rattle.quilt_map.specs.Steps.{Leaves};
 
-use crate::bodies::{done_text, edition_text};
 use crate::entries::copy_of;
-use crate::reply::Reply;
 use crate::session::Session;
+use quilt_replies::{Reply, done_text, edition_text};
 use quilt_types::{Code, Stop};
 use quilt_world::World;
 

@@ -2,7 +2,7 @@ ghost use Rattle.std.specs.Prelude.{◌≡◌, ◌≢◌, ◌<◌, ◌∷◌, fa
 ghost use Rattle.quilt_types.specs.declared.code.Code.{Code as AnyCode};
 ghost use Rattle.quilt_record.specs.Records.{Numbering};
 ghost use Rattle.quilt_spell.specs.Catalogued.{IsCatalogOf};
-ghost use Rattle.quilt_map.specs.Answers.{State, Outcome, Refused, unless, exists, too_many};
+ghost use Rattle.quilt_replies.specs.Answers.{State, Outcome, Refused, unless, exists, too_many};
 ghost use Rattle.quilt_map.specs.Making.{refused};
 
 use crate::entries::index_of;

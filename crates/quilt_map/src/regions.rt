@@ -14,7 +14,7 @@ ghost use Rattle.quilt_region.specs.Regions.{HasRegion};
 ghost use Rattle.quilt_region.specs.Plans.{LeadsTo};
 ghost use Rattle.quilt_spell.specs.Catalogued.{IsCatalogOf};
 ghost use Rattle.quilt_edition.specs.Books.{world_of, last_of, work_of};
-ghost use Rattle.quilt_map.specs.Answers.{State};
+ghost use Rattle.quilt_replies.specs.Answers.{State};
 ghost use Rattle.quilt_map.specs.Asking.{AreRegions, IsLayerUnder, IsRegionAt, IsRefusedFirst, IsStill, pages_asked, reads_in, held_of};
 ghost use Rattle.quilt_map.specs.Sessions.{told_of, tree_in};
 
@@ -25,7 +25,7 @@ use quilt_btree::Tree;
 use quilt_edition::Book;
 use quilt_node::Head;
 use quilt_record::{Edits, Entry};
-use quilt_region::{colour_at, plan_rect, read_list};
+use quilt_region::{colour_at, plan_rect, plan_replace, read_list};
 use quilt_types::{Code, Colour, Kind, Name, Pixel, Stop, Window};
 use quilt_world::Disk;
 use std::alloc::Global;
@@ -53,7 +53,7 @@ pub(crate) fn region_number(entries: &[Entry], name: &Name) -> Result<u8, Code>
 }
 
 /// The tree of a header.
-fn tree_of(head: &Head) -> Tree
+pub(crate) fn tree_of(head: &Head) -> Tree
     ensures { result ≡ tree_in head.now }
 {
     Tree {
@@ -71,6 +71,7 @@ pub(crate) fn read_region<W: Disk>(
 ) -> Result<LeafList, Stop>
     ensures list { IfOk result (λ list. (g : Grid) → HasRegion (told_of book.old) (tree_in (work_of book.old)) number (work_of book.old).level g → list ≡ record { level = (work_of book.old).level; grid = g }) }
     ensures level { IfOk result (λ list. list.level ≡ (work_of book.old).level) }
+    ensures number { OnOk result (1 ≤ number) }
     ensures sound { IfErr result (λ e. (g : Grid) → 1 ≤ number → HasRegion (told_of book.old) (tree_in (work_of book.old)) number (work_of book.old).level g → IsSound e) }
     ensures still { IsStill book.old book.new }
     ensures cause { HasStopCause (W.faults (world_of book.old)) (W.faults (world_of book.new)) result }
@@ -127,4 +128,27 @@ pub(crate) fn plan_paint<W: Disk>(
     }
     let head = book.head();
     plan_rect(alloc, book, &tree_of(&head), number, head.level, w, c)
+}
+
+/// The records that go and those that come when the work's region layer with this number gets the leaves of a list.
+pub(crate) fn plan_redraw<W: Disk>(
+    alloc: Global,
+    book: &mut Book<W>,
+    number: u8,
+    new: &LeafList,
+) -> Result<Edits, Stop>
+    requires level { new.now.level ≡ (work_of book.old).level }
+    ensures plan { IfOk result (λ edits. (g : Grid) → HasRegion (told_of book.old) (tree_in (work_of book.old)) number (work_of book.old).level g →
+        LeadsTo (work_of book.old).level number g new.now.grid edits) }
+    ensures sound { IfErr result (λ e. (g : Grid) → 1 ≤ number → HasRegion (told_of book.old) (tree_in (work_of book.old)) number (work_of book.old).level g → IsSound e) }
+    ensures still { IsStill book.old book.new }
+    ensures cause { HasStopCause (W.faults (world_of book.old)) (W.faults (world_of book.new)) result }
+{
+    match read_region(alloc, book, number) {
+        Err(e) => Err(e),
+        Ok(old) => match plan_replace(alloc, number, &old, new) {
+            Err(_) => Err(Stop::Memory),
+            Ok(edits) => Ok(edits),
+        },
+    }
 }

@@ -3,20 +3,28 @@ ghost use Rattle.quilt_types.specs.declared.stop.Stop.TheVariants as stops;
 ghost use Rattle.quilt_words.specs.Forms.{Spelled};
 ghost use Rattle.quilt_btree.specs.Stops.{HasStopCause, IsSound};
 ghost use Rattle.quilt_edition.specs.Books as books;
-ghost use Rattle.quilt_map.specs.Answers.{State};
+ghost use Rattle.quilt_replies.specs.Answers.{State};
 ghost use Rattle.quilt_map.specs.Commanding.{Answered, IsApplied};
 ghost use Rattle.quilt_map.specs.Sessions.{IsAtState};
-ghost use Rattle.quilt_map.specs.Steps.{gives_edition, is_revert};
+ghost use Rattle.quilt_map.specs.Steps.{gives_edition, goes_back};
 
-use crate::reply::Reply;
 use crate::session::Session;
+use quilt_overlay::Op;
+use quilt_par::Gate;
+use quilt_replies::Reply;
 use quilt_types::Stop;
 use quilt_words::Command;
 use quilt_world::World;
+use std::thread::Threads;
 
 impl<W: World> Session<W> {
     /// The reply to a command, from the call that it is for.
-    pub(crate) fn dispatch(&mut self, command: &Command) -> Result<Reply, Stop>
+    pub(crate) fn dispatch<R: Threads + Sync, G: Gate + Sync>(
+        &mut self,
+        rt: &R,
+        gate: &G,
+        command: &Command,
+    ) -> Result<Reply, Stop>
         requires { Spelled (books.work_of self.old.book).format (books.last_of self.old.book).level command.now }
         ensures { IsApplied command.now self.old self.new result }
     {
@@ -24,15 +32,20 @@ impl<W: World> Session<W> {
             Command::Publish => self.publish(),
             Command::Upgrade => self.upgrade(),
             Command::Revert => self.revert(),
-            _ => self.serve(command),
+            _ => self.serve(rt, gate, command),
         }
     }
 
     /// The reply to a command that neither gives an edition nor goes back to one.
-    pub(crate) fn serve(&mut self, command: &Command) -> Result<Reply, Stop>
+    pub(crate) fn serve<R: Threads + Sync, G: Gate + Sync>(
+        &mut self,
+        rt: &R,
+        gate: &G,
+        command: &Command,
+    ) -> Result<Reply, Stop>
         requires spelled { Spelled (books.work_of self.old.book).format (books.last_of self.old.book).level command.now }
         requires quiet { gives_edition command.now ≡ false }
-        requires forward { is_revert command.now ≡ false }
+        requires forward { goes_back command.now ≡ false }
         ensures answer { IfOk result (λ reply. (s : State) → IsAtState self.old s → Answered s command.now self.old self.new reply) }
         ensures sound { IfErr result (λ e. (s : State) → IsAtState self.old s → IsSound e) }
         ensures goes_on { books.GoesOn self.old.book self.new.book }
@@ -44,9 +57,26 @@ impl<W: World> Session<W> {
             Command::Copy { a, b } => self.copy_layer(a, b),
             Command::Set { a, at, c } => self.set(a, *at, *c),
             Command::Rect { a, w, c } => self.rect(a, *w, *c),
+            Command::Raster { a, rows } => self.raster(rt, gate, a, rows),
             Command::At { a, at } => self.at(a, *at),
             Command::Show { a, w } => self.show(a, *w),
             Command::Leaves { a } => self.leaves(a),
+            Command::Polygon { c, colour, rings } => self.polygon(c, *colour, rings),
+            Command::Union { a, b, c } => self.overlay(Op::Union, a, b, c),
+            Command::Inter { a, b, c } => self.overlay(Op::Inter, a, b, c),
+            Command::Diff { a, b, c } => self.overlay(Op::Diff, a, b, c),
+            Command::Recolour { a, c, .. } => self.derive(command, a, c),
+            Command::Window { a, c, .. } => self.derive(command, a, c),
+            Command::Shift { a, c, .. } => self.derive(command, a, c),
+            Command::Buffer { a, c, .. } => self.derive(command, a, c),
+            Command::Area { a, .. } => self.measure(command, a),
+            Command::Perimeter { a, .. } => self.measure(command, a),
+            Command::Points { p, bucket } => self.make_points(p, *bucket),
+            Command::Put { p, at, label } => self.put_point(p, *at, *label),
+            Command::Del { p, at } => self.del_point(p, *at),
+            Command::Scatter { p, points } => self.scatter(p, points),
+            Command::Find { p, at } => self.find_point(p, *at),
+            Command::Within { p, w } => self.points_within(p, *w),
             Command::Layers => self.layers(),
             Command::Records => self.records(),
             Command::Edition => self.edition(),

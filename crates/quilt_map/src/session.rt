@@ -9,17 +9,17 @@ ghost use Rattle.quilt_world.specs.declared.event.Event.TheVariants.{Put};
 ghost use Rattle.quilt_world.specs.declared.disk.Door.TheVariants as doors;
 ghost use Rattle.quilt_words.specs.Forms.{Spelled};
 ghost use Rattle.quilt_edition.specs.Books as books;
-ghost use Rattle.quilt_map.specs.Answers.{State, answer};
+ghost use Rattle.quilt_replies.specs.Answers.{State, answer};
 ghost use Rattle.quilt_map.specs.Sessions.{IsNumbered, IsOpened, changed_of, free_of, first_state};
-ghost use Rattle.quilt_map.specs.States.{Tells, IsRefusal, after};
+ghost use Rattle.quilt_replies.specs.States.{Tells, IsRefusal, after};
 ghost use Rattle.quilt_map.specs.Steps.{Leaves, WritesFew, changes_after};
 
 use crate::entries::copy_of;
-use crate::reply::Reply;
 use quilt_edition::Book;
 use quilt_node::Head;
 use quilt_par::Gate;
 use quilt_record::Catalog;
+use quilt_replies::Reply;
 use quilt_types::{Name, Pixel, Stop};
 use quilt_words::Command;
 use quilt_world::{Disk, Fault, World};
@@ -88,9 +88,7 @@ impl<W: World> Session<W> {
         ensures crash { (s : State) → IsAt self.old s → Goes (Leaves s command.now) (W.told (world_of self.old)) (W.told (world_of self.new)) }
         ensures writes { (s : State) → IsAt self.old s → Goes (WritesFew s command.now (changes_of self.old)) (W.told (world_of self.old)) (W.told (world_of self.new)) }
     {
-        let _ = rt;
-        let _ = gate;
-        self.dispatch(command)
+        self.dispatch(rt, gate, command)
     }
 
     /// The next bytes of the input, as the world takes them. 0 says that it has ended.

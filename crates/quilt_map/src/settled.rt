@@ -1,7 +1,7 @@
 ghost use Rattle.std.specs.Prelude.{◌≡◌, ℕ, List, ◌++◌, length, IfOk};
 ghost use Rattle.quilt_types.specs.Layers.{Edition};
 ghost use Rattle.quilt_words.specs.Items.{whole_items};
-ghost use Rattle.quilt_map.specs.Runs.{run};
+ghost use Rattle.quilt_replies.specs.Runs.{run};
 ghost use Rattle.quilt_map.specs.Settled.{IsSettled};
 
 use quilt_lang::Lines;

@@ -4,14 +4,14 @@ ghost use Rattle.quilt_types.specs.Layers.{colours};
 ghost use Rattle.quilt_words.specs.declared.command.Command.TheVariants as commands;
 ghost use Rattle.quilt_btree.specs.Stops.{HasStopCause, IsSound};
 ghost use Rattle.quilt_edition.specs.Books as books;
-ghost use Rattle.quilt_map.specs.Answers.{State};
+ghost use Rattle.quilt_replies.specs.Answers.{State};
 ghost use Rattle.quilt_map.specs.Commanding.{Answered};
 ghost use Rattle.quilt_map.specs.Sessions.{IsAtState};
 
 use crate::refusals::why_not_new;
-use crate::reply::Reply;
 use crate::session::Session;
 use quilt_blocks::{LeafList, Maker};
+use quilt_replies::Reply;
 use quilt_types::{Block, Colour, Name, Stop};
 use quilt_world::World;
 use std::alloc::{AllocError, Global};

@@ -1,6 +1,6 @@
 use Rattle.std.proofs.Common.{◌≡◌, ◌∷◌, true, sym, ◌∙◌, arith}
 use Rattle.quilt_types.specs.declared.code.Code.TheVariants as no
-use Rattle.quilt_map.specs.Answers.{exists, too_many}
+use Rattle.quilt_replies.specs.Answers.{exists, too_many}
 use Rattle.quilt_map.proofs.Catalogs.{catalog_length}
 use Rattle.quilt_map.proofs.FirstTests.{first_true, first_false, exists_not, few_layers, many_layers}
 use Rattle.quilt_map.proofs.refusals.why_not_new.Goals as goal

@@ -1,10 +1,10 @@
 use Rattle.quilt_types.specs.declared.code.Code.TheVariants as no
-use Rattle.quilt_map.specs.declared.reply.Reply.TheVariants as reply
+use Rattle.quilt_replies.specs.declared.reply.Reply.TheVariants as reply
 use Rattle.std.proofs.Common.{true, false, ◌∙◌, ap, Some, None}
 use Rattle.quilt_types.specs.Plane.{is_pixel}
 use Rattle.quilt_node.specs.declared.head.Head.{Head}
 use Rattle.quilt_words.specs.declared.command.Command.TheVariants as commands
-use Rattle.quilt_map.specs.Answers.{answer}
+use Rattle.quilt_replies.specs.Answers.{answer}
 use Rattle.quilt_map.proofs.Answered.{text_tells, at_refused, at_outside, at_body, level_is, test_at, catalog_as, keeps_here, has_region, has_number}
 use Rattle.quilt_map.proofs.Asks.{asked_here, asked_on, at_asks}
 use Rattle.quilt_map.proofs.session.Session.at.Goals as goal

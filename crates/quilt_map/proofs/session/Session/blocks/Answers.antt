@@ -1,7 +1,7 @@
 use Rattle.std.proofs.Common.{refl, subst}
 use Rattle.quilt_words.specs.declared.command.Command.TheVariants as commands
 use Rattle.quilt_types.specs.declared.code.Code.TheVariants as no
-use Rattle.quilt_map.specs.declared.reply.Reply.TheVariants as reply
+use Rattle.quilt_replies.specs.declared.reply.Reply.TheVariants as reply
 use Rattle.quilt_map.specs.Asking.{IsLayerUnder}
 use Rattle.quilt_map.proofs.Answered.{blocks_unknown, blocks_body, catalog_as, keeps_here, region_under, has_region, has_number}
 use Rattle.quilt_map.proofs.Asks.{asked_here, told_on, blocks_asks}

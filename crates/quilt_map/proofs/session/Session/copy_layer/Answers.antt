@@ -4,9 +4,9 @@ use Rattle.quilt_types.specs.declared.code.Code.TheVariants as no
 use Rattle.quilt_record.specs.declared.entry.Entry.{Entry}
 use Rattle.quilt_spell.specs.Catalogued.{IsCatalogOf}
 use Rattle.quilt_words.specs.declared.command.Command.TheVariants as commands
-use Rattle.quilt_map.specs.Answers.{Refused}
+use Rattle.quilt_replies.specs.Answers.{Refused}
 use Rattle.quilt_map.specs.Making.{AnsweredBy, placed}
-use Rattle.quilt_map.specs.declared.reply.Reply.TheVariants as given
+use Rattle.quilt_replies.specs.declared.reply.Reply.TheVariants as given
 use Rattle.quilt_map.proofs.Asked.{if_ok, if_err}
 use Rattle.quilt_map.proofs.ChangeSteps.{goes_here}
 use Rattle.quilt_map.proofs.Copies.{copy_unknown, copy_refused, tree_before, at_tree, copy_plan, copy_answer}

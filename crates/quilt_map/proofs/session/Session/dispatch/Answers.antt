@@ -5,10 +5,10 @@ use Rattle.quilt_map.proofs.Commanded.{applied_going, applied_giving, sound_at, 
 use Rattle.quilt_map.proofs.session.Session.dispatch.Goals as goal
 
 pub serve-requires-clause-quiet : goal.serve-requires-clause-quiet
-serve-requires-clause-quiet g c = quiet_else c.args.command.now c.in_default.not-Publish c.in_default.not-Upgrade
+serve-requires-clause-quiet g c κs within = quiet_else c.args.command.now c.in_default.not-Publish c.in_default.not-Upgrade
 
 pub serve-requires-clause-forward : goal.serve-requires-clause-forward
-serve-requires-clause-forward g c = forward_else c.args.command.now c.in_default.not-Revert
+serve-requires-clause-forward g c κs within = forward_else c.args.command.now c.in_default.not-Revert
 
 pub returns-in-Publish : goal.returns-in-Publish
 returns-in-Publish g c =

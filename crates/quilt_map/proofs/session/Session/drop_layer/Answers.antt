@@ -4,13 +4,13 @@ use Rattle.quilt_record.specs.declared.entry.Entry.{Entry}
 use Rattle.quilt_record.specs.Records.{Numbering}
 use Rattle.quilt_spell.specs.Catalogued.{IsCatalogOf}
 use Rattle.quilt_words.specs.declared.command.Command.TheVariants as commands
-use Rattle.quilt_map.specs.Answers.{Refused}
+use Rattle.quilt_replies.specs.Answers.{Refused}
 use Rattle.quilt_types.specs.declared.code.Code.TheVariants as no
 use Rattle.quilt_map.specs.Commanding.{Answered}
 use Rattle.quilt_map.specs.Lookups.{IsLayerAt}
 use Rattle.quilt_map.specs.Planning.{HasChanged}
 use Rattle.std.specs.List.{remove}
-use Rattle.quilt_map.specs.declared.reply.Reply.TheVariants as given
+use Rattle.quilt_replies.specs.declared.reply.Reply.TheVariants as given
 use Rattle.quilt_map.proofs.ChangeSteps.{goes_here}
 use Rattle.quilt_map.proofs.Going.{goes_of, goes_both}
 use Rattle.quilt_map.proofs.Moving.{later_at, with_book}

@@ -1,4 +1,4 @@
-use Rattle.quilt_map.specs.declared.reply.Reply.TheVariants as reply
+use Rattle.quilt_replies.specs.declared.reply.Reply.TheVariants as reply
 use Rattle.quilt_words.specs.declared.command.Command.TheVariants as commands
 use Rattle.quilt_map.proofs.Answered.{leaves_refused, leaves_body, catalog_as, keeps_here, has_region, has_number}
 use Rattle.quilt_map.proofs.Asks.{asked_here, told_on, leaves_asks}

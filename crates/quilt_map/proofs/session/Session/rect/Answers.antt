@@ -3,7 +3,7 @@ use Rattle.quilt_types.specs.Plane.{is_window}
 use Rattle.quilt_types.specs.declared.code.Code.TheVariants as no
 use Rattle.quilt_node.specs.declared.head.Head.{Head}
 use Rattle.quilt_words.specs.declared.command.Command.TheVariants as commands
-use Rattle.quilt_map.specs.Answers.{Refused}
+use Rattle.quilt_replies.specs.Answers.{Refused}
 use Rattle.quilt_map.proofs.Answered.{level_is, test_at, catalog_as}
 use Rattle.quilt_map.proofs.Asked.{if_ok, if_err}
 use Rattle.quilt_map.proofs.ChangeSteps.{goes_here}

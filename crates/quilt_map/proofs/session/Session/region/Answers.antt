@@ -1,8 +1,8 @@
 use Rattle.std.proofs.Common.{refl, ◌∙◌, ap}
 use Rattle.quilt_node.specs.declared.head.Head.{Head}
 use Rattle.quilt_words.specs.declared.command.Command.TheVariants as commands
-use Rattle.quilt_map.specs.Answers.{Refused}
-use Rattle.quilt_map.specs.declared.reply.Reply.TheVariants as given
+use Rattle.quilt_replies.specs.Answers.{Refused}
+use Rattle.quilt_replies.specs.declared.reply.Reply.TheVariants as given
 use Rattle.quilt_map.proofs.Answered.{catalog_as, level_is}
 use Rattle.quilt_map.proofs.Asked.{if_ok, if_err}
 use Rattle.quilt_map.proofs.ChangeSteps.{goes_here}

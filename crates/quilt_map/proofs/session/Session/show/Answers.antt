@@ -1,5 +1,5 @@
 use Rattle.quilt_types.specs.declared.code.Code.TheVariants as no
-use Rattle.quilt_map.specs.declared.reply.Reply.TheVariants as reply
+use Rattle.quilt_replies.specs.declared.reply.Reply.TheVariants as reply
 use Rattle.std.proofs.Common.{true, false, ◌∙◌, ap}
 use Rattle.quilt_types.specs.Plane.{is_window}
 use Rattle.quilt_node.specs.declared.head.Head.{Head}

@@ -4,7 +4,7 @@ use Rattle.quilt_world.specs.Tale.{Tale, Goes}
 use Rattle.quilt_words.specs.declared.command.Command.TheVariants as commands
 use Rattle.quilt_node.specs.declared.head.Head.{Head}
 use Rattle.quilt_journal.specs.Writing.{Writing}
-use Rattle.quilt_map.specs.Answers.{Outcome, Refused, upgraded}
+use Rattle.quilt_replies.specs.Answers.{Outcome, Refused, upgraded}
 use Rattle.quilt_map.specs.Steps.{Leaves}
 use Rattle.quilt_map.proofs.Outcomes.{answered_same, leaves_last, can_upgrade, leaves_given, answered_given, upgrade_again, upgrade_full, upgrade_gives, not_equal, tells_edition}
 use Rattle.quilt_map.proofs.session.Session.upgrade.Goals as goal

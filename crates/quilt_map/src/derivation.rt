@@ -1,0 +1,103 @@
+ghost use Rattle.std.specs.Prelude.{◌≡◌, ◌≢◌, ℕ, ◌<◌, ◌≤◌, true, List, Some, is_some, IfOk, IfErr, All, length};
+ghost use Rattle.quilt_types.specs.Layers.{Grid, Region};
+ghost use Rattle.quilt_words.specs.Fitting.{IsFitting};
+ghost use Rattle.quilt_btree.specs.Stops.{HasStopCause, IsSound};
+ghost use Rattle.quilt_edition.specs.Books as books;
+ghost use Rattle.quilt_replies.specs.Answers.{State};
+ghost use Rattle.quilt_map.specs.Commanding.{Answered};
+ghost use Rattle.quilt_map.specs.Derivation.{layers_derived, derived, is_inside};
+ghost use Rattle.quilt_map.specs.Making.{AnsweredBy, placed};
+ghost use Rattle.quilt_map.specs.Painting.{IsRegionIn};
+ghost use Rattle.quilt_map.specs.Sessions.{IsAtState};
+
+use crate::asking::has_window;
+use crate::refusals::why_not_new;
+use crate::regions::{read_region, region_number};
+use crate::session::Session;
+use quilt_blocks::LeafList;
+use quilt_buffer::buffer;
+use quilt_overlay::recolour;
+use quilt_replies::Reply;
+use quilt_types::{Code, Name, Stop};
+use quilt_window::{shift, window};
+use quilt_words::Command;
+use quilt_world::World;
+use std::alloc::{AllocError, Global};
+
+/// Whether the window of the command, where it has one, lies in the square.
+fn has_its_window(level: u8, command: &Command) -> bool
+    requires { level ≤ 12 }
+    ensures { result ≡ is_inside level command.now }
+{
+    match command {
+        Command::Window { w, .. } => has_window(level, *w),
+        _ => true,
+    }
+}
+
+/// The leaves that a command makes of those of a layer.
+fn derived_list(alloc: Global, list: &LeafList, command: &Command) -> Result<LeafList, AllocError>
+    requires derives { is_some (layers_derived command.now) ≡ true }
+    requires inside { is_inside list.now.level command.now ≡ true }
+    ensures { IfOk result (λ made. made ≡ record { level = list.now.level; grid = derived command.now list.now.level list.now.grid }) }
+{
+    match command {
+        Command::Recolour { pairs, .. } => recolour(alloc, list, pairs.items()),
+        Command::Window { w, .. } => window(alloc, list, *w),
+        Command::Shift { dx, dy, .. } => shift(alloc, list, *dx, *dy),
+        Command::Buffer { r, .. } => buffer(alloc, list, *r),
+        _ => unreachable!(),
+    }
+}
+
+impl<W: World> Session<W> {
+    /// Makes a layer of the work's region layer with this number, as the command says.
+    fn make_derived(&mut self, number: u8, command: &Command, into: &Name) -> Result<Reply, Stop>
+        requires few { length self.old.catalog < 255 }
+        requires new { All (λ e. e.name ≢ into.now) self.old.catalog }
+        requires derives { is_some (layers_derived command.now) ≡ true }
+        requires inside { is_inside (books.work_of self.old.book).level command.now ≡ true }
+        ensures made { IfOk result (λ reply. (s : State) → IsAtState self.old s → (name : List ℕ) (g : Grid) → IsRegionIn s.work self.old.catalog name number g →
+            IsFitting s.last.format s.last.level command.now → AnsweredBy s (placed s into.now (Region (derived command.now s.last.level g))) self.old self.new reply) }
+        ensures sound { IfErr result (λ e. (s : State) → IsAtState self.old s → (name : List ℕ) (g : Grid) → IsRegionIn s.work self.old.catalog name number g →
+            IsFitting s.last.format s.last.level command.now → IsSound e) }
+        ensures goes_on { books.GoesOn self.old.book self.new.book }
+        ensures cause { HasStopCause (W.faults (books.world_of self.old.book)) (W.faults (books.world_of self.new.book)) result }
+    {
+        match read_region(self.alloc, &mut self.book, number) {
+            Err(stop) => Err(stop),
+            Ok(list) => match derived_list(self.alloc, &list, command) {
+                Err(_) => Err(Stop::Memory),
+                Ok(made) => self.make_region(into, &made),
+            },
+        }
+    }
+
+    /// Makes a layer of a region layer with this name, under a name that no layer has: with other colours, cut to a window, shifted, or as a
+    /// buffer, as the command says.
+    pub(crate) fn derive(
+        &mut self,
+        command: &Command,
+        name: &Name,
+        into: &Name,
+    ) -> Result<Reply, Stop>
+        requires { layers_derived command.now ≡ Some (name.now, into.now) }
+        ensures answer { IfOk result (λ reply. (s : State) → IsAtState self.old s → IsFitting s.last.format s.last.level command.now → Answered s command.now self.old self.new reply) }
+        ensures sound { IfErr result (λ e. (s : State) → IsAtState self.old s → IsFitting s.last.format s.last.level command.now → IsSound e) }
+        ensures goes_on { books.GoesOn self.old.book self.new.book }
+        ensures cause { HasStopCause (W.faults (books.world_of self.old.book)) (W.faults (books.world_of self.new.book)) result }
+    {
+        match region_number(self.catalog.entries(), name) {
+            Err(code) => Ok(Reply::No(code)),
+            Ok(number) => {
+                if let Some(code) = why_not_new(self.catalog.entries(), into) {
+                    return Ok(Reply::No(code));
+                }
+                if !has_its_window(self.book.head().level, command) {
+                    return Ok(Reply::No(Code::Outside));
+                }
+                self.make_derived(number, command, into)
+            }
+        }
+    }
+}
