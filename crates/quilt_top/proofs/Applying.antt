@@ -14,8 +14,8 @@ use Rattle.quilt_edition.specs.Stands.{Stands}
 use Rattle.quilt_words.specs.declared.command.Command.{Command}
 use Rattle.quilt_words.specs.declared.item.Item.{Item}
 use Rattle.quilt_words.specs.Forms.{form}
-use Rattle.quilt_map.specs.Answers.{State}
-use Rattle.quilt_map.specs.Runs.{outcome_of, text_of}
+use Rattle.quilt_replies.specs.Answers.{State}
+use Rattle.quilt_replies.specs.Runs.{outcome_of, text_of}
 use Rattle.quilt_map.specs.Sessions.{IsAt, world_of}
 use Rattle.quilt_map.specs.Steps.{Leaves, WritesFew, StandsFor, StandsForNew}
 use Rattle.quilt_map.specs.declared.session.Session.{Session}

@@ -13,8 +13,8 @@ use Rattle.quilt_world.proofs.AddedLaws.{adds_only_both}
 use Rattle.quilt_edition.specs.Stands.{Stands}
 use Rattle.quilt_words.specs.Items.{Group, items_of}
 use Rattle.quilt_lang.specs.Reading.{Same}
-use Rattle.quilt_map.specs.Answers.{State}
-use Rattle.quilt_map.specs.Runs.{Run, Published}
+use Rattle.quilt_replies.specs.Answers.{State}
+use Rattle.quilt_replies.specs.Runs.{Run, Published}
 use Rattle.quilt_map.proofs.TextLaws.{run_same, publishes_same}
 use Rattle.quilt_top.specs.Answering.{Steps, PartStep, changes_then, changes_all}
 use Rattle.quilt_top.specs.Headline.{IsEdition, WritesFew, is_wrote}

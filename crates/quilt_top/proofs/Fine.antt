@@ -9,8 +9,8 @@ use Rattle.quilt_world.proofs.TextLaws.{text_leaves, leaves_text}
 use Rattle.quilt_world.proofs.StopLaws.{same_file}
 use Rattle.quilt_edition.specs.Stands.{Stands}
 use Rattle.quilt_words.specs.Items.{Group}
-use Rattle.quilt_map.specs.Answers.{State}
-use Rattle.quilt_map.specs.Runs.{Run, text_of}
+use Rattle.quilt_replies.specs.Answers.{State}
+use Rattle.quilt_replies.specs.Runs.{Run, text_of}
 use Rattle.quilt_map.specs.Steps.{StandsForNew}
 use Rattle.quilt_top.specs.Answering.{StandsForItem, Answers, Step, Steps, PartStep, changes_then, changes_all}
 use Rattle.quilt_top.specs.Replies.{held_at, outcome, reply_to, state_then, state_after}

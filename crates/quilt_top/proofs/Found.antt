@@ -129,7 +129,7 @@ module _ (start : Pages) (n : ℕ) (file : IsMapFile start n) where
             let holds = subst (λ m. HoldsEdition (home start m) E) (one_size start so.stands.pages n so.stands.file file) so.stands.holds in
             let is = one_head (length pages) most (page_of pages 0) holds.head last holds.header here in
             damage.none holds.records holds.visited E.layers
-            (ap (λ (k : Head). walk_of pages k.root k.height) (sym is) ∙ holds.tree) so.regions
+            (ap (λ (k : Head). walk_of pages k.root k.height) (sym is) ∙ holds.tree) so.kinds
             (subst (λ (k : Head). Spells k.format k.level holds.records E.layers) is holds.spelled) (holds.count ∙ ap (λ (k : Head). k.records) is),
       )
 
@@ -198,7 +198,7 @@ module _ (j : View) (es : Entries) (last : Head) (idle : j.state ≡ Idle) where
           j.pages,
           file,
           holds.0,
-          record { stands = record { pages = j.pages; file = file; holds = subst (λ (p : Pages). HoldsEdition p holds.0) pages holds.1 }; regions = holds.2 },
+          record { stands = record { pages = j.pages; file = file; holds = subst (λ (p : Pages). HoldsEdition p holds.0) pages holds.1 }; kinds = holds.2 },
           holds.3,
         )
     one_found (opened.NotMap world) t u new law found holds = absurd holds

@@ -1,4 +1,5 @@
 pub mod Applying
+pub mod Commands
 pub mod Damages
 pub mod Digits
 pub mod Events
@@ -7,15 +8,19 @@ pub mod Fine
 pub mod Found
 pub mod Fronts
 pub mod Lines
+pub mod Looks
 pub mod Making
 pub mod Outcomes
+pub mod Parses
 pub mod Places
 pub mod Prompts
+pub mod Rows
 pub mod Running
 pub mod Runs
 pub mod Said
+pub mod Scans
 pub mod Surveys
-pub mod Tables
 pub mod Turns
+pub mod Walks
 pub mod Writes
 pub mod Written

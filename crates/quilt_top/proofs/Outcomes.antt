@@ -8,11 +8,11 @@ use Rattle.quilt_words.specs.Forms.{form}
 use Rattle.quilt_words.specs.Parsing.{Answers}
 use Rattle.quilt_words.specs.declared.parse_err.ParseErr.{ParseErr}
 use Rattle.quilt_words.specs.declared.parse_err.ParseErr.TheVariants as errs
-use Rattle.quilt_map.specs.Answers.{State, Refused, answer}
-use Rattle.quilt_map.specs.Runs.{outcome_of, text_of, is_done}
-use Rattle.quilt_map.specs.States.{Tells, after, after_outcome}
-use Rattle.quilt_map.specs.declared.reply.Reply as given_reply
-use Rattle.quilt_map.specs.declared.reply.Reply.TheVariants as reply
+use Rattle.quilt_replies.specs.Answers.{State, Refused, answer}
+use Rattle.quilt_replies.specs.Runs.{outcome_of, text_of, is_done}
+use Rattle.quilt_replies.specs.States.{Tells, after, after_outcome}
+use Rattle.quilt_replies.specs.declared.reply.Reply as given_reply
+use Rattle.quilt_replies.specs.declared.reply.Reply.TheVariants as reply
 use Rattle.quilt_top.specs.Replies.{IsItem, held_at, reply_to, state_then}
 
 -- an item that spells no command

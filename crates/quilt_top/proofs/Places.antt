@@ -7,8 +7,8 @@ use Rattle.quilt_types.specs.Layers.{Map, Edition}
 use Rattle.quilt_world.specs.Disk.{Pages}
 use Rattle.quilt_edition.specs.Stands.{Stands}
 use Rattle.quilt_words.specs.Items.{Group}
-use Rattle.quilt_map.specs.Answers.{State, Reply, Done, Refused}
-use Rattle.quilt_map.specs.Runs.{run_of, text_of, code_text, prefix_of, told_within, with_first, form_in, outcome_of}
+use Rattle.quilt_replies.specs.Answers.{State, Reply, Done, Refused}
+use Rattle.quilt_replies.specs.Runs.{run_of, text_of, code_text, prefix_of, told_within, with_first, form_in, outcome_of}
 use Rattle.quilt_top.specs.Replies.{held_at, outcome, reply_to, state_then, state_after}
 use Rattle.quilt_top.specs.TextRun.{run_in, IsFine}
 

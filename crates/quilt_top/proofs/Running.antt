@@ -21,8 +21,8 @@ use Rattle.quilt_journal.specs.Kept.{HasHome}
 use Rattle.quilt_edition.specs.Stands.{HoldsEdition, Stands, IsDamagePage}
 use Rattle.quilt_edition.proofs.OneEdition.{stands_once, home_length}
 use Rattle.quilt_words.specs.Items.{items_of}
-use Rattle.quilt_map.specs.Answers.{State}
-use Rattle.quilt_map.specs.Runs.{Run, Published, run, publishes, replies_of, output, told_within, editions_told}
+use Rattle.quilt_replies.specs.Answers.{State}
+use Rattle.quilt_replies.specs.Runs.{Run, Published, run, publishes, replies_of, output, told_within, editions_told}
 use Rattle.quilt_map.specs.Sessions.{IsAt, level_of, first_state}
 use Rattle.quilt_map.specs.declared.session.Session.{Session}
 use Rattle.quilt_map.proofs.Laws.{at_level}
@@ -37,7 +37,7 @@ use Rattle.quilt_top.specs.declared.halt.Halt.{Halt}
 use Rattle.quilt_top.specs.declared.halt.Halt.TheVariants as halts
 use Rattle.quilt_top.specs.declared.run.End.{End}
 use Rattle.quilt_top.specs.declared.run.End.TheVariants as ends
-use Rattle.quilt_top.specs.Headline.{IsOneOf, ComesExactly, IsStop, IsEdition, WritesFew, all_done, RunsText, IsPrompt, input_limit, told_by_replies, RunsInput, IsNoMap, StandsForRegions, StandsForNothing, OpensSafely, FindsFile, may_end_run, HasEndCause, KeepsPromises, WhereTold}
+use Rattle.quilt_top.specs.Headline.{IsOneOf, ComesExactly, IsStop, IsEdition, WritesFew, all_done, RunsText, IsPrompt, input_limit, told_by_replies, RunsInput, IsNoMap, StandsWithoutLines, StandsForNothing, OpensSafely, FindsFile, may_end_run, HasEndCause, KeepsPromises, WhereTold}
 use Rattle.quilt_top.specs.Words.{Run as RunText}
 use Rattle.quilt_top.specs.Openings.{Keeps, RunsTo, run_ends, is_run_end, end_of, end_of_stop}
 
@@ -188,7 +188,7 @@ module _ (pages : ℕ) (first : Edition) (end : End) (v w : Tale) (so : RunsTo f
   past_is (inr (inr (inr (inr (inl e))))) past = inl e
   past_is (inr (inr (inr (inr (inr e))))) past = absurd e
 
-  pub opens_map : IsMapFile w.start pages → StandsForRegions w.start first → IsOneOf end run_ends → OpensSafely end w
+  pub opens_map : IsMapFile w.start pages → StandsWithoutLines w.start first → IsOneOf end run_ends → OpensSafely end w
   opens_map file stands one = record {
     not_map = record { only = λ is. absurd (other_end end ends.NotMap (run_end end one) refl is); always = λ none. absurd (none pages file) };
     damaged = λ page is. absurd (not_damaged end page one is);
@@ -240,8 +240,8 @@ finds_opened path door now end t u w same not_made not_taken opens quiet = recor
 
 -- ---- the causes of a run's end
 
-pub run_cause : (path : List ℕ) (before now : ℕ) (door : Door) (end : End) → before ≤ now → (end ≡ ends.Device → Rose before now) → door ≡ doors.Ready → is_run_end end ≡ true → HasEndCause (Some (RunText path 256)) before now door end
-run_cause path before now door end later device is one = record {
+pub run_cause : (path : List ℕ) (pool before now : ℕ) (door : Door) (end : End) → before ≤ now → (end ≡ ends.Device → Rose before now) → door ≡ doors.Ready → is_run_end end ≡ true → HasEndCause (Some (RunText path pool)) before now door end
+run_cause path pool before now door end later device is one = record {
   later = later;
   device = device;
   missing = (λ e. absurd (other_end end ends.Missing one refl e), λ d. absurd (let f : ◌≡◌ {A = Door} doors.Ready doors.Missing = sym is ∙ d in cc));
@@ -254,6 +254,7 @@ run_cause path before now door end later device is one = record {
 
 -- ---- told or not
 
+-- the size of the pool stands in no promise
 abbrev pub Promise : List ℕ → Type 0 → Door → End → Tale → Tale → Type 0
 Promise path rose now end = KeepsPromises (Some (RunText path 256)) rose now end
 
@@ -305,7 +306,7 @@ module _ (path : List ℕ) (rose : Type 0) (door now : Door) (ready : door ≡ d
       let new = opens.fresh.log in
       let start = keeps.pages.file.start in
       let untold = opened_untold u v new keeps in
-      let early = λ (pages : ℕ) (first : Edition) (file : IsMapFile v.start pages) (stands : StandsForRegions v.start first) (so_far : Log) (image : Pages) (front : Begins v.log so_far) (left : CanLeave v.start so_far image).
+      let early = λ (pages : ℕ) (first : Edition) (file : IsMapFile v.start pages) (stands : StandsWithoutLines v.start first) (so_far : Log) (image : Pages) (front : Begins v.log so_far) (left : CanLeave v.start so_far image).
       stands_as pages u.start image first (subst (λ (p : Pages). IsMapFile p pages) start file) (subst (λ (p : Pages). Stands p first) start stands.stands)
       (home_kept u v pages new keeps (subst (λ (p : Pages). IsMapFile p pages) start file) so_far image front left) in (
         finds end t u v opens (λ e. absurd (no_start_end end is e)),
@@ -364,14 +365,14 @@ module _ (path : List ℕ) (rose : Type 0) (door now : Door) (ready : door ≡ d
   found_no_map (Some t) (Some u) None opens keeps none = absurd keeps
   found_no_map (Some t) (Some u) (Some v) opens keeps none = not_a_map t u v opens keeps none
 
-  ran_over : (end : End) (n : ℕ) (E : Edition) (t u v w : Tale) → (end ≡ ends.Device → rose) → IsOneOf end run_ends → OpensAt path door t u → Keeps u v → IsMapFile u.start n → StandsForRegions u.start E
+  ran_over : (end : End) (n : ℕ) (E : Edition) (t u v w : Tale) → (end ≡ ends.Device → rose) → IsOneOf end run_ends → OpensAt path door t u → Keeps u v → IsMapFile u.start n → StandsWithoutLines u.start E
       → RunsTo E.level (first_state n E) end v w → Promise path rose now end t w
   ran_over end n E t u v w device one opens keeps file stands runs =
       let new = opens.fresh.log in
       let untold = opened_untold u v new keeps in
       let start = runs.runs.file.start ∙ keeps.pages.file.start in
       let file_w : IsMapFile w.start n = subst (λ (p : Pages). IsMapFile p n) (sym start) file in
-      let stands_w : StandsForRegions w.start E = subst (λ (p : Pages). StandsForRegions p E) (sym start) stands in
+      let stands_w : StandsWithoutLines w.start E = subst (λ (p : Pages). StandsWithoutLines p E) (sym start) stands in
       let early = λ (so_far : Log) (image : Pages) (front : Begins v.log so_far) (left : CanLeave v.start so_far image).
       stands_as n u.start image E file stands.stands (home_kept u v n new keeps file so_far image front left) in
       let promised : RunsInput n E t.input rose end w =
@@ -385,7 +386,7 @@ module _ (path : List ℕ) (rose : Type 0) (door now : Door) (ready : door ≡ d
   -- over a session that stands for what the file does
   module _ {W : Type 0} {D : disk.Ghosts W} (session : Session W D) where
     pub ran : (end : End) (o m n p : Option Tale) → (end ≡ ends.Device → rose) → ((s : State) → IsAt session s → IsOneOf end run_ends) → Goes (OpensAt path door) o m → Goes Keeps m n
-        → IfSome m (λ t. (k : ℕ) × IsMapFile t.start k × (e : Edition) × StandsForRegions t.start e × IsAt session (first_state k e)) → ((s : State) → IsAt session s → Goes (RunsTo (level_of session) s end) n p)
+        → IfSome m (λ t. (k : ℕ) × IsMapFile t.start k × (e : Edition) × StandsWithoutLines t.start e × IsAt session (first_state k e)) → ((s : State) → IsAt session s → Goes (RunsTo (level_of session) s end) n p)
         → WhereTold (Promise path rose now end) o p
     ran end None m n p device one opens keeps found runs = tt
     ran end (Some t) None n p device one opens keeps found runs = absurd opens

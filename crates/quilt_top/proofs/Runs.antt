@@ -9,8 +9,8 @@ use Rattle.quilt_world.specs.Doors.{TakesFrom}
 use Rattle.quilt_world.specs.declared.event.Event.TheVariants.{Took}
 use Rattle.quilt_words.specs.Items.{Group, held, items_of, whole_items}
 use Rattle.quilt_lang.specs.Reading.{Same, Gives, MayFollow}
-use Rattle.quilt_map.specs.Answers.{State, Reply}
-use Rattle.quilt_map.specs.Runs.{is_done}
+use Rattle.quilt_replies.specs.Answers.{State, Reply}
+use Rattle.quilt_replies.specs.Runs.{is_done}
 use Rattle.quilt_top.specs.Answering.{Steps, PartStep, changes_all}
 use Rattle.quilt_top.specs.Replies.{state_after, said_for, replies_from}
 use Rattle.quilt_top.specs.Saying.{is_took, Says}

@@ -17,8 +17,8 @@ use Rattle.quilt_words.specs.Forms.{form}
 use Rattle.quilt_words.specs.Items.{Group}
 use Rattle.quilt_lang.specs.Reading.{Same}
 use Rattle.quilt_map.proofs.TextLaws.{run_same, outcome_keeps_level}
-use Rattle.quilt_map.specs.Answers.{State, Reply}
-use Rattle.quilt_map.specs.Runs.{Run, replies_of, text_of, output, is_done}
+use Rattle.quilt_replies.specs.Answers.{State, Reply}
+use Rattle.quilt_replies.specs.Runs.{Run, replies_of, text_of, output, is_done}
 use Rattle.quilt_top.specs.Replies.{held_at, reply_to, state_then, state_after, replies_from, said_for}
 use Rattle.quilt_top.specs.TextRun.{run_in}
 use Rattle.quilt_top.specs.Saying.{takes_none, Says, SaysFront}

@@ -4,8 +4,8 @@ use Rattle.std.specs.List.{list_all}
 use Rattle.quilt_world.specs.Tale.{Tale, Goes}
 use Rattle.quilt_words.specs.Items.{Group, items_of}
 use Rattle.quilt_lang.specs.Reading.{Gives, MayFollow}
-use Rattle.quilt_map.specs.Answers.{State}
-use Rattle.quilt_map.specs.Runs.{text_of, is_done}
+use Rattle.quilt_replies.specs.Answers.{State}
+use Rattle.quilt_replies.specs.Runs.{text_of, is_done}
 use Rattle.quilt_top.specs.Answered.{Answered, FrontOfAll}
 use Rattle.quilt_top.specs.Answering.{Answers, AnswersFront, Steps, changes_then, changes_all}
 use Rattle.quilt_top.specs.Replies.{held_at, reply_to, state_then, state_after, replies_from, said_for}

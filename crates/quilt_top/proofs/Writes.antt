@@ -14,10 +14,10 @@ use Rattle.quilt_words.specs.declared.command.Command.TheVariants as commands
 use Rattle.quilt_words.specs.declared.item.Item.{Item}
 use Rattle.quilt_words.specs.Items.{Group}
 use Rattle.quilt_words.specs.Forms.{form}
-use Rattle.quilt_map.specs.Answers.{State, Reply, answer}
-use Rattle.quilt_map.specs.Runs.{Run, Published, replies_of, publishes_of, outcome_of, output, text_of, is_revert}
+use Rattle.quilt_replies.specs.Answers.{State, Reply, answer}
+use Rattle.quilt_replies.specs.Runs.{Run, Published, replies_of, publishes_of, outcome_of, output, text_of, is_revert}
 use Rattle.quilt_map.specs.Sessions.{last_count}
-use Rattle.quilt_map.specs.Steps.{changes_after, is_revert as reverts}
+use Rattle.quilt_map.specs.Steps.{changes_after, goes_back as reverts}
 use Rattle.quilt_top.specs.Answering.{Answers, Steps, PartStep, changes_by, changes_then, changes_all}
 use Rattle.quilt_top.specs.Headline.{WritesFew}
 use Rattle.quilt_top.specs.Replies.{held_at, outcome, reply_to, state_then, state_after, replies_from}

@@ -4,8 +4,8 @@ use Rattle.std.specs.List.{list_all}
 use Rattle.quilt_world.specs.Tale.{Tale, Goes, Begins}
 use Rattle.quilt_words.specs.Items.{Group, items_of}
 use Rattle.quilt_lang.specs.Reading.{Gives, MayFollow}
-use Rattle.quilt_map.specs.Answers.{State}
-use Rattle.quilt_map.specs.Runs.{is_done}
+use Rattle.quilt_replies.specs.Answers.{State}
+use Rattle.quilt_replies.specs.Runs.{is_done}
 use Rattle.quilt_top.specs.Answering.{Steps, StepsFront, changes_all}
 use Rattle.quilt_top.specs.Replies.{state_after, replies_from, said_for}
 use Rattle.quilt_top.specs.Saying.{Says}

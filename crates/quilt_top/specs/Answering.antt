@@ -11,8 +11,8 @@ use Rattle.quilt_words.specs.declared.command.Command.{Command}
 use Rattle.quilt_words.specs.declared.item.Item.{Item}
 use Rattle.quilt_words.specs.Items.{Group}
 use Rattle.quilt_words.specs.Forms.{form}
-use Rattle.quilt_map.specs.Answers.{State}
-use Rattle.quilt_map.specs.Runs.{text_of}
+use Rattle.quilt_replies.specs.Answers.{State}
+use Rattle.quilt_replies.specs.Runs.{text_of}
 use Rattle.quilt_map.specs.Steps.{StandsForNew, changes_after}
 use Rattle.quilt_top.specs.Replies.{held_at, outcome, reply_to, state_then, state_after}
 use Rattle.quilt_top.specs.Saying.{is_took, Says}

@@ -1,5 +1,6 @@
 pub mod Answered
 pub mod Answering
+pub mod CommandLine
 pub mod Ends
 pub mod Headline
 pub mod Meanings

@@ -5,4 +5,4 @@ use Rattle.quilt_top.specs.Words as table
 
 abbrev pub meant : Order → table.Order
 meant (given.New f) = table.New f.path.now f.pages f.level
-meant (given.Run path) = table.Run path.now 256
+meant (given.Run f) = table.Run f.path.now f.pool

@@ -7,8 +7,8 @@ use Rattle.quilt_world.specs.Tale.{Tale, put_bytes, taken_bytes}
 use Rattle.quilt_edition.specs.Stands.{Stands}
 use Rattle.quilt_words.specs.Items.{Group}
 use Rattle.quilt_lang.specs.Reading.{Gives}
-use Rattle.quilt_map.specs.Answers.{State}
-use Rattle.quilt_map.specs.Runs.{is_done}
+use Rattle.quilt_replies.specs.Answers.{State}
+use Rattle.quilt_replies.specs.Runs.{is_done}
 use Rattle.quilt_top.specs.Answering.{Steps, changes_all}
 use Rattle.quilt_top.specs.Replies.{state_after, replies_from, said_for}
 use Rattle.quilt_top.specs.TextRun.{PromptAt, IsUntold}

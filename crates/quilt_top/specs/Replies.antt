@@ -3,9 +3,9 @@ use Rattle.std.specs.Prelude.{◌≡◌, ℕ, List, [], ◌∷◌}
 use Rattle.quilt_words.specs.declared.item.Item.{Item}
 use Rattle.quilt_words.specs.Items.{Group, held}
 use Rattle.quilt_words.specs.Forms.{form}
-use Rattle.quilt_map.specs.Answers.{State, Outcome, Reply}
-use Rattle.quilt_map.specs.Runs.{outcome_of, output}
-use Rattle.quilt_map.specs.States.{after_outcome}
+use Rattle.quilt_replies.specs.Answers.{State, Outcome, Reply}
+use Rattle.quilt_replies.specs.Runs.{outcome_of, output}
+use Rattle.quilt_replies.specs.States.{after_outcome}
 
 -- some lines are this item in the format
 pub record IsItem (f n : ℕ) (item : Item) : Type 0 where

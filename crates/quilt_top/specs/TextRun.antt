@@ -6,8 +6,8 @@ use Rattle.quilt_world.specs.Disk.{Pages, Log, CanLeave}
 use Rattle.quilt_world.specs.Tale.{Tale, IsSameFile, put_bytes, taken_bytes, Begins}
 use Rattle.quilt_world.specs.declared.event.Event.TheVariants.{Took}
 use Rattle.quilt_words.specs.Items.{Group, items_of, whole_items}
-use Rattle.quilt_map.specs.Answers.{State}
-use Rattle.quilt_map.specs.Runs.{Run, Published, run_of, replies_of, is_done, output, told_within, publishes_of}
+use Rattle.quilt_replies.specs.Answers.{State}
+use Rattle.quilt_replies.specs.Runs.{Run, Published, run_of, replies_of, is_done, output, told_within, publishes_of}
 use Rattle.quilt_top.specs.Headline.{IsEdition, WritesFew}
 
 -- the run of these items from a state

@@ -5,8 +5,8 @@ ghost use Rattle.quilt_world.specs.Causes.{Rose};
 ghost use Rattle.quilt_world.specs.declared.disk.Door.TheVariants as doors;
 ghost use Rattle.quilt_top.specs.Answering.{Applies, Answers, AnswersFront, changes_then};
 ghost use Rattle.quilt_top.specs.declared.halt.Halt.TheVariants as halts;
-ghost use Rattle.quilt_map.specs.Answers.{State, Refused};
-ghost use Rattle.quilt_map.specs.Runs.{text_of, is_done};
+ghost use Rattle.quilt_replies.specs.Answers.{State, Refused};
+ghost use Rattle.quilt_replies.specs.Runs.{text_of, is_done};
 ghost use Rattle.quilt_map.specs.Sessions.{world_of, format_of, level_of, changes_of, IsAt};
 ghost use Rattle.quilt_top.specs.Replies.{IsItem, reply_to, state_then};
 

@@ -3,7 +3,7 @@ ghost use Rattle.std.specs.Option.{IfSome};
 ghost use Rattle.quilt_world.specs.Tale.{Goes};
 ghost use Rattle.quilt_world.specs.Causes.{Rose};
 ghost use Rattle.quilt_world.specs.declared.disk.Door.TheVariants as doors;
-ghost use Rattle.quilt_map.specs.Answers.{State};
+ghost use Rattle.quilt_replies.specs.Answers.{State};
 ghost use Rattle.quilt_map.specs.Sessions.{IsAt, world_of, level_of, changes_of};
 ghost use Rattle.quilt_top.specs.TextRun.{IsUntold};
 ghost use Rattle.quilt_top.specs.declared.run.End.TheVariants as ends;
@@ -14,6 +14,7 @@ ghost use Rattle.quilt_top.specs.Headline.{KeepsPromises, WhereTold, HasEndCause
 
 use crate::halt::Halt;
 use crate::opening::{Opened, open};
+use crate::orders::RunFile;
 use crate::run::End;
 use crate::text_run::run_text;
 use quilt_map::Session;
@@ -50,28 +51,28 @@ fn run_session<R: Threads + Sync, W: World>(rt: &R, alloc: Global, session: Sess
     (end, session.into_world())
 }
 
-/// Runs the input over the file of this path.
+/// Runs the input over the file that the words ask for.
 pub(crate) fn run_file<R: Threads + Sync, W: World>(
     rt: &R,
     alloc: Global,
     world: W,
-    path: &str,
+    file: RunFile,
 ) -> (End, W)
     requires { W.door world ≡ doors.Shut }
-    ensures cause { HasEndCause (Some (Run path.now 256)) (W.faults world) (W.faults result.1) (W.door result.1) result.0 }
+    ensures cause { HasEndCause (Some (Run file.entry.path.now file.entry.pool)) (W.faults world) (W.faults result.1) (W.door result.1) result.0 }
     ensures usage { result.0 ≢ ends.Usage }
-    ensures promises { WhereTold (KeepsPromises (Some (Run path.now 256)) (Rose (W.faults world) (W.faults result.1)) (W.door result.1) result.0)
+    ensures promises { WhereTold (KeepsPromises (Some (Run file.entry.path.now file.entry.pool)) (Rose (W.faults world) (W.faults result.1)) (W.door result.1) result.0)
         (W.told world) (W.told result.1) }
 {
     let mut world = world;
-    let Ok(attached) = world.attach(path) else {
+    let Ok(attached) = world.attach(file.path) else {
         return (End::Device, world);
     };
     match attached {
         Attached::Ready => {}
         Attached::Missing => return (End::Missing, world),
     }
-    match open(alloc, world) {
+    match open(alloc, world, file.pool) {
         Opened::Map(session) => run_session(rt, alloc, session),
         Opened::NotMap(world) => (End::NotMap, world),
         Opened::Stopped(world, stop) => (End::of_stop(stop), world),

@@ -2,6 +2,7 @@
 #![tactic(auto)]
 
 mod answering;
+mod command_line;
 mod halt;
 mod input;
 mod make;

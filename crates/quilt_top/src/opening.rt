@@ -16,9 +16,6 @@ use quilt_types::Stop;
 use quilt_world::{Disk, World};
 use std::alloc::Global;
 
-/// How many pages the pool of a run has.
-const POOL: u32 = 256;
-
 /// What opening a file gives. Each answer holds the world.
 #[derive(Drop)]
 pub(crate) enum Opened<W: Disk> {
@@ -57,9 +54,10 @@ fn survey_book<W: World>(alloc: Global, mut book: Book<W>) -> Opened<W>
     }
 }
 
-/// Opens the file that the world has attached. A map file keeps its home pages, and another file is left alone.
-pub(crate) fn open<W: World>(alloc: Global, world: W) -> Opened<W>
-    requires { IfSome (W.told world) IsNew }
+/// Opens the file that the world has attached, over a pool of 8 to 4096 pages. A map file keeps its home pages, and another file is left alone.
+pub(crate) fn open<W: World>(alloc: Global, world: W, pool: u32) -> Opened<W>
+    requires new { IfSome (W.told world) IsNew }
+    requires pool { (8 ≤ pool) × (pool ≤ 4096) }
     ensures later { W.faults world ≤ W.faults (world_in result) }
     ensures door { W.door (world_in result) ≡ W.door world }
     ensures unchanged { IsUnchanged result }
@@ -67,7 +65,7 @@ pub(crate) fn open<W: World>(alloc: Global, world: W) -> Opened<W>
     ensures keeps { Goes Keeps (W.told world) (W.told (world_in result)) }
     ensures finds { IfSome (W.told world) (λ t. FindsAt t.start result) }
 {
-    match Book::begin(alloc, world, POOL) {
+    match Book::begin(alloc, world, pool) {
         Started::Ready(book) => survey_book(alloc, book),
         Started::NotMap(world) => Opened::NotMap(world),
         Started::Stopped(world, stop) => Opened::Stopped(world, stop),

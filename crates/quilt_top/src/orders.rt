@@ -10,10 +10,17 @@ pub(crate) struct NewFile<'a> {
     ghost level_in_range: { (1 ≤ level) × (level ≤ 12) },
 }
 
+/// A map file that the input is run over, through a pool of so many pages.
+#[derive(Clone, Copy)]
+pub(crate) struct RunFile<'a> {
+    pub(crate) path: &'a str,
+    pub(crate) pool: u32,
+    ghost pool_in_range: { (8 ≤ pool) × (pool ≤ 4096) },
+}
+
 /// What is to be done.
 #[derive(Clone, Copy)]
 pub(crate) enum Order<'a> {
     New(NewFile<'a>),
-    /// The path of the file that the input is run over.
-    Run(&'a str),
+    Run(RunFile<'a>),
 }

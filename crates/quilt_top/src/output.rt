@@ -3,7 +3,7 @@ ghost use Rattle.quilt_world.specs.Tale.{Goes};
 ghost use Rattle.quilt_world.specs.Causes.{HasCause};
 ghost use Rattle.quilt_world.specs.declared.disk.Door.TheVariants as doors;
 ghost use Rattle.quilt_world.specs.Added.{AddsOnly, is_of_text};
-ghost use Rattle.quilt_map.specs.Answers.{State};
+ghost use Rattle.quilt_replies.specs.Answers.{State};
 ghost use Rattle.quilt_map.specs.Sessions.{world_of, level_of, changes_of, IsAt};
 ghost use Rattle.quilt_top.specs.Saying.{Says, SaysFront};
 

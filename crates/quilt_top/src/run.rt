@@ -84,10 +84,13 @@ pub fn run_quilt<'a, R: Threads + Sync, W: World>(
     ensures cause { HasEndCause (asked_for (map (λ w. w.now) words.entry.now)) (W.faults world) (W.faults result.1) (W.door result.1) result.0 }
     ensures promises { WhereTold (KeepsPromises (asked_for (map (λ w. w.now) words.entry.now)) (Rose (W.faults world) (W.faults result.1)) (W.door result.1) result.0) (W.told world) (W.told result.1) }
 {
-    match read_order(words) {
+    let Ok(order) = read_order(alloc, words) else {
+        return (End::Memory, world);
+    };
+    match order {
         None => (End::Usage, world),
         Some(Order::New(file)) => new_file(alloc, world, file),
-        Some(Order::Run(path)) => run_file(rt, alloc, world, path),
+        Some(Order::Run(file)) => run_file(rt, alloc, world, file),
     }
 }
 

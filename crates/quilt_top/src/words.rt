@@ -1,17 +1,15 @@
-ghost use Rattle.std.specs.Prelude.{◌≡◌, ◌≤◌, ◌&&◌, true, codes, map, nat_le, if◌then◌else◌, Some, None, option_map, IfSome};
+ghost use Rattle.std.specs.Prelude.{◌≡◌, ◌≤◌, codes, map, nat_le, if◌then◌else◌, Some, None, option_map, IfSome, IfOk};
 ghost use Rattle.quilt_words.specs.Spelling as spelling;
 ghost use Rattle.std.specs.Str.{bytes_eq};
+ghost use Rattle.clap.specs.Words.{first_value, found_of};
+ghost use Rattle.quilt_top.specs.CommandLine.{order_by};
 ghost use Rattle.quilt_top.specs.Meanings.{meant};
 ghost use Rattle.quilt_top.specs.Words as table;
 
-use crate::orders::{NewFile, Order};
-
-/// Whether the word would be an option.
-fn is_dashed(word: &str) -> bool
-    ensures { result ≡ table.is_dashed word.now }
-{
-    word.as_bytes().starts_with(b"-") && word.len() > 1
-}
+use crate::command_line::parsed;
+use crate::orders::{NewFile, Order, RunFile};
+use clap::ArgMatches;
+use std::alloc::{AllocError, Global};
 
 /// Whether these are decimal digits, with no zero before others.
 fn is_spelled(word: &[u8]) -> bool
@@ -70,19 +68,37 @@ fn file_of<'a>(path: &'a str, pages: &str, level: &str) -> Option<NewFile<'a>>
     })
 }
 
-/// The file to be run, where the first word says so.
-fn run_of<'a>(mode: &str, path: &'a str) -> Option<Order<'a>>
-    ensures { option_map meant result ≡ (if bytes_eq mode.now (codes "run") && true then table.run_order path.entry.now else None) }
+/// The number of pages that the option's word asks for, and 256 where it is not there.
+fn pool_size(pool: Option<&str>) -> Option<u32>
+    ensures value { result ≡ table.pool_size (option_map (λ w. w.now) pool.entry) }
+    ensures range { IfSome result (λ n. (8 ≤ n) × (n ≤ 4096)) }
 {
-    if mode != "run" || path.is_empty() {
+    match pool {
+        None => Some(256),
+        Some(word) => number(8, 4096, word),
+    }
+}
+
+/// The file to be run, where the first word says so.
+fn run_of<'a>(mode: &str, path: &'a str, pool: Option<&str>) -> Option<Order<'a>>
+    ensures { option_map meant result
+        ≡ (if bytes_eq mode.now (codes "run") then table.run_order path.entry.now (table.pool_size (option_map (λ w. w.now) pool.entry)) else None) }
+{
+    if mode != "run" {
         return None;
     }
-    Some(Order::Run(path))
+    let pool = pool_size(pool)?;
+    if path.is_empty() {
+        return None;
+    }
+    Some(Order::Run(RunFile { path, pool }))
 }
 
 /// The file to be made, where the first word says so.
 fn new_of<'a>(mode: &str, path: &'a str, pages: &str, level: &str) -> Option<Order<'a>>
-    ensures { option_map meant result ≡ (if bytes_eq mode.now (codes "new") && true then table.new_order path.entry.now (spelling.number 16 30000 pages.now) (spelling.number 1 12 level.now) else None) }
+    ensures { option_map meant result
+        ≡ (if bytes_eq mode.now (codes "new")
+        then table.new_order path.entry.now (spelling.number 16 30000 pages.now) (spelling.number 1 12 level.now) else None) }
 {
     if mode != "new" {
         return None;
@@ -91,23 +107,32 @@ fn new_of<'a>(mode: &str, path: &'a str, pages: &str, level: &str) -> Option<Ord
     Some(Order::New(file))
 }
 
-/// What the words ask for, where none of them would be an option.
-fn order_of_words<'a>(words: &'a [&'a str]) -> Option<Order<'a>>
-    ensures { option_map meant result ≡ table.order_of_words None (map (λ w. w.now) words.entry.now) }
+/// What is asked for by the words that the command found.
+fn order_of<'a>(matches: &ArgMatches<'a>) -> Option<Order<'a>>
+    ensures { option_map meant result ≡ order_by (first_value (found_of matches.now)) }
 {
-    match words {
-        [mode, path] => run_of(mode, path),
-        [mode, path, pages, level] => new_of(mode, path, pages, level),
+    let mode = matches.get_str("mode")?;
+    let path = matches.get_str("file")?;
+    let pool = matches.get_str("pool");
+    match (matches.get_str("first"), matches.get_str("second")) {
+        (None, None) => run_of(mode, path, pool),
+        (Some(pages), Some(level)) if pool.is_none() => new_of(mode, path, pages, level),
         _ => None,
     }
 }
 
-/// What the words ask for, if they are `new FILE PAGES LEVEL` or `run FILE`.
-pub(crate) fn read_order<'a>(words: &'a [&'a str]) -> Option<Order<'a>>
-    ensures { option_map meant result ≡ table.asked_for (map (λ w. w.now) words.entry.now) }
+/// What the words ask for, if they are `new FILE PAGES LEVEL` or `run FILE`, the latter with at most one `--pool P`.
+pub(crate) fn read_order<'a>(
+    alloc: Global,
+    words: &'a [&'a str],
+) -> Result<Option<Order<'a>>, AllocError>
+    ensures { IfOk result (λ o. option_map meant o ≡ table.asked_for (map (λ w. w.now) words.entry.now)) }
 {
-    if words.iter().any(|word| is_dashed(word)) {
-        return None;
-    }
-    order_of_words(words)
+    let Some(matches) = parsed(alloc, words)? else {
+        return Ok(None);
+    };
+    Ok(order_of(&matches))
 }
+
+#[cfg(test)]
+mod tests;

@@ -38,7 +38,7 @@ fn makes_a_file_once(rt: HostRuntime) {
 #[test]
 fn refuses_other_words(rt: HostRuntime) {
     let alloc = rt.alloc();
-    let others: [&[&str]; 8] = [
+    let others: [&[&str]; 11] = [
         &[],
         &["run"],
         &["new", "m", "15", "3"],
@@ -47,6 +47,9 @@ fn refuses_other_words(rt: HostRuntime) {
         &["new", "-m", "16", "3"],
         &["new", "", "16", "3"],
         &["new", "m", "16", "3", "3"],
+        &["run", "m", "--pool", "7"],
+        &["new", "m", "16", "3", "--pool", "8"],
+        &["run", "m", "--pool", "8", "--pool", "8"],
     ];
     for words in others {
         let (end, desk) = run_quilt(&rt, alloc, words, empty_desk(&rt, alloc));
@@ -79,14 +82,19 @@ fn ends_at_each_fault(rt: HostRuntime) {
     assert!(rt; desk.output() == line.as_slice());
 }
 
-/// The file that `new m 16 3` makes.
-fn file_of_level_3<R: Threads + Sync + Abort>(rt: &R, alloc: Global) -> Image {
-    let words = ["new", "m", "16", "3"];
+/// The file that `new m PAGES LEVEL` makes.
+fn file_of<R: Threads + Sync + Abort>(rt: &R, alloc: Global, pages: &str, level: &str) -> Image {
+    let words = ["new", "m", pages, level];
     let (_, desk) = run_quilt(rt, alloc, &words, empty_desk(rt, alloc));
     desk.image()
         .expect(rt, "a file")
         .copy()
         .expect(rt, "a copy")
+}
+
+/// The file that `new m 16 3` makes.
+fn file_of_level_3<R: Threads + Sync + Abort>(rt: &R, alloc: Global) -> Image {
+    file_of(rt, alloc, "16", "3")
 }
 
 /// Runs the input over that file, in pieces of so many bytes, and compares what is put and the status.
@@ -128,6 +136,51 @@ fn answers_a_text(rt: HostRuntime) {
     answers_both_ways(&rt, alloc, text, replies, 1);
     answers_both_ways(&rt, alloc, b"", b"", 0);
     answers_both_ways(&rt, alloc, b"edition", b"edition 0\nok\n", 0);
+}
+
+#[test]
+fn answers_map_algebra(rt: HostRuntime) {
+    let alloc = rt.alloc();
+    let text = b"region a 0\nrect a 0 0 4 2 3\nregion b 0\nrect b 2 0 4 4 5\n\
+        union a b u\ninter a b i\ndiff b a d\nrecolour a r 3 9 9 3 0 1\n\
+        window b 3 1 2 2 w\nshift a 2 -1 s\nbuffer w 1 f\narea u 3\nperimeter b 5\n\
+        show u 0 0 8 3\nshow i 0 0 8 3\nshow d 0 0 8 3\nshow r 0 0 8 3\n\
+        show w 0 0 8 3\nshow s 0 0 8 3\nshow f 0 0 8 3\n\
+        window a 7 7 2 1 g\nunion a nosuch u\ndiff a b u\n";
+    let replies = b"ok\nok\nok\nok\nok\nok\nok\nok\nok\nok\nok\n8\nok\n16\nok\n\
+        0303030305050000\n0303030305050000\n0000050505050000\nok\n\
+        0000030300000000\n0000030300000000\n0000000000000000\nok\n\
+        0000000005050000\n0000000005050000\n0000050505050000\nok\n\
+        0909090901010101\n0909090901010101\n0101010101010101\nok\n\
+        0000000000000000\n0000000505000000\n0000000505000000\nok\n\
+        0000030303030000\n0000000000000000\n0000000000000000\nok\n\
+        0000010101010000\n0000010101010000\n0000010101010000\nok\n\
+        no 8 outside\nno 5 unknown\nno 7 exists\n";
+    answers(&rt, alloc, 4096, text, replies, 1);
+}
+
+#[test]
+fn answers_point_layers(rt: HostRuntime) {
+    let alloc = rt.alloc();
+    let text = b"points p\nput p 3 4 7\nput p 3 4 9\nput p 8 0 1\nput p 2 4 70000\n\
+        find p 3 4\nfind p 0 0\nwithin p 0 4 8 1\ndel p 3 4\ndel p 3 4\nfind p 3 4\n\
+        points q 2\npoints p 1\nput nosuch 0 0 1\nregion a 0\nput a 0 0 1\nset p 0 0 1\n\
+        upgrade\npoints q 2\nput q 0 0 1\nlayers\nrecords\n";
+    let replies = b"ok\nok\nno 10 present\nno 8 outside\nok\n\
+        7\nok\nno 9 absent\n2 4 70000\n3 4 7\nok\nok\nno 9 absent\nno 9 absent\n\
+        no 15 format\nno 7 exists\nno 5 unknown\nok\nno 6 kind\nno 6 kind\n\
+        edition 1\nok\nok\nok\na region\np points\nq points 2\nok\n6 of 512\nok\n";
+    answers(&rt, alloc, 4096, text, replies, 1);
+}
+
+#[test]
+fn answers_scatters(rt: HostRuntime) {
+    let alloc = rt.alloc();
+    let text = b"points p\nscatter p 2\n7 7 6\n0 0 5\nscatter p 2\n1 1 1\n1 1 2\n\
+        scatter p 2\n2 2 1\n0 0 3\nscatter p 1\n8 0 1\nscatter p 1\nx\nwithin p 0 0 8 8\n";
+    let replies = b"ok\nok\nno 10 present\nno 10 present\nno 8 outside\nno 14 rows\n\
+        0 0 5\n7 7 6\nok\n";
+    answers(&rt, alloc, 4096, text, replies, 1);
 }
 
 #[test]
@@ -320,4 +373,68 @@ fn publishes_editions(rt: HostRuntime) {
     let found =
         b"edition 2\nok\n1\nok\n4\nok\na region\nb region\nok\nno 15 format\nedition 3\nok\n";
     let _ = goes_on(&rt, alloc, file, again, found, 1);
+}
+
+/// Adds a command that sets a pixel of a square of 64 by 64, and gives the next of pseudo-random numbers.
+fn push_set(rt: &impl Abort, alloc: Global, text: &mut Vec<u8>, state: u32) -> u32 {
+    let next = state.wrapping_mul(1_664_525).wrapping_add(1_013_904_223);
+    let x = next >> 26;
+    let y = (next >> 20) % 64;
+    let colour = (next >> 12) % 256;
+    let line = format!(in alloc; "set a {x} {y} {colour}\n").expect(rt, "a line");
+    text.extend_from_slice(line.as_bytes())
+        .expect(rt, "a longer text");
+    next
+}
+
+/// Two hundred commands, whose tree outgrows a pool of 8 pages.
+fn text_of_200(rt: &impl Abort, alloc: Global) -> Vec<u8> {
+    let mut text = Vec::new(alloc);
+    text.extend_from_slice(b"region a 0\n").expect(rt, "a text");
+    let mut state = 1;
+    for _ in 0..195_u32 {
+        state = push_set(rt, alloc, &mut text, state);
+    }
+    text.extend_from_slice(b"publish\nleaves a\nrecords\nedition\n")
+        .expect(rt, "a longer text");
+    text
+}
+
+/// Runs the text as the words say, in pieces of so many bytes.
+fn done_by<'a, R: Threads + Sync + Abort>(
+    rt: &R,
+    alloc: Global,
+    words: &'a [&'a str],
+    piece: usize,
+    text: &[u8],
+) -> Desk
+    requires { 1 ≤ piece }
+{
+    let file = file_of(rt, alloc, "64", "6");
+    let mut desk = Desk::new(alloc, "m", Some(file), text).expect(rt, "a desk");
+    desk.piece(piece);
+    let (end, desk) = run_quilt(rt, alloc, words, desk);
+    assert_eq!(rt; end, End::Done);
+    desk
+}
+
+#[test]
+fn answers_alike_with_any_pool(rt: HostRuntime) {
+    let alloc = rt.alloc();
+    let text = text_of_200(&rt, alloc);
+    let first = done_by(&rt, alloc, &["run", "m"], 4096, text.as_slice());
+    assert!(rt; first.output().ends_with(b"edition 1\nok\n"));
+    assert!(rt; first.output().len() > 10_000);
+    let with_pools: [&[&str]; 4] = [
+        &["--pool", "8", "run", "m"],
+        &["run", "--pool=8", "m"],
+        &["run", "m", "--pool", "4096"],
+        &["--pool=4096", "--", "run", "m"],
+    ];
+    for words in with_pools {
+        let whole = done_by(&rt, alloc, words, 4096, text.as_slice());
+        assert!(rt; whole.output() == first.output());
+        let cut = done_by(&rt, alloc, words, 1, text.as_slice());
+        assert!(rt; cut.output() == first.output());
+    }
 }

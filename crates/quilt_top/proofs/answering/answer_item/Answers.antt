@@ -1,8 +1,8 @@
 use Rattle.std.proofs.Common.{◌≡◌, ◌∙◌, sym, ap, subst, Ok, Err}
 use Rattle.quilt_words.specs.Forms.{form}
 use Rattle.quilt_words.specs.Parsing.{Answers}
-use Rattle.quilt_map.specs.Answers.{State}
-use Rattle.quilt_map.specs.Runs.{text_of, is_done}
+use Rattle.quilt_replies.specs.Answers.{State}
+use Rattle.quilt_replies.specs.Runs.{text_of, is_done}
 use Rattle.quilt_map.specs.Sessions.{IsAt}
 use Rattle.quilt_types.specs.declared.stop.Stop.{Stop}
 use Rattle.quilt_types.specs.declared.stop.Stop.TheVariants as stops

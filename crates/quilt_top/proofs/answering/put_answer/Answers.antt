@@ -1,8 +1,8 @@
 use Rattle.std.proofs.Common.{◌≡◌, ◌∙◌, List, ℕ, subst}
 use Rattle.quilt_world.specs.Tale.{Goes}
 use Rattle.quilt_world.proofs.Told.{goes_weaker}
-use Rattle.quilt_map.specs.Answers.{State}
-use Rattle.quilt_map.specs.Runs.{text_of}
+use Rattle.quilt_replies.specs.Answers.{State}
+use Rattle.quilt_replies.specs.Runs.{text_of}
 use Rattle.quilt_map.specs.Sessions.{world_of, changes_of}
 use Rattle.quilt_top.specs.Replies.{reply_to, state_then}
 use Rattle.quilt_top.specs.Saying.{Says}

@@ -12,7 +12,7 @@ use Rattle.quilt_top.proofs.Found.{none_free, goes_begun, stop_found, not_map_fo
 use Rattle.quilt_top.proofs.opening.open.Goals as goal
 
 pub begin-requires-clause-whole : goal.begin-requires-clause-whole
-begin-requires-clause-whole g c = none_free _ c.requires
+begin-requires-clause-whole g c = none_free _ c.requires.new
 
 pub survey_book-requires-clause-unchanged : goal.survey_book-requires-clause-unchanged
 survey_book-requires-clause-unchanged g c =
@@ -30,22 +30,22 @@ survey_book-requires-clause-pages g c = λ t is.
 pub returns-in-Ready-clause-keeps : goal.returns-in-Ready-clause-keeps
 returns-in-Ready-clause-keeps g c =
     let book = c.in-Ready.book in
-    book_keeps book.journal (entries_of book.pool) book.last c.in-Ready.ensures.fresh.0 _ _ _ _ _ c.requires (g.met.W.Disk.is_consistent c.args.world) (g.met.W.Disk.is_consistent book.world) book.kept
+    book_keeps book.journal (entries_of book.pool) book.last c.in-Ready.ensures.fresh.0 _ _ _ _ _ c.requires.new (g.met.W.Disk.is_consistent c.args.world) (g.met.W.Disk.is_consistent book.world) book.kept
     c.in-Ready.ensures.crash c.in-Ready.ensures.cause c.survey_book.ensures.tale
 
 pub returns-in-Ready-clause-finds : goal.returns-in-Ready-clause-finds
 returns-in-Ready-clause-finds g c =
     let book = c.in-Ready.book in
-    book_finds book.journal (entries_of book.pool) book.last c.in-Ready.ensures.fresh.0 c.survey_book.result _ _ _ c.requires (g.met.W.Disk.is_consistent c.args.world) c.in-Ready.ensures.cause c.survey_book.ensures.holds
+    book_finds book.journal (entries_of book.pool) book.last c.in-Ready.ensures.fresh.0 c.survey_book.result _ _ _ c.requires.new (g.met.W.Disk.is_consistent c.args.world) c.in-Ready.ensures.cause c.survey_book.ensures.holds
 
 pub returns-in-NotMap-clause-keeps : goal.returns-in-NotMap-clause-keeps
-returns-in-NotMap-clause-keeps g c = goes_begun _ _ _ c.requires (g.met.W.Disk.is_consistent c.args.world) c.in-NotMap.ensures.crash
+returns-in-NotMap-clause-keeps g c = goes_begun _ _ _ c.requires.new (g.met.W.Disk.is_consistent c.args.world) c.in-NotMap.ensures.crash
 
 pub returns-in-NotMap-clause-finds : goal.returns-in-NotMap-clause-finds
-returns-in-NotMap-clause-finds g c = not_map_found _ _ _ c.requires (g.met.W.Disk.is_consistent c.args.world) c.in-NotMap.ensures.cause
+returns-in-NotMap-clause-finds g c = not_map_found _ _ _ c.requires.new (g.met.W.Disk.is_consistent c.args.world) c.in-NotMap.ensures.cause
 
 pub returns-in-Stopped-clause-keeps : goal.returns-in-Stopped-clause-keeps
-returns-in-Stopped-clause-keeps g c = goes_begun _ _ _ c.requires (g.met.W.Disk.is_consistent c.args.world) c.in-Stopped.ensures.crash
+returns-in-Stopped-clause-keeps g c = goes_begun _ _ _ c.requires.new (g.met.W.Disk.is_consistent c.args.world) c.in-Stopped.ensures.crash
 
 pub returns-in-Stopped-clause-finds : goal.returns-in-Stopped-clause-finds
-returns-in-Stopped-clause-finds g c = stop_found c.in-Stopped.stop _ _ _ _ _ c.requires (g.met.W.Disk.is_consistent c.args.world) c.in-Stopped.ensures.cause
+returns-in-Stopped-clause-finds g c = stop_found c.in-Stopped.stop _ _ _ _ _ c.requires.new (g.met.W.Disk.is_consistent c.args.world) c.in-Stopped.ensures.cause

@@ -3,7 +3,7 @@ use Rattle.quilt_world.specs.Added.{AddsOnly, is_of_text}
 use Rattle.quilt_world.specs.Tale.{Goes}
 use Rattle.quilt_top.specs.Saying.{Says}
 use Rattle.quilt_map.specs.Sessions.{world_of, level_of, changes_of, IsAt}
-use Rattle.quilt_map.specs.Answers.{State}
+use Rattle.quilt_replies.specs.Answers.{State}
 use Rattle.quilt_top.proofs.output.put_reply.Given as goal
 
 abbrev pub invariant-loop-done : goal.invariant-loop-done

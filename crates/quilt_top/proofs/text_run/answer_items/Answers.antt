@@ -1,8 +1,8 @@
 use Rattle.std.proofs.Common.{◌≡◌, ◌∙◌, ◌&&◌, ℕ, ap, subst, rules}
 use Rattle.quilt_world.specs.Tale.{Goes}
 use Rattle.quilt_words.specs.declared.item.Item.{Item}
-use Rattle.quilt_map.specs.Answers.{State}
-use Rattle.quilt_map.specs.Runs.{text_of, is_done}
+use Rattle.quilt_replies.specs.Answers.{State}
+use Rattle.quilt_replies.specs.Runs.{text_of, is_done}
 use Rattle.quilt_map.specs.Sessions.{world_of, changes_of, IsAt}
 use Rattle.quilt_map.proofs.Laws.{at_level}
 use Rattle.quilt_map.proofs.TextLaws.{fewer_left}

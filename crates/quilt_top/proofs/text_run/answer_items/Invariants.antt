@@ -1,6 +1,6 @@
 use Rattle.std.proofs.Common.{◌≡◌, ◌≤◌, length}
 use Rattle.quilt_words.specs.Items.{items_of}
-use Rattle.quilt_map.specs.Answers.{State}
+use Rattle.quilt_replies.specs.Answers.{State}
 use Rattle.quilt_map.specs.Sessions.{world_of, level_of, changes_of, IsAt}
 use Rattle.quilt_top.specs.Answered.{Answered}
 use Rattle.quilt_top.proofs.text_run.answer_items.Given as goal

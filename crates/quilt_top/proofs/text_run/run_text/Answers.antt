@@ -8,7 +8,7 @@ use Rattle.quilt_world.specs.Tale.{Goes}
 use Rattle.quilt_world.proofs.Told.{goes_first, if_some_and}
 use Rattle.quilt_edition.specs.Stands.{Stands}
 use Rattle.quilt_map.specs.Sessions.{world_of, IsAt}
-use Rattle.quilt_map.specs.Answers.{State}
+use Rattle.quilt_replies.specs.Answers.{State}
 use Rattle.quilt_top.specs.TextRun.{IsUntold, Overruns}
 use Rattle.quilt_top.proofs.Applying.{leaves_told, seen_told}
 use Rattle.quilt_top.proofs.Said.{either_way, if_err_const, if_ok_both, ok_at, err_at, err_from}

@@ -1,7 +1,7 @@
 use Rattle.std.proofs.Common.{◌≡◌, ◌≤◌, ◌-◌, ◌^◌, []}
 use Rattle.quilt_world.specs.Tale.{Goes}
 use Rattle.quilt_words.specs.Items.{whole_items}
-use Rattle.quilt_map.specs.Answers.{State}
+use Rattle.quilt_replies.specs.Answers.{State}
 use Rattle.quilt_map.specs.Sessions.{world_of, level_of, changes_of, IsAt}
 use Rattle.quilt_top.specs.Reading.{Reading}
 use Rattle.quilt_top.proofs.text_run.run_text.Given as goal
