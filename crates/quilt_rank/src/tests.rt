@@ -1,4 +1,4 @@
-ghost use Rattle.std.specs.Prelude.{◌≤◌, ◌<◌};
+ghost use Rattle.std.specs.Prelude.{◌≡◌, ◌≤◌, ◌<◌};
 
 use crate::ranked;
 use quilt_near::{Even, SegList, nearest};
@@ -7,47 +7,27 @@ use quilt_types::{Pixel, Seg};
 use std::alloc::{AllocError, Global};
 use std::test::Fail;
 
+/// The segment from one pixel to another.
+fn between(first: (u16, u16), last: (u16, u16)) -> Seg
+    ensures { result ≡ record { x1 = first.0; y1 = first.1; x2 = last.0; y2 = last.1 } }
+{
+    Seg {
+        x1: first.0,
+        y1: first.1,
+        x2: last.0,
+        y2: last.1,
+    }
+}
+
 /// Four segments of the square of level 3, over blocks of one side.
 fn four(alloc: Global, side: u16) -> Result<Even, AllocError>
     requires { 1 ≤ side }
 {
     let mut segs = SegList::new(alloc);
-    segs.push(
-        3,
-        Seg {
-            x1: 0,
-            y1: 2,
-            x2: 3,
-            y2: 2,
-        },
-    )?;
-    segs.push(
-        5,
-        Seg {
-            x1: 0,
-            y1: 0,
-            x2: 3,
-            y2: 0,
-        },
-    )?;
-    segs.push(
-        7,
-        Seg {
-            x1: 4,
-            y1: 4,
-            x2: 7,
-            y2: 7,
-        },
-    )?;
-    segs.push(
-        9,
-        Seg {
-            x1: 7,
-            y1: 7,
-            x2: 7,
-            y2: 7,
-        },
-    )?;
+    segs.push(3, between((0, 2), (3, 2)))?;
+    segs.push(5, between((0, 0), (3, 0)))?;
+    segs.push(7, between((4, 4), (7, 7)))?;
+    segs.push(9, between((7, 7), (7, 7)))?;
     Ok(Even {
         level: 3,
         side,
