@@ -1,3 +1,4 @@
 pub mod Layers
 pub mod Reads
 pub mod Laws
+pub mod Plans

@@ -2,14 +2,17 @@
 //! come when a segment does (PMR quadtrees, Nelson and Samet 1986).
 #![tactic(auto)]
 
+mod beginning;
+mod counting;
 mod laws;
 mod listing;
+mod planning;
 mod segments;
 mod view;
 
+pub use beginning::first_record;
+pub use counting::block_counts;
 pub use laws::lines_laws;
+pub use planning::{plan_add, plan_remove};
 pub use segments::{scan, segment};
 pub use view::LineView;
-
-#[cfg(test)]
-mod tests;

@@ -23,6 +23,3 @@ pub use planning::{plan_del, plan_put};
 pub use reading::find;
 pub use scattering::plan_scatter;
 pub use windowing::within;
-
-#[cfg(test)]
-mod tests;

@@ -17,6 +17,3 @@ pub use bounding::{first_key, last_key};
 pub use laws::{layer_laws, region_laws};
 pub use planning::{plan_new, plan_rect, plan_replace};
 pub use reading::{colour_at, read_list};
-
-#[cfg(test)]
-mod tests;

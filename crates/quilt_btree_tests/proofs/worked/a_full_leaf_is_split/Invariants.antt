@@ -1,6 +1,6 @@
 use Rattle.std.proofs.Common.{◌≡◌, ◌≤◌, length}
 use Rattle.quilt_btree.specs.Trees.{IsRooted}
-use Rattle.quilt_btree.proofs.shrinking.tests.two_leaves_are_joined.Given as goal
+use Rattle.quilt_btree_tests.proofs.worked.a_full_leaf_is_split.Given as goal
 
 abbrev pub invariant-loop-item : goal.invariant-loop-item
 invariant-loop-item g l = record {

@@ -1,13 +1,14 @@
-ghost use Rattle.std.specs.Prelude.{◌≡◌, ◌≤◌, length, IfOk};
-ghost use Rattle.quilt_btree.specs.Trees.{IsRooted};
+ghost use Rattle.std.specs.Prelude.{◌≡◌, IfOk};
 
-use super::*;
-use crate::painting::paint;
-use quilt_blocks::{LeafList, Maker};
-use quilt_btree::Tree;
-use quilt_record::{Record, key_bytes};
-use quilt_store::{MemStore, PageStore};
-use quilt_types::{Block, Colour, Pixel, Stop, Window};
+use crate::planted::planted;
+use quilt_blocks::LeafList;
+use quilt_raster::leaves_of;
+use quilt_record::key_bytes;
+use quilt_region::{
+    colour_at, first_key, last_key, layer_laws, plan_new, plan_rect, plan_replace, read_list,
+    region_laws,
+};
+use quilt_types::{Colour, Pixel, Stop, Window};
 use std::alloc::{AllocError, Global};
 use std::test::Fail;
 
@@ -23,57 +24,22 @@ const PIXEL: Window = Window {
 fn uniform(alloc: Global, colour: Colour) -> Result<LeafList, AllocError>
     ensures { IfOk result (λ list. list.level ≡ 3) }
 {
-    let mut maker = Maker::new(alloc, 3);
-    let whole = Block {
-        x: 0,
-        y: 0,
-        side: 8,
-    };
-    maker.push(whole, colour)?;
-    Ok(maker.finish())
+    let [high, low] = colour.0.to_be_bytes();
+    let mut bytes = [0; 128];
+    for i in 0..64_usize {
+        bytes[2 * i] = high;
+        bytes[2 * i + 1] = low;
+    }
+    leaves_of(alloc, &bytes, 3)
 }
 
-/// The bytes of a leaf page with these records, at most 144.
-fn leaf_page(records: &[Record]) -> [u8; 4096]
-    requires { length records.now ≤ 144 }
+/// The same map of colour 0 in which the pixel has colour 7.
+fn dotted(alloc: Global) -> Result<LeafList, AllocError>
+    ensures { IfOk result (λ list. list.level ≡ 3) }
 {
-    let mut page = [0; 4096];
-    page[0] = 1;
-    page[1] = 1;
-    page[3] = records.len() as u8;
-    let mut at = 64;
-    for r in records {
-        if at > 4068 {
-            return page;
-        }
-        page[at..at + 12].copy_from_slice(&key_bytes(&r.key));
-        page[at + 12..at + 28].copy_from_slice(&r.value);
-        at += 28;
-    }
-    page
-}
-
-/// A store of 16 pages and the tree of these records, of 1 to 144, in one leaf page.
-fn planted(alloc: Global, records: &[Record]) -> Result<(MemStore, Tree), Fail>
-    ensures { IfOk result (λ both. IsRooted (⟦<MemStore as PageStore>⟧.size both.0) both.1) }
-{
-    let mut store = MemStore::new(alloc, 16)?;
-    if store.free_pages() == 0 || records.is_empty() || records.len() > 144 {
-        return Err(Fail::from("a page of records"));
-    }
-    let root = store.take_page();
-    if root == 0 || root >= 16 {
-        return Err(Fail::from("a page"));
-    }
-    if store.write(root, &leaf_page(records)).is_err() {
-        return Err(Fail::from("a store in memory"));
-    }
-    let tree = Tree {
-        root,
-        height: 1,
-        records: records.len() as u32,
-    };
-    Ok((store, tree))
+    let mut bytes = [0; 128];
+    bytes[2 * (8 * 2 + 5) + 1] = 7;
+    leaves_of(alloc, &bytes, 3)
 }
 
 #[test]
@@ -82,15 +48,14 @@ fn plans_of_one_pixel_and_back(rt: HostRuntime) -> Result<(), Fail> {
     let fresh = plan_new(rt.alloc(), 1, &old)?;
     assert_eq!(rt; fresh.remove.records().len(), 0);
     assert_eq!(rt; fresh.add.records().len(), 1);
-    let new = paint(rt.alloc(), &old, PIXEL, Colour(7))?;
+    let new = dotted(rt.alloc())?;
     let there = plan_replace(rt.alloc(), 1, &old, &new)?;
     assert_eq!(rt; there.remove.records(), fresh.add.records());
     assert_eq!(rt; there.add.records().len(), 10);
     let one = there.add.records().get(4).ok_or("ten records")?;
     assert_eq!(rt; key_bytes(&one.key), *b"\0\x01\x01\0\0\0\x19\x03\0\0\0\0");
     assert_eq!(rt; one.value, *b"\x07\0\0\0\0\0\0\0\0\0\0\0\0\0\0\0");
-    let again = paint(rt.alloc(), &new, PIXEL, Colour(0))?;
-    let back = plan_replace(rt.alloc(), 1, &new, &again)?;
+    let back = plan_replace(rt.alloc(), 1, &new, &old)?;
     assert_eq!(rt; back.remove.records(), there.add.records());
     assert_eq!(rt; back.add.records(), fresh.add.records());
     Ok(())
@@ -98,8 +63,7 @@ fn plans_of_one_pixel_and_back(rt: HostRuntime) -> Result<(), Fail> {
 
 #[test]
 fn a_layer_in_a_store(rt: HostRuntime) -> Result<(), Fail> {
-    let blank = uniform(rt.alloc(), Colour(0))?;
-    let map = paint(rt.alloc(), &blank, PIXEL, Colour(7))?;
+    let map = dotted(rt.alloc())?;
     let plan = plan_new(rt.alloc(), 1, &map)?;
     let (mut store, tree) = planted(rt.alloc(), plan.add.records())?;
     assert_eq!(rt; read_list(rt.alloc(), &mut store, &tree, 1, 3)?.len(), 10);
@@ -156,8 +120,7 @@ fn keys_around_a_layer(rt: HostRuntime) -> Result<(), Fail> {
 
 #[test]
 fn damaged_layers(rt: HostRuntime) -> Result<(), Fail> {
-    let blank = uniform(rt.alloc(), Colour(0))?;
-    let map = paint(rt.alloc(), &blank, PIXEL, Colour(7))?;
+    let map = dotted(rt.alloc())?;
     let plan = plan_new(rt.alloc(), 1, &map)?;
     let gap = plan.add.records().get(1..).ok_or("records")?;
     let (mut store, tree) = planted(rt.alloc(), gap)?;

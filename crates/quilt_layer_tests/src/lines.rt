@@ -1,14 +1,9 @@
-ghost use Rattle.std.specs.Prelude.{◌≡◌, IfOk};
-ghost use Rattle.quilt_types.specs.Plane.{IsBlock};
-ghost use Rattle.quilt_btree.specs.Trees.{IsRooted};
-
-use super::*;
-use quilt_btree::{Tree, records_ascend};
+use crate::planted::planted;
+use quilt_btree::Tree;
+use quilt_lines::{LineView, scan, segment};
 use quilt_near::nearest;
-use quilt_record::{Record, pair_record, segment_record};
-use quilt_store::{MemStore, PageStore};
+use quilt_record::{pair_record, segment_record};
 use quilt_types::{Block, Pixel, Seg, Stop};
-use std::alloc::Global;
 use std::test::Fail;
 
 /// The quarters of the square of level 3, in the order of their codes.
@@ -51,25 +46,6 @@ const CORNER: Seg = Seg {
     x2: 7,
     y2: 7,
 };
-
-/// A store of 16 pages and the tree of these records, whose keys ascend.
-fn planted(alloc: Global, records: &[Record]) -> Result<(MemStore, Tree), Fail>
-    ensures { IfOk result (λ both. IsRooted (⟦<MemStore as PageStore>⟧.size both.0) both.1) }
-{
-    let mut store = MemStore::new(alloc, 16)?;
-    let mut tree = Tree {
-        root: 0,
-        height: 0,
-        records: 0,
-    };
-    if records.len() > 512 || !records_ascend(records) {
-        return Err(Fail::from("records of a tree"));
-    }
-    match tree.insert_all(&mut store, records) {
-        Ok(()) => Ok((store, tree)),
-        Err(_) => Err(Fail::from("a store in memory")),
-    }
-}
 
 #[test]
 fn segments_and_the_nearest(rt: HostRuntime) -> Result<(), Fail> {
