@@ -11,3 +11,6 @@ pub mod Permutations
 pub mod Changes
 pub mod Beginnings
 pub mod Additions
+pub mod Rows
+pub mod Quarters
+pub mod Results
