@@ -15,3 +15,5 @@ pub mod Rows
 pub mod Quarters
 pub mod Results
 pub mod Options
+pub mod Floors
+pub mod Counts
