@@ -205,9 +205,7 @@ impl Arrival {
                 .gone
                 .push(pair_record(self.view.layer, b, self.view.level, None))?;
         }
-        change
-            .come
-            .push(pair_record(self.view.layer, b, self.view.level, Some(self.id)))?;
+        change.come.push(pair_record(self.view.layer, b, self.view.level, Some(self.id)))?;
         Ok(())
     }
 
@@ -246,7 +244,10 @@ impl Arrival {
             Err(_) => return Err(Stop::Memory),
             Ok(()) => {}
         }
-        match self.view.push_quarters(alloc, &mut change.come, b, list.items()) {
+        match self
+            .view
+            .push_quarters(alloc, &mut change.come, b, list.items())
+        {
             Err(_) => Err(Stop::Memory),
             Ok(()) => Ok(()),
         }

@@ -1,7 +1,7 @@
-use Rattle.std.proofs.Common.{◌≡◌, ◌+◌, ◌∙◌, ℕ, true, get_or, replicate, count_by, sym, ap, subst, arith}
+use Rattle.std.proofs.Common.{◌≡◌, ◌+◌, ◌∙◌, ℕ, true, count_by, sym, ap, subst, arith}
 use Rattle.std.specs.Prelude.{◌==◌}
 use Rattle.quilt_types.specs.declared.plane.Block.{Block}
-use Rattle.quilt_types.specs.Plane.{side, whole}
+use Rattle.quilt_types.specs.Plane.{side}
 use Rattle.quilt_types.specs.Quadtrees.{is_reached}
 use Rattle.quilt_near.proofs.Reached.{reached_whole}
 use Rattle.quilt_lines.specs.Counting.{held_in}

@@ -1,8 +1,8 @@
-use Rattle.std.proofs.Common.{◌≡◌, ◌+◌, ◌*◌, ◌-◌, ◌^◌, ◌<◌, ℕ, [], ◌∷◌, List, flat_map, length, get_or, count_by, sym, ◌∙◌, ap, subst, arith}
+use Rattle.std.proofs.Common.{◌+◌, ◌-◌, ◌^◌, ◌<◌, ℕ, List, flat_map, length, get_or, count_by, sym, ◌∙◌, ap, subst, arith}
 use Rattle.std.specs.Prelude.{◌==◌}
 use Rattle.std.proofs.lemmas.List.{take_all}
 use Rattle.quilt_types.specs.declared.plane.Block.{Block}
-use Rattle.quilt_types.specs.Plane.{side, quarters_of}
+use Rattle.quilt_types.specs.Plane.{side}
 use Rattle.quilt_loc.proofs.Blocks.{IsBlock-up}
 use Rattle.quilt_btree.specs.Trees.{IsRooted}
 use Rattle.quilt_near.proofs.Reached.{reached_quarter}
