@@ -7,3 +7,5 @@ pub mod Listed
 pub mod Sums
 pub mod Scans
 pub mod Spelled
+pub mod Merges
+pub mod MergeSteps
