@@ -9,3 +9,4 @@ pub mod Scans
 pub mod Spelled
 pub mod Merges
 pub mod MergeSteps
+pub mod Gathering

@@ -34,7 +34,8 @@ use Rattle.quilt_line_laws.specs.Merging.{is_one, becomes_one, coming_in, going_
 use Rattle.quilt_line_laws.specs.Counting.{gone_of_quarter}
 use Rattle.quilt_line_laws.proofs.LineFacts.{entry, got}
 use Rattle.quilt_line_laws.proofs.Meeting.{meets_parts}
-use Rattle.quilt_line_laws.proofs.Settling.{leaf_step, merge_step, cut_step}
+use Rattle.quilt_line_laws.specs.Settling.{IsSettled}
+use Rattle.quilt_line_laws.proofs.Settling.{leaf_step, unmet_step, merge_step, cut_step}
 use Rattle.quilt_lines.specs.declared.merging.Settled.{Settled}
 use Rattle.quilt_lines.specs.Layers.{fact_record}
 use Rattle.quilt_lines.specs.Reads.{ids_of, AreIdsAt}
@@ -275,3 +276,31 @@ module _ (n layer t id : ℕ) (segs : SegMap) (cover : BlockSet) (s : Seg) (k : 
           staying = m.staying ∙ ap (records_on n layer (met_by id)) step.stay;
           emptied = m.emptied ∙ ap (records_on n layer (none_on (finmap.remove segs id))) step.stay;
         }
+
+-- ---- a block that is none of the layer's, and that is one pixel or is not met
+module _ (n layer t id : ℕ) (segs : SegMap) (cover : BlockSet) (s : Seg) where
+  nothing_settles : (k : ℕ) (b : Block) (x : Settled) → IsSettled t (finmap.remove segs id) cover s k b false [] [] [] → x.one ≡ false
+      → x.coming.items ≡ [] → x.going.items ≡ [] → x.staying.items ≡ [] → x.emptied.items ≡ [] → Settles n layer t id segs cover s k b x
+  nothing_settles k b x step one coming going staying emptied = record {
+    one = one ∙ step.is_one;
+    ids = λ o. absurd (both_ways x.one one o);
+    parts = λ o. absurd (both_ways x.one one o);
+    coming = coming ∙ ap (records_on n layer (line_facts (finmap.remove segs id))) step.come;
+    going = going ∙ ap (records_on n layer (line_facts segs)) step.go;
+    staying = staying ∙ ap (records_on n layer (met_by id)) step.stay;
+    emptied = emptied ∙ ap (records_on n layer (none_on (finmap.remove segs id))) step.stay;
+  }
+
+  pub unmet_settles : (k : ℕ) (b : Block) (x : Settled) → b.side ≡ side k → finset.contains cover b ≡ false → (1 < b.side → meets s (square b) ≡ false) → x.one ≡ false
+      → x.coming.items ≡ [] → x.going.items ≡ [] → x.staying.items ≡ [] → x.emptied.items ≡ [] → Settles n layer t id segs cover s k b x
+  unmet_settles ℕ.zero b x e away unmet =
+      nothing_settles ℕ.zero b x (record {
+        is_one = sym away;
+        come = refl;
+        go = refl;
+        stay = sym (passed (finset.contains cover b && meets s (square b)) (b ∷ []) [] (ap (λ (u : Bool). u && meets s (square b)) away));
+      })
+  unmet_settles (suc k) b x e away unmet =
+      let p = pow-suc 2 k in
+      let q = pow_pos k in
+      nothing_settles (suc k) b x (unmet_step t (finmap.remove segs id) cover s (suc k) b away (unmet (omega arith)))

@@ -25,7 +25,7 @@ pub(crate) struct Removal {
     pub threshold: u8,
     pub id: u32,
     pub segment: Seg,
-    ghost has_layer: { 1 ≤ layer },
+    ghost has_layer: { (1 ≤ layer) × (layer ≤ 255) },
     ghost has_level: { (1 ≤ level) × (level ≤ 12) },
 }
 

@@ -39,19 +39,33 @@ impl Removal {
         ensures later { S.later store.old store.new }
         ensures changed { S.changed store.new ≤ S.changed store.old }
     {
-        match LineView::new(tree, self.layer, self.level).ids_at(alloc, store, b) {
+        let view = LineView {
+            tree: *tree,
+            layer: self.layer,
+            level: self.level,
+        };
+        match view.ids_at(alloc, store, b) {
             Err(e) => Err(e),
             Ok(Some(ids)) => match self.kept(alloc, b, &ids) {
                 Err(_) => Err(Stop::Memory),
                 Ok(kept) => Ok(kept),
             },
             Ok(None) => {
-                if b.side <= 1 || !meets(self.segment, b) {
+                if !self.enters(b) {
                     return Ok(Settled::new(alloc, false));
                 }
                 self.settle_quarters(alloc, store, tree, b)
             }
         }
+    }
+
+    /// Whether the block has quarters and the segment meets it.
+    fn enters(&self, b: Block) -> bool
+        ensures wide { result ≡ true → 1 < b.side }
+        ensures met { result ≡ true → segment_meets self.now.segment (square b) ≡ true }
+        ensures unmet { result ≡ false → 1 < b.side → segment_meets self.now.segment (square b) ≡ false }
+    {
+        1 < b.side && meets(self.segment, b)
     }
 
     /// What becomes of a block that is none of the layer's and that the segment meets.
