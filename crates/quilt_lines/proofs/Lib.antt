@@ -10,3 +10,10 @@ pub mod Spelled
 pub mod Merges
 pub mod MergeSteps
 pub mod Gathering
+pub mod Permutations
+pub mod Changes
+pub mod Beginnings
+pub mod Additions
+pub mod Rows
+pub mod Quarters
+pub mod Results

@@ -3,3 +3,4 @@ pub mod Reads
 pub mod Laws
 pub mod Plans
 pub mod Merges
+pub mod Adding
