@@ -17,3 +17,4 @@ pub mod Additions
 pub mod Rows
 pub mod Quarters
 pub mod Results
+pub mod Removals
