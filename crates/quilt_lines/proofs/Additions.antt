@@ -292,6 +292,14 @@ module _ (n layer t : ℕ) (segs : SegMap) (id : ℕ) (s : Seg) where
   added_below cover ℕ.zero b gone most come all e wide m away below = absurd (omega arith)
   added_below cover (ℕ.suc j) b gone most come all e wide m away below = subst (λ (bs : List Block). IsAdded n layer t segs id s bs gone most come all) (sym (met_below cover s j b m away)) (below j e)
 
+  -- from the whole square on, behind the segment's own record
+  pub added_whole : (cover : BlockSet) (b : Block) (gone all_gone come all_come : List Record) (r : Record) → b ≡ whole n → gone ≡ [] → come ≡ r ∷ [] → r ≡ fact_record n layer (IsSegment id s) → IsAdded n layer t segs id s (met_in cover s n b) gone all_gone come all_come
+      → IsAdded n layer t segs id s (met_in cover s n (whole n)) [] all_gone (fact_record n layer (IsSegment id s) ∷ []) all_come
+  added_whole cover b gone all_gone come all_come r square none one row a =
+      subst (λ (rs : List Record). IsAdded n layer t segs id s (met_in cover s n (whole n)) [] all_gone rs all_come) (one ∙ ap (λ (z : Record). z ∷ []) row)
+      (subst (λ (rs : List Record). IsAdded n layer t segs id s (met_in cover s n (whole n)) rs all_gone come all_come) none
+      (subst (λ (z : Block). IsAdded n layer t segs id s (met_in cover s n z) gone all_gone come all_come) square a))
+
 -- ---- the whole addition
 module _ (n layer t : ℕ) (le : n ≤ 12) (least : 1 ≤ layer) (segs : SegMap) (cover : BlockSet) (id : ℕ) (s : Seg) (valid : IsLineMap n t segs cover) (new : finmap.get segs id ≡ None) (small : id < 2 ^ 32) (inside : is_in_square n s ≡ true)
     (gone come : List Record) (added : IsAdded n layer t segs id s (met_in cover s n (whole n)) [] gone (fact_record n layer (IsSegment id s) ∷ []) come) where

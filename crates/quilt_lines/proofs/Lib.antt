@@ -18,3 +18,4 @@ pub mod Rows
 pub mod Quarters
 pub mod Results
 pub mod Removals
+pub mod Options

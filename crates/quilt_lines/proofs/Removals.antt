@@ -1,20 +1,17 @@
 -- What becomes of the whole square when a segment goes is a plan of edits.
-use Rattle.std.proofs.Common.{◌≡◌, ℕ, ◌≤◌, ◌<◌, List, [], ◌∷◌, ◌++◌, map, flat_map, length, Result, Ok, Err, IfOk, Some, refl, sym, ◌∙◌, ap, ap₂, subst, arith}
+use Rattle.std.proofs.Common.{◌≡◌, ℕ, ◌≤◌, ◌<◌, List, [], ◌∷◌, ◌++◌, map, flat_map, length, Some, refl, sym, ◌∙◌, ap, ap₂, subst, arith}
 use Rattle.std.specs.FinMap as finmap
 use Rattle.std.specs.List.Sorted.{IsPermutation}
 use Rattle.std.proofs.lemmas.List.{map-append, length-map}
 use Rattle.std.proofs.lemmas.List.Sorted.{length_permutation}
 use Rattle.quilt_types.specs.declared.plane.Block.{Block}
 use Rattle.quilt_types.specs.declared.plane.Seg.{Seg}
-use Rattle.quilt_types.specs.declared.stop.Stop.{Stop}
-use Rattle.quilt_types.specs.declared.stop.Stop.TheVariants.{Memory, Damaged}
 use Rattle.quilt_types.specs.Plane.{whole}
 use Rattle.quilt_types.specs.Layers.{SegMap, BlockSet, IsLineMap}
 use Rattle.quilt_types.specs.Quadtrees.{after_remove}
 use Rattle.quilt_types.specs.Facts.{Fact, IsSegment, IsMetBy, line_facts}
 use Rattle.quilt_record.specs.declared.edits.Edits.{Edits}
 use Rattle.quilt_record.specs.declared.record.Record.{Record}
-use Rattle.quilt_btree.specs.Stops.{IsSound}
 use Rattle.quilt_edits.specs.Edits.{CanBeEdits}
 use Rattle.quilt_line_laws.specs.Lines.{none_on}
 use Rattle.quilt_line_laws.specs.Merging.{coming_in, going_in, staying_in}
@@ -32,15 +29,6 @@ use Rattle.quilt_lines.proofs.Changes as changes
 met_by-map : (id : ℕ) (bs : List Block) → flat_map (met_by id) bs ≡ map (λ b. IsMetBy b id) bs
 met_by-map id [] = refl
 met_by-map id (b ∷ bs) = ap (λ l. IsMetBy b id ∷ l) (met_by-map id bs)
-
--- two clauses of a result as one
-pub on_both : {T E : Type 0} (r : Result T E) (P Q R : T → Type 0) → ((x : T) → P x → Q x → R x) → IfOk r P → IfOk r Q → IfOk r R
-on_both (Ok x) P Q R f p q = f x p q
-on_both (Err e) P Q R f p q = tt
-
--- no page is damaged where memory is wanting
-pub memory_sound : (e : Stop) → e ≡ Memory → IsSound e
-memory_sound e is page damaged = let other : Memory ≡ Damaged page = sym is ∙ damaged in cc
 
 -- two lists behind a record
 pub behind_one : (none first mid all xs ys gs ss : List Record) (r q : Record) → none ≡ [] → first ≡ none ++ r ∷ [] → mid ≡ first ++ xs → all ≡ mid ++ ys → r ≡ q → xs ≡ gs → ys ≡ ss → all ≡ q ∷ gs ++ ss

@@ -57,7 +57,11 @@ pub fn plan_add<S: PageStore>(
     ensures later { S.later store.old store.new }
     ensures changed { S.changed store.new ≤ S.changed store.old }
 {
-    let view = LineView::new(tree, layer, level);
+    let view = LineView {
+        tree: *tree,
+        layer,
+        level,
+    };
     match view.segment(store, id) {
         Err(e) => Err(e),
         Ok(Some(_)) => Ok(None),
@@ -104,17 +108,15 @@ impl Arrival {
         ensures later { S.later store.old store.new }
         ensures changed { S.changed store.new ≤ S.changed store.old }
     {
-        let mut come = Vec::new(alloc);
-        if come
-            .push(segment_record(self.view.layer, self.id, self.s))
-            .is_err()
-        {
-            return Err(Stop::Memory);
-        }
         let mut change = Change {
             gone: Vec::new(alloc),
-            come,
+            come: Vec::new(alloc),
         };
+        let row = segment_record(self.view.layer, self.id, self.s);
+        match change.come.push(row) {
+            Err(_) => return Err(Stop::Memory),
+            Ok(()) => {}
+        }
         let all = whole_square(self.view.level);
         match self.add_in(alloc, store, &mut change, all) {
             Err(e) => Err(e),
