@@ -1,5 +1,5 @@
 -- What becomes of blocks, one after the other.
-use Rattle.std.proofs.Common.{◌≡◌, ℕ, suc, ◌≤◌, Bool, true, false, ◌&&◌, List, [], ◌∷◌, ◌++◌, map, flat_map, length, ⊎_elim, inl, inr, refl, sym, ◌∙◌, ap, ap₂, subst, arith, Contains}
+use Rattle.std.proofs.Common.{◌≡◌, ℕ, Bool, true, false, ◌&&◌, List, [], ◌∷◌, ◌++◌, map, flat_map, ⊎_elim, refl, sym, ◌∙◌, ap, ap₂, subst, arith, Contains}
 use Rattle.std.specs.List.{list_all}
 use Rattle.std.specs.FinMap as finmap
 use Rattle.std.proofs.lemmas.Bool.{and_parts}

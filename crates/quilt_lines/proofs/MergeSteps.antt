@@ -1,5 +1,5 @@
 -- A block that is kept, quarters that become one block and quarters that stay apart, as records.
-use Rattle.std.proofs.Common.{◌≡◌, ◌↔◌, ℕ, ◌+◌, ◌<◌, ◌≤◌, Bool, true, false, cond, not, ◌&&◌, nat_le, leb-true, List, [], ◌∷◌, ◌++◌, map, filter, flat_map, length, ◌⊎◌, inl, inr, ⊎_elim, refl, sym, ◌∙◌, ap, ap₂, subst, arith, Contains, Ordering, Less, Equal, Greater, nat_cmp, eqb, eqb-true, eq-eqb, true≢false, suc, get_or, pow_pos, pow-suc, Option, Some, None}
+use Rattle.std.proofs.Common.{◌≡◌, ◌↔◌, ℕ, ◌+◌, ◌<◌, ◌≤◌, Bool, true, false, cond, not, ◌&&◌, nat_le, leb-true, List, [], ◌∷◌, map, filter, length, ⊎_elim, refl, sym, ◌∙◌, ap, subst, arith, Contains, Less, nat_cmp, eqb-true, eq-eqb, true≢false, suc, get_or, pow_pos, pow-suc, Option, Some, None}
 use Rattle.std.specs.Prelude.{◌==◌}
 use Rattle.std.specs.List.{list_all}
 use Rattle.std.specs.List.Sorted.{IsSorted}
@@ -21,17 +21,15 @@ use Rattle.quilt_types.specs.Segments.{square, meets}
 use Rattle.quilt_types.specs.Quadtrees.{segs_meeting}
 use Rattle.quilt_types.specs.Facts.{Fact, IsMetBy, IsMetByNone, or_none, line_facts}
 use Rattle.quilt_loc.specs.Codes.{Rises}
-use Rattle.quilt_loc.proofs.Members.{Contains-nil, Contains-here, Contains-there, Contains-cons_cases, Contains-map, Contains-map_from, Contains-filter, Contains-filter_from}
+use Rattle.quilt_loc.proofs.Members.{Contains-map, Contains-map_from, Contains-filter, Contains-filter_from}
 use Rattle.quilt_loc.proofs.Rising.{Rises-filter, Rises-map, same_rising, nat_less}
-use Rattle.quilt_record.specs.declared.record.Record.{Record}
 use Rattle.quilt_edits.proofs.Ascents.{permuted, Apart-permuted}
 use Rattle.quilt_near.specs.Lines.{meeting}
 use Rattle.quilt_spell.specs.Apart.{Apart}
 use Rattle.quilt_spell.proofs.Lists.{Apart-le, Apart-rises, same_length}
 use Rattle.quilt_spell.proofs.Maps.{by_first, Rises-entries, get_removed, get_kept}
 use Rattle.quilt_line_laws.specs.Lines.{IsMet, none_on}
-use Rattle.quilt_line_laws.specs.Merging.{is_one, becomes_one, coming_in, going_in, staying_in}
-use Rattle.quilt_line_laws.specs.Counting.{gone_of_quarter}
+use Rattle.quilt_line_laws.specs.Merging.{is_one, becomes_one, going_in}
 use Rattle.quilt_line_laws.proofs.LineFacts.{entry, got}
 use Rattle.quilt_line_laws.proofs.Meeting.{meets_parts}
 use Rattle.quilt_line_laws.specs.Settling.{IsSettled}

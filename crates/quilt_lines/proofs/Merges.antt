@@ -1,14 +1,13 @@
 -- Ids that meet blocks, and what is said of the blocks of a line layer when a segment goes.
-use Rattle.std.proofs.Common.{◌≡◌, ℕ, zero, suc, ◌+◌, ◌≤◌, Bool, true, false, List, [], ◌∷◌, ◌++◌, map, length, ◌⊎◌, inl, inr, ⊎_elim, refl, sym, ◌∙◌, ap, subst, arith, Contains}
+use Rattle.std.proofs.Common.{◌≡◌, ℕ, ◌≤◌, false, List, [], ◌∷◌, ◌++◌, map, length, inl, inr, ⊎_elim, refl, sym, ap, subst, arith, Contains}
 use Rattle.std.specs.Prelude.{◌==◌}
 use Rattle.std.proofs.lemmas.List.{length-append}
 use Rattle.std.proofs.lemmas.List.Elements.{Contains-append_left, Contains-append_right, Contains-append_cases}
 use Rattle.quilt_types.specs.declared.plane.Block.{Block}
-use Rattle.quilt_loc.proofs.Members.{Contains-nil, Contains-here, Contains-there, Contains-cons_cases}
-use Rattle.quilt_spell.specs.Apart.{Apart}
+use Rattle.quilt_loc.proofs.Members.{Contains-nil, Contains-cons_cases}
 use Rattle.quilt_spell.proofs.Lists.{Apart-append}
 use Rattle.quilt_lines.specs.Layers.{fact_record}
-use Rattle.quilt_lines.specs.Reads.{pair_of, none_of}
+use Rattle.quilt_lines.specs.Reads.{pair_of}
 use Rattle.quilt_lines.specs.Merges.{pair_facts, AddsIds}
 
 -- ---- the records of a block

@@ -22,7 +22,7 @@ use Rattle.quilt_line_laws.proofs.Counting.{fewer_law}
 use Rattle.quilt_line_laws.proofs.Lawful.{removed_law}
 use Rattle.quilt_lines.specs.declared.merging.Settled.{Settled}
 use Rattle.quilt_lines.specs.Layers.{fact_record}
-use Rattle.quilt_lines.specs.Merges.{records_on, met_by, Settles}
+use Rattle.quilt_lines.specs.Merges.{met_by, Settles}
 use Rattle.quilt_lines.specs.Plans.{IsLinePlan}
 use Rattle.quilt_lines.proofs.Changes as changes
 

@@ -1,4 +1,4 @@
-use Rattle.std.proofs.Common.{◌≡◌, true, false, [], ◌∷◌, ◌++◌, List, sym, subst, arith, Contains}
+use Rattle.std.proofs.Common.{[], ◌∷◌, List, sym, subst, Contains}
 use Rattle.std.proofs.lemmas.Bool.{both_ways}
 use Rattle.quilt_lines.specs.Merges.{AddsIds}
 use Rattle.quilt_lines.proofs.Merges.{adds_one}

@@ -1,4 +1,4 @@
-use Rattle.std.proofs.Common.{◌+◌, ◌∷◌, [], take, subst, sym, List, get_or, arith}
+use Rattle.std.proofs.Common.{take, subst, sym, List}
 use Rattle.quilt_edits.proofs.Lists.{take_next}
 use Rattle.quilt_lines.specs.Merges.{AddsIds}
 use Rattle.quilt_lines.proofs.Merges.{adds_more}

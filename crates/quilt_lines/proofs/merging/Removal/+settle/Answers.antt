@@ -1,8 +1,8 @@
-use Rattle.std.proofs.Common.{◌≡◌, ℕ, zero, suc, ◌<◌, true, false, [], ◌∷◌, ◌++◌, List, take, length, get_or, refl, sym, ◌∙◌, ap, subst, arith, Contains, pow_pos, pow-suc}
+use Rattle.std.proofs.Common.{◌≡◌, ℕ, zero, suc, List, take, length, get_or, sym, ◌∙◌, ap, subst, arith, Contains, pow-suc}
 use Rattle.std.proofs.lemmas.Result.{IfOk-weaker, IfErr-weaker}
 use Rattle.std.proofs.lemmas.List.{take_all}
 use Rattle.quilt_types.specs.declared.plane.Block.{Block}
-use Rattle.quilt_types.specs.Plane.{side, quarters_of, IsBlock}
+use Rattle.quilt_types.specs.Plane.{side}
 use Rattle.quilt_loc.proofs.Blocks.{IsBlock-up}
 use Rattle.quilt_loc.proofs.Quartered.{quarters_are}
 use Rattle.quilt_edits.proofs.Lists.{member_at, take_next}
@@ -11,7 +11,7 @@ use Rattle.quilt_lines.specs.Reads.{AreIdsAt}
 use Rattle.quilt_lines.specs.Merges.{Gathers, Settles}
 use Rattle.quilt_lines.proofs.Lookups.{match_none, match_some, lines_along}
 use Rattle.quilt_lines.proofs.MergeSteps.{unmet_settles}
-use Rattle.quilt_lines.proofs.Gathering.{gathers_none, gathers_next}
+use Rattle.quilt_lines.proofs.Gathering.{gathers_next}
 use Rattle.quilt_lines.proofs.merging.Removal.+settle.Goals as goal
 
 pub settle-returns-in-Err-clause-sound : goal.settle-returns-in-Err-clause-sound

@@ -1,4 +1,4 @@
-use Rattle.std.proofs.Common.{◌≡◌, ◌&&◌, nat_le, length, List, ℕ, true, false, refl, sym, ◌∙◌, ap, subst}
+use Rattle.std.proofs.Common.{List, refl, sym, subst}
 use Rattle.std.proofs.lemmas.Result.{IfOk-weaker}
 use Rattle.quilt_lines.specs.Merges.{IsMerged}
 use Rattle.quilt_lines.proofs.MergeSteps.{cut_settles, merged_settles}

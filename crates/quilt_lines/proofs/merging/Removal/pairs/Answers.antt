@@ -1,4 +1,4 @@
-use Rattle.std.proofs.Common.{◌∙◌, sym, ap, map, length, arith}
+use Rattle.std.proofs.Common.{◌∙◌, sym, ap, map, arith}
 use Rattle.std.proofs.lemmas.List.{take_all}
 use Rattle.quilt_lines.specs.Reads.{pair_of}
 use Rattle.quilt_lines.proofs.Merges.{some_pairs}
