@@ -30,9 +30,11 @@ pub fn block_counts<S: PageStore>(
     requires rooted { IsRooted (S.size store.old) tree.now }
     requires layer { 1 ≤ layer }
     requires level { (1 ≤ level) × (level ≤ 12) }
-    ensures counts { IfOk result (λ counts. (t : ℕ) (segs : SegMap) (cover : BlockSet) → HasLines (S.told store.old) tree.now layer level t segs cover →
+    ensures counts { IfOk result (λ counts. (t : ℕ) (segs : SegMap) (cover : BlockSet) →
+        HasLines (S.told store.old) tree.now layer level t segs cover →
         (k : ℕ) → k ≤ 12 → slice_index counts k ≡ count_by (λ b. b.side == side_of k) (finset.items cover)) }
-    ensures sound { IfErr result (λ e. (t : ℕ) (segs : SegMap) (cover : BlockSet) → HasLines (S.told store.old) tree.now layer level t segs cover → IsSound e) }
+    ensures sound { IfErr result (λ e. (t : ℕ) (segs : SegMap) (cover : BlockSet) →
+        HasLines (S.told store.old) tree.now layer level t segs cover → IsSound e) }
     ensures cause { HasStopCause (S.faults store.old) (S.faults store.new) result }
     ensures size { S.size store.new ≡ S.size store.old }
     ensures told { S.told store.new ≡ S.told store.old }
@@ -83,10 +85,12 @@ impl LineView {
         requires side { b.side ≡ side_of k }
         requires depth { k ≤ 12 }
         requires room { (j : ℕ) → slice_index counts.old j + 4 ^ k < 2 ^ 32 }
-        ensures counts { OnOk result ((t : ℕ) (segs : SegMap) (cover : BlockSet) → HasLines (S.told store.old) self.now.tree self.now.layer self.now.level t segs cover →
+        ensures counts { OnOk result ((t : ℕ) (segs : SegMap) (cover : BlockSet) →
+            HasLines (S.told store.old) self.now.tree self.now.layer self.now.level t segs cover →
             (j : ℕ) → slice_index counts.new j ≡ slice_index counts.old j + count_by (λ c. c.side == side_of j) (held_in cover k b)) }
         ensures most { OnOk result ((j : ℕ) → slice_index counts.new j ≤ slice_index counts.old j + 4 ^ k) }
-        ensures sound { IfErr result (λ e. (t : ℕ) (segs : SegMap) (cover : BlockSet) → HasLines (S.told store.old) self.now.tree self.now.layer self.now.level t segs cover → is_reached cover b ≡ true → IsSound e) }
+        ensures sound { IfErr result (λ e. (t : ℕ) (segs : SegMap) (cover : BlockSet) →
+            HasLines (S.told store.old) self.now.tree self.now.layer self.now.level t segs cover → is_reached cover b ≡ true → IsSound e) }
         ensures cause { HasStopCause (S.faults store.old) (S.faults store.new) result }
         ensures size { S.size store.new ≡ S.size store.old }
         ensures told { S.told store.new ≡ S.told store.old }
@@ -118,8 +122,10 @@ impl LineView {
     fn has_block<S: PageStore>(&self, store: &mut S, b: Block) -> Result<bool, Stop>
         requires rooted { IsRooted (S.size store.old) self.now.tree }
         requires block { IsBlock self.now.level b }
-        ensures there { IfOk result (λ there. (t : ℕ) (segs : SegMap) (cover : BlockSet) → HasLines (S.told store.old) self.now.tree self.now.layer self.now.level t segs cover → there ≡ finset.contains cover b) }
-        ensures sound { IfErr result (λ e. (t : ℕ) (segs : SegMap) (cover : BlockSet) → HasLines (S.told store.old) self.now.tree self.now.layer self.now.level t segs cover → IsSound e) }
+        ensures there { IfOk result (λ there. (t : ℕ) (segs : SegMap) (cover : BlockSet) →
+            HasLines (S.told store.old) self.now.tree self.now.layer self.now.level t segs cover → there ≡ finset.contains cover b) }
+        ensures sound { IfErr result (λ e. (t : ℕ) (segs : SegMap) (cover : BlockSet) →
+            HasLines (S.told store.old) self.now.tree self.now.layer self.now.level t segs cover → IsSound e) }
         ensures cause { HasStopCause (S.faults store.old) (S.faults store.new) result }
         ensures size { S.size store.new ≡ S.size store.old }
         ensures told { S.told store.new ≡ S.told store.old }
