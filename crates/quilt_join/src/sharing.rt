@@ -1,5 +1,5 @@
-ghost use Rattle.std.specs.Prelude.{◌≡◌};
-ghost use Rattle.quilt_types.specs.Crossings.{overlap as overlap_of, shares as shares_of};
+ghost use Rattle.std.specs.Prelude.{◌≡◌, ◌↔◌, IsTrue};
+ghost use Rattle.quilt_types.specs.Crossings.{overlap as overlap_of, shares as shares_of, Share};
 ghost use Rattle.quilt_join.specs.Sides.{left_products, right_products, is_turned as is_turned_of, parts as parts_of};
 
 use quilt_types::Seg;
@@ -42,6 +42,7 @@ fn parts(s: Seg, r: Seg) -> bool
 /// lie on the same side of the other's line.
 pub fn shares(s: Seg, r: Seg) -> bool
     ensures value { result ≡ shares_of s r }
+    ensures point { IsTrue result ↔ Share s r }
 {
     overlap(s.x1, s.x2, r.x1, r.x2) && overlap(s.y1, s.y2, r.y1, r.y2) && parts(s, r) && parts(r, s)
 }
