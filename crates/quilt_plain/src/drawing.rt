@@ -1,9 +1,7 @@
-ghost use Rattle.std.specs.Prelude.{◌≡◌, ◌+◌, ◌<◌, ◌≤◌, true};
-ghost use Rattle.quilt_types.specs.Plane.{is_window};
+ghost use Rattle.std.specs.Prelude.{◌<◌, ◌≤◌};
 
-use quilt_types::{Colour, Window};
+use quilt_types::Colour;
 use std::alloc::{AllocError, Global};
-use std::process::Abort;
 
 /// Pseudo-random numbers by a linear congruence.
 #[derive(Drop)]
@@ -90,29 +88,6 @@ fn paint(
 /// The greatest multiple of the unit up to the number.
 fn rounded(number: u32, unit: u32) -> u32 {
     number.wrapping_sub(number.checked_rem(unit).unwrap_or(0))
-}
-
-/// A drawn window of the square of the level.
-pub fn drawn_window(rt: &impl Abort, dice: &mut Dice, level: u8) -> Window
-    requires { level ≤ 12 }
-    ensures { is_window level result ≡ true }
-{
-    let side = 1_u16 << level;
-    let (x, w) = drawn_row(rt, dice, side);
-    let (y, h) = drawn_row(rt, dice, side);
-    Window { x, y, w, h }
-}
-
-/// A place of a row and how many places there are from it on, one at least.
-fn drawn_row(rt: &impl Abort, dice: &mut Dice, side: u16) -> (u16, u16)
-    ensures some { 1 ≤ result.1 }
-    ensures inside { result.0 + result.1 ≤ side }
-{
-    let from = dice.below(u32::from(side)) as u16;
-    assert!(rt; from < side);
-    let length = dice.below(u32::from(side - from)) as u16;
-    assert!(rt; length < side - from);
-    (from, length + 1)
 }
 
 /// Up to 16 drawn pairs of an old and a new colour.

@@ -1,4 +1,4 @@
-use crate::plain_algebra::at;
+use crate::algebra::at;
 
 /// How many pixels have the colour.
 pub fn plain_area(a: &[u16], c: u16) -> u64 {
