@@ -1,0 +1,9 @@
+//! The records of one line layer as they come in the order of their keys, and whether they are those of a layer.
+#![tactic(auto)]
+
+mod descent;
+mod pair;
+mod run;
+
+pub use pair::Pair;
+pub use run::LineRun;
