@@ -125,7 +125,7 @@ near b segs = filter (λ e. meets e.1 (square b)) segs
 pub near_pairs : (b q : Block) (segs : List (ℕ × Seg)) → Within q b → pairs_on (near b segs) q ≡ pairs_on segs q
 near_pairs b q segs w = ap (pairs_of q) (filter_twice (λ (e : ℕ × Seg). meets e.1 (square b)) (λ e. meets e.1 (square q)) (λ e t. meets_within e.1 q b w t) segs)
 
-turn_map : (P Q : Block → List Pair → List Pair → Type 0) (qs : List Block) → ((q : Block) (ps r : List Pair) → Contains qs q → P q ps r → Q q ps r) → (pairs rest : List Pair)
+pub turn_map : (P Q : Block → List Pair → List Pair → Type 0) (qs : List Block) → ((q : Block) (ps r : List Pair) → Contains qs q → P q ps r → Q q ps r) → (pairs rest : List Pair)
     → InTurn P qs pairs rest → InTurn Q qs pairs rest
 turn_map P Q [] f pairs rest h = h
 turn_map P Q (q ∷ qs) f pairs rest h =
