@@ -121,7 +121,7 @@ module _ (segs : List (ℕ × Seg)) where
 
 -- ---- blocks over the whole square are a cover
 module _ (n : ℕ) (le : n ≤ 12) (bs : List Block) (runs : AreIn n (whole n) bs) where
-  from_zero : Runs n 0 (4 ^ n) (map plain bs)
+  pub from_zero : Runs n 0 (4 ^ n) (map plain bs)
   from_zero = let s = side_squared n in let z = origin_code in Runs-at n (code_from (whole n)) (code_to (whole n)) 0 (4 ^ n) (map plain bs) runs z (omega arith)
 
   pub block_of : (b : Block) → Contains bs b → IsBlock n b

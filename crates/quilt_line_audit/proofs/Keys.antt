@@ -133,13 +133,15 @@ module _ (n layer : ℕ) where
           let c = coordinates e.1 t in
           record { least = some; most = most; fits = (small, c.0, c.1, c.2, c.3); written = λ name. refl }
 
-      pub segment_alone : (d e : ℕ × Seg) → d.0 < 2 ^ 32 → is_in_square n d.1 ≡ true → e.0 < 2 ^ 32 → is_in_square n e.1 ≡ true → segment_record n layer d ≡ segment_record n layer e → d ≡ e
-      segment_alone d e sd td se te same =
-          let id : d.0 ≡ e.0 = ap (λ (r : Record). r.key.item) same in
-          let a = segment_ends n (segment_record n layer d) layer d.0 d.1 (segment_is d sd td) in
-          let b = segment_ends n (segment_record n layer e) layer e.0 e.1 (segment_is e se te) in
-          let seg : d.1 ≡ e.1 = sym a ∙ ap (λ (r : Record). segment_of r.value) same ∙ b in
-          λ k. (id k, seg k)
+-- a segment is what its record says, whatever its layer
+said : (n : ℕ) → n ≤ 12 → (layer : ℕ) (e : ℕ × Seg) → e.0 < 2 ^ 32 → is_in_square n e.1 ≡ true → segment_of (segment_record n layer e).value ≡ e.1
+said n le layer e small t = segment_ends n (segment_record n 1 e) 1 e.0 e.1 (segment_is n 1 le (omega arith) (omega arith) e small t)
+
+pub segment_alone : (n layer : ℕ) → n ≤ 12 → (d e : ℕ × Seg) → (d.0 < 2 ^ 32) × (is_in_square n d.1 ≡ true) → (e.0 < 2 ^ 32) × (is_in_square n e.1 ≡ true) → segment_record n layer d ≡ segment_record n layer e → d ≡ e
+segment_alone n layer le d e hd he same =
+    let id : d.0 ≡ e.0 = ap (λ (r : Record). r.key.item) same in
+    let seg : d.1 ≡ e.1 = sym (said n le layer d hd.0 hd.1) ∙ ap (λ (r : Record). segment_of r.value) same ∙ said n le layer e he.0 he.1 in
+    λ k. (id k, seg k)
 
 -- a function that tells the elements of two lists apart
 pub map_alone : {X Y : Type 0} (f : X → Y) (P : X → Type 0) → ((a b : X) → P a → P b → f a ≡ f b → a ≡ b) → (xs ys : List X) → ((x : X) → Contains xs x → P x) → ((y : X) → Contains ys y → P y)

@@ -1,14 +1,18 @@
 -- How far the records of a line layer have come.
 use Rattle.std.specs.Prelude.{◌≡◌, ◌⊎◌, ℕ, ◌≤◌, ◌<◌, ◌^◌, Bool, true, ◌&&◌, ◌==◌, List, [], map, filter, Contains}
 use Rattle.quilt_types.specs.declared.plane.Seg.{Seg}
+use Rattle.quilt_types.specs.declared.plane.Kind.TheVariants as kinds
 use Rattle.quilt_types.specs.Plane.{whole, IsBlock}
 use Rattle.quilt_types.specs.Layers.{is_in_square}
 use Rattle.quilt_types.specs.Facts.{IsSegment}
+use Rattle.quilt_loc.specs.Codes.{Rises}
 use Rattle.quilt_record.specs.declared.record.Record.{Record}
 use Rattle.quilt_record.specs.Records.{record_of}
 use Rattle.quilt_record.specs.Canonical.{pair_fact}
+use Rattle.quilt_spell.specs.Written.{by_key}
 use Rattle.quilt_line_audit.specs.declared.pair.Pair.{Pair}
 use Rattle.quilt_line_audit.specs.declared.run.LineRun.{LineRun}
+use Rattle.quilt_line_audit.specs.Layers.{IsLayerOf, IsShort}
 use Rattle.quilt_line_audit.specs.Pairs.{Begins}
 
 -- the record of a pair of the layer with this number
@@ -41,3 +45,15 @@ pub record IsStart (run : LineRun) : Type 0 where
 -- the pairs are those of blocks that the whole square is cut into
 abbrev pub IsLined : ℕ → LineRun → Type 0
 IsLined n run = Begins run.segs.items n (whole n) run.pairs.items []
+
+-- such a run has the records of a line layer, where they rise
+abbrev pub WholeLaw : Type 0
+WholeLaw =
+    (form n : ℕ) (rs : List Record) (layer threshold : ℕ) (run : LineRun) → n ≤ 12 → 1 ≤ layer → IsLineRun n rs layer threshold run
+    → IsLined n run → Rises by_key rs → IsLayerOf form n rs layer (kinds.Lines threshold)
+
+-- and no other run has all records of one
+abbrev pub ShortLaw : Type 0
+ShortLaw =
+    (form n : ℕ) (rs : List Record) (layer threshold : ℕ) (run : LineRun) → n ≤ 12 → 1 ≤ layer → IsLineRun n rs layer threshold run
+    → (IsLined n run → ⊥) → IsShort form n rs layer (kinds.Lines threshold)

@@ -2,8 +2,10 @@
 #![tactic(auto)]
 
 mod descent;
+mod law;
 mod pair;
 mod run;
 
+pub use law::line_run_law;
 pub use pair::Pair;
 pub use run::LineRun;
