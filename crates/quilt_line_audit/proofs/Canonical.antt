@@ -1,14 +1,13 @@
 -- The records of a line layer in the order of their keys: its pairs block by block, and its segments by id.
-use Rattle.std.proofs.Common.{◌≡◌, ◌↔◌, ◌⊎◌, ℕ, ◌<◌, ◌≤◌, true, List, [], ◌∷◌, ◌++◌, map, filter, flat_map, refl, sym, ◌∙◌, ap, subst, ⊎_elim, arith, Contains, Ordering, Less, nat_cmp}
+use Rattle.std.proofs.Common.{◌≡◌, ℕ, ◌≤◌, List, [], ◌∷◌, map, filter, flat_map, ◌∙◌, ap, subst, ⊎_elim, arith, Contains, Ordering, Less, nat_cmp}
 use Rattle.std.specs.FinMap as finmap
-use Rattle.quilt_types.specs.Sets as finset
 use Rattle.quilt_types.specs.declared.plane.Block.{Block}
 use Rattle.quilt_types.specs.declared.plane.Seg.{Seg}
 use Rattle.quilt_types.specs.Plane.{whole}
 use Rattle.quilt_types.specs.Layers.{Lines, SegMap, BlockSet}
 use Rattle.quilt_types.specs.Segments.{square, meets}
 use Rattle.quilt_loc.specs.Codes.{Rises, code_from, code_cmp}
-use Rattle.quilt_loc.proofs.Members.{Contains-nil, Contains-here, Contains-there, Contains-map, Contains-map_from, Contains-filter, Contains-filter_from, Contains-flat_map, Contains-flat_map_from}
+use Rattle.quilt_loc.proofs.Members.{Contains-nil, Contains-map, Contains-map_from, Contains-filter, Contains-filter_from, Contains-flat_map, Contains-flat_map_from}
 use Rattle.quilt_loc.proofs.Rising.{same_rising, Rises-filter, Rises-map, Rises-flat_map_at, nat_less_from}
 use Rattle.quilt_record.specs.declared.record.Record.{Record}
 use Rattle.quilt_blocks.specs.Cutting.{leaf_cmp}
@@ -20,7 +19,7 @@ use Rattle.quilt_line_laws.specs.Merging.{blocks_in}
 use Rattle.quilt_line_laws.proofs.Adding.{cover_of}
 use Rattle.quilt_line_audit.specs.declared.pair.Pair.{Pair}
 use Rattle.quilt_line_audit.specs.Layers.{SpellsOne}
-use Rattle.quilt_line_audit.specs.Pairs.{none_on, pair_on, pairs_of, pairs_on}
+use Rattle.quilt_line_audit.specs.Pairs.{pair_on, pairs_of, pairs_on}
 use Rattle.quilt_line_audit.specs.Runs.{pair_record, segment_record, is_of_part}
 use Rattle.quilt_line_audit.proofs.Keys.{part_true, part_says, pair_key, segment_key, pairs_by_code, pairs_by_id, segments_by_id}
 use Rattle.quilt_line_audit.proofs.Facts.{record_says, segment_there, pair_there, pair_block}

@@ -1,26 +1,24 @@
 -- The blocks that pairs are of: one behind the other over a square, and each pixel in exactly one.
-use Rattle.std.proofs.Common.{◌≡◌, ◌↔◌, ◌⊎◌, ℕ, ◌+◌, ◌*◌, ◌/◌, ◌^◌, ◌<◌, ◌≤◌, Bool, true, false, cond, List, [], ◌∷◌, ◌++◌, map, flat_map, get_or, count_by, refl, sym, ◌∙◌, ap, subst, inl, inr, ⊎_elim, arith, Contains, append_assoc, append-nil, pow-suc, pow_pos}
+use Rattle.std.proofs.Common.{◌≡◌, ℕ, ◌+◌, ◌*◌, ◌/◌, ◌^◌, ◌<◌, ◌≤◌, List, [], ◌∷◌, ◌++◌, map, flat_map, get_or, count_by, refl, sym, ◌∙◌, ap, subst, ⊎_elim, arith, Contains, append_assoc, append-nil, pow-suc, pow_pos}
 use Rattle.std.proofs.lemmas.List.{map-append}
 use Rattle.std.proofs.lemmas.List.Concat.{flat_map-append}
 use Rattle.quilt_types.specs.Sets as finset
 use Rattle.quilt_types.specs.declared.plane.Block.{Block}
 use Rattle.quilt_types.specs.declared.plane.Pixel.{Pixel}
 use Rattle.quilt_types.specs.declared.plane.Seg.{Seg}
-use Rattle.quilt_types.specs.Plane.{side, quarters_of, whole, in_block, IsBlock, Holds}
-use Rattle.quilt_types.specs.Layers.{BlockSet}
-use Rattle.quilt_loc.specs.Codes.{code_at, code_from, code_to}
+use Rattle.quilt_types.specs.Plane.{side, quarters_of, whole, in_block, IsBlock}
+use Rattle.quilt_loc.specs.Codes.{code_from, code_to}
 use Rattle.quilt_loc.proofs.Members.{Contains-map, Contains-map_from}
 use Rattle.quilt_loc.proofs.Blocks.{Holds-from, in_block-true}
 use Rattle.quilt_loc.proofs.Intervals.{side_squared, origin_code, half_codes}
 use Rattle.quilt_loc.proofs.Once.{once_some, once_same}
 use Rattle.quilt_loc.proofs.PlaneOrders.{block_total}
-use Rattle.quilt_loc.proofs.Quartered.{IsBlock-whole, quarters_are}
+use Rattle.quilt_loc.proofs.Quartered.{quarters_are}
 use Rattle.quilt_blocks.proofs.Adding.{IsPart, part_at}
 use Rattle.quilt_blocks.proofs.Chains.{Follows-member, one_holds}
 use Rattle.quilt_blocks.proofs.Cuts.{Runs, Runs-append, Runs-nil, Runs-one, Runs-at}
 use Rattle.quilt_blocks.proofs.Painting.{code_in}
 use Rattle.quilt_spell.proofs.FactKeys.{block_same}
-use Rattle.quilt_line_laws.proofs.Covers.{IsCover}
 use Rattle.quilt_line_laws.proofs.Merges.{IsBlockCover}
 use Rattle.quilt_line_laws.proofs.SetLaws.{items-from_list}
 use Rattle.quilt_line_audit.specs.declared.pair.Pair.{Pair}

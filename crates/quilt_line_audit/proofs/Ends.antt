@@ -1,8 +1,7 @@
 -- Where the pairs of the whole square end.
-use Rattle.std.proofs.Common.{◌≡◌, ℕ, ◌-◌, ◌<◌, ◌≤◌, Bool, true, false, eqb, eqb-true, eq-eqb, List, [], length, drop, refl, sym, ◌∙◌, ap, subst, arith}
-use Rattle.std.specs.Bool.{OnTrue, OnFalse}
+use Rattle.std.proofs.Common.{◌≡◌, ℕ, ◌≤◌, Bool, true, false, List, [], length, drop, refl, ap, subst, arith}
+use Rattle.std.specs.Bool.{OnFalse}
 use Rattle.std.proofs.lemmas.List.{length-drop}
-use Rattle.quilt_types.specs.declared.plane.Block.{Block}
 use Rattle.quilt_types.specs.declared.plane.Seg.{Seg}
 use Rattle.quilt_types.specs.Plane.{side, whole}
 use Rattle.quilt_line_audit.specs.declared.pair.Pair.{Pair}

@@ -7,10 +7,10 @@ use Rattle.quilt_types.specs.declared.plane.Block.{Block}
 use Rattle.quilt_types.specs.declared.plane.Seg.{Seg}
 use Rattle.quilt_types.specs.declared.plane.Kind.TheVariants as kinds
 use Rattle.quilt_types.specs.Plane.{blocks, IsBlock}
-use Rattle.quilt_types.specs.Layers.{Layer, Region, Points, Lines, SegMap, BlockSet, IsLineMap, is_in_square}
+use Rattle.quilt_types.specs.Layers.{Layer, Region, Points, Lines, SegMap, BlockSet, is_in_square}
 use Rattle.quilt_types.specs.Segments.{square, meets}
-use Rattle.quilt_types.specs.Facts.{Fact, IsOfKind, IsSegment, IsMetBy, IsMetByNone, or_none, line_facts, facts}
-use Rattle.quilt_loc.proofs.Members.{Contains-nil, Contains-here, Contains-there, Contains-cons_cases, Contains-map, Contains-map_from, Contains-filter_from, Contains-flat_map, Contains-flat_map_from}
+use Rattle.quilt_types.specs.Facts.{Fact, IsOfKind, IsSegment, IsMetBy, IsMetByNone, or_none, line_facts}
+use Rattle.quilt_loc.proofs.Members.{Contains-nil, Contains-there, Contains-cons_cases, Contains-map, Contains-map_from, Contains-filter_from, Contains-flat_map, Contains-flat_map_from}
 use Rattle.quilt_loc.proofs.Blocks.{IsBlock-from}
 use Rattle.quilt_record.specs.declared.record.Record.{Record}
 use Rattle.quilt_record.specs.Records.{record_of}

@@ -1,5 +1,5 @@
 -- The records of pairs and segments: their keys, their order, and that each says its pair or segment alone.
-use Rattle.std.proofs.Common.{◌≡◌, ◌⊎◌, ℕ, ◌<◌, ◌≤◌, ◌^◌, Bool, true, false, ◌&&◌, eqb, eqb-true, eq-eqb, List, [], ◌∷◌, ◌++◌, map, filter, cond, get_or, Option, Some, None, refl, sym, ◌∙◌, ap, ap₂, subst, inl, inr, ⊎_elim, arith, Contains, Less, nat_cmp, nat_lt, ltb-true}
+use Rattle.std.proofs.Common.{◌≡◌, ℕ, ◌<◌, ◌≤◌, ◌^◌, Bool, true, false, eqb, eqb-true, eq-eqb, List, [], ◌∷◌, ◌++◌, map, filter, cond, get_or, Option, Some, None, refl, sym, ◌∙◌, ap, ap₂, ⊎_elim, arith, Contains, Less, nat_cmp, nat_lt, ltb-true}
 use Rattle.std.proofs.lemmas.Bool.{and_parts, and_from, cases_Bool}
 use Rattle.std.proofs.lemmas.List.{append-nil}
 use Rattle.std.proofs.lemmas.List.Elements.{filter-append}
@@ -7,14 +7,14 @@ use Rattle.quilt_types.specs.declared.plane.Block.{Block}
 use Rattle.quilt_types.specs.declared.plane.Seg.{Seg}
 use Rattle.quilt_types.specs.Plane.{side, is_pixel, IsBlock}
 use Rattle.quilt_types.specs.Layers.{is_in_square}
-use Rattle.quilt_types.specs.Facts.{IsSegment, IsMetBy, IsMetByNone}
+use Rattle.quilt_types.specs.Facts.{IsSegment, IsMetBy}
 use Rattle.quilt_loc.specs.Codes.{code_from}
 use Rattle.quilt_loc.proofs.Blocks.{side_most}
 use Rattle.quilt_loc.proofs.Members.{Contains-here, Contains-there}
 use Rattle.quilt_record.specs.declared.key.Key.{Key}
 use Rattle.quilt_record.specs.declared.record.Record.{Record}
 use Rattle.quilt_record.specs.Records.{key_cmp, record_of}
-use Rattle.quilt_record.specs.Canonical.{IsRecordOf, FactFits, pair_fact}
+use Rattle.quilt_record.specs.Canonical.{IsRecordOf, pair_fact}
 use Rattle.quilt_record.specs.Values.{segment_of}
 use Rattle.quilt_record.proofs.Readers.{segment_ends}
 use Rattle.quilt_spell.specs.Written.{by_key}

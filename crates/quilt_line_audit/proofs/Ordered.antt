@@ -1,8 +1,7 @@
 -- The blocks of a cover in the order of their codes: they are those of its set, and their pairs are what the square begins with.
-use Rattle.std.proofs.Common.{◌≡◌, ◌↔◌, ◌⊎◌, ℕ, ◌+◌, ◌*◌, ◌/◌, ◌^◌, ◌<◌, ◌≤◌, Bool, true, false, cond, List, [], ◌∷◌, ◌++◌, map, flat_map, get_or, refl, sym, ◌∙◌, ap, subst, inl, inr, ⊎_elim, arith, Contains, append_assoc, pow-suc, pow_pos}
+use Rattle.std.proofs.Common.{◌≡◌, ◌↔◌, ℕ, ◌+◌, ◌/◌, ◌<◌, ◌≤◌, Bool, true, false, cond, List, [], ◌∷◌, ◌++◌, flat_map, get_or, refl, sym, subst, inl, inr, ⊎_elim, arith, Contains, pow-suc, pow_pos}
 use Rattle.std.specs.FinMap as finmap
 use Rattle.std.proofs.lemmas.Bool.{cases_lt}
-use Rattle.std.proofs.lemmas.List.Concat.{flat_map-append}
 use Rattle.quilt_types.specs.Sets as finset
 use Rattle.quilt_types.specs.declared.plane.Block.{Block}
 use Rattle.quilt_types.specs.declared.plane.Pixel.{Pixel}
@@ -10,7 +9,7 @@ use Rattle.quilt_types.specs.declared.plane.Seg.{Seg}
 use Rattle.quilt_types.specs.Plane.{side, corner, quarters_of, whole, IsBlock, Holds, Within}
 use Rattle.quilt_types.specs.Layers.{BlockSet}
 use Rattle.quilt_loc.proofs.Members.{Contains-here}
-use Rattle.quilt_loc.proofs.Nesting.{Within-holds, Within-trans, Holds-corner, nested, twice_le, side_pos}
+use Rattle.quilt_loc.proofs.Nesting.{Within-holds, Holds-corner, nested, twice_le, side_pos}
 use Rattle.quilt_loc.proofs.Quartered.{quarters_are, IsBlock-whole, Within-whole}
 use Rattle.quilt_blocks.proofs.Maximal.{Within-self}
 use Rattle.quilt_line_laws.specs.Merging.{blocks_in}

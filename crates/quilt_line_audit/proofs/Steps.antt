@@ -1,5 +1,5 @@
 -- A run of a line layer's records after one more, and records that no line layer has.
-use Rattle.std.proofs.Common.{◌≡◌, ◌⊎◌, ℕ, ◌<◌, ◌≤◌, ◌^◌, true, false, List, [], ◌∷◌, ◌++◌, map, filter, Option, Some, None, refl, sym, ◌∙◌, ap, subst, inl, inr, ⊎_elim, arith, Contains}
+use Rattle.std.proofs.Common.{◌≡◌, ◌⊎◌, ℕ, ◌<◌, ◌≤◌, ◌^◌, true, List, [], ◌∷◌, ◌++◌, map, Option, Some, None, refl, sym, ◌∙◌, ap, subst, inl, inr, ⊎_elim, arith, Contains}
 use Rattle.std.proofs.lemmas.List.{map-append}
 use Rattle.std.proofs.lemmas.List.Elements.{Contains-append_right}
 use Rattle.quilt_types.specs.declared.plane.Block.{Block}
@@ -7,9 +7,8 @@ use Rattle.quilt_types.specs.declared.plane.Seg.{Seg}
 use Rattle.quilt_types.specs.declared.plane.Kind.TheVariants as kinds
 use Rattle.quilt_types.specs.Plane.{IsBlock}
 use Rattle.quilt_types.specs.Layers.{is_in_square}
-use Rattle.quilt_types.specs.Facts.{IsSegment, IsMetBy, IsMetByNone}
+use Rattle.quilt_types.specs.Facts.{IsSegment}
 use Rattle.quilt_loc.proofs.Members.{Contains-nil, Contains-here, Contains-cons_cases}
-use Rattle.quilt_edits.proofs.Lists.{member_at}
 use Rattle.std.proofs.lemmas.List.Elements.{Contains-append_cases}
 use Rattle.quilt_record.specs.declared.record.Record.{Record}
 use Rattle.quilt_record.specs.Records.{record_of}
@@ -18,7 +17,7 @@ use Rattle.quilt_line_audit.specs.declared.pair.Pair.{Pair}
 use Rattle.quilt_line_audit.specs.declared.run.LineRun.{LineRun}
 use Rattle.quilt_line_audit.specs.Layers.{Refuses}
 use Rattle.quilt_line_audit.specs.Runs.{IsLineRun, pair_record, segment_record, is_of_part}
-use Rattle.quilt_line_audit.proofs.Keys.{filter_last, filter_without, part_true, part_false, pair_key, segment_key, segment_is}
+use Rattle.quilt_line_audit.proofs.Keys.{filter_last, filter_without, part_true, part_false, pair_key, segment_is}
 use Rattle.quilt_line_audit.proofs.Facts.{with_lines, record_says, small_id, inside, pair_fits}
 
 last_cases : {X : Type 0} (xs : List X) (y x : X) → Contains (xs ++ y ∷ []) x → Contains xs x ⊎ (y ≡ x)

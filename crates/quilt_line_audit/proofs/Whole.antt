@@ -1,5 +1,5 @@
 -- The records of a line layer that are all, and those that are not.
-use Rattle.std.proofs.Common.{◌≡◌, ◌⊎◌, ℕ, ◌<◌, ◌≤◌, ◌^◌, Bool, true, false, ◌&&◌, T, List, [], ◌∷◌, ◌++◌, map, filter, flat_map, refl, sym, ◌∙◌, ap, subst, inl, inr, ⊎_elim, arith, Contains, Ordering, Less, append-nil, nat_cmp, All}
+use Rattle.std.proofs.Common.{◌≡◌, ◌⊎◌, ℕ, ◌<◌, ◌≤◌, ◌^◌, Bool, true, false, ◌&&◌, T, List, [], ◌∷◌, ◌++◌, map, filter, flat_map, refl, sym, ◌∙◌, ap, subst, inl, inr, ⊎_elim, Contains, Ordering, Less, append-nil, nat_cmp}
 use Rattle.std.specs.Ordering.{is_lt}
 use Rattle.std.specs.FinMap as finmap
 use Rattle.std.specs.FinMap.Entries as sorted
@@ -8,12 +8,12 @@ use Rattle.quilt_types.specs.Sets as finset
 use Rattle.quilt_types.specs.declared.plane.Block.{Block}
 use Rattle.quilt_types.specs.declared.plane.Seg.{Seg}
 use Rattle.quilt_types.specs.declared.plane.Kind.TheVariants as kinds
-use Rattle.quilt_types.specs.Plane.{whole, blocks, block_cmp, IsBlock}
+use Rattle.quilt_types.specs.Plane.{whole, blocks, IsBlock}
 use Rattle.quilt_types.specs.Layers.{Lines, SegMap, BlockSet, IsLineMap, is_in_square}
 use Rattle.quilt_types.specs.Facts.{Fact, IsOfKind, IsSegment, line_facts, facts}
 use Rattle.quilt_loc.specs.Codes.{Rises}
 use Rattle.quilt_loc.proofs.Blocks.{Contains-blocks}
-use Rattle.quilt_loc.proofs.Members.{Contains-nil, Contains-here, Contains-there, Contains-cons_cases, Contains-map, Contains-map_from, Contains-filter, Contains-filter_from, Contains-flat_map, Contains-flat_map_from}
+use Rattle.quilt_loc.proofs.Members.{Contains-here, Contains-there, Contains-cons_cases, Contains-map, Contains-map_from, Contains-filter, Contains-filter_from, Contains-flat_map, Contains-flat_map_from}
 use Rattle.quilt_loc.proofs.PlaneOrders.{block_total}
 use Rattle.quilt_loc.proofs.Quartered.{IsBlock-whole}
 use Rattle.quilt_loc.proofs.Rising.{Rises-filter}
@@ -33,7 +33,7 @@ use Rattle.quilt_line_audit.specs.Pairs.{pairs_on, Begins}
 use Rattle.quilt_line_audit.specs.Runs.{pair_record, segment_record, is_of_part, IsLineRun, IsLined}
 use Rattle.quilt_line_audit.proofs.Keys.{filter_none, part_true, part_false, pair_alone, segment_alone, segments_by_id, map_alone}
 use Rattle.quilt_line_audit.proofs.Facts.{fact_of, pairs_facts, with_lines, pair_block, cover_block, small_id, inside}
-use Rattle.quilt_line_audit.proofs.Cuts.{IsCutInto, cut_into, block_of, cover_from}
+use Rattle.quilt_line_audit.proofs.Cuts.{IsCutInto, cut_into, cover_from}
 use Rattle.quilt_line_audit.proofs.Ordered.{ordered_are, begins_in}
 use Rattle.quilt_line_audit.proofs.Canonical.{Rises-unmap, blocks_here, pairs_here, segments_here}
 

@@ -1,10 +1,8 @@
-use Rattle.std.proofs.Common.{◌≡◌, ℕ, ◌<◌, List, ◌∷◌, get_or, length, drop, Some, None, Option, refl, sym, ◌∙◌, ap, subst, inl, inr, arith}
-use Rattle.std.specs.Prelude.{IfSome, IfNone}
+use Rattle.std.proofs.Common.{◌≡◌, ℕ, List, get_or, length, drop, sym, ◌∙◌, ap, subst, inl, inr, arith}
 use Rattle.quilt_types.specs.declared.plane.Block.{Block}
 use Rattle.quilt_types.specs.declared.plane.Seg.{Seg}
-use Rattle.quilt_types.specs.Plane.{side, IsBlock, quarters_of}
+use Rattle.quilt_types.specs.Plane.{side}
 use Rattle.quilt_blocks.proofs.Adding.{part_at}
-use Rattle.quilt_line_audit.specs.declared.pair.Pair.{Pair}
 use Rattle.quilt_line_audit.specs.Pairs.{Begins, InTurn}
 use Rattle.quilt_line_audit.proofs.Descents.{IsLeaf, leaf_some, leaf_none, cut_some, cut_none, turn_stops, turn_goes, turn_done, more_than_one, quarter_side_at, some_map, none_map, some_from, none_from}
 use Rattle.quilt_line_audit.proofs.descent.+end_in.Goals.{then-square-eq1-via-then-square-eq1, then-square-eq1-via-else-square-eq1+then-is_on}

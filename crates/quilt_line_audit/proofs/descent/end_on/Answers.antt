@@ -1,6 +1,6 @@
-use Rattle.std.proofs.Common.{◌++◌, ◌∷◌, List, drop, sym, ◌∙◌, ap, length}
+use Rattle.std.proofs.Common.{◌++◌, List, drop, sym, ◌∙◌, ap}
 use Rattle.quilt_line_audit.specs.declared.pair.Pair.{Pair}
-use Rattle.quilt_line_audit.proofs.Places.{some_pairs, pair_misses, pair_found, pairs_done}
+use Rattle.quilt_line_audit.proofs.Places.{some_pairs, pair_misses, pairs_done}
 use Rattle.quilt_line_audit.proofs.descent.end_on.Goals as goal
 
 pub returns-in-None-clause-none : goal.returns-in-None-clause-none

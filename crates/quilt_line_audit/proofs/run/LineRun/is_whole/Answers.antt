@@ -1,6 +1,5 @@
-use Rattle.std.proofs.Common.{◌≡◌, ℕ, [], ◌≤◌, ◌*◌, ◌%◌, ◌^◌, List, length, drop, sym, ◌∙◌, ap, subst, eq-eqb}
+use Rattle.std.proofs.Common.{◌≡◌, ℕ, [], ◌*◌, ◌%◌, ◌^◌, List, sym, ◌∙◌, subst, eq-eqb}
 use Rattle.quilt_types.specs.declared.plane.Seg.{Seg}
-use Rattle.quilt_types.specs.Plane.{side}
 use Rattle.quilt_record.proofs.BlockKeys.{shifted}
 use Rattle.quilt_line_audit.specs.declared.pair.Pair.{Pair}
 use Rattle.quilt_line_audit.specs.Pairs.{Begins}

@@ -1,5 +1,4 @@
-use Rattle.std.proofs.Common.{◌≡◌, true, false, Some, None, Option, refl, sym, ◌∙◌, ap}
-use Rattle.quilt_types.specs.declared.plane.Seg.{Seg}
+use Rattle.std.proofs.Common.{◌≡◌, true, false, refl, sym, ◌∙◌, ap}
 use Rattle.quilt_types.specs.Layers.{is_in_square}
 use Rattle.quilt_line_audit.proofs.Steps.{pair_taken, segment_taken, unread_refused, nothing_read, seg_read}
 use Rattle.quilt_line_audit.proofs.run.LineRun.take.Goals as goal
