@@ -15,9 +15,9 @@ use Rattle.quilt_spell.specs.Spelled.{SpellsUnder}
 use Rattle.quilt_spell.specs.Written.{by_key}
 use Rattle.quilt_audit.specs.declared.checker.Checker.{Checker}
 use Rattle.quilt_audit.specs.declared.run.Run.{Run}
-use Rattle.quilt_audit.specs.Covers.{Refuses}
+use Rattle.quilt_line_audit.specs.Layers.{Refuses}
 use Rattle.quilt_audit.specs.Runs.{IsRun, IsRunFinished}
-use Rattle.quilt_audit.specs.Surveys.{AreRegionsOrPoints, AreNumbered}
+use Rattle.quilt_audit.specs.Surveys.{AreNumbered}
 use Rattle.quilt_audit.specs.Checking.{IsSoFar, HasBegun, Stops, MayList, IsWhole, AreRefused, IsFed, IsSpelled}
 use Rattle.quilt_audit.proofs.Next.{NextEntry, NextLayer, next_entry, next_layer, next_taken, end_covered, end_listed}
 use Rattle.quilt_audit.proofs.Steps.{all_covered}
@@ -27,18 +27,18 @@ module _ (form n : ℕ) (least : 1 ≤ n) (le : n ≤ 12) (es : List Entry) (las
   -- ---- the layer of the next record
   pub layer_no : (number : ℕ) → 1 ≤ number → (NextLayer n es layer run number → ⊥)
       → (rs : List Record) (r : Record) → IsSoFar form n es last layer run rs → HasBegun layer rs → r.key.layer ≡ number → Stops form n rs r
-  layer_no number some none rs r f begun is rest numbers layers kinds s =
-      none (subst (NextLayer n es layer run) is (next_layer form n least le es last layer run rs f top rest numbers layers kinds r s begun (omega arith)))
+  layer_no number some none rs r f begun is rest numbers layers s =
+      none (subst (NextLayer n es layer run) is (next_layer form n least le es last layer run rs f top rest numbers layers r s begun (omega arith)))
 
   -- ---- a record of the catalog
   pub entry_no : (r : Record) → r.key.layer ≡ 0 → (NextEntry form es last layer r → ⊥) → (rs : List Record) → IsSoFar form n es last layer run rs → HasBegun layer rs → Stops form n rs r
-  entry_no r zero' none rs f begun rest numbers layers kinds s = none (next_entry form n least le es last layer run rs f top rest numbers layers kinds r s begun zero')
+  entry_no r zero' none rs f begun rest numbers layers s = none (next_entry form n least le es last layer run rs f top rest numbers layers r s begun zero')
 
   -- ---- a record of the layer that comes
   pub record_no : (r : Record) (rs : List Record) → 1 ≤ layer → r.key.layer ≡ layer → ((kind : Kind) → IsRun form n rs layer kind run → Refuses form n rs layer kind r)
       → IsSoFar form n es last layer run rs → Stops form n rs r
-  record_no r rs some is refused f rest numbers layers kinds s =
-      next_taken form n least le es last layer run rs f top rest numbers layers kinds r s some is (λ e c same h. refused e.kind h)
+  record_no r rs some is refused f rest numbers layers s =
+      next_taken form n least le es last layer run rs f top rest numbers layers r s some is (λ e c same h. refused e.kind h)
 
 -- a record of the catalog that may come next is read
 pub entry_read : (form last layer : ℕ) (es : List Entry) (r : Record) (o : Option Entry) → o ≡ None → ((e : Entry) → IsEntryOf form r e → o ≡ Some e) → NextEntry form es last layer r → ⊥
@@ -92,18 +92,18 @@ module _ (c : Checker) (total : ℕ) (rs : List Record) (fed : IsFed total c rs)
         kinds = f.fitting;
       }
 
-  pub not_whole : (IsWhole c → ⊥) → (numbers : Numbering) (layers : Map) → AreRegionsOrPoints layers → SpellsUnder c.format c.level numbers rs layers → length rs ≡ total → ⊥
-  not_whole none numbers layers kinds s long =
+  pub not_whole : (IsWhole c → ⊥) → (numbers : Numbering) (layers : Map) → SpellsUnder c.format c.level numbers rs layers → length rs ≡ total → ⊥
+  not_whole none numbers layers s long =
       ⊎_elim
       (λ t.
       let k = fed.sound t in
       let e = k.2 in
-      let reached = end_listed c.format c.level c.level_least c.level_most c.catalog c.last c.layer c.run rs k.0 c.last_most numbers layers kinds s in
+      let reached = end_listed c.format c.level c.level_least c.level_most c.catalog c.last c.layer c.run rs k.0 c.last_most numbers layers s in
       let but : ((1 ≤ c.layer → IsRunFinished c.level c.run) → ⊥) = λ covered. none (record { sound = t; none_due = omega arith; covered = covered; reached = reached }) in
-      ⊎_elim (λ some. end_covered c.format c.level c.level_least c.level_most c.catalog c.last c.layer c.run rs k.0 c.last_most numbers layers kinds s some (λ done. but (λ one. done)))
+      ⊎_elim (λ some. end_covered c.format c.level c.level_least c.level_most c.catalog c.last c.layer c.run rs k.0 c.last_most numbers layers s some (λ done. but (λ one. done)))
       (λ zero'. but (λ some. absurd (omega arith))) (cases_lt 0 c.layer))
       (λ f.
-      fed.unsound f [] numbers layers kinds (subst (λ (l : List Record). SpellsUnder c.format c.level numbers l layers) (sym (append-nil rs)) s)
+      fed.unsound f [] numbers layers (subst (λ (l : List Record). SpellsUnder c.format c.level numbers l layers) (sym (append-nil rs)) s)
       (ap length (append-nil rs) ∙ long))
       (cases_Bool c.sound)
 
@@ -123,7 +123,7 @@ module _ (form n form' n' layer k : ℕ) (same_form : form' ≡ form) (same_leve
 
 -- ---- what is asked of an entry
 pub may_from : (form : ℕ) (c : Checker) (r : Record) (e : Entry) (w : NextEntry form c.catalog c.last c.layer r) → w.entry ≡ e → MayList c e
-may_from form c r e w same = subst (MayList c) same (record { first = w.first; checked = w.checked; above = w.above; fresh = w.fresh })
+may_from form c r e w same = subst (MayList c) same (record { first = w.first; above = w.above; fresh = w.fresh })
 
 pub from_true : (b : Bool) (P : Type 0) → b ≡ true → OnTrue b P → P
 from_true true P e h = h
@@ -156,4 +156,4 @@ module _ (total : ℕ) (before : List Record) (r : Record) (old : Checker) (fed 
       let stops = from_false sound _ f (refused before k.0 k.1) in
       subst (λ (z : ℕ). AreRefused z level total (before ++ r ∷ [])) (sym same_format)
       (subst (λ (z : ℕ). AreRefused old.format z total (before ++ r ∷ [])) (sym same_level)
-      (λ rest numbers layers kinds s long. stops rest numbers layers kinds (subst (λ (l : List Record). SpellsUnder old.format old.level numbers l layers) (append_assoc before (r ∷ []) rest) s)))
+      (λ rest numbers layers s long. stops rest numbers layers (subst (λ (l : List Record). SpellsUnder old.format old.level numbers l layers) (append_assoc before (r ∷ []) rest) s)))

@@ -10,7 +10,7 @@ use Rattle.quilt_types.specs.Plane.{blocks, IsBlock}
 use Rattle.quilt_types.specs.Layers.{Layer, Region, Points, Lines, SegMap, BlockSet, is_in_square}
 use Rattle.quilt_types.specs.Segments.{square, meets}
 use Rattle.quilt_types.specs.Facts.{Fact, IsOfKind, IsSegment, IsMetBy, IsMetByNone, or_none, line_facts}
-use Rattle.quilt_loc.proofs.Members.{Contains-nil, Contains-there, Contains-cons_cases, Contains-map, Contains-map_from, Contains-filter_from, Contains-flat_map, Contains-flat_map_from}
+use Rattle.quilt_loc.proofs.Members.{Contains-nil, Contains-here, Contains-there, Contains-cons_cases, Contains-map, Contains-map_from, Contains-filter_from, Contains-flat_map, Contains-flat_map_from}
 use Rattle.quilt_loc.proofs.Blocks.{IsBlock-from}
 use Rattle.quilt_record.specs.declared.record.Record.{Record}
 use Rattle.quilt_record.specs.Records.{record_of}
@@ -124,3 +124,11 @@ module _ (form n layer t : ℕ) (segs : SegMap) (cover : BlockSet) (rs : List Re
   pair_fits b p m c =
       fits_of b (filter (λ (e : ℕ × Seg). meets e.1 (square b)) es) p (cover_block b m)
       (λ e d. small_id e (Contains-filter_from (λ (x : ℕ × Seg). meets x.1 (square b)) es e d).0) c
+
+-- a block has a pair
+pub first_pair : (b : Block) (segs : List (ℕ × Seg)) → (p : Pair) × Contains (pairs_on segs b) p
+first_pair b segs = of_those (filter (λ (e : ℕ × Seg). meets e.1 (square b)) segs)
+  where
+    of_those : (ms : List (ℕ × Seg)) → (p : Pair) × Contains (pairs_of b ms) p
+    of_those [] = (none_on b, Contains-here (none_on b) [])
+    of_those (m ∷ ms) = (pair_on b m, Contains-here (pair_on b m) (map (pair_on b) ms))
