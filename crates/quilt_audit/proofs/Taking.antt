@@ -1,5 +1,6 @@
 -- What the steps of the checker do and find, over the numbers that it keeps.
-use Rattle.std.proofs.Common.{◌≡◌, ℕ, ◌+◌, ◌-◌, ◌<◌, ◌≤◌, ◌⊎◌, Bool, true, false, not, List, [], ◌∷◌, ◌++◌, length, Option, Some, None, refl, sym, ◌∙◌, ap, subst, ⊎_elim, arith, Contains, append_assoc, length-append}
+use Rattle.std.proofs.Common.{◌≡◌, ℕ, ◌+◌, ◌-◌, ◌<◌, ◌≤◌, ◌⊎◌, Bool, true, false, not, List, [], ◌∷◌, ◌++◌, length, Option, Some, None, Result, Ok, Err, refl, sym, ◌∙◌, ap, subst, ⊎_elim, arith, Contains, append_assoc, length-append}
+use Rattle.std.specs.Prelude.{IfOk}
 use Rattle.std.specs.Bool.{OnTrue, OnFalse}
 use Rattle.std.proofs.lemmas.Bool.{cases_Bool, cases_lt}
 use Rattle.std.proofs.lemmas.List.{append-nil}
@@ -129,9 +130,21 @@ pub from_true : (b : Bool) (P : Type 0) → b ≡ true → OnTrue b P → P
 from_true true P e h = h
 from_true false P e h = cc
 
-from_false : (b : Bool) (P : Type 0) → b ≡ false → OnFalse b P → P
+pub from_false : (b : Bool) (P : Type 0) → b ≡ false → OnFalse b P → P
 from_false true P e h = cc
 from_false false P e h = h
+
+pub on_true : (b : Bool) (P : Type 0) → (b ≡ true → P) → OnTrue b P
+on_true true P f = f refl
+on_true false P f = tt
+
+pub on_false : (b : Bool) (P : Type 0) → (b ≡ false → P) → OnFalse b P
+on_false true P f = tt
+on_false false P f = f refl
+
+pub ok_map : {X E : Type 0} (o : Result X E) (P Q : X → Type 0) → ((x : X) → P x → Q x) → IfOk o P → IfOk o Q
+ok_map (Ok x) P Q f h = f x h
+ok_map (Err e) P Q f h = tt
 
 -- ---- a record is pushed
 module _ (total : ℕ) (before : List Record) (r : Record) (old : Checker) (fed : IsFed total old before) (was : old.sound ≡ true) (some : old.due ≡ 0 → ⊥) (level format : ℕ) (sound : Bool)

@@ -159,7 +159,10 @@ impl Checker {
         if layer == u16::from(self.layer) {
             return Ok(true);
         }
-        if layer < u16::from(self.layer) || !self.is_covered()? {
+        if layer < u16::from(self.layer) {
+            return Ok(false);
+        }
+        if !self.is_covered()? {
             return Ok(false);
         }
         if next_number(self.catalog.entries(), self.layer) != layer {
@@ -190,9 +193,11 @@ impl Checker {
         ensures none { IfOk result (λ o. IfNone o ((total : ℕ) (rs : List AnyRecord) → IsFed total self rs → (numbers : Numbering) (layers : Map) → SpellsUnder self.format self.level numbers rs layers → length rs ≡ total → ⊥)) }
         ensures numbered { IfOk result (λ o. IfSome o (λ entries. (total : ℕ) (rs : List AnyRecord) → IsFed total self rs → AreNumbered self.format entries)) }
     {
-        let is_whole = self.is_whole()?;
+        if !self.is_whole()? {
+            return Ok(None);
+        }
         let Checker { catalog, .. } = self;
-        Ok(if is_whole { Some(catalog) } else { None })
+        Ok(Some(catalog))
     }
 
     /// Whether the records may be all.
@@ -202,7 +207,11 @@ impl Checker {
         ensures catalog { IsCatalog self.now.catalog }
     {
         let entries = self.catalog.entries();
-        if !self.sound || self.due != 0 || next_number(entries, self.layer) != 256 {
+        let due = self.due;
+        if !self.sound || due != 0 {
+            return Ok(false);
+        }
+        if next_number(entries, self.layer) != 256 {
             return Ok(false);
         }
         self.is_covered()
