@@ -1,5 +1,5 @@
 -- Runs by the kind of their layer.
-use Rattle.std.proofs.Common.{◌≡◌, ℕ, ◌≤◌, List, [], map, filter, sym, ◌∙◌, ap, subst, Contains}
+use Rattle.std.proofs.Common.{◌≡◌, ℕ, ◌≤◌, List, map, sym, ◌∙◌, ap, subst, Contains}
 use Rattle.quilt_types.specs.declared.plane.Kind.{Kind}
 use Rattle.quilt_types.specs.declared.plane.Kind.TheVariants as kinds
 use Rattle.quilt_types.specs.declared.plane.Seg.{Seg}
