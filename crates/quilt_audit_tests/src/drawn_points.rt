@@ -1,28 +1,12 @@
-ghost use Rattle.std.specs.Prelude.{◌≡◌, ◌*◌, ◌<◌, ◌≤◌, length};
+ghost use Rattle.std.specs.Prelude.{◌<◌};
 
-use crate::survey::audit;
-use crate::tests::{BLANK, NO_MAP, entry, leaf_page, stored};
+use crate::drawing::{Draw, answered, changed, rise};
+use crate::planted::{NO_MAP, entry};
 use quilt_loc::{code_of, pixel_of};
-use quilt_node::Head;
 use quilt_record::{Key, Record};
 use quilt_types::{Pixel, Stop};
 use std::alloc::{AllocError, Global};
 use std::test::Fail;
-
-/// Numbers that are drawn one after another.
-#[derive(Drop)]
-struct Draw(u32);
-
-impl Draw {
-    /// The next number, below this one.
-    fn below(&mut self, most: u32) -> u32
-        requires { 1 ≤ most }
-        ensures { result < most }
-    {
-        self.0 = self.0.wrapping_mul(1664525).wrapping_add(1013904223);
-        (self.0 >> 8) % most
-    }
-}
 
 /// A point: the code of its pixel, and its label.
 #[derive(Clone, Copy, PartialEq, Eq)]
@@ -131,38 +115,6 @@ fn is_layer(alloc: Global, records: &[Record], level: u8, bucket: u8) -> Result<
     Ok(records == wanted.as_slice())
 }
 
-/// Whether the keys rise.
-fn rise(records: &[Record]) -> bool {
-    let mut last = key(0, 0, 0);
-    last.part = 0;
-    for r in records {
-        if r.key <= last {
-            return false;
-        }
-        last = r.key;
-    }
-    true
-}
-
-/// One record, drawn, with one part of it changed by a drawn number.
-fn changed(draw: &mut Draw, records: &mut [Record]) {
-    let by = 1 + draw.below(2);
-    let part = draw.below(22);
-    if records.is_empty() {
-        return;
-    }
-    let at = draw.below(64) as usize % records.len();
-    let r = &mut records[at];
-    match part {
-        0..16 => r.value[part as usize] ^= by as u8,
-        16 | 17 => r.key.item = r.key.item.wrapping_add(by),
-        18 | 19 => r.key.code ^= by,
-        20 => r.key.depth ^= by as u8,
-        21 => r.key.part ^= by as u8,
-        _ => {}
-    }
-}
-
 /// Spots at drawn codes of a square of this level.
 fn drawn(alloc: Global, draw: &mut Draw, level: u8) -> Result<Vec<Spot>, AllocError> {
     let mut spots = Vec::new(alloc);
@@ -174,32 +126,6 @@ fn drawn(alloc: Global, draw: &mut Draw, level: u8) -> Result<Vec<Spot>, AllocEr
         }
     }
     Ok(spots)
-}
-
-/// What an audit answers of a tree of one leaf with the records behind that of the catalog.
-fn answered(alloc: Global, records: &[Record], level: u8, bucket: u8) -> Result<Option<Stop>, Fail>
-    requires { (1 ≤ level) × (level ≤ 3) }
-{
-    let mut all = Vec::new(alloc);
-    let mut first = entry(1, b'p', 2);
-    first.value[13] = if bucket == 1 { 0 } else { bucket };
-    all.push(first)?;
-    for r in records {
-        all.push(*r)?;
-    }
-    if all.len() > 144 || all.len() == 0 {
-        return Err(Fail::from("one leaf"));
-    }
-    let head = Head {
-        format: 2,
-        edition: 1,
-        level,
-        root: 1,
-        height: 1,
-        records: all.len() as u32,
-    };
-    let mut store = stored(alloc, &leaf_page(all.as_slice()), &BLANK)?;
-    Ok(audit(&mut store, &head, 16).err())
 }
 
 #[test]
@@ -228,7 +154,9 @@ fn drawn_point_layers(rt: HostRuntime) -> Result<(), Fail> {
             refused = refused.saturating_add(1);
             NO_MAP
         };
-        assert_eq!(rt; answered(alloc, records.as_slice(), level, bucket)?, wanted);
+        let mut first = entry(1, b'p', 2);
+        first.value[13] = if bucket == 1 { 0 } else { bucket };
+        assert_eq!(rt; answered(alloc, first, records.as_slice(), level)?, wanted);
     }
     assert!(rt; taken >= 200);
     assert!(rt; refused >= 250);

@@ -1,6 +1,6 @@
 ghost use Rattle.std.specs.Prelude.{◌≡◌, ◌≤◌};
 
-use crate::tests::{NO_MAP, audited, entry};
+use crate::planted::{NO_MAP, audited, entry};
 use quilt_record::{Key, Record};
 use quilt_types::{Kind, Stop};
 use std::test::Fail;
