@@ -21,7 +21,7 @@ use quilt_types::{Block, Kind, Point, PointList, Text, Window};
 use std::alloc::{AllocError, Global};
 
 /// Adds a number in decimal digits.
-fn push_number(text: &mut Text, number: u64) -> Result<(), AllocError>
+pub(crate) fn push_number(text: &mut Text, number: u64) -> Result<(), AllocError>
     ensures { OnOk result (text.new ≡ text.old ++ decimal number) }
 {
     if number < 10 {
@@ -32,7 +32,7 @@ fn push_number(text: &mut Text, number: u64) -> Result<(), AllocError>
 }
 
 /// Adds the line `ok` behind the body.
-fn finish(mut text: Text) -> Result<Text, AllocError>
+pub(crate) fn finish(mut text: Text) -> Result<Text, AllocError>
     ensures { IfOk result (λ all. (body : List (List ℕ)) → text ≡ lines body → all ≡ text_of (Done body)) }
 {
     text.push(b"ok\n")?;
