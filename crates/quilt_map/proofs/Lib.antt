@@ -15,6 +15,7 @@ pub mod Going
 pub mod Holding
 pub mod Keeping
 pub mod Laws
+pub mod LinePlans
 pub mod Measures
 pub mod Moving
 pub mod NewLayers

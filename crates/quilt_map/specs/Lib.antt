@@ -3,6 +3,7 @@ pub mod Commanding
 pub mod Copying
 pub mod Derivation
 pub mod Editing
+pub mod LineLayers
 pub mod Lookups
 pub mod Making
 pub mod Measuring

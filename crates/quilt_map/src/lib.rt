@@ -11,6 +11,7 @@ mod editing;
 mod editions;
 mod entries;
 mod filling;
+mod lines;
 mod making;
 mod measuring;
 mod overlaying;
