@@ -12,6 +12,7 @@ pub mod Painting
 pub mod Planning
 pub mod PointLayers
 pub mod Renewing
+pub mod Selecting
 pub mod Sessions
 pub mod Settled
 pub mod Steps

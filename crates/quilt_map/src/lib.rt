@@ -23,10 +23,12 @@ mod refusals;
 mod regions;
 mod replacing;
 mod scattering;
+mod selecting;
 mod serving;
 mod session;
 mod settled;
 mod uniform;
+mod views;
 
 pub use quilt_replies::Reply;
 pub use session::Session;

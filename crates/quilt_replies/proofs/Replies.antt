@@ -44,6 +44,10 @@ digit_more t0 t1 t2 n long small e f =
 pub one_line : (l : List ℕ) → lines (l ∷ []) ≡ l ++ 10 ∷ []
 one_line l = append-nil (l ++ 10 ∷ [])
 
+-- a text of one line
+pub alone : (t0 t1 l : List ℕ) → t0 ≡ [] → t1 ≡ t0 ++ l ++ 10 ∷ [] → t1 ≡ lines (l ∷ [])
+alone t0 t1 l e f = f ∙ ap (λ t. t ++ l ++ 10 ∷ []) e ∙ sym (one_line l)
+
 pub number_line : (n : ℕ) (t0 t1 t2 : List ℕ) → t0 ≡ [] → t1 ≡ t0 ++ decimal n → t2 ≡ t1 ++ 10 ∷ [] → t2 ≡ lines (decimal n ∷ [])
 number_line n t0 t1 t2 e f g = grown_more t1 t2 (decimal n) (10 ∷ []) (grown_one t0 t1 (decimal n) e f) g ∙ sym (one_line (decimal n))
 
