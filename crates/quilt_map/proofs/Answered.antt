@@ -114,8 +114,8 @@ pub record IsBodyOf (out : answers.Reply) (text : List ℕ) : Type 0 where
 pub text_tells : (out : answers.Reply) (text : List ℕ) → IsBodyOf out text → (text ≡ text_of out) × (is_done out ≡ true)
 text_tells out text is = (is.written ∙ ap text_of (sym is.answered), ap is_done is.answered)
 
-pub told_reply : {E F : Type 0} (At : State → Type 0) (out : State → answers.Reply) (text : Result (List ℕ) E) (r : Result replies.Reply F)
-    → IfOk r (HasText text) → ((s : State) → At s → IfOk text (IsBodyOf (out s))) → IfOk r (λ given. (s : State) → At s → Tells given (out s))
+pub told_reply : {A E F : Type 0} (At : A → Type 0) (out : A → answers.Reply) (text : Result (List ℕ) E) (r : Result replies.Reply F)
+    → IfOk r (HasText text) → ((s : A) → At s → IfOk text (IsBodyOf (out s))) → IfOk r (λ given. (s : A) → At s → Tells given (out s))
 told_reply At out (Ok t) (Ok given) has is = λ s at. subst (λ (x : replies.Reply). Tells x (out s)) (sym has) (text_tells (out s) t (is s at))
 told_reply At out (Err e) (Ok given) has is = absurd has
 told_reply At out text (Err e) has is = tt

@@ -32,6 +32,7 @@ pub mod PointPlans
 pub mod Renewed
 pub mod Rasters
 pub mod Scatters
+pub mod Selects
 pub mod TextLaws
 pub mod Uniforms
 pub mod ZeroPage

@@ -1,5 +1,5 @@
 -- Commands that ask for segments of a line layer, and what they are answered once it was found.
-use Rattle.std.specs.Prelude.{◌≡◌, ℕ, ◌≤◌, ◌∷◌, ◌==◌, Bool, true, false, List, Option, Some, None, map, filter, flat_map, length, decimal, if◌then◌else◌}
+use Rattle.std.specs.Prelude.{◌≡◌, ℕ, ◌≤◌, ◌∷◌, ◌==◌, Bool, true, false, List, Option, Some, None, map, filter, flat_map, length, decimal, nat_lt, if◌then◌else◌}
 use Rattle.std.specs.FinMap as finmap
 use Rattle.quilt_types.specs.declared.code.Code.{Code}
 use Rattle.quilt_types.specs.declared.code.Code.TheVariants as no
@@ -7,6 +7,7 @@ use Rattle.quilt_types.specs.declared.plane.Block.{Block}
 use Rattle.quilt_types.specs.declared.plane.Pixel.{Pixel}
 use Rattle.quilt_types.specs.Fractions.{Fraction}
 use Rattle.quilt_types.specs.Layers.{SegMap, BlockSet, Grid}
+use Rattle.quilt_types.specs.Crossings.{crossings}
 use Rattle.quilt_types.specs.Plane.{is_pixel, is_window}
 use Rattle.quilt_types.specs.Quadtrees.{reach}
 use Rattle.quilt_types.specs.Ranking.{ranked}
@@ -21,7 +22,7 @@ use Rattle.quilt_select.specs.Shares.{is_touching}
 use Rattle.quilt_words.specs.declared.command.Command.{Command}
 use Rattle.quilt_words.specs.declared.command.Command.TheVariants as commands
 use Rattle.quilt_edition.specs.declared.book.Book.{Book}
-use Rattle.quilt_replies.specs.Answers.{State, Outcome, Reply, Done, Refused, unless, unknown, unless_lines, unless_region, seg_line, clip_lines, nearest_lines, ranked_line, is_over}
+use Rattle.quilt_replies.specs.Answers.{State, Outcome, Reply, Done, Refused, unless, unknown, unless_lines, unless_region, seg_line, clip_lines, nearest_lines, ranked_line, pair_line, is_over}
 use Rattle.quilt_replies.specs.declared.reply.Reply as replies
 use Rattle.quilt_replies.specs.declared.reply.Reply.TheVariants as given
 use Rattle.quilt_map.specs.Sessions.{told_of}
@@ -64,6 +65,10 @@ selected command segs = Refused no.Absent
 abbrev pub selected_over : ℕ → Grid → SegMap → Reply
 selected_over n g segs = Done (map (λ e. decimal e.0) (filter (λ e. is_over n g e.1) (finmap.entries segs)))
 
+-- the pairs of ids whose segments share a point, or that there are too many
+abbrev pub crossed : SegMap → SegMap → Reply
+crossed a b = if nat_lt 1000000 (length (crossings a b)) then Refused no.Many else Done (map pair_line (crossings a b))
+
 -- a block that is no farther from the pixel than the segment found
 abbrev pub is_near : Pixel → Option (ℕ × Fraction) → Block → Bool
 is_near at None b = false
@@ -95,6 +100,11 @@ pages_for n command segs cover = reach n segs cover (is_asked command segs)
 abbrev pub AreNotLinesAndRegion : State → List ℕ → List ℕ → Code → Type 0
 AreNotLinesAndRegion s l a code = (rs : List (Bool × Code)) (done : Outcome) →
     (unless (unknown s l ∷ unknown s a ∷ unless_lines s l ∷ unless_region s a ∷ rs) s done).reply ≡ Refused code
+
+-- where the tests of two line layers come first, they refuse with the code
+abbrev pub AreNotLines : State → List ℕ → List ℕ → Code → Type 0
+AreNotLines s l m code = (rs : List (Bool × Code)) (done : Outcome) →
+    (unless (unknown s l ∷ unknown s m ∷ unless_lines s l ∷ unless_lines s m ∷ rs) s done).reply ≡ Refused code
 
 module _ {W : Type 0} {D : disk.Ghosts W} where
   -- the view shows these segments and blocks over the book's pages
