@@ -33,6 +33,7 @@ pub mod Renewed
 pub mod Rasters
 pub mod Scatters
 pub mod Selects
+pub mod ShownLines
 pub mod TextLaws
 pub mod Uniforms
 pub mod ZeroPage

@@ -71,8 +71,8 @@ crossed a b = if nat_lt 1000000 (length (crossings a b)) then Refused no.Many el
 
 -- a block that is no farther from the pixel than the segment found
 abbrev pub is_near : Pixel → Option (ℕ × Fraction) → Block → Bool
-is_near at None b = false
-is_near at (Some e) b = is_close at e.1 b
+is_near at None = λ b. false
+is_near at (Some e) = is_close at e.1
 
 -- the blocks that the command may look into
 abbrev pub is_asked : Command → SegMap → Block → Bool
