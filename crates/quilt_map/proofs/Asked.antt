@@ -19,7 +19,7 @@ use Rattle.quilt_btree.specs.declared.tree.Tree.{Tree}
 use Rattle.quilt_region.specs.Regions.{HasRegion}
 use Rattle.quilt_blocks.specs.Raster.{Raster}
 use Rattle.quilt_edition.specs.declared.book.Book.{Book}
-use Rattle.quilt_edition.specs.Laws.{later_same}
+use Rattle.quilt_edition.specs.Laws.{later_same, later_on}
 use Rattle.quilt_map.specs.Asking.{IsStill}
 use Rattle.quilt_map.specs.Sessions.{tree_in}
 
@@ -30,6 +30,21 @@ module _ {W : Type 0} {D : disk.Ghosts W} where
     told = refl;
     free = refl;
     changed = omega arith;
+  }
+
+  -- one reading behind another
+  pub still_both : (a b c : Book W D) → IsStill a b → IsStill b c → IsStill a c
+  still_both a b c p q = record {
+    later = (
+      q.later.0 ∙ p.later.0,
+      q.later.1 ∙ p.later.1,
+      (q.later.2.0 ∙ p.later.2.0, q.later.2.1 ∙ p.later.2.1, q.later.2.2 ∙ p.later.2.2),
+      q.later.3 ∙ p.later.3,
+      later_on a.journal.pages b.journal.pages (D.told a.world) (D.told b.world) (D.told c.world) p.later.0 p.later.4 q.later.4,
+    );
+    told = q.told ∙ p.told;
+    free = q.free ∙ p.free;
+    changed = (let first = p.changed in let second = q.changed in omega arith);
   }
 
 -- the tree and the level of the same header

@@ -1,9 +1,12 @@
 -- What is read of a line layer through a view of its blocks, and the texts of what is found.
-use Rattle.std.proofs.Common.{◌≡◌, ℕ, zero, suc, ◌+◌, ◌^◌, ◌<◌, ◌≤◌, Bool, true, false, nat_lt, List, [], ◌∷◌, ◌++◌, length, take, fold, map, flat_map, filter, Option, Some, None, IfSome, Result, Ok, Err, refl, sym, ◌∙◌, ap, subst, arith, ltb-true, zero-add}
+use Rattle.std.proofs.Common.{◌≡◌, ℕ, zero, suc, ◌+◌, ◌^◌, ◌<◌, ◌≤◌, Bool, true, false, nat_lt, List, [], ◌∷◌, ◌++◌, length, take, fold, map, flat_map, filter, Option, Some, None, IfSome, Result, Ok, Err, refl, sym, ◌∙◌, ap, subst, arith, ltb-true, zero-add, Contains, Less, nat_cmp}
 use Rattle.std.specs.Prelude.{◌==◌, IfOk, decimal, if◌then◌else◌}
 use Rattle.std.specs.FinMap as finmap
 use Rattle.std.specs.FinMap.{len-entries}
+use Rattle.std.specs.List.{AllByRecursion}
+use Rattle.std.specs.List.Sorted.{IsStrictlyIncreasing, IsStrictlySortedBy}
 use Rattle.std.proofs.lemmas.Bool.{and_parts}
+use Rattle.std.proofs.lemmas.Map.Keys.{IsStrictlyIncreasing-from_sorted}
 use Rattle.std.proofs.lemmas.List.{map-append}
 use Rattle.quilt_types.specs.declared.code.Code.TheVariants as no
 use Rattle.quilt_types.specs.declared.plane.Block.{Block}
@@ -19,7 +22,9 @@ use Rattle.quilt_types.specs.Segments.{meets, nearest, clip_range, square_distan
 use Rattle.quilt_world.specs.declared.disk.Disk as disk
 use Rattle.quilt_words.specs.declared.command.Command.{Command}
 use Rattle.quilt_words.specs.declared.command.Command.TheVariants as commands
+use Rattle.quilt_loc.specs.Codes.{Rises}
 use Rattle.quilt_loc.proofs.Blocks.{side_most}
+use Rattle.quilt_loc.proofs.Members.{Contains-here, Contains-there}
 use Rattle.quilt_store.specs.Store.{Tells as StoreTells}
 use Rattle.quilt_node.specs.Pages.{IsHead}
 use Rattle.quilt_node.specs.declared.head.Head.{Head}
@@ -223,3 +228,16 @@ over_body n g segs list items all same t written = record {
 pub costs_at : (command : Command) (segs : SegMap) (cover : BlockSet) (m n : ℕ) (before now : Option ℕ) → m ≡ n
     → StoreTells (λ old new. new ≤ old + pages_for m command segs cover) before now → StoreTells (λ old new. new ≤ old + pages_for n command segs cover) before now
 costs_at command segs cover m n before now same h = subst (λ (k : ℕ). StoreTells (λ old new. new ≤ old + pages_for k command segs cover) before now) same h
+
+-- ---- ids that rise
+all_by : {X : Type 0} (P : X → Type 0) (xs : List X) → ((y : X) → Contains xs y → P y) → AllByRecursion P xs
+all_by P [] h = tt
+all_by P (x ∷ xs) h = (h x (Contains-here x xs), all_by P xs (λ y c. h y (Contains-there x xs y c)))
+
+sorted_ids : (ids : List ℕ) → Rises nat_cmp ids → IsStrictlySortedBy nat_cmp ids
+unfolding IsStrictlySortedBy
+sorted_ids [] h = tt
+sorted_ids (id ∷ ids) h = (all_by (λ y. nat_cmp id y ≡ Less) ids h.0, sorted_ids ids h.1)
+
+pub rising_ids : (ids : List ℕ) → Rises nat_cmp ids → IsStrictlyIncreasing ids
+rising_ids ids h = IsStrictlyIncreasing-from_sorted ids (sorted_ids ids h)

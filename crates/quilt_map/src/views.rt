@@ -1,5 +1,8 @@
-ghost use Rattle.std.specs.Prelude.{◌≡◌, ℕ, ◌+◌, ◌≤◌, true, Some, IfOk, IfErr, IsNone, IsSome, IfSome};
-ghost use Rattle.quilt_types.specs.Layers.{SegMap, BlockSet};
+ghost use Rattle.std.specs.Prelude.{◌≡◌, ℕ, ◌+◌, ◌≤◌, true, Some, map, All, IfOk, IfErr, IsNone, IsSome, IfSome};
+ghost use Rattle.std.specs.FinMap as finmap;
+ghost use Rattle.std.specs.List.Sorted.{IsStrictlyIncreasing};
+ghost use Rattle.quilt_types.specs.declared.stop.Stop.TheVariants as stops;
+ghost use Rattle.quilt_types.specs.Layers.{SegMap, BlockSet, is_in_square};
 ghost use Rattle.quilt_near.specs.Lines.{Lines};
 ghost use Rattle.quilt_store.specs.Store.{Tells as StoreTells};
 ghost use Rattle.quilt_btree.specs.Stops.{HasStopCause, IsSound};
@@ -7,7 +10,7 @@ ghost use Rattle.quilt_edition.specs.Books.{world_of, work_of};
 ghost use Rattle.quilt_replies.specs.States.{Tells};
 ghost use Rattle.quilt_map.specs.Asking.{IsStill, reads_in};
 ghost use Rattle.quilt_map.specs.LineLayers.{HoldsLines};
-ghost use Rattle.quilt_map.specs.Selecting.{layer_asked, is_place, AsksSome, HasFound, IsAnswered, pages_for, selected, selected_over, Shows};
+ghost use Rattle.quilt_map.specs.Selecting.{layer_asked, is_place, AsksSome, HasFound, IsAnswered, pages_for, selected, selected_over, crossed as crossed_of, Shows};
 
 use crate::asking::told;
 use crate::changing::DAMAGED;
@@ -15,15 +18,17 @@ use crate::lines::LineLayer;
 use crate::regions::tree_of;
 use quilt_blocks::LeafList;
 use quilt_edition::Book;
-use quilt_lines::LineView;
-use quilt_near::nearest;
+use quilt_join::crossings;
+use quilt_lines::{LineView, scan};
+use quilt_near::{SegList, nearest};
 use quilt_rank::ranked;
-use quilt_replies::{Reply, clips_text, ids_text, nearest_text, ranks_text, segs_text};
+use quilt_replies::{Reply, clips_text, ids_text, nearest_text, pairs_text, ranks_text, segs_text};
 use quilt_select::{clipped, cross, over};
-use quilt_types::{Code, Stop};
+use quilt_types::{Code, Seg, Stop};
 use quilt_words::Command;
 use quilt_world::Disk;
 use std::alloc::Global;
+use std::thread::Threads;
 
 /// The work's line layer, block by block: None where no layer has its number.
 fn view_of<W: Disk>(book: &Book<W>, layer: LineLayer) -> Option<LineView>
@@ -124,5 +129,49 @@ pub(crate) fn select_over<W: Disk>(
             Err(e) => Err(e),
             Ok(found) => told(ids_text(alloc, found.items())),
         },
+    }
+}
+
+/// The segments of the work's line layer, by id.
+pub(crate) fn read_segments<W: Disk>(
+    alloc: Global,
+    book: &mut Book<W>,
+    layer: LineLayer,
+) -> Result<SegList, Stop>
+    ensures segments { IfOk result (λ list. (segs : SegMap) (cover : BlockSet) → HoldsLines book.old layer segs cover → list ≡ finmap.entries segs) }
+    ensures inside { IfOk result (λ list. All (λ e. is_in_square (work_of book.old).level e.1 ≡ true) list) }
+    ensures order { IfOk result (λ list. IsStrictlyIncreasing (map (λ e. e.0) list)) }
+    ensures sound { IfErr result (λ e. (segs : SegMap) (cover : BlockSet) → 1 ≤ layer.number → HoldsLines book.old layer segs cover → IsSound e) }
+    ensures still { IsStill book.old book.new }
+    ensures cause { HasStopCause (W.faults (world_of book.old)) (W.faults (world_of book.new)) result }
+{
+    if layer.number == 0 {
+        return Err(DAMAGED);
+    }
+    let head = book.head();
+    scan(alloc, book, &tree_of(&head), layer.number, head.level)
+}
+
+/// The reply that lists the pairs of a segment of the first list and one of the second that share a point, by their ids. Each list
+/// has segments of the square of a level from 1 to 12, under ids that rise.
+pub(crate) fn crossed<R: Threads + Sync>(
+    rt: &R,
+    alloc: Global,
+    level: u8,
+    a: &[(u32, Seg)],
+    b: &[(u32, Seg)],
+) -> Result<Reply, Stop>
+    requires level { (1 ≤ level) × (level ≤ 12) }
+    requires first_ids { IsStrictlyIncreasing (map (λ e. e.0) a.now) }
+    requires second_ids { IsStrictlyIncreasing (map (λ e. e.0) b.now) }
+    requires first_ends { All (λ e. is_in_square level e.1 ≡ true) a.now }
+    requires second_ends { All (λ e. is_in_square level e.1 ≡ true) b.now }
+    ensures reply { IfOk result (λ reply. (first second : SegMap) → finmap.entries first ≡ a.now → finmap.entries second ≡ b.now → Tells reply (crossed_of first second)) }
+    ensures memory { IfErr result (λ stop. stop ≡ stops.Memory) }
+{
+    match crossings(rt, alloc, level, a, b) {
+        Err(_) => Err(Stop::Memory),
+        Ok(None) => Ok(Reply::No(Code::Many)),
+        Ok(Some(pairs)) => told(pairs_text(alloc, pairs.items())),
     }
 }

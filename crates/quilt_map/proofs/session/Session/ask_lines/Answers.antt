@@ -37,8 +37,8 @@ returns-then-not-has_place-clause-answer g c = λ s at.
 pub returns-then-not-has_place-clause-keeps : goal.returns-then-not-has_place-clause-keeps
 returns-then-not-has_place-clause-keeps g c = keeps_here {D = g.W.Disk} c.args.self.now c.args.self.now.warm
 
-pub returns-clause-answer : goal.returns-clause-answer
-returns-clause-answer g c =
+pub returns-else-not-has_place-clause-answer : goal.returns-else-not-has_place-clause-answer
+returns-else-not-has_place-clause-answer g c =
     if_ok _ _ c.select_in.result (λ given tells s at.
     let old = c.args.self.now in
     let command = c.args.command.now in
@@ -49,14 +49,14 @@ returns-clause-answer g c =
     asked_on {D = g.W.Disk} s command (ask_asks command name c.requires.asks s) old at c.select_in.new.book old.warm given c.select_in.ensures.still (g.met.W.Disk.is_consistent c.select_in.new.book.world)
     (subst (λ (r : answers.Reply). Tells given r) (sym done) (tells found.segs found.cover found.holds))) c.select_in.ensures.reply
 
-pub returns-clause-sound : goal.returns-clause-sound
-returns-clause-sound g c =
+pub returns-else-not-has_place-clause-sound : goal.returns-else-not-has_place-clause-sound
+returns-else-not-has_place-clause-sound g c =
     if_err _ _ c.select_in.result (λ e p s at.
     let found = found_lines {D = g.W.Disk} c.args.self.now s at c.args.name.now c.in-Ok.layer c.entries.result.now c.entries.ensures.entries c.in-Ok.ensures.found in
     p found.segs found.cover found.least found.holds) c.select_in.ensures.sound
 
-pub returns-clause-reads : goal.returns-clause-reads
-returns-clause-reads g c =
+pub returns-else-not-has_place-clause-reads : goal.returns-else-not-has_place-clause-reads
+returns-else-not-has_place-clause-reads g c =
     if_ok _ _ c.select_in.result (λ given p s at.
     let old = c.args.self.now in
     let command = c.args.command.now in
