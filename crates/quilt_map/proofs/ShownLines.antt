@@ -1,5 +1,5 @@
 -- What is read of a line layer through a view of its blocks, and the texts of what is found.
-use Rattle.std.proofs.Common.{◌≡◌, ℕ, zero, suc, ◌+◌, ◌^◌, ◌<◌, ◌≤◌, Bool, true, false, nat_lt, List, [], ◌∷◌, ◌++◌, length, take, fold, map, flat_map, filter, Option, Some, None, IfSome, Result, Ok, Err, refl, sym, ◌∙◌, ap, subst, arith, ltb-true, zero-add, Contains, Less, nat_cmp}
+use Rattle.std.proofs.Common.{◌≡◌, ℕ, zero, suc, ◌+◌, ◌^◌, ◌<◌, ◌≤◌, Bool, true, false, nat_lt, List, [], ◌∷◌, ◌++◌, length, take, fold, map, flat_map, filter, Option, Some, None, IfSome, Result, Ok, Err, refl, sym, ◌∙◌, ap, subst, arith, ltb-true, zero-add, All, Contains, Less, nat_cmp}
 use Rattle.std.specs.Prelude.{◌==◌, IfOk, decimal, if◌then◌else◌}
 use Rattle.std.specs.FinMap as finmap
 use Rattle.std.specs.FinMap.{len-entries}
@@ -14,7 +14,7 @@ use Rattle.quilt_types.specs.declared.plane.Pixel.{Pixel}
 use Rattle.quilt_types.specs.declared.plane.Seg.{Seg}
 use Rattle.quilt_types.specs.declared.plane.Window.{Window}
 use Rattle.quilt_types.specs.Fractions.{Fraction}
-use Rattle.quilt_types.specs.Layers.{SegMap, BlockSet, Grid}
+use Rattle.quilt_types.specs.Layers.{SegMap, BlockSet, Grid, is_in_square}
 use Rattle.quilt_types.specs.Plane.{is_pixel}
 use Rattle.quilt_types.specs.Quadtrees.{reach}
 use Rattle.quilt_types.specs.Ranking.{comes_first, placed, ranked}
@@ -241,3 +241,8 @@ sorted_ids (id ∷ ids) h = (all_by (λ y. nat_cmp id y ≡ Less) ids h.0, sorte
 
 pub rising_ids : (ids : List ℕ) → Rises nat_cmp ids → IsStrictlyIncreasing ids
 rising_ids ids h = IsStrictlyIncreasing-from_sorted ids (sorted_ids ids h)
+
+-- segments of the square, by other names of the list and the level
+pub ends_at : (list items : List (ℕ × Seg)) (m n : ℕ) → items ≡ list → n ≡ m → All (λ e. is_in_square m e.1 ≡ true) list → All (λ e. is_in_square n e.1 ≡ true) items
+ends_at list items m n same level h =
+    subst (λ (es : List (ℕ × Seg)). All (λ e. is_in_square n e.1 ≡ true) es) (sym same) (subst (λ (k : ℕ). All (λ e. is_in_square k e.1 ≡ true) list) (sym level) h)
