@@ -1,19 +1,20 @@
 -- What a segment that comes changes on each block that it meets.
-use Rattle.std.proofs.Common.{◌≡◌, ◌↔◌, ℕ, ◌+◌, ◌<◌, ◌≤◌, Bool, true, false, ◌&&◌, cond, nat_lt, List, [], ◌∷◌, ◌++◌, length, map, filter, flat_map, None, refl, sym, ◌∙◌, ap, subst, ◌⊎◌, inl, inr, ⊎_elim, arith, Contains, eqb, lt-ltb, ltb-true, ◌^◌, length-append, append_assoc}
+use Rattle.std.proofs.Common.{◌≡◌, ◌↔◌, ℕ, ◌+◌, ◌<◌, ◌≤◌, Bool, true, false, ◌&&◌, not, take, get_or, cond, nat_lt, List, [], ◌∷◌, ◌++◌, length, map, filter, flat_map, None, refl, sym, ◌∙◌, ap, subst, ◌⊎◌, inl, inr, ⊎_elim, arith, Contains, eqb, lt-ltb, ltb-true, ◌^◌, length-append, append_assoc}
 use Rattle.std.specs.FinMap as finmap
 use Rattle.std.specs.FinMap.{nat_cmp-IsAntisymmetric}
 use Rattle.std.specs.Ordering.{nat_cmp}
 use Rattle.std.specs.Cmp.{nat_cmp_total}
 use Rattle.std.specs.List.Sorted.{IsPermutation}
 use Rattle.std.proofs.lemmas.Bool.{and_from, and_parts}
-use Rattle.std.proofs.lemmas.List.{append-nil, map-append}
+use Rattle.std.proofs.lemmas.List.{append-nil, map-append, take_all}
 use Rattle.std.proofs.lemmas.Grind.{flat_map-append}
 use Rattle.std.proofs.lemmas.List.Sums.{length-filter}
 use Rattle.std.proofs.lemmas.List.Elements.{Contains-append_left, Contains-append_right, Contains-append_cases}
 use Rattle.std.proofs.lemmas.List.Sorted.{IsPermutation-refl, IsPermutation-trans, IsPermutation-append_left, IsPermutation-append_right, IsPermutation-map, length_permutation}
+use Rattle.quilt_types.specs.Sets as finset
 use Rattle.quilt_types.specs.declared.plane.Block.{Block}
 use Rattle.quilt_types.specs.declared.plane.Seg.{Seg}
-use Rattle.quilt_types.specs.Plane.{quarters_of, whole, IsBlock}
+use Rattle.quilt_types.specs.Plane.{side, quarters_of, whole, IsBlock}
 use Rattle.quilt_types.specs.Layers.{Lines, SegMap, BlockSet, IsLineMap, is_in_square}
 use Rattle.quilt_types.specs.Segments.{square, meets}
 use Rattle.quilt_types.specs.Quadtrees.{is_split, segs_meeting, after_add}
@@ -26,6 +27,7 @@ use Rattle.quilt_spell.specs.Apart.{Apart}
 use Rattle.quilt_spell.proofs.Lists.{Apart-append, Apart-filter, same_length}
 use Rattle.quilt_spell.proofs.Maps.{get_inserted, get_others}
 use Rattle.quilt_edits.specs.Edits.{CanBeEdits}
+use Rattle.quilt_edits.proofs.Lists.{take_next}
 use Rattle.quilt_line_laws.specs.Lines.{none_on, added_on, removed_on, IsAlone, IsMetList, facts_added, facts_removed, with_seg}
 use Rattle.quilt_line_laws.specs.Merging.{met_in}
 use Rattle.quilt_line_laws.proofs.Adding.{same_seg_value, no_seg, same_id, add_law}
@@ -250,6 +252,53 @@ module _ (n layer t : ℕ) (segs : SegMap) (id : ℕ) (s : Seg) where
       (sym (line_facts_by segs b ids are) ∙ sym (ap (λ u. cond {A = List Fact} u (line_facts segs b) (none_on segs b)) cut)) c
       (subst (λ (fs : List Fact). IsPermutation fs coming)
       (sym (ap (λ u. cond {A = List Fact} u (flat_map (line_facts (finmap.insert segs id s)) (quarters_of b)) (IsMetBy b id ∷ [])) cut)) (quarter_facts segs id s new n b hb wide))
+
+-- ---- a descent
+module _ (cover : BlockSet) (s : Seg) where
+  pub met_away : (k : ℕ) (b : Block) → meets s (square b) ≡ false → met_in cover s k b ≡ []
+  met_away ℕ.zero b e = ap (λ u. cond {A = List Block} u (b ∷ []) []) (and_false (finset.contains cover b) (meets s (square b)) e)
+    where
+      and_false : (u v : Bool) → v ≡ false → (u && v) ≡ false
+      and_false true v h = h
+      and_false false v h = refl
+  met_away (ℕ.suc k) b e = ap (λ u. cond {A = List Block} (not u) [] (cond {A = List Block} (finset.contains cover b) (b ∷ []) (flat_map (met_in cover s k) (quarters_of b)))) e
+
+  pub met_here : (k : ℕ) (b : Block) → meets s (square b) ≡ true → finset.contains cover b ≡ true → met_in cover s k b ≡ b ∷ []
+  met_here ℕ.zero b m e = ap (λ u. cond {A = List Block} u (b ∷ []) []) (and_from (finset.contains cover b) (meets s (square b)) e m)
+  met_here (ℕ.suc k) b m e =
+      ap (λ u. cond {A = List Block} (not u) [] (cond {A = List Block} (finset.contains cover b) (b ∷ []) (flat_map (met_in cover s k) (quarters_of b)))) m
+      ∙ ap (λ u. cond {A = List Block} u (b ∷ []) (flat_map (met_in cover s k) (quarters_of b))) e
+
+  pub met_below : (k : ℕ) (b : Block) → meets s (square b) ≡ true → finset.contains cover b ≡ false → met_in cover s (ℕ.suc k) b ≡ flat_map (met_in cover s k) (quarters_of b)
+  met_below k b m e =
+      ap (λ u. cond {A = List Block} (not u) [] (cond {A = List Block} (finset.contains cover b) (b ∷ []) (flat_map (met_in cover s k) (quarters_of b)))) m
+      ∙ ap (λ u. cond {A = List Block} u (b ∷ []) (flat_map (met_in cover s k) (quarters_of b))) e
+
+module _ (n layer t : ℕ) (segs : SegMap) (id : ℕ) (s : Seg) where
+  -- one quarter more
+  pub added_next : (f : Block → List Block) (qs : List Block) (i : ℕ) (d : Block) (gone more most come some all : List Record) → i < length qs → IsAdded n layer t segs id s (flat_map f (take i qs)) gone more come some
+      → IsAdded n layer t segs id s (f (get_or qs i d)) more most some all → IsAdded n layer t segs id s (flat_map f (take (i + 1) qs)) gone most come all
+  added_next f qs i d gone more most come some all lt a b =
+      let split : flat_map f (take i qs) ++ f (get_or qs i d) ≡ flat_map f (take (i + 1) qs) =
+      ap (λ (bs : List Block). flat_map f (take i qs) ++ bs) (sym (append-nil (f (get_or qs i d)))) ∙ sym (flat_map-append f (take i qs) (get_or qs i d ∷ [])) ∙ ap (flat_map f) (sym (take_next qs i d lt)) in
+      subst (λ (bs : List Block). IsAdded n layer t segs id s bs gone most come all) split (added_append n layer t segs id s (flat_map f (take i qs)) (f (get_or qs i d)) gone more most come some all a b)
+
+  pub added_all : (f : Block → List Block) (qs : List Block) (i : ℕ) (gone most come all : List Record) → length qs ≤ i → IsAdded n layer t segs id s (flat_map f (take i qs)) gone most come all → IsAdded n layer t segs id s (flat_map f qs) gone most come all
+  added_all f qs i gone most come all le a = subst (λ (bs : List Block). IsAdded n layer t segs id s (flat_map f bs) gone most come all) (take_all i qs le) a
+
+  -- the four quarters of a block that is none of the layer's
+  pub added_below : (cover : BlockSet) (k : ℕ) (b : Block) (gone most come all : List Record) → b.side ≡ side k → 1 < b.side → meets s (square b) ≡ true → finset.contains cover b ≡ false
+      → ((j : ℕ) → b.side ≡ side (ℕ.suc j) → IsAdded n layer t segs id s (flat_map (met_in cover s j) (quarters_of b)) gone most come all) → IsAdded n layer t segs id s (met_in cover s k b) gone most come all
+  added_below cover ℕ.zero b gone most come all e wide m away below = absurd (omega arith)
+  added_below cover (ℕ.suc j) b gone most come all e wide m away below = subst (λ (bs : List Block). IsAdded n layer t segs id s bs gone most come all) (sym (met_below cover s j b m away)) (below j e)
+
+  -- from the whole square on, behind the segment's own record
+  pub added_whole : (cover : BlockSet) (b : Block) (gone all_gone come all_come : List Record) (r : Record) → b ≡ whole n → gone ≡ [] → come ≡ r ∷ [] → r ≡ fact_record n layer (IsSegment id s) → IsAdded n layer t segs id s (met_in cover s n b) gone all_gone come all_come
+      → IsAdded n layer t segs id s (met_in cover s n (whole n)) [] all_gone (fact_record n layer (IsSegment id s) ∷ []) all_come
+  added_whole cover b gone all_gone come all_come r square none one row a =
+      subst (λ (rs : List Record). IsAdded n layer t segs id s (met_in cover s n (whole n)) [] all_gone rs all_come) (one ∙ ap (λ (z : Record). z ∷ []) row)
+      (subst (λ (rs : List Record). IsAdded n layer t segs id s (met_in cover s n (whole n)) rs all_gone come all_come) none
+      (subst (λ (z : Block). IsAdded n layer t segs id s (met_in cover s n z) gone all_gone come all_come) square a))
 
 -- ---- the whole addition
 module _ (n layer t : ℕ) (le : n ≤ 12) (least : 1 ≤ layer) (segs : SegMap) (cover : BlockSet) (id : ℕ) (s : Seg) (valid : IsLineMap n t segs cover) (new : finmap.get segs id ≡ None) (small : id < 2 ^ 32) (inside : is_in_square n s ≡ true)

@@ -7,8 +7,10 @@ mod beginning;
 mod counting;
 mod laws;
 mod listing;
+mod merging;
 mod removing;
 mod segments;
+mod settling;
 mod square;
 mod view;
 

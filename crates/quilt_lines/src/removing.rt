@@ -1,19 +1,27 @@
-ghost use Rattle.std.specs.Prelude.{◌≡◌, ◌↔◌, ◌≤◌, ◌<◌, length, IfOk, IfErr, IfSome, IsNone, Some};
+ghost use Rattle.std.specs.Prelude.{◌≡◌, ◌↔◌, ◌≤◌, ◌<◌, ◌++◌, ◌∷◌, length, IfOk, IfErr, IfSome, IsErrOf, IsNone, Some};
 ghost use Rattle.std.specs.FinMap as finmap;
 ghost use Rattle.quilt_types.specs.declared.plane.Seg.{Seg as AnySeg};
-ghost use Rattle.quilt_types.specs.Layers.{SegMap, BlockSet};
+ghost use Rattle.quilt_types.specs.declared.stop.Stop.TheVariants.{Device};
+ghost use Rattle.quilt_types.specs.Plane.{whole};
+ghost use Rattle.quilt_types.specs.Layers.{SegMap, BlockSet, IsLineMap};
+ghost use Rattle.quilt_types.specs.Facts.{IsSegment};
 ghost use Rattle.quilt_types.specs.Quadtrees.{after_remove};
 ghost use Rattle.quilt_btree.specs.Stops.{HasStopCause, IsSound};
 ghost use Rattle.quilt_btree.specs.Trees.{IsRooted};
 ghost use Rattle.quilt_edits.specs.Edits.{AreInOrder};
-ghost use Rattle.quilt_lines.specs.Layers.{HasLines};
+ghost use Rattle.quilt_lines.specs.Layers.{HasLines, fact_record};
+ghost use Rattle.quilt_lines.specs.Merges.{Settles};
 ghost use Rattle.quilt_lines.specs.Plans.{IsLinePlan};
 
+use crate::merging::{Removal, Settled};
+use crate::segments::segment;
+use crate::square::whole_square;
 use quilt_btree::Tree;
-use quilt_record::Edits;
+use quilt_edits::edits_of;
+use quilt_record::{Edits, Record, segment_record};
 use quilt_store::PageStore;
 use quilt_types::Stop;
-use std::alloc::Global;
+use std::alloc::{AllocError, Global};
 
 /// The records that go and those that come when the segment of an id goes from the line layer with this number, from 1 to 255, and
 /// this splitting threshold, from 1 to 32, of a map of this level, from 1 to 12: None exactly where the id is not there. Fewer
@@ -44,5 +52,80 @@ pub fn plan_remove<S: PageStore>(
     ensures later { S.later store.old store.new }
     ensures changed { S.changed store.new ≤ S.changed store.old }
 {
-    Err(Stop::Memory)
+    match segment(store, tree, layer, level, id) {
+        Err(e) => Err(e),
+        Ok(None) => Ok(None),
+        Ok(Some(s)) => {
+            let removal = Removal {
+                layer,
+                level,
+                threshold: t,
+                id,
+                segment: s,
+            };
+            match removal.plan(alloc, store, tree) {
+                Err(e) => Err(e),
+                Ok(edits) => Ok(Some(edits)),
+            }
+        }
+    }
+}
+
+impl Removal {
+    /// The records that go and those that come.
+    fn plan<S: PageStore>(&self, alloc: Global, store: &mut S, tree: &Tree) -> Result<Edits, Stop>
+        requires rooted { IsRooted (S.size store.old) tree.now }
+        ensures plan { IfOk result (λ edits. (segs : SegMap) (cover : BlockSet) → HasLines (S.told store.old) tree.now self.now.layer self.now.level self.now.threshold segs cover → finmap.get segs self.now.id ≡ Some self.now.segment →
+            IsLinePlan self.now.level self.now.layer self.now.threshold segs (finmap.remove segs self.now.id) cover (after_remove self.now.level self.now.threshold (finmap.remove segs self.now.id) cover self.now.segment) edits × (length edits.add < length edits.remove)) }
+        ensures order { IfOk result AreInOrder }
+        ensures sound { IfErr result (λ e. (segs : SegMap) (cover : BlockSet) → HasLines (S.told store.old) tree.now self.now.layer self.now.level self.now.threshold segs cover → finmap.get segs self.now.id ≡ Some self.now.segment → IsSound e) }
+        ensures cause { HasStopCause (S.faults store.old) (S.faults store.new) result }
+        ensures size { S.size store.new ≡ S.size store.old }
+        ensures told { S.told store.new ≡ S.told store.old }
+        ensures free { S.free store.new ≡ S.free store.old }
+        ensures later { S.later store.old store.new }
+        ensures changed { S.changed store.new ≤ S.changed store.old }
+    {
+        match self.settle(alloc, store, tree, whole_square(self.level)) {
+            Err(e) => Err(e),
+            Ok(all) => self.edits(alloc, &all),
+        }
+    }
+
+    /// The records that go and those that come, by what becomes of the whole square.
+    fn edits(&self, alloc: Global, all: &Settled) -> Result<Edits, Stop>
+        ensures plan { IfOk result (λ edits. (segs : SegMap) (cover : BlockSet) → IsLineMap self.now.level self.now.threshold segs cover → finmap.get segs self.now.id ≡ Some self.now.segment → Settles self.now.level self.now.layer self.now.threshold self.now.id segs cover self.now.segment self.now.level (whole self.now.level) all.now →
+            IsLinePlan self.now.level self.now.layer self.now.threshold segs (finmap.remove segs self.now.id) cover (after_remove self.now.level self.now.threshold (finmap.remove segs self.now.id) cover self.now.segment) edits × (length edits.add < length edits.remove)) }
+        ensures order { IfOk result AreInOrder }
+        ensures sound { IfErr result (λ e. (segs : SegMap) (cover : BlockSet) → IsLineMap self.now.level self.now.threshold segs cover → finmap.get segs self.now.id ≡ Some self.now.segment → Settles self.now.level self.now.layer self.now.threshold self.now.id segs cover self.now.segment self.now.level (whole self.now.level) all.now → IsSound e) }
+        ensures no_fault { IsErrOf result Device → ⊥ }
+    {
+        let Ok(gone) = self.gone(alloc, all) else {
+            return Err(Stop::Memory);
+        };
+        let Ok(back) = back(alloc, all) else {
+            return Err(Stop::Memory);
+        };
+        edits_of(alloc, gone, back)
+    }
+
+    /// The records that go.
+    fn gone(&self, alloc: Global, all: &Settled) -> Result<Vec<Record>, AllocError>
+        ensures { IfOk result (λ v. v.items ≡ fact_record self.now.level self.now.layer (IsSegment self.now.id self.now.segment) ∷ all.now.going.items ++ all.now.staying.items) }
+    {
+        let mut gone = Vec::new(alloc);
+        gone.push(segment_record(self.layer, self.id, self.segment))?;
+        gone.extend_from_slice(&all.going)?;
+        gone.extend_from_slice(&all.staying)?;
+        Ok(gone)
+    }
+}
+
+/// The records that come.
+fn back(alloc: Global, all: &Settled) -> Result<Vec<Record>, AllocError>
+    ensures { IfOk result (λ v. v.items ≡ all.now.coming.items ++ all.now.emptied.items) }
+{
+    let mut back = Vec::from_slice(alloc, &all.coming)?;
+    back.extend_from_slice(&all.emptied)?;
+    Ok(back)
 }
