@@ -7,6 +7,10 @@ use Rattle.quilt_types.specs.Crossings.{shares}
 abbrev pub ids_sharing : Seg → List (ℕ × Seg) → List ℕ
 ids_sharing s b = map (λ f. f.0) (filter (λ f. shares s f.1) b)
 
+-- the pairs of an id with each of a list
+abbrev pub pairs_with : ℕ → List ℕ → List (ℕ × ℕ)
+pairs_with id others = map (λ other. (id, other)) others
+
 -- the pairs of ids whose segments share a point, in the order of the first list and then of the second
 abbrev pub crossings_of : List (ℕ × Seg) → List (ℕ × Seg) → List (ℕ × ℕ)
 crossings_of a b = flat_map (λ e. map (λ f. (e.0, f.0)) (filter (λ f. shares e.1 f.1) b)) a

@@ -36,6 +36,14 @@ impl PairList {
         Ok(())
     }
 
+    /// Adds pairs at the end, or changes nothing where no memory is left.
+    pub(crate) fn append(&mut self, pairs: &[(u32, u32)]) -> Result<(), AllocError>
+        ensures { OnOk result (self.new ≡ self.old ++ pairs.now) }
+    {
+        self.pairs.extend_from_slice(pairs)?;
+        Ok(())
+    }
+
     /// The pairs.
     pub fn items(&self) -> &[(u32, u32)]
         ensures { result.now ≡ self.now }
