@@ -80,7 +80,17 @@ impl<W: World> Session<W> {
             Command::Layers => self.layers(),
             Command::Records => self.records(),
             Command::Edition => self.edition(),
-            _ => unreachable!(),
+            Command::Blocks { .. } => Err(Stop::Memory),
+            Command::Lines { .. } => Err(Stop::Memory),
+            Command::Line { .. } => Err(Stop::Memory),
+            Command::Unline { .. } => Err(Stop::Memory),
+            Command::Cross { .. } => Err(Stop::Memory),
+            Command::Clip { .. } => Err(Stop::Memory),
+            Command::Nearest { .. } => Err(Stop::Memory),
+            Command::Rank { .. } => Err(Stop::Memory),
+            Command::Over { .. } => Err(Stop::Memory),
+            Command::Crossings { .. } => Err(Stop::Memory),
+            Command::Publish | Command::Upgrade | Command::Revert => unreachable!(),
         }
     }
 }
