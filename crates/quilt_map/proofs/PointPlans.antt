@@ -24,15 +24,16 @@ use Rattle.quilt_points.proofs.Spelled.{points_law}
 use Rattle.quilt_edition.specs.declared.book.Book.{Book}
 use Rattle.quilt_replies.specs.Answers.{State, with}
 use Rattle.quilt_map.specs.Asking.{IsLayerUnder, IsStill}
-use Rattle.quilt_map.specs.Planning.{IsPlan, IsAmendment}
+use Rattle.quilt_map.specs.Planning.{IsAmendment}
 use Rattle.quilt_map.specs.PointLayers.{IsPointsAt, IsPointsIn, HoldsPoints}
 use Rattle.quilt_map.specs.Sessions.{IsAtState, told_of, tree_in}
 use Rattle.quilt_map.specs.declared.points.PointLayer.{PointLayer}
 use Rattle.quilt_map.specs.declared.session.Session.{Session}
-use Rattle.quilt_map.proofs.Amends.{amendment, mid_at}
+use Rattle.quilt_map.proofs.Amends.{amendment, mid_at, never_more}
 use Rattle.quilt_map.proofs.Answered.{level_is}
 use Rattle.quilt_map.proofs.Asked.{layer_is}
-use Rattle.quilt_map.proofs.ChangeSteps.{at_most, at_spelled, counted}
+use Rattle.quilt_map.proofs.ChangeSteps.{at_most, at_spelled}
+use Rattle.quilt_map.proofs.HeldLayers.{held_as, layer_there, layer_number, layer_fits}
 use Rattle.quilt_map.proofs.Moving.{IsLawful, with_book}
 
 -- the layer that was found, under each numbering that the entries give
@@ -67,34 +68,21 @@ plan_of b layer next o edits is h =
 
 -- the tree and the level of the same header
 pub points_as : (told : Option (List (List ℕ))) (number bucket : ℕ) (points : PointMap) (h k : Head) (t : Tree) → h ≡ k → t ≡ tree_in h → HasPoints told (tree_in k) number k.level bucket points → HasPoints told t number h.level bucket points
-points_as told number bucket points h k t same tree has =
-    subst (λ (x : Tree). HasPoints told x number h.level bucket points) (sym tree) (subst (λ (x : Head). HasPoints told (tree_in x) number x.level bucket points) (sym same) has)
+points_as told number bucket points h k t same tree has = held_as told number (Points bucket points) h k t same tree has
 
 module _ {W : Type 0} {D : disk.Ghosts W} (session : Session W D) (s : State) (at : IsAtState session s) where
-  -- what does not make more records stays within the quota
-  pub never_more : (name : List ℕ) (number : ℕ) (layer : Layer) (removed added : List Record) → IsPlan s at.work.numbers name number (Some layer) removed added → length added ≤ length removed
-      → records s.last.level (with s name layer) ≤ s.quota
-  never_more name number layer removed added plan fewer =
-      let c = counted session s at name number (Some layer) removed added plan in
-      let q = at.quota in
-      let most = session.book.next.records in
-      omega arith
-
   module _ (name : List ℕ) (layer : PointLayer) (points : PointMap) (is : IsPointsIn s.work session.catalog name layer points) where
     here : layer.number ≡ number_of at.work.numbers name
     here = is.numbered at.work.numbers at.work.catalog
 
     pub points_there : HoldsPoints session.book layer points
-    points_there =
-        subst (λ (k : ℕ). HasPoints (told_of session.book) (tree_in session.book.work) k session.book.work.level layer.bucket points) (sym here)
-        (subst (λ (o : Option (List (List ℕ))). HasPoints o (tree_in session.book.work) (number_of at.work.numbers name) session.book.work.level layer.bucket points) (sym at.pages_told)
-        (points_law session.book.work.format session.book.work.level at.work.numbers at.work.records s.work name layer.bucket points session.book.next.level.1 at.work.spelled is.got (Some at.pages) (tree_in session.book.work) at.work.whole.tree))
+    points_there = layer_there session s at name layer.number (Points layer.bucket points) is.got here
 
     pub number_there : 1 ≤ layer.number
-    number_there = let least = (number_fits s.work at.work.numbers at.work.spelled.numbering name (Points layer.bucket points) is.got).0 in let same = here in omega arith
+    number_there = layer_number session s at name layer.number (Points layer.bucket points) is.got here
 
     points_fit : IsPointMap s.last.format s.last.level layer.bucket points
-    points_fit = layer_is s.last.format s.last.level s.work (at_spelled session s at).map name (Points layer.bucket points) is.got
+    points_fit = layer_fits session s at name layer.number (Points layer.bucket points) is.got here
 
     -- a point layer becomes another
     pub point_amendment : (next : PointMap) (edits : Edits) → plans.IsPlan s.last.level layer.number layer.bucket points next edits → AreInOrder edits
@@ -107,7 +95,7 @@ module _ {W : Type 0} {D : disk.Ghosts W} (session : Session W D) (s : State) (a
     pub del_within : (p : Pixel) (label : ℕ) (edits : Edits) → finmap.get points p ≡ Some label → plans.IsPlan s.last.level layer.number layer.bucket points (finmap.remove points p) edits → AreInOrder edits
         → records s.last.level (with s name (Points layer.bucket (finmap.remove points p))) ≤ s.quota
     del_within p label edits there plan order =
-        never_more name layer.number (Points layer.bucket (finmap.remove points p)) edits.remove edits.add (point_amendment (finmap.remove points p) edits plan order).plan
+        never_more session s at name layer.number (Points layer.bucket (finmap.remove points p)) edits.remove edits.add (point_amendment (finmap.remove points p) edits plan order).plan
         (del_count_law s.last.format s.last.level name layer.number layer.bucket (at_most session s at) number_there points points_fit p label there edits.remove edits.add (plan.leads name))
 
 -- ---- once the layer was read

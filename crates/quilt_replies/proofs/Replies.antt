@@ -123,7 +123,7 @@ module _ (counts : List ℕ) where
       λ sides is. let z : k ≡ 0 = omega arith in h (block_lines level sides) (counted counts sides is level text le (subst (λ (j : ℕ). IsCounting level counts j text) z c))
   counted_reply (Err e) level k text h le c none = tt
 
--- ---- the sides of a region's leaves
+-- ---- the sides of blocks
 module _ {X : Type 0} where
   count_map : (p : ℕ → Bool) (f : X → ℕ) (xs : List X) → count_by p (map f xs) ≡ count_by (λ x. p (f x)) xs
   count_map p f [] = refl
@@ -131,13 +131,9 @@ module _ {X : Type 0} where
       sum_by-cons (λ (y : ℕ). cond {A = ℕ} (p y) 1 0) (f x) (map f xs) ∙ ap (λ n. cond {A = ℕ} (p (f x)) 1 0 + n) (count_map p f xs)
       ∙ sym (sum_by-cons (λ (y : X). cond {A = ℕ} (p (f y)) 1 0) x xs)
 
-pub region_counts : (counts : List ℕ) (n : ℕ) (g : List ℕ) → ((k : ℕ) → k ≤ 12 → slice_index counts k ≡ count_by (λ e. e.0.side == side k) (leaves n g)) → HasCounts counts (sides_of n (Region g))
-region_counts counts n g h = record { each = λ k le. h k le ∙ sym (count_map (λ s. s == side k) (λ l. l.0.side) (leaves n g)) }
-
-pub region_reply : {E : Type 0} (r : Result (List ℕ) E) (counts : List ℕ) (m n : ℕ) (g : List ℕ) → m ≡ n → IfOk r (λ all. (sides : List ℕ) → HasCounts counts sides → all ≡ text_of (Done (block_lines m sides)))
-    → ((k : ℕ) → k ≤ 12 → slice_index counts k ≡ count_by (λ e. e.0.side == side k) (leaves n g)) → IfOk r (λ all. all ≡ text_of (Done (block_lines n (sides_of n (Region g)))))
-region_reply (Ok all) counts m n g same h is = h (sides_of n (Region g)) (region_counts counts n g is) ∙ ap (λ (j : ℕ). text_of (Done (block_lines j (sides_of n (Region g))))) same
-region_reply (Err e) counts m n g same h is = tt
+  -- counts of those that have each side are counts of their sides
+  pub counts_of : (side_in : X → ℕ) (xs : List X) (counts : List ℕ) → ((k : ℕ) → k ≤ 12 → slice_index counts k ≡ count_by (λ x. side_in x == side k) xs) → HasCounts counts (map side_in xs)
+  counts_of side_in xs counts h = record { each = λ k le. h k le ∙ sym (count_map (λ s. s == side k) side_in xs) }
 
 -- ---- the lines of layers
 kind_line : (l : Layer) → words_of_kind (kind_of l) ≡ kind_words l
