@@ -7,3 +7,7 @@ pub mod Listed
 pub mod Sums
 pub mod Scans
 pub mod Spelled
+pub mod Permutations
+pub mod Changes
+pub mod Beginnings
+pub mod Additions

@@ -2,3 +2,4 @@ pub mod Layers
 pub mod Reads
 pub mod Laws
 pub mod Plans
+pub mod Adding
