@@ -61,8 +61,6 @@ lines_as told layer segs cover h k t same tree has = held_as told layer.number (
 module _ {W : Type 0} {D : disk.Ghosts W} (session : Session W D) (s : State) (at : IsAtState session s) (name : List ℕ) (layer : LineLayer) where
   -- what a line layer gives: that the work's records spell it, its number, and that it is one
   pub record IsThere (segs : SegMap) (cover : BlockSet) : Type 0 where
-    pub is : IsLinesIn s.work session.catalog name layer segs cover
-    pub numbered : layer.number ≡ number_of at.work.numbers name
     pub holds : HoldsLines session.book layer segs cover
     pub least : 1 ≤ layer.number
     pub fits : IsLineMap s.last.level layer.threshold segs cover
@@ -71,23 +69,25 @@ module _ {W : Type 0} {D : disk.Ghosts W} (session : Session W D) (s : State) (a
   lines_there segs cover is =
       let here = is.numbered at.work.numbers at.work.catalog in
       let lines = Lines layer.threshold segs cover in record {
-        is = is;
-        numbered = here;
         holds = layer_there session s at name layer.number lines is.got here;
         least = layer_number session s at name layer.number lines is.got here;
         fits = layer_fits session s at name layer.number lines is.got here;
       }
 
-  -- the line layer that was found, with its segments and blocks
+  -- what a line layer that was found gives, with its segments and blocks
   pub record Found : Type 0 where
     pub segs : SegMap
     pub cover : BlockSet
-    pub there : IsThere segs cover
+    pub is : IsLinesIn s.work session.catalog name layer segs cover
+    pub holds : HoldsLines session.book layer segs cover
+    pub least : 1 ≤ layer.number
+    pub fits : IsLineMap s.last.level layer.threshold segs cover
 
   pub found_lines : (entries : List Entry) → entries ≡ session.catalog → ((m : Map) (k : Numbering) → IsCatalogOf m k entries → IsLinesAt m k name layer) → Found
   found_lines entries same found =
       let l = lines_in s.work at.work.numbers entries session.catalog name layer same at.work.catalog found in
-      record { segs = l.0; cover = l.1; there = lines_there l.0 l.1 l.2 }
+      let there = lines_there l.0 l.1 l.2 in
+      record { segs = l.0; cover = l.1; is = l.2; holds = there.holds; least = there.least; fits = there.fits }
 
 -- ---- plans, once the layer was read
 module _ {W : Type 0} {D : disk.Ghosts W} (old : Session W D) (s : State) (at : IsAtState old s) (b : Book W D) (still : IsStill old.book b) (law : IsLawful (D.size b.world) (D.told b.world))

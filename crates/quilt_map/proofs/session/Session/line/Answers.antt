@@ -29,7 +29,7 @@ returns-then-not-has_segment-clause-answer g c = λ s at.
     let layer = c.in-Ok.layer in
     let found = found_lines {D = g.W.Disk} old s at name layer c.entries.result.now c.entries.ensures.entries c.in-Ok.ensures.found in
     let out = test_at (λ n. is_in_square n c.args.s) c.head.result.level s.last.level c.has_segment.result false (ap (λ (h : Head). h.level) c.head.ensures.work ∙ level_is {D = g.W.Disk} old s at) c.has_segment.ensures c.if-not-has_segment.true in
-    answered_same {D = g.W.Disk} s (commands.Line name c.args.id c.args.s) old old (Refused no.Outside) _ (line_outside s name layer.threshold found.segs found.cover found.there.is.got c.args.id c.args.s out) refl refl refl at at
+    answered_same {D = g.W.Disk} s (commands.Line name c.args.id c.args.s) old old (Refused no.Outside) _ (line_outside s name layer.threshold found.segs found.cover found.is.got c.args.id c.args.s out) refl refl refl at at
 
 pub returns-then-not-has_segment-clause-goes_on : goal.returns-then-not-has_segment-clause-goes_on
 returns-then-not-has_segment-clause-goes_on g c = goes_here {D = g.W.Disk} c.args.self.now.book
@@ -42,11 +42,11 @@ returns-else-not-has_segment-clause-answer g c =
     let layer = c.in-Ok.layer in
     let found = found_lines {D = g.W.Disk} old s at name layer c.entries.result.now c.entries.ensures.entries c.in-Ok.ensures.found in
     let inside = test_at (λ n. is_in_square n c.args.s) c.head.result.level s.last.level c.has_segment.result true (ap (λ (h : Head). h.level) c.head.ensures.work ∙ level_is {D = g.W.Disk} old s at) c.has_segment.ensures c.if-not-has_segment.false in
-    line_answered s name layer.threshold found.segs found.cover found.there.is.got {D = g.W.Disk} old c.put_segment.new.self reply c.args.id c.args.s inside (p s at name found.segs found.cover found.there.is)) c.put_segment.ensures.put
+    line_answered s name layer.threshold found.segs found.cover found.is.got {D = g.W.Disk} old c.put_segment.new.self reply c.args.id c.args.s inside (p s at name found.segs found.cover found.is)) c.put_segment.ensures.put
 
 pub returns-else-not-has_segment-clause-sound : goal.returns-else-not-has_segment-clause-sound
 returns-else-not-has_segment-clause-sound g c =
     if_err _ _ c.put_segment.result (λ e p s at.
     let name = c.args.name.now in
     let found = found_lines {D = g.W.Disk} c.args.self.now s at name c.in-Ok.layer c.entries.result.now c.entries.ensures.entries c.in-Ok.ensures.found in
-    p s at name found.segs found.cover found.there.is) c.put_segment.ensures.sound
+    p s at name found.segs found.cover found.is) c.put_segment.ensures.sound

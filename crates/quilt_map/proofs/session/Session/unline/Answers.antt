@@ -26,11 +26,11 @@ returns-in-Ok-clause-answer g c =
     let name = c.args.name.now in
     let layer = c.in-Ok.layer in
     let found = found_lines {D = g.W.Disk} old s at name layer c.entries.result.now c.entries.ensures.entries c.in-Ok.ensures.found in
-    unline_answered s name layer.threshold found.segs found.cover found.there.is.got {D = g.W.Disk} old c.take_segment.new.self reply c.args.id (p s at name found.segs found.cover found.there.is)) c.take_segment.ensures.taken
+    unline_answered s name layer.threshold found.segs found.cover found.is.got {D = g.W.Disk} old c.take_segment.new.self reply c.args.id (p s at name found.segs found.cover found.is)) c.take_segment.ensures.taken
 
 pub returns-in-Ok-clause-sound : goal.returns-in-Ok-clause-sound
 returns-in-Ok-clause-sound g c =
     if_err _ _ c.take_segment.result (λ e p s at.
     let name = c.args.name.now in
     let found = found_lines {D = g.W.Disk} c.args.self.now s at name c.in-Ok.layer c.entries.result.now c.entries.ensures.entries c.in-Ok.ensures.found in
-    p s at name found.segs found.cover found.there.is) c.take_segment.ensures.sound
+    p s at name found.segs found.cover found.is) c.take_segment.ensures.sound
