@@ -24,7 +24,7 @@ use Rattle.quilt_replies.specs.Answers.{State, with}
 use Rattle.quilt_map.specs.Asking.{IsLayerUnder, IsStill}
 use Rattle.quilt_map.specs.LineLayers.{IsLinesAt, IsLinesIn, HoldsLines, with_segment, without_segment}
 use Rattle.quilt_map.specs.Planning.{IsAmendment}
-use Rattle.quilt_map.specs.Sessions.{IsAtState, tree_in}
+use Rattle.quilt_map.specs.Sessions.{IsAtState, told_of, tree_in}
 use Rattle.quilt_map.specs.declared.lines.LineLayer.{LineLayer}
 use Rattle.quilt_map.specs.declared.session.Session.{Session}
 use Rattle.quilt_map.proofs.Amends.{amendment, mid_at, never_more}
@@ -57,6 +57,12 @@ lines_under layers numbers name number kind threshold u is =
 pub lines_as : (told : Option Pages) (layer : LineLayer) (segs : SegMap) (cover : BlockSet) (h k : Head) (t : Tree) → h ≡ k → t ≡ tree_in h
     → HasLines told (tree_in k) layer.number k.level layer.threshold segs cover → HasLines told t layer.number h.level layer.threshold segs cover
 lines_as told layer segs cover h k t same tree has = held_as told layer.number (Lines layer.threshold segs cover) h k t same tree has
+
+-- what is said of the tree and the level of a header is said of the work
+pub lines_said : {W : Type 0} {D : disk.Ghosts W} (b : Book W D) (layer : LineLayer) (h : Head) (t : Tree) → h ≡ b.work → t ≡ tree_in h → (P : Head → SegMap → BlockSet → Type 0)
+    → ((segs : SegMap) (cover : BlockSet) → HasLines (told_of b) t layer.number h.level layer.threshold segs cover → P h segs cover)
+    → (segs : SegMap) (cover : BlockSet) → HoldsLines b layer segs cover → P b.work segs cover
+lines_said b layer h t same tree P said segs cover has = subst (λ (x : Head). P x segs cover) same (said segs cover (lines_as (told_of b) layer segs cover h b.work t same tree has))
 
 module _ {W : Type 0} {D : disk.Ghosts W} (session : Session W D) (s : State) (at : IsAtState session s) (name : List ℕ) (layer : LineLayer) where
   -- what a line layer gives: that the work's records spell it, its number, and that it is one
