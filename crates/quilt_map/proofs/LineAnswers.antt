@@ -93,12 +93,13 @@ module _ (s : State) (a : List ℕ) (t : ℕ) (segs : SegMap) (cover : BlockSet)
   segment_new seg away =
       let work = with s a (with_segment t segs cover id seg) in first_false (is_some (finmap.get segs id)) no.Present (full s work ∷ []) s (changed work) away
 
+  pub segment_absent : is_none (finmap.get segs id) ≡ true → segment_taken s a t segs cover id ≡ nothing_done s (Refused no.Absent)
+  segment_absent away =
+      let seg = unwrap_or (finmap.get segs id) no_segment in
+      first_true (is_none (finmap.get segs id)) no.Absent [] s (changed (with s a (without_segment s.last.level t segs cover id seg))) away
+
   taken_with : Option Seg → Outcome
   taken_with gone = unless ((is_none gone, no.Absent) ∷ []) s (changed (with s a (without_segment s.last.level t segs cover id (unwrap_or gone no_segment))))
-
-  pub segment_absent : finmap.get segs id ≡ None → segment_taken s a t segs cover id ≡ nothing_done s (Refused no.Absent)
-  unfolding taken_with
-  segment_absent away = ap taken_with away
 
   pub segment_there : (seg : Seg) → finmap.get segs id ≡ Some seg → records s.last.level (with s a (without_segment s.last.level t segs cover id seg)) ≤ s.quota
       → segment_taken s a t segs cover id ≡ placed s a (without_segment s.last.level t segs cover id seg)
