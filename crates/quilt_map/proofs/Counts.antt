@@ -20,23 +20,7 @@ use Rattle.quilt_map.specs.declared.session.Session.{Session}
 use Rattle.quilt_map.proofs.Answered.{IsBodyOf, level_is}
 use Rattle.quilt_map.proofs.HeldLayers.{layer_there, layer_number}
 
--- ---- the kinds of layers
-pub only_region : (P : Layer → Type 0) → ((grid : Grid) → P (Region grid)) → (layer : Layer) → kinds.Region ≡ kind_of layer → P layer
-only_region P h (Region grid) is = h grid
-only_region P h (Points capacity points) is = cc
-only_region P h (Lines threshold segs cover) is = cc
-
-pub only_points : (P : Layer → Type 0) (bucket : ℕ) → ((points : PointMap) → P (Points bucket points)) → (layer : Layer) → kinds.Points bucket ≡ kind_of layer → P layer
-only_points P bucket h (Region grid) is = cc
-only_points P bucket h (Points capacity points) is = let same : bucket ≡ capacity = cc in subst (λ (k : ℕ). P (Points k points)) same (h points)
-only_points P bucket h (Lines threshold segs cover) is = cc
-
-pub only_lines : (P : Layer → Type 0) (threshold : ℕ) → ((segs : SegMap) (cover : BlockSet) → P (Lines threshold segs cover)) → (layer : Layer) → kinds.Lines threshold ≡ kind_of layer → P layer
-only_lines P threshold h (Region grid) is = cc
-only_lines P threshold h (Points capacity points) is = cc
-only_lines P threshold h (Lines t segs cover) is = let same : threshold ≡ t = cc in subst (λ (k : ℕ). P (Lines k segs cover)) same (h segs cover)
-
--- ---- what the definition answers
+-- what the definition answers
 blocks_done : (s : State) (a : List ℕ) (layer : Layer) → finmap.get s.work a ≡ Some layer → (answer s (commands.Blocks a)).reply ≡ Done (block_lines s.last.level (sides_of s.last.level layer))
 unfolding answer
 blocks_done s a layer got =

@@ -1,14 +1,12 @@
 -- The texts of replies, line by line.
-use Rattle.std.proofs.Common.{◌≡◌, ℕ, zero, suc, ◌+◌, ◌-◌, ◌/◌, ◌%◌, ◌^◌, ◌<◌, ◌≤◌, Bool, cond, List, [], ◌∷◌, ◌++◌, map, flat_map, Result, Ok, Err, refl, sym, ◌∙◌, ap, subst, arith, append_assoc}
+use Rattle.std.proofs.Common.{◌≡◌, ℕ, zero, suc, ◌+◌, ◌-◌, ◌/◌, ◌%◌, ◌^◌, ◌<◌, ◌≤◌, List, [], ◌∷◌, ◌++◌, map, flat_map, Result, Ok, Err, refl, sym, ◌∙◌, ap, subst, arith, append_assoc}
 use Rattle.std.specs.Prelude.{IfOk, reverse, count_by, codes, decimal, slice_index, ◌==◌, if◌then◌else◌}
 use Rattle.std.specs.List.{range_with_len}
 use Rattle.std.proofs.lemmas.List.{append-nil, reverse-append}
 use Rattle.std.proofs.lemmas.Grind.{flat_map-append}
 use Rattle.std.proofs.lemmas.Fmt.{decimal_step}
-use Rattle.std.proofs.lemmas.List.Sums.{sum_by-cons}
 use Rattle.quilt_types.specs.declared.plane.Window.{Window}
 use Rattle.quilt_types.specs.Layers.{Layer, Region, Points, Lines, Map, IsGrid, colour_at}
-use Rattle.quilt_types.specs.Quadtrees.{leaves}
 use Rattle.quilt_types.specs.Plane.{side, below}
 use Rattle.quilt_record.specs.Records.{Numbering}
 use Rattle.quilt_spell.specs.Catalogued.{kind_of, entry_of, IsCatalogOf}
@@ -16,7 +14,7 @@ use Rattle.std.specs.FinMap as finmap
 use Rattle.quilt_record.specs.declared.entry.Entry.{Entry}
 use Rattle.quilt_raster.specs.Showing as raster
 use Rattle.quilt_lang.specs.Trials.{spaced}
-use Rattle.quilt_replies.specs.Answers.{Done, block_lines, sides_of, kind_words, layer_line, digits_of, row_line}
+use Rattle.quilt_replies.specs.Answers.{Done, block_lines, kind_words, layer_line, digits_of, row_line}
 use Rattle.quilt_replies.specs.Bodies.{lines, words_of_kind, entry_line, HasCounts}
 use Rattle.quilt_replies.specs.Runs.{text_of}
 
@@ -122,18 +120,6 @@ module _ (counts : List ℕ) where
   counted_reply (Ok all) level k text h le c none =
       λ sides is. let z : k ≡ 0 = omega arith in h (block_lines level sides) (counted counts sides is level text le (subst (λ (j : ℕ). IsCounting level counts j text) z c))
   counted_reply (Err e) level k text h le c none = tt
-
--- ---- the sides of blocks
-module _ {X : Type 0} where
-  count_map : (p : ℕ → Bool) (f : X → ℕ) (xs : List X) → count_by p (map f xs) ≡ count_by (λ x. p (f x)) xs
-  count_map p f [] = refl
-  count_map p f (x ∷ xs) =
-      sum_by-cons (λ (y : ℕ). cond {A = ℕ} (p y) 1 0) (f x) (map f xs) ∙ ap (λ n. cond {A = ℕ} (p (f x)) 1 0 + n) (count_map p f xs)
-      ∙ sym (sum_by-cons (λ (y : X). cond {A = ℕ} (p (f y)) 1 0) x xs)
-
-  -- counts of those that have each side are counts of their sides
-  pub counts_of : (side_in : X → ℕ) (xs : List X) (counts : List ℕ) → ((k : ℕ) → k ≤ 12 → slice_index counts k ≡ count_by (λ x. side_in x == side k) xs) → HasCounts counts (map side_in xs)
-  counts_of side_in xs counts h = record { each = λ k le. h k le ∙ sym (count_map (λ s. s == side k) side_in xs) }
 
 -- ---- the lines of layers
 kind_line : (l : Layer) → words_of_kind (kind_of l) ≡ kind_words l

@@ -33,4 +33,4 @@ returns-in-Ok-clause-answer g c =
     told_on {D = g.W.Disk} (commands.Blocks name) (λ s. blocks_asks s name) old c.count_blocks.new.book old.warm c.blocks_text.result c.told.result c.count_blocks.ensures.still (g.met.W.Disk.is_consistent c.count_blocks.new.book.world) c.told.ensures.text (λ s at.
     let under = some.ensures.some s.work at.work.numbers (catalog_as {D = g.W.Disk} old s at c.entries.result.now c.entries.ensures.entries) in
     if_ok _ _ c.blocks_text.result (λ t h.
-    blocks_body {D = g.W.Disk} old s at name some.number some.kind under c.in-Ok.counts c.head.result.level c.in-Ok.ensures.counts (ap (λ (x : Head). x.level) c.head.ensures.work) t h) c.blocks_text.ensures)
+    blocks_body {D = g.W.Disk} old s at name some.number some.kind under c.in-Ok.counts c.head-level.result.level c.in-Ok.ensures.counts (ap (λ (x : Head). x.level) c.head-level.ensures.work) t h) c.blocks_text.ensures)

@@ -41,7 +41,7 @@ returns-clause-answer g c =
     let catalog = catalog_as {D = g.W.Disk} old s at c.entries.result.now c.entries.ensures.entries in
     let again = catalog_as {D = g.W.Disk} old s at c.entries-2.result.now c.entries-2.ensures.entries in
     let level = ap (λ (h : Head). h.level) c.head.ensures.work ∙ level_is {D = g.W.Disk} old s at in
-    let plan = lines_plan {D = g.W.Disk} old s at c.new_entry-entry.result name t c.head.result.level c.records-2.result.now level c.requires.0 c.requires.1
+    let plan = lines_plan {D = g.W.Disk} old s at c.new_entry-entry.result name t c.head.result.level c.records-2.result.now level c.requires.threshold.0 c.requires.threshold.1
     c.entries.result.now c.entries.ensures.entries (c.in_default.ensures.few refl) (c.in_default.ensures.new refl) e.name e.named e.kind e.number.0 e.number.1
     (e.unused s.work at.work.numbers again at.work.spelled.numbering) listed.0 c.first_record-first.result (c.records-2.ensures ∙ listed.1) listed.2 c.first_record-first.ensures in
     answered_by {D = g.W.Disk} s (commands.Lines name t) (placed s name lines) old c.place.new.self reply (lines_given s name t (c.in_default.ensures.passes refl s at.work.numbers catalog)) (placed_none s name lines) refl
@@ -56,6 +56,6 @@ returns-clause-sound g c =
     let again = catalog_as {D = g.W.Disk} old s at c.entries-2.result.now c.entries-2.ensures.entries in
     let level = ap (λ (h : Head). h.level) c.head.ensures.work ∙ level_is {D = g.W.Disk} old s at in
     p s at (bare_lines s.last.level c.args.t)
-    (lines_plan {D = g.W.Disk} old s at c.new_entry-entry.result c.args.name.now c.args.t c.head.result.level c.records-2.result.now level c.requires.0 c.requires.1
+    (lines_plan {D = g.W.Disk} old s at c.new_entry-entry.result c.args.name.now c.args.t c.head.result.level c.records-2.result.now level c.requires.threshold.0 c.requires.threshold.1
     c.entries.result.now c.entries.ensures.entries (c.in_default.ensures.few refl) (c.in_default.ensures.new refl) e.name e.named e.kind e.number.0 e.number.1
     (e.unused s.work at.work.numbers again at.work.spelled.numbering) listed.0 c.first_record-first.result (c.records-2.ensures ∙ listed.1) listed.2 c.first_record-first.ensures)) c.place.ensures.sound
