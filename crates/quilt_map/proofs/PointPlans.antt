@@ -35,6 +35,7 @@ use Rattle.quilt_map.proofs.Asked.{layer_is}
 use Rattle.quilt_map.proofs.ChangeSteps.{at_most, at_spelled}
 use Rattle.quilt_map.proofs.HeldLayers.{held_as, layer_there, layer_number, layer_fits}
 use Rattle.quilt_map.proofs.Moving.{IsLawful, with_book}
+use Rattle.quilt_map.proofs.Planned.{some_of}
 
 -- the layer that was found, under each numbering that the entries give
 pub points_in : (layers : Map) (numbers : Numbering) (es entries : List Entry) (name : List ℕ) (layer : PointLayer) → es ≡ entries → IsCatalogOf layers numbers entries
@@ -55,16 +56,6 @@ points_under layers numbers name number kind bucket u is =
     only_points (Region grid) e = cc
     only_points (Points capacity points) e = let same : bucket ≡ capacity = cc in (points, ap (λ (k : ℕ). Points k points) (sym same))
     only_points (Lines threshold segs cover) e = cc
-
--- the plan that was given
-pub order_of : (o : Option Edits) (edits : Edits) → o ≡ Some edits → IfSome o AreInOrder → AreInOrder edits
-order_of o edits is h = subst (λ (z : Option Edits). IfSome z AreInOrder) is h
-
-pub plan_of : {W : Type 0} {D : disk.Ghosts W} (b : Book W D) (layer : PointLayer) (next : PointMap → PointMap) (o : Option Edits) (edits : Edits) → o ≡ Some edits
-    → IfSome o (λ e. (points : PointMap) → HoldsPoints b layer points → plans.IsPlan b.work.level layer.number layer.bucket points (next points) e)
-    → (points : PointMap) → HoldsPoints b layer points → plans.IsPlan b.work.level layer.number layer.bucket points (next points) edits
-plan_of b layer next o edits is h =
-    subst (λ (z : Option Edits). IfSome z (λ e. (points : PointMap) → HoldsPoints b layer points → plans.IsPlan b.work.level layer.number layer.bucket points (next points) e)) is h
 
 -- the tree and the level of the same header
 pub points_as : (told : Option (List (List ℕ))) (number bucket : ℕ) (points : PointMap) (h k : Head) (t : Tree) → h ≡ k → t ≡ tree_in h → HasPoints told (tree_in k) number k.level bucket points → HasPoints told t number h.level bucket points
@@ -101,14 +92,17 @@ module _ {W : Type 0} {D : disk.Ghosts W} (session : Session W D) (s : State) (a
 -- ---- once the layer was read
 module _ {W : Type 0} {D : disk.Ghosts W} (old : Session W D) (s : State) (at : IsAtState old s) (b : Book W D) (still : IsStill old.book b) (law : IsLawful (D.size b.world) (D.told b.world))
     (name : List ℕ) (layer : PointLayer) (points : PointMap) (is : IsPointsIn s.work old.catalog name layer points) where
-  at_level : (next : PointMap) (edits : Edits) → plans.IsPlan old.book.work.level layer.number layer.bucket points next edits → plans.IsPlan s.last.level layer.number layer.bucket points next edits
-  at_level next edits plan = subst (λ (n : ℕ). plans.IsPlan n layer.number layer.bucket points next edits) (level_is old s at) plan
+  module _ (next : PointMap → PointMap) (o : Option Edits) (edits : Edits) (is_plan : o ≡ Some edits) (order : IfSome o AreInOrder)
+      (plan : IfSome o (λ e. (all : PointMap) → HoldsPoints old.book layer all → plans.IsPlan old.book.work.level layer.number layer.bucket all (next all) e)) where
+    at_level : plans.IsPlan s.last.level layer.number layer.bucket points (next points) edits
+    at_level = subst (λ (n : ℕ). plans.IsPlan n layer.number layer.bucket points (next points) edits) (level_is old s at) (some_of _ o edits is_plan plan points (points_there old s at name layer points is))
 
-  pub mid_point : (next : PointMap) (edits : Edits) → plans.IsPlan old.book.work.level layer.number layer.bucket points next edits → AreInOrder edits
-      → IsAmendment s (mid_at old s at b still law).work.numbers old.catalog name layer.number (Points layer.bucket next) edits.remove edits.add
-  mid_point next edits plan order = point_amendment (with_book old b) s (mid_at old s at b still law) name layer points is next edits (at_level next edits plan) order
+    -- a plan that leads to other points
+    pub mid_point : IsAmendment s (mid_at old s at b still law).work.numbers old.catalog name layer.number (Points layer.bucket (next points)) edits.remove edits.add
+    mid_point = point_amendment (with_book old b) s (mid_at old s at b still law) name layer points is (next points) edits at_level (some_of AreInOrder o edits is_plan order)
 
-  pub mid_within : (p : Pixel) (label : ℕ) (edits : Edits) → finmap.get points p ≡ Some label → plans.IsPlan old.book.work.level layer.number layer.bucket points (finmap.remove points p) edits → AreInOrder edits
+  pub mid_within : (p : Pixel) (label : ℕ) → finmap.get points p ≡ Some label → (o : Option Edits) (edits : Edits) → o ≡ Some edits → IfSome o AreInOrder
+      → IfSome o (λ e. (all : PointMap) → HoldsPoints old.book layer all → plans.IsPlan old.book.work.level layer.number layer.bucket all (finmap.remove all p) e)
       → records s.last.level (with s name (Points layer.bucket (finmap.remove points p))) ≤ s.quota
-  mid_within p label edits there plan order =
-      del_within (with_book old b) s (mid_at old s at b still law) name layer points is p label edits there (at_level (finmap.remove points p) edits plan) order
+  mid_within p label there o edits is_plan order plan =
+      del_within (with_book old b) s (mid_at old s at b still law) name layer points is p label edits there (at_level (λ all. finmap.remove all p) o edits is_plan order plan) (some_of AreInOrder o edits is_plan order)
