@@ -38,7 +38,7 @@ use Rattle.quilt_map.proofs.Moving.{IsLawful, with_book}
 use Rattle.quilt_map.proofs.Planned.{some_of}
 
 -- the layer that was found, under each numbering that the entries give
-pub points_in : (layers : Map) (numbers : Numbering) (es entries : List Entry) (name : List ℕ) (layer : PointLayer) → es ≡ entries → IsCatalogOf layers numbers entries
+points_in : (layers : Map) (numbers : Numbering) (es entries : List Entry) (name : List ℕ) (layer : PointLayer) → es ≡ entries → IsCatalogOf layers numbers entries
     → ((m : Map) (k : Numbering) → IsCatalogOf m k es → IsPointsAt m k name layer) → (points : PointMap) × IsPointsIn layers entries name layer points
 points_in layers numbers es entries name layer same catalog found =
     let under = λ (k : Numbering) (c : IsCatalogOf layers k entries). found layers k (subst (IsCatalogOf layers k) (sym same) c) in
@@ -88,6 +88,19 @@ module _ {W : Type 0} {D : disk.Ghosts W} (session : Session W D) (s : State) (a
     del_within p label edits there plan order =
         never_more session s at name layer.number (Points layer.bucket (finmap.remove points p)) edits.remove edits.add (point_amendment (finmap.remove points p) edits plan order).plan
         (del_count_law s.last.format s.last.level name layer.number layer.bucket (at_most session s at) number_there points points_fit p label there edits.remove edits.add (plan.leads name))
+
+  -- what a point layer that was found gives: its points, that the work's records spell them, and its number
+  module _ (name : List ℕ) (layer : PointLayer) where
+    pub record Found : Type 0 where
+      pub points : PointMap
+      pub is : IsPointsIn s.work session.catalog name layer points
+      pub holds : HoldsPoints session.book layer points
+      pub least : 1 ≤ layer.number
+
+    pub found_points : (entries : List Entry) → entries ≡ session.catalog → ((m : Map) (k : Numbering) → IsCatalogOf m k entries → IsPointsAt m k name layer) → Found
+    found_points entries same found =
+        let l = points_in s.work at.work.numbers entries session.catalog name layer same at.work.catalog found in
+        record { points = l.0; is = l.1; holds = points_there name layer l.0 l.1; least = number_there name layer l.0 l.1 }
 
 -- ---- once the layer was read
 module _ {W : Type 0} {D : disk.Ghosts W} (old : Session W D) (s : State) (at : IsAtState old s) (b : Book W D) (still : IsStill old.book b) (law : IsLawful (D.size b.world) (D.told b.world))
