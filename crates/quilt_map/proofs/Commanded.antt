@@ -76,15 +76,6 @@ pub forward_else : (c : Command) → (c ≡ commands.Revert → ⊥) → goes_ba
 forward_else commands.Revert revert = absurd (revert refl)
 forward_else c revert = refl
 
-pub not_publish : (c : Command) → gives_edition c ≡ false → c ≡ commands.Publish → ⊥
-not_publish c quiet is = let no_ : gives_edition commands.Publish ≡ false = subst (λ (x : Command). gives_edition x ≡ false) is quiet in cc
-
-pub not_upgrade : (c : Command) → gives_edition c ≡ false → c ≡ commands.Upgrade → ⊥
-not_upgrade c quiet is = let no_ : gives_edition commands.Upgrade ≡ false = subst (λ (x : Command). gives_edition x ≡ false) is quiet in cc
-
-pub not_revert : (c : Command) → goes_back c ≡ false → c ≡ commands.Revert → ⊥
-not_revert c forward is = let no_ : goes_back commands.Revert ≡ false = subst (λ (x : Command). goes_back x ≡ false) is forward in cc
-
 -- what a command has that is spelled is of the format and the level of the work, and so of the last edition
 module _ {W : Type 0} {D : disk.Ghosts W} where
   pub fitting_here : (old : Session W D) (command other : Command) → Spelled old.book.work.format old.book.last.level command → command ≡ other

@@ -2,7 +2,6 @@ pub mod Amends
 pub mod Answered
 pub mod Asked
 pub mod Asks
-pub mod Built
 pub mod Catalogs
 pub mod Commanded
 pub mod ChangeSteps

@@ -80,7 +80,17 @@ impl<W: World> Session<W> {
             Command::Layers => self.layers(),
             Command::Records => self.records(),
             Command::Edition => self.edition(),
-            _ => unreachable!(),
+            Command::Blocks { a } => self.blocks(a),
+            Command::Lines { l, t } => self.make_lines(l, *t),
+            Command::Line { l, id, seg } => self.line(l, *id, *seg),
+            Command::Unline { l, id } => self.unline(l, *id),
+            Command::Cross { .. } => Err(Stop::Memory),
+            Command::Clip { .. } => Err(Stop::Memory),
+            Command::Nearest { .. } => Err(Stop::Memory),
+            Command::Rank { .. } => Err(Stop::Memory),
+            Command::Over { .. } => Err(Stop::Memory),
+            Command::Crossings { .. } => Err(Stop::Memory),
+            Command::Publish | Command::Upgrade | Command::Revert => unreachable!(),
         }
     }
 }

@@ -1,23 +1,11 @@
 use Rattle.std.proofs.Common.{refl, sym, subst}
 use Rattle.quilt_words.specs.declared.command.Command.{Command}
 use Rattle.quilt_words.specs.declared.command.Command.TheVariants as commands
-use Rattle.quilt_words.proofs.SpelledLaws.{spelled_built}
 use Rattle.quilt_map.specs.Commanding.{Answered}
 use Rattle.quilt_map.proofs.Asked.{if_ok, if_err}
-use Rattle.quilt_map.proofs.Built.{none_other}
 use Rattle.quilt_map.proofs.ChangeSteps.{goes_here}
-use Rattle.quilt_map.proofs.Commanded.{fitting_here, fitting_of, not_publish, not_upgrade, not_revert}
+use Rattle.quilt_map.proofs.Commanded.{fitting_here, fitting_of}
 use Rattle.quilt_map.proofs.session.Session.serve.Goals as goal
-
-pub unreachable-requires : goal.unreachable-requires
-unreachable-requires g c =
-    let it = c.args.command.now in
-    let d = c.in_default in
-    none_other it d.not-Region d.not-Drop d.not-Copy d.not-Layers d.not-Records d.not-Set d.not-Rect d.not-Raster d.not-At d.not-Show d.not-Leaves
-    d.not-Polygon d.not-Union d.not-Inter d.not-Diff d.not-Recolour d.not-Window d.not-Shift d.not-Buffer d.not-Area d.not-Perimeter
-    d.not-Points d.not-Put d.not-Del d.not-Scatter d.not-Find d.not-Within
-    d.not-Edition (not_publish it c.requires.quiet) (not_upgrade it c.requires.quiet) (not_revert it c.requires.forward) it refl
-    (spelled_built c.args.self.now.book.work.format c.args.self.now.book.last.level it c.requires.spelled)
 
 pub returns-in-Region-clause-answer : goal.returns-in-Region-clause-answer
 returns-in-Region-clause-answer g c =
@@ -66,6 +54,24 @@ returns-in-Records-clause-goes_on g c = goes_here {D = g.W.Disk} c.args.self.now
 
 pub returns-in-Edition-clause-goes_on : goal.returns-in-Edition-clause-goes_on
 returns-in-Edition-clause-goes_on g c = goes_here {D = g.W.Disk} c.args.self.now.book
+
+pub returns-in-Cross-clause-goes_on : goal.returns-in-Cross-clause-goes_on
+returns-in-Cross-clause-goes_on g c = goes_here {D = g.W.Disk} c.args.self.now.book
+
+pub returns-in-Clip-clause-goes_on : goal.returns-in-Clip-clause-goes_on
+returns-in-Clip-clause-goes_on g c = goes_here {D = g.W.Disk} c.args.self.now.book
+
+pub returns-in-Nearest-clause-goes_on : goal.returns-in-Nearest-clause-goes_on
+returns-in-Nearest-clause-goes_on g c = goes_here {D = g.W.Disk} c.args.self.now.book
+
+pub returns-in-Rank-clause-goes_on : goal.returns-in-Rank-clause-goes_on
+returns-in-Rank-clause-goes_on g c = goes_here {D = g.W.Disk} c.args.self.now.book
+
+pub returns-in-Over-clause-goes_on : goal.returns-in-Over-clause-goes_on
+returns-in-Over-clause-goes_on g c = goes_here {D = g.W.Disk} c.args.self.now.book
+
+pub returns-in-Crossings-clause-goes_on : goal.returns-in-Crossings-clause-goes_on
+returns-in-Crossings-clause-goes_on g c = goes_here {D = g.W.Disk} c.args.self.now.book
 
 pub returns-in-Drop-clause-answer : goal.returns-in-Drop-clause-answer
 returns-in-Drop-clause-answer g c =
@@ -179,3 +185,27 @@ pub returns-in-Scatter-clause-answer : goal.returns-in-Scatter-clause-answer
 returns-in-Scatter-clause-answer g c =
     if_ok _ _ c.scatter.result (λ reply p s at.
     subst (λ (x : Command). Answered {D = g.W.Disk} s x c.args.self.now c.scatter.new.self reply) (sym c.in-Scatter.is) (p s at)) c.scatter.ensures.answer
+
+pub returns-in-Blocks-clause-answer : goal.returns-in-Blocks-clause-answer
+returns-in-Blocks-clause-answer g c =
+    if_ok _ _ c.blocks.result (λ reply p s at.
+    subst (λ (x : Command). Answered {D = g.W.Disk} s x c.args.self.now c.blocks.new.self reply) (sym c.in-Blocks.is) (p s at)) c.blocks.ensures.answer
+
+pub make_lines-requires-clause-threshold : goal.make_lines-requires-clause-threshold
+make_lines-requires-clause-threshold g c κs within =
+    let fits = (fitting_here {D = g.W.Disk} c.args.self.now c.args.command.now (commands.Lines c.in-Lines.l c.in-Lines.t) c.requires.spelled c.in-Lines.is).1 in (fits.least, fits.most)
+
+pub returns-in-Lines-clause-answer : goal.returns-in-Lines-clause-answer
+returns-in-Lines-clause-answer g c =
+    if_ok _ _ c.make_lines.result (λ reply p s at.
+    subst (λ (x : Command). Answered {D = g.W.Disk} s x c.args.self.now c.make_lines.new.self reply) (sym c.in-Lines.is) (p s at)) c.make_lines.ensures.answer
+
+pub returns-in-Line-clause-answer : goal.returns-in-Line-clause-answer
+returns-in-Line-clause-answer g c =
+    if_ok _ _ c.line.result (λ reply p s at.
+    subst (λ (x : Command). Answered {D = g.W.Disk} s x c.args.self.now c.line.new.self reply) (sym c.in-Line.is) (p s at)) c.line.ensures.answer
+
+pub returns-in-Unline-clause-answer : goal.returns-in-Unline-clause-answer
+returns-in-Unline-clause-answer g c =
+    if_ok _ _ c.unline.result (λ reply p s at.
+    subst (λ (x : Command). Answered {D = g.W.Disk} s x c.args.self.now c.unline.new.self reply) (sym c.in-Unline.is) (p s at)) c.unline.ensures.answer
