@@ -1,5 +1,5 @@
 -- What a command that changes nothing finds in the work, and that it leaves the state.
-use Rattle.std.proofs.Common.{◌≡◌, ℕ, ◌<◌, ◌≤◌, Bool, true, false, List, Option, Some, Result, Ok, Err, refl, sym, ◌∙◌, ap, subst, arith, nat_cmp}
+use Rattle.std.proofs.Common.{◌≡◌, ℕ, ◌<◌, ◌≤◌, Bool, true, false, List, Option, Some, None, IfSome, Result, Ok, Err, refl, sym, ◌∙◌, ap, subst, arith, nat_cmp}
 use Rattle.std.specs.Prelude.{IfOk, IfErr, ◌==◌, if◌then◌else◌}
 use Rattle.std.specs.Cmp.Lexicographic.{slice_cmp, nat_list_cmp_total}
 use Rattle.std.specs.FinMap as finmap
@@ -59,6 +59,10 @@ if_err P Q (Err e) f h = f e h
 pub if_ok : {T E : Type 0} (P Q : T → Type 0) (r : Result T E) → ((x : T) → P x → Q x) → IfOk r P → IfOk r Q
 if_ok P Q (Ok x) f h = f x h
 if_ok P Q (Err e) f h = tt
+
+pub if_some : {X : Type 0} (P Q : X → Type 0) (o : Option X) → ((x : X) → P x → Q x) → IfSome o P → IfSome o Q
+if_some P Q None f h = tt
+if_some P Q (Some x) f h = f x h
 
 pub raster_as : (g : Grid) (m n : ℕ) (l : Raster) → m ≡ n → l ≡ record { level = m; grid = g } → l ≡ record { level = n; grid = g }
 raster_as g m n l same e = e ∙ ap (λ (k : ℕ). record { level = k; grid = g }) same

@@ -9,6 +9,7 @@ use Rattle.quilt_types.specs.Layers.{Layer, Region, Lines, SegMap, BlockSet, Gri
 use Rattle.quilt_types.specs.Segments.{nearest}
 use Rattle.quilt_types.specs.Crossings.{crossings}
 use Rattle.quilt_types.specs.Ranking.{ranked}
+use Rattle.quilt_words.specs.Fitting.{IsFitting}
 use Rattle.quilt_words.specs.declared.command.Command.{Command}
 use Rattle.quilt_words.specs.declared.command.Command.TheVariants as commands
 use Rattle.quilt_store.specs.Store.{Tells as StoreTells}
@@ -16,7 +17,7 @@ use Rattle.quilt_replies.specs.Answers as answers
 use Rattle.quilt_replies.specs.Answers.{State, Outcome, Reply, Done, Refused, answer, unless, unknown, unless_lines, unless_region, outside, is_lines, is_region, layer, segs_in, cover_in, grid_in, grid, nearest_lines, ranked_line, pair_line}
 use Rattle.quilt_replies.specs.declared.reply.Reply as replies
 use Rattle.quilt_map.specs.LineLayers.{IsNoLines}
-use Rattle.quilt_map.specs.Selecting.{layer_asked, is_place, nearest_reply, selected, selected_over, HasFound, IsAnswered, pages_for, AreNotLinesAndRegion, AreNotLines, crossed}
+use Rattle.quilt_map.specs.Selecting.{layer_asked, is_place, AsksSome, nearest_reply, selected, selected_over, HasFound, IsAnswered, pages_for, AreNotLinesAndRegion, AreNotLines, crossed}
 use Rattle.quilt_map.specs.Steps.{goes_back}
 use Rattle.quilt_map.proofs.Asks.{Asks, alone_reply}
 use Rattle.quilt_map.proofs.Outcomes.{nothing_done}
@@ -87,6 +88,14 @@ module _ (command : Command) (name : List ℕ) (is : layer_asked command ≡ Som
     ask_reads n reply before now same h =
         let Costs : ℕ → Option Layer → Type 0 = λ m o. HasFound command (segs_in o) → IsAnswered reply → StoreTells (λ old new. new ≤ old + pages_for m command (segs_in o) (cover_in o)) before now in
         subst (λ (o : Option Layer). Costs s.last.level o) (sym got) (subst (λ (m : ℕ). Costs m (Some (Lines threshold segs cover))) same h)
+
+-- what is spelled asks for one segment at least
+pub fits_some : (f n : ℕ) (command : Command) → IsFitting f n command → AsksSome command
+fits_some f n (commands.Rank l at k) fits = fits.2.least
+fits_some f n (commands.Cross l w) fits = tt
+fits_some f n (commands.Clip l w) fits = tt
+fits_some f n (commands.Nearest l at) fits = tt
+fits_some f n command fits = tt
 
 -- ---- segments over a region
 module _ (s : State) (l a : List ℕ) where

@@ -3,6 +3,7 @@ pub mod Commanding
 pub mod Copying
 pub mod Derivation
 pub mod Editing
+pub mod HeldLayers
 pub mod LineLayers
 pub mod Lookups
 pub mod Making

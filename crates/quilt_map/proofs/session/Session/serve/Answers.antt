@@ -55,18 +55,6 @@ returns-in-Records-clause-goes_on g c = goes_here {D = g.W.Disk} c.args.self.now
 pub returns-in-Edition-clause-goes_on : goal.returns-in-Edition-clause-goes_on
 returns-in-Edition-clause-goes_on g c = goes_here {D = g.W.Disk} c.args.self.now.book
 
-pub returns-in-Blocks-clause-goes_on : goal.returns-in-Blocks-clause-goes_on
-returns-in-Blocks-clause-goes_on g c = goes_here {D = g.W.Disk} c.args.self.now.book
-
-pub returns-in-Lines-clause-goes_on : goal.returns-in-Lines-clause-goes_on
-returns-in-Lines-clause-goes_on g c = goes_here {D = g.W.Disk} c.args.self.now.book
-
-pub returns-in-Line-clause-goes_on : goal.returns-in-Line-clause-goes_on
-returns-in-Line-clause-goes_on g c = goes_here {D = g.W.Disk} c.args.self.now.book
-
-pub returns-in-Unline-clause-goes_on : goal.returns-in-Unline-clause-goes_on
-returns-in-Unline-clause-goes_on g c = goes_here {D = g.W.Disk} c.args.self.now.book
-
 pub returns-in-Cross-clause-goes_on : goal.returns-in-Cross-clause-goes_on
 returns-in-Cross-clause-goes_on g c = goes_here {D = g.W.Disk} c.args.self.now.book
 
@@ -197,3 +185,27 @@ pub returns-in-Scatter-clause-answer : goal.returns-in-Scatter-clause-answer
 returns-in-Scatter-clause-answer g c =
     if_ok _ _ c.scatter.result (λ reply p s at.
     subst (λ (x : Command). Answered {D = g.W.Disk} s x c.args.self.now c.scatter.new.self reply) (sym c.in-Scatter.is) (p s at)) c.scatter.ensures.answer
+
+pub returns-in-Blocks-clause-answer : goal.returns-in-Blocks-clause-answer
+returns-in-Blocks-clause-answer g c =
+    if_ok _ _ c.blocks.result (λ reply p s at.
+    subst (λ (x : Command). Answered {D = g.W.Disk} s x c.args.self.now c.blocks.new.self reply) (sym c.in-Blocks.is) (p s at)) c.blocks.ensures.answer
+
+pub make_lines-requires-clause-threshold : goal.make_lines-requires-clause-threshold
+make_lines-requires-clause-threshold g c κs within =
+    let fits = (fitting_here {D = g.W.Disk} c.args.self.now c.args.command.now (commands.Lines c.in-Lines.l c.in-Lines.t) c.requires.spelled c.in-Lines.is).1 in (fits.least, fits.most)
+
+pub returns-in-Lines-clause-answer : goal.returns-in-Lines-clause-answer
+returns-in-Lines-clause-answer g c =
+    if_ok _ _ c.make_lines.result (λ reply p s at.
+    subst (λ (x : Command). Answered {D = g.W.Disk} s x c.args.self.now c.make_lines.new.self reply) (sym c.in-Lines.is) (p s at)) c.make_lines.ensures.answer
+
+pub returns-in-Line-clause-answer : goal.returns-in-Line-clause-answer
+returns-in-Line-clause-answer g c =
+    if_ok _ _ c.line.result (λ reply p s at.
+    subst (λ (x : Command). Answered {D = g.W.Disk} s x c.args.self.now c.line.new.self reply) (sym c.in-Line.is) (p s at)) c.line.ensures.answer
+
+pub returns-in-Unline-clause-answer : goal.returns-in-Unline-clause-answer
+returns-in-Unline-clause-answer g c =
+    if_ok _ _ c.unline.result (λ reply p s at.
+    subst (λ (x : Command). Answered {D = g.W.Disk} s x c.args.self.now c.unline.new.self reply) (sym c.in-Unline.is) (p s at)) c.unline.ensures.answer
