@@ -188,12 +188,13 @@ returns-in-Scatter-clause-answer g c =
 
 pub returns-in-Blocks-clause-answer : goal.returns-in-Blocks-clause-answer
 returns-in-Blocks-clause-answer g c =
-    if_ok _ _ c.blocks.result (λ reply p s at.
-    subst (λ (x : Command). Answered {D = g.W.Disk} s x c.args.self.now c.blocks.new.self reply) (sym c.in-Blocks.is) (p s at)) c.blocks.ensures.answer
+    if_ok _ _ c.blocks-in-Blocks.result (λ reply p s at.
+    subst (λ (x : Command). Answered {D = g.W.Disk} s x c.args.self.now c.blocks-in-Blocks.new.self reply) (sym c.in-Blocks.is) (p s at)) c.blocks-in-Blocks.ensures.answer
 
-pub make_lines-requires-clause-threshold : goal.make_lines-requires-clause-threshold
-make_lines-requires-clause-threshold g c κs within =
-    let fits = (fitting_here {D = g.W.Disk} c.args.self.now c.args.command.now (commands.Lines c.in-Lines.l c.in-Lines.t) c.requires.spelled c.in-Lines.is).1 in (fits.least, fits.most)
+pub make_lines-requires : goal.make_lines-requires
+make_lines-requires g c =
+    let fits = (fitting_here {D = g.W.Disk} c.args.self.now c.args.command.now (commands.Lines c.in-Lines.l c.in-Lines.t) c.requires.spelled c.in-Lines.is).1 in
+    record { threshold = (fits.least, fits.most) }
 
 pub returns-in-Lines-clause-answer : goal.returns-in-Lines-clause-answer
 returns-in-Lines-clause-answer g c =
