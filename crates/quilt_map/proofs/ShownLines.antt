@@ -70,7 +70,7 @@ module _ {W : Type 0} {D : disk.Ghosts W} where
   pub shown : (b : Book W D) (layer : LineLayer) (v : LineView) (h : Head) (t : Tree) → h ≡ b.work → t ≡ tree_in h → v.tree ≡ t → v.layer ≡ layer.number → v.level ≡ h.level
       → IsHead b.journal.pages h → (segs : SegMap) (cover : BlockSet) → HoldsLines b layer segs cover → Shows b v (record { segs = segs; cover = cover })
   shown b layer v h t same tree is number level numbers segs cover holds =
-      let has = lines_as (told_of b) layer.number layer.threshold segs cover h b.work t same tree holds in
+      let has = lines_as (told_of b) layer segs cover h b.work t same tree holds in
       let there : HasLines (told_of b) v.tree v.layer v.level layer.threshold segs cover =
       subst (λ (x : Tree). HasLines (told_of b) x v.layer v.level layer.threshold segs cover) (sym is)
       (subst (λ (k : ℕ). HasLines (told_of b) t k v.level layer.threshold segs cover) (sym number)
