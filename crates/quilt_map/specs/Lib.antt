@@ -3,6 +3,8 @@ pub mod Commanding
 pub mod Copying
 pub mod Derivation
 pub mod Editing
+pub mod HeldLayers
+pub mod LineLayers
 pub mod Lookups
 pub mod Making
 pub mod Measuring
@@ -11,6 +13,7 @@ pub mod Painting
 pub mod Planning
 pub mod PointLayers
 pub mod Renewing
+pub mod Selecting
 pub mod Sessions
 pub mod Settled
 pub mod Steps

@@ -5,6 +5,7 @@ use Rattle.quilt_map.specs.Commanding.{Answered}
 use Rattle.quilt_map.proofs.Asked.{if_ok, if_err}
 use Rattle.quilt_map.proofs.ChangeSteps.{goes_here}
 use Rattle.quilt_map.proofs.Commanded.{fitting_here, fitting_of}
+use Rattle.quilt_map.proofs.Selects.{fits_some}
 use Rattle.quilt_map.proofs.session.Session.serve.Goals as goal
 
 pub returns-in-Region-clause-answer : goal.returns-in-Region-clause-answer
@@ -54,36 +55,6 @@ returns-in-Records-clause-goes_on g c = goes_here {D = g.W.Disk} c.args.self.now
 
 pub returns-in-Edition-clause-goes_on : goal.returns-in-Edition-clause-goes_on
 returns-in-Edition-clause-goes_on g c = goes_here {D = g.W.Disk} c.args.self.now.book
-
-pub returns-in-Blocks-clause-goes_on : goal.returns-in-Blocks-clause-goes_on
-returns-in-Blocks-clause-goes_on g c = goes_here {D = g.W.Disk} c.args.self.now.book
-
-pub returns-in-Lines-clause-goes_on : goal.returns-in-Lines-clause-goes_on
-returns-in-Lines-clause-goes_on g c = goes_here {D = g.W.Disk} c.args.self.now.book
-
-pub returns-in-Line-clause-goes_on : goal.returns-in-Line-clause-goes_on
-returns-in-Line-clause-goes_on g c = goes_here {D = g.W.Disk} c.args.self.now.book
-
-pub returns-in-Unline-clause-goes_on : goal.returns-in-Unline-clause-goes_on
-returns-in-Unline-clause-goes_on g c = goes_here {D = g.W.Disk} c.args.self.now.book
-
-pub returns-in-Cross-clause-goes_on : goal.returns-in-Cross-clause-goes_on
-returns-in-Cross-clause-goes_on g c = goes_here {D = g.W.Disk} c.args.self.now.book
-
-pub returns-in-Clip-clause-goes_on : goal.returns-in-Clip-clause-goes_on
-returns-in-Clip-clause-goes_on g c = goes_here {D = g.W.Disk} c.args.self.now.book
-
-pub returns-in-Nearest-clause-goes_on : goal.returns-in-Nearest-clause-goes_on
-returns-in-Nearest-clause-goes_on g c = goes_here {D = g.W.Disk} c.args.self.now.book
-
-pub returns-in-Rank-clause-goes_on : goal.returns-in-Rank-clause-goes_on
-returns-in-Rank-clause-goes_on g c = goes_here {D = g.W.Disk} c.args.self.now.book
-
-pub returns-in-Over-clause-goes_on : goal.returns-in-Over-clause-goes_on
-returns-in-Over-clause-goes_on g c = goes_here {D = g.W.Disk} c.args.self.now.book
-
-pub returns-in-Crossings-clause-goes_on : goal.returns-in-Crossings-clause-goes_on
-returns-in-Crossings-clause-goes_on g c = goes_here {D = g.W.Disk} c.args.self.now.book
 
 pub returns-in-Drop-clause-answer : goal.returns-in-Drop-clause-answer
 returns-in-Drop-clause-answer g c =
@@ -197,3 +168,43 @@ pub returns-in-Scatter-clause-answer : goal.returns-in-Scatter-clause-answer
 returns-in-Scatter-clause-answer g c =
     if_ok _ _ c.scatter.result (λ reply p s at.
     subst (λ (x : Command). Answered {D = g.W.Disk} s x c.args.self.now c.scatter.new.self reply) (sym c.in-Scatter.is) (p s at)) c.scatter.ensures.answer
+
+pub returns-in-Blocks-clause-answer : goal.returns-in-Blocks-clause-answer
+returns-in-Blocks-clause-answer g c =
+    if_ok _ _ c.blocks-in-Blocks.result (λ reply p s at.
+    subst (λ (x : Command). Answered {D = g.W.Disk} s x c.args.self.now c.blocks-in-Blocks.new.self reply) (sym c.in-Blocks.is) (p s at)) c.blocks-in-Blocks.ensures.answer
+
+pub make_lines-requires : goal.make_lines-requires
+make_lines-requires g c =
+    let fits = (fitting_here {D = g.W.Disk} c.args.self.now c.args.command.now (commands.Lines c.in-Lines.l c.in-Lines.t) c.requires.spelled c.in-Lines.is).1 in
+    record { threshold = (fits.least, fits.most) }
+
+pub returns-in-Lines-clause-answer : goal.returns-in-Lines-clause-answer
+returns-in-Lines-clause-answer g c =
+    if_ok _ _ c.make_lines.result (λ reply p s at.
+    subst (λ (x : Command). Answered {D = g.W.Disk} s x c.args.self.now c.make_lines.new.self reply) (sym c.in-Lines.is) (p s at)) c.make_lines.ensures.answer
+
+pub returns-in-Line-clause-answer : goal.returns-in-Line-clause-answer
+returns-in-Line-clause-answer g c =
+    if_ok _ _ c.line.result (λ reply p s at.
+    subst (λ (x : Command). Answered {D = g.W.Disk} s x c.args.self.now c.line.new.self reply) (sym c.in-Line.is) (p s at)) c.line.ensures.answer
+
+pub returns-in-Unline-clause-answer : goal.returns-in-Unline-clause-answer
+returns-in-Unline-clause-answer g c =
+    if_ok _ _ c.unline.result (λ reply p s at.
+    subst (λ (x : Command). Answered {D = g.W.Disk} s x c.args.self.now c.unline.new.self reply) (sym c.in-Unline.is) (p s at)) c.unline.ensures.answer
+
+pub ask_lines-requires-in-Rank-clause-some : goal.ask_lines-requires-in-Rank-clause-some
+ask_lines-requires-in-Rank-clause-some g c =
+    let old = c.args.self.now in
+    fits_some old.book.work.format old.book.last.level c.args.command.now (fitting_here {D = g.W.Disk} old c.args.command.now c.args.command.now c.requires.spelled refl)
+
+pub returns-in-Over-clause-answer : goal.returns-in-Over-clause-answer
+returns-in-Over-clause-answer g c =
+    if_ok _ _ c.over.result (λ reply p s at.
+    subst (λ (x : Command). Answered {D = g.W.Disk} s x c.args.self.now c.over.new.self reply) (sym c.in-Over.is) (p s at)) c.over.ensures.answer
+
+pub returns-in-Crossings-clause-answer : goal.returns-in-Crossings-clause-answer
+returns-in-Crossings-clause-answer g c =
+    if_ok _ _ c.crossings.result (λ reply p s at.
+    subst (λ (x : Command). Answered {D = g.W.Disk} s x c.args.self.now c.crossings.new.self reply) (sym c.in-Crossings.is) (p s at)) c.crossings.ensures.answer

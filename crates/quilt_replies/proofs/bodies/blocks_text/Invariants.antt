@@ -1,5 +1,5 @@
 use Rattle.quilt_replies.proofs.Replies.{IsCounting}
-use Rattle.quilt_replies.proofs.bodies.counts_text.Given as goal
+use Rattle.quilt_replies.proofs.bodies.blocks_text.Given as goal
 
 abbrev pub invariant-loop-k : goal.invariant-loop-k
 invariant-loop-k l = IsCounting l.level l.counts l.k l.text
