@@ -1,5 +1,5 @@
 -- The records of facts that are pushed one behind the other.
-use Rattle.std.proofs.Common.{◌≡◌, ℕ, ◌+◌, ◌<◌, ◌≤◌, true, false, cond, List, [], ◌∷◌, ◌++◌, map, flat_map, length, take, get_or, refl, sym, ◌∙◌, ap, ap₂, arith, append_assoc, eqb, eqb-true}
+use Rattle.std.proofs.Common.{◌≡◌, ℕ, ◌+◌, ◌<◌, ◌≤◌, true, false, cond, List, [], ◌∷◌, ◌++◌, map, flat_map, length, take, get_or, refl, sym, ◌∙◌, ap, arith, append_assoc, eqb, eqb-true}
 use Rattle.std.proofs.lemmas.List.{map-append, append-nil, take_all}
 use Rattle.std.proofs.lemmas.Grind.{flat_map-append}
 use Rattle.quilt_types.specs.declared.plane.Block.{Block}

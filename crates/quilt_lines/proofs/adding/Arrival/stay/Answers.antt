@@ -1,5 +1,4 @@
-use Rattle.std.proofs.Common.{◌++◌, [], ◌∷◌, List, sym, ◌∙◌, ap}
-use Rattle.quilt_record.specs.declared.record.Record.{Record}
+use Rattle.std.proofs.Common.{◌++◌, [], ◌∷◌, ◌∙◌, ap}
 use Rattle.quilt_types.specs.Facts.{IsMetBy}
 use Rattle.quilt_lines.proofs.Rows.{follow_one, none_goes, none_stays}
 use Rattle.quilt_lines.proofs.adding.Arrival.stay.Goals as goal
