@@ -10,7 +10,7 @@ pub fn draw(seed: &mut u64, bound: u32) -> u32 {
 
 /// A coordinate of a pixel of a square with this side.
 fn coordinate(seed: &mut u64, side: u16) -> u16 {
-    draw(seed, u32::from(side)) as u16
+    u16::try_from(draw(seed, u32::from(side))).unwrap_or(0)
 }
 
 /// A segment of a square with this side: of one pixel, along a border of the square or of its quarters, along its diagonal, from

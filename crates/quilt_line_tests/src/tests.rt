@@ -12,15 +12,16 @@ fn mixed_edits(rt: &impl Abort, alloc: Global, level: u8, t: u8, edits: u32) -> 
     requires threshold { (1 ≤ t) × (t ≤ 32) }
 {
     let mut trial = Trial::new(rt, alloc, level, t)?;
-    let mut seed = u64::from(level).wrapping_mul(1000).wrapping_add(u64::from(t));
+    let mut seed = u64::from(level)
+        .wrapping_mul(1000)
+        .wrapping_add(u64::from(t));
     let ids = u32::from(t).wrapping_mul(2).wrapping_add(8);
     for step in 0..edits {
         let id = draw(&mut seed, ids);
         if trial.plain.segs.contains_key(&id) {
             trial = trial.add(rt, alloc, id, drawn_seg(&mut seed, 1 << level))?;
             trial = trial.remove(rt, alloc, id)?;
-        }
-        else {
+        } else {
             trial = trial.remove(rt, alloc, id)?;
             trial = trial.add(rt, alloc, id, drawn_seg(&mut seed, 1 << level))?;
         }

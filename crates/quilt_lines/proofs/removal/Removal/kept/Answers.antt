@@ -5,7 +5,7 @@ use Rattle.quilt_types.specs.Segments.{square, meets}
 use Rattle.quilt_record.specs.declared.record.Record.{Record}
 use Rattle.quilt_lines.specs.Layers.{fact_record}
 use Rattle.quilt_lines.proofs.MergeSteps.{kept_settles}
-use Rattle.quilt_lines.proofs.merging.Removal.kept.Goals as goal
+use Rattle.quilt_lines.proofs.removal.Removal.kept.Goals as goal
 
 pub returns : goal.returns
 returns c k segs cover at =
