@@ -1,4 +1,4 @@
-ghost use Rattle.std.specs.Prelude.{◌≡◌, ◌<◌, ◌≤◌, ◌^◌, ℕ, List, true, nat_lt, map, sum, length, flat_map, All, IfOk};
+ghost use Rattle.std.specs.Prelude.{◌≡◌, ◌<◌, ◌≤◌, ◌^◌, ℕ, List, true, nat_lt, map, sum, length, flat_map, ◌+◌, All, IfOk, IfSome, IfNone};
 ghost use Rattle.std.specs.FinMap as finmap;
 ghost use Rattle.std.specs.List.Sorted.{IsStrictlyIncreasing};
 ghost use Rattle.quilt_types.specs.declared.plane.Seg.{Seg as SegOf};
@@ -18,6 +18,9 @@ use std::thread::Threads;
 
 /// How many pairs are listed at most.
 const MOST: usize = 1_000_000;
+
+/// How many segments are counted at a time.
+const PART: usize = 4096;
 
 /// How many segments share a point with each of a list, in threads.
 fn counts_of<R: Threads + Sync>(
@@ -59,18 +62,44 @@ fn rows_of<R: Threads + Sync>(
     rows
 }
 
-/// Whether the numbers make more than `MOST` together.
-fn are_more(counts: &[usize]) -> bool
-    ensures { result ≡ nat_lt most_pairs (sum counts.now) }
+/// The total with all numbers added. None where that is more than `MOST`.
+fn added(total: usize, counts: &[usize]) -> Option<usize>
+    requires { total ≤ most_pairs }
+    ensures sum { IfSome result (λ all. all ≡ total + sum counts.now) }
+    ensures few { IfSome result (λ all. all ≤ most_pairs) }
+    ensures many { IfNone result (most_pairs < total + sum counts.now) }
+{
+    let mut all = total;
+    for count in counts {
+        if MOST - all < *count {
+            return None;
+        }
+        all += *count;
+    }
+    Some(all)
+}
+
+/// Whether more than `MOST` pairs share a point: the segments of a list are counted part by part, as long as there are no more.
+fn are_more<R: Threads + Sync>(
+    rt: &R,
+    alloc: Global,
+    buckets: &Buckets,
+    list: &[(u32, Seg)],
+) -> Result<bool, AllocError>
+    ensures { (b : List (ℕ × SegOf)) → AreFilled (2 ^ buckets.now.shift) buckets.now.columns buckets.now.lists.items b → IsStrictlyIncreasing (map (λ e. e.0) b) → IfOk result (λ more. more ≡ nat_lt most_pairs (sum (map (λ e. length (ids_sharing e.1 b)) list.now))) }
 {
     let mut total = 0_usize;
-    for count in counts {
-        if MOST - total < *count {
-            return true;
+    let mut rest = list;
+    while !rest.is_empty() {
+        let (part, after) = rest.split_at(rest.len().min(PART));
+        let counts = counts_of(rt, alloc, buckets, part)?;
+        match added(total, &counts) {
+            Some(all) => total = all,
+            None => return Ok(true),
         }
-        total += *count;
+        rest = after;
     }
-    false
+    Ok(false)
 }
 
 /// The lists one behind the other.
@@ -105,8 +134,7 @@ pub fn crossings<R: Threads + Sync>(
 {
     let level = u32::from(level);
     let buckets = Buckets::of(alloc, level, shift_for(level, a, b), b)?;
-    let counts = counts_of(rt, alloc, &buckets, a)?;
-    if are_more(&counts) {
+    if are_more(rt, alloc, &buckets, a)? {
         return Ok(None);
     }
     let rows = rows_of(rt, alloc, &buckets, a)?;
