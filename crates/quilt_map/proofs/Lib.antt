@@ -2,6 +2,7 @@ pub mod Amends
 pub mod Answered
 pub mod Asked
 pub mod Asks
+pub mod Bounded
 pub mod Catalogs
 pub mod Commanded
 pub mod ChangeSteps

@@ -12,6 +12,7 @@ pub mod Overlaying
 pub mod Painting
 pub mod Planning
 pub mod PointLayers
+pub mod Reading
 pub mod Renewing
 pub mod Selecting
 pub mod Sessions

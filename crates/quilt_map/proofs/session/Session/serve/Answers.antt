@@ -5,7 +5,6 @@ use Rattle.quilt_map.specs.Commanding.{Answered}
 use Rattle.quilt_map.proofs.Asked.{if_ok, if_err}
 use Rattle.quilt_map.proofs.ChangeSteps.{goes_here}
 use Rattle.quilt_map.proofs.Commanded.{fitting_here, fitting_of}
-use Rattle.quilt_map.proofs.Selects.{fits_some}
 use Rattle.quilt_map.proofs.session.Session.serve.Goals as goal
 
 pub returns-in-Region-clause-answer : goal.returns-in-Region-clause-answer
@@ -159,11 +158,6 @@ returns-in-Del-clause-answer g c =
     if_ok _ _ c.del_point.result (λ reply p s at.
     subst (λ (x : Command). Answered {D = g.W.Disk} s x c.args.self.now c.del_point.new.self reply) (sym c.in-Del.is) (p s at)) c.del_point.ensures.answer
 
-pub returns-in-Find-clause-answer : goal.returns-in-Find-clause-answer
-returns-in-Find-clause-answer g c =
-    if_ok _ _ c.find_point.result (λ reply p s at.
-    subst (λ (x : Command). Answered {D = g.W.Disk} s x c.args.self.now c.find_point.new.self reply) (sym c.in-Find.is) (p s at)) c.find_point.ensures.answer
-
 pub returns-in-Scatter-clause-answer : goal.returns-in-Scatter-clause-answer
 returns-in-Scatter-clause-answer g c =
     if_ok _ _ c.scatter.result (λ reply p s at.
@@ -193,11 +187,6 @@ pub returns-in-Unline-clause-answer : goal.returns-in-Unline-clause-answer
 returns-in-Unline-clause-answer g c =
     if_ok _ _ c.unline.result (λ reply p s at.
     subst (λ (x : Command). Answered {D = g.W.Disk} s x c.args.self.now c.unline.new.self reply) (sym c.in-Unline.is) (p s at)) c.unline.ensures.answer
-
-pub ask_lines-requires-in-Rank-clause-some : goal.ask_lines-requires-in-Rank-clause-some
-ask_lines-requires-in-Rank-clause-some g c =
-    let old = c.args.self.now in
-    fits_some old.book.work.format old.book.last.level c.args.command.now (fitting_here {D = g.W.Disk} old c.args.command.now c.args.command.now c.requires.spelled refl)
 
 pub returns-in-Over-clause-answer : goal.returns-in-Over-clause-answer
 returns-in-Over-clause-answer g c =
