@@ -4,10 +4,6 @@
 #[cfg(test)]
 mod comparing;
 #[cfg(test)]
-mod drawing;
-#[cfg(test)]
-mod plain_algebra;
-#[cfg(test)]
-mod plain_measures;
-#[cfg(test)]
 mod tests;
+#[cfg(test)]
+mod windows;

@@ -1,4 +1,4 @@
--- What has to come behind records that begin those of a map of regions and points.
+-- What has to come behind records that begin those of a map.
 use Rattle.std.proofs.Common.{◌≡◌, ℕ, ◌<◌, ◌≤◌, true, List, [], ◌∷◌, ◌++◌, map, length, Some, refl, sym, ◌∙◌, ap, subst, inl, inr, ⊎_elim, arith, Contains, eqb, ne_eqb, Less, pow_pos}
 use Rattle.std.specs.Ordering.{is_le}
 use Rattle.std.specs.Cmp.Lexicographic.{slice_cmp, nat_list_cmp_total}
@@ -31,9 +31,12 @@ use Rattle.quilt_edits.proofs.Keys.{le_layer}
 use Rattle.quilt_point_laws.proofs.OnBlocks.{OfBlock, fact_is}
 use Rattle.quilt_point_laws.proofs.Plans.{block_around}
 use Rattle.quilt_audit.specs.declared.run.Run.{Run}
-use Rattle.quilt_audit.specs.Covers.{SpellsOne}
-use Rattle.quilt_audit.specs.Surveys.{AreRegionsOrPoints, IsRegionOrPoints}
+use Rattle.quilt_line_audit.specs.Layers.{SpellsOne}
 use Rattle.quilt_audit.specs.Checking.{entry_record, IsSoFar}
+use Rattle.quilt_line_laws.proofs.Adding.{cover_of}
+use Rattle.quilt_line_audit.specs.Runs.{pair_record}
+use Rattle.quilt_line_audit.proofs.Facts.{first_pair, pair_there}
+use Rattle.quilt_line_audit.proofs.Keys.{pair_key}
 use Rattle.quilt_audit.proofs.Lists.{rises_before}
 use Rattle.quilt_audit.proofs.Catalog.{named_entry, kind_record_is, entry_is, named_entry_is, entry_alone, free_or_kind}
 use Rattle.quilt_audit.proofs.PointAhead.{on_layer, some_on}
@@ -43,8 +46,8 @@ pub key_layers : (a b : Record) → by_key a b ≡ Less → a.key.layer ≤ b.ke
 key_layers a b e = le_layer a.key b.key (ap is_le e)
 
 -- a layer has a record besides that of the catalog
-pub some_record : (form n : ℕ) → n ≤ 12 → (rs : List Record) (k : ℕ) → 1 ≤ k → (l : Layer) → IsRegionOrPoints l → SpellsOne form n rs k l → (r : Record) × Contains rs r × (r.key.layer ≡ k)
-some_record form n le rs k some (Region grid) h s = first (leaves_by_code n grid) refl (some_leaf n (leaves_by_code n grid) (leaves_run n grid le))
+pub some_record : (form n : ℕ) → n ≤ 12 → (rs : List Record) (k : ℕ) → 1 ≤ k → (l : Layer) → SpellsOne form n rs k l → (r : Record) × Contains rs r × (r.key.layer ≡ k)
+some_record form n le rs k some (Region grid) s = first (leaves_by_code n grid) refl (some_leaf n (leaves_by_code n grid) (leaves_run n grid le))
   where
     first : (es : List (Block × ℕ)) → es ≡ leaves_by_code n grid → 1 ≤ length es → (r : Record) × Contains rs r × (r.key.layer ≡ k)
     first [] is one = absurd (omega arith)
@@ -53,7 +56,7 @@ some_record form n le rs k some (Region grid) h s = first (leaves_by_code n grid
         let c = (leaves_members n grid e).0 (subst (λ (l : List (Block × ℕ)). Contains l e) is (Contains-here e es)) in
         let m = Contains-there (IsOfKind 1 0) (map fact (leaves n grid)) (fact e) (Contains-map fact (leaves n grid) e c) in
         ⊎_elim (λ kind. let z : HasColour e.0 e.1 ≡ IsOfKind 1 0 = kind in cc) (λ d. (record_of n 0 [] k (fact e), d, refl)) (s.each (fact e) m)
-some_record form n le rs k some (Points capacity points) h s =
+some_record form n le rs k some (Points capacity points) s =
     let p : Pixel = record { x = 0; y = 0 } in
     let pos = pow_pos n in
     let b = block_around n capacity points p s.fits.least pos pos in
@@ -64,9 +67,14 @@ some_record form n le rs k some (Points capacity points) h s =
     ⊎_elim
     (λ kind. let z : 0 ≡ k = sym (ap (λ (x : Fact). (record_of n capacity [] k x).key.layer) kind) ∙ number in absurd (omega arith))
     (λ d. (record_of n capacity [] k f.0, d, number)) (s.each f.0 (fact_is n capacity points f.0 o))
-some_record form n le rs k some (Lines threshold segs cover) h s = absurd h
+some_record form n le rs k some (Lines threshold segs cover) s =
+    let pos = pow_pos n in
+    let h = cover_of n threshold segs cover s.fits in
+    let b = h.covers.holder (record { x = 0; y = 0 }) pos pos in
+    let p = first_pair b.0 (finmap.entries segs) in
+    (pair_record n k p.0, pair_there form n k threshold segs cover rs some s b.0 p.0 b.1 p.1, (pair_key n k p.0).layer_is)
 
-module _ (form n : ℕ) (numbers : Numbering) (layers : Map) (rs ahead : List Record) (le : n ≤ 12) (kinds : AreRegionsOrPoints layers) (s : SpellsUnder form n numbers (rs ++ ahead) layers) where
+module _ (form n : ℕ) (numbers : Numbering) (layers : Map) (rs ahead : List Record) (le : n ≤ 12) (s : SpellsUnder form n numbers (rs ++ ahead) layers) where
   -- ---- the layers of the map
   named_in : (name : List ℕ) (l : Layer) → finmap.get layers name ≡ Some l → is_name name ≡ true
   named_in name l at =
@@ -181,7 +189,7 @@ module _ (form n : ℕ) (numbers : Numbering) (layers : Map) (rs ahead : List Re
         let l = entry_layer e c in
         let least = f.least e c in
         let spelled = subst (λ (k : ℕ). SpellsOne form n (rs ++ ahead) k l.value) l.number (spelled_at e.name l.value l.at) in
-        let r = some_record form n le (rs ++ ahead) e.number least l.value (kinds.each e.name l.value l.at) spelled in
+        let r = some_record form n le (rs ++ ahead) e.number least l.value spelled in
         let number = r.2 in
         ⊎_elim (λ d. let k = (f.layers_only r.0 d (omega arith)).0 in absurd (omega arith)) (λ d. (r.0, d, number)) (Contains-append_cases rs ahead r.0 r.1)
 

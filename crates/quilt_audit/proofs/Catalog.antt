@@ -13,8 +13,6 @@ use Rattle.quilt_record.proofs.Names.{entry_name, entry_kind, entry_byte, name_a
 use Rattle.quilt_spell.specs.Catalogued.{kind_of}
 use Rattle.quilt_spell.specs.OfLayer.{kind_record}
 use Rattle.quilt_audit.specs.Checking.{entry_record}
-use Rattle.quilt_audit.specs.Runs.{IsChecked}
-use Rattle.quilt_audit.specs.Surveys.{IsRegionOrPoints}
 
 -- the entry of a layer
 abbrev pub named_entry : List ℕ → ℕ → Layer → Entry
@@ -29,16 +27,6 @@ kind_fits : (form n : ℕ) (l : Layer) → IsLayer form n l → KindFits form (k
 kind_fits form n (Region grid) v = tt
 kind_fits form n (Points capacity points) v = (v.least, v.most)
 kind_fits form n (Lines threshold segs cover) v = (v.least, v.most)
-
-pub is_checked : (l : Layer) → IsRegionOrPoints l → IsChecked (kind_of l)
-is_checked (Region grid) h = tt
-is_checked (Points capacity points) h = tt
-is_checked (Lines threshold segs cover) h = absurd h
-
-pub checked_is : (l : Layer) → IsChecked (kind_of l) → IsRegionOrPoints l
-checked_is (Region grid) h = tt
-checked_is (Points capacity points) h = tt
-checked_is (Lines threshold segs cover) h = absurd h
 
 -- an entry is read of its record
 pub entry_is : (form n : ℕ) (e : Entry) → 1 ≤ e.number → e.number ≤ 255 → is_name e.name ≡ true → KindFits form e.kind → IsEntryOf form (entry_record n e) e

@@ -1,4 +1,4 @@
--- Records of which all is known spell a map of regions and points.
+-- Records of which all is known spell a map.
 use Rattle.std.proofs.Common.{◌≡◌, ℕ, suc, ◌≤◌, ◌&&◌, Bool, true, false, T, List, [], ◌∷◌, map, length, Some, refl, sym, ◌∙◌, ap, ap₂, subst, ⊎_elim, arith, Contains, Ordering, Less}
 use Rattle.std.specs.Ordering.{is_lt, nat_cmp}
 use Rattle.std.specs.Cmp.Lexicographic.{slice_cmp, nat_list_cmp_total}
@@ -23,10 +23,9 @@ use Rattle.quilt_spell.proofs.OfLayer.{kind_there, kind_only}
 use Rattle.quilt_spell.proofs.Spelling.{all_from}
 use Rattle.quilt_spell.proofs.Written.{name_same, layer_record, layer_record_from, number_at}
 use Rattle.quilt_audit.specs.declared.run.Run.{Run}
-use Rattle.quilt_audit.specs.Covers.{IsLayerOf}
-use Rattle.quilt_audit.specs.Runs.{IsChecked}
+use Rattle.quilt_line_audit.specs.Layers.{IsLayerOf}
 use Rattle.quilt_audit.specs.Checking.{entry_record, IsSoFar, IsSpelled}
-use Rattle.quilt_audit.proofs.Catalog.{kind_record_is, checked_is, free_or_kind}
+use Rattle.quilt_audit.proofs.Catalog.{kind_record_is, free_or_kind}
 
 -- ---- lists in the order of names
 both_true : (a b : Bool) → T a → T b → T (a && b)
@@ -260,12 +259,6 @@ module _ (form n : ℕ) (rs : List Record) (least : 1 ≤ n) (le : n ≤ 12) (es
   is_spelled = record {
     numbers = numbers;
     layers = made;
-    kinds = record {
-      each = λ name l at.
-          let m = layer_got name l at in
-          let value = ap (λ (x : List ℕ × Layer). x.1) m.is in
-          checked_is l (subst IsChecked (sym (ap kind_of value ∙ m.covered.is)) (f.checked m.entry m.member));
-    };
     spelled = record {
       map = is_map;
       numbering = numbering;

@@ -1,4 +1,4 @@
--- What the next record is, or what is there at the end, where the records are those of a map of regions and points.
+-- What the next record is, or what is there at the end, where the records are those of a map.
 use Rattle.std.proofs.Common.{◌≡◌, ℕ, ◌<◌, ◌≤◌, ◌⊎◌, List, [], ◌∷◌, ◌++◌, sym, ◌∙◌, ap, subst, inl, inr, ⊎_elim, arith, Contains}
 use Rattle.std.proofs.lemmas.Bool.{cases_lt}
 use Rattle.std.proofs.lemmas.List.{append-nil}
@@ -13,12 +13,11 @@ use Rattle.quilt_record.specs.Listing.{IsEntryOf}
 use Rattle.quilt_spell.specs.Spelled.{SpellsUnder}
 use Rattle.quilt_spell.specs.Written.{by_key, number_of}
 use Rattle.quilt_audit.specs.declared.run.Run.{Run}
-use Rattle.quilt_audit.specs.Covers.{Refuses}
-use Rattle.quilt_audit.specs.Surveys.{AreRegionsOrPoints}
-use Rattle.quilt_audit.specs.Runs.{IsRun, IsRunFinished, IsChecked}
+use Rattle.quilt_line_audit.specs.Layers.{Refuses}
+use Rattle.quilt_audit.specs.Runs.{IsRun, IsRunFinished}
 use Rattle.quilt_audit.specs.Checking.{entry_record, IsSoFar, HasBegun}
 use Rattle.quilt_audit.proofs.Lists.{rises_behind}
-use Rattle.quilt_audit.proofs.Catalog.{named_entry, is_checked}
+use Rattle.quilt_audit.proofs.Catalog.{named_entry}
 use Rattle.quilt_audit.proofs.Ahead.{key_layers, catalog_record, number_range, layer_record_of, in_order, entry_layer, all_listed, behind, current_spelled}
 use Rattle.quilt_audit.proofs.Runs.{short}
 
@@ -26,7 +25,6 @@ use Rattle.quilt_audit.proofs.Runs.{short}
 pub record NextEntry (form : ℕ) (es : List Entry) (last layer : ℕ) (r : Record) : Type 0 where
   pub entry : Entry
   pub is : IsEntryOf form r entry
-  pub checked : IsChecked entry.kind
   pub first : layer ≡ 0
   pub above : last < entry.number
   pub fresh : (e : Entry) → Contains es e → e.name ≡ entry.name → ⊥
@@ -40,35 +38,34 @@ pub record NextLayer (n : ℕ) (es : List Entry) (layer : ℕ) (run : Run) (numb
   pub between : (e : Entry) → Contains es e → (e.number ≤ layer) ⊎ (number ≤ e.number)
 
 module _ (form n : ℕ) (least : 1 ≤ n) (le : n ≤ 12) (es : List Entry) (last layer : ℕ) (run : Run) (rs : List Record) (f : IsSoFar form n es last layer run rs) (top : last ≤ 255)
-    (rest : List Record) (numbers : Numbering) (layers : Map) (kinds : AreRegionsOrPoints layers) where
+    (rest : List Record) (numbers : Numbering) (layers : Map) where
   module _ (r : Record) (s : SpellsUnder form n numbers (rs ++ r ∷ rest) layers) where
     here : Contains (rs ++ r ∷ rest) r
     here = Contains-append_right rs (r ∷ rest) r (Contains-here r rest)
 
     pub next_entry : HasBegun layer rs → r.key.layer ≡ 0 → NextEntry form es last layer r
     next_entry begun zero' =
-        let w = catalog_record form n numbers layers rs (r ∷ rest) le kinds s r here zero' in
+        let w = catalog_record form n numbers layers rs (r ∷ rest) le s r here zero' in
         let number = number_of numbers w.name in
         let above : last < number =
-        ⊎_elim (λ none. let range = number_range form n numbers layers rs (r ∷ rest) le kinds s w.name w.layer w.at in let one = range.0 in omega arith)
+        ⊎_elim (λ none. let range = number_range form n numbers layers rs (r ∷ rest) le s w.name w.layer w.at in let one = range.0 in omega arith)
         (λ reached.
-        let before = in_order form n numbers layers rs (r ∷ rest) le kinds s (entry_record n reached.0) r (f.listed reached.0 reached.1) (Contains-here r rest) in
+        let before = in_order form n numbers layers rs (r ∷ rest) le s (entry_record n reached.0) r (f.listed reached.0 reached.1) (Contains-here r rest) in
         let lt : reached.0.number < number = nat_less_from reached.0.number number (sym (ap (λ (z : Record). by_key (entry_record n reached.0) z) (w.entry.written 0 0)) ∙ before) in
         let same = reached.2 in
         omega arith) f.reached in
         record {
           entry = named_entry w.name number w.layer;
           is = w.entry;
-          checked = is_checked w.layer (kinds.each w.name w.layer w.at);
           first = ⊎_elim
               (λ some.
               let x = begun some in
-              let k = key_layers x.0 r (in_order form n numbers layers rs (r ∷ rest) le kinds s x.0 r x.1 (Contains-here r rest)) in
+              let k = key_layers x.0 r (in_order form n numbers layers rs (r ∷ rest) le s x.0 r x.1 (Contains-here r rest)) in
               let e = x.2 in
               absurd (omega arith)) (λ none. omega arith) (cases_lt 0 layer);
           above = above;
           fresh = λ e c same.
-              let l = entry_layer form n numbers layers rs (r ∷ rest) le kinds s es last layer run f top e c in
+              let l = entry_layer form n numbers layers rs (r ∷ rest) le s es last layer run f top e c in
               let same_number : e.number ≡ number = sym l.number ∙ ap (λ (z : List ℕ). number_of numbers z) same in
               let m = f.most e c in
               absurd (omega arith);
@@ -81,28 +78,28 @@ module _ (form n : ℕ) (least : 1 ≤ n) (le : n ≤ 12) (es : List Entry) (las
 
     pub next_layer : HasBegun layer rs → 1 ≤ r.key.layer → NextLayer n es layer run r.key.layer
     next_layer begun some =
-        let w = layer_record_of form n numbers layers rs (r ∷ rest) le kinds s r here some in
-        let range = number_range form n numbers layers rs (r ∷ rest) le kinds s w.name w.layer w.at in
+        let w = layer_record_of form n numbers layers rs (r ∷ rest) le s r here some in
+        let range = number_range form n numbers layers rs (r ∷ rest) le s w.name w.layer w.at in
         let range_most = range.1 in
         let number = w.number in
-        let a = all_listed form n numbers layers rs (r ∷ rest) le kinds s es last layer run f top (λ x c. let k = later x c in omega arith) w.name w.layer w.at in
+        let a = all_listed form n numbers layers rs (r ∷ rest) le s es last layer run f top (λ x c. let k = later x c in omega arith) w.name w.layer w.at in
         record {
           most = omega arith;
           below = ⊎_elim
               (λ lt.
               let x = begun (omega arith) in
-              let k = key_layers x.0 r (in_order form n numbers layers rs (r ∷ rest) le kinds s x.0 r x.1 (Contains-here r rest)) in
+              let k = key_layers x.0 r (in_order form n numbers layers rs (r ∷ rest) le s x.0 r x.1 (Contains-here r rest)) in
               let e = x.2 in
               absurd (omega arith)) (λ ge. ge) (cases_lt r.key.layer layer);
           covered = λ lt one open_.
               let c = f.current one in
-              let l = entry_layer form n numbers layers rs (r ∷ rest) le kinds s es last layer run f top c.0 c.1 in
+              let l = entry_layer form n numbers layers rs (r ∷ rest) le s es last layer run f top c.0 c.1 in
               short form n least le rs layer one (c.0).kind run c.3 open_ (r ∷ rest) l.value l.kind (λ x m is. let k = later x m in omega arith) s.ascending
-              (current_spelled form n numbers layers rs (r ∷ rest) le kinds s es last layer run f top c.0 c.1 c.2 l);
+              (current_spelled form n numbers layers rs (r ∷ rest) le s es last layer run f top c.0 c.1 c.2 l);
           listed = (a.0, a.1, a.3 ∙ number);
           between = λ e c. ⊎_elim
               (λ lt.
-              let b = behind form n numbers layers rs (r ∷ rest) le kinds s es last layer run f top e c lt in
+              let b = behind form n numbers layers rs (r ∷ rest) le s es last layer run f top e c lt in
               let k = later b.0 b.1 in
               let same = b.2 in
               inr (omega arith)) (λ ge. inl ge) (cases_lt layer e.number);
@@ -112,22 +109,22 @@ module _ (form n : ℕ) (least : 1 ≤ n) (le : n ≤ 12) (es : List Entry) (las
     pub next_taken : (some : 1 ≤ layer) → r.key.layer ≡ layer → ((e : Entry) → Contains es e → e.number ≡ layer → IsRun form n rs layer e.kind run → Refuses form n rs layer e.kind r) → ⊥
     next_taken some is refused =
         let c = f.current some in
-        let l = entry_layer form n numbers layers rs (r ∷ rest) le kinds s es last layer run f top c.0 c.1 in
-        refused c.0 c.1 c.2 c.3 rest l.value l.kind s.ascending (current_spelled form n numbers layers rs (r ∷ rest) le kinds s es last layer run f top c.0 c.1 c.2 l)
+        let l = entry_layer form n numbers layers rs (r ∷ rest) le s es last layer run f top c.0 c.1 in
+        refused c.0 c.1 c.2 c.3 rest l.value l.kind s.ascending (current_spelled form n numbers layers rs (r ∷ rest) le s es last layer run f top c.0 c.1 c.2 l)
 
 -- at the end
 module _ (form n : ℕ) (least : 1 ≤ n) (le : n ≤ 12) (es : List Entry) (last layer : ℕ) (run : Run) (rs : List Record) (f : IsSoFar form n es last layer run rs) (top : last ≤ 255)
-    (numbers : Numbering) (layers : Map) (kinds : AreRegionsOrPoints layers) (s : SpellsUnder form n numbers rs layers) where
+    (numbers : Numbering) (layers : Map) (s : SpellsUnder form n numbers rs layers) where
   with_none : SpellsUnder form n numbers (rs ++ []) layers
   with_none = subst (λ (l : List Record). SpellsUnder form n numbers l layers) (sym (append-nil rs)) s
 
   pub end_covered : 1 ≤ layer → (IsRunFinished n run → ⊥) → ⊥
   end_covered some open_ =
       let c = f.current some in
-      let l = entry_layer form n numbers layers rs [] le kinds with_none es last layer run f top c.0 c.1 in
+      let l = entry_layer form n numbers layers rs [] le with_none es last layer run f top c.0 c.1 in
       short form n least le rs layer some (c.0).kind run c.3 open_ [] l.value l.kind (λ x m is. Contains-nil x m) with_none.ascending
-      (current_spelled form n numbers layers rs [] le kinds with_none es last layer run f top c.0 c.1 c.2 l)
+      (current_spelled form n numbers layers rs [] le with_none es last layer run f top c.0 c.1 c.2 l)
 
   pub end_listed : (e : Entry) → Contains es e → e.number ≤ layer
   end_listed e c =
-      ⊎_elim (λ lt. let b = behind form n numbers layers rs [] le kinds with_none es last layer run f top e c lt in absurd (Contains-nil b.0 b.1)) (λ ge. ge) (cases_lt layer e.number)
+      ⊎_elim (λ lt. let b = behind form n numbers layers rs [] le with_none es last layer run f top e c lt in absurd (Contains-nil b.0 b.1)) (λ ge. ge) (cases_lt layer e.number)

@@ -35,7 +35,8 @@ use Rattle.quilt_point_laws.proofs.Narrowing.{one_maximal}
 use Rattle.quilt_point_laws.proofs.OnBlocks.{IsBare, IsOn, OfBlock, on_one, on_from, on_is, fact_from, fact_is}
 use Rattle.quilt_audit.specs.declared.tally.Tally.{Tally}
 use Rattle.quilt_audit.specs.declared.points.PointRun.{PointRun}
-use Rattle.quilt_audit.specs.Covers.{SpellsOne, no_blocks}
+use Rattle.quilt_line_audit.specs.Layers.{SpellsOne}
+use Rattle.quilt_audit.specs.Covers.{no_blocks}
 use Rattle.quilt_audit.specs.Points.{ArePlaced, IsTallied}
 use Rattle.quilt_audit.proofs.Lists.{last_cases, in_front, at_last, below_itself, rises_before, rises_behind}
 use Rattle.quilt_audit.proofs.Laid.{quarter_held}

@@ -24,7 +24,7 @@ use Rattle.quilt_edits.proofs.Keys.{le_code}
 use Rattle.quilt_point_laws.proofs.OnBlocks.{IsOn, OfBlock}
 use Rattle.quilt_audit.specs.declared.tally.Tally.{Tally}
 use Rattle.quilt_audit.specs.declared.points.PointRun.{PointRun}
-use Rattle.quilt_audit.specs.Covers.{SpellsOne, IsLayerOf, Refuses, IsShort}
+use Rattle.quilt_line_audit.specs.Layers.{SpellsOne, IsLayerOf, Refuses, IsShort}
 use Rattle.quilt_audit.specs.Points.{IsTallied, IsPointRun, AreClosed, IsOpened, IsFinished, IsIn, IsStart, count_of, shifted}
 use Rattle.quilt_audit.proofs.Lists.{rises_front, rises_behind}
 use Rattle.quilt_audit.proofs.PointSteps.{opened, more_tallied, closes, begins_placed, begins_closed}

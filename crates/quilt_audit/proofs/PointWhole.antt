@@ -17,7 +17,7 @@ use Rattle.quilt_blocks.proofs.Painting.{code_in}
 use Rattle.quilt_point_laws.proofs.Counts.{few_down}
 use Rattle.quilt_point_laws.proofs.OnBlocks.{on_from, on_is, fact_from, fact_is}
 use Rattle.quilt_audit.specs.declared.tally.Tally.{Tally}
-use Rattle.quilt_audit.specs.Covers.{IsLayerOf}
+use Rattle.quilt_line_audit.specs.Layers.{IsLayerOf}
 use Rattle.quilt_audit.specs.Points.{plain, AreClosed}
 use Rattle.quilt_audit.proofs.Covering.{block_lies}
 

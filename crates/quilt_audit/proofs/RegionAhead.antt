@@ -24,7 +24,7 @@ use Rattle.quilt_spell.proofs.Written.{by_key_total}
 use Rattle.quilt_region.specs.Regions.{leaf_record}
 use Rattle.quilt_edits.proofs.Keys.{less_code}
 use Rattle.quilt_region.proofs.Records.{leaf_alone}
-use Rattle.quilt_audit.specs.Covers.{SpellsOne}
+use Rattle.quilt_line_audit.specs.Layers.{SpellsOne}
 use Rattle.quilt_audit.specs.Regions.{AreLaid, IsGoing}
 use Rattle.quilt_audit.proofs.Lists.{begins, last_cases, below_itself, both_below, rises_before, rises_behind}
 use Rattle.quilt_audit.proofs.Laid.{leaves_laid}

@@ -28,7 +28,7 @@ use Rattle.quilt_spell.specs.Catalogued.{kind_of}
 use Rattle.quilt_spell.specs.Written.{by_key}
 use Rattle.quilt_region.specs.Regions.{leaf_record}
 use Rattle.quilt_region.proofs.Records.{leaf_is_record}
-use Rattle.quilt_audit.specs.Covers.{SpellsOne, IsLayerOf, Refuses, IsShort}
+use Rattle.quilt_line_audit.specs.Layers.{SpellsOne, IsLayerOf, Refuses, IsShort}
 use Rattle.quilt_audit.specs.Regions.{AreLaid, IsGoing, AreSiblings, no_leaves, EndsIn}
 use Rattle.quilt_audit.proofs.Laid.{making, HasBlocks-more, HasBlocks-none, EndsIn-more, EndsIn-none, end_siblings, siblings_end, AreLaid-none, AreLaid-more}
 use Rattle.quilt_audit.proofs.RegionAhead.{leaf_at, all_laid, none_left, next_code, next_unmerged}

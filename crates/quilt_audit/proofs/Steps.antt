@@ -13,8 +13,8 @@ use Rattle.quilt_record.specs.Catalogs.{name_cmp, with_entry}
 use Rattle.quilt_record.specs.Listing.{IsEntryOf, KindFits}
 use Rattle.quilt_spell.specs.Written.{by_key}
 use Rattle.quilt_audit.specs.declared.run.Run.{Run}
-use Rattle.quilt_audit.specs.Covers.{IsLayerOf}
-use Rattle.quilt_audit.specs.Runs.{IsRun, IsRunFinished, IsChecked, Starts}
+use Rattle.quilt_line_audit.specs.Layers.{IsLayerOf}
+use Rattle.quilt_audit.specs.Runs.{IsRun, IsRunFinished, Starts}
 use Rattle.quilt_audit.specs.Checking.{entry_record, IsSoFar}
 use Rattle.quilt_audit.proofs.Lists.{last_cases, in_front, at_last, rises_front}
 use Rattle.quilt_audit.proofs.Runs.{finished}
@@ -59,7 +59,6 @@ pub IsSoFar-none : (form n : ℕ) (run : Run) → IsSoFar form n [] 0 0 run []
 IsSoFar-none form n run = record {
   listed = λ e c. absurd (Contains-nil e c);
   named = λ e c. absurd (Contains-nil e c);
-  checked = λ e c. absurd (Contains-nil e c);
   fitting = λ e c. absurd (Contains-nil e c);
   least = λ e c. absurd (Contains-nil e c);
   most = λ e c. absurd (Contains-nil e c);
@@ -85,15 +84,14 @@ IsLayerOf-other form n rs k kind r apart h = record {
 
 module _ (form n : ℕ) (es : List Entry) (last layer : ℕ) (run : Run) (rs : List Record) (f : IsSoFar form n es last layer run rs) where
   -- ---- an entry more
-  pub IsSoFar-entry : (r : Record) (e : Entry) → IsEntryOf form r e → IsChecked e.kind → layer ≡ 0 → last < e.number → IsSoFar form n (with_entry e es) e.number layer run (rs ++ r ∷ [])
-  IsSoFar-entry r e is checked first above =
+  pub IsSoFar-entry : (r : Record) (e : Entry) → IsEntryOf form r e → layer ≡ 0 → last < e.number → IsSoFar form n (with_entry e es) e.number layer run (rs ++ r ∷ [])
+  IsSoFar-entry r e is first above =
       let record_is : r ≡ entry_record n e = is.written n 0 in
       let zero' : r.key.layer ≡ 0 = ap (λ (s : Record). s.key.layer) record_is in
       record {
         listed = λ d c. ⊎_elim (λ same. subst (λ (x : Entry). Contains (rs ++ r ∷ []) (entry_record n x)) same (subst (Contains (rs ++ r ∷ [])) record_is (at_last rs r)))
             (λ m. in_front rs r (entry_record n d) (f.listed d m)) (with_from e es d c);
         named = λ d c. ⊎_elim (λ same. ap (λ (x : Entry). is_name x.name) (sym same) ∙ is.named) (λ m. f.named d m) (with_from e es d c);
-        checked = λ d c. ⊎_elim (λ same. subst (λ (x : Entry). IsChecked x.kind) same checked) (λ m. f.checked d m) (with_from e es d c);
         fitting = λ d c. ⊎_elim (λ same. subst (λ (x : Entry). KindFits form x.kind) same is.kind) (λ m. f.fitting d m) (with_from e es d c);
         least = λ d c. ⊎_elim (λ same. let k = ap (λ (x : Entry). x.number) same in let l = is.least in omega arith) (λ m. f.least d m) (with_from e es d c);
         most = λ d c. ⊎_elim (λ same. let k = ap (λ (x : Entry). x.number) same in omega arith) (λ m. let k = f.most d m in omega arith) (with_from e es d c);
@@ -133,7 +131,6 @@ module _ (form n : ℕ) (es : List Entry) (last layer : ℕ) (run : Run) (rs : L
     IsSoFar-turn k next lt e c same starts between = record {
       listed = f.listed;
       named = f.named;
-      checked = f.checked;
       fitting = f.fitting;
       least = f.least;
       most = f.most;
@@ -152,8 +149,7 @@ module _ (form n : ℕ) (es : List Entry) (last layer : ℕ) (run : Run) (rs : L
       let now = f.current some in record {
         listed = λ e m. in_front rs r (entry_record n e) (f.listed e m);
         named = f.named;
-        checked = f.checked;
-        fitting = f.fitting;
+          fitting = f.fitting;
         least = f.least;
         most = f.most;
         differ = f.differ;

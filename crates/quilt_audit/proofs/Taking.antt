@@ -1,5 +1,6 @@
 -- What the steps of the checker do and find, over the numbers that it keeps.
-use Rattle.std.proofs.Common.{◌≡◌, ℕ, ◌+◌, ◌-◌, ◌<◌, ◌≤◌, ◌⊎◌, Bool, true, false, not, List, [], ◌∷◌, ◌++◌, length, Option, Some, None, refl, sym, ◌∙◌, ap, subst, ⊎_elim, arith, Contains, append_assoc, length-append}
+use Rattle.std.proofs.Common.{◌≡◌, ℕ, ◌+◌, ◌-◌, ◌<◌, ◌≤◌, ◌⊎◌, Bool, true, false, not, List, [], ◌∷◌, ◌++◌, length, Option, Some, None, Result, Ok, Err, refl, sym, ◌∙◌, ap, subst, ⊎_elim, arith, Contains, append_assoc, length-append}
+use Rattle.std.specs.Prelude.{IfOk}
 use Rattle.std.specs.Bool.{OnTrue, OnFalse}
 use Rattle.std.proofs.lemmas.Bool.{cases_Bool, cases_lt}
 use Rattle.std.proofs.lemmas.List.{append-nil}
@@ -15,9 +16,9 @@ use Rattle.quilt_spell.specs.Spelled.{SpellsUnder}
 use Rattle.quilt_spell.specs.Written.{by_key}
 use Rattle.quilt_audit.specs.declared.checker.Checker.{Checker}
 use Rattle.quilt_audit.specs.declared.run.Run.{Run}
-use Rattle.quilt_audit.specs.Covers.{Refuses}
+use Rattle.quilt_line_audit.specs.Layers.{Refuses}
 use Rattle.quilt_audit.specs.Runs.{IsRun, IsRunFinished}
-use Rattle.quilt_audit.specs.Surveys.{AreRegionsOrPoints, AreNumbered}
+use Rattle.quilt_audit.specs.Surveys.{AreNumbered}
 use Rattle.quilt_audit.specs.Checking.{IsSoFar, HasBegun, Stops, MayList, IsWhole, AreRefused, IsFed, IsSpelled}
 use Rattle.quilt_audit.proofs.Next.{NextEntry, NextLayer, next_entry, next_layer, next_taken, end_covered, end_listed}
 use Rattle.quilt_audit.proofs.Steps.{all_covered}
@@ -27,18 +28,18 @@ module _ (form n : ℕ) (least : 1 ≤ n) (le : n ≤ 12) (es : List Entry) (las
   -- ---- the layer of the next record
   pub layer_no : (number : ℕ) → 1 ≤ number → (NextLayer n es layer run number → ⊥)
       → (rs : List Record) (r : Record) → IsSoFar form n es last layer run rs → HasBegun layer rs → r.key.layer ≡ number → Stops form n rs r
-  layer_no number some none rs r f begun is rest numbers layers kinds s =
-      none (subst (NextLayer n es layer run) is (next_layer form n least le es last layer run rs f top rest numbers layers kinds r s begun (omega arith)))
+  layer_no number some none rs r f begun is rest numbers layers s =
+      none (subst (NextLayer n es layer run) is (next_layer form n least le es last layer run rs f top rest numbers layers r s begun (omega arith)))
 
   -- ---- a record of the catalog
   pub entry_no : (r : Record) → r.key.layer ≡ 0 → (NextEntry form es last layer r → ⊥) → (rs : List Record) → IsSoFar form n es last layer run rs → HasBegun layer rs → Stops form n rs r
-  entry_no r zero' none rs f begun rest numbers layers kinds s = none (next_entry form n least le es last layer run rs f top rest numbers layers kinds r s begun zero')
+  entry_no r zero' none rs f begun rest numbers layers s = none (next_entry form n least le es last layer run rs f top rest numbers layers r s begun zero')
 
   -- ---- a record of the layer that comes
   pub record_no : (r : Record) (rs : List Record) → 1 ≤ layer → r.key.layer ≡ layer → ((kind : Kind) → IsRun form n rs layer kind run → Refuses form n rs layer kind r)
       → IsSoFar form n es last layer run rs → Stops form n rs r
-  record_no r rs some is refused f rest numbers layers kinds s =
-      next_taken form n least le es last layer run rs f top rest numbers layers kinds r s some is (λ e c same h. refused e.kind h)
+  record_no r rs some is refused f rest numbers layers s =
+      next_taken form n least le es last layer run rs f top rest numbers layers r s some is (λ e c same h. refused e.kind h)
 
 -- a record of the catalog that may come next is read
 pub entry_read : (form last layer : ℕ) (es : List Entry) (r : Record) (o : Option Entry) → o ≡ None → ((e : Entry) → IsEntryOf form r e → o ≡ Some e) → NextEntry form es last layer r → ⊥
@@ -92,18 +93,18 @@ module _ (c : Checker) (total : ℕ) (rs : List Record) (fed : IsFed total c rs)
         kinds = f.fitting;
       }
 
-  pub not_whole : (IsWhole c → ⊥) → (numbers : Numbering) (layers : Map) → AreRegionsOrPoints layers → SpellsUnder c.format c.level numbers rs layers → length rs ≡ total → ⊥
-  not_whole none numbers layers kinds s long =
+  pub not_whole : (IsWhole c → ⊥) → (numbers : Numbering) (layers : Map) → SpellsUnder c.format c.level numbers rs layers → length rs ≡ total → ⊥
+  not_whole none numbers layers s long =
       ⊎_elim
       (λ t.
       let k = fed.sound t in
       let e = k.2 in
-      let reached = end_listed c.format c.level c.level_least c.level_most c.catalog c.last c.layer c.run rs k.0 c.last_most numbers layers kinds s in
+      let reached = end_listed c.format c.level c.level_least c.level_most c.catalog c.last c.layer c.run rs k.0 c.last_most numbers layers s in
       let but : ((1 ≤ c.layer → IsRunFinished c.level c.run) → ⊥) = λ covered. none (record { sound = t; none_due = omega arith; covered = covered; reached = reached }) in
-      ⊎_elim (λ some. end_covered c.format c.level c.level_least c.level_most c.catalog c.last c.layer c.run rs k.0 c.last_most numbers layers kinds s some (λ done. but (λ one. done)))
+      ⊎_elim (λ some. end_covered c.format c.level c.level_least c.level_most c.catalog c.last c.layer c.run rs k.0 c.last_most numbers layers s some (λ done. but (λ one. done)))
       (λ zero'. but (λ some. absurd (omega arith))) (cases_lt 0 c.layer))
       (λ f.
-      fed.unsound f [] numbers layers kinds (subst (λ (l : List Record). SpellsUnder c.format c.level numbers l layers) (sym (append-nil rs)) s)
+      fed.unsound f [] numbers layers (subst (λ (l : List Record). SpellsUnder c.format c.level numbers l layers) (sym (append-nil rs)) s)
       (ap length (append-nil rs) ∙ long))
       (cases_Bool c.sound)
 
@@ -123,15 +124,27 @@ module _ (form n form' n' layer k : ℕ) (same_form : form' ≡ form) (same_leve
 
 -- ---- what is asked of an entry
 pub may_from : (form : ℕ) (c : Checker) (r : Record) (e : Entry) (w : NextEntry form c.catalog c.last c.layer r) → w.entry ≡ e → MayList c e
-may_from form c r e w same = subst (MayList c) same (record { first = w.first; checked = w.checked; above = w.above; fresh = w.fresh })
+may_from form c r e w same = subst (MayList c) same (record { first = w.first; above = w.above; fresh = w.fresh })
 
 pub from_true : (b : Bool) (P : Type 0) → b ≡ true → OnTrue b P → P
 from_true true P e h = h
 from_true false P e h = cc
 
-from_false : (b : Bool) (P : Type 0) → b ≡ false → OnFalse b P → P
+pub from_false : (b : Bool) (P : Type 0) → b ≡ false → OnFalse b P → P
 from_false true P e h = cc
 from_false false P e h = h
+
+pub on_true : (b : Bool) (P : Type 0) → (b ≡ true → P) → OnTrue b P
+on_true true P f = f refl
+on_true false P f = tt
+
+pub on_false : (b : Bool) (P : Type 0) → (b ≡ false → P) → OnFalse b P
+on_false true P f = tt
+on_false false P f = f refl
+
+pub ok_map : {X E : Type 0} (o : Result X E) (P Q : X → Type 0) → ((x : X) → P x → Q x) → IfOk o P → IfOk o Q
+ok_map (Ok x) P Q f h = f x h
+ok_map (Err e) P Q f h = tt
 
 -- ---- a record is pushed
 module _ (total : ℕ) (before : List Record) (r : Record) (old : Checker) (fed : IsFed total old before) (was : old.sound ≡ true) (some : old.due ≡ 0 → ⊥) (level format : ℕ) (sound : Bool)
@@ -156,4 +169,4 @@ module _ (total : ℕ) (before : List Record) (r : Record) (old : Checker) (fed 
       let stops = from_false sound _ f (refused before k.0 k.1) in
       subst (λ (z : ℕ). AreRefused z level total (before ++ r ∷ [])) (sym same_format)
       (subst (λ (z : ℕ). AreRefused old.format z total (before ++ r ∷ [])) (sym same_level)
-      (λ rest numbers layers kinds s long. stops rest numbers layers kinds (subst (λ (l : List Record). SpellsUnder old.format old.level numbers l layers) (append_assoc before (r ∷ []) rest) s)))
+      (λ rest numbers layers s long. stops rest numbers layers (subst (λ (l : List Record). SpellsUnder old.format old.level numbers l layers) (append_assoc before (r ∷ []) rest) s)))

@@ -16,7 +16,7 @@ use Rattle.quilt_spell.proofs.Laws.{members}
 use Rattle.quilt_region.proofs.Trees.{tree_rises}
 use Rattle.quilt_audit.specs.declared.surveying.Surveying.{Surveying}
 use Rattle.quilt_audit.specs.Bits.{Marks, AreWithin}
-use Rattle.quilt_audit.specs.Surveys.{first_damaged, AreRegionsOrPoints, IsSurvey, IsDamage}
+use Rattle.quilt_audit.specs.Surveys.{first_damaged, IsSurvey, IsDamage}
 use Rattle.quilt_audit.specs.Checking.{IsFed, IsSpelled}
 use Rattle.quilt_audit.specs.Walking.{Found, IsWalked}
 use Rattle.quilt_audit.proofs.Bits.{Marks-none, AreWithin-none}
@@ -106,20 +106,19 @@ module _ (size : ℕ) (told : Option (List (List ℕ))) (head : Head) (s : Surve
         count = w.1;
         numbers = g.numbers;
         layers = g.layers;
-        kinds = g.kinds;
         spelled = subst (λ (f : ℕ). SpellsUnder f head.level g.numbers h.rs g.layers) h.format (subst (λ (n : ℕ). SpellsUnder s.checker.format n g.numbers h.rs g.layers) h.level g.spelled);
         catalogued = g.catalogued;
         marks = h.marks;
       }
 
-  pub damage_from : ((total : ℕ) (rs : List Record) → IsFed total s.checker rs → (numbers : Numbering) (layers : Map) → AreRegionsOrPoints layers → SpellsUnder s.checker.format s.checker.level numbers rs layers → length rs ≡ total → ⊥) → IsDamage pages head 0
+  pub damage_from : ((total : ℕ) (rs : List Record) → IsFed total s.checker rs → (numbers : Numbering) (layers : Map) → SpellsUnder s.checker.format s.checker.level numbers rs layers → length rs ≡ total → ⊥) → IsDamage pages head 0
   damage_from refused = record {
     first = sym (ap first_damaged (h.walks pages is_told));
-    none = λ records visited layers w regions spells count.
+    none = λ records visited layers w spells count.
         let same = (whole_same h.rs records h.now visited (sym (h.walks pages is_told) ∙ w)).0 in
         let m = (members head.format head.level records layers ok.level.1).0 spells in
         let under = subst (λ (l : List Record). SpellsUnder head.format head.level m.0 l layers) (sym same) m.1 in
-        refused head.records h.rs h.fed m.0 layers regions
+        refused head.records h.rs h.fed m.0 layers
         (subst (λ (f : ℕ). SpellsUnder f s.checker.level m.0 h.rs layers) (sym h.format) (subst (λ (n : ℕ). SpellsUnder head.format n m.0 h.rs layers) (sym h.level) under))
         (ap length same ∙ count);
   }
@@ -133,5 +132,5 @@ module _ (size : ℕ) (told : Option (List (List ℕ))) (head : Head) (s : Surve
 pub damage_at : (pages : List (List ℕ)) (head : Head) (page : ℕ) → walk_of pages head.root head.height ≡ Damaged page → IsDamage pages head page
 damage_at pages head page w = record {
   first = sym (ap first_damaged w);
-  none = λ records visited layers v regions spells count. let clash : Damaged page ≡ Whole records visited = sym w ∙ v in cc;
+  none = λ records visited layers v spells count. let clash : Damaged page ≡ Whole records visited = sym w ∙ v in cc;
 }

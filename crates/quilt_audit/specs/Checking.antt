@@ -1,4 +1,4 @@
--- Records of a map of regions and points that come in the order of their keys: what is known of those that have come.
+-- Records of a map that come in the order of their keys: what is known of those that have come.
 use Rattle.std.specs.Prelude.{◌≡◌, ◌⊎◌, ℕ, ◌+◌, ◌<◌, ◌≤◌, true, false, List, ◌∷◌, ◌++◌, length, Contains}
 use Rattle.quilt_types.specs.Layers.{Map, is_name}
 use Rattle.quilt_loc.specs.Codes.{Rises}
@@ -11,20 +11,18 @@ use Rattle.quilt_spell.specs.Catalogued.{IsCatalogOf}
 use Rattle.quilt_spell.specs.Written.{by_key}
 use Rattle.quilt_audit.specs.declared.checker.Checker.{Checker}
 use Rattle.quilt_audit.specs.declared.run.Run.{Run}
-use Rattle.quilt_audit.specs.Covers.{IsLayerOf}
-use Rattle.quilt_audit.specs.Runs.{IsRun, IsRunFinished, IsChecked}
-use Rattle.quilt_audit.specs.Surveys.{AreRegionsOrPoints}
+use Rattle.quilt_line_audit.specs.Layers.{IsLayerOf}
+use Rattle.quilt_audit.specs.Runs.{IsRun, IsRunFinished}
 
 -- the record of the catalog for a layer
 abbrev pub entry_record : ℕ → Entry → Record
 entry_record n e = record_of n 0 e.name e.number (kind_fact e.kind)
 
--- The records so far are those of a catalog of regions and points, up to the number last, and of its layers: all records of each layer
+-- The records so far are those of a catalog, up to the number last, and of its layers: all records of each layer
 -- below this one, and those of this one as far as the run says.
 pub record IsSoFar (form n : ℕ) (entries : List Entry) (last layer : ℕ) (run : Run) (rs : List Record) : Type 0 where
   pub listed : (e : Entry) → Contains entries e → Contains rs (entry_record n e)
   pub named : (e : Entry) → Contains entries e → is_name e.name ≡ true
-  pub checked : (e : Entry) → Contains entries e → IsChecked e.kind
   pub fitting : (e : Entry) → Contains entries e → KindFits form e.kind
   pub least : (e : Entry) → Contains entries e → 1 ≤ e.number
   pub most : (e : Entry) → Contains entries e → e.number ≤ last
@@ -42,7 +40,6 @@ HasBegun layer rs = 1 ≤ layer → (r : Record) × Contains rs r × (r.key.laye
 -- the entry may be the next one of the catalog: under a new name and with a greater number, before any record of a layer
 pub record MayList (c : Checker) (e : Entry) : Type 0 where
   pub first : c.layer ≡ 0
-  pub checked : IsChecked e.kind
   pub above : c.last < e.number
   pub fresh : (d : Entry) → Contains c.catalog d → d.name ≡ e.name → ⊥
 
@@ -53,15 +50,15 @@ pub record IsWhole (c : Checker) : Type 0 where
   pub covered : 1 ≤ c.layer → IsRunFinished c.level c.run
   pub reached : (e : Entry) → Contains c.catalog e → e.number ≤ c.layer
 
--- no map of regions and points has these records first and then this one
+-- no map has these records first and then this one
 abbrev pub Stops : ℕ → ℕ → List Record → Record → Type 0
 Stops form n rs r =
-    (rest : List Record) (numbers : Numbering) (layers : Map) → AreRegionsOrPoints layers → SpellsUnder form n numbers (rs ++ r ∷ rest) layers → ⊥
+    (rest : List Record) (numbers : Numbering) (layers : Map) → SpellsUnder form n numbers (rs ++ r ∷ rest) layers → ⊥
 
--- no map of regions and points with so many records has these first
+-- no map with so many records has these first
 abbrev pub AreRefused : ℕ → ℕ → ℕ → List Record → Type 0
 AreRefused form n total rs =
-    (rest : List Record) (numbers : Numbering) (layers : Map) → AreRegionsOrPoints layers → SpellsUnder form n numbers (rs ++ rest) layers → length (rs ++ rest) ≡ total → ⊥
+    (rest : List Record) (numbers : Numbering) (layers : Map) → SpellsUnder form n numbers (rs ++ rest) layers → length (rs ++ rest) ≡ total → ⊥
 
 -- what a checker knows of the records that it was given, of a map of so many records
 pub record IsFed (total : ℕ) (c : Checker) (rs : List Record) : Type 0 where
@@ -74,10 +71,9 @@ pub record Takes (old : Checker) (rs : List Record) (new : Checker) : Type 0 whe
   pub format : new.format ≡ old.format
   pub fed : (total : ℕ) (before : List Record) → IsFed total old before → IsFed total new (before ++ rs)
 
--- The records spell a map of regions and points, of which this is the catalog.
+-- The records spell a map, of which this is the catalog.
 pub record IsSpelled (form n : ℕ) (entries : List Entry) (rs : List Record) : Type 0 where
   pub numbers : Numbering
   pub layers : Map
-  pub kinds : AreRegionsOrPoints layers
   pub spelled : SpellsUnder form n numbers rs layers
   pub catalogued : IsCatalogOf layers numbers entries

@@ -7,12 +7,14 @@ use Rattle.quilt_record.specs.Listing.{KindFits}
 use Rattle.quilt_audit.specs.declared.run.Run.{Run}
 use Rattle.quilt_audit.specs.declared.run.Run.TheVariants as runs
 use Rattle.quilt_audit.specs.Regions.{IsGoing}
+use Rattle.quilt_line_audit.specs.Runs.{IsLineRun, IsLined}
 use Rattle.quilt_audit.specs.Points.{IsPointRun, IsFinished}
 
 -- the records of the layer with this number and kind have come as far as the run says
 abbrev pub IsRun : ℕ → ℕ → List Record → ℕ → Kind → Run → Type 0
 IsRun form n rs layer kinds.Region (runs.Region run) = IsGoing form n rs layer run.end run.recent
 IsRun form n rs layer (kinds.Points bucket) (runs.Points run) = IsPointRun form n rs layer bucket run
+IsRun form n rs layer (kinds.Lines threshold) (runs.Lines run) = IsLineRun n rs layer threshold run
 IsRun form n rs layer kind run = ⊥
 
 -- the run says that no record of such a layer has come
@@ -25,9 +27,4 @@ Starts kind run =
 abbrev pub IsRunFinished : ℕ → Run → Type 0
 IsRunFinished n (runs.Region run) = run.end ≡ 4 ^ n
 IsRunFinished n (runs.Points run) = IsFinished n run
-
--- a kind of layer that can be checked
-abbrev pub IsChecked : Kind → Type 0
-IsChecked kinds.Region = Unit {0}
-IsChecked (kinds.Points bucket) = Unit {0}
-IsChecked (kinds.Lines threshold) = ⊥
+IsRunFinished n (runs.Lines run) = IsLined n run

@@ -1,9 +1,8 @@
 -- What an audit finds of the tree of a map.
-use Rattle.std.specs.Prelude.{◌≡◌, ℕ, ◌≤◌, List, length, Some, Contains}
-use Rattle.std.specs.FinMap as finmap
+use Rattle.std.specs.Prelude.{◌≡◌, ℕ, ◌≤◌, List, length, Contains}
 use Rattle.quilt_types.specs.declared.stop.Stop.{Stop}
 use Rattle.quilt_types.specs.declared.stop.Stop.TheVariants.{Device, Memory, Damaged as Says}
-use Rattle.quilt_types.specs.Layers.{Layer, Region, Points, Lines, Map}
+use Rattle.quilt_types.specs.Layers.{Map}
 use Rattle.quilt_record.specs.declared.record.Record.{Record}
 use Rattle.quilt_record.specs.declared.entry.Entry.{Entry}
 use Rattle.quilt_record.specs.Records.{Numbering, Spells}
@@ -25,17 +24,7 @@ OnDamaged P Device = Unit {0}
 OnDamaged P Memory = Unit {0}
 OnDamaged P (Says page) = P page
 
--- it is none of lines
-abbrev pub IsRegionOrPoints : Layer → Type 0
-IsRegionOrPoints (Region grid) = Unit {0}
-IsRegionOrPoints (Points capacity points) = Unit {0}
-IsRegionOrPoints (Lines threshold segs cover) = ⊥
-
--- each layer of the map is a region or points
-pub record AreRegionsOrPoints (layers : Map) : Type 0 where
-  pub each : (name : List ℕ) (layer : Layer) → finmap.get layers name ≡ Some layer → IsRegionOrPoints layer
-
--- The tree spells a map of regions and points with the head's number of records, of which this is the catalog, and these bits are those of its pages.
+-- The tree spells a map with the head's number of records, of which this is the catalog, and these bits are those of its pages.
 pub record IsSurvey (pages : List (List ℕ)) (head : Head) (catalog : List Entry) (used : List ℕ) : Type 0 where
   pub records : List Record
   pub visited : List ℕ
@@ -43,15 +32,14 @@ pub record IsSurvey (pages : List (List ℕ)) (head : Head) (catalog : List Entr
   pub count : length records ≡ head.records
   pub numbers : Numbering
   pub layers : Map
-  pub kinds : AreRegionsOrPoints layers
   pub spelled : SpellsUnder head.format head.level numbers records layers
   pub catalogued : IsCatalogOf layers numbers catalog
   pub marks : Marks used visited
 
--- The page is the first damaged one, and the tree spells no map of regions and points with the head's number of records.
+-- The page is the first damaged one, and the tree spells no map with the head's number of records.
 pub record IsDamage (pages : List (List ℕ)) (head : Head) (page : ℕ) : Type 0 where
   pub first : page ≡ first_damaged (walk_of pages head.root head.height)
-  pub none : (records : List Record) (visited : List ℕ) (layers : Map) → walk_of pages head.root head.height ≡ Whole records visited → AreRegionsOrPoints layers
+  pub none : (records : List Record) (visited : List ℕ) (layers : Map) → walk_of pages head.root head.height ≡ Whole records visited
       → Spells head.format head.level records layers → length records ≡ head.records → ⊥
 
 -- The entries have numbers from 1 to 255 that differ, and kinds of the format.

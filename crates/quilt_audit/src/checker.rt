@@ -1,17 +1,19 @@
 ghost use Rattle.std.specs.Prelude.{◌≡◌, ◌≢◌, ◌⊎◌, ◌<◌, ◌≤◌, true, false, length, Contains, IfSome, IfNone};
 ghost use Rattle.quilt_record.specs.declared.entry.Entry.{Entry as AnyEntry};
-ghost use Rattle.quilt_audit.specs.Runs.{IsChecked, Starts};
+ghost use Rattle.quilt_audit.specs.Runs.{Starts};
 
 use crate::regions::RegionRun;
 use crate::run::Run;
 use quilt_node::Head;
 use quilt_record::{Catalog, Entry, Record, read_catalog};
-use quilt_types::{Kind, Name};
+use quilt_types::Name;
+use std::alloc::{AllocError, Global};
 
-/// Decides whether records that come in the order of their keys spell a map of regions and points. Its memory is that of the
-/// catalog and of four blocks.
+/// Decides whether records that come in the order of their keys spell a map. Its memory is that of the catalog, of four blocks,
+/// and of the pairs and segments of one line layer.
 #[derive(Drop)]
 pub struct Checker {
+    alloc: Global,
     level: u8,
     format: u8,
     /// Whether the records so far may be the first of such a map.
@@ -32,7 +34,7 @@ pub struct Checker {
 }
 
 impl Checker {
-    ghost use Rattle.std.specs.Prelude.{◌≡◌, ℕ, ◌++◌, ◌∷◌, [], true, false, List, IfSome, IfNone};
+    ghost use Rattle.std.specs.Prelude.{◌≡◌, ℕ, ◌++◌, ◌∷◌, [], true, false, List, IfOk, IfSome, IfNone, OnOk};
     ghost use Rattle.std.specs.Bool.{OnTrue, OnFalse};
     ghost use Rattle.quilt_types.specs.Layers.{Map};
     ghost use Rattle.quilt_loc.specs.Codes.{Rises};
@@ -41,18 +43,19 @@ impl Checker {
     ghost use Rattle.quilt_spell.specs.Written.{by_key};
     ghost use Rattle.quilt_spell.specs.Spelled.{SpellsUnder};
     ghost use Rattle.quilt_record.specs.declared.record.Record.{Record as AnyRecord};
-    ghost use Rattle.quilt_audit.specs.Surveys.{AreNumbered, AreRegionsOrPoints};
+    ghost use Rattle.quilt_audit.specs.Surveys.{AreNumbered};
     ghost use Rattle.quilt_audit.specs.Runs.{IsRunFinished};
     ghost use Rattle.quilt_audit.specs.Checking.{IsSoFar, HasBegun, Stops, AreRefused, IsFed, Takes, IsSpelled, MayList, IsWhole};
 
     /// No records yet, of a map as a file's head says.
-    pub fn new(head: &Head) -> Checker
+    pub fn new(alloc: Global, head: &Head) -> Checker
         requires { (1 ≤ head.now.level) × (head.now.level ≤ 12) }
         ensures level { result.level ≡ head.now.level }
         ensures format { result.format ≡ head.now.format }
         ensures fed { IsFed head.now.records result [] }
     {
         Checker {
+            alloc,
             level: head.level,
             format: head.format,
             sound: true,
@@ -64,31 +67,32 @@ impl Checker {
         }
     }
 
-    /// Takes the next record.
-    pub fn push(&mut self, r: &Record)
-        ensures { Takes self.old (r.now ∷ []) self.new }
+    /// Takes the next record. Where no memory is left the checker is only given up.
+    pub fn push(&mut self, r: &Record) -> Result<(), AllocError>
+        ensures { OnOk result (Takes self.old (r.now ∷ []) self.new) }
     {
         if !self.sound {
-            return;
+            return Ok(());
         }
         if self.due == 0 {
             self.sound = false;
-            return;
+            return Ok(());
         }
         self.due -= 1;
-        self.sound = self.take(r);
+        self.sound = self.take(r)?;
+        Ok(())
     }
 
     /// Takes a record, where it may be the next one.
-    fn take(&mut self, r: &Record) -> bool
-        ensures yes { (rs : List AnyRecord) → IsSoFar self.old.format self.old.level self.old.catalog self.old.last self.old.layer self.old.run rs → OnTrue result (IsSoFar self.old.format self.old.level self.new.catalog self.new.last self.new.layer self.new.run (rs ++ r.now ∷ []) × HasBegun self.new.layer (rs ++ r.now ∷ [])) }
-        ensures no { (rs : List AnyRecord) → IsSoFar self.old.format self.old.level self.old.catalog self.old.last self.old.layer self.old.run rs → HasBegun self.old.layer rs → OnFalse result (Stops self.old.format self.old.level rs r.now) }
+    fn take(&mut self, r: &Record) -> Result<bool, AllocError>
+        ensures yes { IfOk result (λ ok. (rs : List AnyRecord) → IsSoFar self.old.format self.old.level self.old.catalog self.old.last self.old.layer self.old.run rs → OnTrue ok (IsSoFar self.old.format self.old.level self.new.catalog self.new.last self.new.layer self.new.run (rs ++ r.now ∷ []) × HasBegun self.new.layer (rs ++ r.now ∷ []))) }
+        ensures no { IfOk result (λ ok. (rs : List AnyRecord) → IsSoFar self.old.format self.old.level self.old.catalog self.old.last self.old.layer self.old.run rs → HasBegun self.old.layer rs → OnFalse ok (Stops self.old.format self.old.level rs r.now)) }
         ensures level { self.new.level ≡ self.old.level }
         ensures format { self.new.format ≡ self.old.format }
         ensures due { self.new.due ≡ self.old.due }
     {
         if r.key.layer == 0 {
-            self.take_entry(r)
+            Ok(self.take_entry(r))
         } else {
             self.take_block(r)
         }
@@ -122,110 +126,106 @@ impl Checker {
         if self.layer != 0 || e.number <= self.last {
             return false;
         }
-        is_checked(e.kind) && !has_name(self.catalog.entries(), &e.name)
+        !has_name(self.catalog.entries(), &e.name)
     }
 
     /// Takes a record of a layer, where it may be the next one.
-    fn take_block(&mut self, r: &Record) -> bool
+    fn take_block(&mut self, r: &Record) -> Result<bool, AllocError>
         requires { 1 ≤ r.now.key.layer }
-        ensures yes { (rs : List AnyRecord) → IsSoFar self.old.format self.old.level self.old.catalog self.old.last self.old.layer self.old.run rs → OnTrue result (IsSoFar self.old.format self.old.level self.new.catalog self.new.last self.new.layer self.new.run (rs ++ r.now ∷ []) × HasBegun self.new.layer (rs ++ r.now ∷ [])) }
-        ensures no { (rs : List AnyRecord) → IsSoFar self.old.format self.old.level self.old.catalog self.old.last self.old.layer self.old.run rs → HasBegun self.old.layer rs → OnFalse result (Stops self.old.format self.old.level rs r.now) }
+        ensures yes { IfOk result (λ ok. (rs : List AnyRecord) → IsSoFar self.old.format self.old.level self.old.catalog self.old.last self.old.layer self.old.run rs → OnTrue ok (IsSoFar self.old.format self.old.level self.new.catalog self.new.last self.new.layer self.new.run (rs ++ r.now ∷ []) × HasBegun self.new.layer (rs ++ r.now ∷ []))) }
+        ensures no { IfOk result (λ ok. (rs : List AnyRecord) → IsSoFar self.old.format self.old.level self.old.catalog self.old.last self.old.layer self.old.run rs → HasBegun self.old.layer rs → OnFalse ok (Stops self.old.format self.old.level rs r.now)) }
         ensures level { self.new.level ≡ self.old.level }
         ensures format { self.new.format ≡ self.old.format }
         ensures due { self.new.due ≡ self.old.due }
     {
         if 255 < r.key.layer {
-            return false;
+            return Ok(false);
         }
-        if !self.turn_to(r.key.layer) {
-            return false;
+        if !self.turn_to(r.key.layer)? {
+            return Ok(false);
         }
-        let Some(run) = self.run.next(r, self.level, self.format) else {
-            return false;
-        };
-        self.run = run;
-        true
+        self.run.take(r, self.level, self.format)
     }
 
     /// Turns to the layer with this number, which is the one whose records come or the next one of the catalog.
-    fn turn_to(&mut self, layer: u16) -> bool
+    fn turn_to(&mut self, layer: u16) -> Result<bool, AllocError>
         requires { (1 ≤ layer) × (layer ≤ 255) }
-        ensures yes { (rs : List AnyRecord) → IsSoFar self.old.format self.old.level self.old.catalog self.old.last self.old.layer self.old.run rs → OnTrue result (IsSoFar self.old.format self.old.level self.new.catalog self.new.last self.new.layer self.new.run rs × (self.new.layer ≡ layer)) }
-        ensures no { (rs : List AnyRecord) (r : AnyRecord) → IsSoFar self.old.format self.old.level self.old.catalog self.old.last self.old.layer self.old.run rs → HasBegun self.old.layer rs → r.key.layer ≡ layer → OnFalse result (Stops self.old.format self.old.level rs r) }
+        ensures yes { IfOk result (λ ok. (rs : List AnyRecord) → IsSoFar self.old.format self.old.level self.old.catalog self.old.last self.old.layer self.old.run rs → OnTrue ok (IsSoFar self.old.format self.old.level self.new.catalog self.new.last self.new.layer self.new.run rs × (self.new.layer ≡ layer))) }
+        ensures no { IfOk result (λ ok. (rs : List AnyRecord) (r : AnyRecord) → IsSoFar self.old.format self.old.level self.old.catalog self.old.last self.old.layer self.old.run rs → HasBegun self.old.layer rs → r.key.layer ≡ layer → OnFalse ok (Stops self.old.format self.old.level rs r)) }
         ensures level { self.new.level ≡ self.old.level }
         ensures format { self.new.format ≡ self.old.format }
         ensures due { self.new.due ≡ self.old.due }
     {
         if layer == u16::from(self.layer) {
-            return true;
+            return Ok(true);
         }
-        if layer < u16::from(self.layer) || !self.is_covered() {
-            return false;
+        if layer < u16::from(self.layer) {
+            return Ok(false);
+        }
+        if !self.is_covered()? {
+            return Ok(false);
         }
         if next_number(self.catalog.entries(), self.layer) != layer {
-            return false;
+            return Ok(false);
         }
-        let Some(run) = run_of(self.catalog.entries(), layer) else {
-            return false;
+        let Some(run) = run_of(self.alloc, self.catalog.entries(), layer) else {
+            return Ok(false);
         };
         self.layer = layer as u8;
         self.run = run;
-        true
+        Ok(true)
     }
 
     /// Whether the records of the layer may be all, or none has come.
-    fn is_covered(&self) -> bool
-        ensures yes { result ≡ true → 1 ≤ self.now.layer → IsRunFinished self.now.level self.now.run }
-        ensures no { result ≡ false → (1 ≤ self.now.layer) × (IsRunFinished self.now.level self.now.run → ⊥) }
+    fn is_covered(&self) -> Result<bool, AllocError>
+        ensures yes { IfOk result (λ ok. OnTrue ok (1 ≤ self.now.layer → IsRunFinished self.now.level self.now.run)) }
+        ensures no { IfOk result (λ ok. OnFalse ok ((1 ≤ self.now.layer) × (IsRunFinished self.now.level self.now.run → ⊥))) }
     {
-        self.layer == 0 || self.run.is_finished(self.level)
+        if self.layer == 0 {
+            return Ok(true);
+        }
+        self.run.is_finished(self.level)
     }
 
-    /// The catalog, where the records were those of a map of regions and points.
-    pub fn finish(self) -> Option<Catalog>
-        ensures some { IfSome result (λ entries. (total : ℕ) (rs : List AnyRecord) → IsFed total self rs → Rises by_key rs → IsSpelled self.format self.level entries rs × (length rs ≡ total)) }
-        ensures none { IfNone result ((total : ℕ) (rs : List AnyRecord) → IsFed total self rs → (numbers : Numbering) (layers : Map) → AreRegionsOrPoints layers → SpellsUnder self.format self.level numbers rs layers → length rs ≡ total → ⊥) }
-        ensures numbered { IfSome result (λ entries. (total : ℕ) (rs : List AnyRecord) → IsFed total self rs → AreNumbered self.format entries) }
+    /// The catalog, where the records were those of a map.
+    pub fn finish(self) -> Result<Option<Catalog>, AllocError>
+        ensures some { IfOk result (λ o. IfSome o (λ entries. (total : ℕ) (rs : List AnyRecord) → IsFed total self rs → Rises by_key rs → IsSpelled self.format self.level entries rs × (length rs ≡ total))) }
+        ensures none { IfOk result (λ o. IfNone o ((total : ℕ) (rs : List AnyRecord) → IsFed total self rs → (numbers : Numbering) (layers : Map) → SpellsUnder self.format self.level numbers rs layers → length rs ≡ total → ⊥)) }
+        ensures numbered { IfOk result (λ o. IfSome o (λ entries. (total : ℕ) (rs : List AnyRecord) → IsFed total self rs → AreNumbered self.format entries)) }
     {
-        let is_whole = self.is_whole();
+        if !self.is_whole()? {
+            return Ok(None);
+        }
         let Checker { catalog, .. } = self;
-        if is_whole { Some(catalog) } else { None }
+        Ok(Some(catalog))
     }
 
     /// Whether the records may be all.
-    fn is_whole(&self) -> bool
-        ensures yes { result ≡ true → IsWhole self.now }
-        ensures no { result ≡ false → IsWhole self.now → ⊥ }
+    fn is_whole(&self) -> Result<bool, AllocError>
+        ensures yes { IfOk result (λ ok. OnTrue ok (IsWhole self.now)) }
+        ensures no { IfOk result (λ ok. OnFalse ok (IsWhole self.now → ⊥)) }
         ensures catalog { IsCatalog self.now.catalog }
     {
         let entries = self.catalog.entries();
         let due = self.due;
         if !self.sound || due != 0 {
-            return false;
+            return Ok(false);
         }
-        self.is_covered() && next_number(entries, self.layer) == 256
+        if next_number(entries, self.layer) != 256 {
+            return Ok(false);
+        }
+        self.is_covered()
     }
 }
 
-/// Whether a layer of the kind can be checked.
-fn is_checked(kind: Kind) -> bool
-    ensures yes { result ≡ true → IsChecked kind }
-    ensures no { result ≡ false → IsChecked kind → ⊥ }
-{
-    match kind {
-        Kind::Region | Kind::Points { .. } => true,
-        Kind::Lines { .. } => false,
-    }
-}
-
-/// No record yet of the layer with this number, where an entry has it and its kind can be checked.
-fn run_of(entries: &[Entry], number: u16) -> Option<Run>
+/// No record yet of the layer with this number, where an entry has it.
+fn run_of(alloc: Global, entries: &[Entry], number: u16) -> Option<Run>
     ensures some { IfSome result (λ run. (e : AnyEntry) × Contains entries.now e × (e.number ≡ number) × Starts e.kind run) }
-    ensures none { IfNone result ((e : AnyEntry) → Contains entries.now e → e.number ≡ number → (d : AnyEntry) × Contains entries.now d × (d.number ≡ number) × (IsChecked d.kind → ⊥)) }
+    ensures none { IfNone result ((e : AnyEntry) → Contains entries.now e → e.number ≡ number → ⊥) }
 {
     match entries.iter().find(|e| u16::from(e.number) == number) {
         None => None,
-        Some(e) => Run::new(e.kind),
+        Some(e) => Some(Run::new(alloc, e.kind)),
     }
 }
 

@@ -14,10 +14,3 @@ mod tally;
 mod walking;
 
 pub use survey::{Survey, audit};
-
-#[cfg(test)]
-mod drawn_tests;
-#[cfg(test)]
-mod point_tests;
-#[cfg(test)]
-mod tests;

@@ -6,7 +6,8 @@ ghost use Rattle.quilt_loc.specs.Codes.{code_from, code_to};
 ghost use Rattle.quilt_record.specs.declared.record.Record.{Record as AnyRecord};
 ghost use Rattle.quilt_record.specs.Records.{record_of};
 ghost use Rattle.quilt_record.specs.Canonical.{FactFits, point_fact};
-ghost use Rattle.quilt_audit.specs.Covers.{Refuses, AreFour};
+ghost use Rattle.quilt_line_audit.specs.Layers.{Refuses};
+ghost use Rattle.quilt_audit.specs.Covers.{AreFour};
 ghost use Rattle.quilt_audit.specs.Points.{IsStart, IsPointRun, IsOpened, IsLeast, IsFinished, IsIn, count_of as count_of_held};
 
 use crate::siblings::are_siblings;

@@ -16,6 +16,7 @@ use quilt_node::Head;
 use quilt_record::Catalog;
 use quilt_store::PageStore;
 use quilt_types::Stop;
+use std::alloc::Global;
 
 /// What an audit finds of a tree that spells a map: the catalog, and the pages of the tree.
 #[derive(Drop)]
@@ -25,10 +26,15 @@ pub struct Survey {
     pub used: [u8; 3750],
 }
 
-/// Reads the tree of a store of `pages` home pages once, and decides whether it spells a map of regions and points with
-/// the head's format, level and number of records. Where it does not, it answers the first page in the order of the walk that
-/// is damaged, or page 0 where every page passes. It takes no memory.
-pub fn audit<S: PageStore>(store: &mut S, head: &Head, pages: u32) -> Result<Survey, Stop>
+/// Reads the tree of a store of `pages` home pages once, and decides whether it spells a map with the head's format, level and
+/// number of records. Where it does not, it answers the first page in the order of the walk that is damaged, or page 0 where
+/// every page passes. It takes the memory of the pairs and segments of one line layer.
+pub fn audit<S: PageStore>(
+    alloc: Global,
+    store: &mut S,
+    head: &Head,
+    pages: u32,
+) -> Result<Survey, Stop>
     requires size { pages ≡ S.size store.old }
     requires head { IsHead pages head.now }
     ensures survey { IfOk result (λ s. (told : List (List ℕ)) → S.told store.old ≡ Some told → IsSurvey told head.now s.catalog s.used) }
@@ -45,20 +51,25 @@ pub fn audit<S: PageStore>(store: &mut S, head: &Head, pages: u32) -> Result<Sur
     ensures reads { IfOk result (λ s. (told : List (List ℕ)) (records : List Record) (visited : List ℕ) → S.told store.old ≡ Some told → walk_of told head.now.root head.now.height ≡ Whole records visited → Tells (λ old new. new ≤ old + length visited) (S.reads store.old) (S.reads store.new)) }
     ensures changed { S.changed store.new ≤ S.changed store.old }
 {
-    match survey_tree(store, head) {
+    match survey_tree(alloc, store, head) {
         Err(e) => Err(e),
         Ok(state) => {
             let Surveying { used, checker } = state;
             match checker.finish() {
-                None => Err(Stop::Damaged { page: 0 }),
-                Some(catalog) => Ok(Survey { catalog, used }),
+                Err(_) => Err(Stop::Memory),
+                Ok(None) => Err(Stop::Damaged { page: 0 }),
+                Ok(Some(catalog)) => Ok(Survey { catalog, used }),
             }
         }
     }
 }
 
 /// Visits all pages of the tree, and hands its records to a checker.
-fn survey_tree<S: PageStore>(store: &mut S, head: &Head) -> Result<Surveying, Stop>
+fn survey_tree<S: PageStore>(
+    alloc: Global,
+    store: &mut S,
+    head: &Head,
+) -> Result<Surveying, Stop>
     requires { IsHead (S.size store.old) head.now }
     ensures walked { IfOk result (λ s. IsWalked (S.size store.old) (S.told store.old) head.now s (S.reads store.old) (S.reads store.new)) }
     ensures damaged { IfErr result (OnDamaged (λ page. (told : List (List ℕ)) → S.told store.old ≡ Some told → walk_of told head.now.root head.now.height ≡ Damaged page)) }
@@ -71,7 +82,7 @@ fn survey_tree<S: PageStore>(store: &mut S, head: &Head) -> Result<Surveying, St
     ensures later { S.later store.old store.new }
     ensures changed { S.changed store.new ≤ S.changed store.old }
 {
-    let mut state = unvisited(head);
+    let mut state = unvisited(alloc, head);
     if head.height == 0 {
         return Ok(state);
     }
@@ -90,7 +101,7 @@ fn survey_tree<S: PageStore>(store: &mut S, head: &Head) -> Result<Surveying, St
 }
 
 /// No page visited, and no record found.
-fn unvisited(head: &Head) -> Surveying
+fn unvisited(alloc: Global, head: &Head) -> Surveying
     requires { (1 ≤ head.now.level) × (head.now.level ≤ 12) }
     ensures used { result.used ≡ replicate 3750 0 }
     ensures level { result.checker.level ≡ head.now.level }
@@ -99,6 +110,6 @@ fn unvisited(head: &Head) -> Surveying
 {
     Surveying {
         used: [0; 3750],
-        checker: Checker::new(head),
+        checker: Checker::new(alloc, head),
     }
 }

@@ -18,14 +18,16 @@ use quilt_node::{InnerPage, LeafPage};
 use quilt_record::Key;
 use quilt_store::PageStore;
 use quilt_types::Stop;
+use std::alloc::AllocError;
 
 /// Hands the records of a leaf to the checker.
-fn feed(checker: &mut Checker, leaf: &LeafPage)
-    ensures { Takes checker.old leaf.now checker.new }
+fn feed(checker: &mut Checker, leaf: &LeafPage) -> Result<(), AllocError>
+    ensures { OnOk result (Takes checker.old leaf.now checker.new) }
 {
     for i in 0..leaf.len() {
-        checker.push(&leaf.rec(i));
+        checker.push(&leaf.rec(i))?;
     }
+    Ok(())
 }
 
 /// The bound below which the keys under child `i` stay.
@@ -65,8 +67,10 @@ fn survey_leaf<S: PageStore>(
         Err(e) => Err(e),
         Ok(leaf) => {
             mark(&mut state.used, page);
-            feed(&mut state.checker, &leaf);
-            Ok(())
+            match feed(&mut state.checker, &leaf) {
+                Err(_) => Err(Stop::Memory),
+                Ok(()) => Ok(()),
+            }
         }
     }
 }

@@ -11,9 +11,8 @@ use Rattle.quilt_words.specs.declared.item.Item.{Item}
 use Rattle.quilt_words.specs.declared.item.Item.TheVariants.{Long, Line, Rows, PointLines, RingLines}
 use Rattle.quilt_lang.specs.declared.asked.Asked.{Asked}
 use Rattle.quilt_lang.specs.declared.asked.Asked.TheVariants as kinds
-use Rattle.quilt_words.specs.Built.{is_built}
-use Rattle.quilt_words.specs.Items.{Group, asked, asked_by, asked_in_all, begins_with, held, held_as, is_long, is_plain, listed_by, words_of, rows_of, rows_joined, points_of, points_joined, rings_of, rings_joined}
-use Rattle.quilt_lang.specs.Cutting.{IsAsked, grouped, holding, is_built_for}
+use Rattle.quilt_words.specs.Items.{Group, asked, asked_by, begins_with, held, held_as, is_long, is_plain, listed_by, words_of, rows_of, rows_joined, points_of, points_joined, rings_of, rings_joined}
+use Rattle.quilt_lang.specs.Cutting.{IsAsked, grouped, holding}
 use Rattle.quilt_words.proofs.Cases.{bool_cases}
 use Rattle.quilt_lang.proofs.LineLaws.{asked_long}
 use Rattle.quilt_lang.proofs.Long.{long_item, short_item}
@@ -25,48 +24,12 @@ near_side n few = let most : 2 ^ n ≤ 2 ^ 63 = pow-le-pow_right {n = 2} (omega 
 pub far_side : (n k : ℕ) → 63 < n → k < 2 ^ 64 → (k == 2 ^ n) ≡ false
 far_side n k past small = let least : 2 ^ 64 ≤ 2 ^ n = pow-le-pow_right {n = 2} (omega arith) {i = 64} {j = n} (omega (arith, past)) in ne_eqb k (2 ^ n) (λ e. omega (arith, e, least, small))
 
--- the first word is this one
-first_is : (w word : List ℕ) (b : Bool) → bytes_eq w word ≡ true → is_built word ≡ b → is_built w ≡ b
-first_is w word b same built = let P : List ℕ → Type 0 = λ (x : List ℕ). is_built x ≡ b in subst P (sym ((bytes_eq-Decides w word).0 same)) built
-
-asked_first : (n : ℕ) (w : List ℕ) (ws : List (List ℕ)) (b : Bool) → is_built w ≡ b → asked_by n (w ∷ ws) ≡ cond {A = ℕ} b (asked_in_all n (w ∷ ws)) 0
-asked_first n w ws b is = ap (λ (x : Bool). cond {A = ℕ} x (asked_in_all n (w ∷ ws)) 0) is
-
-either_none : (b : Bool) (k : ℕ) → k ≡ 0 → cond {A = ℕ} b k 0 ≡ 0
-either_none true k is = is
-either_none false k is = refl
-
-by_none : (n : ℕ) (ws : List (List ℕ)) → asked_in_all n ws ≡ 0 → asked_by n ws ≡ 0
-by_none n [] none = refl
-by_none n (w ∷ ws) none = either_none (is_built w) (asked_in_all n (w ∷ ws)) none
-
--- what is asked for by a command that is built, and by one that is not
-by_word : (n : ℕ) (ws : List (List ℕ)) (word : List ℕ) → begins_with ws word ≡ true → is_built word ≡ true → asked_by n ws ≡ asked_in_all n ws
-by_word n [] word first built = refl
-by_word n (w ∷ ws) word first built = asked_first n w ws true (first_is w word true first built)
-
-not_word : (n : ℕ) (ws : List (List ℕ)) (word : List ℕ) → begins_with ws word ≡ true → is_built word ≡ false → asked_by n ws ≡ 0
-not_word n [] word first built = refl
-not_word n (w ∷ ws) word first built = asked_first n w ws false (first_is w word false first built)
-
-pub by_built : (n : ℕ) (ws : List (List ℕ)) (what : Asked) → IsAsked n (asked_in_all n ws) ws what → is_built_for what ≡ true → IsAsked n (asked_by n ws) ws what
-by_built n ws kinds.Nothing is built = record { number = by_none n ws is.number; kind = tt }
-by_built n ws kinds.Rows is built = record { number = by_word n ws (codes "raster") is.kind built ∙ is.number; kind = is.kind }
-by_built n ws (kinds.Points k) is built = record { number = by_word n ws (codes "scatter") is.kind.1 built ∙ is.number; kind = is.kind }
-by_built n ws (kinds.Rings k) is built = record { number = by_word n ws (codes "polygon") is.kind.1 built ∙ is.number; kind = is.kind }
-
-pub by_unbuilt : (n : ℕ) (ws : List (List ℕ)) (what : Asked) → IsAsked n (asked_in_all n ws) ws what → is_built_for what ≡ false → IsAsked n (asked_by n ws) ws kinds.Nothing
-by_unbuilt n ws kinds.Nothing is built = record { number = by_none n ws is.number; kind = tt }
-by_unbuilt n ws kinds.Rows is built = record { number = not_word n ws (codes "raster") is.kind built; kind = tt }
-by_unbuilt n ws (kinds.Points k) is built = record { number = not_word n ws (codes "scatter") is.kind.1 built; kind = tt }
-by_unbuilt n ws (kinds.Rings k) is built = record { number = not_word n ws (codes "polygon") is.kind.1 built; kind = tt }
-
 -- the words of a raster, and others
-pub asks_rows : (n : ℕ) (ws : List (List ℕ)) → begins_with ws (codes "raster") ≡ true → IsAsked n (asked_in_all n ws) ws kinds.Rows
+pub asks_rows : (n : ℕ) (ws : List (List ℕ)) → begins_with ws (codes "raster") ≡ true → IsAsked n (asked_by n ws) ws kinds.Rows
 asks_rows n [] first = absurd (let bad : false ≡ true = first in cc)
 asks_rows n (w ∷ ws) first = record { number = ap (λ (b : Bool). cond {A = ℕ} b (side n) (listed_by (w ∷ ws))) first; kind = first }
 
-asks_listed : (n : ℕ) (ws : List (List ℕ)) → begins_with ws (codes "raster") ≡ false → asked_in_all n ws ≡ listed_by ws
+asks_listed : (n : ℕ) (ws : List (List ℕ)) → begins_with ws (codes "raster") ≡ false → asked_by n ws ≡ listed_by ws
 asks_listed n [] other = refl
 asks_listed n (w ∷ ws) other = ap (λ (b : Bool). cond {A = ℕ} b (side n) (listed_by (w ∷ ws))) other
 
@@ -81,15 +44,15 @@ rings_word (w ∷ p ∷ c ∷ k ∷ []) some other = elim (bool_cases (bytes_eq 
 ]
 rings_word (w ∷ p ∷ c ∷ k ∷ l ∷ ws) some other = absurd (omega (arith, some))
 
-pub asks_none : (n : ℕ) (ws : List (List ℕ)) (k : ℕ) → begins_with ws (codes "raster") ≡ false → k ≡ listed_by ws → k ≡ 0 → IsAsked n (asked_in_all n ws) ws kinds.Nothing
+pub asks_none : (n : ℕ) (ws : List (List ℕ)) (k : ℕ) → begins_with ws (codes "raster") ≡ false → k ≡ listed_by ws → k ≡ 0 → IsAsked n (asked_by n ws) ws kinds.Nothing
 asks_none n ws k other is none = record { number = asks_listed n ws other ∙ sym is ∙ none; kind = tt }
 
 pub asks_points : (n : ℕ) (ws : List (List ℕ)) (k : ℕ) → begins_with ws (codes "raster") ≡ false → k ≡ listed_by ws → 0 < k → begins_with ws (codes "scatter") ≡ true →
-    IsAsked n (asked_in_all n ws) ws (kinds.Points k)
+    IsAsked n (asked_by n ws) ws (kinds.Points k)
 asks_points n ws k other is some first = record { number = asks_listed n ws other ∙ sym is; kind = (some, first) }
 
 pub asks_rings : (n : ℕ) (ws : List (List ℕ)) (k : ℕ) → begins_with ws (codes "raster") ≡ false → k ≡ listed_by ws → 0 < k → begins_with ws (codes "scatter") ≡ false →
-    IsAsked n (asked_in_all n ws) ws (kinds.Rings k)
+    IsAsked n (asked_by n ws) ws (kinds.Rings k)
 asks_rings n ws k other is some no_list = record { number = asks_listed n ws other ∙ sym is; kind = (some, rings_word ws (omega (arith, is, some)) no_list) }
 
 -- what a line asks for

@@ -5,7 +5,6 @@ use Rattle.quilt_lang.specs.declared.asked.Asked.{Asked}
 use Rattle.quilt_lang.specs.declared.asked.Asked.TheVariants as kinds
 use Rattle.quilt_words.specs.declared.item.Item.{Item}
 use Rattle.quilt_words.specs.declared.item.Item.TheVariants.{Line, Rows, PointLines, RingLines}
-use Rattle.quilt_words.specs.Built.{is_built}
 use Rattle.quilt_words.specs.Items.{Group, begins_with, lines_of, whole_lines, rows_of, points_of, rings_of}
 use Rattle.quilt_lang.specs.Reading.{MayFollow}
 
@@ -47,13 +46,6 @@ IsAsking ws (kinds.Rings k) = (0 < k) × (begins_with ws (codes "polygon") ≡ t
 pub record IsAsked (n count : ℕ) (ws : List (List ℕ)) (what : Asked) : Type 0 where
   pub number : count ≡ number_of n what
   pub kind : IsAsking ws what
-
--- the command that asks for them is built
-abbrev pub is_built_for : Asked → Bool
-is_built_for kinds.Nothing = true
-is_built_for kinds.Rows = is_built (codes "raster")
-is_built_for (kinds.Points k) = is_built (codes "scatter")
-is_built_for (kinds.Rings k) = is_built (codes "polygon")
 
 -- what a line holds with these further lines, where it asks for such
 abbrev pub holding : ℕ → ℕ → List ℕ → List (List ℕ) → Asked → Item

@@ -1,11 +1,11 @@
 //! The further lines that a line asks for.
 ghost use Rattle.std.specs.Prelude.{◌≡◌, ◌==◌, ◌||◌, ℕ, false, codes, length, map, IfOk};
 ghost use Rattle.quilt_types.specs.Plane.{side};
-ghost use Rattle.quilt_words.specs.Items.{asked, asked_by, asked_in_all, begins_with, words_of};
-ghost use Rattle.quilt_lang.specs.Cutting.{IsAsked, is_built_for, number_of};
+ghost use Rattle.quilt_words.specs.Items.{asked, asked_by, begins_with, words_of};
+ghost use Rattle.quilt_lang.specs.Cutting.{IsAsked, number_of};
 
 use crate::spelled::listed;
-use quilt_words::{LINE_LIMIT, PointWord, RegionWord, Word, is_plain_line, line_words};
+use quilt_words::{LINE_LIMIT, is_plain_line, line_words};
 use std::alloc::{AllocError, Global};
 
 /// The further lines that a line asks for.
@@ -39,18 +39,6 @@ impl Asked {
     {
         ended || self.is_number(level, count)
     }
-
-    /// Whether the session has the command that asks for them.
-    fn is_built(self) -> bool
-        ensures { result ≡ is_built_for self }
-    {
-        match self {
-            Asked::Nothing => true,
-            Asked::Rows => Word::Region(RegionWord::Raster).is_built(),
-            Asked::Points(_) => Word::Point(PointWord::Scatter).is_built(),
-            Asked::Rings(_) => Word::Region(RegionWord::Polygon).is_built(),
-        }
-    }
 }
 
 /// Whether so many lines are a row for each row of the square.
@@ -82,24 +70,12 @@ pub fn further_asked(alloc: Global, line: &[u8]) -> Result<Asked, AllocError>
         return Ok(Asked::Nothing);
     }
     let words = line_words(alloc, line)?;
-    Ok(asked_if_built(&words))
+    Ok(asked_by_words(&words))
 }
 
-/// What words ask for, where their command is built.
-fn asked_if_built(words: &[&[u8]]) -> Asked
+/// What words ask for.
+fn asked_by_words(words: &[&[u8]]) -> Asked
     ensures { (n : ℕ) → IsAsked n (asked_by n (map (λ w. w.now) words.now)) (map (λ w. w.now) words.now) result }
-{
-    let what = asked_of_all(words);
-    if what.is_built() {
-        what
-    } else {
-        Asked::Nothing
-    }
-}
-
-/// What words ask for, where all commands are built.
-pub fn asked_of_all(words: &[&[u8]]) -> Asked
-    ensures { (n : ℕ) → IsAsked n (asked_in_all n (map (λ w. w.now) words.now)) (map (λ w. w.now) words.now) result }
 {
     if is_raster(words) {
         Asked::Rows
@@ -110,7 +86,7 @@ pub fn asked_of_all(words: &[&[u8]]) -> Asked
 
 fn asked_lists(words: &[&[u8]]) -> Asked
     requires { begins_with (map (λ w. w.now) words.now) (codes "raster") ≡ false }
-    ensures { (n : ℕ) → IsAsked n (asked_in_all n (map (λ w. w.now) words.now)) (map (λ w. w.now) words.now) result }
+    ensures { (n : ℕ) → IsAsked n (asked_by n (map (λ w. w.now) words.now)) (map (λ w. w.now) words.now) result }
 {
     let count = listed(words);
     if count == 0 {

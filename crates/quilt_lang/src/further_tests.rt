@@ -1,13 +1,13 @@
 //! Rows, list lines and ring lines that are drawn, and cut anywhere.
 ghost use Rattle.std.specs.Prelude.{◌≤◌, length};
 
-use crate::asked::{Asked, asked_of_all};
+use crate::asked::{Asked, further_asked};
 use crate::counting::count_lines;
 use crate::front::further_lines;
 use crate::held::item_with;
 use crate::progress::CutLines;
 use quilt_types::{Corner, Pixel, Point, Text};
-use quilt_words::{Item, line_words};
+use quilt_words::Item;
 use std::alloc::Global;
 use std::test::Fail;
 
@@ -250,18 +250,13 @@ fn holds_none_where_a_line_is_missing(rt: HostRuntime) -> Result<(), Fail> {
     Ok(())
 }
 
-fn asked_in(alloc: Global, line: &[u8]) -> Result<Asked, Fail> {
-    let words = line_words(alloc, line)?;
-    Ok(asked_of_all(&words))
-}
-
 #[test]
 fn asks_by_words(rt: HostRuntime) -> Result<(), Fail> {
     let alloc = rt.alloc();
-    assert_eq!(rt; asked_in(alloc, b"raster a")?, Asked::Rows);
-    assert_eq!(rt; asked_in(alloc, b"scatter p 3")?, Asked::Points(3));
-    assert_eq!(rt; asked_in(alloc, b"scatter p 0")?, Asked::Nothing);
-    assert_eq!(rt; asked_in(alloc, b"polygon a 1 2")?, Asked::Rings(2));
-    assert_eq!(rt; asked_in(alloc, b"polygon a 2")?, Asked::Nothing);
+    assert_eq!(rt; further_asked(alloc, b"raster a")?, Asked::Rows);
+    assert_eq!(rt; further_asked(alloc, b"scatter p 3")?, Asked::Points(3));
+    assert_eq!(rt; further_asked(alloc, b"scatter p 0")?, Asked::Nothing);
+    assert_eq!(rt; further_asked(alloc, b"polygon a 1 2")?, Asked::Rings(2));
+    assert_eq!(rt; further_asked(alloc, b"polygon a 2")?, Asked::Nothing);
     Ok(())
 }

@@ -21,7 +21,7 @@ fn refuses_by_form(rt: HostRuntime) -> Result<(), Fail> {
     assert_eq!(rt; refused(alloc, b"set nosuch 99 x 1\n")?, Some(Code::Number));
     assert_eq!(rt; refused(alloc, b"set nosuch 99 0 1\n")?, None);
     assert_eq!(rt; refused(alloc, b"frob\n")?, Some(Code::Word));
-    assert_eq!(rt; refused(alloc, b"rank l 1 1 1\n")?, Some(Code::Word));
+    assert_eq!(rt; refused(alloc, b"rank l 1 1 1\n")?, None);
     assert_eq!(rt; refused(alloc, b"publish\n")?, None);
     assert_eq!(rt; refused(alloc, b"raster a\n")?, None);
     assert_eq!(rt; refused(alloc, b"polygon a 256 1\n")?, Some(Code::Number));

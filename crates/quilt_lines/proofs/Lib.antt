@@ -7,3 +7,17 @@ pub mod Listed
 pub mod Sums
 pub mod Scans
 pub mod Spelled
+pub mod Merges
+pub mod MergeSteps
+pub mod Gathering
+pub mod Permutations
+pub mod Changes
+pub mod Beginnings
+pub mod Additions
+pub mod Rows
+pub mod Quarters
+pub mod Results
+pub mod Removals
+pub mod Options
+pub mod Floors
+pub mod Counts

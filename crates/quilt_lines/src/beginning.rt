@@ -1,8 +1,8 @@
 ghost use Rattle.std.specs.Prelude.{◌≤◌};
 ghost use Rattle.quilt_lines.specs.Plans.{IsLineBeginning};
 
+use crate::square::whole_square;
 use quilt_record::{Record, pair_record};
-use quilt_types::Block;
 
 /// The record that comes, beside that of the catalog, when a line layer of no segments does: that of the whole square, its one
 /// block. The layer has this number, from 1 to 255, in a map of this level, from 1 to 12, and a splitting threshold from 1 to 32.
@@ -12,6 +12,5 @@ pub fn first_record(layer: u8, level: u8, t: u8) -> Record
     requires threshold { (1 ≤ t) × (t ≤ 32) }
     ensures { IsLineBeginning level layer t result }
 {
-    let side = 1_u16 << level;
-    pair_record(layer, Block { x: 0, y: 0, side }, level, None)
+    pair_record(layer, whole_square(level), level, None)
 }

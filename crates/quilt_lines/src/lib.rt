@@ -2,17 +2,23 @@
 //! come when a segment does (PMR quadtrees, Nelson and Samet 1986).
 #![tactic(auto)]
 
+mod adding;
 mod beginning;
 mod counting;
 mod laws;
 mod listing;
-mod planning;
+mod merging;
+mod removal;
+mod removing;
 mod segments;
+mod settling;
+mod square;
 mod view;
 
+pub use adding::plan_add;
 pub use beginning::first_record;
 pub use counting::block_counts;
 pub use laws::lines_laws;
-pub use planning::{plan_add, plan_remove};
+pub use removing::plan_remove;
 pub use segments::{scan, segment};
 pub use view::LineView;

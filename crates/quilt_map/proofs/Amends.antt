@@ -1,6 +1,7 @@
 -- A layer that stays under its name and becomes another of its kind: a plan of the work, and what its command is answered.
-use Rattle.std.proofs.Common.{◌≡◌, ℕ, List, [], Option, Some, None, refl, sym, subst}
+use Rattle.std.proofs.Common.{◌≡◌, ℕ, ◌≤◌, List, [], length, Option, Some, None, refl, sym, subst, arith}
 use Rattle.std.specs.FinMap as finmap
+use Rattle.quilt_types.specs.Facts.{records}
 use Rattle.quilt_types.specs.Layers.{Layer, IsLayer}
 use Rattle.quilt_world.specs.declared.disk.Disk as disk
 use Rattle.quilt_record.specs.declared.entry.Entry.{Entry}
@@ -12,7 +13,7 @@ use Rattle.quilt_spell.specs.Stepping.{IsPlaced}
 use Rattle.quilt_spell.specs.Written.{number_of}
 use Rattle.quilt_region.specs.Laws as regions
 use Rattle.quilt_edition.specs.declared.book.Book.{Book}
-use Rattle.quilt_replies.specs.Answers.{State, Outcome, Done}
+use Rattle.quilt_replies.specs.Answers.{State, Outcome, Done, with}
 use Rattle.quilt_replies.specs.Runs.{text_of}
 use Rattle.quilt_replies.specs.declared.reply.Reply.TheVariants as given
 use Rattle.quilt_map.specs.Asking.{IsStill}
@@ -22,6 +23,7 @@ use Rattle.quilt_map.specs.Sessions.{IsAtState}
 use Rattle.quilt_map.specs.declared.session.Session.{Session}
 use Rattle.quilt_map.proofs.Answered.{keeps_at}
 use Rattle.quilt_map.proofs.Catalogs.{catalog_stays}
+use Rattle.quilt_map.proofs.ChangeSteps.{counted}
 use Rattle.quilt_map.proofs.Moving.{IsLawful, with_book}
 use Rattle.quilt_map.proofs.Placing.{placed_within}
 
@@ -47,6 +49,15 @@ module _ {W : Type 0} {D : disk.Ghosts W} (session : Session W D) (s : State) (a
     where
       some_none : (l : Layer) → Some l ≡ None → ⊥
       some_none l e = cc
+
+  -- what does not make more records stays within the quota
+  pub never_more : (name : List ℕ) (number : ℕ) (layer : Layer) (removed added : List Record) → IsPlan s at.work.numbers name number (Some layer) removed added → length added ≤ length removed
+      → records s.last.level (with s name layer) ≤ s.quota
+  never_more name number layer removed added plan fewer =
+      let c = counted session s at name number (Some layer) removed added plan in
+      let q = at.quota in
+      let most = session.book.next.records in
+      omega arith
 
 -- the same with other names for the lists, and for the entries
 pub planned_as : (s : State) (numbers : Numbering) (entries : List Entry) (name : List ℕ) (number : ℕ) (new : Layer) (removed added : List Record) → IsAmendment s numbers entries name number new removed added

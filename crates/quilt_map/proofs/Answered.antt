@@ -1,5 +1,5 @@
 -- The replies of commands that change nothing, and the state that they leave.
-use Rattle.std.proofs.Common.{◌≡◌, ℕ, ◌*◌, ◌≤◌, Bool, true, false, not, List, [], ◌∷◌, Option, Some, None, Result, Ok, Err, refl, sym, ◌∙◌, ap, subst, arith}
+use Rattle.std.proofs.Common.{◌≡◌, ℕ, ◌*◌, ◌≤◌, Bool, true, false, not, List, [], ◌∷◌, Option, Some, None, Result, Ok, Err, refl, sym, ◌∙◌, ap, subst}
 use Rattle.std.specs.Prelude.{IfOk, codes, decimal, map, ◌-◌, is_none, unwrap_or, option_map}
 use Rattle.std.specs.FinMap as finmap
 use Rattle.quilt_types.specs.declared.code.Code.{Code}
@@ -18,9 +18,7 @@ use Rattle.quilt_words.specs.declared.command.Command.TheVariants as commands
 use Rattle.quilt_blocks.specs.Raster.{Raster}
 use Rattle.quilt_region.specs.Regions.{HasRegion}
 use Rattle.quilt_spell.specs.Catalogued.{kind_of, IsCatalogOf}
-use Rattle.quilt_spell.specs.Written.{number_of}
 use Rattle.quilt_spell.proofs.Stepping.{spelled_count}
-use Rattle.quilt_spell.proofs.Written.{number_fits}
 use Rattle.quilt_edition.specs.declared.book.Book.{Book}
 use Rattle.quilt_replies.specs.Answers as answers
 use Rattle.quilt_replies.specs.Answers.{State, Outcome, Done, Refused, answer, unless, unknown, unless_region, is_region, grid_in, layer_line, leaf_line, row_line, block_lines, sides_of}
@@ -30,7 +28,8 @@ use Rattle.quilt_map.specs.Sessions.{IsAtWith, IsAtState, told_of, tree_in}
 use Rattle.quilt_replies.specs.States.{Tells}
 use Rattle.quilt_replies.specs.declared.reply.Reply as replies
 use Rattle.quilt_map.specs.declared.session.Session.{Session}
-use Rattle.quilt_map.proofs.Asked.{still_here, region_of, layer_is}
+use Rattle.quilt_map.proofs.Asked.{still_here, layer_is}
+use Rattle.quilt_map.proofs.HeldLayers.{layer_there, layer_number}
 use Rattle.quilt_map.proofs.Moving.{IsLawful, later_at}
 
 -- ---- what the definition answers
@@ -87,11 +86,6 @@ module _ (s : State) (a : List ℕ) where
     unfolding answer
     leaves_done = ap (λ (o : Option Layer). (unless ((is_none o, no.Unknown) ∷ (not (is_region o), no.Kind) ∷ []) s (answers.told s (map leaf_line (leaves s.last.level (grid_in o))))).reply) e
 
-    pub blocks_done : (answer s (commands.Blocks a)).reply ≡ Done (block_lines s.last.level (sides_of s.last.level (Region g)))
-    unfolding answer
-    blocks_done =
-        ap (λ (o : Option Layer). (unless ((is_none o, no.Unknown) ∷ []) s (answers.told s (block_lines s.last.level (unwrap_or (option_map (sides_of s.last.level) o) [])))).reply) e
-
 pub layers_done : (s : State) → (answer s commands.Layers).reply ≡ Done (map layer_line (finmap.entries s.work))
 unfolding answer
 layers_done s = refl
@@ -114,8 +108,8 @@ pub record IsBodyOf (out : answers.Reply) (text : List ℕ) : Type 0 where
 pub text_tells : (out : answers.Reply) (text : List ℕ) → IsBodyOf out text → (text ≡ text_of out) × (is_done out ≡ true)
 text_tells out text is = (is.written ∙ ap text_of (sym is.answered), ap is_done is.answered)
 
-pub told_reply : {E F : Type 0} (At : State → Type 0) (out : State → answers.Reply) (text : Result (List ℕ) E) (r : Result replies.Reply F)
-    → IfOk r (HasText text) → ((s : State) → At s → IfOk text (IsBodyOf (out s))) → IfOk r (λ given. (s : State) → At s → Tells given (out s))
+pub told_reply : {A E F : Type 0} (At : A → Type 0) (out : A → answers.Reply) (text : Result (List ℕ) E) (r : Result replies.Reply F)
+    → IfOk r (HasText text) → ((s : A) → At s → IfOk text (IsBodyOf (out s))) → IfOk r (λ given. (s : A) → At s → Tells given (out s))
 told_reply At out (Ok t) (Ok given) has is = λ s at. subst (λ (x : replies.Reply). Tells x (out s)) (sym has) (text_tells (out s) t (is s at))
 told_reply At out (Err e) (Ok given) has is = absurd has
 told_reply At out text (Err e) has is = tt
@@ -185,13 +179,10 @@ module _ {W : Type 0} {D : disk.Ghosts W} where
 
     module _ (name : List ℕ) (number : ℕ) (r : IsRegionAt s.work at.work.numbers name number) where
       pub has_region : HasRegion (told_of old.book) (tree_in old.book.work) number old.book.work.level r.grid
-      has_region =
-          subst (λ (k : ℕ). HasRegion (told_of old.book) (tree_in old.book.work) k old.book.work.level r.grid) (sym r.numbered)
-          (subst (λ (o : Option (List (List ℕ))). HasRegion o (tree_in old.book.work) (number_of at.work.numbers name) old.book.work.level r.grid) (sym at.pages_told)
-          (region_of old.book.work.format old.book.work.level at.work.numbers at.work.records s.work name r.grid (Some at.pages) (tree_in old.book.work) level_fits at.work.spelled at.work.whole.tree r.got))
+      has_region = layer_there old s at name number (Region r.grid) r.got r.numbered
 
       pub has_number : 1 ≤ number
-      has_number = let least = (number_fits s.work at.work.numbers at.work.spelled.numbering name (Region r.grid) r.got).0 in let same = r.numbered in omega arith
+      has_number = layer_number old s at name number (Region r.grid) r.got r.numbered
 
       pub has_grid : IsGrid s.last.format s.last.level r.grid
       has_grid =
@@ -201,14 +192,6 @@ module _ {W : Type 0} {D : disk.Ghosts W} where
       -- the list of its leaves
       pub raster_is : (l : Raster) → ((g : Grid) → HasRegion (told_of old.book) (tree_in old.book.work) number old.book.work.level g → l ≡ record { level = old.book.work.level; grid = g }) → l ≡ record { level = s.last.level; grid = r.grid }
       raster_is l is = is r.grid has_region ∙ ap (λ (n : ℕ). record { level = n; grid = r.grid }) level_is
-
-      pub blocks_body : (l : Raster) → ((g : Grid) → HasRegion (told_of old.book) (tree_in old.book.work) number old.book.work.level g → l ≡ record { level = old.book.work.level; grid = g })
-          → (t : List ℕ) → t ≡ text_of (Done (block_lines l.level (sides_of l.level (Region l.grid)))) → IsBodyOf ((answer s (commands.Blocks name)).reply) t
-      blocks_body l is t written = record {
-        body = block_lines s.last.level (sides_of s.last.level (Region r.grid));
-        answered = blocks_done s name r.grid r.got;
-        written = written ∙ ap (λ (x : Raster). text_of (Done (block_lines x.level (sides_of x.level (Region x.grid))))) (raster_is l is);
-      }
 
       pub leaves_body : (l : Raster) → ((g : Grid) → HasRegion (told_of old.book) (tree_in old.book.work) number old.book.work.level g → l ≡ record { level = old.book.work.level; grid = g })
           → (t : List ℕ) → t ≡ text_of (Done (map leaf_line (leaves l.level l.grid))) → IsBodyOf ((answer s (commands.Leaves name)).reply) t

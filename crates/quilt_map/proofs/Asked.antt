@@ -1,5 +1,5 @@
 -- What a command that changes nothing finds in the work, and that it leaves the state.
-use Rattle.std.proofs.Common.{◌≡◌, ℕ, ◌<◌, ◌≤◌, Bool, true, false, List, Option, Some, Result, Ok, Err, refl, sym, ◌∙◌, ap, subst, arith, nat_cmp}
+use Rattle.std.proofs.Common.{◌≡◌, ℕ, ◌<◌, ◌≤◌, Bool, true, false, List, Option, Some, None, IfSome, Result, Ok, Err, refl, sym, ◌∙◌, ap, subst, arith, nat_cmp}
 use Rattle.std.specs.Prelude.{IfOk, IfErr, ◌==◌, if◌then◌else◌}
 use Rattle.std.specs.Cmp.Lexicographic.{slice_cmp, nat_list_cmp_total}
 use Rattle.std.specs.FinMap as finmap
@@ -19,7 +19,7 @@ use Rattle.quilt_btree.specs.declared.tree.Tree.{Tree}
 use Rattle.quilt_region.specs.Regions.{HasRegion}
 use Rattle.quilt_blocks.specs.Raster.{Raster}
 use Rattle.quilt_edition.specs.declared.book.Book.{Book}
-use Rattle.quilt_edition.specs.Laws.{later_same}
+use Rattle.quilt_edition.specs.Laws.{later_same, later_on}
 use Rattle.quilt_map.specs.Asking.{IsStill}
 use Rattle.quilt_map.specs.Sessions.{tree_in}
 
@@ -30,6 +30,21 @@ module _ {W : Type 0} {D : disk.Ghosts W} where
     told = refl;
     free = refl;
     changed = omega arith;
+  }
+
+  -- one reading behind another
+  pub still_both : (a b c : Book W D) → IsStill a b → IsStill b c → IsStill a c
+  still_both a b c p q = record {
+    later = (
+      q.later.0 ∙ p.later.0,
+      q.later.1 ∙ p.later.1,
+      (q.later.2.0 ∙ p.later.2.0, q.later.2.1 ∙ p.later.2.1, q.later.2.2 ∙ p.later.2.2),
+      q.later.3 ∙ p.later.3,
+      later_on a.journal.pages b.journal.pages (D.told a.world) (D.told b.world) (D.told c.world) p.later.0 p.later.4 q.later.4,
+    );
+    told = q.told ∙ p.told;
+    free = q.free ∙ p.free;
+    changed = (let first = p.changed in let second = q.changed in omega arith);
   }
 
 -- the tree and the level of the same header
@@ -44,6 +59,10 @@ if_err P Q (Err e) f h = f e h
 pub if_ok : {T E : Type 0} (P Q : T → Type 0) (r : Result T E) → ((x : T) → P x → Q x) → IfOk r P → IfOk r Q
 if_ok P Q (Ok x) f h = f x h
 if_ok P Q (Err e) f h = tt
+
+pub if_some : {X : Type 0} (P Q : X → Type 0) (o : Option X) → ((x : X) → P x → Q x) → IfSome o P → IfSome o Q
+if_some P Q None f h = tt
+if_some P Q (Some x) f h = f x h
 
 pub raster_as : (g : Grid) (m n : ℕ) (l : Raster) → m ≡ n → l ≡ record { level = m; grid = g } → l ≡ record { level = n; grid = g }
 raster_as g m n l same e = e ∙ ap (λ (k : ℕ). record { level = k; grid = g }) same

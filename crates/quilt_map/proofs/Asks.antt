@@ -30,14 +30,17 @@ pub record Asks (s : State) (command : Command) : Type 0 where
   pub nothing : answer s command ≡ nothing_done s ((answer s command).reply)
   pub forward : goes_back command ≡ false
 
-pub alone : (s : State) (rs : List (Bool × Code)) (body : List (List ℕ)) → unless rs s (answers.told s body) ≡ nothing_done s ((unless rs s (answers.told s body)).reply)
-alone s [] body = refl
-alone s (r ∷ rs) body = by_case r.0 r.1 (alone s rs body)
+pub alone_reply : (s : State) (rs : List (Bool × Code)) (r : Reply) → unless rs s (nothing_done s r) ≡ nothing_done s ((unless rs s (nothing_done s r)).reply)
+alone_reply s [] r = refl
+alone_reply s (t ∷ rs) r = by_case t.0 t.1 (alone_reply s rs r)
   where
-    by_case : (b : Bool) (code : Code) → unless rs s (answers.told s body) ≡ nothing_done s ((unless rs s (answers.told s body)).reply)
-        → unless ((b, code) ∷ rs) s (answers.told s body) ≡ nothing_done s ((unless ((b, code) ∷ rs) s (answers.told s body)).reply)
+    by_case : (b : Bool) (code : Code) → unless rs s (nothing_done s r) ≡ nothing_done s ((unless rs s (nothing_done s r)).reply)
+        → unless ((b, code) ∷ rs) s (nothing_done s r) ≡ nothing_done s ((unless ((b, code) ∷ rs) s (nothing_done s r)).reply)
     by_case true code rest = refl
     by_case false code rest = rest
+
+pub alone : (s : State) (rs : List (Bool × Code)) (body : List (List ℕ)) → unless rs s (answers.told s body) ≡ nothing_done s ((unless rs s (answers.told s body)).reply)
+alone s rs body = alone_reply s rs (answers.Done body)
 
 module _ (s : State) where
   pub layers_asks : Asks s commands.Layers

@@ -29,7 +29,9 @@ use Rattle.quilt_edition.proofs.Steps.{seen_home}
 use Rattle.quilt_node.specs.declared.head.Head.{Head}
 use Rattle.quilt_replies.specs.Answers.{State, answer}
 use Rattle.quilt_map.specs.Commanding.{Answered, IsApplied}
-use Rattle.quilt_map.specs.Sessions.{IsAt, IsAtState, IsPublishedAs, world_of, level_of, changes_of}
+use Rattle.quilt_map.specs.Asking.{reads_in}
+use Rattle.quilt_map.specs.Reading.{IsPromised, ReadsFew}
+use Rattle.quilt_map.specs.Sessions.{IsAt, IsAtState, IsPublishedAs, world_of, level_of, changes_of, reads_of}
 use Rattle.quilt_replies.specs.States.{Tells, IsRefusal, after}
 use Rattle.quilt_map.specs.Steps.{Leaves, StandsFor, WritesFew, changes_after, gives_edition, goes_back}
 use Rattle.quilt_replies.specs.declared.reply.Reply.{Reply}
@@ -75,15 +77,6 @@ quiet_else c publish upgrade = refl
 pub forward_else : (c : Command) → (c ≡ commands.Revert → ⊥) → goes_back c ≡ false
 forward_else commands.Revert revert = absurd (revert refl)
 forward_else c revert = refl
-
-pub not_publish : (c : Command) → gives_edition c ≡ false → c ≡ commands.Publish → ⊥
-not_publish c quiet is = let no_ : gives_edition commands.Publish ≡ false = subst (λ (x : Command). gives_edition x ≡ false) is quiet in cc
-
-pub not_upgrade : (c : Command) → gives_edition c ≡ false → c ≡ commands.Upgrade → ⊥
-not_upgrade c quiet is = let no_ : gives_edition commands.Upgrade ≡ false = subst (λ (x : Command). gives_edition x ≡ false) is quiet in cc
-
-pub not_revert : (c : Command) → goes_back c ≡ false → c ≡ commands.Revert → ⊥
-not_revert c forward is = let no_ : goes_back commands.Revert ≡ false = subst (λ (x : Command). goes_back x ≡ false) is forward in cc
 
 -- what a command has that is spelled is of the format and the level of the work, and so of the last edition
 module _ {W : Type 0} {D : disk.Ghosts W} where
@@ -182,10 +175,11 @@ sound_at At (Err e) h = λ s at. h
 
 module _ {W : Type 0} {D : disk.Ghosts W} (old new : Session W D) (command other : Command) (same : other ≡ command) (r : Result Reply Stop)
     (answers : IfOk r (λ reply. (s : State) → IsAtState old s → Answered s other old new reply)) (sound : IfErr r (λ e. (s : State) → IsAtState old s → IsSound e))
-    (cause : HasStopCause (D.faults old.book.world) (D.faults new.book.world) r) where
+    (cause : HasStopCause (D.faults old.book.world) (D.faults new.book.world) r)
+    (reads : (s : State) → IsAtState old s → IsPromised s command r → ReadsFew s command (reads_in old.book) (reads_in new.book)) where
   -- a command that gives no edition
   pub applied_going : books.GoesOn old.book new.book → gives_edition command ≡ false → IsApplied command old new r
-  unfolding world_of IsAt
+  unfolding world_of IsAt reads_of
   applied_going goes quiet = record {
     answer = answer_of old new command other same r answers;
     refused = refused_keeps old new command other same r answers;
@@ -199,13 +193,14 @@ module _ {W : Type 0} {D : disk.Ghosts W} (old new : Session W D) (command other
     input = input_on old new goes;
     crash = leaves_on old new goes command;
     writes = λ s at. few_on old new goes command quiet s;
+    reads = reads;
   }
 
   -- and one that may give one
   pub applied_giving : OnOk r (new.book.last.level ≡ old.book.last.level) → D.door new.book.world ≡ D.door old.book.world → WritesPages (D.told old.book.world) (D.told new.book.world)
       → ((s : State) → IsAtState old s → Goes (Leaves s other) (D.told old.book.world) (D.told new.book.world))
       → ((s : State) → IsAtState old s → Goes (Writing (18 * old.changes + 8)) (D.told old.book.world) (D.told new.book.world)) → IsApplied command old new r
-  unfolding world_of IsAt level_of changes_of
+  unfolding world_of IsAt level_of changes_of reads_of
   applied_giving level door events crash writes = record {
     answer = answer_of old new command other same r answers;
     refused = refused_keeps old new command other same r answers;
@@ -219,4 +214,5 @@ module _ {W : Type 0} {D : disk.Ghosts W} (old new : Session W D) (command other
     input = writing_input (D.told old.book.world) (D.told new.book.world) events;
     crash = λ s at. subst (λ (c : Command). Goes (Leaves s c) (D.told old.book.world) (D.told new.book.world)) same (crash s at);
     writes = λ s at. writing_few (D.told old.book.world) (D.told new.book.world) s command old.changes (writes s at);
+    reads = reads;
   }

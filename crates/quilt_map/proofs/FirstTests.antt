@@ -5,8 +5,9 @@ use Rattle.std.specs.FinMap as finmap
 use Rattle.quilt_types.specs.Layers.{Layer, Region, Grid}
 use Rattle.quilt_types.specs.declared.code.Code.{Code}
 use Rattle.quilt_types.specs.declared.code.Code.TheVariants as no
-use Rattle.quilt_replies.specs.Answers.{State, Outcome, Reply, Refused, Done, unless, exists, too_many, unknown, unless_region, unless_points, is_region}
+use Rattle.quilt_replies.specs.Answers.{State, Outcome, Reply, Refused, Done, unless, exists, too_many, unknown, unless_region, unless_points, unless_lines, is_region}
 use Rattle.quilt_map.specs.Asking.{IsRefusedFirst}
+use Rattle.quilt_map.specs.LineLayers.{IsNoLines}
 use Rattle.quilt_map.specs.Making.{refused}
 use Rattle.quilt_map.specs.PointLayers.{IsNoPoints}
 
@@ -34,6 +35,9 @@ region_refused s name code first = two_tests (unknown s name).0 (unless_region s
 
 pub points_refused : (s : State) (name : List ℕ) (code : Code) → IsNoPoints s name code → (rs : Tests) (done : Outcome) → unless (unknown s name ∷ unless_points s name ∷ rs) s done ≡ refused s code
 points_refused s name code first = two_tests (unknown s name).0 (unless_points s name).0 no.Unknown no.Kind code s first
+
+pub lines_refused : (s : State) (name : List ℕ) (code : Code) → IsNoLines s name code → (rs : Tests) (done : Outcome) → unless (unknown s name ∷ unless_lines s name ∷ rs) s done ≡ refused s code
+lines_refused s name code first = two_tests (unknown s name).0 (unless_lines s name).0 no.Unknown no.Kind code s first
 
 -- a region layer is there
 pub region_passes : (s : State) (name : List ℕ) (g : Grid) (rs : Tests) (done : Outcome) → finmap.get s.work name ≡ Some (Region g) → unless (unknown s name ∷ unless_region s name ∷ rs) s done ≡ unless rs s done

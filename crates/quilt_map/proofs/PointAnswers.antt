@@ -26,7 +26,7 @@ use Rattle.quilt_map.proofs.FirstTests.{points_refused, first_true, first_false}
 use Rattle.quilt_map.proofs.Outcomes.{nothing_done}
 use Rattle.quilt_map.proofs.Placing.{placed_within, answered_by}
 
-none_with : (b : Bool) (k : Code) (s : State) (work : Map) → (unless ((b, k) ∷ []) s (changed work)).published ≡ None
+pub none_with : (b : Bool) (k : Code) (s : State) (work : Map) → (unless ((b, k) ∷ []) s (changed work)).published ≡ None
 none_with true k s work = refl
 none_with false k s work = refl
 

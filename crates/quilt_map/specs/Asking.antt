@@ -1,14 +1,12 @@
 -- What commands that change nothing find, and what they leave.
-use Rattle.std.specs.Prelude.{◌≡◌, ℕ, ◌≤◌, ◌∷◌, List, Bool, Result, Ok, Err, Option, Some, None, All}
+use Rattle.std.specs.Prelude.{◌≡◌, ℕ, ◌≤◌, ◌∷◌, List, Bool, Result, Ok, Err, Option, Some, None}
 use Rattle.std.specs.FinMap as finmap
 use Rattle.std.specs.Map.{keys_of}
 use Rattle.quilt_types.specs.declared.code.Code.{Code}
 use Rattle.quilt_types.specs.declared.plane.Kind.{Kind}
-use Rattle.quilt_types.specs.declared.plane.Kind.TheVariants as kinds
 use Rattle.quilt_types.specs.declared.plane.Pixel.{Pixel}
 use Rattle.quilt_types.specs.Layers.{Layer, Region, Map, Grid}
 use Rattle.quilt_world.specs.declared.disk.Disk as disk
-use Rattle.quilt_record.specs.declared.entry.Entry.{Entry}
 use Rattle.quilt_record.specs.Records.{Numbering}
 use Rattle.quilt_node.specs.declared.head.Head.{Head}
 use Rattle.quilt_btree.specs.Floors.{floor_pages}
@@ -40,10 +38,6 @@ pub record IsLayerUnder (layers : Map) (numbers : Numbering) (name : List ℕ) (
   pub got : finmap.get layers name ≡ Some layer
   pub numbered : number ≡ number_of numbers name
   pub kinded : kind ≡ kind_of layer
-
--- all layers are regions
-abbrev pub AreRegions : List Entry → Type 0
-AreRegions entries = All (λ e. e.kind ≡ kinds.Region) entries
 
 -- the layer and the pixel that was asked for, where it was answered
 abbrev pub warm_after : {E : Type 0} → Result replies.Reply E → List ℕ → Pixel → Option (List ℕ × Pixel)

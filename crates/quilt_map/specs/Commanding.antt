@@ -8,7 +8,8 @@ use Rattle.quilt_world.specs.Tale.{Goes}
 use Rattle.quilt_world.specs.declared.disk.Disk as disk
 use Rattle.quilt_words.specs.declared.command.Command.{Command}
 use Rattle.quilt_replies.specs.Answers.{State, answer}
-use Rattle.quilt_map.specs.Sessions.{IsAt, IsAtState, world_of, level_of, changes_of}
+use Rattle.quilt_map.specs.Reading.{IsPromised, ReadsFew}
+use Rattle.quilt_map.specs.Sessions.{IsAt, IsAtState, world_of, level_of, changes_of, reads_of}
 use Rattle.quilt_replies.specs.States.{Tells, IsRefusal, after}
 use Rattle.quilt_map.specs.Steps.{Leaves, WritesFew, changes_after}
 use Rattle.quilt_replies.specs.declared.reply.Reply.{Reply}
@@ -35,3 +36,4 @@ module _ {W : Type 0} {D : disk.Ghosts W} where
     pub input : Goes (λ before now. now.input ≡ before.input) (D.told (world_of old)) (D.told (world_of new))
     pub crash : (s : State) → IsAt old s → Goes (Leaves s command) (D.told (world_of old)) (D.told (world_of new))
     pub writes : (s : State) → IsAt old s → Goes (WritesFew s command (changes_of old)) (D.told (world_of old)) (D.told (world_of new))
+    pub reads : (s : State) → IsAt old s → IsPromised s command r → ReadsFew s command (reads_of old) (reads_of new)

@@ -3,6 +3,8 @@ pub mod Commanding
 pub mod Copying
 pub mod Derivation
 pub mod Editing
+pub mod HeldLayers
+pub mod LineLayers
 pub mod Lookups
 pub mod Making
 pub mod Measuring
@@ -10,7 +12,9 @@ pub mod Overlaying
 pub mod Painting
 pub mod Planning
 pub mod PointLayers
+pub mod Reading
 pub mod Renewing
+pub mod Selecting
 pub mod Sessions
 pub mod Settled
 pub mod Steps

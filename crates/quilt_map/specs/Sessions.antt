@@ -20,6 +20,7 @@ use Rattle.quilt_spell.specs.Catalogued.{IsCatalogOf}
 use Rattle.quilt_edition.specs.declared.book.Book.{Book}
 use Rattle.quilt_edition.specs.Books as books
 use Rattle.quilt_edition.specs.Keeping.{told_pages, is_free, marked_count, IsLater}
+use Rattle.quilt_edition.specs.Keeping.{reads_of as disk_reads}
 use Rattle.quilt_pool.specs.Views.{entries_of}
 use Rattle.quilt_replies.specs.Answers.{State}
 use Rattle.quilt_map.specs.declared.session.Session.{Session}
@@ -105,6 +106,10 @@ module _ {W : Type 0} {D : disk.Ghosts W} where
   -- how many records were removed and added since the file was opened or since the last edition or revert
   unfoldable pub changes_of : Session W D → ℕ
   changes_of s = s.changes
+
+  -- how often its disk was read, where that is told
+  unfoldable pub reads_of : Session W D → Option ℕ
+  reads_of s = disk_reads (D.told s.book.world)
 
   -- The work's tree spells the work with this catalog, and the published pages hold the last edition. As many pages at most are
   -- changed as the count of changes allows.

@@ -6,19 +6,17 @@ ghost use Rattle.quilt_store.specs.Store.{Tells as StoreTells};
 ghost use Rattle.quilt_btree.specs.Stops.{HasStopCause, IsSound};
 ghost use Rattle.quilt_edition.specs.Books as books;
 ghost use Rattle.quilt_replies.specs.Answers.{State};
-ghost use Rattle.quilt_map.specs.Asking.{HasText, KeepsAll, AreRegions, warm_after, reads_in};
+ghost use Rattle.quilt_map.specs.Asking.{HasText, KeepsAll, warm_after, reads_in};
 ghost use Rattle.quilt_map.specs.Commanding.{Answered};
 ghost use Rattle.quilt_map.specs.Sessions.{IsAtState};
 
-use crate::changing::DAMAGED;
-use crate::regions::{layer_under, read_colour, read_region, region_number};
+use crate::regions::{read_colour, read_region, region_number};
 use crate::session::Session;
 use quilt_replies::{
-    Reply, blocks_text, edition_text, layers_text, leaves_text, number_text, records_text,
-    show_text,
+    Reply, edition_text, layers_text, leaves_text, number_text, records_text, show_text,
 };
 use quilt_store::PageStore;
-use quilt_types::{Code, Kind, Name, Pixel, Stop, Text, Window};
+use quilt_types::{Code, Name, Pixel, Stop, Text, Window};
 use quilt_world::World;
 use std::alloc::AllocError;
 
@@ -79,25 +77,6 @@ impl<W: World> Session<W> {
         ensures memory { IfErr result (λ stop. stop ≡ stops.Memory) }
     {
         told(edition_text(self.alloc, self.book.head().edition))
-    }
-
-    /// How many blocks the layer has of each side.
-    pub(crate) fn blocks(&mut self, name: &Name) -> Result<Reply, Stop>
-        ensures answer { IfOk result (λ reply. (s : State) → IsAtState self.old s → Answered s (commands.Blocks name.now) self.old self.new reply) }
-        ensures sound { IfErr result (λ stop. (s : State) → IsAtState self.old s → AreRegions self.old.catalog → IsSound stop) }
-        ensures cause { HasStopCause (W.faults (books.world_of self.old.book)) (W.faults (books.world_of self.new.book)) result }
-        ensures keeps { KeepsAll self.old self.new }
-        ensures warm { self.new.warm ≡ self.old.warm }
-    {
-        match layer_under(self.catalog.entries(), name) {
-            None => Ok(Reply::No(Code::Unknown)),
-            Some((_, Kind::Points { .. })) => Err(DAMAGED),
-            Some((_, Kind::Lines { .. })) => Err(DAMAGED),
-            Some((number, Kind::Region)) => match read_region(self.alloc, &mut self.book, number) {
-                Err(stop) => Err(stop),
-                Ok(list) => told(blocks_text(self.alloc, &list)),
-            },
-        }
     }
 
     /// The colour of a pixel of the region layer. It reads at most 6 pages.

@@ -9,7 +9,6 @@ ghost use Rattle.quilt_map.specs.Sessions.{IsAtState};
 use crate::making::{listed, new_entry};
 use crate::refusals::why_not_new;
 use crate::session::Session;
-use quilt_points::first_record;
 use quilt_replies::{Reply, done_text};
 use quilt_types::{Code, Kind, Name, Stop};
 use quilt_world::World;
@@ -40,7 +39,29 @@ impl<W: World> Session<W> {
             return Err(Stop::Memory);
         };
         let entry = new_entry(self.catalog.entries(), name, Kind::Points { bucket });
-        let first = first_record(entry.number, head.level, bucket);
+        let first = quilt_points::first_record(entry.number, head.level, bucket);
+        let Ok(records) = listed(self.alloc, &entry, &[first]) else {
+            return Err(Stop::Memory);
+        };
+        self.place(entry, records.records(), text)
+    }
+
+    /// Makes a line layer of no segments, with this splitting threshold, from 1 to 32, under a name that no layer has.
+    pub(crate) fn make_lines(&mut self, name: &Name, t: u8) -> Result<Reply, Stop>
+        requires threshold { (1 ≤ t) × (t ≤ 32) }
+        ensures answer { IfOk result (λ reply. (s : State) → IsAtState self.old s → Answered s (commands.Lines name.now t) self.old self.new reply) }
+        ensures sound { IfErr result (λ e. (s : State) → IsAtState self.old s → IsSound e) }
+        ensures goes_on { books.GoesOn self.old.book self.new.book }
+        ensures cause { HasStopCause (W.faults (books.world_of self.old.book)) (W.faults (books.world_of self.new.book)) result }
+    {
+        if let Some(code) = why_not_new(self.catalog.entries(), name) {
+            return Ok(Reply::No(code));
+        }
+        let Ok(text) = done_text(self.alloc) else {
+            return Err(Stop::Memory);
+        };
+        let entry = new_entry(self.catalog.entries(), name, Kind::Lines { threshold: t });
+        let first = quilt_lines::first_record(entry.number, self.book.head().level, t);
         let Ok(records) = listed(self.alloc, &entry, &[first]) else {
             return Err(Stop::Memory);
         };

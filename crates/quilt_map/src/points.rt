@@ -1,7 +1,8 @@
-ghost use Rattle.std.specs.Prelude.{◌≡◌, ◌==◌, ◌<◌, ◌≤◌, ◌+◌, ◌↔◌, true, ℕ, List, All, filter, IfSome, IsNone, IsSome, IfOk, IfErr, if◌then◌else◌};
+ghost use Rattle.std.specs.Prelude.{◌≡◌, ◌==◌, ◌<◌, ◌≤◌, ◌+◌, ◌↔◌, true, ℕ, List, All, filter, count_by, slice_index, IfSome, IsNone, IsSome, IfOk, IfErr, if◌then◌else◌};
 ghost use Rattle.std.specs.FinMap as finmap;
 ghost use Rattle.quilt_types.specs.Layers.{Map, PointMap};
 ghost use Rattle.quilt_types.specs.Plane.{side, is_pixel, is_window, in_window};
+ghost use Rattle.quilt_types.specs.Quadtrees.{point_blocks};
 ghost use Rattle.quilt_record.specs.Records.{Numbering};
 ghost use Rattle.quilt_store.specs.Store.{Tells as StoreTells};
 ghost use Rattle.quilt_btree.specs.Stops.{HasStopCause, IsSound};
@@ -17,7 +18,7 @@ ghost use Rattle.quilt_map.specs.PointLayers.{IsPointsAt, IsNoPoints, HoldsPoint
 use crate::changing::DAMAGED;
 use crate::regions::{layer_under, tree_of};
 use quilt_edition::Book;
-use quilt_points::{find, plan_del, plan_put, plan_scatter, within};
+use quilt_points::{block_counts, find, plan_del, plan_put, plan_scatter, within};
 use quilt_record::{Edits, Entry};
 use quilt_types::{Code, Kind, Name, Pixel, PointList, Stop, Window};
 use quilt_world::Disk;
@@ -200,5 +201,29 @@ pub(crate) fn plan_points<W: Disk>(
         head.level,
         layer.bucket,
         points,
+    )
+}
+
+/// How many blocks of each side the work's point layer has: those of side 2 ^ k at place k.
+pub(crate) fn point_counts<W: Disk>(
+    book: &mut Book<W>,
+    layer: PointLayer,
+) -> Result<[u32; 13], Stop>
+    ensures counts { IfOk result (λ counts. (points : PointMap) → HoldsPoints book.old layer points →
+        (k : ℕ) → k ≤ 12 → slice_index counts k ≡ count_by (λ b. b.side == side k) (point_blocks (work_of book.old).level layer.bucket points)) }
+    ensures sound { IfErr result (λ e. (points : PointMap) → 1 ≤ layer.number → HoldsPoints book.old layer points → IsSound e) }
+    ensures still { IsStill book.old book.new }
+    ensures cause { HasStopCause (W.faults (world_of book.old)) (W.faults (world_of book.new)) result }
+{
+    if !can_be(layer) {
+        return Err(DAMAGED);
+    }
+    let head = book.head();
+    block_counts(
+        book,
+        &tree_of(&head),
+        layer.number,
+        head.level,
+        layer.bucket,
     )
 }

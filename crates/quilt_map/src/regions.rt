@@ -1,6 +1,5 @@
 ghost use Rattle.std.specs.Prelude.{◌≡◌, true, ℕ, ◌+◌, ◌<◌, ◌≤◌, List, None, IsNone, IfSome, IfOk, IfErr, OnOk};
 ghost use Rattle.std.specs.FinMap as finmap;
-ghost use Rattle.quilt_types.specs.declared.plane.Kind.TheVariants as kinds;
 ghost use Rattle.quilt_types.specs.Layers.{Map, Grid, colour_at as colour_in};
 ghost use Rattle.quilt_types.specs.Plane.{side, is_window};
 ghost use Rattle.quilt_types.specs.Algebra.{painted};
@@ -15,7 +14,7 @@ ghost use Rattle.quilt_region.specs.Plans.{LeadsTo};
 ghost use Rattle.quilt_spell.specs.Catalogued.{IsCatalogOf};
 ghost use Rattle.quilt_edition.specs.Books.{world_of, last_of, work_of};
 ghost use Rattle.quilt_replies.specs.Answers.{State};
-ghost use Rattle.quilt_map.specs.Asking.{AreRegions, IsLayerUnder, IsRegionAt, IsRefusedFirst, IsStill, pages_asked, reads_in, held_of};
+ghost use Rattle.quilt_map.specs.Asking.{IsLayerUnder, IsRegionAt, IsRefusedFirst, IsStill, pages_asked, reads_in, held_of};
 ghost use Rattle.quilt_map.specs.Sessions.{told_of, tree_in};
 
 use crate::changing::DAMAGED;
@@ -34,7 +33,6 @@ use std::alloc::Global;
 pub(crate) fn layer_under(entries: &[Entry], name: &Name) -> Option<(u8, Kind)>
     ensures none { IsNone result → (layers : Map) (numbers : Numbering) → IsCatalogOf layers numbers entries.now → finmap.get layers name.now ≡ None }
     ensures some { IfSome result (λ found. (layers : Map) (numbers : Numbering) → IsCatalogOf layers numbers entries.now → IsLayerUnder layers numbers name.now found.0 found.1) }
-    ensures regions { IfSome result (λ found. AreRegions entries.now → found.1 ≡ kinds.Region) }
 {
     let i = index_of(entries, name)?;
     Some((entries[i].number, entries[i].kind))

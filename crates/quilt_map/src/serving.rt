@@ -5,6 +5,7 @@ ghost use Rattle.quilt_btree.specs.Stops.{HasStopCause, IsSound};
 ghost use Rattle.quilt_edition.specs.Books as books;
 ghost use Rattle.quilt_replies.specs.Answers.{State};
 ghost use Rattle.quilt_map.specs.Commanding.{Answered, IsApplied};
+ghost use Rattle.quilt_map.specs.Reading.{is_bounded};
 ghost use Rattle.quilt_map.specs.Sessions.{IsAtState};
 ghost use Rattle.quilt_map.specs.Steps.{gives_edition, goes_back};
 
@@ -32,11 +33,17 @@ impl<W: World> Session<W> {
             Command::Publish => self.publish(),
             Command::Upgrade => self.upgrade(),
             Command::Revert => self.revert(),
+            Command::At { a, at } => self.at(a, *at),
+            Command::Find { p, at } => self.find_point(p, *at),
+            Command::Cross { l, .. } => self.ask_lines(command, l),
+            Command::Clip { l, .. } => self.ask_lines(command, l),
+            Command::Nearest { l, .. } => self.ask_lines(command, l),
+            Command::Rank { l, .. } => self.ask_lines(command, l),
             _ => self.serve(rt, gate, command),
         }
     }
 
-    /// The reply to a command that neither gives an edition nor goes back to one.
+    /// The reply to a command that neither gives an edition nor goes back to one, and has no bound on the pages that it reads.
     pub(crate) fn serve<R: Threads + Sync, G: Gate + Sync>(
         &mut self,
         rt: &R,
@@ -46,6 +53,7 @@ impl<W: World> Session<W> {
         requires spelled { Spelled (books.work_of self.old.book).format (books.last_of self.old.book).level command.now }
         requires quiet { gives_edition command.now ≡ false }
         requires forward { goes_back command.now ≡ false }
+        requires unbounded { is_bounded command.now ≡ false }
         ensures answer { IfOk result (λ reply. (s : State) → IsAtState self.old s → Answered s command.now self.old self.new reply) }
         ensures sound { IfErr result (λ e. (s : State) → IsAtState self.old s → IsSound e) }
         ensures goes_on { books.GoesOn self.old.book self.new.book }
@@ -58,7 +66,6 @@ impl<W: World> Session<W> {
             Command::Set { a, at, c } => self.set(a, *at, *c),
             Command::Rect { a, w, c } => self.rect(a, *w, *c),
             Command::Raster { a, rows } => self.raster(rt, gate, a, rows),
-            Command::At { a, at } => self.at(a, *at),
             Command::Show { a, w } => self.show(a, *w),
             Command::Leaves { a } => self.leaves(a),
             Command::Polygon { c, colour, rings } => self.polygon(c, *colour, rings),
@@ -75,12 +82,20 @@ impl<W: World> Session<W> {
             Command::Put { p, at, label } => self.put_point(p, *at, *label),
             Command::Del { p, at } => self.del_point(p, *at),
             Command::Scatter { p, points } => self.scatter(p, points),
-            Command::Find { p, at } => self.find_point(p, *at),
             Command::Within { p, w } => self.points_within(p, *w),
             Command::Layers => self.layers(),
             Command::Records => self.records(),
             Command::Edition => self.edition(),
-            _ => unreachable!(),
+            Command::Blocks { a } => self.blocks(a),
+            Command::Lines { l, t } => self.make_lines(l, *t),
+            Command::Line { l, id, seg } => self.line(l, *id, *seg),
+            Command::Unline { l, id } => self.unline(l, *id),
+            Command::Over { l, a } => self.over(l, a),
+            Command::Crossings { l, m } => self.crossings(rt, l, m),
+            Command::At { .. } | Command::Find { .. } => unreachable!(),
+            Command::Cross { .. } | Command::Clip { .. } => unreachable!(),
+            Command::Nearest { .. } | Command::Rank { .. } => unreachable!(),
+            Command::Publish | Command::Upgrade | Command::Revert => unreachable!(),
         }
     }
 }

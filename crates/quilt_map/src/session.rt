@@ -13,6 +13,7 @@ ghost use Rattle.quilt_edition.specs.Books as books;
 ghost use Rattle.quilt_replies.specs.Answers.{State, answer};
 ghost use Rattle.quilt_map.specs.Sessions.{IsNumbered, IsOpened, changed_of, free_of, first_state};
 ghost use Rattle.quilt_replies.specs.States.{Tells, IsRefusal, after};
+ghost use Rattle.quilt_map.specs.Reading.{IsPromised, ReadsFew};
 ghost use Rattle.quilt_map.specs.Steps.{Leaves, WritesFew, changes_after};
 
 use crate::entries::copy_of;
@@ -39,7 +40,7 @@ pub struct Session<W: Disk> {
 }
 
 impl<W: World> Session<W> {
-    ghost use Rattle.quilt_map.specs.Sessions.{world_of, format_of, level_of, changes_of, IsAt};
+    ghost use Rattle.quilt_map.specs.Sessions.{world_of, format_of, level_of, changes_of, reads_of, IsAt};
 
     /// The session over a book that was just opened, with the catalog that was found in it. Nothing is changed yet. It takes no memory.
     #[tactic(auto, unfolding(crate::specs::Sessions::world_of, crate::specs::Sessions::format_of, crate::specs::Sessions::level_of, crate::specs::Sessions::changes_of, crate::specs::Sessions::IsAt))]
@@ -88,6 +89,7 @@ impl<W: World> Session<W> {
         ensures input { Goes (λ old new. new.input ≡ old.input) (W.told (world_of self.old)) (W.told (world_of self.new)) }
         ensures crash { (s : State) → IsAt self.old s → Goes (Leaves s command.now) (W.told (world_of self.old)) (W.told (world_of self.new)) }
         ensures writes { (s : State) → IsAt self.old s → Goes (WritesFew s command.now (changes_of self.old)) (W.told (world_of self.old)) (W.told (world_of self.new)) }
+        ensures reads { (s : State) → IsAt self.old s → IsPromised s command.now result → ReadsFew s command.now (reads_of self.old) (reads_of self.new) }
     {
         self.dispatch(rt, gate, command)
     }

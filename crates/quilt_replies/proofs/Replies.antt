@@ -1,14 +1,12 @@
 -- The texts of replies, line by line.
-use Rattle.std.proofs.Common.{◌≡◌, ℕ, zero, suc, ◌+◌, ◌-◌, ◌/◌, ◌%◌, ◌^◌, ◌<◌, ◌≤◌, Bool, cond, List, [], ◌∷◌, ◌++◌, map, flat_map, Result, Ok, Err, refl, sym, ◌∙◌, ap, subst, arith, append_assoc}
+use Rattle.std.proofs.Common.{◌≡◌, ℕ, zero, suc, ◌+◌, ◌-◌, ◌/◌, ◌%◌, ◌^◌, ◌<◌, ◌≤◌, List, [], ◌∷◌, ◌++◌, map, flat_map, Result, Ok, Err, refl, sym, ◌∙◌, ap, subst, arith, append_assoc}
 use Rattle.std.specs.Prelude.{IfOk, reverse, count_by, codes, decimal, slice_index, ◌==◌, if◌then◌else◌}
 use Rattle.std.specs.List.{range_with_len}
 use Rattle.std.proofs.lemmas.List.{append-nil, reverse-append}
 use Rattle.std.proofs.lemmas.Grind.{flat_map-append}
 use Rattle.std.proofs.lemmas.Fmt.{decimal_step}
-use Rattle.std.proofs.lemmas.List.Sums.{sum_by-cons}
 use Rattle.quilt_types.specs.declared.plane.Window.{Window}
 use Rattle.quilt_types.specs.Layers.{Layer, Region, Points, Lines, Map, IsGrid, colour_at}
-use Rattle.quilt_types.specs.Quadtrees.{leaves}
 use Rattle.quilt_types.specs.Plane.{side, below}
 use Rattle.quilt_record.specs.Records.{Numbering}
 use Rattle.quilt_spell.specs.Catalogued.{kind_of, entry_of, IsCatalogOf}
@@ -16,7 +14,7 @@ use Rattle.std.specs.FinMap as finmap
 use Rattle.quilt_record.specs.declared.entry.Entry.{Entry}
 use Rattle.quilt_raster.specs.Showing as raster
 use Rattle.quilt_lang.specs.Trials.{spaced}
-use Rattle.quilt_replies.specs.Answers.{Done, block_lines, sides_of, kind_words, layer_line, digits_of, row_line}
+use Rattle.quilt_replies.specs.Answers.{Done, block_lines, kind_words, layer_line, digits_of, row_line}
 use Rattle.quilt_replies.specs.Bodies.{lines, words_of_kind, entry_line, HasCounts}
 use Rattle.quilt_replies.specs.Runs.{text_of}
 
@@ -43,6 +41,10 @@ digit_more t0 t1 t2 n long small e f =
 
 pub one_line : (l : List ℕ) → lines (l ∷ []) ≡ l ++ 10 ∷ []
 one_line l = append-nil (l ++ 10 ∷ [])
+
+-- a text of one line
+pub alone : (t0 t1 l : List ℕ) → t0 ≡ [] → t1 ≡ t0 ++ l ++ 10 ∷ [] → t1 ≡ lines (l ∷ [])
+alone t0 t1 l e f = f ∙ ap (λ t. t ++ l ++ 10 ∷ []) e ∙ sym (one_line l)
 
 pub number_line : (n : ℕ) (t0 t1 t2 : List ℕ) → t0 ≡ [] → t1 ≡ t0 ++ decimal n → t2 ≡ t1 ++ 10 ∷ [] → t2 ≡ lines (decimal n ∷ [])
 number_line n t0 t1 t2 e f g = grown_more t1 t2 (decimal n) (10 ∷ []) (grown_one t0 t1 (decimal n) e f) g ∙ sym (one_line (decimal n))
@@ -122,22 +124,6 @@ module _ (counts : List ℕ) where
   counted_reply (Ok all) level k text h le c none =
       λ sides is. let z : k ≡ 0 = omega arith in h (block_lines level sides) (counted counts sides is level text le (subst (λ (j : ℕ). IsCounting level counts j text) z c))
   counted_reply (Err e) level k text h le c none = tt
-
--- ---- the sides of a region's leaves
-module _ {X : Type 0} where
-  count_map : (p : ℕ → Bool) (f : X → ℕ) (xs : List X) → count_by p (map f xs) ≡ count_by (λ x. p (f x)) xs
-  count_map p f [] = refl
-  count_map p f (x ∷ xs) =
-      sum_by-cons (λ (y : ℕ). cond {A = ℕ} (p y) 1 0) (f x) (map f xs) ∙ ap (λ n. cond {A = ℕ} (p (f x)) 1 0 + n) (count_map p f xs)
-      ∙ sym (sum_by-cons (λ (y : X). cond {A = ℕ} (p (f y)) 1 0) x xs)
-
-pub region_counts : (counts : List ℕ) (n : ℕ) (g : List ℕ) → ((k : ℕ) → k ≤ 12 → slice_index counts k ≡ count_by (λ e. e.0.side == side k) (leaves n g)) → HasCounts counts (sides_of n (Region g))
-region_counts counts n g h = record { each = λ k le. h k le ∙ sym (count_map (λ s. s == side k) (λ l. l.0.side) (leaves n g)) }
-
-pub region_reply : {E : Type 0} (r : Result (List ℕ) E) (counts : List ℕ) (m n : ℕ) (g : List ℕ) → m ≡ n → IfOk r (λ all. (sides : List ℕ) → HasCounts counts sides → all ≡ text_of (Done (block_lines m sides)))
-    → ((k : ℕ) → k ≤ 12 → slice_index counts k ≡ count_by (λ e. e.0.side == side k) (leaves n g)) → IfOk r (λ all. all ≡ text_of (Done (block_lines n (sides_of n (Region g)))))
-region_reply (Ok all) counts m n g same h is = h (sides_of n (Region g)) (region_counts counts n g is) ∙ ap (λ (j : ℕ). text_of (Done (block_lines j (sides_of n (Region g))))) same
-region_reply (Err e) counts m n g same h is = tt
 
 -- ---- the lines of layers
 kind_line : (l : Layer) → words_of_kind (kind_of l) ≡ kind_words l

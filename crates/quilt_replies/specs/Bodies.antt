@@ -2,9 +2,11 @@
 use Rattle.std.specs.Prelude.{◌≡◌, ℕ, ◌≤◌, ◌==◌, List, [], ◌∷◌, ◌++◌, flat_map, count_by, slice_index, codes, decimal, if◌then◌else◌}
 use Rattle.quilt_types.specs.declared.plane.Kind.{Kind}
 use Rattle.quilt_types.specs.declared.plane.Kind.TheVariants as kinds
+use Rattle.quilt_types.specs.Fractions.{Fraction}
 use Rattle.quilt_types.specs.Plane.{side}
 use Rattle.quilt_record.specs.declared.entry.Entry.{Entry}
 use Rattle.quilt_lang.specs.Trials.{spaced}
+use Rattle.quilt_replies.specs.Answers.{fraction}
 
 -- lines, each with its newline
 abbrev pub lines : List (List ℕ) → List ℕ
@@ -23,3 +25,7 @@ entry_line e = spaced (e.name ∷ words_of_kind e.kind)
 -- how many of the sides are 2 ^ k, for each k from 0 to 12
 pub record HasCounts (counts : List ℕ) (sides : List ℕ) : Type 0 where
   pub each : (k : ℕ) → k ≤ 12 → slice_index counts k ≡ count_by (λ s. s == side k) sides
+
+-- the line of a segment's part: its id, and the fractions at which the part begins and ends
+abbrev pub clip_line : ℕ × Fraction × Fraction → List ℕ
+clip_line e = spaced (decimal e.0 ∷ fraction e.1 ∷ fraction e.2 ∷ [])

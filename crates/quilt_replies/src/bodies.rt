@@ -5,23 +5,22 @@ ghost use Rattle.quilt_types.specs.Plane.{side as side_of, below};
 ghost use Rattle.quilt_types.specs.Quadtrees.{leaves as leaves_of};
 ghost use Rattle.quilt_loc.specs.Codes.{Rises};
 ghost use Rattle.quilt_blocks.specs.Cutting.{leaves_by_code, leaf_cmp};
-ghost use Rattle.quilt_types.specs.Layers.{Map, Region, IsGrid};
+ghost use Rattle.quilt_types.specs.Layers.{Map, IsGrid};
 ghost use Rattle.quilt_record.specs.Records.{Numbering};
 ghost use Rattle.quilt_spell.specs.Catalogued.{IsCatalogOf};
 ghost use Rattle.quilt_lang.specs.Trials.{spaced};
-ghost use Rattle.quilt_replies.specs.Answers.{Done, layer_line, leaf_line, point_line, block_lines, sides_of, row_line};
+ghost use Rattle.quilt_replies.specs.Answers.{Done, layer_line, leaf_line, point_line, block_lines, row_line};
 ghost use Rattle.quilt_replies.specs.Bodies.{lines, words_of_kind, entry_line, HasCounts};
 ghost use Rattle.quilt_replies.specs.Runs.{text_of};
 
 use quilt_blocks::LeafList;
-use quilt_measure::histogram;
 use quilt_raster::render;
 use quilt_record::Entry;
 use quilt_types::{Block, Kind, Point, PointList, Text, Window};
 use std::alloc::{AllocError, Global};
 
 /// Adds a number in decimal digits.
-fn push_number(text: &mut Text, number: u64) -> Result<(), AllocError>
+pub(crate) fn push_number(text: &mut Text, number: u64) -> Result<(), AllocError>
     ensures { OnOk result (text.new ≡ text.old ++ decimal number) }
 {
     if number < 10 {
@@ -32,7 +31,7 @@ fn push_number(text: &mut Text, number: u64) -> Result<(), AllocError>
 }
 
 /// Adds the line `ok` behind the body.
-fn finish(mut text: Text) -> Result<Text, AllocError>
+pub(crate) fn finish(mut text: Text) -> Result<Text, AllocError>
     ensures { IfOk result (λ all. (body : List (List ℕ)) → text ≡ lines body → all ≡ text_of (Done body)) }
 {
     text.push(b"ok\n")?;
@@ -134,8 +133,9 @@ fn push_count(text: &mut Text, k: u8, count: u32) -> Result<(), AllocError>
     text.push(b"\n")
 }
 
-/// The reply that says how many blocks there are of each side that occurs, the greatest first.
-pub fn counts_text(alloc: Global, level: u8, counts: &[u32; 13]) -> Result<Text, AllocError>
+/// The reply that says how many blocks there are of each side that occurs, the greatest first: `counts` has those of side 2 ^ k at
+/// place k. The level of the map is at most 12.
+pub fn blocks_text(alloc: Global, level: u8, counts: &[u32; 13]) -> Result<Text, AllocError>
     requires { level ≤ 12 }
     ensures { IfOk result (λ text. (sides : List ℕ) → HasCounts counts.now sides → text ≡ text_of (Done (block_lines level sides))) }
 {
@@ -146,15 +146,6 @@ pub fn counts_text(alloc: Global, level: u8, counts: &[u32; 13]) -> Result<Text,
         push_count(&mut text, k, counts[usize::from(k)])?;
     }
     finish(text)
-}
-
-/// The reply that counts the leaves of a region layer by their sides.
-pub fn blocks_text(alloc: Global, list: &LeafList) -> Result<Text, AllocError>
-    ensures { IfOk result (λ text. text ≡ text_of (Done (block_lines list.now.level (sides_of list.now.level (Region list.now.grid))))) }
-{
-    let level = list.level();
-    prove!(level <= 12);
-    counts_text(alloc, level, &histogram(list))
 }
 
 /// The reply that shows a window of a region layer.

@@ -72,7 +72,7 @@ fn regions_row_by_row(rt: HostRuntime) -> Result<(), Fail> {
         b"0 0 1 0\n1 0 1 0\n2 0 2 0\n0 1 1 0\n1 1 1 2\n0 2 2 0\n2 2 2 0\nok\n".as_slice()
     );
     assert_eq!(rt;
-        blocks_text(rt.alloc(), &list)?.bytes(),
+        blocks_text(rt.alloc(), 2, &[4, 3, 0, 0, 0, 0, 0, 0, 0, 0, 0, 0, 0])?.bytes(),
         b"2 3\n1 4\nok\n".as_slice()
     );
     let w = Window {

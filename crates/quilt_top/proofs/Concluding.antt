@@ -24,7 +24,7 @@ use Rattle.quilt_top.specs.declared.halt.Halt.TheVariants as halts
 use Rattle.quilt_top.specs.declared.run.End.{End}
 use Rattle.quilt_top.specs.declared.trial_run.Tally.{Tally}
 use Rattle.quilt_top.specs.declared.run.End.TheVariants as ends
-use Rattle.quilt_top.specs.Headline.{IsOneOf, IsStop, IsEdition, all_done, RunsText, summary, RunsTrial, StandsWithoutLines, OpensSafely, input_limit}
+use Rattle.quilt_top.specs.Headline.{IsOneOf, IsStop, IsEdition, all_done, RunsText, summary, RunsTrial, OpensSafely, input_limit}
 use Rattle.quilt_top.specs.Openings.{run_ends, is_run_end, end_of}
 use Rattle.quilt_top.specs.Saying.{Says, SaysFront}
 use Rattle.quilt_top.specs.TextRun.{IsUntold, run_in}
@@ -247,7 +247,7 @@ module _ (pages : ℕ) (first : Edition) (seed count : ℕ) (end : End) (v w : T
           untouched = (input_is n r v w untold so.front.said so.front.concludes ∙ input, taken_is n r v w untold so.front.said so.front.concludes);
         }
 
-    pub opens_tried : IsMapFile w.start pages → StandsWithoutLines w.start first → is_run_end end ≡ true → IsOneOf end run_ends → (end ≡ ends.TooMuch → ⊥) → OpensSafely end w
+    pub opens_tried : IsMapFile w.start pages → Stands w.start first → is_run_end end ≡ true → IsOneOf end run_ends → (end ≡ ends.TooMuch → ⊥) → OpensSafely end w
     opens_tried file stands is one short = record {
       not_map = record { only = λ x. absurd (other_end end ends.NotMap is refl x); always = λ none. absurd (none pages file) };
       damaged = λ page x. absurd (not_damaged end page one x);

@@ -12,9 +12,8 @@ use Rattle.quilt_words.specs.declared.item.Item.{Item}
 use Rattle.quilt_words.specs.declared.item.Item.TheVariants.{Long}
 use Rattle.quilt_words.specs.declared.command.Command.{Command}
 use Rattle.quilt_words.specs.declared.parse_err.ParseErr.{ParseErr}
-use Rattle.quilt_words.specs.Built.{is_built}
 use Rattle.quilt_words.specs.Fitting.{IsWithin, AreColours, IsRows, ArePoints, AreRings, IsRing, IsPointOf16, IsCornerOf16, FurtherFits, IsFitting}
-use Rattle.quilt_words.specs.Items.{Group, held, held_as, asked, asked_by, asked_in_all, listed_by, is_long, is_plain, words_of, begins_with, rows_of, rows_joined, colour_bytes, points_of, points_joined, point_of, point, rings_of, rings_joined, ring_of, corners_of, corner_of}
+use Rattle.quilt_words.specs.Items.{Group, held, held_as, asked, asked_by, listed_by, is_long, is_plain, words_of, begins_with, rows_of, rows_joined, colour_bytes, points_of, points_joined, point_of, point, rings_of, rings_joined, ring_of, corners_of, corner_of}
 use Rattle.quilt_words.specs.Spelling.{number, row, hex_digit, cons_both, is_spelled, value_of}
 use Rattle.quilt_words.specs.Made.{further_of}
 use Rattle.quilt_words.proofs.Cases.{bool_cases}
@@ -75,11 +74,11 @@ none_most false k m le = le
 -- how many further lines are asked for, where they are no rows
 words_most : (n : ℕ) (ws : List (List ℕ)) → begins_with ws (codes "raster") ≡ false → asked_by n ws ≤ 100000
 words_most n [] other = omega arith
-words_most n (w ∷ ws) other = either_most (is_built w) (asked_in_all n (w ∷ ws)) 100000 (rw other (listed_most (w ∷ ws)))
+words_most n (w ∷ ws) other = rw other (listed_most (w ∷ ws))
 
 words_rings : (n : ℕ) (ws : List (List ℕ)) → begins_with ws (codes "raster") ≡ false → begins_with ws (codes "scatter") ≡ false → asked_by n ws ≤ 1000
 words_rings n [] other no_list = omega arith
-words_rings n (w ∷ ws) other no_list = either_most (is_built w) (asked_in_all n (w ∷ ws)) 1000 (rw other (listed_rings w ws no_list))
+words_rings n (w ∷ ws) other no_list = rw other (listed_rings w ws no_list)
 
 pub asked_most : (n : ℕ) (line : List ℕ) → begins_with (words_of line) (codes "raster") ≡ false → asked n line ≤ 100000
 asked_most n line other = none_most (is_long line || not (list_all is_plain line)) (asked_by n (words_of line)) 100000 (words_most n (words_of line) other)

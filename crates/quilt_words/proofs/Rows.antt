@@ -15,7 +15,7 @@ use Rattle.quilt_words.specs.declared.word.Word.{Word}
 use Rattle.quilt_words.specs.declared.word.Word.TheVariants as words
 use Rattle.quilt_words.specs.Words.{spelling, map_spelling, region_spelling, algebra_spelling, point_spelling, line_spelling}
 use Rattle.quilt_words.specs.Made.{made, has_pairs, formed, map_formed, region_formed, algebra_formed, point_formed, line_formed}
-use Rattle.quilt_words.specs.Forms.{A_name, A_number, A_signed, Further, Entry, coordinate, colour, label, pixel, window, or_err, ◌>>=◌, values_of, with_count, recolour_entry, points_entry, form_in_all, region_command, lines_command, drop_command, copy_command, layers_command, blocks_command, records_command, set_command, rect_command, raster_command, at_command, show_command, leaves_command, union_command, inter_command, diff_command, window_command, shift_command, buffer_command, area_command, perimeter_command, put_command, del_command, scatter_command, find_command, within_command, line_command, unline_command, cross_command, clip_command, nearest_command, over_command, edition_command, publish_command, upgrade_command, revert_command, polygon_command, rank_command, crossings_command}
+use Rattle.quilt_words.specs.Forms.{A_name, A_number, A_signed, Further, Entry, coordinate, colour, label, pixel, window, or_err, ◌>>=◌, values_of, with_count, recolour_entry, points_entry, form_of_words, region_command, lines_command, drop_command, copy_command, layers_command, blocks_command, records_command, set_command, rect_command, raster_command, at_command, show_command, leaves_command, union_command, inter_command, diff_command, window_command, shift_command, buffer_command, area_command, perimeter_command, put_command, del_command, scatter_command, find_command, within_command, line_command, unline_command, cross_command, clip_command, nearest_command, over_command, edition_command, publish_command, upgrade_command, revert_command, polygon_command, rank_command, crossings_command}
 
 -- the number of words is looked at before the first of them is
 counted_first : (b : Bool) (e : Entry) (more : Further) (ws : List (List ℕ)) →
@@ -34,8 +34,8 @@ paired : (b : Bool) (e : Entry) (more : Further) (ws : List (List ℕ)) →
 paired true e more ws = refl
 paired false e more ws = refl
 
-map_row : (f : ℕ) (more : Further) (w : MapWord) (ws : List (List ℕ)) → form_in_all f more (map_spelling w ∷ ws) ≡ map_formed f more w ws
-unfolding form_in_all
+map_row : (f : ℕ) (more : Further) (w : MapWord) (ws : List (List ℕ)) → form_of_words f more (map_spelling w ∷ ws) ≡ map_formed f more w ws
+unfolding form_of_words
 map_row f more map_words.Region ws = row (record { word = codes "region"; arguments = A_name ∷ colour f ∷ []; command = region_command }) more ws
 map_row f more map_words.Lines ws = row (record { word = codes "lines"; arguments = A_name ∷ A_number 1 32 ∷ []; command = lines_command }) more ws
 map_row f more map_words.Drop ws = row (record { word = codes "drop"; arguments = A_name ∷ []; command = drop_command }) more ws
@@ -49,8 +49,8 @@ map_row f more map_words.Upgrade ws = row (record { word = codes "upgrade"; argu
 map_row f more map_words.Revert ws = row (record { word = codes "revert"; arguments = []; command = revert_command }) more ws
 map_row f more map_words.Points ws = row (points_entry (length ws)) more ws
 
-region_row : (f : ℕ) (more : Further) (w : RegionWord) (ws : List (List ℕ)) → form_in_all f more (region_spelling w ∷ ws) ≡ region_formed f more w ws
-unfolding form_in_all
+region_row : (f : ℕ) (more : Further) (w : RegionWord) (ws : List (List ℕ)) → form_of_words f more (region_spelling w ∷ ws) ≡ region_formed f more w ws
+unfolding form_of_words
 region_row f more region_words.Set ws = row (record { word = codes "set"; arguments = A_name ∷ pixel ++ colour f ∷ []; command = set_command }) more ws
 region_row f more region_words.Rect ws = row (record { word = codes "rect"; arguments = A_name ∷ window ++ colour f ∷ []; command = rect_command }) more ws
 region_row f more region_words.Raster ws = row (record { word = codes "raster"; arguments = A_name ∷ []; command = raster_command }) more ws
@@ -61,8 +61,8 @@ region_row f more region_words.Area ws = row (record { word = codes "area"; argu
 region_row f more region_words.Perimeter ws = row (record { word = codes "perimeter"; arguments = A_name ∷ colour f ∷ []; command = perimeter_command }) more ws
 region_row f more region_words.Polygon ws = row (record { word = codes "polygon"; arguments = A_name ∷ colour f ∷ A_number 1 1000 ∷ []; command = polygon_command }) more ws
 
-algebra_row : (f : ℕ) (more : Further) (w : AlgebraWord) (ws : List (List ℕ)) → form_in_all f more (algebra_spelling w ∷ ws) ≡ algebra_formed f more w ws
-unfolding form_in_all
+algebra_row : (f : ℕ) (more : Further) (w : AlgebraWord) (ws : List (List ℕ)) → form_of_words f more (algebra_spelling w ∷ ws) ≡ algebra_formed f more w ws
+unfolding form_of_words
 algebra_row f more algebra_words.Union ws = row (record { word = codes "union"; arguments = A_name ∷ A_name ∷ A_name ∷ []; command = union_command }) more ws
 algebra_row f more algebra_words.Inter ws = row (record { word = codes "inter"; arguments = A_name ∷ A_name ∷ A_name ∷ []; command = inter_command }) more ws
 algebra_row f more algebra_words.Diff ws = row (record { word = codes "diff"; arguments = A_name ∷ A_name ∷ A_name ∷ []; command = diff_command }) more ws
@@ -71,16 +71,16 @@ algebra_row f more algebra_words.Shift ws = row (record { word = codes "shift"; 
 algebra_row f more algebra_words.Buffer ws = row (record { word = codes "buffer"; arguments = A_name ∷ coordinate ∷ A_name ∷ []; command = buffer_command }) more ws
 algebra_row f more algebra_words.Recolour ws = paired (has_pairs (length ws)) (recolour_entry f ((length ws - 2) / 2)) more ws
 
-point_row : (f : ℕ) (more : Further) (w : PointWord) (ws : List (List ℕ)) → form_in_all f more (point_spelling w ∷ ws) ≡ point_formed f more w ws
-unfolding form_in_all
+point_row : (f : ℕ) (more : Further) (w : PointWord) (ws : List (List ℕ)) → form_of_words f more (point_spelling w ∷ ws) ≡ point_formed f more w ws
+unfolding form_of_words
 point_row f more point_words.Put ws = row (record { word = codes "put"; arguments = A_name ∷ pixel ++ label ∷ []; command = put_command }) more ws
 point_row f more point_words.Del ws = row (record { word = codes "del"; arguments = A_name ∷ pixel; command = del_command }) more ws
 point_row f more point_words.Scatter ws = row (record { word = codes "scatter"; arguments = A_name ∷ A_number 1 100000 ∷ []; command = scatter_command }) more ws
 point_row f more point_words.Find ws = row (record { word = codes "find"; arguments = A_name ∷ pixel; command = find_command }) more ws
 point_row f more point_words.Within ws = row (record { word = codes "within"; arguments = A_name ∷ window; command = within_command }) more ws
 
-line_row : (f : ℕ) (more : Further) (w : LineWord) (ws : List (List ℕ)) → form_in_all f more (line_spelling w ∷ ws) ≡ line_formed f more w ws
-unfolding form_in_all
+line_row : (f : ℕ) (more : Further) (w : LineWord) (ws : List (List ℕ)) → form_of_words f more (line_spelling w ∷ ws) ≡ line_formed f more w ws
+unfolding form_of_words
 line_row f more line_words.Line ws = row (record { word = codes "line"; arguments = A_name ∷ label ∷ pixel ++ pixel; command = line_command }) more ws
 line_row f more line_words.Unline ws = row (record { word = codes "unline"; arguments = A_name ∷ label ∷ []; command = unline_command }) more ws
 line_row f more line_words.Cross ws = row (record { word = codes "cross"; arguments = A_name ∷ window; command = cross_command }) more ws
@@ -90,7 +90,7 @@ line_row f more line_words.Over ws = row (record { word = codes "over"; argument
 line_row f more line_words.Rank ws = row (record { word = codes "rank"; arguments = A_name ∷ pixel ++ A_number 1 100000 ∷ []; command = rank_command }) more ws
 line_row f more line_words.Crossings ws = row (record { word = codes "crossings"; arguments = A_name ∷ A_name ∷ []; command = crossings_command }) more ws
 
-pub formed_is : (f : ℕ) (more : Further) (w : Word) (ws : List (List ℕ)) → form_in_all f more (spelling w ∷ ws) ≡ formed f more w ws
+pub formed_is : (f : ℕ) (more : Further) (w : Word) (ws : List (List ℕ)) → form_of_words f more (spelling w ∷ ws) ≡ formed f more w ws
 formed_is f more (words.Map w) ws = map_row f more w ws
 formed_is f more (words.Region w) ws = region_row f more w ws
 formed_is f more (words.Algebra w) ws = algebra_row f more w ws

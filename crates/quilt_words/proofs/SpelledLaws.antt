@@ -1,4 +1,4 @@
--- What is known of a command that an item spells: its word is built, and what it has fits the format and the level.
+-- What a command that an item spells has fits the format and the level.
 use Rattle.std.proofs.Common.{◌≡◌, inl, inr, ℕ, zero, suc, ◌+◌, ◌-◌, ◌*◌, ◌/◌, ◌<◌, ◌≤◌, ◌^◌, arith, Bool, true, false, cond, List, [], ◌∷◌, ◌++◌, length, All, Option, Some, None, Result, Ok, Err, refl, sym, ◌∙◌, ap, subst, ◌==◌, option_map, find, ℤ, pos, neg_ℤ}
 use Rattle.std.specs.List.{list_all}
 use Rattle.std.specs.Str.{bytes_eq}
@@ -10,7 +10,6 @@ use Rattle.quilt_types.specs.Layers.{colours, is_name}
 use Rattle.quilt_types.specs.declared.code.Code.{Code}
 use Rattle.quilt_types.specs.declared.code.Code.TheVariants as codes_of
 use Rattle.quilt_words.specs.declared.command.Command.{Command}
-use Rattle.quilt_words.specs.declared.command.Command.TheVariants as commands
 use Rattle.quilt_words.specs.declared.item.Item.{Item}
 use Rattle.quilt_words.specs.declared.item.Item.TheVariants.{Long, Line, Rows, PointLines, RingLines}
 use Rattle.quilt_words.specs.declared.word.MapWord.{MapWord}
@@ -25,7 +24,6 @@ use Rattle.quilt_words.specs.declared.word.LineWord.{LineWord}
 use Rattle.quilt_words.specs.declared.word.LineWord.TheVariants as line_words
 use Rattle.quilt_words.specs.declared.word.Word.{Word}
 use Rattle.quilt_words.specs.declared.word.Word.TheVariants as words
-use Rattle.quilt_words.specs.Built.{is_built}
 use Rattle.quilt_words.specs.Fitting.{IsFitting, FurtherFits, IsName, IsWithin, IsShift, IsColour, IsPixelOf16, IsWindowOf16}
 use Rattle.quilt_words.specs.Forms.{Further, Argument, A_name, A_number, A_signed, Value, Called, Number, Signed, coordinate, colour, label, pixel, window, pairs_of, or_err, ◌>>=◌, argument_value, values_of, form_of_words, form_of_line, form, Spelled, area_command, at_command, blocks_command, buffer_command, clip_command, copy_command, cross_command, crossings_command, del_command, diff_command, drop_command, edition_command, find_command, inter_command, layers_command, leaves_command, line_command, lines_command, nearest_command, over_command, perimeter_command, points_command, polygon_command, publish_command, put_command, rank_command, raster_command, recolour_command, records_command, rect_command, region_command, revert_command, scatter_command, set_command, shift_command, show_command, union_command, unline_command, upgrade_command, window_command, within_command}
 use Rattle.quilt_words.specs.Items.{held, is_plain, words_of}
@@ -35,51 +33,7 @@ use Rattle.quilt_words.specs.Words.{all_words, spelling}
 use Rattle.quilt_words.proofs.Cases.{bool_cases}
 use Rattle.quilt_words.proofs.Holding.{number_within, further_fits}
 use Rattle.quilt_words.proofs.Recolours.{paired, pair_number}
-use Rattle.quilt_words.proofs.Table.{unspelled, spelled_is, unbuilt, known_is}
-
--- the word of a command
-abbrev pub word_in : Command → Word
-word_in (commands.Region a k) = words.Map map_words.Region
-word_in (commands.Lines l t) = words.Map map_words.Lines
-word_in (commands.Drop a) = words.Map map_words.Drop
-word_in (commands.Copy a b) = words.Map map_words.Copy
-word_in commands.Layers = words.Map map_words.Layers
-word_in (commands.Blocks a) = words.Map map_words.Blocks
-word_in commands.Records = words.Map map_words.Records
-word_in commands.Edition = words.Map map_words.Edition
-word_in commands.Publish = words.Map map_words.Publish
-word_in commands.Upgrade = words.Map map_words.Upgrade
-word_in commands.Revert = words.Map map_words.Revert
-word_in (commands.Set a p k) = words.Region region_words.Set
-word_in (commands.Rect a w k) = words.Region region_words.Rect
-word_in (commands.Raster a rows) = words.Region region_words.Raster
-word_in (commands.At a p) = words.Region region_words.At
-word_in (commands.Show a w) = words.Region region_words.Show
-word_in (commands.Leaves a) = words.Region region_words.Leaves
-word_in (commands.Area a k) = words.Region region_words.Area
-word_in (commands.Perimeter a k) = words.Region region_words.Perimeter
-word_in (commands.Polygon a k rings) = words.Region region_words.Polygon
-word_in (commands.Union a b d) = words.Algebra algebra_words.Union
-word_in (commands.Inter a b d) = words.Algebra algebra_words.Inter
-word_in (commands.Diff a b d) = words.Algebra algebra_words.Diff
-word_in (commands.Window a w d) = words.Algebra algebra_words.Window
-word_in (commands.Shift a dx dy d) = words.Algebra algebra_words.Shift
-word_in (commands.Buffer a r d) = words.Algebra algebra_words.Buffer
-word_in (commands.Put p at j) = words.Point point_words.Put
-word_in (commands.Del p at) = words.Point point_words.Del
-word_in (commands.Scatter p points) = words.Point point_words.Scatter
-word_in (commands.Find p at) = words.Point point_words.Find
-word_in (commands.Within p w) = words.Point point_words.Within
-word_in (commands.Line l i s) = words.Line line_words.Line
-word_in (commands.Unline l i) = words.Line line_words.Unline
-word_in (commands.Cross l w) = words.Line line_words.Cross
-word_in (commands.Clip l w) = words.Line line_words.Clip
-word_in (commands.Nearest l at) = words.Line line_words.Nearest
-word_in (commands.Over l a) = words.Line line_words.Over
-word_in (commands.Rank l at k) = words.Line line_words.Rank
-word_in (commands.Crossings l m) = words.Line line_words.Crossings
-word_in (commands.Points p b) = words.Map map_words.Points
-word_in (commands.Recolour a d pairs) = words.Algebra algebra_words.Recolour
+use Rattle.quilt_words.proofs.Table.{unspelled, spelled_is, known_is}
 
 -- ---- the values of arguments
 
@@ -201,21 +155,20 @@ paired_length f k (suc m) = omega (arith, paired_length f (k + 1) m)
 
 -- ---- the rows of the table
 
--- the command has the word, and what it has fits
-record IsMadeBy (f n : ℕ) (more : Further) (w : Word) (c : Command) : Type 0 where
-  pub word : word_in c ≡ w
+-- what the command has fits, where what its further lines spell does
+record FitsWith (f n : ℕ) (more : Further) (c : Command) : Type 0 where
   pub fits : FurtherFits f n more → IsFitting f n c
 
 module _ (f n : ℕ) where
-  abbrev Row : List Argument → (Further → List Value → Option Command) → Word → Type 0
-  Row arguments command w = (more : Further) (vs : List Value) (c : Command) → AreValues arguments vs → command more vs ≡ Some c → IsMadeBy f n more w c
+  abbrev Row : List Argument → (Further → List Value → Option Command) → Type 0
+  Row arguments command = (more : Further) (vs : List Value) (c : Command) → AreValues arguments vs → command more vs ≡ Some c → FitsWith f n more c
 
-  made_by : (more : Further) (w : Word) (d c : Command) → IsMadeBy f n more w d → Some d ≡ Some c → IsMadeBy f n more w c
-  made_by more w d c by is = let same : d ≡ c = cc in subst (IsMadeBy f n more w) same by
+  made_by : (more : Further) (d c : Command) → Some d ≡ Some c → (FurtherFits f n more → IsFitting f n d) → FitsWith f n more c
+  made_by more d c is fits = let same : d ≡ c = cc in subst (FitsWith f n more) same (record { fits = fits })
 
-  by_row : (arguments : List Argument) (command : Further → List Value → Option Command) (w : Word) (more : Further) (ws : List (List ℕ)) (c : Command)
-      → Row arguments command w → made arguments command more ws ≡ Ok c → IsMadeBy f n more w c
-  by_row arguments command w more ws c row is = elim (bool_cases (length arguments == length ws)) [
+  by_row : (arguments : List Argument) (command : Further → List Value → Option Command) (more : Further) (ws : List (List ℕ)) (c : Command)
+      → Row arguments command → made arguments command more ws ≡ Ok c → FitsWith f n more c
+  by_row arguments command more ws c row is = elim (bool_cases (length arguments == length ws)) [
     | inl same ↦
         let all : (values_of arguments ws >>= λ vs. or_err codes_of.Word (command more vs)) ≡ Ok c = rw same at is in
         let first = bound (values_of arguments ws) _ c all in
@@ -223,177 +176,177 @@ module _ (f n : ℕ) where
     | inr other ↦ let none : Err codes_of.Count ≡ Ok c = rw other at is in absurd (cc)
   ]
 
-  region_fits : Row (A_name ∷ colour f ∷ []) region_command (words.Map map_words.Region)
-  region_fits more (Called a ∷ Number k ∷ []) c fit is = made_by more (words.Map map_words.Region) _ c (record { word = refl; fits = λ further. (fit.each.0, few_colours f k fit.each.1.0) }) is
+  region_fits : Row (A_name ∷ colour f ∷ []) region_command
+  region_fits more (Called a ∷ Number k ∷ []) c fit is = made_by more _ c is (λ further. (fit.each.0, few_colours f k fit.each.1.0))
   region_fits more vs c fit is = cc
 
-  lines_fits : Row (A_name ∷ A_number 1 32 ∷ []) lines_command (words.Map map_words.Lines)
-  lines_fits more (Called l ∷ Number t ∷ []) c fit is = made_by more (words.Map map_words.Lines) _ c (record { word = refl; fits = λ further. (fit.each.0, fit.each.1.0) }) is
+  lines_fits : Row (A_name ∷ A_number 1 32 ∷ []) lines_command
+  lines_fits more (Called l ∷ Number t ∷ []) c fit is = made_by more _ c is (λ further. (fit.each.0, fit.each.1.0))
   lines_fits more vs c fit is = cc
 
-  drop_fits : Row (A_name ∷ []) drop_command (words.Map map_words.Drop)
-  drop_fits more (Called a ∷ []) c fit is = made_by more (words.Map map_words.Drop) _ c (record { word = refl; fits = λ further. fit.each.0 }) is
+  drop_fits : Row (A_name ∷ []) drop_command
+  drop_fits more (Called a ∷ []) c fit is = made_by more _ c is (λ further. fit.each.0)
   drop_fits more vs c fit is = cc
 
-  copy_fits : Row (A_name ∷ A_name ∷ []) copy_command (words.Map map_words.Copy)
-  copy_fits more (Called a ∷ Called b ∷ []) c fit is = made_by more (words.Map map_words.Copy) _ c (record { word = refl; fits = λ further. (fit.each.0, fit.each.1.0) }) is
+  copy_fits : Row (A_name ∷ A_name ∷ []) copy_command
+  copy_fits more (Called a ∷ Called b ∷ []) c fit is = made_by more _ c is (λ further. (fit.each.0, fit.each.1.0))
   copy_fits more vs c fit is = cc
 
-  layers_fits : Row ([]) layers_command (words.Map map_words.Layers)
-  layers_fits more ([]) c fit is = made_by more (words.Map map_words.Layers) _ c (record { word = refl; fits = λ further. tt }) is
+  layers_fits : Row [] layers_command
+  layers_fits more [] c fit is = made_by more _ c is (λ further. tt)
   layers_fits more (v ∷ vs) c fit is = cc
 
-  blocks_fits : Row (A_name ∷ []) blocks_command (words.Map map_words.Blocks)
-  blocks_fits more (Called a ∷ []) c fit is = made_by more (words.Map map_words.Blocks) _ c (record { word = refl; fits = λ further. fit.each.0 }) is
+  blocks_fits : Row (A_name ∷ []) blocks_command
+  blocks_fits more (Called a ∷ []) c fit is = made_by more _ c is (λ further. fit.each.0)
   blocks_fits more vs c fit is = cc
 
-  records_fits : Row ([]) records_command (words.Map map_words.Records)
-  records_fits more ([]) c fit is = made_by more (words.Map map_words.Records) _ c (record { word = refl; fits = λ further. tt }) is
+  records_fits : Row [] records_command
+  records_fits more [] c fit is = made_by more _ c is (λ further. tt)
   records_fits more (v ∷ vs) c fit is = cc
 
-  edition_fits : Row ([]) edition_command (words.Map map_words.Edition)
-  edition_fits more ([]) c fit is = made_by more (words.Map map_words.Edition) _ c (record { word = refl; fits = λ further. tt }) is
+  edition_fits : Row [] edition_command
+  edition_fits more [] c fit is = made_by more _ c is (λ further. tt)
   edition_fits more (v ∷ vs) c fit is = cc
 
-  publish_fits : Row ([]) publish_command (words.Map map_words.Publish)
-  publish_fits more ([]) c fit is = made_by more (words.Map map_words.Publish) _ c (record { word = refl; fits = λ further. tt }) is
+  publish_fits : Row [] publish_command
+  publish_fits more [] c fit is = made_by more _ c is (λ further. tt)
   publish_fits more (v ∷ vs) c fit is = cc
 
-  upgrade_fits : Row ([]) upgrade_command (words.Map map_words.Upgrade)
-  upgrade_fits more ([]) c fit is = made_by more (words.Map map_words.Upgrade) _ c (record { word = refl; fits = λ further. tt }) is
+  upgrade_fits : Row [] upgrade_command
+  upgrade_fits more [] c fit is = made_by more _ c is (λ further. tt)
   upgrade_fits more (v ∷ vs) c fit is = cc
 
-  revert_fits : Row ([]) revert_command (words.Map map_words.Revert)
-  revert_fits more ([]) c fit is = made_by more (words.Map map_words.Revert) _ c (record { word = refl; fits = λ further. tt }) is
+  revert_fits : Row [] revert_command
+  revert_fits more [] c fit is = made_by more _ c is (λ further. tt)
   revert_fits more (v ∷ vs) c fit is = cc
 
-  set_fits : Row (A_name ∷ pixel ++ colour f ∷ []) set_command (words.Region region_words.Set)
-  set_fits more (Called a ∷ Number x ∷ Number y ∷ Number k ∷ []) c fit is = made_by more (words.Region region_words.Set) _ c (record { word = refl; fits = λ further. (fit.each.0, pixel_within fit.each.1.0 fit.each.1.1.0, few_colours f k fit.each.1.1.1.0) }) is
+  set_fits : Row (A_name ∷ pixel ++ colour f ∷ []) set_command
+  set_fits more (Called a ∷ Number x ∷ Number y ∷ Number k ∷ []) c fit is = made_by more _ c is (λ further. (fit.each.0, pixel_within fit.each.1.0 fit.each.1.1.0, few_colours f k fit.each.1.1.1.0))
   set_fits more vs c fit is = cc
 
-  rect_fits : Row (A_name ∷ window ++ colour f ∷ []) rect_command (words.Region region_words.Rect)
-  rect_fits more (Called a ∷ Number x ∷ Number y ∷ Number w ∷ Number h ∷ Number k ∷ []) c fit is = made_by more (words.Region region_words.Rect) _ c (record { word = refl; fits = λ further. (fit.each.0, window_within fit.each.1.0 fit.each.1.1.0 fit.each.1.1.1.0 fit.each.1.1.1.1.0, few_colours f k fit.each.1.1.1.1.1.0) }) is
+  rect_fits : Row (A_name ∷ window ++ colour f ∷ []) rect_command
+  rect_fits more (Called a ∷ Number x ∷ Number y ∷ Number w ∷ Number h ∷ Number k ∷ []) c fit is = made_by more _ c is (λ further. (fit.each.0, window_within fit.each.1.0 fit.each.1.1.0 fit.each.1.1.1.0 fit.each.1.1.1.1.0, few_colours f k fit.each.1.1.1.1.1.0))
   rect_fits more vs c fit is = cc
 
-  raster_fits : Row (A_name ∷ []) raster_command (words.Region region_words.Raster)
-  raster_fits more (Called a ∷ []) c fit is = made_by more (words.Region region_words.Raster) _ c (record { word = refl; fits = λ further. (fit.each.0, further.rows) }) is
+  raster_fits : Row (A_name ∷ []) raster_command
+  raster_fits more (Called a ∷ []) c fit is = made_by more _ c is (λ further. (fit.each.0, further.rows))
   raster_fits more vs c fit is = cc
 
-  at_fits : Row (A_name ∷ pixel) at_command (words.Region region_words.At)
-  at_fits more (Called a ∷ Number x ∷ Number y ∷ []) c fit is = made_by more (words.Region region_words.At) _ c (record { word = refl; fits = λ further. (fit.each.0, pixel_within fit.each.1.0 fit.each.1.1.0) }) is
+  at_fits : Row (A_name ∷ pixel) at_command
+  at_fits more (Called a ∷ Number x ∷ Number y ∷ []) c fit is = made_by more _ c is (λ further. (fit.each.0, pixel_within fit.each.1.0 fit.each.1.1.0))
   at_fits more vs c fit is = cc
 
-  show_fits : Row (A_name ∷ window) show_command (words.Region region_words.Show)
-  show_fits more (Called a ∷ Number x ∷ Number y ∷ Number w ∷ Number h ∷ []) c fit is = made_by more (words.Region region_words.Show) _ c (record { word = refl; fits = λ further. (fit.each.0, window_within fit.each.1.0 fit.each.1.1.0 fit.each.1.1.1.0 fit.each.1.1.1.1.0) }) is
+  show_fits : Row (A_name ∷ window) show_command
+  show_fits more (Called a ∷ Number x ∷ Number y ∷ Number w ∷ Number h ∷ []) c fit is = made_by more _ c is (λ further. (fit.each.0, window_within fit.each.1.0 fit.each.1.1.0 fit.each.1.1.1.0 fit.each.1.1.1.1.0))
   show_fits more vs c fit is = cc
 
-  leaves_fits : Row (A_name ∷ []) leaves_command (words.Region region_words.Leaves)
-  leaves_fits more (Called a ∷ []) c fit is = made_by more (words.Region region_words.Leaves) _ c (record { word = refl; fits = λ further. fit.each.0 }) is
+  leaves_fits : Row (A_name ∷ []) leaves_command
+  leaves_fits more (Called a ∷ []) c fit is = made_by more _ c is (λ further. fit.each.0)
   leaves_fits more vs c fit is = cc
 
-  area_fits : Row (A_name ∷ colour f ∷ []) area_command (words.Region region_words.Area)
-  area_fits more (Called a ∷ Number k ∷ []) c fit is = made_by more (words.Region region_words.Area) _ c (record { word = refl; fits = λ further. (fit.each.0, few_colours f k fit.each.1.0) }) is
+  area_fits : Row (A_name ∷ colour f ∷ []) area_command
+  area_fits more (Called a ∷ Number k ∷ []) c fit is = made_by more _ c is (λ further. (fit.each.0, few_colours f k fit.each.1.0))
   area_fits more vs c fit is = cc
 
-  perimeter_fits : Row (A_name ∷ colour f ∷ []) perimeter_command (words.Region region_words.Perimeter)
-  perimeter_fits more (Called a ∷ Number k ∷ []) c fit is = made_by more (words.Region region_words.Perimeter) _ c (record { word = refl; fits = λ further. (fit.each.0, few_colours f k fit.each.1.0) }) is
+  perimeter_fits : Row (A_name ∷ colour f ∷ []) perimeter_command
+  perimeter_fits more (Called a ∷ Number k ∷ []) c fit is = made_by more _ c is (λ further. (fit.each.0, few_colours f k fit.each.1.0))
   perimeter_fits more vs c fit is = cc
 
-  polygon_fits : Row (A_name ∷ colour f ∷ A_number 1 1000 ∷ []) polygon_command (words.Region region_words.Polygon)
-  polygon_fits more (Called a ∷ Number k ∷ Number j ∷ []) c fit is = made_by more (words.Region region_words.Polygon) _ c (record { word = refl; fits = λ further. (fit.each.0, few_colours f k fit.each.1.0, further.rings) }) is
+  polygon_fits : Row (A_name ∷ colour f ∷ A_number 1 1000 ∷ []) polygon_command
+  polygon_fits more (Called a ∷ Number k ∷ Number j ∷ []) c fit is = made_by more _ c is (λ further. (fit.each.0, few_colours f k fit.each.1.0, further.rings))
   polygon_fits more vs c fit is = cc
 
-  union_fits : Row (A_name ∷ A_name ∷ A_name ∷ []) union_command (words.Algebra algebra_words.Union)
-  union_fits more (Called a ∷ Called b ∷ Called d ∷ []) c fit is = made_by more (words.Algebra algebra_words.Union) _ c (record { word = refl; fits = λ further. (fit.each.0, fit.each.1.0, fit.each.1.1.0) }) is
+  union_fits : Row (A_name ∷ A_name ∷ A_name ∷ []) union_command
+  union_fits more (Called a ∷ Called b ∷ Called d ∷ []) c fit is = made_by more _ c is (λ further. (fit.each.0, fit.each.1.0, fit.each.1.1.0))
   union_fits more vs c fit is = cc
 
-  inter_fits : Row (A_name ∷ A_name ∷ A_name ∷ []) inter_command (words.Algebra algebra_words.Inter)
-  inter_fits more (Called a ∷ Called b ∷ Called d ∷ []) c fit is = made_by more (words.Algebra algebra_words.Inter) _ c (record { word = refl; fits = λ further. (fit.each.0, fit.each.1.0, fit.each.1.1.0) }) is
+  inter_fits : Row (A_name ∷ A_name ∷ A_name ∷ []) inter_command
+  inter_fits more (Called a ∷ Called b ∷ Called d ∷ []) c fit is = made_by more _ c is (λ further. (fit.each.0, fit.each.1.0, fit.each.1.1.0))
   inter_fits more vs c fit is = cc
 
-  diff_fits : Row (A_name ∷ A_name ∷ A_name ∷ []) diff_command (words.Algebra algebra_words.Diff)
-  diff_fits more (Called a ∷ Called b ∷ Called d ∷ []) c fit is = made_by more (words.Algebra algebra_words.Diff) _ c (record { word = refl; fits = λ further. (fit.each.0, fit.each.1.0, fit.each.1.1.0) }) is
+  diff_fits : Row (A_name ∷ A_name ∷ A_name ∷ []) diff_command
+  diff_fits more (Called a ∷ Called b ∷ Called d ∷ []) c fit is = made_by more _ c is (λ further. (fit.each.0, fit.each.1.0, fit.each.1.1.0))
   diff_fits more vs c fit is = cc
 
-  window_fits : Row (A_name ∷ window ++ A_name ∷ []) window_command (words.Algebra algebra_words.Window)
-  window_fits more (Called a ∷ Number x ∷ Number y ∷ Number w ∷ Number h ∷ Called d ∷ []) c fit is = made_by more (words.Algebra algebra_words.Window) _ c (record { word = refl; fits = λ further. (fit.each.0, window_within fit.each.1.0 fit.each.1.1.0 fit.each.1.1.1.0 fit.each.1.1.1.1.0, fit.each.1.1.1.1.1.0) }) is
+  window_fits : Row (A_name ∷ window ++ A_name ∷ []) window_command
+  window_fits more (Called a ∷ Number x ∷ Number y ∷ Number w ∷ Number h ∷ Called d ∷ []) c fit is = made_by more _ c is (λ further. (fit.each.0, window_within fit.each.1.0 fit.each.1.1.0 fit.each.1.1.1.0 fit.each.1.1.1.1.0, fit.each.1.1.1.1.1.0))
   window_fits more vs c fit is = cc
 
-  shift_fits : Row (A_name ∷ A_signed ∷ A_signed ∷ A_name ∷ []) shift_command (words.Algebra algebra_words.Shift)
-  shift_fits more (Called a ∷ Signed dx ∷ Signed dy ∷ Called d ∷ []) c fit is = made_by more (words.Algebra algebra_words.Shift) _ c (record { word = refl; fits = λ further. (fit.each.0, fit.each.1.0, fit.each.1.1.0, fit.each.1.1.1.0) }) is
+  shift_fits : Row (A_name ∷ A_signed ∷ A_signed ∷ A_name ∷ []) shift_command
+  shift_fits more (Called a ∷ Signed dx ∷ Signed dy ∷ Called d ∷ []) c fit is = made_by more _ c is (λ further. (fit.each.0, fit.each.1.0, fit.each.1.1.0, fit.each.1.1.1.0))
   shift_fits more vs c fit is = cc
 
-  buffer_fits : Row (A_name ∷ coordinate ∷ A_name ∷ []) buffer_command (words.Algebra algebra_words.Buffer)
-  buffer_fits more (Called a ∷ Number r ∷ Called d ∷ []) c fit is = made_by more (words.Algebra algebra_words.Buffer) _ c (record { word = refl; fits = λ further. (fit.each.0, fit.each.1.0.most, fit.each.1.1.0) }) is
+  buffer_fits : Row (A_name ∷ coordinate ∷ A_name ∷ []) buffer_command
+  buffer_fits more (Called a ∷ Number r ∷ Called d ∷ []) c fit is = made_by more _ c is (λ further. (fit.each.0, fit.each.1.0.most, fit.each.1.1.0))
   buffer_fits more vs c fit is = cc
 
-  put_fits : Row (A_name ∷ pixel ++ label ∷ []) put_command (words.Point point_words.Put)
-  put_fits more (Called p ∷ Number x ∷ Number y ∷ Number j ∷ []) c fit is = made_by more (words.Point point_words.Put) _ c (record { word = refl; fits = λ further. (fit.each.0, pixel_within fit.each.1.0 fit.each.1.1.0, few_labels j fit.each.1.1.1.0) }) is
+  put_fits : Row (A_name ∷ pixel ++ label ∷ []) put_command
+  put_fits more (Called p ∷ Number x ∷ Number y ∷ Number j ∷ []) c fit is = made_by more _ c is (λ further. (fit.each.0, pixel_within fit.each.1.0 fit.each.1.1.0, few_labels j fit.each.1.1.1.0))
   put_fits more vs c fit is = cc
 
-  del_fits : Row (A_name ∷ pixel) del_command (words.Point point_words.Del)
-  del_fits more (Called p ∷ Number x ∷ Number y ∷ []) c fit is = made_by more (words.Point point_words.Del) _ c (record { word = refl; fits = λ further. (fit.each.0, pixel_within fit.each.1.0 fit.each.1.1.0) }) is
+  del_fits : Row (A_name ∷ pixel) del_command
+  del_fits more (Called p ∷ Number x ∷ Number y ∷ []) c fit is = made_by more _ c is (λ further. (fit.each.0, pixel_within fit.each.1.0 fit.each.1.1.0))
   del_fits more vs c fit is = cc
 
-  scatter_fits : Row (A_name ∷ A_number 1 100000 ∷ []) scatter_command (words.Point point_words.Scatter)
-  scatter_fits more (Called p ∷ Number k ∷ []) c fit is = made_by more (words.Point point_words.Scatter) _ c (record { word = refl; fits = λ further. (fit.each.0, further.points) }) is
+  scatter_fits : Row (A_name ∷ A_number 1 100000 ∷ []) scatter_command
+  scatter_fits more (Called p ∷ Number k ∷ []) c fit is = made_by more _ c is (λ further. (fit.each.0, further.points))
   scatter_fits more vs c fit is = cc
 
-  find_fits : Row (A_name ∷ pixel) find_command (words.Point point_words.Find)
-  find_fits more (Called p ∷ Number x ∷ Number y ∷ []) c fit is = made_by more (words.Point point_words.Find) _ c (record { word = refl; fits = λ further. (fit.each.0, pixel_within fit.each.1.0 fit.each.1.1.0) }) is
+  find_fits : Row (A_name ∷ pixel) find_command
+  find_fits more (Called p ∷ Number x ∷ Number y ∷ []) c fit is = made_by more _ c is (λ further. (fit.each.0, pixel_within fit.each.1.0 fit.each.1.1.0))
   find_fits more vs c fit is = cc
 
-  within_fits : Row (A_name ∷ window) within_command (words.Point point_words.Within)
-  within_fits more (Called p ∷ Number x ∷ Number y ∷ Number w ∷ Number h ∷ []) c fit is = made_by more (words.Point point_words.Within) _ c (record { word = refl; fits = λ further. (fit.each.0, window_within fit.each.1.0 fit.each.1.1.0 fit.each.1.1.1.0 fit.each.1.1.1.1.0) }) is
+  within_fits : Row (A_name ∷ window) within_command
+  within_fits more (Called p ∷ Number x ∷ Number y ∷ Number w ∷ Number h ∷ []) c fit is = made_by more _ c is (λ further. (fit.each.0, window_within fit.each.1.0 fit.each.1.1.0 fit.each.1.1.1.0 fit.each.1.1.1.1.0))
   within_fits more vs c fit is = cc
 
-  line_fits : Row (A_name ∷ label ∷ pixel ++ pixel) line_command (words.Line line_words.Line)
-  line_fits more (Called l ∷ Number i ∷ Number x ∷ Number y ∷ Number u ∷ Number v ∷ []) c fit is = made_by more (words.Line line_words.Line) _ c (record { word = refl; fits = λ further. (fit.each.0, few_labels i fit.each.1.0, record { first = pixel_within fit.each.1.1.0 fit.each.1.1.1.0; second = pixel_within fit.each.1.1.1.1.0 fit.each.1.1.1.1.1.0 }) }) is
+  line_fits : Row (A_name ∷ label ∷ pixel ++ pixel) line_command
+  line_fits more (Called l ∷ Number i ∷ Number x ∷ Number y ∷ Number u ∷ Number v ∷ []) c fit is = made_by more _ c is (λ further. (fit.each.0, few_labels i fit.each.1.0, record { first = pixel_within fit.each.1.1.0 fit.each.1.1.1.0; second = pixel_within fit.each.1.1.1.1.0 fit.each.1.1.1.1.1.0 }))
   line_fits more vs c fit is = cc
 
-  unline_fits : Row (A_name ∷ label ∷ []) unline_command (words.Line line_words.Unline)
-  unline_fits more (Called l ∷ Number i ∷ []) c fit is = made_by more (words.Line line_words.Unline) _ c (record { word = refl; fits = λ further. (fit.each.0, few_labels i fit.each.1.0) }) is
+  unline_fits : Row (A_name ∷ label ∷ []) unline_command
+  unline_fits more (Called l ∷ Number i ∷ []) c fit is = made_by more _ c is (λ further. (fit.each.0, few_labels i fit.each.1.0))
   unline_fits more vs c fit is = cc
 
-  cross_fits : Row (A_name ∷ window) cross_command (words.Line line_words.Cross)
-  cross_fits more (Called l ∷ Number x ∷ Number y ∷ Number w ∷ Number h ∷ []) c fit is = made_by more (words.Line line_words.Cross) _ c (record { word = refl; fits = λ further. (fit.each.0, window_within fit.each.1.0 fit.each.1.1.0 fit.each.1.1.1.0 fit.each.1.1.1.1.0) }) is
+  cross_fits : Row (A_name ∷ window) cross_command
+  cross_fits more (Called l ∷ Number x ∷ Number y ∷ Number w ∷ Number h ∷ []) c fit is = made_by more _ c is (λ further. (fit.each.0, window_within fit.each.1.0 fit.each.1.1.0 fit.each.1.1.1.0 fit.each.1.1.1.1.0))
   cross_fits more vs c fit is = cc
 
-  clip_fits : Row (A_name ∷ window) clip_command (words.Line line_words.Clip)
-  clip_fits more (Called l ∷ Number x ∷ Number y ∷ Number w ∷ Number h ∷ []) c fit is = made_by more (words.Line line_words.Clip) _ c (record { word = refl; fits = λ further. (fit.each.0, window_within fit.each.1.0 fit.each.1.1.0 fit.each.1.1.1.0 fit.each.1.1.1.1.0) }) is
+  clip_fits : Row (A_name ∷ window) clip_command
+  clip_fits more (Called l ∷ Number x ∷ Number y ∷ Number w ∷ Number h ∷ []) c fit is = made_by more _ c is (λ further. (fit.each.0, window_within fit.each.1.0 fit.each.1.1.0 fit.each.1.1.1.0 fit.each.1.1.1.1.0))
   clip_fits more vs c fit is = cc
 
-  nearest_fits : Row (A_name ∷ pixel) nearest_command (words.Line line_words.Nearest)
-  nearest_fits more (Called l ∷ Number x ∷ Number y ∷ []) c fit is = made_by more (words.Line line_words.Nearest) _ c (record { word = refl; fits = λ further. (fit.each.0, pixel_within fit.each.1.0 fit.each.1.1.0) }) is
+  nearest_fits : Row (A_name ∷ pixel) nearest_command
+  nearest_fits more (Called l ∷ Number x ∷ Number y ∷ []) c fit is = made_by more _ c is (λ further. (fit.each.0, pixel_within fit.each.1.0 fit.each.1.1.0))
   nearest_fits more vs c fit is = cc
 
-  over_fits : Row (A_name ∷ A_name ∷ []) over_command (words.Line line_words.Over)
-  over_fits more (Called l ∷ Called a ∷ []) c fit is = made_by more (words.Line line_words.Over) _ c (record { word = refl; fits = λ further. (fit.each.0, fit.each.1.0) }) is
+  over_fits : Row (A_name ∷ A_name ∷ []) over_command
+  over_fits more (Called l ∷ Called a ∷ []) c fit is = made_by more _ c is (λ further. (fit.each.0, fit.each.1.0))
   over_fits more vs c fit is = cc
 
-  rank_fits : Row (A_name ∷ pixel ++ A_number 1 100000 ∷ []) rank_command (words.Line line_words.Rank)
-  rank_fits more (Called l ∷ Number x ∷ Number y ∷ Number k ∷ []) c fit is = made_by more (words.Line line_words.Rank) _ c (record { word = refl; fits = λ further. (fit.each.0, pixel_within fit.each.1.0 fit.each.1.1.0, fit.each.1.1.1.0) }) is
+  rank_fits : Row (A_name ∷ pixel ++ A_number 1 100000 ∷ []) rank_command
+  rank_fits more (Called l ∷ Number x ∷ Number y ∷ Number k ∷ []) c fit is = made_by more _ c is (λ further. (fit.each.0, pixel_within fit.each.1.0 fit.each.1.1.0, fit.each.1.1.1.0))
   rank_fits more vs c fit is = cc
 
-  crossings_fits : Row (A_name ∷ A_name ∷ []) crossings_command (words.Line line_words.Crossings)
-  crossings_fits more (Called l ∷ Called m ∷ []) c fit is = made_by more (words.Line line_words.Crossings) _ c (record { word = refl; fits = λ further. (fit.each.0, fit.each.1.0) }) is
+  crossings_fits : Row (A_name ∷ A_name ∷ []) crossings_command
+  crossings_fits more (Called l ∷ Called m ∷ []) c fit is = made_by more _ c is (λ further. (fit.each.0, fit.each.1.0))
   crossings_fits more vs c fit is = cc
 
-  points_fits : (b : Bool) → Row (A_name ∷ cond b [] (A_number 1 16 ∷ [])) points_command (words.Map map_words.Points)
-  points_fits true more (Called p ∷ []) c fit is = made_by more (words.Map map_words.Points) _ c (record { word = refl; fits = λ further. (fit.each.0, record { least = omega arith; most = omega arith }) }) is
+  points_fits : (b : Bool) → Row (A_name ∷ cond b [] (A_number 1 16 ∷ [])) points_command
+  points_fits true more (Called p ∷ []) c fit is = made_by more _ c is (λ further. (fit.each.0, record { least = omega arith; most = omega arith }))
   points_fits true more (v ∷ u ∷ vs) c fit is = absurd (fit.each.1)
   points_fits false more (v ∷ []) c fit is = absurd (fit.each.1)
-  points_fits false more (Called p ∷ Number b ∷ []) c fit is = made_by more (words.Map map_words.Points) _ c (record { word = refl; fits = λ further. (fit.each.0, fit.each.1.0) }) is
+  points_fits false more (Called p ∷ Number b ∷ []) c fit is = made_by more _ c is (λ further. (fit.each.0, fit.each.1.0))
   points_fits b more vs c fit is = cc
 
-  recolour_fits : (m : ℕ) → IsWithin 1 16 m → Row (A_name ∷ A_name ∷ paired f 0 m) recolour_command (words.Algebra algebra_words.Recolour)
+  recolour_fits : (m : ℕ) → IsWithin 1 16 m → Row (A_name ∷ A_name ∷ paired f 0 m) recolour_command
   recolour_fits m within more (Called a ∷ Called d ∷ vs) c fit is =
       let pairs = pairs_fit f 0 m vs fit.each.1.1 in
       let many : IsWithin 1 16 (length (pairs_of vs)) = subst (IsWithin 1 16) (sym pairs.0) within in
-      made_by more (words.Algebra algebra_words.Recolour) _ c (record { word = refl; fits = λ further. (fit.each.0, fit.each.1.0, record { number = many; each = pairs.1 }) }) is
+      made_by more _ c is (λ further. (fit.each.0, fit.each.1.0, record { number = many; each = pairs.1 }))
   recolour_fits m within more vs c fit is = cc
 
-  recolour_made : (more : Further) (ws : List (List ℕ)) (c : Command) → recoloured f more ws ≡ Ok c → IsMadeBy f n more (words.Algebra algebra_words.Recolour) c
+  recolour_made : (more : Further) (ws : List (List ℕ)) (c : Command) → recoloured f more ws ≡ Ok c → FitsWith f n more c
   recolour_made more ws c is = elim (bool_cases (has_pairs (length ws))) [
     | inl some ↦
         let m : ℕ = (length ws - 2) / 2 in
@@ -404,58 +357,58 @@ module _ (f n : ℕ) where
     | inr not_ ↦ let none : Err codes_of.Count ≡ Ok c = rw not_ at is in absurd (cc)
   ]
 
-  map_made : (more : Further) (w : MapWord) (ws : List (List ℕ)) (c : Command) → map_formed f more w ws ≡ Ok c → IsMadeBy f n more (words.Map w) c
-  map_made more map_words.Region ws c is = by_row _ _ (words.Map map_words.Region) more ws c region_fits is
-  map_made more map_words.Lines ws c is = by_row _ _ (words.Map map_words.Lines) more ws c lines_fits is
-  map_made more map_words.Drop ws c is = by_row _ _ (words.Map map_words.Drop) more ws c drop_fits is
-  map_made more map_words.Copy ws c is = by_row _ _ (words.Map map_words.Copy) more ws c copy_fits is
-  map_made more map_words.Layers ws c is = by_row _ _ (words.Map map_words.Layers) more ws c layers_fits is
-  map_made more map_words.Blocks ws c is = by_row _ _ (words.Map map_words.Blocks) more ws c blocks_fits is
-  map_made more map_words.Records ws c is = by_row _ _ (words.Map map_words.Records) more ws c records_fits is
-  map_made more map_words.Edition ws c is = by_row _ _ (words.Map map_words.Edition) more ws c edition_fits is
-  map_made more map_words.Publish ws c is = by_row _ _ (words.Map map_words.Publish) more ws c publish_fits is
-  map_made more map_words.Upgrade ws c is = by_row _ _ (words.Map map_words.Upgrade) more ws c upgrade_fits is
-  map_made more map_words.Revert ws c is = by_row _ _ (words.Map map_words.Revert) more ws c revert_fits is
-  map_made more map_words.Points ws c is = by_row _ _ (words.Map map_words.Points) more ws c (points_fits (length ws == 1)) is
+  map_made : (more : Further) (w : MapWord) (ws : List (List ℕ)) (c : Command) → map_formed f more w ws ≡ Ok c → FitsWith f n more c
+  map_made more map_words.Region ws c is = by_row _ _ more ws c region_fits is
+  map_made more map_words.Lines ws c is = by_row _ _ more ws c lines_fits is
+  map_made more map_words.Drop ws c is = by_row _ _ more ws c drop_fits is
+  map_made more map_words.Copy ws c is = by_row _ _ more ws c copy_fits is
+  map_made more map_words.Layers ws c is = by_row _ _ more ws c layers_fits is
+  map_made more map_words.Blocks ws c is = by_row _ _ more ws c blocks_fits is
+  map_made more map_words.Records ws c is = by_row _ _ more ws c records_fits is
+  map_made more map_words.Edition ws c is = by_row _ _ more ws c edition_fits is
+  map_made more map_words.Publish ws c is = by_row _ _ more ws c publish_fits is
+  map_made more map_words.Upgrade ws c is = by_row _ _ more ws c upgrade_fits is
+  map_made more map_words.Revert ws c is = by_row _ _ more ws c revert_fits is
+  map_made more map_words.Points ws c is = by_row _ _ more ws c (points_fits (length ws == 1)) is
 
-  region_made : (more : Further) (w : RegionWord) (ws : List (List ℕ)) (c : Command) → region_formed f more w ws ≡ Ok c → IsMadeBy f n more (words.Region w) c
-  region_made more region_words.Set ws c is = by_row _ _ (words.Region region_words.Set) more ws c set_fits is
-  region_made more region_words.Rect ws c is = by_row _ _ (words.Region region_words.Rect) more ws c rect_fits is
-  region_made more region_words.Raster ws c is = by_row _ _ (words.Region region_words.Raster) more ws c raster_fits is
-  region_made more region_words.At ws c is = by_row _ _ (words.Region region_words.At) more ws c at_fits is
-  region_made more region_words.Show ws c is = by_row _ _ (words.Region region_words.Show) more ws c show_fits is
-  region_made more region_words.Leaves ws c is = by_row _ _ (words.Region region_words.Leaves) more ws c leaves_fits is
-  region_made more region_words.Area ws c is = by_row _ _ (words.Region region_words.Area) more ws c area_fits is
-  region_made more region_words.Perimeter ws c is = by_row _ _ (words.Region region_words.Perimeter) more ws c perimeter_fits is
-  region_made more region_words.Polygon ws c is = by_row _ _ (words.Region region_words.Polygon) more ws c polygon_fits is
+  region_made : (more : Further) (w : RegionWord) (ws : List (List ℕ)) (c : Command) → region_formed f more w ws ≡ Ok c → FitsWith f n more c
+  region_made more region_words.Set ws c is = by_row _ _ more ws c set_fits is
+  region_made more region_words.Rect ws c is = by_row _ _ more ws c rect_fits is
+  region_made more region_words.Raster ws c is = by_row _ _ more ws c raster_fits is
+  region_made more region_words.At ws c is = by_row _ _ more ws c at_fits is
+  region_made more region_words.Show ws c is = by_row _ _ more ws c show_fits is
+  region_made more region_words.Leaves ws c is = by_row _ _ more ws c leaves_fits is
+  region_made more region_words.Area ws c is = by_row _ _ more ws c area_fits is
+  region_made more region_words.Perimeter ws c is = by_row _ _ more ws c perimeter_fits is
+  region_made more region_words.Polygon ws c is = by_row _ _ more ws c polygon_fits is
 
-  algebra_made : (more : Further) (w : AlgebraWord) (ws : List (List ℕ)) (c : Command) → algebra_formed f more w ws ≡ Ok c → IsMadeBy f n more (words.Algebra w) c
-  algebra_made more algebra_words.Union ws c is = by_row _ _ (words.Algebra algebra_words.Union) more ws c union_fits is
-  algebra_made more algebra_words.Inter ws c is = by_row _ _ (words.Algebra algebra_words.Inter) more ws c inter_fits is
-  algebra_made more algebra_words.Diff ws c is = by_row _ _ (words.Algebra algebra_words.Diff) more ws c diff_fits is
-  algebra_made more algebra_words.Window ws c is = by_row _ _ (words.Algebra algebra_words.Window) more ws c window_fits is
-  algebra_made more algebra_words.Shift ws c is = by_row _ _ (words.Algebra algebra_words.Shift) more ws c shift_fits is
-  algebra_made more algebra_words.Buffer ws c is = by_row _ _ (words.Algebra algebra_words.Buffer) more ws c buffer_fits is
+  algebra_made : (more : Further) (w : AlgebraWord) (ws : List (List ℕ)) (c : Command) → algebra_formed f more w ws ≡ Ok c → FitsWith f n more c
+  algebra_made more algebra_words.Union ws c is = by_row _ _ more ws c union_fits is
+  algebra_made more algebra_words.Inter ws c is = by_row _ _ more ws c inter_fits is
+  algebra_made more algebra_words.Diff ws c is = by_row _ _ more ws c diff_fits is
+  algebra_made more algebra_words.Window ws c is = by_row _ _ more ws c window_fits is
+  algebra_made more algebra_words.Shift ws c is = by_row _ _ more ws c shift_fits is
+  algebra_made more algebra_words.Buffer ws c is = by_row _ _ more ws c buffer_fits is
   algebra_made more algebra_words.Recolour ws c is = recolour_made more ws c is
 
-  point_made : (more : Further) (w : PointWord) (ws : List (List ℕ)) (c : Command) → point_formed f more w ws ≡ Ok c → IsMadeBy f n more (words.Point w) c
-  point_made more point_words.Put ws c is = by_row _ _ (words.Point point_words.Put) more ws c put_fits is
-  point_made more point_words.Del ws c is = by_row _ _ (words.Point point_words.Del) more ws c del_fits is
-  point_made more point_words.Scatter ws c is = by_row _ _ (words.Point point_words.Scatter) more ws c scatter_fits is
-  point_made more point_words.Find ws c is = by_row _ _ (words.Point point_words.Find) more ws c find_fits is
-  point_made more point_words.Within ws c is = by_row _ _ (words.Point point_words.Within) more ws c within_fits is
+  point_made : (more : Further) (w : PointWord) (ws : List (List ℕ)) (c : Command) → point_formed f more w ws ≡ Ok c → FitsWith f n more c
+  point_made more point_words.Put ws c is = by_row _ _ more ws c put_fits is
+  point_made more point_words.Del ws c is = by_row _ _ more ws c del_fits is
+  point_made more point_words.Scatter ws c is = by_row _ _ more ws c scatter_fits is
+  point_made more point_words.Find ws c is = by_row _ _ more ws c find_fits is
+  point_made more point_words.Within ws c is = by_row _ _ more ws c within_fits is
 
-  line_made : (more : Further) (w : LineWord) (ws : List (List ℕ)) (c : Command) → line_formed f more w ws ≡ Ok c → IsMadeBy f n more (words.Line w) c
-  line_made more line_words.Line ws c is = by_row _ _ (words.Line line_words.Line) more ws c line_fits is
-  line_made more line_words.Unline ws c is = by_row _ _ (words.Line line_words.Unline) more ws c unline_fits is
-  line_made more line_words.Cross ws c is = by_row _ _ (words.Line line_words.Cross) more ws c cross_fits is
-  line_made more line_words.Clip ws c is = by_row _ _ (words.Line line_words.Clip) more ws c clip_fits is
-  line_made more line_words.Nearest ws c is = by_row _ _ (words.Line line_words.Nearest) more ws c nearest_fits is
-  line_made more line_words.Over ws c is = by_row _ _ (words.Line line_words.Over) more ws c over_fits is
-  line_made more line_words.Rank ws c is = by_row _ _ (words.Line line_words.Rank) more ws c rank_fits is
-  line_made more line_words.Crossings ws c is = by_row _ _ (words.Line line_words.Crossings) more ws c crossings_fits is
+  line_made : (more : Further) (w : LineWord) (ws : List (List ℕ)) (c : Command) → line_formed f more w ws ≡ Ok c → FitsWith f n more c
+  line_made more line_words.Line ws c is = by_row _ _ more ws c line_fits is
+  line_made more line_words.Unline ws c is = by_row _ _ more ws c unline_fits is
+  line_made more line_words.Cross ws c is = by_row _ _ more ws c cross_fits is
+  line_made more line_words.Clip ws c is = by_row _ _ more ws c clip_fits is
+  line_made more line_words.Nearest ws c is = by_row _ _ more ws c nearest_fits is
+  line_made more line_words.Over ws c is = by_row _ _ more ws c over_fits is
+  line_made more line_words.Rank ws c is = by_row _ _ more ws c rank_fits is
+  line_made more line_words.Crossings ws c is = by_row _ _ more ws c crossings_fits is
 
-  word_made : (more : Further) (w : Word) (ws : List (List ℕ)) (c : Command) → formed f more w ws ≡ Ok c → IsMadeBy f n more w c
+  word_made : (more : Further) (w : Word) (ws : List (List ℕ)) (c : Command) → formed f more w ws ≡ Ok c → FitsWith f n more c
   word_made more (words.Map w) ws c is = map_made more w ws c is
   word_made more (words.Region w) ws c is = region_made more w ws c is
   word_made more (words.Algebra w) ws c is = algebra_made more w ws c is
@@ -464,37 +417,23 @@ module _ (f n : ℕ) where
 
   -- ---- items
 
-  -- the word is built
-  record IsGood (more : Further) (c : Command) : Type 0 where
-    pub built : is_built (spelling (word_in c)) ≡ true
-    pub fits : FurtherFits f n more → IsFitting f n c
-
   known_good : (more : Further) (bs : List ℕ) (ws : List (List ℕ)) (c : Command) (w : Option Word) → find (λ v. bytes_eq (spelling v) bs) all_words ≡ w
-      → form_of_words f more (bs ∷ ws) ≡ Ok c → IsGood more c
+      → form_of_words f more (bs ∷ ws) ≡ Ok c → FitsWith f n more c
   known_good more bs ws c None none is = let bad : Err codes_of.Word ≡ Ok c = sym (unspelled f more bs ws none) ∙ is in cc
-  known_good more bs ws c (Some w) some is =
-      let same : bs ≡ spelling w = spelled_is bs w some in
-      elim (bool_cases (is_built (spelling w))) [
-        | inl built ↦
-            let by = word_made more w ws c (sym (known_is f more bs w ws same built) ∙ is) in
-            record { built = subst (λ (v : Word). is_built (spelling v) ≡ true) (sym by.word) built; fits = by.fits }
-        | inr not_ ↦
-            let there : form_of_words f more (spelling w ∷ ws) ≡ Ok c = subst (λ (v : List ℕ). form_of_words f more (v ∷ ws) ≡ Ok c) same is in
-            let bad : Err codes_of.Word ≡ Ok c = sym (unbuilt f more (spelling w) ws not_) ∙ there in absurd (cc)
-      ]
+  known_good more bs ws c (Some w) some is = word_made more w ws c (sym (known_is f more bs w ws (spelled_is bs w some)) ∙ is)
 
-  words_good : (more : Further) (ws : List (List ℕ)) (c : Command) → form_of_words f more ws ≡ Ok c → IsGood more c
+  words_good : (more : Further) (ws : List (List ℕ)) (c : Command) → form_of_words f more ws ≡ Ok c → FitsWith f n more c
   unfolding form_of_words
   words_good more [] c is = cc
   words_good more (bs ∷ ws) c is = known_good more bs ws c (find (λ v. bytes_eq (spelling v) bs) all_words) refl is
 
-  line_good : (line : List ℕ) (more : Further) (c : Command) → form_of_line f line more ≡ Ok c → IsGood more c
+  line_good : (line : List ℕ) (more : Further) (c : Command) → form_of_line f line more ≡ Ok c → FitsWith f n more c
   line_good line more c is = elim (bool_cases (list_all is_plain line)) [
     | inl plain ↦ words_good more (words_of line) c (rw plain at is)
     | inr not_ ↦ let bad : Err codes_of.Bytes ≡ Ok c = rw not_ at is in absurd (cc)
   ]
 
-  item_good : (item : Item) (c : Command) → form f item ≡ Ok c → IsGood (further_of item) c
+  item_good : (item : Item) (c : Command) → form f item ≡ Ok c → FitsWith f n (further_of item) c
   unfolding form
   item_good Long c is = cc
   item_good (Line line) c is = line_good line _ c is
@@ -502,10 +441,6 @@ module _ (f n : ℕ) where
   item_good (PointLines line points) c is = line_good line _ c is
   item_good (RingLines line rings) c is = line_good line _ c is
 
--- the word of a command that an item spells is built
-pub spelled_built : (f n : ℕ) (c : Command) → Spelled f n c → is_built (spelling (word_in c)) ≡ true
-spelled_built f n c spelled = (item_good f n (held f n spelled.0) c spelled.1).built
-
--- and what it has fits
+-- what a command that an item spells has fits
 pub spelled_fits : (f n : ℕ) (c : Command) → 1 ≤ f → f ≤ 2 → Spelled f n c → IsFitting f n c
 spelled_fits f n c low high spelled = (item_good f n (held f n spelled.0) c spelled.1).fits (further_fits f n spelled.0 low high)

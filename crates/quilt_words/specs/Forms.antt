@@ -15,7 +15,6 @@ use Rattle.quilt_words.specs.declared.command.Command.TheVariants as commands
 use Rattle.quilt_words.specs.declared.item.Item.{Item}
 use Rattle.quilt_words.specs.declared.item.Item.TheVariants.{Long, Line, Rows, PointLines, RingLines}
 use Rattle.quilt_words.specs.Items.{Group, held, is_plain, words_of}
-use Rattle.quilt_words.specs.Built.{is_built}
 use Rattle.quilt_words.specs.Spelling.{number, signed, name}
 
 -- what an argument may be
@@ -307,17 +306,13 @@ or_err code (Some x) = Ok x
 abbrev pub with_count : ℕ → Entry → Result Entry Code
 with_count count e = if length e.arguments == count then Ok e else Err codes_of.Count
 
--- the entry of a word that so many words follow, in a format, of all commands
-abbrev pub entry_in_all : ℕ → List ℕ → ℕ → Result Entry Code
-entry_in_all f word count =
+-- the entry of a word that so many words follow, in a format
+abbrev pub entry_of : ℕ → List ℕ → ℕ → Result Entry Code
+entry_of f word count =
     if bytes_eq word (codes "recolour")
     then (if nat_le 4 count && nat_le count 34 && (count % 2 == 0) then Ok (recolour_entry f ((count - 2) / 2)) else Err codes_of.Count)
     else if bytes_eq word (codes "points") then with_count count (points_entry count)
     else (or_err codes_of.Word (find (λ e. bytes_eq e.word word) (table f)) >>= with_count count)
-
--- the entry of a word that so many words follow, where its command is built
-abbrev pub entry_of : ℕ → List ℕ → ℕ → Result Entry Code
-entry_of f word count = if is_built word then entry_in_all f word count else Err codes_of.Word
 
 abbrev pub argument_value : Argument → List ℕ → Result Value Code
 argument_value A_name word = or_err codes_of.Name (option_map Called (name word))
@@ -330,12 +325,7 @@ values_of [] words = Ok []
 values_of (a ∷ rest) [] = Ok []
 values_of (a ∷ rest) (w ∷ ws) = argument_value a w >>= λ v. values_of rest ws >>= λ vs. Ok (v ∷ vs)
 
--- what words spell, where all commands are built
-unfoldable pub form_in_all : ℕ → Further → List (List ℕ) → Result Command Code
-form_in_all f more [] = Err codes_of.Word
-form_in_all f more (word ∷ words) =
-    entry_in_all f word (length words) >>= λ e. values_of e.arguments words >>= λ vs. or_err codes_of.Word (e.command more vs)
-
+-- what words spell, of which the first is the command's
 unfoldable pub form_of_words : ℕ → Further → List (List ℕ) → Result Command Code
 form_of_words f more [] = Err codes_of.Word
 form_of_words f more (word ∷ words) =

@@ -7,7 +7,6 @@ use Rattle.quilt_types.specs.declared.plane.Point.{Point}
 use Rattle.quilt_types.specs.declared.plane.Corner.{Corner}
 use Rattle.quilt_words.specs.declared.item.Item.{Item}
 use Rattle.quilt_words.specs.declared.item.Item.TheVariants.{Long, Line, Rows, PointLines, RingLines}
-use Rattle.quilt_words.specs.Built.{is_built}
 use Rattle.quilt_words.specs.Spelling.{number, row}
 
 abbrev pub is_empty : List ℕ → Bool
@@ -52,15 +51,10 @@ listed_by (w ∷ p ∷ k ∷ []) = if bytes_eq w (codes "scatter") then unwrap_o
 listed_by (w ∷ p ∷ c ∷ k ∷ []) = if bytes_eq w (codes "polygon") then unwrap_or (number 1 1000 k) 0 else 0
 listed_by ws = 0
 
--- how many further lines the words ask for, where all commands are built
-abbrev pub asked_in_all : ℕ → List (List ℕ) → ℕ
-asked_in_all n [] = 0
-asked_in_all n (w ∷ ws) = if bytes_eq w (codes "raster") then side n else listed_by (w ∷ ws)
-
--- how many further lines the words ask for: none, where their command is not built
+-- how many further lines the words ask for
 abbrev pub asked_by : ℕ → List (List ℕ) → ℕ
 asked_by n [] = 0
-asked_by n (w ∷ ws) = if is_built w then asked_in_all n (w ∷ ws) else 0
+asked_by n (w ∷ ws) = if bytes_eq w (codes "raster") then side n else listed_by (w ∷ ws)
 
 abbrev pub asked : ℕ → List ℕ → ℕ
 asked n line = if is_long line || not (list_all is_plain line) then 0 else asked_by n (words_of line)

@@ -1,6 +1,6 @@
 ghost use Rattle.std.specs.Prelude.{◌≡◌, ◌≤◌, ℕ, Ok, Err, Result, [], ◌∷◌, map, IfOk};
 ghost use Rattle.quilt_words.specs.Items.{Group, held};
-ghost use Rattle.quilt_words.specs.Forms.{form_in_all, form_of_words, form_of_line, form, Spelled};
+ghost use Rattle.quilt_words.specs.Forms.{form_of_words, form_of_line, form, Spelled};
 ghost use Rattle.quilt_words.specs.Made.{further_of};
 ghost use Rattle.quilt_words.specs.Parsing.{Answers};
 ghost use Rattle.quilt_words.specs.Fitting.{IsFitting, FurtherFits};
@@ -47,7 +47,7 @@ fn parse_line(alloc: Global, format: u8, line: &[u8], item: &Item) -> Result<Com
     parse_words(alloc, format, &words, item)
 }
 
-/// The command of these words, of which the first is the command's, where it is built.
+/// The command of these words, of which the first is the command's.
 #[tactic(auto, unfolding(crate::specs::Forms::form_of_words))]
 fn parse_words(alloc: Global, format: u8, words: &[&[u8]], item: &Item) -> Result<Command, ParseErr>
     ensures is { Answers result (form_of_words format (further_of item.now) (map (λ w. w.now) words.now)) }
@@ -55,11 +55,11 @@ fn parse_words(alloc: Global, format: u8, words: &[&[u8]], item: &Item) -> Resul
 {
     match words {
         [] => Err(ParseErr::No(Code::Word)),
-        [word, arguments @ ..] => parse_built(alloc, format, word, arguments, item),
+        [word, arguments @ ..] => parse_known(alloc, format, word, arguments, item),
     }
 }
 
-fn parse_built(
+fn parse_known(
     alloc: Global,
     format: u8,
     word: &[u8],
@@ -72,8 +72,5 @@ fn parse_built(
     let Some(known) = Word::of(word) else {
         return Err(ParseErr::No(Code::Word));
     };
-    if !known.is_built() {
-        return Err(ParseErr::No(Code::Word));
-    }
     command(alloc, format, known, arguments, item)
 }

@@ -1,5 +1,4 @@
-use crate::commands::command;
-use crate::{Command, Item, Pairs, ParseErr, Word, line_words, parse, refusal_text};
+use crate::{Command, Item, Pairs, ParseErr, parse, refusal_text};
 use quilt_types::{Code, Colour, Text};
 use std::alloc::Global;
 use std::test::Fail;
@@ -14,15 +13,11 @@ fn spells_refusals_and_pairs(rt: HostRuntime) -> Result<(), Fail> {
     Ok(())
 }
 
-/// What a line spells where all commands are built: nothing, or the refusal.
-fn refused_by_all(alloc: Global, format: u8, line: &[u8]) -> Result<Option<Code>, Fail> {
-    let words = line_words(alloc, line)?;
-    let word = words.first().ok_or("no word")?;
-    let Some(known) = Word::of(word) else {
-        return Ok(Some(Code::Word));
-    };
-    let item = Item::Line(Text::new(alloc));
-    match command(alloc, format, known, &words[1..], &item) {
+/// The refusal of a line, or none.
+fn refused(alloc: Global, format: u8, line: &[u8]) -> Result<Option<Code>, Fail> {
+    let mut text = Text::new(alloc);
+    text.push(line)?;
+    match parse(alloc, format, &Item::Line(text)) {
         Ok(_) => Ok(None),
         Err(ParseErr::No(code)) => Ok(Some(code)),
         Err(ParseErr::Memory) => Err(Fail::from("memory")),
@@ -32,57 +27,27 @@ fn refused_by_all(alloc: Global, format: u8, line: &[u8]) -> Result<Option<Code>
 #[test]
 fn refuses_by_ranges(rt: HostRuntime) -> Result<(), Fail> {
     let alloc = rt.alloc();
-    assert_eq!(rt;
-        refused_by_all(alloc, 1, b"region a 256")?,
-        Some(Code::Number)
-    );
-    assert_eq!(rt; refused_by_all(alloc, 2, b"region a 65535")?, None);
-    assert_eq!(rt;
-        refused_by_all(alloc, 2, b"region a 65536")?,
-        Some(Code::Number)
-    );
-    assert_eq!(rt;
-        refused_by_all(alloc, 1, b"points p 17")?,
-        Some(Code::Number)
-    );
-    assert_eq!(rt;
-        refused_by_all(alloc, 1, b"points p 0 1")?,
-        Some(Code::Count)
-    );
-    assert_eq!(rt;
-        refused_by_all(alloc, 1, b"lines l 33")?,
-        Some(Code::Number)
-    );
-    assert_eq!(rt;
-        refused_by_all(alloc, 1, b"rank l 1 1 0")?,
-        Some(Code::Number)
-    );
-    assert_eq!(rt;
-        refused_by_all(alloc, 1, b"shift a -0 1 c")?,
-        Some(Code::Number)
-    );
+    assert_eq!(rt; refused(alloc, 1, b"region a 256")?, Some(Code::Number));
+    assert_eq!(rt; refused(alloc, 2, b"region a 65535")?, None);
+    assert_eq!(rt; refused(alloc, 2, b"region a 65536")?, Some(Code::Number));
+    assert_eq!(rt; refused(alloc, 1, b"points p 17")?, Some(Code::Number));
+    assert_eq!(rt; refused(alloc, 1, b"points p 0 1")?, Some(Code::Count));
+    assert_eq!(rt; refused(alloc, 1, b"lines l 33")?, Some(Code::Number));
+    assert_eq!(rt; refused(alloc, 1, b"rank l 1 1 0")?, Some(Code::Number));
+    assert_eq!(rt; refused(alloc, 1, b"shift a -0 1 c")?, Some(Code::Number));
     Ok(())
 }
 
 #[test]
 fn refuses_in_order(rt: HostRuntime) -> Result<(), Fail> {
     let alloc = rt.alloc();
+    assert_eq!(rt; refused(alloc, 1, b"recolour a c 1")?, Some(Code::Count));
     assert_eq!(rt;
-        refused_by_all(alloc, 1, b"recolour a c 1")?,
-        Some(Code::Count)
-    );
-    assert_eq!(rt;
-        refused_by_all(alloc, 1, b"recolour a c 1 2 3 256")?,
+        refused(alloc, 1, b"recolour a c 1 2 3 256")?,
         Some(Code::Number)
     );
-    assert_eq!(rt;
-        refused_by_all(alloc, 1, b"show A 1 2 3 x")?,
-        Some(Code::Name)
-    );
-    assert_eq!(rt;
-        refused_by_all(alloc, 1, b"show a 1 2 0 x")?,
-        Some(Code::Number)
-    );
+    assert_eq!(rt; refused(alloc, 1, b"show A 1 2 3 x")?, Some(Code::Name));
+    assert_eq!(rt; refused(alloc, 1, b"show a 1 2 0 x")?, Some(Code::Number));
     Ok(())
 }
 

@@ -1,6 +1,5 @@
 ghost use Rattle.std.specs.Prelude.{◌≡◌, find, IfSome};
 ghost use Rattle.std.specs.Str.{bytes_eq};
-ghost use Rattle.quilt_words.specs.Built.{is_built};
 ghost use Rattle.quilt_words.specs.Words.{spelling, map_spelling, region_spelling, algebra_spelling, point_spelling, line_spelling, all_words};
 
 /// A word of a command on the map and its layers.
@@ -229,47 +228,6 @@ impl Word {
         ensures spelled { IfSome result (λ w. bytes.now ≡ spelling w) }
     {
         look_up(bytes)
-    }
-
-    /// Whether the session has the word's command. A command is taken in by its words here and in `built` of specs/Built.antt.
-    #[tactic(auto, unfolding(crate::specs::Built::built))]
-    pub fn is_built(self) -> bool
-        ensures { result ≡ is_built (spelling self) }
-    {
-        matches!(
-            self,
-            Word::Map(MapWord::Region)
-                | Word::Map(MapWord::Drop)
-                | Word::Map(MapWord::Copy)
-                | Word::Map(MapWord::Layers)
-                | Word::Map(MapWord::Records)
-                | Word::Region(RegionWord::Set)
-                | Word::Region(RegionWord::Rect)
-                | Word::Region(RegionWord::Raster)
-                | Word::Region(RegionWord::At)
-                | Word::Region(RegionWord::Show)
-                | Word::Region(RegionWord::Leaves)
-                | Word::Region(RegionWord::Polygon)
-                | Word::Algebra(AlgebraWord::Union)
-                | Word::Algebra(AlgebraWord::Inter)
-                | Word::Algebra(AlgebraWord::Diff)
-                | Word::Algebra(AlgebraWord::Recolour)
-                | Word::Algebra(AlgebraWord::Window)
-                | Word::Algebra(AlgebraWord::Shift)
-                | Word::Algebra(AlgebraWord::Buffer)
-                | Word::Region(RegionWord::Area)
-                | Word::Region(RegionWord::Perimeter)
-                | Word::Map(MapWord::Points)
-                | Word::Point(PointWord::Put)
-                | Word::Point(PointWord::Del)
-                | Word::Point(PointWord::Scatter)
-                | Word::Point(PointWord::Find)
-                | Word::Point(PointWord::Within)
-                | Word::Map(MapWord::Edition)
-                | Word::Map(MapWord::Publish)
-                | Word::Map(MapWord::Upgrade)
-                | Word::Map(MapWord::Revert)
-        )
     }
 }
 

@@ -1,7 +1,6 @@
 use crate::comparing::{compare, list_of};
-use crate::drawing::{Dice, drawn, drawn_pairs};
-use crate::plain_algebra::{plain_overlay, plain_recolour};
 use quilt_overlay::{Op, overlay, recolour};
+use quilt_plain::{Dice, drawn, drawn_pairs, plain_overlay, plain_recolour};
 use std::test::Fail;
 
 /// 200 pairs of maps of levels 1 to 5, laid over each other in each way.

@@ -1,7 +1,6 @@
 use crate::comparing::list_of;
-use crate::drawing::{Dice, colour_of, drawn};
-use crate::plain_measures::{plain_area, plain_histogram, plain_perimeter};
 use quilt_measure::{area, histogram, perimeter};
+use quilt_plain::{Dice, colour_of, drawn, plain_area, plain_histogram, plain_perimeter};
 use quilt_types::Colour;
 use std::test::Fail;
 

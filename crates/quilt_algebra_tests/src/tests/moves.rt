@@ -1,7 +1,7 @@
 use crate::comparing::{compare, list_of};
-use crate::drawing::{Dice, drawn, drawn_distance, drawn_window};
-use crate::plain_algebra::{plain_buffer, plain_shift, plain_window};
+use crate::windows::drawn_window;
 use quilt_buffer::buffer;
+use quilt_plain::{Dice, drawn, drawn_distance, plain_buffer, plain_shift, plain_window};
 use quilt_window::{shift, window};
 use std::test::Fail;
 

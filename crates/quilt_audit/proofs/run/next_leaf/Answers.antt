@@ -5,7 +5,7 @@ use Rattle.quilt_types.specs.declared.plane.Kind.{Kind}
 use Rattle.quilt_types.specs.declared.plane.Kind.TheVariants as kinds
 use Rattle.quilt_record.specs.declared.record.Record.{Record}
 use Rattle.quilt_audit.specs.declared.run.Run.TheVariants as runs
-use Rattle.quilt_audit.specs.Covers.{Refuses}
+use Rattle.quilt_line_audit.specs.Layers.{Refuses}
 use Rattle.quilt_audit.specs.Regions.{IsGoing}
 use Rattle.quilt_audit.specs.Runs.{IsRun}
 use Rattle.quilt_audit.proofs.Runs.{by_region}

@@ -12,5 +12,5 @@ returns-then-not-is_plain_line c = λ n. line_odd n c.args.line.now (sym c.is_pl
 
 pub returns : goal.returns
 returns c = λ n.
-    line_asks n c.args.line.now _ c.asked_if_built.result (le-ltb line_limit (length c.args.line.now) (omega arith))
-    (sym c.is_plain_line.ensures ∙ c.if-not-is_plain_line.false) (c.asked_if_built.ensures n) (rw c.deref.ensures.value c.in_ok-words.ensures)
+    line_asks n c.args.line.now _ c.asked_by_words.result (le-ltb line_limit (length c.args.line.now) (omega arith))
+    (sym c.is_plain_line.ensures ∙ c.if-not-is_plain_line.false) (c.asked_by_words.ensures n) (rw c.deref.ensures.value c.in_ok-words.ensures)

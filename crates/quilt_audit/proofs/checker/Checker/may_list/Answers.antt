@@ -3,15 +3,14 @@ use Rattle.quilt_record.specs.declared.entry.Entry.{Entry}
 use Rattle.quilt_audit.proofs.Taking.{not_true, not_false}
 use Rattle.quilt_audit.proofs.checker.Checker.may_list.Goals as goal
 
-pub returns-then-is_checked-clause-yes : goal.returns-then-is_checked-clause-yes
-returns-then-is_checked-clause-yes c t = record {
+pub returns-clause-yes : goal.returns-clause-yes
+returns-clause-yes c t = record {
   first = c.if-self-ne0.false;
-  checked = c.is_checked.ensures.yes c.if-is_checked.true;
   above = c.if-e-self.false;
   fresh = λ d m same. c.has_name.ensures.no (not_true c.has_name.result t) d (subst (λ (l : List Entry). Contains l d) (sym c.entries.ensures.entries) m) same;
 }
 
-pub returns-then-is_checked-clause-no : goal.returns-then-is_checked-clause-no
-returns-then-is_checked-clause-no c f m =
+pub returns-clause-no : goal.returns-clause-no
+returns-clause-no c f m =
     let w = c.has_name.ensures.yes (not_false c.has_name.result f) in
     m.fresh w.0 (subst (λ (l : List Entry). Contains l w.0) c.entries.ensures.entries w.1) w.2

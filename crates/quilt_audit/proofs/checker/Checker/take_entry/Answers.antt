@@ -36,6 +36,6 @@ returns-clause-yes c rs f =
     let may = c.may_list.ensures.yes c.if-not-may_list.false in
     let first = may.first in (
       subst (λ (l : List Entry). IsSoFar s.format s.level l c.in-Some.e.number s.layer s.run (rs ++ c.args.r.now ∷ [])) (sym c.insert.ensures)
-          (IsSoFar-entry s.format s.level s.catalog s.last s.layer s.run rs f c.args.r.now c.in-Some.e c.in-Some.ensures.some may.checked may.first may.above),
+          (IsSoFar-entry s.format s.level s.catalog s.last s.layer s.run rs f c.args.r.now c.in-Some.e c.in-Some.ensures.some may.first may.above),
       λ some. absurd (omega arith),
     )

@@ -1,18 +1,14 @@
-use Rattle.std.proofs.Common.{refl, sym, subst}
 use Rattle.std.specs.FinMap as finmap
 use Rattle.quilt_types.specs.Layers.{Points}
 use Rattle.quilt_types.specs.declared.code.Code.TheVariants as no
-use Rattle.quilt_replies.specs.Answers.{Outcome}
-use Rattle.quilt_replies.specs.declared.reply.Reply.TheVariants as given
-use Rattle.quilt_map.specs.Making.{AnsweredBy, placed}
+use Rattle.quilt_map.specs.PointLayers.{points_del}
 use Rattle.quilt_map.proofs.Amends.{mid_at}
 use Rattle.quilt_map.proofs.Asked.{if_ok, if_err}
 use Rattle.quilt_map.proofs.ChangeSteps.{goes_here}
 use Rattle.quilt_map.proofs.Going.{goes_of, goes_both}
-use Rattle.quilt_map.proofs.Moving.{with_book}
-use Rattle.quilt_map.proofs.Placing.{answered_from, refused_by}
+use Rattle.quilt_map.proofs.Planned.{unplanned, planned}
+use Rattle.quilt_map.proofs.PointPlans.{points_there, number_there, mid_point, mid_within}
 use Rattle.quilt_map.proofs.PointAnswers.{del_finds, del_absent, del_there}
-use Rattle.quilt_map.proofs.PointPlans.{order_of, plan_of, points_there, number_there, mid_point, mid_within}
 use Rattle.quilt_map.proofs.session.Session.del_from.Goals as goal
 
 pub returns-in_default-clause-goes_on : goal.returns-in_default-clause-goes_on
@@ -27,10 +23,9 @@ pub returns-in-Ok-None-clause-del : goal.returns-in-Ok-None-clause-del
 returns-in-Ok-None-clause-del g c = λ s at name points is.
     let old = c.args.self.now in
     let book = c.plan_removal.new.book in
-    let there = mid_at {D = g.W.Disk} old s at book c.plan_removal.ensures.still (g.met.W.Disk.is_consistent book.world) in
     let finds = del_finds c.in-Ok-None.field-0 (finmap.get points c.args.at) (c.in-Ok-None.ensures.none points (points_there {D = g.W.Disk} old s at name c.args.layer points is)) in
-    subst (λ (o : Outcome). AnsweredBy {D = g.W.Disk} s o old (with_book {D = g.W.Disk} old book) (given.No no.Absent)) (sym (del_absent s name c.args.layer.bucket points c.args.at (finds.0 c.in-Ok-None.field-0-is)))
-    (refused_by {D = g.W.Disk} old (with_book {D = g.W.Disk} old book) s no.Absent at.bounded there refl)
+    unplanned {D = g.W.Disk} old s at book c.plan_removal.ensures.still (g.met.W.Disk.is_consistent book.world) (points_del s name c.args.layer.bucket points c.args.at) no.Absent
+    (del_absent s name c.args.layer.bucket points c.args.at (finds.0 c.in-Ok-None.field-0-is))
 
 pub returns-in-Ok-None-clause-goes_on : goal.returns-in-Ok-None-clause-goes_on
 returns-in-Ok-None-clause-goes_on g c = goes_of {D = g.W.Disk} c.args.self.now.book c.plan_removal.new.book c.plan_removal.ensures.still.later
@@ -42,15 +37,13 @@ returns-in-Ok-Some-clause-del g c =
     let book = c.plan_removal.new.book in
     let still = c.plan_removal.ensures.still in
     let law = g.met.W.Disk.is_consistent book.world in
-    let has = points_there {D = g.W.Disk} old s at name c.args.layer points is in
-    let after = finmap.remove points c.args.at in
-    let finds = del_finds c.in-Ok-Some.field-0 (finmap.get points c.args.at) (c.in-Ok-Some.ensures.none points has) in
-    let amendment = mid_point {D = g.W.Disk} old s at book still law name c.args.layer points is after c.in-Ok-Some.edits (plan_of {D = g.W.Disk} old.book c.args.layer (λ ps. finmap.remove ps c.args.at) c.in-Ok-Some.field-0 c.in-Ok-Some.edits c.in-Ok-Some.field-0-is c.in-Ok-Some.ensures.plan points has) (order_of c.in-Ok-Some.field-0 c.in-Ok-Some.edits c.in-Ok-Some.field-0-is c.in-Ok-Some.ensures.order) in
-    let some = finds.1 c.in-Ok-Some.edits c.in-Ok-Some.field-0-is in
-    let within = mid_within {D = g.W.Disk} old s at book still law name c.args.layer points is c.args.at some.0 c.in-Ok-Some.edits some.1 (plan_of {D = g.W.Disk} old.book c.args.layer (λ ps. finmap.remove ps c.args.at) c.in-Ok-Some.field-0 c.in-Ok-Some.edits c.in-Ok-Some.field-0-is c.in-Ok-Some.ensures.plan points has) (order_of c.in-Ok-Some.field-0 c.in-Ok-Some.edits c.in-Ok-Some.field-0-is c.in-Ok-Some.ensures.order) in
-    subst (λ (o : Outcome). AnsweredBy {D = g.W.Disk} s o old c.amend.new.self reply) (sym (del_there s name c.args.layer.bucket points c.args.at some.2 within))
-    (answered_from {D = g.W.Disk} old (with_book {D = g.W.Disk} old book) c.amend.new.self s (placed s name (Points c.args.layer.bucket after)) reply refl
-    (p s (mid_at {D = g.W.Disk} old s at book still law) name c.args.layer.number (Points c.args.layer.bucket after) amendment))) c.amend.ensures.amended
+    let some = c.in-Ok-Some in
+    let finds = del_finds some.field-0 (finmap.get points c.args.at) (some.ensures.none points (points_there {D = g.W.Disk} old s at name c.args.layer points is)) in
+    let label = finds.1 some.edits some.field-0-is in
+    let within = mid_within {D = g.W.Disk} old s at book still law name c.args.layer points is c.args.at label.0 label.1 some.field-0 some.edits some.field-0-is some.ensures.order some.ensures.plan in
+    planned {D = g.W.Disk} old s at book still law (points_del s name c.args.layer.bucket points c.args.at) name c.args.layer.number (Points c.args.layer.bucket (finmap.remove points c.args.at)) some.edits
+    (mid_point {D = g.W.Disk} old s at book still law name c.args.layer points is (λ all. finmap.remove all c.args.at) some.field-0 some.edits some.field-0-is some.ensures.order some.ensures.plan)
+    (del_there s name c.args.layer.bucket points c.args.at label.2 within) c.amend.new.self reply p) c.amend.ensures.amended
 
 pub returns-in-Ok-Some-clause-sound : goal.returns-in-Ok-Some-clause-sound
 returns-in-Ok-Some-clause-sound g c =
@@ -59,9 +52,9 @@ returns-in-Ok-Some-clause-sound g c =
     let book = c.plan_removal.new.book in
     let still = c.plan_removal.ensures.still in
     let law = g.met.W.Disk.is_consistent book.world in
-    let after = finmap.remove points c.args.at in
-    p s (mid_at {D = g.W.Disk} old s at book still law) name c.args.layer.number (Points c.args.layer.bucket after)
-    (mid_point {D = g.W.Disk} old s at book still law name c.args.layer points is after c.in-Ok-Some.edits (plan_of {D = g.W.Disk} old.book c.args.layer (λ ps. finmap.remove ps c.args.at) c.in-Ok-Some.field-0 c.in-Ok-Some.edits c.in-Ok-Some.field-0-is c.in-Ok-Some.ensures.plan points (points_there {D = g.W.Disk} old s at name c.args.layer points is)) (order_of c.in-Ok-Some.field-0 c.in-Ok-Some.edits c.in-Ok-Some.field-0-is c.in-Ok-Some.ensures.order))) c.amend.ensures.sound
+    let some = c.in-Ok-Some in
+    p s (mid_at {D = g.W.Disk} old s at book still law) name c.args.layer.number (Points c.args.layer.bucket (finmap.remove points c.args.at))
+    (mid_point {D = g.W.Disk} old s at book still law name c.args.layer points is (λ all. finmap.remove all c.args.at) some.field-0 some.edits some.field-0-is some.ensures.order some.ensures.plan)) c.amend.ensures.sound
 
 pub returns-in-Ok-Some-clause-goes_on : goal.returns-in-Ok-Some-clause-goes_on
 returns-in-Ok-Some-clause-goes_on g c =

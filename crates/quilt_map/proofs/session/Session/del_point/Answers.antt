@@ -9,16 +9,16 @@ use Rattle.quilt_map.proofs.Asked.{if_ok, if_err}
 use Rattle.quilt_map.proofs.ChangeSteps.{goes_here}
 use Rattle.quilt_map.proofs.Outcomes.{answered_same}
 use Rattle.quilt_map.proofs.PointAnswers.{del_refused, del_outside, del_answered}
-use Rattle.quilt_map.proofs.PointPlans.{points_in}
+use Rattle.quilt_map.proofs.PointPlans.{found_points}
 use Rattle.quilt_map.proofs.session.Session.del_point.Goals as goal
 
 pub returns-then-not-has_pixel-clause-answer : goal.returns-then-not-has_pixel-clause-answer
 returns-then-not-has_pixel-clause-answer g c = λ s at.
     let old = c.args.self.now in
     let name = c.args.name.now in
-    let found = c.in-Ok.ensures.found s.work at.work.numbers (catalog_as {D = g.W.Disk} old s at c.entries.result.now c.entries.ensures.entries) in
+    let found = found_points {D = g.W.Disk} old s at name c.in-Ok.layer c.entries.result.now c.entries.ensures.entries c.in-Ok.ensures.found in
     let out = test_at (λ n. is_pixel n c.args.at) c.head.result.level s.last.level c.has_pixel.result false (ap (λ (h : Head). h.level) c.head.ensures.work ∙ level_is {D = g.W.Disk} old s at) c.has_pixel.ensures c.if-not-has_pixel.true in
-    answered_same {D = g.W.Disk} s (commands.Del name c.args.at) old old (Refused no.Outside) _ (del_outside s name c.in-Ok.layer.bucket found.points found.got c.args.at out) refl refl refl at at
+    answered_same {D = g.W.Disk} s (commands.Del name c.args.at) old old (Refused no.Outside) _ (del_outside s name c.in-Ok.layer.bucket found.points found.is.got c.args.at out) refl refl refl at at
 
 pub returns-then-not-has_pixel-clause-goes_on : goal.returns-then-not-has_pixel-clause-goes_on
 returns-then-not-has_pixel-clause-goes_on g c = goes_here {D = g.W.Disk} c.args.self.now.book
@@ -38,13 +38,13 @@ returns-else-not-has_pixel-clause-answer g c =
     if_ok _ _ c.del_from.result (λ reply p s at.
     let old = c.args.self.now in
     let name = c.args.name.now in
-    let found = points_in s.work at.work.numbers c.entries.result.now old.catalog name c.in-Ok.layer c.entries.ensures.entries at.work.catalog c.in-Ok.ensures.found in
+    let found = found_points {D = g.W.Disk} old s at name c.in-Ok.layer c.entries.result.now c.entries.ensures.entries c.in-Ok.ensures.found in
     let inside = test_at (λ n. is_pixel n c.args.at) c.head.result.level s.last.level c.has_pixel.result true (ap (λ (h : Head). h.level) c.head.ensures.work ∙ level_is {D = g.W.Disk} old s at) c.has_pixel.ensures c.if-not-has_pixel.false in
-    del_answered s name c.in-Ok.layer.bucket found.0 found.1.got {D = g.W.Disk} old c.del_from.new.self c.args.at inside reply (p s at name found.0 found.1)) c.del_from.ensures.del
+    del_answered s name c.in-Ok.layer.bucket found.points found.is.got {D = g.W.Disk} old c.del_from.new.self c.args.at inside reply (p s at name found.points found.is)) c.del_from.ensures.del
 
 pub returns-else-not-has_pixel-clause-sound : goal.returns-else-not-has_pixel-clause-sound
 returns-else-not-has_pixel-clause-sound g c =
     if_err _ _ c.del_from.result (λ e p s at.
     let old = c.args.self.now in
-    let found = points_in s.work at.work.numbers c.entries.result.now old.catalog c.args.name.now c.in-Ok.layer c.entries.ensures.entries at.work.catalog c.in-Ok.ensures.found in
-    p s at c.args.name.now found.0 found.1) c.del_from.ensures.sound
+    let found = found_points {D = g.W.Disk} old s at c.args.name.now c.in-Ok.layer c.entries.result.now c.entries.ensures.entries c.in-Ok.ensures.found in
+    p s at c.args.name.now found.points found.is) c.del_from.ensures.sound

@@ -8,7 +8,7 @@ use Rattle.quilt_map.proofs.Answered.{level_is, test_at, catalog_as, keeps_here}
 use Rattle.quilt_map.proofs.Asked.{if_ok}
 use Rattle.quilt_map.proofs.Asks.{asked_here, asked_on, told_on}
 use Rattle.quilt_map.proofs.PointAnswers.{find_asks, find_refused, find_outside, find_absent, find_body}
-use Rattle.quilt_map.proofs.PointPlans.{points_in, points_there, number_there}
+use Rattle.quilt_map.proofs.PointPlans.{found_points}
 use Rattle.quilt_map.proofs.session.Session.find_point.Goals as goal
 
 pub returns-in-Err-clause-answer : goal.returns-in-Err-clause-answer
@@ -25,9 +25,9 @@ pub returns-then-not-has_pixel-clause-answer : goal.returns-then-not-has_pixel-c
 returns-then-not-has_pixel-clause-answer g c = λ s at.
     let old = c.args.self.now in
     let name = c.args.name.now in
-    let found = points_in s.work at.work.numbers c.entries.result.now old.catalog name c.in-Ok.layer c.entries.ensures.entries at.work.catalog c.in-Ok.ensures.found in
+    let found = found_points {D = g.W.Disk} old s at name c.in-Ok.layer c.entries.result.now c.entries.ensures.entries c.in-Ok.ensures.found in
     asked_here {D = g.W.Disk} s (commands.Find name c.args.at) (find_asks s name c.args.at) old at old.warm (reply.No no.Outside)
-    (find_outside s name c.in-Ok.layer.bucket found.0 found.1.got c.args.at
+    (find_outside s name c.in-Ok.layer.bucket found.points found.is.got c.args.at
     (test_at (λ n. is_pixel n c.args.at) c.head.result.level s.last.level c.has_pixel.result false (ap (λ (h : Head). h.level) c.head.ensures.work ∙ level_is {D = g.W.Disk} old s at) c.has_pixel.ensures c.if-not-has_pixel.true))
 
 pub returns-then-not-has_pixel-clause-keeps : goal.returns-then-not-has_pixel-clause-keeps
@@ -37,23 +37,23 @@ pub returns-in-Err-read_label-clause-sound : goal.returns-in-Err-read_label-clau
 returns-in-Err-read_label-clause-sound g c = λ s at.
     let old = c.args.self.now in
     let name = c.args.name.now in
-    let found = points_in s.work at.work.numbers c.entries.result.now old.catalog name c.in-Ok.layer c.entries.ensures.entries at.work.catalog c.in-Ok.ensures.found in
-    c.in-Err-read_label.ensures.sound found.0 (number_there {D = g.W.Disk} old s at name c.in-Ok.layer found.0 found.1) (points_there {D = g.W.Disk} old s at name c.in-Ok.layer found.0 found.1)
+    let found = found_points {D = g.W.Disk} old s at name c.in-Ok.layer c.entries.result.now c.entries.ensures.entries c.in-Ok.ensures.found in
+    c.in-Err-read_label.ensures.sound found.points found.least found.holds
 
 pub returns-in-Ok-None-clause-answer : goal.returns-in-Ok-None-clause-answer
 returns-in-Ok-None-clause-answer g c = λ s at.
     let old = c.args.self.now in
     let name = c.args.name.now in
-    let found = points_in s.work at.work.numbers c.entries.result.now old.catalog name c.in-Ok.layer c.entries.ensures.entries at.work.catalog c.in-Ok.ensures.found in
-    let none = sym (c.in-Ok-None.ensures.label found.0 (points_there {D = g.W.Disk} old s at name c.in-Ok.layer found.0 found.1)) ∙ c.in-Ok-None.field-0-is in
+    let found = found_points {D = g.W.Disk} old s at name c.in-Ok.layer c.entries.result.now c.entries.ensures.entries c.in-Ok.ensures.found in
+    let none = sym (c.in-Ok-None.ensures.label found.points found.holds) ∙ c.in-Ok-None.field-0-is in
     asked_on {D = g.W.Disk} s (commands.Find name c.args.at) (find_asks s name c.args.at) old at c.read_label.new.book old.warm (reply.No no.Absent) c.read_label.ensures.still (g.met.W.Disk.is_consistent c.read_label.new.book.world)
-    (find_absent s name c.in-Ok.layer.bucket found.0 found.1.got c.args.at (test_at (λ n. is_pixel n c.args.at) c.head.result.level s.last.level c.has_pixel.result true (ap (λ (h : Head). h.level) c.head.ensures.work ∙ level_is {D = g.W.Disk} old s at) c.has_pixel.ensures c.if-not-has_pixel.false) none)
+    (find_absent s name c.in-Ok.layer.bucket found.points found.is.got c.args.at (test_at (λ n. is_pixel n c.args.at) c.head.result.level s.last.level c.has_pixel.result true (ap (λ (h : Head). h.level) c.head.ensures.work ∙ level_is {D = g.W.Disk} old s at) c.has_pixel.ensures c.if-not-has_pixel.false) none)
 
 pub returns-in-Ok-Some-clause-answer : goal.returns-in-Ok-Some-clause-answer
 returns-in-Ok-Some-clause-answer g c =
     let old = c.args.self.now in
     let name = c.args.name.now in
     told_on {D = g.W.Disk} (commands.Find name c.args.at) (λ s. find_asks s name c.args.at) old c.read_label.new.book old.warm c.number_text.result c.told.result c.read_label.ensures.still (g.met.W.Disk.is_consistent c.read_label.new.book.world) c.told.ensures.text (λ s at.
-    let found = points_in s.work at.work.numbers c.entries.result.now old.catalog name c.in-Ok.layer c.entries.ensures.entries at.work.catalog c.in-Ok.ensures.found in
-    let some = sym (c.in-Ok-Some.ensures.label found.0 (points_there {D = g.W.Disk} old s at name c.in-Ok.layer found.0 found.1)) ∙ c.in-Ok-Some.field-0-is in
-    if_ok _ _ c.number_text.result (λ t h. find_body s name c.in-Ok.layer.bucket found.0 found.1.got c.args.at (test_at (λ n. is_pixel n c.args.at) c.head.result.level s.last.level c.has_pixel.result true (ap (λ (h : Head). h.level) c.head.ensures.work ∙ level_is {D = g.W.Disk} old s at) c.has_pixel.ensures c.if-not-has_pixel.false) c.in-Ok-Some.label some c.from.result c.from.ensures t h) c.number_text.ensures)
+    let found = found_points {D = g.W.Disk} old s at name c.in-Ok.layer c.entries.result.now c.entries.ensures.entries c.in-Ok.ensures.found in
+    let some = sym (c.in-Ok-Some.ensures.label found.points found.holds) ∙ c.in-Ok-Some.field-0-is in
+    if_ok _ _ c.number_text.result (λ t h. find_body s name c.in-Ok.layer.bucket found.points found.is.got c.args.at (test_at (λ n. is_pixel n c.args.at) c.head.result.level s.last.level c.has_pixel.result true (ap (λ (h : Head). h.level) c.head.ensures.work ∙ level_is {D = g.W.Disk} old s at) c.has_pixel.ensures c.if-not-has_pixel.false) c.in-Ok-Some.label some c.from.result c.from.ensures t h) c.number_text.ensures)

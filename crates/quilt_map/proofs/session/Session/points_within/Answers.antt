@@ -8,7 +8,7 @@ use Rattle.quilt_map.proofs.Answered.{level_is, test_at, catalog_as, keeps_here}
 use Rattle.quilt_map.proofs.Asked.{if_ok}
 use Rattle.quilt_map.proofs.Asks.{asked_here, told_on}
 use Rattle.quilt_map.proofs.PointAnswers.{within_asks, within_refused, within_outside, within_body}
-use Rattle.quilt_map.proofs.PointPlans.{points_in, points_there, number_there}
+use Rattle.quilt_map.proofs.PointPlans.{found_points}
 use Rattle.quilt_map.proofs.session.Session.points_within.Goals as goal
 
 pub returns-in-Err-clause-answer : goal.returns-in-Err-clause-answer
@@ -25,9 +25,9 @@ pub returns-then-not-has_window-clause-answer : goal.returns-then-not-has_window
 returns-then-not-has_window-clause-answer g c = λ s at.
     let old = c.args.self.now in
     let name = c.args.name.now in
-    let found = points_in s.work at.work.numbers c.entries.result.now old.catalog name c.in-Ok.layer c.entries.ensures.entries at.work.catalog c.in-Ok.ensures.found in
+    let found = found_points {D = g.W.Disk} old s at name c.in-Ok.layer c.entries.result.now c.entries.ensures.entries c.in-Ok.ensures.found in
     asked_here {D = g.W.Disk} s (commands.Within name c.args.w) (within_asks s name c.args.w) old at old.warm (reply.No no.Outside)
-    (within_outside s name c.in-Ok.layer.bucket found.0 found.1.got c.args.w
+    (within_outside s name c.in-Ok.layer.bucket found.points found.is.got c.args.w
     (test_at (λ n. is_window n c.args.w) c.head.result.level s.last.level c.has_window.result false (ap (λ (h : Head). h.level) c.head.ensures.work ∙ level_is {D = g.W.Disk} old s at) c.has_window.ensures c.if-not-has_window.true))
 
 pub returns-then-not-has_window-clause-keeps : goal.returns-then-not-has_window-clause-keeps
@@ -37,14 +37,14 @@ pub returns-in-Err-read_points-clause-sound : goal.returns-in-Err-read_points-cl
 returns-in-Err-read_points-clause-sound g c = λ s at.
     let old = c.args.self.now in
     let name = c.args.name.now in
-    let found = points_in s.work at.work.numbers c.entries.result.now old.catalog name c.in-Ok.layer c.entries.ensures.entries at.work.catalog c.in-Ok.ensures.found in
-    c.in-Err-read_points.ensures.sound found.0 (number_there {D = g.W.Disk} old s at name c.in-Ok.layer found.0 found.1) (points_there {D = g.W.Disk} old s at name c.in-Ok.layer found.0 found.1)
+    let found = found_points {D = g.W.Disk} old s at name c.in-Ok.layer c.entries.result.now c.entries.ensures.entries c.in-Ok.ensures.found in
+    c.in-Err-read_points.ensures.sound found.points found.least found.holds
 
 pub returns-in-Ok-read_points-clause-answer : goal.returns-in-Ok-read_points-clause-answer
 returns-in-Ok-read_points-clause-answer g c =
     let old = c.args.self.now in
     let name = c.args.name.now in
     told_on {D = g.W.Disk} (commands.Within name c.args.w) (λ s. within_asks s name c.args.w) old c.read_points.new.book old.warm c.points_text.result c.told.result c.read_points.ensures.still (g.met.W.Disk.is_consistent c.read_points.new.book.world) c.told.ensures.text (λ s at.
-    let found = points_in s.work at.work.numbers c.entries.result.now old.catalog name c.in-Ok.layer c.entries.ensures.entries at.work.catalog c.in-Ok.ensures.found in
-    let all = c.in-Ok-read_points.ensures.points found.0 (points_there {D = g.W.Disk} old s at name c.in-Ok.layer found.0 found.1) in
-    if_ok _ _ c.points_text.result (λ t h. within_body s name c.in-Ok.layer.bucket found.0 found.1.got c.args.w (test_at (λ n. is_window n c.args.w) c.head.result.level s.last.level c.has_window.result true (ap (λ (h : Head). h.level) c.head.ensures.work ∙ level_is {D = g.W.Disk} old s at) c.has_window.ensures c.if-not-has_window.false) c.in-Ok-read_points.list all t h) c.points_text.ensures)
+    let found = found_points {D = g.W.Disk} old s at name c.in-Ok.layer c.entries.result.now c.entries.ensures.entries c.in-Ok.ensures.found in
+    let all = c.in-Ok-read_points.ensures.points found.points found.holds in
+    if_ok _ _ c.points_text.result (λ t h. within_body s name c.in-Ok.layer.bucket found.points found.is.got c.args.w (test_at (λ n. is_window n c.args.w) c.head.result.level s.last.level c.has_window.result true (ap (λ (h : Head). h.level) c.head.ensures.work ∙ level_is {D = g.W.Disk} old s at) c.has_window.ensures c.if-not-has_window.false) c.in-Ok-read_points.list all t h) c.points_text.ensures)

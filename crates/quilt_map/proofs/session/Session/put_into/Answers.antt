@@ -1,18 +1,14 @@
-use Rattle.std.proofs.Common.{refl, sym, subst}
 use Rattle.std.specs.FinMap as finmap
 use Rattle.quilt_types.specs.Layers.{Points}
 use Rattle.quilt_types.specs.declared.code.Code.TheVariants as no
-use Rattle.quilt_replies.specs.Answers.{Outcome}
-use Rattle.quilt_replies.specs.declared.reply.Reply.TheVariants as given
-use Rattle.quilt_map.specs.Making.{AnsweredBy, placed}
+use Rattle.quilt_map.specs.PointLayers.{points_put}
 use Rattle.quilt_map.proofs.Amends.{mid_at}
 use Rattle.quilt_map.proofs.Asked.{if_ok, if_err}
 use Rattle.quilt_map.proofs.ChangeSteps.{goes_here}
 use Rattle.quilt_map.proofs.Going.{goes_of, goes_both}
-use Rattle.quilt_map.proofs.Moving.{with_book}
-use Rattle.quilt_map.proofs.Placing.{answered_from, refused_by}
+use Rattle.quilt_map.proofs.Planned.{unplanned, planned}
+use Rattle.quilt_map.proofs.PointPlans.{points_there, number_there, mid_point}
 use Rattle.quilt_map.proofs.PointAnswers.{put_finds, put_present, put_new}
-use Rattle.quilt_map.proofs.PointPlans.{order_of, plan_of, points_there, number_there, mid_point}
 use Rattle.quilt_map.proofs.session.Session.put_into.Goals as goal
 
 pub returns-in_default-clause-goes_on : goal.returns-in_default-clause-goes_on
@@ -27,10 +23,9 @@ pub returns-in-Ok-None-clause-put : goal.returns-in-Ok-None-clause-put
 returns-in-Ok-None-clause-put g c = λ s at name points is.
     let old = c.args.self.now in
     let book = c.plan_point.new.book in
-    let there = mid_at {D = g.W.Disk} old s at book c.plan_point.ensures.still (g.met.W.Disk.is_consistent book.world) in
     let finds = put_finds c.in-Ok-None.field-0 (finmap.get points c.args.at) (c.in-Ok-None.ensures.none points (points_there {D = g.W.Disk} old s at name c.args.layer points is)) in
-    subst (λ (o : Outcome). AnsweredBy {D = g.W.Disk} s o old (with_book {D = g.W.Disk} old book) (given.No no.Present)) (sym (put_present s name c.args.layer.bucket points c.args.at c.args.label (finds.0 c.in-Ok-None.field-0-is)))
-    (refused_by {D = g.W.Disk} old (with_book {D = g.W.Disk} old book) s no.Present at.bounded there refl)
+    unplanned {D = g.W.Disk} old s at book c.plan_point.ensures.still (g.met.W.Disk.is_consistent book.world) (points_put s name c.args.layer.bucket points c.args.at c.args.label) no.Present
+    (put_present s name c.args.layer.bucket points c.args.at c.args.label (finds.0 c.in-Ok-None.field-0-is))
 
 pub returns-in-Ok-None-clause-goes_on : goal.returns-in-Ok-None-clause-goes_on
 returns-in-Ok-None-clause-goes_on g c = goes_of {D = g.W.Disk} c.args.self.now.book c.plan_point.new.book c.plan_point.ensures.still.later
@@ -42,13 +37,11 @@ returns-in-Ok-Some-clause-put g c =
     let book = c.plan_point.new.book in
     let still = c.plan_point.ensures.still in
     let law = g.met.W.Disk.is_consistent book.world in
-    let has = points_there {D = g.W.Disk} old s at name c.args.layer points is in
-    let after = finmap.insert points c.args.at c.args.label in
-    let finds = put_finds c.in-Ok-Some.field-0 (finmap.get points c.args.at) (c.in-Ok-Some.ensures.none points has) in
-    let amendment = mid_point {D = g.W.Disk} old s at book still law name c.args.layer points is after c.in-Ok-Some.edits (plan_of {D = g.W.Disk} old.book c.args.layer (λ ps. finmap.insert ps c.args.at c.args.label) c.in-Ok-Some.field-0 c.in-Ok-Some.edits c.in-Ok-Some.field-0-is c.in-Ok-Some.ensures.plan points has) (order_of c.in-Ok-Some.field-0 c.in-Ok-Some.edits c.in-Ok-Some.field-0-is c.in-Ok-Some.ensures.order) in
-    subst (λ (o : Outcome). AnsweredBy {D = g.W.Disk} s o old c.amend.new.self reply) (sym (put_new s name c.args.layer.bucket points c.args.at c.args.label (finds.1 c.in-Ok-Some.edits c.in-Ok-Some.field-0-is)))
-    (answered_from {D = g.W.Disk} old (with_book {D = g.W.Disk} old book) c.amend.new.self s (placed s name (Points c.args.layer.bucket after)) reply refl
-    (p s (mid_at {D = g.W.Disk} old s at book still law) name c.args.layer.number (Points c.args.layer.bucket after) amendment))) c.amend.ensures.amended
+    let some = c.in-Ok-Some in
+    let finds = put_finds some.field-0 (finmap.get points c.args.at) (some.ensures.none points (points_there {D = g.W.Disk} old s at name c.args.layer points is)) in
+    planned {D = g.W.Disk} old s at book still law (points_put s name c.args.layer.bucket points c.args.at c.args.label) name c.args.layer.number (Points c.args.layer.bucket (finmap.insert points c.args.at c.args.label)) some.edits
+    (mid_point {D = g.W.Disk} old s at book still law name c.args.layer points is (λ all. finmap.insert all c.args.at c.args.label) some.field-0 some.edits some.field-0-is some.ensures.order some.ensures.plan)
+    (put_new s name c.args.layer.bucket points c.args.at c.args.label (finds.1 some.edits some.field-0-is)) c.amend.new.self reply p) c.amend.ensures.amended
 
 pub returns-in-Ok-Some-clause-sound : goal.returns-in-Ok-Some-clause-sound
 returns-in-Ok-Some-clause-sound g c =
@@ -57,9 +50,9 @@ returns-in-Ok-Some-clause-sound g c =
     let book = c.plan_point.new.book in
     let still = c.plan_point.ensures.still in
     let law = g.met.W.Disk.is_consistent book.world in
-    let after = finmap.insert points c.args.at c.args.label in
-    p s (mid_at {D = g.W.Disk} old s at book still law) name c.args.layer.number (Points c.args.layer.bucket after)
-    (mid_point {D = g.W.Disk} old s at book still law name c.args.layer points is after c.in-Ok-Some.edits (plan_of {D = g.W.Disk} old.book c.args.layer (λ ps. finmap.insert ps c.args.at c.args.label) c.in-Ok-Some.field-0 c.in-Ok-Some.edits c.in-Ok-Some.field-0-is c.in-Ok-Some.ensures.plan points (points_there {D = g.W.Disk} old s at name c.args.layer points is)) (order_of c.in-Ok-Some.field-0 c.in-Ok-Some.edits c.in-Ok-Some.field-0-is c.in-Ok-Some.ensures.order))) c.amend.ensures.sound
+    let some = c.in-Ok-Some in
+    p s (mid_at {D = g.W.Disk} old s at book still law) name c.args.layer.number (Points c.args.layer.bucket (finmap.insert points c.args.at c.args.label))
+    (mid_point {D = g.W.Disk} old s at book still law name c.args.layer points is (λ all. finmap.insert all c.args.at c.args.label) some.field-0 some.edits some.field-0-is some.ensures.order some.ensures.plan)) c.amend.ensures.sound
 
 pub returns-in-Ok-Some-clause-goes_on : goal.returns-in-Ok-Some-clause-goes_on
 returns-in-Ok-Some-clause-goes_on g c =

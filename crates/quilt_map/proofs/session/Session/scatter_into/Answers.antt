@@ -1,17 +1,14 @@
-use Rattle.std.proofs.Common.{refl, sym, subst}
 use Rattle.quilt_types.specs.Layers.{Points}
 use Rattle.quilt_types.specs.declared.code.Code.TheVariants as no
-use Rattle.quilt_replies.specs.Answers.{Outcome, with_points}
-use Rattle.quilt_replies.specs.declared.reply.Reply.TheVariants as given
-use Rattle.quilt_map.specs.Making.{AnsweredBy, placed}
+use Rattle.quilt_replies.specs.Answers.{with_points}
+use Rattle.quilt_map.specs.PointLayers.{points_scattered}
 use Rattle.quilt_map.proofs.Amends.{mid_at}
 use Rattle.quilt_map.proofs.Asked.{if_ok, if_err}
 use Rattle.quilt_map.proofs.ChangeSteps.{goes_here}
 use Rattle.quilt_map.proofs.Going.{goes_of, goes_both}
-use Rattle.quilt_map.proofs.Moving.{with_book}
-use Rattle.quilt_map.proofs.Placing.{answered_from, refused_by}
+use Rattle.quilt_map.proofs.Planned.{unplanned, planned}
+use Rattle.quilt_map.proofs.PointPlans.{points_there, number_there, mid_point}
 use Rattle.quilt_map.proofs.Scatters.{scatter_finds, scatter_present, scatter_new}
-use Rattle.quilt_map.proofs.PointPlans.{order_of, plan_of, points_there, number_there, mid_point}
 use Rattle.quilt_map.proofs.session.Session.scatter_into.Goals as goal
 
 pub returns-in_default-clause-goes_on : goal.returns-in_default-clause-goes_on
@@ -26,10 +23,9 @@ pub returns-in-Ok-None-clause-scattered : goal.returns-in-Ok-None-clause-scatter
 returns-in-Ok-None-clause-scattered g c = λ s at name points is.
     let old = c.args.self.now in
     let book = c.plan_points.new.book in
-    let there = mid_at {D = g.W.Disk} old s at book c.plan_points.ensures.still (g.met.W.Disk.is_consistent book.world) in
     let finds = scatter_finds c.in-Ok-None.field-0 points c.args.points.now (c.in-Ok-None.ensures.none points (points_there {D = g.W.Disk} old s at name c.args.layer points is)) in
-    subst (λ (o : Outcome). AnsweredBy {D = g.W.Disk} s o old (with_book {D = g.W.Disk} old book) (given.No no.Present)) (sym (scatter_present s name c.args.layer.bucket points is.got c.args.points.now (finds.0 c.in-Ok-None.field-0-is)))
-    (refused_by {D = g.W.Disk} old (with_book {D = g.W.Disk} old book) s no.Present at.bounded there refl)
+    unplanned {D = g.W.Disk} old s at book c.plan_points.ensures.still (g.met.W.Disk.is_consistent book.world) (points_scattered s name c.args.layer.bucket points c.args.points.now) no.Present
+    (scatter_present s name c.args.layer.bucket points is.got c.args.points.now (finds.0 c.in-Ok-None.field-0-is))
 
 pub returns-in-Ok-None-clause-goes_on : goal.returns-in-Ok-None-clause-goes_on
 returns-in-Ok-None-clause-goes_on g c = goes_of {D = g.W.Disk} c.args.self.now.book c.plan_points.new.book c.plan_points.ensures.still.later
@@ -41,13 +37,11 @@ returns-in-Ok-Some-clause-scattered g c =
     let book = c.plan_points.new.book in
     let still = c.plan_points.ensures.still in
     let law = g.met.W.Disk.is_consistent book.world in
-    let has = points_there {D = g.W.Disk} old s at name c.args.layer points is in
-    let after = with_points points c.args.points.now in
-    let finds = scatter_finds c.in-Ok-Some.field-0 points c.args.points.now (c.in-Ok-Some.ensures.none points has) in
-    let amendment = mid_point {D = g.W.Disk} old s at book still law name c.args.layer points is after c.in-Ok-Some.edits (plan_of {D = g.W.Disk} old.book c.args.layer (λ ps. with_points ps c.args.points.now) c.in-Ok-Some.field-0 c.in-Ok-Some.edits c.in-Ok-Some.field-0-is c.in-Ok-Some.ensures.plan points has) (order_of c.in-Ok-Some.field-0 c.in-Ok-Some.edits c.in-Ok-Some.field-0-is c.in-Ok-Some.ensures.order) in
-    subst (λ (o : Outcome). AnsweredBy {D = g.W.Disk} s o old c.amend.new.self reply) (sym (scatter_new s name c.args.layer.bucket points is.got c.args.points.now (finds.1 c.in-Ok-Some.edits c.in-Ok-Some.field-0-is)))
-    (answered_from {D = g.W.Disk} old (with_book {D = g.W.Disk} old book) c.amend.new.self s (placed s name (Points c.args.layer.bucket after)) reply refl
-    (p s (mid_at {D = g.W.Disk} old s at book still law) name c.args.layer.number (Points c.args.layer.bucket after) amendment))) c.amend.ensures.amended
+    let some = c.in-Ok-Some in
+    let finds = scatter_finds some.field-0 points c.args.points.now (some.ensures.none points (points_there {D = g.W.Disk} old s at name c.args.layer points is)) in
+    planned {D = g.W.Disk} old s at book still law (points_scattered s name c.args.layer.bucket points c.args.points.now) name c.args.layer.number (Points c.args.layer.bucket (with_points points c.args.points.now)) some.edits
+    (mid_point {D = g.W.Disk} old s at book still law name c.args.layer points is (λ all. with_points all c.args.points.now) some.field-0 some.edits some.field-0-is some.ensures.order some.ensures.plan)
+    (scatter_new s name c.args.layer.bucket points is.got c.args.points.now (finds.1 some.edits some.field-0-is)) c.amend.new.self reply p) c.amend.ensures.amended
 
 pub returns-in-Ok-Some-clause-sound : goal.returns-in-Ok-Some-clause-sound
 returns-in-Ok-Some-clause-sound g c =
@@ -56,9 +50,9 @@ returns-in-Ok-Some-clause-sound g c =
     let book = c.plan_points.new.book in
     let still = c.plan_points.ensures.still in
     let law = g.met.W.Disk.is_consistent book.world in
-    let after = with_points points c.args.points.now in
-    p s (mid_at {D = g.W.Disk} old s at book still law) name c.args.layer.number (Points c.args.layer.bucket after)
-    (mid_point {D = g.W.Disk} old s at book still law name c.args.layer points is after c.in-Ok-Some.edits (plan_of {D = g.W.Disk} old.book c.args.layer (λ ps. with_points ps c.args.points.now) c.in-Ok-Some.field-0 c.in-Ok-Some.edits c.in-Ok-Some.field-0-is c.in-Ok-Some.ensures.plan points (points_there {D = g.W.Disk} old s at name c.args.layer points is)) (order_of c.in-Ok-Some.field-0 c.in-Ok-Some.edits c.in-Ok-Some.field-0-is c.in-Ok-Some.ensures.order))) c.amend.ensures.sound
+    let some = c.in-Ok-Some in
+    p s (mid_at {D = g.W.Disk} old s at book still law) name c.args.layer.number (Points c.args.layer.bucket (with_points points c.args.points.now))
+    (mid_point {D = g.W.Disk} old s at book still law name c.args.layer points is (λ all. with_points all c.args.points.now) some.field-0 some.edits some.field-0-is some.ensures.order some.ensures.plan)) c.amend.ensures.sound
 
 pub returns-in-Ok-Some-clause-goes_on : goal.returns-in-Ok-Some-clause-goes_on
 returns-in-Ok-Some-clause-goes_on g c =

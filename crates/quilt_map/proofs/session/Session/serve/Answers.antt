@@ -1,23 +1,11 @@
 use Rattle.std.proofs.Common.{refl, sym, subst}
 use Rattle.quilt_words.specs.declared.command.Command.{Command}
 use Rattle.quilt_words.specs.declared.command.Command.TheVariants as commands
-use Rattle.quilt_words.proofs.SpelledLaws.{spelled_built}
 use Rattle.quilt_map.specs.Commanding.{Answered}
 use Rattle.quilt_map.proofs.Asked.{if_ok, if_err}
-use Rattle.quilt_map.proofs.Built.{none_other}
 use Rattle.quilt_map.proofs.ChangeSteps.{goes_here}
-use Rattle.quilt_map.proofs.Commanded.{fitting_here, fitting_of, not_publish, not_upgrade, not_revert}
+use Rattle.quilt_map.proofs.Commanded.{fitting_here, fitting_of}
 use Rattle.quilt_map.proofs.session.Session.serve.Goals as goal
-
-pub unreachable-requires : goal.unreachable-requires
-unreachable-requires g c =
-    let it = c.args.command.now in
-    let d = c.in_default in
-    none_other it d.not-Region d.not-Drop d.not-Copy d.not-Layers d.not-Records d.not-Set d.not-Rect d.not-Raster d.not-At d.not-Show d.not-Leaves
-    d.not-Polygon d.not-Union d.not-Inter d.not-Diff d.not-Recolour d.not-Window d.not-Shift d.not-Buffer d.not-Area d.not-Perimeter
-    d.not-Points d.not-Put d.not-Del d.not-Scatter d.not-Find d.not-Within
-    d.not-Edition (not_publish it c.requires.quiet) (not_upgrade it c.requires.quiet) (not_revert it c.requires.forward) it refl
-    (spelled_built c.args.self.now.book.work.format c.args.self.now.book.last.level it c.requires.spelled)
 
 pub returns-in-Region-clause-answer : goal.returns-in-Region-clause-answer
 returns-in-Region-clause-answer g c =
@@ -170,12 +158,42 @@ returns-in-Del-clause-answer g c =
     if_ok _ _ c.del_point.result (λ reply p s at.
     subst (λ (x : Command). Answered {D = g.W.Disk} s x c.args.self.now c.del_point.new.self reply) (sym c.in-Del.is) (p s at)) c.del_point.ensures.answer
 
-pub returns-in-Find-clause-answer : goal.returns-in-Find-clause-answer
-returns-in-Find-clause-answer g c =
-    if_ok _ _ c.find_point.result (λ reply p s at.
-    subst (λ (x : Command). Answered {D = g.W.Disk} s x c.args.self.now c.find_point.new.self reply) (sym c.in-Find.is) (p s at)) c.find_point.ensures.answer
-
 pub returns-in-Scatter-clause-answer : goal.returns-in-Scatter-clause-answer
 returns-in-Scatter-clause-answer g c =
     if_ok _ _ c.scatter.result (λ reply p s at.
     subst (λ (x : Command). Answered {D = g.W.Disk} s x c.args.self.now c.scatter.new.self reply) (sym c.in-Scatter.is) (p s at)) c.scatter.ensures.answer
+
+pub returns-in-Blocks-clause-answer : goal.returns-in-Blocks-clause-answer
+returns-in-Blocks-clause-answer g c =
+    if_ok _ _ c.blocks-in-Blocks.result (λ reply p s at.
+    subst (λ (x : Command). Answered {D = g.W.Disk} s x c.args.self.now c.blocks-in-Blocks.new.self reply) (sym c.in-Blocks.is) (p s at)) c.blocks-in-Blocks.ensures.answer
+
+pub make_lines-requires : goal.make_lines-requires
+make_lines-requires g c =
+    let fits = (fitting_here {D = g.W.Disk} c.args.self.now c.args.command.now (commands.Lines c.in-Lines.l c.in-Lines.t) c.requires.spelled c.in-Lines.is).1 in
+    record { threshold = (fits.least, fits.most) }
+
+pub returns-in-Lines-clause-answer : goal.returns-in-Lines-clause-answer
+returns-in-Lines-clause-answer g c =
+    if_ok _ _ c.make_lines.result (λ reply p s at.
+    subst (λ (x : Command). Answered {D = g.W.Disk} s x c.args.self.now c.make_lines.new.self reply) (sym c.in-Lines.is) (p s at)) c.make_lines.ensures.answer
+
+pub returns-in-Line-clause-answer : goal.returns-in-Line-clause-answer
+returns-in-Line-clause-answer g c =
+    if_ok _ _ c.line.result (λ reply p s at.
+    subst (λ (x : Command). Answered {D = g.W.Disk} s x c.args.self.now c.line.new.self reply) (sym c.in-Line.is) (p s at)) c.line.ensures.answer
+
+pub returns-in-Unline-clause-answer : goal.returns-in-Unline-clause-answer
+returns-in-Unline-clause-answer g c =
+    if_ok _ _ c.unline.result (λ reply p s at.
+    subst (λ (x : Command). Answered {D = g.W.Disk} s x c.args.self.now c.unline.new.self reply) (sym c.in-Unline.is) (p s at)) c.unline.ensures.answer
+
+pub returns-in-Over-clause-answer : goal.returns-in-Over-clause-answer
+returns-in-Over-clause-answer g c =
+    if_ok _ _ c.over.result (λ reply p s at.
+    subst (λ (x : Command). Answered {D = g.W.Disk} s x c.args.self.now c.over.new.self reply) (sym c.in-Over.is) (p s at)) c.over.ensures.answer
+
+pub returns-in-Crossings-clause-answer : goal.returns-in-Crossings-clause-answer
+returns-in-Crossings-clause-answer g c =
+    if_ok _ _ c.crossings.result (λ reply p s at.
+    subst (λ (x : Command). Answered {D = g.W.Disk} s x c.args.self.now c.crossings.new.self reply) (sym c.in-Crossings.is) (p s at)) c.crossings.ensures.answer

@@ -1,0 +1,29 @@
+ghost use Rattle.std.specs.Prelude.{◌≡◌, ◌+◌, ◌≤◌, true};
+ghost use Rattle.quilt_types.specs.Plane.{is_window};
+
+use quilt_plain::Dice;
+use quilt_types::Window;
+use std::process::Abort;
+
+/// A drawn window of the square of the level.
+pub fn drawn_window(rt: &impl Abort, dice: &mut Dice, level: u8) -> Window
+    requires { level ≤ 12 }
+    ensures { is_window level result ≡ true }
+{
+    let side = 1_u16 << level;
+    let (x, w) = drawn_row(rt, dice, side);
+    let (y, h) = drawn_row(rt, dice, side);
+    Window { x, y, w, h }
+}
+
+/// A place of a row and how many places there are from it on, one at least.
+fn drawn_row(rt: &impl Abort, dice: &mut Dice, side: u16) -> (u16, u16)
+    ensures some { 1 ≤ result.1 }
+    ensures inside { result.0 + result.1 ≤ side }
+{
+    let from = dice.below(u32::from(side)) as u16;
+    assert!(rt; from < side);
+    let length = dice.below(u32::from(side - from)) as u16;
+    assert!(rt; length < side - from);
+    (from, length + 1)
+}

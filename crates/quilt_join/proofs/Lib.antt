@@ -1,0 +1,9 @@
+pub mod Collinear
+pub mod Fillings
+pub mod Gathered
+pub mod MeetingPoints
+pub mod SharedPoints
+pub mod Sharings
+pub mod SignLaw
+pub mod Spans
+pub mod Turns

@@ -1,0 +1,17 @@
+-- Two clauses of a result as one, and answers for want of memory.
+use Rattle.std.proofs.Common.{◌≡◌, Result, Ok, Err, IfOk, OnOk, sym, ◌∙◌}
+use Rattle.quilt_types.specs.declared.stop.Stop.{Stop}
+use Rattle.quilt_types.specs.declared.stop.Stop.TheVariants.{Memory, Damaged}
+use Rattle.quilt_btree.specs.Stops.{IsSound}
+
+pub on_ok_both : {T E : Type 0} (r : Result T E) (P Q R : Type 0) → (P → Q → R) → OnOk r P → OnOk r Q → OnOk r R
+on_ok_both (Ok v) P Q R f p q = f p q
+on_ok_both (Err e) P Q R f p q = tt
+
+pub if_ok_both : {T E : Type 0} (r : Result T E) (P Q R : T → Type 0) → ((x : T) → P x → Q x → R x) → IfOk r P → IfOk r Q → IfOk r R
+if_ok_both (Ok x) P Q R f p q = f x p q
+if_ok_both (Err e) P Q R f p q = tt
+
+-- no page is damaged where memory is wanting
+pub memory_sound : (e : Stop) → e ≡ Memory → IsSound e
+memory_sound e is page damaged = let other : Memory ≡ Damaged page = sym is ∙ damaged in cc

@@ -1,0 +1,42 @@
+use Rattle.std.proofs.Common.{refl, sym, ◌∙◌, subst, true≢false}
+use Rattle.std.specs.Prelude.{IsNone}
+use Rattle.std.specs.FinMap as finmap
+use Rattle.quilt_types.specs.declared.plane.Seg.{Seg}
+use Rattle.quilt_types.specs.Quadtrees.{after_remove}
+use Rattle.quilt_lines.specs.Plans.{IsLinePlan}
+use Rattle.quilt_lines.proofs.Lookups.{same_some, lines_along}
+use Rattle.quilt_lines.proofs.removing.plan_remove.Goals as goal
+
+pub returns-in-Err-clause-sound : goal.returns-in-Err-clause-sound
+returns-in-Err-clause-sound g c segs cover h = c.in-Err.ensures.sound c.args.t segs cover h
+
+pub returns-in-Ok-None-clause-none : goal.returns-in-Ok-None-clause-none
+returns-in-Ok-None-clause-none g c segs cover h = (
+  λ _. subst IsNone (sym c.in-Ok-None.field-0-is ∙ c.in-Ok-None.ensures.segment c.args.t segs cover h)
+      refl,
+  λ _. refl,
+)
+
+pub returns-in-Err-plan-clause-sound : goal.returns-in-Err-plan-clause-sound
+returns-in-Err-plan-clause-sound g c segs cover h =
+    c.in-Err-plan.ensures.sound segs cover (lines_along _ _ c.args.tree.now c.args.layer c.args.level c.args.t segs cover c.in-Ok-Some.ensures.told h)
+    (sym (c.in-Ok-Some.ensures.segment c.args.t segs cover h) ∙ c.in-Ok-Some.field-0-is)
+
+pub returns-in-Ok-clause-plan : goal.returns-in-Ok-clause-plan
+returns-in-Ok-clause-plan g c segs cover h s e =
+    let got = sym (c.in-Ok-Some.ensures.segment c.args.t segs cover h) ∙ c.in-Ok-Some.field-0-is in
+    let now = finmap.remove segs c.args.id in
+    subst (λ (z : Seg). IsLinePlan c.args.level c.args.layer c.args.t segs now cover (after_remove c.args.level c.args.t now cover z) c.in-Ok.edits)
+    (same_some c.in-Ok-Some.s s (sym got ∙ e))
+    (c.in-Ok.ensures.plan segs cover (lines_along _ _ c.args.tree.now c.args.layer c.args.level c.args.t segs cover c.in-Ok-Some.ensures.told h) got).plan
+
+pub returns-in-Ok-clause-none : goal.returns-in-Ok-clause-none
+returns-in-Ok-clause-none g c segs cover h = (
+  λ e. absurd (true≢false e),
+  λ none. subst IsNone (sym (c.in-Ok-Some.ensures.segment c.args.t segs cover h) ∙ c.in-Ok-Some.field-0-is) none,
+)
+
+pub returns-in-Ok-clause-fewer : goal.returns-in-Ok-clause-fewer
+returns-in-Ok-clause-fewer g c segs cover h =
+    (c.in-Ok.ensures.plan segs cover (lines_along _ _ c.args.tree.now c.args.layer c.args.level c.args.t segs cover c.in-Ok-Some.ensures.told h)
+    (sym (c.in-Ok-Some.ensures.segment c.args.t segs cover h) ∙ c.in-Ok-Some.field-0-is)).fewer

@@ -1,0 +1,143 @@
+ghost use Rattle.std.specs.Prelude.{◌≡◌, ◌↔◌, ◌≤◌, ◌<◌, ◌++◌, ◌∷◌, length, IfOk, IfErr, IfSome, IsErrOf, IsNone, Some};
+ghost use Rattle.std.specs.FinMap as finmap;
+ghost use Rattle.quilt_types.specs.declared.plane.Seg.{Seg as AnySeg};
+ghost use Rattle.quilt_types.specs.declared.stop.Stop.TheVariants.{Device};
+ghost use Rattle.quilt_types.specs.Plane.{whole};
+ghost use Rattle.quilt_types.specs.Layers.{SegMap, BlockSet, IsLineMap};
+ghost use Rattle.quilt_types.specs.Facts.{IsSegment};
+ghost use Rattle.quilt_types.specs.Quadtrees.{after_remove};
+ghost use Rattle.quilt_btree.specs.Stops.{HasStopCause, IsSound};
+ghost use Rattle.quilt_btree.specs.Trees.{IsRooted};
+ghost use Rattle.quilt_edits.specs.Edits.{AreInOrder};
+ghost use Rattle.quilt_lines.specs.Layers.{HasLines, fact_record};
+ghost use Rattle.quilt_lines.specs.Merges.{Becomes, IsRemovalPlan};
+ghost use Rattle.quilt_lines.specs.Plans.{IsLinePlan};
+
+use crate::merging::Settled;
+use crate::removal::Removal;
+use crate::segments::segment;
+use crate::square::whole_square;
+use quilt_btree::Tree;
+use quilt_edits::edits_of;
+use quilt_record::{Edits, Record, segment_record};
+use quilt_store::PageStore;
+use quilt_types::Stop;
+use std::alloc::{AllocError, Global};
+
+/// The records that go and those that come when the segment of an id goes from the line layer with this number, from 1 to 255, and
+/// this splitting threshold, from 1 to 32, of a map of this level, from 1 to 12: None exactly where the id is not there. Fewer
+/// records come than go.
+pub fn plan_remove<S: PageStore>(
+    alloc: Global,
+    store: &mut S,
+    tree: &Tree,
+    layer: u8,
+    level: u8,
+    t: u8,
+    id: u32,
+) -> Result<Option<Edits>, Stop>
+    requires rooted { IsRooted (S.size store.old) tree.now }
+    requires layer { 1 ≤ layer }
+    requires level { (1 ≤ level) × (level ≤ 12) }
+    requires threshold { (1 ≤ t) × (t ≤ 32) }
+    ensures plan { IfOk result (λ o. IfSome o (λ edits. (segs : SegMap) (cover : BlockSet) →
+        HasLines (S.told store.old) tree.now layer level t segs cover → (s : AnySeg) → finmap.get segs id ≡ Some s →
+        IsLinePlan level layer t segs (finmap.remove segs id) cover (after_remove level t (finmap.remove segs id) cover s) edits)) }
+    ensures none { IfOk result (λ o. (segs : SegMap) (cover : BlockSet) → HasLines (S.told store.old) tree.now layer level t segs cover →
+        IsNone o ↔ IsNone (finmap.get segs id)) }
+    ensures fewer { IfOk result (λ o. IfSome o (λ edits. (segs : SegMap) (cover : BlockSet) →
+        HasLines (S.told store.old) tree.now layer level t segs cover → length edits.add < length edits.remove)) }
+    ensures order { IfOk result (λ o. IfSome o AreInOrder) }
+    ensures sound { IfErr result (λ e. (segs : SegMap) (cover : BlockSet) → HasLines (S.told store.old) tree.now layer level t segs cover →
+        IsSound e) }
+    ensures cause { HasStopCause (S.faults store.old) (S.faults store.new) result }
+    ensures size { S.size store.new ≡ S.size store.old }
+    ensures told { S.told store.new ≡ S.told store.old }
+    ensures free { S.free store.new ≡ S.free store.old }
+    ensures later { S.later store.old store.new }
+    ensures changed { S.changed store.new ≤ S.changed store.old }
+{
+    match segment(store, tree, layer, level, id) {
+        Err(e) => Err(e),
+        Ok(None) => Ok(None),
+        Ok(Some(s)) => {
+            let removal = Removal {
+                layer,
+                level,
+                threshold: t,
+                id,
+                segment: s,
+            };
+            match removal.plan(alloc, store, tree) {
+                Err(e) => Err(e),
+                Ok(edits) => Ok(Some(edits)),
+            }
+        }
+    }
+}
+
+impl Removal {
+    /// The records that go and those that come.
+    fn plan<S: PageStore>(&self, alloc: Global, store: &mut S, tree: &Tree) -> Result<Edits, Stop>
+        requires rooted { IsRooted (S.size store.old) tree.now }
+        ensures plan { IfOk result (λ edits. (segs : SegMap) (cover : BlockSet) →
+            HasLines (S.told store.old) tree.now self.now.layer self.now.level self.now.threshold segs cover →
+            finmap.get segs self.now.id ≡ Some self.now.segment → IsRemovalPlan self.now segs cover edits) }
+        ensures order { IfOk result AreInOrder }
+        ensures sound { IfErr result (λ e. (segs : SegMap) (cover : BlockSet) →
+            HasLines (S.told store.old) tree.now self.now.layer self.now.level self.now.threshold segs cover →
+            finmap.get segs self.now.id ≡ Some self.now.segment → IsSound e) }
+        ensures cause { HasStopCause (S.faults store.old) (S.faults store.new) result }
+        ensures size { S.size store.new ≡ S.size store.old }
+        ensures told { S.told store.new ≡ S.told store.old }
+        ensures free { S.free store.new ≡ S.free store.old }
+        ensures later { S.later store.old store.new }
+        ensures changed { S.changed store.new ≤ S.changed store.old }
+    {
+        match self.settle(alloc, store, tree, whole_square(self.level)) {
+            Err(e) => Err(e),
+            Ok(all) => self.edits(alloc, &all),
+        }
+    }
+
+    /// The records that go and those that come, by what becomes of the whole square.
+    fn edits(&self, alloc: Global, all: &Settled) -> Result<Edits, Stop>
+        ensures plan { IfOk result (λ edits. (segs : SegMap) (cover : BlockSet) → IsLineMap self.now.level self.now.threshold segs cover →
+            finmap.get segs self.now.id ≡ Some self.now.segment → Becomes self.now segs cover self.now.level (whole self.now.level) all.now →
+            IsRemovalPlan self.now segs cover edits) }
+        ensures order { IfOk result AreInOrder }
+        ensures sound { IfErr result (λ e. (segs : SegMap) (cover : BlockSet) → IsLineMap self.now.level self.now.threshold segs cover →
+            finmap.get segs self.now.id ≡ Some self.now.segment → Becomes self.now segs cover self.now.level (whole self.now.level) all.now →
+            IsSound e) }
+        ensures no_fault { IsErrOf result Device → ⊥ }
+    {
+        let Ok(gone) = self.gone(alloc, all) else {
+            return Err(Stop::Memory);
+        };
+        let Ok(back) = back(alloc, all) else {
+            return Err(Stop::Memory);
+        };
+        edits_of(alloc, gone, back)
+    }
+
+    /// The records that go.
+    fn gone(&self, alloc: Global, all: &Settled) -> Result<Vec<Record>, AllocError>
+        ensures { IfOk result (λ v. v.items ≡
+            fact_record self.now.level self.now.layer (IsSegment self.now.id self.now.segment) ∷ all.now.going.items ++ all.now.staying.items) }
+    {
+        let mut gone = Vec::new(alloc);
+        gone.push(segment_record(self.layer, self.id, self.segment))?;
+        gone.extend_from_slice(&all.going)?;
+        gone.extend_from_slice(&all.staying)?;
+        Ok(gone)
+    }
+}
+
+/// The records that come.
+fn back(alloc: Global, all: &Settled) -> Result<Vec<Record>, AllocError>
+    ensures { IfOk result (λ v. v.items ≡ all.now.coming.items ++ all.now.emptied.items) }
+{
+    let mut back = Vec::from_slice(alloc, &all.coming)?;
+    back.extend_from_slice(&all.emptied)?;
+    Ok(back)
+}

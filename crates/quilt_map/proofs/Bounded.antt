@@ -1,0 +1,69 @@
+-- The pages that the answer to a command reads, as all calls of the session say it.
+use Rattle.std.proofs.Common.{◌≡◌, ℕ, ◌+◌, ◌≤◌, false, List, Option, Some, Result, Ok, Err, refl, sym, ap, subst, ◌==◌}
+use Rattle.std.specs.Prelude.{IfOk, if◌then◌else◌}
+use Rattle.quilt_types.specs.declared.plane.Pixel.{Pixel}
+use Rattle.quilt_types.specs.declared.plane.Window.{Window}
+use Rattle.quilt_types.specs.declared.stop.Stop.{Stop}
+use Rattle.quilt_words.specs.declared.command.Command.{Command}
+use Rattle.quilt_words.specs.declared.command.Command.TheVariants as commands
+use Rattle.quilt_store.specs.Store.{Tells as StoreTells}
+use Rattle.quilt_replies.specs.Answers.{State, layer, capacity_in, segs_in, cover_in}
+use Rattle.quilt_replies.specs.declared.reply.Reply.{Reply}
+use Rattle.quilt_map.specs.Reading.{is_bounded, IsAnsweredOk, IsPromised, pages_most, ReadsFew}
+use Rattle.quilt_map.specs.Selecting.{layer_asked, HasFound, IsAnswered, pages_for}
+
+-- nothing is promised of the other commands
+promised_not : (s : State) (c : Command) (r : Result Reply Stop) → is_bounded c ≡ false → IsPromised s c r → ⊥
+promised_not s (commands.At a p) r none promised = cc
+promised_not s (commands.Find p at) r none promised = cc
+promised_not s (commands.Cross l w) r none promised = cc
+promised_not s (commands.Clip l w) r none promised = cc
+promised_not s (commands.Nearest l at) r none promised = cc
+promised_not s (commands.Rank l at k) r none promised = cc
+promised_not s c r none promised = promised
+
+pub unbounded_else : (c : Command) → ((a : List ℕ) (p : Pixel) → c ≡ commands.At a p → ⊥) → ((p : List ℕ) (at : Pixel) → c ≡ commands.Find p at → ⊥)
+    → ((l : List ℕ) (w : Window) → c ≡ commands.Cross l w → ⊥) → ((l : List ℕ) (w : Window) → c ≡ commands.Clip l w → ⊥)
+    → ((l : List ℕ) (at : Pixel) → c ≡ commands.Nearest l at → ⊥) → ((l : List ℕ) (at : Pixel) (k : ℕ) → c ≡ commands.Rank l at k → ⊥) → is_bounded c ≡ false
+unbounded_else (commands.At a p) not_at not_find not_cross not_clip not_nearest not_rank = absurd (not_at a p refl)
+unbounded_else (commands.Find p at) not_at not_find not_cross not_clip not_nearest not_rank = absurd (not_find p at refl)
+unbounded_else (commands.Cross l w) not_at not_find not_cross not_clip not_nearest not_rank = absurd (not_cross l w refl)
+unbounded_else (commands.Clip l w) not_at not_find not_cross not_clip not_nearest not_rank = absurd (not_clip l w refl)
+unbounded_else (commands.Nearest l at) not_at not_find not_cross not_clip not_nearest not_rank = absurd (not_nearest l at refl)
+unbounded_else (commands.Rank l at k) not_at not_find not_cross not_clip not_nearest not_rank = absurd (not_rank l at k refl)
+unbounded_else c not_at not_find not_cross not_clip not_nearest not_rank = refl
+
+module _ (At : State → Type 0) (before now : Option ℕ) where
+  pub unbounded_reads : (c : Command) (r : Result Reply Stop) → is_bounded c ≡ false → (s : State) → At s → IsPromised s c r → ReadsFew s c before now
+  unbounded_reads c r none s at promised = absurd (promised_not s c r none promised)
+
+  pub at_reads : (c : Command) (a : List ℕ) (p : Pixel) (r : Result Reply Stop) → c ≡ commands.At a p → StoreTells (λ old new. new ≤ old + 6) before now
+      → (s : State) → At s → IsPromised s c r → ReadsFew s c before now
+  at_reads c a p r is h s at promised = subst (λ (x : Command). ReadsFew s x before now) (sym is) h
+
+  pub find_reads : (c : Command) (a : List ℕ) (p : Pixel) (r : Result Reply Stop) → c ≡ commands.Find a p
+      → ((s : State) → At s → StoreTells (λ old new. new ≤ old + (if capacity_in (layer s a) == 1 then 6 else 9)) before now)
+      → (s : State) → At s → IsPromised s c r → ReadsFew s c before now
+  find_reads c a p r is h s at promised = subst (λ (x : Command). ReadsFew s x before now) (sym is) (h s at)
+
+  -- what the call says that asks for segments
+  abbrev Costs : Command → List ℕ → Result Reply Stop → Type 0
+  Costs c l r =
+      IfOk r (λ reply. (s : State) → At s → HasFound c (segs_in (layer s l)) → IsAnswered reply
+      → StoreTells (λ old new. new ≤ old + pages_for s.last.level c (segs_in (layer s l)) (cover_in (layer s l))) before now)
+
+  costs_now : (c : Command) (l : List ℕ) (r : Result Reply Stop) → Costs c l r → (s : State) → At s → HasFound c (segs_in (layer s l)) → IsAnsweredOk r
+      → StoreTells (λ old new. new ≤ old + pages_for s.last.level c (segs_in (layer s l)) (cover_in (layer s l))) before now
+  costs_now c l (Ok reply) h s at found answered = h s at found answered
+  costs_now c l (Err e) h s at found answered = absurd answered
+
+  pub ask_reads : (c : Command) (l : List ℕ) (r : Result Reply Stop) → layer_asked c ≡ Some l → Costs c l r → (s : State) → At s → IsPromised s c r → ReadsFew s c before now
+  ask_reads (commands.Cross a w) l r is h s at promised =
+      let same : a ≡ l = cc in costs_now (commands.Cross a w) a r (subst (λ (x : List ℕ). Costs (commands.Cross a w) x r) (sym same) h) s at tt promised
+  ask_reads (commands.Clip a w) l r is h s at promised =
+      let same : a ≡ l = cc in costs_now (commands.Clip a w) a r (subst (λ (x : List ℕ). Costs (commands.Clip a w) x r) (sym same) h) s at tt promised
+  ask_reads (commands.Nearest a p) l r is h s at promised =
+      let same : a ≡ l = cc in costs_now (commands.Nearest a p) a r (subst (λ (x : List ℕ). Costs (commands.Nearest a p) x r) (sym same) h) s at tt promised
+  ask_reads (commands.Rank a p k) l r is h s at promised =
+      let same : a ≡ l = cc in costs_now (commands.Rank a p k) a r (subst (λ (x : List ℕ). Costs (commands.Rank a p k) x r) (sym same) h) s at promised.1 promised.0
+  ask_reads c l r is h s at promised = cc

@@ -1,0 +1,48 @@
+-- How many pages the answer to a command may cost.
+use Rattle.std.specs.Prelude.{◌≡◌, ℕ, ◌+◌, ◌≤◌, ◌==◌, Bool, true, false, Option, Result, Ok, Err, if◌then◌else◌}
+use Rattle.quilt_types.specs.declared.stop.Stop.{Stop}
+use Rattle.quilt_words.specs.declared.command.Command.{Command}
+use Rattle.quilt_words.specs.declared.command.Command.TheVariants as commands
+use Rattle.quilt_store.specs.Store.{Tells as StoreTells}
+use Rattle.quilt_replies.specs.Answers.{State, layer, capacity_in, segs_in, cover_in}
+use Rattle.quilt_replies.specs.declared.reply.Reply.{Reply}
+use Rattle.quilt_map.specs.Selecting.{HasFound, IsAnswered, pages_for}
+
+-- the commands that have a bound on the pages that they read
+abbrev pub is_bounded : Command → Bool
+is_bounded (commands.At a p) = true
+is_bounded (commands.Find p at) = true
+is_bounded (commands.Cross l w) = true
+is_bounded (commands.Clip l w) = true
+is_bounded (commands.Nearest l at) = true
+is_bounded (commands.Rank l at k) = true
+is_bounded command = false
+
+-- it is answered, and not refused
+abbrev pub IsAnsweredOk : Result Reply Stop → Type 0
+IsAnsweredOk (Ok reply) = IsAnswered reply
+IsAnsweredOk (Err e) = ⊥
+
+-- The bound holds of this answer: to a command that asks for segments where it is answered, and a ranking has as many as it asks for.
+abbrev pub IsPromised : State → Command → Result Reply Stop → Type 0
+IsPromised s (commands.At a p) r = Unit {0}
+IsPromised s (commands.Find p at) r = Unit {0}
+IsPromised s (commands.Cross l w) r = IsAnsweredOk r
+IsPromised s (commands.Clip l w) r = IsAnsweredOk r
+IsPromised s (commands.Nearest l at) r = IsAnsweredOk r
+IsPromised s (commands.Rank l at k) r = IsAnsweredOk r × HasFound (commands.Rank l at k) (segs_in (layer s l))
+IsPromised s command r = ⊥
+
+-- the bound: 6 pages for a colour, 6 or 9 for a point, and for segments what the blocks cost that the command may look into
+abbrev pub pages_most : State → Command → ℕ
+pages_most s (commands.At a p) = 6
+pages_most s (commands.Find p at) = if capacity_in (layer s p) == 1 then 6 else 9
+pages_most s (commands.Cross l w) = pages_for s.last.level (commands.Cross l w) (segs_in (layer s l)) (cover_in (layer s l))
+pages_most s (commands.Clip l w) = pages_for s.last.level (commands.Clip l w) (segs_in (layer s l)) (cover_in (layer s l))
+pages_most s (commands.Nearest l at) = pages_for s.last.level (commands.Nearest l at) (segs_in (layer s l)) (cover_in (layer s l))
+pages_most s (commands.Rank l at k) = pages_for s.last.level (commands.Rank l at k) (segs_in (layer s l)) (cover_in (layer s l))
+pages_most s command = 0
+
+-- it reads no more pages than that
+abbrev pub ReadsFew : State → Command → Option ℕ → Option ℕ → Type 0
+ReadsFew s command = StoreTells (λ before now. now ≤ before + pages_most s command)

@@ -1,0 +1,69 @@
+ghost use Rattle.std.specs.Prelude.{◌≡◌, ◌≤◌, ℕ, IfOk, IfErr};
+ghost use Rattle.quilt_types.specs.Layers.{Layer};
+ghost use Rattle.quilt_words.specs.declared.command.Command.TheVariants as commands;
+ghost use Rattle.quilt_btree.specs.Stops.{HasStopCause, IsSound};
+ghost use Rattle.quilt_spell.specs.Catalogued.{kind_of};
+ghost use Rattle.quilt_edition.specs.Books as books;
+ghost use Rattle.quilt_replies.specs.Answers.{State, sides_of};
+ghost use Rattle.quilt_replies.specs.Bodies.{HasCounts};
+ghost use Rattle.quilt_map.specs.Asking.{IsStill, KeepsAll};
+ghost use Rattle.quilt_map.specs.Commanding.{Answered};
+ghost use Rattle.quilt_map.specs.HeldLayers.{HoldsLayer};
+ghost use Rattle.quilt_map.specs.Sessions.{IsAtState};
+
+use crate::asking::told;
+use crate::lines::{LineLayer, line_counts};
+use crate::points::{PointLayer, point_counts};
+use crate::regions::{layer_under, read_region};
+use crate::session::Session;
+use quilt_edition::Book;
+use quilt_measure::histogram;
+use quilt_replies::{Reply, blocks_text};
+use quilt_types::{Code, Kind, Name, Stop};
+use quilt_world::{Disk, World};
+use std::alloc::Global;
+
+/// How many blocks of each side the work's layer with this number has, which is of this kind: those of side 2 ^ k at place k.
+fn count_blocks<W: Disk>(
+    alloc: Global,
+    book: &mut Book<W>,
+    number: u8,
+    kind: Kind,
+) -> Result<[u32; 13], Stop>
+    ensures counts { IfOk result (λ counts. (layer : Layer) → kind ≡ kind_of layer → HoldsLayer book.old number layer →
+        HasCounts counts (sides_of (books.work_of book.old).level layer)) }
+    ensures sound { IfErr result (λ e. (layer : Layer) → kind ≡ kind_of layer → 1 ≤ number → HoldsLayer book.old number layer → IsSound e) }
+    ensures still { IsStill book.old book.new }
+    ensures cause { HasStopCause (W.faults (books.world_of book.old)) (W.faults (books.world_of book.new)) result }
+{
+    match kind {
+        Kind::Region => match read_region(alloc, book, number) {
+            Err(e) => Err(e),
+            Ok(list) => Ok(histogram(&list)),
+        },
+        Kind::Points { bucket } => point_counts(book, PointLayer { number, bucket }),
+        Kind::Lines { threshold } => line_counts(book, LineLayer { number, threshold }),
+    }
+}
+
+impl<W: World> Session<W> {
+    /// How many blocks the layer has of each side, whatever its kind.
+    pub(crate) fn blocks(&mut self, name: &Name) -> Result<Reply, Stop>
+        ensures answer { IfOk result (λ reply. (s : State) → IsAtState self.old s → Answered s (commands.Blocks name.now) self.old self.new reply) }
+        ensures sound { IfErr result (λ stop. (s : State) → IsAtState self.old s → IsSound stop) }
+        ensures cause { HasStopCause (W.faults (books.world_of self.old.book)) (W.faults (books.world_of self.new.book)) result }
+        ensures keeps { KeepsAll self.old self.new }
+        ensures warm { self.new.warm ≡ self.old.warm }
+    {
+        match layer_under(self.catalog.entries(), name) {
+            None => Ok(Reply::No(Code::Unknown)),
+            Some((number, kind)) => {
+                let level = self.book.head().level;
+                match count_blocks(self.alloc, &mut self.book, number, kind) {
+                    Err(stop) => Err(stop),
+                    Ok(counts) => told(blocks_text(self.alloc, level, &counts)),
+                }
+            }
+        }
+    }
+}

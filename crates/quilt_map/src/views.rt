@@ -1,0 +1,177 @@
+ghost use Rattle.std.specs.Prelude.{◌≡◌, ℕ, ◌+◌, ◌≤◌, true, Some, map, All, IfOk, IfErr, IsNone, IsSome, IfSome};
+ghost use Rattle.std.specs.FinMap as finmap;
+ghost use Rattle.std.specs.List.Sorted.{IsStrictlyIncreasing};
+ghost use Rattle.quilt_types.specs.declared.stop.Stop.TheVariants as stops;
+ghost use Rattle.quilt_types.specs.Layers.{SegMap, BlockSet, is_in_square};
+ghost use Rattle.quilt_near.specs.Lines.{Lines};
+ghost use Rattle.quilt_store.specs.Store.{Tells as StoreTells};
+ghost use Rattle.quilt_btree.specs.Stops.{HasStopCause, IsSound};
+ghost use Rattle.quilt_edition.specs.Books.{world_of, work_of};
+ghost use Rattle.quilt_replies.specs.States.{Tells};
+ghost use Rattle.quilt_map.specs.Asking.{IsStill, reads_in};
+ghost use Rattle.quilt_map.specs.LineLayers.{HoldsLines};
+ghost use Rattle.quilt_map.specs.Selecting.{layer_asked, is_place, AsksSome, HasFound, IsAnswered, pages_for, selected, selected_over, crossed as crossed_of, Shows};
+
+use crate::asking::told;
+use crate::changing::DAMAGED;
+use crate::lines::LineLayer;
+use crate::regions::tree_of;
+use quilt_blocks::LeafList;
+use quilt_edition::Book;
+use quilt_join::crossings;
+use quilt_lines::{LineView, scan};
+use quilt_near::{SegList, nearest};
+use quilt_rank::ranked;
+use quilt_replies::{Reply, clips_text, ids_text, nearest_text, pairs_text, ranks_text, segs_text};
+use quilt_select::{clipped, cross, over};
+use quilt_types::{Code, Seg, Stop};
+use quilt_words::Command;
+use quilt_world::Disk;
+use std::alloc::Global;
+use std::thread::Threads;
+
+/// The work's line layer, block by block: None where no layer has its number.
+fn view_of<W: Disk>(book: &Book<W>, layer: LineLayer) -> Option<LineView>
+    ensures level { IfSome result (λ view. view.level ≡ (work_of book.now).level) }
+    ensures shows { IfSome result (λ view. (segs : SegMap) (cover : BlockSet) → HoldsLines book.now layer segs cover → Shows book.now view (record { segs = segs; cover = cover })) }
+    ensures none { IsNone result → layer.number ≡ 0 }
+{
+    if layer.number == 0 {
+        return None;
+    }
+    let head = book.head();
+    Some(LineView::new(&tree_of(&head), layer.number, head.level))
+}
+
+/// The reply to a command that asks for segments by a window or a pixel.
+fn select<W: Disk>(
+    alloc: Global,
+    book: &mut Book<W>,
+    view: &LineView,
+    command: &Command,
+) -> Result<Reply, Stop>
+    requires asks { IsSome (layer_asked command.now) }
+    requires inside { is_place view.now.level command.now ≡ true }
+    requires some { AsksSome command.now }
+    ensures reply { IfOk result (λ reply. (l : Lines) → Shows book.old view.now l → Tells reply (selected command.now l.segs)) }
+    ensures reads { IfOk result (λ reply. (l : Lines) → Shows book.old view.now l → HasFound command.now l.segs → IsAnswered reply →
+        StoreTells (λ old new. new ≤ old + pages_for view.now.level command.now l.segs l.cover) (reads_in book.old) (reads_in book.new)) }
+    ensures sound { IfErr result (λ e. (l : Lines) → Shows book.old view.now l → IsSound e) }
+    ensures still { IsStill book.old book.new }
+    ensures cause { HasStopCause (W.faults (world_of book.old)) (W.faults (world_of book.new)) result }
+{
+    match command {
+        Command::Cross { w, .. } => match cross(alloc, view, book, *w) {
+            Err(e) => Err(e),
+            Ok(list) => told(segs_text(alloc, list.items())),
+        },
+        Command::Clip { w, .. } => match clipped(alloc, view, book, *w) {
+            Err(e) => Err(e),
+            Ok(clips) => told(clips_text(alloc, clips.items())),
+        },
+        Command::Nearest { at, .. } => match nearest(alloc, view, book, *at) {
+            Err(e) => Err(e),
+            Ok(None) => Ok(Reply::No(Code::Absent)),
+            Ok(Some((id, far))) => told(nearest_text(alloc, id, far)),
+        },
+        Command::Rank { at, k, .. } => match ranked(alloc, view, book, *at, *k) {
+            Err(e) => Err(e),
+            Ok(ranks) => {
+                if ranks.items().is_empty() {
+                    return Ok(Reply::No(Code::Absent));
+                }
+                told(ranks_text(alloc, ranks.items()))
+            }
+        },
+        _ => unreachable!(),
+    }
+}
+
+/// The reply to a command that asks for segments of the work's line layer by a window or a pixel.
+pub(crate) fn select_in<W: Disk>(
+    alloc: Global,
+    book: &mut Book<W>,
+    layer: LineLayer,
+    command: &Command,
+) -> Result<Reply, Stop>
+    requires asks { IsSome (layer_asked command.now) }
+    requires inside { is_place (work_of book.old).level command.now ≡ true }
+    requires some { AsksSome command.now }
+    ensures reply { IfOk result (λ reply. (segs : SegMap) (cover : BlockSet) → HoldsLines book.old layer segs cover → Tells reply (selected command.now segs)) }
+    ensures reads { IfOk result (λ reply. (segs : SegMap) (cover : BlockSet) → HoldsLines book.old layer segs cover → HasFound command.now segs → IsAnswered reply →
+        StoreTells (λ old new. new ≤ old + pages_for (work_of book.old).level command.now segs cover) (reads_in book.old) (reads_in book.new)) }
+    ensures sound { IfErr result (λ e. (segs : SegMap) (cover : BlockSet) → 1 ≤ layer.number → HoldsLines book.old layer segs cover → IsSound e) }
+    ensures still { IsStill book.old book.new }
+    ensures cause { HasStopCause (W.faults (world_of book.old)) (W.faults (world_of book.new)) result }
+{
+    match view_of(book, layer) {
+        None => Err(DAMAGED),
+        Some(view) => select(alloc, book, &view, command),
+    }
+}
+
+/// The reply that lists the ids of the segments of the work's line layer that meet the square of a coloured pixel.
+pub(crate) fn select_over<W: Disk>(
+    alloc: Global,
+    book: &mut Book<W>,
+    layer: LineLayer,
+    list: &LeafList,
+) -> Result<Reply, Stop>
+    requires { list.now.level ≡ (work_of book.old).level }
+    ensures reply { IfOk result (λ reply. (segs : SegMap) (cover : BlockSet) → HoldsLines book.old layer segs cover → Tells reply (selected_over list.now.level list.now.grid segs)) }
+    ensures sound { IfErr result (λ e. (segs : SegMap) (cover : BlockSet) → 1 ≤ layer.number → HoldsLines book.old layer segs cover → IsSound e) }
+    ensures still { IsStill book.old book.new }
+    ensures cause { HasStopCause (W.faults (world_of book.old)) (W.faults (world_of book.new)) result }
+{
+    match view_of(book, layer) {
+        None => Err(DAMAGED),
+        Some(view) => match over(alloc, &view, book, list) {
+            Err(e) => Err(e),
+            Ok(found) => told(ids_text(alloc, found.items())),
+        },
+    }
+}
+
+/// The segments of the work's line layer, by id.
+pub(crate) fn read_segments<W: Disk>(
+    alloc: Global,
+    book: &mut Book<W>,
+    layer: LineLayer,
+) -> Result<SegList, Stop>
+    ensures segments { IfOk result (λ list. (segs : SegMap) (cover : BlockSet) → HoldsLines book.old layer segs cover → list ≡ finmap.entries segs) }
+    ensures inside { IfOk result (λ list. All (λ e. is_in_square (work_of book.old).level e.1 ≡ true) list) }
+    ensures order { IfOk result (λ list. IsStrictlyIncreasing (map (λ e. e.0) list)) }
+    ensures sound { IfErr result (λ e. (segs : SegMap) (cover : BlockSet) → 1 ≤ layer.number → HoldsLines book.old layer segs cover → IsSound e) }
+    ensures still { IsStill book.old book.new }
+    ensures cause { HasStopCause (W.faults (world_of book.old)) (W.faults (world_of book.new)) result }
+{
+    if layer.number == 0 {
+        return Err(DAMAGED);
+    }
+    let head = book.head();
+    scan(alloc, book, &tree_of(&head), layer.number, head.level)
+}
+
+/// The reply that lists the pairs of a segment of the first list and one of the second that share a point, by their ids. Each list
+/// has segments of the square of a level from 1 to 12, under ids that rise.
+pub(crate) fn crossed<R: Threads + Sync>(
+    rt: &R,
+    alloc: Global,
+    level: u8,
+    a: &[(u32, Seg)],
+    b: &[(u32, Seg)],
+) -> Result<Reply, Stop>
+    requires level { (1 ≤ level) × (level ≤ 12) }
+    requires first_ids { IsStrictlyIncreasing (map (λ e. e.0) a.now) }
+    requires second_ids { IsStrictlyIncreasing (map (λ e. e.0) b.now) }
+    requires first_ends { All (λ e. is_in_square level e.1 ≡ true) a.now }
+    requires second_ends { All (λ e. is_in_square level e.1 ≡ true) b.now }
+    ensures reply { IfOk result (λ reply. (first second : SegMap) → finmap.entries first ≡ a.now → finmap.entries second ≡ b.now → Tells reply (crossed_of first second)) }
+    ensures memory { IfErr result (λ stop. stop ≡ stops.Memory) }
+{
+    match crossings(rt, alloc, level, a, b) {
+        Err(_) => Err(Stop::Memory),
+        Ok(None) => Ok(Reply::No(Code::Many)),
+        Ok(Some(pairs)) => told(pairs_text(alloc, pairs.items())),
+    }
+}
