@@ -1,16 +1,18 @@
 -- What the program promises of a run over a file, told or not, whichever source its commands come from.
-use Rattle.std.proofs.Common.{◌≡◌, ◌⊎◌, inl, inr, ℕ, ◌≤◌, ◌<◌, Bool, true, List, [], ◌∷◌, ◌++◌, length, Option, Some, None, refl, sym, ◌∙◌, ap, subst, arith, append-nil}
+use Rattle.std.proofs.Common.{◌≡◌, ◌⊎◌, inl, inr, ℕ, ◌≤◌, ◌<◌, Bool, true, List, [], ◌∷◌, ◌++◌, length, Option, Some, None, Result, Ok, Err, refl, sym, ◌∙◌, ap, subst, arith, append-nil}
 use Rattle.std.specs.Option.{IfSome}
 use Rattle.quilt_types.specs.Layers.{Edition}
 use Rattle.quilt_types.specs.declared.stop.Stop.{Stop}
 use Rattle.quilt_types.specs.declared.stop.Stop.TheVariants as stops
 use Rattle.quilt_world.specs.Causes.{Rose}
 use Rattle.quilt_world.specs.Disk.{Pages, Log, CanLeave}
-use Rattle.quilt_world.specs.Doors.{OpensAt}
+use Rattle.quilt_world.specs.Doors.{OpensAt, attached}
 use Rattle.quilt_world.specs.Home.{IsMapFile, home}
 use Rattle.quilt_world.specs.Stops.{LeavesNow}
 use Rattle.quilt_world.specs.Tale.{Tale, Goes, taken_bytes, Begins}
 use Rattle.quilt_world.specs.declared.disk.Disk as disk
+use Rattle.quilt_world.specs.declared.disk.Fault.{Fault}
+use Rattle.quilt_world.specs.declared.world.Attached.{Attached}
 use Rattle.quilt_world.specs.declared.disk.Door.{Door}
 use Rattle.quilt_world.specs.declared.disk.Door.TheVariants as doors
 use Rattle.quilt_edition.specs.Stands.{Stands, IsDamagePage}
@@ -25,7 +27,7 @@ use Rattle.quilt_top.specs.declared.orders.Source.{Source}
 use Rattle.quilt_top.specs.declared.orders.Source.TheVariants as sources
 use Rattle.quilt_top.specs.declared.run.End.{End}
 use Rattle.quilt_top.specs.declared.run.End.TheVariants as ends
-use Rattle.quilt_top.specs.Headline.{IsOneOf, RunsInput, RunsTrial, IsNoMap, StandsWithoutLines, OpensSafely, FindsFile, allowed_doors, is_allowed, may_end_run, may_end_trial, HasEndCause, KeepsPromises, WhereTold}
+use Rattle.quilt_top.specs.Headline.{IsOneOf, RunsInput, RunsTrial, IsNoMap, OpensSafely, FindsFile, allowed_doors, is_allowed, may_end_run, may_end_trial, HasEndCause, KeepsPromises, WhereTold}
 use Rattle.quilt_top.specs.Meanings.{run_from}
 use Rattle.quilt_top.specs.Openings.{Keeps, RunsTo, run_ends, is_run_end, end_of_stop}
 use Rattle.quilt_top.specs.TextRun.{IsUntold}
@@ -74,7 +76,7 @@ cause_by (sources.Trial seed count) path pool before now door end cause short = 
   failed = cause.failed;
   shut = cause.shut;
   doors = cause.doors;
-  ends = allowed_trial end cause.ends (λ much. let is = short much in cc);
+  ends = allowed_trial end cause.ends (λ much. let is : ◌≡◌ {A = Source} (sources.Trial seed count) sources.Input = short much in cc);
 }
 
 -- ---- what is promised
@@ -88,7 +90,7 @@ Runs sources.Input pages first rose end before after = RunsInput pages first bef
 Runs (sources.Trial seed count) pages first rose end before after = RunsTrial pages first seed count rose end before after
 
 promised : (source : Source) (path : List ℕ) (pool : ℕ) (rose : Type 0) (now : Door) (end : End) (t w : Tale) → FindsFile path now end t w → (now ≡ doors.Ready → OpensSafely end w)
-    → (now ≡ doors.Ready → (pages : ℕ) (first : Edition) → IsMapFile w.start pages → StandsWithoutLines w.start first → Runs source pages first rose end t w) → Promise source path pool rose now end t w
+    → (now ≡ doors.Ready → (pages : ℕ) (first : Edition) → IsMapFile w.start pages → Stands w.start first → Runs source pages first rose end t w) → Promise source path pool rose now end t w
 promised sources.Input path pool rose now end t w finds opens runs = (finds, opens, runs)
 promised (sources.Trial seed count) path pool rose now end t w finds opens runs = (finds, opens, runs)
 
@@ -97,9 +99,6 @@ not_made door is e = let f : ◌≡◌ {A = Door} doors.Ready doors.Made = sym i
 
 not_taken : (door : Door) → door ≡ doors.Ready → door ≡ doors.Taken → ⊥
 not_taken door is e = let f : ◌≡◌ {A = Door} doors.Ready doors.Taken = sym is ∙ e in cc
-
-same_damage : (p q : ℕ) → ◌≡◌ {A = End} (ends.Damaged p) (ends.Damaged q) → p ≡ q
-same_damage p q e = cc
 
 one_size : (image : Pages) (n m : ℕ) → IsMapFile image n → IsMapFile image m → n ≡ m
 one_size image n m a b = omega (arith, a.size, b.size)
@@ -112,13 +111,25 @@ one_run end (inl e) = inr (inr (inl e))
 one_run end (inr (inl e)) = inr (inr (inr (inl e)))
 one_run end (inr (inr e)) = absurd e
 
--- where the file was not found
-pub not_ready : (source : Source) (path : List ℕ) (pool : ℕ) (rose : Type 0) (now : Door) (end : End) (o n : Option Tale) → (now ≡ doors.Ready → ⊥) → (now ≡ doors.Made → ⊥) → (now ≡ doors.Taken → ⊥) → Goes (OpensAt path now) o n
+-- where the file was not opened
+not_ready : (source : Source) (path : List ℕ) (pool : ℕ) (rose : Type 0) (now : Door) (end : End) (o n : Option Tale) → (now ≡ doors.Ready → ⊥) → (now ≡ doors.Made → ⊥) → (now ≡ doors.Taken → ⊥) → Goes (OpensAt path now) o n
     → WhereTold (Promise source path pool rose now end) o n
 not_ready source path pool rose now end None n nr nm nt opens = tt
 not_ready source path pool rose now end (Some t) None nr nm nt opens = absurd opens
 not_ready source path pool rose now end (Some t) (Some u) nr nm nt opens =
     promised source path pool rose now end t u (finds_opened path now now end t u u refl nm nt opens (λ is. opens.fresh.log)) (λ e. absurd (nr e)) (λ e. absurd (nr e))
+
+pub attach_failed : (source : Source) (path : List ℕ) (pool : ℕ) (rose : Type 0) (now : Door) (end : End) (r : Result Attached Fault) (o n : Option Tale) → now ≡ attached r → ((a : Attached) → r ≡ Ok a → ⊥) → Goes (OpensAt path now) o n
+    → WhereTold (Promise source path pool rose now end) o n
+attach_failed source path pool rose now end (Ok a) o n door failed opens = absurd (failed a refl)
+attach_failed source path pool rose now end (Err e) o n door failed opens =
+    not_ready source path pool rose now end o n (λ x. let f : ◌≡◌ {A = Door} doors.Failed doors.Ready = sym door ∙ x in cc) (λ x. let f : ◌≡◌ {A = Door} doors.Failed doors.Made = sym door ∙ x in cc)
+    (λ x. let f : ◌≡◌ {A = Door} doors.Failed doors.Taken = sym door ∙ x in cc) opens
+
+pub file_missing : (source : Source) (path : List ℕ) (pool : ℕ) (rose : Type 0) (now : Door) (end : End) (o n : Option Tale) → now ≡ doors.Missing → Goes (OpensAt path now) o n → WhereTold (Promise source path pool rose now end) o n
+file_missing source path pool rose now end o n door opens =
+    not_ready source path pool rose now end o n (λ x. let f : ◌≡◌ {A = Door} doors.Missing doors.Ready = sym door ∙ x in cc) (λ x. let f : ◌≡◌ {A = Door} doors.Missing doors.Made = sym door ∙ x in cc)
+    (λ x. let f : ◌≡◌ {A = Door} doors.Missing doors.Taken = sym door ∙ x in cc) opens
 
 -- a run that was not begun
 quiet : (source : Source) (pages : ℕ) (first : Edition) (rose : Type 0) (end : End) (t v : Tale) → v.input ≡ t.input → IsUntold v
@@ -145,8 +156,8 @@ module _ (source : Source) (path : List ℕ) (pool : ℕ) (rose : Type 0) (door 
       let new = opens.fresh.log in
       let start = keeps.pages.file.start in
       let untold = opened_untold u v new keeps in
-      let early = λ (pages : ℕ) (first : Edition) (file : IsMapFile v.start pages) (stands : StandsWithoutLines v.start first) (so_far : Log) (image : Pages) (front : Begins v.log so_far) (left : CanLeave v.start so_far image).
-      stands_as pages u.start image first (subst (λ (p : Pages). IsMapFile p pages) start file) (subst (λ (p : Pages). Stands p first) start stands.stands)
+      let early = λ (pages : ℕ) (first : Edition) (file : IsMapFile v.start pages) (stands : Stands v.start first) (so_far : Log) (image : Pages) (front : Begins v.log so_far) (left : CanLeave v.start so_far image).
+      stands_as pages u.start image first (subst (λ (p : Pages). IsMapFile p pages) start file) (subst (λ (p : Pages). Stands p first) start stands)
       (home_kept u v pages new keeps (subst (λ (p : Pages). IsMapFile p pages) start file) so_far image front left) in
       promised source path pool rose now end t v
       (finds end t u v opens (λ e. absurd (no_start_end end is e)))
@@ -208,39 +219,42 @@ abbrev Ends : Source → ℕ → State → End → Tale → Tale → Type 0
 Ends sources.Input n s end old new = RunsTo n s end old new
 Ends (sources.Trial seed count) n s end old new = TriesTo n (trial_run n s seed count) end old new
 
+-- what early stops leave
+abbrev Early : Edition → Tale → Type 0
+Early E v = (so_far : Log) (image : Pages) → Begins v.log so_far → CanLeave v.start so_far image → Stands image E
+
+opens_by : (source : Source) (n : ℕ) (E : Edition) (end : End) (v w : Tale) → (end ≡ ends.TooMuch → source ≡ sources.Input) → Ends source E.level (first_state n E) end v w → IsUntold v → Early E v → IsMapFile w.start n
+    → Stands w.start E → IsOneOf end run_ends → OpensSafely end w
+opens_by sources.Input n E end v w short so untold early file stands one = opens_map n E end v w so untold file stands one
+opens_by (sources.Trial seed count) n E end v w short so untold early file stands one =
+    opens_tried n E seed count end v w untold so early file stands (run_end end one) one (λ much. let is : ◌≡◌ {A = Source} (sources.Trial seed count) sources.Input = short much in cc)
+
+runs_by : (source : Source) (n : ℕ) (E : Edition) (end : End) (rose : Type 0) (t v w : Tale) → Ends source E.level (first_state n E) end v w → IsUntold v → Early E v → v.input ≡ t.input → IsOneOf end run_ends → (end ≡ ends.Device → rose)
+    → Runs source n E rose end t w
+runs_by sources.Input n E end rose t v w so untold early input one device = subst (λ (i : List ℕ). RunsInput n E i rose end w) input (runs_input n E end v w so untold early rose one device)
+runs_by (sources.Trial seed count) n E end rose t v w so untold early input one device = runs_trial n E seed count end v w untold so early rose t input one device
+
 module _ (path : List ℕ) (pool : ℕ) (rose : Type 0) (door now : Door) (ready : door ≡ doors.Ready) (same : now ≡ door) where
   ran_over : (source : Source) (end : End) (n : ℕ) (E : Edition) (t u v w : Tale) → (end ≡ ends.Device → rose) → (end ≡ ends.TooMuch → source ≡ sources.Input) → IsOneOf end run_ends → OpensAt path door t u → Keeps u v → IsMapFile u.start n
-      → StandsWithoutLines u.start E → w.start ≡ v.start → Ends source E.level (first_state n E) end v w → Promise source path pool rose now end t w
+      → Stands u.start E → w.start ≡ v.start → Ends source E.level (first_state n E) end v w → Promise source path pool rose now end t w
   ran_over source end n E t u v w device short one opens keeps file stands kept so =
       let new = opens.fresh.log in
       let untold = opened_untold u v new keeps in
       let input = keeps.input ∙ opens.fresh.input in
       let start = kept ∙ keeps.pages.file.start in
       let file_w : IsMapFile w.start n = subst (λ (p : Pages). IsMapFile p n) (sym start) file in
-      let stands_w : StandsWithoutLines w.start E = subst (λ (p : Pages). StandsWithoutLines p E) (sym start) stands in
-      let early = λ (so_far : Log) (image : Pages) (front : Begins v.log so_far) (left : CanLeave v.start so_far image).
-      stands_as n u.start image E file stands.stands (home_kept u v n new keeps file so_far image front left) in
+      let stands_w : Stands w.start E = subst (λ (p : Pages). Stands p E) (sym start) stands in
+      let early : Early E v = λ so_far image front left. stands_as n u.start image E file stands (home_kept u v n new keeps file so_far image front left) in
       promised source path pool rose now end t w
       (finds source path pool rose door now ready same end t u w opens (λ is. absurd (no_start_end end (run_end end one) is)))
-      (λ e. opens_by source short so untold early file_w stands_w)
+      (λ e. opens_by source n E end v w short so untold early file_w stands_w one)
       (λ e pages first its stands_too. subst (λ k. Runs source k first rose end t w) (one_size w.start n pages file_w its)
-      (subst (λ (f : Edition). Runs source n f rose end t w) (stands_once w.start E first stands_w.stands stands_too.stands) (runs_by source so untold early input)))
-    where
-      Early : Type 0
-      Early = (so_far : Log) (image : Pages) → Begins v.log so_far → CanLeave v.start so_far image → Stands image E
-
-      opens_by : (src : Source) → (end ≡ ends.TooMuch → src ≡ sources.Input) → Ends src E.level (first_state n E) end v w → IsUntold v → Early → IsMapFile w.start n → StandsWithoutLines w.start E → OpensSafely end w
-      opens_by sources.Input short so untold early file_w stands_w = opens_map n E end v w so untold file_w stands_w one
-      opens_by (sources.Trial seed count) short so untold early file_w stands_w = opens_tried n E seed count end v w untold so early file_w stands_w (run_end end one) one (λ much. let is = short much in cc)
-
-      runs_by : (src : Source) → Ends src E.level (first_state n E) end v w → IsUntold v → Early → v.input ≡ t.input → Runs src n E rose end t w
-      runs_by sources.Input so untold early input = subst (λ (i : List ℕ). RunsInput n E i rose end w) input (runs_input n E end v w so untold early rose one device)
-      runs_by (sources.Trial seed count) so untold early input = runs_trial n E seed count end v w untold so early rose t input one device
+      (subst (λ (f : Edition). Runs source n f rose end t w) (stands_once w.start E first stands_w stands_too) (runs_by source n E end rose t v w so untold early input one device)))
 
   module _ {W : Type 0} {D : disk.Ghosts W} (session : Session W D) where
     -- what opening found
     abbrev Found : Option Tale → Type 0
-    Found m = IfSome m (λ t. (k : ℕ) × IsMapFile t.start k × (e : Edition) × StandsWithoutLines t.start e × IsAt session (first_state k e))
+    Found m = IfSome m (λ t. (k : ℕ) × IsMapFile t.start k × (e : Edition) × Stands t.start e × IsAt session (first_state k e))
 
     pub ran : (end : End) (o m n p : Option Tale) → (end ≡ ends.Device → rose) → ((s : State) → IsAt session s → IsOneOf end run_ends) → Goes (OpensAt path door) o m → Goes Keeps m n → Found m
         → ((s : State) → IsAt session s → Goes (RunsTo (level_of session) s end) n p) → WhereTold (Promise sources.Input path pool rose now end) o p

@@ -37,7 +37,7 @@ use Rattle.quilt_top.specs.declared.halt.Halt.{Halt}
 use Rattle.quilt_top.specs.declared.halt.Halt.TheVariants as halts
 use Rattle.quilt_top.specs.declared.run.End.{End}
 use Rattle.quilt_top.specs.declared.run.End.TheVariants as ends
-use Rattle.quilt_top.specs.Headline.{IsOneOf, ComesExactly, IsStop, IsEdition, WritesFew, all_done, RunsText, IsPrompt, input_limit, told_by_replies, RunsInput, IsNoMap, StandsWithoutLines, StandsForNothing, OpensSafely, FindsFile, may_end_run, HasEndCause, KeepsPromises, WhereTold}
+use Rattle.quilt_top.specs.Headline.{IsOneOf, ComesExactly, IsStop, IsEdition, WritesFew, all_done, RunsText, IsPrompt, input_limit, told_by_replies, RunsInput, IsNoMap, StandsForNothing, OpensSafely, FindsFile, may_end_run, HasEndCause, KeepsPromises, WhereTold}
 use Rattle.quilt_top.specs.Words.{Run as RunText}
 use Rattle.quilt_top.specs.Openings.{Keeps, RunsTo, run_ends, is_run_end, end_of, end_of_stop}
 
@@ -188,7 +188,7 @@ module _ (pages : ℕ) (first : Edition) (end : End) (v w : Tale) (so : RunsTo f
   past_is (inr (inr (inr (inr (inl e))))) past = inl e
   past_is (inr (inr (inr (inr (inr e))))) past = absurd e
 
-  pub opens_map : IsMapFile w.start pages → StandsWithoutLines w.start first → IsOneOf end run_ends → OpensSafely end w
+  pub opens_map : IsMapFile w.start pages → Stands w.start first → IsOneOf end run_ends → OpensSafely end w
   opens_map file stands one = record {
     not_map = record { only = λ is. absurd (other_end end ends.NotMap (run_end end one) refl is); always = λ none. absurd (none pages file) };
     damaged = λ page is. absurd (not_damaged end page one is);

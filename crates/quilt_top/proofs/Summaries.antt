@@ -1,11 +1,15 @@
 -- The summary of a trial, by the numbers that it tells.
-use Rattle.std.proofs.Common.{◌≡◌, ℕ, ◌+◌, ◌-◌, ◌==◌, ◌&&◌, Bool, true, false, cond, map, append-nil, List, [], ◌∷◌, ◌++◌, length, Option, Some, None, unwrap_or, codes, decimal, refl, sym, ◌∙◌, ap, ap₂, arith, append_assoc, length-map}
+use Rattle.std.proofs.Common.{◌≡◌, ℕ, ◌+◌, ◌-◌, ◌==◌, ◌&&◌, Bool, true, false, cond, map, append-nil, List, [], ◌∷◌, ◌++◌, length, Option, IfSome, subst, Some, None, unwrap_or, codes, decimal, refl, sym, ◌∙◌, ap, ap₂, arith, append_assoc, length-map}
 use Rattle.std.specs.List.{count_by, list_all}
 use Rattle.std.proofs.lemmas.Bool.{ne_eqb}
 use Rattle.std.proofs.lemmas.List.Sums.{count_by-le-length, sum_by-cons}
 use Rattle.std.specs.Prelude.{slice_get}
 use Rattle.quilt_types.specs.Facts.{records}
 use Rattle.quilt_types.specs.Layers.{Map, Edition}
+use Rattle.quilt_world.specs.Disk.{Pages}
+use Rattle.quilt_world.specs.Stops.{LeavesNow}
+use Rattle.quilt_world.specs.Tale.{Tale}
+use Rattle.quilt_edition.specs.Stands.{Stands}
 use Rattle.quilt_words.specs.Items.{Group, held, items_of}
 use Rattle.quilt_lang.specs.Reading.{Same}
 use Rattle.quilt_lang.specs.Trials.{line}
@@ -15,8 +19,9 @@ use Rattle.quilt_map.proofs.TextLaws.{run_same}
 use Rattle.quilt_top.specs.Headline.{all_done, last_number, summary}
 use Rattle.quilt_top.specs.Replies.{held_at, outcome, state_then, state_after, replies_from}
 use Rattle.quilt_top.specs.TextRun.{run_in}
-use Rattle.quilt_top.specs.Trying.{summary_of, Tried}
+use Rattle.quilt_top.specs.Trying.{StandsForLast, summary_of, Tried}
 use Rattle.quilt_top.specs.declared.trial_run.Tally.{Tally}
+use Rattle.quilt_top.proofs.Exits.{last_is}
 use Rattle.quilt_top.proofs.Places.{edition_first}
 use Rattle.quilt_top.proofs.Said.{run_replies, length-replies, level_after}
 
@@ -95,3 +100,16 @@ module _ (n : ℕ) (text : List ℕ) (s now : State) (at : s.last.level ≡ n) (
       ap (λ k. summary_of k tally.refused count edition) done ∙ ap (λ k. summary_of (count_by is_done (replies_of r)) k count edition) refused
       ∙ ap (λ k. summary_of (count_by is_done (replies_of r)) (length (replies_of r) - count_by is_done (replies_of r)) k edition) held_
       ∙ ap (λ k. summary_of (count_by is_done (replies_of r)) (length (replies_of r) - count_by is_done (replies_of r)) (records n r.work) k) last
+
+  -- ---- an image
+
+  pub last_of : (image : Pages) → Stands image now.last → StandsForLast r image
+  last_of image stands = last_is n s at text so.items all image (subst (λ (x : State). Stands image x.last) so.state stands)
+
+  pub last_leaves : (o : Option Tale) → IfSome o (λ t. LeavesNow t (λ image. Stands image now.last)) → IfSome o (λ t. LeavesNow t (StandsForLast r))
+  last_leaves None leaves = tt
+  last_leaves (Some t) leaves = λ image left. last_of image (leaves image left)
+
+  pub last_seen : (o : Option Tale) → IfSome o (λ t. Stands t.seen now.last) → IfSome o (λ t. StandsForLast r t.seen)
+  last_seen None stands = tt
+  last_seen (Some t) stands = last_of t.seen stands

@@ -1,7 +1,7 @@
 -- Turns of the loops that give and answer the items of the text of a trial.
-use Rattle.std.proofs.Common.{◌≡◌, inl, inr, ℕ, ◌+◌, ◌<◌, ◌≤◌, ◌==◌, Bool, true, false, cond, List, [], ◌∷◌, ◌++◌, length, map, Option, Some, None, refl, sym, ◌∙◌, ap, subst, arith, length-append, length-map, append-nil, append_assoc}
+use Rattle.std.proofs.Common.{◌≡◌, inl, inr, ℕ, ◌+◌, ◌<◌, ◌≤◌, ◌==◌, Bool, true, false, cond, List, [], ◌∷◌, ◌++◌, length, map, Option, Some, None, refl, sym, ◌∙◌, ap, subst, arith, length-append, append-nil, append_assoc, zero, suc, take, IfSome, MatchOption}
 use Rattle.std.specs.List.{count_by, slice_split}
-use Rattle.std.proofs.lemmas.List.{nil_from_length}
+use Rattle.std.proofs.lemmas.List.{length-map, map-append, nil_from_length}
 use Rattle.std.proofs.lemmas.List.Sums.{sum_by-append}
 use Rattle.std.proofs.lemmas.List.Splits.{length-slice_split}
 use Rattle.quilt_world.specs.Disk.{Pages}
@@ -15,7 +15,7 @@ use Rattle.quilt_edition.specs.Stands.{Stands}
 use Rattle.quilt_world.specs.Stops.{LeavesNow}
 use Rattle.quilt_words.specs.declared.item.Item.{Item}
 use Rattle.quilt_words.specs.Items.{Group, held, items_of, lines_of, groups_from, without_empty_end, is_empty, is_silent, asked}
-use Rattle.quilt_lang.specs.Reading.{Same, Gives, GivesItem}
+use Rattle.quilt_lang.specs.Reading.{Same, Gives, GivesItem, HasNone}
 use Rattle.quilt_trial.specs.Drawing.{IsTextLine}
 use Rattle.quilt_trial.specs.Rest.{newlines}
 use Rattle.quilt_replies.specs.Answers.{State, Reply}
@@ -56,6 +56,13 @@ module _ (n : ℕ) (start rest trial : List ℕ) (leads : Leads n start (rest ++
   fed line behind new is gives = λ k.
       leads k ∙ ap (λ (l : List ℕ). map (held k n) (items_of n (rest ++ l))) is
       ∙ ap (λ (l : List ℕ). map (held k n) (items_of n l)) (sym (append_assoc rest line behind)) ∙ gives.all behind tt k
+
+-- what is given last, where the text has ended
+pub given_last : (n f : ℕ) (start rest trial ended : List ℕ) → Leads n start (rest ++ trial) → trial ≡ [] → ended ≡ [] → (found : Option Item) (new : List ℕ) → MatchOption found ((new ≡ rest) × HasNone true n rest) (λ item. GivesItem true n f item rest new)
+    → MatchOption found (items_of n start ≡ []) (λ item. IsNextItem n f item start (new ++ ended))
+given_last n f start rest trial ended leads none now None new given = none_last n start rest trial leads none given.1
+given_last n f start rest trial ended leads none now (Some item) new given =
+    subst (λ (l : List ℕ). IsNextItem n f item start (new ++ l)) (none ∙ sym now) (next_last n start rest trial leads f item new none given)
 
 pub shorter : (old line new : List ℕ) → old ≡ line ++ new → IsTextLine line → length new < length old
 shorter old line new is so =
@@ -143,12 +150,16 @@ module _ (n : ℕ) (text : List ℕ) (s : State) (at : s.last.level ≡ n) where
         tries_both r t u v before (subst (λ (x : Run). Tries x u v) (sym is)
         (tries_one s so.items g behind c u v (subst (λ (x : State). Applies x (held_at x g) c u v) so.state one))))
 
+    one_more : (x : State) → count_by is_done (replies_from x (g ∷ [])) ≡ cond {A = ℕ} (is_done (reply_to x (held_at x g))) 1 0
+    one_more x = omega arith
+
     pub next_tried : (then_ : State) (more : Tally) → then_ ≡ state_then now (held_at now g) → more.done ≡ tally.done + cond (is_done (reply_to now (held_at now g))) 1 0 → Tried n text behind s then_ more
     next_tried then_ more is count = record {
       items = so.items ++ g ∷ [];
       all = then_same n so.items (g ∷ []) (items_of n text) left behind so.all rest;
       state = is ∙ ap (λ (x : State). state_then x (held_at x g)) so.state ∙ sym (state-append s so.items (g ∷ []));
-      done = count ∙ ap (λ k. k + cond (is_done (reply_to now (held_at now g))) 1 0) so.done
+      done = count ∙ ap (λ k. k + cond {A = ℕ} (is_done (reply_to now (held_at now g))) 1 0) so.done
+          ∙ ap (λ k. count_by is_done (replies_from s so.items) + k) (sym (one_more now))
           ∙ ap (λ (x : State). count_by is_done (replies_from s so.items) + count_by is_done (replies_from x (g ∷ []))) so.state
           ∙ sym (ap (count_by is_done) (replies-append s so.items (g ∷ [])) ∙ sum_by-append (λ (q : Reply). cond {A = ℕ} (is_done q) 1 0) (replies_from s so.items) (replies_from (state_after s so.items) (g ∷ [])));
     }

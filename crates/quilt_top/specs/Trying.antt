@@ -1,5 +1,5 @@
 -- What running the commands of the text of a trial does.
-use Rattle.std.specs.Prelude.{◌≡◌, ℕ, ◌+◌, Bool, List, [], ◌∷◌, ◌++◌, length, count_by, decimal, codes}
+use Rattle.std.specs.Prelude.{◌≡◌, ℕ, ◌+◌, Bool, true, false, List, [], ◌∷◌, ◌++◌, length, count_by, decimal, codes}
 use Rattle.quilt_world.specs.Added.{AddsOnly, is_of_pages, is_of_text}
 use Rattle.quilt_world.specs.Disk.{Pages}
 use Rattle.quilt_world.specs.Stops.{Since, LeavesNow}

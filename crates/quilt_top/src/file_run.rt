@@ -6,9 +6,11 @@ ghost use Rattle.quilt_world.specs.declared.disk.Door.TheVariants as doors;
 ghost use Rattle.quilt_replies.specs.Answers.{State};
 ghost use Rattle.quilt_map.specs.Sessions.{IsAt, world_of, level_of, changes_of};
 ghost use Rattle.quilt_top.specs.TextRun.{IsUntold};
+ghost use Rattle.quilt_top.specs.declared.orders.Source.TheVariants as sources;
 ghost use Rattle.quilt_top.specs.declared.run.End.TheVariants as ends;
 ghost use Rattle.quilt_top.specs.Openings as endings;
 ghost use Rattle.quilt_top.specs.Openings.{RunsTo, run_ends, is_run_end};
+ghost use Rattle.quilt_top.specs.Words.{Run};
 ghost use Rattle.quilt_top.specs.Meanings.{run_from};
 ghost use Rattle.quilt_top.specs.Trying.{trial_run, TriesTo};
 ghost use Rattle.quilt_top.specs.Headline.{KeepsPromises, WhereTold, HasEndCause, IsOneOf};
@@ -75,7 +77,7 @@ fn try_session<R: Threads + Sync, W: World>(
     (end, session.into_world())
 }
 
-/// Runs the commands that the words ask for over their file.
+/// Runs the commands that the words ask for over their file. It ends as a run of the input does, and only that can take too much.
 pub(crate) fn run_file<R: Threads + Sync, W: World>(
     rt: &R,
     alloc: Global,
@@ -83,7 +85,8 @@ pub(crate) fn run_file<R: Threads + Sync, W: World>(
     file: RunFile,
 ) -> (End, W)
     requires { W.door world ≡ doors.Shut }
-    ensures cause { HasEndCause (Some (run_from file.entry.source file.entry.path.now file.entry.pool)) (W.faults world) (W.faults result.1) (W.door result.1) result.0 }
+    ensures cause { HasEndCause (Some (Run file.entry.path.now file.entry.pool)) (W.faults world) (W.faults result.1) (W.door result.1) result.0 }
+    ensures short { result.0 ≡ ends.TooMuch → file.entry.source ≡ sources.Input }
     ensures usage { result.0 ≢ ends.Usage }
     ensures promises { WhereTold (KeepsPromises (Some (run_from file.entry.source file.entry.path.now file.entry.pool)) (Rose (W.faults world) (W.faults result.1)) (W.door result.1) result.0)
         (W.told world) (W.told result.1) }

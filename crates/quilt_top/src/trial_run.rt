@@ -1,13 +1,16 @@
-ghost use Rattle.std.specs.Prelude.{◌≡◌, ◌⊎◌, ℕ, Bool, ◌<◌, ◌≤◌, ◌+◌, ◌*◌, ◌^◌, [], length, string_bytes, if◌then◌else◌, IfOk, IfErr};
+ghost use Rattle.std.specs.Prelude.{◌≡◌, ◌⊎◌, ℕ, Bool, ◌<◌, ◌≤◌, ◌+◌, ◌*◌, ◌^◌, [], length, string_bytes, if◌then◌else◌, IfOk, IfErr, OnOk};
 ghost use Rattle.quilt_types.specs.declared.stop.Stop.TheVariants as stops;
 ghost use Rattle.quilt_world.specs.Tale.{Goes};
 ghost use Rattle.quilt_world.specs.Causes.{Rose};
 ghost use Rattle.quilt_world.specs.declared.disk.Door.TheVariants as doors;
 ghost use Rattle.quilt_words.specs.Items.{items_of};
 ghost use Rattle.quilt_replies.specs.Answers.{State};
-ghost use Rattle.quilt_map.specs.Sessions.{world_of, level_of, IsAt};
+ghost use Rattle.quilt_replies.specs.Runs.{is_done};
+ghost use Rattle.quilt_map.specs.Sessions.{world_of, format_of, level_of, changes_of, IsAt};
 ghost use Rattle.quilt_trial.specs.Rest.{newlines};
 ghost use Rattle.quilt_top.specs.declared.halt.Halt.TheVariants as halts;
+ghost use Rattle.quilt_top.specs.Answering.{Applies};
+ghost use Rattle.quilt_top.specs.Replies.{IsItem, reply_to, state_then};
 ghost use Rattle.quilt_top.specs.TextRun.{run_in};
 ghost use Rattle.quilt_top.specs.Trying.{text_left, Tries, Tried, trial_run, summary_of, TriesFront, TriesWhole};
 
@@ -15,6 +18,7 @@ use crate::answering::answer_item;
 use crate::halt::Halt;
 use crate::output::put_reply;
 use crate::trial_items::TrialItems;
+use quilt_lang::Item;
 use quilt_map::Session;
 use quilt_world::World;
 use std::alloc::{AllocError, Global};
@@ -48,6 +52,28 @@ impl Tally {
     }
 }
 
+/// Answers an item and puts no reply. Says whether its reply is no refusal.
+fn try_item<R: Threads + Sync, W: World>(
+    rt: &R,
+    alloc: Global,
+    session: &mut Session<W>,
+    item: Item,
+) -> Result<bool, Halt>
+    requires { IsItem (format_of session.old) (level_of session.old) item }
+    ensures done { IfOk result (λ done. (s : State) → IsAt session.old s → done ≡ is_done (reply_to s item)) }
+    ensures at { OnOk result ((s : State) → IsAt session.old s → IsAt session.new (state_then s item)) }
+    ensures level { OnOk result (level_of session.new ≡ level_of session.old) }
+    ensures later { W.faults (world_of session.old) ≤ W.faults (world_of session.new) }
+    ensures device { IfErr result (λ e. e ≡ halts.Stopped stops.Device → Rose (W.faults (world_of session.old)) (W.faults (world_of session.new))) }
+    ensures damaged { IfErr result (λ e. (page : ℕ) → e ≡ halts.Stopped (stops.Damaged page) → (s : State) → IsAt session.old s → ⊥) }
+    ensures short { IfErr result (λ e. e ≡ halts.TooMuch → ⊥) }
+    ensures door { W.door (world_of session.new) ≡ W.door (world_of session.old) }
+    ensures applies { (s : State) → IsAt session.old s → Goes (Applies s item (changes_of session.old)) (W.told (world_of session.old)) (W.told (world_of session.new)) }
+{
+    let answer = answer_item(rt, alloc, session, &item)?;
+    Ok(answer.is_done)
+}
+
 /// Answers all items of the text of a trial and puts no reply. Tells how many replies of either sort there were.
 fn try_items<R: Threads + Sync, W: World>(
     rt: &R,
@@ -71,7 +97,8 @@ fn try_items<R: Threads + Sync, W: World>(
         refused: 0,
     };
     'items: while let Some(item) = items.next_item(session.head().format)? {
-        tally = tally.with(answer_item(rt, alloc, session, &item)?.is_done);
+        let is_done = try_item(rt, alloc, session, item)?;
+        tally = tally.with(is_done);
     }
     Ok(tally)
 }

@@ -127,21 +127,10 @@ fn trial_of<'a>(
     run_over(path, pool_size(pool)?, Source::Trial { seed, count })
 }
 
-/// The file to be made, where the first word says so and there is no option.
-fn new_of<'a>(
-    mode: &str,
-    path: &'a str,
-    pages: &str,
-    level: &str,
-    pool: Option<&str>,
-) -> Option<Order<'a>>
-    ensures { option_map meant result
-        ≡ (if bytes_eq mode.now (codes "new") && is_none pool.entry
-        then table.new_order path.entry.now (spelling.number 16 30000 pages.now) (spelling.number 1 12 level.now) else None) }
+/// The file to be made, where the other two words are its numbers.
+fn new_of<'a>(path: &'a str, pages: &str, level: &str) -> Option<Order<'a>>
+    ensures { option_map meant result ≡ table.new_order path.entry.now (spelling.number 16 30000 pages.now) (spelling.number 1 12 level.now) }
 {
-    if mode != "new" || pool.is_some() {
-        return None;
-    }
     let file = file_of(path, pages, level)?;
     Some(Order::New(file))
 }
@@ -155,8 +144,8 @@ fn order_of<'a>(matches: &ArgMatches<'a>) -> Option<Order<'a>>
     let pool = matches.get_str("pool");
     match (matches.get_str("first"), matches.get_str("second")) {
         (None, None) => run_of(mode, path, pool),
-        (Some(first), Some(second)) if mode == "trial" => trial_of(mode, path, first, second, pool),
-        (Some(first), Some(second)) => new_of(mode, path, first, second, pool),
+        (Some(pages), Some(level)) if mode == "new" && pool.is_none() => new_of(path, pages, level),
+        (Some(seed), Some(count)) => trial_of(mode, path, seed, count, pool),
         _ => None,
     }
 }

@@ -4,8 +4,17 @@ use Rattle.quilt_world.specs.Doors.{attached}
 use Rattle.quilt_top.specs.declared.orders.Source.{Source}
 use Rattle.quilt_top.specs.declared.run.End.{End}
 use Rattle.quilt_top.specs.Headline.{WhereTold}
-use Rattle.quilt_top.proofs.Promises.{Promise, open_stopped, found_no_map, ran, tried}
+use Rattle.quilt_top.proofs.Promises.{Promise, attach_failed, file_missing, open_stopped, found_no_map, ran, tried}
 use Rattle.quilt_top.proofs.file_run.run_file.Goals as goal
+
+pub returns-in_default-clause-promises : goal.returns-in_default-clause-promises
+returns-in_default-clause-promises g c =
+    attach_failed c.args.file.source c.args.file.path.now c.args.file.pool _ _ _ c.attach.result _ _ c.attach.ensures.door c.in_default.not-Ok c.attach.ensures.tale
+
+pub returns-in-Missing-clause-promises : goal.returns-in-Missing-clause-promises
+returns-in-Missing-clause-promises g c =
+    let missing = c.in-Ok.ensures.door ∙ ap (λ a. attached (Ok a)) c.in-Missing.is in
+    file_missing c.args.file.source c.args.file.path.now c.args.file.pool _ _ _ _ _ missing c.attach.ensures.tale
 
 pub returns-in-Map-in-Input-clause-promises : goal.returns-in-Map-in-Input-clause-promises
 returns-in-Map-in-Input-clause-promises g c =
