@@ -1,4 +1,5 @@
 ghost use Rattle.std.specs.Prelude.{◌≡◌, ◌⊎◌, ℕ, ◌<◌, ◌≤◌, [], ◌∷◌, Some, None, take, length, IfOk, IfErr, OnErr, OnOk};
+ghost use Rattle.quilt_types.specs.Facts.{records};
 ghost use Rattle.quilt_types.specs.Layers.{Edition};
 ghost use Rattle.quilt_types.specs.declared.stop.Stop.TheVariants as stops;
 ghost use Rattle.quilt_world.specs.Added.{AddsOnly, is_of_pages};
@@ -129,7 +130,7 @@ impl<W: World> Session<W> {
         self.book.put(bytes)
     }
 
-    /// The last edition's format, number and level, and the work's tree. It takes no memory.
+    /// The last edition's format, number and level, and the work's tree with its number of records. It takes no memory.
     #[tactic(auto, unfolding(crate::specs::Sessions::world_of, crate::specs::Sessions::format_of, crate::specs::Sessions::level_of, crate::specs::Sessions::changes_of, crate::specs::Sessions::IsAt))]
     pub fn head(&self) -> Head
         ensures format { (s : State) → IsAt self.now s → s.last.format ≡ result.format }
@@ -137,6 +138,7 @@ impl<W: World> Session<W> {
         ensures number { (s : State) → IsAt self.now s → s.last.number ≡ result.edition }
         ensures level { (s : State) → IsAt self.now s → s.last.level ≡ result.level }
         ensures is_level { result.level ≡ level_of self.now }
+        ensures records { (s : State) → IsAt self.now s → records s.last.level s.work ≡ result.records }
         ensures range { (1 ≤ result.level) × (result.level ≤ 12) }
     {
         self.book.head()

@@ -52,7 +52,7 @@ part_grows [] s c t u part = record { events = []; log = part.log; file = part.f
 part_grows (g ∷ gs) s c t u part = answer_grows s (held_at s g) c part.said t u part.answers
 
 -- an image left at a log that goes on
-moved : (t u : Tale) (events more : Log) (image : Pages) → u.start ≡ t.start → u.log ≡ t.log ++ events → CanLeave t.start (t.log ++ (events ++ more)) image → CanLeave u.start (u.log ++ more) image
+pub moved : (t u : Tale) (events more : Log) (image : Pages) → u.start ≡ t.start → u.log ≡ t.log ++ events → CanLeave t.start (t.log ++ (events ++ more)) image → CanLeave u.start (u.log ++ more) image
 moved t u events more image start log left =
     subst (λ (p : Pages). CanLeave p (u.log ++ more) image) (sym start)
     (subst (λ (l : Log). CanLeave t.start l image) (sym (ap (λ (l : Log). l ++ more) log ∙ append_assoc t.log events more)) left)
@@ -76,7 +76,7 @@ took_then r t u takes rest here later = λ so_far image front left. elim (front_
 
 module _ (s : State) (g : Group) (gs : List Group) where
   -- before its reply
-  fine_either : (o : Option Edition) → (outcome s (held_at s g)).published ≡ o → (image : Pages) → Stands image s.last ⊎ StandsForNew o image → IsFine (run_in s (g ∷ gs)) [] image
+  pub fine_either : (o : Option Edition) → (outcome s (held_at s g)).published ≡ o → (image : Pages) → Stands image s.last ⊎ StandsForNew o image → IsFine (run_in s (g ∷ gs)) [] image
   fine_either o is image (inl stands) = fine_last s (g ∷ gs) [] image (told_none s (g ∷ gs)) stands
   fine_either None is image (inr stands) = absurd stands
   fine_either (Some e) is image (inr stands) = fine_new s g gs [] image e (told_none s (g ∷ gs)) is stands

@@ -126,10 +126,10 @@ module _ (start : Pages) (n : ℕ) (file : IsMapFile start n) where
           header = λ h so. damage.first ∙ ap (λ (k : Head). page_of_walk (walk_of pages k.root k.height)) (one_head (length pages) most (page_of pages 0) last h here so);
         },
         λ E so.
-            let holds = subst (λ m. HoldsEdition (home start m) E) (one_size start so.stands.pages n so.stands.file file) so.stands.holds in
+            let holds = subst (λ m. HoldsEdition (home start m) E) (one_size start so.pages n so.file file) so.holds in
             let is = one_head (length pages) most (page_of pages 0) holds.head last holds.header here in
             damage.none holds.records holds.visited E.layers
-            (ap (λ (k : Head). walk_of pages k.root k.height) (sym is) ∙ holds.tree) so.kinds
+            (ap (λ (k : Head). walk_of pages k.root k.height) (sym is) ∙ holds.tree)
             (subst (λ (k : Head). Spells k.format k.level holds.records E.layers) is holds.spelled) (holds.count ∙ ap (λ (k : Head). k.records) is),
       )
 
@@ -141,7 +141,7 @@ module _ (start : Pages) (n : ℕ) (file : IsMapFile start n) where
       header = λ h so. absurd (none h (subst (λ m. IsHeader m (page_of (home start n) 0) h) size_is so));
     },
     λ E so.
-        let holds = subst (λ m. HoldsEdition (home start m) E) (one_size start so.stands.pages n so.stands.file file) so.stands.holds in
+        let holds = subst (λ m. HoldsEdition (home start m) E) (one_size start so.pages n so.file file) so.holds in
         none holds.head (subst (λ m. IsHeader m (page_of (home start n) 0) holds.head) size_is holds.header),
   )
 
@@ -198,8 +198,8 @@ module _ (j : View) (es : Entries) (last : Head) (idle : j.state ≡ Idle) where
           j.pages,
           file,
           holds.0,
-          record { stands = record { pages = j.pages; file = file; holds = subst (λ (p : Pages). HoldsEdition p holds.0) pages holds.1 }; kinds = holds.2 },
-          holds.3,
+          record { pages = j.pages; file = file; holds = subst (λ (p : Pages). HoldsEdition p holds.0) pages holds.1 },
+          holds.2,
         )
     one_found (opened.NotMap world) t u new law found holds = absurd holds
     one_found (opened.Stopped world stop) t u new law found holds = λ page is.

@@ -1,5 +1,6 @@
 pub mod Applying
 pub mod Commands
+pub mod Concluding
 pub mod Damages
 pub mod Digits
 pub mod Events
@@ -13,13 +14,16 @@ pub mod Making
 pub mod Outcomes
 pub mod Parses
 pub mod Places
+pub mod Promises
 pub mod Prompts
 pub mod Rows
 pub mod Running
 pub mod Runs
 pub mod Said
 pub mod Scans
+pub mod Summaries
 pub mod Surveys
+pub mod Trials
 pub mod Turns
 pub mod Walks
 pub mod Writes

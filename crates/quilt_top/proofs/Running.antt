@@ -37,19 +37,19 @@ use Rattle.quilt_top.specs.declared.halt.Halt.{Halt}
 use Rattle.quilt_top.specs.declared.halt.Halt.TheVariants as halts
 use Rattle.quilt_top.specs.declared.run.End.{End}
 use Rattle.quilt_top.specs.declared.run.End.TheVariants as ends
-use Rattle.quilt_top.specs.Headline.{IsOneOf, ComesExactly, IsStop, IsEdition, WritesFew, all_done, RunsText, IsPrompt, input_limit, told_by_replies, RunsInput, IsNoMap, StandsWithoutLines, StandsForNothing, OpensSafely, FindsFile, may_end_run, HasEndCause, KeepsPromises, WhereTold}
+use Rattle.quilt_top.specs.Headline.{IsOneOf, ComesExactly, IsStop, IsEdition, WritesFew, all_done, RunsText, IsPrompt, input_limit, told_by_replies, RunsInput, IsNoMap, StandsForNothing, OpensSafely, FindsFile, may_end_run, HasEndCause, KeepsPromises, WhereTold}
 use Rattle.quilt_top.specs.Words.{Run as RunText}
 use Rattle.quilt_top.specs.Openings.{Keeps, RunsTo, run_ends, is_run_end, end_of, end_of_stop}
 
 -- ---- what opening leaves
 
-stands_as : (n : ℕ) (start image : Pages) (E : Edition) → IsMapFile start n → Stands start E → HasHome n (home start n) image → Stands image E
+pub stands_as : (n : ℕ) (start image : Pages) (E : Edition) → IsMapFile start n → Stands start E → HasHome n (home start n) image → Stands image E
 stands_as n start image E file stands has =
     let size : stands.pages ≡ n = omega (arith, stands.file.size, file.size) in
     record { pages = n; file = has.file; holds = subst (λ (p : Pages). HoldsEdition p E) (sym has.same) (subst (λ k. HoldsEdition (home start k) E) size stands.holds) }
 
 -- each image that a stop may leave so far has the home pages of the start
-home_kept : (u v : Tale) (n : ℕ) → u.log ≡ [] → Keeps u v → IsMapFile u.start n → (so_far : Log) (image : Pages) → Begins v.log so_far → CanLeave v.start so_far image → HasHome n (home u.start n) image
+pub home_kept : (u v : Tale) (n : ℕ) → u.log ≡ [] → Keeps u v → IsMapFile u.start n → (so_far : Log) (image : Pages) → Begins v.log so_far → CanLeave v.start so_far image → HasHome n (home u.start n) image
 home_kept u v n new keeps file so_far image front left =
     let since = keeps.homes n file in
     let k = length so_far in
@@ -60,7 +60,7 @@ opened_leaves : (u v : Tale) (n : ℕ) (E : Edition) → u.log ≡ [] → Keeps 
 opened_leaves u v n E new keeps file stands = λ image left.
     stands_as n u.start image E file stands (home_kept u v n new keeps file v.log image ([], sym (append-nil v.log)) left)
 
-opened_untold : (u v : Tale) → u.log ≡ [] → Keeps u v → IsUntold v
+pub opened_untold : (u v : Tale) → u.log ≡ [] → Keeps u v → IsUntold v
 opened_untold u v new keeps = subst (λ (l : Log). Only is_of_pages l) (sym (keeps.pages.log ∙ ap (λ (l : Log). l ++ keeps.pages.events) new)) keeps.pages.only
 
 -- ---- the ends
@@ -77,7 +77,7 @@ run_end_allowed ends.Taken is = absurd (cc)
 run_end_allowed ends.TooMuch is = refl
 run_end_allowed (ends.Damaged page) is = refl
 
-other_end : (end other : End) → is_run_end end ≡ true → is_run_end other ≡ false → end ≡ other → ⊥
+pub other_end : (end other : End) → is_run_end end ≡ true → is_run_end other ≡ false → end ≡ other → ⊥
 other_end end other one not_ is = let b = ap is_run_end is in cc
 
 pub no_start_end : (end : End) → is_run_end end ≡ true → IsOneOf end (ends.Missing ∷ ends.Taken ∷ ends.NotMap ∷ []) → ⊥
@@ -86,7 +86,7 @@ no_start_end end one (inr (inl e)) = other_end end ends.Taken one refl e
 no_start_end end one (inr (inr (inl e))) = other_end end ends.NotMap one refl e
 no_start_end end one (inr (inr (inr e))) = e
 
-run_end : (end : End) → IsOneOf end run_ends → is_run_end end ≡ true
+pub run_end : (end : End) → IsOneOf end run_ends → is_run_end end ≡ true
 run_end end (inl e) = ap is_run_end e
 run_end end (inr (inl e)) = ap is_run_end e
 run_end end (inr (inr (inl e))) = ap is_run_end e
@@ -95,7 +95,7 @@ run_end end (inr (inr (inr (inr (inl e))))) = ap is_run_end e
 run_end end (inr (inr (inr (inr (inr e))))) = absurd e
 
 -- of a run over an edition no page is damaged
-not_damaged : (end : End) (page : ℕ) → IsOneOf end run_ends → end ≡ ends.Damaged page → ⊥
+pub not_damaged : (end : End) (page : ℕ) → IsOneOf end run_ends → end ≡ ends.Damaged page → ⊥
 not_damaged end page (inl e) is = let f : ◌≡◌ {A = End} ends.Done (ends.Damaged page) = sym e ∙ is in cc
 not_damaged end page (inr (inl e)) is = let f : ◌≡◌ {A = End} ends.Refused (ends.Damaged page) = sym e ∙ is in cc
 not_damaged end page (inr (inr (inl e))) is = let f : ◌≡◌ {A = End} ends.Device (ends.Damaged page) = sym e ∙ is in cc
@@ -103,7 +103,7 @@ not_damaged end page (inr (inr (inr (inl e)))) is = let f : ◌≡◌ {A = End} 
 not_damaged end page (inr (inr (inr (inr (inl e))))) is = let f : ◌≡◌ {A = End} ends.TooMuch (ends.Damaged page) = sym e ∙ is in cc
 not_damaged end page (inr (inr (inr (inr (inr e))))) is = e
 
-given_up : (end : End) (rose : Type 0) → IsOneOf end run_ends → (end ≡ ends.Device → rose) → (rose → ⊥) → IsOneOf end (ends.Done ∷ ends.Refused ∷ ends.Memory ∷ ends.TooMuch ∷ [])
+pub given_up : (end : End) (rose : Type 0) → IsOneOf end run_ends → (end ≡ ends.Device → rose) → (rose → ⊥) → IsOneOf end (ends.Done ∷ ends.Refused ∷ ends.Memory ∷ ends.TooMuch ∷ [])
 given_up end rose (inl e) device calm = inl e
 given_up end rose (inr (inl e)) device calm = inr (inl e)
 given_up end rose (inr (inr (inl e))) device calm = absurd (calm (device e))
@@ -113,7 +113,7 @@ given_up end rose (inr (inr (inr (inr (inr e))))) device calm = absurd e
 
 -- ---- the run
 
-run_is : (pages : ℕ) (first : Edition) (text : List ℕ) → run_in (first_state pages first) (items_of first.level text) ≡ run (quota pages) first text
+pub run_is : (pages : ℕ) (first : Edition) (text : List ℕ) → run_in (first_state pages first) (items_of first.level text) ≡ run (quota pages) first text
 unfolding run
 run_is pages first text = refl
 
@@ -188,7 +188,7 @@ module _ (pages : ℕ) (first : Edition) (end : End) (v w : Tale) (so : RunsTo f
   past_is (inr (inr (inr (inr (inl e))))) past = inl e
   past_is (inr (inr (inr (inr (inr e))))) past = absurd e
 
-  pub opens_map : IsMapFile w.start pages → StandsWithoutLines w.start first → IsOneOf end run_ends → OpensSafely end w
+  pub opens_map : IsMapFile w.start pages → Stands w.start first → IsOneOf end run_ends → OpensSafely end w
   opens_map file stands one = record {
     not_map = record { only = λ is. absurd (other_end end ends.NotMap (run_end end one) refl is); always = λ none. absurd (none pages file) };
     damaged = λ page is. absurd (not_damaged end page one is);
@@ -201,7 +201,7 @@ module _ (pages : ℕ) (first : Edition) (end : End) (v w : Tale) (so : RunsTo f
 
 -- ---- a run that was not begun
 
-quiet_run : (pages : ℕ) (first : Edition) (end : End) (v : Tale) → IsUntold v → LeavesNow v (λ image. Stands image first) → (end ≡ ends.Done → ⊥) → (end ≡ ends.Refused → ⊥) → (end ≡ ends.TooMuch → ⊥)
+pub quiet_run : (pages : ℕ) (first : Edition) (end : End) (v : Tale) → IsUntold v → LeavesNow v (λ image. Stands image first) → (end ≡ ends.Done → ⊥) → (end ≡ ends.Refused → ⊥) → (end ≡ ends.TooMuch → ⊥)
     → RunsTo first.level (first_state pages first) end v v
 quiet_run pages first end v untold leaves not_done not_refused not_much = record {
   runs = runs_now first.level (first_state pages first) refl 0 true (first_state pages first) 0 [] v v (omega arith) (reading_first first.level (first_state pages first) refl 0 v refl untold leaves);
@@ -210,7 +210,7 @@ quiet_run pages first end v untold leaves not_done not_refused not_much = record
   too_much = λ is. absurd (not_much is);
 }
 
-opens_quiet : (end : End) (u v : Tale) → u.log ≡ [] → Keeps u v → ComesExactly end ends.NotMap (IsNoMap v.start) → ((page : ℕ) → end ≡ ends.Damaged page → StandsForNothing v.start)
+pub opens_quiet : (end : End) (u v : Tale) → u.log ≡ [] → Keeps u v → ComesExactly end ends.NotMap (IsNoMap v.start) → ((page : ℕ) → end ≡ ends.Damaged page → StandsForNothing v.start)
     → ((pages : ℕ) → IsMapFile v.start pages → StandsForNothing v.start → (page : ℕ) × IsDamagePage (home v.start pages) page × IsOneOf end (ends.Damaged page ∷ ends.Device ∷ ends.Memory ∷ []))
     → (end ≡ ends.TooMuch → ⊥) → OpensSafely end v
 opens_quiet end u v new keeps not_map damaged is_damaged not_much =
@@ -238,40 +238,10 @@ finds_opened path door now end t u w same not_made not_taken opens quiet = recor
   nothing_done = quiet;
 }
 
--- ---- the causes of a run's end
-
-pub run_cause : (path : List ℕ) (pool before now : ℕ) (door : Door) (end : End) → before ≤ now → (end ≡ ends.Device → Rose before now) → door ≡ doors.Ready → is_run_end end ≡ true → HasEndCause (Some (RunText path pool)) before now door end
-run_cause path pool before now door end later device is one = record {
-  later = later;
-  device = device;
-  missing = (λ e. absurd (other_end end ends.Missing one refl e), λ d. absurd (let f : ◌≡◌ {A = Door} doors.Ready doors.Missing = sym is ∙ d in cc));
-  taken = (λ e. absurd (other_end end ends.Taken one refl e), λ d. absurd (let f : ◌≡◌ {A = Door} doors.Ready doors.Taken = sym is ∙ d in cc));
-  failed = λ d. absurd (let f : ◌≡◌ {A = Door} doors.Ready doors.Failed = sym is ∙ d in cc);
-  shut = λ d. absurd (let f : ◌≡◌ {A = Door} doors.Ready doors.Shut = sym is ∙ d in cc);
-  doors = inr (inl is);
-  ends = run_end_allowed end one;
-}
-
--- ---- told or not
-
--- the size of the pool stands in no promise
-abbrev pub Promise : List ℕ → Type 0 → Door → End → Tale → Tale → Type 0
-Promise path rose now end = KeepsPromises (Some (RunText path 256)) rose now end
-
-pub not_ready : (path : List ℕ) (rose : Type 0) (now : Door) (end : End) (o n : Option Tale) → (now ≡ doors.Ready → ⊥) → (now ≡ doors.Made → ⊥) → (now ≡ doors.Taken → ⊥) → Goes (OpensAt path now) o n → WhereTold (Promise path rose now end) o n
-not_ready path rose now end None n nr nm nt opens = tt
-not_ready path rose now end (Some t) None nr nm nt opens = absurd opens
-not_ready path rose now end (Some t) (Some u) nr nm nt opens =
-    (finds_opened path now now end t u u refl nm nt opens (λ is. opens.fresh.log), λ e. absurd (nr e), λ e. absurd (nr e))
-
-not_made : (door : Door) → door ≡ doors.Ready → door ≡ doors.Made → ⊥
-not_made door is e = let f : ◌≡◌ {A = Door} doors.Ready doors.Made = sym is ∙ e in cc
-
-not_taken : (door : Door) → door ≡ doors.Ready → door ≡ doors.Taken → ⊥
-not_taken door is e = let f : ◌≡◌ {A = Door} doors.Ready doors.Taken = sym is ∙ e in cc
+-- ---- ends told apart
 
 -- ends of a run are told apart by their numbers
-abbrev number : End → ℕ
+abbrev pub number : End → ℕ
 number ends.Done = 0
 number ends.Refused = 1
 number ends.TooMuch = 2
@@ -279,123 +249,8 @@ number ends.NotMap = 3
 number (ends.Damaged page) = 4
 number end = 5
 
-apart : (a b : End) (n m : ℕ) → number a ≡ n → number b ≡ m → (n ≡ m → ⊥) → a ≡ b → ⊥
+pub apart : (a b : End) (n m : ℕ) → number a ≡ n → number b ≡ m → (n ≡ m → ⊥) → a ≡ b → ⊥
 apart a b n m x y other is = other (sym x ∙ ap number is ∙ y)
-
-same_damage : (p q : ℕ) → ◌≡◌ {A = End} (ends.Damaged p) (ends.Damaged q) → p ≡ q
-same_damage p q e = cc
-
-one_size : (image : Pages) (n m : ℕ) → IsMapFile image n → IsMapFile image m → n ≡ m
-one_size image n m a b = omega (arith, a.size, b.size)
-
-home_few : (start : Pages) (n : ℕ) → IsMapFile start n → length (home start n) ≤ 30000
-home_few start n file = omega (arith, home_length start n, file.most)
-
-one_run : (end : End) → IsOneOf end (ends.Device ∷ ends.Memory ∷ []) → IsOneOf end run_ends
-one_run end (inl e) = inr (inr (inl e))
-one_run end (inr (inl e)) = inr (inr (inr (inl e)))
-one_run end (inr (inr e)) = absurd e
-
-module _ (path : List ℕ) (rose : Type 0) (door now : Door) (ready : door ≡ doors.Ready) (same : now ≡ door) where
-  finds : (end : End) (t u w : Tale) → OpensAt path door t u → (IsOneOf end (ends.Missing ∷ ends.Taken ∷ ends.NotMap ∷ []) → w.log ≡ []) → FindsFile path now end t w
-  finds end t u w opens quiet = finds_opened path door now end t u w same (not_made door ready) (not_taken door ready) opens quiet
-
-  -- a device fault, or no memory
-  gave_up : (end : End) (t u v : Tale) → is_run_end end ≡ true → number end ≡ 5 → IsOneOf end (ends.Device ∷ ends.Memory ∷ []) → (end ≡ ends.Device → rose) → OpensAt path door t u → Keeps u v → Promise path rose now end t v
-  gave_up end t u v is other one device opens keeps =
-      let new = opens.fresh.log in
-      let start = keeps.pages.file.start in
-      let untold = opened_untold u v new keeps in
-      let early = λ (pages : ℕ) (first : Edition) (file : IsMapFile v.start pages) (stands : StandsWithoutLines v.start first) (so_far : Log) (image : Pages) (front : Begins v.log so_far) (left : CanLeave v.start so_far image).
-      stands_as pages u.start image first (subst (λ (p : Pages). IsMapFile p pages) start file) (subst (λ (p : Pages). Stands p first) start stands.stands)
-      (home_kept u v pages new keeps (subst (λ (p : Pages). IsMapFile p pages) start file) so_far image front left) in (
-        finds end t u v opens (λ e. absurd (no_start_end end is e)),
-        λ e. opens_quiet end u v new keeps
-            (record { only = λ x. absurd (apart end ends.NotMap 5 3 other refl (λ f. cc) x); always = λ none. inr one })
-            (λ page x. absurd (apart end (ends.Damaged page) 5 4 other refl (λ f. cc) x))
-            (λ pages file none. let some = damage_page (home v.start pages) (home_few v.start pages file) in (some.0, some.1, inr one))
-            (λ x. apart end ends.TooMuch 5 2 other refl (λ f. cc) x),
-        λ e pages first file stands. subst (λ (i : List ℕ). RunsInput pages first i rose end v) (keeps.input ∙ opens.fresh.input)
-            (runs_input pages first end v v
-            (quiet_run pages first end v untold (λ image left. early pages first file stands v.log image ([], sym (append-nil v.log)) left)
-            (λ x. apart end ends.Done 5 0 other refl (λ f. cc) x) (λ x. apart end ends.Refused 5 1 other refl (λ f. cc) x) (λ x. apart end ends.TooMuch 5 2 other refl (λ f. cc) x))
-            untold (early pages first file stands) rose (one_run end one) device),
-      )
-
-  -- no map file
-  not_a_map : (t u v : Tale) → OpensAt path door t u → Keeps u v → IsNoMap u.start → Promise path rose now ends.NotMap t v
-  not_a_map t u v opens keeps none_u =
-      let new = opens.fresh.log in
-      let none : IsNoMap v.start = subst IsNoMap (sym keeps.pages.file.start) none_u in (
-        finds ends.NotMap t u v opens (λ is. keeps.other none_u ∙ new),
-        λ e. opens_quiet ends.NotMap u v new keeps (record { only = λ is. none; always = λ no_. inl refl })
-            (λ page is. absurd (let f : ◌≡◌ {A = End} ends.NotMap (ends.Damaged page) = is in cc))
-            (λ pages file nothing. absurd (none pages file)) (λ is. let f : ◌≡◌ {A = End} ends.NotMap ends.TooMuch = is in cc),
-        λ e pages first file stands. absurd (none pages file),
-      )
-
-  -- a file that stands for nothing
-  damaged : (page : ℕ) (t u v : Tale) → OpensAt path door t u → Keeps u v → IsFoundDamaged u.start page → Promise path rose now (ends.Damaged page) t v
-  damaged page t u v opens keeps found_u =
-      let new = opens.fresh.log in
-      let found : IsFoundDamaged v.start page = subst (λ (p : Pages). IsFoundDamaged p page) (sym keeps.pages.file.start) found_u in (
-        finds (ends.Damaged page) t u v opens (λ e. absurd (no_start_end (ends.Damaged page) refl e)),
-        λ e. opens_quiet (ends.Damaged page) u v new keeps
-            (record { only = λ is. absurd (let f : ◌≡◌ {A = End} (ends.Damaged page) ends.NotMap = is in cc); always = λ none. absurd (none found.0 found.1) })
-            (λ other is. found.3)
-            (λ pages file none. (page, subst (λ n. IsDamagePage (home v.start n) page) (one_size v.start found.0 pages found.1 file) found.2, inl refl))
-            (λ is. let f : ◌≡◌ {A = End} (ends.Damaged page) ends.TooMuch = is in cc),
-        λ e pages first file stands. absurd (found.3 first stands),
-      )
-
-  stopped_at : (stop : Stop) (t u v : Tale) → (stop ≡ stops.Device → rose) → OpensAt path door t u → Keeps u v → ((page : ℕ) → stop ≡ stops.Damaged page → IsFoundDamaged u.start page) → Promise path rose now (end_of_stop stop) t v
-  stopped_at stops.Device t u v device opens keeps found = gave_up ends.Device t u v refl refl (inl refl) (λ e. device refl) opens keeps
-  stopped_at stops.Memory t u v device opens keeps found = gave_up ends.Memory t u v refl refl (inr (inl refl)) (λ e. absurd (let f : ◌≡◌ {A = End} ends.Memory ends.Device = e in cc)) opens keeps
-  stopped_at (stops.Damaged page) t u v device opens keeps found = damaged page t u v opens keeps (found page refl)
-
-  pub open_stopped : (stop : Stop) (o m n : Option Tale) → (stop ≡ stops.Device → rose) → Goes (OpensAt path door) o m → Goes Keeps m n → IfSome m (λ t. (page : ℕ) → stop ≡ stops.Damaged page → IsFoundDamaged t.start page) → WhereTold (Promise path rose now (end_of_stop stop)) o n
-  open_stopped stop None m n device opens keeps found = tt
-  open_stopped stop (Some t) None n device opens keeps found = absurd opens
-  open_stopped stop (Some t) (Some u) None device opens keeps found = absurd keeps
-  open_stopped stop (Some t) (Some u) (Some v) device opens keeps found = stopped_at stop t u v device opens keeps found
-
-  pub found_no_map : (o m n : Option Tale) → Goes (OpensAt path door) o m → Goes Keeps m n → IfSome m (λ t. IsNoMap t.start) → WhereTold (Promise path rose now ends.NotMap) o n
-  found_no_map None m n opens keeps none = tt
-  found_no_map (Some t) None n opens keeps none = absurd opens
-  found_no_map (Some t) (Some u) None opens keeps none = absurd keeps
-  found_no_map (Some t) (Some u) (Some v) opens keeps none = not_a_map t u v opens keeps none
-
-  ran_over : (end : End) (n : ℕ) (E : Edition) (t u v w : Tale) → (end ≡ ends.Device → rose) → IsOneOf end run_ends → OpensAt path door t u → Keeps u v → IsMapFile u.start n → StandsWithoutLines u.start E
-      → RunsTo E.level (first_state n E) end v w → Promise path rose now end t w
-  ran_over end n E t u v w device one opens keeps file stands runs =
-      let new = opens.fresh.log in
-      let untold = opened_untold u v new keeps in
-      let start = runs.runs.file.start ∙ keeps.pages.file.start in
-      let file_w : IsMapFile w.start n = subst (λ (p : Pages). IsMapFile p n) (sym start) file in
-      let stands_w : StandsWithoutLines w.start E = subst (λ (p : Pages). StandsWithoutLines p E) (sym start) stands in
-      let early = λ (so_far : Log) (image : Pages) (front : Begins v.log so_far) (left : CanLeave v.start so_far image).
-      stands_as n u.start image E file stands.stands (home_kept u v n new keeps file so_far image front left) in
-      let promised : RunsInput n E t.input rose end w =
-      subst (λ (i : List ℕ). RunsInput n E i rose end w) (keeps.input ∙ opens.fresh.input) (runs_input n E end v w runs untold early rose one device) in (
-        finds end t u w opens (λ is. absurd (no_start_end end (run_end end one) is)),
-        λ e. opens_map n E end v w runs untold file_w stands_w one,
-        λ e pages first its so. subst (λ k. RunsInput k first t.input rose end w) (one_size w.start n pages file_w its)
-            (subst (λ (f : Edition). RunsInput n f t.input rose end w) (stands_once w.start E first stands_w.stands so.stands) promised),
-      )
-
-  -- over a session that stands for what the file does
-  module _ {W : Type 0} {D : disk.Ghosts W} (session : Session W D) where
-    pub ran : (end : End) (o m n p : Option Tale) → (end ≡ ends.Device → rose) → ((s : State) → IsAt session s → IsOneOf end run_ends) → Goes (OpensAt path door) o m → Goes Keeps m n
-        → IfSome m (λ t. (k : ℕ) × IsMapFile t.start k × (e : Edition) × StandsWithoutLines t.start e × IsAt session (first_state k e)) → ((s : State) → IsAt session s → Goes (RunsTo (level_of session) s end) n p)
-        → WhereTold (Promise path rose now end) o p
-    ran end None m n p device one opens keeps found runs = tt
-    ran end (Some t) None n p device one opens keeps found runs = absurd opens
-    ran end (Some t) (Some u) None p device one opens keeps found runs = absurd keeps
-    ran end (Some t) (Some u) (Some v) None device one opens keeps found runs = absurd (runs (first_state found.0 found.2) found.4)
-    ran end (Some t) (Some u) (Some v) (Some w) device one opens keeps found runs =
-        let s = first_state found.0 found.2 in
-        ran_over end found.0 found.2 t u v w device (one s found.4) opens keeps found.1 found.3
-        (subst (λ n. RunsTo n s end v w) (sym (at_level session s found.4)) (runs s found.4))
 
 -- ---- a run of the text over a session
 

@@ -41,7 +41,7 @@ use Rattle.quilt_edition.proofs.Publishing.{told_reverted}
 use Rattle.quilt_edition.proofs.Steps.{kept_idle, seen_home}
 use Rattle.quilt_spell.proofs.Laws.{members}
 use Rattle.quilt_audit.specs.Bits as bits
-use Rattle.quilt_audit.specs.Surveys.{OnDamaged, IsSurvey, AreNumbered, AreRegionsOrPoints}
+use Rattle.quilt_audit.specs.Surveys.{OnDamaged, IsSurvey, AreNumbered}
 use Rattle.quilt_world.specs.declared.disk.Disk as disk
 use Rattle.quilt_pool.specs.Views.{entries_of}
 use Rattle.quilt_edition.specs.declared.book.Book.{Book}
@@ -215,7 +215,7 @@ module _ {W : Type 0} {D : disk.Ghosts W} (a b : Book W D) (session : Session W 
     (law_b : IfSome (D.told b.world) (λ t. IsConsistent t × (length t.start ≡ s2)))
     (at : (e : Edition) → IsOpened b catalog e → IsAt session (first_state b.journal.pages e)) where
   map_found : (t : Tale) → D.told a.world ≡ Some t → told_of a ≡ Some (published t a.journal.pages) → IsSurvey (published t a.journal.pages) a.last catalog used
-      → (e : Edition) × HoldsEdition (published t a.journal.pages) e × AreRegionsOrPoints e.layers × IsAt session (first_state a.journal.pages e)
+      → (e : Edition) × HoldsEdition (published t a.journal.pages) e × IsAt session (first_state a.journal.pages e)
   map_found t is pages survey =
       let n = a.journal.pages in
       let es = entries_of a.pool in
@@ -243,7 +243,6 @@ module _ {W : Type 0} {D : disk.Ghosts W} (a b : Book W D) (session : Session W 
       } in (
         e,
         survey_holds (published t n) n a.last catalog used survey (length-published t n) (fresh_header a.journal es a.last t a.least ready kept),
-        survey.kinds,
         subst (λ k. IsAt session (first_state k e)) size (at e opened),
       )
 
@@ -257,7 +256,7 @@ module _ {W : Type 0} {D : disk.Ghosts W} (a b : Book W D) (session : Session W 
       → Goes (IsLater a.journal.pages) (D.told a.world) (D.told b.world) → IfSome (D.told a.world) (λ t. IsConsistent t × (length t.start ≡ s1)) → IfSome (D.told b.world) (λ t. IsConsistent t × (length t.start ≡ s2))
       → ((e : Edition) → IsOpened b catalog e → IsAt session (first_state b.journal.pages e)) → ((t : Tale) → D.told a.world ≡ Some t → told_of a ≡ Some (published t a.journal.pages))
       → (h : Head) → h ≡ a.last → ((told : Pages) → told_of a ≡ Some told → IsSurvey told h catalog used)
-      → IfSome (D.told a.world) (λ t. (e : Edition) × HoldsEdition (published t a.journal.pages) e × AreRegionsOrPoints e.layers × IsAt session (first_state a.journal.pages e))
+      → IfSome (D.told a.world) (λ t. (e : Edition) × HoldsEdition (published t a.journal.pages) e × IsAt session (first_state a.journal.pages e))
   map_holds ready size state last free told tale law_a law_b at pages h is survey =
       when_told _ (D.told a.world) (λ t now. map_found a b session catalog used s1 s2 ready size state last free told tale law_a law_b at t now (pages t now)
       (subst (λ (k : Head). IsSurvey (published t a.journal.pages) k catalog used) is (survey (published t a.journal.pages) (pages t now))))

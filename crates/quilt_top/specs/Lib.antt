@@ -9,4 +9,5 @@ pub mod Reading
 pub mod Replies
 pub mod Saying
 pub mod TextRun
+pub mod Trying
 pub mod Words

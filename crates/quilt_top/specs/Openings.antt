@@ -12,8 +12,8 @@ use Rattle.quilt_world.specs.Tale.{Tale}
 use Rattle.quilt_world.specs.declared.disk.Disk as disk
 use Rattle.quilt_journal.specs.Kept.{HasHome}
 use Rattle.quilt_node.specs.declared.head.Head.{Head}
-use Rattle.quilt_edition.specs.Stands.{HoldsEdition, IsDamagePage}
-use Rattle.quilt_audit.specs.Surveys.{AreRegionsOrPoints, IsDamage}
+use Rattle.quilt_edition.specs.Stands.{HoldsEdition, Stands, IsDamagePage}
+use Rattle.quilt_audit.specs.Surveys.{IsDamage}
 use Rattle.quilt_replies.specs.Answers.{State}
 use Rattle.quilt_map.specs.Sessions.{IsAt, world_of, changes_of, first_state}
 use Rattle.quilt_top.specs.declared.halt.Halt.{Halt}
@@ -22,7 +22,7 @@ use Rattle.quilt_top.specs.declared.opening.Opened.{Opened}
 use Rattle.quilt_top.specs.declared.opening.Opened.TheVariants as opened
 use Rattle.quilt_top.specs.declared.run.End.{End}
 use Rattle.quilt_top.specs.declared.run.End.TheVariants as ends
-use Rattle.quilt_top.specs.Headline.{IsNoMap, StandsWithoutLines, StandsForNothing}
+use Rattle.quilt_top.specs.Headline.{IsNoMap, StandsForNothing}
 use Rattle.quilt_top.specs.TextRun.{RunsFrom, RunsWhole, Overruns}
 
 -- nothing was done yet
@@ -58,14 +58,14 @@ module _ {W : Type 0} {D : disk.Ghosts W} where
   -- what the home pages of a book with this header are found to hold
   abbrev pub HoldsAs : ℕ → Head → Pages → Opened W D → Type 0
   HoldsAs n last pages (opened.Map session) =
-      (e : Edition) × HoldsEdition pages e × AreRegionsOrPoints e.layers × IsAt session (first_state n e)
+      (e : Edition) × HoldsEdition pages e × IsAt session (first_state n e)
   HoldsAs n last pages (opened.NotMap world) = ⊥
   HoldsAs n last pages (opened.Stopped world stop) = (page : ℕ) → stop ≡ stops.Damaged page → IsDamage pages last page
 
   -- what a file is found to be
   abbrev pub FindsAt : Pages → Opened W D → Type 0
   FindsAt start (opened.Map session) =
-      (n : ℕ) × IsMapFile start n × (e : Edition) × StandsWithoutLines start e × IsAt session (first_state n e)
+      (n : ℕ) × IsMapFile start n × (e : Edition) × Stands start e × IsAt session (first_state n e)
   FindsAt start (opened.NotMap world) = IsNoMap start
   FindsAt start (opened.Stopped world stop) =
       (page : ℕ) → stop ≡ stops.Damaged page → (n : ℕ) × IsMapFile start n × IsDamagePage (home start n) page × StandsForNothing start

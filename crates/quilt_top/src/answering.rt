@@ -22,9 +22,9 @@ use std::thread::Threads;
 
 /// The text of a reply, and whether it is no refusal.
 #[derive(Drop)]
-struct Answer {
+pub(crate) struct Answer {
     text: Text,
-    is_done: bool,
+    pub(crate) is_done: bool,
 }
 
 fn refusal(alloc: Global, code: Code) -> Result<Answer, AllocError>
@@ -38,7 +38,7 @@ fn refusal(alloc: Global, code: Code) -> Result<Answer, AllocError>
 }
 
 /// The answer to an item of the session's level, and the work that it leaves.
-fn answer_item<R: Threads + Sync, W: World>(
+pub(crate) fn answer_item<R: Threads + Sync, W: World>(
     rt: &R,
     alloc: Global,
     session: &mut Session<W>,

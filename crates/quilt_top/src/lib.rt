@@ -3,14 +3,16 @@
 
 mod answering;
 mod command_line;
+mod file_run;
 mod halt;
-mod input;
 mod make;
 mod opening;
 mod orders;
 mod output;
 mod run;
 mod text_run;
+mod trial_items;
+mod trial_run;
 mod words;
 
 pub use run::{End, run_quilt};

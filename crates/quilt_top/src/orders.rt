@@ -10,11 +10,21 @@ pub(crate) struct NewFile<'a> {
     ghost level_in_range: { (1 ≤ level) × (level ≤ 12) },
 }
 
-/// A map file that the input is run over, through a pool of so many pages.
+/// Which commands are run over a map file.
+#[derive(Clone, Copy)]
+pub(crate) enum Source {
+    /// Those of the input, and their replies are put.
+    Input,
+    /// Those of the text of a trial, and a summary of their replies is put.
+    Trial { seed: u64, count: u32 },
+}
+
+/// A map file that commands are run over, through a pool of so many pages.
 #[derive(Clone, Copy)]
 pub(crate) struct RunFile<'a> {
     pub(crate) path: &'a str,
     pub(crate) pool: u32,
+    pub(crate) source: Source,
     ghost pool_in_range: { (8 ≤ pool) × (pool ≤ 4096) },
 }
 

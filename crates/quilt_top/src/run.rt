@@ -6,7 +6,7 @@ ghost use Rattle.quilt_top.specs.Openings.{end_of_stop};
 ghost use Rattle.quilt_top.specs.Words.{asked_for};
 ghost use Rattle.quilt_top.specs.Headline.{KeepsPromises, WhereTold, IsUsage, HasEndCause};
 
-use crate::input::run_file;
+use crate::file_run::run_file;
 use crate::make::new_file;
 use crate::orders::Order;
 use crate::words::read_order;
@@ -93,6 +93,3 @@ pub fn run_quilt<'a, R: Threads + Sync, W: World>(
         Some(Order::Run(file)) => run_file(rt, alloc, world, file),
     }
 }
-
-#[cfg(test)]
-mod tests;

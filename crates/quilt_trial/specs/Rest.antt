@@ -1,11 +1,15 @@
 -- What is left of the text of a trial.
-use Rattle.std.specs.Prelude.{◌≡◌, ℕ, List, [], ◌∷◌, ◌++◌, codes, ◌<◌}
+use Rattle.std.specs.Prelude.{◌≡◌, ℕ, ◌==◌, List, [], ◌∷◌, ◌++◌, codes, ◌<◌, count_by}
 use Rattle.quilt_lang.specs.Trials.{line, lines_from}
 use Rattle.quilt_trial.specs.declared.trial.Stage.{Stage}
 use Rattle.quilt_trial.specs.declared.trial.Stage.TheVariants as stages
 use Rattle.quilt_trial.specs.declared.trial.Next.{Next}
 use Rattle.quilt_trial.specs.declared.trial.Next.TheVariants as nexts
 use Rattle.quilt_trial.specs.Drawing.{IsTextLine}
+
+-- how many lines of a text end with a newline
+abbrev pub newlines : List ℕ → ℕ
+newlines text = count_by (λ c. c == 10) text
 
 -- the line that publishes the map
 abbrev pub publish_line : List ℕ

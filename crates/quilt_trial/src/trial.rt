@@ -1,7 +1,7 @@
-ghost use Rattle.std.specs.Prelude.{◌≡◌, ◌<◌, ◌≤◌, ◌==◌, ◌%◌, ◌^◌, ℕ, if◌then◌else◌, [], ◌++◌, IfOk, OnErr, MatchOption};
+ghost use Rattle.std.specs.Prelude.{◌≡◌, ◌<◌, ◌≤◌, ◌==◌, ◌+◌, ◌*◌, ◌%◌, ◌^◌, ℕ, if◌then◌else◌, [], ◌++◌, IfOk, OnErr, MatchOption};
 ghost use Rattle.quilt_types.specs.Plane.{side};
 ghost use Rattle.quilt_lang.specs.Trials as trials;
-ghost use Rattle.quilt_trial.specs.Rest.{IsNext, publish_line, rest_at};
+ghost use Rattle.quilt_trial.specs.Rest.{IsNext, newlines, publish_line, rest_at};
 ghost use Rattle.quilt_trial.specs.Drawing.{IsTextLine};
 
 use crate::drawing::draw_line;
@@ -58,10 +58,12 @@ impl Model for Trial {
 }
 
 impl Trial {
-    /// The text of so many drawn lines over the square of this level. It takes no memory, and keeps the allocator.
+    /// The text of so many drawn lines over the square of this level. It has at most two lines for each of them, and five more.
+    /// It takes no memory, and keeps the allocator.
     pub fn new(alloc: Global, seed: u64, count: u32, level: u8) -> Trial
         requires { level ≤ 63 }
-        ensures { result ≡ trials.trial_text seed count level }
+        ensures text { result ≡ trials.trial_text seed count level }
+        ensures few { newlines result ≤ 2 * count + 5 }
     {
         Trial {
             alloc,

@@ -5,7 +5,7 @@ use Rattle.quilt_top.specs.Headline.{IsOneOf}
 use Rattle.quilt_top.specs.Openings.{run_ends, is_run_end}
 use Rattle.quilt_top.proofs.Running.{runs_goes, much_first, end_of_run, is_end}
 use Rattle.quilt_top.proofs.Said.{ok_at}
-use Rattle.quilt_top.proofs.input.run_session.Goals as goal
+use Rattle.quilt_top.proofs.file_run.run_session.Goals as goal
 
 pub returns-clause-ends : goal.returns-clause-ends
 returns-clause-ends g c = ap is_run_end c.end_of-end.ensures ∙ is_end c.run_text.result

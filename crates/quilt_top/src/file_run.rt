@@ -6,17 +6,21 @@ ghost use Rattle.quilt_world.specs.declared.disk.Door.TheVariants as doors;
 ghost use Rattle.quilt_replies.specs.Answers.{State};
 ghost use Rattle.quilt_map.specs.Sessions.{IsAt, world_of, level_of, changes_of};
 ghost use Rattle.quilt_top.specs.TextRun.{IsUntold};
+ghost use Rattle.quilt_top.specs.declared.orders.Source.TheVariants as sources;
 ghost use Rattle.quilt_top.specs.declared.run.End.TheVariants as ends;
 ghost use Rattle.quilt_top.specs.Openings as endings;
 ghost use Rattle.quilt_top.specs.Openings.{RunsTo, run_ends, is_run_end};
 ghost use Rattle.quilt_top.specs.Words.{Run};
+ghost use Rattle.quilt_top.specs.Meanings.{run_from};
+ghost use Rattle.quilt_top.specs.Trying.{trial_run, TriesTo};
 ghost use Rattle.quilt_top.specs.Headline.{KeepsPromises, WhereTold, HasEndCause, IsOneOf};
 
 use crate::halt::Halt;
 use crate::opening::{Opened, open};
-use crate::orders::RunFile;
+use crate::orders::{RunFile, Source};
 use crate::run::End;
 use crate::text_run::run_text;
+use crate::trial_run::run_trial;
 use quilt_map::Session;
 use quilt_world::{Attached, World};
 use std::alloc::Global;
@@ -51,7 +55,29 @@ fn run_session<R: Threads + Sync, W: World>(rt: &R, alloc: Global, session: Sess
     (end, session.into_world())
 }
 
-/// Runs the input over the file that the words ask for.
+/// Runs the text of a trial over a session.
+fn try_session<R: Threads + Sync, W: World>(
+    rt: &R,
+    alloc: Global,
+    session: Session<W>,
+    seed: u64,
+    count: u32,
+) -> (End, W)
+    requires door { W.door (world_of session) ≡ doors.Ready }
+    ensures later { W.faults (world_of session) ≤ W.faults result.1 }
+    ensures device { result.0 ≡ ends.Device → Rose (W.faults (world_of session)) (W.faults result.1) }
+    ensures door { W.door result.1 ≡ W.door (world_of session) }
+    ensures ends { is_run_end result.0 ≡ true }
+    ensures short { result.0 ≢ ends.TooMuch }
+    ensures sound { (s : State) → IsAt session s → IsOneOf result.0 run_ends }
+    ensures tries { (s : State) → IsAt session s → Goes (TriesTo (level_of session) (trial_run (level_of session) s seed count) result.0) (W.told (world_of session)) (W.told result.1) }
+{
+    let mut session = session;
+    let end = end_of(run_trial(rt, alloc, &mut session, seed, count));
+    (end, session.into_world())
+}
+
+/// Runs the commands that the words ask for over their file. It ends as a run of the input does, and only that can take too much.
 pub(crate) fn run_file<R: Threads + Sync, W: World>(
     rt: &R,
     alloc: Global,
@@ -60,8 +86,9 @@ pub(crate) fn run_file<R: Threads + Sync, W: World>(
 ) -> (End, W)
     requires { W.door world ≡ doors.Shut }
     ensures cause { HasEndCause (Some (Run file.entry.path.now file.entry.pool)) (W.faults world) (W.faults result.1) (W.door result.1) result.0 }
+    ensures short { result.0 ≡ ends.TooMuch → file.entry.source ≡ sources.Input }
     ensures usage { result.0 ≢ ends.Usage }
-    ensures promises { WhereTold (KeepsPromises (Some (Run file.entry.path.now file.entry.pool)) (Rose (W.faults world) (W.faults result.1)) (W.door result.1) result.0)
+    ensures promises { WhereTold (KeepsPromises (Some (run_from file.entry.source file.entry.path.now file.entry.pool)) (Rose (W.faults world) (W.faults result.1)) (W.door result.1) result.0)
         (W.told world) (W.told result.1) }
 {
     let mut world = world;
@@ -73,7 +100,10 @@ pub(crate) fn run_file<R: Threads + Sync, W: World>(
         Attached::Missing => return (End::Missing, world),
     }
     match open(alloc, world, file.pool) {
-        Opened::Map(session) => run_session(rt, alloc, session),
+        Opened::Map(session) => match file.source {
+            Source::Input => run_session(rt, alloc, session),
+            Source::Trial { seed, count } => try_session(rt, alloc, session, seed, count),
+        },
         Opened::NotMap(world) => (End::NotMap, world),
         Opened::Stopped(world, stop) => (End::of_stop(stop), world),
     }

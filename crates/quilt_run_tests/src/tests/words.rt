@@ -1,19 +1,20 @@
 ghost use Rattle.std.specs.Prelude.{◌≤◌};
 
-use super::read_order;
-use crate::orders::Order;
+use crate::files::empty_desk;
+use quilt_top::{End, run_quilt};
 use std::alloc::Global;
 use std::process::Abort;
+use std::thread::Threads;
 
 /// Words that may stand anywhere.
 static ANY: [&str; 16] = [
-    "run", "new", "m", "16", "3", "--pool", "--pool", "--pool=8", "--pool=9", "--", "--", "8", "7",
-    "-x", "-", "--pools",
+    "run", "new", "trial", "m", "16", "3", "--pool", "--pool", "--pool=8", "--pool=9", "--", "8",
+    "7", "-x", "-", "--pools",
 ];
 
 /// Words by their place in a list, so that more of the lists are in the table.
 static PLACED: [[&str; 4]; 8] = [
-    ["run", "m", "--pool", "8"],
+    ["trial", "m", "7", "8"],
     ["--pool=9", "run", "m", "--"],
     ["new", "m", "16", "3"],
     ["--", "new", "m", "16"],
@@ -60,16 +61,11 @@ fn drawn_words(state: u64) -> ([&'static str; 5], usize, u64)
     (words, count, e)
 }
 
-/// What a list of words was read as: whether it makes a file, its path, and its numbers.
-type Said<'a> = Option<(bool, &'a str, u32, u32)>;
-
-/// What the program reads in the words.
-fn said<'a>(rt: &impl Abort, alloc: Global, words: &'a [&'a str]) -> Said<'a> {
-    match read_order(alloc, words).expect(rt, "memory") {
-        None => None,
-        Some(Order::New(file)) => Some((true, file.path, file.pages, u32::from(file.level))),
-        Some(Order::Run(file)) => Some((false, file.path, file.pool, 0)),
-    }
+/// What a list of words asks for: a file of so many pages and of a level, or that commands are run over a file.
+#[derive(Clone, Copy)]
+enum Asked {
+    New(u32, u32),
+    Run,
 }
 
 /// The number of a word, where it lies between these.
@@ -86,30 +82,33 @@ fn spelled(word: &str, low: u32, high: u32) -> Option<u32> {
     (low <= value && value <= high).then_some(value)
 }
 
+/// Whether the option's word is a number of pages, where it is there.
+fn is_pool(pool: Option<&str>) -> bool {
+    match pool {
+        None => true,
+        Some(word) => spelled(word, 8, 4096).is_some(),
+    }
+}
+
 /// What the table says of words that stand alone and of the option's word.
-fn by_table<'a>(alone: &[&'a str], pool: Option<&str>) -> Said<'a> {
+fn by_table(alone: &[&str], pool: Option<&str>) -> Option<Asked> {
     match alone {
-        [mode, path] if *mode == "run" => {
-            let pages = match pool {
-                None => 256,
-                Some(word) => spelled(word, 8, 4096)?,
-            };
-            Some((false, *path, pages, 0))
-        }
-        [mode, path, pages, level] if *mode == "new" && pool.is_none() => {
-            Some((
-                true,
-                *path,
-                spelled(pages, 16, 30000)?,
-                spelled(level, 1, 12)?,
-            ))
+        [mode, _] if *mode == "run" && is_pool(pool) => Some(Asked::Run),
+        [mode, _, pages, level] if *mode == "new" && pool.is_none() => Some(Asked::New(
+            spelled(pages, 16, 30000)?,
+            spelled(level, 1, 12)?,
+        )),
+        [mode, _, seed, count] if *mode == "trial" && is_pool(pool) => {
+            spelled(seed, 0, 30)?;
+            spelled(count, 1, 1_000_000)?;
+            Some(Asked::Run)
         }
         _ => None,
     }
 }
 
 /// What the table says of the words, read from the first to the last.
-fn expected<'a>(rt: &impl Abort, alloc: Global, words: &[&'a str]) -> Said<'a> {
+fn expected(rt: &impl Abort, alloc: Global, words: &[&str]) -> Option<Asked> {
     let mut alone = Vec::new(alloc);
     let mut pool = None;
     let mut is_wanted = false;
@@ -142,13 +141,29 @@ fn expected<'a>(rt: &impl Abort, alloc: Global, words: &[&'a str]) -> Said<'a> {
     by_table(alone.as_slice(), pool)
 }
 
-/// Reads a list that is drawn both ways. Gives whether it is in the table, and the generator's next state.
-fn reads_alike(rt: &impl Abort, alloc: Global, state: u64) -> (bool, u64) {
-    let (words, count, after) = drawn_words(state);
-    let words = &words[..count];
-    let wanted = expected(rt, alloc, words);
-    assert!(rt; said(rt, alloc, words) == wanted);
-    (wanted.is_some(), after)
+/// Does what the words say where there is no file, and compares it with what the table says of them.
+fn reads_as<R: Threads + Sync + Abort>(
+    rt: &R,
+    alloc: Global,
+    words: &[&str],
+    wanted: Option<Asked>,
+) {
+    let (end, desk) = run_quilt(rt, alloc, words, empty_desk(rt, alloc));
+    match wanted {
+        None => {
+            assert_eq!(rt; end, End::Usage);
+            assert!(rt; desk.output().is_empty());
+        }
+        Some(Asked::Run) => {
+            assert_eq!(rt; end, End::Missing);
+            assert!(rt; desk.output().is_empty());
+        }
+        Some(Asked::New(pages, level)) if end == End::Done => {
+            let line = format!(in alloc; "new {pages} pages level {level}\n").expect(rt, "a line");
+            assert!(rt; desk.output() == line.as_bytes());
+        }
+        Some(Asked::New(..)) => assert_eq!(rt; end, End::Taken),
+    }
 }
 
 #[test]
@@ -156,36 +171,66 @@ fn reads_drawn_lists_of_words(rt: HostRuntime) {
     let mut state = 1;
     let mut taken = 0_u32;
     for _ in 0..400_u32 {
-        let (is_taken, after) = reads_alike(&rt, rt.alloc(), state);
+        let (words, count, after) = drawn_words(state);
+        let words = &words[..count];
+        let wanted = expected(&rt, rt.alloc(), words);
+        reads_as(&rt, rt.alloc(), words, wanted);
         state = after;
-        taken = taken.saturating_add(u32::from(is_taken));
+        taken = taken.saturating_add(u32::from(wanted.is_some()));
     }
-    assert_eq!(rt; taken, 51);
+    assert!(rt; taken > 40);
 }
 
 #[test]
 fn reads_the_option_wherever_it_stands(rt: HostRuntime) {
     let alloc = rt.alloc();
-    let with_8: [&[&str]; 6] = [
+    let taken: [&[&str]; 12] = [
+        &["run", "m"],
         &["run", "m", "--pool", "8"],
         &["run", "m", "--pool=8"],
         &["run", "--pool", "8", "m"],
         &["run", "--pool=8", "m", "--"],
         &["--pool", "8", "run", "m"],
         &["--pool=8", "--", "run", "m"],
+        &["--", "run", "--pool=8"],
+        &["run", "-", "--pool", "4096"],
+        &["trial", "m", "0", "1", "--pool", "8"],
+        &["--pool=8", "trial", "m", "7", "--", "1"],
+        &["trial", "m", "18446744073709551615", "1000000"],
     ];
-    for words in with_8 {
-        assert!(rt; said(&rt, alloc, words) == Some((false, "m", 8, 0)));
+    for words in taken {
+        reads_as(&rt, alloc, words, Some(Asked::Run));
     }
-    assert!(rt; said(&rt, alloc, &["run", "m"]) == Some((false, "m", 256, 0)));
-    assert!(rt; said(&rt, alloc, &["--", "run", "--pool=8"]) == Some((false, "--pool=8", 256, 0)));
-    assert!(rt; said(&rt, alloc, &["run", "-", "--pool", "4096"]) == Some((false, "-", 4096, 0)));
+}
+
+#[test]
+fn refuses_other_words(rt: HostRuntime) {
+    let alloc = rt.alloc();
+    let others: [&[&str]; 14] = [
+        &[],
+        &["run"],
+        &["new", "m", "15", "3"],
+        &["new", "m", "16", "13"],
+        &["new", "m", "016", "3"],
+        &["new", "-m", "16", "3"],
+        &["new", "", "16", "3"],
+        &["new", "m", "16", "3", "3"],
+        &["trial", "m", "1"],
+        &["trial", "m", "1", "0"],
+        &["trial", "m", "01", "1"],
+        &["trial", "", "1", "1"],
+        &["trial", "m", "18446744073709551616", "1"],
+        &["trial", "m", "1", "1000001"],
+    ];
+    for words in others {
+        reads_as(&rt, alloc, words, None);
+    }
 }
 
 #[test]
 fn refuses_other_options(rt: HostRuntime) {
     let alloc = rt.alloc();
-    let others: [&[&str]; 12] = [
+    let others: [&[&str]; 13] = [
         &["run", "m", "--pool", "7"],
         &["run", "m", "--pool=4097"],
         &["run", "m", "--pool", "08"],
@@ -194,12 +239,13 @@ fn refuses_other_options(rt: HostRuntime) {
         &["run", "m", "--pool", "--", "8"],
         &["run", "m", "--pool", "8", "--pool", "8"],
         &["new", "m", "16", "3", "--pool", "8"],
+        &["trial", "m", "1", "1", "--pool", "7"],
         &["run", "m", "--help"],
         &["-h"],
         &["--version"],
         &["run", "m", "-p", "8"],
     ];
     for words in others {
-        assert!(rt; said(&rt, alloc, words).is_none());
+        reads_as(&rt, alloc, words, None);
     }
 }

@@ -1,0 +1,9 @@
+//! Tries whole runs of the program over worlds in memory: files that are made and opened, texts, trials, words, and failing calls.
+#![tactic(auto)]
+
+#[cfg(test)]
+mod files;
+#[cfg(test)]
+mod runs;
+#[cfg(test)]
+mod tests;

@@ -1,0 +1,7 @@
+mod answers;
+mod editions;
+mod faults;
+mod openings;
+mod pools;
+mod trials;
+mod words;

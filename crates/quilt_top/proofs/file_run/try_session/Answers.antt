@@ -1,0 +1,27 @@
+use Rattle.std.proofs.Common.{◌∙◌, sym, ap, subst}
+use Rattle.quilt_map.specs.Sessions.{level_of, IsAt}
+use Rattle.quilt_top.specs.declared.run.End.{End}
+use Rattle.quilt_top.specs.declared.run.End.TheVariants as ends
+use Rattle.quilt_top.specs.Headline.{IsOneOf}
+use Rattle.quilt_top.specs.Openings.{run_ends, is_run_end}
+use Rattle.quilt_top.specs.Trying.{trial_run}
+use Rattle.quilt_top.proofs.Concluding.{tries_goes, not_much}
+use Rattle.quilt_top.proofs.Running.{end_of_run, is_end}
+use Rattle.quilt_top.proofs.Said.{ok_at}
+use Rattle.quilt_top.proofs.file_run.try_session.Goals as goal
+
+pub returns-clause-ends : goal.returns-clause-ends
+returns-clause-ends g c = ap is_run_end c.end_of-end.ensures ∙ is_end c.run_trial.result
+
+pub returns-clause-short : goal.returns-clause-short
+returns-clause-short g c = λ much. not_much c.run_trial.result c.run_trial.ensures.short (sym c.end_of-end.ensures ∙ much)
+
+pub returns-clause-sound : goal.returns-clause-sound
+returns-clause-sound g c = λ s at.
+    subst (λ (e : End). IsOneOf e run_ends) (sym c.end_of-end.ensures) (end_of_run (IsAt c.args.session) s at c.run_trial.result c.run_trial.ensures.damaged)
+
+pub returns-clause-tries : goal.returns-clause-tries
+returns-clause-tries g c = λ s at.
+    rw (c.end_of-end.ensures, c.into_world.ensures)
+    (tries_goes (level_of c.args.session) (trial_run (level_of c.args.session) s c.args.seed c.args.count) c.run_trial.result _ _ (c.run_trial.ensures.front s at)
+    (ok_at (IsAt c.args.session) s at c.run_trial.result _ c.run_trial.ensures.whole))
