@@ -86,7 +86,8 @@ fn are_more<R: Threads + Sync>(
     buckets: &Buckets,
     list: &[(u32, Seg)],
 ) -> Result<bool, AllocError>
-    ensures { (b : List (ℕ × SegOf)) → Serves buckets.now b → IfOk result (λ more. more ≡ nat_lt most_pairs (sum (map (λ e. length (ids_sharing e.1 b)) list.now))) }
+    ensures { (b : List (ℕ × SegOf)) → Serves buckets.now b →
+        IfOk result (λ more. more ≡ nat_lt most_pairs (sum (map (λ e. length (ids_sharing e.1 b)) list.now))) }
 {
     let mut total = 0_usize;
     let mut rest = list;
