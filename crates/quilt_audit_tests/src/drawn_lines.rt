@@ -188,16 +188,23 @@ fn is_layer(alloc: Global, records: &[Record], level: u8) -> Result<bool, AllocE
     Ok(inside && are_cover(blocks.as_slice(), level) && records == wanted.as_slice())
 }
 
+/// The greatest level, at most this one, of a block that begins at the code.
+fn size_at(code: u32, most: u8) -> u8 {
+    for (k, mask) in [(3, 63), (2, 15), (1, 3)] {
+        if k <= most && code & mask == 0 {
+            return k;
+        }
+    }
+    0
+}
+
 /// Blocks of drawn sizes that cover the square of the level.
 fn drawn_blocks(alloc: Global, draw: &mut Draw, level: u8) -> Result<Vec<Square>, AllocError> {
     let mut blocks = Vec::new(alloc);
     let mut next = 0;
     for code in 0..64_u32 {
         if code == next && code < 1 << (2 * (level % 4)) {
-            let mut k = draw.below(4) as u8 % 4;
-            while k > 0 && (level < k || code & ((1_u32 << (2 * (k % 4))) - 1) != 0) {
-                k -= 1;
-            }
+            let k = size_at(code, level.min(draw.below(4) as u8));
             let p = pixel_of(code);
             blocks.push(Square {
                 code,

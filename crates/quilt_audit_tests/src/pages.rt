@@ -50,7 +50,7 @@ fn damaged_pages(rt: HostRuntime) -> Result<(), Fail> {
     if records.len() > 144 {
         return Err(Fail::from("72 records"));
     }
-    let inner = InnerPage::pair(2, 2, &records[0].key, 2);
+    let inner = InnerPage::pair(2, 2, &entry(0, b'a', 1).key, 2);
     let mut twice = stored(rt.alloc(), inner.bytes(), &leaf_page(&records))?;
     let leaf = Some(Stop::Damaged { page: 2 });
     assert_eq!(rt; audit(rt.alloc(), &mut twice, &head(1, 2, 144), 16).err(), leaf);

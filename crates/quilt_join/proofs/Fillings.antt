@@ -1,5 +1,6 @@
 -- Segments come into the buckets of the blocks of their spans.
-use Rattle.std.proofs.Common.{◌≡◌, ℕ, zero, suc, ◌+◌, ◌-◌, ◌*◌, ◌^◌, ◌<◌, ◌≤◌, ◌⊎◌, inl, inr, ⊎_elim, List, [], ◌∷◌, ◌++◌, length, pow-add, Contains, arith, ap, sym, ◌∙◌, refl, subst}
+use Rattle.std.proofs.Common.{◌≡◌, ℕ, zero, suc, ◌+◌, ◌-◌, ◌*◌, ◌^◌, ◌<◌, ◌≤◌, ◌⊎◌, inl, inr}
+use Rattle.std.proofs.Common.{⊎_elim, List, [], ◌∷◌, ◌++◌, length, pow-add, Contains, arith, ap, sym, ◌∙◌, refl, subst}
 use Rattle.std.specs.Prelude.{slice_set}
 use Rattle.std.proofs.lemmas.Bool.{cases_eq}
 use Rattle.std.proofs.lemmas.List.{get_or-set_same, get_or-set_other, length-set}
@@ -23,18 +24,23 @@ empty_more (x ∷ xs) h (suc n) = empty_more xs (λ m. h (suc m)) n
 abbrev pub with_one : List (List (ℕ × Seg)) → ℕ → ℕ × Seg → List (List (ℕ × Seg))
 with_one lists at e = slice_set lists at (bucket_at lists at ++ e ∷ [])
 
-one_here : (lists : List (List (ℕ × Seg))) (at : ℕ) (e : ℕ × Seg) (n : ℕ) → at < length lists → n ≡ at → bucket_at (with_one lists at e) n ≡ bucket_at lists n ++ e ∷ []
+one_here : (lists : List (List (ℕ × Seg))) (at : ℕ) (e : ℕ × Seg) (n : ℕ) → at < length lists → n ≡ at →
+    bucket_at (with_one lists at e) n ≡ bucket_at lists n ++ e ∷ []
 one_here lists at e n within same =
-    ap (λ m. bucket_at (with_one lists at e) m) same ∙ get_or-set_same lists at (bucket_at lists at ++ e ∷ []) [] within ∙ ap (λ m. bucket_at lists m ++ e ∷ []) (sym same)
+    ap (λ m. bucket_at (with_one lists at e) m) same ∙ get_or-set_same lists at (bucket_at lists at ++ e ∷ []) [] within ∙ ap
+    (λ m. bucket_at lists m ++ e ∷ []) (sym same)
 
-one_from : (lists : List (List (ℕ × Seg))) (at : ℕ) (e : ℕ × Seg) (n : ℕ) (f : ℕ × Seg) → at < length lists → Contains (bucket_at (with_one lists at e) n) f → Contains (bucket_at lists n) f ⊎ (f ≡ e)
+one_from : (lists : List (List (ℕ × Seg))) (at : ℕ) (e : ℕ × Seg) (n : ℕ) (f : ℕ × Seg) → at < length lists →
+    Contains (bucket_at (with_one lists at e) n) f → Contains (bucket_at lists n) f ⊎ (f ≡ e)
 one_from lists at e n f within h =
     ⊎_elim
-    (λ same. ⊎_elim (λ c. inl c) (λ is. inr (sym is)) (Contains-push_cases (bucket_at lists n) e f (subst (λ (l : List (ℕ × Seg)). Contains l f) (one_here lists at e n within same) h)))
+    (λ same. ⊎_elim (λ c. inl c) (λ is. inr (sym is)) (Contains-push_cases (bucket_at lists n) e f (subst (λ (l : List (ℕ × Seg)). Contains l f)
+    (one_here lists at e n within same) h)))
     (λ differ. inl (subst (λ (l : List (ℕ × Seg)). Contains l f) (get_or-set_other lists at n (bucket_at lists at ++ e ∷ []) [] differ) h))
     (cases_eq n at)
 
-one_kept : (lists : List (List (ℕ × Seg))) (at : ℕ) (e : ℕ × Seg) (n : ℕ) (f : ℕ × Seg) → at < length lists → Contains (bucket_at lists n) f → Contains (bucket_at (with_one lists at e) n) f
+one_kept : (lists : List (List (ℕ × Seg))) (at : ℕ) (e : ℕ × Seg) (n : ℕ) (f : ℕ × Seg) → at < length lists → Contains (bucket_at lists n) f →
+    Contains (bucket_at (with_one lists at e) n) f
 one_kept lists at e n f within h =
     ⊎_elim
     (λ same. subst (λ (l : List (ℕ × Seg)). Contains l f) (sym (one_here lists at e n within same)) (Contains-append_left (bucket_at lists n) (e ∷ []) f h))
@@ -53,7 +59,8 @@ put_none p columns lists e = record {
   put = λ i lt. absurd (omega arith);
 }
 
-pub put_more : (p : Span) (columns k : ℕ) (old mid new : List (List (ℕ × Seg))) (e : ℕ × Seg) → HasPut p columns k old mid e → number_at p columns k < length mid →
+pub put_more : (p : Span) (columns k : ℕ) (old mid new : List (List (ℕ × Seg))) (e : ℕ × Seg) → HasPut p columns k old mid e →
+    number_at p columns k < length mid →
     new ≡ with_one mid (number_at p columns k) e → HasPut p columns (k + 1) old new e
 put_more p columns k old mid new e h within is =
     let at = number_at p columns k in
@@ -68,7 +75,8 @@ put_more p columns k old mid new e h within is =
     })
 
 -- no segment is in empty buckets
-pub filled_none : (w columns : ℕ) (lists : List (List (ℕ × Seg))) → 0 < w → length lists ≡ columns * columns → ((n : ℕ) → bucket_at lists n ≡ []) → AreFilled w columns lists []
+pub filled_none : (w columns : ℕ) (lists : List (List (ℕ × Seg))) → 0 < w → length lists ≡ columns * columns → ((n : ℕ) → bucket_at lists n ≡ []) →
+    AreFilled w columns lists []
 filled_none w columns lists pos size empty = record {
   positive = pos;
   size = size;

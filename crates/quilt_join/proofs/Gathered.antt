@@ -1,5 +1,6 @@
 -- What threads gave for each segment of a list, and the pairs that it makes together.
-use Rattle.std.proofs.Common.{◌≡◌, ℕ, suc, ◌+◌, ◌<◌, ◌≤◌, true, false, nat_lt, List, [], ◌∷◌, ◌++◌, length, map, filter, flat_map, sum, Ok, Err, refl, sym, ap, ap₂, ◌∙◌, subst, arith}
+use Rattle.std.proofs.Common.{◌≡◌, ℕ, suc, ◌+◌, ◌<◌, ◌≤◌, true, false, nat_lt, List, [], ◌∷◌, ◌++◌}
+use Rattle.std.proofs.Common.{length, map, filter, flat_map, sum, Ok, Err, refl, sym, ap, ap₂, ◌∙◌, subst, arith}
 use Rattle.std.specs.Prelude.{IfOk, MatchResult}
 use Rattle.std.specs.List.{AllZip}
 use Rattle.std.specs.declared.result.Result.{Result}
@@ -20,7 +21,8 @@ module _ {X Y : Type 0} (R : X → Y → Type 0) (E : Type 0) where
   values (x ∷ xs) (y ∷ ys) h = (h.0, values xs ys h.1)
 
   -- all results are values
-  pub all_values : (xs : List X) (rs : List (Result Y E)) (ys : List Y) → AllZip (λ x (r : Result Y E). IfOk r (R x)) xs rs → rs ≡ map {A = Y} {B = Result Y E} Ok ys → AllZip R xs ys
+  pub all_values : (xs : List X) (rs : List (Result Y E)) (ys : List Y) → AllZip (λ x (r : Result Y E). IfOk r (R x)) xs rs →
+      rs ≡ map {A = Y} {B = Result Y E} Ok ys → AllZip R xs ys
   all_values xs rs ys h e = values xs ys (subst (AllZip (λ x (r : Result Y E). IfOk r (R x)) xs) e h)
 
 pub if_ok_then : {V E : Type 0} (r : Result V E) (P S : V → Type 0) (Q : E → Type 0) → ((v : V) → P v → S v) → MatchResult r P Q → IfOk r S

@@ -11,7 +11,8 @@ pub crossed : (s r : Seg) →
     ≡ (right_products r s.x1 s.y1 + left_products r s.x2 s.y2) + (left_products s r.x2 r.y2 + right_products s r.x1 r.y1)
 crossed s r = omega arith
 
-meeting : (a b c d e f g h : ℕ) → a * f + b * e ≡ c * h + d * g → e + f ≡ g + h → IsOneCoordinate a b (record { num = e; den = e + f }) c d (record { num = g; den = g + h })
+meeting : (a b c d e f g h : ℕ) → a * f + b * e ≡ c * h + d * g → e + f ≡ g + h →
+    IsOneCoordinate a b (record { num = e; den = e + f }) c d (record { num = g; den = g + h })
 meeting a b c d e f g h is same = omega (arith, ap (λ z. z * (g + h)) is, ap (λ z. (c * h + d * g) * z) same)
 
 -- how far the ends are beyond the lines: those of the first segment by e and f, those of the second by g and h

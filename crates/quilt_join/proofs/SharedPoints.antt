@@ -25,8 +25,10 @@ one_way : (a b c d p o m n : ℕ) → IsOneCoordinate a b (record { num = p; den
 one_way a b c d p o m n e = omega (arith, e)
 
 -- twice the areas of the ends' triangles, weighted by the parts, come to nothing
-balanced : (x1 y1 x2 y2 c1 d1 c2 d2 p o m n : ℕ) → (x1 * o + x2 * p) * (m + n) ≡ (c1 * n + c2 * m) * (p + o) → (y1 * o + y2 * p) * (m + n) ≡ (d1 * n + d2 * m) * (p + o) →
-    (m + n) * (o * (c2 * y1 + c1 * d2 + x1 * d1) + p * (c2 * y2 + c1 * d2 + x2 * d1)) ≡ (m + n) * (o * (c2 * d1 + c1 * y1 + x1 * d2) + p * (c2 * d1 + c1 * y2 + x2 * d2))
+balanced : (x1 y1 x2 y2 c1 d1 c2 d2 p o m n : ℕ) → (x1 * o + x2 * p) * (m + n) ≡ (c1 * n + c2 * m) * (p + o) →
+    (y1 * o + y2 * p) * (m + n) ≡ (d1 * n + d2 * m) * (p + o) →
+    (m + n) * (o * (c2 * y1 + c1 * d2 + x1 * d1) + p * (c2 * y2 + c1 * d2 + x2 * d1)) ≡ (m + n) * (o * (c2 * d1 + c1 * y1 + x1 * d2) + p *
+    (c2 * d1 + c1 * y2 + x2 * d2))
 balanced x1 y1 x2 y2 c1 d1 c2 d2 p o m n e f =
     omega (arith, ap (λ z. c2 * z) f, ap (λ z. d1 * z) e, ap (λ z. c1 * z) f, ap (λ z. d2 * z) e)
 
@@ -66,9 +68,11 @@ or_right a b h = grind (arith, nat_tests)
 turned_or : (u v s t : ℕ) → (v < u → t < s → ⊥) → (u < v → s < t → ⊥) → (is_turned (u, v) (s, t) || is_turned (s, t) (u, v)) ≡ true
 turned_or u v s t f g =
     ⊎_elim
-    (λ vu. ⊎_elim (λ ts. absurd (f vu ts)) (λ no. or_right (is_turned (u, v) (s, t)) (is_turned (s, t) (u, v)) (turned_is s t u v (omega arith) (omega arith))) (cases_lt t s))
+    (λ vu. ⊎_elim (λ ts. absurd (f vu ts)) (λ no. or_right (is_turned (u, v) (s, t)) (is_turned (s, t) (u, v)) (turned_is s t u v (omega arith)
+    (omega arith))) (cases_lt t s))
     (λ uv. ⊎_elim
-    (λ st. ⊎_elim (λ less. absurd (g less st)) (λ no. or_right (is_turned (u, v) (s, t)) (is_turned (s, t) (u, v)) (turned_is s t u v (omega arith) (omega arith))) (cases_lt u v))
+    (λ st. ⊎_elim (λ less. absurd (g less st)) (λ no. or_right (is_turned (u, v) (s, t)) (is_turned (s, t) (u, v)) (turned_is s t u v (omega arith)
+    (omega arith))) (cases_lt u v))
     (λ no. or_left (is_turned (u, v) (s, t)) (is_turned (s, t) (u, v)) (turned_is u v s t (omega arith) (omega arith)))
     (cases_lt s t))
     (cases_lt v u)
@@ -88,10 +92,13 @@ shared_parts s r h =
     let some : 0 < o + p = omega arith in
     let pos : 0 < m + n = omega arith in
     turned_or (left_products r s.x1 s.y1) (right_products r s.x1 s.y1) (left_products r s.x2 s.y2) (right_products r s.x2 s.y2)
-    (λ f g. uneven (m + n) o p (left_products r s.x1 s.y1) (right_products r s.x1 s.y1) (left_products r s.x2 s.y2) (right_products r s.x2 s.y2) pos some even f g)
-    (λ f g. uneven (m + n) o p (right_products r s.x1 s.y1) (left_products r s.x1 s.y1) (right_products r s.x2 s.y2) (left_products r s.x2 s.y2) pos some (sym even) f g)
+    (λ f g. uneven (m + n) o p (left_products r s.x1 s.y1) (right_products r s.x1 s.y1) (left_products r s.x2 s.y2)
+    (right_products r s.x2 s.y2) pos some even f g)
+    (λ f g. uneven (m + n) o p (right_products r s.x1 s.y1) (left_products r s.x1 s.y1) (right_products r s.x2 s.y2)
+    (left_products r s.x2 s.y2) pos some (sym even) f g)
 
-apart_at : (k a b c e d f p o m n : ℕ) → c + e ≡ k → d + f ≡ k → ((k + suc a) * o + (k + suc b) * p) * (m + n) ≡ (c * n + d * m) * (p + o) → 0 < (p + o) * (m + n) → ⊥
+apart_at : (k a b c e d f p o m n : ℕ) → c + e ≡ k → d + f ≡ k → ((k + suc a) * o + (k + suc b) * p) * (m + n) ≡ (c * n + d * m) * (p + o) →
+    0 < (p + o) * (m + n) → ⊥
 apart_at k a b c e d f p o m n g h is pos = omega (arith, ap (λ z. z * (n * (p + o))) g, ap (λ z. z * (m * (p + o))) h)
 
 -- in one direction: points in common are in no two stretches of which one is wholly beyond the other

@@ -1,5 +1,6 @@
 -- The ids of the segments that share a point with one: those of its buckets, in order and each once.
-use Rattle.std.proofs.Common.{◌≡◌, ℕ, zero, suc, ◌<◌, ◌↔◌, Bool, true, ◌&&◌, ⊎_elim, List, [], ◌∷◌, map, filter, Contains, nat_cmp, Ordering, eqb, arith, sym, ◌∙◌, subst}
+use Rattle.std.proofs.Common.{◌≡◌, ℕ, zero, suc, ◌<◌, ◌↔◌, Bool, true, ◌&&◌, ⊎_elim, List}
+use Rattle.std.proofs.Common.{[], ◌∷◌, map, filter, Contains, nat_cmp, Ordering, eqb, arith, sym, ◌∙◌, subst}
 use Rattle.std.specs.List.{AllPairs, dedup}
 use Rattle.std.specs.List.Sorted.{IsSorted, IsPermutation, IsStrictlyIncreasing}
 use Rattle.std.proofs.lemmas.Bool.{cases_lt}
@@ -62,7 +63,8 @@ over_from s p columns lists (suc k) x h =
     ⊎_elim (λ c. over_from s p columns lists k x c) (λ c. (k, c))
     (Contains-append_cases (ids_over s p columns lists k) (ids_sharing s (bucket_at lists (number_at p columns k))) x h)
 
-over_has : (s : Seg) (p : Span) (columns : ℕ) (lists : List (List (ℕ × Seg))) (k i x : ℕ) → i < k → Contains (ids_sharing s (bucket_at lists (number_at p columns i))) x →
+over_has : (s : Seg) (p : Span) (columns : ℕ) (lists : List (List (ℕ × Seg))) (k i x : ℕ) → i < k →
+    Contains (ids_sharing s (bucket_at lists (number_at p columns i))) x →
     Contains (ids_over s p columns lists k) x
 over_has s p columns lists zero i x lt h = absurd (omega arith)
 over_has s p columns lists (suc k) i x lt h =
@@ -92,8 +94,10 @@ over_same w columns lists b s filled x = (
       let boxes = and_parts (overlap s.x1 s.x2 r.x1 r.x2) (overlap s.y1 s.y2 r.y1 r.y2) (parts s r) (parts r s) (sym (shares_is s r) ∙ e.2) in
       let both = touch_both s r w columns filled.positive boxes.0 boxes.1 in
       let place = touched_at (span_at w s) columns both.0 both.1 in
-      let held : Contains (bucket_at lists (number_at (span_at w s) columns place.0)) e.0 = subst (λ (m : ℕ). Contains (bucket_at lists m) e.0) (sym place.2) (filled.all e.0 both.0 e.1 both.2) in
-      over_has s (span_at w s) columns lists (count (span_at w s)) place.0 x place.1 (subst (Contains (ids_sharing s (bucket_at lists (number_at (span_at w s) columns place.0)))) e.3 (sharing_has s _ e.0 held e.2)),
+      let held : Contains (bucket_at lists (number_at (span_at w s) columns place.0)) e.0 = subst (λ (m : ℕ). Contains (bucket_at lists m) e.0)
+      (sym place.2) (filled.all e.0 both.0 e.1 both.2) in
+      over_has s (span_at w s) columns lists (count (span_at w s)) place.0 x place.1 (subst (Contains (ids_sharing s (bucket_at lists (number_at
+      (span_at w s) columns place.0)))) e.3 (sharing_has s _ e.0 held e.2)),
 )
 
 -- sorted, and each once
@@ -104,6 +108,8 @@ row_same w columns lists b s sorted last filled ids same order is =
     let over = ids_over s (span_at w s) columns lists (count (span_at w s)) in
     let rising = rises_from last (subst IsStrictlyIncreasing (sym is) (IsStrictlyIncreasing-dedup sorted order)) in
     same_rising nat_cmp nat_cmp_total last (ids_sharing s b) rising (rises_sharing s b ids) (λ x. (
-      λ c. (over_same w columns lists b s filled x).0 (Contains-permutation sorted over x (IsPermutation-sym over sorted same) (Contains-from_dedup eqb sorted x (subst (λ (l : List ℕ). Contains l x) is c))),
-      λ c. subst (λ (l : List ℕ). Contains l x) (sym is) (Contains-dedup_nat sorted x (Contains-permutation over sorted x same ((over_same w columns lists b s filled x).1 c))),
+      λ c. (over_same w columns lists b s filled x).0 (Contains-permutation sorted over x (IsPermutation-sym over sorted same)
+          (Contains-from_dedup eqb sorted x (subst (λ (l : List ℕ). Contains l x) is c))),
+      λ c. subst (λ (l : List ℕ). Contains l x) (sym is) (Contains-dedup_nat sorted x (Contains-permutation over sorted x same
+          ((over_same w columns lists b s filled x).1 c))),
     ))

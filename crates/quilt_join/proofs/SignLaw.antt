@@ -108,5 +108,6 @@ sign_law found s r is = (
       signs_share s r all.0 all.1 all.2 all.3,
   λ share.
       let boxes = shared_overlap s r share in
-      is ∙ shares_is s r ∙ all_of (overlap s.x1 s.x2 r.x1 r.x2) (overlap s.y1 s.y2 r.y1 r.y2) (parts s r) (parts r s) boxes.0 boxes.1 (shared_parts r s (shared_back s r share)) (shared_parts s r share),
+      is ∙ shares_is s r ∙ all_of (overlap s.x1 s.x2 r.x1 r.x2) (overlap s.y1 s.y2 r.y1 r.y2) (parts s r) (parts r s) boxes.0 boxes.1
+      (shared_parts r s (shared_back s r share)) (shared_parts s r share),
 )

@@ -15,7 +15,8 @@ quotients : (a b w : ℕ) → 0 < w → a ≤ b → a / w ≤ b / w
 quotients a b w h k = le-div (a / w) b w h (omega (arith, div-mul-le_self a w))
 
 -- the place of a block in a span
-place_at : (columns_before columns rows_before rows : ℕ) → columns_before < columns → rows_before < rows → rows_before * columns + columns_before < columns * rows
+place_at : (columns_before columns rows_before rows : ℕ) → columns_before < columns → rows_before < rows →
+    rows_before * columns + columns_before < columns * rows
 place_at a c b r h k = omega (arith, mul-le-mul_right {m = suc b} {n = r} c k)
 
 -- a block of a span stands at some place

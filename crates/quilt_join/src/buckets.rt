@@ -109,10 +109,12 @@ impl Buckets {
 
     /// Puts a segment into the bucket of each block that the box round it touches.
     fn put(&mut self, id: u32, s: Seg) -> Result<(), AllocError>
-        requires fits { (i : ℕ) → i < count_of (span_at (2 ^ self.old.shift) s) → number_at (span_at (2 ^ self.old.shift) s) self.old.columns i < length self.old.lists.items }
+        requires fits { (i : ℕ) → i < count_of (span_at (2 ^ self.old.shift) s) →
+            number_at (span_at (2 ^ self.old.shift) s) self.old.columns i < length self.old.lists.items }
         ensures shift { self.new.shift ≡ self.old.shift }
         ensures columns { self.new.columns ≡ self.old.columns }
-        ensures put { OnOk result (HasPut (span_at (2 ^ self.old.shift) s) self.old.columns (count_of (span_at (2 ^ self.old.shift) s)) self.old.lists.items self.new.lists.items (id, s)) }
+        ensures put { OnOk result (HasPut (span_at (2 ^ self.old.shift) s) self.old.columns (count_of (span_at (2 ^ self.old.shift) s))
+            self.old.lists.items self.new.lists.items (id, s)) }
     {
         let span = Span::of(s, self.shift);
         for place in 0..span.count() {

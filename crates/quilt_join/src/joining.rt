@@ -1,10 +1,10 @@
-ghost use Rattle.std.specs.Prelude.{◌≡◌, ◌<◌, ◌≤◌, ◌^◌, ℕ, List, true, nat_lt, map, sum, length, flat_map, ◌+◌, All, IfOk, IfSome, IfNone};
+ghost use Rattle.std.specs.Prelude.{◌≡◌, ◌<◌, ◌≤◌, ℕ, List, true, nat_lt, map, sum, length, flat_map, ◌+◌, All, IfOk, IfSome, IfNone};
 ghost use Rattle.std.specs.FinMap as finmap;
 ghost use Rattle.std.specs.List.Sorted.{IsStrictlyIncreasing};
 ghost use Rattle.quilt_types.specs.declared.plane.Seg.{Seg as SegOf};
 ghost use Rattle.quilt_types.specs.Layers.{SegMap, is_in_square};
 ghost use Rattle.quilt_types.specs.Crossings.{crossings as crossings_of_maps};
-ghost use Rattle.quilt_join.specs.Buckets.{AreFilled};
+ghost use Rattle.quilt_join.specs.Serving.{Serves};
 ghost use Rattle.quilt_join.specs.Pairs.{IsAnswer, crossings_of, ids_sharing, pairs_with, most as most_pairs};
 
 use crate::buckets::Buckets;
@@ -29,13 +29,13 @@ fn counts_of<R: Threads + Sync>(
     buckets: &Buckets,
     list: &[(u32, Seg)],
 ) -> Result<Vec<usize>, AllocError>
-    ensures { (b : List (ℕ × SegOf)) → AreFilled (2 ^ buckets.now.shift) buckets.now.columns buckets.now.lists.items b → IsStrictlyIncreasing (map (λ e. e.0) b) → IfOk result (λ v. v.items ≡ map (λ e. length (ids_sharing e.1 b)) list.now) }
+    ensures { (b : List (ℕ × SegOf)) → Serves buckets.now b → IfOk result (λ v. v.items ≡ map (λ e. length (ids_sharing e.1 b)) list.now) }
 {
     let counts: Result<Vec<usize>, AllocError> = list
         .par_iter()
         .map(
             |e: &(u32, Seg)| -> Result<usize, AllocError>
-                ensures { (b : List (ℕ × SegOf)) → AreFilled (2 ^ buckets.entry.now.shift) buckets.entry.now.columns buckets.entry.now.lists.items b → IsStrictlyIncreasing (map (λ f. f.0) b) → IfOk result (λ n. n ≡ length (ids_sharing e.now.1 b)) }
+                ensures { (b : List (ℕ × SegOf)) → Serves buckets.entry.now b → IfOk result (λ n. n ≡ length (ids_sharing e.now.1 b)) }
             { count_of(alloc, buckets, e.1) },
         )
         .collect(rt, alloc)?;
@@ -49,13 +49,13 @@ fn rows_of<R: Threads + Sync>(
     buckets: &Buckets,
     list: &[(u32, Seg)],
 ) -> Result<Vec<PairList>, AllocError>
-    ensures { (b : List (ℕ × SegOf)) → AreFilled (2 ^ buckets.now.shift) buckets.now.columns buckets.now.lists.items b → IsStrictlyIncreasing (map (λ e. e.0) b) → IfOk result (λ v. v.items ≡ map (λ e. pairs_with e.0 (ids_sharing e.1 b)) list.now) }
+    ensures { (b : List (ℕ × SegOf)) → Serves buckets.now b → IfOk result (λ v. v.items ≡ map (λ e. pairs_with e.0 (ids_sharing e.1 b)) list.now) }
 {
     let rows: Result<Vec<PairList>, AllocError> = list
         .par_iter()
         .map(
             |e: &(u32, Seg)| -> Result<PairList, AllocError>
-                ensures { (b : List (ℕ × SegOf)) → AreFilled (2 ^ buckets.entry.now.shift) buckets.entry.now.columns buckets.entry.now.lists.items b → IsStrictlyIncreasing (map (λ f. f.0) b) → IfOk result (λ row. row ≡ pairs_with e.now.0 (ids_sharing e.now.1 b)) }
+                ensures { (b : List (ℕ × SegOf)) → Serves buckets.entry.now b → IfOk result (λ row. row ≡ pairs_with e.now.0 (ids_sharing e.now.1 b)) }
             { pairs_of(alloc, buckets, e.0, e.1) },
         )
         .collect(rt, alloc)?;
@@ -86,7 +86,8 @@ fn are_more<R: Threads + Sync>(
     buckets: &Buckets,
     list: &[(u32, Seg)],
 ) -> Result<bool, AllocError>
-    ensures { (b : List (ℕ × SegOf)) → AreFilled (2 ^ buckets.now.shift) buckets.now.columns buckets.now.lists.items b → IsStrictlyIncreasing (map (λ e. e.0) b) → IfOk result (λ more. more ≡ nat_lt most_pairs (sum (map (λ e. length (ids_sharing e.1 b)) list.now))) }
+    ensures { (b : List (ℕ × SegOf)) → Serves buckets.now b →
+        IfOk result (λ more. more ≡ nat_lt most_pairs (sum (map (λ e. length (ids_sharing e.1 b)) list.now))) }
 {
     let mut total = 0_usize;
     let mut rest = list;

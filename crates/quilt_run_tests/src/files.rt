@@ -18,7 +18,12 @@ pub fn empty_desk(rt: &impl Abort, alloc: Global) -> Desk
 }
 
 /// The file that `new m PAGES LEVEL` makes.
-pub fn file_of<R: Threads + Sync + Abort>(rt: &R, alloc: Global, pages: &str, level: &str) -> Image {
+pub fn file_of<R: Threads + Sync + Abort>(
+    rt: &R,
+    alloc: Global,
+    pages: &str,
+    level: &str,
+) -> Image {
     let words = ["new", "m", pages, level];
     let (_, desk) = run_quilt(rt, alloc, &words, empty_desk(rt, alloc));
     file_after(rt, &desk)

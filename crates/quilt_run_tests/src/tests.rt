@@ -1,7 +1,10 @@
 mod answers;
+mod drawn;
 mod editions;
 mod faults;
 mod openings;
 mod pools;
+mod rows;
+mod stops;
 mod trials;
 mod words;

@@ -32,7 +32,12 @@ fn ends_a_trial_at_each_fault(rt: HostRuntime) {
 #[test]
 fn tries_no_file_that_is_not_there(rt: HostRuntime) {
     let alloc = rt.alloc();
-    let (end, desk) = run_quilt(&rt, alloc, &["trial", "m", "0", "1"], empty_desk(&rt, alloc));
+    let (end, desk) = run_quilt(
+        &rt,
+        alloc,
+        &["trial", "m", "0", "1"],
+        empty_desk(&rt, alloc),
+    );
     assert_eq!(rt; end, End::Missing);
     assert!(rt; desk.output().is_empty());
 }

@@ -1,14 +1,13 @@
-use Rattle.std.proofs.Common.{◌≡◌, ℕ, ◌+◌, ◌^◌, ◌≤◌, List, length, map, sum}
-use Rattle.std.specs.List.Sorted.{IsStrictlyIncreasing}
+use Rattle.std.proofs.Common.{◌≡◌, ℕ, ◌+◌, ◌≤◌, List, length, map, sum}
 use Rattle.quilt_types.specs.declared.plane.Seg.{Seg}
-use Rattle.quilt_join.specs.Buckets.{AreFilled}
+use Rattle.quilt_join.specs.Serving.{Serves}
 use Rattle.quilt_join.specs.Pairs.{ids_sharing, most}
 use Rattle.quilt_join.proofs.joining.are_more.Given as goal
 
 abbrev pub invariant-loop-rest : goal.invariant-loop-rest
 invariant-loop-rest g l = record {
   few : l.total ≤ most;
-  counted : (b : List (ℕ × Seg)) → AreFilled (2 ^ l.buckets.shift) l.buckets.columns l.buckets.lists.items b → IsStrictlyIncreasing (map (λ e. e.0) b) →
+  counted : (b : List (ℕ × Seg)) → Serves l.buckets b →
       l.total + sum (map (λ e. length (ids_sharing e.1 b)) l.rest) ≡ sum (map (λ e. length (ids_sharing e.1 b)) l.list);
 }
 

@@ -9,7 +9,7 @@ use Rattle.quilt_join.proofs.Gathered.{all_values, if_ok_then}
 use Rattle.quilt_join.proofs.joining.rows_of.Goals as goal
 
 pub returns : goal.returns
-returns g c b filled ids =
+returns g c b serves =
     let slice = ap (λ it. it.slice.now) c.map.ensures.base ∙ c.par_iter.ensures in
     let h = c.in_ok-rows.ensures in
     let chain = rw c.map.ensures.f at h.1 in
@@ -17,4 +17,4 @@ returns g c b filled ids =
     if_ok_then c.in_ok-rows.rows _ (λ v. v.items ≡ map row c.args.list.now) _ (λ v m.
     m.2 ∙ slice-map chain.0 c.args.list.now (chain.1 ∙ slice) row m.0
     (all_values (λ z n. n ≡ row z.now) AllocError chain.0 h.0 m.0
-    (AllZip-weaken _ (λ z r. IfOk r (λ n. n ≡ row z.now)) (λ z r p. p b filled ids) chain.0 h.0 chain.2) m.1)) h.2
+    (AllZip-weaken _ (λ z r. IfOk r (λ n. n ≡ row z.now)) (λ z r p. p b serves) chain.0 h.0 chain.2) m.1)) h.2

@@ -17,7 +17,12 @@ put-requires c =
     let e = slice_index_or c.args.list.now c.loop-id.id-index no_seg in
     let inside = c.requires.ends c.loop-id.id-index no_seg c.loop-id-test.true in
     record {
-      fits = rw (i.shift, i.columns) (λ place lt. omega (arith, number_below c.args.level e.1 (2 ^ c.args.shift) c.columns_of-columns.result place inside i.filled.positive c.columns_of-columns.ensures.whole lt, i.filled.size));
+      fits = rw (i.shift, i.columns) (λ place lt. omega (
+        arith,
+        number_below c.args.level e.1
+            (2 ^ c.args.shift) c.columns_of-columns.result place inside i.filled.positive c.columns_of-columns.ensures.whole lt,
+        i.filled.size,
+      ));
     }
 
 pub loop-id-preserved : goal.loop-id-preserved
@@ -26,10 +31,12 @@ loop-id-preserved c =
     let e = slice_index_or c.args.list.now c.loop-id.id-index no_seg in
     let old = c.loop-id.buckets.lists.items in
     let new = c.put.new.self.lists.items in
-    let put : HasPut (span_at (2 ^ c.args.shift) e.1) c.columns_of-columns.result (count (span_at (2 ^ c.args.shift) e.1)) old new e = rw (i.shift, i.columns) at c.in_ok-put.ensures.put in
+    let put : HasPut (span_at (2 ^ c.args.shift) e.1) c.columns_of-columns.result (count (span_at (2 ^ c.args.shift) e.1)) old new e = rw
+    (i.shift, i.columns) at c.in_ok-put.ensures.put in
     record {
       shift = c.put.ensures.shift ∙ i.shift;
       columns = c.put.ensures.columns ∙ i.columns;
-      filled = subst (AreFilled (2 ^ c.args.shift) c.columns_of-columns.result new) (sym (take_more c.args.list.now c.loop-id.id-index no_seg c.loop-id-test.true))
+      filled = subst (AreFilled (2 ^ c.args.shift) c.columns_of-columns.result new) (sym
+          (take_more c.args.list.now c.loop-id.id-index no_seg c.loop-id-test.true))
           (filled_more (2 ^ c.args.shift) c.columns_of-columns.result old new (take c.loop-id.id-index c.args.list.now) e i.filled put);
     }
