@@ -1,5 +1,5 @@
 -- The summary of a trial, by the numbers that it tells.
-use Rattle.std.proofs.Common.{◌≡◌, ℕ, ◌+◌, ◌-◌, ◌==◌, ◌&&◌, Bool, true, false, cond, map, append-nil, List, [], ◌∷◌, ◌++◌, length, Option, IfSome, subst, Some, None, unwrap_or, codes, decimal, refl, sym, ◌∙◌, ap, ap₂, arith, append_assoc, length-map}
+use Rattle.std.proofs.Common.{◌≡◌, ℕ, ◌+◌, ◌-◌, ◌==◌, ◌&&◌, Bool, true, false, cond, map, append-nil, List, [], ◌∷◌, ◌++◌, length, Option, IfSome, subst, Some, None, unwrap_or, codes, decimal, refl, sym, ◌∙◌, ap, arith}
 use Rattle.std.specs.List.{count_by, list_all}
 use Rattle.std.proofs.lemmas.Bool.{ne_eqb}
 use Rattle.std.proofs.lemmas.List.Sums.{count_by-le-length, sum_by-cons}
@@ -29,13 +29,14 @@ use Rattle.quilt_top.proofs.Said.{run_replies, length-replies, level_after}
 
 pub none_refused : (rs : List Reply) (refused : ℕ) → count_by is_done rs + refused ≡ length rs → (refused == 0) ≡ list_all is_done rs
 none_refused [] refused all = ap (λ k. k == 0) (let none : refused ≡ 0 = omega (arith, all) in none)
-none_refused (q ∷ rs) refused all = by (is_done q) refl (sum_by-cons (λ (p : Reply). cond {A = ℕ} (is_done p) 1 0) q rs)
+none_refused (q ∷ rs) refused all = by (is_done q) refl (sum_by-cons (λ (p : Reply). cond {A = ℕ} (is_done p) 1 0) q rs) (none_refused rs refused)
   where
-    by : (b : Bool) → is_done q ≡ b → count_by is_done (q ∷ rs) ≡ cond {A = ℕ} (is_done q) 1 0 + count_by is_done rs → (refused == 0) ≡ (is_done q && list_all is_done rs)
-    by true is first =
+    by : (b : Bool) → is_done q ≡ b → count_by is_done (q ∷ rs) ≡ cond {A = ℕ} (is_done q) 1 0 + count_by is_done rs → (count_by is_done rs + refused ≡ length rs → (refused == 0) ≡ list_all is_done rs)
+        → (refused == 0) ≡ (is_done q && list_all is_done rs)
+    by true is first rest =
         let one : cond {A = ℕ} (is_done q) 1 0 ≡ 1 = ap (λ b. cond {A = ℕ} b 1 0) is in
-        none_refused rs refused (omega (arith, all, first, one)) ∙ ap (λ b. b && list_all is_done rs) (sym is)
-    by false is first =
+        rest (omega (arith, all, first, one)) ∙ ap (λ b. b && list_all is_done rs) (sym is)
+    by false is first rest =
         let none : cond {A = ℕ} (is_done q) 1 0 ≡ 0 = ap (λ b. cond {A = ℕ} b 1 0) is in
         ne_eqb refused 0 (λ zero_. omega (arith, all, first, none, zero_, count_by-le-length is_done rs)) ∙ ap (λ b. b && list_all is_done rs) (sym is)
 

@@ -42,7 +42,7 @@ fn survey_book<W: World>(alloc: Global, mut book: Book<W>) -> Opened<W>
 {
     let pages = book.pages();
     let head = book.head();
-    match audit(&mut book, &head, pages) {
+    match audit(alloc, &mut book, &head, pages) {
         Ok(survey) => {
             let used = survey.used;
             book.set_used(&used);

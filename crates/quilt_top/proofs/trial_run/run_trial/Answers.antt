@@ -34,7 +34,7 @@ returns-in_err-put_reply-clause-front g c = λ s at.
     let tried = tried_as n _ c.args.seed c.args.count _ level text s so.0 tally so.2 in
     let counted = counted_as n _ c.args.seed c.args.count _ level text _ c.in_ok-tally.ensures.counted in
     let summary = summary_is n trial s so.0 first tally tried _ _ counted (c.head-head.ensures.records so.0 so.1) (c.head-head.ensures.number so.0 so.1) in
-    goes_part n (trial_run n s c.args.seed c.args.count) c.as_bytes.result.now _ _ _ (c.as_bytes.ensures ∙ c.in_ok-text.ensures ∙ summary)
+    goes_part n (trial_run n s c.args.seed c.args.count) c.as_bytes.result.now _ _ _ (c.as_bytes.ensures.value ∙ c.in_ok-text.ensures ∙ summary)
     (tries_as n _ c.args.seed c.args.count _ level text s _ _ (c.try_items.ensures.tries s at))
     (last_leaves n trial s so.0 first tally tried _ (leaves_told c.try_items.new.session so.0 so.1)) c.in_err-put_reply.ensures.part c.put_reply.ensures.text
 
@@ -50,7 +50,7 @@ returns-clause-whole g c = λ s at.
     let tried = tried_as n _ c.args.seed c.args.count _ level text s so.0 tally so.2 in
     let counted = counted_as n _ c.args.seed c.args.count _ level text _ c.in_ok-tally.ensures.counted in
     let summary = summary_is n trial s so.0 first tally tried _ _ counted (c.head-head.ensures.records so.0 so.1) (c.head-head.ensures.number so.0 so.1) in
-    goes_whole n (trial_run n s c.args.seed c.args.count) _ c.as_bytes.result.now _ _ _ (c.as_bytes.ensures ∙ c.in_ok-text.ensures ∙ summary)
+    goes_whole n (trial_run n s c.args.seed c.args.count) _ c.as_bytes.result.now _ _ _ (c.as_bytes.ensures.value ∙ c.in_ok-text.ensures ∙ summary)
     (flag_is n trial s so.0 first tally tried counted)
     (tries_as n _ c.args.seed c.args.count _ level text s _ _ (c.try_items.ensures.tries s at))
     (last_leaves n trial s so.0 first tally tried _ (leaves_told c.try_items.new.session so.0 so.1)) c.in_ok-put_reply.ensures.said c.put_reply.ensures.text
