@@ -13,8 +13,7 @@ ghost use Rattle.quilt_map.specs.Sessions.{IsAtState};
 use crate::regions::{read_colour, read_region, region_number};
 use crate::session::Session;
 use quilt_replies::{
-    Reply, edition_text, layers_text, leaves_text, number_text, records_text,
-    show_text,
+    Reply, edition_text, layers_text, leaves_text, number_text, records_text, show_text,
 };
 use quilt_store::PageStore;
 use quilt_types::{Code, Name, Pixel, Stop, Text, Window};

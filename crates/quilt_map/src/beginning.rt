@@ -60,11 +60,7 @@ impl<W: World> Session<W> {
         let Ok(text) = done_text(self.alloc) else {
             return Err(Stop::Memory);
         };
-        let entry = new_entry(
-            self.catalog.entries(),
-            name,
-            Kind::Lines { threshold: t },
-        );
+        let entry = new_entry(self.catalog.entries(), name, Kind::Lines { threshold: t });
         let first = quilt_lines::first_record(entry.number, self.book.head().level, t);
         let Ok(records) = listed(self.alloc, &entry, &[first]) else {
             return Err(Stop::Memory);

@@ -118,10 +118,7 @@ pub(crate) fn plan_removal<W: Disk>(
 }
 
 /// How many blocks of each side the work's line layer has: those of side 2 ^ k at place k.
-pub(crate) fn line_counts<W: Disk>(
-    book: &mut Book<W>,
-    layer: LineLayer,
-) -> Result<[u32; 13], Stop>
+pub(crate) fn line_counts<W: Disk>(book: &mut Book<W>, layer: LineLayer) -> Result<[u32; 13], Stop>
     ensures counts { IfOk result (λ counts. (segs : SegMap) (cover : BlockSet) → HoldsLines book.old layer segs cover →
         (k : ℕ) → k ≤ 12 → slice_index counts k ≡ count_by (λ b. b.side == side k) (finset.items cover)) }
     ensures sound { IfErr result (λ e. (segs : SegMap) (cover : BlockSet) → 1 ≤ layer.number → HoldsLines book.old layer segs cover → IsSound e) }
