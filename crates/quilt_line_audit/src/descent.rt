@@ -40,11 +40,7 @@ pub(crate) fn end_in(
 }
 
 /// The segments that meet the block.
-fn meeting(
-    alloc: Global,
-    segs: &[(u32, Seg)],
-    block: Block,
-) -> Result<Vec<(u32, Seg)>, AllocError>
+fn meeting(alloc: Global, segs: &[(u32, Seg)], block: Block) -> Result<Vec<(u32, Seg)>, AllocError>
     ensures { IfOk result (λ near. near.items ≡ filter (λ e. segment_meets e.1 (square_of block)) segs.now) }
 {
     let mut near = Vec::new(alloc);
