@@ -23,7 +23,8 @@ pub(crate) fn end_in(
     requires at { at ≤ length pairs.now }
     ensures within { IfOk result (λ o. IfSome o (λ end. end ≤ length pairs.now)) }
     ensures some { IfOk result (λ o. IfSome o (λ end. (k : ℕ) → square.side ≡ side_of k → Begins segs.now k square (drop at pairs.now) (drop end pairs.now))) }
-    ensures none { IfOk result (λ o. IfNone o ((k : ℕ) (rest : List AnyPair) → square.side ≡ side_of k → Begins segs.now k square (drop at pairs.now) rest → ⊥)) }
+    ensures none { IfOk result (λ o. IfNone o ((k : ℕ) (rest : List AnyPair) → square.side ≡ side_of k
+        → Begins segs.now k square (drop at pairs.now) rest → ⊥)) }
 {
     let near = meeting(alloc, segs, square)?;
     if square.side == 1 || is_on(pairs, at, square) {
