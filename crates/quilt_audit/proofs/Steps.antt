@@ -149,7 +149,7 @@ module _ (form n : ℕ) (es : List Entry) (last layer : ℕ) (run : Run) (rs : L
       let now = f.current some in record {
         listed = λ e m. in_front rs r (entry_record n e) (f.listed e m);
         named = f.named;
-          fitting = f.fitting;
+        fitting = f.fitting;
         least = f.least;
         most = f.most;
         differ = f.differ;

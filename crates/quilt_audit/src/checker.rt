@@ -85,8 +85,13 @@ impl Checker {
 
     /// Takes a record, where it may be the next one.
     fn take(&mut self, r: &Record) -> Result<bool, AllocError>
-        ensures yes { IfOk result (λ ok. (rs : List AnyRecord) → IsSoFar self.old.format self.old.level self.old.catalog self.old.last self.old.layer self.old.run rs → OnTrue ok (IsSoFar self.old.format self.old.level self.new.catalog self.new.last self.new.layer self.new.run (rs ++ r.now ∷ []) × HasBegun self.new.layer (rs ++ r.now ∷ []))) }
-        ensures no { IfOk result (λ ok. (rs : List AnyRecord) → IsSoFar self.old.format self.old.level self.old.catalog self.old.last self.old.layer self.old.run rs → HasBegun self.old.layer rs → OnFalse ok (Stops self.old.format self.old.level rs r.now)) }
+        ensures yes { IfOk result (λ ok. (rs : List AnyRecord)
+            → IsSoFar self.old.format self.old.level self.old.catalog self.old.last self.old.layer self.old.run rs
+            → OnTrue ok (IsSoFar self.old.format self.old.level self.new.catalog self.new.last self.new.layer self.new.run (rs ++ r.now ∷ [])
+            × HasBegun self.new.layer (rs ++ r.now ∷ []))) }
+        ensures no { IfOk result (λ ok. (rs : List AnyRecord)
+            → IsSoFar self.old.format self.old.level self.old.catalog self.old.last self.old.layer self.old.run rs → HasBegun self.old.layer rs
+            → OnFalse ok (Stops self.old.format self.old.level rs r.now)) }
         ensures level { self.new.level ≡ self.old.level }
         ensures format { self.new.format ≡ self.old.format }
         ensures due { self.new.due ≡ self.old.due }
@@ -101,8 +106,11 @@ impl Checker {
     /// Takes a record of the catalog, where it may be the next one.
     fn take_entry(&mut self, r: &Record) -> bool
         requires { r.now.key.layer ≡ 0 }
-        ensures yes { (rs : List AnyRecord) → IsSoFar self.old.format self.old.level self.old.catalog self.old.last self.old.layer self.old.run rs → OnTrue result (IsSoFar self.old.format self.old.level self.new.catalog self.new.last self.new.layer self.new.run (rs ++ r.now ∷ []) × HasBegun self.new.layer (rs ++ r.now ∷ [])) }
-        ensures no { (rs : List AnyRecord) → IsSoFar self.old.format self.old.level self.old.catalog self.old.last self.old.layer self.old.run rs → HasBegun self.old.layer rs → OnFalse result (Stops self.old.format self.old.level rs r.now) }
+        ensures yes { (rs : List AnyRecord) → IsSoFar self.old.format self.old.level self.old.catalog self.old.last self.old.layer self.old.run rs
+            → OnTrue result (IsSoFar self.old.format self.old.level self.new.catalog self.new.last self.new.layer self.new.run (rs ++ r.now ∷ [])
+            × HasBegun self.new.layer (rs ++ r.now ∷ [])) }
+        ensures no { (rs : List AnyRecord) → IsSoFar self.old.format self.old.level self.old.catalog self.old.last self.old.layer self.old.run rs
+            → HasBegun self.old.layer rs → OnFalse result (Stops self.old.format self.old.level rs r.now) }
         ensures level { self.new.level ≡ self.old.level }
         ensures format { self.new.format ≡ self.old.format }
         ensures due { self.new.due ≡ self.old.due }
@@ -132,8 +140,13 @@ impl Checker {
     /// Takes a record of a layer, where it may be the next one.
     fn take_block(&mut self, r: &Record) -> Result<bool, AllocError>
         requires { 1 ≤ r.now.key.layer }
-        ensures yes { IfOk result (λ ok. (rs : List AnyRecord) → IsSoFar self.old.format self.old.level self.old.catalog self.old.last self.old.layer self.old.run rs → OnTrue ok (IsSoFar self.old.format self.old.level self.new.catalog self.new.last self.new.layer self.new.run (rs ++ r.now ∷ []) × HasBegun self.new.layer (rs ++ r.now ∷ []))) }
-        ensures no { IfOk result (λ ok. (rs : List AnyRecord) → IsSoFar self.old.format self.old.level self.old.catalog self.old.last self.old.layer self.old.run rs → HasBegun self.old.layer rs → OnFalse ok (Stops self.old.format self.old.level rs r.now)) }
+        ensures yes { IfOk result (λ ok. (rs : List AnyRecord)
+            → IsSoFar self.old.format self.old.level self.old.catalog self.old.last self.old.layer self.old.run rs
+            → OnTrue ok (IsSoFar self.old.format self.old.level self.new.catalog self.new.last self.new.layer self.new.run (rs ++ r.now ∷ [])
+            × HasBegun self.new.layer (rs ++ r.now ∷ []))) }
+        ensures no { IfOk result (λ ok. (rs : List AnyRecord)
+            → IsSoFar self.old.format self.old.level self.old.catalog self.old.last self.old.layer self.old.run rs → HasBegun self.old.layer rs
+            → OnFalse ok (Stops self.old.format self.old.level rs r.now)) }
         ensures level { self.new.level ≡ self.old.level }
         ensures format { self.new.format ≡ self.old.format }
         ensures due { self.new.due ≡ self.old.due }
@@ -150,8 +163,13 @@ impl Checker {
     /// Turns to the layer with this number, which is the one whose records come or the next one of the catalog.
     fn turn_to(&mut self, layer: u16) -> Result<bool, AllocError>
         requires { (1 ≤ layer) × (layer ≤ 255) }
-        ensures yes { IfOk result (λ ok. (rs : List AnyRecord) → IsSoFar self.old.format self.old.level self.old.catalog self.old.last self.old.layer self.old.run rs → OnTrue ok (IsSoFar self.old.format self.old.level self.new.catalog self.new.last self.new.layer self.new.run rs × (self.new.layer ≡ layer))) }
-        ensures no { IfOk result (λ ok. (rs : List AnyRecord) (r : AnyRecord) → IsSoFar self.old.format self.old.level self.old.catalog self.old.last self.old.layer self.old.run rs → HasBegun self.old.layer rs → r.key.layer ≡ layer → OnFalse ok (Stops self.old.format self.old.level rs r)) }
+        ensures yes { IfOk result (λ ok. (rs : List AnyRecord)
+            → IsSoFar self.old.format self.old.level self.old.catalog self.old.last self.old.layer self.old.run rs
+            → OnTrue ok (IsSoFar self.old.format self.old.level self.new.catalog self.new.last self.new.layer self.new.run rs
+            × (self.new.layer ≡ layer))) }
+        ensures no { IfOk result (λ ok. (rs : List AnyRecord) (r : AnyRecord)
+            → IsSoFar self.old.format self.old.level self.old.catalog self.old.last self.old.layer self.old.run rs → HasBegun self.old.layer rs
+            → r.key.layer ≡ layer → OnFalse ok (Stops self.old.format self.old.level rs r)) }
         ensures level { self.new.level ≡ self.old.level }
         ensures format { self.new.format ≡ self.old.format }
         ensures due { self.new.due ≡ self.old.due }
@@ -189,8 +207,10 @@ impl Checker {
 
     /// The catalog, where the records were those of a map.
     pub fn finish(self) -> Result<Option<Catalog>, AllocError>
-        ensures some { IfOk result (λ o. IfSome o (λ entries. (total : ℕ) (rs : List AnyRecord) → IsFed total self rs → Rises by_key rs → IsSpelled self.format self.level entries rs × (length rs ≡ total))) }
-        ensures none { IfOk result (λ o. IfNone o ((total : ℕ) (rs : List AnyRecord) → IsFed total self rs → (numbers : Numbering) (layers : Map) → SpellsUnder self.format self.level numbers rs layers → length rs ≡ total → ⊥)) }
+        ensures some { IfOk result (λ o. IfSome o (λ entries. (total : ℕ) (rs : List AnyRecord) → IsFed total self rs → Rises by_key rs
+            → IsSpelled self.format self.level entries rs × (length rs ≡ total))) }
+        ensures none { IfOk result (λ o. IfNone o ((total : ℕ) (rs : List AnyRecord) → IsFed total self rs → (numbers : Numbering) (layers : Map)
+            → SpellsUnder self.format self.level numbers rs layers → length rs ≡ total → ⊥)) }
         ensures numbered { IfOk result (λ o. IfSome o (λ entries. (total : ℕ) (rs : List AnyRecord) → IsFed total self rs → AreNumbered self.format entries)) }
     {
         if !self.is_whole()? {

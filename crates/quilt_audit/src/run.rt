@@ -38,8 +38,10 @@ impl Run {
     pub fn take(&mut self, r: &Record, level: u8, format: u8) -> Result<bool, AllocError>
         requires level { (1 ≤ level) × (level ≤ 12) }
         requires layer { (1 ≤ r.now.key.layer) × (r.now.key.layer ≤ 255) }
-        ensures taken { IfOk result (λ ok. (rs : List AnyRecord) (kind : AnyKind) → IsRun format level rs r.now.key.layer kind self.old → OnTrue ok (IsRun format level (rs ++ r.now ∷ []) r.now.key.layer kind self.new)) }
-        ensures refused { IfOk result (λ ok. (rs : List AnyRecord) (kind : AnyKind) → IsRun format level rs r.now.key.layer kind self.old → OnFalse ok (Refuses format level rs r.now.key.layer kind r.now)) }
+        ensures taken { IfOk result (λ ok. (rs : List AnyRecord) (kind : AnyKind) → IsRun format level rs r.now.key.layer kind self.old
+            → OnTrue ok (IsRun format level (rs ++ r.now ∷ []) r.now.key.layer kind self.new)) }
+        ensures refused { IfOk result (λ ok. (rs : List AnyRecord) (kind : AnyKind) → IsRun format level rs r.now.key.layer kind self.old
+            → OnFalse ok (Refuses format level rs r.now.key.layer kind r.now)) }
     {
         let next = match self {
             Run::Region(run) => next_leaf(run, r, level, format),
@@ -73,8 +75,10 @@ impl Run {
 fn next_leaf(run: &RegionRun, r: &Record, level: u8, format: u8) -> Option<Run>
     requires level { (1 ≤ level) × (level ≤ 12) }
     requires layer { (1 ≤ r.now.key.layer) × (r.now.key.layer ≤ 255) }
-    ensures some { IfSome result (λ next. (rs : List AnyRecord) (kind : AnyKind) → IsRun format level rs r.now.key.layer kind (runs.Region run.now) → IsRun format level (rs ++ r.now ∷ []) r.now.key.layer kind next) }
-    ensures none { IfNone result ((rs : List AnyRecord) (kind : AnyKind) → IsRun format level rs r.now.key.layer kind (runs.Region run.now) → Refuses format level rs r.now.key.layer kind r.now) }
+    ensures some { IfSome result (λ next. (rs : List AnyRecord) (kind : AnyKind) → IsRun format level rs r.now.key.layer kind (runs.Region run.now)
+        → IsRun format level (rs ++ r.now ∷ []) r.now.key.layer kind next) }
+    ensures none { IfNone result ((rs : List AnyRecord) (kind : AnyKind) → IsRun format level rs r.now.key.layer kind (runs.Region run.now)
+        → Refuses format level rs r.now.key.layer kind r.now) }
 {
     let Some((block, colour)) = read_region(r, level, format) else {
         return None;
@@ -89,8 +93,10 @@ fn next_leaf(run: &RegionRun, r: &Record, level: u8, format: u8) -> Option<Run>
 fn next_point(run: &PointRun, r: &Record, level: u8) -> Option<Run>
     requires level { (1 ≤ level) × (level ≤ 12) }
     requires layer { (1 ≤ r.now.key.layer) × (r.now.key.layer ≤ 255) }
-    ensures some { IfSome result (λ next. (format : ℕ) (rs : List AnyRecord) (kind : AnyKind) → IsRun format level rs r.now.key.layer kind (runs.Points run.now) → IsRun format level (rs ++ r.now ∷ []) r.now.key.layer kind next) }
-    ensures none { IfNone result ((format : ℕ) (rs : List AnyRecord) (kind : AnyKind) → IsRun format level rs r.now.key.layer kind (runs.Points run.now) → Refuses format level rs r.now.key.layer kind r.now) }
+    ensures some { IfSome result (λ next. (format : ℕ) (rs : List AnyRecord) (kind : AnyKind)
+        → IsRun format level rs r.now.key.layer kind (runs.Points run.now) → IsRun format level (rs ++ r.now ∷ []) r.now.key.layer kind next) }
+    ensures none { IfNone result ((format : ℕ) (rs : List AnyRecord) (kind : AnyKind)
+        → IsRun format level rs r.now.key.layer kind (runs.Points run.now) → Refuses format level rs r.now.key.layer kind r.now) }
 {
     let Some((block, held)) = read_point(r, level, run.bucket) else {
         return None;

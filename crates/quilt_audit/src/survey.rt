@@ -65,11 +65,7 @@ pub fn audit<S: PageStore>(
 }
 
 /// Visits all pages of the tree, and hands its records to a checker.
-fn survey_tree<S: PageStore>(
-    alloc: Global,
-    store: &mut S,
-    head: &Head,
-) -> Result<Surveying, Stop>
+fn survey_tree<S: PageStore>(alloc: Global, store: &mut S, head: &Head) -> Result<Surveying, Stop>
     requires { IsHead (S.size store.old) head.now }
     ensures walked { IfOk result (λ s. IsWalked (S.size store.old) (S.told store.old) head.now s (S.reads store.old) (S.reads store.new)) }
     ensures damaged { IfErr result (OnDamaged (λ page. (told : List (List ℕ)) → S.told store.old ≡ Some told → walk_of told head.now.root head.now.height ≡ Damaged page)) }

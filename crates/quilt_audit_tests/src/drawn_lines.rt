@@ -118,11 +118,7 @@ fn segment(s: Line) -> Record {
 }
 
 /// The records of a layer with these blocks and segments, by the plain definition of its pairs.
-fn records_of(
-    alloc: Global,
-    blocks: &[Square],
-    lines: &[Line],
-) -> Result<Vec<Record>, AllocError> {
+fn records_of(alloc: Global, blocks: &[Square], lines: &[Line]) -> Result<Vec<Record>, AllocError> {
     let mut records = Vec::new(alloc);
     for b in blocks {
         let before = records.len();
@@ -145,7 +141,8 @@ fn records_of(
 fn are_cover(blocks: &[Square], level: u8) -> bool {
     let whole = 1_u32 << (level % 4);
     for b in blocks {
-        let stands = b.left & (b.side.wrapping_sub(1)) == 0 && b.top & (b.side.wrapping_sub(1)) == 0;
+        let stands = b.left & (b.side.wrapping_sub(1)) == 0
+            && b.top & (b.side.wrapping_sub(1)) == 0;
         if !stands || level < b.depth || 64 <= b.code {
             return false;
         }
@@ -181,9 +178,10 @@ fn is_layer(alloc: Global, records: &[Record], level: u8) -> Result<bool, AllocE
         }
     }
     let whole = 1_u32 << (level % 4);
-    let inside = lines
-        .iter()
-        .all(|s: &Line| s.x1 < whole && s.y1 < whole && s.x2 < whole && s.y2 < whole);
+    let inside = lines.iter().all(|s: &Line| s.x1 < whole
+        && s.y1 < whole
+        && s.x2 < whole
+        && s.y2 < whole);
     let wanted = records_of(alloc, blocks.as_slice(), lines.as_slice())?;
     Ok(inside && are_cover(blocks.as_slice(), level) && records == wanted.as_slice())
 }

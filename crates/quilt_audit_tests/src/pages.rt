@@ -32,7 +32,9 @@ fn no_tree(rt: HostRuntime) -> Result<(), Fail> {
         height: 0,
         records: 0,
     };
-    let survey = audit(rt.alloc(), &mut store, &empty, 16).ok().ok_or("a map")?;
+    let survey = audit(rt.alloc(), &mut store, &empty, 16)
+        .ok()
+        .ok_or("a map")?;
     assert_eq!(rt; survey.catalog.entries().len(), 0);
     assert_eq!(rt; survey.used[0], 0);
     Ok(())
@@ -42,7 +44,10 @@ fn no_tree(rt: HostRuntime) -> Result<(), Fail> {
 fn damaged_pages(rt: HostRuntime) -> Result<(), Fail> {
     let mut blank = stored(rt.alloc(), &BLANK, &BLANK)?;
     let root = Some(Stop::Damaged { page: 1 });
-    assert_eq!(rt; audit(rt.alloc(), &mut blank, &head(1, 1, 1), 16).err(), root);
+    assert_eq!(rt;
+        audit(rt.alloc(), &mut blank, &head(1, 1, 1), 16).err(),
+        root
+    );
     let mut records = Vec::new(rt.alloc());
     for number in 0..72 {
         records.push(entry(number, b'a', 1))?;
@@ -53,6 +58,9 @@ fn damaged_pages(rt: HostRuntime) -> Result<(), Fail> {
     let inner = InnerPage::pair(2, 2, &entry(0, b'a', 1).key, 2);
     let mut twice = stored(rt.alloc(), inner.bytes(), &leaf_page(&records))?;
     let leaf = Some(Stop::Damaged { page: 2 });
-    assert_eq!(rt; audit(rt.alloc(), &mut twice, &head(1, 2, 144), 16).err(), leaf);
+    assert_eq!(rt;
+        audit(rt.alloc(), &mut twice, &head(1, 2, 144), 16).err(),
+        leaf
+    );
     Ok(())
 }

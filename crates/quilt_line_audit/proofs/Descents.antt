@@ -52,7 +52,7 @@ module _ (b : Block) (segs found : List (ℕ × Seg)) (is : found ≡ near b seg
     to_near k pairs rest e =
         let part = λ (q : Block) (c : Contains (quarters_of b) q). quarters_are 12 b q block more_than_one c in
         let law = λ (q : Block) (ps r : List Pair) (c : Contains (quarters_of b) q).
-            near_begins 12 b segs k q ps r (part q c).block (quarter_side k b q e c) (part q c).within in (
+        near_begins 12 b segs k q ps r (part q c).block (quarter_side k b q e c) (part q c).within in (
           λ h. subst (λ (l : List (ℕ × Seg)). InTurn (Begins l k) (quarters_of b) pairs rest) (sym is)
               (turn_map (Begins segs k) (Begins (near b segs) k) (quarters_of b) (λ q ps r c. (law q ps r c).1) pairs rest h),
           λ h. turn_map (Begins (near b segs) k) (Begins segs k) (quarters_of b) (λ q ps r c. (law q ps r c).0) pairs rest

@@ -23,7 +23,8 @@ pub(crate) fn end_in(
     requires at { at ≤ length pairs.now }
     ensures within { IfOk result (λ o. IfSome o (λ end. end ≤ length pairs.now)) }
     ensures some { IfOk result (λ o. IfSome o (λ end. (k : ℕ) → square.side ≡ side_of k → Begins segs.now k square (drop at pairs.now) (drop end pairs.now))) }
-    ensures none { IfOk result (λ o. IfNone o ((k : ℕ) (rest : List AnyPair) → square.side ≡ side_of k → Begins segs.now k square (drop at pairs.now) rest → ⊥)) }
+    ensures none { IfOk result (λ o. IfNone o ((k : ℕ) (rest : List AnyPair) → square.side ≡ side_of k
+        → Begins segs.now k square (drop at pairs.now) rest → ⊥)) }
 {
     let near = meeting(alloc, segs, square)?;
     if square.side == 1 || is_on(pairs, at, square) {
@@ -40,11 +41,7 @@ pub(crate) fn end_in(
 }
 
 /// The segments that meet the block.
-fn meeting(
-    alloc: Global,
-    segs: &[(u32, Seg)],
-    block: Block,
-) -> Result<Vec<(u32, Seg)>, AllocError>
+fn meeting(alloc: Global, segs: &[(u32, Seg)], block: Block) -> Result<Vec<(u32, Seg)>, AllocError>
     ensures { IfOk result (λ near. near.items ≡ filter (λ e. segment_meets e.1 (square_of block)) segs.now) }
 {
     let mut near = Vec::new(alloc);

@@ -37,8 +37,10 @@ impl LineRun {
     pub fn take(&mut self, r: &Record, level: u8) -> Result<bool, AllocError>
         requires level { (1 ≤ level) × (level ≤ 12) }
         requires layer { (1 ≤ r.now.key.layer) × (r.now.key.layer ≤ 255) }
-        ensures taken { IfOk result (λ ok. (rs : List AnyRecord) (threshold : ℕ) → IsLineRun level rs r.now.key.layer threshold self.old → OnTrue ok (IsLineRun level (rs ++ r.now ∷ []) r.now.key.layer threshold self.new)) }
-        ensures refused { IfOk result (λ ok. (form threshold : ℕ) (rs : List AnyRecord) → OnFalse ok (Refuses form level rs r.now.key.layer (kinds.Lines threshold) r.now)) }
+        ensures taken { IfOk result (λ ok. (rs : List AnyRecord) (threshold : ℕ) → IsLineRun level rs r.now.key.layer threshold self.old
+            → OnTrue ok (IsLineRun level (rs ++ r.now ∷ []) r.now.key.layer threshold self.new)) }
+        ensures refused { IfOk result (λ ok. (form threshold : ℕ) (rs : List AnyRecord)
+            → OnFalse ok (Refuses form level rs r.now.key.layer (kinds.Lines threshold) r.now)) }
     {
         if let Some((block, id)) = read_pair(r, level) {
             self.pairs.push(Pair { block, id })?;

@@ -8,9 +8,9 @@ pub returns-in-None-clause-refused : goal.returns-in-None-clause-refused
 returns-in-None-clause-refused c rs kind h =
     elim c.match-self.branch [
       | in-Region w ↦
-        none_from w.next_leaf-next.result (sym w.next-is ∙ c.in-None.is) w.next_leaf-next.ensures.none rs kind
-        (subst (IsRun c.args.format c.args.level rs c.args.r.now.key.layer kind) w.in-Region.is h)
+          none_from w.next_leaf-next.result (sym w.next-is ∙ c.in-None.is) w.next_leaf-next.ensures.none rs kind
+          (subst (IsRun c.args.format c.args.level rs c.args.r.now.key.layer kind) w.in-Region.is h)
       | in-Points w ↦
-        none_from w.next_point-next.result (sym w.next-is ∙ c.in-None.is) w.next_point-next.ensures.none c.args.format rs kind
-        (subst (IsRun c.args.format c.args.level rs c.args.r.now.key.layer kind) w.in-Points.is h)
+          none_from w.next_point-next.result (sym w.next-is ∙ c.in-None.is) w.next_point-next.ensures.none c.args.format rs kind
+          (subst (IsRun c.args.format c.args.level rs c.args.r.now.key.layer kind) w.in-Points.is h)
     ]
