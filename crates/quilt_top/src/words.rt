@@ -117,7 +117,7 @@ fn trial_of<'a>(
     ensures { option_map meant result
         ≡ (if bytes_eq mode.now (codes "trial")
         then table.trial_order path.entry.now (spelling.number 0 (2 ^ 64 - 1) seed.now) (spelling.number 1 1000000 count.now)
-            (table.pool_size (option_map (λ w. w.now) pool.entry)) else None) }
+        (table.pool_size (option_map (λ w. w.now) pool.entry)) else None) }
 {
     if mode != "trial" {
         return None;
