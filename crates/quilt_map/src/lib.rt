@@ -35,6 +35,3 @@ mod views;
 pub use quilt_replies::Reply;
 pub use session::Session;
 pub use settled::settled_replies;
-
-#[cfg(test)]
-mod tests;

@@ -1,6 +1,7 @@
 //! Worked commands, each with the reply that it must get.
 use crate::files::file_of;
 use crate::runs::goes_on;
+use quilt_map::settled_replies;
 use quilt_world::Image;
 use std::alloc::{AllocError, Global};
 use std::process::Abort;
@@ -475,4 +476,36 @@ fn a_map_of_a_town(rt: HostRuntime) {
         ],
         0,
     );
+}
+
+#[test]
+fn layers_are_found_by_name(rt: HostRuntime) {
+    first_run(
+        &rt,
+        rt.alloc(),
+        ["16", "3"],
+        &[
+            ("region a 0", "ok"),
+            ("lines b 4", "ok"),
+            ("set b 0 0 1", "no 6 kind"),
+            ("set c 0 0 1", "no 5 unknown"),
+            ("copy a c", "ok"),
+            ("drop a", "ok"),
+            ("region d 1", "ok"),
+            ("layers", "b lines 4\nc region\nd region\nok"),
+            ("at c 0 0", "0\nok"),
+            ("at d 0 0", "1\nok"),
+            ("at a 0 0", "no 5 unknown"),
+        ],
+        1,
+    );
+}
+
+#[test]
+fn a_longer_text_settles_the_replies_of_its_front(rt: HostRuntime) -> Result<(), AllocError> {
+    assert_eq!(rt;
+        settled_replies(rt.alloc(), 3, b"edition\n# none\nfrob")?,
+        1
+    );
+    Ok(())
 }
