@@ -57,7 +57,8 @@ module _ (At : State → Type 0) (before now : Option ℕ) where
   costs_now c l (Ok reply) h s at found answered = h s at found answered
   costs_now c l (Err e) h s at found answered = absurd answered
 
-  pub ask_reads : (c : Command) (l : List ℕ) (r : Result Reply Stop) → layer_asked c ≡ Some l → Costs c l r → (s : State) → At s → IsPromised s c r → ReadsFew s c before now
+  pub ask_reads : (c : Command) (l : List ℕ) (r : Result Reply Stop) → layer_asked c ≡ Some l → Costs c l r → (s : State) → At s → IsPromised s c r
+      → ReadsFew s c before now
   ask_reads (commands.Cross a w) l r is h s at promised =
       let same : a ≡ l = cc in costs_now (commands.Cross a w) a r (subst (λ (x : List ℕ). Costs (commands.Cross a w) x r) (sym same) h) s at tt promised
   ask_reads (commands.Clip a w) l r is h s at promised =
@@ -65,5 +66,6 @@ module _ (At : State → Type 0) (before now : Option ℕ) where
   ask_reads (commands.Nearest a p) l r is h s at promised =
       let same : a ≡ l = cc in costs_now (commands.Nearest a p) a r (subst (λ (x : List ℕ). Costs (commands.Nearest a p) x r) (sym same) h) s at tt promised
   ask_reads (commands.Rank a p k) l r is h s at promised =
-      let same : a ≡ l = cc in costs_now (commands.Rank a p k) a r (subst (λ (x : List ℕ). Costs (commands.Rank a p k) x r) (sym same) h) s at promised.1 promised.0
+      let same : a ≡ l = cc in costs_now (commands.Rank a p k) a r
+      (subst (λ (x : List ℕ). Costs (commands.Rank a p k) x r) (sym same) h) s at promised.1 promised.0
   ask_reads c l r is h s at promised = cc
