@@ -2,6 +2,7 @@
 use Rattle.std.proofs.Common.{◌≡◌, inl, ℕ, ◌+◌, ◌*◌, true, false, List, [], ◌∷◌, Option, Some, None, is_some, Result, Ok, Err, IfOk, IfErr, OnOk, refl, sym, ◌∙◌, ap, subst}
 use Rattle.std.specs.List.{list_all}
 use Rattle.std.proofs.lemmas.Bool.{and_parts}
+use Rattle.quilt_types.specs.declared.plane.Pixel.{Pixel}
 use Rattle.quilt_types.specs.declared.stop.Stop.{Stop}
 use Rattle.quilt_types.specs.declared.stop.Stop.TheVariants as stops
 use Rattle.quilt_types.specs.Layers.{Edition}
@@ -37,7 +38,8 @@ use Rattle.quilt_map.specs.Steps.{Leaves, StandsFor, WritesFew, changes_after, g
 use Rattle.quilt_replies.specs.declared.reply.Reply.{Reply}
 use Rattle.quilt_replies.specs.declared.reply.Reply.TheVariants as given
 use Rattle.quilt_map.specs.declared.session.Session.{Session}
-use Rattle.quilt_map.proofs.Answered.{format_is}
+use Rattle.quilt_map.proofs.Answered.{format_is, warm_at}
+use Rattle.quilt_map.proofs.Asked.{if_ok}
 use Rattle.quilt_map.proofs.Keeping.{book_idle, book_leaves, book_stands}
 use Rattle.quilt_map.proofs.Orderly.{quiet_none, refused_after}
 
@@ -215,4 +217,31 @@ module _ {W : Type 0} {D : disk.Ghosts W} (old new : Session W D) (command other
     crash = λ s at. subst (λ (c : Command). Goes (Leaves s c) (D.told old.book.world) (D.told new.book.world)) same (crash s at);
     writes = λ s at. writing_few (D.told old.book.world) (D.told new.book.world) s command old.changes (writes s at);
     reads = reads;
+  }
+
+-- another last pixel leaves what was promised
+module _ {W : Type 0} {D : disk.Ghosts W} (old new : Session W D) (w : Option (List ℕ × Pixel)) where
+  abbrev forgets : Session W D
+  forgets = record { book = new.book; catalog = new.catalog; last = new.last; changes = new.changes; warm = w; alloc = new.alloc }
+
+  at_forgets : (s : State) → IsAt new s → IsAt forgets s
+  unfolding IsAt
+  at_forgets s at = warm_at {D = D} new w s at
+
+  pub applied_forgets : (command : Command) (r : Result Reply Stop) → IsApplied command old new r → IsApplied command old forgets r
+  unfolding world_of level_of changes_of reads_of
+  applied_forgets command r h = record {
+    answer = if_ok _ _ r (λ reply p s at. let a = p s at in (a.0, at_forgets (after s command) a.1)) h.answer;
+    refused = if_ok _ _ r (λ reply p no_ s at. at_forgets s (p no_ s at)) h.refused;
+    changes = h.changes;
+    level = h.level;
+    later = h.later;
+    device = h.device;
+    damaged = h.damaged;
+    door = h.door;
+    events = h.events;
+    input = h.input;
+    crash = h.crash;
+    writes = h.writes;
+    reads = h.reads;
   }

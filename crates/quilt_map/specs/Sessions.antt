@@ -3,6 +3,7 @@ use Rattle.std.specs.Prelude.{◌≡◌, ◌⊎◌, ℕ, ◌-◌, ◌*◌, ◌^�
 use Rattle.std.specs.List.{IsDistinct}
 use Rattle.quilt_types.specs.declared.plane.Kind.{Kind}
 use Rattle.quilt_types.specs.declared.plane.Kind.TheVariants as kinds
+use Rattle.quilt_types.specs.declared.plane.Pixel.{Pixel}
 use Rattle.quilt_types.specs.Facts.{quota}
 use Rattle.quilt_types.specs.Layers.{Map, Edition}
 use Rattle.quilt_world.specs.Disk.{Pages}
@@ -110,6 +111,10 @@ module _ {W : Type 0} {D : disk.Ghosts W} where
   -- how often its disk was read, where that is told
   unfoldable pub reads_of : Session W D → Option ℕ
   reads_of s = disk_reads (D.told s.book.world)
+
+  -- the layer and the pixel that were asked for last, where they were answered
+  unfoldable pub warm_of : Session W D → Option (List ℕ × Pixel)
+  warm_of s = s.warm
 
   -- The work's tree spells the work with this catalog, and the published pages hold the last edition. As many pages at most are
   -- changed as the count of changes allows.

@@ -5,7 +5,7 @@ use Rattle.quilt_map.specs.Reading.{is_bounded}
 use Rattle.quilt_map.specs.Selecting.{layer_asked}
 use Rattle.quilt_map.specs.Sessions.{IsAtState}
 use Rattle.quilt_map.specs.Steps.{gives_edition}
-use Rattle.quilt_map.proofs.Bounded.{unbounded_else, unbounded_reads, at_reads, find_reads, ask_reads}
+use Rattle.quilt_map.proofs.Bounded.{unbounded_else, unbounded_reads, find_reads, ask_reads}
 use Rattle.quilt_map.proofs.Commanded.{applied_going, applied_giving, fitting_here, sound_at, quiet_else, forward_else, quiet_revert}
 use Rattle.quilt_map.proofs.Going.{goes_of}
 use Rattle.quilt_map.proofs.Selects.{fits_some}
@@ -25,7 +25,7 @@ pub ask_lines-requires-in-Rank-clause-some : goal.ask_lines-requires-in-Rank-cla
 ask_lines-requires-in-Rank-clause-some g c =
     let old = c.args.self.now in
     fits_some old.book.work.format old.book.last.level c.args.command.now
-    (fitting_here {D = g.W.Disk} old c.args.command.now c.args.command.now c.requires refl)
+    (fitting_here {D = g.W.Disk} old c.args.command.now c.args.command.now c.requires.spelled refl)
 
 pub returns-in-Publish : goal.returns-in-Publish
 returns-in-Publish g c =
@@ -62,17 +62,6 @@ returns-in-Revert g c =
     (unbounded_reads (IsAtState {D = g.W.Disk} old) (reads_in {D = g.W.Disk} old.book) (reads_in {D = g.W.Disk} new.book) command c.revert.result
     (ap is_bounded c.in-Revert.is))
     e.goes_on (quiet_revert command c.in-Revert.is)
-
-pub returns-in-At : goal.returns-in-At
-returns-in-At g c =
-    let old = c.args.self.now in
-    let new = c.at.new.self in
-    let command = c.args.command.now in
-    let e = c.at.ensures in
-    applied_going {D = g.W.Disk} old new command (commands.At c.in-At.a c.in-At.at) (sym c.in-At.is) c.at.result e.answer e.sound e.cause
-    (at_reads (IsAtState {D = g.W.Disk} old) (reads_in {D = g.W.Disk} old.book)
-    (reads_in {D = g.W.Disk} new.book) command c.in-At.a c.in-At.at c.at.result c.in-At.is e.reads)
-    (goes_of {D = g.W.Disk} old.book new.book e.keeps.book.later) (ap gives_edition c.in-At.is)
 
 pub returns-in-Find : goal.returns-in-Find
 returns-in-Find g c =
