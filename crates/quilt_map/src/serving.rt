@@ -1,12 +1,15 @@
-ghost use Rattle.std.specs.Prelude.{◌≡◌, ℕ, ◌≤◌, false, IfOk, IfErr, OnErr};
+ghost use Rattle.std.specs.Prelude.{◌≡◌, ℕ, ◌≤◌, false, List, Some, IfOk, IfErr, OnErr};
 ghost use Rattle.quilt_types.specs.declared.stop.Stop.TheVariants as stops;
+ghost use Rattle.quilt_types.specs.declared.plane.Pixel.{Pixel};
 ghost use Rattle.quilt_words.specs.Forms.{Spelled};
+ghost use Rattle.quilt_words.specs.declared.command.Command.TheVariants as commands;
 ghost use Rattle.quilt_btree.specs.Stops.{HasStopCause, IsSound};
 ghost use Rattle.quilt_edition.specs.Books as books;
 ghost use Rattle.quilt_replies.specs.Answers.{State};
-ghost use Rattle.quilt_map.specs.Commanding.{Answered, IsApplied};
+ghost use Rattle.quilt_map.specs.Asking.{ReadsNothing};
+ghost use Rattle.quilt_map.specs.Commanding.{Answered, IsApplied, IsAppliedBy};
 ghost use Rattle.quilt_map.specs.Reading.{is_bounded, is_at, warm_left};
-ghost use Rattle.quilt_map.specs.Sessions.{IsAtState};
+ghost use Rattle.quilt_map.specs.Sessions.{IsAt, IsAtState, warm_of};
 ghost use Rattle.quilt_map.specs.Steps.{gives_edition, goes_back};
 
 use crate::session::Session;
@@ -29,6 +32,7 @@ impl<W: World> Session<W> {
         requires { Spelled (books.work_of self.old.book).format (books.last_of self.old.book).level command.now }
         ensures applied { IsApplied command.now self.old self.new result }
         ensures warm { self.new.warm ≡ warm_left command.now result }
+        ensures again { (s : State) → IsAt self.old s → (name : List ℕ) (p : Pixel) → command.now ≡ commands.At name p → warm_of self.old ≡ Some (name, p) → ReadsNothing self.old.book self.new.book }
     {
         match command {
             Command::At { a, at } => self.at(a, *at),
@@ -49,7 +53,7 @@ impl<W: World> Session<W> {
     ) -> Result<Reply, Stop>
         requires spelled { Spelled (books.work_of self.old.book).format (books.last_of self.old.book).level command.now }
         requires other { is_at command.now ≡ false }
-        ensures { IsApplied command.now self.old self.new result }
+        ensures { IsAppliedBy IsAtState command.now self.old self.new result }
     {
         match command {
             Command::Publish => self.publish(),
