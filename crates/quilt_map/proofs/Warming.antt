@@ -21,7 +21,7 @@ none_some w e = cc
 
 -- where no pixel is kept
 pub cold : (entries : List Entry) (told : Option Pages) (h : Head) (held : List ℕ) → IsHeldWarm None entries told h held
-cold entries told h held = record { held = λ w e layers numbers catalog rs tree pages is. absurd (none_some w e) }
+cold entries told h held = record { are_first = λ w e layers numbers catalog rs tree pages is. absurd (none_some w e) }
 
 -- by other names of the pages, the header and what is held
 pub warm_as : (w : Option (List ℕ × Pixel)) (entries : List Entry) (told again : Option Pages) (h k : Head) (held now : List ℕ) → again ≡ told → k ≡ h → now ≡ held
@@ -36,7 +36,7 @@ module _ (entries : List Entry) (told : Option Pages) (h : Head) (held : List �
   pub warmed : ((rs : List Record) → IsTree told (tree_in h) rs → (pages : Pages) → told ≡ Some pages → AreAmongFirst (pages_asked number w.1 h pages) held)
       → IsHeldWarm (Some w) entries told h held
   warmed first = record {
-    held = λ v e layers numbers catalog rs tree pages tells.
+    are_first = λ v e layers numbers catalog rs tree pages tells.
         let same : w ≡ v = cc in
         subst (λ (x : List ℕ × Pixel). AreAmongFirst (pages_asked (number_of numbers x.0) x.1 h pages) held) same
         (subst (λ (k : ℕ). AreAmongFirst (pages_asked k w.1 h pages) held) (is layers numbers catalog) (first rs tree pages tells));
@@ -46,7 +46,7 @@ module _ (entries : List Entry) (told : Option Pages) (h : Head) (held : List �
   pub held_again : (warm : Option (List ℕ × Pixel)) → IsHeldWarm warm entries told h held → warm ≡ Some w → (layers : Map) (numbers : Numbering) → IsCatalogOf layers numbers entries
       → (rs : List Record) → IsTree told (tree_in h) rs → (pages : Pages) → told ≡ Some pages → AreAmongFirst (pages_asked number w.1 h pages) held
   held_again warm kept e layers numbers catalog rs tree pages tells =
-      subst (λ (k : ℕ). AreAmongFirst (pages_asked k w.1 h pages) held) (sym (is layers numbers catalog)) (kept.held w e layers numbers catalog rs tree pages tells)
+      subst (λ (k : ℕ). AreAmongFirst (pages_asked k w.1 h pages) held) (sym (is layers numbers catalog)) (kept.are_first w e layers numbers catalog rs tree pages tells)
 
 -- where nothing was read
 pub reads_same : (reads : Option ℕ) → StoreTells (λ before now. now ≤ before) reads reads

@@ -66,7 +66,7 @@ pages_asked number at h pages = floor_pages pages (pixel_key number at) h.height
 
 -- The pages that are read for the colour of the pixel that was asked for last are among the first of these.
 pub record IsHeldWarm (warm : Option (List ℕ × Pixel)) (entries : List Entry) (told : Option Pages) (h : Head) (held : List ℕ) : Type 0 where
-  pub held : (w : List ℕ × Pixel) → warm ≡ Some w → (layers : Map) (numbers : Numbering) → IsCatalogOf layers numbers entries → (rs : List Record)
+  pub are_first : (w : List ℕ × Pixel) → warm ≡ Some w → (layers : Map) (numbers : Numbering) → IsCatalogOf layers numbers entries → (rs : List Record)
       → IsTree told (tree_in h) rs → (pages : Pages) → told ≡ Some pages → AreAmongFirst (pages_asked (number_of numbers w.0) w.1 h pages) held
 
 -- the last value of a count of changes

@@ -8,6 +8,7 @@ use Rattle.quilt_record.specs.Records.{Numbering}
 use Rattle.quilt_record.specs.declared.entry.Entry.{Entry}
 use Rattle.quilt_btree.specs.Trees.{IsTree}
 use Rattle.quilt_spell.specs.Catalogued.{IsCatalogOf}
+use Rattle.quilt_spell.specs.Written.{number_of}
 use Rattle.quilt_pool.specs.Views.{entries_of}
 use Rattle.quilt_map.specs.Asking.{reads_in}
 use Rattle.quilt_map.specs.Sessions.{told_of, tree_in}
@@ -102,10 +103,11 @@ returns-in-Ok-number_text-clause-held g c =
     let book = c.read_colour.new.book in
     let still = c.read_colour.ensures.still in
     let is = λ (layers : Map) (numbers : Numbering) (k : IsCatalogOf layers numbers old.catalog).
-    (c.in-Ok.ensures.found layers numbers (subst (λ (es : List Entry). IsCatalogOf layers numbers es) (sym c.entries.ensures.entries) k)).numbered in
-    warm_as (Some (c.args.name.now, c.args.at)) old.catalog (told_of {D = g.W.Disk} old.book) (told_of {D = g.W.Disk} book) old.book.work book.work
+    (c.in-Ok.ensures.found layers numbers (subst (λ (es : List Entry). IsCatalogOf layers numbers es) (sym c.entries.ensures.entries) k)).numbered
+    ∙ ap (number_of numbers) (sym c.copy.ensures) in
+    warm_as (Some (c.copy.result, c.args.at)) old.catalog (told_of {D = g.W.Disk} old.book) (told_of {D = g.W.Disk} book) old.book.work book.work
     (keys_of (entries_of book.pool)) (keys_of (entries_of book.pool)) still.told still.later.2.1 refl
-    (warmed old.catalog (told_of {D = g.W.Disk} old.book) old.book.work (keys_of (entries_of book.pool)) (c.args.name.now, c.args.at) c.in-Ok.number is
+    (warmed old.catalog (told_of {D = g.W.Disk} old.book) old.book.work (keys_of (entries_of book.pool)) (c.copy.result, c.args.at) c.in-Ok.number is
     c.in-Ok-read_colour.ensures.held)
 
 pub returns-in-Ok-number_text-clause-again : goal.returns-in-Ok-number_text-clause-again
