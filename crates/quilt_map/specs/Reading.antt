@@ -54,6 +54,7 @@ abbrev pub warm_left : Command → Result Reply Stop → Option (List ℕ × Pix
 warm_left (commands.At a p) r = warm_after r a p
 warm_left command r = None
 
+-- it asks for the colour of a pixel
 abbrev pub is_at : Command → Bool
 is_at (commands.At a p) = true
 is_at command = false

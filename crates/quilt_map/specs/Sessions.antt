@@ -155,6 +155,7 @@ module _ {W : Type 0} {D : disk.Ghosts W} where
   abbrev pub IsWarm : Session W D → Type 0
   IsWarm session = IsHeldWarm session.warm session.catalog (told_of session.book) session.book.work (keys_of (entries_of session.book.pool))
 
+  -- the session stands for the state, and holds the pages of its last pixel
   pub record IsAtWarm (session : Session W D) (s : State) : Type 0 where
     pub at : IsAtState session s
     pub warm : IsWarm session
