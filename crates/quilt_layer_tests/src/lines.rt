@@ -148,7 +148,10 @@ const SECOND: Seg = Seg {
 fn a_first_segment(rt: HostRuntime) -> Result<(), Fail> {
     let empty = first_record(1, 2, 1);
     let (mut store, tree) = planted(rt.alloc(), &[empty])?;
-    assert_eq!(rt; block_counts(&mut store, &tree, 1, 2)?, [0, 0, 1, 0, 0, 0, 0, 0, 0, 0, 0, 0, 0]);
+    assert_eq!(rt;
+        block_counts(&mut store, &tree, 1, 2)?,
+        [0, 0, 1, 0, 0, 0, 0, 0, 0, 0, 0, 0, 0]
+    );
     let plan = plan_add(rt.alloc(), &mut store, &tree, 1, 2, 1, 1, FIRST)?;
     let plan = plan.ok_or("the id is free")?;
     assert_eq!(rt; plan.remove.records(), [empty].as_slice());
@@ -180,6 +183,9 @@ fn a_block_that_is_split(rt: HostRuntime) -> Result<(), Fail> {
     ];
     assert_eq!(rt; plan.add.records(), added.as_slice());
     let (mut cut, tree) = planted(rt.alloc(), &added)?;
-    assert_eq!(rt; block_counts(&mut cut, &tree, 1, 2)?, [0, 4, 0, 0, 0, 0, 0, 0, 0, 0, 0, 0, 0]);
+    assert_eq!(rt;
+        block_counts(&mut cut, &tree, 1, 2)?,
+        [0, 4, 0, 0, 0, 0, 0, 0, 0, 0, 0, 0, 0]
+    );
     Ok(())
 }
