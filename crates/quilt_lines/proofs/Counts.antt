@@ -1,5 +1,7 @@
 -- The blocks of a layer, each once, by a descent from the whole square, and how many of each side.
-use Rattle.std.proofs.Common.{◌≡◌, ◌↔◌, ℕ, ◌+◌, ◌*◌, ◌^◌, ◌-◌, ◌<◌, ◌≤◌, Bool, true, false, cond, List, [], ◌∷◌, ◌++◌, flat_map, filter, length, take, get_or, replicate, count_by, refl, sym, ◌∙◌, ap, subst, ⊎_elim, arith, Contains, pow-suc, length-append, eq-eqb, ne_eqb, pow_pos}
+use Rattle.std.proofs.Common.{◌≡◌, ◌↔◌, ℕ, ◌+◌, ◌*◌, ◌^◌, ◌-◌, ◌<◌, ◌≤◌, Bool, true, false, cond}
+use Rattle.std.proofs.Common.{List, [], ◌∷◌, ◌++◌, flat_map, filter, length, take, get_or, replicate, count_by, refl, sym}
+use Rattle.std.proofs.Common.{◌∙◌, ap, subst, ⊎_elim, arith, Contains, pow-suc, length-append, eq-eqb, ne_eqb, pow_pos}
 use Rattle.std.proofs.Math.Nat.{mul-le-mul_right, pow-le-pow_right}
 use Rattle.std.specs.Prelude.{◌==◌}
 use Rattle.std.proofs.lemmas.Bool.{both_ways}
@@ -47,7 +49,8 @@ module _ (n t : ℕ) (segs : SegMap) (cover : BlockSet) (h : IsBlockCover n cove
     λ w. subst (Contains (b ∷ [])) (sym (one_old n t segs cover any h q b w.1 m w.0)) (Contains-here b []),
   )
 
-  held_tiny : (b q : Block) → IsBlock n b → b.side ≡ side 0 → (u : Bool) → finset.contains cover b ≡ u → Contains (cond {A = List Block} u (b ∷ []) []) q ↔ (Within q b × Held q)
+  held_tiny : (b q : Block) → IsBlock n b → b.side ≡ side 0 → (u : Bool) → finset.contains cover b ≡ u
+      → Contains (cond {A = List Block} u (b ∷ []) []) q ↔ (Within q b × Held q)
   held_tiny b q hb e true is = here b q (held n t segs cover any h b is)
   held_tiny b q hb e false is = (
     λ c. absurd (Contains-nil q c),
@@ -58,11 +61,14 @@ module _ (n t : ℕ) (segs : SegMap) (cover : BlockSet) (h : IsBlockCover n cove
         absurd (both_ways (finset.contains cover b) is ((contains_is block_total block_same cover b).1 (subst (Contains (finset.items cover)) same w.1))),
   )
 
-  held_step : (k : ℕ) (b q : Block) → IsBlock n b → b.side ≡ side (ℕ.suc k) → ((r : Block) → IsBlock n r → r.side ≡ side k → Contains (held_in cover k r) q ↔ (Within q r × Held q))
-      → (u : Bool) → finset.contains cover b ≡ u → Contains (cond {A = List Block} u (b ∷ []) (flat_map (held_in cover k) (quarters_of b))) q ↔ (Within q b × Held q)
+  held_step : (k : ℕ) (b q : Block) → IsBlock n b → b.side ≡ side (ℕ.suc k)
+      → ((r : Block) → IsBlock n r → r.side ≡ side k → Contains (held_in cover k r) q ↔ (Within q r × Held q))
+      → (u : Bool) → finset.contains cover b ≡ u
+      → Contains (cond {A = List Block} u (b ∷ []) (flat_map (held_in cover k) (quarters_of b))) q ↔ (Within q b × Held q)
   held_step k b q hb e below true is = here b q (held n t segs cover any h b is)
   held_step k b q hb e below false is =
-      quarterly n t segs cover any h k b q (held_in cover k) Held hb e (λ m. h.only q m) (λ m same. off n t segs cover any h b q is m same) (λ r c hr er _. below r hr er)
+      quarterly n t segs cover any h k b q (held_in cover k) Held hb e (λ m. h.only q m) (λ m same. off n t segs cover any h b q is m same)
+      (λ r c hr er _. below r hr er)
 
   held_law : (k : ℕ) (b q : Block) → IsBlock n b → b.side ≡ side k → Contains (held_in cover k b) q ↔ (Within q b × Held q)
   held_law ℕ.zero b q hb e = held_tiny b q hb e (finset.contains cover b) refl
@@ -75,20 +81,23 @@ module _ (n t : ℕ) (segs : SegMap) (cover : BlockSet) (h : IsBlockCover n cove
   apart_step : (k : ℕ) (b : Block) → IsBlock n b → b.side ≡ side (ℕ.suc k) → ((r : Block) → IsBlock n r → r.side ≡ side k → Apart (held_in cover k r))
       → (u : Bool) → Apart (cond {A = List Block} u (b ∷ []) (flat_map (held_in cover k) (quarters_of b)))
   apart_step k b hb e below true = single_apart b
-  apart_step k b hb e below false = over_quarters n t segs any k b (held_in cover k) hb e (λ r c hr er _. (below r hr er, λ q m. let w = (held_law k r q hr er).0 m in (h.only q w.1, w.0)))
+  apart_step k b hb e below false = over_quarters n t segs any k b (held_in cover k) hb e
+      (λ r c hr er _. (below r hr er, λ q m. let w = (held_law k r q hr er).0 m in (h.only q w.1, w.0)))
 
   apart_law : (k : ℕ) (b : Block) → IsBlock n b → b.side ≡ side k → Apart (held_in cover k b)
   apart_law ℕ.zero b hb e = tiny_apart b (finset.contains cover b)
   apart_law (ℕ.suc k) b hb e = apart_step k b hb e (λ r hr er. apart_law k r hr er) (finset.contains cover b)
 
 -- as many pass a test among them as in the set
-pub all_held : (n t : ℕ) (segs : SegMap) (cover : BlockSet) → IsLineMap n t segs cover → (test : Block → Bool) → count_by test (held_in cover n (whole n)) ≡ count_by test (finset.items cover)
+pub all_held : (n t : ℕ) (segs : SegMap) (cover : BlockSet) → IsLineMap n t segs cover → (test : Block → Bool)
+    → count_by test (held_in cover n (whole n)) ≡ count_by test (finset.items cover)
 all_held n t segs cover valid test =
     let h = cover_of n t segs cover valid in
     let found = held_in cover n (whole n) in
     let bs = finset.items cover in
     sym (length-filter test found)
-    ∙ same_length (filter test found) (filter test bs) (Apart-filter test found (apart_law n t segs cover h n (whole n) (IsBlock-whole n) refl)) (Apart-filter test bs (Apart-rises block_cmp block_total bs (Rises-keys block_cmp cover)))
+    ∙ same_length (filter test found) (filter test bs) (Apart-filter test found (apart_law n t segs cover h n (whole n) (IsBlock-whole n) refl))
+    (Apart-filter test bs (Apart-rises block_cmp block_total bs (Rises-keys block_cmp cover)))
     (λ q.
     let law = held_law n t segs cover h n (whole n) q (IsBlock-whole n) refl in (
       λ c. let w = Contains-filter_from test found q c in Contains-filter test bs q (law.0 w.0).1 w.1,
@@ -106,7 +115,8 @@ module _ (cover : BlockSet) where
   held_below ℕ.zero b some e = absurd (omega arith)
   held_below (ℕ.suc k) b some e =
       let same : k ≡ ℕ.suc k - 1 = omega arith in
-      ap (λ u. cond {A = List Block} u (b ∷ []) (flat_map (held_in cover k) (quarters_of b))) e ∙ ap (λ (m : ℕ). flat_map (held_in cover m) (quarters_of b)) same
+      ap (λ u. cond {A = List Block} u (b ∷ []) (flat_map (held_in cover k) (quarters_of b))) e
+      ∙ ap (λ (m : ℕ). flat_map (held_in cover m) (quarters_of b)) same
 
 count-append : {X : Type 0} (p : X → Bool) (xs ys : List X) → count_by p (xs ++ ys) ≡ count_by p xs + count_by p ys
 count-append p xs ys =
@@ -125,7 +135,8 @@ four_pos ℕ.zero = omega arith
 four_pos (ℕ.suc k) = let below = four_pos k in let p = pow-suc 4 k in omega arith
 
 -- one block more at the place of its side
-pub one_counted : (b : Block) (k : ℕ) (old new : List ℕ) → b.side ≡ side k → get_or new k 0 ≡ get_or old k 0 + 1 → ((j : ℕ) → (j ≡ k → ⊥) → get_or new j 0 ≡ get_or old j 0)
+pub one_counted : (b : Block) (k : ℕ) (old new : List ℕ) → b.side ≡ side k → get_or new k 0 ≡ get_or old k 0 + 1
+    → ((j : ℕ) → (j ≡ k → ⊥) → get_or new j 0 ≡ get_or old j 0)
     → (j : ℕ) → get_or new j 0 ≡ get_or old j 0 + count_by (λ c. c.side == side j) (b ∷ [])
 one_counted b k old new size here others j =
     ⊎_elim
@@ -139,16 +150,20 @@ one_counted b k old new size here others j =
     let at = others j other in
     omega arith) (same_id j k)
 
-pub one_most : (k : ℕ) (old new : List ℕ) → get_or new k 0 ≡ get_or old k 0 + 1 → ((j : ℕ) → (j ≡ k → ⊥) → get_or new j 0 ≡ get_or old j 0) → (j : ℕ) → get_or new j 0 ≤ get_or old j 0 + 4 ^ k
+pub one_most : (k : ℕ) (old new : List ℕ) → get_or new k 0 ≡ get_or old k 0 + 1 → ((j : ℕ) → (j ≡ k → ⊥) → get_or new j 0 ≡ get_or old j 0) → (j : ℕ)
+    → get_or new j 0 ≤ get_or old j 0 + 4 ^ k
 one_most k old new here others j =
     let pos = four_pos k in
-    ⊎_elim (λ same. let at = ap (λ m. get_or new m 0) same in let was = ap (λ m. get_or old m 0) same in omega arith) (λ other. let at = others j other in omega arith) (same_id j k)
+    ⊎_elim (λ same. let at = ap (λ m. get_or new m 0) same in let was = ap (λ m. get_or old m 0) same in omega arith)
+    (λ other. let at = others j other in omega arith) (same_id j k)
 
 module _ (f : Block → List Block) (test : Block → Bool) where
-  pub count_next : (qs : List Block) (i : ℕ) (d : Block) (first old new : ℕ) → i < length qs → old ≡ first + count_by test (flat_map f (take i qs)) → new ≡ old + count_by test (f (get_or qs i d)) → new ≡ first + count_by test (flat_map f (take (i + 1) qs))
+  pub count_next : (qs : List Block) (i : ℕ) (d : Block) (first old new : ℕ) → i < length qs → old ≡ first + count_by test (flat_map f (take i qs))
+      → new ≡ old + count_by test (f (get_or qs i d)) → new ≡ first + count_by test (flat_map f (take (i + 1) qs))
   count_next qs i d first old new lt a b =
       let split : flat_map f (take (i + 1) qs) ≡ flat_map f (take i qs) ++ f (get_or qs i d) =
-      ap (flat_map f) (take_next qs i d lt) ∙ flat_map-append f (take i qs) (get_or qs i d ∷ []) ∙ ap (λ (bs : List Block). flat_map f (take i qs) ++ bs) (append-nil (f (get_or qs i d))) in
+      ap (flat_map f) (take_next qs i d lt) ∙ flat_map-append f (take i qs) (get_or qs i d ∷ [])
+      ∙ ap (λ (bs : List Block). flat_map f (take i qs) ++ bs) (append-nil (f (get_or qs i d))) in
       let count = ap (count_by test) split ∙ count-append test (flat_map f (take i qs)) (f (get_or qs i d)) in
       omega arith
 

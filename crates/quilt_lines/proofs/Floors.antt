@@ -1,5 +1,6 @@
 -- The last record at or before the greatest key of a block says whether the block is one of the layer's.
-use Rattle.std.proofs.Common.{◌≡◌, ℕ, ◌≤◌, true, false, List, [], ◌∷◌, Option, Some, None, refl, sym, ◌∙◌, ap, subst, ◌⊎◌, inl, inr, ⊎_elim, Contains, filter, map}
+use Rattle.std.proofs.Common.{◌≡◌, ℕ, ◌≤◌, true, false, List, [], ◌∷◌, Option, Some, None}
+use Rattle.std.proofs.Common.{refl, sym, ◌∙◌, ap, subst, ◌⊎◌, inl, inr, ⊎_elim, Contains, filter, map}
 use Rattle.std.specs.List.{last_or}
 use Rattle.std.specs.Ordering.{is_le}
 use Rattle.std.specs.Cmp.{tied_itself}
@@ -43,7 +44,8 @@ last_from o x [] h = (
   refl,
   record {
     there = Contains-here x [];
-    above = λ y c. ⊎_elim (λ e. ap is_le (ap (λ (z : Record). by_key z x) (sym e) ∙ tied_itself by_key_total x)) (λ d. absurd (Contains-nil y d)) (Contains-cons_cases x [] y c);
+    above = λ y c. ⊎_elim (λ e. ap is_le (ap (λ (z : Record). by_key z x) (sym e) ∙ tied_itself by_key_total x)) (λ d. absurd (Contains-nil y d))
+        (Contains-cons_cases x [] y c);
   },
 )
 last_from o x (z ∷ zs) h =
@@ -52,7 +54,8 @@ last_from o x (z ∷ zs) h =
       l.1,
       record {
         there = Contains-there x (z ∷ zs) l.0 (l.2).there;
-        above = λ y c. ⊎_elim (λ e. ap is_le (ap (λ (w : Record). by_key w l.0) (sym e) ∙ h.0 l.0 (l.2).there)) (λ d. (l.2).above y d) (Contains-cons_cases x (z ∷ zs) y c);
+        above = λ y c. ⊎_elim (λ e. ap is_le (ap (λ (w : Record). by_key w l.0) (sym e) ∙ h.0 l.0 (l.2).there)) (λ d. (l.2).above y d)
+            (Contains-cons_cases x (z ∷ zs) y c);
       },
     )
 
@@ -70,7 +73,8 @@ some_fact : (none : Fact) (fs : List Fact) → (f : Fact) × Contains (or_none n
 some_fact none [] = (none, Contains-here none [])
 some_fact none (f ∷ fs) = (f, Contains-here f fs)
 
-module _ (rs : List Record) (layer n t : ℕ) (segs : SegMap) (cover : BlockSet) (up : Rises by_key rs) (spells : SpellsLines rs layer n t segs cover) (le : n ≤ 12) (b : Block) (hb : IsBlock n b) where
+module _ (rs : List Record) (layer n t : ℕ) (segs : SegMap) (cover : BlockSet) (up : Rises by_key rs) (spells : SpellsLines rs layer n t segs cover)
+    (le : n ≤ 12) (b : Block) (hb : IsBlock n b) where
   abbrev high : Key
   high = item_key (first_key n layer b) 4294967295
 
@@ -96,7 +100,8 @@ module _ (rs : List Record) (layer n t : ℕ) (segs : SegMap) (cover : BlockSet)
       let a = range_alike (first_key n layer b) r 4294967295 (and_from (is_le (key_cmp (first_key n layer b) r.key)) (is_le (key_cmp r.key high)) from w.1) in
       let m = Contains-map_from (fact_record n layer) (shown_facts segs cover) r (spells.only r w.0 (sym a.layer)) in
       (contains_is block_total block_same cover b).1
-      (on_alike n layer t segs cover spells.valid le b hb m.0 (shown_says n layer t segs cover m.0 m.1) (subst (λ (z : Record). AreAlike (first_key n layer b) z.key) (sym m.2) a)).0
+      (on_alike n layer t segs cover spells.valid le b hb m.0 (shown_says n layer t segs cover m.0 m.1)
+      (subst (λ (z : Record). AreAlike (first_key n layer b) z.key) (sym m.2) a)).0
 
   pub floor_none : floor_of high rs ≡ None → false ≡ finset.contains cover b
   floor_none e =
@@ -109,12 +114,14 @@ module _ (rs : List Record) (layer n t : ℕ) (segs : SegMap) (cover : BlockSet)
       ⊎_elim
       (λ yes.
       let f = floor_there yes in
-      absurd (both_ways (is_le (key_cmp (first_key n layer b) r.key)) no (subst (λ (z : Record). is_le (key_cmp (first_key n layer b) z.key) ≡ true) (same_some f.0 r (sym f.1 ∙ e)) f.2)))
+      absurd (both_ways (is_le (key_cmp (first_key n layer b) r.key)) no
+      (subst (λ (z : Record). is_le (key_cmp (first_key n layer b) z.key) ≡ true) (same_some f.0 r (sym f.1 ∙ e)) f.2)))
       (λ away. no ∙ sym away) (cases_Bool (finset.contains cover b))) (cases_Bool (is_le (key_cmp (first_key n layer b) r.key)))
 
 -- ---- what is read of a tree that has the layer
 module _ (told : Option (List (List ℕ))) (tree : Tree) (layer n t : ℕ) (segs : SegMap) (cover : BlockSet) (low high : Key) (o : Option Record)
-    (floor : (rs : List Record) → IsTree told tree rs → o ≡ floor_of high rs) (h : HasLines told tree layer n t segs cover) (le : n ≤ 12) (b : Block) (hb : IsBlock n b) (first : low ≡ first_key n layer b) (last : high ≡ item_key low 4294967295) where
+    (floor : (rs : List Record) → IsTree told tree rs → o ≡ floor_of high rs) (h : HasLines told tree layer n t segs cover) (le : n ≤ 12) (b : Block)
+    (hb : IsBlock n b) (first : low ≡ first_key n layer b) (last : high ≡ item_key low 4294967295) where
   floor_is : floor_of (item_key (first_key n layer b) 4294967295) h.records ≡ o
   floor_is = sym (floor h.records h.is_tree ∙ ap (λ (k : Key). floor_of k h.records) (last ∙ ap (λ (k : Key). item_key k 4294967295) first))
 
@@ -122,4 +129,5 @@ module _ (told : Option (List (List ℕ))) (tree : Tree) (layer n t : ℕ) (segs
   read_none e = floor_none h.records layer n t segs cover (tree_rises told tree h.records h.is_tree) h.spelled le b hb (floor_is ∙ e)
 
   pub read_some : (r : Record) → o ≡ Some r → is_le (key_cmp low r.key) ≡ finset.contains cover b
-  read_some r e = ap (λ (k : Key). is_le (key_cmp k r.key)) first ∙ floor_some h.records layer n t segs cover (tree_rises told tree h.records h.is_tree) h.spelled le b hb r (floor_is ∙ e)
+  read_some r e = ap (λ (k : Key). is_le (key_cmp k r.key)) first
+      ∙ floor_some h.records layer n t segs cover (tree_rises told tree h.records h.is_tree) h.spelled le b hb r (floor_is ∙ e)

@@ -1,9 +1,9 @@
-ghost use Rattle.std.specs.Prelude.{◌≡◌, ◌↔◌, ◌≤◌, ◌<◌, ◌==◌, ℕ, true, [], ◌∷◌, ◌++◌};
-ghost use Rattle.std.specs.Prelude.{flat_map, length, IfOk, IfErr, IfSome, IsNone, IsSome, None, OnOk, if◌then◌else◌};
+ghost use Rattle.std.specs.Prelude.{◌≡◌, ◌↔◌, ◌≤◌, ◌<◌, ℕ, true, [], ◌∷◌, ◌++◌};
+ghost use Rattle.std.specs.Prelude.{IfOk, IfErr, IfSome, IsNone, IsSome, None, OnOk};
 ghost use Rattle.std.specs.FinMap as finmap;
-ghost use Rattle.quilt_types.specs.Facts.{IsMetBy, IsMetByNone};
+ghost use Rattle.quilt_types.specs.Facts.{IsMetBy};
 ghost use Rattle.quilt_types.specs.Layers.{SegMap, BlockSet, is_in_square as is_seg_in_square};
-ghost use Rattle.quilt_types.specs.Plane.{side as side_of, quarters_of, IsBlock};
+ghost use Rattle.quilt_types.specs.Plane.{side as side_of, IsBlock};
 ghost use Rattle.quilt_types.specs.Quadtrees.{after_add, is_reached};
 ghost use Rattle.quilt_types.specs.Segments.{square, meets as segment_meets};
 ghost use Rattle.quilt_near.specs.Lines.{meeting};
@@ -13,7 +13,7 @@ ghost use Rattle.quilt_btree.specs.Trees.{IsRooted};
 ghost use Rattle.quilt_edits.specs.Edits.{AreInOrder};
 ghost use Rattle.quilt_lines.specs.Layers.{HasLines};
 ghost use Rattle.quilt_lines.specs.Reads.{ids_of};
-ghost use Rattle.quilt_lines.specs.Adding.{facts_by, ids_meeting as ids_meeting_it, Follow, IsAdded};
+ghost use Rattle.quilt_lines.specs.Adding.{facts_by, none_by, quarter_facts, ids_meeting as ids_meeting_it, Follow, IsAdded};
 ghost use Rattle.quilt_lines.specs.Plans.{IsLinePlan};
 
 use crate::square::whole_square;
@@ -103,8 +103,8 @@ impl Arrival {
         ensures plan { IfOk result (λ edits. (segs : SegMap) (cover : BlockSet) →
             HasLines (S.told store.old) self.now.view.tree self.now.view.layer self.now.view.level self.now.t segs cover →
             finmap.get segs self.now.id ≡ None →
-            IsLinePlan self.now.view.level self.now.view.layer self.now.t segs (finmap.insert segs self.now.id self.now.s) cover (after_add
-            self.now.t (finmap.insert segs self.now.id self.now.s) cover self.now.s) edits) }
+            IsLinePlan self.now.view.level self.now.view.layer self.now.t segs (finmap.insert segs self.now.id self.now.s) cover
+            (after_add self.now.t (finmap.insert segs self.now.id self.now.s) cover self.now.s) edits) }
         ensures order { IfOk result AreInOrder }
         ensures sound { IfErr result (λ e. (segs : SegMap) (cover : BlockSet) →
             HasLines (S.told store.old) self.now.view.tree self.now.view.layer self.now.view.level self.now.t segs cover →
@@ -191,8 +191,8 @@ impl Arrival {
         ensures added { OnOk result ((segs : SegMap) (cover : BlockSet) →
             HasLines (S.told store.old) self.now.view.tree self.now.view.layer self.now.view.level self.now.t segs cover →
             finmap.get segs self.now.id ≡ None → ids.now ≡ ids_of (meeting segs b) → segment_meets self.now.s (square b) ≡ true →
-            IsAdded self.now.view.level self.now.view.layer self.now.t segs self.now.id self.now.s (b ∷ []) change.old.gone.items
-            change.new.gone.items change.old.come.items change.new.come.items) }
+            IsAdded self.now.view.level self.now.view.layer self.now.t segs self.now.id self.now.s (b ∷ [])
+            change.old.gone.items change.new.gone.items change.old.come.items change.new.come.items) }
         ensures sound { IfErr result (λ e. (segs : SegMap) (cover : BlockSet) →
             HasLines (S.told store.old) self.now.view.tree self.now.view.layer self.now.view.level self.now.t segs cover →
             ids.now ≡ ids_of (meeting segs b) → IsSound e) }
@@ -215,10 +215,9 @@ impl Arrival {
     /// Adds the records of the facts that change on a block that stays: that the segment meets it, and no longer that none does.
     fn stay(&self, change: &mut Change, b: Block, ids: &[u32]) -> Result<(), AllocError>
         requires block { IsBlock self.now.view.level b }
-        ensures gone { OnOk result (Follow self.now.view.level self.now.view.layer change.old.gone.items change.new.gone.items (if length ids.now ==
-            0 then IsMetByNone b ∷ [] else [])) }
-        ensures come { OnOk result (Follow self.now.view.level self.now.view.layer change.old.come.items change.new.come.items (IsMetBy b self.now.id
-            ∷ [])) }
+        ensures gone { OnOk result (Follow self.now.view.level self.now.view.layer change.old.gone.items change.new.gone.items (none_by b ids.now)) }
+        ensures come { OnOk result (Follow self.now.view.level self.now.view.layer
+            change.old.come.items change.new.come.items (IsMetBy b self.now.id ∷ [])) }
     {
         if ids.is_empty() {
             change
@@ -245,8 +244,8 @@ impl Arrival {
         ensures come { OnOk result ((segs : SegMap) (cover : BlockSet) →
             HasLines (S.told store.old) self.now.view.tree self.now.view.layer self.now.view.level self.now.t segs cover →
             ids.now ≡ ids_of (meeting segs b) →
-            Follow self.now.view.level self.now.view.layer change.old.come.items change.new.come.items (flat_map (λ q. facts_by q (ids_meeting_it
-            (meeting segs b ++ (self.now.id, self.now.s) ∷ []) q)) (quarters_of b))) }
+            Follow self.now.view.level self.now.view.layer change.old.come.items change.new.come.items
+            (quarter_facts (meeting segs b ++ (self.now.id, self.now.s) ∷ []) b)) }
         ensures sound { IfErr result (λ e. (segs : SegMap) (cover : BlockSet) →
             HasLines (S.told store.old) self.now.view.tree self.now.view.layer self.now.view.level self.now.t segs cover →
             ids.now ≡ ids_of (meeting segs b) → IsSound e) }
@@ -290,8 +289,7 @@ impl LineView {
     ) -> Result<(), AllocError>
         requires block { IsBlock self.now.level b }
         requires wide { 1 < b.side }
-        ensures { OnOk result (Follow self.now.level self.now.layer records.old.items records.new.items (flat_map (λ q. facts_by q (ids_meeting_it
-            list.now q)) (quarters_of b))) }
+        ensures { OnOk result (Follow self.now.level self.now.layer records.old.items records.new.items (quarter_facts list.now b)) }
     {
         for q in quarters(b) {
             let ids = ids_meeting(alloc, list, q)?;

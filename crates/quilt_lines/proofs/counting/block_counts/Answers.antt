@@ -25,4 +25,6 @@ returns-in-Ok-clause-counts g c t segs cover h k small =
     let all = all_held c.args.level t segs cover h.spelled.valid test in
     let square = ap (λ (b : Block). count_by test (held_in cover c.args.level b)) c.whole_square.ensures in
     let count = c.in-Ok.ensures.counts t segs cover h k in
-    count ∙ ap (λ (m : ℕ). m + count_by test (held_in cover c.args.level c.whole_square.result)) zero ∙ (let e : 0 + count_by test (held_in cover c.args.level c.whole_square.result) ≡ count_by test (held_in cover c.args.level c.whole_square.result) = omega arith in e) ∙ square ∙ all
+    count ∙ ap (λ (m : ℕ). m + count_by test (held_in cover c.args.level c.whole_square.result)) zero
+    ∙ (let e : 0 + count_by test (held_in cover c.args.level c.whole_square.result) ≡ count_by test
+    (held_in cover c.args.level c.whole_square.result) = omega arith in e) ∙ square ∙ all

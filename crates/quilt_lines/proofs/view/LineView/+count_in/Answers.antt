@@ -7,7 +7,8 @@ use Rattle.quilt_loc.proofs.Blocks.{IsBlock-up}
 use Rattle.quilt_btree.specs.Trees.{IsRooted}
 use Rattle.quilt_near.proofs.Reached.{reached_quarter}
 use Rattle.quilt_lines.specs.Counting.{held_in}
-use Rattle.quilt_lines.proofs.Counts.{held_here, held_below, one_counted, one_most, count_next, four_fold, four_pos, room_next, room_all, room_step, wide_side, side_fold}
+use Rattle.quilt_lines.proofs.Counts.{held_here, held_below, one_counted, one_most, count_next, four_fold}
+use Rattle.quilt_lines.proofs.Counts.{four_pos, room_next, room_all, room_step, wide_side, side_fold}
 use Rattle.quilt_lines.proofs.Listed.{one_pixel}
 use Rattle.quilt_lines.proofs.Lookups.{lines_along}
 use Rattle.quilt_lines.proofs.Quarters.{quarter_at, quarter_side, quarter_in}
@@ -47,10 +48,12 @@ pub count_in-requires : goal.count_in-requires
 count_in-requires g t c κs within =
     let some : 0 < c.args.k = let no = c.if-k-eq0.false in omega arith in
     let wide = wide_side c.args.b c.args.k c.requires.side some in
-    let q = quarter_at c.args.self.now.level c.args.b c.quarters-q-items.result c.loop-q.q-index (record { y = 0; x = 0; side = 0 }) c.requires.block wide c.quarters-q-items.ensures.value c.loop-q-test.true in
+    let q = quarter_at c.args.self.now.level c.args.b c.quarters-q-items.result c.loop-q.q-index (record { y = 0; x = 0; side = 0 }) c.requires.block wide
+    c.quarters-q-items.ensures.value c.loop-q-test.true in
     let rooted = subst (λ (s : ℕ). IsRooted s c.args.self.now.tree) (sym c.loop-q.invariant.size) c.requires.rooted in
     let size =
-    quarter_side c.args.self.now.level c.args.b c.quarters-q-items.result c.loop-q.q-index (record { y = 0; x = 0; side = 0 }) c.requires.block wide c.quarters-q-items.ensures.value c.loop-q-test.true (c.args.k - 1) (c.requires.side ∙ side_fold c.args.k some) in (
+    quarter_side c.args.self.now.level c.args.b c.quarters-q-items.result c.loop-q.q-index (record { y = 0; x = 0; side = 0 }) c.requires.block wide
+    c.quarters-q-items.ensures.value c.loop-q-test.true (c.args.k - 1) (c.requires.side ∙ side_fold c.args.k some) in (
       omega arith,
       (
         within,
@@ -65,7 +68,8 @@ count_in-requires g t c κs within =
                 λ j.
                     let fold = four_fold c.args.k some in
                     let room = c.requires.room j in
-                    let next = room_next c.loop-q.q-index (4 ^ (c.args.k - 1)) (get_or c.args.counts.now j 0) (get_or c.loop-q.counts j 0) (c.loop-q.invariant.most j) c.loop-q-test.true in
+                    let next = room_next c.loop-q.q-index (4 ^ (c.args.k - 1)) (get_or c.args.counts.now j 0) (get_or c.loop-q.counts j 0)
+                    (c.loop-q.invariant.most j) c.loop-q-test.true in
                     omega arith,
               ),
             ),
@@ -81,7 +85,8 @@ returns-in-Err-count_in-clause-sound g t c t' segs cover h reached =
     let some : 0 < c.args.k = let no = c.if-k-eq0.false in omega arith in
     let q = get_or c.quarters-q-items.result c.loop-q.q-index (record { y = 0; x = 0; side = 0 }) in
     c.in-Err-count_in.ensures.sound t' segs cover (lines_along _ _ self.tree self.layer self.level t' segs cover c.loop-q.invariant.told h)
-    (reached_quarter self.level (record { segs = segs; cover = cover }) (record { inside = valid.inside; each = valid.each; once = valid.once }) c.args.b q c.requires.block (wide_side c.args.b c.args.k c.requires.side some) reached
+    (reached_quarter self.level (record { segs = segs; cover = cover }) (record { inside = valid.inside; each = valid.each; once = valid.once }) c.args.b q
+    c.requires.block (wide_side c.args.b c.args.k c.requires.side some) reached
     (sym (c.in-Ok-false.ensures.there t' segs cover h) ∙ c.in-Ok-false.field-0-test)
     (quarter_in c.args.b c.quarters-q-items.result c.loop-q.q-index (record { y = 0; x = 0; side = 0 }) c.quarters-q-items.ensures.value c.loop-q-test.true))
 
@@ -91,10 +96,12 @@ loop-q-preserved g t c =
     record {
       counts = λ t' segs cover h j.
           let four = ap length c.quarters-q-items.ensures.value in
-          count_next (held_in cover (c.args.k - 1)) (λ d. d.side == side j) c.quarters-q-items.result c.loop-q.q-index (record { y = 0; x = 0; side = 0 }) (get_or c.args.counts.now j 0) (get_or c.loop-q.counts j 0) (get_or c.count_in.new.counts j 0)
+          count_next (held_in cover (c.args.k - 1)) (λ d. d.side == side j) c.quarters-q-items.result c.loop-q.q-index (record { y = 0; x = 0; side = 0 })
+          (get_or c.args.counts.now j 0) (get_or c.loop-q.counts j 0) (get_or c.count_in.new.counts j 0)
           (let lt = c.loop-q-test.true in omega arith) (c.loop-q.invariant.counts t' segs cover h j)
           (c.in-Ok.ensures.counts t' segs cover (lines_along _ _ self.tree self.layer self.level t' segs cover c.loop-q.invariant.told h) j);
-      most = λ j. room_step c.loop-q.q-index (4 ^ (c.args.k - 1)) (get_or c.args.counts.now j 0) (get_or c.loop-q.counts j 0) (get_or c.count_in.new.counts j 0) (c.loop-q.invariant.most j) (c.in-Ok.ensures.most j);
+      most = λ j. room_step c.loop-q.q-index (4 ^ (c.args.k - 1)) (get_or c.args.counts.now j 0) (get_or c.loop-q.counts j 0)
+          (get_or c.count_in.new.counts j 0) (c.loop-q.invariant.most j) (c.in-Ok.ensures.most j);
       faults = let m = c.loop-q.invariant.faults in let n = c.in-Ok.ensures.cause.later in omega arith;
       size = c.in-Ok.ensures.size ∙ c.loop-q.invariant.size;
       told = c.in-Ok.ensures.told ∙ c.loop-q.invariant.told;
@@ -110,11 +117,13 @@ returns-clause-counts g t c t' segs cover h j =
     let below = held_below cover c.args.k c.args.b some (sym (c.in-Ok-false.ensures.there t' segs cover h) ∙ c.in-Ok-false.field-0-test) in
     c.loop-q.invariant.counts t' segs cover h j
     ∙ ap (λ (bs : List Block). get_or c.args.counts.now j 0 + count_by (λ d. d.side == side j) bs)
-    (ap (flat_map (held_in cover (c.args.k - 1))) (take_all c.loop-q.q-index c.quarters-q-items.result (let end = c.loop-q-test.false in omega arith) ∙ c.quarters-q-items.ensures.value) ∙ sym below)
+    (ap (flat_map (held_in cover (c.args.k - 1)))
+    (take_all c.loop-q.q-index c.quarters-q-items.result (let end = c.loop-q-test.false in omega arith) ∙ c.quarters-q-items.ensures.value) ∙ sym below)
 
 pub returns-clause-most : goal.returns-clause-most
 returns-clause-most g t c j =
     let some : 0 < c.args.k = let no = c.if-k-eq0.false in omega arith in
     let fold = four_fold c.args.k some in
-    let all = room_all c.loop-q.q-index (4 ^ (c.args.k - 1)) (get_or c.args.counts.now j 0) (get_or c.loop-q.counts j 0) (c.loop-q.invariant.most j) c.loop-q.auto.q-index-end in
+    let all = room_all c.loop-q.q-index (4 ^ (c.args.k - 1)) (get_or c.args.counts.now j 0) (get_or c.loop-q.counts j 0) (c.loop-q.invariant.most j)
+    c.loop-q.auto.q-index-end in
     omega arith

@@ -11,7 +11,9 @@ decreases-count_in g l = l.k
 
 abbrev pub invariant-loop-q : goal.invariant-loop-q
 invariant-loop-q g l = record {
-  counts : (t : ℕ) (segs : SegMap) (cover : BlockSet) → HasLines (g.S.PageStore.told l.fn.store) l.self.tree l.self.layer l.self.level t segs cover → (j : ℕ) → get_or l.counts j 0 ≡ get_or l.fn.counts j 0 + count_by (λ c. c.side == side j) (flat_map (held_in cover (l.k - 1)) (take l.q-index l.q-items));
+  counts : (t : ℕ) (segs : SegMap) (cover : BlockSet) → HasLines (g.S.PageStore.told l.fn.store) l.self.tree l.self.layer l.self.level t segs cover
+      → (j : ℕ) → get_or l.counts j 0 ≡ get_or l.fn.counts j 0 + count_by (λ c. c.side == side j)
+      (flat_map (held_in cover (l.k - 1)) (take l.q-index l.q-items));
   most : (j : ℕ) → get_or l.counts j 0 ≤ get_or l.fn.counts j 0 + l.q-index * 4 ^ (l.k - 1);
   faults : g.S.PageStore.faults l.fn.store ≤ g.S.PageStore.faults l.store;
   size : g.S.PageStore.size l.store ≡ g.S.PageStore.size l.fn.store;

@@ -8,11 +8,13 @@ returns-in-Err-clause-sound g c t segs cover h = c.in-Err.ensures.sound h.record
 
 pub returns-in-Ok-None-clause-there : goal.returns-in-Ok-None-clause-there
 returns-in-Ok-None-clause-there g c t segs cover h =
-    read_none (g.S.PageStore.told c.args.store.now) c.args.self.now.tree c.args.self.now.layer c.args.self.now.level t segs cover _ _ c.in-Ok-None.field-0 c.in-Ok-None.ensures.floor h c.args.self.now.has_level.1 c.args.b c.requires.block
+    read_none (g.S.PageStore.told c.args.store.now) c.args.self.now.tree c.args.self.now.layer c.args.self.now.level t segs cover _ _ c.in-Ok-None.field-0
+    c.in-Ok-None.ensures.floor h c.args.self.now.has_level.1 c.args.b c.requires.block
     (ap (λ (r : Record). r.key) (c.pair_record.ensures.written [])) refl c.in-Ok-None.field-0-is
 
 pub returns-in-Ok-Some-clause-there : goal.returns-in-Ok-Some-clause-there
 returns-in-Ok-Some-clause-there g c t segs cover h =
     c.is_from.ensures
-    ∙ read_some (g.S.PageStore.told c.args.store.now) c.args.self.now.tree c.args.self.now.layer c.args.self.now.level t segs cover _ _ c.in-Ok-Some.field-0 c.in-Ok-Some.ensures.floor h c.args.self.now.has_level.1 c.args.b c.requires.block
+    ∙ read_some (g.S.PageStore.told c.args.store.now) c.args.self.now.tree c.args.self.now.layer c.args.self.now.level t segs cover _ _
+    c.in-Ok-Some.field-0 c.in-Ok-Some.ensures.floor h c.args.self.now.has_level.1 c.args.b c.requires.block
     (ap (λ (r : Record). r.key) (c.pair_record.ensures.written [])) refl c.in-Ok-Some.r c.in-Ok-Some.field-0-is
