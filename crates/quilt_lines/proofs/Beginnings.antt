@@ -1,5 +1,6 @@
 -- A line layer that begins: the record of the catalog and that of the whole square.
-use Rattle.std.proofs.Common.{◌≡◌, ℕ, ◌≤◌, List, [], ◌∷◌, Option, Some, None, refl, sym, ◌∙◌, ap, subst, ◌⊎◌, inl, inr, ⊎_elim, arith, Contains, Less, true≢false}
+use Rattle.std.proofs.Common.{◌≡◌, ℕ, ◌≤◌, List, [], ◌∷◌, Option, Some, None, refl, sym}
+use Rattle.std.proofs.Common.{◌∙◌, ap, subst, ◌⊎◌, inl, inr, ⊎_elim, arith, Contains, Less, true≢false}
 use Rattle.std.specs.Option.{is_some}
 use Rattle.std.specs.FinMap as finmap
 use Rattle.std.specs.Ordering.{nat_cmp}
@@ -70,20 +71,25 @@ module _ (n t : ℕ) where
     members : SameMembers (first ∷ second ∷ []) (layer_records n name number layer)
     members r = (
       λ c.
-          ⊎_elim (λ e. subst (Contains (layer_records n name number layer)) e (layer_record n name number layer (IsOfKind 3 t) (said n t bare (one_block n) (IsOfKind 3 t) (refl, refl))))
+          ⊎_elim (λ e. subst (Contains (layer_records n name number layer)) e
+          (layer_record n name number layer (IsOfKind 3 t) (said n t bare (one_block n) (IsOfKind 3 t) (refl, refl))))
           (λ d.
-          ⊎_elim (λ e. subst (Contains (layer_records n name number layer)) e (layer_record n name number layer (IsMetByNone (whole n)) (said n t bare (one_block n) (IsMetByNone (whole n)) (there n, λ id m. no_met (whole n) id m))))
+          ⊎_elim (λ e. subst (Contains (layer_records n name number layer)) e
+          (layer_record n name number layer (IsMetByNone (whole n))
+          (said n t bare (one_block n) (IsMetByNone (whole n)) (there n, λ id m. no_met (whole n) id m))))
           (λ z. absurd (Contains-nil r z)) (Contains-cons_cases second [] r d)) (Contains-cons_cases first (second ∷ []) r c),
       λ c.
           let f = layer_record_from n name number layer r c in
           ⊎_elim (λ e. subst (Contains (first ∷ second ∷ [])) (ap (record_of n 0 name number) e ∙ f.2) (Contains-here first (second ∷ [])))
-          (λ e. subst (Contains (first ∷ second ∷ [])) (ap (record_of n 0 name number) e ∙ f.2) (Contains-there first (second ∷ []) second (Contains-here second [])))
+          (λ e. subst (Contains (first ∷ second ∷ [])) (ap (record_of n 0 name number) e ∙ f.2)
+          (Contains-there first (second ∷ []) second (Contains-here second [])))
           (bare_fact f.0 (says n t bare (one_block n) f.0 f.1)),
     )
 
     once : 1 ≤ number → Apart (first ∷ second ∷ [])
     once some = (
-      λ c. ⊎_elim (λ e. let z : number ≡ 0 = ap (λ (r : Record). r.key.layer) e in absurd (omega arith)) (λ z. absurd (Contains-nil first z)) (Contains-cons_cases second [] first c),
+      λ c. ⊎_elim (λ e. let z : number ≡ 0 = ap (λ (r : Record). r.key.layer) e in absurd (omega arith)) (λ z. absurd (Contains-nil first z))
+          (Contains-cons_cases second [] first c),
       (λ c. Contains-nil second c, tt),
     )
 
@@ -93,14 +99,17 @@ module _ (n t : ℕ) where
 pub begins : (n number t : ℕ) (b : Block) (r : Record) → b ≡ whole n → 1 ≤ number → IsRecordOf n 0 r number (pair_fact b None) → IsLineBeginning n number t r
 begins n number t b r square least is = record {
   leads = λ name head kind.
-      let second : r ≡ record_of n 0 name number (IsMetByNone (whole n)) = is.written name ∙ ap (λ (c : Block). record_of n 0 name number (IsMetByNone c)) square in
+      let second : r ≡ record_of n 0 name number (IsMetByNone (whole n)) = is.written name
+      ∙ ap (λ (c : Block). record_of n 0 name number (IsMetByNone c)) square in
       subst (λ (z : Record). LeadsTo n name number None (Some (Lines t bare (one_block n))) [] (z ∷ r ∷ [])) (sym (kind n 0))
-      (subst (λ (z : Record). LeadsTo n name number None (Some (Lines t bare (one_block n))) [] (record_of n 0 name number (IsOfKind 3 t) ∷ z ∷ [])) (sym second) (line_begins n t name number least));
+      (subst (λ (z : Record). LeadsTo n name number None (Some (Lines t bare (one_block n))) [] (record_of n 0 name number (IsOfKind 3 t) ∷ z ∷ []))
+      (sym second) (line_begins n t name number least));
   ascend = λ name head kind.
       let low = ap (λ (z : Record). z.key.layer) (kind n 0) in
       let high = ap (λ (z : Record). z.key.layer) (is.written name) in
       let up : Rises by_key (head ∷ r ∷ []) = (
-        λ z c. ⊎_elim (λ e. subst (λ (y : Record). by_key head y ≡ Less) e (less_layer head.key r.key (omega arith))) (λ d. absurd (Contains-nil z d)) (Contains-cons_cases r [] z c),
+        λ z c. ⊎_elim (λ e. subst (λ (y : Record). by_key head y ≡ Less) e (less_layer head.key r.key (omega arith))) (λ d. absurd (Contains-nil z d))
+            (Contains-cons_cases r [] z c),
         (λ z c. absurd (Contains-nil z c), tt),
       ) in
       rises_ascend (head ∷ r ∷ []) up;

@@ -20,7 +20,8 @@ use Rattle.quilt_lines.specs.Layers.{fact_record}
 use Rattle.quilt_lines.specs.Plans.{IsLinePlan}
 
 -- edits may be listed otherwise
-leads_permuted : (n : ℕ) (name : List ℕ) (number : ℕ) (old new : Option Layer) (removed added remove add : List Record) → IsPermutation removed remove → IsPermutation added add
+leads_permuted : (n : ℕ) (name : List ℕ) (number : ℕ) (old new : Option Layer) (removed added remove add : List Record) → IsPermutation removed remove
+    → IsPermutation added add
     → LeadsTo n name number old new removed added → LeadsTo n name number old new remove add
 leads_permuted n name number old new removed added remove add pr pa h = record {
   remove = λ r. (λ c. (h.remove r).0 ((permuted removed remove pr r).1 c), λ c. (permuted removed remove pr r).0 ((h.remove r).1 c));
@@ -59,9 +60,11 @@ module _ (n layer t : ℕ) (segs : SegMap) (cover : BlockSet) where
 
   alone_plain : (osegs : SegMap) (ocover : BlockSet) (f : Fact) → IsAlone (facts n (Lines t segs cover)) (facts n (Lines t osegs ocover)) f → IsPlain n layer f
   alone_plain osegs ocover f h =
-      plain f (says n t segs cover f h.0) (λ kind number both e. h.1 (subst (Contains (facts n (Lines t osegs ocover))) (sym e) (said n t osegs ocover (IsOfKind kind number) both)))
+      plain f (says n t segs cover f h.0) (λ kind number both e. h.1
+      (subst (Contains (facts n (Lines t osegs ocover))) (sym e) (said n t osegs ocover (IsOfKind kind number) both)))
 
-module _ (n layer t : ℕ) (le : n ≤ 12) (least : 1 ≤ layer) (segs later : SegMap) (cover after : BlockSet) (vo : IsLineMap n t segs cover) (vn : IsLineMap n t later after) (gone come : List Fact)
+module _ (n layer t : ℕ) (le : n ≤ 12) (least : 1 ≤ layer) (segs later : SegMap) (cover after : BlockSet) (vo : IsLineMap n t segs cover)
+    (vn : IsLineMap n t later after) (gone come : List Fact)
     (goes : (f : Fact) → Contains gone f ↔ IsAlone (facts n (Lines t segs cover)) (facts n (Lines t later after)) f) (ag : Apart gone)
     (comes : (f : Fact) → Contains come f ↔ IsAlone (facts n (Lines t later after)) (facts n (Lines t segs cover)) f) (ac : Apart come) where
   gone_plain : (f : Fact) → Contains gone f → IsPlain n layer f
@@ -70,7 +73,8 @@ module _ (n layer t : ℕ) (le : n ≤ 12) (least : 1 ≤ layer) (segs later : S
   come_plain : (f : Fact) → Contains come f → IsPlain n layer f
   come_plain f c = alone_plain n layer t later after segs cover f ((comes f).0 c)
 
-  lead : (name : List ℕ) → LeadsTo n name layer (Some (Lines t segs cover)) (Some (Lines t later after)) (map (fact_record n layer) gone) (map (fact_record n layer) come)
+  lead : (name : List ℕ) → LeadsTo n name layer (Some (Lines t segs cover)) (Some (Lines t later after)) (map (fact_record n layer) gone)
+      (map (fact_record n layer) come)
   lead name =
       subst (λ (rs : List Record). LeadsTo n name layer (Some (Lines t segs cover)) (Some (Lines t later after)) rs (map (fact_record n layer) come))
       (same_map (record_of n 0 name layer) (fact_record n layer) gone (λ f c. (gone_plain f c).nameless name))
@@ -78,14 +82,16 @@ module _ (n layer t : ℕ) (le : n ≤ 12) (least : 1 ≤ layer) (segs later : S
       (same_map (record_of n 0 name layer) (fact_record n layer) come (λ f c. (come_plain f c).nameless name))
       (plan_leads 1 n name layer le least (Lines t segs cover) (Lines t later after) vo vn gone come goes ag comes ac))
 
-  own_keys : (mine : SegMap) (blocks : BlockSet) → IsLineMap n t mine blocks → (fs : List Fact) → ((f : Fact) → Contains fs f → Contains (facts n (Lines t mine blocks)) f) → Apart (map (fact_record n layer) fs)
+  own_keys : (mine : SegMap) (blocks : BlockSet) → IsLineMap n t mine blocks → (fs : List Fact)
+      → ((f : Fact) → Contains fs f → Contains (facts n (Lines t mine blocks)) f) → Apart (map (fact_record n layer) fs)
       → HaveOwnKeys (map (fact_record n layer) fs)
   own_keys mine blocks v fs of once = record {
     once = once;
     keys = λ r q cr cq e.
         let f = Contains-map_from (fact_record n layer) fs r cr in
         let g = Contains-map_from (fact_record n layer) fs q cq in
-        let one = fact_alone n le [] layer least 1 (Lines t mine blocks) v f.0 g.0 (of f.0 f.1) (of g.0 g.1) (ap (λ (z : Record). z.key) f.2 ∙ e ∙ ap (λ (z : Record). z.key) (sym g.2)) in
+        let one = fact_alone n le [] layer least 1 (Lines t mine blocks) v f.0 g.0 (of f.0 f.1) (of g.0 g.1)
+        (ap (λ (z : Record). z.key) f.2 ∙ e ∙ ap (λ (z : Record). z.key) (sym g.2)) in
         sym f.2 ∙ ap (fact_record n layer) one ∙ g.2;
   }
 
@@ -100,14 +106,17 @@ module _ (n layer t : ℕ) (le : n ≤ 12) (least : 1 ≤ layer) (segs later : S
             let g = Contains-map_from (fact_record n layer) come r ca in
             let old = ((goes f.0).0 f.1).0 in
             let new = ((comes g.0).0 g.1).0 in
-            let same = fact_of n le 0 0 layer [] [] f.0 g.0 (facts_fit n le 1 (Lines t segs cover) vo f.0 old) (facts_fit n le 1 (Lines t later after) vn g.0 new) (gone_plain f.0 f.1).part (f.2 ∙ sym g.2) in
+            let same = fact_of n le 0 0 layer [] [] f.0 g.0 (facts_fit n le 1 (Lines t segs cover) vo f.0 old)
+            (facts_fit n le 1 (Lines t later after) vn g.0 new) (gone_plain f.0 f.1).part (f.2 ∙ sym g.2) in
             ((goes f.0).0 f.1).1 (subst (Contains (facts n (Lines t later after))) (sym same) new);
       }
 
   -- and are a plan, in whatever order
-  pub plan : (edits : Edits) → IsPermutation (map (fact_record n layer) gone) edits.remove → IsPermutation (map (fact_record n layer) come) edits.add → IsLinePlan n layer t segs later cover after edits
+  pub plan : (edits : Edits) → IsPermutation (map (fact_record n layer) gone) edits.remove → IsPermutation (map (fact_record n layer) come) edits.add
+      → IsLinePlan n layer t segs later cover after edits
   plan edits pr pa = record {
     valid = vn;
     leads = λ name.
-        leads_permuted n name layer (Some (Lines t segs cover)) (Some (Lines t later after)) (map (fact_record n layer) gone) (map (fact_record n layer) come) edits.remove edits.add pr pa (lead name);
+        leads_permuted n name layer (Some (Lines t segs cover)) (Some (Lines t later after)) (map (fact_record n layer) gone)
+        (map (fact_record n layer) come) edits.remove edits.add pr pa (lead name);
   }

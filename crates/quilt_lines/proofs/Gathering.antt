@@ -42,7 +42,8 @@ list_all-next p (c ∷ bs) b = ap (λ (u : Bool). p c && u) (list_all-next p bs 
     and_more false v w = refl
 
 module _ (n layer t id : ℕ) (segs : SegMap) (cover : BlockSet) (s : Seg) (k : ℕ) where
-  pub gathers_none : (x : Settled) → x.one ≡ true → x.ids.items ≡ [] → x.parts.items ≡ [] → x.coming.items ≡ [] → x.going.items ≡ [] → x.staying.items ≡ [] → x.emptied.items ≡ []
+  pub gathers_none : (x : Settled) → x.one ≡ true → x.ids.items ≡ [] → x.parts.items ≡ [] → x.coming.items ≡ [] → x.going.items ≡ [] → x.staying.items ≡ []
+      → x.emptied.items ≡ []
       → Gathers n layer t id segs cover s k [] x
   gathers_none x one ids parts coming going staying emptied = record {
     one = one;
@@ -56,7 +57,8 @@ module _ (n layer t id : ℕ) (segs : SegMap) (cover : BlockSet) (s : Seg) (k : 
     emptied = emptied;
   }
 
-  pub gathers_next : (bs : List Block) (b : Block) (x y z : Settled) → Gathers n layer t id segs cover s k bs x → Settles n layer t id segs cover s k b y → IsGathered t x y z
+  pub gathers_next : (bs : List Block) (b : Block) (x y z : Settled) → Gathers n layer t id segs cover s k bs x → Settles n layer t id segs cover s k b y
+      → IsGathered t x y z
       → Gathers n layer t id segs cover s k (bs ++ b ∷ []) z
   gathers_next bs b x y z g h w =
       let both : z.one ≡ true → (x.one ≡ true) × (y.one ≡ true) = λ o. and_parts x.one y.one (sym w.one ∙ o) in
@@ -67,7 +69,12 @@ module _ (n layer t id : ℕ) (segs : SegMap) (cover : BlockSet) (s : Seg) (k : 
             let p = both o in
             ⊎_elim
             (λ d. let v = g.from p.0 i d in (v.0, Contains-append_left bs (b ∷ []) v.0 v.1, v.2))
-            (λ d. (b, Contains-append_right bs (b ∷ []) b (Contains-here b []), (ids_are (finmap.remove segs id) b i).0 (subst (λ (l : List ℕ). Contains l i) (h.ids p.1) d)))
+            (λ d. (
+              b,
+              Contains-append_right bs (b ∷ []) b (Contains-here b []),
+              (ids_are (finmap.remove segs id) b i).0
+                  (subst (λ (l : List ℕ). Contains l i) (h.ids p.1) d),
+            ))
             (w.ids.from i c);
         all = λ o few q c i m.
             let p = both o in
@@ -76,11 +83,17 @@ module _ (n layer t id : ℕ) (segs : SegMap) (cover : BlockSet) (s : Seg) (k : 
             (λ d. w.ids.kept i (g.all p.0 (omega arith) q d i m))
             (λ d.
             let is : b ≡ q = ⊎_elim (λ e. e) (λ none. absurd (Contains-nil q none)) (Contains-cons_cases b [] q d) in
-            w.ids.all few i (subst (λ (l : List ℕ). Contains l i) (sym (h.ids p.1)) ((ids_are (finmap.remove segs id) b i).1 (subst (λ (r : Block). IsMet (finmap.remove segs id) r i) (sym is) m))))
+            w.ids.all few i (subst (λ (l : List ℕ). Contains l i) (sym (h.ids p.1))
+            ((ids_are (finmap.remove segs id) b i).1 (subst (λ (r : Block). IsMet (finmap.remove segs id) r i) (sym is) m))))
             (Contains-append_cases bs (b ∷ []) q c);
-        parts = λ o. let p = both o in one_more n layer (line_facts segs) (gone_of_quarter t (finmap.remove segs id) cover s k) bs b x.parts.items y.parts.items z.parts.items w.parts (g.parts p.0) (h.parts p.1);
-        coming = one_more n layer (line_facts (finmap.remove segs id)) (coming_in t (finmap.remove segs id) cover s k) bs b x.coming.items y.coming.items z.coming.items w.coming g.coming h.coming;
-        going = one_more n layer (line_facts segs) (going_in t (finmap.remove segs id) cover s k) bs b x.going.items y.going.items z.going.items w.going g.going h.going;
-        staying = one_more n layer (met_by id) (staying_in t (finmap.remove segs id) cover s k) bs b x.staying.items y.staying.items z.staying.items w.staying g.staying h.staying;
-        emptied = one_more n layer (none_on (finmap.remove segs id)) (staying_in t (finmap.remove segs id) cover s k) bs b x.emptied.items y.emptied.items z.emptied.items w.emptied g.emptied h.emptied;
+        parts = λ o. let p = both o in one_more n layer (line_facts segs) (gone_of_quarter t (finmap.remove segs id) cover s k) bs b x.parts.items
+            y.parts.items z.parts.items w.parts (g.parts p.0) (h.parts p.1);
+        coming = one_more n layer (line_facts (finmap.remove segs id)) (coming_in t (finmap.remove segs id) cover s k) bs b x.coming.items y.coming.items
+            z.coming.items w.coming g.coming h.coming;
+        going = one_more n layer (line_facts segs) (going_in t (finmap.remove segs id) cover s k) bs b x.going.items y.going.items z.going.items w.going
+            g.going h.going;
+        staying = one_more n layer (met_by id) (staying_in t (finmap.remove segs id) cover s k) bs b x.staying.items y.staying.items z.staying.items
+            w.staying g.staying h.staying;
+        emptied = one_more n layer (none_on (finmap.remove segs id)) (staying_in t (finmap.remove segs id) cover s k) bs b x.emptied.items y.emptied.items
+            z.emptied.items w.emptied g.emptied h.emptied;
       }

@@ -19,3 +19,5 @@ pub mod Quarters
 pub mod Results
 pub mod Removals
 pub mod Options
+pub mod Floors
+pub mod Counts

@@ -1,5 +1,7 @@
 -- A block that is kept, quarters that become one block and quarters that stay apart, as records.
-use Rattle.std.proofs.Common.{◌≡◌, ◌↔◌, ℕ, ◌+◌, ◌<◌, ◌≤◌, Bool, true, false, cond, not, ◌&&◌, nat_le, leb-true, List, [], ◌∷◌, map, filter, length, ⊎_elim, refl, sym, ◌∙◌, ap, subst, arith, Contains, Less, nat_cmp, eqb-true, eq-eqb, true≢false, suc, get_or, pow_pos, pow-suc, Option, Some, None}
+use Rattle.std.proofs.Common.{◌≡◌, ◌↔◌, ℕ, ◌+◌, ◌<◌, ◌≤◌, Bool, true, false, cond, not, ◌&&◌, nat_le, leb-true, List, [], ◌∷◌, map, filter, length}
+use Rattle.std.proofs.Common.{⊎_elim, refl, sym, ◌∙◌, ap, subst, arith, Contains, Less, nat_cmp, eqb-true, eq-eqb, true≢false, suc, get_or, pow_pos}
+use Rattle.std.proofs.Common.{pow-suc, Option, Some, None}
 use Rattle.std.specs.Prelude.{◌==◌}
 use Rattle.std.specs.List.{list_all}
 use Rattle.std.specs.List.Sorted.{IsSorted}
@@ -57,7 +59,8 @@ sorted_rises : (xs : List ℕ) → IsSorted nat_cmp xs → Apart xs → Rises na
 sorted_rises [] up once = tt
 sorted_rises (x ∷ xs) up once = (
   λ y c.
-      let far = sorted_far (λ (a b : ℕ). is_lt (nat_cmp a b)) (ranks_by nat_cmp_total (λ (z : ℕ). z)) (x ∷ xs) up 0 (suc c.0) y (omega arith) (let lt = c.1 in omega arith) in
+      let far = sorted_far (λ (a b : ℕ). is_lt (nat_cmp a b)) (ranks_by nat_cmp_total (λ (z : ℕ). z)) (x ∷ xs) up 0 (suc c.0) y (omega arith)
+      (let lt = c.1 in omega arith) in
       not_above x y (subst (λ (z : ℕ). is_lt (nat_cmp z x) ≡ false) c.2 far) (λ e. once.0 (subst (Contains xs) (sym e) c)),
   sorted_rises xs (sorted_tail x xs up) once.1,
 )
@@ -112,7 +115,8 @@ passed true x y e = absurd (true≢false e)
 module _ (segs : SegMap) (id : ℕ) where
   other_met : (b : Block) (i : ℕ) → IsMet (finmap.remove segs id) b i ↔ (IsMet segs b i × (i ≡ id → ⊥))
   other_met b i = (
-    λ m. let d : i ≡ id → ⊥ = λ e. none_some m.0 (sym (get_removed nat_cmp nat_cmp_total nat_cmp-IsAntisymmetric segs id) ∙ ap (finmap.get (finmap.remove segs id)) (sym e) ∙ m.1) in
+    λ m. let d : i ≡ id → ⊥ = λ e. none_some m.0 (sym (get_removed nat_cmp nat_cmp_total nat_cmp-IsAntisymmetric segs id)
+        ∙ ap (finmap.get (finmap.remove segs id)) (sym e) ∙ m.1) in
         ((m.0, sym (get_kept nat_cmp nat_cmp_total nat_cmp-IsAntisymmetric segs id i d) ∙ m.1, m.2), d),
     λ w. (w.0.0, get_kept nat_cmp nat_cmp_total nat_cmp-IsAntisymmetric segs id i w.1 ∙ w.0.1, w.0.2),
   )
@@ -147,16 +151,12 @@ module _ (segs : SegMap) (id : ℕ) where
           by_case false e = refl
 
 module _ (n layer t id : ℕ) (segs : SegMap) (cover : BlockSet) (s : Seg) (k : ℕ) (b : Block) where
-  now : SegMap
-  now = finmap.remove segs id
-
   -- ---- a block of the layer
   pub kept_settles : (ids : List ℕ) (x : Settled) → AreIdsAt segs cover b ids → x.one ≡ true → x.ids.items ≡ filter (λ i. not (i == id)) ids
       → x.parts.items ≡ map (fact_record n layer) (pair_facts b ids) → x.coming.items ≡ [] → x.going.items ≡ []
       → x.staying.items ≡ cond (meets s (square b)) (fact_record n layer (IsMetBy b id) ∷ []) []
       → x.emptied.items ≡ cond (meets s (square b) && (length x.ids.items == 0)) (fact_record n layer (IsMetByNone b) ∷ []) []
       → Settles n layer t id segs cover s k b x
-  unfolding now
   kept_settles ids x at one others parts coming going staying emptied =
       let step = leaf_step t (finmap.remove segs id) cover s k b at.there in
       let met = others ∙ ap (filter (λ i. not (i == id))) at.are ∙ others_are segs id b in
@@ -164,14 +164,18 @@ module _ (n layer t id : ℕ) (segs : SegMap) (cover : BlockSet) (s : Seg) (k : 
         one = one ∙ step.is_one;
         ids = λ _. met;
         parts = λ _.
-            parts ∙ ap (λ (l : List ℕ). map (fact_record n layer) (pair_facts b l)) at.are ∙ ap (map (fact_record n layer)) (pair_facts-are segs b) ∙ sym (on_one n layer (line_facts segs) b)
-            ∙ ap (records_on n layer (line_facts segs)) (sym (chosen (finset.contains cover b) (b ∷ []) (going_in t (finmap.remove segs id) cover s k b) at.there));
+            parts ∙ ap (λ (l : List ℕ). map (fact_record n layer) (pair_facts b l)) at.are ∙ ap (map (fact_record n layer)) (pair_facts-are segs b)
+            ∙ sym (on_one n layer (line_facts segs) b)
+            ∙ ap (records_on n layer (line_facts segs)) (sym (chosen (finset.contains cover b) (b ∷ []) (going_in t (finmap.remove segs id) cover s k b)
+            at.there));
         coming = coming ∙ ap (records_on n layer (line_facts (finmap.remove segs id))) step.come;
         going = going ∙ ap (records_on n layer (line_facts segs)) step.go;
         staying = staying ∙ staying_by (meets s (square b)) ∙ ap (records_on n layer (met_by id)) step.stay;
         emptied =
-            emptied ∙ ap (λ z. cond (meets s (square b) && (z == 0)) (fact_record n layer (IsMetByNone b) ∷ []) []) (ap length met ∙ ids_number (finmap.remove segs id) b)
-            ∙ emptied_by (meets s (square b)) (segs_meeting (finmap.remove segs id) b == 0) refl ∙ ap (records_on n layer (none_on (finmap.remove segs id))) step.stay;
+            emptied ∙ ap (λ z. cond (meets s (square b) && (z == 0)) (fact_record n layer (IsMetByNone b) ∷ []) [])
+            (ap length met ∙ ids_number (finmap.remove segs id) b)
+            ∙ emptied_by (meets s (square b)) (segs_meeting (finmap.remove segs id) b == 0) refl
+            ∙ ap (records_on n layer (none_on (finmap.remove segs id))) step.stay;
       }
     where
       staying_by : (m : Bool) → cond m (fact_record n layer (IsMetBy b id) ∷ []) [] ≡ records_on n layer (met_by id) (cond m (b ∷ []) [])
@@ -204,7 +208,8 @@ module _ (n layer t id : ℕ) (segs : SegMap) (cover : BlockSet) (s : Seg) (k : 
     number_least : x.one ≡ true → length x.ids.items ≤ segs_meeting (finmap.remove segs id) b
     number_least o =
         let count = ids_number (finmap.remove segs id) b in
-        let le = Apart-le x.ids.items (ids_of (meeting (finmap.remove segs id) b)) g.once (λ i c. (ids_are (finmap.remove segs id) b i).1 ((through i).1 (g.from o i c))) in
+        let le = Apart-le x.ids.items (ids_of (meeting (finmap.remove segs id) b)) g.once
+        (λ i c. (ids_are (finmap.remove segs id) b i).1 ((through i).1 (g.from o i c))) in
         omega arith
 
     all_met : x.one ≡ true → length x.ids.items ≤ t → (i : ℕ) → Contains x.ids.items i ↔ IsMet (finmap.remove segs id) b i
@@ -212,14 +217,16 @@ module _ (n layer t id : ℕ) (segs : SegMap) (cover : BlockSet) (s : Seg) (k : 
 
     number_is : x.one ≡ true → length x.ids.items ≤ t → length x.ids.items ≡ segs_meeting (finmap.remove segs id) b
     number_is o few =
-        same_length x.ids.items (ids_of (meeting (finmap.remove segs id) b)) g.once (Apart-rises nat_cmp nat_cmp_total (ids_of (meeting (finmap.remove segs id) b)) (ids_rise (finmap.remove segs id) b))
+        same_length x.ids.items (ids_of (meeting (finmap.remove segs id) b)) g.once
+        (Apart-rises nat_cmp nat_cmp_total (ids_of (meeting (finmap.remove segs id) b)) (ids_rise (finmap.remove segs id) b))
         (λ i. let v = all_met o few i in let w = ids_are (finmap.remove segs id) b i in (λ c. w.1 (v.0 c), λ c. v.1 (w.0 c)))
         ∙ ids_number (finmap.remove segs id) b
 
     same_few : x.one ≡ true → nat_le (segs_meeting (finmap.remove segs id) b) t ≡ nat_le (length x.ids.items) t
     same_few o =
         ⊎_elim
-        (λ gt. let least = number_least o in nat_le_false (segs_meeting (finmap.remove segs id) b) t (omega arith) ∙ sym (nat_le_false (length x.ids.items) t gt))
+        (λ gt. let least = number_least o in nat_le_false (segs_meeting (finmap.remove segs id) b) t (omega arith)
+        ∙ sym (nat_le_false (length x.ids.items) t gt))
         (λ few. ap (λ z. nat_le z t) (sym (number_is o few)))
         (cases_lt t (length x.ids.items))
       where
@@ -253,22 +260,26 @@ module _ (n layer t id : ℕ) (segs : SegMap) (cover : BlockSet) (s : Seg) (k : 
         }
 
     -- they become one block
-    pub merged_settles : (y : Settled) → (x.one && nat_le (length x.ids.items) t) ≡ true → IsMerged n layer b x.ids.items x.parts.items y → Settles n layer t id segs cover s (suc k) b y
+    pub merged_settles : (y : Settled) → (x.one && nat_le (length x.ids.items) t) ≡ true → IsMerged n layer b x.ids.items x.parts.items y
+        → Settles n layer t id segs cover s (suc k) b y
     merged_settles y little m =
         let both = and_parts x.one (nat_le (length x.ids.items) t) little in
         let few = leb-true (length x.ids.items) t both.1 in
         let step = merge_step t (finmap.remove segs id) cover s k b away (becomes_is ∙ little) in
         let same = permuted x.ids.items y.ids.items m.permutation in
-        let ids = ids_from (finmap.remove segs id) b y.ids.items (sorted_rises y.ids.items m.sorted (Apart-permuted x.ids.items y.ids.items m.permutation g.once))
+        let ids = ids_from (finmap.remove segs id) b y.ids.items
+        (sorted_rises y.ids.items m.sorted (Apart-permuted x.ids.items y.ids.items m.permutation g.once))
         (λ i. let v = all_met both.0 few i in (λ c. v.0 ((same i).1 c), λ d. (same i).0 (v.1 d))) in
         record {
           one = m.one ∙ step.is_one;
           ids = λ _. ids;
           parts = λ _.
               m.parts ∙ g.parts both.0 ∙ ap (records_on n layer (line_facts segs)) step.go
-              ∙ ap (records_on n layer (line_facts segs)) (sym (passed (finset.contains cover b) (b ∷ []) (going_in t (finmap.remove segs id) cover s (suc k) b) away));
+              ∙ ap (records_on n layer (line_facts segs)) (sym
+              (passed (finset.contains cover b) (b ∷ []) (going_in t (finmap.remove segs id) cover s (suc k) b) away));
           coming =
-              m.coming ∙ ap (λ (l : List ℕ). map (fact_record n layer) (pair_facts b l)) ids ∙ ap (map (fact_record n layer)) (pair_facts-are (finmap.remove segs id) b)
+              m.coming ∙ ap (λ (l : List ℕ). map (fact_record n layer) (pair_facts b l)) ids
+              ∙ ap (map (fact_record n layer)) (pair_facts-are (finmap.remove segs id) b)
               ∙ sym (on_one n layer (line_facts (finmap.remove segs id)) b) ∙ ap (records_on n layer (line_facts (finmap.remove segs id))) step.come;
           going = m.going ∙ g.parts both.0 ∙ ap (records_on n layer (line_facts segs)) step.go;
           staying = m.staying ∙ ap (records_on n layer (met_by id)) step.stay;
@@ -289,7 +300,8 @@ module _ (n layer t id : ℕ) (segs : SegMap) (cover : BlockSet) (s : Seg) where
     emptied = emptied ∙ ap (records_on n layer (none_on (finmap.remove segs id))) step.stay;
   }
 
-  pub unmet_settles : (k : ℕ) (b : Block) (x : Settled) → b.side ≡ side k → finset.contains cover b ≡ false → (1 < b.side → meets s (square b) ≡ false) → x.one ≡ false
+  pub unmet_settles : (k : ℕ) (b : Block) (x : Settled) → b.side ≡ side k → finset.contains cover b ≡ false → (1 < b.side → meets s (square b) ≡ false)
+      → x.one ≡ false
       → x.coming.items ≡ [] → x.going.items ≡ [] → x.staying.items ≡ [] → x.emptied.items ≡ [] → Settles n layer t id segs cover s k b x
   unmet_settles ℕ.zero b x e away unmet =
       nothing_settles ℕ.zero b x (record {

@@ -4,6 +4,7 @@ use Rattle.std.specs.Prelude.{◌==◌}
 use Rattle.std.proofs.lemmas.List.{length-append}
 use Rattle.std.proofs.lemmas.List.Elements.{Contains-append_left, Contains-append_right, Contains-append_cases}
 use Rattle.quilt_types.specs.declared.plane.Block.{Block}
+use Rattle.quilt_types.specs.Facts.{IsMetBy}
 use Rattle.quilt_loc.proofs.Members.{Contains-nil, Contains-cons_cases}
 use Rattle.quilt_spell.proofs.Lists.{Apart-append}
 use Rattle.quilt_lines.specs.Layers.{fact_record}
@@ -11,11 +12,12 @@ use Rattle.quilt_lines.specs.Reads.{pair_of}
 use Rattle.quilt_lines.specs.Merges.{pair_facts, AddsIds}
 
 -- ---- the records of a block
-pub some_pairs : (n layer : ℕ) (b : Block) (ids : List ℕ) → false ≡ (length ids == 0) → map (fact_record n layer) (pair_facts b ids) ≡ map (pair_of n layer b) ids
+pub some_pairs : (n layer : ℕ) (b : Block) (ids : List ℕ) → false ≡ (length ids == 0)
+    → map (fact_record n layer) (pair_facts b ids) ≡ map (pair_of n layer b) ids
 some_pairs n layer b [] e = cc
 some_pairs n layer b (i ∷ ids) e = ap (λ l. pair_of n layer b i ∷ l) (pairs_are ids)
   where
-    pairs_are : (xs : List ℕ) → map (fact_record n layer) (map (λ i. Rattle.quilt_types.specs.Facts.IsMetBy b i) xs) ≡ map (pair_of n layer b) xs
+    pairs_are : (xs : List ℕ) → map (fact_record n layer) (map (IsMetBy b) xs) ≡ map (pair_of n layer b) xs
     pairs_are [] = refl
     pairs_are (x ∷ xs) = ap (λ l. pair_of n layer b x ∷ l) (pairs_are xs)
 
@@ -34,7 +36,8 @@ adds_full most id ids there = record {
 
 pub adds_one : (most id : ℕ) (ids : List ℕ) → (Contains ids id → ⊥) → AddsIds most ids (id ∷ []) (ids ++ id ∷ [])
 adds_one most id ids away = record {
-  once = λ h. Apart-append ids (id ∷ []) h ((λ c. Contains-nil id c), tt) (λ i c d. away (subst (Contains ids) (sym (⊎_elim (λ e. e) (λ f. absurd (Contains-nil i f)) (Contains-cons_cases id [] i d))) c));
+  once = λ h. Apart-append ids (id ∷ []) h ((λ c. Contains-nil id c), tt)
+      (λ i c d. away (subst (Contains ids) (sym (⊎_elim (λ e. e) (λ f. absurd (Contains-nil i f)) (Contains-cons_cases id [] i d))) c));
   kept = λ i c. Contains-append_left ids (id ∷ []) i c;
   from = λ i c. Contains-append_cases ids (id ∷ []) i c;
   grows = let l = length-append ids (id ∷ []) in omega arith;

@@ -31,12 +31,15 @@ met_by-map id [] = refl
 met_by-map id (b ∷ bs) = ap (λ l. IsMetBy b id ∷ l) (met_by-map id bs)
 
 -- two lists behind a record
-pub behind_one : (none first mid all xs ys gs ss : List Record) (r q : Record) → none ≡ [] → first ≡ none ++ r ∷ [] → mid ≡ first ++ xs → all ≡ mid ++ ys → r ≡ q → xs ≡ gs → ys ≡ ss → all ≡ q ∷ gs ++ ss
+pub behind_one : (none first mid all xs ys gs ss : List Record) (r q : Record) → none ≡ [] → first ≡ none ++ r ∷ [] → mid ≡ first ++ xs → all ≡ mid ++ ys
+    → r ≡ q → xs ≡ gs → ys ≡ ss → all ≡ q ∷ gs ++ ss
 behind_one none first mid all xs ys gs ss r q e f g h is ex ey =
-    h ∙ ap (λ (l : List Record). l ++ ys) (g ∙ ap (λ (l : List Record). l ++ xs) (f ∙ ap (λ (l : List Record). l ++ r ∷ []) e)) ∙ ap (λ (z : Record). z ∷ xs ++ ys) is
+    h ∙ ap (λ (l : List Record). l ++ ys) (g ∙ ap (λ (l : List Record). l ++ xs) (f ∙ ap (λ (l : List Record). l ++ r ∷ []) e))
+    ∙ ap (λ (z : Record). z ∷ xs ++ ys) is
     ∙ ap₂ (λ (a b : List Record). q ∷ a ++ b) ex ey
 
-module _ (n layer t id : ℕ) (le : n ≤ 12) (least : 1 ≤ layer) (segs : SegMap) (cover : BlockSet) (s : Seg) (valid : IsLineMap n t segs cover) (had : finmap.get segs id ≡ Some s)
+module _ (n layer t id : ℕ) (le : n ≤ 12) (least : 1 ≤ layer) (segs : SegMap) (cover : BlockSet) (s : Seg) (valid : IsLineMap n t segs cover)
+    (had : finmap.get segs id ≡ Some s)
     (x : Settled) (h : Settles n layer t id segs cover s n (whole n) x) (gone back : List Record)
     (gone_is : gone ≡ fact_record n layer (IsSegment id s) ∷ x.going.items ++ x.staying.items) (back_is : back ≡ x.coming.items ++ x.emptied.items) where
   abbrev now : SegMap
@@ -72,13 +75,15 @@ module _ (n layer t id : ℕ) (le : n ≤ 12) (least : 1 ≤ layer) (segs : SegM
       (changes.can n layer t le least segs now cover (after_remove n t now cover s) valid (removed_law n t segs cover id s valid) goes comes
       (λ f. (remove_law n t segs cover id s valid had f).1) apart.1 (λ f. (remove_law n t segs cover id s valid had f).0) apart.0))
 
-  pub plan : (edits : Edits) → IsPermutation gone edits.remove → IsPermutation back edits.add → IsLinePlan n layer t segs now cover (after_remove n t now cover s) edits
+  pub plan : (edits : Edits) → IsPermutation gone edits.remove → IsPermutation back edits.add
+      → IsLinePlan n layer t segs now cover (after_remove n t now cover s) edits
   plan edits pr pa =
       let apart = remove_once_law n t segs cover id s valid had in
       changes.plan n layer t le least segs now cover (after_remove n t now cover s) valid (removed_law n t segs cover id s valid) goes comes
       (λ f. (remove_law n t segs cover id s valid had f).1) apart.1 (λ f. (remove_law n t segs cover id s valid had f).0) apart.0
       edits
-      (subst (λ (rs : List Record). IsPermutation rs edits.remove) (sym gone_rows) pr) (subst (λ (rs : List Record). IsPermutation rs edits.add) (sym back_rows) pa)
+      (subst (λ (rs : List Record). IsPermutation rs edits.remove) (sym gone_rows) pr)
+      (subst (λ (rs : List Record). IsPermutation rs edits.add) (sym back_rows) pa)
 
   pub fewer : (edits : Edits) → IsPermutation gone edits.remove → IsPermutation back edits.add → length edits.add < length edits.remove
   fewer edits pr pa =

@@ -4,3 +4,4 @@ pub mod Laws
 pub mod Plans
 pub mod Merges
 pub mod Adding
+pub mod Counting

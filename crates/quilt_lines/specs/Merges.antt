@@ -1,5 +1,5 @@
 -- What becomes of blocks when a segment goes from a line layer, as records.
-use Rattle.std.specs.Prelude.{◌≡◌, ◌⊎◌, ℕ, ◌≤◌, ◌&&◌, true, List, [], ◌∷◌, ◌++◌, length, map, flat_map, Contains, IsPermutation}
+use Rattle.std.specs.Prelude.{◌≡◌, ◌⊎◌, ℕ, ◌≤◌, ◌<◌, ◌&&◌, true, List, [], ◌∷◌, ◌++◌, length, map, flat_map, Contains, IsPermutation}
 use Rattle.std.specs.List.{list_all}
 use Rattle.std.specs.List.Sorted.{IsSorted}
 use Rattle.std.specs.Ordering.{nat_cmp}
@@ -8,15 +8,19 @@ use Rattle.quilt_types.specs.declared.plane.Block.{Block}
 use Rattle.quilt_types.specs.declared.plane.Seg.{Seg}
 use Rattle.quilt_types.specs.Layers.{SegMap, BlockSet}
 use Rattle.quilt_types.specs.Facts.{Fact, IsMetBy, IsMetByNone, or_none, line_facts}
+use Rattle.quilt_types.specs.Quadtrees.{after_remove}
+use Rattle.quilt_record.specs.declared.edits.Edits.{Edits}
 use Rattle.quilt_record.specs.declared.record.Record.{Record}
 use Rattle.quilt_near.specs.Lines.{meeting}
 use Rattle.quilt_spell.specs.Apart.{Apart}
 use Rattle.quilt_line_laws.specs.Lines.{IsMet, none_on}
 use Rattle.quilt_line_laws.specs.Merging.{is_one, coming_in, going_in, staying_in}
 use Rattle.quilt_line_laws.specs.Counting.{gone_of_quarter}
+use Rattle.quilt_lines.specs.declared.removal.Removal.{Removal}
 use Rattle.quilt_lines.specs.declared.merging.Settled.{Settled}
 use Rattle.quilt_lines.specs.Layers.{fact_record}
 use Rattle.quilt_lines.specs.Reads.{ids_of}
+use Rattle.quilt_lines.specs.Plans.{IsLinePlan}
 
 -- the records of the facts on each of these blocks
 abbrev pub records_on : ℕ → ℕ → (Block → List Fact) → List Block → List Record
@@ -48,6 +52,10 @@ pub record Settles (n layer t id : ℕ) (segs : SegMap) (cover : BlockSet) (s : 
   pub going : x.going.items ≡ records_on n layer (line_facts segs) (going_in t (finmap.remove segs id) cover s k b)
   pub staying : x.staying.items ≡ records_on n layer (met_by id) (staying_in t (finmap.remove segs id) cover s k b)
   pub emptied : x.emptied.items ≡ records_on n layer (none_on (finmap.remove segs id)) (staying_in t (finmap.remove segs id) cover s k b)
+
+-- this becomes of a block of side 2 ^ k when the segment of a removal goes
+abbrev pub Becomes : Removal → SegMap → BlockSet → ℕ → Block → Settled → Type 0
+Becomes r segs cover k b x = Settles r.level r.layer r.threshold r.id segs cover r.segment k b x
 
 -- The same of several blocks together, with the ids that meet one of them: all of them, or more than the threshold.
 pub record Gathers (n layer t id : ℕ) (segs : SegMap) (cover : BlockSet) (s : Seg) (k : ℕ) (bs : List Block) (x : Settled) : Type 0 where
@@ -81,3 +89,9 @@ pub record IsGathered (most : ℕ) (old more new : Settled) : Type 0 where
   pub going : new.going.items ≡ old.going.items ++ more.going.items
   pub staying : new.staying.items ≡ old.staying.items ++ more.staying.items
   pub emptied : new.emptied.items ≡ old.emptied.items ++ more.emptied.items
+
+-- The edits are a plan of the layer without the segment of a removal, and fewer records come than go.
+pub record IsRemovalPlan (r : Removal) (segs : SegMap) (cover : BlockSet) (edits : Edits) : Type 0 where
+  pub plan : IsLinePlan r.level r.layer r.threshold segs (finmap.remove segs r.id) cover
+      (after_remove r.level r.threshold (finmap.remove segs r.id) cover r.segment) edits
+  pub fewer : length edits.add < length edits.remove

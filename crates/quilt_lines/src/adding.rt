@@ -1,9 +1,9 @@
-ghost use Rattle.std.specs.Prelude.{◌≡◌, ◌↔◌, ◌≤◌, ◌<◌, ◌==◌, ℕ, true, List, [], ◌∷◌, ◌++◌, flat_map, length, IfOk, IfErr, IfSome, IsNone, IsSome, None, OnOk, if◌then◌else◌};
+ghost use Rattle.std.specs.Prelude.{◌≡◌, ◌↔◌, ◌≤◌, ◌<◌, ℕ, true, [], ◌∷◌, ◌++◌};
+ghost use Rattle.std.specs.Prelude.{IfOk, IfErr, IfSome, IsNone, IsSome, None, OnOk};
 ghost use Rattle.std.specs.FinMap as finmap;
-ghost use Rattle.quilt_types.specs.declared.plane.Seg.{Seg as AnySeg};
-ghost use Rattle.quilt_types.specs.Facts.{Fact, IsMetBy, IsMetByNone};
+ghost use Rattle.quilt_types.specs.Facts.{IsMetBy};
 ghost use Rattle.quilt_types.specs.Layers.{SegMap, BlockSet, is_in_square as is_seg_in_square};
-ghost use Rattle.quilt_types.specs.Plane.{side as side_of, quarters_of, IsBlock};
+ghost use Rattle.quilt_types.specs.Plane.{side as side_of, IsBlock};
 ghost use Rattle.quilt_types.specs.Quadtrees.{after_add, is_reached};
 ghost use Rattle.quilt_types.specs.Segments.{square, meets as segment_meets};
 ghost use Rattle.quilt_near.specs.Lines.{meeting};
@@ -12,8 +12,8 @@ ghost use Rattle.quilt_btree.specs.Stops.{HasStopCause, IsSound};
 ghost use Rattle.quilt_btree.specs.Trees.{IsRooted};
 ghost use Rattle.quilt_edits.specs.Edits.{AreInOrder};
 ghost use Rattle.quilt_lines.specs.Layers.{HasLines};
-ghost use Rattle.quilt_lines.specs.Reads.{ids_of, AreIdsAt};
-ghost use Rattle.quilt_lines.specs.Adding.{facts_by, ids_meeting as ids_meeting_it, Follow, IsAdded};
+ghost use Rattle.quilt_lines.specs.Reads.{ids_of};
+ghost use Rattle.quilt_lines.specs.Adding.{facts_by, none_by, quarter_facts, ids_meeting as ids_meeting_it, Follow, IsAdded};
 ghost use Rattle.quilt_lines.specs.Plans.{IsLinePlan};
 
 use crate::square::whole_square;
@@ -45,11 +45,14 @@ pub fn plan_add<S: PageStore>(
     requires level { (1 ≤ level) × (level ≤ 12) }
     requires threshold { (1 ≤ t) × (t ≤ 32) }
     requires inside { is_seg_in_square level s ≡ true }
-    ensures plan { IfOk result (λ o. IfSome o (λ edits. (segs : SegMap) (cover : BlockSet) → HasLines (S.told store.old) tree.now layer level t segs cover →
+    ensures plan { IfOk result (λ o. IfSome o (λ edits. (segs : SegMap) (cover : BlockSet) →
+        HasLines (S.told store.old) tree.now layer level t segs cover →
         IsLinePlan level layer t segs (finmap.insert segs id s) cover (after_add t (finmap.insert segs id s) cover s) edits)) }
-    ensures none { IfOk result (λ o. (segs : SegMap) (cover : BlockSet) → HasLines (S.told store.old) tree.now layer level t segs cover → IsNone o ↔ IsSome (finmap.get segs id)) }
+    ensures none { IfOk result (λ o. (segs : SegMap) (cover : BlockSet) → HasLines (S.told store.old) tree.now layer level t segs cover →
+        IsNone o ↔ IsSome (finmap.get segs id)) }
     ensures order { IfOk result (λ o. IfSome o AreInOrder) }
-    ensures sound { IfErr result (λ e. (segs : SegMap) (cover : BlockSet) → HasLines (S.told store.old) tree.now layer level t segs cover → IsSound e) }
+    ensures sound { IfErr result (λ e. (segs : SegMap) (cover : BlockSet) → HasLines (S.told store.old) tree.now layer level t segs cover →
+        IsSound e) }
     ensures cause { HasStopCause (S.faults store.old) (S.faults store.new) result }
     ensures size { S.size store.new ≡ S.size store.old }
     ensures told { S.told store.new ≡ S.told store.old }
@@ -97,10 +100,15 @@ impl Arrival {
     /// The records that go and those that come, where the id is not there.
     fn edits<S: PageStore>(&self, alloc: Global, store: &mut S) -> Result<Edits, Stop>
         requires rooted { IsRooted (S.size store.old) self.now.view.tree }
-        ensures plan { IfOk result (λ edits. (segs : SegMap) (cover : BlockSet) → HasLines (S.told store.old) self.now.view.tree self.now.view.layer self.now.view.level self.now.t segs cover → finmap.get segs self.now.id ≡ None →
-            IsLinePlan self.now.view.level self.now.view.layer self.now.t segs (finmap.insert segs self.now.id self.now.s) cover (after_add self.now.t (finmap.insert segs self.now.id self.now.s) cover self.now.s) edits) }
+        ensures plan { IfOk result (λ edits. (segs : SegMap) (cover : BlockSet) →
+            HasLines (S.told store.old) self.now.view.tree self.now.view.layer self.now.view.level self.now.t segs cover →
+            finmap.get segs self.now.id ≡ None →
+            IsLinePlan self.now.view.level self.now.view.layer self.now.t segs (finmap.insert segs self.now.id self.now.s) cover
+            (after_add self.now.t (finmap.insert segs self.now.id self.now.s) cover self.now.s) edits) }
         ensures order { IfOk result AreInOrder }
-        ensures sound { IfErr result (λ e. (segs : SegMap) (cover : BlockSet) → HasLines (S.told store.old) self.now.view.tree self.now.view.layer self.now.view.level self.now.t segs cover → finmap.get segs self.now.id ≡ None → IsSound e) }
+        ensures sound { IfErr result (λ e. (segs : SegMap) (cover : BlockSet) →
+            HasLines (S.told store.old) self.now.view.tree self.now.view.layer self.now.view.level self.now.t segs cover →
+            finmap.get segs self.now.id ≡ None → IsSound e) }
         ensures cause { HasStopCause (S.faults store.old) (S.faults store.new) result }
         ensures size { S.size store.new ≡ S.size store.old }
         ensures told { S.told store.new ≡ S.told store.old }
@@ -134,9 +142,14 @@ impl Arrival {
     ) -> Result<(), Stop>
         requires rooted { IsRooted (S.size store.old) self.now.view.tree }
         requires block { IsBlock self.now.view.level b }
-        ensures added { OnOk result ((segs : SegMap) (cover : BlockSet) → HasLines (S.told store.old) self.now.view.tree self.now.view.layer self.now.view.level self.now.t segs cover → finmap.get segs self.now.id ≡ None → (k : ℕ) → b.side ≡ side_of k →
-            IsAdded self.now.view.level self.now.view.layer self.now.t segs self.now.id self.now.s (met_in cover self.now.s k b) change.old.gone.items change.new.gone.items change.old.come.items change.new.come.items) }
-        ensures sound { IfErr result (λ e. (segs : SegMap) (cover : BlockSet) → HasLines (S.told store.old) self.now.view.tree self.now.view.layer self.now.view.level self.now.t segs cover → is_reached cover b ≡ true → IsSound e) }
+        ensures added { OnOk result ((segs : SegMap) (cover : BlockSet) →
+            HasLines (S.told store.old) self.now.view.tree self.now.view.layer self.now.view.level self.now.t segs cover →
+            finmap.get segs self.now.id ≡ None → (k : ℕ) → b.side ≡ side_of k →
+            IsAdded self.now.view.level self.now.view.layer self.now.t segs self.now.id self.now.s (met_in cover self.now.s k b)
+            change.old.gone.items change.new.gone.items change.old.come.items change.new.come.items) }
+        ensures sound { IfErr result (λ e. (segs : SegMap) (cover : BlockSet) →
+            HasLines (S.told store.old) self.now.view.tree self.now.view.layer self.now.view.level self.now.t segs cover →
+            is_reached cover b ≡ true → IsSound e) }
         ensures cause { HasStopCause (S.faults store.old) (S.faults store.new) result }
         ensures size { S.size store.new ≡ S.size store.old }
         ensures told { S.told store.new ≡ S.told store.old }
@@ -175,9 +188,14 @@ impl Arrival {
     ) -> Result<(), Stop>
         requires rooted { IsRooted (S.size store.old) self.now.view.tree }
         requires block { IsBlock self.now.view.level b }
-        ensures added { OnOk result ((segs : SegMap) (cover : BlockSet) → HasLines (S.told store.old) self.now.view.tree self.now.view.layer self.now.view.level self.now.t segs cover → finmap.get segs self.now.id ≡ None → ids.now ≡ ids_of (meeting segs b) → segment_meets self.now.s (square b) ≡ true →
-            IsAdded self.now.view.level self.now.view.layer self.now.t segs self.now.id self.now.s (b ∷ []) change.old.gone.items change.new.gone.items change.old.come.items change.new.come.items) }
-        ensures sound { IfErr result (λ e. (segs : SegMap) (cover : BlockSet) → HasLines (S.told store.old) self.now.view.tree self.now.view.layer self.now.view.level self.now.t segs cover → ids.now ≡ ids_of (meeting segs b) → IsSound e) }
+        ensures added { OnOk result ((segs : SegMap) (cover : BlockSet) →
+            HasLines (S.told store.old) self.now.view.tree self.now.view.layer self.now.view.level self.now.t segs cover →
+            finmap.get segs self.now.id ≡ None → ids.now ≡ ids_of (meeting segs b) → segment_meets self.now.s (square b) ≡ true →
+            IsAdded self.now.view.level self.now.view.layer self.now.t segs self.now.id self.now.s (b ∷ [])
+            change.old.gone.items change.new.gone.items change.old.come.items change.new.come.items) }
+        ensures sound { IfErr result (λ e. (segs : SegMap) (cover : BlockSet) →
+            HasLines (S.told store.old) self.now.view.tree self.now.view.layer self.now.view.level self.now.t segs cover →
+            ids.now ≡ ids_of (meeting segs b) → IsSound e) }
         ensures cause { HasStopCause (S.faults store.old) (S.faults store.new) result }
         ensures size { S.size store.new ≡ S.size store.old }
         ensures told { S.told store.new ≡ S.told store.old }
@@ -197,17 +215,16 @@ impl Arrival {
     /// Adds the records of the facts that change on a block that stays: that the segment meets it, and no longer that none does.
     fn stay(&self, change: &mut Change, b: Block, ids: &[u32]) -> Result<(), AllocError>
         requires block { IsBlock self.now.view.level b }
-        ensures gone { OnOk result (Follow self.now.view.level self.now.view.layer change.old.gone.items change.new.gone.items (if length ids.now == 0 then IsMetByNone b ∷ [] else [])) }
-        ensures come { OnOk result (Follow self.now.view.level self.now.view.layer change.old.come.items change.new.come.items (IsMetBy b self.now.id ∷ [])) }
+        ensures gone { OnOk result (Follow self.now.view.level self.now.view.layer change.old.gone.items change.new.gone.items (none_by b ids.now)) }
+        ensures come { OnOk result (Follow self.now.view.level self.now.view.layer
+            change.old.come.items change.new.come.items (IsMetBy b self.now.id ∷ [])) }
     {
         if ids.is_empty() {
             change
                 .gone
                 .push(pair_record(self.view.layer, b, self.view.level, None))?;
         }
-        change
-            .come
-            .push(pair_record(self.view.layer, b, self.view.level, Some(self.id)))?;
+        change.come.push(pair_record(self.view.layer, b, self.view.level, Some(self.id)))?;
         Ok(())
     }
 
@@ -224,9 +241,14 @@ impl Arrival {
         requires block { IsBlock self.now.view.level b }
         requires wide { 1 < b.side }
         ensures gone { OnOk result (Follow self.now.view.level self.now.view.layer change.old.gone.items change.new.gone.items (facts_by b ids.now)) }
-        ensures come { OnOk result ((segs : SegMap) (cover : BlockSet) → HasLines (S.told store.old) self.now.view.tree self.now.view.layer self.now.view.level self.now.t segs cover → ids.now ≡ ids_of (meeting segs b) →
-            Follow self.now.view.level self.now.view.layer change.old.come.items change.new.come.items (flat_map (λ q. facts_by q (ids_meeting_it (meeting segs b ++ (self.now.id, self.now.s) ∷ []) q)) (quarters_of b))) }
-        ensures sound { IfErr result (λ e. (segs : SegMap) (cover : BlockSet) → HasLines (S.told store.old) self.now.view.tree self.now.view.layer self.now.view.level self.now.t segs cover → ids.now ≡ ids_of (meeting segs b) → IsSound e) }
+        ensures come { OnOk result ((segs : SegMap) (cover : BlockSet) →
+            HasLines (S.told store.old) self.now.view.tree self.now.view.layer self.now.view.level self.now.t segs cover →
+            ids.now ≡ ids_of (meeting segs b) →
+            Follow self.now.view.level self.now.view.layer change.old.come.items change.new.come.items
+            (quarter_facts (meeting segs b ++ (self.now.id, self.now.s) ∷ []) b)) }
+        ensures sound { IfErr result (λ e. (segs : SegMap) (cover : BlockSet) →
+            HasLines (S.told store.old) self.now.view.tree self.now.view.layer self.now.view.level self.now.t segs cover →
+            ids.now ≡ ids_of (meeting segs b) → IsSound e) }
         ensures cause { HasStopCause (S.faults store.old) (S.faults store.new) result }
         ensures size { S.size store.new ≡ S.size store.old }
         ensures told { S.told store.new ≡ S.told store.old }
@@ -246,7 +268,10 @@ impl Arrival {
             Err(_) => return Err(Stop::Memory),
             Ok(()) => {}
         }
-        match self.view.push_quarters(alloc, &mut change.come, b, list.items()) {
+        match self
+            .view
+            .push_quarters(alloc, &mut change.come, b, list.items())
+        {
             Err(_) => Err(Stop::Memory),
             Ok(()) => Ok(()),
         }
@@ -264,7 +289,7 @@ impl LineView {
     ) -> Result<(), AllocError>
         requires block { IsBlock self.now.level b }
         requires wide { 1 < b.side }
-        ensures { OnOk result (Follow self.now.level self.now.layer records.old.items records.new.items (flat_map (λ q. facts_by q (ids_meeting_it list.now q)) (quarters_of b))) }
+        ensures { OnOk result (Follow self.now.level self.now.layer records.old.items records.new.items (quarter_facts list.now b)) }
     {
         for q in quarters(b) {
             let ids = ids_meeting(alloc, list, q)?;

@@ -8,6 +8,7 @@ mod counting;
 mod laws;
 mod listing;
 mod merging;
+mod removal;
 mod removing;
 mod segments;
 mod settling;

@@ -1,4 +1,5 @@
-ghost use Rattle.std.specs.Prelude.{◌≡◌, ◌≤◌, ◌&&◌, ◌==◌, ◌++◌, ℕ, true, false, if◌then◌else◌, nat_le, not, length, Contains, map, filter, IfOk, OnOk, IsPermutation, [], ◌∷◌};
+ghost use Rattle.std.specs.Prelude.{◌≡◌, ◌≤◌, ◌&&◌, ◌==◌, ◌++◌, ℕ, true, false, if◌then◌else◌, nat_le, not, length};
+ghost use Rattle.std.specs.Prelude.{Contains, map, filter, IfOk, OnOk, IsPermutation, [], ◌∷◌};
 ghost use Rattle.std.specs.List.Sorted.{IsSorted};
 ghost use Rattle.std.specs.Ordering.{nat_cmp};
 ghost use Rattle.std.specs.FinMap as finmap;
@@ -9,25 +10,13 @@ ghost use Rattle.quilt_types.specs.Layers.{SegMap, BlockSet};
 ghost use Rattle.quilt_record.specs.Canonical.{pair_fact};
 ghost use Rattle.quilt_lines.specs.Layers.{fact_record};
 ghost use Rattle.quilt_lines.specs.Reads.{AreIdsAt};
-ghost use Rattle.quilt_lines.specs.Merges.{pair_facts, AddsIds, Settles, Gathers, IsMerged, IsGathered};
+ghost use Rattle.quilt_lines.specs.Merges.{pair_facts, AddsIds, Becomes, Gathers, IsMerged, IsGathered};
 
+use crate::removal::Removal;
 use quilt_clip::meets;
 use quilt_record::{Record, pair_record};
-use quilt_types::{Block, Seg};
+use quilt_types::Block;
 use std::alloc::{AllocError, Global};
-
-/// The segment of an id that goes from the line layer with a number, from 1 to 255, of a map of a level, from 1 to 12, and the
-/// layer's splitting threshold.
-#[derive(Clone, Copy)]
-pub(crate) struct Removal {
-    pub layer: u8,
-    pub level: u8,
-    pub threshold: u8,
-    pub id: u32,
-    pub segment: Seg,
-    ghost has_layer: { (1 ≤ layer) × (layer ≤ 255) },
-    ghost has_level: { (1 ≤ level) × (level ≤ 12) },
-}
 
 /// What becomes of a block, or of several, when a segment goes: whether each is one block, then the ids that meet it and the
 /// records of the blocks that it was made of, and the records on the blocks that come, that go, that stay and that nothing meets
@@ -130,7 +119,7 @@ impl Removal {
     /// What becomes of one of the layer's blocks, which these ids meet.
     pub(crate) fn kept(&self, alloc: Global, b: Block, ids: &[u32]) -> Result<Settled, AllocError>
         requires { IsBlock self.now.level b }
-        ensures { IfOk result (λ x. (k : ℕ) (segs : SegMap) (cover : BlockSet) → AreIdsAt segs cover b ids.now → Settles self.now.level self.now.layer self.now.threshold self.now.id segs cover self.now.segment k b x) }
+        ensures { IfOk result (λ x. (k : ℕ) (segs : SegMap) (cover : BlockSet) → AreIdsAt segs cover b ids.now → Becomes self.now segs cover k b x) }
     {
         let others = without(alloc, ids, self.id)?;
         let met = meets(self.segment, b);
@@ -157,7 +146,10 @@ impl Removal {
         quarters: Settled,
     ) -> Result<Settled, AllocError>
         requires { IsBlock self.now.level b }
-        ensures { IfOk result (λ x. (k : ℕ) (segs : SegMap) (cover : BlockSet) → b.side ≡ side (ℕ.suc k) → finset.contains cover b ≡ false → segment_meets self.now.segment (square b) ≡ true → Gathers self.now.level self.now.layer self.now.threshold self.now.id segs cover self.now.segment k (quarters_of b) quarters → Settles self.now.level self.now.layer self.now.threshold self.now.id segs cover self.now.segment (ℕ.suc k) b x) }
+        ensures { IfOk result (λ x. (k : ℕ) (segs : SegMap) (cover : BlockSet) → b.side ≡ side (ℕ.suc k) →
+            finset.contains cover b ≡ false → segment_meets self.now.segment (square b) ≡ true →
+            Gathers self.now.level self.now.layer self.now.threshold self.now.id segs cover self.now.segment k (quarters_of b) quarters →
+            Becomes self.now segs cover (ℕ.suc k) b x) }
     {
         if !self.is_one_now(&quarters) {
             return Ok(Settled {

@@ -10,10 +10,11 @@ ghost use Rattle.quilt_btree.specs.Stops.{HasStopCause, IsSound};
 ghost use Rattle.quilt_btree.specs.Trees.{IsRooted};
 ghost use Rattle.quilt_edits.specs.Edits.{AreInOrder};
 ghost use Rattle.quilt_lines.specs.Layers.{HasLines, fact_record};
-ghost use Rattle.quilt_lines.specs.Merges.{Settles};
+ghost use Rattle.quilt_lines.specs.Merges.{Becomes, IsRemovalPlan};
 ghost use Rattle.quilt_lines.specs.Plans.{IsLinePlan};
 
-use crate::merging::{Removal, Settled};
+use crate::merging::Settled;
+use crate::removal::Removal;
 use crate::segments::segment;
 use crate::square::whole_square;
 use quilt_btree::Tree;
@@ -39,12 +40,16 @@ pub fn plan_remove<S: PageStore>(
     requires layer { 1 ≤ layer }
     requires level { (1 ≤ level) × (level ≤ 12) }
     requires threshold { (1 ≤ t) × (t ≤ 32) }
-    ensures plan { IfOk result (λ o. IfSome o (λ edits. (segs : SegMap) (cover : BlockSet) → HasLines (S.told store.old) tree.now layer level t segs cover → (s : AnySeg) → finmap.get segs id ≡ Some s →
+    ensures plan { IfOk result (λ o. IfSome o (λ edits. (segs : SegMap) (cover : BlockSet) →
+        HasLines (S.told store.old) tree.now layer level t segs cover → (s : AnySeg) → finmap.get segs id ≡ Some s →
         IsLinePlan level layer t segs (finmap.remove segs id) cover (after_remove level t (finmap.remove segs id) cover s) edits)) }
-    ensures none { IfOk result (λ o. (segs : SegMap) (cover : BlockSet) → HasLines (S.told store.old) tree.now layer level t segs cover → IsNone o ↔ IsNone (finmap.get segs id)) }
-    ensures fewer { IfOk result (λ o. IfSome o (λ edits. (segs : SegMap) (cover : BlockSet) → HasLines (S.told store.old) tree.now layer level t segs cover → length edits.add < length edits.remove)) }
+    ensures none { IfOk result (λ o. (segs : SegMap) (cover : BlockSet) → HasLines (S.told store.old) tree.now layer level t segs cover →
+        IsNone o ↔ IsNone (finmap.get segs id)) }
+    ensures fewer { IfOk result (λ o. IfSome o (λ edits. (segs : SegMap) (cover : BlockSet) →
+        HasLines (S.told store.old) tree.now layer level t segs cover → length edits.add < length edits.remove)) }
     ensures order { IfOk result (λ o. IfSome o AreInOrder) }
-    ensures sound { IfErr result (λ e. (segs : SegMap) (cover : BlockSet) → HasLines (S.told store.old) tree.now layer level t segs cover → IsSound e) }
+    ensures sound { IfErr result (λ e. (segs : SegMap) (cover : BlockSet) → HasLines (S.told store.old) tree.now layer level t segs cover →
+        IsSound e) }
     ensures cause { HasStopCause (S.faults store.old) (S.faults store.new) result }
     ensures size { S.size store.new ≡ S.size store.old }
     ensures told { S.told store.new ≡ S.told store.old }
@@ -75,10 +80,13 @@ impl Removal {
     /// The records that go and those that come.
     fn plan<S: PageStore>(&self, alloc: Global, store: &mut S, tree: &Tree) -> Result<Edits, Stop>
         requires rooted { IsRooted (S.size store.old) tree.now }
-        ensures plan { IfOk result (λ edits. (segs : SegMap) (cover : BlockSet) → HasLines (S.told store.old) tree.now self.now.layer self.now.level self.now.threshold segs cover → finmap.get segs self.now.id ≡ Some self.now.segment →
-            IsLinePlan self.now.level self.now.layer self.now.threshold segs (finmap.remove segs self.now.id) cover (after_remove self.now.level self.now.threshold (finmap.remove segs self.now.id) cover self.now.segment) edits × (length edits.add < length edits.remove)) }
+        ensures plan { IfOk result (λ edits. (segs : SegMap) (cover : BlockSet) →
+            HasLines (S.told store.old) tree.now self.now.layer self.now.level self.now.threshold segs cover →
+            finmap.get segs self.now.id ≡ Some self.now.segment → IsRemovalPlan self.now segs cover edits) }
         ensures order { IfOk result AreInOrder }
-        ensures sound { IfErr result (λ e. (segs : SegMap) (cover : BlockSet) → HasLines (S.told store.old) tree.now self.now.layer self.now.level self.now.threshold segs cover → finmap.get segs self.now.id ≡ Some self.now.segment → IsSound e) }
+        ensures sound { IfErr result (λ e. (segs : SegMap) (cover : BlockSet) →
+            HasLines (S.told store.old) tree.now self.now.layer self.now.level self.now.threshold segs cover →
+            finmap.get segs self.now.id ≡ Some self.now.segment → IsSound e) }
         ensures cause { HasStopCause (S.faults store.old) (S.faults store.new) result }
         ensures size { S.size store.new ≡ S.size store.old }
         ensures told { S.told store.new ≡ S.told store.old }
@@ -94,10 +102,13 @@ impl Removal {
 
     /// The records that go and those that come, by what becomes of the whole square.
     fn edits(&self, alloc: Global, all: &Settled) -> Result<Edits, Stop>
-        ensures plan { IfOk result (λ edits. (segs : SegMap) (cover : BlockSet) → IsLineMap self.now.level self.now.threshold segs cover → finmap.get segs self.now.id ≡ Some self.now.segment → Settles self.now.level self.now.layer self.now.threshold self.now.id segs cover self.now.segment self.now.level (whole self.now.level) all.now →
-            IsLinePlan self.now.level self.now.layer self.now.threshold segs (finmap.remove segs self.now.id) cover (after_remove self.now.level self.now.threshold (finmap.remove segs self.now.id) cover self.now.segment) edits × (length edits.add < length edits.remove)) }
+        ensures plan { IfOk result (λ edits. (segs : SegMap) (cover : BlockSet) → IsLineMap self.now.level self.now.threshold segs cover →
+            finmap.get segs self.now.id ≡ Some self.now.segment → Becomes self.now segs cover self.now.level (whole self.now.level) all.now →
+            IsRemovalPlan self.now segs cover edits) }
         ensures order { IfOk result AreInOrder }
-        ensures sound { IfErr result (λ e. (segs : SegMap) (cover : BlockSet) → IsLineMap self.now.level self.now.threshold segs cover → finmap.get segs self.now.id ≡ Some self.now.segment → Settles self.now.level self.now.layer self.now.threshold self.now.id segs cover self.now.segment self.now.level (whole self.now.level) all.now → IsSound e) }
+        ensures sound { IfErr result (λ e. (segs : SegMap) (cover : BlockSet) → IsLineMap self.now.level self.now.threshold segs cover →
+            finmap.get segs self.now.id ≡ Some self.now.segment → Becomes self.now segs cover self.now.level (whole self.now.level) all.now →
+            IsSound e) }
         ensures no_fault { IsErrOf result Device → ⊥ }
     {
         let Ok(gone) = self.gone(alloc, all) else {
@@ -111,7 +122,8 @@ impl Removal {
 
     /// The records that go.
     fn gone(&self, alloc: Global, all: &Settled) -> Result<Vec<Record>, AllocError>
-        ensures { IfOk result (λ v. v.items ≡ fact_record self.now.level self.now.layer (IsSegment self.now.id self.now.segment) ∷ all.now.going.items ++ all.now.staying.items) }
+        ensures { IfOk result (λ v. v.items ≡
+            fact_record self.now.level self.now.layer (IsSegment self.now.id self.now.segment) ∷ all.now.going.items ++ all.now.staying.items) }
     {
         let mut gone = Vec::new(alloc);
         gone.push(segment_record(self.layer, self.id, self.segment))?;

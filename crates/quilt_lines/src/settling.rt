@@ -7,9 +7,10 @@ ghost use Rattle.quilt_types.specs.Layers.{SegMap, BlockSet};
 ghost use Rattle.quilt_btree.specs.Stops.{HasStopCause, IsSound};
 ghost use Rattle.quilt_btree.specs.Trees.{IsRooted};
 ghost use Rattle.quilt_lines.specs.Layers.{HasLines};
-ghost use Rattle.quilt_lines.specs.Merges.{Settles};
+ghost use Rattle.quilt_lines.specs.Merges.{Becomes};
 
-use crate::merging::{Removal, Settled};
+use crate::merging::Settled;
+use crate::removal::Removal;
 use crate::view::LineView;
 use quilt_btree::Tree;
 use quilt_clip::meets;
@@ -30,8 +31,10 @@ impl Removal {
     ) -> Result<Settled, Stop>
         requires rooted { IsRooted (S.size store.old) tree.now }
         requires block { IsBlock self.now.level b }
-        ensures settled { IfOk result (λ x. (k : ℕ) (segs : SegMap) (cover : BlockSet) → b.side ≡ side k → HasLines (S.told store.old) tree.now self.now.layer self.now.level self.now.threshold segs cover → Settles self.now.level self.now.layer self.now.threshold self.now.id segs cover self.now.segment k b x) }
-        ensures sound { IfErr result (λ e. (segs : SegMap) (cover : BlockSet) → HasLines (S.told store.old) tree.now self.now.layer self.now.level self.now.threshold segs cover → IsSound e) }
+        ensures settled { IfOk result (λ x. (k : ℕ) (segs : SegMap) (cover : BlockSet) → b.side ≡ side k →
+            HasLines (S.told store.old) tree.now self.now.layer self.now.level self.now.threshold segs cover → Becomes self.now segs cover k b x) }
+        ensures sound { IfErr result (λ e. (segs : SegMap) (cover : BlockSet) →
+            HasLines (S.told store.old) tree.now self.now.layer self.now.level self.now.threshold segs cover → IsSound e) }
         ensures cause { HasStopCause (S.faults store.old) (S.faults store.new) result }
         ensures size { S.size store.new ≡ S.size store.old }
         ensures told { S.told store.new ≡ S.told store.old }
@@ -81,8 +84,11 @@ impl Removal {
         requires block { IsBlock self.now.level b }
         requires wide { 1 < b.side }
         requires met { segment_meets self.now.segment (square b) ≡ true }
-        ensures settled { IfOk result (λ x. (k : ℕ) (segs : SegMap) (cover : BlockSet) → b.side ≡ side k → HasLines (S.told store.old) tree.now self.now.layer self.now.level self.now.threshold segs cover → finset.contains cover b ≡ false → Settles self.now.level self.now.layer self.now.threshold self.now.id segs cover self.now.segment k b x) }
-        ensures sound { IfErr result (λ e. (segs : SegMap) (cover : BlockSet) → HasLines (S.told store.old) tree.now self.now.layer self.now.level self.now.threshold segs cover → IsSound e) }
+        ensures settled { IfOk result (λ x. (k : ℕ) (segs : SegMap) (cover : BlockSet) → b.side ≡ side k →
+            HasLines (S.told store.old) tree.now self.now.layer self.now.level self.now.threshold segs cover →
+            finset.contains cover b ≡ false → Becomes self.now segs cover k b x) }
+        ensures sound { IfErr result (λ e. (segs : SegMap) (cover : BlockSet) →
+            HasLines (S.told store.old) tree.now self.now.layer self.now.level self.now.threshold segs cover → IsSound e) }
         ensures cause { HasStopCause (S.faults store.old) (S.faults store.new) result }
         ensures size { S.size store.new ≡ S.size store.old }
         ensures told { S.told store.new ≡ S.told store.old }

@@ -8,15 +8,22 @@ pub returns-in-Err-clause-sound : goal.returns-in-Err-clause-sound
 returns-in-Err-clause-sound g c segs cover h = c.in-Err.ensures.sound c.args.t segs cover h
 
 pub returns-in-Ok-Some-clause-none : goal.returns-in-Ok-Some-clause-none
-returns-in-Ok-Some-clause-none g c segs cover h = (λ _. some_there (finmap.get segs c.args.id) c.in-Ok-Some.field-0-0 (sym (c.in-Ok-Some.ensures.segment c.args.t segs cover h) ∙ c.in-Ok-Some.field-0-is), λ _. refl)
+returns-in-Ok-Some-clause-none g c segs cover
+    h = (
+      λ _. some_there (finmap.get segs c.args.id) c.in-Ok-Some.field-0-0
+          (sym (c.in-Ok-Some.ensures.segment c.args.t segs cover h) ∙ c.in-Ok-Some.field-0-is),
+      λ _. refl,
+    )
 
 pub returns-in-Err-edits-clause-sound : goal.returns-in-Err-edits-clause-sound
 returns-in-Err-edits-clause-sound g c segs cover h =
-    c.in-Err-edits.ensures.sound segs cover (lines_along _ _ c.args.tree.now c.args.layer c.args.level c.args.t segs cover c.in-Ok-None.ensures.told h) (sym (c.in-Ok-None.ensures.segment c.args.t segs cover h) ∙ c.in-Ok-None.field-0-is)
+    c.in-Err-edits.ensures.sound segs cover (lines_along _ _ c.args.tree.now c.args.layer c.args.level c.args.t segs cover c.in-Ok-None.ensures.told h)
+    (sym (c.in-Ok-None.ensures.segment c.args.t segs cover h) ∙ c.in-Ok-None.field-0-is)
 
 pub returns-in-Ok-clause-plan : goal.returns-in-Ok-clause-plan
 returns-in-Ok-clause-plan g c segs cover h =
-    c.in-Ok.ensures.plan segs cover (lines_along _ _ c.args.tree.now c.args.layer c.args.level c.args.t segs cover c.in-Ok-None.ensures.told h) (sym (c.in-Ok-None.ensures.segment c.args.t segs cover h) ∙ c.in-Ok-None.field-0-is)
+    c.in-Ok.ensures.plan segs cover (lines_along _ _ c.args.tree.now c.args.layer c.args.level c.args.t segs cover c.in-Ok-None.ensures.told h)
+    (sym (c.in-Ok-None.ensures.segment c.args.t segs cover h) ∙ c.in-Ok-None.field-0-is)
 
 pub returns-in-Ok-clause-none : goal.returns-in-Ok-clause-none
 returns-in-Ok-clause-none g c segs cover h =

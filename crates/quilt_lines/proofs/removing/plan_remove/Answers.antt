@@ -11,7 +11,11 @@ pub returns-in-Err-clause-sound : goal.returns-in-Err-clause-sound
 returns-in-Err-clause-sound g c segs cover h = c.in-Err.ensures.sound c.args.t segs cover h
 
 pub returns-in-Ok-None-clause-none : goal.returns-in-Ok-None-clause-none
-returns-in-Ok-None-clause-none g c segs cover h = (λ _. subst IsNone (sym c.in-Ok-None.field-0-is ∙ c.in-Ok-None.ensures.segment c.args.t segs cover h) refl, λ _. refl)
+returns-in-Ok-None-clause-none g c segs cover h = (
+  λ _. subst IsNone (sym c.in-Ok-None.field-0-is ∙ c.in-Ok-None.ensures.segment c.args.t segs cover h)
+      refl,
+  λ _. refl,
+)
 
 pub returns-in-Err-plan-clause-sound : goal.returns-in-Err-plan-clause-sound
 returns-in-Err-plan-clause-sound g c segs cover h =
@@ -22,8 +26,9 @@ pub returns-in-Ok-clause-plan : goal.returns-in-Ok-clause-plan
 returns-in-Ok-clause-plan g c segs cover h s e =
     let got = sym (c.in-Ok-Some.ensures.segment c.args.t segs cover h) ∙ c.in-Ok-Some.field-0-is in
     let now = finmap.remove segs c.args.id in
-    subst (λ (z : Seg). IsLinePlan c.args.level c.args.layer c.args.t segs now cover (after_remove c.args.level c.args.t now cover z) c.in-Ok.edits) (same_some c.in-Ok-Some.s s (sym got ∙ e))
-    (c.in-Ok.ensures.plan segs cover (lines_along _ _ c.args.tree.now c.args.layer c.args.level c.args.t segs cover c.in-Ok-Some.ensures.told h) got).0
+    subst (λ (z : Seg). IsLinePlan c.args.level c.args.layer c.args.t segs now cover (after_remove c.args.level c.args.t now cover z) c.in-Ok.edits)
+    (same_some c.in-Ok-Some.s s (sym got ∙ e))
+    (c.in-Ok.ensures.plan segs cover (lines_along _ _ c.args.tree.now c.args.layer c.args.level c.args.t segs cover c.in-Ok-Some.ensures.told h) got).plan
 
 pub returns-in-Ok-clause-none : goal.returns-in-Ok-clause-none
 returns-in-Ok-clause-none g c segs cover h = (
@@ -34,4 +39,4 @@ returns-in-Ok-clause-none g c segs cover h = (
 pub returns-in-Ok-clause-fewer : goal.returns-in-Ok-clause-fewer
 returns-in-Ok-clause-fewer g c segs cover h =
     (c.in-Ok.ensures.plan segs cover (lines_along _ _ c.args.tree.now c.args.layer c.args.level c.args.t segs cover c.in-Ok-Some.ensures.told h)
-    (sym (c.in-Ok-Some.ensures.segment c.args.t segs cover h) ∙ c.in-Ok-Some.field-0-is)).1
+    (sym (c.in-Ok-Some.ensures.segment c.args.t segs cover h) ∙ c.in-Ok-Some.field-0-is)).fewer

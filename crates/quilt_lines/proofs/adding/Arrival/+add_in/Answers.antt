@@ -1,7 +1,6 @@
-use Rattle.std.proofs.Common.{◌≡◌, ℕ, [], ◌∷◌, List, flat_map, length, get_or, sym, ◌∙◌, ap, subst, arith}
+use Rattle.std.proofs.Common.{ℕ, List, flat_map, length, get_or, sym, ◌∙◌, ap, subst, arith}
 use Rattle.std.proofs.lemmas.Result.{on_ok_weaker, IfErr-weaker}
 use Rattle.quilt_types.specs.declared.plane.Block.{Block}
-use Rattle.quilt_types.specs.Plane.{quarters_of}
 use Rattle.quilt_loc.proofs.Blocks.{IsBlock-up}
 use Rattle.quilt_btree.specs.Trees.{IsRooted}
 use Rattle.quilt_line_laws.specs.Merging.{met_in}
@@ -16,8 +15,10 @@ use Rattle.quilt_lines.proofs.adding.Arrival.+add_in.Goals as goal
 pub returns-then-not-meets-clause-added : goal.returns-then-not-meets-clause-added
 returns-then-not-meets-clause-added g t c segs cover h new k e =
     let self = c.args.self.now in
-    subst (λ (bs : List Block). IsAdded self.view.level self.view.layer self.t segs self.id self.s bs c.args.change.now.gone.items c.args.change.now.gone.items c.args.change.now.come.items c.args.change.now.come.items)
-    (sym (met_away cover self.s k c.args.b (sym c.if-not-meets.ensures.value))) (added_none self.view.level self.view.layer self.t segs self.id self.s c.args.change.now.gone.items c.args.change.now.come.items)
+    subst (λ (bs : List Block). IsAdded self.view.level self.view.layer self.t segs self.id self.s bs c.args.change.now.gone.items
+    c.args.change.now.gone.items c.args.change.now.come.items c.args.change.now.come.items)
+    (sym (met_away cover self.s k c.args.b (sym c.if-not-meets.ensures.value)))
+    (added_none self.view.level self.view.layer self.t segs self.id self.s c.args.change.now.gone.items c.args.change.now.come.items)
 
 pub returns-in-Err-clause-sound : goal.returns-in-Err-clause-sound
 returns-in-Err-clause-sound g t c segs cover h reached = c.in-Err.ensures.sound c.args.self.now.t segs cover h
@@ -27,16 +28,19 @@ returns-in-Ok-Some-clause-added g t c =
     let self = c.args.self.now in
     on_ok_weaker c.add_block.result (λ f segs cover h new k e.
     let at = match_some c.in-Ok-Some.field-0 _ _ c.in-Ok-Some.ids c.in-Ok-Some.field-0-is (c.in-Ok-Some.ensures.ids self.t segs cover h) in
-    subst (λ (bs : List Block). IsAdded self.view.level self.view.layer self.t segs self.id self.s bs c.args.change.now.gone.items c.add_block.new.change.gone.items c.args.change.now.come.items c.add_block.new.change.come.items)
+    subst (λ (bs : List Block). IsAdded self.view.level self.view.layer self.t segs self.id self.s bs c.args.change.now.gone.items
+    c.add_block.new.change.gone.items c.args.change.now.come.items c.add_block.new.change.come.items)
     (sym (met_here cover self.s k c.args.b (sym c.if-not-meets.ensures.value) at.there))
-    (f segs cover (lines_along _ _ self.view.tree self.view.layer self.view.level self.t segs cover c.in-Ok-Some.ensures.told h) new (c.deref.ensures.value ∙ at.are) (sym c.if-not-meets.ensures.value))) c.add_block.ensures.added
+    (f segs cover (lines_along _ _ self.view.tree self.view.layer self.view.level self.t segs cover c.in-Ok-Some.ensures.told h) new
+    (c.deref.ensures.value ∙ at.are) (sym c.if-not-meets.ensures.value))) c.add_block.ensures.added
 
 pub returns-in-Ok-Some-clause-sound : goal.returns-in-Ok-Some-clause-sound
 returns-in-Ok-Some-clause-sound g t c =
     let self = c.args.self.now in
     IfErr-weaker c.add_block.result _ _ (λ e f segs cover h reached.
     let at = match_some c.in-Ok-Some.field-0 _ _ c.in-Ok-Some.ids c.in-Ok-Some.field-0-is (c.in-Ok-Some.ensures.ids self.t segs cover h) in
-    f segs cover (lines_along _ _ self.view.tree self.view.layer self.view.level self.t segs cover c.in-Ok-Some.ensures.told h) (c.deref.ensures.value ∙ at.are)) c.add_block.ensures.sound
+    f segs cover (lines_along _ _ self.view.tree self.view.layer self.view.level self.t segs cover c.in-Ok-Some.ensures.told h)
+    (c.deref.ensures.value ∙ at.are)) c.add_block.ensures.sound
 
 pub returns-then-b-le1-clause-sound : goal.returns-then-b-le1-clause-sound
 returns-then-b-le1-clause-sound g t c segs cover h reached page e =
@@ -49,7 +53,8 @@ quarters-q-items-requires-clause-valid g t c = IsBlock-up c.args.self.now.view.l
 
 pub add_in-requires : goal.add_in-requires
 add_in-requires g t c κs within =
-    let q = quarter_at c.args.self.now.view.level c.args.b c.quarters-q-items.result c.loop-q.q-index (record { y = 0; x = 0; side = 0 }) c.requires.block c.if-b-le1.false c.quarters-q-items.ensures.value c.loop-q-test.true in
+    let q = quarter_at c.args.self.now.view.level c.args.b c.quarters-q-items.result c.loop-q.q-index (record { y = 0; x = 0; side = 0 }) c.requires.block
+    c.if-b-le1.false c.quarters-q-items.ensures.value c.loop-q-test.true in
     let half = q.half in
     let rooted = subst (λ (s : ℕ). IsRooted s c.args.self.now.view.tree) (sym c.loop-q.invariant.size) c.requires.rooted in
     (omega arith, (within, (rooted, q.block)))
@@ -60,7 +65,8 @@ returns-in-Err-add_in-clause-sound g t c segs cover h reached =
     let valid = h.spelled.valid in
     let q = get_or c.quarters-q-items.result c.loop-q.q-index (record { y = 0; x = 0; side = 0 }) in
     c.in-Err-add_in.ensures.sound segs cover (lines_along _ _ self.view.tree self.view.layer self.view.level self.t segs cover c.loop-q.invariant.told h)
-    (reached_quarter self.view.level (record { segs = segs; cover = cover }) (record { inside = valid.inside; each = valid.each; once = valid.once }) c.args.b q c.requires.block c.if-b-le1.false reached
+    (reached_quarter self.view.level (record { segs = segs; cover = cover }) (record { inside = valid.inside; each = valid.each; once = valid.once })
+    c.args.b q c.requires.block c.if-b-le1.false reached
     (match_none c.in-Ok-None.field-0 _ _ c.in-Ok-None.field-0-is (c.in-Ok-None.ensures.ids self.t segs cover h))
     (quarter_in c.args.b c.quarters-q-items.result c.loop-q.q-index (record { y = 0; x = 0; side = 0 }) c.quarters-q-items.ensures.value c.loop-q-test.true))
 
@@ -71,11 +77,14 @@ loop-q-preserved g t c =
     record {
       added = λ segs cover h new k e.
           let four = ap length c.quarters-q-items.ensures.value in
-          added_next self.view.level self.view.layer self.t segs self.id self.s (met_in cover self.s k) c.quarters-q-items.result c.loop-q.q-index (record { y = 0; x = 0; side = 0 })
-          c.args.change.now.gone.items c.loop-q.change.gone.items c.add_in.new.change.gone.items c.args.change.now.come.items c.loop-q.change.come.items c.add_in.new.change.come.items
+          added_next self.view.level self.view.layer self.t segs self.id self.s (met_in cover self.s k) c.quarters-q-items.result c.loop-q.q-index
+          (record { y = 0; x = 0; side = 0 })
+          c.args.change.now.gone.items c.loop-q.change.gone.items c.add_in.new.change.gone.items c.args.change.now.come.items c.loop-q.change.come.items
+          c.add_in.new.change.come.items
           (let lt = c.loop-q-test.true in omega arith) (c.loop-q.invariant.added segs cover h new k e)
           (c.in-Ok.ensures.added segs cover (lines_along _ _ self.view.tree self.view.layer self.view.level self.t segs cover c.loop-q.invariant.told h) new k
-          (quarter_side self.view.level c.args.b c.quarters-q-items.result c.loop-q.q-index (record { y = 0; x = 0; side = 0 }) c.requires.block c.if-b-le1.false c.quarters-q-items.ensures.value c.loop-q-test.true k e));
+          (quarter_side self.view.level c.args.b c.quarters-q-items.result c.loop-q.q-index (record { y = 0; x = 0; side = 0 }) c.requires.block
+          c.if-b-le1.false c.quarters-q-items.ensures.value c.loop-q-test.true k e));
       faults = let m = c.loop-q.invariant.faults in let n = c.in-Ok.ensures.cause.later in omega arith;
       size = c.in-Ok.ensures.size ∙ c.loop-q.invariant.size;
       told = c.in-Ok.ensures.told ∙ c.loop-q.invariant.told;
@@ -89,8 +98,11 @@ returns-clause-added g t c segs cover h new k e =
     let self = c.args.self.now in
     let away = match_none c.in-Ok-None.field-0 _ _ c.in-Ok-None.field-0-is (c.in-Ok-None.ensures.ids self.t segs cover h) in
     let four = ap length c.quarters-q-items.ensures.value in
-    added_below self.view.level self.view.layer self.t segs self.id self.s cover k c.args.b c.args.change.now.gone.items c.loop-q.change.gone.items c.args.change.now.come.items c.loop-q.change.come.items e c.if-b-le1.false (sym c.if-not-meets.ensures.value) away
+    added_below self.view.level self.view.layer self.t segs self.id self.s cover k c.args.b c.args.change.now.gone.items c.loop-q.change.gone.items
+    c.args.change.now.come.items c.loop-q.change.come.items e c.if-b-le1.false (sym c.if-not-meets.ensures.value) away
     (λ j f.
-    subst (λ (bs : List Block). IsAdded self.view.level self.view.layer self.t segs self.id self.s bs c.args.change.now.gone.items c.loop-q.change.gone.items c.args.change.now.come.items c.loop-q.change.come.items) (ap (flat_map (met_in cover self.s j)) c.quarters-q-items.ensures.value)
-    (added_all self.view.level self.view.layer self.t segs self.id self.s (met_in cover self.s j) c.quarters-q-items.result c.loop-q.q-index c.args.change.now.gone.items c.loop-q.change.gone.items c.args.change.now.come.items c.loop-q.change.come.items
+    subst (λ (bs : List Block). IsAdded self.view.level self.view.layer self.t segs self.id self.s bs c.args.change.now.gone.items
+    c.loop-q.change.gone.items c.args.change.now.come.items c.loop-q.change.come.items) (ap (flat_map (met_in cover self.s j)) c.quarters-q-items.ensures.value)
+    (added_all self.view.level self.view.layer self.t segs self.id self.s (met_in cover self.s j) c.quarters-q-items.result c.loop-q.q-index
+    c.args.change.now.gone.items c.loop-q.change.gone.items c.args.change.now.come.items c.loop-q.change.come.items
     (let end = c.loop-q-test.false in omega arith) (c.loop-q.invariant.added segs cover h new j f)))

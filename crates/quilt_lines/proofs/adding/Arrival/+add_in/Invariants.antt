@@ -12,7 +12,11 @@ decreases-add_in g l = l.b.side
 
 abbrev pub invariant-loop-q : goal.invariant-loop-q
 invariant-loop-q g l = record {
-  added : (segs : SegMap) (cover : BlockSet) → HasLines (g.S.PageStore.told l.fn.store) l.self.view.tree l.self.view.layer l.self.view.level l.self.t segs cover → finmap.get segs l.self.id ≡ None → (k : ℕ) → l.fn.b.side ≡ side (suc k) → IsAdded l.self.view.level l.self.view.layer l.self.t segs l.self.id l.self.s (flat_map (met_in cover l.self.s k) (take l.q-index l.q-items)) l.fn.change.gone.items l.change.gone.items l.fn.change.come.items l.change.come.items;
+  added : (segs : SegMap) (cover : BlockSet)
+      → HasLines (g.S.PageStore.told l.fn.store) l.self.view.tree l.self.view.layer l.self.view.level l.self.t segs cover
+      → finmap.get segs l.self.id ≡ None → (k : ℕ) → l.fn.b.side ≡ side (suc k)
+      → IsAdded l.self.view.level l.self.view.layer l.self.t segs l.self.id l.self.s (flat_map (met_in cover l.self.s k) (take l.q-index l.q-items))
+      l.fn.change.gone.items l.change.gone.items l.fn.change.come.items l.change.come.items;
   faults : g.S.PageStore.faults l.fn.store ≤ g.S.PageStore.faults l.store;
   size : g.S.PageStore.size l.store ≡ g.S.PageStore.size l.fn.store;
   told : g.S.PageStore.told l.store ≡ g.S.PageStore.told l.fn.store;

@@ -21,9 +21,11 @@ returns-in-Ok-add_in-clause-plan g c =
     let self = c.args.self.now in
     let row = c.segment_record-row.ensures self.view.level in
     if_ok_both c.edits_of.result _ _ _ (λ edits pr pa segs cover h new.
-    add_plan self.view.level self.view.layer self.t self.view.has_level.1 self.view.has_layer.0 segs cover self.id self.s h.spelled.valid new (row.fits.0) self.has_inside
+    add_plan self.view.level self.view.layer self.t self.view.has_level.1 self.view.has_layer.0 segs cover self.id self.s h.spelled.valid new (row.fits.0)
+    self.has_inside
     c.add_in.new.change.gone.items c.add_in.new.change.come.items
-    (added_whole self.view.level self.view.layer self.t segs self.id self.s cover c.whole_square-all.result c.new.result.items c.add_in.new.change.gone.items c.push.new.self.items c.add_in.new.change.come.items c.segment_record-row.result c.whole_square-all.ensures
+    (added_whole self.view.level self.view.layer self.t segs self.id self.s cover c.whole_square-all.result c.new.result.items
+    c.add_in.new.change.gone.items c.push.new.self.items c.add_in.new.change.come.items c.segment_record-row.result c.whole_square-all.ensures
     c.new.ensures.items (c.in-Ok.ensures.items ∙ ap (λ (rs : List Record). rs ++ c.segment_record-row.result ∷ []) c.new-2.ensures.items) (row.written [])
     (c.in-Ok-add_in.ensures.added segs cover h new self.view.level (ap (λ (b : Block). b.side) c.whole_square-all.ensures)))
     edits pr pa) c.edits_of.ensures.remove c.edits_of.ensures.add
@@ -34,8 +36,10 @@ returns-in-Ok-add_in-clause-sound g c =
     let row = c.segment_record-row.ensures self.view.level in
     IfErr-weaker c.edits_of.result _ _ (λ e f segs cover h new.
     memory_sound e (f
-    (add_can self.view.level self.view.layer self.t self.view.has_level.1 self.view.has_layer.0 segs cover self.id self.s h.spelled.valid new (row.fits.0) self.has_inside
+    (add_can self.view.level self.view.layer self.t self.view.has_level.1 self.view.has_layer.0 segs cover self.id self.s h.spelled.valid new (row.fits.0)
+    self.has_inside
     c.add_in.new.change.gone.items c.add_in.new.change.come.items
-    (added_whole self.view.level self.view.layer self.t segs self.id self.s cover c.whole_square-all.result c.new.result.items c.add_in.new.change.gone.items c.push.new.self.items c.add_in.new.change.come.items c.segment_record-row.result c.whole_square-all.ensures
+    (added_whole self.view.level self.view.layer self.t segs self.id self.s cover c.whole_square-all.result c.new.result.items
+    c.add_in.new.change.gone.items c.push.new.self.items c.add_in.new.change.come.items c.segment_record-row.result c.whole_square-all.ensures
     c.new.ensures.items (c.in-Ok.ensures.items ∙ ap (λ (rs : List Record). rs ++ c.segment_record-row.result ∷ []) c.new-2.ensures.items) (row.written [])
     (c.in-Ok-add_in.ensures.added segs cover h new self.view.level (ap (λ (b : Block). b.side) c.whole_square-all.ensures)))))) c.edits_of.ensures.memory

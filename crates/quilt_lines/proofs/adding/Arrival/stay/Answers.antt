@@ -1,5 +1,4 @@
-use Rattle.std.proofs.Common.{◌++◌, [], ◌∷◌, List, sym, ◌∙◌, ap}
-use Rattle.quilt_record.specs.declared.record.Record.{Record}
+use Rattle.std.proofs.Common.{◌++◌, [], ◌∷◌, ◌∙◌, ap}
 use Rattle.quilt_types.specs.Facts.{IsMetBy}
 use Rattle.quilt_lines.proofs.Rows.{follow_one, none_goes, none_stays}
 use Rattle.quilt_lines.proofs.adding.Arrival.stay.Goals as goal
@@ -10,10 +9,12 @@ returns-clause-gone c =
     let view = c.args.self.now.view in
     elim c.if-is_empty.branch [
       | then-is_empty+in_ok-push w ↦
-          none_goes view.level view.layer c.args.b c.args.change.now.gone.items c.if-is_empty.change.gone.items c.args.ids.now w.pair_record.result w.if-is_empty.ensures
+          none_goes view.level view.layer c.args.b c.args.change.now.gone.items c.if-is_empty.change.gone.items c.args.ids.now w.pair_record.result
+          w.if-is_empty.ensures
           (ap (λ z. z.gone.items) w.change-is ∙ w.in_ok-push.ensures.items) (w.pair_record.ensures.written [])
       | else-is_empty w ↦
-          none_stays view.level view.layer c.args.b c.args.change.now.gone.items c.if-is_empty.change.gone.items c.args.ids.now w.if-is_empty.ensures (ap (λ z. z.gone.items) w.change-is)
+          none_stays view.level view.layer c.args.b c.args.change.now.gone.items c.if-is_empty.change.gone.items c.args.ids.now w.if-is_empty.ensures
+          (ap (λ z. z.gone.items) w.change-is)
     ]
 
 pub returns-clause-come : goal.returns-clause-come

@@ -12,7 +12,8 @@ quarters-q-items-requires-clause-valid c = IsBlock-up c.args.self.now.level 12 c
 
 pub push_facts-requires : goal.push_facts-requires
 push_facts-requires c =
-    (quarter_at c.args.self.now.level c.args.b c.quarters-q-items.result c.loop-q.q-index (record { y = 0; x = 0; side = 0 }) c.requires.block c.requires.wide c.quarters-q-items.ensures.value c.loop-q-test.true).block
+    (quarter_at c.args.self.now.level c.args.b c.quarters-q-items.result c.loop-q.q-index (record { y = 0; x = 0; side = 0 }) c.requires.block
+    c.requires.wide c.quarters-q-items.ensures.value c.loop-q-test.true).block
 
 pub loop-q-init : goal.loop-q-init
 loop-q-init c = follow_none c.args.self.now.level c.args.self.now.layer c.args.records.now.items
@@ -21,13 +22,17 @@ pub loop-q-preserved : goal.loop-q-preserved
 loop-q-preserved c =
     let q = get_or c.quarters-q-items.result c.loop-q.q-index (record { y = 0; x = 0; side = 0 }) in
     let four = ap length c.quarters-q-items.ensures.value in
-    blocks_next c.args.self.now.level c.args.self.now.layer (λ r. facts_by r (ids_meeting c.args.list.now r)) c.args.records.now.items c.loop-q.records.items c.push_facts.new.records.items c.quarters-q-items.result c.loop-q.q-index (record { y = 0; x = 0; side = 0 })
+    blocks_next c.args.self.now.level c.args.self.now.layer (λ r. facts_by r (ids_meeting c.args.list.now r)) c.args.records.now.items
+    c.loop-q.records.items c.push_facts.new.records.items c.quarters-q-items.result c.loop-q.q-index (record { y = 0; x = 0; side = 0 })
     c.loop-q.invariant (let lt = c.loop-q-test.true in omega arith)
-    (c.in_ok-push_facts.ensures ∙ ap (λ (ids : List ℕ). c.loop-q.records.items ++ map (fact_record c.args.self.now.level c.args.self.now.layer) (facts_by q ids)) (c.deref.ensures.value ∙ c.in_ok-ids.ensures))
+    (c.in_ok-push_facts.ensures ∙ ap (λ (ids : List ℕ). c.loop-q.records.items ++ map (fact_record c.args.self.now.level c.args.self.now.layer)
+    (facts_by q ids)) (c.deref.ensures.value ∙ c.in_ok-ids.ensures))
 
 pub returns : goal.returns
 returns c =
     let four = ap length c.quarters-q-items.ensures.value in
-    subst (λ (bs : List Block). Follow c.args.self.now.level c.args.self.now.layer c.args.records.now.items c.loop-q.records.items (flat_map (λ q. facts_by q (ids_meeting c.args.list.now q)) bs)) c.quarters-q-items.ensures.value
-    (blocks_all c.args.self.now.level c.args.self.now.layer (λ r. facts_by r (ids_meeting c.args.list.now r)) c.args.records.now.items c.loop-q.records.items c.quarters-q-items.result c.loop-q.q-index
+    subst (λ (bs : List Block). Follow c.args.self.now.level c.args.self.now.layer c.args.records.now.items c.loop-q.records.items
+    (flat_map (λ q. facts_by q (ids_meeting c.args.list.now q)) bs)) c.quarters-q-items.ensures.value
+    (blocks_all c.args.self.now.level c.args.self.now.layer (λ r. facts_by r (ids_meeting c.args.list.now r)) c.args.records.now.items
+    c.loop-q.records.items c.quarters-q-items.result c.loop-q.q-index
     c.loop-q.invariant (let end = c.loop-q-test.false in omega arith))

@@ -1,0 +1,108 @@
+use Rattle.std.proofs.Common.{◌≡◌, ℕ, zero, suc, List, take, length, get_or, sym, ◌∙◌, ap, subst, arith, Contains, pow-suc}
+use Rattle.std.proofs.lemmas.Result.{IfOk-weaker, IfErr-weaker}
+use Rattle.std.proofs.lemmas.List.{take_all}
+use Rattle.quilt_types.specs.declared.plane.Block.{Block}
+use Rattle.quilt_types.specs.Plane.{side}
+use Rattle.quilt_loc.proofs.Blocks.{IsBlock-up}
+use Rattle.quilt_loc.proofs.Quartered.{quarters_are}
+use Rattle.quilt_edits.proofs.Lists.{member_at, take_next}
+use Rattle.quilt_btree.specs.Trees.{IsRooted}
+use Rattle.quilt_lines.specs.Reads.{AreIdsAt}
+use Rattle.quilt_lines.specs.Merges.{Becomes, Gathers}
+use Rattle.quilt_lines.proofs.Lookups.{match_none, match_some, lines_along}
+use Rattle.quilt_lines.proofs.MergeSteps.{unmet_settles}
+use Rattle.quilt_lines.proofs.Gathering.{gathers_next}
+use Rattle.quilt_lines.proofs.removal.Removal.+settle.Goals as goal
+
+pub settle-returns-in-Err-clause-sound : goal.settle-returns-in-Err-clause-sound
+settle-returns-in-Err-clause-sound g t c segs cover h = c.in-Err.ensures.sound c.args.self.now.threshold segs cover h
+
+pub settle-returns-in-Ok-Some-clause-settled : goal.settle-returns-in-Ok-Some-clause-settled
+settle-returns-in-Ok-Some-clause-settled g t c k segs cover e h =
+    c.in-Ok.ensures k segs cover (subst (AreIdsAt segs cover c.args.b) (sym c.deref.ensures.value)
+    (match_some c.in-Ok-Some.field-0 _ _ c.in-Ok-Some.ids c.in-Ok-Some.field-0-is (c.in-Ok-Some.ensures.ids c.args.self.now.threshold segs cover h)))
+
+pub settle-returns-then-not-enters-clause-settled : goal.settle-returns-then-not-enters-clause-settled
+settle-returns-then-not-enters-clause-settled g t c k segs cover e h =
+    unmet_settles c.args.self.now.level c.args.self.now.layer c.args.self.now.threshold c.args.self.now.id segs cover c.args.self.now.segment k c.args.b
+    c.new.result e
+    (match_none c.in-Ok-None.field-0 _ _ c.in-Ok-None.field-0-is (c.in-Ok-None.ensures.ids c.args.self.now.threshold segs cover h))
+    (c.enters.ensures.unmet c.if-not-enters.true) c.new.ensures.one c.new.ensures.coming c.new.ensures.going c.new.ensures.staying c.new.ensures.emptied
+
+pub settle-returns-clause-settled : goal.settle-returns-clause-settled
+settle-returns-clause-settled g t c =
+    IfOk-weaker c.settle_quarters.result _ _ (λ x f k segs cover e h.
+    f k segs cover e (lines_along _ _ c.args.tree.now c.args.self.now.layer c.args.self.now.level c.args.self.now.threshold segs cover
+    c.in-Ok-None.ensures.told h)
+    (match_none c.in-Ok-None.field-0 _ _ c.in-Ok-None.field-0-is (c.in-Ok-None.ensures.ids c.args.self.now.threshold segs cover h)))
+    c.settle_quarters.ensures.settled
+
+pub settle-returns-clause-sound : goal.settle-returns-clause-sound
+settle-returns-clause-sound g t c =
+    IfErr-weaker c.settle_quarters.result _ _ (λ x f segs cover h.
+    f segs cover (lines_along _ _ c.args.tree.now c.args.self.now.layer c.args.self.now.level c.args.self.now.threshold segs cover
+    c.in-Ok-None.ensures.told h)) c.settle_quarters.ensures.sound
+
+pub settle_quarters-quarters-q-items-requires-clause-valid :
+    goal.settle_quarters-quarters-q-items-requires-clause-valid
+settle_quarters-quarters-q-items-requires-clause-valid g t c = IsBlock-up c.args.self.now.level 12 c.args.b c.args.self.now.has_level.1 c.requires.block
+
+pub settle_quarters-settle-requires : goal.settle_quarters-settle-requires
+settle_quarters-settle-requires g t c κs within =
+    let none : Block = record { y = 0; x = 0; side = 0 } in
+    let qs = c.quarters-q-items.result in
+    let q = get_or qs c.loop-q.q-index none in
+    let four = ap length c.quarters-q-items.ensures.value in
+    let lt = c.loop-q-test.true in
+    let is = quarters_are c.args.self.now.level c.args.b q c.requires.block c.requires.wide
+    (subst (λ (l : List Block). Contains l q) c.quarters-q-items.ensures.value (member_at qs c.loop-q.q-index none (omega arith))) in
+    let half = is.half in
+    let d = c.decreases in
+    let wide = c.requires.wide in
+    (omega arith, (within, (subst (λ (z : ℕ). IsRooted z c.args.tree.now) (sym c.loop-q.invariant.size) c.requires.rooted, is.block)))
+
+pub settle_quarters-returns-in-Err-clause-sound : goal.settle_quarters-returns-in-Err-clause-sound
+settle_quarters-returns-in-Err-clause-sound g t c segs cover h = c.in-Err.ensures.sound segs cover
+    (lines_along _ _ c.args.tree.now c.args.self.now.layer c.args.self.now.level c.args.self.now.threshold segs cover c.loop-q.invariant.told h)
+
+pub settle_quarters-loop-q-preserved : goal.settle_quarters-loop-q-preserved
+settle_quarters-loop-q-preserved g t c =
+    let none : Block = record { y = 0; x = 0; side = 0 } in
+    let qs = c.quarters-q-items.result in
+    let q = get_or qs c.loop-q.q-index none in
+    record {
+      gathered = λ k segs cover e h.
+          let four = ap length c.quarters-q-items.ensures.value in
+          let lt = c.loop-q-test.true in
+          let half = (quarters_are c.args.self.now.level c.args.b q c.requires.block c.requires.wide
+          (subst (λ (l : List Block). Contains l q) c.quarters-q-items.ensures.value (member_at qs c.loop-q.q-index none (omega arith)))).half in
+          let p = pow-suc 2 k in
+          subst (λ (l : List Block). Gathers c.args.self.now.level c.args.self.now.layer c.args.self.now.threshold c.args.self.now.id segs cover
+          c.args.self.now.segment k l c.gather.new.self) (sym (take_next qs c.loop-q.q-index none (omega arith)))
+          (gathers_next c.args.self.now.level c.args.self.now.layer c.args.self.now.threshold c.args.self.now.id segs cover c.args.self.now.segment k
+          (take c.loop-q.q-index qs) q c.loop-q.all c.in-Ok.x c.gather.new.self
+          (c.loop-q.invariant.gathered k segs cover e h)
+          (c.in-Ok.ensures.settled k segs cover (omega arith)
+          (lines_along _ _ c.args.tree.now c.args.self.now.layer c.args.self.now.level c.args.self.now.threshold segs cover c.loop-q.invariant.told h))
+          c.in-Ok-gather.ensures);
+      faults = let m = c.loop-q.invariant.faults in let n = c.in-Ok.ensures.cause.later in omega arith;
+      size = c.in-Ok.ensures.size ∙ c.loop-q.invariant.size;
+      told = c.in-Ok.ensures.told ∙ c.loop-q.invariant.told;
+      free = c.in-Ok.ensures.free ∙ c.loop-q.invariant.free;
+      later = g.met.S.PageStore.goes_on _ _ _ c.loop-q.invariant.later c.in-Ok.ensures.later;
+      changed = let m = c.loop-q.invariant.changed in let n = c.in-Ok.ensures.changed in omega arith;
+    }
+
+pub settle_quarters-returns-in-Ok-joined-clause-settled :
+    goal.settle_quarters-returns-in-Ok-joined-clause-settled
+settle_quarters-returns-in-Ok-joined-clause-settled g t c k segs cover e h away = by_level k e
+  where
+    by_level : (j : ℕ) → c.args.b.side ≡ side j
+        → Becomes c.args.self.now segs cover j c.args.b c.in-Ok-joined.x
+    by_level zero e' = let wide = c.requires.wide in absurd (omega arith)
+    by_level (suc j) e' =
+        let past = c.loop-q-test.false in
+        c.in-Ok-joined.ensures j segs cover e' away c.requires.met
+        (subst (λ (l : List Block). Gathers c.args.self.now.level c.args.self.now.layer c.args.self.now.threshold c.args.self.now.id segs cover
+        c.args.self.now.segment j l c.loop-q.all)
+        (take_all c.loop-q.q-index c.quarters-q-items.result (omega arith) ∙ c.quarters-q-items.ensures.value) (c.loop-q.invariant.gathered j segs cover e' h))

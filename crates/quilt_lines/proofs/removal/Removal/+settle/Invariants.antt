@@ -1,0 +1,25 @@
+use Rattle.std.proofs.Common.{◌≡◌, ℕ, suc, ◌+◌, ◌*◌, ◌≤◌, take}
+use Rattle.quilt_types.specs.Plane.{side}
+use Rattle.quilt_types.specs.Layers.{SegMap, BlockSet}
+use Rattle.quilt_lines.specs.Layers.{HasLines}
+use Rattle.quilt_lines.specs.Merges.{Gathers}
+use Rattle.quilt_lines.proofs.removal.Removal.+settle.Given as goal
+
+abbrev pub decreases-settle : goal.decreases-settle
+decreases-settle g l = 2 * l.b.side + 1
+
+abbrev pub decreases-settle_quarters : goal.decreases-settle_quarters
+decreases-settle_quarters g l = 2 * l.b.side
+
+abbrev pub invariant-settle_quarters-loop-q : goal.invariant-settle_quarters-loop-q
+invariant-settle_quarters-loop-q g l = record {
+  gathered : (k : ℕ) (segs : SegMap) (cover : BlockSet) → l.b.side ≡ side (suc k)
+      → HasLines (g.S.PageStore.told l.initial.store) l.tree l.self.layer l.self.level l.self.threshold segs cover
+      → Gathers l.self.level l.self.layer l.self.threshold l.self.id segs cover l.self.segment k (take l.q-index l.q-items) l.all;
+  faults : g.S.PageStore.faults l.initial.store ≤ g.S.PageStore.faults l.store;
+  size : g.S.PageStore.size l.store ≡ g.S.PageStore.size l.initial.store;
+  told : g.S.PageStore.told l.store ≡ g.S.PageStore.told l.initial.store;
+  free : g.S.PageStore.free l.store ≡ g.S.PageStore.free l.initial.store;
+  later : g.S.PageStore.later l.initial.store l.store;
+  changed : g.S.PageStore.changed l.store ≤ g.S.PageStore.changed l.initial.store;
+}

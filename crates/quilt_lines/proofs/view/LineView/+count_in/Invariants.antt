@@ -1,0 +1,24 @@
+use Rattle.std.proofs.Common.{◌≡◌, ◌≤◌, ◌+◌, ◌*◌, ◌-◌, ◌^◌, ℕ, take, flat_map, get_or, count_by}
+use Rattle.std.specs.Prelude.{◌==◌}
+use Rattle.quilt_types.specs.Layers.{SegMap, BlockSet}
+use Rattle.quilt_types.specs.Plane.{side}
+use Rattle.quilt_lines.specs.Layers.{HasLines}
+use Rattle.quilt_lines.specs.Counting.{held_in}
+use Rattle.quilt_lines.proofs.view.LineView.+count_in.Given as goal
+
+abbrev pub decreases-count_in : goal.decreases-count_in
+decreases-count_in g l = l.k
+
+abbrev pub invariant-loop-q : goal.invariant-loop-q
+invariant-loop-q g l = record {
+  counts : (t : ℕ) (segs : SegMap) (cover : BlockSet) → HasLines (g.S.PageStore.told l.fn.store) l.self.tree l.self.layer l.self.level t segs cover
+      → (j : ℕ) → get_or l.counts j 0 ≡ get_or l.fn.counts j 0 + count_by (λ c. c.side == side j)
+      (flat_map (held_in cover (l.k - 1)) (take l.q-index l.q-items));
+  most : (j : ℕ) → get_or l.counts j 0 ≤ get_or l.fn.counts j 0 + l.q-index * 4 ^ (l.k - 1);
+  faults : g.S.PageStore.faults l.fn.store ≤ g.S.PageStore.faults l.store;
+  size : g.S.PageStore.size l.store ≡ g.S.PageStore.size l.fn.store;
+  told : g.S.PageStore.told l.store ≡ g.S.PageStore.told l.fn.store;
+  free : g.S.PageStore.free l.store ≡ g.S.PageStore.free l.fn.store;
+  later : g.S.PageStore.later l.fn.store l.store;
+  changed : g.S.PageStore.changed l.store ≤ g.S.PageStore.changed l.fn.store;
+}
