@@ -1,5 +1,5 @@
 -- The replies of commands that change nothing, and the state that they leave.
-use Rattle.std.proofs.Common.{◌≡◌, ℕ, ◌*◌, ◌≤◌, Bool, true, false, not, List, [], ◌∷◌, Option, Some, None, Result, Ok, Err, refl, sym, ◌∙◌, ap, subst, arith}
+use Rattle.std.proofs.Common.{◌≡◌, ℕ, ◌*◌, ◌≤◌, Bool, true, false, not, List, [], ◌∷◌, Option, Some, None, Result, Ok, Err, refl, sym, ◌∙◌, ap, subst}
 use Rattle.std.specs.Prelude.{IfOk, codes, decimal, map, ◌-◌, is_none, unwrap_or, option_map}
 use Rattle.std.specs.FinMap as finmap
 use Rattle.quilt_types.specs.declared.code.Code.{Code}
@@ -18,9 +18,7 @@ use Rattle.quilt_words.specs.declared.command.Command.TheVariants as commands
 use Rattle.quilt_blocks.specs.Raster.{Raster}
 use Rattle.quilt_region.specs.Regions.{HasRegion}
 use Rattle.quilt_spell.specs.Catalogued.{kind_of, IsCatalogOf}
-use Rattle.quilt_spell.specs.Written.{number_of}
 use Rattle.quilt_spell.proofs.Stepping.{spelled_count}
-use Rattle.quilt_spell.proofs.Written.{number_fits}
 use Rattle.quilt_edition.specs.declared.book.Book.{Book}
 use Rattle.quilt_replies.specs.Answers as answers
 use Rattle.quilt_replies.specs.Answers.{State, Outcome, Done, Refused, answer, unless, unknown, unless_region, is_region, grid_in, layer_line, leaf_line, row_line, block_lines, sides_of}
@@ -30,7 +28,7 @@ use Rattle.quilt_map.specs.Sessions.{IsAtWith, IsAtState, told_of, tree_in}
 use Rattle.quilt_replies.specs.States.{Tells}
 use Rattle.quilt_replies.specs.declared.reply.Reply as replies
 use Rattle.quilt_map.specs.declared.session.Session.{Session}
-use Rattle.quilt_map.proofs.Asked.{still_here, region_of, layer_is}
+use Rattle.quilt_map.proofs.Asked.{still_here, layer_is}
 use Rattle.quilt_map.proofs.HeldLayers.{layer_there, layer_number}
 use Rattle.quilt_map.proofs.Moving.{IsLawful, later_at}
 

@@ -1,11 +1,10 @@
 -- How many blocks a layer has of each side, and what the command that counts them is answered.
-use Rattle.std.proofs.Common.{◌≡◌, ℕ, ◌≤◌, List, [], ◌∷◌, Option, Some, refl, sym, ◌∙◌, ap, subst}
-use Rattle.std.specs.Prelude.{is_none, unwrap_or, option_map, count_by, slice_index, ◌==◌}
+use Rattle.std.proofs.Common.{◌≡◌, ℕ, ◌≤◌, List, [], ◌∷◌, Option, Some, ◌∙◌, ap, subst}
+use Rattle.std.specs.Prelude.{is_none, unwrap_or, option_map}
 use Rattle.std.specs.FinMap as finmap
 use Rattle.quilt_types.specs.declared.code.Code.TheVariants as no
 use Rattle.quilt_types.specs.declared.plane.Kind.{Kind}
-use Rattle.quilt_types.specs.declared.plane.Kind.TheVariants as kinds
-use Rattle.quilt_types.specs.Layers.{Layer, Region, Points, Lines, Grid, PointMap, SegMap, BlockSet}
+use Rattle.quilt_types.specs.Layers.{Layer}
 use Rattle.quilt_world.specs.declared.disk.Disk as disk
 use Rattle.quilt_words.specs.declared.command.Command.TheVariants as commands
 use Rattle.quilt_spell.specs.Catalogued.{kind_of}

@@ -16,7 +16,6 @@ use Rattle.quilt_node.specs.declared.head.Head.{Head}
 use Rattle.quilt_btree.specs.declared.tree.Tree.{Tree}
 use Rattle.quilt_edits.specs.Edits.{AreInOrder}
 use Rattle.quilt_spell.specs.Catalogued.{IsCatalogOf, kind_of}
-use Rattle.quilt_spell.specs.Written.{number_of}
 use Rattle.quilt_lines.specs.Layers.{HasLines}
 use Rattle.quilt_lines.specs.Plans.{IsLinePlan}
 use Rattle.quilt_edition.specs.declared.book.Book.{Book}

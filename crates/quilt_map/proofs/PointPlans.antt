@@ -1,5 +1,5 @@
 -- Point layers of the work: what its records say of them, and plans that put a point in or take one out.
-use Rattle.std.proofs.Common.{◌≡◌, ℕ, ◌≤◌, List, length, Option, Some, IfSome, refl, sym, ◌∙◌, ap, subst, arith}
+use Rattle.std.proofs.Common.{◌≡◌, ℕ, ◌≤◌, List, Option, Some, IfSome, refl, sym, ◌∙◌, ap, subst}
 use Rattle.std.specs.FinMap as finmap
 use Rattle.quilt_types.specs.declared.plane.Kind.{Kind}
 use Rattle.quilt_types.specs.declared.plane.Kind.TheVariants as kinds
@@ -9,30 +9,26 @@ use Rattle.quilt_types.specs.Layers.{Layer, Map, Region, Points, Lines, PointMap
 use Rattle.quilt_world.specs.declared.disk.Disk as disk
 use Rattle.quilt_record.specs.declared.edits.Edits.{Edits}
 use Rattle.quilt_record.specs.declared.entry.Entry.{Entry}
-use Rattle.quilt_record.specs.declared.record.Record.{Record}
 use Rattle.quilt_record.specs.Records.{Numbering}
 use Rattle.quilt_node.specs.declared.head.Head.{Head}
 use Rattle.quilt_btree.specs.declared.tree.Tree.{Tree}
 use Rattle.quilt_edits.specs.Edits.{AreInOrder}
 use Rattle.quilt_spell.specs.Catalogued.{IsCatalogOf, kind_of}
 use Rattle.quilt_spell.specs.Written.{number_of}
-use Rattle.quilt_spell.proofs.Written.{number_fits}
 use Rattle.quilt_point_laws.proofs.Fewer.{del_count_law}
 use Rattle.quilt_points.specs.Layers.{HasPoints}
 use Rattle.quilt_points.specs.Plans as plans
-use Rattle.quilt_points.proofs.Spelled.{points_law}
 use Rattle.quilt_edition.specs.declared.book.Book.{Book}
 use Rattle.quilt_replies.specs.Answers.{State, with}
 use Rattle.quilt_map.specs.Asking.{IsLayerUnder, IsStill}
 use Rattle.quilt_map.specs.Planning.{IsAmendment}
 use Rattle.quilt_map.specs.PointLayers.{IsPointsAt, IsPointsIn, HoldsPoints}
-use Rattle.quilt_map.specs.Sessions.{IsAtState, told_of, tree_in}
+use Rattle.quilt_map.specs.Sessions.{IsAtState, tree_in}
 use Rattle.quilt_map.specs.declared.points.PointLayer.{PointLayer}
 use Rattle.quilt_map.specs.declared.session.Session.{Session}
 use Rattle.quilt_map.proofs.Amends.{amendment, mid_at, never_more}
 use Rattle.quilt_map.proofs.Answered.{level_is}
-use Rattle.quilt_map.proofs.Asked.{layer_is}
-use Rattle.quilt_map.proofs.ChangeSteps.{at_most, at_spelled}
+use Rattle.quilt_map.proofs.ChangeSteps.{at_most}
 use Rattle.quilt_map.proofs.HeldLayers.{held_as, layer_there, layer_number, layer_fits}
 use Rattle.quilt_map.proofs.Moving.{IsLawful, with_book}
 use Rattle.quilt_map.proofs.Planned.{some_of}

@@ -1,5 +1,5 @@
 -- What it is that records spell a layer of the work, whatever its kind.
-use Rattle.std.specs.Prelude.{ℕ, List, Option}
+use Rattle.std.specs.Prelude.{ℕ, Option}
 use Rattle.quilt_types.specs.Layers.{Layer, Region, Points, Lines}
 use Rattle.quilt_world.specs.Disk.{Pages}
 use Rattle.quilt_world.specs.declared.disk.Disk as disk

@@ -30,7 +30,8 @@ fn count_blocks<W: Disk>(
     number: u8,
     kind: Kind,
 ) -> Result<[u32; 13], Stop>
-    ensures counts { IfOk result (λ counts. (layer : Layer) → kind ≡ kind_of layer → HoldsLayer book.old number layer → HasCounts counts (sides_of (books.work_of book.old).level layer)) }
+    ensures counts { IfOk result (λ counts. (layer : Layer) → kind ≡ kind_of layer → HoldsLayer book.old number layer →
+        HasCounts counts (sides_of (books.work_of book.old).level layer)) }
     ensures sound { IfErr result (λ e. (layer : Layer) → kind ≡ kind_of layer → 1 ≤ number → HoldsLayer book.old number layer → IsSound e) }
     ensures still { IsStill book.old book.new }
     ensures cause { HasStopCause (W.faults (books.world_of book.old)) (W.faults (books.world_of book.new)) result }

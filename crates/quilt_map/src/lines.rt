@@ -41,7 +41,8 @@ pub(crate) fn can_be(layer: LineLayer) -> bool
 
 /// The line layer with this name, or why there is none.
 pub(crate) fn line_number(entries: &[Entry], name: &Name) -> Result<LineLayer, Code>
-    ensures found { IfOk result (λ layer. (layers : Map) (numbers : Numbering) → IsCatalogOf layers numbers entries.now → IsLinesAt layers numbers name.now layer) }
+    ensures found { IfOk result (λ layer. (layers : Map) (numbers : Numbering) → IsCatalogOf layers numbers entries.now →
+        IsLinesAt layers numbers name.now layer) }
     ensures refused { IfErr result (λ code. (s : State) (numbers : Numbering) → IsCatalogOf s.work numbers entries.now → IsNoLines s name.now code) }
 {
     match layer_under(entries, name) {
@@ -62,7 +63,8 @@ pub(crate) fn plan_addition<W: Disk>(
 ) -> Result<Option<Edits>, Stop>
     requires inside { is_seg_in_square (work_of book.old).level s ≡ true }
     ensures plan { IfOk result (λ o. IfSome o (λ edits. (segs : SegMap) (cover : BlockSet) → HoldsLines book.old layer segs cover →
-        IsLinePlan (work_of book.old).level layer.number layer.threshold segs (finmap.insert segs id s) cover (after_add layer.threshold (finmap.insert segs id s) cover s) edits)) }
+        IsLinePlan (work_of book.old).level layer.number layer.threshold segs (finmap.insert segs id s) cover
+        (after_add layer.threshold (finmap.insert segs id s) cover s) edits)) }
     ensures none { IfOk result (λ o. (segs : SegMap) (cover : BlockSet) → HoldsLines book.old layer segs cover → IsNone o ↔ IsSome (finmap.get segs id)) }
     ensures order { IfOk result (λ o. IfSome o AreInOrder) }
     ensures sound { IfErr result (λ e. (segs : SegMap) (cover : BlockSet) → 1 ≤ layer.number → HoldsLines book.old layer segs cover → IsSound e) }
@@ -93,10 +95,13 @@ pub(crate) fn plan_removal<W: Disk>(
     layer: LineLayer,
     id: u32,
 ) -> Result<Option<Edits>, Stop>
-    ensures plan { IfOk result (λ o. IfSome o (λ edits. (segs : SegMap) (cover : BlockSet) → HoldsLines book.old layer segs cover → (s : AnySeg) → finmap.get segs id ≡ Some s →
-        IsLinePlan (work_of book.old).level layer.number layer.threshold segs (finmap.remove segs id) cover (after_remove (work_of book.old).level layer.threshold (finmap.remove segs id) cover s) edits)) }
+    ensures plan { IfOk result (λ o. IfSome o (λ edits. (segs : SegMap) (cover : BlockSet) →
+        HoldsLines book.old layer segs cover → (s : AnySeg) → finmap.get segs id ≡ Some s →
+        IsLinePlan (work_of book.old).level layer.number layer.threshold segs (finmap.remove segs id) cover
+        (after_remove (work_of book.old).level layer.threshold (finmap.remove segs id) cover s) edits)) }
     ensures none { IfOk result (λ o. (segs : SegMap) (cover : BlockSet) → HoldsLines book.old layer segs cover → IsNone o ↔ IsNone (finmap.get segs id)) }
-    ensures fewer { IfOk result (λ o. IfSome o (λ edits. (segs : SegMap) (cover : BlockSet) → HoldsLines book.old layer segs cover → length edits.add < length edits.remove)) }
+    ensures fewer { IfOk result (λ o. IfSome o (λ edits. (segs : SegMap) (cover : BlockSet) →
+        HoldsLines book.old layer segs cover → length edits.add < length edits.remove)) }
     ensures order { IfOk result (λ o. IfSome o AreInOrder) }
     ensures sound { IfErr result (λ e. (segs : SegMap) (cover : BlockSet) → 1 ≤ layer.number → HoldsLines book.old layer segs cover → IsSound e) }
     ensures still { IsStill book.old book.new }

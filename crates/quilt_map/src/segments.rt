@@ -30,9 +30,11 @@ impl<W: World> Session<W> {
     /// Puts a segment under an id into the work's line layer.
     fn put_segment(&mut self, layer: LineLayer, id: u32, s: Seg) -> Result<Reply, Stop>
         requires inside { is_seg_in_square (books.work_of self.old.book).level s ≡ true }
-        ensures put { IfOk result (λ reply. (now : State) → IsAtState self.old now → (name : List ℕ) (segs : SegMap) (cover : BlockSet) → IsLinesIn now.work self.old.catalog name layer segs cover →
+        ensures put { IfOk result (λ reply. (now : State) → IsAtState self.old now → (name : List ℕ) (segs : SegMap) (cover : BlockSet) →
+            IsLinesIn now.work self.old.catalog name layer segs cover →
             AnsweredBy now (segment_put now name layer.threshold segs cover id s) self.old self.new reply) }
-        ensures sound { IfErr result (λ e. (now : State) → IsAtState self.old now → (name : List ℕ) (segs : SegMap) (cover : BlockSet) → IsLinesIn now.work self.old.catalog name layer segs cover → IsSound e) }
+        ensures sound { IfErr result (λ e. (now : State) → IsAtState self.old now → (name : List ℕ) (segs : SegMap) (cover : BlockSet) →
+            IsLinesIn now.work self.old.catalog name layer segs cover → IsSound e) }
         ensures goes_on { books.GoesOn self.old.book self.new.book }
         ensures cause { HasStopCause (W.faults (books.world_of self.old.book)) (W.faults (books.world_of self.new.book)) result }
     {
@@ -66,9 +68,11 @@ impl<W: World> Session<W> {
 
     /// Takes the segment of an id from the work's line layer.
     fn take_segment(&mut self, layer: LineLayer, id: u32) -> Result<Reply, Stop>
-        ensures taken { IfOk result (λ reply. (s : State) → IsAtState self.old s → (name : List ℕ) (segs : SegMap) (cover : BlockSet) → IsLinesIn s.work self.old.catalog name layer segs cover →
+        ensures taken { IfOk result (λ reply. (s : State) → IsAtState self.old s → (name : List ℕ) (segs : SegMap) (cover : BlockSet) →
+            IsLinesIn s.work self.old.catalog name layer segs cover →
             AnsweredBy s (segment_taken s name layer.threshold segs cover id) self.old self.new reply) }
-        ensures sound { IfErr result (λ e. (s : State) → IsAtState self.old s → (name : List ℕ) (segs : SegMap) (cover : BlockSet) → IsLinesIn s.work self.old.catalog name layer segs cover → IsSound e) }
+        ensures sound { IfErr result (λ e. (s : State) → IsAtState self.old s → (name : List ℕ) (segs : SegMap) (cover : BlockSet) →
+            IsLinesIn s.work self.old.catalog name layer segs cover → IsSound e) }
         ensures goes_on { books.GoesOn self.old.book self.new.book }
         ensures cause { HasStopCause (W.faults (books.world_of self.old.book)) (W.faults (books.world_of self.new.book)) result }
     {
