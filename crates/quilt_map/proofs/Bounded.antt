@@ -1,5 +1,5 @@
 -- The pages that the answer to a command reads, as all calls of the session say it.
-use Rattle.std.proofs.Common.{◌≡◌, ℕ, ◌+◌, ◌≤◌, false, List, Option, Some, Result, Ok, Err, refl, sym, ap, subst, ◌==◌}
+use Rattle.std.proofs.Common.{◌≡◌, ℕ, ◌+◌, ◌≤◌, false, List, Option, Some, None, Result, Ok, Err, refl, sym, ap, subst, ◌==◌}
 use Rattle.std.specs.Prelude.{IfOk, if◌then◌else◌}
 use Rattle.quilt_types.specs.declared.plane.Pixel.{Pixel}
 use Rattle.quilt_types.specs.declared.plane.Window.{Window}
@@ -9,7 +9,7 @@ use Rattle.quilt_words.specs.declared.command.Command.TheVariants as commands
 use Rattle.quilt_store.specs.Store.{Tells as StoreTells}
 use Rattle.quilt_replies.specs.Answers.{State, layer, capacity_in, segs_in, cover_in}
 use Rattle.quilt_replies.specs.declared.reply.Reply.{Reply}
-use Rattle.quilt_map.specs.Reading.{is_bounded, IsAnsweredOk, IsPromised, pages_most, ReadsFew}
+use Rattle.quilt_map.specs.Reading.{is_bounded, IsAnsweredOk, IsPromised, pages_most, ReadsFew, is_at, warm_left}
 use Rattle.quilt_map.specs.Selecting.{layer_asked, HasFound, IsAnswered, pages_for}
 
 -- nothing is promised of the other commands
@@ -57,7 +57,8 @@ module _ (At : State → Type 0) (before now : Option ℕ) where
   costs_now c l (Ok reply) h s at found answered = h s at found answered
   costs_now c l (Err e) h s at found answered = absurd answered
 
-  pub ask_reads : (c : Command) (l : List ℕ) (r : Result Reply Stop) → layer_asked c ≡ Some l → Costs c l r → (s : State) → At s → IsPromised s c r → ReadsFew s c before now
+  pub ask_reads : (c : Command) (l : List ℕ) (r : Result Reply Stop) → layer_asked c ≡ Some l → Costs c l r → (s : State) → At s → IsPromised s c r
+      → ReadsFew s c before now
   ask_reads (commands.Cross a w) l r is h s at promised =
       let same : a ≡ l = cc in costs_now (commands.Cross a w) a r (subst (λ (x : List ℕ). Costs (commands.Cross a w) x r) (sym same) h) s at tt promised
   ask_reads (commands.Clip a w) l r is h s at promised =
@@ -65,5 +66,15 @@ module _ (At : State → Type 0) (before now : Option ℕ) where
   ask_reads (commands.Nearest a p) l r is h s at promised =
       let same : a ≡ l = cc in costs_now (commands.Nearest a p) a r (subst (λ (x : List ℕ). Costs (commands.Nearest a p) x r) (sym same) h) s at tt promised
   ask_reads (commands.Rank a p k) l r is h s at promised =
-      let same : a ≡ l = cc in costs_now (commands.Rank a p k) a r (subst (λ (x : List ℕ). Costs (commands.Rank a p k) x r) (sym same) h) s at promised.1 promised.0
+      let same : a ≡ l = cc in costs_now (commands.Rank a p k) a r
+      (subst (λ (x : List ℕ). Costs (commands.Rank a p k) x r) (sym same) h) s at promised.1 promised.0
   ask_reads c l r is h s at promised = cc
+
+-- ---- commands that ask for no colour
+pub other_than_at : (c : Command) → ((a : List ℕ) (p : Pixel) → c ≡ commands.At a p → ⊥) → is_at c ≡ false
+other_than_at (commands.At a p) not_at = absurd (not_at a p refl)
+other_than_at c not_at = refl
+
+pub warm_none : (c : Command) (r : Result Reply Stop) → ((a : List ℕ) (p : Pixel) → c ≡ commands.At a p → ⊥) → None ≡ warm_left c r
+warm_none (commands.At a p) r not_at = absurd (not_at a p refl)
+warm_none c r not_at = refl

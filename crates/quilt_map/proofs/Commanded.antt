@@ -2,6 +2,7 @@
 use Rattle.std.proofs.Common.{◌≡◌, inl, ℕ, ◌+◌, ◌*◌, true, false, List, [], ◌∷◌, Option, Some, None, is_some, Result, Ok, Err, IfOk, IfErr, OnOk, refl, sym, ◌∙◌, ap, subst}
 use Rattle.std.specs.List.{list_all}
 use Rattle.std.proofs.lemmas.Bool.{and_parts}
+use Rattle.quilt_types.specs.declared.plane.Pixel.{Pixel}
 use Rattle.quilt_types.specs.declared.stop.Stop.{Stop}
 use Rattle.quilt_types.specs.declared.stop.Stop.TheVariants as stops
 use Rattle.quilt_types.specs.Layers.{Edition}
@@ -28,16 +29,17 @@ use Rattle.quilt_edition.specs.Keeping.{IsLater}
 use Rattle.quilt_edition.proofs.Steps.{seen_home}
 use Rattle.quilt_node.specs.declared.head.Head.{Head}
 use Rattle.quilt_replies.specs.Answers.{State, answer}
-use Rattle.quilt_map.specs.Commanding.{Answered, IsApplied}
+use Rattle.quilt_map.specs.Commanding.{Answered, IsApplied, IsAppliedBy}
 use Rattle.quilt_map.specs.Asking.{reads_in}
 use Rattle.quilt_map.specs.Reading.{IsPromised, ReadsFew}
-use Rattle.quilt_map.specs.Sessions.{IsAt, IsAtState, IsPublishedAs, world_of, level_of, changes_of, reads_of}
+use Rattle.quilt_map.specs.Sessions.{IsAt, IsAtState, IsWarm, IsPublishedAs, world_of, level_of, changes_of, reads_of}
 use Rattle.quilt_replies.specs.States.{Tells, IsRefusal, after}
 use Rattle.quilt_map.specs.Steps.{Leaves, StandsFor, WritesFew, changes_after, gives_edition, goes_back}
 use Rattle.quilt_replies.specs.declared.reply.Reply.{Reply}
 use Rattle.quilt_replies.specs.declared.reply.Reply.TheVariants as given
 use Rattle.quilt_map.specs.declared.session.Session.{Session}
-use Rattle.quilt_map.proofs.Answered.{format_is}
+use Rattle.quilt_map.proofs.Answered.{format_is, warm_at}
+use Rattle.quilt_map.proofs.Asked.{if_ok, if_err}
 use Rattle.quilt_map.proofs.Keeping.{book_idle, book_leaves, book_stands}
 use Rattle.quilt_map.proofs.Orderly.{quiet_none, refused_after}
 
@@ -95,18 +97,16 @@ module _ {W : Type 0} {D : disk.Ghosts W} where
     abbrev Says : Reply → Type 0
     Says reply = (s : State) → IsAtState old s → Answered s other old new reply
 
-    answer_of : (r : Result Reply Stop) → IfOk r Says → IfOk r (λ reply. (s : State) → IsAt old s → Tells reply (answer s command).reply × IsAt new (after s command))
-    unfolding IsAt
+    answer_of : (r : Result Reply Stop) → IfOk r Says → IfOk r (λ reply. (s : State) → IsAtState old s → Tells reply (answer s command).reply × IsAtState new (after s command))
     answer_of (Err e) h = tt
     answer_of (Ok reply) h = λ s at. let a = subst (λ (x : Command). Answered s x old new reply) same (h s at) in (a.tells, a.at)
 
-    changes_are : (r : Result Reply Stop) → IfOk r Says → IfOk r (λ reply. (s : State) → IsAt old s → changes_of new ≡ changes_after s command (changes_of old))
-    unfolding IsAt changes_of
+    changes_are : (r : Result Reply Stop) → IfOk r Says → IfOk r (λ reply. (s : State) → IsAtState old s → changes_of new ≡ changes_after s command (changes_of old))
+    unfolding changes_of
     changes_are (Err e) h = tt
     changes_are (Ok reply) h = λ s at. let a = subst (λ (x : Command). Answered s x old new reply) same (h s at) in a.count
 
-    refused_keeps : (r : Result Reply Stop) → IfOk r Says → IfOk r (λ reply. IsRefusal reply → (s : State) → IsAt old s → IsAt new s)
-    unfolding IsAt
+    refused_keeps : (r : Result Reply Stop) → IfOk r Says → IfOk r (λ reply. IsRefusal reply → (s : State) → IsAtState old s → IsAtState new s)
     refused_keeps (Err e) h = tt
     refused_keeps (Ok (given.Ok text)) h = λ no_. absurd no_
     refused_keeps (Ok (given.No code)) h = λ refused s at.
@@ -142,8 +142,8 @@ module _ {W : Type 0} {D : disk.Ghosts W} where
               (λ image has. inl (book_stands old.book t told at.ready old.last s.last image last (subst (λ (p : Pages). HasHome n p image) home_is has)));
         }
 
-    leaves_on : (command : Command) (s : State) → IsAt old s → Goes (Leaves s command) (D.told (world_of old)) (D.told (world_of new))
-    unfolding IsAt world_of
+    leaves_on : (command : Command) (s : State) → IsAtState old s → Goes (Leaves s command) (D.told (world_of old)) (D.told (world_of new))
+    unfolding world_of
     leaves_on command s at = goes_map (IsLater old.book.journal.pages) (Leaves s command) (D.told old.book.world) (D.told new.book.world) (λ t u is l. leaves_from command s at t u is l) goes.4
 
     few_on : (command : Command) → gives_edition command ≡ false → (s : State) → Goes (WritesFew s command (changes_of old)) (D.told (world_of old)) (D.told (world_of new))
@@ -178,8 +178,8 @@ module _ {W : Type 0} {D : disk.Ghosts W} (old new : Session W D) (command other
     (cause : HasStopCause (D.faults old.book.world) (D.faults new.book.world) r)
     (reads : (s : State) → IsAtState old s → IsPromised s command r → ReadsFew s command (reads_in old.book) (reads_in new.book)) where
   -- a command that gives no edition
-  pub applied_going : books.GoesOn old.book new.book → gives_edition command ≡ false → IsApplied command old new r
-  unfolding world_of IsAt reads_of
+  pub applied_going : books.GoesOn old.book new.book → gives_edition command ≡ false → IsAppliedBy IsAtState command old new r
+  unfolding world_of reads_of
   applied_going goes quiet = record {
     answer = answer_of old new command other same r answers;
     refused = refused_keeps old new command other same r answers;
@@ -199,8 +199,8 @@ module _ {W : Type 0} {D : disk.Ghosts W} (old new : Session W D) (command other
   -- and one that may give one
   pub applied_giving : OnOk r (new.book.last.level ≡ old.book.last.level) → D.door new.book.world ≡ D.door old.book.world → WritesPages (D.told old.book.world) (D.told new.book.world)
       → ((s : State) → IsAtState old s → Goes (Leaves s other) (D.told old.book.world) (D.told new.book.world))
-      → ((s : State) → IsAtState old s → Goes (Writing (18 * old.changes + 8)) (D.told old.book.world) (D.told new.book.world)) → IsApplied command old new r
-  unfolding world_of IsAt level_of changes_of reads_of
+      → ((s : State) → IsAtState old s → Goes (Writing (18 * old.changes + 8)) (D.told old.book.world) (D.told new.book.world)) → IsAppliedBy IsAtState command old new r
+  unfolding world_of level_of changes_of reads_of
   applied_giving level door events crash writes = record {
     answer = answer_of old new command other same r answers;
     refused = refused_keeps old new command other same r answers;
@@ -215,4 +215,44 @@ module _ {W : Type 0} {D : disk.Ghosts W} (old new : Session W D) (command other
     crash = λ s at. subst (λ (c : Command). Goes (Leaves s c) (D.told old.book.world) (D.told new.book.world)) same (crash s at);
     writes = λ s at. writing_few (D.told old.book.world) (D.told new.book.world) s command old.changes (writes s at);
     reads = reads;
+  }
+
+-- another last pixel leaves what was promised
+module _ {W : Type 0} {D : disk.Ghosts W} (old new : Session W D) where
+  pub applied_forgets : (w : Option (List ℕ × Pixel)) (command : Command) (r : Result Reply Stop) → IsAppliedBy IsAtState command old new r
+      → IsAppliedBy IsAtState command old (record { book = new.book; catalog = new.catalog; last = new.last; changes = new.changes; warm = w; alloc = new.alloc }) r
+  unfolding world_of level_of changes_of reads_of
+  applied_forgets w command r h = record {
+    answer = if_ok _ _ r (λ reply p s at. let a = p s at in (a.0, warm_at {D = D} new w (after s command) a.1)) h.answer;
+    refused = if_ok _ _ r (λ reply p no_ s at. warm_at {D = D} new w s (p no_ s at)) h.refused;
+    changes = h.changes;
+    level = h.level;
+    later = h.later;
+    device = h.device;
+    damaged = h.damaged;
+    door = h.door;
+    events = h.events;
+    input = h.input;
+    crash = h.crash;
+    writes = h.writes;
+    reads = h.reads;
+  }
+
+  -- and with the pages of the last pixel held, it is what is promised above this crate
+  pub applied_warm : (command : Command) (r : Result Reply Stop) → IsWarm new → IsAppliedBy IsAtState command old new r → IsApplied command old new r
+  unfolding IsAt
+  applied_warm command r warm h = record {
+    answer = if_ok _ _ r (λ reply p s at. let a = p s at.at in (a.0, record { at = a.1; warm = warm })) h.answer;
+    refused = if_ok _ _ r (λ reply p no_ s at. record { at = p no_ s at.at; warm = warm }) h.refused;
+    changes = if_ok _ _ r (λ reply p s at. p s at.at) h.changes;
+    level = h.level;
+    later = h.later;
+    device = h.device;
+    damaged = if_err _ _ r (λ e p page is s at. p page is s at.at) h.damaged;
+    door = h.door;
+    events = h.events;
+    input = h.input;
+    crash = λ s at. h.crash s at.at;
+    writes = λ s at. h.writes s at.at;
+    reads = λ s at. h.reads s at.at;
   }

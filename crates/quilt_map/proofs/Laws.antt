@@ -15,7 +15,8 @@ module _ {W : Type 0} {D : disk.Ghosts W} (session : Session W D) (s : State) wh
   -- the world tells its tale, each image that a stop may leave stands for the last edition, and so does the file as it reads
   pub at_told : IsAt session s → (t : Tale) × (D.told (world_of session) ≡ Some t) × LeavesNow t (λ image. Stands image s.last) × Stands t.seen s.last
   unfolding IsAt world_of
-  at_told at =
+  at_told h =
+      let at = h.at in
       let stands = λ (image : Pages) (has : HasHome session.book.journal.pages (published at.tale session.book.journal.pages) image).
       book_stands session.book at.tale at.told at.ready session.last s.last image at.last has in (
         at.tale,
@@ -27,8 +28,8 @@ module _ {W : Type 0} {D : disk.Ghosts W} (session : Session W D) (s : State) wh
   -- the last edition has the session's format and level
   pub at_format : IsAt session s → s.last.format ≡ format_of session
   unfolding IsAt format_of
-  at_format at = at.last.head.format ∙ sym at.format
+  at_format h = let at = h.at in at.last.head.format ∙ sym at.format
 
   pub at_level : IsAt session s → s.last.level ≡ level_of session
   unfolding IsAt level_of
-  at_level at = at.last.head.level
+  at_level h = let at = h.at in at.last.head.level

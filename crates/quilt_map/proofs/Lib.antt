@@ -41,4 +41,5 @@ pub mod Selects
 pub mod ShownLines
 pub mod TextLaws
 pub mod Uniforms
+pub mod Warming
 pub mod ZeroPage

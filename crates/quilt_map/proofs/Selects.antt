@@ -24,13 +24,16 @@ use Rattle.quilt_map.proofs.Outcomes.{nothing_done}
 
 -- ---- what the definition answers
 abbrev asking : State → Command → List ℕ → Outcome
-asking s command name = unless (unknown s name ∷ unless_lines s name ∷ (not (is_place s.last.level command), no.Outside) ∷ []) s (nothing_done s (selected command (segs_in (layer s name))))
+asking s command name = unless (unknown s name ∷ unless_lines s name ∷ (not (is_place s.last.level command), no.Outside) ∷ []) s
+    (nothing_done s (selected command (segs_in (layer s name))))
 
-nearest_case : (s : State) (o : Option (ℕ × Fraction)) → unless ((is_none o, no.Absent) ∷ []) s (answers.told s (nearest_lines o)) ≡ nothing_done s (nearest_reply o)
+nearest_case : (s : State) (o : Option (ℕ × Fraction)) → unless ((is_none o, no.Absent) ∷ []) s (answers.told s (nearest_lines o)) ≡ nothing_done s
+    (nearest_reply o)
 nearest_case s None = refl
 nearest_case s (Some e) = refl
 
-last_case : (s : State) (b : Bool) (code : Code) (body : List (List ℕ)) → unless ((b, code) ∷ []) s (answers.told s body) ≡ nothing_done s (if b then Refused code else Done body)
+last_case : (s : State) (b : Bool) (code : Code) (body : List (List ℕ)) → unless ((b, code) ∷ []) s (answers.told s body) ≡ nothing_done s
+    (if b then Refused code else Done body)
 last_case s true code body = refl
 last_case s false code body = refl
 
@@ -45,7 +48,8 @@ ask_is s (commands.Nearest l at) name is =
 ask_is s (commands.Rank l at k) name is =
     let same : l ≡ name = cc in
     let segs = segs_in (layer s l) in
-    ap (λ (o : Outcome). unless (unknown s l ∷ unless_lines s l ∷ outside s at ∷ []) s o) (last_case s (finmap.len segs == 0) no.Absent (map ranked_line (ranked segs at k)))
+    ap (λ (o : Outcome). unless (unknown s l ∷ unless_lines s l ∷ outside s at ∷ []) s o)
+    (last_case s (finmap.len segs == 0) no.Absent (map ranked_line (ranked segs at k)))
     ∙ ap (λ (x : List ℕ). asking s (commands.Rank l at k) x) same
 ask_is s command name is = cc
 
@@ -60,7 +64,8 @@ module _ (command : Command) (name : List ℕ) (is : layer_asked command ≡ Som
   pub ask_asks : Asks s command
   ask_asks =
       let e = ask_is s command name is in record {
-        nothing = e ∙ alone_reply s (unknown s name ∷ unless_lines s name ∷ (not (is_place s.last.level command), no.Outside) ∷ []) (selected command (segs_in (layer s name)))
+        nothing = e ∙ alone_reply s (unknown s name ∷ unless_lines s name ∷ (not (is_place s.last.level command), no.Outside) ∷ [])
+            (selected command (segs_in (layer s name)))
             ∙ ap (λ (o : Outcome). nothing_done s o.reply) (sym e);
         forward = ask_forward command name is;
       }
@@ -69,11 +74,13 @@ module _ (command : Command) (name : List ℕ) (is : layer_asked command ≡ Som
   reply_is = ap (λ (o : Outcome). o.reply) (ask_is s command name is)
 
   pub ask_refused : (code : Code) → IsNoLines s name code → (answer s command).reply ≡ Refused code
-  ask_refused code first = reply_is ∙ first ((not (is_place s.last.level command), no.Outside) ∷ []) (nothing_done s (selected command (segs_in (layer s name))))
+  ask_refused code first = reply_is ∙ first ((not (is_place s.last.level command), no.Outside) ∷ [])
+      (nothing_done s (selected command (segs_in (layer s name))))
 
   module _ (threshold : ℕ) (segs : SegMap) (cover : BlockSet) (got : finmap.get s.work name ≡ Some (Lines threshold segs cover)) where
     abbrev ask_with : Option Layer → Bool → Reply
-    ask_with o b = (unless ((is_none o, no.Unknown) ∷ (not (is_lines o), no.Kind) ∷ (not b, no.Outside) ∷ []) s (nothing_done s (selected command (segs_in o)))).reply
+    ask_with o b = (unless ((is_none o, no.Unknown) ∷ (not (is_lines o), no.Kind) ∷ (not b, no.Outside) ∷ []) s
+        (nothing_done s (selected command (segs_in o)))).reply
 
     pub ask_outside : is_place s.last.level command ≡ false → (answer s command).reply ≡ Refused no.Outside
     ask_outside out = reply_is ∙ (λ i. ask_with (got i) (out i))
@@ -84,9 +91,11 @@ module _ (command : Command) (name : List ℕ) (is : layer_asked command ≡ Som
     -- what the answer may cost, by the state
     pub ask_reads : (n : ℕ) (reply : replies.Reply) (before now : Option ℕ) → n ≡ s.last.level
         → (HasFound command segs → IsAnswered reply → StoreTells (λ old new. new ≤ old + pages_for n command segs cover) before now)
-        → HasFound command (segs_in (layer s name)) → IsAnswered reply → StoreTells (λ old new. new ≤ old + pages_for s.last.level command (segs_in (layer s name)) (cover_in (layer s name))) before now
+        → HasFound command (segs_in (layer s name)) → IsAnswered reply → StoreTells
+        (λ old new. new ≤ old + pages_for s.last.level command (segs_in (layer s name)) (cover_in (layer s name))) before now
     ask_reads n reply before now same h =
-        let Costs : ℕ → Option Layer → Type 0 = λ m o. HasFound command (segs_in o) → IsAnswered reply → StoreTells (λ old new. new ≤ old + pages_for m command (segs_in o) (cover_in o)) before now in
+        let Costs : ℕ → Option Layer → Type 0 = λ m o. HasFound command (segs_in o) → IsAnswered reply → StoreTells
+        (λ old new. new ≤ old + pages_for m command (segs_in o) (cover_in o)) before now in
         subst (λ (o : Option Layer). Costs s.last.level o) (sym got) (subst (λ (m : ℕ). Costs m (Some (Lines threshold segs cover))) same h)
 
 -- what is spelled asks for one segment at least
@@ -99,13 +108,15 @@ fits_some f n command fits = tt
 
 -- ---- segments over a region
 module _ (s : State) (l a : List ℕ) where
-  over_is : answer s (commands.Over l a) ≡ unless (unknown s l ∷ unknown s a ∷ unless_lines s l ∷ unless_region s a ∷ []) s (nothing_done s (selected_over s.last.level (grid s a) (segs_in (layer s l))))
+  over_is : answer s (commands.Over l a) ≡ unless (unknown s l ∷ unknown s a ∷ unless_lines s l ∷ unless_region s a ∷ []) s
+      (nothing_done s (selected_over s.last.level (grid s a) (segs_in (layer s l))))
   unfolding answer
   over_is = refl
 
   pub over_asks : Asks s (commands.Over l a)
   over_asks = record {
-    nothing = over_is ∙ alone_reply s (unknown s l ∷ unknown s a ∷ unless_lines s l ∷ unless_region s a ∷ []) (selected_over s.last.level (grid s a) (segs_in (layer s l)))
+    nothing = over_is ∙ alone_reply s (unknown s l ∷ unknown s a ∷ unless_lines s l ∷ unless_region s a ∷ [])
+        (selected_over s.last.level (grid s a) (segs_in (layer s l)))
         ∙ ap (λ (o : Outcome). nothing_done s o.reply) (sym over_is);
     forward = refl;
   }
@@ -113,7 +124,8 @@ module _ (s : State) (l a : List ℕ) where
   pub over_refused : (code : Code) → AreNotLinesAndRegion s l a code → (answer s (commands.Over l a)).reply ≡ Refused code
   over_refused code first = ap (λ (o : Outcome). o.reply) over_is ∙ first [] (nothing_done s (selected_over s.last.level (grid s a) (segs_in (layer s l))))
 
-  module _ (threshold : ℕ) (segs : SegMap) (cover : BlockSet) (g : Grid) (got : finmap.get s.work l ≡ Some (Lines threshold segs cover)) (has : finmap.get s.work a ≡ Some (Region g)) where
+  module _ (threshold : ℕ) (segs : SegMap) (cover : BlockSet) (g : Grid) (got : finmap.get s.work l ≡ Some (Lines threshold segs cover))
+      (has : finmap.get s.work a ≡ Some (Region g)) where
     abbrev over_with : Option Layer → Option Layer → Reply
     over_with o p =
         (unless ((is_none o, no.Unknown) ∷ (is_none p, no.Unknown) ∷ (not (is_lines o), no.Kind) ∷ (not (is_region p), no.Kind) ∷ []) s
@@ -124,15 +136,18 @@ module _ (s : State) (l a : List ℕ) where
 
 -- ---- segments of two layers that share a point
 module _ (s : State) (l m : List ℕ) where
-  crossings_are : answer s (commands.Crossings l m) ≡ unless (unknown s l ∷ unknown s m ∷ unless_lines s l ∷ unless_lines s m ∷ []) s (nothing_done s (crossed (segs_in (layer s l)) (segs_in (layer s m))))
+  crossings_are : answer s (commands.Crossings l m) ≡ unless (unknown s l ∷ unknown s m ∷ unless_lines s l ∷ unless_lines s m ∷ []) s
+      (nothing_done s (crossed (segs_in (layer s l)) (segs_in (layer s m))))
   unfolding answer
   crossings_are =
       let pairs = crossings (segs_in (layer s l)) (segs_in (layer s m)) in
-      ap (λ (o : Outcome). unless (unknown s l ∷ unknown s m ∷ unless_lines s l ∷ unless_lines s m ∷ []) s o) (last_case s (nat_lt 1000000 (length pairs)) no.Many (map pair_line pairs))
+      ap (λ (o : Outcome). unless (unknown s l ∷ unknown s m ∷ unless_lines s l ∷ unless_lines s m ∷ []) s o)
+      (last_case s (nat_lt 1000000 (length pairs)) no.Many (map pair_line pairs))
 
   pub crossings_asks : Asks s (commands.Crossings l m)
   crossings_asks = record {
-    nothing = crossings_are ∙ alone_reply s (unknown s l ∷ unknown s m ∷ unless_lines s l ∷ unless_lines s m ∷ []) (crossed (segs_in (layer s l)) (segs_in (layer s m)))
+    nothing = crossings_are ∙ alone_reply s (unknown s l ∷ unknown s m ∷ unless_lines s l ∷ unless_lines s m ∷ [])
+        (crossed (segs_in (layer s l)) (segs_in (layer s m)))
         ∙ ap (λ (o : Outcome). nothing_done s o.reply) (sym crossings_are);
     forward = refl;
   }
@@ -140,7 +155,8 @@ module _ (s : State) (l m : List ℕ) where
   pub crossings_refused : (code : Code) → AreNotLines s l m code → (answer s (commands.Crossings l m)).reply ≡ Refused code
   crossings_refused code first = ap (λ (o : Outcome). o.reply) crossings_are ∙ first [] (nothing_done s (crossed (segs_in (layer s l)) (segs_in (layer s m))))
 
-  module _ (t u : ℕ) (a b : SegMap) (cover other : BlockSet) (got : finmap.get s.work l ≡ Some (Lines t a cover)) (has : finmap.get s.work m ≡ Some (Lines u b other)) where
+  module _ (t u : ℕ) (a b : SegMap) (cover other : BlockSet) (got : finmap.get s.work l ≡ Some (Lines t a cover))
+      (has : finmap.get s.work m ≡ Some (Lines u b other)) where
     abbrev crossings_with : Option Layer → Option Layer → Reply
     crossings_with o p =
         (unless ((is_none o, no.Unknown) ∷ (is_none p, no.Unknown) ∷ (not (is_lines o), no.Kind) ∷ (not (is_lines p), no.Kind) ∷ []) s

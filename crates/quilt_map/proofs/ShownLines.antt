@@ -57,9 +57,11 @@ any_ok P (Err e) h = tt
 
 -- ---- the view
 -- as many pages are told as the tree may have
-rooted_in : (told : Option (List (List ℕ))) (pages : List (List ℕ)) (size : ℕ) (t : Tree) → told ≡ Some pages → IfSome told (λ ps. length ps ≡ size) → IsRooted size t → IsRooted (length pages) t
+rooted_in : (told : Option (List (List ℕ))) (pages : List (List ℕ)) (size : ℕ) (t : Tree) → told ≡ Some pages → IfSome told (λ ps. length ps ≡ size)
+    → IsRooted size t → IsRooted (length pages) t
 rooted_in told pages size t is many rooted =
-    let long : length pages ≡ size = subst (λ (o : Option (List (List ℕ))). IfSome o (λ ps. length ps ≡ size)) is many in subst (λ (n : ℕ). IsRooted n t) (sym long) rooted
+    let long : length pages ≡ size = subst (λ (o : Option (List (List ℕ))). IfSome o (λ ps. length ps ≡ size)) is many in subst (λ (n : ℕ). IsRooted n t)
+    (sym long) rooted
 
 -- the tree of a header may be one of the file
 rooted_of : (pages : ℕ) (h : Head) → IsHead pages h → IsRooted pages (tree_in h)
@@ -67,7 +69,8 @@ rooted_of pages h numbers = record { height = numbers.height; records = numbers.
 
 module _ {W : Type 0} {D : disk.Ghosts W} where
   -- a view of the layer in the work's tree
-  pub shown : (b : Book W D) (layer : LineLayer) (v : LineView) (h : Head) (t : Tree) → h ≡ b.work → t ≡ tree_in h → v.tree ≡ t → v.layer ≡ layer.number → v.level ≡ h.level
+  pub shown : (b : Book W D) (layer : LineLayer) (v : LineView) (h : Head) (t : Tree) → h ≡ b.work → t ≡ tree_in h → v.tree ≡ t → v.layer ≡ layer.number
+      → v.level ≡ h.level
       → IsHead b.journal.pages h → (segs : SegMap) (cover : BlockSet) → HoldsLines b layer segs cover → Shows b v (record { segs = segs; cover = cover })
   shown b layer v h t same tree is number level numbers segs cover holds =
       let has = lines_as (told_of b) layer segs cover h b.work t same tree holds in
@@ -78,7 +81,9 @@ module _ {W : Type 0} {D : disk.Ghosts W} where
       record {
         threshold = layer.threshold;
         has = there;
-        rooted = rooted_in (told_of b) there.is_tree.pages b.journal.pages v.tree there.is_tree.is_told (told_many b.journal (entries_of b.pool) (D.told b.world)) (subst (λ (x : Tree). IsRooted b.journal.pages x) (sym (is ∙ tree)) (rooted_of b.journal.pages h numbers));
+        rooted = rooted_in (told_of b) there.is_tree.pages b.journal.pages v.tree there.is_tree.is_told
+            (told_many b.journal (entries_of b.pool) (D.told b.world))
+            (subst (λ (x : Tree). IsRooted b.journal.pages x) (sym (is ∙ tree)) (rooted_of b.journal.pages h numbers));
       }
 
 -- ---- the pixel that is asked for
@@ -115,7 +120,8 @@ length_placed (f ∷ fs) e = by_case (comes_first e f) (length_placed fs e)
     by_case true h = refl
     by_case false h = ap (λ (n : ℕ). suc n) h
 
-length_sorted : (p : Pixel) (xs : List (ℕ × Seg)) (es : List (ℕ × Fraction)) → length (fold (λ fs e. placed fs (e.0, square_distance p e.1)) es xs) ≡ length es + length xs
+length_sorted : (p : Pixel) (xs : List (ℕ × Seg)) (es : List (ℕ × Fraction)) → length
+    (fold (λ fs e. placed fs (e.0, square_distance p e.1)) es xs) ≡ length es + length xs
 length_sorted p [] es = omega arith
 length_sorted p (x ∷ xs) es =
     let rest = length_sorted p xs (placed es (x.0, square_distance p x.1)) in
@@ -140,12 +146,14 @@ module _ (segs : SegMap) (p : Pixel) (k : ℕ) where
   pub rank_none : 1 ≤ k → length (ranked segs p k) ≡ 0 → finmap.len segs ≡ 0
   unfolding ranked
   rank_none some none =
-      len-entries segs ∙ sym (length_ranking p (finmap.entries segs)) ∙ take_none k (fold (λ es e. placed es (e.0, square_distance p e.1)) [] (finmap.entries segs)) some none
+      len-entries segs ∙ sym (length_ranking p (finmap.entries segs)) ∙ take_none k
+      (fold (λ es e. placed es (e.0, square_distance p e.1)) [] (finmap.entries segs)) some none
 
   pub none_ranked : finmap.len segs ≡ 0 → length (ranked segs p k) ≡ 0
   unfolding ranked
   none_ranked none =
-      none_taken k (fold (λ es e. placed es (e.0, square_distance p e.1)) [] (finmap.entries segs)) (length_ranking p (finmap.entries segs) ∙ sym (len-entries segs) ∙ none)
+      none_taken k (fold (λ es e. placed es (e.0, square_distance p e.1)) [] (finmap.entries segs))
+      (length_ranking p (finmap.entries segs) ∙ sym (len-entries segs) ∙ none)
 
 same_empty : (m n : ℕ) → (m ≡ 0 → n ≡ 0) → (n ≡ 0 → m ≡ 0) → (m == 0) ≡ (n == 0)
 same_empty zero zero f g = refl
@@ -154,7 +162,8 @@ same_empty (suc m) zero f g = absurd (let e : suc m ≡ 0 = g refl in omega arit
 same_empty (suc m) (suc n) f g = not_equal (suc m) 0 (λ e. omega arith) ∙ sym (not_equal (suc n) 0 (λ e. omega arith))
 
 module _ (command : Command) (segs : SegMap) (l : List ℕ) where
-  pub cross_body : (w : Window) → command ≡ commands.Cross l w → (list items : List (ℕ × Seg)) → list ≡ filter (λ e. meets e.1 w) (finmap.entries segs) → items ≡ list
+  pub cross_body : (w : Window) → command ≡ commands.Cross l w → (list items : List (ℕ × Seg)) → list ≡ filter (λ e. meets e.1 w) (finmap.entries segs)
+      → items ≡ list
       → (t : List ℕ) → t ≡ text_of (Done (map seg_line items)) → IsBodyOf (selected command segs) t
   cross_body w is list items all same t written = record {
     body = map seg_line (filter (λ e. meets e.1 w) (finmap.entries segs));
@@ -162,12 +171,14 @@ module _ (command : Command) (segs : SegMap) (l : List ℕ) where
     written = written ∙ ap (λ (es : List (ℕ × Seg)). text_of (Done (map seg_line es))) (same ∙ all);
   }
 
-  pub clip_body : (w : Window) → command ≡ commands.Clip l w → (list items : List (ℕ × Fraction × Fraction)) → list ≡ clips_of w (finmap.entries segs) → items ≡ list
+  pub clip_body : (w : Window) → command ≡ commands.Clip l w → (list items : List (ℕ × Fraction × Fraction)) → list ≡ clips_of w (finmap.entries segs)
+      → items ≡ list
       → (t : List ℕ) → t ≡ text_of (Done (map clip_line items)) → IsBodyOf (selected command segs) t
   clip_body w is list items all same t written = record {
     body = flat_map (clip_lines w) (finmap.entries segs);
     answered = ap (λ (c : Command). selected c segs) is;
-    written = written ∙ ap (λ (es : List (ℕ × Fraction × Fraction)). text_of (Done (map clip_line es))) (same ∙ all) ∙ ap (λ (ls : List (List ℕ)). text_of (Done ls)) (clip_lines_are w (finmap.entries segs));
+    written = written ∙ ap (λ (es : List (ℕ × Fraction × Fraction)). text_of (Done (map clip_line es))) (same ∙ all) ∙ ap
+        (λ (ls : List (List ℕ)). text_of (Done ls)) (clip_lines_are w (finmap.entries segs));
   }
 
   module _ (p : Pixel) (is : command ≡ commands.Nearest l p) (o : Option (ℕ × Fraction)) (found : o ≡ nearest segs p) where
@@ -182,14 +193,16 @@ module _ (command : Command) (segs : SegMap) (l : List ℕ) where
 
     -- what it may cost
     pub nearest_costs : (n : ℕ) (cover : BlockSet) (before now : Option ℕ) (e : ℕ × Fraction) → o ≡ Some e
-        → IfSome o (λ a. StoreTells (λ old new. new ≤ old + reach n segs cover (is_close p a.1)) before now) → StoreTells (λ old new. new ≤ old + pages_for n command segs cover) before now
+        → IfSome o (λ a. StoreTells (λ old new. new ≤ old + reach n segs cover (is_close p a.1)) before now) → StoreTells
+        (λ old new. new ≤ old + pages_for n command segs cover) before now
     nearest_costs n cover before now e some h =
         let Cost : (Block → Bool) → Type 0 = λ test. StoreTells (λ old new. new ≤ old + reach n segs cover test) before now in
         let one : Cost (is_close p e.1) = subst (λ (x : Option (ℕ × Fraction)). IfSome x (λ a. Cost (is_close p a.1))) some h in
         let near : is_asked command segs ≡ is_near p (Some e) = ap (λ (c : Command). is_asked c segs) is ∙ ap (is_near p) (sym found ∙ some) in
         subst Cost (sym near) one
 
-  module _ (p : Pixel) (k : ℕ) (is : command ≡ commands.Rank l p k) (some : 1 ≤ k) (list items : List (ℕ × Fraction)) (all : list ≡ ranked segs p k) (same : items ≡ list) where
+  module _ (p : Pixel) (k : ℕ) (is : command ≡ commands.Rank l p k) (some : 1 ≤ k) (list items : List (ℕ × Fraction)) (all : list ≡ ranked segs p k)
+      (same : items ≡ list) where
     empty_is : (length items == 0) ≡ (finmap.len segs == 0)
     empty_is =
         let long : length items ≡ length (ranked segs p k) = ap length (same ∙ all) in
@@ -203,7 +216,8 @@ module _ (command : Command) (segs : SegMap) (l : List ℕ) where
     pub rank_absent : (b : Bool) → b ≡ (length items == 0) → b ≡ true → selected command segs ≡ Refused no.Absent
     rank_absent b test is_so = rank_is true (sym test ∙ is_so)
 
-    pub rank_body : (b : Bool) → b ≡ (length items == 0) → b ≡ false → (told : List (ℕ × Fraction)) → told ≡ list → (t : List ℕ) → t ≡ text_of (Done (map ranked_line told)) → IsBodyOf (selected command segs) t
+    pub rank_body : (b : Bool) → b ≡ (length items == 0) → b ≡ false → (told : List (ℕ × Fraction)) → told ≡ list → (t : List ℕ) → t ≡ text_of
+        (Done (map ranked_line told)) → IsBodyOf (selected command segs) t
     rank_body b test off told tells t written = record {
       body = map ranked_line (ranked segs p k);
       answered = rank_is false (sym test ∙ off);
@@ -212,8 +226,10 @@ module _ (command : Command) (segs : SegMap) (l : List ℕ) where
 
 -- what a window may cost
 pub window_costs : (command : Command) (segs : SegMap) (cover : BlockSet) (n : ℕ) (w : Window) (before now : Option ℕ) → is_asked command segs ≡ is_touching w
-    → StoreTells (λ old new. new ≤ old + reach n segs cover (is_touching w)) before now → StoreTells (λ old new. new ≤ old + pages_for n command segs cover) before now
-window_costs command segs cover n w before now is h = subst (λ (test : Block → Bool). StoreTells (λ old new. new ≤ old + reach n segs cover test) before now) (sym is) h
+    → StoreTells (λ old new. new ≤ old + reach n segs cover (is_touching w)) before now → StoreTells
+    (λ old new. new ≤ old + pages_for n command segs cover) before now
+window_costs command segs cover n w before now is h = subst
+    (λ (test : Block → Bool). StoreTells (λ old new. new ≤ old + reach n segs cover test) before now) (sym is) h
 
 -- the ids over a region
 pub over_body : (n : ℕ) (g : Grid) (segs : SegMap) (list items : List (ℕ × Seg)) → list ≡ filter (λ e. is_over n g e.1) (finmap.entries segs) → items ≡ list
@@ -226,7 +242,8 @@ over_body n g segs list items all same t written = record {
 
 -- the cost at the view's level
 pub costs_at : (command : Command) (segs : SegMap) (cover : BlockSet) (m n : ℕ) (before now : Option ℕ) → m ≡ n
-    → StoreTells (λ old new. new ≤ old + pages_for m command segs cover) before now → StoreTells (λ old new. new ≤ old + pages_for n command segs cover) before now
+    → StoreTells (λ old new. new ≤ old + pages_for m command segs cover) before now → StoreTells
+    (λ old new. new ≤ old + pages_for n command segs cover) before now
 costs_at command segs cover m n before now same h = subst (λ (k : ℕ). StoreTells (λ old new. new ≤ old + pages_for k command segs cover) before now) same h
 
 -- ---- ids that rise
@@ -243,6 +260,8 @@ pub rising_ids : (ids : List ℕ) → Rises nat_cmp ids → IsStrictlyIncreasing
 rising_ids ids h = IsStrictlyIncreasing-from_sorted ids (sorted_ids ids h)
 
 -- segments of the square, by other names of the list and the level
-pub ends_at : (list items : List (ℕ × Seg)) (m n : ℕ) → items ≡ list → n ≡ m → All (λ e. is_in_square m e.1 ≡ true) list → All (λ e. is_in_square n e.1 ≡ true) items
+pub ends_at : (list items : List (ℕ × Seg)) (m n : ℕ) → items ≡ list → n ≡ m → All (λ e. is_in_square m e.1 ≡ true) list → All
+    (λ e. is_in_square n e.1 ≡ true) items
 ends_at list items m n same level h =
-    subst (λ (es : List (ℕ × Seg)). All (λ e. is_in_square n e.1 ≡ true) es) (sym same) (subst (λ (k : ℕ). All (λ e. is_in_square k e.1 ≡ true) list) (sym level) h)
+    subst (λ (es : List (ℕ × Seg)). All (λ e. is_in_square n e.1 ≡ true) es) (sym same)
+    (subst (λ (k : ℕ). All (λ e. is_in_square k e.1 ≡ true) list) (sym level) h)

@@ -8,9 +8,7 @@ use Rattle.quilt_types.specs.declared.plane.Pixel.{Pixel}
 use Rattle.quilt_types.specs.Layers.{Layer, Region, Map, Grid}
 use Rattle.quilt_world.specs.declared.disk.Disk as disk
 use Rattle.quilt_record.specs.Records.{Numbering}
-use Rattle.quilt_node.specs.declared.head.Head.{Head}
-use Rattle.quilt_btree.specs.Floors.{floor_pages}
-use Rattle.quilt_region.specs.Regions.{pixel_key}
+use Rattle.quilt_store.specs.Store.{Tells as StoreTells}
 use Rattle.quilt_spell.specs.Catalogued.{kind_of}
 use Rattle.quilt_spell.specs.Written.{number_of}
 use Rattle.quilt_pool.specs.Views.{entries_of}
@@ -65,10 +63,6 @@ module _ {W : Type 0} {D : disk.Ghosts W} where
     pub last : new.last ≡ old.last
     pub changes : new.changes ≡ old.changes
 
--- the pages that are read for the colour of a pixel of the layer with this number, in the tree of this header
-abbrev pub pages_asked : ℕ → Pixel → Head → List (List ℕ) → List ℕ
-pages_asked number at h pages = floor_pages pages (pixel_key number at) h.height h.root
-
 module _ {W : Type 0} {D : disk.Ghosts W} where
   -- how often the disk was read, and the pages that are held, the last used first
   abbrev pub reads_in : Book W D → Option ℕ
@@ -76,3 +70,7 @@ module _ {W : Type 0} {D : disk.Ghosts W} where
 
   abbrev pub held_of : Book W D → Option (List ℕ)
   held_of b = Some (keys_of (entries_of b.pool))
+
+  -- the disk is not read
+  abbrev pub ReadsNothing : Book W D → Book W D → Type 0
+  ReadsNothing old new = StoreTells (λ before now. now ≤ before) (reads_in old) (reads_in new)

@@ -22,18 +22,22 @@ module _ {W : Type 0} {D : disk.Ghosts W} where
     pub at : IsAtState new (after s command)
     pub count : new.changes ≡ changes_after s command old.changes
 
-  -- all that is promised of the answer to a command
-  pub record IsApplied (command : Command) (old new : Session W D) (r : Result Reply Stop) : Type 0 where
-    pub answer : IfOk r (λ reply. (s : State) → IsAt old s → Tells reply (answer s command).reply × IsAt new (after s command))
-    pub refused : IfOk r (λ reply. IsRefusal reply → (s : State) → IsAt old s → IsAt new s)
-    pub changes : IfOk r (λ reply. (s : State) → IsAt old s → changes_of new ≡ changes_after s command (changes_of old))
+  -- all that is promised of the answer to a command, where this relation says what a session stands for
+  pub record IsAppliedBy (At : Session W D → State → Type 0) (command : Command) (old new : Session W D) (r : Result Reply Stop) : Type 0 where
+    pub answer : IfOk r (λ reply. (s : State) → At old s → Tells reply (answer s command).reply × At new (after s command))
+    pub refused : IfOk r (λ reply. IsRefusal reply → (s : State) → At old s → At new s)
+    pub changes : IfOk r (λ reply. (s : State) → At old s → changes_of new ≡ changes_after s command (changes_of old))
     pub level : OnOk r (level_of new ≡ level_of old)
     pub later : D.faults (world_of old) ≤ D.faults (world_of new)
     pub device : IfErr r (λ stop. stop ≡ stops.Device → Rose (D.faults (world_of old)) (D.faults (world_of new)))
-    pub damaged : IfErr r (λ stop. (page : ℕ) → stop ≡ stops.Damaged page → (s : State) → IsAt old s → ⊥)
+    pub damaged : IfErr r (λ stop. (page : ℕ) → stop ≡ stops.Damaged page → (s : State) → At old s → ⊥)
     pub door : D.door (world_of new) ≡ D.door (world_of old)
     pub events : Goes (AddsOnly is_of_pages) (D.told (world_of old)) (D.told (world_of new))
     pub input : Goes (λ before now. now.input ≡ before.input) (D.told (world_of old)) (D.told (world_of new))
-    pub crash : (s : State) → IsAt old s → Goes (Leaves s command) (D.told (world_of old)) (D.told (world_of new))
-    pub writes : (s : State) → IsAt old s → Goes (WritesFew s command (changes_of old)) (D.told (world_of old)) (D.told (world_of new))
-    pub reads : (s : State) → IsAt old s → IsPromised s command r → ReadsFew s command (reads_of old) (reads_of new)
+    pub crash : (s : State) → At old s → Goes (Leaves s command) (D.told (world_of old)) (D.told (world_of new))
+    pub writes : (s : State) → At old s → Goes (WritesFew s command (changes_of old)) (D.told (world_of old)) (D.told (world_of new))
+    pub reads : (s : State) → At old s → IsPromised s command r → ReadsFew s command (reads_of old) (reads_of new)
+
+  -- the same of what a session stands for above this crate
+  abbrev pub IsApplied : Command → Session W D → Session W D → Result Reply Stop → Type 0
+  IsApplied command old new r = IsAppliedBy IsAt command old new r

@@ -1,11 +1,13 @@
 -- How many pages the answer to a command may cost.
-use Rattle.std.specs.Prelude.{◌≡◌, ℕ, ◌+◌, ◌≤◌, ◌==◌, Bool, true, false, Option, Result, Ok, Err, if◌then◌else◌}
+use Rattle.std.specs.Prelude.{◌≡◌, ℕ, ◌+◌, ◌≤◌, ◌==◌, Bool, true, false, List, Option, None, Result, Ok, Err, if◌then◌else◌}
+use Rattle.quilt_types.specs.declared.plane.Pixel.{Pixel}
 use Rattle.quilt_types.specs.declared.stop.Stop.{Stop}
 use Rattle.quilt_words.specs.declared.command.Command.{Command}
 use Rattle.quilt_words.specs.declared.command.Command.TheVariants as commands
 use Rattle.quilt_store.specs.Store.{Tells as StoreTells}
 use Rattle.quilt_replies.specs.Answers.{State, layer, capacity_in, segs_in, cover_in}
 use Rattle.quilt_replies.specs.declared.reply.Reply.{Reply}
+use Rattle.quilt_map.specs.Asking.{warm_after}
 use Rattle.quilt_map.specs.Selecting.{HasFound, IsAnswered, pages_for}
 
 -- the commands that have a bound on the pages that they read
@@ -46,3 +48,13 @@ pages_most s command = 0
 -- it reads no more pages than that
 abbrev pub ReadsFew : State → Command → Option ℕ → Option ℕ → Type 0
 ReadsFew s command = StoreTells (λ before now. now ≤ before + pages_most s command)
+
+-- the layer and the pixel that the command asked for, where it is an `at` that was answered
+abbrev pub warm_left : Command → Result Reply Stop → Option (List ℕ × Pixel)
+warm_left (commands.At a p) r = warm_after r a p
+warm_left command r = None
+
+-- it asks for the colour of a pixel
+abbrev pub is_at : Command → Bool
+is_at (commands.At a p) = true
+is_at command = false

@@ -1,8 +1,10 @@
 -- What contracts see of a session.
 use Rattle.std.specs.Prelude.{◌≡◌, ◌⊎◌, ℕ, ◌-◌, ◌*◌, ◌^◌, ◌≤◌, Bool, List, Option, Some, map, All, nat_eq}
 use Rattle.std.specs.List.{IsDistinct}
+use Rattle.std.specs.Map.{keys_of}
 use Rattle.quilt_types.specs.declared.plane.Kind.{Kind}
 use Rattle.quilt_types.specs.declared.plane.Kind.TheVariants as kinds
+use Rattle.quilt_types.specs.declared.plane.Pixel.{Pixel}
 use Rattle.quilt_types.specs.Facts.{quota}
 use Rattle.quilt_types.specs.Layers.{Map, Edition}
 use Rattle.quilt_world.specs.Disk.{Pages}
@@ -15,6 +17,10 @@ use Rattle.quilt_record.specs.Records.{Numbering}
 use Rattle.quilt_node.specs.declared.head.Head.{Head}
 use Rattle.quilt_btree.specs.declared.tree.Tree.{Tree}
 use Rattle.quilt_btree.specs.Edits.{IsWhole}
+use Rattle.quilt_btree.specs.Floors.{floor_pages, AreAmongFirst}
+use Rattle.quilt_btree.specs.Trees.{IsTree}
+use Rattle.quilt_region.specs.Regions.{pixel_key}
+use Rattle.quilt_spell.specs.Written.{number_of}
 use Rattle.quilt_spell.specs.Spelled.{SpellsUnder}
 use Rattle.quilt_spell.specs.Catalogued.{IsCatalogOf}
 use Rattle.quilt_edition.specs.declared.book.Book.{Book}
@@ -53,6 +59,15 @@ pub record IsHeadOf (h : Head) (e : Edition) : Type 0 where
   pub format : e.format ≡ h.format
   pub number : e.number ≡ h.edition
   pub level : e.level ≡ h.level
+
+-- the pages that are read for the colour of a pixel of the layer with this number, in the tree of this header
+abbrev pub pages_asked : ℕ → Pixel → Head → List (List ℕ) → List ℕ
+pages_asked number at h pages = floor_pages pages (pixel_key number at) h.height h.root
+
+-- The pages that are read for the colour of the pixel that was asked for last are among the first of these.
+pub record IsHeldWarm (warm : Option (List ℕ × Pixel)) (entries : List Entry) (told : Option Pages) (h : Head) (held : List ℕ) : Type 0 where
+  pub are_first : (w : List ℕ × Pixel) → warm ≡ Some w → (layers : Map) (numbers : Numbering) → IsCatalogOf layers numbers entries → (rs : List Record)
+      → IsTree told (tree_in h) rs → (pages : Pages) → told ≡ Some pages → AreAmongFirst (pages_asked (number_of numbers w.0) w.1 h pages) held
 
 -- the last value of a count of changes
 abbrev pub last_count : ℕ
@@ -111,6 +126,10 @@ module _ {W : Type 0} {D : disk.Ghosts W} where
   unfoldable pub reads_of : Session W D → Option ℕ
   reads_of s = disk_reads (D.told s.book.world)
 
+  -- the layer and the pixel that were asked for last, where they were answered
+  unfoldable pub warm_of : Session W D → Option (List ℕ × Pixel)
+  warm_of s = s.warm
+
   -- The work's tree spells the work with this catalog, and the published pages hold the last edition. As many pages at most are
   -- changed as the count of changes allows.
   pub record IsAtWith (session : Session W D) (entries : List Entry) (s : State) : Type 0 where
@@ -132,6 +151,16 @@ module _ {W : Type 0} {D : disk.Ghosts W} where
   abbrev pub IsAtState : Session W D → State → Type 0
   IsAtState session s = IsAtWith session session.catalog s
 
-  -- The session stands for this state: its work, its last edition and its quota. Above this crate nothing else is known of a session.
+  -- the pages of the last pixel are among the first that are held
+  abbrev pub IsWarm : Session W D → Type 0
+  IsWarm session = IsHeldWarm session.warm session.catalog (told_of session.book) session.book.work (keys_of (entries_of session.book.pool))
+
+  -- the session stands for the state, and holds the pages of its last pixel
+  pub record IsAtWarm (session : Session W D) (s : State) : Type 0 where
+    pub at : IsAtState session s
+    pub warm : IsWarm session
+
+  -- The session stands for this state: its work, its last edition and its quota, and it holds the pages of its last pixel. Above this
+  -- crate nothing else is known of a session.
   unfoldable pub IsAt : Session W D → State → Type 0
-  IsAt session s = IsAtState session s
+  IsAt session s = IsAtWarm session s

@@ -1,4 +1,4 @@
-ghost use Rattle.std.specs.Prelude.{◌≡◌, ℕ, ◌+◌, ◌≤◌, IfOk, IfErr, OnOk};
+ghost use Rattle.std.specs.Prelude.{◌≡◌, ℕ, ◌+◌, ◌≤◌, Some, IfOk, IfErr, OnOk};
 ghost use Rattle.quilt_types.specs.declared.stop.Stop.TheVariants as stops;
 ghost use Rattle.quilt_types.specs.Plane.{is_pixel, is_window};
 ghost use Rattle.quilt_words.specs.declared.command.Command.TheVariants as commands;
@@ -6,9 +6,9 @@ ghost use Rattle.quilt_store.specs.Store.{Tells as StoreTells};
 ghost use Rattle.quilt_btree.specs.Stops.{HasStopCause, IsSound};
 ghost use Rattle.quilt_edition.specs.Books as books;
 ghost use Rattle.quilt_replies.specs.Answers.{State};
-ghost use Rattle.quilt_map.specs.Asking.{HasText, KeepsAll, warm_after, reads_in};
+ghost use Rattle.quilt_map.specs.Asking.{HasText, KeepsAll, warm_after, reads_in, ReadsNothing};
 ghost use Rattle.quilt_map.specs.Commanding.{Answered};
-ghost use Rattle.quilt_map.specs.Sessions.{IsAtState};
+ghost use Rattle.quilt_map.specs.Sessions.{IsAtState, IsWarm};
 
 use crate::regions::{read_colour, read_region, region_number};
 use crate::session::Session;
@@ -86,7 +86,9 @@ impl<W: World> Session<W> {
         ensures cause { HasStopCause (W.faults (books.world_of self.old.book)) (W.faults (books.world_of self.new.book)) result }
         ensures keeps { KeepsAll self.old self.new }
         ensures warm { self.new.warm ≡ warm_after result name.now at }
+        ensures held { IsWarm self.new }
         ensures reads { StoreTells (λ old new. new ≤ old + 6) (reads_in self.old.book) (reads_in self.new.book) }
+        ensures again { (s : State) → IsAtState self.old s → IsWarm self.old → self.old.warm ≡ Some (name.now, at) → ReadsNothing self.old.book self.new.book }
     {
         self.warm = None;
         match region_number(self.catalog.entries(), name) {

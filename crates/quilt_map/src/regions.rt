@@ -14,8 +14,8 @@ ghost use Rattle.quilt_region.specs.Plans.{LeadsTo};
 ghost use Rattle.quilt_spell.specs.Catalogued.{IsCatalogOf};
 ghost use Rattle.quilt_edition.specs.Books.{world_of, last_of, work_of};
 ghost use Rattle.quilt_replies.specs.Answers.{State};
-ghost use Rattle.quilt_map.specs.Asking.{IsLayerUnder, IsRegionAt, IsRefusedFirst, IsStill, pages_asked, reads_in, held_of};
-ghost use Rattle.quilt_map.specs.Sessions.{told_of, tree_in};
+ghost use Rattle.quilt_map.specs.Asking.{IsLayerUnder, IsRegionAt, IsRefusedFirst, IsStill, reads_in, held_of};
+ghost use Rattle.quilt_map.specs.Sessions.{told_of, tree_in, pages_asked};
 
 use crate::changing::DAMAGED;
 use crate::entries::index_of;

@@ -41,9 +41,12 @@ fn has_place(level: u8, command: &Command) -> bool
 
 /// The line layer and the number of the region layer with these names, or why they are not both there.
 fn lines_and_region(entries: &[Entry], l: &Name, a: &Name) -> Result<(LineLayer, u8), Code>
-    ensures lines { IfOk result (λ found. (layers : Map) (numbers : Numbering) → IsCatalogOf layers numbers entries.now → IsLinesAt layers numbers l.now found.0) }
-    ensures region { IfOk result (λ found. (layers : Map) (numbers : Numbering) → IsCatalogOf layers numbers entries.now → IsRegionAt layers numbers a.now found.1) }
-    ensures refused { IfErr result (λ code. (s : State) (numbers : Numbering) → IsCatalogOf s.work numbers entries.now → AreNotLinesAndRegion s l.now a.now code) }
+    ensures lines { IfOk result (λ found. (layers : Map) (numbers : Numbering) → IsCatalogOf layers numbers entries.now →
+        IsLinesAt layers numbers l.now found.0) }
+    ensures region { IfOk result (λ found. (layers : Map) (numbers : Numbering) → IsCatalogOf layers numbers entries.now →
+        IsRegionAt layers numbers a.now found.1) }
+    ensures refused { IfErr result (λ code. (s : State) (numbers : Numbering) → IsCatalogOf s.work numbers entries.now →
+        AreNotLinesAndRegion s l.now a.now code) }
 {
     let Some((first, one)) = layer_under(entries, l) else {
         return Err(Code::Unknown);
@@ -68,8 +71,10 @@ fn lines_and_region(entries: &[Entry], l: &Name, a: &Name) -> Result<(LineLayer,
 
 /// The line layers with these names, or why they are not both there.
 fn both_lines(entries: &[Entry], l: &Name, m: &Name) -> Result<(LineLayer, LineLayer), Code>
-    ensures first { IfOk result (λ found. (layers : Map) (numbers : Numbering) → IsCatalogOf layers numbers entries.now → IsLinesAt layers numbers l.now found.0) }
-    ensures second { IfOk result (λ found. (layers : Map) (numbers : Numbering) → IsCatalogOf layers numbers entries.now → IsLinesAt layers numbers m.now found.1) }
+    ensures first { IfOk result (λ found. (layers : Map) (numbers : Numbering) → IsCatalogOf layers numbers entries.now →
+        IsLinesAt layers numbers l.now found.0) }
+    ensures second { IfOk result (λ found. (layers : Map) (numbers : Numbering) → IsCatalogOf layers numbers entries.now →
+        IsLinesAt layers numbers m.now found.1) }
     ensures refused { IfErr result (λ code. (s : State) (numbers : Numbering) → IsCatalogOf s.work numbers entries.now → AreNotLines s l.now m.now code) }
 {
     let Some((first, one)) = layer_under(entries, l) else {
@@ -107,7 +112,8 @@ impl<W: World> Session<W> {
         ensures keeps { KeepsAll self.old self.new }
         ensures warm { self.new.warm ≡ self.old.warm }
         ensures reads { IfOk result (λ reply. (s : State) → IsAtState self.old s → HasFound command.now (segs_in (layer_of s name.now)) → IsAnswered reply →
-            StoreTells (λ old new. new ≤ old + pages_for s.last.level command.now (segs_in (layer_of s name.now)) (cover_in (layer_of s name.now))) (reads_in self.old.book) (reads_in self.new.book)) }
+            StoreTells (λ old new. new ≤ old + pages_for s.last.level command.now (segs_in (layer_of s name.now)) (cover_in (layer_of s name.now)))
+            (reads_in self.old.book) (reads_in self.new.book)) }
     {
         match line_number(self.catalog.entries(), name) {
             Err(code) => Ok(Reply::No(code)),

@@ -1,12 +1,15 @@
-ghost use Rattle.std.specs.Prelude.{◌≡◌, ℕ, ◌≤◌, false, IfOk, IfErr, OnErr};
+ghost use Rattle.std.specs.Prelude.{◌≡◌, ℕ, ◌≤◌, false, List, Some, IfOk, IfErr, OnErr};
 ghost use Rattle.quilt_types.specs.declared.stop.Stop.TheVariants as stops;
+ghost use Rattle.quilt_types.specs.declared.plane.Pixel.{Pixel};
 ghost use Rattle.quilt_words.specs.Forms.{Spelled};
+ghost use Rattle.quilt_words.specs.declared.command.Command.TheVariants as commands;
 ghost use Rattle.quilt_btree.specs.Stops.{HasStopCause, IsSound};
 ghost use Rattle.quilt_edition.specs.Books as books;
 ghost use Rattle.quilt_replies.specs.Answers.{State};
-ghost use Rattle.quilt_map.specs.Commanding.{Answered, IsApplied};
-ghost use Rattle.quilt_map.specs.Reading.{is_bounded};
-ghost use Rattle.quilt_map.specs.Sessions.{IsAtState};
+ghost use Rattle.quilt_map.specs.Asking.{ReadsNothing};
+ghost use Rattle.quilt_map.specs.Commanding.{Answered, IsApplied, IsAppliedBy};
+ghost use Rattle.quilt_map.specs.Reading.{is_bounded, is_at, warm_left};
+ghost use Rattle.quilt_map.specs.Sessions.{IsAt, IsAtState, warm_of};
 ghost use Rattle.quilt_map.specs.Steps.{gives_edition, goes_back};
 
 use crate::session::Session;
@@ -19,21 +22,44 @@ use quilt_world::World;
 use std::thread::Threads;
 
 impl<W: World> Session<W> {
-    /// The reply to a command, from the call that it is for.
-    pub(crate) fn dispatch<R: Threads + Sync, G: Gate + Sync>(
+    /// The reply to a command. The layer and the pixel of an `at` are kept where it was answered, and forgotten behind all else.
+    pub(crate) fn answer<R: Threads + Sync, G: Gate + Sync>(
         &mut self,
         rt: &R,
         gate: &G,
         command: &Command,
     ) -> Result<Reply, Stop>
         requires { Spelled (books.work_of self.old.book).format (books.last_of self.old.book).level command.now }
-        ensures { IsApplied command.now self.old self.new result }
+        ensures applied { IsApplied command.now self.old self.new result }
+        ensures warm { self.new.warm ≡ warm_left command.now result }
+        ensures again { (s : State) → IsAt self.old s → (name : List ℕ) (p : Pixel) → command.now ≡ commands.At name p → warm_of self.old ≡ Some (name, p) → ReadsNothing self.old.book self.new.book }
+    {
+        match command {
+            Command::At { a, at } => self.at(a, *at),
+            _ => {
+                let reply = self.dispatch(rt, gate, command);
+                self.warm = None;
+                reply
+            }
+        }
+    }
+
+    /// The reply to a command that is no `at`, from the call that it is for.
+    pub(crate) fn dispatch<R: Threads + Sync, G: Gate + Sync>(
+        &mut self,
+        rt: &R,
+        gate: &G,
+        command: &Command,
+    ) -> Result<Reply, Stop>
+        requires spelled { Spelled (books.work_of self.old.book).format (books.last_of self.old.book).level command.now }
+        requires other { is_at command.now ≡ false }
+        ensures { IsAppliedBy IsAtState command.now self.old self.new result }
     {
         match command {
             Command::Publish => self.publish(),
             Command::Upgrade => self.upgrade(),
             Command::Revert => self.revert(),
-            Command::At { a, at } => self.at(a, *at),
+            Command::At { .. } => unreachable!(),
             Command::Find { p, at } => self.find_point(p, *at),
             Command::Cross { l, .. } => self.ask_lines(command, l),
             Command::Clip { l, .. } => self.ask_lines(command, l),

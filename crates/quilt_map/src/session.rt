@@ -1,6 +1,9 @@
-ghost use Rattle.std.specs.Prelude.{◌≡◌, ◌⊎◌, ℕ, ◌<◌, ◌≤◌, [], ◌∷◌, Some, None, take, length, IfOk, IfErr, OnErr, OnOk};
+ghost use Rattle.std.specs.Prelude.{◌≡◌, ◌⊎◌, ℕ, ◌<◌, ◌≤◌, [], ◌∷◌, List, Some, None, take, length, IfOk, IfErr, OnErr, OnOk};
 ghost use Rattle.quilt_types.specs.Facts.{records};
+ghost use Rattle.quilt_types.specs.declared.plane.Pixel.{Pixel as AnyPixel};
 ghost use Rattle.quilt_types.specs.Layers.{Edition};
+ghost use Rattle.quilt_store.specs.Store.{Tells as StoreTells};
+ghost use Rattle.quilt_words.specs.declared.command.Command.TheVariants as commands;
 ghost use Rattle.quilt_types.specs.declared.stop.Stop.TheVariants as stops;
 ghost use Rattle.quilt_world.specs.Added.{AddsOnly, is_of_pages};
 ghost use Rattle.quilt_world.specs.Tale.{Tale, Adds, Goes};
@@ -13,7 +16,7 @@ ghost use Rattle.quilt_edition.specs.Books as books;
 ghost use Rattle.quilt_replies.specs.Answers.{State, answer};
 ghost use Rattle.quilt_map.specs.Sessions.{IsNumbered, IsOpened, changed_of, free_of, first_state};
 ghost use Rattle.quilt_replies.specs.States.{Tells, IsRefusal, after};
-ghost use Rattle.quilt_map.specs.Reading.{IsPromised, ReadsFew};
+ghost use Rattle.quilt_map.specs.Reading.{IsPromised, ReadsFew, warm_left};
 ghost use Rattle.quilt_map.specs.Steps.{Leaves, WritesFew, changes_after};
 
 use crate::entries::copy_of;
@@ -40,10 +43,10 @@ pub struct Session<W: Disk> {
 }
 
 impl<W: World> Session<W> {
-    ghost use Rattle.quilt_map.specs.Sessions.{world_of, format_of, level_of, changes_of, reads_of, IsAt};
+    ghost use Rattle.quilt_map.specs.Sessions.{world_of, format_of, level_of, changes_of, reads_of, warm_of, IsAt};
 
     /// The session over a book that was just opened, with the catalog that was found in it. Nothing is changed yet. It takes no memory.
-    #[tactic(auto, unfolding(crate::specs::Sessions::world_of, crate::specs::Sessions::format_of, crate::specs::Sessions::level_of, crate::specs::Sessions::changes_of, crate::specs::Sessions::IsAt))]
+    #[tactic(auto, unfolding(crate::specs::Sessions::world_of, crate::specs::Sessions::format_of, crate::specs::Sessions::level_of, crate::specs::Sessions::changes_of, crate::specs::Sessions::reads_of, crate::specs::Sessions::warm_of, crate::specs::Sessions::IsAt))]
     pub fn new(alloc: Global, book: Book<W>, catalog: Catalog) -> Session<W>
         requires ready { books.IsReady book }
         requires numbered { IsNumbered catalog }
@@ -53,6 +56,7 @@ impl<W: World> Session<W> {
         ensures world { world_of result ≡ books.world_of book }
         ensures level { level_of result ≡ (books.last_of book).level }
         ensures changes { changes_of result ≡ 0 }
+        ensures warm { warm_of result ≡ None }
         ensures at { (e : Edition) → IsOpened book catalog e → IsAt result (first_state (books.pages_of book) e) }
     {
         let last = copy_of(&catalog);
@@ -67,7 +71,7 @@ impl<W: World> Session<W> {
     }
 
     /// The reply to a command, and the work that it leaves. A refused command changes nothing. After an Err the session is only given up.
-    #[tactic(auto, unfolding(crate::specs::Sessions::world_of, crate::specs::Sessions::format_of, crate::specs::Sessions::level_of, crate::specs::Sessions::changes_of, crate::specs::Sessions::IsAt))]
+    #[tactic(auto, unfolding(crate::specs::Sessions::world_of, crate::specs::Sessions::format_of, crate::specs::Sessions::level_of, crate::specs::Sessions::changes_of, crate::specs::Sessions::reads_of, crate::specs::Sessions::warm_of, crate::specs::Sessions::IsAt))]
     pub fn apply<R: Threads + Sync, G: Gate + Sync>(
         &mut self,
         rt: &R,
@@ -90,12 +94,17 @@ impl<W: World> Session<W> {
         ensures crash { (s : State) → IsAt self.old s → Goes (Leaves s command.now) (W.told (world_of self.old)) (W.told (world_of self.new)) }
         ensures writes { (s : State) → IsAt self.old s → Goes (WritesFew s command.now (changes_of self.old)) (W.told (world_of self.old)) (W.told (world_of self.new)) }
         ensures reads { (s : State) → IsAt self.old s → IsPromised s command.now result → ReadsFew s command.now (reads_of self.old) (reads_of self.new) }
+        ensures warm { warm_of self.new ≡ warm_left command.now result }
+
+        // An `at` of the layer and the pixel that `warm` tells reads no page.
+        ensures again { (s : State) → IsAt self.old s → (name : List ℕ) (p : AnyPixel) → command.now ≡ commands.At name p → warm_of self.old ≡ Some (name, p) →
+            StoreTells (λ before now. now ≤ before) (reads_of self.old) (reads_of self.new) }
     {
-        self.dispatch(rt, gate, command)
+        self.answer(rt, gate, command)
     }
 
     /// The next bytes of the input, as the world takes them. 0 says that it has ended.
-    #[tactic(auto, unfolding(crate::specs::Sessions::world_of, crate::specs::Sessions::format_of, crate::specs::Sessions::level_of, crate::specs::Sessions::changes_of, crate::specs::Sessions::IsAt))]
+    #[tactic(auto, unfolding(crate::specs::Sessions::world_of, crate::specs::Sessions::format_of, crate::specs::Sessions::level_of, crate::specs::Sessions::changes_of, crate::specs::Sessions::reads_of, crate::specs::Sessions::warm_of, crate::specs::Sessions::IsAt))]
     pub fn take(&mut self, into: &mut [u8]) -> Result<usize, Fault>
         requires open { (W.door (world_of self.old) ≡ doors.Ready) ⊎ (W.door (world_of self.old) ≡ doors.Made) }
         requires room { 0 < length into.old }
@@ -107,13 +116,14 @@ impl<W: World> Session<W> {
         ensures format { format_of self.new ≡ format_of self.old }
         ensures level { level_of self.new ≡ level_of self.old }
         ensures changes { changes_of self.new ≡ changes_of self.old }
+        ensures warm { warm_of self.new ≡ warm_of self.old }
         ensures at { (s : State) → IsAt self.old s → IsAt self.new s }
     {
         self.book.take(into)
     }
 
     /// Puts a front of the bytes to the output, as the world puts them.
-    #[tactic(auto, unfolding(crate::specs::Sessions::world_of, crate::specs::Sessions::format_of, crate::specs::Sessions::level_of, crate::specs::Sessions::changes_of, crate::specs::Sessions::IsAt))]
+    #[tactic(auto, unfolding(crate::specs::Sessions::world_of, crate::specs::Sessions::format_of, crate::specs::Sessions::level_of, crate::specs::Sessions::changes_of, crate::specs::Sessions::reads_of, crate::specs::Sessions::warm_of, crate::specs::Sessions::IsAt))]
     pub fn put(&mut self, bytes: &[u8]) -> Result<usize, Fault>
         requires open { (W.door (world_of self.old) ≡ doors.Ready) ⊎ (W.door (world_of self.old) ≡ doors.Made) }
         requires some { 0 < length bytes.now }
@@ -125,13 +135,14 @@ impl<W: World> Session<W> {
         ensures format { format_of self.new ≡ format_of self.old }
         ensures level { level_of self.new ≡ level_of self.old }
         ensures changes { changes_of self.new ≡ changes_of self.old }
+        ensures warm { warm_of self.new ≡ warm_of self.old }
         ensures at { (s : State) → IsAt self.old s → IsAt self.new s }
     {
         self.book.put(bytes)
     }
 
     /// The last edition's format, number and level, and the work's tree with its number of records. It takes no memory.
-    #[tactic(auto, unfolding(crate::specs::Sessions::world_of, crate::specs::Sessions::format_of, crate::specs::Sessions::level_of, crate::specs::Sessions::changes_of, crate::specs::Sessions::IsAt))]
+    #[tactic(auto, unfolding(crate::specs::Sessions::world_of, crate::specs::Sessions::format_of, crate::specs::Sessions::level_of, crate::specs::Sessions::changes_of, crate::specs::Sessions::reads_of, crate::specs::Sessions::warm_of, crate::specs::Sessions::IsAt))]
     pub fn head(&self) -> Head
         ensures format { (s : State) → IsAt self.now s → s.last.format ≡ result.format }
         ensures is_format { result.format ≡ format_of self.now }
@@ -145,15 +156,26 @@ impl<W: World> Session<W> {
     }
 
     /// How many records were removed and added since the file was opened, or since the last edition or revert: 2^64 - 1 where there are more.
-    #[tactic(auto, unfolding(crate::specs::Sessions::world_of, crate::specs::Sessions::format_of, crate::specs::Sessions::level_of, crate::specs::Sessions::changes_of, crate::specs::Sessions::IsAt))]
+    #[tactic(auto, unfolding(crate::specs::Sessions::world_of, crate::specs::Sessions::format_of, crate::specs::Sessions::level_of, crate::specs::Sessions::changes_of, crate::specs::Sessions::reads_of, crate::specs::Sessions::warm_of, crate::specs::Sessions::IsAt))]
     pub fn changes(&self) -> u64
         ensures { result ≡ changes_of self.now }
     {
         self.changes
     }
 
+    /// The layer and the pixel of the last command, where it was an `at` that was answered. It takes no memory.
+    #[tactic(auto, unfolding(crate::specs::Sessions::warm_of))]
+    pub fn warm(&self) -> Option<(Name, Pixel)>
+        ensures { result ≡ warm_of self.now }
+    {
+        match &self.warm {
+            None => None,
+            Some((name, at)) => Some((name.copy(), *at)),
+        }
+    }
+
     /// The world as it is. The work that was not published is given up.
-    #[tactic(auto, unfolding(crate::specs::Sessions::world_of, crate::specs::Sessions::format_of, crate::specs::Sessions::level_of, crate::specs::Sessions::changes_of, crate::specs::Sessions::IsAt))]
+    #[tactic(auto, unfolding(crate::specs::Sessions::world_of, crate::specs::Sessions::format_of, crate::specs::Sessions::level_of, crate::specs::Sessions::changes_of, crate::specs::Sessions::reads_of, crate::specs::Sessions::warm_of, crate::specs::Sessions::IsAt))]
     pub fn into_world(self) -> W
         ensures { result ≡ world_of self }
     {

@@ -33,7 +33,8 @@ use std::thread::Threads;
 /// The work's line layer, block by block: None where no layer has its number.
 fn view_of<W: Disk>(book: &Book<W>, layer: LineLayer) -> Option<LineView>
     ensures level { IfSome result (λ view. view.level ≡ (work_of book.now).level) }
-    ensures shows { IfSome result (λ view. (segs : SegMap) (cover : BlockSet) → HoldsLines book.now layer segs cover → Shows book.now view (record { segs = segs; cover = cover })) }
+    ensures shows { IfSome result (λ view. (segs : SegMap) (cover : BlockSet) → HoldsLines book.now layer segs cover →
+        Shows book.now view (record { segs = segs; cover = cover })) }
     ensures none { IsNone result → layer.number ≡ 0 }
 {
     if layer.number == 0 {
@@ -98,7 +99,8 @@ pub(crate) fn select_in<W: Disk>(
     requires inside { is_place (work_of book.old).level command.now ≡ true }
     requires some { AsksSome command.now }
     ensures reply { IfOk result (λ reply. (segs : SegMap) (cover : BlockSet) → HoldsLines book.old layer segs cover → Tells reply (selected command.now segs)) }
-    ensures reads { IfOk result (λ reply. (segs : SegMap) (cover : BlockSet) → HoldsLines book.old layer segs cover → HasFound command.now segs → IsAnswered reply →
+    ensures reads { IfOk result (λ reply. (segs : SegMap) (cover : BlockSet) → HoldsLines book.old layer segs cover → HasFound command.now segs →
+        IsAnswered reply →
         StoreTells (λ old new. new ≤ old + pages_for (work_of book.old).level command.now segs cover) (reads_in book.old) (reads_in book.new)) }
     ensures sound { IfErr result (λ e. (segs : SegMap) (cover : BlockSet) → 1 ≤ layer.number → HoldsLines book.old layer segs cover → IsSound e) }
     ensures still { IsStill book.old book.new }
@@ -118,7 +120,8 @@ pub(crate) fn select_over<W: Disk>(
     list: &LeafList,
 ) -> Result<Reply, Stop>
     requires { list.now.level ≡ (work_of book.old).level }
-    ensures reply { IfOk result (λ reply. (segs : SegMap) (cover : BlockSet) → HoldsLines book.old layer segs cover → Tells reply (selected_over list.now.level list.now.grid segs)) }
+    ensures reply { IfOk result (λ reply. (segs : SegMap) (cover : BlockSet) → HoldsLines book.old layer segs cover →
+        Tells reply (selected_over list.now.level list.now.grid segs)) }
     ensures sound { IfErr result (λ e. (segs : SegMap) (cover : BlockSet) → 1 ≤ layer.number → HoldsLines book.old layer segs cover → IsSound e) }
     ensures still { IsStill book.old book.new }
     ensures cause { HasStopCause (W.faults (world_of book.old)) (W.faults (world_of book.new)) result }
@@ -166,7 +169,8 @@ pub(crate) fn crossed<R: Threads + Sync>(
     requires second_ids { IsStrictlyIncreasing (map (λ e. e.0) b.now) }
     requires first_ends { All (λ e. is_in_square level e.1 ≡ true) a.now }
     requires second_ends { All (λ e. is_in_square level e.1 ≡ true) b.now }
-    ensures reply { IfOk result (λ reply. (first second : SegMap) → finmap.entries first ≡ a.now → finmap.entries second ≡ b.now → Tells reply (crossed_of first second)) }
+    ensures reply { IfOk result (λ reply. (first second : SegMap) → finmap.entries first ≡ a.now → finmap.entries second ≡ b.now →
+        Tells reply (crossed_of first second)) }
     ensures memory { IfErr result (λ stop. stop ≡ stops.Memory) }
 {
     match crossings(rt, alloc, level, a, b) {

@@ -12,7 +12,9 @@ pub returns-clause-segments : goal.returns-clause-segments
 returns-clause-segments g c =
     let layer = c.args.layer in
     if_ok _ _ c.scan.result (λ list h segs cover holds.
-    h layer.threshold segs cover (lines_as (told_of {D = g.W.Disk} c.args.book.now) layer segs cover c.head-head.result c.args.book.now.work c.tree_of.result c.head-head.ensures.work c.tree_of.ensures holds)) c.scan.ensures.segments
+    h layer.threshold segs cover (lines_as
+    (told_of {D = g.W.Disk} c.args.book.now) layer segs cover c.head-head.result c.args.book.now.work c.tree_of.result c.head-head.ensures.work
+    c.tree_of.ensures holds)) c.scan.ensures.segments
 
 pub returns-clause-order : goal.returns-clause-order
 returns-clause-order g c = if_ok _ _ c.scan.result (λ list h. rising_ids (ids_of list) h) c.scan.ensures.order
@@ -21,4 +23,6 @@ pub returns-clause-sound : goal.returns-clause-sound
 returns-clause-sound g c =
     let layer = c.args.layer in
     if_err _ _ c.scan.result (λ e h segs cover least holds.
-    h layer.threshold segs cover (lines_as (told_of {D = g.W.Disk} c.args.book.now) layer segs cover c.head-head.result c.args.book.now.work c.tree_of.result c.head-head.ensures.work c.tree_of.ensures holds)) c.scan.ensures.sound
+    h layer.threshold segs cover (lines_as
+    (told_of {D = g.W.Disk} c.args.book.now) layer segs cover c.head-head.result c.args.book.now.work c.tree_of.result c.head-head.ensures.work
+    c.tree_of.ensures holds)) c.scan.ensures.sound

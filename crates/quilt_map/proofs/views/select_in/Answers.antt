@@ -7,13 +7,16 @@ pub returns-in-None-clause-still : goal.returns-in-None-clause-still
 returns-in-None-clause-still g c = still_here {D = g.W.Disk} c.args.book.now
 
 pub returns-in-Some-clause-reply : goal.returns-in-Some-clause-reply
-returns-in-Some-clause-reply g c = if_ok _ _ c.select.result (λ reply h segs cover holds. h (record { segs = segs; cover = cover }) (c.in-Some.ensures.shows segs cover holds)) c.select.ensures.reply
+returns-in-Some-clause-reply g c = if_ok _ _ c.select.result
+    (λ reply h segs cover holds. h (record { segs = segs; cover = cover }) (c.in-Some.ensures.shows segs cover holds)) c.select.ensures.reply
 
 pub returns-in-Some-clause-sound : goal.returns-in-Some-clause-sound
-returns-in-Some-clause-sound g c = if_err _ _ c.select.result (λ e h segs cover least holds. h (record { segs = segs; cover = cover }) (c.in-Some.ensures.shows segs cover holds)) c.select.ensures.sound
+returns-in-Some-clause-sound g c = if_err _ _ c.select.result
+    (λ e h segs cover least holds. h (record { segs = segs; cover = cover }) (c.in-Some.ensures.shows segs cover holds)) c.select.ensures.sound
 
 pub returns-in-Some-clause-reads : goal.returns-in-Some-clause-reads
 returns-in-Some-clause-reads g c =
     if_ok _ _ c.select.result (λ reply h segs cover holds found answered.
-    costs_at c.args.command.now segs cover c.in-Some.view.level c.args.book.now.work.level (reads_in {D = g.W.Disk} c.args.book.now) (reads_in {D = g.W.Disk} c.select.new.book) c.in-Some.ensures.level
+    costs_at c.args.command.now segs cover c.in-Some.view.level c.args.book.now.work.level (reads_in {D = g.W.Disk} c.args.book.now)
+    (reads_in {D = g.W.Disk} c.select.new.book) c.in-Some.ensures.level
     (h (record { segs = segs; cover = cover }) (c.in-Some.ensures.shows segs cover holds) found answered)) c.select.ensures.reads

@@ -1,6 +1,18 @@
 use Rattle.quilt_types.specs.declared.code.Code.TheVariants as no
 use Rattle.quilt_replies.specs.declared.reply.Reply.TheVariants as reply
-use Rattle.std.proofs.Common.{true, false, ◌∙◌, ap, Some, None}
+use Rattle.std.proofs.Common.{ℕ, true, false, List, Option, refl, sym, subst, ◌∙◌, ap, Some, None}
+use Rattle.std.specs.Map.{keys_of}
+use Rattle.quilt_types.specs.Layers.{Map}
+use Rattle.quilt_world.specs.Disk.{Pages}
+use Rattle.quilt_record.specs.Records.{Numbering}
+use Rattle.quilt_record.specs.declared.entry.Entry.{Entry}
+use Rattle.quilt_btree.specs.Trees.{IsTree}
+use Rattle.quilt_spell.specs.Catalogued.{IsCatalogOf}
+use Rattle.quilt_spell.specs.Written.{number_of}
+use Rattle.quilt_pool.specs.Views.{entries_of}
+use Rattle.quilt_map.specs.Asking.{reads_in}
+use Rattle.quilt_map.specs.Sessions.{told_of, tree_in}
+use Rattle.quilt_map.proofs.Warming.{cold, warm_as, warmed, held_again, reads_same}
 use Rattle.quilt_types.specs.Plane.{is_pixel}
 use Rattle.quilt_node.specs.declared.head.Head.{Head}
 use Rattle.quilt_words.specs.declared.command.Command.TheVariants as commands
@@ -44,3 +56,67 @@ returns-in-Ok-number_text-clause-answer g c = λ s at.
     asked_on {D = g.W.Disk} s (commands.At name c.args.at) (at_asks s name c.args.at) old at c.read_colour.new.book (Some (c.copy.result, c.args.at)) (reply.Ok c.in-Ok-number_text.text) c.read_colour.ensures.still (g.met.W.Disk.is_consistent c.read_colour.new.book.world)
     (text_tells ((answer s (commands.At name c.args.at)).reply) c.in-Ok-number_text.text
     (at_body {D = g.W.Disk} old s at name c.in-Ok.number region c.args.at c.in-Ok-read_colour.colour.0 c.from.result inside c.in-Ok-read_colour.ensures.colour c.from.ensures c.in-Ok-number_text.text c.in-Ok-number_text.ensures))
+
+pub returns-in-Err-clause-held : goal.returns-in-Err-clause-held
+returns-in-Err-clause-held g c = cold _ _ _ _
+
+pub returns-in-Err-clause-again : goal.returns-in-Err-clause-again
+returns-in-Err-clause-again g c = λ s at warm asked. reads_same (reads_in {D = g.W.Disk} c.args.self.now.book)
+
+pub returns-then-not-has_pixel-clause-held : goal.returns-then-not-has_pixel-clause-held
+returns-then-not-has_pixel-clause-held g c = cold _ _ _ _
+
+pub returns-then-not-has_pixel-clause-again : goal.returns-then-not-has_pixel-clause-again
+returns-then-not-has_pixel-clause-again g c = λ s at warm asked. reads_same (reads_in {D = g.W.Disk} c.args.self.now.book)
+
+pub returns-in-Err-read_colour-clause-held : goal.returns-in-Err-read_colour-clause-held
+returns-in-Err-read_colour-clause-held g c = cold _ _ _ _
+
+pub returns-in-Err-read_colour-clause-again : goal.returns-in-Err-read_colour-clause-again
+returns-in-Err-read_colour-clause-again g c = λ s at warm asked.
+    let old = c.args.self.now in
+    let catalog = catalog_as {D = g.W.Disk} old s at old.catalog refl in
+    let is = λ (layers : Map) (numbers : Numbering) (k : IsCatalogOf layers numbers old.catalog).
+    (c.in-Ok.ensures.found layers numbers (subst (λ (es : List Entry). IsCatalogOf layers numbers es) (sym c.entries.ensures.entries) k)).numbered in
+    let tree = subst (λ (o : Option Pages). IsTree o (tree_in old.book.work) at.work.records) (sym at.pages_told) at.work.whole.tree in
+    c.read_colour.ensures.again at.work.records tree at.pages at.pages_told
+    (held_again old.catalog (told_of {D = g.W.Disk} old.book) old.book.work (keys_of (entries_of old.book.pool)) (c.args.name.now, c.args.at) c.in-Ok.number is
+    old.warm warm asked s.work at.work.numbers catalog at.work.records tree at.pages at.pages_told)
+
+pub returns-in-Err-number_text-clause-held : goal.returns-in-Err-number_text-clause-held
+returns-in-Err-number_text-clause-held g c = cold _ _ _ _
+
+pub returns-in-Err-number_text-clause-again : goal.returns-in-Err-number_text-clause-again
+returns-in-Err-number_text-clause-again g c = λ s at warm asked.
+    let old = c.args.self.now in
+    let catalog = catalog_as {D = g.W.Disk} old s at old.catalog refl in
+    let is = λ (layers : Map) (numbers : Numbering) (k : IsCatalogOf layers numbers old.catalog).
+    (c.in-Ok.ensures.found layers numbers (subst (λ (es : List Entry). IsCatalogOf layers numbers es) (sym c.entries.ensures.entries) k)).numbered in
+    let tree = subst (λ (o : Option Pages). IsTree o (tree_in old.book.work) at.work.records) (sym at.pages_told) at.work.whole.tree in
+    c.read_colour.ensures.again at.work.records tree at.pages at.pages_told
+    (held_again old.catalog (told_of {D = g.W.Disk} old.book) old.book.work (keys_of (entries_of old.book.pool)) (c.args.name.now, c.args.at) c.in-Ok.number is
+    old.warm warm asked s.work at.work.numbers catalog at.work.records tree at.pages at.pages_told)
+
+pub returns-in-Ok-number_text-clause-held : goal.returns-in-Ok-number_text-clause-held
+returns-in-Ok-number_text-clause-held g c =
+    let old = c.args.self.now in
+    let book = c.read_colour.new.book in
+    let still = c.read_colour.ensures.still in
+    let is = λ (layers : Map) (numbers : Numbering) (k : IsCatalogOf layers numbers old.catalog).
+    (c.in-Ok.ensures.found layers numbers (subst (λ (es : List Entry). IsCatalogOf layers numbers es) (sym c.entries.ensures.entries) k)).numbered
+    ∙ ap (number_of numbers) (sym c.copy.ensures) in
+    warm_as (Some (c.copy.result, c.args.at)) old.catalog (told_of {D = g.W.Disk} old.book) (told_of {D = g.W.Disk} book) old.book.work book.work
+    (keys_of (entries_of book.pool)) (keys_of (entries_of book.pool)) still.told still.later.2.1 refl
+    (warmed old.catalog (told_of {D = g.W.Disk} old.book) old.book.work (keys_of (entries_of book.pool)) (c.copy.result, c.args.at) c.in-Ok.number is
+    c.in-Ok-read_colour.ensures.held)
+
+pub returns-in-Ok-number_text-clause-again : goal.returns-in-Ok-number_text-clause-again
+returns-in-Ok-number_text-clause-again g c = λ s at warm asked.
+    let old = c.args.self.now in
+    let catalog = catalog_as {D = g.W.Disk} old s at old.catalog refl in
+    let is = λ (layers : Map) (numbers : Numbering) (k : IsCatalogOf layers numbers old.catalog).
+    (c.in-Ok.ensures.found layers numbers (subst (λ (es : List Entry). IsCatalogOf layers numbers es) (sym c.entries.ensures.entries) k)).numbered in
+    let tree = subst (λ (o : Option Pages). IsTree o (tree_in old.book.work) at.work.records) (sym at.pages_told) at.work.whole.tree in
+    c.read_colour.ensures.again at.work.records tree at.pages at.pages_told
+    (held_again old.catalog (told_of {D = g.W.Disk} old.book) old.book.work (keys_of (entries_of old.book.pool)) (c.args.name.now, c.args.at) c.in-Ok.number is
+    old.warm warm asked s.work at.work.numbers catalog at.work.records tree at.pages at.pages_told)

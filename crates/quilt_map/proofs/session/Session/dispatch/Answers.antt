@@ -5,7 +5,7 @@ use Rattle.quilt_map.specs.Reading.{is_bounded}
 use Rattle.quilt_map.specs.Selecting.{layer_asked}
 use Rattle.quilt_map.specs.Sessions.{IsAtState}
 use Rattle.quilt_map.specs.Steps.{gives_edition}
-use Rattle.quilt_map.proofs.Bounded.{unbounded_else, unbounded_reads, at_reads, find_reads, ask_reads}
+use Rattle.quilt_map.proofs.Bounded.{unbounded_else, unbounded_reads, find_reads, ask_reads}
 use Rattle.quilt_map.proofs.Commanded.{applied_going, applied_giving, fitting_here, sound_at, quiet_else, forward_else, quiet_revert}
 use Rattle.quilt_map.proofs.Going.{goes_of}
 use Rattle.quilt_map.proofs.Selects.{fits_some}
@@ -24,7 +24,8 @@ serve-requires-clause-unbounded g c κs within =
 pub ask_lines-requires-in-Rank-clause-some : goal.ask_lines-requires-in-Rank-clause-some
 ask_lines-requires-in-Rank-clause-some g c =
     let old = c.args.self.now in
-    fits_some old.book.work.format old.book.last.level c.args.command.now (fitting_here {D = g.W.Disk} old c.args.command.now c.args.command.now c.requires refl)
+    fits_some old.book.work.format old.book.last.level c.args.command.now
+    (fitting_here {D = g.W.Disk} old c.args.command.now c.args.command.now c.requires.spelled refl)
 
 pub returns-in-Publish : goal.returns-in-Publish
 returns-in-Publish g c =
@@ -32,8 +33,10 @@ returns-in-Publish g c =
     let new = c.publish.new.self in
     let command = c.args.command.now in
     let e = c.publish.ensures in
-    applied_giving {D = g.W.Disk} old new command commands.Publish (sym c.in-Publish.is) c.publish.result e.answer (sound_at (IsAtState {D = g.W.Disk} old) c.publish.result e.sound) e.cause
-    (unbounded_reads (IsAtState {D = g.W.Disk} old) (reads_in {D = g.W.Disk} old.book) (reads_in {D = g.W.Disk} new.book) command c.publish.result (ap is_bounded c.in-Publish.is))
+    applied_giving {D = g.W.Disk} old new command commands.Publish (sym c.in-Publish.is) c.publish.result e.answer
+    (sound_at (IsAtState {D = g.W.Disk} old) c.publish.result e.sound) e.cause
+    (unbounded_reads (IsAtState {D = g.W.Disk} old) (reads_in {D = g.W.Disk} old.book) (reads_in {D = g.W.Disk} new.book) command c.publish.result
+    (ap is_bounded c.in-Publish.is))
     e.level e.door e.events e.crash e.writes
 
 pub returns-in-Upgrade : goal.returns-in-Upgrade
@@ -42,8 +45,10 @@ returns-in-Upgrade g c =
     let new = c.upgrade.new.self in
     let command = c.args.command.now in
     let e = c.upgrade.ensures in
-    applied_giving {D = g.W.Disk} old new command commands.Upgrade (sym c.in-Upgrade.is) c.upgrade.result e.answer (sound_at (IsAtState {D = g.W.Disk} old) c.upgrade.result e.sound) e.cause
-    (unbounded_reads (IsAtState {D = g.W.Disk} old) (reads_in {D = g.W.Disk} old.book) (reads_in {D = g.W.Disk} new.book) command c.upgrade.result (ap is_bounded c.in-Upgrade.is))
+    applied_giving {D = g.W.Disk} old new command commands.Upgrade (sym c.in-Upgrade.is) c.upgrade.result e.answer
+    (sound_at (IsAtState {D = g.W.Disk} old) c.upgrade.result e.sound) e.cause
+    (unbounded_reads (IsAtState {D = g.W.Disk} old) (reads_in {D = g.W.Disk} old.book) (reads_in {D = g.W.Disk} new.book) command c.upgrade.result
+    (ap is_bounded c.in-Upgrade.is))
     e.level e.door e.events e.crash e.writes
 
 pub returns-in-Revert : goal.returns-in-Revert
@@ -52,19 +57,11 @@ returns-in-Revert g c =
     let new = c.revert.new.self in
     let command = c.args.command.now in
     let e = c.revert.ensures in
-    applied_going {D = g.W.Disk} old new command commands.Revert (sym c.in-Revert.is) c.revert.result e.answer (sound_at (IsAtState {D = g.W.Disk} old) c.revert.result e.memory) e.cause
-    (unbounded_reads (IsAtState {D = g.W.Disk} old) (reads_in {D = g.W.Disk} old.book) (reads_in {D = g.W.Disk} new.book) command c.revert.result (ap is_bounded c.in-Revert.is))
+    applied_going {D = g.W.Disk} old new command commands.Revert (sym c.in-Revert.is) c.revert.result e.answer
+    (sound_at (IsAtState {D = g.W.Disk} old) c.revert.result e.memory) e.cause
+    (unbounded_reads (IsAtState {D = g.W.Disk} old) (reads_in {D = g.W.Disk} old.book) (reads_in {D = g.W.Disk} new.book) command c.revert.result
+    (ap is_bounded c.in-Revert.is))
     e.goes_on (quiet_revert command c.in-Revert.is)
-
-pub returns-in-At : goal.returns-in-At
-returns-in-At g c =
-    let old = c.args.self.now in
-    let new = c.at.new.self in
-    let command = c.args.command.now in
-    let e = c.at.ensures in
-    applied_going {D = g.W.Disk} old new command (commands.At c.in-At.a c.in-At.at) (sym c.in-At.is) c.at.result e.answer e.sound e.cause
-    (at_reads (IsAtState {D = g.W.Disk} old) (reads_in {D = g.W.Disk} old.book) (reads_in {D = g.W.Disk} new.book) command c.in-At.a c.in-At.at c.at.result c.in-At.is e.reads)
-    (goes_of {D = g.W.Disk} old.book new.book e.keeps.book.later) (ap gives_edition c.in-At.is)
 
 pub returns-in-Find : goal.returns-in-Find
 returns-in-Find g c =
@@ -73,7 +70,8 @@ returns-in-Find g c =
     let command = c.args.command.now in
     let e = c.find_point.ensures in
     applied_going {D = g.W.Disk} old new command (commands.Find c.in-Find.p c.in-Find.at) (sym c.in-Find.is) c.find_point.result e.answer e.sound e.cause
-    (find_reads (IsAtState {D = g.W.Disk} old) (reads_in {D = g.W.Disk} old.book) (reads_in {D = g.W.Disk} new.book) command c.in-Find.p c.in-Find.at c.find_point.result c.in-Find.is e.reads)
+    (find_reads (IsAtState {D = g.W.Disk} old) (reads_in {D = g.W.Disk} old.book)
+    (reads_in {D = g.W.Disk} new.book) command c.in-Find.p c.in-Find.at c.find_point.result c.in-Find.is e.reads)
     (goes_of {D = g.W.Disk} old.book new.book e.keeps.book.later) (ap gives_edition c.in-Find.is)
 
 pub returns-in-Cross : goal.returns-in-Cross
@@ -83,7 +81,8 @@ returns-in-Cross g c =
     let command = c.args.command.now in
     let e = c.ask_lines.ensures in
     applied_going {D = g.W.Disk} old new command command refl c.ask_lines.result e.answer e.sound e.cause
-    (ask_reads (IsAtState {D = g.W.Disk} old) (reads_in {D = g.W.Disk} old.book) (reads_in {D = g.W.Disk} new.book) command c.in-Cross.l c.ask_lines.result (ap layer_asked c.in-Cross.is) e.reads)
+    (ask_reads (IsAtState {D = g.W.Disk} old) (reads_in {D = g.W.Disk} old.book) (reads_in {D = g.W.Disk} new.book) command c.in-Cross.l c.ask_lines.result
+    (ap layer_asked c.in-Cross.is) e.reads)
     (goes_of {D = g.W.Disk} old.book new.book e.keeps.book.later) (ap gives_edition c.in-Cross.is)
 
 pub returns-in-Clip : goal.returns-in-Clip
@@ -93,7 +92,8 @@ returns-in-Clip g c =
     let command = c.args.command.now in
     let e = c.ask_lines-in-Clip.ensures in
     applied_going {D = g.W.Disk} old new command command refl c.ask_lines-in-Clip.result e.answer e.sound e.cause
-    (ask_reads (IsAtState {D = g.W.Disk} old) (reads_in {D = g.W.Disk} old.book) (reads_in {D = g.W.Disk} new.book) command c.in-Clip.l c.ask_lines-in-Clip.result (ap layer_asked c.in-Clip.is) e.reads)
+    (ask_reads (IsAtState {D = g.W.Disk} old) (reads_in {D = g.W.Disk} old.book)
+    (reads_in {D = g.W.Disk} new.book) command c.in-Clip.l c.ask_lines-in-Clip.result (ap layer_asked c.in-Clip.is) e.reads)
     (goes_of {D = g.W.Disk} old.book new.book e.keeps.book.later) (ap gives_edition c.in-Clip.is)
 
 pub returns-in-Nearest : goal.returns-in-Nearest
@@ -103,7 +103,8 @@ returns-in-Nearest g c =
     let command = c.args.command.now in
     let e = c.ask_lines-in-Nearest.ensures in
     applied_going {D = g.W.Disk} old new command command refl c.ask_lines-in-Nearest.result e.answer e.sound e.cause
-    (ask_reads (IsAtState {D = g.W.Disk} old) (reads_in {D = g.W.Disk} old.book) (reads_in {D = g.W.Disk} new.book) command c.in-Nearest.l c.ask_lines-in-Nearest.result (ap layer_asked c.in-Nearest.is) e.reads)
+    (ask_reads (IsAtState {D = g.W.Disk} old) (reads_in {D = g.W.Disk} old.book)
+    (reads_in {D = g.W.Disk} new.book) command c.in-Nearest.l c.ask_lines-in-Nearest.result (ap layer_asked c.in-Nearest.is) e.reads)
     (goes_of {D = g.W.Disk} old.book new.book e.keeps.book.later) (ap gives_edition c.in-Nearest.is)
 
 pub returns-in-Rank : goal.returns-in-Rank
@@ -113,7 +114,8 @@ returns-in-Rank g c =
     let command = c.args.command.now in
     let e = c.ask_lines-in-Rank.ensures in
     applied_going {D = g.W.Disk} old new command command refl c.ask_lines-in-Rank.result e.answer e.sound e.cause
-    (ask_reads (IsAtState {D = g.W.Disk} old) (reads_in {D = g.W.Disk} old.book) (reads_in {D = g.W.Disk} new.book) command c.in-Rank.l c.ask_lines-in-Rank.result (ap layer_asked c.in-Rank.is) e.reads)
+    (ask_reads (IsAtState {D = g.W.Disk} old) (reads_in {D = g.W.Disk} old.book)
+    (reads_in {D = g.W.Disk} new.book) command c.in-Rank.l c.ask_lines-in-Rank.result (ap layer_asked c.in-Rank.is) e.reads)
     (goes_of {D = g.W.Disk} old.book new.book e.keeps.book.later) (ap gives_edition c.in-Rank.is)
 
 pub returns-in_default : goal.returns-in_default

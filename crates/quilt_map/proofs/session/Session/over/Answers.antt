@@ -20,7 +20,8 @@ returns-in-Err-clause-answer g c = λ s at.
     let l = c.args.l.now in
     let a = c.args.a.now in
     asked_here {D = g.W.Disk} s (commands.Over l a) (over_asks s l a) old at old.warm (reply.No c.in-Err.code)
-    (over_refused s l a c.in-Err.code (c.in-Err.ensures.refused s at.work.numbers (catalog_as {D = g.W.Disk} old s at c.entries.result.now c.entries.ensures.entries)))
+    (over_refused s l a c.in-Err.code
+    (c.in-Err.ensures.refused s at.work.numbers (catalog_as {D = g.W.Disk} old s at c.entries.result.now c.entries.ensures.entries)))
 
 pub returns-in-Err-clause-keeps : goal.returns-in-Err-clause-keeps
 returns-in-Err-clause-keeps g c = keeps_here {D = g.W.Disk} c.args.self.now c.args.self.now.warm
@@ -30,7 +31,8 @@ returns-in-Err-read_region-clause-sound g c = λ s at.
     let old = c.args.self.now in
     let a = c.args.a.now in
     let region = c.in-Ok.ensures.region s.work at.work.numbers (catalog_as {D = g.W.Disk} old s at c.entries.result.now c.entries.ensures.entries) in
-    c.in-Err-read_region.ensures.sound region.grid (has_number {D = g.W.Disk} old s at a c.in-Ok.number region) (has_region {D = g.W.Disk} old s at a c.in-Ok.number region)
+    c.in-Err-read_region.ensures.sound region.grid (has_number {D = g.W.Disk} old s at a c.in-Ok.number region)
+    (has_region {D = g.W.Disk} old s at a c.in-Ok.number region)
 
 pub returns-in-Ok-read_region-clause-answer : goal.returns-in-Ok-read_region-clause-answer
 returns-in-Ok-read_region-clause-answer g c =
@@ -47,7 +49,8 @@ returns-in-Ok-read_region-clause-answer g c =
     let same = ap (λ (x : Raster). selected_over x.level x.grid found.segs) raster in
     let last = c.select_over.new.book in
     let done = over_done s l a c.in-Ok.layer.threshold found.segs found.cover region.grid found.is.got region.got in
-    let then = asked_on {D = g.W.Disk} s (commands.Over l a) (over_asks s l a) mid there last old.warm given c.select_over.ensures.still (g.met.W.Disk.is_consistent last.world)
+    let then = asked_on {D = g.W.Disk} s (commands.Over l a) (over_asks s l a) mid there last old.warm given c.select_over.ensures.still
+    (g.met.W.Disk.is_consistent last.world)
     (subst (λ (r : answers.Reply). Tells given r) (same ∙ sym done) (tells found.segs found.cover found.holds)) in
     record { tells = then.tells; at = then.at; count = then.count }) c.select_over.ensures.reply
 

@@ -1,4 +1,9 @@
+use Rattle.std.proofs.Common.{ap}
+use Rattle.std.specs.Map.{keys_of}
+use Rattle.quilt_pool.specs.Views.{entries_of}
+use Rattle.quilt_pool.specs.declared.pool.Pool.{Pool}
 use Rattle.quilt_map.specs.Sessions.{IsAt}
+use Rattle.quilt_map.proofs.Warming.{warm_as}
 use Rattle.quilt_edition.proofs.TextSteps.{took}
 use Rattle.quilt_map.proofs.Moving.{text_at}
 use Rattle.quilt_map.proofs.session.Session.take.Goals as goal
@@ -6,4 +11,8 @@ use Rattle.quilt_map.proofs.session.Session.take.Goals as goal
 pub returns-clause-at : goal.returns-clause-at
 unfolding IsAt
 returns-clause-at g c = λ s at.
-    text_at c.args.self.now c.take.new.self s c.take.ensures.same c.take.ensures.told (took _ _ _ _ c.take.ensures.took c.take.ensures.nothing) (g.met.W.Disk.is_consistent c.take.new.self.world) at
+    let same = c.take.ensures.same in
+    let told = c.take.ensures.told in record {
+      at = text_at c.args.self.now c.take.new.self s c.take.ensures.same c.take.ensures.told (took _ _ _ _ c.take.ensures.took c.take.ensures.nothing) (g.met.W.Disk.is_consistent c.take.new.self.world) at.at;
+      warm = warm_as c.args.self.now.warm c.args.self.now.catalog _ _ _ _ _ _ told same.work (ap (λ (p : Pool). keys_of (entries_of p)) same.pool) at.warm;
+    }
