@@ -1,5 +1,5 @@
 -- The words, read from the first to the last, and that the table reads them alike.
-use Rattle.std.proofs.Common.{◌≡◌, ℕ, Bool, true, false, ◌||◌, not, cond, ◌≤◌, nat_eq, nat_lt, List, [], ◌∷◌, ◌++◌, length, length-append, get_or, drop, Option, Some, None, codes, refl, sym, ◌∙◌, ap, subst, arith, append_assoc}
+use Rattle.std.proofs.Common.{◌≡◌, ℕ, Bool, true, false, ◌||◌, not, cond, ◌≤◌, ◌-◌, ◌^◌, nat_eq, nat_lt, List, [], ◌∷◌, ◌++◌, length, length-append, get_or, drop, Option, Some, None, codes, refl, sym, ◌∙◌, ap, subst, arith, append_assoc}
 use Rattle.std.specs.Prelude.{is_none, if◌then◌else◌, option_and_then}
 use Rattle.std.specs.List.{starts_with}
 use Rattle.std.specs.Str.{bytes_eq}
@@ -7,7 +7,7 @@ use Rattle.std.proofs.lemmas.Bool.{and_parts, and_right, ltb-false}
 use Rattle.std.proofs.lemmas.Slice.Eq.{bytes_eq-Decides}
 use Rattle.std.proofs.lemmas.List.{append-nil}
 use Rattle.quilt_words.specs.Spelling.{number}
-use Rattle.quilt_top.specs.Words.{Order, Parts, is_dashed, with_word, with_pool, parts_of, run_order, new_order, order_of_words, order_of, asked_for}
+use Rattle.quilt_top.specs.Words.{Order, Parts, is_dashed, with_word, with_pool, parts_of, run_order, new_order, trial_order, order_of_words, order_of, asked_for}
 
 -- where the reading stands: between two words, behind `--pool`, or at words that are refused
 pub data Place : Type 0 where

@@ -1,4 +1,4 @@
-use Rattle.std.proofs.Common.{◌≡◌, ◌<◌, ◌+◌, Some, None, Bool, cond, sym, ap, arith, take}
+use Rattle.std.proofs.Common.{◌≡◌, ◌∙◌, ◌<◌, ◌+◌, Some, None, Bool, cond, sym, ap, arith, take}
 use Rattle.std.proofs.lemmas.List.Sums.{fold_more}
 use Rattle.std.proofs.lemmas.Bool.{lt-leb}
 use Rattle.quilt_words.specs.Spelling.{value_of}
@@ -13,4 +13,4 @@ returns-in_err-value c =
     let small = value_of-take (i + 1) digits in
     let above = not_within _ c.args.high c.in_err-value.ensures in
     let past : c.args.high < value_of digits = omega (arith, c.loop-digit.invariant.value, above, more, small) in
-    ap (λ (b : Bool). cond b (Some (value_of digits)) None) (sym (lt-leb (value_of digits) c.args.high past))
+    c.from_residual.ensures ∙ ap (λ (b : Bool). cond b (Some (value_of digits)) None) (sym (lt-leb (value_of digits) c.args.high past))
