@@ -1,7 +1,7 @@
 -- Numbers in decimal digits.
-use Rattle.std.proofs.Common.{◌≡◌, ◌≢◌, ◌≤◌, ◌+◌, ◌-◌, ◌*◌, ℕ, Bool, true, false, ◌&&◌, not, List, [], ◌∷◌, length, get_or, take, drop, fold, refl, sym, ◌∙◌, ap, arith, take-append-drop}
+use Rattle.std.proofs.Common.{◌≡◌, ◌≢◌, ◌<◌, ◌≤◌, cond, nat_le, Option, Some, None, ◌+◌, ◌-◌, ◌*◌, ℕ, Bool, true, false, ◌&&◌, not, List, [], ◌∷◌, length, get_or, take, drop, fold, refl, sym, ◌∙◌, ap, arith, take-append-drop}
 use Rattle.std.specs.List.{list_all}
-use Rattle.std.proofs.lemmas.Bool.{ne_eqb}
+use Rattle.std.proofs.lemmas.Bool.{ne_eqb, leb-false}
 use Rattle.std.proofs.lemmas.List.Sums.{fold-append}
 use Rattle.quilt_words.specs.Spelling.{is_digit, is_spelled, value_of}
 
@@ -14,6 +14,14 @@ pub is_spelled_by_digits : (w : List ℕ) → 1 ≤ length w → get_or w 0 0 �
 is_spelled_by_digits [] some ne = absurd (omega arith)
 is_spelled_by_digits (c ∷ []) some ne = and_one (is_digit c)
 is_spelled_by_digits (c ∷ d ∷ cs) some ne = ap (λ b. not b && list_all is_digit (c ∷ d ∷ cs)) (ne_eqb c 48 ne)
+
+-- a number that is not within a bound
+pub not_within : (n high : ℕ) → None ≡ cond {A = Option ℕ} (nat_le n high) (Some n) None → high < n
+not_within n high is = leb-false n high (by (nat_le n high) is)
+  where
+    by : (b : Bool) → None ≡ cond {A = Option ℕ} b (Some n) None → b ≡ false
+    by true e = absurd (let f : ◌≡◌ {A = Option ℕ} None (Some n) = e in cc)
+    by false e = refl
 
 -- one digit more
 abbrev pub shifted : ℕ → ℕ → ℕ

@@ -1,5 +1,5 @@
 -- The words, read from the first to the last, and that the table reads them alike.
-use Rattle.std.proofs.Common.{◌≡◌, ℕ, Bool, true, false, ◌||◌, not, cond, ◌≤◌, nat_eq, nat_lt, List, [], ◌∷◌, ◌++◌, length, length-append, get_or, drop, Option, Some, None, codes, refl, sym, ◌∙◌, ap, subst, arith, append_assoc}
+use Rattle.std.proofs.Common.{◌≡◌, ℕ, Bool, true, false, ◌||◌, not, cond, ◌≤◌, ◌-◌, ◌^◌, nat_eq, nat_lt, List, [], ◌∷◌, ◌++◌, length, length-append, get_or, drop, Option, Some, None, codes, refl, sym, ◌∙◌, ap, subst, arith, append_assoc}
 use Rattle.std.specs.Prelude.{is_none, if◌then◌else◌, option_and_then}
 use Rattle.std.specs.List.{starts_with}
 use Rattle.std.specs.Str.{bytes_eq}
@@ -7,7 +7,7 @@ use Rattle.std.proofs.lemmas.Bool.{and_parts, and_right, ltb-false}
 use Rattle.std.proofs.lemmas.Slice.Eq.{bytes_eq-Decides}
 use Rattle.std.proofs.lemmas.List.{append-nil}
 use Rattle.quilt_words.specs.Spelling.{number}
-use Rattle.quilt_top.specs.Words.{Order, Parts, is_dashed, with_word, with_pool, parts_of, run_order, new_order, order_of_words, order_of, asked_for}
+use Rattle.quilt_top.specs.Words.{Order, Parts, is_dashed, with_word, with_pool, parts_of, run_order, new_order, trial_order, order_of_words, order_of, asked_for}
 
 -- where the reading stands: between two words, behind `--pool`, or at words that are refused
 pub data Place : Type 0 where
@@ -80,13 +80,22 @@ no_number (x ∷ y ∷ ys) is =
 no_run : (file : List ℕ) → run_order file None ≡ None
 no_run file = refl
 
+no_trial : (file : List ℕ) (seed count : Option ℕ) → trial_order file seed count None ≡ None
+no_trial file None count = refl
+no_trial file (Some seed) None = refl
+no_trial file (Some seed) (Some count) = refl
+
 dashed_pool : (v : List ℕ) (ws : List (List ℕ)) → number 8 4096 v ≡ None → order_of_words (Some v) ws ≡ None
 dashed_pool v [] is = refl
 dashed_pool v (a ∷ []) is = refl
 dashed_pool v (a ∷ b ∷ []) is = ap (λ p. cond (bytes_eq a (codes "run")) (run_order b p) None) is ∙ cond_none (bytes_eq a (codes "run"))
 dashed_pool v (a ∷ b ∷ c ∷ []) is = refl
 dashed_pool v (a ∷ b ∷ c ∷ d ∷ []) is =
-    ap (λ t. cond t (new_order b (number 16 30000 c) (number 1 12 d)) None) (and_right (bytes_eq a (codes "new")) false refl)
+    let trial = bytes_eq a (codes "trial") in
+    let seed = number 0 (2 ^ 64 - 1) c in
+    let count = number 1 1000000 d in
+    ap (λ t. cond t (new_order b (number 16 30000 c) (number 1 12 d)) (cond trial (trial_order b seed count (number 8 4096 v)) None)) (and_right (bytes_eq a (codes "new")) false refl)
+    ∙ ap (λ p. cond trial (trial_order b seed count p) None) is ∙ ap (λ o. cond trial o None) (no_trial b seed count) ∙ cond_none trial
 dashed_pool v (a ∷ b ∷ c ∷ d ∷ e ∷ ws) is = refl
 
 after-word : (alone : List (List ℕ)) (pool : Option (List ℕ)) (w : List ℕ) (o : Option Parts) → after (alone ++ w ∷ []) pool o ≡ after alone pool (with_word w o)

@@ -16,20 +16,25 @@ returns-in-Missing-clause-promises g c =
     let missing = c.in-Ok.ensures.door ∙ ap (λ a. attached (Ok a)) c.in-Missing.is in
     file_missing c.args.file.source c.args.file.path.now c.args.file.pool _ _ _ _ _ missing c.attach.ensures.tale
 
-pub returns-in-Map-in-Input-clause-promises : goal.returns-in-Map-in-Input-clause-promises
-returns-in-Map-in-Input-clause-promises g c =
+pub returns-in-Input-clause-promises : goal.returns-in-Input-clause-promises
+returns-in-Input-clause-promises g c =
     let ready = c.in-Ok.ensures.door ∙ ap (λ a. attached (Ok a)) c.in-Ready.is in
     let rose = Rose (g.W.Disk.faults c.args.world) (g.W.Disk.faults c.run_session.result.1) in
-    subst (λ (source : Source). WhereTold (Promise source c.args.file.path.now c.args.file.pool rose _ _) _ _) (sym c.in-Input.is)
-    (ran c.args.file.path.now c.args.file.pool _ _ _ ready (c.run_session.ensures.door ∙ c.in-Map.ensures.door) c.in-Map.session _ _ _ _ _
+    let now = g.W.Disk.door c.run_session.result.1 in
+    let end = c.run_session.result.0 in
+    subst (λ (source : Source). WhereTold (Promise source c.args.file.path.now c.args.file.pool rose now end) (g.W.Disk.told c.args.world) (g.W.Disk.told c.run_session.result.1)) (sym c.in-Input.is)
+    (ran c.args.file.path.now c.args.file.pool rose _ now ready (c.run_session.ensures.door ∙ c.in-Map.ensures.door) c.in-Map.session end _ _ _ _
     (λ e. let risen = c.run_session.ensures.device e in omega (arith, c.attach.ensures.cause.later, c.in-Map.ensures.later, risen))
     c.run_session.ensures.sound c.attach.ensures.tale c.in-Map.ensures.keeps c.in-Map.ensures.finds c.run_session.ensures.runs)
 
-pub returns-in-Map-in-Trial-clause-promises : goal.returns-in-Map-in-Trial-clause-promises
-returns-in-Map-in-Trial-clause-promises g c =
+pub returns-in-Trial-clause-promises : goal.returns-in-Trial-clause-promises
+returns-in-Trial-clause-promises g c =
     let ready = c.in-Ok.ensures.door ∙ ap (λ a. attached (Ok a)) c.in-Ready.is in
-    subst (λ (source : Source). WhereTold (Promise source c.args.file.path.now c.args.file.pool _ _ _) _ _) (sym c.in-Trial.is)
-    (tried c.args.file.path.now c.args.file.pool _ _ _ ready (c.try_session.ensures.door ∙ c.in-Map.ensures.door) c.in-Map.session _ _ _ _ _ _ _
+    let rose = Rose (g.W.Disk.faults c.args.world) (g.W.Disk.faults c.try_session.result.1) in
+    let now = g.W.Disk.door c.try_session.result.1 in
+    let end = c.try_session.result.0 in
+    subst (λ (source : Source). WhereTold (Promise source c.args.file.path.now c.args.file.pool rose now end) (g.W.Disk.told c.args.world) (g.W.Disk.told c.try_session.result.1)) (sym c.in-Trial.is)
+    (tried c.args.file.path.now c.args.file.pool rose _ now ready (c.try_session.ensures.door ∙ c.in-Map.ensures.door) c.in-Map.session _ _ end _ _ _ _
     (λ e. let risen = c.try_session.ensures.device e in omega (arith, c.attach.ensures.cause.later, c.in-Map.ensures.later, risen))
     c.try_session.ensures.short c.try_session.ensures.sound c.attach.ensures.tale c.in-Map.ensures.keeps c.in-Map.ensures.finds c.try_session.ensures.tries)
 
