@@ -6,4 +6,4 @@ use Rattle.quilt_map.proofs.session.Session.head.Goals as goal
 
 pub returns-clause-records : goal.returns-clause-records
 unfolding IsAt
-returns-clause-records g c = λ s at. sym (count_is c.args.self.now s at) ∙ ap (λ (h : Head). h.records) (sym c.head.ensures.work)
+returns-clause-records g c = λ s at. sym (count_is c.args.self.now s at.at) ∙ ap (λ (h : Head). h.records) (sym c.head.ensures.work)
