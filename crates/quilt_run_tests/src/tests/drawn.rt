@@ -25,7 +25,8 @@ struct Script {
 /// Adds the text and a newline.
 fn add_line(text: &mut Vec<u8>, line: &str) -> Result<(), AllocError> {
     text.extend_from_slice(line.as_bytes())?;
-    text.push(b'\n')
+    text.push(b'\n')?;
+    Ok(())
 }
 
 /// Adds the four digits of a colour.
@@ -161,10 +162,10 @@ impl Script {
             dice.below(side.wrapping_sub(y)).wrapping_add(1),
         );
         let window = Window {
-            x: x as u16,
-            y: y as u16,
-            w: w as u16,
-            h: h as u16,
+            x: u16::try_from(x).unwrap_or(1),
+            y: u16::try_from(y).unwrap_or(1),
+            w: u16::try_from(w).unwrap_or(1),
+            h: u16::try_from(h).unwrap_or(1),
         };
         let command = format!(in self.alloc; "window a {x} {y} {w} {h} c")?;
         let colours = plain_window(self.alloc, a, side, window)?;

@@ -16,7 +16,8 @@ fn add_line(text: &mut Vec<u8>, line: &str) -> Result<(), AllocError> {
         return Ok(());
     }
     text.extend_from_slice(line.as_bytes())?;
-    text.push(b'\n')
+    text.push(b'\n')?;
+    Ok(())
 }
 
 /// The text of the commands.
@@ -79,7 +80,8 @@ fn add_row(text: &mut Vec<u8>, second: bool, times: u32) -> Result<(), AllocErro
     for _ in 0..times {
         text.extend_from_slice(if second { b"0001" } else { b"0100" })?;
     }
-    text.push(b'\n')
+    text.push(b'\n')?;
+    Ok(())
 }
 
 #[test]

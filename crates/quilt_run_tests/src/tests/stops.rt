@@ -25,7 +25,7 @@ fn replies_to(commands: usize) -> &'static [u8] {
             break;
         }
         end = end.saturating_add(line.len()).saturating_add(1);
-        if line == b"ok" {
+        if line == b"ok".as_slice() {
             seen = seen.saturating_add(1);
         }
     }
