@@ -3,7 +3,8 @@ ghost use Rattle.std.specs.Prelude.{◌≤◌};
 use crate::files::file_of;
 use quilt_desk::Desk;
 use quilt_top::{End, run_quilt};
-use std::alloc::Global;
+use quilt_trial::trial_text;
+use std::alloc::{AllocError, Global};
 use std::process::Abort;
 use std::thread::Threads;
 
@@ -69,4 +70,39 @@ fn answers_alike_with_any_pool(rt: HostRuntime) {
         let cut = done_by(&rt, alloc, words, 1, text.as_slice());
         assert!(rt; cut.output() == first.output());
     }
+}
+
+/// Runs the text, some of whose commands are refused, with a pool of so many pages and in pieces of so many bytes.
+fn refused_by<R: Threads + Sync + Abort>(
+    rt: &R,
+    alloc: Global,
+    pool: &str,
+    piece: usize,
+    text: &[u8],
+) -> Desk
+    requires { 1 ≤ piece }
+{
+    let file = file_of(rt, alloc, "2000", "6");
+    let mut desk = Desk::new(alloc, "m", Some(file), text).expect(rt, "a desk");
+    desk.piece(piece);
+    let words = ["run", "m", "--pool", pool];
+    let (end, desk) = run_quilt(rt, alloc, &words, desk);
+    assert_eq!(rt; end, End::Refused);
+    desk
+}
+
+/// The 200 commands of a trial of 192 lines, over layers of all kinds.
+#[test]
+fn answers_a_drawn_text_alike_with_any_pool(rt: HostRuntime) -> Result<(), AllocError> {
+    let alloc = rt.alloc();
+    let text = trial_text(alloc, 7, 192, 6)?;
+    let first = refused_by(&rt, alloc, "8", 1, text.bytes());
+    assert!(rt; first.output().ends_with(b"edition 4\nok\n"));
+    for pool in ["8", "4096"] {
+        let whole = refused_by(&rt, alloc, pool, 4096, text.bytes());
+        assert!(rt; whole.output() == first.output());
+        let cut = refused_by(&rt, alloc, pool, 1, text.bytes());
+        assert!(rt; cut.output() == first.output());
+    }
+    Ok(())
 }

@@ -127,6 +127,19 @@ fn the_quota_is_exact(rt: HostRuntime) -> Result<(), AllocError> {
 }
 
 #[test]
+fn a_layer_outgrows_the_smallest_pool(rt: HostRuntime) -> Result<(), AllocError> {
+    let mut text = Vec::new(rt.alloc());
+    text.extend_from_slice(b"region a 0\n")?;
+    text.extend_from_slice(&striped(rt.alloc(), b"a", 64, 32)?)?;
+    text.extend_from_slice(b"publish\nblocks a\nat a 1 0\n")?;
+    let output = b"ok\nok\nedition 1\nok\n1 4096\nok\n1\nok\n";
+    let file = file_of(&rt, rt.alloc(), "100", "6");
+    let words = ["run", "m", "--pool", "8"];
+    goes_on(&rt, rt.alloc(), &words, file, &text, output, 0);
+    Ok(())
+}
+
+#[test]
 fn an_edition_is_opened_again(rt: HostRuntime) {
     let file = first_run(
         &rt,

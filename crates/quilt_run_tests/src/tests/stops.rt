@@ -138,7 +138,7 @@ fn fails_at<R: Threads + Sync + Abort>(rt: &R, alloc: Global, call: u64) -> bool
 fn each_call_fails_in_turn(rt: HostRuntime) {
     for call in 1..2000_u64 {
         if fails_at(&rt, rt.alloc(), call) {
-            assert!(rt; call > 100);
+            assert!(rt; call > 30);
             return;
         }
     }
