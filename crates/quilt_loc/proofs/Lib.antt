@@ -1,6 +1,7 @@
 pub mod Around
 pub mod Blocks
 pub mod CodeLaws
+pub mod CodeTables
 pub mod InOrder
 pub mod Intervals
 pub mod Members

@@ -1,4 +1,4 @@
-ghost use Rattle.std.specs.Prelude.{◌≡◌, ◌<◌, ◌≤◌, ◌↔◌, IsNone, IfSome};
+ghost use Rattle.std.specs.Prelude.{◌≡◌, ◌-◌, ◌%◌, ◌<◌, ◌≤◌, ◌↔◌, IsNone, IfSome};
 ghost use Rattle.quilt_types.specs.Plane.{side as side_of, in_block, parent_of, quarters_of, Holds, IsBlock};
 ghost use Rattle.quilt_loc.specs.Codes.{IsSide, Rises, code_cmp};
 
@@ -35,8 +35,8 @@ pub fn parent(b: Block, level: u8) -> Option<Block>
     }
     let twice = 2 * b.side;
     Some(Block {
-        x: b.x - b.x % twice,
-        y: b.y - b.y % twice,
+        x: start(b.x, twice),
+        y: start(b.y, twice),
         side: twice,
     })
 }
@@ -59,8 +59,16 @@ pub fn block_at(p: Pixel, side: u16) -> Block
     ensures held { Holds result p }
 {
     Block {
-        x: p.x - p.x % side,
-        y: p.y - p.y % side,
+        x: start(p.x, side),
+        y: start(p.y, side),
         side,
     }
+}
+
+/// The last multiple of the side, a power of two up to 4096, that is no larger than the number.
+fn start(x: u16, side: u16) -> u16
+    requires { IsSide side }
+    ensures { result ≡ x - x % side }
+{
+    x - (x & (side - 1))
 }

@@ -6,6 +6,3 @@ mod code;
 
 pub use block::{block_at, covers, parent, quarters};
 pub use code::{code_of, end_of, pixel_of};
-
-#[cfg(test)]
-mod tests;
