@@ -2,6 +2,7 @@ pub mod Adding
 pub mod Chains
 pub mod Colours
 pub mod Cuts
+pub mod LastQuarter
 pub mod Leaves
 pub mod Listed
 pub mod Maximal

@@ -4,10 +4,10 @@ use Rattle.std.proofs.Math.Seq.{drop-length, take-set-lt}
 use Rattle.std.proofs.lemmas.List.{replicate-append-replicate, take_more_set, take-append-drop}
 use Rattle.std.proofs.lemmas.List.Elements.{All-nil, All-cons, All-head, All-tail, All-append, All-contains, All-from_recursion, Contains-append_left, Contains-append_right, Contains-append_cases}
 use Rattle.quilt_types.specs.declared.plane.Block.{Block}
-use Rattle.quilt_types.specs.Plane.{side, parent_of, quarters_of, IsBlock}
+use Rattle.quilt_types.specs.Plane.{quarters_of, IsBlock}
 use Rattle.quilt_loc.specs.Codes.{code_from, code_to}
 use Rattle.quilt_loc.proofs.Members.{Contains-nil, Contains-here, Contains-cons_cases}
-use Rattle.quilt_loc.proofs.Quartered.{halved, quarters_are, side_le}
+use Rattle.quilt_loc.proofs.Quartered.{halved}
 use Rattle.quilt_loc.proofs.Intervals.{HasQuarterCodes, half_codes, square_pos}
 use Rattle.quilt_loc.proofs.Nesting.{side_pos}
 use Rattle.quilt_blocks.specs.Painting.{colours_of}
@@ -257,28 +257,11 @@ pub four_same : {X : Type 0} (a b c d p q r s : X) → a ≡ p → b ≡ q → c
 four_same a b c d p q r s e f g h = cc
 
 -- what stands at the last four places, from k on, where they are siblings of one colour
-pub record AtEnd (n : ℕ) (es : List (Block × ℕ)) (w d : Block × ℕ) (k : ℕ) : Type 0 where
-  pub each : (j : ℕ) → j < 4 → get_or es (k + j) d ≡ get_or (siblings w) j d
-  pub parent : parent_of (get_or es k d).0 ≡ w.0
-  pub small : (get_or es k d).0.side < side n
-
-pub at_the_end : (n : ℕ) (es : List (Block × ℕ)) (w d : Block × ℕ) (k : ℕ) → k + 4 ≡ length es → EndsInQuarters n es w → AtEnd n es w d k
-at_the_end n es w d k at q =
+pub at_the_end : (n : ℕ) (es : List (Block × ℕ)) (w d : Block × ℕ) (k : ℕ) → k + 4 ≡ length es → EndsInQuarters n es w → (j : ℕ) → j < 4 → get_or es (k + j) d ≡ get_or (siblings w) j d
+at_the_end n es w d k at q j lt =
     let long : length es ≡ length q.front + 4 = ap length q.split ∙ length-append q.front (siblings w) in
-    let each = λ (j : ℕ) (lt : j < 4).
     ap (λ i. get_or es i d) (let e : k + j ≡ length q.front + j = omega arith in e)
-    ∙ ap (λ l. get_or l (length q.front + j) d) q.split ∙ get_or-append-add q.front (siblings w) j d in
-    let z : k + 0 ≡ k = omega arith in
-    let h = w.0.side / 2 in
-    let a : Block = record { x = w.0.x; y = w.0.y; side = h } in
-    let first : get_or es k d ≡ (a, w.1) = ap (λ i. get_or es i d) (sym z) ∙ each 0 (omega arith) in
-    let is : Contains (quarters_of w.0) a = (0, omega arith, refl) in
-    let quarter = quarters_are n w.0 a q.block q.wide is in
-    let half = quarter.half in
-    let top = side_le n w.0 q.block in
-    let wide = q.wide in
-    let side_is : (get_or es k d).0.side ≡ h = ap (λ (z : Block × ℕ). z.0.side) first in
-    record { each = each; parent = ap (λ (z : Block × ℕ). parent_of z.0) first ∙ quarter.parent; small = omega arith }
+    ∙ ap (λ l. get_or l (length q.front + j) d) q.split ∙ get_or-append-add q.front (siblings w) j d
 
 -- the last four made one
 pub merged_is : {X : Type 0} (xs : List X) (k : ℕ) (w : X) → k + 4 ≡ length xs → set (take (k + 1) xs) k w ≡ take k xs ++ w ∷ []

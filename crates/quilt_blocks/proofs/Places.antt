@@ -1,11 +1,11 @@
 -- The leaves of a list by their places: where each begins, and which one holds a pixel.
-use Rattle.std.proofs.Common.{◌≡◌, ℕ, suc, ◌+◌, ◌<◌, ◌≤◌, List, [], ◌∷◌, ◌++◌, length, get_or, take, set, length-append, sym, ◌∙◌, ap, ap₂, subst, ⊎_elim, arith, Contains}
+use Rattle.std.proofs.Common.{◌≡◌, ℕ, suc, ◌+◌, ◌<◌, ◌≤◌, List, [], ◌∷◌, ◌++◌, length, get_or, take, set, length-append, sym, ◌∙◌, ap, subst, ⊎_elim, arith, Contains}
 use Rattle.std.proofs.lemmas.Bool.{cases_lt}
 use Rattle.std.proofs.lemmas.List.{length-map, get_or-map, map-append, take-map, take_at}
 use Rattle.std.proofs.lemmas.List.Elements.{Contains-get_or}
 use Rattle.quilt_types.specs.declared.plane.Pixel.{Pixel}
 use Rattle.quilt_types.specs.declared.plane.Block.{Block}
-use Rattle.quilt_types.specs.Plane.{side, quarters_of, Holds, IsBlock}
+use Rattle.quilt_types.specs.Plane.{side, Holds, IsBlock}
 use Rattle.quilt_loc.specs.Codes.{code_at, code_from, code_to}
 use Rattle.quilt_loc.proofs.Blocks.{side_most}
 use Rattle.quilt_loc.proofs.Intervals.{held_code}
@@ -15,7 +15,7 @@ use Rattle.quilt_blocks.specs.Walk.{size_of}
 use Rattle.quilt_blocks.specs.Listing.{IsListed, Follows, EndsInQuarters, pairs_of}
 use Rattle.quilt_blocks.proofs.Chains.{size_of-nil, Follows-member, Follows-next, Follows-last, Follows-place}
 use Rattle.quilt_blocks.proofs.Listed.{listed_run}
-use Rattle.quilt_blocks.proofs.Merging.{AtEnd, siblings, merged_is}
+use Rattle.quilt_blocks.proofs.Merging.{siblings, merged_is}
 use Rattle.quilt_blocks.proofs.Painting.{code_in}
 
 -- the leaf at a place, as the definitions have it
@@ -37,14 +37,6 @@ merged_items n items w k e q =
     let long : length (pairs_of items) ≡ length q.front + 4 = ap length q.split ∙ length-append q.front (siblings (pair_of w)) in
     ap pairs_of (merged_is items k w e) ∙ map-append pair_of (take k items) (w ∷ [])
     ∙ ap (λ l. l ++ pair_of w ∷ []) (sym (take-map pair_of k items) ∙ ap (take k) q.split ∙ take_at q.front (siblings (pair_of w)) k (omega arith))
-
--- the last four leaves where they are siblings of one colour
-pub leaf_at_end : (n : ℕ) (items : List Leaf) (e : Block × ℕ) (d : Leaf) (k : ℕ) → k + 4 ≡ length items → AtEnd n (pairs_of items) e (pair_of d) k
-    → (p : Block) (c : ℕ) (qs : List Block) → p ≡ e.0 → c ≡ e.1 → qs ≡ quarters_of p → (j i : ℕ) (q : Block) → j < 4 → i ≡ k + j → pair_of (get_or items i d) ≡ (get_or qs j q, c)
-leaf_at_end n items e d k long at p c qs ep ec eq j i q lt ei =
-    sym (pair_at items i d (omega arith)) ∙ ap (λ z. get_or (pairs_of items) z (pair_of d)) ei ∙ at.each j lt
-    ∙ get_or-map (λ (z : Block). let r : Block × ℕ = (z, e.1) in r) (quarters_of e.0) j q (pair_of d) (omega arith)
-    ∙ ap₂ (λ (z : Block) (y : ℕ). let r : Block × ℕ = (z, y) in r) (sym (ap (λ l. get_or l j q) (eq ∙ ap quarters_of ep))) (sym ec)
 
 module _ (n : ℕ) (items : List Leaf) (h : IsListed n (pairs_of items)) where
   pub block_at_place : (i : ℕ) (d : Leaf) → i < length items → IsBlock n (get_or items i d).block

@@ -10,6 +10,3 @@ pub use cursor::Cursor;
 pub use leaf::Leaf;
 pub use list::LeafList;
 pub use maker::Maker;
-
-#[cfg(test)]
-mod tests;

@@ -1,4 +1,4 @@
-ghost use Rattle.std.specs.Prelude.{◌≡◌, ℕ, ◌<◌, ◌≤◌, ◌↔◌, false, length, Contains, IsNone, IfSome, slice_index_or};
+ghost use Rattle.std.specs.Prelude.{◌≡◌, ℕ, ◌+◌, ◌<◌, ◌≤◌, ◌↔◌, false, length, Contains, IsNone, IfSome, slice_index_or};
 ghost use Rattle.quilt_types.specs.declared.plane.Block.{Block as BlockValue};
 ghost use Rattle.quilt_types.specs.Plane.{side, Holds, IsBlock};
 ghost use Rattle.quilt_types.specs.Layers.{colour_at};
@@ -72,13 +72,25 @@ impl LeafList {
         self.leaves[i]
     }
 
+    /// The leaf that holds the pixel, by a binary search.
+    pub fn leaf_around(&self, p: Pixel) -> Leaf
+        requires in_x { p.x < side self.now.level }
+        requires in_y { p.y < side self.now.level }
+        ensures member { Contains (leaves_by_code self.now.level self.now.grid) (pair_of result) }
+        ensures block { IsBlock self.now.level result.block }
+        ensures held { Holds result.block p }
+        ensures colour { HasColour self.now.level self.now.grid result.block result.colour.0 }
+    {
+        self.search(p, 0, usize::MAX)
+    }
+
     /// The colour of the pixel, by a binary search.
     pub fn colour_at(&self, p: Pixel) -> Colour
         requires in_x { p.x < side self.now.level }
         requires in_y { p.y < side self.now.level }
         ensures { result.0 ≡ colour_at self.now.level self.now.grid p }
     {
-        self.leaf_with(p).colour
+        self.leaf_around(p).colour
     }
 
     /// The one colour of the block's pixels, by a binary search, or None where they have two.
@@ -87,26 +99,49 @@ impl LeafList {
         ensures none { IsNone result ↔ (is_uniform self.now.level self.now.grid b ≡ false) }
         ensures colour { IfSome result (λ c. HasColour self.now.level self.now.grid b c.0) }
     {
-        let leaf = self.leaf_with(Pixel { x: b.x, y: b.y });
+        self.uniform_from(b, 0, usize::MAX)
+    }
+
+    /// The same by a search that begins at a place of the list, and takes the fewer steps the nearer the block's first pixel is.
+    pub fn uniform_near(&self, b: Block, near: usize) -> Option<Colour>
+        requires { IsBlock self.now.level b }
+        ensures none { IsNone result ↔ (is_uniform self.now.level self.now.grid b ≡ false) }
+        ensures colour { IfSome result (λ c. HasColour self.now.level self.now.grid b c.0) }
+    {
+        self.uniform_from(b, near, 1)
+    }
+
+    /// The one colour of the block's pixels, by a search that begins so.
+    fn uniform_from(&self, b: Block, near: usize, step: usize) -> Option<Colour>
+        requires { IsBlock self.now.level b }
+        ensures none { IsNone result ↔ (is_uniform self.now.level self.now.grid b ≡ false) }
+        ensures colour { IfSome result (λ c. HasColour self.now.level self.now.grid b c.0) }
+    {
+        let leaf = self.search(Pixel { x: b.x, y: b.y }, near, step);
         if leaf.block.side < b.side {
             return None;
         }
         Some(leaf.colour)
     }
 
-    /// The leaf that holds the pixel: the last that begins at its code or before.
-    fn leaf_with(&self, p: Pixel) -> Leaf
+    /// The leaf that holds the pixel: the last that begins at its code or before. The search begins at a place, goes from
+    /// there by steps each twice as long as the one before, and halves what is left once that is shorter.
+    fn search(&self, p: Pixel, near: usize, first_step: usize) -> Leaf
         requires in_x { p.x < side self.now.level }
         requires in_y { p.y < side self.now.level }
         ensures member { Contains (leaves_by_code self.now.level self.now.grid) (pair_of result) }
-        ensures holds { Holds result.block p }
+        ensures block { IsBlock self.now.level result.block }
+        ensures held { Holds result.block p }
+        ensures colour { HasColour self.now.level self.now.grid result.block result.colour.0 }
     {
         let leaves = &self.leaves;
         let code = code_of(p);
         let mut low = 0;
         let mut high = leaves.len();
+        let mut step = first_step;
         while high - low > 1 {
-            let middle = low + (high - low) / 2;
+            let middle = place_between(low, high, near, step);
+            step = step.saturating_mul(2);
             let Block { x, y, .. } = leaves[middle].block;
             if code_of(Pixel { x, y }) <= code {
                 low = middle;
@@ -115,5 +150,23 @@ impl LeafList {
             }
         }
         leaves[low]
+    }
+}
+
+/// A place between two others: this one, or else one the step away from the end that is nearer to it, or half the way.
+fn place_between(low: usize, high: usize, near: usize, step: usize) -> usize
+    requires { low + 1 < high }
+    ensures above { low < result }
+    ensures below { result < high }
+{
+    if low < near && near < high {
+        return near;
+    }
+    let half = (high - low) / 2;
+    let most = step.min(half - 1);
+    if near <= low {
+        low + 1 + most
+    } else {
+        high - 1 - most
     }
 }

@@ -1,4 +1,4 @@
-ghost use Rattle.std.specs.Prelude.{◌≡◌, ℕ, ◌*◌, ◌^◌, ◌≤◌, ◌↔◌, IsNone, IsTrue, IfSome, List, [], ◌++◌, replicate, length, Contains, OnOk, OnErr};
+ghost use Rattle.std.specs.Prelude.{◌≡◌, ℕ, ◌*◌, ◌%◌, ◌^◌, ◌≤◌, ◌↔◌, IsNone, IsTrue, IfSome, List, [], ◌++◌, replicate, length, Contains, OnOk, OnErr};
 ghost use Rattle.quilt_types.specs.declared.plane.Block.{Block as BlockValue};
 ghost use Rattle.quilt_types.specs.Plane.{IsBlock};
 ghost use Rattle.quilt_types.specs.Layers.{Grid};
@@ -10,7 +10,6 @@ ghost use Rattle.quilt_blocks.specs.Listing.{Follows, IsGrowing, IsMaking, EndsI
 ghost use Rattle.quilt_blocks.specs.Cutting.{pair_of};
 
 use crate::{Leaf, LeafList};
-use quilt_loc::{parent, quarters};
 use quilt_types::{Block, Colour};
 use std::alloc::{AllocError, Global};
 use std::marker::Model;
@@ -94,7 +93,8 @@ fn merge_last(leaves: &mut Vec<Leaf>, level: u8)
     }
 }
 
-/// The leaf that the last four make, where they are siblings of one colour.
+/// The leaf that the last four make, where they are siblings of one colour. The last of them is then the lower right
+/// quarter of a block, and the three before it are the other quarters if they have its side.
 fn whole_of_last(leaves: &[Leaf], level: u8) -> Option<Leaf>
     requires least { 1 ≤ level }
     requires most { level ≤ 12 }
@@ -106,23 +106,38 @@ fn whole_of_last(leaves: &[Leaf], level: u8) -> Option<Leaf>
     if n < 4 {
         return None;
     }
-    let Leaf { block, colour } = leaves[n - 4];
-    let block = parent(block, level)?;
-    let [a, b, c, d] = quarters(block);
-    if is(leaves[n - 4], a, colour)
-        && is(leaves[n - 3], b, colour)
-        && is(leaves[n - 2], c, colour)
-        && is(leaves[n - 1], d, colour)
+    let last = leaves[n - 1];
+    let Leaf { block, colour } = last;
+    if !is_last_quarter(block) {
+        return None;
+    }
+    if is_alike(leaves[n - 2], last)
+        && is_alike(leaves[n - 3], last)
+        && is_alike(leaves[n - 4], last)
     {
+        let Block { x, y, side } = block;
+        let block = Block {
+            x: x - side,
+            y: y - side,
+            side: 2 * side,
+        };
         Some(Leaf { block, colour })
     } else {
         None
     }
 }
 
-/// Whether the leaf is this block with this colour.
-fn is(leaf: Leaf, block: Block, colour: Colour) -> bool
-    ensures { IsTrue result ↔ (pair_of leaf ≡ (block, colour.0)) }
+/// Whether the block is the lower right quarter of a block.
+fn is_last_quarter(b: Block) -> bool
+    requires { IsBlock 12 b }
+    ensures { IsTrue result ↔ ((b.x % (2 * b.side) ≡ b.side) × (b.y % (2 * b.side) ≡ b.side)) }
 {
-    leaf.block == block && leaf.colour == colour
+    b.x & b.side != 0 && b.y & b.side != 0
+}
+
+/// Whether the two leaves have one side and one colour.
+fn is_alike(a: Leaf, b: Leaf) -> bool
+    ensures { IsTrue result ↔ ((a.block.side ≡ b.block.side) × (a.colour.0 ≡ b.colour.0)) }
+{
+    a.block.side == b.block.side && a.colour == b.colour
 }

@@ -1,4 +1,4 @@
-use Rattle.std.proofs.Common.{◌≡◌, ℕ, ◌+◌, ◌-◌, ◌/◌, ◌∙◌, sym, ap, subst, arith, get_or, Contains}
+use Rattle.std.proofs.Common.{◌≡◌, ◌∙◌, sym, ap, subst, arith, get_or, Contains}
 use Rattle.std.proofs.lemmas.List.{length-map, get_or_default}
 use Rattle.quilt_types.specs.Plane.{side, Holds}
 use Rattle.quilt_loc.specs.Codes.{code_from}
@@ -7,9 +7,10 @@ use Rattle.quilt_blocks.specs.declared.leaf.Leaf.{Leaf}
 use Rattle.quilt_blocks.specs.Raster.{Raster}
 use Rattle.quilt_blocks.specs.Cutting.{leaves_by_code, pair_of}
 use Rattle.quilt_blocks.specs.Listing.{pairs_of}
+use Rattle.quilt_blocks.proofs.Cuts.{IsLeaf, leaf_is, leaves_members}
 use Rattle.quilt_blocks.proofs.Listed.{some_leaf, listed_run, pair_member}
 use Rattle.quilt_blocks.proofs.Places.{block_at_place, first_code, held_at}
-use Rattle.quilt_blocks.proofs.list.LeafList.leaf_with.Goals as goal
+use Rattle.quilt_blocks.proofs.list.LeafList.search.Goals as goal
 
 pub code_of-code-requires-clause-in_x : goal.code_of-code-requires-clause-in_x
 code_of-code-requires-clause-in_x c =
@@ -38,16 +39,15 @@ loop-high-init c =
       to = λ d lt. absurd (omega arith);
     }
 
-middle : goal.After-index → ℕ
-middle c = c.loop-high.low + (c.loop-high.high - c.loop-high.low) / 2
-
 pub code_of-requires-clause-in_x : goal.code_of-requires-clause-in_x
 code_of-requires-clause-in_x c =
     let n = c.self.inside.level in
     let inv = c.loop-high.invariant in
     let some = inv.some in
     let inside = inv.inside in
-    let b = block_at_place n c.self.inside.leaves.items c.self.invariant (c.loop-high.low + (c.loop-high.high - c.loop-high.low) / 2) c.index.result.now (omega arith) in
+    let above = c.place_between-middle.ensures.above in
+    let under = c.place_between-middle.ensures.below in
+    let b = block_at_place n c.self.inside.leaves.items c.self.invariant c.place_between-middle.result c.index.result.now (omega arith) in
     let x = b.in_x in
     let e = ap (λ (z : Leaf). z.block.x) c.index.ensures in
     let m = side_most n c.self.invariant.most in
@@ -59,7 +59,9 @@ code_of-requires-clause-in_y c =
     let inv = c.loop-high.invariant in
     let some = inv.some in
     let inside = inv.inside in
-    let b = block_at_place n c.self.inside.leaves.items c.self.invariant (c.loop-high.low + (c.loop-high.high - c.loop-high.low) / 2) c.index.result.now (omega arith) in
+    let above = c.place_between-middle.ensures.above in
+    let under = c.place_between-middle.ensures.below in
+    let b = block_at_place n c.self.inside.leaves.items c.self.invariant c.place_between-middle.result c.index.result.now (omega arith) in
     let y = b.in_y in
     let e = ap (λ (z : Leaf). z.block.y) c.index.ensures in
     let m = side_most n c.self.invariant.most in
@@ -68,10 +70,12 @@ code_of-requires-clause-in_y c =
 pub loop-high-preserved-then-code_of-code : goal.loop-high-preserved-then-code_of-code
 loop-high-preserved-then-code_of-code c =
     let items = c.self.inside.leaves.items in
-    let at = c.loop-high.low + (c.loop-high.high - c.loop-high.low) / 2 in
+    let at = c.place_between-middle.result in
     let inv = c.loop-high.invariant in
     let some = inv.some in
     let inside = inv.inside in
+    let above = c.place_between-middle.ensures.above in
+    let under = c.place_between-middle.ensures.below in
     record {
       some = omega arith;
       inside = inv.inside;
@@ -86,10 +90,12 @@ loop-high-preserved-then-code_of-code c =
 pub loop-high-preserved : goal.loop-high-preserved
 loop-high-preserved c =
     let items = c.self.inside.leaves.items in
-    let at = c.loop-high.low + (c.loop-high.high - c.loop-high.low) / 2 in
+    let at = c.place_between-middle.result in
     let inv = c.loop-high.invariant in
     let some = inv.some in
     let inside = inv.inside in
+    let above = c.place_between-middle.ensures.above in
+    let under = c.place_between-middle.ensures.below in
     record {
       some = omega arith;
       inside = omega arith;
@@ -112,8 +118,8 @@ returns-clause-member c =
     subst (λ (r : Raster). Contains (leaves_by_code r.level r.grid) (pair_of c.index-2.result.now)) c.self.view_is
     (subst (λ l. Contains l (pair_of c.index-2.result.now)) c.self.invariant.ordered found)
 
-pub returns-clause-holds : goal.returns-clause-holds
-returns-clause-holds c =
+pub returns-clause-held : goal.returns-clause-held
+returns-clause-held c =
     let n = c.self.inside.level in
     let items = c.self.inside.leaves.items in
     let d = c.index-2.result.now in
@@ -128,3 +134,16 @@ returns-clause-holds c =
     let end = c.loop-high-test.false in
     subst (λ (z : Leaf). Holds z.block c.args.p) (sym c.index-2.ensures)
     (held_at n items c.self.invariant c.args.p c.loop-high.low c.loop-high.high d (omega arith) (omega arith) some (omega arith) inside (omega arith) (λ lt. let t = inv.to d lt in omega arith))
+
+found : (c : goal.After-result-1) → IsLeaf c.args.self.now.level c.args.self.now.grid (pair_of c.index-2.result.now)
+found c =
+    let n = c.args.self.now.level in
+    let g = c.args.self.now.grid in
+    let e = pair_of c.index-2.result.now in
+    leaf_is n g e ((leaves_members n g e).0 (returns-clause-member c))
+
+pub returns-clause-block : goal.returns-clause-block
+returns-clause-block c = (found c).maximal.block
+
+pub returns-clause-colour : goal.returns-clause-colour
+returns-clause-colour c = (found c).colour

@@ -10,17 +10,17 @@ use Rattle.quilt_blocks.proofs.Colours.{uniform-from_HasColour, HasColour-within
 use Rattle.quilt_blocks.proofs.Maximal.{alone}
 use Rattle.quilt_blocks.proofs.Leaves.{uniform_down}
 use Rattle.quilt_blocks.proofs.Cuts.{leaf_is, leaves_members}
-use Rattle.quilt_blocks.proofs.list.LeafList.uniform_in.Goals as goal
+use Rattle.quilt_blocks.proofs.list.LeafList.uniform_from.Goals as goal
 
 pub returns-then-leaf-b-clause-none : goal.returns-then-leaf-b-clause-none
 returns-then-leaf-b-clause-none c =
     let n = c.args.self.now.level in
     let g = c.args.self.now.grid in
     let b = c.args.b in
-    let e = pair_of c.leaf_with-leaf.result in
+    let e = pair_of c.search-leaf.result in
     let lt = c.if-leaf-b.true in
-    let leaf = leaf_is n g e ((leaves_members n g e).0 c.leaf_with-leaf.ensures.member) in
-    let within = nested n e.0 b (corner b) leaf.maximal.block c.requires (omega arith) c.leaf_with-leaf.ensures.holds (Holds-corner n b c.requires) in
+    let leaf = leaf_is n g e ((leaves_members n g e).0 c.search-leaf.ensures.member) in
+    let within = nested n e.0 b (corner b) leaf.maximal.block c.requires (omega arith) c.search-leaf.ensures.held (Holds-corner n b c.requires) in
     let no' : is_uniform n g b ≡ false =
     false_from_ne_true (is_uniform n g b) (λ u.
     let is = alone n (is_uniform n g) (uniform_down n g) e.0 b leaf.maximal c.requires u within in
@@ -28,14 +28,14 @@ returns-then-leaf-b-clause-none c =
     omega arith) in
     (λ _. no', λ _. refl)
 
-has : (c : goal.After-result-1) → HasColour c.args.self.now.level c.args.self.now.grid c.args.b c.leaf_with-leaf.result.colour.0
+has : (c : goal.After-result-1) → HasColour c.args.self.now.level c.args.self.now.grid c.args.b c.search-leaf.result.colour.0
 has c =
     let n = c.args.self.now.level in
     let g = c.args.self.now.grid in
     let b = c.args.b in
-    let e = pair_of c.leaf_with-leaf.result in
-    let leaf = leaf_is n g e ((leaves_members n g e).0 c.leaf_with-leaf.ensures.member) in
-    HasColour-within n g b e.0 e.1 (nested n b e.0 (corner b) c.requires leaf.maximal.block c.if-leaf-b.false (Holds-corner n b c.requires) c.leaf_with-leaf.ensures.holds) leaf.colour
+    let e = pair_of c.search-leaf.result in
+    let leaf = leaf_is n g e ((leaves_members n g e).0 c.search-leaf.ensures.member) in
+    HasColour-within n g b e.0 e.1 (nested n b e.0 (corner b) c.requires leaf.maximal.block c.if-leaf-b.false (Holds-corner n b c.requires) c.search-leaf.ensures.held) leaf.colour
 
 pub returns-clause-none : goal.returns-clause-none
 returns-clause-none c =
