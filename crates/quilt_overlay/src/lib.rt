@@ -8,6 +8,3 @@ mod recolouring;
 pub use operation::Op;
 pub use overlaying::overlay;
 pub use recolouring::recolour;
-
-#[cfg(test)]
-mod tests;

@@ -1,11 +1,11 @@
-ghost use Rattle.std.specs.Prelude.{◌≡◌, ◌≤◌, ◌⊎◌, IfOk, IfSome};
+ghost use Rattle.std.specs.Prelude.{◌≡◌, ◌≤◌, ◌⊎◌, ◌↔◌, IfOk, IfSome, IsTrue};
+ghost use Rattle.quilt_types.specs.Plane.{IsBlock};
 ghost use Rattle.quilt_loc.specs.Codes.{code_from, code_to};
 ghost use Rattle.quilt_overlay.specs.Combining.{overlaid};
 ghost use Rattle.quilt_overlay.specs.Fronts.{IsPassed, IsFront};
 
 use crate::Op;
 use quilt_blocks::{Cursor, Leaf, LeafList, Maker};
-use quilt_loc::end_of;
 use quilt_types::Block;
 use std::alloc::{AllocError, Global};
 
@@ -23,24 +23,33 @@ pub fn overlay(alloc: Global, op: Op, a: &LeafList, b: &LeafList) -> Result<Leaf
     while let Some((p, q)) = first.zip(second) {
         let block = smaller_of(p.block, q.block);
         maker.push(block, op.combine(p.colour, q.colour))?;
-        let end = end_of(block);
-        first = leaf_after(&mut firsts, p, end);
-        second = leaf_after(&mut seconds, q, end);
+        first = leaf_after(&mut firsts, p, block);
+        second = leaf_after(&mut seconds, q, block);
     }
     Ok(maker.finish())
 }
 
-/// The last leaf of the walk while it goes on behind the code, or else the next one.
-fn leaf_after(walk: &mut Cursor<'_>, last: Leaf, code: u32) -> Option<Leaf>
-    requires { IsPassed walk.old code last }
-    ensures front { IsFront walk.old.level walk.old.grid code result walk.new }
-    ensures start { code_to last.block ≡ code → IfSome result (λ l. code_from l.block ≡ code) }
+/// The last leaf of the walk while it goes on behind the block that was passed, or else the next one.
+fn leaf_after(walk: &mut Cursor<'_>, last: Leaf, passed: Block) -> Option<Leaf>
+    requires last { IsPassed walk.old (code_to passed) last }
+    requires block { IsBlock walk.old.level passed }
+    ensures front { IsFront walk.old.level walk.old.grid (code_to passed) result walk.new }
+    ensures start { code_to last.block ≡ code_to passed → IfSome result (λ l. code_from l.block ≡ code_to passed) }
 {
-    if end_of(last.block) == code {
+    if end_together(last.block, passed) {
         walk.next()
     } else {
         Some(last)
     }
+}
+
+/// Whether the two blocks end at one code: they have one lower right corner.
+fn end_together(a: Block, b: Block) -> bool
+    requires first { IsBlock 12 a }
+    requires second { IsBlock 12 b }
+    ensures { IsTrue result ↔ (code_to a ≡ code_to b) }
+{
+    a.x + a.side == b.x + b.side && a.y + a.side == b.y + b.side
 }
 
 /// One of the two blocks: the second where both have one side.

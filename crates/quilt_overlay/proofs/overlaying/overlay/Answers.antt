@@ -1,9 +1,9 @@
-use Rattle.std.proofs.Common.{◌≡◌, ℕ, ◌^◌, inl, inr, ⊎_elim, length, sym, ◌∙◌, ap, subst}
+use Rattle.std.proofs.Common.{◌≡◌, ℕ, ◌^◌, inl, inr, ⊎_elim, length, refl, sym, ◌∙◌, ap, subst, arith}
 use Rattle.quilt_types.specs.declared.plane.Pixel.{Pixel}
 use Rattle.quilt_types.specs.Plane.{IsBlock}
 use Rattle.quilt_types.specs.Layers.{colour_at}
-use Rattle.quilt_loc.specs.Codes.{code_from}
-use Rattle.quilt_loc.proofs.Blocks.{IsBlock-up}
+use Rattle.quilt_loc.specs.Codes.{code_from, code_to}
+use Rattle.quilt_loc.proofs.CodeLaws.{code_below}
 use Rattle.quilt_blocks.specs.Painting.{Painted, grid_by_code}
 use Rattle.quilt_blocks.proofs.Painting.{Paints, Paints-push, Paints-all}
 use Rattle.quilt_overlay.specs.Combining.{combined}
@@ -16,20 +16,23 @@ push-requires-clause-valid c = subst (λ (k : ℕ). IsBlock k c.smaller_of-block
 pub push-requires-clause-next : goal.push-requires-clause-next
 push-requires-clause-next c = (step_of c.args.a.now.level c.args.a.now.grid c.args.b.now.grid (length c.loop-p.maker.colours) c.loop-p.first c.loop-p.second c.loop-p.firsts c.loop-p.seconds c.level.ensures.raster.most c.loop-p.invariant.firsts c.loop-p.invariant.seconds c.loop-p.invariant.starts c.in-Some.p c.in-Some.q (sym c.in-Some.ensures) c.smaller_of-block.result c.smaller_of-block.ensures.one c.smaller_of-block.ensures.first c.smaller_of-block.ensures.second).begins
 
-pub end_of-end-requires : goal.end_of-end-requires
-end_of-end-requires c = IsBlock-up c.args.a.now.level 12 c.smaller_of-block.result c.level.ensures.raster.most (step_of c.args.a.now.level c.args.a.now.grid c.args.b.now.grid (length c.loop-p.maker.colours) c.loop-p.first c.loop-p.second c.loop-p.firsts c.loop-p.seconds c.level.ensures.raster.most c.loop-p.invariant.firsts c.loop-p.invariant.seconds c.loop-p.invariant.starts c.in-Some.p c.in-Some.q (sym c.in-Some.ensures) c.smaller_of-block.result c.smaller_of-block.ensures.one c.smaller_of-block.ensures.first c.smaller_of-block.ensures.second).block
-
-pub leaf_after-first-requires : goal.leaf_after-first-requires
-leaf_after-first-requires c =
+pub leaf_after-first-requires-clause-last : goal.leaf_after-first-requires-clause-last
+leaf_after-first-requires-clause-last c =
     let inv = c.loop-p.invariant in
     passed_first c.args.a.now.level c.args.a.now.grid c.args.b.now.grid (length c.loop-p.maker.colours) c.loop-p.first c.loop-p.second c.loop-p.firsts c.loop-p.seconds c.level.ensures.raster.most inv.firsts inv.seconds inv.starts
-    c.in-Some.p c.in-Some.q (sym c.in-Some.ensures) c.smaller_of-block.result c.end_of-end.result c.end_of-end.ensures.value (step_of c.args.a.now.level c.args.a.now.grid c.args.b.now.grid (length c.loop-p.maker.colours) c.loop-p.first c.loop-p.second c.loop-p.firsts c.loop-p.seconds c.level.ensures.raster.most c.loop-p.invariant.firsts c.loop-p.invariant.seconds c.loop-p.invariant.starts c.in-Some.p c.in-Some.q (sym c.in-Some.ensures) c.smaller_of-block.result c.smaller_of-block.ensures.one c.smaller_of-block.ensures.first c.smaller_of-block.ensures.second)
+    c.in-Some.p c.in-Some.q (sym c.in-Some.ensures) c.smaller_of-block.result _ refl (step_of c.args.a.now.level c.args.a.now.grid c.args.b.now.grid (length c.loop-p.maker.colours) c.loop-p.first c.loop-p.second c.loop-p.firsts c.loop-p.seconds c.level.ensures.raster.most c.loop-p.invariant.firsts c.loop-p.invariant.seconds c.loop-p.invariant.starts c.in-Some.p c.in-Some.q (sym c.in-Some.ensures) c.smaller_of-block.result c.smaller_of-block.ensures.one c.smaller_of-block.ensures.first c.smaller_of-block.ensures.second)
 
-pub leaf_after-second-requires : goal.leaf_after-second-requires
-leaf_after-second-requires c =
+pub leaf_after-second-requires-clause-last : goal.leaf_after-second-requires-clause-last
+leaf_after-second-requires-clause-last c =
     let inv = c.loop-p.invariant in
     passed_second c.args.a.now.level c.args.a.now.grid c.args.b.now.grid (length c.loop-p.maker.colours) c.loop-p.first c.loop-p.second c.loop-p.firsts c.loop-p.seconds c.level.ensures.raster.most inv.firsts inv.seconds inv.starts
-    c.in-Some.p c.in-Some.q (sym c.in-Some.ensures) c.smaller_of-block.result c.end_of-end.result c.end_of-end.ensures.value (step_of c.args.a.now.level c.args.a.now.grid c.args.b.now.grid (length c.loop-p.maker.colours) c.loop-p.first c.loop-p.second c.loop-p.firsts c.loop-p.seconds c.level.ensures.raster.most c.loop-p.invariant.firsts c.loop-p.invariant.seconds c.loop-p.invariant.starts c.in-Some.p c.in-Some.q (sym c.in-Some.ensures) c.smaller_of-block.result c.smaller_of-block.ensures.one c.smaller_of-block.ensures.first c.smaller_of-block.ensures.second)
+    c.in-Some.p c.in-Some.q (sym c.in-Some.ensures) c.smaller_of-block.result _ refl (step_of c.args.a.now.level c.args.a.now.grid c.args.b.now.grid (length c.loop-p.maker.colours) c.loop-p.first c.loop-p.second c.loop-p.firsts c.loop-p.seconds c.level.ensures.raster.most c.loop-p.invariant.firsts c.loop-p.invariant.seconds c.loop-p.invariant.starts c.in-Some.p c.in-Some.q (sym c.in-Some.ensures) c.smaller_of-block.result c.smaller_of-block.ensures.one c.smaller_of-block.ensures.first c.smaller_of-block.ensures.second)
+
+pub leaf_after-first-requires-clause-block : goal.leaf_after-first-requires-clause-block
+leaf_after-first-requires-clause-block c = subst (λ (k : ℕ). IsBlock k c.smaller_of-block.result) (sym c.loop-p.invariant.firsts.level) (step_of c.args.a.now.level c.args.a.now.grid c.args.b.now.grid (length c.loop-p.maker.colours) c.loop-p.first c.loop-p.second c.loop-p.firsts c.loop-p.seconds c.level.ensures.raster.most c.loop-p.invariant.firsts c.loop-p.invariant.seconds c.loop-p.invariant.starts c.in-Some.p c.in-Some.q (sym c.in-Some.ensures) c.smaller_of-block.result c.smaller_of-block.ensures.one c.smaller_of-block.ensures.first c.smaller_of-block.ensures.second).block
+
+pub leaf_after-second-requires-clause-block : goal.leaf_after-second-requires-clause-block
+leaf_after-second-requires-clause-block c = subst (λ (k : ℕ). IsBlock k c.smaller_of-block.result) (sym c.loop-p.invariant.seconds.level) (step_of c.args.a.now.level c.args.a.now.grid c.args.b.now.grid (length c.loop-p.maker.colours) c.loop-p.first c.loop-p.second c.loop-p.firsts c.loop-p.seconds c.level.ensures.raster.most c.loop-p.invariant.firsts c.loop-p.invariant.seconds c.loop-p.invariant.starts c.in-Some.p c.in-Some.q (sym c.in-Some.ensures) c.smaller_of-block.result c.smaller_of-block.ensures.one c.smaller_of-block.ensures.first c.smaller_of-block.ensures.second).block
 
 pub loop-p-preserved : goal.loop-p-preserved
 loop-p-preserved c =
@@ -45,8 +48,7 @@ loop-p-preserved c =
     step_of c.args.a.now.level c.args.a.now.grid c.args.b.now.grid (length c.loop-p.maker.colours) c.loop-p.first c.loop-p.second c.loop-p.firsts c.loop-p.seconds c.level.ensures.raster.most c.loop-p.invariant.firsts c.loop-p.invariant.seconds c.loop-p.invariant.starts c.in-Some.p c.in-Some.q (sym c.in-Some.ensures) c.smaller_of-block.result c.smaller_of-block.ensures.one c.smaller_of-block.ensures.first c.smaller_of-block.ensures.second in
     let f : Pixel → ℕ = λ x. combined c.args.op (colour_at n ga x) (colour_at n gb x) in
     let ok = c.in_ok-push.ensures.ok in
-    let long : c.end_of-end.result ≡ _ = c.end_of-end.ensures.value ∙ sym c.in_ok-push.ensures.end in
-    let code = c.end_of-end.ensures.value in
+    let long = sym c.in_ok-push.ensures.end in
     let after_p = c.leaf_after-first.ensures in
     let after_q = c.leaf_after-second.ensures in
     record {
@@ -57,9 +59,18 @@ loop-p-preserved c =
       firsts = IsFront-at _ _ _ _ _ _ _ _ inv.firsts.level inv.firsts.grid long after_p.front;
       seconds = IsFront-at _ _ _ _ _ _ _ _ inv.seconds.level inv.seconds.grid long after_q.front;
       starts = λ u v eu ev. ⊎_elim
-          (λ e. inl (at_some (λ l. code_from l.block ≡ c.end_of-end.result) c.leaf_after-first.result u eu (after_p.start (e ∙ sym code)) ∙ long))
-          (λ e. inr (at_some (λ l. code_from l.block ≡ c.end_of-end.result) c.leaf_after-second.result v ev (after_q.start (e ∙ sym code)) ∙ long)) st.ends;
+          (λ e. inl (at_some (λ l. code_from l.block ≡ code_to s) c.leaf_after-first.result u eu (after_p.start e) ∙ long))
+          (λ e. inr (at_some (λ l. code_from l.block ≡ code_to s) c.leaf_after-second.result v ev (after_q.start e) ∙ long)) st.ends;
     }
+
+pub loop-p-smaller : goal.loop-p-smaller
+loop-p-smaller c =
+    let st = (step_of c.args.a.now.level c.args.a.now.grid c.args.b.now.grid (length c.loop-p.maker.colours) c.loop-p.first c.loop-p.second c.loop-p.firsts c.loop-p.seconds c.level.ensures.raster.most c.loop-p.invariant.firsts c.loop-p.invariant.seconds c.loop-p.invariant.starts c.in-Some.p c.in-Some.q (sym c.in-Some.ensures) c.smaller_of-block.result c.smaller_of-block.ensures.one c.smaller_of-block.ensures.first c.smaller_of-block.ensures.second) in
+    let more = st.more in
+    let begins = st.begins in
+    let below = code_below c.smaller_of-block.result.x c.smaller_of-block.result.y in
+    let end = c.in_ok-push.ensures.end in
+    omega arith
 
 pub returns : goal.returns
 returns c =
