@@ -9,7 +9,8 @@ use quilt_loc::quarters;
 use quilt_types::{Block, Colour};
 
 /// How many unit edges of pixels of the colour have a pixel of another colour or the outside behind them. It looks behind
-/// each side of each leaf of the colour, block by block and not pixel by pixel (Samet 1990).
+/// each side of each leaf of the colour, block by block and not pixel by pixel (Samet 1990), by searches that begin at the
+/// leaf's own place.
 pub fn perimeter(a: &LeafList, c: Colour) -> u64
     ensures { result ≡ perimeter a.now.level a.now.grid c.0 }
 {
@@ -17,7 +18,7 @@ pub fn perimeter(a: &LeafList, c: Colour) -> u64
     for i in 0..a.len() {
         let leaf = a.leaf(i);
         if leaf.colour == c {
-            sum += u64::from(edges_around(a, leaf.block, c));
+            sum += u64::from(edges_around(a, leaf.block, c, i));
         }
     }
     sum
@@ -47,27 +48,27 @@ impl Side {
 }
 
 /// The unit edges of the pixels of a block of this colour that count in the perimeter.
-fn edges_around(a: &LeafList, b: Block, c: Colour) -> u16
+fn edges_around(a: &LeafList, b: Block, c: Colour, near: usize) -> u16
     requires small { a.now.level ≤ 12 }
     requires valid { IsBlock a.now.level b }
     requires colour { HasColour a.now.level a.now.grid b c.0 }
     ensures value { result ≡ sum_by (edges_of a.now.level a.now.grid) (pixels_of b) }
     ensures most { result ≤ 4 * b.side }
 {
-    edges_on(a, b, Side::Left, c)
-        + edges_on(a, b, Side::Right, c)
-        + edges_on(a, b, Side::Top, c)
-        + edges_on(a, b, Side::Bottom, c)
+    edges_on(a, b, Side::Left, c, near)
+        + edges_on(a, b, Side::Right, c, near)
+        + edges_on(a, b, Side::Top, c, near)
+        + edges_on(a, b, Side::Bottom, c, near)
 }
 
 /// The unit edges on one side of the block behind which is another colour than this or the outside.
-fn edges_on(a: &LeafList, b: Block, on: Side, c: Colour) -> u16
+fn edges_on(a: &LeafList, b: Block, on: Side, c: Colour, near: usize) -> u16
     requires valid { IsBlock a.now.level b }
     ensures value { result ≡ sum_by (λ t. bare on a.now.level a.now.grid c.0 (place on b t)) (below b.side) }
     ensures most { result ≤ b.side }
 {
     match behind(b, on, a.level()) {
-        Some(q) => other_along(a, q, on.opposite(), c),
+        Some(q) => other_along(a, q, on.opposite(), c, near),
         None => b.side,
     }
 }
@@ -110,17 +111,17 @@ fn behind(b: Block, on: Side, level: u8) -> Option<Block>
 
 /// How many pixels along a side of the block have another colour than this: all or none where the block has one colour,
 /// and else those of its two quarters on that side.
-fn other_along(a: &LeafList, b: Block, on: Side, c: Colour) -> u16
+fn other_along(a: &LeafList, b: Block, on: Side, c: Colour, near: usize) -> u16
     requires most { a.now.level ≤ 12 }
     requires valid { IsBlock a.now.level b }
     ensures value { result ≡ sum_by (λ t. differs a.now.level a.now.grid c.0 (place on b t)) (below b.side) }
     ensures most { result ≤ b.side }
 {
-    if let Some(d) = a.uniform_in(b) {
+    if let Some(d) = a.uniform_near(b, near) {
         return if d == c { 0 } else { b.side };
     }
     let (first, second) = halves(b, on);
-    other_along(a, first, on, c) + other_along(a, second, on, c)
+    other_along(a, first, on, c, near) + other_along(a, second, on, c, near)
 }
 
 /// The two quarters of the block along one of its sides.

@@ -6,6 +6,3 @@ mod counting;
 
 pub use bounding::perimeter;
 pub use counting::{area, exponent_of, histogram};
-
-#[cfg(test)]
-mod tests;
