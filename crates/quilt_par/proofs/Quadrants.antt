@@ -4,19 +4,19 @@ use Rattle.std.proofs.lemmas.List.{get_or_default}
 use Rattle.quilt_types.specs.declared.plane.Pixel.{Pixel}
 use Rattle.quilt_types.specs.declared.plane.Block.{Block}
 use Rattle.quilt_types.specs.declared.plane.Colour.{Colour}
-use Rattle.quilt_types.specs.Plane.{side, whole, quarters_of, IsBlock}
+use Rattle.quilt_types.specs.Plane.{side, corner, whole, quarters_of, IsBlock}
 use Rattle.quilt_types.specs.Layers.{Grid, colour_at}
-use Rattle.quilt_loc.specs.Codes.{code_at, code_from, code_to}
+use Rattle.quilt_loc.specs.Codes.{code_from, code_to}
 use Rattle.quilt_loc.proofs.Blocks.{side_most}
-use Rattle.quilt_loc.proofs.Quartered.{IsQuarter, IsBlock-whole, Within-whole, quarters_are}
+use Rattle.quilt_loc.proofs.Quartered.{IsQuarter, IsBlock-whole, quarters_are}
 use Rattle.quilt_loc.proofs.Intervals.{origin_code, half_codes, held_code}
 use Rattle.quilt_blocks.specs.Raster.{Raster}
 use Rattle.quilt_blocks.specs.Adding.{Adds}
 use Rattle.quilt_blocks.specs.Painting.{Painted, grid_by_code}
-use Rattle.quilt_blocks.proofs.Painting.{Paints, code_in, colour_at-grid_by_code}
+use Rattle.quilt_blocks.proofs.Painting.{code_in, colour_at-grid_by_code}
 use Rattle.quilt_blocks.proofs.Adding.{part_at, Adds-then, Adds-change}
 use Rattle.quilt_blocks.proofs.Squares.{width, code_to-whole}
-use Rattle.quilt_raster.proofs.Points.{in_square}
+use Rattle.quilt_raster.specs.Bytes.{from_corner}
 use Rattle.quilt_par.specs.declared.part.Part.{Part}
 use Rattle.quilt_par.specs.declared.part.Part.TheVariants.{Single, Leaves}
 use Rattle.quilt_par.specs.Parts.{width_of, moved_colour, quadrant_at, part_in, Shows, ShowAll}
@@ -61,39 +61,11 @@ half_side n k s is half =
     let p = pow-suc 2 k in
     omega arith
 
--- the colours of four squares of half the side
-twice_squared : (a b : ℕ) → a ≡ b * 2 → a * a ≡ 4 * (b * b)
-twice_squared a b e =
-    let s : a * a ≡ b * 2 * (b * 2) = ap (λ z. z * z) e in
-    omega arith
-
-pub quarter_squared : (n k : ℕ) → n ≡ suc k → side n * side n ≡ 4 * (side k * side k)
-quarter_squared n k is = twice_squared (side n) (side k) (ap (λ z. 2 ^ z) is ∙ pow-suc 2 k)
-
--- a pixel of a quadrant's own square
-pub record IsPlace (n k : ℕ) (b : Block) (p : Pixel) : Type 0 where
-  pub own_x : p.x < side k
-  pub own_y : p.y < side k
-  pub in_x : b.x + p.x < side n
-  pub in_y : b.y + p.y < side n
-
-pub place_in : (n k : ℕ) (b : Block) (p : Pixel) → n ≡ suc k → n ≤ 12 → IsBlock n b → 2 * b.side ≡ side n → p.x < 4096 → p.y < 4096 → code_at p < side k * side k → IsPlace n k b p
-place_in n k b p is most h half hx hy lt =
-    let sq = in_square k p (omega arith) hx hy lt in
-    let s = half_side n k b.side is half in
-    let w = Within-whole n b h in
-    let right = w.right in
-    let bottom = w.bottom in
-    let ox = sq.0 in
-    let oy = sq.1 in
-    record { own_x = ox; own_y = oy; in_x = omega arith; in_y = omega arith }
-
-abbrev pub from_corner : ℕ → Grid → Block → Pixel → ℕ
-from_corner n g b p = colour_at n g (record { x = b.x + p.x; y = b.y + p.y })
-
 -- a finished square shows the quadrant
-pub Shows-square : (n k : ℕ) (g : Grid) (b : Block) (list : Raster) (colours : List ℕ) → n ≡ suc k → n ≤ 12 → 2 * b.side ≡ side n → list ≡ record { level = k; grid = grid_by_code k colours } → length colours ≡ 4 ^ k → Paints k (from_corner n g b) colours → Shows n g b (Leaves list)
-Shows-square n k g b list colours is most half made long paints =
+pub Shows-square : (n k : ℕ) (g : Grid) (b : Block) (list : Raster) (m : Painted) → n ≡ suc k → n ≤ 12 → 2 * b.side ≡ side n → list ≡ record { level = k; grid = grid_by_code k m.colours }
+    → Adds k (from_corner n g (corner b)) (4 ^ k) (record { level = k; colours = [] }) m → Shows n g b (Leaves list)
+Shows-square n k g b list m is most half made adds =
+    let colours = m.colours in
     let s = half_side n k b.side is half in
     let done : Shows n g b (Leaves (record { level = k; grid = grid_by_code k colours })) = record {
       wide = s;
@@ -108,9 +80,9 @@ Shows-square n k g b list colours is most half made long paints =
           let c = code_in k q (omega arith) hx hy in
           let ex : b.x + (p.x - b.x) ≡ p.x = omega arith in
           let ey : b.y + (p.y - b.y) ≡ p.y = omega arith in
-          colour_at-grid_by_code k colours q hx hy ∙ paints.each q hx hy (omega arith) ∙ ap₂ (λ (x y : ℕ). colour_at n g (record { x = x; y = y })) ex ey;
+          colour_at-grid_by_code k colours q hx hy ∙ adds.each q hx hy (omega arith) c ∙ ap₂ (λ (x y : ℕ). colour_at n g (record { x = x; y = y })) ex ey;
     } in
-    subst (λ (m : Raster). Shows n g b (Leaves m)) (sym made) done
+    subst (λ (r : Raster). Shows n g b (Leaves r)) (sym made) done
 
 -- one pixel does
 pub Shows-pixel : (n : ℕ) (g : Grid) (b : Block) (c : Colour) (place : ℕ) → n ≡ 1 → 2 * b.side ≡ side n → place ≡ 2 * b.y + b.x → c.0 ≡ get_or g place 0 → Shows n g b (Single c)

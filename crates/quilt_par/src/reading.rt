@@ -6,8 +6,8 @@ ghost use Rattle.quilt_par.specs.Parts.{Shows, quadrant_at};
 use crate::gate::Gate;
 use crate::part::Part;
 use quilt_blocks::Maker;
-use quilt_loc::{pixel_of, quarters};
-use quilt_raster::colour_in;
+use quilt_loc::quarters;
+use quilt_raster::{add_square, colour_in};
 use quilt_types::{Block, Pixel};
 use std::alloc::{AllocError, Global};
 
@@ -61,14 +61,13 @@ fn square_of(alloc: Global, colours: &[u8], level: u8, b: Block) -> Result<Part,
     requires half { 2 * b.side ≡ side_of level }
     ensures { IfOk result (λ part. Shows level (colours_of_bytes colours.now) b part) }
 {
-    let side = 1_usize << level;
+    let corner = Pixel { x: b.x, y: b.y };
+    let whole = Block {
+        x: 0,
+        y: 0,
+        side: b.side,
+    };
     let mut maker = Maker::new(alloc, level - 1);
-    for code in 0..(colours.len() / 8) as u32 {
-        let Pixel { x, y } = pixel_of(code);
-        let row = usize::from(b.y + y);
-        let column = usize::from(b.x + x);
-        let colour = colour_in(colours, row * side + column);
-        maker.push(Block { x, y, side: 1 }, colour)?;
-    }
+    add_square(&mut maker, colours, level, corner, whole)?;
     Ok(Part::Leaves(maker.finish()))
 }

@@ -1,4 +1,6 @@
 pub mod Bytes
+pub mod Cells
 pub mod Places
 pub mod Points
+pub mod Rows
 pub mod Written

@@ -1,67 +1,67 @@
--- Single pixels as blocks, runs of one colour in a row, and a grid from its own colours.
-use Rattle.std.proofs.Common.{◌≡◌, ℕ, zero, suc, ◌+◌, ◌*◌, ◌<◌, ◌≤◌, [], ◌∷◌, ◌++◌, length, add-one, refl, sym, ◌∙◌, ap, subst, arith, lit<}
+-- Squares in a grid, and a grid from its own colours.
+use Rattle.std.proofs.Common.{◌≡◌, ℕ, zero, suc, ◌+◌, ◌*◌, ◌^◌, ◌<◌, ◌≤◌, [], ◌∷◌, ◌++◌, length, get_or, ⊎_elim, add-one, sym, ◌∙◌, ap, ap₂, subst, arith}
+use Rattle.std.proofs.Math.Nat.{mul-le-mul_right}
+use Rattle.std.proofs.lemmas.Bool.{cases_lt}
 use Rattle.std.specs.List.{range_with_len}
 use Rattle.quilt_types.specs.declared.plane.Pixel.{Pixel}
 use Rattle.quilt_types.specs.declared.plane.Block.{Block}
-use Rattle.quilt_types.specs.declared.plane.Colour.{Colour}
-use Rattle.quilt_types.specs.Plane.{side, below, whole, Holds, IsBlock}
+use Rattle.quilt_types.specs.Plane.{side, below, Holds}
 use Rattle.quilt_types.specs.Layers.{Grid, colour_at}
 use Rattle.quilt_types.specs.Algebra.{grid_of}
-use Rattle.quilt_loc.specs.Codes.{code_at}
+use Rattle.quilt_loc.specs.Codes.{code_to}
 use Rattle.quilt_blocks.specs.Mosaic.{HasColour}
 use Rattle.quilt_loc.proofs.Rows.{grid_of-from, colour_at-pixel_at}
-use Rattle.quilt_loc.proofs.Quartered.{IsBlock-whole}
-use Rattle.quilt_loc.proofs.Intervals.{held_code, origin_code}
+use Rattle.quilt_blocks.proofs.Squares.{grid_of-same, code_to-whole}
+use Rattle.quilt_blocks.specs.Adding.{Adds}
+use Rattle.quilt_blocks.specs.Painting.{Painted}
+use Rattle.quilt_raster.specs.Bytes.{from_corner}
 
--- a pixel with a code below that of the end is one of the square
-pub in_square : (n : ℕ) (p : Pixel) → n ≤ 12 → p.x < 4096 → p.y < 4096 → code_at p < side n * side n → (p.x < side n) × (p.y < side n)
-in_square n p le hx hy lt =
-    let z = origin_code in
-    let h = held_code n (whole n) p (IsBlock-whole n) le (lit< tt) (lit< tt) hx hy (omega arith) (omega arith) in
-    let r = h.right in
-    let d = h.bottom in
-    (omega arith, omega arith)
-
-abbrev pub pixel_block : Pixel → Block
-pixel_block p = record { x = p.x; y = p.y; side = 1 }
-
-pub IsBlock-pixel : (n : ℕ) (p : Pixel) → p.x < side n → p.y < side n → IsBlock n (pixel_block p)
-IsBlock-pixel n p hx hy = record { level = 0; low = omega arith; size = refl; on_x = omega arith; on_y = omega arith; in_x = hx; in_y = hy }
-
-pub only_pixel : (p q : Pixel) → Holds (pixel_block p) q → q ≡ p
-only_pixel p q h =
+-- a pixel of a block of a square that lies in a grid has the colour that the whole block has there
+pub held_from : (n : ℕ) (g : Grid) (corner : Pixel) (b : Block) (p : Pixel) (c : ℕ) → Holds b p → HasColour n g (record { x = corner.x + b.x; y = corner.y + b.y; side = b.side }) c → from_corner n g corner p ≡ c
+held_from n g corner b p c h has =
     let l = h.left in
     let r = h.right in
     let t = h.top in
     let d = h.bottom in
-    let ex : q.x ≡ p.x = omega arith in
-    let ey : q.y ≡ p.y = omega arith in
-    λ i. record { x = ex i; y = ey i }
+    has.each (record { x = corner.x + p.x; y = corner.y + p.y }) (record { left = omega arith; right = omega arith; top = omega arith; bottom = omega arith })
 
--- the pixels of one row from x to before the end have this colour
-pub record IsRun (n : ℕ) (g : Grid) (y x end c : ℕ) : Type 0 where
-  pub some : x < end
-  pub each : (z : ℕ) → x ≤ z → z < end → colour_at n g (record { x = z; y = y }) ≡ c
+-- as many places of a row as there are in the square
+pub row_room : (n w y dy x k : ℕ) → w ≡ side n → y + dy < side n → x + k ≤ side n → y * w + x + dy * w + k ≤ side n * side n
+row_room n w y dy x k is lt le =
+    let rows : (y + dy + 1) * side n ≤ side n * side n = mul-le-mul_right (side n) (let more : y + dy + 1 ≤ side n = omega arith in more) in
+    let a : y * w ≡ y * side n = ap (λ z. y * z) is in
+    let b : dy * w ≡ dy * side n = ap (λ z. dy * z) is in
+    omega arith
 
--- the rest of a row in a block of one colour
-pub run_in : (n : ℕ) (g : Grid) (b : Block) (p : Pixel) (c : ℕ) → Holds b p → HasColour n g b c → IsRun n g p.y p.x (b.x + b.side) c
-run_in n g b p c h has =
-    let l = h.left in
-    let r = h.right in
-    let t = h.top in
-    let d = h.bottom in
-    record {
-      some = r;
-      each = λ z from to. has.each (record { x = z; y = p.y }) (record { left = omega arith; right = to; top = t; bottom = d });
-    }
-
-pub run_is : (n : ℕ) (g : Grid) (y x : ℕ) (e f : ℕ) (c d : Colour) → e ≡ f → c ≡ d → IsRun n g y x f d.0 → IsRun n g y x e c.0
-run_is n g y x e f c d end same run =
-    subst (λ z. IsRun n g y x z c.0) (sym end) (subst (λ (z : Colour). IsRun n g y x f z.0) (sym same) run)
+-- rows of one colour, and one more
+pub one_row_more : (n : ℕ) (g : Grid) (s : Block) (w dy c : ℕ) → w ≡ side n
+    → ((p : Pixel) → s.x ≤ p.x → p.x < s.x + s.side → s.y ≤ p.y → p.y < s.y + dy → colour_at n g p ≡ c)
+    → ((k : ℕ) → s.y * w + s.x + dy * w ≤ k → k < s.y * w + s.x + dy * w + s.side → get_or g k 0 ≡ c)
+    → (p : Pixel) → s.x ≤ p.x → p.x < s.x + s.side → s.y ≤ p.y → p.y < s.y + (dy + 1) → colour_at n g p ≡ c
+one_row_more n g s w dy c is above row p l r t d =
+    let a : s.y * w ≡ s.y * side n = ap (λ z. s.y * z) is in
+    let b : dy * w ≡ dy * side n = ap (λ z. dy * z) is in
+    ⊎_elim (above p l r t)
+    (λ last.
+    let here : p.y ≡ s.y + dy = omega arith in
+    let at : p.y * side n ≡ (s.y + dy) * side n = ap (λ z. z * side n) here in
+    row (p.y * side n + p.x) (omega arith) (omega arith)) (cases_lt p.y (s.y + dy))
 
 -- a grid is what its colours paint
 pub grid_of-colour_at : (n : ℕ) (g : Grid) → length g ≡ side n * side n → g ≡ grid_of n (colour_at n g)
 grid_of-colour_at n g long = grid_of-from n (colour_at n g) g long (λ k lt. sym (colour_at-pixel_at n g k))
+
+-- a whole square, put down from nothing
+pub all_added : (n : ℕ) (f : Pixel → ℕ) (s : ℕ) (start new : Painted) → s ≡ side n → start ≡ record { level = n; colours = [] } → Adds start.level f (code_to (record { x = 0; y = 0; side = s })) start new → Adds n f (4 ^ n) (record { level = n; colours = [] }) new
+all_added n f s start new wide none a =
+    let end = ap (λ (z : ℕ). let b : Block = record { x = 0; y = 0; side = z } in code_to b) wide ∙ code_to-whole n in
+    subst (λ (k : ℕ). Adds n f k (record { level = n; colours = [] }) new) end (subst (λ (m : Painted). Adds m.level f (code_to (record { x = 0; y = 0; side = s })) m new) none a)
+
+pub grid_from_corner : (n : ℕ) (g : Grid) → length g ≡ side n * side n → grid_of n (from_corner n g (record { x = 0; y = 0 })) ≡ g
+grid_from_corner n g long =
+    grid_of-same n (from_corner n g (record { x = 0; y = 0 })) (colour_at n g)
+    (λ p hx hy. let x : 0 + p.x ≡ p.x = omega arith in let y : 0 + p.y ≡ p.y = omega arith in ap₂ (λ (a b : ℕ). colour_at n g (record { x = a; y = b })) x y)
+    ∙ sym (grid_of-colour_at n g long)
 
 -- one number more
 pub below_more : (n : ℕ) → below (n + 1) ≡ below n ++ n ∷ []

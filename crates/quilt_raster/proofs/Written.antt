@@ -1,12 +1,12 @@
 -- Colours as a format writes them.
-use Rattle.std.proofs.Common.{◌≡◌, ◌≢◌, ℕ, ◌+◌, ◌*◌, ◌/◌, ◌%◌, ◌<◌, Bool, true, false, List, [], ◌∷◌, map, get_or, refl, sym, ◌∙◌, ap, ap₂, subst, arith, All, cond}
+use Rattle.std.proofs.Common.{◌≡◌, ◌≢◌, ℕ, ◌+◌, ◌*◌, ◌/◌, ◌%◌, ◌<◌, Bool, true, false, List, [], ◌∷◌, map, get_or, refl, sym, ◌∙◌, ap, ap₂, arith, All, cond}
 use Rattle.std.specs.Bool.{◌==◌}
 use Rattle.std.proofs.Math.ListN.{get_or-map}
 use Rattle.std.proofs.lemmas.Bool.{ne_eqb}
 use Rattle.std.proofs.lemmas.List.Elements.{All-head, All-tail}
 use Rattle.quilt_types.specs.declared.plane.Pixel.{Pixel}
 use Rattle.quilt_types.specs.Plane.{side}
-use Rattle.quilt_types.specs.Layers.{Grid, IsGrid, colour_at, colours}
+use Rattle.quilt_types.specs.Layers.{Grid, colour_at, colours}
 use Rattle.quilt_raster.specs.Showing.{hex, digits_of, written_in}
 
 -- the background is written as it is

@@ -1,17 +1,16 @@
-ghost use Rattle.std.specs.Prelude.{◌≡◌, ◌+◌, ◌<◌, ◌≤◌, [], ◌∷◌, ◌++◌, map, flat_map, OnOk, IfOk};
-ghost use Rattle.quilt_types.specs.Plane.{side, below, Holds, IsBlock};
+ghost use Rattle.std.specs.Prelude.{◌≡◌, ◌+◌, ◌*◌, ◌<◌, ◌≤◌, [], ◌∷◌, ◌++◌, length, map, flat_map, slice_index, OnOk, IfOk};
+ghost use Rattle.quilt_types.specs.Plane.{side, below};
 ghost use Rattle.quilt_types.specs.Layers.{IsGrid};
-ghost use Rattle.quilt_blocks.specs.Mosaic.{HasColour};
 ghost use Rattle.quilt_raster.specs.Showing.{hex, digits_of, row_line, written_in, shown};
 
-use quilt_blocks::{Leaf, LeafList};
-use quilt_loc::code_of;
-use quilt_types::{Block, Colour, Pixel, Text, Window};
+use crate::painting::paint;
+use quilt_blocks::LeafList;
+use quilt_types::{Block, Colour, Text, Window};
 use std::alloc::{AllocError, Global};
 
 /// The colours of a window of the square in lower-case hexadecimal digits, a line for each row. The format is 1 or 2: a
-/// colour has two digits in format 1, those of its low byte, and four in format 2. It looks up each leaf once a row, by a
-/// binary search.
+/// colour has two digits in format 1, those of its low byte, and four in format 2. It paints the window's pixels into
+/// cells, leaf by leaf, and writes them row by row.
 pub fn render(alloc: Global, list: &LeafList, w: Window, format: u8) -> Result<Text, AllocError>
     requires in_x { w.x + w.w ≤ side list.now.level }
     requires in_y { w.y + w.h ≤ side list.now.level }
@@ -22,37 +21,36 @@ pub fn render(alloc: Global, list: &LeafList, w: Window, format: u8) -> Result<T
 {
     let level = list.level();
     prove!(level <= 12);
+    let whole = Block {
+        x: 0,
+        y: 0,
+        side: 1 << level,
+    };
+    let mut cells = vec![in alloc; 0_u16; usize::from(w.w) * usize::from(w.h)]?;
+    paint(&mut cells, list, w, whole);
     let mut text = Text::new(alloc);
     for dy in 0..w.h {
-        push_row(&mut text, list, w, format, dy)?;
+        push_row(&mut text, &cells, w, format, dy)?;
         text.push(b"\n")?;
     }
     Ok(text)
 }
 
-/// Adds the digits of one row of the window, and looks up a leaf where the one before it ends.
+/// Adds the digits of one row of the window, whose colours are these.
 fn push_row(
     text: &mut Text,
-    list: &LeafList,
+    cells: &[u16],
     w: Window,
     format: u8,
     dy: u16,
 ) -> Result<(), AllocError>
-    requires most { list.now.level ≤ 12 }
-    requires in_x { w.x + w.w ≤ side list.now.level }
-    requires in_y { w.y + dy < side list.now.level }
-    ensures { OnOk result (text.new ≡ text.old ++ row_line format list.now.level (map (written_in format) list.now.grid) w dy) }
+    requires all { length cells.now ≡ w.w * w.h }
+    requires inside { dy < w.h }
+    ensures { OnOk result (text.new ≡ text.old ++ flat_map (λ dx. digits_of format (written_in format (slice_index cells.now (dy * w.w + dx)))) (below w.w)) }
 {
-    let mut end = w.x;
-    let mut colour = Colour(0);
-    for dx in 0..w.w {
-        let x = w.x + dx;
-        if x == end {
-            let leaf = leaf_around(list, Pixel { x, y: w.y + dy });
-            end = leaf.block.x + leaf.block.side;
-            colour = leaf.colour;
-        }
-        push_colour(text, colour, format)?;
+    let first = usize::from(dy) * usize::from(w.w);
+    for dx in 0..usize::from(w.w) {
+        push_colour(text, Colour(cells[first + dx]), format)?;
     }
     Ok(())
 }
@@ -73,29 +71,6 @@ fn push_colour(text: &mut Text, colour: Colour, format: u8) -> Result<(), AllocE
             digit_of(c % 16),
         ])
     }
-}
-
-/// The leaf that holds the pixel, by a binary search: the last that begins at its code or before.
-fn leaf_around(list: &LeafList, p: Pixel) -> Leaf
-    requires in_x { p.x < side list.now.level }
-    requires in_y { p.y < side list.now.level }
-    ensures block { IsBlock list.now.level result.block }
-    ensures held { Holds result.block p }
-    ensures colour { HasColour list.now.level list.now.grid result.block result.colour.0 }
-{
-    let mut low = 0;
-    let mut high = list.len();
-    let code = code_of(p);
-    while high - low > 1 {
-        let middle = low + (high - low) / 2;
-        let Block { x, y, .. } = list.leaf(middle).block;
-        if code_of(Pixel { x, y }) <= code {
-            low = middle;
-        } else {
-            high = middle;
-        }
-    }
-    list.leaf(low)
 }
 
 /// The lower-case hexadecimal digit of a number below 16.

@@ -1,10 +1,7 @@
-use Rattle.std.proofs.Common.{ℕ, sym, subst, arith}
-use Rattle.quilt_types.specs.declared.plane.Block.{Block}
-use Rattle.quilt_types.specs.Plane.{Holds}
+use Rattle.std.proofs.Common.{arith}
 use Rattle.quilt_loc.proofs.Blocks.{side_most}
-use Rattle.quilt_blocks.specs.Cutting.{pair_of}
 use Rattle.quilt_raster.proofs.Places.{first_code, held_at}
-use Rattle.quilt_raster.proofs.showing.leaf_around.Goals as goal
+use Rattle.quilt_raster.proofs.painting.place_around.Goals as goal
 
 pub loop-high-init : goal.loop-high-init
 loop-high-init c =
@@ -45,15 +42,11 @@ code_of-requires-clause-in_y c =
     omega arith
 
 pub returns-clause-held : goal.returns-clause-held
-returns-clause-held c =
-    let n = c.args.list.now.level in
-    let g = c.args.list.now.grid in
-    let e = pair_of c.leaf.result in
+returns-clause-held c d =
     let inv = c.loop-high.invariant in
     let some = inv.some in
     let inside = inv.inside in
     let v = c.code_of-code.ensures.value in
-    let f = inv.from e in
+    let f = inv.from d in
     let end = c.loop-high-test.false in
-    subst (λ (z : Block × ℕ). Holds z.0 c.args.p) (sym c.leaf.ensures.value)
-    (held_at n g c.len-high.ensures.raster.most c.args.p c.loop-high.low c.loop-high.high e c.requires.in_x c.requires.in_y some (omega arith) inside (omega arith) (λ lt. let t = inv.to e lt in omega arith))
+    held_at c.args.list.now.level c.args.list.now.grid c.len-high.ensures.raster.most c.args.p c.loop-high.low c.loop-high.high d c.requires.in_x c.requires.in_y some (omega arith) inside (omega arith) (λ lt. let t = inv.to d lt in omega arith)

@@ -1,0 +1,59 @@
+-- Rows of a window out of its painted cells.
+use Rattle.std.proofs.Common.{◌≡◌, ℕ, zero, suc, ◌+◌, ◌-◌, ◌*◌, ◌%◌, ◌^◌, ◌<◌, ◌≤◌, List, [], ◌++◌, flat_map, map, get_or, refl, sym, ◌∙◌, ap, ap₂, subst, arith}
+use Rattle.std.proofs.Math.Nat.{mul-le-mul_right}
+use Rattle.std.proofs.lemmas.List.{flat_map_more}
+use Rattle.quilt_types.specs.declared.plane.Pixel.{Pixel}
+use Rattle.quilt_types.specs.declared.plane.Window.{Window}
+use Rattle.quilt_types.specs.declared.plane.Block.{Block}
+use Rattle.quilt_types.specs.Plane.{side, below}
+use Rattle.quilt_types.specs.Layers.{Grid, colour_at}
+use Rattle.quilt_loc.specs.Codes.{code_from, code_to}
+use Rattle.quilt_loc.proofs.Intervals.{origin_code}
+use Rattle.quilt_blocks.proofs.Painting.{code_in}
+use Rattle.quilt_blocks.proofs.Squares.{width, code_to-whole}
+use Rattle.quilt_raster.specs.Painting.{IsIn, place_of, ArePainted}
+use Rattle.quilt_raster.specs.Showing.{digits_of, row_line, written_in}
+use Rattle.quilt_raster.proofs.Points.{below_more}
+use Rattle.quilt_raster.proofs.Written.{colour_at-written}
+
+-- nothing is painted before the first code
+pub ArePainted-none : (n : ℕ) (g : Grid) (w : Window) (s : ℕ) (cells : List ℕ) → ArePainted n g w (code_from (record { x = 0; y = 0; side = s })) cells
+ArePainted-none n g w s cells = record { each = λ p i lt. let z = origin_code in absurd (omega arith) }
+
+-- all codes of the square, whose side is as the code has it
+pub ArePainted-all : (n k : ℕ) (g : Grid) (w : Window) (cells : List ℕ) → n ≤ 12 → k ≡ n → ArePainted n g w (code_to (record { x = 0; y = 0; side = 1 * 2 ^ k % 65536 })) cells → ArePainted n g w (4 ^ n) cells
+ArePainted-all n k g w cells most level h =
+    let size : 1 * 2 ^ k % 65536 ≡ side n = ap (λ (j : ℕ). 1 * 2 ^ j % 65536) level ∙ width n most in
+    let end = ap (λ (s : ℕ). let b : Block = record { x = 0; y = 0; side = s } in code_to b) size ∙ code_to-whole n in
+    subst (λ (e : ℕ). ArePainted n g w e cells) end h
+
+-- a place in a row of a window, and all rows
+pub in_rows : (dy dx w h : ℕ) → dy < h → dx < w → dy * w + dx < w * h
+in_rows dy dx w h lt in_row = let m : (dy + 1) * w ≤ h * w = mul-le-mul_right w (let e : dy + 1 ≤ h = omega arith in e) in omega arith
+
+-- one number more
+pub flat_map_below : (f : ℕ → List ℕ) (start : List ℕ) (k : ℕ) → (start ++ flat_map f (below k)) ++ f k ≡ start ++ flat_map f (below (k + 1))
+flat_map_below f start k = flat_map_more f start (below k) k ∙ ap (λ l. start ++ flat_map f l) (sym (below_more k))
+
+below_same : (f g : ℕ → List ℕ) (k : ℕ) → ((i : ℕ) → i < k → f i ≡ g i) → flat_map f (below k) ≡ flat_map g (below k)
+below_same f g zero same = refl
+below_same f g (suc k) same =
+    let e : suc k ≡ k + 1 = omega arith in
+    ap (λ j. flat_map f (below j)) e ∙ sym (flat_map_below f [] k)
+    ∙ ap₂ (λ a b. a ++ b) (below_same f g k (λ i lt. same i (omega arith))) (same k (omega arith))
+    ∙ flat_map_below g [] k ∙ ap (λ j. flat_map g (below j)) (sym e)
+
+-- a row as its cells have it
+pub row_painted : (f n : ℕ) (g : Grid) (w : Window) (cells : List ℕ) (dy : ℕ) → n ≤ 12 → w.x + w.w ≤ side n → w.y + w.h ≤ side n → dy < w.h → ArePainted n g w (4 ^ n) cells
+    → flat_map (λ dx. digits_of f (written_in f (get_or cells (dy * w.w + dx) 0))) (below w.w) ≡ row_line f n (map (written_in f) g) w dy
+unfolding row_line
+row_painted f n g w cells dy most in_x in_y lt painted =
+    below_same (λ dx. digits_of f (written_in f (get_or cells (dy * w.w + dx) 0))) (λ dx. digits_of f (colour_at n (map (written_in f) g) (record { x = w.x + dx; y = w.y + dy }))) w.w
+    (λ dx in_row.
+    let p : Pixel = record { x = w.x + dx; y = w.y + dy } in
+    let row : w.y + dy - w.y ≡ dy = omega arith in
+    let column : w.x + dx - w.x ≡ dx = omega arith in
+    let at : place_of w p ≡ dy * w.w + dx = ap₂ (λ a b. a * w.w + b) row column in
+    let held : IsIn w p = record { left = omega arith; right = omega arith; top = omega arith; bottom = omega arith } in
+    ap (λ c. digits_of f (written_in f c)) (ap (λ k. get_or cells k 0) (sym at) ∙ painted.each p held (code_in n p most (omega arith) (omega arith)))
+    ∙ ap (digits_of f) (sym (colour_at-written f n g p)))

@@ -1,0 +1,11 @@
+use Rattle.std.proofs.Common.{◌+◌, ◌*◌, ◌/◌}
+use Rattle.quilt_loc.specs.Codes.{code_from}
+use Rattle.quilt_blocks.specs.Adding.{Adds}
+use Rattle.quilt_raster.specs.Bytes.{colours_of_bytes, from_corner}
+use Rattle.quilt_raster.proofs.reading.+add_square.Given as goal
+
+abbrev pub decreases-add_square : goal.decreases-add_square
+decreases-add_square l = l.b.side
+
+abbrev pub invariant-loop-q : goal.invariant-loop-q
+invariant-loop-q l = Adds l.initial.maker.level (from_corner l.level (colours_of_bytes l.colours) l.corner) (code_from l.fn.b + l.q-index * (l.fn.b.side / 2 * (l.fn.b.side / 2))) l.initial.maker l.maker
