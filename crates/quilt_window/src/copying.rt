@@ -1,19 +1,20 @@
-ghost use Rattle.std.specs.Prelude.{◌≡◌, ◌+◌, ◌<◌, ◌≤◌, length, IfOk, OnOk, IfSome, IsNone};
+ghost use Rattle.std.specs.Prelude.{◌≡◌, ◌+◌, ◌<◌, ◌≤◌, true, length, IfOk, OnOk, IfSome, IsNone};
 ghost use Rattle.quilt_types.specs.declared.plane.Pixel.{Pixel as PixelValue};
-ghost use Rattle.quilt_types.specs.Plane.{side as side_of, Holds, IsBlock, Within};
+ghost use Rattle.quilt_types.specs.Plane.{side as side_of, Holds, IsBlock};
 ghost use Rattle.quilt_types.specs.Algebra.{grid_of};
 ghost use Rattle.quilt_loc.specs.Codes.{code_from, code_to, IsSide};
 ghost use Rattle.quilt_blocks.specs.Adding.{Adds};
+ghost use Rattle.quilt_blocks.specs.Mosaic.{HasColour};
 ghost use Rattle.quilt_window.specs.Copying.{IsSpan, copied, square};
 
 use crate::span::Span;
 use quilt_blocks::{LeafList, Maker};
-use quilt_loc::{block_at, parent, quarters};
+use quilt_loc::{block_at, quarters};
 use quilt_types::{Block, Colour, Pixel};
 use std::alloc::{AllocError, Global};
 
 /// The leaves of the map whose pixels take their colours from another map by a span of each axis, and else are 0. It cuts
-/// the square into quarters down to squares of which no pixel takes a colour, or all from one leaf. Each of them costs two
+/// the square into quarters down to squares of which no pixel takes a colour, or all from leaves of one colour. Each costs four
 /// binary searches at most, and their number grows with the edges of the leaves there and here, not with the pixels.
 pub(crate) fn copy(
     alloc: Global,
@@ -86,25 +87,61 @@ fn one_colour(a: &LeafList, across: Span, down: Span, b: Block) -> Option<Colour
     if b.side == 1 {
         return Some(a.colour_at(source));
     }
-    a.uniform_in(block_around(source, b.side, a.level()))
+    colour_around(a, source, b.side)
 }
 
-/// The smallest block that holds the square of this side, a power of two, whose upper left pixel this is.
-fn block_around(p: Pixel, side: u16, level: u8) -> Block
-    requires least { 1 ≤ level }
-    requires most { level ≤ 12 }
+/// The colour of the pixels of the square of this side, a power of two, whose upper left pixel this is: that of the blocks
+/// of this side which the square meets, four at most. None where they have no one colour.
+fn colour_around(a: &LeafList, p: Pixel, side: u16) -> Option<Colour>
+    requires least { 1 ≤ a.now.level }
+    requires most { a.now.level ≤ 12 }
     requires power { IsSide side }
-    requires in_x { p.x + side ≤ side_of level }
-    requires in_y { p.y + side ≤ side_of level }
-    ensures valid { IsBlock level result }
-    ensures holds { Within (square p side) result }
+    requires in_x { p.x + side ≤ side_of a.now.level }
+    requires in_y { p.y + side ≤ side_of a.now.level }
+    ensures { IfSome result (λ c. HasColour a.now.level a.now.grid (square p side) c.0) }
 {
-    let mut b = block_at(p, side);
-    while p.x + side > b.x + b.side || p.y + side > b.y + b.side {
-        let Some(larger) = parent(b, level) else {
-            return b;
-        };
-        b = larger;
+    let Block { x, y, .. } = block_at(p, side);
+    let colour = a.uniform_in(Block { x, y, side })?;
+    let is_across = x < p.x;
+    let is_down = y < p.y;
+    if agrees(
+        a,
+        Block {
+            x: x + side,
+            y,
+            side,
+        },
+        is_across,
+        colour,
+    ) && agrees(
+        a,
+        Block {
+            x,
+            y: y + side,
+            side,
+        },
+        is_down,
+        colour,
+    ) && agrees(
+        a,
+        Block {
+            x: x + side,
+            y: y + side,
+            side,
+        },
+        is_across && is_down,
+        colour,
+    ) {
+        Some(colour)
+    } else {
+        None
     }
-    b
+}
+
+/// Whether all pixels of the block have the colour, where the block is met.
+fn agrees(a: &LeafList, b: Block, is_met: bool, colour: Colour) -> bool
+    requires { is_met ≡ true → IsBlock a.now.level b }
+    ensures { result ≡ true → is_met ≡ true → HasColour a.now.level a.now.grid b colour.0 }
+{
+    !is_met || a.uniform_in(b) == Some(colour)
 }

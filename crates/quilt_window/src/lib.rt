@@ -8,6 +8,3 @@ mod windowing;
 
 pub use shifting::shift;
 pub use windowing::window;
-
-#[cfg(test)]
-mod tests;

@@ -41,6 +41,6 @@ returns-clause-some c =
     let y = c.covers-else-not-covers.ensures in
     let inx = c.if-not-covers.false in
     let iny = c.if-not-covers-2.false in
-    IfSome_then c.uniform_in.result c.uniform_in.ensures.colour
-    (λ k has. copied_in n g c.args.across c.args.down c.args.b c.block_around.result (record { x = c.source_of.result; y = c.source_of-2.result }) k.0
-    (x.left inx) (x.right inx) (y.left iny) (y.right iny) c.source_of.ensures c.source_of-2.ensures c.block_around.ensures.holds has)
+    IfSome_then c.colour_around.result c.colour_around.ensures
+    (λ k has. copied_in n g c.args.across c.args.down c.args.b (record { x = c.source_of.result; y = c.source_of-2.result }) k.0
+    (x.left inx) (x.right inx) (y.left iny) (y.right iny) c.source_of.ensures c.source_of-2.ensures has)
