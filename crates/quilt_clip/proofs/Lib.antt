@@ -7,3 +7,4 @@ pub mod Clips
 pub mod Rests
 pub mod Cuts
 pub mod Ends
+pub mod Compared

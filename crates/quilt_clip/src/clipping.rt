@@ -1,5 +1,5 @@
 ghost use Rattle.std.specs.Prelude.{◌≡◌, ◌↔◌, IsTrue, IsNone, IfSome};
-ghost use Rattle.quilt_types.specs.Segments.{clip_range, square, Meets, IsClipRange};
+ghost use Rattle.quilt_types.specs.Segments.{clip_range, is_in, square, Meets, IsClipRange};
 ghost use Rattle.quilt_types.specs.Segments.{meets as segment_meets};
 ghost use Rattle.quilt_clip.specs.Spans.{IsClipped};
 
@@ -35,19 +35,39 @@ pub fn clip(s: Seg, w: Window) -> Option<(Frac, Frac)>
     Some((first, last))
 }
 
+/// Whether the segment's first end lies in the closed rectangle of the window.
+fn begins_in(s: Seg, w: Window) -> bool
+    ensures { result ≡ is_in s w (record { num = 0; den = 1 }) }
+{
+    w.x <= s.x1
+        && s.x1 as u32 <= w.x as u32 + w.w as u32
+        && w.y <= s.y1
+        && s.y1 as u32 <= w.y as u32 + w.h as u32
+}
+
+/// Whether a point of the segment, an end or a point between, lies in the closed rectangle of the window.
+pub fn crosses(s: Seg, w: Window) -> bool
+    ensures value { result ≡ segment_meets s w }
+    ensures point { IsTrue result ↔ Meets s w }
+{
+    if begins_in(s, w) {
+        return true;
+    }
+    span_in(s, w).is_some()
+}
+
 /// Whether a point of the segment, an end or a point between, lies in the block's closed square.
 pub fn meets(s: Seg, b: Block) -> bool
     ensures value { result ≡ segment_meets s (square b) }
     ensures point { IsTrue result ↔ Meets s (square b) }
 {
-    let w = Window {
-        x: b.x,
-        y: b.y,
-        w: b.side,
-        h: b.side,
-    };
-    span_in(s, w).is_some()
+    crosses(
+        s,
+        Window {
+            x: b.x,
+            y: b.y,
+            w: b.side,
+            h: b.side,
+        },
+    )
 }
-
-#[cfg(test)]
-mod tests;

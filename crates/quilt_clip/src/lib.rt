@@ -5,5 +5,5 @@ mod clipping;
 mod frac;
 mod span;
 
-pub use clipping::{clip, meets};
+pub use clipping::{clip, crosses, meets};
 pub use frac::{Frac, cmp};

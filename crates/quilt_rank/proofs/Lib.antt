@@ -1,6 +1,6 @@
 pub mod Orders
+pub mod Adding
 pub mod Ranking
 pub mod Fronts
 pub mod Closes
 pub mod Goings
-pub mod Placing

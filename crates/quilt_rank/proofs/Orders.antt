@@ -1,13 +1,18 @@
 -- Lists in the order of distance and then id.
 use Rattle.std.proofs.Common.{◌≡◌, ℕ, zero, suc, ◌<◌, ◌≤◌, Bool, true, false, cond, ◌⊎◌, inl, inr, ⊎_elim, List, [], ◌∷◌, length, take, Contains, eqb, eqb-true, refl, sym, ◌∙◌, ap, ap₂, subst, arith, true≢false}
+use Rattle.std.specs.Prelude.{◌==◌, if◌then◌else◌}
 use Rattle.quilt_types.specs.Fractions.{Fraction}
 use Rattle.quilt_types.specs.Ranking.{comes_first, placed}
 use Rattle.quilt_loc.proofs.Members.{Contains-nil, Contains-here, Contains-there, Contains-cons_cases}
 use Rattle.quilt_near.proofs.Leading.{Leads, leads_itself, leads_trans, first_leads, last_leads}
-use Rattle.quilt_rank.specs.Ranks.{put}
 
 abbrev pub Rank : Type 0
 Rank = ℕ × Fraction
+
+-- an id with its distance comes to its place, unless the id is met on the way
+abbrev pub put : List Rank → Rank → List Rank
+put [] e = e ∷ []
+put (f ∷ fs) e = if f.0 == e.0 then f ∷ fs else if comes_first e f then e ∷ f ∷ fs else f ∷ put fs e
 
 -- a comes before b, and b not before a
 pub record Ahead (a b : Rank) : Type 0 where

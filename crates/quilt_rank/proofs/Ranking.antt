@@ -14,8 +14,9 @@ use Rattle.quilt_clip.proofs.Orders.{up_to_itself}
 use Rattle.quilt_loc.proofs.Members.{Contains-nil, Contains-here, Contains-there, Contains-cons_cases}
 use Rattle.quilt_near.proofs.Leasts.{Rises, rises_if_sorted, same_entry}
 use Rattle.quilt_near.proofs.Leading.{IsOne, far_of, real_positive}
-use Rattle.quilt_rank.specs.Ranks.{put, with_seg, last_far}
-use Rattle.quilt_rank.proofs.Orders.{Rank, Ahead, AreRanked, ahead_trans, first_ahead, not_eq, Puts, puts, placed_put, in_take, take_ranked, take_few, IsSettled, take_settled, sub_length, first_of}
+use Rattle.quilt_rank.specs.Ranks.{added, with_seg, last_far}
+use Rattle.quilt_rank.proofs.Orders.{Rank, put, Ahead, AreRanked, ahead_trans, first_ahead, not_eq, Puts, puts, placed_put, in_take, take_ranked, take_few, IsSettled, take_settled, sub_length, first_of}
+use Rattle.quilt_rank.proofs.Adding.{added_put}
 
 -- the last of a ranked list is as far as any
 pub record IsLast (rs : List Rank) (r : Rank) : Type 0 where
@@ -191,10 +192,12 @@ module _ (p : Pixel) (segs : SegMap) where
       let now_real = λ (z : Rank) (c : Contains now z). ⊎_elim {C = IsRank z} (λ is. subst IsRank is i) (λ d. real z d) (u.real z (in_take k (put rs e) z c)) in
       let keeps = λ (z : Rank) (iz : IsRank z) (s : IsSettled k rs z). ⊎_elim {C = IsSettled k now z} (λ c. take_settled k (put rs e) u.ranked z (u.kept z c)) (λ w. let a = cut_put k rs e z i iz real w.0 w.1 in inr (a.full, a.each)) s in
       let more = steps k now xs (λ y c. in' y (Contains-there x xs y c)) (take_ranked k (put rs e) u.ranked) now_real (take_few k (put rs e)) in
-      record {
+      let same : added rs e ≡ put rs e = added_put IsRank rank_positive one_rank rs e i real in
+      subst (λ (t : List Rank). Steps k rs (x ∷ xs) (fold (with_seg p k) (take k t) xs)) (sym same)
+      (record {
         order = more.order;
         real = more.real;
         few = more.few;
         here = λ y c. ⊎_elim (λ is. more.kept (far_of p y) (rank_of y (in' y c)) (subst (λ (t : ℕ × Seg). IsSettled k now (far_of p t)) is (take_settled k (put rs e) u.ranked e u.here))) (λ d. more.here y d) (Contains-cons_cases x xs y c);
         kept = λ z iz s. more.kept z iz (keeps z iz s);
-      }
+      })

@@ -1,19 +1,25 @@
 -- Lists of ids with distances, in the order of distance and then id.
-use Rattle.std.specs.Prelude.{ℕ, ◌*◌, Bool, ◌&&◌, nat_lt, List, [], ◌∷◌, length, take, ◌==◌, if◌then◌else◌}
+use Rattle.std.specs.Prelude.{ℕ, ◌*◌, Bool, ◌&&◌, nat_lt, List, [], ◌∷◌, length, take, ◌==◌}
+use Rattle.std.specs.Ordering.{nat_cmp, ordering_then}
+use Rattle.std.specs.BTreeSet.{insert_key}
+use Rattle.std.specs.declared.cmp.Ordering.{Ordering}
 use Rattle.quilt_types.specs.declared.plane.Pixel.{Pixel}
 use Rattle.quilt_types.specs.declared.plane.Seg.{Seg}
 use Rattle.quilt_types.specs.Fractions.{Fraction}
 use Rattle.quilt_types.specs.Segments.{square_distance}
-use Rattle.quilt_types.specs.Ranking.{comes_first}
+use Rattle.quilt_clip.specs.Compared.{compared}
 
--- an id with its distance comes to its place, unless the id is met on the way
-abbrev pub put : List (ℕ × Fraction) → ℕ × Fraction → List (ℕ × Fraction)
-put [] e = e ∷ []
-put (f ∷ fs) e = if f.0 == e.0 then f ∷ fs else if comes_first e f then e ∷ f ∷ fs else f ∷ put fs e
+-- by distance and then id
+abbrev pub rank_cmp : ℕ × Fraction → ℕ × Fraction → Ordering
+rank_cmp a b = ordering_then (compared a.1 b.1) (nat_cmp a.0 b.0)
+
+-- an id with its distance comes to its place, unless it is there
+abbrev pub added : List (ℕ × Fraction) → ℕ × Fraction → List (ℕ × Fraction)
+added rs e = insert_key rank_cmp rs e
 
 -- the first k after one more segment
 abbrev pub with_seg : Pixel → ℕ → List (ℕ × Fraction) → ℕ × Seg → List (ℕ × Fraction)
-with_seg p k rs e = take k (put rs (e.0, square_distance p e.1))
+with_seg p k rs e = take k (added rs (e.0, square_distance p e.1))
 
 -- the distance of the last one
 abbrev pub last_far : List (ℕ × Fraction) → Fraction

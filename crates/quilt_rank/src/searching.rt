@@ -9,21 +9,22 @@ ghost use Rattle.quilt_near.specs.Parts.{HasStopCause, IsSound};
 ghost use Rattle.quilt_rank.specs.Ranks.{with_seg, last_far};
 ghost use Rattle.quilt_rank.specs.Opened.{IsOpened};
 
+use crate::firsts::Firsts;
 use crate::ranks::RankList;
-use quilt_near::{Part, Queue, SegBlocks, block_distance, push_quarters, sqdist};
+use quilt_near::{Part, Queue, SegBlocks, block_distance, push_quarters, square_distance};
 use quilt_store::PageStore;
 use quilt_types::{Block, Pixel, Seg, Stop};
 use std::alloc::{AllocError, Global};
 
 /// Puts the segments of a list to their places among the first k.
-fn rank_all(ranks: &mut RankList, list: &[(u32, Seg)], p: Pixel, k: usize) -> Result<(), AllocError>
+fn rank_all(ranks: &mut Firsts, list: &[(u32, Seg)], p: Pixel, k: usize) -> Result<(), AllocError>
     requires x { p.x < 8192 }
     requires y { p.y < 8192 }
     requires ends { All (λ e. (e.1.x1 < 8192) × (e.1.y1 < 8192) × (e.1.x2 < 8192) × (e.1.y2 < 8192)) list.now }
     ensures { OnOk result (ranks.new ≡ fold (with_seg p k) ranks.old list.now) }
 {
     for (id, s) in list {
-        ranks.put(*id, sqdist(p, *s), k)?;
+        ranks.put(*id, square_distance(p, *s), k)?;
     }
     Ok(())
 }
@@ -34,7 +35,7 @@ fn open<S: PageStore, B: SegBlocks<S>>(
     blocks: &B,
     store: &mut S,
     queue: &mut Queue,
-    ranks: &mut RankList,
+    ranks: &mut Firsts,
     p: Pixel,
     k: usize,
     b: Block,
@@ -95,7 +96,7 @@ pub fn ranked<S: PageStore, B: SegBlocks<S>>(
         Err(_) => return Err(Stop::Memory),
         Ok(()) => {}
     }
-    let mut ranks = RankList::new(alloc);
+    let mut ranks = Firsts::new(alloc);
     while let Some((distance, block)) = queue.pop() {
         if ranks.is_past(k as usize, distance) {
             break;
@@ -107,5 +108,8 @@ pub fn ranked<S: PageStore, B: SegBlocks<S>>(
             Ok(()) => {}
         }
     }
-    Ok(ranks)
+    match ranks.listed(alloc) {
+        Err(_) => Err(Stop::Memory),
+        Ok(list) => Ok(list),
+    }
 }

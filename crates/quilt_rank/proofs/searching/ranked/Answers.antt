@@ -1,4 +1,9 @@
-use Rattle.std.proofs.Common.{◌≡◌, ◌≤◌, sym, ◌∙◌, subst, refl, arith}
+use Rattle.std.proofs.Common.{◌≡◌, ◌+◌, ◌≤◌, List, length, sym, ◌∙◌, subst, refl, arith}
+use Rattle.quilt_types.specs.Quadtrees.{reach}
+use Rattle.quilt_store.specs.Store.{Tells}
+use Rattle.quilt_near.specs.Budgets.{is_close}
+use Rattle.quilt_rank.specs.Ranks.{last_far}
+use Rattle.quilt_rank.proofs.Orders.{Rank}
 use Rattle.quilt_types.specs.Ranking.{ranked}
 use Rattle.quilt_near.specs.Lines.{Lines}
 use Rattle.quilt_near.proofs.QuarterBlocks.{whole_by, first_pushed}
@@ -69,8 +74,12 @@ found g c l s =
     ]
 
 pub returns-clause-ranked : goal.returns-clause-ranked
-returns-clause-ranked g c l s = found g c l s
+returns-clause-ranked g c l s = c.in-Ok-listed.ensures ∙ found g c l s
 
 pub returns-clause-reads : goal.returns-clause-reads
 returns-clause-reads g c l s long =
-    going_reads _ c.args.p c.args.k c.requires.some (g.B.SegBlocks.shows c.args.blocks.now c.args.store.now) (g.met.B.SegBlocks.lines c.args.blocks.now c.args.store.now) (g.S.PageStore.reads c.args.store.now) (g.S.PageStore.reads c.loop-distance.store) c.loop-distance.queue c.loop-distance.ranks c.loop-distance.invariant.going l s (found g c l s) long
+    subst
+    (λ (t : List Rank). length t ≡ c.args.k → Tells (λ old new. new ≤ old + reach (g.B.SegBlocks.level_of c.args.blocks.now) l.segs l.cover (is_close c.args.p (last_far t))) (g.S.PageStore.reads c.args.store.now) (g.S.PageStore.reads c.loop-distance.store))
+    (sym c.in-Ok-listed.ensures)
+    (going_reads _ c.args.p c.args.k c.requires.some (g.B.SegBlocks.shows c.args.blocks.now c.args.store.now) (g.met.B.SegBlocks.lines c.args.blocks.now c.args.store.now) (g.S.PageStore.reads c.args.store.now) (g.S.PageStore.reads c.loop-distance.store) c.loop-distance.queue c.loop-distance.ranks c.loop-distance.invariant.going l s (found g c l s))
+    long
