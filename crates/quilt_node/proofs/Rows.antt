@@ -1,8 +1,8 @@
 -- Rows of one width in the bytes of a page, with zeros behind them up to a fixed size, and what edits of the bytes make of the rows.
-use Rattle.std.proofs.Common.{◌≡◌, ℕ, zero, suc, ◌+◌, ◌-◌, ◌*◌, ◌<◌, ◌≤◌, List, [], ◌∷◌, ◌++◌, length, map, take, drop, get_or, set, slice_range, refl, sym, ◌∙◌, ap, subst, append_assoc, arith, replicate, flat_map, length-append, length-take-le, add-one}
+use Rattle.std.proofs.Common.{◌≡◌, ℕ, zero, suc, ◌+◌, ◌-◌, ◌*◌, ◌<◌, ◌≤◌, List, [], ◌∷◌, ◌++◌, length, map, take, drop, get_or, set, slice_range, refl, sym, ◌∙◌, ap, subst, append_assoc, arith, replicate, flat_map, length-append, length-drop, length-take-le, add-one}
 use Rattle.std.specs.List.{insert, remove, range_with_len}
 use Rattle.std.proofs.Math.Nat.{mul-suc, mul-zero, mul-add, mul-le-mul_left}
-use Rattle.std.proofs.Math.Seq.{take-append_seam, drop-append_seam, drop-cons, take-add}
+use Rattle.std.proofs.Math.Seq.{take-append_seam, drop-append_seam, drop-cons, take-add, take-length}
 use Rattle.std.proofs.lemmas.List.{take-append-drop, drop-drop, replicate-append-replicate, length-replicate, take-set, drop-set, length-set}
 use Rattle.std.proofs.lemmas.Grind.{flat_map-append}
 
@@ -306,3 +306,18 @@ rows_again f read w at bytes (suc n) a each =
     ∙ ap (λ b. take w (drop (at + w * a) bytes) ++ flat_map f (map read (range_with_len b n))) one_on
     ∙ ap (λ l. take w (drop (at + w * a) bytes) ++ l) (rest ∙ ap (λ m. take (w * n) (drop m bytes)) on ∙ ap (take (w * n)) (sym (drop-drop w (at + w * a) bytes)))
     ∙ sym (ap (λ m. take m (drop (at + w * a) bytes)) wide ∙ take-add w (w * n) (drop (at + w * a) bytes))
+
+-- Bytes from a place on are those up to another, and those from there on.
+pub two_parts : (bytes : List ℕ) (at end : ℕ) → at ≤ end → drop at bytes ≡ slice_range bytes at end ++ drop end bytes
+two_parts bytes at end h =
+    let on : at + (end - at) ≡ end = omega (arith, h) in
+    sym (take-append-drop (end - at) (drop at bytes)) ∙ ap (λ l. slice_range bytes at end ++ l) (drop-drop (end - at) at bytes ∙ ap (λ n. drop n bytes) on)
+
+pub three_parts : (bytes : List ℕ) (at end : ℕ) → at ≤ end → bytes ≡ take at bytes ++ (slice_range bytes at end ++ drop end bytes)
+three_parts bytes at end h = sym (take-append-drop at bytes) ∙ ap (λ l. take at bytes ++ l) (two_parts bytes at end h)
+
+pub to_end : (bytes : List ℕ) (at end : ℕ) → length bytes ≡ end → slice_range bytes at end ≡ drop at bytes
+to_end bytes at end e = ap (λ n. take n (drop at bytes)) (sym (length-drop at bytes ∙ ap (λ n. n - at) e)) ∙ take-length (drop at bytes)
+
+pub slice_length : (bytes : List ℕ) (at end n : ℕ) → end ≤ length bytes → end - at ≡ n → length (slice_range bytes at end) ≡ n
+slice_length bytes at end n h e = length-take-le (end - at) (drop at bytes) (omega (arith, h, length-drop at bytes)) ∙ e

@@ -17,13 +17,13 @@ drop_behind pre xs k n e = ap (λ m. drop m (pre ++ xs)) e ∙ drop-append-add p
 index_behind : (pre xs : List ℕ) (k n : ℕ) → n ≡ length pre + k → slice_index (pre ++ xs) n ≡ slice_index xs k
 index_behind pre xs k n e = ap (λ m. slice_index (pre ++ xs) m) e ∙ get_or-append-add pre xs k 0
 
-part_behind : (pre xs : List ℕ) (k n m : ℕ) → n ≡ length pre + k → slice_range (pre ++ xs) n (n + m) ≡ slice_range xs k (k + m)
+pub part_behind : (pre xs : List ℕ) (k n m : ℕ) → n ≡ length pre + k → slice_range (pre ++ xs) n (n + m) ≡ slice_range xs k (k + m)
 part_behind pre xs k n m e =
     let d : n + m - n ≡ m = omega arith in
     let f : k + m - k ≡ m = omega arith in
     ap (λ l. take (n + m - n) l) (drop_behind pre xs k n e) ∙ ap (λ l. take l (drop k xs)) (d ∙ sym f)
 
-key_behind : (pre xs : List ℕ) (at : ℕ) → at ≡ length pre → key_at (pre ++ xs) at ≡ key_at xs 0
+pub key_behind : (pre xs : List ℕ) (at : ℕ) → at ≡ length pre → key_at (pre ++ xs) at ≡ key_at xs 0
 key_behind pre xs at e =
     let layer = ap (from_be_bytes w16) (part_behind pre xs 0 at 2 (omega arith)) in
     let part = index_behind pre xs 2 (at + 2) (omega arith) in
@@ -110,6 +110,11 @@ front_key (a ∷ b ∷ p ∷ c ∷ d ∷ e ∷ f ∷ q ∷ g ∷ h ∷ i ∷ j �
     ∙ ap (λ l. a ∷ b ∷ [] ++ (p ∷ l) ++ (q ∷ to_be_bytes w32 (g * 16777216 + h * 65536 + i * 256 + j))) code
     ∙ ap (λ l. a ∷ b ∷ [] ++ (p ∷ c ∷ d ∷ e ∷ f ∷ []) ++ (q ∷ l)) item
 front_key xs are lt = absurd (omega arith)
+
+-- The first four bytes, by the numbers that stand there.
+pub first_four : (bytes : List ℕ) → AreBytes bytes → 4 ≤ length bytes → take 4 bytes ≡ slice_index bytes 0 ∷ slice_index bytes 1 ∷ to_be_bytes w16 (short_at bytes 2)
+first_four (a ∷ b ∷ c ∷ d ∷ xs) are lt = ap (λ l. a ∷ b ∷ l) (sym (be_bytes_2 (c ∷ d ∷ []) (c * 256 + d) refl (bytes_of_two c d (are 2) (are 3)) refl))
+first_four xs are lt = absurd (omega arith)
 
 front_word : (xs : List ℕ) → AreBytes xs → 4 ≤ length xs → to_be_bytes w32 (word_at xs 0) ≡ take 4 xs
 front_word (c ∷ d ∷ e ∷ f ∷ xs) are lt =

@@ -1,11 +1,22 @@
 -- The keys and the children that stand in a page's bytes.
-use Rattle.std.specs.Prelude.{◌≡◌, ℕ, suc, ◌+◌, ◌*◌, ◌<◌, ◌≤◌, true, List, map, length, take, drop, Some, slice_get}
+use Rattle.std.specs.Prelude.{◌≡◌, ℕ, suc, ◌+◌, ◌*◌, ◌^◌, ◌<◌, ◌≤◌, true, List, map, length, take, drop, Some, slice_get}
 use Rattle.std.specs.List.{list_all}
 use Rattle.std.specs.Ordering.{is_lt}
 use Rattle.quilt_types.specs.Plane.{below}
 use Rattle.quilt_record.specs.declared.key.Key.{Key}
 use Rattle.quilt_record.specs.Records.{key_cmp}
 use Rattle.quilt_node.specs.Pages.{key_at, word_at}
+
+-- a key as one number: its first eight bytes, and its last four below them
+unfoldable pub key_number : Key → ℕ
+key_number k = k.layer * 2 ^ 112 + (k.part * 2 ^ 104 + (k.code * 2 ^ 72 + (k.depth * 2 ^ 64 + k.item)))
+
+-- the fields behind the first fit the bytes that they have
+pub record FieldsFit (k : Key) : Type 0 where
+  pub part : k.part < 2 ^ 8
+  pub code : k.code < 2 ^ 32
+  pub depth : k.depth < 2 ^ 8
+  pub item : k.item < 2 ^ 32
 
 -- n keys from a place on, each so many bytes behind the one before
 abbrev pub keys_in : List ℕ → ℕ → ℕ → ℕ → List Key

@@ -1,10 +1,15 @@
 ghost use Rattle.std.specs.Prelude.{◌≡◌, ◌+◌, ◌-◌, ◌*◌, ◌≤◌, ◌<◌, ◌++◌, take, drop, slice_range, length, replicate, map};
-ghost use Rattle.std.specs.Int.{to_be_bytes, w16};
+ghost use Rattle.std.specs.Int.{to_be_bytes, from_be_bytes, w16, w64};
+ghost use Rattle.std.specs.Str.{bytes_eq};
 ghost use Rattle.quilt_record.specs.Fits.{IsFitting, KeyFits};
 ghost use Rattle.quilt_record.specs.Records.{record_bytes};
 ghost use Rattle.quilt_node.specs.Pages.{short_at, word_at, key_at, record_at};
+ghost use Rattle.quilt_node.specs.KeysIn.{key_number, FieldsFit};
 
 use quilt_record::{Key, Record, key_bytes, key_of};
+
+/// Zeros, to compare bytes with.
+static ZEROS: [u8; 4096] = [0; 4096];
 
 /// Puts the piece in at a place, and moves the bytes from there to `end` behind it.
 pub fn put_in(bytes: &mut [u8; 4096], at: usize, end: usize, piece: &[u8])
@@ -41,6 +46,15 @@ pub fn clear(bytes: &mut [u8; 4096], at: usize, end: usize)
     ensures { bytes.new ≡ take at bytes.old ++ (replicate (end - at) 0 ++ drop end bytes.old) }
 {
     bytes[at..end].fill(0);
+}
+
+/// Whether the bytes from a place to `end` are all zero.
+pub fn is_clear(bytes: &[u8; 4096], at: usize, end: usize) -> bool
+    requires order { at ≤ end }
+    requires room { end ≤ 4096 }
+    ensures { result ≡ bytes_eq (slice_range bytes.now at end) (replicate (end - at) 0) }
+{
+    bytes[at..end] == ZEROS[..end - at]
 }
 
 /// The count that stands in the bytes 2 and 3 of a page.
@@ -87,6 +101,44 @@ pub fn word_in(bytes: &[u8; 4096], at: usize) -> u32
     ensures { result ≡ word_at bytes.now at }
 {
     u32::from_be_bytes([bytes[at], bytes[at + 1], bytes[at + 2], bytes[at + 3]])
+}
+
+/// The number that stands in the eight bytes at a place of a page.
+fn long_in(bytes: &[u8; 4096], at: usize) -> u64
+    requires { at + 8 ≤ 4096 }
+    ensures { result ≡ from_be_bytes w64 (slice_range bytes.now at (at + 8)) }
+{
+    u64::from_be_bytes([
+        bytes[at],
+        bytes[at + 1],
+        bytes[at + 2],
+        bytes[at + 3],
+        bytes[at + 4],
+        bytes[at + 5],
+        bytes[at + 6],
+        bytes[at + 7],
+    ])
+}
+
+/// The key that stands at a place of a page, as one number: its first eight bytes above its last four.
+pub fn number_in(bytes: &[u8; 4096], at: usize) -> u128
+    requires { at + 12 ≤ 4096 }
+    ensures number { result ≡ key_number (key_at bytes.now at) }
+    ensures fits { FieldsFit (key_at bytes.now at) }
+{
+    u128::from(long_in(bytes, at)) * (1 << 64) + u128::from(word_in(bytes, at + 8))
+}
+
+/// A key as the same number.
+pub fn number_of(k: &Key) -> u128
+    ensures number { result ≡ key_number k.now }
+    ensures fits { FieldsFit k.now }
+{
+    let front = u64::from(k.layer) * (1 << 48)
+        + u64::from(k.part) * (1 << 40)
+        + u64::from(k.code) * (1 << 8)
+        + u64::from(k.depth);
+    u128::from(front) * (1 << 64) + u128::from(k.item)
 }
 
 /// A record as its 28 bytes.

@@ -1,14 +1,17 @@
-ghost use Rattle.std.specs.Prelude.{◌≡◌, ℕ, ◌+◌, ◌-◌, ◌<◌, ◌≤◌, [], ◌∷◌, ◌++◌, true, Some, IfSome, length, slice_get, slice_index, slice_set, count_by, replicate};
+ghost use Rattle.std.specs.Prelude.{◌≡◌, ℕ, ◌+◌, ◌-◌, ◌<◌, ◌≤◌, [], ◌∷◌, ◌++◌, true, Some, IfSome, is_some, length, slice_get, slice_index, slice_set, take, count_by, replicate};
 ghost use Rattle.std.specs.List.{insert, remove};
 ghost use Rattle.std.specs.Ordering.{is_le};
+ghost use Rattle.std.specs.Str.{bytes_eq};
 ghost use Rattle.quilt_record.specs.Records.{key_cmp};
 ghost use Rattle.quilt_node.specs.Pages as spec;
-ghost use Rattle.quilt_node.specs.Pages.{inner_bytes, is_ascending};
+ghost use Rattle.quilt_node.specs.Pages.{inner_bytes, is_ascending, short_at};
 ghost use Rattle.quilt_node.specs.Nodes.{IsInner, IsPlace, are_pages, inner_head};
 ghost use Rattle.quilt_node.specs.KeysIn.{children_in};
 ghost use Rattle.quilt_node.specs.Edits.{with_key, with_child, without_child, first_children, children_from, joined};
 
-use crate::bytes::{clear, count_in, key_in, put_in, put_over, set_count, take_out, word_in};
+use crate::bytes::{
+    clear, count_in, is_clear, key_in, put_in, put_over, set_count, take_out, word_in,
+};
 use crate::keys::{find_key, keys_ascend};
 use quilt_record::{Key, key_bytes};
 use std::marker::Model;
@@ -36,13 +39,12 @@ fn children_are_pages(bytes: &[u8; 4096], n: usize, pages: u32) -> bool
     requires { n ≤ 254 }
     ensures { result ≡ are_pages pages (children_in bytes.now n) }
 {
+    let mut all = true;
     for i in 0..n {
         let child = word_in(bytes, 8 + 4 * i);
-        if child < 1 || pages <= child {
-            return false;
-        }
+        all &= (1 <= child) & (child < pages);
     }
-    true
+    all
 }
 
 /// The page of an inner node with `n` children of these bytes, and no keys yet.
@@ -57,31 +59,62 @@ fn page_of_children(height: u8, n: u16, children: &[u8]) -> [u8; 4096]
     page
 }
 
+/// Whether the first 8 bytes are those of an inner page with the height and the count that stand there.
+fn has_inner_head(bytes: &[u8; 4096]) -> bool
+    ensures { result ≡ bytes_eq (take 8 bytes.now) (inner_head (slice_index bytes.now 1) (short_at bytes.now 2)) }
+{
+    if bytes[0] != 2 {
+        return false;
+    }
+    is_clear(bytes, 4, 8)
+}
+
+/// Whether the bytes are an inner page that is well formed in a file of `pages` home pages.
+pub fn is_inner(bytes: &[u8; 4096], pages: u32) -> bool
+    ensures { result ≡ is_some (spec.inner_of pages bytes.now) }
+{
+    let n = count_in(bytes) as usize;
+    let height = bytes[1];
+    if height < 2 || 3 < height || n < 2 || 254 < n {
+        return false;
+    }
+    if !has_inner_head(bytes) {
+        return false;
+    }
+    if !is_clear(bytes, 8 + 4 * n, 1024) {
+        return false;
+    }
+    if !is_clear(bytes, 1024 + 12 * (n - 1), 4096) {
+        return false;
+    }
+    if !children_are_pages(bytes, n, pages) {
+        return false;
+    }
+    keys_ascend(bytes, 1024, 12, n - 1)
+}
+
 /// The inner page that the bytes are in a file of `pages` home pages; none where they are not well formed.
 pub fn inner_of(bytes: &[u8; 4096], pages: u32) -> Option<InnerPage>
     ensures inner { result ≡ spec.inner_of pages bytes.now }
     ensures children { IfSome result (λ p. are_pages pages p.children ≡ true) }
 {
-    let n = count_in(bytes) as usize;
-    let height = bytes[1];
-    if height < 2 || 3 < height || n < 2 || 254 < n {
+    if !is_inner(bytes, pages) {
         return None;
     }
-    if !children_are_pages(bytes, n, pages) {
-        return None;
-    }
-    if !keys_ascend(bytes, 1024, 12, n - 1) {
-        return None;
-    }
-    let mut page = page_of_children(height, n as u16, &bytes[8..8 + 4 * n]);
-    put_over(&mut page, 1024, &bytes[1024..1024 + 12 * (n - 1)]);
-    if *bytes != page {
-        return None;
-    }
-    Some(InnerPage { bytes: *bytes })
+    Some(InnerPage::from_bytes(*bytes, pages))
 }
 
 impl InnerPage {
+    /// The page that the bytes are in a file of `pages` home pages, where they are well formed. They are copied less
+    /// often than by `inner_of`.
+    pub fn from_bytes(bytes: [u8; 4096], pages: u32) -> InnerPage
+        requires { is_some (spec.inner_of pages bytes) ≡ true }
+        ensures inner { spec.inner_of pages bytes ≡ Some result }
+        ensures children { are_pages pages result.children ≡ true }
+    {
+        InnerPage { bytes }
+    }
+
     /// The page of height 2 or 3 with these two children and the key between them.
     pub fn pair(height: u8, left: u32, key: &Key, right: u32) -> InnerPage
         requires height { (2 ≤ height) × (height ≤ 3) }

@@ -1,13 +1,14 @@
-ghost use Rattle.std.specs.Prelude.{◌≡◌, ◌+◌, ◌-◌, ◌<◌, ◌≤◌, [], ◌∷◌, ◌++◌, true, Some, take, drop, length, slice_get, MatchResult, IfErr, count_by, replicate};
+ghost use Rattle.std.specs.Prelude.{◌≡◌, ◌+◌, ◌-◌, ◌<◌, ◌≤◌, [], ◌∷◌, ◌++◌, true, Some, is_some, take, drop, length, slice_get, MatchResult, IfErr, count_by, replicate};
 ghost use Rattle.std.specs.List.{insert, remove};
 ghost use Rattle.std.specs.Ordering.{is_lt};
+ghost use Rattle.std.specs.Str.{bytes_eq};
 ghost use Rattle.quilt_record.specs.Records.{key_cmp};
 ghost use Rattle.quilt_node.specs.Pages as spec;
-ghost use Rattle.quilt_node.specs.Pages.{leaf_bytes, is_ascending};
+ghost use Rattle.quilt_node.specs.Pages.{leaf_bytes, is_ascending, short_at};
 ghost use Rattle.quilt_node.specs.Nodes.{IsLeaf, IsFound, IsGap, keys_of, leaf_head};
 
 use crate::bytes::{
-    clear, count_in, put_in, put_over, record_in, record_piece, set_count, take_out,
+    clear, count_in, is_clear, put_in, put_over, record_in, record_piece, set_count, take_out,
 };
 use crate::keys::{find_key, keys_ascend};
 use quilt_record::{Key, Record};
@@ -44,24 +45,52 @@ fn leaf_page(n: u16, rows: &[u8]) -> [u8; 4096]
     page
 }
 
+/// Whether the first 64 bytes are those of a leaf page with the count that stands there.
+fn has_leaf_head(bytes: &[u8; 4096]) -> bool
+    ensures { result ≡ bytes_eq (take 64 bytes.now) (leaf_head (short_at bytes.now 2)) }
+{
+    if bytes[0] != 1 || bytes[1] != 1 {
+        return false;
+    }
+    is_clear(bytes, 4, 64)
+}
+
+/// Whether the bytes are a leaf page that is well formed.
+pub fn is_leaf(bytes: &[u8; 4096]) -> bool
+    ensures { result ≡ is_some (spec.leaf_of bytes.now) }
+{
+    let n = count_in(bytes) as usize;
+    if n < 1 || 144 < n {
+        return false;
+    }
+    if !has_leaf_head(bytes) {
+        return false;
+    }
+    if !is_clear(bytes, 64 + 28 * n, 4096) {
+        return false;
+    }
+    keys_ascend(bytes, 64, 28, n)
+}
+
 /// The leaf page that the bytes are; none where they are not well formed.
 pub fn leaf_of(bytes: &[u8; 4096]) -> Option<LeafPage>
     ensures { result ≡ spec.leaf_of bytes.now }
 {
-    let n = count_in(bytes);
-    if n < 1 || 144 < n {
+    if !is_leaf(bytes) {
         return None;
     }
-    if !keys_ascend(bytes, 64, 28, n as usize) {
-        return None;
-    }
-    if *bytes != leaf_page(n, &bytes[64..64 + 28 * n as usize]) {
-        return None;
-    }
-    Some(LeafPage { bytes: *bytes })
+    Some(LeafPage::from_bytes(*bytes))
 }
 
 impl LeafPage {
+    /// The page that the bytes are, where they are well formed. They are copied less often than by `leaf_of`.
+    pub fn from_bytes(bytes: [u8; 4096]) -> LeafPage
+        requires { is_some (spec.leaf_of bytes) ≡ true }
+        ensures { spec.leaf_of bytes ≡ Some result }
+    {
+        LeafPage { bytes }
+    }
+
     /// The page with this one record.
     pub fn one(r: &Record) -> LeafPage
         ensures { result ≡ r.now ∷ [] }

@@ -1,6 +1,6 @@
 use Rattle.std.proofs.Common.{◌∙◌, sym, ap, subst}
 use Rattle.quilt_node.specs.Pages.{IsHead, header_bytes}
-use Rattle.quilt_node.proofs.LeafReads.{other_bytes}
+use Rattle.quilt_node.proofs.Heads.{other_bytes}
 use Rattle.quilt_node.proofs.Headers.{same_head}
 use Rattle.quilt_node.proofs.header.header_of.Goals as goal
 
