@@ -1,11 +1,10 @@
 -- A subtree that gives records of a run of keys out of one leaf.
-use Rattle.std.proofs.Common.{◌≡◌, ◌≢◌, ℕ, zero, suc, ◌+◌, ◌-◌, ◌<◌, ◌≤◌, Bool, true, false, not, cond, ◌&&◌, ◌||◌, nat_le, List, [], ◌∷◌, ◌++◌, length, map, take, drop, filter, Option, Some, None, Result, Ok, Err, IfOk, IfErr, slice_index, slice_index_or, slice_set, refl, sym, ◌∙◌, ap, subst, arith, get_or-set_same, take-append-drop, add-one}
+use Rattle.std.proofs.Common.{◌≡◌, ℕ, zero, suc, ◌+◌, ◌-◌, ◌<◌, ◌≤◌, Bool, true, false, not, cond, ◌&&◌, ◌||◌, nat_le, List, [], ◌∷◌, ◌++◌, length, take, drop, filter, Option, Some, None, Result, Ok, Err, IfOk, IfErr, slice_index, slice_set, refl, sym, ◌∙◌, ap, subst, arith, get_or-set_same, take-append-drop, add-one}
 use Rattle.std.specs.Prelude.{slice_get, if◌then◌else◌}
 use Rattle.std.specs.List.{list_all, list_any, remove}
 use Rattle.std.specs.Option.{option_or}
 use Rattle.std.specs.Ordering.{is_lt, is_le}
 use Rattle.std.proofs.lemmas.Bool.Decides.{nat_tests}
-use Rattle.std.proofs.lemmas.List.{length-take-le}
 use Rattle.std.proofs.lemmas.List.Edits.{length-remove}
 use Rattle.quilt_types.specs.declared.stop.Stop.{Stop}
 use Rattle.quilt_types.specs.declared.stop.Stop.TheVariants.{Damaged}
@@ -14,8 +13,8 @@ use Rattle.quilt_record.specs.declared.key.Key.{Key}
 use Rattle.quilt_record.specs.declared.record.Record.{Record}
 use Rattle.quilt_record.specs.Records.{key_cmp}
 use Rattle.quilt_node.specs.Pages.{Inner, leaf_of, is_ascending}
-use Rattle.quilt_node.specs.Nodes.{IsPlace, IsFound, IsGap, keys_of}
-use Rattle.quilt_node.specs.Tree.{Bounds, bounded, is_above, is_below, are_within}
+use Rattle.quilt_node.specs.Nodes.{IsFound, IsGap, keys_of}
+use Rattle.quilt_node.specs.Tree.{Bounds, is_above, is_below, are_within}
 use Rattle.quilt_store.specs.Store.{Tells}
 use Rattle.quilt_btree.specs.declared.tree.Tree.{Tree}
 use Rattle.quilt_record.specs.Lists.{has_key, without}
@@ -32,8 +31,8 @@ use Rattle.quilt_btree.proofs.Holdings.{subtree_some}
 use Rattle.quilt_btree.proofs.Leaves.{same_le, found_any, gap_any, without_found}
 use Rattle.quilt_btree.proofs.Lists.{IsAmong, without_between, any_between, filter_cond}
 use Rattle.quilt_btree.proofs.Moves.{moves_written, used_account, AreApart}
-use Rattle.quilt_record.proofs.Orders.{lt_le, lt_to_le, le_le}
-use Rattle.quilt_btree.proofs.Places.{front, from_keys, head_bounds, tail_places, row_one, Rises, high_from}
+use Rattle.quilt_record.proofs.Orders.{lt_le, lt_to_le}
+use Rattle.quilt_btree.proofs.Places.{front, from_keys, tail_places, row_one, Rises, high_from}
 use Rattle.quilt_btree.proofs.Rising.{all_follow}
 use Rattle.quilt_btree.proofs.Splices.{RowMoved, middle_moved, parent_stays}
 use Rattle.quilt_btree.proofs.Takings.{key_at, each_before, each_after, all_over, has_each-append, without_all-append, any_without_below}

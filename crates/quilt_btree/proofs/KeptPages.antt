@@ -1,5 +1,5 @@
 -- A record put into, or taken out of, a tree none of whose pages is free.
-use Rattle.std.proofs.Common.{◌≡◌, ◌≢◌, ℕ, zero, suc, ◌+◌, ◌-◌, ◌<◌, ◌≤◌, Bool, true, false, cond, List, [], ◌∷◌, ◌++◌, length, Option, Some, Result, Ok, Err, IfOk, IfErr, OnOk, slice_set, refl, sym, ◌∙◌, ap, subst, arith, length-append, get_or-set_same}
+use Rattle.std.proofs.Common.{◌≡◌, ◌≢◌, ℕ, suc, ◌+◌, ◌-◌, ◌<◌, ◌≤◌, Bool, true, false, cond, List, [], ◌∷◌, ◌++◌, length, Option, Some, Result, Ok, Err, IfOk, IfErr, OnOk, slice_set, refl, sym, ◌∙◌, ap, subst, arith, length-append, get_or-set_same}
 use Rattle.std.specs.List.{list_any}
 use Rattle.std.proofs.lemmas.List.{append-nil}
 use Rattle.quilt_types.specs.Facts.{quota}
@@ -7,7 +7,7 @@ use Rattle.quilt_types.specs.declared.stop.Stop.{Stop}
 use Rattle.quilt_record.specs.declared.key.Key.{Key}
 use Rattle.quilt_record.specs.declared.record.Record.{Record}
 use Rattle.quilt_node.specs.Pages.{leaf_of}
-use Rattle.quilt_node.specs.Tree.{Bounds, Whole, walk_of}
+use Rattle.quilt_node.specs.Tree.{Bounds, Whole}
 use Rattle.quilt_store.specs.Store.{Tells, FreesOnly, count_free}
 use Rattle.quilt_btree.specs.declared.tree.Tree.{Tree}
 use Rattle.quilt_btree.specs.declared.inserted.Inserted.TheVariants as inserted
@@ -15,12 +15,11 @@ use Rattle.quilt_btree.specs.declared.removed.Removed.TheVariants as removed
 use Rattle.quilt_record.specs.Lists.{has_key, put, without}
 use Rattle.quilt_btree.specs.Stops.{IsSound}
 use Rattle.quilt_btree.specs.Subtree.{Subtree}
-use Rattle.quilt_btree.specs.Trees.{IsRooted, IsTree}
+use Rattle.quilt_btree.specs.Trees.{IsRooted}
 use Rattle.quilt_btree.specs.Edits.{times, account, Moves, Becomes, CanEdit, CanInsert, HasItsPages}
 use Rattle.quilt_btree.specs.Mending.{HasGiven}
 use Rattle.quilt_btree.proofs.Counts.{times_here}
 use Rattle.quilt_btree.proofs.Density.{third_filled}
-use Rattle.quilt_btree.proofs.Holdings.{subtree_some}
 use Rattle.quilt_btree.proofs.LeafRemovals.{tells_on}
 use Rattle.quilt_btree.proofs.Moves.{AreApart, apart_then, moves_then, moves_taken, moves_written, used_account, used_not_free}
 use Rattle.quilt_btree.proofs.Shorts.{page_used}
@@ -28,7 +27,7 @@ use Rattle.quilt_btree.proofs.Trees.{subtree_rises}
 use Rattle.quilt_btree.proofs.Whole.{no_records}
 use Rattle.quilt_btree.proofs.Withouts.{without_missing, without_one_fewer, without_none}
 use Rattle.quilt_btree.proofs.Writes.{tells_at, TellsAll, all_told}
-use Rattle.quilt_btree.proofs.TreeGrowth.{everywhere, root_found, tree_again, length-put, UnderRoot, IsNewRoot, IsRegrown, regrown_split}
+use Rattle.quilt_btree.proofs.TreeGrowth.{everywhere, root_found, tree_again, length-put, UnderRoot, IsNewRoot, regrown_split}
 use Rattle.quilt_btree.proofs.TreeRemovals as removals
 
 some_height : (h : ℕ) → h ≢ 0 → 1 ≤ h

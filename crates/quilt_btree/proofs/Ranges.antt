@@ -118,7 +118,7 @@ range_more low from high most rs leaf old new start up l starts le far is =
     ∙ ap (λ x. take most (filter P l.before ++ x)) (from_later low from high leaf le starts)
     ∙ ap (take most) (sym (filter-append P l.before leaf))
 
-none_below : (low high : Key) (rs : List Record) → AreBelow low rs → filter (is_from_to low high) rs ≡ []
+pub none_below : (low high : Key) (rs : List Record) → AreBelow low rs → filter (is_from_to low high) rs ≡ []
 none_below low high rs h =
     filter_none (is_from_to low high) rs
     (all_follow (λ (r : Record). is_lt (key_cmp r.key low)) (λ r. not (is_from_to low high r)) (λ r g. ap (λ b. not (b && is_le (key_cmp r.key high))) (gt_not_le r.key low g)) rs h)

@@ -22,14 +22,21 @@ pub record CameTo (told : Option (List (List ℕ))) (t : Tree) (from high : Key)
   pub some : t.height ≢ 0
   pub leads : (rs : List Record) (s : Spells told t.root t.height rs) → s.bounds.high ≡ None → LeadsTo from rs leaf None up
   pub cut : IsCut told t.root t.height from None leaf up
-  pub added : new ≡ take most (old ++ filter (is_from_to from high) leaf)
+  pub seen : List Record
+  pub added : new ≡ take most (old ++ filter (is_from_to from high) seen)
+  pub same : (rs : List Record) → Spells told t.root t.height rs → filter (is_from_to from high) seen ≡ filter (is_from_to from high) leaf
+
+-- the records of the leaf were added, where the tree is sound
+leaf_added : (told : Option (List (List ℕ))) (t : Tree) (from high : Key) (most : ℕ) (leaf old new rs : List Record) (up : Option Key) (c : CameTo told t from high most leaf old new up) → Spells told t.root t.height rs
+    → new ≡ take most (old ++ filter (is_from_to from high) leaf)
+leaf_added told t from high most leaf old new rs up c s = c.added ∙ ap (λ l. take most (old ++ l)) (c.same rs s)
 
 pub rest_so_far : (told : Option (List (List ℕ))) (t : Tree) (low from high : Key) (most : ℕ) (leaf old new rs : List Record) (up : Option Key) (c : CameTo told t from high most leaf old new up) (is : IsTree told t rs)
     → Before told t low high most from rs old → (l : LeadsTo from rs leaf None up) × (new ≡ range_of low high most (l.before ++ leaf))
 rest_so_far told t low from high most leaf old new rs up c is b =
     let s = tree_spells told t rs c.some is in
     let l = c.leads rs s.0 s.1 in
-    (l, range_more low from high most rs leaf old new None up l (c.cut.starts b.0 rs b.1 s.0 s.1 b.2) b.3 b.4 c.added)
+    (l, range_more low from high most rs leaf old new None up l (c.cut.starts b.0 rs b.1 s.0 s.1 b.2) b.3 b.4 (leaf_added told t from high most leaf old new rs up c s.0))
 
 pub rest_ends : (told : Option (List (List ℕ))) (t : Tree) (low from high : Key) (most : ℕ) (leaf old new rs : List Record) (up : Option Key) (c : CameTo told t from high most leaf old new up) (is : IsTree told t rs)
     → Before told t low high most from rs old → ((next : Key) → up ≡ Some next → is_le (key_cmp next high) ≡ false) → new ≡ range_of low high most rs
@@ -61,7 +68,7 @@ pub first_so_far : (told : Option (List (List ℕ))) (t : Tree) (low high : Key)
 first_so_far told t low high most leaf new rs up c is =
     let s = tree_spells told t rs c.some is in
     let l = c.leads rs s.0 s.1 in
-    (l, range_first low high most rs leaf new None up l c.added)
+    (l, range_first low high most rs leaf new None up l (leaf_added told t low high most leaf [] new rs up c s.0))
 
 pub first_ends : (told : Option (List (List ℕ))) (t : Tree) (low high : Key) (most : ℕ) (leaf new rs : List Record) (up : Option Key) (c : CameTo told t low high most leaf [] new up) (is : IsTree told t rs)
     → ((next : Key) → up ≡ Some next → is_le (key_cmp next high) ≡ false) → new ≡ range_of low high most rs
@@ -91,7 +98,7 @@ pub rest_adds : (told : Option (List (List ℕ))) (t : Tree) (from high next : K
 rest_adds told t from high next most leaf old new rs up c is pages is_told d e le some room ne same =
     let s = tree_spells told t rs c.some is in
     let l = subst (λ o. LeadsTo from rs leaf None o) e (c.leads rs s.0 s.1) in
-    adds_some from high next most old new leaf c.added some (c.cut.starts pages rs is_told s.0 s.1 d) l.here_under le room ne same
+    adds_some from high next most old new leaf (leaf_added told t from high most leaf old new rs up c s.0) some (c.cut.starts pages rs is_told s.0 s.1 d) l.here_under le room ne same
 
 pub from_not_err : {T E P : Type 0} (r : Result T E) (b : Bool) → b ≡ is_err r → b ≡ false → OnOk r P → P
 from_not_err (Ok x) b e f p = p

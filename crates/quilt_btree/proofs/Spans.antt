@@ -1,20 +1,13 @@
 -- The records of a range lie within its bounds, over every store.
-use Rattle.std.proofs.Common.{◌≡◌, ℕ, Bool, true, false, ◌&&◌, List, [], ◌∷◌, ◌++◌, length, take, drop, filter, cond, Option, Some, None, Result, Ok, Err, IfOk, IfSome, refl, sym, ◌∙◌, ap, subst}
-use Rattle.std.specs.Prelude.{slice_get}
+use Rattle.std.proofs.Common.{◌≡◌, ℕ, Bool, true, false, List, [], ◌∷◌, ◌++◌, take, filter, cond, Option, Some, None, IfSome, refl, ◌∙◌, ap, subst}
 use Rattle.std.specs.List.{list_all}
-use Rattle.std.specs.Option.{option_or}
 use Rattle.std.specs.Ordering.{is_le, is_lt}
-use Rattle.quilt_types.specs.declared.stop.Stop.{Stop}
 use Rattle.quilt_record.specs.declared.key.Key.{Key}
 use Rattle.quilt_record.specs.declared.record.Record.{Record}
 use Rattle.quilt_record.specs.Records.{key_cmp}
-use Rattle.quilt_node.specs.Nodes.{IsPlace}
-use Rattle.quilt_node.specs.Pages.{Inner}
-use Rattle.quilt_node.specs.Tree.{Bounds, is_below}
+use Rattle.quilt_node.specs.Tree.{is_below}
 use Rattle.quilt_node.proofs.Ascending.{all_take}
 use Rattle.quilt_btree.specs.Lists.{is_from_to}
-use Rattle.quilt_btree.proofs.Below.{head_below}
-use Rattle.quilt_btree.proofs.Descending.{head_high}
 use Rattle.quilt_record.proofs.Orders.{le_le, lt_to_le}
 use Rattle.quilt_btree.proofs.Rising.{all_follow, all_append}
 use Rattle.quilt_btree.proofs.Walks.{and_parts, and_both}

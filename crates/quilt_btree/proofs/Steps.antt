@@ -1,5 +1,5 @@
 -- The way down to a leaf in the bytes of pages, with the bound below which the leaf's keys stay.
-use Rattle.std.proofs.Common.{◌≡◌, ◌≢◌, ℕ, zero, suc, ◌+◌, ◌-◌, ◌<◌, ◌≤◌, Bool, true, false, List, [], ◌∷◌, take, drop, length, Option, Some, None, Result, Ok, Err, IfOk, IfErr, OnOk, slice_index, refl, sym, ◌∙◌, ap, subst, arith}
+use Rattle.std.proofs.Common.{◌≡◌, ℕ, zero, suc, ◌+◌, ◌-◌, ◌<◌, ◌≤◌, Bool, true, false, List, [], ◌∷◌, take, drop, length, Option, Some, None, Result, Ok, Err, IfOk, IfErr, OnOk, slice_index, refl, sym, ◌∙◌, ap, subst, arith}
 use Rattle.std.specs.Prelude.{slice_get}
 use Rattle.std.specs.List.{list_all}
 use Rattle.std.specs.Option.{option_or}
@@ -21,7 +21,7 @@ use Rattle.quilt_btree.specs.Stops.{IsSound}
 use Rattle.quilt_btree.specs.Trees.{Spells, LeadsTo, IsCut}
 use Rattle.quilt_btree.proofs.Along.{IsSame}
 use Rattle.quilt_btree.proofs.Below.{edit_spells}
-use Rattle.quilt_btree.proofs.Descending.{leads_below, along_told, leads_up, sound_up, leaf_leads}
+use Rattle.quilt_btree.proofs.Descending.{leads_below, along_told, leads_up, leaf_leads}
 use Rattle.quilt_btree.proofs.Dividing.{cut_up}
 use Rattle.quilt_btree.proofs.Drains.{drained_result, lacks_result}
 use Rattle.quilt_btree.proofs.Fills.{filled_result, there_below}
@@ -68,10 +68,10 @@ step_sound {T} (Err e) old new page height size bytes k child start next is step
     let low = leads_below old page height rs h.inner st.place k is.some is.above s h.reads st.is_place in
     f low.here (subst (λ c. Spells new c (height - 1) low.here) (sym st.child_is) (along_told old new (slice_index h.inner.children st.place) (height - 1) low.here is.told low.spells))
 
-pub step_least : {T : Type 0} (r : Result T Stop) (old new : Option (List (List ℕ))) (page height size : ℕ) (bytes : List ℕ) (leaf : List Record) (k : Key) (child : ℕ) (start next : Option Key) → IsRead old new page height size bytes → StepsTo size bytes k start child next
-    → OnOk r ((rs : List Record) → Spells new child (height - 1) rs → 1 ≤ length leaf) → OnOk r ((rs : List Record) → Spells old page height rs → 1 ≤ length leaf)
-step_least (Err e) old new page height size bytes leaf k child start next is step f = f
-step_least {T} (Ok v) old new page height size bytes leaf k child start next is step f = λ rs s.
+pub step_holds : {T : Type 0} (r : Result T Stop) (old new : Option (List (List ℕ))) (page height size : ℕ) (bytes : List ℕ) (P : Type 0) (k : Key) (child : ℕ) (start next : Option Key) → IsRead old new page height size bytes → StepsTo size bytes k start child next
+    → OnOk r ((rs : List Record) → Spells new child (height - 1) rs → P) → OnOk r ((rs : List Record) → Spells old page height rs → P)
+step_holds (Err e) old new page height size bytes P k child start next is step f = f
+step_holds {T} (Ok v) old new page height size bytes P k child start next is step f = λ rs s.
     let h = page_here old new page height size bytes rs is s in
     let st = step h.inner h.is in
     let low = leads_below old page height rs h.inner st.place k is.some is.above s h.reads st.is_place in
@@ -89,6 +89,11 @@ here_led told page height bytes k high one are rs s top =
     let is = leaf_here told page height bytes rs one are s in
     subst (λ l. LeadsTo k rs l high high) (sym (leaf_records bytes rs is))
     (leaf_leads told page height k rs high one (λ pages t. ap leaf_of (sym (are pages t)) ∙ is) rs s top)
+
+pub here_leaf : (told : Option (List (List ℕ))) (page height : ℕ) (bytes : List ℕ) → height ≡ 1 → AreOf told page bytes → (rs : List Record) → Spells told page height rs → leaf_of bytes ≡ Some (records_of bytes)
+here_leaf told page height bytes one are rs s =
+    let is = leaf_here told page height bytes rs one are s in
+    is ∙ ap Some (sym (leaf_records bytes rs is))
 
 pub here_least : (told : Option (List (List ℕ))) (page height : ℕ) (bytes : List ℕ) → height ≡ 1 → AreOf told page bytes → (rs : List Record) → Spells told page height rs → 1 ≤ length (records_of bytes)
 here_least told page height bytes one are rs s =

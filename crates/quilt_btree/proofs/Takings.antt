@@ -1,5 +1,5 @@
 -- A run of keys whose records are taken out one after the other.
-use Rattle.std.proofs.Common.{◌≡◌, ℕ, zero, suc, ◌+◌, ◌-◌, ◌<◌, ◌≤◌, Bool, true, false, not, cond, ◌||◌, ◌&&◌, List, [], ◌∷◌, ◌++◌, length, map, take, drop, filter, get_or, Option, Some, Result, Ok, Err, IfOk, IfErr, take-append-drop, length-drop, refl, sym, ◌∙◌, ap, subst, arith, Less, Equal, Greater, Ordering}
+use Rattle.std.proofs.Common.{◌≡◌, ℕ, ◌+◌, ◌-◌, ◌<◌, ◌≤◌, Bool, true, false, not, cond, ◌||◌, ◌&&◌, List, [], ◌∷◌, ◌++◌, length, map, take, drop, filter, get_or, Option, take-append-drop, length-drop, refl, sym, ◌∙◌, ap, subst, arith, Less, Equal, Greater, Ordering}
 use Rattle.std.specs.List.{list_any, list_all, range_with_len}
 use Rattle.std.specs.Ordering.{is_lt, is_eq, is_le, ordering_reverse}
 use Rattle.std.proofs.Math.Seq.{take-add}
@@ -14,7 +14,6 @@ use Rattle.quilt_btree.specs.declared.tree.Tree.{Tree}
 use Rattle.quilt_btree.specs.Edits.{IsWhole}
 use Rattle.quilt_record.specs.Lists.{has_key, without}
 use Rattle.quilt_btree.specs.Runs.{without_all, has_each}
-use Rattle.quilt_btree.specs.Stops.{IsSound}
 use Rattle.quilt_btree.specs.Trees.{IsRooted}
 use Rattle.quilt_btree.proofs.Lists.{filter_cond}
 use Rattle.quilt_record.proofs.Orders.{key_total, lt_le, gt_not_eq}

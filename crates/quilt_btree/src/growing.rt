@@ -21,8 +21,8 @@ impl Tree {
 
     /// Puts a record in: false exactly where its key is there, and nothing changes. It changes at most 6 pages. Over a
     /// store that tells nothing, page 0 is said to be damaged where no page is free for a split, a page that is to be
-    /// written is free, or the tree would come to height 4; and any other page where it is not well formed, not at its
-    /// height, or has a key out of its bounds.
+    /// written is free, or the tree would come to height 4; and any other page where that is seen to be not well formed,
+    /// not at its height, or to have a key out of its bounds: an inner page that stays as it is is not looked into.
     pub fn insert<S: PageStore>(&mut self, store: &mut S, r: &Record) -> Result<bool, Stop>
         requires rooted { IsRooted (S.size store.old) self.old }
         requires room { self.old.records < quota (S.size store.old) }

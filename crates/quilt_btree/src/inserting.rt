@@ -18,7 +18,8 @@ ghost use Rattle.quilt_btree.specs.declared.inserted.Inserted.TheVariants.{There
 
 use crate::inserted::Inserted;
 use crate::mending::precedes;
-use crate::pages::{read_inner, read_leaf};
+use crate::pages::{inner_high, read_leaf};
+use crate::searching::read_way;
 use crate::splitting::write_split;
 use crate::writing::write_page;
 use quilt_node::{InnerPage, LeafPage};
@@ -189,15 +190,18 @@ pub fn insert_under<S: PageStore>(
     if height == 1 {
         return insert_leaf(store, page, r);
     }
-    let mut inner = match read_inner(store, page, height) {
+    let mut bytes = [0; 4096];
+    let way = match read_way(store, page, &r.key, &mut bytes) {
         Err(e) => return Err(e),
-        Ok(inner) => inner,
+        Ok(way) => way,
     };
-    let i = inner.place(&r.key);
-    match insert_under(store, inner.child(i), height - 1, r) {
+    match insert_under(store, way.child, height - 1, r) {
         Err(e) => Err(e),
         Ok(Inserted::There) => Ok(Inserted::There),
         Ok(Inserted::Done) => Ok(Inserted::Done),
-        Ok(Inserted::Split { key, right }) => { put_child(store, page, &mut inner, i, &key, right) }
+        Ok(Inserted::Split { key, right }) => match inner_high(&bytes, store.pages(), height) {
+            None => Err(Stop::Damaged { page }),
+            Some(mut inner) => put_child(store, page, &mut inner, way.place, &key, right),
+        },
     }
 }

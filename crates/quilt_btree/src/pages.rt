@@ -1,12 +1,14 @@
-ghost use Rattle.std.specs.Prelude.{◌≡◌, ℕ, ◌+◌, ◌<◌, ◌≤◌, true, IfOk, IfErr, OnOk, IfSome, IsTrue, List, [], Some, length, slice_index_or, ◌==◌};
+ghost use Rattle.std.specs.Prelude.{◌≡◌, ℕ, ◌+◌, ◌<◌, ◌≤◌, true, IfOk, IfErr, OnOk, IfSome, IsTrue, List, [], Some, None, length, slice_index_or, ◌==◌};
 ghost use Rattle.std.specs.List.{list_any};
 ghost use Rattle.quilt_record.specs.declared.record.Record.{Record};
+ghost use Rattle.quilt_node.specs.Pages as spec;
 ghost use Rattle.quilt_node.specs.Nodes.{are_pages};
 ghost use Rattle.quilt_store.specs.Store.{Tells, Touches};
+ghost use Rattle.quilt_btree.specs.Searches.{IsHigh};
 ghost use Rattle.quilt_btree.specs.Stops.{store_stop, HasStopCause, IsSound, NamesPage};
 ghost use Rattle.quilt_btree.specs.Trees.{ReadsLeaf, ReadsInner, Spells};
 
-use quilt_node::{InnerPage, LeafPage, inner_of, leaf_of};
+use quilt_node::{InnerPage, LeafPage, inner_of, is_leaf};
 use quilt_store::{PageStore, StoreErr};
 use quilt_types::Stop;
 
@@ -40,10 +42,32 @@ pub fn read_leaf<S: PageStore>(store: &mut S, page: u32) -> Result<LeafPage, Sto
     let mut bytes = [0; 4096];
     match store.read(page, &mut bytes) {
         Err(e) => Err(stop_of(e)),
-        Ok(()) => match leaf_of(&bytes) {
-            None => Err(Stop::Damaged { page }),
-            Some(leaf) => Ok(leaf),
-        },
+        Ok(()) => {
+            if !is_leaf(&bytes) {
+                return Err(Stop::Damaged { page });
+            }
+            Ok(LeafPage::from_bytes(bytes))
+        }
+    }
+}
+
+/// The inner page of this height that the bytes are in a store of so many pages: none where they are not well formed, or
+/// are of another height.
+pub fn inner_high(bytes: &[u8; 4096], pages: u32, height: u8) -> Option<InnerPage>
+    ensures inner { IfSome result (λ inner. spec.inner_of pages bytes.now ≡ Some inner) }
+    ensures height { IfSome result (λ inner. inner.height ≡ height) }
+    ensures children { IfSome result (λ inner. are_pages pages inner.children ≡ true) }
+    ensures none { result ≡ None → IsHigh pages bytes.now height → ⊥ }
+{
+    match inner_of(bytes, pages) {
+        None => None,
+        Some(inner) => {
+            if inner.height() == height {
+                Some(inner)
+            } else {
+                None
+            }
+        }
     }
 }
 
@@ -69,9 +93,12 @@ pub fn read_inner<S: PageStore>(store: &mut S, page: u32, height: u8) -> Result<
     let mut bytes = [0; 4096];
     match store.read(page, &mut bytes) {
         Err(e) => Err(stop_of(e)),
-        Ok(()) => match inner_of(&bytes, store.pages()) {
-            Some(inner) if inner.height() == height => Ok(inner),
-            _ => Err(Stop::Damaged { page }),
-        },
+        Ok(()) => {
+            if let Some(inner) = inner_high(&bytes, store.pages(), height) {
+                Ok(inner)
+            } else {
+                Err(Stop::Damaged { page })
+            }
+        }
     }
 }

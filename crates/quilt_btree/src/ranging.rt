@@ -1,11 +1,14 @@
-ghost use Rattle.std.specs.Prelude.{◌≡◌, ◌≤◌, ◌&&◌, ◌++◌, OnOk, MatchOption, Some, true, false, filter, take, vec_len};
-ghost use Rattle.std.specs.Ordering.{is_le};
+ghost use Rattle.std.specs.Prelude.{◌≡◌, ◌-◌, ◌≤◌, ◌&&◌, ◌++◌, OnOk, MatchOption, List, Some, true, false, drop, filter, length, take, vec_len};
+ghost use Rattle.std.specs.List.{list_all};
+ghost use Rattle.std.specs.Ordering.{is_le, is_lt};
 ghost use Rattle.quilt_record.specs.Records.{key_cmp};
 ghost use Rattle.quilt_record.specs.declared.key.Key.{Key};
+ghost use Rattle.quilt_record.specs.declared.record.Record.{Record};
+ghost use Rattle.quilt_node.specs.Pages.{leaf_of};
 ghost use Rattle.quilt_node.specs.Nodes.{records_of};
 ghost use Rattle.quilt_btree.specs.Lists.{is_from_to};
 
-use quilt_node::{rec_in, records_in};
+use quilt_node::{find_in, rec_in, records_in};
 use quilt_record::{Key, Record};
 use std::alloc::AllocError;
 
@@ -16,18 +19,45 @@ pub fn is_within(k: &Key, low: &Key, high: &Key) -> bool
     low <= k && k <= high
 }
 
-/// Adds the records that stand in a page with keys from `low` to `high`, until the list has `most`.
-pub fn add_leaf(
+/// The number of records of a leaf whose keys are below `k`; some number for any bytes.
+fn count_below(bytes: &[u8; 4096], k: &Key) -> usize
+    ensures { (rs : List Record) → leaf_of bytes.now ≡ Some rs → list_all (λ r. is_lt (key_cmp r.key k.now)) (take result rs) ≡ true }
+{
+    match find_in(bytes, k) {
+        Ok(i) => i,
+        Err(i) => i,
+    }
+}
+
+/// The number of records of a leaf whose keys are at most `k`; some number of its records for any bytes.
+fn count_up_to(bytes: &[u8; 4096], k: &Key) -> usize
+    ensures range { (result ≤ 144) × (result ≤ length (records_of bytes.now)) }
+    ensures above { (rs : List Record) → leaf_of bytes.now ≡ Some rs → list_all (λ r. is_lt (key_cmp k.now r.key)) (drop result rs) ≡ true }
+{
+    let n = records_in(bytes);
+    match find_in(bytes, k) {
+        Ok(i) if i < n => i + 1,
+        Err(i) if i < n => i,
+        _ => n,
+    }
+}
+
+/// Adds those records of the places from `first` up to `last` of a page whose keys are from `low` to `high`, until the
+/// list has `most`.
+fn add_span(
     records: &mut Vec<Record>,
     bytes: &[u8; 4096],
+    first: usize,
+    last: usize,
     low: &Key,
     high: &Key,
     most: u32,
 ) -> Result<(), AllocError>
-    requires { vec_len records.old ≤ most }
-    ensures { OnOk result (records.new.items ≡ take most (records.old.items ++ filter (is_from_to low.now high.now) (records_of bytes.now))) }
+    requires room { vec_len records.old ≤ most }
+    requires last { (last ≤ 144) × (last ≤ length (records_of bytes.now)) }
+    ensures { OnOk result (records.new.items ≡ take most (records.old.items ++ filter (is_from_to low.now high.now) (take (last - first) (drop first (records_of bytes.now))))) }
 {
-    for i in 0..records_in(bytes) {
+    for i in first..last {
         let r = rec_in(bytes, i);
         if records.len() == most as usize {
             return Ok(());
@@ -37,6 +67,23 @@ pub fn add_leaf(
         }
     }
     Ok(())
+}
+
+/// Adds the records of a leaf with keys from `low` to `high`, until the list has `most`. It looks for the first and the
+/// last of them, and reads no others; of any bytes it adds some records with such keys.
+pub fn add_leaf(
+    records: &mut Vec<Record>,
+    bytes: &[u8; 4096],
+    low: &Key,
+    high: &Key,
+    most: u32,
+) -> Result<(), AllocError>
+    requires { vec_len records.old ≤ most }
+    ensures { OnOk result ((some : List Record) × (records.new.items ≡ take most (records.old.items ++ filter (is_from_to low.now high.now) some)) × ((rs : List Record) → leaf_of bytes.now ≡ Some rs → filter (is_from_to low.now high.now) some ≡ filter (is_from_to low.now high.now) rs)) }
+{
+    let first = count_below(bytes, low);
+    let last = count_up_to(bytes, high);
+    add_span(records, bytes, first, last, low, high, most)
 }
 
 /// The key, where it is at most `last`.

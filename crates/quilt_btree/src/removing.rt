@@ -15,8 +15,9 @@ ghost use Rattle.quilt_btree.specs.Trees.{Spells};
 
 use crate::mended::Mended;
 use crate::mending::{child_towards, key_fits, mend_pages};
-use crate::pages::{read_inner, read_leaf};
+use crate::pages::{inner_high, read_leaf};
 use crate::removed::Removed;
+use crate::searching::read_way;
 use crate::writing::write_page;
 use quilt_node::InnerPage;
 use quilt_record::Key;
@@ -194,14 +195,20 @@ pub fn remove_under<S: PageStore>(
     if height == 1 {
         return remove_in_leaf(store, page, k);
     }
-    let mut inner = read_inner(store, page, height)?;
-    let i = inner.place(k);
-    let child = inner.child(i);
+    let mut bytes = [0; 4096];
+    let way = match read_way(store, page, k, &mut bytes) {
+        Err(e) => return Err(e),
+        Ok(way) => way,
+    };
+    let child = way.child;
     match remove_under(store, child, height - 1, k) {
         Err(e) => Err(e),
         Ok(Removed::Missing) => Ok(Removed::Missing),
         Ok(Removed::Done) => Ok(Removed::Done),
-        Ok(Removed::Short) => mend_child(store, page, height, &mut inner, i),
+        Ok(Removed::Short) => match inner_high(&bytes, store.pages(), height) {
+            None => Err(Stop::Damaged { page }),
+            Some(mut inner) => mend_child(store, page, height, &mut inner, way.place),
+        },
         Ok(Removed::Emptied) => Err(Stop::Damaged { page: child }),
         Ok(Removed::Only { .. }) => Err(Stop::Damaged { page: child }),
     }

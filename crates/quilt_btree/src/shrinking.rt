@@ -20,8 +20,8 @@ impl Tree {
     /// Takes the record of a key out: false exactly where there is none, and nothing changes. It changes at most 7 pages.
     /// Over a store that tells nothing, page 0 is said to be damaged where a page that is to be written or given back is
     /// free, the number of records does not go with the height, or an inner page begins with the key that parts it from
-    /// the one before; and any other page where it is not well formed, not at its height, under its minimum, or has a key
-    /// out of its bounds.
+    /// the one before; and any other page where that is seen to be not well formed, not at its height, under its minimum,
+    /// or to have a key out of its bounds: an inner page that stays as it is is not looked into.
     pub fn remove<S: PageStore>(&mut self, store: &mut S, k: &Key) -> Result<bool, Stop>
         requires rooted { IsRooted (S.size store.old) self.old }
         ensures rooted { OnOk result (IsRooted (S.size store.old) self.new) }

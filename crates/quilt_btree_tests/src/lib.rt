@@ -1,6 +1,8 @@
-//! Tries the tree over a store in memory beside an ordered map.
+//! Tries the pages of the tree byte by byte, and the tree over a store in memory beside an ordered map.
 #![tactic(auto)]
 
+#[cfg(test)]
+mod pages;
 #[cfg(test)]
 mod tests;
 #[cfg(test)]

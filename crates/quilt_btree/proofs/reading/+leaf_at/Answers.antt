@@ -1,8 +1,9 @@
-use Rattle.std.proofs.Common.{◌∙◌}
+use Rattle.std.proofs.Common.{◌≡◌, ◌≤◌, Some, length, ◌∙◌}
+use Rattle.quilt_node.specs.Pages.{leaf_of}
 use Rattle.quilt_node.specs.Nodes.{records_of}
 use Rattle.quilt_btree.proofs.Dividing.{leaf_cut}
 use Rattle.quilt_btree.proofs.Forks.{read_ok}
-use Rattle.quilt_btree.proofs.Steps.{step_led, step_cut, step_sound, step_least, step_above, here_led, here_least}
+use Rattle.quilt_btree.proofs.Steps.{step_led, step_cut, step_sound, step_holds, step_above, here_led, here_least, here_leaf}
 use Rattle.quilt_btree.proofs.reading.+leaf_at.Goals as goal
 
 pub returns-in-Ok-clause-leads : goal.returns-in-Ok-clause-leads
@@ -14,6 +15,9 @@ returns-in-Ok-clause-cut g t c = leaf_cut (g.S.PageStore.told c.args.store.now) 
 pub returns-in-Ok-clause-least : goal.returns-in-Ok-clause-least
 returns-in-Ok-clause-least g t c = here_least (g.S.PageStore.told c.args.store.now) c.args.page c.args.height c.read_into.new.bytes c.if-height-eq1.true c.in-Ok.ensures.bytes
 
+pub returns-in-Ok-clause-leaf : goal.returns-in-Ok-clause-leaf
+returns-in-Ok-clause-leaf g t c = here_leaf (g.S.PageStore.told c.args.store.now) c.args.page c.args.height c.read_into.new.bytes c.if-height-eq1.true c.in-Ok.ensures.bytes
+
 pub returns-in-Some-clause-leads : goal.returns-in-Some-clause-leads
 returns-in-Some-clause-leads g t c = step_led c.leaf_at.result (g.S.PageStore.told c.args.store.now) (g.S.PageStore.told c.read_into.new.store) c.args.page c.args.height c.pages.result c.read_into.new.bytes (records_of c.leaf_at.new.bytes) c.args.k.now c.in-Some.step.child c.args.high.now c.in-Some.step.high (read_ok (g.S.PageStore.told c.args.store.now) (g.S.PageStore.told c.read_into.new.store) c.args.page c.args.height c.pages.result (g.S.PageStore.size c.args.store.now) c.read_into.new.bytes c.requires.height c.if-height-eq1.false c.in-Ok.ensures.told (g.met.S.PageStore.as_many c.args.store.now) (c.pages.ensures ∙ c.in-Ok.ensures.size) c.in-Ok.ensures.bytes) c.in-Some.ensures.step c.leaf_at.ensures.leads
 
@@ -21,7 +25,10 @@ pub returns-in-Some-clause-cut : goal.returns-in-Some-clause-cut
 returns-in-Some-clause-cut g t c = step_cut c.leaf_at.result (g.S.PageStore.told c.args.store.now) (g.S.PageStore.told c.read_into.new.store) c.args.page c.args.height c.pages.result c.read_into.new.bytes (records_of c.leaf_at.new.bytes) c.args.k.now c.in-Some.step.child c.args.high.now c.in-Some.step.high (read_ok (g.S.PageStore.told c.args.store.now) (g.S.PageStore.told c.read_into.new.store) c.args.page c.args.height c.pages.result (g.S.PageStore.size c.args.store.now) c.read_into.new.bytes c.requires.height c.if-height-eq1.false c.in-Ok.ensures.told (g.met.S.PageStore.as_many c.args.store.now) (c.pages.ensures ∙ c.in-Ok.ensures.size) c.in-Ok.ensures.bytes) c.in-Some.ensures.step c.leaf_at.ensures.leads c.leaf_at.ensures.cut
 
 pub returns-in-Some-clause-least : goal.returns-in-Some-clause-least
-returns-in-Some-clause-least g t c = step_least c.leaf_at.result (g.S.PageStore.told c.args.store.now) (g.S.PageStore.told c.read_into.new.store) c.args.page c.args.height c.pages.result c.read_into.new.bytes (records_of c.leaf_at.new.bytes) c.args.k.now c.in-Some.step.child c.args.high.now c.in-Some.step.high (read_ok (g.S.PageStore.told c.args.store.now) (g.S.PageStore.told c.read_into.new.store) c.args.page c.args.height c.pages.result (g.S.PageStore.size c.args.store.now) c.read_into.new.bytes c.requires.height c.if-height-eq1.false c.in-Ok.ensures.told (g.met.S.PageStore.as_many c.args.store.now) (c.pages.ensures ∙ c.in-Ok.ensures.size) c.in-Ok.ensures.bytes) c.in-Some.ensures.step c.leaf_at.ensures.least
+returns-in-Some-clause-least g t c = step_holds c.leaf_at.result (g.S.PageStore.told c.args.store.now) (g.S.PageStore.told c.read_into.new.store) c.args.page c.args.height c.pages.result c.read_into.new.bytes (1 ≤ length (records_of c.leaf_at.new.bytes)) c.args.k.now c.in-Some.step.child c.args.high.now c.in-Some.step.high (read_ok (g.S.PageStore.told c.args.store.now) (g.S.PageStore.told c.read_into.new.store) c.args.page c.args.height c.pages.result (g.S.PageStore.size c.args.store.now) c.read_into.new.bytes c.requires.height c.if-height-eq1.false c.in-Ok.ensures.told (g.met.S.PageStore.as_many c.args.store.now) (c.pages.ensures ∙ c.in-Ok.ensures.size) c.in-Ok.ensures.bytes) c.in-Some.ensures.step c.leaf_at.ensures.least
+
+pub returns-in-Some-clause-leaf : goal.returns-in-Some-clause-leaf
+returns-in-Some-clause-leaf g t c = step_holds c.leaf_at.result (g.S.PageStore.told c.args.store.now) (g.S.PageStore.told c.read_into.new.store) c.args.page c.args.height c.pages.result c.read_into.new.bytes (leaf_of c.leaf_at.new.bytes ≡ Some (records_of c.leaf_at.new.bytes)) c.args.k.now c.in-Some.step.child c.args.high.now c.in-Some.step.high (read_ok (g.S.PageStore.told c.args.store.now) (g.S.PageStore.told c.read_into.new.store) c.args.page c.args.height c.pages.result (g.S.PageStore.size c.args.store.now) c.read_into.new.bytes c.requires.height c.if-height-eq1.false c.in-Ok.ensures.told (g.met.S.PageStore.as_many c.args.store.now) (c.pages.ensures ∙ c.in-Ok.ensures.size) c.in-Ok.ensures.bytes) c.in-Some.ensures.step c.leaf_at.ensures.leaf
 
 pub returns-in-Some-clause-sound : goal.returns-in-Some-clause-sound
 returns-in-Some-clause-sound g t c = step_sound c.leaf_at.result (g.S.PageStore.told c.args.store.now) (g.S.PageStore.told c.read_into.new.store) c.args.page c.args.height c.pages.result c.read_into.new.bytes c.args.k.now c.in-Some.step.child c.args.high.now c.in-Some.step.high (read_ok (g.S.PageStore.told c.args.store.now) (g.S.PageStore.told c.read_into.new.store) c.args.page c.args.height c.pages.result (g.S.PageStore.size c.args.store.now) c.read_into.new.bytes c.requires.height c.if-height-eq1.false c.in-Ok.ensures.told (g.met.S.PageStore.as_many c.args.store.now) (c.pages.ensures ∙ c.in-Ok.ensures.size) c.in-Ok.ensures.bytes) c.in-Some.ensures.step c.leaf_at.ensures.sound

@@ -1,5 +1,7 @@
-use Rattle.std.proofs.Common.{true, false}
-use Rattle.std.proofs.lemmas.Result.{err_from_is_err_and}
+use Rattle.std.proofs.Common.{◌≡◌, true, false, Some, refl, sym, subst, ◌∙◌}
+use Rattle.quilt_node.specs.Pages.{inner_of}
+use Rattle.quilt_btree.specs.Searches.{IsHigh}
+use Rattle.quilt_btree.proofs.Forks.{place_inside}
 use Rattle.quilt_btree.proofs.Finding.{finds_below, found_in_leaf, found_finds}
 use Rattle.quilt_btree.proofs.LeafRemovals.{leaf_reads}
 use Rattle.quilt_btree.proofs.Removals.{sound_child, missing_child, done_child, mended_child, mended_sound, emptied_child, only_child, leaf_sound}
@@ -9,89 +11,118 @@ pub returns-then-height-eq1-clause-sound : goal.returns-then-height-eq1-clause-s
 returns-then-height-eq1-clause-sound g t c =
     leaf_sound c.remove_in_leaf.result (g.S.PageStore.told c.args.store.now) (g.S.PageStore.free c.args.store.now) c.args.page c.args.height c.if-height-eq1.true c.remove_in_leaf.ensures.sound
 
-pub returns-in_err-inner-clause-sound : goal.returns-in_err-inner-clause-sound
-returns-in_err-inner-clause-sound g t c =
-    let p = err_from_is_err_and c.from_residual.result c.from_residual.ensures.1 in
-    rw (p.1, p.2) (λ is_root b rs used can. c.in_err-inner.ensures.sound rs (leaf_reads (g.S.PageStore.told c.args.store.now) (g.S.PageStore.free c.args.store.now) c.args.page c.args.height is_root b rs used can))
-
 pub returns-in-Err-clause-sound : goal.returns-in-Err-clause-sound
-returns-in-Err-clause-sound g t c =
-    sound_child c.in-Err.e c.args.k.now (g.S.PageStore.told c.args.store.now) (g.S.PageStore.told c.read_inner.new.store) (g.S.PageStore.free c.args.store.now) (g.S.PageStore.free c.read_inner.new.store)
-    c.args.page c.args.height c.child-child.result c.place-i.result c.in_ok-inner.inner
-    (record { some = c.requires.height; above = c.if-height-eq1.false; reads = c.in_ok-inner.ensures.inner; place = c.place-i.ensures.place; is_mid = c.in_ok-inner.ensures.told; is_free = c.in_ok-inner.ensures.free; is_child = c.child-child.ensures.child })
-    c.in-Err.ensures.sound
+returns-in-Err-clause-sound g t c is_root b rs used can =
+    c.in-Err.ensures.sound c.args.height rs c.requires.height c.if-height-eq1.false (leaf_reads (g.S.PageStore.told c.args.store.now) (g.S.PageStore.free c.args.store.now) c.args.page c.args.height is_root b rs used can)
+
+pub returns-in-Err-remove_under-clause-sound : goal.returns-in-Err-remove_under-clause-sound
+returns-in-Err-remove_under-clause-sound g t c = λ is_root b rs used can.
+    let h = c.in-Ok.ensures.here c.args.height rs c.requires.height c.if-height-eq1.false (leaf_reads (g.S.PageStore.told c.args.store.now) (g.S.PageStore.free c.args.store.now) c.args.page c.args.height is_root b rs used can) in
+    let w = c.in-Ok.ensures.way h.inner h.is in
+    sound_child c.in-Err-remove_under.e c.args.k.now (g.S.PageStore.told c.args.store.now) (g.S.PageStore.told c.read_way.new.store) (g.S.PageStore.free c.args.store.now) (g.S.PageStore.free c.read_way.new.store)
+    c.args.page c.args.height c.in-Ok.way.child c.in-Ok.way.place h.inner
+    (record { some = c.requires.height; above = c.if-height-eq1.false; reads = w.reads; place = w.is_place; is_mid = c.in-Ok.ensures.told; is_free = c.in-Ok.ensures.free; is_child = w.child_is })
+    c.in-Err-remove_under.ensures.sound is_root b rs used can
 
 pub returns-in-Ok-Missing-clause-removed : goal.returns-in-Ok-Missing-clause-removed
-returns-in-Ok-Missing-clause-removed g t c =
+returns-in-Ok-Missing-clause-removed g t c = λ is_root b rs used can.
+    let h = c.in-Ok.ensures.here c.args.height rs c.requires.height c.if-height-eq1.false (leaf_reads (g.S.PageStore.told c.args.store.now) (g.S.PageStore.free c.args.store.now) c.args.page c.args.height is_root b rs used can) in
+    let w = c.in-Ok.ensures.way h.inner h.is in
     let found = rw c.in-Ok-Missing.field-0-is at c.in-Ok-Missing.ensures in
-    missing_child c.args.k.now (g.S.PageStore.told c.args.store.now) (g.S.PageStore.told c.read_inner.new.store) (g.S.PageStore.told c.remove_under.new.store) (g.S.PageStore.free c.args.store.now) (g.S.PageStore.free c.read_inner.new.store) (g.S.PageStore.free c.remove_under.new.store)
-    c.args.page c.args.height c.child-child.result c.place-i.result c.in_ok-inner.inner
-    (record { some = c.requires.height; above = c.if-height-eq1.false; reads = c.in_ok-inner.ensures.inner; place = c.place-i.ensures.place; is_mid = c.in_ok-inner.ensures.told; is_free = c.in_ok-inner.ensures.free; is_child = c.child-child.ensures.child })
-    found.removed
+    missing_child c.args.k.now (g.S.PageStore.told c.args.store.now) (g.S.PageStore.told c.read_way.new.store) (g.S.PageStore.told c.remove_under.new.store) (g.S.PageStore.free c.args.store.now) (g.S.PageStore.free c.read_way.new.store) (g.S.PageStore.free c.remove_under.new.store)
+    c.args.page c.args.height c.in-Ok.way.child c.in-Ok.way.place h.inner
+    (record { some = c.requires.height; above = c.if-height-eq1.false; reads = w.reads; place = w.is_place; is_mid = c.in-Ok.ensures.told; is_free = c.in-Ok.ensures.free; is_child = w.child_is })
+    found.removed is_root b rs used can
 
 pub returns-in-Ok-Done-clause-removed : goal.returns-in-Ok-Done-clause-removed
-returns-in-Ok-Done-clause-removed g t c =
+returns-in-Ok-Done-clause-removed g t c = λ is_root b rs used can.
+    let h = c.in-Ok.ensures.here c.args.height rs c.requires.height c.if-height-eq1.false (leaf_reads (g.S.PageStore.told c.args.store.now) (g.S.PageStore.free c.args.store.now) c.args.page c.args.height is_root b rs used can) in
+    let w = c.in-Ok.ensures.way h.inner h.is in
     let found = rw c.in-Ok-Done.field-0-is at c.in-Ok-Done.ensures in
-    done_child c.args.k.now (g.S.PageStore.told c.args.store.now) (g.S.PageStore.told c.read_inner.new.store) (g.S.PageStore.told c.remove_under.new.store) (g.S.PageStore.free c.args.store.now) (g.S.PageStore.free c.read_inner.new.store) (g.S.PageStore.free c.remove_under.new.store)
-    c.args.page c.args.height c.child-child.result c.place-i.result c.in_ok-inner.inner
-    (record { some = c.requires.height; above = c.if-height-eq1.false; reads = c.in_ok-inner.ensures.inner; place = c.place-i.ensures.place; is_mid = c.in_ok-inner.ensures.told; is_free = c.in_ok-inner.ensures.free; is_child = c.child-child.ensures.child })
-    found.removed
+    done_child c.args.k.now (g.S.PageStore.told c.args.store.now) (g.S.PageStore.told c.read_way.new.store) (g.S.PageStore.told c.remove_under.new.store) (g.S.PageStore.free c.args.store.now) (g.S.PageStore.free c.read_way.new.store) (g.S.PageStore.free c.remove_under.new.store)
+    c.args.page c.args.height c.in-Ok.way.child c.in-Ok.way.place h.inner
+    (record { some = c.requires.height; above = c.if-height-eq1.false; reads = w.reads; place = w.is_place; is_mid = c.in-Ok.ensures.told; is_free = c.in-Ok.ensures.free; is_child = w.child_is })
+    found.removed is_root b rs used can
 
-pub returns-in-Ok-Short-clause-removed : goal.returns-in-Ok-Short-clause-removed
-returns-in-Ok-Short-clause-removed g t c =
+pub returns-in-Some-clause-removed : goal.returns-in-Some-clause-removed
+returns-in-Some-clause-removed g t c =
+    let w = c.in-Ok.ensures.way c.in-Some.inner (subst (λ n. inner_of n c.read_way.new.bytes ≡ Some c.in-Some.inner) (c.pages.ensures ∙ c.in-Ok-Short.ensures.size ∙ c.in-Ok.ensures.size) c.in-Some.ensures.inner) in
     let found = rw c.in-Ok-Short.field-0-is at c.in-Ok-Short.ensures in
-    mended_child c.mend_child.result c.args.k.now (g.S.PageStore.told c.args.store.now) (g.S.PageStore.told c.read_inner.new.store) (g.S.PageStore.told c.remove_under.new.store) (g.S.PageStore.told c.mend_child.new.store)
-    (g.S.PageStore.free c.args.store.now) (g.S.PageStore.free c.read_inner.new.store) (g.S.PageStore.free c.remove_under.new.store) (g.S.PageStore.free c.mend_child.new.store)
-    c.args.page c.args.height c.child-child.result c.place-i.result c.in_ok-inner.inner
-    (record { some = c.requires.height; above = c.if-height-eq1.false; reads = c.in_ok-inner.ensures.inner; place = c.place-i.ensures.place; is_mid = c.in_ok-inner.ensures.told; is_free = c.in_ok-inner.ensures.free; is_child = c.child-child.ensures.child })
+    mended_child c.mend_child.result c.args.k.now (g.S.PageStore.told c.args.store.now) (g.S.PageStore.told c.read_way.new.store) (g.S.PageStore.told c.remove_under.new.store) (g.S.PageStore.told c.mend_child.new.store)
+    (g.S.PageStore.free c.args.store.now) (g.S.PageStore.free c.read_way.new.store) (g.S.PageStore.free c.remove_under.new.store) (g.S.PageStore.free c.mend_child.new.store)
+    c.args.page c.args.height c.in-Ok.way.child c.in-Ok.way.place c.in-Some.inner
+    (record { some = c.requires.height; above = c.if-height-eq1.false; reads = w.reads; place = w.is_place; is_mid = c.in-Ok.ensures.told; is_free = c.in-Ok.ensures.free; is_child = w.child_is })
     found.removed c.mend_child.ensures.some c.mend_child.ensures.left
 
-pub returns-in-Ok-Short-clause-sound : goal.returns-in-Ok-Short-clause-sound
-returns-in-Ok-Short-clause-sound g t c =
+pub returns-in-Some-clause-sound : goal.returns-in-Some-clause-sound
+returns-in-Some-clause-sound g t c =
+    let w = c.in-Ok.ensures.way c.in-Some.inner (subst (λ n. inner_of n c.read_way.new.bytes ≡ Some c.in-Some.inner) (c.pages.ensures ∙ c.in-Ok-Short.ensures.size ∙ c.in-Ok.ensures.size) c.in-Some.ensures.inner) in
     let found = rw c.in-Ok-Short.field-0-is at c.in-Ok-Short.ensures in
-    mended_sound c.mend_child.result c.args.k.now (g.S.PageStore.told c.args.store.now) (g.S.PageStore.told c.read_inner.new.store) (g.S.PageStore.told c.remove_under.new.store)
-    (g.S.PageStore.free c.args.store.now) (g.S.PageStore.free c.read_inner.new.store) (g.S.PageStore.free c.remove_under.new.store)
-    c.args.page c.args.height c.child-child.result c.place-i.result c.in_ok-inner.inner
-    (record { some = c.requires.height; above = c.if-height-eq1.false; reads = c.in_ok-inner.ensures.inner; place = c.place-i.ensures.place; is_mid = c.in_ok-inner.ensures.told; is_free = c.in_ok-inner.ensures.free; is_child = c.child-child.ensures.child })
+    mended_sound c.mend_child.result c.args.k.now (g.S.PageStore.told c.args.store.now) (g.S.PageStore.told c.read_way.new.store) (g.S.PageStore.told c.remove_under.new.store)
+    (g.S.PageStore.free c.args.store.now) (g.S.PageStore.free c.read_way.new.store) (g.S.PageStore.free c.remove_under.new.store)
+    c.args.page c.args.height c.in-Ok.way.child c.in-Ok.way.place c.in-Some.inner
+    (record { some = c.requires.height; above = c.if-height-eq1.false; reads = w.reads; place = w.is_place; is_mid = c.in-Ok.ensures.told; is_free = c.in-Ok.ensures.free; is_child = w.child_is })
     found.removed c.mend_child.ensures.sound
 
 pub returns-in-Ok-Emptied-clause-sound : goal.returns-in-Ok-Emptied-clause-sound
-returns-in-Ok-Emptied-clause-sound g t c =
+returns-in-Ok-Emptied-clause-sound g t c = λ is_root b rs used can.
+    let h = c.in-Ok.ensures.here c.args.height rs c.requires.height c.if-height-eq1.false (leaf_reads (g.S.PageStore.told c.args.store.now) (g.S.PageStore.free c.args.store.now) c.args.page c.args.height is_root b rs used can) in
+    let w = c.in-Ok.ensures.way h.inner h.is in
     let found = rw c.in-Ok-Emptied.field-0-is at c.in-Ok-Emptied.ensures in
-    emptied_child _ c.args.k.now (g.S.PageStore.told c.args.store.now) (g.S.PageStore.told c.read_inner.new.store) (g.S.PageStore.told c.remove_under.new.store)
-    (g.S.PageStore.free c.args.store.now) (g.S.PageStore.free c.read_inner.new.store) (g.S.PageStore.free c.remove_under.new.store)
-    c.args.page c.args.height c.child-child.result c.place-i.result c.in_ok-inner.inner
-    (record { some = c.requires.height; above = c.if-height-eq1.false; reads = c.in_ok-inner.ensures.inner; place = c.place-i.ensures.place; is_mid = c.in_ok-inner.ensures.told; is_free = c.in_ok-inner.ensures.free; is_child = c.child-child.ensures.child })
-    found.removed
+    emptied_child _ c.args.k.now (g.S.PageStore.told c.args.store.now) (g.S.PageStore.told c.read_way.new.store) (g.S.PageStore.told c.remove_under.new.store)
+    (g.S.PageStore.free c.args.store.now) (g.S.PageStore.free c.read_way.new.store) (g.S.PageStore.free c.remove_under.new.store)
+    c.args.page c.args.height c.in-Ok.way.child c.in-Ok.way.place h.inner
+    (record { some = c.requires.height; above = c.if-height-eq1.false; reads = w.reads; place = w.is_place; is_mid = c.in-Ok.ensures.told; is_free = c.in-Ok.ensures.free; is_child = w.child_is })
+    found.removed is_root b rs used can
 
 pub returns-in-Ok-Only-clause-sound : goal.returns-in-Ok-Only-clause-sound
-returns-in-Ok-Only-clause-sound g t c =
+returns-in-Ok-Only-clause-sound g t c = λ is_root b rs used can.
+    let h = c.in-Ok.ensures.here c.args.height rs c.requires.height c.if-height-eq1.false (leaf_reads (g.S.PageStore.told c.args.store.now) (g.S.PageStore.free c.args.store.now) c.args.page c.args.height is_root b rs used can) in
+    let w = c.in-Ok.ensures.way h.inner h.is in
     let found = rw c.in-Ok-Only.field-0-is at c.in-Ok-Only.ensures in
-    only_child _ _ c.args.k.now (g.S.PageStore.told c.args.store.now) (g.S.PageStore.told c.read_inner.new.store) (g.S.PageStore.told c.remove_under.new.store)
-    (g.S.PageStore.free c.args.store.now) (g.S.PageStore.free c.read_inner.new.store) (g.S.PageStore.free c.remove_under.new.store)
-    c.args.page c.args.height c.child-child.result c.place-i.result c.in_ok-inner.inner
-    (record { some = c.requires.height; above = c.if-height-eq1.false; reads = c.in_ok-inner.ensures.inner; place = c.place-i.ensures.place; is_mid = c.in_ok-inner.ensures.told; is_free = c.in_ok-inner.ensures.free; is_child = c.child-child.ensures.child })
-    found.removed
+    only_child _ _ c.args.k.now (g.S.PageStore.told c.args.store.now) (g.S.PageStore.told c.read_way.new.store) (g.S.PageStore.told c.remove_under.new.store)
+    (g.S.PageStore.free c.args.store.now) (g.S.PageStore.free c.read_way.new.store) (g.S.PageStore.free c.remove_under.new.store)
+    c.args.page c.args.height c.in-Ok.way.child c.in-Ok.way.place h.inner
+    (record { some = c.requires.height; above = c.if-height-eq1.false; reads = w.reads; place = w.is_place; is_mid = c.in-Ok.ensures.told; is_free = c.in-Ok.ensures.free; is_child = w.child_is })
+    found.removed is_root b rs used can
 
 pub returns-then-height-eq1-clause-finds : goal.returns-then-height-eq1-clause-finds
 returns-then-height-eq1-clause-finds g t c =
     found_in_leaf c.remove_in_leaf.result (g.S.PageStore.told c.args.store.now) c.args.page c.args.height c.args.k.now c.if-height-eq1.true c.remove_in_leaf.ensures.finds
 
 pub returns-in-Ok-Missing-clause-finds : goal.returns-in-Ok-Missing-clause-finds
-returns-in-Ok-Missing-clause-finds g t c =
-    finds_below (g.S.PageStore.told c.args.store.now) (g.S.PageStore.told c.read_inner.new.store) c.args.page c.args.height c.child-child.result c.place-i.result c.args.k.now c.in_ok-inner.inner false
-    (record { same = c.in_ok-inner.ensures.told; some = c.requires.height; above = c.if-height-eq1.false; reads = c.in_ok-inner.ensures.inner; place = c.place-i.ensures.place; is_child = c.child-child.ensures.child })
-    (rw c.in-Ok-Missing.field-0-is at c.in-Ok-Missing.ensures.finds)
+returns-in-Ok-Missing-clause-finds g t c = λ rs s.
+    let h = c.in-Ok.ensures.here c.args.height rs c.requires.height c.if-height-eq1.false s in
+    let w = c.in-Ok.ensures.way h.inner h.is in
+    finds_below (g.S.PageStore.told c.args.store.now) (g.S.PageStore.told c.read_way.new.store) c.args.page c.args.height c.in-Ok.way.child c.in-Ok.way.place c.args.k.now h.inner false
+    (record { same = c.in-Ok.ensures.told; some = c.requires.height; above = c.if-height-eq1.false; reads = w.reads; place = w.is_place; is_child = w.child_is })
+    (rw c.in-Ok-Missing.field-0-is at c.in-Ok-Missing.ensures.finds) rs s
 
 pub returns-in-Ok-Done-clause-finds : goal.returns-in-Ok-Done-clause-finds
-returns-in-Ok-Done-clause-finds g t c =
-    finds_below (g.S.PageStore.told c.args.store.now) (g.S.PageStore.told c.read_inner.new.store) c.args.page c.args.height c.child-child.result c.place-i.result c.args.k.now c.in_ok-inner.inner true
-    (record { same = c.in_ok-inner.ensures.told; some = c.requires.height; above = c.if-height-eq1.false; reads = c.in_ok-inner.ensures.inner; place = c.place-i.ensures.place; is_child = c.child-child.ensures.child })
-    (rw c.in-Ok-Done.field-0-is at c.in-Ok-Done.ensures.finds)
+returns-in-Ok-Done-clause-finds g t c = λ rs s.
+    let h = c.in-Ok.ensures.here c.args.height rs c.requires.height c.if-height-eq1.false s in
+    let w = c.in-Ok.ensures.way h.inner h.is in
+    finds_below (g.S.PageStore.told c.args.store.now) (g.S.PageStore.told c.read_way.new.store) c.args.page c.args.height c.in-Ok.way.child c.in-Ok.way.place c.args.k.now h.inner true
+    (record { same = c.in-Ok.ensures.told; some = c.requires.height; above = c.if-height-eq1.false; reads = w.reads; place = w.is_place; is_child = w.child_is })
+    (rw c.in-Ok-Done.field-0-is at c.in-Ok-Done.ensures.finds) rs s
 
-pub returns-in-Ok-Short-clause-finds : goal.returns-in-Ok-Short-clause-finds
-returns-in-Ok-Short-clause-finds g t c =
+pub returns-in-Some-clause-finds : goal.returns-in-Some-clause-finds
+returns-in-Some-clause-finds g t c =
     found_finds c.mend_child.result (g.S.PageStore.told c.args.store.now) c.args.page c.args.height c.args.k.now c.mend_child.ensures.some
-    (finds_below (g.S.PageStore.told c.args.store.now) (g.S.PageStore.told c.read_inner.new.store) c.args.page c.args.height c.child-child.result c.place-i.result c.args.k.now c.in_ok-inner.inner true
-    (record { same = c.in_ok-inner.ensures.told; some = c.requires.height; above = c.if-height-eq1.false; reads = c.in_ok-inner.ensures.inner; place = c.place-i.ensures.place; is_child = c.child-child.ensures.child })
-    (rw c.in-Ok-Short.field-0-is at c.in-Ok-Short.ensures.finds))
+    (λ rs s.
+    let h = c.in-Ok.ensures.here c.args.height rs c.requires.height c.if-height-eq1.false s in
+    let w = c.in-Ok.ensures.way h.inner h.is in
+    finds_below (g.S.PageStore.told c.args.store.now) (g.S.PageStore.told c.read_way.new.store) c.args.page c.args.height c.in-Ok.way.child c.in-Ok.way.place c.args.k.now h.inner true
+    (record { same = c.in-Ok.ensures.told; some = c.requires.height; above = c.if-height-eq1.false; reads = w.reads; place = w.is_place; is_child = w.child_is })
+    (rw c.in-Ok-Short.field-0-is at c.in-Ok-Short.ensures.finds) rs s)
+
+pub returns-in-None-clause-sound : goal.returns-in-None-clause-sound
+returns-in-None-clause-sound g t c is_root b rs used can =
+    let h = c.in-Ok.ensures.here c.args.height rs c.requires.height c.if-height-eq1.false (leaf_reads (g.S.PageStore.told c.args.store.now) (g.S.PageStore.free c.args.store.now) c.args.page c.args.height is_root b rs used can) in
+    absurd (c.in-None.ensures.none refl (subst (λ n. IsHigh n c.read_way.new.bytes c.args.height) (sym (c.pages.ensures ∙ c.in-Ok-Short.ensures.size ∙ c.in-Ok.ensures.size)) h))
+
+pub mend_child-requires-clause-place : goal.mend_child-requires-clause-place
+mend_child-requires-clause-place g t c =
+    let same : c.pages.result ≡ g.S.PageStore.size c.args.store.now = c.pages.ensures ∙ c.in-Ok-Short.ensures.size ∙ c.in-Ok.ensures.size in
+    let is : inner_of (g.S.PageStore.size c.args.store.now) c.read_way.new.bytes ≡ Some c.in-Some.inner = subst (λ n. inner_of n c.read_way.new.bytes ≡ Some c.in-Some.inner) same c.in-Some.ensures.inner in
+    place_inside (g.S.PageStore.size c.args.store.now) c.read_way.new.bytes c.in-Some.inner c.args.k.now c.in-Ok.way.place is (c.in-Ok.ensures.way c.in-Some.inner is).is_place

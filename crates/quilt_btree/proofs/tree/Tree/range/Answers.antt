@@ -21,7 +21,9 @@ returns-then-len-most-clause-range g c = λ rs is. first_fills (g.S.PageStore.to
   some = c.if-self-eq0.false;
   leads = c.in-Ok.ensures.leads;
   cut = c.in-Ok.ensures.cut;
-  added = from_not_err c.add_leaf.result c.is_err.result c.is_err.ensures.value c.if-is_err.false c.add_leaf.ensures ∙ ap (λ (l : List Record). take c.args.most (l ++ filter (is_from_to c.args.low.now c.args.high.now) (records_of c.leaf_at.new.bytes))) c.new-records.ensures.items;
+  seen = (from_not_err c.add_leaf.result c.is_err.result c.is_err.ensures.value c.if-is_err.false c.add_leaf.ensures).0;
+  added = (from_not_err c.add_leaf.result c.is_err.result c.is_err.ensures.value c.if-is_err.false c.add_leaf.ensures).1 ∙ ap (λ (l : List Record). take c.args.most (l ++ filter (is_from_to c.args.low.now c.args.high.now) (from_not_err c.add_leaf.result c.is_err.result c.is_err.ensures.value c.if-is_err.false c.add_leaf.ensures).0)) c.new-records.ensures.items;
+  same = λ rs s. (from_not_err c.add_leaf.result c.is_err.result c.is_err.ensures.value c.if-is_err.false c.add_leaf.ensures).2 (records_of c.leaf_at.new.bytes) (c.in-Ok.ensures.leaf rs s);
 }) is
     (let e = c.len.ensures in let t = c.if-len-most.true in omega (arith, c.add_leaf.new.records.ok.0))
 
@@ -30,7 +32,9 @@ returns-in-None-clause-range g c = λ rs is. first_ends (g.S.PageStore.told c.ar
   some = c.if-self-eq0.false;
   leads = c.in-Ok.ensures.leads;
   cut = c.in-Ok.ensures.cut;
-  added = from_not_err c.add_leaf.result c.is_err.result c.is_err.ensures.value c.if-is_err.false c.add_leaf.ensures ∙ ap (λ (l : List Record). take c.args.most (l ++ filter (is_from_to c.args.low.now c.args.high.now) (records_of c.leaf_at.new.bytes))) c.new-records.ensures.items;
+  seen = (from_not_err c.add_leaf.result c.is_err.result c.is_err.ensures.value c.if-is_err.false c.add_leaf.ensures).0;
+  added = (from_not_err c.add_leaf.result c.is_err.result c.is_err.ensures.value c.if-is_err.false c.add_leaf.ensures).1 ∙ ap (λ (l : List Record). take c.args.most (l ++ filter (is_from_to c.args.low.now c.args.high.now) (from_not_err c.add_leaf.result c.is_err.result c.is_err.ensures.value c.if-is_err.false c.add_leaf.ensures).0)) c.new-records.ensures.items;
+  same = λ rs s. (from_not_err c.add_leaf.result c.is_err.result c.is_err.ensures.value c.if-is_err.false c.add_leaf.ensures).2 (records_of c.leaf_at.new.bytes) (c.in-Ok.ensures.leaf rs s);
 }) is c.in-None.ensures
 
 pub returns-in-Err-add_rest-clause-sound : goal.returns-in-Err-add_rest-clause-sound
@@ -40,7 +44,9 @@ returns-in-Err-add_rest-clause-sound g c =
       some = c.if-self-eq0.false;
       leads = c.in-Ok.ensures.leads;
       cut = c.in-Ok.ensures.cut;
-      added = from_not_err c.add_leaf.result c.is_err.result c.is_err.ensures.value c.if-is_err.false c.add_leaf.ensures ∙ ap (λ (l : List Record). take c.args.most (l ++ filter (is_from_to c.args.low.now c.args.high.now) (records_of c.leaf_at.new.bytes))) c.new-records.ensures.items;
+      seen = (from_not_err c.add_leaf.result c.is_err.result c.is_err.ensures.value c.if-is_err.false c.add_leaf.ensures).0;
+      added = (from_not_err c.add_leaf.result c.is_err.result c.is_err.ensures.value c.if-is_err.false c.add_leaf.ensures).1 ∙ ap (λ (l : List Record). take c.args.most (l ++ filter (is_from_to c.args.low.now c.args.high.now) (from_not_err c.add_leaf.result c.is_err.result c.is_err.ensures.value c.if-is_err.false c.add_leaf.ensures).0)) c.new-records.ensures.items;
+      same = λ rs s. (from_not_err c.add_leaf.result c.is_err.result c.is_err.ensures.value c.if-is_err.false c.add_leaf.ensures).2 (records_of c.leaf_at.new.bytes) (c.in-Ok.ensures.leaf rs s);
     }) c.in-Some.ensures.0 c.in-Err-add_rest.ensures.sound
 
 pub returns-in-Ok-add_rest-clause-range : goal.returns-in-Ok-add_rest-clause-range
@@ -50,7 +56,9 @@ returns-in-Ok-add_rest-clause-range g c =
       some = c.if-self-eq0.false;
       leads = c.in-Ok.ensures.leads;
       cut = c.in-Ok.ensures.cut;
-      added = from_not_err c.add_leaf.result c.is_err.result c.is_err.ensures.value c.if-is_err.false c.add_leaf.ensures ∙ ap (λ (l : List Record). take c.args.most (l ++ filter (is_from_to c.args.low.now c.args.high.now) (records_of c.leaf_at.new.bytes))) c.new-records.ensures.items;
+      seen = (from_not_err c.add_leaf.result c.is_err.result c.is_err.ensures.value c.if-is_err.false c.add_leaf.ensures).0;
+      added = (from_not_err c.add_leaf.result c.is_err.result c.is_err.ensures.value c.if-is_err.false c.add_leaf.ensures).1 ∙ ap (λ (l : List Record). take c.args.most (l ++ filter (is_from_to c.args.low.now c.args.high.now) (from_not_err c.add_leaf.result c.is_err.result c.is_err.ensures.value c.if-is_err.false c.add_leaf.ensures).0)) c.new-records.ensures.items;
+      same = λ rs s. (from_not_err c.add_leaf.result c.is_err.result c.is_err.ensures.value c.if-is_err.false c.add_leaf.ensures).2 (records_of c.leaf_at.new.bytes) (c.in-Ok.ensures.leaf rs s);
     }) c.in-Some.ensures.0 c.in-Ok-add_rest.ensures.rest
 
 pub returns-then-self-eq0-clause-within : goal.returns-then-self-eq0-clause-within
@@ -58,16 +66,16 @@ returns-then-self-eq0-clause-within g c = ap (list_all (is_from_to c.args.low.no
 
 pub returns-then-len-most-clause-within : goal.returns-then-len-most-clause-within
 returns-then-len-most-clause-within g c =
-    first_within c.args.low.now c.args.high.now c.args.most (records_of c.leaf_at.new.bytes) c.add_leaf.new.records.items
-    (from_not_err c.add_leaf.result c.is_err.result c.is_err.ensures.value c.if-is_err.false c.add_leaf.ensures ∙ ap (λ (l : List Record). take c.args.most (l ++ filter (is_from_to c.args.low.now c.args.high.now) (records_of c.leaf_at.new.bytes))) c.new-records.ensures.items)
+    first_within c.args.low.now c.args.high.now c.args.most (from_not_err c.add_leaf.result c.is_err.result c.is_err.ensures.value c.if-is_err.false c.add_leaf.ensures).0 c.add_leaf.new.records.items
+    ((from_not_err c.add_leaf.result c.is_err.result c.is_err.ensures.value c.if-is_err.false c.add_leaf.ensures).1 ∙ ap (λ (l : List Record). take c.args.most (l ++ filter (is_from_to c.args.low.now c.args.high.now) (from_not_err c.add_leaf.result c.is_err.result c.is_err.ensures.value c.if-is_err.false c.add_leaf.ensures).0)) c.new-records.ensures.items)
 
 pub returns-in-None-clause-within : goal.returns-in-None-clause-within
 returns-in-None-clause-within g c =
-    first_within c.args.low.now c.args.high.now c.args.most (records_of c.leaf_at.new.bytes) c.add_leaf.new.records.items
-    (from_not_err c.add_leaf.result c.is_err.result c.is_err.ensures.value c.if-is_err.false c.add_leaf.ensures ∙ ap (λ (l : List Record). take c.args.most (l ++ filter (is_from_to c.args.low.now c.args.high.now) (records_of c.leaf_at.new.bytes))) c.new-records.ensures.items)
+    first_within c.args.low.now c.args.high.now c.args.most (from_not_err c.add_leaf.result c.is_err.result c.is_err.ensures.value c.if-is_err.false c.add_leaf.ensures).0 c.add_leaf.new.records.items
+    ((from_not_err c.add_leaf.result c.is_err.result c.is_err.ensures.value c.if-is_err.false c.add_leaf.ensures).1 ∙ ap (λ (l : List Record). take c.args.most (l ++ filter (is_from_to c.args.low.now c.args.high.now) (from_not_err c.add_leaf.result c.is_err.result c.is_err.ensures.value c.if-is_err.false c.add_leaf.ensures).0)) c.new-records.ensures.items)
 
 pub returns-in-Ok-add_rest-clause-within : goal.returns-in-Ok-add_rest-clause-within
 returns-in-Ok-add_rest-clause-within g c =
     c.in-Ok-add_rest.ensures.within c.args.low.now (lt_to_le (key_cmp c.args.low.now c.in-Some.next) (above_bound c.args.low.now c.in-Some.next c.in-Ok.found.high c.in-Ok.ensures.above c.in-Some.ensures.0))
-    (first_within c.args.low.now c.args.high.now c.args.most (records_of c.leaf_at.new.bytes) c.add_leaf.new.records.items
-    (from_not_err c.add_leaf.result c.is_err.result c.is_err.ensures.value c.if-is_err.false c.add_leaf.ensures ∙ ap (λ (l : List Record). take c.args.most (l ++ filter (is_from_to c.args.low.now c.args.high.now) (records_of c.leaf_at.new.bytes))) c.new-records.ensures.items))
+    (first_within c.args.low.now c.args.high.now c.args.most (from_not_err c.add_leaf.result c.is_err.result c.is_err.ensures.value c.if-is_err.false c.add_leaf.ensures).0 c.add_leaf.new.records.items
+    ((from_not_err c.add_leaf.result c.is_err.result c.is_err.ensures.value c.if-is_err.false c.add_leaf.ensures).1 ∙ ap (λ (l : List Record). take c.args.most (l ++ filter (is_from_to c.args.low.now c.args.high.now) (from_not_err c.add_leaf.result c.is_err.result c.is_err.ensures.value c.if-is_err.false c.add_leaf.ensures).0)) c.new-records.ensures.items))
