@@ -38,7 +38,7 @@ agree_back n side_of t g h a = record { each = λ p x y e. sym (a.each p x y e) 
 
 module _ (n : ℕ) (side_of : Pixel → Bool) where
   -- which side it is, from one pixel
-  side_from : (t : Bool) (b : Block) (p : Pixel) → Holds b p → side_of p ≡ t → LiesOn side_of true b ⊎ LiesOn side_of false b → LiesOn side_of t b
+  pub side_from : (t : Bool) (b : Block) (p : Pixel) → Holds b p → side_of p ≡ t → LiesOn side_of true b ⊎ LiesOn side_of false b → LiesOn side_of t b
   side_from t b p held e one =
       ⊎_elim
       (λ (l : LiesOn side_of true b). subst (λ (u : Bool). LiesOn side_of u b) (sym (l.each p held) ∙ e) l)

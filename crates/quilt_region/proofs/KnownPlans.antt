@@ -47,7 +47,7 @@ parted_by n top a ht several = record {
 }
 
 -- a pixel of a window
-window_pixel : (w : Window) (b : Block) (p : Pixel) → HoldsWindow b w → in_window w p ≡ true → Holds b p
+pub window_pixel : (w : Window) (b : Block) (p : Pixel) → HoldsWindow b w → in_window w p ≡ true → Holds b p
 window_pixel w b p h t =
     let a = nat_le w.x p.x in
     let r = nat_lt p.x (w.x + w.w) in
@@ -66,7 +66,7 @@ window_pixel w b p h t =
     let hb = h.bottom in
     record { left = omega arith; right = omega arith; top = omega arith; bottom = omega arith }
 
-corner_in : (n : ℕ) (w : Window) → is_window n w ≡ true → in_window w (record { x = w.x; y = w.y }) ≡ true
+pub corner_in : (n : ℕ) (w : Window) → is_window n w ≡ true → in_window w (record { x = w.x; y = w.y }) ≡ true
 corner_in n w t =
     let i = window_in n w t in
     let wide = i.wide in

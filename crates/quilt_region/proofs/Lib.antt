@@ -18,3 +18,5 @@ pub mod Counting
 pub mod Nearby
 pub mod WithinKeys
 pub mod KnownPlans
+pub mod Quarters
+pub mod QuarterPlans

@@ -1,5 +1,6 @@
 -- Blocks around a window, and what the quarters of a block around another one say.
 use Rattle.std.proofs.Common.{◌≡◌, ℕ, suc, pow-suc, ◌+◌, ◌*◌, ◌^◌, ◌<◌, ◌≤◌, true, false, ◌&&◌, List, [], ◌∷◌, length, get_or, refl, sym, ◌∙◌, ap, subst, ⊎_elim, Contains, arith, nat_le}
+use Rattle.std.proofs.lemmas.Nat.{pow_below}
 use Rattle.std.proofs.lemmas.Bool.{cases_lt, cases_Bool, and_parts, leb-true}
 use Rattle.quilt_types.specs.declared.plane.Pixel.{Pixel}
 use Rattle.quilt_types.specs.declared.plane.Block.{Block}
@@ -305,3 +306,7 @@ pixel_within n g x y le hb =
     few : (es : List (Block × ℕ)) → Apart es → ((d e : Block × ℕ) → Contains es d → Contains es e → d ≡ e) → length es ≤ 1
     few [] apart same = omega arith
     few (x ∷ xs) apart same = Apart-le (x ∷ xs) (x ∷ []) apart (λ d c. subst (Contains (x ∷ [])) (same x d (Contains-here x xs) c) (Contains-here x []))
+
+-- a power of two that is at most another one
+pub power_le : (i j : ℕ) {s : ℕ} → s ≡ 2 ^ j → 2 ^ i ≤ s → i ≤ j
+power_le i j e h = ⊎_elim (λ lt. let w = pow_below j i lt in absurd (omega arith)) (λ ge. ge) (cases_lt j i)

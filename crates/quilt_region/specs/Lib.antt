@@ -1,5 +1,6 @@
 pub mod Laws
 pub mod Painting
 pub mod Plans
+pub mod Quarters
 pub mod Regions
 pub mod Windows

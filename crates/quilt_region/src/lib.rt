@@ -10,6 +10,7 @@ mod laws;
 mod nearing;
 mod painting;
 mod planning;
+mod quartering;
 mod reading;
 mod spelling;
 

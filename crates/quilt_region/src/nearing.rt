@@ -1,4 +1,4 @@
-ghost use Rattle.std.specs.Prelude.{◌≡◌, ℕ, ◌+◌, ◌*◌, ◌<◌, ◌≤◌, true, false, length, Contains, IfOk, IfErr};
+ghost use Rattle.std.specs.Prelude.{◌≡◌, ◌≢◌, ℕ, ◌+◌, ◌*◌, ◌^◌, ◌<◌, ◌≤◌, true, false, length, Contains, IfOk, IfErr, IfSome};
 ghost use Rattle.quilt_types.specs.declared.plane.Block.{Block as AnyBlock};
 ghost use Rattle.quilt_types.specs.Plane.{parent_of, side as side_of, is_window, IsBlock, Within};
 ghost use Rattle.quilt_types.specs.Layers.{Grid, colour_at};
@@ -7,8 +7,9 @@ ghost use Rattle.quilt_store.specs.Store.{Tells};
 ghost use Rattle.quilt_btree.specs.Stops.{HasStopCause, IsSound};
 ghost use Rattle.quilt_btree.specs.Trees.{IsRooted};
 ghost use Rattle.quilt_region.specs.Regions.{HasRegion};
-ghost use Rattle.quilt_region.specs.Windows.{HoldsWindow, HasAround, IsCutOut, leaves_within};
+ghost use Rattle.quilt_region.specs.Windows.{HoldsWindow, HasAround, IsCutOut, IsKnown, Knows, leaves_within};
 
+use crate::known::Known;
 use crate::reading::leaf_with;
 use quilt_blocks::Leaf;
 use quilt_btree::Tree;
@@ -29,7 +30,7 @@ fn holds_window(b: Block, w: Window) -> bool
 }
 
 /// The smallest block that has all pixels of a window.
-fn block_around(w: Window, level: u8) -> Block
+pub fn block_around(w: Window, level: u8) -> Block
     requires level { (1 ≤ level) × (level ≤ 12) }
     requires window { is_window level w ≡ true }
     ensures valid { IsBlock level result }
@@ -162,7 +163,7 @@ fn has_quarter<S: PageStore>(
 }
 
 /// The block around this one up to which the layer has one colour beside it, in steps of one level: the whole square, or
-/// one that lies in a larger block with another colour beside it. It reads at most 24 pages for each level.
+/// one that lies in a larger block with another colour beside it. It reads at most 24 pages for each level above the block's.
 pub fn block_up_to<S: PageStore>(
     store: &mut S,
     tree: &Tree,
@@ -186,7 +187,7 @@ pub fn block_up_to<S: PageStore>(
     ensures told { S.told store.new ≡ S.told store.old }
     ensures free { S.free store.new ≡ S.free store.old }
     ensures later { S.later store.old store.new }
-    ensures reads { Tells (λ old new. new ≤ old + 24 * level) (S.reads store.old) (S.reads store.new) }
+    ensures reads { (j : ℕ) → b.side ≡ 2 ^ j → Tells (λ old new. new + 24 * j ≤ old + 24 * level) (S.reads store.old) (S.reads store.new) }
     ensures changed { S.changed store.new ≤ S.changed store.old }
 {
     let mut top = b;
@@ -198,4 +199,69 @@ pub fn block_up_to<S: PageStore>(
         }
     }
     Ok(top)
+}
+
+/// What is known of a layer where a window is painted, if the leaf that holds it, or the smallest block that does, is
+/// smaller than this and has another colour beside it. It reads at most 30 pages.
+pub fn known_beside<S: PageStore>(
+    store: &mut S,
+    tree: &Tree,
+    layer: u8,
+    level: u8,
+    w: Window,
+    c: Colour,
+    most: u16,
+) -> Result<Option<Known>, Stop>
+    requires rooted { IsRooted (S.size store.old) tree.now }
+    requires layer { 1 ≤ layer }
+    requires level { (1 ≤ level) × (level ≤ 12) }
+    requires window { is_window level w ≡ true }
+    ensures blocks { IfOk result (λ o. IfSome o (IsKnown level)) }
+    ensures colour { IfOk result (λ o. IfSome o (λ k. k.around ≡ c)) }
+    ensures small { IfOk result (λ o. IfSome o (λ k. k.top.side < most)) }
+    ensures knows { IfOk result (λ o. IfSome o (λ k. (g : Grid) → HasRegion (S.told store.old) tree.now layer level g → Knows level g w k)) }
+    ensures sound { IfErr result (λ e. (g : Grid) → HasRegion (S.told store.old) tree.now layer level g → IsSound e) }
+    ensures cause { HasStopCause (S.faults store.old) (S.faults store.new) result }
+    ensures size { S.size store.new ≡ S.size store.old }
+    ensures told { S.told store.new ≡ S.told store.old }
+    ensures free { S.free store.new ≡ S.free store.old }
+    ensures later { S.later store.old store.new }
+    ensures reads { Tells (λ old new. new ≤ old + 30) (S.reads store.old) (S.reads store.new) }
+    ensures changed { S.changed store.new ≤ S.changed store.old }
+{
+    match block_with(store, tree, layer, level, w) {
+        Err(e) => Err(e),
+        Ok((b, first)) => {
+            if most <= b.side {
+                return Ok(None);
+            }
+            let Some(larger) = parent(b, level) else {
+                return Ok(None);
+            };
+            match has_around(store, tree, layer, level, b, larger, c) {
+                Err(e) => Err(e),
+                Ok(true) => Ok(None),
+                Ok(false) => Ok(Some(Known {
+                    read: b,
+                    top: b,
+                    around: c,
+                    elsewhere: other_colour(c, first),
+                })),
+            }
+        }
+    }
+}
+
+/// A colour that is neither of two.
+pub fn other_colour(a: Colour, b: Colour) -> Colour
+    ensures first { result.0 ≢ a.0 }
+    ensures second { result.0 ≢ b.0 }
+{
+    if a.0 != 0 && b.0 != 0 {
+        return Colour(0);
+    }
+    if a.0 != 1 && b.0 != 1 {
+        return Colour(1);
+    }
+    Colour(2)
 }

@@ -1,4 +1,4 @@
-ghost use Rattle.std.specs.Prelude.{◌≡◌, ◌≢◌, ℕ, ◌+◌, ◌*◌, ◌≤◌, true, IfOk, IfErr, IsErrOf, List, length};
+ghost use Rattle.std.specs.Prelude.{◌≡◌, ◌≢◌, ℕ, ◌+◌, ◌*◌, ◌^◌, ◌≤◌, true, IfOk, IfErr, IsErrOf, List, length};
 ghost use Rattle.quilt_types.specs.declared.plane.Block.{Block as AnyBlock};
 ghost use Rattle.quilt_types.specs.declared.stop.Stop.TheVariants.{Device};
 ghost use Rattle.quilt_types.specs.Plane.{is_window, IsBlock};
@@ -16,8 +16,9 @@ ghost use Rattle.quilt_region.specs.Windows.{HoldsWindow, IsKnown, Knows, leaves
 use crate::comparing::edits_between;
 use crate::filling::fill;
 use crate::known::Known;
-use crate::nearing::{block_up_to, block_with};
+use crate::nearing::{block_up_to, block_with, other_colour};
 use crate::painting::paint;
+use crate::quartering::plan_apart;
 use crate::reading::records_in;
 use quilt_blocks::{Cursor, LeafList};
 use quilt_btree::Tree;
@@ -28,7 +29,9 @@ use std::alloc::{AllocError, Global};
 
 /// The records that go and those that come when the pixels of a window of the region layer get one colour, each in the
 /// order of their codes. It reads the leaf that holds the window, or else those within the smallest block that does, and
-/// goes up from there while the quarters beside it are leaves of the new colour (Samet 1990).
+/// goes up from there while the quarters beside it are leaves of the new colour (Samet 1990). Where that block is much
+/// larger than the window, it reads in each quarter the leaf or the smallest block that holds what the quarter has of the
+/// window, if each of these has another colour beside it.
 pub fn plan_rect<S: PageStore>(
     alloc: Global,
     store: &mut S,
@@ -53,6 +56,39 @@ pub fn plan_rect<S: PageStore>(
     // Of the leaves it reads no more than one and those that begin in any one block that has the whole window.
     ensures reads { IfOk result (λ edits. (g : Grid) (b : AnyBlock) → HasRegion (S.told store.old) tree.now layer level g → IsBlock level b → HoldsWindow b w → Tells (λ old new. new ≤ old + (15 + 24 * level + 3 * length (leaves_within level g b))) (S.reads store.old) (S.reads store.new)) }
     ensures pixel { w.w ≡ 1 → w.h ≡ 1 → IfOk result (λ edits. (g : Grid) → HasRegion (S.told store.old) tree.now layer level g → Tells (λ old new. new ≤ old + (18 + 24 * level)) (S.reads store.old) (S.reads store.new)) }
+    ensures changed { S.changed store.new ≤ S.changed store.old }
+{
+    match plan_apart(alloc, store, tree, layer, level, w, c) {
+        Err(e) => Err(e),
+        Ok(Some(edits)) => Ok(edits),
+        Ok(None) => plan_together(alloc, store, tree, layer, level, w, c),
+    }
+}
+
+/// The same, where the leaf that holds the window is read, or the smallest block that does.
+fn plan_together<S: PageStore>(
+    alloc: Global,
+    store: &mut S,
+    tree: &Tree,
+    layer: u8,
+    level: u8,
+    w: Window,
+    c: Colour,
+) -> Result<Edits, Stop>
+    requires rooted { IsRooted (S.size store.old) tree.now }
+    requires layer { 1 ≤ layer }
+    requires level { (1 ≤ level) × (level ≤ 12) }
+    requires window { is_window level w ≡ true }
+    ensures plan { IfOk result (λ edits. (g : Grid) → HasRegion (S.told store.old) tree.now layer level g → LeadsTo level layer g (painted level g w c.0) edits) }
+    ensures sound { IfErr result (λ e. (g : Grid) → HasRegion (S.told store.old) tree.now layer level g → IsSound e) }
+    ensures cause { HasStopCause (S.faults store.old) (S.faults store.new) result }
+    ensures size { S.size store.new ≡ S.size store.old }
+    ensures told { S.told store.new ≡ S.told store.old }
+    ensures free { S.free store.new ≡ S.free store.old }
+    ensures later { S.later store.old store.new }
+
+    // The levels up to that of the smallest block that has the whole window cost nothing.
+    ensures reads { IfOk result (λ edits. (g : Grid) (b : AnyBlock) (j : ℕ) → HasRegion (S.told store.old) tree.now layer level g → IsBlock level b → HoldsWindow b w → ((a : AnyBlock) → IsBlock level a → HoldsWindow a w → 2 ^ j ≤ a.side) → Tells (λ old new. new + 24 * j ≤ old + (15 + 24 * level + 3 * length (leaves_within level g b))) (S.reads store.old) (S.reads store.new)) }
     ensures changed { S.changed store.new ≤ S.changed store.old }
 {
     match what_is_around(store, tree, layer, level, w, c) {
@@ -87,7 +123,8 @@ fn what_is_around<S: PageStore>(
     ensures told { S.told store.new ≡ S.told store.old }
     ensures free { S.free store.new ≡ S.free store.old }
     ensures later { S.later store.old store.new }
-    ensures reads { Tells (λ old new. new ≤ old + (6 + 24 * level)) (S.reads store.old) (S.reads store.new) }
+    ensures holds { IfOk result (λ k. HoldsWindow k.read w) }
+    ensures reads { IfOk result (λ k. (j : ℕ) → k.read.side ≡ 2 ^ j → Tells (λ old new. new + 24 * j ≤ old + (6 + 24 * level)) (S.reads store.old) (S.reads store.new)) }
     ensures changed { S.changed store.new ≤ S.changed store.old }
 {
     match block_with(store, tree, layer, level, w) {
@@ -104,22 +141,8 @@ fn what_is_around<S: PageStore>(
     }
 }
 
-/// A colour that is neither of two.
-fn other_colour(a: Colour, b: Colour) -> Colour
-    ensures first { result.0 ≢ a.0 }
-    ensures second { result.0 ≢ b.0 }
-{
-    if a.0 != 0 && b.0 != 0 {
-        return Colour(0);
-    }
-    if a.0 != 1 && b.0 != 1 {
-        return Colour(1);
-    }
-    Colour(2)
-}
-
 /// The records that go and those that come, where this is known of a layer.
-fn plan_known(
+pub fn plan_known(
     alloc: Global,
     records: &[Record],
     layer: u8,

@@ -2,12 +2,13 @@ use Rattle.std.proofs.Common.{◌≡◌, ◌*◌, refl, sym, ◌∙◌, ap, subs
 use Rattle.quilt_types.specs.declared.plane.Block.{Block}
 use Rattle.quilt_types.specs.Plane.{parent_of, IsBlock, Within}
 use Rattle.quilt_loc.proofs.Blocks.{side_most}
+use Rattle.quilt_loc.proofs.CodeLaws.{pow_same}
 use Rattle.quilt_loc.proofs.Nesting.{side_pos, IsBlock-parent_of, Within-parent_of, Within-trans}
 use Rattle.quilt_blocks.proofs.Maximal.{Within-self}
 use Rattle.quilt_region.specs.Regions.{HasRegion}
 use Rattle.quilt_region.specs.Windows.{HasAround}
 use Rattle.quilt_region.proofs.Beside.{true_false}
-use Rattle.quilt_region.proofs.Counting.{reads_then, reads_more, reads_none}
+use Rattle.quilt_region.proofs.Counting.{saved_then, saved_more, saved_none}
 use Rattle.quilt_region.proofs.Nearby.{not_whole, around_more, around_self, level_more, level_room}
 use Rattle.quilt_region.proofs.nearing.block_up_to.Goals as goal
 
@@ -22,7 +23,7 @@ loop-larger-init g c = record {
   free = refl;
   later = g.met.S.PageStore.same_time c.args.store.now;
   faults = omega arith;
-  reads = λ k e. reads_none (24 * k) (g.S.PageStore.reads c.args.store.now);
+  reads = λ j k d e. let same = pow_same j k (sym d ∙ e) in saved_none (24 * j) (24 * k) (g.S.PageStore.reads c.args.store.now) (omega arith);
   changed = omega arith;
 }
 
@@ -58,9 +59,9 @@ loop-larger-preserved g c =
       free = more.free ∙ inv.free;
       later = g.met.S.PageStore.goes_on _ _ _ inv.later more.later;
       faults = let a = inv.faults in let b = more.cause.later in omega arith;
-      reads = λ k e.
+      reads = λ j k d e.
           let next = level_more n top inv.block lt k (ap (λ (z : Block). z.side) (sym is) ∙ e) in
-          reads_then (24 * inv.block.level) 24 (24 * k) _ _ _ (omega arith) (inv.reads inv.block.level inv.block.size) more.reads;
+          saved_then (24 * j) (24 * inv.block.level) 24 (24 * k) _ _ _ (omega arith) (inv.reads j inv.block.level d inv.block.size) more.reads;
       changed = let a = inv.changed in let b = more.changed in omega arith;
     }
 
@@ -68,11 +69,11 @@ pub returns-in-Err-clause-sound : goal.returns-in-Err-clause-sound
 returns-in-Err-clause-sound g c grid h = c.in-Err.ensures.sound grid (subst (λ told. HasRegion told c.args.tree.now c.args.layer c.args.level grid) (sym c.loop-larger.invariant.told) h)
 
 pub returns-in-Err-clause-reads : goal.returns-in-Err-clause-reads
-returns-in-Err-clause-reads g c =
+returns-in-Err-clause-reads g c j d =
     let inv = c.loop-larger.invariant in
     let lt = not_whole c.args.level c.loop-larger.top inv.block (λ e. true_false (c.in-Some.ensures.whole.1 e)) in
     let room = level_room c.args.level c.loop-larger.top inv.block lt in
-    reads_then (24 * inv.block.level) 24 (24 * c.args.level) _ _ _ (omega arith) (inv.reads inv.block.level inv.block.size) c.in-Err.ensures.reads
+    saved_then (24 * j) (24 * inv.block.level) 24 (24 * c.args.level) _ _ _ (omega arith) (inv.reads j inv.block.level d inv.block.size) c.in-Err.ensures.reads
 
 pub returns-in-Ok-false-clause-ends : goal.returns-in-Ok-false-clause-ends
 returns-in-Ok-false-clause-ends g c grid h out lt has =
@@ -82,17 +83,17 @@ returns-in-Ok-false-clause-ends g c grid h out lt has =
     (subst (λ (l : Block). HasAround n grid l c.loop-larger.top c.args.c.0) (sym c.in-Some.ensures.value) has)
 
 pub returns-in-Ok-false-clause-reads : goal.returns-in-Ok-false-clause-reads
-returns-in-Ok-false-clause-reads g c =
+returns-in-Ok-false-clause-reads g c j d =
     let inv = c.loop-larger.invariant in
     let lt = not_whole c.args.level c.loop-larger.top inv.block (λ e. true_false (c.in-Some.ensures.whole.1 e)) in
     let room = level_room c.args.level c.loop-larger.top inv.block lt in
-    reads_then (24 * inv.block.level) 24 (24 * c.args.level) _ _ _ (omega arith) (inv.reads inv.block.level inv.block.size) c.in-Ok-false.ensures.reads
+    saved_then (24 * j) (24 * inv.block.level) 24 (24 * c.args.level) _ _ _ (omega arith) (inv.reads j inv.block.level d inv.block.size) c.in-Ok-false.ensures.reads
 
 pub returns-clause-ends : goal.returns-clause-ends
 returns-clause-ends g c grid h out lt has = let whole = c.in_default.ensures.whole.0 refl in omega arith
 
 pub returns-clause-reads : goal.returns-clause-reads
-returns-clause-reads g c =
+returns-clause-reads g c j d =
     let inv = c.loop-larger.invariant in
     let low = inv.block.low in
-    reads_more (24 * inv.block.level) (24 * c.args.level) _ _ (omega arith) (inv.reads inv.block.level inv.block.size)
+    saved_more (24 * j) (24 * j) (24 * inv.block.level) (24 * c.args.level) _ _ (omega arith) (inv.reads j inv.block.level d inv.block.size)

@@ -20,6 +20,6 @@ invariant-loop-larger g l = record {
   free : g.S.PageStore.free l.store ≡ g.S.PageStore.free l.initial.store;
   later : g.S.PageStore.later l.initial.store l.store;
   faults : g.S.PageStore.faults l.initial.store ≤ g.S.PageStore.faults l.store;
-  reads : (k : ℕ) → l.top.side ≡ 2 ^ k → Tells {A = ℕ} (λ old new. new ≤ old + 24 * k) (g.S.PageStore.reads l.initial.store) (g.S.PageStore.reads l.store);
+  reads : (j k : ℕ) → l.fn.b.side ≡ 2 ^ j → l.top.side ≡ 2 ^ k → Tells {A = ℕ} (λ old new. new + 24 * j ≤ old + 24 * k) (g.S.PageStore.reads l.initial.store) (g.S.PageStore.reads l.store);
   changed : g.S.PageStore.changed l.store ≤ g.S.PageStore.changed l.initial.store;
 }

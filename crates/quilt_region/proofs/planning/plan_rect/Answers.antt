@@ -1,55 +1,62 @@
-use Rattle.std.proofs.Common.{◌+◌, ◌*◌, length, sym, ◌∙◌, subst, arith}
+use Rattle.std.proofs.Common.{ℕ, ◌+◌, ◌*◌, ◌≤◌, length, sym, ap, subst, arith}
+use Rattle.std.specs.Option.{is_some}
 use Rattle.quilt_types.specs.declared.plane.Block.{Block}
-use Rattle.quilt_types.specs.declared.plane.Colour.{Colour}
-use Rattle.quilt_types.specs.Algebra.{painted}
-use Rattle.quilt_region.specs.Plans.{LeadsTo}
+use Rattle.quilt_types.specs.Plane.{IsBlock}
+use Rattle.quilt_types.specs.Layers.{Grid}
+use Rattle.quilt_store.specs.Store.{Tells}
+use Rattle.quilt_record.specs.declared.edits.Edits.{Edits}
 use Rattle.quilt_region.specs.Regions.{HasRegion}
-use Rattle.quilt_region.specs.Windows.{leaves_within}
+use Rattle.quilt_region.specs.Windows.{HoldsWindow, leaves_within}
 use Rattle.quilt_region.proofs.Beside.{if_err_weaker, if_ok_weaker}
-use Rattle.quilt_region.proofs.Counting.{reads_then, reads_plain}
-use Rattle.quilt_region.proofs.Nearby.{pixel_block, pixel_holds, pixel_within}
-use Rattle.quilt_region.proofs.Results.{if_ok}
+use Rattle.quilt_region.proofs.Counting.{reads_more, then_saved, saved_less}
+use Rattle.quilt_region.proofs.Nearby.{pixel_block, pixel_holds, pixel_within, power_le}
+use Rattle.quilt_region.proofs.QuarterPlans.{some_at}
 use Rattle.quilt_region.proofs.planning.plan_rect.Goals as goal
 
-pub returns-in-Err-records_in-clause-sound : goal.returns-in-Err-records_in-clause-sound
-returns-in-Err-records_in-clause-sound g c grid h = c.in-Err-records_in.ensures.sound grid (subst (λ told. HasRegion told c.args.tree.now c.args.layer c.args.level grid) (sym c.in-Ok.ensures.told) h)
+pub returns-in-Ok-Some-clause-reads : goal.returns-in-Ok-Some-clause-reads
+returns-in-Ok-Some-clause-reads g c grid b h hb holds =
+    let n = c.args.level in
+    let own = length (leaves_within n grid b) in
+    let large : (a : Block) → IsBlock n a → HoldsWindow a c.args.w → 64 ≤ a.side = some_at (λ (edits : Edits). (a : Block) → IsBlock c.args.level a → HoldsWindow a c.args.w → 64 ≤ a.side) c.in-Ok-Some.field-0 c.in-Ok-Some.edits c.in-Ok-Some.field-0-is c.in-Ok-Some.ensures.large in
+    let six = power_le 6 hb.level hb.size (large b hb holds) in
+    let low = hb.low in
+    reads_more (144 + 3 * own) (15 + 24 * n + 3 * own) _ _ (omega arith) (some_at (λ (edits : Edits). (grid : Grid) (a : Block) → HasRegion (g.S.PageStore.told c.args.store.now) c.args.tree.now c.args.layer n grid → IsBlock n a → HoldsWindow a c.args.w → Tells {A = ℕ} (λ old new. new ≤ old + (144 + 3 * length (leaves_within n grid a))) (g.S.PageStore.reads c.args.store.now) (g.S.PageStore.reads c.plan_apart.new.store)) c.in-Ok-Some.field-0 c.in-Ok-Some.edits c.in-Ok-Some.field-0-is c.in-Ok-Some.ensures.reads grid b h hb holds)
 
-pub returns-in-Ok-records_in-clause-plan : goal.returns-in-Ok-records_in-clause-plan
-returns-in-Ok-records_in-clause-plan g c =
-    if_ok_weaker c.plan_known.result
+pub returns-in-Ok-Some-clause-pixel : goal.returns-in-Ok-Some-clause-pixel
+returns-in-Ok-Some-clause-pixel g c wide high grid h =
+    let w = c.args.w in
+    let b : Block = record { y = w.y; x = w.x; side = 1 } in
+    let all : (a : Block) → IsBlock c.args.level a → HoldsWindow a w → 64 ≤ a.side = some_at (λ (edits : Edits). (a : Block) → IsBlock c.args.level a → HoldsWindow a c.args.w → 64 ≤ a.side) c.in-Ok-Some.field-0 c.in-Ok-Some.edits c.in-Ok-Some.field-0-is c.in-Ok-Some.ensures.large in
+    let large : 64 ≤ 1 = all b (pixel_block c.args.level w c.requires.window) (pixel_holds w wide high) in
+    absurd (omega arith)
+
+pub returns-in-Ok-None-clause-sound : goal.returns-in-Ok-None-clause-sound
+returns-in-Ok-None-clause-sound g c =
+    if_err_weaker c.plan_together.result (λ e law grid h. law grid (subst (λ told. HasRegion told c.args.tree.now c.args.layer c.args.level grid) (sym c.in-Ok-None.ensures.told) h)) c.plan_together.ensures.sound
+
+pub returns-in-Ok-None-clause-reads : goal.returns-in-Ok-None-clause-reads
+returns-in-Ok-None-clause-reads g c =
+    if_ok_weaker c.plan_together.result
+    (λ edits law grid b h hb holds.
+    let n = c.args.level in
+    let most = 15 + 24 * n + 3 * length (leaves_within n grid b) in
+    let tried = c.in-Ok-None.ensures.tried (ap is_some c.in-Ok-None.field-0-is) in
+    let rest = law grid b tried.0 (subst (λ told. HasRegion told c.args.tree.now c.args.layer n grid) (sym c.in-Ok-None.ensures.told) h) hb holds tried.1 in
+    saved_less (24 * tried.0) (24 * tried.0 + most) most _ _ (omega arith) (then_saved (24 * tried.0) (24 * tried.0) most (24 * tried.0 + most) _ _ _ (omega arith) tried.2 rest))
+    c.plan_together.ensures.reads
+
+pub returns-in-Ok-None-clause-pixel : goal.returns-in-Ok-None-clause-pixel
+returns-in-Ok-None-clause-pixel g c wide high =
+    if_ok_weaker c.plan_together.result
     (λ edits law grid h.
-    let n = c.args.level in
-    let leads = law grid (c.deref.ensures.value ∙ c.in-Ok-records_in.ensures.records grid (subst (λ told. HasRegion told c.args.tree.now c.args.layer n grid) (sym c.in-Ok.ensures.told) h)) (c.in-Ok.ensures.knows grid h) in
-    subst (λ (d : Colour). LeadsTo n c.args.layer grid (painted n grid c.args.w d.0) edits) c.in-Ok.ensures.colour leads)
-    c.plan_known.ensures.plan
-
-pub returns-in-Ok-records_in-clause-sound : goal.returns-in-Ok-records_in-clause-sound
-returns-in-Ok-records_in-clause-sound g c =
-    if_err_weaker c.plan_known.result
-    (λ e law grid h.
-    law grid (c.deref.ensures.value ∙ c.in-Ok-records_in.ensures.records grid (subst (λ told. HasRegion told c.args.tree.now c.args.layer c.args.level grid) (sym c.in-Ok.ensures.told) h)) (c.in-Ok.ensures.knows grid h))
-    c.plan_known.ensures.sound
-
-pub returns-in-Ok-records_in-clause-reads : goal.returns-in-Ok-records_in-clause-reads
-returns-in-Ok-records_in-clause-reads g c =
-    if_ok c.plan_known.result _
-    (λ grid b h hb holds.
-    let n = c.args.level in
-    let few = c.in-Ok.ensures.few grid b h hb holds in
-    let own = length (leaves_within n grid c.in-Ok.known.read) in
-    let read = c.in-Ok-records_in.ensures.reads grid (subst (λ told. HasRegion told c.args.tree.now c.args.layer n grid) (sym c.in-Ok.ensures.told) h) in
-    reads_then (6 + 24 * n) (6 + 3 * own) (15 + 24 * n + 3 * length (leaves_within n grid b)) _ _ _ (omega arith) c.in-Ok.ensures.reads (reads_plain 6 (3 * own) _ _ read))
-
-pub returns-in-Ok-records_in-clause-pixel : goal.returns-in-Ok-records_in-clause-pixel
-returns-in-Ok-records_in-clause-pixel g c wide high =
-    if_ok c.plan_known.result _
-    (λ grid h.
     let n = c.args.level in
     let w = c.args.w in
     let b : Block = record { y = w.y; x = w.x; side = 1 } in
     let hb = pixel_block n w c.requires.window in
-    let few = c.in-Ok.ensures.few grid b h hb (pixel_holds w wide high) in
+    let own = length (leaves_within n grid b) in
     let one = pixel_within n grid w.x w.y c.requires.level.1 hb in
-    let own = length (leaves_within n grid c.in-Ok.known.read) in
-    let read = c.in-Ok-records_in.ensures.reads grid (subst (λ told. HasRegion told c.args.tree.now c.args.layer n grid) (sym c.in-Ok.ensures.told) h) in
-    reads_then (6 + 24 * n) (6 + 3 * own) (18 + 24 * n) _ _ _ (omega arith) c.in-Ok.ensures.reads (reads_plain 6 (3 * own) _ _ read))
+    let most = 15 + 24 * n + 3 * own in
+    let tried = c.in-Ok-None.ensures.tried (ap is_some c.in-Ok-None.field-0-is) in
+    let rest = law grid b tried.0 (subst (λ told. HasRegion told c.args.tree.now c.args.layer n grid) (sym c.in-Ok-None.ensures.told) h) hb (pixel_holds w wide high) tried.1 in
+    saved_less (24 * tried.0) (24 * tried.0 + most) (18 + 24 * n) _ _ (omega arith) (then_saved (24 * tried.0) (24 * tried.0) most (24 * tried.0 + most) _ _ _ (omega arith) tried.2 rest))
+    c.plan_together.ensures.reads

@@ -1,6 +1,6 @@
 use Rattle.std.proofs.Common.{◌+◌, ◌*◌, sym, ◌∙◌, subst, arith}
 use Rattle.quilt_region.specs.Regions.{HasRegion}
-use Rattle.quilt_region.proofs.Counting.{reads_then, reads_more}
+use Rattle.quilt_region.proofs.Counting.{then_saved}
 use Rattle.quilt_region.proofs.planning.what_is_around.Goals as goal
 
 pub returns-in-Ok-block_up_to-clause-knows : goal.returns-in-Ok-block_up_to-clause-knows
@@ -19,14 +19,8 @@ returns-in-Ok-block_up_to-clause-knows g c grid h =
       first = λ e. c.other_colour.ensures.second (e ∙ sym (c.in-Ok.ensures.first grid h));
     }
 
-pub returns-in-Err-clause-reads : goal.returns-in-Err-clause-reads
-returns-in-Err-clause-reads g c = reads_more 6 (6 + 24 * c.args.level) _ _ (omega arith) c.in-Err.ensures.reads
-
 pub returns-in-Err-block_up_to-clause-sound : goal.returns-in-Err-block_up_to-clause-sound
 returns-in-Err-block_up_to-clause-sound g c grid h = c.in-Err-block_up_to.ensures.sound grid (subst (λ told. HasRegion told c.args.tree.now c.args.layer c.args.level grid) (sym c.in-Ok.ensures.told) h)
 
-pub returns-in-Err-block_up_to-clause-reads : goal.returns-in-Err-block_up_to-clause-reads
-returns-in-Err-block_up_to-clause-reads g c = reads_then 6 (24 * c.args.level) (6 + 24 * c.args.level) _ _ _ (omega arith) c.in-Ok.ensures.reads c.in-Err-block_up_to.ensures.reads
-
 pub returns-in-Ok-block_up_to-clause-reads : goal.returns-in-Ok-block_up_to-clause-reads
-returns-in-Ok-block_up_to-clause-reads g c = reads_then 6 (24 * c.args.level) (6 + 24 * c.args.level) _ _ _ (omega arith) c.in-Ok.ensures.reads c.in-Ok-block_up_to.ensures.reads
+returns-in-Ok-block_up_to-clause-reads g c j e = then_saved (24 * j) 6 (24 * c.args.level) (6 + 24 * c.args.level) _ _ _ (omega arith) c.in-Ok.ensures.reads (c.in-Ok-block_up_to.ensures.reads j e)
