@@ -1,5 +1,6 @@
 -- Which pages are free, after each step.
-use Rattle.std.proofs.Common.{◌≡◌, ◌≢◌, inl, inr, replicate, subst, ℕ, ◌+◌, ◌<◌, ◌≤◌, Bool, true, false, cond, not, ◌&&◌, nat_eq, nat_le, nat_lt, List, refl, sym, ◌∙◌, ap, arith}
+use Rattle.std.proofs.Common.{◌≡◌, ◌≢◌, inl, inr, replicate, subst, ℕ, zero, suc, ◌+◌, ◌*◌, ◌/◌, ◌%◌, ◌^◌, ◌<◌, ◌≤◌, Bool, true, false, cond, not, ◌&&◌, eqb, nat_eq, nat_le, nat_lt, List, get_or, refl, sym, ◌∙◌, ap, arith}
+use Rattle.std.proofs.Math.Nat.{zero-div}
 use Rattle.std.proofs.lemmas.Bool.{cases_Bool, cases_eq, cases_lt, false≢true, eq-eqb, ne_eqb, le-leb, lt-ltb, le-ltb, leb-true, ltb-true}
 use Rattle.quilt_journal.proofs.Bits.{no_bit}
 use Rattle.quilt_journal.specs.Changed.{has_bit}
@@ -90,3 +91,43 @@ none_free n page = ap (λ b. (nat_le 1 page && nat_lt page n) && b) (no_bit page
 -- the same, with the number of pages under another name
 pub left_out_named : (m n : ℕ) (used bits : List ℕ) → m ≡ n → ((i : ℕ) → has_bit bits i ≡ is_left_out m used i) → (i : ℕ) → has_bit bits i ≡ is_left_out n used i
 left_out_named m n used bits same each i = each i ∙ ap (λ k. is_left_out k used i) same
+
+-- ---- the 8 pages of a byte
+
+none_and : (a : Bool) → (a && false) ≡ false
+none_and true = refl
+none_and false = refl
+
+full_bit : (k : ℕ) → k < 8 → eqb (255 / 2 ^ k % 2) 1 ≡ true
+full_bit zero lt = refl
+full_bit (suc zero) lt = refl
+full_bit (suc (suc zero)) lt = refl
+full_bit (suc (suc (suc zero))) lt = refl
+full_bit (suc (suc (suc (suc zero)))) lt = refl
+full_bit (suc (suc (suc (suc (suc zero))))) lt = refl
+full_bit (suc (suc (suc (suc (suc (suc zero)))))) lt = refl
+full_bit (suc (suc (suc (suc (suc (suc (suc zero))))))) lt = refl
+full_bit (suc (suc (suc (suc (suc (suc (suc (suc k)))))))) lt = absurd (omega (arith, lt))
+
+module _ (n byte : ℕ) (bits : List ℕ) (i : ℕ) (from : 8 * byte ≤ i) (to : i < 8 * byte + 8) where
+  bit_in : (x : ℕ) → get_or bits byte 0 ≡ x → has_bit bits i ≡ eqb (x / 2 ^ (i % 8) % 2) 1
+  bit_in x is =
+      let here : i / 8 ≡ byte = omega (arith, from, to) in
+      ap (λ k. eqb (get_or bits k 0 / 2 ^ (i % 8) % 2) 1) here ∙ ap (λ y. eqb (y / 2 ^ (i % 8) % 2) 1) is
+
+  -- none is free where the byte is 0
+  pub none_in : get_or bits byte 0 ≡ 0 → is_free n bits i ≡ false
+  none_in is =
+      ap (λ b. (nat_le 1 i && nat_lt i n) && b) (bit_in 0 is ∙ ap (λ x. eqb (x % 2) 1) (zero-div (2 ^ (i % 8))))
+      ∙ none_and (nat_le 1 i && nat_lt i n)
+
+  -- each is free where all bits of the byte are set
+  pub all_in : 1 ≤ byte → 8 * byte + 8 ≤ n → get_or bits byte 0 ≡ 255 → is_free n bits i ≡ true
+  all_in least most is = free_at n bits i (omega (arith, from, least)) (omega (arith, to, most)) ∙ bit_in 255 is ∙ full_bit (i % 8) (omega arith)
+
+-- neither page 0 nor a page past the last is free
+pub first_taken : (n : ℕ) (bits : List ℕ) → is_free n bits 0 ≡ false
+first_taken n bits = refl
+
+pub past_taken : (n : ℕ) (bits : List ℕ) (i : ℕ) → n ≤ i → is_free n bits i ≡ false
+past_taken n bits i le = ap (λ b. (nat_le 1 i && b) && has_bit bits i) (le-ltb i n le) ∙ ap (λ b. b && has_bit bits i) (none_and (nat_le 1 i))

@@ -2,7 +2,7 @@
 use Rattle.std.proofs.Common.{◌≡◌, ◌≢◌, ◌⊎◌, inl, inr, ℕ, zero, suc, ◌+◌, ◌-◌, ◌<◌, ◌≤◌, Bool, true, false, cond, nat_eq, List, [], ◌∷◌, Option, Some, None, length, take, slice_get, get_or, set, option_map, ◌||◌, refl, sym, ◌∙◌, ap, subst, arith, get_or-set_same, get_or-set_other}
 use Rattle.std.specs.Cmp.{nat_eq_equiv}
 use Rattle.std.specs.List.{IsDistinct}
-use Rattle.std.specs.Map.{keys_of, lookup, lookup_entry, remove_entry}
+use Rattle.std.specs.Map.{keys_of, lookup, lookup_entry, remove_entry, set_value}
 use Rattle.std.specs.Option.{option_map_or}
 use Rattle.std.proofs.lemmas.Bool.{cases_Bool, cases_eq, cases_lt, false≢true, eqb-true, eqb-false}
 use Rattle.std.proofs.lemmas.List.{take_all}
@@ -128,6 +128,19 @@ put_from c k v i m (Some e) cap fits h = elim (cases_Bool (nat_eq i e.0)) [
 
 pub put_at : (c : LruCache ℕ Frame) (k : ℕ) (v : Frame) (i : ℕ) → 0 < c.cap → length c.entries ≤ c.cap → AtPut c (put_entries nat_eq c k v) k v i
 put_at c k v i some fits = put_from c k v i (c.cap - 1) (lookup_entry (nat_eq k) c.entries) (omega (arith, some)) fits refl
+
+-- a frame brought to the front and written in place is one that was put
+none_found : (k : ℕ) (es : Entries) (f : Frame) → frame_at es k ≡ Some f → lookup_entry (nat_eq k) es ≡ None → ⊥
+none_found k es f is h = let gone : None ≡ Some f = sym (not_found k es h) ∙ is in cc
+
+written_from : (c : LruCache ℕ Frame) (k : ℕ) (v f : Frame) (o : Option (ℕ × Frame)) → frame_at c.entries k ≡ Some f → lookup_entry (nat_eq k) c.entries ≡ o
+    → set_value (nat_eq k) (option_map_or (λ e. e ∷ remove_entry (nat_eq k) c.entries) o c.entries) v ≡ option_map_or (λ e. (e.0, v) ∷ remove_entry (nat_eq k) c.entries) o ((k, v) ∷ take (c.cap - 1) c.entries)
+written_from c k v f None is h = absurd (none_found k c.entries f is h)
+written_from c k v f (Some e) is h =
+    ap (λ b. cond b ((e.0, v) ∷ remove_entry (nat_eq k) c.entries) (e ∷ set_value (nat_eq k) (remove_entry (nat_eq k) c.entries) v)) (Contains-lookup_entry (nat_eq k) c.entries e h).1
+
+pub written_first : (c : LruCache ℕ Frame) (k : ℕ) (v f : Frame) → frame_at c.entries k ≡ Some f → lru_cache (set_value (nat_eq k) (promoted (nat_eq k) c.entries) v) c.cap ≡ lru_cache (put_entries nat_eq c k v) c.cap
+written_first c k v f is = ap (λ (es : Entries). lru_cache es c.cap) (written_from c k v f (lookup_entry (nat_eq k) c.entries) is refl)
 
 -- ---- the pages that the pool lies over
 

@@ -8,14 +8,29 @@ use crate::frame::Frame;
 use lru::LruCache;
 use quilt_store::StoreErr;
 
-/// The page becomes the first entry, with this frame.
-pub fn put_frame(table: &mut LruCache<u32, Frame>, page: u32, frame: Frame) -> Result<(), StoreErr>
-    ensures entries { OnOk result (table.new ≡ lru_cache (put_entries nat_eq table.old page frame) table.old.cap) }
+/// The page becomes the first entry, with these bytes. Where it is an entry already, they are written in place.
+pub fn put_frame(
+    table: &mut LruCache<u32, Frame>,
+    page: u32,
+    bytes: &[u8; 4096],
+    is_dirty: bool,
+) -> Result<(), StoreErr>
+    ensures entries { OnOk result (table.new ≡ lru_cache (put_entries nat_eq table.old page (record { bytes = bytes.now; is_dirty = is_dirty })) table.old.cap) }
     ensures same { OnErr result (table.new ≡ table.old) }
     ensures there { IsSome (frame_at table.old.entries page) → IsOk result }
     ensures valid { IsValid nat_eq table.new }
     ensures memory { result ≢ Err Device }
 {
+    if let Some(frame) = table.get_mut(&page) {
+        frame.bytes = *bytes;
+        frame.is_dirty = is_dirty;
+        let _ = table.len();
+        return Ok(());
+    }
+    let frame = Frame {
+        bytes: *bytes,
+        is_dirty,
+    };
     let put = table.put(page, frame);
     let _ = table.len();
     match put {

@@ -13,7 +13,6 @@ ghost use Rattle.quilt_pool.specs.Entries.{frame_at, bytes_or, page_over, is_dir
 ghost use Rattle.quilt_pool.specs.Views.{seen, entries_of, capacity_of};
 ghost use Rattle.quilt_pool.specs.Keeping.{IsWork, Keeps, Changes, IsSaved};
 
-use crate::frame::Frame;
 use crate::pool::Pool;
 use crate::table::{clean_frame, drop_all, drop_frame, find_frame, put_frame};
 use lru::LruCache;
@@ -131,11 +130,7 @@ impl Pool {
         let Ok(()) = journal.read_page(disk, page, into) else {
             return Err(StoreErr::Device);
         };
-        let frame = Frame {
-            bytes: *into,
-            is_dirty: false,
-        };
-        put_frame(&mut self.table, page, frame)?;
+        put_frame(&mut self.table, page, into, false)?;
         Ok(())
     }
 
@@ -172,11 +167,7 @@ impl Pool {
         let Ok(()) = self.make_room(journal, disk, page) else {
             return Err(StoreErr::Device);
         };
-        let frame = Frame {
-            bytes: *bytes,
-            is_dirty: true,
-        };
-        put_frame(&mut self.table, page, frame)?;
+        put_frame(&mut self.table, page, bytes, true)?;
         Ok(())
     }
 
