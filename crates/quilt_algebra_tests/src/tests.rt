@@ -1,4 +1,5 @@
 mod algebra;
+mod blocks;
 mod measures;
 mod moves;
 mod worked;

@@ -5,6 +5,3 @@ mod buffering;
 mod reach;
 
 pub use buffering::buffer;
-
-#[cfg(test)]
-mod tests;

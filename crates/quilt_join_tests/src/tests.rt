@@ -67,7 +67,7 @@ fn the_most_pairs(rt: HostRuntime) -> Result<(), Fail> {
 #[test]
 fn drawn_layers(rt: HostRuntime) -> Result<(), Fail> {
     for level in 1..=6_u8 {
-        for seed in 0..10_u64 {
+        for seed in 0..334_u64 {
             let a = drawn_segs(rt.alloc(), level, 30, 2 * seed + 100 * level as u64)?;
             let b = drawn_segs(rt.alloc(), level, 40, 2 * seed + 1 + 100 * level as u64)?;
             let Some(list) = found(&rt, rt.alloc(), level, a.items(), b.items())? else {

@@ -1,4 +1,5 @@
-ghost use Rattle.std.specs.Prelude.{◌≡◌, IfOk};
+ghost use Rattle.std.specs.Prelude.{◌≡◌, ◌+◌, ◌<◌, ◌≤◌, true, IfOk};
+ghost use Rattle.quilt_types.specs.Plane.{is_window};
 
 use crate::planted::planted;
 use quilt_blocks::LeafList;
@@ -99,6 +100,84 @@ fn plans_of_windows_in_a_store(rt: HostRuntime) -> Result<(), Fail> {
     let four = plan_rect(rt.alloc(), &mut store, &tree, 1, 3, across, Colour(7))?;
     assert_eq!(rt; four.remove.records().len(), 1);
     assert_eq!(rt; four.add.records().len(), 28);
+    Ok(())
+}
+
+/// The next of drawn numbers, below a limit from 1 on.
+fn below(state: &mut u32, most: u16) -> u16
+    requires { 1 ≤ most }
+    ensures { result < most }
+{
+    *state = state.wrapping_mul(1_664_525).wrapping_add(1_013_904_223);
+    (*state >> 16) as u16 % most
+}
+
+/// A map of level 6 in bytes: each block of 16 pixels a side has one colour, and around the middle each pixel.
+fn drawn(state: &mut u32) -> [u8; 8192] {
+    let mut blocks = [0; 16];
+    for b in &mut blocks {
+        *b = below(state, 3) as u8;
+    }
+    let mut bytes = [0; 8192];
+    for i in 0..4096_u16 {
+        let (x, y) = (i % 64, i / 64);
+        let middle = (28..36).contains(&x) && (28..36).contains(&y);
+        let colour = if middle {
+            below(state, 3) as u8
+        } else {
+            blocks[usize::from(y / 16 * 4 + x / 16)]
+        };
+        bytes[usize::from(2 * i + 1)] = colour;
+    }
+    bytes
+}
+
+/// A window around the middle of a square of level 6, at most 8 pixels a side.
+fn around_middle(state: &mut u32) -> Window
+    ensures window { is_window 6 result ≡ true }
+    ensures width { result.x + result.w ≤ 4096 }
+    ensures height { result.y + result.h ≤ 4096 }
+{
+    Window {
+        x: 26 + below(state, 8),
+        y: 26 + below(state, 8),
+        w: 1 + below(state, 8),
+        h: 1 + below(state, 8),
+    }
+}
+
+/// Gives the pixels of a window a colour.
+fn paint(bytes: &mut [u8; 8192], w: Window, colour: u8)
+    requires width { w.x + w.w ≤ 4096 }
+    requires height { w.y + w.h ≤ 4096 }
+{
+    for i in 0..4096_u16 {
+        let (x, y) = (i % 64, i / 64);
+        if (w.x..w.x + w.w).contains(&x) && (w.y..w.y + w.h).contains(&y) {
+            bytes[usize::from(2 * i + 1)] = colour;
+        }
+    }
+}
+
+/// Plans of windows around the middle of drawn maps are those of the plain colours before and after.
+#[test]
+fn windows_across_the_middle(rt: HostRuntime) -> Result<(), Fail> {
+    let mut state = 1;
+    for _ in 0..40 {
+        let mut bytes = drawn(&mut state);
+        let old = leaves_of(rt.alloc(), &bytes, 6)?;
+        let fresh = plan_new(rt.alloc(), 1, &old)?;
+        let (mut store, tree) = planted(rt.alloc(), fresh.add.records())?;
+        let w = around_middle(&mut state);
+        let colour = below(&mut state, 3) as u8;
+        let c = Colour(u16::from(colour));
+        let plan = plan_rect(rt.alloc(), &mut store, &tree, 1, 6, w, c)?;
+        paint(&mut bytes, w, colour);
+        let new = leaves_of(rt.alloc(), &bytes, 6)?;
+        let whole = plan_replace(rt.alloc(), 1, &old, &new)?;
+        assert_eq!(rt; plan.remove.records(), whole.remove.records());
+        assert_eq!(rt; plan.add.records(), whole.add.records());
+    }
     Ok(())
 }
 

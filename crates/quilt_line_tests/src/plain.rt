@@ -1,6 +1,6 @@
-use quilt_clip::meets;
 use quilt_types::{Block, Seg};
 use std::alloc::{AllocError, Global};
+use std::cmp::Ordering;
 use std::collections::{BTreeMap, BTreeSet};
 
 /// A line layer as sets: its segments under their ids, and its blocks.
@@ -36,6 +36,38 @@ fn quarters(b: Block) -> [Block; 4] {
     ]
 }
 
+/// On which side of the segment's line a corner lies: the sign of a cross product.
+fn turn(s: Seg, x: u16, y: u16) -> Ordering {
+    let from = (i64::from(s.x1), i64::from(s.y1));
+    let along = (
+        i64::from(s.x2).wrapping_sub(from.0),
+        i64::from(s.y2).wrapping_sub(from.1),
+    );
+    let across = along.0.wrapping_mul(i64::from(y).wrapping_sub(from.1));
+    across.cmp(&along.1.wrapping_mul(i64::from(x).wrapping_sub(from.0)))
+}
+
+/// Whether a segment meets the closed square of a block: their boxes meet, and not all corners of the square lie strictly on one
+/// side of the segment's line.
+pub fn touches(s: Seg, b: Block) -> bool {
+    let right = b.x.wrapping_add(b.side);
+    let under = b.y.wrapping_add(b.side);
+    if s.x1.max(s.x2) < b.x || right < s.x1.min(s.x2) {
+        return false;
+    }
+    if s.y1.max(s.y2) < b.y || under < s.y1.min(s.y2) {
+        return false;
+    }
+    let turns = [
+        turn(s, b.x, b.y),
+        turn(s, right, b.y),
+        turn(s, b.x, under),
+        turn(s, right, under),
+    ];
+    let left = turns.iter().all(|t| *t == Ordering::Less);
+    !left && !turns.iter().all(|t| *t == Ordering::Greater)
+}
+
 impl Plain {
     /// A layer of no segments over a square of this side.
     pub fn new(alloc: Global, side: u16) -> Result<Plain, AllocError> {
@@ -49,7 +81,7 @@ impl Plain {
 
     /// How many segments meet the block.
     pub fn count(&self, b: Block) -> usize {
-        self.segs.values().filter(|s| meets(**s, b)).count()
+        self.segs.values().filter(|s| touches(**s, b)).count()
     }
 
     /// Adds a segment: each block that it overfills is cut once.
@@ -57,7 +89,7 @@ impl Plain {
         self.segs.insert(id, s)?;
         let old: Vec<Block> = self.blocks.iter().copied().collect(alloc)?;
         for b in &old {
-            if meets(s, *b) && b.side > 1 && self.count(*b) > usize::from(t) {
+            if touches(s, *b) && b.side > 1 && self.count(*b) > usize::from(t) {
                 self.cut(*b)?;
             }
         }
@@ -99,7 +131,7 @@ impl Plain {
 
     /// Merges into this block, if its quarters are there, the segment met it and few others do.
     fn merge(&mut self, t: u8, s: Seg, b: Block) -> Result<(), AllocError> {
-        if !meets(s, b) || !self.has_all(&quarters(b)) || self.count(b) > usize::from(t) {
+        if !touches(s, b) || !self.has_all(&quarters(b)) || self.count(b) > usize::from(t) {
             return Ok(());
         }
         for q in quarters(b) {
@@ -123,6 +155,17 @@ impl Plain {
         count
     }
 
+    /// How many blocks of each side there are: those of side 2 ^ k at place k.
+    pub fn counts(&self) -> [u32; 13] {
+        let mut counts = [0_u32; 13];
+        for b in &self.blocks {
+            if let Some(count) = counts.get_mut(b.side.trailing_zeros() as usize) {
+                *count = count.wrapping_add(1);
+            }
+        }
+        counts
+    }
+
     /// Whether this is so of a block: the segment of the id meets it, or none does.
     pub fn is_met(&self, b: Block, id: Option<u32>) -> bool {
         if !self.blocks.contains(&b) {
@@ -132,7 +175,7 @@ impl Plain {
             None => self.count(b) == 0,
             Some(id) => match self.segs.get(&id) {
                 None => false,
-                Some(s) => meets(*s, b),
+                Some(s) => touches(*s, b),
             },
         }
     }

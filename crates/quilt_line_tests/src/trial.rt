@@ -4,7 +4,7 @@ ghost use Rattle.quilt_btree.specs.Trees.{IsRooted};
 
 use crate::plain::Plain;
 use quilt_btree::Tree;
-use quilt_lines::{first_record, plan_add, plan_remove};
+use quilt_lines::{block_counts, first_record, plan_add, plan_remove, scan, segment};
 use quilt_record::{Edits, Key, Record, read_pair, read_segment};
 use quilt_store::{MemStore, PageStore};
 use quilt_types::Seg;
@@ -181,7 +181,14 @@ impl Trial {
         }
     }
 
-    /// Compares all records of the layer, block by block.
+    /// Compares the segment of an id.
+    pub fn look(&mut self, rt: &impl Abort, id: u32) -> Result<(), Fail> {
+        let found = segment(&mut self.store, &self.tree, LAYER, self.level, id)?;
+        assert!(rt; found == self.plain.segs.get(&id).copied());
+        Ok(())
+    }
+
+    /// Compares the segments, the numbers of blocks, and all records of the layer, block by block.
     pub fn compare(self, rt: &impl Abort, alloc: Global) -> Result<Trial, Fail> {
         let Trial {
             mut store,
@@ -190,6 +197,13 @@ impl Trial {
             level,
             t,
         } = self;
+        let all = scan(alloc, &mut store, &tree, LAYER, level)?;
+        assert!(rt; all.items().len() == plain.segs.len());
+        for (id, s) in all.items() {
+            assert!(rt; plain.segs.get(id) == Some(s));
+        }
+        let counts = block_counts(&mut store, &tree, LAYER, level)?;
+        assert!(rt; counts == plain.counts());
         let low = key_at(0, 0);
         let high = key_at(u8::MAX, u32::MAX);
         let found = tree.range(alloc, &mut store, &low, &high, u32::MAX)?;

@@ -1,10 +1,14 @@
-//! Maps as rows of colours, drawn and computed pixel by pixel: what tests compare the other crates with.
+//! Maps as rows of colours, points and segments in lists, drawn and computed one by one: what tests compare the other crates with.
 #![tactic(auto)]
 
 mod algebra;
 mod drawing;
 mod measures;
+mod points;
+mod segments;
 
 pub use algebra::{plain_buffer, plain_overlay, plain_recolour, plain_shift, plain_window};
 pub use drawing::{Dice, colour_of, drawn, drawn_distance, drawn_pairs};
 pub use measures::{plain_area, plain_histogram, plain_perimeter};
+pub use points::PlainPoints;
+pub use segments::{Fraction, PlainSegments, plain_distance, plain_meets, plain_shares};

@@ -6,6 +6,3 @@ mod filling;
 mod passing;
 
 pub use filling::region_of;
-
-#[cfg(test)]
-mod tests;

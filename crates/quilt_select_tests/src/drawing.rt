@@ -1,9 +1,10 @@
-ghost use Rattle.std.specs.Prelude.{◌≡◌, ◌+◌, ◌≤◌, true, All, IfOk};
+ghost use Rattle.std.specs.Prelude.{◌≡◌, ◌≤◌, ◌<◌, true, All};
+ghost use Rattle.std.specs.Bool.{OnTrue};
 ghost use Rattle.quilt_types.specs.Layers.{is_in_square};
-ghost use Rattle.quilt_types.specs.Plane.{is_window};
+ghost use Rattle.quilt_types.specs.Plane.{is_window as is_window_of};
 
-use quilt_near::SegList;
-use quilt_types::{Seg, Window};
+use quilt_near::{Even, SegList};
+use quilt_types::{Pixel, Seg, Window};
 use std::alloc::{AllocError, Global};
 
 /// The next of a row of numbers that look drawn by lot.
@@ -13,59 +14,132 @@ pub fn next(state: u64) -> u64 {
         .wrapping_add(1442695040888963407)
 }
 
-/// A number below 16 out of the drawn one.
-fn coordinate(state: u64, place: u32) -> u16
-    requires { place ≤ 4 }
-    ensures { result + 1 ≤ 16 }
+/// A coordinate of the level out of the drawn number.
+fn coordinate(state: u64, place: u32, level: u8) -> u16
+    requires place { place ≤ 4 }
+    requires level { level ≤ 8 }
 {
-    ((state >> (40 + 4 * place)) % 16) as u16
+    ((state >> (20 + 8 * place)) % (1 << level)) as u16
 }
 
-/// A segment of the square of level 4.
-fn drawn_seg(state: u64) -> Seg
-    ensures { is_in_square 4 result ≡ true }
+/// A segment of the square of the level: of any ends, of one point, from a common end, or along a row, a diagonal or the
+/// border, so that many lie on one line.
+fn drawn_seg(state: u64, level: u8) -> Seg
+    requires { level ≤ 8 }
 {
-    Seg {
-        x1: coordinate(state, 0),
-        y1: coordinate(state, 1),
-        x2: coordinate(state, 2),
-        y2: coordinate(state, 3),
+    let x1 = coordinate(state, 0, level);
+    let y1 = coordinate(state, 1, level);
+    let x2 = coordinate(state, 2, level);
+    let y2 = coordinate(state, 3, level);
+    let (x1, y1, x2, y2) = match state >> 61 {
+        0 => (x1, y1, x1, y1),
+        1 => (x1, y1, x2, y1),
+        2 => (x1, x1, x2, x2),
+        3 => (0, y1, 0, y2),
+        4 => (1, 1, x2, y2),
+        _ => (x1, y1, x2, y2),
+    };
+    Seg { x1, y1, x2, y2 }
+}
+
+/// Whether the ends of the segment are pixels of the level.
+fn is_within(level: u8, s: Seg) -> bool
+    requires { level ≤ 12 }
+    ensures { result ≡ is_in_square level s }
+{
+    let side = 1_u16 << level;
+    s.x1 < side && s.y1 < side && s.x2 < side && s.y2 < side
+}
+
+/// Whether the ends of the segments are pixels of the level.
+fn are_in_square(level: u8, list: &[(u32, Seg)]) -> bool
+    requires { level ≤ 12 }
+    ensures { OnTrue result (All (λ e. is_in_square level e.1 ≡ true) list.now) }
+{
+    for (_, s) in list {
+        if !is_within(level, *s) {
+            return false;
+        }
     }
+    true
 }
 
-/// Segments of the square of level 4, under ids that rise by three.
-pub fn drawn_segs(alloc: Global, count: u32, seed: u64) -> Result<SegList, AllocError>
-    requires { count ≤ 1000 }
-    ensures { IfOk result (λ list. All (λ e. is_in_square 4 e.1 ≡ true) list) }
+/// Segments of the square of the level, under ids that rise by three.
+fn drawn_segs(alloc: Global, level: u8, seed: u64) -> Result<SegList, AllocError>
+    requires { level ≤ 8 }
 {
     let mut list = SegList::new(alloc);
-    let mut state = seed;
-    for i in 0..count {
+    let mut state = next(seed);
+    for i in 0..(state >> 60) as u32 {
         state = next(state);
-        list.push(3 * i, drawn_seg(state))?;
+        list.push(3 * i, drawn_seg(state, level))?;
     }
     Ok(list)
 }
 
-/// A window of the square of level 4.
-pub fn drawn_window(state: u64) -> Window
-    ensures { is_window 4 result ≡ true }
+/// A power of 2 up to 256.
+fn drawn_side(state: u64) -> u16
+    ensures { 1 ≤ result }
 {
-    let x = coordinate(state, 0);
-    let y = coordinate(state, 1);
-    Window {
-        x,
-        y,
-        w: 1 + coordinate(state, 2).min(15 - x),
-        h: 1 + coordinate(state, 3).min(15 - y),
+    (1_u16 << (state % 9)).max(1)
+}
+
+/// Up to 15 drawn segments over blocks of a drawn side.
+pub fn drawn_layer(alloc: Global, level: u8, seed: u64) -> Result<Option<Even>, AllocError>
+    requires least { 1 ≤ level }
+    requires most { level ≤ 8 }
+{
+    let segs = drawn_segs(alloc, level, seed)?;
+    let side = drawn_side(next(next(seed)));
+    if are_in_square(level, segs.items()) {
+        Ok(Some(Even { level, side, segs }))
+    } else {
+        Ok(None)
     }
 }
 
-/// The colours of the square of level 4, two bytes each: mostly background.
-pub fn drawn_colours(alloc: Global, seed: u64) -> Result<Vec<u8>, AllocError> {
+/// A pixel of the level.
+pub fn drawn_pixel(state: u64, level: u8) -> Pixel
+    requires { level ≤ 8 }
+    ensures x { result.x < 8192 }
+    ensures y { result.y < 8192 }
+{
+    Pixel {
+        x: coordinate(state, 0, level).min(8191),
+        y: coordinate(state, 1, level).min(8191),
+    }
+}
+
+/// Whether the window lies in the square of the level.
+pub fn is_window(level: u8, w: Window) -> bool
+    requires { level ≤ 12 }
+    ensures { result ≡ is_window_of level w }
+{
+    let side = 1_u32 << level;
+    0 < w.w && 0 < w.h && w.x as u32 + w.w as u32 <= side && w.y as u32 + w.h as u32 <= side
+}
+
+/// A window of the square of the level.
+pub fn drawn_window(state: u64, level: u8) -> Window
+    requires { level ≤ 8 }
+{
+    let (x1, x2) = (coordinate(state, 0, level), coordinate(state, 2, level));
+    let (y1, y2) = (coordinate(state, 1, level), coordinate(state, 3, level));
+    Window {
+        x: x1.min(x2),
+        y: y1.min(y2),
+        w: x1.abs_diff(x2).saturating_add(1),
+        h: y1.abs_diff(y2).saturating_add(1),
+    }
+}
+
+/// The colours of the square of the level, two bytes each: mostly background.
+pub fn drawn_colours(alloc: Global, level: u8, seed: u64) -> Result<Vec<u8>, AllocError>
+    requires { level ≤ 8 }
+{
     let mut bytes = Vec::new(alloc);
     let mut state = seed;
-    for _ in 0..256_u32 {
+    for _ in 0..1_u32 << (2 * level) {
         state = next(state);
         bytes.push(0)?;
         bytes.push(if state >> 60 == 0 { 7 } else { 0 })?;

@@ -1,10 +1,16 @@
-//! Tests of the questions on lines that are answered by windows and regions: drawn layers in blocks of each side, against
-//! plain filters of all segments.
+//! Tests of the questions on lines: drawn layers in blocks of each side against plain computations over all their segments,
+//! and worked rows.
 #![tactic(auto)]
 
 #[cfg(test)]
+mod clips;
+#[cfg(test)]
 mod drawing;
 #[cfg(test)]
+mod nearness;
+#[cfg(test)]
 mod plain;
+#[cfg(test)]
+mod ranks;
 #[cfg(test)]
 mod tests;

@@ -1,5 +1,6 @@
+use crate::comparing::{compare, list_of};
 use quilt_buffer::buffer;
-use quilt_measure::{area, perimeter};
+use quilt_measure::{area, histogram, perimeter};
 use quilt_overlay::{Op, overlay, recolour};
 use quilt_raster::{leaves_of, render};
 use quilt_types::{Colour, Window};
@@ -95,5 +96,55 @@ fn around_one_pixel(rt: HostRuntime) -> Result<(), Fail> {
     assert_eq!(rt; perimeter(&one, Colour(2304)), 4);
     assert_eq!(rt; perimeter(&full, Colour(2313)), 32);
     assert_eq!(rt; perimeter(&full, Colour(1)), 0);
+    Ok(())
+}
+
+/// Colours whose high bytes differ, laid over each other.
+#[test]
+fn colours_of_two_bytes(rt: HostRuntime) -> Result<(), Fail> {
+    let a = list_of(&rt, rt.alloc(), 1, &[1, 258, 0, 0])?;
+    let b = list_of(&rt, rt.alloc(), 1, &[256, 0, 3, 4])?;
+    let union = overlay(rt.alloc(), Op::Union, &a, &b)?;
+    let inter = overlay(rt.alloc(), Op::Inter, &a, &b)?;
+    let diff = overlay(rt.alloc(), Op::Diff, &a, &b)?;
+    compare(&rt, rt.alloc(), &union, 1, &[1, 258, 3, 4])?;
+    compare(&rt, rt.alloc(), &inter, 1, &[1, 0, 0, 0])?;
+    compare(&rt, rt.alloc(), &diff, 1, &[0, 258, 0, 0])?;
+    Ok(())
+}
+
+#[test]
+fn colours_at_once(rt: HostRuntime) -> Result<(), Fail> {
+    let a = list_of(&rt, rt.alloc(), 1, &[1, 257, 0, 0])?;
+    let pairs = [
+        (Colour(1), Colour(265)),
+        (Colour(265), Colour(1)),
+        (Colour(1), Colour(5)),
+    ];
+    let other = recolour(rt.alloc(), &a, &pairs)?;
+    compare(&rt, rt.alloc(), &other, 1, &[265, 257, 0, 0])?;
+    Ok(())
+}
+
+#[test]
+fn perimeters(rt: HostRuntime) -> Result<(), Fail> {
+    let full = list_of(&rt, rt.alloc(), 3, &[256; 64])?;
+    let mut colours = [0; 64];
+    colours[0] = 256;
+    let corner = list_of(&rt, rt.alloc(), 3, &colours)?;
+    assert_eq!(rt; perimeter(&corner, Colour(256)), 4);
+    assert_eq!(rt; perimeter(&full, Colour(256)), 32);
+    assert_eq!(rt; perimeter(&full, Colour(1)), 0);
+    Ok(())
+}
+
+#[test]
+fn areas_and_sizes(rt: HostRuntime) -> Result<(), Fail> {
+    let mut colours = [0; 16];
+    colours[5] = 512;
+    let map = list_of(&rt, rt.alloc(), 2, &colours)?;
+    assert_eq!(rt; area(&map, Colour(512)), 1);
+    assert_eq!(rt; area(&map, Colour(0)), 15);
+    assert_eq!(rt; histogram(&map), [4, 3, 0, 0, 0, 0, 0, 0, 0, 0, 0, 0, 0]);
     Ok(())
 }

@@ -1,7 +1,7 @@
 ghost use Rattle.std.specs.Prelude.{◌≡◌, ◌≤◌, IfOk};
 
-use super::*;
 use quilt_blocks::{LeafList, Maker};
+use quilt_buffer::buffer;
 use quilt_loc::pixel_of;
 use quilt_types::{Block, Colour, Pixel};
 use std::alloc::{AllocError, Global};

@@ -1,7 +1,7 @@
 ghost use Rattle.std.specs.Prelude.{◌≡◌, IfOk};
 
-use super::*;
 use quilt_blocks::LeafList;
+use quilt_poly::region_of;
 use quilt_types::{Colour, Corner, Pixel, RingList};
 use std::alloc::{AllocError, Global};
 use std::process::Abort;

@@ -1,0 +1,11 @@
+//! Tries rasters, windows, buffers and polygons, each crate by itself.
+#![tactic(auto)]
+
+#[cfg(test)]
+mod buffers;
+#[cfg(test)]
+mod polygons;
+#[cfg(test)]
+mod rasters;
+#[cfg(test)]
+mod windows;
