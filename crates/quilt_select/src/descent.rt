@@ -11,7 +11,7 @@ ghost use Rattle.quilt_select.specs.Shares.{shares as shares_of, holds_any, meet
 ghost use Rattle.quilt_select.specs.Descents.{four, with_seg, IsOpened};
 
 use crate::stack::Stack;
-use quilt_clip::clip;
+use quilt_clip::crosses;
 use quilt_loc::quarters;
 use quilt_near::{Part, SegBlocks, SegList};
 use quilt_store::PageStore;
@@ -47,7 +47,7 @@ fn meets_any(s: Seg, near: &[Window]) -> bool
     ensures { result ≡ meets_any_of near.now s }
 {
     for w in near {
-        if clip(s, *w).is_some() {
+        if crosses(s, *w) {
             return true;
         }
     }
