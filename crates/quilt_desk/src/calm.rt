@@ -2,8 +2,6 @@ ghost use Rattle.std.specs.Prelude.{◌≡◌, ◌≢◌, ◌≤◌, length, str
 ghost use Rattle.quilt_world.specs.declared.disk.Door.TheVariants as doors;
 
 mod setup;
-#[cfg(test)]
-mod tests;
 mod world;
 
 use crate::source::Source;

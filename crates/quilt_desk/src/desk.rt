@@ -7,8 +7,6 @@ ghost use Rattle.quilt_desk.specs.Whole.{is_whole};
 
 mod crash;
 mod setup;
-#[cfg(test)]
-mod tests;
 mod world;
 
 use crate::calls::Calls;

@@ -4,6 +4,3 @@
 mod edits;
 
 pub use edits::edits_of;
-
-#[cfg(test)]
-mod tests;

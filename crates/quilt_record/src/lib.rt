@@ -24,6 +24,3 @@ pub use listing::{catalog_record, read_catalog};
 pub use points::{point_record, read_point};
 pub use record::Record;
 pub use region::{read_region, region_record};
-
-#[cfg(test)]
-mod tests;

@@ -11,6 +11,3 @@ pub use bodies::{
 };
 pub use reply::Reply;
 pub use segments::{clips_text, ids_text, nearest_text, pairs_text, ranks_text, segs_text};
-
-#[cfg(test)]
-mod tests;

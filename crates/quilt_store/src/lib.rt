@@ -6,6 +6,3 @@ mod store;
 
 pub use memory::MemStore;
 pub use store::{PageStore, StoreErr};
-
-#[cfg(test)]
-mod tests;

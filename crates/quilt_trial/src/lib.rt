@@ -6,6 +6,3 @@ mod generator;
 mod trial;
 
 pub use trial::{Trial, trial_text};
-
-#[cfg(test)]
-mod tests;

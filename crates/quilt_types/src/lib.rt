@@ -7,8 +7,6 @@ mod plane;
 mod points;
 mod rings;
 mod stop;
-#[cfg(test)]
-mod tests;
 mod text;
 
 pub use code::Code;

@@ -25,6 +25,3 @@ pub use parser::parse;
 pub use refusal::refusal_text;
 pub use word::{AlgebraWord, LineWord, MapWord, PointWord, RegionWord, Word};
 pub use words::{LINE_LIMIT, is_plain_line, is_silent_line, line_words};
-
-#[cfg(test)]
-mod tests;

@@ -5,8 +5,6 @@ mod disk;
 mod event;
 mod image;
 mod layout;
-#[cfg(test)]
-mod tests;
 mod world;
 
 pub use disk::{Disk, Door, Fault};

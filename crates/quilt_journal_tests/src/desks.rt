@@ -1,4 +1,4 @@
-use super::Desk;
+use quilt_desk::Desk;
 use quilt_world::{Attached, Disk, Event, Image, Made, World};
 use std::test::Fail;
 

@@ -1,9 +1,9 @@
-use crate::{
+use quilt_raster::leaves_of;
+use quilt_record::{Catalog, Entry};
+use quilt_replies::{
     Reply, blocks_text, done_text, edition_text, layers_text, leaves_text, number_text,
     points_text, records_text, show_text,
 };
-use quilt_raster::leaves_of;
-use quilt_record::{Catalog, Entry};
 use quilt_types::{Code, Kind, Name, Pixel, Point, PointList, Window};
 use std::test::Fail;
 

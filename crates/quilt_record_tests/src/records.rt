@@ -1,4 +1,4 @@
-use crate::{
+use quilt_record::{
     Catalog, Entry, Key, RecordList, catalog_record, key_bytes, key_of, pair_record, point_record,
     read_catalog, read_pair, read_point, read_region, read_segment, region_record, segment_record,
 };

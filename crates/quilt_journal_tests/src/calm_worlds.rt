@@ -1,4 +1,4 @@
-use super::Calm;
+use quilt_desk::Calm;
 use quilt_world::{Attached, Disk, Image, Made, World};
 use std::test::Fail;
 

@@ -1,4 +1,4 @@
-use crate::{Code, Corner, Name, Pixel, Point, PointList, RingList, Stop, Text};
+use quilt_types::{Code, Corner, Name, Pixel, Point, PointList, RingList, Stop, Text};
 use std::test::Fail;
 
 #[test]

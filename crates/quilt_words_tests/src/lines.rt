@@ -1,5 +1,5 @@
-use crate::{Command, Item, Pairs, ParseErr, parse, refusal_text};
 use quilt_types::{Code, Colour, Text};
+use quilt_words::{Command, Item, Pairs, ParseErr, parse, refusal_text};
 use std::alloc::Global;
 use std::test::Fail;
 

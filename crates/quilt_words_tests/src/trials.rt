@@ -1,4 +1,4 @@
-use crate::{Trial, trial_text};
+use quilt_trial::{Trial, trial_text};
 use std::test::Fail;
 
 #[test]

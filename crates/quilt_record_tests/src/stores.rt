@@ -1,4 +1,4 @@
-use crate::{MemStore, PageStore, StoreErr};
+use quilt_store::{MemStore, PageStore, StoreErr};
 use std::test::Fail;
 
 #[test]

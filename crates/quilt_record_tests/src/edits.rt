@@ -1,4 +1,4 @@
-use crate::edits_of;
+use quilt_edits::edits_of;
 use quilt_record::{Key, Record};
 use quilt_types::Stop;
 use std::test::Fail;

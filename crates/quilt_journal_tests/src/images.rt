@@ -1,4 +1,4 @@
-use crate::Image;
+use quilt_world::Image;
 use std::test::Fail;
 
 #[test]
