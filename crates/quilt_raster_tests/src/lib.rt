@@ -4,6 +4,8 @@
 #[cfg(test)]
 mod buffers;
 #[cfg(test)]
+mod drawn_polygons;
+#[cfg(test)]
 mod polygons;
 #[cfg(test)]
 mod rasters;
