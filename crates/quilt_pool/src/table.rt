@@ -5,6 +5,7 @@ ghost use Rattle.std.specs.Map.{remove_entry, set_value};
 ghost use Rattle.quilt_pool.specs.Entries.{frame_at, has_frame};
 
 use crate::frame::Frame;
+use crate::sheet::Sheet;
 use lru::LruCache;
 use quilt_store::StoreErr;
 
@@ -22,16 +23,16 @@ pub fn put_frame(
     ensures memory { result ≢ Err Device }
 {
     if let Some(frame) = table.get_mut(&page) {
-        frame.bytes = *bytes;
+        frame.bytes.copy_from(bytes);
         frame.is_dirty = is_dirty;
         let _ = table.len();
         return Ok(());
     }
-    let frame = Frame {
-        bytes: *bytes,
-        is_dirty,
+    let Ok(bytes) = Sheet::new(*table.allocator(), bytes) else {
+        let _ = table.len();
+        return Err(StoreErr::Memory);
     };
-    let put = table.put(page, frame);
+    let put = table.put(page, Frame { bytes, is_dirty });
     let _ = table.len();
     match put {
         Ok(_) => Ok(()),
@@ -47,7 +48,7 @@ pub fn find_frame(table: &mut LruCache<u32, Frame>, page: u32, into: &mut [u8; 4
     ensures valid { IsValid nat_eq table.new }
 {
     if let Some(frame) = table.peek(&page) {
-        *into = frame.bytes;
+        *into = *frame.bytes.bytes();
         table.promote(&page);
         let _ = table.len();
         return true;

@@ -56,7 +56,7 @@ impl Pool {
             return Ok(());
         };
         if frame.is_dirty {
-            journal.write_slot(disk, *page, &frame.bytes)?;
+            journal.write_slot(disk, *page, frame.bytes.bytes())?;
         }
         Ok(())
     }
@@ -218,7 +218,7 @@ impl Pool {
         if !frame.is_dirty {
             return Ok(());
         }
-        journal.write_slot(disk, page, &frame.bytes)?;
+        journal.write_slot(disk, page, frame.bytes.bytes())?;
         clean_frame(&mut self.table, page);
         Ok(())
     }

@@ -46,8 +46,8 @@ returns-clause-kept g c =
     rw (c.clean_frame.ensures.entries f at, c.in_ok-write_slot.ensures.changed)
     (goes_from (IsWork j.pages es j.changed) _ _ _ _ c.requires.kept step (λ o t is h.
     keeps_drained es k f at j.pages j.changed (set j.changed k true) o t
-    (keeps_set j.pages es j.changed true k f f.bytes o t at c.if-not-frame.false is h.0 (tries_adds _ o t refl h.1.0) h.1.1)
-    (saved_set j.pages j.changed k f.bytes o t c.requires.page.1 h.0.2)))
+    (keeps_set j.pages es j.changed true k f c.bytes.result.now o t at c.if-not-frame.false is h.0 (tries_adds _ o t refl h.1.0) h.1.1)
+    (sym c.bytes.ensures ∙ saved_set j.pages j.changed k c.bytes.result.now o t c.requires.page.1 h.0.2)))
 
 pub returns-clause-below : goal.returns-clause-below
 returns-clause-below g c =

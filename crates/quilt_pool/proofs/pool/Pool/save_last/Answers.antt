@@ -61,7 +61,7 @@ returns-in_ok-write_slot-clause-kept g c =
     let step = goes_and _ _ _ _ c.in_ok-write_slot.ensures.kept (goes_and _ _ _ _ c.in_ok-write_slot.ensures.wrote c.in_ok-write_slot.ensures.crash) in
     rw c.in_ok-write_slot.ensures.changed
     (goes_from (IsWork j.pages es j.changed) _ _ _ _ c.requires.kept step (λ o t is h.
-    keeps_set j.pages es j.changed true c.in-Some.page.now c.in-Some.frame.now c.in-Some.frame.now.bytes o t at c.if-frame.true is h.0 (tries_adds _ o t refl h.1.0) h.1.1))
+    keeps_set j.pages es j.changed true c.in-Some.page.now c.in-Some.frame.now c.bytes.result.now o t at c.if-frame.true is h.0 (tries_adds _ o t refl h.1.0) h.1.1))
 
 pub returns-in_ok-write_slot-clause-listed : goal.returns-in_ok-write_slot-clause-listed
 returns-in_ok-write_slot-clause-listed g c =
@@ -77,8 +77,8 @@ returns-in_ok-write_slot-clause-saved g c =
     let within = (c.requires.below.each c.in-Some.page.now c.in-Some.frame.now at).1 in
     let j = c.args.journal.now in
     rw c.in_ok-write_slot.ensures.changed
-    (goes_now (λ o t. IsIdle j.pages (set j.changed c.in-Some.page.now true) t × (published t j.pages ≡ published o j.pages) × (work t j.pages (set j.changed c.in-Some.page.now true) ≡ set (work o j.pages j.changed) c.in-Some.page.now c.in-Some.frame.now.bytes)) (λ new. IsSaved c.args.self.now.table (work new j.pages (set j.changed c.in-Some.page.now true))) _ _ c.in_ok-write_slot.ensures.kept (λ o t h.
-    saved_last c.args.self.now.table (work t j.pages (set j.changed c.in-Some.page.now true)) c.in-Some.page.now c.in-Some.frame.now last (saved_set j.pages j.changed c.in-Some.page.now c.in-Some.frame.now.bytes o t within h.2)))
+    (goes_now (λ o t. IsIdle j.pages (set j.changed c.in-Some.page.now true) t × (published t j.pages ≡ published o j.pages) × (work t j.pages (set j.changed c.in-Some.page.now true) ≡ set (work o j.pages j.changed) c.in-Some.page.now c.bytes.result.now)) (λ new. IsSaved c.args.self.now.table (work new j.pages (set j.changed c.in-Some.page.now true))) _ _ c.in_ok-write_slot.ensures.kept (λ o t h.
+    saved_last c.args.self.now.table (work t j.pages (set j.changed c.in-Some.page.now true)) c.in-Some.page.now c.in-Some.frame.now last (sym c.bytes.ensures ∙ saved_set j.pages j.changed c.in-Some.page.now c.bytes.result.now o t within h.2)))
 
 pub returns-else-frame-clause-saved : goal.returns-else-frame-clause-saved
 returns-else-frame-clause-saved g c =
