@@ -2,9 +2,15 @@
 #![tactic(auto)]
 
 #[cfg(test)]
+mod drawing;
+#[cfg(test)]
+mod layer;
+#[cfg(test)]
 mod lines;
 #[cfg(test)]
-mod planted;
+mod mixed_points;
+#[cfg(test)]
+mod plain_points;
 #[cfg(test)]
 mod points;
 #[cfg(test)]

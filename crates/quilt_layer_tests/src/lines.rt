@@ -1,10 +1,14 @@
-use crate::planted::planted;
-use quilt_btree::Tree;
-use quilt_lines::{LineView, block_counts, first_record, plan_add, plan_remove, scan, segment};
-use quilt_near::nearest;
+use crate::layer::Layer;
+use quilt_lines::first_record;
 use quilt_record::{Record, pair_record, segment_record};
 use quilt_types::{Block, Pixel, Seg, Stop};
+use std::alloc::Global;
 use std::test::Fail;
+
+/// A line layer of the number 1 and the threshold 1 in a map of this level.
+fn planted(alloc: Global, level: u8, records: &[Record]) -> Result<Layer, Fail> {
+    Layer::new(alloc, 1, level, 1, records)
+}
 
 /// The quarters of the square of level 3, in the order of their codes.
 const TOP_LEFT: Block = Block {
@@ -57,21 +61,17 @@ fn segments_and_the_nearest(rt: HostRuntime) -> Result<(), Fail> {
         segment_record(1, 5, BORDER),
         segment_record(1, 9, CORNER),
     ];
-    let (mut store, tree) = planted(rt.alloc(), &records)?;
-    assert_eq!(rt; segment(&mut store, &tree, 1, 3, 5)?, Some(BORDER));
-    assert_eq!(rt; segment(&mut store, &tree, 1, 3, 6)?, None);
-    assert_eq!(rt; segment(&mut store, &tree, 2, 3, 5)?, None);
-    let all = scan(rt.alloc(), &mut store, &tree, 1, 3)?;
+    let mut layer = planted(rt.alloc(), 3, &records)?;
+    assert_eq!(rt; layer.segment(5)?, Some(BORDER));
+    assert_eq!(rt; layer.segment(6)?, None);
+    let all = layer.scan(rt.alloc())?;
     assert_eq!(rt; all.items(), [(5, BORDER), (9, CORNER)].as_slice());
-    let view = LineView::new(&tree, 1, 3);
-    let found = nearest(rt.alloc(), &view, &mut store, Pixel { x: 1, y: 5 })?;
-    let (id, far) = found.ok_or("a segment is near")?;
-    assert_eq!(rt; id, 5);
-    assert_eq!(rt; far.num(), 25);
-    let found = nearest(rt.alloc(), &view, &mut store, Pixel { x: 5, y: 7 })?;
-    let (id, far) = found.ok_or("a segment is near")?;
-    assert_eq!(rt; id, 9);
-    assert_eq!(rt; far.num(), 4);
+    let found = layer.nearest(&rt, rt.alloc(), Pixel { x: 1, y: 5 })?;
+    assert_eq!(rt; found, Some((5, 25)));
+    let found = layer.nearest(&rt, rt.alloc(), Pixel { x: 5, y: 7 })?;
+    assert_eq!(rt; found, Some((9, 4)));
+    let mut other = Layer::new(rt.alloc(), 2, 3, 1, &records)?;
+    assert_eq!(rt; other.segment(5)?, None);
     Ok(())
 }
 
@@ -84,18 +84,17 @@ fn damaged_layers(rt: HostRuntime) -> Result<(), Fail> {
         side: 8,
     };
     let at = Pixel { x: 1, y: 1 };
-    let (mut store, tree) = planted(rt.alloc(), &[pair_record(1, whole, 3, Some(5))])?;
-    let view = LineView::new(&tree, 1, 3);
-    assert_eq!(rt; nearest(rt.alloc(), &view, &mut store, at).err(), damaged);
+    let mut unnamed = planted(rt.alloc(), 3, &[pair_record(1, whole, 3, Some(5))])?;
+    assert_eq!(rt; unnamed.nearest(&rt, rt.alloc(), at).err(), damaged);
     let far = Seg { x2: 8, ..BORDER };
-    let (mut store, tree) = planted(rt.alloc(), &[segment_record(1, 5, far)])?;
-    let view = LineView::new(&tree, 1, 3);
-    assert_eq!(rt; segment(&mut store, &tree, 1, 3, 5).err(), damaged);
-    assert_eq!(rt; scan(rt.alloc(), &mut store, &tree, 1, 3).err(), damaged);
-    assert_eq!(rt; nearest(rt.alloc(), &view, &mut store, at).err(), damaged);
-    let elsewhere = Tree { root: 16, ..tree };
-    let view = LineView::new(&elsewhere, 1, 3);
-    assert_eq!(rt; nearest(rt.alloc(), &view, &mut store, at).err(), damaged);
+    let mut outside = planted(rt.alloc(), 3, &[segment_record(1, 5, far)])?;
+    assert_eq!(rt; outside.segment(5).err(), damaged);
+    assert_eq!(rt; outside.scan(rt.alloc()).err(), damaged);
+    assert_eq!(rt; outside.nearest(&rt, rt.alloc(), at).err(), damaged);
+    assert_eq!(rt;
+        outside.nearest_under(&rt, rt.alloc(), 256, at).err(),
+        damaged
+    );
     Ok(())
 }
 
@@ -161,13 +160,14 @@ fn second_records() -> [Record; 8] {
 #[test]
 fn a_first_segment(rt: HostRuntime) -> Result<(), Fail> {
     let empty = first_record(1, 2, 1);
-    let (mut store, tree) = planted(rt.alloc(), &[empty])?;
+    let mut layer = planted(rt.alloc(), 2, &[empty])?;
     assert_eq!(rt;
-        block_counts(&mut store, &tree, 1, 2)?,
+        layer.line_counts()?,
         [0, 0, 1, 0, 0, 0, 0, 0, 0, 0, 0, 0, 0]
     );
-    let plan = plan_add(rt.alloc(), &mut store, &tree, 1, 2, 1, 1, FIRST)?;
-    let plan = plan.ok_or("the id is free")?;
+    let plan = layer
+        .plan_add(&rt, rt.alloc(), 1, FIRST)?
+        .ok_or("the id is free")?;
     assert_eq!(rt; plan.remove.records(), [empty].as_slice());
     let added = [
         pair_record(1, SQUARE, 2, Some(1)),
@@ -180,18 +180,16 @@ fn a_first_segment(rt: HostRuntime) -> Result<(), Fail> {
 #[test]
 fn a_block_that_is_split(rt: HostRuntime) -> Result<(), Fail> {
     let one = pair_record(1, SQUARE, 2, Some(1));
-    let (mut store, tree) = planted(rt.alloc(), &[one, segment_record(1, 1, FIRST)])?;
-    assert!(rt; plan_add(rt.alloc(), &mut store, &tree, 1, 2, 1, 1, SECOND)?.is_none());
-    let plan = plan_add(rt.alloc(), &mut store, &tree, 1, 2, 1, 2, SECOND)?;
-    let plan = plan.ok_or("the id is free")?;
+    let mut layer = planted(rt.alloc(), 2, &[one, segment_record(1, 1, FIRST)])?;
+    assert!(rt; layer.plan_add(&rt, rt.alloc(), 1, SECOND)?.is_none());
+    let plan = layer
+        .plan_add(&rt, rt.alloc(), 2, SECOND)?
+        .ok_or("the id is free")?;
     assert_eq!(rt; plan.remove.records(), [one].as_slice());
     let added = second_records();
     assert_eq!(rt; plan.add.records(), added.as_slice());
-    let (mut cut, tree) = planted(rt.alloc(), &added)?;
-    assert_eq!(rt;
-        block_counts(&mut cut, &tree, 1, 2)?,
-        [0, 4, 0, 0, 0, 0, 0, 0, 0, 0, 0, 0, 0]
-    );
+    let mut cut = planted(rt.alloc(), 2, &added)?;
+    assert_eq!(rt; cut.line_counts()?, [0, 4, 0, 0, 0, 0, 0, 0, 0, 0, 0, 0, 0]);
     Ok(())
 }
 
@@ -201,10 +199,9 @@ fn quarters_that_merge(rt: HostRuntime) -> Result<(), Fail> {
     let mut records = Vec::from_slice(rt.alloc(), &gone[..7])?;
     records.push(segment_record(1, 1, FIRST))?;
     records.push(gone[7])?;
-    let (mut store, tree) = planted(rt.alloc(), &records)?;
-    assert!(rt; plan_remove(rt.alloc(), &mut store, &tree, 1, 2, 1, 3)?.is_none());
-    let plan = plan_remove(rt.alloc(), &mut store, &tree, 1, 2, 1, 2)?;
-    let plan = plan.ok_or("the id is there")?;
+    let mut layer = planted(rt.alloc(), 2, &records)?;
+    assert!(rt; layer.plan_remove(rt.alloc(), 3)?.is_none());
+    let plan = layer.plan_remove(rt.alloc(), 2)?.ok_or("the id is there")?;
     assert_eq!(rt; plan.remove.records(), gone.as_slice());
     let one = pair_record(1, SQUARE, 2, Some(1));
     assert_eq!(rt; plan.add.records(), [one].as_slice());
@@ -217,9 +214,8 @@ fn a_last_segment(rt: HostRuntime) -> Result<(), Fail> {
         pair_record(1, SQUARE, 2, Some(1)),
         segment_record(1, 1, FIRST),
     ];
-    let (mut store, tree) = planted(rt.alloc(), &records)?;
-    let plan = plan_remove(rt.alloc(), &mut store, &tree, 1, 2, 1, 1)?;
-    let plan = plan.ok_or("the id is there")?;
+    let mut layer = planted(rt.alloc(), 2, &records)?;
+    let plan = layer.plan_remove(rt.alloc(), 1)?.ok_or("the id is there")?;
     assert_eq!(rt; plan.remove.records(), records.as_slice());
     assert_eq!(rt; plan.add.records(), [first_record(1, 2, 1)].as_slice());
     Ok(())

@@ -1,7 +1,9 @@
-use crate::planted::planted;
-use quilt_points::{block_counts, find, plan_del, plan_put, plan_scatter, within};
-use quilt_record::{key_bytes, point_record};
+ghost use Rattle.std.specs.Prelude.{◌≡◌};
+
+use crate::layer::Layer;
+use quilt_record::{Record, key_bytes, point_record};
 use quilt_types::{Block, Pixel, Point, PointList, Stop, Window};
+use std::alloc::Global;
 use std::test::Fail;
 
 /// The whole square of level 3.
@@ -11,14 +13,31 @@ const WHOLE: Block = Block {
     side: 8,
 };
 
+/// A point layer of the number 1 in a map of level 3.
+fn planted(alloc: Global, limit: u8, records: &[Record]) -> Result<Layer, Fail> {
+    Layer::new(alloc, 1, 3, limit, records)
+}
+
+/// A point of the layer.
+fn point(x: u16, y: u16, label: u32) -> Point
+    ensures { (result.at.x ≡ x) × (result.at.y ≡ y) × (result.label ≡ label) }
+{
+    Point {
+        at: Pixel { x, y },
+        label,
+    }
+}
+
 #[test]
 fn a_first_point(rt: HostRuntime) -> Result<(), Fail> {
     let empty = point_record(1, WHOLE, 3, 2, None);
-    let (mut store, tree) = planted(rt.alloc(), &[empty])?;
-    let at = Pixel { x: 5, y: 2 };
-    assert_eq!(rt; find(&mut store, &tree, 1, 3, 2, at)?, None);
-    assert!(rt; plan_del(rt.alloc(), &mut store, &tree, 1, 3, 2, at)?.is_none());
-    let plan = plan_put(rt.alloc(), &mut store, &tree, 1, 3, 2, at, 7)?.ok_or("no point is there")?;
+    let mut layer = planted(rt.alloc(), 2, &[empty])?;
+    let new = point(5, 2, 7);
+    assert_eq!(rt; layer.find(&rt, new.at)?, None);
+    assert!(rt; layer.plan_del(&rt, rt.alloc(), new.at)?.is_none());
+    let plan = layer
+        .plan_put(&rt, rt.alloc(), new)?
+        .ok_or("no point is there")?;
     assert_eq!(rt; plan.remove.records(), [empty].as_slice());
     assert_eq!(rt; plan.add.records().len(), 1);
     let one = plan.add.records().first().ok_or("one record")?;
@@ -29,30 +48,31 @@ fn a_first_point(rt: HostRuntime) -> Result<(), Fail> {
 
 #[test]
 fn a_second_point_and_back(rt: HostRuntime) -> Result<(), Fail> {
-    let first = Point {
-        at: Pixel { x: 0, y: 0 },
-        label: 5,
-    };
+    let first = point(0, 0, 5);
+    let second = point(1, 0, 6);
     let one = point_record(1, WHOLE, 3, 1, Some(first));
-    let (mut store, tree) = planted(rt.alloc(), &[one])?;
-    let at = Pixel { x: 1, y: 0 };
-    assert!(rt; plan_put(rt.alloc(), &mut store, &tree, 1, 3, 1, first.at, 9)?.is_none());
-    let plan = plan_put(rt.alloc(), &mut store, &tree, 1, 3, 1, at, 6)?.ok_or("no point is there")?;
+    let mut layer = planted(rt.alloc(), 1, &[one])?;
+    assert!(rt; layer.plan_put(&rt, rt.alloc(), point(0, 0, 9))?.is_none());
+    let plan = layer
+        .plan_put(&rt, rt.alloc(), second)?
+        .ok_or("no point is there")?;
     assert_eq!(rt; plan.remove.records(), [one].as_slice());
     assert_eq!(rt; plan.add.records().len(), 10);
-    let (mut cut, tree) = planted(rt.alloc(), plan.add.records())?;
-    assert_eq!(rt; find(&mut cut, &tree, 1, 3, 1, first.at)?, Some(5));
-    assert_eq!(rt; find(&mut cut, &tree, 1, 3, 1, at)?, Some(6));
-    assert_eq!(rt; find(&mut cut, &tree, 1, 3, 1, Pixel { x: 7, y: 7 })?, None);
+    let mut cut = planted(rt.alloc(), 1, plan.add.records())?;
+    assert_eq!(rt; cut.find(&rt, first.at)?, Some(5));
+    assert_eq!(rt; cut.find(&rt, second.at)?, Some(6));
+    assert_eq!(rt; cut.find(&rt, Pixel { x: 7, y: 7 })?, None);
     let row = Window {
         x: 0,
         y: 0,
         w: 2,
         h: 1,
     };
-    let found = within(rt.alloc(), &mut cut, &tree, 1, 3, 1, row)?;
-    assert_eq!(rt; found.items(), [first, Point { at, label: 6 }].as_slice());
-    let back = plan_del(rt.alloc(), &mut cut, &tree, 1, 3, 1, at)?.ok_or("a point is there")?;
+    let found = cut.within(&rt, rt.alloc(), row)?;
+    assert_eq!(rt; found.items(), [first, second].as_slice());
+    let back = cut
+        .plan_del(&rt, rt.alloc(), second.at)?
+        .ok_or("a point is there")?;
     assert_eq!(rt; back.remove.records(), plan.add.records());
     assert_eq!(rt; back.add.records(), [one].as_slice());
     Ok(())
@@ -65,53 +85,43 @@ fn a_damaged_layer(rt: HostRuntime) -> Result<(), Fail> {
         y: 4,
         side: 4,
     };
-    let (mut store, tree) = planted(rt.alloc(), &[point_record(1, small, 3, 1, None)])?;
+    let records = [point_record(1, small, 3, 1, None)];
+    let mut layer = planted(rt.alloc(), 1, &records)?;
     let damaged = Some(Stop::Damaged { page: 0 });
-    let at = Pixel { x: 0, y: 0 };
-    assert_eq!(rt; find(&mut store, &tree, 1, 3, 1, at).err(), damaged);
-    assert_eq!(rt;
-        plan_put(rt.alloc(), &mut store, &tree, 1, 3, 1, at, 1).err(),
-        damaged
-    );
-    assert_eq!(rt; find(&mut store, &tree, 2, 3, 1, at).err(), damaged);
+    let new = point(0, 0, 1);
+    assert_eq!(rt; layer.find(&rt, new.at).err(), damaged);
+    assert_eq!(rt; layer.plan_put(&rt, rt.alloc(), new).err(), damaged);
+    let mut other = Layer::new(rt.alloc(), 2, 3, 1, &records)?;
+    assert_eq!(rt; other.find(&rt, new.at).err(), damaged);
     Ok(())
 }
 
 #[test]
 fn three_points_at_once(rt: HostRuntime) -> Result<(), Fail> {
-    let first = Point {
-        at: Pixel { x: 0, y: 0 },
-        label: 5,
-    };
+    let first = point(0, 0, 5);
     let one = point_record(1, WHOLE, 3, 1, Some(first));
-    let (mut store, tree) = planted(rt.alloc(), &[one])?;
-    let far = Point {
-        at: Pixel { x: 7, y: 7 },
-        label: 8,
-    };
-    let near = Point {
-        at: Pixel { x: 4, y: 0 },
-        label: 9,
-    };
+    let mut layer = planted(rt.alloc(), 1, &[one])?;
+    let far = point(7, 7, 8);
+    let near = point(4, 0, 9);
     let mut points = PointList::new(rt.alloc());
     points.push(far)?;
     points.push(near)?;
-    let plan = plan_scatter(rt.alloc(), &mut store, &tree, 1, 3, 1, &points)?;
-    let plan = plan.ok_or("no point is there")?;
+    let plan = layer
+        .plan_scatter(&rt, rt.alloc(), &points)?
+        .ok_or("no point is there")?;
     assert_eq!(rt; plan.remove.records(), [one].as_slice());
     assert_eq!(rt; plan.add.records().len(), 4);
-    let (mut cut, cut_tree) = planted(rt.alloc(), plan.add.records())?;
-    let counts = block_counts(&mut cut, &cut_tree, 1, 3, 1)?;
-    assert_eq!(rt; counts, [0, 0, 4, 0, 0, 0, 0, 0, 0, 0, 0, 0, 0]);
-    assert_eq!(rt; find(&mut cut, &cut_tree, 1, 3, 1, near.at)?, Some(9));
-    points.push(Point {
-        at: far.at,
-        label: 1,
-    })?;
-    assert!(rt; plan_scatter(rt.alloc(), &mut store, &tree, 1, 3, 1, &points)?.is_none());
+    let mut cut = planted(rt.alloc(), 1, plan.add.records())?;
+    assert_eq!(rt;
+        cut.point_counts()?,
+        [0, 0, 4, 0, 0, 0, 0, 0, 0, 0, 0, 0, 0]
+    );
+    assert_eq!(rt; cut.find(&rt, near.at)?, Some(9));
+    points.push(point(7, 7, 1))?;
+    assert!(rt; layer.plan_scatter(&rt, rt.alloc(), &points)?.is_none());
     let mut taken = PointList::new(rt.alloc());
     taken.push(near)?;
     taken.push(first)?;
-    assert!(rt; plan_scatter(rt.alloc(), &mut store, &tree, 1, 3, 1, &taken)?.is_none());
+    assert!(rt; layer.plan_scatter(&rt, rt.alloc(), &taken)?.is_none());
     Ok(())
 }

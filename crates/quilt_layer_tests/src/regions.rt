@@ -1,17 +1,19 @@
 ghost use Rattle.std.specs.Prelude.{◌≡◌, ◌+◌, ◌<◌, ◌≤◌, true, IfOk};
 ghost use Rattle.quilt_types.specs.Plane.{is_window};
 
-use crate::planted::planted;
+use crate::layer::Layer;
 use quilt_blocks::LeafList;
 use quilt_raster::leaves_of;
-use quilt_record::key_bytes;
-use quilt_region::{
-    colour_at, first_key, last_key, layer_laws, plan_new, plan_rect, plan_replace, read_list,
-    region_laws,
-};
+use quilt_record::{Record, key_bytes};
+use quilt_region::{first_key, last_key, layer_laws, plan_new, plan_replace, region_laws};
 use quilt_types::{Colour, Pixel, Stop, Window};
 use std::alloc::{AllocError, Global};
 use std::test::Fail;
+
+/// A region layer of the number 1 in a map of this level.
+fn planted(alloc: Global, level: u8, records: &[Record]) -> Result<Layer, Fail> {
+    Layer::new(alloc, 1, level, 1, records)
+}
 
 /// The pixel of the worked record.
 const PIXEL: Window = Window {
@@ -66,15 +68,15 @@ fn plans_of_one_pixel_and_back(rt: HostRuntime) -> Result<(), Fail> {
 fn a_layer_in_a_store(rt: HostRuntime) -> Result<(), Fail> {
     let map = dotted(rt.alloc())?;
     let plan = plan_new(rt.alloc(), 1, &map)?;
-    let (mut store, tree) = planted(rt.alloc(), plan.add.records())?;
-    assert_eq!(rt; read_list(rt.alloc(), &mut store, &tree, 1, 3)?.len(), 10);
+    let mut layer = planted(rt.alloc(), 3, plan.add.records())?;
+    assert_eq!(rt; layer.leaves(rt.alloc())?.len(), 10);
     let one = Pixel { x: 5, y: 2 };
-    assert_eq!(rt; colour_at(&mut store, &tree, 1, 3, one)?, Colour(7));
+    assert_eq!(rt; layer.colour_at(&rt, one)?, Colour(7));
     let above = Pixel { x: 5, y: 1 };
-    assert_eq!(rt; colour_at(&mut store, &tree, 1, 3, above)?, Colour(0));
+    assert_eq!(rt; layer.colour_at(&rt, above)?, Colour(0));
     let last = Pixel { x: 7, y: 7 };
-    assert_eq!(rt; colour_at(&mut store, &tree, 1, 3, last)?, Colour(0));
-    let back = plan_rect(rt.alloc(), &mut store, &tree, 1, 3, PIXEL, Colour(0))?;
+    assert_eq!(rt; layer.colour_at(&rt, last)?, Colour(0));
+    let back = layer.plan_rect(&rt, rt.alloc(), PIXEL, Colour(0))?;
     assert_eq!(rt; back.remove.records(), plan.add.records());
     assert_eq!(rt; back.add.records().len(), 1);
     Ok(())
@@ -84,11 +86,11 @@ fn a_layer_in_a_store(rt: HostRuntime) -> Result<(), Fail> {
 fn plans_of_windows_in_a_store(rt: HostRuntime) -> Result<(), Fail> {
     let blank = uniform(rt.alloc(), Colour(0))?;
     let plan = plan_new(rt.alloc(), 1, &blank)?;
-    let (mut store, tree) = planted(rt.alloc(), plan.add.records())?;
-    let one = plan_rect(rt.alloc(), &mut store, &tree, 1, 3, PIXEL, Colour(7))?;
+    let mut layer = planted(rt.alloc(), 3, plan.add.records())?;
+    let one = layer.plan_rect(&rt, rt.alloc(), PIXEL, Colour(7))?;
     assert_eq!(rt; one.remove.records(), plan.add.records());
     assert_eq!(rt; one.add.records().len(), 10);
-    let none = plan_rect(rt.alloc(), &mut store, &tree, 1, 3, PIXEL, Colour(0))?;
+    let none = layer.plan_rect(&rt, rt.alloc(), PIXEL, Colour(0))?;
     assert_eq!(rt; none.remove.records().len(), 0);
     assert_eq!(rt; none.add.records().len(), 0);
     let across = Window {
@@ -97,7 +99,7 @@ fn plans_of_windows_in_a_store(rt: HostRuntime) -> Result<(), Fail> {
         w: 2,
         h: 2,
     };
-    let four = plan_rect(rt.alloc(), &mut store, &tree, 1, 3, across, Colour(7))?;
+    let four = layer.plan_rect(&rt, rt.alloc(), across, Colour(7))?;
     assert_eq!(rt; four.remove.records().len(), 1);
     assert_eq!(rt; four.add.records().len(), 28);
     Ok(())
@@ -167,11 +169,11 @@ fn windows_across_the_middle(rt: HostRuntime) -> Result<(), Fail> {
         let mut bytes = drawn(&mut state);
         let old = leaves_of(rt.alloc(), &bytes, 6)?;
         let fresh = plan_new(rt.alloc(), 1, &old)?;
-        let (mut store, tree) = planted(rt.alloc(), fresh.add.records())?;
+        let mut layer = planted(rt.alloc(), 6, fresh.add.records())?;
         let w = around_middle(&mut state);
         let colour = below(&mut state, 3) as u8;
         let c = Colour(u16::from(colour));
-        let plan = plan_rect(rt.alloc(), &mut store, &tree, 1, 6, w, c)?;
+        let plan = layer.plan_rect(&rt, rt.alloc(), w, c)?;
         paint(&mut bytes, w, colour);
         let new = leaves_of(rt.alloc(), &bytes, 6)?;
         let whole = plan_replace(rt.alloc(), 1, &old, &new)?;
@@ -202,21 +204,14 @@ fn damaged_layers(rt: HostRuntime) -> Result<(), Fail> {
     let map = dotted(rt.alloc())?;
     let plan = plan_new(rt.alloc(), 1, &map)?;
     let gap = plan.add.records().get(1..).ok_or("records")?;
-    let (mut store, tree) = planted(rt.alloc(), gap)?;
+    let mut layer = planted(rt.alloc(), 3, gap)?;
+    let mut higher = planted(rt.alloc(), 4, gap)?;
+    let mut other = Layer::new(rt.alloc(), 2, 3, 1, gap)?;
     let damaged = Some(Stop::Damaged { page: 0 });
-    assert_eq!(rt;
-        read_list(rt.alloc(), &mut store, &tree, 1, 3).err(),
-        damaged
-    );
-    assert_eq!(rt;
-        read_list(rt.alloc(), &mut store, &tree, 1, 4).err(),
-        damaged
-    );
-    assert_eq!(rt;
-        read_list(rt.alloc(), &mut store, &tree, 2, 3).err(),
-        damaged
-    );
+    assert_eq!(rt; layer.leaves(rt.alloc()).err(), damaged);
+    assert_eq!(rt; higher.leaves(rt.alloc()).err(), damaged);
+    assert_eq!(rt; other.leaves(rt.alloc()).err(), damaged);
     let corner = Pixel { x: 0, y: 0 };
-    assert_eq!(rt; colour_at(&mut store, &tree, 1, 3, corner).err(), damaged);
+    assert_eq!(rt; layer.colour_at(&rt, corner).err(), damaged);
     Ok(())
 }

@@ -1,0 +1,404 @@
+ghost use Rattle.std.specs.Prelude.{◌≡◌, ◌≤◌, true, All};
+ghost use Rattle.std.specs.Bool.{OnTrue};
+ghost use Rattle.quilt_types.specs.Plane.{is_pixel, is_window};
+ghost use Rattle.quilt_types.specs.Layers.{is_in_square as is_seg_in_square};
+ghost use Rattle.quilt_btree.specs.Trees.{IsRooted};
+
+use quilt_blocks::LeafList;
+use quilt_btree::{Tree, keys_ascend, records_ascend};
+use quilt_lines as lines;
+use quilt_lines::LineView;
+use quilt_near::{SegList, nearest};
+use quilt_points as points;
+use quilt_record::{Edits, Key, Record, read_point};
+use quilt_region as regions;
+use quilt_store::{MemStore, PageStore};
+use quilt_types::{Block, Colour, Pixel, Point, PointList, Seg, Stop, Window};
+use std::alloc::Global;
+use std::process::Abort;
+use std::test::Fail;
+
+/// How many pages the store has.
+const PAGES: u32 = 256;
+
+/// A layer in a tree over a store in memory: its number, the level of its map, and how many points or segments a block may hold.
+/// What each call asks of the tree and of these numbers is kept here, so that a test need not show it again.
+#[derive(Drop)]
+pub struct Layer {
+    store: MemStore,
+    tree: Tree,
+    number: u8,
+    level: u8,
+    limit: u8,
+    ghost number_fits: { 1 ≤ number },
+    ghost level_fits: { (1 ≤ level) × (level ≤ 12) },
+    ghost limit_fits: { (1 ≤ limit) × (limit ≤ 16) },
+    ghost size: { ⟦<MemStore as PageStore>⟧.size store ≡ 256 },
+    ghost rooted: { IsRooted 256 tree },
+}
+
+/// Whether the pixel is one of the square.
+fn has_pixel(level: u8, p: Pixel) -> bool
+    requires { level ≤ 12 }
+    ensures { result ≡ is_pixel level p }
+{
+    let side = 1_u16 << level;
+    p.x < side && p.y < side
+}
+
+/// Whether the points are at pixels of the square.
+fn has_points(level: u8, points: &[Point]) -> bool
+    requires { level ≤ 12 }
+    ensures { OnTrue result (All (λ p. is_pixel level p.at ≡ true) points.now) }
+{
+    points.iter().all(|p| has_pixel(level, p.at))
+}
+
+/// Whether the ends of the segment are pixels of the square.
+fn has_segment(level: u8, s: Seg) -> bool
+    requires { level ≤ 12 }
+    ensures { result ≡ is_seg_in_square level s }
+{
+    let side = 1_u16 << level;
+    (s.x1 < side && s.y1 < side) && (s.x2 < side && s.y2 < side)
+}
+
+/// Whether the window lies in the square and has a pixel.
+fn has_window(level: u8, w: Window) -> bool
+    requires { level ≤ 12 }
+    ensures { result ≡ is_window level w }
+{
+    let side = 1_u32 << level;
+    1 <= w.w
+        && 1 <= w.h
+        && u32::from(w.x) + u32::from(w.w) <= side
+        && u32::from(w.y) + u32::from(w.h) <= side
+}
+
+impl Layer {
+    /// A layer with this number, level and limit in a tree of these records.
+    pub fn new(
+        alloc: Global,
+        number: u8,
+        level: u8,
+        limit: u8,
+        records: &[Record],
+    ) -> Result<Layer, Fail> {
+        if number == 0 || level == 0 || level > 12 || limit == 0 || limit > 16 {
+            return Err(Fail::from("numbers of a layer"));
+        }
+        let tree = Tree {
+            root: 0,
+            height: 0,
+            records: 0,
+        };
+        let layer = Layer {
+            store: MemStore::new(alloc, PAGES)?,
+            tree,
+            number,
+            level,
+            limit,
+        };
+        layer.put_all(records)
+    }
+
+    /// A point layer of no points with the number 1.
+    pub fn of_points(alloc: Global, level: u8, bucket: u8) -> Result<Layer, Fail> {
+        if level == 0 || level > 12 {
+            return Err(Fail::from("a level"));
+        }
+        let first = points::first_record(1, level, bucket);
+        Layer::new(alloc, 1, level, bucket, &[first])
+    }
+
+    /// The layer once these records are in the tree, too.
+    fn put_all(self, records: &[Record]) -> Result<Layer, Fail> {
+        let Layer {
+            mut store,
+            mut tree,
+            number,
+            level,
+            limit,
+        } = self;
+        let room = (64 * (PAGES - 8) - tree.records) as usize;
+        if records.len() > room || !records_ascend(records) {
+            return Err(Fail::from("records that ascend"));
+        }
+        tree.insert_all(&mut store, records)?;
+        Ok(Layer {
+            store,
+            tree,
+            number,
+            level,
+            limit,
+        })
+    }
+
+    /// The layer once the records with these keys are out of the tree.
+    fn take_all(self, keys: &[Key]) -> Result<Layer, Fail> {
+        let Layer {
+            mut store,
+            mut tree,
+            number,
+            level,
+            limit,
+        } = self;
+        if !keys_ascend(keys) {
+            return Err(Fail::from("keys that ascend"));
+        }
+        tree.remove_all(&mut store, keys)?;
+        Ok(Layer {
+            store,
+            tree,
+            number,
+            level,
+            limit,
+        })
+    }
+
+    /// The layer once a plan is carried out. Each record that goes has to be there.
+    pub fn edited(mut self, alloc: Global, plan: &Edits) -> Result<Layer, Fail> {
+        let mut keys = Vec::new(alloc);
+        for r in plan.remove.records() {
+            if self.value(&r.key)? != Some(r.value) {
+                return Err(Fail::from("a record that is there"));
+            }
+            keys.push(r.key)?;
+        }
+        self.take_all(&keys)?.put_all(plan.add.records())
+    }
+
+    /// The value of the record with this key.
+    fn value(&mut self, k: &Key) -> Result<Option<[u8; 16]>, Stop> {
+        self.tree.get(&mut self.store, k)
+    }
+
+    /// All records of the tree.
+    pub fn records(&mut self, alloc: Global) -> Result<Vec<Record>, Stop> {
+        let low = Key {
+            layer: 0,
+            part: 0,
+            code: 0,
+            depth: 0,
+            item: 0,
+        };
+        let high = Key {
+            layer: u16::MAX,
+            part: u8::MAX,
+            code: u32::MAX,
+            depth: u8::MAX,
+            item: u32::MAX,
+        };
+        self.tree
+            .range(alloc, &mut self.store, &low, &high, u32::MAX)
+    }
+
+    /// The label of the point at the pixel.
+    pub fn find(&mut self, rt: &impl Abort, at: Pixel) -> Result<Option<u32>, Stop> {
+        assert!(rt; has_pixel(self.level, at));
+        points::find(
+            &mut self.store,
+            &self.tree,
+            self.number,
+            self.level,
+            self.limit,
+            at,
+        )
+    }
+
+    /// The points in the window.
+    pub fn within(&mut self, rt: &impl Abort, alloc: Global, w: Window) -> Result<PointList, Stop> {
+        assert!(rt; has_window(self.level, w));
+        points::within(
+            alloc,
+            &mut self.store,
+            &self.tree,
+            self.number,
+            self.level,
+            self.limit,
+            w,
+        )
+    }
+
+    /// What changes when a point comes.
+    pub fn plan_put(
+        &mut self,
+        rt: &impl Abort,
+        alloc: Global,
+        p: Point,
+    ) -> Result<Option<Edits>, Stop> {
+        assert!(rt; has_pixel(self.level, p.at));
+        points::plan_put(
+            alloc,
+            &mut self.store,
+            &self.tree,
+            self.number,
+            self.level,
+            self.limit,
+            p.at,
+            p.label,
+        )
+    }
+
+    /// What changes when the point at the pixel goes.
+    pub fn plan_del(
+        &mut self,
+        rt: &impl Abort,
+        alloc: Global,
+        at: Pixel,
+    ) -> Result<Option<Edits>, Stop> {
+        assert!(rt; has_pixel(self.level, at));
+        points::plan_del(
+            alloc,
+            &mut self.store,
+            &self.tree,
+            self.number,
+            self.level,
+            self.limit,
+            at,
+        )
+    }
+
+    /// What changes when several points come at once.
+    pub fn plan_scatter(
+        &mut self,
+        rt: &impl Abort,
+        alloc: Global,
+        list: &PointList,
+    ) -> Result<Option<Edits>, Stop> {
+        assert!(rt; has_points(self.level, list.items()));
+        points::plan_scatter(
+            alloc,
+            &mut self.store,
+            &self.tree,
+            self.number,
+            self.level,
+            self.limit,
+            list,
+        )
+    }
+
+    /// How many blocks of each side a point layer has.
+    pub fn point_counts(&mut self) -> Result<[u32; 13], Stop> {
+        points::block_counts(
+            &mut self.store,
+            &self.tree,
+            self.number,
+            self.level,
+            self.limit,
+        )
+    }
+
+    /// The block that a record of a point layer says, and the point that it says the block holds.
+    pub fn read_point(&self, r: &Record) -> Option<(Block, Option<Point>)> {
+        read_point(r, self.level, self.limit)
+    }
+
+    /// The leaves of a region layer.
+    pub fn leaves(&mut self, alloc: Global) -> Result<LeafList, Stop> {
+        regions::read_list(alloc, &mut self.store, &self.tree, self.number, self.level)
+    }
+
+    /// The colour of a region layer at the pixel.
+    pub fn colour_at(&mut self, rt: &impl Abort, at: Pixel) -> Result<Colour, Stop> {
+        assert!(rt; has_pixel(self.level, at));
+        regions::colour_at(&mut self.store, &self.tree, self.number, self.level, at)
+    }
+
+    /// What changes when the pixels of the window get a colour.
+    pub fn plan_rect(
+        &mut self,
+        rt: &impl Abort,
+        alloc: Global,
+        w: Window,
+        c: Colour,
+    ) -> Result<Edits, Stop> {
+        assert!(rt; has_window(self.level, w));
+        regions::plan_rect(
+            alloc,
+            &mut self.store,
+            &self.tree,
+            self.number,
+            self.level,
+            w,
+            c,
+        )
+    }
+
+    /// The segment with this id.
+    pub fn segment(&mut self, id: u32) -> Result<Option<Seg>, Stop> {
+        lines::segment(&mut self.store, &self.tree, self.number, self.level, id)
+    }
+
+    /// All segments under their ids.
+    pub fn scan(&mut self, alloc: Global) -> Result<SegList, Stop> {
+        lines::scan(alloc, &mut self.store, &self.tree, self.number, self.level)
+    }
+
+    /// The segment that is nearest to the pixel, and the numerator of its squared distance.
+    pub fn nearest(
+        &mut self,
+        rt: &impl Abort,
+        alloc: Global,
+        at: Pixel,
+    ) -> Result<Option<(u32, u64)>, Stop> {
+        self.nearest_under(rt, alloc, self.tree.root, at)
+    }
+
+    /// The same with this page as the tree's root, which need not be one of the store.
+    pub fn nearest_under(
+        &mut self,
+        rt: &impl Abort,
+        alloc: Global,
+        root: u32,
+        at: Pixel,
+    ) -> Result<Option<(u32, u64)>, Stop> {
+        assert!(rt; at.x < 4096 && at.y < 4096);
+        let tree = Tree { root, ..self.tree };
+        let view = LineView::new(&tree, self.number, self.level);
+        match nearest(alloc, &view, &mut self.store, at) {
+            Err(e) => Err(e),
+            Ok(None) => Ok(None),
+            Ok(Some((id, far))) => Ok(Some((id, far.num()))),
+        }
+    }
+
+    /// What changes when a segment comes.
+    pub fn plan_add(
+        &mut self,
+        rt: &impl Abort,
+        alloc: Global,
+        id: u32,
+        s: Seg,
+    ) -> Result<Option<Edits>, Stop> {
+        assert!(rt; has_segment(self.level, s));
+        lines::plan_add(
+            alloc,
+            &mut self.store,
+            &self.tree,
+            self.number,
+            self.level,
+            self.limit,
+            id,
+            s,
+        )
+    }
+
+    /// What changes when the segment with this id goes.
+    pub fn plan_remove(&mut self, alloc: Global, id: u32) -> Result<Option<Edits>, Stop> {
+        lines::plan_remove(
+            alloc,
+            &mut self.store,
+            &self.tree,
+            self.number,
+            self.level,
+            self.limit,
+            id,
+        )
+    }
+
+    /// How many blocks of each side a line layer has.
+    pub fn line_counts(&mut self) -> Result<[u32; 13], Stop> {
+        lines::block_counts(&mut self.store, &self.tree, self.number, self.level)
+    }
+}
