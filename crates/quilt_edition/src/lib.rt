@@ -7,6 +7,7 @@ mod free;
 mod laws;
 mod pages;
 mod publish;
+mod reverting;
 mod start;
 
 pub use book::Book;

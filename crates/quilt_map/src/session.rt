@@ -179,6 +179,14 @@ impl<W: World> Session<W> {
     pub fn into_world(self) -> W
         ensures { result ≡ world_of self }
     {
-        self.book.into_world()
+        let Session {
+            book,
+            catalog: _,
+            last: _,
+            changes: _,
+            warm: _,
+            alloc: _,
+        } = self;
+        book.into_world()
     }
 }

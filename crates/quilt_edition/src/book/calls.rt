@@ -19,6 +19,7 @@ ghost use Rattle.quilt_edition.specs.Keeping.{IsKeptBy, told_pages, reads_of, is
 use crate::book::Book;
 use crate::free::others_of;
 use crate::publish::publish_pages;
+use crate::reverting::give_up_pages;
 use quilt_journal::{Journal, State};
 use quilt_node::{Head, header_bytes};
 use quilt_pool::Pool;
@@ -65,8 +66,7 @@ impl<W: Disk> Book<W> {
         ensures changed { ⟦<Book<W> as PageStore>⟧.changed self.new ≡ 0 }
         ensures told { IfSome (W.told (world_of self.new)) (λ t. ⟦<Book<W> as PageStore>⟧.told self.new ≡ Some (published t (pages_of self.new))) }
     {
-        self.pool.forget();
-        self.journal.clear_all();
+        give_up_pages(&mut self.pool, &mut self.journal);
         self.work = self.last;
         self.free = others_of(&self.used, self.journal.pages());
     }
@@ -174,7 +174,16 @@ impl<W: Disk> Book<W> {
     pub fn into_world(self) -> W
         ensures { result ≡ world_of self }
     {
-        self.world
+        let Book {
+            world,
+            journal: _,
+            pool: _,
+            last: _,
+            work: _,
+            used: _,
+            free: _,
+        } = self;
+        world
     }
 }
 
