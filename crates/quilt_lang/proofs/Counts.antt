@@ -1,6 +1,6 @@
 -- Lines counted as they come, and bytes that are known to have no newline.
-use Rattle.std.proofs.Common.{◌≡◌, ℕ, ◌+◌, ◌-◌, ◌<◌, ◌≤◌, ◌==◌, ◌||◌, Bool, true, false, List, [], ◌∷◌, ◌++◌, length, take, drop, min, cond, refl, sym, ◌∙◌, ap, subst, arith, append_assoc, append-nil, inl, inr, length-append, length-drop, length-take}
-use Rattle.std.proofs.lemmas.List.{take_all, drop-drop, take-append-le, drop-append-le, take-append-drop, length-take-le}
+use Rattle.std.proofs.Common.{◌≡◌, ℕ, ◌+◌, ◌-◌, ◌<◌, ◌≤◌, ◌==◌, ◌||◌, Bool, true, false, List, [], ◌∷◌, ◌++◌, length, take, drop, min, cond, refl, sym, ◌∙◌, ap, subst, arith, append-nil, inl, inr, length-append, length-drop, length-take}
+use Rattle.std.proofs.lemmas.List.{take_all, drop-drop, take-append-le, take-append-drop, length-take-le}
 use Rattle.std.proofs.lemmas.List.Elements.{All-append, All-take}
 use Rattle.std.proofs.Math.Seq.{take-add, drop-append_seam}
 use Rattle.std.proofs.lemmas.Bool.{eqb-true, eqb-false}
@@ -82,28 +82,6 @@ uncut_kept scanned kept known rest bytes piece so within least put =
       within = omega (arith, least, length-take-le kept rest within);
       none = line_as (take known (take scanned rest)) (take known (take kept rest)) same none;
     }))
-
--- what is cut of a text is cut of a longer one
-cuts_grown : (lines : List (List ℕ)) (len : ℕ) (text piece : List ℕ) → len ≤ length text → Cuts false lines text (drop len text) → Cuts false lines (text ++ piece) (drop len (text ++ piece))
-cuts_grown lines len text piece within cuts =
-    let P : List ℕ → Type 0 = λ (l : List ℕ). Cuts false lines (text ++ piece) l in
-    subst P (sym (drop-append-le len text piece within)) (record {
-      all = λ v may. rw (append_assoc text piece v, append_assoc (drop len text) piece v) (cuts.all (piece ++ v) tt);
-      whole = λ open_ v. rw (append_assoc text piece v, append_assoc (drop len text) piece v) (cuts.whole refl (piece ++ v));
-    })
-
-pub count_grown : (most : ℕ) (cut : CutLines) (text piece : List ℕ) → IsCount most cut text → IsCount most cut (text ++ piece)
-count_grown most cut text piece so =
-    let P : List ℕ → Type 0 = λ (l : List ℕ). IsUncut cut.scanned l in
-    record {
-      within = omega (arith, so.within, length-append text piece);
-      lines = so.lines;
-      number = so.number;
-      few = so.few;
-      short = so.short;
-      cuts = cuts_grown so.lines cut.len text piece so.within so.cuts;
-      behind = subst P (sym (drop-append-le cut.len text piece so.within)) (uncut_grown cut.scanned (drop cut.len text) piece so.behind);
-    }
 
 -- a text whose first line is cut
 first_whole : (n line : ℕ) (what : Asked) (text : List ℕ) → IsFirst false n line what text → whole_lines text ≡ take line text ∷ whole_lines (drop (line + 1) text)

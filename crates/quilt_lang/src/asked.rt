@@ -9,7 +9,7 @@ use quilt_words::{LINE_LIMIT, is_plain_line, line_words};
 use std::alloc::{AllocError, Global};
 
 /// The further lines that a line asks for.
-#[derive(Clone, Copy, Debug, PartialEq, Eq)]
+#[derive(Clone, Copy)]
 pub enum Asked {
     Nothing,
     /// A row for each row of the square.

@@ -108,7 +108,7 @@ fn held_item(
 }
 
 /// The lines at the front, as many as are asked for or as there are, and the number of their bytes.
-pub fn further_lines<'a>(
+fn further_lines<'a>(
     alloc: Global,
     level: u8,
     what: Asked,

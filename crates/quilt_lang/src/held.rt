@@ -30,7 +30,7 @@ pub fn item_of(
 }
 
 /// The item that a line is which is not too long.
-pub fn item_with(
+fn item_with(
     alloc: Global,
     level: u8,
     format: u8,

@@ -14,8 +14,3 @@ mod spelled;
 pub use lines::Lines;
 pub use quilt_words::{Command, Item, Pairs, ParseErr, parse, refusal_text};
 pub use reading::{items_in, whole_items_in};
-
-#[cfg(test)]
-mod further_tests;
-#[cfg(test)]
-mod tests;

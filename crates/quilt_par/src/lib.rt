@@ -8,6 +8,3 @@ mod reading;
 
 pub use gate::{Gate, NoGate};
 pub use joining::leaves_of_par;
-
-#[cfg(test)]
-mod tests;

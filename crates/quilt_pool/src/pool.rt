@@ -4,8 +4,6 @@ ghost use Rattle.std.specs.Map.{keys_of};
 ghost use Rattle.std.proofs.Props.{props};
 
 mod calls;
-#[cfg(test)]
-mod tests;
 
 use crate::frame::Frame;
 use lru::LruCache;

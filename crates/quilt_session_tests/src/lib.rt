@@ -1,9 +1,11 @@
-//! Tries that a session builds its rasters by parts that run at the same time.
+//! Tries that rasters are built by parts that run at the same time, alone and in a session.
 #![tactic(auto)]
 
 #[cfg(test)]
 mod meeting;
 #[cfg(test)]
 mod opening;
+#[cfg(test)]
+mod quadrants;
 #[cfg(test)]
 mod tests;

@@ -1,6 +1,10 @@
-//! Tries the words of lines, replies and drawn texts, each crate by itself.
+//! Tries the words of lines, the items of texts, replies and drawn texts, each crate by itself.
 #![tactic(auto)]
 
+#[cfg(test)]
+mod further;
+#[cfg(test)]
+mod items;
 #[cfg(test)]
 mod lines;
 #[cfg(test)]

@@ -182,7 +182,8 @@ impl Pool {
     pub fn forget(&mut self)
         ensures table { seen self.new ≡ lru_cache [] (capacity_of self.old) }
     {
-        drop_all(&mut self.table);
+        let Pool { table } = self;
+        drop_all(table);
     }
 
     /// Writes the page to its slot, where it is dirty. It is not dirty then.

@@ -1,64 +1,9 @@
-use super::*;
+use crate::meeting::Meeting;
 use quilt_blocks::LeafList;
+use quilt_par::{NoGate, leaves_of_par};
 use quilt_raster::leaves_of;
 use quilt_types::{Colour, Pixel};
-use std::sync::atomic::{AtomicBool, Ordering};
 use std::test::Fail;
-
-/// A gate at which quadrants 0 and 3 wait for one another.
-#[derive(Drop)]
-struct Meeting {
-    passed: [AtomicBool; 4],
-    failed: AtomicBool,
-}
-
-impl Meeting {
-    fn new() -> Meeting {
-        Meeting {
-            passed: [
-                AtomicBool::new(false),
-                AtomicBool::new(false),
-                AtomicBool::new(false),
-                AtomicBool::new(false),
-            ],
-            failed: AtomicBool::new(false),
-        }
-    }
-
-    /// Whether each quadrant has passed once, and none has waited in vain.
-    fn is_kept(&self) -> bool {
-        self.passed
-            .iter()
-            .all(|passed| passed.load(Ordering::SeqCst))
-            && !self.failed.load(Ordering::SeqCst)
-    }
-}
-
-impl Gate for Meeting {
-    fn pass(&self, quadrant: u8) {
-        let [first, second, third, fourth] = &self.passed;
-        let (mine, other) = match quadrant {
-            0 => (first, fourth),
-            1 => (second, second),
-            2 => (third, third),
-            _ => (fourth, first),
-        };
-        let is_again = mine.swap(true, Ordering::SeqCst);
-        if is_again || !comes(other) {
-            self.failed.store(true, Ordering::SeqCst);
-        }
-    }
-}
-
-/// Whether the flag is set within 200,000,000 turns.
-fn comes(flag: &AtomicBool) -> bool {
-    for _ in 0..200_000_000_u32 {
-        if flag.load(Ordering::SeqCst) {
-            return true;
-        }
-    }
-    false
-}
 
 /// Whether the lists have the same leaves in the same order.
 fn are_same(a: &LeafList, b: &LeafList) -> bool {

@@ -1,0 +1,270 @@
+//! Rows, list lines and ring lines that are drawn, and cut anywhere.
+use quilt_lang::{Item, Lines, items_in, whole_items_in};
+use quilt_types::{Corner, Pixel, Point};
+use std::alloc::Global;
+use std::test::Fail;
+
+const LEVEL: u8 = 1;
+
+/// What drawn lines spell.
+#[derive(Drop)]
+enum Drawn {
+    Rows(Vec<u8>),
+    Points(Vec<Point>),
+    Ring(Vec<Corner>),
+}
+
+fn has_rows(item: &Item, bytes: &[u8]) -> bool {
+    match item {
+        Item::Rows(_, Some(rows)) => rows.bytes() == bytes,
+        _ => false,
+    }
+}
+
+fn has_points(item: &Item, points: &[Point]) -> bool {
+    match item {
+        Item::PointLines(_, Some(list)) => list.items() == points,
+        _ => false,
+    }
+}
+
+fn has_ring(item: &Item, corners: &[Corner]) -> bool {
+    match item {
+        Item::RingLines(_, Some(rings)) => rings.len() == 1 && rings.corners(0) == corners,
+        _ => false,
+    }
+}
+
+fn holds(item: &Item, drawn: &Drawn) -> bool {
+    match drawn {
+        Drawn::Rows(bytes) => has_rows(item, bytes),
+        Drawn::Points(points) => has_points(item, points),
+        Drawn::Ring(corners) => has_ring(item, corners),
+    }
+}
+
+/// Whether a text in these pieces has one item, which holds what was drawn.
+fn is_read(alloc: Global, format: u8, pieces: &[&[u8]], drawn: &Drawn) -> Result<bool, Fail> {
+    let items = items_in(alloc, LEVEL, format, pieces)?;
+    match items.as_slice() {
+        [item] => Ok(holds(item, drawn)),
+        _ => Ok(false),
+    }
+}
+
+/// Whether the first piece gives no item, and the second one that holds what was drawn, while more may come.
+fn is_awaited(
+    alloc: Global,
+    format: u8,
+    first: &[u8],
+    second: &[u8],
+    drawn: &Drawn,
+) -> Result<bool, Fail> {
+    let mut lines = Lines::new(alloc, LEVEL);
+    lines.feed(first)?;
+    let None = lines.next_item(format, false)? else {
+        return Ok(false);
+    };
+    lines.feed(second)?;
+    match lines.next_item(format, false)? {
+        Some(item) => Ok(holds(&item, drawn)),
+        None => Ok(false),
+    }
+}
+
+/// Reads a text whole, and cut into two pieces at every byte.
+fn check_cuts(alloc: Global, format: u8, text: &[u8], drawn: &Drawn) -> Result<(), Fail> {
+    if !is_read(alloc, format, &[text], drawn)? {
+        return Err(Fail::from("read otherwise"));
+    }
+    for cut in 0..text.len() {
+        let first = &text[..cut];
+        let second = &text[cut..];
+        if !is_read(alloc, format, &[first, second], drawn)? {
+            return Err(Fail::from("cut otherwise"));
+        }
+        if !is_awaited(alloc, format, first, second, drawn)? {
+            return Err(Fail::from("given otherwise"));
+        }
+    }
+    Ok(())
+}
+
+fn next(state: u64) -> u64 {
+    state
+        .wrapping_mul(6_364_136_223_846_793_005)
+        .wrapping_add(1_442_695_040_888_963_407)
+}
+
+fn drawn_byte(state: u64) -> u8 {
+    ((state >> 33) % 256) as u8
+}
+
+fn push_digit(text: &mut Vec<u8>, digit: u8) -> Result<(), Fail> {
+    text.push(b"0123456789abcdef"[usize::from(digit % 16)])?;
+    Ok(())
+}
+
+/// The digits of a colour, and its two bytes.
+fn push_colour(
+    text: &mut Vec<u8>,
+    bytes: &mut Vec<u8>,
+    format: u8,
+    state: u64,
+) -> Result<(), Fail> {
+    let high = if format == 1 {
+        0
+    } else {
+        drawn_byte(state >> 8)
+    };
+    let low = drawn_byte(state);
+    if format != 1 {
+        push_digit(text, high / 16)?;
+        push_digit(text, high)?;
+    }
+    push_digit(text, low / 16)?;
+    push_digit(text, low)?;
+    bytes.push(high)?;
+    bytes.push(low)?;
+    Ok(())
+}
+
+/// Reads two rows of two colours each, which are drawn, and gives the state behind.
+fn check_rows(alloc: Global, format: u8, start: u64) -> Result<u64, Fail> {
+    let mut text = Vec::from_slice(alloc, b"raster a\n")?;
+    let mut bytes = Vec::new(alloc);
+    let mut state = start;
+    for i in 0..4_u32 {
+        state = next(state);
+        push_colour(&mut text, &mut bytes, format, state)?;
+        if i % 2 == 1 {
+            text.push(b'\n')?;
+        }
+    }
+    check_cuts(alloc, format, &text, &Drawn::Rows(bytes))?;
+    Ok(state)
+}
+
+#[test]
+fn reads_drawn_rows(rt: HostRuntime) -> Result<(), Fail> {
+    let mut state = 1;
+    for i in 0..200_u32 {
+        let format = if i % 2 == 0 { 1 } else { 2 };
+        state = check_rows(rt.alloc(), format, state)?;
+    }
+    Ok(())
+}
+
+/// Reads three list lines, which are drawn, and gives the state behind.
+fn check_points(alloc: Global, start: u64) -> Result<u64, Fail> {
+    let mut text = Vec::from_slice(alloc, b"scatter p 3\n")?;
+    let mut points = Vec::new(alloc);
+    let mut state = start;
+    for _ in 0..3_u32 {
+        state = next(state);
+        let x = u16::from(drawn_byte(state));
+        let y = u16::from(drawn_byte(state >> 8));
+        let label = u32::from(drawn_byte(state >> 16));
+        let line = format!(in alloc; "{x} {y} {label}\n")?;
+        text.extend_from_slice(line.as_bytes())?;
+        let at = Pixel { x, y };
+        points.push(Point { at, label })?;
+    }
+    check_cuts(alloc, 1, &text, &Drawn::Points(points))?;
+    Ok(state)
+}
+
+#[test]
+fn reads_drawn_list_lines(rt: HostRuntime) -> Result<(), Fail> {
+    let mut state = 1;
+    for _ in 0..200_u32 {
+        state = check_points(rt.alloc(), state)?;
+    }
+    Ok(())
+}
+
+/// Reads a ring line of three corners, which are drawn, and gives the state behind.
+fn check_ring(alloc: Global, start: u64) -> Result<u64, Fail> {
+    let mut text = Vec::from_slice(alloc, b"polygon a 2 1\n")?;
+    let mut corners = Vec::new(alloc);
+    let mut state = start;
+    for _ in 0..3_u32 {
+        state = next(state);
+        let x = u16::from(drawn_byte(state));
+        let y = u16::from(drawn_byte(state >> 8));
+        let words = format!(in alloc; "{x} {y} ")?;
+        text.extend_from_slice(words.as_bytes())?;
+        corners.push(Corner { x, y })?;
+    }
+    text.push(b'\n')?;
+    check_cuts(alloc, 1, &text, &Drawn::Ring(corners))?;
+    Ok(state)
+}
+
+#[test]
+fn reads_drawn_ring_lines(rt: HostRuntime) -> Result<(), Fail> {
+    let mut state = 1;
+    for _ in 0..200_u32 {
+        state = check_ring(rt.alloc(), state)?;
+    }
+    Ok(())
+}
+
+/// What the one item of a text asks for and holds none of.
+fn missing(alloc: Global, text: &[u8]) -> Result<&'static str, Fail> {
+    let items = items_in(alloc, LEVEL, 1, &[text])?;
+    match items.as_slice() {
+        [Item::Rows(_, None)] => Ok("rows"),
+        [Item::PointLines(_, None)] => Ok("points"),
+        [Item::RingLines(_, None)] => Ok("rings"),
+        _ => Ok("nothing"),
+    }
+}
+
+#[test]
+fn holds_none_where_a_line_is_missing(rt: HostRuntime) -> Result<(), Fail> {
+    let alloc = rt.alloc();
+    assert_eq!(rt; missing(alloc, b"raster a\n0001\n02")?, "rows");
+    assert_eq!(rt; missing(alloc, b"raster a\n0001\n")?, "rows");
+    assert_eq!(rt; missing(alloc, b"scatter p 2\n1 2 3\n")?, "points");
+    assert_eq!(rt; missing(alloc, b"polygon a 2 1\n1 2 3 4\n")?, "rings");
+    assert_eq!(rt; missing(alloc, b"polygon a 2 2\n1 2 3 4 5 6\n")?, "rings");
+    Ok(())
+}
+
+#[test]
+fn awaits_the_last_newline(rt: HostRuntime) -> Result<(), Fail> {
+    let alloc = rt.alloc();
+    let text = b"raster a\n0001\n0203";
+    let rows = Drawn::Rows(Vec::from_slice(alloc, &[0, 0, 0, 1, 0, 2, 0, 3])?);
+    assert!(rt; is_read(alloc, 1, &[text], &rows)?);
+    assert!(rt; whole_items_in(alloc, LEVEL, 1, text)?.is_empty());
+    Ok(())
+}
+
+/// The items of this line and of four lines behind it.
+fn items_before_four(alloc: Global, line: &[u8]) -> Result<Vec<Item>, Fail> {
+    let items = items_in(alloc, LEVEL, 1, &[line, b"\nw\nx\ny\nz\n"])?;
+    Ok(items)
+}
+
+#[test]
+fn asks_by_words(rt: HostRuntime) -> Result<(), Fail> {
+    let alloc = rt.alloc();
+    let rows = items_before_four(alloc, b"raster a")?;
+    assert!(rt; matches!(rows.first(), Some(Item::Rows(..))));
+    assert_eq!(rt; rows.len(), 3);
+    let points = items_before_four(alloc, b"scatter p 3")?;
+    assert!(rt; matches!(points.first(), Some(Item::PointLines(..))));
+    assert_eq!(rt; points.len(), 2);
+    let none = items_before_four(alloc, b"scatter p 0")?;
+    assert!(rt; matches!(none.first(), Some(Item::Line(_))));
+    assert_eq!(rt; none.len(), 5);
+    let rings = items_before_four(alloc, b"polygon a 1 2")?;
+    assert!(rt; matches!(rings.first(), Some(Item::RingLines(..))));
+    assert_eq!(rt; rings.len(), 3);
+    let few = items_before_four(alloc, b"polygon a 2")?;
+    assert!(rt; matches!(few.first(), Some(Item::Line(_))));
+    assert_eq!(rt; few.len(), 5);
+    Ok(())
+}
