@@ -5,13 +5,7 @@ ghost use Rattle.quilt_world.specs.declared.event.Event.TheVariants.{Wrote, Tore
 ghost use Rattle.quilt_edition.specs.Creating.{HasMapSize, IsBlank, Creates, IsCreated};
 
 use crate::pages::{header_page, label_page};
-use quilt_world::{Disk, Fault};
-
-/// The page of a file that is the label.
-const LABEL_AT: u32 = 0;
-
-/// The first home page of a file.
-const HEADER_AT: u32 = 3;
+use quilt_world::{Disk, Fault, HOME_AT, LABEL_AT};
 
 /// Writes a page, and makes sure that it is on the disk.
 fn write_synced<D: Disk>(disk: &mut D, i: u32, bytes: &[u8; 4096]) -> Result<(), Fault>
@@ -39,6 +33,6 @@ pub fn create<D: Disk>(disk: &mut D, level: u8) -> Result<(), Fault>
     ensures crash { Goes (Creates level) (D.told disk.old) (D.told disk.new) }
     ensures created { OnOk result (IfSome (D.told disk.new) (IsCreated level)) }
 {
-    write_synced(disk, HEADER_AT, &header_page(level))?;
+    write_synced(disk, HOME_AT, &header_page(level))?;
     write_synced(disk, LABEL_AT, &label_page())
 }

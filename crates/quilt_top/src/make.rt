@@ -9,7 +9,7 @@ use crate::orders::NewFile;
 use crate::output::put_all;
 use crate::run::End;
 use quilt_edition::create;
-use quilt_world::{Made, World};
+use quilt_world::{Made, World, file_pages};
 use std::alloc::{AllocError, Global};
 
 /// The line that tells of a new file.
@@ -30,7 +30,7 @@ fn make_map<W: World>(world: &mut W, path: &str, pages: u32, level: u8, line: &[
     ensures promises { WhereTold (KeepsPromises (Some (New path.now pages level)) (Rose (W.faults world.old) (W.faults world.new)) (W.door world.new) result)
         (W.told world.old) (W.told world.new) }
 {
-    let Ok(made) = world.make(path, 3 + 2 * pages) else {
+    let Ok(made) = world.make(path, file_pages(pages)) else {
         return End::Device;
     };
     match made {
