@@ -4,8 +4,7 @@ ghost use Rattle.quilt_node.specs.Pages as spec;
 ghost use Rattle.quilt_edition.specs.Creating.{empty_head};
 
 use quilt_node::{Head, header_bytes};
-
-const LABEL: [u8; 15] = *b"QUILT MAP FILE\n";
+use quilt_world::LABEL;
 
 /// A page that begins with these bytes, and is zeros behind them.
 fn page_of(front: &[u8]) -> [u8; 4096]

@@ -26,7 +26,7 @@ pub const HOME_AT: u32 = 3;
 pub const DIRECTORY_BYTES: usize = 3750;
 
 /// The bytes of the label before its zeros.
-const LABEL: [u8; 15] = *b"QUILT MAP FILE\n";
+pub const LABEL: [u8; 15] = *b"QUILT MAP FILE\n";
 
 /// The number of pages of a file with so many home pages, from 16 to 30000.
 pub fn file_pages(home_pages: u32) -> u32

@@ -11,7 +11,7 @@ pub use disk::{Disk, Door, Fault};
 pub use event::Event;
 pub use image::Image;
 pub use layout::{
-    DIRECTORY_AT, DIRECTORY_BYTES, GATE_AT, HOME_AT, LABEL_AT, LEAST_HOME_PAGES, MOST_HOME_PAGES,
-    PAGE_SIZE, file_pages, home_at, home_pages, is_label, slot_at,
+    DIRECTORY_AT, DIRECTORY_BYTES, GATE_AT, HOME_AT, LABEL, LABEL_AT, LEAST_HOME_PAGES,
+    MOST_HOME_PAGES, PAGE_SIZE, file_pages, home_at, home_pages, is_label, slot_at,
 };
 pub use world::{Attached, Made, World};
