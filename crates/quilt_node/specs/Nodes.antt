@@ -11,6 +11,7 @@ use Rattle.quilt_node.specs.declared.head.Head.{Head}
 use Rattle.quilt_node.specs.Pages.{Inner, IsHead, is_ascending, leaf_bytes, inner_bytes, short_at, word_at, record_at}
 use Rattle.quilt_types.specs.Plane.{below}
 
+-- the keys of the records, in their order
 abbrev pub keys_of : List Record → List Key
 keys_of rs = map (λ r. r.key) rs
 
