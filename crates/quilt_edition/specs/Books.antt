@@ -10,6 +10,7 @@ use Rattle.quilt_edition.specs.Publishing.{Publishing, IsPublished}
 use Rattle.quilt_edition.specs.declared.book.Book.{Book}
 
 module _ {W : Type 0} {D : disk.Ghosts W} where
+  -- the world whose disk holds the book's file
   abbrev pub world_of : Book W D → W
   world_of b = b.world
 
@@ -21,6 +22,7 @@ module _ {W : Type 0} {D : disk.Ghosts W} where
   abbrev pub last_of : Book W D → Head
   last_of b = b.last
 
+  -- the header of the work: its format, root, height and number of records count, and its number is not yet set
   abbrev pub work_of : Book W D → Head
   work_of b = b.work
 

@@ -32,6 +32,7 @@ pub record Keeps (n : ℕ) (oes nes : Entries) (oc nc : List Bool) (old new : Ta
   pub tries : Tries old new
   pub since : Since old new (HasHome n (published old n))
 
+-- They stand so again; the page has these bytes, and each other page of the work is as it was.
 pub record Changes (n : ℕ) (page : ℕ) (bytes : List ℕ) (oes nes : Entries) (oc nc : List Bool) (old new : Tale) : Type 0 where
   pub is : IsWork n nes nc new
   pub home : published new n ≡ published old n
