@@ -22,7 +22,7 @@ module _ {W : Type 0} {D : disk.Ghosts W} where
   abbrev pub last_of : Book W D → Head
   last_of b = b.last
 
-  -- the header of the work: its format, root, height and number of records count, and its number is not yet set
+  -- the header of the work: its format, level, root, height and number of records, under the number of the last edition
   abbrev pub work_of : Book W D → Head
   work_of b = b.work
 
