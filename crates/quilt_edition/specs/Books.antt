@@ -18,7 +18,7 @@ module _ {W : Type 0} {D : disk.Ghosts W} where
   abbrev pub pages_of : Book W D → ℕ
   pages_of b = b.journal.pages
 
-  -- what the header of the last edition says, and that of the work but for the number
+  -- what the header of the last edition says
   abbrev pub last_of : Book W D → Head
   last_of b = b.last
 

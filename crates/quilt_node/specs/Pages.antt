@@ -56,7 +56,7 @@ inner_bytes height children keys =
     filled page_size (filled 1024 (filled 8 (2 ∷ height ∷ to_be_bytes w16 (length children)) ++ flat_map (to_be_bytes w32) children)
     ++ flat_map key_bytes keys)
 
--- the numbers that stand in a page's bytes
+-- the number in the two bytes at a place, the high byte first
 abbrev pub short_at : List ℕ → ℕ → ℕ
 short_at bytes at = from_be_bytes w16 (slice_range bytes at (at + 2))
 
