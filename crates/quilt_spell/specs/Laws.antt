@@ -13,7 +13,8 @@ use Rattle.quilt_spell.specs.Stepping.{IsStep}
 use Rattle.quilt_spell.specs.Applying.{taken, given}
 
 -- what a command leaves, and what it counts
-pub record IsStepped (form n : ℕ) (layers : Map) (numbers : Numbering) (rs : List Record) (name : List ℕ) (number : ℕ) (new : Option Layer) (removed added : List Record) : Type 0 where
+pub record IsStepped (form n : ℕ) (layers : Map) (numbers : Numbering) (rs : List Record) (name : List ℕ) (number : ℕ) (new : Option Layer)
+    (removed added : List Record) : Type 0 where
   pub spelled : SpellsUnder form n (with_number numbers name number new) (given (taken rs removed) added) (with_layer layers name new)
   pub changed : changes n layers (with_layer layers name new) ≡ length removed + length added
   pub quota : records n (with_layer layers name new) + length removed ≡ length rs + length added
@@ -23,10 +24,11 @@ pub record IsStepped (form n : ℕ) (layers : Map) (numbers : Numbering) (rs : L
 abbrev pub StepLaw : Type 0
 StepLaw =
     (form n : ℕ) (layers : Map) (numbers : Numbering) (rs : List Record) (name : List ℕ) (number : ℕ) (new : Option Layer) (removed added : List Record)
-    → n ≤ 12 → SpellsUnder form n numbers rs layers → IsStep form n layers numbers name number new removed added → (finmap.get layers name ≡ None → new ≡ None → ⊥)
+    → n ≤ 12 → SpellsUnder form n numbers rs layers → IsStep form n layers numbers name number new removed added
+    → (finmap.get layers name ≡ None → new ≡ None → ⊥)
     → IsStepped form n layers numbers rs name number new removed added
 
--- the agreed word, and the handier one
+-- Records spell a map just where there is a numbering of its layers under which they spell it.
 abbrev pub SpellsLaw : Type 0
 SpellsLaw =
     (form n : ℕ) (rs : List Record) (layers : Map) → n ≤ 12
