@@ -1,5 +1,6 @@
 -- What is true of every leaf page and of every inner page, and where a key belongs in one.
-use Rattle.std.specs.Prelude.{◌≡◌, ℕ, suc, ◌<◌, ◌≤◌, ◌^◌, Bool, true, ◌&&◌, nat_le, nat_lt, if◌then◌else◌, ◌+◌, ◌*◌, List, ◌∷◌, map, length, take, drop, Some, slice_get, slice_index}
+use Rattle.std.specs.Prelude.{◌≡◌, ℕ, suc, ◌<◌, ◌≤◌, ◌^◌, Bool, true, ◌&&◌, nat_le, nat_lt, if◌then◌else◌, ◌+◌, ◌*◌, List, ◌∷◌, map, length, take, drop, Some}
+use Rattle.std.specs.Prelude.{slice_get, slice_index}
 use Rattle.std.specs.List.{list_all}
 use Rattle.std.specs.Ordering.{is_lt, is_le}
 use Rattle.quilt_record.specs.declared.key.Key.{Key}
