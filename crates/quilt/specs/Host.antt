@@ -5,6 +5,7 @@ use Rattle.quilt.specs.declared.host.State.TheVariants.{Shut, Ready, Made, Missi
 use Rattle.quilt_world.specs.declared.disk.Door.{Door}
 use Rattle.quilt_world.specs.declared.disk.Door.TheVariants as doors
 
+-- the door of a real world in each of its states
 abbrev pub door_of : State → Door
 door_of Shut = doors.Shut
 door_of (Ready file) = doors.Ready
@@ -22,6 +23,7 @@ pages_of Missing = 0
 pages_of Taken = 0
 pages_of Failed = 0
 
+-- where no file is ready or made, there is no page
 pub no_pages : (s : State) → door_of s ≢ doors.Ready → door_of s ≢ doors.Made → pages_of s ≡ 0
 no_pages Shut not_ready not_made = refl
 no_pages (Ready file) not_ready not_made = absurd (not_ready refl)

@@ -13,5 +13,6 @@ pub record AreFour (n : ℕ) (four : List Block) (whole : Block) : Type 0 where
 abbrev pub no_block : Block
 no_block = record { y = 0; x = 0; side = 0 }
 
+-- three blocks that are none, before the first block of a layer
 abbrev pub no_blocks : List Block
 no_blocks = no_block ∷ no_block ∷ no_block ∷ []

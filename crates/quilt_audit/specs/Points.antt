@@ -64,6 +64,7 @@ abbrev pub total : List Tally → ℕ
 total [] = 0
 total (t ∷ ts) = t.count + total ts
 
+-- three blocks and the next one behind them, which may be the four quarters of a block
 abbrev pub blocks_behind : List Tally → Block → List Block
 blocks_behind three b = map (λ t. t.block) three ++ b ∷ []
 
@@ -79,6 +80,7 @@ pub record IsTallied (form n : ℕ) (rs : List Record) (layer capacity : ℕ) (r
   pub due : (run.least ≡ 0)
       ⊎ ((w : Block) × AreFour n (blocks_behind run.recent run.last.block) w × (run.least + points_in points w ≡ capacity + 1 + run.last.count))
 
+-- no block with no point, which stands for one before the first
 abbrev pub no_tally : Tally
 no_tally = record { block = no_block; count = 0 }
 
@@ -129,6 +131,7 @@ abbrev pub IsIn : Block → Option Point → Type 0
 IsIn b None = Unit {0}
 IsIn b (Some p) = in_block b p.at ≡ true
 
+-- how many points a record has: one or none
 abbrev pub count_of : Option Point → ℕ
 count_of None = 0
 count_of (Some p) = 1

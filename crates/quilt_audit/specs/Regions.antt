@@ -26,6 +26,7 @@ pub record AreLaid (form n end : ℕ) (bs : List (Block × ℕ)) : Type 0 where
 abbrev pub nothing : Leaf
 nothing = record { block = no_block; colour = record { 0 = 0 } }
 
+-- three leaves that are none, before the first leaf of a layer
 abbrev pub no_leaves : List Leaf
 no_leaves = nothing ∷ nothing ∷ nothing ∷ []
 

@@ -7,6 +7,7 @@ use Rattle.quilt_record.specs.declared.record.Record.{Record}
 use Rattle.quilt_record.specs.Records.{key_cmp}
 use Rattle.quilt_record.specs.Lists.{has_key}
 
+-- the 16 bytes of the record's value, where there is a record
 abbrev pub value_in : Option Record → Option (List ℕ)
 value_in None = None
 value_in (Some r) = Some r.value

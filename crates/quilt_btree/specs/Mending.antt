@@ -72,6 +72,7 @@ pub record IsWritten (page : ℕ) (inner : Inner) (pages : List (List ℕ)) (now
   pub is : now_told ≡ Some (slice_set pages page bytes)
   pub inner_is : inner_of (length pages) bytes ≡ Some inner
 
+-- a store that tells its pages has this inner page at the page afterwards, and all other pages as before
 abbrev pub Writes : ℕ → Inner → Option (List (List ℕ)) → Option (List (List ℕ)) → Type 0
 Writes page inner told now_told = (pages : List (List ℕ)) → told ≡ Some pages → IsWritten page inner pages now_told
 

@@ -103,13 +103,16 @@ module _ (n : ℕ) (g : Grid) (r : ℕ) (le : n ≤ 12) (p : Pixel) where
       let qy = inside.1 in
       let held = held_code n b q block le (omega arith) (omega arith) (omega arith) (omega arith) w.2 w.3 in
       let coloured : is_coloured w.0 ≡ true = ap (λ c. not (eqb c 0)) (sym (leaf.colour.each q held)) ∙ t.0 in
-      let member = Contains-map (λ (z : Block × ℕ). z.0) (filter is_coloured (leaves_by_code n g)) w.0 (Contains-filter is_coloured (leaves_by_code n g) w.0 w.1 coloured) in
+      let member = Contains-map (λ (z : Block × ℕ). z.0) (filter is_coloured (leaves_by_code n g)) w.0
+      (Contains-filter is_coloured (leaves_by_code n g) w.0 w.1 coloured) in
       any_from (reaches r p) (blocks_with_colour (leaves_by_code n g)) b member (reaches-true r p b (held_near r b p q held (leb-true _ _ t.1)))
 
   pub near_leaves : near r (blocks_with_colour (leaves_by_code n g)) p ≡ cond (list_any (is_near n g r p) (pixels n)) 1 0
-  near_leaves = ap (λ t. cond {A = ℕ} t 1 0) (both_ways (list_any (reaches r p) (blocks_with_colour (leaves_by_code n g))) (list_any (is_near n g r p) (pixels n)) to_pixel to_leaf)
+  near_leaves = ap (λ t. cond {A = ℕ} t 1 0)
+      (both_ways (list_any (reaches r p) (blocks_with_colour (leaves_by_code n g))) (list_any (is_near n g r p) (pixels n)) to_pixel to_leaf)
 
 -- the grid of the pixels near the coloured leaves
 pub buffered_is : (n : ℕ) (g : Grid) (r : ℕ) → n ≤ 12 → grid_of n (near r (blocks_with_colour (leaves_by_code n g))) ≡ buffered n g r
 buffered_is n g r le =
-    grid_of-same n (near r (blocks_with_colour (leaves_by_code n g))) (λ p. cond (list_any (is_near n g r p) (pixels n)) 1 0) (λ p hx hy. near_leaves n g r le p)
+    grid_of-same n (near r (blocks_with_colour (leaves_by_code n g))) (λ p. cond (list_any (is_near n g r p) (pixels n)) 1 0)
+    (λ p hx hy. near_leaves n g r le p)

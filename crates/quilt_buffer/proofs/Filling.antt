@@ -16,7 +16,9 @@ pub positive : (k : ℕ) → eqb k 0 ≡ false → 0 < k
 positive zero e = absurd (true≢false e)
 positive (suc k) e = omega arith
 
-pub filled_by_all : (n r : ℕ) (square : Block) (blocks close : List Block) (old new : Painted) → n ≤ 12 → IsBlock n square → code_from square ≡ length old.colours → close ≡ filter (reaches_some r square) blocks → Adds n (near r close) (code_to square) old new → Adds n (near r blocks) (code_to square) old new
+pub filled_by_all : (n r : ℕ) (square : Block) (blocks close : List Block) (old new : Painted) → n ≤ 12 → IsBlock n square
+    → code_from square ≡ length old.colours → close ≡ filter (reaches_some r square) blocks → Adds n (near r close) (code_to square) old new
+    → Adds n (near r blocks) (code_to square) old new
 filled_by_all n r square blocks close old new le h next is a =
     let m = side_most n le in
     let ix = h.in_x in

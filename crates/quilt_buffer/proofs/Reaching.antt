@@ -1,5 +1,6 @@
 -- Pixels, squares and blocks within a distance of each other, and lists of which one passes a test.
-use Rattle.std.proofs.Common.{◌≡◌, ℕ, ◌+◌, ◌<◌, ◌≤◌, Bool, true, false, ◌&&◌, ◌||◌, ◌⊎◌, inl, inr, ⊎_elim, nat_le, nat_lt, List, [], ◌∷◌, length, filter, cond, refl, sym, ◌∙◌, ap, arith, Contains, le-leb, lt-ltb, leb-true, ltb-true}
+use Rattle.std.proofs.Common.{◌≡◌, ℕ, ◌+◌, ◌<◌, ◌≤◌, Bool, true, false, ◌&&◌, ◌||◌, ◌⊎◌, inl, inr, ⊎_elim, nat_le, nat_lt, List, [], ◌∷◌, length, filter, cond}
+use Rattle.std.proofs.Common.{refl, sym, ◌∙◌, ap, arith, Contains, le-leb, lt-ltb, leb-true, ltb-true}
 use Rattle.std.specs.List.{list_any}
 use Rattle.std.specs.Cmp.{both_ways}
 use Rattle.std.proofs.lemmas.Bool.{and_parts, and_from, cases_lt, true≢false, false_from_ne_true, cond-true, cond-false}
@@ -67,7 +68,8 @@ reaches_some-from r square b p h e =
 
 reaches_all-at : (r : ℕ) (square b : Block) (p : Pixel) → Holds square p → reaches_all r square b ≡ true → reaches r p b ≡ true
 reaches_all-at r square b p h e =
-    let f = four_parts (nat_le b.x (square.x + r)) (nat_le (square.x + square.side) (b.x + b.side + r)) (nat_le b.y (square.y + r)) (nat_le (square.y + square.side) (b.y + b.side + r)) e in
+    let f = four_parts (nat_le b.x (square.x + r)) (nat_le (square.x + square.side) (b.x + b.side + r)) (nat_le b.y (square.y + r))
+    (nat_le (square.y + square.side) (b.y + b.side + r)) e in
     let x1 = leb-true b.x (square.x + r) f.0 in
     let x2 = leb-true (square.x + square.side) (b.x + b.side + r) f.1 in
     let y1 = leb-true b.y (square.y + r) f.2 in
@@ -78,7 +80,8 @@ reaches_all-at r square b p h e =
 -- at one pixel some are all
 reaches_all-one : (r : ℕ) (square b : Block) → square.side ≡ 1 → reaches_some r square b ≡ true → reaches_all r square b ≡ true
 reaches_all-one r square b one e =
-    let f = four_parts (nat_lt b.x (square.x + square.side + r)) (nat_lt square.x (b.x + b.side + r)) (nat_lt b.y (square.y + square.side + r)) (nat_lt square.y (b.y + b.side + r)) e in
+    let f = four_parts (nat_lt b.x (square.x + square.side + r)) (nat_lt square.x (b.x + b.side + r)) (nat_lt b.y (square.y + square.side + r))
+    (nat_lt square.y (b.y + b.side + r)) e in
     let x1 = ltb-true b.x (square.x + square.side + r) f.0 in
     let x2 = ltb-true square.x (b.x + b.side + r) f.1 in
     let y1 = ltb-true b.y (square.y + square.side + r) f.2 in
@@ -106,7 +109,8 @@ module _ (r : ℕ) (square : Block) (blocks : List Block) where
       any_from (reaches r p) blocks m.0 (Contains-filter_from (reaches_some r square) blocks m.0 m.1).0 m.2)
       (λ e.
       let m = any_member (reaches r p) blocks e in
-      any_from (reaches r p) (filter (reaches_some r square) blocks) m.0 (Contains-filter (reaches_some r square) blocks m.0 m.1 (reaches_some-from r square m.0 p h m.2)) m.2))
+      any_from (reaches r p) (filter (reaches_some r square) blocks) m.0
+      (Contains-filter (reaches_some r square) blocks m.0 m.1 (reaches_some-from r square m.0 p h m.2)) m.2))
 
   -- where no block reaches the square, no pixel of it is near
   pub near_none : length (filter (reaches_some r square) blocks) ≡ 0 → (p : Pixel) → Holds square p → near r blocks p ≡ 0

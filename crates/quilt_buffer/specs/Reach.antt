@@ -10,11 +10,13 @@ reaches r p b = nat_le b.x (p.x + r) && nat_lt p.x (b.x + b.side + r) && nat_le 
 
 -- a pixel of the square is within r of the block
 abbrev pub reaches_some : ℕ → Block → Block → Bool
-reaches_some r square b = nat_lt b.x (square.x + square.side + r) && nat_lt square.x (b.x + b.side + r) && nat_lt b.y (square.y + square.side + r) && nat_lt square.y (b.y + b.side + r)
+reaches_some r square b = nat_lt b.x (square.x + square.side + r) && nat_lt square.x (b.x + b.side + r) && nat_lt b.y (square.y + square.side + r)
+    && nat_lt square.y (b.y + b.side + r)
 
 -- all pixels of the square are within r of the block
 abbrev pub reaches_all : ℕ → Block → Block → Bool
-reaches_all r square b = nat_le b.x (square.x + r) && nat_le (square.x + square.side) (b.x + b.side + r) && nat_le b.y (square.y + r) && nat_le (square.y + square.side) (b.y + b.side + r)
+reaches_all r square b = nat_le b.x (square.x + r) && nat_le (square.x + square.side) (b.x + b.side + r) && nat_le b.y (square.y + r)
+    && nat_le (square.y + square.side) (b.y + b.side + r)
 
 -- 1 where the pixel is within r of one of the blocks, and else 0
 abbrev pub near : ℕ → List Block → Pixel → ℕ

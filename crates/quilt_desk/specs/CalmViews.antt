@@ -20,6 +20,7 @@ disk_of c = c.disk
 abbrev pub room_of : Calm → ℕ
 room_of c = length c.disk
 
+-- the input that it gives
 abbrev pub source_of : Calm → Source
 source_of c = c.source
 

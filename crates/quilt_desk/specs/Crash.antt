@@ -12,6 +12,7 @@ page_filled byte = replicate 4096 byte
 
 -- ---- the last sync
 
+-- the event is a sync of the disk
 abbrev pub is_sync : Event → Bool
 is_sync (Took bytes) = false
 is_sync (Put bytes) = false
@@ -39,6 +40,7 @@ written_after page before Synced = before
 written_after page before (Took bytes) = before
 written_after page before (Put bytes) = before
 
+-- the bytes of the page's last whole write in a log, if it has one
 abbrev pub last_written : ℕ → Log → Option (List ℕ)
 last_written page log = fold (written_after page) None log
 

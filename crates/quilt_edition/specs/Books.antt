@@ -10,6 +10,7 @@ use Rattle.quilt_edition.specs.Publishing.{Publishing, IsPublished}
 use Rattle.quilt_edition.specs.declared.book.Book.{Book}
 
 module _ {W : Type 0} {D : disk.Ghosts W} where
+  -- the world whose disk holds the book's file
   abbrev pub world_of : Book W D → W
   world_of b = b.world
 
@@ -17,10 +18,11 @@ module _ {W : Type 0} {D : disk.Ghosts W} where
   abbrev pub pages_of : Book W D → ℕ
   pages_of b = b.journal.pages
 
-  -- what the header of the last edition says, and that of the work but for the number
+  -- what the header of the last edition says
   abbrev pub last_of : Book W D → Head
   last_of b = b.last
 
+  -- the header of the work: its format, level, root, height and number of records, under the number of the last edition
   abbrev pub work_of : Book W D → Head
   work_of b = b.work
 

@@ -27,6 +27,7 @@ WhileIdle Idle P = P
 WhileIdle Sealed P = Unit {0}
 WhileIdle Carried P = Unit {0}
 
+-- what an idle book keeps of a world that tells; nothing where it does not tell, or a publish failed behind its first write
 abbrev pub IsKeptBy : View → Entries → Head → Option Tale → Type 0
 IsKeptBy j es last (Some t) = WhileIdle j.state (IsBook j es last t)
 IsKeptBy j es last None = Unit {0}
@@ -37,15 +38,18 @@ IsKeptBy j es last None = Unit {0}
 unfoldable pub work_pages : View → Entries → Tale → Pages
 work_pages j es t = map (page_over es (work t j.pages j.changed)) (below j.pages)
 
+-- the pages of the work, where the journal is idle; none behind a publish that failed
 abbrev pub told_in : State → Pages → Option Pages
 told_in Idle pages = Some pages
 told_in Sealed pages = None
 told_in Carried pages = None
 
+-- the pages that a book tells as a store: those of the work, where the world tells and the journal is idle
 abbrev pub told_pages : View → Entries → Option Tale → Option Pages
 told_pages j es (Some t) = told_in j.state (work_pages j es t)
 told_pages j es None = None
 
+-- how many pages a world has read, where it tells
 abbrev pub reads_of : Option Tale → Option ℕ
 reads_of (Some t) = Some t.reads
 reads_of None = None

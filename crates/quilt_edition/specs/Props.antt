@@ -13,6 +13,7 @@ use Rattle.quilt_node.specs.Pages.{IsHead}
 use Rattle.quilt_pool.specs.Entries.{Entries, IsClean, AreBelow}
 use Rattle.quilt_edition.specs.Keeping.{IsBook, IsKeptBy, WhileIdle}
 
+-- there is one proof at most of how the gate stands
 pub GateIs-prop : (b : Bool) (t : Tale) → IsProp (GateIs b t)
 GateIs-prop b t =
     λ x y.
@@ -23,21 +24,27 @@ GateIs-prop b t =
     let both : u ≡ v = Σ_prop_path (λ (bytes : List ℕ). Prim.hlevel props) {u = u} {v = v} same in
     ap (λ (s : S). record { bytes = s.0; there = s.1.0; opens = s.1.1 }) both
 
+-- there is one proof at most that the journal is idle over the disk
 pub IsIdle-prop : (n : ℕ) (changed : List Bool) (t : Tale) → IsProp (IsIdle n changed t)
 IsIdle-prop n changed t = Prim.hlevel (props, GateIs-prop)
 
+-- there is one proof at most that the entries that are not dirty have the bytes of the pages
 pub IsClean-prop : (es : Entries) (pages : List (List ℕ)) → IsProp (IsClean es pages)
 IsClean-prop es pages = Prim.hlevel props
 
+-- there is one proof at most that all entries are of home pages other than the header
 pub AreBelow-prop : (n : ℕ) (es : Entries) → IsProp (AreBelow n es)
 AreBelow-prop n es = Prim.hlevel props
 
+-- there is one proof at most of what a book keeps of a disk
 pub IsBook-prop : (j : View) (es : Entries) (last : Head) (t : Tale) → IsProp (IsBook j es last t)
 IsBook-prop j es last t = Prim.hlevel (props, IsIdle-prop, IsClean-prop)
 
+-- there is one proof at most of what a book keeps of a world, told or not
 pub IsKeptBy-prop : (j : View) (es : Entries) (last : Head) (told : Option Tale) → IsProp (IsKeptBy j es last told)
 IsKeptBy-prop j es last None = Unit-prop
 IsKeptBy-prop j es last (Some t) = (elim j.state as (λ s. IsProp (WhileIdle s (IsBook j es last t))) [ Idle ↦ IsBook-prop j es last t | Sealed ↦ Unit-prop | Carried ↦ Unit-prop ])
 
+-- there is one proof at most that the numbers of a header are in their ranges
 pub IsHead-prop : (n : ℕ) (h : Head) → IsProp (IsHead n h)
 IsHead-prop n h = Prim.hlevel props

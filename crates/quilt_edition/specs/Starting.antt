@@ -31,6 +31,7 @@ pub record HasNoHeader (old new : Tale) : Type 0 where
   pub file : IsMapFile old.seen pages
   pub none : (h : Head) → IsHeader pages (header_page pages old.seen) h → ⊥
 
+-- The file is no map file: for no number of home pages has it the size and the label of one.
 pub record IsNoMapFile (old new : Tale) : Type 0 where
   pub none : (pages : ℕ) → IsMapFile old.seen pages → ⊥
 

@@ -44,10 +44,17 @@ module _ (pages : ℕ) (changed : List Bool) (o n : Tale) (adds : AddsOnly is_of
   kept : (state : State) → IsKept state pages changed o → IsKept state pages changed n
   kept Idle is = record { file = file is.file; gate = gate false is.gate; homes = homes (home_page o) (home_page n) home_same is.homes; slots = slots is.slots }
   kept Sealed is = record { file = file is.file; gate = gate true is.gate; work = has_work is.work }
-  kept Carried is = record { file = file is.file; gate = gate true is.gate; work = has_work is.work; homes = homes (work_page o pages changed) (work_page n pages changed) page_same is.homes }
+  kept Carried is =
+      record {
+        file = file is.file;
+        gate = gate true is.gate;
+        work = has_work is.work;
+        homes = homes (work_page o pages changed) (work_page n pages changed) page_same is.homes;
+      }
 
   -- each state is kept, and the pages are as they were
-  pub kept_text : (state : State) → IsKept state pages changed o → IsKept state pages changed n × (published n pages ≡ published o pages) × (work n pages changed ≡ work o pages changed)
+  pub kept_text : (state : State) → IsKept state pages changed o → IsKept state pages changed n × (published n pages ≡ published o pages)
+      × (work n pages changed ≡ work o pages changed)
   unfolding published work
   kept_text state is = (
     kept state is,

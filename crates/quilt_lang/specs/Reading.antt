@@ -52,6 +52,7 @@ abbrev pub IsCut : List ℕ → Option ℕ → Type 0
 IsCut bytes None = IsLine bytes
 IsCut bytes (Some k) = HasNewline bytes k
 
+-- the first of these lines is there, and begins no item
 abbrev pub first_is_silent : List (List ℕ) → Bool
 first_is_silent [] = false
 first_is_silent (l ∷ ls) = is_silent l
@@ -64,6 +65,7 @@ begins_silent text = first_is_silent (whole_lines text)
 abbrev pub alone : List ℕ → Group
 alone line = record { line = line; more = [] }
 
+-- there is a line
 abbrev pub is_some_line : List (List ℕ) → Bool
 is_some_line [] = false
 is_some_line (l ∷ ls) = true

@@ -91,33 +91,39 @@ module _ (segs : SegMap) (id : ℕ) (s : Seg) where
       among_from : (b : Block) → Contains met b → Contains (finset.items cover) b × (meets s (square b) ≡ true)
       among_from b c = (list.are b).0 c
 
-      add_on : (b : Block) (f : Fact) → Contains (finset.items cover) b → meets s (square b) ≡ true → Contains (added_on t now id s b) f → Contains (facts_added t segs id s met) f
+      add_on : (b : Block) (f : Fact) → Contains (finset.items cover) b → meets s (square b) ≡ true → Contains (added_on t now id s b) f
+          → Contains (facts_added t segs id s met) f
       add_on b f c e m =
           Contains-there (IsSegment id s) (flat_map (added_on t now id s) met) f
           (Contains-flat_map (added_on t now id s) met b f (among b c e) m)
 
-      remove_on : (b : Block) (f : Fact) → Contains (finset.items cover) b → meets s (square b) ≡ true → Contains (removed_on t segs now s b) f → Contains (facts_removed t segs id s met) f
+      remove_on : (b : Block) (f : Fact) → Contains (finset.items cover) b → meets s (square b) ≡ true → Contains (removed_on t segs now s b) f
+          → Contains (facts_removed t segs id s met) f
       remove_on b f c e m = Contains-flat_map (removed_on t segs now s) met b f (among b c e) m
 
       -- a fact on a quarter of a cut block comes
-      add_quarter : (b q : Block) (f : Fact) → Contains (finset.items cover) b → cut b ≡ true → Contains (quarters_of b) q → IsOnBlock now q f → Contains (facts_added t segs id s met) f
+      add_quarter : (b q : Block) (f : Fact) → Contains (finset.items cover) b → cut b ≡ true → Contains (quarters_of b) q → IsOnBlock now q f
+          → Contains (facts_added t segs id s met) f
       add_quarter b q f c e m o =
           add_on b f c (cut_says t now s b e).met
           (subst (λ (u : Bool). Contains (cond {A = List Fact} u (flat_map (line_facts now) (quarters_of b)) (IsMetBy b id ∷ [])) f) (sym e)
           (Contains-flat_map (line_facts now) (quarters_of b) q f m (block_on now q f o)))
 
       -- on a block that stays the one comes
-      add_here : (b : Block) → Contains (finset.items cover) b → meets s (square b) ≡ true → cut b ≡ false → Contains (facts_added t segs id s met) (IsMetBy b id)
+      add_here : (b : Block) → Contains (finset.items cover) b → meets s (square b) ≡ true → cut b ≡ false
+          → Contains (facts_added t segs id s met) (IsMetBy b id)
       add_here b c e f =
           add_on b (IsMetBy b id) c e
-          (subst (λ (u : Bool). Contains (cond {A = List Fact} u (flat_map (line_facts now) (quarters_of b)) (IsMetBy b id ∷ [])) (IsMetBy b id)) (sym f) (Contains-here (IsMetBy b id) []))
+          (subst (λ (u : Bool). Contains (cond {A = List Fact} u (flat_map (line_facts now) (quarters_of b)) (IsMetBy b id ∷ [])) (IsMetBy b id))
+          (sym f) (Contains-here (IsMetBy b id) []))
 
       remove_cut : (b : Block) (f : Fact) → Contains (finset.items cover) b → cut b ≡ true → IsOnBlock segs b f → Contains (facts_removed t segs id s met) f
       remove_cut b f c e o =
           remove_on b f c (cut_says t now s b e).met
           (subst (λ (u : Bool). Contains (cond {A = List Fact} u (line_facts segs b) (none_on segs b)) f) (sym e) (block_on segs b f o))
 
-      remove_none : (b : Block) → Contains (finset.items cover) b → meets s (square b) ≡ true → cut b ≡ false → ((q : ℕ) → IsMet segs b q → ⊥) → Contains (facts_removed t segs id s met) (IsMetByNone b)
+      remove_none : (b : Block) → Contains (finset.items cover) b → meets s (square b) ≡ true → cut b ≡ false → ((q : ℕ) → IsMet segs b q → ⊥)
+          → Contains (facts_removed t segs id s met) (IsMetByNone b)
       remove_none b c e f none =
           remove_on b (IsMetByNone b) c e
           (subst (λ (u : Bool). Contains (cond {A = List Fact} u (line_facts segs b) (none_on segs b)) (IsMetByNone b)) (sym f) (none_on_has segs b none))
@@ -232,7 +238,11 @@ module _ (segs : SegMap) (id : ℕ) (s : Seg) where
           (λ no.
           ⊎_elim
           (λ e. remove_none b l.0 e no l.1)
-          (λ e. absurd (away (after_stays n t now cover s h b l.0 no, λ i m. ⊎_elim (λ w. both_ways (meets s (square b)) e w.1) (λ w. l.1 i w) (met_now b i m))))
+          (λ e. absurd (away (
+            after_stays n t now cover s h b l.0 no,
+            λ i m. ⊎_elim (λ w. both_ways (meets s (square b)) e w.1) (λ w. l.1 i w)
+                (met_now b i m),
+          )))
           (cases_Bool (meets s (square b))))
           (cases_Bool (cut b))
       goes (HasColour b colour) l away = absurd l

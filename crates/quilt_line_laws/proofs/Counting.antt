@@ -1,5 +1,6 @@
 -- Counts of segments and of facts at a removal.
-use Rattle.std.proofs.Common.{◌≡◌, ◌↔◌, ℕ, ◌≤◌, Bool, true, false, cond, not, ◌||◌, List, [], ◌∷◌, ◌++◌, map, filter, flat_map, length, length-append, eqb, refl, sym, ap, ap₂, ◌∙◌, subst, arith, Contains}
+use Rattle.std.proofs.Common.{◌≡◌, ◌↔◌, ℕ, ◌≤◌, Bool, true, false, cond, not, ◌||◌, List, [], ◌∷◌, ◌++◌, map, filter, flat_map, length, length-append, eqb}
+use Rattle.std.proofs.Common.{refl, sym, ap, ap₂, ◌∙◌, subst, arith, Contains}
 use Rattle.std.specs.FinMap as finmap
 use Rattle.std.proofs.lemmas.Bool.{both_ways}
 use Rattle.std.proofs.lemmas.List.{length-map}
@@ -14,7 +15,8 @@ use Rattle.quilt_types.specs.Segments.{square, meets}
 use Rattle.quilt_types.specs.Quadtrees.{segs_meeting}
 use Rattle.quilt_types.specs.Facts.{Fact, IsMetBy, IsMetByNone, or_none, line_facts}
 use Rattle.quilt_spell.specs.Apart.{Apart}
-use Rattle.quilt_loc.proofs.Members.{Contains-nil, Contains-here, Contains-there, Contains-map, Contains-map_from, Contains-filter, Contains-filter_from, Contains-flat_map}
+use Rattle.quilt_loc.proofs.Members.{Contains-nil, Contains-here, Contains-there, Contains-map, Contains-map_from, Contains-filter, Contains-filter_from}
+use Rattle.quilt_loc.proofs.Members.{Contains-flat_map}
 use Rattle.quilt_spell.proofs.Lists.{Apart-filter, Apart-map, Apart-le, same_length}
 use Rattle.quilt_loc.proofs.Quartered.{quarters_are, IsBlock-whole}
 use Rattle.quilt_line_laws.proofs.Merges.{IsBlockCover}
@@ -43,7 +45,8 @@ module _ (segs : SegMap) (b : Block) where
   unfolding first ids_of
   ids_apart =
       Apart-map first (filter (meeting b) (finmap.entries segs))
-      (λ d e cd ce same. same_entry segs d e (Contains-filter_from (meeting b) (finmap.entries segs) d cd).0 (Contains-filter_from (meeting b) (finmap.entries segs) e ce).0 same)
+      (λ d e cd ce same. same_entry segs d e (Contains-filter_from (meeting b) (finmap.entries segs) d cd).0
+      (Contains-filter_from (meeting b) (finmap.entries segs) e ce).0 same)
       (Apart-filter (meeting b) (finmap.entries segs) (entries_apart segs))
 
   pub ids_are : (id : ℕ) → Contains (ids_of segs b) id ↔ IsMet segs b id
@@ -53,7 +56,8 @@ module _ (segs : SegMap) (b : Block) where
         let e = Contains-map_from first (filter (meeting b) (finmap.entries segs)) id c in
         let k = Contains-filter_from (meeting b) (finmap.entries segs) e.0 e.1 in
         (e.0.1, ap (finmap.get segs) (sym e.2) ∙ got segs e.0 k.0, k.1),
-    λ m. Contains-map first (filter (meeting b) (finmap.entries segs)) (id, m.0) (Contains-filter (meeting b) (finmap.entries segs) (id, m.0) (entry segs id m.0 m.1) m.2),
+    λ m. Contains-map first (filter (meeting b) (finmap.entries segs)) (id, m.0)
+        (Contains-filter (meeting b) (finmap.entries segs) (id, m.0) (entry segs id m.0 m.1) m.2),
   )
 
   ids_number : length (ids_of segs b) ≡ segs_meeting segs b
@@ -69,7 +73,8 @@ count_law segs b ids apart are =
 module _ (n t : ℕ) (segs : SegMap) (cover : BlockSet) (s : Seg) (h : IsBlockCover n cover) (others : SegMap) (id : ℕ) where
   -- through a block that is none of the set and has four quarters that are one
   through_quarters : (k : ℕ) (b : Block) → IsBlock n b → b.side ≡ side (ℕ.suc k)
-      → ((r : Block) → Contains (quarters_of b) r → IsBlock n r → r.side ≡ side k → IsMet others r id → (c : Block) × Contains (blocks_in cover k r) c × IsMet others c id)
+      → ((r : Block) → Contains (quarters_of b) r → IsBlock n r → r.side ≡ side k → IsMet others r id
+      → (c : Block) × Contains (blocks_in cover k r) c × IsMet others c id)
       → IsMet others b id → (c : Block) × Contains (flat_map (blocks_in cover k) (quarters_of b)) c × IsMet others c id
   through_quarters k b hb e below m =
       let big : IsBig t segs s n k b = record { block = hb; size = e } in
@@ -79,7 +84,8 @@ module _ (n t : ℕ) (segs : SegMap) (cover : BlockSet) (s : Seg) (h : IsBlockCo
       (r.0, Contains-flat_map (blocks_in cover k) (quarters_of b) q.0 r.0 q.1 r.1, r.2)
 
   through_by : (k : ℕ) (b : Block) → IsBlock n b → b.side ≡ side (ℕ.suc k) → is_one t segs cover s (ℕ.suc k) b ≡ true
-      → ((r : Block) → IsBlock n r → r.side ≡ side k → is_one t segs cover s k r ≡ true → IsMet others r id → (c : Block) × Contains (blocks_in cover k r) c × IsMet others c id)
+      → ((r : Block) → IsBlock n r → r.side ≡ side k → is_one t segs cover s k r ≡ true → IsMet others r id
+      → (c : Block) × Contains (blocks_in cover k r) c × IsMet others c id)
       → (u : Bool) → finset.contains cover b ≡ u → IsMet others b id
       → (c : Block) × Contains (cond {A = List Block} u (b ∷ []) (flat_map (blocks_in cover k) (quarters_of b))) c × IsMet others c id
   through_by k b hb e o below true eu m = (b, Contains-here b [], m)
@@ -87,11 +93,13 @@ module _ (n t : ℕ) (segs : SegMap) (cover : BlockSet) (s : Seg) (h : IsBlockCo
       let is = becomes_says n t segs cover s k b (subst (λ (z : Bool). (z || becomes_one t segs cover s k b) ≡ true) eu o) in
       through_quarters k b hb e (λ r c hr er x. below r hr er (is.all r c) x) m
 
-  pub through : (k : ℕ) (b : Block) → IsBlock n b → b.side ≡ side k → is_one t segs cover s k b ≡ true → IsMet others b id → (c : Block) × Contains (blocks_in cover k b) c × IsMet others c id
+  pub through : (k : ℕ) (b : Block) → IsBlock n b → b.side ≡ side k → is_one t segs cover s k b ≡ true → IsMet others b id
+      → (c : Block) × Contains (blocks_in cover k b) c × IsMet others c id
   through ℕ.zero b hb e o m = (b, Contains-here b [], m)
   through (ℕ.suc k) b hb e o m = through_by k b hb e o (λ r hr er u x. through k r hr er u x) (finset.contains cover b) refl m
 
-  pub through_back : (k : ℕ) (b : Block) → IsBlock n b → b.side ≡ side k → is_one t segs cover s k b ≡ true → (c : Block) → Contains (blocks_in cover k b) c → IsMet others c id → IsMet others b id
+  pub through_back : (k : ℕ) (b : Block) → IsBlock n b → b.side ≡ side k → is_one t segs cover s k b ≡ true → (c : Block)
+      → Contains (blocks_in cover k b) c → IsMet others c id → IsMet others b id
   through_back k b hb e o c m x =
       let w = (blocks_in_law n t segs cover s h k b c hb e o).0 m in (x.0, x.1, meets_within x.0 c b w.0 x.2)
 
@@ -114,21 +122,25 @@ going_merged t segs cover s k q false true true a b c xs ys = refl
 going_merged t segs cover s k q false false v a b c xs ys = absurd (both_ways false refl b)
 going_merged t segs cover s k q false true false a b c xs ys = absurd (both_ways false refl c)
 
-pub quarter_gone : (n t : ℕ) (segs : SegMap) (cover : BlockSet) (s : Seg) (k : ℕ) (q : Block) → is_one t segs cover s k q ≡ true → blocks_in cover k q ≡ gone_of_quarter t segs cover s k q
+pub quarter_gone : (n t : ℕ) (segs : SegMap) (cover : BlockSet) (s : Seg) (k : ℕ) (q : Block) → is_one t segs cover s k q ≡ true
+    → blocks_in cover k q ≡ gone_of_quarter t segs cover s k q
 quarter_gone n t segs cover s ℕ.zero q o = sym (ap (λ (u : Bool). cond {A = List Block} u (q ∷ []) []) o)
 quarter_gone n t segs cover s (ℕ.suc k) q o = by_case (finset.contains cover q) refl
   where
     by_case : (u : Bool) → finset.contains cover q ≡ u
-        → cond {A = List Block} u (q ∷ []) (flat_map (blocks_in cover k) (quarters_of q)) ≡ cond {A = List Block} u (q ∷ []) (going_in t segs cover s (ℕ.suc k) q)
+        → cond {A = List Block} u (q ∷ []) (flat_map (blocks_in cover k) (quarters_of q))
+        ≡ cond {A = List Block} u (q ∷ []) (going_in t segs cover s (ℕ.suc k) q)
     by_case true e = refl
     by_case false e =
         let one : becomes_one t segs cover s k q ≡ true = subst (λ (z : Bool). (z || becomes_one t segs cover s k q) ≡ true) e o in
-        sym (going_merged t segs cover s k q (finset.contains cover q) (meets s (square q)) (becomes_one t segs cover s k q) e (becomes_says n t segs cover s k q one).met one
+        sym (going_merged t segs cover s k q (finset.contains cover q) (meets s (square q)) (becomes_one t segs cover s k q) e
+        (becomes_says n t segs cover s k q one).met one
         (flat_map (blocks_in cover k) (quarters_of q)) (flat_map (going_in t segs cover s k) (quarters_of q)))
 
 pub merged_law : MergedLaw
 merged_law t segs cover s k b e =
-    flat_map_same (blocks_in cover k) (gone_of_quarter t segs cover s k) (quarters_of b) (λ q c. quarter_gone 0 t segs cover s k q ((becomes_says 0 t segs cover s k b e).all q c))
+    flat_map_same (blocks_in cover k) (gone_of_quarter t segs cover s k) (quarters_of b)
+    (λ q c. quarter_gone 0 t segs cover s k q ((becomes_says 0 t segs cover s k b e).all q c))
 
 -- ---- how many facts there are
 at_most : (none : Fact) (fs : List Fact) (k : ℕ) → length fs ≤ k → 1 ≤ k → length (or_none none fs) ≤ k
@@ -166,14 +178,16 @@ module _ (segs : SegMap) where
       omega arith
 
 -- the facts on a block are no more than those on blocks of which each segment that meets it meets one
-pub block_fewer : (now segs : SegMap) (b : Block) (cs : List Block) (c : Block) → Contains cs c → ((id : ℕ) → IsMet now b id → (d : Block) × Contains cs d × IsMet segs d id)
+pub block_fewer : (now segs : SegMap) (b : Block) (cs : List Block) (c : Block) → Contains cs c
+    → ((id : ℕ) → IsMet now b id → (d : Block) × Contains cs d × IsMet segs d id)
     → length (line_facts now b) ≤ length (flat_map (line_facts segs) cs)
 block_fewer now segs b cs c m each =
     let few = Apart-le (ids_of now b) (flat_map (ids_of segs) cs) (ids_apart now b)
     (λ id x. let w = each id ((ids_are now b id).0 x) in Contains-flat_map (ids_of segs) cs w.0 id w.1 ((ids_are segs w.0 id).1 w.2)) in
     let p = pairs now b in
     let l = ids_fewer segs cs in
-    at_most (IsMetByNone b) (map (met_by b) (filter (meeting b) (finmap.entries now))) (length (flat_map (line_facts segs) cs)) (omega arith) (some_facts segs cs c m)
+    at_most (IsMetByNone b) (map (met_by b) (filter (meeting b) (finmap.entries now))) (length (flat_map (line_facts segs) cs)) (omega arith)
+    (some_facts segs cs c m)
 
 -- by quarters
 sum_fewer : (now segs : SegMap) (f g : Block → List Block) (qs : List Block)
@@ -189,12 +203,17 @@ sum_fewer now segs f g (q ∷ qs) h =
     let d = length-append (flat_map (line_facts segs) (g q)) (flat_map (line_facts segs) (flat_map g qs)) in
     omega arith
 
-module _ (n t : ℕ) (now segs : SegMap) (cover : BlockSet) (s : Seg) (h : IsBlockCover n cover) (weaker : (b : Block) (id : ℕ) → IsMet now b id → IsMet segs b id) where
+module _ (n t : ℕ) (now segs : SegMap) (cover : BlockSet) (s : Seg) (h : IsBlockCover n cover) (weaker : (b : Block) (id : ℕ)
+    → IsMet now b id → IsMet segs b id) where
   fewer_by : (k : ℕ) (b : Block) → IsBlock n b → b.side ≡ side (ℕ.suc k)
-      → ((r : Block) → IsBlock n r → r.side ≡ side k → length (flat_map (line_facts now) (coming_in t now cover s k r)) ≤ length (flat_map (line_facts segs) (going_in t now cover s k r)))
+      → ((r : Block) → IsBlock n r → r.side ≡ side k
+      → length (flat_map (line_facts now) (coming_in t now cover s k r)) ≤ length (flat_map (line_facts segs) (going_in t now cover s k r)))
       → (u v : Bool) → becomes_one t now cover s k b ≡ v
-      → length (flat_map (line_facts now) (cond {A = List Block} u [] (cond {A = List Block} v (b ∷ []) (flat_map (coming_in t now cover s k) (quarters_of b)))))
-      ≤ length (flat_map (line_facts segs) (cond {A = List Block} u [] (cond {A = List Block} v (flat_map (blocks_in cover k) (quarters_of b)) (flat_map (going_in t now cover s k) (quarters_of b)))))
+      → length (flat_map (line_facts now)
+      (cond {A = List Block} u [] (cond {A = List Block} v (b ∷ []) (flat_map (coming_in t now cover s k) (quarters_of b)))))
+      ≤ length (flat_map (line_facts segs)
+      (cond {A = List Block} u []
+      (cond {A = List Block} v (flat_map (blocks_in cover k) (quarters_of b)) (flat_map (going_in t now cover s k) (quarters_of b)))))
   fewer_by k b hb e below true v ev = omega arith
   fewer_by k b hb e below false true ev =
       let is = becomes_says n t now cover s k b ev in
@@ -204,7 +223,8 @@ module _ (n t : ℕ) (now segs : SegMap) (cover : BlockSet) (s : Seg) (h : IsBlo
       let i = quarters_are n b q hb lt (is_first b) in
       let eq = smaller t now s n k b q big (is_first b) in
       let c = one_inside n t now cover s k q i.block eq (is.all q (is_first b)) in
-      let some = Contains-flat_map (blocks_in cover k) (quarters_of b) q c.0 (is_first b) ((blocks_in_law n t now cover s h k q c.0 i.block eq (is.all q (is_first b))).1 (c.2, c.1)) in
+      let some = Contains-flat_map (blocks_in cover k) (quarters_of b) q c.0 (is_first b)
+      ((blocks_in_law n t now cover s h k q c.0 i.block eq (is.all q (is_first b))).1 (c.2, c.1)) in
       let a = length-append (line_facts now b) [] in
       let w = block_fewer now segs b (flat_map (blocks_in cover k) (quarters_of b)) c.0 some
       (λ id m.

@@ -1,5 +1,6 @@
 -- Covers of the square by blocks, and that cutting blocks into quarters leaves a cover.
-use Rattle.std.proofs.Common.{◌≡◌, ℕ, ◌^◌, ◌<◌, ◌≤◌, Bool, true, false, cond, ◌&&◌, List, [], ◌∷◌, flat_map, count_by, eqb, nat_lt, refl, sym, ◌∙◌, subst, arith, Contains, ⊎_elim, eqb-true, eq-eqb, ltb-true, pow-suc}
+use Rattle.std.proofs.Common.{◌≡◌, ℕ, ◌^◌, ◌<◌, ◌≤◌, Bool, true, false, cond, ◌&&◌, List, [], ◌∷◌, flat_map, count_by, eqb, nat_lt, refl, sym, ◌∙◌, subst}
+use Rattle.std.proofs.Common.{arith, Contains, ⊎_elim, eqb-true, eq-eqb, ltb-true, pow-suc}
 use Rattle.std.proofs.lemmas.Bool.{and_parts}
 use Rattle.quilt_types.specs.declared.plane.Pixel.{Pixel}
 use Rattle.quilt_types.specs.declared.plane.Block.{Block}
@@ -23,14 +24,16 @@ use Rattle.quilt_line_laws.proofs.SetLaws.{items-from_list, keys_once}
 -- exactly one block of the set holds each pixel, in words
 pub record IsCover (n : ℕ) (cover : BlockSet) : Type 0 where
   pub holder : (p : Pixel) → p.x < 2 ^ n → p.y < 2 ^ n → (b : Block) × Contains (sets.items cover) b × Holds b p
-  pub one : (p : Pixel) → p.x < 2 ^ n → p.y < 2 ^ n → (a b : Block) → Contains (sets.items cover) a → Holds a p → Contains (sets.items cover) b → Holds b p → a ≡ b
+  pub one : (p : Pixel) → p.x < 2 ^ n → p.y < 2 ^ n → (a b : Block) → Contains (sets.items cover) a → Holds a p
+      → Contains (sets.items cover) b → Holds b p → a ≡ b
 
 abbrev holds_one : BlockSet → Pixel → Bool
 holds_one cover p = eqb (count_by (λ b. in_block b p) (sets.items cover)) 1
 
 pub IsCover-from : (n : ℕ) (cover : BlockSet) → is_cover n cover ≡ true → IsCover n cover
 IsCover-from n cover h =
-    let at = λ (p : Pixel) (hx : p.x < 2 ^ n) (hy : p.y < 2 ^ n). eqb-true (count_by (λ b. in_block b p) (sets.items cover)) 1 (list_all-at (holds_one cover) (pixels n) p h (Contains-pixels n p hx hy)) in
+    let at = λ (p : Pixel) (hx : p.x < 2 ^ n) (hy : p.y < 2 ^ n). eqb-true (count_by (λ b. in_block b p) (sets.items cover)) 1
+    (list_all-at (holds_one cover) (pixels n) p h (Contains-pixels n p hx hy)) in
     record {
       holder = λ p hx hy. let r = once_some (λ b. in_block b p) (sets.items cover) (at p hx hy) in (r.0, r.1, Holds-from r.0 p r.2);
       one = λ p hx hy a b ca ha cb hb. once_same (λ b. in_block b p) (sets.items cover) a b (at p hx hy) ca (in_block-true a p ha) cb (in_block-true b p hb);
@@ -45,11 +48,13 @@ is_cover-true n cover h =
     (λ a b ca ta cb tb. h.one p i.0 i.1 a b ca (Holds-from a p ta) cb (Holds-from b p tb))))
 
 -- each block is cut into its quarters, or stays
-module _ (n : ℕ) (cut : Block → Bool) (cover : BlockSet) (blocks_only : (b : Block) → Contains (sets.items cover) b → IsBlock n b) (wide : (b : Block) → cut b ≡ true → 1 < b.side) where
+module _ (n : ℕ) (cut : Block → Bool) (cover : BlockSet) (blocks_only : (b : Block) → Contains (sets.items cover) b → IsBlock n b)
+    (wide : (b : Block) → cut b ≡ true → 1 < b.side) where
   abbrev pieces : Block → List Block
   pieces b = cond (cut b) (quarters_of b) (b ∷ [])
 
-  cut_piece : (b q : Block) → IsBlock n b → 1 < b.side → Contains (quarters_of b) q → IsBlock n q × Within q b × ((r : Block) (p : Pixel) → Contains (quarters_of b) r → Holds q p → Holds r p → q ≡ r)
+  cut_piece : (b q : Block) → IsBlock n b → 1 < b.side → Contains (quarters_of b) q
+      → IsBlock n q × Within q b × ((r : Block) (p : Pixel) → Contains (quarters_of b) r → Holds q p → Holds r p → q ≡ r)
   cut_piece b q hb w c =
       let i = quarters_are n b q hb w c in
       let half = i.half in
@@ -69,7 +74,8 @@ module _ (n : ℕ) (cut : Block → Bool) (cover : BlockSet) (blocks_only : (b :
       )
 
   -- a pixel of the block lies in a piece
-  in_piece : (b : Block) (p : Pixel) → IsBlock n b → p.x < 2 ^ n → p.y < 2 ^ n → Holds b p → (t : Bool) → cut b ≡ t → (q : Block) × Contains (cond t (quarters_of b) (b ∷ [])) q × Holds q p
+  in_piece : (b : Block) (p : Pixel) → IsBlock n b → p.x < 2 ^ n → p.y < 2 ^ n → Holds b p → (t : Bool) → cut b ≡ t
+      → (q : Block) × Contains (cond t (quarters_of b) (b ∷ [])) q × Holds q p
   in_piece b p hb hx hy h true e = at hb.level hb.low hb.size
     where
       at : (l : ℕ) → l ≤ n → b.side ≡ 2 ^ l → (q : Block) × Contains (quarters_of b) q × Holds q p
@@ -101,9 +107,11 @@ module _ (n : ℕ) (cut : Block → Bool) (cover : BlockSet) (blocks_only : (b :
       }
 
 -- after a segment came the blocks are a cover still
-pub after_add-cover : (n t : ℕ) (segs : SegMap) (cover : BlockSet) (s : Seg) → ((b : Block) → Contains (sets.items cover) b → Contains (blocks n) b) → is_cover n cover ≡ true → is_cover n (after_add t segs cover s) ≡ true
+pub after_add-cover : (n t : ℕ) (segs : SegMap) (cover : BlockSet) (s : Seg) → ((b : Block) → Contains (sets.items cover) b → Contains (blocks n) b)
+    → is_cover n cover ≡ true → is_cover n (after_add t segs cover s) ≡ true
 unfolding after_add
 after_add-cover n t segs cover s only h =
     is_cover-true n (after_add t segs cover s) (cut_cover n (is_split t segs s) cover (λ b c. IsBlock-from n b (only b c))
-    (λ b e. ltb-true 1 b.side (and_parts (meets s (square b)) (nat_lt 1 b.side) (and_parts (meets s (square b) && nat_lt 1 b.side) (nat_lt t (segs_meeting segs b)) e).0).1)
+    (λ b e. ltb-true 1 b.side
+    (and_parts (meets s (square b)) (nat_lt 1 b.side) (and_parts (meets s (square b) && nat_lt 1 b.side) (nat_lt t (segs_meeting segs b)) e).0).1)
     (IsCover-from n cover h))

@@ -1,5 +1,6 @@
 -- The blocks after an addition: quarters of those that are cut, and all others.
-use Rattle.std.proofs.Common.{◌≡◌, ℕ, ◌<◌, ◌⊎◌, Bool, true, false, cond, ◌&&◌, List, [], ◌∷◌, flat_map, nat_lt, refl, sym, ap, ◌∙◌, subst, inl, inr, ⊎_elim, arith, Contains, ltb-true}
+use Rattle.std.proofs.Common.{◌≡◌, ℕ, ◌<◌, ◌⊎◌, Bool, true, false, cond, ◌&&◌, List, [], ◌∷◌, flat_map, nat_lt, refl, sym, ap, ◌∙◌, subst, inl, inr, ⊎_elim}
+use Rattle.std.proofs.Common.{arith, Contains, ltb-true}
 use Rattle.std.proofs.lemmas.Bool.{and_parts, both_ways}
 use Rattle.quilt_types.specs.Sets as sets
 use Rattle.quilt_types.specs.declared.plane.Block.{Block}
@@ -17,13 +18,15 @@ use Rattle.quilt_line_laws.proofs.SetLaws.{items-from_list}
 use Rattle.quilt_line_laws.proofs.Merges.{IsBlockCover}
 
 -- two blocks of a cover, of which one lies in the other
-pub one_of : (n : ℕ) (cover : BlockSet) (a b : Block) → IsBlockCover n cover → Contains (sets.items cover) a → Contains (sets.items cover) b → Holds b (corner a) → a ≡ b
+pub one_of : (n : ℕ) (cover : BlockSet) (a b : Block) → IsBlockCover n cover → Contains (sets.items cover) a → Contains (sets.items cover) b
+    → Holds b (corner a) → a ≡ b
 one_of n cover a b h ca cb on =
     let ha = h.only a ca in
     h.covers.one (corner a) ha.in_x ha.in_y a b ca (Holds-corner n a ha) cb on
 
 -- no quarter of a block of a cover is one of its blocks
-pub fresh : (n : ℕ) (cover : BlockSet) (b q : Block) → IsBlockCover n cover → Contains (sets.items cover) b → 1 < b.side → Contains (quarters_of b) q → Contains (sets.items cover) q → ⊥
+pub fresh : (n : ℕ) (cover : BlockSet) (b q : Block) → IsBlockCover n cover → Contains (sets.items cover) b → 1 < b.side → Contains (quarters_of b) q
+    → Contains (sets.items cover) q → ⊥
 fresh n cover b q h cb wide c cq =
     let i = quarters_are n b q (h.only b cb) wide c in
     let half = i.half in
@@ -48,7 +51,8 @@ module _ (n t : ℕ) (now : SegMap) (cover : BlockSet) (s : Seg) (h : IsBlockCov
   pieces b = cond (is_split t now s b) (quarters_of b) (b ∷ [])
 
   abbrev Origin : Block → Type 0
-  Origin q = ((b : Block) × Contains (sets.items cover) b × (is_split t now s b ≡ true) × Contains (quarters_of b) q) ⊎ (Contains (sets.items cover) q × (is_split t now s q ≡ false))
+  Origin q = ((b : Block) × Contains (sets.items cover) b × (is_split t now s b ≡ true) × Contains (quarters_of b) q)
+      ⊎ (Contains (sets.items cover) q × (is_split t now s q ≡ false))
 
   origin : (b q : Block) → Contains (sets.items cover) b → (u : Bool) → is_split t now s b ≡ u → Contains (cond u (quarters_of b) (b ∷ [])) q → Origin q
   origin b q cb true e c = inl (b, cb, e, c)
@@ -64,9 +68,11 @@ module _ (n t : ℕ) (now : SegMap) (cover : BlockSet) (s : Seg) (h : IsBlockCov
 
   after_piece : (b q : Block) → Contains (sets.items cover) b → Contains (pieces b) q → Contains (sets.items (after_add t now cover s)) q
   unfolding after_add
-  after_piece b q cb c = (items-from_list block_total block_same (flat_map pieces (sets.items cover)) q).1 (Contains-flat_map pieces (sets.items cover) b q cb c)
+  after_piece b q cb c =
+      (items-from_list block_total block_same (flat_map pieces (sets.items cover)) q).1 (Contains-flat_map pieces (sets.items cover) b q cb c)
 
-  pub after_quarter : (b q : Block) → Contains (sets.items cover) b → is_split t now s b ≡ true → Contains (quarters_of b) q → Contains (sets.items (after_add t now cover s)) q
+  pub after_quarter : (b q : Block) → Contains (sets.items cover) b → is_split t now s b ≡ true → Contains (quarters_of b) q
+      → Contains (sets.items (after_add t now cover s)) q
   after_quarter b q cb e c = after_piece b q cb (subst (λ (u : Bool). Contains (cond u (quarters_of b) (b ∷ [])) q) (sym e) c)
 
   pub after_stays : (b : Block) → Contains (sets.items cover) b → is_split t now s b ≡ false → Contains (sets.items (after_add t now cover s)) b

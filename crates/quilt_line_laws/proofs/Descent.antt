@@ -1,5 +1,6 @@
 -- The descent over quarters finds the blocks that a removal makes, those that it takes, and those that stay.
-use Rattle.std.proofs.Common.{◌≡◌, ℕ, ◌*◌, ◌^◌, ◌<◌, ◌≤◌, ◌↔◌, Bool, true, false, cond, not, ◌&&◌, ◌||◌, List, [], ◌∷◌, flat_map, refl, sym, ap, ◌∙◌, subst, ⊎_elim, arith, Contains}
+use Rattle.std.proofs.Common.{◌≡◌, ℕ, ◌*◌, ◌^◌, ◌<◌, ◌≤◌, ◌↔◌, Bool, true, false, cond, not, ◌&&◌, ◌||◌, List, [], ◌∷◌, flat_map, refl, sym, ap, ◌∙◌, subst}
+use Rattle.std.proofs.Common.{⊎_elim, arith, Contains}
 use Rattle.std.proofs.lemmas.Bool.{and_parts, and_from, or_cases, or_left, cases_Bool, cases_lt, both_ways, not-true, not_from_false}
 use Rattle.quilt_types.specs.Sets as sets
 use Rattle.quilt_types.specs.declared.plane.Block.{Block}
@@ -112,7 +113,8 @@ module _ (n t : ℕ) (segs : SegMap) (cover : BlockSet) (s : Seg) (h : IsBlockCo
       )
 
   -- what of a list over quarters there is in the block
-  pub quarterly : (k : ℕ) (b q : Block) (f : Block → List Block) (P : Block → Type 0) → IsBlock n b → b.side ≡ side (ℕ.suc k) → (P q → IsBlock n q) → (P q → q ≡ b → ⊥)
+  pub quarterly : (k : ℕ) (b q : Block) (f : Block → List Block) (P : Block → Type 0) → IsBlock n b → b.side ≡ side (ℕ.suc k)
+      → (P q → IsBlock n q) → (P q → q ≡ b → ⊥)
       → ((r : Block) → Contains (quarters_of b) r → IsBlock n r → r.side ≡ side k → parent_of r ≡ b → Contains (f r) q ↔ (Within q r × P q))
       → Contains (flat_map f (quarters_of b)) q ↔ (Within q b × P q)
   quarterly k b q f P hb e blocks_only differ each =
@@ -150,7 +152,8 @@ module _ (n t : ℕ) (segs : SegMap) (cover : BlockSet) (s : Seg) (h : IsBlockCo
 
   blocks_step : (k : ℕ) (b q : Block) → IsBlock n b → b.side ≡ side (ℕ.suc k) → one (ℕ.suc k) b ≡ true
       → ((r : Block) → IsBlock n r → r.side ≡ side k → one k r ≡ true → Contains (blocks_in cover k r) q ↔ (Within q r × Old q))
-      → (u : Bool) → sets.contains cover b ≡ u → Contains (cond {A = List Block} u (b ∷ []) (flat_map (blocks_in cover k) (quarters_of b))) q ↔ (Within q b × Old q)
+      → (u : Bool) → sets.contains cover b ≡ u → Contains (cond {A = List Block} u (b ∷ []) (flat_map (blocks_in cover k) (quarters_of b))) q
+      ↔ (Within q b × Old q)
   blocks_step k b q hb e o below true u = itself b q (held b u)
   blocks_step k b q hb e o below false u =
       quarterly k b q (blocks_in cover k) Old hb e (λ c. h.only q c) (λ c same. off b q u c same)
@@ -222,7 +225,8 @@ module _ (n t : ℕ) (segs : SegMap) (cover : BlockSet) (s : Seg) (h : IsBlockCo
 
   pub goes_on : (k : ℕ) (b : Block) → (sets.contains cover b || not (meets s (square b))) ≡ false → sets.contains cover b ≡ false
   goes_on k b e =
-      ⊎_elim (λ u. absurd (both_ways (sets.contains cover b || not (meets s (square b))) e (or_left (sets.contains cover b) (not (meets s (square b))) u))) (λ u. u)
+      ⊎_elim (λ u. absurd (both_ways (sets.contains cover b || not (meets s (square b))) e
+      (or_left (sets.contains cover b) (not (meets s (square b))) u))) (λ u. u)
       (cases_Bool (sets.contains cover b))
 
   becomes_new : (k : ℕ) (b : Block) → IsFree (ℕ.suc k) b → becomes_one t segs cover s k b ≡ true → New b
@@ -231,7 +235,8 @@ module _ (n t : ℕ) (segs : SegMap) (cover : BlockSet) (s : Seg) (h : IsBlockCo
   come_step : (k : ℕ) (b q : Block) → IsFree (ℕ.suc k) b
       → ((r : Block) → IsFree k r → Contains (coming_in t segs cover s k r) q ↔ (Within q r × Comes q))
       → (u v : Bool) → (sets.contains cover b || not (meets s (square b))) ≡ u → becomes_one t segs cover s k b ≡ v
-      → Contains (cond {A = List Block} u [] (cond {A = List Block} v (b ∷ []) (flat_map (coming_in t segs cover s k) (quarters_of b)))) q ↔ (Within q b × Comes q)
+      → Contains (cond {A = List Block} u [] (cond {A = List Block} v (b ∷ []) (flat_map (coming_in t segs cover s k) (quarters_of b)))) q
+      ↔ (Within q b × Comes q)
   come_step k b q g below true v eu ev = none q b Comes (λ w c. stop_comes (ℕ.suc k) b q g eu w c)
   come_step k b q g below false true eu ev =
       let nb = becomes_new k b g ev in
@@ -246,18 +251,22 @@ module _ (n t : ℕ) (segs : SegMap) (cover : BlockSet) (s : Seg) (h : IsBlockCo
 
   pub come_law : (k : ℕ) (b q : Block) → IsFree k b → Contains (coming_in t segs cover s k b) q ↔ (Within q b × Comes q)
   come_law ℕ.zero b q g = none q b Comes (λ w c. c.1 (tiny_old b q g c.0 w))
-  come_law (ℕ.suc k) b q g = come_step k b q g (λ r f. come_law k r q f) (sets.contains cover b || not (meets s (square b))) (becomes_one t segs cover s k b) refl refl
+  come_law (ℕ.suc k) b q g =
+      come_step k b q g (λ r f. come_law k r q f) (sets.contains cover b || not (meets s (square b))) (becomes_one t segs cover s k b) refl refl
 
   go_step : (k : ℕ) (b q : Block) → IsFree (ℕ.suc k) b
       → ((r : Block) → IsFree k r → Contains (going_in t segs cover s k r) q ↔ (Within q r × Goes q))
       → (u v : Bool) → (sets.contains cover b || not (meets s (square b))) ≡ u → becomes_one t segs cover s k b ≡ v
-      → Contains (cond {A = List Block} u [] (cond {A = List Block} v (flat_map (blocks_in cover k) (quarters_of b)) (flat_map (going_in t segs cover s k) (quarters_of b)))) q ↔ (Within q b × Goes q)
+      → Contains (cond {A = List Block} u []
+      (cond {A = List Block} v (flat_map (blocks_in cover k) (quarters_of b)) (flat_map (going_in t segs cover s k) (quarters_of b)))) q
+      ↔ (Within q b × Goes q)
   go_step k b q g below true v eu ev = none q b Goes (λ w c. stop_goes (ℕ.suc k) b q g eu w c)
   go_step k b q g below false true eu ev =
       let nb = becomes_new k b g ev in
       let u = goes_on k b eu in
       let m = becomes_says n t segs cover s k b ev in
-      let law = quarterly k b q (blocks_in cover k) Old g.block g.size (λ c. h.only q c) (λ c same. off b q u c same) (λ r c hr er _. blocks_in_law k r q hr er (m.all r c)) in (
+      let law = quarterly k b q (blocks_in cover k) Old g.block g.size (λ c. h.only q c) (λ c same. off b q u c same)
+      (λ r c hr er _. blocks_in_law k r q hr er (m.all r c)) in (
         λ c. let w = law.0 c in (w.0, (w.1, λ x. off b q u w.1 (one_new q b x nb w.0))),
         λ w. law.1 (w.0, w.1.0),
       )
@@ -268,7 +277,8 @@ module _ (n t : ℕ) (segs : SegMap) (cover : BlockSet) (s : Seg) (h : IsBlockCo
 
   pub go_law : (k : ℕ) (b q : Block) → IsFree k b → Contains (going_in t segs cover s k b) q ↔ (Within q b × Goes q)
   go_law ℕ.zero b q g = none q b Goes (λ w c. c.1 (tiny_new b q g c.0 w))
-  go_law (ℕ.suc k) b q g = go_step k b q g (λ r f. go_law k r q f) (sets.contains cover b || not (meets s (square b))) (becomes_one t segs cover s k b) refl refl
+  go_law (ℕ.suc k) b q g =
+      go_step k b q g (λ r f. go_law k r q f) (sets.contains cover b || not (meets s (square b))) (becomes_one t segs cover s k b) refl refl
 
   stay_here : (k : ℕ) (b q : Block) → IsFree k b → Old b → meets s (square b) ≡ true → Contains (b ∷ []) q ↔ (Within q b × Stays q)
   stay_here k b q g cb m = (
@@ -279,7 +289,8 @@ module _ (n t : ℕ) (segs : SegMap) (cover : BlockSet) (s : Seg) (h : IsBlockCo
   stay_unmet : (b q : Block) → meets s (square b) ≡ false → Within q b → Stays q → ⊥
   stay_unmet b q f w c = both_ways (meets s (square b)) f (meets_within s q b w c.2)
 
-  stay_tiny : (b q : Block) → IsFree 0 b → (u : Bool) → (sets.contains cover b && meets s (square b)) ≡ u → Contains (cond {A = List Block} u (b ∷ []) []) q ↔ (Within q b × Stays q)
+  stay_tiny : (b q : Block) → IsFree 0 b → (u : Bool) → (sets.contains cover b && meets s (square b)) ≡ u
+      → Contains (cond {A = List Block} u (b ∷ []) []) q ↔ (Within q b × Stays q)
   stay_tiny b q g true e = let w = and_parts (sets.contains cover b) (meets s (square b)) e in stay_here 0 b q g (held b w.0) w.1
   stay_tiny b q g false e =
       none q b Stays
@@ -292,7 +303,8 @@ module _ (n t : ℕ) (segs : SegMap) (cover : BlockSet) (s : Seg) (h : IsBlockCo
   stay_step : (k : ℕ) (b q : Block) → IsFree (ℕ.suc k) b
       → ((r : Block) → IsFree k r → Contains (staying_in t segs cover s k r) q ↔ (Within q r × Stays q))
       → (m u v : Bool) → not (meets s (square b)) ≡ m → sets.contains cover b ≡ u → becomes_one t segs cover s k b ≡ v
-      → Contains (cond {A = List Block} m [] (cond {A = List Block} u (b ∷ []) (cond {A = List Block} v [] (flat_map (staying_in t segs cover s k) (quarters_of b))))) q ↔ (Within q b × Stays q)
+      → Contains (cond {A = List Block} m []
+      (cond {A = List Block} u (b ∷ []) (cond {A = List Block} v [] (flat_map (staying_in t segs cover s k) (quarters_of b))))) q ↔ (Within q b × Stays q)
   stay_step k b q g below true u v em eu ev = none q b Stays (λ w c. stay_unmet b q (not-true (meets s (square b)) em) w c)
   stay_step k b q g below false true v em eu ev =
       stay_here (ℕ.suc k) b q g (held b eu)
@@ -312,10 +324,12 @@ module _ (n t : ℕ) (segs : SegMap) (cover : BlockSet) (s : Seg) (h : IsBlockCo
   pub all_free : IsFree n (whole n)
   all_free = record { block = IsBlock-whole n; size = refl; free = λ lt _. absurd (omega arith) }
 
-  pub coming_are : (q : Block) → Contains (coming_in t segs cover s n (whole n)) q ↔ (Contains (sets.items (after_remove n t segs cover s)) q × (Contains (sets.items cover) q → ⊥))
+  pub coming_are : (q : Block) → Contains (coming_in t segs cover s n (whole n)) q
+      ↔ (Contains (sets.items (after_remove n t segs cover s)) q × (Contains (sets.items cover) q → ⊥))
   coming_are q = let w = come_law n (whole n) q all_free in (λ c. (w.0 c).1, λ c. w.1 (Within-whole n q (later_cover.only q c.0), c))
 
-  pub going_are : (q : Block) → Contains (going_in t segs cover s n (whole n)) q ↔ (Contains (sets.items cover) q × (Contains (sets.items (after_remove n t segs cover s)) q → ⊥))
+  pub going_are : (q : Block) → Contains (going_in t segs cover s n (whole n)) q
+      ↔ (Contains (sets.items cover) q × (Contains (sets.items (after_remove n t segs cover s)) q → ⊥))
   going_are q = let w = go_law n (whole n) q all_free in (λ c. (w.0 c).1, λ c. w.1 (Within-whole n q (h.only q c.0), c))
 
   pub staying_are : (q : Block) → Contains (staying_in t segs cover s n (whole n)) q

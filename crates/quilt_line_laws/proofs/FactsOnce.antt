@@ -75,7 +75,8 @@ module _ (n t : ℕ) (segs : SegMap) (cover : BlockSet) (id : ℕ) (s : Seg) (h 
 
   -- where a fact that comes is
   place : (b : Block) (f : Fact) → Contains (finset.items cover) b → (u : Bool) → is_split t now s b ≡ u
-      → Contains (cond {A = List Fact} u (flat_map (line_facts now) (quarters_of b)) (IsMetBy b id ∷ [])) f → (q : Block) × IsOf q f × IsBlock n q × Holds b (corner q)
+      → Contains (cond {A = List Fact} u (flat_map (line_facts now) (quarters_of b)) (IsMetBy b id ∷ [])) f → (q : Block) × IsOf q f × IsBlock n q
+      × Holds b (corner q)
   place b f cb true e c =
       let q = Contains-flat_map_from (line_facts now) (quarters_of b) f c in
       let i = quarters_are n b q.0 (h.only b cb) (cut_says t now s b e).wide q.1 in
@@ -84,7 +85,8 @@ module _ (n t : ℕ) (segs : SegMap) (cover : BlockSet) (id : ℕ) (s : Seg) (h 
       let same = ⊎_elim (λ w. w) (λ d. absurd (Contains-nil f d)) (Contains-cons_cases (IsMetBy b id) [] f c) in
       (b, subst (IsOf b) same refl, h.only b cb, Holds-corner n b (h.only b cb))
 
-  add_each : (b : Block) → Contains (finset.items cover) b → (u : Bool) → is_split t now s b ≡ u → Apart (cond {A = List Fact} u (flat_map (line_facts now) (quarters_of b)) (IsMetBy b id ∷ []))
+  add_each : (b : Block) → Contains (finset.items cover) b → (u : Bool) → is_split t now s b ≡ u
+      → Apart (cond {A = List Fact} u (flat_map (line_facts now) (quarters_of b)) (IsMetBy b id ∷ []))
   add_each b cb true e = facts_on_apart now (quarters_of b) (quarters_apart n b (h.only b cb) (cut_says t now s b e).wide)
   add_each b cb false e = (λ c. Contains-nil (IsMetBy b id) c, tt)
 
@@ -126,7 +128,8 @@ lost_meeting id b = IsMetBy b id
 lost_block : (id : ℕ) (a b : Block) → IsMetBy a id ≡ IsMetBy b id → a ≡ b
 lost_block id a b e = one_block a b (IsMetBy b id) (subst (IsOf a) e refl) refl
 
-module _ (segs : SegMap) (id : ℕ) (s : Seg) (cover later : BlockSet) (coming going staying : List Block) (change : IsChange cover later s coming going staying) where
+module _ (segs : SegMap) (id : ℕ) (s : Seg) (cover later : BlockSet) (coming going staying : List Block)
+    (change : IsChange cover later s coming going staying) where
   abbrev rest : SegMap
   rest = finmap.remove segs id
 

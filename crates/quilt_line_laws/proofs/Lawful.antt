@@ -35,7 +35,8 @@ abbrev Inside : ℕ → ℕ × Seg → Type 0
 Inside n e = is_in_square n e.1 ≡ true
 
 -- of an entry of a map with one more
-entry_cases : (segs : SegMap) (id : ℕ) (s : Seg) (e : ℕ × Seg) → Contains (finmap.entries (finmap.insert segs id s)) e → ((e.0 ≡ id) × (e.1 ≡ s)) ⊎ Contains (finmap.entries segs) e
+entry_cases : (segs : SegMap) (id : ℕ) (s : Seg) (e : ℕ × Seg) → Contains (finmap.entries (finmap.insert segs id s)) e
+    → ((e.0 ≡ id) × (e.1 ≡ s)) ⊎ Contains (finmap.entries segs) e
 entry_cases segs id s e c =
     let now = finmap.insert segs id s in
     let g = got now e c in
@@ -62,14 +63,17 @@ added_law n t segs cover id s h small inside =
     let k = cover_of n t segs cover h in
     let later = after_add t now cover s in
     let blocks_are : (b : Block) → Contains (finset.items later) b → IsBlock n b =
-    λ b c. ⊎_elim (λ w. (quarters_are n w.0 b (k.only w.0 w.1) (cut_says t now s w.0 w.2).wide w.3).block) (λ w. k.only b w.0) (after_from n t now cover s k b c) in
+    λ b c. ⊎_elim (λ w. (quarters_are n w.0 b (k.only w.0 w.1) (cut_says t now s w.0 w.2).wide w.3).block) (λ w. k.only b w.0)
+    (after_from n t now cover s k b c) in
     record {
       least = h.least;
       most = h.most;
       ids = each Small (finmap.entries now)
-          (λ e c. ⊎_elim (λ w. subst (λ (z : ℕ). z < 2 ^ 32) (sym w.0) small) (λ w. All-contains Small (finmap.entries segs) e h.ids w) (entry_cases segs id s e c));
+          (λ e c. ⊎_elim (λ w. subst (λ (z : ℕ). z < 2 ^ 32) (sym w.0) small) (λ w. All-contains Small (finmap.entries segs) e h.ids w)
+          (entry_cases segs id s e c));
       inside = each (Inside n) (finmap.entries now)
-          (λ e c. ⊎_elim (λ w. subst (λ (z : Seg). is_in_square n z ≡ true) (sym w.1) inside) (λ w. All-contains (Inside n) (finmap.entries segs) e h.inside w) (entry_cases segs id s e c));
+          (λ e c. ⊎_elim (λ w. subst (λ (z : Seg). is_in_square n z ≡ true) (sym w.1) inside)
+          (λ w. All-contains (Inside n) (finmap.entries segs) e h.inside w) (entry_cases segs id s e c));
       each = each (Contains (blocks n)) (finset.items later) (λ b c. Contains-blocks n b (blocks_are b c));
       once = after_add-cover n t now cover s (λ b c. Contains-blocks n b (k.only b c)) h.once;
     }

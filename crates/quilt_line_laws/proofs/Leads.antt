@@ -29,14 +29,16 @@ module _ (form n : ℕ) (name : List ℕ) (number : ℕ) (le : n ≤ 12) (least 
   test : Fact → Bool
   test f = not (is_among (facts n b) f)
 
-  half : (fs : List Fact) → ((f : Fact) → Contains fs f ↔ IsAlone (facts n a) (facts n b) f) → SameMembers (map rec fs) (records_alone n name number (Some a) (Some b))
+  half : (fs : List Fact) → ((f : Fact) → Contains fs f ↔ IsAlone (facts n a) (facts n b) f)
+      → SameMembers (map rec fs) (records_alone n name number (Some a) (Some b))
   unfolding test
   half fs are r = (
     λ c.
         let f = Contains-map_from rec fs r c in
         let w = (are f.0).0 f.1 in
         subst (Contains (records_alone n name number (Some a) (Some b))) f.2
-        (Contains-map rec (filter test (facts n a)) f.0 (Contains-filter test (facts n a) f.0 w.0 (not_from (is_among (facts n b) f.0) (λ t. w.1 (among_from (facts n b) f.0 t))))),
+        (Contains-map rec (filter test (facts n a)) f.0
+        (Contains-filter test (facts n a) f.0 w.0 (not_from (is_among (facts n b) f.0) (λ t. w.1 (among_from (facts n b) f.0 t))))),
     λ c.
         let f = Contains-map_from rec (filter test (facts n a)) r c in
         let w = Contains-filter_from test (facts n a) f.0 f.1 in
@@ -51,7 +53,8 @@ module _ (form n : ℕ) (name : List ℕ) (number : ℕ) (le : n ≤ 12) (least 
 
 -- the facts that one layer alone has, each once, and those of the other, as records
 pub plan_leads : (form n : ℕ) (name : List ℕ) (number : ℕ) → n ≤ 12 → 1 ≤ number → (a b : Layer) → IsLayer form n a → IsLayer form n b → (gone come : List Fact)
-    → ((f : Fact) → Contains gone f ↔ IsAlone (facts n a) (facts n b) f) → Apart gone → ((f : Fact) → Contains come f ↔ IsAlone (facts n b) (facts n a) f) → Apart come
+    → ((f : Fact) → Contains gone f ↔ IsAlone (facts n a) (facts n b) f) → Apart gone
+    → ((f : Fact) → Contains come f ↔ IsAlone (facts n b) (facts n a) f) → Apart come
     → LeadsTo n name number (Some a) (Some b) (map (record_of n (capacity_of a) name number) gone) (map (record_of n (capacity_of b) name number) come)
 plan_leads form n name number le least a b ha hb gone come g og c oc = record {
   remove = half form n name number le least a b ha gone g;
@@ -64,7 +67,8 @@ pub add_leads : AddLeads
 add_leads n t name number segs cover id s met le least h new list small inside =
     let apart = add_once_law n t segs cover id s met h new list in
     plan_leads 1 n name number le least (Lines t segs cover) (with_seg t segs cover id s) h (added_law n t segs cover id s h small inside)
-    (facts_removed t segs id s met) (facts_added t segs id s met) (λ f. (add_law n t segs cover id s met h new list f).1) apart.1 (λ f. (add_law n t segs cover id s met h new list f).0) apart.0
+    (facts_removed t segs id s met) (facts_added t segs id s met) (λ f. (add_law n t segs cover id s met h new list f).1) apart.1
+    (λ f. (add_law n t segs cover id s met h new list f).0) apart.0
 
 pub remove_leads : RemoveLeads
 remove_leads n t name number segs cover id s le least h had =

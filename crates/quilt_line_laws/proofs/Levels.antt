@@ -1,5 +1,6 @@
 -- The blocks after a removal, side by side from the smallest up, are those that the descent finds.
-use Rattle.std.proofs.Common.{◌≡◌, ℕ, ◌+◌, ◌/◌, ◌^◌, ◌<◌, ◌≤◌, ◌⊎◌, ◌↔◌, Bool, true, ◌&&◌, List, fold, eqb, nat_le, refl, sym, ap, ◌∙◌, subst, inl, inr, ⊎_elim, arith, Contains, pow_pos, pow-suc, eqb-true, eq-eqb}
+use Rattle.std.proofs.Common.{◌≡◌, ℕ, ◌+◌, ◌/◌, ◌^◌, ◌<◌, ◌≤◌, ◌⊎◌, ◌↔◌, Bool, true, ◌&&◌, List, fold, eqb, nat_le, refl, sym, ap, ◌∙◌, subst, inl, inr, ⊎_elim}
+use Rattle.std.proofs.Common.{arith, Contains, pow_pos, pow-suc, eqb-true, eq-eqb}
 use Rattle.std.specs.List.{list_all, range_with_len}
 use Rattle.std.proofs.lemmas.Bool.{and_parts, and_from, or_cases, or_left, or_right, cases_lt}
 use Rattle.std.proofs.lemmas.Nat.{pow_below}
@@ -61,7 +62,8 @@ module _ (n t : ℕ) (segs : SegMap) (cover : BlockSet) (s : Seg) where
   pub becomes_from : (k : ℕ) (b : Block) → Becomes t segs cover s k b → becomes_one t segs cover s k b ≡ true
   becomes_from k b m =
       and_from (meets s (square b) && list_all (is_one t segs cover s k) (quarters_of b)) (nat_le (segs_meeting segs b) t)
-      (and_from (meets s (square b)) (list_all (is_one t segs cover s k) (quarters_of b)) m.met (list_all-from (is_one t segs cover s k) (quarters_of b) m.all)) m.few
+      (and_from (meets s (square b)) (list_all (is_one t segs cover s k) (quarters_of b)) m.met
+      (list_all-from (is_one t segs cover s k) (quarters_of b) m.all)) m.few
 
   pub one_cases : (k : ℕ) (b : Block) → one (ℕ.suc k) b ≡ true → Contains (sets.items cover) b ⊎ Becomes t segs cover s k b
   one_cases k b e =

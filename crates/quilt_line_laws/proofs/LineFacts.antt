@@ -1,5 +1,6 @@
 -- The facts of a line layer, by look-ups and membership.
-use Rattle.std.proofs.Common.{◌≡◌, ◌↔◌, ◌⊎◌, ℕ, Bool, true, false, List, [], ◌∷◌, ◌++◌, map, filter, flat_map, length, eqb, eqb-true, eq-eqb, cond, Some, refl, sym, ◌∙◌, subst, inl, inr, ⊎_elim, arith, Contains}
+use Rattle.std.proofs.Common.{◌≡◌, ◌↔◌, ◌⊎◌, ℕ, Bool, true, false, List, [], ◌∷◌, ◌++◌, map, filter, flat_map, length, eqb, eqb-true, eq-eqb, cond, Some, refl}
+use Rattle.std.proofs.Common.{sym, ◌∙◌, subst, inl, inr, ⊎_elim, arith, Contains}
 use Rattle.std.specs.FinMap as finmap
 use Rattle.std.specs.FinMap.{nat_cmp-IsAntisymmetric}
 use Rattle.std.specs.Ordering.{nat_cmp}
@@ -13,7 +14,8 @@ use Rattle.quilt_types.specs.Layers.{Lines, SegMap, BlockSet}
 use Rattle.quilt_types.specs.Segments.{square, meets}
 use Rattle.quilt_types.specs.Quadtrees.{segs_meeting}
 use Rattle.quilt_types.specs.Facts.{Fact, IsOfKind, HasColour, HoldsPoint, HoldsNoPoint, IsSegment, IsMetBy, IsMetByNone, or_none, line_facts, facts}
-use Rattle.quilt_loc.proofs.Members.{Contains-nil, Contains-here, Contains-there, Contains-cons_cases, Contains-map, Contains-map_from, Contains-filter, Contains-filter_from, Contains-flat_map, Contains-flat_map_from}
+use Rattle.quilt_loc.proofs.Members.{Contains-nil, Contains-here, Contains-there, Contains-cons_cases, Contains-map, Contains-map_from, Contains-filter}
+use Rattle.quilt_loc.proofs.Members.{Contains-filter_from, Contains-flat_map, Contains-flat_map_from}
 use Rattle.quilt_spell.proofs.Maps.{entry_from_get, get_from_entry}
 use Rattle.quilt_line_laws.specs.Lines.{IsMet, IsLineFact, IsOnBlock, none_on}
 
@@ -53,7 +55,8 @@ module _ (segs : SegMap) (b : Block) where
 
   met_member : (id : ℕ) → IsMet segs b id → Contains (map (met_by b) (filter (meeting b) (finmap.entries segs))) (IsMetBy b id)
   met_member id m =
-      Contains-map (met_by b) (filter (meeting b) (finmap.entries segs)) (id, m.0) (Contains-filter (meeting b) (finmap.entries segs) (id, m.0) (entry segs id m.0 m.1) m.2)
+      Contains-map (met_by b) (filter (meeting b) (finmap.entries segs)) (id, m.0)
+      (Contains-filter (meeting b) (finmap.entries segs) (id, m.0) (entry segs id m.0 m.1) m.2)
 
   met_from : (e : ℕ × Seg) → Contains (filter (meeting b) (finmap.entries segs)) e → IsMet segs b e.0
   met_from e c =
@@ -63,7 +66,8 @@ module _ (segs : SegMap) (b : Block) where
   pub on_block : (f : Fact) → Contains (line_facts segs b) f → IsOnBlock segs b f
   on_block f c =
       ⊎_elim
-      (λ no. subst (IsOnBlock segs b) no.0 (refl, λ id m. nothing_in (map (met_by b) (filter (meeting b) (finmap.entries segs))) no.1 (IsMetBy b id) (met_member id m)))
+      (λ no. subst (IsOnBlock segs b) no.0
+      (refl, λ id m. nothing_in (map (met_by b) (filter (meeting b) (finmap.entries segs))) no.1 (IsMetBy b id) (met_member id m)))
       (λ has.
       let e = Contains-map_from (met_by b) (filter (meeting b) (finmap.entries segs)) f has in
       subst (IsOnBlock segs b) e.2 (refl, met_from e.0 e.1))
@@ -101,7 +105,8 @@ module _ (segs : SegMap) (b : Block) where
       sym (length-filter (meeting b) (finmap.entries segs))
       ∙ empty_list (filter (meeting b) (finmap.entries segs)) (λ e c. h e.0 (met_from e c))
 
-  none_by : (t : Bool) (f : Fact) → eqb (segs_meeting segs b) 0 ≡ t → Contains (cond {A = List Fact} t (IsMetByNone b ∷ []) []) f → (IsMetByNone b ≡ f) × ((id : ℕ) → IsMet segs b id → ⊥)
+  none_by : (t : Bool) (f : Fact) → eqb (segs_meeting segs b) 0 ≡ t → Contains (cond {A = List Fact} t (IsMetByNone b ∷ []) []) f
+      → (IsMetByNone b ≡ f) × ((id : ℕ) → IsMet segs b id → ⊥)
   none_by true f e c =
       ⊎_elim (λ is. (is, count_none (eqb-true _ _ e))) (λ d. absurd (Contains-nil f d)) (Contains-cons_cases (IsMetByNone b) [] f c)
   none_by false f e c = absurd (Contains-nil f c)
@@ -111,7 +116,8 @@ module _ (segs : SegMap) (b : Block) where
 
   pub none_on_has : ((id : ℕ) → IsMet segs b id → ⊥) → Contains (none_on segs b) (IsMetByNone b)
   none_on_has h =
-      subst (λ (t : Bool). Contains (cond {A = List Fact} t (IsMetByNone b ∷ []) []) (IsMetByNone b)) (sym (eq-eqb _ _ (none_count h))) (Contains-here (IsMetByNone b) [])
+      subst (λ (t : Bool). Contains (cond {A = List Fact} t (IsMetByNone b ∷ []) []) (IsMetByNone b)) (sym (eq-eqb _ _ (none_count h)))
+      (Contains-here (IsMetByNone b) [])
 
 -- ---- the facts of the layer
 module _ (n t : ℕ) (segs : SegMap) (cover : BlockSet) where
@@ -138,7 +144,8 @@ module _ (n t : ℕ) (segs : SegMap) (cover : BlockSet) where
       (Contains-append_cases (map segment (finmap.entries segs)) (flat_map (line_facts segs) (finset.items cover)) f d))
       (Contains-cons_cases (IsOfKind 3 t) (map segment (finmap.entries segs) ++ flat_map (line_facts segs) (finset.items cover)) f c)
 
-  behind : (f : Fact) → Contains (map segment (finmap.entries segs) ++ flat_map (line_facts segs) (finset.items cover)) f → Contains (facts n (Lines t segs cover)) f
+  behind : (f : Fact) → Contains (map segment (finmap.entries segs) ++ flat_map (line_facts segs) (finset.items cover)) f
+      → Contains (facts n (Lines t segs cover)) f
   behind f c = Contains-there (IsOfKind 3 t) (map segment (finmap.entries segs) ++ flat_map (line_facts segs) (finset.items cover)) f c
 
   pub on_cover : (b : Block) (f : Fact) → Contains (finset.items cover) b → IsOnBlock segs b f → Contains (facts n (Lines t segs cover)) f
@@ -150,7 +157,8 @@ module _ (n t : ℕ) (segs : SegMap) (cover : BlockSet) where
   pub said : (f : Fact) → IsLineFact t segs cover f → Contains (facts n (Lines t segs cover)) f
   said (IsOfKind kind number) h =
       let e : IsOfKind 3 t ≡ IsOfKind kind number = λ i. IsOfKind (sym h.0 i) (sym h.1 i) in
-      subst (Contains (facts n (Lines t segs cover))) e (Contains-here (IsOfKind 3 t) (map segment (finmap.entries segs) ++ flat_map (line_facts segs) (finset.items cover)))
+      subst (Contains (facts n (Lines t segs cover))) e
+      (Contains-here (IsOfKind 3 t) (map segment (finmap.entries segs) ++ flat_map (line_facts segs) (finset.items cover)))
   said (IsSegment id s) h =
       behind (IsSegment id s)
       (Contains-append_left (map segment (finmap.entries segs)) (flat_map (line_facts segs) (finset.items cover)) (IsSegment id s)

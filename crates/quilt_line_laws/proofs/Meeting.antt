@@ -45,7 +45,8 @@ halves a b low h t above below =
     (cases_lt (a * t.den + b * t.num) ((low + h) * t.den + a * t.num))
 
 -- Where a segment meets a block of more than one pixel it meets a quarter.
-pub meets_quarter : (n : ℕ) (s : Seg) (b : Block) → IsBlock n b → 1 < b.side → meets s (square b) ≡ true → (q : Block) × Contains (quarters_of b) q × (meets s (square q) ≡ true)
+pub meets_quarter : (n : ℕ) (s : Seg) (b : Block) → IsBlock n b → 1 < b.side → meets s (square b) ≡ true → (q : Block) × Contains (quarters_of b) q
+    × (meets s (square q) ≡ true)
 meets_quarter n s b hb wide e =
     let m = (meets_law s (square b)).0 e in
     let t = m.0 in
@@ -60,7 +61,8 @@ meets_quarter n s b hb wide e =
     let x = halves s.x1 s.x2 b.x h t i.left (right s.x1 s.x2 b.x i.right) in
     let y = halves s.y1 s.y2 b.y h t i.top (right s.y1 s.y2 b.y i.bottom) in
     let made = λ (k : ℕ) (q : Block) (c : Contains (quarters_of b) q) (hx : Half s.x1 s.x2 q.x (q.x + q.side) t) (hy : Half s.y1 s.y2 q.y (q.y + q.side) t).
-    let met : meets s (square q) ≡ true = (meets_law s (square q)).1 (t, m.1, inside_then s (square q) t (record { left = hx.above; right = hx.below; top = hy.above; bottom = hy.below })) in
+    let met : meets s (square q) ≡ true =
+    (meets_law s (square q)).1 (t, m.1, inside_then s (square q) t (record { left = hx.above; right = hx.below; top = hy.above; bottom = hy.below })) in
     let all : (q : Block) × Contains (quarters_of b) q × (meets s (square q) ≡ true) = (q, c, met) in all in
     let one = λ (px py : ℕ). let q : Block = record { x = px; y = py; side = h } in q in
     ⊎_elim

@@ -1,5 +1,6 @@
 -- Of the lists of facts that come and go none has a fact twice.
-use Rattle.std.proofs.Common.{◌≡◌, ℕ, ◌+◌, ◌/◌, ◌<◌, Bool, true, false, cond, not, ◌&&◌, ◌||◌, List, [], ◌∷◌, map, filter, flat_map, refl, sym, ap, ◌∙◌, subst, ⊎_elim, arith, Contains, pow_pos}
+use Rattle.std.proofs.Common.{◌≡◌, ℕ, ◌+◌, ◌/◌, ◌<◌, Bool, true, false, cond, not, ◌&&◌, ◌||◌, List, [], ◌∷◌, map, filter, flat_map, refl, sym, ap, ◌∙◌, subst}
+use Rattle.std.proofs.Common.{⊎_elim, arith, Contains, pow_pos}
 use Rattle.std.specs.FinMap as finmap
 use Rattle.std.specs.Ordering.{nat_cmp}
 use Rattle.std.specs.Cmp.{nat_cmp_total, on_total}
@@ -55,7 +56,8 @@ pub line_facts_apart : (segs : SegMap) (b : Block) → Apart (line_facts segs b)
 line_facts_apart segs b =
     or_none_apart (IsMetByNone b) (map (met_by b) (filter (meeting b) (finmap.entries segs)))
     (Apart-map (met_by b) (filter (meeting b) (finmap.entries segs))
-    (λ d e cd ce same. same_entry segs d e (Contains-filter_from (meeting b) (finmap.entries segs) d cd).0 (Contains-filter_from (meeting b) (finmap.entries segs) e ce).0 (same_ids b b d.0 e.0 same))
+    (λ d e cd ce same. same_entry segs d e (Contains-filter_from (meeting b) (finmap.entries segs) d cd).0
+    (Contains-filter_from (meeting b) (finmap.entries segs) e ce).0 (same_ids b b d.0 e.0 same))
     (Apart-filter (meeting b) (finmap.entries segs) (entries_apart segs)))
 
 -- a fact is on one block
@@ -70,7 +72,8 @@ block_is m r b c (HoldsNoPoint d) x y = absurd x
 
 pub facts_on_apart : (segs : SegMap) (bs : List Block) → Apart bs → Apart (flat_map (line_facts segs) bs)
 facts_on_apart segs bs h =
-    Apart-flat_map (line_facts segs) bs h (λ b _. line_facts_apart segs b) (λ b c f _ _ x y. block_is segs segs b c f (on_block segs b f x) (on_block segs c f y))
+    Apart-flat_map (line_facts segs) bs h (λ b _. line_facts_apart segs b)
+    (λ b c f _ _ x y. block_is segs segs b c f (on_block segs b f x) (on_block segs c f y))
 
 -- ---- quarters
 same_x : (a b : Block) → a ≡ b → a.x ≡ b.x
@@ -79,14 +82,16 @@ same_x a b e = ap (λ (z : Block). z.x) e
 same_y : (a b : Block) → a ≡ b → a.y ≡ b.y
 same_y a b e = ap (λ (z : Block). z.y) e
 
-four_apart : (x y h : ℕ) → 0 < h → (a b c d : Block) → a.x ≡ x → a.y ≡ y → b.x ≡ x + h → b.y ≡ y → c.x ≡ x → c.y ≡ y + h → d.x ≡ x + h → d.y ≡ y + h → Apart (a ∷ b ∷ c ∷ d ∷ [])
+four_apart : (x y h : ℕ) → 0 < h → (a b c d : Block) → a.x ≡ x → a.y ≡ y → b.x ≡ x + h → b.y ≡ y → c.x ≡ x → c.y ≡ y + h → d.x ≡ x + h → d.y ≡ y + h
+    → Apart (a ∷ b ∷ c ∷ d ∷ [])
 four_apart x y h p a b c d ax ay bx by cx cy dx dy = (
   λ m. ⊎_elim (λ e. let w = same_x b a e in absurd (omega arith)) (λ m1. ⊎_elim (λ e. let w = same_y c a e in absurd (omega arith))
       (λ m2. ⊎_elim (λ e. let w = same_x d a e in absurd (omega arith)) (λ m3. Contains-nil a m3) (Contains-cons_cases d [] a m2))
       (Contains-cons_cases c (d ∷ []) a m1)) (Contains-cons_cases b (c ∷ d ∷ []) a m),
   (
     λ m. ⊎_elim (λ e. let w = same_x c b e in absurd (omega arith))
-        (λ m2. ⊎_elim (λ e. let w = same_y d b e in absurd (omega arith)) (λ m3. Contains-nil b m3) (Contains-cons_cases d [] b m2)) (Contains-cons_cases c (d ∷ []) b m),
+        (λ m2. ⊎_elim (λ e. let w = same_y d b e in absurd (omega arith)) (λ m3. Contains-nil b m3) (Contains-cons_cases d [] b m2))
+        (Contains-cons_cases c (d ∷ []) b m),
     (
       λ m. ⊎_elim (λ e. let w = same_x d c e in absurd (omega arith)) (λ m3. Contains-nil c m3) (Contains-cons_cases d [] c m),
       (λ m. Contains-nil d m, tt),
@@ -105,7 +110,8 @@ quarters_apart n b hb wide' =
 
 -- lists over quarters whose members lie in theirs
 pub over_quarters : (n t : ℕ) (segs : SegMap) (s : Seg) (k : ℕ) (b : Block) (f : Block → List Block) → IsBlock n b → b.side ≡ side (ℕ.suc k)
-    → ((r : Block) → Contains (quarters_of b) r → IsBlock n r → r.side ≡ side k → parent_of r ≡ b → Apart (f r) × ((q : Block) → Contains (f r) q → IsBlock n q × Within q r))
+    → ((r : Block) → Contains (quarters_of b) r → IsBlock n r → r.side ≡ side k → parent_of r ≡ b
+    → Apart (f r) × ((q : Block) → Contains (f r) q → IsBlock n q × Within q r))
     → Apart (flat_map f (quarters_of b))
 over_quarters n t segs s k b f hb e each =
     let big : IsBig t segs s n k b = record { block = hb; size = e } in
@@ -118,14 +124,17 @@ over_quarters n t segs s k b f hb e each =
     let on = Holds-corner n q u.0 in
     let er = smaller t segs s n k b r big cr in
     let ep = smaller t segs s n k b p big cp in
-    same_block_from n r p (corner q) (quarters_are n b r hb lt cr).block (quarters_are n b p hb lt cp).block (er ∙ sym ep) (Within-holds q r (corner q) u.1 on) (Within-holds q p (corner q) v.1 on))
+    same_block_from n r p (corner q) (quarters_are n b r hb lt cr).block (quarters_are n b p hb lt cp).block (er ∙ sym ep)
+    (Within-holds q r (corner q) u.1 on) (Within-holds q p (corner q) v.1 on))
 
 pub single_apart : (b : Block) → Apart (b ∷ [])
 single_apart b = (λ c. Contains-nil b c, tt)
 
 module _ (n t : ℕ) (segs : SegMap) (cover : BlockSet) (s : Seg) (h : IsBlockCover n cover) where
-  blocks_apart_step : (k : ℕ) (b : Block) → IsBlock n b → b.side ≡ side (ℕ.suc k) → ((r : Block) → Contains (quarters_of b) r → is_one t segs cover s k r ≡ true)
-      → ((r : Block) → IsBlock n r → r.side ≡ side k → is_one t segs cover s k r ≡ true → Apart (blocks_in cover k r)) → Apart (flat_map (blocks_in cover k) (quarters_of b))
+  blocks_apart_step : (k : ℕ) (b : Block) → IsBlock n b → b.side ≡ side (ℕ.suc k)
+      → ((r : Block) → Contains (quarters_of b) r → is_one t segs cover s k r ≡ true)
+      → ((r : Block) → IsBlock n r → r.side ≡ side k → is_one t segs cover s k r ≡ true → Apart (blocks_in cover k r))
+      → Apart (flat_map (blocks_in cover k) (quarters_of b))
   blocks_apart_step k b hb e ones below =
       over_quarters n t segs s k b (blocks_in cover k) hb e
       (λ r c hr er _. (below r hr er (ones r c), λ q m. let w = (blocks_in_law n t segs cover s h k r q hr er (ones r c)).0 m in (h.only q w.1, w.0)))
@@ -158,11 +167,13 @@ module _ (n t : ℕ) (segs : SegMap) (cover : BlockSet) (s : Seg) (h : IsBlockCo
 
   come_apart : (k : ℕ) (b : Block) → Free k b → Apart (coming_in t segs cover s k b)
   come_apart ℕ.zero b g = tt
-  come_apart (ℕ.suc k) b g = come_apart_by k b g (λ r f. come_apart k r f) (finset.contains cover b || not (meets s (square b))) (becomes_one t segs cover s k b) refl refl
+  come_apart (ℕ.suc k) b g =
+      come_apart_by k b g (λ r f. come_apart k r f) (finset.contains cover b || not (meets s (square b))) (becomes_one t segs cover s k b) refl refl
 
   go_apart_by : (k : ℕ) (b : Block) → Free (ℕ.suc k) b → ((r : Block) → Free k r → Apart (going_in t segs cover s k r))
       → (u v : Bool) → (finset.contains cover b || not (meets s (square b))) ≡ u → becomes_one t segs cover s k b ≡ v
-      → Apart (cond {A = List Block} u [] (cond {A = List Block} v (flat_map (blocks_in cover k) (quarters_of b)) (flat_map (going_in t segs cover s k) (quarters_of b))))
+      → Apart (cond {A = List Block} u []
+      (cond {A = List Block} v (flat_map (blocks_in cover k) (quarters_of b)) (flat_map (going_in t segs cover s k) (quarters_of b))))
   go_apart_by k b g below true v eu ev = tt
   go_apart_by k b g below false true eu ev =
       blocks_apart_step k b g.block g.size (becomes_says n t segs cover s k b ev).all (λ r hr er u. blocks_apart k r hr er u)
@@ -175,7 +186,8 @@ module _ (n t : ℕ) (segs : SegMap) (cover : BlockSet) (s : Seg) (h : IsBlockCo
 
   go_apart : (k : ℕ) (b : Block) → Free k b → Apart (going_in t segs cover s k b)
   go_apart ℕ.zero b g = tt
-  go_apart (ℕ.suc k) b g = go_apart_by k b g (λ r f. go_apart k r f) (finset.contains cover b || not (meets s (square b))) (becomes_one t segs cover s k b) refl refl
+  go_apart (ℕ.suc k) b g =
+      go_apart_by k b g (λ r f. go_apart k r f) (finset.contains cover b || not (meets s (square b))) (becomes_one t segs cover s k b) refl refl
 
   stay_tiny_apart : (b : Block) (u : Bool) → Apart (cond {A = List Block} u (b ∷ []) [])
   stay_tiny_apart b true = single_apart b
@@ -183,7 +195,8 @@ module _ (n t : ℕ) (segs : SegMap) (cover : BlockSet) (s : Seg) (h : IsBlockCo
 
   stay_apart_by : (k : ℕ) (b : Block) → Free (ℕ.suc k) b → ((r : Block) → Free k r → Apart (staying_in t segs cover s k r))
       → (m u v : Bool) → not (meets s (square b)) ≡ m → finset.contains cover b ≡ u → becomes_one t segs cover s k b ≡ v
-      → Apart (cond {A = List Block} m [] (cond {A = List Block} u (b ∷ []) (cond {A = List Block} v [] (flat_map (staying_in t segs cover s k) (quarters_of b)))))
+      → Apart (cond {A = List Block} m []
+      (cond {A = List Block} u (b ∷ []) (cond {A = List Block} v [] (flat_map (staying_in t segs cover s k) (quarters_of b)))))
   stay_apart_by k b g below true u v em eu ev = tt
   stay_apart_by k b g below false true v em eu ev = single_apart b
   stay_apart_by k b g below false false true em eu ev = tt

@@ -1,5 +1,6 @@
 -- What merging all blocks of one side does: they do not disturb each other.
-use Rattle.std.proofs.Common.{◌≡◌, ℕ, ◌<◌, ◌⊎◌, ◌↔◌, Bool, true, false, cond, ◌&&◌, List, [], ◌∷◌, fold, nat_le, refl, sym, ◌∙◌, subst, inl, inr, ⊎_elim, arith, Contains, pow_pos, pow-suc}
+use Rattle.std.proofs.Common.{◌≡◌, ℕ, ◌<◌, ◌⊎◌, ◌↔◌, Bool, true, false, cond, ◌&&◌, List, [], ◌∷◌, fold, nat_le, refl, sym, ◌∙◌, subst, inl, inr, ⊎_elim, arith}
+use Rattle.std.proofs.Common.{Contains, pow_pos, pow-suc}
 use Rattle.std.specs.List.{list_all}
 use Rattle.std.proofs.lemmas.Bool.{and_parts, and_from, both_ways}
 use Rattle.quilt_types.specs.Sets as sets

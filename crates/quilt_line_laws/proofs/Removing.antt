@@ -14,7 +14,8 @@ use Rattle.quilt_types.specs.Layers.{Lines, SegMap, BlockSet}
 use Rattle.quilt_types.specs.Segments.{square, meets}
 use Rattle.quilt_types.specs.Quadtrees.{after_remove}
 use Rattle.quilt_types.specs.Facts.{Fact, IsOfKind, HasColour, HoldsPoint, HoldsNoPoint, IsSegment, IsMetBy, IsMetByNone, line_facts, facts}
-use Rattle.quilt_loc.proofs.Members.{Contains-here, Contains-there, Contains-cons_cases, Contains-map, Contains-map_from, Contains-flat_map, Contains-flat_map_from}
+use Rattle.quilt_loc.proofs.Members.{Contains-here, Contains-there, Contains-cons_cases, Contains-map, Contains-map_from, Contains-flat_map}
+use Rattle.quilt_loc.proofs.Members.{Contains-flat_map_from}
 use Rattle.quilt_spell.proofs.Maps.{get_removed, get_kept}
 use Rattle.quilt_loc.proofs.PlaneOrders.{block_total}
 use Rattle.quilt_spell.proofs.FactKeys.{block_same}
@@ -166,7 +167,8 @@ module _ (segs : SegMap) (id : ℕ) (s : Seg) (had : finmap.get segs id ≡ Some
     away_on : (b : Block) (f : Fact) → Contains going b → IsOnBlock segs b f → Contains away f
     away_on b f c o =
         away_behind f
-        (Contains-append_left (flat_map (line_facts segs) going) (map lost_meeting staying) f (Contains-flat_map (line_facts segs) going b f c (block_on segs b f o)))
+        (Contains-append_left (flat_map (line_facts segs) going) (map lost_meeting staying) f
+        (Contains-flat_map (line_facts segs) going b f c (block_on segs b f o)))
 
     leaves : (f : Fact) → IsLineFact t segs cover f → (IsLineFact t now later f → ⊥) → Contains away f
     leaves (IsOfKind kind number) l out = absurd (out l)
@@ -207,7 +209,8 @@ module _ (segs : SegMap) (id : ℕ) (s : Seg) (had : finmap.get segs id ≡ Some
 
 -- The descent from the whole square gives what comes and goes.
 pub descent_change : (n t : ℕ) (now : SegMap) (cover : BlockSet) (s : Seg) → IsBlockCover n cover
-    → IsChange cover (after_remove n t now cover s) s (coming_in t now cover s n (whole n)) (going_in t now cover s n (whole n)) (staying_in t now cover s n (whole n))
+    → IsChange cover (after_remove n t now cover s) s (coming_in t now cover s n (whole n)) (going_in t now cover s n (whole n))
+    (staying_in t now cover s n (whole n))
 descent_change n t now cover s h = record {
   come = coming_are n t now cover s h;
   go = going_are n t now cover s h;
@@ -217,5 +220,6 @@ descent_change n t now cover s h = record {
 pub remove_law : RemoveLaw
 remove_law n t segs cover id s h had f =
     let m = finmap.remove segs id in
-    change_law segs id s had n t cover (after_remove n t m cover s) (coming_in t m cover s n (whole n)) (going_in t m cover s n (whole n)) (staying_in t m cover s n (whole n))
+    change_law segs id s had n t cover (after_remove n t m cover s) (coming_in t m cover s n (whole n)) (going_in t m cover s n (whole n))
+    (staying_in t m cover s n (whole n))
     (descent_change n t m cover s (cover_of n t segs cover h)) f

@@ -1,5 +1,6 @@
 -- Finite sets: `contains` and `items`, `from_list`, and how many items pass a test.
-use Rattle.std.proofs.Common.{◌⊎◌, not, fold, None, inl, inr, ◌≡◌, ℕ, ◌≤◌, Bool, true, false, cond, ◌&&◌, ◌||◌, ◌↔◌, List, [], ◌∷◌, map, get_or, is_some, Option, Some, refl, sym, ◌∙◌, ap, subst, arith, Contains, count_by, Ordering, T, ⊎_elim, true≢false}
+use Rattle.std.proofs.Common.{◌⊎◌, not, fold, None, inl, inr, ◌≡◌, ℕ, ◌≤◌, Bool, true, false, cond, ◌&&◌, ◌||◌, ◌↔◌, List, [], ◌∷◌, map, get_or, is_some}
+use Rattle.std.proofs.Common.{Option, Some, refl, sym, ◌∙◌, ap, subst, arith, Contains, count_by, Ordering, T, ⊎_elim, true≢false}
 use Rattle.std.specs.Ordering.{is_lt, eq_by_cmp}
 use Rattle.std.specs.FinMap as finmap
 use Rattle.std.specs.FinMap.{IsAntisymmetric}
@@ -32,8 +33,10 @@ module _ {K : Type 0} {R : K → K → Ordering} (o : IsTotalOrder R) (exact : I
   list_any_is : (ks : List K) (q : K) → (list_any (eq_by_cmp R q) ks ≡ true) ↔ Contains ks q
   list_any_is [] q = (λ h. absurd (true≢false (sym h)), λ c. absurd (Contains-nil q c))
   list_any_is (k ∷ ks) q = (
-    λ h. ⊎_elim (λ e. subst (Contains (k ∷ ks)) (sym (tie q k e)) (Contains-here k ks)) (λ r. Contains-there k ks q ((list_any_is ks q).0 r)) (or_cases (eq_by_cmp R q k) (list_any (eq_by_cmp R q) ks) h),
-    λ c. ⊎_elim (λ e. or_left (eq_by_cmp R q k) (list_any (eq_by_cmp R q) ks) (subst (λ (z : K). eq_by_cmp R z k ≡ true) e (itself k))) (λ d. or_right (eq_by_cmp R q k) (list_any (eq_by_cmp R q) ks) ((list_any_is ks q).1 d)) (Contains-cons_cases k ks q c),
+    λ h. ⊎_elim (λ e. subst (Contains (k ∷ ks)) (sym (tie q k e)) (Contains-here k ks)) (λ r. Contains-there k ks q ((list_any_is ks q).0 r))
+        (or_cases (eq_by_cmp R q k) (list_any (eq_by_cmp R q) ks) h),
+    λ c. ⊎_elim (λ e. or_left (eq_by_cmp R q k) (list_any (eq_by_cmp R q) ks) (subst (λ (z : K). eq_by_cmp R z k ≡ true) e (itself k)))
+        (λ d. or_right (eq_by_cmp R q k) (list_any (eq_by_cmp R q) ks) ((list_any_is ks q).1 d)) (Contains-cons_cases k ks q c),
   )
 
   pub contains_is : (s : sets.FinSet R) (q : K) → (sets.contains s q ≡ true) ↔ Contains (sets.items s) q
@@ -56,9 +59,13 @@ module _ {K : Type 0} {R : K → K → Ordering} (o : IsTotalOrder R) (exact : I
 
   pub items-insert : (s : sets.FinSet R) (k q : K) → Contains (sets.items (sets.insert s k)) q ↔ ((q ≡ k) ⊎ Contains (sets.items s) q)
   items-insert s k q =
-      let e : sets.contains (sets.insert s k) q ≡ (eq_by_cmp R q k || sets.contains s q) = ap is_some (finmap.get-insert o s k tt q) ∙ is_some-cond (eq_by_cmp R q k) tt (finmap.get s q) in (
-        λ c. ⊎_elim (λ t. inl (tie q k t)) (λ t. inr ((contains_is s q).0 t)) (or_cases (eq_by_cmp R q k) (sets.contains s q) (sym e ∙ (contains_is (sets.insert s k) q).1 c)),
-        λ w. (contains_is (sets.insert s k) q).0 (e ∙ ⊎_elim (λ is. or_left (eq_by_cmp R q k) (sets.contains s q) (subst (λ (z : K). eq_by_cmp R q z ≡ true) is (itself q))) (λ c. or_right (eq_by_cmp R q k) (sets.contains s q) ((contains_is s q).1 c)) w),
+      let e : sets.contains (sets.insert s k) q ≡ (eq_by_cmp R q k || sets.contains s q) =
+      ap is_some (finmap.get-insert o s k tt q) ∙ is_some-cond (eq_by_cmp R q k) tt (finmap.get s q) in (
+        λ c. ⊎_elim (λ t. inl (tie q k t)) (λ t. inr ((contains_is s q).0 t))
+            (or_cases (eq_by_cmp R q k) (sets.contains s q) (sym e ∙ (contains_is (sets.insert s k) q).1 c)),
+        λ w. (contains_is (sets.insert s k) q).0
+            (e ∙ ⊎_elim (λ is. or_left (eq_by_cmp R q k) (sets.contains s q) (subst (λ (z : K). eq_by_cmp R q z ≡ true) is (itself q)))
+            (λ c. or_right (eq_by_cmp R q k) (sets.contains s q) ((contains_is s q).1 c)) w),
       )
 
   is_some-none : {X : Type 0} (b : Bool) (x : Option X) → is_some (cond b None x) ≡ (not b && is_some x)
@@ -67,15 +74,20 @@ module _ {K : Type 0} {R : K → K → Ordering} (o : IsTotalOrder R) (exact : I
 
   pub items-remove : (s : sets.FinSet R) (k q : K) → Contains (sets.items (sets.remove s k)) q ↔ (Contains (sets.items s) q × (q ≡ k → ⊥))
   items-remove s k q =
-      let e : sets.contains (sets.remove s k) q ≡ (not (eq_by_cmp R q k) && sets.contains s q) = ap is_some (finmap.get-remove o s k q) ∙ is_some-none (eq_by_cmp R q k) (finmap.get s q) in (
+      let e : sets.contains (sets.remove s k) q ≡ (not (eq_by_cmp R q k) && sets.contains s q) =
+      ap is_some (finmap.get-remove o s k q) ∙ is_some-none (eq_by_cmp R q k) (finmap.get s q) in (
         λ c.
-            let both = and_parts (not (eq_by_cmp R q k)) (sets.contains s q) (sym e ∙ (contains_is (sets.remove s k) q).1 c) in
-            ((contains_is s q).0 both.1, λ is. both_ways (eq_by_cmp R q k) (not-true (eq_by_cmp R q k) both.0) (subst (λ (z : K). eq_by_cmp R q z ≡ true) is (itself q))),
+            let both = and_parts (not (eq_by_cmp R q k)) (sets.contains s q) (sym e ∙ (contains_is (sets.remove s k) q).1 c) in (
+              (contains_is s q).0 both.1,
+              λ is. both_ways (eq_by_cmp R q k) (not-true (eq_by_cmp R q k) both.0)
+                  (subst (λ (z : K). eq_by_cmp R q z ≡ true) is (itself q)),
+            ),
         λ w. (contains_is (sets.remove s k) q).0 (e ∙ and_from (not (eq_by_cmp R q k)) (sets.contains s q)
             (⊎_elim (λ t. absurd (w.1 (tie q k t))) (λ f. not_from_false (eq_by_cmp R q k) f) (cases_Bool (eq_by_cmp R q k))) ((contains_is s q).1 w.0)),
       )
 
-  pub items-removes : (ks : List K) (s : sets.FinSet R) (q : K) → Contains (sets.items (fold sets.remove s ks)) q ↔ (Contains (sets.items s) q × (Contains ks q → ⊥))
+  pub items-removes : (ks : List K) (s : sets.FinSet R) (q : K) → Contains (sets.items (fold sets.remove s ks)) q
+      ↔ (Contains (sets.items s) q × (Contains ks q → ⊥))
   items-removes [] s q = (λ c. (c, λ d. Contains-nil q d), λ w. w.0)
   items-removes (k ∷ ks) s q =
       let rest = items-removes ks (sets.remove s k) q in
@@ -89,7 +101,8 @@ module _ {K : Type 0} {R : K → K → Ordering} (o : IsTotalOrder R) (exact : I
     abbrev keys_of : List (K × X) → List K
     keys_of es = map (λ e. e.0) es
 
-    later : (k : K) (es : List (K × X)) → ((x : K) → Contains (keys_of es) x → test x ≡ true → k ≡ x) → T (finmap.Entries.below_all R k es) → count_by test (keys_of es) ≡ 0
+    later : (k : K) (es : List (K × X)) → ((x : K) → Contains (keys_of es) x → test x ≡ true → k ≡ x) → T (finmap.Entries.below_all R k es)
+        → count_by test (keys_of es) ≡ 0
     later k [] same s = refl
     later k (e ∷ es) same s =
         let c = sum_by-cons (λ x. cond {A = ℕ} (test x) 1 0) e.0 (keys_of es) in
@@ -99,7 +112,8 @@ module _ {K : Type 0} {R : K → K → Ordering} (o : IsTotalOrder R) (exact : I
         (λ t. absurd (subst (λ r. T (is_lt r)) (ap (R k) (sym (same e.0 (Contains-here e.0 (keys_of es)) t)) ∙ tied_itself o k) lt))
         (λ f. c ∙ (let z : cond {A = ℕ} (test e.0) 1 0 ≡ 0 = ap (λ (b : Bool). cond {A = ℕ} b 1 0) f in omega arith)) (cases_Bool (test e.0))
 
-    at_most_one : (es : List (K × X)) → ((a b : K) → Contains (keys_of es) a → test a ≡ true → Contains (keys_of es) b → test b ≡ true → a ≡ b) → T (finmap.is_sorted R es) → count_by test (keys_of es) ≤ 1
+    at_most_one : (es : List (K × X)) → ((a b : K) → Contains (keys_of es) a → test a ≡ true → Contains (keys_of es) b → test b ≡ true → a ≡ b)
+        → T (finmap.is_sorted R es) → count_by test (keys_of es) ≤ 1
     at_most_one [] same s = omega arith
     at_most_one (e ∷ es) same s =
         let c = sum_by-cons (λ x. cond {A = ℕ} (test x) 1 0) e.0 (keys_of es) in
@@ -107,16 +121,19 @@ module _ {K : Type 0} {R : K → K → Ordering} (o : IsTotalOrder R) (exact : I
         ⊎_elim
         (λ t.
         let z : cond {A = ℕ} (test e.0) 1 0 ≡ 1 = ap (λ (b : Bool). cond {A = ℕ} b 1 0) t in
-        let none = later e.0 es (λ x m u. same e.0 x (Contains-here e.0 (keys_of es)) t (more x m) u) (T-first (finmap.Entries.below_all R e.0 es) _ s) in omega arith)
+        let none =
+        later e.0 es (λ x m u. same e.0 x (Contains-here e.0 (keys_of es)) t (more x m) u) (T-first (finmap.Entries.below_all R e.0 es) _ s) in omega arith)
         (λ f.
         let z : cond {A = ℕ} (test e.0) 1 0 ≡ 0 = ap (λ (b : Bool). cond {A = ℕ} b 1 0) f in
         let rest = at_most_one es (λ a b m t l u. same a b (more a m) t (more b l) u) (T-second (finmap.Entries.below_all R e.0 es) _ s) in omega arith)
         (cases_Bool (test e.0))
 
     -- exactly one key passes
-    pub keys_once : (m : finmap.FinMap R X) (k : K) → Contains (finmap.keys m) k → test k ≡ true → ((a b : K) → Contains (finmap.keys m) a → test a ≡ true → Contains (finmap.keys m) b → test b ≡ true → a ≡ b) → count_by test (finmap.keys m) ≡ 1
+    pub keys_once : (m : finmap.FinMap R X) (k : K) → Contains (finmap.keys m) k → test k ≡ true
+        → ((a b : K) → Contains (finmap.keys m) a → test a ≡ true → Contains (finmap.keys m) b → test b ≡ true → a ≡ b) → count_by test (finmap.keys m) ≡ 1
     keys_once m k c t same =
         let most = at_most_one (finmap.entries m) same (finmap.entries_sorted m) in
         let least = get_or-le-sum_by (λ x. cond {A = ℕ} (test x) 1 0) (finmap.keys m) c.0 k c.1 in
-        let here : cond {A = ℕ} (test (get_or (finmap.keys m) c.0 k)) 1 0 ≡ 1 = ap (λ (z : K). cond {A = ℕ} (test z) 1 0) c.2 ∙ ap (λ (b : Bool). cond {A = ℕ} b 1 0) t in
+        let here : cond {A = ℕ} (test (get_or (finmap.keys m) c.0 k)) 1 0 ≡ 1 =
+        ap (λ (z : K). cond {A = ℕ} (test z) 1 0) c.2 ∙ ap (λ (b : Bool). cond {A = ℕ} b 1 0) t in
         omega arith

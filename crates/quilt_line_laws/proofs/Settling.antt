@@ -112,18 +112,27 @@ module _ (t : ℕ) (segs : SegMap) (cover : BlockSet) (s : Seg) where
   leaf_step ℕ.zero b e = record { is_one = sym e; come = refl; go = refl; stay = met_leaf none (b ∷ []) (in_set b) (met b) e }
   leaf_step (ℕ.suc k) b e = record {
     is_one = or_first (in_set b) (joins k b) e;
-    come = outer none (cond {A = List Block} (joins k b) (b ∷ []) (flat_map (coming_in t segs cover s k) (quarters_of b))) none (in_set b || not (met b)) (either_stops (in_set b) (met b) e);
-    go = outer none (cond {A = List Block} (joins k b) (flat_map (blocks_in cover k) (quarters_of b)) (flat_map (going_in t segs cover s k) (quarters_of b))) none (in_set b || not (met b)) (either_stops (in_set b) (met b) e);
+    come = outer none (cond {A = List Block} (joins k b) (b ∷ []) (flat_map (coming_in t segs cover s k) (quarters_of b))) none
+        (in_set b || not (met b)) (either_stops (in_set b) (met b) e);
+    go =
+        outer none (cond {A = List Block} (joins k b) (flat_map (blocks_in cover k) (quarters_of b))
+        (flat_map (going_in t segs cover s k) (quarters_of b))) none (in_set b || not (met b)) (either_stops (in_set b) (met b) e);
     stay = met_block none (b ∷ []) (cond {A = List Block} (joins k b) [] (flat_map (staying_in t segs cover s k) (quarters_of b))) (in_set b) (met b) e;
   }
 
   pub unmet_step : (k : ℕ) (b : Block) → UnmetStep t segs cover s k b
-  unmet_step ℕ.zero b e f = record { is_one = sym e; come = refl; go = refl; stay = other (b ∷ []) none none (in_set b && met b) (ap (λ (u : Bool). u && met b) e) }
+  unmet_step ℕ.zero b e f =
+      record { is_one = sym e; come = refl; go = refl; stay = other (b ∷ []) none none (in_set b && met b) (ap (λ (u : Bool). u && met b) e) }
   unmet_step (ℕ.suc k) b e f = record {
     is_one = or_neither (in_set b) (joins k b) e (and_unmet (met b) (list_all (is_one t segs cover s k) (quarters_of b)) (nat_le (segs_meeting segs b) t) f);
-    come = outer none (cond {A = List Block} (joins k b) (b ∷ []) (flat_map (coming_in t segs cover s k) (quarters_of b))) none (in_set b || not (met b)) (unmet_stops (in_set b) (met b) f);
-    go = outer none (cond {A = List Block} (joins k b) (flat_map (blocks_in cover k) (quarters_of b)) (flat_map (going_in t segs cover s k) (quarters_of b))) none (in_set b || not (met b)) (unmet_stops (in_set b) (met b) f);
-    stay = outer none (cond {A = List Block} (in_set b) (b ∷ []) (cond {A = List Block} (joins k b) [] (flat_map (staying_in t segs cover s k) (quarters_of b)))) none (not (met b)) (not_met (met b) f);
+    come = outer none (cond {A = List Block} (joins k b) (b ∷ []) (flat_map (coming_in t segs cover s k) (quarters_of b))) none
+        (in_set b || not (met b)) (unmet_stops (in_set b) (met b) f);
+    go =
+        outer none (cond {A = List Block} (joins k b) (flat_map (blocks_in cover k) (quarters_of b))
+        (flat_map (going_in t segs cover s k) (quarters_of b))) none (in_set b || not (met b)) (unmet_stops (in_set b) (met b) f);
+    stay =
+        outer none (cond {A = List Block} (in_set b) (b ∷ [])
+        (cond {A = List Block} (joins k b) [] (flat_map (staying_in t segs cover s k) (quarters_of b)))) none (not (met b)) (not_met (met b) f);
   }
 
   pub merge_step : (k : ℕ) (b : Block) → MergeStep t segs cover s k b
@@ -134,7 +143,8 @@ module _ (t : ℕ) (segs : SegMap) (cover : BlockSet) (s : Seg) where
         is_one = or_second (in_set b) (joins k b) f;
         come = inner none (b ∷ []) (flat_map (coming_in t segs cover s k) (quarters_of b)) (in_set b || not (met b)) (joins k b) on f;
         go = sym (merged_law t segs cover s k b f)
-            ∙ inner none (flat_map (blocks_in cover k) (quarters_of b)) (flat_map (going_in t segs cover s k) (quarters_of b)) (in_set b || not (met b)) (joins k b) on f;
+            ∙ inner none (flat_map (blocks_in cover k) (quarters_of b)) (flat_map (going_in t segs cover s k) (quarters_of b))
+            (in_set b || not (met b)) (joins k b) on f;
         stay = third none (b ∷ []) none (flat_map (staying_in t segs cover s k) (quarters_of b)) (not (met b)) (in_set b) (joins k b) (not_unmet (met b) m) e f;
       }
 
@@ -144,8 +154,10 @@ module _ (t : ℕ) (segs : SegMap) (cover : BlockSet) (s : Seg) where
       record {
         is_one = or_neither (in_set b) (joins k b) e f;
         come = last none (b ∷ []) (flat_map (coming_in t segs cover s k) (quarters_of b)) (in_set b || not (met b)) (joins k b) on f;
-        go = last none (flat_map (blocks_in cover k) (quarters_of b)) (flat_map (going_in t segs cover s k) (quarters_of b)) (in_set b || not (met b)) (joins k b) on f;
-        stay = fourth none (b ∷ []) none (flat_map (staying_in t segs cover s k) (quarters_of b)) (not (met b)) (in_set b) (joins k b) (not_unmet (met b) m) e f;
+        go = last none (flat_map (blocks_in cover k) (quarters_of b)) (flat_map (going_in t segs cover s k) (quarters_of b))
+            (in_set b || not (met b)) (joins k b) on f;
+        stay =
+            fourth none (b ∷ []) none (flat_map (staying_in t segs cover s k) (quarters_of b)) (not (met b)) (in_set b) (joins k b) (not_unmet (met b) m) e f;
       }
 
 pub settle_law : SettleLaw

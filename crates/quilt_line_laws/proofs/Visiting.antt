@@ -35,7 +35,8 @@ module _ (n t : ℕ) (segs : SegMap) (cover : BlockSet) (s : Seg) (h : IsBlockCo
     λ w. subst (Contains (b ∷ [])) (sym (one_old n t segs cover s h q b w.1.0 m.0 w.0)) (Contains-here b []),
   )
 
-  met_tiny : (b q : Block) → IsBlock n b → b.side ≡ side 0 → (u : Bool) → (finset.contains cover b && meets s (square b)) ≡ u → Contains (cond {A = List Block} u (b ∷ []) []) q ↔ (Within q b × Met q)
+  met_tiny : (b q : Block) → IsBlock n b → b.side ≡ side 0 → (u : Bool) → (finset.contains cover b && meets s (square b)) ≡ u
+      → Contains (cond {A = List Block} u (b ∷ []) []) q ↔ (Within q b × Met q)
   met_tiny b q hb e true eu = let w = and_parts (finset.contains cover b) (meets s (square b)) eu in here b q (held n t segs cover s h b w.0, w.1)
   met_tiny b q hb e false eu =
       none q b
@@ -58,7 +59,8 @@ module _ (n t : ℕ) (segs : SegMap) (cover : BlockSet) (s : Seg) (h : IsBlockCo
         ⊎_elim (λ y. y) (λ f. absurd (both_ways (not (meets s (square b))) em (not_from_false (meets s (square b)) f))) (cases_Bool (meets s (square b))),
       )
   met_step k b q hb e below false false em eu =
-      quarterly n t segs cover s h k b q (met_in cover s k) Met hb e (λ x. h.only q x.0) (λ x same. off n t segs cover s h b q eu x.0 same) (λ r c hr er _. below r hr er)
+      quarterly n t segs cover s h k b q (met_in cover s k) Met hb e (λ x. h.only q x.0) (λ x same. off n t segs cover s h b q eu x.0 same)
+      (λ r c hr er _. below r hr er)
 
   met_law : (k : ℕ) (b q : Block) → IsBlock n b → b.side ≡ side k → Contains (met_in cover s k b) q ↔ (Within q b × Met q)
   met_law ℕ.zero b q hb e = met_tiny b q hb e (finset.contains cover b && meets s (square b)) refl

@@ -27,6 +27,7 @@ ThroughLaw =
 abbrev pub gone_of_quarter : ℕ → SegMap → BlockSet → Seg → ℕ → Block → List Block
 gone_of_quarter t segs cover s k q = if finset.contains cover q then q ∷ [] else going_in t segs cover s k q
 
+-- Where a block becomes one, the blocks of the set in its quarters are those that go in the quarters, in the same order.
 abbrev pub MergedLaw : Type 0
 MergedLaw =
     (t : ℕ) (segs : SegMap) (cover : BlockSet) (s : Seg) (k : ℕ) (b : Block) → becomes_one t segs cover s k b ≡ true

@@ -17,6 +17,8 @@ use Rattle.quilt_line_laws.specs.Removing.{without_seg, facts_back, facts_gone}
 abbrev pub line_records : ℕ → List ℕ → ℕ → List Fact → List Record
 line_records n name number fs = map (record_of n 0 name number) fs
 
+-- Adding a segment of the square under a free id: the records of the facts that go and come lead from the old layer to the new one, in which
+-- each block that the segment overfills is cut once.
 abbrev pub AddLeads : Type 0
 AddLeads =
     (n t : ℕ) (name : List ℕ) (number : ℕ) (segs : SegMap) (cover : BlockSet) (id : ℕ) (s : Seg) (met : List Block)
@@ -25,6 +27,7 @@ AddLeads =
     → LeadsTo n name number (Some (Lines t segs cover)) (Some (with_seg t segs cover id s))
     (line_records n name number (facts_removed t segs id s met)) (line_records n name number (facts_added t segs id s met))
 
+-- Removing the segment of an id: the records of the facts that go and come lead from the old layer to the new one, in which quarters are merged.
 abbrev pub RemoveLeads : Type 0
 RemoveLeads =
     (n t : ℕ) (name : List ℕ) (number : ℕ) (segs : SegMap) (cover : BlockSet) (id : ℕ) (s : Seg)

@@ -58,6 +58,7 @@ met_in cover s ℕ.zero b = if finset.contains cover b && meets s (square b) the
 met_in cover s (ℕ.suc k) b =
     if not (meets s (square b)) then [] else if finset.contains cover b then b ∷ [] else flat_map (met_in cover s k) (quarters_of b)
 
+-- In a layer of segments the descent from the whole square finds the blocks that the segment meets, all of them and each once.
 abbrev pub VisitLaw : Type 0
 VisitLaw = (n t : ℕ) (segs : SegMap) (cover : BlockSet) (s : Seg) → IsLineMap n t segs cover → IsMetList cover s (met_in cover s n (whole n))
 
@@ -74,6 +75,7 @@ MergeLaw n t segs cover s =
     → Contains (finset.items (after_remove n t segs cover s)) b
     ↔ ((is_one t segs cover s k b ≡ true) × (k < n → is_one t segs cover s (ℕ.suc k) (parent_of b) ≡ true → ⊥))
 
+-- The blocks of each line layer are so after a removal, by whatever segments are counted.
 abbrev pub MergesLaw : Type 0
 MergesLaw = (n t : ℕ) (known segs : SegMap) (cover : BlockSet) (s : Seg) → IsLineMap n t known cover → MergeLaw n t segs cover s
 

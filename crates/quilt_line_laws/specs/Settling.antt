@@ -38,6 +38,7 @@ module _ (t : ℕ) (segs : SegMap) (cover : BlockSet) (s : Seg) (k : ℕ) (b : B
       → IsSettled t segs cover s (ℕ.suc k) b false (flat_map (coming_in t segs cover s k) (quarters_of b))
       (flat_map (going_in t segs cover s k) (quarters_of b)) (flat_map (staying_in t segs cover s k) (quarters_of b))
 
+-- All four steps hold, for each block and each set.
 abbrev pub SettleLaw : Type 0
 SettleLaw =
     (t : ℕ) (segs : SegMap) (cover : BlockSet) (s : Seg) (k : ℕ) (b : Block)

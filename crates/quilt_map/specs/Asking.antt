@@ -68,6 +68,7 @@ module _ {W : Type 0} {D : disk.Ghosts W} where
   abbrev pub reads_in : Book W D → Option ℕ
   reads_in b = reads_of (D.told b.world)
 
+  -- the pages that the pool holds, the last used first
   abbrev pub held_of : Book W D → Option (List ℕ)
   held_of b = Some (keys_of (entries_of b.pool))
 

@@ -31,12 +31,13 @@ use Rattle.quilt_pool.specs.Views.{entries_of}
 use Rattle.quilt_replies.specs.Answers.{State}
 use Rattle.quilt_map.specs.declared.session.Session.{Session}
 
--- The numbers of a catalog's entries are from 1 to 255 and differ, each capacity is 1 to 16, and each threshold 1 to 32.
+-- a capacity is 1 to 16, and a threshold is 1 to 32
 abbrev pub KindFits : Kind → Type 0
 KindFits kinds.Region = Unit {0}
 KindFits (kinds.Points bucket) = (1 ≤ bucket) × (bucket ≤ 16)
 KindFits (kinds.Lines threshold) = (1 ≤ threshold) × (threshold ≤ 32)
 
+-- The numbers of a catalog's entries are from 1 to 255 and differ, each capacity is 1 to 16, and each threshold 1 to 32.
 pub record IsNumbered (entries : List Entry) : Type 0 where
   pub least : All (λ e. 1 ≤ e.number) entries
   pub differ : IsDistinct nat_eq (map (λ (e : Entry). e.number) entries)
@@ -78,9 +79,11 @@ module _ {W : Type 0} {D : disk.Ghosts W} where
   abbrev pub told_of : Book W D → Option Pages
   told_of b = told_pages b.journal (entries_of b.pool) (D.told b.world)
 
+  -- which pages are free in the work
   abbrev pub free_of : Book W D → ℕ → Bool
   free_of b = is_free b.journal.pages b.free
 
+  -- how many pages are dirty in the pool or changed in the journal
   abbrev pub changed_of : Book W D → ℕ
   changed_of b = marked_count b.journal.pages (entries_of b.pool) b.journal.changed
 
@@ -115,6 +118,7 @@ module _ {W : Type 0} {D : disk.Ghosts W} where
   unfoldable pub format_of : Session W D → ℕ
   format_of s = s.book.work.format
 
+  -- the level of the map, whose square has 2^level pixels a side
   unfoldable pub level_of : Session W D → ℕ
   level_of s = s.book.last.level
 

@@ -35,6 +35,7 @@ gives_edition commands.Publish = true
 gives_edition commands.Upgrade = true
 gives_edition command = false
 
+-- the command makes the work the last edition again
 abbrev pub goes_back : Command → Bool
 goes_back commands.Revert = true
 goes_back command = false

@@ -7,15 +7,18 @@ use Rattle.quilt_types.specs.Layers.{Grid, colour_at}
 use Rattle.quilt_measure.specs.declared.bounding.Side.{Side}
 use Rattle.quilt_measure.specs.declared.bounding.Side.TheVariants.{Left, Right, Top, Bottom}
 
+-- the side across from this one
 abbrev pub opposite_of : Side → Side
 opposite_of Left = Right
 opposite_of Right = Left
 opposite_of Top = Bottom
 opposite_of Bottom = Top
 
+-- the pixel at x and y
 abbrev pub pixel : ℕ → ℕ → Pixel
 pixel x y = record { x = x; y = y }
 
+-- the block with its least corner at x and y, of the side s
 abbrev pub block : ℕ → ℕ → ℕ → Block
 block x y s = record { x = x; y = y; side = s }
 

@@ -12,6 +12,7 @@ abbrev pub better : Option (ℕ × Fraction) → ℕ × Fraction → Option (ℕ
 better None e = Some e
 better (Some best) e = if comes_first e best then Some e else Some best
 
+-- the best so far or this segment, which is nearer to the pixel p, of equals the one of the lesser id
 abbrev pub better_seg : Pixel → Option (ℕ × Fraction) → ℕ × Seg → Option (ℕ × Fraction)
 better_seg p best e = better best (e.0, square_distance p e.1)
 

@@ -71,7 +71,8 @@ ascending_cons k (l ∷ ks) h g = and_both (is_lt (key_cmp k l)) (is_ascending (
 pub ascending_take : (ks : List Key) (i : ℕ) → is_ascending ks ≡ true → is_ascending (take i ks) ≡ true
 ascending_take ks zero h = refl
 ascending_take [] (suc i) h = refl
-ascending_take (k ∷ ks) (suc i) h = ascending_cons k (take i ks) (all_take (is_over k) ks i (ascending_all k ks h)) (ascending_take ks i (ascending_tail k ks h))
+ascending_take (k ∷ ks) (suc i) h =
+    ascending_cons k (take i ks) (all_take (is_over k) ks i (ascending_all k ks h)) (ascending_take ks i (ascending_tail k ks h))
 
 pub ascending_drop : (ks : List Key) (i : ℕ) → is_ascending ks ≡ true → is_ascending (drop i ks) ≡ true
 ascending_drop ks zero h = h
@@ -94,22 +95,26 @@ pub ascending_back : (ks ls : List Key) → is_ascending (ks ++ ls) ≡ true →
 ascending_back ks ls h = subst (λ l. is_ascending l ≡ true) (drop-append_seam ks ls) (ascending_drop (ks ++ ls) (length ks) h)
 
 -- two lists with a key between them
-pub ascending_join : (k : Key) (ks ls : List Key) → list_all (is_under k) ks ≡ true → list_all (is_over k) ls ≡ true → is_ascending ks ≡ true → is_ascending ls ≡ true
+pub ascending_join : (k : Key) (ks ls : List Key) → list_all (is_under k) ks ≡ true → list_all (is_over k) ls ≡ true
+    → is_ascending ks ≡ true → is_ascending ls ≡ true
     → is_ascending (ks ++ k ∷ ls) ≡ true
 ascending_join k [] ls h g a b = ascending_cons k ls g b
 ascending_join k (m ∷ ks) ls h g a b =
     let t = and_parts (is_lt (key_cmp m k)) (list_all (is_under k) ks) h in
     ascending_cons m (ks ++ k ∷ ls)
-    (all_append (is_over m) ks (k ∷ ls) (ascending_all m ks a) (and_both (is_lt (key_cmp m k)) (list_all (is_over m) ls) t.0 (all_follow (is_over k) (is_over m) (λ l c. lt_lt m k l t.0 c) ls g)))
+    (all_append (is_over m) ks (k ∷ ls) (ascending_all m ks a)
+    (and_both (is_lt (key_cmp m k)) (list_all (is_over m) ls) t.0 (all_follow (is_over k) (is_over m) (λ l c. lt_lt m k l t.0 c) ls g)))
     (ascending_join k ks ls t.1 g (ascending_tail m ks a) b)
 
 -- a place is between those below a key and those above it: the key put in there keeps the order
-pub ascending_insert : (k : Key) (ks : List Key) (i : ℕ) → is_ascending ks ≡ true → list_all (is_under k) (take i ks) ≡ true → list_all (is_over k) (drop i ks) ≡ true
+pub ascending_insert : (k : Key) (ks : List Key) (i : ℕ) → is_ascending ks ≡ true → list_all (is_under k) (take i ks) ≡ true
+    → list_all (is_over k) (drop i ks) ≡ true
     → is_ascending (insert ks i k) ≡ true
 ascending_insert k ks i a h g = ascending_join k (take i ks) (drop i ks) h g (ascending_take ks i a) (ascending_drop ks i a)
 
 -- what stands up to a smaller key is smaller
-pub low_side : (ks : List Key) (i : ℕ) (d k : Key) → is_ascending ks ≡ true → i < length ks → is_under k (get_or ks i d) ≡ true → list_all (is_under k) (take (suc i) ks) ≡ true
+pub low_side : (ks : List Key) (i : ℕ) (d k : Key) → is_ascending ks ≡ true → i < length ks → is_under k (get_or ks i d) ≡ true
+    → list_all (is_under k) (take (suc i) ks) ≡ true
 low_side [] i d k a lt h = absurd (omega arith)
 low_side (x ∷ ks) zero d k a lt h = and_both (is_under k x) true h refl
 low_side (x ∷ ks) (suc i) d k a lt h =
@@ -119,9 +124,11 @@ low_side (x ∷ ks) (suc i) d k a lt h =
     (low_side ks i d k (ascending_tail x ks a) in_rest h)
 
 -- what stands from a greater key on is greater
-pub high_side : (ks : List Key) (i : ℕ) (d k : Key) → is_ascending ks ≡ true → i < length ks → is_over k (get_or ks i d) ≡ true → list_all (is_over k) (drop i ks) ≡ true
+pub high_side : (ks : List Key) (i : ℕ) (d k : Key) → is_ascending ks ≡ true → i < length ks → is_over k (get_or ks i d) ≡ true
+    → list_all (is_over k) (drop i ks) ≡ true
 high_side [] i d k a lt h = absurd (omega arith)
-high_side (x ∷ ks) zero d k a lt h = and_both (is_over k x) (list_all (is_over k) ks) h (all_follow (is_over x) (is_over k) (λ l g. lt_lt k x l h g) ks (ascending_all x ks a))
+high_side (x ∷ ks) zero d k a lt h =
+    and_both (is_over k x) (list_all (is_over k) ks) h (all_follow (is_over x) (is_over k) (λ l g. lt_lt k x l h g) ks (ascending_all x ks a))
 high_side (x ∷ ks) (suc i) d k a lt h = high_side ks i d k (ascending_tail x ks a) (omega arith) h
 
 -- what stands before and behind a key

@@ -10,7 +10,8 @@ use Rattle.quilt_node.specs.Nodes.{HeadFits, read_head}
 
 -- the first 24 bytes
 abbrev pub head_start : Head → List ℕ
-head_start h = magic ++ to_be_bytes w32 h.format ++ to_be_bytes w32 h.edition ++ (h.level ∷ h.height ∷ 0 ∷ 0 ∷ []) ++ to_be_bytes w32 h.root ++ to_be_bytes w32 h.records
+head_start h = magic ++ to_be_bytes w32 h.format ++ to_be_bytes w32 h.edition ++ (h.level ∷ h.height ∷ 0 ∷ 0 ∷ []) ++ to_be_bytes w32 h.root
+    ++ to_be_bytes w32 h.records
 
 pub filled_header : (h : Head) (start page : List ℕ) → start ≡ head_start h
     → page ≡ take 0 (replicate {A = ℕ} 4096 0) ++ (start ++ drop (0 + length start) (replicate {A = ℕ} 4096 0)) → page ≡ header_bytes h

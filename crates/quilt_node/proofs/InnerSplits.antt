@@ -1,5 +1,6 @@
 -- An inner page that is split, and a child that moves from one page to another, as lists.
-use Rattle.std.proofs.Common.{◌≡◌, ℕ, zero, suc, ◌+◌, ◌-◌, ◌<◌, ◌≤◌, true, Some, List, [], ◌∷◌, ◌++◌, length, take, drop, refl, sym, ◌∙◌, ap, subst, append_assoc, arith}
+use Rattle.std.proofs.Common.{◌≡◌, ℕ, zero, suc, ◌+◌, ◌-◌, ◌<◌, ◌≤◌, true, Some, List, [], ◌∷◌, ◌++◌, length, take, drop, refl, sym, ◌∙◌, ap, subst}
+use Rattle.std.proofs.Common.{append_assoc, arith}
 use Rattle.std.specs.Prelude.{slice_get}
 use Rattle.std.specs.List.{insert, remove}
 use Rattle.quilt_record.specs.declared.key.Key.{Key}
@@ -34,7 +35,8 @@ drop_get (y ∷ xs) zero x h = ap (λ l. l ++ xs) (one y x h)
 drop_get (y ∷ xs) (suc n) x h = drop_get xs n x h
 
 -- put in among the first 126 children
-pub low_left : (inner : Inner) (i child : ℕ) (k : Key) → i < 126 → with_child (first_children 126 inner) i k child ≡ first_children 127 (with_child inner i k child)
+pub low_left : (inner : Inner) (i child : ℕ) (k : Key) → i < 126
+    → with_child (first_children 126 inner) i k child ≡ first_children 127 (with_child inner i k child)
 low_left inner i child k h =
     let cs = sym (take_insert_low inner.children (suc i) 126 child h) in
     let ks = sym (take_insert_low inner.keys i 125 k (omega arith)) in
@@ -53,13 +55,15 @@ pub low_order : (ks : List Key) (i : ℕ) (k : Key) → i < 126 → is_ascending
 low_order ks i k h a = subst (λ l. is_ascending l ≡ true) (take_insert_low ks i 125 k (omega arith)) (ascending_take (insert ks i k) 126 a)
 
 -- put in behind the first 127 children
-pub high_left : (inner : Inner) (i child : ℕ) (k : Key) → 126 ≤ i → 127 ≤ length inner.children → 126 ≤ length inner.keys → first_children 127 inner ≡ first_children 127 (with_child inner i k child)
+pub high_left : (inner : Inner) (i child : ℕ) (k : Key) → 126 ≤ i → 127 ≤ length inner.children → 126 ≤ length inner.keys
+    → first_children 127 inner ≡ first_children 127 (with_child inner i k child)
 high_left inner i child k h few fewer =
     let cs = sym (take_insert_high inner.children (suc i) 127 child (omega arith) few) in
     let ks = sym (take_insert_high inner.keys i 126 k h fewer) in
     λ j. record { height = inner.height; children = cs j; keys = ks j }
 
-pub high_right : (inner : Inner) (i m child : ℕ) (k : Key) → i ≡ 127 + m → 127 ≤ length inner.children → 127 ≤ length inner.keys → with_child (children_from 127 inner) m k child ≡ children_from 127 (with_child inner i k child)
+pub high_right : (inner : Inner) (i m child : ℕ) (k : Key) → i ≡ 127 + m → 127 ≤ length inner.children → 127 ≤ length inner.keys
+    → with_child (children_from 127 inner) m k child ≡ children_from 127 (with_child inner i k child)
 high_right inner i m child k e few fewer =
     let cs = sym (drop_insert_high inner.children (suc i) 127 (suc m) child (omega arith) few) in
     let ks = sym (drop_insert_high inner.keys i 127 m k e fewer) in
@@ -68,12 +72,14 @@ high_right inner i m child k e few fewer =
 pub high_key : (ks : List Key) (i : ℕ) (k : Key) → 126 < i → 126 < length ks → slice_get (insert ks i k) 126 ≡ slice_get ks 126
 high_key ks i k h g = get_insert_high ks i 126 k h g
 
-pub high_order : (ks : List Key) (i m : ℕ) (k : Key) → i ≡ 127 + m → 127 ≤ length ks → is_ascending (insert ks i k) ≡ true → is_ascending (insert (drop 127 ks) m k) ≡ true
+pub high_order : (ks : List Key) (i m : ℕ) (k : Key) → i ≡ 127 + m → 127 ≤ length ks → is_ascending (insert ks i k) ≡ true
+    → is_ascending (insert (drop 127 ks) m k) ≡ true
 high_order ks i m k e fewer a = subst (λ l. is_ascending l ≡ true) (drop_insert_high ks i 127 m k e fewer) (ascending_drop (insert ks i k) 127 a)
 
 -- put in right behind the first 127: the key itself parts the pages
 pub middle_right : (inner : Inner) (i child : ℕ) (k between : Key) → i ≡ 126 → 127 ≤ length inner.children → slice_get inner.keys 126 ≡ Some between
-    → record { height = inner.height; children = child ∷ drop 127 inner.children; keys = between ∷ drop 127 inner.keys } ≡ children_from 127 (with_child inner i k child)
+    → record { height = inner.height; children = child ∷ drop 127 inner.children; keys = between ∷ drop 127 inner.keys }
+    ≡ children_from 127 (with_child inner i k child)
 middle_right inner i child k between e few h =
     let cs = sym (drop_insert_high inner.children (suc i) 127 0 child (omega arith) few) in
     let ks = sym (drop_insert_low inner.keys i 126 k (omega arith) ∙ drop_get inner.keys 126 between h) in
@@ -82,7 +88,8 @@ middle_right inner i child k between e few h =
 pub middle_key : (ks : List Key) (i : ℕ) (k : Key) → i ≡ 126 → 126 ≤ length ks → slice_get (insert ks i k) 126 ≡ Some k
 middle_key ks i k e h = ap (λ n. slice_get (insert ks n k) 126) e ∙ get_insert_same ks 126 k h
 
-pub middle_order : (ks : List Key) (i : ℕ) (k between : Key) → i ≡ 126 → slice_get ks 126 ≡ Some between → is_ascending (insert ks i k) ≡ true → is_ascending (between ∷ drop 127 ks) ≡ true
+pub middle_order : (ks : List Key) (i : ℕ) (k between : Key) → i ≡ 126 → slice_get ks 126 ≡ Some between → is_ascending (insert ks i k) ≡ true
+    → is_ascending (between ∷ drop 127 ks) ≡ true
 middle_order ks i k between e h a =
     subst (λ l. is_ascending l ≡ true) (drop_insert_low ks i 126 k (omega arith) ∙ drop_get ks 126 between h) (ascending_drop (insert ks i k) 127 a)
 

@@ -1,5 +1,6 @@
 -- An inner page over its bytes: what is read in it, and what edits of the bytes make of its children and keys.
-use Rattle.std.proofs.Common.{◌≡◌, ℕ, zero, suc, ◌+◌, ◌-◌, ◌*◌, ◌<◌, ◌≤◌, ◌^◌, Bool, true, false, ◌&&◌, nat_le, nat_lt, Some, None, List, [], ◌∷◌, ◌++◌, length, map, take, drop, get_or, set, slice_index, refl, sym, ◌∙◌, ap, subst, append_assoc, arith, replicate, flat_map, length-append}
+use Rattle.std.proofs.Common.{◌≡◌, ℕ, zero, suc, ◌+◌, ◌-◌, ◌*◌, ◌<◌, ◌≤◌, ◌^◌, Bool, true, false, ◌&&◌, nat_le, nat_lt, Some, None, List, [], ◌∷◌, ◌++◌, length}
+use Rattle.std.proofs.Common.{map, take, drop, get_or, set, slice_index, refl, sym, ◌∙◌, ap, subst, append_assoc, arith, replicate, flat_map, length-append}
 use Rattle.std.specs.Prelude.{if◌then◌else◌}
 use Rattle.std.specs.Str.{bytes_eq}
 use Rattle.std.specs.List.{list_all, range_with_len}
@@ -33,10 +34,12 @@ pub record IsShaped (height n : ℕ) (bytes : List ℕ) (cs : List ℕ) (ks : Li
   pub fewer : length ks ≤ 253
   pub shape : bytes ≡ inner_head height n ++ (child_area cs ++ key_area ks)
 
-pub children_of : (height n : ℕ) (bytes cs : List ℕ) (ks : List Key) → IsShaped height n bytes cs ks → HasArea (to_be_bytes w32) 4 1016 (inner_head height n) (key_area ks) bytes cs
+pub children_of : (height n : ℕ) (bytes cs : List ℕ) (ks : List Key) → IsShaped height n bytes cs ks
+    → HasArea (to_be_bytes w32) 4 1016 (inner_head height n) (key_area ks) bytes cs
 children_of height n bytes cs ks s = record { wide = wide_words cs; fits = omega (arith, s.few); shape = s.shape }
 
-pub with_children : (height n : ℕ) (bytes cs : List ℕ) (ks : List Key) → HasArea (to_be_bytes w32) 4 1016 (inner_head height n) (key_area ks) bytes cs → length ks ≤ 253 → IsShaped height n bytes cs ks
+pub with_children : (height n : ℕ) (bytes cs : List ℕ) (ks : List Key)
+    → HasArea (to_be_bytes w32) 4 1016 (inner_head height n) (key_area ks) bytes cs → length ks ≤ 253 → IsShaped height n bytes cs ks
 with_children height n bytes cs ks h fewer = record { few = omega (arith, h.fits); fewer = fewer; shape = h.shape }
 
 pub key_start : (height n : ℕ) (cs : List ℕ) → length cs ≤ 254 → length (inner_head height n ++ child_area cs) ≡ 1024
@@ -49,38 +52,46 @@ key_start height n cs few =
     sized : (n a b c : ℕ) → c ≡ a + b → a ≡ 4 * n → b ≡ 1016 - 4 * n → n ≤ 254 → c ≡ 1016
     sized n a b c e f g h = omega arith
 
-pub keys_of_page : (height n : ℕ) (bytes cs : List ℕ) (ks : List Key) → IsShaped height n bytes cs ks → HasArea key_bytes 12 3072 (inner_head height n ++ child_area cs) [] bytes ks
+pub keys_of_page : (height n : ℕ) (bytes cs : List ℕ) (ks : List Key) → IsShaped height n bytes cs ks
+    → HasArea key_bytes 12 3072 (inner_head height n ++ child_area cs) [] bytes ks
 keys_of_page height n bytes cs ks s = record {
   wide = wide_keys ks;
   fits = omega (arith, s.fewer);
-  shape = s.shape ∙ ap (λ l. inner_head height n ++ (child_area cs ++ l)) (sym (append-nil (key_area ks))) ∙ sym (append_assoc (inner_head height n) (child_area cs) (key_area ks ++ []));
+  shape = s.shape ∙ ap (λ l. inner_head height n ++ (child_area cs ++ l)) (sym (append-nil (key_area ks)))
+      ∙ sym (append_assoc (inner_head height n) (child_area cs) (key_area ks ++ []));
 }
 
-pub with_keys : (height n : ℕ) (bytes cs : List ℕ) (ks : List Key) → HasArea key_bytes 12 3072 (inner_head height n ++ child_area cs) [] bytes ks → length cs ≤ 254 → length ks ≤ 253 → IsShaped height n bytes cs ks
+pub with_keys : (height n : ℕ) (bytes cs : List ℕ) (ks : List Key) → HasArea key_bytes 12 3072 (inner_head height n ++ child_area cs) [] bytes ks
+    → length cs ≤ 254 → length ks ≤ 253 → IsShaped height n bytes cs ks
 with_keys height n bytes cs ks h few fewer = record {
   few = few;
   fewer = fewer;
-  shape = h.shape ∙ append_assoc (inner_head height n) (child_area cs) (key_area ks ++ []) ∙ ap (λ l. inner_head height n ++ (child_area cs ++ l)) (append-nil (key_area ks));
+  shape = h.shape ∙ append_assoc (inner_head height n) (child_area cs) (key_area ks ++ [])
+      ∙ ap (λ l. inner_head height n ++ (child_area cs ++ l)) (append-nil (key_area ks));
 }
 
-pub recounted : (height n m : ℕ) (bytes new cs : List ℕ) (ks : List Key) → IsShaped height n bytes cs ks → new ≡ take 2 bytes ++ (to_be_bytes w16 m ++ drop 4 bytes) → IsShaped height m new cs ks
+pub recounted : (height n m : ℕ) (bytes new cs : List ℕ) (ks : List Key) → IsShaped height n bytes cs ks
+    → new ≡ take 2 bytes ++ (to_be_bytes w16 m ++ drop 4 bytes) → IsShaped height m new cs ks
 recounted height n m bytes new cs ks s e = record {
   few = s.few;
   fewer = s.fewer;
   shape = e ∙ ap (λ l. take 2 l ++ (to_be_bytes w16 m ++ drop 4 l)) s.shape;
 }
 
-pub inner_shape : (height : ℕ) (cs : List ℕ) (ks : List Key) → length cs ≤ 254 → inner_bytes height cs ks ≡ inner_head height (length cs) ++ (child_area cs ++ key_area ks)
+pub inner_shape : (height : ℕ) (cs : List ℕ) (ks : List Key) → length cs ≤ 254
+    → inner_bytes height cs ks ≡ inner_head height (length cs) ++ (child_area cs ++ key_area ks)
 unfolding inner_bytes
 inner_shape height cs ks few =
     let head = inner_head height (length cs) in
     let rows = flat_map (to_be_bytes w32) cs in
     let first : length (head ++ rows) ≡ 8 + 4 * length cs = length-append head rows ∙ ap (λ n. 8 + n) (wide_length (to_be_bytes w32) 4 cs (wide_words cs)) in
     let front : filled 1024 (head ++ rows) ≡ head ++ child_area cs =
-    append_assoc head rows (replicate (1024 - length (head ++ rows)) 0) ∙ ap (λ m. head ++ (rows ++ replicate m 0)) (left (length cs) (length (head ++ rows)) first) in
+    append_assoc head rows (replicate (1024 - length (head ++ rows)) 0)
+    ∙ ap (λ m. head ++ (rows ++ replicate m 0)) (left (length cs) (length (head ++ rows)) first) in
     let keys = flat_map key_bytes ks in
     let whole : length ((head ++ child_area cs) ++ keys) ≡ 1024 + 12 * length ks =
-    length-append (head ++ child_area cs) keys ∙ ap (λ n. n + length keys) (key_start height (length cs) cs few) ∙ ap (λ n. 1024 + n) (wide_length key_bytes 12 ks (wide_keys ks)) in
+    length-append (head ++ child_area cs) keys ∙ ap (λ n. n + length keys) (key_start height (length cs) cs few)
+    ∙ ap (λ n. 1024 + n) (wide_length key_bytes 12 ks (wide_keys ks)) in
     ap (λ l. filled 4096 (l ++ keys)) front
     ∙ append_assoc (head ++ child_area cs) keys (replicate (4096 - length ((head ++ child_area cs) ++ keys)) 0)
     ∙ ap (λ m. (head ++ child_area cs) ++ (keys ++ replicate m 0)) (rest (length ks) (length ((head ++ child_area cs) ++ keys)) whole)
@@ -99,10 +110,12 @@ shape_of bytes inner p = record {
   shape = p.written ∙ inner_shape inner.height inner.children inner.keys p.is_inner.most;
 }
 
-pub inner_page_of : (n : ℕ) (bytes : List ℕ) (inner : Inner) → n ≡ length inner.children → IsInner inner → IsShaped inner.height n bytes inner.children inner.keys → IsInnerPage bytes inner
+pub inner_page_of : (n : ℕ) (bytes : List ℕ) (inner : Inner) → n ≡ length inner.children → IsInner inner
+    → IsShaped inner.height n bytes inner.children inner.keys → IsInnerPage bytes inner
 inner_page_of n bytes inner e is s = record {
   is_inner = is;
-  written = s.shape ∙ ap (λ m. inner_head inner.height m ++ (child_area inner.children ++ key_area inner.keys)) e ∙ sym (inner_shape inner.height inner.children inner.keys is.most);
+  written = s.shape ∙ ap (λ m. inner_head inner.height m ++ (child_area inner.children ++ key_area inner.keys)) e
+      ∙ sym (inner_shape inner.height inner.children inner.keys is.most);
 }
 
 pub count_is : (bytes : List ℕ) (inner : Inner) → IsInnerPage bytes inner → short_at bytes 2 ≡ length inner.children
@@ -121,10 +134,12 @@ below_word n h =
     lt_of_test : (a b : ℕ) → nat_lt a b ≡ true → a < b
     lt_of_test a b g = grind (arith, nat_tests)
 
-pub child_within : (inner : Inner) (i : ℕ) → IsInner inner → i < length inner.children → (1 ≤ slice_index inner.children i) × (slice_index inner.children i < 2 ^ 32)
+pub child_within : (inner : Inner) (i : ℕ) → IsInner inner → i < length inner.children → (1 ≤ slice_index inner.children i)
+    × (slice_index inner.children i < 2 ^ 32)
 child_within inner i is lt = below_word (slice_index inner.children i) (all_at (λ c. nat_le 1 c && nat_lt c (2 ^ 32)) inner.children i 0 is.children lt)
 
-pub child_is : (bytes : List ℕ) (inner : Inner) (i : ℕ) → IsInnerPage bytes inner → i < length inner.children → word_at bytes (8 + 4 * i) ≡ slice_index inner.children i
+pub child_is : (bytes : List ℕ) (inner : Inner) (i : ℕ) → IsInnerPage bytes inner → i < length inner.children
+    → word_at bytes (8 + 4 * i) ≡ slice_index inner.children i
 child_is bytes inner i p lt =
     word_stands (slice_index inner.children i) bytes (8 + 4 * i) (child_within inner i p.is_inner lt).1
     (row_stands (to_be_bytes w32) 4 1016 (inner_head inner.height (length inner.children)) (key_area inner.keys) bytes inner.children i (8 + 4 * i) 0
@@ -135,7 +150,8 @@ key_fit_at [] i d f lt = absurd (omega arith)
 key_fit_at (k ∷ ks) zero d f lt = f.0
 key_fit_at (k ∷ ks) (suc i) d f lt = key_fit_at ks i d f.1 (omega arith)
 
-pub key_is : (bytes : List ℕ) (inner : Inner) (i : ℕ) (d : Key) → IsInnerPage bytes inner → i < length inner.keys → key_at bytes (1024 + 12 * i) ≡ get_or inner.keys i d
+pub key_is : (bytes : List ℕ) (inner : Inner) (i : ℕ) (d : Key) → IsInnerPage bytes inner → i < length inner.keys
+    → key_at bytes (1024 + 12 * i) ≡ get_or inner.keys i d
 key_is bytes inner i d p lt =
     let n = length inner.children in
     let start = key_start inner.height n inner.children p.is_inner.most in
@@ -209,7 +225,8 @@ filled_inner height n start mid new cs s few m e =
     ∙ ap (λ k. replicate {A = ℕ} k 0) zeros ∙ sym (replicate-append-replicate (1016 - length cs) 3072 0))
     ∙ ap (λ l. head ++ l) (sym (append_assoc cs (replicate (1016 - length cs) 0) (replicate 3072 0)))
 
-passed_all : {X : Type 0} (a b c d e f g : Bool) (x : X) → a ≡ true → b ≡ true → c ≡ true → d ≡ true → e ≡ true → f ≡ true → g ≡ true → (if a && b && c && d && e && f && g then Some x else None) ≡ Some x
+passed_all : {X : Type 0} (a b c d e f g : Bool) (x : X) → a ≡ true → b ≡ true → c ≡ true → d ≡ true → e ≡ true → f ≡ true → g ≡ true
+    → (if a && b && c && d && e && f && g then Some x else None) ≡ Some x
 passed_all true true true true true true true x p q r s t u v = refl
 passed_all true true true true true true false x p q r s t u v = cc
 passed_all true true true true true false g x p q r s t u v = cc
@@ -220,13 +237,15 @@ passed_all true false c d e f g x p q r s t u v = cc
 passed_all false b c d e f g x p q r s t u v = cc
 
 -- The bytes of an inner page are well formed where its children are pages, and are its height, children and keys.
-pub inner_of_page : (pages : ℕ) (bytes : List ℕ) (inner : Inner) → IsInnerPage bytes inner → are_pages pages inner.children ≡ true → inner_of pages bytes ≡ Some inner
+pub inner_of_page : (pages : ℕ) (bytes : List ℕ) (inner : Inner) → IsInnerPage bytes inner → are_pages pages inner.children ≡ true
+    → inner_of pages bytes ≡ Some inner
 unfolding inner_of
 inner_of_page pages bytes inner p h =
     let same = read_back bytes inner p in
     let q = read_inner bytes in
     let is = p.is_inner in
-    passed_all (nat_le 2 q.height) (nat_le q.height 3) (nat_le 2 (length q.children)) (nat_le (length q.children) 254) (list_all (λ c. nat_le 1 c && nat_lt c pages) q.children)
+    passed_all (nat_le 2 q.height) (nat_le q.height 3) (nat_le 2 (length q.children)) (nat_le (length q.children) 254)
+    (list_all (λ c. nat_le 1 c && nat_lt c pages) q.children)
     (is_ascending q.keys) (bytes_eq (inner_bytes q.height q.children q.keys) bytes) q
     (ap (λ (l : Inner). nat_le 2 l.height) same ∙ le_test 2 inner.height is.low)
     (ap (λ (l : Inner). nat_le l.height 3) same ∙ le_test inner.height 3 is.high)

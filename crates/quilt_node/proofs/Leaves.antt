@@ -1,5 +1,7 @@
 -- A leaf page over its bytes: what is read in it, and what edits of the bytes make of its records.
-use Rattle.std.proofs.Common.{◌≡◌, ℕ, zero, suc, ◌+◌, ◌-◌, ◌*◌, ◌<◌, ◌≤◌, ◌^◌, Bool, true, false, ◌&&◌, nat_le, Some, None, List, [], ◌∷◌, ◌++◌, length, map, take, drop, get_or, slice_range, refl, sym, ◌∙◌, ap, subst, append_assoc, arith, replicate, flat_map, length-append, length-drop, length-take-le}
+use Rattle.std.proofs.Common.{◌≡◌, ℕ, zero, suc, ◌+◌, ◌-◌, ◌*◌, ◌<◌, ◌≤◌, ◌^◌, Bool, true, false, ◌&&◌, nat_le, Some, None, List, [], ◌∷◌, ◌++◌, length, map}
+use Rattle.std.proofs.Common.{take, drop, get_or, slice_range, refl, sym, ◌∙◌, ap, subst, append_assoc, arith, replicate, flat_map, length-append, length-drop}
+use Rattle.std.proofs.Common.{length-take-le}
 use Rattle.std.specs.Prelude.{if◌then◌else◌, slice_get}
 use Rattle.std.specs.Str.{bytes_eq}
 use Rattle.std.specs.List.{insert, remove}
@@ -18,7 +20,8 @@ use Rattle.quilt_record.specs.Records.{record_bytes}
 use Rattle.quilt_record.specs.Fits.{IsFitting, AllFit}
 use Rattle.quilt_node.specs.Pages.{short_at, record_at, read_leaf, leaf_bytes, leaf_of, is_ascending}
 use Rattle.quilt_node.specs.Nodes.{IsLeaf, IsLeafPage, keys_of, leaf_head}
-use Rattle.quilt_node.proofs.Rows.{HasArea, area, row_stands, cut_front, put_row, take_row, add_rows, cut_rows, rows_from, wide_length, length_insert, length_remove}
+use Rattle.quilt_node.proofs.Rows.{HasArea, area, row_stands, cut_front, put_row, take_row, add_rows, cut_rows, rows_from, wide_length, length_insert}
+use Rattle.quilt_node.proofs.Rows.{length_remove}
 use Rattle.quilt_node.proofs.Spelled.{record_stands, wide_records}
 use Rattle.quilt_node.proofs.Ascending.{ascending_take, ascending_drop, ascending_remove}
 
@@ -32,7 +35,8 @@ leaf_shape rs f =
     let whole : length (leaf_head (length rs) ++ flat_map record_bytes rs) ≡ 64 + 28 * length rs =
     length-append (leaf_head (length rs)) (flat_map record_bytes rs) ∙ ap (λ n. 64 + n) (wide_length record_bytes 28 rs (wide_records rs f)) in
     append_assoc (leaf_head (length rs)) (flat_map record_bytes rs) (replicate (4096 - length (leaf_head (length rs) ++ flat_map record_bytes rs)) 0)
-    ∙ ap (λ m. leaf_head (length rs) ++ (flat_map record_bytes rs ++ replicate m 0)) (left (length rs) (length (leaf_head (length rs) ++ flat_map record_bytes rs)) whole)
+    ∙ ap (λ m. leaf_head (length rs) ++ (flat_map record_bytes rs ++ replicate m 0))
+    (left (length rs) (length (leaf_head (length rs) ++ flat_map record_bytes rs)) whole)
   where
     left : (n m : ℕ) → m ≡ 64 + 28 * n → 4096 - m ≡ 4032 - 28 * n
     left n m h = omega arith
@@ -47,12 +51,14 @@ has_records bytes rs p = record {
 pub leaf_page_of : (n : ℕ) (bytes : List ℕ) (rs : List Record) → n ≡ length rs → IsLeaf rs → HasRecords n bytes rs → IsLeafPage bytes rs
 leaf_page_of n bytes rs e leaf h = record {
   is_leaf = leaf;
-  written = h.shape ∙ ap (λ m. leaf_head m ++ (area record_bytes 28 4032 rs ++ [])) e ∙ ap (λ l. leaf_head (length rs) ++ l) (append-nil (area record_bytes 28 4032 rs))
+  written = h.shape ∙ ap (λ m. leaf_head m ++ (area record_bytes 28 4032 rs ++ [])) e
+      ∙ ap (λ l. leaf_head (length rs) ++ l) (append-nil (area record_bytes 28 4032 rs))
       ∙ sym (leaf_shape rs leaf.fit);
 }
 
 -- another count is written
-pub counted : (n m : ℕ) (bytes new : List ℕ) (rs : List Record) → HasRecords n bytes rs → new ≡ take 2 bytes ++ (to_be_bytes w16 m ++ drop 4 bytes) → HasRecords m new rs
+pub counted : (n m : ℕ) (bytes new : List ℕ) (rs : List Record) → HasRecords n bytes rs
+    → new ≡ take 2 bytes ++ (to_be_bytes w16 m ++ drop 4 bytes) → HasRecords m new rs
 counted n m bytes new rs h e = record {
   wide = h.wide;
   fits = h.fits;
@@ -124,7 +130,8 @@ pub fit_append : (rs ss : List Record) → AllFit rs → AllFit ss → AllFit (r
 fit_append [] ss f g = g
 fit_append (r ∷ rs) ss f g = (f.0, fit_append rs ss f.1 g)
 
-pub leaf_insert : (rs : List Record) (i : ℕ) (r : Record) → IsLeaf rs → IsFitting r → length rs < 144 → is_ascending (keys_of (insert rs i r)) ≡ true → IsLeaf (insert rs i r)
+pub leaf_insert : (rs : List Record) (i : ℕ) (r : Record) → IsLeaf rs → IsFitting r → length rs < 144
+    → is_ascending (keys_of (insert rs i r)) ≡ true → IsLeaf (insert rs i r)
 leaf_insert rs i r leaf f room order =
     let more = length_insert rs i r in
     record {
@@ -142,7 +149,8 @@ leaf_remove rs i leaf some lt =
       least = omega (arith, fewer, some);
       most = omega (arith, fewer, leaf.most);
       ascends = subst (λ l. is_ascending l ≡ true)
-          (ap (λ l. l ++ drop (suc i) (keys_of rs)) (take-map (λ (r : Record). r.key) i rs) ∙ ap (λ l. keys_of (take i rs) ++ l) (drop-map (λ (r : Record). r.key) (suc i) rs)
+          (ap (λ l. l ++ drop (suc i) (keys_of rs)) (take-map (λ (r : Record). r.key) i rs)
+          ∙ ap (λ l. keys_of (take i rs) ++ l) (drop-map (λ (r : Record). r.key) (suc i) rs)
           ∙ sym (map-append (λ (r : Record). r.key) (take i rs) (drop (suc i) rs)))
           (ascending_remove (keys_of rs) i leaf.ascends);
     }
@@ -178,7 +186,8 @@ insert_page bytes mid new piece rs i n r p count f place room order row made cou
     let width : length piece ≡ 28 = ap length row ∙ wide in
     leaf_page_of (n + 1) new (insert rs i r) (omega (arith, many, length_insert rs i r)) (leaf_insert rs i r p.is_leaf f room order)
     (counted (length rs) (n + 1) mid new (insert rs i r)
-    (put_row record_bytes 28 4032 (leaf_head (length rs)) [] bytes mid piece rs i (64 + 28 * i) (64 + 28 * n) r (has_records bytes rs p) wide place (omega arith) refl
+    (put_row record_bytes 28 4032 (leaf_head (length rs)) [] bytes mid piece rs i (64 + 28 * i) (64 + 28 * n) r
+    (has_records bytes rs p) wide place (omega arith) refl
     (ap (λ m. 64 + 28 * m) many) row
     (made ∙ ap (λ m. take (64 + 28 * i) bytes ++ (piece ++ (slice_range bytes (64 + 28 * i) (64 + 28 * n) ++ drop (64 + 28 * n + m) bytes))) width)) counts)
 
@@ -212,7 +221,8 @@ join_page bytes mid new other rs ss n m p q count counts room order made e =
     (counted (length rs) (n + m) mid new (rs ++ ss)
     (add_rows record_bytes 28 4032 (leaf_head (length rs)) [] bytes mid (slice_range other 64 (64 + 28 * m)) rs ss (64 + 28 * n) (has_records bytes rs p)
     (wide_records ss q.is_leaf.fit) (omega (arith, both, room)) (ap (λ k. 64 + 28 * k) many)
-    (rows_from record_bytes 28 4032 (leaf_head (length ss)) [] other ss 0 64 (64 + 28 * m) (has_records other ss q) (omega arith) refl (ap (λ k. 64 + 28 * k) more)) made) e)
+    (rows_from record_bytes 28 4032 (leaf_head (length ss)) [] other ss 0 64 (64 + 28 * m) (has_records other ss q) (omega arith) refl
+    (ap (λ k. 64 + 28 * k) more)) made) e)
 
 -- The first records stay.
 pub keep_page : (bytes mid new : List ℕ) (rs : List Record) (i n : ℕ) → IsLeafPage bytes rs → n ≡ length rs → (1 ≤ i) × (i < length rs)
@@ -245,7 +255,8 @@ pub rest_page : (bytes new : List ℕ) (rs : List Record) (i n k : ℕ) → IsLe
 rest_page bytes new rs i n k p count place left made =
     let many : n ≡ length rs = count in
     made_page new (slice_range bytes (64 + 28 * i) (64 + 28 * n)) (drop i rs) k (leaf_drop rs i p.is_leaf place) (omega (arith, left, many, length-drop i rs))
-    (rows_from record_bytes 28 4032 (leaf_head (length rs)) [] bytes rs i (64 + 28 * i) (64 + 28 * n) (has_records bytes rs p) (omega arith) refl (ap (λ m. 64 + 28 * m) many)) made
+    (rows_from record_bytes 28 4032 (leaf_head (length rs)) [] bytes rs i (64 + 28 * i) (64 + 28 * n) (has_records bytes rs p) (omega arith) refl
+    (ap (λ m. 64 + 28 * m) many)) made
 
 -- A page is filled behind its first bytes.
 pub filled_page : (n : ℕ) (start mid new rows : List ℕ) → start ≡ 1 ∷ 1 ∷ to_be_bytes w16 n
@@ -301,10 +312,12 @@ keys_take rs n h = subst (λ l. is_ascending l ≡ true) (take-map (λ (r : Reco
 pub keys_drop : (rs : List Record) (n : ℕ) → is_ascending (keys_of rs) ≡ true → is_ascending (keys_of (drop n rs)) ≡ true
 keys_drop rs n h = subst (λ l. is_ascending l ≡ true) (drop-map (λ (r : Record). r.key) n rs) (ascending_drop (keys_of rs) n h)
 
-pub keys_low : (rs : List Record) (i n : ℕ) (r : Record) → i ≤ n → is_ascending (keys_of (insert rs i r)) ≡ true → is_ascending (keys_of (insert (take n rs) i r)) ≡ true
+pub keys_low : (rs : List Record) (i n : ℕ) (r : Record) → i ≤ n → is_ascending (keys_of (insert rs i r)) ≡ true
+    → is_ascending (keys_of (insert (take n rs) i r)) ≡ true
 keys_low rs i n r h a = subst (λ l. is_ascending (keys_of l) ≡ true) (take_insert_low rs i n r h) (keys_take (insert rs i r) (suc n) a)
 
-pub keys_high : (rs : List Record) (i n m : ℕ) (r : Record) → i ≡ n + m → n ≤ length rs → is_ascending (keys_of (insert rs i r)) ≡ true → is_ascending (keys_of (insert (drop n rs) m r)) ≡ true
+pub keys_high : (rs : List Record) (i n m : ℕ) (r : Record) → i ≡ n + m → n ≤ length rs → is_ascending (keys_of (insert rs i r)) ≡ true
+    → is_ascending (keys_of (insert (drop n rs) m r)) ≡ true
 keys_high rs i n m r e h a = subst (λ l. is_ascending (keys_of l) ≡ true) (drop_insert_high rs i n m r e h) (keys_drop (insert rs i r) n a)
 
 first_of : (ss : List Record) (x : Record) → slice_get ss 0 ≡ Some x → take 1 ss ≡ x ∷ []
@@ -315,7 +328,8 @@ first_of (s ∷ ss) x h = ap (λ o. option_to_list o) h
 pub lent_first : (rs ss : List Record) (n : ℕ) (x : Record) → n ≡ length rs → slice_get ss 0 ≡ Some x → insert rs n x ≡ rs ++ take 1 ss
 lent_first rs ss n x e h = insert_last rs n x e ∙ ap (λ l. rs ++ l) (sym (first_of ss x h))
 
-pub lent_first_order : (rs ss : List Record) (n : ℕ) (x : Record) → n ≡ length rs → slice_get ss 0 ≡ Some x → is_ascending (keys_of (rs ++ ss)) ≡ true → is_ascending (keys_of (insert rs n x)) ≡ true
+pub lent_first_order : (rs ss : List Record) (n : ℕ) (x : Record) → n ≡ length rs → slice_get ss 0 ≡ Some x
+    → is_ascending (keys_of (rs ++ ss)) ≡ true → is_ascending (keys_of (insert rs n x)) ≡ true
 lent_first_order rs ss n x e h a =
     subst (λ l. is_ascending (keys_of l) ≡ true) (take-append-add rs ss 1 ∙ sym (lent_first rs ss n x e h)) (keys_take (rs ++ ss) (length rs + 1) a)
 
@@ -329,7 +343,8 @@ last_of (s ∷ ss) (suc n) x e h = last_of ss n x (omega arith) h
 pub lent_last : {X : Type 0} (rs ss : List X) (n : ℕ) (x : X) → suc n ≡ length ss → slice_get ss n ≡ Some x → insert rs 0 x ≡ drop n ss ++ rs
 lent_last rs ss n x e h = ap (λ l. l ++ rs) (sym (last_of ss n x e h))
 
-pub lent_last_order : (rs ss : List Record) (n : ℕ) (x : Record) → suc n ≡ length ss → slice_get ss n ≡ Some x → is_ascending (keys_of (ss ++ rs)) ≡ true → is_ascending (keys_of (insert rs 0 x)) ≡ true
+pub lent_last_order : (rs ss : List Record) (n : ℕ) (x : Record) → suc n ≡ length ss → slice_get ss n ≡ Some x
+    → is_ascending (keys_of (ss ++ rs)) ≡ true → is_ascending (keys_of (insert rs 0 x)) ≡ true
 lent_last_order rs ss n x e h a =
     subst (λ l. is_ascending (keys_of l) ≡ true) (drop-append-le n ss rs (omega arith) ∙ sym (lent_last rs ss n x e h)) (keys_drop (ss ++ rs) n a)
 

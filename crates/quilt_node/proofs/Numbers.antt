@@ -1,5 +1,6 @@
 -- A key as one number: the order of the numbers is that of the keys, and a key's bytes spell its number.
-use Rattle.std.proofs.Common.{◌≡◌, ℕ, suc, ◌+◌, ◌-◌, ◌*◌, ◌^◌, ◌<◌, ◌≤◌, true, false, List, ◌∷◌, ◌++◌, length, map, take, drop, slice_range, subst, refl, sym, ◌∙◌, ap, ap₂, arith, nat_cmp, Ordering, Less, Equal, Greater, length-drop, length-take-le}
+use Rattle.std.proofs.Common.{◌≡◌, ℕ, suc, ◌+◌, ◌-◌, ◌*◌, ◌^◌, ◌<◌, ◌≤◌, true, false, List, ◌∷◌, ◌++◌, length, map, take, drop, slice_range, subst, refl, sym}
+use Rattle.std.proofs.Common.{◌∙◌, ap, ap₂, arith, nat_cmp, Ordering, Less, Equal, Greater, length-drop, length-take-le}
 use Rattle.std.specs.List.{range_with_len}
 use Rattle.std.specs.Ordering.{ordering_then, is_lt}
 use Rattle.std.specs.Cmp.{nat_cmp_is}
@@ -15,9 +16,12 @@ use Rattle.quilt_node.proofs.Spelled.{AreBytes, key_fits, key_behind, part_behin
 use Rattle.quilt_node.proofs.Searches.{AscendsFrom, from_first, from_next, stops}
 
 -- two numbers of two digits each
-two_digits : (a b c d m : ℕ) (high low : Ordering) → high ≡ nat_cmp a c → low ≡ nat_cmp b d → b < m → d < m → ordering_then high low ≡ nat_cmp (a * m + b) (c * m + d)
-two_digits a b c d m Less low e f hb hd = nat_cmp_is (a * m + b) (c * m + d) Less (let h : a < c = ranked a c Less e in omega (arith, suc-mul a m, mul-le-mul_right {m = suc a} {n = c} m h))
-two_digits a b c d m Greater low e f hb hd = nat_cmp_is (a * m + b) (c * m + d) Greater (let h : c < a = ranked a c Greater e in omega (arith, suc-mul c m, mul-le-mul_right {m = suc c} {n = a} m h))
+two_digits : (a b c d m : ℕ) (high low : Ordering) → high ≡ nat_cmp a c → low ≡ nat_cmp b d → b < m → d < m
+    → ordering_then high low ≡ nat_cmp (a * m + b) (c * m + d)
+two_digits a b c d m Less low e f hb hd =
+    nat_cmp_is (a * m + b) (c * m + d) Less (let h : a < c = ranked a c Less e in omega (arith, suc-mul a m, mul-le-mul_right {m = suc a} {n = c} m h))
+two_digits a b c d m Greater low e f hb hd =
+    nat_cmp_is (a * m + b) (c * m + d) Greater (let h : c < a = ranked a c Greater e in omega (arith, suc-mul c m, mul-le-mul_right {m = suc c} {n = a} m h))
 two_digits a b c d m Equal Less e f hb hd =
     let h : a * m ≡ c * m = ap (λ x. x * m) (ranked a c Equal e) in
     nat_cmp_is (a * m + b) (c * m + d) Less (let g : b < d = ranked b d Less f in omega (arith, h))
@@ -34,10 +38,12 @@ pub number_order : (k l : Key) → FieldsFit k → FieldsFit l → key_cmp k l �
 unfolding key_number
 number_order k l f g =
     let depth = above k.depth k.item l.depth l.item (2 ^ 64) (nat_cmp k.item l.item) refl (omega (arith, f.item)) (omega (arith, g.item)) in
-    let code = above k.code (k.depth * 2 ^ 64 + k.item) l.code (l.depth * 2 ^ 64 + l.item) (2 ^ 72) _ depth (omega (arith, f.depth, f.item)) (omega (arith, g.depth, g.item)) in
+    let code = above k.code (k.depth * 2 ^ 64 + k.item) l.code (l.depth * 2 ^ 64 + l.item) (2 ^ 72) _ depth (omega (arith, f.depth, f.item))
+    (omega (arith, g.depth, g.item)) in
     let part = above k.part (k.code * 2 ^ 72 + (k.depth * 2 ^ 64 + k.item)) l.part (l.code * 2 ^ 72 + (l.depth * 2 ^ 64 + l.item)) (2 ^ 104) _ code
     (omega (arith, f.code, f.depth, f.item)) (omega (arith, g.code, g.depth, g.item)) in
-    above k.layer (k.part * 2 ^ 104 + (k.code * 2 ^ 72 + (k.depth * 2 ^ 64 + k.item))) l.layer (l.part * 2 ^ 104 + (l.code * 2 ^ 72 + (l.depth * 2 ^ 64 + l.item))) (2 ^ 112) _ part
+    above k.layer (k.part * 2 ^ 104 + (k.code * 2 ^ 72 + (k.depth * 2 ^ 64 + k.item))) l.layer
+    (l.part * 2 ^ 104 + (l.code * 2 ^ 72 + (l.depth * 2 ^ 64 + l.item))) (2 ^ 112) _ part
     (omega (arith, f.part, f.code, f.depth, f.item)) (omega (arith, g.part, g.code, g.depth, g.item))
 
 pub lower_number : (k l : Key) → FieldsFit k → FieldsFit l → key_number k < key_number l → is_lt (key_cmp k l) ≡ true
@@ -57,7 +63,8 @@ front_number (a ∷ b ∷ p ∷ c ∷ d ∷ e ∷ f ∷ q ∷ g ∷ h ∷ i ∷ 
 front_number xs lt = absurd (omega arith)
 
 -- The number of the key that stands at a place, by its bytes there.
-pub number_at : (bytes : List ℕ) (at front item : ℕ) → at + 12 ≤ length bytes → front ≡ from_be_bytes w64 (slice_range bytes at (at + 8)) → item ≡ word_at bytes (at + 8)
+pub number_at : (bytes : List ℕ) (at front item : ℕ) → at + 12 ≤ length bytes → front ≡ from_be_bytes w64 (slice_range bytes at (at + 8))
+    → item ≡ word_at bytes (at + 8)
     → front * 2 ^ 64 + item ≡ key_number (key_at bytes at)
 number_at bytes at front item room e f =
     let pre = take at bytes in
@@ -86,7 +93,8 @@ pub record AscendsOver (f : ℕ → Key) (n i last : ℕ) : Type 0 where
   pub number : last ≡ key_number (f (i - 1))
   pub fits : FieldsFit (f (i - 1))
 
-pub over_first : (bytes : List ℕ) (at width n last : ℕ) → last ≡ key_number (key_at bytes at) → FieldsFit (key_at bytes at) → AscendsOver (λ i. key_at bytes (at + width * i)) n 1 last
+pub over_first : (bytes : List ℕ) (at width n last : ℕ) → last ≡ key_number (key_at bytes at) → FieldsFit (key_at bytes at)
+    → AscendsOver (λ i. key_at bytes (at + width * i)) n 1 last
 over_first bytes at width n last e f =
     let here : at ≡ at + width * 0 = omega (arith, mul-zero width) in
     record {
@@ -95,15 +103,18 @@ over_first bytes at width n last e f =
       fits = subst (λ m. FieldsFit (key_at bytes m)) here f;
     }
 
-pub over_stops : (f : ℕ → Key) (n i last next : ℕ) → 1 ≤ i → i < n → AscendsOver f n i last → next ≡ key_number (f i) → FieldsFit (f i) → next ≤ last → false ≡ is_ascending (map f (range_with_len 0 n))
+pub over_stops : (f : ℕ → Key) (n i last next : ℕ) → 1 ≤ i → i < n → AscendsOver f n i last → next ≡ key_number (f i) → FieldsFit (f i) → next ≤ last
+    → false ≡ is_ascending (map f (range_with_len 0 n))
 over_stops f n i last next some lt r e g h =
     stops f n i some lt r.ascends (no_lower_number (f (i - 1)) (f i) r.fits g (subst (λ m. m ≤ key_number (f (i - 1))) e (subst (λ m. next ≤ m) r.number h)))
 
-pub over_next : (f : ℕ → Key) (n i last next : ℕ) → 1 ≤ i → i < n → AscendsOver f n i last → next ≡ key_number (f i) → FieldsFit (f i) → last < next → AscendsOver f n (i + 1) next
+pub over_next : (f : ℕ → Key) (n i last next : ℕ) → 1 ≤ i → i < n → AscendsOver f n i last → next ≡ key_number (f i) → FieldsFit (f i) → last < next
+    → AscendsOver f n (i + 1) next
 over_next f n i last next some lt r e g h =
     let on : i ≡ i + 1 - 1 = omega arith in
     record {
-      ascends = from_next f n i some lt r.ascends (lower_number (f (i - 1)) (f i) r.fits g (subst (λ m. key_number (f (i - 1)) < m) e (subst (λ m. m < next) r.number h)));
+      ascends = from_next f n i some lt r.ascends
+          (lower_number (f (i - 1)) (f i) r.fits g (subst (λ m. key_number (f (i - 1)) < m) e (subst (λ m. m < next) r.number h)));
       number = e ∙ ap (λ m. key_number (f m)) on;
       fits = subst (λ m. FieldsFit (f m)) on g;
     }

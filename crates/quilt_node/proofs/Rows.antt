@@ -1,5 +1,6 @@
 -- Rows of one width in the bytes of a page, with zeros behind them up to a fixed size, and what edits of the bytes make of the rows.
-use Rattle.std.proofs.Common.{◌≡◌, ℕ, zero, suc, ◌+◌, ◌-◌, ◌*◌, ◌<◌, ◌≤◌, List, [], ◌∷◌, ◌++◌, length, map, take, drop, get_or, set, slice_range, refl, sym, ◌∙◌, ap, subst, append_assoc, arith, replicate, flat_map, length-append, length-drop, length-take-le, add-one}
+use Rattle.std.proofs.Common.{◌≡◌, ℕ, zero, suc, ◌+◌, ◌-◌, ◌*◌, ◌<◌, ◌≤◌, List, [], ◌∷◌, ◌++◌, length, map, take, drop, get_or, set, slice_range, refl, sym}
+use Rattle.std.proofs.Common.{◌∙◌, ap, subst, append_assoc, arith, replicate, flat_map, length-append, length-drop, length-take-le, add-one}
 use Rattle.std.specs.List.{insert, remove, range_with_len}
 use Rattle.std.proofs.Math.Nat.{mul-suc, mul-zero, mul-add, mul-le-mul_left}
 use Rattle.std.proofs.Math.Seq.{take-append_seam, drop-append_seam, drop-cons, take-add, take-length}
@@ -79,7 +80,8 @@ pub cut_at : {X : Type 0} (f : X → List ℕ) (w size : ℕ) (pre post bytes : 
     → i ≤ length xs → at ≡ length pre + w * i → end ≡ length pre + w * length xs
     → IsCut bytes (pre ++ flat_map f (take i xs)) (flat_map f (drop i xs)) (replicate (size - w * length xs) 0 ++ post) at end
 cut_at f w size pre post bytes xs i at end h place e g =
-    let front : length (flat_map f (take i xs)) ≡ w * i = wide_length f w (take i xs) (wide_take f w xs i h.wide) ∙ ap (λ n. w * n) (length-take-le i xs place) in
+    let front : length (flat_map f (take i xs)) ≡ w * i =
+    wide_length f w (take i xs) (wide_take f w xs i h.wide) ∙ ap (λ n. w * n) (length-take-le i xs place) in
     let whole : length (flat_map f (take i xs)) + length (flat_map f (drop i xs)) ≡ w * length xs =
     sym (length-append (flat_map f (take i xs)) (flat_map f (drop i xs))) ∙ ap length (sym (split_rows f xs i)) ∙ wide_length f w xs h.wide in
     let pre_length = length-append pre (flat_map f (take i xs)) in
@@ -96,7 +98,8 @@ zeros_split w size n h =
     ap (λ m. replicate {A = ℕ} m 0) more ∙ sym (replicate-append-replicate w (size - w * suc n) 0)
 
 -- a row is put in at a place, and those behind it move on
-pub put_row : {X : Type 0} (f : X → List ℕ) (w size : ℕ) (pre post bytes new piece : List ℕ) (xs : List X) (i at end : ℕ) (x : X) → HasArea f w size pre post bytes xs
+pub put_row : {X : Type 0} (f : X → List ℕ) (w size : ℕ) (pre post bytes new piece : List ℕ) (xs : List X) (i at end : ℕ) (x : X)
+    → HasArea f w size pre post bytes xs
     → length (f x) ≡ w → i ≤ length xs → w * suc (length xs) ≤ size → at ≡ length pre + w * i → end ≡ length pre + w * length xs → piece ≡ f x
     → new ≡ take at bytes ++ (piece ++ (slice_range bytes at end ++ drop (end + w) bytes))
     → HasArea f w size pre post new (insert xs i x)
@@ -137,7 +140,8 @@ pub split_at_row : {X : Type 0} (f : X → List ℕ) (xs : List X) (i : ℕ) (d 
 split_at_row f xs i d lt = ap (flat_map f) (drop-cons xs i d lt)
 
 -- a row is taken out, those behind it move back, and zeros stand behind them
-pub take_row : {X : Type 0} (f : X → List ℕ) (w size : ℕ) (pre post bytes new : List ℕ) (xs : List X) (i at end : ℕ) (d : X) → HasArea f w size pre post bytes xs
+pub take_row : {X : Type 0} (f : X → List ℕ) (w size : ℕ) (pre post bytes new : List ℕ) (xs : List X) (i at end : ℕ) (d : X)
+    → HasArea f w size pre post bytes xs
     → i < length xs → at ≡ length pre + w * i → end ≡ length pre + w * length xs
     → new ≡ take at bytes ++ (slice_range bytes (at + w) end ++ (replicate w 0 ++ drop end bytes))
     → HasArea f w size pre post new (remove xs i)
@@ -161,7 +165,8 @@ take_row f w size pre post bytes new xs i at end d h place e g made =
       fits = omega (arith, less, h.fits);
       shape = made
           ∙ ap (λ l. l ++ (slice_range bytes (at + w) end ++ (replicate w 0 ++ drop end bytes))) (ap (take at) c.shape ∙ cut_front p _ at c.front)
-          ∙ ap (λ l. p ++ (l ++ (replicate w 0 ++ drop end bytes))) (ap (λ l. slice_range l (at + w) end) whole ∙ cut_mid (p ++ row) m q (at + w) end front back)
+          ∙ ap (λ l. p ++ (l ++ (replicate w 0 ++ drop end bytes)))
+          (ap (λ l. slice_range l (at + w) end) whole ∙ cut_mid (p ++ row) m q (at + w) end front back)
           ∙ ap (λ l. p ++ (m ++ (replicate w 0 ++ l))) (ap (drop end) whole ∙ cut_end (p ++ row) m q end back)
           ∙ simp append_assoc refl
           ∙ ap (λ l. pre ++ (l ++ (replicate w 0 ++ q))) (sym (flat_map-append f (take i xs) (drop (suc i) xs)))
@@ -188,13 +193,15 @@ add_rows f w size pre post bytes new piece xs ys end h wide room g rows made =
     ∙ ap (λ l. pre ++ ((flat_map f xs ++ l) ++ post)) (sym (replicate-append-replicate (w * length ys) (size - w * length (xs ++ ys)) 0))
     ∙ simp append_assoc refl in
     let front : end ≡ length p = omega (arith, g, length-append pre (flat_map f xs), wide_length f w xs h.wide) in
-    let back : end + length piece ≡ length p + length (replicate {A = ℕ} (w * length ys) 0) = omega (arith, front, piece_length, length-replicate {A = ℕ} (w * length ys) 0) in
+    let back : end + length piece ≡ length p + length (replicate {A = ℕ} (w * length ys) 0) =
+    omega (arith, front, piece_length, length-replicate {A = ℕ} (w * length ys) 0) in
     record {
       wide = wide_append f w xs ys h.wide wide;
       fits = room;
       shape = made
           ∙ ap (λ l. l ++ (piece ++ drop (end + length piece) bytes)) (ap (take end) whole ∙ cut_front p _ end front)
-          ∙ ap (λ l. p ++ (piece ++ l)) (ap (drop (end + length piece)) whole ∙ cut_end p (replicate (w * length ys) 0) (left ++ post) (end + length piece) back)
+          ∙ ap (λ l. p ++ (piece ++ l))
+          (ap (drop (end + length piece)) whole ∙ cut_end p (replicate (w * length ys) 0) (left ++ post) (end + length piece) back)
           ∙ ap (λ l. p ++ (l ++ (left ++ post))) rows
           ∙ simp append_assoc refl
           ∙ ap (λ l. pre ++ (l ++ (left ++ post))) (sym (flat_map-append f xs ys))
@@ -247,12 +254,14 @@ row_stands f w size pre post bytes xs i at d h place e =
     record {
       before = pre ++ flat_map f (take i xs);
       behind = flat_map f (drop (suc i) xs) ++ (replicate (size - w * length xs) 0 ++ post);
-      shape = c.shape ∙ ap (λ l. (pre ++ flat_map f (take i xs)) ++ (l ++ (replicate (size - w * length xs) 0 ++ post))) (split_at_row f xs i d place) ∙ simp append_assoc refl;
+      shape = c.shape ∙ ap (λ l. (pre ++ flat_map f (take i xs)) ++ (l ++ (replicate (size - w * length xs) 0 ++ post)))
+          (split_at_row f xs i d place) ∙ simp append_assoc refl;
       place = c.front;
     }
 
 -- a row is written over another
-pub set_row : {X : Type 0} (f : X → List ℕ) (w size : ℕ) (pre post bytes new piece : List ℕ) (xs : List X) (i at : ℕ) (x : X) → HasArea f w size pre post bytes xs
+pub set_row : {X : Type 0} (f : X → List ℕ) (w size : ℕ) (pre post bytes new piece : List ℕ) (xs : List X) (i at : ℕ) (x : X)
+    → HasArea f w size pre post bytes xs
     → length (f x) ≡ w → i < length xs → at ≡ length pre + w * i → piece ≡ f x
     → new ≡ take at bytes ++ (piece ++ drop (at + length piece) bytes)
     → HasArea f w size pre post new (set xs i x)
@@ -266,9 +275,11 @@ set_row f w size pre post bytes new piece xs i at x h wide place e row made =
     let piece_length : length piece ≡ w = ap length row ∙ wide in
     let back : at + length piece ≡ length p + length (f (get_or xs i x)) = omega (arith, c.front, one, piece_length) in
     let as_two : set xs i x ≡ take i xs ++ x ∷ drop (suc i) xs =
-    sym (take-append-drop i (set xs i x)) ∙ ap (λ l. l ++ drop i (set xs i x)) (take-set xs i x) ∙ ap (λ l. take i xs ++ l) (drop-set xs i x place ∙ ap (λ n. x ∷ drop n xs) (add-one i)) in
+    sym (take-append-drop i (set xs i x)) ∙ ap (λ l. l ++ drop i (set xs i x)) (take-set xs i x)
+    ∙ ap (λ l. take i xs ++ l) (drop-set xs i x place ∙ ap (λ n. x ∷ drop n xs) (add-one i)) in
     record {
-      wide = subst (Wide f w) (sym as_two) (wide_append f w (take i xs) (x ∷ drop (suc i) xs) (wide_take f w xs i h.wide) (wide, wide_drop f w xs (suc i) h.wide));
+      wide =
+          subst (Wide f w) (sym as_two) (wide_append f w (take i xs) (x ∷ drop (suc i) xs) (wide_take f w xs i h.wide) (wide, wide_drop f w xs (suc i) h.wide));
       fits = subst (λ n. w * n ≤ size) (sym (length-set xs i x)) h.fits;
       shape = made
           ∙ ap (λ l. l ++ (piece ++ drop (at + length piece) bytes)) (ap (take at) shape ∙ cut_front p _ at c.front)
@@ -287,7 +298,8 @@ slice_stands bytes at w h =
     record {
       before = take at bytes;
       behind = drop w (drop at bytes);
-      shape = sym (take-append-drop at bytes) ∙ ap (λ l. take at bytes ++ l) (sym (take-append-drop w (drop at bytes)) ∙ ap (λ m. take m (drop at bytes) ++ drop w (drop at bytes)) (sym n));
+      shape = sym (take-append-drop at bytes)
+          ∙ ap (λ l. take at bytes ++ l) (sym (take-append-drop w (drop at bytes)) ∙ ap (λ m. take m (drop at bytes) ++ drop w (drop at bytes)) (sym n));
       place = sym (length-take-le at bytes (omega arith));
     }
 
@@ -304,7 +316,8 @@ rows_again f read w at bytes (suc n) a each =
     let wide : w * suc n ≡ w + w * n = omega (arith, mul-suc w n) in
     ap (λ l. l ++ flat_map f (map read (range_with_len (a + 1) n))) first
     ∙ ap (λ b. take w (drop (at + w * a) bytes) ++ flat_map f (map read (range_with_len b n))) one_on
-    ∙ ap (λ l. take w (drop (at + w * a) bytes) ++ l) (rest ∙ ap (λ m. take (w * n) (drop m bytes)) on ∙ ap (take (w * n)) (sym (drop-drop w (at + w * a) bytes)))
+    ∙ ap (λ l. take w (drop (at + w * a) bytes) ++ l)
+    (rest ∙ ap (λ m. take (w * n) (drop m bytes)) on ∙ ap (take (w * n)) (sym (drop-drop w (at + w * a) bytes)))
     ∙ sym (ap (λ m. take m (drop (at + w * a) bytes)) wide ∙ take-add w (w * n) (drop (at + w * a) bytes))
 
 -- Bytes from a place on are those up to another, and those from there on.

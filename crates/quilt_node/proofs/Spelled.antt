@@ -1,5 +1,6 @@
 -- Numbers, keys and records in the bytes of a page.
-use Rattle.std.proofs.Common.{◌≡◌, ℕ, zero, suc, ◌+◌, ◌-◌, ◌*◌, ◌<◌, ◌≤◌, ◌^◌, List, [], ◌∷◌, ◌++◌, length, take, drop, get_or, slice_index, slice_range, refl, sym, ◌∙◌, ap, subst, arith, length-drop, length-take-le, lit<}
+use Rattle.std.proofs.Common.{◌≡◌, ℕ, zero, suc, ◌+◌, ◌-◌, ◌*◌, ◌<◌, ◌≤◌, ◌^◌, List, [], ◌∷◌, ◌++◌, length, take, drop, get_or, slice_index, slice_range, refl}
+use Rattle.std.proofs.Common.{sym, ◌∙◌, ap, subst, arith, length-drop, length-take-le, lit<}
 use Rattle.std.proofs.Math.Seq.{drop-append-add, take-append_seam, take-add}
 use Rattle.std.proofs.lemmas.List.{get_or-append-add, get_or-drop, take-append-drop, drop-drop}
 use Rattle.std.specs.Int.{to_be_bytes, from_be_bytes, w16, w32}
@@ -46,7 +47,8 @@ key_stands k bytes at f s =
 
 pub record_stands : (r : Record) (bytes : List ℕ) (at : ℕ) → IsFitting r → Stands (record_bytes r) bytes at → record_at bytes at ≡ r
 record_stands r bytes at f s =
-    let key : key_at bytes at ≡ r.key = key_stands r.key bytes at f.key (record { before = s.before; behind = r.value ++ s.behind; shape = s.shape; place = s.place }) in
+    let key : key_at bytes at ≡ r.key =
+    key_stands r.key bytes at f.key (record { before = s.before; behind = r.value ++ s.behind; shape = s.shape; place = s.place }) in
     let end : at + 28 ≡ at + 12 + 16 = omega arith in
     let value : slice_range bytes (at + 12) (at + 28) ≡ r.value =
     ap (λ l. slice_range l (at + 12) (at + 28)) s.shape
@@ -61,7 +63,8 @@ word_stands n bytes at f s =
     ∙ from_be_bytes-to_be_bytes_4 n f
 
 -- What a key's 12 bytes spell is what is read there.
-pub key_spelled : (k : Key) (bytes piece : List ℕ) (at : ℕ) → KeyFits k → at + 12 ≤ length bytes → piece ≡ slice_range bytes at (at + 12) → key_bytes k ≡ piece → k ≡ key_at bytes at
+pub key_spelled : (k : Key) (bytes piece : List ℕ) (at : ℕ) → KeyFits k → at + 12 ≤ length bytes → piece ≡ slice_range bytes at (at + 12)
+    → key_bytes k ≡ piece → k ≡ key_at bytes at
 key_spelled k bytes piece at f room e g =
     sym (key_stands k bytes at f (subst (λ l. Stands l bytes at) (sym (g ∙ e)) (slice_stands bytes at 12 room)))
 
@@ -112,7 +115,8 @@ front_key (a ∷ b ∷ p ∷ c ∷ d ∷ e ∷ f ∷ q ∷ g ∷ h ∷ i ∷ j �
 front_key xs are lt = absurd (omega arith)
 
 -- The first four bytes, by the numbers that stand there.
-pub first_four : (bytes : List ℕ) → AreBytes bytes → 4 ≤ length bytes → take 4 bytes ≡ slice_index bytes 0 ∷ slice_index bytes 1 ∷ to_be_bytes w16 (short_at bytes 2)
+pub first_four : (bytes : List ℕ) → AreBytes bytes → 4 ≤ length bytes
+    → take 4 bytes ≡ slice_index bytes 0 ∷ slice_index bytes 1 ∷ to_be_bytes w16 (short_at bytes 2)
 first_four (a ∷ b ∷ c ∷ d ∷ xs) are lt = ap (λ l. a ∷ b ∷ l) (sym (be_bytes_2 (c ∷ d ∷ []) (c * 256 + d) refl (bytes_of_two c d (are 2) (are 3)) refl))
 first_four xs are lt = absurd (omega arith)
 
@@ -124,13 +128,15 @@ front_word xs are lt = absurd (omega arith)
 -- A key that is read at a place, written again.
 pub key_again : (bytes : List ℕ) (at : ℕ) → AreBytes bytes → at + 12 ≤ length bytes → key_bytes (key_at bytes at) ≡ take 12 (drop at bytes)
 key_again bytes at f room =
-    ap (λ l. key_bytes (key_at l at)) (sym (take-append-drop at bytes)) ∙ ap key_bytes (key_behind (take at bytes) (drop at bytes) at (sym (length-take-le at bytes (omega arith))))
+    ap (λ l. key_bytes (key_at l at)) (sym (take-append-drop at bytes))
+    ∙ ap key_bytes (key_behind (take at bytes) (drop at bytes) at (sym (length-take-le at bytes (omega arith))))
     ∙ front_key (drop at bytes) (are_behind bytes at f) (omega (arith, length-drop at bytes))
 
 pub word_again : (bytes : List ℕ) (at : ℕ) → AreBytes bytes → at + 4 ≤ length bytes → to_be_bytes w32 (word_at bytes at) ≡ take 4 (drop at bytes)
 word_again bytes at f room =
     ap (λ l. to_be_bytes w32 (word_at l at)) (sym (take-append-drop at bytes))
-    ∙ ap (λ l. to_be_bytes w32 (from_be_bytes w32 l)) (part_behind (take at bytes) (drop at bytes) 0 at 4 (sym (length-take-le at bytes (omega arith)) ∙ omega arith))
+    ∙ ap (λ l. to_be_bytes w32 (from_be_bytes w32 l))
+    (part_behind (take at bytes) (drop at bytes) 0 at 4 (sym (length-take-le at bytes (omega arith)) ∙ omega arith))
     ∙ front_word (drop at bytes) (are_behind bytes at f) (omega (arith, length-drop at bytes))
 
 pub record_again : (bytes : List ℕ) (at : ℕ) → AreBytes bytes → at + 28 ≤ length bytes → record_bytes (record_at bytes at) ≡ take 28 (drop at bytes)
@@ -151,7 +157,8 @@ front_fits xs are lt = absurd (omega arith)
 
 pub key_fits : (bytes : List ℕ) (at : ℕ) → AreBytes bytes → at + 12 ≤ length bytes → KeyFits (key_at bytes at)
 key_fits bytes at f room =
-    subst KeyFits (sym (ap (λ l. key_at l at) (sym (take-append-drop at bytes)) ∙ key_behind (take at bytes) (drop at bytes) at (sym (length-take-le at bytes (omega arith)))))
+    subst KeyFits (sym (ap (λ l. key_at l at) (sym (take-append-drop at bytes))
+    ∙ key_behind (take at bytes) (drop at bytes) at (sym (length-take-le at bytes (omega arith)))))
     (front_fits (drop at bytes) (are_behind bytes at f) (omega (arith, length-drop at bytes)))
 
 pub record_fits : (bytes : List ℕ) (at : ℕ) → AreBytes bytes → at + 28 ≤ length bytes → IsFitting (record_at bytes at)

@@ -1,5 +1,6 @@
 -- What is true of every leaf page and of every inner page, and where a key belongs in one.
-use Rattle.std.specs.Prelude.{◌≡◌, ℕ, suc, ◌<◌, ◌≤◌, ◌^◌, Bool, true, ◌&&◌, nat_le, nat_lt, if◌then◌else◌, ◌+◌, ◌*◌, List, ◌∷◌, map, length, take, drop, Some, slice_get, slice_index}
+use Rattle.std.specs.Prelude.{◌≡◌, ℕ, suc, ◌<◌, ◌≤◌, ◌^◌, Bool, true, ◌&&◌, nat_le, nat_lt, if◌then◌else◌, ◌+◌, ◌*◌, List, ◌∷◌, map, length, take, drop, Some}
+use Rattle.std.specs.Prelude.{slice_get, slice_index}
 use Rattle.std.specs.List.{list_all}
 use Rattle.std.specs.Ordering.{is_lt, is_le}
 use Rattle.quilt_record.specs.declared.key.Key.{Key}
@@ -11,6 +12,7 @@ use Rattle.quilt_node.specs.declared.head.Head.{Head}
 use Rattle.quilt_node.specs.Pages.{Inner, IsHead, is_ascending, leaf_bytes, inner_bytes, short_at, word_at, record_at}
 use Rattle.quilt_types.specs.Plane.{below}
 
+-- the keys of the records, in their order
 abbrev pub keys_of : List Record → List Key
 keys_of rs = map (λ r. r.key) rs
 

@@ -1,5 +1,6 @@
 -- The pages of the tree as bytes. A page is well formed where it is what writing what it says would give.
-use Rattle.std.specs.Prelude.{◌≡◌, ℕ, ◌+◌, ◌-◌, ◌*◌, ◌^◌, ◌<◌, ◌≤◌, Bool, true, ◌&&◌, nat_le, nat_lt, List, [], ◌∷◌, ◌++◌, length, map, flat_map, Option, Some, None, if◌then◌else◌, slice_index, slice_range}
+use Rattle.std.specs.Prelude.{◌≡◌, ℕ, ◌+◌, ◌-◌, ◌*◌, ◌^◌, ◌<◌, ◌≤◌, Bool, true, ◌&&◌, nat_le, nat_lt, List, [], ◌∷◌, ◌++◌, length, map, flat_map, Option, Some}
+use Rattle.std.specs.Prelude.{None, if◌then◌else◌, slice_index, slice_range}
 use Rattle.std.specs.List.{list_all}
 use Rattle.std.specs.Ordering.{is_lt}
 use Rattle.std.specs.Str.{bytes_eq}
@@ -11,6 +12,7 @@ use Rattle.quilt_record.specs.declared.record.Record.{Record}
 use Rattle.quilt_node.specs.declared.head.Head.{Head}
 use Rattle.quilt_record.specs.Records.{key_cmp, key_bytes, record_bytes, filled}
 
+-- how many bytes a page has
 abbrev pub page_size : ℕ
 page_size = 4096
 
@@ -18,6 +20,7 @@ page_size = 4096
 abbrev pub magic : List ℕ
 magic = 81 ∷ 72 ∷ 68 ∷ 82 ∷ []
 
+-- the bytes of a header page: magic, format, edition, level, height, root and number of records, numbers of 4 bytes high byte first
 unfoldable pub header_bytes : Head → List ℕ
 header_bytes h =
     filled page_size (magic ++ to_be_bytes w32 h.format ++ to_be_bytes w32 h.edition ++ (h.level ∷ h.height ∷ 0 ∷ 0 ∷ [])
@@ -38,11 +41,13 @@ pub record IsHeader (pages : ℕ) (bytes : List ℕ) (h : Head) : Type 0 where
   pub numbers : IsHead pages h
   pub written : bytes ≡ header_bytes h
 
+-- each key is less than the next
 abbrev pub is_ascending : List Key → Bool
 is_ascending [] = true
 is_ascending (k ∷ []) = true
 is_ascending (k ∷ l ∷ ks) = is_lt (key_cmp k l) && is_ascending (l ∷ ks)
 
+-- the bytes of a leaf page: a head of 64 bytes with the number of records, and from there 28 bytes a record
 unfoldable pub leaf_bytes : List Record → List ℕ
 leaf_bytes rs = filled page_size (filled 64 (1 ∷ 1 ∷ to_be_bytes w16 (length rs)) ++ flat_map record_bytes rs)
 
@@ -52,13 +57,15 @@ inner_bytes height children keys =
     filled page_size (filled 1024 (filled 8 (2 ∷ height ∷ to_be_bytes w16 (length children)) ++ flat_map (to_be_bytes w32) children)
     ++ flat_map key_bytes keys)
 
--- the numbers that stand in a page's bytes
+-- the number in the two bytes at a place, the high byte first
 abbrev pub short_at : List ℕ → ℕ → ℕ
 short_at bytes at = from_be_bytes w16 (slice_range bytes at (at + 2))
 
+-- the number in the four bytes at a place, the high byte first
 abbrev pub word_at : List ℕ → ℕ → ℕ
 word_at bytes at = from_be_bytes w32 (slice_range bytes at (at + 4))
 
+-- the key in the 12 bytes at a place: layer, part, code, depth and item
 abbrev pub key_at : List ℕ → ℕ → Key
 key_at bytes at = record {
   layer = short_at bytes at;
@@ -68,9 +75,11 @@ key_at bytes at = record {
   item = word_at bytes (at + 8);
 }
 
+-- the record in the 28 bytes at a place: the key and a value of 16 bytes
 abbrev pub record_at : List ℕ → ℕ → Record
 record_at bytes at = record { key = key_at bytes at; value = slice_range bytes (at + 12) (at + 28) }
 
+-- the records that a page's bytes have where it is a leaf, as many as its count says, well formed or not
 abbrev pub read_leaf : List ℕ → List Record
 read_leaf bytes = map (λ i. record_at bytes (64 + 28 * i)) (below (short_at bytes 2))
 
@@ -81,11 +90,13 @@ leaf_of bytes =
     if nat_le 1 (length rs) && nat_le (length rs) 144 && is_ascending (map (λ r. r.key) rs) && bytes_eq (leaf_bytes rs) bytes
     then Some rs else None
 
+-- what an inner page says: its height in the tree, the pages of its children, and a key between each two of them
 pub record Inner : Type 0 where
   pub height : ℕ
   pub children : List ℕ
   pub keys : List Key
 
+-- the height, children and keys that a page's bytes have where it is an inner page, well formed or not
 abbrev pub read_inner : List ℕ → Inner
 read_inner bytes = record {
   height = slice_index bytes 1;

@@ -1,5 +1,6 @@
 -- A tree of pages as the list of its records, or the first page that is damaged.
-use Rattle.std.specs.Prelude.{ℕ, zero, suc, Bool, true, false, ◌&&◌, ◌||◌, ◌==◌, nat_le, List, [], ◌∷◌, ◌++◌, length, map, Option, Some, None, if◌then◌else◌, slice_index_or}
+use Rattle.std.specs.Prelude.{ℕ, zero, suc, Bool, true, false, ◌&&◌, ◌||◌, ◌==◌, nat_le, List, [], ◌∷◌, ◌++◌, length, map, Option, Some, None, if◌then◌else◌}
+use Rattle.std.specs.Prelude.{slice_index_or}
 use Rattle.std.specs.List.{list_all, list_any}
 use Rattle.std.specs.Ordering.{is_lt, is_le}
 use Rattle.quilt_record.specs.declared.key.Key.{Key}
@@ -12,14 +13,17 @@ pub record Bounds : Type 0 where
   pub low : Option Key
   pub high : Option Key
 
+-- the key is the lower bound or greater; any key is where there is no bound
 abbrev pub is_above : Option Key → Key → Bool
 is_above None k = true
 is_above (Some low) k = is_le (key_cmp low k)
 
+-- the key is less than the upper bound; any key is where there is no bound
 abbrev pub is_below : Option Key → Key → Bool
 is_below None k = true
 is_below (Some high) k = is_lt (key_cmp k high)
 
+-- each key lies within both bounds
 abbrev pub are_within : Bounds → List Key → Bool
 are_within b ks = list_all (λ k. is_above b.low k && is_below b.high k) ks
 
@@ -45,16 +49,21 @@ abbrev pub and_then : Walk → (List ℕ → Walk) → Walk
 and_then (Damaged page) next = Damaged page
 and_then (Whole records visited) next = behind records (next visited)
 
+-- the walk goes on with the children, from left to right, behind what it has found
 abbrev pub each_child : (ℕ × Bounds → List ℕ → Walk) → List (ℕ × Bounds) → Walk → Walk
 each_child visit [] found = found
 each_child visit (c ∷ cs) found = each_child visit cs (and_then found (visit c))
 
+-- the walk at a leaf page: it is damaged where it is not well formed, has fewer than 72 records and is not the root,
+-- or has a key out of bounds
 abbrev pub leaf_walk : Bool → Bounds → ℕ → List ℕ → Option (List Record) → Walk
 leaf_walk is_root b page visited None = Damaged page
 leaf_walk is_root b page visited (Some rs) =
     if (is_root || nat_le 72 (length rs)) && are_within b (map (λ r. r.key) rs)
     then Whole rs (page ∷ visited) else Damaged page
 
+-- the walk at an inner page and all below it: it is damaged where it is not well formed, has another height,
+-- has fewer than 127 children and is not the root, or has a key out of bounds
 abbrev pub inner_walk : (ℕ × Bounds → List ℕ → Walk) → ℕ → Bool → Bounds → ℕ → List ℕ → Option Inner → Walk
 inner_walk visit height is_root b page visited None = Damaged page
 inner_walk visit height is_root b page visited (Some inner) =

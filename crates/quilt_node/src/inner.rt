@@ -1,4 +1,5 @@
-ghost use Rattle.std.specs.Prelude.{◌≡◌, ℕ, ◌+◌, ◌-◌, ◌<◌, ◌≤◌, [], ◌∷◌, ◌++◌, true, Some, IfSome, is_some, length, slice_get, slice_index, slice_set, take, count_by, replicate};
+ghost use Rattle.std.specs.Prelude.{◌≡◌, ℕ, ◌+◌, ◌-◌, ◌<◌, ◌≤◌, [], ◌∷◌, ◌++◌, true, Some, IfSome, is_some, length, slice_get, slice_index, slice_set, take};
+ghost use Rattle.std.specs.Prelude.{count_by, replicate};
 ghost use Rattle.std.specs.List.{insert, remove};
 ghost use Rattle.std.specs.Ordering.{is_le};
 ghost use Rattle.std.specs.Str.{bytes_eq};

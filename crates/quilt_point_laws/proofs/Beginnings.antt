@@ -1,5 +1,6 @@
 -- A point layer that begins with no points: the facts on it are its kind and that its one block, the whole square, holds none.
-use Rattle.std.proofs.Common.{◌≡◌, ℕ, ◌^◌, ◌<◌, ◌≤◌, true, nat_le, List, [], ◌∷◌, length, count_by, Some, None, refl, sym, ◌∙◌, ap, subst, arith, ⊎_elim, Contains, le-leb}
+use Rattle.std.proofs.Common.{◌≡◌, ℕ, ◌^◌, ◌<◌, ◌≤◌, true, nat_le, List, [], ◌∷◌, length, count_by, Some, None, refl, sym, ◌∙◌, ap, subst, arith, ⊎_elim}
+use Rattle.std.proofs.Common.{Contains, le-leb}
 use Rattle.std.specs.FinMap as finmap
 use Rattle.std.proofs.lemmas.Bool.{cases_lt}
 use Rattle.quilt_types.specs.declared.plane.Block.{Block}
@@ -38,12 +39,14 @@ module _ (n capacity : ℕ) where
   bare_few : (b : Block) → holds_few capacity bare b ≡ true
   bare_few b =
       let none : length (finmap.entries bare) ≡ 0 = sym (finmap.len-entries bare) ∙ finmap.len-empty pixel_cmp ℕ in
-      ap (λ (es : List (Pixel × ℕ)). nat_le (count_by (λ e. in_block b e.0) es) capacity) (no_entry (finmap.entries bare) none) ∙ le-leb 0 capacity (omega arith)
+      ap (λ (es : List (Pixel × ℕ)). nat_le (count_by (λ e. in_block b e.0) es) capacity) (no_entry (finmap.entries bare) none)
+      ∙ le-leb 0 capacity (omega arith)
 
   -- the only block is the whole square
   only_whole : (b : Block) → IsMaximal n (holds_few capacity bare) b → b ≡ whole n
   only_whole b g =
-      ⊎_elim (λ lt. absurd (g.last lt (bare_few (parent_of b)))) (λ ge. let most = side_le n b g.block in whole_is n b g.block (omega arith)) (cases_lt b.side (2 ^ n))
+      ⊎_elim (λ lt. absurd (g.last lt (bare_few (parent_of b)))) (λ ge. let most = side_le n b g.block in whole_is n b g.block (omega arith))
+      (cases_lt b.side (2 ^ n))
 
   whole_block : IsMaximal n (holds_few capacity bare) (whole n)
   whole_block = record { block = IsBlock-whole n; passes = bare_few (whole n); last = λ lt u. omega arith }
@@ -69,24 +72,28 @@ module _ (n capacity : ℕ) where
         let first = record_for (IsOfKind 2 capacity) in
         let second = record_for (HoldsNoPoint (whole n)) in (
           λ c.
-              ⊎_elim (λ e. subst (Contains (layer_records n name number layer)) e (layer_record n name number layer (IsOfKind 2 capacity) (kind_is n capacity bare (IsOfKind 2 capacity) refl)))
+              ⊎_elim (λ e. subst (Contains (layer_records n name number layer)) e
+              (layer_record n name number layer (IsOfKind 2 capacity) (kind_is n capacity bare (IsOfKind 2 capacity) refl)))
               (λ d.
               ⊎_elim (λ e. subst (Contains (layer_records n name number layer)) e (layer_record n name number layer (HoldsNoPoint (whole n)) there))
               (λ z. absurd (Contains-nil r z)) (Contains-cons_cases second [] r d)) (Contains-cons_cases first (second ∷ []) r c),
           λ c.
               let f = layer_record_from n name number layer r c in
               ⊎_elim (λ e. subst (Contains (first ∷ second ∷ [])) (sym (ap record_for e) ∙ f.2) (Contains-here first (second ∷ [])))
-              (λ w. subst (Contains (first ∷ second ∷ [])) (sym (ap record_for (bare_fact f.0 w)) ∙ f.2) (Contains-there first (second ∷ []) second (Contains-here second [])))
+              (λ w. subst (Contains (first ∷ second ∷ [])) (sym (ap record_for (bare_fact f.0 w)) ∙ f.2)
+              (Contains-there first (second ∷ []) second (Contains-here second [])))
               (fact_from n capacity bare f.0 f.1),
         )
 
     once : 1 ≤ number → Apart (record_for (IsOfKind 2 capacity) ∷ record_for (HoldsNoPoint (whole n)) ∷ [])
     once some =
         let second = record_for (HoldsNoPoint (whole n)) in (
-          λ c. ⊎_elim (λ e. let z : number ≡ 0 = ap (λ (r : Record). r.key.layer) e in absurd (omega arith)) (λ z. absurd (Contains-nil (record_for (IsOfKind 2 capacity)) z)) (Contains-cons_cases second [] (record_for (IsOfKind 2 capacity)) c),
+          λ c. ⊎_elim (λ e. let z : number ≡ 0 = ap (λ (r : Record). r.key.layer) e in absurd (omega arith))
+              (λ z. absurd (Contains-nil (record_for (IsOfKind 2 capacity)) z)) (Contains-cons_cases second [] (record_for (IsOfKind 2 capacity)) c),
           (λ c. Contains-nil second c, tt),
         )
 
 pub begin_law : BeginLaw
 begin_law n name number capacity some =
-    fresh_leads n name number (Points capacity bare) (record_of n capacity name number (IsOfKind 2 capacity) ∷ record_of n capacity name number (HoldsNoPoint (whole n)) ∷ []) (members n capacity name number) (once n capacity name number some)
+    fresh_leads n name number (Points capacity bare) (record_of n capacity name number (IsOfKind 2 capacity)
+    ∷ record_of n capacity name number (HoldsNoPoint (whole n)) ∷ []) (members n capacity name number) (once n capacity name number some)

@@ -1,5 +1,6 @@
 -- One point more: how many a block holds, and what the test of a point layer's blocks makes of it.
-use Rattle.std.proofs.Common.{◌≡◌, ℕ, ◌+◌, ◌<◌, ◌≤◌, ◌⊎◌, ◌↔◌, Bool, true, false, cond, List, [], ◌∷◌, length, Some, None, refl, sym, ◌∙◌, ap, subst, inl, inr, ⊎_elim, arith, Contains, filter, le-leb, leb-true}
+use Rattle.std.proofs.Common.{◌≡◌, ℕ, ◌+◌, ◌<◌, ◌≤◌, ◌⊎◌, ◌↔◌, Bool, true, false, cond, List, [], ◌∷◌, length, Some, None, refl, sym, ◌∙◌, ap, subst, inl, inr}
+use Rattle.std.proofs.Common.{⊎_elim, arith, Contains, filter, le-leb, leb-true}
 use Rattle.std.specs.FinMap as finmap
 use Rattle.std.specs.Cmp.{on_total}
 use Rattle.std.proofs.lemmas.Bool.{cases_Bool, both_ways}
@@ -41,16 +42,19 @@ put_comes points p label none =
             let g = get_from_entry pixel_cmp pixel_total pixel_same after e c in
             ⊎_elim
             (λ is.
-            let l : label ≡ e.1 = some_same label e.1 (sym (get_inserted pixel_cmp pixel_total pixel_same points p label) ∙ ap (finmap.get after) (sym is) ∙ g) in
+            let l : label ≡ e.1 =
+            some_same label e.1 (sym (get_inserted pixel_cmp pixel_total pixel_same points p label) ∙ ap (finmap.get after) (sym is) ∙ g) in
             inr (λ i. (is i, sym l i)))
-            (λ d. inl (entry_from_get pixel_cmp pixel_total pixel_same points e.0 e.1 (sym (get_others pixel_cmp pixel_total pixel_same points p label e.0 d) ∙ g)))
+            (λ d. inl (entry_from_get pixel_cmp pixel_total pixel_same points e.0 e.1
+            (sym (get_others pixel_cmp pixel_total pixel_same points p label e.0 d) ∙ g)))
             (same_or_not pixel_cmp pixel_total pixel_same e.0 p),
         λ h. ⊎_elim
             (λ c.
             let g = get_from_entry pixel_cmp pixel_total pixel_same points e c in
             let d : e.0 ≡ p → ⊥ = λ is. none_some e.1 (sym none ∙ ap (finmap.get points) (sym is) ∙ g) in
             entry_from_get pixel_cmp pixel_total pixel_same after e.0 e.1 (get_others pixel_cmp pixel_total pixel_same points p label e.0 d ∙ g))
-            (λ is. subst (Contains (finmap.entries after)) (sym is) (entry_from_get pixel_cmp pixel_total pixel_same after p label (get_inserted pixel_cmp pixel_total pixel_same points p label))) h,
+            (λ is. subst (Contains (finmap.entries after)) (sym is)
+            (entry_from_get pixel_cmp pixel_total pixel_same after p label (get_inserted pixel_cmp pixel_total pixel_same points p label))) h,
       );
       fresh = λ k c. none_some k (sym none ∙ get_from_entry pixel_cmp pixel_total pixel_same points (p, k) c);
     }
@@ -96,7 +100,8 @@ points_in_le points a b w =
 
 pub few_down : (n capacity : ℕ) (points : PointMap) → GoesDown n (holds_few capacity points)
 few_down n capacity points = record {
-  down = λ a b ha hb w u. let l = points_in_le points a b w in let few = leb-true (points_in points b) capacity u in le-leb (points_in points a) capacity (omega arith);
+  down = λ a b ha hb w u. let l = points_in_le points a b w in let few = leb-true (points_in points b) capacity u in
+      le-leb (points_in points a) capacity (omega arith);
 }
 
 -- elements that are all one are one at most
@@ -176,7 +181,8 @@ module _ (small big : PointMap) (p : Pixel) (label : ℕ) (h : Comes small big p
     less = λ b u.
         let few = leb-true (points_in big b) capacity u in
         ⊎_elim (λ t. let m = points_in-more b t in le-leb (points_in small b) capacity (omega arith))
-        (λ f. let m = points_in-same b (λ on. both_ways (in_block b p) f (in_block-true b p on)) in le-leb (points_in small b) capacity (omega arith)) (cases_Bool (in_block b p));
+        (λ f. let m = points_in-same b (λ on. both_ways (in_block b p) f (in_block-true b p on)) in
+        le-leb (points_in small b) capacity (omega arith)) (cases_Bool (in_block b p));
     same = λ b out u.
         let few = leb-true (points_in small b) capacity u in
         let m = points_in-same b out in

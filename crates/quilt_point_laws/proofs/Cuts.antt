@@ -1,5 +1,6 @@
 -- No block stands twice in a cut, and no fact twice among the facts of blocks that differ.
-use Rattle.std.proofs.Common.{◌≡◌, ℕ, zero, suc, ◌+◌, ◌/◌, ◌^◌, ◌<◌, ◌≤◌, Bool, true, false, cond, List, [], ◌∷◌, map, ap, subst, arith, ⊎_elim, Contains, filter, flat_map, pow-suc, pow_pos}
+use Rattle.std.proofs.Common.{◌≡◌, ℕ, zero, suc, ◌+◌, ◌/◌, ◌^◌, ◌<◌, ◌≤◌, Bool, true, false, cond, List, [], ◌∷◌, map, ap, subst, arith, ⊎_elim, Contains}
+use Rattle.std.proofs.Common.{filter, flat_map, pow-suc, pow_pos}
 use Rattle.std.specs.FinMap as finmap
 use Rattle.quilt_types.specs.declared.plane.Block.{Block}
 use Rattle.quilt_types.specs.declared.plane.Pixel.{Pixel}
@@ -36,7 +37,8 @@ quarters_apart b wide half =
     let dc : d ≡ c → ⊥ = λ q. let z : b.y + h ≡ b.y = down b.x (b.y + h) (b.x + h) b.y q in omega arith in
     let ec : e ≡ c → ⊥ = λ q. let z : b.y + h ≡ b.y = down (b.x + h) (b.y + h) (b.x + h) b.y q in omega arith in
     let ed : e ≡ d → ⊥ = λ q. let z : b.x + h ≡ b.x = right (b.x + h) (b.y + h) b.x (b.y + h) q in omega arith in (
-      λ m. ⊎_elim ca (λ m1. ⊎_elim da (λ m2. ⊎_elim ea (λ m3. Contains-nil a m3) (Contains-cons_cases e [] a m2)) (Contains-cons_cases d (e ∷ []) a m1)) (Contains-cons_cases c (d ∷ e ∷ []) a m),
+      λ m. ⊎_elim ca (λ m1. ⊎_elim da (λ m2. ⊎_elim ea (λ m3. Contains-nil a m3) (Contains-cons_cases e [] a m2))
+          (Contains-cons_cases d (e ∷ []) a m1)) (Contains-cons_cases c (d ∷ e ∷ []) a m),
       (
         λ m. ⊎_elim dc (λ m2. ⊎_elim ec (λ m3. Contains-nil c m3) (Contains-cons_cases e [] c m2)) (Contains-cons_cases d (e ∷ []) c m),
         (
@@ -53,9 +55,11 @@ module _ (n : ℕ) (fits : Block → Bool) where
     pub within : Within e b
 
   whole_part : (b e : Block) → IsBlock n b → Contains (b ∷ []) e → IsPart b e
-  whole_part b e hb c = subst (IsPart b) (⊎_elim (λ q. q) (λ no. absurd (Contains-nil e no)) (Contains-cons_cases b [] e c)) (record { block = hb; within = Within-self b })
+  whole_part b e hb c =
+      subst (IsPart b) (⊎_elim (λ q. q) (λ no. absurd (Contains-nil e no)) (Contains-cons_cases b [] e c)) (record { block = hb; within = Within-self b })
 
-  part_step : (k : ℕ) (b : Block) → IsBlock n b → b.side ≡ 2 ^ suc k → (e : Block) → ((r : Block) → IsBlock n r → r.side ≡ 2 ^ k → Contains (cut fits k r) e → IsPart r e)
+  part_step : (k : ℕ) (b : Block) → IsBlock n b → b.side ≡ 2 ^ suc k → (e : Block)
+      → ((r : Block) → IsBlock n r → r.side ≡ 2 ^ k → Contains (cut fits k r) e → IsPart r e)
       → (t : Bool) → Contains (cond t (b ∷ []) (flat_map (cut fits k) (quarters_of b))) e → IsPart b e
   part_step k b hb s e law true c = whole_part b e hb c
   part_step k b hb s e law false c =
@@ -104,8 +108,10 @@ point_facts_apart points b =
     let test : Pixel × ℕ → Bool = λ e. in_block b e.0 in
     let fact : Pixel × ℕ → Fact = λ e. HoldsPoint b e.0 e.1 in
     or_none_apart (HoldsNoPoint b) (map fact (filter test es))
-    (Apart-map fact (filter test es) (λ x y _ _ e. let p : x.0 ≡ y.0 = cc in let l : x.1 ≡ y.1 = cc in λ i. (p i, l i)) (Apart-filter test es (entries_apart points)))
+    (Apart-map fact (filter test es) (λ x y _ _ e. let p : x.0 ≡ y.0 = cc in let l : x.1 ≡ y.1 = cc in λ i. (p i, l i))
+    (Apart-filter test es (entries_apart points)))
 
 pub blocks_facts_apart : (points : PointMap) (bs : List Block) → Apart bs → Apart (flat_map (point_facts points) bs)
 blocks_facts_apart points bs h =
-    Apart-flat_map (point_facts points) bs h (λ b _. point_facts_apart points b) (λ b d f _ _ c k. on_one points points b d f (on_from points b f c) (on_from points d f k))
+    Apart-flat_map (point_facts points) bs h (λ b _. point_facts_apart points b)
+    (λ b d f _ _ c k. on_one points points b d f (on_from points b f c) (on_from points d f k))

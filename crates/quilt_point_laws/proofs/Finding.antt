@@ -27,7 +27,8 @@ find_is n capacity points p label b mb hb = (
     maximal = IsMaximal-from n (holds_few capacity points) b mb;
     on = (refl, entry_from_get pixel_cmp pixel_total pixel_same points p label g, in_block-true b p hb);
   }),
-  λ c. ⊎_elim (λ e. cc) (λ w. get_from_entry pixel_cmp pixel_total pixel_same points (p, label) ((w.on).1)) (fact_from n capacity points (HoldsPoint b p label) c),
+  λ c. ⊎_elim (λ e. cc) (λ w. get_from_entry pixel_cmp pixel_total pixel_same points (p, label) ((w.on).1))
+      (fact_from n capacity points (HoldsPoint b p label) c),
 )
 
 module _ (small big : PointMap) (p : Pixel) (label : ℕ) (h : Comes small big p label) (n capacity : ℕ) (b c : Block)

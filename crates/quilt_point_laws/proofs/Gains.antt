@@ -1,5 +1,6 @@
 -- Points that come into several blocks at once: what goes and comes in each, and in all.
-use Rattle.std.proofs.Common.{◌≡◌, ℕ, ◌+◌, ◌-◌, ◌^◌, ◌≤◌, ◌⊎◌, ◌↔◌, Bool, true, false, cond, nat_le, List, [], ◌∷◌, ◌++◌, map, length, refl, sym, ◌∙◌, ap, subst, inl, inr, arith, ⊎_elim, Contains, filter, flat_map, eqb, eqb-true, eq-eqb, le-leb, leb-true, length-append}
+use Rattle.std.proofs.Common.{◌≡◌, ℕ, ◌+◌, ◌-◌, ◌^◌, ◌≤◌, ◌⊎◌, ◌↔◌, Bool, true, false, cond, nat_le, List, [], ◌∷◌, ◌++◌, map, length, refl, sym, ◌∙◌, ap}
+use Rattle.std.proofs.Common.{subst, inl, inr, arith, ⊎_elim, Contains, filter, flat_map, eqb, eqb-true, eq-eqb, le-leb, leb-true, length-append}
 use Rattle.std.specs.FinMap as finmap
 use Rattle.std.proofs.lemmas.Bool.{cases_Bool, both_ways}
 use Rattle.std.proofs.lemmas.List.Elements.{Contains-append_left, Contains-append_right, Contains-append_cases}
@@ -10,7 +11,8 @@ use Rattle.quilt_types.specs.Layers.{Points, PointMap}
 use Rattle.quilt_types.specs.Quadtrees.{points_in, holds_few, point_blocks}
 use Rattle.quilt_types.specs.Facts.{Fact, HoldsPoint, HoldsNoPoint, point_facts, facts}
 use Rattle.quilt_types.specs.Codes.{depth}
-use Rattle.quilt_loc.proofs.Members.{Contains-nil, Contains-here, Contains-there, Contains-cons_cases, Contains-map, Contains-map_from, Contains-filter, Contains-filter_from}
+use Rattle.quilt_loc.proofs.Members.{Contains-nil, Contains-here, Contains-there, Contains-cons_cases, Contains-map, Contains-map_from, Contains-filter}
+use Rattle.quilt_loc.proofs.Members.{Contains-filter_from}
 use Rattle.quilt_loc.proofs.Blocks.{Holds-from}
 use Rattle.quilt_loc.proofs.CodeLaws.{depth_is}
 use Rattle.quilt_loc.proofs.Nesting.{Holds-corner, Within-holds}
@@ -132,7 +134,8 @@ module _ (small big : PointMap) (news : List (Pixel × ℕ)) (h : Gains small bi
     )
 
     room_come : (f : Fact) → Contains (map (λ e. HoldsPoint g.block e.0 e.1) g.news) f
-        ↔ ((d : Pixel × ℕ) × Contains (finmap.entries big) d × (in_block g.block d.0 ≡ true) × (Contains (finmap.entries small) d → ⊥) × (f ≡ HoldsPoint g.block d.0 d.1))
+        ↔ ((d : Pixel × ℕ) × Contains (finmap.entries big) d × (in_block g.block d.0 ≡ true) × (Contains (finmap.entries small) d → ⊥)
+        × (f ≡ HoldsPoint g.block d.0 d.1))
     room_come f =
         let fact : Pixel × ℕ → Fact = λ e. HoldsPoint g.block e.0 e.1 in (
           λ m.
@@ -154,7 +157,9 @@ module _ (small big : PointMap) (news : List (Pixel × ℕ)) (h : Gains small bi
         (equal (spread capacity k g.block gs) (full_come capacity big k g.block) (spread_is n capacity big k g.block at.block s))
 
     changed_by : (t : Bool) → nat_le (length g.held + length g.news) capacity ≡ t
-        → Changes (point_facts small g.block) (inside g.block) (cond t (cond (eqb (length g.held) 0) (HoldsNoPoint g.block ∷ []) []) (held_facts g.block g.held)) (cond t (map (λ e. HoldsPoint g.block e.0 e.1) g.news) (spread capacity (level g.block) g.block (g.news ++ g.held)))
+        → Changes (point_facts small g.block) (inside g.block)
+        (cond t (cond (eqb (length g.held) 0) (HoldsNoPoint g.block ∷ []) []) (held_facts g.block g.held))
+        (cond t (map (λ e. HoldsPoint g.block e.0 e.1) g.news) (spread capacity (level g.block) g.block (g.news ++ g.held)))
     changed_by true t =
         let le = leb-true (length g.held + length g.news) capacity t in
         let same = count in
@@ -162,7 +167,8 @@ module _ (small big : PointMap) (news : List (Pixel × ℕ)) (h : Gains small bi
         let one = w.some in
         let a = (w.among one.0).0 one.1 in
         record {
-          swaps = room_block small big more n capacity least level sized g.block at fits (cond (eqb (length g.held) 0) (HoldsNoPoint g.block ∷ []) []) (map (λ e. HoldsPoint g.block e.0 e.1) g.news)
+          swaps = room_block small big more n capacity least level sized g.block at fits
+              (cond (eqb (length g.held) 0) (HoldsNoPoint g.block ∷ []) []) (map (λ e. HoldsPoint g.block e.0 e.1) g.news)
               one.0 ((h.members one.0).1 (inr a.0)) a.1 room_gone room_come;
           gone_once = apart_by (eqb (length g.held) 0) (HoldsNoPoint g.block);
           come_once = Apart-map (λ e. HoldsPoint g.block e.0 e.1) g.news (λ x y _ _ e. fact_alone g.block x y e) w.once;
@@ -170,14 +176,18 @@ module _ (small big : PointMap) (news : List (Pixel × ℕ)) (h : Gains small bi
     changed_by false f =
         let same = count in
         let fails : holds_few capacity big g.block ≡ false =
-        ⊎_elim (λ t. let le = leb-true (points_in big g.block) capacity t in absurd (both_ways (nat_le (length g.held + length g.news) capacity) f (le-leb (length g.held + length g.news) capacity (omega arith)))) (λ u. u) (cases_Bool (holds_few capacity big g.block)) in
+        ⊎_elim (λ t. let le = leb-true (points_in big g.block) capacity t in
+        absurd (both_ways (nat_le (length g.held + length g.news) capacity) f (le-leb (length g.held + length g.news) capacity (omega arith))))
+        (λ u. u) (cases_Bool (holds_few capacity big g.block)) in
         let test : Pixel × ℕ → Bool = λ e. in_block g.block e.0 in
         let es = filter test (finmap.entries small) in
         let s = sized g.block at in
         record {
-          swaps = Swaps-same (point_facts small g.block) (inside g.block) (point_facts small g.block) (held_facts g.block g.held) (inside g.block) (spread capacity (level g.block) g.block (g.news ++ g.held))
+          swaps = Swaps-same (point_facts small g.block) (inside g.block) (point_facts small g.block) (held_facts g.block g.held) (inside g.block)
+              (spread capacity (level g.block) g.block (g.news ++ g.held))
               (full_block small big more n capacity least level sized g.block at fails)
-              (held_same g.block g.held es (w.held).once (Apart-filter test (finmap.entries small) (entries_apart small)) (w.held).members) (spread_news (level g.block) s);
+              (held_same g.block g.held es (w.held).once (Apart-filter test (finmap.entries small) (entries_apart small)) (w.held).members)
+              (spread_news (level g.block) s);
           gone_once = held_apart g.block g.held (w.held).once;
           come_once = spread_apart n capacity (level g.block) g.block at.block s (g.news ++ g.held) with_news.once;
         }
@@ -186,7 +196,8 @@ module _ (small big : PointMap) (news : List (Pixel × ℕ)) (h : Gains small bi
     one_changed = changed_by (nat_le (length g.held + length g.news) capacity) refl
 
   -- ---- all blocks
-  module _ (gs : List Gain) (are : (g : Gain) → Contains gs g → IsGain n capacity small news g) (own : (g d : Gain) → Contains gs g → Contains gs d → g.block ≡ d.block → g ≡ d) (once : Apart gs)
+  module _ (gs : List Gain) (are : (g : Gain) → Contains gs g → IsGain n capacity small news g) (own : (g d : Gain) → Contains gs g → Contains gs d
+      → g.block ≡ d.block → g ≡ d) (once : Apart gs)
       (covered : (e : Pixel × ℕ) → Contains news e → (g : Gain) × Contains gs g × (in_block g.block e.0 ≡ true)) where
     each : (c : Block) → IsMaximal n (holds_few capacity small) c → ((g : Gain) × Contains gs g × (g.block ≡ c)) ⊎ IsOld small big more c
     each c gc =
@@ -194,7 +205,8 @@ module _ (small big : PointMap) (news : List (Pixel × ℕ)) (h : Gains small bi
         (λ away. inr (λ e m t. ⊎_elim (λ o. o)
         (λ k.
         let g = covered e k in
-        absurd (away g.0 g.1 (one_maximal n (holds_few capacity small) (few_down n capacity small) (g.0).block c e.0 (maximal_in n capacity small (g.0).block (are g.0 g.1).block) gc (Holds-from (g.0).block e.0 g.2) (Holds-from c e.0 t))))
+        absurd (away g.0 g.1 (one_maximal n (holds_few capacity small) (few_down n capacity small) (g.0).block c e.0
+        (maximal_in n capacity small (g.0).block (are g.0 g.1).block) gc (Holds-from (g.0).block e.0 g.2) (Holds-from c e.0 t))))
         ((h.members e).0 m)))
         (among_or_not gs c)
 
@@ -203,7 +215,8 @@ module _ (small big : PointMap) (news : List (Pixel × ℕ)) (h : Gains small bi
 
     gone_one : (a b : Gain) (f : Fact) → Contains gs a → Contains gs b → Contains (gone_in capacity a) f → Contains (gone_in capacity b) f → a ≡ b
     gone_one a b f ma mb ca cb =
-        own a b ma mb (on_one small small a.block b.block f (on_from small a.block f (((swaps_in a ma).goes f).0 ca).0) (on_from small b.block f (((swaps_in b mb).goes f).0 cb).0))
+        own a b ma mb (on_one small small a.block b.block f (on_from small a.block f (((swaps_in a ma).goes f).0 ca).0)
+        (on_from small b.block f (((swaps_in b mb).goes f).0 cb).0))
 
     come_one : (a b : Gain) (f : Fact) → Contains gs a → Contains gs b → Contains (come_in n capacity a) f → Contains (come_in n capacity b) f → a ≡ b
     come_one a b f ma mb ca cb =
@@ -219,9 +232,11 @@ module _ (small big : PointMap) (news : List (Pixel × ℕ)) (h : Gains small bi
         (Within-holds (x.0).block b.block q (subst (λ (z : Block). Within z b.block) (sym same) y.1) here))
 
     -- all that goes and comes, each once
-    pub all_changed : Changes (facts n (Points capacity small)) (facts n (Points capacity big)) (flat_map (gone_in capacity) gs) (flat_map (come_in n capacity) gs)
+    pub all_changed : Changes (facts n (Points capacity small)) (facts n (Points capacity big)) (flat_map (gone_in capacity) gs)
+        (flat_map (come_in n capacity) gs)
     all_changed = record {
-      swaps = scatter_swaps small big more n capacity least level sized gs (λ (g : Gain). g.block) (gone_in capacity) (come_in n capacity) (λ g m. maximal_in n capacity small g.block (are g m).block) each swaps_in;
+      swaps = scatter_swaps small big more n capacity least level sized gs (λ (g : Gain). g.block) (gone_in capacity) (come_in n capacity)
+          (λ g m. maximal_in n capacity small g.block (are g m).block) each swaps_in;
       gone_once = Apart-flat_map (gone_in capacity) gs once (λ g m. (one_changed g (are g m)).gone_once) gone_one;
       come_once = Apart-flat_map (come_in n capacity) gs once (λ g m. (one_changed g (are g m)).come_once) come_one;
     }

@@ -17,7 +17,8 @@ module _ (form n : ℕ) (name : List ℕ) (number capacity : ℕ) (le : n ≤ 12
   abbrev record_for : Fact → Record
   record_for f = record_of n capacity name number f
 
-  half : (old new : PointMap) (fs : List Fact) → ((f : Fact) → Contains fs f ↔ (Contains (facts n (Points capacity old)) f × (Contains (facts n (Points capacity new)) f → ⊥)))
+  half : (old new : PointMap) (fs : List Fact)
+      → ((f : Fact) → Contains fs f ↔ (Contains (facts n (Points capacity old)) f × (Contains (facts n (Points capacity new)) f → ⊥)))
       → (r : Record) → Contains (map record_for fs) r ↔ Contains (records_alone n name number (Some (Points capacity old)) (Some (Points capacity new))) r
   half old new fs are r =
       let here = facts n (Points capacity old) in
@@ -27,7 +28,8 @@ module _ (form n : ℕ) (name : List ℕ) (number capacity : ℕ) (le : n ≤ 12
             let m = Contains-map_from record_for fs r c in
             let w = (are m.0).0 m.1 in
             subst (Contains (map record_for (filter out here))) m.2
-            (Contains-map record_for (filter out here) m.0 (Contains-filter out here m.0 w.0 (not_from (is_among there m.0) (λ t. w.1 (among_from there m.0 t))))),
+            (Contains-map record_for (filter out here) m.0
+            (Contains-filter out here m.0 w.0 (not_from (is_among there m.0) (λ t. w.1 (among_from there m.0 t))))),
         λ c.
             let m = Contains-map_from record_for (filter out here) r c in
             let w = Contains-filter_from out here m.0 m.1 in
@@ -35,9 +37,11 @@ module _ (form n : ℕ) (name : List ℕ) (number capacity : ℕ) (le : n ≤ 12
             (Contains-map record_for fs m.0 ((are m.0).1 (w.0, λ k. not_true (is_among there m.0) w.1 (among_is there m.0 k)))),
       )
 
-  once : (points : PointMap) → IsLayer form n (Points capacity points) → (fs : List Fact) → ((f : Fact) → Contains fs f → Contains (facts n (Points capacity points)) f) → Apart fs → Apart (map record_for fs)
+  once : (points : PointMap) → IsLayer form n (Points capacity points) → (fs : List Fact)
+      → ((f : Fact) → Contains fs f → Contains (facts n (Points capacity points)) f) → Apart fs → Apart (map record_for fs)
   once points fits fs are apart =
-      Apart-map record_for fs (λ f g c d e. fact_alone n le name number least form (Points capacity points) fits f g (are f c) (are g d) (ap (λ (r : Record). r.key) e)) apart
+      Apart-map record_for fs
+      (λ f g c d e. fact_alone n le name number least form (Points capacity points) fits f g (are f c) (are g d) (ap (λ (r : Record). r.key) e)) apart
 
   -- the records of the facts that go and come, each once, are a plan
   pub points_lead : (old new : PointMap) → IsLayer form n (Points capacity old) → IsLayer form n (Points capacity new) → (gone come : List Fact)

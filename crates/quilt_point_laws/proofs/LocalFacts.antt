@@ -1,5 +1,6 @@
 -- One point more or less in a point layer: which facts go and come, all of them on one block or in it.
-use Rattle.std.proofs.Common.{◌≡◌, ℕ, ◌^◌, ◌<◌, ◌≤◌, ◌⊎◌, ◌↔◌, Bool, true, false, cond, List, [], ◌∷◌, length, refl, sym, ◌∙◌, ap, subst, inl, inr, ⊎_elim, arith, Contains, filter, eqb, eqb-true, eq-eqb}
+use Rattle.std.proofs.Common.{◌≡◌, ℕ, ◌^◌, ◌<◌, ◌≤◌, ◌⊎◌, ◌↔◌, Bool, true, false, cond, List, [], ◌∷◌, length, refl, sym, ◌∙◌, ap, subst, inl, inr, ⊎_elim}
+use Rattle.std.proofs.Common.{arith, Contains, filter, eqb, eqb-true, eq-eqb}
 use Rattle.std.specs.FinMap as finmap
 use Rattle.std.proofs.lemmas.Bool.{both_ways}
 use Rattle.std.proofs.lemmas.List.Sums.{length-filter}
@@ -12,7 +13,8 @@ use Rattle.quilt_types.specs.Facts.{Fact, IsOfKind, HoldsPoint, HoldsNoPoint, po
 use Rattle.quilt_blocks.specs.Cutting.{cut}
 use Rattle.quilt_point_laws.specs.Swapping.{Swaps}
 use Rattle.quilt_point_laws.specs.Local.{room_gone, room_come, full_come}
-use Rattle.quilt_loc.proofs.Members.{Contains-here, Contains-nil, Contains-cons_cases, Contains-filter, Contains-filter_from, Contains-flat_map, Contains-flat_map_from}
+use Rattle.quilt_loc.proofs.Members.{Contains-here, Contains-nil, Contains-cons_cases, Contains-filter, Contains-filter_from, Contains-flat_map}
+use Rattle.quilt_loc.proofs.Members.{Contains-flat_map_from}
 use Rattle.quilt_loc.proofs.Blocks.{Holds-from, in_block-true}
 use Rattle.quilt_blocks.proofs.Maximal.{IsMaximal, GoesDown}
 use Rattle.quilt_point_laws.proofs.Narrowing.{Narrows, in_or_out, one_maximal, stays, kept, comes, thin_are, cut_within}
@@ -38,7 +40,8 @@ empty_list (x ∷ xs) h = absurd (h x (Contains-here x xs))
 pub bare_is : (points : PointMap) (b : Block) → IsBare points b → points_in points b ≡ 0
 bare_is points b bare =
     let test : Pixel × ℕ → Bool = λ e. in_block b e.0 in
-    sym (length-filter test (finmap.entries points)) ∙ empty_list (filter test (finmap.entries points)) (λ e c. let w = Contains-filter_from test (finmap.entries points) e c in bare e.0 e.1 w.0 w.1)
+    sym (length-filter test (finmap.entries points))
+    ∙ empty_list (filter test (finmap.entries points)) (λ e c. let w = Contains-filter_from test (finmap.entries points) e c in bare e.0 e.1 w.0 w.1)
 
 module _ (small big : PointMap) (p : Pixel) (label : ℕ) (h : Comes small big p label) where
   new_in : Contains (finmap.entries big) (p, label)
@@ -50,7 +53,11 @@ module _ (small big : PointMap) (p : Pixel) (label : ℕ) (h : Comes small big p
   on_grows b (HoldsNoPoint d) o =
       ⊎_elim
       (λ on. inr (on, ap HoldsNoPoint o.0, o.1))
-      (λ out. inl (o.0, λ q k c t. ⊎_elim (λ m. o.1 q k m t) (λ is. out (Holds-from b p (ap (λ (z : Pixel × ℕ). in_block b z.0) (sym is) ∙ t))) ((h.members (q, k)).0 c)))
+      (λ out. inl (
+        o.0,
+        λ q k c t. ⊎_elim (λ m. o.1 q k m t) (λ is. out (Holds-from b p (ap (λ (z : Pixel × ℕ). in_block b z.0) (sym is) ∙ t)))
+            ((h.members (q, k)).0 c),
+      ))
       (in_or_out b p)
   on_grows b f o = absurd o
 
@@ -133,7 +140,8 @@ module _ (small big : PointMap) (p : Pixel) (label : ℕ) (h : Comes small big p
         λ m. ⊎_elim (λ e. cc) (λ w. never_new w.block c w.on) (fact_from n capacity small (HoldsPoint c p label) m),
       )
 
-      gone_by : (t : Bool) → eqb (points_in small c) 0 ≡ t → (f : Fact) → Contains (cond t (HoldsNoPoint c ∷ []) []) f ↔ (Contains before f × (Contains after f → ⊥))
+      gone_by : (t : Bool) → eqb (points_in small c) 0 ≡ t → (f : Fact) → Contains (cond t (HoldsNoPoint c ∷ []) []) f
+          ↔ (Contains before f × (Contains after f → ⊥))
       gone_by true t f = (
         λ m. ⊎_elim
             (λ e. subst (λ (z : Fact). Contains before z × (Contains after z → ⊥)) e (room_goes_is (bare_from small c (eqb-true (points_in small c) 0 t))))
@@ -150,7 +158,8 @@ module _ (small big : PointMap) (p : Pixel) (label : ℕ) (h : Comes small big p
       room_swaps = record {
         goes = λ f. gone_by (eqb (points_in small c) 0) refl f;
         comes = λ f. (
-          λ m. ⊎_elim (λ e. subst (λ (z : Fact). Contains after z × (Contains before z → ⊥)) e room_comes_is) (λ no. absurd (Contains-nil f no)) (Contains-cons_cases (HoldsPoint c p label) [] f m),
+          λ m. ⊎_elim (λ e. subst (λ (z : Fact). Contains after z × (Contains before z → ⊥)) e room_comes_is) (λ no. absurd (Contains-nil f no))
+              (Contains-cons_cases (HoldsPoint c p label) [] f m),
           λ w. subst (Contains (HoldsPoint c p label ∷ [])) (sym (room_comes_from f w.0 w.1)) (Contains-here (HoldsPoint c p label) []),
         );
       }
@@ -167,7 +176,8 @@ module _ (small big : PointMap) (p : Pixel) (label : ℕ) (h : Comes small big p
           ⊎_elim
           (λ on. subst (λ (z : Block). IsOn small z f) (the_block w.block w.maximal on) w.on)
           (λ out. ⊎_elim
-          (λ o. absurd (not (fact_is n capacity big f (record { block = w.block; maximal = stays n (holds_few capacity small) (holds_few capacity big) p ds db nar w.block w.maximal out; on = o }))))
+          (λ o. absurd (not (fact_is n capacity big f
+          (record { block = w.block; maximal = stays n (holds_few capacity small) (holds_few capacity big) p ds db nar w.block w.maximal out; on = o }))))
           (λ x. absurd (out x.0)) (on_grows w.block f w.on))
           (in_or_out w.block p))
           (fact_from n capacity small f m)
@@ -183,7 +193,8 @@ module _ (small big : PointMap) (p : Pixel) (label : ℕ) (h : Comes small big p
             (fact_from n capacity big f m),
       )
 
-      full_comes_from : (f : Fact) → Contains after f → (Contains before f → ⊥) → (b : Block) × IsMaximal n (holds_few capacity big) b × Within b c × IsOn big b f
+      full_comes_from : (f : Fact) → Contains after f → (Contains before f → ⊥) → (b : Block) × IsMaximal n (holds_few capacity big) b
+          × Within b c × IsOn big b f
       full_comes_from f m not =
           ⊎_elim (λ e. absurd (not (kind_is n capacity small f e)))
           (λ w.

@@ -49,7 +49,8 @@ siblings n wide thin p dw dt nar b gb hb x hx w lt u r mr out =
         let c = Within-parent_of n x hx lt in c
 
 -- the points of four quarters are those of the block
-pub AreIn-quarters : (n : ℕ) (points : PointMap) (b : Block) → IsBlock n b → 1 < b.side → (hs : Block → List (Pixel × ℕ)) → ((r : Block) → Contains (quarters_of b) r → AreIn points r (hs r)) → AreIn points b (flat_map hs (quarters_of b))
+pub AreIn-quarters : (n : ℕ) (points : PointMap) (b : Block) → IsBlock n b → 1 < b.side → (hs : Block → List (Pixel × ℕ))
+    → ((r : Block) → Contains (quarters_of b) r → AreIn points r (hs r)) → AreIn points b (flat_map hs (quarters_of b))
 AreIn-quarters n points b hb wide hs are =
     let es = finmap.entries points in
     let v = halved n b hb wide in
@@ -84,12 +85,14 @@ AreIn-quarters n points b hb wide hs are =
             let one = Holds-around 0 e.0 in
             let r = quarter_with n v.0 a b ha hb size (omega arith) (nested n a b e.0 ha hb (omega arith) one on) in
             Contains-flat_map hs (quarters_of b) r.0 e r.1
-            (((are r.0 r.1).members e).1 (Contains-filter (λ (e : Pixel × ℕ). in_block (r.0) e.0) es e i.0 (in_block-true r.0 e.0 (Within-holds a r.0 e.0 r.2 one)))),
+            (((are r.0 r.1).members e).1
+            (Contains-filter (λ (e : Pixel × ℕ). in_block (r.0) e.0) es e i.0 (in_block-true r.0 e.0 (Within-holds a r.0 e.0 r.2 one)))),
       );
     }
 
 -- a list of the points of a block that does not hold the pixel is one of either map
-pub AreIn-same : (small big : PointMap) (p : Pixel) (label : ℕ) → Comes small big p label → (r : Block) → (Holds r p → ⊥) → (held : List (Pixel × ℕ)) → AreIn big r held → AreIn small r held
+pub AreIn-same : (small big : PointMap) (p : Pixel) (label : ℕ) → Comes small big p label → (r : Block) → (Holds r p → ⊥) → (held : List (Pixel × ℕ))
+    → AreIn big r held → AreIn small r held
 AreIn-same small big p label h r out held are =
     let test : Pixel × ℕ → Bool = λ e. in_block r e.0 in
     let es = finmap.entries small in
@@ -105,11 +108,14 @@ AreIn-same small big p label h r out held are =
     }
 
 -- the test of a parent is how long the lists of its quarters are together
-pub parent_test : (n capacity : ℕ) (points : PointMap) (b : Block) → IsBlock n b → 1 < b.side → (hs : Block → List (Pixel × ℕ)) → ((r : Block) → Contains (quarters_of b) r → AreIn points r (hs r))
+pub parent_test : (n capacity : ℕ) (points : PointMap) (b : Block) → IsBlock n b → 1 < b.side → (hs : Block → List (Pixel × ℕ))
+    → ((r : Block) → Contains (quarters_of b) r → AreIn points r (hs r))
     → holds_few capacity points b ≡ nat_le (length (flat_map hs (quarters_of b))) capacity
-parent_test n capacity points b hb wide hs are = ap (λ m. nat_le m capacity) (sym (AreIn-length points b (flat_map hs (quarters_of b)) (AreIn-quarters n points b hb wide hs are)))
+parent_test n capacity points b hb wide hs are =
+    ap (λ m. nat_le m capacity) (sym (AreIn-length points b (flat_map hs (quarters_of b)) (AreIn-quarters n points b hb wide hs are)))
 
-module _ (small big : PointMap) (p : Pixel) (label : ℕ) (h : Comes small big p label) (n capacity : ℕ) (c : Block) (gc : IsMaximal n (holds_few capacity small) c) (hc : Holds c p) where
+module _ (small big : PointMap) (p : Pixel) (label : ℕ) (h : Comes small big p label) (n capacity : ℕ) (c : Block)
+    (gc : IsMaximal n (holds_few capacity small) c) (hc : Holds c p) where
   abbrev nar : Narrows (holds_few capacity small) (holds_few capacity big) p
   nar = few_narrows small big p label h capacity
 
@@ -120,7 +126,12 @@ module _ (small big : PointMap) (p : Pixel) (label : ℕ) (h : Comes small big p
       ⊎_elim (λ on. absurd (other (one_maximal n (holds_few capacity small) ds w.block c p w.maximal gc on hc)))
       (λ out.
       ⊎_elim
-      (λ o. fact_is n capacity big f (record { block = w.block; maximal = stays n (holds_few capacity small) (holds_few capacity big) p ds (few_down n capacity big) nar w.block w.maximal out; on = o }))
+      (λ o. fact_is n capacity big f
+      (record {
+        block = w.block;
+        maximal = stays n (holds_few capacity small) (holds_few capacity big) p ds (few_down n capacity big) nar w.block w.maximal out;
+        on = o;
+      }))
       (λ x. absurd (out x.0)) (on_grows small big p label h w.block f w.on))
       (in_or_out w.block p)
 
@@ -131,7 +142,8 @@ module _ (small big : PointMap) (p : Pixel) (label : ℕ) (h : Comes small big p
       let db = few_down n capacity big in
       ⊎_elim (λ on. absurd (other (in_maximal n (holds_few capacity small) ds w.block c p (w.maximal).block (nar.less w.block (w.maximal).passes) on gc hc)))
       (λ out. ⊎_elim
-      (λ g. ⊎_elim (λ o. fact_is n capacity small f (record { block = w.block; maximal = g; on = o })) (λ x. absurd (out x.0)) (on_shrinks small big p label h w.block f w.on))
+      (λ g. ⊎_elim (λ o. fact_is n capacity small f (record { block = w.block; maximal = g; on = o })) (λ x. absurd (out x.0))
+      (on_shrinks small big p label h w.block f w.on))
       (λ v. absurd (other v))
       (comes_from n (holds_few capacity small) (holds_few capacity big) p ds db nar c gc hc w.block w.maximal out))
       (in_or_out w.block p)

@@ -19,14 +19,16 @@ pub in_or_out : (b : Block) (p : Pixel) → Holds b p ⊎ (Holds b p → ⊥)
 in_or_out b p = ⊎_elim (λ t. inl (Holds-from b p t)) (λ f. inr (λ h. both_ways (in_block b p) f (in_block-true b p h))) (cases_Bool (in_block b p))
 
 -- two maximal blocks that share a pixel are one
-pub one_maximal : (n : ℕ) (fits : Block → Bool) → GoesDown n fits → (a b : Block) (q : Pixel) → IsMaximal n fits a → IsMaximal n fits b → Holds a q → Holds b q → a ≡ b
+pub one_maximal : (n : ℕ) (fits : Block → Bool) → GoesDown n fits → (a b : Block) (q : Pixel) → IsMaximal n fits a → IsMaximal n fits b
+    → Holds a q → Holds b q → a ≡ b
 one_maximal n fits goes a b q ga gb ha hb =
     ⊎_elim
     (λ lt. sym (alone n fits goes b a gb ga.block ga.passes (nested n b a q gb.block ga.block (omega arith) hb ha)))
     (λ ge. alone n fits goes a b ga gb.block gb.passes (nested n a b q ga.block gb.block ge ha hb)) (cases_lt b.side a.side)
 
 -- a passing block that shares a pixel with a maximal one lies in it
-pub in_maximal : (n : ℕ) (fits : Block → Bool) → GoesDown n fits → (b c : Block) (q : Pixel) → IsBlock n b → fits b ≡ true → Holds b q → IsMaximal n fits c → Holds c q → Within b c
+pub in_maximal : (n : ℕ) (fits : Block → Bool) → GoesDown n fits → (b c : Block) (q : Pixel) → IsBlock n b → fits b ≡ true → Holds b q
+    → IsMaximal n fits c → Holds c q → Within b c
 in_maximal n fits goes b c q hb u on gc hc =
     ⊎_elim
     (λ lt.
@@ -50,7 +52,8 @@ module _ (n : ℕ) (wide thin : Block → Bool) (p : Pixel) (goes_wide : GoesDow
         ⊎_elim
         (λ lt. ⊎_elim
         (λ t. ⊎_elim
-        (λ on. inr (Within-trans e (parent_of e) c (Within-parent_of n e ge.block lt) (in_maximal n wide goes_wide (parent_of e) c p (IsBlock-parent_of n e ge.block lt) t on gc hc)))
+        (λ on. inr (Within-trans e (parent_of e) c (Within-parent_of n e ge.block lt)
+        (in_maximal n wide goes_wide (parent_of e) c p (IsBlock-parent_of n e ge.block lt) t on gc hc)))
         (λ off. absurd (ge.last lt (nar.same (parent_of e) off t)))
         (in_or_out (parent_of e) p))
         (λ f. inl (record { block = ge.block; passes = u; last = λ _ t. both_ways (wide (parent_of e)) f t }))
@@ -116,5 +119,6 @@ module _ (n : ℕ) (wide thin : Block → Bool) (p : Pixel) (goes_wide : GoesDow
       )
 
       -- the thin test's blocks within it are what the recursion over quarters finds
-      pub cut_within : ((b : Block) → IsBlock n b → b.side ≡ 1 → thin b ≡ true) → (k : ℕ) → c.side ≡ 2 ^ k → (e : Block) → Contains (cut thin k c) e ↔ (IsMaximal n thin e × Within e c)
+      pub cut_within : ((b : Block) → IsBlock n b → b.side ≡ 1 → thin b ≡ true) → (k : ℕ) → c.side ≡ 2 ^ k → (e : Block) → Contains (cut thin k c) e
+          ↔ (IsMaximal n thin e × Within e c)
       cut_within pixel k s e = cut_law n thin goes_thin pixel k c gc.block s (λ lt t. gc.last lt (nar.less (parent_of c) t)) e

@@ -7,7 +7,8 @@ use Rattle.quilt_types.specs.Plane.{in_block}
 use Rattle.quilt_types.specs.Layers.{Points, PointMap}
 use Rattle.quilt_types.specs.Quadtrees.{holds_few, point_blocks}
 use Rattle.quilt_types.specs.Facts.{Fact, IsOfKind, HoldsPoint, HoldsNoPoint, or_none, point_facts, facts}
-use Rattle.quilt_loc.proofs.Members.{Contains-nil, Contains-here, Contains-there, Contains-cons_cases, Contains-map, Contains-map_from, Contains-filter, Contains-filter_from, Contains-flat_map, Contains-flat_map_from}
+use Rattle.quilt_loc.proofs.Members.{Contains-nil, Contains-here, Contains-there, Contains-cons_cases, Contains-map, Contains-map_from, Contains-filter}
+use Rattle.quilt_loc.proofs.Members.{Contains-filter_from, Contains-flat_map, Contains-flat_map_from}
 use Rattle.quilt_spell.proofs.FactMembers.{or_none_member}
 use Rattle.quilt_blocks.proofs.Maximal.{IsMaximal, IsMaximal-from, Contains-maximal}
 
@@ -49,7 +50,11 @@ module _ (points : PointMap) (b : Block) where
       let es = finmap.entries points in
       ⊎_elim
       (λ no.
-      let said : IsOn points b (HoldsNoPoint b) = (refl, λ q k m t. nothing_in (map fact (filter test es)) no.1 (HoldsPoint b q k) (Contains-map fact (filter test es) (q, k) (Contains-filter test es (q, k) m t))) in
+      let said : IsOn points b (HoldsNoPoint b) = (
+        refl,
+        λ q k m t. nothing_in (map fact (filter test es)) no.1 (HoldsPoint b q k)
+            (Contains-map fact (filter test es) (q, k) (Contains-filter test es (q, k) m t)),
+      ) in
       subst (IsOn points b) (sym no.0) said)
       (λ has.
       let e = Contains-map_from fact (filter test es) f has in
@@ -62,7 +67,8 @@ module _ (points : PointMap) (b : Block) where
   on_is (HoldsPoint d q k) h =
       let es = finmap.entries points in
       subst (λ (z : Block). Contains (point_facts points b) (HoldsPoint z q k)) (sym h.0)
-      (or_none_some (HoldsNoPoint b) (map fact (filter test es)) (HoldsPoint b q k) (Contains-map fact (filter test es) (q, k) (Contains-filter test es (q, k) h.1 h.2)))
+      (or_none_some (HoldsNoPoint b) (map fact (filter test es)) (HoldsPoint b q k)
+      (Contains-map fact (filter test es) (q, k) (Contains-filter test es (q, k) h.1 h.2)))
   on_is (HoldsNoPoint d) h =
       let es = finmap.entries points in
       subst (λ (z : Block). Contains (point_facts points b) (HoldsNoPoint z)) (sym h.0)
@@ -89,10 +95,12 @@ module _ (n capacity : ℕ) (points : PointMap) where
       (Contains-cons_cases (IsOfKind 2 capacity) (flat_map (point_facts points) (point_blocks n capacity points)) f c)
 
   pub kind_is : (f : Fact) → f ≡ IsOfKind 2 capacity → Contains (facts n (Points capacity points)) f
-  kind_is f e = subst (Contains (facts n (Points capacity points))) (sym e) (Contains-here (IsOfKind 2 capacity) (flat_map (point_facts points) (point_blocks n capacity points)))
+  kind_is f e = subst (Contains (facts n (Points capacity points))) (sym e)
+      (Contains-here (IsOfKind 2 capacity) (flat_map (point_facts points) (point_blocks n capacity points)))
 
   pub fact_is : (f : Fact) → OfBlock n capacity points f → Contains (facts n (Points capacity points)) f
   unfolding point_blocks
   fact_is f h =
       Contains-there (IsOfKind 2 capacity) (flat_map (point_facts points) (point_blocks n capacity points)) f
-      (Contains-flat_map (point_facts points) (point_blocks n capacity points) h.block f (Contains-maximal n (holds_few capacity points) h.block h.maximal) (on_is points h.block f h.on))
+      (Contains-flat_map (point_facts points) (point_blocks n capacity points) h.block f
+      (Contains-maximal n (holds_few capacity points) h.block h.maximal) (on_is points h.block f h.on))

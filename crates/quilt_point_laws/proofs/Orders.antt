@@ -1,12 +1,14 @@
 -- The order of the points in the list that is spread does not matter, and no fact stands twice.
-use Rattle.std.proofs.Common.{◌≡◌, ℕ, zero, suc, ◌^◌, Bool, true, false, cond, nat_le, List, [], ◌∷◌, map, length, refl, sym, ◌∙◌, ap, subst, arith, ⊎_elim, Contains, filter, flat_map, pow-suc, pow_pos}
+use Rattle.std.proofs.Common.{◌≡◌, ℕ, zero, suc, ◌^◌, Bool, true, false, cond, nat_le, List, [], ◌∷◌, map, length, refl, sym, ◌∙◌, ap, subst, arith, ⊎_elim}
+use Rattle.std.proofs.Common.{Contains, filter, flat_map, pow-suc, pow_pos}
 use Rattle.quilt_types.specs.declared.plane.Block.{Block}
 use Rattle.quilt_types.specs.declared.plane.Pixel.{Pixel}
 use Rattle.quilt_types.specs.Plane.{corner, in_block, quarters_of, IsBlock, Within}
 use Rattle.quilt_types.specs.Facts.{Fact, HoldsPoint, HoldsNoPoint}
 use Rattle.quilt_point_laws.specs.Spreading.{held_facts, spread}
 use Rattle.quilt_spell.specs.Apart.{Apart, SameMembers}
-use Rattle.quilt_loc.proofs.Members.{Contains-nil, Contains-map, Contains-map_from, Contains-filter, Contains-filter_from, Contains-flat_map, Contains-flat_map_from}
+use Rattle.quilt_loc.proofs.Members.{Contains-nil, Contains-map, Contains-map_from, Contains-filter, Contains-filter_from, Contains-flat_map}
+use Rattle.quilt_loc.proofs.Members.{Contains-flat_map_from}
 use Rattle.quilt_loc.proofs.Nesting.{Within-holds, Within-trans, Holds-corner, same_block_from}
 use Rattle.quilt_spell.proofs.Lists.{Apart-filter, Apart-map, Apart-flat_map, same_length}
 use Rattle.quilt_spell.proofs.FactMembers.{or_none_member}
@@ -21,7 +23,8 @@ some_held : (b : Block) (xs : Held) (f : Fact) → Contains (map (λ e. HoldsPoi
 some_held b [] f c = absurd (Contains-nil f c)
 some_held b (x ∷ xs) f c = c
 
-held_part : (b : Block) (xs ys : Held) → length xs ≡ length ys → ((e : Pixel × ℕ) → Contains xs e → Contains ys e) → (f : Fact) → Contains (held_facts b xs) f → Contains (held_facts b ys) f
+held_part : (b : Block) (xs ys : Held) → length xs ≡ length ys → ((e : Pixel × ℕ) → Contains xs e → Contains ys e) → (f : Fact)
+    → Contains (held_facts b xs) f → Contains (held_facts b ys) f
 held_part b [] [] l w f c = c
 held_part b [] (y ∷ ys) l w f c = absurd (omega arith)
 held_part b (x ∷ xs) ys l w f c =
@@ -29,7 +32,8 @@ held_part b (x ∷ xs) ys l w f c =
     let m = Contains-map_from fact (x ∷ xs) f c in
     some_held b ys f (subst (Contains (map fact ys)) m.2 (Contains-map fact ys m.0 (w m.0 m.1)))
 
-spread_part : (capacity k : ℕ) (b : Block) (xs ys : Held) → Apart xs → Apart ys → SameMembers xs ys → (f : Fact) → Contains (spread capacity k b xs) f → Contains (spread capacity k b ys) f
+spread_part : (capacity k : ℕ) (b : Block) (xs ys : Held) → Apart xs → Apart ys → SameMembers xs ys → (f : Fact)
+    → Contains (spread capacity k b xs) f → Contains (spread capacity k b ys) f
 spread_part capacity zero b xs ys ax ay w f c = held_part b xs ys (same_length xs ys ax ay w) (λ e m. (w e).0 m) f c
 spread_part capacity (suc k) b xs ys ax ay w f c =
     let long = same_length xs ys ax ay w in
@@ -47,7 +51,8 @@ spread_part capacity (suc k) b xs ys ax ay w f c =
       λ d. let v = Contains-filter_from test ys e d in Contains-filter test xs e ((w e).1 v.0) v.1,
     )) f r.2)) c
   where
-    by : (s t : Bool) → s ≡ t → (l m n o : List Fact) → (Contains l f → Contains n f) → (Contains m f → Contains o f) → Contains (cond s l m) f → Contains (cond t n o) f
+    by : (s t : Bool) → s ≡ t → (l m n o : List Fact) → (Contains l f → Contains n f) → (Contains m f → Contains o f) → Contains (cond s l m) f
+        → Contains (cond t n o) f
     by true true e l m n o h g c = h c
     by false false e l m n o h g c = g c
     by true false e l m n o h g c = cc
@@ -57,7 +62,8 @@ turned : {X : Type 0} (xs ys : List X) → SameMembers xs ys → SameMembers ys 
 turned xs ys w x = ((w x).1, (w x).0)
 
 -- two lists of the same points are spread to the same facts
-pub spread_same : (capacity k : ℕ) (b : Block) (xs ys : Held) → Apart xs → Apart ys → SameMembers xs ys → SameMembers (spread capacity k b xs) (spread capacity k b ys)
+pub spread_same : (capacity k : ℕ) (b : Block) (xs ys : Held) → Apart xs → Apart ys → SameMembers xs ys
+    → SameMembers (spread capacity k b xs) (spread capacity k b ys)
 spread_same capacity k b xs ys ax ay w f = (λ c. spread_part capacity k b xs ys ax ay w f c, λ c. spread_part capacity k b ys xs ay ax (turned xs ys w) f c)
 
 pub held_same : (b : Block) (xs ys : Held) → Apart xs → Apart ys → SameMembers xs ys → SameMembers (held_facts b xs) (held_facts b ys)

@@ -1,5 +1,6 @@
 -- A put and a del of a point layer, as what goes and comes on one block and in it.
-use Rattle.std.proofs.Common.{◌≡◌, ℕ, ◌+◌, ◌^◌, ◌<◌, ◌≤◌, Bool, true, false, cond, nat_lt, List, [], ◌∷◌, map, length, Some, None, refl, sym, ◌∙◌, ap, subst, inl, inr, arith, ⊎_elim, Contains, filter, eqb, ltb-true, lt-ltb}
+use Rattle.std.proofs.Common.{◌≡◌, ℕ, ◌+◌, ◌^◌, ◌<◌, ◌≤◌, Bool, true, false, cond, nat_lt, List, [], ◌∷◌, map, length, Some, None, refl, sym, ◌∙◌, ap, subst}
+use Rattle.std.proofs.Common.{inl, inr, arith, ⊎_elim, Contains, filter, eqb, ltb-true, lt-ltb}
 use Rattle.std.specs.FinMap as finmap
 use Rattle.std.proofs.lemmas.Bool.{cases_lt, both_ways}
 use Rattle.std.proofs.lemmas.List.Sums.{length-filter}
@@ -101,24 +102,30 @@ module _ (small big : PointMap) (p : Pixel) (label : ℕ) (h : Comes small big p
       (equal (spread capacity k c gs) (full_come capacity big k c) (spread_is n capacity big k c gc.block s))
 
   changes_by : (t : Bool) → nat_lt (length held) capacity ≡ t
-      → Changes (facts n (Points capacity small)) (facts n (Points capacity big)) (cond t (cond (eqb (length held) 0) (HoldsNoPoint c ∷ []) []) (held_facts c held)) (cond t (HoldsPoint c p label ∷ []) (spread capacity k c ((p, label) ∷ held)))
+      → Changes (facts n (Points capacity small)) (facts n (Points capacity big))
+      (cond t (cond (eqb (length held) 0) (HoldsNoPoint c ∷ []) []) (held_facts c held))
+      (cond t (HoldsPoint c p label ∷ []) (spread capacity k c ((p, label) ∷ held)))
   changes_by true t =
       let lt = ltb-true (length held) capacity t in
       let same = long in
       let sw = room_swaps small big p label h n capacity c gc hc (omega arith) in
       record {
-        swaps = subst (λ (m : ℕ). Swaps (facts n (Points capacity small)) (facts n (Points capacity big)) (cond (eqb m 0) (HoldsNoPoint c ∷ []) []) (HoldsPoint c p label ∷ [])) (sym long) sw;
+        swaps =
+            subst (λ (m : ℕ). Swaps (facts n (Points capacity small)) (facts n (Points capacity big)) (cond (eqb m 0) (HoldsNoPoint c ∷ []) [])
+            (HoldsPoint c p label ∷ [])) (sym long) sw;
         gone_once = apart_by (eqb (length held) 0) (HoldsNoPoint c);
         come_once = Apart-one (HoldsPoint c p label);
       }
   changes_by false f =
-      let full : capacity ≤ length held = ⊎_elim (λ lt. absurd (both_ways (nat_lt (length held) capacity) f (lt-ltb (length held) capacity lt))) (λ ge. ge) (cases_lt (length held) capacity) in
+      let full : capacity ≤ length held =
+      ⊎_elim (λ lt. absurd (both_ways (nat_lt (length held) capacity) f (lt-ltb (length held) capacity lt))) (λ ge. ge) (cases_lt (length held) capacity) in
       let test : Pixel × ℕ → Bool = λ e. in_block c e.0 in
       let es = filter test (finmap.entries small) in
       let same = long in
       let sw = full_swaps small big p label h n capacity c gc hc (omega arith) least k s in
       record {
-        swaps = Swaps-same (facts n (Points capacity small)) (facts n (Points capacity big)) (point_facts small c) (held_facts c held) (full_come capacity big k c) (spread capacity k c ((p, label) ∷ held)) sw
+        swaps = Swaps-same (facts n (Points capacity small)) (facts n (Points capacity big)) (point_facts small c) (held_facts c held)
+            (full_come capacity big k c) (spread capacity k c ((p, label) ∷ held)) sw
             (held_same c held es are.once (Apart-filter test (finmap.entries small) (entries_apart small)) are.members) spread_here;
         gone_once = held_apart c held are.once;
         come_once = spread_apart n capacity k c gc.block s ((p, label) ∷ held) with_new.once;
@@ -131,32 +138,39 @@ module _ (small big : PointMap) (p : Pixel) (label : ℕ) (h : Comes small big p
   -- with one point less it is the other way
   pub one_less : Changes (facts n (Points capacity big)) (facts n (Points capacity small)) (with_it capacity k c held p label) (without_it capacity c held)
   one_less = record {
-    swaps = Swaps-turned (facts n (Points capacity small)) (facts n (Points capacity big)) (without_it capacity c held) (with_it capacity k c held p label) one_more.swaps;
+    swaps = Swaps-turned (facts n (Points capacity small)) (facts n (Points capacity big)) (without_it capacity c held)
+        (with_it capacity k c held p label) one_more.swaps;
     gone_once = one_more.come_once;
     come_once = one_more.gone_once;
   }
 
 -- ---- valid layers
-pub put_valid : (form n capacity : ℕ) (small big : PointMap) (p : Pixel) (label : ℕ) → Comes small big p label → IsPointMap form n capacity small → is_pixel n p ≡ true → label < 2 ^ 32 → IsPointMap form n capacity big
+pub put_valid : (form n capacity : ℕ) (small big : PointMap) (p : Pixel) (label : ℕ) → Comes small big p label → IsPointMap form n capacity small
+    → is_pixel n p ≡ true → label < 2 ^ 32 → IsPointMap form n capacity big
 put_valid form n capacity small big p label h v on few =
     let gs = finmap.entries big in
     let es = finmap.entries small in record {
       least = v.least;
       most = v.most;
       inside = All-weaker (Contains gs) (λ e. is_pixel n e.0 ≡ true) (λ e c.
-          ⊎_elim (λ m. All-contains (λ (e : Pixel × ℕ). is_pixel n e.0 ≡ true) es e v.inside m) (λ is. ap (λ (z : Pixel × ℕ). is_pixel n z.0) is ∙ on) ((h.members e).0 c)) gs (All-contains_itself gs);
+          ⊎_elim (λ m. All-contains (λ (e : Pixel × ℕ). is_pixel n e.0 ≡ true) es e v.inside m)
+          (λ is. ap (λ (z : Pixel × ℕ). is_pixel n z.0) is ∙ on) ((h.members e).0 c)) gs (All-contains_itself gs);
       labels = All-weaker (Contains gs) (λ e. e.1 < 2 ^ 32) (λ e c.
-          ⊎_elim (λ m. All-contains (λ (e : Pixel × ℕ). e.1 < 2 ^ 32) es e v.labels m) (λ is. subst (λ (z : Pixel × ℕ). z.1 < 2 ^ 32) (sym is) few) ((h.members e).0 c)) gs (All-contains_itself gs);
+          ⊎_elim (λ m. All-contains (λ (e : Pixel × ℕ). e.1 < 2 ^ 32) es e v.labels m) (λ is. subst (λ (z : Pixel × ℕ). z.1 < 2 ^ 32) (sym is) few)
+          ((h.members e).0 c)) gs (All-contains_itself gs);
     }
 
-pub del_valid : (form n capacity : ℕ) (small big : PointMap) (p : Pixel) (label : ℕ) → Comes small big p label → IsPointMap form n capacity big → IsPointMap form n capacity small
+pub del_valid : (form n capacity : ℕ) (small big : PointMap) (p : Pixel) (label : ℕ) → Comes small big p label → IsPointMap form n capacity big
+    → IsPointMap form n capacity small
 del_valid form n capacity small big p label h v =
     let gs = finmap.entries big in
     let es = finmap.entries small in record {
       least = v.least;
       most = v.most;
-      inside = All-weaker (Contains es) (λ e. is_pixel n e.0 ≡ true) (λ e c. All-contains (λ (e : Pixel × ℕ). is_pixel n e.0 ≡ true) gs e v.inside ((h.members e).1 (inl c))) es (All-contains_itself es);
-      labels = All-weaker (Contains es) (λ e. e.1 < 2 ^ 32) (λ e c. All-contains (λ (e : Pixel × ℕ). e.1 < 2 ^ 32) gs e v.labels ((h.members e).1 (inl c))) es (All-contains_itself es);
+      inside = All-weaker (Contains es) (λ e. is_pixel n e.0 ≡ true)
+          (λ e c. All-contains (λ (e : Pixel × ℕ). is_pixel n e.0 ≡ true) gs e v.inside ((h.members e).1 (inl c))) es (All-contains_itself es);
+      labels = All-weaker (Contains es) (λ e. e.1 < 2 ^ 32)
+          (λ e c. All-contains (λ (e : Pixel × ℕ). e.1 < 2 ^ 32) gs e v.labels ((h.members e).1 (inl c))) es (All-contains_itself es);
     }
 
 -- ---- the block to begin with
@@ -165,7 +179,8 @@ block_around n capacity points p least hx hy =
     held n (holds_few capacity points) p hx hy (few_pixel n capacity points least (around (2 ^ 0) p) (IsBlock-around n 0 p (omega arith) hx hy) refl)
 
 -- ---- the two commands
-module _ (form n : ℕ) (name : List ℕ) (number capacity : ℕ) (le : n ≤ 12) (some : 1 ≤ number) (points : PointMap) (valid : IsPointMap form n capacity points) (p : Pixel) where
+module _ (form n : ℕ) (name : List ℕ) (number capacity : ℕ) (le : n ≤ 12) (some : 1 ≤ number) (points : PointMap)
+    (valid : IsPointMap form n capacity points) (p : Pixel) where
   -- c: the block around the pixel, held: its points
   pub put_leads : (label : ℕ) → finmap.get points p ≡ None → is_pixel n p ≡ true → label < 2 ^ 32
       → (c : Block) → Contains (point_blocks n capacity points) c → Holds c p → (k : ℕ) → c.side ≡ 2 ^ k → (held : List (Pixel × ℕ)) → AreIn points c held

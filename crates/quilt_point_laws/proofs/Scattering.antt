@@ -1,5 +1,6 @@
 -- Many points more: block by block.
-use Rattle.std.proofs.Common.{◌≡◌, ℕ, ◌^◌, ◌≤◌, ◌⊎◌, ◌↔◌, Bool, true, false, List, refl, sym, ◌∙◌, ap, subst, arith, ⊎_elim, Contains, filter, flat_map, le-leb, leb-true}
+use Rattle.std.proofs.Common.{◌≡◌, ℕ, ◌^◌, ◌≤◌, ◌⊎◌, ◌↔◌, Bool, true, false, List, refl, sym, ◌∙◌, ap, subst, arith, ⊎_elim, Contains, filter, flat_map, le-leb}
+use Rattle.std.proofs.Common.{leb-true}
 use Rattle.std.specs.FinMap as finmap
 use Rattle.std.proofs.lemmas.Bool.{both_ways}
 use Rattle.std.proofs.lemmas.List.Sums.{length-filter}
@@ -28,7 +29,8 @@ pub record InOne (n : ℕ) (wide thin : Block → Bool) (e : Block) : Type 0 whe
   pub maximal : IsMaximal n wide block
   pub within : Within e block
 
-module _ (n : ℕ) (wide thin : Block → Bool) (less : (b : Block) → thin b ≡ true → wide b ≡ true) (dw : GoesDown n wide) (dt : GoesDown n thin) (pixel : (b : Block) → IsBlock n b → b.side ≡ 1 → thin b ≡ true) where
+module _ (n : ℕ) (wide thin : Block → Bool) (less : (b : Block) → thin b ≡ true → wide b ≡ true) (dw : GoesDown n wide) (dt : GoesDown n thin)
+    (pixel : (b : Block) → IsBlock n b → b.side ≡ 1 → thin b ≡ true) where
   pub in_one : (e : Block) → IsMaximal n thin e → InOne n wide thin e
   in_one e ge =
       let he = ge.block in
@@ -47,7 +49,8 @@ module _ (small big : PointMap) (more : (e : Pixel × ℕ) → Contains (finmap.
       let test : Pixel × ℕ → Bool = λ e. in_block b e.0 in
       let es = finmap.entries small in
       let gs = finmap.entries big in
-      let le = Apart-le (filter test es) (filter test gs) (Apart-filter test es (entries_apart small)) (λ e c. let w = Contains-filter_from test es e c in Contains-filter test gs e (more e w.0) w.1) in
+      let le = Apart-le (filter test es) (filter test gs) (Apart-filter test es (entries_apart small))
+      (λ e c. let w = Contains-filter_from test es e c in Contains-filter test gs e (more e w.0) w.1) in
       let ls = length-filter test es in
       let lg = length-filter test gs in
       omega arith
@@ -64,7 +67,8 @@ module _ (small big : PointMap) (more : (e : Pixel × ℕ) → Contains (finmap.
       let test : Pixel × ℕ → Bool = λ e. in_block c e.0 in
       let es = finmap.entries small in
       let gs = finmap.entries big in
-      let le = Apart-le (filter test gs) (filter test es) (Apart-filter test gs (entries_apart big)) (λ e m. let w = Contains-filter_from test gs e m in Contains-filter test es e (old e w.0 w.1) w.1) in
+      let le = Apart-le (filter test gs) (filter test es) (Apart-filter test gs (entries_apart big))
+      (λ e m. let w = Contains-filter_from test gs e m in Contains-filter test es e (old e w.0 w.1) w.1) in
       let ls = length-filter test es in
       let lg = length-filter test gs in
       let few = leb-true (points_in small c) capacity u in
@@ -83,7 +87,8 @@ module _ (small big : PointMap) (more : (e : Pixel × ℕ) → Contains (finmap.
       back (HoldsNoPoint d) o = (o.0, λ q k m t. o.1 q k (more (q, k) m) t)
       back f o = absurd o
 
-  module _ (n capacity : ℕ) (least : 1 ≤ capacity) (level : Block → ℕ) (sized : (c : Block) → IsMaximal n (holds_few capacity small) c → c.side ≡ 2 ^ level c) where
+  module _ (n capacity : ℕ) (least : 1 ≤ capacity) (level : Block → ℕ) (sized : (c : Block) → IsMaximal n (holds_few capacity small) c
+      → c.side ≡ 2 ^ level c) where
     abbrev wide : Block → Bool
     wide b = holds_few capacity small b
 
@@ -105,10 +110,13 @@ module _ (small big : PointMap) (more : (e : Pixel × ℕ) → Contains (finmap.
     dt : GoesDown n (holds_few capacity big)
     dt = few_down n capacity big
 
-    cut_here : (c : Block) → IsMaximal n (holds_few capacity small) c → (e : Block) → Contains (cut (holds_few capacity big) (level c) c) e ↔ (IsMaximal n (holds_few capacity big) e × Within e c)
-    cut_here c gc e = cut_one n (holds_few capacity small) (holds_few capacity big) (few_less capacity) dw dt (few_pixel n capacity big least) c gc (level c) (sized c gc) e
+    cut_here : (c : Block) → IsMaximal n (holds_few capacity small) c → (e : Block) → Contains (cut (holds_few capacity big) (level c) c) e
+        ↔ (IsMaximal n (holds_few capacity big) e × Within e c)
+    cut_here c gc e =
+        cut_one n (holds_few capacity small) (holds_few capacity big) (few_less capacity) dw dt (few_pixel n capacity big least) c gc (level c) (sized c gc) e
 
-    pub inner_from : (c : Block) → IsMaximal n (holds_few capacity small) c → (f : Fact) → Contains (inner c) f → (w : OfBlock n capacity big f) × Within w.block c
+    pub inner_from : (c : Block) → IsMaximal n (holds_few capacity small) c → (f : Fact) → Contains (inner c) f
+        → (w : OfBlock n capacity big f) × Within w.block c
     inner_from c gc f m =
         let r = Contains-flat_map_from (point_facts big) (cut (holds_few capacity big) (level c) c) f m in
         let l = (cut_here c gc r.0).0 r.1 in
@@ -116,7 +124,8 @@ module _ (small big : PointMap) (more : (e : Pixel × ℕ) → Contains (finmap.
 
     inner_is : (c : Block) → IsMaximal n (holds_few capacity small) c → (f : Fact) (w : OfBlock n capacity big f) → Within w.block c → Contains (inner c) f
     inner_is c gc f w v =
-        Contains-flat_map (point_facts big) (cut (holds_few capacity big) (level c) c) w.block f ((cut_here c gc w.block).1 (w.maximal, v)) (on_is big w.block f w.on)
+        Contains-flat_map (point_facts big) (cut (holds_few capacity big) (level c) c) w.block f ((cut_here c gc w.block).1 (w.maximal, v))
+        (on_is big w.block f w.on)
 
     -- in a block with no new point the facts stay
     old_stays : (c : Block) → IsMaximal n (holds_few capacity small) c → IsOld c → (f : Fact) → Contains (inner c) f ↔ Contains (point_facts small c) f
@@ -133,7 +142,8 @@ module _ (small big : PointMap) (more : (e : Pixel × ℕ) → Contains (finmap.
 
     -- ---- what goes and comes in one block with new points
     -- where they are too many all facts go, and those of the blocks that it is cut into come
-    pub full_block : (c : Block) → IsMaximal n (holds_few capacity small) c → holds_few capacity big c ≡ false → Swaps (point_facts small c) (inner c) (point_facts small c) (inner c)
+    pub full_block : (c : Block) → IsMaximal n (holds_few capacity small) c → holds_few capacity big c ≡ false
+        → Swaps (point_facts small c) (inner c) (point_facts small c) (inner c)
     full_block c gc fails =
         let apart : (f : Fact) → Contains (point_facts small c) f → Contains (inner c) f → ⊥ = λ f m i.
         let r = inner_from c gc f i in
@@ -147,7 +157,9 @@ module _ (small big : PointMap) (more : (e : Pixel × ℕ) → Contains (finmap.
     pub room_block : (c : Block) → IsMaximal n (holds_few capacity small) c → holds_few capacity big c ≡ true → (gone come : List Fact)
         → (e : Pixel × ℕ) → Contains (finmap.entries big) e → in_block c e.0 ≡ true
         → ((f : Fact) → Contains gone f ↔ ((f ≡ HoldsNoPoint c) × IsBare small c))
-        → ((f : Fact) → Contains come f ↔ ((d : Pixel × ℕ) × Contains (finmap.entries big) d × (in_block c d.0 ≡ true) × (Contains (finmap.entries small) d → ⊥) × (f ≡ HoldsPoint c d.0 d.1)))
+        → ((f : Fact) → Contains come f
+        ↔ ((d : Pixel × ℕ) × Contains (finmap.entries big) d × (in_block c d.0 ≡ true) × (Contains (finmap.entries small) d → ⊥)
+        × (f ≡ HoldsPoint c d.0 d.1)))
         → Swaps (point_facts small c) (inner c) gone come
     room_block c gc u gone come e me te gone_are come_are =
         let tc : IsMaximal n (holds_few capacity big) c = record { block = gc.block; passes = u; last = λ lt t. gc.last lt (few_less capacity _ t) } in
@@ -183,7 +195,8 @@ module _ (small big : PointMap) (more : (e : Pixel × ℕ) → Contains (finmap.
         new_one c f o off = absurd o
 
     -- Given what goes and comes in each block with new points, all that goes and comes.
-    module _ {X : Type 0} (xs : List X) (block_of : X → Block) (gone come : X → List Fact) (only : (x : X) → Contains xs x → IsMaximal n (holds_few capacity small) (block_of x))
+    module _ {X : Type 0} (xs : List X) (block_of : X → Block) (gone come : X → List Fact) (only : (x : X) → Contains xs x
+        → IsMaximal n (holds_few capacity small) (block_of x))
         (each : (c : Block) → IsMaximal n (holds_few capacity small) c → ((x : X) × Contains xs x × (block_of x ≡ c)) ⊎ IsOld c)
         (swaps : (x : X) → Contains xs x → Swaps (point_facts small (block_of x)) (inner (block_of x)) (gone x) (come x)) where
       was : (c : Block) → IsMaximal n (holds_few capacity small) c → (f : Fact) → Contains (point_facts small c) f → Contains before f
@@ -195,7 +208,8 @@ module _ (small big : PointMap) (more : (e : Pixel × ℕ) → Contains (finmap.
       kind_off : (points : PointMap) (b : Block) (f : Fact) → f ≡ IsOfKind 2 capacity → IsOn points b f → ⊥
       kind_off points b f e o = subst (IsOn points b) e o
 
-      goes_out : (x : X) → Contains xs x → (f : Fact) → Contains (point_facts small (block_of x)) f → (Contains (inner (block_of x)) f → ⊥) → Contains after f → ⊥
+      goes_out : (x : X) → Contains xs x → (f : Fact) → Contains (point_facts small (block_of x)) f → (Contains (inner (block_of x)) f → ⊥)
+          → Contains after f → ⊥
       goes_out x mx f m off there =
           let c = block_of x in
           let gc = only x mx in
@@ -206,7 +220,8 @@ module _ (small big : PointMap) (more : (e : Pixel × ℕ) → Contains (finmap.
           off (inner_is c gc f w (subst (λ (z : Block). Within z c) same (Within-self c))))
           (fact_from n capacity big f there)
 
-      comes_in : (x : X) → Contains xs x → (f : Fact) → Contains (inner (block_of x)) f → (Contains (point_facts small (block_of x)) f → ⊥) → Contains before f → ⊥
+      comes_in : (x : X) → Contains xs x → (f : Fact) → Contains (inner (block_of x)) f → (Contains (point_facts small (block_of x)) f → ⊥)
+          → Contains before f → ⊥
       comes_in x mx f m off here =
           let c = block_of x in
           let gc = only x mx in
@@ -244,7 +259,8 @@ module _ (small big : PointMap) (more : (e : Pixel × ℕ) → Contains (finmap.
               (is' (block_of r.0) (only r.0 r.1) f w.0, comes_in r.0 r.1 f w.0 w.1),
           λ w. ⊎_elim (λ e. absurd (w.1 (kind_is n capacity small f e)))
               (λ v.
-              let one = in_one n (holds_few capacity small) (holds_few capacity big) (few_less capacity) dw dt (few_pixel n capacity big least) v.block v.maximal in
+              let one =
+              in_one n (holds_few capacity small) (holds_few capacity big) (few_less capacity) dw dt (few_pixel n capacity big least) v.block v.maximal in
               let i = inner_is one.block one.maximal f v one.within in
               ⊎_elim
               (λ x.

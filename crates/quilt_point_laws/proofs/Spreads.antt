@@ -1,5 +1,6 @@
 -- The recursion over quarters on a list of points gives the facts of the blocks that the definition has.
-use Rattle.std.proofs.Common.{◌≡◌, ℕ, zero, suc, ◌^◌, Bool, true, false, cond, nat_le, List, [], ◌∷◌, ◌++◌, length, refl, sym, ◌∙◌, ap, ap₂, arith, Contains, filter, flat_map, pow-suc, pow_pos, append_assoc}
+use Rattle.std.proofs.Common.{◌≡◌, ℕ, zero, suc, ◌^◌, Bool, true, false, cond, nat_le, List, [], ◌∷◌, ◌++◌, length, refl, sym, ◌∙◌, ap, ap₂, arith, Contains}
+use Rattle.std.proofs.Common.{filter, flat_map, pow-suc, pow_pos, append_assoc}
 use Rattle.std.specs.FinMap as finmap
 use Rattle.std.proofs.lemmas.List.Sums.{length-filter}
 use Rattle.quilt_types.specs.declared.plane.Block.{Block}
@@ -15,7 +16,8 @@ use Rattle.quilt_loc.proofs.Blocks.{Holds-from, in_block-true}
 use Rattle.quilt_loc.proofs.Nesting.{Within-holds}
 use Rattle.quilt_loc.proofs.Quartered.{quarters_are}
 
-twice_step : {X : Type 0} (p q : X → Bool) (x : X) (b : Bool) (xs : List X) → p x ≡ b → (q x ≡ true → p x ≡ true) → filter q (cond b (x ∷ xs) xs) ≡ cond (q x) (x ∷ filter q xs) (filter q xs)
+twice_step : {X : Type 0} (p q : X → Bool) (x : X) (b : Bool) (xs : List X) → p x ≡ b → (q x ≡ true → p x ≡ true)
+    → filter q (cond b (x ∷ xs) xs) ≡ cond (q x) (x ∷ filter q xs) (filter q xs)
 twice_step p q x true xs e h = refl
 twice_step p q x false xs e h = out (q x) refl
   where
@@ -49,7 +51,8 @@ module _ (n capacity : ℕ) (points : PointMap) where
   held b = filter (λ e. in_block b e.0) (finmap.entries points)
 
   in_quarter : (b r : Block) → Within r b → filter (λ (e : Pixel × ℕ). in_block r e.0) (held b) ≡ held r
-  in_quarter b r w = filter_twice (λ (e : Pixel × ℕ). in_block b e.0) (λ (e : Pixel × ℕ). in_block r e.0) (λ e t. in_block-true b e.0 (Within-holds r b e.0 w (Holds-from r e.0 t))) (finmap.entries points)
+  in_quarter b r w = filter_twice (λ (e : Pixel × ℕ). in_block b e.0) (λ (e : Pixel × ℕ). in_block r e.0)
+      (λ e t. in_block-true b e.0 (Within-holds r b e.0 w (Holds-from r e.0 t))) (finmap.entries points)
 
   spread_step : (k : ℕ) (b : Block) → IsBlock n b → b.side ≡ 2 ^ suc k
       → ((r : Block) → IsBlock n r → r.side ≡ 2 ^ k → spread capacity k r (held r) ≡ flat_map (point_facts points) (cut (holds_few capacity points) k r))
@@ -59,7 +62,8 @@ module _ (n capacity : ℕ) (points : PointMap) where
   spread_step k b hb s law false =
       let p2 = pow-suc 2 k in
       let pos = pow_pos k in
-      flat_map_same (λ r. spread capacity k r (filter (λ e. in_block r e.0) (held b))) (λ r. flat_map (point_facts points) (cut (holds_few capacity points) k r)) (quarters_of b)
+      flat_map_same (λ r. spread capacity k r (filter (λ e. in_block r e.0) (held b)))
+      (λ r. flat_map (point_facts points) (cut (holds_few capacity points) k r)) (quarters_of b)
       (λ r c.
       let q = quarters_are n b r hb (omega arith) c in
       let half = q.half in
@@ -67,7 +71,8 @@ module _ (n capacity : ℕ) (points : PointMap) where
       ∙ sym (flat_map_twice (point_facts points) (cut (holds_few capacity points) k) (quarters_of b))
 
   -- spreading the points of a block gives the facts of the blocks that it is cut into
-  pub spread_is : (k : ℕ) (b : Block) → IsBlock n b → b.side ≡ 2 ^ k → spread capacity k b (held b) ≡ flat_map (point_facts points) (cut (holds_few capacity points) k b)
+  pub spread_is : (k : ℕ) (b : Block) → IsBlock n b → b.side ≡ 2 ^ k
+      → spread capacity k b (held b) ≡ flat_map (point_facts points) (cut (holds_few capacity points) k b)
   spread_is zero b hb s = sym (append_nil (point_facts points b))
   spread_is (suc k) b hb s =
       let es = finmap.entries points in

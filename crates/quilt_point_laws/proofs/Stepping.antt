@@ -34,7 +34,8 @@ module _ (form n : ℕ) (layers : Map) (numbers : Numbering) (name : List ℕ) (
   pub put_steps : (label : ℕ) → finmap.get points p ≡ None → is_pixel n p ≡ true → label < 2 ^ 32
       → (c : Block) → Contains (point_blocks n capacity points) c → Holds c p → (k : ℕ) → c.side ≡ 2 ^ k → (held : List (Pixel × ℕ)) → AreIn points c held
       → IsStep form n layers numbers name (number_of numbers name) (Some (Points capacity (finmap.insert points p label)))
-      (map (record_of n capacity name (number_of numbers name)) (without_it capacity c held)) (map (record_of n capacity name (number_of numbers name)) (with_it capacity k c held p label))
+      (map (record_of n capacity name (number_of numbers name)) (without_it capacity c held))
+      (map (record_of n capacity name (number_of numbers name)) (with_it capacity k c held p label))
   put_steps label none on few c mc hc k s held are =
       let number = number_of numbers name in
       let after = finmap.insert points p label in
@@ -47,7 +48,8 @@ module _ (form n : ℕ) (layers : Map) (numbers : Numbering) (name : List ℕ) (
       → let after = finmap.remove points p in let c = climb (holds_few capacity after) d b in
       (k : ℕ) → c.side ≡ 2 ^ k → (held : List (Pixel × ℕ)) → AreIn after c held
       → IsStep form n layers numbers name (number_of numbers name) (Some (Points capacity after))
-      (map (record_of n capacity name (number_of numbers name)) (with_it capacity k c held p label)) (map (record_of n capacity name (number_of numbers name)) (without_it capacity c held))
+      (map (record_of n capacity name (number_of numbers name)) (with_it capacity k c held p label))
+      (map (record_of n capacity name (number_of numbers name)) (without_it capacity c held))
   del_steps label there b mb hb j d sb e k s held are =
       let number = number_of numbers name in
       let after = finmap.remove points p in

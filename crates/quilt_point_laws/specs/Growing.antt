@@ -31,6 +31,7 @@ pub record Gain : Type 0 where
   pub held : List (Pixel × ℕ)
   pub news : List (Pixel × ℕ)
 
+-- the facts on the block that hold without the new points alone
 abbrev pub gone_in : ℕ → Gain → List Fact
 gone_in capacity g = gone_of capacity g.block g.held g.news
 

@@ -11,6 +11,7 @@ use Rattle.quilt_blocks.specs.Cutting.{cut}
 abbrev pub room_gone : PointMap → Block → List Fact
 room_gone small c = if points_in small c == 0 then HoldsNoPoint c ∷ [] else []
 
+-- where the block has room: that it holds the new point
 abbrev pub room_come : Block → Pixel → ℕ → List Fact
 room_come c p label = HoldsPoint c p label ∷ []
 

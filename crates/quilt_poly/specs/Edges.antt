@@ -22,6 +22,7 @@ unfoldable pub ahead : Pixel → Edge → ℕ
 ahead p e =
     2 * e.bottom.x * (2 * p.y + 1) + (2 * p.x + 1) * (2 * e.top.y) + 2 * e.top.x * (2 * e.bottom.y)
 
+-- the second of the two, of the same doubled coordinates
 unfoldable pub behind : Pixel → Edge → ℕ
 behind p e =
     (2 * p.x + 1) * (2 * e.bottom.y) + 2 * e.top.x * (2 * p.y + 1) + 2 * e.bottom.x * (2 * e.top.y)

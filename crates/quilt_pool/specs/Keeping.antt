@@ -24,7 +24,7 @@ pub record IsWork (n : ℕ) (es : Entries) (changed : List Bool) (t : Tale) : Ty
   pub idle : IsIdle n changed t
   pub clean : IsClean es (work t n changed)
 
--- They stand so again, and each page of the work is as it was, but that this one may have these bytes.
+-- They stand so again, and each page of the work is as it was.
 pub record Keeps (n : ℕ) (oes nes : Entries) (oc nc : List Bool) (old new : Tale) : Type 0 where
   pub is : IsWork n nes nc new
   pub home : published new n ≡ published old n
@@ -32,6 +32,7 @@ pub record Keeps (n : ℕ) (oes nes : Entries) (oc nc : List Bool) (old new : Ta
   pub tries : Tries old new
   pub since : Since old new (HasHome n (published old n))
 
+-- They stand so again; the page has these bytes, and each other page of the work is as it was.
 pub record Changes (n : ℕ) (page : ℕ) (bytes : List ℕ) (oes nes : Entries) (oc nc : List Bool) (old new : Tale) : Type 0 where
   pub is : IsWork n nes nc new
   pub home : published new n ≡ published old n

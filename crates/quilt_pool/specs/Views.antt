@@ -9,8 +9,10 @@ use Rattle.quilt_pool.specs.declared.pool.Pool.{Pool}
 abbrev pub seen : Pool → LruCache ℕ Frame
 seen p = p.table
 
+-- the pages that the pool holds with their bytes, the last used first
 abbrev pub entries_of : Pool → Entries
 entries_of p = p.table.entries
 
+-- how many pages the pool holds at most
 abbrev pub capacity_of : Pool → ℕ
 capacity_of p = p.table.cap

@@ -6,6 +6,7 @@ use Rattle.std.specs.Cmp.Lexicographic.{slice_cmp}
 use Rattle.std.specs.declared.cmp.Ordering.{Ordering}
 use Rattle.quilt_record.specs.declared.entry.Entry.{Entry}
 
+-- names in the order of their bytes
 abbrev pub name_cmp : List ℕ → List ℕ → Ordering
 name_cmp s t = slice_cmp nat_cmp s t
 
@@ -14,6 +15,7 @@ abbrev pub AreInOrder : List Entry → Type 0
 AreInOrder [] = Unit {0}
 AreInOrder (e ∷ es) = (list_all (λ f. is_lt (name_cmp e.name f.name)) es ≡ true) × AreInOrder es
 
+-- the layers of a map as a list of entries: at most 255, in the order of their names, no name twice
 pub record IsCatalog (es : List Entry) : Type 0 where
   pub few : length es ≤ 255
   pub order : AreInOrder es

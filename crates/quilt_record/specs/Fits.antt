@@ -14,10 +14,12 @@ pub record IsFitting (r : Record) : Type 0 where
   pub key : KeyFits r.key
   pub value : length r.value ≡ 16
 
+-- the numbers of each record fit their bytes, and its value has 16 bytes
 abbrev pub AllFit : List Record → Type 0
 AllFit [] = Unit {0}
 AllFit (r ∷ rs) = IsFitting r × AllFit rs
 
+-- the numbers of each key fit their bytes
 abbrev pub KeysFit : List Key → Type 0
 KeysFit [] = Unit {0}
 KeysFit (k ∷ ks) = KeyFits k × KeysFit ks

@@ -8,6 +8,7 @@ use Rattle.quilt_record.specs.declared.record.Record.{Record}
 use Rattle.quilt_record.specs.declared.entry.Entry.{Entry}
 use Rattle.quilt_record.specs.Records.{record_of}
 
+-- the number by which a record tells a layer's kind: 1 region, 2 points, 3 lines
 abbrev pub number_of_kind : Kind → ℕ
 number_of_kind Region = 1
 number_of_kind (Points bucket) = 2
@@ -19,6 +20,7 @@ number_beside Region = 0
 number_beside (Points bucket) = bucket
 number_beside (Lines threshold) = threshold
 
+-- the fact that a layer is of this kind
 abbrev pub kind_fact : Kind → Fact
 kind_fact kind = IsOfKind (number_of_kind kind) (number_beside kind)
 
@@ -28,6 +30,7 @@ KindFits f Region = Unit {0}
 KindFits f (Points bucket) = (1 ≤ bucket) × (bucket ≤ (if f == 1 then 1 else 16))
 KindFits f (Lines threshold) = (1 ≤ threshold) × (threshold ≤ 32)
 
+-- the record is the one spelling, in this format, of the catalog's entry: a layer's name, number from 1 to 255, and kind
 pub record IsEntryOf (f : ℕ) (r : Record) (e : Entry) : Type 0 where
   pub least : 1 ≤ e.number
   pub most : e.number ≤ 255

@@ -21,12 +21,15 @@ key_cmp a b =
     ordering_then (nat_cmp a.layer b.layer) (ordering_then (nat_cmp a.part b.part) (
     ordering_then (nat_cmp a.code b.code) (ordering_then (nat_cmp a.depth b.depth) (nat_cmp a.item b.item))))
 
+-- by key, and then by the bytes of the value
 abbrev pub record_cmp : Record → Record → Ordering
 record_cmp a b = ordering_then (key_cmp a.key b.key) (slice_cmp nat_cmp a.value b.value)
 
+-- the 12 bytes of a key: layer 2, part 1, code 4, depth 1, item 4, the high byte first
 abbrev pub key_bytes : Key → List ℕ
 key_bytes k = to_be_bytes w16 k.layer ++ (k.part ∷ to_be_bytes w32 k.code) ++ (k.depth ∷ to_be_bytes w32 k.item)
 
+-- the 28 bytes of a record: its key and its value
 abbrev pub record_bytes : Record → List ℕ
 record_bytes r = key_bytes r.key ++ r.value
 
@@ -34,6 +37,7 @@ record_bytes r = key_bytes r.key ++ r.value
 abbrev pub filled : ℕ → List ℕ → List ℕ
 filled n bytes = bytes ++ replicate (n - length bytes) 0
 
+-- the key of a record of a block: the layer's number, the part, the block's code and depth at the level n, and what tells its records apart
 abbrev pub block_key : ℕ → ℕ → ℕ → Block → ℕ → Key
 block_key n layer part b item =
     record { layer = layer; part = part; code = code b.x b.y; depth = depth n b; item = item }
@@ -68,6 +72,7 @@ record_of n capacity name layer (IsSegment id s) = record {
   value = filled 16 (to_be_bytes w16 s.x1 ++ to_be_bytes w16 s.y1 ++ to_be_bytes w16 s.x2 ++ to_be_bytes w16 s.y2);
 }
 
+-- how many points a block of the layer holds at most; 0 where it is no point layer
 abbrev pub capacity_of : Layer → ℕ
 capacity_of (Points capacity points) = capacity
 capacity_of layer = 0

@@ -23,5 +23,6 @@ held_of value =
 abbrev pub id_of : Record → Option ℕ
 id_of r = if slice_index r.value 0 == 0 then None else Some r.key.item
 
+-- a segment: x and y of its first end, and of its last end, two bytes each, the high byte first
 abbrev pub segment_of : List ℕ → Seg
 segment_of value = record { x1 = short_in value 0; y1 = short_in value 2; x2 = short_in value 4; y2 = short_in value 6 }

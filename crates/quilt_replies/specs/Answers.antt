@@ -30,6 +30,7 @@ pub data Reply : Type 0 where
   Done : (body : List (List ℕ)) → Reply
   Refused : (code : Code) → Reply
 
+-- what a command comes to: its reply, the work after it, and the edition that it published, if it did
 pub record Outcome : Type 0 where
   pub reply : Reply
   pub work : Map
@@ -56,82 +57,104 @@ changed work = record { reply = Done []; work = work; published = None }
 
 -- Tests.
 
+-- the layer of the work under this name, if there is one
 abbrev pub layer : State → List ℕ → Option Layer
 layer s a = finmap.get s.work a
 
+-- the work has no layer of this name: refusal `unknown`
 abbrev pub unknown : State → List ℕ → Bool × Code
 unknown s a = (is_none (layer s a), no.Unknown)
 
+-- there is a layer, and it is a region layer
 abbrev pub is_region : Option Layer → Bool
 is_region (Some (Region g)) = true
 is_region l = false
 
+-- there is a layer, and it is a point layer
 abbrev pub is_points : Option Layer → Bool
 is_points (Some (Points b p)) = true
 is_points l = false
 
+-- there is a layer, and it is a line layer
 abbrev pub is_lines : Option Layer → Bool
 is_lines (Some (Lines t segs cover)) = true
 is_lines l = false
 
+-- the layer of this name is no region layer: refusal `kind`
 abbrev pub unless_region : State → List ℕ → Bool × Code
 unless_region s a = (not (is_region (layer s a)), no.Kind)
 
+-- the layer of this name is no point layer: refusal `kind`
 abbrev pub unless_points : State → List ℕ → Bool × Code
 unless_points s a = (not (is_points (layer s a)), no.Kind)
 
+-- the layer of this name is no line layer: refusal `kind`
 abbrev pub unless_lines : State → List ℕ → Bool × Code
 unless_lines s a = (not (is_lines (layer s a)), no.Kind)
 
+-- the work has a layer of this name already: refusal `exists`
 abbrev pub exists : State → List ℕ → Bool × Code
 exists s c = (is_some (layer s c), no.Exists)
 
+-- the work has 255 layers: refusal `layers`
 abbrev pub too_many : State → Bool × Code
 too_many s = (nat_le 255 (finmap.len s.work), no.Layers)
 
+-- the pixel does not lie in the square of the map: refusal `outside`
 abbrev pub outside : State → Pixel → Bool × Code
 outside s p = (not (is_pixel s.last.level p), no.Outside)
 
+-- the window has no pixel, or does not lie in the square of the map: refusal `outside`
 abbrev pub window_outside : State → Window → Bool × Code
 window_outside s w = (not (is_window s.last.level w), no.Outside)
 
+-- the work would have more records than the quota: refusal `full`
 abbrev pub full : State → Map → Bool × Code
 full s work = (nat_lt s.quota (records s.last.level work), no.Full)
 
 -- What layers are.
 
+-- the colours of a region layer; none of another
 abbrev pub grid_in : Option Layer → Grid
 grid_in (Some (Region g)) = g
 grid_in l = []
 
+-- the points of a point layer; none of another
 abbrev pub points_in : Option Layer → PointMap
 points_in (Some (Points b p)) = p
 points_in l = finmap.empty
 
+-- how many points a block of a point layer holds at most; 1 of another
 abbrev pub capacity_in : Option Layer → ℕ
 capacity_in (Some (Points b p)) = b
 capacity_in l = 1
 
+-- how many segments may meet a block of a line layer before it is cut; 0 of another
 abbrev pub threshold_in : Option Layer → ℕ
 threshold_in (Some (Lines t segs cover)) = t
 threshold_in l = 0
 
+-- the segments of a line layer; none of another
 abbrev pub segs_in : Option Layer → SegMap
 segs_in (Some (Lines t segs cover)) = segs
 segs_in l = finmap.empty
 
+-- the blocks of a line layer; none of another
 abbrev pub cover_in : Option Layer → BlockSet
 cover_in (Some (Lines t segs cover)) = cover
 cover_in l = finset.empty
 
+-- the colours of the region layer of this name
 abbrev pub grid : State → List ℕ → Grid
 grid s a = grid_in (layer s a)
 
+-- the work with this layer under the name
 abbrev pub with : State → List ℕ → Layer → Map
 with s a l = finmap.insert s.work a l
 
 -- Bodies.
 
+-- the side of each block of a layer, in pixels
 abbrev pub sides_of : ℕ → Layer → List ℕ
 sides_of n (Region g) = map (λ l. l.0.side) (leaves n g)
 sides_of n (Points capacity p) = map (λ b. b.side) (point_blocks n capacity p)
@@ -143,11 +166,13 @@ block_lines n sides =
     flat_map (λ k. let here = count_by (λ s. s == side k) sides in if here == 0 then [] else spaced (decimal (side k) ∷ decimal here ∷ []) ∷ [])
     (reverse (below (n + 1)))
 
+-- the words that tell a layer's kind: a capacity only where it is more than 1, and a threshold always
 abbrev pub kind_words : Layer → List (List ℕ)
 kind_words (Region g) = codes "region" ∷ []
 kind_words (Points capacity p) = codes "points" ∷ (if capacity == 1 then [] else decimal capacity ∷ [])
 kind_words (Lines t segs cover) = codes "lines" ∷ decimal t ∷ []
 
+-- the line of a layer: its name and the words of its kind
 abbrev pub layer_line : List ℕ × Layer → List ℕ
 layer_line e = spaced (e.0 ∷ kind_words e.1)
 
@@ -161,19 +186,24 @@ digits_of f c =
     if f == 1 then hex (c / 16) ∷ hex (c % 16) ∷ []
     else hex (c / 4096) ∷ hex (c / 256 % 16) ∷ hex (c / 16 % 16) ∷ hex (c % 16) ∷ []
 
+-- the line of row dy of a window, counted from its uppermost: the digits of each pixel's colour, from the left
 abbrev pub row_line : ℕ → ℕ → Grid → Window → ℕ → List ℕ
 row_line f n g w dy =
     flat_map (λ dx. digits_of f (colour_at n g (record { x = w.x + dx; y = w.y + dy }))) (below w.w)
 
+-- the line of a maximal block: x, y, side and colour
 abbrev pub leaf_line : Block × ℕ → List ℕ
 leaf_line l = spaced (decimal l.0.x ∷ decimal l.0.y ∷ decimal l.0.side ∷ decimal l.1 ∷ [])
 
+-- the line of a point: x, y and label
 abbrev pub point_line : Pixel × ℕ → List ℕ
 point_line e = spaced (decimal e.0.x ∷ decimal e.0.y ∷ decimal e.1 ∷ [])
 
+-- the line of a segment: its id, and x and y of both ends
 abbrev pub seg_line : ℕ × Seg → List ℕ
 seg_line e = spaced (decimal e.0 ∷ decimal e.1.x1 ∷ decimal e.1.y1 ∷ decimal e.1.x2 ∷ decimal e.1.y2 ∷ [])
 
+-- the numerator, `/` and the denominator, in decimal
 abbrev pub fraction : Fraction → List ℕ
 fraction t = decimal t.num ++ 47 ∷ decimal t.den
 
@@ -182,9 +212,11 @@ abbrev pub range_lines : ℕ → Option (Fraction × Fraction) → List (List �
 range_lines id None = []
 range_lines id (Some ends) = spaced (decimal id ∷ fraction ends.0 ∷ fraction ends.1 ∷ []) ∷ []
 
+-- the line of a segment's id with both ends of its part in the window, where it meets the window
 abbrev pub clip_lines : Window → ℕ × Seg → List (List ℕ)
 clip_lines w e = range_lines e.0 (clip_range e.1 w)
 
+-- the line of the nearest segment: its id and its squared distance
 abbrev pub nearest_lines : Option (ℕ × Fraction) → List (List ℕ)
 nearest_lines None = []
 nearest_lines (Some e) = spaced (decimal e.0 ∷ fraction e.1 ∷ []) ∷ []
@@ -199,6 +231,7 @@ abbrev pub collide : PointMap → List Point → Bool
 collide points [] = false
 collide points (p ∷ ps) = is_some (finmap.get points p.at) || collide (finmap.insert points p.at p.label) ps
 
+-- the points with these put, one after another
 abbrev pub with_points : PointMap → List Point → PointMap
 with_points points ps = fold (λ now p. finmap.insert now p.at p.label) points ps
 
@@ -206,6 +239,7 @@ with_points points ps = fold (λ now p. finmap.insert now p.at p.label) points p
 abbrev pub ranked_line : ℕ × Fraction → List ℕ
 ranked_line e = spaced (decimal e.0 ∷ fraction e.1 ∷ [])
 
+-- the line of a pair of segments: both ids
 abbrev pub pair_line : ℕ × ℕ → List ℕ
 pair_line e = spaced (decimal e.0 ∷ decimal e.1 ∷ [])
 
@@ -223,6 +257,7 @@ abbrev pub makes : State → List (Bool × Code) → List ℕ → Layer → Outc
 makes s refusals c l =
     let work = with s c l in unless (refusals ++ full s work ∷ []) s (changed work)
 
+-- the edition that `publish` gives: the work under the next number, in the same format and level
 abbrev pub edition_after : State → Edition
 edition_after s = record { format = s.last.format; number = s.last.number + 1; level = s.last.level; layers = s.work }
 
@@ -230,6 +265,7 @@ edition_after s = record { format = s.last.format; number = s.last.number + 1; l
 abbrev pub upgraded : State → Edition
 upgraded s = record { format = 2; number = s.last.number + 1; level = s.last.level; layers = s.work }
 
+-- the last edition has the greatest number, 2^32 - 1: refusal `editions`
 abbrev pub no_more_editions : State → Bool × Code
 no_more_editions s = (s.last.number == 4294967295, no.Editions)
 
@@ -241,6 +277,7 @@ publishes_it s edition = record {
   published = Some edition;
 }
 
+-- what each command comes to in a state: its reply, the work after it, and the edition that it gives
 unfoldable pub answer : State → Command → Outcome
 answer s (commands.Region a c) = makes s (exists s a ∷ too_many s ∷ []) a (Region (uniform s.last.level c.0))
 answer s (commands.Points p b) = makes s (exists s p ∷ too_many s ∷ unless_written s b ∷ []) p (Points b finmap.empty)

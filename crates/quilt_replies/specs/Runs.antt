@@ -10,6 +10,7 @@ use Rattle.quilt_words.specs.Items.{Group, held, items_of}
 use Rattle.quilt_words.specs.Forms.{form}
 use Rattle.quilt_replies.specs.Answers.{Reply, Done, Refused, Outcome, State, answer}
 
+-- the number and the word of a refusal, with a space between them
 abbrev pub code_text : Code → List ℕ
 code_text no.Word = codes "1 word"
 code_text no.Count = codes "2 count"
@@ -35,6 +36,7 @@ abbrev pub text_of : Reply → List ℕ
 text_of (Done body) = flat_map (λ l. l ++ 10 ∷ []) body ++ codes "ok" ++ 10 ∷ []
 text_of (Refused code) = codes "no " ++ code_text code ++ 10 ∷ []
 
+-- what an item comes to: that of its command, or the refusal of an item that spells none, which changes nothing
 abbrev pub outcome_of : State → Result Command Code → Outcome
 outcome_of s (Ok command) = answer s command
 outcome_of s (Err code) = record { reply = Refused code; work = s.work; published = None }
@@ -49,6 +51,7 @@ pub record Run : Type 0 where
   pub work : Map
   pub editions : List Edition
 
+-- the replies of a run, in order
 abbrev pub replies_of : Run → List Reply
 replies_of r = map (λ step. step.0) r.steps
 
@@ -77,6 +80,7 @@ run quota first text = run_of quota first first.layers (items_of first.level tex
 abbrev pub output : List Reply → List ℕ
 output replies = flat_map text_of replies
 
+-- the reply is no refusal
 abbrev pub is_done : Reply → Bool
 is_done (Done body) = true
 is_done (Refused code) = false
@@ -93,6 +97,7 @@ told_within [] put n = n
 told_within (r ∷ rs) put n =
     if prefix_of (text_of r.0) put then told_within rs (drop (length (text_of r.0)) put) (if r.1 then n + 1 else n) else n
 
+-- how many editions of a run were answered, where these bytes were put
 unfoldable pub editions_told : Run → List ℕ → ℕ
 editions_told r put = told_within r.steps put 0
 
@@ -102,6 +107,7 @@ pub record Published : Type 0 where
   pub before : ℕ
   pub changed : ℕ
 
+-- the item spells `revert`
 abbrev pub is_revert : Result Command Code → Bool
 is_revert (Ok commands.Revert) = true
 is_revert r = false

@@ -26,6 +26,7 @@ after_outcome s out = record { quota = s.quota; last = unwrap_or out.published s
 abbrev pub after : State → Command → State
 after s command = after_outcome s (answer s command)
 
+-- the reply is a refusal
 abbrev pub IsRefusal : replies.Reply → Type 0
 IsRefusal (reply.Ok text) = ⊥
 IsRefusal (reply.No code) = Unit {0}

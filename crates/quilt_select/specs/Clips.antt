@@ -10,6 +10,7 @@ abbrev pub with_range : ℕ → Option (Fraction × Fraction) → List (ℕ × F
 with_range id None = []
 with_range id (Some ends) = (id, ends.0, ends.1) ∷ []
 
+-- the id of a segment with both ends of its part in the window, if it meets the window
 abbrev pub clip_of : Window → ℕ × Seg → List (ℕ × Fraction × Fraction)
 clip_of w e = with_range e.0 (clip_range e.1 w)
 

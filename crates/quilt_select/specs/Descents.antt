@@ -17,6 +17,7 @@ use Rattle.quilt_select.specs.Shares.{shares, meets_any}
 abbrev pub Waiting : Type 0
 Waiting = Block × List Window
 
+-- a quarter, with those of the windows that share a pixel with it
 abbrev pub quarter_with : List Window → Block → Waiting
 quarter_with near q = (q, filter (shares q) near)
 

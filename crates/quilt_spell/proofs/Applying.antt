@@ -1,5 +1,6 @@
 -- What a list in order is after records were taken out and put in one after another.
-use Rattle.std.proofs.Common.{◌≡◌, ℕ, suc, ◌↔◌, Bool, true, false, not, cond, ◌⊎◌, List, [], ◌∷◌, length, refl, sym, ◌∙◌, ap, subst, inl, inr, ⊎_elim, Contains, Ordering, Less, Equal, Greater}
+use Rattle.std.proofs.Common.{◌≡◌, ℕ, suc, ◌↔◌, Bool, true, false, not, cond, ◌⊎◌, List, [], ◌∷◌, length, refl, sym, ◌∙◌, ap, subst, inl, inr, ⊎_elim, Contains}
+use Rattle.std.proofs.Common.{Ordering, Less, Equal, Greater}
 use Rattle.std.specs.Ordering.{is_lt, is_eq, ordering_reverse}
 use Rattle.std.specs.Cmp.{tied_itself}
 use Rattle.quilt_record.specs.declared.key.Key.{Key}
@@ -54,7 +55,8 @@ module _ (rs : List Record) (up : Rises by_key rs) where
     λ c.
         let w = Contains-filter_from (λ t. not (has_key r.key t)) rs s c in
         (w.0, λ e. not_true (has_key r.key s) w.1 (ap is_eq (ap (λ (q : Record). key_cmp q.key r.key) e ∙ tied_itself key_total r.key))),
-    λ w. Contains-filter (λ t. not (has_key r.key t)) rs s w.0 (not_from (has_key r.key s) (λ t. w.1 (rising_alone rs up s r w.0 there (key_same s.key r.key (tied (key_cmp s.key r.key) t))))),
+    λ w. Contains-filter (λ t. not (has_key r.key t)) rs s w.0
+        (not_from (has_key r.key s) (λ t. w.1 (rising_alone rs up s r w.0 there (key_same s.key r.key (tied (key_cmp s.key r.key) t))))),
   )
 
 -- a record at its place
@@ -65,7 +67,8 @@ put_members r [] s = (
 )
 put_members r (t ∷ ts) s = by_case (is_lt (key_cmp r.key t.key)) (put_members r ts s)
   where
-    by_case : (b : Bool) → (Contains (put r ts) s ↔ ((s ≡ r) ⊎ Contains ts s)) → Contains (cond b (r ∷ t ∷ ts) (t ∷ put r ts)) s ↔ ((s ≡ r) ⊎ Contains (t ∷ ts) s)
+    by_case : (b : Bool) → (Contains (put r ts) s ↔ ((s ≡ r) ⊎ Contains ts s)) → Contains (cond b (r ∷ t ∷ ts) (t ∷ put r ts)) s
+        ↔ ((s ≡ r) ⊎ Contains (t ∷ ts) s)
     by_case true ih = (
       λ c. ⊎_elim (λ e. inl (sym e)) (λ d. inr d) (Contains-cons_cases r (t ∷ ts) s c),
       λ w. ⊎_elim (λ e. subst (Contains (r ∷ t ∷ ts)) (sym e) (Contains-here r (t ∷ ts))) (λ d. Contains-there r (t ∷ ts) s d) w,
@@ -74,7 +77,8 @@ put_members r (t ∷ ts) s = by_case (is_lt (key_cmp r.key t.key)) (put_members 
       λ c. ⊎_elim (λ e. inr (subst (Contains (t ∷ ts)) e (Contains-here t ts)))
           (λ d. ⊎_elim (λ e. inl e) (λ m. inr (Contains-there t ts s m)) (ih.0 d)) (Contains-cons_cases t (put r ts) s c),
       λ w. ⊎_elim (λ e. Contains-there t (put r ts) s (ih.1 (inl e)))
-          (λ d. ⊎_elim (λ e. subst (Contains (t ∷ put r ts)) e (Contains-here t (put r ts))) (λ m. Contains-there t (put r ts) s (ih.1 (inr m))) (Contains-cons_cases t ts s d)) w,
+          (λ d. ⊎_elim (λ e. subst (Contains (t ∷ put r ts)) e (Contains-here t (put r ts))) (λ m. Contains-there t (put r ts) s (ih.1 (inr m)))
+          (Contains-cons_cases t ts s d)) w,
     )
 
 -- of two keys that differ one is first
@@ -122,7 +126,8 @@ pub taken_rises : (rs removed : List Record) → Rises by_key rs → Rises by_ke
 taken_rises rs [] up = up
 taken_rises rs (r ∷ removed) up = taken_rises (without r.key rs) removed (without_rises rs up r.key)
 
-pub taken_members : (rs removed : List Record) → Rises by_key rs → Apart removed → ((r : Record) → Contains removed r → Contains rs r) → (s : Record) → Contains (taken rs removed) s ↔ (Contains rs s × (Contains removed s → ⊥))
+pub taken_members : (rs removed : List Record) → Rises by_key rs → Apart removed → ((r : Record) → Contains removed r → Contains rs r) → (s : Record)
+    → Contains (taken rs removed) s ↔ (Contains rs s × (Contains removed s → ⊥))
 taken_members rs [] up once there s = (λ c. (c, λ d. Contains-nil s d), λ w. w.0)
 taken_members rs (r ∷ removed) up once there s =
     let one = without_members rs up r (there r (Contains-here r removed)) in
@@ -140,7 +145,8 @@ given_members rs [] s = (λ c. inl c, λ w. ⊎_elim (λ c. c) (λ d. absurd (Co
 given_members rs (r ∷ added) s =
     let one = put_members r rs s in
     let rest = given_members (put r rs) added s in (
-      λ c. ⊎_elim (λ p. ⊎_elim (λ e. inr (subst (Contains (r ∷ added)) (sym e) (Contains-here r added))) (λ d. inl d) (one.0 p)) (λ m. inr (Contains-there r added s m)) (rest.0 c),
+      λ c. ⊎_elim (λ p. ⊎_elim (λ e. inr (subst (Contains (r ∷ added)) (sym e) (Contains-here r added))) (λ d. inl d) (one.0 p))
+          (λ m. inr (Contains-there r added s m)) (rest.0 c),
       λ w. ⊎_elim (λ d. rest.1 (inl (one.1 (inr d))))
           (λ m. ⊎_elim (λ e. rest.1 (inl (one.1 (inl (sym e))))) (λ k. rest.1 (inr k)) (Contains-cons_cases r added s m)) w,
     )
@@ -150,11 +156,13 @@ abbrev pub KeysApart : List Record → Type 0
 KeysApart [] = Unit {0}
 KeysApart (r ∷ rs) = ((s : Record) → Contains rs s → r.key ≡ s.key → ⊥) × KeysApart rs
 
-pub given_rises : (rs added : List Record) → Rises by_key rs → KeysApart added → ((r s : Record) → Contains added r → Contains rs s → r.key ≡ s.key → ⊥) → Rises by_key (given rs added)
+pub given_rises : (rs added : List Record) → Rises by_key rs → KeysApart added
+    → ((r s : Record) → Contains added r → Contains rs s → r.key ≡ s.key → ⊥) → Rises by_key (given rs added)
 given_rises rs [] up once fresh = up
 given_rises rs (r ∷ added) up once fresh =
     given_rises (put r rs) added (put_rises r rs up (λ s c. fresh r s (Contains-here r added) c)) once.1
-    (λ a s c d e. ⊎_elim (λ is. once.0 a c (ap (λ (q : Record). q.key) (sym is) ∙ sym e)) (λ m. fresh a s (Contains-there r added a c) m e) ((put_members r rs s).0 d))
+    (λ a s c d e. ⊎_elim (λ is. once.0 a c (ap (λ (q : Record). q.key) (sym is) ∙ sym e)) (λ m. fresh a s (Contains-there r added a c) m e)
+    ((put_members r rs s).0 d))
 
 -- records that rise have keys of which none stands twice
 pub rising_keys : (rs : List Record) → Rises by_key rs → KeysApart rs
@@ -171,7 +179,8 @@ module _ (rs removed added : List Record) (up : Rises by_key rs) (once : Apart r
         λ w. ⊎_elim (λ d. g.1 (inl (t.1 d))) (λ m. g.1 (inr m)) w,
       )
 
-  pub edits_rise : KeysApart added → ((r s : Record) → Contains added r → Contains rs s → (Contains removed s → ⊥) → r.key ≡ s.key → ⊥) → Rises by_key (given (taken rs removed) added)
+  pub edits_rise : KeysApart added → ((r s : Record) → Contains added r → Contains rs s → (Contains removed s → ⊥) → r.key ≡ s.key → ⊥)
+      → Rises by_key (given (taken rs removed) added)
   edits_rise keys fresh =
       given_rises (taken rs removed) added (taken_rises rs removed up) keys
       (λ r s c d e. let w = (taken_members rs removed up once there s).0 d in fresh r s c w.0 w.1 e)

@@ -1,5 +1,6 @@
 -- How many facts two maps have apart, and how that is the difference of their records.
-use Rattle.std.proofs.Common.{◌≡◌, ℕ, ◌+◌, Bool, true, false, not, List, map, length, Option, Some, None, refl, sym, ◌∙◌, ap, subst, ⊎_elim, arith, Contains, filter, sum_by, nat_cmp}
+use Rattle.std.proofs.Common.{◌≡◌, ℕ, ◌+◌, Bool, true, false, not, List, map, length, Option, Some, None, refl, sym, ◌∙◌, ap, subst, ⊎_elim, arith, Contains}
+use Rattle.std.proofs.Common.{filter, sum_by, nat_cmp}
 use Rattle.std.specs.Cmp.{on_total}
 use Rattle.std.specs.Cmp.Lexicographic.{slice_cmp, nat_list_cmp_total}
 use Rattle.std.specs.FinMap as finmap
@@ -11,7 +12,8 @@ use Rattle.quilt_types.specs.Layers.{Layer, Map}
 use Rattle.quilt_types.specs.Facts.{Fact, facts, records, all_facts, is_fact_of, changes}
 use Rattle.quilt_spell.specs.Apart.{Apart}
 use Rattle.quilt_spell.specs.Changing.{with_layer, facts_in, is_among, facts_alone, lost}
-use Rattle.quilt_loc.proofs.Members.{Contains-nil, Contains-map, Contains-map_from, Contains-flat_map, Contains-flat_map_from, Contains-filter, Contains-filter_from}
+use Rattle.quilt_loc.proofs.Members.{Contains-nil, Contains-map, Contains-map_from, Contains-flat_map, Contains-flat_map_from, Contains-filter}
+use Rattle.quilt_loc.proofs.Members.{Contains-filter_from}
 use Rattle.quilt_spell.proofs.Lists.{Apart-filter, Apart-map, Apart-flat_map, Apart-rises, same_length}
 use Rattle.quilt_spell.proofs.Maps.{by_first, Rises-entries, entry_from_get, get_from_entry, get_inserted, get_others, get_removed, get_kept, same_or_not}
 use Rattle.quilt_spell.proofs.FactKeys.{facts_apart}
@@ -70,7 +72,8 @@ module _ (n : ℕ) (layers : Map) where
   unfolding facts_of paired
   all_facts_apart =
       Apart-flat_map (facts_of n) (finmap.entries layers)
-      (Apart-rises (by_first (slice_cmp nat_cmp)) (on_total (λ (e : List ℕ × Layer). e.0) nat_list_cmp_total) (finmap.entries layers) (Rises-entries (slice_cmp nat_cmp) layers))
+      (Apart-rises (by_first (slice_cmp nat_cmp)) (on_total (λ (e : List ℕ × Layer). e.0) nat_list_cmp_total) (finmap.entries layers)
+      (Rises-entries (slice_cmp nat_cmp) layers))
       (λ e c. Apart-map (paired e.0) (facts n e.1) (λ f g _ _ w. ap (λ (z : List ℕ × Fact). z.1) w) (facts_apart n e.1))
       (λ d e f c k x y.
       let u = Contains-map_from (paired d.0) (facts n d.1) f x in
@@ -85,7 +88,8 @@ module _ (n : ℕ) (layers : Map) where
   pub all_facts_length : length (all_facts n layers) ≡ records n layers
   unfolding facts_of paired
   all_facts_length =
-      length-flat_map (facts_of n) (finmap.entries layers) ∙ (λ i. sum_by (λ (e : List ℕ × Layer). length-map (facts n e.1) (paired e.0) i) (finmap.entries layers))
+      length-flat_map (facts_of n) (finmap.entries layers)
+      ∙ (λ i. sum_by (λ (e : List ℕ × Layer). length-map (facts n e.1) (paired e.0) i) (finmap.entries layers))
 
 -- ---- two maps
 module _ (n : ℕ) (a b : Map) where
@@ -122,7 +126,8 @@ module _ (n : ℕ) (a b : Map) where
 
   -- where two maps agree but at one name
   module _ (name : List ℕ) (agree : (c : List ℕ) → (c ≡ name → ⊥) → finmap.get a c ≡ finmap.get b c) where
-    gone_from : (f : List ℕ × Fact) → Contains (filter (λ f. not (in_it b f)) (all_facts n a)) f → Contains (map (paired name) (facts_alone n (finmap.get a name) (finmap.get b name))) f
+    gone_from : (f : List ℕ × Fact) → Contains (filter (λ f. not (in_it b f)) (all_facts n a)) f
+        → Contains (map (paired name) (facts_alone n (finmap.get a name) (finmap.get b name))) f
     unfolding in_it paired
     gone_from f c =
         let w = Contains-filter_from (λ f. not (in_it b f)) (all_facts n a) f c in
@@ -132,14 +137,16 @@ module _ (n : ℕ) (a b : Map) where
         (λ e.
         let here' = subst (λ (c : List ℕ). Contains (facts_in n (finmap.get a c)) f.1) e here in
         let k = Contains-filter (λ g. not (is_among (facts_in n (finmap.get b name)) g)) (facts_in n (finmap.get a name)) f.1 here'
-        (not_from (is_among (facts_in n (finmap.get b name)) f.1) (λ t. away (subst (λ (c : List ℕ). Contains (facts_in n (finmap.get b c)) f.1) (sym e) (among_from (facts_in n (finmap.get b name)) f.1 t)))) in
+        (not_from (is_among (facts_in n (finmap.get b name)) f.1)
+        (λ t. away (subst (λ (c : List ℕ). Contains (facts_in n (finmap.get b c)) f.1) (sym e) (among_from (facts_in n (finmap.get b name)) f.1 t)))) in
         let pair : (name, f.1) ≡ f = λ i. (sym e i, f.1) in
         subst (Contains (map (paired name) (facts_alone n (finmap.get a name) (finmap.get b name)))) pair
         (Contains-map (paired name) (facts_alone n (finmap.get a name) (finmap.get b name)) f.1 k))
         (λ d. absurd (away (subst (λ (o : Option Layer). Contains (facts_in n o) f.1) (agree f.0 d) here)))
         (same_or_not (slice_cmp nat_cmp) nat_list_cmp_total name_same f.0 name)
 
-    gone_is : (f : List ℕ × Fact) → Contains (map (paired name) (facts_alone n (finmap.get a name) (finmap.get b name))) f → Contains (filter (λ f. not (in_it b f)) (all_facts n a)) f
+    gone_is : (f : List ℕ × Fact) → Contains (map (paired name) (facts_alone n (finmap.get a name) (finmap.get b name))) f
+        → Contains (filter (λ f. not (in_it b f)) (all_facts n a)) f
     unfolding in_it paired
     gone_is f c =
         let m = Contains-map_from (paired name) (facts_alone n (finmap.get a name) (finmap.get b name)) f c in
@@ -162,6 +169,7 @@ module _ (n : ℕ) (a b : Map) where
         sym (length-filter (λ f. not (in_it b f)) (all_facts n a))
         ∙ same_length there (map (paired name) fs)
         (Apart-filter (λ f. not (in_it b f)) (all_facts n a) (all_facts_apart n a))
-        (Apart-map (paired name) fs (λ f g _ _ w. ap (λ (z : List ℕ × Fact). z.1) w) (Apart-filter (λ g. not (is_among (facts_in n (finmap.get b name)) g)) (facts_in n (finmap.get a name)) (in_apart (finmap.get a name))))
+        (Apart-map (paired name) fs (λ f g _ _ w. ap (λ (z : List ℕ × Fact). z.1) w)
+        (Apart-filter (λ g. not (is_among (facts_in n (finmap.get b name)) g)) (facts_in n (finmap.get a name)) (in_apart (finmap.get a name))))
         (λ f. (gone_from f, gone_is f))
         ∙ length-map fs (paired name)

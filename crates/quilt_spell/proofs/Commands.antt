@@ -1,5 +1,6 @@
 -- A command from its plan to the new list; how plans are made; what an upgrade and an empty map spell.
-use Rattle.std.proofs.Common.{◌≡◌, ℕ, ◌<◌, ◌≤◌, ◌↔◌, Bool, true, not, List, [], ◌∷◌, map, Option, Some, None, refl, sym, ◌∙◌, ap, subst, arith, Contains, filter}
+use Rattle.std.proofs.Common.{◌≡◌, ℕ, ◌<◌, ◌≤◌, ◌↔◌, Bool, true, not, List, [], ◌∷◌, map, Option, Some, None, refl, sym, ◌∙◌, ap, subst, arith, Contains}
+use Rattle.std.proofs.Common.{filter}
 use Rattle.std.specs.FinMap as finmap
 use Rattle.std.proofs.lemmas.List.Elements.{All-weaker}
 use Rattle.quilt_types.specs.declared.plane.Block.{Block}
@@ -34,7 +35,8 @@ keys_apart (r ∷ rs) h one = (
 )
 
 -- ---- from a plan to the new list
-module _ (form n : ℕ) (numbers : Numbering) (rs : List Record) (layers : Map) (le : n ≤ 12) (s : SpellsUnder form n numbers rs layers) (name : List ℕ) (number : ℕ)
+module _ (form n : ℕ) (numbers : Numbering) (rs : List Record) (layers : Map) (le : n ≤ 12) (s : SpellsUnder form n numbers rs layers)
+    (name : List ℕ) (number : ℕ)
     (new : Option Layer) (removed added : List Record) (step : IsStep form n layers numbers name number new removed added) where
   added_alone : (r t : Record) → Contains added r → Contains added t → r.key ≡ t.key → r ≡ t
   added_alone r t c d e =
@@ -47,7 +49,8 @@ module _ (form n : ℕ) (numbers : Numbering) (rs : List Record) (layers : Map) 
       let in_b = facts_some n new a.value b.fact a.is (alone_from n new old b.fact b.of).0 in
       let written = ap (λ (l : Layer). record_of n (capacity_of l) name number b.fact) (sym same) ∙ b.written in
       let keys = ap (λ (q : Record). q.key) a.written ∙ e ∙ ap (λ (q : Record). q.key) (sym written) in
-      let one = fact_alone n le name number (step_least form n numbers rs layers le s name number new removed added step) form a.value fits a.fact b.fact in_a in_b keys in
+      let one = fact_alone n le name number (step_least form n numbers rs layers le s name number new removed added step)
+      form a.value fits a.fact b.fact in_a in_b keys in
       sym a.written ∙ ap (record_of n (capacity_of a.value) name number) one ∙ written
     where
       some_same : (x y : Layer) → Some x ≡ Some y → x ≡ y
@@ -58,11 +61,13 @@ module _ (form n : ℕ) (numbers : Numbering) (rs : List Record) (layers : Map) 
   step_keys = keys_apart added step.leads.add_once added_alone
 
   -- to take the one out, each in turn, and to put the others in
-  pub step_applies : (finmap.get layers name ≡ None → new ≡ None → ⊥) → SpellsUnder form n (with_number numbers name number new) (given (taken rs removed) added) (with_layer layers name new)
+  pub step_applies : (finmap.get layers name ≡ None → new ≡ None → ⊥)
+      → SpellsUnder form n (with_number numbers name number new) (given (taken rs removed) added) (with_layer layers name new)
   step_applies some =
       let there = step_there form n numbers rs layers le s name number new removed added step in
       step_spells form n numbers rs layers le s name number new removed added (given (taken rs removed) added) some step
-      (edits_rise rs removed added s.ascending step.leads.remove_once there step_keys (step_apart form n numbers rs layers le s name number new removed added step))
+      (edits_rise rs removed added s.ascending step.leads.remove_once there step_keys
+      (step_apart form n numbers rs layers le s name number new removed added step))
       (edits_edited rs removed added s.ascending step.leads.remove_once there)
 
 -- ---- plans
@@ -93,7 +98,8 @@ module _ (n : ℕ) (name : List ℕ) (number : ℕ) (l : Layer) where
   }
 
   -- and goes with them
-  pub drop_leads : (removed : List Record) → SameMembers removed (layer_records n name number l) → Apart removed → LeadsTo n name number (Some l) None removed []
+  pub drop_leads : (removed : List Record) → SameMembers removed (layer_records n name number l) → Apart removed
+      → LeadsTo n name number (Some l) None removed []
   drop_leads removed are once = record {
     remove = λ r. (λ c. (all_alone r).0 ((are r).0 c), λ c. (are r).1 ((all_alone r).1 c));
     remove_once = once;
@@ -113,7 +119,8 @@ module _ (form n : ℕ) (name : List ℕ) (number : ℕ) (le : n ≤ 12) where
       let fact : Block × ℕ → Fact = λ e. HasColour e.0 e.1 in
       Contains-there (IsOfKind 1 0) (map fact (leaves n g)) (fact e) (Contains-map fact (leaves n g) e c)
 
-  leaf_alone : (g : Grid) → IsGrid form n g → (d e : Block × ℕ) → Contains (leaves n g) d → Contains (leaves n g) e → leaf_record n number d ≡ leaf_record n number e → d ≡ e
+  leaf_alone : (g : Grid) → IsGrid form n g → (d e : Block × ℕ) → Contains (leaves n g) d → Contains (leaves n g) e
+      → leaf_record n number d ≡ leaf_record n number e → d ≡ e
   leaf_alone g h d e c k same =
       let hd = (layer_says form n (Region g) h (HasColour d.0 d.1) (leaf_block g h d c)).0 in
       let he = (layer_says form n (Region g) h (HasColour e.0 e.1) (leaf_block g h e k)).0 in
@@ -122,7 +129,8 @@ module _ (form n : ℕ) (name : List ℕ) (number : ℕ) (le : n ≤ 12) where
       let y : d.1 ≡ e.1 = cc in
       λ i. (x i, y i)
 
-  half_leads : (g other : Grid) (es : List (Block × ℕ)) → IsAlone n g other es → SameMembers (map (leaf_record n number) es) (records_alone n name number (Some (Region g)) (Some (Region other)))
+  half_leads : (g other : Grid) (es : List (Block × ℕ)) → IsAlone n g other es
+      → SameMembers (map (leaf_record n number) es) (records_alone n name number (Some (Region g)) (Some (Region other)))
   half_leads g other es h r = (
     λ c.
         let m = Contains-map_from (leaf_record n number) es r c in
@@ -151,7 +159,13 @@ layer_up n (Lines threshold segs cover) h = h
 
 pub upgrade_spells : (n : ℕ) (numbers : Numbering) (rs : List Record) (layers : Map) → SpellsUnder 1 n numbers rs layers → SpellsUnder 2 n numbers rs layers
 upgrade_spells n numbers rs layers s = record {
-  map = record { few = s.map.few; named = s.map.named; each = All-weaker (λ (e : List ℕ × Layer). IsLayer 1 n e.1) (λ (e : List ℕ × Layer). IsLayer 2 n e.1) (λ e h. layer_up n e.1 h) (finmap.entries layers) s.map.each };
+  map =
+      record {
+        few = s.map.few;
+        named = s.map.named;
+        each = All-weaker (λ (e : List ℕ × Layer). IsLayer 1 n e.1) (λ (e : List ℕ × Layer). IsLayer 2 n e.1) (λ e h. layer_up n e.1 h)
+            (finmap.entries layers) s.map.each;
+      };
   numbering = s.numbering;
   ascending = s.ascending;
   written = s.written;

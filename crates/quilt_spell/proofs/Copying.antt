@@ -1,5 +1,6 @@
 -- A copy of a layer: its kind under the new name, and its other records under the new number.
-use Rattle.std.proofs.Common.{◌≡◌, ℕ, ◌≤◌, ◌↔◌, true, false, List, [], ◌∷◌, map, Some, None, refl, sym, ◌∙◌, ap, subst, ⊎_elim, arith, Contains, eqb, eqb-true, eq-eqb}
+use Rattle.std.proofs.Common.{◌≡◌, ℕ, ◌≤◌, ◌↔◌, true, false, List, [], ◌∷◌, map, Some, None, refl, sym, ◌∙◌, ap, subst, ⊎_elim, arith, Contains, eqb, eqb-true}
+use Rattle.std.proofs.Common.{eq-eqb}
 use Rattle.std.proofs.lemmas.Bool.{cases_Bool}
 use Rattle.quilt_types.specs.Layers.{Layer, IsLayer}
 use Rattle.quilt_types.specs.Facts.{Fact, IsOfKind, HasColour, HoldsPoint, HoldsNoPoint, IsSegment, IsMetBy, IsMetByNone}
@@ -18,7 +19,8 @@ use Rattle.quilt_spell.proofs.OneMap.{kind_layer}
 use Rattle.quilt_spell.proofs.Commands.{fresh_leads}
 
 -- what tells of no kind stands under the layer's number, and nothing else of it tells name or number
-pub moved_is : (n c j k : ℕ) (a b : List ℕ) (f : Fact) → ((record_of n c a k f).key.layer ≡ 0 → ⊥) → (record_of n c b j f ≡ moved j (record_of n c a k f)) × ((record_of n c a k f).key.layer ≡ k)
+pub moved_is : (n c j k : ℕ) (a b : List ℕ) (f : Fact) → ((record_of n c a k f).key.layer ≡ 0 → ⊥)
+    → (record_of n c b j f ≡ moved j (record_of n c a k f)) × ((record_of n c a k f).key.layer ≡ k)
 moved_is n c j k a b (IsOfKind x y) h = absurd (h refl)
 moved_is n c j k a b (HasColour x y) h = (refl, refl)
 moved_is n c j k a b (HoldsPoint x y z) h = (refl, refl)
@@ -66,11 +68,13 @@ module _ (form n : ℕ) (l : Layer) (fits : IsLayer form n l) (a b : List ℕ) (
       ⊎_elim
       (λ t.
       let kind = kind_only form n l (capacity_of l) k a f.0 fits least f.1 (eqb-true old.key.layer 0 t) in
-      subst (Contains (kind_record n b j l ∷ map (moved j) rest)) (ap (record_of n (capacity_of l) b j) (sym kind) ∙ f.2) (Contains-here (kind_record n b j l) (map (moved j) rest)))
+      subst (Contains (kind_record n b j l ∷ map (moved j) rest)) (ap (record_of n (capacity_of l) b j) (sym kind) ∙ f.2)
+      (Contains-here (kind_record n b j l) (map (moved j) rest)))
       (λ no.
       let is = moved_is n (capacity_of l) j k a b f.0 (λ z. let t = eq-eqb old.key.layer 0 z in let w : true ≡ false = sym t ∙ no in cc) in
       let there = (are old).1 (layer_record n a k l f.0 f.1, is.1) in
-      subst (Contains (kind_record n b j l ∷ map (moved j) rest)) (sym is.0 ∙ f.2) (Contains-there (kind_record n b j l) (map (moved j) rest) (moved j old) (Contains-map (moved j) rest old there)))
+      subst (Contains (kind_record n b j l ∷ map (moved j) rest)) (sym is.0 ∙ f.2)
+      (Contains-there (kind_record n b j l) (map (moved j) rest) (moved j old) (Contains-map (moved j) rest old there)))
       (cases_Bool (eqb old.key.layer 0))
 
   -- the plan of a copy

@@ -57,14 +57,16 @@ seg_y2 s = refl
 colour_is : (p q : ℕ) → p % 256 ≡ q % 256 → p / 256 ≡ q / 256 → p ≡ q
 colour_is p q e f = omega arith
 
-point_is : (p q : Pixel) (l m : ℕ) → p.x < 2 ^ 16 → p.y < 2 ^ 16 → l < 2 ^ 32 → q.x < 2 ^ 16 → q.y < 2 ^ 16 → m < 2 ^ 32 → point_value p l ≡ point_value q m → (p ≡ q) × (l ≡ m)
+point_is : (p q : Pixel) (l m : ℕ) → p.x < 2 ^ 16 → p.y < 2 ^ 16 → l < 2 ^ 32 → q.x < 2 ^ 16 → q.y < 2 ^ 16 → m < 2 ^ 32
+    → point_value p l ≡ point_value q m → (p ≡ q) × (l ≡ m)
 point_is p q l m px py pl qx qy ql e =
     let x = two_bytes p.x q.x px qx (sym (point_x p l) ∙ ap (λ (v : List ℕ). take 2 (drop 1 v)) e ∙ point_x q m) in
     let y = two_bytes p.y q.y py qy (sym (point_y p l) ∙ ap (λ (v : List ℕ). take 2 (drop 3 v)) e ∙ point_y q m) in
     let z = four_bytes l m pl ql (sym (point_label p l) ∙ ap (λ (v : List ℕ). take 4 (drop 5 v)) e ∙ point_label q m) in
     ((λ i. record { x = x i; y = y i }), z)
 
-seg_is : (s t : Seg) → s.x1 < 2 ^ 16 → s.y1 < 2 ^ 16 → s.x2 < 2 ^ 16 → s.y2 < 2 ^ 16 → t.x1 < 2 ^ 16 → t.y1 < 2 ^ 16 → t.x2 < 2 ^ 16 → t.y2 < 2 ^ 16 → seg_value s ≡ seg_value t → s ≡ t
+seg_is : (s t : Seg) → s.x1 < 2 ^ 16 → s.y1 < 2 ^ 16 → s.x2 < 2 ^ 16 → s.y2 < 2 ^ 16 → t.x1 < 2 ^ 16 → t.y1 < 2 ^ 16 → t.x2 < 2 ^ 16 → t.y2 < 2 ^ 16
+    → seg_value s ≡ seg_value t → s ≡ t
 seg_is s t a b c d a' b' c' d' e =
     let x1 = two_bytes s.x1 t.x1 a a' (sym (seg_x1 s) ∙ ap (λ (v : List ℕ). take 2 v) e ∙ seg_x1 t) in
     let y1 = two_bytes s.y1 t.y1 b b' (sym (seg_y1 s) ∙ ap (λ (v : List ℕ). take 2 (drop 2 v)) e ∙ seg_y1 t) in
@@ -85,12 +87,14 @@ module _ (n : ℕ) (le : n ≤ 12) where
   small_pixel : (p : Pixel) → is_pixel n p ≡ true → (p.x < 2 ^ 16) × (p.y < 2 ^ 16)
   small_pixel p h = let both = and_parts (nat_lt p.x (side n)) (nat_lt p.y (side n)) h in (small p.x both.0, small p.y both.1)
 
-  same_place : (r s : Record) (b d : Block) → r ≡ s → r.key.code ≡ code b.x b.y → s.key.code ≡ code d.x d.y → r.key.depth ≡ depth n b → s.key.depth ≡ depth n d → IsBlock n b → IsBlock n d → b ≡ d
+  same_place : (r s : Record) (b d : Block) → r ≡ s → r.key.code ≡ code b.x b.y → s.key.code ≡ code d.x d.y → r.key.depth ≡ depth n b
+      → s.key.depth ≡ depth n d → IsBlock n b → IsBlock n d → b ≡ d
   same_place r s b d e cb cd db dd hb hd =
       block_alone n le b d hb hd (sym cb ∙ ap (λ (q : Record). q.key.code) e ∙ cd) (sym db ∙ ap (λ (q : Record). q.key.depth) e ∙ dd)
 
   -- two facts with one record are one, but for those that tell of kinds
-  pub fact_of : (c d k : ℕ) (a b : List ℕ) (f g : Fact) → FactFits n f → FactFits n g → 1 ≤ (record_of n c a k f).key.part → record_of n c a k f ≡ record_of n d b k g → f ≡ g
+  pub fact_of : (c d k : ℕ) (a b : List ℕ) (f g : Fact) → FactFits n f → FactFits n g → 1 ≤ (record_of n c a k f).key.part
+      → record_of n c a k f ≡ record_of n d b k g → f ≡ g
   unfolding first_byte second_byte
   fact_of c d k a b (IsOfKind i j) g u v h e = absurd (omega arith)
   fact_of c d k a b (HasColour x p) (HasColour y q) u v h e =
@@ -125,14 +129,19 @@ module _ (n : ℕ) (le : n ≤ 12) where
       fit l h (IsOfKind i j) c w = tt
       fit (Region grid) h (HasColour b d) c w = w.0
       fit (Region grid) h f c w = absurd w
-      fit (Points capacity points) h (HoldsPoint b p label) c w =
-          (w.0, All-contains (λ (e : Pixel × ℕ). is_pixel n e.0 ≡ true) (finmap.entries points) (p, label) h.inside w.2, All-contains (λ (e : Pixel × ℕ). e.1 < 2 ^ 32) (finmap.entries points) (p, label) h.labels w.2)
+      fit (Points capacity points) h (HoldsPoint b p label) c w = (
+        w.0,
+        All-contains (λ (e : Pixel × ℕ). is_pixel n e.0 ≡ true) (finmap.entries points) (p, label) h.inside w.2,
+        All-contains
+            (λ (e : Pixel × ℕ). e.1 < 2 ^ 32) (finmap.entries points) (p, label) h.labels w.2,
+      )
       fit (Points capacity points) h (HoldsNoPoint b) c w = w.0
       fit (Points capacity points) h f c w = absurd w
       fit (Lines threshold segs cover) h (IsSegment id s) c w =
           let first : Pixel = record { x = s.x1; y = s.y1 } in
           let last : Pixel = record { x = s.x2; y = s.y2 } in
-          let both = and_parts (is_pixel n first) (is_pixel n last) (All-contains (λ (e : ℕ × Seg). is_in_square n e.1 ≡ true) (finmap.entries segs) (id, s) h.inside w) in
+          let both = and_parts (is_pixel n first) (is_pixel n last)
+          (All-contains (λ (e : ℕ × Seg). is_in_square n e.1 ≡ true) (finmap.entries segs) (id, s) h.inside w) in
           let a = and_parts (nat_lt s.x1 (side n)) (nat_lt s.y1 (side n)) both.0 in
           let b = and_parts (nat_lt s.x2 (side n)) (nat_lt s.y2 (side n)) both.1 in
           (All-contains (λ (e : ℕ × Seg). e.0 < 2 ^ 32) (finmap.entries segs) (id, s) h.ids w, small s.x1 a.0, small s.y1 a.1, small s.x2 b.0, small s.y2 b.1)

@@ -1,5 +1,6 @@
 -- A list that spells a map, after the records of one layer were edited, spells the map with the other layer.
-use Rattle.std.proofs.Common.{◌≡◌, ℕ, ◌+◌, ◌≤◌, ◌↔◌, Bool, true, false, not, ◌⊎◌, List, length, Option, Some, None, refl, sym, ◌∙◌, ap, subst, inl, inr, ⊎_elim, arith, Contains, filter, nat_cmp}
+use Rattle.std.proofs.Common.{◌≡◌, ℕ, ◌+◌, ◌≤◌, ◌↔◌, Bool, true, false, not, ◌⊎◌, List, length, Option, Some, None, refl, sym, ◌∙◌, ap, subst, inl, inr, ⊎_elim}
+use Rattle.std.proofs.Common.{arith, Contains, filter, nat_cmp}
 use Rattle.std.specs.Cmp.Lexicographic.{slice_cmp, nat_list_cmp_total}
 use Rattle.std.specs.FinMap as finmap
 use Rattle.std.proofs.lemmas.Bool.{cases_Bool}
@@ -30,7 +31,8 @@ pub record RecordWith (n : ℕ) (name : List ℕ) (number : ℕ) (layer : Option
   pub of : Contains fs fact
   pub written : record_of n (capacity_of value) name number fact ≡ r
 
-pub record_with_from : (n : ℕ) (name : List ℕ) (number : ℕ) (layer : Option Layer) (fs : List Fact) (r : Record) → Contains (records_with n name number layer fs) r → RecordWith n name number layer fs r
+pub record_with_from : (n : ℕ) (name : List ℕ) (number : ℕ) (layer : Option Layer) (fs : List Fact) (r : Record)
+    → Contains (records_with n name number layer fs) r → RecordWith n name number layer fs r
 record_with_from n name number None fs r c = absurd (Contains-nil r c)
 record_with_from n name number (Some l) fs r c =
     let m = Contains-map_from (record_of n (capacity_of l) name number) fs r c in
@@ -119,7 +121,8 @@ module _ (form n : ℕ) (layers : Map) (numbers after : Numbering) (name : List 
       }
 
   -- a record of another layer does not go
-  other_stays : (w : List ℕ) (l : Layer) (r : Record) → finmap.get layers w ≡ Some l → Contains (layer_records n w (number_of numbers w) l) r → (w ≡ name → ⊥) → Contains removed r → ⊥
+  other_stays : (w : List ℕ) (l : Layer) (r : Record) → finmap.get layers w ≡ Some l → Contains (layer_records n w (number_of numbers w) l) r
+      → (w ≡ name → ⊥) → Contains removed r → ⊥
   unfolding removed_there gone_from
   other_stays w l r at c d gone =
       let t = removed_there r gone in
@@ -129,13 +132,15 @@ module _ (form n : ℕ) (layers : Map) (numbers after : Numbering) (name : List 
       d (name_alone layers numbers num w name l g.value at g.is (sym here ∙ there))
 
   -- a fact that both layers have keeps its record
-  fact_stays : (l : Layer) (f : Fact) → old ≡ Some l → Contains (facts n l) f → Contains (facts_in n new) f → Contains removed (record_of n (capacity_of l) name number f) → ⊥
+  fact_stays : (l : Layer) (f : Fact) → old ≡ Some l → Contains (facts n l) f → Contains (facts_in n new) f
+      → Contains removed (record_of n (capacity_of l) name number f) → ⊥
   fact_stays l f e c k gone =
       let g = gone_from (record_of n (capacity_of l) name number f) gone in
       let a = alone_from n old new g.fact g.of in
       let same : g.value ≡ l = some_same g.value l (sym g.is ∙ e) in
       let keys = ap (λ (r : Record). r.key) (ap (λ (m : Layer). record_of n (capacity_of m) name number g.fact) (sym same) ∙ g.written) in
-      let one = fact_alone n le name number least form l (layer_fits form n numbers layers le h num name l e) g.fact f (facts_some n old l g.fact e a.0) c keys in
+      let one =
+      fact_alone n le name number least form l (layer_fits form n numbers layers le h num name l e) g.fact f (facts_some n old l g.fact e a.0) c keys in
       a.1 (subst (Contains (facts_in n new)) (sym one) k)
     where
       some_same : (x y : Layer) → Some x ≡ Some y → x ≡ y
@@ -156,7 +161,8 @@ module _ (form n : ℕ) (layers : Map) (numbers after : Numbering) (name : List 
         at = got_here layers name new ∙ o.1;
         written = subst (λ (k : ℕ). Contains (layer_records n name k o.0) r) (sym (is o.0 o.1)) (subst (Contains (layer_records n name number o.0)) eq there);
       })
-      (λ k. absurd (stays (subst (Contains removed) m.2 ((leads.remove (record_of n (capacity_of l) name number m.0)).1 (record_with_is n name number old l (facts_alone n old new) m.0 e k)))))
+      (λ k. absurd (stays (subst (Contains removed) m.2
+      ((leads.remove (record_of n (capacity_of l) name number m.0)).1 (record_with_is n name number old l (facts_alone n old new) m.0 e k)))))
       (alone_or_both n old new m.0 (some_facts n old l m.0 e m.1))
 
   module _ (rs now : List Record) (spells : (r : Record) → Contains rs r ↔ IsWritten n numbers layers r) (edited : IsEdited rs removed added now) where
@@ -169,7 +175,8 @@ module _ (form n : ℕ) (layers : Map) (numbers after : Numbering) (name : List 
         (λ e.
         let at = ap (finmap.get layers) (sym e) ∙ w.at in
         let number' : number_of numbers w.name ≡ number = ap (number_of numbers) e ∙ was w.layer at in
-        let there = subst (λ (k : ℕ). Contains (layer_records n name k w.layer) r) number' (subst (λ (a : List ℕ). Contains (layer_records n a (number_of numbers w.name) w.layer) r) e w.written) in
+        let there = subst (λ (k : ℕ). Contains (layer_records n name k w.layer) r) number'
+        (subst (λ (a : List ℕ). Contains (layer_records n a (number_of numbers w.name) w.layer) r) e w.written) in
         stays_from w.layer r at there stayed.1)
         (λ d. record {
           name = w.name;
@@ -188,7 +195,8 @@ module _ (form n : ℕ) (layers : Map) (numbers after : Numbering) (name : List 
         (λ e.
         let at : new ≡ Some w.layer = sym (got_here layers name new) ∙ ap (finmap.get changed) (sym e) ∙ w.at in
         let number' : number_of after w.name ≡ number = ap (number_of after) e ∙ is w.layer at in
-        let there = subst (λ (k : ℕ). Contains (layer_records n name k w.layer) r) number' (subst (λ (a : List ℕ). Contains (layer_records n a (number_of after w.name) w.layer) r) e w.written) in
+        let there = subst (λ (k : ℕ). Contains (layer_records n name k w.layer) r) number'
+        (subst (λ (a : List ℕ). Contains (layer_records n a (number_of after w.name) w.layer) r) e w.written) in
         let m = layer_record_from n name number w.layer r there in
         ⊎_elim
         (λ k.
@@ -205,7 +213,8 @@ module _ (form n : ℕ) (layers : Map) (numbers after : Numbering) (name : List 
               (subst (Contains (layer_records n name number o.0)) eq (layer_record n name number o.0 m.0 f));
         } in
         inl ((spells r).1 here, λ gone. fact_stays o.0 m.0 o.1 f (some_facts n new w.layer m.0 at m.1) (subst (Contains removed) (sym eq) gone)))
-        (λ k. inr (subst (Contains added) m.2 ((leads.add (record_of n (capacity_of w.layer) name number m.0)).1 (record_with_is n name number new w.layer (facts_alone n new old) m.0 at k))))
+        (λ k. inr (subst (Contains added) m.2
+        ((leads.add (record_of n (capacity_of w.layer) name number m.0)).1 (record_with_is n name number new w.layer (facts_alone n new old) m.0 at k))))
         (alone_or_both n new old m.0 (some_facts n new w.layer m.0 at m.1)))
         (λ d.
         let at = sym (got_there layers name new w.name d) ∙ w.at in
@@ -218,12 +227,14 @@ module _ (form n : ℕ) (layers : Map) (numbers after : Numbering) (name : List 
     edited_members r = (new_record r, record_new r)
 
 -- ---- how many records go and come
-pub alone_apart : (form n : ℕ) (name : List ℕ) (number : ℕ) (a b : Option Layer) → n ≤ 12 → 1 ≤ number → IsOne form n a → Apart (records_alone n name number a b)
+pub alone_apart : (form n : ℕ) (name : List ℕ) (number : ℕ) (a b : Option Layer) → n ≤ 12 → 1 ≤ number → IsOne form n a
+    → Apart (records_alone n name number a b)
 alone_apart form n name number None b le least h = tt
 alone_apart form n name number (Some l) b le least h =
     let test : Fact → Bool = λ f. not (is_among (facts_in n b) f) in
     Apart-map (record_of n (capacity_of l) name number) (filter test (facts n l))
-    (λ f g c d e. fact_alone n le name number least form l h f g (Contains-filter_from test (facts n l) f c).0 (Contains-filter_from test (facts n l) g d).0 (ap (λ (r : Record). r.key) e))
+    (λ f g c d e. fact_alone n le name number least form l h f g (Contains-filter_from test (facts n l) f c).0
+    (Contains-filter_from test (facts n l) g d).0 (ap (λ (r : Record). r.key) e))
     (Apart-filter test (facts n l) (facts_apart n l))
 
 alone_length : (n : ℕ) (name : List ℕ) (number : ℕ) (a b : Option Layer) → length (records_alone n name number a b) ≡ length (facts_alone n a b)

@@ -1,5 +1,7 @@
 -- No fact of a layer stands twice, and the keys of their records differ.
-use Rattle.std.proofs.Common.{◌≡◌, ℕ, ◌+◌, ◌-◌, ◌≤◌, ◌^◌, Bool, true, nat_lt, ◌⊎◌, List, [], ◌∷◌, map, length, get_or, Some, refl, sym, ◌∙◌, ap, ap₂, inl, inr, ⊎_elim, arith, Contains, All, filter, flat_map, count_by, eqb, eqb-true, leb-true, ltb-true, nat_cmp, Ordering, Less, Equal, Greater}
+use Rattle.std.proofs.Common.{◌≡◌, ℕ, ◌+◌, ◌-◌, ◌≤◌, ◌^◌, Bool, true, nat_lt, ◌⊎◌, List, [], ◌∷◌, map, length, get_or, Some, refl, sym, ◌∙◌, ap, ap₂, inl, inr}
+use Rattle.std.proofs.Common.{⊎_elim, arith, Contains, All, filter, flat_map, count_by, eqb, eqb-true, leb-true, ltb-true, nat_cmp, Ordering, Less, Equal}
+use Rattle.std.proofs.Common.{Greater}
 use Rattle.std.specs.Ordering.{ordering_then}
 use Rattle.std.specs.Cmp.{nat_cmp_total, on_total}
 use Rattle.std.specs.FinMap as finmap
@@ -15,7 +17,8 @@ use Rattle.quilt_types.specs.declared.plane.Seg.{Seg}
 use Rattle.quilt_types.specs.Plane.{side, corner, in_block, IsBlock, pixel_cmp, block_cmp, is_pixel}
 use Rattle.quilt_types.specs.Codes.{code, depth}
 use Rattle.quilt_types.specs.Layers.{Layer, Region, Points, Lines, Grid, PointMap, SegMap, BlockSet, IsLayer, colour_at}
-use Rattle.quilt_types.specs.Facts.{Fact, IsOfKind, HasColour, HoldsPoint, HoldsNoPoint, IsSegment, IsMetBy, IsMetByNone, or_none, point_facts, line_facts, facts}
+use Rattle.quilt_types.specs.Facts.{Fact, IsOfKind, HasColour, HoldsPoint, HoldsNoPoint, IsSegment, IsMetBy, IsMetByNone, or_none, point_facts, line_facts}
+use Rattle.quilt_types.specs.Facts.{facts}
 use Rattle.quilt_types.specs.Quadtrees.{maximal_blocks, is_uniform, coloured, leaves, holds_few, points_in, point_blocks}
 use Rattle.quilt_types.specs.Segments.{square, meets}
 use Rattle.quilt_record.specs.declared.key.Key.{Key}
@@ -59,11 +62,13 @@ same_some v w e = cc
 -- a map has one value at a key
 pub one_label : (points : PointMap) (p q : Pixel) (k l : ℕ) → Contains (finmap.entries points) (p, k) → Contains (finmap.entries points) (q, l) → p ≡ q → k ≡ l
 one_label points p q k l c d e =
-    same_some k l (sym (get_from_entry pixel_cmp pixel_total pixel_same points (p, k) c) ∙ ap (finmap.get points) e ∙ get_from_entry pixel_cmp pixel_total pixel_same points (q, l) d)
+    same_some k l (sym (get_from_entry pixel_cmp pixel_total pixel_same points (p, k) c) ∙ ap (finmap.get points) e
+    ∙ get_from_entry pixel_cmp pixel_total pixel_same points (q, l) d)
 
 pub one_seg : (segs : SegMap) (i j : ℕ) (s t : Seg) → Contains (finmap.entries segs) (i, s) → Contains (finmap.entries segs) (j, t) → i ≡ j → s ≡ t
 one_seg segs i j s t c d e =
-    same_some s t (sym (get_from_entry nat_cmp nat_cmp_total nat_cmp-IsAntisymmetric segs (i, s) c) ∙ ap (finmap.get segs) e ∙ get_from_entry nat_cmp nat_cmp_total nat_cmp-IsAntisymmetric segs (j, t) d)
+    same_some s t (sym (get_from_entry nat_cmp nat_cmp_total nat_cmp-IsAntisymmetric segs (i, s) c) ∙ ap (finmap.get segs) e
+    ∙ get_from_entry nat_cmp nat_cmp_total nat_cmp-IsAntisymmetric segs (j, t) d)
 
 -- ---- at most one element passes
 few_same : {X : Type 0} (xs : List X) (a b : X) → length xs ≤ 1 → Contains xs a → Contains xs b → a ≡ b
@@ -96,7 +101,8 @@ module _ (n : ℕ) (le : n ≤ 12) where
       λ i. record { y = (at i).y; x = (at i).x; side = side i }
 
   module _ (name : List ℕ) (number : ℕ) (least : 1 ≤ number) where
-    region_alone : (grid : Grid) (c : ℕ) (f g : Fact) → RegionSays n grid f → RegionSays n grid g → (record_of n c name number f).key ≡ (record_of n c name number g).key → f ≡ g
+    region_alone : (grid : Grid) (c : ℕ) (f g : Fact) → RegionSays n grid f → RegionSays n grid g
+        → (record_of n c name number f).key ≡ (record_of n c name number g).key → f ≡ g
     region_alone grid c (IsOfKind i j) (IsOfKind k l) u v e = ap₂ IsOfKind (u.0 ∙ sym v.0) (u.1 ∙ sym v.1)
     region_alone grid c (IsOfKind i j) (HasColour b k) u v e = absurd (let z : 0 ≡ number = ap (λ (q : Key). q.layer) e in omega arith)
     region_alone grid c (HasColour b k) (IsOfKind i j) u v e = absurd (let z : number ≡ 0 = ap (λ (q : Key). q.layer) e in omega arith)
@@ -107,7 +113,8 @@ module _ (n : ℕ) (le : n ≤ 12) where
     region_alone grid c (HasColour b k) g u v e = absurd v
     region_alone grid c f g u v e = absurd u
 
-    points_alone : (capacity : ℕ) (points : PointMap) → All (λ e. is_pixel n e.0 ≡ true) (finmap.entries points) → (f g : Fact) → PointsSay n capacity points f → PointsSay n capacity points g
+    points_alone : (capacity : ℕ) (points : PointMap) → All (λ e. is_pixel n e.0 ≡ true) (finmap.entries points) → (f g : Fact)
+        → PointsSay n capacity points f → PointsSay n capacity points g
         → (record_of n capacity name number f).key ≡ (record_of n capacity name number g).key → f ≡ g
     points_alone capacity points inside (IsOfKind i j) (IsOfKind k l) u v e = ap₂ IsOfKind (u.0 ∙ sym v.0) (u.1 ∙ sym v.1)
     points_alone capacity points inside (IsOfKind i j) (HoldsPoint b p k) u v e = absurd (let z : 0 ≡ number = ap (λ (q : Key). q.layer) e in omega arith)
@@ -130,15 +137,18 @@ module _ (n : ℕ) (le : n ≤ 12) where
         (λ one.
         let is = eqb-true capacity 1 one in
         let few = leb-true (points_in points b) capacity u.1 in
-        let pair : ◌≡◌ {A = Pixel × ℕ} (p, k) (q, l) = most_once (λ (e : Pixel × ℕ). in_block b e.0) (finmap.entries points) (p, k) (q, l) (omega arith) u.2 u.3 v.2 (ap (λ z. in_block z q) same ∙ v.3) in
+        let pair : ◌≡◌ {A = Pixel × ℕ} (p, k) (q, l) =
+        most_once (λ (e : Pixel × ℕ). in_block b e.0) (finmap.entries points) (p, k) (q, l) (omega arith) u.2 u.3 v.2 (ap (λ z. in_block z q) same ∙ v.3) in
         ap (λ (w : Pixel × ℕ). w.0) pair)
         (λ more.
         let a : point_item capacity p ≡ code p.x p.y + 1 = cond-false (eqb capacity 1) 0 (code p.x p.y + 1) more in
         let b : point_item capacity q ≡ code q.x q.y + 1 = cond-false (eqb capacity 1) 0 (code q.x q.y + 1) more in
         let codes : code p.x p.y ≡ code q.x q.y = omega arith in
         let m = side_most n le in
-        let hp = and_parts (nat_lt p.x (side n)) (nat_lt p.y (side n)) (All-contains (λ (e : Pixel × ℕ). is_pixel n e.0 ≡ true) (finmap.entries points) (p, k) inside u.2) in
-        let hq = and_parts (nat_lt q.x (side n)) (nat_lt q.y (side n)) (All-contains (λ (e : Pixel × ℕ). is_pixel n e.0 ≡ true) (finmap.entries points) (q, l) inside v.2) in
+        let hp = and_parts (nat_lt p.x (side n)) (nat_lt p.y (side n))
+        (All-contains (λ (e : Pixel × ℕ). is_pixel n e.0 ≡ true) (finmap.entries points) (p, k) inside u.2) in
+        let hq = and_parts (nat_lt q.x (side n)) (nat_lt q.y (side n))
+        (All-contains (λ (e : Pixel × ℕ). is_pixel n e.0 ≡ true) (finmap.entries points) (q, l) inside v.2) in
         let px = ltb-true p.x (side n) hp.0 in
         let py = ltb-true p.y (side n) hp.1 in
         let qx = ltb-true q.x (side n) hq.0 in
@@ -209,7 +219,8 @@ region_apart n grid =
     let mb = maximal_blocks n (is_uniform n grid) in (
       λ c. let m = Contains-map_from fact (leaves n grid) (IsOfKind 1 0) c in let e = m.2 in cc,
       Apart-map fact (leaves n grid) (λ a b _ _ e. let x : a.0 ≡ b.0 = cc in let y : a.1 ≡ b.1 = cc in λ i. (x i, y i))
-          (Apart-map (coloured n grid) mb (λ a b _ _ e. ap (λ (w : Block × ℕ). w.0) e) (Apart-rises block_cmp block_total mb (Rises-maximal n (is_uniform n grid)))),
+          (Apart-map (coloured n grid) mb (λ a b _ _ e. ap (λ (w : Block × ℕ). w.0) e)
+          (Apart-rises block_cmp block_total mb (Rises-maximal n (is_uniform n grid)))),
     )
 
 -- which block a fact is on
@@ -244,7 +255,8 @@ module _ {X : Type 0} (test : Block → X → Bool) (none : Block → Fact) (som
   blocks_apart =
       Apart-flat_map on bs there
       (λ b _. or_none_apart (none b) (map (some b) (filter (test b) es))
-      (Apart-map (some b) (filter (test b) es) (λ x y c d e. one b x y (Contains-filter_from (test b) es x c).0 (Contains-filter_from (test b) es y d).0 e) (Apart-filter (test b) es here)))
+      (Apart-map (some b) (filter (test b) es)
+      (λ x y c d e. one b x y (Contains-filter_from (test b) es x c).0 (Contains-filter_from (test b) es y d).0 e) (Apart-filter (test b) es here)))
       (λ b d f _ _ c k. one_block b d f c k)
 
 points_apart : (n capacity : ℕ) (points : PointMap) → Apart (facts n (Points capacity points))

@@ -1,5 +1,6 @@
 -- The facts of a layer: what each says, that none stands twice, and that the keys of their records differ.
-use Rattle.std.proofs.Common.{◌≡◌, ℕ, Bool, true, not, ◌||◌, ◌⊎◌, List, [], ◌∷◌, ◌++◌, map, refl, sym, ◌∙◌, ap, subst, inl, inr, ⊎_elim, Contains, filter, flat_map}
+use Rattle.std.proofs.Common.{◌≡◌, ℕ, Bool, true, not, ◌||◌, ◌⊎◌, List, [], ◌∷◌, ◌++◌, map, refl, sym, ◌∙◌, ap, subst, inl, inr, ⊎_elim, Contains, filter}
+use Rattle.std.proofs.Common.{flat_map}
 use Rattle.std.specs.FinMap as finmap
 use Rattle.std.proofs.lemmas.Bool.{and_parts}
 use Rattle.std.proofs.lemmas.List.Elements.{All-contains, Contains-append_cases}
@@ -9,11 +10,13 @@ use Rattle.quilt_types.specs.declared.plane.Pixel.{Pixel}
 use Rattle.quilt_types.specs.declared.plane.Seg.{Seg}
 use Rattle.quilt_types.specs.Plane.{parent_of, blocks, in_block, IsBlock}
 use Rattle.quilt_types.specs.Layers.{Layer, Region, Points, Lines, Grid, PointMap, SegMap, BlockSet, IsLayer, IsLineMap}
-use Rattle.quilt_types.specs.Facts.{Fact, IsOfKind, HasColour, HoldsPoint, HoldsNoPoint, IsSegment, IsMetBy, IsMetByNone, or_none, point_facts, line_facts, facts}
+use Rattle.quilt_types.specs.Facts.{Fact, IsOfKind, HasColour, HoldsPoint, HoldsNoPoint, IsSegment, IsMetBy, IsMetByNone, or_none, point_facts, line_facts}
+use Rattle.quilt_types.specs.Facts.{facts}
 use Rattle.quilt_types.specs.Quadtrees.{is_whole, is_maximal, maximal_blocks, is_uniform, coloured, leaves, holds_few, point_blocks}
 use Rattle.quilt_types.specs.Segments.{square, meets}
 use Rattle.quilt_spell.specs.LayerFacts.{LayerSays, RegionSays, PointsSay, LinesSay}
-use Rattle.quilt_loc.proofs.Members.{Contains-nil, Contains-cons_cases, Contains-map, Contains-map_from, Contains-filter, Contains-filter_from, Contains-flat_map_from}
+use Rattle.quilt_loc.proofs.Members.{Contains-nil, Contains-cons_cases, Contains-map, Contains-map_from, Contains-filter, Contains-filter_from}
+use Rattle.quilt_loc.proofs.Members.{Contains-flat_map_from}
 use Rattle.quilt_loc.proofs.Blocks.{IsBlock-from}
 
 -- ---- members
@@ -58,7 +61,11 @@ points_say n capacity points f c =
     let is = passing_block n (holds_few capacity points) b m.1 in
     ⊎_elim
     (λ no.
-    let said : PointsSay n capacity points (HoldsNoPoint b) = (is.0, λ p label k t. nothing_in (map (fact b) (filter test there)) no.1 (fact b (p, label)) (Contains-map (fact b) (filter test there) (p, label) (Contains-filter test there (p, label) k t))) in
+    let said : PointsSay n capacity points (HoldsNoPoint b) = (
+      is.0,
+      λ p label k t. nothing_in (map (fact b) (filter test there)) no.1 (fact b (p, label))
+          (Contains-map (fact b) (filter test there) (p, label) (Contains-filter test there (p, label) k t)),
+    ) in
     subst (PointsSay n capacity points) (sym no.0) said)
     (λ has.
     let e = Contains-map_from (fact b) (filter test there) f has in
@@ -68,7 +75,8 @@ points_say n capacity points f c =
     (or_none_member (HoldsNoPoint b) (map (fact b) (filter test there)) f m.2))
     (Contains-cons_cases (IsOfKind 2 capacity) (flat_map (point_facts points) (point_blocks n capacity points)) f c)
 
-lines_say : (n threshold : ℕ) (segs : SegMap) (cover : BlockSet) → IsLineMap n threshold segs cover → (f : Fact) → Contains (facts n (Lines threshold segs cover)) f → LinesSay n threshold segs f
+lines_say : (n threshold : ℕ) (segs : SegMap) (cover : BlockSet) → IsLineMap n threshold segs cover → (f : Fact)
+    → Contains (facts n (Lines threshold segs cover)) f → LinesSay n threshold segs f
 lines_say n threshold segs cover h f c =
     let there = finmap.entries segs in
     let seg : ℕ × Seg → Fact = λ e. IsSegment e.0 e.1 in
@@ -85,7 +93,11 @@ lines_say n threshold segs cover h f c =
     let is = IsBlock-from n b (All-contains (Contains (blocks n)) (finset.items cover) b h.each m.1) in
     ⊎_elim
     (λ no.
-    let said : LinesSay n threshold segs (IsMetByNone b) = (is, λ id s k t. nothing_in (map (fact b) (filter test there)) no.1 (fact b (id, s)) (Contains-map (fact b) (filter test there) (id, s) (Contains-filter test there (id, s) k t))) in
+    let said : LinesSay n threshold segs (IsMetByNone b) = (
+      is,
+      λ id s k t. nothing_in (map (fact b) (filter test there)) no.1 (fact b (id, s))
+          (Contains-map (fact b) (filter test there) (id, s) (Contains-filter test there (id, s) k t)),
+    ) in
     subst (LinesSay n threshold segs) (sym no.0) said)
     (λ has.
     let e = Contains-map_from (fact b) (filter test there) f has in

@@ -25,7 +25,12 @@ module _ (n : ℕ) (fits : Block → Bool) (p : Pixel) (hx : p.x < 2 ^ n) (hy : 
   up_from zero k e t =
       let b = around (2 ^ k) p in
       let whole : b.side ≡ side n = ap (λ i. 2 ^ i) (let z : k ≡ n = omega arith in z) in
-      record { block = b; maximal = maximal b (IsBlock-around n k p (omega arith) hx hy) t (or_left (is_whole n b) (not (fits (parent_of b))) (eq-eqb b.side (side n) whole)); holds = Holds-around k p }
+      record {
+        block = b;
+        maximal = maximal b (IsBlock-around n k p (omega arith) hx hy) t
+            (or_left (is_whole n b) (not (fits (parent_of b))) (eq-eqb b.side (side n) whole));
+        holds = Holds-around k p;
+      }
   up_from (suc d) k e t =
       let b = around (2 ^ k) p in
       let hb = IsBlock-around n k p (omega arith) hx hy in
@@ -34,7 +39,8 @@ module _ (n : ℕ) (fits : Block → Bool) (p : Pixel) (hx : p.x < 2 ^ n) (hy : 
       let twice = pow-suc 2 k in
       let lt : b.side < 2 ^ n = below k n (omega arith) in
       let is : parent_of b ≡ up =
-      same_block_from n (parent_of b) up p (IsBlock-parent_of n b hb lt) hu (omega arith) (Within-holds b (parent_of b) p (Within-parent_of n b hb lt) (Holds-around k p)) (Holds-around (suc k) p) in
+      same_block_from n (parent_of b) up p (IsBlock-parent_of n b hb lt) hu (omega arith)
+      (Within-holds b (parent_of b) p (Within-parent_of n b hb lt) (Holds-around k p)) (Holds-around (suc k) p) in
       ⊎_elim
       (λ passes. up_from d (suc k) (omega arith) (ap fits (sym is) ∙ passes))
       (λ fails. record { block = b; maximal = maximal b hb t (or_right (is_whole n b) (not (fits (parent_of b))) (ap not fails)); holds = Holds-around k p })

@@ -1,5 +1,6 @@
 -- The records of a layer's number, as they stand in a list that spells the map: in the order of their keys.
-use Rattle.std.proofs.Common.{◌≡◌, ◌↔◌, ℕ, ◌+◌, ◌≤◌, Bool, List, map, length, Option, Some, sym, ◌∙◌, ap, subst, arith, Contains, filter, nat_lt, nat_cmp, Ordering, Less, eqb, eqb-true, eq-eqb, ne_eqb}
+use Rattle.std.proofs.Common.{◌≡◌, ◌↔◌, ℕ, ◌+◌, ◌≤◌, Bool, List, map, length, Option, Some, sym, ◌∙◌, ap, subst, arith, Contains, filter, nat_lt, nat_cmp}
+use Rattle.std.proofs.Common.{Ordering, Less, eqb, eqb-true, eq-eqb, ne_eqb}
 use Rattle.std.specs.Prelude.{◌==◌}
 use Rattle.std.specs.Ordering.{ordering_then}
 use Rattle.std.specs.Cmp.{nat_cmp_total, tied_itself}
@@ -36,7 +37,8 @@ same_then a o = ap (λ q. ordering_then q o) (tied_itself nat_cmp_total a)
 pub leaf_less : (n k : ℕ) (d e : Block × ℕ) → by_code d e ≡ Less → by_key (leaf_record n k d) (leaf_record n k e) ≡ Less
 leaf_less n k d e h =
     let rest = ordering_then (nat_cmp (code_from d.0) (code_from e.0)) (ordering_then (nat_cmp (depth n d.0) (depth n e.0)) (nat_cmp 0 0)) in
-    same_then k (ordering_then (nat_cmp 1 1) rest) ∙ same_then 1 rest ∙ ap (λ o. ordering_then o (ordering_then (nat_cmp (depth n d.0) (depth n e.0)) (nat_cmp 0 0))) h
+    same_then k (ordering_then (nat_cmp 1 1) rest) ∙ same_then 1 rest
+    ∙ ap (λ o. ordering_then o (ordering_then (nat_cmp (depth n d.0) (depth n e.0)) (nat_cmp 0 0))) h
 
 module _ (form n : ℕ) (numbers : Numbering) (rs : List Record) (layers : Map) (le : n ≤ 12) (s : SpellsUnder form n numbers rs layers) (name : List ℕ) where
   -- a list in order with the layer's records is what stands there
@@ -85,7 +87,10 @@ same_test : (q a b c d : ℕ) → a + c ≡ b + d → nat_lt q a ≡ nat_lt (q +
 same_test q a b c d e = grind (arith, nat_tests)
 
 -- the test of the quota, by counts and before any edit
-pub step_full : (form n : ℕ) (numbers : Numbering) (rs : List Record) (layers : Map) (le : n ≤ 12) (s : SpellsUnder form n numbers rs layers) (name : List ℕ) (number : ℕ) (new : Option Layer) (removed added : List Record)
-    → IsStep form n layers numbers name number new removed added → (quota : ℕ) → nat_lt quota (records n (with_layer layers name new)) ≡ nat_lt (quota + length removed) (length rs + length added)
+pub step_full : (form n : ℕ) (numbers : Numbering) (rs : List Record) (layers : Map) (le : n ≤ 12) (s : SpellsUnder form n numbers rs layers)
+    (name : List ℕ) (number : ℕ) (new : Option Layer) (removed added : List Record)
+    → IsStep form n layers numbers name number new removed added → (quota : ℕ)
+    → nat_lt quota (records n (with_layer layers name new)) ≡ nat_lt (quota + length removed) (length rs + length added)
 step_full form n numbers rs layers le s name number new removed added step quota =
-    same_test quota (records n (with_layer layers name new)) (length rs) (length removed) (length added) (step_records form n numbers rs layers le s name number new removed added step)
+    same_test quota (records n (with_layer layers name new)) (length rs) (length removed) (length added)
+    (step_records form n numbers rs layers le s name number new removed added step)

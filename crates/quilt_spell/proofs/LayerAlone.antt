@@ -1,5 +1,6 @@
 -- A layer is known by its facts.
-use Rattle.std.proofs.Common.{◌≡◌, ◌↔◌, ℕ, ◌+◌, ◌*◌, ◌/◌, ◌%◌, ◌^◌, ◌<◌, ◌≤◌, Bool, true, nat_lt, List, [], ◌∷◌, ◌++◌, map, length, get_or, refl, sym, ◌∙◌, ap, ap₂, subst, ⊎_elim, arith, Contains, filter, flat_map, eqb, eqb-true, eq-eqb, le-leb, ltb-true, Ordering, ext_get_or, pow_pos}
+use Rattle.std.proofs.Common.{◌≡◌, ◌↔◌, ℕ, ◌+◌, ◌*◌, ◌/◌, ◌%◌, ◌^◌, ◌<◌, ◌≤◌, Bool, true, nat_lt, List, [], ◌∷◌, ◌++◌, map, length, get_or, refl, sym, ◌∙◌, ap}
+use Rattle.std.proofs.Common.{ap₂, subst, ⊎_elim, arith, Contains, filter, flat_map, eqb, eqb-true, eq-eqb, le-leb, ltb-true, Ordering, ext_get_or, pow_pos}
 use Rattle.std.specs.Cmp.{IsTotalOrder, nat_cmp_total, on_total}
 use Rattle.std.specs.FinMap as finmap
 use Rattle.std.proofs.lemmas.Bool.{and_parts}
@@ -12,11 +13,13 @@ use Rattle.quilt_types.specs.declared.plane.Pixel.{Pixel}
 use Rattle.quilt_types.specs.declared.plane.Seg.{Seg}
 use Rattle.quilt_types.specs.Plane.{side, corner, pixels_of, in_block, Holds, pixel_cmp, is_pixel, pixel_at}
 use Rattle.quilt_types.specs.Layers.{Layer, Region, Points, Lines, Grid, PointMap, SegMap, BlockSet, IsLayer, IsGrid, IsPointMap, IsLineMap, colour_at}
-use Rattle.quilt_types.specs.Facts.{Fact, IsOfKind, HasColour, HoldsPoint, HoldsNoPoint, IsSegment, IsMetBy, IsMetByNone, or_none, point_facts, line_facts, facts}
+use Rattle.quilt_types.specs.Facts.{Fact, IsOfKind, HasColour, HoldsPoint, HoldsNoPoint, IsSegment, IsMetBy, IsMetByNone, or_none, point_facts, line_facts}
+use Rattle.quilt_types.specs.Facts.{facts}
 use Rattle.quilt_types.specs.Quadtrees.{maximal_blocks, is_uniform, coloured, leaves, holds_few, points_in, point_blocks}
 use Rattle.quilt_types.specs.Segments.{square, meets}
 use Rattle.quilt_spell.specs.Apart.{Apart, SameMembers}
-use Rattle.quilt_loc.proofs.Members.{Contains-nil, Contains-here, Contains-there, Contains-cons_cases, Contains-map, Contains-map_from, Contains-filter, Contains-filter_from, Contains-flat_map, Contains-flat_map_from, list_all-at, list_all-from}
+use Rattle.quilt_loc.proofs.Members.{Contains-nil, Contains-here, Contains-there, Contains-cons_cases, Contains-map, Contains-map_from, Contains-filter}
+use Rattle.quilt_loc.proofs.Members.{Contains-filter_from, Contains-flat_map, Contains-flat_map_from, list_all-at, list_all-from}
 use Rattle.quilt_loc.proofs.Rising.{same_rising}
 use Rattle.quilt_loc.proofs.Blocks.{Contains-pixels_of, Contains-pixels_of_from, Holds-from, in_block-true}
 use Rattle.quilt_loc.proofs.Nesting.{around}
@@ -30,7 +33,8 @@ use Rattle.quilt_spell.proofs.FactKeys.{one_label}
 use Rattle.quilt_spell.proofs.OfLayer.{kind_there}
 
 -- maps with the same entries
-pub same_from_entries : {K X : Type 0} {R : K → K → Ordering} → IsTotalOrder R → (m n : finmap.FinMap R X) → SameMembers (finmap.entries m) (finmap.entries n) → m ≡ n
+pub same_from_entries : {K X : Type 0} {R : K → K → Ordering} → IsTotalOrder R → (m n : finmap.FinMap R X)
+    → SameMembers (finmap.entries m) (finmap.entries n) → m ≡ n
 same_from_entries {R = R} o m n w =
     finmap.same_entries_map m n
     (same_rising (by_first R) (on_total (λ (e : _ × _). e.0) o) (finmap.entries m) (finmap.entries n) (Rises-entries R m) (Rises-entries R n) w)
@@ -137,7 +141,8 @@ module _ (n capacity : ℕ) (points : PointMap) where
       let count = length-filter test es in
       le-leb (points_in points b) capacity (omega arith)
 
-  point_there : 1 ≤ capacity → (e : Pixel × ℕ) → is_pixel n e.0 ≡ true → Contains (finmap.entries points) e → (b : Block) × Contains (facts n (Points capacity points)) (HoldsPoint b e.0 e.1)
+  point_there : 1 ≤ capacity → (e : Pixel × ℕ) → is_pixel n e.0 ≡ true → Contains (finmap.entries points) e
+      → (b : Block) × Contains (facts n (Points capacity points)) (HoldsPoint b e.0 e.1)
   unfolding point_blocks
   point_there least e inside c =
       let p = e.0 in
@@ -149,7 +154,8 @@ module _ (n capacity : ℕ) (points : PointMap) where
       let there = Contains-map fact (filter test (finmap.entries points)) e (Contains-filter test (finmap.entries points) e c (in_block-true b p k.holds)) in (
         b,
         Contains-there (IsOfKind 2 capacity) (flat_map (point_facts points) (point_blocks n capacity points)) (fact e)
-            (Contains-flat_map (point_facts points) (point_blocks n capacity points) b (fact e) k.maximal (some_there (HoldsNoPoint b) (map fact (filter test (finmap.entries points))) (fact e) there)),
+            (Contains-flat_map (point_facts points) (point_blocks n capacity points) b (fact e) k.maximal
+            (some_there (HoldsNoPoint b) (map fact (filter test (finmap.entries points))) (fact e) there)),
       )
     where
       some_there : (none : Fact) (fs : List Fact) (f : Fact) → Contains fs f → Contains (or_none none fs) f
@@ -162,7 +168,8 @@ module _ (n threshold : ℕ) (segs : SegMap) (cover : BlockSet) where
   seg_there e c =
       let seg : ℕ × Seg → Fact = λ e. IsSegment e.0 e.1 in
       Contains-there (IsOfKind 3 threshold) (map seg (finmap.entries segs) ++ flat_map (line_facts segs) (finset.items cover)) (seg e)
-      (Contains-append_left (map seg (finmap.entries segs)) (flat_map (line_facts segs) (finset.items cover)) (seg e) (Contains-map seg (finmap.entries segs) e c))
+      (Contains-append_left (map seg (finmap.entries segs)) (flat_map (line_facts segs) (finset.items cover)) (seg e)
+      (Contains-map seg (finmap.entries segs) e c))
 
   on_block : Fact → Block → Type 0
   on_block (IsMetBy d i) b = d ≡ b
@@ -219,7 +226,8 @@ module _ (n threshold : ℕ) (segs : SegMap) (cover : BlockSet) where
 Follows : ℕ → Layer → Layer → Type 0
 Follows n l m = (f : Fact) → Contains (facts n l) f → Contains (facts n m) f
 
-point_goes : (form n a b : ℕ) (points others : PointMap) → IsPointMap form n a points → IsPointMap form n b others → Follows n (Points a points) (Points b others)
+point_goes : (form n a b : ℕ) (points others : PointMap) → IsPointMap form n a points → IsPointMap form n b others
+    → Follows n (Points a points) (Points b others)
     → (e : Pixel × ℕ) → Contains (finmap.entries points) e → Contains (finmap.entries others) e
 unfolding Follows
 point_goes form n a b points others h k w e c =
@@ -227,7 +235,8 @@ point_goes form n a b points others h k w e c =
     let there = point_there n a points h.least e inside c in
     (layer_says form n (Points b others) k (HoldsPoint there.0 e.0 e.1) (w (HoldsPoint there.0 e.0 e.1) there.1)).2
 
-seg_goes : (form n s t : ℕ) (segs others : SegMap) (cover blocks : BlockSet) → IsLineMap n t others blocks → Follows n (Lines s segs cover) (Lines t others blocks)
+seg_goes : (form n s t : ℕ) (segs others : SegMap) (cover blocks : BlockSet) → IsLineMap n t others blocks
+    → Follows n (Lines s segs cover) (Lines t others blocks)
     → (e : ℕ × Seg) → Contains (finmap.entries segs) e → Contains (finmap.entries others) e
 unfolding Follows
 seg_goes form n s t segs others cover blocks k w e c =
@@ -266,16 +275,19 @@ kinds_same form n (Points capacity points) m h w = kind_said form n m h 2 capaci
 kinds_same form n (Lines threshold segs cover) m h w = kind_said form n m h 3 threshold (w (IsOfKind 3 threshold) (kind_there n (Lines threshold segs cover)))
 
 -- a layer is known by its facts
-pub layer_same : (form n : ℕ) (l m : Layer) → IsLayer form n l → IsLayer form n m → ((f : Fact) → Contains (facts n l) f → Contains (facts n m) f) → ((f : Fact) → Contains (facts n m) f → Contains (facts n l) f) → l ≡ m
+pub layer_same : (form n : ℕ) (l m : Layer) → IsLayer form n l → IsLayer form n m → ((f : Fact) → Contains (facts n l) f → Contains (facts n m) f)
+    → ((f : Fact) → Contains (facts n m) f → Contains (facts n l) f) → l ≡ m
 unfolding Follows
 layer_same form n (Region g) (Region h) hl hm w v = ap Region (region_same n g h w form hl hm)
 layer_same form n (Points a points) (Points b others) hl hm w v =
     let capacity : a ≡ b = (layer_says form n (Points b others) hm (IsOfKind 2 a) (w (IsOfKind 2 a) (kind_there n (Points a points)))).1 in
-    let same = same_from_entries pixel_total points others (λ e. (point_goes form n a b points others hl hm w e, point_goes form n b a others points hm hl v e)) in
+    let same =
+    same_from_entries pixel_total points others (λ e. (point_goes form n a b points others hl hm w e, point_goes form n b a others points hm hl v e)) in
     ap₂ Points capacity same
 layer_same form n (Lines s segs cover) (Lines t others blocks) hl hm w v =
     let threshold : s ≡ t = (layer_says form n (Lines t others blocks) hm (IsOfKind 3 s) (w (IsOfKind 3 s) (kind_there n (Lines s segs cover)))).1 in
-    let same = same_from_entries nat_cmp_total segs others (λ e. (seg_goes form n s t segs others cover blocks hm w e, seg_goes form n t s others segs blocks cover hl v e)) in
+    let same = same_from_entries nat_cmp_total segs others
+    (λ e. (seg_goes form n s t segs others cover blocks hm w e, seg_goes form n t s others segs blocks cover hl v e)) in
     let covers = same_from_entries block_total cover blocks
     (λ e. (
       λ c. (item_entry blocks e).1 (block_goes n s t segs others cover blocks w e.0 ((item_entry cover e).0 c)),

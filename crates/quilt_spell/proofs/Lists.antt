@@ -1,10 +1,12 @@
 -- Lists of which no element stands twice: how they are made, and that two with the same elements are of one length.
-use Rattle.std.proofs.Common.{◌≡◌, ◌≤◌, Bool, true, false, cond, List, [], ◌∷◌, ◌++◌, map, length, sym, ◌∙◌, ap, subst, ⊎_elim, arith, Contains, filter, flat_map, length-append, Ordering, Less, Equal}
+use Rattle.std.proofs.Common.{◌≡◌, ◌≤◌, Bool, true, false, cond, List, [], ◌∷◌, ◌++◌, map, length, sym, ◌∙◌, ap, subst, ⊎_elim, arith, Contains, filter}
+use Rattle.std.proofs.Common.{flat_map, length-append, Ordering, Less, Equal}
 use Rattle.std.specs.Cmp.{IsTotalOrder, tied_itself}
 use Rattle.std.proofs.lemmas.List.Elements.{Contains-append_left, Contains-append_right, Contains-append_cases}
 use Rattle.quilt_loc.specs.Codes.{Rises}
 use Rattle.quilt_spell.specs.Apart.{Apart, SameMembers}
-use Rattle.quilt_loc.proofs.Members.{Contains-nil, Contains-here, Contains-there, Contains-cons_cases, Contains-filter_from, Contains-map_from, Contains-flat_map_from}
+use Rattle.quilt_loc.proofs.Members.{Contains-nil, Contains-here, Contains-there, Contains-cons_cases, Contains-filter_from, Contains-map_from}
+use Rattle.quilt_loc.proofs.Members.{Contains-flat_map_from}
 
 Less≢Equal : Less ≡ Equal → ⊥
 Less≢Equal e = cc

@@ -1,5 +1,6 @@
 -- The loops that take records out of a tree and put records in, one step on.
-use Rattle.std.proofs.Common.{◌≡◌, ℕ, zero, suc, ◌+◌, ◌<◌, Bool, true, false, not, ◌||◌, ◌⊎◌, List, [], ◌∷◌, ◌++◌, length, take, get_or, refl, sym, ◌∙◌, ap, subst, ⊎_elim, arith, Contains, filter, count_by, Ordering, Less, Equal, Greater}
+use Rattle.std.proofs.Common.{◌≡◌, ℕ, zero, suc, ◌+◌, ◌<◌, Bool, true, false, not, ◌||◌, ◌⊎◌, List, [], ◌∷◌, ◌++◌, length, take, get_or, refl, sym, ◌∙◌, ap}
+use Rattle.std.proofs.Common.{subst, ⊎_elim, arith, Contains, filter, count_by, Ordering, Less, Equal, Greater}
 use Rattle.std.specs.Ordering.{is_eq}
 use Rattle.std.specs.List.{list_any}
 use Rattle.std.specs.Cmp.{tied_itself}
@@ -36,17 +37,20 @@ given_push : (rs xs : List Record) (x : Record) → given rs (xs ++ x ∷ []) �
 given_push rs [] x = refl
 given_push rs (y ∷ ys) x = given_push (put y rs) ys x
 
-pub taken_more : (rs removed : List Record) (i : ℕ) (d : Record) → i < length removed → taken rs (take (i + 1) removed) ≡ without (get_or removed i d).key (taken rs (take i removed))
+pub taken_more : (rs removed : List Record) (i : ℕ) (d : Record) → i < length removed
+    → taken rs (take (i + 1) removed) ≡ without (get_or removed i d).key (taken rs (take i removed))
 taken_more rs removed i d lt = ap (taken rs) (take_more removed i d lt) ∙ taken_push rs (take i removed) (get_or removed i d)
 
-pub given_more : (rs added : List Record) (i : ℕ) (d : Record) → i < length added → given rs (take (i + 1) added) ≡ put (get_or added i d) (given rs (take i added))
+pub given_more : (rs added : List Record) (i : ℕ) (d : Record) → i < length added
+    → given rs (take (i + 1) added) ≡ put (get_or added i d) (given rs (take i added))
 given_more rs added i d lt = ap (given rs) (take_more added i d lt) ∙ given_push rs (take i added) (get_or added i d)
 
 -- ---- what stands in a front of a list
 front_member : {X : Type 0} (i : ℕ) (xs : List X) (x : X) → Contains (take i xs) x → Contains xs x
 front_member zero xs x c = absurd (Contains-nil x c)
 front_member (suc i) [] x c = absurd (Contains-nil x c)
-front_member (suc i) (y ∷ ys) x c = ⊎_elim (λ e. subst (Contains (y ∷ ys)) e (Contains-here y ys)) (λ d. Contains-there y ys x (front_member i ys x d)) (Contains-cons_cases y (take i ys) x c)
+front_member (suc i) (y ∷ ys) x c =
+    ⊎_elim (λ e. subst (Contains (y ∷ ys)) e (Contains-here y ys)) (λ d. Contains-there y ys x (front_member i ys x d)) (Contains-cons_cases y (take i ys) x c)
 
 front_apart : {X : Type 0} (i : ℕ) (xs : List X) → Apart xs → Apart (take i xs)
 front_apart zero xs h = tt
@@ -58,14 +62,16 @@ next_apart zero xs d h lt c = Contains-nil _ c
 next_apart (suc i) [] d h lt c = absurd (omega arith)
 next_apart (suc i) (y ∷ ys) d h lt c =
     let less : i < length ys = omega arith in
-    ⊎_elim (λ e. h.0 (subst (Contains ys) (sym e) (Contains-get_or ys i d less))) (λ m. next_apart i ys d h.1 less m) (Contains-cons_cases y (take i ys) (get_or ys i d) c)
+    ⊎_elim (λ e. h.0 (subst (Contains ys) (sym e) (Contains-get_or ys i d less))) (λ m. next_apart i ys d h.1 less m)
+    (Contains-cons_cases y (take i ys) (get_or ys i d) c)
 
 next_key : (i : ℕ) (rs : List Record) (d s : Record) → KeysApart rs → i < length rs → Contains (take i rs) s → (get_or rs i d).key ≡ s.key → ⊥
 next_key zero rs d s h lt c e = Contains-nil s c
 next_key (suc i) [] d s h lt c e = absurd (omega arith)
 next_key (suc i) (y ∷ ys) d s h lt c e =
     let less : i < length ys = omega arith in
-    ⊎_elim (λ is. h.0 (get_or ys i d) (Contains-get_or ys i d less) (ap (λ (q : Record). q.key) is ∙ sym e)) (λ m. next_key i ys d s h.1 less m e) (Contains-cons_cases y (take i ys) s c)
+    ⊎_elim (λ is. h.0 (get_or ys i d) (Contains-get_or ys i d less) (ap (λ (q : Record). q.key) is ∙ sym e)) (λ m. next_key i ys d s h.1 less m e)
+    (Contains-cons_cases y (take i ys) s c)
 
 -- ---- what the tree asks and answers
 pub has_some : (rs : List Record) (r : Record) → Contains rs r → list_any (has_key r.key) rs ≡ true
@@ -127,7 +133,8 @@ pub given_length : (rs added : List Record) → length (given rs added) ≡ leng
 given_length rs [] = omega arith
 given_length rs (r ∷ added) = let g = given_length (put r rs) added in let p = put_length r rs in omega arith
 
-pub taken_length : (rs removed : List Record) → Rises by_key rs → Apart removed → ((r : Record) → Contains removed r → Contains rs r) → length (taken rs removed) + length removed ≡ length rs
+pub taken_length : (rs removed : List Record) → Rises by_key rs → Apart removed → ((r : Record) → Contains removed r → Contains rs r)
+    → length (taken rs removed) + length removed ≡ length rs
 taken_length rs [] up once there = omega arith
 taken_length rs (r ∷ removed) up once there =
     let here = there r (Contains-here r removed) in
@@ -148,6 +155,7 @@ none_pass p xs h = sym (length-filter p xs) ∙ empty (filter p xs) (λ x c. let
 pub changes_none : (n : ℕ) (layers : Map) → changes n layers layers ≡ 0
 unfolding lost
 changes_none n layers =
-    let z : lost n layers layers ≡ 0 = none_pass (λ f. not (is_fact_of (all_facts n layers) f)) (all_facts n layers) (λ f c t. not_true (is_fact_of (all_facts n layers) f) t (fact_of_is (all_facts n layers) f c)) in
+    let z : lost n layers layers ≡ 0 = none_pass (λ f. not (is_fact_of (all_facts n layers) f)) (all_facts n layers)
+    (λ f c t. not_true (is_fact_of (all_facts n layers) f) t (fact_of_is (all_facts n layers) f c)) in
     let c = changes_are n layers layers in
     omega arith

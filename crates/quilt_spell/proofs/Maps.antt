@@ -1,5 +1,6 @@
 -- The entries of a finite map as members of a list, and the members of a set that is made of a list.
-use Rattle.std.proofs.Common.{◌≡◌, ◌↔◌, Bool, true, false, T, ◌&&◌, ◌⊎◌, List, [], ◌∷◌, Some, None, refl, sym, ◌∙◌, ap, subst, inl, inr, ⊎_elim, Contains, Ordering, Less, Equal, Greater}
+use Rattle.std.proofs.Common.{◌≡◌, ◌↔◌, Bool, true, false, T, ◌&&◌, ◌⊎◌, List, [], ◌∷◌, Some, None, refl, sym, ◌∙◌, ap, subst, inl, inr, ⊎_elim, Contains}
+use Rattle.std.proofs.Common.{Ordering, Less, Equal, Greater}
 use Rattle.std.specs.Ordering.{is_lt, is_eq, eq_by_cmp, ordering_reverse}
 use Rattle.std.specs.Cmp.{IsTotalOrder, tied_itself}
 use Rattle.std.specs.FinMap as finmap
@@ -87,7 +88,8 @@ module _ {K X : Type 0} (R : K → K → Ordering) where
     found_from [] h e c = absurd (Contains-nil e c)
     found_from (f ∷ fs) h e c =
         ⊎_elim
-        (λ is. subst (λ (g : K × X). sorted.find R g.0 (f ∷ fs) ≡ Some g.1) is (cond-true (eq_by_cmp R f.0 f.0) (Some f.1) (sorted.find R f.0 fs) (ap is_eq (tied_itself o f.0))))
+        (λ is. subst (λ (g : K × X). sorted.find R g.0 (f ∷ fs) ≡ Some g.1) is
+        (cond-true (eq_by_cmp R f.0 f.0) (Some f.1) (sorted.find R f.0 fs) (ap is_eq (tied_itself o f.0))))
         (λ d. cond-false (eq_by_cmp R e.0 f.0) (Some f.1) (sorted.find R e.0 fs) (apart_is R o e.0 f.0 (h.0 e d)) ∙ found_from fs h.1 e d)
         (Contains-cons_cases f fs e c)
 
@@ -131,7 +133,9 @@ module _ {K : Type 0} (R : K → K → Ordering) (o : IsTotalOrder R) (same : Is
   member_from_list [] k c = absurd (no_value tt (sym (finmap.get-empty {X = Unit {0}} R k) ∙ (item_is finset.empty k).0 c))
   member_from_list (l ∷ ls) k c =
       ⊎_elim (λ e. subst (Contains (l ∷ ls)) (sym e) (Contains-here l ls))
-      (λ d. Contains-there l ls k (member_from_list ls k ((item_is (finset.from_list ls) k).1 (sym (get_others R o same (finset.from_list ls) l tt k d) ∙ (item_is (finset.from_list (l ∷ ls)) k).0 c))))
+      (λ d. Contains-there l ls k
+      (member_from_list ls k ((item_is (finset.from_list ls) k).1
+      (sym (get_others R o same (finset.from_list ls) l tt k d) ∙ (item_is (finset.from_list (l ∷ ls)) k).0 c))))
       (same_or_not R o same k l)
 
   pub from_list_member : (ks : List K) (k : K) → Contains ks k → Contains (finset.items (finset.from_list {R = R} ks)) k
@@ -139,7 +143,8 @@ module _ {K : Type 0} (R : K → K → Ordering) (o : IsTotalOrder R) (same : Is
   from_list_member (l ∷ ls) k c =
       ⊎_elim
       (λ e. (item_is (finset.from_list (l ∷ ls)) k).1 (ap (finmap.get (finset.from_list (l ∷ ls))) e ∙ get_inserted R o same (finset.from_list ls) l tt))
-      (λ d. (item_is (finset.from_list (l ∷ ls)) k).1 (get_others R o same (finset.from_list ls) l tt k d ∙ (item_is (finset.from_list ls) k).0 (from_list_member ls k (tail c d))))
+      (λ d. (item_is (finset.from_list (l ∷ ls)) k).1
+      (get_others R o same (finset.from_list ls) l tt k d ∙ (item_is (finset.from_list ls) k).0 (from_list_member ls k (tail c d))))
       (same_or_not R o same k l)
     where
       tail : Contains (l ∷ ls) k → (k ≡ l → ⊥) → Contains ls k

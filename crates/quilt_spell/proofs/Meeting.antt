@@ -21,7 +21,8 @@ use Rattle.quilt_spell.proofs.Edits.{alone_apart}
 use Rattle.quilt_spell.proofs.Stepping.{old_fits, least_of}
 
 -- each valid map is spelled by its records
-pub spelled_exists : (form n : ℕ) (numbers : Numbering) (layers : Map) → n ≤ 12 → IsMap form n layers → IsNumbering layers numbers → SpellsUnder form n numbers (records_of n numbers layers) layers
+pub spelled_exists : (form n : ℕ) (numbers : Numbering) (layers : Map) → n ≤ 12 → IsMap form n layers → IsNumbering layers numbers
+    → SpellsUnder form n numbers (records_of n numbers layers) layers
 spelled_exists form n numbers layers le h num = record {
   map = h;
   numbering = num;
@@ -36,7 +37,8 @@ empty_spells form n =
     λ name l at. (let z : None ≡ Some l = sym (finmap.get-empty (slice_cmp nat_cmp) name) ∙ at in cc) in
     let none : (name : List ℕ) (k : ℕ) → finmap.get {R = slice_cmp nat_cmp} finmap.empty name ≡ Some k → ⊥ =
     λ name k at. (let z : None ≡ Some k = sym (finmap.get-empty (slice_cmp nat_cmp) name) ∙ at in cc) in
-    let zero' : length (finmap.entries {X = Layer} {R = slice_cmp nat_cmp} finmap.empty) ≡ 0 = sym (finmap.len-entries finmap.empty) ∙ finmap.len-empty (slice_cmp nat_cmp) Layer in
+    let zero' : length (finmap.entries {X = Layer} {R = slice_cmp nat_cmp} finmap.empty) ≡ 0 =
+    sym (finmap.len-entries finmap.empty) ∙ finmap.len-empty (slice_cmp nat_cmp) Layer in
     let few = finmap.len-empty (slice_cmp nat_cmp) Layer in record {
       map = record {
         few = omega arith;
@@ -60,9 +62,11 @@ numbers_len layers numbers num =
     ∙ length-map (finmap.entries layers) (λ (e : List ℕ × Layer). e.0) ∙ sym (finmap.len-entries layers)
 
 -- each change of a layer has a plan
-pub plan_exists : (form n : ℕ) (numbers : Numbering) (rs : List Record) (layers : Map) (name : List ℕ) (number : ℕ) (new : Option Layer) → n ≤ 12 → SpellsUnder form n numbers rs layers
+pub plan_exists : (form n : ℕ) (numbers : Numbering) (rs : List Record) (layers : Map) (name : List ℕ) (number : ℕ) (new : Option Layer) → n ≤ 12
+    → SpellsUnder form n numbers rs layers
     → IsOne form n new → IsKept (finmap.get layers name) new → IsPlaced layers numbers name number (finmap.get layers name)
-    → IsStep form n layers numbers name number new (records_alone n name number (finmap.get layers name) new) (records_alone n name number new (finmap.get layers name))
+    → IsStep form n layers numbers name number new (records_alone n name number (finmap.get layers name) new)
+    (records_alone n name number new (finmap.get layers name))
 plan_exists form n numbers rs layers name number new le s fits kept placed =
     let old = finmap.get layers name in
     let least = least_of form n numbers rs layers le s name number new [] [] old refl placed in record {

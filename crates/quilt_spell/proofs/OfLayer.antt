@@ -1,5 +1,6 @@
 -- A list that spells a map spells each of its layers, and its catalog.
-use Rattle.std.proofs.Common.{◌≡◌, ℕ, ◌≤◌, Bool, not, ◌⊎◌, List, map, length, Option, Some, None, refl, sym, ◌∙◌, ap, ap₂, subst, inl, inr, ⊎_elim, arith, Contains, filter, eqb, eqb-true, ne_eqb, eq-eqb}
+use Rattle.std.proofs.Common.{◌≡◌, ℕ, ◌≤◌, Bool, not, ◌⊎◌, List, map, length, Option, Some, None, refl, sym, ◌∙◌, ap, ap₂, subst, inl, inr, ⊎_elim, arith}
+use Rattle.std.proofs.Common.{Contains, filter, eqb, eqb-true, ne_eqb, eq-eqb}
 use Rattle.std.specs.Prelude.{◌==◌}
 use Rattle.std.specs.FinMap as finmap
 use Rattle.std.proofs.lemmas.Bool.{cases_Bool, cond-false}
@@ -22,7 +23,8 @@ use Rattle.quilt_spell.proofs.FactMembers.{layer_says}
 use Rattle.quilt_spell.proofs.SameFacts.{among_from, among_is}
 use Rattle.quilt_spell.proofs.Changes.{not_true, not_from}
 use Rattle.quilt_spell.proofs.Edits.{record_with_from, same_capacity}
-use Rattle.quilt_spell.proofs.Written.{by_key_total, number_in_layer, layer_record, layer_record_from, layer_length, layer_apart, number_is, number_fits, name_alone, layer_fits}
+use Rattle.quilt_spell.proofs.Written.{by_key_total, number_in_layer, layer_record, layer_record_from, layer_length, layer_apart, number_is, number_fits}
+use Rattle.quilt_spell.proofs.Written.{name_alone, layer_fits}
 
 same_some : {X : Type 0} (v w : X) → Some v ≡ Some w → v ≡ w
 same_some v w e = cc
@@ -33,10 +35,13 @@ kind_there n (Points capacity points) = Contains-here _ _
 kind_there n (Lines threshold segs cover) = Contains-here _ _
 
 -- only the fact of the kind is written in the catalog
-pub kind_only : (form n : ℕ) (l : Layer) (c k : ℕ) (name : List ℕ) (f : Fact) → IsLayer form n l → 1 ≤ k → Contains (facts n l) f → (record_of n c name k f).key.layer ≡ 0 → f ≡ kind_fact l
+pub kind_only : (form n : ℕ) (l : Layer) (c k : ℕ) (name : List ℕ) (f : Fact) → IsLayer form n l → 1 ≤ k → Contains (facts n l) f
+    → (record_of n c name k f).key.layer ≡ 0 → f ≡ kind_fact l
 kind_only form n (Region grid) c k name (IsOfKind i j) h le there e = let s = layer_says form n (Region grid) h (IsOfKind i j) there in ap₂ IsOfKind s.0 s.1
-kind_only form n (Points capacity points) c k name (IsOfKind i j) h le there e = let s = layer_says form n (Points capacity points) h (IsOfKind i j) there in ap₂ IsOfKind s.0 s.1
-kind_only form n (Lines threshold segs cover) c k name (IsOfKind i j) h le there e = let s = layer_says form n (Lines threshold segs cover) h (IsOfKind i j) there in ap₂ IsOfKind s.0 s.1
+kind_only form n (Points capacity points) c k name (IsOfKind i j) h le there e = let s =
+    layer_says form n (Points capacity points) h (IsOfKind i j) there in ap₂ IsOfKind s.0 s.1
+kind_only form n (Lines threshold segs cover) c k name (IsOfKind i j) h le there e = let s =
+    layer_says form n (Lines threshold segs cover) h (IsOfKind i j) there in ap₂ IsOfKind s.0 s.1
 kind_only form n l c k name (HasColour b d) h le there e = absurd (omega arith)
 kind_only form n l c k name (HoldsPoint b p d) h le there e = absurd (omega arith)
 kind_only form n l c k name (HoldsNoPoint b) h le there e = absurd (omega arith)
@@ -48,7 +53,8 @@ module _ (form n : ℕ) (numbers : Numbering) (rs : List Record) (layers : Map) 
   -- each layer
   pub layer_spelled : (name : List ℕ) (l : Layer) → finmap.get layers name ≡ Some l → SpellsLayer n rs name (number_of numbers name) l
   layer_spelled name l at = record {
-    each = λ f c. (s.written (record_of n (capacity_of l) name (number_of numbers name) f)).1 (record { name = name; layer = l; at = at; written = layer_record n name (number_of numbers name) l f c });
+    each = λ f c. (s.written (record_of n (capacity_of l) name (number_of numbers name) f)).1
+        (record { name = name; layer = l; at = at; written = layer_record n name (number_of numbers name) l f c });
     only = λ r c e.
         let w = (s.written r).0 c in
         let here = number_in_layer n w.name (number_of numbers w.name) w.layer r (number_fits layers numbers s.numbering w.name w.layer w.at).0 w.written in
@@ -62,13 +68,15 @@ module _ (form n : ℕ) (numbers : Numbering) (rs : List Record) (layers : Map) 
   pub catalog_each : (name : List ℕ) (l : Layer) → finmap.get layers name ≡ Some l → Contains rs (kind_record n name (number_of numbers name) l)
   catalog_each name l at = (layer_spelled name l at).each (kind_fact l) (kind_there n l)
 
-  pub catalog_only : (r : Record) → Contains rs r → r.key.layer ≡ 0 → (name : List ℕ) × (l : Layer) × (finmap.get layers name ≡ Some l) × (r ≡ kind_record n name (number_of numbers name) l)
+  pub catalog_only : (r : Record) → Contains rs r → r.key.layer ≡ 0 → (name : List ℕ) × (l : Layer) × (finmap.get layers name ≡ Some l)
+      × (r ≡ kind_record n name (number_of numbers name) l)
   catalog_only r c e =
       let w = (s.written r).0 c in
       let m = layer_record_from n w.name (number_of numbers w.name) w.layer r w.written in
       let fits = layer_fits form n numbers layers le s.map s.numbering w.name w.layer w.at in
       let least = (number_fits layers numbers s.numbering w.name w.layer w.at).0 in
-      let kind = kind_only form n w.layer (capacity_of w.layer) (number_of numbers w.name) w.name m.0 fits least m.1 (ap (λ (q : Record). q.key.layer) m.2 ∙ e) in
+      let kind =
+      kind_only form n w.layer (capacity_of w.layer) (number_of numbers w.name) w.name m.0 fits least m.1 (ap (λ (q : Record). q.key.layer) m.2 ∙ e) in
       (w.name, w.layer, w.at, sym m.2 ∙ ap (record_of n (capacity_of w.layer) w.name (number_of numbers w.name)) kind)
 
   -- a region layer
@@ -83,7 +91,8 @@ module _ (form n : ℕ) (numbers : Numbering) (rs : List Record) (layers : Map) 
             let number : number_in r.key ≡ k = cond-false (eqb r.key.layer 0) r.key.item r.key.layer (ne_eqb r.key.layer 0 (λ z. absurd (omega arith))) ∙ e in
             let m = layer_record_from n name k (Region g) r (l.only r c number) in
             ⊎_elim
-            (λ kind. let zero' : 0 ≡ k = ap (λ (f : Fact). (record_of n 0 name k f).key.layer) kind ∙ ap (λ (q : Record). q.key.layer) m.2 ∙ e in absurd (omega arith))
+            (λ kind. let zero' : 0 ≡ k = ap (λ (f : Fact). (record_of n 0 name k f).key.layer) kind ∙ ap (λ (q : Record). q.key.layer) m.2 ∙ e in
+            absurd (omega arith))
             (λ leaf.
             let d = Contains-map_from fact (leaves n g) m.0 leaf in
             subst (Contains (map (leaf_record n k) (leaves n g))) (ap (λ (f : Fact). record_of n 0 name k f) d.2 ∙ m.2)
@@ -95,7 +104,8 @@ module _ (form n : ℕ) (numbers : Numbering) (rs : List Record) (layers : Map) 
   pub layer_ascends : (k : ℕ) → Rises by_key (filter (λ r. number_in r.key == k) rs)
   layer_ascends k = Rises-filter by_key (λ (r : Record). number_in r.key == k) rs s.ascending
 
-  pub layer_count : (name : List ℕ) (l : Layer) → finmap.get layers name ≡ Some l → length (filter (λ r. number_in r.key == number_of numbers name) rs) ≡ length (facts n l)
+  pub layer_count : (name : List ℕ) (l : Layer) → finmap.get layers name ≡ Some l
+      → length (filter (λ r. number_in r.key == number_of numbers name) rs) ≡ length (facts n l)
   layer_count name l at =
       let k = number_of numbers name in
       let test : Record → Bool = λ r. number_in r.key == k in
@@ -122,18 +132,21 @@ module _ (n : ℕ) (name : List ℕ) (k : ℕ) (g other : Grid) where
       let m = Contains-map_from (record_of n 0 name k) (filter test (facts n (Region g))) r c in
       let w = Contains-filter_from test (facts n (Region g)) m.0 m.1 in
       ⊎_elim
-      (λ kind. absurd (not_true (is_among (facts n (Region other)) m.0) w.1 (among_is (facts n (Region other)) m.0 (subst (Contains (facts n (Region other))) kind (kind_there n (Region other))))))
+      (λ kind. absurd (not_true (is_among (facts n (Region other)) m.0) w.1
+      (among_is (facts n (Region other)) m.0 (subst (Contains (facts n (Region other))) kind (kind_there n (Region other))))))
       (λ leaf.
       let d = Contains-map_from fact (leaves n g) m.0 leaf in (
         d.0,
         d.1,
         λ there. not_true (is_among (facts n (Region other)) m.0) w.1 (among_is (facts n (Region other)) m.0
-            (subst (Contains (facts n (Region other))) d.2 (Contains-there (IsOfKind 1 0) (map fact (leaves n other)) (fact d.0) (Contains-map fact (leaves n other) d.0 there)))),
+            (subst (Contains (facts n (Region other))) d.2
+            (Contains-there (IsOfKind 1 0) (map fact (leaves n other)) (fact d.0) (Contains-map fact (leaves n other) d.0 there)))),
         ap (λ (f : Fact). record_of n 0 name k f) d.2 ∙ m.2,
       ))
       (Contains-cons_cases (IsOfKind 1 0) (map fact (leaves n g)) m.0 w.0)
 
-  pub region_alone_is : (e : Block × ℕ) → Contains (leaves n g) e → (Contains (leaves n other) e → ⊥) → Contains (records_alone n name k (Some (Region g)) (Some (Region other))) (leaf_record n k e)
+  pub region_alone_is : (e : Block × ℕ) → Contains (leaves n g) e → (Contains (leaves n other) e → ⊥)
+      → Contains (records_alone n name k (Some (Region g)) (Some (Region other))) (leaf_record n k e)
   region_alone_is e c away =
       let fact : Block × ℕ → Fact = λ e. HasColour e.0 e.1 in
       let test : Fact → Bool = λ f. not (is_among (facts n (Region other)) f) in
@@ -171,7 +184,8 @@ module _ (form n : ℕ) (layers : Map) (numbers : Numbering) (name : List ℕ) (
       let k = Contains-filter_from (λ f. not (is_among (facts_in n old) f)) (facts_in n new) g.fact g.of in
       let in_new = subst (λ (o : Option Layer). Contains (facts_in n o) g.fact) g.is k.0 in
       let there = number_in_layer n w.name (number_of numbers w.name) w.layer s (number_fits layers numbers num w.name w.layer w.at).0 w.written in
-      let here = number_in_layer n name number g.value r least (subst (Contains (layer_records n name number g.value)) g.written (layer_record n name number g.value g.fact in_new)) in
+      let here = number_in_layer n name number g.value r least
+      (subst (Contains (layer_records n name number g.value)) g.written (layer_record n name number g.value g.fact in_new)) in
       let same : number_of numbers w.name ≡ number = sym there ∙ ap number_in (sym e) ∙ here in
       ⊎_elim
       (λ none. free none w.name (number_is layers numbers num w.name w.layer w.at ∙ ap Some same))
@@ -195,7 +209,8 @@ module _ (form n : ℕ) (layers : Map) (numbers : Numbering) (name : List ℕ) (
       let alone = Contains-filter (λ f. not (is_among (facts_in n new) f)) (facts_in n old) m.0 in_old (ap not f) in
       let gone : Contains (records_alone n name number old new) s =
       subst (λ (o : Option Layer). Contains (records_with n name number o (facts_alone n old new)) s) (sym some.1)
-      (subst (Contains (records_with n name number (Some l) (facts_alone n old new))) m.2 (Contains-map (record_of n (capacity_of l) name number) (facts_alone n old new) m.0 alone)) in
+      (subst (Contains (records_with n name number (Some l) (facts_alone n old new))) m.2
+      (Contains-map (record_of n (capacity_of l) name number) (facts_alone n old new) m.0 alone)) in
       stays ((leads.remove s).1 gone))
       (cases_Bool (is_among (facts_in n new) m.0)))
       (none_or_some old)

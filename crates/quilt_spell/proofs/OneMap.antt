@@ -1,5 +1,6 @@
 -- One map at most is spelled by one list of records.
-use Rattle.std.proofs.Common.{◌≡◌, ℕ, ◌≤◌, true, false, List, [], ◌∷◌, ◌++◌, take, Option, Some, None, refl, sym, ◌∙◌, ap, subst, ⊎_elim, arith, Contains, eqb, eqb-true, eq-eqb}
+use Rattle.std.proofs.Common.{◌≡◌, ℕ, ◌≤◌, true, false, List, [], ◌∷◌, ◌++◌, take, Option, Some, None, refl, sym, ◌∙◌, ap, subst, ⊎_elim, arith, Contains, eqb}
+use Rattle.std.proofs.Common.{eqb-true, eq-eqb}
 use Rattle.std.specs.Prelude.{slice_index}
 use Rattle.std.specs.Cmp.Lexicographic.{nat_list_cmp_total}
 use Rattle.std.specs.FinMap as finmap
@@ -25,7 +26,8 @@ extent_of (Region grid) = 0
 extent_of (Points capacity points) = capacity
 extent_of (Lines threshold segs cover) = threshold
 
-pub kind_value : (n : ℕ) (name : List ℕ) (k : ℕ) (l : Layer) → (kind_record n name k l).value ≡ filled 12 name ++ kind_of l ∷ kind_number (kind_of l) (extent_of l) ∷ 0 ∷ 0 ∷ []
+pub kind_value : (n : ℕ) (name : List ℕ) (k : ℕ) (l : Layer) → (kind_record n name k l).value ≡ filled 12 name ++ kind_of l
+    ∷ kind_number (kind_of l) (extent_of l) ∷ 0 ∷ 0 ∷ []
 kind_value n name k (Region grid) = refl
 kind_value n name k (Points capacity points) = refl
 kind_value n name k (Lines threshold segs cover) = refl
@@ -51,7 +53,8 @@ capacity_alone a b la lb e =
     (cases_Bool (eqb a 1))
 
 -- layers of which the catalog says the same
-pub kinds_alone : (form n : ℕ) (l m : Layer) → IsLayer form n l → IsLayer form n m → kind_of l ≡ kind_of m → kind_number (kind_of l) (extent_of l) ≡ kind_number (kind_of m) (extent_of m) → kind_fact l ≡ kind_fact m
+pub kinds_alone : (form n : ℕ) (l m : Layer) → IsLayer form n l → IsLayer form n m → kind_of l ≡ kind_of m
+    → kind_number (kind_of l) (extent_of l) ≡ kind_number (kind_of m) (extent_of m) → kind_fact l ≡ kind_fact m
 kinds_alone form n (Region g) (Region h) hl hm e x = refl
 kinds_alone form n (Points a p) (Points b q) hl hm e x = ap (IsOfKind 2) (capacity_alone a b hl.least hm.least x)
 kinds_alone form n (Lines s p c) (Lines t q d) hl hm e x = ap (IsOfKind 3) x
@@ -67,7 +70,8 @@ some_part n c k name (IsMetBy b i) h = omega arith
 some_part n c k name (IsMetByNone b) h = omega arith
 
 module _ (form n : ℕ) (rs : List Record) (le : n ≤ 12) where
-  carry : (l m : Layer) (name other : List ℕ) (k j : ℕ) → IsLayer form n l → IsLayer form n m → 1 ≤ k → k ≡ j → kind_fact l ≡ kind_fact m → SpellsLayer n rs name k l → SpellsLayer n rs other j m
+  carry : (l m : Layer) (name other : List ℕ) (k j : ℕ) → IsLayer form n l → IsLayer form n m → 1 ≤ k → k ≡ j → kind_fact l ≡ kind_fact m
+      → SpellsLayer n rs name k l → SpellsLayer n rs other j m
       → (f : Fact) → Contains (facts n l) f → Contains (facts n m) f
   carry l m name other k j hl hm least same kinds sl sm f c =
       let r = record_of n (capacity_of l) name k f in
@@ -99,11 +103,14 @@ module _ (form n : ℕ) (rs : List Record) (le : n ≤ 12) where
         let long = names.name_long name named in
         let long' = names.name_long other named' in
         let is : name ≡ other =
-        names.name_alone name other named named' (sym (names.first_twelve (filled 12 name) rest_l long) ∙ ap (take 12) value ∙ names.first_twelve (filled 12 other) rest_m long') in
+        names.name_alone name other named named' (sym (names.first_twelve (filled 12 name) rest_l long) ∙ ap (take 12) value
+        ∙ names.first_twelve (filled 12 other) rest_m long') in
         let kind : kind_of l ≡ kind_of m =
-        sym (names.place_behind (filled 12 name) rest_l 0 long) ∙ ap (λ (v : List ℕ). slice_index v 12) value ∙ names.place_behind (filled 12 other) rest_m 0 long' in
+        sym (names.place_behind (filled 12 name) rest_l 0 long) ∙ ap (λ (v : List ℕ). slice_index v 12) value
+        ∙ names.place_behind (filled 12 other) rest_m 0 long' in
         let extent : kind_number (kind_of l) (extent_of l) ≡ kind_number (kind_of m) (extent_of m) =
-        sym (names.place_behind (filled 12 name) rest_l 1 long) ∙ ap (λ (v : List ℕ). slice_index v 13) value ∙ names.place_behind (filled 12 other) rest_m 1 long' in
+        sym (names.place_behind (filled 12 name) rest_l 1 long) ∙ ap (λ (v : List ℕ). slice_index v 13) value
+        ∙ names.place_behind (filled 12 other) rest_m 1 long' in
         let hl = layer_fits form n numbers a le s.map s.numbering name l at in
         let hm = layer_fits form n others b le t.map t.numbering other m q.2 in
         let kinds = kinds_alone form n l m hl hm kind extent in
@@ -127,4 +134,5 @@ one_map form n rs a b le s t =
     let u = spells_under form n rs a le s in
     let v = spells_under form n rs b le t in
     finmap.same_map nat_list_cmp_total name_same a b
-    (λ name. none_or_same (finmap.get a name) (finmap.get b name) (half form n rs le s.numbers t.numbers a b u v name) (half form n rs le t.numbers s.numbers b a v u name))
+    (λ name. none_or_same (finmap.get a name) (finmap.get b name) (half form n rs le s.numbers t.numbers a b u v name)
+    (half form n rs le t.numbers s.numbers b a v u name))

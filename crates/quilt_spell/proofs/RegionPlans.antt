@@ -42,7 +42,8 @@ module _ (n : ℕ) (g : Grid) (e : Block × ℕ) where
   leaf_true c = member_any test (leaves n g) e c (and_from (same_block e.0 e.0) (eqb e.1 e.1) (block_itself e.0) (itself e.1))
 
 -- the leaves in the order of their codes that are none of the other grid's
-pub alone_from_filter : (n : ℕ) (g other : Grid) (es : List (Block × ℕ)) → Rises by_code es → SameMembers es (leaves n g) → IsAlone n g other (filter (λ e. not (is_leaf n other e)) es)
+pub alone_from_filter : (n : ℕ) (g other : Grid) (es : List (Block × ℕ)) → Rises by_code es → SameMembers es (leaves n g)
+    → IsAlone n g other (filter (λ e. not (is_leaf n other e)) es)
 alone_from_filter n g other es up are =
     let out : Block × ℕ → Bool = λ e. not (is_leaf n other e) in record {
       once = Apart-filter out es (Apart-rises by_code (on_total (λ (e : Block × ℕ). code_from e.0) nat_cmp_total) es up);
@@ -55,6 +56,8 @@ alone_from_filter n g other es up are =
 -- es and fs: the leaves of both grids in the order of their codes
 pub region_plan : (form n : ℕ) (name : List ℕ) (number : ℕ) → n ≤ 12 → (g h : Grid) → IsGrid form n g → IsGrid form n h → (es fs : List (Block × ℕ))
     → Rises by_code es → SameMembers es (leaves n g) → Rises by_code fs → SameMembers fs (leaves n h)
-    → LeadsTo n name number (Some (Region g)) (Some (Region h)) (map (leaf_record n number) (filter (λ e. not (is_leaf n h e)) es)) (map (leaf_record n number) (filter (λ e. not (is_leaf n g e)) fs))
+    → LeadsTo n name number (Some (Region g)) (Some (Region h)) (map (leaf_record n number) (filter (λ e. not (is_leaf n h e)) es))
+    (map (leaf_record n number) (filter (λ e. not (is_leaf n g e)) fs))
 region_plan form n name number le g h hg hh es fs ue ae uf af =
-    region_leads form n name number le g h hg hh (filter (λ e. not (is_leaf n h e)) es) (filter (λ e. not (is_leaf n g e)) fs) (alone_from_filter n g h es ue ae) (alone_from_filter n h g fs uf af)
+    region_leads form n name number le g h hg hh (filter (λ e. not (is_leaf n h e)) es) (filter (λ e. not (is_leaf n g e)) fs)
+    (alone_from_filter n g h es ue ae) (alone_from_filter n h g fs uf af)

@@ -1,5 +1,6 @@
 -- What one command does to a list that spells the map: a layer becomes another, comes, or goes.
-use Rattle.std.proofs.Common.{◌≡◌, ℕ, ◌+◌, ◌-◌, ◌≤◌, Bool, true, false, cond, ◌⊎◌, List, Option, Some, None, refl, sym, ◌∙◌, ap, subst, inl, inr, ⊎_elim, arith, All, nat_cmp}
+use Rattle.std.proofs.Common.{◌≡◌, ℕ, ◌+◌, ◌-◌, ◌≤◌, Bool, true, false, cond, ◌⊎◌, List, Option, Some, None, refl, sym, ◌∙◌, ap, subst, inl, inr, ⊎_elim, arith}
+use Rattle.std.proofs.Common.{All, nat_cmp}
 use Rattle.std.specs.Prelude.{unwrap_or, is_some}
 use Rattle.std.specs.Cmp.Lexicographic.{slice_cmp, nat_list_cmp_total}
 use Rattle.std.specs.FinMap as finmap
@@ -21,20 +22,25 @@ use Rattle.quilt_spell.proofs.Edits.{edited_members}
 module _ (form n : ℕ) (layers : Map) (h : IsMap form n layers) where
   pub name_fits : (name : List ℕ) (l : Layer) → finmap.get layers name ≡ Some l → is_name name ≡ true
   name_fits name l at =
-      All-contains (λ (e : List ℕ × Layer). is_name e.0 ≡ true) (finmap.entries layers) (name, l) h.named (entry_from_get (slice_cmp nat_cmp) nat_list_cmp_total name_same layers name l at)
+      All-contains (λ (e : List ℕ × Layer). is_name e.0 ≡ true) (finmap.entries layers) (name, l) h.named
+      (entry_from_get (slice_cmp nat_cmp) nat_list_cmp_total name_same layers name l at)
 
   one_fits : (name : List ℕ) (l : Layer) → finmap.get layers name ≡ Some l → IsLayer form n l
   one_fits name l at =
-      All-contains (λ (e : List ℕ × Layer). IsLayer form n e.1) (finmap.entries layers) (name, l) h.each (entry_from_get (slice_cmp nat_cmp) nat_list_cmp_total name_same layers name l at)
+      All-contains (λ (e : List ℕ × Layer). IsLayer form n e.1) (finmap.entries layers) (name, l) h.each
+      (entry_from_get (slice_cmp nat_cmp) nat_list_cmp_total name_same layers name l at)
 
   module _ (name : List ℕ) where
-    few_more : (l : Layer) (o : Option Layer) → finmap.get layers name ≡ o → (o ≡ None → finmap.len layers ≤ 254) → finmap.len (finmap.insert layers name l) ≤ 255
+    few_more : (l : Layer) (o : Option Layer) → finmap.get layers name ≡ o → (o ≡ None → finmap.len layers ≤ 254)
+        → finmap.len (finmap.insert layers name l) ≤ 255
     few_more l None e room =
-        let k = finmap.len-insert nat_list_cmp_total layers name l ∙ ap (λ (o : Option Layer). cond (is_some o) (finmap.len layers) (finmap.len layers + 1)) e in
+        let k =
+        finmap.len-insert nat_list_cmp_total layers name l ∙ ap (λ (o : Option Layer). cond (is_some o) (finmap.len layers) (finmap.len layers + 1)) e in
         let r = room refl in
         omega arith
     few_more l (Some m) e room =
-        let k = finmap.len-insert nat_list_cmp_total layers name l ∙ ap (λ (o : Option Layer). cond (is_some o) (finmap.len layers) (finmap.len layers + 1)) e in
+        let k =
+        finmap.len-insert nat_list_cmp_total layers name l ∙ ap (λ (o : Option Layer). cond (is_some o) (finmap.len layers) (finmap.len layers + 1)) e in
         let f = h.few in
         omega arith
 
@@ -50,7 +56,8 @@ module _ (form n : ℕ) (layers : Map) (h : IsMap form n layers) where
         omega arith
 
     -- what holds of the layer that comes and of those that stay
-    each_entry : (P : List ℕ × Layer → Type 0) (new : Option Layer) → ((l : Layer) → new ≡ Some l → P (name, l)) → ((b : List ℕ) (l : Layer) → finmap.get layers b ≡ Some l → P (b, l)) → All P (finmap.entries (with_layer layers name new))
+    each_entry : (P : List ℕ × Layer → Type 0) (new : Option Layer) → ((l : Layer) → new ≡ Some l → P (name, l))
+        → ((b : List ℕ) (l : Layer) → finmap.get layers b ≡ Some l → P (b, l)) → All P (finmap.entries (with_layer layers name new))
     each_entry P new here there =
         all_from P (finmap.entries (with_layer layers name new))
         (λ e c.
@@ -63,7 +70,8 @@ module _ (form n : ℕ) (layers : Map) (h : IsMap form n layers) where
         (λ d. there e.0 e.1 (sym (got_there layers name new e.0 d) ∙ at))
         (same_or_not (slice_cmp nat_cmp) nat_list_cmp_total name_same e.0 name))
 
-    pub map_with : (l : Layer) → is_name name ≡ true → IsLayer form n l → (finmap.get layers name ≡ None → finmap.len layers ≤ 254) → IsMap form n (finmap.insert layers name l)
+    pub map_with : (l : Layer) → is_name name ≡ true → IsLayer form n l → (finmap.get layers name ≡ None → finmap.len layers ≤ 254)
+        → IsMap form n (finmap.insert layers name l)
     map_with l named fits room = record {
       few = few_more l (finmap.get layers name) refl room;
       named = each_entry (λ e. is_name e.0 ≡ true) (Some l) (λ m _. named) (λ b m at. name_fits b m at);
@@ -101,13 +109,15 @@ module _ (layers : Map) (numbers : Numbering) (num : IsNumbering layers numbers)
   }
 
   -- a name with a number that no other has
-  pub numbers_with : (new : Layer) (number : ℕ) → 1 ≤ number → number ≤ 255 → ((b : List ℕ) → finmap.get numbers b ≡ Some number → ⊥) → IsNumbering (finmap.insert layers name new) (finmap.insert numbers name number)
+  pub numbers_with : (new : Layer) (number : ℕ) → 1 ≤ number → number ≤ 255 → ((b : List ℕ) → finmap.get numbers b ≡ Some number → ⊥)
+      → IsNumbering (finmap.insert layers name new) (finmap.insert numbers name number)
   numbers_with new number least most free =
       let after = finmap.insert numbers name number in
       let here = get_inserted (slice_cmp nat_cmp) nat_list_cmp_total name_same numbers name number in
       let there = get_others (slice_cmp nat_cmp) nat_list_cmp_total name_same numbers name number in
       let which = λ (b : List ℕ). same_or_not (slice_cmp nat_cmp) nat_list_cmp_total name_same b name in
-      let at_name = λ (b : List ℕ) (k : ℕ) (at : finmap.get after b ≡ Some k) (e : b ≡ name). eq_number number k (sym here ∙ ap (finmap.get after) (sym e) ∙ at) in record {
+      let at_name = λ (b : List ℕ) (k : ℕ) (at : finmap.get after b ≡ Some k) (e : b ≡ name). eq_number number k
+      (sym here ∙ ap (finmap.get after) (sym e) ∙ at) in record {
         has = λ b l at. ⊎_elim
             (λ e. (number, ap (finmap.get after) e ∙ here))
             (λ d. let k = num.has b l (sym (got_there layers name (Some new) b d) ∙ at) in (k.0, there b d ∙ k.1)) (which b);
@@ -142,7 +152,8 @@ module _ (layers : Map) (numbers : Numbering) (num : IsNumbering layers numbers)
       }
     where
       still : {b : List ℕ} {k : ℕ} → (b ≡ name) ⊎ (b ≡ name → ⊥) → finmap.get (finmap.remove numbers name) b ≡ Some k → finmap.get numbers b ≡ Some k
-      still {b} {k} (inl e) at = let no : None ≡ Some k = sym (get_removed (slice_cmp nat_cmp) nat_list_cmp_total name_same numbers name) ∙ ap (finmap.get (finmap.remove numbers name)) (sym e) ∙ at in cc
+      still {b} {k} (inl e) at = let no : None ≡ Some k =
+          sym (get_removed (slice_cmp nat_cmp) nat_list_cmp_total name_same numbers name) ∙ ap (finmap.get (finmap.remove numbers name)) (sym e) ∙ at in cc
       still {b} {k} (inr d) at = sym (get_kept (slice_cmp nat_cmp) nat_list_cmp_total name_same numbers name b d) ∙ at
 
 -- ---- the three laws
@@ -191,7 +202,8 @@ module _ (form n : ℕ) (numbers : Numbering) (rs now : List Record) (layers : M
         numbering = numbers_without layers numbers s.numbering name;
         ascending = up;
         written =
-            edited_members form n layers numbers (finmap.remove numbers name) name number None le (number_fits layers numbers s.numbering name old was).0 s.map s.numbering
+            edited_members form n layers numbers (finmap.remove numbers name) name number None le
+            (number_fits layers numbers s.numbering name old was).0 s.map s.numbering
             (λ l _. refl) (λ l e. let no : None ≡ Some l = e in cc)
             (λ b d. ap (λ o. unwrap_or o 0) (get_kept (slice_cmp nat_cmp) nat_list_cmp_total name_same numbers name b d))
             (subst (λ (o : Option Layer). IsKept o None) (sym was) tt) removed added

@@ -33,7 +33,8 @@ unfolding IsDistinct
 one_key [] h d e c k same = absurd (Contains-nil d c)
 one_key (f ∷ fs) h d e c k same =
     let differs = λ (x y : List ℕ × ℕ) (is : f ≡ x) (m : Contains fs y) (q : x.1 ≡ y.1).
-    let apart = All-contains (λ (j : ℕ). nat_eq f.1 j ≡ false) (map (λ (w : List ℕ × ℕ). w.1) fs) y.1 (All-from_recursion (λ (j : ℕ). nat_eq f.1 j ≡ false) (map (λ (w : List ℕ × ℕ). w.1) fs) h.0) (Contains-map (λ (w : List ℕ × ℕ). w.1) fs y m) in
+    let apart = All-contains (λ (j : ℕ). nat_eq f.1 j ≡ false) (map (λ (w : List ℕ × ℕ). w.1) fs) y.1
+    (All-from_recursion (λ (j : ℕ). nat_eq f.1 j ≡ false) (map (λ (w : List ℕ × ℕ). w.1) fs) h.0) (Contains-map (λ (w : List ℕ × ℕ). w.1) fs y m) in
     let eq : nat_eq f.1 y.1 ≡ true = eq-eqb f.1 y.1 (ap (λ (w : List ℕ × ℕ). w.1) is ∙ q) in
     true_false (sym eq ∙ apart) in
     ⊎_elim
@@ -41,7 +42,8 @@ one_key (f ∷ fs) h d e c k same =
     (λ l. ⊎_elim (λ js. absurd (differs e d js l (sym same))) (λ m. one_key fs h.1 d e l m same) (Contains-cons_cases f fs e k))
     (Contains-cons_cases f fs d c)
 
-values_apart : (es : List (List ℕ × ℕ)) → Rises (by_first (slice_cmp nat_cmp)) es → ((d e : List ℕ × ℕ) → Contains es d → Contains es e → d.1 ≡ e.1 → d ≡ e) → IsDistinct nat_eq (map (λ e. e.1) es)
+values_apart : (es : List (List ℕ × ℕ)) → Rises (by_first (slice_cmp nat_cmp)) es
+    → ((d e : List ℕ × ℕ) → Contains es d → Contains es e → d.1 ≡ e.1 → d ≡ e) → IsDistinct nat_eq (map (λ e. e.1) es)
 unfolding IsDistinct
 values_apart [] h one = tt
 values_apart (f ∷ fs) h one = (
@@ -56,7 +58,8 @@ values_apart (f ∷ fs) h one = (
 )
 
 module _ (layers : Map) (numbers : Numbering) where
-  pub numbering_from : finmap.keys numbers ≡ finmap.keys layers → All (λ k. (1 ≤ k) × (k ≤ 255)) (finmap.values numbers) → IsDistinct nat_eq (finmap.values numbers) → IsNumbering layers numbers
+  pub numbering_from : finmap.keys numbers ≡ finmap.keys layers → All (λ k. (1 ≤ k) × (k ≤ 255)) (finmap.values numbers)
+      → IsDistinct nat_eq (finmap.values numbers) → IsNumbering layers numbers
   numbering_from keys fits differ = record {
     has = λ name l at.
         get_from_key (slice_cmp nat_cmp) nat_list_cmp_total name_same numbers name
@@ -66,7 +69,8 @@ module _ (layers : Map) (numbers : Numbering) where
         (subst (λ (ks : List (List ℕ)). Contains ks name) keys (key_from_get (slice_cmp nat_cmp) nat_list_cmp_total name_same numbers name k at));
     in_range = λ name k at.
         All-contains (λ (k : ℕ). (1 ≤ k) × (k ≤ 255)) (finmap.values numbers) k fits
-        (Contains-map (λ (e : List ℕ × ℕ). e.1) (finmap.entries numbers) (name, k) (entry_from_get (slice_cmp nat_cmp) nat_list_cmp_total name_same numbers name k at));
+        (Contains-map (λ (e : List ℕ × ℕ). e.1) (finmap.entries numbers) (name, k)
+        (entry_from_get (slice_cmp nat_cmp) nat_list_cmp_total name_same numbers name k at));
     differ = λ a b k at bt.
         ap (λ (e : List ℕ × ℕ). e.0) (one_key (finmap.entries numbers) differ (a, k) (b, k)
         (entry_from_get (slice_cmp nat_cmp) nat_list_cmp_total name_same numbers a k at)
@@ -79,7 +83,8 @@ module _ (layers : Map) (numbers : Numbering) where
 
     pub numbered_is : finmap.keys numbers ≡ finmap.keys layers
     numbered_is =
-        same_rising (slice_cmp nat_cmp) nat_list_cmp_total (finmap.keys numbers) (finmap.keys layers) (Rises-keys (slice_cmp nat_cmp) numbers) (Rises-keys (slice_cmp nat_cmp) layers)
+        same_rising (slice_cmp nat_cmp) nat_list_cmp_total (finmap.keys numbers) (finmap.keys layers) (Rises-keys (slice_cmp nat_cmp) numbers)
+        (Rises-keys (slice_cmp nat_cmp) layers)
         (λ name. (
           λ c.
               let k = get_from_key (slice_cmp nat_cmp) nat_list_cmp_total name_same numbers name c in

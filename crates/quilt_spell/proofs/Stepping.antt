@@ -1,5 +1,6 @@
 -- The one law of a command: the list that spelled the map spells the new map after the edits, and the counts agree.
-use Rattle.std.proofs.Common.{◌≡◌, ℕ, ◌+◌, ◌≤◌, true, false, List, [], ◌∷◌, length, Option, Some, None, refl, sym, ◌∙◌, ap, subst, ⊎_elim, arith, Contains, nat_cmp, eqb, eqb-true, eq-eqb}
+use Rattle.std.proofs.Common.{◌≡◌, ℕ, ◌+◌, ◌≤◌, true, false, List, [], ◌∷◌, length, Option, Some, None, refl, sym, ◌∙◌, ap, subst, ⊎_elim, arith, Contains}
+use Rattle.std.proofs.Common.{nat_cmp, eqb, eqb-true, eq-eqb}
 use Rattle.std.specs.Prelude.{unwrap_or, slice_index}
 use Rattle.std.specs.List.{range_with_len}
 use Rattle.std.specs.Cmp.{nat_cmp_total}
@@ -34,7 +35,8 @@ use Rattle.quilt_spell.proofs.OneMap.{extent_of, kind_value, some_part, kinds_al
 use Rattle.quilt_record.proofs.Names as names
 
 -- how many records there are
-pub spelled_count : (form n : ℕ) (numbers : Numbering) (rs : List Record) (layers : Map) → n ≤ 12 → SpellsUnder form n numbers rs layers → length rs ≡ records n layers
+pub spelled_count : (form n : ℕ) (numbers : Numbering) (rs : List Record) (layers : Map) → n ≤ 12 → SpellsUnder form n numbers rs layers
+    → length rs ≡ records n layers
 spelled_count form n numbers rs layers le s =
     ap length (spelled_are form n rs layers le numbers s) ∙ records_count form n numbers layers le s.map s.numbering
 
@@ -47,11 +49,13 @@ pub same_number : (numbers : Numbering) (name : List ℕ) (number : ℕ) → fin
 same_number numbers name number e =
     finmap.same_map nat_list_cmp_total name_same (finmap.insert numbers name number) numbers
     (λ q. ⊎_elim
-    (λ is. ap (finmap.get (finmap.insert numbers name number)) is ∙ get_inserted (slice_cmp nat_cmp) nat_list_cmp_total name_same numbers name number ∙ sym e ∙ ap (finmap.get numbers) (sym is))
+    (λ is. ap (finmap.get (finmap.insert numbers name number)) is ∙ get_inserted (slice_cmp nat_cmp) nat_list_cmp_total name_same numbers name number
+    ∙ sym e ∙ ap (finmap.get numbers) (sym is))
     (λ d. get_others (slice_cmp nat_cmp) nat_list_cmp_total name_same numbers name number q d)
     (same_or_not (slice_cmp nat_cmp) nat_list_cmp_total name_same q name))
 
-module _ (form n : ℕ) (numbers : Numbering) (rs : List Record) (layers : Map) (le : n ≤ 12) (s : SpellsUnder form n numbers rs layers) (name : List ℕ) (number : ℕ)
+module _ (form n : ℕ) (numbers : Numbering) (rs : List Record) (layers : Map) (le : n ≤ 12) (s : SpellsUnder form n numbers rs layers)
+    (name : List ℕ) (number : ℕ)
     (new : Option Layer) (removed added : List Record) where
   pub old_fits : (o : Option Layer) → finmap.get layers name ≡ o → IsOne form n o
   old_fits None e = tt
@@ -86,10 +90,12 @@ module _ (form n : ℕ) (numbers : Numbering) (rs : List Record) (layers : Map) 
     pub step_there : (r : Record) → Contains removed r → Contains rs r
     step_there r c =
         (s.written r).1
-        (removed_there form n layers numbers (with_number numbers name number new) name number new le step_least s.map s.numbering step_was after_is after_others step.kept removed added step.leads r c)
+        (removed_there form n layers numbers (with_number numbers name number new) name number new le step_least s.map s.numbering step_was after_is
+        after_others step.kept removed added step.leads r c)
       where
         after_is : (l : Layer) → new ≡ Some l → number_of (with_number numbers name number new) name ≡ number
-        after_is l e = ap (λ (o : Option Layer). number_of (with_number numbers name number o) name) e ∙ ap (λ o. unwrap_or o 0) (get_inserted (slice_cmp nat_cmp) nat_list_cmp_total name_same numbers name number)
+        after_is l e = ap (λ (o : Option Layer). number_of (with_number numbers name number o) name) e
+            ∙ ap (λ o. unwrap_or o 0) (get_inserted (slice_cmp nat_cmp) nat_list_cmp_total name_same numbers name number)
 
         others : (o : Option Layer) (b : List ℕ) → (b ≡ name → ⊥) → number_of (with_number numbers name number o) b ≡ number_of numbers b
         others None b d = ap (λ o. unwrap_or o 0) (get_kept (slice_cmp nat_cmp) nat_list_cmp_total name_same numbers name b d)
@@ -101,14 +107,17 @@ module _ (form n : ℕ) (numbers : Numbering) (rs : List Record) (layers : Map) 
     -- the key of a record to add is that of no record that stays
     pub step_apart : (r t : Record) → Contains added r → Contains rs t → (Contains removed t → ⊥) → r.key ≡ t.key → ⊥
     step_apart r t c d stays e =
-        added_apart form n layers numbers name number new le step_least s.numbering step.fits step_was step_free step.kept removed added step.leads r t c ((s.written t).0 d) stays e
+        added_apart form n layers numbers name number new le step_least s.numbering step.fits step_was step_free step.kept removed added step.leads r
+        t c ((s.written t).0 d) stays e
 
   -- the list after the edits
-  pub step_spells : (now : List Record) → (finmap.get layers name ≡ None → new ≡ None → ⊥) → IsStep form n layers numbers name number new removed added → Rises by_key now → IsEdited rs removed added now
+  pub step_spells : (now : List Record) → (finmap.get layers name ≡ None → new ≡ None → ⊥)
+      → IsStep form n layers numbers name number new removed added → Rises by_key now → IsEdited rs removed added now
       → SpellsUnder form n (with_number numbers name number new) now (with_layer layers name new)
   step_spells now some step up edited = by_case (finmap.get layers name) new refl some step
     where
-      by_case : (o new : Option Layer) → finmap.get layers name ≡ o → (finmap.get layers name ≡ None → new ≡ None → ⊥) → IsStep form n layers numbers name number new removed added
+      by_case : (o new : Option Layer) → finmap.get layers name ≡ o → (finmap.get layers name ≡ None → new ≡ None → ⊥)
+          → IsStep form n layers numbers name number new removed added
           → SpellsUnder form n (with_number numbers name number new) now (with_layer layers name new)
       by_case None None e some step = absurd (some e refl)
       by_case None (Some m) e some step =
@@ -118,18 +127,21 @@ module _ (form n : ℕ) (numbers : Numbering) (rs : List Record) (layers : Map) 
       by_case (Some l) None e some step =
           let p = subst (IsPlaced layers numbers name number) e step.placed in
           layer_goes form n numbers rs now layers le s name removed added up edited l e
-          (subst (λ (k : ℕ). LeadsTo n name k (Some l) None removed added) p (subst (λ (o : Option Layer). LeadsTo n name number o None removed added) e step.leads))
+          (subst (λ (k : ℕ). LeadsTo n name k (Some l) None removed added) p
+          (subst (λ (o : Option Layer). LeadsTo n name number o None removed added) e step.leads))
       by_case (Some l) (Some m) e some step =
           let p = subst (IsPlaced layers numbers name number) e step.placed in
           let kept = subst (λ (o : Option Layer). IsKept o (Some m)) e step.kept in
           let done = layer_becomes form n numbers rs now layers le s name removed added up edited l m e step.fits kept
-          (subst (λ (k : ℕ). LeadsTo n name k (Some l) (Some m) removed added) p (subst (λ (o : Option Layer). LeadsTo n name number o (Some m) removed added) e step.leads)) in
+          (subst (λ (k : ℕ). LeadsTo n name k (Some l) (Some m) removed added) p
+          (subst (λ (o : Option Layer). LeadsTo n name number o (Some m) removed added) e step.leads)) in
           let at = number_is layers numbers s.numbering name l e ∙ ap Some (sym p) in
           subst (λ (w : Numbering). SpellsUnder form n w now (finmap.insert layers name m)) (sym (same_number numbers name number at)) done
 
 -- no record both goes and comes
 module _ (form n : ℕ) (name : List ℕ) (number : ℕ) (le : n ≤ 12) (least : 1 ≤ number) (named : is_name name ≡ true) where
-  pub edits_apart : (old new : Option Layer) (removed added : List Record) → IsOne form n old → IsOne form n new → LeadsTo n name number old new removed added → (r : Record) → Contains removed r → Contains added r → ⊥
+  pub edits_apart : (old new : Option Layer) (removed added : List Record) → IsOne form n old → IsOne form n new
+      → LeadsTo n name number old new removed added → (r : Record) → Contains removed r → Contains added r → ⊥
   edits_apart old new removed added ho hn leads r c d =
       let a = record_with_from n name number old (facts_alone n old new) r ((leads.remove r).0 c) in
       let b = record_with_from n name number new (facts_alone n new old) r ((leads.add r).0 d) in
@@ -154,14 +166,18 @@ module _ (form n : ℕ) (name : List ℕ) (number : ℕ) (le : n ≤ 12) (least 
       let rest_m = kind_of m ∷ kind_number (kind_of m) (extent_of m) ∷ 0 ∷ 0 ∷ [] in
       let long = names.name_long name named in
       let kind : kind_of l ≡ kind_of m =
-      sym (names.place_behind (filled 12 name) rest_l 0 long) ∙ ap (λ (v : List ℕ). slice_index v 12) value ∙ names.place_behind (filled 12 name) rest_m 0 long in
+      sym (names.place_behind (filled 12 name) rest_l 0 long) ∙ ap (λ (v : List ℕ). slice_index v 12) value
+      ∙ names.place_behind (filled 12 name) rest_m 0 long in
       let extent : kind_number (kind_of l) (extent_of l) ≡ kind_number (kind_of m) (extent_of m) =
-      sym (names.place_behind (filled 12 name) rest_l 1 long) ∙ ap (λ (v : List ℕ). slice_index v 13) value ∙ names.place_behind (filled 12 name) rest_m 1 long in
+      sym (names.place_behind (filled 12 name) rest_l 1 long) ∙ ap (λ (v : List ℕ). slice_index v 13) value
+      ∙ names.place_behind (filled 12 name) rest_m 1 long in
       let kinds = kinds_alone form n l m hl hm kind extent in
       fa.1 (subst (Contains (facts_in n new)) (sym (ka ∙ kinds ∙ sym kb)) fb.0))
       (λ no.
-      let part = some_part n (capacity_of l) number name a.fact (λ e. let t = eq-eqb r.key.layer 0 (ap (λ (q : Record). q.key.layer) (sym a.written) ∙ e) in let z : true ≡ false = sym t ∙ no in cc) in
-      let one = fact_of n le (capacity_of l) (capacity_of m) number name name a.fact b.fact (facts_fit n le form l hl a.fact in_l) (facts_fit n le form m hm b.fact in_m) part same in
+      let part = some_part n (capacity_of l) number name a.fact (λ e. let t =
+      eq-eqb r.key.layer 0 (ap (λ (q : Record). q.key.layer) (sym a.written) ∙ e) in let z : true ≡ false = sym t ∙ no in cc) in
+      let one = fact_of n le (capacity_of l) (capacity_of m) number name name a.fact b.fact (facts_fit n le form l hl a.fact in_l)
+      (facts_fit n le form m hm b.fact in_m) part same in
       fa.1 (subst (Contains (facts_in n new)) (sym one) fb.0))
       (cases_Bool (eqb r.key.layer 0))
 

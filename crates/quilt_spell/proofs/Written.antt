@@ -1,5 +1,6 @@
 -- The records of a map: which they are, that they rise by their keys, and how many they are.
-use Rattle.std.proofs.Common.{◌≡◌, ℕ, ◌≤◌, ◌↔◌, List, [], ◌∷◌, length, Some, refl, sym, ◌∙◌, ap, subst, arith, Contains, flat_map, sum_by, eqb, ne_eqb, nat_cmp, Ordering, Less, Equal, Greater}
+use Rattle.std.proofs.Common.{◌≡◌, ℕ, ◌≤◌, ◌↔◌, List, [], ◌∷◌, length, Some, refl, sym, ◌∙◌, ap, subst, arith, Contains, flat_map, sum_by, eqb, ne_eqb, nat_cmp}
+use Rattle.std.proofs.Common.{Ordering, Less, Equal, Greater}
 use Rattle.std.specs.Prelude.{unwrap_or}
 use Rattle.std.specs.Ordering.{ordering_then}
 use Rattle.std.specs.Cmp.{IsTotalOrder, on_total, then_total, tied_itself}
@@ -63,7 +64,8 @@ key_first r s one h = step (key_cmp r.key s.key) refl h
   where
     step : (o : Ordering) → key_cmp r.key s.key ≡ o → ordering_then o (slice_cmp nat_cmp r.value s.value) ≡ Less → o ≡ Less
     step Less e l = refl
-    step Equal e l = let same = one (key_same r.key s.key e) in let tie = tied_itself record_total r in let no : Equal ≡ Less = sym tie ∙ ap (record_cmp r) same ∙ h in cc
+    step Equal e l = let same = one (key_same r.key s.key e) in let tie = tied_itself record_total r in let no : Equal ≡ Less =
+        sym tie ∙ ap (record_cmp r) same ∙ h in cc
     step Greater e l = cc
 
 pub keys_rise : (rs : List Record) → ((r s : Record) → Contains rs r → Contains rs s → r.key ≡ s.key → r ≡ s) → Rises record_cmp rs → Rises by_key rs
@@ -123,7 +125,8 @@ pub layer_record_from : (n : ℕ) (name : List ℕ) (k : ℕ) (l : Layer) (r : R
 unfolding layer_records
 layer_record_from n name k l r c = Contains-map_from (record_of n (capacity_of l) name k) (facts n l) r c
 
-pub layer_record : (n : ℕ) (name : List ℕ) (k : ℕ) (l : Layer) (f : Fact) → Contains (facts n l) f → Contains (layer_records n name k l) (record_of n (capacity_of l) name k f)
+pub layer_record : (n : ℕ) (name : List ℕ) (k : ℕ) (l : Layer) (f : Fact) → Contains (facts n l) f
+    → Contains (layer_records n name k l) (record_of n (capacity_of l) name k f)
 unfolding layer_records
 layer_record n name k l f c = Contains-map (record_of n (capacity_of l) name k) (facts n l) f c
 
@@ -153,7 +156,8 @@ module _ (layers : Map) (numbers : Numbering) (num : IsNumbering layers numbers)
   pub number_fits : (name : List ℕ) (l : Layer) → finmap.get layers name ≡ Some l → (1 ≤ number_of numbers name) × (number_of numbers name ≤ 255)
   number_fits name l at = num.in_range name (number_of numbers name) (number_is name l at)
 
-  pub name_alone : (a b : List ℕ) (l m : Layer) → finmap.get layers a ≡ Some l → finmap.get layers b ≡ Some m → number_of numbers a ≡ number_of numbers b → a ≡ b
+  pub name_alone : (a b : List ℕ) (l m : Layer) → finmap.get layers a ≡ Some l → finmap.get layers b ≡ Some m
+      → number_of numbers a ≡ number_of numbers b → a ≡ b
   name_alone a b l m at bt e = num.differ a b (number_of numbers b) (number_is a l at ∙ ap Some e) (number_is b m bt)
 
 same_layer : (l m : Layer) → Some l ≡ Some m → l ≡ m
@@ -163,7 +167,8 @@ same_layer l m e = cc
 module _ (form n : ℕ) (numbers : Numbering) (layers : Map) (le : n ≤ 12) (h : IsMap form n layers) (num : IsNumbering layers numbers) where
   pub layer_fits : (name : List ℕ) (l : Layer) → finmap.get layers name ≡ Some l → IsLayer form n l
   layer_fits name l at =
-      All-contains (λ (e : List ℕ × Layer). IsLayer form n e.1) (finmap.entries layers) (name, l) h.each (entry_from_get (slice_cmp nat_cmp) nat_list_cmp_total name_same layers name l at)
+      All-contains (λ (e : List ℕ × Layer). IsLayer form n e.1) (finmap.entries layers) (name, l) h.each
+      (entry_from_get (slice_cmp nat_cmp) nat_list_cmp_total name_same layers name l at)
 
   -- two records with one key are one
   pub written_alone : (r s : Record) → IsWritten n numbers layers r → IsWritten n numbers layers s → r.key ≡ s.key → r ≡ s
@@ -202,7 +207,8 @@ module _ (form n : ℕ) (numbers : Numbering) (layers : Map) (le : n ≤ 12) (h 
   unfolding all all_of
   all_apart =
       Apart-flat_map (all_of n numbers layers) (finmap.entries layers)
-      (Apart-rises (by_first (slice_cmp nat_cmp)) (on_total (λ (e : List ℕ × Layer). e.0) nat_list_cmp_total) (finmap.entries layers) (Rises-entries (slice_cmp nat_cmp) layers))
+      (Apart-rises (by_first (slice_cmp nat_cmp)) (on_total (λ (e : List ℕ × Layer). e.0) nat_list_cmp_total) (finmap.entries layers)
+      (Rises-entries (slice_cmp nat_cmp) layers))
       (λ e c.
       let at = get_from_entry (slice_cmp nat_cmp) nat_list_cmp_total name_same layers e c in
       layer_apart form n e.0 (number_of numbers e.0) e.1 le (number_fits layers numbers num e.0 e.1 at).0 (layer_fits e.0 e.1 at))

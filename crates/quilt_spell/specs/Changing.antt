@@ -23,6 +23,7 @@ abbrev pub facts_in : ℕ → Option Layer → List Fact
 facts_in n None = []
 facts_in n (Some layer) = facts n layer
 
+-- the fact is one of these
 abbrev pub is_among : List Fact → Fact → Bool
 is_among fs f = list_any (same_fact f) fs
 
@@ -48,6 +49,7 @@ abbrev pub IsKept : Option Layer → Option Layer → Type 0
 IsKept (Some a) (Some b) = capacity_of a ≡ capacity_of b
 IsKept a b = Unit {0}
 
+-- where there is a layer, its values are those of one of this format and level
 abbrev pub IsOne : ℕ → ℕ → Option Layer → Type 0
 IsOne form n None = Unit {0}
 IsOne form n (Some layer) = IsLayer form n layer

@@ -21,7 +21,8 @@ IsPlaced layers numbers name number None = IsFree layers numbers name number
 IsPlaced layers numbers name number (Some layer) = number ≡ number_of numbers name
 
 -- The records to remove and to add make the layer under the name the new one, or none.
-pub record IsStep (form n : ℕ) (layers : Map) (numbers : Numbering) (name : List ℕ) (number : ℕ) (new : Option Layer) (removed added : List Record) : Type 0 where
+pub record IsStep (form n : ℕ) (layers : Map) (numbers : Numbering) (name : List ℕ) (number : ℕ) (new : Option Layer)
+    (removed added : List Record) : Type 0 where
   pub fits : IsOne form n new
   pub kept : IsKept (finmap.get layers name) new
   pub placed : IsPlaced layers numbers name number (finmap.get layers name)

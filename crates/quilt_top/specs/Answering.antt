@@ -50,9 +50,11 @@ abbrev pub changes_by : State → Result Command Code → ℕ → ℕ
 changes_by s (Ok command) changed = changes_after s command changed
 changes_by s (Err code) changed = changed
 
+-- how many records were changed since the last edition or revert, after one item
 unfoldable pub changes_then : State → Item → ℕ → ℕ
 changes_then s item changed = changes_by s (form s.last.format item) changed
 
+-- how many records were changed since the last edition or revert, after these items
 abbrev pub changes_all : State → ℕ → List Group → ℕ
 changes_all s changed [] = changed
 changes_all s changed (g ∷ gs) = changes_all (state_then s (held_at s g)) (changes_then s (held_at s g) changed) gs

@@ -11,6 +11,7 @@ abbrev pub run_from : Source → List ℕ → ℕ → table.Order
 run_from sources.Input file pool = table.Run file pool
 run_from (sources.Trial seed count) file pool = table.Trial file seed count pool
 
+-- the order of the table that a reader's order is, with the text of its path as bytes
 abbrev pub meant : Order → table.Order
 meant (given.New f) = table.New f.path.now f.pages f.level
 meant (given.Run f) = run_from f.source f.path.now f.pool

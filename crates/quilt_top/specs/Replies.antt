@@ -16,9 +16,11 @@ pub record IsItem (f n : ℕ) (item : Item) : Type 0 where
 abbrev pub held_at : State → Group → Item
 held_at s group = held s.last.format s.last.level group
 
+-- what an item comes to in a state: its reply, the work after it, and the edition that it gives
 abbrev pub outcome : State → Item → Outcome
 outcome s item = outcome_of s (form s.last.format item)
 
+-- the reply to an item in a state
 unfoldable pub reply_to : State → Item → Reply
 reply_to s item = (outcome s item).reply
 
@@ -26,10 +28,12 @@ reply_to s item = (outcome s item).reply
 unfoldable pub state_then : State → Item → State
 state_then s item = after_outcome s (outcome s item)
 
+-- the state after these items
 abbrev pub state_after : State → List Group → State
 state_after s [] = s
 state_after s (group ∷ groups) = state_after (state_then s (held_at s group)) groups
 
+-- the replies to these items, one after another
 abbrev pub replies_from : State → List Group → List Reply
 replies_from s [] = []
 replies_from s (group ∷ groups) = reply_to s (held_at s group) ∷ replies_from (state_then s (held_at s group)) groups

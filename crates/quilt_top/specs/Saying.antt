@@ -11,6 +11,7 @@ abbrev pub is_took : Event → Bool
 is_took (Took bytes) = true
 is_took e = false
 
+-- the event takes no input
 abbrev pub takes_none : Event → Bool
 takes_none e = not (is_took e)
 

@@ -3,6 +3,7 @@ use Rattle.std.specs.Prelude.{ℕ, List, codes}
 use Rattle.quilt_types.specs.declared.code.Code.{Code}
 use Rattle.quilt_types.specs.declared.code.Code.TheVariants as no
 
+-- the number of a refusal, from 1 to 18, which its reply has behind `no`
 abbrev pub code_number : Code → ℕ
 code_number no.Word = 1
 code_number no.Count = 2
@@ -23,6 +24,7 @@ code_number no.Editions = 16
 code_number no.Bytes = 17
 code_number no.Many = 18
 
+-- the bytes of the word of a refusal, which its reply has behind the number
 abbrev pub code_word : Code → List ℕ
 code_word no.Word = codes "word"
 code_word no.Count = codes "count"

@@ -12,6 +12,8 @@ use Rattle.quilt_types.specs.Layers.{Layer, Region, Points, Lines, Map, PointMap
 use Rattle.quilt_types.specs.Segments.{square, meets}
 use Rattle.quilt_types.specs.Quadtrees.{leaves, point_blocks}
 
+-- What one record of a layer says: the layer's kind (1 region, 2 points, 3 lines) with its capacity or threshold; a block's colour;
+-- a block with a point in it, or without one; a segment under its id; a block with a segment that meets it, or with none.
 pub data Fact : Type 0 where
   IsOfKind : (kind number : ℕ) → Fact
   HasColour : (b : Block) (colour : ℕ) → Fact
@@ -26,14 +28,17 @@ abbrev pub or_none : Fact → List Fact → List Fact
 or_none none [] = none ∷ []
 or_none none (f ∷ fs) = f ∷ fs
 
+-- the facts of a point layer on one of its blocks
 abbrev pub point_facts : PointMap → Block → List Fact
 point_facts points b =
     or_none (HoldsNoPoint b) (map (λ e. HoldsPoint b e.0 e.1) (filter (λ e. in_block b e.0) (finmap.entries points)))
 
+-- the facts of a line layer on one of its blocks
 abbrev pub line_facts : SegMap → Block → List Fact
 line_facts segs b =
     or_none (IsMetByNone b) (map (λ e. IsMetBy b e.0) (filter (λ e. meets e.1 (square b)) (finmap.entries segs)))
 
+-- the facts that a layer of a map of level n is, its kind first
 abbrev pub facts : ℕ → Layer → List Fact
 facts n (Region grid) = IsOfKind 1 0 ∷ map (λ leaf. HasColour leaf.0 leaf.1) (leaves n grid)
 facts n (Points capacity points) = IsOfKind 2 capacity ∷ flat_map (point_facts points) (point_blocks n capacity points)
@@ -49,15 +54,19 @@ records n layers = sum_by (λ e. length (facts n e.1)) (finmap.entries layers)
 abbrev pub quota : ℕ → ℕ
 quota pages = 64 * (pages - 8)
 
+-- both blocks have the same corner and side
 abbrev pub same_block : Block → Block → Bool
 same_block a b = (a.x == b.x) && (a.y == b.y) && (a.side == b.side)
 
+-- both are the same pixel
 abbrev pub same_pixel : Pixel → Pixel → Bool
 same_pixel p q = (p.x == q.x) && (p.y == q.y)
 
+-- both segments have the same first and the same last end
 abbrev pub same_seg : Seg → Seg → Bool
 same_seg s t = (s.x1 == t.x1) && (s.y1 == t.y1) && (s.x2 == t.x2) && (s.y2 == t.y2)
 
+-- both facts are of one kind and say the same
 abbrev pub same_fact : Fact → Fact → Bool
 same_fact (IsOfKind k t) (IsOfKind l u) = (k == l) && (t == u)
 same_fact (HasColour a c) (HasColour b d) = same_block a b && (c == d)
@@ -72,6 +81,7 @@ same_fact f g = false
 abbrev pub all_facts : ℕ → Map → List (List ℕ × Fact)
 all_facts n layers = flat_map (λ e. map (λ f. (e.0, f)) (facts n e.1)) (finmap.entries layers)
 
+-- the list has this fact under this layer's name
 abbrev pub is_fact_of : List (List ℕ × Fact) → List ℕ × Fact → Bool
 is_fact_of fs f = list_any (λ g. bytes_eq f.0 g.0 && same_fact f.1 g.1) fs
 

@@ -13,6 +13,7 @@ use Rattle.quilt_types.specs.Plane.{side, pixels, pixel_cmp, is_pixel, blocks, b
 abbrev pub Grid : Type 0
 Grid = List ℕ
 
+-- the colour of a pixel of the square in a grid of the level n
 abbrev pub colour_at : ℕ → Grid → Pixel → ℕ
 colour_at n g p = slice_index g (p.y * side n + p.x)
 
@@ -24,9 +25,12 @@ PointMap = finmap.FinMap pixel_cmp ℕ
 abbrev pub SegMap : Type 0
 SegMap = finmap.FinMap nat_cmp Seg
 
+-- sets of blocks, in the order of y, then x, then side
 abbrev pub BlockSet : Type 0
 BlockSet = finset.FinSet block_cmp
 
+-- A region layer is a grid. A point layer has a capacity, how many points a block holds at most, and labels at pixels. A line layer has a
+-- threshold, how many segments may meet a block before it is cut, segments under ids, and its blocks.
 pub data Layer : Type 0 where
   Region : (grid : Grid) → Layer
   Points : (capacity : ℕ) (points : PointMap) → Layer
@@ -75,9 +79,11 @@ IsLayer f n (Lines threshold segs cover) = IsLineMap n threshold segs cover
 abbrev pub Map : Type 0
 Map = finmap.FinMap (slice_cmp nat_cmp) Layer
 
+-- the byte is one of a to z
 abbrev pub is_letter : ℕ → Bool
 is_letter c = nat_le 97 c && nat_le c 122
 
+-- the byte is one of a to z, 0 to 9 and _
 abbrev pub is_name_byte : ℕ → Bool
 is_name_byte c = is_letter c || (nat_le 48 c && nat_le c 57) || c == 95
 
@@ -92,6 +98,7 @@ pub record IsMap (f n : ℕ) (layers : Map) : Type 0 where
   pub named : All (λ e. is_name e.0 ≡ true) (finmap.entries layers)
   pub each : All (λ e. IsLayer f n e.1) (finmap.entries layers)
 
+-- the map at one moment: its format 1 or 2, its number from 0, its level, which gives the side of the square, and its layers
 pub record Edition : Type 0 where
   pub format : ℕ
   pub number : ℕ

@@ -23,6 +23,7 @@ pixels n = flat_map (λ y. map (λ x. record { x = x; y = y }) (below (side n)))
 abbrev pub pixel_cmp : Pixel → Pixel → Ordering
 pixel_cmp p q = ordering_then (nat_cmp p.y q.y) (nat_cmp p.x q.x)
 
+-- the pixel lies in the square of the level n
 abbrev pub is_pixel : ℕ → Pixel → Bool
 is_pixel n p = nat_lt p.x (side n) && nat_lt p.y (side n)
 
@@ -30,6 +31,7 @@ is_pixel n p = nat_lt p.x (side n) && nat_lt p.y (side n)
 abbrev pub is_window : ℕ → Window → Bool
 is_window n w = nat_le 1 w.w && nat_le 1 w.h && nat_le (w.x + w.w) (side n) && nat_le (w.y + w.h) (side n)
 
+-- the pixel is one of the window's
 abbrev pub in_window : Window → Pixel → Bool
 in_window w p = nat_le w.x p.x && nat_lt p.x (w.x + w.w) && nat_le w.y p.y && nat_lt p.y (w.y + w.h)
 
@@ -47,6 +49,7 @@ blocks n = flat_map (blocks_at n) (pixels n)
 abbrev pub block_cmp : Block → Block → Ordering
 block_cmp a b = ordering_then (nat_cmp a.y b.y) (ordering_then (nat_cmp a.x b.x) (nat_cmp a.side b.side))
 
+-- the pixel is one of the block's
 abbrev pub in_block : Block → Pixel → Bool
 in_block b p = nat_le b.x p.x && nat_lt p.x (b.x + b.side) && nat_le b.y p.y && nat_lt p.y (b.y + b.side)
 

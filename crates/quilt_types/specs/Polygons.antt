@@ -10,6 +10,7 @@ pub record Edge : Type 0 where
   pub top : Corner
   pub bottom : Corner
 
+-- the edge between two corners, the upper one first
 abbrev pub edge : Corner → Corner → Edge
 edge a b = if nat_le a.y b.y then record { top = a; bottom = b } else record { top = b; bottom = a }
 
@@ -19,6 +20,7 @@ edges_from first [] = []
 edges_from first (c ∷ []) = edge c first ∷ []
 edges_from first (c ∷ d ∷ cs) = edge c d ∷ edges_from first (d ∷ cs)
 
+-- the edges of a ring of corners, closed from the last corner to the first
 abbrev pub ring_edges : List Corner → List Edge
 ring_edges [] = []
 ring_edges (c ∷ cs) = edges_from c (c ∷ cs)

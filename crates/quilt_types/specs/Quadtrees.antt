@@ -39,12 +39,15 @@ leaves n g = map (coloured n g) (maximal_blocks n (is_uniform n g))
 
 -- Points: blocks with at most so many.
 
+-- how many of the points lie in the block
 abbrev pub points_in : PointMap → Block → ℕ
 points_in points b = count_by (λ e. in_block b e.0) (finmap.entries points)
 
+-- the block holds no more points than the capacity
 abbrev pub holds_few : ℕ → PointMap → Block → Bool
 holds_few capacity points b = nat_le (points_in points b) capacity
 
+-- the blocks of a point layer, by y and then x: the maximal blocks that hold no more points than the capacity
 unfoldable pub point_blocks : ℕ → ℕ → PointMap → List Block
 point_blocks n capacity points = maximal_blocks n (holds_few capacity points)
 
@@ -54,6 +57,7 @@ point_blocks n capacity points = maximal_blocks n (holds_few capacity points)
 abbrev pub segs_meeting : SegMap → Block → ℕ
 segs_meeting segs b = count_by (λ e. meets e.1 (square b)) (finmap.entries segs)
 
+-- the segment meets the block, the block has more than one pixel, and more segments than the threshold t meet it
 abbrev pub is_split : ℕ → SegMap → Seg → Block → Bool
 is_split t segs s b = meets s (square b) && nat_lt 1 b.side && nat_lt t (segs_meeting segs b)
 
@@ -62,10 +66,12 @@ unfoldable pub after_add : ℕ → SegMap → BlockSet → Seg → BlockSet
 after_add t segs cover s =
     finset.from_list (flat_map (λ b. if is_split t segs s b then quarters_of b else b ∷ []) (finset.items cover))
 
+-- the segment meets the block, the four quarters are blocks of the set, and no more segments than the threshold t meet the block
 abbrev pub is_merged : ℕ → SegMap → BlockSet → Seg → Block → Bool
 is_merged t segs cover s b =
     meets s (square b) && list_all (finset.contains cover) (quarters_of b) && nat_le (segs_meeting segs b) t
 
+-- the set with the block in place of its four quarters, where they are merged; else the set as it is
 abbrev pub merge : ℕ → SegMap → Seg → BlockSet → Block → BlockSet
 merge t segs s cover b =
     if is_merged t segs cover s b then finset.insert (fold finset.remove cover (quarters_of b)) b else cover

@@ -10,6 +10,7 @@ use Rattle.quilt_types.specs.Segments.{square_distance}
 abbrev pub comes_first : ℕ × Fraction → ℕ × Fraction → Bool
 comes_first a b = is_less a.1 b.1 || (not (is_less b.1 a.1) && nat_le a.0 b.0)
 
+-- the list, in order of distance and then id, with one more id and distance at its place
 abbrev pub placed : List (ℕ × Fraction) → ℕ × Fraction → List (ℕ × Fraction)
 placed [] e = e ∷ []
 placed (f ∷ fs) e = if comes_first e f then e ∷ f ∷ fs else f ∷ placed fs e

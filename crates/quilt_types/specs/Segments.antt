@@ -44,12 +44,15 @@ stops s w =
     ∷ crossing s.x1 s.x2 w.x ++ crossing s.x1 s.x2 (w.x + w.w)
     ++ crossing s.y1 s.y2 w.y ++ crossing s.y1 s.y2 (w.y + w.h)
 
+-- the least of a fraction and further ones
 abbrev pub least_of : Fraction → List Fraction → Fraction
 least_of t ts = fold (λ a b. if is_less b a then b else a) t ts
 
+-- the greatest of a fraction and further ones
 abbrev pub greatest_of : Fraction → List Fraction → Fraction
 greatest_of t ts = fold (λ a b. if is_less a b then b else a) t ts
 
+-- the least and the greatest of the fractions; nothing where there are none
 abbrev pub ends_of : List Fraction → Option (Fraction × Fraction)
 ends_of [] = None
 ends_of (t ∷ ts) = Some (least_of t ts, greatest_of t ts)
@@ -58,6 +61,7 @@ ends_of (t ∷ ts) = Some (least_of t ts, greatest_of t ts)
 unfoldable pub clip_range : Seg → Window → Option (Fraction × Fraction)
 clip_range s w = ends_of (filter (is_in s w) (stops s w))
 
+-- the segment has a point in the closed window
 abbrev pub meets : Seg → Window → Bool
 meets s w = is_some (clip_range s w)
 
@@ -99,6 +103,7 @@ square_distance p s =
     else if int_le (pos q) (along p s) then record { num = square_length s.x2 s.y2 p.x p.y; den = 1 }
     else lowest (aside p s * aside p s) q
 
+-- the nearest so far, or the next segment where that is nearer; of equals the one before stays
 abbrev pub nearer : Pixel → Option (ℕ × Fraction) → ℕ × Seg → Option (ℕ × Fraction)
 nearer p None e = Some (e.0, square_distance p e.1)
 nearer p (Some best) e =

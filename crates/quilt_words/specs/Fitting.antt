@@ -17,6 +17,7 @@ pub record IsWithin (low high n : ℕ) : Type 0 where
   pub least : low ≤ n
   pub most : n ≤ high
 
+-- both coordinates are below 2^16; the pixel need not lie in the square of a map
 pub record IsPixelOf16 (at : Pixel) : Type 0 where
   pub x : at.x ≤ 65535
   pub y : at.y ≤ 65535
@@ -39,10 +40,12 @@ pub record IsRows (f n : ℕ) (bytes : List ℕ) : Type 0 where
   pub size : length bytes ≡ 2 * (side n * side n)
   pub colours : AreColours f bytes
 
+-- a point at a pixel of 16 bits, with a label below 2^32
 pub record IsPointOf16 (p : Point) : Type 0 where
   pub at : IsPixelOf16 p.at
   pub label : p.label < 2 ^ 32
 
+-- a corner of a ring: both coordinates are below 2^16
 pub record IsCornerOf16 (c : Corner) : Type 0 where
   pub x : c.x ≤ 65535
   pub y : c.y ≤ 65535
@@ -57,16 +60,20 @@ pub record ArePoints (points : List Point) : Type 0 where
   pub number : IsWithin 1 100000 (length points)
   pub each : All IsPointOf16 points
 
+-- from 1 to 1000 rings
 pub record AreRings (rings : List (List Corner)) : Type 0 where
   pub number : IsWithin 1 1000 (length rings)
   pub each : All IsRing rings
 
+-- the bytes are a layer's name: 1 to 12 of a to z, 0 to 9 and _, a letter first
 abbrev pub IsName : List ℕ → Type 0
 IsName a = is_name a ≡ true
 
+-- a colour of the format: below 256 in format 1, and below 65536 in format 2
 abbrev pub IsColour : ℕ → Colour → Type 0
 IsColour f c = c.0 < colours f
 
+-- a segment whose both ends are pixels of 16 bits
 pub record IsSegOf16 (s : Seg) : Type 0 where
   pub first : IsPixelOf16 (record { x = s.x1; y = s.y1 })
   pub second : IsPixelOf16 (record { x = s.x2; y = s.y2 })

@@ -29,9 +29,11 @@ pub data Value : Type 0 where
   Number : (n : ℕ) → Value
   Signed : (z : ℤ) → Value
 
+-- a coordinate of a pixel or of a window's corner, from 0 to 65535; also a distance
 abbrev pub coordinate : Argument
 coordinate = A_number 0 65535
 
+-- the width or height of a window in pixels, from 1 to 65535
 abbrev pub extent : Argument
 extent = A_number 1 65535
 
@@ -43,15 +45,19 @@ colour f = A_number 0 (colours f - 1)
 abbrev pub label : Argument
 label = A_number 0 4294967295
 
+-- the two arguments that give a pixel: x and y
 abbrev pub pixel : List Argument
 pixel = coordinate ∷ coordinate ∷ []
 
+-- the four arguments that give a window: x and y of its least corner, width and height
 abbrev pub window : List Argument
 window = coordinate ∷ coordinate ∷ extent ∷ extent ∷ []
 
+-- the pixel at x and y
 abbrev pub at : ℕ → ℕ → Pixel
 at x y = record { x = x; y = y }
 
+-- the window whose least corner is at x and y, w pixels wide and h high
 abbrev pub over : ℕ → ℕ → ℕ → ℕ → Window
 over x y w h = record { x = x; y = y; w = w; h = h }
 
@@ -67,163 +73,203 @@ pub record Entry : Type 0 where
   pub arguments : List Argument
   pub command : Further → List Value → Option Command
 
+-- `region A c`: makes the region layer A whose pixels all have colour c
 abbrev pub region_command : Further → List Value → Option Command
 region_command more (Called a ∷ Number c ∷ []) = Some (commands.Region a (record { 0 = c }))
 region_command more vs = None
 
+-- `points P` or `points P b`: makes an empty point layer with at most b points in a block, 1 where b is left out
 abbrev pub points_command : Further → List Value → Option Command
 points_command more (Called p ∷ []) = Some (commands.Points p 1)
 points_command more (Called p ∷ Number b ∷ []) = Some (commands.Points p b)
 points_command more vs = None
 
+-- `lines L t`: makes an empty line layer whose blocks are cut where more than t segments meet them
 abbrev pub lines_command : Further → List Value → Option Command
 lines_command more (Called l ∷ Number t ∷ []) = Some (commands.Lines l t)
 lines_command more vs = None
 
+-- `drop A`: takes the layer away
 abbrev pub drop_command : Further → List Value → Option Command
 drop_command more (Called a ∷ []) = Some (commands.Drop a)
 drop_command more vs = None
 
+-- `copy A B`: makes the layer B that is as A is
 abbrev pub copy_command : Further → List Value → Option Command
 copy_command more (Called a ∷ Called b ∷ []) = Some (commands.Copy a b)
 copy_command more vs = None
 
+-- `layers`: asks which layers there are
 abbrev pub layers_command : Further → List Value → Option Command
 layers_command more ([]) = Some (commands.Layers)
 layers_command more vs = None
 
+-- `blocks A`: asks for the number of the layer's blocks of each side
 abbrev pub blocks_command : Further → List Value → Option Command
 blocks_command more (Called a ∷ []) = Some (commands.Blocks a)
 blocks_command more vs = None
 
+-- `records`: asks how many records the map has, and how many it may have
 abbrev pub records_command : Further → List Value → Option Command
 records_command more ([]) = Some (commands.Records)
 records_command more vs = None
 
+-- `set A x y c`: gives one pixel the colour c
 abbrev pub set_command : Further → List Value → Option Command
 set_command more (Called a ∷ Number x ∷ Number y ∷ Number c ∷ []) = Some (commands.Set a (at x y) (record { 0 = c }))
 set_command more vs = None
 
+-- `rect A x y w h c`: gives the pixels of a window the colour c
 abbrev pub rect_command : Further → List Value → Option Command
 rect_command more (Called a ∷ Number x ∷ Number y ∷ Number w ∷ Number h ∷ Number c ∷ []) = Some (commands.Rect a (over x y w h) (record { 0 = c }))
 rect_command more vs = None
 
+-- `raster A`: gives the layer the colours of the further lines, one line for each row of the square
 abbrev pub raster_command : Further → List Value → Option Command
 raster_command more (Called a ∷ []) = Some (commands.Raster a more.rows)
 raster_command more vs = None
 
+-- `at A x y`: asks for the colour of a pixel
 abbrev pub at_command : Further → List Value → Option Command
 at_command more (Called a ∷ Number x ∷ Number y ∷ []) = Some (commands.At a (at x y))
 at_command more vs = None
 
+-- `show A x y w h`: asks for the colours of a window's pixels, row by row
 abbrev pub show_command : Further → List Value → Option Command
 show_command more (Called a ∷ Number x ∷ Number y ∷ Number w ∷ Number h ∷ []) = Some (commands.Show a (over x y w h))
 show_command more vs = None
 
+-- `leaves A`: asks for the maximal blocks of one colour
 abbrev pub leaves_command : Further → List Value → Option Command
 leaves_command more (Called a ∷ []) = Some (commands.Leaves a)
 leaves_command more vs = None
 
+-- `union A B C`: makes the layer C with the colour of A where that is not 0, else that of B
 abbrev pub union_command : Further → List Value → Option Command
 union_command more (Called a ∷ Called b ∷ Called c ∷ []) = Some (commands.Union a b c)
 union_command more vs = None
 
+-- `inter A B C`: makes the layer C with the colour of A where that of B is not 0, else 0
 abbrev pub inter_command : Further → List Value → Option Command
 inter_command more (Called a ∷ Called b ∷ Called c ∷ []) = Some (commands.Inter a b c)
 inter_command more vs = None
 
+-- `diff A B C`: makes the layer C with the colour of A where that of B is 0, else 0
 abbrev pub diff_command : Further → List Value → Option Command
 diff_command more (Called a ∷ Called b ∷ Called c ∷ []) = Some (commands.Diff a b c)
 diff_command more vs = None
 
+-- `window A x y w h C`: makes the layer C with the colour of A inside of the window, else 0
 abbrev pub window_command : Further → List Value → Option Command
 window_command more (Called a ∷ Number x ∷ Number y ∷ Number w ∷ Number h ∷ Called c ∷ []) = Some (commands.Window a (over x y w h) c)
 window_command more vs = None
 
+-- `shift A dx dy C`: makes the layer C with the colour of A at (x - dx, y - dy), else 0
 abbrev pub shift_command : Further → List Value → Option Command
 shift_command more (Called a ∷ Signed dx ∷ Signed dy ∷ Called c ∷ []) = Some (commands.Shift a dx dy c)
 shift_command more vs = None
 
+-- `buffer A r C`: makes the layer C with 1 where a pixel of A that is not 0 is at most r away in each of x and y
 abbrev pub buffer_command : Further → List Value → Option Command
 buffer_command more (Called a ∷ Number r ∷ Called c ∷ []) = Some (commands.Buffer a r c)
 buffer_command more vs = None
 
+-- `area A c`: asks for the number of pixels of colour c
 abbrev pub area_command : Further → List Value → Option Command
 area_command more (Called a ∷ Number c ∷ []) = Some (commands.Area a (record { 0 = c }))
 area_command more vs = None
 
+-- `perimeter A c`: asks for the number of unit edges on the boundary of colour c
 abbrev pub perimeter_command : Further → List Value → Option Command
 perimeter_command more (Called a ∷ Number c ∷ []) = Some (commands.Perimeter a (record { 0 = c }))
 perimeter_command more vs = None
 
+-- `put P x y label`: puts a point with this label
 abbrev pub put_command : Further → List Value → Option Command
 put_command more (Called p ∷ Number x ∷ Number y ∷ Number l ∷ []) = Some (commands.Put p (at x y) l)
 put_command more vs = None
 
+-- `del P x y`: takes the point at the pixel out
 abbrev pub del_command : Further → List Value → Option Command
 del_command more (Called p ∷ Number x ∷ Number y ∷ []) = Some (commands.Del p (at x y))
 del_command more vs = None
 
+-- `scatter P k`: puts the points of the k further lines
 abbrev pub scatter_command : Further → List Value → Option Command
 scatter_command more (Called p ∷ Number k ∷ []) = Some (commands.Scatter p more.points)
 scatter_command more vs = None
 
+-- `find P x y`: asks for the label of the point at the pixel
 abbrev pub find_command : Further → List Value → Option Command
 find_command more (Called p ∷ Number x ∷ Number y ∷ []) = Some (commands.Find p (at x y))
 find_command more vs = None
 
+-- `within P x y w h`: asks for the points in a window
 abbrev pub within_command : Further → List Value → Option Command
 within_command more (Called p ∷ Number x ∷ Number y ∷ Number w ∷ Number h ∷ []) = Some (commands.Within p (over x y w h))
 within_command more vs = None
 
+-- `line L id x1 y1 x2 y2`: puts the segment from (x1, y1) to (x2, y2) under the id
 abbrev pub line_command : Further → List Value → Option Command
 line_command more (Called l ∷ Number i ∷ Number x ∷ Number y ∷ Number u ∷ Number v ∷ []) = Some (commands.Line l i (record { x1 = x; y1 = y; x2 = u; y2 = v }))
 line_command more vs = None
 
+-- `unline L id`: takes the segment of this id out
 abbrev pub unline_command : Further → List Value → Option Command
 unline_command more (Called l ∷ Number i ∷ []) = Some (commands.Unline l i)
 unline_command more vs = None
 
+-- `cross L x y w h`: asks for the segments that meet a closed window
 abbrev pub cross_command : Further → List Value → Option Command
 cross_command more (Called l ∷ Number x ∷ Number y ∷ Number w ∷ Number h ∷ []) = Some (commands.Cross l (over x y w h))
 cross_command more vs = None
 
+-- `clip L x y w h`: asks for the parts of segments that lie in a closed window
 abbrev pub clip_command : Further → List Value → Option Command
 clip_command more (Called l ∷ Number x ∷ Number y ∷ Number w ∷ Number h ∷ []) = Some (commands.Clip l (over x y w h))
 clip_command more vs = None
 
+-- `nearest L x y`: asks for the segment nearest to the pixel
 abbrev pub nearest_command : Further → List Value → Option Command
 nearest_command more (Called l ∷ Number x ∷ Number y ∷ []) = Some (commands.Nearest l (at x y))
 nearest_command more vs = None
 
+-- `over L A`: asks for the segments that meet a pixel of nonzero colour of the region layer A
 abbrev pub over_command : Further → List Value → Option Command
 over_command more (Called l ∷ Called a ∷ []) = Some (commands.Over l a)
 over_command more vs = None
 
+-- `edition`: asks for the number of the last edition
 abbrev pub edition_command : Further → List Value → Option Command
 edition_command more ([]) = Some (commands.Edition)
 edition_command more vs = None
 
+-- `publish`: makes the work the next edition
 abbrev pub publish_command : Further → List Value → Option Command
 publish_command more ([]) = Some (commands.Publish)
 publish_command more vs = None
 
+-- `upgrade`: makes the work the next edition, in format 2
 abbrev pub upgrade_command : Further → List Value → Option Command
 upgrade_command more ([]) = Some (commands.Upgrade)
 upgrade_command more vs = None
 
+-- `polygon C c k`: makes the layer C with colour c inside of the rings of the k further lines, and 0 elsewhere
 abbrev pub polygon_command : Further → List Value → Option Command
 polygon_command more (Called a ∷ Number c ∷ Number k ∷ []) = Some (commands.Polygon a (record { 0 = c }) more.rings)
 polygon_command more vs = None
 
+-- `rank L x y k`: asks for the k segments nearest to the pixel, in order
 abbrev pub rank_command : Further → List Value → Option Command
 rank_command more (Called l ∷ Number x ∷ Number y ∷ Number k ∷ []) = Some (commands.Rank l (at x y) k)
 rank_command more vs = None
 
+-- `crossings L M`: asks for the pairs of a segment of L and one of M that share a point
 abbrev pub crossings_command : Further → List Value → Option Command
 crossings_command more (Called l ∷ Called m ∷ []) = Some (commands.Crossings l m)
 crossings_command more vs = None
 
+-- `revert`: makes the work the last edition again
 abbrev pub revert_command : Further → List Value → Option Command
 revert_command more ([]) = Some (commands.Revert)
 revert_command more vs = None
@@ -276,14 +322,17 @@ table f =
 abbrev pub recolour_arguments : ℕ → ℕ → List Argument
 recolour_arguments f pairs = A_name ∷ A_name ∷ flat_map (λ i. colour f ∷ colour f ∷ []) (range_with_len 0 pairs)
 
+-- the numbers taken two and two as pairs of an old and a new colour; the list ends before the first two that are no numbers
 abbrev pub pairs_of : List Value → List (Colour × Colour)
 pairs_of (Number o ∷ Number c ∷ vs) = (record { 0 = o }, record { 0 = c }) ∷ pairs_of vs
 pairs_of vs = []
 
+-- `recolour A C o n ..`: makes the layer C in which each colour o of A is n, by the first pair that has it
 abbrev pub recolour_command : Further → List Value → Option Command
 recolour_command more (Called a ∷ Called c ∷ vs) = Some (commands.Recolour a c (pairs_of vs))
 recolour_command more vs = None
 
+-- the row of `recolour` with this number of pairs, in a format
 abbrev pub recolour_entry : ℕ → ℕ → Entry
 recolour_entry f pairs = record { word = codes "recolour"; arguments = recolour_arguments f pairs; command = recolour_command }
 
@@ -291,18 +340,22 @@ recolour_entry f pairs = record { word = codes "recolour"; arguments = recolour_
 abbrev pub points_arguments : ℕ → List Argument
 points_arguments count = A_name ∷ (if count == 1 then [] else A_number 1 16 ∷ [])
 
+-- the row of `points` where this number of words follow it
 abbrev pub points_entry : ℕ → Entry
 points_entry count = record { word = codes "points"; arguments = points_arguments count; command = points_command }
 
+-- goes on with the value where there is one; a refusal stays as it is
 infixl 10 ◌>>=◌
 abbrev pub ◌>>=◌ : {A B : Type 0} → Result A Code → (A → Result B Code) → Result B Code
 ◌>>=◌ (Ok x) f = f x
 ◌>>=◌ (Err e) f = Err e
 
+-- the value, or this refusal where there is none
 abbrev pub or_err : {A : Type 0} → Code → Option A → Result A Code
 or_err code None = Err code
 or_err code (Some x) = Ok x
 
+-- the row, where it has just this number of arguments; else the refusal `count`
 abbrev pub with_count : ℕ → Entry → Result Entry Code
 with_count count e = if length e.arguments == count then Ok e else Err codes_of.Count
 
@@ -314,6 +367,7 @@ entry_of f word count =
     else if bytes_eq word (codes "points") then with_count count (points_entry count)
     else (or_err codes_of.Word (find (λ e. bytes_eq e.word word) (table f)) >>= with_count count)
 
+-- the value that a word spells for an argument; else the refusal `name` or `number`
 abbrev pub argument_value : Argument → List ℕ → Result Value Code
 argument_value A_name word = or_err codes_of.Name (option_map Called (name word))
 argument_value (A_number low high) word = or_err codes_of.Number (option_map Number (number low high word))
@@ -331,6 +385,7 @@ form_of_words f more [] = Err codes_of.Word
 form_of_words f more (word ∷ words) =
     entry_of f word (length words) >>= λ e. values_of e.arguments words >>= λ vs. or_err codes_of.Word (e.command more vs)
 
+-- the command that a line spells in a format, with what its further lines spell; `bytes` where a byte is outside of 32 to 126
 abbrev pub form_of_line : ℕ → List ℕ → Further → Result Command Code
 form_of_line f line more = if list_all is_plain line then form_of_words f more (words_of line) else Err codes_of.Bytes
 

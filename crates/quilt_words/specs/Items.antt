@@ -9,6 +9,7 @@ use Rattle.quilt_words.specs.declared.item.Item.{Item}
 use Rattle.quilt_words.specs.declared.item.Item.TheVariants.{Long, Line, Rows, PointLines, RingLines}
 use Rattle.quilt_words.specs.Spelling.{number, row}
 
+-- the line or word has no byte
 abbrev pub is_empty : List ℕ → Bool
 is_empty [] = true
 is_empty (c ∷ cs) = false
@@ -19,6 +20,7 @@ without_empty_end [] = []
 without_empty_end (l ∷ []) = if is_empty l then [] else l ∷ []
 without_empty_end (l ∷ m ∷ ls) = l ∷ without_empty_end (m ∷ ls)
 
+-- the lines of a text, without their newlines; the last need not have one
 unfoldable pub lines_of : List ℕ → List (List ℕ)
 lines_of text = without_empty_end (slice_split (λ c. c == 10) text)
 
@@ -26,9 +28,11 @@ lines_of text = without_empty_end (slice_split (λ c. c == 10) text)
 unfoldable pub words_of : List ℕ → List (List ℕ)
 words_of line = filter (λ w. not (is_empty w)) (slice_split (λ c. c == 32) line)
 
+-- how many bytes a line may have
 abbrev pub line_limit : ℕ
 line_limit = 8320
 
+-- the line has more bytes than a line may have
 abbrev pub is_long : List ℕ → Bool
 is_long line = nat_lt line_limit (length line)
 
@@ -36,6 +40,7 @@ is_long line = nat_lt line_limit (length line)
 abbrev pub is_plain : ℕ → Bool
 is_plain c = nat_le 32 c && nat_le c 126
 
+-- the words of a line that is empty or has spaces only, or whose first word begins with `#`
 abbrev pub is_remark : List (List ℕ) → Bool
 is_remark [] = true
 is_remark ([] ∷ ws) = false
@@ -56,6 +61,7 @@ abbrev pub asked_by : ℕ → List (List ℕ) → ℕ
 asked_by n [] = 0
 asked_by n (w ∷ ws) = if bytes_eq w (codes "raster") then side n else listed_by (w ∷ ws)
 
+-- how many further lines a line asks for at a level: none where it is too long or has a byte outside of 32 to 126
 abbrev pub asked : ℕ → List ℕ → ℕ
 asked n line = if is_long line || not (list_all is_plain line) then 0 else asked_by n (words_of line)
 
@@ -99,13 +105,16 @@ rows_joined f width (line ∷ lines) =
     if length line == 2 * f * width
     then option_and_then (λ bytes. option_map (λ rest. colour_bytes f bytes ++ rest) (rows_joined f width lines)) (row line) else None
 
+-- the colours that the further lines of a raster give, two bytes each: nothing unless all 2^n rows are there and well formed
 abbrev pub rows_of : ℕ → ℕ → List (List ℕ) → Option (List ℕ)
 rows_of f n more = if length more == side n then rows_joined f (side n) more else None
 
+-- the point at x and y with this label, where all three are there
 abbrev pub point : Option ℕ → Option ℕ → Option ℕ → Option Point
 point (Some x) (Some y) (Some l) = Some (record { at = record { x = x; y = y }; label = l })
 point x y l = None
 
+-- the point that the words of a list line give: x, y and label
 abbrev pub point_of : List (List ℕ) → Option Point
 point_of (x ∷ y ∷ l ∷ []) = point (number 0 65535 x) (number 0 65535 y) (number 0 4294967295 l)
 point_of words = None
@@ -117,6 +126,7 @@ points_joined (line ∷ lines) =
     if nat_le (length line) 64
     then option_and_then (λ p. option_map (λ ps. p ∷ ps) (points_joined lines)) (point_of (words_of line)) else None
 
+-- the points that the k further lines of a scatter give: nothing unless all k are there and well formed
 abbrev pub points_of : ℕ → List (List ℕ) → Option (List Point)
 points_of k more = if length more == k then points_joined more else None
 
@@ -125,6 +135,7 @@ abbrev pub corner_of : Option ℕ → Option ℕ → Option Corner
 corner_of (Some x) (Some y) = Some (record { x = x; y = y })
 corner_of x y = None
 
+-- the corners that words give, two words each: nothing where a word is left over or ill-spelled
 abbrev pub corners_of : List (List ℕ) → Option (List Corner)
 corners_of [] = Some []
 corners_of (x ∷ []) = None
@@ -135,13 +146,16 @@ corners_of (x ∷ y ∷ ws) =
 abbrev pub ring_of : List ℕ → Option (List Corner)
 ring_of line = if is_long line || nat_lt (length (words_of line)) 6 then None else corners_of (words_of line)
 
+-- the rings of all ring lines, where each is well formed
 abbrev pub rings_joined : List (List ℕ) → Option (List (List Corner))
 rings_joined [] = Some []
 rings_joined (line ∷ lines) = option_and_then (λ r. option_map (λ rs. r ∷ rs) (rings_joined lines)) (ring_of line)
 
+-- the rings that the k further lines of a polygon give: nothing unless all k are there and well formed
 abbrev pub rings_of : ℕ → List (List ℕ) → Option (List (List Corner))
 rings_of k more = if length more == k then rings_joined more else None
 
+-- the first word is this one
 abbrev pub begins_with : List (List ℕ) → List ℕ → Bool
 begins_with [] word = false
 begins_with (w ∷ ws) word = bytes_eq w word

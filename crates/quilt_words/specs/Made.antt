@@ -28,12 +28,14 @@ made arguments command more ws = counted arguments ws >>= λ vs. or_err codes_of
 abbrev pub has_pairs : ℕ → Bool
 has_pairs count = nat_le 4 count && nat_le count 34 && (count % 2 == 0)
 
+-- the command that the words behind `recolour` spell in a format, or the code of its refusal
 abbrev pub recoloured : ℕ → Further → List (List ℕ) → Result Command Code
 recoloured f more ws =
     if has_pairs (length ws)
     then (values_of (recolour_arguments f ((length ws - 2) / 2)) ws >>= λ vs. or_err codes_of.Word (recolour_command more vs))
     else Err codes_of.Count
 
+-- the command that the words behind a word on the map and its layers spell in a format, or the code of its refusal
 abbrev pub map_formed : ℕ → Further → MapWord → List (List ℕ) → Result Command Code
 map_formed f more map_words.Region ws = made (A_name ∷ colour f ∷ []) region_command more ws
 map_formed f more map_words.Lines ws = made (A_name ∷ A_number 1 32 ∷ []) lines_command more ws
@@ -48,6 +50,7 @@ map_formed f more map_words.Upgrade ws = made [] upgrade_command more ws
 map_formed f more map_words.Revert ws = made [] revert_command more ws
 map_formed f more map_words.Points ws = made (points_arguments (length ws)) points_command more ws
 
+-- the command that the words behind a word on one region layer spell in a format, or the code of its refusal
 abbrev pub region_formed : ℕ → Further → RegionWord → List (List ℕ) → Result Command Code
 region_formed f more region_words.Set ws = made (A_name ∷ pixel ++ colour f ∷ []) set_command more ws
 region_formed f more region_words.Rect ws = made (A_name ∷ window ++ colour f ∷ []) rect_command more ws
@@ -59,6 +62,7 @@ region_formed f more region_words.Area ws = made (A_name ∷ colour f ∷ []) ar
 region_formed f more region_words.Perimeter ws = made (A_name ∷ colour f ∷ []) perimeter_command more ws
 region_formed f more region_words.Polygon ws = made (A_name ∷ colour f ∷ A_number 1 1000 ∷ []) polygon_command more ws
 
+-- the command that the words behind a word of map algebra spell in a format, or the code of its refusal
 abbrev pub algebra_formed : ℕ → Further → AlgebraWord → List (List ℕ) → Result Command Code
 algebra_formed f more algebra_words.Union ws = made (A_name ∷ A_name ∷ A_name ∷ []) union_command more ws
 algebra_formed f more algebra_words.Inter ws = made (A_name ∷ A_name ∷ A_name ∷ []) inter_command more ws
@@ -68,6 +72,7 @@ algebra_formed f more algebra_words.Shift ws = made (A_name ∷ A_signed ∷ A_s
 algebra_formed f more algebra_words.Buffer ws = made (A_name ∷ coordinate ∷ A_name ∷ []) buffer_command more ws
 algebra_formed f more algebra_words.Recolour ws = recoloured f more ws
 
+-- the command that the words behind a word on a point layer spell, or the code of its refusal
 abbrev pub point_formed : ℕ → Further → PointWord → List (List ℕ) → Result Command Code
 point_formed f more point_words.Put ws = made (A_name ∷ pixel ++ label ∷ []) put_command more ws
 point_formed f more point_words.Del ws = made (A_name ∷ pixel) del_command more ws
@@ -75,6 +80,7 @@ point_formed f more point_words.Scatter ws = made (A_name ∷ A_number 1 100000 
 point_formed f more point_words.Find ws = made (A_name ∷ pixel) find_command more ws
 point_formed f more point_words.Within ws = made (A_name ∷ window) within_command more ws
 
+-- the command that the words behind a word on line layers spell, or the code of its refusal
 abbrev pub line_formed : ℕ → Further → LineWord → List (List ℕ) → Result Command Code
 line_formed f more line_words.Line ws = made (A_name ∷ label ∷ pixel ++ pixel) line_command more ws
 line_formed f more line_words.Unline ws = made (A_name ∷ label ∷ []) unline_command more ws
@@ -85,6 +91,7 @@ line_formed f more line_words.Over ws = made (A_name ∷ A_name ∷ []) over_com
 line_formed f more line_words.Rank ws = made (A_name ∷ pixel ++ A_number 1 100000 ∷ []) rank_command more ws
 line_formed f more line_words.Crossings ws = made (A_name ∷ A_name ∷ []) crossings_command more ws
 
+-- the command that the words behind a command's word spell in a format, or the code of its refusal
 abbrev pub formed : ℕ → Further → Word → List (List ℕ) → Result Command Code
 formed f more (words.Map w) ws = map_formed f more w ws
 formed f more (words.Region w) ws = region_formed f more w ws

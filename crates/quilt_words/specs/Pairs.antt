@@ -9,6 +9,7 @@ use Rattle.quilt_words.specs.declared.parse_err.ParseErr.TheVariants as errs
 use Rattle.quilt_words.specs.Forms.{or_err, ◌>>=◌}
 use Rattle.quilt_words.specs.Spelling.{number}
 
+-- the colour that a word spells in a format, as a number; else the refusal `number`
 abbrev pub number_in : ℕ → List ℕ → Result ℕ Code
 number_in f word = or_err codes_of.Number (number 0 (colours f - 1) word)
 

@@ -13,6 +13,7 @@ use Rattle.quilt_words.specs.declared.word.LineWord.TheVariants as line_words
 use Rattle.quilt_words.specs.declared.word.Word.{Word}
 use Rattle.quilt_words.specs.declared.word.Word.TheVariants as words
 
+-- the bytes of a word on the map and its layers
 abbrev pub map_spelling : MapWord → List ℕ
 map_spelling map_words.Region = codes "region"
 map_spelling map_words.Lines = codes "lines"
@@ -27,6 +28,7 @@ map_spelling map_words.Upgrade = codes "upgrade"
 map_spelling map_words.Revert = codes "revert"
 map_spelling map_words.Points = codes "points"
 
+-- the bytes of a word on one region layer
 abbrev pub region_spelling : RegionWord → List ℕ
 region_spelling region_words.Set = codes "set"
 region_spelling region_words.Rect = codes "rect"
@@ -38,6 +40,7 @@ region_spelling region_words.Area = codes "area"
 region_spelling region_words.Perimeter = codes "perimeter"
 region_spelling region_words.Polygon = codes "polygon"
 
+-- the bytes of a word of map algebra
 abbrev pub algebra_spelling : AlgebraWord → List ℕ
 algebra_spelling algebra_words.Union = codes "union"
 algebra_spelling algebra_words.Inter = codes "inter"
@@ -47,6 +50,7 @@ algebra_spelling algebra_words.Shift = codes "shift"
 algebra_spelling algebra_words.Buffer = codes "buffer"
 algebra_spelling algebra_words.Recolour = codes "recolour"
 
+-- the bytes of a word on a point layer
 abbrev pub point_spelling : PointWord → List ℕ
 point_spelling point_words.Put = codes "put"
 point_spelling point_words.Del = codes "del"
@@ -54,6 +58,7 @@ point_spelling point_words.Scatter = codes "scatter"
 point_spelling point_words.Find = codes "find"
 point_spelling point_words.Within = codes "within"
 
+-- the bytes of a word on line layers
 abbrev pub line_spelling : LineWord → List ℕ
 line_spelling line_words.Line = codes "line"
 line_spelling line_words.Unline = codes "unline"
@@ -64,6 +69,7 @@ line_spelling line_words.Over = codes "over"
 line_spelling line_words.Rank = codes "rank"
 line_spelling line_words.Crossings = codes "crossings"
 
+-- the bytes of a command's word
 abbrev pub spelling : Word → List ℕ
 spelling (words.Map w) = map_spelling w
 spelling (words.Region w) = region_spelling w

@@ -41,7 +41,8 @@ quarters-quarter-items-requires-clause-wide t c =
     let open' = sym c.is_covered.ensures ∙ c.if-is_covered.false in
     let full = sym c.is_empty.ensures ∙ c.if-is_empty.false in
     let some : 0 < length c.in_ok-close.close.items = search rules in
-    wide_if c.args.r c.args.square c.args.blocks.now (side_pos c.args.maker.now.level c.args.square c.requires.valid) open' (subst (λ l. 0 < length l) c.in_ok-close.ensures some)
+    wide_if c.args.r c.args.square c.args.blocks.now (side_pos c.args.maker.now.level c.args.square c.requires.valid) open'
+    (subst (λ l. 0 < length l) c.in_ok-close.ensures some)
 
 pub fill-requires : goal.fill-requires
 fill-requires t c =
@@ -51,11 +52,21 @@ fill-requires t c =
     let full = sym c.is_empty.ensures ∙ c.if-is_empty.false in
     let some : 0 < length c.in_ok-close.close.items = search rules in
     let wide = wide_if c.args.r s c.args.blocks.now (side_pos n s c.requires.valid) open' (subst (λ l. 0 < length l) c.in_ok-close.ensures some) in
-    let q = part_at n s c.quarters-quarter-items.result c.loop-quarter.quarter-index (record { x = 0; y = 0; side = 0 }) c.requires.most c.requires.valid wide c.quarters-quarter-items.ensures.value c.loop-quarter-test.true in
+    let q = part_at n s c.quarters-quarter-items.result c.loop-quarter.quarter-index
+    (record { x = 0; y = 0; side = 0 }) c.requires.most c.requires.valid wide c.quarters-quarter-items.ensures.value c.loop-quarter-test.true in
     let smaller = q.smaller in
     let level = c.loop-quarter.invariant.level in
-    let most = c.requires.most in
-    (omega arith, (omega arith, (subst (λ (k : ℕ). IsBlock k (get_or c.quarters-quarter-items.result c.loop-quarter.quarter-index (record { x = 0; y = 0; side = 0 }))) (sym level) q.block, q.from ∙ sym c.loop-quarter.invariant.long)))
+    let most = c.requires.most in (
+      omega arith,
+      (
+        omega arith,
+        (
+          subst (λ (k : ℕ). IsBlock k (get_or c.quarters-quarter-items.result c.loop-quarter.quarter-index (record { x = 0; y = 0; side = 0 })))
+              (sym level) q.block,
+          q.from ∙ sym c.loop-quarter.invariant.long,
+        ),
+      ),
+    )
 
 pub loop-quarter-preserved : goal.loop-quarter-preserved
 loop-quarter-preserved t c =
@@ -68,7 +79,8 @@ loop-quarter-preserved t c =
     let full = sym c.is_empty.ensures ∙ c.if-is_empty.false in
     let some : 0 < length c.in_ok-close.close.items = search rules in
     let wide = wide_if c.args.r s c.args.blocks.now (side_pos n s c.requires.valid) open' (subst (λ l. 0 < length l) c.in_ok-close.ensures some) in
-    let q = part_at n s c.quarters-quarter-items.result i (record { x = 0; y = 0; side = 0 }) c.requires.most c.requires.valid wide c.quarters-quarter-items.ensures.value c.loop-quarter-test.true in
+    let q = part_at n s c.quarters-quarter-items.result i (record { x = 0; y = 0; side = 0 }) c.requires.most c.requires.valid wide
+    c.quarters-quarter-items.ensures.value c.loop-quarter-test.true in
     let next = c.requires.next in
     let m = c.loop-quarter.maker in
     let new = c.fill.new.maker in
@@ -91,6 +103,8 @@ returns t c =
     let four : c.loop-quarter.quarter-index ≡ 4 = omega arith in
     let codes = half_codes n s c.requires.valid c.requires.most wide in
     let all = codes.all in
-    let end : code_from s + c.loop-quarter.quarter-index * (s.side / 2 * (s.side / 2)) ≡ code_to s = ap (λ k. code_from s + k * (s.side / 2 * (s.side / 2))) four ∙ sym all in
-    filled_by_all n c.args.r s c.args.blocks.now c.in_ok-close.close.items c.args.maker.now m c.requires.most c.requires.valid c.requires.next c.in_ok-close.ensures
+    let end : code_from s + c.loop-quarter.quarter-index * (s.side / 2 * (s.side / 2)) ≡ code_to s =
+    ap (λ k. code_from s + k * (s.side / 2 * (s.side / 2))) four ∙ sym all in
+    filled_by_all n c.args.r s c.args.blocks.now c.in_ok-close.close.items c.args.maker.now m c.requires.most c.requires.valid
+    c.requires.next c.in_ok-close.ensures
     (subst (λ (k : ℕ). Adds n f k c.args.maker.now m) end c.loop-quarter.invariant)

@@ -8,4 +8,5 @@ abbrev pub decreases-fill : goal.decreases-fill
 decreases-fill l = l.square.side
 
 abbrev pub invariant-loop-quarter : goal.invariant-loop-quarter
-invariant-loop-quarter l = Adds l.initial.maker.level (near l.r l.close.items) (code_from l.fn.square + l.quarter-index * (l.fn.square.side / 2 * (l.fn.square.side / 2))) l.initial.maker l.maker
+invariant-loop-quarter l = Adds l.initial.maker.level (near l.r l.close.items)
+    (code_from l.fn.square + l.quarter-index * (l.fn.square.side / 2 * (l.fn.square.side / 2))) l.initial.maker l.maker

@@ -6,7 +6,8 @@ use Rattle.quilt_node.proofs.header.header_of.Goals as goal
 
 pub returns-then-not-is_head : goal.returns-then-not-is_head
 returns-then-not-is_head c h f p =
-    c.is_head.ensures.no c.if-not-is_head.true (subst (IsHead c.args.pages) (sym (c.numbers_in-h.ensures ∙ same_head c.args.pages c.args.bytes.now h f p)) p.numbers)
+    c.is_head.ensures.no c.if-not-is_head.true
+    (subst (IsHead c.args.pages) (sym (c.numbers_in-h.ensures ∙ same_head c.args.pages c.args.bytes.now h f p)) p.numbers)
 
 pub returns-then-ne : goal.returns-then-ne
 returns-then-ne c h f p =

@@ -14,4 +14,5 @@ loop-i-preserved c =
     (pass_next p f c.args.n c.loop-i.i c.loop-i.all c.loop-i-test.true c.loop-i.invariant)
 
 pub returns : goal.returns
-returns c = pass_last (λ n. nat_le 1 n && nat_lt n c.args.pages) (λ i. word_at c.args.bytes.now (8 + 4 * i)) c.args.n c.loop-i.i c.loop-i.all c.loop-i-test.false c.loop-i.invariant
+returns c = pass_last (λ n. nat_le 1 n && nat_lt n c.args.pages) (λ i. word_at c.args.bytes.now (8 + 4 * i))
+    c.args.n c.loop-i.i c.loop-i.all c.loop-i-test.false c.loop-i.invariant

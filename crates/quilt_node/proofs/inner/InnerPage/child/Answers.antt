@@ -11,7 +11,8 @@ returns-clause-child c = c.word_in.ensures ∙ child_is c.self.inside.bytes c.ar
 
 pub returns-clause-above : goal.returns-clause-above
 returns-clause-above c =
-    subst (λ n. 1 ≤ n) (sym (c.word_in.ensures ∙ child_is c.self.inside.bytes c.args.self.now c.args.i (is_page c) c.requires)) (child_within c.args.self.now c.args.i (is_page c).is_inner c.requires).0
+    subst (λ n. 1 ≤ n) (sym (c.word_in.ensures ∙ child_is c.self.inside.bytes c.args.self.now c.args.i (is_page c) c.requires))
+    (child_within c.args.self.now c.args.i (is_page c).is_inner c.requires).0
 
 pub returns-clause-is : goal.returns-clause-is
 returns-clause-is c = (is_page c).is_inner

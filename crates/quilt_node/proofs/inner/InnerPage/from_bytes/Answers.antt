@@ -13,7 +13,8 @@ fits : (c : goal.Start) → AreBytes c.args.bytes
 fits c = search rules
 
 page : (c : goal.Start) → IsInnerPage c.args.bytes (read_inner c.args.bytes)
-page c = accepted c.args.pages c.args.bytes (short_at c.args.bytes 2) (fits c) (whole c) refl c.ranges.pages.fits (well_formed c.args.pages c.args.bytes c.requires)
+page c =
+    accepted c.args.pages c.args.bytes (short_at c.args.bytes 2) (fits c) (whole c) refl c.ranges.pages.fits (well_formed c.args.pages c.args.bytes c.requires)
 
 children : (c : goal.Start) → are_pages c.args.pages (read_inner c.args.bytes).children ≡ true
 children c = read_children c.args.pages c.args.bytes (short_at c.args.bytes 2) refl (well_formed c.args.pages c.args.bytes c.requires)

@@ -16,6 +16,7 @@ put_both-requires-clause-order c = ascending_back c.args.left.now.keys (c.args.k
 pub returns-clause-there : goal.returns-clause-there
 returns-clause-there c =
     c.take_both.ensures
-    ∙ without_last c.args.left.now (c.len-last.result - 1) (c.len-last.result - 1 - 1) (omega (arith, c.len-last.ensures.length, c.len-last.ensures.range)) (omega (arith, c.len-last.ensures.keys, c.len-last.ensures.range))
+    ∙ without_last c.args.left.now (c.len-last.result - 1) (c.len-last.result - 1 - 1)
+    (omega (arith, c.len-last.ensures.length, c.len-last.ensures.range)) (omega (arith, c.len-last.ensures.keys, c.len-last.ensures.range))
     (omega arith)
     ∙ ap (λ n. first_children (n - 1) c.args.left.now) c.len-last.ensures.length

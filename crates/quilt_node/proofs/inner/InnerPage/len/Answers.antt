@@ -13,5 +13,6 @@ returns-clause-range c =
 
 pub returns-clause-keys : goal.returns-clause-keys
 returns-clause-keys c =
-    let e : c.count_in.result ≡ length (read_inner c.self.inside.bytes).keys + 1 = omega (arith, c.count_in.ensures ∙ count_is _ _ c.self.invariant, c.self.invariant.is_inner.between) in
+    let e : c.count_in.result ≡ length (read_inner c.self.inside.bytes).keys + 1 =
+    omega (arith, c.count_in.ensures ∙ count_is _ _ c.self.invariant, c.self.invariant.is_inner.between) in
     e ∙ ap (λ (p : Inner). length p.keys + 1) c.self.view_is
