@@ -1,25 +1,24 @@
 ghost use Rattle.std.specs.Prelude.{◌≡◌, ◌≤◌, IfOk};
 
-use quilt_blocks::{LeafList, Maker};
+use crate::pixel_maps::map_of;
+use quilt_blocks::LeafList;
 use quilt_buffer::buffer;
-use quilt_loc::pixel_of;
-use quilt_types::{Block, Colour, Pixel};
+use quilt_types::{Colour, Pixel};
 use std::alloc::{AllocError, Global};
 use std::test::Fail;
 
-/// A map with colour 256 at one pixel, the one with this code, and 0 elsewhere.
-fn dotted(alloc: Global, level: u8, dot: u32) -> Result<LeafList, AllocError>
+/// A map of this level, from 1 to 12, with colour 256 at one pixel, the one with this code, and 0 elsewhere.
+fn dotted(alloc: Global, level: u8, dot: usize) -> Result<LeafList, AllocError>
     requires least { 1 ≤ level }
     requires most { level ≤ 12 }
     ensures { IfOk result (λ list. list.level ≡ level) }
 {
-    let mut maker = Maker::new(alloc, level);
-    for code in 0..1_u32 << (2 * level) {
-        let Pixel { x, y } = pixel_of(code);
-        let colour = if code == dot { Colour(256) } else { Colour(0) };
-        maker.push(Block { x, y, side: 1 }, colour)?;
+    let mut colours = Vec::new(alloc);
+    for _ in 0..dot {
+        colours.push(Colour(0))?;
     }
-    Ok(maker.finish())
+    colours.push(Colour(256))?;
+    map_of(alloc, level, &colours)
 }
 
 #[test]

@@ -1,28 +1,25 @@
 ghost use Rattle.std.specs.Prelude.{◌≡◌, ◌≤◌, IfOk};
 
+use crate::pixel_maps::map_of;
 use quilt_blocks::{LeafList, Maker};
-use quilt_loc::pixel_of;
 use quilt_types::{Block, Colour, Pixel, Window};
 use quilt_window::{shift, window};
 use std::alloc::{AllocError, Global};
 use std::test::Fail;
 
-/// A map of squares of four pixels, each of one of four colours by chance.
-fn scattered(alloc: Global, level: u8, seed: u32) -> Result<LeafList, AllocError>
-    requires least { 1 ≤ level }
-    requires most { level ≤ 12 }
-    ensures { IfOk result (λ list. list.level ≡ level) }
+/// A map of level 4 of squares of four pixels, each of one of four colours by chance.
+fn scattered(alloc: Global, seed: u32) -> Result<LeafList, AllocError>
+    ensures { IfOk result (λ list. list.level ≡ 4) }
 {
-    let mut maker = Maker::new(alloc, level);
+    let mut colours = Vec::new(alloc);
     let mut state = seed;
-    for code in 0..1_u32 << (2 * level) {
+    for code in 0..256_u32 {
         if code % 4 == 0 {
             state = state.wrapping_mul(1664525).wrapping_add(1013904223);
         }
-        let Pixel { x, y } = pixel_of(code);
-        maker.push(Block { x, y, side: 1 }, Colour((state >> 30) as u16 * 256))?;
+        colours.push(Colour((state >> 30) as u16 * 256))?;
     }
-    Ok(maker.finish())
+    map_of(alloc, 4, &colours)
 }
 
 /// A map of one colour.
@@ -76,7 +73,7 @@ fn shifts_of_a_full_map(rt: HostRuntime) -> Result<(), Fail> {
 
 #[test]
 fn a_shift_of_a_scattered_map(rt: HostRuntime) -> Result<(), Fail> {
-    let a = scattered(rt.alloc(), 4, 7)?;
+    let a = scattered(rt.alloc(), 7)?;
     let b = shift(rt.alloc(), &a, 3, -5)?;
     for y in 0..16_u16 {
         for x in 0..16_u16 {
