@@ -1,0 +1,76 @@
+use crate::drawing::Draw;
+use quilt_plain_pages::{RegionLayer, Span, blank, paint, size};
+use quilt_record::Record;
+use std::alloc::{AllocError, Global};
+
+/// The greatest exponent, at most this one, of a block that begins at the code.
+fn exponent_at(code: u32, most: u8) -> u8 {
+    let mut found = 0;
+    for k in 0..=most {
+        if code.checked_rem(size(k)) == Some(0) {
+            found = k;
+        }
+    }
+    found
+}
+
+/// The greatest exponent of the next block. At level 8 blocks have one pixel or four, so that there are many.
+fn drawn_exponent(draw: &mut Draw, level: u8) -> u8 {
+    if level == 8 {
+        u8::from(draw.below(8) > 2)
+    } else {
+        draw.between(0, 3).min(level)
+    }
+}
+
+/// Blocks of drawn sizes that cover the square of the level.
+fn drawn_spans(alloc: Global, draw: &mut Draw, level: u8) -> Result<Vec<Span>, AllocError> {
+    let mut spans = Vec::new(alloc);
+    let mut next = 0;
+    for code in 0..size(level) {
+        if code == next {
+            let k = exponent_at(code, drawn_exponent(draw, level));
+            spans.push(Span { code, k })?;
+            next = code.saturating_add(size(k));
+        }
+    }
+    Ok(spans)
+}
+
+/// One of so many colours, which in format 2 do not all fit one byte.
+fn drawn_colour(draw: &mut Draw, count: u8, format: u8) -> u16 {
+    let colour = u16::from(draw.between(1, count));
+    if format == 2 {
+        colour.wrapping_mul(100)
+    } else {
+        colour
+    }
+}
+
+/// The records of a region layer of drawn blocks in six colours.
+pub fn drawn_region(
+    alloc: Global,
+    draw: &mut Draw,
+    layer: RegionLayer,
+) -> Result<Vec<Record>, AllocError> {
+    let spans = drawn_spans(alloc, draw, layer.level)?;
+    let mut cells = blank(alloc, layer.level, None)?;
+    for b in &spans {
+        let colour = drawn_colour(draw, 6, layer.format);
+        let _is_free = paint(&mut cells, *b, colour);
+    }
+    layer.records(alloc, &cells)
+}
+
+/// Records of drawn blocks in two colours, of which four may be the quarters of a block of one colour: then they are no region layer.
+pub fn drawn_quarters(
+    alloc: Global,
+    draw: &mut Draw,
+    layer: RegionLayer,
+) -> Result<Vec<Record>, AllocError> {
+    let mut records = Vec::new(alloc);
+    for b in &drawn_spans(alloc, draw, layer.level)? {
+        records.push(layer.record(*b, drawn_colour(draw, 2, layer.format)))?;
+    }
+    Ok(records)
+}
