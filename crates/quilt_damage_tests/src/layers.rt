@@ -1,5 +1,5 @@
 use crate::drawing::Draw;
-use quilt_plain_pages::{RegionLayer, Span, blank, paint, size};
+use quilt_plain_pages::{PointLayer, RegionLayer, Span, blank, paint, size};
 use quilt_record::Record;
 use std::alloc::{AllocError, Global};
 
@@ -73,4 +73,20 @@ pub fn drawn_quarters(
         records.push(layer.record(*b, drawn_colour(draw, 2, layer.format)))?;
     }
     Ok(records)
+}
+
+/// The records of a point layer of drawn points, of which one in so many pixels has one.
+pub fn drawn_points(
+    alloc: Global,
+    draw: &mut Draw,
+    layer: PointLayer,
+    one_in: u32,
+) -> Result<Vec<Record>, AllocError> {
+    let mut labels = blank(alloc, layer.level, None)?;
+    for label in &mut labels {
+        if draw.below(one_in) == 0 {
+            *label = Some(draw.below(1 << 20));
+        }
+    }
+    layer.records(alloc, &labels)
 }

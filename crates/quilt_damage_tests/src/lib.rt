@@ -10,6 +10,8 @@ mod judging;
 #[cfg(test)]
 mod layers;
 #[cfg(test)]
+mod points;
+#[cfg(test)]
 mod regions;
 #[cfg(test)]
 mod tally;
