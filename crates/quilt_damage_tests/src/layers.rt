@@ -1,5 +1,5 @@
 use crate::drawing::Draw;
-use quilt_plain_pages::{PointLayer, RegionLayer, Span, blank, paint, size};
+use quilt_plain_pages::{Line, LineLayer, PointLayer, RegionLayer, Span, blank, paint, size};
 use quilt_record::Record;
 use std::alloc::{AllocError, Global};
 
@@ -89,4 +89,38 @@ pub fn drawn_points(
         }
     }
     layer.records(alloc, &labels)
+}
+
+/// A coordinate of the square.
+fn coordinate(draw: &mut Draw, level: u8) -> u16 {
+    let side = 1_u32.wrapping_shl(u32::from(level));
+    u16::try_from(draw.below(side)).unwrap_or(0)
+}
+
+/// A segment between two pixels.
+fn drawn_line(draw: &mut Draw, level: u8, id: u32) -> Line {
+    let x1 = coordinate(draw, level);
+    let y1 = coordinate(draw, level);
+    let x2 = coordinate(draw, level);
+    let y2 = coordinate(draw, level);
+    Line {
+        id,
+        ends: [x1, y1, x2, y2],
+    }
+}
+
+/// The records of a line layer of drawn blocks, with up to three segments under rising ids.
+pub fn drawn_lines(
+    alloc: Global,
+    draw: &mut Draw,
+    layer: LineLayer,
+) -> Result<Vec<Record>, AllocError> {
+    let spans = drawn_spans(alloc, draw, layer.level)?;
+    let mut lines = Vec::new(alloc);
+    let mut id = draw.below(3);
+    for _ in 0..draw.below(4) {
+        lines.push(drawn_line(draw, layer.level, id))?;
+        id = id.wrapping_add(1).wrapping_add(draw.below(3));
+    }
+    layer.records(alloc, &spans, &lines)
 }

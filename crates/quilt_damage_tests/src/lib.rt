@@ -10,6 +10,8 @@ mod judging;
 #[cfg(test)]
 mod layers;
 #[cfg(test)]
+mod lines;
+#[cfg(test)]
 mod points;
 #[cfg(test)]
 mod regions;
