@@ -1,5 +1,5 @@
 use crate::drawing::Draw;
-use crate::writing::{Tree, put, write_leaf};
+use crate::writing::{Tree, put, short_bytes, write_leaf};
 use quilt_plain_pages::{Page, byte, offset, record, short, word};
 use quilt_record::Record;
 use std::alloc::{AllocError, Global};
@@ -137,23 +137,69 @@ fn change_record(alloc: Global, draw: &mut Draw, page: &mut Page) -> Result<(), 
     Ok(())
 }
 
-/// Changes an inner page: its height, a child, or two children.
-fn change_inner(draw: &mut Draw, page: &mut Page, other: u32) {
-    let count = usize::from(short(page, 2));
+/// Changes the item of one of the keys of an inner page by one. A key that was the least under its child is then out of its bounds,
+/// as is one that was the greatest before its child.
+fn change_key(draw: &mut Draw, page: &mut Page, count: usize) {
+    let at = offset(1032, draw.place(count.saturating_sub(1)), 12);
+    let by = if draw.below(2) == 0 { 1 } else { u32::MAX };
+    let item = word(page, at).wrapping_add(by);
+    put(page, at, &item.to_be_bytes());
+}
+
+/// Writes zeros from a place of a page up to another.
+fn clear(page: &mut Page, from: usize, to: usize) {
+    for at in from..to {
+        put(page, at, &[0]);
+    }
+}
+
+/// Takes the last children of an inner page away, so that 126 or 127 are left, or one fewer than there were.
+fn cut_inner(draw: &mut Draw, page: &mut Page, count: usize) {
+    let left = draw
+        .place(2)
+        .saturating_add(126)
+        .min(count.saturating_sub(1));
+    put(page, 2, &short_bytes(left));
+    clear(page, offset(8, left, 4), 1024);
+    clear(page, offset(1012, left, 12), 4096);
+}
+
+/// Changes one child of an inner page, or lets two change places.
+fn change_child(draw: &mut Draw, page: &mut Page, count: usize, other: u32) {
     let i = offset(8, draw.place(count), 4);
     let j = offset(8, draw.place(count), 4);
     let at_i = word(page, i);
     let at_j = word(page, j);
     match draw.below(5) {
-        0 => put(page, 1, &[5_u8.wrapping_sub(byte(page, 1))]),
-        1 => {
+        0 => {
             put(page, i, &at_j.to_be_bytes());
             put(page, j, &at_i.to_be_bytes());
         }
-        2 => put(page, i, &at_j.to_be_bytes()),
+        1..=2 => put(page, i, &at_j.to_be_bytes()),
         3 => put(page, i, &draw.below(1000).to_be_bytes()),
         _ => put(page, i, &other.to_be_bytes()),
     }
+}
+
+/// Changes an inner page: its height, a key, the number of its children, or one of these.
+fn change_inner(draw: &mut Draw, page: &mut Page, other: u32) {
+    let count = usize::from(short(page, 2));
+    match draw.below(8) {
+        0 => put(page, 1, &[5_u8.wrapping_sub(byte(page, 1))]),
+        1..=3 => change_key(draw, page, count),
+        4..=5 => cut_inner(draw, page, count),
+        _ => change_child(draw, page, count, other),
+    }
+}
+
+/// How many records of a leaf are left when the last of them are taken away: often 71 or 72.
+fn drawn_cut(draw: &mut Draw, count: usize) -> usize {
+    let left = if draw.below(2) == 0 {
+        draw.place(2).saturating_add(71)
+    } else {
+        draw.place(count).saturating_add(1)
+    };
+    left.min(count)
 }
 
 /// Changes a leaf page: it is empty, or ends behind its first records.
@@ -162,8 +208,8 @@ fn change_leaf(alloc: Global, draw: &mut Draw, page: &mut Page) -> Result<(), Al
         *page = [0; 4096];
         return Ok(());
     }
-    let count = draw.place(usize::from(short(page, 2))).wrapping_add(1);
-    let records = first_records(alloc, page, count)?;
+    let left = drawn_cut(draw, usize::from(short(page, 2)));
+    let records = first_records(alloc, page, left)?;
     write_leaf(page, &records);
     Ok(())
 }
@@ -201,12 +247,17 @@ fn copy_page(pages: &mut [Page], from: u32, to: u32) {
     }
 }
 
-/// One of the tree's pages: the root in one of four draws.
+/// One of the tree's pages: the root in one of four draws, else often one of the four that were written last. In a tree of height 3
+/// these are the root and the other inner pages.
 fn drawn_page(draw: &mut Draw, tree: &Tree) -> u32 {
-    let at = draw.place(tree.used.len());
-    if draw.below(4) == 0 {
+    let all = tree.used.len();
+    let kind = draw.below(8);
+    if kind < 2 {
         return tree.root;
     }
+    let few = if tree.height == 3 { 7 } else { 4 };
+    let last = draw.place(if kind < few { 4 } else { all });
+    let at = all.saturating_sub(last).saturating_sub(1);
     tree.used.get(at).copied().unwrap_or(tree.root)
 }
 

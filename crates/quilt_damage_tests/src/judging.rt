@@ -46,8 +46,34 @@ fn is_claimed(alloc: Global, records: &[Record], claim: Claim) -> Result<bool, A
     is_map(alloc, records, claim.level, claim.format)
 }
 
-/// The verdict of a plain reading: the first damaged page of a walk, or page 0 where the records are not as many as the header says
-/// or do not spell a map, or nothing.
+/// The verdict that there is a map with these records.
+fn acceptance(records: &[Record], used: Vec<bool>) -> Verdict {
+    Verdict {
+        page: None,
+        used,
+        layers: records.iter().filter(|r| r.key.layer == 0).count(),
+    }
+}
+
+/// The verdict of a plain reading of a tree whose pages are sound: page 0 where the records are not as many as the header says or
+/// do not spell a map, or nothing.
+fn verdict_on(
+    alloc: Global,
+    records: &[Record],
+    used: Vec<bool>,
+    claim: Claim,
+    tally: &mut Tally,
+) -> Result<Verdict, AllocError> {
+    let has_map = is_claimed(alloc, records, claim)?;
+    tally.count_whole(has_map);
+    if has_map {
+        Ok(acceptance(records, used))
+    } else {
+        Ok(refusal(alloc, 0))
+    }
+}
+
+/// The verdict of a plain reading: the first damaged page of a walk, or else that on the records.
 fn plain_verdict(
     alloc: Global,
     tree: &Tree,
@@ -59,18 +85,7 @@ fn plain_verdict(
             tally.count_flaw(flaw);
             Ok(refusal(alloc, page))
         }
-        Walk::Whole { records, visited } => {
-            let has_map = is_claimed(alloc, &records, claim)?;
-            tally.count_whole(has_map);
-            if !has_map {
-                return Ok(refusal(alloc, 0));
-            }
-            Ok(Verdict {
-                page: None,
-                used: visited,
-                layers: records.iter().filter(|r| r.key.layer == 0).count(),
-            })
-        }
+        Walk::Whole { records, visited } => verdict_on(alloc, &records, visited, claim, tally),
     }
 }
 

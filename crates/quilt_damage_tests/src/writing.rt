@@ -34,7 +34,7 @@ pub fn put(page: &mut Page, from: usize, bytes: &[u8]) {
 }
 
 /// The number as two bytes.
-fn short_bytes(n: usize) -> [u8; 2] {
+pub fn short_bytes(n: usize) -> [u8; 2] {
     u16::try_from(n).unwrap_or(0).to_be_bytes()
 }
 
@@ -52,7 +52,7 @@ pub fn write_leaf(page: &mut Page, records: &[Record]) {
 /// One of the keys that part two branches.
 fn parting(draw: &mut Draw, a: &Branch, b: &Branch) -> Key {
     let item = a.greatest.item.wrapping_add(1);
-    if item == 0 || draw.below(3) > 0 {
+    if item == 0 || draw.below(2) > 0 {
         return b.least;
     }
     Key { item, ..a.greatest }
