@@ -12,9 +12,9 @@ pub enum Change {
     Spelling,
     /// One byte of a page.
     Byte,
-    /// One record of a leaf, or one child of an inner page.
+    /// One record of a leaf, or a part of an inner page.
     Record,
-    /// A page as a whole.
+    /// A leaf as a whole, or a part of an inner page, or a page that is another's copy.
     Page,
 }
 

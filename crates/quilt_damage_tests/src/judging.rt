@@ -1,9 +1,9 @@
-ghost use Rattle.std.specs.Prelude.{◌≡◌, IfOk, length};
+ghost use Rattle.std.specs.Prelude.{◌≡◌};
 
 use crate::tally::Tally;
 use crate::writing::{Tree, put};
 use quilt_audit::{Survey, audit};
-use quilt_node::{Head, header_of};
+use quilt_node::header_of;
 use quilt_plain_pages::{Page, Walk, is_map, walk_tree};
 use quilt_record::Record;
 use quilt_store::{MemStore, PageStore};

@@ -4,7 +4,7 @@ use crate::judging::{Claim, judge};
 use crate::tally::Tally;
 use crate::writing::write_tree;
 use quilt_record::{Key, Record};
-use std::alloc::{AllocError, Global};
+use std::alloc::Global;
 use std::process::Abort;
 use std::test::Fail;
 
