@@ -1,5 +1,6 @@
 -- What has to come behind records that begin those of a map.
-use Rattle.std.proofs.Common.{◌≡◌, ℕ, ◌<◌, ◌≤◌, true, List, [], ◌∷◌, ◌++◌, map, length, Some, refl, sym, ◌∙◌, ap, subst, inl, inr, ⊎_elim, arith, Contains, eqb, ne_eqb, Less, pow_pos}
+use Rattle.std.proofs.Common.{◌≡◌, ℕ, ◌<◌, ◌≤◌, true, List, [], ◌∷◌, ◌++◌, map, length, Some, refl, sym, ◌∙◌, ap, subst, inl, inr, ⊎_elim, arith, Contains, eqb}
+use Rattle.std.proofs.Common.{ne_eqb, Less, pow_pos}
 use Rattle.std.specs.Ordering.{is_le}
 use Rattle.std.specs.Cmp.Lexicographic.{slice_cmp, nat_list_cmp_total}
 use Rattle.std.specs.FinMap as finmap
@@ -46,7 +47,8 @@ pub key_layers : (a b : Record) → by_key a b ≡ Less → a.key.layer ≤ b.ke
 key_layers a b e = le_layer a.key b.key (ap is_le e)
 
 -- a layer has a record besides that of the catalog
-pub some_record : (form n : ℕ) → n ≤ 12 → (rs : List Record) (k : ℕ) → 1 ≤ k → (l : Layer) → SpellsOne form n rs k l → (r : Record) × Contains rs r × (r.key.layer ≡ k)
+pub some_record : (form n : ℕ) → n ≤ 12 → (rs : List Record) (k : ℕ) → 1 ≤ k → (l : Layer) → SpellsOne form n rs k l
+    → (r : Record) × Contains rs r × (r.key.layer ≡ k)
 some_record form n le rs k some (Region grid) s = first (leaves_by_code n grid) refl (some_leaf n (leaves_by_code n grid) (leaves_run n grid le))
   where
     first : (es : List (Block × ℕ)) → es ≡ leaves_by_code n grid → 1 ≤ length es → (r : Record) × Contains rs r × (r.key.layer ≡ k)
@@ -78,7 +80,8 @@ module _ (form n : ℕ) (numbers : Numbering) (layers : Map) (rs ahead : List Re
   -- ---- the layers of the map
   named_in : (name : List ℕ) (l : Layer) → finmap.get layers name ≡ Some l → is_name name ≡ true
   named_in name l at =
-      All-contains (λ (e : List ℕ × Layer). is_name e.0 ≡ true) (finmap.entries layers) (name, l) s.map.named (entry_from_get (slice_cmp nat_cmp) nat_list_cmp_total name_same layers name l at)
+      All-contains (λ (e : List ℕ × Layer). is_name e.0 ≡ true) (finmap.entries layers) (name, l) s.map.named
+      (entry_from_get (slice_cmp nat_cmp) nat_list_cmp_total name_same layers name l at)
 
   layer_is : (name : List ℕ) (l : Layer) → finmap.get layers name ≡ Some l → IsLayer form n l
   layer_is name l at = layer_fits form n numbers layers le s.map s.numbering name l at
@@ -97,7 +100,12 @@ module _ (form n : ℕ) (numbers : Numbering) (layers : Map) (rs ahead : List Re
   catalog_record r c zero' =
       let w = catalog_only form n numbers (rs ++ ahead) layers le s r c zero' in
       let range = number_range w.0 w.1 w.2 in
-      record { name = w.0; layer = w.1; at = w.2; entry = named_entry_is form n r w.0 (number_of numbers w.0) w.1 range.0 range.1 (named_in w.0 w.1 w.2) (layer_is w.0 w.1 w.2) w.3 }
+      record {
+        name = w.0;
+        layer = w.1;
+        at = w.2;
+        entry = named_entry_is form n r w.0 (number_of numbers w.0) w.1 range.0 range.1 (named_in w.0 w.1 w.2) (layer_is w.0 w.1 w.2) w.3;
+      }
 
   -- the records of each layer
   pub spelled_at : (name : List ℕ) (l : Layer) → finmap.get layers name ≡ Some l → SpellsOne form n (rs ++ ahead) (number_of numbers name) l
@@ -173,7 +181,8 @@ module _ (form n : ℕ) (numbers : Numbering) (layers : Map) (rs ahead : List Re
         let r = kind_record n name k l in
         let is = kind_record_is n name k l in
         let zero' : r.key.layer ≡ 0 = ap (λ (q : Record). q.key.layer) is in
-        let c : Contains rs r = ⊎_elim (λ d. d) (λ d. let p = past r d in absurd (omega arith)) (Contains-append_cases rs ahead r (catalog_each form n numbers (rs ++ ahead) layers le s name l at)) in
+        let c : Contains rs r = ⊎_elim (λ d. d) (λ d. let p = past r d in absurd (omega arith))
+        (Contains-append_cases rs ahead r (catalog_each form n numbers (rs ++ ahead) layers le s name l at)) in
         let w = f.entries_only r c zero' in
         let e = w.0 in
         let range = number_range name l at in

@@ -1,5 +1,6 @@
 -- The bits of pages.
-use Rattle.std.proofs.Common.{◌≡◌, ◌≢◌, inl, inr, ⊎_elim, ℕ, ◌*◌, ◌/◌, ◌%◌, ◌^◌, ◌<◌, ◌≤◌, Bool, true, false, cond, eqb, ◌||◌, List, [], ◌∷◌, length, get_or, set, replicate, refl, sym, ◌∙◌, ap, arith, get_or-set_same, get_or-set_other, w8}
+use Rattle.std.proofs.Common.{◌≡◌, ◌≢◌, inl, inr, ⊎_elim, ℕ, ◌*◌, ◌/◌, ◌%◌, ◌^◌, ◌<◌, ◌≤◌, Bool, true, false, cond, eqb, ◌||◌, List, [], ◌∷◌, length, get_or}
+use Rattle.std.proofs.Common.{set, replicate, refl, sym, ◌∙◌, ap, arith, get_or-set_same, get_or-set_other, w8}
 use Rattle.std.specs.List.{list_any}
 use Rattle.std.specs.Int.RustNames.{bit_or}
 use Rattle.std.proofs.Math.Nat.{zero-div}
@@ -12,13 +13,16 @@ apart : (i j : ℕ) → i / 8 ≡ j / 8 → i % 8 ≡ j % 8 → i ≡ j
 apart i j q r = omega arith
 
 -- one byte replaced, in which one bit is set
-bit_replaced : (bytes : List ℕ) (i j new : ℕ) → i / 8 < length bytes → eqb (new / 2 ^ (i % 8) % 2) 1 ≡ true → ((k : ℕ) → k < 8 → k ≢ i % 8 → eqb (new / 2 ^ k % 2) 1 ≡ eqb (get_or bytes (i / 8) 0 / 2 ^ k % 2) 1) → has_bit (set bytes (i / 8) new) j ≡ cond (eqb j i) true (has_bit bytes j)
+bit_replaced : (bytes : List ℕ) (i j new : ℕ) → i / 8 < length bytes → eqb (new / 2 ^ (i % 8) % 2) 1 ≡ true
+    → ((k : ℕ) → k < 8 → k ≢ i % 8 → eqb (new / 2 ^ k % 2) 1 ≡ eqb (get_or bytes (i / 8) 0 / 2 ^ k % 2) 1)
+    → has_bit (set bytes (i / 8) new) j ≡ cond (eqb j i) true (has_bit bytes j)
 bit_replaced bytes i j new within here others = elim (cases_eq (j / 8) (i / 8)) [
   | inr other ↦
       let ne : j ≢ i = λ e. other (ap (λ k. k / 8) e) in
       ap (λ x. eqb (x / 2 ^ (j % 8) % 2) 1) (get_or-set_other bytes (i / 8) (j / 8) new 0 other) ∙ sym (ap (λ t. cond t true (has_bit bytes j)) (ne_eqb j i ne))
   | inl same ↦
-      let read : get_or (set bytes (i / 8) new) (j / 8) 0 ≡ new = ap (λ k. get_or (set bytes (i / 8) new) k 0) same ∙ get_or-set_same bytes (i / 8) new 0 within in
+      let read : get_or (set bytes (i / 8) new) (j / 8) 0 ≡ new =
+      ap (λ k. get_or (set bytes (i / 8) new) k 0) same ∙ get_or-set_same bytes (i / 8) new 0 within in
       ap (λ x. eqb (x / 2 ^ (j % 8) % 2) 1) read ∙ elim (cases_eq (j % 8) (i % 8)) [
         | inl at ↦
             ap (λ k. eqb (new / 2 ^ k % 2) 1) at ∙ here ∙ sym (ap (λ t. cond t true (has_bit bytes j)) (eq-eqb j i (apart j i same at)))
@@ -30,7 +34,8 @@ bit_replaced bytes i j new within here others = elim (cases_eq (j / 8) (i / 8)) 
       ]
 ]
 
-pub bit_set : (bytes : List ℕ) (i j : ℕ) → i / 8 < length bytes → has_bit (set bytes (i / 8) (bit_or (get_or bytes (i / 8) 0) (1 * 2 ^ (i % 8) % 2 ^ 8))) j ≡ cond (eqb j i) true (has_bit bytes j)
+pub bit_set : (bytes : List ℕ) (i j : ℕ) → i / 8 < length bytes
+    → has_bit (set bytes (i / 8) (bit_or (get_or bytes (i / 8) 0) (1 * 2 ^ (i % 8) % 2 ^ 8))) j ≡ cond (eqb j i) true (has_bit bytes j)
 bit_set bytes i j within =
     bit_replaced bytes i j (bit_or (get_or bytes (i / 8) 0) (1 * 2 ^ (i % 8) % 2 ^ 8)) within
     (ap (λ x. eqb x 1) (bit_at_set_same w8 (get_or bytes (i / 8) 0) (i % 8) (omega arith)))
@@ -64,12 +69,14 @@ marked_one page p b old e = ap (λ t. cond t true old) (sym e ∙ turned p page)
     turned i j =
         ⊎_elim (λ same. eq-eqb i j same ∙ sym (eq-eqb j i (sym same))) (λ differ. ne_eqb i j differ ∙ sym (ne_eqb j i (λ e. differ (sym e)))) (cases_eq i j)
 
-pub Marks-more : (old new visited : List ℕ) (page : ℕ) → Marks old visited → ((j : ℕ) → has_bit new j ≡ cond (eqb j page) true (has_bit old j)) → Marks new (page ∷ visited)
+pub Marks-more : (old new visited : List ℕ) (page : ℕ) → Marks old visited → ((j : ℕ) → has_bit new j ≡ cond (eqb j page) true (has_bit old j))
+    → Marks new (page ∷ visited)
 Marks-more old new visited page m one = record {
   each = λ p. one p ∙ ap (λ t. cond (eqb p page) true t) (m.each p) ∙ marked_one page p (eqb p page) (list_any (λ v. eqb v p) visited) refl;
 }
 
-pub AreWithin-more : (size : ℕ) (old new : List ℕ) (page : ℕ) → 1 ≤ page → page < size → ((j : ℕ) → has_bit new j ≡ cond (eqb j page) true (has_bit old j)) → AreWithin size old → AreWithin size new
+pub AreWithin-more : (size : ℕ) (old new : List ℕ) (page : ℕ) → 1 ≤ page → page < size
+    → ((j : ℕ) → has_bit new j ≡ cond (eqb j page) true (has_bit old j)) → AreWithin size old → AreWithin size new
 AreWithin-more size old new page low high one h = record {
   each = λ p t. ⊎_elim (λ same. (omega arith, omega arith))
       (λ differ. h.each p (sym (ap (λ b. cond b true (has_bit old p)) (ne_eqb p page differ)) ∙ sym (one p) ∙ t)) (cases_eq p page);

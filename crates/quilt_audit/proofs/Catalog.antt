@@ -32,9 +32,11 @@ kind_fits form n (Lines threshold segs cover) v = (v.least, v.most)
 pub entry_is : (form n : ℕ) (e : Entry) → 1 ≤ e.number → e.number ≤ 255 → is_name e.name ≡ true → KindFits form e.kind → IsEntryOf form (entry_record n e) e
 entry_is form n e least most named kind = record { least = least; most = most; named = named; kind = kind; written = λ m capacity. refl }
 
-pub named_entry_is : (form n : ℕ) (r : Record) (name : List ℕ) (k : ℕ) (l : Layer) → 1 ≤ k → k ≤ 255 → is_name name ≡ true → IsLayer form n l → r ≡ kind_record n name k l → IsEntryOf form r (named_entry name k l)
+pub named_entry_is : (form n : ℕ) (r : Record) (name : List ℕ) (k : ℕ) (l : Layer) → 1 ≤ k → k ≤ 255 → is_name name ≡ true → IsLayer form n l
+    → r ≡ kind_record n name k l → IsEntryOf form r (named_entry name k l)
 named_entry_is form n r name k l least most named fits is =
-    subst (λ (q : Record). IsEntryOf form q (named_entry name k l)) (sym (is ∙ kind_record_is n name k l)) (entry_is form n (named_entry name k l) least most named (kind_fits form n l fits))
+    subst (λ (q : Record). IsEntryOf form q (named_entry name k l)) (sym (is ∙ kind_record_is n name k l))
+    (entry_is form n (named_entry name k l) least most named (kind_fits form n l fits))
 
 -- ---- what is read of a record of the catalog is one entry
 beside_cases : (x : ℕ) → ((x ≡ 1) × (cond (eqb x 1) 0 x ≡ 0)) ⊎ (cond (eqb x 1) 0 x ≡ x)
@@ -64,7 +66,8 @@ pub entry_alone : (form : ℕ) (r : Record) (d e : Entry) → IsEntryOf form r d
 entry_alone form r d e f g =
     let name = name_alone d.name e.name f.named g.named (sym (entry_name form r d f) ∙ entry_name form r e g) in
     let number = sym (ap (λ (s : Record). s.key.item) (f.written 0 0)) ∙ ap (λ (s : Record). s.key.item) (g.written 0 0) in
-    let kind = kind_alone form d.kind e.kind f.kind g.kind (sym (entry_kind form r d f) ∙ entry_kind form r e g) (sym (entry_byte form r d f) ∙ entry_byte form r e g) in
+    let kind = kind_alone form d.kind e.kind f.kind g.kind (sym (entry_kind form r d f) ∙ entry_kind form r e g)
+    (sym (entry_byte form r d f) ∙ entry_byte form r e g) in
     λ i. record { number = number i; name = name i; kind = kind i }
 
 -- ---- the name of a layer stands in the record of its kind alone

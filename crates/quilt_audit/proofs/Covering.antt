@@ -1,5 +1,6 @@
 -- Blocks that follow one another by their codes, and the last four of them.
-use Rattle.std.proofs.Common.{◌≡◌, ℕ, ◌+◌, ◌*◌, ◌/◌, ◌<◌, ◌≤◌, ◌⊎◌, List, [], ◌∷◌, ◌++◌, map, length, refl, sym, ◌∙◌, ap, subst, inl, inr, ⊎_elim, arith, Contains, append_assoc}
+use Rattle.std.proofs.Common.{◌≡◌, ℕ, ◌+◌, ◌*◌, ◌/◌, ◌<◌, ◌≤◌, ◌⊎◌, List, [], ◌∷◌, ◌++◌, map, length, refl, sym, ◌∙◌, ap, subst, inl, inr, ⊎_elim, arith}
+use Rattle.std.proofs.Common.{Contains, append_assoc}
 use Rattle.std.proofs.lemmas.List.Elements.{All-contains, All-from_recursion}
 use Rattle.quilt_types.specs.declared.plane.Block.{Block}
 use Rattle.quilt_types.specs.declared.plane.Pixel.{Pixel}
@@ -29,7 +30,8 @@ module _ (n : ℕ) where
       let e : at + x.side * x.side + size_of (map plain xs) ≡ at + size_of (map plain (x ∷ xs)) = omega arith in
       subst (λ (a : ℕ). Follows n a (map plain ys)) e (covers_back (at + x.side * x.side) xs ys h.2)
 
-  pub covers_more : (at : ℕ) (xs : List Block) (b : Block) → Follows n at (map plain xs) → IsBlock n b → code_from b ≡ at + size_of (map plain xs) → Follows n at (map plain (xs ++ b ∷ []))
+  pub covers_more : (at : ℕ) (xs : List Block) (b : Block) → Follows n at (map plain xs) → IsBlock n b → code_from b ≡ at + size_of (map plain xs)
+      → Follows n at (map plain (xs ++ b ∷ []))
   covers_more at [] b h hb e = let z = size_of-nil in (hb, omega arith, tt)
   covers_more at (x ∷ xs) b h hb e =
       let c = size_of-cons (plain x) (map plain xs) in
@@ -47,7 +49,8 @@ module _ (n : ℕ) where
   block_lies bs b h c = Follows-member n 0 (map plain bs) (plain b) h (Contains-map plain bs b c)
 
   -- the block that has a code
-  pub block_with : (bs : List Block) (k : ℕ) → Follows n 0 (map plain bs) → k < size_of (map plain bs) → (b : Block) × Contains bs b × (code_from b ≤ k) × (k < code_to b)
+  pub block_with : (bs : List Block) (k : ℕ) → Follows n 0 (map plain bs) → k < size_of (map plain bs)
+      → (b : Block) × Contains bs b × (code_from b ≤ k) × (k < code_to b)
   block_with bs k h lt =
       let w = member_with n 0 (map plain bs) k h (omega arith) (omega arith) in
       let m = Contains-map_from plain bs w.0 w.1 in
@@ -72,7 +75,8 @@ module _ (n : ℕ) where
       omega arith
 
   -- the block that ends where all end is the last one
-  last_is : (at : ℕ) (bs : List Block) (b : Block) → Follows n at (map plain bs) → Contains bs b → code_to b ≡ at + size_of (map plain bs) → (ys : List Block) × (bs ≡ ys ++ b ∷ [])
+  last_is : (at : ℕ) (bs : List Block) (b : Block) → Follows n at (map plain bs) → Contains bs b → code_to b ≡ at + size_of (map plain bs)
+      → (ys : List Block) × (bs ≡ ys ++ b ∷ [])
   last_is at [] b h c e = absurd (Contains-nil b c)
   last_is at (x ∷ []) b h c e = ⊎_elim (λ is. ([], ap (λ (z : Block). z ∷ []) is)) (λ d. absurd (Contains-nil b d)) (Contains-cons_cases x [] b c)
   last_is at (x ∷ y ∷ ys) b h c e =
@@ -90,7 +94,8 @@ module _ (n : ℕ) where
   not_last : (xs : List Block) (e f : Block) → Contains (xs ++ e ∷ []) f → (code_from f ≡ code_from e → ⊥) → Contains xs f
   not_last xs e f c apart = ⊎_elim (λ d. d) (λ is. absurd (apart (ap (λ (z : Block). code_from z) (sym is)))) (last_cases xs e f c)
 
-  peel : (xs : List Block) (e f : Block) → Follows n 0 (map plain (xs ++ e ∷ [])) → Contains xs f → code_to f ≡ code_from e → (ys : List Block) × (xs ≡ ys ++ f ∷ [])
+  peel : (xs : List Block) (e f : Block) → Follows n 0 (map plain (xs ++ e ∷ [])) → Contains xs f → code_to f ≡ code_from e
+      → (ys : List Block) × (xs ≡ ys ++ f ∷ [])
   peel xs e f h c end =
       let from = (last_from xs e h).1 in
       last_is 0 xs f (covers_front 0 xs (e ∷ []) h) c (omega arith)
@@ -98,8 +103,10 @@ module _ (n : ℕ) where
   three_more : (xs : List Block) (a b c : Block) → ((xs ++ a ∷ []) ++ b ∷ []) ++ c ∷ [] ≡ xs ++ a ∷ b ∷ c ∷ []
   three_more xs a b c = append_assoc (xs ++ a ∷ []) (b ∷ []) (c ∷ []) ∙ append_assoc xs (a ∷ []) (b ∷ c ∷ [])
 
-  module _ (le : n ≤ 12) (closed : List Block) (b : Block) (recent front : List Block) (three : length recent ≡ 3) (split : no_blocks ++ closed ≡ front ++ recent)
-      (follows : Follows n 0 (map plain (closed ++ b ∷ []))) (w : Block) (hw : IsBlock n w) (wide : 1 < w.side) (part : (q : Block) → Contains (quarters_of w) q → Contains (closed ++ b ∷ []) q) where
+  module _ (le : n ≤ 12) (closed : List Block) (b : Block) (recent front : List Block) (three : length recent ≡ 3)
+      (split : no_blocks ++ closed ≡ front ++ recent)
+      (follows : Follows n 0 (map plain (closed ++ b ∷ []))) (w : Block) (hw : IsBlock n w) (wide : 1 < w.side)
+      (part : (q : Block) → Contains (quarters_of w) q → Contains (closed ++ b ∷ []) q) where
     abbrev at : ℕ → ℕ → Block
     at x y = record { x = x; y = y; side = w.side / 2 }
 
@@ -145,15 +152,24 @@ module _ (n : ℕ) where
         let p2 = peel closed b below follows m2 (omega arith) in
         let e2 = p2.1 in
         let h2 = subst (λ (l : List Block). Follows n 0 (map plain l)) e2 (covers_front 0 closed (b ∷ []) follows) in
-        let m1 = not_last p2.0 below right (subst (λ (l : List Block). Contains l right) e2 (not_last closed b right (part right (1, omega arith, refl)) (λ e. omega arith))) (λ e. omega arith) in
+        let m1 =
+        not_last p2.0 below right
+        (subst (λ (l : List Block). Contains l right) e2 (not_last closed b right (part right (1, omega arith, refl)) (λ e. omega arith)))
+        (λ e. omega arith) in
         let p1 = peel p2.0 below right h2 m1 (omega arith) in
         let e1 = p1.1 in
         let h1 = subst (λ (l : List Block). Follows n 0 (map plain l)) e1 (covers_front 0 p2.0 (below ∷ []) h2) in
-        let m0 = not_last p1.0 right q0 (subst (λ (l : List Block). Contains l q0) e1 (not_last p2.0 below q0 (subst (λ (l : List Block). Contains l q0) e2 (not_last closed b q0 (part q0 (0, omega arith, refl)) (λ e. omega arith))) (λ e. omega arith))) (λ e. omega arith) in
+        let m0 =
+        not_last p1.0 right q0 (subst (λ (l : List Block). Contains l q0) e1
+        (not_last p2.0 below q0
+        (subst (λ (l : List Block). Contains l q0) e2 (not_last closed b q0 (part q0 (0, omega arith, refl)) (λ e. omega arith)))
+        (λ e. omega arith))) (λ e. omega arith) in
         let p0 = peel p1.0 right q0 h1 m0 (omega arith) in
         let e0 = p0.1 in
-        let closed_is : closed ≡ p0.0 ++ q0 ∷ right ∷ below ∷ [] = e2 ∙ ap (λ (l : List Block). l ++ below ∷ []) (e1 ∙ ap (λ (l : List Block). l ++ right ∷ []) e0) ∙ three_more p0.0 q0 right below in
-        let all : front ++ recent ≡ (no_blocks ++ p0.0) ++ q0 ∷ right ∷ below ∷ [] = sym split ∙ ap (λ (l : List Block). no_blocks ++ l) closed_is ∙ sym (append_assoc no_blocks p0.0 (q0 ∷ right ∷ below ∷ [])) in
+        let closed_is : closed ≡ p0.0 ++ q0 ∷ right ∷ below ∷ [] =
+        e2 ∙ ap (λ (l : List Block). l ++ below ∷ []) (e1 ∙ ap (λ (l : List Block). l ++ right ∷ []) e0) ∙ three_more p0.0 q0 right below in
+        let all : front ++ recent ≡ (no_blocks ++ p0.0) ++ q0 ∷ right ∷ below ∷ [] =
+        sym split ∙ ap (λ (l : List Block). no_blocks ++ l) closed_is ∙ sym (append_assoc no_blocks p0.0 (q0 ∷ right ∷ below ∷ [])) in
         let tail : recent ≡ q0 ∷ right ∷ below ∷ [] = same_tail front (no_blocks ++ p0.0) recent (q0 ∷ right ∷ below ∷ []) three all in
         record { block = hw; wide = wide; quarters = sym (ap (λ (l : List Block). l ++ b ∷ []) tail ∙ ap (λ (z : Block). q0 ∷ right ∷ below ∷ z ∷ []) is) }
 

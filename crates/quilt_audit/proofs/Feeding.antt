@@ -22,9 +22,11 @@ Takes-then a b c rs ss h k = record {
 }
 
 -- the first records of a list, and one more
-pub Takes-more : (a b c : Checker) (rs : List Record) (i : ℕ) (r : Record) → slice_get rs i ≡ Some r → Takes a (take i rs) b → Takes b (r ∷ []) c → Takes a (take (i + 1) rs) c
+pub Takes-more : (a b c : Checker) (rs : List Record) (i : ℕ) (r : Record) → slice_get rs i ≡ Some r → Takes a (take i rs) b → Takes b (r ∷ []) c
+    → Takes a (take (i + 1) rs) c
 Takes-more a b c rs i r at h k =
-    let e : take (i + 1) rs ≡ take i rs ++ r ∷ [] = take_more rs i r (slice_get_within rs i r at) ∙ ap (λ z. take i rs ++ z ∷ []) (get_or_from_slice_get rs i r r at) in
+    let e : take (i + 1) rs ≡ take i rs ++ r ∷ [] =
+    take_more rs i r (slice_get_within rs i r at) ∙ ap (λ z. take i rs ++ z ∷ []) (get_or_from_slice_get rs i r r at) in
     subst (λ (l : List Record). Takes a l c) (sym e) (Takes-then a b c (take i rs) (r ∷ []) h k)
 
 pub Takes-all : (a c : Checker) (rs : List Record) (i : ℕ) → length rs ≤ i → Takes a (take i rs) c → Takes a rs c

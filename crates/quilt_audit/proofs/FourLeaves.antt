@@ -26,7 +26,8 @@ parent_is n b p h small is =
 
 -- four tests that held
 pub siblings_from : (n : ℕ) (a b c d : Leaf) (p : Block) (qs : List Block) (z : Block) → IsParent n d.block p → qs ≡ quarters_of p
-    → pair_of a ≡ (get_or qs 0 z, d.colour.0) → pair_of b ≡ (get_or qs 1 z, d.colour.0) → pair_of c ≡ (get_or qs 2 z, d.colour.0) → pair_of d ≡ (get_or qs 3 z, d.colour.0)
+    → pair_of a ≡ (get_or qs 0 z, d.colour.0) → pair_of b ≡ (get_or qs 1 z, d.colour.0) → pair_of c ≡ (get_or qs 2 z, d.colour.0)
+    → pair_of d ≡ (get_or qs 3 z, d.colour.0)
     → AreSiblings n (a ∷ b ∷ c ∷ d ∷ []) (p, d.colour.0)
 siblings_from n a b c d p qs z h is ea eb ec ed = record {
   block = h.block;
@@ -37,7 +38,8 @@ siblings_from n a b c d p qs z h is ea eb ec ed = record {
     at : (i : ℕ) (x : Block × ℕ) → x ≡ (get_or qs i z, d.colour.0) → x ≡ (get_or (quarters_of p) i z, d.colour.0)
     at i x e = e ∙ ap (λ (l : List Block). let y : Block × ℕ = (get_or l i z, d.colour.0) in y) is
 
-    four : pair_of a ≡ (get_or (quarters_of p) 0 z, d.colour.0) → pair_of b ≡ (get_or (quarters_of p) 1 z, d.colour.0) → pair_of c ≡ (get_or (quarters_of p) 2 z, d.colour.0)
+    four : pair_of a ≡ (get_or (quarters_of p) 0 z, d.colour.0) → pair_of b ≡ (get_or (quarters_of p) 1 z, d.colour.0)
+        → pair_of c ≡ (get_or (quarters_of p) 2 z, d.colour.0)
         → pair_of d ≡ (get_or (quarters_of p) 3 z, d.colour.0) → pairs_of (a ∷ b ∷ c ∷ d ∷ []) ≡ map (λ q. (q, d.colour.0)) (quarters_of p)
     four f g h' k = λ i. f i ∷ g i ∷ h' i ∷ k i ∷ []
 
@@ -63,7 +65,8 @@ siblings_small n a b c d w s e =
     let wide = s.wide in
     omega arith
 
-pub siblings_are : (n : ℕ) (a b c d : Leaf) (w : Block × ℕ) (p : Block) (qs : List Block) (z : Block) → AreSiblings n (a ∷ b ∷ c ∷ d ∷ []) w → p ≡ parent_of d.block → qs ≡ quarters_of p → AreThese p d.colour.0 qs z a b c d
+pub siblings_are : (n : ℕ) (a b c d : Leaf) (w : Block × ℕ) (p : Block) (qs : List Block) (z : Block) → AreSiblings n (a ∷ b ∷ c ∷ d ∷ []) w
+    → p ≡ parent_of d.block → qs ≡ quarters_of p → AreThese p d.colour.0 qs z a b c d
 siblings_are n a b c d w p qs z s is qs_are = record {
   first = at 0 (pair_of a) (ap (λ (l : List (Block × ℕ)). get_or l 0 (pair_of a)) s.quarters);
   second = at 1 (pair_of b) (ap (λ (l : List (Block × ℕ)). get_or l 1 (pair_of b)) s.quarters);
@@ -87,7 +90,8 @@ siblings_are n a b c d w p qs z s is qs_are = record {
 abbrev uncoloured : Block → Leaf
 uncoloured b = record { block = b; colour = record { 0 = 0 } }
 
-pub siblings_four : (n : ℕ) (a b c d : Block) (p q r s : Leaf) → p ≡ uncoloured a → q ≡ uncoloured b → r ≡ uncoloured c → s ≡ uncoloured d → (w : Block × ℕ) → AreSiblings n (p ∷ q ∷ r ∷ s ∷ []) w
+pub siblings_four : (n : ℕ) (a b c d : Block) (p q r s : Leaf) → p ≡ uncoloured a → q ≡ uncoloured b → r ≡ uncoloured c → s ≡ uncoloured d
+    → (w : Block × ℕ) → AreSiblings n (p ∷ q ∷ r ∷ s ∷ []) w
     → AreFour n (a ∷ b ∷ c ∷ d ∷ []) w.0
 siblings_four n a b c d p q r s ep eq er es w h = record {
   block = h.block;
@@ -95,10 +99,12 @@ siblings_four n a b c d p q r s ep eq er es w h = record {
   quarters = sym (ap (map (λ (x : Block × ℕ). x.0)) h.quarters) ∙ (λ i. (ep i).block ∷ (eq i).block ∷ (er i).block ∷ (es i).block ∷ []);
 }
 
-pub four_siblings : (n : ℕ) (a b c d : Block) (p q r s : Leaf) → p ≡ uncoloured a → q ≡ uncoloured b → r ≡ uncoloured c → s ≡ uncoloured d → (w : Block) → AreFour n (a ∷ b ∷ c ∷ d ∷ []) w
+pub four_siblings : (n : ℕ) (a b c d : Block) (p q r s : Leaf) → p ≡ uncoloured a → q ≡ uncoloured b → r ≡ uncoloured c → s ≡ uncoloured d
+    → (w : Block) → AreFour n (a ∷ b ∷ c ∷ d ∷ []) w
     → AreSiblings n (p ∷ q ∷ r ∷ s ∷ []) (w, 0)
 four_siblings n a b c d p q r s ep eq er es w h = record {
   block = h.block;
   wide = h.wide;
-  quarters = (λ i. pair_of (ep i) ∷ pair_of (eq i) ∷ pair_of (er i) ∷ pair_of (es i) ∷ []) ∙ ap (map (λ (z : Block). let x : Block × ℕ = (z, 0) in x)) (sym h.quarters);
+  quarters = (λ i. pair_of (ep i) ∷ pair_of (eq i) ∷ pair_of (er i) ∷ pair_of (es i) ∷ [])
+      ∙ ap (map (λ (z : Block). let x : Block × ℕ = (z, 0) in x)) (sym h.quarters);
 }

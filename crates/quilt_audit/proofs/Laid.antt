@@ -1,5 +1,6 @@
 -- Blocks of one layer that come one after another.
-use Rattle.std.proofs.Common.{◌≡◌, ℕ, ◌+◌, ◌*◌, ◌/◌, ◌^◌, ◌<◌, ◌≤◌, true, List, [], ◌∷◌, ◌++◌, map, length, get_or, drop, refl, sym, ◌∙◌, ap, subst, ⊎_elim, arith, Contains, append_assoc, eqb}
+use Rattle.std.proofs.Common.{◌≡◌, ℕ, ◌+◌, ◌*◌, ◌/◌, ◌^◌, ◌<◌, ◌≤◌, true, List, [], ◌∷◌, ◌++◌, map, length, get_or, drop, refl, sym, ◌∙◌, ap, subst, ⊎_elim}
+use Rattle.std.proofs.Common.{arith, Contains, append_assoc, eqb}
 use Rattle.std.proofs.lemmas.Bool.{cases_Bool, cases_lt, cond-true, cond-false}
 use Rattle.std.proofs.lemmas.List.{get_or_past}
 use Rattle.quilt_types.specs.declared.plane.Pixel.{Pixel}
@@ -38,7 +39,8 @@ module _ (rs : List Record) (k n : ℕ) (bs : List (Block × ℕ)) (h : HasBlock
   pub HasBlocks-more : (e : Block × ℕ) → HasBlocks (rs ++ leaf_record n k e ∷ []) k n (bs ++ e ∷ [])
   HasBlocks-more e = record {
     each = λ d c. ⊎_elim (λ m. in_front rs (leaf_record n k e) (leaf_record n k d) (h.each d m))
-        (λ is. subst (λ (z : Block × ℕ). Contains (rs ++ leaf_record n k e ∷ []) (leaf_record n k z)) is (at_last rs (leaf_record n k e))) (last_cases bs e d c);
+        (λ is. subst (λ (z : Block × ℕ). Contains (rs ++ leaf_record n k e ∷ []) (leaf_record n k z)) is (at_last rs (leaf_record n k e)))
+        (last_cases bs e d c);
     only = λ s c is. ⊎_elim
         (λ m.
         let w = Contains-map_from (leaf_record n k) bs s (h.only s m is) in
@@ -70,20 +72,26 @@ cut_front bs (x ∷ y ∷ []) w wide e = let g = ap (λ (l : List (Block × ℕ)
 cut_front bs (x ∷ y ∷ z ∷ f) w wide e = let r : bs ≡ f ++ map (λ q. (q, w.1)) (quarters_of w.0) = ap (λ (l : List (Block × ℕ)). drop 3 l) e in (f, r)
 
 -- four siblings are the last four blocks
-pub siblings_end : (n : ℕ) (bs : List (Block × ℕ)) (a b c d : Leaf) (w : Block × ℕ) → EndsIn bs (a ∷ b ∷ c ∷ []) → AreSiblings n (a ∷ b ∷ c ∷ d ∷ []) w → EndsInQuarters n (bs ++ pair_of d ∷ []) w
+pub siblings_end : (n : ℕ) (bs : List (Block × ℕ)) (a b c d : Leaf) (w : Block × ℕ) → EndsIn bs (a ∷ b ∷ c ∷ [])
+    → AreSiblings n (a ∷ b ∷ c ∷ d ∷ []) w → EndsInQuarters n (bs ++ pair_of d ∷ []) w
 siblings_end n bs a b c d w h s =
     let all = sym (append_assoc (pairs_of no_leaves) bs (pair_of d ∷ [])) ∙ ap (λ l. l ++ pair_of d ∷ []) h.split
     ∙ append_assoc h.front (pairs_of (a ∷ b ∷ c ∷ [])) (pair_of d ∷ []) ∙ ap (λ l. h.front ++ l) s.quarters in
     let r = cut_front (bs ++ pair_of d ∷ []) h.front w s.wide all in
     record { block = s.block; wide = s.wide; front = r.0; split = r.1 }
 
-pub end_siblings : (n : ℕ) (bs : List (Block × ℕ)) (a b c d : Leaf) (w : Block × ℕ) → EndsIn bs (a ∷ b ∷ c ∷ []) → EndsInQuarters n (bs ++ pair_of d ∷ []) w → AreSiblings n (a ∷ b ∷ c ∷ d ∷ []) w
+pub end_siblings : (n : ℕ) (bs : List (Block × ℕ)) (a b c d : Leaf) (w : Block × ℕ) → EndsIn bs (a ∷ b ∷ c ∷ [])
+    → EndsInQuarters n (bs ++ pair_of d ∷ []) w → AreSiblings n (a ∷ b ∷ c ∷ d ∷ []) w
 end_siblings n bs a b c d w h q =
     let four : List (Block × ℕ) = map (λ r. (r, w.1)) (quarters_of w.0) in
     let one = sym (append_assoc (pairs_of no_leaves) bs (pair_of d ∷ [])) ∙ ap (λ l. l ++ pair_of d ∷ []) h.split
     ∙ append_assoc h.front (pairs_of (a ∷ b ∷ c ∷ [])) (pair_of d ∷ []) in
     let two = ap (λ l. pairs_of no_leaves ++ l) q.split ∙ sym (append_assoc (pairs_of no_leaves) q.front four) in
-    record { block = q.block; wide = q.wide; quarters = same_tail h.front (pairs_of no_leaves ++ q.front) (pairs_of (a ∷ b ∷ c ∷ d ∷ [])) four refl (sym one ∙ two) }
+    record {
+      block = q.block;
+      wide = q.wide;
+      quarters = same_tail h.front (pairs_of no_leaves ++ q.front) (pairs_of (a ∷ b ∷ c ∷ d ∷ [])) four refl (sym one ∙ two);
+    }
 
 -- ---- laid blocks
 pub few_colours : (form c : ℕ) → c < colours form → c < 65536
@@ -115,7 +123,8 @@ AreLaid-none form n = record {
   };
 }
 
-pub AreLaid-more : (form n end : ℕ) (bs : List (Block × ℕ)) (e : Block × ℕ) → 1 ≤ n → n ≤ 12 → AreLaid form n end bs → IsBlock n e.0 → code_from e.0 ≡ end → e.1 < colours form
+pub AreLaid-more : (form n end : ℕ) (bs : List (Block × ℕ)) (e : Block × ℕ) → 1 ≤ n → n ≤ 12 → AreLaid form n end bs → IsBlock n e.0
+    → code_from e.0 ≡ end → e.1 < colours form
     → ((w : Block × ℕ) → EndsInQuarters n (bs ++ e ∷ []) w → ⊥) → AreLaid form n (end + e.0.side * e.0.side) (bs ++ e ∷ [])
 AreLaid-more form n end bs e least most h hb at small none =
     let z = size_of-nil in
@@ -148,12 +157,28 @@ quarter_held b h p e half held =
     let d = held.bottom in
     ⊎_elim
     (λ left. ⊎_elim
-    (λ top. (record { x = b.x; y = b.y; side = b.side / 2 }, (0, omega arith, refl), record { left = omega arith; right = omega arith; top = omega arith; bottom = omega arith }))
-    (λ low. (record { x = b.x; y = b.y + b.side / 2; side = b.side / 2 }, (2, omega arith, refl), record { left = omega arith; right = omega arith; top = omega arith; bottom = omega arith }))
+    (λ top. (
+      record { x = b.x; y = b.y; side = b.side / 2 },
+      (0, omega arith, refl),
+      record { left = omega arith; right = omega arith; top = omega arith; bottom = omega arith },
+    ))
+    (λ low. (
+      record { x = b.x; y = b.y + b.side / 2; side = b.side / 2 },
+      (2, omega arith, refl),
+      record { left = omega arith; right = omega arith; top = omega arith; bottom = omega arith },
+    ))
     (cases_lt p.y (b.y + h)))
     (λ right. ⊎_elim
-    (λ top. (record { x = b.x + b.side / 2; y = b.y; side = b.side / 2 }, (1, omega arith, refl), record { left = omega arith; right = omega arith; top = omega arith; bottom = omega arith }))
-    (λ low. (record { x = b.x + b.side / 2; y = b.y + b.side / 2; side = b.side / 2 }, (3, omega arith, refl), record { left = omega arith; right = omega arith; top = omega arith; bottom = omega arith }))
+    (λ top. (
+      record { x = b.x + b.side / 2; y = b.y; side = b.side / 2 },
+      (1, omega arith, refl),
+      record { left = omega arith; right = omega arith; top = omega arith; bottom = omega arith },
+    ))
+    (λ low. (
+      record { x = b.x + b.side / 2; y = b.y + b.side / 2; side = b.side / 2 },
+      (3, omega arith, refl),
+      record { left = omega arith; right = omega arith; top = omega arith; bottom = omega arith },
+    ))
     (cases_lt p.y (b.y + h)))
     (cases_lt p.x (b.x + h))
 

@@ -1,5 +1,6 @@
 -- Lists with an element more at the end, and lists that begin others.
-use Rattle.std.proofs.Common.{◌≡◌, ℕ, ◌+◌, ◌<◌, ◌≤◌, ◌⊎◌, List, [], ◌∷◌, ◌++◌, length, take, get_or, refl, sym, ◌∙◌, ap, ap₂, subst, inl, inr, ⊎_elim, arith, Contains, length-append, Ordering, Less, Equal}
+use Rattle.std.proofs.Common.{◌≡◌, ℕ, ◌+◌, ◌<◌, ◌≤◌, ◌⊎◌, List, [], ◌∷◌, ◌++◌, length, take, get_or, refl, sym, ◌∙◌, ap, ap₂, subst, inl, inr, ⊎_elim, arith}
+use Rattle.std.proofs.Common.{Contains, length-append, Ordering, Less, Equal}
 use Rattle.std.specs.Cmp.{IsTotalOrder, tied_itself}
 use Rattle.std.proofs.lemmas.List.{take_more, take_all}
 use Rattle.std.proofs.lemmas.List.Elements.{Contains-append_left, Contains-append_right, Contains-append_cases}
@@ -49,7 +50,8 @@ module _ {X : Type 0} where
       (Contains-cons_cases y ys z (sub z (Contains-there x xs z c))))
       (λ a b ca cb.
       ⊎_elim
-      (λ m. ⊎_elim (λ e. absurd (below_itself R o y (subst (λ (w : X). R y w ≡ Less) (sym e ∙ sym first) (k.0 b cb)))) (λ d. inl d) (Contains-cons_cases x xs b m))
+      (λ m. ⊎_elim (λ e. absurd (below_itself R o y (subst (λ (w : X). R y w ≡ Less) (sym e ∙ sym first) (k.0 b cb)))) (λ d. inl d)
+      (Contains-cons_cases x xs b m))
       (λ no. inr no)
       (near a b (Contains-there x xs a ca) (Contains-there y ys b cb))) in
       (rest.0, joined x y xs ys rest.0 first rest.1)

@@ -1,5 +1,6 @@
 -- Records of which all is known spell a map.
-use Rattle.std.proofs.Common.{◌≡◌, ℕ, suc, ◌≤◌, ◌&&◌, Bool, true, false, T, List, [], ◌∷◌, map, length, Some, refl, sym, ◌∙◌, ap, ap₂, subst, ⊎_elim, arith, Contains, Ordering, Less}
+use Rattle.std.proofs.Common.{◌≡◌, ℕ, suc, ◌≤◌, ◌&&◌, Bool, true, false, T, List, [], ◌∷◌, map, length, Some, refl, sym, ◌∙◌, ap, ap₂, subst, ⊎_elim, arith}
+use Rattle.std.proofs.Common.{Contains, Ordering, Less}
 use Rattle.std.specs.Ordering.{is_lt, nat_cmp}
 use Rattle.std.specs.Cmp.Lexicographic.{slice_cmp, nat_list_cmp_total}
 use Rattle.std.specs.FinMap as finmap
@@ -32,7 +33,8 @@ both_true : (a b : Bool) → T a → T b → T (a && b)
 both_true true b p q = q
 both_true false b p q = p
 
-below_from : {X : Type 0} (k : List ℕ) (xs : List (List ℕ × X)) → ((x : List ℕ × X) → Contains xs x → slice_cmp nat_cmp k x.0 ≡ Less) → T (sorted.below_all (slice_cmp nat_cmp) k xs)
+below_from : {X : Type 0} (k : List ℕ) (xs : List (List ℕ × X)) → ((x : List ℕ × X) → Contains xs x → slice_cmp nat_cmp k x.0 ≡ Less)
+    → T (sorted.below_all (slice_cmp nat_cmp) k xs)
 below_from k [] h = tt
 below_from k (x ∷ xs) h =
     both_true (is_lt (slice_cmp nat_cmp k x.0)) (sorted.below_all (slice_cmp nat_cmp) k xs)
@@ -47,7 +49,8 @@ numbers_sorted (e ∷ es) h =
     both_true (sorted.below_all (slice_cmp nat_cmp) e.name (map numbered es)) (sorted.is_sorted (slice_cmp nat_cmp) (map numbered es))
     (below_from e.name (map numbered es) (λ x c.
     let w = Contains-map_from numbered es x c in
-    subst (λ (y : List ℕ × ℕ). slice_cmp nat_cmp e.name y.0 ≡ Less) w.2 (is_Less (name_cmp e.name w.0.name) (list_all-at (λ (g : Entry). is_lt (name_cmp e.name g.name)) es w.0 h.0 w.1))))
+    subst (λ (y : List ℕ × ℕ). slice_cmp nat_cmp e.name y.0 ≡ Less) w.2
+    (is_Less (name_cmp e.name w.0.name) (list_all-at (λ (g : Entry). is_lt (name_cmp e.name g.name)) es w.0 h.0 w.1))))
     (numbers_sorted es h.1)
 
 module _ (form n : ℕ) (rs : List Record) where
@@ -63,7 +66,8 @@ module _ (form n : ℕ) (rs : List Record) where
     covered : IsLayerOf form n rs entry.number entry.kind
     is : x ≡ (entry.name, covered.layer)
 
-  made_from : (es : List Entry) (cover : (e : Entry) → Contains es e → IsLayerOf form n rs e.number e.kind) (x : List ℕ × Layer) → Contains (layers_of es cover) x → IsMade es x
+  made_from : (es : List Entry) (cover : (e : Entry) → Contains es e → IsLayerOf form n rs e.number e.kind) (x : List ℕ × Layer)
+      → Contains (layers_of es cover) x → IsMade es x
   unfolding layers_of
   made_from [] cover x c = absurd (Contains-nil x c)
   made_from (e ∷ es) cover x c =
@@ -90,7 +94,8 @@ module _ (form n : ℕ) (rs : List Record) where
   made_length [] cover = refl
   made_length (e ∷ es) cover = ap (λ k. suc k) (made_length es (λ d c. cover d (Contains-there e es d c)))
 
-  made_sorted : (es : List Entry) (cover : (e : Entry) → Contains es e → IsLayerOf form n rs e.number e.kind) → AreInOrder es → T (sorted.is_sorted (slice_cmp nat_cmp) (layers_of es cover))
+  made_sorted : (es : List Entry) (cover : (e : Entry) → Contains es e → IsLayerOf form n rs e.number e.kind) → AreInOrder es
+      → T (sorted.is_sorted (slice_cmp nat_cmp) (layers_of es cover))
   unfolding layers_of
   made_sorted [] cover h = tt
   made_sorted (e ∷ es) cover h =
@@ -98,7 +103,8 @@ module _ (form n : ℕ) (rs : List Record) where
       both_true (sorted.below_all (slice_cmp nat_cmp) e.name rest) (sorted.is_sorted (slice_cmp nat_cmp) rest)
       (below_from e.name rest (λ x c.
       let w = made_from es (λ d c. cover d (Contains-there e es d c)) x c in
-      subst (λ (y : List ℕ × Layer). slice_cmp nat_cmp e.name y.0 ≡ Less) (sym w.is) (is_Less (name_cmp e.name w.entry.name) (list_all-at (λ (g : Entry). is_lt (name_cmp e.name g.name)) es w.entry h.0 w.member))))
+      subst (λ (y : List ℕ × Layer). slice_cmp nat_cmp e.name y.0 ≡ Less) (sym w.is)
+      (is_Less (name_cmp e.name w.entry.name) (list_all-at (λ (g : Entry). is_lt (name_cmp e.name g.name)) es w.entry h.0 w.member))))
       (made_sorted es (λ d c. cover d (Contains-there e es d c)) h.1)
 
   -- the catalog of these layers
@@ -110,7 +116,8 @@ module _ (form n : ℕ) (rs : List Record) where
       ap₂ ◌∷◌ (one e (cover e (Contains-here e es)).layer (cover e (Contains-here e es)).is (are e (Contains-here e es)))
       (made_catalog numbers es (λ d c. cover d (Contains-there e es d c)) (λ d c. are d (Contains-there e es d c)))
     where
-      one : (d : Entry) (l : Layer) → kind_of l ≡ d.kind → number_of numbers d.name ≡ d.number → d ≡ record { number = number_of numbers d.name; name = d.name; kind = kind_of l }
+      one : (d : Entry) (l : Layer) → kind_of l ≡ d.kind → number_of numbers d.name ≡ d.number
+          → d ≡ record { number = number_of numbers d.name; name = d.name; kind = kind_of l }
       one d l k m = λ i. record { number = sym m i; name = d.name; kind = sym k i }
 
 module _ (form n : ℕ) (rs : List Record) (least : 1 ≤ n) (le : n ≤ 12) (es : List Entry) (last layer : ℕ) (run : Run) (f : IsSoFar form n es last layer run rs)
@@ -204,8 +211,10 @@ module _ (form n : ℕ) (rs : List Record) (least : 1 ≤ n) (le : n ≤ 12) (es
   kind_is e h = sym (kind_record_is n e.name e.number h.layer ∙ ap (λ (k : Kind). entry_record n (record { number = e.number; name = e.name; kind = k })) h.is)
 
   -- a record of the layer, under the name of an entry
-  written_as : (e : Entry) (c : Contains es e) (l : Layer) (r : Record) → Contains (layer_records n e.name e.number l) r → finmap.get made e.name ≡ Some l → IsWritten n numbers made r
-  written_as e c l r w at = record { name = e.name; layer = l; at = at; written = subst (λ (k : ℕ). Contains (layer_records n e.name k l) r) (sym (number_is e c)) w }
+  written_as : (e : Entry) (c : Contains es e) (l : Layer) (r : Record) → Contains (layer_records n e.name e.number l) r
+      → finmap.get made e.name ≡ Some l → IsWritten n numbers made r
+  written_as e c l r w at =
+      record { name = e.name; layer = l; at = at; written = subst (λ (k : ℕ). Contains (layer_records n e.name k l) r) (sym (number_is e c)) w }
 
   -- each record is written
   record_written : (r : Record) → Contains rs r → IsWritten n numbers made r
@@ -229,11 +238,13 @@ module _ (form n : ℕ) (rs : List Record) (least : 1 ≤ n) (le : n ≤ 12) (es
       let l = layer_there e w.1 in
       let h = l.0 in
       written_as e w.1 h.layer r
-      (subst (Contains (layer_records n e.name e.number h.layer)) (sym (w.2 ∙ kind_is e h)) (layer_record n e.name e.number h.layer (kind_fact h.layer) (kind_there n h.layer))) l.1)
+      (subst (Contains (layer_records n e.name e.number h.layer)) (sym (w.2 ∙ kind_is e h))
+      (layer_record n e.name e.number h.layer (kind_fact h.layer) (kind_there n h.layer))) l.1)
       (cases_lt 0 r.key.layer)
 
   -- and each that is written is there
-  written_there : (e : Entry) → Contains es e → (h : IsLayerOf form n rs e.number e.kind) (r : Record) → Contains (layer_records n e.name e.number h.layer) r → Contains rs r
+  written_there : (e : Entry) → Contains es e → (h : IsLayerOf form n rs e.number e.kind) (r : Record)
+      → Contains (layer_records n e.name e.number h.layer) r → Contains rs r
   written_there e c h r w =
       let cap = capacity_of h.layer in
       let m = layer_record_from n e.name e.number h.layer r w in

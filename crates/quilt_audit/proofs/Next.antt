@@ -37,7 +37,8 @@ pub record NextLayer (n : ℕ) (es : List Entry) (layer : ℕ) (run : Run) (numb
   pub listed : (e : Entry) × Contains es e × (e.number ≡ number)
   pub between : (e : Entry) → Contains es e → (e.number ≤ layer) ⊎ (number ≤ e.number)
 
-module _ (form n : ℕ) (least : 1 ≤ n) (le : n ≤ 12) (es : List Entry) (last layer : ℕ) (run : Run) (rs : List Record) (f : IsSoFar form n es last layer run rs) (top : last ≤ 255)
+module _ (form n : ℕ) (least : 1 ≤ n) (le : n ≤ 12) (es : List Entry) (last layer : ℕ) (run : Run) (rs : List Record)
+    (f : IsSoFar form n es last layer run rs) (top : last ≤ 255)
     (rest : List Record) (numbers : Numbering) (layers : Map) where
   module _ (r : Record) (s : SpellsUnder form n numbers (rs ++ r ∷ rest) layers) where
     here : Contains (rs ++ r ∷ rest) r
@@ -51,7 +52,8 @@ module _ (form n : ℕ) (least : 1 ≤ n) (le : n ≤ 12) (es : List Entry) (las
         ⊎_elim (λ none. let range = number_range form n numbers layers rs (r ∷ rest) le s w.name w.layer w.at in let one = range.0 in omega arith)
         (λ reached.
         let before = in_order form n numbers layers rs (r ∷ rest) le s (entry_record n reached.0) r (f.listed reached.0 reached.1) (Contains-here r rest) in
-        let lt : reached.0.number < number = nat_less_from reached.0.number number (sym (ap (λ (z : Record). by_key (entry_record n reached.0) z) (w.entry.written 0 0)) ∙ before) in
+        let lt : reached.0.number < number =
+        nat_less_from reached.0.number number (sym (ap (λ (z : Record). by_key (entry_record n reached.0) z) (w.entry.written 0 0)) ∙ before) in
         let same = reached.2 in
         omega arith) f.reached in
         record {
@@ -74,7 +76,8 @@ module _ (form n : ℕ) (least : 1 ≤ n) (le : n ≤ 12) (es : List Entry) (las
     -- each record that comes is of this layer or of a later one
     later : (x : Record) → Contains (r ∷ rest) x → r.key.layer ≤ x.key.layer
     later x c =
-        ⊎_elim (λ e. let k = ap (λ (z : Record). z.key.layer) e in omega arith) (λ d. key_layers r x ((rises_behind by_key rs (r ∷ rest) s.ascending).0 x d)) (Contains-cons_cases r rest x c)
+        ⊎_elim (λ e. let k = ap (λ (z : Record). z.key.layer) e in omega arith)
+        (λ d. key_layers r x ((rises_behind by_key rs (r ∷ rest) s.ascending).0 x d)) (Contains-cons_cases r rest x c)
 
     pub next_layer : HasBegun layer rs → 1 ≤ r.key.layer → NextLayer n es layer run r.key.layer
     next_layer begun some =
@@ -106,14 +109,16 @@ module _ (form n : ℕ) (least : 1 ≤ n) (le : n ≤ 12) (es : List Entry) (las
         }
 
     -- a record that is refused in its layer does not come
-    pub next_taken : (some : 1 ≤ layer) → r.key.layer ≡ layer → ((e : Entry) → Contains es e → e.number ≡ layer → IsRun form n rs layer e.kind run → Refuses form n rs layer e.kind r) → ⊥
+    pub next_taken : (some : 1 ≤ layer) → r.key.layer ≡ layer
+        → ((e : Entry) → Contains es e → e.number ≡ layer → IsRun form n rs layer e.kind run → Refuses form n rs layer e.kind r) → ⊥
     next_taken some is refused =
         let c = f.current some in
         let l = entry_layer form n numbers layers rs (r ∷ rest) le s es last layer run f top c.0 c.1 in
         refused c.0 c.1 c.2 c.3 rest l.value l.kind s.ascending (current_spelled form n numbers layers rs (r ∷ rest) le s es last layer run f top c.0 c.1 c.2 l)
 
 -- at the end
-module _ (form n : ℕ) (least : 1 ≤ n) (le : n ≤ 12) (es : List Entry) (last layer : ℕ) (run : Run) (rs : List Record) (f : IsSoFar form n es last layer run rs) (top : last ≤ 255)
+module _ (form n : ℕ) (least : 1 ≤ n) (le : n ≤ 12) (es : List Entry) (last layer : ℕ) (run : Run) (rs : List Record)
+    (f : IsSoFar form n es last layer run rs) (top : last ≤ 255)
     (numbers : Numbering) (layers : Map) (s : SpellsUnder form n numbers rs layers) where
   with_none : SpellsUnder form n numbers (rs ++ []) layers
   with_none = subst (λ (l : List Record). SpellsUnder form n numbers l layers) (sym (append-nil rs)) s
@@ -127,4 +132,5 @@ module _ (form n : ℕ) (least : 1 ≤ n) (le : n ≤ 12) (es : List Entry) (las
 
   pub end_listed : (e : Entry) → Contains es e → e.number ≤ layer
   end_listed e c =
-      ⊎_elim (λ lt. let b = behind form n numbers layers rs [] le with_none es last layer run f top e c lt in absurd (Contains-nil b.0 b.1)) (λ ge. ge) (cases_lt layer e.number)
+      ⊎_elim (λ lt. let b = behind form n numbers layers rs [] le with_none es last layer run f top e c lt in absurd (Contains-nil b.0 b.1))
+      (λ ge. ge) (cases_lt layer e.number)

@@ -1,5 +1,6 @@
 -- What has to come behind records that begin those of a point layer.
-use Rattle.std.proofs.Common.{◌≡◌, ℕ, ◌+◌, ◌/◌, ◌^◌, ◌<◌, ◌≤◌, ◌⊎◌, Bool, true, List, [], ◌∷◌, ◌++◌, map, length, refl, sym, ◌∙◌, ap, subst, inl, inr, ⊎_elim, arith, Contains, filter, leb-true, le-leb}
+use Rattle.std.proofs.Common.{◌≡◌, ℕ, ◌+◌, ◌/◌, ◌^◌, ◌<◌, ◌≤◌, ◌⊎◌, Bool, true, List, [], ◌∷◌, ◌++◌, map, length, refl, sym, ◌∙◌, ap, subst, inl, inr, ⊎_elim}
+use Rattle.std.proofs.Common.{arith, Contains, filter, leb-true, le-leb}
 use Rattle.std.specs.Ordering.{is_le}
 use Rattle.std.specs.FinMap as finmap
 use Rattle.std.proofs.lemmas.Bool.{cases_lt}
@@ -80,39 +81,48 @@ some_on points b =
         let none = ap length e in
         (HoldsNoPoint b, (refl, bare_from points b (let z : points_in points b ≡ 0 = sym long ∙ none in z)))
     by_case (x ∷ xs) e =
-        let w = Contains-filter_from (λ (e : Pixel × ℕ). in_block b e.0) (finmap.entries points) x (subst (λ (l : List (Pixel × ℕ)). Contains l x) (sym e) (Contains-here x xs)) in
+        let w = Contains-filter_from (λ (e : Pixel × ℕ). in_block b e.0) (finmap.entries points) x
+        (subst (λ (l : List (Pixel × ℕ)). Contains l x) (sym e) (Contains-here x xs)) in
         (HoldsPoint b x.0 x.1, (refl, w.0, w.1))
 
-on_cases : (points : PointMap) (b : Block) (f : Fact) → IsOn points b f → (f ≡ HoldsNoPoint b) ⊎ ((e : Pixel × ℕ) × Contains (finmap.entries points) e × (in_block b e.0 ≡ true))
+on_cases : (points : PointMap) (b : Block) (f : Fact) → IsOn points b f
+    → (f ≡ HoldsNoPoint b) ⊎ ((e : Pixel × ℕ) × Contains (finmap.entries points) e × (in_block b e.0 ≡ true))
 on_cases points b (HoldsPoint d p l) o = let e : Pixel × ℕ = (p, l) in inr (e, o.1, o.2)
 on_cases points b (HoldsNoPoint d) o = inl (ap HoldsNoPoint o.0)
 on_cases points b f o = absurd o
 
 -- where each point of a block is one of other points too
-pub counts_le : (points others : PointMap) (w : Block) → ((e : Pixel × ℕ) → Contains (finmap.entries points) e → in_block w e.0 ≡ true → Contains (finmap.entries others) e) → points_in points w ≤ points_in others w
+pub counts_le : (points others : PointMap) (w : Block)
+    → ((e : Pixel × ℕ) → Contains (finmap.entries points) e → in_block w e.0 ≡ true → Contains (finmap.entries others) e)
+    → points_in points w ≤ points_in others w
 counts_le points others w sub =
     let test : Pixel × ℕ → Bool = λ e. in_block w e.0 in
     let es = finmap.entries points in
     let gs = finmap.entries others in
-    let le = Apart-le (filter test es) (filter test gs) (Apart-filter test es (entries_apart points)) (λ e c. let k = Contains-filter_from test es e c in Contains-filter test gs e (sub e k.0 k.1) k.1) in
+    let le = Apart-le (filter test es) (filter test gs) (Apart-filter test es (entries_apart points))
+    (λ e c. let k = Contains-filter_from test es e c in Contains-filter test gs e (sub e k.0 k.1) k.1) in
     let a = length-filter test es in
     let b = length-filter test gs in
     omega arith
 
 -- and one of those is not
-pub counts_less : (points others : PointMap) (w : Block) → ((e : Pixel × ℕ) → Contains (finmap.entries points) e → in_block w e.0 ≡ true → Contains (finmap.entries others) e)
-    → (x : Pixel × ℕ) → Contains (finmap.entries others) x → in_block w x.0 ≡ true → (Contains (finmap.entries points) x → ⊥) → points_in points w < points_in others w
+pub counts_less : (points others : PointMap) (w : Block)
+    → ((e : Pixel × ℕ) → Contains (finmap.entries points) e → in_block w e.0 ≡ true → Contains (finmap.entries others) e)
+    → (x : Pixel × ℕ) → Contains (finmap.entries others) x → in_block w x.0 ≡ true → (Contains (finmap.entries points) x → ⊥)
+    → points_in points w < points_in others w
 counts_less points others w sub x there on away =
     let test : Pixel × ℕ → Bool = λ e. in_block w e.0 in
     let es = finmap.entries points in
     let gs = finmap.entries others in
     let le = Apart-le (x ∷ filter test es) (filter test gs) (λ c. away (Contains-filter_from test es x c).0, Apart-filter test es (entries_apart points))
-    (λ e c. ⊎_elim (λ is. subst (Contains (filter test gs)) is (Contains-filter test gs x there on)) (λ d. let k = Contains-filter_from test es e d in Contains-filter test gs e (sub e k.0 k.1) k.1) (Contains-cons_cases x (filter test es) e c)) in
+    (λ e c. ⊎_elim (λ is. subst (Contains (filter test gs)) is (Contains-filter test gs x there on))
+    (λ d. let k = Contains-filter_from test es e d in Contains-filter test gs e (sub e k.0 k.1) k.1) (Contains-cons_cases x (filter test es) e c)) in
     let a = length-filter test es in
     let b = length-filter test gs in
     omega arith
 
-module _ (form n : ℕ) (le : n ≤ 12) (capacity layer : ℕ) (some : 1 ≤ layer) (full : PointMap) (rs ahead : List Record) (up : Rises by_key (rs ++ ahead)) (s : SpellsOne form n (rs ++ ahead) layer (Points capacity full)) where
+module _ (form n : ℕ) (le : n ≤ 12) (capacity layer : ℕ) (some : 1 ≤ layer) (full : PointMap) (rs ahead : List Record)
+    (up : Rises by_key (rs ++ ahead)) (s : SpellsOne form n (rs ++ ahead) layer (Points capacity full)) where
   abbrev rec : Fact → Record
   rec f = record_of n capacity [] layer f
 
@@ -185,7 +195,8 @@ module _ (form n : ℕ) (le : n ≤ 12) (capacity layer : ℕ) (some : 1 ≤ lay
       use_map : (bs : List Block) (b : Block) → Contains bs b → Contains (map (coloured n []) bs) (coloured n [] b)
       use_map [] b c = absurd (Contains-nil b c)
       use_map (d ∷ bs) b c =
-          ⊎_elim (λ is. subst (λ (z : Block). Contains (map (coloured n []) (d ∷ bs)) (coloured n [] z)) is (Contains-here (coloured n [] d) (map (coloured n []) bs)))
+          ⊎_elim (λ is. subst (λ (z : Block). Contains (map (coloured n []) (d ∷ bs)) (coloured n [] z)) is
+          (Contains-here (coloured n [] d) (map (coloured n []) bs)))
           (λ m. Contains-there (coloured n [] d) (map (coloured n []) bs) (coloured n [] b) (use_map bs b m)) (Contains-cons_cases d bs b c)
 
       there_too : (b : Block) → Contains (cut fits n (whole n)) b → Contains (map (coloured n []) (cut fits n (whole n))) (coloured n [] b)
@@ -201,7 +212,8 @@ module _ (form n : ℕ) (le : n ≤ 12) (capacity layer : ℕ) (some : 1 ≤ lay
         let m = placed.has.each b f c (on_is points b f o) in
         let w = from_record (rec f) (Contains-append_left rs ahead (rec f) m) (on_layer n capacity layer points b f o) in
         let p = on_part n capacity layer points b f o in
-        let same = fact_of n le capacity capacity layer [] [] f w.0 (on_fits form n capacity points placed.valid b (block_is b c) f o) (of_fits w.0 w.1) (let z : 1 ≤ (rec f).key.part = omega arith in z) (sym w.2) in
+        let same = fact_of n le capacity capacity layer [] [] f w.0 (on_fits form n capacity points placed.valid b (block_is b c) f o)
+        (of_fits w.0 w.1) (let z : 1 ≤ (rec f).key.part = omega arith in z) (sym w.2) in
         subst (OfBlock n capacity full) (sym same) w.1
 
     pub said_block : (b : Block) → Contains bs b → IsMaximal n fits b
@@ -216,7 +228,8 @@ module _ (form n : ℕ) (le : n ≤ 12) (capacity layer : ℕ) (some : 1 ≤ lay
         let w = placed.has.only (rec f) c (on_layer n capacity layer full h.block f h.on) in
         let o = on_from points w.0 w.1 w.3 in
         let p = on_part n capacity layer points w.0 w.1 o in
-        let same = fact_of n le capacity capacity layer [] [] w.1 f (on_fits form n capacity points placed.valid w.0 (block_is w.0 w.2) w.1 o) (of_fits f h) (let z : 1 ≤ (rec (w.1)).key.part = omega arith in z) w.4 in
+        let same = fact_of n le capacity capacity layer [] [] w.1 f (on_fits form n capacity points placed.valid w.0 (block_is w.0 w.2) w.1 o)
+        (of_fits f h) (let z : 1 ≤ (rec (w.1)).key.part = omega arith in z) w.4 in
         let o' = subst (IsOn points w.0) same o in
         let e = on_one points full w.0 h.block f o' h.on in
         (subst (Contains bs) e w.2, subst (λ (z : Block). IsOn points z f) e o')
@@ -274,7 +287,8 @@ module _ (form n : ℕ) (le : n ≤ 12) (capacity layer : ℕ) (some : 1 ≤ lay
         let low = w.2 in
         let high = w.3 in
         let away : Contains bs b → ⊥ = λ c. let t = ends_within b c in absurd (omega arith) in
-        let at : code_from b ≡ end = ⊎_elim (λ l. absurd (away (inside b g l))) (λ ge. let z : code_from b ≡ end = omega arith in z) (cases_lt (code_from b) end) in
+        let at : code_from b ≡ end =
+        ⊎_elim (λ l. absurd (away (inside b g l))) (λ ge. let z : code_from b ≡ end = omega arith in z) (cases_lt (code_from b) end) in
         let f = some_on full b in
         let h : OfBlock n capacity full f.0 = record { block = b; maximal = g; on = f.1 } in
         record {
@@ -300,10 +314,12 @@ module _ (form n : ℕ) (le : n ≤ 12) (capacity layer : ℕ) (some : 1 ≤ lay
     pub covers_all : ((x : Record) → Contains ahead x → x.key.layer ≡ layer → ⊥) → end ≡ 4 ^ n
     covers_all none =
         let most = end_most in
-        ⊎_elim (λ lt. let w = next_at lt in absurd (none (rec w.fact) w.comes (on_layer n capacity layer full w.block w.fact w.on))) (λ ge. omega arith) (cases_lt end (4 ^ n))
+        ⊎_elim (λ lt. let w = next_at lt in absurd (none (rec w.fact) w.comes (on_layer n capacity layer full w.block w.fact w.on)))
+        (λ ge. omega arith) (cases_lt end (4 ^ n))
 
     -- the next record is of a block that begins where the last one ends
-    pub next_from : (r : Record) (rest : List Record) → ahead ≡ r ∷ rest → (f : Fact) (h : OfBlock n capacity full f) → rec f ≡ r → (Contains bs h.block → ⊥) → code_from h.block ≡ end
+    pub next_from : (r : Record) (rest : List Record) → ahead ≡ r ∷ rest → (f : Fact) (h : OfBlock n capacity full f) → rec f ≡ r
+        → (Contains bs h.block → ⊥) → code_from h.block ≡ end
     next_from r rest is f h e away =
         let b = h.block in
         let top = tile_end b h.maximal in
@@ -341,10 +357,12 @@ module _ (form n : ℕ) (le : n ≤ 12) (capacity layer : ℕ) (some : 1 ≤ lay
         let half = qr.half in
         let top = side_le n w hw in
         let g = said_block q0 (part q0 is).0 in
-        ⊎_elim (λ few. absurd (g.last (omega arith) (ap fits qr.parent ∙ le-leb (points_in full w) capacity (omega arith)))) (λ many. omega arith) (cases_lt (points_in points w) (capacity + 1))
+        ⊎_elim (λ few. absurd (g.last (omega arith) (ap fits qr.parent ∙ le-leb (points_in full w) capacity (omega arith)))) (λ many. omega arith)
+        (cases_lt (points_in points w) (capacity + 1))
       where
         halves : (w : Block) → IsBlock n w → 1 < w.side → w.side ≡ w.side / 2 + w.side / 2
-        halves w hw wide = let qr = quarters_are n w (record { x = w.x; y = w.y; side = w.side / 2 }) hw wide (0, omega arith, refl) in let half = qr.half in omega arith
+        halves w hw wide = let qr = quarters_are n w (record { x = w.x; y = w.y; side = w.side / 2 }) hw wide (0, omega arith, refl) in
+            let half = qr.half in omega arith
 
   -- ---- a run that has begun
   module _ (run : PointRun) (t : IsTallied form n rs layer capacity run) where
@@ -394,7 +412,8 @@ module _ (form n : ℕ) (le : n ≤ 12) (capacity layer : ℕ) (some : 1 ≤ lay
         let c : Contains blocks q =
         ⊎_elim
         (λ old. ⊎_elim (λ none. let z = ap (λ (b : Block). b.side) (is_none q none) in absurd (omega arith)) (λ k. in_front t.closed last q k)
-        (Contains-append_cases no_blocks t.closed q (subst (λ (l : List Block). Contains l q) (sym t.ends.split) (Contains-append_right t.ends.front (map block run.recent) q old))))
+        (Contains-append_cases no_blocks t.closed q
+        (subst (λ (l : List Block). Contains l q) (sym t.ends.split) (Contains-append_right t.ends.front (map block run.recent) q old))))
         (λ is. subst (Contains blocks) is last_there) (last_cases (map block run.recent) last q place) in
         (c, let k = begins_by q c in omega arith)) in
         omega arith) t.due
@@ -406,7 +425,8 @@ module _ (form n : ℕ) (le : n ≤ 12) (capacity layer : ℕ) (some : 1 ≤ lay
         let bare = subst (IsBare full) (sym h.on.0) h.on.1 in
         let f = some_on t.points last in
         ⊎_elim
-        (λ e. not_both (rec (HoldsNoPoint last)) (subst (λ (g : Fact). Contains rs (rec g)) e (t.placed.has.each last f.0 last_there (on_is t.points last f.0 f.1))) c)
+        (λ e. not_both (rec (HoldsNoPoint last))
+        (subst (λ (g : Fact). Contains rs (rec g)) e (t.placed.has.each last f.0 last_there (on_is t.points last f.0 f.1))) c)
         (λ w. bare w.0.0 w.0.1 (point_said run.end blocks t.points t.placed w.0 w.1) w.2)
         (on_cases t.points last f.0 f.1)
 
@@ -423,7 +443,8 @@ module _ (form n : ℕ) (le : n ≤ 12) (capacity layer : ℕ) (some : 1 ≤ lay
           let h = fact_said (HoldsPoint last p label) fit refl refl c in
           let on = subst (λ (z : Block). in_block z p ≡ true) (sym h.on.0) h.on.2 in
           let less = counts_less t.points full last (λ e m k. point_said run.end blocks t.points t.placed e m) (p, label) h.on.1 on
-          (λ m. not_both (rec (HoldsPoint last p label)) (t.placed.has.each last (HoldsPoint last p label) last_there (on_is t.points last (HoldsPoint last p label) (refl, m, on))) c) in
+          (λ m. not_both (rec (HoldsPoint last p label))
+          (t.placed.has.each last (HoldsPoint last p label) last_there (on_is t.points last (HoldsPoint last p label) (refl, m, on))) c) in
           let few = leb-true (points_in full last) capacity last_max.passes in
           let k = t.count in
           omega arith

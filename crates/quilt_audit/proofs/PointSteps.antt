@@ -1,5 +1,6 @@
 -- The records of a point layer with one more.
-use Rattle.std.proofs.Common.{◌≡◌, ℕ, suc, ◌+◌, ◌/◌, ◌^◌, ◌<◌, ◌≤◌, ◌⊎◌, true, List, [], ◌∷◌, ◌++◌, map, length, Option, Some, None, refl, sym, ◌∙◌, ap, subst, inl, inr, ⊎_elim, arith, Contains, append_assoc, length-append, flat_map, filter, Less}
+use Rattle.std.proofs.Common.{◌≡◌, ℕ, suc, ◌+◌, ◌/◌, ◌^◌, ◌<◌, ◌≤◌, ◌⊎◌, true, List, [], ◌∷◌, ◌++◌, map, length, Option, Some, None, refl, sym, ◌∙◌, ap, subst}
+use Rattle.std.proofs.Common.{inl, inr, ⊎_elim, arith, Contains, append_assoc, length-append, flat_map, filter, Less}
 use Rattle.std.specs.FinMap as finmap
 use Rattle.std.proofs.lemmas.Bool.{cases_Bool, both_ways}
 use Rattle.std.proofs.lemmas.List.{map-append}
@@ -37,7 +38,8 @@ use Rattle.quilt_point_laws.proofs.Plans.{AreIn-length, put_valid}
 use Rattle.quilt_audit.specs.declared.tally.Tally.{Tally}
 use Rattle.quilt_audit.specs.declared.points.PointRun.{PointRun}
 use Rattle.quilt_audit.specs.Covers.{AreFour, no_block, no_blocks}
-use Rattle.quilt_audit.specs.Points.{plain, HasFacts, ArePlaced, EndIn, AreClosed, total, blocks_behind, IsTallied, IsStart, IsBefore, IsLeast, shifted, IsIn, count_of, no_tally}
+use Rattle.quilt_audit.specs.Points.{plain, HasFacts, ArePlaced, EndIn, AreClosed, total, blocks_behind, IsTallied, IsStart, IsBefore, IsLeast, shifted, IsIn}
+use Rattle.quilt_audit.specs.Points.{count_of, no_tally}
 use Rattle.quilt_audit.proofs.Lists.{last_cases, in_front, at_last, below_itself, rises_before}
 use Rattle.quilt_audit.proofs.Covering.{covers_more, covered_more, last_apart, last_four}
 
@@ -56,7 +58,8 @@ pub four_counts : (n : ℕ) (points : PointMap) (w : Block) → IsBlock n w → 
 unfolding points_of
 four_counts n points w hw wide =
     let hs : Block → List (Pixel × ℕ) = λ r. filter (λ e. in_block r e.0) (finmap.entries points) in
-    let are : (r : Block) → AreIn points r (hs r) = λ r. record { once = Apart-filter (λ (e : Pixel × ℕ). in_block r e.0) (finmap.entries points) (entries_apart points); members = λ e. (λ c. c, λ c. c) } in
+    let are : (r : Block) → AreIn points r (hs r) = λ r.
+    record { once = Apart-filter (λ (e : Pixel × ℕ). in_block r e.0) (finmap.entries points) (entries_apart points); members = λ e. (λ c. c, λ c. c) } in
     let h = w.side / 2 in
     let at : ℕ → ℕ → Block = λ x y. record { x = x; y = y; side = h } in
     let a = at w.x w.y in
@@ -68,7 +71,8 @@ four_counts n points w hw wide =
     let lb = AreIn-length points b (hs b) (are b) in
     let lc = AreIn-length points c (hs c) (are c) in
     let ld = AreIn-length points d (hs d) (are d) in
-    let n0 : length (hs a ++ (hs b ++ (hs c ++ (hs d ++ [])))) ≡ length (hs a) + length (hs b ++ (hs c ++ (hs d ++ []))) = length-append (hs a) (hs b ++ (hs c ++ (hs d ++ []))) in
+    let n0 : length (hs a ++ (hs b ++ (hs c ++ (hs d ++ [])))) ≡ length (hs a) + length (hs b ++ (hs c ++ (hs d ++ []))) =
+    length-append (hs a) (hs b ++ (hs c ++ (hs d ++ []))) in
     let n1 = length-append (hs b) (hs c ++ (hs d ++ [])) in
     let n2 = length-append (hs c) (hs d ++ []) in
     let n3 = length-append (hs d) [] in
@@ -84,13 +88,17 @@ none_held p h = let l = h.left in let r = h.right in omega arith
 
 pub is_none : (b : Block) → Contains no_blocks b → b ≡ no_block
 is_none b c =
-    ⊎_elim (λ e. sym e) (λ d. ⊎_elim (λ e. sym e) (λ f. ⊎_elim (λ e. sym e) (λ g. absurd (Contains-nil b g)) (Contains-cons_cases no_block [] b f)) (Contains-cons_cases no_block (no_block ∷ []) b d))
+    ⊎_elim (λ e. sym e) (λ d. ⊎_elim (λ e. sym e) (λ f. ⊎_elim (λ e. sym e) (λ g. absurd (Contains-nil b g)) (Contains-cons_cases no_block [] b f))
+    (Contains-cons_cases no_block (no_block ∷ []) b d))
     (Contains-cons_cases no_block (no_block ∷ no_block ∷ []) b c)
 
 -- ---- one point more
-module _ (small big : PointMap) (p : Pixel) (label : ℕ) (h : Comes small big p label) (n capacity layer : ℕ) (rs : List Record) (bs cs : List Block) (b : Block) (on : in_block b p ≡ true)
-    (has : HasFacts rs layer n capacity bs small) (here : Contains cs b) (kept : (d : Block) → Contains bs d → Contains cs d) (alone : (d : Block) → Contains cs d → Holds d p → d ≡ b)
-    (was : (d : Block) → Contains cs d → Contains bs d ⊎ (b ≡ d)) (some : (d : Block) → Contains bs d → Holds d p → IsBare small d → ⊥) (fresh : (f : Fact) → IsOn small b f → IsOn big b f → Contains bs b) where
+module _ (small big : PointMap) (p : Pixel) (label : ℕ) (h : Comes small big p label) (n capacity layer : ℕ) (rs : List Record) (bs cs : List Block)
+    (b : Block) (on : in_block b p ≡ true)
+    (has : HasFacts rs layer n capacity bs small) (here : Contains cs b) (kept : (d : Block) → Contains bs d → Contains cs d) (alone : (d : Block)
+    → Contains cs d → Holds d p → d ≡ b)
+    (was : (d : Block) → Contains cs d → Contains bs d ⊎ (b ≡ d)) (some : (d : Block) → Contains bs d → Holds d p → IsBare small d → ⊥)
+    (fresh : (f : Fact) → IsOn small b f → IsOn big b f → Contains bs b) where
   abbrev new : Record
   new = record_of n capacity [] layer (HoldsPoint b p label)
 
@@ -103,7 +111,9 @@ module _ (small big : PointMap) (p : Pixel) (label : ℕ) (h : Comes small big p
         let o = on_from big d f m in
         ⊎_elim
         (λ old.
-        let there : Contains bs d = ⊎_elim (λ k. k) (λ is. subst (Contains bs) is (fresh f (subst (λ (z : Block). IsOn small z f) (sym is) old) (subst (λ (z : Block). IsOn big z f) (sym is) o))) (was d c) in
+        let there : Contains bs d =
+        ⊎_elim (λ k. k) (λ is. subst (Contains bs) is
+        (fresh f (subst (λ (z : Block). IsOn small z f) (sym is) old) (subst (λ (z : Block). IsOn big z f) (sym is) o))) (was d c) in
         in_front rs new (record_of n capacity [] layer f) (has.each d f there (on_is small d f old)))
         (λ k.
         let e : d ≡ b = alone d c k.0 in
@@ -136,7 +146,8 @@ bare_fact points b (HoldsPoint d q k) bare o = absurd (bare q k o.1 o.2)
 bare_fact points b (HoldsNoPoint d) bare o = ap HoldsNoPoint o.0
 bare_fact points b f bare o = absurd o
 
-module _ (form n : ℕ) (le : n ≤ 12) (rs : List Record) (layer capacity end : ℕ) (bs : List Block) (points : PointMap) (placed : ArePlaced form n rs layer capacity end bs points)
+module _ (form n : ℕ) (le : n ≤ 12) (rs : List Record) (layer capacity end : ℕ) (bs : List Block) (points : PointMap)
+    (placed : ArePlaced form n rs layer capacity end bs points)
     (b : Block) (hb : IsBlock n b) (from : code_from b ≡ end) where
   follows : Follows n 0 (map plain (bs ++ b ∷ []))
   follows = let s = placed.size in covers_more n 0 bs b placed.follows hb (omega arith)
@@ -177,7 +188,8 @@ module _ (form n : ℕ) (le : n ≤ 12) (rs : List Record) (layer capacity end :
     pub next_comes : Comes points (finmap.insert points p label) p label
     next_comes = put_comes points p label (some_none points p (λ k c. next_bare p k c on))
 
-    pub placed_point : ArePlaced form n (rs ++ record_of n capacity [] layer (HoldsPoint b p label) ∷ []) layer capacity (code_to b) (bs ++ b ∷ []) (finmap.insert points p label)
+    pub placed_point : ArePlaced form n (rs ++ record_of n capacity [] layer (HoldsPoint b p label) ∷ []) layer capacity (code_to b) (bs ++ b ∷ [])
+        (finmap.insert points p label)
     placed_point =
         let big = finmap.insert points p label in
         let h = next_comes in
@@ -199,16 +211,19 @@ module _ (form n : ℕ) (le : n ≤ 12) (rs : List Record) (layer capacity end :
           few = λ d c.
               ⊎_elim (λ old. let s = points_in-same points big p label h d (apart d old) in let f = placed.few d old in omega arith)
               (λ is. subst (λ (z : Block). points_in big z ≤ capacity) is
-              (let m = points_in-more points big p label h b on in let z = bare_is points b next_bare in let l = placed.valid.least in omega arith)) (last_cases bs b d c);
+              (let m = points_in-more points big p label h b on in let z = bare_is points b next_bare in let l = placed.valid.least in omega arith))
+              (last_cases bs b d c);
         }
 
 -- ---- the next block
-counts_total : (points : PointMap) (ts : List Tally) → ((t : Tally) → Contains ts t → points_in points t.block ≡ t.count) → points_of points (map (λ (t : Tally). t.block) ts) ≡ total ts
+counts_total : (points : PointMap) (ts : List Tally) → ((t : Tally) → Contains ts t → points_in points t.block ≡ t.count)
+    → points_of points (map (λ (t : Tally). t.block) ts) ≡ total ts
 unfolding points_of
 counts_total points [] h = refl
 counts_total points (t ∷ ts) h = let a = h t (Contains-here t ts) in let r = counts_total points ts (λ u c. h u (Contains-there t ts u c)) in omega arith
 
-module _ (n : ℕ) (points : PointMap) (three : List Tally) (b : Block) (count : ℕ) (counts : (t : Tally) → Contains three t → points_in points t.block ≡ t.count) (is : points_in points b ≡ count) where
+module _ (n : ℕ) (points : PointMap) (three : List Tally) (b : Block) (count : ℕ) (counts : (t : Tally) → Contains three t
+    → points_in points t.block ≡ t.count) (is : points_in points b ≡ count) where
   behind_counts : (w : Block) → AreFour n (blocks_behind three b) w → points_in points w ≡ total three + count
   unfolding points_of
   behind_counts w f =
@@ -226,23 +241,27 @@ module _ (n : ℕ) (points : PointMap) (three : List Tally) (b : Block) (count :
     due_from = ⊎_elim (λ z. inl z) (λ d. inr (d.0, d.1, let c = behind_counts d.0 d.1 in let e = d.2 in omega arith)) h.due
 
 -- where the counts of the last three are the same over other points
-EndIn-same : (bs : List Block) (small big : PointMap) (recent : List Tally) → ((d : Block) → Contains bs d ⊎ (d ≡ no_block) → points_in big d ≡ points_in small d) → EndIn bs small recent → EndIn bs big recent
+EndIn-same : (bs : List Block) (small big : PointMap) (recent : List Tally)
+    → ((d : Block) → Contains bs d ⊎ (d ≡ no_block) → points_in big d ≡ points_in small d) → EndIn bs small recent → EndIn bs big recent
 EndIn-same bs small big recent same e = record {
   three = e.three;
   front = e.front;
   split = e.split;
   counts = λ t c.
       let block : Tally → Block = λ t. t.block in
-      let m = subst (λ (l : List Block). Contains l t.block) (sym e.split) (Contains-append_right e.front (map block recent) t.block (Contains-map block recent t c)) in
+      let m = subst (λ (l : List Block). Contains l t.block) (sym e.split)
+      (Contains-append_right e.front (map block recent) t.block (Contains-map block recent t c)) in
       same t.block (⊎_elim (λ k. inr (is_none t.block k)) (λ k. inl k) (Contains-append_cases no_blocks bs t.block m)) ∙ e.counts t c;
 }
 
 -- the record of what is said of a block
 module _ (form n : ℕ) (le : n ≤ 12) (rs : List Record) (layer capacity end : ℕ) (recent : List Tally) (closed : AreClosed form n rs layer capacity end recent)
     (b : Block) (hb : IsBlock n b) (from : code_from b ≡ end) (next : PointRun) (ends : next.end ≡ code_to b) (three : next.recent ≡ recent) where
-  module _ (big : PointMap) (h : (w : Block) → points_in closed.points w ≤ points_in big w) (same : (d : Block) → Contains closed.blocks d ⊎ (d ≡ no_block) → points_in big d ≡ points_in closed.points d)
+  module _ (big : PointMap) (h : (w : Block) → points_in closed.points w ≤ points_in big w) (same : (d : Block)
+      → Contains closed.blocks d ⊎ (d ≡ no_block) → points_in big d ≡ points_in closed.points d)
       (r : Record) (count : ℕ) (opens : next.last ≡ record { block = b; count = count }) (is : points_in big b ≡ count)
-      (least : IsLeast n capacity next.recent b next.least) (placed : ArePlaced form n (rs ++ r ∷ []) layer capacity (code_to b) (closed.blocks ++ b ∷ []) big) where
+      (least : IsLeast n capacity next.recent b next.least)
+      (placed : ArePlaced form n (rs ++ r ∷ []) layer capacity (code_to b) (closed.blocks ++ b ∷ []) big) where
     pub opened_with : IsTallied form n (rs ++ r ∷ []) layer capacity next
     opened_with =
         let block : next.last.block ≡ b = ap (λ (t : Tally). t.block) opens in
@@ -266,7 +285,8 @@ module _ (form n : ℕ) (le : n ≤ 12) (rs : List Record) (layer capacity end :
               (due_from n big next.recent b count counts is capacity next.least least);
         }
 
-  pub opened : (held : Option Point) → next.last ≡ record { block = b; count = count_of held } → IsLeast n capacity next.recent b next.least → IsIn b held → FactFits n (point_fact b held)
+  pub opened : (held : Option Point) → next.last ≡ record { block = b; count = count_of held } → IsLeast n capacity next.recent b next.least
+      → IsIn b held → FactFits n (point_fact b held)
       → IsTallied form n (rs ++ record_of n capacity [] layer (point_fact b held) ∷ []) layer capacity next
   opened None opens least inside fits =
       let bs = closed.blocks in
@@ -284,13 +304,15 @@ module _ (form n : ℕ) (le : n ≤ 12) (rs : List Record) (layer capacity end :
       let m = points_in-more small big x.at x.label h b inside in
       let f = follows form n le rs layer capacity end bs small closed.placed b hb from in
       opened_with big (grows small big x.at x.label h)
-      (λ d c. points_in-same small big x.at x.label h d (λ k. ⊎_elim (λ old. last_apart n bs b d x.at le f old k hold) (λ e. none_held x.at (subst (λ (z : Block). Holds z x.at) e k)) c))
+      (λ d c. points_in-same small big x.at x.label h d
+      (λ k. ⊎_elim (λ old. last_apart n bs b d x.at le f old k hold) (λ e. none_held x.at (subst (λ (z : Block). Holds z x.at) e k)) c))
       (record_of n capacity [] layer (HoldsPoint b x.at x.label)) 1 opens (omega arith) least
       (placed_point form n le rs layer capacity end bs small closed.placed b hb from x.at x.label inside fits.1 fits.2)
 
 -- ---- one point more in the last block
 module _ (form n : ℕ) (le : n ≤ 12) (rs : List Record) (layer capacity : ℕ) (run : PointRun) (t : IsTallied form n rs layer capacity run) (x : Point)
-    (on : in_block run.last.block x.at ≡ true) (inside : is_pixel n x.at ≡ true) (small_label : x.label < 2 ^ 32) (some : 1 ≤ run.last.count) (room : run.last.count < capacity)
+    (on : in_block run.last.block x.at ≡ true) (inside : is_pixel n x.at ≡ true) (small_label : x.label < 2 ^ 32) (some : 1 ≤ run.last.count)
+    (room : run.last.count < capacity)
     (up : Rises by_key (rs ++ record_of n capacity [] layer (HoldsPoint run.last.block x.at x.label) ∷ [])) (next : PointRun)
     (is : next ≡ record run { last = record { block = run.last.block; count = run.last.count + 1 } }) where
   abbrev last : Block
@@ -328,13 +350,15 @@ module _ (form n : ℕ) (le : n ≤ 12) (rs : List Record) (layer capacity : ℕ
       let q = quarters_are n w last f.block f.wide m in
       points_in-more t.points big x.at x.label comes w (in_block-true w x.at (Within-holds last w x.at q.within hold))
 
-  made : IsTallied form n (rs ++ record_of n capacity [] layer (HoldsPoint last x.at x.label) ∷ []) layer capacity (record run { last = record { block = last; count = run.last.count + 1 } })
+  made : IsTallied form n (rs ++ record_of n capacity [] layer (HoldsPoint last x.at x.label) ∷ []) layer capacity
+      (record run { last = record { block = last; count = run.last.count + 1 } })
   made = record {
     closed = t.closed;
     points = big;
     placed = record {
       valid = put_valid form n capacity t.points big x.at x.label comes t.placed.valid inside small_label;
-      has = put_facts t.points big x.at x.label comes n capacity layer rs blocks blocks last on t.placed.has (at_last t.closed last) (λ d c. c) in_last (λ d c. inl c)
+      has = put_facts t.points big x.at x.label comes n capacity layer rs blocks blocks last on t.placed.has (at_last t.closed last)
+          (λ d c. c) in_last (λ d c. inl c)
           (λ d c k bare.
           let e = in_last d c k in
           let z = bare_is t.points last (subst (IsBare t.points) e bare) in
@@ -342,15 +366,19 @@ module _ (form n : ℕ) (le : n ≤ 12) (rs : List Record) (layer capacity : ℕ
           absurd (omega arith)) (λ f o g. at_last t.closed last);
       follows = t.placed.follows;
       size = t.placed.size;
-      held = λ e c. ⊎_elim (λ old. t.placed.held e old) (λ same. (last, at_last t.closed last, ap (λ (z : Pixel × ℕ). in_block last z.0) same ∙ on)) ((comes.members e).0 c);
+      held = λ e c. ⊎_elim (λ old. t.placed.held e old) (λ same. (last, at_last t.closed last, ap (λ (z : Pixel × ℕ). in_block last z.0) same ∙ on))
+          ((comes.members e).0 c);
       few = λ d c.
           ⊎_elim
-          (λ old. let s = points_in-same t.points big x.at x.label comes d (λ k. last_apart n t.closed last d x.at le t.placed.follows old k hold) in let f = t.placed.few d c in omega arith)
+          (λ old. let s = points_in-same t.points big x.at x.label comes d (λ k. last_apart n t.closed last d x.at le t.placed.follows old k hold) in
+          let f = t.placed.few d c in omega arith)
           (λ e. subst (λ (z : Block). points_in big z ≤ capacity) e (let m = more_count in omega arith)) (last_cases t.closed last d c);
     };
     apart = λ w hw wide part. let a = t.apart w hw wide part in let l = grows t.points big x.at x.label comes w in omega arith;
     ends = EndIn-same t.closed t.points big run.recent
-        (λ d c. points_in-same t.points big x.at x.label comes d (λ k. ⊎_elim (λ old. last_apart n t.closed last d x.at le t.placed.follows old k hold) (λ e. none_held x.at (subst (λ (z : Block). Holds z x.at) e k)) c)) t.ends;
+        (λ d c. points_in-same t.points big x.at x.label comes d
+        (λ k. ⊎_elim (λ old. last_apart n t.closed last d x.at le t.placed.follows old k hold)
+        (λ e. none_held x.at (subst (λ (z : Block). Holds z x.at) e k)) c)) t.ends;
     count = more_count;
     enough = λ w f. let e = t.enough w f in let m = four_more w f in omega arith;
     due = ⊎_elim (λ z. inl z) (λ d. inr (d.0, d.1, let e = d.2 in let m = four_more d.0 d.1 in omega arith)) t.due;
@@ -360,7 +388,8 @@ module _ (form n : ℕ) (le : n ≤ 12) (rs : List Record) (layer capacity : ℕ
   more_tallied = subst (IsTallied form n (rs ++ record_of n capacity [] layer (HoldsPoint run.last.block x.at x.label) ∷ []) layer capacity) (sym is) made
 
 -- ---- the last block is closed
-shifted_blocks : (front blocks : List Block) (recent : List Tally) (t : Tally) → let block : Tally → Block = λ t. t.block in no_blocks ++ blocks ≡ front ++ map block recent
+shifted_blocks : (front blocks : List Block) (recent : List Tally) (t : Tally) → let block : Tally → Block = λ t. t.block in
+    no_blocks ++ blocks ≡ front ++ map block recent
     → (f : List Block) × (no_blocks ++ (blocks ++ t.block ∷ []) ≡ f ++ map block (shifted recent t))
 shifted_blocks front blocks [] t e =
     (no_blocks ++ blocks, sym (append_assoc no_blocks blocks (t.block ∷ [])))
@@ -380,7 +409,8 @@ shifted_from : (recent : List Tally) (t u : Tally) → Contains (shifted recent 
 shifted_from [] t u c = ⊎_elim (λ e. inr e) (λ d. absurd (Contains-nil u d)) (Contains-cons_cases t [] u c)
 shifted_from (a ∷ rest) t u c = ⊎_elim (λ d. inl (Contains-there a rest u d)) (λ e. inr e) (last_cases rest t u c)
 
-pub closes : (form n : ℕ) → n ≤ 12 → (rs : List Record) (layer capacity : ℕ) (run : PointRun) → IsTallied form n rs layer capacity run → run.least ≤ run.last.count
+pub closes : (form n : ℕ) → n ≤ 12 → (rs : List Record) (layer capacity : ℕ) (run : PointRun) → IsTallied form n rs layer capacity run
+    → run.least ≤ run.last.count
     → AreClosed form n rs layer capacity run.end (shifted run.recent run.last)
 closes form n le rs layer capacity run t enough =
     let block : Tally → Block = λ t. t.block in
@@ -391,12 +421,14 @@ closes form n le rs layer capacity run t enough =
       placed = t.placed;
       apart = λ w hw wide part.
           ⊎_elim (λ old. t.apart w hw wide old) (λ four. let e = t.enough w four in omega arith)
-          (last_four n le t.closed run.last.block (map block run.recent) t.ends.front (long run.recent ∙ t.ends.three) t.ends.split t.placed.follows w hw wide part);
+          (last_four n le t.closed run.last.block (map block run.recent) t.ends.front
+          (long run.recent ∙ t.ends.three) t.ends.split t.placed.follows w hw wide part);
       ends = record {
         three = shifted_long run.recent run.last t.ends.three;
         front = f.0;
         split = f.1;
-        counts = λ u c. ⊎_elim (λ old. t.ends.counts u old) (λ e. subst (λ (z : Tally). points_in t.points z.block ≡ z.count) e t.count) (shifted_from run.recent run.last u c);
+        counts = λ u c. ⊎_elim (λ old. t.ends.counts u old) (λ e. subst (λ (z : Tally). points_in t.points z.block ≡ z.count) e t.count)
+            (shifted_from run.recent run.last u c);
       };
     }
   where
@@ -415,10 +447,12 @@ none_is run capacity s = ap (λ (l : List Tally). shifted l run.last) s.recent �
 
 tally_none : (t : Tally) → Contains (no_tally ∷ no_tally ∷ no_tally ∷ []) t → t ≡ no_tally
 tally_none t c =
-    ⊎_elim (λ e. sym e) (λ d. ⊎_elim (λ e. sym e) (λ f. ⊎_elim (λ e. sym e) (λ g. absurd (Contains-nil t g)) (Contains-cons_cases no_tally [] t f)) (Contains-cons_cases no_tally (no_tally ∷ []) t d))
+    ⊎_elim (λ e. sym e) (λ d. ⊎_elim (λ e. sym e) (λ f. ⊎_elim (λ e. sym e) (λ g. absurd (Contains-nil t g)) (Contains-cons_cases no_tally [] t f))
+    (Contains-cons_cases no_tally (no_tally ∷ []) t d))
     (Contains-cons_cases no_tally (no_tally ∷ no_tally ∷ []) t c)
 
-pub begins_placed : (form n : ℕ) (rs : List Record) (layer capacity : ℕ) (run : PointRun) → IsBefore form rs layer capacity run → ArePlaced form n rs layer capacity 0 [] finmap.empty
+pub begins_placed : (form n : ℕ) (rs : List Record) (layer capacity : ℕ) (run : PointRun) → IsBefore form rs layer capacity run
+    → ArePlaced form n rs layer capacity 0 [] finmap.empty
 begins_placed form n rs layer capacity run h =
     let points : PointMap = finmap.empty in
     let z = size_of-nil in
@@ -426,8 +460,10 @@ begins_placed form n rs layer capacity run h =
       valid = record {
         least = h.fits.0;
         most = h.fits.1;
-        inside = All-weaker (Contains (finmap.entries points)) (λ e. is_pixel n e.0 ≡ true) (λ e c. absurd (no_entry e c)) (finmap.entries points) (All-contains_itself (finmap.entries points));
-        labels = All-weaker (Contains (finmap.entries points)) (λ e. e.1 < 2 ^ 32) (λ e c. absurd (no_entry e c)) (finmap.entries points) (All-contains_itself (finmap.entries points));
+        inside = All-weaker (Contains (finmap.entries points)) (λ e. is_pixel n e.0 ≡ true) (λ e c. absurd (no_entry e c)) (finmap.entries points)
+            (All-contains_itself (finmap.entries points));
+        labels = All-weaker (Contains (finmap.entries points)) (λ e. e.1 < 2 ^ 32) (λ e c. absurd (no_entry e c)) (finmap.entries points)
+            (All-contains_itself (finmap.entries points));
       };
       has = record { each = λ b f c m. absurd (Contains-nil b c); only = λ r c is. absurd (h.none r c is) };
       follows = tt;
@@ -436,7 +472,8 @@ begins_placed form n rs layer capacity run h =
       few = λ b c. absurd (Contains-nil b c);
     }
 
-pub begins_closed : (form n : ℕ) (rs : List Record) (layer capacity : ℕ) (run : PointRun) → IsBefore form rs layer capacity run → AreClosed form n rs layer capacity run.end (shifted run.recent run.last)
+pub begins_closed : (form n : ℕ) (rs : List Record) (layer capacity : ℕ) (run : PointRun) → IsBefore form rs layer capacity run
+    → AreClosed form n rs layer capacity run.end (shifted run.recent run.last)
 begins_closed form n rs layer capacity run h =
     let points : PointMap = finmap.empty in
     let made : AreClosed form n rs layer capacity 0 (no_tally ∷ no_tally ∷ no_tally ∷ []) = record {
@@ -448,7 +485,8 @@ begins_closed form n rs layer capacity run h =
         three = refl;
         front = [];
         split = refl;
-        counts = λ t c. subst (λ (u : Tally). points_in points u.block ≡ u.count) (sym (tally_none t c)) (bare_is points no_block (λ q k m t'. no_entry (q, k) m));
+        counts =
+            λ t c. subst (λ (u : Tally). points_in points u.block ≡ u.count) (sym (tally_none t c)) (bare_is points no_block (λ q k m t'. no_entry (q, k) m));
       };
     } in
     subst (λ (k : ℕ). AreClosed form n rs layer capacity k (shifted run.recent run.last)) (sym h.start.end)

@@ -1,5 +1,6 @@
 -- The records of a point layer that are all.
-use Rattle.std.proofs.Common.{◌≡◌, ℕ, ◌+◌, ◌/◌, ◌^◌, ◌≤◌, cond, List, [], ◌∷◌, map, refl, sym, ◌∙◌, ap, inl, inr, ⊎_elim, arith, count_by, ltb-true, leb-true, le-leb, nat_lt}
+use Rattle.std.proofs.Common.{◌≡◌, ℕ, ◌+◌, ◌/◌, ◌^◌, ◌≤◌, cond, List, [], ◌∷◌, map, refl, sym, ◌∙◌, ap, inl, inr, ⊎_elim, arith, count_by, ltb-true, leb-true}
+use Rattle.std.proofs.Common.{le-leb, nat_lt}
 use Rattle.std.proofs.lemmas.Bool.{and_parts}
 use Rattle.std.proofs.lemmas.List.Sums.{sum_by-cons}
 use Rattle.quilt_types.specs.declared.plane.Block.{Block}
@@ -63,7 +64,11 @@ module _ (form n : ℕ) (le : n ≤ 12) (rs : List Record) (layer capacity : ℕ
               (λ o. inr (h.placed.has.each o.block f ((are o.block).1 (Contains-maximal n fits o.block o.maximal)) (on_is points o.block f o.on)))
               (fact_from n capacity points f c);
           only = λ r c is.
-              let w = h.placed.has.only r c is in
-              (w.1, fact_is n capacity points w.1 (record { block = w.0; maximal = IsMaximal-from n fits w.0 ((are w.0).0 w.2); on = on_from points w.0 w.1 w.3 }), w.4);
+              let w = h.placed.has.only r c is in (
+                w.1,
+                fact_is n capacity points w.1
+                    (record { block = w.0; maximal = IsMaximal-from n fits w.0 ((are w.0).0 w.2); on = on_from points w.0 w.1 w.3 }),
+                w.4,
+              );
         };
       }

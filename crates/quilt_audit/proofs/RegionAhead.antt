@@ -29,7 +29,8 @@ use Rattle.quilt_audit.specs.Regions.{AreLaid, IsGoing}
 use Rattle.quilt_audit.proofs.Lists.{begins, last_cases, below_itself, both_below, rises_before, rises_behind}
 use Rattle.quilt_audit.proofs.Laid.{leaves_laid}
 
-module _ (form n : ℕ) (le : n ≤ 12) (layer : ℕ) (some : 1 ≤ layer) (grid : Grid) (rs ahead : List Record) (up : Rises by_key (rs ++ ahead)) (s : SpellsOne form n (rs ++ ahead) layer (Region grid)) where
+module _ (form n : ℕ) (le : n ≤ 12) (layer : ℕ) (some : 1 ≤ layer) (grid : Grid) (rs ahead : List Record) (up : Rises by_key (rs ++ ahead))
+    (s : SpellsOne form n (rs ++ ahead) layer (Region grid)) where
   abbrev fact : Block × ℕ → Fact
   fact e = HasColour e.0 e.1
 
@@ -43,7 +44,8 @@ module _ (form n : ℕ) (le : n ≤ 12) (layer : ℕ) (some : 1 ≤ layer) (grid
         (λ k. let z : 0 ≡ layer = ap (λ (f : Fact). (record_of n 0 [] layer f).key.layer) k ∙ ap (λ (q : Record). q.key.layer) w.2 ∙ is in absurd (omega arith))
         (λ m.
         let d = Contains-map_from fact (leaves n grid) w.0 m in
-        subst (Contains (map (leaf_record n layer) (leaves n grid))) (ap (λ (f : Fact). record_of n 0 [] layer f) d.2 ∙ w.2) (Contains-map (leaf_record n layer) (leaves n grid) d.0 d.1))
+        subst (Contains (map (leaf_record n layer) (leaves n grid))) (ap (λ (f : Fact). record_of n 0 [] layer f) d.2 ∙ w.2)
+        (Contains-map (leaf_record n layer) (leaves n grid) d.0 d.1))
         (Contains-cons_cases (IsOfKind 1 0) (map fact (leaves n grid)) w.0 w.1);
   }
 
@@ -67,7 +69,8 @@ module _ (form n : ℕ) (le : n ≤ 12) (layer : ℕ) (some : 1 ≤ layer) (grid
     leaf_there : (e : Block × ℕ) → Contains (leaves_by_code n grid) e → Contains (rs ++ ahead) (leaf_record n layer e)
     leaf_there e c = spelled_here.each e ((leaves_members n grid e).0 c)
 
-    leaf_from : (r : Record) → Contains (rs ++ ahead) r → r.key.layer ≡ layer → (e : Block × ℕ) × Contains (leaves_by_code n grid) e × (leaf_record n layer e ≡ r)
+    leaf_from : (r : Record) → Contains (rs ++ ahead) r → r.key.layer ≡ layer → (e : Block × ℕ) × Contains (leaves_by_code n grid) e
+        × (leaf_record n layer e ≡ r)
     leaf_from r c is =
         let m = Contains-map_from (leaf_record n layer) (leaves n grid) r (spelled_here.only r c is) in
         (m.0, (leaves_members n grid m.0).1 m.1, m.2)
@@ -101,7 +104,8 @@ module _ (form n : ℕ) (le : n ≤ 12) (layer : ℕ) (some : 1 ≤ layer) (grid
         (λ x y cx cy.
         ⊎_elim (λ d. inl (going_from y (member_block y cy) d))
         (λ d. inr (λ less.
-        both_below by_key by_key_total (leaf_record n layer x) (leaf_record n layer y) (in_order (leaf_record n layer x) (leaf_record n layer y) (going.has.each x cx) d)
+        both_below by_key by_key_total (leaf_record n layer x) (leaf_record n layer y)
+        (in_order (leaf_record n layer x) (leaf_record n layer y) (going.has.each x cx) d)
         (less_code (leaf_record n layer y).key (leaf_record n layer x).key refl refl (nat_less_from (code_from y.0) (code_from x.0) less))))
         (Contains-append_cases rs ahead (leaf_record n layer y) (leaf_there y cy))) in
         let split = r.1 in
@@ -150,11 +154,14 @@ module _ (form n : ℕ) (le : n ≤ 12) (layer : ℕ) (some : 1 ≤ layer) (grid
           let before : by_key (leaf_record n layer m) (leaf_record n layer e) ≡ Less =
           less_code (leaf_record n layer m).key (leaf_record n layer e).key refl refl (nat_less_from (code_from m.0) (code_from e.0) less) in
           ⊎_elim
-          (λ same. below_itself by_key by_key_total (leaf_record n layer e) (subst (λ (z : Record). by_key z (leaf_record n layer e) ≡ Less) (sym same ∙ is) before))
-          (λ d. both_below by_key by_key_total (leaf_record n layer m) (leaf_record n layer e) before (subst (λ (z : Record). by_key z (leaf_record n layer m) ≡ Less) is (ahead_rises.0 (leaf_record n layer m) d)))
+          (λ same. below_itself by_key by_key_total (leaf_record n layer e)
+          (subst (λ (z : Record). by_key z (leaf_record n layer e) ≡ Less) (sym same ∙ is) before))
+          (λ d. both_below by_key by_key_total (leaf_record n layer m) (leaf_record n layer e) before
+          (subst (λ (z : Record). by_key z (leaf_record n layer m) ≡ Less) is (ahead_rises.0 (leaf_record n layer m) d)))
           (Contains-cons_cases r rest (leaf_record n layer m) (subst (λ (l : List Record). Contains l (leaf_record n layer m)) ahead_is c))
 
-      first_is : (more : List (Block × ℕ)) → Rises leaf_cmp more → ((m : Block × ℕ) → Contains more m → Contains ahead (leaf_record n layer m)) → Contains more e → (ms : List (Block × ℕ)) × (more ≡ e ∷ ms)
+      first_is : (more : List (Block × ℕ)) → Rises leaf_cmp more → ((m : Block × ℕ) → Contains more m → Contains ahead (leaf_record n layer m))
+          → Contains more e → (ms : List (Block × ℕ)) × (more ≡ e ∷ ms)
       first_is [] h come c = absurd (Contains-nil e c)
       first_is (m ∷ ms) h come c =
           ⊎_elim (λ same. (ms, ap (λ z. z ∷ ms) same)) (λ d. absurd (not_behind m (come m (Contains-here m ms)) (h.0 e d))) (Contains-cons_cases m ms e c)
@@ -183,7 +190,8 @@ module _ (form n : ℕ) (le : n ≤ 12) (layer : ℕ) (some : 1 ≤ layer) (grid
           let t = next_split in
           let bs = going.blocks in
           all_laid.unmerged.four w.0 w.1 q.block (λ b m.
-          let c = Contains-append_right q.front (map (λ (z : Block). let y : Block × ℕ = (z, w.1) in y) (quarters_of w.0)) (b, w.1) (Contains-map (λ (z : Block). let y : Block × ℕ = (z, w.1) in y) (quarters_of w.0) b m) in
+          let c = Contains-append_right q.front (map (λ (z : Block). let y : Block × ℕ = (z, w.1) in y) (quarters_of w.0)) (b, w.1)
+          (Contains-map (λ (z : Block). let y : Block × ℕ = (z, w.1) in y) (quarters_of w.0) b m) in
           let d = subst (λ (l : List (Block × ℕ)). Contains l (b, w.1)) (sym q.split) c in
           subst (λ (l : List (Block × ℕ)). Contains l (b, w.1)) (sym t.1)
           (⊎_elim (λ k. Contains-append_left bs (e ∷ t.0) (b, w.1) k)

@@ -1,5 +1,6 @@
 -- The steps of a run of region records, and when they may be all.
-use Rattle.std.proofs.Common.{◌≡◌, ℕ, ◌-◌, ◌+◌, ◌*◌, ◌^◌, ◌<◌, ◌≤◌, List, [], ◌∷◌, ◌++◌, map, length, get_or, refl, sym, ◌∙◌, ap, subst, inl, inr, ⊎_elim, arith, Contains, pow_pos}
+use Rattle.std.proofs.Common.{◌≡◌, ℕ, ◌-◌, ◌+◌, ◌*◌, ◌^◌, ◌<◌, ◌≤◌, List, [], ◌∷◌, ◌++◌, map, length, get_or, refl, sym, ◌∙◌, ap, subst, inl, inr, ⊎_elim}
+use Rattle.std.proofs.Common.{arith, Contains, pow_pos}
 use Rattle.std.proofs.lemmas.Nat.{mod_below, div_below}
 use Rattle.std.proofs.lemmas.List.Elements.{All-from_get_or, Contains-append_right}
 use Rattle.quilt_types.specs.declared.plane.Block.{Block}
@@ -49,7 +50,8 @@ with_region form n rs layer P f (Points capacity points) e s = absurd (let z : k
 with_region form n rs layer P f (Lines threshold segs cover) e s = absurd (let z : kinds.Lines threshold ≡ kinds.Region = e in cc)
 
 refused : (form n : ℕ) (rs : List Record) (layer : ℕ) (r : Record)
-    → ((rest : List Record) (grid : Grid) → Rises by_key (rs ++ r ∷ rest) → SpellsOne form n (rs ++ r ∷ rest) layer (Region grid) → ⊥) → Refuses form n rs layer kinds.Region r
+    → ((rest : List Record) (grid : Grid) → Rises by_key (rs ++ r ∷ rest) → SpellsOne form n (rs ++ r ∷ rest) layer (Region grid) → ⊥)
+    → Refuses form n rs layer kinds.Region r
 refused form n rs layer r f rest l e up s = with_region form n (rs ++ r ∷ rest) layer ⊥ (λ grid t. f rest grid up t) l e s
 
 -- ---- a record that cannot be read
@@ -68,7 +70,8 @@ unread_refused form n le rs r least most none =
     none e.0 colour (λ one. subst (λ (z : ℕ). e.1 < colours z) one fit)
     (subst (λ (z : Record). IsRecordOf n 0 z r.key.layer (HasColour e.0 e.1)) w.2 (leaf_is_record n r.key.layer e.0 e.1 least most block)))
 
-module _ (form n : ℕ) (least : 1 ≤ n) (le : n ≤ 12) (layer : ℕ) (some : 1 ≤ layer) (rs : List Record) (end : ℕ) (recent : List Leaf) (g : IsGoing form n rs layer end recent)
+module _ (form n : ℕ) (least : 1 ≤ n) (le : n ≤ 12) (layer : ℕ) (some : 1 ≤ layer) (rs : List Record) (end : ℕ) (recent : List Leaf)
+    (g : IsGoing form n rs layer end recent)
     (leaf z : Leaf) (block : IsBlock n leaf.block) where
   three_here : recent ≡ get_or recent 0 z ∷ get_or recent 1 z ∷ get_or recent 2 z ∷ []
   three_here = three_are recent z g.ends.three
@@ -76,9 +79,11 @@ module _ (form n : ℕ) (least : 1 ≤ n) (le : n ≤ 12) (layer : ℕ) (some : 
   pub code_refused : (code_from leaf.block ≡ end → ⊥) → Refuses form n rs layer kinds.Region (leaf_record n layer (pair_of leaf))
   code_refused differs =
       let r = leaf_record n layer (pair_of leaf) in
-      refused form n rs layer r (λ rest grid up s. differs (next_code form n le layer some grid rs (r ∷ rest) up s end recent g r rest refl (pair_of leaf) block refl))
+      refused form n rs layer r
+      (λ rest grid up s. differs (next_code form n le layer some grid rs (r ∷ rest) up s end recent g r rest refl (pair_of leaf) block refl))
 
-  pub siblings_refused : (w : Block × ℕ) → AreSiblings n (get_or recent 0 z ∷ get_or recent 1 z ∷ get_or recent 2 z ∷ leaf ∷ []) w → Refuses form n rs layer kinds.Region (leaf_record n layer (pair_of leaf))
+  pub siblings_refused : (w : Block × ℕ) → AreSiblings n (get_or recent 0 z ∷ get_or recent 1 z ∷ get_or recent 2 z ∷ leaf ∷ []) w
+      → Refuses form n rs layer kinds.Region (leaf_record n layer (pair_of leaf))
   siblings_refused w q =
       let r = leaf_record n layer (pair_of leaf) in
       refused form n rs layer r
@@ -107,7 +112,8 @@ pub going_none : (form n : ℕ) (rs : List Record) (layer : ℕ) → ((r : Recor
 going_none form n rs layer none = record { blocks = []; has = HasBlocks-none rs layer n none; laid = AreLaid-none form n; ends = EndsIn-none }
 
 -- ---- the grid that blocks paint
-colour_fits : (form n : ℕ) (bs : List (Block × ℕ)) → n ≤ 12 → AreLaid form n (4 ^ n) bs → (p : Pixel) → p.x < side n → p.y < side n → get_or (colours_of bs) (code_at p) 0 < colours form
+colour_fits : (form n : ℕ) (bs : List (Block × ℕ)) → n ≤ 12 → AreLaid form n (4 ^ n) bs → (p : Pixel) → p.x < side n → p.y < side n
+    → get_or (colours_of bs) (code_at p) 0 < colours form
 colour_fits form n bs le h p hx hy =
     let s = h.size in
     let i = code_in n p le hx hy in

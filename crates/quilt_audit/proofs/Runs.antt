@@ -24,24 +24,28 @@ use Rattle.quilt_audit.proofs.RegionRuns.{finished_region, short_region}
 use Rattle.quilt_audit.proofs.PointRuns.{finished_points, short_points}
 
 module _ (form n : ℕ) (rs : List Record) (layer : ℕ) (P : Kind → Type 0) where
-  pub by_region : (run : RegionRun) → (IsGoing form n rs layer run.end run.recent → P kinds.Region) → (kind : Kind) → IsRun form n rs layer kind (runs.Region run) → P kind
+  pub by_region : (run : RegionRun) → (IsGoing form n rs layer run.end run.recent → P kinds.Region) → (kind : Kind)
+      → IsRun form n rs layer kind (runs.Region run) → P kind
   by_region run f kinds.Region h = f h
   by_region run f (kinds.Points bucket) h = absurd h
   by_region run f (kinds.Lines threshold) h = absurd h
 
-  pub by_points : (run : PointRun) → (IsPointRun form n rs layer run.bucket run → P (kinds.Points run.bucket)) → (kind : Kind) → IsRun form n rs layer kind (runs.Points run) → P kind
+  pub by_points : (run : PointRun) → (IsPointRun form n rs layer run.bucket run → P (kinds.Points run.bucket)) → (kind : Kind)
+      → IsRun form n rs layer kind (runs.Points run) → P kind
   by_points run f kinds.Region h = absurd h
   by_points run f (kinds.Points bucket) h =
       subst (λ (b : ℕ). P (kinds.Points b)) h.bucket (f (subst (λ (b : ℕ). IsPointRun form n rs layer b run) (sym h.bucket) h))
   by_points run f (kinds.Lines threshold) h = absurd h
 
-  pub by_lines : (run : LineRun) → ((threshold : ℕ) → IsLineRun n rs layer threshold run → P (kinds.Lines threshold)) → (kind : Kind) → IsRun form n rs layer kind (runs.Lines run) → P kind
+  pub by_lines : (run : LineRun) → ((threshold : ℕ) → IsLineRun n rs layer threshold run → P (kinds.Lines threshold)) → (kind : Kind)
+      → IsRun form n rs layer kind (runs.Lines run) → P kind
   by_lines run f kinds.Region h = absurd h
   by_lines run f (kinds.Points bucket) h = absurd h
   by_lines run f (kinds.Lines threshold) h = f threshold h
 
 -- ---- no record yet of a line layer
-pub lines_none : (n : ℕ) (rs : List Record) (layer threshold : ℕ) (run : LineRun) → 1 ≤ threshold → threshold ≤ 32 → IsStart run → ((r : Record) → Contains rs r → r.key.layer ≡ layer → ⊥)
+pub lines_none : (n : ℕ) (rs : List Record) (layer threshold : ℕ) (run : LineRun) → 1 ≤ threshold → threshold ≤ 32 → IsStart run
+    → ((r : Record) → Contains rs r → r.key.layer ≡ layer → ⊥)
     → IsLineRun n rs layer threshold run
 lines_none n rs layer threshold run low high start none =
     let left = λ (part : ℕ). filter_none (is_of_part layer part) rs (λ r c. part_false layer part r (λ is _. none r c is)) in
@@ -56,7 +60,8 @@ lines_none n rs layer threshold run low high start none =
     }
 
 -- ---- all records of a layer
-pub finished : (form n : ℕ) → 1 ≤ n → n ≤ 12 → (rs : List Record) (layer : ℕ) → 1 ≤ layer → (kind : Kind) (run : Run) → IsRun form n rs layer kind run → IsRunFinished n run → Rises by_key rs
+pub finished : (form n : ℕ) → 1 ≤ n → n ≤ 12 → (rs : List Record) (layer : ℕ) → 1 ≤ layer → (kind : Kind) (run : Run)
+    → IsRun form n rs layer kind run → IsRunFinished n run → Rises by_key rs
     → IsLayerOf form n rs layer kind
 finished form n least le rs layer some kinds.Region (runs.Region run) h f up = finished_region form n least le layer rs run.end run.recent h f
 finished form n least le rs layer some (kinds.Points bucket) (runs.Points run) h f up = finished_points form n le run layer bucket some rs h f up
@@ -68,7 +73,8 @@ finished form n least le rs layer some (kinds.Lines threshold) (runs.Lines run) 
 finished form n least le rs layer some (kinds.Lines threshold) (runs.Region run) h f up = absurd h
 finished form n least le rs layer some (kinds.Lines threshold) (runs.Points run) h f up = absurd h
 
-pub short : (form n : ℕ) → 1 ≤ n → n ≤ 12 → (rs : List Record) (layer : ℕ) → 1 ≤ layer → (kind : Kind) (run : Run) → IsRun form n rs layer kind run → (IsRunFinished n run → ⊥) → IsShort form n rs layer kind
+pub short : (form n : ℕ) → 1 ≤ n → n ≤ 12 → (rs : List Record) (layer : ℕ) → 1 ≤ layer → (kind : Kind) (run : Run) → IsRun form n rs layer kind run
+    → (IsRunFinished n run → ⊥) → IsShort form n rs layer kind
 short form n least le rs layer some kinds.Region (runs.Region run) h f = short_region form n least le layer rs run.end run.recent h some f
 short form n least le rs layer some (kinds.Points bucket) (runs.Points run) h f = short_points form n le run layer bucket some rs h f
 short form n least le rs layer some kinds.Region (runs.Points run) h f = absurd h

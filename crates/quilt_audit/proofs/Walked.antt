@@ -1,5 +1,7 @@
 -- Tests of the keys of a page, and the children of one with their bounds.
-use Rattle.std.proofs.Common.{◌≡◌, ℕ, zero, suc, ◌+◌, ◌-◌, ◌<◌, ◌≤◌, Bool, true, false, ◌&&◌, nat_le, nat_lt, List, [], ◌∷◌, ◌++◌, map, length, take, drop, get_or, Option, Some, None, refl, sym, ◌∙◌, ap, subst, arith, slice_index, slice_index_or, ltb-true, cond, eqb, eq-eqb, ⊎_elim, Result, Ok, Err, OnOk, OnErr, IfErr}
+use Rattle.std.proofs.Common.{◌≡◌, ℕ, zero, suc, ◌+◌, ◌-◌, ◌<◌, ◌≤◌, Bool, true, false, ◌&&◌, nat_le, nat_lt, List, [], ◌∷◌, ◌++◌, map, length, take, drop}
+use Rattle.std.proofs.Common.{get_or, Option, Some, None, refl, sym, ◌∙◌, ap, subst, arith, slice_index, slice_index_or, ltb-true, cond, eqb, eq-eqb, ⊎_elim}
+use Rattle.std.proofs.Common.{Result, Ok, Err, OnOk, OnErr, IfErr}
 use Rattle.std.specs.Prelude.{◌==◌}
 use Rattle.std.specs.List.{list_all, list_any, slice_get, range_with_len}
 use Rattle.std.proofs.lemmas.List.FromFn.{length-range_with_len}
@@ -39,7 +41,8 @@ all_append p (y ∷ ys) x h t = step (p y) h (λ r. all_append p ys x r t)
     step true g f = f g
     step false g f = cc
 
-pub all_more : {X : Type 0} (p : X → Bool) (xs : List X) (i : ℕ) (x : X) → slice_get xs i ≡ Some x → list_all p (take i xs) ≡ true → p x ≡ true → list_all p (take (i + 1) xs) ≡ true
+pub all_more : {X : Type 0} (p : X → Bool) (xs : List X) (i : ℕ) (x : X) → slice_get xs i ≡ Some x → list_all p (take i xs) ≡ true → p x ≡ true
+    → list_all p (take (i + 1) xs) ≡ true
 all_more p xs i x at h t =
     let e = take_more xs i x (slice_get_within xs i x at) ∙ ap (λ z. take i xs ++ z ∷ []) (get_or_from_slice_get xs i x x at) in
     ap (list_all p) e ∙ all_append p (take i xs) x h t
@@ -69,7 +72,8 @@ pub tells_same : (v : ℕ) (o : Option ℕ) → Tells {A = ℕ} (λ was is. is +
 tells_same v None = tt
 tells_same v (Some n) = omega arith
 
-pub tells_then : (u v w : ℕ) (a b c : Option ℕ) → Tells {A = ℕ} (λ was is. is + u ≤ was + v) a b → Tells {A = ℕ} (λ was is. is + v ≤ was + w) b c → Tells {A = ℕ} (λ was is. is + u ≤ was + w) a c
+pub tells_then : (u v w : ℕ) (a b c : Option ℕ) → Tells {A = ℕ} (λ was is. is + u ≤ was + v) a b → Tells {A = ℕ} (λ was is. is + v ≤ was + w) b c
+    → Tells {A = ℕ} (λ was is. is + u ≤ was + w) a c
 tells_then u v w None None None h k = tt
 tells_then u v w (Some m) (Some n) (Some o) h k = omega arith
 tells_then u v w None None (Some o) h k = absurd k
@@ -86,7 +90,8 @@ tells_one v (Some m) None h = absurd h
 pub Spent-none : (size : ℕ) (visited : List ℕ) (reads : Option ℕ) → Spent size visited visited reads reads
 Spent-none size visited reads = record { apart = λ a. a; in_store = λ h. h; reads = tells_same (length visited) reads }
 
-pub Spent-then : (size : ℕ) (visited now later : List ℕ) (x y z : Option ℕ) → Spent size visited now x y → Spent size now later y z → Spent size visited later x z
+pub Spent-then : (size : ℕ) (visited now later : List ℕ) (x y z : Option ℕ) → Spent size visited now x y → Spent size now later y z
+    → Spent size visited later x z
 Spent-then size visited now later x y z h k = record {
   apart = λ a. k.apart (h.apart a);
   in_store = λ w. k.in_store (h.in_store w);
@@ -94,7 +99,8 @@ Spent-then size visited now later x y z h k = record {
 }
 
 -- one page that was not visited before
-pub Spent-page : (size : ℕ) (visited : List ℕ) (before after : Option ℕ) (page : ℕ) → 1 ≤ page → page < size → list_any (λ v. v == page) visited ≡ false → Tells {A = ℕ} (λ was is. is ≤ was + 1) before after
+pub Spent-page : (size : ℕ) (visited : List ℕ) (before after : Option ℕ) (page : ℕ) → 1 ≤ page → page < size
+    → list_any (λ v. v == page) visited ≡ false → Tells {A = ℕ} (λ was is. is ≤ was + 1) before after
     → Spent size visited (page ∷ visited) before after
 Spent-page size visited before after page low high fresh reads = record {
   apart = λ a. ((λ c. let t = member_any (λ v. v == page) visited page c (eq-eqb page page refl) in let clash : false ≡ true = sym fresh ∙ t in cc), a);
@@ -103,9 +109,11 @@ Spent-page size visited before after page low high fresh reads = record {
 }
 
 -- fewer pages than the store has
-pub spent_few : (size : ℕ) (now : List ℕ) (before after : Option ℕ) → 16 ≤ size → Spent size [] now before after → Tells {A = ℕ} (λ was is. is < was + size) before after
+pub spent_few : (size : ℕ) (now : List ℕ) (before after : Option ℕ) → 16 ≤ size → Spent size [] now before after
+    → Tells {A = ℕ} (λ was is. is < was + size) before after
 spent_few size now before after some h =
-    let all = Apart-le now (range_with_len 1 (size - 1)) (h.apart tt) (λ p c. let w = h.in_store (λ q d. absurd (Contains-nil q d)) p c in let a = w.0 in let b = w.1 in Contains-range 1 (size - 1) p (omega arith) (omega arith)) in
+    let all = Apart-le now (range_with_len 1 (size - 1)) (h.apart tt) (λ p c. let w = h.in_store (λ q d. absurd (Contains-nil q d)) p c in
+    let a = w.0 in let b = w.1 in Contains-range 1 (size - 1) p (omega arith) (omega arith)) in
     let long = length-range_with_len 1 (size - 1) in
     below (length now) before after (omega arith) h.reads
   where
@@ -118,7 +126,8 @@ spent_few size now before after some h =
 pub Added-none : (size : ℕ) (visited : List ℕ) (s : Surveying) (reads : Option ℕ) → Marks s.used visited → Added size visited s s reads reads [] visited
 Added-none size visited s reads m = record { takes = Takes-none s.checker; marks = m; within = λ h. h; spent = Spent-none size visited reads }
 
-pub Added-then : (size : ℕ) (visited now later : List ℕ) (a b c : Surveying) (x y z : Option ℕ) (rs ss : List Record) → Added size visited a b x y rs now → Added size now b c y z ss later → Added size visited a c x z (rs ++ ss) later
+pub Added-then : (size : ℕ) (visited now later : List ℕ) (a b c : Surveying) (x y z : Option ℕ) (rs ss : List Record)
+    → Added size visited a b x y rs now → Added size now b c y z ss later → Added size visited a c x z (rs ++ ss) later
 Added-then size visited now later a b c x y z rs ss h k = record {
   takes = Takes-then a.checker b.checker c.checker rs ss h.takes k.takes;
   marks = k.marks;
@@ -135,9 +144,11 @@ abbrev pub from_to : Option Key → Option Key → Bounds
 from_to low high = record { low = low; high = high }
 
 -- the next child, and those behind it
-pub bounded_at : (children : List ℕ) (keys : List Key) (i c : ℕ) (low high : Option Key) → i < length children → length children ≡ suc (length keys) → c ≡ slice_index children i
+pub bounded_at : (children : List ℕ) (keys : List Key) (i c : ℕ) (low high : Option Key) → i < length children → length children ≡ suc (length keys)
+    → c ≡ slice_index children i
     → bounded (drop i children) (drop i keys) (from_to low high)
-    ≡ (c, from_to low (option_or (slice_get keys i) high)) ∷ bounded (drop (suc i) children) (drop (suc i) keys) (from_to (option_or (slice_get keys i) high) high)
+    ≡ (c, from_to low (option_or (slice_get keys i) high))
+    ∷ bounded (drop (suc i) children) (drop (suc i) keys) (from_to (option_or (slice_get keys i) high) high)
 bounded_at [] keys i c low high lt long is = absurd (omega arith)
 bounded_at (d ∷ []) [] zero c low high lt long is = ap (λ z. (z, from_to low high) ∷ []) (sym is)
 bounded_at (d ∷ e ∷ ds) [] zero c low high lt long is = absurd (omega arith)
@@ -145,7 +156,8 @@ bounded_at (d ∷ ds) [] (suc i) c low high lt long is = absurd (omega arith)
 bounded_at (d ∷ ds) (k ∷ ks) zero c low high lt long is = ap (λ z. (z, from_to low (Some k)) ∷ bounded ds ks (from_to (Some k) high)) (sym is)
 bounded_at (d ∷ ds) (k ∷ ks) (suc i) c low high lt long is = bounded_at ds ks i c low high (omega arith) (omega arith) is
 
-pub child_in_range : (size : ℕ) (children : List ℕ) (i c : ℕ) → are_pages size children ≡ true → i < length children → c ≡ slice_index children i → (1 ≤ c) × (c < size)
+pub child_in_range : (size : ℕ) (children : List ℕ) (i c : ℕ) → are_pages size children ≡ true → i < length children
+    → c ≡ slice_index children i → (1 ≤ c) × (c < size)
 child_in_range size children i c all lt is =
     let t = list_all-at (λ n. nat_le 1 n && nat_lt n size) children c all (i, lt, member) in
     let both = and_parts (nat_le 1 c) (nat_lt c size) t in
@@ -162,32 +174,40 @@ module _ (size : ℕ) (told : Option (List (List ℕ))) (height : ℕ) (children
   abbrev pub of_rest : ℕ → Option Key → List (List ℕ) → List Record → List ℕ → Walk
   of_rest i from pages rs now = each_child (walk pages height false) (bounded (drop i children) (drop i keys) (from_to from high)) (Whole rs now)
 
-  pub reached_first : (visited : List ℕ) (s : Surveying) (reads : Option ℕ) → Marks s.used visited → Reached size told (of_all visited) (of_rest 0 low) visited s s reads reads
+  pub reached_first : (visited : List ℕ) (s : Surveying) (reads : Option ℕ) → Marks s.used visited
+      → Reached size told (of_all visited) (of_rest 0 low) visited s s reads reads
   reached_first visited s reads m = record { rs = []; now = visited; added = Added-none size visited s reads m; walks = λ pages e. refl }
 
   module _ (i c : ℕ) (from : Option Key) (lt : i < length children) (long : length children ≡ suc (length keys)) (is : c ≡ slice_index children i) where
-    pub reached_next : (visited : List ℕ) (old mid new : Surveying) (x y z : Option ℕ) (to : Option Key) (now_told : Option (List (List ℕ))) (now_size : ℕ) → now_told ≡ told → now_size ≡ size → to ≡ option_or (slice_get keys i) high
+    pub reached_next : (visited : List ℕ) (old mid new : Surveying) (x y z : Option ℕ) (to : Option Key) (now_told : Option (List (List ℕ)))
+        (now_size : ℕ) → now_told ≡ told → now_size ≡ size → to ≡ option_or (slice_get keys i) high
         → (h : Reached size told (of_all visited) (of_rest i from) visited old mid x y)
         → Found now_size now_told (λ pages. walk pages height false (c, from_to from to) h.now) h.now mid new y z
         → Reached size told (of_all visited) (of_rest (i + 1) to) visited old new x z
     reached_next visited old mid new x y z to now_told now_size same_told same_size to_is h f = record {
       rs = h.rs ++ f.rs;
       now = f.now;
-      added = Added-then size visited h.now f.now old mid new x y z h.rs f.rs h.added (subst (λ (k : ℕ). Added k h.now mid new y z f.rs f.now) same_size f.added);
+      added =
+          Added-then size visited h.now f.now old mid new x y z h.rs f.rs h.added (subst (λ (k : ℕ). Added k h.now mid new y z f.rs f.now) same_size f.added);
       walks = λ pages e. h.walks pages e ∙ step pages (f.walks pages (same_told ∙ e));
     }
       where
-        step : (pages : List (List ℕ)) → walk pages height false (c, from_to from to) h.now ≡ Whole f.rs f.now → of_rest i from pages h.rs h.now ≡ of_rest (i + 1) to pages (h.rs ++ f.rs) f.now
+        step : (pages : List (List ℕ)) → walk pages height false (c, from_to from to) h.now ≡ Whole f.rs f.now
+            → of_rest i from pages h.rs h.now ≡ of_rest (i + 1) to pages (h.rs ++ f.rs) f.now
         step pages w =
             let visit = walk pages height false in
             let w' = subst (λ (o : Option Key). walk pages height false (c, from_to from o) h.now ≡ Whole f.rs f.now) to_is w in
             ap (λ l. each_child visit l (Whole h.rs h.now)) (bounded_at children keys i c from high lt long is)
-            ∙ ap (λ v. each_child visit (bounded (drop (suc i) children) (drop (suc i) keys) (from_to (option_or (slice_get keys i) high) high)) (behind h.rs v)) w'
+            ∙ ap (λ v. each_child visit (bounded (drop (suc i) children) (drop (suc i) keys) (from_to (option_or (slice_get keys i) high) high))
+            (behind h.rs v)) w'
             ∙ ap (λ o. each_child visit (bounded (drop (suc i) children) (drop (suc i) keys) (from_to o high)) (Whole (h.rs ++ f.rs) f.now)) (sym to_is)
-            ∙ ap (λ j. each_child visit (bounded (drop j children) (drop j keys) (from_to to high)) (Whole (h.rs ++ f.rs) f.now)) (let k : suc i ≡ i + 1 = omega arith in k)
+            ∙ ap (λ j. each_child visit (bounded (drop j children) (drop j keys) (from_to to high)) (Whole (h.rs ++ f.rs) f.now))
+            (let k : suc i ≡ i + 1 = omega arith in k)
 
-    pub reached_stop : (visited : List ℕ) (old mid : Surveying) (x y : Option ℕ) (to : Option Key) (p : ℕ) (pages : List (List ℕ)) → told ≡ Some pages → to ≡ option_or (slice_get keys i) high
-        → (h : Reached size told (of_all visited) (of_rest i from) visited old mid x y) → walk pages height false (c, from_to from to) h.now ≡ Damaged p → of_all visited pages ≡ Damaged p
+    pub reached_stop : (visited : List ℕ) (old mid : Surveying) (x y : Option ℕ) (to : Option Key) (p : ℕ) (pages : List (List ℕ))
+        → told ≡ Some pages → to ≡ option_or (slice_get keys i) high
+        → (h : Reached size told (of_all visited) (of_rest i from) visited old mid x y)
+        → walk pages height false (c, from_to from to) h.now ≡ Damaged p → of_all visited pages ≡ Damaged p
     reached_stop visited old mid x y to p pages e to_is h w =
         let visit = walk pages height false in
         let rest = bounded (drop (suc i) children) (drop (suc i) keys) (from_to (option_or (slice_get keys i) high) high) in
@@ -203,11 +223,13 @@ module _ (size : ℕ) (told : Option (List (List ℕ))) (height : ℕ) (children
     rs = h.rs;
     now = h.now;
     added = h.added;
-    walks = λ pages e. h.walks pages e ∙ ap (λ l. each_child (walk pages height false) (bounded l (drop i keys) (from_to from high)) (Whole h.rs h.now)) (drop_all i children le);
+    walks = λ pages e. h.walks pages e
+        ∙ ap (λ l. each_child (walk pages height false) (bounded l (drop i keys) (from_to from high)) (Whole h.rs h.now)) (drop_all i children le);
   }
 
 -- ---- a page
-pub walk_seen : (pages : List (List ℕ)) (height : ℕ) (is_root : Bool) (at : ℕ × Bounds) (visited : List ℕ) → 1 ≤ height → list_any (λ v. v == at.0) visited ≡ true → walk pages height is_root at visited ≡ Damaged at.0
+pub walk_seen : (pages : List (List ℕ)) (height : ℕ) (is_root : Bool) (at : ℕ × Bounds) (visited : List ℕ) → 1 ≤ height
+    → list_any (λ v. v == at.0) visited ≡ true → walk pages height is_root at visited ≡ Damaged at.0
 walk_seen pages zero is_root at visited some t = absurd (omega arith)
 walk_seen pages (suc zero) is_root at visited some t = if_true _ _ _ t
 walk_seen pages (suc (suc h)) is_root at visited some t = if_true _ _ _ t
@@ -216,17 +238,22 @@ pub walk_leaf : (pages : List (List ℕ)) (is_root : Bool) (at : ℕ × Bounds) 
     → walk pages 1 is_root at visited ≡ leaf_walk is_root at.1 at.0 visited (leaf_of (slice_index_or pages at.0 []))
 walk_leaf pages is_root at visited f = if_false _ _ _ f
 
-pub walk_inner : (pages : List (List ℕ)) (height : ℕ) (is_root : Bool) (at : ℕ × Bounds) (visited : List ℕ) → 2 ≤ height → list_any (λ v. v == at.0) visited ≡ false
-    → walk pages height is_root at visited ≡ inner_walk (walk pages (height - 1) false) height is_root at.1 at.0 visited (inner_of (length pages) (slice_index_or pages at.0 []))
+pub walk_inner : (pages : List (List ℕ)) (height : ℕ) (is_root : Bool) (at : ℕ × Bounds) (visited : List ℕ) → 2 ≤ height
+    → list_any (λ v. v == at.0) visited ≡ false
+    → walk pages height is_root at visited ≡ inner_walk (walk pages (height - 1) false) height is_root at.1 at.0 visited
+    (inner_of (length pages) (slice_index_or pages at.0 []))
 walk_inner pages zero is_root at visited few f = absurd (omega arith)
 walk_inner pages (suc zero) is_root at visited few f = absurd (omega arith)
 walk_inner pages (suc (suc h)) is_root at visited few f =
     if_false _ _ _ f
-    ∙ ap (λ k. inner_walk (walk pages k false) (suc (suc h)) is_root at.1 at.0 visited (inner_of (length pages) (slice_index_or pages at.0 []))) (let e : suc h ≡ suc (suc h) - 1 = omega arith in e)
+    ∙ ap (λ k. inner_walk (walk pages k false) (suc (suc h)) is_root at.1 at.0 visited (inner_of (length pages) (slice_index_or pages at.0 [])))
+    (let e : suc h ≡ suc (suc h) - 1 = omega arith in e)
 
 -- a page that was marked, and the records that it gave
-pub Added-page : (size : ℕ) (visited : List ℕ) (old new : Surveying) (before after : Option ℕ) (page : ℕ) (rs : List Record) → 1 ≤ page → page < size → Marks old.used visited → list_any (λ v. v == page) visited ≡ false
-    → ((j : ℕ) → has_bit new.used j ≡ cond (eqb j page) true (has_bit old.used j)) → Takes old.checker rs new.checker → Tells {A = ℕ} (λ was is. is ≤ was + 1) before after
+pub Added-page : (size : ℕ) (visited : List ℕ) (old new : Surveying) (before after : Option ℕ) (page : ℕ) (rs : List Record) → 1 ≤ page → page < size
+    → Marks old.used visited → list_any (λ v. v == page) visited ≡ false
+    → ((j : ℕ) → has_bit new.used j ≡ cond (eqb j page) true (has_bit old.used j)) → Takes old.checker rs new.checker
+    → Tells {A = ℕ} (λ was is. is ≤ was + 1) before after
     → Added size visited old new before after rs (page ∷ visited)
 Added-page size visited old new before after page rs low high m fresh one t reads = record {
   takes = t;
@@ -252,15 +279,21 @@ stop_map Memory P Q f h = tt
 stop_map (Says page) P Q f h = f page h
 
 -- an inner page, and then its children
-pub page_found : (size : ℕ) (told : Option (List (List ℕ))) (height : ℕ) (is_root : Bool) (page : ℕ) (b : Bounds) (visited : List ℕ) (old mid new : Surveying) (x y z : Option ℕ) (children : List ℕ) (keys : List Key)
-    (now_size : ℕ) (now_told : Option (List (List ℕ))) → now_size ≡ size → now_told ≡ told → 2 ≤ height → list_any (λ v. v == page) visited ≡ false → Added size visited old mid x y [] (page ∷ visited)
-    → ((pages : List (List ℕ)) (visit : ℕ × Bounds → List ℕ → Walk) → told ≡ Some pages → inner_walk visit height is_root b page visited (inner_of (length pages) (slice_index_or pages page [])) ≡ each_child visit (bounded children keys b) (Whole [] (page ∷ visited)))
-    → Found now_size now_told (λ pages. each_child (walk pages (height - 1) false) (bounded children keys b) (Whole [] (page ∷ visited))) (page ∷ visited) mid new y z
+pub page_found : (size : ℕ) (told : Option (List (List ℕ))) (height : ℕ) (is_root : Bool) (page : ℕ) (b : Bounds) (visited : List ℕ)
+    (old mid new : Surveying) (x y z : Option ℕ) (children : List ℕ) (keys : List Key)
+    (now_size : ℕ) (now_told : Option (List (List ℕ))) → now_size ≡ size → now_told ≡ told → 2 ≤ height → list_any (λ v. v == page) visited ≡ false
+    → Added size visited old mid x y [] (page ∷ visited)
+    → ((pages : List (List ℕ)) (visit : ℕ × Bounds → List ℕ → Walk) → told ≡ Some pages
+    → inner_walk visit height is_root b page visited (inner_of (length pages) (slice_index_or pages page []))
+    ≡ each_child visit (bounded children keys b) (Whole [] (page ∷ visited)))
+    → Found now_size now_told (λ pages. each_child (walk pages (height - 1) false) (bounded children keys b) (Whole [] (page ∷ visited)))
+    (page ∷ visited) mid new y z
     → Found size told (λ pages. walk pages height is_root (page, b) visited) visited old new x z
 page_found size told height is_root page b visited old mid new x y z children keys now_size now_told same_size same_told few fresh a read f = record {
   rs = f.rs;
   now = f.now;
-  added = Added-then size visited (page ∷ visited) f.now old mid new x y z [] f.rs a (subst (λ (k : ℕ). Added k (page ∷ visited) mid new y z f.rs f.now) same_size f.added);
+  added = Added-then size visited (page ∷ visited) f.now old mid new x y z [] f.rs a
+      (subst (λ (k : ℕ). Added k (page ∷ visited) mid new y z f.rs f.now) same_size f.added);
   walks = λ pages e. walk_inner pages height is_root (page, b) visited few fresh ∙ read pages (walk pages (height - 1) false) e ∙ f.walks pages (same_told ∙ e);
 }
 
@@ -269,6 +302,7 @@ on_err_map (Ok x) P Q f h = tt
 on_err_map (Err e) P Q f h = f h
 
 -- what was read before some more
-pub SpentSome-then : (size : ℕ) (visited now : List ℕ) (x y z : Option ℕ) (now_size : ℕ) → now_size ≡ size → Spent size visited now x y → SpentSome now_size now y z → SpentSome size visited x z
+pub SpentSome-then : (size : ℕ) (visited now : List ℕ) (x y z : Option ℕ) (now_size : ℕ) → now_size ≡ size → Spent size visited now x y
+    → SpentSome now_size now y z → SpentSome size visited x z
 SpentSome-then size visited now x y z now_size same h k =
     record { now = k.now; spent = Spent-then size visited now k.now x y z h (subst (λ (n : ℕ). Spent n now k.now y z) same k.spent) }

@@ -28,7 +28,8 @@ unfolding walk_of
 tree_of_none pages root zero e = refl
 tree_of_none pages root (suc h) e = absurd (omega arith)
 
-pub tree_of_root : (pages : List (List ℕ)) (root height : ℕ) → (height ≡ 0 → ⊥) → walk_of pages root height ≡ walk pages height true (root, from_to None None) []
+pub tree_of_root : (pages : List (List ℕ)) (root height : ℕ) → (height ≡ 0 → ⊥)
+    → walk_of pages root height ≡ walk pages height true (root, from_to None None) []
 unfolding walk_of
 tree_of_root pages root zero ne = absurd (ne refl)
 tree_of_root pages root (suc h) ne = refl
@@ -51,7 +52,8 @@ pub unmarked : (used : List ℕ) → used ≡ replicate 3750 0 → Marks used []
 unmarked used e = subst (λ (l : List ℕ). Marks l []) (sym e) (Marks-none 3750)
 
 -- no tree
-pub walked_none : (size : ℕ) → 16 ≤ size → (told : Option (List (List ℕ))) (head : Head) (s : Surveying) (reads : Option ℕ) → head.height ≡ 0 → s.used ≡ replicate 3750 0 → s.checker.format ≡ head.format → s.checker.level ≡ head.level
+pub walked_none : (size : ℕ) → 16 ≤ size → (told : Option (List (List ℕ))) (head : Head) (s : Surveying) (reads : Option ℕ) → head.height ≡ 0
+    → s.used ≡ replicate 3750 0 → s.checker.format ≡ head.format → s.checker.level ≡ head.level
     → IsFed head.records s.checker [] → IsWalked size told head s reads reads
 walked_none size room told head s reads none used format level fed = record {
   rs = [];
@@ -67,9 +69,12 @@ walked_none size room told head s reads none used format level fed = record {
 }
 
 -- a tree from its root on
-pub walked_root : (size : ℕ) → 16 ≤ size → (told : Option (List (List ℕ))) (head : Head) (old new : Surveying) (before after : Option ℕ) → (head.height ≡ 0 → ⊥) → old.used ≡ replicate 3750 0 → old.checker.format ≡ head.format → old.checker.level ≡ head.level
+pub walked_root : (size : ℕ) → 16 ≤ size → (told : Option (List (List ℕ))) (head : Head) (old new : Surveying) (before after : Option ℕ)
+    → (head.height ≡ 0 → ⊥) → old.used ≡ replicate 3750 0 → old.checker.format ≡ head.format → old.checker.level ≡ head.level
     → IsFed head.records old.checker []
-    → ((visited : List ℕ) → Marks old.used visited → Found size told (λ pages. walk pages head.height true (head.root, from_to None None) visited) visited old new before after) → IsWalked size told head new before after
+    → ((visited : List ℕ) → Marks old.used visited
+    → Found size told (λ pages. walk pages head.height true (head.root, from_to None None) visited) visited old new before after)
+    → IsWalked size told head new before after
 walked_root size room told head old new before after some used format level fed found =
     let f = found [] (subst (λ (l : List ℕ). Marks l []) (sym used) (Marks-none 3750)) in
     record {
@@ -89,13 +94,17 @@ walked_root size room told head old new before after some used format level fed 
 whole_same : (rs ss : List Record) (u v : List ℕ) → Whole rs u ≡ Whole ss v → (rs ≡ ss) × (u ≡ v)
 whole_same rs ss u v e = (let a : rs ≡ ss = cc in a, let b : u ≡ v = cc in b)
 
-pub records_rise : (pages : List (List ℕ)) (head : Head) (rs : List Record) (now : List ℕ) → walk_of pages head.root head.height ≡ Whole rs now → Rises by_key rs
+pub records_rise : (pages : List (List ℕ)) (head : Head) (rs : List Record) (now : List ℕ)
+    → walk_of pages head.root head.height ≡ Whole rs now → Rises by_key rs
 records_rise pages head rs now w =
     let t : Tree = record { root = head.root; height = head.height; records = head.records } in
     tree_rises (Some pages) t rs (record { pages = pages; is_told = refl; visited = now; walk = w })
 
-module _ (size : ℕ) (told : Option (List (List ℕ))) (head : Head) (s : Surveying) (before after : Option ℕ) (h : IsWalked size told head s before after) (ok : IsHead size head) (pages : List (List ℕ)) (is_told : told ≡ Some pages) where
-  pub survey_from : (entries : List Entry) → ((total : ℕ) (rs : List Record) → IsFed total s.checker rs → Rises by_key rs → IsSpelled s.checker.format s.checker.level entries rs × (length rs ≡ total)) → IsSurvey pages head entries s.used
+module _ (size : ℕ) (told : Option (List (List ℕ))) (head : Head) (s : Surveying) (before after : Option ℕ)
+    (h : IsWalked size told head s before after) (ok : IsHead size head) (pages : List (List ℕ)) (is_told : told ≡ Some pages) where
+  pub survey_from : (entries : List Entry)
+      → ((total : ℕ) (rs : List Record) → IsFed total s.checker rs → Rises by_key rs → IsSpelled s.checker.format s.checker.level entries rs
+      × (length rs ≡ total)) → IsSurvey pages head entries s.used
   survey_from entries spelled =
       let w = spelled head.records h.rs h.fed (records_rise pages head h.rs h.now (h.walks pages is_told)) in
       let g = w.0 in
@@ -106,12 +115,14 @@ module _ (size : ℕ) (told : Option (List (List ℕ))) (head : Head) (s : Surve
         count = w.1;
         numbers = g.numbers;
         layers = g.layers;
-        spelled = subst (λ (f : ℕ). SpellsUnder f head.level g.numbers h.rs g.layers) h.format (subst (λ (n : ℕ). SpellsUnder s.checker.format n g.numbers h.rs g.layers) h.level g.spelled);
+        spelled = subst (λ (f : ℕ). SpellsUnder f head.level g.numbers h.rs g.layers) h.format
+            (subst (λ (n : ℕ). SpellsUnder s.checker.format n g.numbers h.rs g.layers) h.level g.spelled);
         catalogued = g.catalogued;
         marks = h.marks;
       }
 
-  pub damage_from : ((total : ℕ) (rs : List Record) → IsFed total s.checker rs → (numbers : Numbering) (layers : Map) → SpellsUnder s.checker.format s.checker.level numbers rs layers → length rs ≡ total → ⊥) → IsDamage pages head 0
+  pub damage_from : ((total : ℕ) (rs : List Record) → IsFed total s.checker rs → (numbers : Numbering) (layers : Map)
+      → SpellsUnder s.checker.format s.checker.level numbers rs layers → length rs ≡ total → ⊥) → IsDamage pages head 0
   damage_from refused = record {
     first = sym (ap first_damaged (h.walks pages is_told));
     none = λ records visited layers w spells count.
@@ -119,11 +130,13 @@ module _ (size : ℕ) (told : Option (List (List ℕ))) (head : Head) (s : Surve
         let m = (members head.format head.level records layers ok.level.1).0 spells in
         let under = subst (λ (l : List Record). SpellsUnder head.format head.level m.0 l layers) (sym same) m.1 in
         refused head.records h.rs h.fed m.0 layers
-        (subst (λ (f : ℕ). SpellsUnder f s.checker.level m.0 h.rs layers) (sym h.format) (subst (λ (n : ℕ). SpellsUnder head.format n m.0 h.rs layers) (sym h.level) under))
+        (subst (λ (f : ℕ). SpellsUnder f s.checker.level m.0 h.rs layers) (sym h.format)
+        (subst (λ (n : ℕ). SpellsUnder head.format n m.0 h.rs layers) (sym h.level) under))
         (ap length same ∙ count);
   }
 
-  pub reads_from : (records : List Record) (visited : List ℕ) → walk_of pages head.root head.height ≡ Whole records visited → Tells {A = ℕ} (λ was is. is ≤ was + length visited) before after
+  pub reads_from : (records : List Record) (visited : List ℕ) → walk_of pages head.root head.height ≡ Whole records visited
+      → Tells {A = ℕ} (λ was is. is ≤ was + length visited) before after
   reads_from records visited w =
       let same = (whole_same h.rs records h.now visited (sym (h.walks pages is_told) ∙ w)).1 in
       subst (λ (l : List ℕ). Tells {A = ℕ} (λ was is. is ≤ was + length l) before after) same h.reads

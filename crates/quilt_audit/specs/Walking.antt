@@ -28,14 +28,16 @@ pub record Added (size : ℕ) (visited : List ℕ) (old new : Surveying) (before
   pub spent : Spent size visited now before after
 
 -- a walk whose result is this, where the pages are told, has found what it added
-pub record Found (size : ℕ) (told : Option (List (List ℕ))) (found : List (List ℕ) → Walk) (visited : List ℕ) (old new : Surveying) (before after : Option ℕ) : Type 0 where
+pub record Found (size : ℕ) (told : Option (List (List ℕ))) (found : List (List ℕ) → Walk) (visited : List ℕ) (old new : Surveying)
+    (before after : Option ℕ) : Type 0 where
   pub rs : List Record
   pub now : List ℕ
   pub added : Added size visited old new before after rs now
   pub walks : (pages : List (List ℕ)) → told ≡ Some pages → found pages ≡ Whole rs now
 
 -- As far as a row of children was visited: where the pages are told, the walk of all is that of the rest behind what was found.
-pub record Reached (size : ℕ) (told : Option (List (List ℕ))) (all : List (List ℕ) → Walk) (rest : List (List ℕ) → List Record → List ℕ → Walk) (visited : List ℕ) (old new : Surveying) (before after : Option ℕ) : Type 0 where
+pub record Reached (size : ℕ) (told : Option (List (List ℕ))) (all : List (List ℕ) → Walk) (rest : List (List ℕ) → List Record → List ℕ → Walk)
+    (visited : List ℕ) (old new : Surveying) (before after : Option ℕ) : Type 0 where
   pub rs : List Record
   pub now : List ℕ
   pub added : Added size visited old new before after rs now

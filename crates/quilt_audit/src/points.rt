@@ -61,8 +61,11 @@ impl PointRun {
         requires block { IsBlock level block }
         requires code { code ≡ code_from block }
         requires fits { FactFits level (point_fact block held) }
-        ensures some { IfSome result (λ next. (form layer : ℕ) (rs : List AnyRecord) → 1 ≤ layer → IsPointRun form level rs layer self.now.bucket self.now → IsPointRun form level (rs ++ record_of level self.now.bucket [] layer (point_fact block held) ∷ []) layer self.now.bucket next) }
-        ensures none { IfNone result ((form layer : ℕ) (rs : List AnyRecord) → 1 ≤ layer → IsPointRun form level rs layer self.now.bucket self.now → Refuses form level rs layer (kinds.Points self.now.bucket) (record_of level self.now.bucket [] layer (point_fact block held))) }
+        ensures some { IfSome result (λ next. (form layer : ℕ) (rs : List AnyRecord) → 1 ≤ layer
+            → IsPointRun form level rs layer self.now.bucket self.now
+            → IsPointRun form level (rs ++ record_of level self.now.bucket [] layer (point_fact block held) ∷ []) layer self.now.bucket next) }
+        ensures none { IfNone result ((form layer : ℕ) (rs : List AnyRecord) → 1 ≤ layer → IsPointRun form level rs layer self.now.bucket self.now
+            → Refuses form level rs layer (kinds.Points self.now.bucket) (record_of level self.now.bucket [] layer (point_fact block held))) }
     {
         if !is_in(block, held) {
             return None;
@@ -78,7 +81,9 @@ impl PointRun {
 
     /// After one more point of the last block, where it may hold one more.
     fn more(&self, held: Option<Point>) -> Option<PointRun>
-        ensures some { IfSome result (λ next. (next ≡ record self.now { last = record { block = self.now.last.block; count = self.now.last.count + 1 } }) × (1 ≤ self.now.last.count) × (self.now.last.count < self.now.bucket) × (count_of_held held ≡ 1)) }
+        ensures some { IfSome result
+            (λ next. (next ≡ record self.now { last = record { block = self.now.last.block; count = self.now.last.count + 1 } })
+            × (1 ≤ self.now.last.count) × (self.now.last.count < self.now.bucket) × (count_of_held held ≡ 1)) }
         ensures none { IfNone result ((1 ≤ count_of_held held) → (1 ≤ self.now.last.count) → (self.now.last.count < self.now.bucket) → ⊥) }
     {
         if held.is_none() || self.last.count == 0 || self.bucket <= self.last.count {

@@ -1,7 +1,8 @@
 ghost use Rattle.std.specs.Prelude.{◌≡◌, ℕ, ◌+◌, ◌<◌, ◌≤◌, ◌&&◌, true, List, [], ◌∷◌, map, length, Some, IfOk, IfErr, IfSome, IfNone, slice_index_or};
 ghost use Rattle.quilt_node.specs.Nodes.{are_pages};
 ghost use Rattle.quilt_node.specs.Pages as spec;
-ghost use Rattle.quilt_node.specs.Tree.{Bounds, Walk, Whole, Damaged, are_within, bounded, each_child, leaf_walk, inner_walk, is_above as is_above_of, is_below as is_below_of};
+ghost use Rattle.quilt_node.specs.Tree.{Bounds, Walk, Whole, Damaged, are_within, bounded, each_child, leaf_walk, inner_walk, is_above as is_above_of};
+ghost use Rattle.quilt_node.specs.Tree.{is_below as is_below_of};
 ghost use Rattle.quilt_store.specs.Store.{Tells};
 ghost use Rattle.quilt_btree.specs.Stops.{store_stop, HasStopCause, NamesPage};
 ghost use Rattle.quilt_audit.specs.Surveys.{OnDamaged};
@@ -83,8 +84,12 @@ pub fn read_leaf<S: PageStore>(
     high: &Option<Key>,
 ) -> Result<LeafPage, Stop>
     requires { (1 ≤ page) × (page < S.size store.old) }
-    ensures leaf { IfOk result (λ leaf. (pages : List (List ℕ)) (visited : List ℕ) → S.told store.old ≡ Some pages → leaf_walk is_root (record { low = low.now; high = high.now }) page visited (spec.leaf_of (slice_index_or pages page [])) ≡ Whole leaf (page ∷ visited)) }
-    ensures damaged { IfErr result (OnDamaged (λ p. (pages : List (List ℕ)) (visited : List ℕ) → S.told store.old ≡ Some pages → leaf_walk is_root (record { low = low.now; high = high.now }) page visited (spec.leaf_of (slice_index_or pages page [])) ≡ Damaged p)) }
+    ensures leaf { IfOk result (λ leaf. (pages : List (List ℕ)) (visited : List ℕ) → S.told store.old ≡ Some pages
+        → leaf_walk is_root (record { low = low.now; high = high.now }) page visited (spec.leaf_of (slice_index_or pages page []))
+        ≡ Whole leaf (page ∷ visited)) }
+    ensures damaged { IfErr result
+        (OnDamaged (λ p. (pages : List (List ℕ)) (visited : List ℕ) → S.told store.old ≡ Some pages
+        → leaf_walk is_root (record { low = low.now; high = high.now }) page visited (spec.leaf_of (slice_index_or pages page [])) ≡ Damaged p)) }
     ensures names { IfErr result (NamesPage (S.size store.old)) }
     ensures cause { HasStopCause (S.faults store.old) (S.faults store.new) result }
     ensures size { S.size store.new ≡ S.size store.old }
@@ -111,8 +116,10 @@ fn leaf_in(
     low: &Option<Key>,
     high: &Option<Key>,
 ) -> Option<LeafPage>
-    ensures some { IfSome result (λ leaf. (page : ℕ) (visited : List ℕ) → leaf_walk is_root (record { low = low.now; high = high.now }) page visited (spec.leaf_of bytes.now) ≡ Whole leaf (page ∷ visited)) }
-    ensures none { IfNone result ((page : ℕ) (visited : List ℕ) → leaf_walk is_root (record { low = low.now; high = high.now }) page visited (spec.leaf_of bytes.now) ≡ Damaged page) }
+    ensures some { IfSome result (λ leaf. (page : ℕ) (visited : List ℕ)
+        → leaf_walk is_root (record { low = low.now; high = high.now }) page visited (spec.leaf_of bytes.now) ≡ Whole leaf (page ∷ visited)) }
+    ensures none { IfNone result ((page : ℕ) (visited : List ℕ)
+        → leaf_walk is_root (record { low = low.now; high = high.now }) page visited (spec.leaf_of bytes.now) ≡ Damaged page) }
 {
     let leaf = leaf_of(bytes)?;
     if (is_root || 72 <= leaf.len()) && leaf_is_within(&leaf, low, high) {
@@ -132,9 +139,16 @@ pub fn read_inner<S: PageStore>(
     high: &Option<Key>,
 ) -> Result<InnerPage, Stop>
     requires { (1 ≤ page) × (page < S.size store.old) }
-    ensures inner { IfOk result (λ inner. (pages : List (List ℕ)) (visited : List ℕ) (visit : ℕ × Bounds → List ℕ → Walk) → S.told store.old ≡ Some pages → inner_walk visit height is_root (record { low = low.now; high = high.now }) page visited (spec.inner_of (length pages) (slice_index_or pages page [])) ≡ each_child visit (bounded inner.children inner.keys (record { low = low.now; high = high.now })) (Whole [] (page ∷ visited))) }
+    ensures inner { IfOk result (λ inner. (pages : List (List ℕ)) (visited : List ℕ) (visit : ℕ × Bounds → List ℕ → Walk)
+        → S.told store.old ≡ Some pages
+        → inner_walk visit height is_root (record { low = low.now; high = high.now }) page visited
+        (spec.inner_of (length pages) (slice_index_or pages page []))
+        ≡ each_child visit (bounded inner.children inner.keys (record { low = low.now; high = high.now })) (Whole [] (page ∷ visited))) }
     ensures children { IfOk result (λ inner. are_pages (S.size store.old) inner.children ≡ true) }
-    ensures damaged { IfErr result (OnDamaged (λ p. (pages : List (List ℕ)) (visited : List ℕ) (visit : ℕ × Bounds → List ℕ → Walk) → S.told store.old ≡ Some pages → inner_walk visit height is_root (record { low = low.now; high = high.now }) page visited (spec.inner_of (length pages) (slice_index_or pages page [])) ≡ Damaged p)) }
+    ensures damaged { IfErr result
+        (OnDamaged (λ p. (pages : List (List ℕ)) (visited : List ℕ) (visit : ℕ × Bounds → List ℕ → Walk) → S.told store.old ≡ Some pages
+        → inner_walk visit height is_root (record { low = low.now; high = high.now }) page visited
+        (spec.inner_of (length pages) (slice_index_or pages page [])) ≡ Damaged p)) }
     ensures names { IfErr result (NamesPage (S.size store.old)) }
     ensures cause { HasStopCause (S.faults store.old) (S.faults store.new) result }
     ensures size { S.size store.new ≡ S.size store.old }
@@ -164,9 +178,12 @@ fn inner_in(
     low: &Option<Key>,
     high: &Option<Key>,
 ) -> Option<InnerPage>
-    ensures some { IfSome result (λ inner. (page : ℕ) (visited : List ℕ) (visit : ℕ × Bounds → List ℕ → Walk) → inner_walk visit height is_root (record { low = low.now; high = high.now }) page visited (spec.inner_of pages bytes.now) ≡ each_child visit (bounded inner.children inner.keys (record { low = low.now; high = high.now })) (Whole [] (page ∷ visited))) }
+    ensures some { IfSome result (λ inner. (page : ℕ) (visited : List ℕ) (visit : ℕ × Bounds → List ℕ → Walk)
+        → inner_walk visit height is_root (record { low = low.now; high = high.now }) page visited (spec.inner_of pages bytes.now)
+        ≡ each_child visit (bounded inner.children inner.keys (record { low = low.now; high = high.now })) (Whole [] (page ∷ visited))) }
     ensures children { IfSome result (λ inner. are_pages pages inner.children ≡ true) }
-    ensures none { IfNone result ((page : ℕ) (visited : List ℕ) (visit : ℕ × Bounds → List ℕ → Walk) → inner_walk visit height is_root (record { low = low.now; high = high.now }) page visited (spec.inner_of pages bytes.now) ≡ Damaged page) }
+    ensures none { IfNone result ((page : ℕ) (visited : List ℕ) (visit : ℕ × Bounds → List ℕ → Walk)
+        → inner_walk visit height is_root (record { low = low.now; high = high.now }) page visited (spec.inner_of pages bytes.now) ≡ Damaged page) }
 {
     let inner = inner_of(bytes, pages)?;
     if inner.height() == height

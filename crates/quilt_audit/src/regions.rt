@@ -51,8 +51,11 @@ impl RegionRun {
         requires level { (1 ≤ level) × (level ≤ 12) }
         requires block { IsBlock level leaf.block }
         requires code { code ≡ code_from leaf.block }
-        ensures some { IfSome result (λ next. (form layer : ℕ) (rs : List AnyRecord) → 1 ≤ layer → leaf.colour.0 < colours form → IsGoing form level rs layer self.now.end self.now.recent → IsGoing form level (rs ++ leaf_record level layer (pair_of leaf) ∷ []) layer next.end next.recent) }
-        ensures none { IfNone result ((form layer : ℕ) (rs : List AnyRecord) → 1 ≤ layer → IsGoing form level rs layer self.now.end self.now.recent → Refuses form level rs layer kinds.Region (leaf_record level layer (pair_of leaf))) }
+        ensures some { IfSome result (λ next. (form layer : ℕ) (rs : List AnyRecord) → 1 ≤ layer → leaf.colour.0 < colours form
+            → IsGoing form level rs layer self.now.end self.now.recent
+            → IsGoing form level (rs ++ leaf_record level layer (pair_of leaf) ∷ []) layer next.end next.recent) }
+        ensures none { IfNone result ((form layer : ℕ) (rs : List AnyRecord) → 1 ≤ layer → IsGoing form level rs layer self.now.end self.now.recent
+            → Refuses form level rs layer kinds.Region (leaf_record level layer (pair_of leaf))) }
     {
         if code != self.end {
             return None;

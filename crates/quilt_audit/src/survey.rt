@@ -48,7 +48,9 @@ pub fn audit<S: PageStore>(
     ensures free { S.free store.new ≡ S.free store.old }
     ensures later { S.later store.old store.new }
     ensures few { Tells (λ old new. new < old + pages) (S.reads store.old) (S.reads store.new) }
-    ensures reads { IfOk result (λ s. (told : List (List ℕ)) (records : List Record) (visited : List ℕ) → S.told store.old ≡ Some told → walk_of told head.now.root head.now.height ≡ Whole records visited → Tells (λ old new. new ≤ old + length visited) (S.reads store.old) (S.reads store.new)) }
+    ensures reads { IfOk result (λ s. (told : List (List ℕ)) (records : List Record) (visited : List ℕ) → S.told store.old ≡ Some told
+        → walk_of told head.now.root head.now.height ≡ Whole records visited
+        → Tells (λ old new. new ≤ old + length visited) (S.reads store.old) (S.reads store.new)) }
     ensures changed { S.changed store.new ≤ S.changed store.old }
 {
     match survey_tree(alloc, store, head) {
@@ -68,7 +70,8 @@ pub fn audit<S: PageStore>(
 fn survey_tree<S: PageStore>(alloc: Global, store: &mut S, head: &Head) -> Result<Surveying, Stop>
     requires { IsHead (S.size store.old) head.now }
     ensures walked { IfOk result (λ s. IsWalked (S.size store.old) (S.told store.old) head.now s (S.reads store.old) (S.reads store.new)) }
-    ensures damaged { IfErr result (OnDamaged (λ page. (told : List (List ℕ)) → S.told store.old ≡ Some told → walk_of told head.now.root head.now.height ≡ Damaged page)) }
+    ensures damaged { IfErr result
+        (OnDamaged (λ page. (told : List (List ℕ)) → S.told store.old ≡ Some told → walk_of told head.now.root head.now.height ≡ Damaged page)) }
     ensures few { OnErr result (Tells (λ old new. new < old + S.size store.old) (S.reads store.old) (S.reads store.new)) }
     ensures names { IfErr result (NamesPage (S.size store.old)) }
     ensures cause { HasStopCause (S.faults store.old) (S.faults store.new) result }

@@ -1,4 +1,5 @@
-ghost use Rattle.std.specs.Prelude.{◌≡◌, ℕ, zero, suc, ◌+◌, ◌<◌, ◌≤◌, false, true, List, [], ◌∷◌, length, Some, OnOk, OnErr, IfErr, slice_get, slice_index_or, ◌==◌};
+ghost use Rattle.std.specs.Prelude.{◌≡◌, ℕ, zero, suc, ◌+◌, ◌<◌, ◌≤◌, false, true, List, [], ◌∷◌, length, Some, OnOk, OnErr, IfErr, slice_get, slice_index_or};
+ghost use Rattle.std.specs.Prelude.{◌==◌};
 ghost use Rattle.std.specs.List.{list_any};
 ghost use Rattle.std.specs.Option.{option_or};
 ghost use Rattle.quilt_node.specs.Nodes.{are_pages};
@@ -52,9 +53,14 @@ fn survey_leaf<S: PageStore>(
     high: &Option<Key>,
 ) -> Result<(), Stop>
     requires page { (1 ≤ page) × (page < S.size store.old) }
-    ensures found { OnOk result ((visited : List ℕ) → Marks state.old.used visited → list_any (λ v. v == page) visited ≡ false → Found (S.size store.old) (S.told store.old) (λ pages. walk pages 1 is_root (page, record { low = low.now; high = high.now }) visited) visited state.old state.new (S.reads store.old) (S.reads store.new)) }
-    ensures damaged { IfErr result (OnDamaged (λ p. (pages : List (List ℕ)) (visited : List ℕ) → S.told store.old ≡ Some pages → list_any (λ v. v == page) visited ≡ false → walk pages 1 is_root (page, record { low = low.now; high = high.now }) visited ≡ Damaged p)) }
-    ensures spent { OnErr result ((visited : List ℕ) → list_any (λ v. v == page) visited ≡ false → SpentSome (S.size store.old) visited (S.reads store.old) (S.reads store.new)) }
+    ensures found { OnOk result ((visited : List ℕ) → Marks state.old.used visited → list_any (λ v. v == page) visited ≡ false
+        → Found (S.size store.old) (S.told store.old) (λ pages. walk pages 1 is_root (page, record { low = low.now; high = high.now }) visited)
+        visited state.old state.new (S.reads store.old) (S.reads store.new)) }
+    ensures damaged { IfErr result
+        (OnDamaged (λ p. (pages : List (List ℕ)) (visited : List ℕ) → S.told store.old ≡ Some pages → list_any (λ v. v == page) visited ≡ false
+        → walk pages 1 is_root (page, record { low = low.now; high = high.now }) visited ≡ Damaged p)) }
+    ensures spent { OnErr result ((visited : List ℕ) → list_any (λ v. v == page) visited ≡ false
+        → SpentSome (S.size store.old) visited (S.reads store.old) (S.reads store.new)) }
     ensures names { IfErr result (NamesPage (S.size store.old)) }
     ensures cause { HasStopCause (S.faults store.old) (S.faults store.new) result }
     ensures size { S.size store.new ≡ S.size store.old }
@@ -89,9 +95,14 @@ pub fn survey_page<S: PageStore>(
 ) -> Result<(), Stop>
     requires page { (1 ≤ page) × (page < S.size store.old) }
     requires height { 1 ≤ height }
-    ensures found { OnOk result ((visited : List ℕ) → Marks state.old.used visited → Found (S.size store.old) (S.told store.old) (λ pages. walk pages height is_root (page, record { low = low.now; high = high.now }) visited) visited state.old state.new (S.reads store.old) (S.reads store.new)) }
-    ensures damaged { IfErr result (OnDamaged (λ p. (pages : List (List ℕ)) (visited : List ℕ) → S.told store.old ≡ Some pages → Marks state.old.used visited → walk pages height is_root (page, record { low = low.now; high = high.now }) visited ≡ Damaged p)) }
-    ensures spent { OnErr result ((visited : List ℕ) → Marks state.old.used visited → SpentSome (S.size store.old) visited (S.reads store.old) (S.reads store.new)) }
+    ensures found { OnOk result ((visited : List ℕ) → Marks state.old.used visited
+        → Found (S.size store.old) (S.told store.old) (λ pages. walk pages height is_root (page, record { low = low.now; high = high.now }) visited)
+        visited state.old state.new (S.reads store.old) (S.reads store.new)) }
+    ensures damaged { IfErr result
+        (OnDamaged (λ p. (pages : List (List ℕ)) (visited : List ℕ) → S.told store.old ≡ Some pages → Marks state.old.used visited
+        → walk pages height is_root (page, record { low = low.now; high = high.now }) visited ≡ Damaged p)) }
+    ensures spent { OnErr result ((visited : List ℕ) → Marks state.old.used visited
+        → SpentSome (S.size store.old) visited (S.reads store.old) (S.reads store.new)) }
     ensures names { IfErr result (NamesPage (S.size store.old)) }
     ensures cause { HasStopCause (S.faults store.old) (S.faults store.new) result }
     ensures size { S.size store.new ≡ S.size store.old }
@@ -127,9 +138,16 @@ fn survey_children<S: PageStore>(
 ) -> Result<(), Stop>
     requires pages { are_pages (S.size store.old) inner.now.children ≡ true }
     requires height { 1 ≤ height }
-    ensures found { OnOk result ((visited : List ℕ) → Marks state.old.used visited → Found (S.size store.old) (S.told store.old) (λ pages. each_child (walk pages height false) (bounded inner.now.children inner.now.keys (record { low = low.now; high = high.now })) (Whole [] visited)) visited state.old state.new (S.reads store.old) (S.reads store.new)) }
-    ensures damaged { IfErr result (OnDamaged (λ p. (pages : List (List ℕ)) (visited : List ℕ) → S.told store.old ≡ Some pages → Marks state.old.used visited → each_child (walk pages height false) (bounded inner.now.children inner.now.keys (record { low = low.now; high = high.now })) (Whole [] visited) ≡ Damaged p)) }
-    ensures spent { OnErr result ((visited : List ℕ) → Marks state.old.used visited → SpentSome (S.size store.old) visited (S.reads store.old) (S.reads store.new)) }
+    ensures found { OnOk result ((visited : List ℕ) → Marks state.old.used visited
+        → Found (S.size store.old) (S.told store.old)
+        (λ pages. each_child (walk pages height false) (bounded inner.now.children inner.now.keys (record { low = low.now; high = high.now }))
+        (Whole [] visited)) visited state.old state.new (S.reads store.old) (S.reads store.new)) }
+    ensures damaged { IfErr result
+        (OnDamaged (λ p. (pages : List (List ℕ)) (visited : List ℕ) → S.told store.old ≡ Some pages → Marks state.old.used visited
+        → each_child (walk pages height false) (bounded inner.now.children inner.now.keys (record { low = low.now; high = high.now }))
+        (Whole [] visited) ≡ Damaged p)) }
+    ensures spent { OnErr result ((visited : List ℕ) → Marks state.old.used visited
+        → SpentSome (S.size store.old) visited (S.reads store.old) (S.reads store.new)) }
     ensures names { IfErr result (NamesPage (S.size store.old)) }
     ensures cause { HasStopCause (S.faults store.old) (S.faults store.new) result }
     ensures size { S.size store.new ≡ S.size store.old }

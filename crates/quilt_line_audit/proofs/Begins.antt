@@ -1,5 +1,6 @@
 -- What a list of pairs begins with: it begins with one thing alone, and a square's segments are enough for its quarters.
-use Rattle.std.proofs.Common.{◌≡◌, ◌↔◌, ℕ, ◌/◌, ◌≤◌, Bool, true, false, cond, List, [], ◌∷◌, ◌++◌, map, filter, refl, sym, ◌∙◌, ap, subst, inl, inr, ⊎_elim, arith, Contains, pow-suc, pow_pos}
+use Rattle.std.proofs.Common.{◌≡◌, ◌↔◌, ℕ, ◌/◌, ◌≤◌, Bool, true, false, cond, List, [], ◌∷◌, ◌++◌, map, filter, refl, sym, ◌∙◌, ap, subst, inl, inr, ⊎_elim}
+use Rattle.std.proofs.Common.{arith, Contains, pow-suc, pow_pos}
 use Rattle.quilt_types.specs.declared.plane.Block.{Block}
 use Rattle.quilt_types.specs.declared.plane.Seg.{Seg}
 use Rattle.quilt_types.specs.Plane.{side, quarters_of, IsBlock, Within}
@@ -57,7 +58,8 @@ small_first (ℕ.suc k) b segs pairs rest e h =
     record { first = s.first; more = s.more; are = s.are; small = omega arith }) h
 
 -- a square that is cut does not begin with a pair of its own
-pub not_both : (k : ℕ) (b : Block) (segs : List (ℕ × Seg)) (pairs rest : List Pair) (p : Pair) (more : List Pair) → b.side ≡ side (ℕ.suc k) → InTurn (Begins segs k) (quarters_of b) pairs rest
+pub not_both : (k : ℕ) (b : Block) (segs : List (ℕ × Seg)) (pairs rest : List Pair) (p : Pair) (more : List Pair) → b.side ≡ side (ℕ.suc k)
+    → InTurn (Begins segs k) (quarters_of b) pairs rest
     → pairs ≡ p ∷ more → p.block ≡ b → ⊥
 not_both k b segs pairs rest p more e turn is on =
     let s = small_first k (record { x = b.x; y = b.y; side = b.side / 2 }) segs pairs turn.0 (half_side k b e) turn.1 in
@@ -91,19 +93,22 @@ turn_once P A one [] a pairs r s h g = sym h ∙ g
 turn_once P A one (q ∷ qs) a pairs r s h g =
     turn_once P A one qs a.1 h.0 r s h.2 (subst (λ (m : List Pair). InTurn P qs m s) (sym (one q pairs h.0 g.0 a.0 h.1 g.1)) g.2)
 
-cut_and_whole : (k : ℕ) (b : Block) (segs : List (ℕ × Seg)) (pairs r s : List Pair) → b.side ≡ side (ℕ.suc k) → pairs ≡ pairs_on segs b ++ r → InTurn (Begins segs k) (quarters_of b) pairs s → ⊥
+cut_and_whole : (k : ℕ) (b : Block) (segs : List (ℕ × Seg)) (pairs r s : List Pair) → b.side ≡ side (ℕ.suc k) → pairs ≡ pairs_on segs b ++ r
+    → InTurn (Begins segs k) (quarters_of b) pairs s → ⊥
 cut_and_whole k b segs pairs r s e here turn =
     let f = of_first b (filter (λ (d : ℕ × Seg). meets d.1 (square b)) segs) r in
     not_both k b segs pairs s f.first f.more e turn (here ∙ f.are) f.on
 
-pub begins_once : (k : ℕ) (b : Block) (segs : List (ℕ × Seg)) (pairs r s : List Pair) → b.side ≡ side k → Begins segs k b pairs r → Begins segs k b pairs s → r ≡ s
+pub begins_once : (k : ℕ) (b : Block) (segs : List (ℕ × Seg)) (pairs r s : List Pair) → b.side ≡ side k → Begins segs k b pairs r
+    → Begins segs k b pairs s → r ≡ s
 begins_once ℕ.zero b segs pairs r s e h g = same_rest (pairs_on segs b) r s (sym h ∙ g)
 begins_once (ℕ.suc k) b segs pairs r s e h g =
     ⊎_elim
     (λ a. ⊎_elim (λ c. same_rest (pairs_on segs b) r s (sym a ∙ c)) (λ t. absurd (cut_and_whole k b segs pairs r s e a t)) g)
     (λ t.
     ⊎_elim (λ c. absurd (cut_and_whole k b segs pairs s r e c t))
-    (λ u. turn_once (Begins segs k) (λ q. q.side ≡ side k) (λ q ps x y f i j. begins_once k q segs ps x y f i j) (quarters_of b) (quarter_sides k b e) pairs r s t u) g) h
+    (λ u. turn_once (Begins segs k) (λ q. q.side ≡ side k) (λ q ps x y f i j. begins_once k q segs ps x y f i j) (quarters_of b)
+    (quarter_sides k b e) pairs r s t u) g) h
 
 -- ---- the segments that meet a square are enough for its quarters
 keeps : {X : Type 0} (p r : X → Bool) (x : X) (xs : List X) (t : Bool) → p x ≡ t → (r x ≡ true → p x ≡ true) → filter r (cond t (x ∷ xs) xs) ≡ filter r (x ∷ xs)
@@ -122,16 +127,19 @@ abbrev pub near : Block → List (ℕ × Seg) → List (ℕ × Seg)
 near b segs = filter (λ e. meets e.1 (square b)) segs
 
 pub near_pairs : (b q : Block) (segs : List (ℕ × Seg)) → Within q b → pairs_on (near b segs) q ≡ pairs_on segs q
-near_pairs b q segs w = ap (pairs_of q) (filter_twice (λ (e : ℕ × Seg). meets e.1 (square b)) (λ e. meets e.1 (square q)) (λ e t. meets_within e.1 q b w t) segs)
+near_pairs b q segs w =
+    ap (pairs_of q) (filter_twice (λ (e : ℕ × Seg). meets e.1 (square b)) (λ e. meets e.1 (square q)) (λ e t. meets_within e.1 q b w t) segs)
 
-pub turn_map : (P Q : Block → List Pair → List Pair → Type 0) (qs : List Block) → ((q : Block) (ps r : List Pair) → Contains qs q → P q ps r → Q q ps r) → (pairs rest : List Pair)
+pub turn_map : (P Q : Block → List Pair → List Pair → Type 0) (qs : List Block)
+    → ((q : Block) (ps r : List Pair) → Contains qs q → P q ps r → Q q ps r) → (pairs rest : List Pair)
     → InTurn P qs pairs rest → InTurn Q qs pairs rest
 turn_map P Q [] f pairs rest h = h
 turn_map P Q (q ∷ qs) f pairs rest h =
     (h.0, f q pairs h.0 (Contains-here q qs) h.1, turn_map P Q qs (λ r ps s c. f r ps s (Contains-there q qs r c)) h.0 rest h.2)
 
 module _ (n : ℕ) (b : Block) (segs : List (ℕ × Seg)) where
-  pub near_begins : (k : ℕ) (q : Block) (pairs rest : List Pair) → IsBlock n q → q.side ≡ side k → Within q b → Begins (near b segs) k q pairs rest ↔ Begins segs k q pairs rest
+  pub near_begins : (k : ℕ) (q : Block) (pairs rest : List Pair) → IsBlock n q → q.side ≡ side k → Within q b → Begins (near b segs) k q pairs rest
+      ↔ Begins segs k q pairs rest
   near_begins ℕ.zero q pairs rest hq e w =
       let same = ap (λ (l : List Pair). l ++ rest) (near_pairs b q segs w) in
       (λ h. h ∙ same, λ h. h ∙ sym same)
@@ -140,7 +148,10 @@ module _ (n : ℕ) (b : Block) (segs : List (ℕ × Seg)) where
       let p = pow-suc 2 k in
       let pos = pow_pos k in
       let part = λ (r : Block) (c : Contains (quarters_of q) r). quarters_are n q r hq (omega arith) c in
-      let below = λ (r : Block) (ps s : List Pair) (c : Contains (quarters_of q) r). near_begins k r ps s (part r c).block (quarter_side k q r e c) (Within-trans r q b (part r c).within w) in (
-        ⊎_elim (λ h. inl (h ∙ same)) (λ t. inr (turn_map (Begins (near b segs) k) (Begins segs k) (quarters_of q) (λ r ps s c. (below r ps s c).0) pairs rest t)),
-        ⊎_elim (λ h. inl (h ∙ sym same)) (λ t. inr (turn_map (Begins segs k) (Begins (near b segs) k) (quarters_of q) (λ r ps s c. (below r ps s c).1) pairs rest t)),
+      let below = λ (r : Block) (ps s : List Pair) (c : Contains (quarters_of q) r). near_begins k r ps s (part r c).block (quarter_side k q r e c)
+      (Within-trans r q b (part r c).within w) in (
+        ⊎_elim (λ h. inl (h ∙ same))
+            (λ t. inr (turn_map (Begins (near b segs) k) (Begins segs k) (quarters_of q) (λ r ps s c. (below r ps s c).0) pairs rest t)),
+        ⊎_elim (λ h. inl (h ∙ sym same))
+            (λ t. inr (turn_map (Begins segs k) (Begins (near b segs) k) (quarters_of q) (λ r ps s c. (below r ps s c).1) pairs rest t)),
       )

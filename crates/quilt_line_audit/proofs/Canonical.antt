@@ -7,7 +7,8 @@ use Rattle.quilt_types.specs.Plane.{whole}
 use Rattle.quilt_types.specs.Layers.{Lines, SegMap, BlockSet}
 use Rattle.quilt_types.specs.Segments.{square, meets}
 use Rattle.quilt_loc.specs.Codes.{Rises, code_from, code_cmp}
-use Rattle.quilt_loc.proofs.Members.{Contains-nil, Contains-map, Contains-map_from, Contains-filter, Contains-filter_from, Contains-flat_map, Contains-flat_map_from}
+use Rattle.quilt_loc.proofs.Members.{Contains-nil, Contains-map, Contains-map_from, Contains-filter, Contains-filter_from, Contains-flat_map}
+use Rattle.quilt_loc.proofs.Members.{Contains-flat_map_from}
 use Rattle.quilt_loc.proofs.Rising.{same_rising, Rises-filter, Rises-map, Rises-flat_map_at, nat_less_from}
 use Rattle.quilt_record.specs.declared.record.Record.{Record}
 use Rattle.quilt_blocks.specs.Cutting.{leaf_cmp}
@@ -26,7 +27,8 @@ use Rattle.quilt_line_audit.proofs.Facts.{record_says, segment_there, pair_there
 use Rattle.quilt_line_audit.proofs.Cuts.{plain, from_zero}
 use Rattle.quilt_line_audit.proofs.Ordered.{ordered_are, ordered_in}
 
-pub Rises-unmap : {X Y : Type 0} (R : X → X → Ordering) (S : Y → Y → Ordering) (f : X → Y) → ((a b : X) → S (f a) (f b) ≡ Less → R a b ≡ Less) → (xs : List X) → Rises S (map f xs) → Rises R xs
+pub Rises-unmap : {X Y : Type 0} (R : X → X → Ordering) (S : Y → Y → Ordering) (f : X → Y) → ((a b : X) → S (f a) (f b) ≡ Less → R a b ≡ Less)
+    → (xs : List X) → Rises S (map f xs) → Rises R xs
 Rises-unmap R S f keeps [] h = tt
 Rises-unmap R S f keeps (x ∷ xs) h = (λ y c. keeps x y (h.0 (f y) (Contains-map f xs y c)), Rises-unmap R S f keeps xs h.1)
 
@@ -43,7 +45,8 @@ module _ (n layer : ℕ) where
       let es = finmap.entries segs in
       Rises-map by_pair by_key (pair_record n layer) (flat_map (pairs_on es) bs) (λ p q _ _ e. e)
       (Rises-flat_map_at code_cmp by_pair (pairs_on es) bs h
-      (λ b c. block_rises b (filter (λ (e : ℕ × Seg). meets e.1 (square b)) es) (Rises-filter (by_first nat_cmp) (λ (e : ℕ × Seg). meets e.1 (square b)) es (Rises-entries nat_cmp segs)))
+      (λ b c. block_rises b (filter (λ (e : ℕ × Seg). meets e.1 (square b)) es)
+      (Rises-filter (by_first nat_cmp) (λ (e : ℕ × Seg). meets e.1 (square b)) es (Rises-entries nat_cmp segs)))
       (λ a b ca cb lt u v cu cv.
       let ua = ap (λ (z : Block). code_from z) (pair_block es a u cu) in
       let vb = ap (λ (z : Block). code_from z) (pair_block es b v cv) in
@@ -52,9 +55,11 @@ module _ (n layer : ℕ) where
 
   segments_rise : (segs : SegMap) → Rises by_key (map (segment_record n layer) (finmap.entries segs))
   segments_rise segs =
-      Rises-map (by_first nat_cmp) by_key (segment_record n layer) (finmap.entries segs) (λ d e _ _ lt. segments_by_id n layer d e ∙ lt) (Rises-entries nat_cmp segs)
+      Rises-map (by_first nat_cmp) by_key (segment_record n layer) (finmap.entries segs) (λ d e _ _ lt. segments_by_id n layer d e ∙ lt)
+      (Rises-entries nat_cmp segs)
 
-module _ (form n layer t : ℕ) (segs : SegMap) (cover : BlockSet) (rs : List Record) (le : n ≤ 12) (some : 1 ≤ layer) (s : SpellsOne form n rs layer (Lines t segs cover)) (up : Rises by_key rs) where
+module _ (form n layer t : ℕ) (segs : SegMap) (cover : BlockSet) (rs : List Record) (le : n ≤ 12) (some : 1 ≤ layer)
+    (s : SpellsOne form n rs layer (Lines t segs cover)) (up : Rises by_key rs) where
   abbrev es : List (ℕ × Seg)
   es = finmap.entries segs
 
@@ -62,7 +67,8 @@ module _ (form n layer t : ℕ) (segs : SegMap) (cover : BlockSet) (rs : List Re
   blocks_here = blocks_in cover n (whole n)
 
   codes_rise : Rises code_cmp blocks_here
-  codes_rise = Rises-unmap code_cmp leaf_cmp plain (λ a b e. e) blocks_here (Follows-rises n 0 (map plain blocks_here) (from_zero n le blocks_here (ordered_in n le cover)).follows)
+  codes_rise = Rises-unmap code_cmp leaf_cmp plain (λ a b e. e) blocks_here
+      (Follows-rises n 0 (map plain blocks_here) (from_zero n le blocks_here (ordered_in n le cover)).follows)
 
   pub pairs_here : filter (is_of_part layer 3) rs ≡ map (pair_record n layer) (flat_map (pairs_on es) blocks_here)
   pairs_here =
@@ -74,7 +80,8 @@ module _ (form n layer t : ℕ) (segs : SegMap) (cover : BlockSet) (rs : List Re
             let k = Contains-filter_from (is_of_part layer 3) rs r c in
             let w = part_says layer 3 r k.1 in
             ⊎_elim
-            (λ seg. let four = (segment_key n layer seg.0).part_is in let same = ap (λ (z : Record). z.key.part) seg.2 in let three = w.1 in absurd (omega arith))
+            (λ seg. let four = (segment_key n layer seg.0).part_is in let same = ap (λ (z : Record). z.key.part) seg.2 in let three = w.1 in
+            absurd (omega arith))
             (λ pair. subst (Contains (map (pair_record n layer) (flat_map (pairs_on es) blocks_here))) pair.4
             (Contains-map (pair_record n layer) (flat_map (pairs_on es) blocks_here) pair.1
             (Contains-flat_map (pairs_on es) blocks_here pair.0 pair.1 ((members pair.0).1 pair.2) pair.3)))
@@ -84,19 +91,22 @@ module _ (form n layer t : ℕ) (segs : SegMap) (cover : BlockSet) (rs : List Re
             let b = Contains-flat_map_from (pairs_on es) blocks_here p.0 p.1 in
             let k = pair_key n layer p.0 in
             subst (Contains (filter (is_of_part layer 3) rs)) p.2
-            (Contains-filter (is_of_part layer 3) rs (pair_record n layer p.0) (pair_there form n layer t segs cover rs some s b.0 p.0 ((members b.0).0 b.1) b.2)
+            (Contains-filter (is_of_part layer 3) rs (pair_record n layer p.0)
+            (pair_there form n layer t segs cover rs some s b.0 p.0 ((members b.0).0 b.1) b.2)
             (part_true layer 3 (pair_record n layer p.0) k.layer_is k.part_is)),
       ))
 
   pub segments_here : filter (is_of_part layer 4) rs ≡ map (segment_record n layer) es
   segments_here =
-      same_rising by_key by_key_total (filter (is_of_part layer 4) rs) (map (segment_record n layer) es) (Rises-filter by_key (is_of_part layer 4) rs up) (segments_rise n layer segs)
+      same_rising by_key by_key_total (filter (is_of_part layer 4) rs) (map (segment_record n layer) es)
+      (Rises-filter by_key (is_of_part layer 4) rs up) (segments_rise n layer segs)
       (λ r. (
         λ c.
             let k = Contains-filter_from (is_of_part layer 4) rs r c in
             let w = part_says layer 4 r k.1 in
             ⊎_elim (λ seg. subst (Contains (map (segment_record n layer) es)) seg.2 (Contains-map (segment_record n layer) es seg.0 seg.1))
-            (λ pair. let three = (pair_key n layer pair.1).part_is in let same = ap (λ (z : Record). z.key.part) pair.4 in let four = w.1 in absurd (omega arith))
+            (λ pair. let three = (pair_key n layer pair.1).part_is in let same = ap (λ (z : Record). z.key.part) pair.4 in let four = w.1 in
+            absurd (omega arith))
             (record_says form n layer t segs cover rs some s r k.0 w.0),
         λ c.
             let e = Contains-map_from (segment_record n layer) es r c in

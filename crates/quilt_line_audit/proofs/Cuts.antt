@@ -1,5 +1,6 @@
 -- The blocks that pairs are of: one behind the other over a square, and each pixel in exactly one.
-use Rattle.std.proofs.Common.{◌≡◌, ℕ, ◌+◌, ◌*◌, ◌/◌, ◌^◌, ◌<◌, ◌≤◌, List, [], ◌∷◌, ◌++◌, map, flat_map, get_or, count_by, refl, sym, ◌∙◌, ap, subst, ⊎_elim, arith, Contains, append_assoc, append-nil, pow-suc, pow_pos}
+use Rattle.std.proofs.Common.{◌≡◌, ℕ, ◌+◌, ◌*◌, ◌/◌, ◌^◌, ◌<◌, ◌≤◌, List, [], ◌∷◌, ◌++◌, map, flat_map, get_or, count_by, refl, sym, ◌∙◌, ap, subst, ⊎_elim}
+use Rattle.std.proofs.Common.{arith, Contains, append_assoc, append-nil, pow-suc, pow_pos}
 use Rattle.std.proofs.lemmas.List.{map-append}
 use Rattle.std.proofs.lemmas.List.Concat.{flat_map-append}
 use Rattle.quilt_types.specs.Sets as finset
@@ -39,7 +40,8 @@ one_block n b h = Runs-one n b 0 h
 runs_join : (n a b c : ℕ) (xs ys : List Block) → Runs n a b (map plain xs) → Runs n b c (map plain ys) → Runs n a c (map plain (xs ++ ys))
 runs_join n a b c xs ys h k = subst (Runs n a c) (sym (map-append plain xs ys)) (Runs-append n a b c (map plain xs) (map plain ys) h k)
 
-pub four_blocks : (n : ℕ) (b : Block) → n ≤ 12 → IsBlock n b → 1 < b.side → (q0 q1 q2 q3 : Block) → quarters_of b ≡ q0 ∷ q1 ∷ q2 ∷ q3 ∷ [] → (l0 l1 l2 l3 : List Block)
+pub four_blocks : (n : ℕ) (b : Block) → n ≤ 12 → IsBlock n b → 1 < b.side → (q0 q1 q2 q3 : Block) → quarters_of b ≡ q0 ∷ q1 ∷ q2 ∷ q3 ∷ []
+    → (l0 l1 l2 l3 : List Block)
     → AreIn n q0 l0 → AreIn n q1 l1 → AreIn n q2 l2 → AreIn n q3 l3 → AreIn n b (l0 ++ (l1 ++ (l2 ++ (l3 ++ []))))
 four_blocks n b le hb lt q0 q1 q2 q3 are l0 l1 l2 l3 h0 h1 h2 h3 =
     let a = code_from b in
@@ -105,12 +107,16 @@ module _ (segs : List (ℕ × Seg)) where
         let part = λ (i : ℕ) (lt : i < 4) (r : Block) (is : get_or (quarters_of b) i r ≡ r). quarters_are n b r hb (omega arith) (i, lt, is) in
         let half = λ (i : ℕ) (lt : i < 4) (r : Block) (is : get_or (quarters_of b) i r ≡ r). quarter_side k b r e (i, lt, is) in
         let c0 = cut_into k (q b.x b.y) pairs t0.0 (part 0 (omega arith) (q b.x b.y) refl).block (half 0 (omega arith) (q b.x b.y) refl) t0.1 in
-        let c1 = cut_into k (q (b.x + u) b.y) t0.0 t1.0 (part 1 (omega arith) (q (b.x + u) b.y) refl).block (half 1 (omega arith) (q (b.x + u) b.y) refl) t1.1 in
-        let c2 = cut_into k (q b.x (b.y + u)) t1.0 t2.0 (part 2 (omega arith) (q b.x (b.y + u)) refl).block (half 2 (omega arith) (q b.x (b.y + u)) refl) t2.1 in
-        let c3 = cut_into k (q (b.x + u) (b.y + u)) t2.0 t3.0 (part 3 (omega arith) (q (b.x + u) (b.y + u)) refl).block (half 3 (omega arith) (q (b.x + u) (b.y + u)) refl) t3.1 in
+        let c1 =
+        cut_into k (q (b.x + u) b.y) t0.0 t1.0 (part 1 (omega arith) (q (b.x + u) b.y) refl).block (half 1 (omega arith) (q (b.x + u) b.y) refl) t1.1 in
+        let c2 =
+        cut_into k (q b.x (b.y + u)) t1.0 t2.0 (part 2 (omega arith) (q b.x (b.y + u)) refl).block (half 2 (omega arith) (q b.x (b.y + u)) refl) t2.1 in
+        let c3 = cut_into k (q (b.x + u) (b.y + u)) t2.0 t3.0 (part 3 (omega arith) (q (b.x + u) (b.y + u)) refl).block
+        (half 3 (omega arith) (q (b.x + u) (b.y + u)) refl) t3.1 in
         record {
           blocks = c0.blocks ++ (c1.blocks ++ (c2.blocks ++ (c3.blocks ++ [])));
-          runs = four_blocks n b le hb (omega arith) (q b.x b.y) (q (b.x + u) b.y) (q b.x (b.y + u)) (q (b.x + u) (b.y + u)) refl c0.blocks c1.blocks c2.blocks c3.blocks c0.runs c1.runs c2.runs c3.runs;
+          runs = four_blocks n b le hb (omega arith) (q b.x b.y) (q (b.x + u) b.y) (q b.x (b.y + u))
+              (q (b.x + u) (b.y + u)) refl c0.blocks c1.blocks c2.blocks c3.blocks c0.runs c1.runs c2.runs c3.runs;
           are = behind c0.blocks (c1.blocks ++ (c2.blocks ++ (c3.blocks ++ []))) pairs t0.0 rest c0.are
               (behind c1.blocks (c2.blocks ++ (c3.blocks ++ [])) t0.0 t1.0 rest c1.are
               (behind c2.blocks (c3.blocks ++ []) t1.0 t2.0 rest c2.are
@@ -144,7 +150,8 @@ module _ (n : ℕ) (le : n ≤ 12) (bs : List Block) (runs : AreIn n (whole n) b
               (m.0, (members m.0).1 m.1, Holds-from m.0 p (ap (λ (z : Block). in_block z p) same ∙ r.2));
           one = λ p hx hy a b ca ha cb hb.
               ap (λ (e : Block × ℕ). e.0)
-              (once_same (λ (e : Block × ℕ). in_block e.0 p) (map plain bs) (plain a) (plain b) (held_once p hx hy) (Contains-map plain bs a ((members a).0 ca)) (in_block-true a p ha)
+              (once_same (λ (e : Block × ℕ). in_block e.0 p) (map plain bs) (plain a) (plain b) (held_once p hx hy)
+              (Contains-map plain bs a ((members a).0 ca)) (in_block-true a p ha)
               (Contains-map plain bs b ((members b).0 cb)) (in_block-true b p hb));
         };
       }

@@ -1,5 +1,6 @@
 -- The descent over a square: a block of its own, or its quarters in turn.
-use Rattle.std.proofs.Common.{◌≡◌, ◌↔◌, ◌⊎◌, ℕ, ◌+◌, ◌<◌, ◌≤◌, List, ◌∷◌, ◌++◌, length, get_or, drop, refl, sym, ◌∙◌, ap, subst, inl, inr, ⊎_elim, arith, Contains, pow-suc, pow_pos, Option, Some, None}
+use Rattle.std.proofs.Common.{◌≡◌, ◌↔◌, ◌⊎◌, ℕ, ◌+◌, ◌<◌, ◌≤◌, List, ◌∷◌, ◌++◌, length, get_or, drop, refl, sym, ◌∙◌, ap, subst, inl, inr, ⊎_elim, arith}
+use Rattle.std.proofs.Common.{Contains, pow-suc, pow_pos, Option, Some, None}
 use Rattle.std.specs.Prelude.{IfSome, IfNone}
 use Rattle.std.proofs.lemmas.List.{drop_more, drop_all}
 use Rattle.quilt_types.specs.declared.plane.Block.{Block}
@@ -31,7 +32,8 @@ module _ (b : Block) (segs found : List (ℕ × Seg)) (is : found ≡ near b seg
   leaf_some ℕ.zero pairs rest e = e ∙ own rest
   leaf_some (ℕ.suc k) pairs rest e = inl (e ∙ own rest)
 
-  pub leaf_none : (pairs : List Pair) → IsLeaf b pairs → ((rest : List Pair) → pairs ≡ pairs_of b found ++ rest → ⊥) → (k : ℕ) (rest : List Pair) → b.side ≡ side k → Begins segs k b pairs rest → ⊥
+  pub leaf_none : (pairs : List Pair) → IsLeaf b pairs → ((rest : List Pair) → pairs ≡ pairs_of b found ++ rest → ⊥) → (k : ℕ) (rest : List Pair)
+      → b.side ≡ side k → Begins segs k b pairs rest → ⊥
   leaf_none pairs leaf none ℕ.zero rest e h = none rest (h ∙ sym (own rest))
   leaf_none pairs leaf none (ℕ.suc k) rest e h =
       ⊎_elim (λ here. none rest (here ∙ sym (own rest)))
@@ -48,7 +50,8 @@ module _ (b : Block) (segs found : List (ℕ × Seg)) (is : found ≡ near b seg
         at ℕ.zero e = absurd (wide e)
         at (ℕ.suc k) e = let p = pow-suc 2 k in let q = pow_pos k in omega arith
 
-    to_near : (k : ℕ) (pairs rest : List Pair) → b.side ≡ side (ℕ.suc k) → InTurn (Begins segs k) (quarters_of b) pairs rest ↔ InTurn (Begins found k) (quarters_of b) pairs rest
+    to_near : (k : ℕ) (pairs rest : List Pair) → b.side ≡ side (ℕ.suc k) → InTurn (Begins segs k) (quarters_of b) pairs rest
+        ↔ InTurn (Begins found k) (quarters_of b) pairs rest
     to_near k pairs rest e =
         let part = λ (q : Block) (c : Contains (quarters_of b) q). quarters_are 12 b q block more_than_one c in
         let law = λ (q : Block) (ps r : List Pair) (c : Contains (quarters_of b) q).
@@ -59,13 +62,16 @@ module _ (b : Block) (segs found : List (ℕ × Seg)) (is : found ≡ near b seg
               (subst (λ (l : List (ℕ × Seg)). InTurn (Begins l k) (quarters_of b) pairs rest) is h),
         )
 
-    pub cut_some : (qs : List Block) → qs ≡ quarters_of b → (pairs rest : List Pair) → ((j : ℕ) → b.side ≡ side (ℕ.suc j) → InTurn (Begins found j) qs pairs rest)
+    pub cut_some : (qs : List Block) → qs ≡ quarters_of b → (pairs rest : List Pair)
+        → ((j : ℕ) → b.side ≡ side (ℕ.suc j) → InTurn (Begins found j) qs pairs rest)
         → (k : ℕ) → b.side ≡ side k → Begins segs k b pairs rest
     cut_some qs four pairs rest turn ℕ.zero e = absurd (wide e)
-    cut_some qs four pairs rest turn (ℕ.suc k) e = inr ((to_near k pairs rest e).1 (subst (λ (l : List Block). InTurn (Begins found k) l pairs rest) four (turn k e)))
+    cut_some qs four pairs rest turn (ℕ.suc k) e =
+        inr ((to_near k pairs rest e).1 (subst (λ (l : List Block). InTurn (Begins found k) l pairs rest) four (turn k e)))
 
     pub cut_none : (qs : List Block) → qs ≡ quarters_of b → (pairs : List Pair) → ((p : Pair) (more : List Pair) → pairs ≡ p ∷ more → p.block ≡ b → ⊥)
-        → ((j : ℕ) (rest : List Pair) → b.side ≡ side (ℕ.suc j) → InTurn (Begins found j) qs pairs rest → ⊥) → (k : ℕ) (rest : List Pair) → b.side ≡ side k → Begins segs k b pairs rest → ⊥
+        → ((j : ℕ) (rest : List Pair) → b.side ≡ side (ℕ.suc j) → InTurn (Begins found j) qs pairs rest → ⊥) → (k : ℕ) (rest : List Pair)
+        → b.side ≡ side k → Begins segs k b pairs rest → ⊥
     cut_none qs four pairs away none ℕ.zero rest e h = wide e
     cut_none qs four pairs away none (ℕ.suc k) rest e h =
         ⊎_elim (λ here. let f = of_first b (near b segs) rest in away f.first f.more (here ∙ f.are) f.on)
@@ -82,7 +88,8 @@ module _ (k : ℕ) (found : List (ℕ × Seg)) (qs : List Block) (i : ℕ) (d : 
   pub turn_stops : (rest : List Pair) → ((mid : List Pair) → Begins found k quarter pairs mid → ⊥) → Goes (drop i qs) pairs rest → ⊥
   turn_stops rest none h = let g = subst (λ (l : List Block). Goes l pairs rest) (drop_more qs i d lt) h in none g.0 g.1
 
-  pub turn_goes : (next : List Pair) → quarter.side ≡ side k → Begins found k quarter pairs next → (rest : List Pair) → Goes (drop (i + 1) qs) next rest ↔ Goes (drop i qs) pairs rest
+  pub turn_goes : (next : List Pair) → quarter.side ≡ side k → Begins found k quarter pairs next → (rest : List Pair)
+      → Goes (drop (i + 1) qs) next rest ↔ Goes (drop i qs) pairs rest
   turn_goes next e here rest = (
     λ h. subst (λ (l : List Block). Goes l pairs rest) (sym (drop_more qs i d lt)) (next, here, h),
     λ h.
@@ -94,10 +101,12 @@ pub turn_done : (k : ℕ) (found : List (ℕ × Seg)) (qs : List Block) (i : ℕ
 turn_done k found qs i pairs le = subst (λ (l : List Block). InTurn (Begins found k) l pairs pairs) (sym (drop_all i qs le)) refl
 
 -- the quarter at a place
-pub quarter_side_at : (k : ℕ) (b : Block) (qs : List Block) (i : ℕ) (d : Block) → b.side ≡ side (ℕ.suc k) → qs ≡ quarters_of b → i < 4 → (get_or qs i d).side ≡ side k
+pub quarter_side_at : (k : ℕ) (b : Block) (qs : List Block) (i : ℕ) (d : Block) → b.side ≡ side (ℕ.suc k) → qs ≡ quarters_of b → i < 4
+    → (get_or qs i d).side ≡ side k
 quarter_side_at k b qs i d e four lt =
     let long : length (quarters_of b) ≡ 4 = refl in
-    quarter_side k b (get_or qs i d) e (subst (λ (l : List Block). Contains (quarters_of b) (get_or l i d)) (sym four) (member_at (quarters_of b) i d (omega arith)))
+    quarter_side k b (get_or qs i d) e
+    (subst (λ (l : List Block). Contains (quarters_of b) (get_or l i d)) (sym four) (member_at (quarters_of b) i d (omega arith)))
 
 -- ---- what is answered
 pub some_map : {X : Type 0} (o : Option X) {P Q : X → Type 0} → ((x : X) → P x → Q x) → IfSome o P → IfSome o Q

@@ -1,5 +1,6 @@
 -- The records of a line layer: each is that of a pair of one of its blocks or of one of its segments.
-use Rattle.std.proofs.Common.{◌≡◌, ◌⊎◌, ℕ, ◌<◌, ◌≤◌, ◌^◌, true, List, [], ◌∷◌, ◌++◌, map, filter, flat_map, Option, Some, None, refl, sym, ◌∙◌, ap, subst, inl, inr, ⊎_elim, arith, Contains}
+use Rattle.std.proofs.Common.{◌≡◌, ◌⊎◌, ℕ, ◌<◌, ◌≤◌, ◌^◌, true, List, [], ◌∷◌, ◌++◌, map, filter, flat_map, Option, Some, None, refl, sym, ◌∙◌, ap, subst, inl}
+use Rattle.std.proofs.Common.{inr, ⊎_elim, arith, Contains}
 use Rattle.std.specs.FinMap as finmap
 use Rattle.std.proofs.lemmas.List.Elements.{All-contains, Contains-append_left, Contains-append_right, Contains-append_cases}
 use Rattle.quilt_types.specs.Sets as finset
@@ -10,7 +11,8 @@ use Rattle.quilt_types.specs.Plane.{blocks, IsBlock}
 use Rattle.quilt_types.specs.Layers.{Layer, Region, Points, Lines, SegMap, BlockSet, is_in_square}
 use Rattle.quilt_types.specs.Segments.{square, meets}
 use Rattle.quilt_types.specs.Facts.{Fact, IsOfKind, IsSegment, IsMetBy, IsMetByNone, or_none, line_facts}
-use Rattle.quilt_loc.proofs.Members.{Contains-nil, Contains-here, Contains-there, Contains-cons_cases, Contains-map, Contains-map_from, Contains-filter_from, Contains-flat_map, Contains-flat_map_from}
+use Rattle.quilt_loc.proofs.Members.{Contains-nil, Contains-here, Contains-there, Contains-cons_cases, Contains-map, Contains-map_from, Contains-filter_from}
+use Rattle.quilt_loc.proofs.Members.{Contains-flat_map, Contains-flat_map_from}
 use Rattle.quilt_loc.proofs.Blocks.{IsBlock-from}
 use Rattle.quilt_record.specs.declared.record.Record.{Record}
 use Rattle.quilt_record.specs.Records.{record_of}
@@ -25,11 +27,13 @@ use Rattle.quilt_line_audit.specs.Runs.{pair_record, segment_record}
 same_threshold : (a b : ℕ) → kinds.Lines a ≡ kinds.Lines b → a ≡ b
 same_threshold a b e = cc
 
-pub with_lines : (form n : ℕ) (rs : List Record) (layer t : ℕ) (P : Type 0) → ((segs : SegMap) (cover : BlockSet) → SpellsOne form n rs layer (Lines t segs cover) → P)
+pub with_lines : (form n : ℕ) (rs : List Record) (layer t : ℕ) (P : Type 0)
+    → ((segs : SegMap) (cover : BlockSet) → SpellsOne form n rs layer (Lines t segs cover) → P)
     → (l : Layer) → kind_of l ≡ kinds.Lines t → SpellsOne form n rs layer l → P
 with_lines form n rs layer t P f (Region grid) e s = absurd (let z : kinds.Region ≡ kinds.Lines t = e in cc)
 with_lines form n rs layer t P f (Points capacity points) e s = absurd (let z : kinds.Points capacity ≡ kinds.Lines t = e in cc)
-with_lines form n rs layer t P f (Lines threshold segs cover) e s = f segs cover (subst (λ (u : ℕ). SpellsOne form n rs layer (Lines u segs cover)) (same_threshold threshold t e) s)
+with_lines form n rs layer t P f (Lines threshold segs cover) e s =
+    f segs cover (subst (λ (u : ℕ). SpellsOne form n rs layer (Lines u segs cover)) (same_threshold threshold t e) s)
 
 -- ---- the pairs of a block and its facts
 abbrev pub fact_of : Pair → Fact
@@ -54,7 +58,8 @@ pub pair_block : (segs : List (ℕ × Seg)) (b : Block) (p : Pair) → Contains 
 pair_block segs b p c = on_block b (filter (λ (e : ℕ × Seg). meets e.1 (square b)) segs) p c
 
 -- ---- the records of a layer
-module _ (form n layer t : ℕ) (segs : SegMap) (cover : BlockSet) (rs : List Record) (some : 1 ≤ layer) (s : SpellsOne form n rs layer (Lines t segs cover)) where
+module _ (form n layer t : ℕ) (segs : SegMap) (cover : BlockSet) (rs : List Record) (some : 1 ≤ layer)
+    (s : SpellsOne form n rs layer (Lines t segs cover)) where
   abbrev es : List (ℕ × Seg)
   es = finmap.entries segs
 
@@ -73,7 +78,8 @@ module _ (form n layer t : ℕ) (segs : SegMap) (cover : BlockSet) (rs : List Re
       let w = s.only r c is in
       let f = w.0 in
       ⊎_elim
-      (λ kind. let z : 0 ≡ layer = ap (λ (g : Fact). (record_of n 0 [] layer g).key.layer) kind ∙ ap (λ (q : Record). q.key.layer) w.2 ∙ is in absurd (omega arith))
+      (λ kind. let z : 0 ≡ layer = ap (λ (g : Fact). (record_of n 0 [] layer g).key.layer) kind ∙ ap (λ (q : Record). q.key.layer) w.2 ∙ is in
+      absurd (omega arith))
       (λ d.
       ⊎_elim
       (λ seg. let m = Contains-map_from segment_fact es f seg in inl (m.0, m.1, ap (λ (g : Fact). record_of n 0 [] layer g) m.2 ∙ w.2))
@@ -84,9 +90,11 @@ module _ (form n layer t : ℕ) (segs : SegMap) (cover : BlockSet) (rs : List Re
       (Contains-append_cases (map segment_fact es) (flat_map (line_facts segs) (finset.items cover)) f d))
       (Contains-cons_cases (IsOfKind 3 t) (map segment_fact es ++ flat_map (line_facts segs) (finset.items cover)) f w.1)
 
-  there : (f : Fact) → (f ≡ IsOfKind 3 t → ⊥) → Contains (map segment_fact es ++ flat_map (line_facts segs) (finset.items cover)) f → Contains rs (record_of n 0 [] layer f)
+  there : (f : Fact) → (f ≡ IsOfKind 3 t → ⊥) → Contains (map segment_fact es ++ flat_map (line_facts segs) (finset.items cover)) f
+      → Contains rs (record_of n 0 [] layer f)
   there f other c =
-      ⊎_elim (λ e. absurd (other e)) (λ d. d) (s.each f (Contains-there (IsOfKind 3 t) (map segment_fact es ++ flat_map (line_facts segs) (finset.items cover)) f c))
+      ⊎_elim (λ e. absurd (other e)) (λ d. d)
+      (s.each f (Contains-there (IsOfKind 3 t) (map segment_fact es ++ flat_map (line_facts segs) (finset.items cover)) f c))
 
   pub segment_there : (e : ℕ × Seg) → Contains es e → Contains rs (segment_record n layer e)
   segment_there e c =
@@ -114,8 +122,10 @@ module _ (form n layer t : ℕ) (segs : SegMap) (cover : BlockSet) (rs : List Re
   pub inside : (e : ℕ × Seg) → Contains es e → is_in_square n e.1 ≡ true
   inside e c = All-contains (λ (d : ℕ × Seg). is_in_square n d.1 ≡ true) es e s.fits.inside c
 
-  fits_of : (b : Block) (ms : List (ℕ × Seg)) (p : Pair) → IsBlock n b → ((e : ℕ × Seg) → Contains ms e → e.0 < 2 ^ 32) → Contains (pairs_of b ms) p → FactFits n (fact_of p)
-  fits_of b [] p hb small c = ⊎_elim (λ e. subst (λ (q : Pair). FactFits n (fact_of q)) e hb) (λ d. absurd (Contains-nil p d)) (Contains-cons_cases (none_on b) [] p c)
+  fits_of : (b : Block) (ms : List (ℕ × Seg)) (p : Pair) → IsBlock n b → ((e : ℕ × Seg) → Contains ms e → e.0 < 2 ^ 32) → Contains (pairs_of b ms) p
+      → FactFits n (fact_of p)
+  fits_of b [] p hb small c =
+      ⊎_elim (λ e. subst (λ (q : Pair). FactFits n (fact_of q)) e hb) (λ d. absurd (Contains-nil p d)) (Contains-cons_cases (none_on b) [] p c)
   fits_of b (m ∷ ms) p hb small c =
       let w = Contains-map_from (pair_on b) (m ∷ ms) p c in
       subst (λ (q : Pair). FactFits n (fact_of q)) w.2 (hb, small w.0 w.1)

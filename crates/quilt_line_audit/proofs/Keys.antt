@@ -1,5 +1,6 @@
 -- The records of pairs and segments: their keys, their order, and that each says its pair or segment alone.
-use Rattle.std.proofs.Common.{◌≡◌, ℕ, ◌<◌, ◌≤◌, ◌^◌, Bool, true, false, eqb, eqb-true, eq-eqb, List, [], ◌∷◌, ◌++◌, map, filter, cond, get_or, Option, Some, None, refl, sym, ◌∙◌, ap, ap₂, ⊎_elim, arith, Contains, Less, nat_cmp, nat_lt, ltb-true}
+use Rattle.std.proofs.Common.{◌≡◌, ℕ, ◌<◌, ◌≤◌, ◌^◌, Bool, true, false, eqb, eqb-true, eq-eqb, List, [], ◌∷◌, ◌++◌, map, filter, cond, get_or, Option, Some}
+use Rattle.std.proofs.Common.{None, refl, sym, ◌∙◌, ap, ap₂, ⊎_elim, arith, Contains, Less, nat_cmp, nat_lt, ltb-true}
 use Rattle.std.proofs.lemmas.Bool.{and_parts, and_from, cases_Bool}
 use Rattle.std.proofs.lemmas.List.{append-nil}
 use Rattle.std.proofs.lemmas.List.Elements.{filter-append}
@@ -75,18 +76,22 @@ module _ (n layer : ℕ) where
   segment_key e = record { layer_is = refl; part_is = refl }
 
   -- ---- order
-  by_code : (b d : Block) (i j : Option ℕ) → code_from b < code_from d → by_key (record_of n 0 [] layer (pair_fact b i)) (record_of n 0 [] layer (pair_fact d j)) ≡ Less
+  by_code : (b d : Block) (i j : Option ℕ) → code_from b < code_from d
+      → by_key (record_of n 0 [] layer (pair_fact b i)) (record_of n 0 [] layer (pair_fact d j)) ≡ Less
   by_code b d None None lt = less_code (record_of n 0 [] layer (pair_fact b None)).key (record_of n 0 [] layer (pair_fact d None)).key refl refl lt
   by_code b d None (Some j) lt = less_code (record_of n 0 [] layer (pair_fact b None)).key (record_of n 0 [] layer (pair_fact d (Some j))).key refl refl lt
   by_code b d (Some i) None lt = less_code (record_of n 0 [] layer (pair_fact b (Some i))).key (record_of n 0 [] layer (pair_fact d None)).key refl refl lt
-  by_code b d (Some i) (Some j) lt = less_code (record_of n 0 [] layer (pair_fact b (Some i))).key (record_of n 0 [] layer (pair_fact d (Some j))).key refl refl lt
+  by_code b d (Some i) (Some j) lt =
+      less_code (record_of n 0 [] layer (pair_fact b (Some i))).key (record_of n 0 [] layer (pair_fact d (Some j))).key refl refl lt
 
   pub pairs_by_code : (p q : Pair) → code_from p.block < code_from q.block → by_key (pair_record n layer p) (pair_record n layer q) ≡ Less
   pairs_by_code p q lt = by_code p.block q.block p.id q.id lt
 
-  pub by_item : (k : Key) (i j : ℕ) → key_cmp (record { layer = k.layer; part = k.part; code = k.code; depth = k.depth; item = i }) (record { layer = k.layer; part = k.part; code = k.code; depth = k.depth; item = j }) ≡ nat_cmp i j
+  pub by_item : (k : Key) (i j : ℕ) → key_cmp (record { layer = k.layer; part = k.part; code = k.code; depth = k.depth; item = i })
+      (record { layer = k.layer; part = k.part; code = k.code; depth = k.depth; item = j }) ≡ nat_cmp i j
   by_item k i j =
-      then_equal _ _ (nat_same k.layer k.layer refl) ∙ then_equal _ _ (nat_same k.part k.part refl) ∙ then_equal _ _ (nat_same k.code k.code refl) ∙ then_equal _ _ (nat_same k.depth k.depth refl)
+      then_equal _ _ (nat_same k.layer k.layer refl) ∙ then_equal _ _ (nat_same k.part k.part refl) ∙ then_equal _ _ (nat_same k.code k.code refl)
+      ∙ then_equal _ _ (nat_same k.depth k.depth refl)
 
   pub pairs_by_id : (b : Block) (i j : ℕ) → by_key (record_of n 0 [] layer (IsMetBy b i)) (record_of n 0 [] layer (IsMetBy b j)) ≡ nat_cmp i j
   pairs_by_id b i j = by_item (record_of n 0 [] layer (IsMetBy b i)).key i j
@@ -96,7 +101,8 @@ module _ (n layer : ℕ) where
 
   -- ---- what they say
   module _ (le : n ≤ 12) where
-    blocks_same : (b d : Block) (i j : Option ℕ) → IsBlock n b → IsBlock n d → record_of n 0 [] layer (pair_fact b i) ≡ record_of n 0 [] layer (pair_fact d j) → b ≡ d
+    blocks_same : (b d : Block) (i j : Option ℕ) → IsBlock n b → IsBlock n d
+        → record_of n 0 [] layer (pair_fact b i) ≡ record_of n 0 [] layer (pair_fact d j) → b ≡ d
     blocks_same b d None None hb hd e = block_alone n le b d hb hd (ap (λ (r : Record). r.key.code) e) (ap (λ (r : Record). r.key.depth) e)
     blocks_same b d None (Some j) hb hd e = block_alone n le b d hb hd (ap (λ (r : Record). r.key.code) e) (ap (λ (r : Record). r.key.depth) e)
     blocks_same b d (Some i) None hb hd e = block_alone n le b d hb hd (ap (λ (r : Record). r.key.code) e) (ap (λ (r : Record). r.key.depth) e)
@@ -137,14 +143,16 @@ module _ (n layer : ℕ) where
 said : (n : ℕ) → n ≤ 12 → (layer : ℕ) (e : ℕ × Seg) → e.0 < 2 ^ 32 → is_in_square n e.1 ≡ true → segment_of (segment_record n layer e).value ≡ e.1
 said n le layer e small t = segment_ends n (segment_record n 1 e) 1 e.0 e.1 (segment_is n 1 le (omega arith) (omega arith) e small t)
 
-pub segment_alone : (n layer : ℕ) → n ≤ 12 → (d e : ℕ × Seg) → (d.0 < 2 ^ 32) × (is_in_square n d.1 ≡ true) → (e.0 < 2 ^ 32) × (is_in_square n e.1 ≡ true) → segment_record n layer d ≡ segment_record n layer e → d ≡ e
+pub segment_alone : (n layer : ℕ) → n ≤ 12 → (d e : ℕ × Seg) → (d.0 < 2 ^ 32) × (is_in_square n d.1 ≡ true)
+    → (e.0 < 2 ^ 32) × (is_in_square n e.1 ≡ true) → segment_record n layer d ≡ segment_record n layer e → d ≡ e
 segment_alone n layer le d e hd he same =
     let id : d.0 ≡ e.0 = ap (λ (r : Record). r.key.item) same in
     let seg : d.1 ≡ e.1 = sym (said n le layer d hd.0 hd.1) ∙ ap (λ (r : Record). segment_of r.value) same ∙ said n le layer e he.0 he.1 in
     λ k. (id k, seg k)
 
 -- a function that tells the elements of two lists apart
-pub map_alone : {X Y : Type 0} (f : X → Y) (P : X → Type 0) → ((a b : X) → P a → P b → f a ≡ f b → a ≡ b) → (xs ys : List X) → ((x : X) → Contains xs x → P x) → ((y : X) → Contains ys y → P y)
+pub map_alone : {X Y : Type 0} (f : X → Y) (P : X → Type 0) → ((a b : X) → P a → P b → f a ≡ f b → a ≡ b) → (xs ys : List X)
+    → ((x : X) → Contains xs x → P x) → ((y : X) → Contains ys y → P y)
     → map f xs ≡ map f ys → xs ≡ ys
 map_alone f P one [] [] h g e = refl
 map_alone f P one [] (y ∷ ys) h g e = cc

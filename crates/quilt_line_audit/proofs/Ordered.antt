@@ -1,5 +1,6 @@
 -- The blocks of a cover in the order of their codes: they are those of its set, and their pairs are what the square begins with.
-use Rattle.std.proofs.Common.{◌≡◌, ◌↔◌, ℕ, ◌+◌, ◌/◌, ◌<◌, ◌≤◌, Bool, true, false, cond, List, [], ◌∷◌, ◌++◌, flat_map, get_or, refl, sym, subst, inl, inr, ⊎_elim, arith, Contains, pow-suc, pow_pos}
+use Rattle.std.proofs.Common.{◌≡◌, ◌↔◌, ℕ, ◌+◌, ◌/◌, ◌<◌, ◌≤◌, Bool, true, false, cond, List, [], ◌∷◌, ◌++◌, flat_map, get_or, refl, sym, subst, inl, inr}
+use Rattle.std.proofs.Common.{⊎_elim, arith, Contains, pow-suc, pow_pos}
 use Rattle.std.specs.FinMap as finmap
 use Rattle.std.proofs.lemmas.Bool.{cases_lt}
 use Rattle.quilt_types.specs.Sets as finset
@@ -65,7 +66,8 @@ module _ (n : ℕ) (cover : BlockSet) (h : IsBlockCover n cover) where
 
   in_step : (k : ℕ) (b q : Block) → IsBlock n b → b.side ≡ side (ℕ.suc k) → IsApart b
       → ((r : Block) → IsBlock n r → r.side ≡ side k → IsApart r → Contains (blocks_in cover k r) q ↔ (Within q r × Old q))
-      → (u : Bool) → finset.contains cover b ≡ u → Contains (cond {A = List Block} u (b ∷ []) (flat_map (blocks_in cover k) (quarters_of b))) q ↔ (Within q b × Old q)
+      → (u : Bool) → finset.contains cover b ≡ u → Contains (cond {A = List Block} u (b ∷ []) (flat_map (blocks_in cover k) (quarters_of b))) q
+      ↔ (Within q b × Old q)
   in_step k b q hb e apart below true u =
       let cb = held n 0 finmap.empty cover no_seg h b u in (
         λ c. subst (λ (z : Block). Within z b × Old z) (only b q c) (Within-self b, cb),
@@ -73,7 +75,8 @@ module _ (n : ℕ) (cover : BlockSet) (h : IsBlockCover n cover) where
       )
   in_step k b q hb e apart below false u =
       let away = λ (c : Old b). off n 0 finmap.empty cover no_seg h b b u c refl in
-      quarterly n 0 finmap.empty cover no_seg h k b q (blocks_in cover k) Old hb e (λ c. h.only q c) (λ c same. off n 0 finmap.empty cover no_seg h b q u c same)
+      quarterly n 0 finmap.empty cover no_seg h k b q (blocks_in cover k) Old hb e (λ c. h.only q c)
+      (λ c same. off n 0 finmap.empty cover no_seg h b q u c same)
       (λ r c hr er _. below r hr er (quarter_apart k b r hb e away apart c))
 
   in_law : (k : ℕ) (b q : Block) → IsBlock n b → b.side ≡ side k → IsApart b → Contains (blocks_in cover k b) q ↔ (Within q b × Old q)
@@ -97,10 +100,12 @@ module _ (n : ℕ) (le : n ≤ 12) (cover : BlockSet) where
       let u = b.side / 2 in
       let q = λ (x y : ℕ). let r : Block = record { x = x; y = y; side = u } in r in
       let many = many_sides k b e in
-      let part = λ (i : ℕ) (lt : i < 4) (r : Block) (is : get_or (quarters_of b) i r ≡ r). below r (quarters_are n b r hb many (i, lt, is)).block (quarter_side k b r e (i, lt, is)) in
+      let part = λ (i : ℕ) (lt : i < 4) (r : Block) (is : get_or (quarters_of b) i r ≡ r). below r (quarters_are n b r hb many (i, lt, is)).block
+      (quarter_side k b r e (i, lt, is)) in
       four_blocks n b le hb many (q b.x b.y) (q (b.x + u) b.y) (q b.x (b.y + u)) (q (b.x + u) (b.y + u)) refl
       (blocks_in cover k (q b.x b.y)) (blocks_in cover k (q (b.x + u) b.y)) (blocks_in cover k (q b.x (b.y + u))) (blocks_in cover k (q (b.x + u) (b.y + u)))
-      (part 0 (omega arith) (q b.x b.y) refl) (part 1 (omega arith) (q (b.x + u) b.y) refl) (part 2 (omega arith) (q b.x (b.y + u)) refl) (part 3 (omega arith) (q (b.x + u) (b.y + u)) refl)
+      (part 0 (omega arith) (q b.x b.y) refl) (part 1 (omega arith) (q (b.x + u) b.y) refl) (part 2 (omega arith) (q b.x (b.y + u)) refl)
+      (part 3 (omega arith) (q (b.x + u) (b.y + u)) refl)
 
   in_order : (k : ℕ) (b : Block) → IsBlock n b → b.side ≡ side k → AreIn n b (blocks_in cover k b)
   in_order ℕ.zero b hb e = one_block n b hb
@@ -121,8 +126,10 @@ module _ (segs : List (ℕ × Seg)) where
         turn_from k f here qs rest,
       )
 
-  begins_step : (cover : BlockSet) (k : ℕ) (b : Block) (rest : List Pair) → ((q : Block) (more : List Pair) → Begins segs k q (flat_map (pairs_on segs) (blocks_in cover k q) ++ more) more)
-      → (u : Bool) → Begins segs (ℕ.suc k) b (flat_map (pairs_on segs) (cond {A = List Block} u (b ∷ []) (flat_map (blocks_in cover k) (quarters_of b))) ++ rest) rest
+  begins_step : (cover : BlockSet) (k : ℕ) (b : Block) (rest : List Pair)
+      → ((q : Block) (more : List Pair) → Begins segs k q (flat_map (pairs_on segs) (blocks_in cover k q) ++ more) more)
+      → (u : Bool) → Begins segs (ℕ.suc k) b
+      (flat_map (pairs_on segs) (cond {A = List Block} u (b ∷ []) (flat_map (blocks_in cover k) (quarters_of b))) ++ rest) rest
   begins_step cover k b rest below true = inl (on_one segs b rest)
   begins_step cover k b rest below false = inr (turn_from k (blocks_in cover k) below (quarters_of b) rest)
 

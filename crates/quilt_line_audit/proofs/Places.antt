@@ -18,7 +18,8 @@ module _ (b : Block) (near : List (ℕ × Seg)) (pairs : List Pair) (i end : ℕ
   next_pairs rest = ap (λ (l : List (ℕ × Seg)). map (pair_on b) l ++ rest) (drop_more near i d lt)
 
   -- the next pair is not there
-  pub pair_misses : (rest : List Pair) → ((more : List Pair) → drop end pairs ≡ pair_on b (get_or near i d) ∷ more → ⊥) → drop end pairs ≡ map (pair_on b) (drop i near) ++ rest → ⊥
+  pub pair_misses : (rest : List Pair) → ((more : List Pair) → drop end pairs ≡ pair_on b (get_or near i d) ∷ more → ⊥)
+      → drop end pairs ≡ map (pair_on b) (drop i near) ++ rest → ⊥
   pair_misses rest none e = none (map (pair_on b) (drop (i + 1) near) ++ rest) (e ∙ next_pairs rest)
 
   -- it is, and the others come behind it

@@ -1,5 +1,6 @@
 -- A run of a line layer's records after one more, and records that no line layer has.
-use Rattle.std.proofs.Common.{◌≡◌, ◌⊎◌, ℕ, ◌<◌, ◌≤◌, ◌^◌, true, List, [], ◌∷◌, ◌++◌, map, Option, Some, None, refl, sym, ◌∙◌, ap, subst, inl, inr, ⊎_elim, arith, Contains}
+use Rattle.std.proofs.Common.{◌≡◌, ◌⊎◌, ℕ, ◌<◌, ◌≤◌, ◌^◌, true, List, [], ◌∷◌, ◌++◌, map, Option, Some, None, refl, sym, ◌∙◌, ap, subst, inl, inr, ⊎_elim}
+use Rattle.std.proofs.Common.{arith, Contains}
 use Rattle.std.proofs.lemmas.List.{map-append}
 use Rattle.std.proofs.lemmas.List.Elements.{Contains-append_right}
 use Rattle.quilt_types.specs.declared.plane.Block.{Block}
@@ -30,7 +31,8 @@ fact_block n b (Some id) f = f.0
 
 -- ---- one more
 module _ (n layer t : ℕ) (rs : List Record) (old new : LineRun) (r : Record) (h : IsLineRun n rs layer t old) where
-  pub pair_taken : (b : Block) (id : Option ℕ) → IsRecordOf n 0 r layer (pair_fact b id) → new.pairs.items ≡ old.pairs.items ++ record { block = b; id = id } ∷ [] → new.segs ≡ old.segs
+  pub pair_taken : (b : Block) (id : Option ℕ) → IsRecordOf n 0 r layer (pair_fact b id)
+      → new.pairs.items ≡ old.pairs.items ++ record { block = b; id = id } ∷ [] → new.segs ≡ old.segs
       → IsLineRun n (rs ++ r ∷ []) layer t new
   pair_taken b id is more same =
       let p : Pair = record { block = b; id = id } in
@@ -43,7 +45,8 @@ module _ (n layer t : ℕ) (rs : List Record) (old new : LineRun) (r : Record) (
         least = h.least;
         most = h.most;
         pairs = filter_last (is_of_part layer 3) rs r (part_true layer 3 r l part) ∙ ap (λ xs. xs ++ r ∷ []) h.pairs
-            ∙ ap (λ q. map (pair_record n layer) old.pairs.items ++ q ∷ []) e ∙ sym (map-append (pair_record n layer) old.pairs.items (p ∷ [])) ∙ ap (map (pair_record n layer)) (sym more);
+            ∙ ap (λ q. map (pair_record n layer) old.pairs.items ++ q ∷ []) e ∙ sym (map-append (pair_record n layer) old.pairs.items (p ∷ []))
+            ∙ ap (map (pair_record n layer)) (sym more);
         segs = filter_without (is_of_part layer 4) rs r (part_false layer 4 r (λ _ four. omega arith)) ∙ h.segs ∙ rows;
         only = λ x c is. ⊎_elim (λ d. h.only x d is) (λ q. inl (ap (λ (z : Record). z.key.part) (sym q) ∙ part)) (last_cases rs r x c);
         blocks = λ q c.
@@ -52,7 +55,8 @@ module _ (n layer t : ℕ) (rs : List Record) (old new : LineRun) (r : Record) (
         inside = λ d c. h.inside d (subst (λ z. Contains z.items d) same c);
       }
 
-  pub segment_taken : (e : ℕ × Seg) → IsRecordOf n 0 r layer (IsSegment e.0 e.1) → is_in_square n e.1 ≡ true → new.pairs ≡ old.pairs → new.segs.items ≡ old.segs.items ++ e ∷ []
+  pub segment_taken : (e : ℕ × Seg) → IsRecordOf n 0 r layer (IsSegment e.0 e.1) → is_in_square n e.1 ≡ true → new.pairs ≡ old.pairs
+      → new.segs.items ≡ old.segs.items ++ e ∷ []
       → IsLineRun n (rs ++ r ∷ []) layer t new
   segment_taken e is in_ same more =
       let w : r ≡ segment_record n layer e = is.written [] in
@@ -64,7 +68,8 @@ module _ (n layer t : ℕ) (rs : List Record) (old new : LineRun) (r : Record) (
         most = h.most;
         pairs = filter_without (is_of_part layer 3) rs r (part_false layer 3 r (λ _ three. omega arith)) ∙ h.pairs ∙ rows;
         segs = filter_last (is_of_part layer 4) rs r (part_true layer 4 r l part) ∙ ap (λ xs. xs ++ r ∷ []) h.segs
-            ∙ ap (λ q. map (segment_record n layer) old.segs.items ++ q ∷ []) w ∙ sym (map-append (segment_record n layer) old.segs.items (e ∷ [])) ∙ ap (map (segment_record n layer)) (sym more);
+            ∙ ap (λ q. map (segment_record n layer) old.segs.items ++ q ∷ []) w ∙ sym (map-append (segment_record n layer) old.segs.items (e ∷ []))
+            ∙ ap (map (segment_record n layer)) (sym more);
         only = λ x c is. ⊎_elim (λ d. h.only x d is) (λ q. inr (ap (λ (z : Record). z.key.part) (sym q) ∙ part)) (last_cases rs r x c);
         blocks = λ q c. h.blocks q (subst (λ z. Contains z.items q) same c);
         inside = λ d c.
@@ -73,7 +78,8 @@ module _ (n layer t : ℕ) (rs : List Record) (old new : LineRun) (r : Record) (
       }
 
 -- ---- a record that is none of a line layer
-pair_is : (n layer : ℕ) → 1 ≤ layer → layer ≤ 255 → (b : Block) (id : Option ℕ) → FactFits n (pair_fact b id) → IsRecordOf n 0 (record_of n 0 [] layer (pair_fact b id)) layer (pair_fact b id)
+pair_is : (n layer : ℕ) → 1 ≤ layer → layer ≤ 255 → (b : Block) (id : Option ℕ) → FactFits n (pair_fact b id)
+    → IsRecordOf n 0 (record_of n 0 [] layer (pair_fact b id)) layer (pair_fact b id)
 pair_is n layer some most b None f = record { least = some; most = most; fits = f; written = λ name. refl }
 pair_is n layer some most b (Some id) f = record { least = some; most = most; fits = f; written = λ name. refl }
 
@@ -89,10 +95,12 @@ unread_refused form n le rs t r some most no_pair no_seg rest l kind up s =
     ⊎_elim
     (λ w.
     let in_ = inside form n layer t segs cover all some u w.0 w.1 in
-    no_seg w.0.0 w.0.1 (subst (λ (z : Record). IsRecordOf n 0 z layer (IsSegment w.0.0 w.0.1)) w.2 (segment_is n layer le some most w.0 (small_id form n layer t segs cover all some u w.0 w.1) in_)) in_)
+    no_seg w.0.0 w.0.1 (subst (λ (z : Record). IsRecordOf n 0 z layer (IsSegment w.0.0 w.0.1)) w.2
+    (segment_is n layer le some most w.0 (small_id form n layer t segs cover all some u w.0 w.1) in_)) in_)
     (λ w.
     let p = w.1 in
-    no_pair p.block p.id (subst (λ (z : Record). IsRecordOf n 0 z layer (pair_fact p.block p.id)) w.4 (pair_is n layer some most p.block p.id (pair_fits form n layer t segs cover all some u w.0 p w.2 w.3))))
+    no_pair p.block p.id (subst (λ (z : Record). IsRecordOf n 0 z layer (pair_fact p.block p.id)) w.4
+    (pair_is n layer some most p.block p.id (pair_fits form n layer t segs cover all some u w.0 p w.2 w.3))))
     (record_says form n layer t segs cover all some u r (Contains-append_right rs (r ∷ rest) r (Contains-here r rest)) refl)) l kind s
 
 -- ---- what a reader answers

@@ -1,5 +1,6 @@
 -- The records of a line layer that are all, and those that are not.
-use Rattle.std.proofs.Common.{◌≡◌, ◌⊎◌, ℕ, ◌<◌, ◌≤◌, ◌^◌, Bool, true, false, ◌&&◌, T, List, [], ◌∷◌, ◌++◌, map, filter, flat_map, refl, sym, ◌∙◌, ap, subst, inl, inr, ⊎_elim, Contains, Ordering, Less, append-nil, nat_cmp}
+use Rattle.std.proofs.Common.{◌≡◌, ◌⊎◌, ℕ, ◌<◌, ◌≤◌, ◌^◌, Bool, true, false, ◌&&◌, T, List, [], ◌∷◌, ◌++◌, map, filter, flat_map, refl, sym, ◌∙◌, ap, subst}
+use Rattle.std.proofs.Common.{inl, inr, ⊎_elim, Contains, Ordering, Less, append-nil, nat_cmp}
 use Rattle.std.specs.Ordering.{is_lt}
 use Rattle.std.specs.FinMap as finmap
 use Rattle.std.specs.FinMap.Entries as sorted
@@ -13,7 +14,8 @@ use Rattle.quilt_types.specs.Layers.{Lines, SegMap, BlockSet, IsLineMap, is_in_s
 use Rattle.quilt_types.specs.Facts.{Fact, IsOfKind, IsSegment, line_facts, facts}
 use Rattle.quilt_loc.specs.Codes.{Rises}
 use Rattle.quilt_loc.proofs.Blocks.{Contains-blocks}
-use Rattle.quilt_loc.proofs.Members.{Contains-here, Contains-there, Contains-cons_cases, Contains-map, Contains-map_from, Contains-filter, Contains-filter_from, Contains-flat_map, Contains-flat_map_from}
+use Rattle.quilt_loc.proofs.Members.{Contains-here, Contains-there, Contains-cons_cases, Contains-map, Contains-map_from, Contains-filter, Contains-filter_from}
+use Rattle.quilt_loc.proofs.Members.{Contains-flat_map, Contains-flat_map_from}
 use Rattle.quilt_loc.proofs.PlaneOrders.{block_total}
 use Rattle.quilt_loc.proofs.Quartered.{IsBlock-whole}
 use Rattle.quilt_loc.proofs.Rising.{Rises-filter}
@@ -54,7 +56,8 @@ sorted_from [] h = tt
 sorted_from (e ∷ es) h = both _ _ (below_from e.0 es h.0) (sorted_from es h.1)
 
 -- ---- the records of a layer that are all
-module _ (form n : ℕ) (rs : List Record) (layer t : ℕ) (run : LineRun) (le : n ≤ 12) (some : 1 ≤ layer) (h : IsLineRun n rs layer t run) (lined : IsLined n run) (up : Rises by_key rs) where
+module _ (form n : ℕ) (rs : List Record) (layer t : ℕ) (run : LineRun) (le : n ≤ 12) (some : 1 ≤ layer) (h : IsLineRun n rs layer t run)
+    (lined : IsLined n run) (up : Rises by_key rs) where
   abbrev list : List (ℕ × Seg)
   list = run.segs.items
 
@@ -126,7 +129,8 @@ module _ (form n : ℕ) (rs : List Record) (layer t : ℕ) (run : LineRun) (le :
       ⊎_elim
       (λ seg.
       let m = Contains-map_from segment_fact (finmap.entries segs) f seg in
-      inr (subst (λ (g : Fact). Contains rs (record_of n 0 [] layer g)) m.2 (segment_there m.0 (subst (λ (l : List (ℕ × Seg)). Contains l m.0) entries_are m.1))))
+      inr (subst (λ (g : Fact). Contains rs (record_of n 0 [] layer g)) m.2
+      (segment_there m.0 (subst (λ (l : List (ℕ × Seg)). Contains l m.0) entries_are m.1))))
       (λ met.
       let m = Contains-flat_map_from (line_facts segs) (finset.items cover) f met in
       let p = Contains-map_from fact_of (pairs_on list m.0) f (subst (λ (l : List Fact). Contains l f) (sym (facts_on m.0)) m.2) in
@@ -155,7 +159,8 @@ module _ (form n : ℕ) (rs : List Record) (layer t : ℕ) (run : LineRun) (le :
       let f = segment_fact e.0 in (
         f,
         Contains-there (IsOfKind 3 t) (on_segments ++ on_blocks) f
-            (Contains-append_left on_segments on_blocks f (Contains-map segment_fact (finmap.entries segs) e.0 (subst (λ (l : List (ℕ × Seg)). Contains l e.0) (sym entries_are) e.1))),
+            (Contains-append_left on_segments on_blocks f
+            (Contains-map segment_fact (finmap.entries segs) e.0 (subst (λ (l : List (ℕ × Seg)). Contains l e.0) (sym entries_are) e.1))),
         e.2,
       ))
       (h.only r c is)
@@ -165,13 +170,16 @@ module _ (form n : ℕ) (rs : List Record) (layer t : ℕ) (run : LineRun) (le :
 
 -- ---- those that are not all
 module _ (form n : ℕ) (rs : List Record) (layer t : ℕ) (run : LineRun) (le : n ≤ 12) (some : 1 ≤ layer) (h : IsLineRun n rs layer t run) where
-  same_part : (part : ℕ) (rest : List Record) → ((r : Record) → Contains rest r → r.key.layer ≡ layer → ⊥) → filter (is_of_part layer part) (rs ++ rest) ≡ filter (is_of_part layer part) rs
+  same_part : (part : ℕ) (rest : List Record) → ((r : Record) → Contains rest r → r.key.layer ≡ layer → ⊥)
+      → filter (is_of_part layer part) (rs ++ rest) ≡ filter (is_of_part layer part) rs
   same_part part rest past =
       filter-append (is_of_part layer part) rs rest
-      ∙ ap (λ (l : List Record). filter (is_of_part layer part) rs ++ l) (filter_none (is_of_part layer part) rest (λ r c. part_false layer part r (λ is _. past r c is)))
+      ∙ ap (λ (l : List Record). filter (is_of_part layer part) rs ++ l)
+      (filter_none (is_of_part layer part) rest (λ r c. part_false layer part r (λ is _. past r c is)))
       ∙ append-nil (filter (is_of_part layer part) rs)
 
-  module _ (segs : SegMap) (cover : BlockSet) (rest : List Record) (past : (r : Record) → Contains rest r → r.key.layer ≡ layer → ⊥) (up : Rises by_key (rs ++ rest))
+  module _ (segs : SegMap) (cover : BlockSet) (rest : List Record) (past : (r : Record) → Contains rest r → r.key.layer ≡ layer → ⊥)
+      (up : Rises by_key (rs ++ rest))
       (s : SpellsOne form n (rs ++ rest) layer (Lines t segs cover)) where
     abbrev es : List (ℕ × Seg)
     es = finmap.entries segs
@@ -181,8 +189,10 @@ module _ (form n : ℕ) (rs : List Record) (layer t : ℕ) (run : LineRun) (le :
 
     segments_same : run.segs.items ≡ es
     segments_same =
-        map_alone (segment_record n layer) (λ (e : ℕ × Seg). (e.0 < 2 ^ 32) × (is_in_square n e.1 ≡ true)) (λ d e hd he same. segment_alone n layer le d e hd he same)
-        run.segs.items es h.inside (λ e c. (small_id form n layer t segs cover (rs ++ rest) some s e c, inside form n layer t segs cover (rs ++ rest) some s e c))
+        map_alone (segment_record n layer) (λ (e : ℕ × Seg). (e.0 < 2 ^ 32) × (is_in_square n e.1 ≡ true))
+        (λ d e hd he same. segment_alone n layer le d e hd he same)
+        run.segs.items es h.inside
+        (λ e c. (small_id form n layer t segs cover (rs ++ rest) some s e c, inside form n layer t segs cover (rs ++ rest) some s e c))
         (sym h.segs ∙ sym (same_part 4 rest past) ∙ segments_here form n layer t segs cover (rs ++ rest) le some s up)
 
     pairs_same : run.pairs.items ≡ flat_map (pairs_on es) bs

@@ -29,7 +29,8 @@ use Rattle.quilt_map.proofs.Placing.{placed_within}
 
 module _ {W : Type 0} {D : disk.Ghosts W} (session : Session W D) (s : State) (at : IsAtState session s) where
   -- the layer under the name becomes another of its kind
-  pub amendment : (name : List ℕ) (number : ℕ) (old new : Layer) → finmap.get s.work name ≡ Some old → number ≡ number_of at.work.numbers name → kind_of old ≡ kind_of new → capacity_of old ≡ capacity_of new
+  pub amendment : (name : List ℕ) (number : ℕ) (old new : Layer) → finmap.get s.work name ≡ Some old → number ≡ number_of at.work.numbers name
+      → kind_of old ≡ kind_of new → capacity_of old ≡ capacity_of new
       → IsLayer s.last.format s.last.level new → (removed added : List Record) → regions.IsPlan s.last.level name number (Some old) (Some new) removed added
       → IsAmendment s at.work.numbers session.catalog name number new removed added
   amendment name number old new got here kind capacity fits removed added plan = record {
@@ -51,7 +52,8 @@ module _ {W : Type 0} {D : disk.Ghosts W} (session : Session W D) (s : State) (a
       some_none l e = cc
 
   -- what does not make more records stays within the quota
-  pub never_more : (name : List ℕ) (number : ℕ) (layer : Layer) (removed added : List Record) → IsPlan s at.work.numbers name number (Some layer) removed added → length added ≤ length removed
+  pub never_more : (name : List ℕ) (number : ℕ) (layer : Layer) (removed added : List Record)
+      → IsPlan s at.work.numbers name number (Some layer) removed added → length added ≤ length removed
       → records s.last.level (with s name layer) ≤ s.quota
   never_more name number layer removed added plan fewer =
       let c = counted session s at name number (Some layer) removed added plan in
@@ -60,23 +62,29 @@ module _ {W : Type 0} {D : disk.Ghosts W} (session : Session W D) (s : State) (a
       omega arith
 
 -- the same with other names for the lists, and for the entries
-pub planned_as : (s : State) (numbers : Numbering) (entries : List Entry) (name : List ℕ) (number : ℕ) (new : Layer) (removed added : List Record) → IsAmendment s numbers entries name number new removed added
+pub planned_as : (s : State) (numbers : Numbering) (entries : List Entry) (name : List ℕ) (number : ℕ) (new : Layer) (removed added : List Record)
+    → IsAmendment s numbers entries name number new removed added
     → (go come : List Record) → go ≡ removed → come ≡ added → IsPlan s numbers name number (Some new) go come
 planned_as s numbers entries name number new removed added is go come same_go same_come =
-    subst (λ (rs : List Record). IsPlan s numbers name number (Some new) rs come) (sym same_go) (subst (λ (rs : List Record). IsPlan s numbers name number (Some new) removed rs) (sym same_come) is.plan)
+    subst (λ (rs : List Record). IsPlan s numbers name number (Some new) rs come) (sym same_go)
+    (subst (λ (rs : List Record). IsPlan s numbers name number (Some new) removed rs) (sym same_come) is.plan)
 
-pub entries_as : (s : State) (numbers : Numbering) (name : List ℕ) (number : ℕ) (new : Layer) (entries now : List Entry) → now ≡ entries → IsCatalogOf (with_layer s.work name (Some new)) (with_number numbers name number (Some new)) entries
+pub entries_as : (s : State) (numbers : Numbering) (name : List ℕ) (number : ℕ) (new : Layer) (entries now : List Entry) → now ≡ entries
+    → IsCatalogOf (with_layer s.work name (Some new)) (with_number numbers name number (Some new)) entries
     → IsCatalogOf (with_layer s.work name (Some new)) (with_number numbers name number (Some new)) now
-entries_as s numbers name number new entries now same is = subst (IsCatalogOf (with_layer s.work name (Some new)) (with_number numbers name number (Some new))) (sym same) is
+entries_as s numbers name number new entries now same is =
+    subst (IsCatalogOf (with_layer s.work name (Some new)) (with_number numbers name number (Some new))) (sym same) is
 
 -- the layer stands, and the entries are as they were
 module _ {W : Type 0} {D : disk.Ghosts W} where
   pub amended_answer : (old new : Session W D) (s : State) (name : List ℕ) (layer : Layer) (text : List ℕ) → HasLayer old new s name (Some layer) new.catalog
       → text ≡ text_of (Done []) → AnsweredBy s (placed s name layer) old new (given.Ok text)
   amended_answer old new s name layer text has told =
-      subst (λ (o : Outcome). AnsweredBy s o old new (given.Ok text)) (sym (placed_within s name layer has.within)) (record { tells = (told, refl); at = has.at; count = has.count })
+      subst (λ (o : Outcome). AnsweredBy s o old new (given.Ok text)) (sym (placed_within s name layer has.within))
+      (record { tells = (told, refl); at = has.at; count = has.count })
 
 -- once the layer was read
-module _ {W : Type 0} {D : disk.Ghosts W} (old : Session W D) (s : State) (at : IsAtState old s) (b : Book W D) (still : IsStill old.book b) (law : IsLawful (D.size b.world) (D.told b.world)) where
+module _ {W : Type 0} {D : disk.Ghosts W} (old : Session W D) (s : State) (at : IsAtState old s) (b : Book W D) (still : IsStill old.book b)
+    (law : IsLawful (D.size b.world) (D.told b.world)) where
   pub mid_at : IsAtState (with_book old b) s
   mid_at = keeps_at {D = D} old b old.warm s still law at

@@ -21,7 +21,8 @@ use Rattle.quilt_spell.specs.Catalogued.{kind_of, IsCatalogOf}
 use Rattle.quilt_spell.proofs.Stepping.{spelled_count}
 use Rattle.quilt_edition.specs.declared.book.Book.{Book}
 use Rattle.quilt_replies.specs.Answers as answers
-use Rattle.quilt_replies.specs.Answers.{State, Outcome, Done, Refused, answer, unless, unknown, unless_region, is_region, grid_in, layer_line, leaf_line, row_line, block_lines, sides_of}
+use Rattle.quilt_replies.specs.Answers.{State, Outcome, Done, Refused, answer, unless, unknown, unless_region, is_region, grid_in, layer_line, leaf_line}
+use Rattle.quilt_replies.specs.Answers.{row_line, block_lines, sides_of}
 use Rattle.quilt_map.specs.Asking.{IsLayerUnder, IsRegionAt, IsRefusedFirst, IsStill, KeepsAll, HasText}
 use Rattle.quilt_replies.specs.Runs.{text_of, is_done}
 use Rattle.quilt_map.specs.Sessions.{IsAtWith, IsAtState, told_of, tree_in}
@@ -40,7 +41,8 @@ module _ (s : State) (a : List ℕ) where
 
   pub show_refused : (w : Window) (code : Code) → IsRefusedFirst s a code → (answer s (commands.Show a w)).reply ≡ Refused code
   unfolding answer
-  show_refused w code first = first (answers.window_outside s w ∷ []) (answers.told s (map (row_line s.last.format s.last.level (answers.grid s a) w) (below w.h)))
+  show_refused w code first =
+      first (answers.window_outside s w ∷ []) (answers.told s (map (row_line s.last.format s.last.level (answers.grid s a) w) (below w.h)))
 
   pub leaves_refused : (code : Code) → IsRefusedFirst s a code → (answer s (commands.Leaves a)).reply ≡ Refused code
   unfolding answer
@@ -49,11 +51,14 @@ module _ (s : State) (a : List ℕ) where
   pub blocks_unknown : finmap.get s.work a ≡ None → (answer s (commands.Blocks a)).reply ≡ Refused no.Unknown
   unfolding answer
   blocks_unknown e =
-      ap (λ (o : Option Layer). (unless ((is_none o, no.Unknown) ∷ []) s (answers.told s (block_lines s.last.level (unwrap_or (option_map (sides_of s.last.level) o) [])))).reply) e
+      ap (λ (o : Option Layer).
+      (unless ((is_none o, no.Unknown) ∷ []) s (answers.told s (block_lines s.last.level (unwrap_or (option_map (sides_of s.last.level) o) [])))).reply) e
 
   module _ (g : Grid) (e : finmap.get s.work a ≡ Some (Region g)) where
     at_with : Option Layer → Bool → Pixel → answers.Reply
-    at_with o b p = (unless ((is_none o, no.Unknown) ∷ (not (is_region o), no.Kind) ∷ (not b, no.Outside) ∷ []) s (answers.told s (decimal (colour_at s.last.level (grid_in o) p) ∷ []))).reply
+    at_with o b p =
+        (unless ((is_none o, no.Unknown) ∷ (not (is_region o), no.Kind) ∷ (not b, no.Outside) ∷ []) s
+        (answers.told s (decimal (colour_at s.last.level (grid_in o) p) ∷ []))).reply
 
     at_is : (p : Pixel) → (answer s (commands.At a p)).reply ≡ at_with (finmap.get s.work a) (is_pixel s.last.level p) p
     unfolding answer at_with
@@ -68,7 +73,9 @@ module _ (s : State) (a : List ℕ) where
     at_done p inside = at_is p ∙ (λ i. at_with (e i) (inside i) p)
 
     show_with : Option Layer → Bool → Window → answers.Reply
-    show_with o b w = (unless ((is_none o, no.Unknown) ∷ (not (is_region o), no.Kind) ∷ (not b, no.Outside) ∷ []) s (answers.told s (map (row_line s.last.format s.last.level (grid_in o) w) (below w.h)))).reply
+    show_with o b w =
+        (unless ((is_none o, no.Unknown) ∷ (not (is_region o), no.Kind) ∷ (not b, no.Outside) ∷ []) s
+        (answers.told s (map (row_line s.last.format s.last.level (grid_in o) w) (below w.h)))).reply
 
     show_is : (w : Window) → (answer s (commands.Show a w)).reply ≡ show_with (finmap.get s.work a) (is_window s.last.level w) w
     unfolding answer show_with
@@ -78,19 +85,23 @@ module _ (s : State) (a : List ℕ) where
     unfolding show_with
     show_outside w outside = show_is w ∙ (λ i. show_with (e i) (outside i) w)
 
-    pub show_done : (w : Window) → is_window s.last.level w ≡ true → (answer s (commands.Show a w)).reply ≡ Done (map (row_line s.last.format s.last.level g w) (below w.h))
+    pub show_done : (w : Window) → is_window s.last.level w ≡ true
+        → (answer s (commands.Show a w)).reply ≡ Done (map (row_line s.last.format s.last.level g w) (below w.h))
     unfolding show_with
     show_done w inside = show_is w ∙ (λ i. show_with (e i) (inside i) w)
 
     pub leaves_done : (answer s (commands.Leaves a)).reply ≡ Done (map leaf_line (leaves s.last.level g))
     unfolding answer
-    leaves_done = ap (λ (o : Option Layer). (unless ((is_none o, no.Unknown) ∷ (not (is_region o), no.Kind) ∷ []) s (answers.told s (map leaf_line (leaves s.last.level (grid_in o))))).reply) e
+    leaves_done =
+        ap (λ (o : Option Layer).
+        (unless ((is_none o, no.Unknown) ∷ (not (is_region o), no.Kind) ∷ []) s (answers.told s (map leaf_line (leaves s.last.level (grid_in o))))).reply) e
 
 pub layers_done : (s : State) → (answer s commands.Layers).reply ≡ Done (map layer_line (finmap.entries s.work))
 unfolding answer
 layers_done s = refl
 
-pub records_done : (s : State) → (answer s commands.Records).reply ≡ Done (spaced (decimal (records s.last.level s.work) ∷ codes "of" ∷ decimal s.quota ∷ []) ∷ [])
+pub records_done : (s : State)
+    → (answer s commands.Records).reply ≡ Done (spaced (decimal (records s.last.level s.work) ∷ codes "of" ∷ decimal s.quota ∷ []) ∷ [])
 unfolding answer
 records_done s = refl
 
@@ -117,7 +128,8 @@ told_reply At out text (Err e) has is = tt
 -- ---- the session
 module _ {W : Type 0} {D : disk.Ghosts W} where
   -- nothing but the last pixel changes
-  pub keeps_here : (old : Session W D) (w : Option (List ℕ × Pixel)) → KeepsAll old (record { book = old.book; catalog = old.catalog; last = old.last; changes = old.changes; warm = w; alloc = old.alloc })
+  pub keeps_here : (old : Session W D) (w : Option (List ℕ × Pixel))
+      → KeepsAll old (record { book = old.book; catalog = old.catalog; last = old.last; changes = old.changes; warm = w; alloc = old.alloc })
   keeps_here old w = record { book = still_here old.book; catalog = refl; last = refl; changes = refl }
 
   -- another last pixel leaves the state
@@ -140,7 +152,8 @@ module _ {W : Type 0} {D : disk.Ghosts W} where
   }
 
   -- a book that goes on with the same pages leaves the state
-  pub keeps_at : (old : Session W D) (b : Book W D) (w : Option (List ℕ × Pixel)) (s : State) → IsStill old.book b → IsLawful (D.size b.world) (D.told b.world) → IsAtState old s
+  pub keeps_at : (old : Session W D) (b : Book W D) (w : Option (List ℕ × Pixel)) (s : State) → IsStill old.book b
+      → IsLawful (D.size b.world) (D.told b.world) → IsAtState old s
       → IsAtWith (record { book = b; catalog = old.catalog; last = old.last; changes = old.changes; warm = w; alloc = old.alloc }) old.catalog s
   keeps_at old b w s still law at =
       let r = later_at old b old.catalog s still.later still.told still.free still.changed law at in record {
@@ -187,13 +200,16 @@ module _ {W : Type 0} {D : disk.Ghosts W} where
       pub has_grid : IsGrid s.last.format s.last.level r.grid
       has_grid =
           subst (λ (f : ℕ). IsGrid f s.last.level r.grid) format_is
-          (subst (λ (n : ℕ). IsGrid old.book.work.format n r.grid) level_is (layer_is old.book.work.format old.book.work.level s.work at.work.spelled.map name (Region r.grid) r.got))
+          (subst (λ (n : ℕ). IsGrid old.book.work.format n r.grid) level_is
+          (layer_is old.book.work.format old.book.work.level s.work at.work.spelled.map name (Region r.grid) r.got))
 
       -- the list of its leaves
-      pub raster_is : (l : Raster) → ((g : Grid) → HasRegion (told_of old.book) (tree_in old.book.work) number old.book.work.level g → l ≡ record { level = old.book.work.level; grid = g }) → l ≡ record { level = s.last.level; grid = r.grid }
+      pub raster_is : (l : Raster) → ((g : Grid) → HasRegion (told_of old.book) (tree_in old.book.work) number old.book.work.level g
+          → l ≡ record { level = old.book.work.level; grid = g }) → l ≡ record { level = s.last.level; grid = r.grid }
       raster_is l is = is r.grid has_region ∙ ap (λ (n : ℕ). record { level = n; grid = r.grid }) level_is
 
-      pub leaves_body : (l : Raster) → ((g : Grid) → HasRegion (told_of old.book) (tree_in old.book.work) number old.book.work.level g → l ≡ record { level = old.book.work.level; grid = g })
+      pub leaves_body : (l : Raster) → ((g : Grid) → HasRegion (told_of old.book) (tree_in old.book.work) number old.book.work.level g
+          → l ≡ record { level = old.book.work.level; grid = g })
           → (t : List ℕ) → t ≡ text_of (Done (map leaf_line (leaves l.level l.grid))) → IsBodyOf ((answer s (commands.Leaves name)).reply) t
       leaves_body l is t written = record {
         body = map leaf_line (leaves s.last.level r.grid);
@@ -202,18 +218,22 @@ module _ {W : Type 0} {D : disk.Ghosts W} where
       }
 
       pub show_body : (w : Window) (f : ℕ) (l : Raster) → f ≡ old.book.work.format → is_window s.last.level w ≡ true
-          → ((g : Grid) → HasRegion (told_of old.book) (tree_in old.book.work) number old.book.work.level g → l ≡ record { level = old.book.work.level; grid = g })
-          → (t : List ℕ) → (IsGrid f l.level l.grid → t ≡ text_of (Done (map (row_line f l.level l.grid w) (below w.h)))) → IsBodyOf ((answer s (commands.Show name w)).reply) t
+          → ((g : Grid) → HasRegion (told_of old.book) (tree_in old.book.work) number old.book.work.level g
+          → l ≡ record { level = old.book.work.level; grid = g })
+          → (t : List ℕ) → (IsGrid f l.level l.grid → t ≡ text_of (Done (map (row_line f l.level l.grid w) (below w.h))))
+          → IsBodyOf ((answer s (commands.Show name w)).reply) t
       show_body w f l same inside is t written =
           let form : f ≡ s.last.format = same ∙ format_is in
           let raster = raster_is l is in
-          let grid : IsGrid f l.level l.grid = subst (λ (x : Raster). IsGrid f x.level x.grid) (sym raster) (subst (λ (k : ℕ). IsGrid k s.last.level r.grid) (sym form) has_grid) in record {
+          let grid : IsGrid f l.level l.grid =
+          subst (λ (x : Raster). IsGrid f x.level x.grid) (sym raster) (subst (λ (k : ℕ). IsGrid k s.last.level r.grid) (sym form) has_grid) in record {
             body = map (row_line s.last.format s.last.level r.grid w) (below w.h);
             answered = show_done s name r.grid r.got w inside;
             written = written grid ∙ (λ i. text_of (Done (map (row_line (form i) (raster i).level (raster i).grid w) (below w.h))));
           }
 
-      pub at_body : (p : Pixel) (c n : ℕ) → is_pixel s.last.level p ≡ true → ((g : Grid) → HasRegion (told_of old.book) (tree_in old.book.work) number old.book.work.level g → c ≡ colour_at old.book.work.level g p)
+      pub at_body : (p : Pixel) (c n : ℕ) → is_pixel s.last.level p ≡ true
+          → ((g : Grid) → HasRegion (told_of old.book) (tree_in old.book.work) number old.book.work.level g → c ≡ colour_at old.book.work.level g p)
           → n ≡ c → (t : List ℕ) → t ≡ text_of (Done (decimal n ∷ [])) → IsBodyOf ((answer s (commands.At name p)).reply) t
       at_body p c n inside is same t written = record {
         body = decimal (colour_at s.last.level r.grid p) ∷ [];
@@ -222,7 +242,8 @@ module _ {W : Type 0} {D : disk.Ghosts W} where
       }
 
     -- the layer that was found is a region
-    pub region_under : (name : List ℕ) (number : ℕ) → IsLayerUnder s.work at.work.numbers name number kinds.Region → IsRegionAt s.work at.work.numbers name number
+    pub region_under : (name : List ℕ) (number : ℕ) → IsLayerUnder s.work at.work.numbers name number kinds.Region
+        → IsRegionAt s.work at.work.numbers name number
     region_under name number u =
         let l = only_region u.layer u.kinded in
         record { grid = l.0; got = u.got ∙ ap Some l.1; numbered = u.numbered }
@@ -232,7 +253,8 @@ module _ {W : Type 0} {D : disk.Ghosts W} where
         only_region (Points capacity points) e = cc
         only_region (Lines threshold segs cover) e = cc
 
-    pub records_body : (n pages : ℕ) → n ≡ old.book.work.records → pages ≡ old.book.journal.pages → (t : List ℕ) → t ≡ text_of (Done (spaced (decimal n ∷ codes "of" ∷ decimal (64 * (pages - 8)) ∷ []) ∷ []))
+    pub records_body : (n pages : ℕ) → n ≡ old.book.work.records → pages ≡ old.book.journal.pages → (t : List ℕ)
+        → t ≡ text_of (Done (spaced (decimal n ∷ codes "of" ∷ decimal (64 * (pages - 8)) ∷ []) ∷ []))
         → IsBodyOf ((answer s commands.Records).reply) t
     records_body n pages many size t written =
         let room : 64 * (pages - 8) ≡ s.quota = ap quota size ∙ sym at.quota in
@@ -242,7 +264,8 @@ module _ {W : Type 0} {D : disk.Ghosts W} where
           written = written ∙ (λ i. text_of (Done (spaced (decimal (all i) ∷ codes "of" ∷ decimal (room i) ∷ []) ∷ [])));
         }
 
-    pub edition_body : (n : ℕ) → n ≡ old.book.last.edition → (t : List ℕ) → t ≡ text_of (Done (spaced (codes "edition" ∷ decimal n ∷ []) ∷ [])) → IsBodyOf ((answer s commands.Edition).reply) t
+    pub edition_body : (n : ℕ) → n ≡ old.book.last.edition → (t : List ℕ) → t ≡ text_of (Done (spaced (codes "edition" ∷ decimal n ∷ []) ∷ []))
+        → IsBodyOf ((answer s commands.Edition).reply) t
     edition_body n same t written = record {
       body = spaced (codes "edition" ∷ decimal s.last.number ∷ []) ∷ [];
       answered = edition_done s;

@@ -48,7 +48,8 @@ module _ {W : Type 0} {D : disk.Ghosts W} where
   }
 
 -- the tree and the level of the same header
-pub has_as : (told : Option (List (List ℕ))) (number : ℕ) (g : Grid) (h k : Head) (t : Tree) → h ≡ k → t ≡ tree_in h → HasRegion told (tree_in k) number k.level g → HasRegion told t number h.level g
+pub has_as : (told : Option (List (List ℕ))) (number : ℕ) (g : Grid) (h k : Head) (t : Tree) → h ≡ k → t ≡ tree_in h
+    → HasRegion told (tree_in k) number k.level g → HasRegion told t number h.level g
 has_as told number g h k t same tree has =
     subst (λ (x : Tree). HasRegion told x number h.level g) (sym tree) (subst (λ (x : Head). HasRegion told (tree_in x) number x.level g) (sym same) has)
 
@@ -80,10 +81,12 @@ in_two form n g h = record { size = h.size; colours = All-weaker (λ c. c < colo
 
 pub layer_is : (form n : ℕ) (layers : Map) → IsMap form n layers → (name : List ℕ) (l : Layer) → finmap.get layers name ≡ Some l → IsLayer form n l
 layer_is form n layers h name l at =
-    All-contains (λ (e : List ℕ × Layer). IsLayer form n e.1) (finmap.entries layers) (name, l) h.each (entry_from_get (slice_cmp nat_cmp) nat_list_cmp_total name_same layers name l at)
+    All-contains (λ (e : List ℕ × Layer). IsLayer form n e.1) (finmap.entries layers) (name, l) h.each
+    (entry_from_get (slice_cmp nat_cmp) nat_list_cmp_total name_same layers name l at)
 
 pub region_of : (form n : ℕ) (numbers : Numbering) (rs : List Record) (layers : Map) (name : List ℕ) (g : Grid) (told : Option (List (List ℕ))) (t : Tree)
-    → n ≤ 12 → SpellsUnder form n numbers rs layers → IsTree told t rs → finmap.get layers name ≡ Some (Region g) → HasRegion told t (number_of numbers name) n g
+    → n ≤ 12 → SpellsUnder form n numbers rs layers → IsTree told t rs → finmap.get layers name ≡ Some (Region g)
+    → HasRegion told t (number_of numbers name) n g
 region_of form n numbers rs layers name g told t le s is at =
     let r = region_spelled form n numbers rs layers le s name g at in record {
       records = rs;

@@ -1,5 +1,6 @@
 -- The entries of a catalog and the layers of its map.
-use Rattle.std.proofs.Common.{◌≡◌, ◌≢◌, ◌↔◌, ℕ, zero, suc, ◌+◌, ◌<◌, ◌≤◌, Bool, true, false, cond, ◌⊎◌, List, [], ◌∷◌, ◌++◌, map, length, take, get_or, Option, Some, None, refl, sym, ◌∙◌, ap, subst, inl, inr, ⊎_elim, arith, All, Contains, nat_cmp, Less, Equal, Greater, eqb-true, eq-eqb}
+use Rattle.std.proofs.Common.{◌≡◌, ◌≢◌, ◌↔◌, ℕ, zero, suc, ◌+◌, ◌<◌, ◌≤◌, Bool, true, false, cond, ◌⊎◌, List, [], ◌∷◌, ◌++◌, map, length, take, get_or, Option}
+use Rattle.std.proofs.Common.{Some, None, refl, sym, ◌∙◌, ap, subst, inl, inr, ⊎_elim, arith, All, Contains, nat_cmp, Less, Equal, Greater, eqb-true, eq-eqb}
 use Rattle.std.specs.Prelude.{unwrap_or, ◌==◌, not, position, nat_eq, IsNone, IfSome}
 use Rattle.std.specs.List.{list_any, remove, position_or_len, range_with_len}
 use Rattle.std.specs.Ordering.{is_lt, ordering_reverse}
@@ -20,7 +21,8 @@ use Rattle.quilt_record.specs.Catalogs.{IsCatalog, AreInOrder, name_cmp, with_en
 use Rattle.quilt_record.specs.Records.{Numbering}
 use Rattle.quilt_record.proofs.Entries.{place_last}
 use Rattle.quilt_loc.specs.Codes.{Rises}
-use Rattle.quilt_loc.proofs.Members.{Contains-nil, Contains-here, Contains-there, Contains-cons_cases, Contains-map, Contains-map_from, Contains-range_from, list_all-at}
+use Rattle.quilt_loc.proofs.Members.{Contains-nil, Contains-here, Contains-there, Contains-cons_cases, Contains-map, Contains-map_from, Contains-range_from}
+use Rattle.quilt_loc.proofs.Members.{list_all-at}
 use Rattle.quilt_loc.proofs.Rising.{same_rising, Rises-map, Rises-range}
 use Rattle.quilt_spell.specs.Written.{number_of, IsNumbering}
 use Rattle.quilt_spell.specs.Changing.{with_layer, with_number}
@@ -48,12 +50,15 @@ some_none a e = cc
 
 module _ (layers : Map) (numbers : Numbering) where
   -- a layer has an entry, and an entry has a layer
-  pub entry_there : (entries : List Entry) → IsCatalogOf layers numbers entries → (name : List ℕ) (layer : Layer) → finmap.get layers name ≡ Some layer → Contains entries (entry_of numbers (name, layer))
+  pub entry_there : (entries : List Entry) → IsCatalogOf layers numbers entries → (name : List ℕ) (layer : Layer)
+      → finmap.get layers name ≡ Some layer → Contains entries (entry_of numbers (name, layer))
   entry_there entries c name layer at =
       subst (λ (es : List Entry). Contains es (entry_of numbers (name, layer))) (sym c.each)
-      (Contains-map (entry_of numbers) (finmap.entries layers) (name, layer) (entry_from_get (slice_cmp nat_cmp) nat_list_cmp_total name_same layers name layer at))
+      (Contains-map (entry_of numbers) (finmap.entries layers) (name, layer)
+      (entry_from_get (slice_cmp nat_cmp) nat_list_cmp_total name_same layers name layer at))
 
-  pub layer_there : (entries : List Entry) → IsCatalogOf layers numbers entries → (e : Entry) → Contains entries e → (layer : Layer) × (finmap.get layers e.name ≡ Some layer) × (e ≡ entry_of numbers (e.name, layer))
+  pub layer_there : (entries : List Entry) → IsCatalogOf layers numbers entries → (e : Entry) → Contains entries e
+      → (layer : Layer) × (finmap.get layers e.name ≡ Some layer) × (e ≡ entry_of numbers (e.name, layer))
   layer_there entries c e there =
       let m = Contains-map_from (entry_of numbers) (finmap.entries layers) e (subst (λ (es : List Entry). Contains es e) c.each there) in
       let at = get_from_entry (slice_cmp nat_cmp) nat_list_cmp_total name_same layers m.0 m.1 in
@@ -66,9 +71,11 @@ module _ (layers : Map) (numbers : Numbering) where
     where
       by_case : (o : Option Layer) → finmap.get layers name ≡ o → o ≡ None
       by_case None e = refl
-      by_case (Some l) e = absurd (All-contains (λ (d : Entry). d.name ≢ name) entries (entry_of numbers (name, l)) others (entry_there entries c name l e) refl)
+      by_case (Some l) e =
+          absurd (All-contains (λ (d : Entry). d.name ≢ name) entries (entry_of numbers (name, l)) others (entry_there entries c name l e) refl)
 
-  pub layer_at : (entries : List Entry) (name : List ℕ) (i : ℕ) (d : Entry) → IsCatalogOf layers numbers entries → i < length entries → (get_or entries i d).name ≡ name → IsLayerAt layers numbers entries name i
+  pub layer_at : (entries : List Entry) (name : List ℕ) (i : ℕ) (d : Entry) → IsCatalogOf layers numbers entries → i < length entries
+      → (get_or entries i d).name ≡ name → IsLayerAt layers numbers entries name i
   layer_at entries name i d c lt named =
       let l = layer_there entries c (get_or entries i d) (Contains-get_or entries i d lt) in record {
         layer = l.0;
@@ -115,7 +122,8 @@ none_passes : {X : Type 0} (p : X → Bool) (xs : List X) → length xs ≡ posi
 none_passes p [] e = All-nil (λ x. p x ≡ false)
 none_passes p (x ∷ xs) e = by_case (p x) refl e (none_passes p xs)
   where
-    by_case : (b : Bool) → p x ≡ b → suc (length xs) ≡ cond (not b) (1 + position_or_len p xs) 0 → (length xs ≡ position_or_len p xs → All (λ y. p y ≡ false) xs) → All (λ y. p y ≡ false) (x ∷ xs)
+    by_case : (b : Bool) → p x ≡ b → suc (length xs) ≡ cond (not b) (1 + position_or_len p xs) 0
+        → (length xs ≡ position_or_len p xs → All (λ y. p y ≡ false) xs) → All (λ y. p y ≡ false) (x ∷ xs)
     by_case true t h rest = absurd (let no : ⊥ = omega arith in no)
     by_case false t h rest = All-cons (λ y. p y ≡ false) x xs t (rest (omega arith))
 
@@ -129,7 +137,8 @@ module _ (entries : List Entry) (name : List ℕ) where
       (λ e no same. let t = (bytes_eq-Decides name e.name).1 (sym same) in let z : true ≡ false = sym t ∙ no in cc) entries
       (none_passes (λ e. pointwise nat_eq name e.name) entries (place_last (λ e. pointwise nat_eq name e.name) entries (sym is ∙ is_none o none)))
 
-  pub one_named : (o : Option ℕ) → o ≡ position (λ e. pointwise nat_eq name e.name) entries → (i : ℕ) → o ≡ Some i → (d : Entry) → (i < length entries) × ((get_or entries i d).name ≡ name)
+  pub one_named : (o : Option ℕ) → o ≡ position (λ e. pointwise nat_eq name e.name) entries → (i : ℕ) → o ≡ Some i → (d : Entry)
+      → (i < length entries) × ((get_or entries i d).name ≡ name)
   one_named o is i at d =
       let p = position-Some (λ (e : Entry). pointwise nat_eq name e.name) entries i d (sym is ∙ at) in
       (p.0, sym ((bytes_eq-Decides name (get_or entries i d).name).0 p.1))
@@ -143,7 +152,8 @@ module _ (entries : List Entry) where
   -- no entry has a number that none is found to have
   pub none_numbered : (k : ℕ) → list_any (λ e. e.number == k) entries ≡ false → All (λ e. e.number ≢ k) entries
   none_numbered k none i d lt same =
-      let t = member_any (λ (e : Entry). e.number == k) entries (get_or entries i d) (Contains-get_or entries i d lt) (eq-eqb (get_or entries i d).number k same) in
+      let t =
+      member_any (λ (e : Entry). e.number == k) entries (get_or entries i d) (Contains-get_or entries i d lt) (eq-eqb (get_or entries i d).number k same) in
       let z : true ≡ false = sym t ∙ none in cc
 
   numbered : (k : ℕ) → list_any (λ e. e.number == k) entries ≡ true → Contains (map (λ (e : Entry). e.number) entries) k
@@ -152,7 +162,8 @@ module _ (entries : List Entry) where
       subst (Contains (map (λ (e : Entry). e.number) entries)) (eqb-true m.0.number k m.2) (Contains-map (λ (e : Entry). e.number) entries m.0 m.1)
 
   -- fewer than 255 entries do not have all numbers from 1 to 255
-  pub last_free : length entries < 255 → ((k : ℕ) → 1 ≤ k → k < 255 → list_any (λ e. e.number == k) entries ≡ true) → list_any (λ e. e.number == 255) entries ≡ false
+  pub last_free : length entries < 255 → ((k : ℕ) → 1 ≤ k → k < 255 → list_any (λ e. e.number == k) entries ≡ true)
+      → list_any (λ e. e.number == 255) entries ≡ false
   last_free few all = by_case (list_any (λ e. e.number == 255) entries) refl
     where
       each : list_any (λ e. e.number == 255) entries ≡ true → (k : ℕ) → Contains (range_with_len 1 255) k → Contains (map (λ (e : Entry). e.number) entries) k
@@ -164,17 +175,20 @@ module _ (entries : List Entry) where
       by_case : (b : Bool) → list_any (λ e. e.number == 255) entries ≡ b → b ≡ false
       by_case false e = refl
       by_case true e =
-          let long = Apart-le (range_with_len 1 255) (map (λ (e : Entry). e.number) entries) (Apart-rises nat_cmp nat_cmp_total (range_with_len 1 255) (Rises-range 1 255)) (each e) in
+          let long = Apart-le (range_with_len 1 255) (map (λ (e : Entry). e.number) entries)
+          (Apart-rises nat_cmp nat_cmp_total (range_with_len 1 255) (Rises-range 1 255)) (each e) in
           let many = length-range_with_len 1 255 in
           let short = length-map entries (λ (e : Entry). e.number) in
           absurd (omega arith)
 
   -- no name has the number in the map
-  pub unused_number : (k : ℕ) → list_any (λ e. e.number == k) entries ≡ false → (layers : Map) (numbers : Numbering) → IsCatalogOf layers numbers entries → IsNumbering layers numbers → (name : List ℕ) → finmap.get numbers name ≢ Some k
+  pub unused_number : (k : ℕ) → list_any (λ e. e.number == k) entries ≡ false → (layers : Map) (numbers : Numbering)
+      → IsCatalogOf layers numbers entries → IsNumbering layers numbers → (name : List ℕ) → finmap.get numbers name ≢ Some k
   unused_number k none layers numbers is num name at =
       let l = num.only name k at in
       let there = entry_there layers numbers entries is name l.0 l.1 in
-      let t = member_any (λ (e : Entry). e.number == k) entries (entry_of numbers (name, l.0)) there (eq-eqb (number_of numbers name) k (number_at numbers name k at)) in
+      let t = member_any (λ (e : Entry). e.number == k) entries (entry_of numbers (name, l.0)) there
+      (eq-eqb (number_of numbers name) k (number_at numbers name k at)) in
       let z : true ≡ false = sym t ∙ none in cc
 
 -- ---- the same entries again
@@ -196,18 +210,21 @@ less_is Equal h = cc
 less_is Greater h = cc
 
 -- the entries before a place have names before its name
-names_before : (entries : List Entry) (i : ℕ) (d : Entry) → AreInOrder entries → i < length entries → (f : Entry) → Contains (take i entries) f → name_cmp f.name (get_or entries i d).name ≡ Less
+names_before : (entries : List Entry) (i : ℕ) (d : Entry) → AreInOrder entries → i < length entries → (f : Entry) → Contains (take i entries) f
+    → name_cmp f.name (get_or entries i d).name ≡ Less
 names_before [] i d order lt f c = absurd (let no : ⊥ = omega arith in no)
 names_before (e ∷ es) zero d order lt f c = absurd (Contains-nil f c)
 names_before (e ∷ es) (suc i) d order lt f c =
     let inside : i < length es = omega arith in
     ⊎_elim
     (λ same. subst (λ (g : Entry). name_cmp g.name (get_or es i d).name ≡ Less) same
-    (less_is (name_cmp e.name (get_or es i d).name) (list_all-at (λ (g : Entry). is_lt (name_cmp e.name g.name)) es (get_or es i d) order.0 (Contains-get_or es i d inside))))
+    (less_is (name_cmp e.name (get_or es i d).name)
+    (list_all-at (λ (g : Entry). is_lt (name_cmp e.name g.name)) es (get_or es i d) order.0 (Contains-get_or es i d inside))))
     (λ there. names_before es i d order.1 inside f there)
     (Contains-cons_cases e (take i es) f c)
 
-pub copied_new : (copy entries : List Entry) (i : ℕ) (e : Entry) → IsCopied copy entries i → i < length entries → e ≡ get_or entries i e → All (λ f. f.name ≢ e.name) copy
+pub copied_new : (copy entries : List Entry) (i : ℕ) (e : Entry) → IsCopied copy entries i → i < length entries → e ≡ get_or entries i e
+    → All (λ f. f.name ≢ e.name) copy
 copied_new copy entries i e h lt at =
     subst (All (λ (f : Entry). f.name ≢ e.name)) (sym h.front)
     (all_from (λ (f : Entry). f.name ≢ e.name) (take i entries) (λ f c same.
@@ -216,7 +233,8 @@ copied_new copy entries i e h lt at =
     let no : Equal ≡ Less = sym (tied_itself nat_list_cmp_total f.name) ∙ tie in
     cc))
 
-pub copied_more : (copy entries : List Entry) (i : ℕ) (e : Entry) → IsCopied copy entries i → i < length entries → e ≡ get_or entries i e → IsCopied (with_entry e copy) entries (i + 1)
+pub copied_more : (copy entries : List Entry) (i : ℕ) (e : Entry) → IsCopied copy entries i → i < length entries → e ≡ get_or entries i e
+    → IsCopied (with_entry e copy) entries (i + 1)
 copied_more copy entries i e h lt at = record {
   front = ap (with_entry e) h.front
       ∙ with_last e (take i entries) (λ f c.
@@ -239,7 +257,8 @@ module _ (e : Entry) where
   )
   with_members (g ∷ gs) f = by_case (is_lt (name_cmp e.name g.name)) (with_members gs f)
     where
-      by_case : (b : Bool) → (Contains (with_entry e gs) f ↔ ((f ≡ e) ⊎ Contains gs f)) → Contains (cond b (e ∷ g ∷ gs) (g ∷ with_entry e gs)) f ↔ ((f ≡ e) ⊎ Contains (g ∷ gs) f)
+      by_case : (b : Bool) → (Contains (with_entry e gs) f ↔ ((f ≡ e) ⊎ Contains gs f)) → Contains (cond b (e ∷ g ∷ gs) (g ∷ with_entry e gs)) f
+          ↔ ((f ≡ e) ⊎ Contains (g ∷ gs) f)
       by_case true rest = (
         λ c. ⊎_elim (λ same. inl (sym same)) (λ there. inr there) (Contains-cons_cases e (g ∷ gs) f c),
         λ w. ⊎_elim (λ same. subst (Contains (e ∷ g ∷ gs)) (sym same) (Contains-here e (g ∷ gs))) (λ there. Contains-there e (g ∷ gs) f there) w,
@@ -249,7 +268,8 @@ module _ (e : Entry) where
             (λ there. ⊎_elim (λ same. inl same) (λ in_gs. inr (Contains-there g gs f in_gs)) (rest.0 there))
             (Contains-cons_cases g (with_entry e gs) f c),
         λ w. ⊎_elim (λ same. Contains-there g (with_entry e gs) f (rest.1 (inl same)))
-            (λ there. ⊎_elim (λ same. subst (Contains (g ∷ with_entry e gs)) same (Contains-here g (with_entry e gs))) (λ in_gs. Contains-there g (with_entry e gs) f (rest.1 (inr in_gs)))
+            (λ there. ⊎_elim (λ same. subst (Contains (g ∷ with_entry e gs)) same (Contains-here g (with_entry e gs)))
+            (λ in_gs. Contains-there g (with_entry e gs) f (rest.1 (inr in_gs)))
             (Contains-cons_cases g gs f there)) w,
       )
 
@@ -268,15 +288,20 @@ module _ (e : Entry) where
     where
       by_case : (b : Bool) → is_lt (name_cmp e.name g.name) ≡ b → Rises by_name (with_entry e gs) → Rises by_name (cond b (e ∷ g ∷ gs) (g ∷ with_entry e gs))
       by_case true is rest =
-          let first = less_is (name_cmp e.name g.name) is in
-          (λ f c. ⊎_elim (λ same. subst (λ (h : Entry). by_name e h ≡ Less) same first) (λ there. nat_list_cmp_total.trans e.name g.name f.name first (up.0 f there)) (Contains-cons_cases g gs f c), up)
+          let first = less_is (name_cmp e.name g.name) is in (
+            λ f c. ⊎_elim (λ same. subst (λ (h : Entry). by_name e h ≡ Less) same first)
+                (λ there. nat_list_cmp_total.trans e.name g.name f.name first (up.0 f there)) (Contains-cons_cases g gs f c),
+            up,
+          )
       by_case false is rest = (
-        λ f c. ⊎_elim (λ same. subst (λ (h : Entry). by_name g h ≡ Less) (sym same) (first_name g (new g (Contains-here g gs)) is)) (λ there. up.0 f there) ((with_members gs f).0 c),
+        λ f c. ⊎_elim (λ same. subst (λ (h : Entry). by_name g h ≡ Less) (sym same) (first_name g (new g (Contains-here g gs)) is))
+            (λ there. up.0 f there) ((with_members gs f).0 c),
         rest,
       )
 
 -- ---- an entry goes
-pub without_members : (es : List Entry) (i : ℕ) (d : Entry) (name : List ℕ) → Rises by_name es → i < length es → (get_or es i d).name ≡ name → (f : Entry) → Contains (remove es i) f ↔ (Contains es f × (f.name ≡ name → ⊥))
+pub without_members : (es : List Entry) (i : ℕ) (d : Entry) (name : List ℕ) → Rises by_name es → i < length es → (get_or es i d).name ≡ name
+    → (f : Entry) → Contains (remove es i) f ↔ (Contains es f × (f.name ≡ name → ⊥))
 without_members [] i d name up lt at f = absurd (let no : ⊥ = omega arith in no)
 without_members (g ∷ gs) zero d name up lt at f = (
   λ c. (Contains-there g gs f c, λ same. let less : name_cmp g.name g.name ≡ Less = ap (name_cmp g.name) (at ∙ sym same) ∙ up.0 f c in never_less g.name less),
@@ -292,14 +317,17 @@ without_members (g ∷ gs) (suc i) d name up lt at f =
           (λ same. (
             subst (Contains (g ∷ gs)) same (Contains-here g gs),
             λ named.
-                let less : name_cmp f.name f.name ≡ Less = ap (λ (h : Entry). name_cmp h.name f.name) (sym same) ∙ ap (name_cmp g.name) (named ∙ sym at) ∙ up.0 (get_or gs i d) (Contains-get_or gs i d inside) in
+                let less : name_cmp f.name f.name ≡ Less = ap (λ (h : Entry). name_cmp h.name f.name) (sym same)
+                ∙ ap (name_cmp g.name) (named ∙ sym at) ∙ up.0 (get_or gs i d) (Contains-get_or gs i d inside) in
                 let no : Equal ≡ Less = sym (tied_itself nat_list_cmp_total f.name) ∙ less in cc,
           ))
           (λ there. let r = rest.0 there in (Contains-there g gs f r.0, r.1)) (Contains-cons_cases g (remove gs i) f c),
-      λ p. ⊎_elim (λ same. subst (Contains (g ∷ remove gs i)) same (Contains-here g (remove gs i))) (λ there. Contains-there g (remove gs i) f (rest.1 (there, p.1))) (Contains-cons_cases g gs f p.0),
+      λ p. ⊎_elim (λ same. subst (Contains (g ∷ remove gs i)) same (Contains-here g (remove gs i)))
+          (λ there. Contains-there g (remove gs i) f (rest.1 (there, p.1))) (Contains-cons_cases g gs f p.0),
     )
 
-pub without_rises : (es : List Entry) (i : ℕ) (d : Entry) (name : List ℕ) → Rises by_name es → i < length es → (get_or es i d).name ≡ name → Rises by_name (remove es i)
+pub without_rises : (es : List Entry) (i : ℕ) (d : Entry) (name : List ℕ) → Rises by_name es → i < length es → (get_or es i d).name ≡ name
+    → Rises by_name (remove es i)
 without_rises [] i d name up lt at = absurd (let no : ⊥ = omega arith in no)
 without_rises (g ∷ gs) zero d name up lt at = up.1
 without_rises (g ∷ gs) (suc i) d name up lt at =
@@ -320,10 +348,12 @@ module _ (layers : Map) (numbers : Numbering) (entries : List Entry) (c : IsCata
   number_there number (Some l) b d = ap (λ (o : Option ℕ). unwrap_or o 0) (get_others (slice_cmp nat_cmp) nat_list_cmp_total name_same numbers name number b d)
 
   number_here : (number : ℕ) (l : Layer) → number_of (with_number numbers name number (Some l)) name ≡ number
-  number_here number l = number_at (finmap.insert numbers name number) name number (get_inserted (slice_cmp nat_cmp) nat_list_cmp_total name_same numbers name number)
+  number_here number l =
+      number_at (finmap.insert numbers name number) name number (get_inserted (slice_cmp nat_cmp) nat_list_cmp_total name_same numbers name number)
 
   -- a layer comes, under a number
-  pub catalog_comes : (new : Layer) (number : ℕ) (e : Entry) → All (λ f. f.name ≢ name) entries → e ≡ record { number = number; name = name; kind = kind_of new }
+  pub catalog_comes : (new : Layer) (number : ℕ) (e : Entry) → All (λ f. f.name ≢ name) entries
+      → e ≡ record { number = number; name = name; kind = kind_of new }
       → IsCatalogOf (with_layer layers name (Some new)) (with_number numbers name number (Some new)) (with_entry e entries)
   catalog_comes new number e others is =
       let after = with_layer layers name (Some new) in
@@ -340,7 +370,8 @@ module _ (layers : Map) (numbers : Numbering) (entries : List Entry) (c : IsCata
       (with_members e entries (entry_of numbered (b, l))).1 (inl (sym pair)))
       (λ d.
       let was = entry_there layers numbers entries c b l (sym (got_there layers name (Some new) b d) ∙ at) in
-      (with_members e entries (entry_of numbered (b, l))).1 (inr (subst (Contains entries) (same_entry numbers numbered b l (sym (number_there number (Some new) b d))) was)))
+      (with_members e entries (entry_of numbered (b, l))).1
+      (inr (subst (Contains entries) (same_entry numbers numbered b l (sym (number_there number (Some new) b d))) was)))
       (which b))
       (λ f there. ⊎_elim
       (λ same.
@@ -379,14 +410,16 @@ module _ (layers : Map) (numbers : Numbering) (entries : List Entry) (c : IsCata
   catalog_stays old new number was kinds_same num =
       let after = with_layer layers name (Some new) in
       let numbered = with_number numbers name number (Some new) in
-      let here : entry_of numbers (name, old) ≡ entry_of numbered (name, new) = λ i. record { number = (num ∙ sym (number_here number new)) i; name = name; kind = kinds_same i } in
+      let here : entry_of numbers (name, old) ≡ entry_of numbered (name, new) =
+      λ i. record { number = (num ∙ sym (number_here number new)) i; name = name; kind = kinds_same i } in
       catalog_from after numbered entries (catalog_rises layers numbers entries c)
       (λ b l at. ⊎_elim
       (λ same.
       let value : new ≡ l = some_same new l (sym (got_here layers name (Some new)) ∙ ap (finmap.get after) (sym same) ∙ at) in
       let pair : entry_of numbered (name, new) ≡ entry_of numbered (b, l) = λ i. entry_of numbered (sym same i, value i) in
       subst (Contains entries) (here ∙ pair) (entry_there layers numbers entries c name old was))
-      (λ d. subst (Contains entries) (same_entry numbers numbered b l (sym (number_there number (Some new) b d))) (entry_there layers numbers entries c b l (sym (got_there layers name (Some new) b d) ∙ at)))
+      (λ d. subst (Contains entries) (same_entry numbers numbered b l (sym (number_there number (Some new) b d)))
+      (entry_there layers numbers entries c b l (sym (got_there layers name (Some new) b d) ∙ at)))
       (which b))
       (λ f there.
       let l = layer_there layers numbers entries c f there in
@@ -395,7 +428,12 @@ module _ (layers : Map) (numbers : Numbering) (entries : List Entry) (c : IsCata
       let value : l.0 ≡ old = some_same l.0 old (sym l.1 ∙ ap (finmap.get layers) same ∙ was) in
       let is : entry_of numbers (f.name, l.0) ≡ entry_of numbers (name, old) = λ i. entry_of numbers (same i, value i) in
       (new, ap (finmap.get after) same ∙ got_here layers name (Some new), l.2 ∙ is ∙ here ∙ (λ i. entry_of numbered (sym same i, new))))
-      (λ d. (l.0, got_there layers name (Some new) f.name d ∙ l.1, l.2 ∙ same_entry numbers numbered f.name l.0 (sym (number_there number (Some new) f.name d))))
+      (λ d. (
+        l.0,
+        got_there layers name (Some new) f.name d ∙ l.1,
+        l.2
+            ∙ same_entry numbers numbered f.name l.0 (sym (number_there number (Some new) f.name d)),
+      ))
       (which f.name))
 
 -- no name is before itself

@@ -1,5 +1,6 @@
 -- What a change of the work leaves of the state.
-use Rattle.std.proofs.Common.{◌≡◌, ◌⊎◌, inl, inr, ⊎_elim, ℕ, ◌+◌, ◌-◌, ◌*◌, ◌≤◌, min, nat_lt, true, false, List, length, Option, Some, refl, sym, ◌∙◌, ap, subst, arith}
+use Rattle.std.proofs.Common.{◌≡◌, ◌⊎◌, inl, inr, ⊎_elim, ℕ, ◌+◌, ◌-◌, ◌*◌, ◌≤◌, min, nat_lt, true, false, List, length, Option, Some, refl, sym, ◌∙◌, ap}
+use Rattle.std.proofs.Common.{subst, arith}
 use Rattle.std.proofs.lemmas.Bool.{ltb-true, ltb-false, cases_lt}
 use Rattle.std.proofs.Math.Nat.{min-eq_left, min-eq_right, min-le_right}
 use Rattle.quilt_types.specs.Facts.{quota, records, changes}
@@ -40,12 +41,14 @@ counted_twice c r a x y p q =
     (λ less. let x_is : x ≡ c + r = p ∙ min-eq_left {n = c + r} {m = last_count} less in q ∙ ap (λ k. min (k + a) last_count) x_is)
     (cases_lt last_count (c + r))
 
-few_of : (old new changes gone come count : ℕ) → (old ≤ 9 * changes) ⊎ (changes ≡ last_count) → new ≤ old + 7 * gone + 6 * come → count ≡ min (changes + gone + come) last_count
+few_of : (old new changes gone come count : ℕ) → (old ≤ 9 * changes) ⊎ (changes ≡ last_count) → new ≤ old + 7 * gone + 6 * come
+    → count ≡ min (changes + gone + come) last_count
     → (new ≤ 9 * count) ⊎ (count ≡ last_count)
 few_of old new changes gone come count few more is =
     ⊎_elim
     (λ past. inr (is ∙ min-eq_right {n = last_count} {m = changes + gone + come} (omega arith)))
-    (λ less. let c : count ≡ changes + gone + come = is ∙ min-eq_left {n = changes + gone + come} {m = last_count} less in ⊎_elim (λ f. inl (omega arith)) (λ e. inr (omega arith)) few)
+    (λ less. let c : count ≡ changes + gone + come = is ∙ min-eq_left {n = changes + gone + come} {m = last_count} less in
+    ⊎_elim (λ f. inl (omega arith)) (λ e. inr (omega arith)) few)
     (cases_lt last_count (changes + gone + come))
 
 module _ {W : Type 0} {D : disk.Ghosts W} where
@@ -69,9 +72,11 @@ module _ {W : Type 0} {D : disk.Ghosts W} where
         (subst (λ n. SpellsUnder session.book.work.format n at.work.numbers at.work.records s.work) (sym same_level) at.work.spelled)
 
     pub at_whole : IsWhole (told_of session.book) (free_of session.book) session.book.journal.pages (tree_in session.book.work) at.work.records
-    at_whole = subst (λ (o : Option Pages). IsWhole o (free_of session.book) session.book.journal.pages (tree_in session.book.work) at.work.records) (sym at.pages_told) at.work.whole
+    at_whole = subst (λ (o : Option Pages). IsWhole o (free_of session.book) session.book.journal.pages (tree_in session.book.work) at.work.records)
+        (sym at.pages_told) at.work.whole
 
-    module _ (name : List ℕ) (number : ℕ) (layer : Option Layer) (removed added : List Record) (plan : IsPlan s at.work.numbers name number layer removed added) where
+    module _ (name : List ℕ) (number : ℕ) (layer : Option Layer) (removed added : List Record)
+        (plan : IsPlan s at.work.numbers name number layer removed added) where
       pub there : has_each (keys_of removed) at.work.records ≡ true
       there = plan_there s.last.format s.last.level at.work.numbers at.work.records s.work at_most at_spelled name number layer removed added plan.step
 
@@ -79,7 +84,8 @@ module _ {W : Type 0} {D : disk.Ghosts W} where
       new = plan_new s.last.format s.last.level at.work.numbers at.work.records s.work at_most at_spelled name number layer removed added plan.step
 
       pub stepped : IsStepped s.last.format s.last.level s.work at.work.numbers at.work.records name number layer removed added
-      stepped = plan_stepped s.last.format s.last.level at.work.numbers at.work.records s.work at_most at_spelled name number layer removed added plan.step plan.some
+      stepped =
+          plan_stepped s.last.format s.last.level at.work.numbers at.work.records s.work at_most at_spelled name number layer removed added plan.step plan.some
 
       pub counted : records s.last.level (with_layer s.work name layer) + length removed ≡ session.book.work.records + length added
       counted = let q = stepped.quota in let w = at.work.whole.number in omega arith
@@ -99,13 +105,21 @@ module _ {W : Type 0} {D : disk.Ghosts W} where
       is_within pages held size is over = let q = at.quota in let c = counted in let o = ltb-false _ _ over in omega arith
 
       -- the work has the layer
-      pub has_layer : (b : Book W D) (count : ℕ) (entries : List Entry) → IsCatalogOf (with_layer s.work name layer) (with_number at.work.numbers name number layer) entries
+      pub has_layer : (b : Book W D) (count : ℕ) (entries : List Entry)
+          → IsCatalogOf (with_layer s.work name layer) (with_number at.work.numbers name number layer) entries
           → books.GoesOn session.book b → books.published_free b ≡ books.published_free session.book → IsLawful (D.size b.world) (D.told b.world)
           → IsWhole (told_of b) (free_of b) session.book.journal.pages (tree_in b.work) (put_all added (without_all (keys_of removed) at.work.records))
           → SameButTree session.book.work b.work → changed_of b ≤ changed_of session.book + 7 * length removed + 6 * length added
           → count ≡ min (session.changes + length removed + length added) last_count
           → records s.last.level (with_layer s.work name layer) ≤ s.quota
-          → HasLayer session (record { book = b; catalog = session.catalog; last = session.last; changes = count; warm = session.warm; alloc = session.alloc }) s name layer entries
+          → HasLayer session (record {
+            book = b;
+            catalog = session.catalog;
+            last = session.last;
+            changes = count;
+            warm = session.warm;
+            alloc = session.alloc;
+          }) s name layer entries
       has_layer b count entries catalog goes used law whole head changed counts within =
           let a = session.book in
           let size = goes.0 in
@@ -115,10 +129,14 @@ module _ {W : Type 0} {D : disk.Ghosts W} where
           let format : b.work.format ≡ a.work.format = head.format in
           let level : b.work.level ≡ a.work.level = head.level in
           let list = plan_list s.last.format s.last.level at.work.numbers at.work.records s.work at_most at_spelled name number layer removed added plan.step in
-          let spelled : SpellsUnder b.work.format b.work.level (with_number at.work.numbers name number layer) (put_all added (without_all (keys_of removed) at.work.records)) (with_layer s.work name layer) =
-          subst (λ (l : List Record). SpellsUnder b.work.format b.work.level (with_number at.work.numbers name number layer) l (with_layer s.work name layer)) (sym list)
-          (subst (λ f. SpellsUnder f b.work.level (with_number at.work.numbers name number layer) (given (taken at.work.records removed) added) (with_layer s.work name layer)) (same_format ∙ sym format)
-          (subst (λ n. SpellsUnder s.last.format n (with_number at.work.numbers name number layer) (given (taken at.work.records removed) added) (with_layer s.work name layer)) (same_level ∙ sym level)
+          let spelled : SpellsUnder b.work.format b.work.level (with_number at.work.numbers name number layer)
+          (put_all added (without_all (keys_of removed) at.work.records)) (with_layer s.work name layer) =
+          subst (λ (l : List Record). SpellsUnder b.work.format b.work.level (with_number at.work.numbers name number layer) l
+          (with_layer s.work name layer)) (sym list)
+          (subst (λ f. SpellsUnder f b.work.level (with_number at.work.numbers name number layer) (given (taken at.work.records removed) added)
+          (with_layer s.work name layer)) (same_format ∙ sym format)
+          (subst (λ n. SpellsUnder s.last.format n (with_number at.work.numbers name number layer) (given (taken at.work.records removed) added)
+          (with_layer s.work name layer)) (same_level ∙ sym level)
           stepped.spelled)) in
           let tree = whole.tree in
           record {
@@ -127,15 +145,18 @@ module _ {W : Type 0} {D : disk.Ghosts W} where
               told = tale.1;
               lawful = lawful;
               ready = ready;
-              last = published_as a b at.tale tale.0 session.last s.last size goes.2 used (published_on a b at.tale tale.0 at.told tale.1 at.ready ready at.lawful lawful size tale.2) at.last;
+              last = published_as a b at.tale tale.0 session.last s.last size goes.2 used
+                  (published_on a b at.tale tale.0 at.told tale.1 at.ready ready at.lawful lawful size tale.2) at.last;
               pages = tree.pages;
               pages_told = tree.is_told;
               work = record {
                 numbers = with_number at.work.numbers name number layer;
                 records = put_all added (without_all (keys_of removed) at.work.records);
                 whole =
-                    subst (λ i. IsWhole (Some tree.pages) (free_of b) i (tree_in b.work) (put_all added (without_all (keys_of removed) at.work.records))) (sym size)
-                    (subst (λ (o : Option Pages). IsWhole o (free_of b) a.journal.pages (tree_in b.work) (put_all added (without_all (keys_of removed) at.work.records))) tree.is_told whole);
+                    subst (λ i. IsWhole (Some tree.pages) (free_of b) i (tree_in b.work)
+                    (put_all added (without_all (keys_of removed) at.work.records))) (sym size)
+                    (subst (λ (o : Option Pages). IsWhole o (free_of b) a.journal.pages (tree_in b.work)
+                    (put_all added (without_all (keys_of removed) at.work.records))) tree.is_told whole);
                 spelled = spelled;
                 catalog = catalog;
               };

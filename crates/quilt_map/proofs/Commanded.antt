@@ -1,5 +1,6 @@
 -- What the contracts of commands say of all commands.
-use Rattle.std.proofs.Common.{◌≡◌, inl, ℕ, ◌+◌, ◌*◌, true, false, List, [], ◌∷◌, Option, Some, None, is_some, Result, Ok, Err, IfOk, IfErr, OnOk, refl, sym, ◌∙◌, ap, subst}
+use Rattle.std.proofs.Common.{◌≡◌, inl, ℕ, ◌+◌, ◌*◌, true, false, List, [], ◌∷◌, Option, Some, None, is_some, Result, Ok, Err, IfOk, IfErr, OnOk, refl, sym}
+use Rattle.std.proofs.Common.{◌∙◌, ap, subst}
 use Rattle.std.specs.List.{list_all}
 use Rattle.std.proofs.lemmas.Bool.{and_parts}
 use Rattle.quilt_types.specs.declared.plane.Pixel.{Pixel}
@@ -60,7 +61,8 @@ only_pages : (added : List Event) → Only is_write added → Only is_of_pages a
 only_pages [] only = refl
 only_pages (e ∷ es) only = let parts = and_parts (is_write e) (list_all is_write es) only in rw (write_of_pages e parts.0) (only_pages es parts.1)
 
-damaged_of : {T : Type 0} (At : State → Type 0) (r : Result T Stop) → IfErr r (λ e. (s : State) → At s → IsSound e) → IfErr r (λ stop. (page : ℕ) → stop ≡ stops.Damaged page → (s : State) → At s → ⊥)
+damaged_of : {T : Type 0} (At : State → Type 0) (r : Result T Stop) → IfErr r (λ e. (s : State) → At s → IsSound e)
+    → IfErr r (λ stop. (page : ℕ) → stop ≡ stops.Damaged page → (s : State) → At s → ⊥)
 damaged_of At (Ok x) h = tt
 damaged_of At (Err e) h = λ page is s at. h s at page is
 
@@ -88,7 +90,8 @@ module _ {W : Type 0} {D : disk.Ghosts W} where
       let format = old.book.work.format in
       subst (IsFitting format old.book.last.level) is (spelled_fits format old.book.last.level command old.book.next.format.0 old.book.next.format.1 spelled)
 
-  pub fitting_of : (old : Session W D) (command other : Command) (s : State) → Spelled old.book.work.format old.book.last.level command → command ≡ other → IsAtState old s → IsFitting s.last.format s.last.level other
+  pub fitting_of : (old : Session W D) (command other : Command) (s : State) → Spelled old.book.work.format old.book.last.level command
+      → command ≡ other → IsAtState old s → IsFitting s.last.format s.last.level other
   fitting_of old command other s spelled is at =
       subst (λ (f : ℕ). IsFitting f s.last.level other) (format_is old s at)
       (subst (λ (n : ℕ). IsFitting old.book.work.format n other) (sym at.last.head.level) (fitting_here old command other spelled is))
@@ -97,11 +100,13 @@ module _ {W : Type 0} {D : disk.Ghosts W} where
     abbrev Says : Reply → Type 0
     Says reply = (s : State) → IsAtState old s → Answered s other old new reply
 
-    answer_of : (r : Result Reply Stop) → IfOk r Says → IfOk r (λ reply. (s : State) → IsAtState old s → Tells reply (answer s command).reply × IsAtState new (after s command))
+    answer_of : (r : Result Reply Stop) → IfOk r Says
+        → IfOk r (λ reply. (s : State) → IsAtState old s → Tells reply (answer s command).reply × IsAtState new (after s command))
     answer_of (Err e) h = tt
     answer_of (Ok reply) h = λ s at. let a = subst (λ (x : Command). Answered s x old new reply) same (h s at) in (a.tells, a.at)
 
-    changes_are : (r : Result Reply Stop) → IfOk r Says → IfOk r (λ reply. (s : State) → IsAtState old s → changes_of new ≡ changes_after s command (changes_of old))
+    changes_are : (r : Result Reply Stop) → IfOk r Says
+        → IfOk r (λ reply. (s : State) → IsAtState old s → changes_of new ≡ changes_after s command (changes_of old))
     unfolding changes_of
     changes_are (Err e) h = tt
     changes_are (Ok reply) h = λ s at. let a = subst (λ (x : Command). Answered s x old new reply) same (h s at) in a.count
@@ -127,9 +132,11 @@ module _ {W : Type 0} {D : disk.Ghosts W} where
 
     input_on : Goes (λ old new. new.input ≡ old.input) (D.told (world_of old)) (D.told (world_of new))
     unfolding world_of
-    input_on = goes_map (IsLater old.book.journal.pages) (λ t u. u.input ≡ t.input) (D.told old.book.world) (D.told new.book.world) (λ t u is l. l.tries.input) goes.4
+    input_on =
+        goes_map (IsLater old.book.journal.pages) (λ t u. u.input ≡ t.input) (D.told old.book.world) (D.told new.book.world) (λ t u is l. l.tries.input) goes.4
 
-    leaves_from : (command : Command) (s : State) → IsAtState old s → (t u : Tale) → D.told old.book.world ≡ Some t → IsLater old.book.journal.pages t u → Leaves s command t u
+    leaves_from : (command : Command) (s : State) → IsAtState old s → (t u : Tale) → D.told old.book.world ≡ Some t
+        → IsLater old.book.journal.pages t u → Leaves s command t u
     leaves_from command s at t u told later =
         let n = old.book.journal.pages in
         let same : at.tale ≡ t = let e : Some at.tale ≡ Some t = sym at.told ∙ told in cc in
@@ -144,9 +151,11 @@ module _ {W : Type 0} {D : disk.Ghosts W} where
 
     leaves_on : (command : Command) (s : State) → IsAtState old s → Goes (Leaves s command) (D.told (world_of old)) (D.told (world_of new))
     unfolding world_of
-    leaves_on command s at = goes_map (IsLater old.book.journal.pages) (Leaves s command) (D.told old.book.world) (D.told new.book.world) (λ t u is l. leaves_from command s at t u is l) goes.4
+    leaves_on command s at = goes_map (IsLater old.book.journal.pages) (Leaves s command) (D.told old.book.world) (D.told new.book.world)
+        (λ t u is l. leaves_from command s at t u is l) goes.4
 
-    few_on : (command : Command) → gives_edition command ≡ false → (s : State) → Goes (WritesFew s command (changes_of old)) (D.told (world_of old)) (D.told (world_of new))
+    few_on : (command : Command) → gives_edition command ≡ false → (s : State)
+        → Goes (WritesFew s command (changes_of old)) (D.told (world_of old)) (D.told (world_of new))
     unfolding world_of changes_of
     few_on command quiet s =
         goes_map (IsLater old.book.journal.pages) (WritesFew s command old.changes) (D.told old.book.world) (D.told new.book.world)
@@ -157,7 +166,8 @@ abbrev pub WritesPages : Option Tale → Option Tale → Type 0
 WritesPages a b = Goes (λ old new. (most : ℕ) × Writing most old new) a b
 
 writing_events : (a b : Option Tale) → WritesPages a b → Goes (AddsOnly is_of_pages) a b
-writing_events a b w = goes_map (λ old new. (most : ℕ) × Writing most old new) (AddsOnly is_of_pages) a b (λ t u is x. record { file = x.1.file; events = x.1.added; log = x.1.log; only = x.1.only }) w
+writing_events a b w = goes_map (λ old new. (most : ℕ) × Writing most old new) (AddsOnly is_of_pages) a b
+    (λ t u is x. record { file = x.1.file; events = x.1.added; log = x.1.log; only = x.1.only }) w
 
 writing_input : (a b : Option Tale) → WritesPages a b → Goes (λ old new. new.input ≡ old.input) a b
 writing_input a b w = goes_map (λ old new. (most : ℕ) × Writing most old new) (λ t u. u.input ≡ t.input) a b (λ t u is x. x.1.input) w
@@ -174,7 +184,8 @@ sound_at At (Ok x) h = tt
 sound_at At (Err e) h = λ s at. h
 
 module _ {W : Type 0} {D : disk.Ghosts W} (old new : Session W D) (command other : Command) (same : other ≡ command) (r : Result Reply Stop)
-    (answers : IfOk r (λ reply. (s : State) → IsAtState old s → Answered s other old new reply)) (sound : IfErr r (λ e. (s : State) → IsAtState old s → IsSound e))
+    (answers : IfOk r (λ reply. (s : State) → IsAtState old s → Answered s other old new reply))
+    (sound : IfErr r (λ e. (s : State) → IsAtState old s → IsSound e))
     (cause : HasStopCause (D.faults old.book.world) (D.faults new.book.world) r)
     (reads : (s : State) → IsAtState old s → IsPromised s command r → ReadsFew s command (reads_in old.book) (reads_in new.book)) where
   -- a command that gives no edition
@@ -197,9 +208,11 @@ module _ {W : Type 0} {D : disk.Ghosts W} (old new : Session W D) (command other
   }
 
   -- and one that may give one
-  pub applied_giving : OnOk r (new.book.last.level ≡ old.book.last.level) → D.door new.book.world ≡ D.door old.book.world → WritesPages (D.told old.book.world) (D.told new.book.world)
+  pub applied_giving : OnOk r (new.book.last.level ≡ old.book.last.level) → D.door new.book.world ≡ D.door old.book.world
+      → WritesPages (D.told old.book.world) (D.told new.book.world)
       → ((s : State) → IsAtState old s → Goes (Leaves s other) (D.told old.book.world) (D.told new.book.world))
-      → ((s : State) → IsAtState old s → Goes (Writing (18 * old.changes + 8)) (D.told old.book.world) (D.told new.book.world)) → IsAppliedBy IsAtState command old new r
+      → ((s : State) → IsAtState old s → Goes (Writing (18 * old.changes + 8)) (D.told old.book.world) (D.told new.book.world))
+      → IsAppliedBy IsAtState command old new r
   unfolding world_of level_of changes_of reads_of
   applied_giving level door events crash writes = record {
     answer = answer_of old new command other same r answers;
@@ -220,7 +233,8 @@ module _ {W : Type 0} {D : disk.Ghosts W} (old new : Session W D) (command other
 -- another last pixel leaves what was promised
 module _ {W : Type 0} {D : disk.Ghosts W} (old new : Session W D) where
   pub applied_forgets : (w : Option (List ℕ × Pixel)) (command : Command) (r : Result Reply Stop) → IsAppliedBy IsAtState command old new r
-      → IsAppliedBy IsAtState command old (record { book = new.book; catalog = new.catalog; last = new.last; changes = new.changes; warm = w; alloc = new.alloc }) r
+      → IsAppliedBy IsAtState command old
+      (record { book = new.book; catalog = new.catalog; last = new.last; changes = new.changes; warm = w; alloc = new.alloc }) r
   unfolding world_of level_of changes_of reads_of
   applied_forgets w command r h = record {
     answer = if_ok _ _ r (λ reply p s at. let a = p s at in (a.0, warm_at {D = D} new w (after s command) a.1)) h.answer;

@@ -1,6 +1,7 @@
 -- Layers of any kind that are dropped or copied.
 use Rattle.std.specs.Prelude.{unwrap_or, is_none}
-use Rattle.std.proofs.Common.{◌≡◌, ◌≢◌, ℕ, ◌+◌, ◌<◌, ◌≤◌, min, Bool, true, false, List, [], ◌∷◌, length, map, All, Option, Some, None, slice_index_or, refl, sym, ◌∙◌, ap, subst, arith}
+use Rattle.std.proofs.Common.{◌≡◌, ◌≢◌, ℕ, ◌+◌, ◌<◌, ◌≤◌, min, Bool, true, false, List, [], ◌∷◌, length, map, All, Option, Some, None, slice_index_or, refl}
+use Rattle.std.proofs.Common.{sym, ◌∙◌, ap, subst, arith}
 use Rattle.std.specs.List.{remove}
 use Rattle.std.specs.FinMap as finmap
 use Rattle.quilt_types.specs.Facts.{changes}
@@ -61,16 +62,20 @@ pub copy_unknown : (s : State) (a b : List ℕ) → finmap.get s.work a ≡ None
 unfolding answer
 copy_unknown s a b e = ap (copy_with s b) e
 
-copy_tests : (s : State) (a b : List ℕ) (l : Layer) → finmap.get s.work a ≡ Some l → answer s (commands.Copy a b) ≡ unless (exists s b ∷ too_many s ∷ full s (with s b l) ∷ []) s (changed (with s b l))
+copy_tests : (s : State) (a b : List ℕ) (l : Layer) → finmap.get s.work a ≡ Some l
+    → answer s (commands.Copy a b) ≡ unless (exists s b ∷ too_many s ∷ full s (with s b l) ∷ []) s (changed (with s b l))
 unfolding answer
 copy_tests s a b l e = ap (copy_with s b) e
 
-pub copy_refused : (s : State) (a b : List ℕ) (l : Layer) (code : Code) → finmap.get s.work a ≡ Some l → ((rs : List (Bool × Code)) (done : Outcome) → unless (exists s b ∷ too_many s ∷ rs) s done ≡ nothing_done s (Refused code))
+pub copy_refused : (s : State) (a b : List ℕ) (l : Layer) (code : Code) → finmap.get s.work a ≡ Some l
+    → ((rs : List (Bool × Code)) (done : Outcome) → unless (exists s b ∷ too_many s ∷ rs) s done ≡ nothing_done s (Refused code))
     → answer s (commands.Copy a b) ≡ nothing_done s (Refused code)
 copy_refused s a b l code e refuses = copy_tests s a b l e ∙ refuses (full s (with s b l) ∷ []) (changed (with s b l))
 
-copy_gives : (s : State) (a b : List ℕ) (l : Layer) → finmap.get s.work a ≡ Some l → (exists s b).0 ≡ false → (too_many s).0 ≡ false → answer s (commands.Copy a b) ≡ placed s b l
-copy_gives s a b l e new few = copy_tests s a b l e ∙ (λ i. unless ((new i, no.Exists) ∷ (few i, no.Layers) ∷ full s (with s b l) ∷ []) s (changed (with s b l)))
+copy_gives : (s : State) (a b : List ℕ) (l : Layer) → finmap.get s.work a ≡ Some l → (exists s b).0 ≡ false → (too_many s).0 ≡ false
+    → answer s (commands.Copy a b) ≡ placed s b l
+copy_gives s a b l e new few =
+    copy_tests s a b l e ∙ (λ i. unless ((new i, no.Exists) ∷ (few i, no.Layers) ∷ full s (with s b l) ∷ []) s (changed (with s b l)))
 
 none_published : (b : Bool) (s : State) (work : Map) → (unless ((b, no.Full) ∷ []) s (changed work)).published ≡ None
 none_published true s work = refl
@@ -79,13 +84,16 @@ none_published false s work = refl
 -- ---- the entry of the layer
 
 -- what was read of it, with the same name
-pub entry_is : (layers : Map) (numbers : Numbering) (entries again : List Entry) (name : List ℕ) (i : ℕ) (found : IsLayerAt layers numbers entries name i) → again ≡ entries
-    → (x : Entry) → x ≡ slice_index_or again i x → (b : List ℕ) → b ≡ name → record { number = x.number; name = b; kind = x.kind } ≡ entry_of numbers (name, found.layer)
+pub entry_is : (layers : Map) (numbers : Numbering) (entries again : List Entry) (name : List ℕ) (i : ℕ)
+    (found : IsLayerAt layers numbers entries name i) → again ≡ entries
+    → (x : Entry) → x ≡ slice_index_or again i x → (b : List ℕ) → b ≡ name
+    → record { number = x.number; name = b; kind = x.kind } ≡ entry_of numbers (name, found.layer)
 entry_is layers numbers entries again name i found same x is b named =
     let p : x ≡ entry_of numbers (name, found.layer) = is ∙ ap (λ (l : List Entry). slice_index_or l i x) same ∙ found.entry x in
     λ j. record { number = (p j).number; name = named j; kind = (p j).kind }
 
-pub entry_goes : (layers : Map) (numbers : Numbering) (entries : List Entry) (name : List ℕ) (number i : ℕ) → IsCatalogOf layers numbers entries → IsLayerAt layers numbers entries name i
+pub entry_goes : (layers : Map) (numbers : Numbering) (entries : List Entry) (name : List ℕ) (number i : ℕ) → IsCatalogOf layers numbers entries
+    → IsLayerAt layers numbers entries name i
     → IsCatalogOf (with_layer layers name None) (with_number numbers name number None) (remove entries i)
 entry_goes layers numbers entries name number i catalog found =
     catalog_goes layers numbers entries catalog name number i some_entry found.inside (ap (λ (e : Entry). e.name) (found.entry some_entry))
@@ -108,7 +116,8 @@ module _ {W : Type 0} {D : disk.Ghosts W} where
     records_fit = let n = at.work.whole.number in let most = session.book.next.records in let pages = session.book.most in omega arith
 
     -- the number of a layer's entry
-    pub number_least : (name : List ℕ) (layer : Layer) → finmap.get s.work name ≡ Some layer → (e : Entry) → e ≡ entry_of at.work.numbers (name, layer) → 1 ≤ e.number
+    pub number_least : (name : List ℕ) (layer : Layer) → finmap.get s.work name ≡ Some layer → (e : Entry)
+        → e ≡ entry_of at.work.numbers (name, layer) → 1 ≤ e.number
     number_least name layer got e is =
         let least = (numbers_law s.last.format s.last.level at.work.numbers at.work.records s.work name layer (at_spelled session s at) got).0 in
         let same = ap (λ (x : Entry). x.number) is in
@@ -119,20 +128,25 @@ module _ {W : Type 0} {D : disk.Ghosts W} where
         → (all given : List Record) → given ≡ all → IsListed e (records_of e.number at.work.records) all → IsPlan s at.work.numbers name e.number None given []
     drop_plan name layer got e is all given same listed =
         subst (λ (l : List Record). IsPlan s at.work.numbers name e.number None l []) (sym same)
-        (subst (λ (x : Entry). IsListed x (records_of x.number at.work.records) all → IsPlan s at.work.numbers name x.number None all []) (sym is) by_law listed)
+        (subst (λ (x : Entry). IsListed x (records_of x.number at.work.records) all → IsPlan s at.work.numbers name x.number None all [])
+        (sym is) by_law listed)
       where
         number : ℕ
         number = number_of at.work.numbers name
 
-        by_law : IsListed (entry_of at.work.numbers (name, layer)) (records_of (number_of at.work.numbers name) at.work.records) all → IsPlan s at.work.numbers name (number_of at.work.numbers name) None all []
+        by_law : IsListed (entry_of at.work.numbers (name, layer)) (records_of (number_of at.work.numbers name) at.work.records) all
+            → IsPlan s at.work.numbers name (number_of at.work.numbers name) None all []
         by_law l =
-            let plan = drops_law s.last.format s.last.level at.work.numbers at.work.records s.work name layer 4294967295 l.0 (at_most session s at) (at_spelled session s at) got records_fit l.2 in
+            let plan = drops_law s.last.format s.last.level at.work.numbers at.work.records s.work name layer 4294967295 l.0 (at_most session s at)
+            (at_spelled session s at) got records_fit l.2 in
             subst (λ (r : List Record). IsPlan s at.work.numbers name (number_of at.work.numbers name) None r []) (sym l.1) (record {
               step = record {
                 fits = tt;
                 kept = subst (λ (o : Option Layer). IsKept o None) (sym got) tt;
                 placed = subst (λ (o : Option Layer). IsPlaced s.work at.work.numbers name (number_of at.work.numbers name) o) (sym got) refl;
-                leads = subst (λ (o : Option Layer). LeadsTo s.last.level name (number_of at.work.numbers name) o None (l.0 ∷ records_of (number_of at.work.numbers name) at.work.records) []) (sym got) plan.leads;
+                leads =
+                    subst (λ (o : Option Layer). LeadsTo s.last.level name (number_of at.work.numbers name) o None
+                    (l.0 ∷ records_of (number_of at.work.numbers name) at.work.records) []) (sym got) plan.leads;
               };
               some = λ gone none. some_none layer (sym got ∙ gone);
               removed_ascend = plan.removed_ascend;
@@ -140,7 +154,8 @@ module _ {W : Type 0} {D : disk.Ghosts W} where
             })
 
     -- a map with fewer records is within its quota
-    pub never_full : (new : Session W D) (name : List ℕ) (number : ℕ) (gone : List Record) → IsPlan s at.work.numbers name number None gone [] → IsFull session new s name None → ⊥
+    pub never_full : (new : Session W D) (name : List ℕ) (number : ℕ) (gone : List Record) → IsPlan s at.work.numbers name number None gone []
+        → IsFull session new s name None → ⊥
     never_full new name number gone plan is =
         let c = counted session s at name number None gone [] plan in
         let q = at.quota in
@@ -149,30 +164,38 @@ module _ {W : Type 0} {D : disk.Ghosts W} where
         omega arith
 
     -- the records of a layer come under the number of a new one
-    pub copy_plan : (name : List ℕ) (number : ℕ) (layer : Layer) → finmap.get s.work name ≡ Some layer → number ≡ number_of at.work.numbers name → (e : Entry) → e.kind ≡ kind_of layer
+    pub copy_plan : (name : List ℕ) (number : ℕ) (layer : Layer) → finmap.get s.work name ≡ Some layer → number ≡ number_of at.work.numbers name
+        → (e : Entry) → e.kind ≡ kind_of layer
         → is_name e.name ≡ true → length session.catalog < 255 → All (λ f. f.name ≢ e.name) session.catalog → 1 ≤ e.number → e.number ≤ 255
         → ((other : List ℕ) → finmap.get at.work.numbers other ≢ Some e.number) → (all given : List Record) → given ≡ all
         → IsListed e (map (moved e.number) (records_of number at.work.records)) all → IsPlan s at.work.numbers e.name e.number (Some layer) [] given
     copy_plan name number layer got numbered e kind named few others least most free all given same listed =
         let rest : List Record = map (moved e.number) (records_of (number_of at.work.numbers name) at.work.records) in
         let is : given ≡ listed.0 ∷ rest = same ∙ listed.1 ∙ ap (λ (k : ℕ). listed.0 ∷ map (moved e.number) (records_of k at.work.records)) numbered in
-        let plan = copies_law s.last.format s.last.level at.work.numbers at.work.records s.work name layer 4294967295 e.name e.number listed.0 (at_most session s at) (at_spelled session s at) got records_fit least
+        let plan = copies_law s.last.format s.last.level at.work.numbers at.work.records s.work name layer 4294967295 e.name e.number listed.0
+        (at_most session s at) (at_spelled session s at) got records_fit least
         (λ n k. listed.2 n k ∙ ap (λ (x : Kind). record_of n k e.name e.number (kind_fact x)) kind) in
-        new_plan session s at e.name e.number layer given named few others least most free (layer_is s.last.format s.last.level s.work (at_spelled session s at).map name layer got)
+        new_plan session s at e.name e.number layer given named few others least most free
+        (layer_is s.last.format s.last.level s.work (at_spelled session s at).map name layer got)
         (subst (λ (l : List Record). regions.IsPlan s.last.level e.name e.number None (Some layer) [] l) (sym is) plan)
 
   -- the copy is placed, unless the quota refuses it
-  pub copy_answer : (old mid new : Session W D) (s : State) (a b : List ℕ) (l : Layer) (reply : replies.Reply) → finmap.get s.work a ≡ Some l → (exists s b).0 ≡ false → (too_many s).0 ≡ false
+  pub copy_answer : (old mid new : Session W D) (s : State) (a b : List ℕ) (l : Layer) (reply : replies.Reply) → finmap.get s.work a ≡ Some l
+      → (exists s b).0 ≡ false → (too_many s).0 ≡ false
       → mid.changes ≡ old.changes → AnsweredBy s (placed s b l) mid new reply → Answered s (commands.Copy a b) old new reply
   copy_answer old mid new s a b l reply got fresh few same by =
-      answered_by s (commands.Copy a b) (placed s b l) old new reply (copy_gives s a b l got fresh few) (none_published (full s (with s b l)).0 s (with s b l)) refl
+      answered_by s (commands.Copy a b) (placed s b l) old new reply (copy_gives s a b l got fresh few)
+      (none_published (full s (with s b l)).0 s (with s b l)) refl
       (answered_from old mid new s (placed s b l) reply same by)
 
   -- the layer is gone, with its catalog renewed
-  pub drop_answer : (old mid new : Session W D) (s : State) (name : List ℕ) (layer : Layer) (entries : List Entry) (text : List ℕ) → finmap.get s.work name ≡ Some layer
-      → HasLayer mid new s name None entries → mid.changes ≡ old.changes → text ≡ text_of (Done []) → Answered s (commands.Drop name) old (record new { catalog = entries }) (given.Ok text)
+  pub drop_answer : (old mid new : Session W D) (s : State) (name : List ℕ) (layer : Layer) (entries : List Entry) (text : List ℕ)
+      → finmap.get s.work name ≡ Some layer
+      → HasLayer mid new s name None entries → mid.changes ≡ old.changes → text ≡ text_of (Done [])
+      → Answered s (commands.Drop name) old (record new { catalog = entries }) (given.Ok text)
   drop_answer old mid new s name layer entries text got has same told =
-      answered_by s (commands.Drop name) (changed (finmap.remove s.work name)) old (record new { catalog = entries }) (given.Ok text) (drop_gives s name layer got) refl refl (record {
+      answered_by s (commands.Drop name) (changed (finmap.remove s.work name)) old (record new { catalog = entries }) (given.Ok text)
+      (drop_gives s name layer got) refl refl (record {
         tells = (told, refl);
         at = renewed has.at;
         count = has.count ∙ ap (λ k. min (k + changes s.last.level s.work (finmap.remove s.work name)) last_count) same;

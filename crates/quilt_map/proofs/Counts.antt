@@ -20,12 +20,15 @@ use Rattle.quilt_map.proofs.Answered.{IsBodyOf, level_is}
 use Rattle.quilt_map.proofs.HeldLayers.{layer_there, layer_number}
 
 -- what the definition answers
-blocks_done : (s : State) (a : List ℕ) (layer : Layer) → finmap.get s.work a ≡ Some layer → (answer s (commands.Blocks a)).reply ≡ Done (block_lines s.last.level (sides_of s.last.level layer))
+blocks_done : (s : State) (a : List ℕ) (layer : Layer) → finmap.get s.work a ≡ Some layer
+    → (answer s (commands.Blocks a)).reply ≡ Done (block_lines s.last.level (sides_of s.last.level layer))
 unfolding answer
 blocks_done s a layer got =
-    ap (λ (o : Option Layer). (unless ((is_none o, no.Unknown) ∷ []) s (answers.told s (block_lines s.last.level (unwrap_or (option_map (sides_of s.last.level) o) [])))).reply) got
+    ap (λ (o : Option Layer).
+    (unless ((is_none o, no.Unknown) ∷ []) s (answers.told s (block_lines s.last.level (unwrap_or (option_map (sides_of s.last.level) o) [])))).reply) got
 
-module _ {W : Type 0} {D : disk.Ghosts W} (old : Session W D) (s : State) (at : IsAtState old s) (name : List ℕ) (number : ℕ) (kind : Kind) (under : IsLayerUnder s.work at.work.numbers name number kind) where
+module _ {W : Type 0} {D : disk.Ghosts W} (old : Session W D) (s : State) (at : IsAtState old s) (name : List ℕ) (number : ℕ) (kind : Kind)
+    (under : IsLayerUnder s.work at.work.numbers name number kind) where
   pub under_there : HoldsLayer old.book number under.layer
   under_there = layer_there old s at name number under.layer under.got under.numbered
 
@@ -33,12 +36,15 @@ module _ {W : Type 0} {D : disk.Ghosts W} (old : Session W D) (s : State) (at : 
   under_number = layer_number old s at name number under.layer under.got under.numbered
 
   -- the text of the counts
-  pub blocks_body : (counts : List ℕ) (level : ℕ) → ((layer : Layer) → kind ≡ kind_of layer → HoldsLayer old.book number layer → HasCounts counts (sides_of old.book.work.level layer))
-      → level ≡ old.book.work.level → (t : List ℕ) → ((sides : List ℕ) → HasCounts counts sides → t ≡ text_of (Done (block_lines level sides))) → IsBodyOf ((answer s (commands.Blocks name)).reply) t
+  pub blocks_body : (counts : List ℕ) (level : ℕ)
+      → ((layer : Layer) → kind ≡ kind_of layer → HoldsLayer old.book number layer → HasCounts counts (sides_of old.book.work.level layer))
+      → level ≡ old.book.work.level → (t : List ℕ) → ((sides : List ℕ) → HasCounts counts sides → t ≡ text_of (Done (block_lines level sides)))
+      → IsBodyOf ((answer s (commands.Blocks name)).reply) t
   blocks_body counts level has same t written =
       let n = level_is old s at in
       let counted = subst (λ (m : ℕ). HasCounts counts (sides_of m under.layer)) n (has under.layer under.kinded under_there) in record {
         body = block_lines s.last.level (sides_of s.last.level under.layer);
         answered = blocks_done s name under.layer under.got;
-        written = written (sides_of s.last.level under.layer) counted ∙ ap (λ (m : ℕ). text_of (Done (block_lines m (sides_of s.last.level under.layer)))) (same ∙ n);
+        written =
+            written (sides_of s.last.level under.layer) counted ∙ ap (λ (m : ℕ). text_of (Done (block_lines m (sides_of s.last.level under.layer)))) (same ∙ n);
       }

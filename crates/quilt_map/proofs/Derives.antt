@@ -14,7 +14,8 @@ use Rattle.quilt_blocks.specs.Raster.{Raster}
 use Rattle.quilt_overlay.specs.Combining.{numbers_of}
 use Rattle.quilt_region.specs.Regions.{HasRegion}
 use Rattle.quilt_region.proofs.GridsFit.{fits_law}
-use Rattle.quilt_replies.specs.Answers.{State, Outcome, Refused, answer, unless, unknown, unless_region, exists, too_many, full, makes, changed, with, grid, grid_in}
+use Rattle.quilt_replies.specs.Answers.{State, Outcome, Refused, answer, unless, unknown, unless_region, exists, too_many, full, makes, changed, with, grid}
+use Rattle.quilt_replies.specs.Answers.{grid_in}
 use Rattle.quilt_map.specs.Asking.{IsRefusedFirst}
 use Rattle.quilt_map.specs.Commanding.{Answered}
 use Rattle.quilt_map.specs.Derivation.{layers_derived, derived, is_inside}
@@ -43,11 +44,14 @@ deriving_of s command name into =
 pair_of : {A : Type 0} (p q : A) → Some p ≡ Some q → p ≡ q
 pair_of p q e = cc
 
-derive_is : (s : State) (command : Command) (name into : List ℕ) → layers_derived command ≡ Some (name, into) → answer s command ≡ deriving_of s command name into
+derive_is : (s : State) (command : Command) (name into : List ℕ) → layers_derived command ≡ Some (name, into)
+    → answer s command ≡ deriving_of s command name into
 unfolding answer
-derive_is s (commands.Recolour a c pairs) name into is = ap (λ (p : List ℕ × List ℕ). deriving_of s (commands.Recolour a c pairs) p.0 p.1) (pair_of (a, c) (name, into) is)
+derive_is s (commands.Recolour a c pairs) name into is =
+    ap (λ (p : List ℕ × List ℕ). deriving_of s (commands.Recolour a c pairs) p.0 p.1) (pair_of (a, c) (name, into) is)
 derive_is s (commands.Window a w c) name into is = ap (λ (p : List ℕ × List ℕ). deriving_of s (commands.Window a w c) p.0 p.1) (pair_of (a, c) (name, into) is)
-derive_is s (commands.Shift a dx dy c) name into is = ap (λ (p : List ℕ × List ℕ). deriving_of s (commands.Shift a dx dy c) p.0 p.1) (pair_of (a, c) (name, into) is)
+derive_is s (commands.Shift a dx dy c) name into is =
+    ap (λ (p : List ℕ × List ℕ). deriving_of s (commands.Shift a dx dy c) p.0 p.1) (pair_of (a, c) (name, into) is)
 derive_is s (commands.Buffer a r c) name into is = ap (λ (p : List ℕ × List ℕ). deriving_of s (commands.Buffer a r c) p.0 p.1) (pair_of (a, c) (name, into) is)
 derive_is s command name into is = cc
 
@@ -62,18 +66,23 @@ module _ (s : State) (command : Command) (name into : List ℕ) (is : layers_der
   pub derive_refused : (code : Code) → IsRefusedFirst s name code → answer s command ≡ nothing_done s (Refused code)
   derive_refused code first =
       let work = with s into (Region (derived command s.last.level (grid s name))) in
-      derive_is s command name into is ∙ region_refused s name code first (exists s into ∷ too_many s ∷ (not (is_inside s.last.level command), no.Outside) ∷ full s work ∷ []) (changed work)
+      derive_is s command name into is
+      ∙ region_refused s name code first (exists s into ∷ too_many s ∷ (not (is_inside s.last.level command), no.Outside) ∷ full s work ∷ []) (changed work)
 
   module _ (g : Grid) (got : finmap.get s.work name ≡ Some (Region g)) where
     derive_tests : let work = with s into (Region (derived command s.last.level (grid s name))) in
         answer s command ≡ unless (exists s into ∷ too_many s ∷ (not (is_inside s.last.level command), no.Outside) ∷ full s work ∷ []) s (changed work)
     derive_tests =
         let work = with s into (Region (derived command s.last.level (grid s name))) in
-        derive_is s command name into is ∙ region_passes s name g (exists s into ∷ too_many s ∷ (not (is_inside s.last.level command), no.Outside) ∷ full s work ∷ []) (changed work) got
+        derive_is s command name into is
+        ∙ region_passes s name g (exists s into ∷ too_many s ∷ (not (is_inside s.last.level command), no.Outside) ∷ full s work ∷ []) (changed work) got
 
-    pub derive_taken : (code : Code) → ((rs : List (Bool × Code)) (done : Outcome) → unless (exists s into ∷ too_many s ∷ rs) s done ≡ refused s code) → answer s command ≡ nothing_done s (Refused code)
+    pub derive_taken : (code : Code)
+        → ((rs : List (Bool × Code)) (done : Outcome) → unless (exists s into ∷ too_many s ∷ rs) s done ≡ refused s code)
+        → answer s command ≡ nothing_done s (Refused code)
     derive_taken code h =
-        let work = with s into (Region (derived command s.last.level (grid s name))) in derive_tests ∙ h ((not (is_inside s.last.level command), no.Outside) ∷ full s work ∷ []) (changed work)
+        let work = with s into (Region (derived command s.last.level (grid s name))) in
+        derive_tests ∙ h ((not (is_inside s.last.level command), no.Outside) ∷ full s work ∷ []) (changed work)
 
     module _ (passes : ((exists s into).0 ≡ false) × ((too_many s).0 ≡ false)) where
       derive_new : let work = with s into (Region (derived command s.last.level (grid s name))) in
@@ -81,7 +90,8 @@ module _ (s : State) (command : Command) (name into : List ℕ) (is : layers_der
       derive_new =
           let work = with s into (Region (derived command s.last.level (grid s name))) in
           let rest : List (Bool × Code) = (not (is_inside s.last.level command), no.Outside) ∷ full s work ∷ [] in
-          derive_tests ∙ first_false (exists s into).0 no.Exists (too_many s ∷ rest) s (changed work) passes.0 ∙ first_false (too_many s).0 no.Layers rest s (changed work) passes.1
+          derive_tests ∙ first_false (exists s into).0 no.Exists (too_many s ∷ rest) s (changed work) passes.0
+          ∙ first_false (too_many s).0 no.Layers rest s (changed work) passes.1
 
       pub derive_outside : is_inside s.last.level command ≡ false → answer s command ≡ nothing_done s (Refused no.Outside)
       derive_outside out =
@@ -98,7 +108,8 @@ module _ (s : State) (command : Command) (name into : List ℕ) (is : layers_der
           → AnsweredBy {D = D} s (placed s into (Region (derived command s.last.level g))) old new reply → Answered {D = D} s command old new reply
       derive_answered {W} {D} old new reply inside by =
           let layer = Region (derived command s.last.level g) in
-          answered_by {D = D} s command (placed s into layer) old new reply (derive_done inside) (placed_none s into layer) (derive_forward command name into is) by
+          answered_by {D = D} s command (placed s into layer) old new reply (derive_done inside) (placed_none s into layer)
+          (derive_forward command name into is) by
 
 -- ---- the grid that is made
 
@@ -118,23 +129,28 @@ derived_fits f n command g fits is = is
 
 module _ {W : Type 0} {D : disk.Ghosts W} where
   -- the layer that was made is the one of this grid
-  pub made_answered : (old mid new : Session W D) (s : State) (into : List ℕ) (made : Raster) (h : Grid) (reply : Reply) → mid.changes ≡ old.changes → made ≡ record { level = s.last.level; grid = h }
+  pub made_answered : (old mid new : Session W D) (s : State) (into : List ℕ) (made : Raster) (h : Grid) (reply : Reply) → mid.changes ≡ old.changes
+      → made ≡ record { level = s.last.level; grid = h }
       → AnsweredBy s (placed s into (Region made.grid)) mid new reply → AnsweredBy s (placed s into (Region h)) old new reply
   made_answered old mid new s into made h reply same is by =
-      subst (λ (x : Grid). AnsweredBy s (placed s into (Region x)) old new reply) (ap (λ (l : Raster). l.grid) is) (answered_from old mid new s (placed s into (Region made.grid)) reply same by)
+      subst (λ (x : Grid). AnsweredBy s (placed s into (Region x)) old new reply) (ap (λ (l : Raster). l.grid) is)
+      (answered_from old mid new s (placed s into (Region made.grid)) reply same by)
 
   module _ (session : Session W D) (s : State) (at : IsAtState session s) where
     -- the list of the leaves of a layer
     pub list_of : (name : List ℕ) (number : ℕ) (g : Grid) → IsRegionIn s.work session.catalog name number g → (l : Raster)
-        → ((h : Grid) → HasRegion (told_of session.book) (tree_in session.book.work) number session.book.work.level h → l ≡ record { level = session.book.work.level; grid = h })
+        → ((h : Grid) → HasRegion (told_of session.book) (tree_in session.book.work) number session.book.work.level h
+        → l ≡ record { level = session.book.work.level; grid = h })
         → l ≡ record { level = s.last.level; grid = g }
-    list_of name number g is l list = list g (region_there {D = D} session s at name number g is) ∙ ap (λ (n : ℕ). record { level = n; grid = g }) (level_is {D = D} session s at)
+    list_of name number g is l list =
+        list g (region_there {D = D} session s at name number g is) ∙ ap (λ (n : ℕ). record { level = n; grid = g }) (level_is {D = D} session s at)
 
     -- its grid has the colours of the format
     pub grid_of_layer : (name : List ℕ) (number : ℕ) (g : Grid) → IsRegionIn s.work session.catalog name number g → IsGrid s.last.format s.last.level g
     grid_of_layer name number g is = layer_is s.last.format s.last.level s.work (at_spelled {D = D} session s at).map name (Region g) is.got
 
-    pub derived_grid : (command : Command) (name : List ℕ) (number : ℕ) (g : Grid) → IsRegionIn s.work session.catalog name number g → IsFitting s.last.format s.last.level command
+    pub derived_grid : (command : Command) (name : List ℕ) (number : ℕ) (g : Grid) → IsRegionIn s.work session.catalog name number g
+        → IsFitting s.last.format s.last.level command
         → IsGrid s.last.format s.last.level (derived command s.last.level g)
     derived_grid command name number g is fits = derived_fits s.last.format s.last.level command g fits (grid_of_layer name number g is)
 
@@ -145,6 +161,7 @@ pub made_fits : (f n : ℕ) (made : Raster) (h : Grid) → made ≡ record { lev
 made_fits f n made h is fits = subst (IsGrid f n) (sym (ap (λ (l : Raster). l.grid) is)) fits
 
 -- what is made of a list
-pub derived_as : (command : Command) (made l : Raster) (n : ℕ) (g : Grid) → made ≡ record { level = l.level; grid = derived command l.level l.grid } → l ≡ record { level = n; grid = g }
+pub derived_as : (command : Command) (made l : Raster) (n : ℕ) (g : Grid) → made ≡ record { level = l.level; grid = derived command l.level l.grid }
+    → l ≡ record { level = n; grid = g }
     → made ≡ record { level = n; grid = derived command n g }
 derived_as command made l n g is list = is ∙ ap (λ (x : Raster). record { level = x.level; grid = derived command x.level x.grid }) list

@@ -1,7 +1,8 @@
 -- A region layer of the pixels inside of rings, and what its command is answered.
 use Rattle.std.specs.Prelude.{is_none, unwrap_or}
 use Rattle.std.specs.List.{list_any}
-use Rattle.std.proofs.Common.{◌≡◌, ℕ, ◌+◌, ◌*◌, ◌^◌, ◌%◌, ◌<◌, ◌≤◌, Bool, true, false, ◌||◌, not, List, [], ◌∷◌, take, get_or, slice_get, Option, Some, None, refl, sym, ◌∙◌, ap, subst}
+use Rattle.std.proofs.Common.{◌≡◌, ℕ, ◌+◌, ◌*◌, ◌^◌, ◌%◌, ◌<◌, ◌≤◌, Bool, true, false, ◌||◌, not, List, [], ◌∷◌, take, get_or, slice_get, Option, Some, None}
+use Rattle.std.proofs.Common.{refl, sym, ◌∙◌, ap, subst}
 use Rattle.std.proofs.lemmas.List.Folds.{list_any_at, list_any_more}
 use Rattle.std.proofs.lemmas.Option.{get_or_from_slice_get, slice_get_within}
 use Rattle.quilt_types.specs.Layers.{Region, Grid, IsGrid, colours}
@@ -33,13 +34,15 @@ abbrev pub leave : ℕ → Rings → Bool
 leave wide rings = list_any (list_any (λ k. not (is_corner wide k))) rings
 
 -- a ring has such a corner
-pub leave_here : (wide : ℕ) (rings : Rings) (i : ℕ) (ring : List Corner) → slice_get rings i ≡ Some ring → list_any (λ k. not (is_corner wide k)) ring ≡ true → leave wide rings ≡ true
+pub leave_here : (wide : ℕ) (rings : Rings) (i : ℕ) (ring : List Corner) → slice_get rings i ≡ Some ring
+    → list_any (λ k. not (is_corner wide k)) ring ≡ true → leave wide rings ≡ true
 leave_here wide rings i ring there out =
     let test : List Corner → Bool = list_any (λ k. not (is_corner wide k)) in
     list_any_at test rings i [] (slice_get_within rings i ring there) (ap test (get_or_from_slice_get rings i ring [] there) ∙ out)
 
 -- or one ring more has none
-pub leave_more : (wide : ℕ) (rings : Rings) (i : ℕ) (ring : List Corner) → slice_get rings i ≡ Some ring → list_any (λ k. not (is_corner wide k)) ring ≡ false → leave wide (take i rings) ≡ false
+pub leave_more : (wide : ℕ) (rings : Rings) (i : ℕ) (ring : List Corner) → slice_get rings i ≡ Some ring
+    → list_any (λ k. not (is_corner wide k)) ring ≡ false → leave wide (take i rings) ≡ false
     → leave wide (take (i + 1) rings) ≡ false
 leave_more wide rings i ring there inside before =
     let test : List Corner → Bool = list_any (λ k. not (is_corner wide k)) in
@@ -56,12 +59,14 @@ leave_at m n rings b v same most is value =
 module _ (s : State) (a : List ℕ) (c : Colour) where
   abbrev later_tests : Option Rings → List (Bool × Code)
   later_tests rings =
-      (is_none rings, no.Rows) ∷ (leave (side s.last.level) (unwrap_or rings []), no.Outside) ∷ full s (with s a (Region (filled_rings s.last.level (unwrap_or rings []) c.0))) ∷ []
+      (is_none rings, no.Rows) ∷ (leave (side s.last.level) (unwrap_or rings []), no.Outside)
+      ∷ full s (with s a (Region (filled_rings s.last.level (unwrap_or rings []) c.0))) ∷ []
 
   abbrev done_with : Rings → Outcome
   done_with rings = changed (with s a (Region (filled_rings s.last.level rings c.0)))
 
-  pub polygon_refusal : (rings : Option Rings) (code : Code) → ((rs : List (Bool × Code)) (done : Outcome) → unless (exists s a ∷ too_many s ∷ rs) s done ≡ refused s code)
+  pub polygon_refusal : (rings : Option Rings) (code : Code)
+      → ((rs : List (Bool × Code)) (done : Outcome) → unless (exists s a ∷ too_many s ∷ rs) s done ≡ refused s code)
       → answer s (commands.Polygon a c rings) ≡ nothing_done s (Refused code)
   unfolding answer
   polygon_refusal rings code h = h (later_tests rings) (done_with (unwrap_or rings []))
@@ -80,14 +85,18 @@ module _ (s : State) (a : List ℕ) (c : Colour) where
 
       pub polygon_outside : leave (side s.last.level) rings ≡ true → answer s (commands.Polygon a c more) ≡ nothing_done s (Refused no.Outside)
       unfolding last_tests
-      polygon_outside out = ap (λ (o : Option Rings). answer s (commands.Polygon a c o)) there ∙ later (Some rings) ∙ first_true (leave (side s.last.level) rings) no.Outside last_tests s (done_with rings) out
+      polygon_outside out = ap (λ (o : Option Rings). answer s (commands.Polygon a c o)) there ∙ later (Some rings)
+          ∙ first_true (leave (side s.last.level) rings) no.Outside last_tests s (done_with rings) out
 
-      pub polygon_done : leave (side s.last.level) rings ≡ false → answer s (commands.Polygon a c more) ≡ placed s a (Region (filled_rings s.last.level rings c.0))
+      pub polygon_done : leave (side s.last.level) rings ≡ false
+          → answer s (commands.Polygon a c more) ≡ placed s a (Region (filled_rings s.last.level rings c.0))
       unfolding last_tests
-      polygon_done inside = ap (λ (o : Option Rings). answer s (commands.Polygon a c o)) there ∙ later (Some rings) ∙ first_false (leave (side s.last.level) rings) no.Outside last_tests s (done_with rings) inside
+      polygon_done inside = ap (λ (o : Option Rings). answer s (commands.Polygon a c o)) there ∙ later (Some rings)
+          ∙ first_false (leave (side s.last.level) rings) no.Outside last_tests s (done_with rings) inside
 
 -- ---- the list of the region
-module _ (s : State) (c : Colour) (rings : Rings) (list : Raster) (n : ℕ) (is : list ≡ record { level = n; grid = filled_rings n rings c.0 }) (same : n ≡ s.last.level) where
+module _ (s : State) (c : Colour) (rings : Rings) (list : Raster) (n : ℕ) (is : list ≡ record { level = n; grid = filled_rings n rings c.0 })
+    (same : n ≡ s.last.level) where
   pub filled_level : list.level ≡ s.last.level
   filled_level = ap (λ (l : Raster). l.level) is ∙ same
 
@@ -98,10 +107,13 @@ module _ (s : State) (c : Colour) (rings : Rings) (list : Raster) (n : ℕ) (is 
   filled_fits low = subst (λ (g : Grid). IsGrid s.last.format s.last.level g) (sym filled_grid) (fits_law.filled_fits s.last.format s.last.level rings c.0 low)
 
 module _ {W : Type 0} {D : disk.Ghosts W} where
-  pub polygon_answered : (old new : Session W D) (s : State) (a : List ℕ) (c : Colour) (more : Option Rings) (rings : Rings) (list : Raster) (n : ℕ) (reply : Reply) → more ≡ Some rings
-      → list ≡ record { level = n; grid = filled_rings n rings c.0 } → n ≡ s.last.level → ((exists s a).0 ≡ false) × ((too_many s).0 ≡ false) → leave (side s.last.level) rings ≡ false
+  pub polygon_answered : (old new : Session W D) (s : State) (a : List ℕ) (c : Colour) (more : Option Rings) (rings : Rings) (list : Raster) (n : ℕ)
+      (reply : Reply) → more ≡ Some rings
+      → list ≡ record { level = n; grid = filled_rings n rings c.0 } → n ≡ s.last.level → ((exists s a).0 ≡ false) × ((too_many s).0 ≡ false)
+      → leave (side s.last.level) rings ≡ false
       → AnsweredBy s (placed s a (Region list.grid)) old new reply → Answered s (commands.Polygon a c more) old new reply
   polygon_answered old new s a c more rings list n reply there is same passes inside by =
       let layer = Region (filled_rings s.last.level rings c.0) in
-      answered_by {D = D} s (commands.Polygon a c more) (placed s a layer) old new reply (polygon_done s a c passes more rings there inside) (placed_none s a layer) refl
+      answered_by {D = D} s (commands.Polygon a c more) (placed s a layer) old new reply (polygon_done s a c passes more rings there inside)
+      (placed_none s a layer) refl
       (subst (λ (g : Grid). AnsweredBy s (placed s a (Region g)) old new reply) (filled_grid s c rings list n is same) by)

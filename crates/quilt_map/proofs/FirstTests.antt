@@ -5,7 +5,8 @@ use Rattle.std.specs.FinMap as finmap
 use Rattle.quilt_types.specs.Layers.{Layer, Region, Grid}
 use Rattle.quilt_types.specs.declared.code.Code.{Code}
 use Rattle.quilt_types.specs.declared.code.Code.TheVariants as no
-use Rattle.quilt_replies.specs.Answers.{State, Outcome, Reply, Refused, Done, unless, exists, too_many, unknown, unless_region, unless_points, unless_lines, is_region}
+use Rattle.quilt_replies.specs.Answers.{State, Outcome, Reply, Refused, Done, unless, exists, too_many, unknown, unless_region, unless_points, unless_lines}
+use Rattle.quilt_replies.specs.Answers.{is_region}
 use Rattle.quilt_map.specs.Asking.{IsRefusedFirst}
 use Rattle.quilt_map.specs.LineLayers.{IsNoLines}
 use Rattle.quilt_map.specs.Making.{refused}
@@ -30,17 +31,21 @@ two_tests false false k l code s h rs done = absurd (other (h [] (record { reply
     other : Done [] ≡ Refused code → ⊥
     other e = cc
 
-pub region_refused : (s : State) (name : List ℕ) (code : Code) → IsRefusedFirst s name code → (rs : Tests) (done : Outcome) → unless (unknown s name ∷ unless_region s name ∷ rs) s done ≡ refused s code
+pub region_refused : (s : State) (name : List ℕ) (code : Code) → IsRefusedFirst s name code → (rs : Tests) (done : Outcome)
+    → unless (unknown s name ∷ unless_region s name ∷ rs) s done ≡ refused s code
 region_refused s name code first = two_tests (unknown s name).0 (unless_region s name).0 no.Unknown no.Kind code s first
 
-pub points_refused : (s : State) (name : List ℕ) (code : Code) → IsNoPoints s name code → (rs : Tests) (done : Outcome) → unless (unknown s name ∷ unless_points s name ∷ rs) s done ≡ refused s code
+pub points_refused : (s : State) (name : List ℕ) (code : Code) → IsNoPoints s name code → (rs : Tests) (done : Outcome)
+    → unless (unknown s name ∷ unless_points s name ∷ rs) s done ≡ refused s code
 points_refused s name code first = two_tests (unknown s name).0 (unless_points s name).0 no.Unknown no.Kind code s first
 
-pub lines_refused : (s : State) (name : List ℕ) (code : Code) → IsNoLines s name code → (rs : Tests) (done : Outcome) → unless (unknown s name ∷ unless_lines s name ∷ rs) s done ≡ refused s code
+pub lines_refused : (s : State) (name : List ℕ) (code : Code) → IsNoLines s name code → (rs : Tests) (done : Outcome)
+    → unless (unknown s name ∷ unless_lines s name ∷ rs) s done ≡ refused s code
 lines_refused s name code first = two_tests (unknown s name).0 (unless_lines s name).0 no.Unknown no.Kind code s first
 
 -- a region layer is there
-pub region_passes : (s : State) (name : List ℕ) (g : Grid) (rs : Tests) (done : Outcome) → finmap.get s.work name ≡ Some (Region g) → unless (unknown s name ∷ unless_region s name ∷ rs) s done ≡ unless rs s done
+pub region_passes : (s : State) (name : List ℕ) (g : Grid) (rs : Tests) (done : Outcome) → finmap.get s.work name ≡ Some (Region g)
+    → unless (unknown s name ∷ unless_region s name ∷ rs) s done ≡ unless rs s done
 region_passes s name g rs done at = ap (λ (o : Option Layer). unless ((is_none o, no.Unknown) ∷ (not (is_region o), no.Kind) ∷ rs) s done) at
 
 pub exists_not : (s : State) (name : List ℕ) → finmap.get s.work name ≡ None → (exists s name).0 ≡ false
@@ -56,5 +61,7 @@ pub many_layers : (s : State) → 255 ≤ finmap.len s.work → (too_many s).0 �
 many_layers s many = le-leb 255 (finmap.len s.work) many
 
 -- a new layer may come under the name
-pub new_passes : (s : State) (name : List ℕ) (rs : Tests) (done : Outcome) → ((exists s name).0 ≡ false) × ((too_many s).0 ≡ false) → unless (exists s name ∷ too_many s ∷ rs) s done ≡ unless rs s done
-new_passes s name rs done passes = first_false (exists s name).0 no.Exists (too_many s ∷ rs) s done passes.0 ∙ first_false (too_many s).0 no.Layers rs s done passes.1
+pub new_passes : (s : State) (name : List ℕ) (rs : Tests) (done : Outcome) → ((exists s name).0 ≡ false) × ((too_many s).0 ≡ false)
+    → unless (exists s name ∷ too_many s ∷ rs) s done ≡ unless rs s done
+new_passes s name rs done passes =
+    first_false (exists s name).0 no.Exists (too_many s ∷ rs) s done passes.0 ∙ first_false (too_many s).0 no.Layers rs s done passes.1

@@ -16,7 +16,8 @@ length-replies q last work (i ∷ g) =
     let out = outcome_of (record { quota = q; last = last; work = work }) (form_in last i) in
     ap suc (length-replies q (unwrap_or out.published last) out.work g)
 
-replies-append : (q : ℕ) (last : Edition) (work : Map) (g h : List Group) → Begins (replies_of (run_of q last work (g ++ h))) (replies_of (run_of q last work g))
+replies-append : (q : ℕ) (last : Edition) (work : Map) (g h : List Group)
+    → Begins (replies_of (run_of q last work (g ++ h))) (replies_of (run_of q last work g))
 replies-append q last work [] h = (replies_of (run_of q last work h), refl)
 replies-append q last work (i ∷ g) h =
     let out = outcome_of (record { quota = q; last = last; work = work }) (form_in last i) in
@@ -38,7 +39,8 @@ settled q first work g h k =
 
 -- ---- a text that may go on
 
-pub settled_run : (n q : ℕ) (first : Edition) (u v rest : List ℕ) (items : List Group) → first.level ≡ n → Gives false n items u rest → IsSettled (length items) (run q first u) (run q first (u ++ v))
+pub settled_run : (n q : ℕ) (first : Edition) (u v rest : List ℕ) (items : List Group) → first.level ≡ n → Gives false n items u rest
+    → IsSettled (length items) (run q first u) (run q first (u ++ v))
 unfolding run
 settled_run n q first u v rest items at gives =
     let one : run_of q first first.layers (items_of first.level u) ≡ run_of q first first.layers (items ++ items_of n (rest ++ [])) =

@@ -26,10 +26,12 @@ holds_of : (form n : ℕ) (numbers : Numbering) (rs : List Record) (layers : Map
     → n ≤ 12 → SpellsUnder form n numbers rs layers → IsTree told t rs → finmap.get layers name ≡ Some layer → HoldsIn told t (number_of numbers name) n layer
 holds_of form n numbers rs layers name (Region grid) told t le s is got = region_of form n numbers rs layers name grid told t le s is got
 holds_of form n numbers rs layers name (Points capacity points) told t le s is got = points_law form n numbers rs layers name capacity points le s got told t is
-holds_of form n numbers rs layers name (Lines threshold segs cover) told t le s is got = lines_law form n numbers rs layers name threshold segs cover le s got told t is
+holds_of form n numbers rs layers name (Lines threshold segs cover) told t le s is got =
+    lines_law form n numbers rs layers name threshold segs cover le s got told t is
 
 -- the tree and the level of the same header
-pub held_as : (told : Option Pages) (number : ℕ) (layer : Layer) (h k : Head) (t : Tree) → h ≡ k → t ≡ tree_in h → HoldsIn told (tree_in k) number k.level layer → HoldsIn told t number h.level layer
+pub held_as : (told : Option Pages) (number : ℕ) (layer : Layer) (h k : Head) (t : Tree) → h ≡ k → t ≡ tree_in h
+    → HoldsIn told (tree_in k) number k.level layer → HoldsIn told t number h.level layer
 held_as told number layer h k t same tree has =
     subst (λ (x : Tree). HoldsIn told x number h.level layer) (sym tree) (subst (λ (x : Head). HoldsIn told (tree_in x) number x.level layer) (sym same) has)
 
@@ -39,7 +41,8 @@ module _ {W : Type 0} {D : disk.Ghosts W} (session : Session W D) (s : State) (a
   layer_there =
       subst (λ (k : ℕ). HoldsIn (told_of session.book) (tree_in session.book.work) k session.book.work.level layer) (sym same)
       (subst (λ (o : Option Pages). HoldsIn o (tree_in session.book.work) (number_of at.work.numbers name) session.book.work.level layer) (sym at.pages_told)
-      (holds_of session.book.work.format session.book.work.level at.work.numbers at.work.records s.work name layer (Some at.pages) (tree_in session.book.work) session.book.next.level.1 at.work.spelled at.work.whole.tree got))
+      (holds_of session.book.work.format session.book.work.level at.work.numbers at.work.records s.work name layer (Some at.pages)
+      (tree_in session.book.work) session.book.next.level.1 at.work.spelled at.work.whole.tree got))
 
   pub layer_number : 1 ≤ number
   layer_number = let least = (number_fits s.work at.work.numbers at.work.spelled.numbering name layer got).0 in omega arith

@@ -24,7 +24,8 @@ use Rattle.quilt_map.proofs.Holding.{stands_with}
 module _ {W : Type 0} {D : disk.Ghosts W} where
   module _ (b : Book W D) (t : Tale) (told : D.told b.world ≡ Some t) (ready : books.IsReady b) where
     pub book_idle : IsBook b.journal (entries_of b.pool) b.last t
-    book_idle = kept_idle b.journal (entries_of b.pool) b.last (Some t) ready (subst (λ (o : Option Tale). IsKeptBy b.journal (entries_of b.pool) b.last o) told b.kept)
+    book_idle =
+        kept_idle b.journal (entries_of b.pool) b.last (Some t) ready (subst (λ (o : Option Tale). IsKeptBy b.journal (entries_of b.pool) b.last o) told b.kept)
 
     -- each image that a stop may leave has the published pages
     pub book_leaves : LeavesNow t (HasHome b.journal.pages (published t b.journal.pages))
@@ -39,12 +40,14 @@ module _ {W : Type 0} {D : disk.Ghosts W} where
         subst (λ (bytes : List ℕ). IsHeader b.journal.pages bytes b.last) (sym (published_at t b.journal.pages 0 (omega (arith, b.least)))) book_idle.header
 
     -- an image with the published pages stands for the edition that they hold
-    pub book_stands : (entries : List Entry) (e : Edition) (image : Pages) → IsPublishedAs b t entries e → HasHome b.journal.pages (published t b.journal.pages) image → Stands image e
+    pub book_stands : (entries : List Entry) (e : Edition) (image : Pages) → IsPublishedAs b t entries e
+        → HasHome b.journal.pages (published t b.journal.pages) image → Stands image e
     book_stands entries e image holds has =
         stands_with b.journal.pages (published t b.journal.pages) image (books.published_free b) b.last entries e book_header holds.head holds.spelled has
 
   -- the published pages are the same as a book goes on
-  pub published_on : (a b : Book W D) (t u : Tale) → D.told a.world ≡ Some t → D.told b.world ≡ Some u → books.IsReady a → books.IsReady b → IsConsistent t → IsConsistent u
+  pub published_on : (a b : Book W D) (t u : Tale) → D.told a.world ≡ Some t → D.told b.world ≡ Some u → books.IsReady a → books.IsReady b
+      → IsConsistent t → IsConsistent u
       → b.journal.pages ≡ a.journal.pages → IsLater a.journal.pages t u → published u b.journal.pages ≡ published t a.journal.pages
   published_on a b t u ta tb ra rb lt lu size later =
       let before = seen_home a.journal.pages a.journal.changed t lt (book_idle a t ta ra).work.idle in

@@ -31,7 +31,8 @@ module _ (s : State) (a : List ℕ) where
   line_refused id seg code first =
       let l = layer s a in
       let work = with s a (with_segment (threshold_in l) (segs_in l) (cover_in l) id seg) in
-      lines_refused s a code first ((not (is_in_square s.last.level seg), no.Outside) ∷ (is_some (finmap.get (segs_in l) id), no.Present) ∷ full s work ∷ []) (changed work)
+      lines_refused s a code first ((not (is_in_square s.last.level seg), no.Outside) ∷ (is_some (finmap.get (segs_in l) id), no.Present)
+      ∷ full s work ∷ []) (changed work)
 
   pub unline_refused : (id : ℕ) (code : Code) → IsNoLines s a code → answer s (commands.Unline a id) ≡ nothing_done s (Refused code)
   unfolding answer
@@ -72,7 +73,8 @@ module _ (s : State) (a : List ℕ) where
 
     -- ---- a session that has these answers
     module _ {W : Type 0} {D : disk.Ghosts W} (old new : Session W D) (reply : replies.Reply) (id : ℕ) where
-      pub line_answered : (seg : Seg) → is_in_square s.last.level seg ≡ true → AnsweredBy s (segment_put s a t segs cover id seg) old new reply → Answered s (commands.Line a id seg) old new reply
+      pub line_answered : (seg : Seg) → is_in_square s.last.level seg ≡ true → AnsweredBy s (segment_put s a t segs cover id seg) old new reply
+          → Answered s (commands.Line a id seg) old new reply
       line_answered seg inside by =
           let work = with s a (with_segment t segs cover id seg) in
           answered_by s (commands.Line a id seg) (segment_put s a t segs cover id seg) old new reply (line_inside id seg inside)
@@ -81,7 +83,8 @@ module _ (s : State) (a : List ℕ) where
       pub unline_answered : AnsweredBy s (segment_taken s a t segs cover id) old new reply → Answered s (commands.Unline a id) old new reply
       unline_answered by =
           answered_by s (commands.Unline a id) (segment_taken s a t segs cover id) old new reply (unline_here id)
-          (none_with (is_none (finmap.get segs id)) no.Absent s (with s a (without_segment s.last.level t segs cover id (unwrap_or (finmap.get segs id) no_segment)))) refl by
+          (none_with (is_none (finmap.get segs id)) no.Absent s
+          (with s a (without_segment s.last.level t segs cover id (unwrap_or (finmap.get segs id) no_segment)))) refl by
 
 -- ---- a segment that comes or goes
 module _ (s : State) (a : List ℕ) (t : ℕ) (segs : SegMap) (cover : BlockSet) (id : ℕ) where

@@ -41,24 +41,31 @@ module _ (command : Command) (name : List ℕ) (is : layer_measured command ≡ 
   pub measure_asks : (s : State) → Asks s command
   measure_asks s =
       let e = measure_is s command name is in record {
-        nothing = e ∙ alone s (unknown s name ∷ unless_region s name ∷ []) (decimal (measured command s.last.level (grid s name)) ∷ []) ∙ ap (λ (o : Outcome). nothing_done s o.reply) (sym e);
+        nothing = e ∙ alone s (unknown s name ∷ unless_region s name ∷ []) (decimal (measured command s.last.level (grid s name)) ∷ [])
+            ∙ ap (λ (o : Outcome). nothing_done s o.reply) (sym e);
         forward = measure_forward command name is;
       }
 
   pub measure_refused : (s : State) (code : Code) → IsRefusedFirst s name code → (answer s command).reply ≡ Refused code
-  measure_refused s code first = ap (λ (o : Outcome). o.reply) (measure_is s command name is) ∙ first [] (answers.told s (decimal (measured command s.last.level (grid s name)) ∷ []))
+  measure_refused s code first =
+      ap (λ (o : Outcome). o.reply) (measure_is s command name is) ∙ first [] (answers.told s (decimal (measured command s.last.level (grid s name)) ∷ []))
 
-  measure_done : (s : State) (g : Grid) → finmap.get s.work name ≡ Some (Region g) → (answer s command).reply ≡ Done (decimal (measured command s.last.level g) ∷ [])
+  measure_done : (s : State) (g : Grid) → finmap.get s.work name ≡ Some (Region g)
+      → (answer s command).reply ≡ Done (decimal (measured command s.last.level g) ∷ [])
   measure_done s g got =
       ap (λ (o : Outcome). o.reply) (measure_is s command name is)
-      ∙ ap (λ (o : Option Layer). (unless ((is_none o, no.Unknown) ∷ (not (is_region o), no.Kind) ∷ []) s (answers.told s (decimal (measured command s.last.level (grid_in o)) ∷ []))).reply) got
+      ∙ ap (λ (o : Option Layer).
+      (unless ((is_none o, no.Unknown) ∷ (not (is_region o), no.Kind) ∷ []) s
+      (answers.told s (decimal (measured command s.last.level (grid_in o)) ∷ []))).reply) got
 
   module _ {W : Type 0} {D : disk.Ghosts W} (old : Session W D) (s : State) (at : IsAtState old s) where
     pub measure_body : (number : ℕ) (r : IsRegionAt s.work at.work.numbers name number) (l : Raster)
-        → ((g : Grid) → HasRegion (told_of old.book) (tree_in old.book.work) number old.book.work.level g → l ≡ record { level = old.book.work.level; grid = g })
+        → ((g : Grid) → HasRegion (told_of old.book) (tree_in old.book.work) number old.book.work.level g
+        → l ≡ record { level = old.book.work.level; grid = g })
         → (k : ℕ) → k ≡ measured command l.level l.grid → (t : List ℕ) → t ≡ text_of (Done (decimal k ∷ [])) → IsBodyOf ((answer s command).reply) t
     measure_body number r l list k value t written = record {
       body = decimal (measured command s.last.level r.grid) ∷ [];
       answered = measure_done s r.grid r.got;
-      written = written ∙ ap (λ (m : ℕ). text_of (Done (decimal m ∷ []))) (value ∙ ap (λ (x : Raster). measured command x.level x.grid) (raster_is {D = D} old s at name number r l list));
+      written = written ∙ ap (λ (m : ℕ). text_of (Done (decimal m ∷ [])))
+          (value ∙ ap (λ (x : Raster). measured command x.level x.grid) (raster_is {D = D} old s at name number r l list));
     }

@@ -1,5 +1,6 @@
 -- A session whose book goes on stands for what it stood for.
-use Rattle.std.proofs.Common.{◌≡◌, ◌⊎◌, inl, inr, ⊎_elim, ℕ, ◌+◌, ◌*◌, ◌≤◌, Bool, cond, List, length, Option, Some, None, IfSome, refl, sym, ◌∙◌, ap, subst, arith}
+use Rattle.std.proofs.Common.{◌≡◌, ◌⊎◌, inl, inr, ⊎_elim, ℕ, ◌+◌, ◌*◌, ◌≤◌, Bool, cond, List, length, Option, Some, None, IfSome, refl, sym, ◌∙◌, ap, subst}
+use Rattle.std.proofs.Common.{arith}
 use Rattle.quilt_types.specs.Facts.{quota}
 use Rattle.quilt_types.specs.Layers.{Map, Edition}
 use Rattle.quilt_world.specs.Added.{AddsOnly, is_of_text}
@@ -22,7 +23,8 @@ use Rattle.quilt_edition.specs.declared.book.Book.{Book}
 use Rattle.quilt_edition.specs.Books as books
 use Rattle.quilt_edition.specs.Keeping.{IsLater, is_left_out, is_free, marked_count}
 use Rattle.quilt_replies.specs.Answers.{State}
-use Rattle.quilt_map.specs.Sessions.{IsHeadOf, IsSpelled, IsPublishedAs, IsAtWith, IsAtState, IsLaterBook, IsOpened, first_state, tree_in, told_of, free_of, changed_of, last_count}
+use Rattle.quilt_map.specs.Sessions.{IsHeadOf, IsSpelled, IsPublishedAs, IsAtWith, IsAtState, IsLaterBook, IsOpened, first_state, tree_in, told_of, free_of}
+use Rattle.quilt_map.specs.Sessions.{changed_of, last_count}
 use Rattle.quilt_map.specs.declared.session.Session.{Session}
 use Rattle.quilt_map.proofs.Keeping.{book_idle, published_on}
 
@@ -54,7 +56,8 @@ spelled_as told now_told free now_free n m h k entries layers told_is free_is si
     (subst (λ (x : Head). IsSpelled told free n x entries layers) (sym head_is) spelled)))
 
 -- a whole tree stays where the same pages are free
-pub whole_free : (told : Option Pages) (free now : ℕ → Bool) (n : ℕ) (t : Tree) (rs : List Record) → ((p : ℕ) → now p ≡ free p) → IsWhole told free n t rs → IsWhole told now n t rs
+pub whole_free : (told : Option Pages) (free now : ℕ → Bool) (n : ℕ) (t : Tree) (rs : List Record) → ((p : ℕ) → now p ≡ free p)
+    → IsWhole told free n t rs → IsWhole told now n t rs
 whole_free told free now n t rs same whole = record {
   tree = whole.tree;
   number = whole.number;
@@ -67,7 +70,8 @@ module _ {W : Type 0} {D : disk.Ghosts W} where
   with_book s b = record { book = b; catalog = s.catalog; last = s.last; changes = s.changes; warm = s.warm; alloc = s.alloc }
 
   pub published_as : (a b : Book W D) (t u : Tale) (entries : List Entry) (e : Edition) → b.journal.pages ≡ a.journal.pages → b.last ≡ a.last
-      → books.published_free b ≡ books.published_free a → published u b.journal.pages ≡ published t a.journal.pages → IsPublishedAs a t entries e → IsPublishedAs b u entries e
+      → books.published_free b ≡ books.published_free a → published u b.journal.pages ≡ published t a.journal.pages → IsPublishedAs a t entries e
+      → IsPublishedAs b u entries e
   published_as a b t u entries e size last free same holds = record {
     head = subst (λ (h : Head). IsHeadOf h e) (sym last) holds.head;
     spelled = spelled_as _ _ _ _ _ _ _ _ entries e.layers (ap Some same) free size last holds.spelled;
@@ -84,7 +88,8 @@ module _ {W : Type 0} {D : disk.Ghosts W} where
 
   -- bytes that are taken or put leave the state
   pub text_at : (session : Session W D) (b : Book W D) (s : State) → books.SameBut session.book b → told_of b ≡ told_of session.book
-      → Goes (AddsOnly is_of_text) (D.told session.book.world) (D.told b.world) → IsLawful (D.size b.world) (D.told b.world) → IsAtState session s → IsAtState (with_book session b) s
+      → Goes (AddsOnly is_of_text) (D.told session.book.world) (D.told b.world) → IsLawful (D.size b.world) (D.told b.world) → IsAtState session s
+      → IsAtState (with_book session b) s
   text_at session b s same told goes law at =
       let a = session.book in
       let new = goes_to (AddsOnly is_of_text) (D.told a.world) (D.told b.world) at.tale at.told goes in
@@ -100,17 +105,21 @@ module _ {W : Type 0} {D : disk.Ghosts W} where
         last = published_as a b at.tale new.0 session.last s.last size same.last (free_as a b size same.used) pages at.last;
         pages = at.pages;
         pages_told = told ∙ at.pages_told;
-        work = spelled_as _ _ _ _ _ _ _ _ session.catalog s.work refl (ap (λ n. is_free n b.free) size ∙ ap (λ bits. is_free a.journal.pages bits) same.free) size same.work at.work;
+        work = spelled_as _ _ _ _ _ _ _ _ session.catalog s.work refl
+            (ap (λ n. is_free n b.free) size ∙ ap (λ bits. is_free a.journal.pages bits) same.free) size same.work at.work;
         format = ap (λ (h : Head). h.format) same.work ∙ at.format ∙ sym (ap (λ (h : Head). h.format) same.last);
         level = ap (λ (h : Head). h.level) same.work ∙ at.level ∙ sym (ap (λ (h : Head). h.level) same.last);
         quota = at.quota ∙ sym (ap quota size);
-        few = subst (λ k. (k ≤ 9 * session.changes) ⊎ (session.changes ≡ last_count)) (sym (counted_as a b size same.pool (ap (λ (j : View). j.changed) same.journal))) at.few;
+        few = subst (λ k. (k ≤ 9 * session.changes) ⊎ (session.changes ≡ last_count))
+            (sym (counted_as a b size same.pool (ap (λ (j : View). j.changed) same.journal))) at.few;
         bounded = at.bounded;
       }
 
   -- calls on the book that leave its pages, the free ones and the heads leave the state
-  pub later_at : (session : Session W D) (b : Book W D) (entries : List Entry) (s : State) → IsLaterBook session.book b → told_of b ≡ told_of session.book → free_of b ≡ free_of session.book
-      → changed_of b ≤ changed_of session.book → IsLawful (D.size b.world) (D.told b.world) → IsAtWith session entries s → IsAtWith (with_book session b) entries s
+  pub later_at : (session : Session W D) (b : Book W D) (entries : List Entry) (s : State) → IsLaterBook session.book b
+      → told_of b ≡ told_of session.book → free_of b ≡ free_of session.book
+      → changed_of b ≤ changed_of session.book → IsLawful (D.size b.world) (D.told b.world) → IsAtWith session entries s
+      → IsAtWith (with_book session b) entries s
   later_at session b entries s later told free changed law at =
       let a = session.book in
       let size = later.0 in
@@ -122,7 +131,8 @@ module _ {W : Type 0} {D : disk.Ghosts W} where
         told = new.1;
         lawful = lawful;
         ready = ready;
-        last = published_as a b at.tale new.0 session.last s.last size later.2.0 (free_as a b size later.2.2) (published_on a b at.tale new.0 at.told new.1 at.ready ready at.lawful lawful size new.2) at.last;
+        last = published_as a b at.tale new.0 session.last s.last size later.2.0 (free_as a b size later.2.2)
+            (published_on a b at.tale new.0 at.told new.1 at.ready ready at.lawful lawful size new.2) at.last;
         pages = at.pages;
         pages_told = told ∙ at.pages_told;
         work = spelled_as _ _ _ _ _ _ _ _ entries s.work refl free size later.2.1 at.work;
@@ -147,7 +157,9 @@ module _ {W : Type 0} {D : disk.Ghosts W} where
         ready = ready;
         last = record {
           head = opened.holds.head;
-          spelled = subst (λ (es : List Entry). IsSpelled (Some (published opened.tale n)) (books.published_free session.book) n session.book.last es e.layers) (sym catalog) spelled;
+          spelled =
+              subst (λ (es : List Entry).
+              IsSpelled (Some (published opened.tale n)) (books.published_free session.book) n session.book.last es e.layers) (sym catalog) spelled;
         };
         pages = published opened.tale n;
         pages_told = opened.pages;
@@ -155,7 +167,8 @@ module _ {W : Type 0} {D : disk.Ghosts W} where
           numbers = spelled.numbers;
           records = spelled.records;
           whole = subst (λ (h : Head). IsWhole (Some (published opened.tale n)) (free_of session.book) n (tree_in h) spelled.records) (sym heads)
-              (whole_free (Some (published opened.tale n)) (books.published_free session.book) (free_of session.book) n (tree_in session.book.last) spelled.records free spelled.whole);
+              (whole_free (Some (published opened.tale n)) (books.published_free session.book) (free_of session.book) n
+              (tree_in session.book.last) spelled.records free spelled.whole);
           spelled = subst (λ (h : Head). SpellsUnder h.format h.level spelled.numbers spelled.records e.layers) (sym heads) spelled.spelled;
           catalog = spelled.catalog;
         };

@@ -29,7 +29,8 @@ bare_lines n t = Lines t finmap.empty (one_block n)
 
 -- ---- what the definition answers
 module _ (s : State) (name : List ℕ) (t : ℕ) where
-  pub lines_refused : (code : Code) → ((rs : List (Bool × Code)) (done : Outcome) → unless (exists s name ∷ too_many s ∷ rs) s done ≡ refused s code) → answer s (commands.Lines name t) ≡ nothing_done s (Refused code)
+  pub lines_refused : (code : Code) → ((rs : List (Bool × Code)) (done : Outcome) → unless (exists s name ∷ too_many s ∷ rs) s done ≡ refused s code)
+      → answer s (commands.Lines name t) ≡ nothing_done s (Refused code)
   unfolding answer
   lines_refused code h = let work = with s name (bare_lines s.last.level t) in h (full s work ∷ []) (changed work)
 
@@ -42,14 +43,18 @@ module _ {W : Type 0} {D : disk.Ghosts W} (session : Session W D) (s : State) (a
   -- a new line layer, whose records are that of the catalog, for this entry, and that of the whole square
   pub lines_plan : (entry : Entry) (name : List ℕ) (t level : ℕ) (added : List Record) → level ≡ s.last.level → 1 ≤ t → t ≤ 32
       → (entries : List Entry) → entries ≡ session.catalog → length entries < 255 → All (λ e. e.name ≢ name) entries
-      → entry.name ≡ name → is_name name ≡ true → entry.kind ≡ kinds.Lines t → 1 ≤ entry.number → entry.number ≤ 255 → ((other : List ℕ) → finmap.get at.work.numbers other ≢ Some entry.number)
-      → (first second : Record) → added ≡ first ∷ second ∷ [] → ((n capacity : ℕ) → first ≡ record_of n capacity entry.name entry.number (kind_fact entry.kind)) → IsLineBeginning level entry.number t second
+      → entry.name ≡ name → is_name name ≡ true → entry.kind ≡ kinds.Lines t → 1 ≤ entry.number → entry.number ≤ 255
+      → ((other : List ℕ) → finmap.get at.work.numbers other ≢ Some entry.number)
+      → (first second : Record) → added ≡ first ∷ second ∷ []
+      → ((n capacity : ℕ) → first ≡ record_of n capacity entry.name entry.number (kind_fact entry.kind)) → IsLineBeginning level entry.number t second
       → IsPlan s at.work.numbers entry.name entry.number (Some (bare_lines s.last.level t)) [] added
   lines_plan entry name t level added same least most entries catalog few others called named kind low high free first second is written begins =
       let n = s.last.level in
       let here : IsLineBeginning n entry.number t second = subst (λ (m : ℕ). IsLineBeginning m entry.number t second) same begins in
       let first_is = λ (m k : ℕ). written m k ∙ ap (λ (x : Kind). record_of m k entry.name entry.number (kind_fact x)) kind in
-      new_plan session s at entry.name entry.number (bare_lines n t) added (subst (λ (b : List ℕ). is_name b ≡ true) (sym called) named) (subst (λ (es : List Entry). length es < 255) catalog few)
-      (subst (λ (b : List ℕ). All (λ (e : Entry). e.name ≢ b) session.catalog) (sym called) (subst (λ (es : List Entry). All (λ (e : Entry). e.name ≢ name) es) catalog others)) low high free (new_law n t least most)
+      new_plan session s at entry.name entry.number (bare_lines n t) added (subst (λ (b : List ℕ). is_name b ≡ true) (sym called) named)
+      (subst (λ (es : List Entry). length es < 255) catalog few)
+      (subst (λ (b : List ℕ). All (λ (e : Entry). e.name ≢ b) session.catalog) (sym called)
+      (subst (λ (es : List Entry). All (λ (e : Entry). e.name ≢ name) es) catalog others)) low high free (new_law n t least most)
       (subst (λ (rs : List Record). regions.IsPlan n entry.name entry.number None (Some (bare_lines n t)) [] rs) (sym is)
       (record { leads = here.leads entry.name first first_is; removed_ascend = refl; added_ascend = here.ascend entry.name first first_is }))

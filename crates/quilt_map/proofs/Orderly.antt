@@ -1,5 +1,6 @@
 -- What a command gives is orderly: a refusal changes nothing, and an edition has the level of the last one.
-use Rattle.std.proofs.Common.{◌≡◌, ℕ, ◌==◌, Bool, true, false, not, cond, List, [], ◌∷◌, ◌++◌, map, filter, flat_map, length, decimal, Option, Some, None, is_some, is_none, option_map, unwrap_or, Result, Ok, Err, refl, sym, ◌∙◌, ap, subst}
+use Rattle.std.proofs.Common.{◌≡◌, ℕ, ◌==◌, Bool, true, false, not, cond, List, [], ◌∷◌, ◌++◌, map, filter, flat_map, length, decimal, Option, Some, None}
+use Rattle.std.proofs.Common.{is_some, is_none, option_map, unwrap_or, Result, Ok, Err, refl, sym, ◌∙◌, ap, subst}
 use Rattle.std.specs.Prelude.{nat_lt}
 use Rattle.std.specs.List.{list_any}
 use Rattle.std.specs.FinMap as finmap
@@ -16,7 +17,11 @@ use Rattle.quilt_types.specs.declared.code.Code.{Code}
 use Rattle.quilt_types.specs.declared.code.Code.TheVariants as no
 use Rattle.quilt_words.specs.declared.command.Command.{Command}
 use Rattle.quilt_words.specs.declared.command.Command.TheVariants as commands
-use Rattle.quilt_replies.specs.Answers.{State, Outcome, Reply, Refused, Done, unless, told, changed, layer, unknown, unless_region, unless_points, unless_lines, exists, too_many, outside, window_outside, full, capacity_in, threshold_in, points_in, segs_in, cover_in, grid, with, sides_of, block_lines, row_line, leaf_line, point_line, seg_line, clip_lines, nearest_lines, is_over, collide, with_points, ranked_line, pair_line, colours_of_bytes, unless_written, makes, edition_after, upgraded, no_more_editions, publishes_it, answer}
+use Rattle.quilt_replies.specs.Answers.{State, Outcome, Reply, Refused, Done, unless, told, changed, layer, unknown, unless_region, unless_points, unless_lines}
+use Rattle.quilt_replies.specs.Answers.{exists, too_many, outside, window_outside, full, capacity_in, threshold_in, points_in, segs_in, cover_in, grid, with}
+use Rattle.quilt_replies.specs.Answers.{sides_of, block_lines, row_line, leaf_line, point_line, seg_line, clip_lines, nearest_lines, is_over, collide}
+use Rattle.quilt_replies.specs.Answers.{with_points, ranked_line, pair_line, colours_of_bytes, unless_written, makes, edition_after, upgraded, no_more_editions}
+use Rattle.quilt_replies.specs.Answers.{publishes_it, answer}
 use Rattle.quilt_replies.specs.Runs.{outcome_of}
 use Rattle.quilt_replies.specs.States.{after}
 use Rattle.quilt_map.specs.Steps.{gives_edition}
@@ -56,20 +61,24 @@ answer_orderly s (commands.Lines l t) =
 answer_orderly s (commands.Drop a) = unless_orderly false (unknown s a ∷ []) s (changed (finmap.remove s.work a)) tt
 answer_orderly s (commands.Copy a b) = makes_orderly s (unknown s a ∷ exists s b ∷ too_many s ∷ []) b (unwrap_or (layer s a) (Region []))
 answer_orderly s commands.Layers = tt
-answer_orderly s (commands.Blocks a) = unless_orderly false (unknown s a ∷ []) s (told s (block_lines s.last.level (unwrap_or (option_map (sides_of s.last.level) (layer s a)) []))) tt
+answer_orderly s (commands.Blocks a) =
+    unless_orderly false (unknown s a ∷ []) s (told s (block_lines s.last.level (unwrap_or (option_map (sides_of s.last.level) (layer s a)) []))) tt
 answer_orderly s commands.Records = tt
 answer_orderly s (commands.Set a at c) =
     makes_orderly s (unknown s a ∷ unless_region s a ∷ outside s at ∷ []) a
     (Region (painted s.last.level (grid s a) (record { x = at.x; y = at.y; w = 1; h = 1 }) c.0))
-answer_orderly s (commands.Rect a w c) = makes_orderly s (unknown s a ∷ unless_region s a ∷ window_outside s w ∷ []) a (Region (painted s.last.level (grid s a) w c.0))
-answer_orderly s (commands.Raster a rows) = makes_orderly s (unknown s a ∷ unless_region s a ∷ (is_none rows, no.Rows) ∷ []) a (Region (colours_of_bytes (unwrap_or rows [])))
+answer_orderly s (commands.Rect a w c) =
+    makes_orderly s (unknown s a ∷ unless_region s a ∷ window_outside s w ∷ []) a (Region (painted s.last.level (grid s a) w c.0))
+answer_orderly s (commands.Raster a rows) =
+    makes_orderly s (unknown s a ∷ unless_region s a ∷ (is_none rows, no.Rows) ∷ []) a (Region (colours_of_bytes (unwrap_or rows [])))
 answer_orderly s (commands.At a at) =
     unless_orderly false (unknown s a ∷ unless_region s a ∷ outside s at ∷ []) s
     (told s (decimal (colour_at s.last.level (grid s a) at) ∷ [])) tt
 answer_orderly s (commands.Show a w) =
     unless_orderly false (unknown s a ∷ unless_region s a ∷ window_outside s w ∷ []) s
     (told s (map (row_line s.last.format s.last.level (grid s a) w) (below w.h))) tt
-answer_orderly s (commands.Leaves a) = unless_orderly false (unknown s a ∷ unless_region s a ∷ []) s (told s (map leaf_line (leaves s.last.level (grid s a)))) tt
+answer_orderly s (commands.Leaves a) =
+    unless_orderly false (unknown s a ∷ unless_region s a ∷ []) s (told s (map leaf_line (leaves s.last.level (grid s a)))) tt
 answer_orderly s (commands.Union a b c) =
     makes_orderly s (unknown s a ∷ unknown s b ∷ unless_region s a ∷ unless_region s b ∷ exists s c ∷ too_many s ∷ []) c
     (Region (union s.last.level (grid s a) (grid s b)))
@@ -85,10 +94,13 @@ answer_orderly s (commands.Recolour a c pairs) =
 answer_orderly s (commands.Window a w c) =
     makes_orderly s (unknown s a ∷ unless_region s a ∷ exists s c ∷ too_many s ∷ window_outside s w ∷ []) c
     (Region (cut_to s.last.level (grid s a) w))
-answer_orderly s (commands.Shift a dx dy c) = makes_orderly s (unknown s a ∷ unless_region s a ∷ exists s c ∷ too_many s ∷ []) c (Region (shifted s.last.level (grid s a) dx dy))
-answer_orderly s (commands.Buffer a r c) = makes_orderly s (unknown s a ∷ unless_region s a ∷ exists s c ∷ too_many s ∷ []) c (Region (buffered s.last.level (grid s a) r))
+answer_orderly s (commands.Shift a dx dy c) =
+    makes_orderly s (unknown s a ∷ unless_region s a ∷ exists s c ∷ too_many s ∷ []) c (Region (shifted s.last.level (grid s a) dx dy))
+answer_orderly s (commands.Buffer a r c) =
+    makes_orderly s (unknown s a ∷ unless_region s a ∷ exists s c ∷ too_many s ∷ []) c (Region (buffered s.last.level (grid s a) r))
 answer_orderly s (commands.Area a c) = unless_orderly false (unknown s a ∷ unless_region s a ∷ []) s (told s (decimal (area (grid s a) c.0) ∷ [])) tt
-answer_orderly s (commands.Perimeter a c) = unless_orderly false (unknown s a ∷ unless_region s a ∷ []) s (told s (decimal (perimeter s.last.level (grid s a) c.0) ∷ [])) tt
+answer_orderly s (commands.Perimeter a c) =
+    unless_orderly false (unknown s a ∷ unless_region s a ∷ []) s (told s (decimal (perimeter s.last.level (grid s a) c.0) ∷ [])) tt
 answer_orderly s (commands.Put p at label) =
     makes_orderly s (unknown s p ∷ unless_points s p ∷ outside s at ∷ (is_some (finmap.get (points_in (layer s p)) at), no.Present) ∷ []) p
     (Points (capacity_in (layer s p)) (finmap.insert (points_in (layer s p)) at label))
@@ -153,7 +165,8 @@ answer_orderly s (commands.Crossings l m) =
     unless_orderly false (unknown s l ∷ unknown s m ∷ unless_lines s l ∷ unless_lines s m ∷ (nat_lt 1000000 (length pairs), no.Many) ∷ []) s
     (told s (map pair_line pairs)) tt
 
-orderly_level : (gives : Bool) (s : State) (r : Reply) (work : Map) (published : Option Edition) → Orderly gives s r work published → HasLevel s.last.level published
+orderly_level : (gives : Bool) (s : State) (r : Reply) (work : Map) (published : Option Edition) → Orderly gives s r work published
+    → HasLevel s.last.level published
 orderly_level gives s (Refused code) work published so = subst (λ (o : Option Edition). HasLevel s.last.level o) (sym so.1) tt
 orderly_level gives s (Done body) work None so = tt
 orderly_level gives s (Done body) work (Some e) so = so.1
@@ -163,7 +176,8 @@ orderly_none s (Refused code) work published so = so.1
 orderly_none s (Done body) work None so = refl
 orderly_none s (Done body) work (Some e) so = absurd (let no_ : false ≡ true = so.0 in cc)
 
-orderly_same : (gives : Bool) (s : State) (r : Reply) (work : Map) (published : Option Edition) (code : Code) → Orderly gives s r work published → r ≡ Refused code → (work ≡ s.work) × (published ≡ None)
+orderly_same : (gives : Bool) (s : State) (r : Reply) (work : Map) (published : Option Edition) (code : Code) → Orderly gives s r work published
+    → r ≡ Refused code → (work ≡ s.work) × (published ≡ None)
 orderly_same gives s (Refused other) work published code so is = so
 orderly_same gives s (Done body) work published code so is = absurd (cc)
 
@@ -172,7 +186,8 @@ answer_level s c = orderly_level (gives_edition c) s (answer s c).reply (answer 
 
 -- a command that gives no edition
 pub quiet_none : (s : State) (c : Command) → gives_edition c ≡ false → (answer s c).published ≡ None
-quiet_none s c quiet = orderly_none s (answer s c).reply (answer s c).work (answer s c).published (subst (λ (b : Bool). IsOrderly b s (answer s c)) quiet (answer_orderly s c))
+quiet_none s c quiet =
+    orderly_none s (answer s c).reply (answer s c).work (answer s c).published (subst (λ (b : Bool). IsOrderly b s (answer s c)) quiet (answer_orderly s c))
 
 -- a refusal leaves the state
 pub refused_after : (s : State) (c : Command) (code : Code) → (answer s c).reply ≡ Refused code → after s c ≡ s

@@ -1,6 +1,7 @@
 -- Commands that are refused or change nothing, and those that give an edition.
 use Rattle.std.specs.Prelude.{if◌then◌else◌, codes, decimal}
-use Rattle.std.proofs.Common.{◌≡◌, ◌⊎◌, inl, inr, ⊎_elim, ℕ, ◌+◌, ◌*◌, ◌≤◌, ◌==◌, min, Bool, true, false, ◌||◌, List, [], ◌∷◌, Option, Some, None, is_some, IfSome, refl, sym, ◌∙◌, ap, subst, arith}
+use Rattle.std.proofs.Common.{◌≡◌, ◌⊎◌, inl, inr, ⊎_elim, ℕ, ◌+◌, ◌*◌, ◌≤◌, ◌==◌, min, Bool, true, false, ◌||◌, List, [], ◌∷◌, Option, Some, None, is_some}
+use Rattle.std.proofs.Common.{IfSome, refl, sym, ◌∙◌, ap, subst, arith}
 use Rattle.std.proofs.Math.Nat.{min-eq_left}
 use Rattle.std.proofs.lemmas.Bool.{cases_Bool, cases_lt, eqb-false}
 use Rattle.quilt_btree.proofs.Walks.{same_number}
@@ -72,7 +73,8 @@ pub upgrade_again : (s : State) → (s.last.format == 2) ≡ true → answer s c
 unfolding answer
 upgrade_again s e = ap (λ (b : Bool). unless ((b, no.Format) ∷ no_more_editions s ∷ []) s (publishes_it s (upgraded s))) e
 
-pub upgrade_full : (s : State) → (s.last.format == 2) ≡ false → (s.last.number == 4294967295) ≡ true → answer s commands.Upgrade ≡ nothing_done s (Refused no.Editions)
+pub upgrade_full : (s : State) → (s.last.format == 2) ≡ false → (s.last.number == 4294967295) ≡ true
+    → answer s commands.Upgrade ≡ nothing_done s (Refused no.Editions)
 unfolding answer
 upgrade_full s f e =
     ap (λ (b : Bool). unless ((b, no.Format) ∷ no_more_editions s ∷ []) s (publishes_it s (upgraded s))) f
@@ -85,7 +87,8 @@ upgrade_gives s f e =
     ∙ ap (λ (b : Bool). unless ((b, no.Editions) ∷ []) s (publishes_it s (upgraded s))) e
 
 -- where the command gives an edition
-pub leaves_given : (s : State) (command : Command) (e : Edition) (a b : Option Tale) → (answer s command).published ≡ Some e → Goes (LeavesEither s.last e) a b → Goes (Leaves s command) a b
+pub leaves_given : (s : State) (command : Command) (e : Edition) (a b : Option Tale) → (answer s command).published ≡ Some e
+    → Goes (LeavesEither s.last e) a b → Goes (Leaves s command) a b
 leaves_given s command e None None is goes = tt
 leaves_given s command e None (Some u) is goes = absurd goes
 leaves_given s command e (Some t) None is goes = absurd goes
@@ -94,7 +97,8 @@ leaves_given s command e (Some t) (Some u) is goes = record {
       (λ image. ⊎_elim (λ l. inl l) (λ r. inr (subst (λ (o : Option Edition). StandsForNew o image) (sym is) r)));
 }
 
-pub tells_edition : (s : State) (e : Edition) (text : List ℕ) (k : ℕ) → k ≡ e.number → text ≡ text_of (Done (spaced (codes "edition" ∷ decimal k ∷ []) ∷ [])) → Tells (given.Ok text) (publishes_it s e).reply
+pub tells_edition : (s : State) (e : Edition) (text : List ℕ) (k : ℕ) → k ≡ e.number
+    → text ≡ text_of (Done (spaced (codes "edition" ∷ decimal k ∷ []) ∷ [])) → Tells (given.Ok text) (publishes_it s e).reply
 tells_edition s e text k number is = (is ∙ ap (λ m. text_of (Done (spaced (codes "edition" ∷ decimal m ∷ []) ∷ []))) number, refl)
 
 is_one : (a b : ℕ) → a ≡ b → (1 ≤ b) × (b ≤ 2) → (a ≡ 2 → ⊥) → b ≡ 1
@@ -102,7 +106,8 @@ is_one a b same range apart = ⊎_elim (λ more. absurd (apart (omega arith))) (
 
 module _ {W : Type 0} {D : disk.Ghosts W} where
   -- a session that was not touched, where the command changes nothing
-  pub answered_same : (s : State) (command : Command) (old new : Session W D) (r : Reply) (given : replies.Reply) → answer s command ≡ nothing_done s r → goes_back command ≡ false
+  pub answered_same : (s : State) (command : Command) (old new : Session W D) (r : Reply) (given : replies.Reply)
+      → answer s command ≡ nothing_done s r → goes_back command ≡ false
       → Tells given r → new.changes ≡ old.changes → IsAtState old s → IsAtState new s → Answered s command old new given
   answered_same s command old new r given e forward tells count was at = record {
     tells = subst (λ (x : Reply). Tells given x) (sym (same_reply s command r e)) tells;
@@ -111,11 +116,13 @@ module _ {W : Type 0} {D : disk.Ghosts W} where
   }
 
   -- a stop leaves the last edition
-  pub leaves_last : (session : Session W D) (s : State) (command : Command) → IsAtState session s → Goes (Leaves s command) (D.told session.book.world) (D.told session.book.world)
+  pub leaves_last : (session : Session W D) (s : State) (command : Command) → IsAtState session s
+      → Goes (Leaves s command) (D.told session.book.world) (D.told session.book.world)
   leaves_last session s command at =
       let leaves = book_leaves session.book at.tale at.told at.ready in
       subst (λ (o : Option Tale). Goes (Leaves s command) o o) (sym at.told) (record {
-        since = since_here at.tale (StandsFor s command) (λ image left. inl (book_stands session.book at.tale at.told at.ready session.last s.last image at.last (leaves image left)));
+        since = since_here at.tale (StandsFor s command)
+            (λ image left. inl (book_stands session.book at.tale at.told at.ready session.last s.last image at.last (leaves image left)));
       })
 
   -- what may become the next edition
@@ -139,19 +146,23 @@ module _ {W : Type 0} {D : disk.Ghosts W} where
     few = at.few;
   }
 
-  pub answered_given : (s : State) (command : Command) (e : Edition) (old new : Session W D) (given : replies.Reply) → answer s command ≡ publishes_it s e → Tells given (publishes_it s e).reply
+  pub answered_given : (s : State) (command : Command) (e : Edition) (old new : Session W D) (given : replies.Reply)
+      → answer s command ≡ publishes_it s e → Tells given (publishes_it s e).reply
       → IsRenewed new s e → Answered s command old new given
   answered_given s command e old new given is tells renewed = record {
     tells = subst (λ (o : Outcome). Tells given o.reply) (sym is) tells;
     at = subst (λ (o : Outcome). IsAtState new (after_outcome s o)) (sym is) renewed.at;
     count =
         renewed.count
-        ∙ sym (ap (λ (o : Outcome). if is_some o.published || goes_back command then 0 else min (old.changes + changes s.last.level s.work o.work) last_count) is);
+        ∙ sym (ap (λ (o : Outcome). if is_some o.published || goes_back command then 0
+        else min (old.changes + changes s.last.level s.work o.work) last_count) is);
   }
 
   -- the work may become the next edition in format 2, once the header is raised
-  pub can_upgrade : (session : Session W D) (b : Book W D) (s : State) → (at : IsAtState session s) → (s.last.format == 2) ≡ false → b.work ≡ record session.book.work { format = 2 } → b.last ≡ session.book.last
-      → books.published_free b ≡ books.published_free session.book → free_of b ≡ free_of session.book → changed_of b ≡ changed_of session.book → b.world ≡ session.book.world
+  pub can_upgrade : (session : Session W D) (b : Book W D) (s : State) → (at : IsAtState session s) → (s.last.format == 2) ≡ false
+      → b.work ≡ record session.book.work { format = 2 } → b.last ≡ session.book.last
+      → books.published_free b ≡ books.published_free session.book → free_of b ≡ free_of session.book → changed_of b ≡ changed_of session.book
+      → b.world ≡ session.book.world
       → books.GoesOn session.book b → told_of b ≡ told_of session.book → CanPublish (with_book session b) s (upgraded s)
   can_upgrade session b s at first work last used free changed world goes told =
       let size = goes.0 in
@@ -159,7 +170,8 @@ module _ {W : Type 0} {D : disk.Ghosts W} where
       let old_one : session.book.work.format ≡ 1 = at.format ∙ one in
       let spelled = upgrade_spells session.book.work.level at.work.numbers at.work.records s.work
       (subst (λ f. SpellsUnder f session.book.work.level at.work.numbers at.work.records s.work) old_one at.work.spelled) in
-      let raised : IsSpelled (Some at.pages) (free_of session.book) session.book.journal.pages (record session.book.work { format = 2 }) session.catalog s.work = record {
+      let raised : IsSpelled (Some at.pages) (free_of session.book) session.book.journal.pages (record session.book.work { format = 2 })
+      session.catalog s.work = record {
         numbers = at.work.numbers;
         records = at.work.records;
         whole = at.work.whole;
@@ -186,19 +198,24 @@ module _ {W : Type 0} {D : disk.Ghosts W} where
       }
 
   -- the work is the last edition again
-  pub is_reverted : (session : Session W D) (b : Book W D) (s : State) (entries : List Entry) → IsAtState session s → entries ≡ session.last → b.work ≡ session.book.last → b.last ≡ session.book.last
-      → ((page : ℕ) → free_of b page ≡ books.published_free session.book page) → books.published_free b ≡ books.published_free session.book → changed_of b ≡ 0 → b.world ≡ session.book.world
+  pub is_reverted : (session : Session W D) (b : Book W D) (s : State) (entries : List Entry) → IsAtState session s → entries ≡ session.last
+      → b.work ≡ session.book.last → b.last ≡ session.book.last
+      → ((page : ℕ) → free_of b page ≡ books.published_free session.book page) → books.published_free b ≡ books.published_free session.book
+      → changed_of b ≡ 0 → b.world ≡ session.book.world
       → books.GoesOn session.book b → IfSome (D.told b.world) (λ t. told_of b ≡ Some (published t b.journal.pages))
-      → IsAtState (record { book = b; catalog = entries; last = session.last; changes = 0; warm = session.warm; alloc = session.alloc }) (record { quota = s.quota; last = s.last; work = s.last.layers })
+      → IsAtState (record { book = b; catalog = entries; last = session.last; changes = 0; warm = session.warm; alloc = session.alloc })
+      (record { quota = s.quota; last = s.last; work = s.last.layers })
   is_reverted session b s entries at same work last free used changed world goes told =
       let size = goes.0 in
       let tale = ap (λ (w : W). D.told w) world ∙ at.told in
       let pages = ap (λ n. published at.tale n) size in
       let spelled = at.last.spelled in
-      let again : IsSpelled (Some (published at.tale session.book.journal.pages)) (free_of b) session.book.journal.pages session.book.last session.last s.last.layers = record {
+      let again : IsSpelled (Some (published at.tale session.book.journal.pages))
+      (free_of b) session.book.journal.pages session.book.last session.last s.last.layers = record {
         numbers = spelled.numbers;
         records = spelled.records;
-        whole = whole_free (Some (published at.tale session.book.journal.pages)) (books.published_free session.book) (free_of b) session.book.journal.pages _ spelled.records free spelled.whole;
+        whole = whole_free (Some (published at.tale session.book.journal.pages)) (books.published_free session.book)
+            (free_of b) session.book.journal.pages _ spelled.records free spelled.whole;
         spelled = spelled.spelled;
         catalog = spelled.catalog;
       } in
@@ -224,10 +241,12 @@ unfolding answer
 revert_is s = refl
 
 pub reverted_count : (s : State) (c : ℕ) → changes_after s commands.Revert c ≡ 0
-reverted_count s c = ap (λ (o : Outcome). if is_some o.published || goes_back commands.Revert then 0 else min (c + changes s.last.level s.work o.work) last_count) (revert_is s)
+reverted_count s c =
+    ap (λ (o : Outcome). if is_some o.published || goes_back commands.Revert then 0 else min (c + changes s.last.level s.work o.work) last_count) (revert_is s)
 
 module _ {W : Type 0} {D : disk.Ghosts W} where
-  pub answered_reverted : (s : State) (old new : Session W D) (text : List ℕ) → text ≡ text_of (Done []) → IsAtState new (record { quota = s.quota; last = s.last; work = s.last.layers }) → new.changes ≡ 0
+  pub answered_reverted : (s : State) (old new : Session W D) (text : List ℕ) → text ≡ text_of (Done [])
+      → IsAtState new (record { quota = s.quota; last = s.last; work = s.last.layers }) → new.changes ≡ 0
       → Answered s commands.Revert old new (given.Ok text)
   answered_reverted s old new text is at none = record {
     tells = subst (λ (o : Outcome). Tells (given.Ok text) o.reply) (sym (revert_is s)) (is, refl);

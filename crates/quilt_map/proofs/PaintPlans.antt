@@ -1,6 +1,7 @@
 -- A region layer that is painted, as a plan of the work, and what its command is answered.
 use Rattle.std.specs.Prelude.{if◌then◌else◌}
-use Rattle.std.proofs.Common.{◌≡◌, ⊎_elim, ℕ, ◌+◌, ◌<◌, min, nat_lt, nat_le, Bool, true, false, ◌&&◌, ◌||◌, not, List, [], ◌∷◌, Option, Some, is_some, refl, sym, ◌∙◌, ap, subst, arith}
+use Rattle.std.proofs.Common.{◌≡◌, ⊎_elim, ℕ, ◌+◌, ◌<◌, min, nat_lt, nat_le, Bool, true, false, ◌&&◌, ◌||◌, not, List, [], ◌∷◌, Option, Some, is_some, refl}
+use Rattle.std.proofs.Common.{sym, ◌∙◌, ap, subst, arith}
 use Rattle.std.proofs.lemmas.Bool.{cases_lt, lt-ltb, le-ltb, lt-leb, le-leb}
 use Rattle.std.specs.FinMap as finmap
 use Rattle.quilt_types.specs.Algebra.{painted}
@@ -52,7 +53,8 @@ region_in layers numbers es entries name number same catalog found =
     (first.grid, record { got = first.got; numbered = λ k c. (under k c).numbered })
 
 -- ---- the plan
-module _ {W : Type 0} {D : disk.Ghosts W} (session : Session W D) (s : State) (at : IsAtState session s) (name : List ℕ) (number : ℕ) (g : Grid) (is : IsRegionIn s.work session.catalog name number g) where
+module _ {W : Type 0} {D : disk.Ghosts W} (session : Session W D) (s : State) (at : IsAtState session s) (name : List ℕ) (number : ℕ) (g : Grid)
+    (is : IsRegionIn s.work session.catalog name number g) where
   here : number ≡ number_of at.work.numbers name
   here = is.numbered at.work.numbers at.work.catalog
 
@@ -78,9 +80,12 @@ module _ {W : Type 0} {D : disk.Ghosts W} (session : Session W D) (s : State) (a
       (changes_law s.last.format s.last.level name number g h edits (at_most {D = D} session s at) region_grid fits leads)
 
 -- ---- once the layer was read
-module _ {W : Type 0} {D : disk.Ghosts W} (old : Session W D) (s : State) (at : IsAtState old s) (b : Book W D) (still : IsStill old.book b) (law : IsLawful (D.size b.world) (D.told b.world)) where
-  pub mid_amendment : (name : List ℕ) (number : ℕ) (g : Grid) → IsRegionIn s.work old.catalog name number g → (next : ℕ → Grid → Grid) → IsGrid s.last.format s.last.level (next s.last.level g)
-      → (edits : Edits) → ((h : Grid) → HasRegion (told_of old.book) (tree_in old.book.work) number old.book.work.level h → LeadsTo old.book.work.level number h (next old.book.work.level h) edits)
+module _ {W : Type 0} {D : disk.Ghosts W} (old : Session W D) (s : State) (at : IsAtState old s) (b : Book W D) (still : IsStill old.book b)
+    (law : IsLawful (D.size b.world) (D.told b.world)) where
+  pub mid_amendment : (name : List ℕ) (number : ℕ) (g : Grid) → IsRegionIn s.work old.catalog name number g → (next : ℕ → Grid → Grid)
+      → IsGrid s.last.format s.last.level (next s.last.level g)
+      → (edits : Edits) → ((h : Grid) → HasRegion (told_of old.book) (tree_in old.book.work) number old.book.work.level h
+      → LeadsTo old.book.work.level number h (next old.book.work.level h) edits)
       → IsAmendment s (mid_at old s at b still law).work.numbers old.catalog name number (Region (next s.last.level g)) edits.remove edits.add
   mid_amendment name number g is next fits edits leads =
       region_amendment {D = D} (with_book old b) s (mid_at old s at b still law) name number g is (next s.last.level g) edits fits
@@ -126,17 +131,21 @@ set_as_rect s a p c =
     ap (λ (b : Bool). unless (unknown s a ∷ unless_region s a ∷ (not b, no.Outside) ∷ full s work ∷ []) s (changed work)) (pixel_is s.last.level p)
 
 module _ {W : Type 0} {D : disk.Ghosts W} where
-  pub rect_answered : (old new : Session W D) (s : State) (a : List ℕ) (w : Window) (c : Colour) (g : Grid) (reply : replies.Reply) → finmap.get s.work a ≡ Some (Region g)
-      → is_window s.last.level w ≡ true → AnsweredBy s (placed s a (Region (painted s.last.level g w c.0))) old new reply → Answered s (commands.Rect a w c) old new reply
+  pub rect_answered : (old new : Session W D) (s : State) (a : List ℕ) (w : Window) (c : Colour) (g : Grid) (reply : replies.Reply)
+      → finmap.get s.work a ≡ Some (Region g)
+      → is_window s.last.level w ≡ true → AnsweredBy s (placed s a (Region (painted s.last.level g w c.0))) old new reply
+      → Answered s (commands.Rect a w c) old new reply
   rect_answered old new s a w c g reply got inside by =
       let layer = Region (painted s.last.level g w c.0) in
       answered_by {D = D} s (commands.Rect a w c) (placed s a layer) old new reply (rect_done s a w c g got inside) (placed_none s a layer) refl by
 
-  pub set_answered : (old new : Session W D) (s : State) (a : List ℕ) (p : Pixel) (c : Colour) (reply : replies.Reply) → Answered s (commands.Rect a (pixel_window p) c) old new reply
+  pub set_answered : (old new : Session W D) (s : State) (a : List ℕ) (p : Pixel) (c : Colour) (reply : replies.Reply)
+      → Answered s (commands.Rect a (pixel_window p) c) old new reply
       → Answered s (commands.Set a p c) old new reply
   set_answered old new s a p c reply by =
       let same = sym (set_as_rect s a p c) in record {
         tells = subst (λ (o : Outcome). Tells reply o.reply) same by.tells;
         at = subst (λ (o : Outcome). IsAtState new (after_outcome s o)) same by.at;
-        count = by.count ∙ ap (λ (o : Outcome). if is_some o.published || false then 0 else min (old.changes + changes s.last.level s.work o.work) last_count) same;
+        count =
+            by.count ∙ ap (λ (o : Outcome). if is_some o.published || false then 0 else min (old.changes + changes s.last.level s.work o.work) last_count) same;
       }

@@ -1,6 +1,7 @@
 -- What a command that was not refused before its quota is answered.
 use Rattle.std.specs.Prelude.{if◌then◌else◌}
-use Rattle.std.proofs.Common.{◌≡◌, ℕ, ◌+◌, ◌<◌, ◌≤◌, min, nat_lt, Bool, true, false, ◌||◌, List, [], ◌∷◌, Option, Some, None, is_some, refl, sym, ◌∙◌, ap, subst, arith}
+use Rattle.std.proofs.Common.{◌≡◌, ℕ, ◌+◌, ◌<◌, ◌≤◌, min, nat_lt, Bool, true, false, ◌||◌, List, [], ◌∷◌, Option, Some, None, is_some, refl, sym, ◌∙◌, ap}
+use Rattle.std.proofs.Common.{subst, arith}
 use Rattle.std.proofs.Math.Nat.{min-eq_left}
 use Rattle.std.proofs.lemmas.Bool.{lt-ltb, le-ltb}
 use Rattle.quilt_types.specs.Facts.{records, changes}
@@ -27,10 +28,12 @@ use Rattle.quilt_map.proofs.Outcomes.{nothing_done}
 abbrev by_quota : State → Map → Bool → Outcome
 by_quota s work b = unless ((b, no.Full) ∷ []) s (changed work)
 
-pub placed_full : (s : State) (name : List ℕ) (layer : Layer) → s.quota < records s.last.level (with s name layer) → placed s name layer ≡ nothing_done s (Refused no.Full)
+pub placed_full : (s : State) (name : List ℕ) (layer : Layer) → s.quota < records s.last.level (with s name layer)
+    → placed s name layer ≡ nothing_done s (Refused no.Full)
 placed_full s name layer past = ap (by_quota s (with s name layer)) (lt-ltb s.quota (records s.last.level (with s name layer)) past)
 
-pub placed_within : (s : State) (name : List ℕ) (layer : Layer) → records s.last.level (with s name layer) ≤ s.quota → placed s name layer ≡ changed (with s name layer)
+pub placed_within : (s : State) (name : List ℕ) (layer : Layer) → records s.last.level (with s name layer) ≤ s.quota
+    → placed s name layer ≡ changed (with s name layer)
 placed_within s name layer within = ap (by_quota s (with s name layer)) (le-ltb s.quota (records s.last.level (with s name layer)) within)
 
 none_given : (s : State) (work : Map) (b : Bool) → (by_quota s work b).published ≡ None
@@ -42,7 +45,8 @@ placed_none s name layer = none_given s (with s name layer) (nat_lt s.quota (rec
 
 module _ {W : Type 0} {D : disk.Ghosts W} where
   -- from a session with as many changes
-  pub answered_from : (old mid new : Session W D) (s : State) (out : Outcome) (reply : replies.Reply) → mid.changes ≡ old.changes → AnsweredBy s out mid new reply → AnsweredBy s out old new reply
+  pub answered_from : (old mid new : Session W D) (s : State) (out : Outcome) (reply : replies.Reply) → mid.changes ≡ old.changes
+      → AnsweredBy s out mid new reply → AnsweredBy s out old new reply
   answered_from old mid new s out reply same by = record {
     tells = by.tells;
     at = by.at;
@@ -50,25 +54,31 @@ module _ {W : Type 0} {D : disk.Ghosts W} where
   }
 
   -- a refusal, which leaves the state
-  pub refused_by : (old new : Session W D) (s : State) (code : Code) → old.changes ≤ last_count → IsAtState new s → new.changes ≡ old.changes → AnsweredBy s (nothing_done s (Refused code)) old new (given.No code)
+  pub refused_by : (old new : Session W D) (s : State) (code : Code) → old.changes ≤ last_count → IsAtState new s → new.changes ≡ old.changes
+      → AnsweredBy s (nothing_done s (Refused code)) old new (given.No code)
   refused_by old new s code bounded at count = record {
     tells = refl;
     at = at;
-    count = count ∙ sym (ap (λ k. min (old.changes + k) last_count) (changes_none s.last.level s.work) ∙ min-eq_left {n = old.changes + 0} {m = last_count} (omega arith) ∙ omega arith);
+    count = count ∙ sym (ap (λ k. min (old.changes + k) last_count) (changes_none s.last.level s.work)
+        ∙ min-eq_left {n = old.changes + 0} {m = last_count} (omega arith) ∙ omega arith);
   }
 
   -- the quota refuses
-  pub full_answer : (old new : Session W D) (s : State) (name : List ℕ) (layer : Layer) → IsAtState old s → IsFull old new s name (Some layer) → AnsweredBy s (placed s name layer) old new (given.No no.Full)
+  pub full_answer : (old new : Session W D) (s : State) (name : List ℕ) (layer : Layer) → IsAtState old s → IsFull old new s name (Some layer)
+      → AnsweredBy s (placed s name layer) old new (given.No no.Full)
   full_answer old new s name layer was is =
-      subst (λ (o : Outcome). AnsweredBy s o old new (given.No no.Full)) (sym (placed_full s name layer is.past)) (refused_by old new s no.Full was.bounded is.at is.count)
+      subst (λ (o : Outcome). AnsweredBy s o old new (given.No no.Full)) (sym (placed_full s name layer is.past))
+      (refused_by old new s no.Full was.bounded is.at is.count)
 
   -- the layer stands under the name, with its catalog renewed
-  pub placed_answer : (old mid new : Session W D) (s : State) (name : List ℕ) (layer : Layer) (entries : List Entry) (text : List ℕ) → HasLayer old mid s name (Some layer) entries
+  pub placed_answer : (old mid new : Session W D) (s : State) (name : List ℕ) (layer : Layer) (entries : List Entry) (text : List ℕ)
+      → HasLayer old mid s name (Some layer) entries
       → new ≡ record mid { catalog = entries } → text ≡ text_of (Done []) → AnsweredBy s (placed s name layer) old new (given.Ok text)
   placed_answer old mid new s name layer entries text has is told =
       subst (λ (o : Outcome). AnsweredBy s o old new (given.Ok text)) (sym (placed_within s name layer has.within)) (record {
         tells = (told, refl);
-        at = subst (λ (x : Session W D). IsAtState x (changed_state s name (Some layer))) (sym is) (renewed mid entries (changed_state s name (Some layer)) has.at);
+        at = subst (λ (x : Session W D). IsAtState x (changed_state s name (Some layer))) (sym is)
+            (renewed mid entries (changed_state s name (Some layer)) has.at);
         count = ap (λ (x : Session W D). x.changes) is ∙ has.count;
       })
     where
@@ -90,13 +100,16 @@ module _ {W : Type 0} {D : disk.Ghosts W} where
       }
 
   -- the answer of a command that has this outcome
-  pub answered_by : (s : State) (command : Command) (out : Outcome) (old new : Session W D) (reply : replies.Reply) → answer s command ≡ out → out.published ≡ None → goes_back command ≡ false
+  pub answered_by : (s : State) (command : Command) (out : Outcome) (old new : Session W D) (reply : replies.Reply) → answer s command ≡ out
+      → out.published ≡ None → goes_back command ≡ false
       → AnsweredBy s out old new reply → Answered s command old new reply
   answered_by s command out old new reply is none forward by = record {
     tells = subst (λ (o : Outcome). Tells reply o.reply) (sym is) by.tells;
     at = subst (λ (o : Outcome). IsAtState new (after_outcome s o)) (sym is) by.at;
     count =
         by.count
-        ∙ sym (ap (λ (o : Outcome). if is_some o.published || goes_back command then 0 else min (old.changes + changes s.last.level s.work o.work) last_count) is
-        ∙ ap (λ (b : Bool). if b then 0 else min (old.changes + changes s.last.level s.work out.work) last_count) (ap (λ (o : Option Edition). is_some o || goes_back command) none ∙ forward));
+        ∙ sym (ap (λ (o : Outcome). if is_some o.published || goes_back command then 0
+        else min (old.changes + changes s.last.level s.work o.work) last_count) is
+        ∙ ap (λ (b : Bool). if b then 0 else min (old.changes + changes s.last.level s.work out.work) last_count)
+        (ap (λ (o : Option Edition). is_some o || goes_back command) none ∙ forward));
   }

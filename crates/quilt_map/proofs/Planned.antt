@@ -22,20 +22,24 @@ use Rattle.quilt_map.proofs.Placing.{answered_from, refused_by}
 pub some_of : {X : Type 0} (P : X → Type 0) (o : Option X) (x : X) → o ≡ Some x → IfSome o P → P x
 some_of {X = X} P o x is h = subst (λ (z : Option X). IfSome z P) is h
 
-module _ {W : Type 0} {D : disk.Ghosts W} (old : Session W D) (s : State) (at : IsAtState old s) (b : Book W D) (still : IsStill old.book b) (law : IsLawful (D.size b.world) (D.told b.world)) (out : Outcome) where
+module _ {W : Type 0} {D : disk.Ghosts W} (old : Session W D) (s : State) (at : IsAtState old s) (b : Book W D) (still : IsStill old.book b)
+    (law : IsLawful (D.size b.world) (D.told b.world)) (out : Outcome) where
   -- there is no plan, and the code says why
   pub unplanned : (code : Code) → out ≡ nothing_done s (Refused code) → AnsweredBy s out old (with_book old b) (given.No code)
   unplanned code is =
-      subst (λ (o : Outcome). AnsweredBy s o old (with_book old b) (given.No code)) (sym is) (refused_by old (with_book old b) s code at.bounded (mid_at old s at b still law) refl)
+      subst (λ (o : Outcome). AnsweredBy s o old (with_book old b) (given.No code)) (sym is)
+      (refused_by old (with_book old b) s code at.bounded (mid_at old s at b still law) refl)
 
   -- what an amendment by these edits is answered
   abbrev pub Amends : Session W D → Edits → replies.Reply → Type 0
   Amends new edits reply =
-      (now : State) (mid : IsAtState (with_book old b) now) (name : List ℕ) (number : ℕ) (layer : Layer) → IsAmendment now mid.work.numbers old.catalog name number layer edits.remove edits.add
+      (now : State) (mid : IsAtState (with_book old b) now) (name : List ℕ) (number : ℕ) (layer : Layer)
+      → IsAmendment now mid.work.numbers old.catalog name number layer edits.remove edits.add
       → AnsweredBy now (placed now name layer) (with_book old b) new reply
 
   -- the layer is amended by the edits
-  pub planned : (name : List ℕ) (number : ℕ) (layer : Layer) (edits : Edits) → IsAmendment s (mid_at old s at b still law).work.numbers old.catalog name number layer edits.remove edits.add
+  pub planned : (name : List ℕ) (number : ℕ) (layer : Layer) (edits : Edits)
+      → IsAmendment s (mid_at old s at b still law).work.numbers old.catalog name number layer edits.remove edits.add
       → out ≡ placed s name layer → (new : Session W D) (reply : replies.Reply) → Amends new edits reply → AnsweredBy s out old new reply
   planned name number layer edits amendment is new reply amends =
       subst (λ (o : Outcome). AnsweredBy s o old new reply) (sym is)

@@ -49,7 +49,8 @@ none_of left (r ∷ added) apart =
 
 -- ---- a plan
 
-module _ (form n : ℕ) (numbers : Numbering) (rs : List Record) (layers : Map) (le : n ≤ 12) (s : SpellsUnder form n numbers rs layers) (name : List ℕ) (number : ℕ)
+module _ (form n : ℕ) (numbers : Numbering) (rs : List Record) (layers : Map) (le : n ≤ 12) (s : SpellsUnder form n numbers rs layers)
+    (name : List ℕ) (number : ℕ)
     (new : Option Layer) (removed added : List Record) (is : IsStep form n layers numbers name number new removed added) where
   pub plan_there : has_each (keys_of removed) rs ≡ true
   plan_there = each_of rs removed (step_there form n numbers rs layers le s name number new removed added is)

@@ -12,7 +12,8 @@ use Rattle.quilt_types.specs.Layers.{Layer, Map, Points, PointMap}
 use Rattle.quilt_types.specs.Plane.{is_pixel, is_window, in_window}
 use Rattle.quilt_world.specs.declared.disk.Disk as disk
 use Rattle.quilt_words.specs.declared.command.Command.TheVariants as commands
-use Rattle.quilt_replies.specs.Answers.{State, Outcome, Reply, Refused, Done, answer, unless, makes, told, changed, with, full, layer, unknown, unless_points, outside, window_outside, is_points, points_in, capacity_in, point_line}
+use Rattle.quilt_replies.specs.Answers.{State, Outcome, Reply, Refused, Done, answer, unless, makes, told, changed, with, full, layer, unknown, unless_points}
+use Rattle.quilt_replies.specs.Answers.{outside, window_outside, is_points, points_in, capacity_in, point_line}
 use Rattle.quilt_replies.specs.Runs.{text_of}
 use Rattle.quilt_replies.specs.declared.reply.Reply as replies
 use Rattle.quilt_points.specs.Layers.{entries_of}
@@ -56,7 +57,8 @@ module _ (s : State) (a : List ℕ) where
   pub find_refused : (p : Pixel) (code : Code) → IsNoPoints s a code → (answer s (commands.Find a p)).reply ≡ Refused code
   unfolding answer
   find_refused p code first =
-      first (outside s p ∷ (is_none (finmap.get (points_in (layer s a)) p), no.Absent) ∷ []) (told s (decimal (unwrap_or (finmap.get (points_in (layer s a)) p) 0) ∷ []))
+      first (outside s p ∷ (is_none (finmap.get (points_in (layer s a)) p), no.Absent) ∷ [])
+      (told s (decimal (unwrap_or (finmap.get (points_in (layer s a)) p) 0) ∷ []))
 
   pub within_refused : (w : Window) (code : Code) → IsNoPoints s a code → (answer s (commands.Within a w)).reply ≡ Refused code
   unfolding answer
@@ -67,14 +69,16 @@ module _ (s : State) (a : List ℕ) where
   pub find_asks : (p : Pixel) → Asks s (commands.Find a p)
   unfolding answer
   find_asks p = record {
-    nothing = alone s (unknown s a ∷ unless_points s a ∷ outside s p ∷ (is_none (finmap.get (points_in (layer s a)) p), no.Absent) ∷ []) (decimal (unwrap_or (finmap.get (points_in (layer s a)) p) 0) ∷ []);
+    nothing = alone s (unknown s a ∷ unless_points s a ∷ outside s p ∷ (is_none (finmap.get (points_in (layer s a)) p), no.Absent) ∷ [])
+        (decimal (unwrap_or (finmap.get (points_in (layer s a)) p) 0) ∷ []);
     forward = refl;
   }
 
   pub within_asks : (w : Window) → Asks s (commands.Within a w)
   unfolding answer
   within_asks w = record {
-    nothing = alone s (unknown s a ∷ unless_points s a ∷ window_outside s w ∷ []) (map point_line (filter (λ e. in_window w e.0) (finmap.entries (points_in (layer s a)))));
+    nothing = alone s (unknown s a ∷ unless_points s a ∷ window_outside s w ∷ [])
+        (map point_line (filter (λ e. in_window w e.0) (finmap.entries (points_in (layer s a)))));
     forward = refl;
   }
 
@@ -129,13 +133,15 @@ module _ (s : State) (a : List ℕ) where
     unfolding find_in
     find_absent p on none = find_is p ∙ (λ i. find_with p (got i) (on i)) ∙ ap find_in none
 
-    pub find_done : (p : Pixel) (label : ℕ) → is_pixel s.last.level p ≡ true → finmap.get points p ≡ Some label → (answer s (commands.Find a p)).reply ≡ Done (decimal label ∷ [])
+    pub find_done : (p : Pixel) (label : ℕ) → is_pixel s.last.level p ≡ true → finmap.get points p ≡ Some label
+        → (answer s (commands.Find a p)).reply ≡ Done (decimal label ∷ [])
     unfolding find_in
     find_done p label on some = find_is p ∙ (λ i. find_with p (got i) (on i)) ∙ ap find_in some
 
     abbrev within_with : Window → Option Layer → Bool → Reply
     within_with w o b =
-        (unless ((is_none o, no.Unknown) ∷ (not (is_points o), no.Kind) ∷ (not b, no.Outside) ∷ []) s (told s (map point_line (filter (λ e. in_window w e.0) (finmap.entries (points_in o)))))).reply
+        (unless ((is_none o, no.Unknown) ∷ (not (is_points o), no.Kind) ∷ (not b, no.Outside) ∷ []) s
+        (told s (map point_line (filter (λ e. in_window w e.0) (finmap.entries (points_in o)))))).reply
 
     within_is : (w : Window) → (answer s (commands.Within a w)).reply ≡ within_with w (finmap.get s.work a) (is_window s.last.level w)
     unfolding answer
@@ -144,11 +150,13 @@ module _ (s : State) (a : List ℕ) where
     pub within_outside : (w : Window) → is_window s.last.level w ≡ false → (answer s (commands.Within a w)).reply ≡ Refused no.Outside
     within_outside w out = within_is w ∙ (λ i. within_with w (got i) (out i))
 
-    pub within_done : (w : Window) → is_window s.last.level w ≡ true → (answer s (commands.Within a w)).reply ≡ Done (map point_line (filter (λ e. in_window w e.0) (finmap.entries points)))
+    pub within_done : (w : Window) → is_window s.last.level w ≡ true
+        → (answer s (commands.Within a w)).reply ≡ Done (map point_line (filter (λ e. in_window w e.0) (finmap.entries points)))
     within_done w on = within_is w ∙ (λ i. within_with w (got i) (on i))
 
     -- ---- the texts of what is found
-    pub find_body : (p : Pixel) → is_pixel s.last.level p ≡ true → (label : ℕ) → finmap.get points p ≡ Some label → (n : ℕ) → n ≡ label → (t : List ℕ) → t ≡ text_of (Done (decimal n ∷ []))
+    pub find_body : (p : Pixel) → is_pixel s.last.level p ≡ true → (label : ℕ) → finmap.get points p ≡ Some label → (n : ℕ) → n ≡ label
+        → (t : List ℕ) → t ≡ text_of (Done (decimal n ∷ []))
         → IsBodyOf ((answer s (commands.Find a p)).reply) t
     find_body p on label some n same t written = record {
       body = decimal label ∷ [];
@@ -156,7 +164,8 @@ module _ (s : State) (a : List ℕ) where
       written = written ∙ ap (λ (k : ℕ). text_of (Done (decimal k ∷ []))) same;
     }
 
-    pub within_body : (w : Window) → is_window s.last.level w ≡ true → (list : List Point) → entries_of list ≡ filter (λ e. in_window w e.0) (finmap.entries points)
+    pub within_body : (w : Window) → is_window s.last.level w ≡ true → (list : List Point)
+        → entries_of list ≡ filter (λ e. in_window w e.0) (finmap.entries points)
         → (t : List ℕ) → t ≡ text_of (Done (map (λ (p : Point). point_line (p.at, p.label)) list)) → IsBodyOf ((answer s (commands.Within a w)).reply) t
     within_body w on list all t written = record {
       body = map point_line (filter (λ e. in_window w e.0) (finmap.entries points));
@@ -169,7 +178,8 @@ module _ (s : State) (a : List ℕ) where
       pub put_answered : (label : ℕ) → AnsweredBy s (points_put s a capacity points p label) old new reply → Answered s (commands.Put a p label) old new reply
       put_answered label by =
           answered_by s (commands.Put a p label) (points_put s a capacity points p label) old new reply (put_inside p label inside)
-          (none_with_two (is_some (finmap.get points p)) (full s (with s a (Points capacity (finmap.insert points p label)))).0 no.Present no.Full s (with s a (Points capacity (finmap.insert points p label)))) refl by
+          (none_with_two (is_some (finmap.get points p)) (full s (with s a (Points capacity (finmap.insert points p label)))).0 no.Present no.Full s
+          (with s a (Points capacity (finmap.insert points p label)))) refl by
 
       pub del_answered : AnsweredBy s (points_del s a capacity points p) old new reply → Answered s (commands.Del a p) old new reply
       del_answered by =
@@ -180,11 +190,14 @@ module _ (s : State) (a : List ℕ) where
 module _ (s : State) (a : List ℕ) (capacity : ℕ) (points : PointMap) (p : Pixel) where
   pub put_present : (label : ℕ) → is_some (finmap.get points p) ≡ true → points_put s a capacity points p label ≡ nothing_done s (Refused no.Present)
   put_present label there =
-      let work = with s a (Points capacity (finmap.insert points p label)) in first_true (is_some (finmap.get points p)) no.Present (full s work ∷ []) s (changed work) there
+      let work = with s a (Points capacity (finmap.insert points p label)) in
+      first_true (is_some (finmap.get points p)) no.Present (full s work ∷ []) s (changed work) there
 
-  pub put_new : (label : ℕ) → is_some (finmap.get points p) ≡ false → points_put s a capacity points p label ≡ placed s a (Points capacity (finmap.insert points p label))
+  pub put_new : (label : ℕ) → is_some (finmap.get points p) ≡ false
+      → points_put s a capacity points p label ≡ placed s a (Points capacity (finmap.insert points p label))
   put_new label away =
-      let work = with s a (Points capacity (finmap.insert points p label)) in first_false (is_some (finmap.get points p)) no.Present (full s work ∷ []) s (changed work) away
+      let work = with s a (Points capacity (finmap.insert points p label)) in
+      first_false (is_some (finmap.get points p)) no.Present (full s work ∷ []) s (changed work) away
 
   pub del_absent : is_none (finmap.get points p) ≡ true → points_del s a capacity points p ≡ nothing_done s (Refused no.Absent)
   del_absent away = first_true (is_none (finmap.get points p)) no.Absent [] s (changed (with s a (Points capacity (finmap.remove points p)))) away
@@ -202,7 +215,8 @@ put_finds None (Some y) h = (λ e. refl, λ x e. cc)
 put_finds (Some x) None h = (λ e. cc, λ z e. refl)
 put_finds (Some x) (Some y) h = let wrong : true ≡ false = h.1 refl in cc
 
-pub del_finds : {X Y : Type 0} (o : Option X) (q : Option Y) → IsNone o ↔ IsNone q → (o ≡ None → is_none q ≡ true) × ((x : X) → o ≡ Some x → (y : Y) × (q ≡ Some y) × (is_none q ≡ false))
+pub del_finds : {X Y : Type 0} (o : Option X) (q : Option Y) → IsNone o ↔ IsNone q
+    → (o ≡ None → is_none q ≡ true) × ((x : X) → o ≡ Some x → (y : Y) × (q ≡ Some y) × (is_none q ≡ false))
 del_finds None None h = (λ e. refl, λ x e. cc)
 del_finds None (Some y) h = let wrong : true ≡ false = h.0 refl in cc
 del_finds (Some x) None h = let wrong : true ≡ false = h.1 refl in cc

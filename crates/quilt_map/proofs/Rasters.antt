@@ -47,7 +47,8 @@ rows_grid f n bytes is = record {
 pub some_rows : (f n : ℕ) (o : Option (List ℕ)) (bytes : List ℕ) → o ≡ Some bytes → IfSome o (IsRows f n) → IsRows f n bytes
 some_rows f n o bytes is are = subst (λ (r : Option (List ℕ)). IfSome r (IsRows f n)) is are
 
-pub list_grid : (list : Raster) (n : ℕ) (bytes : List ℕ) → list ≡ record { level = n; grid = colours_of_bytes bytes } → list.grid ≡ answers.colours_of_bytes bytes
+pub list_grid : (list : Raster) (n : ℕ) (bytes : List ℕ) → list ≡ record { level = n; grid = colours_of_bytes bytes }
+    → list.grid ≡ answers.colours_of_bytes bytes
 list_grid list n bytes is = ap (λ (l : Raster). l.grid) is ∙ same_colours bytes
 
 -- ---- what the definition answers
@@ -68,10 +69,12 @@ module _ (s : State) (a : List ℕ) where
 
     pub raster_done : (bytes : List ℕ) → answer s (commands.Raster a (Some bytes)) ≡ placed s a (Region (answers.colours_of_bytes bytes))
     unfolding answer
-    raster_done bytes = let work = with s a (Region (answers.colours_of_bytes bytes)) in region_passes s a g ((false, no.Rows) ∷ full s work ∷ []) (changed work) got
+    raster_done bytes = let work = with s a (Region (answers.colours_of_bytes bytes)) in
+        region_passes s a g ((false, no.Rows) ∷ full s work ∷ []) (changed work) got
 
 module _ {W : Type 0} {D : disk.Ghosts W} where
-  pub raster_answered : (old new : Session W D) (s : State) (a bytes : List ℕ) (rows : Option (List ℕ)) (g h : Grid) (reply : Reply) → finmap.get s.work a ≡ Some (Region g) → rows ≡ Some bytes
+  pub raster_answered : (old new : Session W D) (s : State) (a bytes : List ℕ) (rows : Option (List ℕ)) (g h : Grid) (reply : Reply)
+      → finmap.get s.work a ≡ Some (Region g) → rows ≡ Some bytes
       → h ≡ answers.colours_of_bytes bytes → AnsweredBy s (placed s a (Region h)) old new reply → Answered s (commands.Raster a rows) old new reply
   raster_answered old new s a bytes rows g h reply got is same by =
       let layer = Region (answers.colours_of_bytes bytes) in
@@ -80,9 +83,11 @@ module _ {W : Type 0} {D : disk.Ghosts W} where
       (subst (λ (k : Grid). AnsweredBy s (placed s a (Region k)) old new reply) same by))
 
   -- the rows of a command are those of a grid of the work
-  pub rows_at : (old : Session W D) (s : State) (bytes : List ℕ) (h : Grid) → IsAtState old s → IsRows old.book.work.format old.book.last.level bytes → h ≡ answers.colours_of_bytes bytes
+  pub rows_at : (old : Session W D) (s : State) (bytes : List ℕ) (h : Grid) → IsAtState old s → IsRows old.book.work.format old.book.last.level bytes
+      → h ≡ answers.colours_of_bytes bytes
       → IsGrid s.last.format s.last.level h
   rows_at old s bytes h at are same =
       let here : IsRows s.last.format s.last.level bytes =
-      subst (λ (f : ℕ). IsRows f s.last.level bytes) (format_is {D = D} old s at) (subst (λ (n : ℕ). IsRows old.book.work.format n bytes) (sym at.last.head.level) are) in
+      subst (λ (f : ℕ). IsRows f s.last.level bytes) (format_is {D = D} old s at)
+      (subst (λ (n : ℕ). IsRows old.book.work.format n bytes) (sym at.last.head.level) are) in
       subst (λ (k : Grid). IsGrid s.last.format s.last.level k) (sym same) (rows_grid s.last.format s.last.level bytes here)

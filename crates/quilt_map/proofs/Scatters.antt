@@ -18,7 +18,8 @@ use Rattle.quilt_spell.proofs.FactKeys.{pixel_same}
 use Rattle.quilt_spell.proofs.Maps.{get_inserted, get_others}
 use Rattle.quilt_points.specs.Plans.{AreNew}
 use Rattle.quilt_words.specs.declared.command.Command.TheVariants as commands
-use Rattle.quilt_replies.specs.Answers.{State, Outcome, Refused, answer, unless, makes, changed, with, full, layer, is_points, points_in, capacity_in, collide, with_points}
+use Rattle.quilt_replies.specs.Answers.{State, Outcome, Refused, answer, unless, makes, changed, with, full, layer, is_points, points_in, capacity_in, collide}
+use Rattle.quilt_replies.specs.Answers.{with_points}
 use Rattle.quilt_replies.specs.declared.reply.Reply as replies
 use Rattle.quilt_map.specs.Commanding.{Answered}
 use Rattle.quilt_map.specs.Making.{AnsweredBy, placed}
@@ -48,7 +49,8 @@ new_when points (p ∷ ps) h =
     let parts = both_false (is_some (finmap.get points p.at)) (collide after ps) h in
     let rest = new_when after ps parts.1 in
     let away : (q : Point) → Contains ps q → q.at ≡ p.at → ⊥ = λ q c e.
-    (let wrong : None ≡ Some p.label = sym (rest.free q c) ∙ ap (finmap.get after) e ∙ get_inserted pixel_cmp pixel_total pixel_same points p.at p.label in cc) in
+    (let wrong : None ≡ Some p.label =
+    sym (rest.free q c) ∙ ap (finmap.get after) e ∙ get_inserted pixel_cmp pixel_total pixel_same points p.at p.label in cc) in
     record {
       differ = (λ c. let m = Contains-map_from (λ (q : Point). q.at) ps p.at c in away m.0 m.1 m.2, rest.differ);
       free = λ q c.
@@ -64,9 +66,11 @@ none_when points (p ∷ ps) n =
     let rest : AreNew after ps = record {
       differ = n.differ.1;
       free = λ q c.
-          get_others pixel_cmp pixel_total pixel_same points p.at p.label q.at (λ e. n.differ.0 (subst (Contains (map at ps)) e (Contains-map at ps q c))) ∙ n.free q (Contains-there p ps q c);
+          get_others pixel_cmp pixel_total pixel_same points p.at p.label q.at
+          (λ e. n.differ.0 (subst (Contains (map at ps)) e (Contains-map at ps q c))) ∙ n.free q (Contains-there p ps q c);
     } in
-    either_false (is_some (finmap.get points p.at)) (collide after ps) (ap (λ (o : Option ℕ). is_some o) (n.free p (Contains-here p ps))) (none_when after ps rest)
+    either_false (is_some (finmap.get points p.at)) (collide after ps) (ap (λ (o : Option ℕ). is_some o) (n.free p (Contains-here p ps)))
+    (none_when after ps rest)
 
 -- ---- pixels of the square
 any_none : {X : Type 0} (p : X → Bool) (xs : List X) → list_any p xs ≡ false → (x : X) → Contains xs x → p x ≡ false
@@ -81,10 +85,12 @@ not_false false h = cc
 
 pub none_outside : (n : ℕ) (ps : List Point) → list_any (λ q. not (is_pixel n q.at)) ps ≡ false → All (λ q. is_pixel n q.at ≡ true) ps
 none_outside n ps h =
-    All-weaker (Contains ps) (λ q. is_pixel n q.at ≡ true) (λ q c. not_false (is_pixel n q.at) (any_none (λ (z : Point). not (is_pixel n z.at)) ps h q c)) ps (All-contains_itself ps)
+    All-weaker (Contains ps) (λ q. is_pixel n q.at ≡ true)
+    (λ q c. not_false (is_pixel n q.at) (any_none (λ (z : Point). not (is_pixel n z.at)) ps h q c)) ps (All-contains_itself ps)
 
 -- what a plan says of the points
-pub scatter_finds : {X : Type 0} (o : Option X) (points : PointMap) (ps : List Point) → IsNone o ↔ (AreNew points ps → ⊥) → (o ≡ None → collide points ps ≡ true) × ((x : X) → o ≡ Some x → collide points ps ≡ false)
+pub scatter_finds : {X : Type 0} (o : Option X) (points : PointMap) (ps : List Point) → IsNone o ↔ (AreNew points ps → ⊥)
+    → (o ≡ None → collide points ps ≡ true) × ((x : X) → o ≡ Some x → collide points ps ≡ false)
 scatter_finds None points ps h = (λ e. ⊎_elim (λ t. t) (λ f. absurd (h.0 refl (new_when points ps f))) (cases_Bool (collide points ps)), λ x e. cc)
 scatter_finds (Some x) points ps h = (
   λ e. cc,
@@ -115,7 +121,8 @@ module _ (s : State) (a : List ℕ) where
       let ps = unwrap_or list [] in
       let work = with s a (Points (capacity_in (layer s a)) (with_points (points_in (layer s a)) ps)) in
       points_refused s a code first (
-      (is_none list, no.Rows) ∷ (list_any (λ q. not (is_pixel s.last.level q.at)) ps, no.Outside) ∷ (collide (points_in (layer s a)) ps, no.Present) ∷ full s work ∷ []) (changed work)
+      (is_none list, no.Rows) ∷ (list_any (λ q. not (is_pixel s.last.level q.at)) ps, no.Outside) ∷ (collide (points_in (layer s a)) ps, no.Present)
+      ∷ full s work ∷ []) (changed work)
 
   module _ (capacity : ℕ) (points : PointMap) (got : finmap.get s.work a ≡ Some (Points capacity points)) where
     pub scatter_rows : answer s (commands.Scatter a None) ≡ nothing_done s (Refused no.Rows)
@@ -131,11 +138,13 @@ module _ (s : State) (a : List ℕ) where
       unfolding rest_of
       to_pixels = scatter_is (Some ps) ∙ ap (λ (o : Option Layer). scatter_with o (Some ps)) got
 
-      pub scatter_outside : list_any (λ q. not (is_pixel s.last.level q.at)) ps ≡ true → answer s (commands.Scatter a (Some ps)) ≡ nothing_done s (Refused no.Outside)
+      pub scatter_outside : list_any (λ q. not (is_pixel s.last.level q.at)) ps ≡ true
+          → answer s (commands.Scatter a (Some ps)) ≡ nothing_done s (Refused no.Outside)
       unfolding rest_of
       scatter_outside out = to_pixels ∙ ap rest_of out
 
-      scatter_inside : list_any (λ q. not (is_pixel s.last.level q.at)) ps ≡ false → answer s (commands.Scatter a (Some ps)) ≡ points_scattered s a capacity points ps
+      scatter_inside : list_any (λ q. not (is_pixel s.last.level q.at)) ps ≡ false
+          → answer s (commands.Scatter a (Some ps)) ≡ points_scattered s a capacity points ps
       unfolding rest_of
       scatter_inside on = to_pixels ∙ ap rest_of on
 
@@ -147,8 +156,10 @@ module _ (s : State) (a : List ℕ) where
       scatter_new away =
           let work = with s a (Points capacity (with_points points ps)) in first_false (collide points ps) no.Present (full s work ∷ []) s (changed work) away
 
-      pub scatter_answered : {W : Type 0} {D : disk.Ghosts W} (old new : Session W D) (reply : replies.Reply) → list_any (λ q. not (is_pixel s.last.level q.at)) ps ≡ false
+      pub scatter_answered : {W : Type 0} {D : disk.Ghosts W} (old new : Session W D) (reply : replies.Reply)
+          → list_any (λ q. not (is_pixel s.last.level q.at)) ps ≡ false
           → AnsweredBy s (points_scattered s a capacity points ps) old new reply → Answered s (commands.Scatter a (Some ps)) old new reply
       scatter_answered old new reply on by =
           answered_by s (commands.Scatter a (Some ps)) (points_scattered s a capacity points ps) old new reply (scatter_inside on)
-          (none_with_two (collide points ps) (full s (with s a (Points capacity (with_points points ps)))).0 no.Present no.Full s (with s a (Points capacity (with_points points ps)))) refl by
+          (none_with_two (collide points ps) (full s (with s a (Points capacity (with_points points ps)))).0 no.Present no.Full s
+          (with s a (Points capacity (with_points points ps)))) refl by

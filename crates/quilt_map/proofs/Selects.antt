@@ -14,10 +14,12 @@ use Rattle.quilt_words.specs.declared.command.Command.{Command}
 use Rattle.quilt_words.specs.declared.command.Command.TheVariants as commands
 use Rattle.quilt_store.specs.Store.{Tells as StoreTells}
 use Rattle.quilt_replies.specs.Answers as answers
-use Rattle.quilt_replies.specs.Answers.{State, Outcome, Reply, Done, Refused, answer, unless, unknown, unless_lines, unless_region, outside, is_lines, is_region, layer, segs_in, cover_in, grid_in, grid, nearest_lines, ranked_line, pair_line}
+use Rattle.quilt_replies.specs.Answers.{State, Outcome, Reply, Done, Refused, answer, unless, unknown, unless_lines, unless_region, outside, is_lines}
+use Rattle.quilt_replies.specs.Answers.{is_region, layer, segs_in, cover_in, grid_in, grid, nearest_lines, ranked_line, pair_line}
 use Rattle.quilt_replies.specs.declared.reply.Reply as replies
 use Rattle.quilt_map.specs.LineLayers.{IsNoLines}
-use Rattle.quilt_map.specs.Selecting.{layer_asked, is_place, AsksSome, nearest_reply, selected, selected_over, HasFound, IsAnswered, pages_for, AreNotLinesAndRegion, AreNotLines, crossed}
+use Rattle.quilt_map.specs.Selecting.{layer_asked, is_place, AsksSome, nearest_reply, selected, selected_over, HasFound, IsAnswered, pages_for}
+use Rattle.quilt_map.specs.Selecting.{AreNotLinesAndRegion, AreNotLines, crossed}
 use Rattle.quilt_map.specs.Steps.{goes_back}
 use Rattle.quilt_map.proofs.Asks.{Asks, alone_reply}
 use Rattle.quilt_map.proofs.Outcomes.{nothing_done}

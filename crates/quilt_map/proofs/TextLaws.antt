@@ -1,5 +1,6 @@
 -- Public laws of items that are read in pieces: of groups of lines that hold the same items, and of what is given one after another.
-use Rattle.std.proofs.Common.{◌≡◌, ℕ, ◌<◌, Bool, true, false, List, [], ◌∷◌, ◌++◌, length, map, refl, sym, ◌∙◌, ap, subst, arith, append_assoc, append-nil, unwrap_or, is_some, Result}
+use Rattle.std.proofs.Common.{◌≡◌, ℕ, ◌<◌, Bool, true, false, List, [], ◌∷◌, ◌++◌, length, map, refl, sym, ◌∙◌, ap, subst, arith, append_assoc, append-nil}
+use Rattle.std.proofs.Common.{unwrap_or, is_some, Result}
 use Rattle.std.proofs.lemmas.List.{map-append, length-map}
 use Rattle.std.specs.Prelude.{if◌then◌else◌, ◌+◌, ◌||◌}
 use Rattle.quilt_types.specs.Facts.{changes}
@@ -59,7 +60,8 @@ publishing q last work so_far r later =
     let rest = later (unwrap_or out.published last) out.work next in
     if is_some out.published then so_far ∷ rest else rest
 
-pub publishes_same : (q : ℕ) (last : Edition) (work : Map) (so_far : Published) (n : ℕ) (g h : List Group) → last.level ≡ n → Same n g h → publishes_of q last work so_far g ≡ publishes_of q last work so_far h
+pub publishes_same : (q : ℕ) (last : Edition) (work : Map) (so_far : Published) (n : ℕ) (g h : List Group) → last.level ≡ n → Same n g h
+    → publishes_of q last work so_far g ≡ publishes_of q last work so_far h
 publishes_same q last work so_far n [] [] at same = refl
 publishes_same q last work so_far n [] (j ∷ h) at same = absurd (let e : [] ≡ held 1 n j ∷ map (held 1 n) h = same 1 in cc)
 publishes_same q last work so_far n (i ∷ g) [] at same = absurd (let e : held 1 n i ∷ map (held 1 n) g ≡ [] = same 1 in cc)
@@ -76,7 +78,8 @@ publishes_same q last work so_far n (i ∷ g) (j ∷ h) at same =
       changed = if is_some out.published || is_revert (form_in last j) then 0 else so_far.changed + changes last.level work out.work;
     } in
     ap (λ (r : Result Command Code). publishing q last work so_far r (λ e m p. publishes_of q e m p g)) alike
-    ∙ ap (λ (l : List Published). if is_some out.published then so_far ∷ l else l) (publishes_same q (unwrap_or out.published last) out.work next n g h level tails)
+    ∙ ap (λ (l : List Published). if is_some out.published then so_far ∷ l else l)
+    (publishes_same q (unwrap_or out.published last) out.work next n g h level tails)
 
 -- ---- what is given, one after another
 
@@ -110,13 +113,15 @@ unfolding whole_items whole_lines
 whole_empty n = refl
 
 -- how many whole items there were
-pub settled_count : (n : ℕ) (u rest : List ℕ) (items : List Group) → Gives false n items u rest → whole_items n rest ≡ [] → length (whole_items n u) ≡ length items
+pub settled_count : (n : ℕ) (u rest : List ℕ) (items : List Group) → Gives false n items u rest → whole_items n rest ≡ []
+    → length (whole_items n u) ≡ length items
 settled_count n u rest items gives none =
     let same : map (held 1 n) (whole_items n (u ++ [])) ≡ map (held 1 n) (items ++ whole_items n (rest ++ [])) = gives.whole refl [] 1 in
     let sizes : length (whole_items n (u ++ [])) ≡ length (items ++ whole_items n (rest ++ [])) =
     sym (length-map (whole_items n (u ++ [])) (held 1 n)) ∙ ap length same ∙ length-map (items ++ whole_items n (rest ++ [])) (held 1 n) in
     ap (λ (t : List ℕ). length (whole_items n t)) (sym (append-nil u)) ∙ sizes
-    ∙ ap (λ (t : List ℕ). length (items ++ whole_items n t)) (append-nil rest) ∙ ap (λ (w : List Group). length (items ++ w)) none ∙ ap length (append-nil items)
+    ∙ ap (λ (t : List ℕ). length (items ++ whole_items n t)) (append-nil rest) ∙ ap (λ (w : List Group). length (items ++ w)) none
+    ∙ ap length (append-nil items)
 
 -- ---- the level
 

@@ -24,7 +24,8 @@ pub cold : (entries : List Entry) (told : Option Pages) (h : Head) (held : List 
 cold entries told h held = record { are_first = λ w e layers numbers catalog rs tree pages is. absurd (none_some w e) }
 
 -- by other names of the pages, the header and what is held
-pub warm_as : (w : Option (List ℕ × Pixel)) (entries : List Entry) (told again : Option Pages) (h k : Head) (held now : List ℕ) → again ≡ told → k ≡ h → now ≡ held
+pub warm_as : (w : Option (List ℕ × Pixel)) (entries : List Entry) (told again : Option Pages) (h k : Head) (held now : List ℕ)
+    → again ≡ told → k ≡ h → now ≡ held
     → IsHeldWarm w entries told h held → IsHeldWarm w entries again k now
 warm_as w entries told again h k held now same head first warm =
     subst (λ (x : Option Pages). IsHeldWarm w entries x k now) (sym same)
@@ -43,10 +44,12 @@ module _ (entries : List Entry) (told : Option Pages) (h : Head) (held : List �
   }
 
   -- and where it is asked for again
-  pub held_again : (warm : Option (List ℕ × Pixel)) → IsHeldWarm warm entries told h held → warm ≡ Some w → (layers : Map) (numbers : Numbering) → IsCatalogOf layers numbers entries
+  pub held_again : (warm : Option (List ℕ × Pixel)) → IsHeldWarm warm entries told h held → warm ≡ Some w → (layers : Map) (numbers : Numbering)
+      → IsCatalogOf layers numbers entries
       → (rs : List Record) → IsTree told (tree_in h) rs → (pages : Pages) → told ≡ Some pages → AreAmongFirst (pages_asked number w.1 h pages) held
   held_again warm kept e layers numbers catalog rs tree pages tells =
-      subst (λ (k : ℕ). AreAmongFirst (pages_asked k w.1 h pages) held) (sym (is layers numbers catalog)) (kept.are_first w e layers numbers catalog rs tree pages tells)
+      subst (λ (k : ℕ). AreAmongFirst (pages_asked k w.1 h pages) held) (sym (is layers numbers catalog))
+      (kept.are_first w e layers numbers catalog rs tree pages tells)
 
 -- where nothing was read
 pub reads_same : (reads : Option ℕ) → StoreTells (λ before now. now ≤ before) reads reads
@@ -54,7 +57,8 @@ reads_same None = tt
 reads_same (Some n) = omega arith
 
 -- a command that asks for the pixel that is kept
-pub is_again : (c : Command) (a name : List ℕ) (q p : Pixel) (warm : Option (List ℕ × Pixel)) → c ≡ commands.At a q → c ≡ commands.At name p → warm ≡ Some (name, p) → warm ≡ Some (a, q)
+pub is_again : (c : Command) (a name : List ℕ) (q p : Pixel) (warm : Option (List ℕ × Pixel)) → c ≡ commands.At a q → c ≡ commands.At name p
+    → warm ≡ Some (name, p) → warm ≡ Some (a, q)
 is_again c a name q p warm one other kept =
     let e : commands.At name p ≡ commands.At a q = sym other ∙ one in
     let names : name ≡ a = cc in

@@ -1,5 +1,6 @@
 -- Home page 0 stands in no tree, so a tree stays while its bytes change.
-use Rattle.std.proofs.Common.{◌≡◌, ℕ, zero, suc, ◌≤◌, ◌==◌, Bool, true, false, ◌&&◌, ◌||◌, nat_le, nat_lt, List, [], ◌∷◌, ◌++◌, ◌+◌, cond, length, set, Some, refl, sym, ◌∙◌, ap, subst, ⊎_elim, arith, append-nil}
+use Rattle.std.proofs.Common.{◌≡◌, ℕ, zero, suc, ◌≤◌, ◌==◌, Bool, true, false, ◌&&◌, ◌||◌, nat_le, nat_lt, List, [], ◌∷◌, ◌++◌, ◌+◌, cond, length, set, Some}
+use Rattle.std.proofs.Common.{refl, sym, ◌∙◌, ap, subst, ⊎_elim, arith, append-nil}
 use Rattle.std.specs.List.{list_any, list_all}
 use Rattle.std.proofs.lemmas.Bool.{cases_Bool, leb-true, false≢true}
 use Rattle.std.proofs.lemmas.List.{get_or-set_other}
@@ -42,21 +43,25 @@ row_from : (S : Reading) → ((c : ℕ × Bounds) (rs : List Record) (used : Lis
     → (cs : List (ℕ × Bounds)) (rs : List Record) (used : List ℕ) → FromOne cs → Row S cs rs used → has_zero used ≡ false
 row_from S each [] rs used from row = ap has_zero row.1
 row_from S each (c ∷ cs) rs used from row =
-    ap has_zero row.is_used ∙ neither row.rest_used row.first_used (row_from S each cs row.rest row.rest_used from.1 row.after) (each c row.first row.first_used from.0 row.here)
+    ap has_zero row.is_used
+    ∙ neither row.rest_used row.first_used (row_from S each cs row.rest row.rest_used from.1 row.after) (each c row.first row.first_used from.0 row.here)
 
 not_zero : (p : ℕ) → 1 ≤ p → (p == 0) ≡ false
 not_zero p some = ⊎_elim (λ t. absurd (let e = same_number p 0 t in omega arith)) (λ f. f) (cases_Bool (p == 0))
 
-subtree_from : (pages : Pages) (height : ℕ) (is_root : Bool) (at : ℕ × Bounds) (rs : List Record) (used : List ℕ) → 1 ≤ at.0 → Subtree pages height is_root at rs used → has_zero used ≡ false
+subtree_from : (pages : Pages) (height : ℕ) (is_root : Bool) (at : ℕ × Bounds) (rs : List Record) (used : List ℕ) → 1 ≤ at.0
+    → Subtree pages height is_root at rs used → has_zero used ≡ false
 subtree_from pages zero is_root at rs used some s = absurd s
 subtree_from pages (suc zero) is_root at rs used some s = ap has_zero s.is_used ∙ ap (λ b. b || false) (not_zero at.0 some)
 subtree_from pages (suc (suc h)) is_root at rs used some s =
     let list = inner_list (length pages) _ s.inner s.page in
-    let under = row_from (Subtree pages (suc h) false) (λ c ss us one t. subtree_from pages (suc h) false c ss us one t) (bounded s.inner.children s.inner.keys at.1) rs s.under
+    let under = row_from (Subtree pages (suc h) false) (λ c ss us one t. subtree_from pages (suc h) false c ss us one t)
+    (bounded s.inner.children s.inner.keys at.1) rs s.under
     (bounded_from (length pages) s.inner.children s.inner.keys at.1 list.in_range) s.children in
     ap has_zero s.is_used ∙ neither s.under (at.0 ∷ []) under (ap (λ b. b || false) (not_zero at.0 some))
 
-visited_from : (pages : Pages) (root height : ℕ) (rs : List Record) (visited : List ℕ) → (1 ≤ height → 1 ≤ root) → walk_of pages root height ≡ Whole rs visited → has_zero visited ≡ false
+visited_from : (pages : Pages) (root height : ℕ) (rs : List Record) (visited : List ℕ) → (1 ≤ height → 1 ≤ root)
+    → walk_of pages root height ≡ Whole rs visited → has_zero visited ≡ false
 unfolding walk_of
 visited_from pages root zero rs visited some w = let e : [] ≡ visited = cc in ap has_zero (sym e)
 visited_from pages root (suc h) rs visited some w =

@@ -24,7 +24,8 @@ pub record IsPlan (s : State) (numbers : Numbering) (name : List ℕ) (number : 
   pub added_ascend : is_ascending (keys_of added) ≡ true
 
 -- the records that go and come make the layer under the name the new one, and the entries stay those of the map
-pub record IsAmendment (s : State) (numbers : Numbering) (entries : List Entry) (name : List ℕ) (number : ℕ) (new : Layer) (removed added : List Record) : Type 0 where
+pub record IsAmendment (s : State) (numbers : Numbering) (entries : List Entry) (name : List ℕ) (number : ℕ) (new : Layer)
+    (removed added : List Record) : Type 0 where
   pub plan : IsPlan s numbers name number (Some new) removed added
   pub catalog : IsCatalogOf (with_layer s.work name (Some new)) (with_number numbers name number (Some new)) entries
 

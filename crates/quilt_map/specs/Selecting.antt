@@ -1,5 +1,6 @@
 -- Commands that ask for segments of a line layer, and what they are answered once it was found.
-use Rattle.std.specs.Prelude.{◌≡◌, ℕ, ◌≤◌, ◌∷◌, ◌==◌, Bool, true, false, List, Option, Some, None, map, filter, flat_map, length, decimal, nat_lt, if◌then◌else◌}
+use Rattle.std.specs.Prelude.{◌≡◌, ℕ, ◌≤◌, ◌∷◌, ◌==◌, Bool, true, false, List, Option, Some, None, map, filter, flat_map, length, decimal, nat_lt}
+use Rattle.std.specs.Prelude.{if◌then◌else◌}
 use Rattle.std.specs.FinMap as finmap
 use Rattle.quilt_types.specs.declared.code.Code.{Code}
 use Rattle.quilt_types.specs.declared.code.Code.TheVariants as no
@@ -22,7 +23,8 @@ use Rattle.quilt_select.specs.Shares.{is_touching}
 use Rattle.quilt_words.specs.declared.command.Command.{Command}
 use Rattle.quilt_words.specs.declared.command.Command.TheVariants as commands
 use Rattle.quilt_edition.specs.declared.book.Book.{Book}
-use Rattle.quilt_replies.specs.Answers.{State, Outcome, Reply, Done, Refused, unless, unknown, unless_lines, unless_region, seg_line, clip_lines, nearest_lines, ranked_line, pair_line, is_over}
+use Rattle.quilt_replies.specs.Answers.{State, Outcome, Reply, Done, Refused, unless, unknown, unless_lines, unless_region, seg_line, clip_lines, nearest_lines}
+use Rattle.quilt_replies.specs.Answers.{ranked_line, pair_line, is_over}
 use Rattle.quilt_replies.specs.declared.reply.Reply as replies
 use Rattle.quilt_replies.specs.declared.reply.Reply.TheVariants as given
 use Rattle.quilt_map.specs.Sessions.{told_of}

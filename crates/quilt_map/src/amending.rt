@@ -19,7 +19,8 @@ impl<W: World> Session<W> {
     pub(crate) fn amend(&mut self, edits: &Edits, text: Text) -> Result<Reply, Stop>
         requires text { text ≡ text_of (Done []) }
         ensures amended { IfOk result (λ reply. (s : State) (at : IsAtState self.old s) (name : List ℕ) (number : ℕ) (layer : Layer) →
-            IsAmendment s at.work.numbers self.old.catalog name number layer edits.now.remove edits.now.add → AnsweredBy s (placed s name layer) self.old self.new reply) }
+            IsAmendment s at.work.numbers self.old.catalog name number layer edits.now.remove edits.now.add
+            → AnsweredBy s (placed s name layer) self.old self.new reply) }
         ensures sound { IfErr result (λ e. (s : State) (at : IsAtState self.old s) (name : List ℕ) (number : ℕ) (layer : Layer) →
             IsAmendment s at.work.numbers self.old.catalog name number layer edits.now.remove edits.now.add → IsSound e) }
         ensures goes_on { books.GoesOn self.old.book self.new.book }

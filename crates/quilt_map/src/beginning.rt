@@ -23,7 +23,8 @@ fn is_unwritten(format: u8, bucket: u8) -> bool
 impl<W: World> Session<W> {
     /// Makes a point layer of no points, with this many in a block at most, under a name that no layer has.
     pub(crate) fn make_points(&mut self, name: &Name, bucket: u8) -> Result<Reply, Stop>
-        ensures answer { IfOk result (λ reply. (s : State) → IsAtState self.old s → 1 ≤ bucket → bucket ≤ 16 → Answered s (commands.Points name.now bucket) self.old self.new reply) }
+        ensures answer { IfOk result (λ reply. (s : State) → IsAtState self.old s → 1 ≤ bucket → bucket ≤ 16
+            → Answered s (commands.Points name.now bucket) self.old self.new reply) }
         ensures sound { IfErr result (λ e. (s : State) → IsAtState self.old s → 1 ≤ bucket → bucket ≤ 16 → IsSound e) }
         ensures goes_on { books.GoesOn self.old.book self.new.book }
         ensures cause { HasStopCause (W.faults (books.world_of self.old.book)) (W.faults (books.world_of self.new.book)) result }

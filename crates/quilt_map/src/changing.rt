@@ -46,7 +46,8 @@ impl<W: World> Session<W> {
     /// Takes the records out of the work's tree and puts the others in, each in the order of keys. False where the work would then have more
     /// records than the quota of its file, and nothing changes. The catalog is left as it was.
     pub(crate) fn change(&mut self, removed: &[Record], added: &[Record]) -> Result<bool, Stop>
-        ensures changed { IfOk result (λ done. (s : State) (at : IsAtState self.old s) (name : List ℕ) (number : ℕ) (layer : Option Layer) (entries : List Entry) →
+        ensures changed { IfOk result
+            (λ done. (s : State) (at : IsAtState self.old s) (name : List ℕ) (number : ℕ) (layer : Option Layer) (entries : List Entry) →
             IsPlan s at.work.numbers name number layer removed.now added.now →
             IsCatalogOf (with_layer s.work name layer) (with_number at.work.numbers name number layer) entries →
             HasChanged done self.old self.new s name layer entries) }

@@ -28,7 +28,8 @@ use std::alloc::{AllocError, Global};
 
 /// The records of the work's layer with this number, but that of the catalog, in the order of keys.
 fn read_records<W: Disk>(alloc: Global, book: &mut Book<W>, number: u8) -> Result<Vec<Record>, Stop>
-    ensures records { IfOk result (λ found. (rs : List AnyRecord) → IsTree (told_of book.old) (tree_in (books.work_of book.old)) rs → found.items ≡ records_of number rs) }
+    ensures records { IfOk result (λ found. (rs : List AnyRecord) → IsTree (told_of book.old) (tree_in (books.work_of book.old)) rs
+        → found.items ≡ records_of number rs) }
     ensures sound { IfErr result (λ e. (rs : List AnyRecord) → IsTree (told_of book.old) (tree_in (books.work_of book.old)) rs → IsSound e) }
     ensures still { IsStill book.old book.new }
     ensures cause { HasStopCause (W.faults (books.world_of book.old)) (W.faults (books.world_of book.new)) result }
@@ -48,8 +49,10 @@ fn layer_records<W: Disk>(
     book: &mut Book<W>,
     entry: &Entry,
 ) -> Result<RecordList, Stop>
-    ensures list { IfOk result (λ all. (rs : List AnyRecord) → IsTree (told_of book.old) (tree_in (books.work_of book.old)) rs → IsListed entry.now (records_of entry.now.number rs) all) }
-    ensures sound { IfErr result (λ e. (rs : List AnyRecord) → 1 ≤ entry.now.number → IsTree (told_of book.old) (tree_in (books.work_of book.old)) rs → IsSound e) }
+    ensures list { IfOk result (λ all. (rs : List AnyRecord) → IsTree (told_of book.old) (tree_in (books.work_of book.old)) rs
+        → IsListed entry.now (records_of entry.now.number rs) all) }
+    ensures sound { IfErr result (λ e. (rs : List AnyRecord) → 1 ≤ entry.now.number
+        → IsTree (told_of book.old) (tree_in (books.work_of book.old)) rs → IsSound e) }
     ensures still { IsStill book.old book.new }
     ensures cause { HasStopCause (W.faults (books.world_of book.old)) (W.faults (books.world_of book.new)) result }
 {

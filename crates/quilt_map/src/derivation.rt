@@ -57,8 +57,10 @@ impl<W: World> Session<W> {
         requires new { All (λ e. e.name ≢ into.now) self.old.catalog }
         requires derives { is_some (layers_derived command.now) ≡ true }
         requires inside { is_inside (books.work_of self.old.book).level command.now ≡ true }
-        ensures made { IfOk result (λ reply. (s : State) → IsAtState self.old s → (name : List ℕ) (g : Grid) → IsRegionIn s.work self.old.catalog name number g →
-            IsFitting s.last.format s.last.level command.now → AnsweredBy s (placed s into.now (Region (derived command.now s.last.level g))) self.old self.new reply) }
+        ensures made { IfOk result (λ reply. (s : State) → IsAtState self.old s → (name : List ℕ) (g : Grid)
+            → IsRegionIn s.work self.old.catalog name number g →
+            IsFitting s.last.format s.last.level command.now
+            → AnsweredBy s (placed s into.now (Region (derived command.now s.last.level g))) self.old self.new reply) }
         ensures sound { IfErr result (λ e. (s : State) → IsAtState self.old s → (name : List ℕ) (g : Grid) → IsRegionIn s.work self.old.catalog name number g →
             IsFitting s.last.format s.last.level command.now → IsSound e) }
         ensures goes_on { books.GoesOn self.old.book self.new.book }
@@ -82,7 +84,8 @@ impl<W: World> Session<W> {
         into: &Name,
     ) -> Result<Reply, Stop>
         requires { layers_derived command.now ≡ Some (name.now, into.now) }
-        ensures answer { IfOk result (λ reply. (s : State) → IsAtState self.old s → IsFitting s.last.format s.last.level command.now → Answered s command.now self.old self.new reply) }
+        ensures answer { IfOk result (λ reply. (s : State) → IsAtState self.old s → IsFitting s.last.format s.last.level command.now
+            → Answered s command.now self.old self.new reply) }
         ensures sound { IfErr result (λ e. (s : State) → IsAtState self.old s → IsFitting s.last.format s.last.level command.now → IsSound e) }
         ensures goes_on { books.GoesOn self.old.book self.new.book }
         ensures cause { HasStopCause (W.faults (books.world_of self.old.book)) (W.faults (books.world_of self.new.book)) result }

@@ -25,7 +25,8 @@ pub(crate) fn edit<W: Disk>(book: &mut Book<W>, keys: &[Key], added: &[Record]) 
         IsWhole (told_of book.new) (free_of book.new) (pages_of book.old) (tree_in (work_of book.new)) (put_all added.now (without_all keys.now rs))) }
     ensures head { OnOk result (SameButTree (work_of book.old) (work_of book.new)) }
     ensures count { OnOk result ((work_of book.new).records + length keys.now ≡ (work_of book.old).records + length added.now) }
-    ensures sound { IfErr result (λ e. (rs : List AnyRecord) → IsWhole (told_of book.old) (free_of book.old) (pages_of book.old) (tree_in (work_of book.old)) rs →
+    ensures sound { IfErr result (λ e. (rs : List AnyRecord)
+        → IsWhole (told_of book.old) (free_of book.old) (pages_of book.old) (tree_in (work_of book.old)) rs →
         has_each keys.now rs ≡ true → has_any added.now (without_all keys.now rs) ≡ false → IsSound e) }
     ensures goes_on { GoesOn book.old book.new }
     ensures used { published_free book.new ≡ published_free book.old }

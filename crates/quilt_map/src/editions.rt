@@ -20,8 +20,10 @@ impl<W: World> Session<W> {
         ensures renewed { OnOk result ((s : State) (e : Edition) → CanPublish self.old s e → IsRenewed self.new s e) }
         ensures sound { IfErr result IsSound }
         ensures level { OnOk result ((books.last_of self.new.book).level ≡ (books.work_of self.old.book).level) }
-        ensures crash { (s : State) (e : Edition) → CanPublish self.old s e → Goes (LeavesEither s.last e) (W.told (books.world_of self.old.book)) (W.told (books.world_of self.new.book)) }
-        ensures writes { (s : State) (e : Edition) → CanPublish self.old s e → Goes (Writing (18 * self.old.changes + 8)) (W.told (books.world_of self.old.book)) (W.told (books.world_of self.new.book)) }
+        ensures crash { (s : State) (e : Edition) → CanPublish self.old s e
+            → Goes (LeavesEither s.last e) (W.told (books.world_of self.old.book)) (W.told (books.world_of self.new.book)) }
+        ensures writes { (s : State) (e : Edition) → CanPublish self.old s e
+            → Goes (Writing (18 * self.old.changes + 8)) (W.told (books.world_of self.old.book)) (W.told (books.world_of self.new.book)) }
         ensures events { Goes (λ old new. (most : ℕ) × Writing most old new) (W.told (books.world_of self.old.book)) (W.told (books.world_of self.new.book)) }
         ensures door { W.door (books.world_of self.new.book) ≡ W.door (books.world_of self.old.book) }
         ensures cause { HasStopCause (W.faults (books.world_of self.old.book)) (W.faults (books.world_of self.new.book)) result }

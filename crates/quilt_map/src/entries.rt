@@ -25,7 +25,8 @@ pub(crate) fn index_of(entries: &[Entry], name: &Name) -> Option<usize>
 
     // What this says of a map that has this catalog.
     ensures none { IsNone result → (layers : Map) (numbers : Numbering) → IsCatalogOf layers numbers entries.now → finmap.get layers name.now ≡ None }
-    ensures some { IfSome result (λ i. (layers : Map) (numbers : Numbering) → IsCatalogOf layers numbers entries.now → IsLayerAt layers numbers entries.now name.now i) }
+    ensures some { IfSome result (λ i. (layers : Map) (numbers : Numbering) → IsCatalogOf layers numbers entries.now
+        → IsLayerAt layers numbers entries.now name.now i) }
 {
     place_of(entries, name)
 }
@@ -45,7 +46,8 @@ pub(crate) fn free_number(entries: &[Entry]) -> u8
     ensures first { (k : ℕ) → 1 ≤ k → k < result → list_any (λ e. e.number == k) entries.now ≡ true }
 
     // What this says of a map that has this catalog.
-    ensures unused { (layers : Map) (numbers : Numbering) → IsCatalogOf layers numbers entries.now → IsNumbering layers numbers → (name : List ℕ) → finmap.get numbers name ≢ Some result }
+    ensures unused { (layers : Map) (numbers : Numbering) → IsCatalogOf layers numbers entries.now → IsNumbering layers numbers → (name : List ℕ)
+        → finmap.get numbers name ≢ Some result }
 {
     for number in 1..255_u8 {
         if !has_number(entries, number) {

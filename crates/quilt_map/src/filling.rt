@@ -44,7 +44,8 @@ impl<W: World> Session<W> {
         c: Colour,
         rings: &Option<RingList>,
     ) -> Result<Reply, Stop>
-        ensures answer { IfOk result (λ reply. (s : State) → IsAtState self.old s → c.0 < colours s.last.format → Answered s (commands.Polygon name.now c rings.now) self.old self.new reply) }
+        ensures answer { IfOk result (λ reply. (s : State) → IsAtState self.old s → c.0 < colours s.last.format
+            → Answered s (commands.Polygon name.now c rings.now) self.old self.new reply) }
         ensures sound { IfErr result (λ e. (s : State) → IsAtState self.old s → c.0 < colours s.last.format → IsSound e) }
         ensures goes_on { books.GoesOn self.old.book self.new.book }
         ensures cause { HasStopCause (W.faults (books.world_of self.old.book)) (W.faults (books.world_of self.new.book)) result }

@@ -32,7 +32,8 @@ pub(crate) fn listed(
     records: &[Record],
 ) -> Result<RecordList, AllocError>
     requires { 1 ≤ entry.now.number }
-    ensures { IfOk result (λ all. (first : AnyRecord) × (all ≡ first ∷ records.now) × ((n capacity : ℕ) → first ≡ record_of n capacity entry.now.name entry.now.number (kind_fact entry.now.kind))) }
+    ensures { IfOk result (λ all. (first : AnyRecord) × (all ≡ first ∷ records.now)
+        × ((n capacity : ℕ) → first ≡ record_of n capacity entry.now.name entry.now.number (kind_fact entry.now.kind))) }
 {
     let mut all = RecordList::new(alloc);
     all.push(&catalog_record(entry))?;
@@ -49,7 +50,8 @@ pub(crate) fn new_entry(entries: &[Entry], name: &Name, kind: Kind) -> Entry
     ensures named { is_name name.now ≡ true }
     ensures kind { result.kind ≡ kind }
     ensures number { (1 ≤ result.number) × (result.number ≤ 255) }
-    ensures unused { (layers : Map) (numbers : Numbering) → IsCatalogOf layers numbers entries.now → IsNumbering layers numbers → (other : List ℕ) → finmap.get numbers other ≢ Some result.number }
+    ensures unused { (layers : Map) (numbers : Numbering) → IsCatalogOf layers numbers entries.now → IsNumbering layers numbers → (other : List ℕ)
+        → finmap.get numbers other ≢ Some result.number }
 {
     // The bytes of a name are one, which is said where they are read.
     let _ = name.text();
@@ -73,7 +75,8 @@ impl<W: World> Session<W> {
         requires text { text ≡ text_of (Done []) }
         ensures placed { IfOk result (λ reply. (s : State) (at : IsAtState self.old s) (layer : Layer) → entry.kind ≡ kind_of layer →
             IsPlan s at.work.numbers entry.name entry.number (Some layer) [] records.now → AnsweredBy s (placed s entry.name layer) self.old self.new reply) }
-        ensures sound { IfErr result (λ e. (s : State) (at : IsAtState self.old s) (layer : Layer) → IsPlan s at.work.numbers entry.name entry.number (Some layer) [] records.now → IsSound e) }
+        ensures sound { IfErr result (λ e. (s : State) (at : IsAtState self.old s) (layer : Layer)
+            → IsPlan s at.work.numbers entry.name entry.number (Some layer) [] records.now → IsSound e) }
         ensures goes_on { books.GoesOn self.old.book self.new.book }
         ensures cause { HasStopCause (W.faults (books.world_of self.old.book)) (W.faults (books.world_of self.new.book)) result }
     {
@@ -91,9 +94,11 @@ impl<W: World> Session<W> {
     pub(crate) fn make_region(&mut self, name: &Name, list: &LeafList) -> Result<Reply, Stop>
         requires few { length self.old.catalog < 255 }
         requires new { All (λ e. e.name ≢ name.now) self.old.catalog }
-        ensures made { IfOk result (λ reply. (s : State) → IsAtState self.old s → list.now.level ≡ s.last.level → IsGrid s.last.format s.last.level list.now.grid →
+        ensures made { IfOk result (λ reply. (s : State) → IsAtState self.old s → list.now.level ≡ s.last.level
+            → IsGrid s.last.format s.last.level list.now.grid →
             AnsweredBy s (placed s name.now (Region list.now.grid)) self.old self.new reply) }
-        ensures sound { IfErr result (λ e. (s : State) → IsAtState self.old s → list.now.level ≡ s.last.level → IsGrid s.last.format s.last.level list.now.grid → IsSound e) }
+        ensures sound { IfErr result (λ e. (s : State) → IsAtState self.old s → list.now.level ≡ s.last.level
+            → IsGrid s.last.format s.last.level list.now.grid → IsSound e) }
         ensures goes_on { books.GoesOn self.old.book self.new.book }
         ensures cause { HasStopCause (W.faults (books.world_of self.old.book)) (W.faults (books.world_of self.new.book)) result }
     {

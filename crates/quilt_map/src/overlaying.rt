@@ -24,8 +24,10 @@ use quilt_world::World;
 
 /// The numbers of the region layers with these names, or why they are not both there.
 fn region_numbers(entries: &[Entry], a: &Name, b: &Name) -> Result<(u8, u8), Code>
-    ensures first { IfOk result (λ found. (layers : Map) (numbers : Numbering) → IsCatalogOf layers numbers entries.now → IsRegionAt layers numbers a.now found.0) }
-    ensures second { IfOk result (λ found. (layers : Map) (numbers : Numbering) → IsCatalogOf layers numbers entries.now → IsRegionAt layers numbers b.now found.1) }
+    ensures first { IfOk result (λ found. (layers : Map) (numbers : Numbering) → IsCatalogOf layers numbers entries.now
+        → IsRegionAt layers numbers a.now found.0) }
+    ensures second { IfOk result (λ found. (layers : Map) (numbers : Numbering) → IsCatalogOf layers numbers entries.now
+        → IsRegionAt layers numbers b.now found.1) }
     ensures refused { IfErr result (λ code. (s : State) (numbers : Numbering) → IsCatalogOf s.work numbers entries.now → AreRefusedFirst s a.now b.now code) }
 {
     let Some((first, one)) = layer_under(entries, a) else {
@@ -70,7 +72,8 @@ impl<W: World> Session<W> {
 
     /// Makes a layer of two region layers with these names, under a name that no layer has.
     pub(crate) fn overlay(&mut self, op: Op, a: &Name, b: &Name, into: &Name) -> Result<Reply, Stop>
-        ensures answer { IfOk result (λ reply. (s : State) → IsAtState self.old s → Answered s (overlay_command op a.now b.now into.now) self.old self.new reply) }
+        ensures answer { IfOk result (λ reply. (s : State) → IsAtState self.old s
+            → Answered s (overlay_command op a.now b.now into.now) self.old self.new reply) }
         ensures sound { IfErr result (λ e. (s : State) → IsAtState self.old s → IsSound e) }
         ensures goes_on { books.GoesOn self.old.book self.new.book }
         ensures cause { HasStopCause (W.faults (books.world_of self.old.book)) (W.faults (books.world_of self.new.book)) result }

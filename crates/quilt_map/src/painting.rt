@@ -22,9 +22,11 @@ impl<W: World> Session<W> {
     /// Paints a window of the work's region layer with this number.
     fn repaint(&mut self, number: u8, w: Window, c: Colour) -> Result<Reply, Stop>
         requires window { is_window (books.work_of self.old.book).level w ≡ true }
-        ensures painted { IfOk result (λ reply. (s : State) → IsAtState self.old s → (name : List ℕ) (g : Grid) → IsRegionIn s.work self.old.catalog name number g → c.0 < colours s.last.format →
+        ensures painted { IfOk result (λ reply. (s : State) → IsAtState self.old s → (name : List ℕ) (g : Grid)
+            → IsRegionIn s.work self.old.catalog name number g → c.0 < colours s.last.format →
             AnsweredBy s (placed s name (Region (painted s.last.level g w c.0))) self.old self.new reply) }
-        ensures sound { IfErr result (λ e. (s : State) → IsAtState self.old s → (name : List ℕ) (g : Grid) → IsRegionIn s.work self.old.catalog name number g → c.0 < colours s.last.format → IsSound e) }
+        ensures sound { IfErr result (λ e. (s : State) → IsAtState self.old s → (name : List ℕ) (g : Grid)
+            → IsRegionIn s.work self.old.catalog name number g → c.0 < colours s.last.format → IsSound e) }
         ensures goes_on { books.GoesOn self.old.book self.new.book }
         ensures cause { HasStopCause (W.faults (books.world_of self.old.book)) (W.faults (books.world_of self.new.book)) result }
     {
@@ -39,7 +41,8 @@ impl<W: World> Session<W> {
 
     /// Paints a window of the region layer.
     pub(crate) fn rect(&mut self, name: &Name, w: Window, c: Colour) -> Result<Reply, Stop>
-        ensures answer { IfOk result (λ reply. (s : State) → IsAtState self.old s → c.0 < colours s.last.format → Answered s (commands.Rect name.now w c) self.old self.new reply) }
+        ensures answer { IfOk result (λ reply. (s : State) → IsAtState self.old s → c.0 < colours s.last.format
+            → Answered s (commands.Rect name.now w c) self.old self.new reply) }
         ensures sound { IfErr result (λ e. (s : State) → IsAtState self.old s → c.0 < colours s.last.format → IsSound e) }
         ensures goes_on { books.GoesOn self.old.book self.new.book }
         ensures cause { HasStopCause (W.faults (books.world_of self.old.book)) (W.faults (books.world_of self.new.book)) result }
@@ -57,7 +60,8 @@ impl<W: World> Session<W> {
 
     /// Paints a pixel of the region layer.
     pub(crate) fn set(&mut self, name: &Name, at: Pixel, c: Colour) -> Result<Reply, Stop>
-        ensures answer { IfOk result (λ reply. (s : State) → IsAtState self.old s → c.0 < colours s.last.format → Answered s (commands.Set name.now at c) self.old self.new reply) }
+        ensures answer { IfOk result (λ reply. (s : State) → IsAtState self.old s → c.0 < colours s.last.format
+            → Answered s (commands.Set name.now at c) self.old self.new reply) }
         ensures sound { IfErr result (λ e. (s : State) → IsAtState self.old s → c.0 < colours s.last.format → IsSound e) }
         ensures goes_on { books.GoesOn self.old.book self.new.book }
         ensures cause { HasStopCause (W.faults (books.world_of self.old.book)) (W.faults (books.world_of self.new.book)) result }

@@ -25,9 +25,11 @@ impl<W: World> Session<W> {
     fn put_into(&mut self, layer: PointLayer, at: Pixel, label: u32) -> Result<Reply, Stop>
         requires in_x { at.x < side (books.last_of self.old.book).level }
         requires in_y { at.y < side (books.last_of self.old.book).level }
-        ensures put { IfOk result (λ reply. (s : State) → IsAtState self.old s → (name : List ℕ) (points : PointMap) → IsPointsIn s.work self.old.catalog name layer points →
+        ensures put { IfOk result (λ reply. (s : State) → IsAtState self.old s → (name : List ℕ) (points : PointMap)
+            → IsPointsIn s.work self.old.catalog name layer points →
             AnsweredBy s (points_put s name layer.bucket points at label) self.old self.new reply) }
-        ensures sound { IfErr result (λ e. (s : State) → IsAtState self.old s → (name : List ℕ) (points : PointMap) → IsPointsIn s.work self.old.catalog name layer points → IsSound e) }
+        ensures sound { IfErr result (λ e. (s : State) → IsAtState self.old s → (name : List ℕ) (points : PointMap)
+            → IsPointsIn s.work self.old.catalog name layer points → IsSound e) }
         ensures goes_on { books.GoesOn self.old.book self.new.book }
         ensures cause { HasStopCause (W.faults (books.world_of self.old.book)) (W.faults (books.world_of self.new.book)) result }
     {
@@ -63,9 +65,11 @@ impl<W: World> Session<W> {
     fn del_from(&mut self, layer: PointLayer, at: Pixel) -> Result<Reply, Stop>
         requires in_x { at.x < side (books.last_of self.old.book).level }
         requires in_y { at.y < side (books.last_of self.old.book).level }
-        ensures del { IfOk result (λ reply. (s : State) → IsAtState self.old s → (name : List ℕ) (points : PointMap) → IsPointsIn s.work self.old.catalog name layer points →
+        ensures del { IfOk result (λ reply. (s : State) → IsAtState self.old s → (name : List ℕ) (points : PointMap)
+            → IsPointsIn s.work self.old.catalog name layer points →
             AnsweredBy s (points_del s name layer.bucket points at) self.old self.new reply) }
-        ensures sound { IfErr result (λ e. (s : State) → IsAtState self.old s → (name : List ℕ) (points : PointMap) → IsPointsIn s.work self.old.catalog name layer points → IsSound e) }
+        ensures sound { IfErr result (λ e. (s : State) → IsAtState self.old s → (name : List ℕ) (points : PointMap)
+            → IsPointsIn s.work self.old.catalog name layer points → IsSound e) }
         ensures goes_on { books.GoesOn self.old.book self.new.book }
         ensures cause { HasStopCause (W.faults (books.world_of self.old.book)) (W.faults (books.world_of self.new.book)) result }
     {

@@ -1,4 +1,5 @@
-ghost use Rattle.std.specs.Prelude.{◌≡◌, ◌==◌, ◌<◌, ◌≤◌, ◌+◌, ◌↔◌, true, ℕ, List, All, filter, count_by, slice_index, IfSome, IsNone, IsSome, IfOk, IfErr, if◌then◌else◌};
+ghost use Rattle.std.specs.Prelude.{◌≡◌, ◌==◌, ◌<◌, ◌≤◌, ◌+◌, ◌↔◌, true, ℕ, List, All, filter, count_by, slice_index, IfSome, IsNone, IsSome, IfOk, IfErr};
+ghost use Rattle.std.specs.Prelude.{if◌then◌else◌};
 ghost use Rattle.std.specs.FinMap as finmap;
 ghost use Rattle.quilt_types.specs.Layers.{Map, PointMap};
 ghost use Rattle.quilt_types.specs.Plane.{side, is_pixel, is_window, in_window};
@@ -41,7 +42,8 @@ fn can_be(layer: PointLayer) -> bool
 
 /// The point layer with this name, or why there is none.
 pub(crate) fn points_number(entries: &[Entry], name: &Name) -> Result<PointLayer, Code>
-    ensures found { IfOk result (λ layer. (layers : Map) (numbers : Numbering) → IsCatalogOf layers numbers entries.now → IsPointsAt layers numbers name.now layer) }
+    ensures found { IfOk result (λ layer. (layers : Map) (numbers : Numbering) → IsCatalogOf layers numbers entries.now
+        → IsPointsAt layers numbers name.now layer) }
     ensures refused { IfErr result (λ code. (s : State) (numbers : Numbering) → IsCatalogOf s.work numbers entries.now → IsNoPoints s name.now code) }
 {
     match layer_under(entries, name) {
@@ -61,7 +63,9 @@ pub(crate) fn plan_point<W: Disk>(
 ) -> Result<Option<Edits>, Stop>
     requires in_x { at.x < side (last_of book.old).level }
     requires in_y { at.y < side (last_of book.old).level }
-    ensures plan { IfOk result (λ o. IfSome o (λ edits. (points : PointMap) → HoldsPoints book.old layer points → IsPlan (work_of book.old).level layer.number layer.bucket points (finmap.insert points at label) edits)) }
+    ensures plan { IfOk result
+        (λ o. IfSome o (λ edits. (points : PointMap) → HoldsPoints book.old layer points
+        → IsPlan (work_of book.old).level layer.number layer.bucket points (finmap.insert points at label) edits)) }
     ensures none { IfOk result (λ o. (points : PointMap) → HoldsPoints book.old layer points → IsNone o ↔ IsSome (finmap.get points at)) }
     ensures order { IfOk result (λ o. IfSome o AreInOrder) }
     ensures sound { IfErr result (λ e. (points : PointMap) → 1 ≤ layer.number → HoldsPoints book.old layer points → IsSound e) }
@@ -94,7 +98,9 @@ pub(crate) fn plan_removal<W: Disk>(
 ) -> Result<Option<Edits>, Stop>
     requires in_x { at.x < side (last_of book.old).level }
     requires in_y { at.y < side (last_of book.old).level }
-    ensures plan { IfOk result (λ o. IfSome o (λ edits. (points : PointMap) → HoldsPoints book.old layer points → IsPlan (work_of book.old).level layer.number layer.bucket points (finmap.remove points at) edits)) }
+    ensures plan { IfOk result
+        (λ o. IfSome o (λ edits. (points : PointMap) → HoldsPoints book.old layer points
+        → IsPlan (work_of book.old).level layer.number layer.bucket points (finmap.remove points at) edits)) }
     ensures none { IfOk result (λ o. (points : PointMap) → HoldsPoints book.old layer points → IsNone o ↔ IsNone (finmap.get points at)) }
     ensures order { IfOk result (λ o. IfSome o AreInOrder) }
     ensures sound { IfErr result (λ e. (points : PointMap) → 1 ≤ layer.number → HoldsPoints book.old layer points → IsSound e) }
@@ -153,7 +159,8 @@ pub(crate) fn read_points<W: Disk>(
     w: Window,
 ) -> Result<PointList, Stop>
     requires window { is_window (work_of book.old).level w ≡ true }
-    ensures points { IfOk result (λ list. (points : PointMap) → HoldsPoints book.old layer points → entries_of list ≡ filter (λ e. in_window w e.0) (finmap.entries points)) }
+    ensures points { IfOk result (λ list. (points : PointMap) → HoldsPoints book.old layer points
+        → entries_of list ≡ filter (λ e. in_window w e.0) (finmap.entries points)) }
     ensures sound { IfErr result (λ e. (points : PointMap) → 1 ≤ layer.number → HoldsPoints book.old layer points → IsSound e) }
     ensures still { IsStill book.old book.new }
     ensures cause { HasStopCause (W.faults (world_of book.old)) (W.faults (world_of book.new)) result }
@@ -182,7 +189,9 @@ pub(crate) fn plan_points<W: Disk>(
     points: &PointList,
 ) -> Result<Option<Edits>, Stop>
     requires pixels { All (λ p. is_pixel (work_of book.old).level p.at ≡ true) points.now }
-    ensures plan { IfOk result (λ o. IfSome o (λ edits. (held : PointMap) → HoldsPoints book.old layer held → IsPlan (work_of book.old).level layer.number layer.bucket held (with_points held points.now) edits)) }
+    ensures plan { IfOk result
+        (λ o. IfSome o (λ edits. (held : PointMap) → HoldsPoints book.old layer held
+        → IsPlan (work_of book.old).level layer.number layer.bucket held (with_points held points.now) edits)) }
     ensures none { IfOk result (λ o. (held : PointMap) → HoldsPoints book.old layer held → IsNone o ↔ (AreNew held points.now → ⊥)) }
     ensures order { IfOk result (λ o. IfSome o AreInOrder) }
     ensures sound { IfErr result (λ e. (held : PointMap) → 1 ≤ layer.number → HoldsPoints book.old layer held → IsSound e) }

@@ -21,8 +21,10 @@ impl<W: World> Session<W> {
         ensures answer { IfOk result (λ reply. (s : State) → IsAtState self.old s → Answered s commands.Publish self.old self.new reply) }
         ensures sound { IfErr result IsSound }
         ensures level { OnOk result ((books.last_of self.new.book).level ≡ (books.last_of self.old.book).level) }
-        ensures crash { (s : State) → IsAtState self.old s → Goes (Leaves s commands.Publish) (W.told (books.world_of self.old.book)) (W.told (books.world_of self.new.book)) }
-        ensures writes { (s : State) → IsAtState self.old s → Goes (Writing (18 * self.old.changes + 8)) (W.told (books.world_of self.old.book)) (W.told (books.world_of self.new.book)) }
+        ensures crash { (s : State) → IsAtState self.old s
+            → Goes (Leaves s commands.Publish) (W.told (books.world_of self.old.book)) (W.told (books.world_of self.new.book)) }
+        ensures writes { (s : State) → IsAtState self.old s
+            → Goes (Writing (18 * self.old.changes + 8)) (W.told (books.world_of self.old.book)) (W.told (books.world_of self.new.book)) }
         ensures events { Goes (λ old new. (most : ℕ) × Writing most old new) (W.told (books.world_of self.old.book)) (W.told (books.world_of self.new.book)) }
         ensures door { W.door (books.world_of self.new.book) ≡ W.door (books.world_of self.old.book) }
         ensures cause { HasStopCause (W.faults (books.world_of self.old.book)) (W.faults (books.world_of self.new.book)) result }
@@ -45,8 +47,10 @@ impl<W: World> Session<W> {
         ensures answer { IfOk result (λ reply. (s : State) → IsAtState self.old s → Answered s commands.Upgrade self.old self.new reply) }
         ensures sound { IfErr result IsSound }
         ensures level { OnOk result ((books.last_of self.new.book).level ≡ (books.last_of self.old.book).level) }
-        ensures crash { (s : State) → IsAtState self.old s → Goes (Leaves s commands.Upgrade) (W.told (books.world_of self.old.book)) (W.told (books.world_of self.new.book)) }
-        ensures writes { (s : State) → IsAtState self.old s → Goes (Writing (18 * self.old.changes + 8)) (W.told (books.world_of self.old.book)) (W.told (books.world_of self.new.book)) }
+        ensures crash { (s : State) → IsAtState self.old s
+            → Goes (Leaves s commands.Upgrade) (W.told (books.world_of self.old.book)) (W.told (books.world_of self.new.book)) }
+        ensures writes { (s : State) → IsAtState self.old s
+            → Goes (Writing (18 * self.old.changes + 8)) (W.told (books.world_of self.old.book)) (W.told (books.world_of self.new.book)) }
         ensures events { Goes (λ old new. (most : ℕ) × Writing most old new) (W.told (books.world_of self.old.book)) (W.told (books.world_of self.new.book)) }
         ensures door { W.door (books.world_of self.new.book) ≡ W.door (books.world_of self.old.book) }
         ensures cause { HasStopCause (W.faults (books.world_of self.old.book)) (W.faults (books.world_of self.new.book)) result }

@@ -18,8 +18,10 @@ pub(crate) fn why_not_new(entries: &[Entry], name: &Name) -> Option<Code>
     ensures few { IsNone result → length entries.now < 255 }
 
     // What this says of the tests of a command that makes a layer.
-    ensures passes { IsNone result → (s : State) (numbers : Numbering) → IsCatalogOf s.work numbers entries.now → ((exists s name.now).0 ≡ false) × ((too_many s).0 ≡ false) }
-    ensures refuses { IfSome result (λ code. (s : State) (numbers : Numbering) → IsCatalogOf s.work numbers entries.now → (rs : List (Bool × AnyCode)) (done : Outcome) →
+    ensures passes { IsNone result → (s : State) (numbers : Numbering) → IsCatalogOf s.work numbers entries.now
+        → ((exists s name.now).0 ≡ false) × ((too_many s).0 ≡ false) }
+    ensures refuses { IfSome result (λ code. (s : State) (numbers : Numbering) → IsCatalogOf s.work numbers entries.now
+        → (rs : List (Bool × AnyCode)) (done : Outcome) →
         unless (exists s name.now ∷ too_many s ∷ rs) s done ≡ refused s code) }
 {
     if index_of(entries, name).is_some() {

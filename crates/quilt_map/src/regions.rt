@@ -32,7 +32,8 @@ use std::alloc::Global;
 /// The number and the kind of the layer with this name.
 pub(crate) fn layer_under(entries: &[Entry], name: &Name) -> Option<(u8, Kind)>
     ensures none { IsNone result → (layers : Map) (numbers : Numbering) → IsCatalogOf layers numbers entries.now → finmap.get layers name.now ≡ None }
-    ensures some { IfSome result (λ found. (layers : Map) (numbers : Numbering) → IsCatalogOf layers numbers entries.now → IsLayerUnder layers numbers name.now found.0 found.1) }
+    ensures some { IfSome result (λ found. (layers : Map) (numbers : Numbering) → IsCatalogOf layers numbers entries.now
+        → IsLayerUnder layers numbers name.now found.0 found.1) }
 {
     let i = index_of(entries, name)?;
     Some((entries[i].number, entries[i].kind))
@@ -40,7 +41,8 @@ pub(crate) fn layer_under(entries: &[Entry], name: &Name) -> Option<(u8, Kind)>
 
 /// The number of the region layer with this name, or why there is none.
 pub(crate) fn region_number(entries: &[Entry], name: &Name) -> Result<u8, Code>
-    ensures found { IfOk result (λ number. (layers : Map) (numbers : Numbering) → IsCatalogOf layers numbers entries.now → IsRegionAt layers numbers name.now number) }
+    ensures found { IfOk result (λ number. (layers : Map) (numbers : Numbering) → IsCatalogOf layers numbers entries.now
+        → IsRegionAt layers numbers name.now number) }
     ensures refused { IfErr result (λ code. (s : State) (numbers : Numbering) → IsCatalogOf s.work numbers entries.now → IsRefusedFirst s name.now code) }
 {
     match layer_under(entries, name) {
@@ -67,10 +69,12 @@ pub(crate) fn read_region<W: Disk>(
     book: &mut Book<W>,
     number: u8,
 ) -> Result<LeafList, Stop>
-    ensures list { IfOk result (λ list. (g : Grid) → HasRegion (told_of book.old) (tree_in (work_of book.old)) number (work_of book.old).level g → list ≡ record { level = (work_of book.old).level; grid = g }) }
+    ensures list { IfOk result (λ list. (g : Grid) → HasRegion (told_of book.old) (tree_in (work_of book.old)) number (work_of book.old).level g
+        → list ≡ record { level = (work_of book.old).level; grid = g }) }
     ensures level { IfOk result (λ list. list.level ≡ (work_of book.old).level) }
     ensures number { OnOk result (1 ≤ number) }
-    ensures sound { IfErr result (λ e. (g : Grid) → 1 ≤ number → HasRegion (told_of book.old) (tree_in (work_of book.old)) number (work_of book.old).level g → IsSound e) }
+    ensures sound { IfErr result (λ e. (g : Grid) → 1 ≤ number
+        → HasRegion (told_of book.old) (tree_in (work_of book.old)) number (work_of book.old).level g → IsSound e) }
     ensures still { IsStill book.old book.new }
     ensures cause { HasStopCause (W.faults (world_of book.old)) (W.faults (world_of book.new)) result }
 {
@@ -89,15 +93,19 @@ pub(crate) fn read_colour<W: Disk>(
 ) -> Result<Colour, Stop>
     requires in_x { at.x < side (last_of book.old).level }
     requires in_y { at.y < side (last_of book.old).level }
-    ensures colour { IfOk result (λ c. (g : Grid) → HasRegion (told_of book.old) (tree_in (work_of book.old)) number (work_of book.old).level g → c.0 ≡ colour_in (work_of book.old).level g at) }
-    ensures sound { IfErr result (λ e. (g : Grid) → 1 ≤ number → HasRegion (told_of book.old) (tree_in (work_of book.old)) number (work_of book.old).level g → IsSound e) }
+    ensures colour { IfOk result (λ c. (g : Grid) → HasRegion (told_of book.old) (tree_in (work_of book.old)) number (work_of book.old).level g
+        → c.0 ≡ colour_in (work_of book.old).level g at) }
+    ensures sound { IfErr result (λ e. (g : Grid) → 1 ≤ number
+        → HasRegion (told_of book.old) (tree_in (work_of book.old)) number (work_of book.old).level g → IsSound e) }
     ensures still { IsStill book.old book.new }
     ensures cause { HasStopCause (W.faults (world_of book.old)) (W.faults (world_of book.new)) result }
     ensures reads { StoreTells (λ old new. new ≤ old + 6) (reads_in book.old) (reads_in book.new) }
 
     // The pages that it reads are then among the first eight that are held, and where they were, none is read.
-    ensures held { OnOk result ((rs : List AnyRecord) → IsTree (told_of book.old) (tree_in (work_of book.old)) rs → HoldsFirst (pages_asked number at (work_of book.old)) (told_of book.old) (held_of book.old) (held_of book.new)) }
-    ensures again { (rs : List AnyRecord) → IsTree (told_of book.old) (tree_in (work_of book.old)) rs → ReadsNone (pages_asked number at (work_of book.old)) (told_of book.old) (held_of book.old) (reads_in book.old) (reads_in book.new) }
+    ensures held { OnOk result ((rs : List AnyRecord) → IsTree (told_of book.old) (tree_in (work_of book.old)) rs
+        → HoldsFirst (pages_asked number at (work_of book.old)) (told_of book.old) (held_of book.old) (held_of book.new)) }
+    ensures again { (rs : List AnyRecord) → IsTree (told_of book.old) (tree_in (work_of book.old)) rs
+        → ReadsNone (pages_asked number at (work_of book.old)) (told_of book.old) (held_of book.old) (reads_in book.old) (reads_in book.new) }
 {
     if number == 0 {
         return Err(DAMAGED);
@@ -117,7 +125,8 @@ pub(crate) fn plan_paint<W: Disk>(
     requires window { is_window (work_of book.old).level w ≡ true }
     ensures plan { IfOk result (λ edits. (g : Grid) → HasRegion (told_of book.old) (tree_in (work_of book.old)) number (work_of book.old).level g →
         LeadsTo (work_of book.old).level number g (painted (work_of book.old).level g w c.0) edits) }
-    ensures sound { IfErr result (λ e. (g : Grid) → 1 ≤ number → HasRegion (told_of book.old) (tree_in (work_of book.old)) number (work_of book.old).level g → IsSound e) }
+    ensures sound { IfErr result (λ e. (g : Grid) → 1 ≤ number
+        → HasRegion (told_of book.old) (tree_in (work_of book.old)) number (work_of book.old).level g → IsSound e) }
     ensures still { IsStill book.old book.new }
     ensures cause { HasStopCause (W.faults (world_of book.old)) (W.faults (world_of book.new)) result }
 {
@@ -138,7 +147,8 @@ pub(crate) fn plan_redraw<W: Disk>(
     requires level { new.now.level ≡ (work_of book.old).level }
     ensures plan { IfOk result (λ edits. (g : Grid) → HasRegion (told_of book.old) (tree_in (work_of book.old)) number (work_of book.old).level g →
         LeadsTo (work_of book.old).level number g new.now.grid edits) }
-    ensures sound { IfErr result (λ e. (g : Grid) → 1 ≤ number → HasRegion (told_of book.old) (tree_in (work_of book.old)) number (work_of book.old).level g → IsSound e) }
+    ensures sound { IfErr result (λ e. (g : Grid) → 1 ≤ number
+        → HasRegion (told_of book.old) (tree_in (work_of book.old)) number (work_of book.old).level g → IsSound e) }
     ensures still { IsStill book.old book.new }
     ensures cause { HasStopCause (W.faults (world_of book.old)) (W.faults (world_of book.new)) result }
 {

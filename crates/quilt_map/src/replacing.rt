@@ -26,7 +26,8 @@ impl<W: World> Session<W> {
     /// Gives the work's region layer with this number the leaves of a list.
     fn redraw(&mut self, number: u8, list: &LeafList) -> Result<Reply, Stop>
         requires level { list.now.level ≡ (books.work_of self.old.book).level }
-        ensures redrawn { IfOk result (λ reply. (s : State) → IsAtState self.old s → (name : List ℕ) (g : Grid) → IsRegionIn s.work self.old.catalog name number g →
+        ensures redrawn { IfOk result (λ reply. (s : State) → IsAtState self.old s → (name : List ℕ) (g : Grid)
+            → IsRegionIn s.work self.old.catalog name number g →
             IsGrid s.last.format s.last.level list.now.grid → AnsweredBy s (placed s name (Region list.now.grid)) self.old self.new reply) }
         ensures sound { IfErr result (λ e. (s : State) → IsAtState self.old s → (name : List ℕ) (g : Grid) → IsRegionIn s.work self.old.catalog name number g →
             IsGrid s.last.format s.last.level list.now.grid → IsSound e) }

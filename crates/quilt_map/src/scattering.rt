@@ -30,9 +30,11 @@ impl<W: World> Session<W> {
     /// Puts these points into the work's point layer, all or none.
     fn scatter_into(&mut self, layer: PointLayer, points: &PointList) -> Result<Reply, Stop>
         requires pixels { All (λ p. is_pixel (books.work_of self.old.book).level p.at ≡ true) points.now }
-        ensures scattered { IfOk result (λ reply. (s : State) → IsAtState self.old s → (name : List ℕ) (held : PointMap) → IsPointsIn s.work self.old.catalog name layer held →
+        ensures scattered { IfOk result (λ reply. (s : State) → IsAtState self.old s → (name : List ℕ) (held : PointMap)
+            → IsPointsIn s.work self.old.catalog name layer held →
             AnsweredBy s (points_scattered s name layer.bucket held points.now) self.old self.new reply) }
-        ensures sound { IfErr result (λ e. (s : State) → IsAtState self.old s → (name : List ℕ) (held : PointMap) → IsPointsIn s.work self.old.catalog name layer held → IsSound e) }
+        ensures sound { IfErr result (λ e. (s : State) → IsAtState self.old s → (name : List ℕ) (held : PointMap)
+            → IsPointsIn s.work self.old.catalog name layer held → IsSound e) }
         ensures goes_on { books.GoesOn self.old.book self.new.book }
         ensures cause { HasStopCause (W.faults (books.world_of self.old.book)) (W.faults (books.world_of self.new.book)) result }
     {

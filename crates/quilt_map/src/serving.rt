@@ -32,7 +32,8 @@ impl<W: World> Session<W> {
         requires { Spelled (books.work_of self.old.book).format (books.last_of self.old.book).level command.now }
         ensures applied { IsApplied command.now self.old self.new result }
         ensures warm { self.new.warm ≡ warm_left command.now result }
-        ensures again { (s : State) → IsAt self.old s → (name : List ℕ) (p : Pixel) → command.now ≡ commands.At name p → warm_of self.old ≡ Some (name, p) → ReadsNothing self.old.book self.new.book }
+        ensures again { (s : State) → IsAt self.old s → (name : List ℕ) (p : Pixel) → command.now ≡ commands.At name p
+            → warm_of self.old ≡ Some (name, p) → ReadsNothing self.old.book self.new.book }
     {
         match command {
             Command::At { a, at } => self.at(a, *at),

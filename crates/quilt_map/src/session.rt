@@ -92,7 +92,8 @@ impl<W: World> Session<W> {
         ensures events { Goes (AddsOnly is_of_pages) (W.told (world_of self.old)) (W.told (world_of self.new)) }
         ensures input { Goes (λ old new. new.input ≡ old.input) (W.told (world_of self.old)) (W.told (world_of self.new)) }
         ensures crash { (s : State) → IsAt self.old s → Goes (Leaves s command.now) (W.told (world_of self.old)) (W.told (world_of self.new)) }
-        ensures writes { (s : State) → IsAt self.old s → Goes (WritesFew s command.now (changes_of self.old)) (W.told (world_of self.old)) (W.told (world_of self.new)) }
+        ensures writes { (s : State) → IsAt self.old s
+            → Goes (WritesFew s command.now (changes_of self.old)) (W.told (world_of self.old)) (W.told (world_of self.new)) }
         ensures reads { (s : State) → IsAt self.old s → IsPromised s command.now result → ReadsFew s command.now (reads_of self.old) (reads_of self.new) }
         ensures warm { warm_of self.new ≡ warm_left command.now result }
 

@@ -35,7 +35,8 @@ fn uniform_list(alloc: Global, level: u8, c: Colour) -> Result<LeafList, AllocEr
 impl<W: World> Session<W> {
     /// Makes a region layer of one colour under a name that no layer has.
     pub(crate) fn region(&mut self, name: &Name, c: Colour) -> Result<Reply, Stop>
-        ensures answer { IfOk result (λ reply. (s : State) → IsAtState self.old s → c.0 < colours s.last.format → Answered s (commands.Region name.now c) self.old self.new reply) }
+        ensures answer { IfOk result (λ reply. (s : State) → IsAtState self.old s → c.0 < colours s.last.format
+            → Answered s (commands.Region name.now c) self.old self.new reply) }
         ensures sound { IfErr result (λ e. (s : State) → IsAtState self.old s → c.0 < colours s.last.format → IsSound e) }
         ensures goes_on { books.GoesOn self.old.book self.new.book }
         ensures cause { HasStopCause (W.faults (books.world_of self.old.book)) (W.faults (books.world_of self.new.book)) result }

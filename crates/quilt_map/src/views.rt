@@ -10,7 +10,8 @@ ghost use Rattle.quilt_edition.specs.Books.{world_of, work_of};
 ghost use Rattle.quilt_replies.specs.States.{Tells};
 ghost use Rattle.quilt_map.specs.Asking.{IsStill, reads_in};
 ghost use Rattle.quilt_map.specs.LineLayers.{HoldsLines};
-ghost use Rattle.quilt_map.specs.Selecting.{layer_asked, is_place, AsksSome, HasFound, IsAnswered, pages_for, selected, selected_over, crossed as crossed_of, Shows};
+ghost use Rattle.quilt_map.specs.Selecting.{layer_asked, is_place, AsksSome, HasFound, IsAnswered, pages_for, selected, selected_over, crossed as crossed_of};
+ghost use Rattle.quilt_map.specs.Selecting.{Shows};
 
 use crate::asking::told;
 use crate::changing::DAMAGED;

@@ -1,5 +1,6 @@
 -- The best so far, by distance and then id, against the segments that were seen.
-use Rattle.std.proofs.Common.{◌≡◌, ℕ, ◌<◌, ◌≤◌, Bool, true, false, cond, ⊎_elim, List, [], ◌∷◌, Option, Some, None, fold, Contains, nat_le, not, ◌&&◌, ◌||◌, refl, sym, subst, arith, leb-true, leb-false, ltb-true}
+use Rattle.std.proofs.Common.{◌≡◌, ℕ, ◌<◌, ◌≤◌, Bool, true, false, cond, ⊎_elim, List, [], ◌∷◌, Option, Some, None, fold, Contains, nat_le, not, ◌&&◌, ◌||◌}
+use Rattle.std.proofs.Common.{refl, sym, subst, arith, leb-true, leb-false, ltb-true}
 use Rattle.std.specs.FinMap as finmap
 use Rattle.quilt_types.specs.declared.plane.Pixel.{Pixel}
 use Rattle.quilt_types.specs.declared.plane.Seg.{Seg}
@@ -90,26 +91,34 @@ step p es None e c h = record { real = one_real p es e c; here = leads_itself (f
 step p es (Some b) e c h =
     elim (comes_first (far_of p e) b) as (λ t. comes_first (far_of p e) b ≡ t → Step p es (Some b) e (cond t (Some (far_of p e)) (Some b))) [
       | true ↦ λ t. let l = first_leads (far_of p e) b _ _ _ refl refl refl t in
-          record { real = one_real p es e c; here = leads_itself (far_of p e); kept = λ f k. leads_trans (far_of p e) b (far_of p f) (positive p e.1) (real_positive p es b h) (positive p f.1) l k }
+          record {
+            real = one_real p es e c;
+            here = leads_itself (far_of p e);
+            kept = λ f k. leads_trans (far_of p e) b (far_of p f) (positive p e.1) (real_positive p es b h) (positive p f.1) l k;
+          }
       | false ↦ λ t. record { real = h; here = last_leads (far_of p e) b _ _ _ refl refl refl t; kept = λ f k. k }
     ] refl
 
 -- and what a list of them does
-pub improves : (p : Pixel) (es : List (ℕ × Seg)) (old : Option (ℕ × Fraction)) (seen : List (ℕ × Seg)) → ((e : ℕ × Seg) → Contains seen e → Contains es e) → IsReal p es old → Improves p es old seen (fold (better_seg p) old seen)
+pub improves : (p : Pixel) (es : List (ℕ × Seg)) (old : Option (ℕ × Fraction)) (seen : List (ℕ × Seg))
+    → ((e : ℕ × Seg) → Contains seen e → Contains es e) → IsReal p es old → Improves p es old seen (fold (better_seg p) old seen)
 improves p es old [] all h = record { real = h; here = λ e c. absurd (Contains-nil e c); kept = λ e k. k }
 improves p es old (x ∷ xs) all h =
     let s = step p es old x (all x (Contains-here x xs)) h in
     let r = improves p es (better_seg p old x) xs (λ e c. all e (Contains-there x xs e c)) s.real in
     record {
       real = r.real;
-      here = λ e c. ⊎_elim (λ is. subst (λ (z : ℕ × Seg). IsLed (fold (better_seg p) old (x ∷ xs)) (far_of p z)) is (r.kept x s.here)) (λ d. r.here e d) (Contains-cons_cases x xs e c);
+      here = λ e c. ⊎_elim (λ is. subst (λ (z : ℕ × Seg). IsLed (fold (better_seg p) old (x ∷ xs)) (far_of p z)) is (r.kept x s.here))
+          (λ d. r.here e d) (Contains-cons_cases x xs e c);
       kept = λ e k. r.kept e (s.kept e k);
     }
 
 -- where it leads all of them it is the nearest
-pub all_led : (segs : SegMap) (p : Pixel) (best : Option (ℕ × Fraction)) → IsReal p (finmap.entries segs) best → ((e : ℕ × Seg) → Contains (finmap.entries segs) e → IsLed best (far_of p e)) → best ≡ nearest segs p
+pub all_led : (segs : SegMap) (p : Pixel) (best : Option (ℕ × Fraction)) → IsReal p (finmap.entries segs) best
+    → ((e : ℕ × Seg) → Contains (finmap.entries segs) e → IsLed best (far_of p e)) → best ≡ nearest segs p
 all_led segs p (Some r) h led =
-    sym (nearest_from segs p r (record { seg = h.seg; listed = h.listed; distance = h.distance; least = λ e c. (led e c).near; first = λ e c u. (led e c).first u }))
+    sym (nearest_from segs p r
+    (record { seg = h.seg; listed = h.listed; distance = h.distance; least = λ e c. (led e c).near; first = λ e c u. (led e c).first u }))
 all_led segs p None h led = by (nearest segs p) refl
   where
     by : (o : Option (ℕ × Fraction)) → nearest segs p ≡ o → None ≡ nearest segs p

@@ -1,5 +1,6 @@
 -- What a search by blocks may still read, by a test of the blocks that it opens, and that it ends.
-use Rattle.std.proofs.Common.{◌≡◌, ℕ, ◌+◌, ◌*◌, ◌/◌, ◌<◌, ◌≤◌, Bool, true, false, cond, ◌&&◌, List, [], ◌∷◌, ◌++◌, map, length, sum_by, refl, ◌∙◌, arith, ap, IsPermutation}
+use Rattle.std.proofs.Common.{◌≡◌, ℕ, ◌+◌, ◌*◌, ◌/◌, ◌<◌, ◌≤◌, Bool, true, false, cond, ◌&&◌, List, [], ◌∷◌, ◌++◌, map, length, sum_by, refl, ◌∙◌, arith, ap}
+use Rattle.std.proofs.Common.{IsPermutation}
 use Rattle.std.specs.FinMap as finmap
 use Rattle.std.proofs.Math.Nat.{mul-le-mul_right}
 use Rattle.std.proofs.lemmas.Bool.{and_from}
@@ -34,11 +35,13 @@ module _ {E : Type 0} (block_of : E → Block) where
   abbrev pub owed : ℕ → (Block → Bool) → Lines → List E → ℕ
   owed n test l queue = sum_by (λ e. budget (cost test l) (blocks n) (block_of e)) queue
 
-  pub owed_first : (n : ℕ) (test : Block → Bool) (l : Lines) (first : E) (queue : List E) → block_of first ≡ whole n → IsPermutation (first ∷ []) queue → owed n test l queue ≤ reach n l.segs l.cover test
+  pub owed_first : (n : ℕ) (test : Block → Bool) (l : Lines) (first : E) (queue : List E) → block_of first ≡ whole n
+      → IsPermutation (first ∷ []) queue → owed n test l queue ≤ reach n l.segs l.cover test
   unfolding reach
   owed_first n test l first queue is h =
       let v = cost test l in
-      let one : owed n test l queue ≡ 0 + budget v (blocks n) (block_of first) = sum_by-IsPermutation (λ (e : E). budget v (blocks n) (block_of e)) (first ∷ []) queue h in
+      let one : owed n test l queue ≡ 0 + budget v (blocks n) (block_of first) =
+      sum_by-IsPermutation (λ (e : E). budget v (blocks n) (block_of e)) (first ∷ []) queue h in
       let all = budget_le v (blocks n) (block_of first) in
       let kept = kept_le (price l.segs l.cover) (λ b. test b && is_reached l.cover b) (blocks n) in
       omega arith
@@ -51,7 +54,8 @@ module _ {E : Type 0} (block_of : E → Block) where
 
     -- and is opened
     module _ (block : IsBlock n (block_of e)) (reached : is_reached l.cover (block_of e) ≡ true) (passes : test (block_of e) ≡ true) where
-      pub owed_leaf : (list : List (ℕ × Seg)) → finset.contains l.cover (block_of e) ≡ true → list ≡ meeting l.segs (block_of e) → owed n test l rest + (12 + 6 * length list) ≤ owed n test l queue
+      pub owed_leaf : (list : List (ℕ × Seg)) → finset.contains l.cover (block_of e) ≡ true → list ≡ meeting l.segs (block_of e)
+          → owed n test l rest + (12 + 6 * length list) ≤ owed n test l queue
       owed_leaf list whole same =
           let b = block_of e in
           let v = cost test l in
@@ -61,14 +65,16 @@ module _ {E : Type 0} (block_of : E → Block) where
           let many : length list ≡ segs_meeting l.segs b = ap length same ∙ length-filter (λ (z : ℕ × Seg). meets z.1 (square b)) (finmap.entries l.segs) in
           omega arith
 
-      pub owed_split : (four new : List E) → 1 < (block_of e).side → finset.contains l.cover (block_of e) ≡ false → map block_of four ≡ quarters_of (block_of e) → IsPermutation (four ++ rest) new → owed n test l new + 12 ≤ owed n test l queue
+      pub owed_split : (four new : List E) → 1 < (block_of e).side → finset.contains l.cover (block_of e) ≡ false
+          → map block_of four ≡ quarters_of (block_of e) → IsPermutation (four ++ rest) new → owed n test l new + 12 ≤ owed n test l queue
       owed_split four new wide cut are h' =
           let b = block_of e in
           let v = cost test l in
           let g = λ (z : E). budget v (blocks n) (block_of z) in
           let took = sum_by_popped g e queue rest h in
           let put : sum_by g new ≡ sum_by g four + sum_by g rest = sum_by-IsPermutation g (four ++ rest) new h' ∙ sum_by-append g four rest in
-          let same : sum_by g four ≡ sum_by (budget v (blocks n)) (quarters_of b) = sum_by-map block_of (budget v (blocks n)) four ∙ ap (sum_by (budget v (blocks n))) are in
+          let same : sum_by g four ≡ sum_by (budget v (blocks n)) (quarters_of b) =
+          sum_by-map block_of (budget v (blocks n)) four ∙ ap (sum_by (budget v (blocks n))) are in
           let own = quarters_le v (blocks n) b wide (Contains-blocks n b block) in
           let is : v b ≡ 12 = cost_is test l b passes reached ∙ ap (λ t. cond t (12 + 6 * segs_meeting l.segs b) 12) cut in
           omega arith
@@ -98,7 +104,8 @@ module _ {E : Type 0} (block_of : E → Block) where
       let c = cube_pos (block_of e).side pos in
       omega arith
 
-  pub left_split : (queue rest new four : List E) (e : E) → IsPermutation queue (e ∷ rest) → 1 < (block_of e).side → map block_of four ≡ quarters_of (block_of e) → IsPermutation (four ++ rest) new → left new < left queue
+  pub left_split : (queue rest new four : List E) (e : E) → IsPermutation queue (e ∷ rest) → 1 < (block_of e).side
+      → map block_of four ≡ quarters_of (block_of e) → IsPermutation (four ++ rest) new → left new < left queue
   left_split queue rest new four e h wide are h' =
       let cube = λ (b : Block). b.side * b.side * b.side in
       let g = λ (z : E). cube (block_of z) in

@@ -1,5 +1,6 @@
 -- Points in the order of their codes: what the order says, and what it is to be sorted by them.
-use Rattle.std.proofs.Common.{◌≡◌, ℕ, zero, suc, ◌+◌, ◌-◌, ◌<◌, ◌≤◌, true, List, [], ◌∷◌, ◌++◌, map, take, drop, length, get_or, refl, sym, ◌∙◌, ap, subst, ⊎_elim, arith, Contains, All, Ordering, nat_cmp}
+use Rattle.std.proofs.Common.{◌≡◌, ℕ, zero, suc, ◌+◌, ◌-◌, ◌<◌, ◌≤◌, true, List, [], ◌∷◌, ◌++◌, map, take, drop, length, get_or, refl, sym, ◌∙◌, ap, subst}
+use Rattle.std.proofs.Common.{⊎_elim, arith, Contains, All, Ordering, nat_cmp}
 use Rattle.std.specs.Ordering.{is_lt}
 use Rattle.std.specs.Cmp.{nat_cmp_total, on_total}
 use Rattle.std.specs.List.Sorted.{IsPermutation, IsSortedByKey}
@@ -62,14 +63,16 @@ rest_is i xs = let l = length-drop i xs in take_all (length xs - i) (drop i xs) 
 
 pub all_next : {X : Type 0} (P : X → Type 0) (xs : List X) (i : ℕ) (d : X) → All P (take i xs) → i < length xs → P (get_or xs i d) → All P (take (i + 1) xs)
 all_next P xs i d h lt one =
-    subst (All P) (sym (take_next xs i d lt)) (All-append P (take i xs) (get_or xs i d ∷ []) h (All-cons P (get_or xs i d) [] one (λ k e none. absurd (omega arith))))
+    subst (All P) (sym (take_next xs i d lt))
+    (All-append P (take i xs) (get_or xs i d ∷ []) h (All-cons P (get_or xs i d) [] one (λ k e none. absurd (omega arith))))
 
 -- ---- the order of codes
 -- the first has the least code
 pub first_least : (xs : List Point) (d : Point) (p : Point) → Rises by_code xs → Contains xs p → code_at (get_or xs 0 d).at ≤ code_at p.at
 first_least [] d p up c = absurd (Contains-nil p c)
 first_least (x ∷ xs) d p up c =
-    ⊎_elim (λ is. let e = ap (λ (q : Point). code_at q.at) is in omega arith) (λ m. let lt = nat_less_from (code_at x.at) (code_at p.at) (up.0 p m) in omega arith) (Contains-cons_cases x xs p c)
+    ⊎_elim (λ is. let e = ap (λ (q : Point). code_at q.at) is in omega arith) (λ m. let lt =
+    nat_less_from (code_at x.at) (code_at p.at) (up.0 p m) in omega arith) (Contains-cons_cases x xs p c)
 
 -- points in this order have pixels of their own
 pub pixels_apart : (xs : List Point) → Rises by_code xs → Apart (map (λ p. p.at) xs)
@@ -84,7 +87,8 @@ pixels_apart (x ∷ xs) h = (
 )
 
 -- ---- points with their codes
-pub coded_next : (old new : List Coded) (ps : List Point) (i : ℕ) (d : Point) (r : Coded) → new ≡ old ++ r ∷ [] → old ≡ map coded (take i ps) → i < length ps → r ≡ coded (get_or ps i d) → new ≡ map coded (take (i + 1) ps)
+pub coded_next : (old new : List Coded) (ps : List Point) (i : ℕ) (d : Point) (r : Coded) → new ≡ old ++ r ∷ [] → old ≡ map coded (take i ps)
+    → i < length ps → r ≡ coded (get_or ps i d) → new ≡ map coded (take (i + 1) ps)
 coded_next old new ps i d r is has lt row =
     is ∙ (λ j. has j ++ row j ∷ []) ∙ sym (map-append coded (take i ps) (get_or ps i d ∷ [])) ∙ ap (map coded) (sym (take_next ps i d lt))
 
@@ -120,7 +124,8 @@ module _ (ps : List Point) (cs sorted : List Coded) (are : cs ≡ map coded ps) 
 
   pub points_same : (vs : List Point) → vs ≡ map (λ c. c.point) sorted → IsPermutation ps vs
   points_same vs is =
-      subst (IsPermutation ps) (sym is) (subst (λ (l : List Point). IsPermutation l (map (λ (c : Coded). c.point) sorted)) (same_point ps) (IsPermutation-map (λ (c : Coded). c.point) (map coded ps) sorted perm))
+      subst (IsPermutation ps) (sym is) (subst (λ (l : List Point). IsPermutation l (map (λ (c : Coded). c.point) sorted)) (same_point ps)
+      (IsPermutation-map (λ (c : Coded). c.point) (map coded ps) sorted perm))
 
   -- each has the code of its pixel
   code_is : (c : Coded) → Contains sorted c → (q : Point) × Contains ps q × (coded q ≡ c)
@@ -129,7 +134,8 @@ module _ (ps : List Point) (cs sorted : List Coded) (are : cs ≡ map coded ps) 
   pub points_rise : IsStepwise sorted → (vs : List Point) → vs ≡ map (λ c. c.point) sorted → Rises by_code vs
   points_rise steps vs is =
       let R : Coded → Coded → Ordering = λ c d. nat_cmp c.code d.code in
-      let rises : Rises R sorted = steps_rise R (on_total (λ (c : Coded). c.code) nat_cmp_total) sorted (λ k d lt. nat_less (get_or sorted k d).code (get_or sorted (suc k) d).code (steps k d lt)) in
+      let rises : Rises R sorted = steps_rise R (on_total (λ (c : Coded). c.code) nat_cmp_total) sorted
+      (λ k d lt. nat_less (get_or sorted k d).code (get_or sorted (suc k) d).code (steps k d lt)) in
       subst (Rises by_code) (sym is)
       (Rises-map R by_code (λ (c : Coded). c.point) sorted (λ c d mc md less.
       let u = code_is c mc in
@@ -153,12 +159,18 @@ module _ (ps : List Point) (cs sorted : List Coded) (are : cs ≡ map coded ps) 
       let w = other.1 in
       let le = fall.2 start in
       let ge : (get_or sorted k start).code ≤ (get_or sorted (suc k) start).code =
-      ⊎_elim (λ lt. absurd (both_ways (is_lt (nat_cmp (get_or sorted (suc k) start).code (get_or sorted k start).code)) (ap (λ n. is_lt (nat_cmp (get_or sorted n start).code (get_or sorted k start).code)) next ∙ up k start (omega arith) (let lt' = fall.1 in omega arith)) (ap is_lt (nat_less (get_or sorted (suc k) start).code (get_or sorted k start).code lt)))) (λ h. h) (cases_lt (get_or sorted (suc k) start).code (get_or sorted k start).code) in
+      ⊎_elim (λ lt. absurd (both_ways (is_lt (nat_cmp (get_or sorted (suc k) start).code (get_or sorted k start).code))
+      (ap (λ n. is_lt (nat_cmp (get_or sorted n start).code (get_or sorted k start).code)) next
+      ∙ up k start (omega arith) (let lt' = fall.1 in omega arith))
+      (ap is_lt (nat_less (get_or sorted (suc k) start).code (get_or sorted k start).code lt)))) (λ h. h)
+      (cases_lt (get_or sorted (suc k) start).code (get_or sorted k start).code) in
       let a = ap (λ (c : Coded). c.code) first.2 in
       let b = ap (λ (c : Coded). c.code) second.2 in
       let same : (first.0).at ≡ (second.0).at = code_alone (first.0).at (second.0).at (omega arith) (omega arith) (omega arith) (omega arith) (omega arith) in
       key_apart (λ (c : Coded). c.point.at) sorted k start
-      (Apart-permuted (map (λ (q : Point). q.at) ps) (map (λ (c : Coded). c.point.at) sorted) (subst (λ (l : List Pixel). IsPermutation l (map (λ (c : Coded). c.point.at) sorted)) (same_pixels ps) (IsPermutation-map (λ (c : Coded). c.point.at) (map coded ps) sorted perm)) apart)
+      (Apart-permuted (map (λ (q : Point). q.at) ps) (map (λ (c : Coded). c.point.at) sorted)
+      (subst (λ (l : List Pixel). IsPermutation l (map (λ (c : Coded). c.point.at) sorted)) (same_pixels ps)
+      (IsPermutation-map (λ (c : Coded). c.point.at) (map coded ps) sorted perm)) apart)
       fall.1 (sym (ap (λ (c : Coded). c.point.at) first.2) ∙ same ∙ ap (λ (c : Coded). c.point.at) second.2)
     where
       start : Coded

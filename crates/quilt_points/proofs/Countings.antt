@@ -1,5 +1,6 @@
 -- The blocks of a point layer one behind the other, and how many of them there are of each side.
-use Rattle.std.proofs.Common.{◌≡◌, ℕ, zero, suc, ◌+◌, ◌^◌, ◌<◌, ◌≤◌, ◌↔◌, Bool, true, false, cond, List, [], ◌∷◌, length, get_or, set, replicate, count_by, eq-eqb, eqb-true, Option, Some, None, refl, sym, ◌∙◌, ap, subst, ⊎_elim, arith, Contains, filter}
+use Rattle.std.proofs.Common.{◌≡◌, ℕ, zero, suc, ◌+◌, ◌^◌, ◌<◌, ◌≤◌, ◌↔◌, Bool, true, false, cond, List, [], ◌∷◌, length, get_or, set, replicate, count_by}
+use Rattle.std.proofs.Common.{eq-eqb, eqb-true, Option, Some, None, refl, sym, ◌∙◌, ap, subst, ⊎_elim, arith, Contains, filter}
 use Rattle.std.specs.Prelude.{◌==◌}
 use Rattle.std.proofs.lemmas.Bool.{cases_lt, false_from_ne_true}
 use Rattle.std.proofs.lemmas.List.{get_or-set_same, get_or-set_other}
@@ -35,7 +36,8 @@ pub record AreSeen (n capacity : ℕ) (points : PointMap) (code : ℕ) (counts :
   pub ended : (e : Block) → Contains blocks e → code_to e ≤ code
   pub counted : (k : ℕ) → k ≤ 12 → get_or counts k 0 ≡ count_by (λ b. b.side == side k) blocks
 
-pub seen_none : (n capacity : ℕ) (points : PointMap) (counts : List ℕ) → ((k : ℕ) → k ≤ 12 → get_or counts k 0 ≡ 0) → (s : AreSeen n capacity points 0 counts) × (length s.blocks ≡ 0)
+pub seen_none : (n capacity : ℕ) (points : PointMap) (counts : List ℕ) → ((k : ℕ) → k ≤ 12 → get_or counts k 0 ≡ 0)
+    → (s : AreSeen n capacity points 0 counts) × (length s.blocks ≡ 0)
 seen_none n capacity points counts zeros = (
   record {
     blocks = [];
@@ -47,7 +49,8 @@ seen_none n capacity points counts zeros = (
   refl,
 )
 
-one_more : (bs : List Block) (b : Block) (counts : List ℕ) (j k : ℕ) → j < length counts → b.side ≡ side j → get_or counts j 0 ≡ count_by (λ (d : Block). d.side == side j) bs → get_or counts k 0 ≡ count_by (λ (d : Block). d.side == side k) bs
+one_more : (bs : List Block) (b : Block) (counts : List ℕ) (j k : ℕ) → j < length counts → b.side ≡ side j
+    → get_or counts j 0 ≡ count_by (λ (d : Block). d.side == side j) bs → get_or counts k 0 ≡ count_by (λ (d : Block). d.side == side k) bs
     → get_or (set counts j (get_or counts j 0 + 1)) k 0 ≡ count_by (λ (d : Block). d.side == side k) (b ∷ bs)
 one_more bs b counts j k room size here old =
     ⊎_elim (λ lt. other (λ q. omega arith)) (λ ge. ⊎_elim (λ lt. other (λ q. omega arith)) (λ le. same (omega arith)) (cases_lt j k)) (cases_lt k j)
@@ -58,7 +61,8 @@ one_more bs b counts j k room size here old =
     same : k ≡ j → get_or (set counts j (get_or counts j 0 + 1)) k 0 ≡ count_by (λ (d : Block). d.side == side k) (b ∷ bs)
     same q =
         let t : (b.side == side k) ≡ true = eq-eqb b.side (side k) (size ∙ ap side (sym q)) in
-        let one : count_by (λ (d : Block). d.side == side k) (b ∷ bs) ≡ 1 + rest k = sum_by-cons (λ (d : Block). cond (d.side == side k) 1 0) b bs ∙ ap (λ (z : Bool). cond z 1 0 + rest k) t in
+        let one : count_by (λ (d : Block). d.side == side k) (b ∷ bs) ≡ 1 + rest k =
+        sum_by-cons (λ (d : Block). cond (d.side == side k) 1 0) b bs ∙ ap (λ (z : Bool). cond z 1 0 + rest k) t in
         let value = ap (λ m. get_or (set counts j (get_or counts j 0 + 1)) m 0) q ∙ get_or-set_same counts j (get_or counts j 0 + 1) 0 room in
         let there = old in
         let at : get_or counts j 0 ≡ get_or counts k 0 = ap (λ m. get_or counts m 0) (sym q) in
@@ -67,13 +71,15 @@ one_more bs b counts j k room size here old =
     other : (k ≡ j → ⊥) → get_or (set counts j (get_or counts j 0 + 1)) k 0 ≡ count_by (λ (d : Block). d.side == side k) (b ∷ bs)
     other q =
         let f : (b.side == side k) ≡ false = false_from_ne_true (b.side == side k) (λ t. q (pow_same k j (sym (eqb-true b.side (side k) t) ∙ size))) in
-        let none : count_by (λ (d : Block). d.side == side k) (b ∷ bs) ≡ 0 + rest k = sum_by-cons (λ (d : Block). cond (d.side == side k) 1 0) b bs ∙ ap (λ (z : Bool). cond z 1 0 + rest k) f in
+        let none : count_by (λ (d : Block). d.side == side k) (b ∷ bs) ≡ 0 + rest k =
+        sum_by-cons (λ (d : Block). cond (d.side == side k) 1 0) b bs ∙ ap (λ (z : Bool). cond z 1 0 + rest k) f in
         let value = get_or-set_other counts j k (get_or counts j 0 + 1) 0 q in
         omega arith
 
 module _ (n capacity : ℕ) (points : PointMap) (le : n ≤ 12) (code : ℕ) (counts : List ℕ) (h : AreSeen n capacity points code counts) where
   -- the next block
-  pub seen_next : (p : Pixel) (b : Block) (j to : ℕ) → to ≡ code_to b → Contains (point_blocks n capacity points) b → Holds b p → code_at p ≡ code → j ≤ 12 → b.side ≡ side j → length counts ≡ 13
+  pub seen_next : (p : Pixel) (b : Block) (j to : ℕ) → to ≡ code_to b → Contains (point_blocks n capacity points) b → Holds b p → code_at p ≡ code
+      → j ≤ 12 → b.side ≡ side j → length counts ≡ 13
       → (s : AreSeen n capacity points to (set counts j (get_or counts j 0 + 1))) × (length s.blocks ≡ length h.blocks + 1)
   seen_next p b j to is_to mb on at most size long =
       let gb = block_is n capacity points b mb in
@@ -118,7 +124,9 @@ module _ (n capacity : ℕ) (points : PointMap) (le : n ≤ 12) (code : ℕ) (co
     λ c. ((h.are e).0 c).0,
     λ m.
         let g = block_is n capacity points e m in
-        let last = (code_held n (whole n) (corner e) (IsBlock-whole n) le (Within-holds e (whole n) (corner e) (Within-whole n e g.block) (Holds-corner n e g.block))).1 in
+        let last =
+        (code_held n (whole n) (corner e) (IsBlock-whole n) le
+        (Within-holds e (whole n) (corner e) (Within-whole n e g.block) (Holds-corner n e g.block))).1 in
         (h.are e).1 (m, (let lt : code_from e < code = omega arith in lt)),
   )
 
@@ -142,7 +150,8 @@ module _ (n capacity : ℕ) (points : PointMap) (le : n ≤ 12) (code : ℕ) (co
   few_seen = Apart-le h.blocks (point_blocks n capacity points) h.once (λ e c. ((h.are e).0 c).0)
 
 -- ---- counts that are told
-pub tells_more : (a b c : ℕ) (first old new : Option ℕ) → a + b ≤ c → Tells (λ x y. y ≤ x + a) first old → Tells (λ x y. y ≤ x + b) old new → Tells (λ x y. y ≤ x + c) first new
+pub tells_more : (a b c : ℕ) (first old new : Option ℕ) → a + b ≤ c → Tells (λ x y. y ≤ x + a) first old → Tells (λ x y. y ≤ x + b) old new
+    → Tells (λ x y. y ≤ x + c) first new
 tells_more a b c (Some x) (Some y) (Some z) le h k = omega arith
 tells_more a b c None None None le h k = tt
 tells_more a b c (Some x) (Some y) None le h k = absurd k
@@ -185,7 +194,8 @@ zeros_at (suc n) (suc k) = zeros_at n k
 pub zeros_le : (n k m : ℕ) → get_or (replicate {A = ℕ} n 0) k 0 ≤ m
 zeros_le n k m = let z = zeros_at n k in omega arith
 
-pub counts_most : (counts : List ℕ) (j k code to : ℕ) → ((m : ℕ) → get_or counts m 0 ≤ code) → code < to → j < length counts → get_or (set counts j (get_or counts j 0 + 1)) k 0 ≤ to
+pub counts_most : (counts : List ℕ) (j k code to : ℕ) → ((m : ℕ) → get_or counts m 0 ≤ code) → code < to → j < length counts
+    → get_or (set counts j (get_or counts j 0 + 1)) k 0 ≤ to
 counts_most counts j k code to most lt room =
     ⊎_elim (λ l. other (λ q. omega arith)) (λ ge. ⊎_elim (λ l. other (λ q. omega arith)) (λ le. same (omega arith)) (cases_lt j k)) (cases_lt k j)
   where

@@ -1,5 +1,6 @@
 -- What is found at a pixel of a point layer.
-use Rattle.std.proofs.Common.{◌≡◌, ℕ, ◌+◌, ◌<◌, ◌≤◌, ◌^◌, Bool, true, false, List, [], ◌∷◌, length, Option, Some, None, refl, sym, ◌∙◌, ap, subst, ⊎_elim, arith, Contains, ◌⊎◌, inl, inr, filter, leb-true, eqb-true, ne_eqb, nat_lt, ltb-true, lt-ltb}
+use Rattle.std.proofs.Common.{◌≡◌, ℕ, ◌+◌, ◌<◌, ◌≤◌, ◌^◌, Bool, true, false, List, [], ◌∷◌, length, Option, Some, None, refl, sym, ◌∙◌, ap, subst, ⊎_elim}
+use Rattle.std.proofs.Common.{arith, Contains, ◌⊎◌, inl, inr, filter, leb-true, eqb-true, ne_eqb, nat_lt, ltb-true, lt-ltb}
 use Rattle.std.specs.Prelude.{unwrap_or, MatchOption, IfSome, ◌==◌}
 use Rattle.std.specs.FinMap as finmap
 use Rattle.std.proofs.lemmas.Bool.{cases_Bool, cond-true, cond-false, and_parts, and_from}
@@ -66,7 +67,8 @@ pub record IsRead (n capacity : ℕ) (points : PointMap) (p : Pixel) (read : Opt
   pub holds : in_block block p ≡ true
   pub said : IsBlockRead n capacity points block held
 
-pub around_read : (told : Option (List (List ℕ))) (t : Tree) (layer n capacity : ℕ) (points : PointMap) (p : Pixel) (k : Key) (found : Option Record) (r : Record) (read : Option (Block × Option Point))
+pub around_read : (told : Option (List (List ℕ))) (t : Tree) (layer n capacity : ℕ) (points : PointMap) (p : Pixel) (k : Key) (found : Option Record)
+    (r : Record) (read : Option (Block × Option Point))
     → 1 ≤ layer → layer ≤ 255 → n ≤ 12 → p.x < side n → p.y < side n → k ≡ pixel_key layer p
     → ((rs : List Record) → IsTree told t rs → found ≡ floor_of k rs) → found ≡ Some r
     → ((b : Block) (held : Option Point) → IsRecordOf n capacity r layer (point_fact b held) → read ≡ Some (b, held))
@@ -83,16 +85,22 @@ around_read told t layer n capacity points p k found r read least most le hx hy 
       held = s.held;
       is = one w.block s.held (subst (λ (z : Record). IsRecordOf n capacity z layer (point_fact w.block s.held)) here row);
       holds = in_block-true w.block p a.holds;
-      said = record { block = block_from n capacity points w.block w.maximal; fact = subst (Contains (block_facts n capacity points)) s.is (block_fact_is n capacity points a.fact w) };
+      said =
+          record {
+            block = block_from n capacity points w.block w.maximal;
+            fact = subst (Contains (block_facts n capacity points)) s.is (block_fact_is n capacity points a.fact w);
+          };
     }
 
 -- what was read is that
-pub read_same : (n capacity : ℕ) (points : PointMap) (p : Pixel) (read : Option (Block × Option Point)) (b : Block) (held : Option Point) → read ≡ Some (b, held) → IsRead n capacity points p read → IsBlockRead n capacity points b held
+pub read_same : (n capacity : ℕ) (points : PointMap) (p : Pixel) (read : Option (Block × Option Point)) (b : Block) (held : Option Point)
+    → read ≡ Some (b, held) → IsRead n capacity points p read → IsBlockRead n capacity points b held
 read_same n capacity points p read b held e i =
     let pair : (i.block, i.held) ≡ (b, held) = some_same (i.block, i.held) (b, held) (sym i.is ∙ e) in
     subst (λ (z : Block × Option Point). IsBlockRead n capacity points z.0 z.1) pair i.said
 
-pub read_holds : (n capacity : ℕ) (points : PointMap) (p : Pixel) (read : Option (Block × Option Point)) (b : Block) (held : Option Point) → read ≡ Some (b, held) → IsRead n capacity points p read → in_block b p ≡ true
+pub read_holds : (n capacity : ℕ) (points : PointMap) (p : Pixel) (read : Option (Block × Option Point)) (b : Block) (held : Option Point)
+    → read ≡ Some (b, held) → IsRead n capacity points p read → in_block b p ≡ true
 read_holds n capacity points p read b held e i =
     let pair : (i.block, i.held) ≡ (b, held) = some_same (i.block, i.held) (b, held) (sym i.is ∙ e) in
     subst (λ (z : Block × Option Point). in_block z.0 p ≡ true) pair i.holds
@@ -146,7 +154,8 @@ module _ (n : ℕ) (points : PointMap) (b : Block) (at : Pixel) (holds : in_bloc
       let few = leb-true (points_in points b) 1 (block_is n 1 points b r.block).passes in
       let many = length-filter test es in
       let same = (w.on).0 in
-      let here : Contains (filter test es) (p.at, p.label) = Contains-filter test es (p.at, p.label) (w.on).1 (ap (λ (z : Block). in_block z p.at) same ∙ (w.on).2) in
+      let here : Contains (filter test es) (p.at, p.label) =
+      Contains-filter test es (p.at, p.label) (w.on).1 (ap (λ (z : Block). in_block z p.at) same ∙ (w.on).2) in
       let there : Contains (filter test es) (at, l) = Contains-filter test es (at, l) (entry_from_get pixel_cmp pixel_total pixel_same points at l e) holds in
       let one = one_of (filter test es) (p.at, p.label) (at, l) (omega arith) here there in
       cond-true (same_pixel p.at at) (Some p.label) None (same_pixel_self p.at at (ap (λ (z : Pixel × ℕ). z.0) one)) ∙ ap Some (ap (λ (z : Pixel × ℕ). z.1) one)
@@ -167,7 +176,8 @@ unfolding value_of
 value_some k rs r up c e = ap value_in (find_at k rs r up c e)
 
 -- what a search for the key of the pixel in its block has to give
-module _ (rs : List Record) (layer n capacity : ℕ) (points : PointMap) (le : n ≤ 12) (more : 1 < capacity) (up : Rises by_key rs) (spells : SpellsPoints rs layer n capacity points)
+module _ (rs : List Record) (layer n capacity : ℕ) (points : PointMap) (le : n ≤ 12) (more : 1 < capacity) (up : Rises by_key rs)
+    (spells : SpellsPoints rs layer n capacity points)
     (b : Block) (mb : Contains (point_blocks n capacity points) b) (at : Pixel) (on : is_pixel n at ≡ true) (holds : in_block b at ≡ true) where
   abbrev here : ℕ → Fact
   here l = HoldsPoint b at l
@@ -189,7 +199,8 @@ module _ (rs : List Record) (layer n capacity : ℕ) (points : PointMap) (le : n
   some_item : point_item capacity at ≡ 0 → ⊥
   some_item e = let c = cond-false (capacity == 1) 0 (code_at at + 1) (ne_eqb capacity 1 (λ z. absurd (omega arith))) in omega arith
 
-  by_fact : (l : ℕ) (f : Fact) (w : OfBlock n capacity points f) → (block_record n capacity layer f).key ≡ (block_record n capacity layer (here l)).key → (m : ℕ) × (finmap.get points at ≡ Some m)
+  by_fact : (l : ℕ) (f : Fact) (w : OfBlock n capacity points f)
+      → (block_record n capacity layer f).key ≡ (block_record n capacity layer (here l)).key → (m : ℕ) × (finmap.get points at ≡ Some m)
   by_fact l (HoldsPoint d q m) w e =
       let v = spells.valid in
       let inside = All-contains (λ (z : Pixel × ℕ). is_pixel n z.0 ≡ true) (finmap.entries points) (q, m) v.inside (w.on).1 in
@@ -207,10 +218,12 @@ module _ (rs : List Record) (layer n capacity : ℕ) (points : PointMap) (le : n
       none_some g.0 (sym none ∙ g.1))
 
   pub fact_here : (l : ℕ) → finmap.get points at ≡ Some l → OfBlock n capacity points (here l)
-  fact_here l some = record { block = b; maximal = block_is n capacity points b mb; on = (refl, entry_from_get pixel_cmp pixel_total pixel_same points at l some, holds) }
+  fact_here l some =
+      record { block = b; maximal = block_is n capacity points b mb; on = (refl, entry_from_get pixel_cmp pixel_total pixel_same points at l some, holds) }
 
   -- the record of the point that is there
-  pub present : (k : Key) (l : ℕ) → k ≡ (block_record n capacity layer (here 0)).key → finmap.get points at ≡ Some l → value_of k rs ≡ Some (block_record n capacity layer (here l)).value
+  pub present : (k : Key) (l : ℕ) → k ≡ (block_record n capacity layer (here 0)).key → finmap.get points at ≡ Some l
+      → value_of k rs ≡ Some (block_record n capacity layer (here l)).value
   present k l is some =
       value_some k rs (block_record n capacity layer (here l)) up (fact_there rs layer n capacity points spells (here l) (fact_here l some)) (sym is)
 
@@ -234,16 +247,20 @@ module _ (told : Option (List (List ℕ))) (t : Tree) (layer n capacity : ℕ) (
       (none_or_some (finmap.get points at))
 
   pub label_read : (value : List ℕ) → found ≡ Some value → (read : Option Point)
-      → ((c : Block) (p : Point) → IsRecordOf n capacity (record { key = k; value = value }) layer (point_fact c (Some p)) → read ≡ Some p) → IsLabelRead points at read
+      → ((c : Block) (p : Point) → IsRecordOf n capacity (record { key = k; value = value }) layer (point_fact c (Some p)) → read ≡ Some p)
+      → IsLabelRead points at read
   label_read value e read one =
       ⊎_elim
-      (λ none. absurd (none_some value (sym (absent h.records layer n capacity points le more up h.spelled b mb at on holds k key none) ∙ sym (is h.records h.tree) ∙ e)))
+      (λ none. absurd (none_some value (sym (absent h.records layer n capacity points le more up h.spelled b mb at on holds k key none)
+      ∙ sym (is h.records h.tree) ∙ e)))
       (λ s.
       let row : Record = block_record n capacity layer (HoldsPoint b at s.0) in
-      let same : value ≡ row.value = some_same value row.value (sym e ∙ is h.records h.tree ∙ present h.records layer n capacity points le more up h.spelled b mb at on holds k s.0 key s.1) in
+      let same : value ≡ row.value = some_same value row.value
+      (sym e ∙ is h.records h.tree ∙ present h.records layer n capacity points le more up h.spelled b mb at on holds k s.0 key s.1) in
       let whole : row ≡ record { key = k; value = value } = λ i. record { key = key_turned i; value = sym same i } in
       let held : Point = record { at = at; label = s.0 } in
-      let small = All-contains (λ (z : Pixel × ℕ). z.1 < 2 ^ 32) (finmap.entries points) (at, s.0) h.spelled.valid.labels (entry_from_get pixel_cmp pixel_total pixel_same points at s.0 s.1) in
+      let small = All-contains (λ (z : Pixel × ℕ). z.1 < 2 ^ 32) (finmap.entries points) (at, s.0) h.spelled.valid.labels
+      (entry_from_get pixel_cmp pixel_total pixel_same points at s.0 s.1) in
       let fits = point_record_is n capacity layer b (Some held) least most ((block_is n capacity points b mb).block, on, small) in
       record { label = s.0; there = s.1; is = one b held (subst (λ (r : Record). IsRecordOf n capacity r layer (HoldsPoint b at s.0)) whole fits) })
       (none_or_some (finmap.get points at))
@@ -251,13 +268,15 @@ module _ (told : Option (List (List ℕ))) (t : Tree) (layer n capacity : ℕ) (
       key_turned : (block_record n capacity layer (HoldsPoint b at 0)).key ≡ k
       key_turned = sym key
 
-pub label_same : (points : PointMap) (at : Pixel) (read : Option Point) (p : Point) → read ≡ Some p → (i : IsLabelRead points at read) → Some p.label ≡ finmap.get points at
+pub label_same : (points : PointMap) (at : Pixel) (read : Option Point) (p : Point) → read ≡ Some p → (i : IsLabelRead points at read)
+    → Some p.label ≡ finmap.get points at
 label_same points at read p e i =
     let same : record { at = at; label = i.label } ≡ p = some_same (record { at = at; label = i.label }) p (sym i.is ∙ e) in
     ap Some (sym (ap (λ (q : Point). q.label) same)) ∙ sym i.there
 
 -- what a store tells after a call that left it
-pub has_along : (old new : Option (List (List ℕ))) (t : Tree) (layer n capacity : ℕ) (points : PointMap) → new ≡ old → HasPoints old t layer n capacity points → HasPoints new t layer n capacity points
+pub has_along : (old new : Option (List (List ℕ))) (t : Tree) (layer n capacity : ℕ) (points : PointMap) → new ≡ old
+    → HasPoints old t layer n capacity points → HasPoints new t layer n capacity points
 has_along old new t layer n capacity points e h = subst (λ (z : Option (List (List ℕ))). HasPoints z t layer n capacity points) (sym e) h
 
 -- ---- answers that may be none

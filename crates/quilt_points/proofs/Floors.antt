@@ -45,7 +45,8 @@ last_from o x [] h = (
   refl,
   record {
     there = Contains-here x [];
-    above = λ y c. ⊎_elim (λ e. ap is_le (ap (λ (z : Record). by_key z x) (sym e) ∙ tied_itself by_key_total x)) (λ d. absurd (Contains-nil y d)) (Contains-cons_cases x [] y c);
+    above = λ y c. ⊎_elim (λ e. ap is_le (ap (λ (z : Record). by_key z x) (sym e) ∙ tied_itself by_key_total x)) (λ d. absurd (Contains-nil y d))
+        (Contains-cons_cases x [] y c);
   },
 )
 last_from o x (z ∷ zs) h =
@@ -54,7 +55,8 @@ last_from o x (z ∷ zs) h =
       l.1,
       record {
         there = Contains-there x (z ∷ zs) l.0 (l.2).there;
-        above = λ y c. ⊎_elim (λ e. ap is_le (ap (λ (w : Record). by_key w l.0) (sym e) ∙ h.0 l.0 (l.2).there)) (λ d. (l.2).above y d) (Contains-cons_cases x (z ∷ zs) y c);
+        above = λ y c. ⊎_elim (λ e. ap is_le (ap (λ (w : Record). by_key w l.0) (sym e) ∙ h.0 l.0 (l.2).there)) (λ d. (l.2).above y d)
+            (Contains-cons_cases x (z ∷ zs) y c);
       },
     )
 
@@ -68,7 +70,8 @@ record IsGreatest (rs : List Record) (k : Key) (r : Record) : Type 0 where
   under : is_le (key_cmp r.key k) ≡ true
   above : (s : Record) → Contains rs s → is_le (key_cmp s.key k) ≡ true → is_le (by_key s r) ≡ true
 
-floor_greatest : (rs : List Record) (k : Key) (s : Record) → Rises by_key rs → Contains rs s → is_le (key_cmp s.key k) ≡ true → (r : Record) × (floor_of k rs ≡ Some r) × IsGreatest rs k r
+floor_greatest : (rs : List Record) (k : Key) (s : Record) → Rises by_key rs → Contains rs s → is_le (key_cmp s.key k) ≡ true
+    → (r : Record) × (floor_of k rs ≡ Some r) × IsGreatest rs k r
 unfolding floor_of
 floor_greatest rs k s up c le =
     let l = last_is (filter (is_at_most k) rs) s (Rises-filter by_key (is_at_most k) rs up) (Contains-filter (is_at_most k) rs s c le) in
@@ -82,7 +85,8 @@ pub record IsAround (n capacity layer : ℕ) (points : PointMap) (p : Pixel) (fo
   pub holds : Holds (of.block) p
   pub is : found ≡ Some (block_record n capacity layer fact)
 
-module _ (rs : List Record) (layer n capacity : ℕ) (points : PointMap) (le : n ≤ 12) (up : Rises by_key rs) (spells : SpellsPoints rs layer n capacity points) where
+module _ (rs : List Record) (layer n capacity : ℕ) (points : PointMap) (le : n ≤ 12) (up : Rises by_key rs)
+    (spells : SpellsPoints rs layer n capacity points) where
   module _ (p : Pixel) (hx : p.x < side n) (hy : p.y < side n) (k : Key) (key : k ≡ pixel_key layer p) where
     at_most : (f : Fact) → (w : OfBlock n capacity points f) → code_from (w.block) ≤ code_at p → is_le (key_cmp (block_record n capacity layer f).key k) ≡ true
     at_most f w from =
@@ -97,7 +101,8 @@ module _ (rs : List Record) (layer n capacity : ℕ) (points : PointMap) (le : n
         let rp = is.part in
         let rc = is.code in
         let rd = is.depth in
-        ap is_le (⊎_elim (λ lt. less_code r k (omega arith) (omega arith) (omega arith)) (λ ge. less_depth r k (omega arith) (omega arith) (omega arith) (omega arith)) (cases_lt (code_from (w.block)) (code_at p)))
+        ap is_le (⊎_elim (λ lt. less_code r k (omega arith) (omega arith) (omega arith))
+        (λ ge. less_depth r k (omega arith) (omega arith) (omega arith) (omega arith)) (cases_lt (code_from (w.block)) (code_at p)))
 
     pub floor_around : IsAround n capacity layer points p (floor_of k rs)
     floor_around =
@@ -142,7 +147,8 @@ module _ (rs : List Record) (layer n capacity : ℕ) (points : PointMap) (le : n
         let bx = gb.block.in_x in
         let by = gb.block.in_y in
         let inside = held_code n b.block (corner (wf.block)) gb.block le (omega arith) (omega arith) (omega arith) (omega arith) (omega arith) (omega arith) in
-        let one : b.block ≡ wf.block = one_maximal n (holds_few capacity points) (few_down n capacity points) b.block wf.block (corner (wf.block)) gb wf.maximal inside (Holds-corner n wf.block hw) in
+        let one : b.block ≡ wf.block = one_maximal n (holds_few capacity points) (few_down n capacity points) b.block wf.block
+        (corner (wf.block)) gb wf.maximal inside (Holds-corner n wf.block hw) in
         record { fact = f.0; of = wf; holds = subst (λ (z : Block). Holds z p) one b.holds; is = g.1 ∙ ap Some (sym f.2) }
       where
         block_at : (b : HeldBy n (holds_few capacity points) p) → IsMaximal n (holds_few capacity points) b.block

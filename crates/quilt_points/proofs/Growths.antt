@@ -1,5 +1,6 @@
 -- The records that are pushed for the points of a block.
-use Rattle.std.proofs.Common.{◌≡◌, ℕ, zero, suc, ◌+◌, ◌<◌, ◌≤◌, ◌^◌, Bool, true, false, cond, nat_le, List, [], ◌∷◌, ◌++◌, map, length, take, get_or, filter, flat_map, refl, sym, ◌∙◌, ap, ap₂, ⊎_elim, arith, append_assoc, pow_pos, pow-suc, ◌⊎◌, leb-true, le-leb}
+use Rattle.std.proofs.Common.{◌≡◌, ℕ, zero, suc, ◌+◌, ◌<◌, ◌≤◌, ◌^◌, Bool, true, false, cond, nat_le, List, [], ◌∷◌, ◌++◌, map, length, take, get_or, filter}
+use Rattle.std.proofs.Common.{flat_map, refl, sym, ◌∙◌, ap, ap₂, ⊎_elim, arith, append_assoc, pow_pos, pow-suc, ◌⊎◌, leb-true, le-leb}
 use Rattle.std.proofs.lemmas.Bool.{cases_Bool, cond-true, cond-false}
 use Rattle.std.proofs.lemmas.List.{map-append, length-map, take_all, append-nil, get_or_default}
 use Rattle.std.proofs.lemmas.Grind.{flat_map-append}
@@ -27,7 +28,8 @@ module _ (n capacity number : ℕ) (b : Block) where
       ∙ ap (map (block_record n capacity number)) (map-append fact (entries_of ps) (entries_of qs))
       ∙ map-append (block_record n capacity number) (map fact (entries_of ps)) (map fact (entries_of qs))
 
-  pub rows_next : (first old new : List Record) (ps : List Point) (i : ℕ) (d : Point) (r : Record) → old ≡ first ++ point_rows (take i ps) → new ≡ old ++ r ∷ [] → i < length ps
+  pub rows_next : (first old new : List Record) (ps : List Point) (i : ℕ) (d : Point) (r : Record) → old ≡ first ++ point_rows (take i ps)
+      → new ≡ old ++ r ∷ [] → i < length ps
       → r ≡ block_record n capacity number (HoldsPoint b (get_or ps i d).at (get_or ps i d).label) → new ≡ first ++ point_rows (take (i + 1) ps)
   rows_next first old new ps i d r has is lt row =
       is ∙ ap₂ (λ (l : List Record) (z : Record). l ++ z ∷ []) has row
@@ -50,18 +52,21 @@ module _ (n capacity number : ℕ) (b : Block) where
       let c = length-map ps entry_of in
       ap (map (block_record n capacity number)) (sym (or_none_some (HoldsNoPoint b) (map fact (entries_of ps)) (omega arith)))
 
-  pub none_held : (ps : List Point) → length ps ≡ 0 → map (block_record n capacity number) (held_facts b (entries_of ps)) ≡ block_record n capacity number (HoldsNoPoint b) ∷ []
+  pub none_held : (ps : List Point) → length ps ≡ 0
+      → map (block_record n capacity number) (held_facts b (entries_of ps)) ≡ block_record n capacity number (HoldsNoPoint b) ∷ []
   none_held [] e = refl
   none_held (p ∷ ps) e = absurd (omega arith)
 
 -- ---- points in a block
-filter_kept : (b : Block) (p : Point) (ps : List Point) (rest : List (Pixel × ℕ)) (t : Bool) → entries_of ps ≡ rest → entries_of (cond t (p ∷ ps) ps) ≡ cond t (entry_of p ∷ rest) rest
+filter_kept : (b : Block) (p : Point) (ps : List Point) (rest : List (Pixel × ℕ)) (t : Bool) → entries_of ps ≡ rest
+    → entries_of (cond t (p ∷ ps) ps) ≡ cond t (entry_of p ∷ rest) rest
 filter_kept b p ps rest true e = ap (λ l. entry_of p ∷ l) e
 filter_kept b p ps rest false e = e
 
 pub entries-filter : (b : Block) (ps : List Point) → entries_of (filter (λ p. in_block b p.at) ps) ≡ filter (λ e. in_block b e.0) (entries_of ps)
 entries-filter b [] = refl
-entries-filter b (p ∷ ps) = filter_kept b p (filter (λ (q : Point). in_block b q.at) ps) (filter (λ (e : Pixel × ℕ). in_block b e.0) (entries_of ps)) (in_block b p.at) (entries-filter b ps)
+entries-filter b (p ∷ ps) = filter_kept b p (filter (λ (q : Point). in_block b q.at) ps) (filter (λ (e : Pixel × ℕ). in_block b e.0) (entries_of ps))
+    (in_block b p.at) (entries-filter b ps)
 
 -- ---- the blocks into which they are spread
 module _ (n capacity number : ℕ) (points : List Point) where
@@ -88,19 +93,24 @@ module _ (n capacity number : ℕ) (points : List Point) where
       ∙ ap (λ (l : List Block). first ++ row (flat_map (part k) l)) (sym (take_next qs i d lt))
 
   pub spread_all : (b : Block) (qs : List Block) (i : ℕ) (first all : List Record) → qs ≡ quarters_of b → length qs ≤ i → capacity < length points → 1 < b.side
-      → IsSpread b (take i qs) first all → (k : ℕ) → b.side ≡ 2 ^ k → all ≡ first ++ map (block_record n capacity number) (spread capacity k b (entries_of points))
+      → IsSpread b (take i qs) first all → (k : ℕ) → b.side ≡ 2 ^ k
+      → all ≡ first ++ map (block_record n capacity number) (spread capacity k b (entries_of points))
   spread_all b qs i first all are le many wide has zero s = absurd (omega arith)
   spread_all b qs i first all are le many wide has (suc k) s =
       let row = map (block_record n capacity number) in
       let long = length-map points entry_of in
       has k s ∙ ap (λ (l : List Block). first ++ row (flat_map (part k) l)) (take_all i qs le ∙ are)
-      ∙ ap (λ (l : List Fact). first ++ row l) (sym (cond-false (nat_le (length (entries_of points)) capacity) (held_facts b (entries_of points)) (flat_map (part k) (quarters_of b)) (too_many (omega arith))))
+      ∙ ap (λ (l : List Fact). first ++ row l)
+      (sym (cond-false (nat_le (length (entries_of points)) capacity) (held_facts b (entries_of points)) (flat_map (part k) (quarters_of b))
+      (too_many (omega arith))))
     where
       too_many : capacity < length (entries_of points) → nat_le (length (entries_of points)) capacity ≡ false
-      too_many lt = ⊎_elim (λ t. let few = leb-true (length (entries_of points)) capacity t in absurd (omega arith)) (λ f. f) (cases_Bool (nat_le (length (entries_of points)) capacity))
+      too_many lt = ⊎_elim (λ t. let few = leb-true (length (entries_of points)) capacity t in absurd (omega arith)) (λ f. f)
+          (cases_Bool (nat_le (length (entries_of points)) capacity))
 
   -- a block that is not cut
-  pub spread_few : (b : Block) (first all : List Record) → all ≡ first ++ map (block_record n capacity number) (held_facts b (entries_of points)) → (length points ≤ capacity) ⊎ (b.side ≤ 1)
+  pub spread_few : (b : Block) (first all : List Record) → all ≡ first ++ map (block_record n capacity number) (held_facts b (entries_of points))
+      → (length points ≤ capacity) ⊎ (b.side ≤ 1)
       → (k : ℕ) → b.side ≡ 2 ^ k → all ≡ first ++ map (block_record n capacity number) (spread capacity k b (entries_of points))
   spread_few b first all has why zero s = has
   spread_few b first all has why (suc k) s =
@@ -109,10 +119,13 @@ module _ (n capacity number : ℕ) (points : List Point) where
       let p = pow-suc 2 k in
       let pos = pow_pos k in
       let few : length points ≤ capacity = ⊎_elim (λ h. h) (λ h. absurd (omega arith)) why in
-      has ∙ ap (λ (l : List Fact). first ++ row l) (sym (cond-true (nat_le (length (entries_of points)) capacity) (held_facts b (entries_of points)) (flat_map (part k) (quarters_of b)) (le-leb (length (entries_of points)) capacity (omega arith))))
+      has ∙ ap (λ (l : List Fact). first ++ row l)
+      (sym (cond-true (nat_le (length (entries_of points)) capacity) (held_facts b (entries_of points)) (flat_map (part k) (quarters_of b))
+      (le-leb (length (entries_of points)) capacity (omega arith))))
 
 -- the side of a quarter
-pub part_half : (n : ℕ) (b : Block) (qs : List Block) (i : ℕ) (d : Block) → IsBlock n b → 1 < b.side → qs ≡ quarters_of b → i < 4 → (k : ℕ) → b.side ≡ 2 ^ suc k → (get_or qs i d).side ≡ 2 ^ k
+pub part_half : (n : ℕ) (b : Block) (qs : List Block) (i : ℕ) (d : Block) → IsBlock n b → 1 < b.side → qs ≡ quarters_of b → i < 4 → (k : ℕ)
+    → b.side ≡ 2 ^ suc k → (get_or qs i d).side ≡ 2 ^ k
 part_half n b qs i d hb wide are lt k s =
     let q = get_or (quarters_of b) i d in
     let same : get_or qs i d ≡ q = ap (λ (l : List Block). get_or l i d) are in

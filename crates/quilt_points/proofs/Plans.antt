@@ -26,7 +26,8 @@ use Rattle.quilt_points.proofs.Said.{row_alone}
 use Rattle.quilt_edits.proofs.Ascents.{permuted, Apart-permuted}
 
 -- edits may be listed otherwise
-pub leads_permuted : (n : ℕ) (name : List ℕ) (number : ℕ) (old new : Option Layer) (removed added remove add : List Record) → IsPermutation removed remove → IsPermutation added add
+pub leads_permuted : (n : ℕ) (name : List ℕ) (number : ℕ) (old new : Option Layer) (removed added remove add : List Record)
+    → IsPermutation removed remove → IsPermutation added add
     → LeadsTo n name number old new removed added → LeadsTo n name number old new remove add
 leads_permuted n name number old new removed added remove add pr pa h = record {
   remove = λ r. (λ c. (h.remove r).0 ((permuted removed remove pr r).1 c), λ c. (permuted removed remove pr r).0 ((h.remove r).1 c));
@@ -40,14 +41,16 @@ same_map f g [] h = refl
 same_map f g (x ∷ xs) h = λ i. h x (Contains-here x xs) i ∷ same_map f g xs (λ y c. h y (Contains-there x xs y c)) i
 
 -- the record of a fact on a block does not depend on the name
-pub nameless : (n capacity number : ℕ) (name : List ℕ) (points : PointMap) (b : Block) (f : Fact) → IsOn points b f → record_of n capacity name number f ≡ block_record n capacity number f
+pub nameless : (n capacity number : ℕ) (name : List ℕ) (points : PointMap) (b : Block) (f : Fact) → IsOn points b f
+    → record_of n capacity name number f ≡ block_record n capacity number f
 nameless n capacity number name points b (HoldsPoint d q k) o = refl
 nameless n capacity number name points b (HoldsNoPoint d) o = refl
 nameless n capacity number name points b f o = absurd o
 
 module _ (n capacity number : ℕ) (le : n ≤ 12) (least : 1 ≤ number) (most : number ≤ 255) where
   -- facts with one record
-  pub record_tells : (one other : PointMap) → IsPointMap 2 n capacity one → IsPointMap 2 n capacity other → (f g : Fact) → (wf : OfBlock n capacity one f) → (wg : OfBlock n capacity other g)
+  pub record_tells : (one other : PointMap) → IsPointMap 2 n capacity one → IsPointMap 2 n capacity other → (f g : Fact)
+      → (wf : OfBlock n capacity one f) → (wg : OfBlock n capacity other g)
       → block_record n capacity number f ≡ block_record n capacity number g → f ≡ g
   record_tells one other vf vg f g wf wg e =
       let sf = shaped n capacity one vf f wf in
@@ -59,7 +62,8 @@ module _ (n capacity number : ℕ) (le : n ≤ 12) (least : 1 ≤ number) (most 
       let same : wf.block ≡ wg.block =
       same_block n wf.block wg.block le hf hg (sym kf.code ∙ ap (λ (r : Record). r.key.code) e ∙ kg.code)
       (sym (depth_is n wf.block hf) ∙ sym kf.depth ∙ ap (λ (r : Record). r.key.depth) e ∙ kg.depth ∙ depth_is n wg.block hg) in
-      let row : block_record n capacity number (point_fact wf.block sf.held) ≡ block_record n capacity number (point_fact wg.block sg.held) = ap (block_record n capacity number) (sym sf.is) ∙ e ∙ ap (block_record n capacity number) sg.is in
+      let row : block_record n capacity number (point_fact wf.block sf.held) ≡ block_record n capacity number (point_fact wg.block sg.held) =
+      ap (block_record n capacity number) (sym sf.is) ∙ e ∙ ap (block_record n capacity number) sg.is in
       let first = point_record_is n capacity number wf.block sf.held least most sf.fits in
       let second = point_record_is n capacity number wg.block sg.held least most sg.fits in
       let held : sf.held ≡ sg.held =
@@ -81,21 +85,29 @@ module _ (n capacity number : ℕ) (le : n ≤ 12) (least : 1 ≤ number) (most 
         let w = (s.comes f).0 c in
         ⊎_elim (λ e. absurd (w.1 (kind_is n capacity old f e))) (λ o. o) (fact_from n capacity new f w.0)
 
-    pub leads : (name : List ℕ) → LeadsTo n name number (Some (Points capacity old)) (Some (Points capacity new)) (map (block_record n capacity number) gone) (map (block_record n capacity number) come)
+    pub leads : (name : List ℕ) → LeadsTo n name number (Some (Points capacity old)) (Some (Points capacity new))
+        (map (block_record n capacity number) gone) (map (block_record n capacity number) come)
     leads name =
-        subst (λ (rs : List Record). LeadsTo n name number (Some (Points capacity old)) (Some (Points capacity new)) rs (map (block_record n capacity number) come))
-        (same_map (record_of n capacity name number) (block_record n capacity number) gone (λ f c. let w = gone_of f c in nameless n capacity number name old w.block f w.on))
-        (subst (λ (rs : List Record). LeadsTo n name number (Some (Points capacity old)) (Some (Points capacity new)) (map (record_of n capacity name number) gone) rs)
-        (same_map (record_of n capacity name number) (block_record n capacity number) come (λ f c. let w = come_of f c in nameless n capacity number name new w.block f w.on))
+        subst (λ (rs : List Record). LeadsTo n name number (Some (Points capacity old)) (Some (Points capacity new)) rs
+        (map (block_record n capacity number) come))
+        (same_map (record_of n capacity name number) (block_record n capacity number) gone (λ f c. let w = gone_of f c in
+        nameless n capacity number name old w.block f w.on))
+        (subst (λ (rs : List Record). LeadsTo n name number (Some (Points capacity old)) (Some (Points capacity new))
+        (map (record_of n capacity name number) gone) rs)
+        (same_map (record_of n capacity name number) (block_record n capacity number) come (λ f c. let w = come_of f c in
+        nameless n capacity number name new w.block f w.on))
         (points_lead 2 n name number capacity le least old new vo vn gone come s ag ac))
 
-    own_keys : (points : PointMap) → IsPointMap 2 n capacity points → (fs : List Fact) → ((f : Fact) → Contains fs f → Contains (facts n (Points capacity points)) f) → Apart (map (block_record n capacity number) fs) → HaveOwnKeys (map (block_record n capacity number) fs)
+    own_keys : (points : PointMap) → IsPointMap 2 n capacity points → (fs : List Fact)
+        → ((f : Fact) → Contains fs f → Contains (facts n (Points capacity points)) f) → Apart (map (block_record n capacity number) fs)
+        → HaveOwnKeys (map (block_record n capacity number) fs)
     own_keys points v fs of once = record {
       once = once;
       keys = λ r q cr cq e.
           let f = Contains-map_from (block_record n capacity number) fs r cr in
           let g = Contains-map_from (block_record n capacity number) fs q cq in
-          let one = fact_alone n le [] number least 2 (Points capacity points) v f.0 g.0 (of f.0 f.1) (of g.0 g.1) (ap (λ (z : Record). z.key) f.2 ∙ e ∙ ap (λ (z : Record). z.key) (sym g.2)) in
+          let one = fact_alone n le [] number least 2 (Points capacity points) v f.0 g.0 (of f.0 f.1) (of g.0 g.1)
+          (ap (λ (z : Record). z.key) f.2 ∙ e ∙ ap (λ (z : Record). z.key) (sym g.2)) in
           sym f.2 ∙ ap (block_record n capacity number) one ∙ g.2;
     }
 
@@ -111,9 +123,11 @@ module _ (n capacity number : ℕ) (le : n ≤ 12) (least : 1 ≤ number) (most 
               ((s.goes f.0).0 f.1).1 (subst (Contains (facts n (Points capacity new))) (sym same) ((s.comes g.0).0 g.1).0);
         }
 
-    pub plan : ((form : ℕ) → IsPointMap form n capacity old → IsPointMap form n capacity new) → (edits : Edits) → IsPermutation (map (block_record n capacity number) gone) edits.remove → IsPermutation (map (block_record n capacity number) come) edits.add
+    pub plan : ((form : ℕ) → IsPointMap form n capacity old → IsPointMap form n capacity new) → (edits : Edits)
+        → IsPermutation (map (block_record n capacity number) gone) edits.remove → IsPermutation (map (block_record n capacity number) come) edits.add
         → IsPlan n number capacity old new edits
     plan valid edits pr pa = record {
       valid = valid;
-      leads = λ name. leads_permuted n name number (Some (Points capacity old)) (Some (Points capacity new)) (map (block_record n capacity number) gone) (map (block_record n capacity number) come) edits.remove edits.add pr pa (leads name);
+      leads = λ name. leads_permuted n name number (Some (Points capacity old)) (Some (Points capacity new))
+          (map (block_record n capacity number) gone) (map (block_record n capacity number) come) edits.remove edits.add pr pa (leads name);
     }

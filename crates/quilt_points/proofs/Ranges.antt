@@ -1,5 +1,6 @@
 -- The records between the first and the last key of a block are those of the facts on it.
-use Rattle.std.proofs.Common.{◌≡◌, ℕ, ◌+◌, ◌-◌, ◌<◌, ◌≤◌, ◌^◌, Bool, ◌⊎◌, inl, inr, true, List, [], ◌∷◌, map, length, Option, refl, sym, ◌∙◌, ap, subst, ⊎_elim, arith, Contains, filter, nat_cmp, leb-true}
+use Rattle.std.proofs.Common.{◌≡◌, ℕ, ◌+◌, ◌-◌, ◌<◌, ◌≤◌, ◌^◌, Bool, ◌⊎◌, inl, inr, true, List, [], ◌∷◌, map, length, Option, refl, sym, ◌∙◌, ap, subst, ⊎_elim}
+use Rattle.std.proofs.Common.{arith, Contains, filter, nat_cmp, leb-true}
 use Rattle.std.specs.Ordering.{is_le, is_lt}
 use Rattle.std.specs.FinMap as finmap
 use Rattle.std.proofs.lemmas.Bool.{cases_lt, cases_Bool, cond-true, cond-false, and_parts, and_from, both_ways}
@@ -48,14 +49,17 @@ record AreAlike (a b : Key) : Type 0 where
   depth : a.depth ≡ b.depth
 
 by_item : (a b : Key) → AreAlike a b → key_cmp a b ≡ nat_cmp a.item b.item
-by_item a b h = then_equal _ _ (nat_same a.layer b.layer h.layer) ∙ then_equal _ _ (nat_same a.part b.part h.part) ∙ then_equal _ _ (nat_same a.code b.code h.code) ∙ then_equal _ _ (nat_same a.depth b.depth h.depth)
+by_item a b h = then_equal _ _ (nat_same a.layer b.layer h.layer) ∙ then_equal _ _ (nat_same a.part b.part h.part)
+    ∙ then_equal _ _ (nat_same a.code b.code h.code) ∙ then_equal _ _ (nat_same a.depth b.depth h.depth)
 
 le_alike : (a b : Key) → AreAlike a b → a.item ≤ b.item → is_le (key_cmp a b) ≡ true
-le_alike a b h le = ap is_le (by_item a b h) ∙ ⊎_elim (λ lt. ap is_le (nat_less a.item b.item lt)) (λ ge. ap is_le (nat_same a.item b.item (omega arith))) (cases_lt a.item b.item)
+le_alike a b h le = ap is_le (by_item a b h)
+    ∙ ⊎_elim (λ lt. ap is_le (nat_less a.item b.item lt)) (λ ge. ap is_le (nat_same a.item b.item (omega arith))) (cases_lt a.item b.item)
 
 le_depth : (a b : Key) → a.layer ≡ b.layer → a.part ≡ b.part → a.code ≡ b.code → is_le (key_cmp a b) ≡ true → a.depth ≤ b.depth
 le_depth a b l p c h =
-    ⊎_elim (λ lt. absurd (both_ways (is_le (key_cmp a b)) (gt_not_le b a (ap is_lt (less_depth b a (sym l) (sym p) (sym c) lt))) h)) (λ ge. ge) (cases_lt b.depth a.depth)
+    ⊎_elim (λ lt. absurd (both_ways (is_le (key_cmp a b)) (gt_not_le b a (ap is_lt (less_depth b a (sym l) (sym p) (sym c) lt))) h)) (λ ge. ge)
+    (cases_lt b.depth a.depth)
 
 -- blocks of one corner and depth
 pub same_block : (n : ℕ) (a b : Block) → n ≤ 12 → (ha : IsBlock n a) → (hb : IsBlock n b) → code_from a ≡ code_from b → n - ha.level ≡ n - hb.level → a ≡ b
@@ -72,29 +76,45 @@ same_block n a b le ha hb e f =
     let side = ha.size ∙ ap (λ k. 2 ^ k) level ∙ sym hb.size in
     λ i. record { y = (at i).y; x = (at i).x; side = side i }
 
-module _ (rs : List Record) (layer n capacity : ℕ) (points : PointMap) (le : n ≤ 12) (up : Rises by_key rs) (spells : SpellsPoints rs layer n capacity points) where
-  module _ (b : Block) (hb : IsBlock n b) (low high : Key) (first : low ≡ (block_record n capacity layer (HoldsNoPoint b)).key) (last : high ≡ record { layer = low.layer; part = low.part; code = low.code; depth = low.depth; item = 4294967295 }) where
+module _ (rs : List Record) (layer n capacity : ℕ) (points : PointMap) (le : n ≤ 12) (up : Rises by_key rs)
+    (spells : SpellsPoints rs layer n capacity points) where
+  module _ (b : Block) (hb : IsBlock n b) (low high : Key) (first : low ≡ (block_record n capacity layer (HoldsNoPoint b)).key)
+      (last : high ≡ record { layer = low.layer; part = low.part; code = low.code; depth = low.depth; item = 4294967295 }) where
     low_key : IsKeyOf n layer b low
-    low_key = record { layer = ap (λ (k : Key). k.layer) first; part = ap (λ (k : Key). k.part) first; code = ap (λ (k : Key). k.code) first; depth = ap (λ (k : Key). k.depth) first }
+    low_key =
+        record {
+          layer = ap (λ (k : Key). k.layer) first;
+          part = ap (λ (k : Key). k.part) first;
+          code = ap (λ (k : Key). k.code) first;
+          depth = ap (λ (k : Key). k.depth) first;
+        }
 
     high_key : IsKeyOf n layer b high
     high_key =
         let l = low_key in
-        record { layer = ap (λ (k : Key). k.layer) last ∙ l.layer; part = ap (λ (k : Key). k.part) last ∙ l.part; code = ap (λ (k : Key). k.code) last ∙ l.code; depth = ap (λ (k : Key). k.depth) last ∙ l.depth }
+        record {
+          layer = ap (λ (k : Key). k.layer) last ∙ l.layer;
+          part = ap (λ (k : Key). k.part) last ∙ l.part;
+          code = ap (λ (k : Key). k.code) last ∙ l.code;
+          depth = ap (λ (k : Key). k.depth) last ∙ l.depth;
+        }
 
     alike : (x y : Key) → IsKeyOf n layer b x → IsKeyOf n layer b y → AreAlike x y
     alike x y hx hy = record { layer = hx.layer ∙ sym hy.layer; part = hx.part ∙ sym hy.part; code = hx.code ∙ sym hy.code; depth = hx.depth ∙ sym hy.depth }
 
-    in_range : (f : Fact) → IsOn points b f → (block_record n capacity layer f).key.item ≤ 4294967295 → is_from_to low high (block_record n capacity layer f) ≡ true
+    in_range : (f : Fact) → IsOn points b f → (block_record n capacity layer f).key.item ≤ 4294967295
+        → is_from_to low high (block_record n capacity layer f) ≡ true
     in_range f o small =
         let k = (block_record n capacity layer f).key in
         let hk = key_is n capacity layer points b f o in
         let zero_item = ap (λ (z : Key). z.item) first in
         let most_item = ap (λ (z : Key). z.item) last in
-        and_from (is_le (key_cmp low k)) (is_le (key_cmp k high)) (le_alike low k (alike low k low_key hk) (omega arith)) (le_alike k high (alike k high hk high_key) (omega arith))
+        and_from (is_le (key_cmp low k)) (is_le (key_cmp k high)) (le_alike low k (alike low k low_key hk) (omega arith))
+        (le_alike k high (alike k high hk high_key) (omega arith))
 
     -- a record of the range is one of a fact on the block
-    of_block : (r : Record) → Contains rs r → is_from_to low high r ≡ true → (f : Fact) × OfBlock n capacity points f × IsOn points b f × (block_record n capacity layer f ≡ r)
+    of_block : (r : Record) → Contains rs r → is_from_to low high r ≡ true → (f : Fact) × OfBlock n capacity points f × IsOn points b f
+        × (block_record n capacity layer f ≡ r)
     of_block r c t =
         let both = and_parts (is_le (key_cmp low r.key)) (is_le (key_cmp r.key high)) t in
         let hl = low_key in
@@ -149,8 +169,11 @@ module _ (rs : List Record) (layer n capacity : ℕ) (points : PointMap) (le : n
         members = λ r. (
           λ c.
               let w = Contains-filter_from (is_from_to low high) rs r c in
-              let f = of_block r w.0 w.1 in
-              (block_there r w.0 w.1, subst (Contains (map (block_record n capacity layer) (point_facts points b))) f.3 (Contains-map (block_record n capacity layer) (point_facts points b) f.0 (on_is points b f.0 f.2))),
+              let f = of_block r w.0 w.1 in (
+                block_there r w.0 w.1,
+                subst (Contains (map (block_record n capacity layer) (point_facts points b))) f.3
+                    (Contains-map (block_record n capacity layer) (point_facts points b) f.0 (on_is points b f.0 f.2)),
+              ),
           λ m.
               let f = Contains-map_from (block_record n capacity layer) (point_facts points b) r m.1 in
               let o = on_from points b f.0 f.1 in
@@ -182,8 +205,10 @@ module _ (rs : List Record) (layer n capacity : ℕ) (points : PointMap) (le : n
           ⊎_elim
           (λ e. let none : length rows ≡ 0 = e in omega arith)
           (λ some.
-          let mb = block_there some.0 (Contains-filter_from (is_from_to low high) rs some.0 some.1).0 (Contains-filter_from (is_from_to low high) rs some.0 some.1).1 in
-          let le' = Apart-le rows (map (block_record n capacity layer) (point_facts points b)) (Apart-rises by_key by_key_total rows filtered.rises) (λ r c. ((filtered.members r).0 c).1) in
+          let mb = block_there some.0 (Contains-filter_from (is_from_to low high) rs some.0 some.1).0
+          (Contains-filter_from (is_from_to low high) rs some.0 some.1).1 in
+          let le' = Apart-le rows (map (block_record n capacity layer) (point_facts points b)) (Apart-rises by_key by_key_total rows filtered.rises)
+          (λ r c. ((filtered.members r).0 c).1) in
           let mapped = length-map (point_facts points b) (block_record n capacity layer) in
           let few = facts_few mb in
           omega arith)
@@ -198,20 +223,26 @@ module _ (rs : List Record) (layer n capacity : ℕ) (points : PointMap) (le : n
       range_rows most e = subst (AreRecordsOf n capacity layer points b) (sym (take_all most rows (let few = rows_few in omega arith))) filtered
 
 -- the item of a point's key is small
-pub item_small : (n capacity layer : ℕ) (points : PointMap) → n ≤ 12 → IsPointMap 2 n capacity points → (b : Block) (f : Fact) → IsOn points b f → (block_record n capacity layer f).key.item ≤ 4294967295
+pub item_small : (n capacity layer : ℕ) (points : PointMap) → n ≤ 12 → IsPointMap 2 n capacity points → (b : Block) (f : Fact) → IsOn points b f
+    → (block_record n capacity layer f).key.item ≤ 4294967295
 item_small n capacity layer points le valid b (HoldsPoint d q k) o =
     let e : Pixel × ℕ = (q, k) in
     let on = pixel_in n q (All-contains (λ (e : Pixel × ℕ). is_pixel n e.0 ≡ true) (finmap.entries points) e valid.inside o.1) in
     let below = code_in n q le on.0 on.1 in
     let p : 4 ^ n ≤ 4 ^ 12 = pow-le-pow_right {n = 4} (let some : 0 < 4 = omega arith in some) le in
-    ⊎_elim (λ t. let z = cond-true (capacity == 1) 0 (code_at q + 1) t in omega arith) (λ f. let z = cond-false (capacity == 1) 0 (code_at q + 1) f in omega arith) (cases_Bool (capacity == 1))
+    ⊎_elim (λ t. let z = cond-true (capacity == 1) 0 (code_at q + 1) t in omega arith) (λ f. let z =
+    cond-false (capacity == 1) 0 (code_at q + 1) f in omega arith) (cases_Bool (capacity == 1))
 item_small n capacity layer points le valid b (HoldsNoPoint d) o = omega arith
 item_small n capacity layer points le valid b f o = absurd o
 
 -- what is read of a tree that has the layer
-pub rows_read : (told : Option (List (List ℕ))) (t : Tree) (layer n capacity : ℕ) (points : PointMap) (b : Block) (low high : Key) (items : List Record) (most : ℕ)
-    → n ≤ 12 → IsBlock n b → low ≡ (block_record n capacity layer (HoldsNoPoint b)).key → high ≡ record { layer = low.layer; part = low.part; code = low.code; depth = low.depth; item = 4294967295 } → most ≡ capacity
-    → ((rs : List Record) → IsTree told t rs → items ≡ range_of low high most rs) → HasPoints told t layer n capacity points → AreRecordsOf n capacity layer points b items
+pub rows_read : (told : Option (List (List ℕ))) (t : Tree) (layer n capacity : ℕ) (points : PointMap) (b : Block) (low high : Key)
+    (items : List Record) (most : ℕ)
+    → n ≤ 12 → IsBlock n b → low ≡ (block_record n capacity layer (HoldsNoPoint b)).key
+    → high ≡ record { layer = low.layer; part = low.part; code = low.code; depth = low.depth; item = 4294967295 } → most ≡ capacity
+    → ((rs : List Record) → IsTree told t rs → items ≡ range_of low high most rs) → HasPoints told t layer n capacity points
+    → AreRecordsOf n capacity layer points b items
 rows_read told t layer n capacity points b low high items most le hb first last room is h =
     subst (AreRecordsOf n capacity layer points b) (sym (is h.records h.tree))
-    (range_rows h.records layer n capacity points le (tree_rises told t h.records h.tree) h.spelled b hb low high first last (item_small n capacity layer points le h.spelled.valid b) most room)
+    (range_rows h.records layer n capacity points le (tree_rises told t h.records h.tree) h.spelled b hb low high first last
+    (item_small n capacity layer points le h.spelled.valid b) most room)

@@ -30,7 +30,8 @@ module _ (rs : List Record) (layer n capacity : ℕ) (points : PointMap) (spells
       (m.0, block_fact_from n capacity points m.0 m.1, m.2)
 
 -- each block has a fact
-pub some_on : (n capacity : ℕ) (points : PointMap) (b : Block) → IsMaximal n (holds_few capacity points) b → (f : Fact) × (w : OfBlock n capacity points f) × (w.block ≡ b)
+pub some_on : (n capacity : ℕ) (points : PointMap) (b : Block) → IsMaximal n (holds_few capacity points) b
+    → (f : Fact) × (w : OfBlock n capacity points f) × (w.block ≡ b)
 some_on n capacity points b g =
     let s = some_fact (HoldsNoPoint b) (map (λ (e : Pixel × ℕ). HoldsPoint b e.0 e.1) (filter (λ (e : Pixel × ℕ). in_block b e.0) (finmap.entries points))) in
     (s.0, record { block = b; maximal = g; on = on_from points b s.0 s.1 }, refl)

@@ -1,5 +1,6 @@
 -- The points that the records of a block say.
-use Rattle.std.proofs.Common.{◌≡◌, ℕ, zero, suc, false, ◌<◌, ◌≤◌, arith, length, List, [], ◌∷◌, ◌++◌, Option, Some, None, refl, sym, ◌∙◌, ap, subst, ⊎_elim, Contains, filter}
+use Rattle.std.proofs.Common.{◌≡◌, ℕ, zero, suc, false, ◌<◌, ◌≤◌, arith, length, List, [], ◌∷◌, ◌++◌, Option, Some, None, refl, sym, ◌∙◌, ap, subst, ⊎_elim}
+use Rattle.std.proofs.Common.{Contains, filter}
 use Rattle.std.specs.Option.{option_to_list}
 use Rattle.std.specs.Prelude.{◌==◌}
 use Rattle.std.specs.FinMap as finmap
@@ -42,8 +43,12 @@ module _ (n capacity number : ℕ) (b : Block) where
   last_apart : (seen : List Record) (r : Record) → Apart (seen ++ r ∷ []) → Apart seen × (Contains seen r → ⊥)
   last_apart [] r h = (tt, λ c. Contains-nil r c)
   last_apart (s ∷ seen) r h =
-      let l = last_apart seen r h.1 in
-      ((λ c. h.0 (Contains-append_left seen (r ∷ []) s c), l.0), λ c. ⊎_elim (λ e. h.0 (subst (Contains (seen ++ r ∷ [])) (sym e) (Contains-append_right seen (r ∷ []) r (Contains-here r [])))) (λ d. l.1 d) (Contains-cons_cases s seen r c))
+      let l = last_apart seen r h.1 in (
+        (λ c. h.0 (Contains-append_left seen (r ∷ []) s c), l.0),
+        λ c.
+            ⊎_elim (λ e. h.0 (subst (Contains (seen ++ r ∷ [])) (sym e) (Contains-append_right seen (r ∷ []) r (Contains-here r [])))) (λ d. l.1 d)
+            (Contains-cons_cases s seen r c),
+      )
 
   one_there : {X : Type 0} (x y : X) → Contains (x ∷ []) y → x ≡ y
   one_there x y c = ⊎_elim (λ e. e) (λ d. absurd (Contains-nil y d)) (Contains-cons_cases x [] y c)
@@ -59,18 +64,25 @@ module _ (n capacity number : ℕ) (b : Block) where
   list_apart None = tt
   list_apart (Some q) = (λ c. Contains-nil q c, tt)
 
-  pub said_more : (seen : List Record) (ps : List Point) (r : Record) (held : Option Point) → n ≤ 12 → AreSaid n capacity number b seen ps → IsRow n capacity number b held r
+  pub said_more : (seen : List Record) (ps : List Point) (r : Record) (held : Option Point) → n ≤ 12 → AreSaid n capacity number b seen ps
+      → IsRow n capacity number b held r
       → AreSaid n capacity number b (seen ++ r ∷ []) (ps ++ option_to_list held)
   said_more seen ps r held le h w = record {
     from = λ p c. ⊎_elim
         (λ d. let o = h.from p d in (o.0, Contains-append_left seen (r ∷ []) o.0 o.1, o.2))
-        (λ d. (r, Contains-append_right seen (r ∷ []) r (Contains-here r []), subst (λ (o : Option Point). IsRow n capacity number b o r) (to_list_some held p d) w))
+        (λ d. (
+          r,
+          Contains-append_right seen (r ∷ []) r (Contains-here r []),
+          subst (λ (o : Option Point). IsRow n capacity number b o r)
+              (to_list_some held p d) w,
+        ))
         (Contains-append_cases ps (option_to_list held) p c);
     to = λ s p c k. ⊎_elim
         (λ d. Contains-append_left ps (option_to_list held) p (h.to s p d k))
         (λ d.
         let is = one_there r s d in
-        Contains-append_right ps (option_to_list held) p (some_to_list held p (row_alone r held (Some p) le w (subst (λ (z : Record). IsRow n capacity number b (Some p) z) (sym is) k))))
+        Contains-append_right ps (option_to_list held) p
+        (some_to_list held p (row_alone r held (Some p) le w (subst (λ (z : Record). IsRow n capacity number b (Some p) z) (sym is) k))))
         (Contains-append_cases seen (r ∷ []) s c);
     once = λ apart.
         let l = last_apart seen r apart in
@@ -81,19 +93,26 @@ module _ (n capacity number : ℕ) (b : Block) where
   }
 
 -- ---- all records of a block
-module _ (n capacity number : ℕ) (points : PointMap) (b : Block) (least : 1 ≤ number) (most : number ≤ 255) (valid : IsPointMap 2 n capacity points) (hb : IsBlock n b) where
+module _ (n capacity number : ℕ) (points : PointMap) (b : Block) (least : 1 ≤ number) (most : number ≤ 255)
+    (valid : IsPointMap 2 n capacity points) (hb : IsBlock n b) where
   -- the row of a fact on the block
   row_is : (f : Fact) → IsOn points b f → (held : Option Point) × (f ≡ point_fact b held) × IsRow n capacity number b held (block_record n capacity number f)
   row_is f o =
-      let s = shaped_on n capacity points valid b hb f o in
-      (s.held, s.is, subst (λ (g : Fact). IsRow n capacity number b s.held (block_record n capacity number g)) (sym s.is) (point_record_is n capacity number b s.held least most s.fits))
+      let s = shaped_on n capacity points valid b hb f o in (
+        s.held,
+        s.is,
+        subst (λ (g : Fact). IsRow n capacity number b s.held (block_record n capacity number g)) (sym s.is)
+            (point_record_is n capacity number b s.held least most s.fits),
+      )
 
   entry_back : (p : Point) → IsOn points b (point_fact b (Some p)) → Contains (filter (λ e. in_block b e.0) (finmap.entries points)) (entry_of p)
   entry_back p o = Contains-filter (λ (e : Pixel × ℕ). in_block b e.0) (finmap.entries points) (entry_of p) o.1 o.2
 
-  pub said_are : n ≤ 12 → (records : List Record) (ps : List Point) → Contains (point_blocks n capacity points) b → AreRecordsOf n capacity number points b records → AreSaid n capacity number b records ps → AreIn points b (entries_of ps)
+  pub said_are : n ≤ 12 → (records : List Record) (ps : List Point) → Contains (point_blocks n capacity points) b
+      → AreRecordsOf n capacity number points b records → AreSaid n capacity number b records ps → AreIn points b (entries_of ps)
   said_are le records ps mb rows said = record {
-    once = Apart-map entry_of ps (λ p q _ _ e. let at : p.at ≡ q.at = ap (λ (z : Pixel × ℕ). z.0) e in let label : p.label ≡ q.label = ap (λ (z : Pixel × ℕ). z.1) e in λ i. record { at = at i; label = label i })
+    once = Apart-map entry_of ps (λ p q _ _ e. let at : p.at ≡ q.at = ap (λ (z : Pixel × ℕ). z.0) e in let label : p.label ≡ q.label =
+        ap (λ (z : Pixel × ℕ). z.1) e in λ i. record { at = at i; label = label i })
         (said.once (Apart-rises by_key by_key_total records rows.rises));
     members = λ e. (
       λ c.
@@ -112,8 +131,10 @@ module _ (n capacity number : ℕ) (points : PointMap) (b : Block) (least : 1 �
           let f : Fact = point_fact b (Some p) in
           let o : IsOn points b f = (refl, k.0, k.1) in
           let w = row_is f o in
-          let row : IsRow n capacity number b (Some p) (block_record n capacity number f) = subst (λ (z : Option Point). IsRow n capacity number b z (block_record n capacity number f)) (held_same w.0 p w.1) w.2 in
-          let there = (rows.members (block_record n capacity number f)).1 (mb, Contains-map (block_record n capacity number) (point_facts points b) f (on_is points b f o)) in
+          let row : IsRow n capacity number b (Some p) (block_record n capacity number f) =
+          subst (λ (z : Option Point). IsRow n capacity number b z (block_record n capacity number f)) (held_same w.0 p w.1) w.2 in
+          let there = (rows.members (block_record n capacity number f)).1
+          (mb, Contains-map (block_record n capacity number) (point_facts points b) f (on_is points b f o)) in
           Contains-map entry_of ps p (said.to (block_record n capacity number f) p there row),
     );
   }
@@ -123,7 +144,8 @@ module _ (n capacity number : ℕ) (points : PointMap) (b : Block) (least : 1 �
       held_same (Some q) p e = let at : q.at ≡ p.at = cc in let label : q.label ≡ p.label = cc in λ i. Some (record { at = at i; label = label i })
 
 -- each record says something of the block
-pub row_there : (n capacity number : ℕ) (points : PointMap) (b : Block) → 1 ≤ number → number ≤ 255 → IsPointMap 2 n capacity points → (records : List Record) → AreRecordsOf n capacity number points b records
+pub row_there : (n capacity number : ℕ) (points : PointMap) (b : Block) → 1 ≤ number → number ≤ 255 → IsPointMap 2 n capacity points
+    → (records : List Record) → AreRecordsOf n capacity number points b records
     → (r : Record) → Contains records r → (held : Option Point) × IsRow n capacity number b held r
 row_there n capacity number points b least most valid records rows r c =
     let m = (rows.members r).0 c in
@@ -132,17 +154,20 @@ row_there n capacity number points b least most valid records rows r c =
     (w.0, subst (IsRow n capacity number b w.0) f.2 w.2)
 
 -- a block of the layer has records
-pub rows_some : (n capacity number : ℕ) (points : PointMap) (b : Block) (records : List Record) → AreRecordsOf n capacity number points b records → length records ≡ 0 → Contains (point_blocks n capacity points) b → ⊥
+pub rows_some : (n capacity number : ℕ) (points : PointMap) (b : Block) (records : List Record) → AreRecordsOf n capacity number points b records
+    → length records ≡ 0 → Contains (point_blocks n capacity points) b → ⊥
 rows_some n capacity number points b records rows none mb =
     let s = some_on n capacity points b (block_is n capacity points b mb) in
     let w = s.1 in
     let on : IsOn points b s.0 = subst (λ (z : Block). IsOn points z s.0) s.2 w.on in
-    let c = (rows.members (block_record n capacity number s.0)).1 (mb, Contains-map (block_record n capacity number) (point_facts points b) s.0 (on_is points b s.0 on)) in
+    let c = (rows.members (block_record n capacity number s.0)).1
+    (mb, Contains-map (block_record n capacity number) (point_facts points b) s.0 (on_is points b s.0 on)) in
     let lt = c.1 in
     omega arith
 
 -- what all its records say are its points
-pub said_held : (n capacity number : ℕ) (points : PointMap) (b : Block) → n ≤ 12 → 1 ≤ number → number ≤ 255 → IsPointMap 2 n capacity points → (records : List Record) → 0 < length records → AreRecordsOf n capacity number points b records
+pub said_held : (n capacity number : ℕ) (points : PointMap) (b : Block) → n ≤ 12 → 1 ≤ number → number ≤ 255 → IsPointMap 2 n capacity points
+    → (records : List Record) → 0 < length records → AreRecordsOf n capacity number points b records
     → (ps : List Point) → AreSaid n capacity number b records ps → IsHeld n capacity points b ps
 said_held n capacity number points b le least most valid records some rows ps said =
     let one = first_one records some in

@@ -34,7 +34,8 @@ module _ (n capacity : ℕ) (points : PointMap) where
       record { block = m.0; maximal = block_is m.0 m.1; on = on_from points m.0 f m.2 }
 
   pub block_fact_is : (f : Fact) → OfBlock n capacity points f → Contains (block_facts n capacity points) f
-  block_fact_is f w = Contains-flat_map (point_facts points) (point_blocks n capacity points) w.block f (block_from w.block w.maximal) (on_is points w.block f w.on)
+  block_fact_is f w =
+      Contains-flat_map (point_facts points) (point_blocks n capacity points) w.block f (block_from w.block w.maximal) (on_is points w.block f w.on)
 
 -- a fact on the block says that it holds a point, or none
 pub record IsShaped (n : ℕ) (b : Block) (f : Fact) : Type 0 where
@@ -42,12 +43,18 @@ pub record IsShaped (n : ℕ) (b : Block) (f : Fact) : Type 0 where
   pub is : f ≡ point_fact b held
   pub fits : FactFits n (point_fact b held)
 
-pub shaped_on : (n capacity : ℕ) (points : PointMap) → IsPointMap 2 n capacity points → (b : Block) → IsBlock n b → (f : Fact) → IsOn points b f → IsShaped n b f
+pub shaped_on : (n capacity : ℕ) (points : PointMap) → IsPointMap 2 n capacity points → (b : Block) → IsBlock n b → (f : Fact)
+    → IsOn points b f → IsShaped n b f
 shaped_on n capacity points valid b hb (HoldsPoint d q k) o =
     let e : Pixel × ℕ = (q, k) in record {
       held = Some (record { at = q; label = k });
       is = ap (λ (z : Block). HoldsPoint z q k) o.0;
-      fits = (hb, All-contains (λ (e : Pixel × ℕ). is_pixel n e.0 ≡ true) (finmap.entries points) e valid.inside o.1, All-contains (λ (e : Pixel × ℕ). e.1 < 2 ^ 32) (finmap.entries points) e valid.labels o.1);
+      fits = (
+        hb,
+        All-contains (λ (e : Pixel × ℕ). is_pixel n e.0 ≡ true) (finmap.entries points) e valid.inside o.1,
+        All-contains
+            (λ (e : Pixel × ℕ). e.1 < 2 ^ 32) (finmap.entries points) e valid.labels o.1,
+      );
     }
 shaped_on n capacity points valid b hb (HoldsNoPoint d) o = record { held = None; is = ap HoldsNoPoint o.0; fits = hb }
 shaped_on n capacity points valid b hb f o = absurd o
@@ -79,6 +86,7 @@ key_is n capacity layer points b (HoldsNoPoint d) o = record { layer = refl; par
 key_is n capacity layer points b f o = absurd o
 
 -- the layer of such a record
-pub record_layer : (n capacity : ℕ) (r : Record) (layer : ℕ) (b : Block) (held : Option Point) → IsRecordOf n capacity r layer (point_fact b held) → r.key.layer ≡ layer
+pub record_layer : (n capacity : ℕ) (r : Record) (layer : ℕ) (b : Block) (held : Option Point)
+    → IsRecordOf n capacity r layer (point_fact b held) → r.key.layer ≡ layer
 record_layer n capacity r layer b None h = ap (λ (z : Record). z.key.layer) (h.written [])
 record_layer n capacity r layer b (Some p) h = ap (λ (z : Record). z.key.layer) (h.written [])

@@ -43,10 +43,12 @@ points_law form n numbers rs layers name capacity points le s at told t tree =
             let number : number_in r.key ≡ k = cond-false (eqb r.key.layer 0) r.key.item r.key.layer (ne_eqb r.key.layer 0 (λ z. absurd (omega arith))) ∙ e in
             let m = layer_record_from n name k (Points capacity points) r (l.only r c number) in
             ⊎_elim
-            (λ kind. let zero' : 0 ≡ k = ap (λ (f : Fact). (record_of n capacity name k f).key.layer) kind ∙ ap (λ (q : Record). q.key.layer) m.2 ∙ e in absurd (omega arith))
+            (λ kind. let zero' : 0 ≡ k = ap (λ (f : Fact). (record_of n capacity name k f).key.layer) kind ∙ ap (λ (q : Record). q.key.layer) m.2
+            ∙ e in absurd (omega arith))
             (λ d.
             let w = block_fact_from n capacity points m.0 d in
-            subst (Contains (map (block_record n capacity k) others)) (sym (nameless n capacity k name points w.block m.0 w.on) ∙ m.2) (Contains-map (block_record n capacity k) others m.0 d))
+            subst (Contains (map (block_record n capacity k) others)) (sym (nameless n capacity k name points w.block m.0 w.on) ∙ m.2)
+            (Contains-map (block_record n capacity k) others m.0 d))
             (Contains-cons_cases (IsOfKind 2 capacity) others m.0 m.1);
       };
     }

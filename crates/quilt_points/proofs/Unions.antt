@@ -1,5 +1,6 @@
 -- The points of the quarters of a block together.
-use Rattle.std.proofs.Common.{◌≡◌, ℕ, zero, suc, ◌<◌, ◌^◌, ◌↔◌, Bool, true, List, [], ◌∷◌, ◌++◌, length, take, get_or, refl, sym, ◌∙◌, ap, subst, ⊎_elim, arith, Contains, pow_pos, pow-suc}
+use Rattle.std.proofs.Common.{◌≡◌, ℕ, zero, suc, ◌<◌, ◌^◌, ◌↔◌, Bool, true, List, [], ◌∷◌, ◌++◌, length, take, get_or, refl, sym, ◌∙◌, ap, subst, ⊎_elim, arith}
+use Rattle.std.proofs.Common.{Contains, pow_pos, pow-suc}
 use Rattle.std.specs.FinMap as finmap
 use Rattle.std.proofs.lemmas.List.Elements.{Contains-append_left, Contains-append_right, Contains-append_cases}
 use Rattle.quilt_types.specs.declared.plane.Pixel.{Pixel}
@@ -24,7 +25,8 @@ not_taken : {X : Type 0} (xs : List X) (i : ℕ) (d : X) → Apart xs → i < le
 not_taken [] i d h lt c = absurd (omega arith)
 not_taken (x ∷ xs) zero d h lt c = Contains-nil x c
 not_taken (x ∷ xs) (suc i) d h lt c =
-    ⊎_elim (λ e. h.0 (subst (Contains xs) (sym e) (member_at xs i d (omega arith)))) (λ m. not_taken xs i d h.1 (omega arith) m) (Contains-cons_cases x (take i xs) (get_or xs i d) c)
+    ⊎_elim (λ e. h.0 (subst (Contains xs) (sym e) (member_at xs i d (omega arith)))) (λ m. not_taken xs i d h.1 (omega arith) m)
+    (Contains-cons_cases x (take i xs) (get_or xs i d) c)
 
 -- a quarter before another has none of its pixels
 pub quarter_before : (n : ℕ) (b : Block) (qs : List Block) (i : ℕ) (d : Block) → IsBlock n b → 1 < b.side → qs ≡ quarters_of b → i < 4
@@ -38,13 +40,15 @@ quarter_before n b qs i d hb wide are lt r c p on here =
     let a = hr.half in
     let z = hq.half in
     let pos = side_pos n q hq.block in
-    let one = same_block_from n r q p hr.block hq.block (omega arith) (Holds-from r p on) (Holds-from q p (ap (λ (s : Block). in_block s p) (sym same) ∙ here)) in
+    let one =
+    same_block_from n r q p hr.block hq.block (omega arith) (Holds-from r p on) (Holds-from q p (ap (λ (s : Block). in_block s p) (sym same) ∙ here)) in
     not_taken (quarters_of b) i d (quarters_apart b wide (omega arith)) lt (subst (Contains (take i (quarters_of b))) one m)
 
 -- the points of several blocks
 pub record AreOfAll (points : PointMap) (test : Pixel → Bool) (qs : List Block) (held : List (Pixel × ℕ)) : Type 0 where
   pub once : Apart held
-  pub members : (e : Pixel × ℕ) → Contains held e ↔ (Contains (finmap.entries points) e × (test e.0 ≡ true) × ((q : Block) × Contains qs q × (in_block q e.0 ≡ true)))
+  pub members : (e : Pixel × ℕ)
+      → Contains held e ↔ (Contains (finmap.entries points) e × (test e.0 ≡ true) × ((q : Block) × Contains qs q × (in_block q e.0 ≡ true)))
 
 module _ (points : PointMap) (test : Pixel → Bool) where
   pub all_none : AreOfAll points test [] []
@@ -75,7 +79,8 @@ module _ (points : PointMap) (test : Pixel → Bool) where
   }
 
   -- those of the four quarters are those of the block
-  pub all_quarters : (n : ℕ) (b : Block) (all : List (Pixel × ℕ)) → IsBlock n b → 1 < b.side → AreOfAll points test (quarters_of b) all → AreOf points test b all
+  pub all_quarters : (n : ℕ) (b : Block) (all : List (Pixel × ℕ)) → IsBlock n b → 1 < b.side → AreOfAll points test (quarters_of b) all
+      → AreOf points test b all
   all_quarters n b all hb wide h = record {
     once = h.once;
     members = λ e. (

@@ -1,5 +1,6 @@
 -- Up from the block around a point that goes: what the quarters beside the way are, and where it ends.
-use Rattle.std.proofs.Common.{◌≡◌, ℕ, ◌+◌, ◌<◌, ◌≤◌, true, false, List, [], ◌∷◌, ◌++◌, take, get_or, length, Some, sym, ◌∙◌, ap, subst, ⊎_elim, arith, Contains, leb-true, le-leb}
+use Rattle.std.proofs.Common.{◌≡◌, ℕ, ◌+◌, ◌<◌, ◌≤◌, true, false, List, [], ◌∷◌, ◌++◌, take, get_or, length, Some, sym, ◌∙◌, ap, subst, ⊎_elim, arith, Contains}
+use Rattle.std.proofs.Common.{leb-true, le-leb}
 use Rattle.std.specs.FinMap as finmap
 use Rattle.std.proofs.lemmas.Bool.{cases_Bool, cases_lt, both_ways}
 use Rattle.std.proofs.lemmas.List.{length-map, map-append, take_all}
@@ -24,7 +25,8 @@ use Rattle.quilt_points.proofs.Shapes.{block_is, block_from}
 use Rattle.quilt_edits.proofs.Lists.{take_next, member_at}
 use Rattle.quilt_points.proofs.Unions.{AreOfAll, quarter_before, all_next, all_quarters, of_from, of_is}
 
-module _ (n capacity : ℕ) (points : PointMap) (p : Pixel) (label : ℕ) (some : finmap.get points p ≡ Some label) (x : Block) (held : List Point) (way : IsOnWay n capacity points p x held) where
+module _ (n capacity : ℕ) (points : PointMap) (p : Pixel) (label : ℕ) (some : finmap.get points p ≡ Some label) (x : Block) (held : List Point)
+    (way : IsOnWay n capacity points p x held) where
   abbrev after : PointMap
   after = finmap.remove points p
 
@@ -35,8 +37,10 @@ module _ (n capacity : ℕ) (points : PointMap) (p : Pixel) (label : ℕ) (some 
   way_holds = Within-holds way.base x p way.within way.base_holds
 
   -- where the way ends
-  pub way_last : (x.side < side n → holds_few capacity (finmap.remove points p) (parent_of x) ≡ false) → Contains (point_blocks n capacity (finmap.remove points p)) x
-  way_last fails = block_from n capacity (finmap.remove points p) x (record { block = way.block; passes = way.few; last = λ lt u. both_ways (holds_few capacity (finmap.remove points p) (parent_of x)) (fails lt) u })
+  pub way_last : (x.side < side n → holds_few capacity (finmap.remove points p) (parent_of x) ≡ false)
+      → Contains (point_blocks n capacity (finmap.remove points p)) x
+  way_last fails = block_from n capacity (finmap.remove points p) x
+      (record { block = way.block; passes = way.few; last = λ lt u. both_ways (holds_few capacity (finmap.remove points p) (parent_of x)) (fails lt) u })
 
   module _ (lt : x.side < side n) where
     up_block : IsBlock n (parent_of x)
@@ -50,20 +54,24 @@ module _ (n capacity : ℕ) (points : PointMap) (p : Pixel) (label : ℕ) (some 
         other (same_block_from n q x p h.block way.block (omega arith) on way_holds)
 
     -- the other quarters of a block that passes are blocks of the layer
-    pub sibling_there : holds_few capacity (finmap.remove points p) (parent_of x) ≡ true → (q : Block) → Contains (quarters_of (parent_of x)) q → (q ≡ x → ⊥) → Contains (point_blocks n capacity points) q
+    pub sibling_there : holds_few capacity (finmap.remove points p) (parent_of x) ≡ true → (q : Block) → Contains (quarters_of (parent_of x)) q
+        → (q ≡ x → ⊥) → Contains (point_blocks n capacity points) q
     sibling_there u q c other =
         block_from n capacity points q
-        (siblings n (holds_few capacity (finmap.remove points p)) (holds_few capacity points) p (few_down n capacity (finmap.remove points p)) (few_down n capacity points) (few_narrows (finmap.remove points p) points p label comes capacity)
+        (siblings n (holds_few capacity (finmap.remove points p)) (holds_few capacity points) p (few_down n capacity (finmap.remove points p))
+        (few_down n capacity points) (few_narrows (finmap.remove points p) points p label comes capacity)
         way.base (block_is n capacity points way.base way.base_block) way.base_holds x way.block way.within lt u q c (quarter_out q c other))
 
     -- their points stay
-    pub sibling_stays : (q : Block) → Contains (quarters_of (parent_of x)) q → (q ≡ x → ⊥) → (here : List Point) → AreIn points q (entries_of here) → AreIn (finmap.remove points p) q (entries_of here)
+    pub sibling_stays : (q : Block) → Contains (quarters_of (parent_of x)) q → (q ≡ x → ⊥) → (here : List Point) → AreIn points q (entries_of here)
+        → AreIn (finmap.remove points p) q (entries_of here)
     sibling_stays q c other here are = AreIn-same (finmap.remove points p) points p label comes q (quarter_out q c other) (entries_of here) are
 
     long : (all : List Point) → AreIn (finmap.remove points p) (parent_of x) (entries_of all) → length all ≡ points_in (finmap.remove points p) (parent_of x)
     long all are = sym (length-map all entry_of) ∙ AreIn-length (finmap.remove points p) (parent_of x) (entries_of all) are
 
-    pub way_up : (all : List Point) → AreIn (finmap.remove points p) (parent_of x) (entries_of all) → length all ≤ capacity → IsOnWay n capacity points p (parent_of x) all
+    pub way_up : (all : List Point) → AreIn (finmap.remove points p) (parent_of x) (entries_of all) → length all ≤ capacity
+        → IsOnWay n capacity points p (parent_of x) all
     way_up all are few = record {
       base = way.base;
       base_block = way.base_block;
@@ -74,31 +82,38 @@ module _ (n capacity : ℕ) (points : PointMap) (p : Pixel) (label : ℕ) (some 
       are = are;
     }
 
-    pub way_many : (all : List Point) → AreIn (finmap.remove points p) (parent_of x) (entries_of all) → capacity < length all → holds_few capacity (finmap.remove points p) (parent_of x) ≡ false
+    pub way_many : (all : List Point) → AreIn (finmap.remove points p) (parent_of x) (entries_of all) → capacity < length all
+        → holds_few capacity (finmap.remove points p) (parent_of x) ≡ false
     way_many all are many =
         let l = long all are in
-        ⊎_elim (λ t. let few = leb-true (points_in (finmap.remove points p) (parent_of x)) capacity t in absurd (omega arith)) (λ f. f) (cases_Bool (holds_few capacity (finmap.remove points p) (parent_of x)))
+        ⊎_elim (λ t. let few = leb-true (points_in (finmap.remove points p) (parent_of x)) capacity t in absurd (omega arith)) (λ f. f)
+        (cases_Bool (holds_few capacity (finmap.remove points p) (parent_of x)))
 
     -- the next quarter's points, which are known where it is the block
-    pub way_next : (qs : List Block) → qs ≡ quarters_of (parent_of x) → (i : ℕ) (d : Block) → i < 4 → (all new : List Point) → (get_or qs i d ≡ x → new ≡ all ++ held)
+    pub way_next : (qs : List Block) → qs ≡ quarters_of (parent_of x) → (i : ℕ) (d : Block) → i < 4 → (all new : List Point)
+        → (get_or qs i d ≡ x → new ≡ all ++ held)
         → ((get_or qs i d ≡ x → ⊥) → (here : List Point) × (new ≡ all ++ here) × AreIn points (get_or qs i d) (entries_of here))
-        → AreOfAll (finmap.remove points p) (λ q. true) (take i qs) (entries_of all) → AreOfAll (finmap.remove points p) (λ q. true) (take (i + 1) qs) (entries_of new)
+        → AreOfAll (finmap.remove points p) (λ q. true) (take i qs) (entries_of all)
+        → AreOfAll (finmap.remove points p) (λ q. true) (take (i + 1) qs) (entries_of new)
     way_next qs are i d four all new here_is other h =
         let pos = side_pos n x way.block in
         let q = get_or qs i d in
         let four_of = ap length are in
         let c : Contains (quarters_of (parent_of x)) q = subst (λ (l : List Block). Contains l q) are (member_at qs i d (omega arith)) in
         let apart = quarter_before n (parent_of x) qs i d up_block (omega arith) are four in
-        let add : (here : List Point) → new ≡ all ++ here → AreIn (finmap.remove points p) q (entries_of here) → AreOfAll (finmap.remove points p) (λ q. true) (take (i + 1) qs) (entries_of new) = λ here is are_in.
+        let add : (here : List Point) → new ≡ all ++ here → AreIn (finmap.remove points p) q (entries_of here)
+        → AreOfAll (finmap.remove points p) (λ q. true) (take (i + 1) qs) (entries_of new) = λ here is are_in.
         subst (λ (l : List Block). AreOfAll (finmap.remove points p) (λ q. true) l (entries_of new)) (sym (take_next qs i d (omega arith)))
         (subst (AreOfAll (finmap.remove points p) (λ q. true) (take i qs ++ q ∷ [])) (sym (ap entries_of is ∙ map-append entry_of all here))
-        (all_next (finmap.remove points p) (λ q. true) (take i qs) q (entries_of all) (entries_of here) h (of_from (finmap.remove points p) q (entries_of here) are_in) apart)) in
+        (all_next (finmap.remove points p) (λ q. true) (take i qs) q (entries_of all) (entries_of here) h
+        (of_from (finmap.remove points p) q (entries_of here) are_in) apart)) in
         ⊎_elim
         (λ same. add held (here_is same) (subst (λ (z : Block). AreIn (finmap.remove points p) z (entries_of held)) (sym same) way.are))
         (λ differ. let o = other differ in add o.0 o.1 (sibling_stays q c differ o.0 o.2))
         (same_or_not block_cmp block_total block_same q x)
 
-    pub way_all : (qs : List Block) → qs ≡ quarters_of (parent_of x) → (i : ℕ) → 4 ≤ i → (all : List Point) → AreOfAll (finmap.remove points p) (λ q. true) (take i qs) (entries_of all) → AreIn (finmap.remove points p) (parent_of x) (entries_of all)
+    pub way_all : (qs : List Block) → qs ≡ quarters_of (parent_of x) → (i : ℕ) → 4 ≤ i → (all : List Point)
+        → AreOfAll (finmap.remove points p) (λ q. true) (take i qs) (entries_of all) → AreIn (finmap.remove points p) (parent_of x) (entries_of all)
     way_all qs are i four all h =
         let pos = side_pos n x way.block in
         let four_of = ap length are in
@@ -107,8 +122,10 @@ module _ (n capacity : ℕ) (points : PointMap) (p : Pixel) (label : ℕ) (some 
         (subst (λ (l : List Block). AreOfAll (finmap.remove points p) (λ q. true) l (entries_of all)) (take_all i qs (omega arith) ∙ are) h))
 
     -- a quarter that is no block of the layer
-    pub way_fails : (q : Block) → Contains (quarters_of (parent_of x)) q → (q ≡ x → ⊥) → (Contains (point_blocks n capacity points) q → ⊥) → holds_few capacity (finmap.remove points p) (parent_of x) ≡ false
-    way_fails q c other away = ⊎_elim (λ t. absurd (away (sibling_there t q c other))) (λ f. f) (cases_Bool (holds_few capacity (finmap.remove points p) (parent_of x)))
+    pub way_fails : (q : Block) → Contains (quarters_of (parent_of x)) q → (q ≡ x → ⊥) → (Contains (point_blocks n capacity points) q → ⊥)
+        → holds_few capacity (finmap.remove points p) (parent_of x) ≡ false
+    way_fails q c other away =
+        ⊎_elim (λ t. absurd (away (sibling_there t q c other))) (λ f. f) (cases_Bool (holds_few capacity (finmap.remove points p) (parent_of x)))
 
 pub inner_from : (n : ℕ) (b : Block) → IsBlock n b → (b.side ≡ side n → ⊥) → b.side < side n
 inner_from n b hb other = let le = side_le n b hb in ⊎_elim (λ lt. lt) (λ ge. absurd (other (omega arith))) (cases_lt b.side (side n))

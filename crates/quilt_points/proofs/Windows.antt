@@ -1,5 +1,6 @@
 -- The points of a layer in a window.
-use Rattle.std.proofs.Common.{◌≡◌, ℕ, suc, ◌+◌, ◌<◌, ◌≤◌, Bool, true, false, cond, ◌&&◌, nat_le, nat_lt, leb-true, ltb-true, List, [], ◌∷◌, ◌++◌, length, take, get_or, refl, sym, ◌∙◌, ap, subst, ⊎_elim, arith, Contains, filter, Ordering, Less, Equal, Greater, Some, append_assoc}
+use Rattle.std.proofs.Common.{◌≡◌, ℕ, suc, ◌+◌, ◌<◌, ◌≤◌, Bool, true, false, cond, ◌&&◌, nat_le, nat_lt, leb-true, ltb-true, List, [], ◌∷◌, ◌++◌, length, take}
+use Rattle.std.proofs.Common.{get_or, refl, sym, ◌∙◌, ap, subst, ⊎_elim, arith, Contains, filter, Ordering, Less, Equal, Greater, Some, append_assoc}
 use Rattle.std.specs.FinMap as finmap
 use Rattle.std.specs.Ordering.{is_lt, ordering_reverse}
 use Rattle.std.specs.Cmp.{IsTotalOrder, on_total}
@@ -38,15 +39,18 @@ use Rattle.quilt_points.proofs.Unions.{AreOfAll, all_next, all_quarters, quarter
 use Rattle.quilt_edits.proofs.Ascents as ascents
 
 -- ---- what is found in one block
-kept_entries : (p : Point) (ps : List Point) (rest : List (Pixel × ℕ)) (t : Bool) → entries_of ps ≡ rest → entries_of (cond t (p ∷ ps) ps) ≡ cond t (entry_of p ∷ rest) rest
+kept_entries : (p : Point) (ps : List Point) (rest : List (Pixel × ℕ)) (t : Bool) → entries_of ps ≡ rest
+    → entries_of (cond t (p ∷ ps) ps) ≡ cond t (entry_of p ∷ rest) rest
 kept_entries p ps rest true e = ap (λ l. entry_of p ∷ l) e
 kept_entries p ps rest false e = e
 
 entries-kept : (test : Pixel → Bool) (ps : List Point) → entries_of (filter (λ p. test p.at) ps) ≡ filter (λ e. test e.0) (entries_of ps)
 entries-kept test [] = refl
-entries-kept test (p ∷ ps) = kept_entries p (filter (λ (q : Point). test q.at) ps) (filter (λ (e : Pixel × ℕ). test e.0) (entries_of ps)) (test p.at) (entries-kept test ps)
+entries-kept test (p ∷ ps) =
+    kept_entries p (filter (λ (q : Point). test q.at) ps) (filter (λ (e : Pixel × ℕ). test e.0) (entries_of ps)) (test p.at) (entries-kept test ps)
 
-pub kept_of : (points : PointMap) (test : Pixel → Bool) (b : Block) (held : List Point) → AreIn points b (entries_of held) → AreOf points test b (entries_of (filter (λ p. test p.at) held))
+pub kept_of : (points : PointMap) (test : Pixel → Bool) (b : Block) (held : List Point) → AreIn points b (entries_of held)
+    → AreOf points test b (entries_of (filter (λ p. test p.at) held))
 kept_of points test b held are =
     let keep : Pixel × ℕ → Bool = λ e. test e.0 in
     let inside : Pixel × ℕ → Bool = λ e. in_block b e.0 in
@@ -67,13 +71,19 @@ none_of points test b away = record { once = tt; members = λ e. (λ c. absurd (
 -- ---- which blocks are come to
 module _ (n capacity : ℕ) (points : PointMap) (b : Block) (h : IsOpen n capacity points b) (away : Contains (point_blocks n capacity points) b → ⊥) where
   open_many : holds_few capacity points b ≡ false
-  open_many = ⊎_elim (λ t. absurd (away (block_from n capacity points b (record { block = h.block; passes = t; last = λ lt u. both_ways (holds_few capacity points (parent_of b)) (h.many lt) u })))) (λ f. f) (cases_Bool (holds_few capacity points b))
+  open_many =
+      ⊎_elim (λ t. absurd (away
+      (block_from n capacity points b
+      (record { block = h.block; passes = t; last = λ lt u. both_ways (holds_few capacity points (parent_of b)) (h.many lt) u })))) (λ f. f)
+      (cases_Bool (holds_few capacity points b))
 
   pub open_pixel : 1 ≤ capacity → b.side ≤ 1 → ⊥
-  open_pixel least small = let pos = side_pos n b h.block in both_ways (holds_few capacity points b) open_many (few_pixel n capacity points least b h.block (omega arith))
+  open_pixel least small = let pos =
+      side_pos n b h.block in both_ways (holds_few capacity points b) open_many (few_pixel n capacity points least b h.block (omega arith))
 
   pub open_quarter : 1 < b.side → (q : Block) → Contains (quarters_of b) q → IsOpen n capacity points q
-  open_quarter wide q c = let r = quarters_are n b q h.block wide c in record { block = r.block; many = λ lt. ap (holds_few capacity points) r.parent ∙ open_many }
+  open_quarter wide q c = let r =
+      quarters_are n b q h.block wide c in record { block = r.block; many = λ lt. ap (holds_few capacity points) r.parent ∙ open_many }
 
 pub open_whole : (n capacity : ℕ) (points : PointMap) (b : Block) → b ≡ whole n → IsOpen n capacity points b
 open_whole n capacity points b is =
@@ -81,8 +91,10 @@ open_whole n capacity points b is =
     record { block = subst (IsBlock n) (sym is) (IsBlock-whole n); many = λ lt. absurd (omega arith) }
 
 -- the next quarter's points
-pub found_next : (points : PointMap) (test : Pixel → Bool) (n : ℕ) (b : Block) (qs : List Block) (i : ℕ) (d : Block) → IsBlock n b → 1 < b.side → qs ≡ quarters_of b → i < 4 → (first old new : List Point)
-    → ((here : List Point) × (old ≡ first ++ here) × AreOfAll points test (take i qs) (entries_of here)) → ((here : List Point) × (new ≡ old ++ here) × AreOf points test (get_or qs i d) (entries_of here))
+pub found_next : (points : PointMap) (test : Pixel → Bool) (n : ℕ) (b : Block) (qs : List Block) (i : ℕ) (d : Block) → IsBlock n b → 1 < b.side
+    → qs ≡ quarters_of b → i < 4 → (first old new : List Point)
+    → ((here : List Point) × (old ≡ first ++ here) × AreOfAll points test (take i qs) (entries_of here))
+    → ((here : List Point) × (new ≡ old ++ here) × AreOf points test (get_or qs i d) (entries_of here))
     → (here : List Point) × (new ≡ first ++ here) × AreOfAll points test (take (i + 1) qs) (entries_of here)
 found_next points test n b qs i d hb wide are lt first old new h k =
     let four = ap length are in (
@@ -93,11 +105,17 @@ found_next points test n b qs i d hb wide are lt first old new h k =
           (all_next points test (take i qs) (get_or qs i d) (entries_of h.0) (entries_of k.0) h.2 k.2 (quarter_before n b qs i d hb wide are lt))),
     )
 
-pub found_all : (points : PointMap) (test : Pixel → Bool) (n : ℕ) (b : Block) (qs : List Block) (i : ℕ) → IsBlock n b → 1 < b.side → qs ≡ quarters_of b → 4 ≤ i → (first all : List Point)
-    → ((here : List Point) × (all ≡ first ++ here) × AreOfAll points test (take i qs) (entries_of here)) → (here : List Point) × (all ≡ first ++ here) × AreOf points test b (entries_of here)
+pub found_all : (points : PointMap) (test : Pixel → Bool) (n : ℕ) (b : Block) (qs : List Block) (i : ℕ) → IsBlock n b → 1 < b.side
+    → qs ≡ quarters_of b → 4 ≤ i → (first all : List Point)
+    → ((here : List Point) × (all ≡ first ++ here) × AreOfAll points test (take i qs) (entries_of here))
+    → (here : List Point) × (all ≡ first ++ here) × AreOf points test b (entries_of here)
 found_all points test n b qs i hb wide are four first all h =
-    let long = ap length are in
-    (h.0, h.1, all_quarters points test n b (entries_of h.0) hb wide (subst (λ (l : List Block). AreOfAll points test l (entries_of h.0)) (take_all i qs (omega arith) ∙ are) h.2))
+    let long = ap length are in (
+      h.0,
+      h.1,
+      all_quarters points test n b (entries_of h.0) hb wide
+          (subst (λ (l : List Block). AreOfAll points test l (entries_of h.0)) (take_all i qs (omega arith) ∙ are) h.2),
+    )
 
 -- ---- in rows
 -- the points are in the square
@@ -115,10 +133,12 @@ module _ {X : Type 0} (R : X → X → Ordering) (o : IsTotalOrder R) where
       let rest = steps_rise (y ∷ xs) (λ k d lt. h (suc k) d (omega arith)) in
       (tail_rises x y xs (h 0 x (omega arith)) rest, rest)
 
-module _ (points : PointMap) (n : ℕ) (inside : IsInside n points) (w : Window) (found : List Point) (b : Block) (is : b ≡ whole n) (are : AreOf points (in_window w) b (entries_of found)) (list : List Point)
+module _ (points : PointMap) (n : ℕ) (inside : IsInside n points) (w : Window) (found : List Point) (b : Block) (is : b ≡ whole n)
+    (are : AreOf points (in_window w) b (entries_of found)) (list : List Point)
     (p : IsPermutation found list) (sorted : IsSortedByKey (λ q. q.at) pixel_cmp list) where
   there : (q : Point) → Contains list q → finmap.get points q.at ≡ Some q.label
-  there q c = get_from_entry pixel_cmp pixel_total pixel_same points (entry_of q) (((are.members (entry_of q)).0 (Contains-map entry_of found q ((permuted found list p q).1 c))).0)
+  there q c = get_from_entry pixel_cmp pixel_total pixel_same points (entry_of q)
+      (((are.members (entry_of q)).0 (Contains-map entry_of found q ((permuted found list p q).1 c))).0)
 
   once : Apart list
   once = ascents.Apart-permuted found list p (apart_back found are.once)
@@ -134,7 +154,8 @@ module _ (points : PointMap) (n : ℕ) (inside : IsInside n points) (w : Window)
       let cq = member_at list k d (omega arith) in
       let cr = member_at list (suc k) d lt in
       let up = ap (λ (z : Point). is_lt (pixel_cmp z.at q.at)) (next_at list k d) ∙ sorted k d (omega arith) (omega arith) in
-      less_from q.at r.at up (λ e. apart_at list k d once lt (same_point q r e (some_same q.label r.label (sym (there q cq) ∙ ap (finmap.get points) e ∙ there r cr)))))
+      less_from q.at r.at up (λ e.
+      apart_at list k d once lt (same_point q r e (some_same q.label r.label (sym (there q cq) ∙ ap (finmap.get points) e ∙ there r cr)))))
     where
       same_point : (q r : Point) → q.at ≡ r.at → q.label ≡ r.label → q ≡ r
       same_point q r at label = λ i. record { at = at i; label = label i }
@@ -149,14 +170,16 @@ module _ (points : PointMap) (n : ℕ) (inside : IsInside n points) (w : Window)
 
   pub rows_are : entries_of list ≡ filter (λ e. in_window w e.0) (finmap.entries points)
   rows_are =
-      same_rising (by_first pixel_cmp) (on_total (λ (e : Pixel × ℕ). e.0) pixel_total) (entries_of list) (filter (λ (e : Pixel × ℕ). in_window w e.0) (finmap.entries points))
+      same_rising (by_first pixel_cmp) (on_total (λ (e : Pixel × ℕ). e.0) pixel_total) (entries_of list)
+      (filter (λ (e : Pixel × ℕ). in_window w e.0) (finmap.entries points))
       (Rises-map (λ (q r : Point). pixel_cmp q.at r.at) (by_first pixel_cmp) entry_of list (λ q r _ _ lt. lt) rises)
       (Rises-filter (by_first pixel_cmp) (λ (e : Pixel × ℕ). in_window w e.0) (finmap.entries points) (Rises-entries pixel_cmp points))
       (λ e. (
         λ c.
             let q = Contains-map_from entry_of list e c in
             let v = (are.members (entry_of q.0)).0 (Contains-map entry_of found q.0 ((permuted found list p q.0).1 q.1)) in
-            subst (Contains (filter (λ (e : Pixel × ℕ). in_window w e.0) (finmap.entries points))) q.2 (Contains-filter (λ (e : Pixel × ℕ). in_window w e.0) (finmap.entries points) (entry_of q.0) v.0 v.1),
+            subst (Contains (filter (λ (e : Pixel × ℕ). in_window w e.0) (finmap.entries points))) q.2
+            (Contains-filter (λ (e : Pixel × ℕ). in_window w e.0) (finmap.entries points) (entry_of q.0) v.0 v.1),
         λ c.
             let v = Contains-filter_from (λ (e : Pixel × ℕ). in_window w e.0) (finmap.entries points) e c in
             let on = inside e v.0 in
@@ -187,4 +210,9 @@ window_from w p t =
     let last = and_parts (a && b && c) (nat_lt p.y (w.y + w.h)) t in
     let third = and_parts (a && b) c last.0 in
     let second = and_parts a b third.0 in
-    record { left = leb-true w.x p.x second.0; right = ltb-true p.x (w.x + w.w) second.1; top = leb-true w.y p.y third.1; bottom = ltb-true p.y (w.y + w.h) last.1 }
+    record {
+      left = leb-true w.x p.x second.0;
+      right = ltb-true p.x (w.x + w.w) second.1;
+      top = leb-true w.y p.y third.1;
+      bottom = ltb-true p.y (w.y + w.h) last.1;
+    }

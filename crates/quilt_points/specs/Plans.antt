@@ -20,8 +20,10 @@ pub record IsPlan (n layer capacity : ℕ) (old new : PointMap) (edits : Edits) 
 
 -- The record, behind that of the catalog, makes a layer of no points under any name, and the two ascend by their keys.
 pub record IsBeginning (n number capacity : ℕ) (r : Record) : Type 0 where
-  pub leads : (name : List ℕ) (first : Record) → ((k c : ℕ) → first ≡ record_of k c name number (IsOfKind 2 capacity)) → LeadsTo n name number None (Some (Points capacity finmap.empty)) [] (first ∷ r ∷ [])
-  pub ascend : (name : List ℕ) (first : Record) → ((k c : ℕ) → first ≡ record_of k c name number (IsOfKind 2 capacity)) → is_ascending (keys_of (first ∷ r ∷ [])) ≡ true
+  pub leads : (name : List ℕ) (first : Record) → ((k c : ℕ) → first ≡ record_of k c name number (IsOfKind 2 capacity))
+      → LeadsTo n name number None (Some (Points capacity finmap.empty)) [] (first ∷ r ∷ [])
+  pub ascend : (name : List ℕ) (first : Record) → ((k c : ℕ) → first ≡ record_of k c name number (IsOfKind 2 capacity))
+      → is_ascending (keys_of (first ∷ r ∷ [])) ≡ true
 
 -- no two of the points share a pixel, and none is at a pixel that has a point
 pub record AreNew (points : PointMap) (news : List Point) : Type 0 where

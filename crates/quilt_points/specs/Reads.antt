@@ -29,7 +29,8 @@ label_at (Some p) at = if same_pixel p.at at then Some p.label else None
 -- the records are those of the block: none where it is none of the layer's
 pub record AreRecordsOf (n capacity number : ℕ) (points : PointMap) (b : Block) (records : List Record) : Type 0 where
   pub rises : Rises by_key records
-  pub members : (r : Record) → Contains records r ↔ (Contains (point_blocks n capacity points) b × Contains (map (block_record n capacity number) (point_facts points b)) r)
+  pub members : (r : Record)
+      → Contains records r ↔ (Contains (point_blocks n capacity points) b × Contains (map (block_record n capacity number) (point_facts points b)) r)
 
 -- the block is one of the layer's, and these are its points
 pub record IsHeld (n capacity : ℕ) (points : PointMap) (b : Block) (held : List Point) : Type 0 where

@@ -25,7 +25,8 @@ pub record IsTaken (n number capacity : ℕ) (old : PointMap) (points : List Poi
   pub inside : (p : Point) → Contains (take count points) p → in_block block p.at ≡ true
   pub outside : (p : Point) → Contains (drop count points) p → in_block block p.at ≡ true → ⊥
   pub free : (p : Point) → Contains (take count points) p → finmap.get old p.at ≡ None
-  pub gone : Adds n number capacity without without_now (gone_in capacity (record { block = block; held = entries_of held; news = entries_of (take count points) }))
+  pub gone : Adds n number capacity without without_now
+      (gone_in capacity (record { block = block; held = entries_of held; news = entries_of (take count points) }))
   pub come : Adds n number capacity with with_now (come_in n capacity (record { block = block; held = entries_of held; news = entries_of (take count points) }))
 
 -- The first points are taken: these are the records that change in the blocks that get them. The others are in no such block.

@@ -30,8 +30,13 @@ pub(crate) fn topmost<S: PageStore>(
     requires rooted { IsRooted (S.size store.old) tree.now }
     requires block { IsBlock layer.level leaf.block }
     requires pixels { All (λ p. is_pixel layer.level p.at ≡ true) leaf.points.items }
-    ensures top { IfOk result (λ top. (points : PointMap) (p : AnyPixel) (label : ℕ) → HasPoints (S.told store.old) tree.now layer.number layer.level layer.bucket points → finmap.get points p ≡ Some label → IsOnWay layer.level layer.bucket points p leaf.block leaf.points.items → IsOnWay layer.level layer.bucket points p top.block top.points.items) }
-    ensures last { IfOk result (λ top. (points : PointMap) (p : AnyPixel) (label : ℕ) → HasPoints (S.told store.old) tree.now layer.number layer.level layer.bucket points → finmap.get points p ≡ Some label → IsOnWay layer.level layer.bucket points p leaf.block leaf.points.items → Contains (point_blocks layer.level layer.bucket (finmap.remove points p)) top.block) }
+    ensures top { IfOk result (λ top. (points : PointMap) (p : AnyPixel) (label : ℕ)
+        → HasPoints (S.told store.old) tree.now layer.number layer.level layer.bucket points → finmap.get points p ≡ Some label
+        → IsOnWay layer.level layer.bucket points p leaf.block leaf.points.items → IsOnWay layer.level layer.bucket points p top.block top.points.items) }
+    ensures last { IfOk result (λ top. (points : PointMap) (p : AnyPixel) (label : ℕ)
+        → HasPoints (S.told store.old) tree.now layer.number layer.level layer.bucket points → finmap.get points p ≡ Some label
+        → IsOnWay layer.level layer.bucket points p leaf.block leaf.points.items
+        → Contains (point_blocks layer.level layer.bucket (finmap.remove points p)) top.block) }
     ensures block { IfOk result (λ top. IsBlock layer.level top.block) }
     ensures pixels { IfOk result (λ top. All (λ p. is_pixel layer.level p.at ≡ true) top.points.items) }
     ensures sound { IfErr result (λ e. (points : PointMap) → HasPoints (S.told store.old) tree.now layer.number layer.level layer.bucket points → IsSound e) }
@@ -63,8 +68,15 @@ fn merged<S: PageStore>(
     requires rooted { IsRooted (S.size store.old) tree.now }
     requires block { IsBlock layer.level leaf.now.block }
     requires pixels { All (λ p. is_pixel layer.level p.at ≡ true) leaf.now.points.items }
-    ensures up { IfOk result (λ o. IfSome o (λ up. (points : PointMap) (p : AnyPixel) (label : ℕ) → HasPoints (S.told store.old) tree.now layer.number layer.level layer.bucket points → finmap.get points p ≡ Some label → IsOnWay layer.level layer.bucket points p leaf.now.block leaf.now.points.items → IsOnWay layer.level layer.bucket points p up.block up.points.items)) }
-    ensures last { IfOk result (λ o. o ≡ None → (points : PointMap) (p : AnyPixel) (label : ℕ) → HasPoints (S.told store.old) tree.now layer.number layer.level layer.bucket points → finmap.get points p ≡ Some label → IsOnWay layer.level layer.bucket points p leaf.now.block leaf.now.points.items → Contains (point_blocks layer.level layer.bucket (finmap.remove points p)) leaf.now.block) }
+    ensures up { IfOk result
+        (λ o. IfSome o (λ up. (points : PointMap) (p : AnyPixel) (label : ℕ)
+        → HasPoints (S.told store.old) tree.now layer.number layer.level layer.bucket points → finmap.get points p ≡ Some label
+        → IsOnWay layer.level layer.bucket points p leaf.now.block leaf.now.points.items
+        → IsOnWay layer.level layer.bucket points p up.block up.points.items)) }
+    ensures last { IfOk result (λ o. o ≡ None → (points : PointMap) (p : AnyPixel) (label : ℕ)
+        → HasPoints (S.told store.old) tree.now layer.number layer.level layer.bucket points → finmap.get points p ≡ Some label
+        → IsOnWay layer.level layer.bucket points p leaf.now.block leaf.now.points.items
+        → Contains (point_blocks layer.level layer.bucket (finmap.remove points p)) leaf.now.block) }
     ensures block { IfOk result (λ o. IfSome o (λ up. IsBlock layer.level up.block)) }
     ensures wider { IfOk result (λ o. IfSome o (λ up. leaf.now.block.side < up.block.side)) }
     ensures pixels { IfOk result (λ o. IfSome o (λ up. All (λ p. is_pixel layer.level p.at ≡ true) up.points.items)) }
@@ -113,8 +125,13 @@ fn joined<S: PageStore>(
     requires inner { leaf.now.block.side < side layer.level }
     requires parent { up ≡ parent_of leaf.now.block }
     requires pixels { All (λ p. is_pixel layer.level p.at ≡ true) leaf.now.points.items }
-    ensures all { IfOk result (λ o. IfSome o (λ v. (points : PointMap) (p : AnyPixel) (label : ℕ) → HasPoints (S.told store.old) tree.now layer.number layer.level layer.bucket points → finmap.get points p ≡ Some label → IsOnWay layer.level layer.bucket points p leaf.now.block leaf.now.points.items → AreIn (finmap.remove points p) up (entries_of v.items))) }
-    ensures none { IfOk result (λ o. o ≡ None → (points : PointMap) (p : AnyPixel) (label : ℕ) → HasPoints (S.told store.old) tree.now layer.number layer.level layer.bucket points → finmap.get points p ≡ Some label → IsOnWay layer.level layer.bucket points p leaf.now.block leaf.now.points.items → holds_few layer.bucket (finmap.remove points p) up ≡ false) }
+    ensures all { IfOk result
+        (λ o. IfSome o (λ v. (points : PointMap) (p : AnyPixel) (label : ℕ)
+        → HasPoints (S.told store.old) tree.now layer.number layer.level layer.bucket points → finmap.get points p ≡ Some label
+        → IsOnWay layer.level layer.bucket points p leaf.now.block leaf.now.points.items → AreIn (finmap.remove points p) up (entries_of v.items))) }
+    ensures none { IfOk result (λ o. o ≡ None → (points : PointMap) (p : AnyPixel) (label : ℕ)
+        → HasPoints (S.told store.old) tree.now layer.number layer.level layer.bucket points → finmap.get points p ≡ Some label
+        → IsOnWay layer.level layer.bucket points p leaf.now.block leaf.now.points.items → holds_few layer.bucket (finmap.remove points p) up ≡ false) }
     ensures pixels { IfOk result (λ o. IfSome o (λ v. All (λ p. is_pixel layer.level p.at ≡ true) v.items)) }
     ensures sound { IfErr result (λ e. (points : PointMap) → HasPoints (S.told store.old) tree.now layer.number layer.level layer.bucket points → IsSound e) }
     ensures cause { HasStopCause (S.faults store.old) (S.faults store.new) result }
@@ -150,8 +167,11 @@ fn add_quarter<S: PageStore>(
     requires pixels { All (λ p. is_pixel layer.level p.at ≡ true) leaf.now.points.items }
     requires all { All (λ p. is_pixel layer.level p.at ≡ true) all.old.items }
     ensures leaf { IfOk result (λ yes. q ≡ leaf.now.block → (yes ≡ true) × (all.new.items ≡ all.old.items ++ leaf.now.points.items)) }
-    ensures added { IfOk result (λ yes. q ≢ leaf.now.block → yes ≡ true → (here : List AnyPoint) × (all.new.items ≡ all.old.items ++ here) × ((points : PointMap) → HasPoints (S.told store.old) tree.now layer.number layer.level layer.bucket points → AreIn points q (entries_of here))) }
-    ensures other { IfOk result (λ yes. yes ≡ false → (q ≢ leaf.now.block) × ((points : PointMap) → HasPoints (S.told store.old) tree.now layer.number layer.level layer.bucket points → Contains (point_blocks layer.level layer.bucket points) q → ⊥)) }
+    ensures added { IfOk result (λ yes. q ≢ leaf.now.block → yes ≡ true → (here : List AnyPoint) × (all.new.items ≡ all.old.items ++ here)
+        × ((points : PointMap) → HasPoints (S.told store.old) tree.now layer.number layer.level layer.bucket points → AreIn points q (entries_of here))) }
+    ensures other { IfOk result (λ yes. yes ≡ false → (q ≢ leaf.now.block)
+        × ((points : PointMap) → HasPoints (S.told store.old) tree.now layer.number layer.level layer.bucket points
+        → Contains (point_blocks layer.level layer.bucket points) q → ⊥)) }
     ensures pixels { OnOk result (All (λ p. is_pixel layer.level p.at ≡ true) all.new.items) }
     ensures sound { IfErr result (λ e. (points : PointMap) → HasPoints (S.told store.old) tree.now layer.number layer.level layer.bucket points → IsSound e) }
     ensures cause { HasStopCause (S.faults store.old) (S.faults store.new) result }

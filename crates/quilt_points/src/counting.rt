@@ -30,14 +30,16 @@ pub fn block_counts<S: PageStore>(
     requires layer { 1 ≤ layer }
     requires level { (1 ≤ level) × (level ≤ 12) }
     requires bucket { (1 ≤ bucket) × (bucket ≤ 16) }
-    ensures counts { IfOk result (λ counts. (points : PointMap) → HasPoints (S.told store.old) tree.now layer level bucket points → (k : ℕ) → k ≤ 12 → slice_index counts k ≡ count_by (λ b. b.side == side_of k) (point_blocks level bucket points)) }
+    ensures counts { IfOk result (λ counts. (points : PointMap) → HasPoints (S.told store.old) tree.now layer level bucket points → (k : ℕ) → k ≤ 12
+        → slice_index counts k ≡ count_by (λ b. b.side == side_of k) (point_blocks level bucket points)) }
     ensures sound { IfErr result (λ e. (points : PointMap) → HasPoints (S.told store.old) tree.now layer level bucket points → IsSound e) }
     ensures cause { HasStopCause (S.faults store.old) (S.faults store.new) result }
     ensures size { S.size store.new ≡ S.size store.old }
     ensures told { S.told store.new ≡ S.told store.old }
     ensures free { S.free store.new ≡ S.free store.old }
     ensures later { S.later store.old store.new }
-    ensures reads { IfOk result (λ _. (points : PointMap) → HasPoints (S.told store.old) tree.now layer level bucket points → Tells (λ old new. new ≤ old + 6 * length (point_blocks level bucket points)) (S.reads store.old) (S.reads store.new)) }
+    ensures reads { IfOk result (λ _. (points : PointMap) → HasPoints (S.told store.old) tree.now layer level bucket points
+        → Tells (λ old new. new ≤ old + 6 * length (point_blocks level bucket points)) (S.reads store.old) (S.reads store.new)) }
     ensures changed { S.changed store.new ≤ S.changed store.old }
 {
     let points = PointLayer {

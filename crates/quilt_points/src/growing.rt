@@ -30,8 +30,10 @@ pub(crate) fn add_growth(
     requires block { IsBlock layer.level b }
     requires held { All (λ p. is_pixel layer.level p.at ≡ true) held.now }
     requires news { All (λ p. is_pixel layer.level p.at ≡ true) news.now }
-    ensures without { OnOk result (growth.new.without.items ≡ growth.old.without.items ++ map (block_record layer.level layer.bucket layer.number) (gone_of layer.bucket b (entries_of held.now) (entries_of news.now))) }
-    ensures with { OnOk result ((k : ℕ) → b.side ≡ 2 ^ k → growth.new.with.items ≡ growth.old.with.items ++ map (block_record layer.level layer.bucket layer.number) (come_of layer.bucket k b (entries_of held.now) (entries_of news.now))) }
+    ensures without { OnOk result (growth.new.without.items ≡ growth.old.without.items
+        ++ map (block_record layer.level layer.bucket layer.number) (gone_of layer.bucket b (entries_of held.now) (entries_of news.now))) }
+    ensures with { OnOk result ((k : ℕ) → b.side ≡ 2 ^ k → growth.new.with.items ≡ growth.old.with.items
+        ++ map (block_record layer.level layer.bucket layer.number) (come_of layer.bucket k b (entries_of held.now) (entries_of news.now))) }
 {
     let bucket = usize::from(layer.bucket);
     if held.len() <= bucket && news.len() <= bucket - held.len() {
@@ -56,7 +58,8 @@ fn spread(
 ) -> Result<(), AllocError>
     requires block { IsBlock layer.level b }
     requires points { All (λ p. is_pixel layer.level p.at ≡ true) points.now }
-    ensures { OnOk result ((k : ℕ) → b.side ≡ 2 ^ k → records.new.items ≡ records.old.items ++ map (block_record layer.level layer.bucket layer.number) (spread_facts layer.bucket k b (entries_of points.now))) }
+    ensures { OnOk result ((k : ℕ) → b.side ≡ 2 ^ k → records.new.items ≡ records.old.items
+        ++ map (block_record layer.level layer.bucket layer.number) (spread_facts layer.bucket k b (entries_of points.now))) }
 {
     if points.len() <= usize::from(layer.bucket) || b.side <= 1 {
         return add_held(records, layer, b, points);
@@ -89,7 +92,8 @@ fn add_held(
 ) -> Result<(), AllocError>
     requires block { IsBlock layer.level b }
     requires points { All (λ p. is_pixel layer.level p.at ≡ true) points.now }
-    ensures { OnOk result (records.new.items ≡ records.old.items ++ map (block_record layer.level layer.bucket layer.number) (held_facts b (entries_of points.now))) }
+    ensures { OnOk result (records.new.items ≡ records.old.items
+        ++ map (block_record layer.level layer.bucket layer.number) (held_facts b (entries_of points.now))) }
 {
     if points.is_empty() {
         records.push(point_record(layer.number, b, layer.level, layer.bucket, None))?;
@@ -107,7 +111,8 @@ fn add_points(
 ) -> Result<(), AllocError>
     requires block { IsBlock layer.level b }
     requires points { All (λ p. is_pixel layer.level p.at ≡ true) points.now }
-    ensures { OnOk result (records.new.items ≡ records.old.items ++ map (block_record layer.level layer.bucket layer.number) (map (λ e. HoldsPoint b e.0 e.1) (entries_of points.now))) }
+    ensures { OnOk result (records.new.items ≡ records.old.items
+        ++ map (block_record layer.level layer.bucket layer.number) (map (λ e. HoldsPoint b e.0 e.1) (entries_of points.now))) }
 {
     for p in points {
         records.push(point_record(layer.number, b, layer.level, layer.bucket, Some(*p)))?;

@@ -35,7 +35,8 @@ pub(crate) fn points_of<S: PageStore>(
 ) -> Result<Option<Vec<Point>>, Stop>
     requires rooted { IsRooted (S.size store.old) tree.now }
     requires block { IsBlock layer.level b }
-    ensures read { IfOk result (λ o. (points : PointMap) → HasPoints (S.told store.old) tree.now layer.number layer.level layer.bucket points → MatchOption o (Contains (point_blocks layer.level layer.bucket points) b → ⊥) (λ v. IsHeld layer.level layer.bucket points b v.items)) }
+    ensures read { IfOk result (λ o. (points : PointMap) → HasPoints (S.told store.old) tree.now layer.number layer.level layer.bucket points
+        → MatchOption o (Contains (point_blocks layer.level layer.bucket points) b → ⊥) (λ v. IsHeld layer.level layer.bucket points b v.items)) }
     ensures pixels { IfOk result (λ o. IfSome o (λ v. All (λ p. is_pixel layer.level p.at ≡ true) v.items)) }
     ensures sound { IfErr result (λ e. (points : PointMap) → HasPoints (S.told store.old) tree.now layer.number layer.level layer.bucket points → IsSound e) }
     ensures cause { HasStopCause (S.faults store.old) (S.faults store.new) result }
@@ -63,9 +64,12 @@ fn points_said(
     layer: PointLayer,
     b: Block,
 ) -> Result<Option<Vec<Point>>, Stop>
-    ensures read { IfOk result (λ o. (points : PointMap) → IsPointMap 2 layer.level layer.bucket points → AreRecordsOf layer.level layer.bucket layer.number points b records.now → MatchOption o (Contains (point_blocks layer.level layer.bucket points) b → ⊥) (λ v. IsHeld layer.level layer.bucket points b v.items)) }
+    ensures read { IfOk result (λ o. (points : PointMap) → IsPointMap 2 layer.level layer.bucket points
+        → AreRecordsOf layer.level layer.bucket layer.number points b records.now
+        → MatchOption o (Contains (point_blocks layer.level layer.bucket points) b → ⊥) (λ v. IsHeld layer.level layer.bucket points b v.items)) }
     ensures pixels { IfOk result (λ o. IfSome o (λ v. All (λ p. is_pixel layer.level p.at ≡ true) v.items)) }
-    ensures sound { IfErr result (λ e. (points : PointMap) → IsPointMap 2 layer.level layer.bucket points → AreRecordsOf layer.level layer.bucket layer.number points b records.now → IsSound e) }
+    ensures sound { IfErr result (λ e. (points : PointMap) → IsPointMap 2 layer.level layer.bucket points
+        → AreRecordsOf layer.level layer.bucket layer.number points b records.now → IsSound e) }
     ensures no_fault { IsErrOf result Device → ⊥ }
 {
     if records.is_empty() {
@@ -83,7 +87,8 @@ fn points_said(
 
 /// Adds the point that the record of a block says, if it says one.
 fn add_point(points: &mut Vec<Point>, r: &Record, layer: PointLayer, b: Block) -> Result<(), Stop>
-    ensures added { OnOk result ((held : Option AnyPoint) × IsRow layer.level layer.bucket layer.number b held r.now × (points.new.items ≡ points.old.items ++ option_to_list held)) }
+    ensures added { OnOk result ((held : Option AnyPoint) × IsRow layer.level layer.bucket layer.number b held r.now
+        × (points.new.items ≡ points.old.items ++ option_to_list held)) }
     ensures pixels { OnOk result (All (λ p. is_pixel layer.level p.at ≡ true) points.old.items → All (λ p. is_pixel layer.level p.at ≡ true) points.new.items) }
     ensures sound { IfErr result (λ e. (held : Option AnyPoint) → IsRow layer.level layer.bucket layer.number b held r.now → IsSound e) }
     ensures no_fault { IsErrOf result Device → ⊥ }
@@ -122,7 +127,8 @@ pub(crate) fn leaf_around<S: PageStore>(
     requires rooted { IsRooted (S.size store.old) tree.now }
     requires in_x { at.x < side layer.level }
     requires in_y { at.y < side layer.level }
-    ensures read { IfOk result (λ leaf. (points : PointMap) → HasPoints (S.told store.old) tree.now layer.number layer.level layer.bucket points → IsHeld layer.level layer.bucket points leaf.block leaf.points.items) }
+    ensures read { IfOk result (λ leaf. (points : PointMap) → HasPoints (S.told store.old) tree.now layer.number layer.level layer.bucket points
+        → IsHeld layer.level layer.bucket points leaf.block leaf.points.items) }
     ensures block { IfOk result (λ leaf. IsBlock layer.level leaf.block) }
     ensures holds { IfOk result (λ leaf. in_block leaf.block at ≡ true) }
     ensures pixels { IfOk result (λ leaf. All (λ p. is_pixel layer.level p.at ≡ true) leaf.points.items) }

@@ -1,4 +1,5 @@
-ghost use Rattle.std.specs.Prelude.{◌≡◌, ◌<◌, ◌≤◌, ◌↔◌, ◌^◌, ℕ, true, [], ◌∷◌, map, filter, not, All, Contains, Some, None, IfOk, IfErr, IfSome, IsNone, IsSome, IsErrOf};
+ghost use Rattle.std.specs.Prelude.{◌≡◌, ◌<◌, ◌≤◌, ◌↔◌, ◌^◌, ℕ, true, [], ◌∷◌, map, filter, not, All, Contains, Some, None, IfOk, IfErr, IfSome, IsNone};
+ghost use Rattle.std.specs.Prelude.{IsSome, IsErrOf};
 ghost use Rattle.std.specs.FinMap as finmap;
 ghost use Rattle.quilt_types.specs.declared.plane.Point.{Point as AnyPoint};
 ghost use Rattle.quilt_types.specs.declared.stop.Stop.TheVariants.{Device};
@@ -45,8 +46,10 @@ pub fn plan_put<S: PageStore>(
     requires bucket { (1 ≤ bucket) × (bucket ≤ 16) }
     requires in_x { at.x < side level }
     requires in_y { at.y < side level }
-    ensures plan { IfOk result (λ o. IfSome o (λ edits. (points : PointMap) → HasPoints (S.told store.old) tree.now layer level bucket points → IsPlan level layer bucket points (finmap.insert points at label) edits)) }
-    ensures none { IfOk result (λ o. (points : PointMap) → HasPoints (S.told store.old) tree.now layer level bucket points → IsNone o ↔ IsSome (finmap.get points at)) }
+    ensures plan { IfOk result (λ o. IfSome o (λ edits. (points : PointMap) → HasPoints (S.told store.old) tree.now layer level bucket points
+        → IsPlan level layer bucket points (finmap.insert points at label) edits)) }
+    ensures none { IfOk result (λ o. (points : PointMap) → HasPoints (S.told store.old) tree.now layer level bucket points
+        → IsNone o ↔ IsSome (finmap.get points at)) }
     ensures order { IfOk result (λ o. IfSome o AreInOrder) }
     ensures sound { IfErr result (λ e. (points : PointMap) → HasPoints (S.told store.old) tree.now layer level bucket points → IsSound e) }
     ensures cause { HasStopCause (S.faults store.old) (S.faults store.new) result }
@@ -85,8 +88,10 @@ pub fn plan_del<S: PageStore>(
     requires bucket { (1 ≤ bucket) × (bucket ≤ 16) }
     requires in_x { at.x < side level }
     requires in_y { at.y < side level }
-    ensures plan { IfOk result (λ o. IfSome o (λ edits. (points : PointMap) → HasPoints (S.told store.old) tree.now layer level bucket points → IsPlan level layer bucket points (finmap.remove points at) edits)) }
-    ensures none { IfOk result (λ o. (points : PointMap) → HasPoints (S.told store.old) tree.now layer level bucket points → IsNone o ↔ IsNone (finmap.get points at)) }
+    ensures plan { IfOk result (λ o. IfSome o (λ edits. (points : PointMap) → HasPoints (S.told store.old) tree.now layer level bucket points
+        → IsPlan level layer bucket points (finmap.remove points at) edits)) }
+    ensures none { IfOk result (λ o. (points : PointMap) → HasPoints (S.told store.old) tree.now layer level bucket points
+        → IsNone o ↔ IsNone (finmap.get points at)) }
     ensures order { IfOk result (λ o. IfSome o AreInOrder) }
     ensures sound { IfErr result (λ e. (points : PointMap) → HasPoints (S.told store.old) tree.now layer level bucket points → IsSound e) }
     ensures cause { HasStopCause (S.faults store.old) (S.faults store.new) result }
@@ -126,9 +131,13 @@ fn take_from<S: PageStore>(
     requires block { IsBlock layer.level leaf.block }
     requires pixels { All (λ q. is_pixel layer.level q.at ≡ true) leaf.points.items }
     requires pixel { is_pixel layer.level p.at ≡ true }
-    ensures plan { IfOk result (λ edits. (points : PointMap) → HasPoints (S.told store.old) tree.now layer.number layer.level layer.bucket points → IsHeld layer.level layer.bucket points leaf.block leaf.points.items → in_block leaf.block p.at ≡ true → finmap.get points p.at ≡ Some p.label → IsPlan layer.level layer.number layer.bucket points (finmap.remove points p.at) edits) }
+    ensures plan { IfOk result (λ edits. (points : PointMap) → HasPoints (S.told store.old) tree.now layer.number layer.level layer.bucket points
+        → IsHeld layer.level layer.bucket points leaf.block leaf.points.items → in_block leaf.block p.at ≡ true
+        → finmap.get points p.at ≡ Some p.label → IsPlan layer.level layer.number layer.bucket points (finmap.remove points p.at) edits) }
     ensures order { IfOk result AreInOrder }
-    ensures sound { IfErr result (λ e. (points : PointMap) → HasPoints (S.told store.old) tree.now layer.number layer.level layer.bucket points → IsHeld layer.level layer.bucket points leaf.block leaf.points.items → in_block leaf.block p.at ≡ true → finmap.get points p.at ≡ Some p.label → IsSound e) }
+    ensures sound { IfErr result (λ e. (points : PointMap) → HasPoints (S.told store.old) tree.now layer.number layer.level layer.bucket points
+        → IsHeld layer.level layer.bucket points leaf.block leaf.points.items → in_block leaf.block p.at ≡ true
+        → finmap.get points p.at ≡ Some p.label → IsSound e) }
     ensures cause { HasStopCause (S.faults store.old) (S.faults store.new) result }
     ensures size { S.size store.new ≡ S.size store.old }
     ensures told { S.told store.new ≡ S.told store.old }
@@ -161,9 +170,13 @@ fn take_out(
     requires block { IsBlock layer.level b }
     requires held { All (λ q. is_pixel layer.level q.at ≡ true) held.now }
     requires pixel { is_pixel layer.level p.at ≡ true }
-    ensures plan { IfOk result (λ edits. (points : PointMap) → IsPointMap 2 layer.level layer.bucket points → finmap.get points p.at ≡ Some p.label → IsOnWay layer.level layer.bucket points p.at b held.now → Contains (point_blocks layer.level layer.bucket (finmap.remove points p.at)) b → IsPlan layer.level layer.number layer.bucket points (finmap.remove points p.at) edits) }
+    ensures plan { IfOk result (λ edits. (points : PointMap) → IsPointMap 2 layer.level layer.bucket points → finmap.get points p.at ≡ Some p.label
+        → IsOnWay layer.level layer.bucket points p.at b held.now → Contains (point_blocks layer.level layer.bucket (finmap.remove points p.at)) b
+        → IsPlan layer.level layer.number layer.bucket points (finmap.remove points p.at) edits) }
     ensures order { IfOk result AreInOrder }
-    ensures sound { IfErr result (λ e. (points : PointMap) → IsPointMap 2 layer.level layer.bucket points → finmap.get points p.at ≡ Some p.label → IsOnWay layer.level layer.bucket points p.at b held.now → Contains (point_blocks layer.level layer.bucket (finmap.remove points p.at)) b → IsSound e) }
+    ensures sound { IfErr result (λ e. (points : PointMap) → IsPointMap 2 layer.level layer.bucket points → finmap.get points p.at ≡ Some p.label
+        → IsOnWay layer.level layer.bucket points p.at b held.now → Contains (point_blocks layer.level layer.bucket (finmap.remove points p.at)) b
+        → IsSound e) }
     ensures no_fault { IsErrOf result Device → ⊥ }
 {
     match growth_of(alloc, layer, b, held, p) {
@@ -210,10 +223,15 @@ fn put_into(
     requires held { All (λ q. is_pixel layer.level q.at ≡ true) held.now }
     requires pixel { is_pixel layer.level p.at ≡ true }
     requires label { p.label < 2 ^ 32 }
-    ensures plan { IfOk result (λ o. IfSome o (λ edits. (points : PointMap) → IsPointMap 2 layer.level layer.bucket points → IsHeld layer.level layer.bucket points b held.now → in_block b p.at ≡ true → IsPlan layer.level layer.number layer.bucket points (finmap.insert points p.at p.label) edits)) }
-    ensures none { IfOk result (λ o. (points : PointMap) → IsHeld layer.level layer.bucket points b held.now → in_block b p.at ≡ true → IsNone o ↔ IsSome (finmap.get points p.at)) }
+    ensures plan { IfOk result
+        (λ o. IfSome o (λ edits. (points : PointMap) → IsPointMap 2 layer.level layer.bucket points
+        → IsHeld layer.level layer.bucket points b held.now → in_block b p.at ≡ true
+        → IsPlan layer.level layer.number layer.bucket points (finmap.insert points p.at p.label) edits)) }
+    ensures none { IfOk result (λ o. (points : PointMap) → IsHeld layer.level layer.bucket points b held.now → in_block b p.at ≡ true
+        → IsNone o ↔ IsSome (finmap.get points p.at)) }
     ensures order { IfOk result (λ o. IfSome o AreInOrder) }
-    ensures sound { IfErr result (λ e. (points : PointMap) → IsPointMap 2 layer.level layer.bucket points → IsHeld layer.level layer.bucket points b held.now → in_block b p.at ≡ true → IsSound e) }
+    ensures sound { IfErr result (λ e. (points : PointMap) → IsPointMap 2 layer.level layer.bucket points
+        → IsHeld layer.level layer.bucket points b held.now → in_block b p.at ≡ true → IsSound e) }
     ensures no_fault { IsErrOf result Device → ⊥ }
 {
     if has_point(held, p.at) {
@@ -239,8 +257,10 @@ fn growth_of(
     requires block { IsBlock layer.level b }
     requires held { All (λ q. is_pixel layer.level q.at ≡ true) held.now }
     requires pixel { is_pixel layer.level p.at ≡ true }
-    ensures without { IfOk result (λ growth. growth.without.items ≡ map (block_record layer.level layer.bucket layer.number) (gone_of layer.bucket b (entries_of held.now) (entries_of (p ∷ [])))) }
-    ensures with { IfOk result (λ growth. (k : ℕ) → b.side ≡ 2 ^ k → growth.with.items ≡ map (block_record layer.level layer.bucket layer.number) (come_of layer.bucket k b (entries_of held.now) (entries_of (p ∷ [])))) }
+    ensures without { IfOk result (λ growth. growth.without.items ≡ map (block_record layer.level layer.bucket layer.number)
+        (gone_of layer.bucket b (entries_of held.now) (entries_of (p ∷ [])))) }
+    ensures with { IfOk result (λ growth. (k : ℕ) → b.side ≡ 2 ^ k
+        → growth.with.items ≡ map (block_record layer.level layer.bucket layer.number) (come_of layer.bucket k b (entries_of held.now) (entries_of (p ∷ [])))) }
 {
     let mut growth = Growth {
         without: Vec::new(alloc),

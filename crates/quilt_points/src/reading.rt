@@ -39,7 +39,8 @@ pub fn find<S: PageStore>(
     requires bucket { (1 ≤ bucket) × (bucket ≤ 16) }
     requires in_x { at.x < side level }
     requires in_y { at.y < side level }
-    ensures label { IfOk result (λ label. (points : PointMap) → HasPoints (S.told store.old) tree.now layer level bucket points → label ≡ finmap.get points at) }
+    ensures label { IfOk result (λ label. (points : PointMap) → HasPoints (S.told store.old) tree.now layer level bucket points
+        → label ≡ finmap.get points at) }
     ensures sound { IfErr result (λ e. (points : PointMap) → HasPoints (S.told store.old) tree.now layer level bucket points → IsSound e) }
     ensures cause { HasStopCause (S.faults store.old) (S.faults store.new) result }
     ensures size { S.size store.new ≡ S.size store.old }
@@ -77,7 +78,8 @@ pub(crate) fn block_around<S: PageStore>(
     requires rooted { IsRooted (S.size store.old) tree.now }
     requires in_x { at.x < side layer.level }
     requires in_y { at.y < side layer.level }
-    ensures read { IfOk result (λ v. (points : PointMap) → HasPoints (S.told store.old) tree.now layer.number layer.level layer.bucket points → IsBlockRead layer.level layer.bucket points v.0 v.1) }
+    ensures read { IfOk result (λ v. (points : PointMap) → HasPoints (S.told store.old) tree.now layer.number layer.level layer.bucket points
+        → IsBlockRead layer.level layer.bucket points v.0 v.1) }
     ensures block { IfOk result (λ v. IsBlock layer.level v.0) }
     ensures holds { IfOk result (λ v. in_block v.0 at ≡ true) }
     ensures sound { IfErr result (λ e. (points : PointMap) → HasPoints (S.told store.old) tree.now layer.number layer.level layer.bucket points → IsSound e) }
@@ -120,7 +122,8 @@ pub(crate) fn block_of(r: &Record, layer: PointLayer) -> Option<(Block, Option<P
     ensures record { IfSome result (λ v. IsRecordOf layer.level layer.bucket r.now layer.number (point_fact v.0 v.1)) }
     ensures block { IfSome result (λ v. IsBlock layer.level v.0) }
     ensures pixel { IfSome result (λ v. IfSome v.1 (λ p. is_pixel layer.level p.at ≡ true)) }
-    ensures one { (b : AnyBlock) (held : Option AnyPoint) → IsRecordOf layer.level layer.bucket r.now layer.number (point_fact b held) → result ≡ Some (b, held) }
+    ensures one { (b : AnyBlock) (held : Option AnyPoint) → IsRecordOf layer.level layer.bucket r.now layer.number (point_fact b held)
+        → result ≡ Some (b, held) }
 {
     let Some((b, held)) = read_point(r, layer.level, layer.bucket) else {
         return None;
@@ -164,8 +167,10 @@ fn label_in<S: PageStore>(
     requires bucket { 1 < layer.bucket }
     requires block { IsBlock layer.level b }
     requires pixel { is_pixel layer.level at ≡ true }
-    ensures label { IfOk result (λ label. (points : PointMap) → HasPoints (S.told store.old) tree.now layer.number layer.level layer.bucket points → Contains (point_blocks layer.level layer.bucket points) b → in_block b at ≡ true → label ≡ finmap.get points at) }
-    ensures sound { IfErr result (λ e. (points : PointMap) → HasPoints (S.told store.old) tree.now layer.number layer.level layer.bucket points → Contains (point_blocks layer.level layer.bucket points) b → in_block b at ≡ true → IsSound e) }
+    ensures label { IfOk result (λ label. (points : PointMap) → HasPoints (S.told store.old) tree.now layer.number layer.level layer.bucket points
+        → Contains (point_blocks layer.level layer.bucket points) b → in_block b at ≡ true → label ≡ finmap.get points at) }
+    ensures sound { IfErr result (λ e. (points : PointMap) → HasPoints (S.told store.old) tree.now layer.number layer.level layer.bucket points
+        → Contains (point_blocks layer.level layer.bucket points) b → in_block b at ≡ true → IsSound e) }
     ensures cause { HasStopCause (S.faults store.old) (S.faults store.new) result }
     ensures size { S.size store.new ≡ S.size store.old }
     ensures told { S.told store.new ≡ S.told store.old }

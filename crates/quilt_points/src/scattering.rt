@@ -1,4 +1,5 @@
-ghost use Rattle.std.specs.Prelude.{◌≡◌, ◌+◌, ◌<◌, ◌≤◌, ◌^◌, ◌↔◌, ℕ, true, false, [], All, Contains, Some, None, take, drop, length, map, slice_index_or, IfOk, IfErr, IfSome, IsNone, IsSome, IsErrOf};
+ghost use Rattle.std.specs.Prelude.{◌≡◌, ◌+◌, ◌<◌, ◌≤◌, ◌^◌, ◌↔◌, ℕ, true, false, [], All, Contains, Some, None, take, drop, length, map, slice_index_or, IfOk};
+ghost use Rattle.std.specs.Prelude.{IfErr, IfSome, IsNone, IsSome, IsErrOf};
 ghost use Rattle.std.specs.FinMap as finmap;
 ghost use Rattle.quilt_types.specs.declared.plane.Point.{Point as AnyPoint};
 ghost use Rattle.quilt_types.specs.declared.stop.Stop.TheVariants.{Device};
@@ -44,7 +45,8 @@ pub fn plan_scatter<S: PageStore>(
     requires level { (1 ≤ level) × (level ≤ 12) }
     requires bucket { (1 ≤ bucket) × (bucket ≤ 16) }
     requires pixels { All (λ p. is_pixel level p.at ≡ true) points.now }
-    ensures plan { IfOk result (λ o. IfSome o (λ edits. (old : PointMap) → HasPoints (S.told store.old) tree.now layer level bucket old → IsPlan level layer bucket old (with_points old points.now) edits)) }
+    ensures plan { IfOk result (λ o. IfSome o (λ edits. (old : PointMap) → HasPoints (S.told store.old) tree.now layer level bucket old
+        → IsPlan level layer bucket old (with_points old points.now) edits)) }
     ensures none { IfOk result (λ o. (old : PointMap) → HasPoints (S.told store.old) tree.now layer level bucket old → IsNone o ↔ (AreNew old points.now → ⊥)) }
     ensures order { IfOk result (λ o. IfSome o AreInOrder) }
     ensures sound { IfErr result (λ e. (old : PointMap) → HasPoints (S.told store.old) tree.now layer level bucket old → IsSound e) }
@@ -86,8 +88,11 @@ fn grown<S: PageStore>(
     requires rooted { IsRooted (S.size store.old) tree.now }
     requires pixels { All (λ p. is_pixel layer.level p.at ≡ true) news.now }
     requires order { Rises by_code news.now }
-    ensures grown { IfOk result (λ o. IfSome o (λ growth. (old : PointMap) → HasPoints (S.told store.old) tree.now layer.number layer.level layer.bucket old → IsGrown layer.level layer.number layer.bucket old news.now [] growth.without.items growth.with.items)) }
-    ensures taken { IfOk result (λ o. o ≡ None → (old : PointMap) → HasPoints (S.told store.old) tree.now layer.number layer.level layer.bucket old → (p : AnyPoint) × Contains news.now p × IsSome (finmap.get old p.at)) }
+    ensures grown { IfOk result
+        (λ o. IfSome o (λ growth. (old : PointMap) → HasPoints (S.told store.old) tree.now layer.number layer.level layer.bucket old
+        → IsGrown layer.level layer.number layer.bucket old news.now [] growth.without.items growth.with.items)) }
+    ensures taken { IfOk result (λ o. o ≡ None → (old : PointMap) → HasPoints (S.told store.old) tree.now layer.number layer.level layer.bucket old
+        → (p : AnyPoint) × Contains news.now p × IsSome (finmap.get old p.at)) }
     ensures sound { IfErr result (λ e. (old : PointMap) → HasPoints (S.told store.old) tree.now layer.number layer.level layer.bucket old → IsSound e) }
     ensures cause { HasStopCause (S.faults store.old) (S.faults store.new) result }
     ensures size { S.size store.new ≡ S.size store.old }
@@ -126,8 +131,12 @@ fn add_block<S: PageStore>(
     requires pixels { All (λ p. is_pixel layer.level p.at ≡ true) news.now }
     requires order { Rises by_code news.now }
     ensures count { IfOk result (λ o. IfSome o (λ count. (0 < count) × (count ≤ length news.now))) }
-    ensures added { IfOk result (λ o. IfSome o (λ count. (old : PointMap) → HasPoints (S.told store.old) tree.now layer.number layer.level layer.bucket old → IsTaken layer.level layer.number layer.bucket old news.now count growth.old.without.items growth.new.without.items growth.old.with.items growth.new.with.items)) }
-    ensures taken { IfOk result (λ o. o ≡ None → (old : PointMap) → HasPoints (S.told store.old) tree.now layer.number layer.level layer.bucket old → (p : AnyPoint) × Contains news.now p × IsSome (finmap.get old p.at)) }
+    ensures added { IfOk result
+        (λ o. IfSome o (λ count. (old : PointMap) → HasPoints (S.told store.old) tree.now layer.number layer.level layer.bucket old
+        → IsTaken layer.level layer.number layer.bucket old news.now count growth.old.without.items growth.new.without.items growth.old.with.items
+        growth.new.with.items)) }
+    ensures taken { IfOk result (λ o. o ≡ None → (old : PointMap) → HasPoints (S.told store.old) tree.now layer.number layer.level layer.bucket old
+        → (p : AnyPoint) × Contains news.now p × IsSome (finmap.get old p.at)) }
     ensures sound { IfErr result (λ e. (old : PointMap) → HasPoints (S.told store.old) tree.now layer.number layer.level layer.bucket old → IsSound e) }
     ensures cause { HasStopCause (S.faults store.old) (S.faults store.new) result }
     ensures size { S.size store.new ≡ S.size store.old }

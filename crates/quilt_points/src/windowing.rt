@@ -38,7 +38,8 @@ pub fn within<S: PageStore>(
     requires level { (1 ≤ level) × (level ≤ 12) }
     requires bucket { (1 ≤ bucket) × (bucket ≤ 16) }
     requires window { is_window level w ≡ true }
-    ensures points { IfOk result (λ list. (points : PointMap) → HasPoints (S.told store.old) tree.now layer level bucket points → entries_of list ≡ filter (λ e. in_window w e.0) (finmap.entries points)) }
+    ensures points { IfOk result (λ list. (points : PointMap) → HasPoints (S.told store.old) tree.now layer level bucket points
+        → entries_of list ≡ filter (λ e. in_window w e.0) (finmap.entries points)) }
     ensures sound { IfErr result (λ e. (points : PointMap) → HasPoints (S.told store.old) tree.now layer level bucket points → IsSound e) }
     ensures cause { HasStopCause (S.faults store.old) (S.faults store.new) result }
     ensures size { S.size store.new ≡ S.size store.old }
@@ -75,8 +76,11 @@ fn add_within<S: PageStore>(
 ) -> Result<(), Stop>
     requires rooted { IsRooted (S.size store.old) tree.now }
     requires block { IsBlock layer.level b }
-    ensures found { OnOk result ((points : PointMap) → HasPoints (S.told store.old) tree.now layer.number layer.level layer.bucket points → IsOpen layer.level layer.bucket points b → (here : List AnyPoint) × (found.new.items ≡ found.old.items ++ here) × AreOf points (in_window w) b (entries_of here)) }
-    ensures sound { IfErr result (λ e. (points : PointMap) → HasPoints (S.told store.old) tree.now layer.number layer.level layer.bucket points → IsOpen layer.level layer.bucket points b → IsSound e) }
+    ensures found { OnOk result ((points : PointMap) → HasPoints (S.told store.old) tree.now layer.number layer.level layer.bucket points
+        → IsOpen layer.level layer.bucket points b → (here : List AnyPoint) × (found.new.items ≡ found.old.items ++ here)
+        × AreOf points (in_window w) b (entries_of here)) }
+    ensures sound { IfErr result (λ e. (points : PointMap) → HasPoints (S.told store.old) tree.now layer.number layer.level layer.bucket points
+        → IsOpen layer.level layer.bucket points b → IsSound e) }
     ensures cause { HasStopCause (S.faults store.old) (S.faults store.new) result }
     ensures size { S.size store.new ≡ S.size store.old }
     ensures told { S.told store.new ≡ S.told store.old }

@@ -4,7 +4,8 @@ use Rattle.quilt_types.specs.declared.plane.Corner.{Corner}
 use Rattle.quilt_types.specs.Rings.{with_corner}
 
 module _ {V : Type 0} where
-  pub grown : (f : V → List Corner) (vs : List V) (k : ℕ) (old now : V) (c : Corner) → length vs ≡ suc k → old ≡ get_or vs k old → f now ≡ f old ++ c ∷ [] → map f (slice_set vs k now) ≡ with_corner (map f vs) c
+  pub grown : (f : V → List Corner) (vs : List V) (k : ℕ) (old now : V) (c : Corner) → length vs ≡ suc k → old ≡ get_or vs k old
+      → f now ≡ f old ++ c ∷ [] → map f (slice_set vs k now) ≡ with_corner (map f vs) c
   grown f [] k old now c l at e = absurd (let no : ⊥ = omega arith in no)
   grown f (v ∷ []) zero old now c l at e = let same : v ≡ old = sym at in ap (λ r. r ∷ []) (e ∙ ap (λ r. f r ++ c ∷ []) (sym same))
   grown f (v ∷ []) (suc k) old now c l at e = absurd (let no : ⊥ = omega arith in no)

@@ -1,5 +1,6 @@
 -- What map algebra and measures make of grids, pixel by pixel.
-use Rattle.std.specs.Prelude.{ℕ, ◌+◌, ◌-◌, ◌&&◌, not, nat_le, ◌==◌, List, [], ◌∷◌, map, filter, count_by, sum_by, if◌then◌else◌, ℤ, pos, ◌-ℤ◌, nat_abs, int_le, int_lt, max, Option, Some, None}
+use Rattle.std.specs.Prelude.{ℕ, ◌+◌, ◌-◌, ◌&&◌, not, nat_le, ◌==◌, List, [], ◌∷◌, map, filter, count_by, sum_by, if◌then◌else◌, ℤ, pos, ◌-ℤ◌, nat_abs, int_le}
+use Rattle.std.specs.Prelude.{int_lt, max, Option, Some, None}
 use Rattle.std.specs.List.{list_any}
 use Rattle.quilt_types.specs.declared.plane.Pixel.{Pixel}
 use Rattle.quilt_types.specs.declared.plane.Window.{Window}

@@ -13,10 +13,12 @@ loop-e-preserved c =
       most = omega arith;
       reached = ⊎_elim
           (λ same. ⊎_elim (λ none. inl (same ∙ none)) (λ w. inr (w.0, w.1, w.2 ∙ sym same)) i.reached)
-          (λ new. inr (c.e-item.result, item_there c.args.entries.now c.loop-e.e-index c.e-item.result c.loop-e-test.true c.e-item.is, sym new)) c.nearer-next.ensures.one;
+          (λ new. inr (c.e-item.result, item_there c.args.entries.now c.loop-e.e-index c.e-item.result c.loop-e-test.true c.e-item.is, sym new))
+          c.nearer-next.ensures.one;
       least = λ e m. ⊎_elim
           (λ old. ⊎_elim (λ low. inl low) (λ high. let a = high.0 in inr (omega arith, high.1)) (i.least e old))
-          (λ same. let k = ap (λ (x : Entry). x.number) same in ⊎_elim (λ low. inl (omega arith)) (λ high. let a = high.0 in let b = high.1 in inr (omega arith, omega arith)) c.nearer-next.ensures.least)
+          (λ same. let k = ap (λ (x : Entry). x.number) same in
+          ⊎_elim (λ low. inl (omega arith)) (λ high. let a = high.0 in let b = high.1 in inr (omega arith, omega arith)) c.nearer-next.ensures.least)
           (take_cases c.args.entries.now c.loop-e.e-index c.e-item.result e c.loop-e-test.true c.e-item.is m);
     }
 

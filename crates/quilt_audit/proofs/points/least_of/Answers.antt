@@ -16,5 +16,6 @@ returns c =
     let s = c.sum_of.ensures in
     record {
       enough = λ v four. omega arith;
-      due = ⊎_elim (λ lt. inl (omega arith)) (λ ge. inr (w.0, w.1, omega arith)) (cases_lt (c.args.bucket + 1) (c.args.a.count + c.args.b.count + c.args.c.count));
+      due = ⊎_elim (λ lt. inl (omega arith)) (λ ge. inr (w.0, w.1, omega arith))
+          (cases_lt (c.args.bucket + 1) (c.args.a.count + c.args.b.count + c.args.c.count));
     }

@@ -8,10 +8,12 @@ use Rattle.quilt_audit.proofs.reading.leaf_is_within.Goals as goal
 pub returns-then-not-is_within : goal.returns-then-not-is_within
 returns-then-not-is_within c =
     let p : Key → Bool = λ k. is_above c.args.low.now k && is_below c.args.high.now k in
-    all_stops p (map (λ (r : Record). r.key) c.args.leaf.now) c.loop-i.i c.rec-r.result.key (key_of_record c.args.leaf.now c.loop-i.i c.rec-r.result c.rec-r.ensures) (sym c.is_within.ensures ∙ c.if-not-is_within.true)
+    all_stops p (map (λ (r : Record). r.key) c.args.leaf.now) c.loop-i.i c.rec-r.result.key
+    (key_of_record c.args.leaf.now c.loop-i.i c.rec-r.result c.rec-r.ensures) (sym c.is_within.ensures ∙ c.if-not-is_within.true)
 
 pub loop-i-preserved : goal.loop-i-preserved
 loop-i-preserved c =
     let p : Key → Bool = λ k. is_above c.args.low.now k && is_below c.args.high.now k in
-    all_more p (map (λ (r : Record). r.key) c.args.leaf.now) c.loop-i.i c.rec-r.result.key (key_of_record c.args.leaf.now c.loop-i.i c.rec-r.result c.rec-r.ensures) c.loop-i.invariant
+    all_more p (map (λ (r : Record). r.key) c.args.leaf.now) c.loop-i.i c.rec-r.result.key
+    (key_of_record c.args.leaf.now c.loop-i.i c.rec-r.result c.rec-r.ensures) c.loop-i.invariant
     (sym c.is_within.ensures ∙ c.if-not-is_within.false)

@@ -17,7 +17,8 @@ returns-in_default-clause-none c rs kind h =
     let r = c.args.r.now in
     by_region c.args.format c.args.level rs r.key.layer (λ (z : Kind). Refuses c.args.format c.args.level rs r.key.layer z r) c.args.run.now
     (λ g. unread_refused c.args.format c.args.level c.requires.level.1 rs r c.requires.layer.0 c.requires.layer.1
-    (λ b col small is. let clash : ◌≡◌ {A = Option (Block × Colour)} None (Some (b, col)) = sym c.in_default.is ∙ c.read_region.ensures.one r.key.layer b col small is in cc)) kind h
+    (λ b col small is. let clash : ◌≡◌ {A = Option (Block × Colour)} None (Some (b, col)) =
+    sym c.in_default.is ∙ c.read_region.ensures.one r.key.layer b col small is in cc)) kind h
 
 pub next-requires-clause-code : goal.next-requires-clause-code
 next-requires-clause-code c = ap (λ (q : Record). q.key.code) (c.in-Some.ensures.some.written [])
@@ -33,6 +34,7 @@ pub returns-clause-some : goal.returns-clause-some
 returns-clause-some c rs kind h =
     let r = c.args.r.now in
     let next = c.in-Some-next.next in
-    by_region c.args.format c.args.level rs r.key.layer (λ (z : Kind). IsRun c.args.format c.args.level (rs ++ r ∷ []) r.key.layer z (runs.Region next)) c.args.run.now
+    by_region c.args.format c.args.level rs r.key.layer
+    (λ (z : Kind). IsRun c.args.format c.args.level (rs ++ r ∷ []) r.key.layer z (runs.Region next)) c.args.run.now
     (λ g. subst (λ (q : Record). IsGoing c.args.format c.args.level (rs ++ q ∷ []) r.key.layer next.end next.recent) (sym (c.in-Some.ensures.some.written []))
     (c.in-Some-next.ensures.some c.args.format r.key.layer rs c.requires.layer.0 c.in-Some.ensures.colour g)) kind h

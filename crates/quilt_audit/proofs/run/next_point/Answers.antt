@@ -17,10 +17,12 @@ returns-in_default-clause-none c form rs kind h =
     let r = c.args.r.now in
     by_points form c.args.level rs r.key.layer (λ (z : Kind). Refuses form c.args.level rs r.key.layer z r) c.args.run.now
     (λ g. unread_refused form c.args.level c.requires.level.1 rs c.args.run.now.bucket r c.requires.layer.0 c.requires.layer.1
-    (λ b held is. let clash : ◌≡◌ {A = Option (Block × Option Point)} None (Some (b, held)) = sym c.in_default.is ∙ c.read_point.ensures.one r.key.layer b held is in cc)) kind h
+    (λ b held is. let clash : ◌≡◌ {A = Option (Block × Option Point)} None (Some (b, held)) =
+    sym c.in_default.is ∙ c.read_point.ensures.one r.key.layer b held is in cc)) kind h
 
 pub next-requires-clause-code : goal.next-requires-clause-code
-next-requires-clause-code c = ap (λ (q : Record). q.key.code) (c.in-Some.ensures.some.written []) ∙ point_code c.args.level c.args.run.now.bucket c.args.r.now.key.layer c.in-Some.block c.in-Some.held
+next-requires-clause-code c = ap (λ (q : Record). q.key.code) (c.in-Some.ensures.some.written [])
+    ∙ point_code c.args.level c.args.run.now.bucket c.args.r.now.key.layer c.in-Some.block c.in-Some.held
 
 pub returns-in_default-next-clause-none : goal.returns-in_default-next-clause-none
 returns-in_default-next-clause-none c form rs kind h =

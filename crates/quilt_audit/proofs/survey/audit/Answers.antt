@@ -10,10 +10,14 @@ returns-in-Err-clause-damaged g c = stop_map c.in-Err.e _ _ (λ p w told e. dama
 
 pub returns-in-Ok-None-clause-damaged : goal.returns-in-Ok-None-clause-damaged
 returns-in-Ok-None-clause-damaged g c told e =
-    damage_from (g.S.PageStore.size c.args.store.now) (g.S.PageStore.told c.args.store.now) c.args.head.now c.in-Ok.state (g.S.PageStore.reads c.args.store.now) (g.S.PageStore.reads c.survey_tree.new.store)
-    c.in-Ok.ensures.walked (subst (λ k. IsHead k c.args.head.now) c.requires.size c.requires.head) told e (none_from c.in-Ok-None.field-0 c.in-Ok-None.field-0-is c.in-Ok-None.ensures.none)
+    damage_from (g.S.PageStore.size c.args.store.now) (g.S.PageStore.told c.args.store.now) c.args.head.now c.in-Ok.state
+    (g.S.PageStore.reads c.args.store.now) (g.S.PageStore.reads c.survey_tree.new.store)
+    c.in-Ok.ensures.walked (subst (λ k. IsHead k c.args.head.now) c.requires.size c.requires.head) told e
+    (none_from c.in-Ok-None.field-0 c.in-Ok-None.field-0-is c.in-Ok-None.ensures.none)
 
 pub returns-in-Ok-Some-clause-survey : goal.returns-in-Ok-Some-clause-survey
 returns-in-Ok-Some-clause-survey g c told e =
-    survey_from (g.S.PageStore.size c.args.store.now) (g.S.PageStore.told c.args.store.now) c.args.head.now c.in-Ok.state (g.S.PageStore.reads c.args.store.now) (g.S.PageStore.reads c.survey_tree.new.store)
-    c.in-Ok.ensures.walked (subst (λ k. IsHead k c.args.head.now) c.requires.size c.requires.head) told e c.in-Ok-Some.catalog (some_from c.in-Ok-Some.field-0 c.in-Ok-Some.catalog _ c.in-Ok-Some.field-0-is c.in-Ok-Some.ensures.some)
+    survey_from (g.S.PageStore.size c.args.store.now) (g.S.PageStore.told c.args.store.now) c.args.head.now c.in-Ok.state
+    (g.S.PageStore.reads c.args.store.now) (g.S.PageStore.reads c.survey_tree.new.store)
+    c.in-Ok.ensures.walked (subst (λ k. IsHead k c.args.head.now) c.requires.size c.requires.head) told e c.in-Ok-Some.catalog
+    (some_from c.in-Ok-Some.field-0 c.in-Ok-Some.catalog _ c.in-Ok-Some.field-0-is c.in-Ok-Some.ensures.some)

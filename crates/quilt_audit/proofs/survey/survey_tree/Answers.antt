@@ -5,21 +5,26 @@ use Rattle.quilt_audit.proofs.survey.survey_tree.Goals as goal
 
 pub returns-then-head-eq0-clause-walked : goal.returns-then-head-eq0-clause-walked
 returns-then-head-eq0-clause-walked g c =
-    walked_none (g.S.PageStore.size c.args.store.now) (g.met.S.PageStore.in_range c.args.store.now).0 (g.S.PageStore.told c.args.store.now) c.args.head.now c.unvisited-state.result (g.S.PageStore.reads c.args.store.now) c.if-head-eq0.true
+    walked_none (g.S.PageStore.size c.args.store.now) (g.met.S.PageStore.in_range c.args.store.now).0 (g.S.PageStore.told c.args.store.now)
+    c.args.head.now c.unvisited-state.result (g.S.PageStore.reads c.args.store.now) c.if-head-eq0.true
     c.unvisited-state.ensures.used c.unvisited-state.ensures.format c.unvisited-state.ensures.level c.unvisited-state.ensures.fed
 
 pub returns-in-Err-clause-damaged : goal.returns-in-Err-clause-damaged
 returns-in-Err-clause-damaged g c =
     stop_map c.in-Err.e _ _
-    (λ p w told e. tree_of_root told c.args.head.now.root c.args.head.now.height c.if-head-eq0.false ∙ w told [] e (unmarked c.unvisited-state.result.used c.unvisited-state.ensures.used))
+    (λ p w told e. tree_of_root told c.args.head.now.root c.args.head.now.height c.if-head-eq0.false
+    ∙ w told [] e (unmarked c.unvisited-state.result.used c.unvisited-state.ensures.used))
     c.in-Err.ensures.damaged
 
 pub returns-in-Ok-clause-walked : goal.returns-in-Ok-clause-walked
 returns-in-Ok-clause-walked g c =
-    walked_root (g.S.PageStore.size c.args.store.now) (g.met.S.PageStore.in_range c.args.store.now).0 (g.S.PageStore.told c.args.store.now) c.args.head.now c.unvisited-state.result c.survey_page.new.state (g.S.PageStore.reads c.args.store.now) (g.S.PageStore.reads c.survey_page.new.store)
-    c.if-head-eq0.false c.unvisited-state.ensures.used c.unvisited-state.ensures.format c.unvisited-state.ensures.level c.unvisited-state.ensures.fed c.in-Ok.ensures.found
+    walked_root (g.S.PageStore.size c.args.store.now) (g.met.S.PageStore.in_range c.args.store.now).0 (g.S.PageStore.told c.args.store.now)
+    c.args.head.now c.unvisited-state.result c.survey_page.new.state (g.S.PageStore.reads c.args.store.now) (g.S.PageStore.reads c.survey_page.new.store)
+    c.if-head-eq0.false c.unvisited-state.ensures.used c.unvisited-state.ensures.format c.unvisited-state.ensures.level
+    c.unvisited-state.ensures.fed c.in-Ok.ensures.found
 
 pub returns-in-Err-clause-few : goal.returns-in-Err-clause-few
 returns-in-Err-clause-few g c =
     let s = c.in-Err.ensures.spent [] (unmarked c.unvisited-state.result.used c.unvisited-state.ensures.used) in
-    spent_few (g.S.PageStore.size c.args.store.now) s.now (g.S.PageStore.reads c.args.store.now) (g.S.PageStore.reads c.survey_page.new.store) (g.met.S.PageStore.in_range c.args.store.now).0 s.spent
+    spent_few (g.S.PageStore.size c.args.store.now) s.now (g.S.PageStore.reads c.args.store.now) (g.S.PageStore.reads c.survey_page.new.store)
+    (g.met.S.PageStore.in_range c.args.store.now).0 s.spent

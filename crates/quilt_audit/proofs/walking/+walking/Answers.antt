@@ -2,7 +2,8 @@ use Rattle.std.proofs.Common.{◌-◌, [], ◌∷◌, false, refl, sym, ◌∙�
 use Rattle.quilt_node.specs.Tree.{walk}
 use Rattle.quilt_audit.specs.declared.surveying.Surveying.{Surveying}
 use Rattle.quilt_audit.proofs.Feeding.{Takes-none}
-use Rattle.quilt_audit.proofs.Walked.{Added-page, from_to, reached_first, reached_next, reached_stop, walk_inner, page_found, on_ok_map, on_err_map, damaged_map, Spent-none, Spent-page, SpentSome-then, stop_map}
+use Rattle.quilt_audit.proofs.Walked.{Added-page, from_to, reached_first, reached_next, reached_stop, walk_inner, page_found, on_ok_map, on_err_map}
+use Rattle.quilt_audit.proofs.Walked.{damaged_map, Spent-none, Spent-page, SpentSome-then, stop_map}
 use Rattle.quilt_audit.proofs.walking.+walking.Goals as goal
 
 pub survey_children-loop-i-init : goal.survey_children-loop-i-init
@@ -13,7 +14,8 @@ survey_children-loop-i-init g t c = record {
   later = g.met.S.PageStore.same_time c.args.store.now;
   faults = omega arith;
   changed = omega arith;
-  found = λ visited m. reached_first (g.S.PageStore.size c.args.store.now) (g.S.PageStore.told c.args.store.now) c.args.height c.args.inner.now.children c.args.inner.now.keys c.args.low.now c.args.high.now
+  found = λ visited m. reached_first (g.S.PageStore.size c.args.store.now) (g.S.PageStore.told c.args.store.now)
+      c.args.height c.args.inner.now.children c.args.inner.now.keys c.args.low.now c.args.high.now
       visited c.args.state.now (g.S.PageStore.reads c.args.store.now) m;
 }
 
@@ -37,9 +39,11 @@ survey_children-loop-i-preserved g t c =
       changed = omega arith;
       found = λ visited m.
           let h = inv.found visited m in
-          reached_next (g.S.PageStore.size c.args.store.now) (g.S.PageStore.told c.args.store.now) c.args.height c.args.inner.now.children c.args.inner.now.keys c.args.low.now c.args.high.now
+          reached_next (g.S.PageStore.size c.args.store.now) (g.S.PageStore.told c.args.store.now) c.args.height c.args.inner.now.children
+          c.args.inner.now.keys c.args.low.now c.args.high.now
           c.loop-i.i c.child-page.result c.loop-i.from (omega arith) (omega arith) c.child-page.ensures.child
-          visited c.args.state.now c.loop-i.state c.survey_page.new.state (g.S.PageStore.reads c.args.store.now) (g.S.PageStore.reads c.loop-i.store) (g.S.PageStore.reads c.survey_page.new.store)
+          visited c.args.state.now c.loop-i.state c.survey_page.new.state (g.S.PageStore.reads c.args.store.now) (g.S.PageStore.reads c.loop-i.store)
+          (g.S.PageStore.reads c.survey_page.new.store)
           c.bound_behind-to.result (g.S.PageStore.told c.loop-i.store) (g.S.PageStore.size c.loop-i.store) inv.told inv.size c.bound_behind-to.ensures h
           (e.found h.now h.added.marks);
     }
@@ -53,9 +57,11 @@ survey_children-returns-in-Err-clause-damaged g t c =
     stop_map c.in-Err.e _ _
     (λ p w pages visited e m.
     let h = inv.found visited m in
-    reached_stop (g.S.PageStore.size c.args.store.now) (g.S.PageStore.told c.args.store.now) c.args.height c.args.inner.now.children c.args.inner.now.keys c.args.low.now c.args.high.now
+    reached_stop (g.S.PageStore.size c.args.store.now) (g.S.PageStore.told c.args.store.now) c.args.height c.args.inner.now.children
+    c.args.inner.now.keys c.args.low.now c.args.high.now
     c.loop-i.i c.child-page.result c.loop-i.from (omega arith) (omega arith) c.child-page.ensures.child
-    visited c.args.state.now c.loop-i.state (g.S.PageStore.reads c.args.store.now) (g.S.PageStore.reads c.loop-i.store) c.bound_behind-to.result p pages e c.bound_behind-to.ensures h
+    visited c.args.state.now c.loop-i.state (g.S.PageStore.reads c.args.store.now) (g.S.PageStore.reads c.loop-i.store)
+    c.bound_behind-to.result p pages e c.bound_behind-to.ensures h
     (w pages h.now (inv.told ∙ e) h.added.marks))
     c.in-Err.ensures.damaged
 
@@ -65,7 +71,8 @@ survey_page-returns-in-Err-clause-damaged g t c =
     let some = c.requires.height in
     stop_map c.in-Err.e _ _
     (λ p w pages visited e m.
-    walk_inner pages c.args.height c.args.is_root (c.args.page, from_to c.args.low.now c.args.high.now) visited (omega arith) (sym (m.each c.args.page) ∙ sym c.is_marked.ensures ∙ c.if-is_marked.false)
+    walk_inner pages c.args.height c.args.is_root (c.args.page, from_to c.args.low.now c.args.high.now) visited (omega arith)
+    (sym (m.each c.args.page) ∙ sym c.is_marked.ensures ∙ c.if-is_marked.false)
     ∙ w pages visited (walk pages (c.args.height - 1) false) e)
     c.in-Err.ensures.damaged
 
@@ -77,10 +84,14 @@ survey_page-returns-in-Ok-clause-found g t c =
     let mid : Surveying = record { used = c.mark.new.bits; checker = c.args.state.now.checker } in
     on_ok_map c.survey_children.result _ _
     (λ found visited m.
-    let a = Added-page (g.S.PageStore.size c.args.store.now) visited c.args.state.now mid (g.S.PageStore.reads c.args.store.now) (g.S.PageStore.reads c.read_inner.new.store) c.args.page []
-    c.requires.page.0 c.requires.page.1 m (sym (m.each c.args.page) ∙ sym c.is_marked.ensures ∙ c.if-is_marked.false) c.mark.ensures (Takes-none c.args.state.now.checker) c.in-Ok.ensures.reads in
-    page_found (g.S.PageStore.size c.args.store.now) (g.S.PageStore.told c.args.store.now) c.args.height c.args.is_root c.args.page b visited c.args.state.now mid c.survey_children.new.state
-    (g.S.PageStore.reads c.args.store.now) (g.S.PageStore.reads c.read_inner.new.store) (g.S.PageStore.reads c.survey_children.new.store) c.in-Ok.inner.children c.in-Ok.inner.keys
+    let a = Added-page (g.S.PageStore.size c.args.store.now) visited c.args.state.now mid (g.S.PageStore.reads c.args.store.now)
+    (g.S.PageStore.reads c.read_inner.new.store) c.args.page []
+    c.requires.page.0 c.requires.page.1 m (sym (m.each c.args.page) ∙ sym c.is_marked.ensures ∙ c.if-is_marked.false) c.mark.ensures
+    (Takes-none c.args.state.now.checker) c.in-Ok.ensures.reads in
+    page_found (g.S.PageStore.size c.args.store.now) (g.S.PageStore.told c.args.store.now) c.args.height c.args.is_root c.args.page b visited
+    c.args.state.now mid c.survey_children.new.state
+    (g.S.PageStore.reads c.args.store.now) (g.S.PageStore.reads c.read_inner.new.store) (g.S.PageStore.reads c.survey_children.new.store)
+    c.in-Ok.inner.children c.in-Ok.inner.keys
     (g.S.PageStore.size c.read_inner.new.store) (g.S.PageStore.told c.read_inner.new.store) c.in-Ok.ensures.size c.in-Ok.ensures.told (omega arith)
     (sym (m.each c.args.page) ∙ sym c.is_marked.ensures ∙ c.if-is_marked.false) a (λ pages visit e. c.in-Ok.ensures.inner pages visited visit e)
     (found (c.args.page ∷ visited) a.marks))
@@ -94,9 +105,12 @@ survey_page-returns-in-Ok-clause-damaged g t c =
     let mid : Surveying = record { used = c.mark.new.bits; checker = c.args.state.now.checker } in
     damaged_map c.survey_children.result _ _
     (λ p w pages visited e m.
-    let a = Added-page (g.S.PageStore.size c.args.store.now) visited c.args.state.now mid (g.S.PageStore.reads c.args.store.now) (g.S.PageStore.reads c.read_inner.new.store) c.args.page []
-    c.requires.page.0 c.requires.page.1 m (sym (m.each c.args.page) ∙ sym c.is_marked.ensures ∙ c.if-is_marked.false) c.mark.ensures (Takes-none c.args.state.now.checker) c.in-Ok.ensures.reads in
-    walk_inner pages c.args.height c.args.is_root (c.args.page, b) visited (omega arith) (sym (m.each c.args.page) ∙ sym c.is_marked.ensures ∙ c.if-is_marked.false)
+    let a = Added-page (g.S.PageStore.size c.args.store.now) visited c.args.state.now mid (g.S.PageStore.reads c.args.store.now)
+    (g.S.PageStore.reads c.read_inner.new.store) c.args.page []
+    c.requires.page.0 c.requires.page.1 m (sym (m.each c.args.page) ∙ sym c.is_marked.ensures ∙ c.if-is_marked.false) c.mark.ensures
+    (Takes-none c.args.state.now.checker) c.in-Ok.ensures.reads in
+    walk_inner pages c.args.height c.args.is_root (c.args.page, b) visited (omega arith)
+    (sym (m.each c.args.page) ∙ sym c.is_marked.ensures ∙ c.if-is_marked.false)
     ∙ c.in-Ok.ensures.inner pages visited (walk pages (c.args.height - 1) false) e
     ∙ w pages (c.args.page ∷ visited) (c.in-Ok.ensures.told ∙ e) a.marks)
     c.survey_children.ensures.damaged
@@ -108,7 +122,8 @@ survey_page-returns-then-is_marked-clause-spent g t c visited m =
 pub survey_page-returns-in-Err-clause-spent : goal.survey_page-returns-in-Err-clause-spent
 survey_page-returns-in-Err-clause-spent g t c visited m = record {
   now = c.args.page ∷ visited;
-  spent = Spent-page (g.S.PageStore.size c.args.store.now) visited (g.S.PageStore.reads c.args.store.now) (g.S.PageStore.reads c.read_inner.new.store) c.args.page c.requires.page.0 c.requires.page.1
+  spent = Spent-page (g.S.PageStore.size c.args.store.now) visited (g.S.PageStore.reads c.args.store.now)
+      (g.S.PageStore.reads c.read_inner.new.store) c.args.page c.requires.page.0 c.requires.page.1
       (sym (m.each c.args.page) ∙ sym c.is_marked.ensures ∙ c.if-is_marked.false) c.in-Err.ensures.reads;
 }
 
@@ -117,9 +132,12 @@ survey_page-returns-in-Ok-clause-spent g t c =
     let mid : Surveying = record { used = c.mark.new.bits; checker = c.args.state.now.checker } in
     on_err_map c.survey_children.result _ _
     (λ spent visited m.
-    let a = Added-page (g.S.PageStore.size c.args.store.now) visited c.args.state.now mid (g.S.PageStore.reads c.args.store.now) (g.S.PageStore.reads c.read_inner.new.store) c.args.page []
-    c.requires.page.0 c.requires.page.1 m (sym (m.each c.args.page) ∙ sym c.is_marked.ensures ∙ c.if-is_marked.false) c.mark.ensures (Takes-none c.args.state.now.checker) c.in-Ok.ensures.reads in
-    SpentSome-then (g.S.PageStore.size c.args.store.now) visited (c.args.page ∷ visited) (g.S.PageStore.reads c.args.store.now) (g.S.PageStore.reads c.read_inner.new.store) (g.S.PageStore.reads c.survey_children.new.store)
+    let a = Added-page (g.S.PageStore.size c.args.store.now) visited c.args.state.now mid (g.S.PageStore.reads c.args.store.now)
+    (g.S.PageStore.reads c.read_inner.new.store) c.args.page []
+    c.requires.page.0 c.requires.page.1 m (sym (m.each c.args.page) ∙ sym c.is_marked.ensures ∙ c.if-is_marked.false) c.mark.ensures
+    (Takes-none c.args.state.now.checker) c.in-Ok.ensures.reads in
+    SpentSome-then (g.S.PageStore.size c.args.store.now) visited (c.args.page ∷ visited) (g.S.PageStore.reads c.args.store.now)
+    (g.S.PageStore.reads c.read_inner.new.store) (g.S.PageStore.reads c.survey_children.new.store)
     (g.S.PageStore.size c.read_inner.new.store) c.in-Ok.ensures.size a.spent (spent (c.args.page ∷ visited) a.marks))
     c.survey_children.ensures.spent
 
@@ -127,5 +145,6 @@ pub survey_children-returns-in-Err-clause-spent : goal.survey_children-returns-i
 survey_children-returns-in-Err-clause-spent g t c visited m =
     let inv = c.loop-i.invariant in
     let h = inv.found visited m in
-    SpentSome-then (g.S.PageStore.size c.args.store.now) visited h.now (g.S.PageStore.reads c.args.store.now) (g.S.PageStore.reads c.loop-i.store) (g.S.PageStore.reads c.survey_page.new.store)
+    SpentSome-then (g.S.PageStore.size c.args.store.now) visited h.now (g.S.PageStore.reads c.args.store.now) (g.S.PageStore.reads c.loop-i.store)
+    (g.S.PageStore.reads c.survey_page.new.store)
     (g.S.PageStore.size c.loop-i.store) inv.size h.added.spent (c.in-Err.ensures.spent h.now h.added.marks)

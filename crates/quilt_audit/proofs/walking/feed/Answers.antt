@@ -6,7 +6,9 @@ pub loop-i-init : goal.loop-i-init
 loop-i-init c = Takes-none c.args.checker.now
 
 pub loop-i-preserved : goal.loop-i-preserved
-loop-i-preserved c = Takes-more c.args.checker.now c.loop-i.checker c.push.new.self c.args.leaf.now c.loop-i.i c.rec.result c.rec.ensures c.loop-i.invariant c.in_ok-push.ensures
+loop-i-preserved c =
+    Takes-more c.args.checker.now c.loop-i.checker c.push.new.self c.args.leaf.now c.loop-i.i c.rec.result c.rec.ensures c.loop-i.invariant c.in_ok-push.ensures
 
 pub returns : goal.returns
-returns c = Takes-all c.args.checker.now c.loop-i.checker c.args.leaf.now c.loop-i.i (let e = c.len-i-end.ensures.length in let f = c.loop-i-test.false in omega arith) c.loop-i.invariant
+returns c = Takes-all c.args.checker.now c.loop-i.checker c.args.leaf.now c.loop-i.i (let e = c.len-i-end.ensures.length in
+    let f = c.loop-i-test.false in omega arith) c.loop-i.invariant

@@ -6,7 +6,8 @@ use Rattle.quilt_line_audit.proofs.descent.end_on.Goals as goal
 pub returns-in-None-clause-none : goal.returns-in-None-clause-none
 returns-in-None-clause-none c rest h =
     let some = some_pairs c.args.block c.args.near.now (sym c.if-is_empty.false ∙ c.is_empty.ensures) in
-    pair_misses c.args.block c.args.near.now c.args.pairs.now c.loop-id.id-index c.loop-id.end (0, record { x1 = 0; y1 = 0; x2 = 0; y2 = 0 }) c.loop-id-test.true rest
+    pair_misses c.args.block c.args.near.now c.args.pairs.now c.loop-id.id-index c.loop-id.end (0, record { x1 = 0; y1 = 0; x2 = 0; y2 = 0 })
+    c.loop-id-test.true rest
     c.in-None.ensures.none
     ((c.loop-id.invariant.goes rest).1 (h ∙ ap (λ (l : List Pair). l ++ rest) some))
 

@@ -6,5 +6,6 @@ use Rattle.quilt_line_audit.proofs.descent.end_on.Given as goal
 abbrev pub invariant-loop-id : goal.invariant-loop-id
 invariant-loop-id l = record {
   within : l.end ≤ length l.pairs;
-  goes : (rest : List Pair) → (drop l.end l.pairs ≡ map (pair_on l.block) (drop l.id-index l.near) ++ rest) ↔ (drop l.at l.pairs ≡ map (pair_on l.block) l.near ++ rest);
+  goes : (rest : List Pair) → (drop l.end l.pairs ≡ map (pair_on l.block) (drop l.id-index l.near) ++ rest)
+      ↔ (drop l.at l.pairs ≡ map (pair_on l.block) l.near ++ rest);
 }

@@ -8,4 +8,5 @@ use Rattle.quilt_map.proofs.copying.read_records.Goals as goal
 
 pub returns-clause-sound : goal.returns-clause-sound
 returns-clause-sound g c =
-    subst (λ (h : Head). IfErr c.range.result (λ e. (rs : List Record) → IsTree (told_of {D = g.W.Disk} c.args.book.now) (tree_in h) rs → IsSound e)) c.head-head.ensures.work c.range.ensures.sound
+    subst (λ (h : Head). IfErr c.range.result (λ e. (rs : List Record) → IsTree (told_of {D = g.W.Disk} c.args.book.now) (tree_in h) rs → IsSound e))
+    c.head-head.ensures.work c.range.ensures.sound

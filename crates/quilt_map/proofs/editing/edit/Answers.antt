@@ -9,7 +9,8 @@ pub returns-in-Err-insert_all-clause-goes_on : goal.returns-in-Err-insert_all-cl
 returns-in-Err-insert_all-clause-goes_on g c =
     let a = c.args.book.now in
     let b = c.remove_all.new.store in
-    goes_both {D = g.W.Disk} a b c.insert_all.new.store (goes_of {D = g.W.Disk} a b c.remove_all.ensures.later) (goes_of {D = g.W.Disk} b c.insert_all.new.store c.insert_all.ensures.later)
+    goes_both {D = g.W.Disk} a b c.insert_all.new.store (goes_of {D = g.W.Disk} a b c.remove_all.ensures.later)
+    (goes_of {D = g.W.Disk} b c.insert_all.new.store c.insert_all.ensures.later)
 
 pub returns-clause-goes_on : goal.returns-clause-goes_on
 returns-clause-goes_on g c =
@@ -27,10 +28,16 @@ returns-clause-edited g c = λ rs whole.
     let d = c.insert_all.new.store in
     let e = c.set_tree.new.self in
     let size = c.remove_all.ensures.size in
-    let before = whole_as (told_of a) (told_of a) (free_of a) (free_of a) a.journal.pages a.journal.pages a.work c.head-head.result rs refl refl refl c.head-head.ensures.work whole in
+    let before = whole_as (told_of a) (told_of a) (free_of a) (free_of a) a.journal.pages a.journal.pages a.work c.head-head.result rs refl refl refl
+    c.head-head.ensures.work whole in
     let gone = (c.in-Ok.ensures.removed rs before).1 in
     let left = without_all c.args.keys.now rs in
-    let there = whole_as (told_of b) (told_of b) (free_of b) (free_of b) a.journal.pages b.journal.pages (record (work_of d) { root = c.remove_all.new.self.root; height = c.remove_all.new.self.height; records = c.remove_all.new.self.records }) (record (work_of d) { root = c.remove_all.new.self.root; height = c.remove_all.new.self.height; records = c.remove_all.new.self.records }) left refl refl size refl gone in
+    let there = whole_as (told_of b) (told_of b) (free_of b) (free_of b) a.journal.pages b.journal.pages
+    (record (work_of d) { root = c.remove_all.new.self.root; height = c.remove_all.new.self.height; records = c.remove_all.new.self.records })
+    (record (work_of d) { root = c.remove_all.new.self.root; height = c.remove_all.new.self.height; records = c.remove_all.new.self.records })
+    left refl refl size refl gone in
     let come = (c.in-Ok-insert_all.ensures.inserted left there).1 in
-    whole_as (told_of d) (told_of e) (free_of d) (free_of e) b.journal.pages a.journal.pages (record (work_of d) { root = c.insert_all.new.self.root; height = c.insert_all.new.self.height; records = c.insert_all.new.self.records }) e.work (put_all c.args.added.now left)
+    whole_as (told_of d) (told_of e) (free_of d) (free_of e) b.journal.pages a.journal.pages
+    (record (work_of d) { root = c.insert_all.new.self.root; height = c.insert_all.new.self.height; records = c.insert_all.new.self.records })
+    e.work (put_all c.args.added.now left)
     c.set_tree.ensures.told c.set_tree.ensures.free (sym size) c.set_tree.ensures.work come

@@ -10,7 +10,9 @@ returns-then-not-has_number-clause-unused c layers numbers is num name =
     unused_number c.args.entries.now c.loop-number.number none layers numbers is num name
 
 pub returns-clause-free : goal.returns-clause-free
-returns-clause-free c = none_numbered c.args.entries.now 255 (last_free c.args.entries.now c.requires (λ k least lt. c.loop-number.invariant k least (omega arith)))
+returns-clause-free c =
+    none_numbered c.args.entries.now 255 (last_free c.args.entries.now c.requires (λ k least lt. c.loop-number.invariant k least (omega arith)))
 
 pub returns-clause-unused : goal.returns-clause-unused
-returns-clause-unused c = unused_number c.args.entries.now 255 (last_free c.args.entries.now c.requires (λ k least lt. c.loop-number.invariant k least (omega arith)))
+returns-clause-unused c =
+    unused_number c.args.entries.now 255 (last_free c.args.entries.now c.requires (λ k least lt. c.loop-number.invariant k least (omega arith)))

@@ -8,4 +8,5 @@ returns-then-leaves_square c =
 
 pub loop-i-preserved : goal.loop-i-preserved
 loop-i-preserved c =
-    leave_more c.args.side c.args.rings.now c.loop-i.i c.corners.result.now c.corners.ensures (sym c.leaves_square.ensures ∙ c.if-leaves_square.false) c.loop-i.invariant
+    leave_more c.args.side c.args.rings.now c.loop-i.i c.corners.result.now c.corners.ensures
+    (sym c.leaves_square.ensures ∙ c.if-leaves_square.false) c.loop-i.invariant

@@ -14,15 +14,18 @@ pub returns-then-not-can_be-clause-still : goal.returns-then-not-can_be-clause-s
 returns-then-not-can_be-clause-still g c = still_here {D = g.W.Disk} c.args.book.now
 
 pub returns-then-not-can_be-clause-sound : goal.returns-then-not-can_be-clause-sound
-returns-then-not-can_be-clause-sound g c = λ segs cover least has. let valid = has.spelled.valid in absurd (both_ways c.can_be.result c.if-not-can_be.true (c.can_be.ensures.no least valid.least valid.most))
+returns-then-not-can_be-clause-sound g c = λ segs cover least has. let valid = has.spelled.valid in
+    absurd (both_ways c.can_be.result c.if-not-can_be.true (c.can_be.ensures.no least valid.least valid.most))
 
 pub returns-clause-counts : goal.returns-clause-counts
 returns-clause-counts g c =
     if_ok _ _ c.block_counts.result (λ counts h.
     lines_said {D = g.W.Disk} c.args.book.now c.args.layer c.head-head.result c.tree_of.result c.head-head.ensures.work c.tree_of.ensures
-    (λ (x : Head) (segs : SegMap) (cover : BlockSet). (k : ℕ) → k ≤ 12 → slice_index counts k ≡ count_by (λ (b : Block). b.side == side k) (finset.items cover)) (h c.args.layer.threshold)) c.block_counts.ensures.counts
+    (λ (x : Head) (segs : SegMap) (cover : BlockSet). (k : ℕ) → k ≤ 12
+    → slice_index counts k ≡ count_by (λ (b : Block). b.side == side k) (finset.items cover)) (h c.args.layer.threshold)) c.block_counts.ensures.counts
 
 pub returns-clause-sound : goal.returns-clause-sound
 returns-clause-sound g c =
     if_err _ _ c.block_counts.result (λ e h segs cover least has.
-    lines_said {D = g.W.Disk} c.args.book.now c.args.layer c.head-head.result c.tree_of.result c.head-head.ensures.work c.tree_of.ensures (λ (x : Head) (all : SegMap) (blocks : BlockSet). IsSound e) (h c.args.layer.threshold) segs cover has) c.block_counts.ensures.sound
+    lines_said {D = g.W.Disk} c.args.book.now c.args.layer c.head-head.result c.tree_of.result c.head-head.ensures.work c.tree_of.ensures
+    (λ (x : Head) (all : SegMap) (blocks : BlockSet). IsSound e) (h c.args.layer.threshold) segs cover has) c.block_counts.ensures.sound

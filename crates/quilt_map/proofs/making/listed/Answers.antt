@@ -7,6 +7,8 @@ pub returns : goal.returns
 returns c =
     let records = c.args.records.now in (
       c.catalog_record.result,
-      c.loop-r.invariant ∙ ap (λ (l : List Record). l ++ take c.loop-r.r-index records) (c.in_ok-push.ensures.ok ∙ ap (λ (l : List Record). l ++ c.catalog_record.result ∷ []) c.new-all.ensures) ∙ ap (λ (l : List Record). c.catalog_record.result ∷ l) (take_all c.loop-r.r-index records (omega arith)),
+      c.loop-r.invariant ∙ ap (λ (l : List Record). l ++ take c.loop-r.r-index records)
+          (c.in_ok-push.ensures.ok ∙ ap (λ (l : List Record). l ++ c.catalog_record.result ∷ []) c.new-all.ensures)
+          ∙ ap (λ (l : List Record). c.catalog_record.result ∷ l) (take_all c.loop-r.r-index records (omega arith)),
       c.catalog_record.ensures,
     )

@@ -8,14 +8,17 @@ pub returns-then-not-can_be-clause-still : goal.returns-then-not-can_be-clause-s
 returns-then-not-can_be-clause-still g c = still_here {D = g.W.Disk} c.args.book.now
 
 pub returns-then-not-can_be-clause-sound : goal.returns-then-not-can_be-clause-sound
-returns-then-not-can_be-clause-sound g c = λ points least has. let valid = has.spelled.valid in absurd (both_ways c.can_be.result c.if-not-can_be.true (c.can_be.ensures.no least valid.least valid.most))
+returns-then-not-can_be-clause-sound g c = λ points least has. let valid =
+    has.spelled.valid in absurd (both_ways c.can_be.result c.if-not-can_be.true (c.can_be.ensures.no least valid.least valid.most))
 
 pub returns-clause-sound : goal.returns-clause-sound
 returns-clause-sound g c =
     if_err _ _ c.plan_scatter.result (λ e h points least has.
-    h points (points_as (told_of {D = g.W.Disk} c.args.book.now) c.args.layer.number c.args.layer.bucket points c.head-head.result c.args.book.now.work c.tree_of.result c.head-head.ensures.work c.tree_of.ensures has)) c.plan_scatter.ensures.sound
+    h points (points_as (told_of {D = g.W.Disk} c.args.book.now) c.args.layer.number c.args.layer.bucket points c.head-head.result
+    c.args.book.now.work c.tree_of.result c.head-head.ensures.work c.tree_of.ensures has)) c.plan_scatter.ensures.sound
 
 pub returns-clause-none : goal.returns-clause-none
 returns-clause-none g c =
     if_ok _ _ c.plan_scatter.result (λ o h held has.
-    h held (points_as (told_of {D = g.W.Disk} c.args.book.now) c.args.layer.number c.args.layer.bucket held c.head-head.result c.args.book.now.work c.tree_of.result c.head-head.ensures.work c.tree_of.ensures has)) c.plan_scatter.ensures.none
+    h held (points_as (told_of {D = g.W.Disk} c.args.book.now) c.args.layer.number c.args.layer.bucket held c.head-head.result c.args.book.now.work
+    c.tree_of.result c.head-head.ensures.work c.tree_of.ensures has)) c.plan_scatter.ensures.none

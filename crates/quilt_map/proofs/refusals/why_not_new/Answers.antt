@@ -16,5 +16,8 @@ returns-then-entries-ge-LAYER_LIMIT-clause-refuses c = λ s numbers catalog rs d
 pub returns-else-entries-ge-LAYER_LIMIT-clause-passes : goal.returns-else-entries-ge-LAYER_LIMIT-clause-passes
 returns-else-entries-ge-LAYER_LIMIT-clause-passes c = λ e s numbers catalog.
     let none = sym c.if-is_some.ensures in
-    let many = catalog_length s.work numbers c.args.entries.now catalog in
-    (exists_not s c.args.name.now (c.index_of.ensures.none none s.work numbers catalog), few_layers s (let m = c.if-entries-ge-LAYER_LIMIT.false in omega arith))
+    let many = catalog_length s.work numbers c.args.entries.now catalog in (
+      exists_not s c.args.name.now (c.index_of.ensures.none none s.work numbers catalog),
+      few_layers s
+          (let m = c.if-entries-ge-LAYER_LIMIT.false in omega arith),
+    )

@@ -8,4 +8,5 @@ returns-then-number-eq0-clause-still g c = still_here {D = g.W.Disk} c.args.book
 pub returns-clause-sound : goal.returns-clause-sound
 returns-clause-sound g c =
     if_err _ _ c.plan_rect.result (λ e h grid least has.
-    h grid (has_as (told_of {D = g.W.Disk} c.args.book.now) c.args.number grid c.head-head.result c.args.book.now.work c.tree_of.result c.head-head.ensures.work c.tree_of.ensures has)) c.plan_rect.ensures.sound
+    h grid (has_as (told_of {D = g.W.Disk} c.args.book.now) c.args.number grid c.head-head.result c.args.book.now.work c.tree_of.result
+    c.head-head.ensures.work c.tree_of.ensures has)) c.plan_rect.ensures.sound

@@ -15,7 +15,8 @@ returns-then-number-eq0-clause-still g c = still_here {D = g.W.Disk} c.args.book
 pub returns-clause-sound : goal.returns-clause-sound
 returns-clause-sound g c =
     if_err _ _ c.colour_at.result (λ e h grid least has.
-    h grid (has_as (told_of {D = g.W.Disk} c.args.book.now) c.args.number grid c.head-head.result c.args.book.now.work c.tree_of.result c.head-head.ensures.work c.tree_of.ensures has)) c.colour_at.ensures.sound
+    h grid (has_as (told_of {D = g.W.Disk} c.args.book.now) c.args.number grid c.head-head.result c.args.book.now.work c.tree_of.result
+    c.head-head.ensures.work c.tree_of.ensures has)) c.colour_at.ensures.sound
 
 pub returns-clause-held : goal.returns-clause-held
 returns-clause-held g c =
@@ -23,7 +24,8 @@ returns-clause-held g c =
     let tree : c.tree_of.result ≡ tree_in old.work = c.tree_of.ensures ∙ ap tree_in c.head-head.ensures.work in
     subst
     (λ (t : Tree). OnOk c.colour_at.result ((rs : List Record) → IsTree (told_of {D = g.W.Disk} old) t rs →
-    HoldsFirst (λ pages. floor_pages pages (pixel_key c.args.number c.args.at) t.height t.root) (told_of {D = g.W.Disk} old) (held_of old) (held_of c.colour_at.new.store)))
+    HoldsFirst (λ pages. floor_pages pages (pixel_key c.args.number c.args.at) t.height t.root) (told_of {D = g.W.Disk} old) (held_of old)
+    (held_of c.colour_at.new.store)))
     tree c.colour_at.ensures.held
 
 pub returns-clause-again : goal.returns-clause-again
@@ -32,5 +34,6 @@ returns-clause-again g c =
     let tree : c.tree_of.result ≡ tree_in old.work = c.tree_of.ensures ∙ ap tree_in c.head-head.ensures.work in
     subst
     (λ (t : Tree). (rs : List Record) → IsTree (told_of {D = g.W.Disk} old) t rs →
-    ReadsNone (λ pages. floor_pages pages (pixel_key c.args.number c.args.at) t.height t.root) (told_of {D = g.W.Disk} old) (held_of old) (reads_in {D = g.W.Disk} old) (reads_in {D = g.W.Disk} c.colour_at.new.store))
+    ReadsNone (λ pages. floor_pages pages (pixel_key c.args.number c.args.at) t.height t.root) (told_of {D = g.W.Disk} old) (held_of old)
+    (reads_in {D = g.W.Disk} old) (reads_in {D = g.W.Disk} c.colour_at.new.store))
     tree c.colour_at.ensures.again

@@ -11,9 +11,11 @@ pub returns-clause-list : goal.returns-clause-list
 returns-clause-list g c =
     if_ok _ _ c.read_list.result (λ l h grid has.
     raster_as grid c.head-head.result.level c.args.book.now.work.level l (ap (λ (k : Head). k.level) c.head-head.ensures.work)
-    (h grid (has_as (told_of {D = g.W.Disk} c.args.book.now) c.args.number grid c.head-head.result c.args.book.now.work c.tree_of.result c.head-head.ensures.work c.tree_of.ensures has))) c.read_list.ensures.list
+    (h grid (has_as (told_of {D = g.W.Disk} c.args.book.now) c.args.number grid c.head-head.result c.args.book.now.work c.tree_of.result
+    c.head-head.ensures.work c.tree_of.ensures has))) c.read_list.ensures.list
 
 pub returns-clause-sound : goal.returns-clause-sound
 returns-clause-sound g c =
     if_err _ _ c.read_list.result (λ e h grid least has.
-    h grid (has_as (told_of {D = g.W.Disk} c.args.book.now) c.args.number grid c.head-head.result c.args.book.now.work c.tree_of.result c.head-head.ensures.work c.tree_of.ensures has)) c.read_list.ensures.sound
+    h grid (has_as (told_of {D = g.W.Disk} c.args.book.now) c.args.number grid c.head-head.result c.args.book.now.work c.tree_of.result
+    c.head-head.ensures.work c.tree_of.ensures has)) c.read_list.ensures.sound

@@ -25,7 +25,14 @@ items-preserved c =
       level = c.in_ok-item.ensures.level ∙ c.items.invariant.level;
       given = (
         so.0 ++ given.group ∷ [],
-        omega (arith, length-append so.0 (given.group ∷ []), so.1, ap length c.in_ok-push.ensures.items, length-append c.items.items.items (c.in-Some.item ∷ [])),
+        omega (
+          arith,
+          length-append so.0 (given.group ∷ []),
+          so.1,
+          ap length c.in_ok-push.ensures.items,
+          length-append c.items.items.items
+              (c.in-Some.item ∷ []),
+        ),
         gives_then _ _ _ _ _ _ _ so.2 given.gives,
       );
     }

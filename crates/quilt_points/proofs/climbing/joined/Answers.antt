@@ -17,11 +17,14 @@ use Rattle.quilt_points.proofs.climbing.joined.Goals as goal
 
 pub quarters-q-items-requires-clause-valid : goal.quarters-q-items-requires-clause-valid
 quarters-q-items-requires-clause-valid g c =
-    IsBlock-up c.args.layer.level 12 c.args.up c.args.layer.has_level.1 (subst (IsBlock c.args.layer.level) (sym c.requires.parent) (IsBlock-parent_of c.args.layer.level c.args.leaf.now.block c.requires.block c.requires.inner))
+    IsBlock-up c.args.layer.level 12 c.args.up c.args.layer.has_level.1
+    (subst (IsBlock c.args.layer.level) (sym c.requires.parent)
+    (IsBlock-parent_of c.args.layer.level c.args.leaf.now.block c.requires.block c.requires.inner))
 
 pub loop-q-init : goal.loop-q-init
 loop-q-init g c = record {
-  all = λ points p label h some way. subst (λ (l : List Point). AreOfAll (finmap.remove points p) (λ q. true) [] (entries_of l)) (sym c.new-all.ensures.items) (all_none (finmap.remove points p) (λ q. true));
+  all = λ points p label h some way. subst (λ (l : List Point). AreOfAll (finmap.remove points p) (λ q. true) [] (entries_of l))
+      (sym c.new-all.ensures.items) (all_none (finmap.remove points p) (λ q. true));
   pixels = λ k d lt. let none = ap length c.new-all.ensures.items in absurd (omega arith);
   faults = omega arith;
   size = refl;
@@ -33,13 +36,16 @@ loop-q-init g c = record {
 
 pub add_quarter-requires-clause-block : goal.add_quarter-requires-clause-block
 add_quarter-requires-clause-block g c =
-    let hb = subst (IsBlock c.args.layer.level) (sym c.requires.parent) (IsBlock-parent_of c.args.layer.level c.args.leaf.now.block c.requires.block c.requires.inner) in
+    let hb = subst (IsBlock c.args.layer.level) (sym c.requires.parent)
+    (IsBlock-parent_of c.args.layer.level c.args.leaf.now.block c.requires.block c.requires.inner) in
     let pos = side_pos c.args.layer.level c.args.leaf.now.block c.requires.block in
     let twice = ap (λ (b : Block). b.side) c.requires.parent in
-    (quarter_at c.args.layer.level c.args.up c.quarters-q-items.result c.loop-q.q-index (record { y = 0; x = 0; side = 0 }) hb (omega arith) c.quarters-q-items.ensures.value c.loop-q-test.true).block
+    (quarter_at c.args.layer.level c.args.up c.quarters-q-items.result c.loop-q.q-index (record { y = 0; x = 0; side = 0 }) hb
+    (omega arith) c.quarters-q-items.ensures.value c.loop-q-test.true).block
 
 pub returns-in-Err-clause-sound : goal.returns-in-Err-clause-sound
-returns-in-Err-clause-sound g c points h = c.in-Err.ensures.sound points (has_along _ _ c.args.tree.now c.args.layer.number c.args.layer.level c.args.layer.bucket points c.loop-q.invariant.told h)
+returns-in-Err-clause-sound g c points h =
+    c.in-Err.ensures.sound points (has_along _ _ c.args.tree.now c.args.layer.number c.args.layer.level c.args.layer.bucket points c.loop-q.invariant.told h)
 
 pub returns-in-Ok-false-clause-none : goal.returns-in-Ok-false-clause-none
 returns-in-Ok-false-clause-none g c _ points p label h some way =
@@ -48,17 +54,27 @@ returns-in-Ok-false-clause-none g c _ points p label h some way =
     let four = ap length are in
     let lt = c.loop-q-test.true in
     ap (holds_few c.args.layer.bucket (finmap.remove points p)) c.requires.parent
-    ∙ way_fails c.args.layer.level c.args.layer.bucket points p label some c.args.leaf.now.block c.args.leaf.now.points.items way c.requires.inner (get_or c.quarters-q-items.result c.loop-q.q-index (record { y = 0; x = 0; side = 0 }))
-    (subst (λ (l : List Block). Contains l (get_or c.quarters-q-items.result c.loop-q.q-index (record { y = 0; x = 0; side = 0 }))) are (member_at c.quarters-q-items.result c.loop-q.q-index (record { y = 0; x = 0; side = 0 }) (omega arith))) o.0 (o.1 points (has_along _ _ c.args.tree.now c.args.layer.number c.args.layer.level c.args.layer.bucket points c.loop-q.invariant.told h))
+    ∙ way_fails c.args.layer.level c.args.layer.bucket points p label some c.args.leaf.now.block c.args.leaf.now.points.items way c.requires.inner
+    (get_or c.quarters-q-items.result c.loop-q.q-index (record { y = 0; x = 0; side = 0 }))
+    (subst (λ (l : List Block). Contains l (get_or c.quarters-q-items.result c.loop-q.q-index (record { y = 0; x = 0; side = 0 }))) are
+    (member_at c.quarters-q-items.result c.loop-q.q-index (record { y = 0; x = 0; side = 0 }) (omega arith))) o.0
+    (o.1 points (has_along _ _ c.args.tree.now c.args.layer.number c.args.layer.level c.args.layer.bucket points c.loop-q.invariant.told h))
 
 pub loop-q-preserved : goal.loop-q-preserved
 loop-q-preserved g c =
     let are = c.quarters-q-items.ensures.value ∙ ap quarters_of c.requires.parent in
     record {
       all = λ points p label h some way.
-          way_next c.args.layer.level c.args.layer.bucket points p label some c.args.leaf.now.block c.args.leaf.now.points.items way c.requires.inner c.quarters-q-items.result are c.loop-q.q-index (record { y = 0; x = 0; side = 0 }) c.loop-q-test.true c.loop-q.all.items c.add_quarter.new.all.items
+          way_next c.args.layer.level c.args.layer.bucket points p label some c.args.leaf.now.block c.args.leaf.now.points.items way c.requires.inner
+          c.quarters-q-items.result are c.loop-q.q-index (record { y = 0; x = 0; side = 0 }) c.loop-q-test.true c.loop-q.all.items
+          c.add_quarter.new.all.items
           (λ e. (c.in-Ok-true.ensures.leaf e).1)
-          (λ other. let a = c.in-Ok-true.ensures.added other c.in-Ok-true.field-0-test in (a.0, a.1, a.2 points (has_along _ _ c.args.tree.now c.args.layer.number c.args.layer.level c.args.layer.bucket points c.loop-q.invariant.told h)))
+          (λ other. let a = c.in-Ok-true.ensures.added other c.in-Ok-true.field-0-test in (
+            a.0,
+            a.1,
+            a.2 points (has_along _ _ c.args.tree.now c.args.layer.number c.args.layer.level c.args.layer.bucket points
+                c.loop-q.invariant.told h),
+          ))
           (c.loop-q.invariant.all points p label h some way);
       pixels = c.in-Ok-true.ensures.pixels;
       faults = let m = c.loop-q.invariant.faults in let n = c.in-Ok-true.ensures.cause.later in omega arith;
@@ -72,5 +88,6 @@ loop-q-preserved g c =
 pub returns-clause-all : goal.returns-clause-all
 returns-clause-all g c points p label h some way =
     subst (λ (b : Block). AreIn (finmap.remove points p) b (entries_of c.loop-q.all.items)) (sym c.requires.parent)
-    (way_all c.args.layer.level c.args.layer.bucket points p label some c.args.leaf.now.block c.args.leaf.now.points.items way c.requires.inner c.quarters-q-items.result (c.quarters-q-items.ensures.value ∙ ap quarters_of c.requires.parent) c.loop-q.q-index c.loop-q-test.false c.loop-q.all.items
+    (way_all c.args.layer.level c.args.layer.bucket points p label some c.args.leaf.now.block c.args.leaf.now.points.items way c.requires.inner
+    c.quarters-q-items.result (c.quarters-q-items.ensures.value ∙ ap quarters_of c.requires.parent) c.loop-q.q-index c.loop-q-test.false c.loop-q.all.items
     (c.loop-q.invariant.all points p label h some way))

@@ -10,7 +10,10 @@ use Rattle.quilt_points.proofs.climbing.joined.Given as goal
 
 abbrev pub invariant-loop-q : goal.invariant-loop-q
 invariant-loop-q g l = record {
-  all : (points : PointMap) (p : Pixel) (label : ℕ) → HasPoints (g.S.PageStore.told l.initial.store) l.tree l.layer.number l.layer.level l.layer.bucket points → finmap.get points p ≡ Some label → IsOnWay l.layer.level l.layer.bucket points p l.leaf.block l.leaf.points.items → AreOfAll (finmap.remove points p) (λ q. true) (take l.q-index l.q-items) (entries_of l.all.items);
+  all : (points : PointMap) (p : Pixel) (label : ℕ)
+      → HasPoints (g.S.PageStore.told l.initial.store) l.tree l.layer.number l.layer.level l.layer.bucket points → finmap.get points p ≡ Some label
+      → IsOnWay l.layer.level l.layer.bucket points p l.leaf.block l.leaf.points.items
+      → AreOfAll (finmap.remove points p) (λ q. true) (take l.q-index l.q-items) (entries_of l.all.items);
   pixels : All (λ p. is_pixel l.layer.level p.at ≡ true) l.all.items;
   faults : g.S.PageStore.faults l.initial.store ≤ g.S.PageStore.faults l.store;
   size : g.S.PageStore.size l.store ≡ g.S.PageStore.size l.initial.store;

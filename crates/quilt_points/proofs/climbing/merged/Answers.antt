@@ -28,19 +28,25 @@ returns-then-not-are_few-clause-last g c _ points p label h some way =
     way_last c.args.layer.level c.args.layer.bucket points p label some c.args.leaf.now.block c.args.leaf.now.points.items way (λ lt.
     way_many c.args.layer.level c.args.layer.bucket points p label some c.args.leaf.now.block c.args.leaf.now.points.items way lt c.in-Ok-Some.points.items
     (subst (λ (b : Block). AreIn (finmap.remove points p) b (entries_of c.in-Ok-Some.points.items)) c.in-Some.ensures.value
-    (if_some_at c.in-Ok-Some.field-0 _ c.in-Ok-Some.points c.in-Ok-Some.field-0-is c.in-Ok-Some.ensures.all points p label h some way)) (subst (λ (l : List Point). c.args.layer.bucket < length l) c.deref.ensures.value (c.are_few.ensures.no c.if-not-are_few.true)))
+    (if_some_at c.in-Ok-Some.field-0 _ c.in-Ok-Some.points c.in-Ok-Some.field-0-is c.in-Ok-Some.ensures.all points p label h some way))
+    (subst (λ (l : List Point). c.args.layer.bucket < length l) c.deref.ensures.value (c.are_few.ensures.no c.if-not-are_few.true)))
 
 pub returns-in-Ok-None-clause-last : goal.returns-in-Ok-None-clause-last
 returns-in-Ok-None-clause-last g c _ points p label h some way =
     way_last c.args.layer.level c.args.layer.bucket points p label some c.args.leaf.now.block c.args.leaf.now.points.items way (λ lt.
-    ap (holds_few c.args.layer.bucket (finmap.remove points p)) (sym c.in-Some.ensures.value) ∙ c.in-Ok-None.ensures.none c.in-Ok-None.field-0-is points p label h some way)
+    ap (holds_few c.args.layer.bucket (finmap.remove points p)) (sym c.in-Some.ensures.value)
+    ∙ c.in-Ok-None.ensures.none c.in-Ok-None.field-0-is points p label h some way)
 
 pub returns-else-not-are_few-clause-up : goal.returns-else-not-are_few-clause-up
 returns-else-not-are_few-clause-up g c points p label h some way =
     subst (λ (b : Block). IsOnWay c.args.layer.level c.args.layer.bucket points p b c.in-Ok-Some.points.items) (sym c.in-Some.ensures.value)
-    (way_up c.args.layer.level c.args.layer.bucket points p label some c.args.leaf.now.block c.args.leaf.now.points.items way (inner_from c.args.layer.level c.args.leaf.now.block c.requires.block (λ e. true_false (c.in-Some.ensures.whole.1 e))) c.in-Ok-Some.points.items
+    (way_up c.args.layer.level c.args.layer.bucket points p label some c.args.leaf.now.block c.args.leaf.now.points.items way
+    (inner_from c.args.layer.level c.args.leaf.now.block c.requires.block (λ e. true_false (c.in-Some.ensures.whole.1 e))) c.in-Ok-Some.points.items
     (subst (λ (b : Block). AreIn (finmap.remove points p) b (entries_of c.in-Ok-Some.points.items)) c.in-Some.ensures.value
-    (if_some_at c.in-Ok-Some.field-0 _ c.in-Ok-Some.points c.in-Ok-Some.field-0-is c.in-Ok-Some.ensures.all points p label h some way)) (subst (λ (l : List Point). length l ≤ c.args.layer.bucket) c.deref.ensures.value (c.are_few.ensures.yes c.if-not-are_few.false)))
+    (if_some_at c.in-Ok-Some.field-0 _ c.in-Ok-Some.points c.in-Ok-Some.field-0-is c.in-Ok-Some.ensures.all points p label h some way))
+    (subst (λ (l : List Point). length l ≤ c.args.layer.bucket) c.deref.ensures.value (c.are_few.ensures.yes c.if-not-are_few.false)))
 
 pub returns-else-not-are_few-clause-block : goal.returns-else-not-are_few-clause-block
-returns-else-not-are_few-clause-block g c = subst (IsBlock c.args.layer.level) (sym c.in-Some.ensures.value) (IsBlock-parent_of c.args.layer.level c.args.leaf.now.block c.requires.block (inner_from c.args.layer.level c.args.leaf.now.block c.requires.block (λ e. true_false (c.in-Some.ensures.whole.1 e))))
+returns-else-not-are_few-clause-block g c = subst (IsBlock c.args.layer.level) (sym c.in-Some.ensures.value)
+    (IsBlock-parent_of c.args.layer.level c.args.leaf.now.block c.requires.block
+    (inner_from c.args.layer.level c.args.leaf.now.block c.requires.block (λ e. true_false (c.in-Some.ensures.whole.1 e))))

@@ -5,7 +5,8 @@ use Rattle.quilt_points.proofs.Finds.{has_along, if_some_at}
 use Rattle.quilt_points.proofs.climbing.topmost.Goals as goal
 
 pub returns-in-Err-clause-sound : goal.returns-in-Err-clause-sound
-returns-in-Err-clause-sound g c points h = c.in-Err.ensures.sound points (has_along _ _ c.args.tree.now c.args.layer.number c.args.layer.level c.args.layer.bucket points c.climb.invariant.told h)
+returns-in-Err-clause-sound g c points h =
+    c.in-Err.ensures.sound points (has_along _ _ c.args.tree.now c.args.layer.number c.args.layer.level c.args.layer.bucket points c.climb.invariant.told h)
 
 pub climb-smaller : goal.climb-smaller
 climb-smaller g c =
@@ -18,7 +19,9 @@ climb-smaller g c =
 pub climb-preserved : goal.climb-preserved
 climb-preserved g c = record {
   way = λ points p label h some way.
-      if_some_at c.in-Ok-Some.field-0 _ c.in-Ok-Some.up c.in-Ok-Some.field-0-is c.in-Ok-Some.ensures.up points p label (has_along _ _ c.args.tree.now c.args.layer.number c.args.layer.level c.args.layer.bucket points c.climb.invariant.told h) some (c.climb.invariant.way points p label h some way);
+      if_some_at c.in-Ok-Some.field-0 _ c.in-Ok-Some.up c.in-Ok-Some.field-0-is c.in-Ok-Some.ensures.up points p label
+      (has_along _ _ c.args.tree.now c.args.layer.number c.args.layer.level c.args.layer.bucket points c.climb.invariant.told h) some
+      (c.climb.invariant.way points p label h some way);
   block = if_some_at c.in-Ok-Some.field-0 _ c.in-Ok-Some.up c.in-Ok-Some.field-0-is c.in-Ok-Some.ensures.block;
   pixels = if_some_at c.in-Ok-Some.field-0 _ c.in-Ok-Some.up c.in-Ok-Some.field-0-is c.in-Ok-Some.ensures.pixels;
   faults = let m = c.climb.invariant.faults in let n = c.in-Ok-Some.ensures.cause.later in omega arith;
@@ -31,4 +34,6 @@ climb-preserved g c = record {
 
 pub returns-in-Ok-None-clause-last : goal.returns-in-Ok-None-clause-last
 returns-in-Ok-None-clause-last g c points p label h some way =
-    c.in-Ok-None.ensures.last c.in-Ok-None.field-0-is points p label (has_along _ _ c.args.tree.now c.args.layer.number c.args.layer.level c.args.layer.bucket points c.climb.invariant.told h) some (c.climb.invariant.way points p label h some way)
+    c.in-Ok-None.ensures.last c.in-Ok-None.field-0-is points p label
+    (has_along _ _ c.args.tree.now c.args.layer.number c.args.layer.level c.args.layer.bucket points c.climb.invariant.told h) some
+    (c.climb.invariant.way points p label h some way)

@@ -12,7 +12,10 @@ decreases-climb g l = 4096 - l.top.block.side
 
 abbrev pub invariant-climb : goal.invariant-climb
 invariant-climb g l = record {
-  way : (points : PointMap) (p : Pixel) (label : ℕ) → HasPoints (g.S.PageStore.told l.initial.store) l.tree l.layer.number l.layer.level l.layer.bucket points → finmap.get points p ≡ Some label → IsOnWay l.layer.level l.layer.bucket points p l.initial.top.block l.initial.top.points.items → IsOnWay l.layer.level l.layer.bucket points p l.top.block l.top.points.items;
+  way : (points : PointMap) (p : Pixel) (label : ℕ)
+      → HasPoints (g.S.PageStore.told l.initial.store) l.tree l.layer.number l.layer.level l.layer.bucket points → finmap.get points p ≡ Some label
+      → IsOnWay l.layer.level l.layer.bucket points p l.initial.top.block l.initial.top.points.items
+      → IsOnWay l.layer.level l.layer.bucket points p l.top.block l.top.points.items;
   block : IsBlock l.layer.level l.top.block;
   pixels : All (λ p. is_pixel l.layer.level p.at ≡ true) l.top.points.items;
   faults : g.S.PageStore.faults l.initial.store ≤ g.S.PageStore.faults l.store;

@@ -13,7 +13,8 @@ invariant-loop-code g l = record {
   long : length l.counts ≡ 13;
   most : (k : ℕ) → get_or l.counts k 0 ≤ l.code;
   seen : (points : PointMap) → HasPoints (g.S.PageStore.told l.initial.store) l.tree l.layer l.level l.bucket points
-      → (s : AreSeen l.level l.bucket points l.code l.counts) × Tells (λ old new. new ≤ old + 6 * length s.blocks) (g.S.PageStore.reads l.initial.store) (g.S.PageStore.reads l.store);
+      → (s : AreSeen l.level l.bucket points l.code l.counts)
+      × Tells (λ old new. new ≤ old + 6 * length s.blocks) (g.S.PageStore.reads l.initial.store) (g.S.PageStore.reads l.store);
   faults : g.S.PageStore.faults l.initial.store ≤ g.S.PageStore.faults l.store;
   size : g.S.PageStore.size l.store ≡ g.S.PageStore.size l.initial.store;
   told : g.S.PageStore.told l.store ≡ g.S.PageStore.told l.initial.store;

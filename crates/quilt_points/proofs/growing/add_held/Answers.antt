@@ -9,10 +9,13 @@ pub returns-then-is_empty : goal.returns-then-is_empty
 returns-then-is_empty c =
     c.in_ok-push.ensures.items ∙ ap (λ (l : List Record). c.args.records.now.items ++ l)
     (ap (λ (r : Record). r ∷ []) (c.point_record.ensures.written [])
-    ∙ sym (none_held c.args.layer.level c.args.layer.bucket c.args.layer.number c.args.b c.args.points.now (eqb-true (length c.args.points.now) 0 (sym c.if-is_empty.ensures))))
+    ∙ sym (none_held c.args.layer.level c.args.layer.bucket c.args.layer.number c.args.b c.args.points.now
+    (eqb-true (length c.args.points.now) 0 (sym c.if-is_empty.ensures))))
 
 pub returns : goal.returns
 returns c =
     on_ok_weaker c.add_points.result
-    (λ is. is ∙ ap (λ (l : List Record). c.args.records.now.items ++ l) (some_held c.args.layer.level c.args.layer.bucket c.args.layer.number c.args.b c.args.points.now (nonzero (length c.args.points.now) c.if-is_empty.ensures)))
+    (λ is. is ∙ ap (λ (l : List Record). c.args.records.now.items ++ l)
+    (some_held c.args.layer.level c.args.layer.bucket c.args.layer.number c.args.b c.args.points.now
+    (nonzero (length c.args.points.now) c.if-is_empty.ensures)))
     c.add_points.ensures

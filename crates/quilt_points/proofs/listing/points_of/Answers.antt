@@ -12,12 +12,16 @@ pub returns-in-Ok-clause-read : goal.returns-in-Ok-clause-read
 returns-in-Ok-clause-read g c =
     IfOk-weaker c.points_said.result _ _ (λ o f points h. f points h.spelled.valid
     (subst (AreRecordsOf c.args.layer.level c.args.layer.bucket c.args.layer.number points c.args.b) (sym c.deref.ensures.value)
-    (rows_read (g.S.PageStore.told c.args.store.now) c.args.tree.now c.args.layer.number c.args.layer.level c.args.layer.bucket points c.args.b _ _ c.in-Ok.records.items _
-    c.args.layer.has_level.1 c.requires.block (ap (λ (r : Record). r.key) (c.point_record.ensures.written [])) refl c.from.ensures c.in-Ok.ensures.range h))) c.points_said.ensures.read
+    (rows_read (g.S.PageStore.told c.args.store.now) c.args.tree.now c.args.layer.number c.args.layer.level c.args.layer.bucket points c.args.b _ _
+    c.in-Ok.records.items _
+    c.args.layer.has_level.1 c.requires.block (ap (λ (r : Record). r.key) (c.point_record.ensures.written []))
+    refl c.from.ensures c.in-Ok.ensures.range h))) c.points_said.ensures.read
 
 pub returns-in-Ok-clause-sound : goal.returns-in-Ok-clause-sound
 returns-in-Ok-clause-sound g c =
     IfErr-weaker c.points_said.result _ _ (λ o f points h. f points h.spelled.valid
     (subst (AreRecordsOf c.args.layer.level c.args.layer.bucket c.args.layer.number points c.args.b) (sym c.deref.ensures.value)
-    (rows_read (g.S.PageStore.told c.args.store.now) c.args.tree.now c.args.layer.number c.args.layer.level c.args.layer.bucket points c.args.b _ _ c.in-Ok.records.items _
-    c.args.layer.has_level.1 c.requires.block (ap (λ (r : Record). r.key) (c.point_record.ensures.written [])) refl c.from.ensures c.in-Ok.ensures.range h))) c.points_said.ensures.sound
+    (rows_read (g.S.PageStore.told c.args.store.now) c.args.tree.now c.args.layer.number c.args.layer.level c.args.layer.bucket points c.args.b _ _
+    c.in-Ok.records.items _
+    c.args.layer.has_level.1 c.requires.block (ap (λ (r : Record). r.key) (c.point_record.ensures.written []))
+    refl c.from.ensures c.in-Ok.ensures.range h))) c.points_said.ensures.sound

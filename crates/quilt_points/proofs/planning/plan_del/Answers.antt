@@ -10,7 +10,8 @@ use Rattle.quilt_points.proofs.planning.plan_del.Goals as goal
 
 pub returns-in-None-clause-none : goal.returns-in-None-clause-none
 returns-in-None-clause-none g c points h =
-    let free = free_from c.args.level c.args.bucket points c.in-Ok.leaf.block c.in-Ok.leaf.points.items c.args.at (c.in-Ok.ensures.read points h).are c.in-Ok.ensures.holds
+    let free = free_from c.args.level c.args.bucket points c.in-Ok.leaf.block c.in-Ok.leaf.points.items c.args.at
+    (c.in-Ok.ensures.read points h).are c.in-Ok.ensures.holds
     (λ p m e. c.in-None.ensures.none refl p (subst (λ (l : List Point). Contains l p) (sym c.deref.ensures.value) m) e) in
     (λ _. is_none_from (finmap.get points c.args.at) free, λ _. refl)
 
@@ -18,20 +19,25 @@ pub returns-in-Err-take_from-clause-sound : goal.returns-in-Err-take_from-clause
 returns-in-Err-take_from-clause-sound g c points h =
     let read = c.in-Ok.ensures.read points h in
     let found = c.in-Some.ensures.some in
-    c.in-Err-take_from.ensures.sound points (has_along _ _ c.args.tree.now c.args.layer c.args.level c.args.bucket points c.in-Ok.ensures.told h) read (ap (in_block c.in-Ok.leaf.block) found.1 ∙ c.in-Ok.ensures.holds)
-    (held_point points c.in-Ok.leaf.block c.in-Ok.leaf.points.items c.in-Some.p read.are (subst (λ (l : List Point). Contains l c.in-Some.p) c.deref.ensures.value found.0))
+    c.in-Err-take_from.ensures.sound points (has_along _ _ c.args.tree.now c.args.layer c.args.level c.args.bucket points c.in-Ok.ensures.told h)
+    read (ap (in_block c.in-Ok.leaf.block) found.1 ∙ c.in-Ok.ensures.holds)
+    (held_point points c.in-Ok.leaf.block c.in-Ok.leaf.points.items c.in-Some.p read.are
+    (subst (λ (l : List Point). Contains l c.in-Some.p) c.deref.ensures.value found.0))
 
 pub returns-in-Ok-take_from-clause-plan : goal.returns-in-Ok-take_from-clause-plan
 returns-in-Ok-take_from-clause-plan g c points h =
     let read = c.in-Ok.ensures.read points h in
     let found = c.in-Some.ensures.some in
     subst (λ (p : _). IsPlan c.args.level c.args.layer c.args.bucket points (finmap.remove points p) c.in-Ok-take_from.edits) found.1
-    (c.in-Ok-take_from.ensures.plan points (has_along _ _ c.args.tree.now c.args.layer c.args.level c.args.bucket points c.in-Ok.ensures.told h) read (ap (in_block c.in-Ok.leaf.block) found.1 ∙ c.in-Ok.ensures.holds)
-    (held_point points c.in-Ok.leaf.block c.in-Ok.leaf.points.items c.in-Some.p read.are (subst (λ (l : List Point). Contains l c.in-Some.p) c.deref.ensures.value found.0)))
+    (c.in-Ok-take_from.ensures.plan points (has_along _ _ c.args.tree.now c.args.layer c.args.level c.args.bucket points c.in-Ok.ensures.told h) read
+    (ap (in_block c.in-Ok.leaf.block) found.1 ∙ c.in-Ok.ensures.holds)
+    (held_point points c.in-Ok.leaf.block c.in-Ok.leaf.points.items c.in-Some.p read.are
+    (subst (λ (l : List Point). Contains l c.in-Some.p) c.deref.ensures.value found.0)))
 
 pub returns-in-Ok-take_from-clause-none : goal.returns-in-Ok-take_from-clause-none
 returns-in-Ok-take_from-clause-none g c points h =
     let read = c.in-Ok.ensures.read points h in
     let found = c.in-Some.ensures.some in
-    let some = ap (finmap.get points) (sym found.1) ∙ held_point points c.in-Ok.leaf.block c.in-Ok.leaf.points.items c.in-Some.p read.are (subst (λ (l : List Point). Contains l c.in-Some.p) c.deref.ensures.value found.0) in
+    let some = ap (finmap.get points) (sym found.1) ∙ held_point points c.in-Ok.leaf.block c.in-Ok.leaf.points.items c.in-Some.p read.are
+    (subst (λ (l : List Point). Contains l c.in-Some.p) c.deref.ensures.value found.0) in
     (λ e. absurd (false_true (sym e)), λ n. absurd (none_some _ (sym (none_is (finmap.get points c.args.at) n) ∙ some)))

@@ -7,12 +7,21 @@ use Rattle.quilt_points.proofs.planning.plan_put.Goals as goal
 
 pub returns-in-Ok-clause-plan : goal.returns-in-Ok-clause-plan
 returns-in-Ok-clause-plan g c =
-    IfOk-weaker c.put_into.result _ _ (λ o f. if_some_weaker o _ _ (λ edits k points h. k points h.spelled.valid (subst (λ (held : List Point). IsHeld c.args.level c.args.bucket points c.in-Ok.leaf.block held) (sym c.deref.ensures.value) (c.in-Ok.ensures.read points h)) c.in-Ok.ensures.holds) f) c.put_into.ensures.plan
+    IfOk-weaker c.put_into.result _ _
+    (λ o f. if_some_weaker o _ _
+    (λ edits k points h. k points h.spelled.valid
+    (subst (λ (held : List Point). IsHeld c.args.level c.args.bucket points c.in-Ok.leaf.block held) (sym c.deref.ensures.value)
+    (c.in-Ok.ensures.read points h)) c.in-Ok.ensures.holds) f) c.put_into.ensures.plan
 
 pub returns-in-Ok-clause-none : goal.returns-in-Ok-clause-none
 returns-in-Ok-clause-none g c =
-    IfOk-weaker c.put_into.result _ _ (λ o f points h. f points (subst (λ (held : List Point). IsHeld c.args.level c.args.bucket points c.in-Ok.leaf.block held) (sym c.deref.ensures.value) (c.in-Ok.ensures.read points h)) c.in-Ok.ensures.holds) c.put_into.ensures.none
+    IfOk-weaker c.put_into.result _ _
+    (λ o f points h. f points (subst (λ (held : List Point). IsHeld c.args.level c.args.bucket points c.in-Ok.leaf.block held)
+    (sym c.deref.ensures.value) (c.in-Ok.ensures.read points h)) c.in-Ok.ensures.holds) c.put_into.ensures.none
 
 pub returns-in-Ok-clause-sound : goal.returns-in-Ok-clause-sound
 returns-in-Ok-clause-sound g c =
-    IfErr-weaker c.put_into.result _ _ (λ e f points h. f points h.spelled.valid (subst (λ (held : List Point). IsHeld c.args.level c.args.bucket points c.in-Ok.leaf.block held) (sym c.deref.ensures.value) (c.in-Ok.ensures.read points h)) c.in-Ok.ensures.holds) c.put_into.ensures.sound
+    IfErr-weaker c.put_into.result _ _
+    (λ e f points h. f points h.spelled.valid
+    (subst (λ (held : List Point). IsHeld c.args.level c.args.bucket points c.in-Ok.leaf.block held) (sym c.deref.ensures.value)
+    (c.in-Ok.ensures.read points h)) c.in-Ok.ensures.holds) c.put_into.ensures.sound

@@ -25,19 +25,26 @@ returns-in-Ok-None-clause-sound g c points h page e =
 pub returns-in-Some-clause-read : goal.returns-in-Some-clause-read
 returns-in-Some-clause-read g c points h =
     read_same c.args.layer.level c.args.layer.bucket points c.args.at c.block_of.result c.in-Some.b c.in-Some.held c.in-Some.is
-    (around_read (g.S.PageStore.told c.args.store.now) c.args.tree.now c.args.layer.number c.args.layer.level c.args.layer.bucket points c.args.at _ _ c.in-Ok-Some.r c.block_of.result
-    c.args.layer.has_number.0 c.args.layer.has_number.1 c.args.layer.has_level.1 c.requires.in_x c.requires.in_y c.key_behind-k.ensures c.in-Ok-Some.ensures.floor c.in-Ok-Some.field-0-is c.block_of.ensures.one h)
+    (around_read (g.S.PageStore.told c.args.store.now) c.args.tree.now c.args.layer.number c.args.layer.level c.args.layer.bucket points c.args.at _
+    _ c.in-Ok-Some.r c.block_of.result
+    c.args.layer.has_number.0 c.args.layer.has_number.1 c.args.layer.has_level.1 c.requires.in_x c.requires.in_y c.key_behind-k.ensures
+    c.in-Ok-Some.ensures.floor c.in-Ok-Some.field-0-is c.block_of.ensures.one h)
 
 pub returns-in_default-clause-sound : goal.returns-in_default-clause-sound
 returns-in_default-clause-sound g c points h page e =
     let f =
-    around_read (g.S.PageStore.told c.args.store.now) c.args.tree.now c.args.layer.number c.args.layer.level c.args.layer.bucket points c.args.at _ _ c.in-Ok-Some.r c.block_of.result
-    c.args.layer.has_number.0 c.args.layer.has_number.1 c.args.layer.has_level.1 c.requires.in_x c.requires.in_y c.key_behind-k.ensures c.in-Ok-Some.ensures.floor c.in-Ok-Some.field-0-is c.block_of.ensures.one h in
-    false_true (c.if-covers.ensures ∙ read_holds c.args.layer.level c.args.layer.bucket points c.args.at c.block_of.result c.in-Some.b c.in-Some.held c.in-Some.is f)
+    around_read (g.S.PageStore.told c.args.store.now) c.args.tree.now c.args.layer.number c.args.layer.level c.args.layer.bucket points c.args.at _ _
+    c.in-Ok-Some.r c.block_of.result
+    c.args.layer.has_number.0 c.args.layer.has_number.1 c.args.layer.has_level.1 c.requires.in_x c.requires.in_y c.key_behind-k.ensures
+    c.in-Ok-Some.ensures.floor c.in-Ok-Some.field-0-is c.block_of.ensures.one h in
+    false_true (c.if-covers.ensures
+    ∙ read_holds c.args.layer.level c.args.layer.bucket points c.args.at c.block_of.result c.in-Some.b c.in-Some.held c.in-Some.is f)
 
 pub returns-in_default-2-clause-sound : goal.returns-in_default-2-clause-sound
 returns-in_default-2-clause-sound g c points h page e =
     let f =
-    around_read (g.S.PageStore.told c.args.store.now) c.args.tree.now c.args.layer.number c.args.layer.level c.args.layer.bucket points c.args.at _ _ c.in-Ok-Some.r c.block_of.result
-    c.args.layer.has_number.0 c.args.layer.has_number.1 c.args.layer.has_level.1 c.requires.in_x c.requires.in_y c.key_behind-k.ensures c.in-Ok-Some.ensures.floor c.in-Ok-Some.field-0-is c.block_of.ensures.one h in
+    around_read (g.S.PageStore.told c.args.store.now) c.args.tree.now c.args.layer.number c.args.layer.level c.args.layer.bucket points c.args.at _ _
+    c.in-Ok-Some.r c.block_of.result
+    c.args.layer.has_number.0 c.args.layer.has_number.1 c.args.layer.has_level.1 c.requires.in_x c.requires.in_y c.key_behind-k.ensures
+    c.in-Ok-Some.ensures.floor c.in-Ok-Some.field-0-is c.block_of.ensures.one h in
     none_some _ (sym c.in_default.is ∙ f.is)

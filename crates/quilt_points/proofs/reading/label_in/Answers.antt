@@ -8,17 +8,23 @@ returns-in-Err-clause-sound g c points h m t = c.in-Err.ensures.sound h.records 
 
 pub returns-in-Ok-None-clause-label : goal.returns-in-Ok-None-clause-label
 returns-in-Ok-None-clause-label g c points h m t =
-    none_read (g.S.PageStore.told c.args.store.now) c.args.tree.now c.args.layer.number c.args.layer.level c.args.layer.bucket points c.args.b c.args.at _ _ c.args.layer.has_number.0 c.args.layer.has_number.1 c.args.layer.has_level.1 c.requires.bucket (ap (λ (r : Record). r.key) (c.point_record-like.ensures.written []))
+    none_read (g.S.PageStore.told c.args.store.now) c.args.tree.now c.args.layer.number c.args.layer.level c.args.layer.bucket points c.args.b
+    c.args.at _ _ c.args.layer.has_number.0 c.args.layer.has_number.1 c.args.layer.has_level.1 c.requires.bucket
+    (ap (λ (r : Record). r.key) (c.point_record-like.ensures.written []))
     c.in-Ok-None.ensures.value h m c.requires.pixel t c.in-Ok-None.field-0-is
 
 pub returns-in-Some-clause-label : goal.returns-in-Some-clause-label
 returns-in-Some-clause-label g c points h m t =
     label_same points c.args.at c.point_of.result c.in-Some.p c.in-Some.is
-    (label_read (g.S.PageStore.told c.args.store.now) c.args.tree.now c.args.layer.number c.args.layer.level c.args.layer.bucket points c.args.b c.args.at _ _ c.args.layer.has_number.0 c.args.layer.has_number.1 c.args.layer.has_level.1 c.requires.bucket (ap (λ (r : Record). r.key) (c.point_record-like.ensures.written []))
+    (label_read (g.S.PageStore.told c.args.store.now) c.args.tree.now c.args.layer.number c.args.layer.level c.args.layer.bucket points c.args.b
+    c.args.at _ _ c.args.layer.has_number.0 c.args.layer.has_number.1 c.args.layer.has_level.1 c.requires.bucket
+    (ap (λ (r : Record). r.key) (c.point_record-like.ensures.written []))
     c.in-Ok-Some.ensures.value h m c.requires.pixel t c.in-Ok-Some.value c.in-Ok-Some.field-0-is c.point_of.result c.point_of.ensures)
 
 pub returns-in-None-clause-sound : goal.returns-in-None-clause-sound
 returns-in-None-clause-sound g c points h m t page e =
-    let i = label_read (g.S.PageStore.told c.args.store.now) c.args.tree.now c.args.layer.number c.args.layer.level c.args.layer.bucket points c.args.b c.args.at _ _ c.args.layer.has_number.0 c.args.layer.has_number.1 c.args.layer.has_level.1 c.requires.bucket (ap (λ (r : Record). r.key) (c.point_record-like.ensures.written []))
+    let i = label_read (g.S.PageStore.told c.args.store.now) c.args.tree.now c.args.layer.number c.args.layer.level c.args.layer.bucket points
+    c.args.b c.args.at _ _ c.args.layer.has_number.0 c.args.layer.has_number.1 c.args.layer.has_level.1 c.requires.bucket
+    (ap (λ (r : Record). r.key) (c.point_record-like.ensures.written []))
     c.in-Ok-Some.ensures.value h m c.requires.pixel t c.in-Ok-Some.value c.in-Ok-Some.field-0-is c.point_of.result c.point_of.ensures in
     none_some _ (sym c.in-None.is ∙ i.is)

@@ -21,31 +21,44 @@ returns-then-has_common-clause-taken g c _ old h =
     let w = c.has_common.ensures.yes c.if-has_common.true in (
       w.0,
       taken_there c.args.news.now c.count_before-count.result w.0 w.2,
-      taken_from old c.in-Ok.leaf.block c.in-Ok.leaf.points.items (w.0).at (c.in-Ok.ensures.read old h).are w.1 (subst (λ (l : List Point). Contains l w.1) c.deref.ensures.value w.3) w.4,
+      taken_from old c.in-Ok.leaf.block c.in-Ok.leaf.points.items (w.0).at (c.in-Ok.ensures.read old h).are w.1
+          (subst (λ (l : List Point). Contains l w.1) c.deref.ensures.value w.3) w.4,
     )
 
 pub returns-clause-count : goal.returns-clause-count
-returns-clause-count g c =
-    (some_taken c.args.layer.level c.args.layer.has_level.1 c.args.news.now c.requires.order c.requires.pixels c.in-Ok.leaf.block c.in-Ok.ensures.block _ c.in-Ok.ensures.holds c.end_of.result c.end_of.ensures.value c.count_before-count.result c.count_before-count.ensures.most c.count_before-count.ensures.before c.count_before-count.ensures.behind c.requires.some, c.count_before-count.ensures.most)
+returns-clause-count g c = (
+  some_taken c.args.layer.level c.args.layer.has_level.1 c.args.news.now c.requires.order c.requires.pixels c.in-Ok.leaf.block
+      c.in-Ok.ensures.block _ c.in-Ok.ensures.holds c.end_of.result c.end_of.ensures.value c.count_before-count.result
+      c.count_before-count.ensures.most c.count_before-count.ensures.before c.count_before-count.ensures.behind
+      c.requires.some,
+  c.count_before-count.ensures.most,
+)
 
 pub returns-clause-added : goal.returns-clause-added
 returns-clause-added g c old h =
     let is = c.in-Ok.ensures.read old h in
-    let inside = taken_inside c.args.layer.level c.args.layer.has_level.1 c.args.news.now c.requires.order c.requires.pixels c.in-Ok.leaf.block c.in-Ok.ensures.block _ c.in-Ok.ensures.holds c.end_of.result c.end_of.ensures.value c.count_before-count.result c.count_before-count.ensures.most c.count_before-count.ensures.before c.count_before-count.ensures.behind in
+    let inside = taken_inside c.args.layer.level c.args.layer.has_level.1 c.args.news.now c.requires.order c.requires.pixels c.in-Ok.leaf.block
+    c.in-Ok.ensures.block _ c.in-Ok.ensures.holds c.end_of.result c.end_of.ensures.value c.count_before-count.result
+    c.count_before-count.ensures.most c.count_before-count.ensures.before c.count_before-count.ensures.behind in
     record {
       block = c.in-Ok.leaf.block;
       held = c.in-Ok.leaf.points.items;
       is = is;
       inside = inside;
-      outside = left_outside c.args.layer.level c.args.layer.has_level.1 c.args.news.now c.requires.order c.requires.pixels c.in-Ok.leaf.block c.in-Ok.ensures.block _ c.in-Ok.ensures.holds c.end_of.result c.end_of.ensures.value c.count_before-count.result c.count_before-count.ensures.most c.count_before-count.ensures.before c.count_before-count.ensures.behind;
+      outside = left_outside c.args.layer.level c.args.layer.has_level.1 c.args.news.now c.requires.order c.requires.pixels c.in-Ok.leaf.block
+          c.in-Ok.ensures.block _ c.in-Ok.ensures.holds c.end_of.result c.end_of.ensures.value c.count_before-count.result
+          c.count_before-count.ensures.most c.count_before-count.ensures.before c.count_before-count.ensures.behind;
       free = λ p cp.
           free_from c.args.layer.level c.args.layer.bucket old c.in-Ok.leaf.block c.in-Ok.leaf.points.items p.at is.are (inside p cp)
           (λ q cq e. c.has_common.ensures.no c.if-has_common.false p q cp (subst (λ (l : List Point). Contains l q) (sym c.deref.ensures.value) cq) e);
       gone = c.in-Ok-add_growth.ensures.without
-          ∙ ap (λ (l : List Point). c.args.growth.now.without.items ++ map (block_record c.args.layer.level c.args.layer.bucket c.args.layer.number) (gone_of c.args.layer.bucket c.in-Ok.leaf.block (entries_of l) (entries_of (take c.count_before-count.result c.args.news.now))))
+          ∙ ap (λ (l : List Point). c.args.growth.now.without.items ++ map (block_record c.args.layer.level c.args.layer.bucket c.args.layer.number)
+          (gone_of c.args.layer.bucket c.in-Ok.leaf.block (entries_of l) (entries_of (take c.count_before-count.result c.args.news.now))))
           c.deref-in-Ok.ensures.value;
-      come = c.in-Ok-add_growth.ensures.with (c.args.layer.level - depth c.args.layer.level c.in-Ok.leaf.block) (level_is c.args.layer.level c.in-Ok.leaf.block c.in-Ok.ensures.block)
+      come = c.in-Ok-add_growth.ensures.with (c.args.layer.level - depth c.args.layer.level c.in-Ok.leaf.block)
+          (level_is c.args.layer.level c.in-Ok.leaf.block c.in-Ok.ensures.block)
           ∙ ap (λ (l : List Point). c.args.growth.now.with.items ++ map (block_record c.args.layer.level c.args.layer.bucket c.args.layer.number)
-          (come_of c.args.layer.bucket (c.args.layer.level - depth c.args.layer.level c.in-Ok.leaf.block) c.in-Ok.leaf.block (entries_of l) (entries_of (take c.count_before-count.result c.args.news.now))))
+          (come_of c.args.layer.bucket (c.args.layer.level - depth c.args.layer.level c.in-Ok.leaf.block) c.in-Ok.leaf.block (entries_of l)
+          (entries_of (take c.count_before-count.result c.args.news.now))))
           c.deref-in-Ok.ensures.value;
     }

@@ -13,8 +13,10 @@ use Rattle.quilt_points.proofs.scattering.grown.Goals as goal
 pub loop-done-init : goal.loop-done-init
 loop-done-init g c = record {
   grown = λ old h.
-      subst (λ (l : List Record). IsGrown c.args.layer.level c.args.layer.number c.args.layer.bucket old [] c.args.news.now l c.new-2.result.items) (sym c.new.ensures.items)
-      (subst (IsGrown c.args.layer.level c.args.layer.number c.args.layer.bucket old [] c.args.news.now []) (sym c.new-2.ensures.items) (grown_none c.args.layer.level c.args.layer.number c.args.layer.bucket old c.args.news.now));
+      subst (λ (l : List Record). IsGrown c.args.layer.level c.args.layer.number c.args.layer.bucket old [] c.args.news.now l c.new-2.result.items)
+      (sym c.new.ensures.items)
+      (subst (IsGrown c.args.layer.level c.args.layer.number c.args.layer.bucket old [] c.args.news.now []) (sym c.new-2.ensures.items)
+      (grown_none c.args.layer.level c.args.layer.number c.args.layer.bucket old c.args.news.now));
   most = omega arith;
   faults = omega arith;
   size = refl;
@@ -25,14 +27,17 @@ loop-done-init g c = record {
 }
 
 pub add_block-requires-clause-order : goal.add_block-requires-clause-order
-add_block-requires-clause-order g c = subst (Rises by_code) (sym (rest_is c.loop-done.done c.args.news.now)) (Rises-drop by_code c.loop-done.done c.args.news.now c.requires.order)
+add_block-requires-clause-order g c =
+    subst (Rises by_code) (sym (rest_is c.loop-done.done c.args.news.now)) (Rises-drop by_code c.loop-done.done c.args.news.now c.requires.order)
 
 pub returns-in-Err-clause-sound : goal.returns-in-Err-clause-sound
-returns-in-Err-clause-sound g c old h = c.in-Err.ensures.sound old (has_along _ _ c.args.tree.now c.args.layer.number c.args.layer.level c.args.layer.bucket old c.loop-done.invariant.told h)
+returns-in-Err-clause-sound g c old h =
+    c.in-Err.ensures.sound old (has_along _ _ c.args.tree.now c.args.layer.number c.args.layer.level c.args.layer.bucket old c.loop-done.invariant.told h)
 
 pub returns-in-Ok-None-clause-taken : goal.returns-in-Ok-None-clause-taken
 returns-in-Ok-None-clause-taken g c _ old h =
-    let w = c.in-Ok-None.ensures.taken c.in-Ok-None.field-0-is old (has_along _ _ c.args.tree.now c.args.layer.number c.args.layer.level c.args.layer.bucket old c.loop-done.invariant.told h) in
+    let w = c.in-Ok-None.ensures.taken c.in-Ok-None.field-0-is old
+    (has_along _ _ c.args.tree.now c.args.layer.number c.args.layer.level c.args.layer.bucket old c.loop-done.invariant.told h) in
     (w.0, dropped_there c.args.news.now c.loop-done.done w.0 (subst (λ (l : List Point). Contains l w.0) (rest_is c.loop-done.done c.args.news.now) w.1), w.2)
 
 pub loop-done-preserved : goal.loop-done-preserved
@@ -46,17 +51,26 @@ loop-done-preserved g c =
     record {
       grown = λ old h.
           let t =
-          subst (λ (l : List Point). IsTaken c.args.layer.level c.args.layer.number c.args.layer.bucket old l c.in-Ok-Some.count c.loop-done.growth.without.items c.add_block.new.growth.without.items c.loop-done.growth.with.items c.add_block.new.growth.with.items)
+          subst (λ (l : List Point). IsTaken c.args.layer.level c.args.layer.number c.args.layer.bucket old l c.in-Ok-Some.count
+          c.loop-done.growth.without.items c.add_block.new.growth.without.items c.loop-done.growth.with.items c.add_block.new.growth.with.items)
           (rest_is c.loop-done.done c.args.news.now)
-          (if_some_at c.in-Ok-Some.field-0 _ c.in-Ok-Some.count c.in-Ok-Some.field-0-is c.in-Ok-Some.ensures.added old (has_along _ _ c.args.tree.now c.args.layer.number c.args.layer.level c.args.layer.bucket old c.loop-done.invariant.told h)) in
-          let alone = entries_apart (take c.in-Ok-Some.count (drop c.loop-done.done c.args.news.now)) (pixels_apart (take c.in-Ok-Some.count (drop c.loop-done.done c.args.news.now))
-          (Rises-take by_code c.in-Ok-Some.count (drop c.loop-done.done c.args.news.now) (Rises-drop by_code c.loop-done.done c.args.news.now c.requires.order))) in
-          subst (λ (l : List Point). IsGrown c.args.layer.level c.args.layer.number c.args.layer.bucket old l (drop (c.loop-done.done + c.in-Ok-Some.count) c.args.news.now) c.add_block.new.growth.without.items c.add_block.new.growth.with.items)
+          (if_some_at c.in-Ok-Some.field-0 _ c.in-Ok-Some.count c.in-Ok-Some.field-0-is c.in-Ok-Some.ensures.added old
+          (has_along _ _ c.args.tree.now c.args.layer.number c.args.layer.level c.args.layer.bucket old c.loop-done.invariant.told h)) in
+          let alone = entries_apart (take c.in-Ok-Some.count (drop c.loop-done.done c.args.news.now))
+          (pixels_apart (take c.in-Ok-Some.count (drop c.loop-done.done c.args.news.now))
+          (Rises-take by_code c.in-Ok-Some.count (drop c.loop-done.done c.args.news.now)
+          (Rises-drop by_code c.loop-done.done c.args.news.now c.requires.order))) in
+          subst (λ (l : List Point). IsGrown c.args.layer.level c.args.layer.number c.args.layer.bucket old l
+          (drop (c.loop-done.done + c.in-Ok-Some.count) c.args.news.now) c.add_block.new.growth.without.items c.add_block.new.growth.with.items)
           (take_further c.loop-done.done c.in-Ok-Some.count c.args.news.now)
-          (subst (λ (l : List Point). IsGrown c.args.layer.level c.args.layer.number c.args.layer.bucket old (take c.loop-done.done c.args.news.now ++ take c.in-Ok-Some.count (drop c.loop-done.done c.args.news.now)) l c.add_block.new.growth.without.items c.add_block.new.growth.with.items)
+          (subst (λ (l : List Point). IsGrown c.args.layer.level c.args.layer.number c.args.layer.bucket old
+          (take c.loop-done.done c.args.news.now ++ take c.in-Ok-Some.count (drop c.loop-done.done c.args.news.now))
+          l c.add_block.new.growth.without.items c.add_block.new.growth.with.items)
           (drop_further c.loop-done.done c.in-Ok-Some.count c.args.news.now)
-          (grown_next c.args.layer.level c.args.layer.number c.args.layer.bucket old (take c.loop-done.done c.args.news.now) (drop c.loop-done.done c.args.news.now) c.loop-done.growth.without.items c.loop-done.growth.with.items
-          c.add_block.new.growth.without.items c.add_block.new.growth.with.items c.in-Ok-Some.count (c.loop-done.invariant.grown old h) t some (omega arith) alone));
+          (grown_next c.args.layer.level c.args.layer.number c.args.layer.bucket old (take c.loop-done.done c.args.news.now)
+          (drop c.loop-done.done c.args.news.now) c.loop-done.growth.without.items c.loop-done.growth.with.items
+          c.add_block.new.growth.without.items c.add_block.new.growth.with.items c.in-Ok-Some.count (c.loop-done.invariant.grown old h) t some
+          (omega arith) alone));
       most = omega arith;
       faults = let m = c.loop-done.invariant.faults in let n = c.in-Ok-Some.ensures.cause.later in omega arith;
       size = c.in-Ok-Some.ensures.size ∙ c.loop-done.invariant.size;
@@ -68,6 +82,8 @@ loop-done-preserved g c =
 
 pub returns-clause-grown : goal.returns-clause-grown
 returns-clause-grown g c old h =
-    subst (λ (l : List Point). IsGrown c.args.layer.level c.args.layer.number c.args.layer.bucket old l [] c.loop-done.growth.without.items c.loop-done.growth.with.items) (take_all c.loop-done.done c.args.news.now (omega arith))
-    (subst (λ (l : List Point). IsGrown c.args.layer.level c.args.layer.number c.args.layer.bucket old (take c.loop-done.done c.args.news.now) l c.loop-done.growth.without.items c.loop-done.growth.with.items) (drop_all c.loop-done.done c.args.news.now (omega arith))
+    subst (λ (l : List Point). IsGrown c.args.layer.level c.args.layer.number c.args.layer.bucket old l
+    [] c.loop-done.growth.without.items c.loop-done.growth.with.items) (take_all c.loop-done.done c.args.news.now (omega arith))
+    (subst (λ (l : List Point). IsGrown c.args.layer.level c.args.layer.number c.args.layer.bucket old (take c.loop-done.done c.args.news.now)
+    l c.loop-done.growth.without.items c.loop-done.growth.with.items) (drop_all c.loop-done.done c.args.news.now (omega arith))
     (c.loop-done.invariant.grown old h))

@@ -13,53 +13,71 @@ use Rattle.quilt_points.proofs.Scatters.{pixels_up, all_new, scatter_can, scatte
 use Rattle.quilt_points.proofs.scattering.plan_scatter.Goals as goal
 
 pub in_order-requires : goal.in_order-requires
-in_order-requires g c = subst (All (λ (p : Point). is_pixel 12 p.at ≡ true)) (sym c.items.ensures) (pixels_up c.args.level c.requires.level.1 c.args.points.now c.requires.pixels)
+in_order-requires g c =
+    subst (All (λ (p : Point). is_pixel 12 p.at ≡ true)) (sym c.items.ensures) (pixels_up c.args.level c.requires.level.1 c.args.points.now c.requires.pixels)
 
 pub grown-requires-clause-pixels : goal.grown-requires-clause-pixels
 grown-requires-clause-pixels g c =
     subst (All (λ (p : Point). is_pixel c.args.level p.at ≡ true)) (sym c.deref.ensures.value)
     (All-permutation (λ (p : Point). is_pixel c.args.level p.at ≡ true) c.args.points.now c.in-Ok-Some.news.items
-    (subst (λ (l : List Point). IsPermutation l c.in-Ok-Some.news.items) c.items.ensures (if_some_at c.in-Ok-Some.field-0 _ c.in-Ok-Some.news c.in-Ok-Some.field-0-is c.in-Ok-Some.ensures.same)) c.requires.pixels)
+    (subst (λ (l : List Point). IsPermutation l c.in-Ok-Some.news.items) c.items.ensures
+    (if_some_at c.in-Ok-Some.field-0 _ c.in-Ok-Some.news c.in-Ok-Some.field-0-is c.in-Ok-Some.ensures.same)) c.requires.pixels)
 
 pub returns-in-Ok-None-grown-clause-none : goal.returns-in-Ok-None-grown-clause-none
 returns-in-Ok-None-grown-clause-none g c old h = (
   λ _ new.
       let w = c.in-Ok-None-grown.ensures.taken c.in-Ok-None-grown.field-0-is old h in
-      let perm = (subst (λ (l : List Point). IsPermutation l c.in-Ok-Some.news.items) c.items.ensures (if_some_at c.in-Ok-Some.field-0 _ c.in-Ok-Some.news c.in-Ok-Some.field-0-is c.in-Ok-Some.ensures.same)) in
-      not_some (finmap.get old (w.0).at) (new.free w.0 ((permuted c.args.points.now c.in-Ok-Some.news.items perm w.0).1 (subst (λ (l : List Point). Contains l w.0) c.deref.ensures.value w.1))) w.2,
+      let perm =
+      (subst (λ (l : List Point). IsPermutation l c.in-Ok-Some.news.items) c.items.ensures
+      (if_some_at c.in-Ok-Some.field-0 _ c.in-Ok-Some.news c.in-Ok-Some.field-0-is c.in-Ok-Some.ensures.same)) in
+      not_some (finmap.get old (w.0).at)
+      (new.free w.0 ((permuted c.args.points.now c.in-Ok-Some.news.items perm w.0).1
+      (subst (λ (l : List Point). Contains l w.0) c.deref.ensures.value w.1))) w.2,
   λ _. refl,
 )
 
 pub returns-in-Err-edits_of-clause-sound : goal.returns-in-Err-edits_of-clause-sound
 returns-in-Err-edits_of-clause-sound g c old h =
     memory_sound c.in-Err-edits_of.e (c.in-Err-edits_of.ensures.memory
-    (scatter_can c.args.level c.args.bucket c.args.layer c.requires.level.1 c.requires.layer (let f = c.ranges.layer.fits in omega arith) old h.spelled.valid c.args.points.now c.in-Ok-Some.news.items
-    (subst (λ (l : List Point). IsPermutation l c.in-Ok-Some.news.items) c.items.ensures (if_some_at c.in-Ok-Some.field-0 _ c.in-Ok-Some.news c.in-Ok-Some.field-0-is c.in-Ok-Some.ensures.same))
+    (scatter_can c.args.level c.args.bucket c.args.layer c.requires.level.1 c.requires.layer (let f = c.ranges.layer.fits in
+    omega arith) old h.spelled.valid c.args.points.now c.in-Ok-Some.news.items
+    (subst (λ (l : List Point). IsPermutation l c.in-Ok-Some.news.items) c.items.ensures
+    (if_some_at c.in-Ok-Some.field-0 _ c.in-Ok-Some.news c.in-Ok-Some.field-0-is c.in-Ok-Some.ensures.same))
     (if_some_at c.in-Ok-Some.field-0 _ c.in-Ok-Some.news c.in-Ok-Some.field-0-is c.in-Ok-Some.ensures.order) c.requires.pixels
-    (subst (All (λ (p : Point). p.label < 2 ^ 32)) c.items.ensures (if_some_at c.in-Ok-Some.field-0 _ c.in-Ok-Some.news c.in-Ok-Some.field-0-is c.in-Ok-Some.ensures.labels))
+    (subst (All (λ (p : Point). p.label < 2 ^ 32)) c.items.ensures
+    (if_some_at c.in-Ok-Some.field-0 _ c.in-Ok-Some.news c.in-Ok-Some.field-0-is c.in-Ok-Some.ensures.labels))
     c.in-Ok-Some-grown.growth.without.items c.in-Ok-Some-grown.growth.with.items
-    (subst (λ (l : List Point). IsGrown c.args.level c.args.layer c.args.bucket old l [] c.in-Ok-Some-grown.growth.without.items c.in-Ok-Some-grown.growth.with.items) c.deref.ensures.value
+    (subst (λ (l : List Point). IsGrown c.args.level c.args.layer c.args.bucket old l
+    [] c.in-Ok-Some-grown.growth.without.items c.in-Ok-Some-grown.growth.with.items) c.deref.ensures.value
     (if_some_at c.in-Ok-Some-grown.field-0 _ c.in-Ok-Some-grown.growth c.in-Ok-Some-grown.field-0-is c.in-Ok-Some-grown.ensures.grown old h))))
 
 pub returns-clause-plan : goal.returns-clause-plan
 returns-clause-plan g c old h =
-    scatter_plan c.args.level c.args.bucket c.args.layer c.requires.level.1 c.requires.layer (let f = c.ranges.layer.fits in omega arith) old h.spelled.valid c.args.points.now c.in-Ok-Some.news.items
-    (subst (λ (l : List Point). IsPermutation l c.in-Ok-Some.news.items) c.items.ensures (if_some_at c.in-Ok-Some.field-0 _ c.in-Ok-Some.news c.in-Ok-Some.field-0-is c.in-Ok-Some.ensures.same))
+    scatter_plan c.args.level c.args.bucket c.args.layer c.requires.level.1 c.requires.layer (let f = c.ranges.layer.fits in
+    omega arith) old h.spelled.valid c.args.points.now c.in-Ok-Some.news.items
+    (subst (λ (l : List Point). IsPermutation l c.in-Ok-Some.news.items) c.items.ensures
+    (if_some_at c.in-Ok-Some.field-0 _ c.in-Ok-Some.news c.in-Ok-Some.field-0-is c.in-Ok-Some.ensures.same))
     (if_some_at c.in-Ok-Some.field-0 _ c.in-Ok-Some.news c.in-Ok-Some.field-0-is c.in-Ok-Some.ensures.order) c.requires.pixels
-    (subst (All (λ (p : Point). p.label < 2 ^ 32)) c.items.ensures (if_some_at c.in-Ok-Some.field-0 _ c.in-Ok-Some.news c.in-Ok-Some.field-0-is c.in-Ok-Some.ensures.labels))
+    (subst (All (λ (p : Point). p.label < 2 ^ 32)) c.items.ensures
+    (if_some_at c.in-Ok-Some.field-0 _ c.in-Ok-Some.news c.in-Ok-Some.field-0-is c.in-Ok-Some.ensures.labels))
     c.in-Ok-Some-grown.growth.without.items c.in-Ok-Some-grown.growth.with.items
-    (subst (λ (l : List Point). IsGrown c.args.level c.args.layer c.args.bucket old l [] c.in-Ok-Some-grown.growth.without.items c.in-Ok-Some-grown.growth.with.items) c.deref.ensures.value
+    (subst (λ (l : List Point). IsGrown c.args.level c.args.layer c.args.bucket old l
+    [] c.in-Ok-Some-grown.growth.without.items c.in-Ok-Some-grown.growth.with.items) c.deref.ensures.value
     (if_some_at c.in-Ok-Some-grown.field-0 _ c.in-Ok-Some-grown.growth c.in-Ok-Some-grown.field-0-is c.in-Ok-Some-grown.ensures.grown old h))
     c.in-Ok.edits c.in-Ok.ensures.remove c.in-Ok.ensures.add
 
 pub returns-clause-none : goal.returns-clause-none
 returns-clause-none g c old h = (
   λ e. absurd (false_true (sym e)),
-  λ f. absurd (f (all_new c.args.level c.args.bucket c.args.layer c.requires.level.1 c.requires.layer (let f = c.ranges.layer.fits in omega arith) old h.spelled.valid c.args.points.now c.in-Ok-Some.news.items
-      (subst (λ (l : List Point). IsPermutation l c.in-Ok-Some.news.items) c.items.ensures (if_some_at c.in-Ok-Some.field-0 _ c.in-Ok-Some.news c.in-Ok-Some.field-0-is c.in-Ok-Some.ensures.same))
+  λ f. absurd (f (all_new c.args.level c.args.bucket c.args.layer c.requires.level.1 c.requires.layer (let f = c.ranges.layer.fits in
+      omega arith) old h.spelled.valid c.args.points.now c.in-Ok-Some.news.items
+      (subst (λ (l : List Point). IsPermutation l c.in-Ok-Some.news.items) c.items.ensures
+      (if_some_at c.in-Ok-Some.field-0 _ c.in-Ok-Some.news c.in-Ok-Some.field-0-is c.in-Ok-Some.ensures.same))
       (if_some_at c.in-Ok-Some.field-0 _ c.in-Ok-Some.news c.in-Ok-Some.field-0-is c.in-Ok-Some.ensures.order) c.requires.pixels
-      (subst (All (λ (p : Point). p.label < 2 ^ 32)) c.items.ensures (if_some_at c.in-Ok-Some.field-0 _ c.in-Ok-Some.news c.in-Ok-Some.field-0-is c.in-Ok-Some.ensures.labels))
+      (subst (All (λ (p : Point). p.label < 2 ^ 32)) c.items.ensures
+      (if_some_at c.in-Ok-Some.field-0 _ c.in-Ok-Some.news c.in-Ok-Some.field-0-is c.in-Ok-Some.ensures.labels))
       c.in-Ok-Some-grown.growth.without.items c.in-Ok-Some-grown.growth.with.items
-      (subst (λ (l : List Point). IsGrown c.args.level c.args.layer c.args.bucket old l [] c.in-Ok-Some-grown.growth.without.items c.in-Ok-Some-grown.growth.with.items) c.deref.ensures.value
+      (subst (λ (l : List Point). IsGrown c.args.level c.args.layer c.args.bucket old l
+      [] c.in-Ok-Some-grown.growth.without.items c.in-Ok-Some-grown.growth.with.items) c.deref.ensures.value
       (if_some_at c.in-Ok-Some-grown.field-0 _ c.in-Ok-Some-grown.growth c.in-Ok-Some-grown.field-0-is c.in-Ok-Some-grown.ensures.grown old h)))),
 )

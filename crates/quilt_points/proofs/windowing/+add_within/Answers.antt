@@ -33,7 +33,8 @@ returns-in-Ok-Some-clause-found g t c =
 
 pub returns-then-b-le1-clause-sound : goal.returns-then-b-le1-clause-sound
 returns-then-b-le1-clause-sound g t c points h o page e =
-    open_pixel c.args.layer.level c.args.layer.bucket points c.args.b o (match_none c.in-Ok-None.field-0 _ _ c.in-Ok-None.field-0-is (c.in-Ok-None.ensures.read points h)) c.args.layer.has_bucket.0 c.if-b-le1.true
+    open_pixel c.args.layer.level c.args.layer.bucket points c.args.b o
+    (match_none c.in-Ok-None.field-0 _ _ c.in-Ok-None.field-0-is (c.in-Ok-None.ensures.read points h)) c.args.layer.has_bucket.0 c.if-b-le1.true
 
 pub quarters-q-items-requires-clause-valid : goal.quarters-q-items-requires-clause-valid
 quarters-q-items-requires-clause-valid g t c = IsBlock-up c.args.layer.level 12 c.args.b c.args.layer.has_level.1 c.requires.block
@@ -51,23 +52,38 @@ loop-q-init g t c = record {
 
 pub add_within-requires : goal.add_within-requires
 add_within-requires g t c κs within =
-    let q = quarter_at c.args.layer.level c.args.b c.quarters-q-items.result c.loop-q.q-index (record { y = 0; x = 0; side = 0 }) c.requires.block c.if-b-le1.false c.quarters-q-items.ensures.value c.loop-q-test.true in
+    let q = quarter_at c.args.layer.level c.args.b c.quarters-q-items.result c.loop-q.q-index
+    (record { y = 0; x = 0; side = 0 }) c.requires.block c.if-b-le1.false c.quarters-q-items.ensures.value c.loop-q-test.true in
     let half = q.half in
     let rooted = subst (λ (s : ℕ). IsRooted s c.args.tree.now) (sym c.loop-q.invariant.size) c.requires.rooted in
     (omega arith, (within, (rooted, q.block)))
 
 pub returns-in-Err-add_within-clause-sound : goal.returns-in-Err-add_within-clause-sound
 returns-in-Err-add_within-clause-sound g t c points h o =
-    c.in-Err-add_within.ensures.sound points (has_along _ _ c.args.tree.now c.args.layer.number c.args.layer.level c.args.layer.bucket points c.loop-q.invariant.told h)
-    (open_quarter c.args.layer.level c.args.layer.bucket points c.args.b o (match_none c.in-Ok-None.field-0 _ _ c.in-Ok-None.field-0-is (c.in-Ok-None.ensures.read points h)) c.if-b-le1.false (get_or c.quarters-q-items.result c.loop-q.q-index (record { y = 0; x = 0; side = 0 })) (subst (λ (l : List Block). Contains l (get_or c.quarters-q-items.result c.loop-q.q-index (record { y = 0; x = 0; side = 0 }))) c.quarters-q-items.ensures.value (member_at c.quarters-q-items.result c.loop-q.q-index (record { y = 0; x = 0; side = 0 }) (let lt = c.loop-q-test.true in let four = ap length c.quarters-q-items.ensures.value in omega arith))))
+    c.in-Err-add_within.ensures.sound points
+    (has_along _ _ c.args.tree.now c.args.layer.number c.args.layer.level c.args.layer.bucket points c.loop-q.invariant.told h)
+    (open_quarter c.args.layer.level c.args.layer.bucket points c.args.b o
+    (match_none c.in-Ok-None.field-0 _ _ c.in-Ok-None.field-0-is (c.in-Ok-None.ensures.read points h)) c.if-b-le1.false
+    (get_or c.quarters-q-items.result c.loop-q.q-index (record { y = 0; x = 0; side = 0 }))
+    (subst (λ (l : List Block). Contains l (get_or c.quarters-q-items.result c.loop-q.q-index (record { y = 0; x = 0; side = 0 })))
+    c.quarters-q-items.ensures.value
+    (member_at c.quarters-q-items.result c.loop-q.q-index (record { y = 0; x = 0; side = 0 }) (let lt = c.loop-q-test.true in
+    let four = ap length c.quarters-q-items.ensures.value in omega arith))))
 
 pub loop-q-preserved : goal.loop-q-preserved
 loop-q-preserved g t c = record {
   found = λ points h o.
-      found_next points (in_window c.args.w) c.args.layer.level c.args.b c.quarters-q-items.result c.loop-q.q-index (record { y = 0; x = 0; side = 0 }) c.requires.block c.if-b-le1.false c.quarters-q-items.ensures.value c.loop-q-test.true
+      found_next points (in_window c.args.w) c.args.layer.level c.args.b c.quarters-q-items.result c.loop-q.q-index
+      (record { y = 0; x = 0; side = 0 }) c.requires.block c.if-b-le1.false c.quarters-q-items.ensures.value c.loop-q-test.true
       c.args.found.now.items c.loop-q.found.items c.add_within.new.found.items (c.loop-q.invariant.found points h o)
       (c.in-Ok.ensures.found points (has_along _ _ c.args.tree.now c.args.layer.number c.args.layer.level c.args.layer.bucket points c.loop-q.invariant.told h)
-      (open_quarter c.args.layer.level c.args.layer.bucket points c.args.b o (match_none c.in-Ok-None.field-0 _ _ c.in-Ok-None.field-0-is (c.in-Ok-None.ensures.read points h)) c.if-b-le1.false (get_or c.quarters-q-items.result c.loop-q.q-index (record { y = 0; x = 0; side = 0 })) (subst (λ (l : List Block). Contains l (get_or c.quarters-q-items.result c.loop-q.q-index (record { y = 0; x = 0; side = 0 }))) c.quarters-q-items.ensures.value (member_at c.quarters-q-items.result c.loop-q.q-index (record { y = 0; x = 0; side = 0 }) (let lt = c.loop-q-test.true in let four = ap length c.quarters-q-items.ensures.value in omega arith)))));
+      (open_quarter c.args.layer.level c.args.layer.bucket points c.args.b o
+      (match_none c.in-Ok-None.field-0 _ _ c.in-Ok-None.field-0-is (c.in-Ok-None.ensures.read points h)) c.if-b-le1.false
+      (get_or c.quarters-q-items.result c.loop-q.q-index (record { y = 0; x = 0; side = 0 }))
+      (subst (λ (l : List Block). Contains l (get_or c.quarters-q-items.result c.loop-q.q-index (record { y = 0; x = 0; side = 0 })))
+      c.quarters-q-items.ensures.value
+      (member_at c.quarters-q-items.result c.loop-q.q-index (record { y = 0; x = 0; side = 0 }) (let lt = c.loop-q-test.true in
+      let four = ap length c.quarters-q-items.ensures.value in omega arith)))));
   faults = let m = c.loop-q.invariant.faults in let n = c.in-Ok.ensures.cause.later in omega arith;
   size = c.in-Ok.ensures.size ∙ c.loop-q.invariant.size;
   told = c.in-Ok.ensures.told ∙ c.loop-q.invariant.told;
@@ -78,5 +94,6 @@ loop-q-preserved g t c = record {
 
 pub returns-clause-found : goal.returns-clause-found
 returns-clause-found g t c points h o =
-    found_all points (in_window c.args.w) c.args.layer.level c.args.b c.quarters-q-items.result c.loop-q.q-index c.requires.block c.if-b-le1.false c.quarters-q-items.ensures.value c.loop-q-test.false
+    found_all points (in_window c.args.w) c.args.layer.level c.args.b c.quarters-q-items.result c.loop-q.q-index c.requires.block c.if-b-le1.false
+    c.quarters-q-items.ensures.value c.loop-q-test.false
     c.args.found.now.items c.loop-q.found.items (c.loop-q.invariant.found points h o)

@@ -12,7 +12,9 @@ decreases-add_within g l = l.b.side
 
 abbrev pub invariant-loop-q : goal.invariant-loop-q
 invariant-loop-q g l = record {
-  found : (points : PointMap) → HasPoints (g.S.PageStore.told l.fn.store) l.tree l.layer.number l.layer.level l.layer.bucket points → IsOpen l.layer.level l.layer.bucket points l.fn.b → (here : List Point) × (l.found.items ≡ l.fn.found.items ++ here) × AreOfAll points (in_window l.w) (take l.q-index l.q-items) (entries_of here);
+  found : (points : PointMap) → HasPoints (g.S.PageStore.told l.fn.store) l.tree l.layer.number l.layer.level l.layer.bucket points
+      → IsOpen l.layer.level l.layer.bucket points l.fn.b → (here : List Point) × (l.found.items ≡ l.fn.found.items ++ here)
+      × AreOfAll points (in_window l.w) (take l.q-index l.q-items) (entries_of here);
   faults : g.S.PageStore.faults l.fn.store ≤ g.S.PageStore.faults l.store;
   size : g.S.PageStore.size l.store ≡ g.S.PageStore.size l.fn.store;
   told : g.S.PageStore.told l.store ≡ g.S.PageStore.told l.fn.store;

@@ -11,11 +11,14 @@ pub add_within-requires-clause-block : goal.add_within-requires-clause-block
 add_within-requires-clause-block g c = subst (IsBlock c.args.level) (sym c.whole_square-whole.ensures) (IsBlock-whole c.args.level)
 
 pub returns-in-Err-clause-sound : goal.returns-in-Err-clause-sound
-returns-in-Err-clause-sound g c points h = c.in-Err.ensures.sound points h (open_whole c.args.level c.args.bucket points c.whole_square-whole.result c.whole_square-whole.ensures)
+returns-in-Err-clause-sound g c points h =
+    c.in-Err.ensures.sound points h (open_whole c.args.level c.args.bucket points c.whole_square-whole.result c.whole_square-whole.ensures)
 
 pub returns-in-Ok-in_rows-clause-points : goal.returns-in-Ok-in_rows-clause-points
 returns-in-Ok-in_rows-clause-points g c points h =
     let f = c.in-Ok.ensures.found points h (open_whole c.args.level c.args.bucket points c.whole_square-whole.result c.whole_square-whole.ensures) in
-    rows_are points c.args.level (inside_whole c.args.level c.args.bucket points h.spelled.valid) c.args.w c.add_within.new.found.items c.whole_square-whole.result c.whole_square-whole.ensures
-    (subst (λ (l : List Point). AreOf points (in_window c.args.w) c.whole_square-whole.result (entries_of l)) (sym (f.1 ∙ ap (λ (l : List Point). l ++ f.0) c.new-found.ensures.items)) f.2)
+    rows_are points c.args.level (inside_whole c.args.level c.args.bucket points h.spelled.valid) c.args.w c.add_within.new.found.items
+    c.whole_square-whole.result c.whole_square-whole.ensures
+    (subst (λ (l : List Point). AreOf points (in_window c.args.w) c.whole_square-whole.result (entries_of l))
+    (sym (f.1 ∙ ap (λ (l : List Point). l ++ f.0) c.new-found.ensures.items)) f.2)
     c.in-Ok-in_rows.list c.in-Ok-in_rows.ensures.permutation c.in-Ok-in_rows.ensures.sorted

@@ -12,7 +12,8 @@ returns c =
       level = e.level;
       format = e.format;
       fed = λ total before fed. record {
-        sound = push_sound total before r s fed c.if-not-self.false c.if-self-eq0.false t.level t.format ok e.level e.format t.due t.catalog t.last t.layer t.run e.due c.in_ok-self.ensures.yes;
+        sound = push_sound total before r s fed c.if-not-self.false c.if-self-eq0.false t.level t.format ok e.level e.format t.due t.catalog t.last
+            t.layer t.run e.due c.in_ok-self.ensures.yes;
         unsound = push_refused total before r s fed c.if-not-self.false c.if-self-eq0.false t.level t.format ok e.level e.format c.in_ok-self.ensures.no;
       };
     }

@@ -11,7 +11,8 @@ returns-then-r-gt255-clause-no c rs f begun =
     (λ w. let most = w.most in let lt = c.if-r-gt255.true in omega arith) rs c.args.r.now f begun refl
 
 pub returns-then-not-branch-clause-no : goal.returns-then-not-branch-clause-no
-returns-then-not-branch-clause-no c rs f begun = from_false c.in_ok-turn_to.field-0 _ c.if-not-branch.true (c.in_ok-turn_to.ensures.no rs c.args.r.now f begun refl)
+returns-then-not-branch-clause-no c rs f begun =
+    from_false c.in_ok-turn_to.field-0 _ c.if-not-branch.true (c.in_ok-turn_to.ensures.no rs c.args.r.now f begun refl)
 
 pub returns-clause-yes : goal.returns-clause-yes
 returns-clause-yes c =
@@ -25,7 +26,8 @@ returns-clause-yes c =
     let here = turned.1 in
     let some = c.requires in (
       IsSoFar-more s.format s.level t.catalog t.last t.layer t.run rs turned.0 r next (omega arith) (sym here)
-          (λ kind. run_moved s.format s.level t.format t.level t.layer r.key.layer c.turn_to.ensures.format c.turn_to.ensures.level here rs r kind t.run next (λ h. from_true ok _ yes' (taken rs kind h))),
+          (λ kind. run_moved s.format s.level t.format t.level t.layer r.key.layer c.turn_to.ensures.format c.turn_to.ensures.level here rs r kind
+          t.run next (λ h. from_true ok _ yes' (taken rs kind h))),
       λ one. (r, at_last rs r, sym here),
     ))) c.take.ensures.taken
 
@@ -40,5 +42,6 @@ returns-clause-no c =
     let here = turned.1 in
     let some = c.requires in
     record_no s.format s.level s.level_least s.level_most t.catalog t.last t.layer t.run t.last_most r rs (omega arith) (sym here)
-    (λ kind. no_moved s.format s.level t.format t.level t.layer r.key.layer c.turn_to.ensures.format c.turn_to.ensures.level here rs r kind t.run (λ h. from_false ok _ no' (refused rs kind h)))
+    (λ kind. no_moved s.format s.level t.format t.level t.layer r.key.layer c.turn_to.ensures.format c.turn_to.ensures.level here rs r kind t.run
+    (λ h. from_false ok _ no' (refused rs kind h)))
     turned.0)) c.take.ensures.refused

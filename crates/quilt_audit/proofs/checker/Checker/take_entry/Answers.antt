@@ -17,10 +17,12 @@ returns-then-not-may_list-clause-no c =
     let s = c.args.self.now in
     entry_no s.format s.level s.level_least s.level_most s.catalog s.last s.layer s.run s.last_most c.args.r.now c.requires
     (λ w. c.may_list.ensures.no c.if-not-may_list.true
-    (may_from s.format s c.args.r.now c.in-Some.e w (entry_same s.format s.last s.layer s.catalog c.args.r.now c.read_catalog.result c.in-Some.e c.in-Some.is c.read_catalog.ensures.one w)))
+    (may_from s.format s c.args.r.now c.in-Some.e w
+    (entry_same s.format s.last s.layer s.catalog c.args.r.now c.read_catalog.result c.in-Some.e c.in-Some.is c.read_catalog.ensures.one w)))
 
 pub insert-requires-clause-new : goal.insert-requires-clause-new
-insert-requires-clause-new c = all_from (λ (f : Entry). f.name ≡ c.in-Some.e.name → ⊥) c.args.self.now.catalog (c.may_list.ensures.yes c.if-not-may_list.false).fresh
+insert-requires-clause-new c =
+    all_from (λ (f : Entry). f.name ≡ c.in-Some.e.name → ⊥) c.args.self.now.catalog (c.may_list.ensures.yes c.if-not-may_list.false).fresh
 
 pub invariant_of-self : goal.invariant_of-self
 invariant_of-self c =

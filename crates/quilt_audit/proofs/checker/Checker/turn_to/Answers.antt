@@ -26,7 +26,8 @@ pub returns-then-next_number-layer-clause-no : goal.returns-then-next_number-lay
 returns-then-next_number-layer-clause-no c =
     let s = c.args.self.now in
     layer_no s.format s.level s.level_least s.level_most s.catalog s.last s.layer s.run s.last_most c.args.layer c.requires.0
-    (λ w. c.if-next_number-layer.true (next_reached s.level c.entries.result.now s.catalog s.layer s.run c.args.layer c.next_number.result c.entries.ensures.entries
+    (λ w. c.if-next_number-layer.true
+    (next_reached s.level c.entries.result.now s.catalog s.layer s.run c.args.layer c.next_number.result c.entries.ensures.entries
     (let ge = c.if-layer-from-2.false in let ne = c.if-layer-from.false in let e = c.from.ensures in let f = c.from-2.ensures in omega arith)
     c.next_number.ensures.over.0 c.next_number.ensures.reached c.next_number.ensures.least w))
 
@@ -46,6 +47,7 @@ returns-clause-yes c rs f =
     let e = c.in-Some.ensures.some in (
       IsSoFar-turn s.format s.level s.catalog s.last s.layer s.run rs f s.level_least s.level_most full c.args.layer c.in-Some.run' (omega arith)
           e.0 (subst (λ (l : List Entry). Contains l e.0) c.entries-2.ensures.entries e.1) e.2 e.3
-          (λ d m. ⊎_elim (λ low. inl low) (λ high. let a = high.0 in inr (omega arith)) (c.next_number.ensures.least d (subst (λ (l : List Entry). Contains l d) (sym c.entries.ensures.entries) m))),
+          (λ d m. ⊎_elim (λ low. inl low) (λ high. let a = high.0 in inr (omega arith))
+          (c.next_number.ensures.least d (subst (λ (l : List Entry). Contains l d) (sym c.entries.ensures.entries) m))),
       refl,
     )

@@ -10,7 +10,8 @@ is_in-requires c = IsBlock-up c.args.level 12 c.args.block c.requires.level.1 c.
 
 pub returns-then-not-is_in-clause-none : goal.returns-then-not-is_in-clause-none
 returns-then-not-is_in-clause-none c form layer rs some h =
-    outside_refused form c.args.level c.requires.level.0 c.requires.level.1 c.args.self.now layer some rs h c.args.block c.requires.block c.args.held c.requires.fits
+    outside_refused form c.args.level c.requires.level.0 c.requires.level.1 c.args.self.now layer some rs h c.args.block c.requires.block
+    c.args.held c.requires.fits
     (c.is_in.ensures.no c.if-not-is_in.true)
 
 pub returns-then-is_same-clause-some : goal.returns-then-is_same-clause-some
@@ -25,7 +26,8 @@ pub returns-then-is_same-clause-none : goal.returns-then-is_same-clause-none
 returns-then-is_same-clause-none c =
     none_map c.more.result _ _
     (λ m form layer rs some h.
-    more_refused form c.args.level c.requires.level.0 c.requires.level.1 c.args.self.now layer some rs h c.args.block c.requires.block c.args.held c.requires.fits
+    more_refused form c.args.level c.requires.level.0 c.requires.level.1 c.args.self.now layer some rs h c.args.block c.requires.block
+    c.args.held c.requires.fits
     (c.is_same.ensures.yes c.if-is_same.true) m)
     c.more.ensures.none
 
@@ -33,15 +35,19 @@ pub returns-then-code-self-clause-none : goal.returns-then-code-self-clause-none
 returns-then-code-self-clause-none c form layer rs some h =
     elim c.then-code-self.branch [
       | then-code-self-via-then-code-self w ↦
-          code_refused form c.args.level c.requires.level.0 c.requires.level.1 c.args.self.now layer some rs h c.args.block c.requires.block c.args.held c.requires.fits
+          code_refused form c.args.level c.requires.level.0 c.requires.level.1 c.args.self.now layer some rs h c.args.block c.requires.block
+          c.args.held c.requires.fits
           (c.is_same.ensures.no c.if-is_same.false) (λ e. w.if-code-self.true (c.requires.code ∙ e))
       | then-code-self-via-else-code-self+then-from-self w ↦
-          enough_refused form c.args.level c.requires.level.0 c.requires.level.1 c.args.self.now layer some rs h c.args.block c.requires.block c.args.held c.requires.fits
+          enough_refused form c.args.level c.requires.level.0 c.requires.level.1 c.args.self.now layer some rs h c.args.block c.requires.block
+          c.args.held c.requires.fits
           (sym c.requires.code ∙ w.if-code-self.false) (let e = w.from.ensures in let lt = w.if-from-self.true in omega arith)
     ]
 
 pub returns-clause-some : goal.returns-clause-some
 returns-clause-some c form layer rs some h =
-    opened_taken form c.args.level c.requires.level.0 c.requires.level.1 c.args.self.now layer some rs h c.args.block c.requires.block c.args.held c.requires.fits
-    (c.is_in.ensures.yes c.if-not-is_in.false) (sym c.requires.code ∙ c.if-code-self.false) (let e = c.from.ensures in let ge = c.if-from-self.false in omega arith)
+    opened_taken form c.args.level c.requires.level.0 c.requires.level.1 c.args.self.now layer some rs h c.args.block c.requires.block
+    c.args.held c.requires.fits
+    (c.is_in.ensures.yes c.if-not-is_in.false) (sym c.requires.code ∙ c.if-code-self.false) (let e = c.from.ensures in
+    let ge = c.if-from-self.false in omega arith)
     c.opened.result (subst (λ (k : ℕ). IsOpened c.args.level c.args.self.now c.args.block k c.opened.result) c.count_of.ensures c.opened.ensures)

@@ -7,7 +7,8 @@ use Rattle.quilt_audit.proofs.regions.RegionRun.next.Goals as goal
 pub returns-then-code-self-clause-none : goal.returns-then-code-self-clause-none
 returns-then-code-self-clause-none c form layer rs some g =
     let s = c.args.self.now in
-    code_refused form c.args.level c.requires.level.0 c.requires.level.1 layer some rs s.end s.recent g c.args.leaf nothing c.requires.block (λ e. c.if-code-self.true (c.requires.code ∙ e))
+    code_refused form c.args.level c.requires.level.0 c.requires.level.1 layer some rs s.end s.recent g c.args.leaf nothing c.requires.block
+    (λ e. c.if-code-self.true (c.requires.code ∙ e))
 
 pub returns-then-are_siblings-clause-none : goal.returns-then-are_siblings-clause-none
 returns-then-are_siblings-clause-none c form layer rs some g =
@@ -21,5 +22,6 @@ end_of-requires c = IsBlock-up c.args.level 12 c.args.leaf.block c.requires.leve
 pub returns-clause-some : goal.returns-clause-some
 returns-clause-some c form layer rs some small g =
     let s = c.args.self.now in
-    leaf_taken form c.args.level c.requires.level.0 c.requires.level.1 layer some rs s.end s.recent g c.args.leaf nothing c.requires.block (sym c.requires.code ∙ c.if-code-self.false) small
+    leaf_taken form c.args.level c.requires.level.0 c.requires.level.1 layer some rs s.end s.recent g c.args.leaf nothing c.requires.block
+    (sym c.requires.code ∙ c.if-code-self.false) small
     c.end_of.result c.end_of.ensures.value (c.are_siblings.ensures.no c.if-are_siblings.false)

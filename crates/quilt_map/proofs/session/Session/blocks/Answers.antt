@@ -12,7 +12,8 @@ use Rattle.quilt_map.proofs.session.Session.blocks.Goals as goal
 pub returns-in-None-clause-answer : goal.returns-in-None-clause-answer
 returns-in-None-clause-answer g c = λ s at.
     asked_here {D = g.W.Disk} s (commands.Blocks c.args.name.now) (blocks_asks s c.args.name.now) c.args.self.now at c.args.self.now.warm (reply.No no.Unknown)
-    (blocks_unknown s c.args.name.now (c.in-None.ensures.none refl s.work at.work.numbers (catalog_as {D = g.W.Disk} c.args.self.now s at c.entries.result.now c.entries.ensures.entries)))
+    (blocks_unknown s c.args.name.now
+    (c.in-None.ensures.none refl s.work at.work.numbers (catalog_as {D = g.W.Disk} c.args.self.now s at c.entries.result.now c.entries.ensures.entries)))
 
 pub returns-in-None-clause-keeps : goal.returns-in-None-clause-keeps
 returns-in-None-clause-keeps g c = keeps_here {D = g.W.Disk} c.args.self.now c.args.self.now.warm
@@ -23,14 +24,17 @@ returns-in-Err-clause-sound g c = λ s at.
     let name = c.args.name.now in
     let some = c.in-Some in
     let under = some.ensures.some s.work at.work.numbers (catalog_as {D = g.W.Disk} old s at c.entries.result.now c.entries.ensures.entries) in
-    c.in-Err.ensures.sound under.layer under.kinded (under_number {D = g.W.Disk} old s at name some.number some.kind under) (under_there {D = g.W.Disk} old s at name some.number some.kind under)
+    c.in-Err.ensures.sound under.layer under.kinded (under_number {D = g.W.Disk} old s at name some.number some.kind under)
+    (under_there {D = g.W.Disk} old s at name some.number some.kind under)
 
 pub returns-in-Ok-clause-answer : goal.returns-in-Ok-clause-answer
 returns-in-Ok-clause-answer g c =
     let old = c.args.self.now in
     let name = c.args.name.now in
     let some = c.in-Some in
-    told_on {D = g.W.Disk} (commands.Blocks name) (λ s. blocks_asks s name) old c.count_blocks.new.book old.warm c.blocks_text.result c.told.result c.count_blocks.ensures.still (g.met.W.Disk.is_consistent c.count_blocks.new.book.world) c.told.ensures.text (λ s at.
+    told_on {D = g.W.Disk} (commands.Blocks name) (λ s. blocks_asks s name) old c.count_blocks.new.book old.warm c.blocks_text.result c.told.result
+    c.count_blocks.ensures.still (g.met.W.Disk.is_consistent c.count_blocks.new.book.world) c.told.ensures.text (λ s at.
     let under = some.ensures.some s.work at.work.numbers (catalog_as {D = g.W.Disk} old s at c.entries.result.now c.entries.ensures.entries) in
     if_ok _ _ c.blocks_text.result (λ t h.
-    blocks_body {D = g.W.Disk} old s at name some.number some.kind under c.in-Ok.counts c.head-level.result.level c.in-Ok.ensures.counts (ap (λ (x : Head). x.level) c.head-level.ensures.work) t h) c.blocks_text.ensures)
+    blocks_body {D = g.W.Disk} old s at name some.number some.kind under c.in-Ok.counts c.head-level.result.level c.in-Ok.ensures.counts
+    (ap (λ (x : Head). x.level) c.head-level.ensures.work) t h) c.blocks_text.ensures)

@@ -38,9 +38,12 @@ returns-in-Some-why_not_new-clause-answer g c = λ s at.
     let name = c.args.name.now in
     let other = c.args.other.now in
     let code = c.in-Some-why_not_new.code in
-    let found = c.in-Some.ensures.some s.work at.work.numbers (subst (λ (es : List Entry). IsCatalogOf s.work at.work.numbers es) (sym c.entries.ensures.entries) at.work.catalog) in
-    let refuses = c.in-Some-why_not_new.ensures.refuses s at.work.numbers (subst (λ (es : List Entry). IsCatalogOf s.work at.work.numbers es) (sym c.entries-2.ensures.entries) at.work.catalog) in
-    answered_same {D = g.W.Disk} s (commands.Copy name other) old _ (Refused code) (given.No code) (copy_refused s name other found.layer code found.got refuses) refl refl refl at at
+    let found = c.in-Some.ensures.some s.work at.work.numbers
+    (subst (λ (es : List Entry). IsCatalogOf s.work at.work.numbers es) (sym c.entries.ensures.entries) at.work.catalog) in
+    let refuses = c.in-Some-why_not_new.ensures.refuses s at.work.numbers
+    (subst (λ (es : List Entry). IsCatalogOf s.work at.work.numbers es) (sym c.entries-2.ensures.entries) at.work.catalog) in
+    answered_same {D = g.W.Disk} s (commands.Copy name other) old _ (Refused code) (given.No code)
+    (copy_refused s name other found.layer code found.got refuses) refl refl refl at at
 
 pub returns-in-Err-clause-sound : goal.returns-in-Err-clause-sound
 returns-in-Err-clause-sound g c = λ s at. c.in-Err.ensures.sound at.work.records (at_tree {D = g.W.Disk} c.args.self.now s at)
@@ -61,7 +64,8 @@ returns-in-Ok-copied_records-clause-sound g c =
     let still = c.copied_records.ensures.still in
     let now = later_at {D = g.W.Disk} old b old.catalog s still.later still.told still.free still.changed (g.met.W.Disk.is_consistent b.world) at in
     let mid = with_book {D = g.W.Disk} old b in
-    let found = c.in-Some.ensures.some s.work now.work.numbers (subst (λ (es : List Entry). IsCatalogOf s.work now.work.numbers es) (sym c.entries.ensures.entries) now.work.catalog) in
+    let found = c.in-Some.ensures.some s.work now.work.numbers
+    (subst (λ (es : List Entry). IsCatalogOf s.work now.work.numbers es) (sym c.entries.ensures.entries) now.work.catalog) in
     let fresh = c.entries-in-None.ensures.entries in
     let entry = c.new_entry-entry.result in
     let made = c.new_entry-entry.ensures in
@@ -69,9 +73,12 @@ returns-in-Ok-copied_records-clause-sound g c =
     let few = subst (λ (es : List Entry). length es < 255) c.entries-2.ensures.entries (c.in-None.ensures.few refl) in
     let others = subst (λ (es : List Entry). All (λ f. f.name ≢ other) es) c.entries-2.ensures.entries (c.in-None.ensures.new refl) in
     let apart = subst (λ (n : List ℕ). All (λ (f : Entry). f.name ≢ n) old.catalog) (sym made.name) others in
-    let unused = made.unused s.work now.work.numbers (subst (λ (es : List Entry). IsCatalogOf s.work now.work.numbers es) (sym fresh) now.work.catalog) now.work.spelled.numbering in
-    let listed = c.in-Ok-copied_records.ensures.list now.work.records (tree_before {D = g.W.Disk} old.book b still now.work.records (at_tree {D = g.W.Disk} mid s now)) in
-    let plan = copy_plan {D = g.W.Disk} mid s now name c.in-Some.number found.layer found.got found.numbered entry kind (ap is_name made.name ∙ made.named) few apart made.number.0 made.number.1 unused
+    let unused = made.unused s.work now.work.numbers
+    (subst (λ (es : List Entry). IsCatalogOf s.work now.work.numbers es) (sym fresh) now.work.catalog) now.work.spelled.numbering in
+    let listed = c.in-Ok-copied_records.ensures.list now.work.records
+    (tree_before {D = g.W.Disk} old.book b still now.work.records (at_tree {D = g.W.Disk} mid s now)) in
+    let plan = copy_plan {D = g.W.Disk} mid s now name c.in-Some.number found.layer found.got found.numbered entry kind
+    (ap is_name made.name ∙ made.named) few apart made.number.0 made.number.1 unused
     c.in-Ok-copied_records.all c.records.result.now c.records.ensures listed in
     p s now found.layer plan) c.place.ensures.sound
 
@@ -85,7 +92,8 @@ returns-in-Ok-copied_records-clause-answer g c =
     let still = c.copied_records.ensures.still in
     let now = later_at {D = g.W.Disk} old b old.catalog s still.later still.told still.free still.changed (g.met.W.Disk.is_consistent b.world) at in
     let mid = with_book {D = g.W.Disk} old b in
-    let found = c.in-Some.ensures.some s.work now.work.numbers (subst (λ (es : List Entry). IsCatalogOf s.work now.work.numbers es) (sym c.entries.ensures.entries) now.work.catalog) in
+    let found = c.in-Some.ensures.some s.work now.work.numbers
+    (subst (λ (es : List Entry). IsCatalogOf s.work now.work.numbers es) (sym c.entries.ensures.entries) now.work.catalog) in
     let fresh = c.entries-in-None.ensures.entries in
     let entry = c.new_entry-entry.result in
     let made = c.new_entry-entry.ensures in
@@ -93,10 +101,15 @@ returns-in-Ok-copied_records-clause-answer g c =
     let few = subst (λ (es : List Entry). length es < 255) c.entries-2.ensures.entries (c.in-None.ensures.few refl) in
     let others = subst (λ (es : List Entry). All (λ f. f.name ≢ other) es) c.entries-2.ensures.entries (c.in-None.ensures.new refl) in
     let apart = subst (λ (n : List ℕ). All (λ (f : Entry). f.name ≢ n) old.catalog) (sym made.name) others in
-    let unused = made.unused s.work now.work.numbers (subst (λ (es : List Entry). IsCatalogOf s.work now.work.numbers es) (sym fresh) now.work.catalog) now.work.spelled.numbering in
-    let listed = c.in-Ok-copied_records.ensures.list now.work.records (tree_before {D = g.W.Disk} old.book b still now.work.records (at_tree {D = g.W.Disk} mid s now)) in
-    let plan = copy_plan {D = g.W.Disk} mid s now name c.in-Some.number found.layer found.got found.numbered entry kind (ap is_name made.name ∙ made.named) few apart made.number.0 made.number.1 unused
+    let unused = made.unused s.work now.work.numbers
+    (subst (λ (es : List Entry). IsCatalogOf s.work now.work.numbers es) (sym fresh) now.work.catalog) now.work.spelled.numbering in
+    let listed = c.in-Ok-copied_records.ensures.list now.work.records
+    (tree_before {D = g.W.Disk} old.book b still now.work.records (at_tree {D = g.W.Disk} mid s now)) in
+    let plan = copy_plan {D = g.W.Disk} mid s now name c.in-Some.number found.layer found.got found.numbered entry kind
+    (ap is_name made.name ∙ made.named) few apart made.number.0 made.number.1 unused
     c.in-Ok-copied_records.all c.records.result.now c.records.ensures listed in
-    let passes = c.in-None.ensures.passes refl s now.work.numbers (subst (λ (es : List Entry). IsCatalogOf s.work now.work.numbers es) (sym c.entries-2.ensures.entries) now.work.catalog) in
-    let by = subst (λ (n : List ℕ). AnsweredBy {D = g.W.Disk} s (placed s n found.layer) mid c.place.new.self reply) made.name (p s now found.layer kind plan) in
+    let passes = c.in-None.ensures.passes refl s now.work.numbers
+    (subst (λ (es : List Entry). IsCatalogOf s.work now.work.numbers es) (sym c.entries-2.ensures.entries) now.work.catalog) in
+    let by =
+    subst (λ (n : List ℕ). AnsweredBy {D = g.W.Disk} s (placed s n found.layer) mid c.place.new.self reply) made.name (p s now found.layer kind plan) in
     copy_answer {D = g.W.Disk} old mid c.place.new.self s name other found.layer reply found.got passes.0 passes.1 refl by) c.place.ensures.placed

@@ -17,8 +17,10 @@ returns-then-not-has_pixel-clause-answer g c = λ s at.
     let old = c.args.self.now in
     let name = c.args.name.now in
     let found = found_points {D = g.W.Disk} old s at name c.in-Ok.layer c.entries.result.now c.entries.ensures.entries c.in-Ok.ensures.found in
-    let out = test_at (λ n. is_pixel n c.args.at) c.head.result.level s.last.level c.has_pixel.result false (ap (λ (h : Head). h.level) c.head.ensures.work ∙ level_is {D = g.W.Disk} old s at) c.has_pixel.ensures c.if-not-has_pixel.true in
-    answered_same {D = g.W.Disk} s (commands.Del name c.args.at) old old (Refused no.Outside) _ (del_outside s name c.in-Ok.layer.bucket found.points found.is.got c.args.at out) refl refl refl at at
+    let out = test_at (λ n. is_pixel n c.args.at) c.head.result.level s.last.level c.has_pixel.result false
+    (ap (λ (h : Head). h.level) c.head.ensures.work ∙ level_is {D = g.W.Disk} old s at) c.has_pixel.ensures c.if-not-has_pixel.true in
+    answered_same {D = g.W.Disk} s (commands.Del name c.args.at) old old (Refused no.Outside) _
+    (del_outside s name c.in-Ok.layer.bucket found.points found.is.got c.args.at out) refl refl refl at at
 
 pub returns-then-not-has_pixel-clause-goes_on : goal.returns-then-not-has_pixel-clause-goes_on
 returns-then-not-has_pixel-clause-goes_on g c = goes_here {D = g.W.Disk} c.args.self.now.book
@@ -28,7 +30,8 @@ returns-in-Err-clause-answer g c = λ s at.
     let old = c.args.self.now in
     let name = c.args.name.now in
     let first = c.in-Err.ensures.refused s at.work.numbers (catalog_as {D = g.W.Disk} old s at c.entries.result.now c.entries.ensures.entries) in
-    answered_same {D = g.W.Disk} s (commands.Del name c.args.at) old old (Refused c.in-Err.code) _ (del_refused s name c.args.at c.in-Err.code first) refl refl refl at at
+    answered_same {D = g.W.Disk} s (commands.Del name c.args.at) old old (Refused c.in-Err.code) _
+    (del_refused s name c.args.at c.in-Err.code first) refl refl refl at at
 
 pub returns-in-Err-clause-goes_on : goal.returns-in-Err-clause-goes_on
 returns-in-Err-clause-goes_on g c = goes_here {D = g.W.Disk} c.args.self.now.book
@@ -39,8 +42,10 @@ returns-else-not-has_pixel-clause-answer g c =
     let old = c.args.self.now in
     let name = c.args.name.now in
     let found = found_points {D = g.W.Disk} old s at name c.in-Ok.layer c.entries.result.now c.entries.ensures.entries c.in-Ok.ensures.found in
-    let inside = test_at (λ n. is_pixel n c.args.at) c.head.result.level s.last.level c.has_pixel.result true (ap (λ (h : Head). h.level) c.head.ensures.work ∙ level_is {D = g.W.Disk} old s at) c.has_pixel.ensures c.if-not-has_pixel.false in
-    del_answered s name c.in-Ok.layer.bucket found.points found.is.got {D = g.W.Disk} old c.del_from.new.self c.args.at inside reply (p s at name found.points found.is)) c.del_from.ensures.del
+    let inside = test_at (λ n. is_pixel n c.args.at) c.head.result.level s.last.level c.has_pixel.result true
+    (ap (λ (h : Head). h.level) c.head.ensures.work ∙ level_is {D = g.W.Disk} old s at) c.has_pixel.ensures c.if-not-has_pixel.false in
+    del_answered s name c.in-Ok.layer.bucket found.points found.is.got {D = g.W.Disk} old c.del_from.new.self c.args.at inside reply
+    (p s at name found.points found.is)) c.del_from.ensures.del
 
 pub returns-else-not-has_pixel-clause-sound : goal.returns-else-not-has_pixel-clause-sound
 returns-else-not-has_pixel-clause-sound g c =

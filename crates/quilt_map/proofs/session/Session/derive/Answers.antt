@@ -19,7 +19,8 @@ returns-in-Err-clause-answer g c = λ s at fits.
     let name = c.args.name.now in
     let into = c.args.into.now in
     let first = c.in-Err.ensures.refused s at.work.numbers (catalog_as {D = g.W.Disk} old s at c.entries.result.now c.entries.ensures.entries) in
-    answered_same {D = g.W.Disk} s command old old (Refused c.in-Err.code) (given.No c.in-Err.code) (derive_refused s command name into c.requires c.in-Err.code first) (derive_forward command name into c.requires) refl refl at at
+    answered_same {D = g.W.Disk} s command old old (Refused c.in-Err.code) (given.No c.in-Err.code)
+    (derive_refused s command name into c.requires c.in-Err.code first) (derive_forward command name into c.requires) refl refl at at
 
 pub returns-in-Err-clause-goes_on : goal.returns-in-Err-clause-goes_on
 returns-in-Err-clause-goes_on g c = goes_here {D = g.W.Disk} c.args.self.now.book
@@ -33,7 +34,8 @@ returns-in-Some-clause-answer g c = λ s at fits.
     let region = c.in-Ok.ensures.found s.work at.work.numbers (catalog_as {D = g.W.Disk} old s at c.entries.result.now c.entries.ensures.entries) in
     let catalog = catalog_as {D = g.W.Disk} old s at c.entries-in-Ok.result.now c.entries-in-Ok.ensures.entries in
     answered_same {D = g.W.Disk} s command old old (Refused c.in-Some.code) (given.No c.in-Some.code)
-    (derive_taken s command name into c.requires region.grid region.got c.in-Some.code (c.in-Some.ensures.refuses s at.work.numbers catalog)) (derive_forward command name into c.requires) refl refl at at
+    (derive_taken s command name into c.requires region.grid region.got c.in-Some.code (c.in-Some.ensures.refuses s at.work.numbers catalog))
+    (derive_forward command name into c.requires) refl refl at at
 
 pub returns-in-Some-clause-goes_on : goal.returns-in-Some-clause-goes_on
 returns-in-Some-clause-goes_on g c = goes_here {D = g.W.Disk} c.args.self.now.book
@@ -45,9 +47,12 @@ returns-then-not-has_its_window-clause-answer g c = λ s at fits.
     let name = c.args.name.now in
     let into = c.args.into.now in
     let region = c.in-Ok.ensures.found s.work at.work.numbers (catalog_as {D = g.W.Disk} old s at c.entries.result.now c.entries.ensures.entries) in
-    let passes = c.in_default.ensures.passes refl s at.work.numbers (catalog_as {D = g.W.Disk} old s at c.entries-in-Ok.result.now c.entries-in-Ok.ensures.entries) in
-    let out = test_at (λ n. is_inside n command) c.head.result.level s.last.level c.has_its_window.result false (ap (λ (h : Head). h.level) c.head.ensures.work ∙ level_is {D = g.W.Disk} old s at) c.has_its_window.ensures c.if-not-has_its_window.true in
-    answered_same {D = g.W.Disk} s command old old (Refused no.Outside) (given.No no.Outside) (derive_outside s command name into c.requires region.grid region.got passes out) (derive_forward command name into c.requires) refl refl at at
+    let passes =
+    c.in_default.ensures.passes refl s at.work.numbers (catalog_as {D = g.W.Disk} old s at c.entries-in-Ok.result.now c.entries-in-Ok.ensures.entries) in
+    let out = test_at (λ n. is_inside n command) c.head.result.level s.last.level c.has_its_window.result false
+    (ap (λ (h : Head). h.level) c.head.ensures.work ∙ level_is {D = g.W.Disk} old s at) c.has_its_window.ensures c.if-not-has_its_window.true in
+    answered_same {D = g.W.Disk} s command old old (Refused no.Outside) (given.No no.Outside)
+    (derive_outside s command name into c.requires region.grid region.got passes out) (derive_forward command name into c.requires) refl refl at at
 
 pub returns-then-not-has_its_window-clause-goes_on : goal.returns-then-not-has_its_window-clause-goes_on
 returns-then-not-has_its_window-clause-goes_on g c = goes_here {D = g.W.Disk} c.args.self.now.book
@@ -59,15 +64,20 @@ returns-else-not-has_its_window-clause-answer g c =
     let command = c.args.command.now in
     let name = c.args.name.now in
     let into = c.args.into.now in
-    let region = region_in s.work at.work.numbers c.entries.result.now old.catalog name c.in-Ok.number c.entries.ensures.entries at.work.catalog c.in-Ok.ensures.found in
-    let passes = c.in_default.ensures.passes refl s at.work.numbers (catalog_as {D = g.W.Disk} old s at c.entries-in-Ok.result.now c.entries-in-Ok.ensures.entries) in
-    let inside = test_at (λ n. is_inside n command) c.head.result.level s.last.level c.has_its_window.result true (ap (λ (h : Head). h.level) c.head.ensures.work ∙ level_is {D = g.W.Disk} old s at) c.has_its_window.ensures c.if-not-has_its_window.false in
-    derive_answered s command name into c.requires region.0 region.1.got passes {D = g.W.Disk} old c.make_derived.new.self reply inside (p s at name region.0 region.1 fits)) c.make_derived.ensures.made
+    let region =
+    region_in s.work at.work.numbers c.entries.result.now old.catalog name c.in-Ok.number c.entries.ensures.entries at.work.catalog c.in-Ok.ensures.found in
+    let passes =
+    c.in_default.ensures.passes refl s at.work.numbers (catalog_as {D = g.W.Disk} old s at c.entries-in-Ok.result.now c.entries-in-Ok.ensures.entries) in
+    let inside = test_at (λ n. is_inside n command) c.head.result.level s.last.level c.has_its_window.result true
+    (ap (λ (h : Head). h.level) c.head.ensures.work ∙ level_is {D = g.W.Disk} old s at) c.has_its_window.ensures c.if-not-has_its_window.false in
+    derive_answered s command name into c.requires region.0 region.1.got passes {D = g.W.Disk} old c.make_derived.new.self reply inside
+    (p s at name region.0 region.1 fits)) c.make_derived.ensures.made
 
 pub returns-else-not-has_its_window-clause-sound : goal.returns-else-not-has_its_window-clause-sound
 returns-else-not-has_its_window-clause-sound g c =
     if_err _ _ c.make_derived.result (λ e p s at fits.
     let old = c.args.self.now in
     let name = c.args.name.now in
-    let region = region_in s.work at.work.numbers c.entries.result.now old.catalog name c.in-Ok.number c.entries.ensures.entries at.work.catalog c.in-Ok.ensures.found in
+    let region =
+    region_in s.work at.work.numbers c.entries.result.now old.catalog name c.in-Ok.number c.entries.ensures.entries at.work.catalog c.in-Ok.ensures.found in
     p s at name region.0 region.1 fits) c.make_derived.ensures.sound

@@ -36,11 +36,15 @@ pub returns-in-Err-clause-sound : goal.returns-in-Err-clause-sound
 returns-in-Err-clause-sound g c = λ s at.
     let old = c.args.self.now in
     let name = c.args.name.now in
-    let find = subst (λ (es : List Entry). (layers : Map) (numbers : Numbering) → IsCatalogOf layers numbers es → IsLayerAt layers numbers es name c.in-Some.i) c.entries.ensures.entries c.in-Some.ensures.some in
+    let find = subst (λ (es : List Entry). (layers : Map) (numbers : Numbering) → IsCatalogOf layers numbers es
+    → IsLayerAt layers numbers es name c.in-Some.i) c.entries.ensures.entries c.in-Some.ensures.some in
     let found = find s.work at.work.numbers at.work.catalog in
     let x = c.index-entries-i.result in
-    let is = entry_is s.work at.work.numbers old.catalog c.entries-2.result.now name c.in-Some.i found c.entries-2.ensures.entries x c.index-entries-i.is c.copy.result c.copy.ensures in
-    c.in-Err.ensures.sound at.work.records (number_least {D = g.W.Disk} old s at name found.layer found.got (record { number = x.number; name = c.copy.result; kind = x.kind }) is) (at_tree {D = g.W.Disk} old s at)
+    let is = entry_is s.work at.work.numbers old.catalog c.entries-2.result.now name c.in-Some.i found c.entries-2.ensures.entries x
+    c.index-entries-i.is c.copy.result c.copy.ensures in
+    c.in-Err.ensures.sound at.work.records
+    (number_least {D = g.W.Disk} old s at name found.layer found.got (record { number = x.number; name = c.copy.result; kind = x.kind }) is)
+    (at_tree {D = g.W.Disk} old s at)
 
 pub returns-in-Err-change-clause-goes_on : goal.returns-in-Err-change-clause-goes_on
 returns-in-Err-change-clause-goes_on g c =
@@ -66,14 +70,17 @@ returns-in-Err-change-clause-sound g c = λ s at.
     let name = c.args.name.now in
     let b = c.layer_records.new.book in
     let still = c.layer_records.ensures.still in
-    let find = subst (λ (es : List Entry). (layers : Map) (numbers : Numbering) → IsCatalogOf layers numbers es → IsLayerAt layers numbers es name c.in-Some.i) c.entries.ensures.entries c.in-Some.ensures.some in
+    let find = subst (λ (es : List Entry). (layers : Map) (numbers : Numbering) → IsCatalogOf layers numbers es
+    → IsLayerAt layers numbers es name c.in-Some.i) c.entries.ensures.entries c.in-Some.ensures.some in
     let now = later_at {D = g.W.Disk} old b old.catalog s still.later still.told still.free still.changed (g.met.W.Disk.is_consistent b.world) at in
     let mid = with_book {D = g.W.Disk} old b in
     let found = find s.work now.work.numbers now.work.catalog in
     let x = c.index-entries-i.result in
     let e : Entry = record { number = x.number; name = c.copy.result; kind = x.kind } in
-    let is = entry_is s.work now.work.numbers old.catalog c.entries-2.result.now name c.in-Some.i found c.entries-2.ensures.entries x c.index-entries-i.is c.copy.result c.copy.ensures in
-    let listed = c.in-Ok-layer_records.ensures.list now.work.records (tree_before {D = g.W.Disk} old.book b still now.work.records (at_tree {D = g.W.Disk} mid s now)) in
+    let is = entry_is s.work now.work.numbers old.catalog c.entries-2.result.now name c.in-Some.i found c.entries-2.ensures.entries x
+    c.index-entries-i.is c.copy.result c.copy.ensures in
+    let listed =
+    c.in-Ok-layer_records.ensures.list now.work.records (tree_before {D = g.W.Disk} old.book b still now.work.records (at_tree {D = g.W.Disk} mid s now)) in
     let plan = drop_plan {D = g.W.Disk} mid s now name found.layer found.got e is c.in-Ok-layer_records.all c.records.result.now c.records.ensures listed in
     c.in-Err-change.ensures.sound s now name x.number None plan
 
@@ -83,14 +90,17 @@ returns-in-Ok-false-clause-sound g c = λ s at.
     let name = c.args.name.now in
     let b = c.layer_records.new.book in
     let still = c.layer_records.ensures.still in
-    let find = subst (λ (es : List Entry). (layers : Map) (numbers : Numbering) → IsCatalogOf layers numbers es → IsLayerAt layers numbers es name c.in-Some.i) c.entries.ensures.entries c.in-Some.ensures.some in
+    let find = subst (λ (es : List Entry). (layers : Map) (numbers : Numbering) → IsCatalogOf layers numbers es
+    → IsLayerAt layers numbers es name c.in-Some.i) c.entries.ensures.entries c.in-Some.ensures.some in
     let now = later_at {D = g.W.Disk} old b old.catalog s still.later still.told still.free still.changed (g.met.W.Disk.is_consistent b.world) at in
     let mid = with_book {D = g.W.Disk} old b in
     let found = find s.work now.work.numbers now.work.catalog in
     let x = c.index-entries-i.result in
     let e : Entry = record { number = x.number; name = c.copy.result; kind = x.kind } in
-    let is = entry_is s.work now.work.numbers old.catalog c.entries-2.result.now name c.in-Some.i found c.entries-2.ensures.entries x c.index-entries-i.is c.copy.result c.copy.ensures in
-    let listed = c.in-Ok-layer_records.ensures.list now.work.records (tree_before {D = g.W.Disk} old.book b still now.work.records (at_tree {D = g.W.Disk} mid s now)) in
+    let is = entry_is s.work now.work.numbers old.catalog c.entries-2.result.now name c.in-Some.i found c.entries-2.ensures.entries x
+    c.index-entries-i.is c.copy.result c.copy.ensures in
+    let listed =
+    c.in-Ok-layer_records.ensures.list now.work.records (tree_before {D = g.W.Disk} old.book b still now.work.records (at_tree {D = g.W.Disk} mid s now)) in
     let plan = drop_plan {D = g.W.Disk} mid s now name found.layer found.got e is c.in-Ok-layer_records.all c.records.result.now c.records.ensures listed in
     let goes = entry_goes s.work now.work.numbers old.catalog name x.number c.in-Some.i now.work.catalog found in
     let has = c.in-Ok-false.ensures.changed s now name x.number None (remove old.catalog c.in-Some.i) plan goes in
@@ -103,18 +113,24 @@ returns-in-Ok-true-clause-answer g c = λ s at.
     let name = c.args.name.now in
     let b = c.layer_records.new.book in
     let still = c.layer_records.ensures.still in
-    let find = subst (λ (es : List Entry). (layers : Map) (numbers : Numbering) → IsCatalogOf layers numbers es → IsLayerAt layers numbers es name c.in-Some.i) c.entries.ensures.entries c.in-Some.ensures.some in
+    let find = subst (λ (es : List Entry). (layers : Map) (numbers : Numbering) → IsCatalogOf layers numbers es
+    → IsLayerAt layers numbers es name c.in-Some.i) c.entries.ensures.entries c.in-Some.ensures.some in
     let now = later_at {D = g.W.Disk} old b old.catalog s still.later still.told still.free still.changed (g.met.W.Disk.is_consistent b.world) at in
     let mid = with_book {D = g.W.Disk} old b in
     let found = find s.work now.work.numbers now.work.catalog in
     let x = c.index-entries-i.result in
     let e : Entry = record { number = x.number; name = c.copy.result; kind = x.kind } in
-    let is = entry_is s.work now.work.numbers old.catalog c.entries-2.result.now name c.in-Some.i found c.entries-2.ensures.entries x c.index-entries-i.is c.copy.result c.copy.ensures in
-    let listed = c.in-Ok-layer_records.ensures.list now.work.records (tree_before {D = g.W.Disk} old.book b still now.work.records (at_tree {D = g.W.Disk} mid s now)) in
+    let is = entry_is s.work now.work.numbers old.catalog c.entries-2.result.now name c.in-Some.i found c.entries-2.ensures.entries x
+    c.index-entries-i.is c.copy.result c.copy.ensures in
+    let listed =
+    c.in-Ok-layer_records.ensures.list now.work.records (tree_before {D = g.W.Disk} old.book b still now.work.records (at_tree {D = g.W.Disk} mid s now)) in
     let plan = drop_plan {D = g.W.Disk} mid s now name found.layer found.got e is c.in-Ok-layer_records.all c.records.result.now c.records.ensures listed in
-    let gone : c.remove.new.self ≡ remove old.catalog c.in-Some.i = c.remove.ensures ∙ ap (λ (es : List Entry). remove es c.in-Some.i) c.change.ensures.catalogs.0 in
+    let gone : c.remove.new.self ≡ remove old.catalog c.in-Some.i =
+    c.remove.ensures ∙ ap (λ (es : List Entry). remove es c.in-Some.i) c.change.ensures.catalogs.0 in
     let goes = entry_goes s.work now.work.numbers old.catalog name x.number c.in-Some.i now.work.catalog found in
     let has = c.in-Ok-true.ensures.changed s now name x.number None (remove old.catalog c.in-Some.i) plan goes in
-    let done = subst (λ (d : Bool). HasChanged {D = g.W.Disk} d mid c.change.new.self s name None (remove old.catalog c.in-Some.i)) c.in-Ok-true.field-0-test has in
-    subst (λ (es : List Entry). Answered {D = g.W.Disk} s (commands.Drop name) old (record c.change.new.self { catalog = es }) (given.Ok c.in-Ok.text)) (sym gone)
+    let done =
+    subst (λ (d : Bool). HasChanged {D = g.W.Disk} d mid c.change.new.self s name None (remove old.catalog c.in-Some.i)) c.in-Ok-true.field-0-test has in
+    subst (λ (es : List Entry). Answered {D = g.W.Disk} s (commands.Drop name) old (record c.change.new.self { catalog = es })
+    (given.Ok c.in-Ok.text)) (sym gone)
     (drop_answer {D = g.W.Disk} old mid c.change.new.self s name found.layer (remove old.catalog c.in-Some.i) c.in-Ok.text found.got done refl c.in-Ok.ensures)

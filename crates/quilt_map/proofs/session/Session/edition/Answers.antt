@@ -7,4 +7,5 @@ use Rattle.quilt_map.proofs.session.Session.edition.Goals as goal
 pub returns-clause-answer : goal.returns-clause-answer
 returns-clause-answer g c =
     told_here {D = g.W.Disk} commands.Edition edition_asks c.args.self.now c.edition_text.result c.told.result c.told.ensures.text (λ s at.
-    if_ok _ _ c.edition_text.result (λ t h. edition_body {D = g.W.Disk} c.args.self.now s at c.head.result.edition c.head.ensures.edition.0 t h) c.edition_text.ensures)
+    if_ok _ _ c.edition_text.result (λ t h. edition_body {D = g.W.Disk} c.args.self.now s at c.head.result.edition c.head.ensures.edition.0 t h)
+    c.edition_text.ensures)

@@ -16,7 +16,8 @@ returns-in-Err-clause-answer g c = λ s at.
     let old = c.args.self.now in
     let name = c.args.name.now in
     asked_here {D = g.W.Disk} s (commands.Find name c.args.at) (find_asks s name c.args.at) old at old.warm (reply.No c.in-Err.code)
-    (find_refused s name c.args.at c.in-Err.code (c.in-Err.ensures.refused s at.work.numbers (catalog_as {D = g.W.Disk} old s at c.entries.result.now c.entries.ensures.entries)))
+    (find_refused s name c.args.at c.in-Err.code
+    (c.in-Err.ensures.refused s at.work.numbers (catalog_as {D = g.W.Disk} old s at c.entries.result.now c.entries.ensures.entries)))
 
 pub returns-in-Err-clause-keeps : goal.returns-in-Err-clause-keeps
 returns-in-Err-clause-keeps g c = keeps_here {D = g.W.Disk} c.args.self.now c.args.self.now.warm
@@ -28,7 +29,8 @@ returns-then-not-has_pixel-clause-answer g c = λ s at.
     let found = found_points {D = g.W.Disk} old s at name c.in-Ok.layer c.entries.result.now c.entries.ensures.entries c.in-Ok.ensures.found in
     asked_here {D = g.W.Disk} s (commands.Find name c.args.at) (find_asks s name c.args.at) old at old.warm (reply.No no.Outside)
     (find_outside s name c.in-Ok.layer.bucket found.points found.is.got c.args.at
-    (test_at (λ n. is_pixel n c.args.at) c.head.result.level s.last.level c.has_pixel.result false (ap (λ (h : Head). h.level) c.head.ensures.work ∙ level_is {D = g.W.Disk} old s at) c.has_pixel.ensures c.if-not-has_pixel.true))
+    (test_at (λ n. is_pixel n c.args.at) c.head.result.level s.last.level c.has_pixel.result false
+    (ap (λ (h : Head). h.level) c.head.ensures.work ∙ level_is {D = g.W.Disk} old s at) c.has_pixel.ensures c.if-not-has_pixel.true))
 
 pub returns-then-not-has_pixel-clause-keeps : goal.returns-then-not-has_pixel-clause-keeps
 returns-then-not-has_pixel-clause-keeps g c = keeps_here {D = g.W.Disk} c.args.self.now c.args.self.now.warm
@@ -46,14 +48,22 @@ returns-in-Ok-None-clause-answer g c = λ s at.
     let name = c.args.name.now in
     let found = found_points {D = g.W.Disk} old s at name c.in-Ok.layer c.entries.result.now c.entries.ensures.entries c.in-Ok.ensures.found in
     let none = sym (c.in-Ok-None.ensures.label found.points found.holds) ∙ c.in-Ok-None.field-0-is in
-    asked_on {D = g.W.Disk} s (commands.Find name c.args.at) (find_asks s name c.args.at) old at c.read_label.new.book old.warm (reply.No no.Absent) c.read_label.ensures.still (g.met.W.Disk.is_consistent c.read_label.new.book.world)
-    (find_absent s name c.in-Ok.layer.bucket found.points found.is.got c.args.at (test_at (λ n. is_pixel n c.args.at) c.head.result.level s.last.level c.has_pixel.result true (ap (λ (h : Head). h.level) c.head.ensures.work ∙ level_is {D = g.W.Disk} old s at) c.has_pixel.ensures c.if-not-has_pixel.false) none)
+    asked_on {D = g.W.Disk} s (commands.Find name c.args.at) (find_asks s name c.args.at) old at c.read_label.new.book old.warm
+    (reply.No no.Absent) c.read_label.ensures.still (g.met.W.Disk.is_consistent c.read_label.new.book.world)
+    (find_absent s name c.in-Ok.layer.bucket found.points found.is.got c.args.at
+    (test_at (λ n. is_pixel n c.args.at) c.head.result.level s.last.level c.has_pixel.result true
+    (ap (λ (h : Head). h.level) c.head.ensures.work ∙ level_is {D = g.W.Disk} old s at) c.has_pixel.ensures c.if-not-has_pixel.false) none)
 
 pub returns-in-Ok-Some-clause-answer : goal.returns-in-Ok-Some-clause-answer
 returns-in-Ok-Some-clause-answer g c =
     let old = c.args.self.now in
     let name = c.args.name.now in
-    told_on {D = g.W.Disk} (commands.Find name c.args.at) (λ s. find_asks s name c.args.at) old c.read_label.new.book old.warm c.number_text.result c.told.result c.read_label.ensures.still (g.met.W.Disk.is_consistent c.read_label.new.book.world) c.told.ensures.text (λ s at.
+    told_on {D = g.W.Disk} (commands.Find name c.args.at) (λ s. find_asks s name c.args.at) old c.read_label.new.book old.warm c.number_text.result
+    c.told.result c.read_label.ensures.still (g.met.W.Disk.is_consistent c.read_label.new.book.world) c.told.ensures.text (λ s at.
     let found = found_points {D = g.W.Disk} old s at name c.in-Ok.layer c.entries.result.now c.entries.ensures.entries c.in-Ok.ensures.found in
     let some = sym (c.in-Ok-Some.ensures.label found.points found.holds) ∙ c.in-Ok-Some.field-0-is in
-    if_ok _ _ c.number_text.result (λ t h. find_body s name c.in-Ok.layer.bucket found.points found.is.got c.args.at (test_at (λ n. is_pixel n c.args.at) c.head.result.level s.last.level c.has_pixel.result true (ap (λ (h : Head). h.level) c.head.ensures.work ∙ level_is {D = g.W.Disk} old s at) c.has_pixel.ensures c.if-not-has_pixel.false) c.in-Ok-Some.label some c.from.result c.from.ensures t h) c.number_text.ensures)
+    if_ok _ _ c.number_text.result
+    (λ t h. find_body s name c.in-Ok.layer.bucket found.points found.is.got c.args.at
+    (test_at (λ n. is_pixel n c.args.at) c.head.result.level s.last.level c.has_pixel.result true (ap (λ (h : Head). h.level) c.head.ensures.work
+    ∙ level_is {D = g.W.Disk} old s at) c.has_pixel.ensures c.if-not-has_pixel.false) c.in-Ok-Some.label some c.from.result c.from.ensures t h)
+    c.number_text.ensures)

@@ -7,4 +7,9 @@ use Rattle.quilt_map.proofs.session.Session.layers.Goals as goal
 pub returns-clause-answer : goal.returns-clause-answer
 returns-clause-answer g c =
     told_here {D = g.W.Disk} commands.Layers layers_asks c.args.self.now c.layers_text.result c.told.result c.told.ensures.text (λ s at.
-    if_ok _ _ c.layers_text.result (λ t h. record { body = _; answered = layers_done s; written = h s.work at.work.numbers (catalog_as c.args.self.now s at c.entries.result.now c.entries.ensures.entries) }) c.layers_text.ensures.map)
+    if_ok _ _ c.layers_text.result
+    (λ t h. record {
+      body = _;
+      answered = layers_done s;
+      written = h s.work at.work.numbers (catalog_as c.args.self.now s at c.entries.result.now c.entries.ensures.entries);
+    }) c.layers_text.ensures.map)

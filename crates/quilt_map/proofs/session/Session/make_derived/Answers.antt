@@ -12,7 +12,9 @@ use Rattle.quilt_map.proofs.session.Session.make_derived.Goals as goal
 pub returns-in-Err-clause-sound : goal.returns-in-Err-clause-sound
 returns-in-Err-clause-sound g c = λ s at name grid is fits.
     let old = c.args.self.now in
-    c.in-Err.ensures.sound grid (has_number {D = g.W.Disk} old s at name c.args.number (as_region {D = g.W.Disk} old s at name c.args.number grid is)) (region_there {D = g.W.Disk} old s at name c.args.number grid is)
+    c.in-Err.ensures.sound grid
+    (has_number {D = g.W.Disk} old s at name c.args.number (as_region {D = g.W.Disk} old s at name c.args.number grid is))
+    (region_there {D = g.W.Disk} old s at name c.args.number grid is)
 
 pub returns-clause-made : goal.returns-clause-made
 returns-clause-made g c =
@@ -24,7 +26,8 @@ returns-clause-made g c =
     let list = list_of {D = g.W.Disk} old s at name c.args.number grid is c.in-Ok.list c.in-Ok.ensures.list in
     let h = derived command s.last.level grid in
     let made = derived_as command c.in-Ok-derived_list.made c.in-Ok.list s.last.level grid c.in-Ok-derived_list.ensures list in
-    let fit = made_fits s.last.format s.last.level c.in-Ok-derived_list.made h made (derived_grid {D = g.W.Disk} old s at command name c.args.number grid is fits) in
+    let fit =
+    made_fits s.last.format s.last.level c.in-Ok-derived_list.made h made (derived_grid {D = g.W.Disk} old s at command name c.args.number grid is fits) in
     made_answered {D = g.W.Disk} old (with_book {D = g.W.Disk} old book) c.make_region.new.self s c.args.into.now c.in-Ok-derived_list.made h reply refl made
     (p s there (made_level c.in-Ok-derived_list.made s.last.level h made) fit)) c.make_region.ensures.made
 
@@ -38,11 +41,13 @@ returns-clause-sound g c =
     let list = list_of {D = g.W.Disk} old s at name c.args.number grid is c.in-Ok.list c.in-Ok.ensures.list in
     let h = derived command s.last.level grid in
     let made = derived_as command c.in-Ok-derived_list.made c.in-Ok.list s.last.level grid c.in-Ok-derived_list.ensures list in
-    let fit = made_fits s.last.format s.last.level c.in-Ok-derived_list.made h made (derived_grid {D = g.W.Disk} old s at command name c.args.number grid is fits) in
+    let fit =
+    made_fits s.last.format s.last.level c.in-Ok-derived_list.made h made (derived_grid {D = g.W.Disk} old s at command name c.args.number grid is fits) in
     p s there (made_level c.in-Ok-derived_list.made s.last.level h made) fit) c.make_region.ensures.sound
 
 pub returns-clause-goes_on : goal.returns-clause-goes_on
 returns-clause-goes_on g c =
     let old = c.args.self.now.book in
     let book = c.read_region.new.book in
-    goes_both {D = g.W.Disk} old book c.make_region.new.self.book (goes_of {D = g.W.Disk} old book c.read_region.ensures.still.later) c.make_region.ensures.goes_on
+    goes_both {D = g.W.Disk} old book c.make_region.new.self.book (goes_of {D = g.W.Disk} old book c.read_region.ensures.still.later)
+    c.make_region.ensures.goes_on

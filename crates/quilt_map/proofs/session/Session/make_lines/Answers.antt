@@ -18,7 +18,8 @@ returns-in-Some-clause-answer g c = λ s at.
     let name = c.args.name.now in
     let code = c.in-Some.code in
     let catalog = catalog_as {D = g.W.Disk} old s at c.entries.result.now c.entries.ensures.entries in
-    answered_same {D = g.W.Disk} s (commands.Lines name c.args.t) old old (Refused code) (given.No code) (lines_refused s name c.args.t code (c.in-Some.ensures.refuses s at.work.numbers catalog)) refl refl refl at at
+    answered_same {D = g.W.Disk} s (commands.Lines name c.args.t) old old (Refused code) (given.No code)
+    (lines_refused s name c.args.t code (c.in-Some.ensures.refuses s at.work.numbers catalog)) refl refl refl at at
 
 pub returns-in-Some-clause-goes_on : goal.returns-in-Some-clause-goes_on
 returns-in-Some-clause-goes_on g c = goes_here {D = g.W.Disk} c.args.self.now.book
@@ -41,11 +42,15 @@ returns-clause-answer g c =
     let catalog = catalog_as {D = g.W.Disk} old s at c.entries.result.now c.entries.ensures.entries in
     let again = catalog_as {D = g.W.Disk} old s at c.entries-2.result.now c.entries-2.ensures.entries in
     let level = ap (λ (h : Head). h.level) c.head.ensures.work ∙ level_is {D = g.W.Disk} old s at in
-    let plan = lines_plan {D = g.W.Disk} old s at c.new_entry-entry.result name t c.head.result.level c.records-2.result.now level c.requires.threshold.0 c.requires.threshold.1
+    let plan = lines_plan {D = g.W.Disk} old s at c.new_entry-entry.result name t c.head.result.level c.records-2.result.now level
+    c.requires.threshold.0 c.requires.threshold.1
     c.entries.result.now c.entries.ensures.entries (c.in_default.ensures.few refl) (c.in_default.ensures.new refl) e.name e.named e.kind e.number.0 e.number.1
-    (e.unused s.work at.work.numbers again at.work.spelled.numbering) listed.0 c.first_record-first.result (c.records-2.ensures ∙ listed.1) listed.2 c.first_record-first.ensures in
-    answered_by {D = g.W.Disk} s (commands.Lines name t) (placed s name lines) old c.place.new.self reply (lines_given s name t (c.in_default.ensures.passes refl s at.work.numbers catalog)) (placed_none s name lines) refl
-    (subst (λ (b : List ℕ). AnsweredBy {D = g.W.Disk} s (placed s b lines) old c.place.new.self reply) e.name (p s at lines e.kind plan))) c.place.ensures.placed
+    (e.unused s.work at.work.numbers again at.work.spelled.numbering) listed.0 c.first_record-first.result
+    (c.records-2.ensures ∙ listed.1) listed.2 c.first_record-first.ensures in
+    answered_by {D = g.W.Disk} s (commands.Lines name t) (placed s name lines) old c.place.new.self reply
+    (lines_given s name t (c.in_default.ensures.passes refl s at.work.numbers catalog)) (placed_none s name lines) refl
+    (subst (λ (b : List ℕ). AnsweredBy {D = g.W.Disk} s (placed s b lines) old c.place.new.self reply) e.name (p s at lines e.kind plan)))
+    c.place.ensures.placed
 
 pub returns-clause-sound : goal.returns-clause-sound
 returns-clause-sound g c =
@@ -56,6 +61,8 @@ returns-clause-sound g c =
     let again = catalog_as {D = g.W.Disk} old s at c.entries-2.result.now c.entries-2.ensures.entries in
     let level = ap (λ (h : Head). h.level) c.head.ensures.work ∙ level_is {D = g.W.Disk} old s at in
     p s at (bare_lines s.last.level c.args.t)
-    (lines_plan {D = g.W.Disk} old s at c.new_entry-entry.result c.args.name.now c.args.t c.head.result.level c.records-2.result.now level c.requires.threshold.0 c.requires.threshold.1
+    (lines_plan {D = g.W.Disk} old s at c.new_entry-entry.result c.args.name.now c.args.t c.head.result.level c.records-2.result.now level
+    c.requires.threshold.0 c.requires.threshold.1
     c.entries.result.now c.entries.ensures.entries (c.in_default.ensures.few refl) (c.in_default.ensures.new refl) e.name e.named e.kind e.number.0 e.number.1
-    (e.unused s.work at.work.numbers again at.work.spelled.numbering) listed.0 c.first_record-first.result (c.records-2.ensures ∙ listed.1) listed.2 c.first_record-first.ensures)) c.place.ensures.sound
+    (e.unused s.work at.work.numbers again at.work.spelled.numbering) listed.0 c.first_record-first.result
+    (c.records-2.ensures ∙ listed.1) listed.2 c.first_record-first.ensures)) c.place.ensures.sound

@@ -13,7 +13,8 @@ use Rattle.quilt_map.proofs.session.Session.make_overlay.Goals as goal
 pub returns-in-Err-clause-sound : goal.returns-in-Err-clause-sound
 returns-in-Err-clause-sound g c = λ s at a b below above is_a is_b.
     let old = c.args.self.now in
-    c.in-Err.ensures.sound below (has_number {D = g.W.Disk} old s at a c.args.first (as_region {D = g.W.Disk} old s at a c.args.first below is_a)) (region_there {D = g.W.Disk} old s at a c.args.first below is_a)
+    c.in-Err.ensures.sound below (has_number {D = g.W.Disk} old s at a c.args.first (as_region {D = g.W.Disk} old s at a c.args.first below is_a))
+    (region_there {D = g.W.Disk} old s at a c.args.first below is_a)
 
 pub returns-in-Err-read_region-clause-sound : goal.returns-in-Err-read_region-clause-sound
 returns-in-Err-read_region-clause-sound g c = λ s at a b below above is_a is_b.
@@ -21,21 +22,25 @@ returns-in-Err-read_region-clause-sound g c = λ s at a b below above is_a is_b.
     let book = c.read_region.new.book in
     let mid = with_book {D = g.W.Disk} old book in
     let there = mid_at {D = g.W.Disk} old s at book c.read_region.ensures.still (g.met.W.Disk.is_consistent book.world) in
-    c.in-Err-read_region.ensures.sound above (has_number {D = g.W.Disk} mid s there b c.args.second (as_region {D = g.W.Disk} mid s there b c.args.second above is_b)) (region_there {D = g.W.Disk} mid s there b c.args.second above is_b)
+    c.in-Err-read_region.ensures.sound above
+    (has_number {D = g.W.Disk} mid s there b c.args.second (as_region {D = g.W.Disk} mid s there b c.args.second above is_b))
+    (region_there {D = g.W.Disk} mid s there b c.args.second above is_b)
 
 pub returns-in-Err-read_region-clause-goes_on : goal.returns-in-Err-read_region-clause-goes_on
 returns-in-Err-read_region-clause-goes_on g c =
     let old = c.args.self.now.book in
     let book = c.read_region.new.book in
     let last = c.read_region-in-Ok.new.book in
-    goes_both {D = g.W.Disk} old book last (goes_of {D = g.W.Disk} old book c.read_region.ensures.still.later) (goes_of {D = g.W.Disk} book last c.read_region-in-Ok.ensures.still.later)
+    goes_both {D = g.W.Disk} old book last (goes_of {D = g.W.Disk} old book c.read_region.ensures.still.later)
+    (goes_of {D = g.W.Disk} book last c.read_region-in-Ok.ensures.still.later)
 
 pub returns-in-Err-overlay-clause-goes_on : goal.returns-in-Err-overlay-clause-goes_on
 returns-in-Err-overlay-clause-goes_on g c =
     let old = c.args.self.now.book in
     let book = c.read_region.new.book in
     let last = c.read_region-in-Ok.new.book in
-    goes_both {D = g.W.Disk} old book last (goes_of {D = g.W.Disk} old book c.read_region.ensures.still.later) (goes_of {D = g.W.Disk} book last c.read_region-in-Ok.ensures.still.later)
+    goes_both {D = g.W.Disk} old book last (goes_of {D = g.W.Disk} old book c.read_region.ensures.still.later)
+    (goes_of {D = g.W.Disk} book last c.read_region-in-Ok.ensures.still.later)
 
 pub returns-clause-made : goal.returns-clause-made
 returns-clause-made g c =
@@ -51,7 +56,8 @@ returns-clause-made g c =
     let h = overlaid c.args.op s.last.level below above in
     let list = c.in-Ok-overlay.made in
     let made = overlaid_as c.args.op list c.in-Ok.below c.in-Ok-read_region.above s.last.level below above c.in-Ok-overlay.ensures first second in
-    let grid = overlaid_fits s.last.format s.last.level c.args.op below above (grid_of_layer {D = g.W.Disk} old s at a c.args.first below is_a) (grid_of_layer {D = g.W.Disk} old s at b c.args.second above is_b) in
+    let grid = overlaid_fits s.last.format s.last.level c.args.op below above (grid_of_layer {D = g.W.Disk} old s at a c.args.first below is_a)
+    (grid_of_layer {D = g.W.Disk} old s at b c.args.second above is_b) in
     made_answered {D = g.W.Disk} old (with_book {D = g.W.Disk} mid last) c.make_region.new.self s c.args.into.now list h reply refl made
     (p s then (made_level list s.last.level h made) (made_fits s.last.format s.last.level list h made grid))) c.make_region.ensures.made
 
@@ -69,7 +75,8 @@ returns-clause-sound g c =
     let h = overlaid c.args.op s.last.level below above in
     let list = c.in-Ok-overlay.made in
     let made = overlaid_as c.args.op list c.in-Ok.below c.in-Ok-read_region.above s.last.level below above c.in-Ok-overlay.ensures first second in
-    let grid = overlaid_fits s.last.format s.last.level c.args.op below above (grid_of_layer {D = g.W.Disk} old s at a c.args.first below is_a) (grid_of_layer {D = g.W.Disk} old s at b c.args.second above is_b) in
+    let grid = overlaid_fits s.last.format s.last.level c.args.op below above (grid_of_layer {D = g.W.Disk} old s at a c.args.first below is_a)
+    (grid_of_layer {D = g.W.Disk} old s at b c.args.second above is_b) in
     p s then (made_level list s.last.level h made) (made_fits s.last.format s.last.level list h made grid)) c.make_region.ensures.sound
 
 pub returns-clause-goes_on : goal.returns-clause-goes_on
@@ -78,4 +85,5 @@ returns-clause-goes_on g c =
     let book = c.read_region.new.book in
     let last = c.read_region-in-Ok.new.book in
     goes_both {D = g.W.Disk} old book c.make_region.new.self.book (goes_of {D = g.W.Disk} old book c.read_region.ensures.still.later)
-    (goes_both {D = g.W.Disk} book last c.make_region.new.self.book (goes_of {D = g.W.Disk} book last c.read_region-in-Ok.ensures.still.later) c.make_region.ensures.goes_on)
+    (goes_both {D = g.W.Disk} book last c.make_region.new.self.book (goes_of {D = g.W.Disk} book last c.read_region-in-Ok.ensures.still.later)
+    c.make_region.ensures.goes_on)

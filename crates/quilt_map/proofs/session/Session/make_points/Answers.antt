@@ -25,7 +25,8 @@ returns-in-Some-clause-answer g c = λ s at least most.
     let name = c.args.name.now in
     let code = c.in-Some.code in
     let catalog = catalog_as {D = g.W.Disk} old s at c.entries.result.now c.entries.ensures.entries in
-    answered_same {D = g.W.Disk} s (commands.Points name c.args.bucket) old old (Refused code) (given.No code) (points_refused s name c.args.bucket code (c.in-Some.ensures.refuses s at.work.numbers catalog)) refl refl refl at at
+    answered_same {D = g.W.Disk} s (commands.Points name c.args.bucket) old old (Refused code) (given.No code)
+    (points_refused s name c.args.bucket code (c.in-Some.ensures.refuses s at.work.numbers catalog)) refl refl refl at at
 
 pub returns-in-Some-clause-goes_on : goal.returns-in-Some-clause-goes_on
 returns-in-Some-clause-goes_on g c = goes_here {D = g.W.Disk} c.args.self.now.book
@@ -36,8 +37,10 @@ returns-then-is_unwritten-clause-answer g c = λ s at least most.
     let name = c.args.name.now in
     let catalog = catalog_as {D = g.W.Disk} old s at c.entries.result.now c.entries.ensures.entries in
     let passes = c.in_default.ensures.passes refl s at.work.numbers catalog in
-    let un = test_at (λ f. (f == 1) && nat_lt 1 c.args.bucket) c.head-head.result.format s.last.format c.is_unwritten.result true (ap (λ (h : Head). h.format) c.head-head.ensures.work ∙ format_is {D = g.W.Disk} old s at) c.is_unwritten.ensures c.if-is_unwritten.true in
-    answered_same {D = g.W.Disk} s (commands.Points name c.args.bucket) old old (Refused no.Format) (given.No no.Format) (points_unwritten s name c.args.bucket passes un) refl refl refl at at
+    let un = test_at (λ f. (f == 1) && nat_lt 1 c.args.bucket) c.head-head.result.format s.last.format c.is_unwritten.result true
+    (ap (λ (h : Head). h.format) c.head-head.ensures.work ∙ format_is {D = g.W.Disk} old s at) c.is_unwritten.ensures c.if-is_unwritten.true in
+    answered_same {D = g.W.Disk} s (commands.Points name c.args.bucket) old old (Refused no.Format) (given.No no.Format)
+    (points_unwritten s name c.args.bucket passes un) refl refl refl at at
 
 pub returns-then-is_unwritten-clause-goes_on : goal.returns-then-is_unwritten-clause-goes_on
 returns-then-is_unwritten-clause-goes_on g c = goes_here {D = g.W.Disk} c.args.self.now.book
@@ -60,16 +63,22 @@ returns-clause-answer g c =
     let catalog = catalog_as {D = g.W.Disk} old s at c.entries.result.now c.entries.ensures.entries in
     let again = catalog_as {D = g.W.Disk} old s at c.entries-2.result.now c.entries-2.ensures.entries in
     let level = ap (λ (h : Head). h.level) c.head-head.ensures.work ∙ level_is {D = g.W.Disk} old s at in
-    let written = test_at (λ f. (f == 1) && nat_lt 1 bucket) c.head-head.result.format s.last.format c.is_unwritten.result false (ap (λ (h : Head). h.format) c.head-head.ensures.work ∙ format_is {D = g.W.Disk} old s at) c.is_unwritten.ensures c.if-is_unwritten.false in
+    let written = test_at (λ f. (f == 1) && nat_lt 1 bucket) c.head-head.result.format s.last.format c.is_unwritten.result false
+    (ap (λ (h : Head). h.format) c.head-head.ensures.work ∙ format_is {D = g.W.Disk} old s at) c.is_unwritten.ensures c.if-is_unwritten.false in
     let few = subst (λ (es : List Entry). length es < 255) c.entries.ensures.entries (c.in_default.ensures.few refl) in
     let others = subst (λ (es : List Entry). All (λ f. f.name ≢ name) es) c.entries.ensures.entries (c.in_default.ensures.new refl) in
-    let first_is = λ (n k : ℕ). listed.2 n k ∙ ap (λ (b : List ℕ). record_of n k b entry.number (kind_fact entry.kind)) e.name ∙ ap (λ (x : Kind). record_of n k name entry.number (kind_fact x)) e.kind in
-    let plan = points_plan {D = g.W.Disk} old s at name entry.number bucket c.head-head.result.level c.records-2.result.now level least most written e.named few others e.number.0 e.number.1
-    (e.unused s.work at.work.numbers again at.work.spelled.numbering) listed.0 c.first_record-first.result (c.records-2.ensures ∙ listed.1) first_is c.first_record-first.ensures in
+    let first_is = λ (n k : ℕ). listed.2 n k ∙ ap (λ (b : List ℕ). record_of n k b entry.number (kind_fact entry.kind)) e.name
+    ∙ ap (λ (x : Kind). record_of n k name entry.number (kind_fact x)) e.kind in
+    let plan = points_plan {D = g.W.Disk} old s at name entry.number bucket c.head-head.result.level c.records-2.result.now level least most written
+    e.named few others e.number.0 e.number.1
+    (e.unused s.work at.work.numbers again at.work.spelled.numbering) listed.0 c.first_record-first.result
+    (c.records-2.ensures ∙ listed.1) first_is c.first_record-first.ensures in
     let planned = subst (λ (b : List ℕ). IsPlan s at.work.numbers b entry.number (Some (Points bucket bare)) [] c.records-2.result.now) (sym e.name) plan in
     let passes = c.in_default.ensures.passes refl s at.work.numbers catalog in
-    answered_by {D = g.W.Disk} s (commands.Points name bucket) (placed s name (Points bucket bare)) old c.place.new.self reply (points_given s name bucket passes written) (placed_none s name (Points bucket bare)) refl
-    (subst (λ (b : List ℕ). AnsweredBy {D = g.W.Disk} s (placed s b (Points bucket bare)) old c.place.new.self reply) e.name (p s at (Points bucket bare) e.kind planned))) c.place.ensures.placed
+    answered_by {D = g.W.Disk} s (commands.Points name bucket) (placed s name (Points bucket bare)) old c.place.new.self reply
+    (points_given s name bucket passes written) (placed_none s name (Points bucket bare)) refl
+    (subst (λ (b : List ℕ). AnsweredBy {D = g.W.Disk} s (placed s b (Points bucket bare)) old c.place.new.self reply) e.name
+    (p s at (Points bucket bare) e.kind planned))) c.place.ensures.placed
 
 pub returns-clause-sound : goal.returns-clause-sound
 returns-clause-sound g c =
@@ -82,11 +91,15 @@ returns-clause-sound g c =
     let listed = c.in-Ok-listed.ensures in
     let again = catalog_as {D = g.W.Disk} old s at c.entries-2.result.now c.entries-2.ensures.entries in
     let level = ap (λ (h : Head). h.level) c.head-head.ensures.work ∙ level_is {D = g.W.Disk} old s at in
-    let written = test_at (λ f. (f == 1) && nat_lt 1 bucket) c.head-head.result.format s.last.format c.is_unwritten.result false (ap (λ (h : Head). h.format) c.head-head.ensures.work ∙ format_is {D = g.W.Disk} old s at) c.is_unwritten.ensures c.if-is_unwritten.false in
+    let written = test_at (λ f. (f == 1) && nat_lt 1 bucket) c.head-head.result.format s.last.format c.is_unwritten.result false
+    (ap (λ (h : Head). h.format) c.head-head.ensures.work ∙ format_is {D = g.W.Disk} old s at) c.is_unwritten.ensures c.if-is_unwritten.false in
     let few = subst (λ (es : List Entry). length es < 255) c.entries.ensures.entries (c.in_default.ensures.few refl) in
     let others = subst (λ (es : List Entry). All (λ f. f.name ≢ name) es) c.entries.ensures.entries (c.in_default.ensures.new refl) in
-    let first_is = λ (n k : ℕ). listed.2 n k ∙ ap (λ (b : List ℕ). record_of n k b entry.number (kind_fact entry.kind)) e.name ∙ ap (λ (x : Kind). record_of n k name entry.number (kind_fact x)) e.kind in
-    let plan = points_plan {D = g.W.Disk} old s at name entry.number bucket c.head-head.result.level c.records-2.result.now level least most written e.named few others e.number.0 e.number.1
-    (e.unused s.work at.work.numbers again at.work.spelled.numbering) listed.0 c.first_record-first.result (c.records-2.ensures ∙ listed.1) first_is c.first_record-first.ensures in
+    let first_is = λ (n k : ℕ). listed.2 n k ∙ ap (λ (b : List ℕ). record_of n k b entry.number (kind_fact entry.kind)) e.name
+    ∙ ap (λ (x : Kind). record_of n k name entry.number (kind_fact x)) e.kind in
+    let plan = points_plan {D = g.W.Disk} old s at name entry.number bucket c.head-head.result.level c.records-2.result.now level least most written
+    e.named few others e.number.0 e.number.1
+    (e.unused s.work at.work.numbers again at.work.spelled.numbering) listed.0 c.first_record-first.result
+    (c.records-2.ensures ∙ listed.1) first_is c.first_record-first.ensures in
     let planned = subst (λ (b : List ℕ). IsPlan s at.work.numbers b entry.number (Some (Points bucket bare)) [] c.records-2.result.now) (sym e.name) plan in
     p s at (Points bucket bare) planned) c.place.ensures.sound

@@ -30,11 +30,16 @@ returns-clause-made g c =
     let name = c.args.name.now in
     let listed = c.in-Ok-listed.ensures in
     let catalog = subst (λ (es : List Entry). IsCatalogOf s.work at.work.numbers es) (sym c.entries.ensures.entries) at.work.catalog in
-    let first_is = λ (n k : ℕ). listed.2 n k ∙ ap (λ (b : List ℕ). record_of n k b entry.number (kind_fact entry.kind)) e.name ∙ ap (λ (x : Kind). record_of n k name entry.number (kind_fact x)) e.kind in
-    let plan = region_plan {D = g.W.Disk} old s at name entry.number c.args.list.now c.records-3.result.now c.records.result.now level grid e.named c.requires.few c.requires.new e.number.0 e.number.1
-    (e.unused s.work at.work.numbers catalog at.work.spelled.numbering) listed.0 (c.records-3.ensures ∙ listed.1) first_is (c.records.ensures ∙ c.in-Ok-plan_new.ensures.add) in
-    let planned = subst (λ (b : List ℕ). IsPlan s at.work.numbers b entry.number (Some (Region c.args.list.now.grid)) [] c.records-3.result.now) (sym e.name) plan in
-    subst (λ (b : List ℕ). AnsweredBy {D = g.W.Disk} s (placed s b (Region c.args.list.now.grid)) old c.place.new.self reply) e.name (p s at (Region c.args.list.now.grid) e.kind planned)) c.place.ensures.placed
+    let first_is = λ (n k : ℕ). listed.2 n k ∙ ap (λ (b : List ℕ). record_of n k b entry.number (kind_fact entry.kind)) e.name
+    ∙ ap (λ (x : Kind). record_of n k name entry.number (kind_fact x)) e.kind in
+    let plan = region_plan {D = g.W.Disk} old s at name entry.number c.args.list.now c.records-3.result.now c.records.result.now level grid e.named
+    c.requires.few c.requires.new e.number.0 e.number.1
+    (e.unused s.work at.work.numbers catalog at.work.spelled.numbering) listed.0 (c.records-3.ensures ∙ listed.1) first_is
+    (c.records.ensures ∙ c.in-Ok-plan_new.ensures.add) in
+    let planned =
+    subst (λ (b : List ℕ). IsPlan s at.work.numbers b entry.number (Some (Region c.args.list.now.grid)) [] c.records-3.result.now) (sym e.name) plan in
+    subst (λ (b : List ℕ). AnsweredBy {D = g.W.Disk} s (placed s b (Region c.args.list.now.grid)) old c.place.new.self reply) e.name
+    (p s at (Region c.args.list.now.grid) e.kind planned)) c.place.ensures.placed
 
 pub returns-clause-sound : goal.returns-clause-sound
 returns-clause-sound g c =
@@ -45,8 +50,12 @@ returns-clause-sound g c =
     let name = c.args.name.now in
     let listed = c.in-Ok-listed.ensures in
     let catalog = subst (λ (es : List Entry). IsCatalogOf s.work at.work.numbers es) (sym c.entries.ensures.entries) at.work.catalog in
-    let first_is = λ (n k : ℕ). listed.2 n k ∙ ap (λ (b : List ℕ). record_of n k b entry.number (kind_fact entry.kind)) e.name ∙ ap (λ (x : Kind). record_of n k name entry.number (kind_fact x)) e.kind in
-    let plan = region_plan {D = g.W.Disk} old s at name entry.number c.args.list.now c.records-3.result.now c.records.result.now level grid e.named c.requires.few c.requires.new e.number.0 e.number.1
-    (e.unused s.work at.work.numbers catalog at.work.spelled.numbering) listed.0 (c.records-3.ensures ∙ listed.1) first_is (c.records.ensures ∙ c.in-Ok-plan_new.ensures.add) in
-    let planned = subst (λ (b : List ℕ). IsPlan s at.work.numbers b entry.number (Some (Region c.args.list.now.grid)) [] c.records-3.result.now) (sym e.name) plan in
+    let first_is = λ (n k : ℕ). listed.2 n k ∙ ap (λ (b : List ℕ). record_of n k b entry.number (kind_fact entry.kind)) e.name
+    ∙ ap (λ (x : Kind). record_of n k name entry.number (kind_fact x)) e.kind in
+    let plan = region_plan {D = g.W.Disk} old s at name entry.number c.args.list.now c.records-3.result.now c.records.result.now level grid e.named
+    c.requires.few c.requires.new e.number.0 e.number.1
+    (e.unused s.work at.work.numbers catalog at.work.spelled.numbering) listed.0 (c.records-3.ensures ∙ listed.1) first_is
+    (c.records.ensures ∙ c.in-Ok-plan_new.ensures.add) in
+    let planned =
+    subst (λ (b : List ℕ). IsPlan s at.work.numbers b entry.number (Some (Region c.args.list.now.grid)) [] c.records-3.result.now) (sym e.name) plan in
     p s at (Region c.args.list.now.grid) planned) c.place.ensures.sound

@@ -11,7 +11,8 @@ returns-in-Err-clause-answer g c = λ s at.
     let command = c.args.command.now in
     let name = c.args.name.now in
     asked_here {D = g.W.Disk} s command (measure_asks command name c.requires s) old at old.warm (reply.No c.in-Err.code)
-    (measure_refused command name c.requires s c.in-Err.code (c.in-Err.ensures.refused s at.work.numbers (catalog_as {D = g.W.Disk} old s at c.entries.result.now c.entries.ensures.entries)))
+    (measure_refused command name c.requires s c.in-Err.code
+    (c.in-Err.ensures.refused s at.work.numbers (catalog_as {D = g.W.Disk} old s at c.entries.result.now c.entries.ensures.entries)))
 
 pub returns-in-Err-clause-keeps : goal.returns-in-Err-clause-keeps
 returns-in-Err-clause-keeps g c = keeps_here {D = g.W.Disk} c.args.self.now c.args.self.now.warm
@@ -21,13 +22,17 @@ returns-in-Err-read_region-clause-sound g c = λ s at.
     let old = c.args.self.now in
     let name = c.args.name.now in
     let region = c.in-Ok.ensures.found s.work at.work.numbers (catalog_as {D = g.W.Disk} old s at c.entries.result.now c.entries.ensures.entries) in
-    c.in-Err-read_region.ensures.sound region.grid (has_number {D = g.W.Disk} old s at name c.in-Ok.number region) (has_region {D = g.W.Disk} old s at name c.in-Ok.number region)
+    c.in-Err-read_region.ensures.sound region.grid (has_number {D = g.W.Disk} old s at name c.in-Ok.number region)
+    (has_region {D = g.W.Disk} old s at name c.in-Ok.number region)
 
 pub returns-in-Ok-read_region-clause-answer : goal.returns-in-Ok-read_region-clause-answer
 returns-in-Ok-read_region-clause-answer g c =
     let old = c.args.self.now in
     let command = c.args.command.now in
     let name = c.args.name.now in
-    told_on {D = g.W.Disk} command (measure_asks command name c.requires) old c.read_region.new.book old.warm c.number_text.result c.told.result c.read_region.ensures.still (g.met.W.Disk.is_consistent c.read_region.new.book.world) c.told.ensures.text (λ s at.
+    told_on {D = g.W.Disk} command (measure_asks command name c.requires) old c.read_region.new.book old.warm c.number_text.result c.told.result
+    c.read_region.ensures.still (g.met.W.Disk.is_consistent c.read_region.new.book.world) c.told.ensures.text (λ s at.
     let region = c.in-Ok.ensures.found s.work at.work.numbers (catalog_as {D = g.W.Disk} old s at c.entries.result.now c.entries.ensures.entries) in
-    if_ok _ _ c.number_text.result (λ t h. measure_body command name c.requires {D = g.W.Disk} old s at c.in-Ok.number region c.in-Ok-read_region.list c.in-Ok-read_region.ensures.list c.measure_of.result c.measure_of.ensures t h) c.number_text.ensures)
+    if_ok _ _ c.number_text.result
+    (λ t h. measure_body command name c.requires {D = g.W.Disk} old s at c.in-Ok.number region c.in-Ok-read_region.list
+    c.in-Ok-read_region.ensures.list c.measure_of.result c.measure_of.ensures t h) c.number_text.ensures)

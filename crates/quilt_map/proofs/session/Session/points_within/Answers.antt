@@ -16,7 +16,8 @@ returns-in-Err-clause-answer g c = λ s at.
     let old = c.args.self.now in
     let name = c.args.name.now in
     asked_here {D = g.W.Disk} s (commands.Within name c.args.w) (within_asks s name c.args.w) old at old.warm (reply.No c.in-Err.code)
-    (within_refused s name c.args.w c.in-Err.code (c.in-Err.ensures.refused s at.work.numbers (catalog_as {D = g.W.Disk} old s at c.entries.result.now c.entries.ensures.entries)))
+    (within_refused s name c.args.w c.in-Err.code
+    (c.in-Err.ensures.refused s at.work.numbers (catalog_as {D = g.W.Disk} old s at c.entries.result.now c.entries.ensures.entries)))
 
 pub returns-in-Err-clause-keeps : goal.returns-in-Err-clause-keeps
 returns-in-Err-clause-keeps g c = keeps_here {D = g.W.Disk} c.args.self.now c.args.self.now.warm
@@ -28,7 +29,8 @@ returns-then-not-has_window-clause-answer g c = λ s at.
     let found = found_points {D = g.W.Disk} old s at name c.in-Ok.layer c.entries.result.now c.entries.ensures.entries c.in-Ok.ensures.found in
     asked_here {D = g.W.Disk} s (commands.Within name c.args.w) (within_asks s name c.args.w) old at old.warm (reply.No no.Outside)
     (within_outside s name c.in-Ok.layer.bucket found.points found.is.got c.args.w
-    (test_at (λ n. is_window n c.args.w) c.head.result.level s.last.level c.has_window.result false (ap (λ (h : Head). h.level) c.head.ensures.work ∙ level_is {D = g.W.Disk} old s at) c.has_window.ensures c.if-not-has_window.true))
+    (test_at (λ n. is_window n c.args.w) c.head.result.level s.last.level c.has_window.result false
+    (ap (λ (h : Head). h.level) c.head.ensures.work ∙ level_is {D = g.W.Disk} old s at) c.has_window.ensures c.if-not-has_window.true))
 
 pub returns-then-not-has_window-clause-keeps : goal.returns-then-not-has_window-clause-keeps
 returns-then-not-has_window-clause-keeps g c = keeps_here {D = g.W.Disk} c.args.self.now c.args.self.now.warm
@@ -44,7 +46,12 @@ pub returns-in-Ok-read_points-clause-answer : goal.returns-in-Ok-read_points-cla
 returns-in-Ok-read_points-clause-answer g c =
     let old = c.args.self.now in
     let name = c.args.name.now in
-    told_on {D = g.W.Disk} (commands.Within name c.args.w) (λ s. within_asks s name c.args.w) old c.read_points.new.book old.warm c.points_text.result c.told.result c.read_points.ensures.still (g.met.W.Disk.is_consistent c.read_points.new.book.world) c.told.ensures.text (λ s at.
+    told_on {D = g.W.Disk} (commands.Within name c.args.w) (λ s. within_asks s name c.args.w) old c.read_points.new.book old.warm
+    c.points_text.result c.told.result c.read_points.ensures.still (g.met.W.Disk.is_consistent c.read_points.new.book.world) c.told.ensures.text (λ s at.
     let found = found_points {D = g.W.Disk} old s at name c.in-Ok.layer c.entries.result.now c.entries.ensures.entries c.in-Ok.ensures.found in
     let all = c.in-Ok-read_points.ensures.points found.points found.holds in
-    if_ok _ _ c.points_text.result (λ t h. within_body s name c.in-Ok.layer.bucket found.points found.is.got c.args.w (test_at (λ n. is_window n c.args.w) c.head.result.level s.last.level c.has_window.result true (ap (λ (h : Head). h.level) c.head.ensures.work ∙ level_is {D = g.W.Disk} old s at) c.has_window.ensures c.if-not-has_window.false) c.in-Ok-read_points.list all t h) c.points_text.ensures)
+    if_ok _ _ c.points_text.result
+    (λ t h. within_body s name c.in-Ok.layer.bucket found.points found.is.got c.args.w
+    (test_at (λ n. is_window n c.args.w) c.head.result.level s.last.level c.has_window.result true
+    (ap (λ (h : Head). h.level) c.head.ensures.work ∙ level_is {D = g.W.Disk} old s at) c.has_window.ensures c.if-not-has_window.false)
+    c.in-Ok-read_points.list all t h) c.points_text.ensures)

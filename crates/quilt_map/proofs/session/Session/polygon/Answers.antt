@@ -42,7 +42,8 @@ returns-then-leave_square-clause-answer g c = λ s at low.
     let rings = c.in-Some-rings.rings in
     let catalog = catalog_as {D = g.W.Disk} old s at c.entries.result.now c.entries.ensures.entries in
     let level = ap (λ (h : Head). h.level) c.head-level.ensures.work ∙ level_is {D = g.W.Disk} old s at in
-    let out = leave_at c.head-level.result.level s.last.level rings c.leave_square.result true level (at_most {D = g.W.Disk} old s at) c.leave_square.ensures c.if-leave_square.true in
+    let out = leave_at c.head-level.result.level s.last.level rings c.leave_square.result true level
+    (at_most {D = g.W.Disk} old s at) c.leave_square.ensures c.if-leave_square.true in
     let is = polygon_outside s name c.args.c (c.in_default.ensures.passes refl s at.work.numbers catalog) c.args.rings.now rings c.in-Some-rings.is out in
     answered_same {D = g.W.Disk} s (commands.Polygon name c.args.c c.args.rings.now) old old (Refused no.Outside) _ is refl refl refl at at
 
@@ -62,10 +63,12 @@ returns-in-Ok-clause-answer g c =
     let n = c.head-level.result.level in
     let catalog = catalog_as {D = g.W.Disk} old s at c.entries.result.now c.entries.ensures.entries in
     let level = ap (λ (h : Head). h.level) c.head-level.ensures.work ∙ level_is {D = g.W.Disk} old s at in
-    let inside = leave_at n s.last.level rings c.leave_square.result false level (at_most {D = g.W.Disk} old s at) c.leave_square.ensures c.if-leave_square.false in
+    let inside =
+    leave_at n s.last.level rings c.leave_square.result false level (at_most {D = g.W.Disk} old s at) c.leave_square.ensures c.if-leave_square.false in
     polygon_answered {D = g.W.Disk} old c.make_region.new.self s name c.args.c c.args.rings.now rings list n reply c.in-Some-rings.is c.in-Ok.ensures level
     (c.in_default.ensures.passes refl s at.work.numbers catalog) inside
-    (p s at (filled_level s c.args.c rings list n c.in-Ok.ensures level) (filled_fits s c.args.c rings list n c.in-Ok.ensures level low))) c.make_region.ensures.made
+    (p s at (filled_level s c.args.c rings list n c.in-Ok.ensures level) (filled_fits s c.args.c rings list n c.in-Ok.ensures level low)))
+    c.make_region.ensures.made
 
 pub returns-in-Ok-clause-sound : goal.returns-in-Ok-clause-sound
 returns-in-Ok-clause-sound g c =
@@ -74,4 +77,5 @@ returns-in-Ok-clause-sound g c =
     let list = c.in-Ok.list in
     let n = c.head-level.result.level in
     let level = ap (λ (h : Head). h.level) c.head-level.ensures.work ∙ level_is {D = g.W.Disk} c.args.self.now s at in
-    p s at (filled_level s c.args.c rings list n c.in-Ok.ensures level) (filled_fits s c.args.c rings list n c.in-Ok.ensures level low)) c.make_region.ensures.sound
+    p s at (filled_level s c.args.c rings list n c.in-Ok.ensures level) (filled_fits s c.args.c rings list n c.in-Ok.ensures level low))
+    c.make_region.ensures.sound

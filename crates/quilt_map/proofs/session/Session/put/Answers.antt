@@ -13,6 +13,7 @@ unfolding IsAt
 returns-clause-at g c = λ s at.
     let same = c.put.ensures.same in
     let told = c.put.ensures.told in record {
-      at = text_at c.args.self.now c.put.new.self s c.put.ensures.same c.put.ensures.told (put _ _ _ _ c.put.ensures.put c.put.ensures.nothing) (g.met.W.Disk.is_consistent c.put.new.self.world) at.at;
+      at = text_at c.args.self.now c.put.new.self s c.put.ensures.same c.put.ensures.told (put _ _ _ _ c.put.ensures.put c.put.ensures.nothing)
+          (g.met.W.Disk.is_consistent c.put.new.self.world) at.at;
       warm = warm_as c.args.self.now.warm c.args.self.now.catalog _ _ _ _ _ _ told same.work (ap (λ (p : Pool). keys_of (entries_of p)) same.pool) at.warm;
     }

@@ -26,7 +26,8 @@ returns-in-Ok-None-clause-put g c = λ s at name segs cover is.
     let threshold = c.args.layer.threshold in
     let there = lines_there {D = g.W.Disk} old s at name c.args.layer segs cover is in
     let finds = put_finds c.in-Ok-None.field-0 (finmap.get segs c.args.id) (c.in-Ok-None.ensures.none segs cover there.holds) in
-    unplanned {D = g.W.Disk} old s at book c.plan_addition.ensures.still (g.met.W.Disk.is_consistent book.world) (segment_put s name threshold segs cover c.args.id c.args.s) no.Present
+    unplanned {D = g.W.Disk} old s at book c.plan_addition.ensures.still (g.met.W.Disk.is_consistent book.world)
+    (segment_put s name threshold segs cover c.args.id c.args.s) no.Present
     (segment_present s name threshold segs cover c.args.id c.args.s (finds.0 c.in-Ok-None.field-0-is))
 
 pub returns-in-Ok-None-clause-goes_on : goal.returns-in-Ok-None-clause-goes_on
@@ -43,8 +44,10 @@ returns-in-Ok-Some-clause-put g c =
     let some = c.in-Ok-Some in
     let there = lines_there {D = g.W.Disk} old s at name c.args.layer segs cover is in
     let finds = put_finds some.field-0 (finmap.get segs c.args.id) (some.ensures.none segs cover there.holds) in
-    planned {D = g.W.Disk} old s at book still law (segment_put s name threshold segs cover c.args.id c.args.s) name c.args.layer.number (with_segment threshold segs cover c.args.id c.args.s) some.edits
-    (put_amendment {D = g.W.Disk} old s at book still law name c.args.layer segs cover is c.args.id some.field-0 some.edits some.field-0-is some.ensures.order c.args.s some.ensures.plan)
+    planned {D = g.W.Disk} old s at book still law (segment_put s name threshold segs cover c.args.id c.args.s) name c.args.layer.number
+    (with_segment threshold segs cover c.args.id c.args.s) some.edits
+    (put_amendment {D = g.W.Disk} old s at book still law name c.args.layer segs cover is c.args.id some.field-0 some.edits some.field-0-is
+    some.ensures.order c.args.s some.ensures.plan)
     (segment_new s name threshold segs cover c.args.id c.args.s (finds.1 some.edits some.field-0-is)) c.amend.new.self reply p) c.amend.ensures.amended
 
 pub returns-in-Ok-Some-clause-sound : goal.returns-in-Ok-Some-clause-sound
@@ -56,8 +59,10 @@ returns-in-Ok-Some-clause-sound g c =
     let law = g.met.W.Disk.is_consistent book.world in
     let some = c.in-Ok-Some in
     p s (mid_at {D = g.W.Disk} old s at book still law) name c.args.layer.number (with_segment c.args.layer.threshold segs cover c.args.id c.args.s)
-    (put_amendment {D = g.W.Disk} old s at book still law name c.args.layer segs cover is c.args.id some.field-0 some.edits some.field-0-is some.ensures.order c.args.s some.ensures.plan)) c.amend.ensures.sound
+    (put_amendment {D = g.W.Disk} old s at book still law name c.args.layer segs cover is c.args.id some.field-0 some.edits some.field-0-is
+    some.ensures.order c.args.s some.ensures.plan)) c.amend.ensures.sound
 
 pub returns-in-Ok-Some-clause-goes_on : goal.returns-in-Ok-Some-clause-goes_on
 returns-in-Ok-Some-clause-goes_on g c =
-    goes_both {D = g.W.Disk} c.args.self.now.book c.plan_addition.new.book c.amend.new.self.book (goes_of {D = g.W.Disk} c.args.self.now.book c.plan_addition.new.book c.plan_addition.ensures.still.later) c.amend.ensures.goes_on
+    goes_both {D = g.W.Disk} c.args.self.now.book c.plan_addition.new.book c.amend.new.self.book
+    (goes_of {D = g.W.Disk} c.args.self.now.book c.plan_addition.new.book c.plan_addition.ensures.still.later) c.amend.ensures.goes_on

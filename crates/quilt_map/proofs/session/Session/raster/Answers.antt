@@ -15,7 +15,8 @@ returns-in-Err-clause-answer g c = λ s at.
     let old = c.args.self.now in
     let name = c.args.name.now in
     let first = c.in-Err.ensures.refused s at.work.numbers (catalog_as {D = g.W.Disk} old s at c.entries.result.now c.entries.ensures.entries) in
-    answered_same {D = g.W.Disk} s (commands.Raster name c.args.rows.now) old old (Refused c.in-Err.code) _ (raster_refused s name c.args.rows.now c.in-Err.code first) refl refl refl at at
+    answered_same {D = g.W.Disk} s (commands.Raster name c.args.rows.now) old old (Refused c.in-Err.code) _
+    (raster_refused s name c.args.rows.now c.in-Err.code first) refl refl refl at at
 
 pub returns-in-Err-clause-goes_on : goal.returns-in-Err-clause-goes_on
 returns-in-Err-clause-goes_on g c = goes_here {D = g.W.Disk} c.args.self.now.book
@@ -25,7 +26,8 @@ returns-in_default-clause-answer g c = λ s at.
     let old = c.args.self.now in
     let name = c.args.name.now in
     let region = c.in-Ok.ensures.found s.work at.work.numbers (catalog_as {D = g.W.Disk} old s at c.entries.result.now c.entries.ensures.entries) in
-    answered_same {D = g.W.Disk} s (commands.Raster name c.args.rows.now) old old (Refused no.Rows) _ (raster_missing s name region.grid region.got c.args.rows.now c.in_default.is) refl refl refl at at
+    answered_same {D = g.W.Disk} s (commands.Raster name c.args.rows.now) old old (Refused no.Rows) _
+    (raster_missing s name region.grid region.got c.args.rows.now c.in_default.is) refl refl refl at at
 
 pub returns-in_default-clause-goes_on : goal.returns-in_default-clause-goes_on
 returns-in_default-clause-goes_on g c = goes_here {D = g.W.Disk} c.args.self.now.book
@@ -38,7 +40,8 @@ returns-in-Ok-leaves_of_par-clause-answer g c =
     if_ok _ _ c.redraw.result (λ reply p s at.
     let old = c.args.self.now in
     let name = c.args.name.now in
-    let region = region_in s.work at.work.numbers c.entries.result.now old.catalog name c.in-Ok.number c.entries.ensures.entries at.work.catalog c.in-Ok.ensures.found in
+    let region =
+    region_in s.work at.work.numbers c.entries.result.now old.catalog name c.in-Ok.number c.entries.ensures.entries at.work.catalog c.in-Ok.ensures.found in
     let bytes = c.bytes.result.now in
     let there = c.in-Some.is ∙ ap Some (sym c.bytes.ensures) in
     let list = c.in-Ok-leaves_of_par.list in
@@ -52,7 +55,8 @@ returns-in-Ok-leaves_of_par-clause-sound g c =
     if_err _ _ c.redraw.result (λ e p s at.
     let old = c.args.self.now in
     let name = c.args.name.now in
-    let region = region_in s.work at.work.numbers c.entries.result.now old.catalog name c.in-Ok.number c.entries.ensures.entries at.work.catalog c.in-Ok.ensures.found in
+    let region =
+    region_in s.work at.work.numbers c.entries.result.now old.catalog name c.in-Ok.number c.entries.ensures.entries at.work.catalog c.in-Ok.ensures.found in
     let bytes = c.bytes.result.now in
     let there = c.in-Some.is ∙ ap Some (sym c.bytes.ensures) in
     let list = c.in-Ok-leaves_of_par.list in

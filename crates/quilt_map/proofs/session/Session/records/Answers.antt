@@ -10,4 +10,5 @@ pub returns-clause-answer : goal.returns-clause-answer
 returns-clause-answer g c =
     told_here {D = g.W.Disk} commands.Records records_asks c.args.self.now c.records_text.result c.told.result c.told.ensures.text (λ s at.
     if_ok _ _ c.records_text.result
-    (λ t h. records_body {D = g.W.Disk} c.args.self.now s at c.head-records.result.records c.pages.result (ap (λ (h : Head). h.records) c.head-records.ensures.work) c.pages.ensures t h) c.records_text.ensures)
+    (λ t h. records_body {D = g.W.Disk} c.args.self.now s at c.head-records.result.records c.pages.result
+    (ap (λ (h : Head). h.records) c.head-records.ensures.work) c.pages.ensures t h) c.records_text.ensures)

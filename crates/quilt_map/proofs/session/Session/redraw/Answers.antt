@@ -17,7 +17,9 @@ returns-in_default-clause-goes_on g c = goes_here {D = g.W.Disk} c.args.self.now
 pub returns-in-Err-clause-sound : goal.returns-in-Err-clause-sound
 returns-in-Err-clause-sound g c = λ s at name grid is fits.
     let old = c.args.self.now in
-    c.in-Err.ensures.sound grid (has_number {D = g.W.Disk} old s at name c.args.number (as_region {D = g.W.Disk} old s at name c.args.number grid is)) (region_there {D = g.W.Disk} old s at name c.args.number grid is)
+    c.in-Err.ensures.sound grid
+    (has_number {D = g.W.Disk} old s at name c.args.number (as_region {D = g.W.Disk} old s at name c.args.number grid is))
+    (region_there {D = g.W.Disk} old s at name c.args.number grid is)
 
 pub returns-in-Ok-plan_redraw-clause-redrawn : goal.returns-in-Ok-plan_redraw-clause-redrawn
 returns-in-Ok-plan_redraw-clause-redrawn g c =
@@ -29,7 +31,8 @@ returns-in-Ok-plan_redraw-clause-redrawn g c =
     let next = c.args.list.now.grid in
     answered_from {D = g.W.Disk} old (with_book {D = g.W.Disk} old book) c.amend.new.self s (placed s name (Region next)) reply refl
     (p s (mid_at {D = g.W.Disk} old s at book still law) name c.args.number (Region next)
-    (mid_amendment {D = g.W.Disk} old s at book still law name c.args.number grid is (λ n k. next) fits c.in-Ok-plan_redraw.edits c.in-Ok-plan_redraw.ensures.plan))) c.amend.ensures.amended
+    (mid_amendment {D = g.W.Disk} old s at book still law name c.args.number grid is
+    (λ n k. next) fits c.in-Ok-plan_redraw.edits c.in-Ok-plan_redraw.ensures.plan))) c.amend.ensures.amended
 
 pub returns-in-Ok-plan_redraw-clause-sound : goal.returns-in-Ok-plan_redraw-clause-sound
 returns-in-Ok-plan_redraw-clause-sound g c =
@@ -40,8 +43,10 @@ returns-in-Ok-plan_redraw-clause-sound g c =
     let law = g.met.W.Disk.is_consistent book.world in
     let next = c.args.list.now.grid in
     p s (mid_at {D = g.W.Disk} old s at book still law) name c.args.number (Region next)
-    (mid_amendment {D = g.W.Disk} old s at book still law name c.args.number grid is (λ n k. next) fits c.in-Ok-plan_redraw.edits c.in-Ok-plan_redraw.ensures.plan)) c.amend.ensures.sound
+    (mid_amendment {D = g.W.Disk} old s at book still law name c.args.number grid is
+    (λ n k. next) fits c.in-Ok-plan_redraw.edits c.in-Ok-plan_redraw.ensures.plan)) c.amend.ensures.sound
 
 pub returns-in-Ok-plan_redraw-clause-goes_on : goal.returns-in-Ok-plan_redraw-clause-goes_on
 returns-in-Ok-plan_redraw-clause-goes_on g c =
-    goes_both {D = g.W.Disk} c.args.self.now.book c.plan_redraw.new.book c.amend.new.self.book (goes_of {D = g.W.Disk} c.args.self.now.book c.plan_redraw.new.book c.plan_redraw.ensures.still.later) c.amend.ensures.goes_on
+    goes_both {D = g.W.Disk} c.args.self.now.book c.plan_redraw.new.book c.amend.new.self.book
+    (goes_of {D = g.W.Disk} c.args.self.now.book c.plan_redraw.new.book c.plan_redraw.ensures.still.later) c.amend.ensures.goes_on

@@ -16,7 +16,8 @@ returns-in-Some-clause-answer g c = λ s at lt.
     let name = c.args.name.now in
     let code = c.in-Some.code in
     let catalog = catalog_as {D = g.W.Disk} old s at c.entries.result.now c.entries.ensures.entries in
-    answered_same {D = g.W.Disk} s (commands.Region name c.args.c) old old (Refused code) (given.No code) (region_refusal s name c.args.c code (c.in-Some.ensures.refuses s at.work.numbers catalog)) refl refl refl at at
+    answered_same {D = g.W.Disk} s (commands.Region name c.args.c) old old (Refused code) (given.No code)
+    (region_refusal s name c.args.c code (c.in-Some.ensures.refuses s at.work.numbers catalog)) refl refl refl at at
 
 pub returns-in-Some-clause-goes_on : goal.returns-in-Some-clause-goes_on
 returns-in-Some-clause-goes_on g c = goes_here {D = g.W.Disk} c.args.self.now.book
@@ -33,11 +34,13 @@ returns-in-Ok-clause-answer g c =
     let passes = c.in_default.ensures.passes refl s at.work.numbers catalog in
     let n = c.head-level.result.level in
     region_answered {D = g.W.Disk} old c.make_region.new.self s c.args.name.now c.args.c c.in-Ok.list n reply c.in-Ok.ensures level passes
-    (p s at (list_level s c.args.c c.in-Ok.list n c.in-Ok.ensures level) (list_fits s c.args.c c.in-Ok.list n c.in-Ok.ensures level lt))) c.make_region.ensures.made
+    (p s at (list_level s c.args.c c.in-Ok.list n c.in-Ok.ensures level) (list_fits s c.args.c c.in-Ok.list n c.in-Ok.ensures level lt)))
+    c.make_region.ensures.made
 
 pub returns-in-Ok-clause-sound : goal.returns-in-Ok-clause-sound
 returns-in-Ok-clause-sound g c =
     if_err _ _ c.make_region.result (λ e p s at lt.
     let level = ap (λ (h : Head). h.level) c.head-level.ensures.work ∙ level_is {D = g.W.Disk} c.args.self.now s at in
     let n = c.head-level.result.level in
-    p s at (list_level s c.args.c c.in-Ok.list n c.in-Ok.ensures level) (list_fits s c.args.c c.in-Ok.list n c.in-Ok.ensures level lt)) c.make_region.ensures.sound
+    p s at (list_level s c.args.c c.in-Ok.list n c.in-Ok.ensures level) (list_fits s c.args.c c.in-Ok.list n c.in-Ok.ensures level lt))
+    c.make_region.ensures.sound

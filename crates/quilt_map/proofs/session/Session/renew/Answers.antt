@@ -10,7 +10,8 @@ returns-in_default-clause-writes g c = λ s e can. writes_few {D = g.W.Disk} c.a
 pub returns-clause-renewed : goal.returns-clause-renewed
 returns-clause-renewed g c = λ s e can.
     let ok = c.in-Ok.ensures in
-    is_renewed {D = g.W.Disk} c.args.self.now s e can c.publish.new.self c.copy_of-self.result c.copy_of-self.ensures ok.ready c.publish.ensures.size ok.head.0 ok.head.1 ok.changed ok.told
+    is_renewed {D = g.W.Disk} c.args.self.now s e can c.publish.new.self c.copy_of-self.result c.copy_of-self.ensures ok.ready c.publish.ensures.size
+    ok.head.0 ok.head.1 ok.changed ok.told
     c.publish.ensures.free ok.used ok.published (g.met.W.Disk.is_consistent c.publish.new.self.world)
 
 pub returns-clause-crash : goal.returns-clause-crash

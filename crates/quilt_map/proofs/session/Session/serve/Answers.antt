@@ -12,39 +12,45 @@ returns-in-Region-clause-answer g c =
     if_ok _ _ c.region.result (λ reply p s at.
     let other = commands.Region c.in-Region.a c.in-Region.c in
     let old = c.args.self.now in
-    subst (λ (x : Command). Answered {D = g.W.Disk} s x old c.region.new.self reply) (sym c.in-Region.is) (p s at (fitting_of {D = g.W.Disk} old c.args.command.now other s c.requires.spelled c.in-Region.is at).1)) c.region.ensures.answer
+    subst (λ (x : Command). Answered {D = g.W.Disk} s x old c.region.new.self reply) (sym c.in-Region.is)
+    (p s at (fitting_of {D = g.W.Disk} old c.args.command.now other s c.requires.spelled c.in-Region.is at).1)) c.region.ensures.answer
 
 pub returns-in-Region-clause-sound : goal.returns-in-Region-clause-sound
 returns-in-Region-clause-sound g c =
     if_err _ _ c.region.result (λ e p s at.
     let old = c.args.self.now in
-    p s at (fitting_of {D = g.W.Disk} old c.args.command.now (commands.Region c.in-Region.a c.in-Region.c) s c.requires.spelled c.in-Region.is at).1) c.region.ensures.sound
+    p s at (fitting_of {D = g.W.Disk} old c.args.command.now (commands.Region c.in-Region.a c.in-Region.c) s c.requires.spelled c.in-Region.is at).1)
+    c.region.ensures.sound
 
 pub returns-in-Set-clause-answer : goal.returns-in-Set-clause-answer
 returns-in-Set-clause-answer g c =
     if_ok _ _ c.set.result (λ reply p s at.
     let other = commands.Set c.in-Set.a c.in-Set.at c.in-Set.c in
     let old = c.args.self.now in
-    subst (λ (x : Command). Answered {D = g.W.Disk} s x old c.set.new.self reply) (sym c.in-Set.is) (p s at (fitting_of {D = g.W.Disk} old c.args.command.now other s c.requires.spelled c.in-Set.is at).2)) c.set.ensures.answer
+    subst (λ (x : Command). Answered {D = g.W.Disk} s x old c.set.new.self reply) (sym c.in-Set.is)
+    (p s at (fitting_of {D = g.W.Disk} old c.args.command.now other s c.requires.spelled c.in-Set.is at).2)) c.set.ensures.answer
 
 pub returns-in-Set-clause-sound : goal.returns-in-Set-clause-sound
 returns-in-Set-clause-sound g c =
     if_err _ _ c.set.result (λ e p s at.
     let old = c.args.self.now in
-    p s at (fitting_of {D = g.W.Disk} old c.args.command.now (commands.Set c.in-Set.a c.in-Set.at c.in-Set.c) s c.requires.spelled c.in-Set.is at).2) c.set.ensures.sound
+    p s at (fitting_of {D = g.W.Disk} old c.args.command.now (commands.Set c.in-Set.a c.in-Set.at c.in-Set.c) s c.requires.spelled c.in-Set.is at).2)
+    c.set.ensures.sound
 
 pub returns-in-Rect-clause-answer : goal.returns-in-Rect-clause-answer
 returns-in-Rect-clause-answer g c =
     if_ok _ _ c.rect.result (λ reply p s at.
     let other = commands.Rect c.in-Rect.a c.in-Rect.w c.in-Rect.c in
     let old = c.args.self.now in
-    subst (λ (x : Command). Answered {D = g.W.Disk} s x old c.rect.new.self reply) (sym c.in-Rect.is) (p s at (fitting_of {D = g.W.Disk} old c.args.command.now other s c.requires.spelled c.in-Rect.is at).2)) c.rect.ensures.answer
+    subst (λ (x : Command). Answered {D = g.W.Disk} s x old c.rect.new.self reply) (sym c.in-Rect.is)
+    (p s at (fitting_of {D = g.W.Disk} old c.args.command.now other s c.requires.spelled c.in-Rect.is at).2)) c.rect.ensures.answer
 
 pub returns-in-Rect-clause-sound : goal.returns-in-Rect-clause-sound
 returns-in-Rect-clause-sound g c =
     if_err _ _ c.rect.result (λ e p s at.
     let old = c.args.self.now in
-    p s at (fitting_of {D = g.W.Disk} old c.args.command.now (commands.Rect c.in-Rect.a c.in-Rect.w c.in-Rect.c) s c.requires.spelled c.in-Rect.is at).2) c.rect.ensures.sound
+    p s at (fitting_of {D = g.W.Disk} old c.args.command.now (commands.Rect c.in-Rect.a c.in-Rect.w c.in-Rect.c)
+    s c.requires.spelled c.in-Rect.is at).2) c.rect.ensures.sound
 
 pub returns-in-Layers-clause-goes_on : goal.returns-in-Layers-clause-goes_on
 returns-in-Layers-clause-goes_on g c = goes_here {D = g.W.Disk} c.args.self.now.book
@@ -73,47 +79,66 @@ returns-in-Union-clause-answer g c =
 pub returns-in-Inter-clause-answer : goal.returns-in-Inter-clause-answer
 returns-in-Inter-clause-answer g c =
     if_ok _ _ c.overlay-in-Inter.result (λ reply p s at.
-    subst (λ (x : Command). Answered {D = g.W.Disk} s x c.args.self.now c.overlay-in-Inter.new.self reply) (sym c.in-Inter.is) (p s at)) c.overlay-in-Inter.ensures.answer
+    subst (λ (x : Command). Answered {D = g.W.Disk} s x c.args.self.now c.overlay-in-Inter.new.self reply) (sym c.in-Inter.is)
+    (p s at)) c.overlay-in-Inter.ensures.answer
 
 pub returns-in-Diff-clause-answer : goal.returns-in-Diff-clause-answer
 returns-in-Diff-clause-answer g c =
     if_ok _ _ c.overlay-in-Diff.result (λ reply p s at.
-    subst (λ (x : Command). Answered {D = g.W.Disk} s x c.args.self.now c.overlay-in-Diff.new.self reply) (sym c.in-Diff.is) (p s at)) c.overlay-in-Diff.ensures.answer
+    subst (λ (x : Command). Answered {D = g.W.Disk} s x c.args.self.now c.overlay-in-Diff.new.self reply) (sym c.in-Diff.is)
+    (p s at)) c.overlay-in-Diff.ensures.answer
 
 pub returns-in-Recolour-clause-answer : goal.returns-in-Recolour-clause-answer
 returns-in-Recolour-clause-answer g c =
-    if_ok _ _ c.derive.result (λ reply p s at. p s at (fitting_of {D = g.W.Disk} c.args.self.now c.args.command.now c.args.command.now s c.requires.spelled refl at)) c.derive.ensures.answer
+    if_ok _ _ c.derive.result
+    (λ reply p s at. p s at (fitting_of {D = g.W.Disk} c.args.self.now c.args.command.now c.args.command.now s c.requires.spelled refl at))
+    c.derive.ensures.answer
 
 pub returns-in-Recolour-clause-sound : goal.returns-in-Recolour-clause-sound
 returns-in-Recolour-clause-sound g c =
-    if_err _ _ c.derive.result (λ e p s at. p s at (fitting_of {D = g.W.Disk} c.args.self.now c.args.command.now c.args.command.now s c.requires.spelled refl at)) c.derive.ensures.sound
+    if_err _ _ c.derive.result
+    (λ e p s at. p s at (fitting_of {D = g.W.Disk} c.args.self.now c.args.command.now c.args.command.now s c.requires.spelled refl at))
+    c.derive.ensures.sound
 
 pub returns-in-Window-clause-answer : goal.returns-in-Window-clause-answer
 returns-in-Window-clause-answer g c =
-    if_ok _ _ c.derive-in-Window.result (λ reply p s at. p s at (fitting_of {D = g.W.Disk} c.args.self.now c.args.command.now c.args.command.now s c.requires.spelled refl at)) c.derive-in-Window.ensures.answer
+    if_ok _ _ c.derive-in-Window.result
+    (λ reply p s at. p s at (fitting_of {D = g.W.Disk} c.args.self.now c.args.command.now c.args.command.now s c.requires.spelled refl at))
+    c.derive-in-Window.ensures.answer
 
 pub returns-in-Window-clause-sound : goal.returns-in-Window-clause-sound
 returns-in-Window-clause-sound g c =
-    if_err _ _ c.derive-in-Window.result (λ e p s at. p s at (fitting_of {D = g.W.Disk} c.args.self.now c.args.command.now c.args.command.now s c.requires.spelled refl at)) c.derive-in-Window.ensures.sound
+    if_err _ _ c.derive-in-Window.result
+    (λ e p s at. p s at (fitting_of {D = g.W.Disk} c.args.self.now c.args.command.now c.args.command.now s c.requires.spelled refl at))
+    c.derive-in-Window.ensures.sound
 
 pub returns-in-Shift-clause-answer : goal.returns-in-Shift-clause-answer
 returns-in-Shift-clause-answer g c =
-    if_ok _ _ c.derive-in-Shift.result (λ reply p s at. p s at (fitting_of {D = g.W.Disk} c.args.self.now c.args.command.now c.args.command.now s c.requires.spelled refl at)) c.derive-in-Shift.ensures.answer
+    if_ok _ _ c.derive-in-Shift.result
+    (λ reply p s at. p s at (fitting_of {D = g.W.Disk} c.args.self.now c.args.command.now c.args.command.now s c.requires.spelled refl at))
+    c.derive-in-Shift.ensures.answer
 
 pub returns-in-Shift-clause-sound : goal.returns-in-Shift-clause-sound
 returns-in-Shift-clause-sound g c =
-    if_err _ _ c.derive-in-Shift.result (λ e p s at. p s at (fitting_of {D = g.W.Disk} c.args.self.now c.args.command.now c.args.command.now s c.requires.spelled refl at)) c.derive-in-Shift.ensures.sound
+    if_err _ _ c.derive-in-Shift.result
+    (λ e p s at. p s at (fitting_of {D = g.W.Disk} c.args.self.now c.args.command.now c.args.command.now s c.requires.spelled refl at))
+    c.derive-in-Shift.ensures.sound
 
 pub returns-in-Buffer-clause-answer : goal.returns-in-Buffer-clause-answer
 returns-in-Buffer-clause-answer g c =
-    if_ok _ _ c.derive-in-Buffer.result (λ reply p s at. p s at (fitting_of {D = g.W.Disk} c.args.self.now c.args.command.now c.args.command.now s c.requires.spelled refl at)) c.derive-in-Buffer.ensures.answer
+    if_ok _ _ c.derive-in-Buffer.result
+    (λ reply p s at. p s at (fitting_of {D = g.W.Disk} c.args.self.now c.args.command.now c.args.command.now s c.requires.spelled refl at))
+    c.derive-in-Buffer.ensures.answer
 
 pub returns-in-Buffer-clause-sound : goal.returns-in-Buffer-clause-sound
 returns-in-Buffer-clause-sound g c =
-    if_err _ _ c.derive-in-Buffer.result (λ e p s at. p s at (fitting_of {D = g.W.Disk} c.args.self.now c.args.command.now c.args.command.now s c.requires.spelled refl at)) c.derive-in-Buffer.ensures.sound
+    if_err _ _ c.derive-in-Buffer.result
+    (λ e p s at. p s at (fitting_of {D = g.W.Disk} c.args.self.now c.args.command.now c.args.command.now s c.requires.spelled refl at))
+    c.derive-in-Buffer.ensures.sound
 
 pub raster-requires-clause-rows : goal.raster-requires-clause-rows
-raster-requires-clause-rows g c κs within = (fitting_here {D = g.W.Disk} c.args.self.now c.args.command.now (commands.Raster c.in-Raster.a c.in-Raster.rows) c.requires.spelled c.in-Raster.is).1
+raster-requires-clause-rows g c κs within =
+    (fitting_here {D = g.W.Disk} c.args.self.now c.args.command.now (commands.Raster c.in-Raster.a c.in-Raster.rows) c.requires.spelled c.in-Raster.is).1
 
 pub returns-in-Raster-clause-answer : goal.returns-in-Raster-clause-answer
 returns-in-Raster-clause-answer g c =
@@ -125,7 +150,8 @@ returns-in-Polygon-clause-answer g c =
     if_ok _ _ c.polygon.result (λ reply p s at.
     let other = commands.Polygon c.in-Polygon.c c.in-Polygon.colour c.in-Polygon.rings in
     let old = c.args.self.now in
-    subst (λ (x : Command). Answered {D = g.W.Disk} s x old c.polygon.new.self reply) (sym c.in-Polygon.is) (p s at (fitting_of {D = g.W.Disk} old c.args.command.now other s c.requires.spelled c.in-Polygon.is at).1)) c.polygon.ensures.answer
+    subst (λ (x : Command). Answered {D = g.W.Disk} s x old c.polygon.new.self reply) (sym c.in-Polygon.is)
+    (p s at (fitting_of {D = g.W.Disk} old c.args.command.now other s c.requires.spelled c.in-Polygon.is at).1)) c.polygon.ensures.answer
 
 pub returns-in-Polygon-clause-sound : goal.returns-in-Polygon-clause-sound
 returns-in-Polygon-clause-sound g c =
@@ -140,12 +166,15 @@ returns-in-Points-clause-answer g c =
     let other = commands.Points c.in-Points.p c.in-Points.bucket in
     let old = c.args.self.now in
     let fits = (fitting_of {D = g.W.Disk} old c.args.command.now other s c.requires.spelled c.in-Points.is at).1 in
-    subst (λ (x : Command). Answered {D = g.W.Disk} s x old c.make_points.new.self reply) (sym c.in-Points.is) (p s at fits.least fits.most)) c.make_points.ensures.answer
+    subst (λ (x : Command). Answered {D = g.W.Disk} s x old c.make_points.new.self reply) (sym c.in-Points.is)
+    (p s at fits.least fits.most)) c.make_points.ensures.answer
 
 pub returns-in-Points-clause-sound : goal.returns-in-Points-clause-sound
 returns-in-Points-clause-sound g c =
     if_err _ _ c.make_points.result (λ e p s at.
-    let fits = (fitting_of {D = g.W.Disk} c.args.self.now c.args.command.now (commands.Points c.in-Points.p c.in-Points.bucket) s c.requires.spelled c.in-Points.is at).1 in
+    let fits =
+    (fitting_of {D = g.W.Disk} c.args.self.now c.args.command.now (commands.Points c.in-Points.p c.in-Points.bucket)
+    s c.requires.spelled c.in-Points.is at).1 in
     p s at fits.least fits.most) c.make_points.ensures.sound
 
 pub returns-in-Put-clause-answer : goal.returns-in-Put-clause-answer
@@ -166,7 +195,8 @@ returns-in-Scatter-clause-answer g c =
 pub returns-in-Blocks-clause-answer : goal.returns-in-Blocks-clause-answer
 returns-in-Blocks-clause-answer g c =
     if_ok _ _ c.blocks-in-Blocks.result (λ reply p s at.
-    subst (λ (x : Command). Answered {D = g.W.Disk} s x c.args.self.now c.blocks-in-Blocks.new.self reply) (sym c.in-Blocks.is) (p s at)) c.blocks-in-Blocks.ensures.answer
+    subst (λ (x : Command). Answered {D = g.W.Disk} s x c.args.self.now c.blocks-in-Blocks.new.self reply) (sym c.in-Blocks.is)
+    (p s at)) c.blocks-in-Blocks.ensures.answer
 
 pub make_lines-requires : goal.make_lines-requires
 make_lines-requires g c =

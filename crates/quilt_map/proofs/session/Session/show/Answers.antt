@@ -11,8 +11,10 @@ use Rattle.quilt_map.proofs.session.Session.show.Goals as goal
 
 pub returns-in-Err-clause-answer : goal.returns-in-Err-clause-answer
 returns-in-Err-clause-answer g c = λ s at.
-    asked_here {D = g.W.Disk} s (commands.Show c.args.name.now c.args.w) (show_asks s c.args.name.now c.args.w) c.args.self.now at c.args.self.now.warm (reply.No c.in-Err.code)
-    (show_refused s c.args.name.now c.args.w c.in-Err.code (c.in-Err.ensures.refused s at.work.numbers (catalog_as {D = g.W.Disk} c.args.self.now s at c.entries.result.now c.entries.ensures.entries)))
+    asked_here {D = g.W.Disk} s (commands.Show c.args.name.now c.args.w) (show_asks s c.args.name.now c.args.w)
+    c.args.self.now at c.args.self.now.warm (reply.No c.in-Err.code)
+    (show_refused s c.args.name.now c.args.w c.in-Err.code
+    (c.in-Err.ensures.refused s at.work.numbers (catalog_as {D = g.W.Disk} c.args.self.now s at c.entries.result.now c.entries.ensures.entries)))
 
 pub returns-in-Err-clause-keeps : goal.returns-in-Err-clause-keeps
 returns-in-Err-clause-keeps g c = keeps_here {D = g.W.Disk} c.args.self.now c.args.self.now.warm
@@ -22,16 +24,22 @@ returns-in-Err-read_region-clause-sound g c = λ s at.
     let old = c.args.self.now in
     let name = c.args.name.now in
     let region = c.in-Ok.ensures.found s.work at.work.numbers (catalog_as {D = g.W.Disk} old s at c.entries.result.now c.entries.ensures.entries) in
-    c.in-Err-read_region.ensures.sound region.grid (has_number {D = g.W.Disk} old s at name c.in-Ok.number region) (has_region {D = g.W.Disk} old s at name c.in-Ok.number region)
+    c.in-Err-read_region.ensures.sound region.grid (has_number {D = g.W.Disk} old s at name c.in-Ok.number region)
+    (has_region {D = g.W.Disk} old s at name c.in-Ok.number region)
 
 pub returns-in-Ok-read_region-clause-answer : goal.returns-in-Ok-read_region-clause-answer
 returns-in-Ok-read_region-clause-answer g c =
     let old = c.args.self.now in
     let name = c.args.name.now in
-    told_on {D = g.W.Disk} (commands.Show name c.args.w) (λ s. show_asks s name c.args.w) old c.read_region.new.book old.warm c.show_text.result c.told.result c.read_region.ensures.still (g.met.W.Disk.is_consistent c.read_region.new.book.world) c.told.ensures.text (λ s at.
+    told_on {D = g.W.Disk} (commands.Show name c.args.w) (λ s. show_asks s name c.args.w) old c.read_region.new.book old.warm c.show_text.result
+    c.told.result c.read_region.ensures.still (g.met.W.Disk.is_consistent c.read_region.new.book.world) c.told.ensures.text (λ s at.
     let region = c.in-Ok.ensures.found s.work at.work.numbers (catalog_as {D = g.W.Disk} old s at c.entries.result.now c.entries.ensures.entries) in
-    if_ok _ _ c.show_text.result (λ t h. show_body {D = g.W.Disk} old s at name c.in-Ok.number region c.args.w c.head-head.result.format c.in-Ok-read_region.list (ap (λ (h : Head). h.format) c.head-head.ensures.work)
-    (test_at (λ n. is_window n c.args.w) c.head-head.result.level s.last.level c.has_window.result true (ap (λ (h : Head). h.level) c.head-head.ensures.work ∙ level_is {D = g.W.Disk} old s at) c.has_window.ensures c.if-not-has_window.false) c.in-Ok-read_region.ensures.list t h) c.show_text.ensures)
+    if_ok _ _ c.show_text.result
+    (λ t h. show_body {D = g.W.Disk} old s at name c.in-Ok.number region c.args.w c.head-head.result.format c.in-Ok-read_region.list
+    (ap (λ (h : Head). h.format) c.head-head.ensures.work)
+    (test_at (λ n. is_window n c.args.w) c.head-head.result.level s.last.level c.has_window.result true
+    (ap (λ (h : Head). h.level) c.head-head.ensures.work ∙ level_is {D = g.W.Disk} old s at) c.has_window.ensures c.if-not-has_window.false)
+    c.in-Ok-read_region.ensures.list t h) c.show_text.ensures)
 
 pub returns-then-not-has_window-clause-answer : goal.returns-then-not-has_window-clause-answer
 returns-then-not-has_window-clause-answer g c = λ s at.
@@ -39,7 +47,8 @@ returns-then-not-has_window-clause-answer g c = λ s at.
     let region = c.in-Ok.ensures.found s.work at.work.numbers (catalog_as {D = g.W.Disk} old s at c.entries.result.now c.entries.ensures.entries) in
     asked_here {D = g.W.Disk} s (commands.Show c.args.name.now c.args.w) (show_asks s c.args.name.now c.args.w) old at old.warm (reply.No no.Outside)
     (show_outside s c.args.name.now region.grid region.got c.args.w
-    (test_at (λ n. is_window n c.args.w) c.head-head.result.level s.last.level c.has_window.result false (ap (λ (h : Head). h.level) c.head-head.ensures.work ∙ level_is {D = g.W.Disk} old s at) c.has_window.ensures c.if-not-has_window.true))
+    (test_at (λ n. is_window n c.args.w) c.head-head.result.level s.last.level c.has_window.result false
+    (ap (λ (h : Head). h.level) c.head-head.ensures.work ∙ level_is {D = g.W.Disk} old s at) c.has_window.ensures c.if-not-has_window.true))
 
 pub returns-then-not-has_window-clause-keeps : goal.returns-then-not-has_window-clause-keeps
 returns-then-not-has_window-clause-keeps g c = keeps_here {D = g.W.Disk} c.args.self.now c.args.self.now.warm

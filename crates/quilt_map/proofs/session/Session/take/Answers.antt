@@ -13,6 +13,7 @@ unfolding IsAt
 returns-clause-at g c = λ s at.
     let same = c.take.ensures.same in
     let told = c.take.ensures.told in record {
-      at = text_at c.args.self.now c.take.new.self s c.take.ensures.same c.take.ensures.told (took _ _ _ _ c.take.ensures.took c.take.ensures.nothing) (g.met.W.Disk.is_consistent c.take.new.self.world) at.at;
+      at = text_at c.args.self.now c.take.new.self s c.take.ensures.same c.take.ensures.told
+          (took _ _ _ _ c.take.ensures.took c.take.ensures.nothing) (g.met.W.Disk.is_consistent c.take.new.self.world) at.at;
       warm = warm_as c.args.self.now.warm c.args.self.now.catalog _ _ _ _ _ _ told same.work (ap (λ (p : Pool). keys_of (entries_of p)) same.pool) at.warm;
     }

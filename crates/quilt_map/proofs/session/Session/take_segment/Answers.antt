@@ -26,7 +26,8 @@ returns-in-Ok-None-clause-taken g c = λ s at name segs cover is.
     let threshold = c.args.layer.threshold in
     let there = lines_there {D = g.W.Disk} old s at name c.args.layer segs cover is in
     let finds = del_finds c.in-Ok-None.field-0 (finmap.get segs c.args.id) (c.in-Ok-None.ensures.none segs cover there.holds) in
-    unplanned {D = g.W.Disk} old s at book c.plan_removal.ensures.still (g.met.W.Disk.is_consistent book.world) (segment_taken s name threshold segs cover c.args.id) no.Absent
+    unplanned {D = g.W.Disk} old s at book c.plan_removal.ensures.still (g.met.W.Disk.is_consistent book.world)
+    (segment_taken s name threshold segs cover c.args.id) no.Absent
     (segment_absent s name threshold segs cover c.args.id (finds.0 c.in-Ok-None.field-0-is))
 
 pub returns-in-Ok-None-clause-goes_on : goal.returns-in-Ok-None-clause-goes_on
@@ -43,10 +44,13 @@ returns-in-Ok-Some-clause-taken g c =
     let some = c.in-Ok-Some in
     let there = lines_there {D = g.W.Disk} old s at name c.args.layer segs cover is in
     let seg = (del_finds some.field-0 (finmap.get segs c.args.id) (some.ensures.none segs cover there.holds)).1 some.edits some.field-0-is in
-    planned {D = g.W.Disk} old s at book still law (segment_taken s name threshold segs cover c.args.id) name c.args.layer.number (without_segment s.last.level threshold segs cover c.args.id seg.0) some.edits
-    (taken_amendment {D = g.W.Disk} old s at book still law name c.args.layer segs cover is c.args.id some.field-0 some.edits some.field-0-is some.ensures.order seg.0 seg.1 some.ensures.plan)
+    planned {D = g.W.Disk} old s at book still law (segment_taken s name threshold segs cover c.args.id) name c.args.layer.number
+    (without_segment s.last.level threshold segs cover c.args.id seg.0) some.edits
+    (taken_amendment {D = g.W.Disk} old s at book still law name c.args.layer segs cover is c.args.id some.field-0 some.edits some.field-0-is
+    some.ensures.order seg.0 seg.1 some.ensures.plan)
     (segment_there s name threshold segs cover c.args.id seg.0 seg.1
-    (taken_within {D = g.W.Disk} old s at book still law name c.args.layer segs cover is c.args.id some.field-0 some.edits some.field-0-is some.ensures.order seg.0 seg.1 some.ensures.plan some.ensures.fewer))
+    (taken_within {D = g.W.Disk} old s at book still law name c.args.layer segs cover is c.args.id some.field-0 some.edits some.field-0-is
+    some.ensures.order seg.0 seg.1 some.ensures.plan some.ensures.fewer))
     c.amend.new.self reply p) c.amend.ensures.amended
 
 pub returns-in-Ok-Some-clause-sound : goal.returns-in-Ok-Some-clause-sound
@@ -59,9 +63,12 @@ returns-in-Ok-Some-clause-sound g c =
     let some = c.in-Ok-Some in
     let there = lines_there {D = g.W.Disk} old s at name c.args.layer segs cover is in
     let seg = (del_finds some.field-0 (finmap.get segs c.args.id) (some.ensures.none segs cover there.holds)).1 some.edits some.field-0-is in
-    p s (mid_at {D = g.W.Disk} old s at book still law) name c.args.layer.number (without_segment s.last.level c.args.layer.threshold segs cover c.args.id seg.0)
-    (taken_amendment {D = g.W.Disk} old s at book still law name c.args.layer segs cover is c.args.id some.field-0 some.edits some.field-0-is some.ensures.order seg.0 seg.1 some.ensures.plan)) c.amend.ensures.sound
+    p s (mid_at {D = g.W.Disk} old s at book still law) name c.args.layer.number
+    (without_segment s.last.level c.args.layer.threshold segs cover c.args.id seg.0)
+    (taken_amendment {D = g.W.Disk} old s at book still law name c.args.layer segs cover is c.args.id some.field-0 some.edits some.field-0-is
+    some.ensures.order seg.0 seg.1 some.ensures.plan)) c.amend.ensures.sound
 
 pub returns-in-Ok-Some-clause-goes_on : goal.returns-in-Ok-Some-clause-goes_on
 returns-in-Ok-Some-clause-goes_on g c =
-    goes_both {D = g.W.Disk} c.args.self.now.book c.plan_removal.new.book c.amend.new.self.book (goes_of {D = g.W.Disk} c.args.self.now.book c.plan_removal.new.book c.plan_removal.ensures.still.later) c.amend.ensures.goes_on
+    goes_both {D = g.W.Disk} c.args.self.now.book c.plan_removal.new.book c.amend.new.self.book
+    (goes_of {D = g.W.Disk} c.args.self.now.book c.plan_removal.new.book c.plan_removal.ensures.still.later) c.amend.ensures.goes_on

@@ -14,7 +14,8 @@ returns-in-Err-clause-answer g c = λ s at.
     let old = c.args.self.now in
     let name = c.args.name.now in
     let first = c.in-Err.ensures.refused s at.work.numbers (catalog_as {D = g.W.Disk} old s at c.entries.result.now c.entries.ensures.entries) in
-    answered_same {D = g.W.Disk} s (commands.Unline name c.args.id) old old (Refused c.in-Err.code) _ (unline_refused s name c.args.id c.in-Err.code first) refl refl refl at at
+    answered_same {D = g.W.Disk} s (commands.Unline name c.args.id) old old (Refused c.in-Err.code) _
+    (unline_refused s name c.args.id c.in-Err.code first) refl refl refl at at
 
 pub returns-in-Err-clause-goes_on : goal.returns-in-Err-clause-goes_on
 returns-in-Err-clause-goes_on g c = goes_here {D = g.W.Disk} c.args.self.now.book
@@ -26,7 +27,8 @@ returns-in-Ok-clause-answer g c =
     let name = c.args.name.now in
     let layer = c.in-Ok.layer in
     let found = found_lines {D = g.W.Disk} old s at name layer c.entries.result.now c.entries.ensures.entries c.in-Ok.ensures.found in
-    unline_answered s name layer.threshold found.segs found.cover found.is.got {D = g.W.Disk} old c.take_segment.new.self reply c.args.id (p s at name found.segs found.cover found.is)) c.take_segment.ensures.taken
+    unline_answered s name layer.threshold found.segs found.cover found.is.got {D = g.W.Disk} old c.take_segment.new.self reply c.args.id
+    (p s at name found.segs found.cover found.is)) c.take_segment.ensures.taken
 
 pub returns-in-Ok-clause-sound : goal.returns-in-Ok-clause-sound
 returns-in-Ok-clause-sound g c =
