@@ -1,5 +1,6 @@
 -- Pixels that are put down after others: none, a block of one colour, one step after another, and all.
-use Rattle.std.proofs.Common.{◌≡◌, ℕ, ◌+◌, ◌-◌, ◌*◌, ◌/◌, ◌%◌, ◌^◌, ◌<◌, ◌≤◌, List, [], ◌++◌, length, get_or, refl, sym, ◌∙◌, ap, subst, zero, suc, ⊎_elim, arith, replicate, get_or-append-add, length-append}
+use Rattle.std.proofs.Common.{◌≡◌, ℕ, ◌+◌, ◌-◌, ◌*◌, ◌/◌, ◌%◌, ◌^◌, ◌<◌, ◌≤◌, List, [], ◌++◌, length, get_or, refl, sym, ◌∙◌, ap, subst, zero, suc, ⊎_elim}
+use Rattle.std.proofs.Common.{arith, replicate, get_or-append-add, length-append}
 use Rattle.std.proofs.lemmas.Bool.{cases_lt}
 use Rattle.std.proofs.lemmas.List.{length-replicate, get_or-replicate, get_or_append_left, get_or_default}
 use Rattle.quilt_types.specs.declared.plane.Pixel.{Pixel}
@@ -18,7 +19,8 @@ use Rattle.quilt_blocks.proofs.Squares.{width, code_to-whole}
 pub Adds-none : (n : ℕ) (f : Pixel → ℕ) (m : Painted) → Adds n f (length m.colours) m m
 Adds-none n f m = record { level = refl; long = refl; kept = λ k lt. refl; each = λ p hx hy low high. absurd (omega arith) }
 
-pub Adds-then : (n : ℕ) (f : Pixel → ℕ) (mid end : ℕ) (old m new : Painted) → length old.colours ≤ mid → Adds n f mid old m → Adds n f end m new → Adds n f end old new
+pub Adds-then : (n : ℕ) (f : Pixel → ℕ) (mid end : ℕ) (old m new : Painted) → length old.colours ≤ mid → Adds n f mid old m
+    → Adds n f end m new → Adds n f end old new
 Adds-then n f mid end old m new le a b =
     let l = a.long in
     record {
@@ -32,12 +34,15 @@ Adds-then n f mid end old m new le a b =
     }
 
 -- another function that has the same colours there
-pub Adds-change : (n : ℕ) (f g : Pixel → ℕ) (end : ℕ) (old new : Painted) → ((p : Pixel) → p.x < side n → p.y < side n → length old.colours ≤ code_at p → code_at p < end → f p ≡ g p) → Adds n f end old new → Adds n g end old new
+pub Adds-change : (n : ℕ) (f g : Pixel → ℕ) (end : ℕ) (old new : Painted)
+    → ((p : Pixel) → p.x < side n → p.y < side n → length old.colours ≤ code_at p → code_at p < end → f p ≡ g p) → Adds n f end old new → Adds n g end old new
 Adds-change n f g end old new same a =
     record { level = a.level; long = a.long; kept = a.kept; each = λ p hx hy low high. a.each p hx hy low high ∙ same p hx hy low high }
 
 -- a block, each pixel of which has this colour
-pub Adds-push : (n : ℕ) (f : Pixel → ℕ) (old new : Painted) (b : Block) (c : ℕ) → n ≤ 12 → IsBlock n b → code_from b ≡ length old.colours → ((p : Pixel) → Holds b p → f p ≡ c) → new ≡ record { level = old.level; colours = old.colours ++ replicate (b.side * b.side) c } → Adds n f (code_to b) old new
+pub Adds-push : (n : ℕ) (f : Pixel → ℕ) (old new : Painted) (b : Block) (c : ℕ) → n ≤ 12 → IsBlock n b → code_from b ≡ length old.colours
+    → ((p : Pixel) → Holds b p → f p ≡ c) → new ≡ record { level = old.level; colours = old.colours ++ replicate (b.side * b.side) c }
+    → Adds n f (code_to b) old new
 Adds-push n f old new b c le h at same is =
     let more = replicate (b.side * b.side) c in
     let long : length more ≡ b.side * b.side = length-replicate (b.side * b.side) c in
@@ -62,7 +67,8 @@ Adds-push n f old new b c le h at same is =
     }
 
 -- the whole square, from nothing, as the code has them
-pub Adds-whole : (n k : ℕ) (f : Pixel → ℕ) (old new : Painted) → n ≤ 12 → k ≡ n → old ≡ record { level = k; colours = [] } → Adds n f (code_to (record { x = 0; y = 0; side = 1 * 2 ^ k % 65536 })) old new → Adds n f (4 ^ n) (record { level = n; colours = [] }) new
+pub Adds-whole : (n k : ℕ) (f : Pixel → ℕ) (old new : Painted) → n ≤ 12 → k ≡ n → old ≡ record { level = k; colours = [] }
+    → Adds n f (code_to (record { x = 0; y = 0; side = 1 * 2 ^ k % 65536 })) old new → Adds n f (4 ^ n) (record { level = n; colours = [] }) new
 Adds-whole n k f old new le level start a =
     let empty : old ≡ record { level = n; colours = [] } = start ∙ ap (λ (j : ℕ). let m : Painted = record { level = j; colours = [] } in m) level in
     let size : 1 * 2 ^ k % 65536 ≡ side n = ap (λ (j : ℕ). 1 * 2 ^ j % 65536) level ∙ width n le in
@@ -76,7 +82,8 @@ Adds-all n f m le a =
     Paints-all n f m.colours le long (record { each = λ p hx hy lt. a.each p hx hy (omega arith) (omega arith) })
 
 -- where the quarters of a block begin
-quarter_from : (n : ℕ) (b : Block) (i : ℕ) (q : Block) → n ≤ 12 → IsBlock n b → 1 < b.side → i < 4 → get_or (quarters_of b) i q ≡ q → code_from q ≡ code_from b + i * (b.side / 2 * (b.side / 2))
+quarter_from : (n : ℕ) (b : Block) (i : ℕ) (q : Block) → n ≤ 12 → IsBlock n b → 1 < b.side → i < 4 → get_or (quarters_of b) i q ≡ q
+    → code_from q ≡ code_from b + i * (b.side / 2 * (b.side / 2))
 quarter_from n b zero q le h wide lt is = let e = ap code_from is in omega arith
 quarter_from n b (suc zero) q le h wide lt is = let e = ap code_from is in let c = half_codes n b h le wide in let r = c.right in omega arith
 quarter_from n b (suc (suc zero)) q le h wide lt is = let e = ap code_from is in let c = half_codes n b h le wide in let r = c.below in omega arith
@@ -100,7 +107,8 @@ part_is n b i q le h wide lt is =
     let square : q.side * q.side ≡ b.side / 2 * (b.side / 2) = ap (λ z. z * z) half in
     record { block = r.block; within = r.within; smaller = omega arith; from = from; to = omega arith }
 
-pub part_at : (n : ℕ) (b : Block) (qs : List Block) (i : ℕ) (d : Block) → n ≤ 12 → IsBlock n b → 1 < b.side → qs ≡ quarters_of b → i < 4 → IsPart n b i (get_or qs i d)
+pub part_at : (n : ℕ) (b : Block) (qs : List Block) (i : ℕ) (d : Block) → n ≤ 12 → IsBlock n b → 1 < b.side → qs ≡ quarters_of b → i < 4
+    → IsPart n b i (get_or qs i d)
 part_at n b qs i d le h wide are lt =
     let q = get_or qs i d in
     let e : get_or qs i d ≡ get_or (quarters_of b) i d = ap (λ l. get_or l i d) are in

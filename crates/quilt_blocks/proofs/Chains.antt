@@ -1,5 +1,6 @@
 -- Blocks that follow one another by their codes: how many pixels they have, which codes, and that one of them holds each pixel.
-use Rattle.std.proofs.Common.{◌≡◌, ℕ, zero, suc, ◌+◌, ◌-◌, ◌*◌, ◌<◌, ◌≤◌, Bool, true, false, cond, List, [], ◌∷◌, ◌++◌, length, get_or, take, refl, sym, ◌∙◌, ap, ap₂, subst, ⊎_elim, arith, Contains, count_by, replicate, get_or-append-add, length-append, append_assoc}
+use Rattle.std.proofs.Common.{◌≡◌, ℕ, zero, suc, ◌+◌, ◌-◌, ◌*◌, ◌<◌, ◌≤◌, Bool, true, false, cond, List, [], ◌∷◌, ◌++◌, length, get_or, take, refl, sym, ◌∙◌}
+use Rattle.std.proofs.Common.{ap, ap₂, subst, ⊎_elim, arith, Contains, count_by, replicate, get_or-append-add, length-append, append_assoc}
 use Rattle.std.proofs.lemmas.Bool.{cases_lt, false_from_ne_true}
 use Rattle.std.proofs.lemmas.List.{length-replicate, get_or-replicate, get_or_append_left}
 use Rattle.std.proofs.lemmas.List.Sums.{sum_by-cons, sum_by-append, sum_by_more}
@@ -29,7 +30,8 @@ pub size_of-append : (xs ys : List (Block × ℕ)) → size_of (xs ++ ys) ≡ si
 unfolding size_of
 size_of-append xs ys = sum_by-append pixels_in xs ys
 
-pub size_of-take_more : (es : List (Block × ℕ)) (i : ℕ) (d : Block × ℕ) → i < length es → size_of (take (i + 1) es) ≡ size_of (take i es) + pixels_in (get_or es i d)
+pub size_of-take_more : (es : List (Block × ℕ)) (i : ℕ) (d : Block × ℕ) → i < length es
+    → size_of (take (i + 1) es) ≡ size_of (take i es) + pixels_in (get_or es i d)
 unfolding size_of
 size_of-take_more es i d lt = sum_by_more pixels_in es i d lt
 
@@ -51,7 +53,8 @@ length-colours_of (e ∷ es) =
 pub colours_of-append : (xs ys : List (Block × ℕ)) → colours_of (xs ++ ys) ≡ colours_of xs ++ colours_of ys
 unfolding colours_of
 colours_of-append [] ys = refl
-colours_of-append (x ∷ xs) ys = ap (λ l. replicate (pixels_in x) x.1 ++ l) (colours_of-append xs ys) ∙ sym (append_assoc (replicate (pixels_in x) x.1) (colours_of xs) (colours_of ys))
+colours_of-append (x ∷ xs) ys =
+    ap (λ l. replicate (pixels_in x) x.1 ++ l) (colours_of-append xs ys) ∙ sym (append_assoc (replicate (pixels_in x) x.1) (colours_of xs) (colours_of ys))
 
 module _ (n : ℕ) where
   pub Follows-append : (at : ℕ) (xs ys : List (Block × ℕ)) → Follows n at xs → Follows n (at + size_of xs) ys → Follows n at (xs ++ ys)
@@ -112,14 +115,16 @@ module _ (n : ℕ) where
       )
 
   -- the member at a place ends where the next one begins
-  pub Follows-next : (at : ℕ) (es : List (Block × ℕ)) (i : ℕ) (d : Block × ℕ) → Follows n at es → suc i < length es → code_to (get_or es i d).0 ≡ code_from (get_or es (suc i) d).0
+  pub Follows-next : (at : ℕ) (es : List (Block × ℕ)) (i : ℕ) (d : Block × ℕ) → Follows n at es → suc i < length es
+      → code_to (get_or es i d).0 ≡ code_from (get_or es (suc i) d).0
   Follows-next at [] i d h lt = absurd (omega arith)
   Follows-next at (x ∷ []) i d h lt = absurd (omega arith)
   Follows-next at (x ∷ y ∷ ys) zero d h lt = let a = h.1 in let b = h.2.1 in omega arith
   Follows-next at (x ∷ y ∷ ys) (suc i) d h lt = Follows-next (at + pixels_in x) (y ∷ ys) i d h.2 (omega arith)
 
   -- the last one ends where all end
-  pub Follows-last : (at : ℕ) (es : List (Block × ℕ)) (i : ℕ) (d : Block × ℕ) → Follows n at es → i + 1 ≡ length es → code_to (get_or es i d).0 ≡ at + size_of es
+  pub Follows-last : (at : ℕ) (es : List (Block × ℕ)) (i : ℕ) (d : Block × ℕ) → Follows n at es → i + 1 ≡ length es
+      → code_to (get_or es i d).0 ≡ at + size_of es
   Follows-last at [] i d h e = absurd (omega arith)
   Follows-last at (x ∷ []) zero d h e = let s = size_of-cons x [] in let z = size_of-nil in let a = h.1 in omega arith
   Follows-last at (x ∷ []) (suc i) d h e = absurd (omega arith)
@@ -130,7 +135,8 @@ module _ (n : ℕ) where
       omega arith
 
   -- the member at a place begins after those before it
-  pub Follows-place : (at : ℕ) (es : List (Block × ℕ)) (i : ℕ) (d : Block × ℕ) → Follows n at es → i < length es → code_from (get_or es i d).0 ≡ at + size_of (take i es)
+  pub Follows-place : (at : ℕ) (es : List (Block × ℕ)) (i : ℕ) (d : Block × ℕ) → Follows n at es → i < length es
+      → code_from (get_or es i d).0 ≡ at + size_of (take i es)
   Follows-place at [] i d h lt = absurd (omega arith)
   Follows-place at (x ∷ xs) zero d h lt = let a = h.1 in let z = size_of-nil in omega arith
   Follows-place at (x ∷ xs) (suc i) d h lt =
@@ -139,7 +145,8 @@ module _ (n : ℕ) where
       omega arith
 
   -- the member that has a code
-  pub member_with : (at : ℕ) (es : List (Block × ℕ)) (k : ℕ) → Follows n at es → at ≤ k → k < at + size_of es → (e : Block × ℕ) × Contains es e × (code_from e.0 ≤ k) × (k < code_to e.0)
+  pub member_with : (at : ℕ) (es : List (Block × ℕ)) (k : ℕ) → Follows n at es → at ≤ k → k < at + size_of es
+      → (e : Block × ℕ) × Contains es e × (code_from e.0 ≤ k) × (k < code_to e.0)
   member_with at [] k h low high = let z = size_of-nil in absurd (omega arith)
   member_with at (x ∷ xs) k h low high =
       let s = size_of-cons x xs in
@@ -150,7 +157,8 @@ module _ (n : ℕ) where
       (r.0, Contains-there x xs r.0 r.1, r.2, r.3)) (cases_lt k (at + pixels_in x))
 
   -- the colour at each of a member's codes is its own
-  pub colour_in : (at : ℕ) (es : List (Block × ℕ)) (e : Block × ℕ) (k : ℕ) → Follows n at es → Contains es e → code_from e.0 ≤ k → k < code_to e.0 → get_or (colours_of es) (k - at) 0 ≡ e.1
+  pub colour_in : (at : ℕ) (es : List (Block × ℕ)) (e : Block × ℕ) (k : ℕ) → Follows n at es → Contains es e → code_from e.0 ≤ k → k < code_to e.0
+      → get_or (colours_of es) (k - at) 0 ≡ e.1
   colour_in at [] e k h c low high = absurd (Contains-nil e c)
   colour_in at (x ∷ xs) e k h c low high =
       let f = h.1 in
@@ -185,8 +193,10 @@ module _ (n : ℕ) where
     misses : (b : Block) → IsBlock n b → (code_from b ≤ code_at p → code_at p < code_to b → ⊥) → in_block b p ≡ false
     misses b h apart = false_from_ne_true (in_block b p) (λ t. let w = code_held n b p h le (Holds-from b p t) in apart w.0 w.1)
 
-    count_more : (b : Bool) (x : Block × ℕ) (xs : List (Block × ℕ)) → in_block x.0 p ≡ b → count_by (λ e. in_block e.0 p) (x ∷ xs) ≡ cond b 1 0 + count_by (λ e. in_block e.0 p) xs
-    count_more b x xs e = sum_by-cons (λ (z : Block × ℕ). cond (in_block z.0 p) 1 0) x xs ∙ ap (λ t. cond {A = ℕ} t 1 0 + count_by (λ (z : Block × ℕ). in_block z.0 p) xs) e
+    count_more : (b : Bool) (x : Block × ℕ) (xs : List (Block × ℕ)) → in_block x.0 p ≡ b
+        → count_by (λ e. in_block e.0 p) (x ∷ xs) ≡ cond b 1 0 + count_by (λ e. in_block e.0 p) xs
+    count_more b x xs e =
+        sum_by-cons (λ (z : Block × ℕ). cond (in_block z.0 p) 1 0) x xs ∙ ap (λ t. cond {A = ℕ} t 1 0 + count_by (λ (z : Block × ℕ). in_block z.0 p) xs) e
 
     count_behind : (at : ℕ) (es : List (Block × ℕ)) → Follows n at es → code_at p < at → count_by (λ e. in_block e.0 p) es ≡ 0
     count_behind at [] h lt = refl

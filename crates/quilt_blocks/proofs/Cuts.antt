@@ -1,5 +1,6 @@
 -- What the recursion over quarters gives: blocks that follow one another, and in it exactly the leaves.
-use Rattle.std.proofs.Common.{◌≡◌, ℕ, zero, suc, ◌+◌, ◌*◌, ◌/◌, ◌^◌, ◌<◌, ◌≤◌, ◌↔◌, Bool, true, false, cond, List, [], ◌∷◌, ◌++◌, map, get_or, flat_map, refl, sym, ap, subst, arith, Contains, pow-suc, pow_pos}
+use Rattle.std.proofs.Common.{◌≡◌, ℕ, zero, suc, ◌+◌, ◌*◌, ◌/◌, ◌^◌, ◌<◌, ◌≤◌, ◌↔◌, Bool, true, false, cond, List, [], ◌∷◌, ◌++◌, map, get_or, flat_map, refl}
+use Rattle.std.proofs.Common.{sym, ap, subst, arith, Contains, pow-suc, pow_pos}
 use Rattle.std.specs.Cmp.{IsTotalOrder, nat_cmp_total, on_total}
 use Rattle.std.proofs.lemmas.List.{map-append}
 use Rattle.quilt_types.specs.declared.plane.Block.{Block}
@@ -82,12 +83,16 @@ module _ (n : ℕ) (g : Grid) (le : n ≤ 12) (fits : Block → Bool) where
       let a0 = Runs-at n (code_from b) (code_to (q x y)) (code_from b) (code (x + u) y) (found k (q x y)) r0 refl (omega arith) in
       let a1 = Runs-at n (code (x + u) y) (code_to (q (x + u) y)) (code (x + u) y) (code x (y + u)) (found k (q (x + u) y)) r1 refl (omega arith) in
       let a2 = Runs-at n (code x (y + u)) (code_to (q x (y + u))) (code x (y + u)) (code (x + u) (y + u)) (found k (q x (y + u))) r2 refl (omega arith) in
-      let a3 = Runs-at n (code (x + u) (y + u)) (code_to (q (x + u) (y + u))) (code (x + u) (y + u)) (code_to b) (found k (q (x + u) (y + u))) r3 refl (omega arith) in
+      let a3 = Runs-at n (code (x + u) (y + u)) (code_to (q (x + u) (y + u))) (code (x + u) (y + u)) (code_to b)
+      (found k (q (x + u) (y + u))) r3 refl (omega arith) in
       let last = Runs-append n (code (x + u) (y + u)) (code_to b) (code_to b) (found k (q (x + u) (y + u))) [] a3 (Runs-nil n (code_to b)) in
       let third = Runs-append n (code x (y + u)) (code (x + u) (y + u)) (code_to b) (found k (q x (y + u))) (found k (q (x + u) (y + u)) ++ []) a2 last in
-      let second = Runs-append n (code (x + u) y) (code x (y + u)) (code_to b) (found k (q (x + u) y)) (found k (q x (y + u)) ++ (found k (q (x + u) (y + u)) ++ [])) a1 third in
-      let all = Runs-append n (code_from b) (code (x + u) y) (code_to b) (found k (q x y)) (found k (q (x + u) y) ++ (found k (q x (y + u)) ++ (found k (q (x + u) (y + u)) ++ []))) a0 second in
-      subst (Runs n (code_from b) (code_to b)) (sym (four_maps (coloured n g) (cut fits k (q x y)) (cut fits k (q (x + u) y)) (cut fits k (q x (y + u))) (cut fits k (q (x + u) (y + u))))) all
+      let second = Runs-append n (code (x + u) y) (code x (y + u)) (code_to b) (found k (q (x + u) y))
+      (found k (q x (y + u)) ++ (found k (q (x + u) (y + u)) ++ [])) a1 third in
+      let all = Runs-append n (code_from b) (code (x + u) y) (code_to b) (found k (q x y))
+      (found k (q (x + u) y) ++ (found k (q x (y + u)) ++ (found k (q (x + u) (y + u)) ++ []))) a0 second in
+      subst (Runs n (code_from b) (code_to b))
+      (sym (four_maps (coloured n g) (cut fits k (q x y)) (cut fits k (q (x + u) y)) (cut fits k (q x (y + u))) (cut fits k (q (x + u) (y + u))))) all
 
   pub cut_runs : (k : ℕ) (b : Block) → IsBlock n b → b.side ≡ 2 ^ k → k ≤ n → Runs n (code_from b) (code_to b) (found k b)
   cut_runs zero b h s room = Runs-one n b (colour_at n g (corner b)) h
@@ -114,7 +119,8 @@ pub leaf_total : IsTotalOrder leaf_cmp
 leaf_total = on_total (λ (e : Block × ℕ). code_from e.0) nat_cmp_total
 
 -- blocks one after another that have the leaves are the leaves
-pub leaves_are_by_code : (n : ℕ) (g : Grid) (es : List (Block × ℕ)) → n ≤ 12 → Follows n 0 es → ((e : Block × ℕ) → Contains es e ↔ Contains (leaves n g) e) → es ≡ leaves_by_code n g
+pub leaves_are_by_code : (n : ℕ) (g : Grid) (es : List (Block × ℕ)) → n ≤ 12 → Follows n 0 es
+    → ((e : Block × ℕ) → Contains es e ↔ Contains (leaves n g) e) → es ≡ leaves_by_code n g
 leaves_are_by_code n g es le h w =
     same_rising leaf_cmp leaf_total es (leaves_by_code n g) (Follows-rises n 0 es h) (leaves_rise n g le)
     (λ e. (λ c. (leaves_members n g e).1 ((w e).0 c), λ c. (w e).1 ((leaves_members n g e).0 c)))

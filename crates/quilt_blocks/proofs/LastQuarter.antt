@@ -1,5 +1,6 @@
 -- The last four blocks of a list, where the last is the lower right quarter of a block and the others have its side and its colour.
-use Rattle.std.proofs.Common.{IsTrue, not, nat_eq, ◌≡◌, ℕ, zero, suc, ◌+◌, ◌-◌, ◌*◌, ◌/◌, ◌%◌, ◌^◌, ◌<◌, ◌≤◌, ◌⊎◌, List, ◌++◌, length, get_or, take, inl, inr, ⊎_elim, refl, sym, ◌∙◌, ap, ap₂, subst, arith, pow-suc}
+use Rattle.std.proofs.Common.{IsTrue, not, nat_eq, ◌≡◌, ℕ, zero, suc, ◌+◌, ◌-◌, ◌*◌, ◌/◌, ◌%◌, ◌^◌, ◌<◌, ◌≤◌, ◌⊎◌, List, ◌++◌, length, get_or, take, inl, inr}
+use Rattle.std.proofs.Common.{⊎_elim, refl, sym, ◌∙◌, ap, ap₂, subst, arith, pow-suc}
 use Rattle.std.specs.Int.RustNames.{bit_and}
 use Rattle.std.proofs.lemmas.Bool.{cases_lt}
 use Rattle.std.proofs.lemmas.Bool.Decides.{nat_tests}
@@ -100,12 +101,14 @@ module _ (n : ℕ) (le : n ≤ 12) (es : List (Block × ℕ)) (d : Block × ℕ)
       let is : parent_of last ≡ whole' = λ j. record { x = ex j; y = ey j; side = 2 * last.side } in
       subst (IsBlock n) is (IsBlock-parent_of n last hl small)
 
-pub ends_in : (n : ℕ) → n ≤ 12 → (es : List (Block × ℕ)) (d : Block × ℕ) (k : ℕ) → k + 4 ≡ length es → Follows n 0 es → IsAlike es d k → EndsInQuarters n es (made_of (get_or es (k + 3) d))
+pub ends_in : (n : ℕ) → n ≤ 12 → (es : List (Block × ℕ)) (d : Block × ℕ) (k : ℕ) → k + 4 ≡ length es → Follows n 0 es → IsAlike es d k
+    → EndsInQuarters n es (made_of (get_or es (k + 3) d))
 ends_in n le es d k long h a =
     let e3 = get_or es (k + 3) d in
     let last = e3.0 in
     let s = last.side in
-    let at = λ (i : ℕ) (lt : i < length es). let r : IsBlock n (get_or es i d).0 = (Follows-member n 0 es (get_or es i d) h (Contains-get_or es i d lt)).block in r in
+    let at = λ (i : ℕ) (lt : i < length es). let r : IsBlock n (get_or es i d).0 =
+    (Follows-member n 0 es (get_or es i d) h (Contains-get_or es i d lt)).block in r in
     let hl = at (k + 3) (omega arith) in
     let pos = side_pos n last hl in
     let w = (made_of e3).0 in
@@ -143,7 +146,9 @@ ends_in n le es d k long h a =
     let t0 : (get_or es k d).1 ≡ e3.1 = ap (λ i. (get_or es i d).1) (sym z) ∙ a.colours 0 (omega arith) in
     let t1 = a.colours 1 (omega arith) in
     let t2 = a.colours 2 (omega arith) in
-    let is = λ (i : ℕ) (lt : i < length es) (q : Block) (sq : (get_or es i d).0.side ≡ q.side) (qx : q.x < 4096) (qy : q.y < 4096) (e : code_from (get_or es i d).0 ≡ code_from q) (t : (get_or es i d).1 ≡ e3.1).
+    let is =
+    λ (i : ℕ) (lt : i < length es) (q : Block) (sq : (get_or es i d).0.side ≡ q.side) (qx : q.x < 4096) (qy : q.y < 4096)
+    (e : code_from (get_or es i d).0 ≡ code_from q) (t : (get_or es i d).1 ≡ e3.1).
     let b = at i lt in
     let bx = b.in_x in
     let by' = b.in_y in
@@ -208,10 +213,14 @@ is_alike n es w d k long q =
 module _ (items : List Leaf) (d : Leaf) where
   -- the leaf j places from the end has the side and the colour of the last one
   abbrev pub HasSame : ℕ → Type 0
-  HasSame j = ((get_or items (length items - j) d).block.side ≡ (get_or items (length items - 1) d).block.side) × ((get_or items (length items - j) d).colour.0 ≡ (get_or items (length items - 1) d).colour.0)
+  HasSame j = ((get_or items (length items - j) d).block.side ≡ (get_or items (length items - 1) d).block.side)
+      × ((get_or items (length items - j) d).colour.0 ≡ (get_or items (length items - 1) d).colour.0)
 
   abbrev pub IsLast : Type 0
-  IsLast = ((get_or items (length items - 1) d).block.x % (2 * (get_or items (length items - 1) d).block.side) ≡ (get_or items (length items - 1) d).block.side) × ((get_or items (length items - 1) d).block.y % (2 * (get_or items (length items - 1) d).block.side) ≡ (get_or items (length items - 1) d).block.side)
+  IsLast =
+      ((get_or items (length items - 1) d).block.x % (2 * (get_or items (length items - 1) d).block.side)
+      ≡ (get_or items (length items - 1) d).block.side)
+      × ((get_or items (length items - 1) d).block.y % (2 * (get_or items (length items - 1) d).block.side) ≡ (get_or items (length items - 1) d).block.side)
 
   module _ (long : 4 ≤ length items) where
     pub place : (j i : ℕ) → i < 4 → j + i ≡ 4 → get_or (pairs_of items) (length items - 4 + i) (pair_of d) ≡ pair_of (get_or items (length items - j) d)
@@ -236,7 +245,8 @@ module _ (items : List Leaf) (d : Leaf) where
             → get_or (pairs_of items) (length items - 4 + 1) (pair_of d) ≡ pair_of (get_or items (length items - 3) d)
             → get_or (pairs_of items) (length items - 4 + 2) (pair_of d) ≡ pair_of (get_or items (length items - 2) d)
             → get_or (pairs_of items) (length items - 4 + 3) (pair_of d) ≡ pair_of (get_or items (length items - 1) d)
-            → (j : ℕ) → j < 3 → (get_or (pairs_of items) (length items - 4 + j) (pair_of d)).0.side ≡ (get_or (pairs_of items) (length items - 4 + 3) (pair_of d)).0.side
+            → (j : ℕ) → j < 3 → (get_or (pairs_of items) (length items - 4 + j) (pair_of d)).0.side
+            ≡ (get_or (pairs_of items) (length items - 4 + 3) (pair_of d)).0.side
         sides p0 p1 p2 p3 zero lt = ap (λ (z : Block × ℕ). z.0.side) p0 ∙ c.0 ∙ sym (ap (λ (z : Block × ℕ). z.0.side) p3)
         sides p0 p1 p2 p3 (suc zero) lt = ap (λ (z : Block × ℕ). z.0.side) p1 ∙ b.0 ∙ sym (ap (λ (z : Block × ℕ). z.0.side) p3)
         sides p0 p1 p2 p3 (suc (suc zero)) lt = ap (λ (z : Block × ℕ). z.0.side) p2 ∙ a.0 ∙ sym (ap (λ (z : Block × ℕ). z.0.side) p3)

@@ -36,8 +36,10 @@ unfolding leaves
 cut_leaves n g e =
     let law = cut_is n (is_uniform n g) (uniform_down n g) (uniform_pixel n g) in
     let cuts = cut (is_uniform n g) n (whole n) in (
-      λ c. let r = Contains-map_from (coloured n g) cuts e c in subst (Contains (leaves n g)) r.2 (Contains-map (coloured n g) (maximal_blocks n (is_uniform n g)) r.0 ((law r.0).0 r.1)),
-      λ c. let r = Contains-map_from (coloured n g) (maximal_blocks n (is_uniform n g)) e c in subst (Contains (map (coloured n g) cuts)) r.2 (Contains-map (coloured n g) cuts r.0 ((law r.0).1 r.1)),
+      λ c. let r = Contains-map_from (coloured n g) cuts e c in
+          subst (Contains (leaves n g)) r.2 (Contains-map (coloured n g) (maximal_blocks n (is_uniform n g)) r.0 ((law r.0).0 r.1)),
+      λ c. let r = Contains-map_from (coloured n g) (maximal_blocks n (is_uniform n g)) e c in
+          subst (Contains (map (coloured n g) cuts)) r.2 (Contains-map (coloured n g) cuts r.0 ((law r.0).1 r.1)),
     )
 
 -- a pixel has no quarters that are blocks
@@ -65,7 +67,8 @@ module _ (n : ℕ) (g : Grid) (es : List (Block × ℕ)) (m : IsMosaic n g es) w
     blocks_only = λ b c. let r = Contains-map_from block_in es b c in subst (Contains (blocks n)) r.2 (m.blocks_only r.0 r.1);
     passing = λ b c.
         let r = Contains-map_from block_in es b c in
-        subst (λ (z : Block). is_uniform n g z ≡ true) r.2 (uniform-from_HasColour n g (r.0).0 (r.0).1 (IsBlock-from n (r.0).0 (m.blocks_only r.0 r.1)) (has r.0 r.1));
+        subst (λ (z : Block). is_uniform n g z ≡ true) r.2
+        (uniform-from_HasColour n g (r.0).0 (r.0).1 (IsBlock-from n (r.0).0 (m.blocks_only r.0 r.1)) (has r.0 r.1));
     cover = λ p h. fold-map (λ a b. a + cond (in_block b p) 1 0) block_in 0 es ∙ m.cover p h;
     unmerged = λ b cb u all.
         let hb = IsBlock-from n b cb in
@@ -84,7 +87,8 @@ module _ (n : ℕ) (g : Grid) (es : List (Block × ℕ)) (m : IsMosaic n g es) w
   unfolding leaves
   leaves_are e =
       let law = maximal_are n (is_uniform n g) (uniform_down n g) (map block_in es) tiling in (
-        λ c. subst (Contains (leaves n g)) (is_coloured e c) (Contains-map (coloured n g) (maximal_blocks n (is_uniform n g)) e.0 ((law e.0).0 (Contains-map block_in es e c))),
+        λ c. subst (Contains (leaves n g)) (is_coloured e c)
+            (Contains-map (coloured n g) (maximal_blocks n (is_uniform n g)) e.0 ((law e.0).0 (Contains-map block_in es e c))),
         λ c.
             let r = Contains-map_from (coloured n g) (maximal_blocks n (is_uniform n g)) e c in
             let d = Contains-map_from block_in es r.0 ((law r.0).1 r.1) in

@@ -34,7 +34,8 @@ held_in n b p h held =
     (omega arith, omega arith)
 
 -- a pixel of a member has the member's colour in the painted grid
-pub painted_is : (n : ℕ) (es : List (Block × ℕ)) (e : Block × ℕ) (p : Pixel) → n ≤ 12 → Follows n 0 es → Contains es e → Holds e.0 p → colour_at n (grid_from n es) p ≡ e.1
+pub painted_is : (n : ℕ) (es : List (Block × ℕ)) (e : Block × ℕ) (p : Pixel) → n ≤ 12 → Follows n 0 es → Contains es e → Holds e.0 p
+    → colour_at n (grid_from n es) p ≡ e.1
 painted_is n es e p le follows c held =
     let m = Follows-member n 0 es e follows c in
     let sq = held_in n e.0 p m.block held in
@@ -86,7 +87,8 @@ module _ (n : ℕ) (es : List (Block × ℕ)) (h : IsListed n es) where
       let r = listed_run in
       let w = listed_with p hx hy in
       let z : code_at p ≡ code_at p - 0 = omega arith in
-      let e : get_or (colours_of es) (code_at p) 0 ≡ (w.0).1 = ap (λ k. get_or (colours_of es) k 0) z ∙ colour_in n 0 es w.0 (code_at p) r.follows w.1 w.2 w.3 in
+      let e : get_or (colours_of es) (code_at p) 0 ≡ (w.0).1 =
+      ap (λ k. get_or (colours_of es) k 0) z ∙ colour_in n 0 es w.0 (code_at p) r.follows w.1 w.2 w.3 in
       let b = All-contains (λ (d : Block × ℕ). d.1 < 65536) es w.0 h.colours w.1 in
       omega arith
 

@@ -1,5 +1,6 @@
 -- The maximal blocks that pass a test which each block within a passing one passes too: their laws.
-use Rattle.std.proofs.Common.{◌≡◌, ℕ, zero, suc, ◌^◌, ◌<◌, ◌≤◌, Bool, true, false, cond, not, ◌||◌, ◌↔◌, List, [], ◌∷◌, flat_map, ⊎_elim, refl, sym, ◌∙◌, ap, subst, arith, Contains, count_by, pow_pos, pow-suc, eq-eqb, eqb-true, lt-ltb, true≢false}
+use Rattle.std.proofs.Common.{◌≡◌, ℕ, zero, suc, ◌^◌, ◌<◌, ◌≤◌, Bool, true, false, cond, not, ◌||◌, ◌↔◌, List, [], ◌∷◌, flat_map, ⊎_elim, refl, sym, ◌∙◌, ap}
+use Rattle.std.proofs.Common.{subst, arith, Contains, count_by, pow_pos, pow-suc, eq-eqb, eqb-true, lt-ltb, true≢false}
 use Rattle.std.proofs.lemmas.Bool.{and_parts, and_from, or_cases, or_left, or_right, not-true, not_from_false, cases_Bool, cases_lt, both_ways}
 use Rattle.std.proofs.lemmas.Nat.{pow_below}
 use Rattle.quilt_types.specs.declared.plane.Pixel.{Pixel}
@@ -7,11 +8,13 @@ use Rattle.quilt_types.specs.declared.plane.Block.{Block}
 use Rattle.quilt_types.specs.Plane.{is_pixel, blocks, in_block, parent_of, quarters_of, corner, whole, Holds, IsBlock, Within}
 use Rattle.quilt_types.specs.Quadtrees.{is_whole, is_maximal, maximal_blocks}
 use Rattle.quilt_blocks.specs.Cutting.{cut}
-use Rattle.quilt_loc.proofs.Members.{Contains-here, Contains-nil, Contains-cons_cases, Contains-filter, Contains-filter_from, Contains-flat_map, Contains-flat_map_from}
+use Rattle.quilt_loc.proofs.Members.{Contains-here, Contains-nil, Contains-cons_cases, Contains-filter, Contains-filter_from, Contains-flat_map}
+use Rattle.quilt_loc.proofs.Members.{Contains-flat_map_from}
 use Rattle.quilt_loc.proofs.Once.{once_some, once_same}
 use Rattle.quilt_loc.proofs.Around.{IsBlock-around, Holds-around}
 use Rattle.quilt_loc.proofs.Blocks.{Holds-from, in_block-true, IsBlock-from, Contains-blocks}
-use Rattle.quilt_loc.proofs.Nesting.{around, Within-holds, Within-trans, Holds-corner, nested, same_block_from, twice_le, parent_within, side_pos, IsBlock-parent_of, Within-parent_of}
+use Rattle.quilt_loc.proofs.Nesting.{around, Within-holds, Within-trans, Holds-corner, nested, same_block_from, twice_le, parent_within, side_pos}
+use Rattle.quilt_loc.proofs.Nesting.{IsBlock-parent_of, Within-parent_of}
 use Rattle.quilt_loc.proofs.Quartered.{IsQuarter, quarters_are, is_quarter, side_le, IsBlock-whole, Within-whole}
 
 -- a maximal block, in words
@@ -38,7 +41,8 @@ room : (n k : ℕ) (b : Block) → IsBlock n b → b.side ≡ 2 ^ suc k → suc 
 room n k b hb s = ⊎_elim (λ lt. let top = side_le n b hb in let w = pow_below n (suc k) lt in absurd (omega arith)) (λ e. e) (cases_lt n (suc k))
 
 -- the quarter that holds a smaller block
-pub quarter_with : (n k : ℕ) (a b : Block) → IsBlock n a → IsBlock n b → b.side ≡ 2 ^ suc k → a.side < b.side → Within a b → (r : Block) × Contains (quarters_of b) r × Within a r
+pub quarter_with : (n k : ℕ) (a b : Block) → IsBlock n a → IsBlock n b → b.side ≡ 2 ^ suc k → a.side < b.side → Within a b
+    → (r : Block) × Contains (quarters_of b) r × Within a r
 quarter_with n k a b ha hb e lt w =
     let r = around (2 ^ k) (corner a) in
     let le = room n k b hb e in
@@ -111,7 +115,8 @@ module _ (n : ℕ) (fits : Block → Bool) where
         absurd (both_ways (fits b) f (ap fits (sym is) ∙ ge'.passes))) (cases_lt e.side b.side)
 
     cut_step : (k : ℕ) (b : Block) → IsBlock n b → b.side ≡ 2 ^ suc k → (b.side < 2 ^ n → fits (parent_of b) ≡ true → ⊥) → (e : Block)
-        → ((r : Block) → IsBlock n r → r.side ≡ 2 ^ k → (r.side < 2 ^ n → fits (parent_of r) ≡ true → ⊥) → Contains (cut fits k r) e ↔ (IsMaximal n fits e × Within e r))
+        → ((r : Block) → IsBlock n r → r.side ≡ 2 ^ k → (r.side < 2 ^ n → fits (parent_of r) ≡ true → ⊥) → Contains (cut fits k r) e
+        ↔ (IsMaximal n fits e × Within e r))
         → (t : Bool) → fits b ≡ t → Contains (cond t (b ∷ []) (flat_map (cut fits k) (quarters_of b))) e ↔ (IsMaximal n fits e × Within e b)
     cut_step k b hb s great e law true u =
         let gb : IsMaximal n fits b = record { block = hb; passes = u; last = great } in
@@ -120,7 +125,8 @@ module _ (n : ℕ) (fits : Block → Bool) where
         let p2 = pow-suc 2 k in
         let pos = pow_pos k in
         let wide : 1 < b.side = omega arith in
-        let below = λ (r : Block) (q : IsQuarter n b r) (lt : r.side < 2 ^ n) (u : fits (parent_of r) ≡ true). both_ways (fits b) f (ap fits (sym q.parent) ∙ u) in
+        let below =
+        λ (r : Block) (q : IsQuarter n b r) (lt : r.side < 2 ^ n) (u : fits (parent_of r) ≡ true). both_ways (fits b) f (ap fits (sym q.parent) ∙ u) in
         let at = λ (r : Block) (q : IsQuarter n b r). let half = q.half in law r q.block (omega arith) (below r q) in (
           (λ c.
               let r = Contains-flat_map_from (cut fits k) (quarters_of b) e c in
@@ -134,7 +140,8 @@ module _ (n : ℕ) (fits : Block → Bool) where
         )
 
     module _ (pixel : (b : Block) → IsBlock n b → b.side ≡ 1 → fits b ≡ true) where
-      pub cut_law : (k : ℕ) (b : Block) → IsBlock n b → b.side ≡ 2 ^ k → (b.side < 2 ^ n → fits (parent_of b) ≡ true → ⊥) → (e : Block) → Contains (cut fits k b) e ↔ (IsMaximal n fits e × Within e b)
+      pub cut_law : (k : ℕ) (b : Block) → IsBlock n b → b.side ≡ 2 ^ k → (b.side < 2 ^ n → fits (parent_of b) ≡ true → ⊥) → (e : Block)
+          → Contains (cut fits k b) e ↔ (IsMaximal n fits e × Within e b)
       cut_law zero b hb s great e =
           let gb : IsMaximal n fits b = record { block = hb; passes = pixel b hb s; last = great } in
           (one_from b gb e, one_is b gb e)
@@ -163,7 +170,8 @@ module _ (n : ℕ) (fits : Block → Bool) where
       record Tops (q : Block) : Type 0 where
         most : (e : Block) → Contains tiles e → (p : Pixel) → Holds e p → Holds q p → e.side ≤ q.side
 
-      split : (q : Block) → IsBlock n q → fits q ≡ true → ((r : Block) → IsQuarter n q r → Tops r → Contains tiles r) → Tops q → (d : Block) → Contains tiles d → Holds d (corner q) → d.side < q.side → ⊥
+      split : (q : Block) → IsBlock n q → fits q ≡ true → ((r : Block) → IsQuarter n q r → Tops r → Contains tiles r) → Tops q → (d : Block)
+          → Contains tiles d → Holds d (corner q) → d.side < q.side → ⊥
       split q hq u part m d cd hd lt =
           let pos = side_pos n d (block_is d cd) in
           t.unmerged q (Contains-blocks n q hq) u (λ r mr.
@@ -198,7 +206,8 @@ module _ (n : ℕ) (fits : Block → Bool) where
           let le = m.most d.0 d.1 (corner q) d.2 (Holds-corner n q hq) in
           let p2 = pow-suc 2 k in
           ⊎_elim
-          (λ lt. absurd (split q hq u (λ r qr mr. let half = qr.half in filled k r qr.block (omega arith) (goes.down r q qr.block hq qr.within u) mr) m d.0 d.1 d.2 lt))
+          (λ lt. absurd (split q hq u (λ r qr mr. let half = qr.half in filled k r qr.block (omega arith) (goes.down r q qr.block hq qr.within u) mr)
+          m d.0 d.1 d.2 lt))
           (λ ge. whole_tile q hq d.0 d.1 d.2 (omega arith)) (cases_lt (d.0).side q.side)
 
       maximal-from_tile : (b : Block) → Contains tiles b → Contains (maximal_blocks n fits) b

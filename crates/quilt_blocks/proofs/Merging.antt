@@ -1,8 +1,10 @@
 -- Finished siblings of one colour: a new block, a merge, and where there is none left.
-use Rattle.std.proofs.Common.{◌≡◌, ℕ, suc, ◌+◌, ◌*◌, ◌/◌, ◌<◌, ◌≤◌, List, [], ◌∷◌, ◌++◌, map, length, get_or, take, drop, set, refl, sym, ◌∙◌, ap, ap₂, subst, ⊎_elim, arith, Contains, All, replicate, length-append, get_or-append-add, append_assoc, drop-cons, pow-suc}
+use Rattle.std.proofs.Common.{◌≡◌, ℕ, suc, ◌+◌, ◌*◌, ◌/◌, ◌<◌, ◌≤◌, List, [], ◌∷◌, ◌++◌, map, length, get_or, take, drop, set, refl, sym, ◌∙◌, ap, ap₂, subst}
+use Rattle.std.proofs.Common.{⊎_elim, arith, Contains, All, replicate, length-append, get_or-append-add, append_assoc, drop-cons, pow-suc}
 use Rattle.std.proofs.Math.Seq.{drop-length, take-set-lt}
 use Rattle.std.proofs.lemmas.List.{replicate-append-replicate, take_more_set, take-append-drop}
-use Rattle.std.proofs.lemmas.List.Elements.{All-nil, All-cons, All-head, All-tail, All-append, All-contains, All-from_recursion, Contains-append_left, Contains-append_right, Contains-append_cases}
+use Rattle.std.proofs.lemmas.List.Elements.{All-nil, All-cons, All-head, All-tail, All-append, All-contains, All-from_recursion, Contains-append_left}
+use Rattle.std.proofs.lemmas.List.Elements.{Contains-append_right, Contains-append_cases}
 use Rattle.quilt_types.specs.declared.plane.Block.{Block}
 use Rattle.quilt_types.specs.Plane.{quarters_of, IsBlock}
 use Rattle.quilt_loc.specs.Codes.{code_from, code_to}
@@ -46,7 +48,8 @@ IsMaking-none n least most = record {
 }
 
 -- one more block
-pub IsGrowing-push : (n : ℕ) (es : List (Block × ℕ)) (e : Block × ℕ) → IsMaking n es → IsBlock n e.0 → code_from e.0 ≡ size_of es → e.1 < 65536 → IsGrowing n (es ++ e ∷ [])
+pub IsGrowing-push : (n : ℕ) (es : List (Block × ℕ)) (e : Block × ℕ) → IsMaking n es → IsBlock n e.0 → code_from e.0 ≡ size_of es → e.1 < 65536
+    → IsGrowing n (es ++ e ∷ [])
 IsGrowing-push n es e m h at small =
     let z : code_from e.0 ≡ 0 + size_of es = omega arith in
     record {
@@ -62,10 +65,13 @@ IsGrowing-push n es e m h at small =
 abbrev pub siblings : Block × ℕ → List (Block × ℕ)
 siblings w = map (λ q. (q, w.1)) (quarters_of w.0)
 
-four_equal : (a c : ℕ) (rest : List ℕ) → replicate a c ++ (replicate a c ++ (replicate a c ++ (replicate a c ++ rest))) ≡ replicate (a + (a + (a + a))) c ++ rest
+four_equal : (a c : ℕ) (rest : List ℕ)
+    → replicate a c ++ (replicate a c ++ (replicate a c ++ (replicate a c ++ rest))) ≡ replicate (a + (a + (a + a))) c ++ rest
 four_equal a c rest =
-    ap (λ l. replicate a c ++ (replicate a c ++ l)) (sym (append_assoc (replicate a c) (replicate a c) rest) ∙ ap (λ l. l ++ rest) (replicate-append-replicate a a c))
-    ∙ ap (λ l. replicate a c ++ l) (sym (append_assoc (replicate a c) (replicate (a + a) c) rest) ∙ ap (λ l. l ++ rest) (replicate-append-replicate a (a + a) c))
+    ap (λ l. replicate a c ++ (replicate a c ++ l))
+    (sym (append_assoc (replicate a c) (replicate a c) rest) ∙ ap (λ l. l ++ rest) (replicate-append-replicate a a c))
+    ∙ ap (λ l. replicate a c ++ l)
+    (sym (append_assoc (replicate a c) (replicate (a + a) c) rest) ∙ ap (λ l. l ++ rest) (replicate-append-replicate a (a + a) c))
     ∙ sym (append_assoc (replicate a c) (replicate (a + (a + a)) c) rest) ∙ ap (λ l. l ++ rest) (replicate-append-replicate a (a + (a + a)) c)
 
 quarter_size : (n : ℕ) (b : Block) → IsBlock n b → 1 < b.side → let h = b.side / 2 in h * h + (h * h + (h * h + h * h)) ≡ b.side * b.side
@@ -81,7 +87,8 @@ quarter_size n b hb wide =
     squares h = omega arith
 
 -- they paint what the whole block paints
-pub colours_of-siblings : (n : ℕ) (w : Block × ℕ) (front : List (Block × ℕ)) → IsBlock n w.0 → 1 < w.0.side → colours_of (front ++ siblings w) ≡ colours_of (front ++ w ∷ [])
+pub colours_of-siblings : (n : ℕ) (w : Block × ℕ) (front : List (Block × ℕ)) → IsBlock n w.0 → 1 < w.0.side
+    → colours_of (front ++ siblings w) ≡ colours_of (front ++ w ∷ [])
 unfolding colours_of
 colours_of-siblings n w front hw wide =
     let h = w.0.side / 2 in
@@ -106,20 +113,24 @@ IsGrowing-merge n es w g q =
     let follows : Follows n 0 (f ++ siblings w) = subst (Follows n 0) q.split g.follows in
     let back = Follows-back n 0 f (siblings w) follows in
     let all : All (λ (e : Block × ℕ). e.1 < 65536) (f ++ siblings w) = subst (All (λ (e : Block × ℕ). e.1 < 65536)) q.split g.colours in
-    let small = All-contains (λ (e : Block × ℕ). e.1 < 65536) (f ++ siblings w) a all (Contains-append_right f (siblings w) a (Contains-here a (b ∷ c ∷ d ∷ []))) in
+    let small =
+    All-contains (λ (e : Block × ℕ). e.1 < 65536) (f ++ siblings w) a all (Contains-append_right f (siblings w) a (Contains-here a (b ∷ c ∷ d ∷ []))) in
     let cut : g.front ++ g.last ∷ [] ≡ (f ++ a ∷ b ∷ c ∷ []) ++ d ∷ [] = sym g.split ∙ q.split ∙ sym (append_assoc f (a ∷ b ∷ c ∷ []) (d ∷ [])) in
     let front : g.front ≡ f ++ a ∷ b ∷ c ∷ [] = before_last g.front (f ++ a ∷ b ∷ c ∷ []) g.last d cut in
     record {
-      colours = All-append (λ (e : Block × ℕ). e.1 < 65536) f (w ∷ []) (All-front (λ (e : Block × ℕ). e.1 < 65536) f (siblings w) all) (All-from_recursion (λ (e : Block × ℕ). e.1 < 65536) (w ∷ []) (small, tt));
+      colours = All-append (λ (e : Block × ℕ). e.1 < 65536) f (w ∷ []) (All-front (λ (e : Block × ℕ). e.1 < 65536) f (siblings w) all)
+          (All-from_recursion (λ (e : Block × ℕ). e.1 < 65536) (w ∷ []) (small, tt));
       follows = Follows-append n 0 f (w ∷ []) (Follows-front n 0 f (siblings w) follows) (q.block, back.1, tt);
       front = f;
       last = w;
       split = refl;
-      unmerged = IsUnmerged-less n f g.front (λ e m. subst (λ (l : List (Block × ℕ)). Contains l e) (sym front) (Contains-append_left f (a ∷ b ∷ c ∷ []) e m)) g.unmerged;
+      unmerged = IsUnmerged-less n f g.front
+          (λ e m. subst (λ (l : List (Block × ℕ)). Contains l e) (sym front) (Contains-append_left f (a ∷ b ∷ c ∷ []) e m)) g.unmerged;
     }
 
 -- the last member is the one that ends where all end
-last_is : (n at : ℕ) (es : List (Block × ℕ)) (e : Block × ℕ) → Follows n at es → Contains es e → code_to e.0 ≡ at + size_of es → (ys : List (Block × ℕ)) × (es ≡ ys ++ e ∷ [])
+last_is : (n at : ℕ) (es : List (Block × ℕ)) (e : Block × ℕ) → Follows n at es → Contains es e → code_to e.0 ≡ at + size_of es
+    → (ys : List (Block × ℕ)) × (es ≡ ys ++ e ∷ [])
 last_is n at [] e h c end = absurd (Contains-nil e c)
 last_is n at (x ∷ []) e h c end =
     ⊎_elim (λ is. ([], ap (λ (z : Block × ℕ). z ∷ []) is)) (λ d. absurd (Contains-nil e d)) (Contains-cons_cases x [] e c)
@@ -146,7 +157,8 @@ not_last xs e f c apart =
     (Contains-append_cases xs (e ∷ []) f c)
 
 -- the member that ends where the last one begins stands before it
-peel : (n : ℕ) (xs : List (Block × ℕ)) (e f : Block × ℕ) → Follows n 0 (xs ++ e ∷ []) → Contains xs f → code_to f.0 ≡ code_from e.0 → (ys : List (Block × ℕ)) × (xs ≡ ys ++ f ∷ [])
+peel : (n : ℕ) (xs : List (Block × ℕ)) (e f : Block × ℕ) → Follows n 0 (xs ++ e ∷ []) → Contains xs f → code_to f.0 ≡ code_from e.0
+    → (ys : List (Block × ℕ)) × (xs ≡ ys ++ f ∷ [])
 peel n xs e f h c end =
     let back = Follows-back n 0 xs (e ∷ []) h in
     let from = back.1 in
@@ -212,18 +224,27 @@ module _ (n : ℕ) (le : n ≤ 12) (es : List (Block × ℕ)) (g : IsGrowing n e
         let p2 = peel n g.front g.last below follows m2 (omega arith) in
         let e2 = p2.1 in
         let h2 = subst (Follows n 0) e2 (Follows-front n 0 g.front (g.last ∷ []) follows) in
-        let m1 = not_last p2.0 below right (subst (λ (l : List (Block × ℕ)). Contains l right) e2 (not_last g.front g.last right (part right.0 (1, omega arith, refl)) (λ e. omega arith))) (λ e. omega arith) in
+        let m1 =
+        not_last p2.0 below right
+        (subst (λ (l : List (Block × ℕ)). Contains l right) e2
+        (not_last g.front g.last right (part right.0 (1, omega arith, refl)) (λ e. omega arith))) (λ e. omega arith) in
         let p1 = peel n p2.0 below right h2 m1 (omega arith) in
         let e1 = p1.1 in
         let h1 = subst (Follows n 0) e1 (Follows-front n 0 p2.0 (below ∷ []) h2) in
-        let m0 = not_last p1.0 right (at b.x b.y) (subst (λ (l : List (Block × ℕ)). Contains l (at b.x b.y)) e1 (not_last p2.0 below (at b.x b.y) (subst (λ (l : List (Block × ℕ)). Contains l (at b.x b.y)) e2 (not_last g.front g.last (at b.x b.y) first (λ e. omega arith))) (λ e. omega arith))) (λ e. omega arith) in
+        let m0 =
+        not_last p1.0 right (at b.x b.y)
+        (subst (λ (l : List (Block × ℕ)). Contains l (at b.x b.y)) e1
+        (not_last p2.0 below (at b.x b.y)
+        (subst (λ (l : List (Block × ℕ)). Contains l (at b.x b.y)) e2 (not_last g.front g.last (at b.x b.y) first (λ e. omega arith)))
+        (λ e. omega arith))) (λ e. omega arith) in
         let p0 = peel n p1.0 right (at b.x b.y) h1 m0 (omega arith) in
         let e0 = p0.1 in
         last_four (b, c) (record {
           block = hb;
           wide = wide;
           front = p0.0;
-          split = g.split ∙ ap₂ (λ u v. u ++ v ∷ []) (e2 ∙ ap (λ l. l ++ below ∷ []) (e1 ∙ ap (λ l. l ++ right ∷ []) e0)) (sym is) ∙ four_more p0.0 (at b.x b.y) right below across;
+          split = g.split ∙ ap₂ (λ u v. u ++ v ∷ []) (e2 ∙ ap (λ l. l ++ below ∷ []) (e1 ∙ ap (λ l. l ++ right ∷ []) e0)) (sym is)
+              ∙ four_more p0.0 (at b.x b.y) right below across;
         })
 
     none : ⊥
@@ -237,7 +258,8 @@ module _ (n : ℕ) (le : n ≤ 12) (es : List (Block × ℕ)) (g : IsGrowing n e
   IsUnmerged-end = record { four = λ b c hb part. none b c hb (λ q m. subst (λ (l : List (Block × ℕ)). Contains l (q, c)) g.split (part q m)) }
 
 -- the last four elements
-pub last_four_are : {X : Type 0} (xs : List X) (d : X) (k : ℕ) → k + 4 ≡ length xs → xs ≡ take k xs ++ get_or xs k d ∷ get_or xs (k + 1) d ∷ get_or xs (k + 2) d ∷ get_or xs (k + 3) d ∷ []
+pub last_four_are : {X : Type 0} (xs : List X) (d : X) (k : ℕ) → k + 4 ≡ length xs
+    → xs ≡ take k xs ++ get_or xs k d ∷ get_or xs (k + 1) d ∷ get_or xs (k + 2) d ∷ get_or xs (k + 3) d ∷ []
 last_four_are xs d k e =
     let l0 : k < length xs = omega arith in
     let l1 : k + 1 < length xs = omega arith in
@@ -257,7 +279,8 @@ pub four_same : {X : Type 0} (a b c d p q r s : X) → a ≡ p → b ≡ q → c
 four_same a b c d p q r s e f g h = cc
 
 -- what stands at the last four places, from k on, where they are siblings of one colour
-pub at_the_end : (n : ℕ) (es : List (Block × ℕ)) (w d : Block × ℕ) (k : ℕ) → k + 4 ≡ length es → EndsInQuarters n es w → (j : ℕ) → j < 4 → get_or es (k + j) d ≡ get_or (siblings w) j d
+pub at_the_end : (n : ℕ) (es : List (Block × ℕ)) (w d : Block × ℕ) (k : ℕ) → k + 4 ≡ length es → EndsInQuarters n es w → (j : ℕ) → j < 4
+    → get_or es (k + j) d ≡ get_or (siblings w) j d
 at_the_end n es w d k at q j lt =
     let long : length es ≡ length q.front + 4 = ap length q.split ∙ length-append q.front (siblings w) in
     ap (λ i. get_or es i d) (let e : k + j ≡ length q.front + j = omega arith in e)

@@ -1,5 +1,6 @@
 -- What pushed blocks paint, pixel by pixel.
-use Rattle.std.proofs.Common.{◌≡◌, ℕ, ◌+◌, ◌-◌, ◌*◌, ◌^◌, ◌<◌, ◌≤◌, List, [], ◌++◌, length, get_or, sym, ◌∙◌, ap, ⊎_elim, arith, replicate, get_or-append-add, length-append, pow_pos}
+use Rattle.std.proofs.Common.{◌≡◌, ℕ, ◌+◌, ◌-◌, ◌*◌, ◌^◌, ◌<◌, ◌≤◌, List, [], ◌++◌, length, get_or, sym, ◌∙◌, ap, ⊎_elim, arith, replicate, get_or-append-add}
+use Rattle.std.proofs.Common.{length-append, pow_pos}
 use Rattle.std.specs.Prelude.{slice_index}
 use Rattle.std.proofs.lemmas.Bool.{cases_lt}
 use Rattle.std.proofs.lemmas.List.{length-replicate, get_or-replicate, get_or_append_left}
@@ -24,7 +25,8 @@ pub Paints-none : (n : ℕ) (f : Pixel → ℕ) → Paints n f []
 Paints-none n f = record { each = λ p hx hy lt. absurd (omega arith) }
 
 -- after a block, each pixel of which has this colour
-pub Paints-push : (n : ℕ) (f : Pixel → ℕ) (colours : List ℕ) (b : Block) (c : ℕ) → n ≤ 12 → IsBlock n b → code_from b ≡ length colours → ((p : Pixel) → Holds b p → f p ≡ c) → Paints n f colours → Paints n f (colours ++ replicate (b.side * b.side) c)
+pub Paints-push : (n : ℕ) (f : Pixel → ℕ) (colours : List ℕ) (b : Block) (c : ℕ) → n ≤ 12 → IsBlock n b → code_from b ≡ length colours
+    → ((p : Pixel) → Holds b p → f p ≡ c) → Paints n f colours → Paints n f (colours ++ replicate (b.side * b.side) c)
 Paints-push n f colours b c le h at same old =
     let long : length (replicate (b.side * b.side) c) ≡ b.side * b.side = length-replicate (b.side * b.side) c in
     let all = length-append colours (replicate (b.side * b.side) c) in
@@ -66,6 +68,7 @@ Paints-all n f colours le long h =
     get_or-grid_of n by k lt ∙ h.each p hx hy (let i = code_in n p le hx hy in omega arith))
 
 -- the colour of a pixel of the painted grid
-pub colour_at-grid_by_code : (n : ℕ) (colours : List ℕ) (p : Pixel) → p.x < side n → p.y < side n → colour_at n (grid_by_code n colours) p ≡ slice_index colours (code_at p)
+pub colour_at-grid_by_code : (n : ℕ) (colours : List ℕ) (p : Pixel) → p.x < side n → p.y < side n
+    → colour_at n (grid_by_code n colours) p ≡ slice_index colours (code_at p)
 unfolding grid_by_code
 colour_at-grid_by_code n colours p hx hy = colour_at-grid_of n (λ q. slice_index colours (code_at q)) p hx hy

@@ -1,5 +1,6 @@
 -- The leaves of a list by their places: where each begins, and which one holds a pixel.
-use Rattle.std.proofs.Common.{◌≡◌, ℕ, suc, ◌+◌, ◌<◌, ◌≤◌, List, [], ◌∷◌, ◌++◌, length, get_or, take, set, length-append, sym, ◌∙◌, ap, subst, ⊎_elim, arith, Contains}
+use Rattle.std.proofs.Common.{◌≡◌, ℕ, suc, ◌+◌, ◌<◌, ◌≤◌, List, [], ◌∷◌, ◌++◌, length, get_or, take, set, length-append, sym, ◌∙◌, ap, subst, ⊎_elim, arith}
+use Rattle.std.proofs.Common.{Contains}
 use Rattle.std.proofs.lemmas.Bool.{cases_lt}
 use Rattle.std.proofs.lemmas.List.{length-map, get_or-map, map-append, take-map, take_at}
 use Rattle.std.proofs.lemmas.List.Elements.{Contains-get_or}
@@ -31,7 +32,8 @@ pub followed_block : (n : ℕ) (items : List Leaf) (i : ℕ) (d : Leaf) → Foll
 followed_block n items i d h lt = (Follows-member n 0 (pairs_of items) (pair_of (get_or items i d)) h (member_at items i d lt)).block
 
 -- the last four leaves made one
-pub merged_items : (n : ℕ) (items : List Leaf) (w : Leaf) (k : ℕ) → k + 4 ≡ length items → (q : EndsInQuarters n (pairs_of items) (pair_of w)) → pairs_of (set (take (k + 1) items) k w) ≡ q.front ++ pair_of w ∷ []
+pub merged_items : (n : ℕ) (items : List Leaf) (w : Leaf) (k : ℕ) → k + 4 ≡ length items → (q : EndsInQuarters n (pairs_of items) (pair_of w))
+    → pairs_of (set (take (k + 1) items) k w) ≡ q.front ++ pair_of w ∷ []
 merged_items n items w k e q =
     let l = length-map items pair_of in
     let long : length (pairs_of items) ≡ length q.front + 4 = ap length q.split ∙ length-append q.front (siblings (pair_of w)) in
@@ -47,11 +49,13 @@ module _ (n : ℕ) (items : List Leaf) (h : IsListed n (pairs_of items)) where
       let l = length-map items pair_of in
       let z = size_of-nil in
       sym (ap (λ (e : Block × ℕ). code_from e.0) (pair_at items 0 d lt))
-      ∙ Follows-place n 0 (pairs_of items) 0 (pair_of d) (listed_run n (pairs_of items) h).follows (omega arith) ∙ (let e : 0 + size_of [] ≡ 0 = omega arith in e)
+      ∙ Follows-place n 0 (pairs_of items) 0 (pair_of d) (listed_run n (pairs_of items) h).follows (omega arith)
+      ∙ (let e : 0 + size_of [] ≡ 0 = omega arith in e)
 
   -- the last leaf that begins at the code of a pixel or before holds it
   pub held_at : (p : Pixel) (low high : ℕ) (d : Leaf) → p.x < side n → p.y < side n → low < high → high ≤ low + 1 → high ≤ length items
-      → code_from (get_or items low d).block ≤ code_at p → (high < length items → code_at p < code_from (get_or items high d).block) → Holds (get_or items low d).block p
+      → code_from (get_or items low d).block ≤ code_at p → (high < length items → code_at p < code_from (get_or items high d).block)
+      → Holds (get_or items low d).block p
   held_at p low high d hx hy lt one inside from to =
       let l = length-map items pair_of in
       let run = listed_run n (pairs_of items) h in

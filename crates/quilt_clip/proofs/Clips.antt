@@ -1,8 +1,10 @@
 -- What `clip_range` and `meets` say: the laws.
-use Rattle.std.proofs.Common.{◌≡◌, ℕ, ◌+◌, ◌-◌, ◌*◌, ◌<◌, ◌≤◌, ◌⊎◌, inl, inr, ⊎_elim, ◌↔◌, Bool, true, cond, List, [], ◌∷◌, ◌++◌, Some, None, refl, ap, ◌∙◌, subst, arith, Contains, All, filter}
+use Rattle.std.proofs.Common.{◌≡◌, ℕ, ◌+◌, ◌-◌, ◌*◌, ◌<◌, ◌≤◌, ◌⊎◌, inl, inr, ⊎_elim, ◌↔◌, Bool, true, cond, List, [], ◌∷◌, ◌++◌, Some, None, refl, ap, ◌∙◌}
+use Rattle.std.proofs.Common.{subst, arith, Contains, All, filter}
 use Rattle.std.specs.Prelude.{is_some}
 use Rattle.std.proofs.lemmas.Bool.{cond_both, and_parts, and_from, ltb-true, leb-true, le-leb, lt-ltb}
-use Rattle.std.proofs.lemmas.List.Elements.{All-nil, All-cons, All-append, All-contains, All-filter, All-weaker, All-head, All-tail, Contains-append_left, Contains-append_right}
+use Rattle.std.proofs.lemmas.List.Elements.{All-nil, All-cons, All-append, All-contains, All-filter, All-weaker, All-head, All-tail, Contains-append_left}
+use Rattle.std.proofs.lemmas.List.Elements.{Contains-append_right}
 use Rattle.quilt_types.specs.declared.plane.Window.{Window}
 use Rattle.quilt_types.specs.declared.plane.Seg.{Seg}
 use Rattle.quilt_types.specs.Fractions.{Fraction, lowest, is_less}
@@ -21,7 +23,12 @@ inside_if s w t h =
     let both = and_parts _ _ h in
     let x = and_parts _ _ both.0 in
     let y = and_parts _ _ both.1 in
-    record { left = record { fact = leb-true _ _ x.0 }; right = record { fact = leb-true _ _ x.1 }; top = record { fact = leb-true _ _ y.0 }; bottom = record { fact = leb-true _ _ y.1 } }
+    record {
+      left = record { fact = leb-true _ _ x.0 };
+      right = record { fact = leb-true _ _ x.1 };
+      top = record { fact = leb-true _ _ y.0 };
+      bottom = record { fact = leb-true _ _ y.1 };
+    }
 
 pub inside_then : (s : Seg) (w : Window) (t : Fraction) → Inside s w t → is_in s w t ≡ true
 inside_then s w t h =
@@ -75,7 +82,8 @@ stops_points s w =
 -- where each piece of the list of stops lies in it
 module _ (c1 c2 c3 c4 : List Fraction) (f : Fraction) where
   early : (x : Fraction) → Contains (start ∷ finish ∷ c1) x → Contains (start ∷ finish ∷ c1 ++ c2 ++ c3 ++ c4) x
-  early x h = Contains-append_left (start ∷ finish ∷ c1 ++ c2 ++ c3) c4 x (Contains-append_left (start ∷ finish ∷ c1 ++ c2) c3 x (Contains-append_left (start ∷ finish ∷ c1) c2 x h))
+  early x h = Contains-append_left (start ∷ finish ∷ c1 ++ c2 ++ c3) c4 x
+      (Contains-append_left (start ∷ finish ∷ c1 ++ c2) c3 x (Contains-append_left (start ∷ finish ∷ c1) c2 x h))
 
   listed_start : Contains (start ∷ finish ∷ c1 ++ c2 ++ c3 ++ c4) start
   listed_start = early start (Contains-here start (finish ∷ c1))
@@ -87,7 +95,8 @@ module _ (c1 c2 c3 c4 : List Fraction) (f : Fraction) where
   listed_1 h = early f (Contains-there start (finish ∷ c1) f (Contains-there finish c1 f h))
 
   listed_2 : Contains c2 f → Contains (start ∷ finish ∷ c1 ++ c2 ++ c3 ++ c4) f
-  listed_2 h = Contains-append_left (start ∷ finish ∷ c1 ++ c2 ++ c3) c4 f (Contains-append_left (start ∷ finish ∷ c1 ++ c2) c3 f (Contains-append_right (start ∷ finish ∷ c1) c2 f h))
+  listed_2 h = Contains-append_left (start ∷ finish ∷ c1 ++ c2 ++ c3) c4 f
+      (Contains-append_left (start ∷ finish ∷ c1 ++ c2) c3 f (Contains-append_right (start ∷ finish ∷ c1) c2 f h))
 
   listed_3 : Contains c3 f → Contains (start ∷ finish ∷ c1 ++ c2 ++ c3 ++ c4) f
   listed_3 h = Contains-append_left (start ∷ finish ∷ c1 ++ c2 ++ c3) c4 f (Contains-append_right (start ∷ finish ∷ c1 ++ c2) c3 f h)
@@ -155,7 +164,8 @@ least_more t x u xs r pos p ih =
     let at_u : UpTo r u = ih.below u (Contains-here u xs) in
     record {
       listed = ⊎_elim
-          (λ e. ⊎_elim (λ tu. subst (Contains (t ∷ x ∷ xs)) (tu ∙ e) (Contains-here t (x ∷ xs))) (λ xu. Contains-there t (x ∷ xs) r (subst (Contains (x ∷ xs)) (xu ∙ e) (Contains-here x xs))) p.one)
+          (λ e. ⊎_elim (λ tu. subst (Contains (t ∷ x ∷ xs)) (tu ∙ e) (Contains-here t (x ∷ xs)))
+          (λ xu. Contains-there t (x ∷ xs) r (subst (Contains (x ∷ xs)) (xu ∙ e) (Contains-here x xs))) p.one)
           (λ c. Contains-there t (x ∷ xs) r (Contains-there x xs r c))
           (Contains-cons_cases u xs r ih.listed);
       below = λ y c. ⊎_elim
@@ -167,7 +177,8 @@ least_more t x u xs r pos p ih =
 picked_positive : (b : Bool) (t x : Fraction) (xs : List Fraction) → All Positive (t ∷ x ∷ xs) → All Positive (cond b x t ∷ xs)
 picked_positive b t x xs h =
     let rest = All-tail Positive t (x ∷ xs) h in
-    All-cons Positive (cond b x t) xs (cond_both b x t Positive (λ _. All-head Positive x xs rest) (λ _. All-head Positive t (x ∷ xs) h)) (All-tail Positive x xs rest)
+    All-cons Positive (cond b x t) xs (cond_both b x t Positive (λ _. All-head Positive x xs rest) (λ _. All-head Positive t (x ∷ xs) h))
+    (All-tail Positive x xs rest)
 
 least_is : (t : Fraction) (ts : List Fraction) → All Positive (t ∷ ts) → IsLeast (t ∷ ts) (least_of t ts)
 least_is t [] pos = record {
@@ -184,12 +195,14 @@ greatest_more t x u xs r pos p ih =
     let at_u : UpTo u r = ih.above u (Contains-here u xs) in
     record {
       listed = ⊎_elim
-          (λ e. ⊎_elim (λ tu. subst (Contains (t ∷ x ∷ xs)) (tu ∙ e) (Contains-here t (x ∷ xs))) (λ xu. Contains-there t (x ∷ xs) r (subst (Contains (x ∷ xs)) (xu ∙ e) (Contains-here x xs))) p.one)
+          (λ e. ⊎_elim (λ tu. subst (Contains (t ∷ x ∷ xs)) (tu ∙ e) (Contains-here t (x ∷ xs)))
+          (λ xu. Contains-there t (x ∷ xs) r (subst (Contains (x ∷ xs)) (xu ∙ e) (Contains-here x xs))) p.one)
           (λ c. Contains-there t (x ∷ xs) r (Contains-there x xs r c))
           (Contains-cons_cases u xs r ih.listed);
       above = λ y c. ⊎_elim
           (λ e. subst (λ (z : Fraction). UpTo z r) e (up_to_trans t u r pos p.first at_u))
-          (λ d. ⊎_elim (λ e. subst (λ (z : Fraction). UpTo z r) e (up_to_trans x u r pos p.second at_u)) (λ k. ih.above y (Contains-there u xs y k)) (Contains-cons_cases x xs y d))
+          (λ d. ⊎_elim (λ e. subst (λ (z : Fraction). UpTo z r) e (up_to_trans x u r pos p.second at_u)) (λ k. ih.above y (Contains-there u xs y k))
+          (Contains-cons_cases x xs y d))
           (Contains-cons_cases t (x ∷ xs) y c);
     }
 

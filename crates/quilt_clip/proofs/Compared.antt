@@ -37,7 +37,8 @@ chain : (a b c p q r : ℕ) → 0 < r → a * q < b * p → b * r < c * q → a 
 chain a b c p q r pos low high =
     elim (cases_lt (a * r) (c * p)) as (λ _. a * r < c * p) [
       | inl h ↦ h
-      | inr h ↦ absurd (let up = mul-le-mul_right q h in let one = mul-le-mul_right r low in let two = mul-le-mul_right p high in let no : ⊥ = omega arith in no)
+      | inr h ↦ absurd (let up = mul-le-mul_right q h in let one = mul-le-mul_right r low in let two = mul-le-mul_right p high in
+          let no : ⊥ = omega arith in no)
     ]
 
 -- it is total
@@ -47,7 +48,8 @@ compared_total = record {
   antisymm = λ x y. nat_cmp_total.antisymm (x.num * over y) (y.num * over x);
   trans = λ x y z h k.
       sym (nat_cmp_is (x.num * over z) (z.num * over x) Less
-      (chain x.num y.num z.num (over x) (over y) (over z) (over_positive z) (ranked (x.num * over y) (y.num * over x) Less (sym h)) (ranked (y.num * over z) (z.num * over y) Less (sym k))));
+      (chain x.num y.num z.num (over x) (over y) (over z) (over_positive z) (ranked (x.num * over y) (y.num * over x) Less (sym h))
+      (ranked (y.num * over z) (z.num * over y) Less (sym k))));
   congr = λ x y z h.
       let same : x.num * over y ≡ y.num * over x = ranked (x.num * over y) (y.num * over x) Equal (sym h) in
       cmp_moves (x.num * over z) (z.num * over x) (y.num * over z) (z.num * over y) (over y) (over x) (over_positive y) (over_positive x)
@@ -74,7 +76,8 @@ cross_is p q r s pq ps =
     both k m pk pm = let h = mul-le-mul_right m pk in omega arith
 
 -- from what the code computed
-pub cross_given : (p q r s x y z w : ℕ) (a b : Fraction) (o : Ordering) → 0 < q → 0 < s → lowest p q ≡ a → lowest r s ≡ b → x ≡ p → y ≡ s → z ≡ r → w ≡ q → o ≡ nat_cmp (x * y) (z * w)
+pub cross_given : (p q r s x y z w : ℕ) (a b : Fraction) (o : Ordering) → 0 < q → 0 < s → lowest p q ≡ a → lowest r s ≡ b → x ≡ p → y ≡ s → z ≡ r
+    → w ≡ q → o ≡ nat_cmp (x * y) (z * w)
     → (o ≡ compared a b) × (o ≡ nat_cmp (a.num * b.den) (b.num * a.den))
 cross_given p q r s x y z w a b o pq ps ea eb ex ey ez ew eo =
     let is : o ≡ compared (lowest p q) (lowest r s) = eo ∙ ap₂ nat_cmp (ap₂ ◌*◌ ex ey) (ap₂ ◌*◌ ez ew) ∙ cross_is p q r s pq ps in

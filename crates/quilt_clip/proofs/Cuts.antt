@@ -8,7 +8,8 @@ use Rattle.quilt_clip.specs.declared.span.Span.{Span}
 use Rattle.quilt_clip.specs.Spans.{IsOn, LiesIn, IsSpan, IsRest, IsCut, From, Until, Above, Below, IsSpanIn, IsClipped}
 use Rattle.quilt_clip.proofs.Sides.{rise_above, rise_above_from, rise_below, rise_below_from, fall_above, fall_above_from, fall_below, fall_below_from}
 
-rest_same : (p : Span) (C D : Fraction → Type 0) (r : Span) → ((t : Fraction) → IsOn t → C t → D t) → ((t : Fraction) → IsOn t → D t → C t) → IsRest p C r → IsRest p D r
+rest_same : (p : Span) (C D : Fraction → Type 0) (r : Span) → ((t : Fraction) → IsOn t → C t → D t) → ((t : Fraction) → IsOn t → D t → C t)
+    → IsRest p C r → IsRest p D r
 rest_same p C D r there back h = record {
   span = h.span;
   before = h.before;
@@ -16,7 +17,8 @@ rest_same p C D r there back h = record {
   all = λ t on l d. h.all t on l (back t on d);
 }
 
-pub cut_same : (p : Span) (C D : Fraction → Type 0) (r : Option Span) → ((t : Fraction) → IsOn t → C t → D t) → ((t : Fraction) → IsOn t → D t → C t) → IsCut p C r → IsCut p D r
+pub cut_same : (p : Span) (C D : Fraction → Type 0) (r : Option Span) → ((t : Fraction) → IsOn t → C t → D t) → ((t : Fraction) → IsOn t → D t → C t)
+    → IsCut p C r → IsCut p D r
 cut_same p C D None there back h = λ t on l d. h t on l (back t on d)
 cut_same p C D (Some r) there back h = rest_same p C D r there back h
 

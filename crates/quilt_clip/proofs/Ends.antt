@@ -55,7 +55,8 @@ pub meets_span : (s : Seg) (w : Window) (r : Option Span) → IsClipped s w r �
 meets_span s w None h = ap (λ (o : Option (Fraction × Fraction)). is_some o) (clip_no_span s w h)
 meets_span s w (Some p) h = ap (λ (o : Option (Fraction × Fraction)). is_some o) (clip_span s w p h)
 
-pub clip_pair : (s : Seg) (w : Window) (p : Span) (f l : Fraction) → f ≡ lowest p.first.num p.first.den → l ≡ lowest p.last.num p.last.den → IsSpanIn s w p → Some (f, l) ≡ clip_range s w
+pub clip_pair : (s : Seg) (w : Window) (p : Span) (f l : Fraction) → f ≡ lowest p.first.num p.first.den → l ≡ lowest p.last.num p.last.den
+    → IsSpanIn s w p → Some (f, l) ≡ clip_range s w
 clip_pair s w p f l ef el h =
     let ff = lowest p.first.num p.first.den in
     let left : Some (f, l) ≡ Some (ff, l) = ap (λ (z : Fraction). let pair : Fraction × Fraction = (z, l) in Some pair) ef in

@@ -1,7 +1,8 @@
 -- A page's state is what the log says of the page, so what a crash leaves can be left.
 use Rattle.std.specs.List.{list_all, list_any, fold}
 use Rattle.std.specs.Prelude.{unwrap_or, slice_index, ◌||◌, ◌&&◌, ◌==◌, drop}
-use Rattle.std.proofs.Common.{◌≡◌, inl, inr, true, false, Bool, cond, ℕ, ◌+◌, ◌<◌, ◌≤◌, List, [], ◌∷◌, Option, Some, None, length, get_or, set, take, refl, sym, ◌∙◌, ap, subst, arith, get_or-set_same, get_or-set_other}
+use Rattle.std.proofs.Common.{◌≡◌, inl, inr, true, false, Bool, cond, ℕ, ◌+◌, ◌<◌, ◌≤◌, List, [], ◌∷◌, Option, Some, None, length, get_or, set, take, refl, sym}
+use Rattle.std.proofs.Common.{◌∙◌, ap, subst, arith, get_or-set_same, get_or-set_other}
 use Rattle.std.proofs.Math.ListN.{length-set}
 use Rattle.std.proofs.lemmas.List.{take-append-drop}
 use Rattle.std.proofs.lemmas.Bool.{cases_lt, cases_Bool, false≢true}
@@ -19,7 +20,8 @@ use Rattle.quilt_desk.specs.Whole.{is_whole}
 
 -- ---- one event more
 
-pub state_of-more : (page : ℕ) (first : List ℕ) (log : Log) (i : ℕ) (e : Event) → i < length log → e ≡ get_or log i e → state_after page (state_of page first (take i log)) e ≡ state_of page first (take (i + 1) log)
+pub state_of-more : (page : ℕ) (first : List ℕ) (log : Log) (i : ℕ) (e : Event) → i < length log → e ≡ get_or log i e
+    → state_after page (state_of page first (take i log)) e ≡ state_of page first (take (i + 1) log)
 unfolding state_of
 state_of-more page first log i e within is =
     ap (λ (x : Event). state_after page (fold (state_after page) (first_state first) (take i log)) x) is
@@ -28,15 +30,18 @@ state_of-more page first log i e within is =
 pub whole_at : (log : Log) (i : ℕ) (e : Event) → i < length log → e ≡ get_or log i e → list_all is_whole log ≡ true → is_whole e ≡ true
 whole_at log i e within is all = elim (cases_Bool (is_whole e)) [
   | inl whole ↦ whole
-  | inr part ↦ let none : list_all is_whole log ≡ false = list_all_at is_whole log i e within (ap is_whole (sym is) ∙ part) in let no : true ≡ false = sym all ∙ none in cc
+  | inr part ↦ let none : list_all is_whole log ≡ false = list_all_at is_whole log i e within (ap is_whole (sym is) ∙ part) in
+      let no : true ≡ false = sym all ∙ none in cc
 ]
 
 -- ---- a state and a mark
 
-last_step : (page : ℕ) (first : List ℕ) (s : PageState) (m : Mark) (e : Event) → s.last ≡ bytes_by m first → (state_after page s e).last ≡ bytes_by (marked page m e) first
+last_step : (page : ℕ) (first : List ℕ) (s : PageState) (m : Mark) (e : Event) → s.last ≡ bytes_by m first
+    → (state_after page s e).last ≡ bytes_by (marked page m e) first
 last_step page first s m (Wrote at bytes) same = wrote (at == page)
   where
-    wrote : (b : Bool) → (cond b (record { last = Some bytes; synced = s.synced; written = Some bytes; is_unsynced = true }) s).last ≡ bytes_by (cond b (Written bytes) m) first
+    wrote : (b : Bool) → (cond b (record { last = Some bytes; synced = s.synced; written = Some bytes; is_unsynced = true }) s).last
+        ≡ bytes_by (cond b (Written bytes) m) first
     wrote true = refl
     wrote false = same
 last_step page first s m (Tore at) same = tore (at == page)
@@ -71,13 +76,15 @@ unsynced_step page s Synced = refl
 unsynced_step page s (Took bytes) = refl
 unsynced_step page s (Put bytes) = refl
 
-last_from : (page : ℕ) (first : List ℕ) (log : Log) (s : PageState) (m : Mark) → s.last ≡ bytes_by m first → (fold (state_after page) s log).last ≡ bytes_by (mark_from page m log) first
+last_from : (page : ℕ) (first : List ℕ) (log : Log) (s : PageState) (m : Mark) → s.last ≡ bytes_by m first
+    → (fold (state_after page) s log).last ≡ bytes_by (mark_from page m log) first
 last_from page first [] s m same = same
 last_from page first (e ∷ log) s m same = last_from page first log (state_after page s e) (marked page m e) (last_step page first s m e same)
 
 unsynced_along : (page : ℕ) (log : Log) (s : PageState) (u : Bool) → s.is_unsynced ≡ u → (fold (state_after page) s log).is_unsynced ≡ unsynced_from page u log
 unsynced_along page [] s u same = same
-unsynced_along page (e ∷ log) s u same = unsynced_along page log (state_after page s e) (unsynced_after page u e) (unsynced_step page s e ∙ ap (λ t. unsynced_after page t e) same)
+unsynced_along page (e ∷ log) s u same =
+    unsynced_along page log (state_after page s e) (unsynced_after page u e) (unsynced_step page s e ∙ ap (λ t. unsynced_after page t e) same)
 
 -- what is kept is what is in each image that a stop may leave
 kept-state_of : (start : Pages) (log : Log) (i : ℕ) → kept_of (state_of i (get_or start i []) log) ≡ fixed_bytes start log i
@@ -124,7 +131,8 @@ synced_stays page s (Put bytes) none = refl
 written_goes : (page : ℕ) (s : PageState) (e : Event) → is_sync e ≡ false → (state_after page s e).written ≡ written_after page s.written e
 written_goes page s (Wrote at bytes) none = wrote (at == page)
   where
-    wrote : (b : Bool) → (cond b (record { last = Some bytes; synced = s.synced; written = Some bytes; is_unsynced = true }) s).written ≡ cond b (Some bytes) s.written
+    wrote : (b : Bool) → (cond b (record { last = Some bytes; synced = s.synced; written = Some bytes; is_unsynced = true }) s).written
+        ≡ cond b (Some bytes) s.written
     wrote true = refl
     wrote false = refl
 written_goes page s (Tore at) none = tore (at == page)
@@ -145,27 +153,33 @@ at_sync_event Synced is = refl
 
 -- what was synced is the last at the last sync
 synced_step : (page : ℕ) (s : PageState) (e : Event) (front : Log) (more here : Bool) → is_sync e ≡ here
-    → cond more (fold (state_after page) (state_after page s e) front).last (state_after page s e).synced ≡ cond (here || more) (fold (state_after page) s (cond more (e ∷ front) (cond here (e ∷ []) []))).last s.synced
+    → cond more (fold (state_after page) (state_after page s e) front).last (state_after page s e).synced
+    ≡ cond (here || more) (fold (state_after page) s (cond more (e ∷ front) (cond here (e ∷ []) []))).last s.synced
 synced_step page s e front true true is = refl
 synced_step page s e front true false is = refl
-synced_step page s e front false true is = ap (λ (x : Event). (state_after page s x).synced) (at_sync_event e is) ∙ sym (ap (λ (x : Event). (state_after page s x).last) (at_sync_event e is))
+synced_step page s e front false true is =
+    ap (λ (x : Event). (state_after page s x).synced) (at_sync_event e is) ∙ sym (ap (λ (x : Event). (state_after page s x).last) (at_sync_event e is))
 synced_step page s e front false false is = synced_stays page s e is
 
-synced_along : (page : ℕ) (log : Log) (s : PageState) → (fold (state_after page) s log).synced ≡ cond (list_any is_sync log) (fold (state_after page) s (until_sync log)).last s.synced
+synced_along : (page : ℕ) (log : Log) (s : PageState)
+    → (fold (state_after page) s log).synced ≡ cond (list_any is_sync log) (fold (state_after page) s (until_sync log)).last s.synced
 synced_along page [] s = refl
 synced_along page (e ∷ log) s = synced_along page log (state_after page s e) ∙ synced_step page s e (until_sync log) (list_any is_sync log) (is_sync e) refl
 
 -- what was written is the last write since
 written_step : (page : ℕ) (s : PageState) (e : Event) (log back : Log) (more here : Bool) → is_sync e ≡ here
-    → cond more (last_written page back) (fold (written_after page) (state_after page s e).written log) ≡ cond (here || more) (last_written page (cond more back (cond here log (e ∷ log)))) (fold (written_after page) (written_after page s.written e) log)
+    → cond more (last_written page back) (fold (written_after page) (state_after page s e).written log)
+    ≡ cond (here || more) (last_written page (cond more back (cond here log (e ∷ log)))) (fold (written_after page) (written_after page s.written e) log)
 written_step page s e log back true true is = refl
 written_step page s e log back true false is = refl
 written_step page s e log back false true is = ap (λ (x : Event). fold (written_after page) (state_after page s x).written log) (at_sync_event e is)
 written_step page s e log back false false is = ap (λ (o : Option (List ℕ)). fold (written_after page) o log) (written_goes page s e is)
 
-written_along : (page : ℕ) (log : Log) (s : PageState) → (fold (state_after page) s log).written ≡ cond (list_any is_sync log) (last_written page (since_sync log)) (fold (written_after page) s.written log)
+written_along : (page : ℕ) (log : Log) (s : PageState)
+    → (fold (state_after page) s log).written ≡ cond (list_any is_sync log) (last_written page (since_sync log)) (fold (written_after page) s.written log)
 written_along page [] s = refl
-written_along page (e ∷ log) s = written_along page log (state_after page s e) ∙ written_step page s e log (since_sync log) (list_any is_sync log) (is_sync e) refl
+written_along page (e ∷ log) s =
+    written_along page log (state_after page s e) ∙ written_step page s e log (since_sync log) (list_any is_sync log) (is_sync e) refl
 
 module _ (start : Pages) (log : Log) (i : ℕ) where
   synced_is : (state_of i (get_or start i []) log).synced ≡ last_bytes start (until_sync log) i
@@ -174,8 +188,10 @@ module _ (start : Pages) (log : Log) (i : ℕ) where
       let first = first_state (get_or start i []) in
       synced_along i log first
       ∙ elim (cases_Bool (list_any is_sync log)) [
-        | inl some ↦ ap (λ b. cond b (fold (state_after i) first (until_sync log)).last first.synced) some ∙ last_from i (get_or start i []) (until_sync log) first Untouched refl
-        | inr none ↦ ap (λ b. cond b (fold (state_after i) first (until_sync log)).last first.synced) none ∙ sym (ap (λ (l : Log). bytes_by (mark_from i Untouched l) (get_or start i [])) (no_until log none))
+        | inl some ↦ ap (λ b. cond b (fold (state_after i) first (until_sync log)).last first.synced) some
+            ∙ last_from i (get_or start i []) (until_sync log) first Untouched refl
+        | inr none ↦ ap (λ b. cond b (fold (state_after i) first (until_sync log)).last first.synced) none
+            ∙ sym (ap (λ (l : Log). bytes_by (mark_from i Untouched l) (get_or start i [])) (no_until log none))
       ]
 
   written_is : (state_of i (get_or start i []) log).written ≡ last_written i (since_sync log)
@@ -214,19 +230,23 @@ pub record LeftBelow (start : Pages) (log : Log) (choice : List ℕ) (image : Pa
 pub left_none : (start : Pages) (log : Log) (choice : List ℕ) (image : Pages) → image ≡ start → LeftBelow start log choice image 0
 left_none start log choice image same = record { size = ap length same; each = λ i none. absurd (omega arith) }
 
-pub left_more : (start : Pages) (log : Log) (choice : List ℕ) (image : Pages) (n : ℕ) (bytes : List ℕ) → LeftBelow start log choice image n → n < length start → bytes ≡ left_of (state_of n (get_or start n []) log) (slice_index choice n) → LeftBelow start log choice (set image n bytes) (n + 1)
+pub left_more : (start : Pages) (log : Log) (choice : List ℕ) (image : Pages) (n : ℕ) (bytes : List ℕ) → LeftBelow start log choice image n
+    → n < length start → bytes ≡ left_of (state_of n (get_or start n []) log) (slice_index choice n) → LeftBelow start log choice (set image n bytes) (n + 1)
 left_more start log choice image n bytes below within is = record {
   size = length-set image n bytes ∙ below.size;
   each = λ i lt. elim (cases_lt i n) [
     | inl before ↦ get_or-set_other image n i bytes [] (omega arith) ∙ below.each i before
     | inr here ↦
         let same : n ≡ i = omega arith in
-        subst (λ k. get_or (set image n bytes) k [] ≡ left_of (state_of k (get_or start k []) log) (slice_index choice k)) same (get_or-set_same image n bytes [] (omega (arith, below.size)) ∙ is)
+        subst (λ k. get_or (set image n bytes) k [] ≡ left_of (state_of k (get_or start k []) log) (slice_index choice k)) same
+        (get_or-set_same image n bytes [] (omega (arith, below.size)) ∙ is)
   ];
 }
 
-pub left_all : (start : Pages) (log : Log) (choice : List ℕ) (image : Pages) (n : ℕ) → LeftBelow start log choice image n → length start ≤ n → IsLeftBy start log choice image
-left_all start log choice image n below all = record { size = below.size; each = λ i within. below.each i (omega arith) ∙ left_same start log i (slice_index choice i) }
+pub left_all : (start : Pages) (log : Log) (choice : List ℕ) (image : Pages) (n : ℕ) → LeftBelow start log choice image n → length start ≤ n
+    → IsLeftBy start log choice image
+left_all start log choice image n below all =
+    record { size = below.size; each = λ i within. below.each i (omega arith) ∙ left_same start log i (slice_index choice i) }
 
 and_front : (a b : Bool) → (a && b) ≡ true → a ≡ true
 and_front true b both = refl

@@ -16,7 +16,8 @@ put_bytes-push (x ∷ log) e = ap (λ (l : List ℕ). put_by x ++ l) (put_bytes-
 
 -- a desk with a page is not shut
 pub not_shut : (door : Door) (pages n : ℕ) → (door ≢ Ready → door ≢ Made → pages ≡ 0) → 0 < pages → door ≡ Shut → n ≡ 0
-not_shut door pages n none some shut = absurd (let z : pages ≡ 0 = none (λ r. let e : Shut ≡ Ready = sym shut ∙ r in cc) (λ m. let e : Shut ≡ Made = sym shut ∙ m in cc) in omega arith)
+not_shut door pages n none some shut =
+    absurd (let z : pages ≡ 0 = none (λ r. let e : Shut ≡ Ready = sym shut ∙ r in cc) (λ m. let e : Shut ≡ Made = sym shut ∙ m in cc) in omega arith)
 
 pub no_events : (log : Log) → length log ≡ 0 → log ≡ []
 no_events [] none = refl

@@ -1,5 +1,6 @@
 -- What each call leaves to be read.
-use Rattle.std.proofs.Common.{◌≡◌, ◌≢◌, inl, inr, ℕ, ◌+◌, ◌<◌, replicate, List, [], ◌∷◌, ◌++◌, Option, Some, None, length, get_or, set, sym, ◌∙◌, ap, subst, arith, get_or-set_same, get_or-set_other}
+use Rattle.std.proofs.Common.{◌≡◌, ◌≢◌, inl, inr, ℕ, ◌+◌, ◌<◌, replicate, List, [], ◌∷◌, ◌++◌, Option, Some, None, length, get_or, set, sym, ◌∙◌, ap, subst}
+use Rattle.std.proofs.Common.{arith, get_or-set_same, get_or-set_other}
 use Rattle.std.proofs.Math.ListN.{length-set}
 use Rattle.std.proofs.lemmas.List.{replicate-append-replicate}
 use Rattle.std.proofs.lemmas.Bool.{cases_eq}
@@ -16,24 +17,28 @@ reads_synced start log seen reads = record {
   last = λ i b lt is. reads.last i b lt (sym (last-spared start log Synced i tt) ∙ is);
 }
 
-pub reads_torn : (start : Pages) (log : Log) (seen : Pages) (at : ℕ) (bytes : List ℕ) → Reads start log seen → Reads start (log ++ Tore at ∷ []) (set seen at bytes)
+pub reads_torn : (start : Pages) (log : Log) (seen : Pages) (at : ℕ) (bytes : List ℕ) → Reads start log seen
+    → Reads start (log ++ Tore at ∷ []) (set seen at bytes)
 reads_torn start log seen at bytes reads = record {
   size = length-set seen at bytes ∙ reads.size;
   last = λ i b lt is. elim (cases_eq at i) [
-    | inl same ↦ absurd (let e : ◌≡◌ {A = Option (List ℕ)} None (Some b) = sym (last-Tore start log at) ∙ subst (λ k. last_bytes start (log ++ Tore at ∷ []) k ≡ Some b) (sym same) is in cc)
+    | inl same ↦ absurd (let e : ◌≡◌ {A = Option (List ℕ)} None (Some b) =
+        sym (last-Tore start log at) ∙ subst (λ k. last_bytes start (log ++ Tore at ∷ []) k ≡ Some b) (sym same) is in cc)
     | inr apart ↦
         let apart_too : i ≢ at = omega arith in
         get_or-set_other seen at i bytes [] apart_too ∙ reads.last i b lt (sym (last-spared start log (Tore at) i apart) ∙ is)
   ];
 }
 
-pub reads_wrote : (start : Pages) (log : Log) (seen : Pages) (at : ℕ) (bytes : List ℕ) → at < length start → Reads start log seen → Reads start (log ++ Wrote at bytes ∷ []) (set seen at bytes)
+pub reads_wrote : (start : Pages) (log : Log) (seen : Pages) (at : ℕ) (bytes : List ℕ) → at < length start → Reads start log seen
+    → Reads start (log ++ Wrote at bytes ∷ []) (set seen at bytes)
 reads_wrote start log seen at bytes within reads = record {
   size = length-set seen at bytes ∙ reads.size;
   last = λ i b lt is. elim (cases_eq at i) [
     | inl same ↦
         let read : get_or (set seen at bytes) at [] ≡ bytes = get_or-set_same seen at bytes [] (omega (arith, reads.size)) in
-        let there : bytes ≡ b = same_Some bytes b (sym (last-Wrote start log at bytes) ∙ subst (λ k. last_bytes start (log ++ Wrote at bytes ∷ []) k ≡ Some b) (sym same) is) in
+        let there : bytes ≡ b =
+        same_Some bytes b (sym (last-Wrote start log at bytes) ∙ subst (λ k. last_bytes start (log ++ Wrote at bytes ∷ []) k ≡ Some b) (sym same) is) in
         subst (λ k. get_or (set seen at bytes) k [] ≡ b) same (read ∙ there)
     | inr apart ↦
         let apart_too : i ≢ at = omega arith in

@@ -1,5 +1,6 @@
 -- What a crash leaves of each page, by a byte of choice.
-use Rattle.std.specs.Prelude.{◌≡◌, ℕ, ◌<◌, Bool, true, false, List, [], ◌∷◌, length, fold, Option, Some, None, unwrap_or, replicate, slice_index, slice_index_or, if◌then◌else◌, ◌==◌}
+use Rattle.std.specs.Prelude.{◌≡◌, ℕ, ◌<◌, Bool, true, false, List, [], ◌∷◌, length, fold, Option, Some, None, unwrap_or, replicate, slice_index}
+use Rattle.std.specs.Prelude.{slice_index_or, if◌then◌else◌, ◌==◌}
 use Rattle.std.specs.List.{list_any}
 use Rattle.quilt_world.specs.Disk.{Pages, Log}
 use Rattle.quilt_world.specs.PageBytes.{last_bytes, fixed_bytes}

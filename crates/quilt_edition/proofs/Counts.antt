@@ -1,5 +1,6 @@
 -- How many pages are dirty or changed, after each step.
-use Rattle.std.proofs.Common.{◌≡◌, ◌≢◌, inl, inr, ℕ, zero, suc, ◌+◌, ◌-◌, ◌<◌, ◌≤◌, Bool, true, false, cond, nat_eq, List, [], ◌∷◌, length, filter, refl, sym, ◌∙◌, ap, arith, add-one, add-zero}
+use Rattle.std.proofs.Common.{◌≡◌, ◌≢◌, inl, inr, ℕ, zero, suc, ◌+◌, ◌-◌, ◌<◌, ◌≤◌, Bool, true, false, cond, nat_eq, List, [], ◌∷◌, length, filter, refl, sym}
+use Rattle.std.proofs.Common.{◌∙◌, ap, arith, add-one, add-zero}
 use Rattle.std.specs.List.{range_with_len}
 use Rattle.std.proofs.lemmas.Bool.{cases_Bool, cases_eq, ne_eqb}
 use Rattle.quilt_types.specs.Plane.{below}
@@ -23,14 +24,16 @@ count_le f h less (x ∷ xs) = let on = count_le f h less xs in elim (cases_Bool
   ]
 ]
 
-past : (f h : ℕ → Bool) (k : ℕ) → ((i : ℕ) → i ≢ k → f i ≡ h i) → (a n : ℕ) → k < a → length (filter f (range_with_len a n)) ≤ length (filter h (range_with_len a n))
+past : (f h : ℕ → Bool) (k : ℕ) → ((i : ℕ) → i ≢ k → f i ≡ h i) → (a n : ℕ) → k < a
+    → length (filter f (range_with_len a n)) ≤ length (filter h (range_with_len a n))
 past f h k same a zero lt = omega arith
 past f h k same a (suc n) lt = let on = past f h k same (a + 1) n (omega (arith, lt)) in elim (cases_Bool (h a)) [
   | inl t ↦ rw (same a (omega (arith, lt)), t) (omega (arith, on))
   | inr e ↦ rw (same a (omega (arith, lt)), e) on
 ]
 
-one_more : (f h : ℕ → Bool) (k : ℕ) → ((i : ℕ) → i ≢ k → f i ≡ h i) → (a n : ℕ) → length (filter f (range_with_len a n)) ≤ length (filter h (range_with_len a n)) + 1
+one_more : (f h : ℕ → Bool) (k : ℕ) → ((i : ℕ) → i ≢ k → f i ≡ h i) → (a n : ℕ)
+    → length (filter f (range_with_len a n)) ≤ length (filter h (range_with_len a n)) + 1
 one_more f h k same a zero = omega arith
 one_more f h k same a (suc n) = elim (cases_eq a k) [
   | inl here ↦ let on = past f h k same (a + 1) n (omega (arith, here)) in elim (cases_Bool (f a)) [
@@ -93,10 +96,12 @@ count_most f a (suc n) = let on = count_most f (a + 1) n in elim (cases_Bool (f 
 -- all numbers are counted
 pub count_all : (f : ℕ → Bool) (a n : ℕ) → ((i : ℕ) → a ≤ i → i < a + n → f i ≡ true) → length (filter f (range_with_len a n)) ≡ n
 count_all f a zero all = refl
-count_all f a (suc n) all = rw (all a (omega arith) (omega arith)) (ap (λ k. suc k) (count_all f (a + 1) n (λ i le lt. all i (omega (arith, le)) (omega (arith, lt)))))
+count_all f a (suc n) all =
+    rw (all a (omega arith) (omega arith)) (ap (λ k. suc k) (count_all f (a + 1) n (λ i le lt. all i (omega (arith, le)) (omega (arith, lt)))))
 
 -- the first m numbers and the n behind them
-pub count_split : (f : ℕ → Bool) (a m n k : ℕ) → k ≡ m + n → length (filter f (range_with_len a k)) ≡ length (filter f (range_with_len a m)) + length (filter f (range_with_len (a + m) n))
+pub count_split : (f : ℕ → Bool) (a m n k : ℕ) → k ≡ m + n
+    → length (filter f (range_with_len a k)) ≡ length (filter f (range_with_len a m)) + length (filter f (range_with_len (a + m) n))
 count_split f a zero n k e =
     let left : k ≡ n = omega (arith, e) in
     let here : a ≡ a + 0 = omega arith in
@@ -106,13 +111,16 @@ count_split f a (suc m) n (suc k) e =
     let on = count_split f (a + 1) m n k (omega (arith, e)) in
     let left = one (f a) a (filter f (range_with_len (a + 1) k)) in
     let right = one (f a) a (filter f (range_with_len (a + 1) m)) in
-    let same : length (filter f (range_with_len (a + 1 + m) n)) ≡ length (filter f (range_with_len (a + suc m) n)) = ap (λ i. length (filter f (range_with_len i n))) (omega arith) in
+    let same : length (filter f (range_with_len (a + 1 + m) n)) ≡ length (filter f (range_with_len (a + suc m) n)) =
+    ap (λ i. length (filter f (range_with_len i n))) (omega arith) in
     omega (arith, left, right, on, same)
 
 -- neither 0 nor a number past the last is counted
-pub count_inside : (f : ℕ → Bool) (n k : ℕ) → f 0 ≡ false → ((i : ℕ) → n ≤ i → f i ≡ false) → 1 ≤ n → n ≤ k → length (filter f (range_with_len 0 k)) ≡ length (filter f (range_with_len 1 (n - 1)))
+pub count_inside : (f : ℕ → Bool) (n k : ℕ) → f 0 ≡ false → ((i : ℕ) → n ≤ i → f i ≡ false) → 1 ≤ n → n ≤ k
+    → length (filter f (range_with_len 0 k)) ≡ length (filter f (range_with_len 1 (n - 1)))
 count_inside f n k first past least most =
-    let head : length (filter f (range_with_len 0 k)) ≡ length (filter f (range_with_len 0 1)) + length (filter f (range_with_len 1 (k - 1))) = count_split f 0 1 (k - 1) k (omega (arith, least, most)) in
+    let head : length (filter f (range_with_len 0 k)) ≡ length (filter f (range_with_len 0 1)) + length (filter f (range_with_len 1 (k - 1))) =
+    count_split f 0 1 (k - 1) k (omega (arith, least, most)) in
     let none : length (filter f (range_with_len 0 1)) ≡ 0 = count_none f 0 1 (λ i le lt. let zero_is : i ≡ 0 = omega (arith, lt) in ap f zero_is ∙ first) in
     let rest = count_split f 1 (n - 1) (k - n) (k - 1) (omega (arith, least, most)) in
     let behind = count_none f (1 + (n - 1)) (k - n) (λ i le lt. past i (omega (arith, le, least))) in

@@ -1,5 +1,6 @@
 -- The two writes of a file of the empty edition, each with its sync.
-use Rattle.std.proofs.Common.{◌≡◌, ◌⊎◌, inl, inr, ◌≤◌, ◌<◌, ℕ, List, [], ◌∷◌, ◌++◌, length, Bool, true, false, ◌&&◌, Some, None, Option, Result, Ok, Err, OnOk, OnErr, refl, sym, ◌∙◌, ap, subst, arith, append_assoc, append-nil}
+use Rattle.std.proofs.Common.{◌≡◌, ◌⊎◌, inl, inr, ◌≤◌, ◌<◌, ℕ, List, [], ◌∷◌, ◌++◌, length, Bool, true, false, ◌&&◌, Some, None, Option, Result, Ok, Err, OnOk}
+use Rattle.std.proofs.Common.{OnErr, refl, sym, ◌∙◌, ap, subst, arith, append_assoc, append-nil}
 use Rattle.std.specs.Option.{IfSome}
 use Rattle.std.specs.List.{list_all}
 use Rattle.std.proofs.lemmas.List.Folds.{list_all-append}
@@ -9,7 +10,8 @@ use Rattle.quilt_world.specs.Stops.{fixed, LeavesNow}
 use Rattle.quilt_world.specs.Tale.{Tale, IsConsistent, Adds, Goes}
 use Rattle.quilt_world.specs.declared.event.Event.TheVariants.{Wrote, Tore, Synced}
 use Rattle.quilt_world.proofs.PageLaws.{seen_left}
-use Rattle.quilt_world.proofs.StopLaws.{Touches, nothing_touches, tore_touches, wrote_touches, synced_touches, fixed_spared, fixed_synced, last_wrote, image_page, since_here, since_call}
+use Rattle.quilt_world.proofs.StopLaws.{Touches, nothing_touches, tore_touches, wrote_touches, synced_touches, fixed_spared, fixed_synced, last_wrote}
+use Rattle.quilt_world.proofs.StopLaws.{image_page, since_here, since_call}
 use Rattle.quilt_world.proofs.Told.{goes_then, goes_weaker}
 use Rattle.quilt_node.specs.Pages.{header_bytes}
 use Rattle.quilt_edition.specs.Stands.{Stands}
@@ -35,7 +37,8 @@ creates_here k o here = record {
   added = record { events = []; log = sym (append-nil o.log); only = refl };
 }
 
-creates_call : (k : ℕ) (events : Log) (o m n : Tale) → Creates k o m → Adds events m n → length events ≤ 1 → list_all is_of_pages events ≡ true → LeavesNow n (IsNoneOrEmpty k) → Creates k o n
+creates_call : (k : ℕ) (events : Log) (o m n : Tale) → Creates k o m → Adds events m n → length events ≤ 1 → list_all is_of_pages events ≡ true
+    → LeavesNow n (IsNoneOrEmpty k) → Creates k o n
 creates_call k events o m n creates adds one only here = record {
   since = since_call events o m n (IsNoneOrEmpty k) creates.since adds one here;
   added = pages_then events o m n creates.added adds only;
@@ -82,7 +85,8 @@ bare_kept m n touches bare = record {
   gate = fixed_spared 3 1 zeros m n touches (λ e. omega arith) bare.gate;
 }
 
-bare_touched : (k : ℕ) (events : Log) (o n : Tale) → IsBare o → (touches : Touches 3 o n) → Adds events o n → length events ≤ 1 → list_all is_of_pages events ≡ true → Creates k o n
+bare_touched : (k : ℕ) (events : Log) (o n : Tale) → IsBare o → (touches : Touches 3 o n) → Adds events o n → length events ≤ 1
+    → list_all is_of_pages events ≡ true → Creates k o n
 bare_touched k events o n bare touches adds one only =
     creates_call k events o o n (creates_here k o (bare_leaves k o bare)) adds one only (bare_leaves k n (bare_kept o n touches bare))
 
@@ -138,7 +142,8 @@ header_written k o n bare adds =
 
 -- ---- the second write
 
-label_touched : (k : ℕ) (events : Log) (o m n : Tale) → k ≤ 12 → IsReady k o m → Touches 0 m n → Adds events m n → length events ≤ 1 → list_all is_of_pages events ≡ true → IsReady k o n
+label_touched : (k : ℕ) (events : Log) (o m n : Tale) → k ≤ 12 → IsReady k o m → Touches 0 m n → Adds events m n → length events ≤ 1
+    → list_all is_of_pages events ≡ true → IsReady k o n
 label_touched k events o m n low ready touches adds one only =
     let has = headed_kept k m n touches ready.has in
     record { creates = creates_call k events o m n ready.creates adds one only (headed_leaves k n low has); has = has }
@@ -200,7 +205,8 @@ module _ (k size : ℕ) (has : HasMapSize size) where
   told_header_stopped bytes (Some t) None law blank goes = goes
   told_header_stopped bytes (Some t) (Some u) law blank goes = header_stopped k bytes t u (blank_bare size t has law.1 blank) goes
 
-  pub told_header : (o n : Option Tale) → IfSome o Law → IfSome o IsBlank → Goes (Adds (Wrote 3 (header_bytes (empty_head k)) ∷ Synced ∷ [])) o n → Goes (IsReady k) o n
+  pub told_header : (o n : Option Tale) → IfSome o Law → IfSome o IsBlank
+      → Goes (Adds (Wrote 3 (header_bytes (empty_head k)) ∷ Synced ∷ [])) o n → Goes (IsReady k) o n
   told_header None None law blank goes = tt
   told_header None (Some u) law blank goes = goes
   told_header (Some t) None law blank goes = goes
@@ -213,7 +219,8 @@ module _ (k size : ℕ) (has : HasMapSize size) where
   told_created (Some t) (Some u) level law goes = created k size t u has level law.0 law.1 goes
 
 module _ (k : ℕ) (low : k ≤ 12) where
-  pub told_label : (bytes : List ℕ) (o m n : Option Tale) → bytes ≡ label → Goes (IsReady k) o m → Goes (Adds (Wrote 0 bytes ∷ Synced ∷ [])) m n → Goes (IsLabelled k) o n
+  pub told_label : (bytes : List ℕ) (o m n : Option Tale) → bytes ≡ label → Goes (IsReady k) o m → Goes (Adds (Wrote 0 bytes ∷ Synced ∷ [])) m n
+      → Goes (IsLabelled k) o n
   told_label bytes o m n is ready goes =
       goes_then _ _ _ o m n ready goes (λ t u v ready wrote. label_written k t u v low ready (subst (λ b. Adds (Wrote 0 b ∷ Synced ∷ []) u v) is wrote))
 

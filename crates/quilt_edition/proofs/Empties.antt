@@ -1,5 +1,6 @@
 -- No records spell the map with no layer, and that map alone.
-use Rattle.std.proofs.Common.{◌≡◌, ℕ, List, [], ◌∷◌, ◌++◌, map, flat_map, length, unwrap_or, refl, sym, ◌∙◌, ap, subst, arith, Bool, true, false, cond, Some, Option, is_some, nat_cmp, nat_eq, Ordering}
+use Rattle.std.proofs.Common.{◌≡◌, ℕ, List, [], ◌∷◌, ◌++◌, map, flat_map, length, unwrap_or, refl, sym, ◌∙◌, ap, subst, arith, Bool, true, false, cond, Some}
+use Rattle.std.proofs.Common.{Option, is_some, nat_cmp, nat_eq, Ordering}
 use Rattle.std.specs.List.{list_any, IsDistinct}
 use Rattle.std.specs.Ordering.{eq_by_cmp, is_eq}
 use Rattle.std.specs.Cmp.{IsTotalOrder, nat_cmp_total, on_total, then_total}
@@ -55,7 +56,8 @@ first_fact n (Lines threshold segs cover) = (_, (_, refl))
 abbrev all_records : ℕ → Numbering → List (List ℕ × Layer) → List Record
 all_records n numbers es = flat_map (λ e. map (record_of n (capacity_of e.1) e.0 (unwrap_or (finmap.get numbers e.0) 0)) (facts n e.1)) es
 
-no_entries : (n : ℕ) (numbers : Numbering) (es : List (List ℕ × Layer)) → finset.items (finset.from_list {R = record_cmp} (all_records n numbers es)) ≡ [] → es ≡ []
+no_entries : (n : ℕ) (numbers : Numbering) (es : List (List ℕ × Layer))
+    → finset.items (finset.from_list {R = record_cmp} (all_records n numbers es)) ≡ [] → es ≡ []
 no_entries n numbers [] none = refl
 no_entries n numbers (e ∷ es) none =
     let first = first_fact n e.1 in

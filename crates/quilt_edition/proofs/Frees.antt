@@ -1,5 +1,6 @@
 -- Which pages are free, after each step.
-use Rattle.std.proofs.Common.{◌≡◌, ◌≢◌, inl, inr, replicate, subst, ℕ, zero, suc, ◌+◌, ◌*◌, ◌/◌, ◌%◌, ◌^◌, ◌<◌, ◌≤◌, Bool, true, false, cond, not, ◌&&◌, eqb, nat_eq, nat_le, nat_lt, List, get_or, refl, sym, ◌∙◌, ap, arith}
+use Rattle.std.proofs.Common.{◌≡◌, ◌≢◌, inl, inr, replicate, subst, ℕ, zero, suc, ◌+◌, ◌*◌, ◌/◌, ◌%◌, ◌^◌, ◌<◌, ◌≤◌, Bool, true, false, cond, not, ◌&&◌, eqb}
+use Rattle.std.proofs.Common.{nat_eq, nat_le, nat_lt, List, get_or, refl, sym, ◌∙◌, ap, arith}
 use Rattle.std.proofs.Math.Nat.{zero-div}
 use Rattle.std.proofs.lemmas.Bool.{cases_Bool, cases_eq, cases_lt, false≢true, eq-eqb, ne_eqb, le-leb, lt-ltb, le-ltb, leb-true, ltb-true}
 use Rattle.quilt_journal.proofs.Bits.{no_bit}
@@ -10,7 +11,8 @@ use Rattle.quilt_edition.specs.Keeping.{is_free, is_left_out}
 pub free_at : (n : ℕ) (bits : List ℕ) (page : ℕ) → 1 ≤ page → page < n → is_free n bits page ≡ has_bit bits page
 free_at n bits page least most = rw (le-leb 1 page least, lt-ltb page n most) refl
 
-pub frees_only : (n : ℕ) (old new : List ℕ) (page : ℕ) (b : Bool) → 1 ≤ page → page < n → ((j : ℕ) → has_bit new j ≡ cond (nat_eq j page) b (has_bit old j)) → FreesOnly page b (is_free n old) (is_free n new)
+pub frees_only : (n : ℕ) (old new : List ℕ) (page : ℕ) (b : Bool) → 1 ≤ page → page < n
+    → ((j : ℕ) → has_bit new j ≡ cond (nat_eq j page) b (has_bit old j)) → FreesOnly page b (is_free n old) (is_free n new)
 frees_only n old new page b least most bits = record {
   here = free_at n new page least most ∙ bits page ∙ ap (λ c. cond c b (has_bit old page)) (eq-eqb page page refl);
   others = λ q ne. ap (λ c. (nat_le 1 q && nat_lt q n) && c) (bits q ∙ ap (λ c. cond c b (has_bit old q)) (ne_eqb q page ne));
@@ -21,7 +23,8 @@ twice : (a b : Bool) → (a && (a && b)) ≡ (a && b)
 twice true b = refl
 twice false b = refl
 
-pub free_left_out : (n : ℕ) (used bits : List ℕ) → ((i : ℕ) → has_bit bits i ≡ is_left_out n used i) → (page : ℕ) → is_free n bits page ≡ is_left_out n used page
+pub free_left_out : (n : ℕ) (used bits : List ℕ) → ((i : ℕ) → has_bit bits i ≡ is_left_out n used i) → (page : ℕ)
+    → is_free n bits page ≡ is_left_out n used page
 free_left_out n used bits each page =
     ap (λ b. (nat_le 1 page && nat_lt page n) && b) (each page) ∙ twice (nat_le 1 page && nat_lt page n) (not (has_bit used page))
 
@@ -31,7 +34,8 @@ not_twice true false = refl
 not_twice false b = refl
 
 -- those that are left out of what is left out are the first ones
-pub left_out_twice : (m n : ℕ) (free used : List ℕ) → m ≡ n → (page : ℕ) → ((i : ℕ) → has_bit used i ≡ is_left_out m free i) → is_left_out m used page ≡ is_free n free page
+pub left_out_twice : (m n : ℕ) (free used : List ℕ) → m ≡ n → (page : ℕ) → ((i : ℕ) → has_bit used i ≡ is_left_out m free i)
+    → is_left_out m used page ≡ is_free n free page
 left_out_twice m n free used same page each =
     ap (λ b. (nat_le 1 page && nat_lt page m) && not b) (each page)
     ∙ not_twice (nat_le 1 page && nat_lt page m) (has_bit free page)
@@ -59,7 +63,8 @@ lt_more i page ne = elim (cases_lt i page) [
   | inr le ↦ le-ltb i (page + 1) (omega (arith, le, ne)) ∙ sym (le-ltb i page le)
 ]
 
-pub left_out_more : (used : List ℕ) (page i : ℕ) → 1 ≤ page → is_left_out (page + 1) used i ≡ cond (nat_eq i page) (not (has_bit used page)) (is_left_out page used i)
+pub left_out_more : (used : List ℕ) (page i : ℕ) → 1 ≤ page
+    → is_left_out (page + 1) used i ≡ cond (nat_eq i page) (not (has_bit used page)) (is_left_out page used i)
 left_out_more used page i least = elim (cases_eq i page) [
   | inl same ↦
       subst (λ k. is_left_out (page + 1) used k ≡ cond (nat_eq k page) (not (has_bit used page)) (is_left_out page used k)) (sym same)
@@ -89,7 +94,8 @@ none_free n page = ap (λ b. (nat_le 1 page && nat_lt page n) && b) (no_bit page
     none false = refl
 
 -- the same, with the number of pages under another name
-pub left_out_named : (m n : ℕ) (used bits : List ℕ) → m ≡ n → ((i : ℕ) → has_bit bits i ≡ is_left_out m used i) → (i : ℕ) → has_bit bits i ≡ is_left_out n used i
+pub left_out_named : (m n : ℕ) (used bits : List ℕ) → m ≡ n → ((i : ℕ) → has_bit bits i ≡ is_left_out m used i) → (i : ℕ)
+    → has_bit bits i ≡ is_left_out n used i
 left_out_named m n used bits same each i = each i ∙ ap (λ k. is_left_out k used i) same
 
 -- ---- the 8 pages of a byte

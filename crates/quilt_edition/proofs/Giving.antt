@@ -1,5 +1,6 @@
 -- What giving a page back keeps.
-use Rattle.std.proofs.Common.{◌≡◌, ◌≢◌, inl, inr, ℕ, ◌<◌, ◌≤◌, Bool, true, false, cond, nat_eq, ◌||◌, List, [], map, length, Option, Some, None, get_or, set, refl, sym, ◌∙◌, ap, subst, arith, get_or-set_same, get_or-set_other}
+use Rattle.std.proofs.Common.{◌≡◌, ◌≢◌, inl, inr, ℕ, ◌<◌, ◌≤◌, Bool, true, false, cond, nat_eq, ◌||◌, List, [], map, length, Option, Some, None, get_or, set}
+use Rattle.std.proofs.Common.{refl, sym, ◌∙◌, ap, subst, arith, get_or-set_same, get_or-set_other}
 use Rattle.std.specs.Cmp.{nat_eq_equiv}
 use Rattle.std.specs.List.{IsDistinct}
 use Rattle.std.specs.Map.{keys_of, remove_entry}
@@ -92,7 +93,8 @@ module _ (es : Entries) (p : ℕ) (distinct : IsDistinct nat_eq (keys_of es)) wh
         ap (λ f. has_dirt f || is_changed (set c p false) p) gone_here ∙ get_or-set_same c p false false within in
         absurd (false≢true (sym here ∙ subst (λ j. is_marked (remove_entry (nat_eq p) es) (set c p false) j ≡ true) same is))
     | inr ne ↦
-        sym (ap (λ f. has_dirt f || is_changed (set c p false) i) (gone_other i ne) ∙ ap (λ b. has_dirt (frame_at es i) || b) (get_or-set_other c p i false false ne)) ∙ is
+        sym (ap (λ f. has_dirt f || is_changed (set c p false) i) (gone_other i ne)
+        ∙ ap (λ b. has_dirt (frame_at es i) || b) (get_or-set_other c p i false false ne)) ∙ is
   ]
 
   pub marked_dropped : (n : ℕ) (c : List Bool) → marked_count n (remove_entry (nat_eq p) es) c ≤ marked_count n es c
@@ -109,8 +111,10 @@ module _ (es : Entries) (p : ℕ) (distinct : IsDistinct nat_eq (keys_of es)) wh
 
 -- ---- and the page is no longer changed
 
-module _ (j k : View) (es : Entries) (last : Head) (p : ℕ) (idle : j.state ≡ Idle) (pages : k.pages ≡ j.pages) (state : k.state ≡ j.state) (changed : k.changed ≡ set j.changed p false) (distinct : IsDistinct nat_eq (keys_of es))
-    (cleared : (t : Tale) → IsIdle j.pages j.changed t → IsIdle j.pages k.changed t × (work t j.pages k.changed ≡ set (work t j.pages j.changed) p (home_page t p))) where
+module _ (j k : View) (es : Entries) (last : Head) (p : ℕ) (idle : j.state ≡ Idle) (pages : k.pages ≡ j.pages) (state : k.state ≡ j.state)
+    (changed : k.changed ≡ set j.changed p false) (distinct : IsDistinct nat_eq (keys_of es))
+    (cleared : (t : Tale) → IsIdle j.pages j.changed t
+    → IsIdle j.pages k.changed t × (work t j.pages k.changed ≡ set (work t j.pages j.changed) p (home_page t p))) where
   fs : Entries
   fs = remove_entry (nat_eq p) es
 
@@ -137,7 +141,8 @@ module _ (j k : View) (es : Entries) (last : Head) (p : ℕ) (idle : j.state ≡
   past : (n : ℕ) (f : ℕ → List ℕ) (i : ℕ) → n ≤ i → get_or (map f (below n)) i [] ≡ []
   past n f i le = get_or_past (map f (below n)) i [] (omega (arith, le, length-map-range_with_len f 0 n))
 
-  others : (t : Tale) → IsBook j es last t → (q : ℕ) → q ≢ p → get_or (map (page_over fs (work t k.pages k.changed)) (below k.pages)) q [] ≡ get_or (map (page_over es (work t j.pages j.changed)) (below j.pages)) q []
+  others : (t : Tale) → IsBook j es last t → (q : ℕ) → q ≢ p →
+      get_or (map (page_over fs (work t k.pages k.changed)) (below k.pages)) q [] ≡ get_or (map (page_over es (work t j.pages j.changed)) (below j.pages)) q []
   unfolding fs
   others t book q ne = elim (cases_lt q j.pages) [
     | inl lt ↦
@@ -151,7 +156,8 @@ module _ (j k : View) (es : Entries) (last : Head) (p : ℕ) (idle : j.state ≡
         ∙ sym (past j.pages (page_over es (work t j.pages j.changed)) q le)
   ]
 
-  pub told_given : (o : Option Tale) → IsKeptBy j es last o → Tells (λ (old new : Pages). (q : ℕ) → q ≢ p → get_or new q [] ≡ get_or old q []) (told_pages j es o) (told_pages k (remove_entry (nat_eq p) es) o)
+  pub told_given : (o : Option Tale) → IsKeptBy j es last o
+      → Tells (λ (old new : Pages). (q : ℕ) → q ≢ p → get_or new q [] ≡ get_or old q []) (told_pages j es o) (told_pages k (remove_entry (nat_eq p) es) o)
   unfolding fs work_pages
   told_given None kept = tt
   told_given (Some t) kept =
@@ -159,4 +165,5 @@ module _ (j k : View) (es : Entries) (last : Head) (p : ℕ) (idle : j.state ≡
 
   pub marked_given : p < length j.changed → marked_count k.pages (remove_entry (nat_eq p) es) k.changed ≤ marked_count j.pages es j.changed
   marked_given within =
-      rw (pages, changed) (marked_less j.pages es (remove_entry (nat_eq p) es) j.changed (set j.changed p false) (λ i is. marked_gone es p distinct j.changed i within is))
+      rw (pages, changed) (marked_less j.pages es (remove_entry (nat_eq p) es) j.changed (set j.changed p false)
+      (λ i is. marked_gone es p distinct j.changed i within is))

@@ -1,5 +1,6 @@
 -- A file stands for one edition at most.
-use Rattle.std.proofs.Common.{◌≡◌, ℕ, ◌^◌, ◌<◌, ◌≤◌, ◌⊎◌, inl, inr, ⊎_elim, zero, suc, List, [], ◌∷◌, ◌++◌, length, take, drop, refl, sym, ◌∙◌, ap, subst, arith}
+use Rattle.std.proofs.Common.{◌≡◌, ℕ, ◌^◌, ◌<◌, ◌≤◌, ◌⊎◌, inl, inr, ⊎_elim, zero, suc, List, [], ◌∷◌, ◌++◌, length, take, drop, refl, sym, ◌∙◌, ap, subst}
+use Rattle.std.proofs.Common.{arith}
 use Rattle.std.specs.Prelude.{slice_index}
 use Rattle.std.specs.Int.{to_be_bytes, from_be_bytes, w32}
 use Rattle.std.proofs.lemmas.Nat.{from_be_bytes-to_be_bytes_4}
@@ -22,7 +23,8 @@ four_bytes a b ha hb e = sym (from_be_bytes-to_be_bytes_4 a ha) ∙ ap (from_be_
 -- the numbers in the bytes, whatever stands behind them
 abbrev front : Head → List ℕ → List ℕ
 front h rest =
-    (magic ++ to_be_bytes w32 h.format ++ to_be_bytes w32 h.edition ++ (h.level ∷ h.height ∷ 0 ∷ 0 ∷ []) ++ to_be_bytes w32 h.root ++ to_be_bytes w32 h.records) ++ rest
+    (magic ++ to_be_bytes w32 h.format ++ to_be_bytes w32 h.edition ++ (h.level ∷ h.height ∷ 0 ∷ 0 ∷ []) ++ to_be_bytes w32 h.root
+    ++ to_be_bytes w32 h.records) ++ rest
 
 at_format : (h : Head) (z : List ℕ) → take 4 (drop 4 (front h z)) ≡ to_be_bytes w32 h.format
 at_format h z = refl
@@ -42,7 +44,8 @@ at_root h z = refl
 at_records : (h : Head) (z : List ℕ) → take 4 (drop 20 (front h z)) ≡ to_be_bytes w32 h.records
 at_records h z = refl
 
-heads_from : (g h : Head) (y z : List ℕ) → g.format < 2 ^ 32 → h.format < 2 ^ 32 → g.edition < 2 ^ 32 → h.edition < 2 ^ 32 → g.root < 2 ^ 32 → h.root < 2 ^ 32 → g.records < 2 ^ 32 → h.records < 2 ^ 32 → front g y ≡ front h z → g ≡ h
+heads_from : (g h : Head) (y z : List ℕ) → g.format < 2 ^ 32 → h.format < 2 ^ 32 → g.edition < 2 ^ 32 → h.edition < 2 ^ 32 → g.root < 2 ^ 32
+    → h.root < 2 ^ 32 → g.records < 2 ^ 32 → h.records < 2 ^ 32 → front g y ≡ front h z → g ≡ h
 heads_from g h y z a a' b b' c c' d d' e =
     let format = four_bytes g.format h.format a a' (sym (at_format g y) ∙ ap (λ (l : List ℕ). take 4 (drop 4 l)) e ∙ at_format h z) in
     let edition = four_bytes g.edition h.edition b b' (sym (at_edition g y) ∙ ap (λ (l : List ℕ). take 4 (drop 8 l)) e ∙ at_edition h z) in
@@ -69,7 +72,8 @@ module _ (pages : ℕ) (most : pages ≤ 30000) (bytes : List ℕ) (g h : Head) 
       let bf = nb.format.1 in
       let ar = na.records in
       let br = nb.records in
-      heads_from g h _ _ (omega arith) (omega arith) na.edition nb.edition (root_small pages g most na) (root_small pages h most nb) (omega arith) (omega arith) (sym a.written ∙ b.written)
+      heads_from g h _ _ (omega arith) (omega arith) na.edition nb.edition (root_small pages g most na) (root_small pages h most nb) (omega arith)
+      (omega arith) (sym a.written ∙ b.written)
 
 same_walk : (rs ss : List Record) (u v : List ℕ) → Whole rs u ≡ Whole ss v → rs ≡ ss
 same_walk rs ss u v e = cc
@@ -81,7 +85,8 @@ module _ (pages : List (List ℕ)) (most : length pages ≤ 30000) (d e : Editio
       let walks = sym a.tree ∙ ap (λ (h : Head). walk_of pages h.root h.height) head ∙ b.tree in
       let records = same_walk a.records b.records a.visited b.visited walks in
       let low = a.header.numbers.level.1 in
-      let spelled = subst (λ (h : Head). Spells h.format h.level a.records e.layers) (sym head) (subst (λ (rs : List Record). Spells b.head.format b.head.level rs e.layers) (sym records) b.spelled) in
+      let spelled = subst (λ (h : Head). Spells h.format h.level a.records e.layers) (sym head)
+      (subst (λ (rs : List Record). Spells b.head.format b.head.level rs e.layers) (sym records) b.spelled) in
       let layers = one_map a.head.format a.head.level a.records d.layers e.layers low a.spelled spelled in
       let format = a.format ∙ ap (λ (h : Head). h.format) head ∙ sym b.format in
       let number = a.number ∙ ap (λ (h : Head). h.edition) head ∙ sym b.number in

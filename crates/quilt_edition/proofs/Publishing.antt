@@ -1,5 +1,6 @@
 -- How a publish goes on, one call after another.
-use Rattle.std.proofs.Common.{Result, Ok, Err, OnErr, ◌≡◌, ◌≢◌, ◌⊎◌, inl, inr, ℕ, ◌+◌, ◌-◌, suc, filter, ◌<◌, ◌≤◌, Bool, true, false, List, [], ◌∷◌, map, length, Option, Some, None, get_or, set, replicate, refl, sym, ◌∙◌, ap, subst, arith, get_or-set_same, get_or-set_other, ◌||◌}
+use Rattle.std.proofs.Common.{Result, Ok, Err, OnErr, ◌≡◌, ◌≢◌, ◌⊎◌, inl, inr, ℕ, ◌+◌, ◌-◌, suc, filter, ◌<◌, ◌≤◌, Bool, true, false, List, [], ◌∷◌, map}
+use Rattle.std.proofs.Common.{length, Option, Some, None, get_or, set, replicate, refl, sym, ◌∙◌, ap, subst, arith, get_or-set_same, get_or-set_other, ◌||◌}
 use Rattle.std.specs.Option.{IfSome}
 use Rattle.std.proofs.lemmas.List.FromFn.{fill_by_all, length-map-range_with_len}
 use Rattle.quilt_types.specs.Plane.{below}
@@ -37,7 +38,8 @@ use Rattle.std.proofs.lemmas.Bool.{cases_Bool}
 use Rattle.quilt_edition.specs.Publishing.{next_pages, Publishing, IsPublished}
 
 -- where no page is dirty, the pages of the work are those that the pool lies over
-over_clean : (es : Entries) (pages : Pages) (i : ℕ) (o : Option Frame) → frame_at es i ≡ o → has_dirt o ≡ false → IsClean es pages → bytes_or (get_or pages i []) o ≡ get_or pages i []
+over_clean : (es : Entries) (pages : Pages) (i : ℕ) (o : Option Frame) → frame_at es i ≡ o → has_dirt o ≡ false → IsClean es pages
+    → bytes_or (get_or pages i []) o ≡ get_or pages i []
 over_clean es pages i None is none clean = refl
 over_clean es pages i (Some f) is none clean = clean.each i f is none
 
@@ -79,35 +81,44 @@ module _ (n : ℕ) (es : Entries) (c : List Bool) (header : List ℕ) where
     -- a step that leaves the published pages
     old_since : (d : List Bool) (pages : Tale → Pages) (o t u : Tale) → AtOld d pages o t → Since t u (HasHome n (published t n)) → Since o u (Alt o)
     old_since d pages o t u at step =
-        since_both o t u (Alt o) at.since (since_weaker t u (HasHome n (published t n)) (Alt o) step (λ image h. inl (subst (λ (p : Pages). HasHome n p image) at.home h)))
+        since_both o t u (Alt o) at.since
+        (since_weaker t u (HasHome n (published t n)) (Alt o) step (λ image h. inl (subst (λ (p : Pages). HasHome n p image) at.home h)))
 
     apart : (k : ℕ) → 1 ≤ k → k ≢ 0
     apart k le e = omega (arith, le, e)
 
     listed : AreBelow n fs → (d e : List Bool) (o t u : Tale) → AtOld d over_pages o t → e ≡ set d 0 true → Since t u (HasHome n (published t n))
-        → IsIdle n (set d 0 true) u × (published u n ≡ published t n) × (work u n (set d 0 true) ≡ set (work t n d) 0 header) → AtOld e (next_pages n es c header) o u
+        → IsIdle n (set d 0 true) u × (published u n ≡ published t n) × (work u n (set d 0 true) ≡ set (work t n d) 0 header)
+        → AtOld e (next_pages n es c header) o u
     unfolding over_pages next_pages
     listed range d e o t u at is step kept = record {
       since = old_since d over_pages o t u at step;
       home = kept.1 ∙ at.home;
       same = ap (λ x. work u n x) is ∙ kept.2 ∙ ap (λ (p : Pages). set p 0 header) at.same;
       idle = subst (λ x. IsIdle n x u) (sym is) kept.0;
-      clean = record { each = λ i f there none. at.clean.each i f there none ∙ sym (get_or-set_other (map (page_over es (work o n c)) (below n)) 0 i header [] (apart i (range.each i f there).0)) };
+      clean =
+          record {
+            each = λ i f there none. at.clean.each i f there none
+                ∙ sym (get_or-set_other (map (page_over es (work o n c)) (below n)) 0 i header [] (apart i (range.each i f there).0));
+          };
     }
 
     -- the gate is being opened
-    opening : (d : List Bool) (o t u : Tale) → AtOld d (next_pages n es c header) o t → Since t u (λ image. HasHome n (published t n) image ⊎ HasHome n (work t n d) image) → Publishing n es c header o u
+    opening : (d : List Bool) (o t u : Tale) → AtOld d (next_pages n es c header) o t
+        → Since t u (λ image. HasHome n (published t n) image ⊎ HasHome n (work t n d) image) → Publishing n es c header o u
     opening d o t u at step = record {
-      since = since_both o t u (Alt o) at.since (since_weaker t u (λ image. HasHome n (published t n) image ⊎ HasHome n (work t n d) image) (Alt o) step (λ image. elim [
-        | inl h ↦ inl (subst (λ (p : Pages). HasHome n p image) at.home h)
-        | inr h ↦ inr (subst (λ (p : Pages). HasHome n p image) at.same h)
-      ]));
+      since = since_both o t u (Alt o) at.since
+          (since_weaker t u (λ image. HasHome n (published t n) image ⊎ HasHome n (work t n d) image) (Alt o) step (λ image. elim [
+            | inl h ↦ inl (subst (λ (p : Pages). HasHome n p image) at.home h)
+            | inr h ↦ inr (subst (λ (p : Pages). HasHome n p image) at.same h)
+          ]));
     }
 
     -- a step that leaves the work
     new_stops : (d : List Bool) (o t u : Tale) → AtNew d o t → Since t u (HasHome n (work t n d)) → Publishing n es c header o u
     new_stops d o t u at step = record {
-      since = since_both o t u (Alt o) at.since (since_weaker t u (HasHome n (work t n d)) (Alt o) step (λ image h. inr (subst (λ (p : Pages). HasHome n p image) at.same h)));
+      since = since_both o t u (Alt o) at.since
+          (since_weaker t u (HasHome n (work t n d)) (Alt o) step (λ image h. inr (subst (λ (p : Pages). HasHome n p image) at.same h)));
     }
 
     finished : (d : List Bool) (o t u : Tale) → AtNew d o t → IsIdle n (replicate n false) u × (published u n ≡ work t n d) → IsPublished n es c header fs o u
@@ -125,79 +136,116 @@ module _ (n : ℕ) (es : Entries) (c : List Bool) (header : List ℕ) where
       pub goes_drained : (d : List Bool) → ((i : ℕ) → is_dirty fs i ≡ false) → Goes (Keeps n es fs c d) o t → Goes (AtOld d over_pages) o t
       goes_drained d clean keeps = goes_weaker (Keeps n es fs c d) (AtOld d over_pages) o t keeps (drained d clean)
 
-      pub goes_old_stops : (d : List Bool) (pages : Tale → Pages) → Goes (AtOld d pages) o t → Goes (λ a b. Since a b (HasHome m (published a m))) t u → Goes (Publishing n es c header) o u
+      pub goes_old_stops : (d : List Bool) (pages : Tale → Pages) → Goes (AtOld d pages) o t
+          → Goes (λ a b. Since a b (HasHome m (published a m))) t u → Goes (Publishing n es c header) o u
       goes_old_stops d pages at step =
-          goes_then (AtOld d pages) (λ a b. Since a b (HasHome n (published a n))) (Publishing n es c header) o t u at (subst (λ k. Goes (λ a b. Since a b (HasHome k (published a k))) t u) is step) (λ x y z p q. record { since = old_since d pages x y z p q })
+          goes_then (AtOld d pages) (λ a b. Since a b (HasHome n (published a n))) (Publishing n es c header) o t u at
+          (subst (λ k. Goes (λ a b. Since a b (HasHome k (published a k))) t u) is step) (λ x y z p q. record { since = old_since d pages x y z p q })
 
-      pub goes_listed : AreBelow n fs → (d e : List Bool) → Goes (AtOld d over_pages) o t → e ≡ set d 0 true → Goes (λ a b. Since a b (HasHome m (published a m))) t u
-          → Goes (λ a b. IsIdle m (set d 0 true) b × (published b m ≡ published a m) × (work b m (set d 0 true) ≡ set (work a m d) 0 header)) t u → Goes (AtOld e (next_pages n es c header)) o u
+      pub goes_listed : AreBelow n fs → (d e : List Bool) → Goes (AtOld d over_pages) o t → e ≡ set d 0 true
+          → Goes (λ a b. Since a b (HasHome m (published a m))) t u
+          → Goes (λ a b. IsIdle m (set d 0 true) b × (published b m ≡ published a m) × (work b m (set d 0 true) ≡ set (work a m d) 0 header)) t u
+          → Goes (AtOld e (next_pages n es c header)) o u
       goes_listed range d e at changed step kept =
-          goes_then (AtOld d over_pages) (λ a b. Since a b (HasHome n (published a n)) × (IsIdle n (set d 0 true) b × (published b n ≡ published a n) × (work b n (set d 0 true) ≡ set (work a n d) 0 header))) (AtOld e (next_pages n es c header)) o t u at
-          (subst (λ k. Goes (λ a b. Since a b (HasHome k (published a k)) × (IsIdle k (set d 0 true) b × (published b k ≡ published a k) × (work b k (set d 0 true) ≡ set (work a k d) 0 header))) t u) is (goes_and _ _ t u step kept))
+          goes_then (AtOld d over_pages) (λ a b. Since a b (HasHome n (published a n))
+          × (IsIdle n (set d 0 true) b × (published b n ≡ published a n) × (work b n (set d 0 true) ≡ set (work a n d) 0 header)))
+          (AtOld e (next_pages n es c header)) o t u at
+          (subst (λ k. Goes (λ a b. Since a b (HasHome k (published a k))
+          × (IsIdle k (set d 0 true) b × (published b k ≡ published a k) × (work b k (set d 0 true) ≡ set (work a k d) 0 header))) t u) is
+          (goes_and _ _ t u step kept))
           (λ x y z p q. listed range d e x y z p changed q.0 q.1)
 
-      pub goes_opening : (d : List Bool) → Goes (AtOld d (next_pages n es c header)) o t → Goes (λ a b. Since a b (λ image. HasHome m (published a m) image ⊎ HasHome m (work a m d) image)) t u → Goes (Publishing n es c header) o u
+      pub goes_opening : (d : List Bool) → Goes (AtOld d (next_pages n es c header)) o t
+          → Goes (λ a b. Since a b (λ image. HasHome m (published a m) image ⊎ HasHome m (work a m d) image)) t u → Goes (Publishing n es c header) o u
       goes_opening d at step =
-          goes_then (AtOld d (next_pages n es c header)) (λ a b. Since a b (λ image. HasHome n (published a n) image ⊎ HasHome n (work a n d) image)) (Publishing n es c header) o t u at
+          goes_then (AtOld d (next_pages n es c header)) (λ a b. Since a b (λ image. HasHome n (published a n) image ⊎ HasHome n (work a n d) image))
+          (Publishing n es c header) o t u at
           (subst (λ k. Goes (λ a b. Since a b (λ image. HasHome k (published a k) image ⊎ HasHome k (work a k d) image)) t u) is step) (opening d)
 
-      pub goes_opened : (d e : List Bool) → e ≡ d → Goes (AtOld d (next_pages n es c header)) o t → Goes (λ a b. Since a b (λ image. HasHome m (published a m) image ⊎ HasHome m (work a m d) image)) t u → Goes (λ a b. IsSealed m d b × (work b m d ≡ work a m d)) t u → Goes (AtNew e) o u
+      pub goes_opened : (d e : List Bool) → e ≡ d → Goes (AtOld d (next_pages n es c header)) o t
+          → Goes (λ a b. Since a b (λ image. HasHome m (published a m) image ⊎ HasHome m (work a m d) image)) t u
+          → Goes (λ a b. IsSealed m d b × (work b m d ≡ work a m d)) t u → Goes (AtNew e) o u
       goes_opened d e changed at step kept =
           subst (λ x. Goes (AtNew x) o u) (sym changed)
-          (goes_then (AtOld d (next_pages n es c header)) (λ a b. Since a b (λ image. HasHome n (published a n) image ⊎ HasHome n (work a n d) image) × (IsSealed n d b × (work b n d ≡ work a n d))) (AtNew d) o t u at
-          (subst (λ k. Goes (λ a b. Since a b (λ image. HasHome k (published a k) image ⊎ HasHome k (work a k d) image) × (IsSealed k d b × (work b k d ≡ work a k d))) t u) is (goes_and _ _ t u step kept))
+          (goes_then (AtOld d (next_pages n es c header)) (λ a b. Since a b (λ image. HasHome n (published a n) image ⊎ HasHome n (work a n d) image)
+          × (IsSealed n d b × (work b n d ≡ work a n d))) (AtNew d) o t u at
+          (subst (λ k. Goes (λ a b. Since a b (λ image. HasHome k (published a k) image ⊎ HasHome k (work a k d) image)
+          × (IsSealed k d b × (work b k d ≡ work a k d))) t u) is (goes_and _ _ t u step kept))
           (λ x y z p q. record { since = (opening d x y z p q.0).since; same = q.1.1 ∙ p.same; clean = p.clean }))
 
       pub goes_new_stops : (d : List Bool) → Goes (AtNew d) o t → Goes (λ a b. Since a b (HasHome m (work a m d))) t u → Goes (Publishing n es c header) o u
       goes_new_stops d at step =
-          goes_then (AtNew d) (λ a b. Since a b (HasHome n (work a n d))) (Publishing n es c header) o t u at (subst (λ k. Goes (λ a b. Since a b (HasHome k (work a k d))) t u) is step) (new_stops d)
+          goes_then (AtNew d) (λ a b. Since a b (HasHome n (work a n d))) (Publishing n es c header) o t u at
+          (subst (λ k. Goes (λ a b. Since a b (HasHome k (work a k d))) t u) is step) (new_stops d)
 
-      pub goes_carried : (d e : List Bool) → e ≡ d → Goes (AtNew d) o t → Goes (λ a b. Since a b (HasHome m (work a m d))) t u → Goes (λ a b. IsCarried m d b × (work b m d ≡ work a m d)) t u → Goes (AtNew e) o u
+      pub goes_carried : (d e : List Bool) → e ≡ d → Goes (AtNew d) o t → Goes (λ a b. Since a b (HasHome m (work a m d))) t u
+          → Goes (λ a b. IsCarried m d b × (work b m d ≡ work a m d)) t u → Goes (AtNew e) o u
       goes_carried d e changed at step kept =
           subst (λ x. Goes (AtNew x) o u) (sym changed)
           (goes_then (AtNew d) (λ a b. Since a b (HasHome n (work a n d)) × (IsCarried n d b × (work b n d ≡ work a n d))) (AtNew d) o t u at
           (subst (λ k. Goes (λ a b. Since a b (HasHome k (work a k d)) × (IsCarried k d b × (work b k d ≡ work a k d))) t u) is (goes_and _ _ t u step kept))
           (λ x y z p q. record { since = (new_stops d x y z p q.0).since; same = q.1.1 ∙ p.same; clean = p.clean }))
 
-      pub goes_finished : (d : List Bool) → Goes (AtNew d) o t → Goes (λ a b. IsIdle m (replicate m false) b × (published b m ≡ work a m d)) t u → Goes (IsPublished n es c header fs) o u
+      pub goes_finished : (d : List Bool) → Goes (AtNew d) o t → Goes (λ a b. IsIdle m (replicate m false) b × (published b m ≡ work a m d)) t u
+          → Goes (IsPublished n es c header fs) o u
       goes_finished d at kept =
-          goes_then (AtNew d) (λ a b. IsIdle n (replicate n false) b × (published b n ≡ work a n d)) (IsPublished n es c header fs) o t u at (subst (λ k. Goes (λ a b. IsIdle k (replicate k false) b × (published b k ≡ work a k d)) t u) is kept) (finished d)
+          goes_then (AtNew d) (λ a b. IsIdle n (replicate n false) b × (published b n ≡ work a n d)) (IsPublished n es c header fs) o t u at
+          (subst (λ k. Goes (λ a b. IsIdle k (replicate k false) b × (published b k ≡ work a k d)) t u) is kept) (finished d)
 
 -- what the drain leaves
-pub drain_stops : (n : ℕ) (es fs : Entries) (c d : List Bool) (header : List ℕ) (o t : Option Tale) → Goes (Keeps n es fs c d) o t → Goes (Publishing n es c header) o t
-drain_stops n es fs c d header o t keeps = goes_weaker (Keeps n es fs c d) (Publishing n es c header) o t keeps (λ x y k. record { since = since_weaker x y (HasHome n (published x n)) (λ image. HasHome n (published x n) image ⊎ HasHome n (next_pages n es c header x) image) k.since (λ image h. inl h) })
+pub drain_stops : (n : ℕ) (es fs : Entries) (c d : List Bool) (header : List ℕ) (o t : Option Tale) → Goes (Keeps n es fs c d) o t
+    → Goes (Publishing n es c header) o t
+drain_stops n es fs c d header o t keeps = goes_weaker (Keeps n es fs c d) (Publishing n es c header) o t keeps
+    (λ x y k. record {
+      since = since_weaker x y (HasHome n (published x n))
+          (λ image. HasHome n (published x n) image ⊎ HasHome n (next_pages n es c header x) image) k.since (λ image h. inl h);
+    })
 
 -- what the next call needs
 pub need_idle : (n m : ℕ) (es fs : Entries) (c d : List Bool) (o t : Option Tale) → m ≡ n → Goes (Keeps n es fs c d) o t → IfSome t (IsIdle m d)
 need_idle n m es fs c d o t is keeps = goes_now (Keeps n es fs c d) (IsIdle m d) o t keeps (λ x y k. subst (λ j. IsIdle j d y) (sym is) k.is.idle)
 
-pub need_listed : (k m : ℕ) (d e : List Bool) (R : Tale → Tale → Type 0) (t u : Option Tale) → k ≡ m → e ≡ d → Goes R t u → ((a b : Tale) → R a b → IsIdle m d b) → IfSome u (IsIdle k e)
-need_listed k m d e R t u is changed step so = goes_now R (IsIdle k e) t u step (λ a b r. subst (λ j. IsIdle j e b) (sym is) (subst (λ x. IsIdle m x b) (sym changed) (so a b r)))
+pub need_listed : (k m : ℕ) (d e : List Bool) (R : Tale → Tale → Type 0) (t u : Option Tale) → k ≡ m → e ≡ d → Goes R t u
+    → ((a b : Tale) → R a b → IsIdle m d b) → IfSome u (IsIdle k e)
+need_listed k m d e R t u is changed step so =
+    goes_now R (IsIdle k e) t u step (λ a b r. subst (λ j. IsIdle j e b) (sym is) (subst (λ x. IsIdle m x b) (sym changed) (so a b r)))
 
-pub need_sealed : (k m : ℕ) (d e : List Bool) (R : Tale → Tale → Type 0) (t u : Option Tale) → k ≡ m → e ≡ d → Goes R t u → ((a b : Tale) → R a b → IsSealed m d b) → IfSome u (IsSealed k e)
-need_sealed k m d e R t u is changed step so = goes_now R (IsSealed k e) t u step (λ a b r. subst (λ j. IsSealed j e b) (sym is) (subst (λ x. IsSealed m x b) (sym changed) (so a b r)))
+pub need_sealed : (k m : ℕ) (d e : List Bool) (R : Tale → Tale → Type 0) (t u : Option Tale) → k ≡ m → e ≡ d → Goes R t u
+    → ((a b : Tale) → R a b → IsSealed m d b) → IfSome u (IsSealed k e)
+need_sealed k m d e R t u is changed step so =
+    goes_now R (IsSealed k e) t u step (λ a b r. subst (λ j. IsSealed j e b) (sym is) (subst (λ x. IsSealed m x b) (sym changed) (so a b r)))
 
-pub need_carried : (k m : ℕ) (d e : List Bool) (R : Tale → Tale → Type 0) (t u : Option Tale) → k ≡ m → e ≡ d → Goes R t u → ((a b : Tale) → R a b → IsCarried m d b) → IfSome u (IsCarried k e)
-need_carried k m d e R t u is changed step so = goes_now R (IsCarried k e) t u step (λ a b r. subst (λ j. IsCarried j e b) (sym is) (subst (λ x. IsCarried m x b) (sym changed) (so a b r)))
+pub need_carried : (k m : ℕ) (d e : List Bool) (R : Tale → Tale → Type 0) (t u : Option Tale) → k ≡ m → e ≡ d → Goes R t u
+    → ((a b : Tale) → R a b → IsCarried m d b) → IfSome u (IsCarried k e)
+need_carried k m d e R t u is changed step so =
+    goes_now R (IsCarried k e) t u step (λ a b r. subst (λ j. IsCarried j e b) (sym is) (subst (λ x. IsCarried m x b) (sym changed) (so a b r)))
 
 -- ---- where a publish stops before the gate
 
 pub moves_drained : (n : ℕ) (es fs : Entries) (c d : List Bool) (o t : Option Tale) → Goes (Keeps n es fs c d) o t → Goes (Moves n fs d) o t
-moves_drained n es fs c d o t keeps = goes_weaker (Keeps n es fs c d) (Moves n fs d) o t keeps (λ x y k. record { is = k.is; home = k.home; tries = k.tries; since = k.since })
+moves_drained n es fs c d o t keeps =
+    goes_weaker (Keeps n es fs c d) (Moves n fs d) o t keeps (λ x y k. record { is = k.is; home = k.home; tries = k.tries; since = k.since })
 
 zero_not : (i : ℕ) → 1 ≤ i → i ≡ 0 → ⊥
 zero_not i le e = omega (arith, le, e)
 
 clean_header : (n : ℕ) (fs : Entries) (pages : Pages) (x : List ℕ) → AreBelow n fs → IsClean fs pages → IsClean fs (set pages 0 x)
-clean_header n fs pages x range clean = record { each = λ i f there none. clean.each i f there none ∙ sym (get_or-set_other pages 0 i x [] (λ e. zero_not i (range.each i f there).0 e)) }
+clean_header n fs pages x range clean =
+    record { each = λ i f there none. clean.each i f there none ∙ sym (get_or-set_other pages 0 i x [] (λ e. zero_not i (range.each i f there).0 e)) }
 
-pub moves_torn : (n m : ℕ) (es fs : Entries) (c d e : List Bool) (o t u : Option Tale) → m ≡ n → e ≡ set d 0 false → AreBelow n fs → Goes (Keeps n es fs c d) o t
+pub moves_torn : (n m : ℕ) (es fs : Entries) (c d e : List Bool) (o t u : Option Tale) → m ≡ n → e ≡ set d 0 false → AreBelow n fs
+    → Goes (Keeps n es fs c d) o t
     → Goes (λ a b. IsIdle m (set d 0 false) b × (published b m ≡ published a m) × (work b m (set d 0 false) ≡ set (work a m d) 0 (home_page a 0))) t u
     → Goes (λ a b. Adds (Tore (3 + m + 0) ∷ []) a b ⊎ Adds [] a b) t u → Goes (λ a b. Since a b (HasHome m (published a m))) t u → Goes (Moves n fs e) o u
 moves_torn n m es fs c d e o t u is changed range keeps kept tore step =
     subst (λ x. Goes (Moves n fs x) o u) (sym changed)
-    (goes_then (Keeps n es fs c d) (λ a b. (IsIdle n (set d 0 false) b × (published b n ≡ published a n) × (work b n (set d 0 false) ≡ set (work a n d) 0 (home_page a 0))) × ((Adds (Tore (3 + n + 0) ∷ []) a b ⊎ Adds [] a b) × Since a b (HasHome n (published a n)))) (Moves n fs (set d 0 false)) o t u keeps
-    (subst (λ k. Goes (λ a b. (IsIdle k (set d 0 false) b × (published b k ≡ published a k) × (work b k (set d 0 false) ≡ set (work a k d) 0 (home_page a 0))) × ((Adds (Tore (3 + k + 0) ∷ []) a b ⊎ Adds [] a b) × Since a b (HasHome k (published a k)))) t u) is (goes_and _ _ t u kept (goes_and _ _ t u tore step)))
+    (goes_then (Keeps n es fs c d)
+    (λ a b. (IsIdle n (set d 0 false) b × (published b n ≡ published a n) × (work b n (set d 0 false) ≡ set (work a n d) 0 (home_page a 0)))
+    × ((Adds (Tore (3 + n + 0) ∷ []) a b ⊎ Adds [] a b) × Since a b (HasHome n (published a n)))) (Moves n fs (set d 0 false)) o t u keeps
+    (subst (λ k. Goes (λ a b. (IsIdle k (set d 0 false) b × (published b k ≡ published a k)
+    × (work b k (set d 0 false) ≡ set (work a k d) 0 (home_page a 0)))
+    × ((Adds (Tore (3 + k + 0) ∷ []) a b ⊎ Adds [] a b) × Since a b (HasHome k (published a k)))) t u) is
+    (goes_and _ _ t u kept (goes_and _ _ t u tore step)))
     (λ x y z p q. record {
       is = record { idle = q.0.0; clean = subst (IsClean fs) (sym q.0.2) (clean_header n fs (work y n d) (home_page y 0) range p.is.clean) };
       home = q.0.1 ∙ p.home;
@@ -220,19 +268,23 @@ sealed_not e = cc
 carried_not : Carried ≡ Idle → ⊥
 carried_not e = cc
 
-by_state : (j k : View) (es fs : Entries) (last : Head) (o t : Option Tale) → j.state ≡ Idle → k.pages ≡ j.pages → IsKeptBy j es last o → (k.state ≡ Idle → Goes (Moves j.pages fs k.changed) o t) → (s : State) → k.state ≡ s → IsKeptBy k fs last t
+by_state : (j k : View) (es fs : Entries) (last : Head) (o t : Option Tale) → j.state ≡ Idle → k.pages ≡ j.pages → IsKeptBy j es last o
+    → (k.state ≡ Idle → Goes (Moves j.pages fs k.changed) o t) → (s : State) → k.state ≡ s → IsKeptBy k fs last t
 by_state j k es fs last o t idle pages kept left Idle e = kept_moves j k es fs last idle pages (e ∙ sym idle) o t kept (left e)
 by_state j k es fs last o t idle pages kept left Sealed e = kept_busy k k fs fs last (λ i. sealed_not (sym e ∙ i)) refl t
 by_state j k es fs last o t idle pages kept left Carried e = kept_busy k k fs fs last (λ i. carried_not (sym e ∙ i)) refl t
 
-pub kept_left : (j k : View) (es fs : Entries) (last : Head) (o t : Option Tale) → j.state ≡ Idle → k.pages ≡ j.pages → IsKeptBy j es last o → (k.state ≡ Idle → Goes (Moves j.pages fs k.changed) o t) → IsKeptBy k fs last t
+pub kept_left : (j k : View) (es fs : Entries) (last : Head) (o t : Option Tale) → j.state ≡ Idle → k.pages ≡ j.pages → IsKeptBy j es last o
+    → (k.state ≡ Idle → Goes (Moves j.pages fs k.changed) o t) → IsKeptBy k fs last t
 kept_left j k es fs last o t idle pages kept left = by_state j k es fs last o t idle pages kept left k.state refl
 
 first_page : (n : ℕ) (es : Entries) (c : List Bool) (header : List ℕ) (o : Tale) → 0 < n → get_or (next_pages n es c header o) 0 [] ≡ header
 unfolding next_pages
-first_page n es c header o some = get_or-set_same (map (page_over es (work o n c)) (below n)) 0 header [] (omega (arith, some, length-map-range_with_len (page_over es (work o n c)) 0 n))
+first_page n es c header o some =
+    get_or-set_same (map (page_over es (work o n c)) (below n)) 0 header [] (omega (arith, some, length-map-range_with_len (page_over es (work o n c)) 0 n))
 
-pub kept_published : (n : ℕ) (k : View) (es fs : Entries) (c : List Bool) (header : List ℕ) (head : Head) (o t : Option Tale) → k.pages ≡ n → k.state ≡ Idle → k.changed ≡ replicate n false → 0 < n → IsHeader n header head
+pub kept_published : (n : ℕ) (k : View) (es fs : Entries) (c : List Bool) (header : List ℕ) (head : Head) (o t : Option Tale) → k.pages ≡ n
+    → k.state ≡ Idle → k.changed ≡ replicate n false → 0 < n → IsHeader n header head
     → Goes (IsPublished n es c header fs) o t → IsKeptBy k fs head t
 kept_published n k es fs c header head None None pages state changed some is goes = tt
 kept_published n k es fs c header head None (Some t) pages state changed some is goes = absurd goes
@@ -246,24 +298,29 @@ kept_published n k es fs c header head (Some o) (Some t) pages state changed som
 
 pub none_marked : (n m : ℕ) (fs : Entries) (d : List Bool) → d ≡ replicate n false → ((i : ℕ) → is_dirty fs i ≡ false) → marked_count m fs d ≡ 0
 unfolding marked_count
-none_marked n m fs d changed clean = count_none (is_marked fs d) 0 m (λ i le lt. ap (λ b. b || is_changed d i) (clean i) ∙ ap (λ x. is_changed x i) changed ∙ none_changed n i)
+none_marked n m fs d changed clean =
+    count_none (is_marked fs d) 0 m (λ i le lt. ap (λ b. b || is_changed d i) (clean i) ∙ ap (λ x. is_changed x i) changed ∙ none_changed n i)
 
 -- ---- what it tells after it
 
-told_next : (n : ℕ) (es fs : Entries) (c : List Bool) (header : List ℕ) (o t : Tale) → ((i : ℕ) → is_dirty fs i ≡ false) → IsPublished n es c header fs o t → map (page_over fs (work t n (replicate n false))) (below n) ≡ next_pages n es c header o
+told_next : (n : ℕ) (es fs : Entries) (c : List Bool) (header : List ℕ) (o t : Tale) → ((i : ℕ) → is_dirty fs i ≡ false)
+    → IsPublished n es c header fs o t → map (page_over fs (work t n (replicate n false))) (below n) ≡ next_pages n es c header o
 told_next n es fs c header o t clean is =
     let w = work t n (replicate n false) in
-    sym (fill_by_all (page_over fs w) w n [] (length-work t n (replicate n false)) (λ i lt. sym (over_clean fs w i (frame_at fs i) refl (clean i) is.work.clean)))
+    sym (fill_by_all (page_over fs w) w n [] (length-work t n (replicate n false))
+    (λ i lt. sym (over_clean fs w i (frame_at fs i) refl (clean i) is.work.clean)))
     ∙ (idle_none n (replicate n false) t is.work.idle).1 ∙ is.home
 
-told_after : (j k : View) (es fs : Entries) (header : List ℕ) (o t : Tale) → k.pages ≡ j.pages → k.changed ≡ replicate j.pages false → ((i : ℕ) → is_dirty fs i ≡ false) → IsPublished j.pages es j.changed header fs o t → work_pages k fs t ≡ set (work_pages j es o) 0 header
+told_after : (j k : View) (es fs : Entries) (header : List ℕ) (o t : Tale) → k.pages ≡ j.pages → k.changed ≡ replicate j.pages false
+    → ((i : ℕ) → is_dirty fs i ≡ false) → IsPublished j.pages es j.changed header fs o t → work_pages k fs t ≡ set (work_pages j es o) 0 header
 unfolding work_pages next_pages
 told_after j k es fs header o t pages changed clean is =
     ap (λ n. map (page_over fs (work t n k.changed)) (below n)) pages
     ∙ ap (λ d. map (page_over fs (work t j.pages d)) (below j.pages)) changed
     ∙ told_next j.pages es fs j.changed header o t clean is
 
-pub told_published : (j k : View) (es fs : Entries) (header : List ℕ) (o t : Option Tale) → j.state ≡ Idle → k.pages ≡ j.pages → k.state ≡ Idle → k.changed ≡ replicate j.pages false → ((i : ℕ) → is_dirty fs i ≡ false)
+pub told_published : (j k : View) (es fs : Entries) (header : List ℕ) (o t : Option Tale) → j.state ≡ Idle → k.pages ≡ j.pages → k.state ≡ Idle
+    → k.changed ≡ replicate j.pages false → ((i : ℕ) → is_dirty fs i ≡ false)
     → Goes (IsPublished j.pages es j.changed header fs) o t → Tells (λ (old new : Pages). new ≡ set old 0 header) (told_pages j es o) (told_pages k fs t)
 told_published j k es fs header None None idle pages state changed clean goes = tt
 told_published j k es fs header None (Some t) idle pages state changed clean goes = absurd goes
@@ -295,7 +352,8 @@ dirty_most n es c some =
     let back : suc (n - 1) ≡ n = omega (arith, some) in
     let first = in_front (is_dirty es) (n - 1) in
     let then = count_le (is_dirty es) (is_marked es c) (dirt_of_marked es c) (range_with_len 0 (suc (n - 1))) in
-    subst (λ k. length (filter (is_dirty es) (range_with_len 1 (n - 1))) ≤ length (filter (is_marked es c) (range_with_len 0 k))) back (omega (arith, first, then))
+    subst (λ k. length (filter (is_dirty es) (range_with_len 1 (n - 1))) ≤ length (filter (is_marked es c) (range_with_len 0 k))) back
+    (omega (arith, first, then))
 
 pub changed_most : (n : ℕ) (es : Entries) (c : List Bool) → length c ≡ n → changed_count c ≤ marked_count n es c
 unfolding marked_count
@@ -303,7 +361,8 @@ changed_most n es c size =
     let all : length (filter (λ i. is_changed c i) (range_with_len 0 (length c))) ≡ length (filter (λ b. b) c) = count_behind [] c 0 refl in
     let same : length (filter (λ b. b) c) ≡ changed_count c = length-filter (λ b. b) c in
     let more = count_le (λ i. is_changed c i) (is_marked es c) (bit_of_marked es c) (range_with_len 0 n) in
-    let here : length (filter (λ i. is_changed c i) (range_with_len 0 n)) ≡ changed_count c = ap (λ k. length (filter (λ i. is_changed c i) (range_with_len 0 k))) (sym size) ∙ all ∙ same in
+    let here : length (filter (λ i. is_changed c i) (range_with_len 0 n)) ≡ changed_count c =
+    ap (λ k. length (filter (λ i. is_changed c i) (range_with_len 0 k))) (sym size) ∙ all ∙ same in
     omega (arith, here, more)
 
 pub goes_more_writes : (j k : ℕ) (a b : Option Tale) → j ≤ k → Goes (Writing j) a b → Goes (Writing k) a b
@@ -311,7 +370,8 @@ goes_more_writes j k a b le w = goes_weaker (Writing j) (Writing k) a b w (λ x 
 
 -- ---- what it tells after it went back
 
-told_back : (j k : View) (fs : Entries) (last : Head) (t : Tale) → j.state ≡ Idle → k.pages ≡ j.pages → k.state ≡ j.state → fs ≡ [] → IsIdle j.pages k.changed t → work t j.pages k.changed ≡ published t j.pages
+told_back : (j k : View) (fs : Entries) (last : Head) (t : Tale) → j.state ≡ Idle → k.pages ≡ j.pages → k.state ≡ j.state → fs ≡ []
+    → IsIdle j.pages k.changed t → work t j.pages k.changed ≡ published t j.pages
     → told_pages k fs (Some t) ≡ Some (published t k.pages)
 unfolding work_pages
 told_back j k fs last t idle pages state empty is works =
@@ -322,8 +382,10 @@ told_back j k fs last t idle pages state empty is works =
     ∙ ap Some (sym (fill_by_all (page_over [] w) w j.pages [] (length-work t j.pages k.changed) (λ i lt. refl)) ∙ works)
     ∙ ap (λ n. Some (published t n)) (sym pages)
 
-pub told_reverted : (j k : View) (es fs : Entries) (last : Head) (told : Option Tale) → j.state ≡ Idle → k.pages ≡ j.pages → k.state ≡ j.state → fs ≡ [] → IsKeptBy j es last told
-    → ((t : Tale) → IsIdle j.pages j.changed t → IsIdle j.pages k.changed t × (work t j.pages k.changed ≡ published t j.pages)) → IfSome told (λ t. told_pages k fs told ≡ Some (published t k.pages))
+pub told_reverted : (j k : View) (es fs : Entries) (last : Head) (told : Option Tale) → j.state ≡ Idle → k.pages ≡ j.pages → k.state ≡ j.state
+    → fs ≡ [] → IsKeptBy j es last told
+    → ((t : Tale) → IsIdle j.pages j.changed t → IsIdle j.pages k.changed t × (work t j.pages k.changed ≡ published t j.pages))
+    → IfSome told (λ t. told_pages k fs told ≡ Some (published t k.pages))
 told_reverted j k es fs last None idle pages state empty kept cleared = tt
 told_reverted j k es fs last (Some t) idle pages state empty kept cleared =
     let c = cleared t (kept_idle j es last (Some t) idle kept).work.idle in

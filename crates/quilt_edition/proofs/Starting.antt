@@ -38,7 +38,8 @@ none_some f h = cc
 no_entries : (pages : Pages) → IsClean [] pages
 no_entries pages = record { each = λ i f there none. absurd (none_some f there) }
 
-is_begun : (size : ℕ) (j : View) (head : Head) (bytes : List ℕ) (a b : Tale) → IsNew size j → IsKept j.state j.pages j.changed b × (published b j.pages ≡ published a j.pages) × (work b j.pages j.changed ≡ work a j.pages j.changed)
+is_begun : (size : ℕ) (j : View) (head : Head) (bytes : List ℕ) (a b : Tale) → IsNew size j → IsKept j.state j.pages j.changed b
+    × (published b j.pages ≡ published a j.pages) × (work b j.pages j.changed ≡ work a j.pages j.changed)
     → bytes ≡ get_or (work a j.pages j.changed) 0 [] → IsHeader j.pages bytes head → IsBook j [] head b
 is_begun size j head bytes a b new kept read header =
     let some : 0 < j.pages = omega (arith, new.least) in
@@ -51,7 +52,8 @@ is_begun size j head bytes a b new kept read header =
       header = subst (λ x. IsHeader j.pages x head) (sym first) header;
     }
 
-pub kept_begun : (size : ℕ) (found : Begun) (j : View) (es : Entries) (head : Head) (bytes : List ℕ) (a b : Option Tale) → found ≡ begun.Journal j → Gives size found → es ≡ []
+pub kept_begun : (size : ℕ) (found : Begun) (j : View) (es : Entries) (head : Head) (bytes : List ℕ) (a b : Option Tale) → found ≡ begun.Journal j
+    → Gives size found → es ≡ []
     → Goes (λ x y. IsKept j.state j.pages j.changed y × (published y j.pages ≡ published x j.pages) × (work y j.pages j.changed ≡ work x j.pages j.changed)) a b
     → IfSome a (λ x. bytes ≡ get_or (work x j.pages j.changed) 0 []) → IsHeader j.pages bytes head → IsKeptBy j es head b
 kept_begun size found j es head bytes None None is gives empty goes read header = tt
@@ -79,7 +81,8 @@ adds_nothing : (o m n : Tale) → Adds [] o m → Adds [] m n → Adds [] o n
 adds_nothing o m n p q = record { file = same_file o m n p.file q.file; log = q.log ∙ append-nil m.log ∙ p.log; input = q.input ∙ p.input }
 
 writing_read : (k : ℕ) (o m n : Tale) → Writing k o m → Adds [] m n → n.writes ≡ m.writes → Writing k o n
-writing_read k o m n writing adds same = writing_more (k + 0) k o n (omega arith) (writing_both k 0 o m n writing (writing_nothing 0 m n (omega (arith, same)) adds))
+writing_read k o m n writing adds same =
+    writing_more (k + 0) k o n (omega arith) (writing_both k 0 o m n writing (writing_nothing 0 m n (omega (arith, same)) adds))
 
 pub redoes_read : (o m n : Tale) → Redoes o m → Read m n → Redoes o n
 redoes_read o m n redoes (adds, counts) = record {
@@ -97,19 +100,22 @@ abbrev pub IsRead : View → Tale → Tale → Type 0
 IsRead j m n = IsKept j.state j.pages j.changed n × (published n j.pages ≡ published m j.pages) × (work n j.pages j.changed ≡ work m j.pages j.changed)
 
 -- the header's page of the file that was opened
-page_found : (size : ℕ) (j : View) (bytes : List ℕ) (o m : Tale) → IsNew size j → Opens j o m → bytes ≡ get_or (work m j.pages j.changed) 0 [] → bytes ≡ header_page j.pages o.seen
+page_found : (size : ℕ) (j : View) (bytes : List ℕ) (o m : Tale) → IsNew size j → Opens j o m → bytes ≡ get_or (work m j.pages j.changed) 0 []
+    → bytes ≡ header_page j.pages o.seen
 page_found size j bytes o m new opens read =
     let works : work m j.pages j.changed ≡ published m j.pages = ap (λ d. work m j.pages d) new.changed ∙ (idle_none j.pages j.changed m opens.idle).1 in
     read ∙ ap (λ (p : Pages). get_or p 0 []) (works ∙ opens.same)
 
-pub opened : (size : ℕ) (j : View) (head : Head) (bytes : List ℕ) (o m n : Tale) → IsNew size j → Opens j o m → bytes ≡ get_or (work m j.pages j.changed) 0 [] → IsRead j m n → IsHeader j.pages bytes head → Opened j.pages head o n
+pub opened : (size : ℕ) (j : View) (head : Head) (bytes : List ℕ) (o m n : Tale) → IsNew size j → Opens j o m
+    → bytes ≡ get_or (work m j.pages j.changed) 0 [] → IsRead j m n → IsHeader j.pages bytes head → Opened j.pages head o n
 opened size j head bytes o m n new opens read kept header = record {
   file = opens.file;
   same = kept.1 ∙ opens.same;
   header = subst (λ b. IsHeader j.pages b head) (page_found size j bytes o m new opens read) header;
 }
 
-pub no_header : (size : ℕ) (j : View) (bytes : List ℕ) (o m n : Tale) → IsNew size j → Opens j o m → bytes ≡ get_or (work m j.pages j.changed) 0 [] → ((h : Head) → HeadFits h → IsHeader j.pages bytes h → ⊥) → HasNoHeader o n
+pub no_header : (size : ℕ) (j : View) (bytes : List ℕ) (o m n : Tale) → IsNew size j → Opens j o m → bytes ≡ get_or (work m j.pages j.changed) 0 []
+    → ((h : Head) → HeadFits h → IsHeader j.pages bytes h → ⊥) → HasNoHeader o n
 no_header size j bytes o m n new opens read none = record {
   pages = j.pages;
   file = opens.file;
@@ -117,7 +123,8 @@ no_header size j bytes o m n new opens read none = record {
 }
 
 -- two calls, told or not, with what the second read
-pub goes_found : (P : Tale → Type 0) (R S T : Tale → Tale → Type 0) (a b c : Option Tale) → Goes R a b → Goes S b c → IfSome b P → ((o m n : Tale) → R o m → P m → S m n → T o n) → Goes T a c
+pub goes_found : (P : Tale → Type 0) (R S T : Tale → Tale → Type 0) (a b c : Option Tale) → Goes R a b → Goes S b c → IfSome b P
+    → ((o m n : Tale) → R o m → P m → S m n → T o n) → Goes T a c
 goes_found P R S T None None None r s p step = tt
 goes_found P R S T None None (Some n) r s p step = s
 goes_found P R S T None (Some m) c r s p step = absurd r
@@ -128,9 +135,11 @@ goes_found P R S T (Some o) (Some m) (Some n) r s p step = step o m n r p s
 -- ---- the answers
 
 pub goes_no_map : (found : Begun) (a b : Option Tale) → found ≡ begun.NotMap → Goes (Answers found) a b → Goes IsNoMapFile a b
-goes_no_map found a b is goes = goes_weaker (Answers begun.NotMap) IsNoMapFile a b (subst (λ f. Goes (Answers f) a b) is goes) (λ t u none. record { none = none })
+goes_no_map found a b is goes =
+    goes_weaker (Answers begun.NotMap) IsNoMapFile a b (subst (λ f. Goes (Answers f) a b) is goes) (λ t u none. record { none = none })
 
-module _ (size : ℕ) (found : Begun) (j : View) (bytes : List ℕ) (a b c : Option Tale) (is : found ≡ begun.Journal j) (gives : Gives size found) (answers : Goes (Answers found) a b)
+module _ (size : ℕ) (found : Begun) (j : View) (bytes : List ℕ) (a b c : Option Tale) (is : found ≡ begun.Journal j) (gives : Gives size found)
+    (answers : Goes (Answers found) a b)
     (kept : Goes (IsRead j) b c) (read : IfSome b (λ t. bytes ≡ get_or (work t j.pages j.changed) 0 [])) where
   new : IsNew size j
   new = subst (Gives size) is gives
@@ -146,6 +155,8 @@ module _ (size : ℕ) (found : Begun) (j : View) (bytes : List ℕ) (a b c : Opt
   goes_no_header none = goes_found (λ t. bytes ≡ get_or (work t j.pages j.changed) 0 []) (Opens j) (IsRead j) HasNoHeader a b c opens kept read
       (λ o m n opens r kept. no_header size j bytes o m n new opens r none)
 
-pub goes_redone : (a b c : Option Tale) → Goes Redoes a b → Goes (Adds []) b c → Goes (λ old new. (new.reads ≡ next_count old.reads) × (new.writes ≡ old.writes)) b c → Goes Redoes a c
+pub goes_redone : (a b c : Option Tale) → Goes Redoes a b → Goes (Adds []) b c
+    → Goes (λ old new. (new.reads ≡ next_count old.reads) × (new.writes ≡ old.writes)) b c → Goes Redoes a c
 goes_redone a b c redone nothing counts =
-    goes_then Redoes Read Redoes a b c redone (goes_and (Adds []) (λ old new. (new.reads ≡ next_count old.reads) × (new.writes ≡ old.writes)) b c nothing counts) redoes_read
+    goes_then Redoes Read Redoes a b c redone
+    (goes_and (Adds []) (λ old new. (new.reads ≡ next_count old.reads) × (new.writes ≡ old.writes)) b c nothing counts) redoes_read

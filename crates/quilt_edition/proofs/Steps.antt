@@ -1,6 +1,7 @@
 -- What each call of a book keeps, and what it tells after it.
 use Rattle.quilt_store.specs.declared.store.StoreErr.{StoreErr}
-use Rattle.std.proofs.Common.{Result, Ok, Err, OnOk, OnErr, IsSome, ◌||◌, ◌≡◌, inl, inr, ℕ, ◌+◌, ◌<◌, ◌≤◌, Bool, true, false, cond, nat_eq, List, [], ◌∷◌, map, length, Option, Some, None, get_or, set, refl, sym, ◌∙◌, ap, subst, arith, get_or-set_same, get_or-set_other}
+use Rattle.std.proofs.Common.{Result, Ok, Err, OnOk, OnErr, IsSome, ◌||◌, ◌≡◌, inl, inr, ℕ, ◌+◌, ◌<◌, ◌≤◌, Bool, true, false, cond, nat_eq, List, [], ◌∷◌, map}
+use Rattle.std.proofs.Common.{length, Option, Some, None, get_or, set, refl, sym, ◌∙◌, ap, subst, arith, get_or-set_same, get_or-set_other}
 use Rattle.std.specs.Option.{IfSome}
 use Rattle.std.specs.Map.{keys_of}
 use Rattle.std.specs.List.{list_any}
@@ -38,7 +39,8 @@ pub idle_kept : (j : View) (es : Entries) (last : Head) (told : Option Tale) →
 idle_kept j es last None idle kept = tt
 idle_kept j es last (Some t) idle kept = subst (λ s. WhileIdle s (IsBook j es last t)) (sym idle) kept
 
-pub work_idle : (j : View) (es : Entries) (last : Head) (told : Option Tale) → j.state ≡ Idle → IsKeptBy j es last told → IfSome told (IsWork j.pages es j.changed)
+pub work_idle : (j : View) (es : Entries) (last : Head) (told : Option Tale) → j.state ≡ Idle → IsKeptBy j es last told
+    → IfSome told (IsWork j.pages es j.changed)
 work_idle j es last None idle kept = tt
 work_idle j es last (Some t) idle kept = (subst (λ s. WhileIdle s (IsBook j es last t)) idle kept).work
 
@@ -48,7 +50,8 @@ told_idle j es t idle = ap (λ s. told_in s (work_pages j es t)) idle
 -- an idle disk reads as the published pages
 pub seen_home : (n : ℕ) (c : List Bool) (t : Tale) → IsConsistent t → IsIdle n c t → home t.seen n ≡ published t n
 seen_home n c t law idle =
-    home_shut t.seen n (home_page t) (ap is_open_page (seen_page t 1 idle.gate.bytes law (omega (arith, idle.file.size)) (last_from t 1 idle.gate.bytes idle.gate.there)) ∙ idle.gate.opens)
+    home_shut t.seen n (home_page t)
+    (ap is_open_page (seen_page t 1 idle.gate.bytes law (omega (arith, idle.file.size)) (last_from t 1 idle.gate.bytes idle.gate.there)) ∙ idle.gate.opens)
     (λ i lt. seen_page t (3 + i) (home_page t i) law (omega (arith, idle.file.size)) (last_from t (3 + i) (home_page t i) (idle.homes.each i lt)))
     ∙ sym (published_is t n)
 
@@ -73,13 +76,15 @@ module _ (j k : View) (es fs : Entries) (last : Head) (idle : j.state ≡ Idle) 
   is_book : (o t : Tale) → IsBook j es last o → Moves j.pages fs k.changed o t → IsBook k fs last t
   is_book o t book moves =
       let some : 0 < j.pages = omega (arith, book.work.idle.file.least) in
-      let header : home_page t 0 ≡ home_page o 0 = sym (published_at t j.pages 0 some) ∙ ap (λ (h : Pages). get_or h 0 []) moves.home ∙ published_at o j.pages 0 some in
+      let header : home_page t 0 ≡ home_page o 0 =
+      sym (published_at t j.pages 0 some) ∙ ap (λ (h : Pages). get_or h 0 []) moves.home ∙ published_at o j.pages 0 some in
       record {
         work = subst (λ n. IsWork n fs k.changed t) (sym pages) moves.is;
         header = subst (λ n. IsHeader n (home_page t 0) last) (sym pages) (subst (λ b. IsHeader j.pages b last) (sym header) book.header);
       }
 
-  pub later_moves : (a b : ℕ) (o t : Option Tale) → IfSome o (IsLawful a) → IfSome t (IsLawful b) → IsKeptBy j es last o → Goes (Moves j.pages fs k.changed) o t → Goes (IsLater j.pages) o t
+  pub later_moves : (a b : ℕ) (o t : Option Tale) → IfSome o (IsLawful a) → IfSome t (IsLawful b) → IsKeptBy j es last o
+      → Goes (Moves j.pages fs k.changed) o t → Goes (IsLater j.pages) o t
   later_moves a b None None lo lt kept moves = tt
   later_moves a b None (Some t) lo lt kept moves = moves
   later_moves a b (Some o) None lo lt kept moves = moves
@@ -102,7 +107,8 @@ module _ (j k : View) (es fs : Entries) (last : Head) (idle : j.state ≡ Idle) 
       ∙ ap Some (map_same (page_over fs (work t j.pages k.changed)) (page_over es (work o j.pages j.changed)) j.pages (λ i lt. keeps.pages i))
       ∙ sym (told_idle j es o idle)
 
-  set_pages : (page : ℕ) (x : List ℕ) (o t : Tale) → page < j.pages → ((i : ℕ) → page_over fs (work t j.pages k.changed) i ≡ cond (nat_eq i page) x (page_over es (work o j.pages j.changed) i))
+  set_pages : (page : ℕ) (x : List ℕ) (o t : Tale) → page < j.pages
+      → ((i : ℕ) → page_over fs (work t j.pages k.changed) i ≡ cond (nat_eq i page) x (page_over es (work o j.pages j.changed) i))
       → map (page_over fs (work t j.pages k.changed)) (below j.pages) ≡ set (map (page_over es (work o j.pages j.changed)) (below j.pages)) page x
   set_pages page x o t within each =
       let old : Pages = map (page_over es (work o j.pages j.changed)) (below j.pages) in
@@ -110,14 +116,16 @@ module _ (j k : View) (es fs : Entries) (last : Head) (idle : j.state ≡ Idle) 
       sym (fill_by_all (page_over fs (work t j.pages k.changed)) (set old page x) j.pages [] (length-set old page x ∙ size) (λ i lt. elim (cases_eq i page) [
         | inl same ↦
             subst (λ q. get_or (set old page x) q [] ≡ page_over fs (work t j.pages k.changed) q) (sym same)
-            (get_or-set_same old page x [] (omega (arith, size, within)) ∙ sym (each page ∙ ap (λ b. cond b x (page_over es (work o j.pages j.changed) page)) (eq-eqb page page refl)))
+            (get_or-set_same old page x [] (omega (arith, size, within))
+            ∙ sym (each page ∙ ap (λ b. cond b x (page_over es (work o j.pages j.changed) page)) (eq-eqb page page refl)))
         | inr ne ↦
             get_or-set_other old page i x [] ne
             ∙ get_or-map-range_with_len (page_over es (work o j.pages j.changed)) 0 j.pages i i [] lt (omega arith)
             ∙ sym (each i ∙ ap (λ b. cond b x (page_over es (work o j.pages j.changed) i)) (ne_eqb i page ne))
       ]))
 
-  pub told_set : (page : ℕ) (x : List ℕ) (o t : Option Tale) → page < j.pages → Goes (Changes j.pages page x es fs j.changed k.changed) o t → Tells (λ (old new : Pages). new ≡ set old page x) (told_pages j es o) (told_pages k fs t)
+  pub told_set : (page : ℕ) (x : List ℕ) (o t : Option Tale) → page < j.pages → Goes (Changes j.pages page x es fs j.changed k.changed) o t
+      → Tells (λ (old new : Pages). new ≡ set old page x) (told_pages j es o) (told_pages k fs t)
   unfolding work_pages
   told_set page x None None within changes = tt
   told_set page x None (Some t) within changes = absurd changes
@@ -127,7 +135,8 @@ module _ (j k : View) (es fs : Entries) (last : Head) (idle : j.state ≡ Idle) 
       (ap (λ n. map (page_over fs (work t n k.changed)) (below n)) pages ∙ set_pages page x o t within changes.pages)
 
 -- what a read gives
-pub told_bytes : (j : View) (es : Entries) (page : ℕ) (into : List ℕ) (o : Option Tale) → j.state ≡ Idle → page < j.pages → IfSome o (λ t. into ≡ page_over es (work t j.pages j.changed) page) → IfSome (told_pages j es o) (λ pages. into ≡ get_or pages page [])
+pub told_bytes : (j : View) (es : Entries) (page : ℕ) (into : List ℕ) (o : Option Tale) → j.state ≡ Idle → page < j.pages
+    → IfSome o (λ t. into ≡ page_over es (work t j.pages j.changed) page) → IfSome (told_pages j es o) (λ pages. into ≡ get_or pages page [])
 unfolding work_pages
 told_bytes j es page into None idle within is = tt
 told_bytes j es page into (Some t) idle within is =

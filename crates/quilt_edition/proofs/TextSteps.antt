@@ -21,11 +21,13 @@ use Rattle.quilt_edition.specs.Keeping.{IsBook, IsKeptBy, WhileIdle, told_pages,
 
 -- ---- one call
 
-pub took : (r : Result ℕ Fault) (bytes : ℕ → List ℕ) (o n : Option Tale) → IfOk r (λ k. Goes (TakesFrom (bytes k)) o n) → OnErr r (Goes (Adds []) o n) → Goes (AddsOnly is_of_text) o n
+pub took : (r : Result ℕ Fault) (bytes : ℕ → List ℕ) (o n : Option Tale) → IfOk r (λ k. Goes (TakesFrom (bytes k)) o n)
+    → OnErr r (Goes (Adds []) o n) → Goes (AddsOnly is_of_text) o n
 took (Ok k) bytes o n goes err = goes_weaker (TakesFrom (bytes k)) (AddsOnly is_of_text) o n goes (took_text (bytes k))
 took (Err e) bytes o n ok goes = goes_weaker (Adds []) (AddsOnly is_of_text) o n goes nothing_text
 
-pub put : (r : Result ℕ Fault) (bytes : ℕ → List ℕ) (o n : Option Tale) → IfOk r (λ k. Goes (Adds (Put (bytes k) ∷ [])) o n) → OnErr r (Goes (Adds []) o n) → Goes (AddsOnly is_of_text) o n
+pub put : (r : Result ℕ Fault) (bytes : ℕ → List ℕ) (o n : Option Tale) → IfOk r (λ k. Goes (Adds (Put (bytes k) ∷ [])) o n)
+    → OnErr r (Goes (Adds []) o n) → Goes (AddsOnly is_of_text) o n
 put (Ok k) bytes o n goes err = goes_weaker (Adds (Put (bytes k) ∷ [])) (AddsOnly is_of_text) o n goes (put_text (bytes k))
 put (Err e) bytes o n ok goes = goes_weaker (Adds []) (AddsOnly is_of_text) o n goes nothing_text
 
@@ -58,11 +60,13 @@ told_as Idle P a b same kept = ap Some (same kept)
 told_as Sealed P a b same kept = refl
 told_as Carried P a b same kept = refl
 
-pub told_text : (j : View) (es : Entries) (last : Head) (o n : Option Tale) → Goes (AddsOnly is_of_text) o n → IsKeptBy j es last o → told_pages j es n ≡ told_pages j es o
+pub told_text : (j : View) (es : Entries) (last : Head) (o n : Option Tale) → Goes (AddsOnly is_of_text) o n → IsKeptBy j es last o
+    → told_pages j es n ≡ told_pages j es o
 unfolding work_pages
 told_text j es last None None goes kept = refl
 told_text j es last None (Some n) goes kept = absurd goes
 told_text j es last (Some o) None goes kept = absurd goes
 told_text j es last (Some o) (Some n) goes kept =
-    told_as j.state (IsBook j es last o) (map (page_over es (work o j.pages j.changed)) (below j.pages)) (map (page_over es (work n j.pages j.changed)) (below j.pages))
+    told_as j.state (IsBook j es last o) (map (page_over es (work o j.pages j.changed)) (below j.pages))
+    (map (page_over es (work n j.pages j.changed)) (below j.pages))
     (λ book. ap (λ (pages : Pages). map (page_over es pages) (below j.pages)) (kept_text j.pages j.changed o n goes Idle book.work.idle).2) kept

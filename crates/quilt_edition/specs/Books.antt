@@ -50,7 +50,8 @@ module _ {W : Type 0} {D : disk.Ghosts W} where
 
   -- the latter, which are the published pages of the new book
   abbrev pub HasPublished : Book W D → Book W D → Tale → Tale → Type 0
-  HasPublished b c = IsPublished b.journal.pages b.pool.table.entries b.journal.changed (header_bytes (record b.work { edition = b.last.edition + 1 })) c.pool.table.entries
+  HasPublished b c =
+      IsPublished b.journal.pages b.pool.table.entries b.journal.changed (header_bytes (record b.work { edition = b.last.edition + 1 })) c.pool.table.entries
 
   -- all but the world is as before
   pub record SameBut (old new : Book W D) : Type 0 where

@@ -60,7 +60,8 @@ later_same n (Some t) = is_later_same n t
 since_last : (a b : Tale) (P : Pages → Type 0) → Since a b P → LeavesNow b P
 since_last a b P since =
     let long : length a.log ≤ length b.log = subst (λ (l : Log). length a.log ≤ length l) (sym since.log) (omega (arith, length-append a.log since.added)) in
-    let whole : Leaves a.start b.log P = subst (λ (l : Log). Leaves a.start l P) (take_all (length b.log) b.log (omega arith)) (since.each (length b.log) long) in
+    let whole : Leaves a.start b.log P =
+    subst (λ (l : Log). Leaves a.start l P) (take_all (length b.log) b.log (omega arith)) (since.each (length b.log) long) in
     subst (λ (s : Pages). Leaves s b.log P) (sym since.file.start) whole
 
 -- two such steps of a disk behind each other are one

@@ -43,7 +43,8 @@ IsBook-prop j es last t = Prim.hlevel (props, IsIdle-prop, IsClean-prop)
 -- there is one proof at most of what a book keeps of a world, told or not
 pub IsKeptBy-prop : (j : View) (es : Entries) (last : Head) (told : Option Tale) → IsProp (IsKeptBy j es last told)
 IsKeptBy-prop j es last None = Unit-prop
-IsKeptBy-prop j es last (Some t) = (elim j.state as (λ s. IsProp (WhileIdle s (IsBook j es last t))) [ Idle ↦ IsBook-prop j es last t | Sealed ↦ Unit-prop | Carried ↦ Unit-prop ])
+IsKeptBy-prop j es last (Some t) =
+    (elim j.state as (λ s. IsProp (WhileIdle s (IsBook j es last t))) [ Idle ↦ IsBook-prop j es last t | Sealed ↦ Unit-prop | Carried ↦ Unit-prop ])
 
 -- there is one proof at most that the numbers of a header are in their ranges
 pub IsHead-prop : (n : ℕ) (h : Head) → IsProp (IsHead n h)

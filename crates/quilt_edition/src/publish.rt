@@ -32,13 +32,15 @@ pub fn publish_pages<W: Disk>(
     ensures pages { journal.new.pages ≡ journal.old.pages }
     ensures below { AreBelow journal.old.pages (entries_of pool.new) }
     ensures bits { length journal.new.changed ≡ journal.new.pages }
-    ensures left { OnErr result (journal.new.state ≡ Idle → Goes (Moves journal.old.pages (entries_of pool.new) journal.new.changed) (W.told world.old) (W.told world.new)) }
+    ensures left { OnErr result (journal.new.state ≡ Idle
+        → Goes (Moves journal.old.pages (entries_of pool.new) journal.new.changed) (W.told world.old) (W.told world.new)) }
     ensures writes { Goes (Writing (2 * marked_count journal.old.pages (entries_of pool.old) journal.old.changed + 5)) (W.told world.old) (W.told world.new) }
     ensures state { OnOk result (journal.new.state ≡ Idle) }
     ensures changed { OnOk result (journal.new.changed ≡ replicate journal.old.pages false) }
     ensures clean { OnOk result ((i : ℕ) → is_dirty (entries_of pool.new) i ≡ false) }
     ensures crash { Goes (Publishing journal.old.pages (entries_of pool.old) journal.old.changed header.now) (W.told world.old) (W.told world.new) }
-    ensures published { OnOk result (Goes (IsPublished journal.old.pages (entries_of pool.old) journal.old.changed header.now (entries_of pool.new)) (W.told world.old) (W.told world.new)) }
+    ensures published { OnOk result (Goes (IsPublished journal.old.pages (entries_of pool.old) journal.old.changed header.now (entries_of pool.new))
+        (W.told world.old) (W.told world.new)) }
 {
     pool.drain_dirty(journal, world)?;
     journal.write_slot(world, 0, header)?;

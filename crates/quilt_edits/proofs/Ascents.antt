@@ -1,5 +1,6 @@
 -- Lists of records whose keys ascend.
-use Rattle.std.proofs.Common.{◌≡◌, ℕ, zero, suc, ◌+◌, ◌-◌, ◌<◌, ◌≤◌, true, false, List, [], ◌∷◌, ◌++◌, length, drop, get_or, refl, sym, ◌∙◌, ap, subst, ⊎_elim, ◌⊎◌, inl, inr, arith, Contains, Ordering, Less, Equal, Greater, length-append}
+use Rattle.std.proofs.Common.{◌≡◌, ℕ, zero, suc, ◌+◌, ◌-◌, ◌<◌, ◌≤◌, true, false, List, [], ◌∷◌, ◌++◌, length, drop, get_or, refl, sym, ◌∙◌, ap, subst, ⊎_elim}
+use Rattle.std.proofs.Common.{◌⊎◌, inl, inr, arith, Contains, Ordering, Less, Equal, Greater, length-append}
 use Rattle.std.specs.Ordering.{is_lt, ordering_reverse}
 use Rattle.std.specs.Cmp.{tied_itself}
 use Rattle.std.proofs.lemmas.List.Elements.{Contains-append_left, Contains-append_right, Contains-append_cases}
@@ -34,7 +35,8 @@ step_tail x xs h = λ k d lt. h (suc k) d (omega arith)
 pub ascending_from : (xs : List Record) → IsStepwise xs → is_ascending (keys_of xs) ≡ true
 ascending_from [] h = refl
 ascending_from (x ∷ []) h = refl
-ascending_from (x ∷ y ∷ xs) h = and_from (is_lt (key_cmp x.key y.key)) (is_ascending (keys_of (y ∷ xs))) (h 0 x (omega arith)) (ascending_from (y ∷ xs) (step_tail x (y ∷ xs) h))
+ascending_from (x ∷ y ∷ xs) h =
+    and_from (is_lt (key_cmp x.key y.key)) (is_ascending (keys_of (y ∷ xs))) (h 0 x (omega arith)) (ascending_from (y ∷ xs) (step_tail x (y ∷ xs) h))
 
 pub ascending_at : (xs : List Record) → is_ascending (keys_of xs) ≡ true → IsStepwise xs
 ascending_at [] h = λ k d lt. absurd (omega arith)
@@ -43,7 +45,8 @@ ascending_at (x ∷ y ∷ xs) h = λ k d lt.
     let w = and_parts (is_lt (key_cmp x.key y.key)) (is_ascending (keys_of (y ∷ xs))) h in
     step_at k d lt w.0 (ascending_at (y ∷ xs) w.1)
   where
-    step_at : (k : ℕ) (d : Record) → suc k < length (x ∷ y ∷ xs) → is_lt (key_cmp x.key y.key) ≡ true → IsStepwise (y ∷ xs) → is_lt (key_cmp (get_or (x ∷ y ∷ xs) k d).key (get_or (x ∷ y ∷ xs) (suc k) d).key) ≡ true
+    step_at : (k : ℕ) (d : Record) → suc k < length (x ∷ y ∷ xs) → is_lt (key_cmp x.key y.key) ≡ true → IsStepwise (y ∷ xs)
+        → is_lt (key_cmp (get_or (x ∷ y ∷ xs) k d).key (get_or (x ∷ y ∷ xs) (suc k) d).key) ≡ true
     step_at zero d lt first rest = first
     step_at (suc k) d lt first rest = rest k d (omega arith)
 
@@ -61,7 +64,8 @@ ascending_rises (x ∷ y ∷ xs) h =
 pub rises_ascend : (xs : List Record) → Rises by_key xs → is_ascending (keys_of xs) ≡ true
 rises_ascend [] h = refl
 rises_ascend (x ∷ []) h = refl
-rises_ascend (x ∷ y ∷ xs) h = and_from (is_lt (key_cmp x.key y.key)) (is_ascending (keys_of (y ∷ xs))) (ap is_lt (h.0 y (Contains-here y xs))) (rises_ascend (y ∷ xs) h.1)
+rises_ascend (x ∷ y ∷ xs) h =
+    and_from (is_lt (key_cmp x.key y.key)) (is_ascending (keys_of (y ∷ xs))) (ap is_lt (h.0 y (Contains-here y xs))) (rises_ascend (y ∷ xs) h.1)
 
 -- ---- what a sort gives
 -- no element stands twice in a list that is as long and has the same elements
@@ -82,22 +86,29 @@ Apart-shuffled {X} xs (y ∷ ys) h le same =
       Apart-shuffled (p ++ q) ys parts.0 (omega arith) (λ z. (
         λ m. ⊎_elim (λ e. absurd (parts.1 (subst (Contains (p ++ q)) (sym e) m))) (λ d. d)
             (Contains-cons_cases y ys z ((same z).0 (subst (λ (l : List X). Contains l z) (sym s.whole) (with_one p q y z m)))),
-        λ m. without_one p q y z (subst (λ (l : List X). Contains l z) s.whole ((same z).1 (Contains-there y ys z m))) (λ e. away (subst (Contains ys) (sym e) m)),
+        λ m. without_one p q y z (subst (λ (l : List X). Contains l z) s.whole ((same z).1 (Contains-there y ys z m)))
+            (λ e. away (subst (Contains ys) (sym e) m)),
       )),
     )
   where
     with_one : {X : Type 0} (p q : List X) (y z : X) → Contains (p ++ q) z → Contains (p ++ y ∷ q) z
-    with_one p q y z m = ⊎_elim (λ d. Contains-append_left p (y ∷ q) z d) (λ d. Contains-append_right p (y ∷ q) z (Contains-there y q z d)) (Contains-append_cases p q z m)
+    with_one p q y z m =
+        ⊎_elim (λ d. Contains-append_left p (y ∷ q) z d) (λ d. Contains-append_right p (y ∷ q) z (Contains-there y q z d)) (Contains-append_cases p q z m)
 
     without_one : {X : Type 0} (p q : List X) (y z : X) → Contains (p ++ y ∷ q) z → (y ≡ z → ⊥) → Contains (p ++ q) z
     without_one p q y z m other =
-        ⊎_elim (λ d. Contains-append_left p q z d) (λ d. ⊎_elim (λ e. absurd (other e)) (λ f. Contains-append_right p q z f) (Contains-cons_cases y q z d)) (Contains-append_cases p (y ∷ q) z m)
+        ⊎_elim (λ d. Contains-append_left p q z d)
+        (λ d. ⊎_elim (λ e. absurd (other e)) (λ f. Contains-append_right p q z f) (Contains-cons_cases y q z d)) (Contains-append_cases p (y ∷ q) z m)
 
     removed_apart : {X : Type 0} (p q : List X) (y : X) → Apart (p ++ y ∷ q) → Apart (p ++ q) × (Contains (p ++ q) y → ⊥)
     removed_apart [] q y h = (h.1, h.0)
     removed_apart (x ∷ p) q y h =
-        let r = removed_apart p q y h.1 in
-        ((λ m. h.0 (with_one p q y x m), r.0), λ m. ⊎_elim (λ e. h.0 (subst (Contains (p ++ y ∷ q)) (sym e) (Contains-append_right p (y ∷ q) y (Contains-here y q)))) (λ d. r.1 d) (Contains-cons_cases x (p ++ q) y m))
+        let r = removed_apart p q y h.1 in (
+          (λ m. h.0 (with_one p q y x m), r.0),
+          λ m.
+              ⊎_elim (λ e. h.0 (subst (Contains (p ++ y ∷ q)) (sym e) (Contains-append_right p (y ∷ q) y (Contains-here y q)))) (λ d. r.1 d)
+              (Contains-cons_cases x (p ++ q) y m),
+        )
 
 pub permuted : {X : Type 0} (xs ys : List X) → IsPermutation xs ys → SameMembers xs ys
 permuted xs ys p z = (λ m. Contains-permutation xs ys z p m, λ m. Contains-permutation ys xs z (IsPermutation-sym xs ys p) m)
@@ -144,20 +155,27 @@ abbrev pub AreAhead : List Record → List Record → ℕ → ℕ → Type 0
 AreAhead a b i j = (r : Record) → Contains a r → Contains b r → Contains (drop i a) r × Contains (drop j b) r
 
 -- a record that is left is the next, or behind it
-next_or_behind : (xs : List Record) (i : ℕ) (d : Record) → i < length xs → Rises by_key xs → (r : Record) → Contains (drop i xs) r → (get_or xs i d ≡ r) ⊎ (Contains (drop (i + 1) xs) r × (by_key (get_or xs i d) r ≡ Less))
+next_or_behind : (xs : List Record) (i : ℕ) (d : Record) → i < length xs → Rises by_key xs → (r : Record) → Contains (drop i xs) r
+    → (get_or xs i d ≡ r) ⊎ (Contains (drop (i + 1) xs) r × (by_key (get_or xs i d) r ≡ Less))
 next_or_behind xs i d lt up r c =
     let whole = drop_more xs i d lt in
     let rises = subst (Rises by_key) whole (drop_rises xs i up) in
-    ⊎_elim (λ e. inl e) (λ m. inr (m, rises.0 r m)) (Contains-cons_cases (get_or xs i d) (drop (i + 1) xs) r (subst (λ (l : List Record). Contains l r) whole c))
+    ⊎_elim (λ e. inl e) (λ m. inr (m, rises.0 r m))
+    (Contains-cons_cases (get_or xs i d) (drop (i + 1) xs) r (subst (λ (l : List Record). Contains l r) whole c))
 
-module _ (a b : List Record) (i j : ℕ) (d e : Record) (li : i < length a) (lj : j < length b) (ua : Rises by_key a) (ub : Rises by_key b) (ahead : AreAhead a b i j) where
+module _ (a b : List Record) (i j : ℕ) (d e : Record) (li : i < length a) (lj : j < length b) (ua : Rises by_key a) (ub : Rises by_key b)
+    (ahead : AreAhead a b i j) where
   pub first_passed : is_lt (key_cmp (get_or a i d).key (get_or b j e).key) ≡ true → AreAhead a b (i + 1) j
   first_passed less r ca cb =
       let w = ahead r ca cb in
       ⊎_elim
       (λ is. ⊎_elim
-      (λ js. absurd (not_self r.key (subst (λ (z : Key). is_lt (key_cmp z r.key) ≡ true) (ap (λ (s : Record). s.key) is) (ap (λ (s : Record). is_lt (key_cmp (get_or a i d).key s.key)) (sym js) ∙ less))))
-      (λ behind. absurd (not_self r.key (subst (λ (z : Key). is_lt (key_cmp z r.key) ≡ true) (ap (λ (s : Record). s.key) is) (lt_lt (get_or a i d).key (get_or b j e).key r.key less (ap is_lt behind.1)))))
+      (λ js. absurd (not_self r.key
+      (subst (λ (z : Key). is_lt (key_cmp z r.key) ≡ true) (ap (λ (s : Record). s.key) is)
+      (ap (λ (s : Record). is_lt (key_cmp (get_or a i d).key s.key)) (sym js) ∙ less))))
+      (λ behind. absurd (not_self r.key
+      (subst (λ (z : Key). is_lt (key_cmp z r.key) ≡ true) (ap (λ (s : Record). s.key) is)
+      (lt_lt (get_or a i d).key (get_or b j e).key r.key less (ap is_lt behind.1)))))
       (next_or_behind b j e lj ub r w.1))
       (λ m. (m.0, w.1))
       (next_or_behind a i d li ua r w.0)
@@ -171,7 +189,8 @@ module _ (a b : List Record) (i j : ℕ) (d e : Record) (li : i < length a) (lj 
       ⊎_elim
       (λ js. ⊎_elim
       (λ is. absurd (other (is ∙ sym js)))
-      (λ behind. absurd (both_ways (is_lt (key_cmp (get_or a i d).key (get_or b j e).key)) not_less (ap is_lt (ap (λ (s : Record). key_cmp (get_or a i d).key s.key) js ∙ behind.1))))
+      (λ behind. absurd (both_ways (is_lt (key_cmp (get_or a i d).key (get_or b j e).key)) not_less
+      (ap is_lt (ap (λ (s : Record). key_cmp (get_or a i d).key s.key) js ∙ behind.1))))
       (next_or_behind a i d li ua r w.0))
       (λ m. (w.0, m.0))
       (next_or_behind b j e lj ub r w.1)
@@ -186,8 +205,10 @@ none_ahead xs i r le c = Contains-nil r (subst (λ (l : List Record). Contains l
     all_dropped (x ∷ xs) (suc i) h = all_dropped xs i (omega arith)
 
 -- the step before a place
-pub step_before : (xs : List Record) (i : ℕ) (d : Record) → 1 ≤ i → i < length xs → IsStepwise xs → is_lt (key_cmp (get_or xs (i - 1) d).key (get_or xs i d).key) ≡ true
-step_before xs i d least lt h = let e : suc (i - 1) ≡ i = omega arith in ap (λ n. is_lt (key_cmp (get_or xs (i - 1) d).key (get_or xs n d).key)) (sym e) ∙ h (i - 1) d (omega arith)
+pub step_before : (xs : List Record) (i : ℕ) (d : Record) → 1 ≤ i → i < length xs → IsStepwise xs
+    → is_lt (key_cmp (get_or xs (i - 1) d).key (get_or xs i d).key) ≡ true
+step_before xs i d least lt h = let e : suc (i - 1) ≡ i =
+    omega arith in ap (λ n. is_lt (key_cmp (get_or xs (i - 1) d).key (get_or xs n d).key)) (sym e) ∙ h (i - 1) d (omega arith)
 
 -- one step more
 pub step_more : (xs : List Record) (i : ℕ) (e : Record) → 1 ≤ i → i < length xs → true ≡ is_lt (key_cmp (get_or xs (i - 1) e).key (get_or xs i e).key)
@@ -200,5 +221,6 @@ step_more xs i e least lt here before k d le =
     let next : suc k ≡ i = omega arith in
     let first : get_or xs k d ≡ get_or xs (i - 1) e = get_or_default xs k d e (omega arith) ∙ ap (λ n. get_or xs n e) at in
     let second : get_or xs (suc k) d ≡ get_or xs i e = get_or_default xs (suc k) d e (omega arith) ∙ ap (λ n. get_or xs n e) next in
-    ap (λ (r : Record). is_lt (key_cmp r.key (get_or xs (suc k) d).key)) first ∙ ap (λ (r : Record). is_lt (key_cmp (get_or xs (i - 1) e).key r.key)) second ∙ sym here)
+    ap (λ (r : Record). is_lt (key_cmp r.key (get_or xs (suc k) d).key)) first
+    ∙ ap (λ (r : Record). is_lt (key_cmp (get_or xs (i - 1) e).key r.key)) second ∙ sym here)
     (cases_lt (suc k) i)

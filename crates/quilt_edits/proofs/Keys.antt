@@ -29,7 +29,8 @@ le_number a b o h = ⊎_elim (λ lt. absurd (not_greater (nat_cmp a b) o (nat_gr
 pub le_layer : (a b : Key) → is_le (key_cmp a b) ≡ true → a.layer ≤ b.layer
 le_layer a b h = le_number a.layer b.layer _ h
 
-same_part : (a b : Key) → a.layer ≡ b.layer → a.part ≡ b.part → key_cmp a b ≡ ordering_then (nat_cmp a.code b.code) (ordering_then (nat_cmp a.depth b.depth) (nat_cmp a.item b.item))
+same_part : (a b : Key) → a.layer ≡ b.layer → a.part ≡ b.part
+    → key_cmp a b ≡ ordering_then (nat_cmp a.code b.code) (ordering_then (nat_cmp a.depth b.depth) (nat_cmp a.item b.item))
 same_part a b l p = then_equal _ _ (nat_same a.layer b.layer l) ∙ then_equal _ _ (nat_same a.part b.part p)
 
 pub le_code : (a b : Key) → a.layer ≡ b.layer → a.part ≡ b.part → is_le (key_cmp a b) ≡ true → a.code ≤ b.code

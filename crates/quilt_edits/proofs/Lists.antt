@@ -19,4 +19,5 @@ pub taken_there : {X : Type 0} (xs : List X) (i : ℕ) (x : X) → Contains (tak
 taken_there [] zero x c = c
 taken_there [] (suc i) x c = c
 taken_there (y ∷ ys) zero x c = absurd (Contains-nil x c)
-taken_there (y ∷ ys) (suc i) x c = ⊎_elim (λ e. subst (Contains (y ∷ ys)) e (Contains-here y ys)) (λ d. Contains-there y ys x (taken_there ys i x d)) (Contains-cons_cases y (take i ys) x c)
+taken_there (y ∷ ys) (suc i) x c =
+    ⊎_elim (λ e. subst (Contains (y ∷ ys)) e (Contains-here y ys)) (λ d. Contains-there y ys x (taken_there ys i x d)) (Contains-cons_cases y (take i ys) x c)

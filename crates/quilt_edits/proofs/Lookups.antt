@@ -31,7 +31,8 @@ pub find_at : (k : Key) (xs : List Record) (r : Record) → Rises by_key xs → 
 find_at k [] r up c e = absurd (Contains-nil r c)
 find_at k (x ∷ xs) r up c e =
     ⊎_elim
-    (λ is. cond-true (has_key k x) (Some x) (find (has_key k) xs) (ap is_eq (ap (λ z. key_cmp z k) (ap (λ (z : Record). z.key) is ∙ e) ∙ tied_itself key_total k)) ∙ ap Some is)
+    (λ is. cond-true (has_key k x) (Some x) (find (has_key k) xs)
+    (ap is_eq (ap (λ z. key_cmp z k) (ap (λ (z : Record). z.key) is ∙ e) ∙ tied_itself key_total k)) ∙ ap Some is)
     (λ d.
     let less = up.0 r d in
     cond-false (has_key k x) (Some x) (find (has_key k) xs) (ap is_eq (ap (key_cmp x.key) (sym e) ∙ less)) ∙ find_at k xs r up.1 d e)

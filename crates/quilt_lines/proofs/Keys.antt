@@ -28,7 +28,8 @@ record IsSqueezed (a b : ℕ) (o p : Ordering) : Type 0 where
   under : is_le o ≡ true
   over : is_le p ≡ true
 
-squeezed_by : (a b : ℕ) (o p c d : Ordering) → nat_cmp a b ≡ c → d ≡ ordering_reverse c → is_le (ordering_then c o) ≡ true → is_le (ordering_then d p) ≡ true → IsSqueezed a b o p
+squeezed_by : (a b : ℕ) (o p c d : Ordering) → nat_cmp a b ≡ c → d ≡ ordering_reverse c → is_le (ordering_then c o) ≡ true
+    → is_le (ordering_then d p) ≡ true → IsSqueezed a b o p
 squeezed_by a b o p Less d e f h k = let no : is_le (ordering_then Greater p) ≡ true = subst (λ z. is_le (ordering_then z p) ≡ true) f k in cc
 squeezed_by a b o p Equal d e f h k = record { same = nat_cmp-IsAntisymmetric a b e; under = h; over = subst (λ z. is_le (ordering_then z p) ≡ true) f k }
 squeezed_by a b o p Greater d e f h k = cc
@@ -48,17 +49,21 @@ between_alike low k i j h g =
 -- keys that are alike by their items
 pub by_item : (k : Key) (i j : ℕ) → key_cmp (item_key k i) (item_key k j) ≡ nat_cmp i j
 by_item k i j =
-    then_equal _ _ (nat_same k.layer k.layer refl) ∙ then_equal _ _ (nat_same k.part k.part refl) ∙ then_equal _ _ (nat_same k.code k.code refl) ∙ then_equal _ _ (nat_same k.depth k.depth refl)
+    then_equal _ _ (nat_same k.layer k.layer refl) ∙ then_equal _ _ (nat_same k.part k.part refl) ∙ then_equal _ _ (nat_same k.code k.code refl)
+    ∙ then_equal _ _ (nat_same k.depth k.depth refl)
 
 le_item : (i j : ℕ) → i ≤ j → is_le (nat_cmp i j) ≡ true
 le_item i j le = ⊎_elim (λ lt. ap is_le (nat_less i j lt)) (λ ge. ap is_le (nat_same i j (omega arith))) (cases_lt i j)
 
 -- the range of all items has each key that is alike
-pub in_range : (low : Key) (r : Record) (most : ℕ) → r.key ≡ item_key low r.key.item → r.key.item ≤ most → is_from_to (item_key low 0) (item_key low most) r ≡ true
+pub in_range : (low : Key) (r : Record) (most : ℕ) → r.key ≡ item_key low r.key.item → r.key.item ≤ most
+    → is_from_to (item_key low 0) (item_key low most) r ≡ true
 in_range low r most e le =
     let k = r.key in
-    let above : is_le (key_cmp (item_key low 0) k) ≡ true = ap (λ z. is_le (key_cmp (item_key low 0) z)) e ∙ ap is_le (by_item low 0 k.item) ∙ le_item 0 k.item (omega arith) in
-    let below : is_le (key_cmp k (item_key low most)) ≡ true = ap (λ z. is_le (key_cmp z (item_key low most))) e ∙ ap is_le (by_item low k.item most) ∙ le_item k.item most le in
+    let above : is_le (key_cmp (item_key low 0) k) ≡ true =
+    ap (λ z. is_le (key_cmp (item_key low 0) z)) e ∙ ap is_le (by_item low 0 k.item) ∙ le_item 0 k.item (omega arith) in
+    let below : is_le (key_cmp k (item_key low most)) ≡ true =
+    ap (λ z. is_le (key_cmp z (item_key low most))) e ∙ ap is_le (by_item low k.item most) ∙ le_item k.item most le in
     and_from (is_le (key_cmp (item_key low 0) k)) (is_le (key_cmp k (item_key low most))) above below
 
 pub range_alike : (low : Key) (r : Record) (most : ℕ) → is_from_to (item_key low 0) (item_key low most) r ≡ true → AreAlike low r.key

@@ -1,5 +1,6 @@
 -- What the records of a block say.
-use Rattle.std.proofs.Common.{◌≡◌, ℕ, zero, suc, ◌<◌, ◌≤◌, ◌&&◌, nat_le, leb-true, Bool, true, false, cond, List, [], ◌∷◌, map, length, get_or, All, Some, drop, refl, sym, ◌∙◌, ap, ap₂, subst, ⊎_elim, ◌⊎◌, inl, inr, arith, Contains}
+use Rattle.std.proofs.Common.{◌≡◌, ℕ, zero, suc, ◌<◌, ◌≤◌, ◌&&◌, nat_le, leb-true, Bool, true, false, cond, List, [], ◌∷◌, map, length, get_or, All, Some, drop}
+use Rattle.std.proofs.Common.{refl, sym, ◌∙◌, ap, ap₂, subst, ⊎_elim, ◌⊎◌, inl, inr, arith, Contains}
 use Rattle.std.specs.Prelude.{slice_index, ◌==◌}
 use Rattle.std.specs.FinMap as finmap
 use Rattle.std.proofs.lemmas.Bool.{and_parts, both_ways}
@@ -59,7 +60,8 @@ one_more : (n : ℕ) → 0 ≡ suc n → ⊥
 one_more n e = omega arith
 
 -- a record that is none of a list
-pub missed : (f : ℕ → Record) (records : List Record) (ids : List ℕ) (i : ℕ) (d : Record) → records ≡ map f ids → i < length records → ((id : ℕ) → get_or records i d ≡ f id → ⊥) → ⊥
+pub missed : (f : ℕ → Record) (records : List Record) (ids : List ℕ) (i : ℕ) (d : Record) → records ≡ map f ids → i < length records
+    → ((id : ℕ) → get_or records i d ≡ f id → ⊥) → ⊥
 missed f records ids i d e lt away =
     let many = length-map ids f in
     let same = ap length e in
@@ -89,7 +91,8 @@ module _ (n layer : ℕ) (b : Block) where
   facts_rows [] = record { none = λ e. refl; pairs = λ no. absurd (no refl) }
   facts_rows (m ∷ ms) = record {
     none = λ e. absurd (let l = ap length e in omega arith);
-    pairs = λ no. map_twice (fact_record n layer) (λ (e : ℕ × Seg). IsMetBy b e.0) (m ∷ ms) ∙ sym (map_twice (pair_of n layer b) (λ (e : ℕ × Seg). e.0) (m ∷ ms));
+    pairs =
+        λ no. map_twice (fact_record n layer) (λ (e : ℕ × Seg). IsMetBy b e.0) (m ∷ ms) ∙ sym (map_twice (pair_of n layer b) (λ (e : ℕ × Seg). e.0) (m ∷ ms));
   }
 
   empty_or : (ms : List (ℕ × Seg)) → (ms ≡ []) ⊎ (ms ≡ [] → ⊥)
@@ -97,7 +100,8 @@ module _ (n layer : ℕ) (b : Block) where
   empty_or (m ∷ ms) = inr (λ e. let l = ap length e in omega arith)
 
   -- the one record of a block that nothing meets
-  none_if : (segs : SegMap) (there : Bool) (records : List Record) → records ≡ none_of n layer b ∷ [] → records ≡ cond there (map (fact_record n layer) (line_facts segs b)) [] → (there ≡ true) × (meeting segs b ≡ [])
+  none_if : (segs : SegMap) (there : Bool) (records : List Record) → records ≡ none_of n layer b ∷ []
+      → records ≡ cond there (map (fact_record n layer) (line_facts segs b)) [] → (there ≡ true) × (meeting segs b ≡ [])
   none_if segs false records one is = absurd (one_zero (ap length (sym one ∙ is)))
   none_if segs true records one is = (
     refl,
@@ -112,13 +116,15 @@ module _ (n layer : ℕ) (b : Block) where
       first_pair [] e = let l = ap length e in omega arith
       first_pair (id ∷ ids) e = none_first id (sym (ap head e))
 
-  pub none_said : (segs : SegMap) (cover : BlockSet) (records : List Record) (ids : List ℕ) → records ≡ none_of n layer b ∷ [] → ids ≡ [] → records ≡ block_records n layer segs cover b → AreIdsAt segs cover b ids
+  pub none_said : (segs : SegMap) (cover : BlockSet) (records : List Record) (ids : List ℕ) → records ≡ none_of n layer b ∷ [] → ids ≡ []
+      → records ≡ block_records n layer segs cover b → AreIdsAt segs cover b ids
   none_said segs cover records ids one none is =
       let w = none_if segs (finset.contains cover b) records one is in
       record { there = w.0; are = none ∙ sym (ap ids_of w.1) }
 
   -- its records, where they are not that one
-  pairs_if : (segs : SegMap) (there : Bool) (records : List Record) → (length records ≡ 0 → ⊥) → (records ≡ none_of n layer b ∷ [] → ⊥) → records ≡ cond there (map (fact_record n layer) (line_facts segs b)) []
+  pairs_if : (segs : SegMap) (there : Bool) (records : List Record) → (length records ≡ 0 → ⊥) → (records ≡ none_of n layer b ∷ [] → ⊥)
+      → records ≡ cond there (map (fact_record n layer) (line_facts segs b)) []
       → (there ≡ true) × (records ≡ map (pair_of n layer b) (ids_of (meeting segs b)))
   pairs_if segs false records some more is = absurd (some (ap length is))
   pairs_if segs true records some more is = (
@@ -126,7 +132,8 @@ module _ (n layer : ℕ) (b : Block) where
     ⊎_elim (λ e. absurd (more (is ∙ (facts_rows (meeting segs b)).none e))) (λ no. is ∙ (facts_rows (meeting segs b)).pairs no) (empty_or (meeting segs b)),
   )
 
-  pub pairs_said : (segs : SegMap) (cover : BlockSet) (records : List Record) → (length records ≡ 0 → ⊥) → (records ≡ none_of n layer b ∷ [] → ⊥) → records ≡ block_records n layer segs cover b
+  pub pairs_said : (segs : SegMap) (cover : BlockSet) (records : List Record) → (length records ≡ 0 → ⊥) → (records ≡ none_of n layer b ∷ [] → ⊥)
+      → records ≡ block_records n layer segs cover b
       → (finset.contains cover b ≡ true) × (records ≡ map (pair_of n layer b) (ids_of (meeting segs b)))
   pairs_said segs cover records some more is = pairs_if segs (finset.contains cover b) records some more is
 
@@ -161,7 +168,8 @@ module _ (segs : SegMap) where
       (m.0.1, ap (finmap.get segs) (sym m.2) ∙ All-contains IsThere (meeting segs b) m.0 (all_there b) m.1)
 
 -- ---- blocks of one pixel
-pub one_pixel : (n layer t : ℕ) (segs : SegMap) (cover : BlockSet) (b : Block) → IsLineMap n t segs cover → IsBlock n b → b.side ≤ 1 → is_reached cover b ≡ true → finset.contains cover b ≡ false → ⊥
+pub one_pixel : (n layer t : ℕ) (segs : SegMap) (cover : BlockSet) (b : Block) → IsLineMap n t segs cover → IsBlock n b → b.side ≤ 1
+    → is_reached cover b ≡ true → finset.contains cover b ≡ false → ⊥
 one_pixel n layer t segs cover b valid hb small reached away =
     let test : Block → Bool = λ c. in_block b (record { x = c.x; y = c.y }) && nat_le c.side b.side in
     let w = any_member test (finset.items cover) reached in

@@ -48,7 +48,8 @@ module _ (rs : List Record) (layer n t : ℕ) (segs : SegMap) (cover : BlockSet)
   pub value_there : (id : ℕ) (s : Seg) → finmap.get segs id ≡ Some s → value_of (segment_key layer id) rs ≡ Some (fact_record n layer (IsSegment id s)).value
   unfolding value_of
   value_there id s h =
-      ap value_in (find_at (segment_key layer id) rs (fact_record n layer (IsSegment id s)) up (spells.each (IsSegment id s) (segment_shown n layer t segs cover id s h)) refl)
+      ap value_in (find_at (segment_key layer id) rs (fact_record n layer (IsSegment id s)) up
+      (spells.each (IsSegment id s) (segment_shown n layer t segs cover id s h)) refl)
 
   pub value_away : (id : ℕ) → finmap.get segs id ≡ None → value_of (segment_key layer id) rs ≡ None
   unfolding value_of
@@ -58,7 +59,12 @@ module _ (rs : List Record) (layer n t : ℕ) (segs : SegMap) (cover : BlockSet)
       let key : (fact_record n layer m.0).key ≡ segment_key layer id = ap (λ (z : Record). z.key) m.2 ∙ e in
       let back = sym key in
       let s = segment_alike n layer t segs cover id m.0 (shown_says n layer t segs cover m.0 m.1)
-      (record { layer = ap (λ (k : Key). k.layer) back; part = ap (λ (k : Key). k.part) back; code = ap (λ (k : Key). k.code) back; depth = ap (λ (k : Key). k.depth) back }) in
+      (record {
+        layer = ap (λ (k : Key). k.layer) back;
+        part = ap (λ (k : Key). k.part) back;
+        code = ap (λ (k : Key). k.code) back;
+        depth = ap (λ (k : Key). k.depth) back;
+      }) in
       let same : s.0.0 ≡ id = ap (λ f. (fact_record n layer f).key.item) (sym s.1) ∙ ap (λ (k : Key). k.item) key in
       none_some s.0.1 (sym h ∙ ap (finmap.get segs) (sym same) ∙ s.2)))
 
@@ -69,7 +75,8 @@ pub record IsFound (segs : SegMap) (id : ℕ) (said : Option (ℕ × Seg)) : Typ
   pub got : finmap.get segs id ≡ Some seg
   pub is_said : said ≡ Some (id, seg)
 
-module _ (told : Option (List (List ℕ))) (tree : Tree) (layer n t : ℕ) (segs : SegMap) (cover : BlockSet) (id : ℕ) (key : Key) (o : Option (List ℕ)) (is : key ≡ segment_key layer id)
+module _ (told : Option (List (List ℕ))) (tree : Tree) (layer n t : ℕ) (segs : SegMap) (cover : BlockSet) (id : ℕ) (key : Key) (o : Option (List ℕ))
+    (is : key ≡ segment_key layer id)
     (value : (rs : List Record) → IsTree told tree rs → o ≡ value_of key rs) (h : HasLines told tree layer n t segs cover) where
   value_is : o ≡ value_of (segment_key layer id) h.records
   value_is = value h.records h.is_tree ∙ ap (λ (k : Key). value_of k h.records) is
@@ -86,7 +93,8 @@ module _ (told : Option (List (List ℕ))) (tree : Tree) (layer n t : ℕ) (segs
       (none_or_some (finmap.get segs id))
 
   pub found : (v : List ℕ) → o ≡ Some v → n ≤ 12 → (said : Option (ℕ × Seg))
-      → ((i : ℕ) (s : Seg) → record { key = key; value = v } ≡ fact_record n layer (IsSegment i s) → FactFits n (IsSegment i s) → is_in_square n s ≡ true → said ≡ Some (i, s)) → IsFound segs id said
+      → ((i : ℕ) (s : Seg) → record { key = key; value = v } ≡ fact_record n layer (IsSegment i s) → FactFits n (IsSegment i s)
+      → is_in_square n s ≡ true → said ≡ Some (i, s)) → IsFound segs id said
   found v some le said reads =
       ⊎_elim
       (λ e. absurd (none_some v (sym (value_is ∙ value_away h.records layer n t segs cover rises h.spelled id e) ∙ some)))
@@ -98,5 +106,6 @@ module _ (told : Option (List (List ℕ))) (tree : Tree) (layer n t : ℕ) (segs
       record { seg = w.0; got = w.1; is_said = reads id w.0 (λ i. record { key = is i; value = same i }) laid.fits laid.inside })
       (none_or_some (finmap.get segs id))
 
-pub lines_along : (old new : Option (List (List ℕ))) (tree : Tree) (layer n t : ℕ) (segs : SegMap) (cover : BlockSet) → new ≡ old → HasLines old tree layer n t segs cover → HasLines new tree layer n t segs cover
+pub lines_along : (old new : Option (List (List ℕ))) (tree : Tree) (layer n t : ℕ) (segs : SegMap) (cover : BlockSet) → new ≡ old
+    → HasLines old tree layer n t segs cover → HasLines new tree layer n t segs cover
 lines_along old new tree layer n t segs cover e h = subst (λ (z : Option (List (List ℕ))). HasLines z tree layer n t segs cover) (sym e) h

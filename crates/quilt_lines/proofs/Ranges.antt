@@ -1,5 +1,6 @@
 -- The records of a block, and those of the segments, as a range of the tree's.
-use Rattle.std.proofs.Common.{◌≡◌, ℕ, ◌<◌, ◌≤◌, Bool, true, false, cond, List, [], ◌∷◌, map, filter, length, Option, Some, refl, sym, ◌∙◌, ap, subst, ⊎_elim, arith, Contains, Less, nat_cmp, Ordering}
+use Rattle.std.proofs.Common.{◌≡◌, ℕ, ◌<◌, ◌≤◌, Bool, true, false, cond, List, [], ◌∷◌, map, filter, length, Option, Some, refl, sym, ◌∙◌, ap, subst, ⊎_elim}
+use Rattle.std.proofs.Common.{arith, Contains, Less, nat_cmp, Ordering}
 use Rattle.std.specs.FinMap as finmap
 use Rattle.std.specs.Cmp.{nat_cmp_total}
 use Rattle.std.proofs.lemmas.Bool.{cases_Bool, both_ways}
@@ -54,7 +55,8 @@ block_facts_rise n layer segs b =
 
 segment_facts_rise : (n layer : ℕ) (segs : SegMap) → Rises (by_record n layer) (segment_facts segs)
 segment_facts_rise n layer segs =
-    Rises-map (by_first nat_cmp) (by_record n layer) (λ (e : ℕ × Seg). IsSegment e.0 e.1) (finmap.entries segs) (λ d e _ _ h. by_item (segment_key layer 0) d.0 e.0 ∙ h) (Rises-entries nat_cmp segs)
+    Rises-map (by_first nat_cmp) (by_record n layer) (λ (e : ℕ × Seg). IsSegment e.0 e.1) (finmap.entries segs)
+    (λ d e _ _ h. by_item (segment_key layer 0) d.0 e.0 ∙ h) (Rises-entries nat_cmp segs)
 
 -- a fact of the list: it is one of the layer's, and its record has a key of the range
 record IsRanged (n layer : ℕ) (segs : SegMap) (cover : BlockSet) (low : Key) (f : Fact) : Type 0 where
@@ -62,14 +64,16 @@ record IsRanged (n layer : ℕ) (segs : SegMap) (cover : BlockSet) (low : Key) (
   alike : (fact_record n layer f).key ≡ item_key low (fact_record n layer f).key.item
   small : (fact_record n layer f).key.item ≤ 4294967295
 
-module _ (rs : List Record) (layer n t : ℕ) (segs : SegMap) (cover : BlockSet) (up : Rises by_key rs) (few : length rs ≤ 4294967295) (spells : SpellsLines rs layer n t segs cover) where
+module _ (rs : List Record) (layer n t : ℕ) (segs : SegMap) (cover : BlockSet) (up : Rises by_key rs) (few : length rs ≤ 4294967295)
+    (spells : SpellsLines rs layer n t segs cover) where
   abbrev within : Key → List Record
   within low = filter (is_from_to (item_key low 0) (item_key low 4294967295)) rs
 
   within_few : (low : Key) → length (within low) ≤ 4294967295
   within_few low =
       let range = is_from_to (item_key low 0) (item_key low 4294967295) in
-      let le = Apart-le (within low) rs (Apart-rises by_key by_key_total (within low) (Rises-filter by_key range rs up)) (λ r c. (Contains-filter_from range rs r c).0) in
+      let le = Apart-le (within low) rs (Apart-rises by_key by_key_total (within low) (Rises-filter by_key range rs up))
+      (λ r c. (Contains-filter_from range rs r c).0) in
       omega arith
 
   -- the records of the range are those of the facts whose keys are in it
@@ -98,7 +102,8 @@ module _ (rs : List Record) (layer n t : ℕ) (segs : SegMap) (cover : BlockSet)
 
   module _ (le : n ≤ 12) where
     range_block_if : (b : Block) → IsBlock n b → (there : Bool) → finset.contains cover b ≡ there
-        → range_of (item_key (first_key n layer b) 0) (item_key (first_key n layer b) 4294967295) 4294967295 rs ≡ map (fact_record n layer) (cond there (line_facts segs b) [])
+        → range_of (item_key (first_key n layer b) 0) (item_key (first_key n layer b) 4294967295) 4294967295 rs
+        ≡ map (fact_record n layer) (cond there (line_facts segs b) [])
     range_block_if b hb true is =
         let m = (contains_is block_total block_same cover b).0 is in
         range_is (first_key n layer b) (line_facts segs b) refl (block_facts_rise n layer segs b)
@@ -109,14 +114,16 @@ module _ (rs : List Record) (layer n t : ℕ) (segs : SegMap) (cover : BlockSet)
     range_block_if b hb false is =
         range_is (first_key n layer b) [] refl tt
         (λ f c a.
-        absurd (both_ways (finset.contains cover b) is ((contains_is block_total block_same cover b).1 (on_alike n layer t segs cover spells.valid le b hb f (shown_says n layer t segs cover f c) a).0)))
+        absurd (both_ways (finset.contains cover b) is
+        ((contains_is block_total block_same cover b).1 (on_alike n layer t segs cover spells.valid le b hb f (shown_says n layer t segs cover f c) a).0)))
         (λ f c. absurd (Contains-nil f c))
 
     if_map : (there : Bool) (fs : List Fact) → map (fact_record n layer) (cond there fs []) ≡ cond there (map (fact_record n layer) fs) []
     if_map true fs = refl
     if_map false fs = refl
 
-    pub range_block : (b : Block) → IsBlock n b → range_of (item_key (first_key n layer b) 0) (item_key (first_key n layer b) 4294967295) 4294967295 rs ≡ block_records n layer segs cover b
+    pub range_block : (b : Block) → IsBlock n b
+        → range_of (item_key (first_key n layer b) 0) (item_key (first_key n layer b) 4294967295) 4294967295 rs ≡ block_records n layer segs cover b
     range_block b hb = range_block_if b hb (finset.contains cover b) refl ∙ if_map (finset.contains cover b) (line_facts segs b)
 
   pub range_segments : range_of (segment_key layer 0) (segment_key layer 4294967295) 4294967295 rs ≡ map (fact_record n layer) (segment_facts segs)
@@ -124,15 +131,18 @@ module _ (rs : List Record) (layer n t : ℕ) (segs : SegMap) (cover : BlockSet)
       range_is (segment_key layer 0) (segment_facts segs) refl (segment_facts_rise n layer segs)
       (λ f c a.
       let s = segment_alike n layer t segs cover 0 f (shown_says n layer t segs cover f c) a in
-      subst (Contains (segment_facts segs)) (sym s.1) (Contains-map (λ (e : ℕ × Seg). IsSegment e.0 e.1) (finmap.entries segs) s.0 (entry segs s.0.0 s.0.1 s.2)))
+      subst (Contains (segment_facts segs)) (sym s.1)
+      (Contains-map (λ (e : ℕ × Seg). IsSegment e.0 e.1) (finmap.entries segs) s.0 (entry segs s.0.0 s.0.1 s.2)))
       (λ f c.
       let m = Contains-map_from (λ (e : ℕ × Seg). IsSegment e.0 e.1) (finmap.entries segs) f c in
       let g = got segs m.0 m.1 in
       let small = small_id n layer t segs cover spells.valid m.0.0 m.0.1 g in
-      subst (IsRanged n layer segs cover (segment_key layer 0)) m.2 (record { shown = segment_shown n layer t segs cover m.0.0 m.0.1 g; alike = refl; small = omega arith }))
+      subst (IsRanged n layer segs cover (segment_key layer 0)) m.2
+      (record { shown = segment_shown n layer t segs cover m.0.0 m.0.1 g; alike = refl; small = omega arith }))
 
 -- ---- what is read of a tree that has the layer
-module _ (told : Option (List (List ℕ))) (tree : Tree) (layer n t : ℕ) (segs : SegMap) (cover : BlockSet) (low high : Key) (items : List Record) (few : tree.height ≤ 3)
+module _ (told : Option (List (List ℕ))) (tree : Tree) (layer n t : ℕ) (segs : SegMap) (cover : BlockSet) (low high : Key)
+    (items : List Record) (few : tree.height ≤ 3)
     (range : (rs : List Record) → IsTree told tree rs → items ≡ range_of low high 4294967295 rs) (h : HasLines told tree layer n t segs cover) where
   pub block_read : n ≤ 12 → (b : Block) → IsBlock n b → low ≡ first_key n layer b → high ≡ item_key low 4294967295 → items ≡ block_records n layer segs cover b
   block_read le b hb first last =

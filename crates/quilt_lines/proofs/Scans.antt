@@ -1,5 +1,6 @@
 -- The segments of a layer, read one after the other by their ids.
-use Rattle.std.proofs.Common.{◌≡◌, ℕ, zero, suc, ◌+◌, ◌<◌, ◌≤◌, true, List, [], ◌∷◌, ◌++◌, map, length, get_or, take, All, Option, Some, None, refl, sym, ◌∙◌, ap, subst, ⊎_elim, arith, Contains, Ordering, Less, nat_cmp}
+use Rattle.std.proofs.Common.{◌≡◌, ℕ, zero, suc, ◌+◌, ◌<◌, ◌≤◌, true, List, [], ◌∷◌, ◌++◌, map, length, get_or, take, All, Option, Some, None, refl, sym, ◌∙◌}
+use Rattle.std.proofs.Common.{ap, subst, ⊎_elim, arith, Contains, Ordering, Less, nat_cmp}
 use Rattle.std.specs.FinMap as finmap
 use Rattle.std.proofs.lemmas.List.{get_or-map, length-map, map-append}
 use Rattle.std.proofs.lemmas.List.Elements.{All-append, All-contains, Contains-append_right}
@@ -44,11 +45,13 @@ module _ (list : List (ℕ × Seg)) (id least : ℕ) (s : Seg) (below : All (λ 
 
 pub smallest_more : (list : List (ℕ × Seg)) (id : ℕ) (s : Seg) (k : ℕ) → All (λ e. e.0 < k) (list ++ (id, s) ∷ []) → id + 1 ≤ k
 smallest_more list id s k all =
-    let lt : id < k = All-contains (λ (e : ℕ × Seg). e.0 < k) (list ++ (id, s) ∷ []) (id, s) all (Contains-append_right list ((id, s) ∷ []) (id, s) (Contains-here (id, s) [])) in
+    let lt : id < k = All-contains (λ (e : ℕ × Seg). e.0 < k) (list ++ (id, s) ∷ []) (id, s) all
+    (Contains-append_right list ((id, s) ∷ []) (id, s) (Contains-here (id, s) [])) in
     omega arith
 
 -- ---- the next segment
-rising_take : {X : Type 0} (R : X → X → Ordering) (xs : List X) (i : ℕ) (d : X) → Rises R xs → i < length xs → (x : X) → Contains (take i xs) x → R x (get_or xs i d) ≡ Less
+rising_take : {X : Type 0} (R : X → X → Ordering) (xs : List X) (i : ℕ) (d : X) → Rises R xs → i < length xs → (x : X) → Contains (take i xs) x
+    → R x (get_or xs i d) ≡ Less
 rising_take R [] i d h lt x c = absurd (omega arith)
 rising_take R (y ∷ ys) zero d h lt x c = absurd (Contains-nil x c)
 rising_take R (y ∷ ys) (suc i) d h lt x c =
@@ -64,8 +67,10 @@ pub record IsNext (n layer : ℕ) (segs : SegMap) (records : List Record) (i : �
   pub longer : take (i + 1) (finmap.entries segs) ≡ take i (finmap.entries segs) ++ next ∷ []
   pub later : All (λ e. e.0 < next.0) (take i (finmap.entries segs))
 
-pub next_at : (n layer t : ℕ) (segs : SegMap) (cover : BlockSet) → IsLineMap n t segs cover → n ≤ 12 → (records : List Record) (i : ℕ) (d : Record) → i < length records → records ≡ map (fact_record n layer) (segment_facts segs)
-    → (said : Option (ℕ × Seg)) → ((id : ℕ) (s : Seg) → get_or records i d ≡ fact_record n layer (IsSegment id s) → FactFits n (IsSegment id s) → is_in_square n s ≡ true → said ≡ Some (id, s)) → IsNext n layer segs records i d said
+pub next_at : (n layer t : ℕ) (segs : SegMap) (cover : BlockSet) → IsLineMap n t segs cover → n ≤ 12 → (records : List Record) (i : ℕ) (d : Record)
+    → i < length records → records ≡ map (fact_record n layer) (segment_facts segs)
+    → (said : Option (ℕ × Seg)) → ((id : ℕ) (s : Seg) → get_or records i d ≡ fact_record n layer (IsSegment id s) → FactFits n (IsSegment id s)
+    → is_in_square n s ≡ true → said ≡ Some (id, s)) → IsNext n layer segs records i d said
 next_at n layer t segs cover valid le records i d lt is said reads =
     let row : ℕ × Seg → Record = λ e. fact_record n layer (IsSegment e.0 e.1) in
     let es = finmap.entries segs in
@@ -81,9 +86,12 @@ next_at n layer t segs cover valid le records i d lt is said reads =
       next = e;
       is_said = reads e.0 e.1 (ap (λ (l : List Record). get_or l i d) rows ∙ get_or-map row es i none d here) laid.fits laid.inside;
       longer = take_next es i none here;
-      later = all_from (λ (x : ℕ × Seg). x.0 < e.0) (take i es) (λ x m. nat_less_from x.0 e.0 (rising_take (by_first nat_cmp) es i none (Rises-entries nat_cmp segs) here x m));
+      later = all_from (λ (x : ℕ × Seg). x.0 < e.0) (take i es)
+          (λ x m. nat_less_from x.0 e.0 (rising_take (by_first nat_cmp) es i none (Rises-entries nat_cmp segs) here x m));
     }
 
-pub all_read : (n layer : ℕ) (segs : SegMap) (records : List Record) → records ≡ map (fact_record n layer) (segment_facts segs) → length records ≡ length (finmap.entries segs)
+pub all_read : (n layer : ℕ) (segs : SegMap) (records : List Record) → records ≡ map (fact_record n layer) (segment_facts segs)
+    → length records ≡ length (finmap.entries segs)
 all_read n layer segs records is =
-    ap length (is ∙ map_twice (fact_record n layer) (λ (e : ℕ × Seg). IsSegment e.0 e.1) (finmap.entries segs)) ∙ length-map (finmap.entries segs) (λ (e : ℕ × Seg). fact_record n layer (IsSegment e.0 e.1))
+    ap length (is ∙ map_twice (fact_record n layer) (λ (e : ℕ × Seg). IsSegment e.0 e.1) (finmap.entries segs))
+    ∙ length-map (finmap.entries segs) (λ (e : ℕ × Seg). fact_record n layer (IsSegment e.0 e.1))

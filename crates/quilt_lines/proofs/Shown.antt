@@ -1,5 +1,6 @@
 -- The facts on the segments and the blocks of a line layer, and their records.
-use Rattle.std.proofs.Common.{◌≡◌, ℕ, ◌<◌, ◌≤◌, ◌^◌, true, List, ◌++◌, map, flat_map, Some, refl, sym, ◌∙◌, ap, subst, ⊎_elim, arith, Contains, nat_lt, ltb-true}
+use Rattle.std.proofs.Common.{◌≡◌, ℕ, ◌<◌, ◌≤◌, ◌^◌, true, List, ◌++◌, map, flat_map, Some, refl, sym, ◌∙◌, ap, subst, ⊎_elim, arith, Contains, nat_lt}
+use Rattle.std.proofs.Common.{ltb-true}
 use Rattle.std.specs.FinMap as finmap
 use Rattle.std.proofs.lemmas.Bool.{and_parts}
 use Rattle.std.proofs.lemmas.List.Elements.{All-contains, Contains-append_left, Contains-append_right, Contains-append_cases}
@@ -64,7 +65,8 @@ module _ (n layer t : ℕ) (segs : SegMap) (cover : BlockSet) where
       same_there b c hb m a = block_alone n le c b (cover_block c m) hb (sym a.code) (sym a.depth)
 
       -- a fact whose key is one of the block's
-      pub on_alike : (b : Block) → IsBlock n b → (f : Fact) → IsLineFact t segs cover f → AreAlike (first_key n layer b) (fact_record n layer f).key → Contains (finset.items cover) b × IsOnBlock segs b f
+      pub on_alike : (b : Block) → IsBlock n b → (f : Fact) → IsLineFact t segs cover f → AreAlike (first_key n layer b) (fact_record n layer f).key
+          → Contains (finset.items cover) b × IsOnBlock segs b f
       on_alike b hb (IsMetBy c id) h a =
           let is = same_there b c hb h.0 (record { layer = a.layer; part = a.part; code = a.code; depth = a.depth }) in
           (subst (Contains (finset.items cover)) is h.0, (sym is, subst (λ (z : Block). IsMet segs z id) is h.1))
@@ -78,7 +80,8 @@ module _ (n layer t : ℕ) (segs : SegMap) (cover : BlockSet) where
       on_alike b hb (HoldsNoPoint c) h a = absurd h
 
     -- a fact on the block has a key of its
-    pub alike_on : (b : Block) (f : Fact) → IsOnBlock segs b f → ((fact_record n layer f).key ≡ item_key (first_key n layer b) (fact_record n layer f).key.item) × ((fact_record n layer f).key.item ≤ 4294967295)
+    pub alike_on : (b : Block) (f : Fact) → IsOnBlock segs b f
+        → ((fact_record n layer f).key ≡ item_key (first_key n layer b) (fact_record n layer f).key.item) × ((fact_record n layer f).key.item ≤ 4294967295)
     alike_on b (IsMetBy c id) h =
         let small = small_id id h.1.0 h.1.1 in
         (ap (λ (z : Block). block_key n layer 3 z id) (sym h.0), omega arith)
@@ -90,7 +93,8 @@ module _ (n layer t : ℕ) (segs : SegMap) (cover : BlockSet) where
     alike_on b (HoldsNoPoint c) h = absurd h
 
   -- a fact whose key is a segment's
-  pub segment_alike : (i : ℕ) (f : Fact) → IsLineFact t segs cover f → AreAlike (segment_key layer i) (fact_record n layer f).key → (e : ℕ × Seg) × (f ≡ IsSegment e.0 e.1) × (finmap.get segs e.0 ≡ Some e.1)
+  pub segment_alike : (i : ℕ) (f : Fact) → IsLineFact t segs cover f → AreAlike (segment_key layer i) (fact_record n layer f).key
+      → (e : ℕ × Seg) × (f ≡ IsSegment e.0 e.1) × (finmap.get segs e.0 ≡ Some e.1)
   segment_alike i (IsSegment id s) h a = ((id, s), refl, h)
   segment_alike i (IsMetBy c id) h a = absurd (let e = a.part in omega arith)
   segment_alike i (IsMetByNone c) h a = absurd (let e = a.part in omega arith)
@@ -104,7 +108,8 @@ pub record IsLaid (n id : ℕ) (s : Seg) : Type 0 where
   pub fits : FactFits n (IsSegment id s)
   pub inside : is_in_square n s ≡ true
 
-pub segment_laid : (n layer t : ℕ) (segs : SegMap) (cover : BlockSet) → IsLineMap n t segs cover → n ≤ 12 → (id : ℕ) (s : Seg) → finmap.get segs id ≡ Some s → IsLaid n id s
+pub segment_laid : (n layer t : ℕ) (segs : SegMap) (cover : BlockSet) → IsLineMap n t segs cover → n ≤ 12 → (id : ℕ) (s : Seg)
+    → finmap.get segs id ≡ Some s → IsLaid n id s
 segment_laid n layer t segs cover valid le id s h =
     let inside = All-contains (λ (e : ℕ × Seg). is_in_square n e.1 ≡ true) (finmap.entries segs) (id, s) valid.inside (entry segs id s h) in
     let ends = and_parts (is_pixel n (record { x = s.x1; y = s.y1 })) (is_pixel n (record { x = s.x2; y = s.y2 })) inside in

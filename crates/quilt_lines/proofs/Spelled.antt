@@ -14,7 +14,8 @@ use Rattle.quilt_lines.specs.Laws.{LinesLaw}
 use Rattle.quilt_lines.proofs.Shown.{shown_says, no_kind}
 
 -- the record of a fact but that of the kind does not depend on the layer's name
-nameless : (n layer t : ℕ) (segs : SegMap) (cover : BlockSet) (name : List ℕ) (f : Fact) → Contains (shown_facts segs cover) f → record_of n 0 name layer f ≡ fact_record n layer f
+nameless : (n layer t : ℕ) (segs : SegMap) (cover : BlockSet) (name : List ℕ) (f : Fact) → Contains (shown_facts segs cover) f
+    → record_of n 0 name layer f ≡ fact_record n layer f
 nameless n layer t segs cover name (IsSegment id s) c = refl
 nameless n layer t segs cover name (IsMetBy b id) c = refl
 nameless n layer t segs cover name (IsMetByNone b) c = refl
@@ -39,8 +40,10 @@ lines_law form n numbers rs layers name t segs cover le s at told tree is =
             let number : number_in r.key ≡ k = cond-false (eqb r.key.layer 0) r.key.item r.key.layer (ne_eqb r.key.layer 0 (λ z. absurd (omega arith))) ∙ e in
             let m = layer_record_from n name k (Lines t segs cover) r (l.only r c number) in
             ⊎_elim
-            (λ kind. let zero' : 0 ≡ k = ap (λ (f : Fact). (record_of n 0 name k f).key.layer) kind ∙ ap (λ (q : Record). q.key.layer) m.2 ∙ e in absurd (omega arith))
-            (λ d. subst (Contains (map (fact_record n k) others)) (sym (nameless n k t segs cover name m.0 d) ∙ m.2) (Contains-map (fact_record n k) others m.0 d))
+            (λ kind. let zero' : 0 ≡ k = ap (λ (f : Fact). (record_of n 0 name k f).key.layer) kind ∙ ap (λ (q : Record). q.key.layer) m.2 ∙ e in
+            absurd (omega arith))
+            (λ d. subst (Contains (map (fact_record n k) others)) (sym (nameless n k t segs cover name m.0 d) ∙ m.2)
+            (Contains-map (fact_record n k) others m.0 d))
             (Contains-cons_cases (IsOfKind 3 t) others m.0 m.1);
       };
     }

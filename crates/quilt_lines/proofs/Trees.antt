@@ -37,7 +37,8 @@ row_few S most one [] rs used row = none (length rs) most (ap length row.0)
     none r m e = omega arith
 row_few S most one (c ∷ cs) rs used row =
     let all : length rs ≡ length row.first + length row.rest = ap length row.records ∙ length-append row.first row.rest in
-    one_more (suc (length cs) * most) (length cs * most) (length rs) (length row.first) (length row.rest) most (suc-mul (length cs) most) all (one c row.first row.first_used row.here)
+    one_more (suc (length cs) * most) (length cs * most) (length rs) (length row.first) (length row.rest) most (suc-mul (length cs) most) all
+    (one c row.first row.first_used row.here)
     (row_few S most one cs row.rest row.rest_used row.after)
   where
     one_more : (n m r s t l : ℕ) → n ≡ m + l → r ≡ s + t → s ≤ l → t ≤ m → r ≤ n
@@ -46,7 +47,8 @@ row_few S most one (c ∷ cs) rs used row =
 leaf_few : (pages : List (List ℕ)) (is_root : Bool) (at : ℕ × Bounds) (rs : List Record) (used : List ℕ) → Subtree pages 1 is_root at rs used → length rs ≤ 144
 leaf_few pages is_root at rs used s = (leaf_list (slice_index_or pages at.0 []) rs s.page).most
 
-second_few : (pages : List (List ℕ)) (is_root : Bool) (at : ℕ × Bounds) (rs : List Record) (used : List ℕ) → Subtree pages 2 is_root at rs used → length rs ≤ 36576
+second_few : (pages : List (List ℕ)) (is_root : Bool) (at : ℕ × Bounds) (rs : List Record) (used : List ℕ)
+    → Subtree pages 2 is_root at rs used → length rs ≤ 36576
 second_few pages is_root at rs used s =
     let row = row_few (Subtree pages 1 false) 144 (leaf_few pages false) (bounded s.inner.children s.inner.keys at.1) rs s.under s.children in
     let places = length_bounded s.inner.children s.inner.keys at.1 in
@@ -56,7 +58,8 @@ second_few pages is_root at rs used s =
     few : (p c r : ℕ) → p ≡ c → c ≤ 254 → r ≤ p * 144 → r ≤ 36576
     few p c r e h g = omega arith
 
-third_few : (pages : List (List ℕ)) (is_root : Bool) (at : ℕ × Bounds) (rs : List Record) (used : List ℕ) → Subtree pages 3 is_root at rs used → length rs ≤ 9290304
+third_few : (pages : List (List ℕ)) (is_root : Bool) (at : ℕ × Bounds) (rs : List Record) (used : List ℕ)
+    → Subtree pages 3 is_root at rs used → length rs ≤ 9290304
 third_few pages is_root at rs used s =
     let row = row_few (Subtree pages 2 false) 36576 (second_few pages false) (bounded s.inner.children s.inner.keys at.1) rs s.under s.children in
     let places = length_bounded s.inner.children s.inner.keys at.1 in
@@ -66,14 +69,16 @@ third_few pages is_root at rs used s =
     few : (p c r : ℕ) → p ≡ c → c ≤ 254 → r ≤ p * 36576 → r ≤ 9290304
     few p c r e h g = omega arith
 
-subtree_few : (pages : List (List ℕ)) (height : ℕ) (is_root : Bool) (at : ℕ × Bounds) (rs : List Record) (used : List ℕ) → height ≤ 3 → Subtree pages height is_root at rs used → length rs ≤ 4294967295
+subtree_few : (pages : List (List ℕ)) (height : ℕ) (is_root : Bool) (at : ℕ × Bounds) (rs : List Record) (used : List ℕ) → height ≤ 3
+    → Subtree pages height is_root at rs used → length rs ≤ 4294967295
 subtree_few pages zero is_root at rs used le s = absurd s
 subtree_few pages (suc zero) is_root at rs used le s = let few = leaf_few pages is_root at rs used s in omega arith
 subtree_few pages (suc (suc zero)) is_root at rs used le s = let few = second_few pages is_root at rs used s in omega arith
 subtree_few pages (suc (suc (suc zero))) is_root at rs used le s = let few = third_few pages is_root at rs used s in omega arith
 subtree_few pages (suc (suc (suc (suc h)))) is_root at rs used le s = absurd (omega arith)
 
-few_at : (told : Option (List (List ℕ))) (t : Tree) (rs : List Record) (height : ℕ) → t.height ≡ height → t.height ≤ 3 → IsTree told t rs → length rs ≤ 4294967295
+few_at : (told : Option (List (List ℕ))) (t : Tree) (rs : List Record) (height : ℕ) → t.height ≡ height → t.height ≤ 3
+    → IsTree told t rs → length rs ≤ 4294967295
 few_at told t rs zero e le is = let none = ap length (no_records told t rs e is) in omega arith
 few_at told t rs (suc h) e le is =
     let s = (tree_spells told t rs (let some : 1 ≤ t.height = omega arith in λ z. omega arith) is).0 in

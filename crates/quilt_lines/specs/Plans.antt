@@ -27,4 +27,5 @@ one_block n = finset.insert finset.empty (whole n)
 pub record IsLineBeginning (n number t : ℕ) (r : Record) : Type 0 where
   pub leads : (name : List ℕ) (first : Record) → ((k c : ℕ) → first ≡ record_of k c name number (IsOfKind 3 t))
       → LeadsTo n name number None (Some (Lines t finmap.empty (one_block n))) [] (first ∷ r ∷ [])
-  pub ascend : (name : List ℕ) (first : Record) → ((k c : ℕ) → first ≡ record_of k c name number (IsOfKind 3 t)) → is_ascending (keys_of (first ∷ r ∷ [])) ≡ true
+  pub ascend : (name : List ℕ) (first : Record) → ((k c : ℕ) → first ≡ record_of k c name number (IsOfKind 3 t))
+      → is_ascending (keys_of (first ∷ r ∷ [])) ≡ true

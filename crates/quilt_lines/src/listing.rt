@@ -1,4 +1,5 @@
-ghost use Rattle.std.specs.Prelude.{◌≡◌, ℕ, ◌+◌, ◌*◌, ◌<◌, ◌≤◌, true, Some, None, IfOk, IfErr, IfSome, IsErrOf, List, [], ◌∷◌, map, length, vec_len, MatchOption, unwrap_or, false};
+ghost use Rattle.std.specs.Prelude.{◌≡◌, ℕ, ◌+◌, ◌*◌, ◌<◌, ◌≤◌, true, Some, None, IfOk, IfErr, IfSome, IsErrOf, List, [], ◌∷◌, map, length, vec_len};
+ghost use Rattle.std.specs.Prelude.{MatchOption, unwrap_or, false};
 ghost use Rattle.std.specs.Option.{option_map};
 ghost use Rattle.quilt_types.specs.Sets as finset;
 ghost use Rattle.quilt_types.specs.declared.stop.Stop.TheVariants.{Device};
@@ -35,8 +36,11 @@ impl LineView {
     ) -> Result<Option<Vec<u32>>, Stop>
         requires rooted { IsRooted (S.size store.old) self.now.tree }
         requires block { IsBlock self.now.level b }
-        ensures ids { IfOk result (λ o. (t : ℕ) (segs : SegMap) (cover : BlockSet) → HasLines (S.told store.old) self.now.tree self.now.layer self.now.level t segs cover → MatchOption o (finset.contains cover b ≡ false) (λ ids. AreIdsAt segs cover b ids.items)) }
-        ensures sound { IfErr result (λ e. (t : ℕ) (segs : SegMap) (cover : BlockSet) → HasLines (S.told store.old) self.now.tree self.now.layer self.now.level t segs cover → IsSound e) }
+        ensures ids { IfOk result (λ o. (t : ℕ) (segs : SegMap) (cover : BlockSet)
+            → HasLines (S.told store.old) self.now.tree self.now.layer self.now.level t segs cover
+            → MatchOption o (finset.contains cover b ≡ false) (λ ids. AreIdsAt segs cover b ids.items)) }
+        ensures sound { IfErr result (λ e. (t : ℕ) (segs : SegMap) (cover : BlockSet)
+            → HasLines (S.told store.old) self.now.tree self.now.layer self.now.level t segs cover → IsSound e) }
         ensures cause { HasStopCause (S.faults store.old) (S.faults store.new) result }
         ensures size { S.size store.new ≡ S.size store.old }
         ensures told { S.told store.new ≡ S.told store.old }
@@ -64,9 +68,11 @@ impl LineView {
         b: Block,
     ) -> Result<Option<Vec<u32>>, Stop>
         requires { IsBlock self.now.level b }
-        ensures ids { IfOk result (λ o. (segs : SegMap) (cover : BlockSet) → records.now ≡ block_records self.now.level self.now.layer segs cover b → MatchOption o (finset.contains cover b ≡ false) (λ ids. AreIdsAt segs cover b ids.items)) }
+        ensures ids { IfOk result (λ o. (segs : SegMap) (cover : BlockSet) → records.now ≡ block_records self.now.level self.now.layer segs cover b
+            → MatchOption o (finset.contains cover b ≡ false) (λ ids. AreIdsAt segs cover b ids.items)) }
         ensures few { IfOk result (λ o. length records.now ≤ 1 + unwrap_or (option_map vec_len o) 0) }
-        ensures sound { IfErr result (λ e. (segs : SegMap) (cover : BlockSet) → records.now ≡ block_records self.now.level self.now.layer segs cover b → IsSound e) }
+        ensures sound { IfErr result (λ e. (segs : SegMap) (cover : BlockSet)
+            → records.now ≡ block_records self.now.level self.now.layer segs cover b → IsSound e) }
         ensures no_fault { IsErrOf result Device → ⊥ }
     {
         if records.is_empty() {

@@ -1,4 +1,5 @@
-ghost use Rattle.std.specs.Prelude.{◌≡◌, ℕ, ◌+◌, ◌*◌, ◌<◌, ◌≤◌, ◌&&◌, true, All, Contains, Some, IfOk, IfErr, IfSome, IsErrOf, OnOk, [], ◌∷◌, ◌++◌, map, length};
+ghost use Rattle.std.specs.Prelude.{◌≡◌, ℕ, ◌+◌, ◌*◌, ◌<◌, ◌≤◌, ◌&&◌, true, All, Contains, Some, IfOk, IfErr, IfSome, IsErrOf, OnOk, [], ◌∷◌, ◌++◌, map};
+ghost use Rattle.std.specs.Prelude.{length};
 ghost use Rattle.std.specs.FinMap as finmap;
 ghost use Rattle.std.specs.Ordering.{nat_cmp};
 ghost use Rattle.quilt_types.specs.declared.plane.Seg.{Seg as AnySeg};
@@ -33,7 +34,8 @@ pub fn segment<S: PageStore>(
     requires rooted { IsRooted (S.size store.old) tree.now }
     requires layer { 1 ≤ layer }
     requires level { (1 ≤ level) × (level ≤ 12) }
-    ensures segment { IfOk result (λ o. (t : ℕ) (segs : SegMap) (cover : BlockSet) → HasLines (S.told store.old) tree.now layer level t segs cover → o ≡ finmap.get segs id) }
+    ensures segment { IfOk result (λ o. (t : ℕ) (segs : SegMap) (cover : BlockSet) → HasLines (S.told store.old) tree.now layer level t segs cover
+        → o ≡ finmap.get segs id) }
     ensures inside { IfOk result (λ o. IfSome o (λ s. is_seg_in_square level s ≡ true)) }
     ensures sound { IfErr result (λ e. (t : ℕ) (segs : SegMap) (cover : BlockSet) → HasLines (S.told store.old) tree.now layer level t segs cover → IsSound e) }
     ensures cause { HasStopCause (S.faults store.old) (S.faults store.new) result }
@@ -63,7 +65,8 @@ pub fn scan<S: PageStore>(
     requires rooted { IsRooted (S.size store.old) tree.now }
     requires layer { 1 ≤ layer }
     requires level { (1 ≤ level) × (level ≤ 12) }
-    ensures segments { IfOk result (λ list. (t : ℕ) (segs : SegMap) (cover : BlockSet) → HasLines (S.told store.old) tree.now layer level t segs cover → list ≡ finmap.entries segs) }
+    ensures segments { IfOk result (λ list. (t : ℕ) (segs : SegMap) (cover : BlockSet)
+        → HasLines (S.told store.old) tree.now layer level t segs cover → list ≡ finmap.entries segs) }
     ensures inside { IfOk result (λ list. All (λ e. is_seg_in_square level e.1 ≡ true) list) }
     ensures order { IfOk result (λ list. Rises nat_cmp (ids_of list)) }
     ensures sound { IfErr result (λ e. (t : ℕ) (segs : SegMap) (cover : BlockSet) → HasLines (S.told store.old) tree.now layer level t segs cover → IsSound e) }
@@ -113,9 +116,11 @@ impl LineView {
     /// The segment of an id. It reads at most 3 pages.
     pub(crate) fn segment<S: PageStore>(&self, store: &mut S, id: u32) -> Result<Option<Seg>, Stop>
         requires rooted { IsRooted (S.size store.old) self.now.tree }
-        ensures segment { IfOk result (λ o. (t : ℕ) (segs : SegMap) (cover : BlockSet) → HasLines (S.told store.old) self.now.tree self.now.layer self.now.level t segs cover → o ≡ finmap.get segs id) }
+        ensures segment { IfOk result (λ o. (t : ℕ) (segs : SegMap) (cover : BlockSet)
+            → HasLines (S.told store.old) self.now.tree self.now.layer self.now.level t segs cover → o ≡ finmap.get segs id) }
         ensures inside { IfOk result (λ o. IfSome o (λ s. is_seg_in_square self.now.level s ≡ true)) }
-        ensures sound { IfErr result (λ e. (t : ℕ) (segs : SegMap) (cover : BlockSet) → HasLines (S.told store.old) self.now.tree self.now.layer self.now.level t segs cover → IsSound e) }
+        ensures sound { IfErr result (λ e. (t : ℕ) (segs : SegMap) (cover : BlockSet)
+            → HasLines (S.told store.old) self.now.tree self.now.layer self.now.level t segs cover → IsSound e) }
         ensures cause { HasStopCause (S.faults store.old) (S.faults store.new) result }
         ensures size { S.size store.new ≡ S.size store.old }
         ensures told { S.told store.new ≡ S.told store.old }
@@ -138,7 +143,8 @@ impl LineView {
     /// The id and the segment that a record says, where both its ends are pixels of the level.
     fn segment_said(&self, r: &Record) -> Option<(u32, Seg)>
         ensures inside { IfSome result (λ v. is_seg_in_square self.now.level v.1 ≡ true) }
-        ensures one { (id : ℕ) (s : AnySeg) → r.now ≡ fact_record self.now.level self.now.layer (IsSegment id s) → FactFits self.now.level (IsSegment id s) → is_seg_in_square self.now.level s ≡ true → result ≡ Some (id, s) }
+        ensures one { (id : ℕ) (s : AnySeg) → r.now ≡ fact_record self.now.level self.now.layer (IsSegment id s)
+            → FactFits self.now.level (IsSegment id s) → is_seg_in_square self.now.level s ≡ true → result ≡ Some (id, s) }
     {
         match read_segment(r) {
             Some((id, s)) if is_in_square(s, self.level) => Some((id, s)),
@@ -155,9 +161,12 @@ impl LineView {
     ) -> Result<SegList, Stop>
         requires rooted { IsRooted (S.size store.old) self.now.tree }
         ensures ids { IfOk result (λ list. ids_of list ≡ ids.now) }
-        ensures found { IfOk result (λ list. (t : ℕ) (segs : SegMap) (cover : BlockSet) → HasLines (S.told store.old) self.now.tree self.now.layer self.now.level t segs cover → All (λ e. finmap.get segs e.0 ≡ Some e.1) list) }
+        ensures found { IfOk result (λ list. (t : ℕ) (segs : SegMap) (cover : BlockSet)
+            → HasLines (S.told store.old) self.now.tree self.now.layer self.now.level t segs cover → All (λ e. finmap.get segs e.0 ≡ Some e.1) list) }
         ensures inside { IfOk result (λ list. All (λ e. is_seg_in_square self.now.level e.1 ≡ true) list) }
-        ensures sound { IfErr result (λ e. (t : ℕ) (segs : SegMap) (cover : BlockSet) → HasLines (S.told store.old) self.now.tree self.now.layer self.now.level t segs cover → ((id : ℕ) → Contains ids.now id → (s : AnySeg) × (finmap.get segs id ≡ Some s)) → IsSound e) }
+        ensures sound { IfErr result (λ e. (t : ℕ) (segs : SegMap) (cover : BlockSet)
+            → HasLines (S.told store.old) self.now.tree self.now.layer self.now.level t segs cover
+            → ((id : ℕ) → Contains ids.now id → (s : AnySeg) × (finmap.get segs id ≡ Some s)) → IsSound e) }
         ensures cause { HasStopCause (S.faults store.old) (S.faults store.new) result }
         ensures size { S.size store.new ≡ S.size store.old }
         ensures told { S.told store.new ≡ S.told store.old }
@@ -184,8 +193,11 @@ impl LineView {
         id: u32,
     ) -> Result<(), Stop>
         requires rooted { IsRooted (S.size store.old) self.now.tree }
-        ensures added { OnOk result ((s : AnySeg) × (list.new ≡ list.old ++ (id, s) ∷ []) × (is_seg_in_square self.now.level s ≡ true) × ((t : ℕ) (segs : SegMap) (cover : BlockSet) → HasLines (S.told store.old) self.now.tree self.now.layer self.now.level t segs cover → finmap.get segs id ≡ Some s)) }
-        ensures sound { IfErr result (λ e. (t : ℕ) (segs : SegMap) (cover : BlockSet) → HasLines (S.told store.old) self.now.tree self.now.layer self.now.level t segs cover → (s : AnySeg) → finmap.get segs id ≡ Some s → IsSound e) }
+        ensures added { OnOk result ((s : AnySeg) × (list.new ≡ list.old ++ (id, s) ∷ []) × (is_seg_in_square self.now.level s ≡ true)
+            × ((t : ℕ) (segs : SegMap) (cover : BlockSet) → HasLines (S.told store.old) self.now.tree self.now.layer self.now.level t segs cover
+            → finmap.get segs id ≡ Some s)) }
+        ensures sound { IfErr result (λ e. (t : ℕ) (segs : SegMap) (cover : BlockSet)
+            → HasLines (S.told store.old) self.now.tree self.now.layer self.now.level t segs cover → (s : AnySeg) → finmap.get segs id ≡ Some s → IsSound e) }
         ensures cause { HasStopCause (S.faults store.old) (S.faults store.new) result }
         ensures size { S.size store.new ≡ S.size store.old }
         ensures told { S.told store.new ≡ S.told store.old }
@@ -206,10 +218,12 @@ impl LineView {
 
     /// The segments that records say, one each, by their ids.
     fn all_segments(&self, alloc: Global, records: &[Record]) -> Result<SegList, Stop>
-        ensures segments { IfOk result (λ list. (t : ℕ) (segs : SegMap) (cover : BlockSet) → IsLineMap self.now.level t segs cover → records.now ≡ map (fact_record self.now.level self.now.layer) (segment_facts segs) → list ≡ finmap.entries segs) }
+        ensures segments { IfOk result (λ list. (t : ℕ) (segs : SegMap) (cover : BlockSet) → IsLineMap self.now.level t segs cover
+            → records.now ≡ map (fact_record self.now.level self.now.layer) (segment_facts segs) → list ≡ finmap.entries segs) }
         ensures inside { IfOk result (λ list. All (λ e. is_seg_in_square self.now.level e.1 ≡ true) list) }
         ensures order { IfOk result (λ list. Rises nat_cmp (ids_of list)) }
-        ensures sound { IfErr result (λ e. (t : ℕ) (segs : SegMap) (cover : BlockSet) → IsLineMap self.now.level t segs cover → records.now ≡ map (fact_record self.now.level self.now.layer) (segment_facts segs) → IsSound e) }
+        ensures sound { IfErr result (λ e. (t : ℕ) (segs : SegMap) (cover : BlockSet) → IsLineMap self.now.level t segs cover
+            → records.now ≡ map (fact_record self.now.level self.now.layer) (segment_facts segs) → IsSound e) }
         ensures no_fault { IsErrOf result Device → ⊥ }
     {
         let mut list = SegList::new(alloc);

@@ -1,5 +1,6 @@
 -- The blocks of the square: which they are, which pixels they hold, and how they nest.
-use Rattle.std.proofs.Common.{◌≡◌, ℕ, ◌+◌, ◌-◌, ◌%◌, ◌<◌, ◌≤◌, Bool, true, ◌&&◌, nat_le, nat_lt, eqb, map, filter, sym, ap, subst, arith, Contains, eqb-true, eq-eqb, leb-true, ltb-true, le-leb, lt-ltb}
+use Rattle.std.proofs.Common.{◌≡◌, ℕ, ◌+◌, ◌-◌, ◌%◌, ◌<◌, ◌≤◌, Bool, true, ◌&&◌, nat_le, nat_lt, eqb, map, filter, sym, ap, subst, arith, Contains, eqb-true}
+use Rattle.std.proofs.Common.{eq-eqb, leb-true, ltb-true, le-leb, lt-ltb}
 use Rattle.std.proofs.Math.Nat.{pow-le-pow_right}
 use Rattle.std.proofs.lemmas.Bool.{and_parts, and_from}
 use Rattle.quilt_types.specs.declared.plane.Pixel.{Pixel}

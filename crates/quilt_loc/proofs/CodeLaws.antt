@@ -1,5 +1,6 @@
 -- Locational codes: which numbers they are, that they tell pixels apart, and the codes of a block; the depth of a block.
-use Rattle.std.proofs.Common.{◌≡◌, ℕ, zero, suc, ◌+◌, ◌-◌, ◌*◌, ◌/◌, ◌^◌, ◌<◌, Bool, true, List, [], ◌∷◌, Some, find, ⊎_elim, refl, sym, ◌∙◌, ap, ap₂, arith, Contains, pow-suc, eqb, eqb-true, eq-eqb, div-one, true≢false}
+use Rattle.std.proofs.Common.{◌≡◌, ℕ, zero, suc, ◌+◌, ◌-◌, ◌*◌, ◌/◌, ◌^◌, ◌<◌, Bool, true, List, [], ◌∷◌, Some, find, ⊎_elim, refl, sym, ◌∙◌, ap, ap₂, arith}
+use Rattle.std.proofs.Common.{Contains, pow-suc, eqb, eqb-true, eq-eqb, div-one, true≢false}
 use Rattle.std.specs.Option.{unwrap_or}
 use Rattle.std.proofs.lemmas.Bool.{cases_lt, cases_Bool, cond-true, cond-false}
 use Rattle.std.proofs.lemmas.Nat.{pow_below, shr-shr}
@@ -51,7 +52,8 @@ interleaved_low (suc k) x y a b =
     let wy : 2 ^ suc k * b ≡ 2 * n = ap (λ z. z * b) p ∙ omega arith in
     let hx : (x + 2 ^ suc k * a) / 2 ≡ x / 2 + m = omega arith in
     let hy : (y + 2 ^ suc k * b) / 2 ≡ y / 2 + n = omega arith in
-    let ih : interleaved k ((x + 2 ^ suc k * a) / 2) ((y + 2 ^ suc k * b) / 2) ≡ interleaved k (x / 2) (y / 2) = ap₂ (interleaved k) hx hy ∙ interleaved_low k (x / 2) (y / 2) a b in
+    let ih : interleaved k ((x + 2 ^ suc k * a) / 2) ((y + 2 ^ suc k * b) / 2) ≡ interleaved k (x / 2) (y / 2) =
+    ap₂ (interleaved k) hx hy ∙ interleaved_low k (x / 2) (y / 2) a b in
     omega arith
 
 -- the last j pairs of bits, and the others
@@ -68,12 +70,16 @@ interleaved_split (suc j) k x y =
     let step : (n : ℕ) → n / 2 / 2 ^ j ≡ n / 2 ^ suc j = λ n. shr-shr n 1 j ∙ ap (λ i. n / 2 ^ i) (let o : 1 + j ≡ suc j = omega arith in o) in
     let r : interleaved k (x / 2 / 2 ^ j) (y / 2 / 2 ^ j) ≡ interleaved k (x / 2 ^ suc j) (y / 2 ^ suc j) = ap₂ (interleaved k) (step x) (step y) in
     let p = pow-suc 4 j in
-    ap (λ i. interleaved i x y) e ∙ (let all : interleaved (j + k) (x / 2) (y / 2) ≡ interleaved j (x / 2) (y / 2) + 4 ^ j * interleaved k (x / 2 ^ suc j) (y / 2 ^ suc j) = ih ∙ ap (λ z. interleaved j (x / 2) (y / 2) + 4 ^ j * z) r in
-    let m : 4 ^ suc j * interleaved k (x / 2 ^ suc j) (y / 2 ^ suc j) ≡ 4 * (4 ^ j * interleaved k (x / 2 ^ suc j) (y / 2 ^ suc j)) = ap (λ w. w * interleaved k (x / 2 ^ suc j) (y / 2 ^ suc j)) p ∙ omega arith in
+    ap (λ i. interleaved i x y) e
+    ∙ (let all : interleaved (j + k) (x / 2) (y / 2) ≡ interleaved j (x / 2) (y / 2) + 4 ^ j * interleaved k (x / 2 ^ suc j) (y / 2 ^ suc j) =
+    ih ∙ ap (λ z. interleaved j (x / 2) (y / 2) + 4 ^ j * z) r in
+    let m : 4 ^ suc j * interleaved k (x / 2 ^ suc j) (y / 2 ^ suc j) ≡ 4 * (4 ^ j * interleaved k (x / 2 ^ suc j) (y / 2 ^ suc j)) =
+    ap (λ w. w * interleaved k (x / 2 ^ suc j) (y / 2 ^ suc j)) p ∙ omega arith in
     omega arith)
 
 -- the first of a list that passes, where only it does
-pub find_only : {X : Type 0} (p : X → Bool) (xs : List X) (x : X) → Contains xs x → p x ≡ true → ((y : X) → Contains xs y → p y ≡ true → y ≡ x) → find p xs ≡ Some x
+pub find_only : {X : Type 0} (p : X → Bool) (xs : List X) (x : X) → Contains xs x → p x ≡ true
+    → ((y : X) → Contains xs y → p y ≡ true → y ≡ x) → find p xs ≡ Some x
 find_only p [] x c h one = absurd (Contains-nil x c)
 find_only p (y ∷ ys) x c h one =
     ⊎_elim
@@ -84,7 +90,8 @@ find_only p (y ∷ ys) x c h one =
     (cases_Bool (p y))
 
 pub pow_same : (i j : ℕ) → 2 ^ i ≡ 2 ^ j → i ≡ j
-pow_same i j e = ⊎_elim (λ lt. let w = pow_below i j lt in absurd (omega arith)) (λ ge. ⊎_elim (λ lt. let w = pow_below j i lt in absurd (omega arith)) (λ le. omega arith) (cases_lt j i)) (cases_lt i j)
+pow_same i j e = ⊎_elim (λ lt. let w = pow_below i j lt in absurd (omega arith))
+    (λ ge. ⊎_elim (λ lt. let w = pow_below j i lt in absurd (omega arith)) (λ le. omega arith) (cases_lt j i)) (cases_lt i j)
 
 pub depth_is : (n : ℕ) (b : Block) (h : IsBlock n b) → depth n b ≡ n - h.level
 depth_is n b h =

@@ -66,7 +66,8 @@ gathered_three k c =
     let last = ap (gathered k) e in
     omega arith
 
-pub gathered_parts : (c : ℕ) → gathered 12 c ≡ gathered 3 (c % 64) + 8 * gathered 3 (c / 64 % 64) + 64 * gathered 3 (c / 4096 % 64) + 512 * gathered 3 (c / 262144 % 64)
+pub gathered_parts : (c : ℕ)
+    → gathered 12 c ≡ gathered 3 (c % 64) + 8 * gathered 3 (c / 64 % 64) + 64 * gathered 3 (c / 4096 % 64) + 512 * gathered 3 (c / 262144 % 64)
 unfolding gathered
 gathered_parts c =
     let a = gathered_three 9 c in

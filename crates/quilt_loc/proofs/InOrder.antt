@@ -26,7 +26,8 @@ unfolding pixels
 Rises-pixels n =
     let at : ℕ → ℕ → Pixel = λ y x. record { x = x; y = y } in
     Rises-flat_map nat_cmp pixel_cmp (λ y. map (at y) (below (side n))) (below (side n)) (Rises-range 0 (side n))
-    (λ y c. Rises-map nat_cmp pixel_cmp (at y) (below (side n)) (λ a b _ _ e. then_second (nat_cmp y y) (nat_cmp a b) (same_number y) ∙ e) (Rises-range 0 (side n)))
+    (λ y c. Rises-map nat_cmp pixel_cmp (at y) (below (side n)) (λ a b _ _ e. then_second (nat_cmp y y) (nat_cmp a b) (same_number y) ∙ e)
+    (Rises-range 0 (side n)))
     (λ a b e u v c d.
     let cu = Contains-map_from (at a) (below (side n)) u c in
     let cv = Contains-map_from (at b) (below (side n)) v d in
@@ -40,7 +41,8 @@ block_of p s = record { x = p.x; y = p.y; side = s }
 -- of pixels in order the blocks at them are in order
 corners : (p q : Pixel) → pixel_cmp p q ≡ Less → (a b : Block) → a.x ≡ p.x → a.y ≡ p.y → b.x ≡ q.x → b.y ≡ q.y → block_cmp a b ≡ Less
 corners p q e a b ax ay bx by' =
-    ap₂ (λ u v. ordering_then u (ordering_then v (nat_cmp a.side b.side))) (ap₂ nat_cmp ay by') (ap₂ nat_cmp ax bx) ∙ longer (nat_cmp p.y q.y) (nat_cmp p.x q.x) (nat_cmp a.side b.side) e
+    ap₂ (λ u v. ordering_then u (ordering_then v (nat_cmp a.side b.side))) (ap₂ nat_cmp ay by') (ap₂ nat_cmp ax bx)
+    ∙ longer (nat_cmp p.y q.y) (nat_cmp p.x q.x) (nat_cmp a.side b.side) e
   where
     longer : (u v w : Ordering) → ordering_then u v ≡ Less → ordering_then u (ordering_then v w) ≡ Less
     longer Less v w e = refl
@@ -54,7 +56,8 @@ fits_at p s = eqb (p.x % s) 0 && eqb (p.y % s) 0
 
 three_way : (b : Block) (s t : ℕ) → nat_cmp s t ≡ Less → ordering_then (nat_cmp b.y b.y) (ordering_then (nat_cmp b.x b.x) (nat_cmp s t)) ≡ Less
 three_way b s t e =
-    then_second (nat_cmp b.y b.y) (ordering_then (nat_cmp b.x b.x) (nat_cmp s t)) (same_number b.y) ∙ then_second (nat_cmp b.x b.x) (nat_cmp s t) (same_number b.x) ∙ e
+    then_second (nat_cmp b.y b.y) (ordering_then (nat_cmp b.x b.x) (nat_cmp s t)) (same_number b.y)
+    ∙ then_second (nat_cmp b.x b.x) (nat_cmp s t) (same_number b.x) ∙ e
 
 Rises-blocks_at : (n : ℕ) (p : Pixel) → Rises block_cmp (blocks_at n p)
 unfolding blocks_at block_of

@@ -1,5 +1,6 @@
 -- The codes of a block are one interval, and the quarters cut it in four.
-use Rattle.std.proofs.Common.{◌≡◌, ℕ, zero, suc, ◌+◌, ◌-◌, ◌*◌, ◌/◌, ◌%◌, ◌^◌, ◌<◌, ◌≤◌, [], ◌∷◌, ⊎_elim, refl, sym, ◌∙◌, ap, ap₂, subst, arith, Less, pow_pos, pow-suc}
+use Rattle.std.proofs.Common.{◌≡◌, ℕ, zero, suc, ◌+◌, ◌-◌, ◌*◌, ◌/◌, ◌%◌, ◌^◌, ◌<◌, ◌≤◌, [], ◌∷◌, ⊎_elim, refl, sym, ◌∙◌, ap, ap₂, subst, arith, Less, pow_pos}
+use Rattle.std.proofs.Common.{pow-suc}
 use Rattle.std.proofs.Math.Nat.{mul-le-mul_left}
 use Rattle.std.proofs.lemmas.Bool.{cases_lt}
 use Rattle.std.proofs.lemmas.Nat.{div-add-mod', div-mul-add, mod-mul-add, mod_below, div_below, pow-add}
@@ -101,7 +102,8 @@ code_to_is n b h =
     let e : b.side * b.side ≡ 2 ^ h.level * 2 ^ h.level = ap (λ z. z * z) h.size in
     omega arith
 
-pub code_from_is : (n : ℕ) (b : Block) (h : IsBlock n b) → n ≤ 12 → code_from b ≡ 4 ^ h.level * interleaved (12 - h.level) (b.x / 2 ^ h.level) (b.y / 2 ^ h.level)
+pub code_from_is : (n : ℕ) (b : Block) (h : IsBlock n b) → n ≤ 12
+    → code_from b ≡ 4 ^ h.level * interleaved (12 - h.level) (b.x / 2 ^ h.level) (b.y / 2 ^ h.level)
 code_from_is n b h le =
     let l = h.low in
     corner_code h.level b.x b.y (omega arith) (ap (λ z. b.x % z) (sym h.size) ∙ h.on_x) (ap (λ z. b.y % z) (sym h.size) ∙ h.on_y)
@@ -123,7 +125,8 @@ code_held n b p h le held =
     (omega arith, omega arith)
 
 -- and no others are
-pub held_code : (n : ℕ) (b : Block) (p : Pixel) → IsBlock n b → n ≤ 12 → b.x < 4096 → b.y < 4096 → p.x < 4096 → p.y < 4096 → code_from b ≤ code_at p → code_at p < code_to b → Holds b p
+pub held_code : (n : ℕ) (b : Block) (p : Pixel) → IsBlock n b → n ≤ 12 → b.x < 4096 → b.y < 4096 → p.x < 4096 → p.y < 4096 → code_from b ≤ code_at p
+    → code_at p < code_to b → Holds b p
 held_code n b p h le bx by' hx hy low high =
     let k = h.level in
     let lev = h.low in
@@ -133,14 +136,17 @@ held_code n b p h le bx by' hx hy low high =
     let from = code_from_is n b h le in
     let s = code_split k p.x p.y small in
     let few = interleaved_below k p.x p.y in
-    let same = same_quotient (4 ^ k) (interleaved (12 - k) (b.x / 2 ^ k) (b.y / 2 ^ k)) (interleaved (12 - k) (p.x / 2 ^ k) (p.y / 2 ^ k)) (interleaved k p.x p.y) few (omega arith) (omega arith) in
-    let e = interleaved_apart (12 - k) (p.x / 2 ^ k) (p.y / 2 ^ k) (b.x / 2 ^ k) (b.y / 2 ^ k) (few_steps k p.x small hx) (few_steps k p.y small hy) (few_steps k b.x small bx) (few_steps k b.y small by') same in
+    let same = same_quotient (4 ^ k) (interleaved (12 - k) (b.x / 2 ^ k) (b.y / 2 ^ k)) (interleaved (12 - k) (p.x / 2 ^ k) (p.y / 2 ^ k))
+    (interleaved k p.x p.y) few (omega arith) (omega arith) in
+    let e = interleaved_apart (12 - k) (p.x / 2 ^ k) (p.y / 2 ^ k) (b.x / 2 ^ k) (b.y / 2 ^ k) (few_steps k p.x small hx) (few_steps k p.y small hy)
+    (few_steps k b.x small bx) (few_steps k b.y small by') same in
     let x = step_same k b.x p.x (ap (λ z. b.x % z) (sym h.size) ∙ h.on_x) e.0 in
     let y = step_same k b.y p.y (ap (λ z. b.y % z) (sym h.size) ∙ h.on_y) e.1 in
     record { left = x.0; right = omega arith; top = y.0; bottom = omega arith }
 
 -- the code of the next pair of bits
-half_step : (k a : ℕ) → a % 2 ^ suc k ≡ 0 → (a / 2 ^ k ≡ 2 * (a / 2 ^ suc k) + 0) × ((a + 2 ^ k) / 2 ^ k ≡ 2 * (a / 2 ^ suc k) + 1) × (a % 2 ^ k ≡ 0) × ((a + 2 ^ k) % 2 ^ k ≡ 0)
+half_step : (k a : ℕ) → a % 2 ^ suc k ≡ 0 → (a / 2 ^ k ≡ 2 * (a / 2 ^ suc k) + 0) × ((a + 2 ^ k) / 2 ^ k ≡ 2 * (a / 2 ^ suc k) + 1) × (a % 2 ^ k ≡ 0)
+    × ((a + 2 ^ k) % 2 ^ k ≡ 0)
 half_step k a on =
     let d = div-add-mod' a (2 ^ suc k) in
     let p = pow-suc 2 k in
@@ -173,7 +179,8 @@ pub record HasQuarterCodes (b : Block) (s : ℕ) : Type 0 where
   pub across : code (b.x + s) (b.y + s) ≡ code_from b + 3 * (s * s)
   pub all : code_to b ≡ code_from b + 4 * (s * s)
 
-quarter_code : (k x y u v a b : ℕ) → suc k ≤ 12 → x % 2 ^ k ≡ 0 → y % 2 ^ k ≡ 0 → x / 2 ^ k ≡ 2 * u + a → y / 2 ^ k ≡ 2 * v + b → a < 2 → b < 2 → code x y ≡ (a + 2 * b) * 4 ^ k + 4 ^ suc k * interleaved (12 - suc k) u v
+quarter_code : (k x y u v a b : ℕ) → suc k ≤ 12 → x % 2 ^ k ≡ 0 → y % 2 ^ k ≡ 0 → x / 2 ^ k ≡ 2 * u + a → y / 2 ^ k ≡ 2 * v + b → a < 2 → b < 2
+    → code x y ≡ (a + 2 * b) * 4 ^ k + 4 ^ suc k * interleaved (12 - suc k) u v
 quarter_code k x y u v a b le ox oy ex ey la lb =
     let j = 12 - suc k in
     let e : 12 - k ≡ suc j = omega arith in
@@ -217,7 +224,8 @@ Rises-quarters n b h le wide =
     let s = 2 ^ v.0 in
     let pos = pow_pos v.0 in
     let square = square_pos s pos in
-    subst (λ t. let q = λ (x y : ℕ). let r : Block = record { x = x; y = y; side = t } in r in Rises code_cmp (q b.x b.y ∷ q (b.x + t) b.y ∷ q b.x (b.y + t) ∷ q (b.x + t) (b.y + t) ∷ [])) (sym half)
+    subst (λ t. let q = λ (x y : ℕ). let r : Block = record { x = x; y = y; side = t } in r in
+    Rises code_cmp (q b.x b.y ∷ q (b.x + t) b.y ∷ q b.x (b.y + t) ∷ q (b.x + t) (b.y + t) ∷ [])) (sym half)
     (let q = λ (x y : ℕ). let r : Block = record { x = x; y = y; side = s } in r in
     let x = b.x in
     let y = b.y in
@@ -234,7 +242,8 @@ Rises-quarters n b h le wide =
             (less (q (x + s) y) (q x (y + s)) (omega arith), (less (q (x + s) y) (q (x + s) (y + s)) (omega arith), tt))) c,
         (
           λ z c. All-contains (λ (z : Block). code_cmp (q x (y + s)) z ≡ Less) (q (x + s) (y + s) ∷ []) z
-              (All-from_recursion (λ (z : Block). code_cmp (q x (y + s)) z ≡ Less) (q (x + s) (y + s) ∷ []) (less (q x (y + s)) (q (x + s) (y + s)) (omega arith), tt)) c,
+              (All-from_recursion (λ (z : Block). code_cmp (q x (y + s)) z ≡ Less) (q (x + s) (y + s) ∷ [])
+              (less (q x (y + s)) (q (x + s) (y + s)) (omega arith), tt)) c,
           (λ z c. absurd (Contains-nil z c), tt),
         ),
       ),

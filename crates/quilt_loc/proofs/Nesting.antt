@@ -72,7 +72,8 @@ IsBlock-parent_of n b h lt =
     let e = h.size in
     let size : s ≡ 2 ^ suc h.level = omega (arith, pow-suc 2 h.level) in
     let l = h.low in
-    let room : h.level < n = ⊎_elim (λ q. q) (λ q. let same : n ≡ h.level = omega arith in let c : 2 ^ n ≡ 2 ^ h.level = ap (λ k. 2 ^ k) same in absurd (omega arith)) (cases_lt h.level n) in
+    let room : h.level < n = ⊎_elim (λ q. q) (λ q. let same : n ≡ h.level = omega arith in let c : 2 ^ n ≡ 2 ^ h.level = ap (λ k. 2 ^ k) same in
+    absurd (omega arith)) (cases_lt h.level n) in
     let lx = start_low s b.x ps in
     let ly = start_low s b.y ps in
     let ix = h.in_x in
@@ -104,14 +105,16 @@ twice_le n a b ha hb lt =
     let lev = level_le n a b ha hb (omega arith) in
     let ea = ha.size in
     let eb = hb.size in
-    let differ : ha.level < hb.level = ⊎_elim (λ q. q) (λ q. let same : hb.level ≡ ha.level = omega arith in let c : 2 ^ hb.level ≡ 2 ^ ha.level = ap (λ k. 2 ^ k) same in absurd (omega arith)) (cases_lt ha.level hb.level) in
+    let differ : ha.level < hb.level = ⊎_elim (λ q. q) (λ q. let same : hb.level ≡ ha.level = omega arith in let c : 2 ^ hb.level ≡ 2 ^ ha.level =
+    ap (λ k. 2 ^ k) same in absurd (omega arith)) (cases_lt ha.level hb.level) in
     let s = pow-suc 2 ha.level in
     ⊎_elim (λ q. let w = pow_below (suc ha.level) hb.level q in omega arith)
     (λ q. let same : hb.level ≡ suc ha.level = omega arith in let c : 2 ^ hb.level ≡ 2 ^ suc ha.level = ap (λ k. 2 ^ k) same in omega arith)
     (cases_lt (suc ha.level) hb.level)
 
 -- a larger block that shares a pixel holds the parent
-pub parent_within : (n : ℕ) (a b : Block) (p : Pixel) → IsBlock n a → IsBlock n b → a.side < b.side → b.side ≤ 2 ^ n → Holds a p → Holds b p → Within (parent_of a) b
+pub parent_within : (n : ℕ) (a b : Block) (p : Pixel) → IsBlock n a → IsBlock n b → a.side < b.side → b.side ≤ 2 ^ n → Holds a p
+    → Holds b p → Within (parent_of a) b
 parent_within n a b p ha hb lt top ia ib =
     let w = nested n a b p ha hb (omega arith) ia ib in
     let hp = IsBlock-parent_of n a ha (omega arith) in

@@ -1,5 +1,6 @@
 -- The four quarters of a block, and the whole square.
-use Rattle.std.proofs.Common.{◌≡◌, ℕ, zero, suc, ◌+◌, ◌-◌, ◌*◌, ◌/◌, ◌%◌, ◌^◌, ◌<◌, ◌≤◌, ◌⊎◌, [], ◌∷◌, get_or, inl, inr, ⊎_elim, refl, sym, ◌∙◌, ap, subst, arith, Contains, pow_pos, pow-suc, mod-eq_of_lt}
+use Rattle.std.proofs.Common.{◌≡◌, ℕ, zero, suc, ◌+◌, ◌-◌, ◌*◌, ◌/◌, ◌%◌, ◌^◌, ◌<◌, ◌≤◌, ◌⊎◌, [], ◌∷◌, get_or, inl, inr, ⊎_elim, refl, sym, ◌∙◌, ap, subst}
+use Rattle.std.proofs.Common.{arith, Contains, pow_pos, pow-suc, mod-eq_of_lt}
 use Rattle.std.proofs.lemmas.Bool.{cases_lt}
 use Rattle.std.proofs.lemmas.Nat.{mod-mul-add, div-add-mod'}
 use Rattle.quilt_types.specs.declared.plane.Pixel.{Pixel}
@@ -28,7 +29,8 @@ pub Within-whole : (n : ℕ) (b : Block) → IsBlock n b → Within b (whole n)
 Within-whole n b h =
     let ix = h.in_x in
     let iy = h.in_y in
-    nested n b (whole n) (corner b) h (IsBlock-whole n) (side_le n b h) (Holds-corner n b h) (record { left = omega arith; right = omega arith; top = omega arith; bottom = omega arith })
+    nested n b (whole n) (corner b) h (IsBlock-whole n) (side_le n b h) (Holds-corner n b h)
+    (record { left = omega arith; right = omega arith; top = omega arith; bottom = omega arith })
 
 pub Holds-whole : (n : ℕ) (p : Pixel) → p.x < 2 ^ n → p.y < 2 ^ n → Holds (whole n) p
 Holds-whole n p hx hy = record { left = omega arith; right = omega arith; top = omega arith; bottom = omega arith }
@@ -75,7 +77,8 @@ halved n b h lt = at h.level h.low h.size
     at zero le e = absurd (omega arith)
     at (suc k) le e = let s = pow-suc 2 k in (k, le, e, omega arith)
 
-placed : (n : ℕ) (b : Block) (h : IsBlock n b) (x y s : ℕ) → (k : ℕ) → suc k ≤ n → b.side ≡ 2 ^ suc k → s ≡ 2 ^ k → x % s ≡ 0 → y % s ≡ 0 → b.x ≤ x → x + s ≤ b.x + b.side → b.y ≤ y → y + s ≤ b.y + b.side → let r : Block = record { x = x; y = y; side = s } in IsQuarter n b r
+placed : (n : ℕ) (b : Block) (h : IsBlock n b) (x y s : ℕ) → (k : ℕ) → suc k ≤ n → b.side ≡ 2 ^ suc k → s ≡ 2 ^ k → x % s ≡ 0 → y % s ≡ 0 → b.x ≤ x
+    → x + s ≤ b.x + b.side → b.y ≤ y → y + s ≤ b.y + b.side → let r : Block = record { x = x; y = y; side = s } in IsQuarter n b r
 placed n b h x y s k le e f ox oy a1 a2 a3 a4 =
     let w = Within-whole n b h in
     let w1 = w.right in
@@ -103,7 +106,8 @@ quarters_are n b r h lt c =
     ⊎_elim (λ is. subst (IsQuarter n b) is (placed n b h b.x b.y s k le e f ox.0 oy.0 (omega arith) (omega arith) (omega arith) (omega arith)))
     (λ c1. ⊎_elim (λ is. subst (IsQuarter n b) is (placed n b h (b.x + s) b.y s k le e f ox.1 oy.0 (omega arith) (omega arith) (omega arith) (omega arith)))
     (λ c2. ⊎_elim (λ is. subst (IsQuarter n b) is (placed n b h b.x (b.y + s) s k le e f ox.0 oy.1 (omega arith) (omega arith) (omega arith) (omega arith)))
-    (λ c3. ⊎_elim (λ is. subst (IsQuarter n b) is (placed n b h (b.x + s) (b.y + s) s k le e f ox.1 oy.1 (omega arith) (omega arith) (omega arith) (omega arith)))
+    (λ c3. ⊎_elim (λ is. subst (IsQuarter n b) is
+    (placed n b h (b.x + s) (b.y + s) s k le e f ox.1 oy.1 (omega arith) (omega arith) (omega arith) (omega arith)))
     (λ c4. absurd (Contains-nil r c4))
     (Contains-cons_cases (one (b.x + s) (b.y + s)) [] r c3))
     (Contains-cons_cases (one b.x (b.y + s)) (one (b.x + s) (b.y + s) ∷ []) r c2))
@@ -125,11 +129,14 @@ is_quarter n b r h i e w =
     let wr = w.right in
     let wt = w.top in
     let wb = w.bottom in
-    let cx = front_or_middle b.x s r.x (omega arith) (let t : 2 * s ≡ b.side = omega arith in ap (λ t. b.x % t) t ∙ h.on_x) (ap (λ t. r.x % t) half ∙ i.on_x) (omega arith) (omega arith) in
-    let cy = front_or_middle b.y s r.y (omega arith) (let t : 2 * s ≡ b.side = omega arith in ap (λ t. b.y % t) t ∙ h.on_y) (ap (λ t. r.y % t) half ∙ i.on_y) (omega arith) (omega arith) in
+    let cx = front_or_middle b.x s r.x (omega arith) (let t : 2 * s ≡ b.side = omega arith in ap (λ t. b.x % t) t ∙ h.on_x)
+    (ap (λ t. r.x % t) half ∙ i.on_x) (omega arith) (omega arith) in
+    let cy = front_or_middle b.y s r.y (omega arith) (let t : 2 * s ≡ b.side = omega arith in ap (λ t. b.y % t) t ∙ h.on_y)
+    (ap (λ t. r.y % t) half ∙ i.on_y) (omega arith) (omega arith) in
     let one = λ (x y : ℕ). let q : Block = record { x = x; y = y; side = s } in q in
     let same = λ (x y : ℕ) (ex : r.x ≡ x) (ey : r.y ≡ y). let p : one x y ≡ r = λ j. record { x = sym ex j; y = sym ey j; side = half j } in p in
-    let at = λ (k : ℕ) (lt : k < 4) (q : Block) (is : get_or (quarters_of b) k q ≡ q) (e : q ≡ r). let c : Contains (quarters_of b) q = (k, lt, is) in subst (Contains (quarters_of b)) e c in
+    let at = λ (k : ℕ) (lt : k < 4) (q : Block) (is : get_or (quarters_of b) k q ≡ q) (e : q ≡ r). let c : Contains (quarters_of b) q =
+    (k, lt, is) in subst (Contains (quarters_of b)) e c in
     ⊎_elim
     (λ ex. ⊎_elim
     (λ ey. at 0 (omega arith) (one b.x b.y) refl (same b.x b.y ex ey))

@@ -1,11 +1,13 @@
 -- Lists that strictly rise in an order: two with the same elements are one.
-use Rattle.std.proofs.Common.{◌≡◌, ℕ, zero, suc, ◌+◌, ◌<◌, Bool, true, false, cond, ◌↔◌, List, [], ◌∷◌, ◌++◌, map, filter, flat_map, refl, sym, ◌∙◌, ap₂, subst, arith, Contains, Ordering, Less, Equal, nat_cmp, ⊎_elim}
+use Rattle.std.proofs.Common.{◌≡◌, ℕ, zero, suc, ◌+◌, ◌<◌, Bool, true, false, cond, ◌↔◌, List, [], ◌∷◌, ◌++◌, map, filter, flat_map, refl, sym, ◌∙◌, ap₂, subst}
+use Rattle.std.proofs.Common.{arith, Contains, Ordering, Less, Equal, nat_cmp, ⊎_elim}
 use Rattle.std.specs.List.{range_with_len}
 use Rattle.std.specs.Cmp.{IsTotalOrder, tied_itself}
 use Rattle.std.proofs.lemmas.Bool.Decides.{nat_tests}
 use Rattle.std.proofs.lemmas.List.Elements.{Contains-append_cases}
 use Rattle.quilt_loc.specs.Codes.{Rises}
-use Rattle.quilt_loc.proofs.Members.{Contains-nil, Contains-here, Contains-there, Contains-cons_cases, Contains-filter_from, Contains-map_from, Contains-flat_map_from, Contains-range_from}
+use Rattle.quilt_loc.proofs.Members.{Contains-nil, Contains-here, Contains-there, Contains-cons_cases, Contains-filter_from, Contains-map_from}
+use Rattle.quilt_loc.proofs.Members.{Contains-flat_map_from, Contains-range_from}
 
 Less≢Equal : Less ≡ Equal → ⊥
 Less≢Equal e = cc
@@ -43,27 +45,33 @@ module _ {X : Type 0} (R : X → X → Ordering) where
         (Contains-cons_cases x xs y ((w y).1 (Contains-here y ys))))
         (Contains-cons_cases y ys x ((w x).0 (Contains-here x xs))) in
         ap₂ ◌∷◌ (sym first) (same_rising xs ys h.1 k.1 (λ z. (
-          λ c. ⊎_elim (λ e. absurd (irreflexive x (h.0 x (subst (Contains xs) (sym (sym first ∙ e)) c)))) (λ d. d) (Contains-cons_cases y ys z ((w z).0 (Contains-there x xs z c))),
-          λ c. ⊎_elim (λ e. absurd (irreflexive y (k.0 y (subst (Contains ys) (sym (first ∙ e)) c)))) (λ d. d) (Contains-cons_cases x xs z ((w z).1 (Contains-there y ys z c))),
+          λ c. ⊎_elim (λ e. absurd (irreflexive x (h.0 x (subst (Contains xs) (sym (sym first ∙ e)) c)))) (λ d. d)
+              (Contains-cons_cases y ys z ((w z).0 (Contains-there x xs z c))),
+          λ c. ⊎_elim (λ e. absurd (irreflexive y (k.0 y (subst (Contains ys) (sym (first ∙ e)) c)))) (λ d. d)
+              (Contains-cons_cases x xs z ((w z).1 (Contains-there y ys z c))),
         )))
 
 -- through a function that keeps the order
 module _ {X Y : Type 0} (R : X → X → Ordering) (S : Y → Y → Ordering) where
-  pub Rises-map : (f : X → Y) (xs : List X) → ((a b : X) → Contains xs a → Contains xs b → R a b ≡ Less → S (f a) (f b) ≡ Less) → Rises R xs → Rises S (map f xs)
+  pub Rises-map : (f : X → Y) (xs : List X) → ((a b : X) → Contains xs a → Contains xs b → R a b ≡ Less → S (f a) (f b) ≡ Less)
+      → Rises R xs → Rises S (map f xs)
   Rises-map f [] keeps h = tt
   Rises-map f (x ∷ xs) keeps h = (
-    λ y c. let r = Contains-map_from f xs y c in subst (λ (z : Y). S (f x) z ≡ Less) r.2 (keeps x r.0 (Contains-here x xs) (Contains-there x xs r.0 r.1) (h.0 r.0 r.1)),
+    λ y c. let r =
+        Contains-map_from f xs y c in subst (λ (z : Y). S (f x) z ≡ Less) r.2 (keeps x r.0 (Contains-here x xs) (Contains-there x xs r.0 r.1) (h.0 r.0 r.1)),
     Rises-map f xs (λ a b c d. keeps a b (Contains-there x xs a c) (Contains-there x xs b d)) h.1,
   )
 
-  pub Rises-flat_map_at : (f : X → List Y) (xs : List X) → Rises R xs → ((x : X) → Contains xs x → Rises S (f x)) → ((a b : X) → Contains xs a → Contains xs b → R a b ≡ Less → (u v : Y) → Contains (f a) u → Contains (f b) v → S u v ≡ Less) → Rises S (flat_map f xs)
+  pub Rises-flat_map_at : (f : X → List Y) (xs : List X) → Rises R xs → ((x : X) → Contains xs x → Rises S (f x))
+      → ((a b : X) → Contains xs a → Contains xs b → R a b ≡ Less → (u v : Y) → Contains (f a) u → Contains (f b) v → S u v ≡ Less) → Rises S (flat_map f xs)
   Rises-flat_map_at f [] h each apart = tt
   Rises-flat_map_at f (x ∷ xs) h each apart =
       Rises-append S (f x) (flat_map f xs) (each x (Contains-here x xs))
       (Rises-flat_map_at f xs h.1 (λ z c. each z (Contains-there x xs z c)) (λ a b c d. apart a b (Contains-there x xs a c) (Contains-there x xs b d)))
       (λ u v c d. let r = Contains-flat_map_from f xs v d in apart x r.0 (Contains-here x xs) (Contains-there x xs r.0 r.1) (h.0 r.0 r.1) u v c r.2)
 
-  pub Rises-flat_map : (f : X → List Y) (xs : List X) → Rises R xs → ((x : X) → Contains xs x → Rises S (f x)) → ((a b : X) → R a b ≡ Less → (u v : Y) → Contains (f a) u → Contains (f b) v → S u v ≡ Less) → Rises S (flat_map f xs)
+  pub Rises-flat_map : (f : X → List Y) (xs : List X) → Rises R xs → ((x : X) → Contains xs x → Rises S (f x))
+      → ((a b : X) → R a b ≡ Less → (u v : Y) → Contains (f a) u → Contains (f b) v → S u v ≡ Less) → Rises S (flat_map f xs)
   Rises-flat_map f xs h each apart = Rises-flat_map_at f xs h each (λ a b _ _ e. apart a b e)
 
 pub nat_less : (a b : ℕ) → a < b → nat_cmp a b ≡ Less

@@ -1,5 +1,6 @@
 -- The pixels of the square, their places, and the grid that has given colours.
-use Rattle.std.proofs.Common.{◌≡◌, ℕ, zero, suc, ◌+◌, ◌*◌, ◌<◌, List, map, length, get_or, sym, ◌∙◌, ap, arith, Contains, flat_map, zero-mul, suc-mul, length-append, get_or-append-add, pow_pos, ext_get_or}
+use Rattle.std.proofs.Common.{◌≡◌, ℕ, zero, suc, ◌+◌, ◌*◌, ◌<◌, List, map, length, get_or, sym, ◌∙◌, ap, arith, Contains, flat_map, zero-mul, suc-mul}
+use Rattle.std.proofs.Common.{length-append, get_or-append-add, pow_pos, ext_get_or}
 use Rattle.std.specs.List.{range_with_len}
 use Rattle.std.proofs.lemmas.List.{get_or-map, get_or_append_left, length-map}
 use Rattle.std.proofs.lemmas.List.FromFn.{length-map-range_with_len, get_or-map-range_with_len}
@@ -95,7 +96,8 @@ get_or-grid_of n f k lt =
     sym (colour_at-pixel_at n (grid_of n f) k)
     ∙ colour_at-grid_of n f (pixel_at n k) (mod_below k (side n) (pow_pos n)) (div_below k (side n) (side n) (pow_pos n) lt)
 
-pub grid_of-from : (n : ℕ) (f : Pixel → ℕ) (g : List ℕ) → length g ≡ side n * side n → ((k : ℕ) → k < side n * side n → get_or g k 0 ≡ f (pixel_at n k)) → g ≡ grid_of n f
+pub grid_of-from : (n : ℕ) (f : Pixel → ℕ) (g : List ℕ) → length g ≡ side n * side n
+    → ((k : ℕ) → k < side n * side n → get_or g k 0 ≡ f (pixel_at n k)) → g ≡ grid_of n f
 grid_of-from n f g long each =
     ext_get_or 0 g (grid_of n f) (long ∙ sym (length-grid_of n f)) (λ k lt. each k (omega arith) ∙ sym (get_or-grid_of n f k (omega arith)))
 

@@ -1,5 +1,6 @@
 -- Sums over the pixels of the square, leaf by leaf.
-use Rattle.std.proofs.Common.{◌≡◌, ℕ, ◌+◌, ◌*◌, ◌≤◌, Bool, true, false, cond, List, [], ◌∷◌, length, take, map, filter, sum_by, Contains, Equal, Less, Ordering, sym, ◌∙◌, ap, ap₂, arith, eqb}
+use Rattle.std.proofs.Common.{◌≡◌, ℕ, ◌+◌, ◌*◌, ◌≤◌, Bool, true, false, cond, List, [], ◌∷◌, length, take, map, filter, sum_by, Contains, Equal, Less, Ordering}
+use Rattle.std.proofs.Common.{sym, ◌∙◌, ap, ap₂, arith, eqb}
 use Rattle.std.specs.Cmp.{tied_itself}
 use Rattle.std.specs.Ordering.{nat_cmp}
 use Rattle.std.proofs.Math.Nat.{mul-le-mul}
@@ -64,7 +65,8 @@ Rises-pixels_of b =
 -- the pixels of the square that a block holds are its pixels
 pixels_held : (n : ℕ) (b : Block) → IsBlock n b → filter (in_block b) (pixels n) ≡ pixels_of b
 pixels_held n b hb =
-    same_rising pixel_cmp pixel_total (filter (in_block b) (pixels n)) (pixels_of b) (Rises-filter pixel_cmp (in_block b) (pixels n) (Rises-pixels n)) (Rises-pixels_of b)
+    same_rising pixel_cmp pixel_total (filter (in_block b) (pixels n)) (pixels_of b)
+    (Rises-filter pixel_cmp (in_block b) (pixels n) (Rises-pixels n)) (Rises-pixels_of b)
     (λ p. (
       λ c. let r = Contains-filter_from (in_block b) (pixels n) p c in Contains-pixels_of b p (Holds-from b p r.1),
       λ c.

@@ -29,7 +29,8 @@ pub below_only : (f : ℕ → ℕ) (n k : ℕ) → k < n → ((i : ℕ) → i < 
 below_only f zero k lt e = absurd (omega arith)
 below_only f (suc n) k lt e =
     ⊎_elim
-    (λ l. below_suc f n ∙ ap₂ (λ a b. a + b) (below_only f n k l (λ i li q. e i (omega arith) q)) (e n (omega arith) (λ q. omega arith)) ∙ (let z : f k + 0 ≡ f k = omega arith in z))
+    (λ l. below_suc f n ∙ ap₂ (λ a b. a + b) (below_only f n k l (λ i li q. e i (omega arith) q)) (e n (omega arith) (λ q. omega arith))
+    ∙ (let z : f k + 0 ≡ f k = omega arith in z))
     (λ ge.
     let is : n ≡ k = omega arith in
     let none : sum_by f (below n) ≡ n * 0 = below_constant f 0 n (λ i li. e i (omega arith) (λ q. omega arith)) in
@@ -37,7 +38,8 @@ below_only f (suc n) k lt e =
 
 -- the first a numbers and those after them
 pub below_split : (f : ℕ → ℕ) (a b : ℕ) → sum_by f (below (a + b)) ≡ sum_by f (below a) + sum_by (λ t. f (a + t)) (below b)
-below_split f a zero = let e : a + 0 ≡ a = omega arith in ap (λ z. sum_by f (below z)) e ∙ (let z : sum_by f (below a) ≡ sum_by f (below a) + 0 = omega arith in z)
+below_split f a zero = let e : a + 0 ≡ a =
+    omega arith in ap (λ z. sum_by f (below z)) e ∙ (let z : sum_by f (below a) ≡ sum_by f (below a) + 0 = omega arith in z)
 below_split f a (suc b) =
     let e : a + suc b ≡ suc (a + b) = omega arith in
     let ih = below_split f a b in

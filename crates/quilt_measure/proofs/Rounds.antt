@@ -1,5 +1,6 @@
 -- The edges round a leaf, and the perimeter leaf by leaf.
-use Rattle.std.proofs.Common.{◌≡◌, ℕ, zero, suc, ◌+◌, ◌-◌, ◌*◌, ◌<◌, ◌≤◌, Bool, true, false, cond, ◌&&◌, eqb, eq-eqb, eqb-true, ltb, lt-ltb, ltb-true, List, [], ◌∷◌, length, map, take, filter, sum_by, ⊎_elim, refl, sym, ◌∙◌, ap, ap₂, arith}
+use Rattle.std.proofs.Common.{◌≡◌, ℕ, zero, suc, ◌+◌, ◌-◌, ◌*◌, ◌<◌, ◌≤◌, Bool, true, false, cond, ◌&&◌, eqb, eq-eqb, eqb-true, ltb, lt-ltb, ltb-true, List, []}
+use Rattle.std.proofs.Common.{◌∷◌, length, map, take, filter, sum_by, ⊎_elim, refl, sym, ◌∙◌, ap, ap₂, arith}
 use Rattle.std.specs.Prelude.{pos, negsuc, ◌-ℤ◌, nat_abs, if◌then◌else◌}
 use Rattle.std.proofs.Math.Nat.{mul-le-mul}
 use Rattle.std.proofs.lemmas.Int.{ints}
@@ -71,7 +72,8 @@ beyond out n g c q = if out then 1 else differs n g c q
 
 edge_in : (out : Bool) (n : ℕ) (g : Grid) (c : ℕ) (p q : Pixel) → colour_at n g p ≡ c → near n p q ≡ true → out ≡ false → alike n g p q + beyond out n g c q ≡ 1
 edge_in out n g c p q e has bare_not =
-    ap₂ (λ i j. i + j) (ap (λ t. cond {A = ℕ} t (cond (eqb (colour_at n g q) (colour_at n g p)) 1 0) 0) has ∙ ap (λ k. cond {A = ℕ} (eqb (colour_at n g q) k) 1 0) e)
+    ap₂ (λ i j. i + j) (ap (λ t. cond {A = ℕ} t (cond (eqb (colour_at n g q) (colour_at n g p)) 1 0) 0) has
+    ∙ ap (λ k. cond {A = ℕ} (eqb (colour_at n g q) k) 1 0) e)
     (ap (λ t. beyond t n g c q) bare_not) ∙ flip (eqb (colour_at n g q) c)
 
 edge_out : (out : Bool) (n : ℕ) (g : Grid) (c : ℕ) (p q : Pixel) → near n p q ≡ false → out ≡ true → alike n g p q + beyond out n g c q ≡ 1
@@ -128,20 +130,23 @@ module _ (n : ℕ) (g : Grid) (c : ℕ) (p : Pixel) (hx : p.x < side n) (hy : p.
   pixel_edges =
       let four : List Pixel = pixel (p.x - 1) p.y ∷ pixel (p.x + 1) p.y ∷ pixel p.x (p.y - 1) ∷ pixel p.x (p.y + 1) ∷ [] in
       ap (λ k. 4 - k) (sum_by-filter_is (λ q. cond (eqb (colour_at n g q) (colour_at n g p)) 1 0) (near n p) four)
-      ∙ four_edges (alike n g p (pixel (p.x - 1) p.y)) (alike n g p (pixel (p.x + 1) p.y)) (alike n g p (pixel p.x (p.y - 1))) (alike n g p (pixel p.x (p.y + 1))) _ _ _ _ left_edge right_edge top_edge bottom_edge
+      ∙ four_edges (alike n g p (pixel (p.x - 1) p.y)) (alike n g p (pixel (p.x + 1) p.y)) (alike n g p (pixel p.x (p.y - 1)))
+      (alike n g p (pixel p.x (p.y + 1))) _ _ _ _ left_edge right_edge top_edge bottom_edge
 
 -- a sum over the pixels of a block, row by row
 rows : (f : Pixel → ℕ) (b : Block) → sum_by f (pixels_of b) ≡ sum_by (λ dy. sum_by (λ dx. f (pixel (b.x + dx) (b.y + dy))) (below b.side)) (below b.side)
 unfolding pixels_of
 rows f b =
     sum_by-flat_map_is f (λ dy. map (λ dx. pixel (b.x + dx) (b.y + dy)) (below b.side)) (below b.side)
-    ∙ sum_by-same (λ dy. sum_by f (map (λ dx. pixel (b.x + dx) (b.y + dy)) (below b.side))) (λ dy. sum_by (λ dx. f (pixel (b.x + dx) (b.y + dy))) (below b.side)) (below b.side)
+    ∙ sum_by-same (λ dy. sum_by f (map (λ dx. pixel (b.x + dx) (b.y + dy)) (below b.side)))
+    (λ dy. sum_by (λ dx. f (pixel (b.x + dx) (b.y + dy))) (below b.side)) (below b.side)
     (λ dy _. sum_by-map_is f (λ dx. pixel (b.x + dx) (b.y + dy)) (below b.side))
 
 module _ (n : ℕ) (g : Grid) (c : ℕ) (b : Block) (h : IsBlock n b) (k : HasColour n g b c) where
   inside_is : (out : Bool) (x y : ℕ) → out ≡ false → b.x ≤ x → x < b.x + b.side → b.y ≤ y → y < b.y + b.side → beyond out n g c (pixel x y) ≡ 0
   inside_is out x y within l r t d =
-      ap (λ i. beyond i n g c (pixel x y)) within ∙ ap (λ z. cond {A = ℕ} (eqb z c) 0 1) (k.each (pixel x y) (record { left = l; right = r; top = t; bottom = d }))
+      ap (λ i. beyond i n g c (pixel x y)) within
+      ∙ ap (λ z. cond {A = ℕ} (eqb z c) 0 1) (k.each (pixel x y) (record { left = l; right = r; top = t; bottom = d }))
       ∙ ap (λ z. cond {A = ℕ} z 0 1) (eq-eqb c c refl)
 
   left_sum : sum_by (bare Left n g c) (pixels_of b) ≡ sum_by (λ t. bare Left n g c (place Left b t)) (below b.side)
@@ -150,7 +155,8 @@ module _ (n : ℕ) (g : Grid) (c : ℕ) (b : Block) (h : IsBlock n b) (k : HasCo
       rows (bare Left n g c) b
       ∙ below_same (λ dy. sum_by (λ dx. bare Left n g c (pixel (b.x + dx) (b.y + dy))) (below b.side)) (λ t. bare Left n g c (place Left b t)) b.side
       (λ dy ly. below_only (λ dx. bare Left n g c (pixel (b.x + dx) (b.y + dy))) b.side 0 pos
-      (λ dx lx ne. inside_is (eqb (b.x + dx) 0) (b.x + dx - 1) (b.y + dy) (not_same (b.x + dx) 0 (λ z. ne (omega arith))) (apart_one dx ne) (omega arith) (omega arith) (omega arith))
+      (λ dx lx ne. inside_is (eqb (b.x + dx) 0) (b.x + dx - 1) (b.y + dy) (not_same (b.x + dx) 0 (λ z. ne (omega arith))) (apart_one dx ne)
+      (omega arith) (omega arith) (omega arith))
       ∙ (let z : b.x + 0 ≡ b.x = omega arith in ap (λ x. bare Left n g c (pixel x (b.y + dy))) z))
     where
       apart_one : (dx : ℕ) → (dx ≡ 0 → ⊥) → b.x ≤ b.x + dx - 1
@@ -166,7 +172,8 @@ module _ (n : ℕ) (g : Grid) (c : ℕ) (b : Block) (h : IsBlock n b) (k : HasCo
       (λ dy ly. below_only (λ dx. bare Right n g c (pixel (b.x + dx) (b.y + dy))) b.side (b.side - 1) (omega arith)
       (λ dx lx ne.
       let more = not_last dx b.side lx ne in
-      inside_is (eqb (b.x + dx + 1) (side n)) (b.x + dx + 1) (b.y + dy) (not_same (b.x + dx + 1) (side n) (λ z. omega arith)) (omega arith) (omega arith) (omega arith) (omega arith))
+      inside_is (eqb (b.x + dx + 1) (side n)) (b.x + dx + 1) (b.y + dy) (not_same (b.x + dx + 1) (side n) (λ z. omega arith)) (omega arith)
+      (omega arith) (omega arith) (omega arith))
       ∙ (let z : b.x + (b.side - 1) ≡ b.x + b.side - 1 = omega arith in ap (λ x. bare Right n g c (pixel x (b.y + dy))) z))
     where
       not_last : (dx s : ℕ) → dx < s → (dx ≡ s - 1 → ⊥) → dx + 1 < s
@@ -178,7 +185,8 @@ module _ (n : ℕ) (g : Grid) (c : ℕ) (b : Block) (h : IsBlock n b) (k : HasCo
       rows (bare Top n g c) b
       ∙ below_only (λ dy. sum_by (λ dx. bare Top n g c (pixel (b.x + dx) (b.y + dy))) (below b.side)) b.side 0 pos
       (λ dy ly ne. below_constant (λ dx. bare Top n g c (pixel (b.x + dx) (b.y + dy))) 0 b.side
-      (λ dx lx. inside_is (eqb (b.y + dy) 0) (b.x + dx) (b.y + dy - 1) (not_same (b.y + dy) 0 (λ z. ne (omega arith))) (omega arith) (omega arith) (apart_one dy ne) (omega arith))
+      (λ dx lx. inside_is (eqb (b.y + dy) 0) (b.x + dx) (b.y + dy - 1) (not_same (b.y + dy) 0 (λ z. ne (omega arith))) (omega arith) (omega arith)
+      (apart_one dy ne) (omega arith))
       ∙ (let z : b.side * 0 ≡ 0 = omega arith in z))
       ∙ (let z : b.y + 0 ≡ b.y = omega arith in ap (λ y. sum_by (λ dx. bare Top n g c (pixel (b.x + dx) y)) (below b.side)) z)
     where
@@ -195,7 +203,8 @@ module _ (n : ℕ) (g : Grid) (c : ℕ) (b : Block) (h : IsBlock n b) (k : HasCo
       (λ dy ly ne. below_constant (λ dx. bare Bottom n g c (pixel (b.x + dx) (b.y + dy))) 0 b.side
       (λ dx lx.
       let more = not_last dy b.side ly ne in
-      inside_is (eqb (b.y + dy + 1) (side n)) (b.x + dx) (b.y + dy + 1) (not_same (b.y + dy + 1) (side n) (λ z. omega arith)) (omega arith) (omega arith) (omega arith) (omega arith))
+      inside_is (eqb (b.y + dy + 1) (side n)) (b.x + dx) (b.y + dy + 1) (not_same (b.y + dy + 1) (side n) (λ z. omega arith)) (omega arith)
+      (omega arith) (omega arith) (omega arith))
       ∙ (let z : b.side * 0 ≡ 0 = omega arith in z))
       ∙ (let z : b.y + (b.side - 1) ≡ b.y + b.side - 1 = omega arith in ap (λ y. sum_by (λ dx. bare Bottom n g c (pixel (b.x + dx) y)) (below b.side)) z)
     where
@@ -203,7 +212,8 @@ module _ (n : ℕ) (g : Grid) (c : ℕ) (b : Block) (h : IsBlock n b) (k : HasCo
       not_last dy s lt ne = ⊎_elim (λ l. l) (λ z. absurd (ne (omega arith))) (cases_lt (dy + 1) s)
 
   -- the edges of the pixels of a block of one colour are those along its sides
-  pub edges_sum : sum_by (λ t. bare Left n g c (place Left b t)) (below b.side) + sum_by (λ t. bare Right n g c (place Right b t)) (below b.side) + sum_by (λ t. bare Top n g c (place Top b t)) (below b.side) + sum_by (λ t. bare Bottom n g c (place Bottom b t)) (below b.side)
+  pub edges_sum : sum_by (λ t. bare Left n g c (place Left b t)) (below b.side) + sum_by (λ t. bare Right n g c (place Right b t)) (below b.side)
+      + sum_by (λ t. bare Top n g c (place Top b t)) (below b.side) + sum_by (λ t. bare Bottom n g c (place Bottom b t)) (below b.side)
       ≡ sum_by (edges_of n g) (pixels_of b)
   edges_sum =
       let l = bare Left n g c in
@@ -215,7 +225,8 @@ module _ (n : ℕ) (g : Grid) (c : ℕ) (b : Block) (h : IsBlock n b) (k : HasCo
       let sq = held_in n b p h held in
       pixel_edges n g c p sq.0 sq.1 (k.each p held))
       ∙ sum_by-plus (λ p. l p + r p + t p) d (pixels_of b)
-      ∙ ap₂ (λ i j. i + j) (sum_by-plus (λ p. l p + r p) t (pixels_of b) ∙ ap₂ (λ i j. i + j) (sum_by-plus l r (pixels_of b) ∙ ap₂ (λ i j. i + j) left_sum right_sum) top_sum) bottom_sum)
+      ∙ ap₂ (λ i j. i + j) (sum_by-plus (λ p. l p + r p) t (pixels_of b)
+      ∙ ap₂ (λ i j. i + j) (sum_by-plus l r (pixels_of b) ∙ ap₂ (λ i j. i + j) left_sum right_sum) top_sum) bottom_sum)
 
 -- what a leaf adds to the perimeter of a colour
 abbrev pub round : ℕ → Grid → ℕ → Block × ℕ → ℕ
@@ -225,7 +236,8 @@ pub perimeter_is : (n : ℕ) (g : Grid) (c : ℕ) → n ≤ 12 → sum_by (round
 perimeter_is n g c le =
     sym (sum_by-filter_is (edges_of n g) (λ p. eqb (colour_at n g p) c) (pixels n)
     ∙ sum_by_leaves n g (λ p. cond (eqb (colour_at n g p) c) (edges_of n g p) 0) le
-    ∙ sum_by-same (λ (e : Block × ℕ). sum_by (λ p. cond (eqb (colour_at n g p) c) (edges_of n g p) 0) (pixels_of e.0)) (round n g c) (leaves_by_code n g) (λ e m.
+    ∙ sum_by-same (λ (e : Block × ℕ). sum_by (λ p. cond (eqb (colour_at n g p) c) (edges_of n g p) 0) (pixels_of e.0)) (round n g c)
+    (leaves_by_code n g) (λ e m.
     let l = a_leaf n g e m in
     sum_by-same (λ p. cond (eqb (colour_at n g p) c) (edges_of n g p) 0) (λ p. cond (eqb e.1 c) (edges_of n g p) 0) (pixels_of e.0)
     (λ p h. ap (λ z. cond {A = ℕ} (eqb z c) (edges_of n g p) 0) (l.colour.each p (Contains-pixels_of_from e.0 p h)))

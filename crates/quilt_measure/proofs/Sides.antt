@@ -1,5 +1,6 @@
 -- The sides of blocks: what stands along them and behind them.
-use Rattle.std.proofs.Common.{◌≡◌, ℕ, zero, suc, ◌+◌, ◌-◌, ◌*◌, ◌/◌, ◌%◌, ◌<◌, ◌≤◌, Bool, true, false, cond, eqb, eq-eqb, Option, Some, None, Contains, ⊎_elim, sum_by, refl, sym, ◌∙◌, ap, ap₂, subst, arith}
+use Rattle.std.proofs.Common.{◌≡◌, ℕ, zero, suc, ◌+◌, ◌-◌, ◌*◌, ◌/◌, ◌%◌, ◌<◌, ◌≤◌, Bool, true, false, cond, eqb, eq-eqb, Option, Some, None, Contains, ⊎_elim}
+use Rattle.std.proofs.Common.{sum_by, refl, sym, ◌∙◌, ap, ap₂, subst, arith}
 use Rattle.std.specs.Prelude.{if◌then◌else◌}
 use Rattle.std.proofs.lemmas.Bool.{cases_lt, both_ways}
 use Rattle.std.proofs.lemmas.Nat.{mod-mul-add, div-add-mod'}
@@ -60,7 +61,8 @@ place_second Bottom b u t e p =
 
 -- a sum along a side by the two quarters there
 pub along_halves : (f : Pixel → ℕ) (on : Side) (n : ℕ) (b : Block) → IsBlock n b → 1 < b.side
-    → sum_by (λ t. f (place on b t)) (below b.side) ≡ sum_by (λ t. f (place on (halves_of on b).0 t)) (below (halves_of on b).0.side) + sum_by (λ t. f (place on (halves_of on b).1 t)) (below (halves_of on b).1.side)
+    → sum_by (λ t. f (place on b t)) (below b.side) ≡ sum_by (λ t. f (place on (halves_of on b).0 t)) (below (halves_of on b).0.side)
+    + sum_by (λ t. f (place on (halves_of on b).1 t)) (below (halves_of on b).1.side)
 along_halves f on n b h wide =
     let u = (halves_of on b).0.side in
     let v = (halves_of on b).1.side in
@@ -68,12 +70,15 @@ along_halves f on n b h wide =
     let ev = (second_half on n b h wide).half in
     let all : b.side ≡ u + v = omega arith in
     ap (λ s. sum_by (λ t. f (place on b t)) (below s)) all ∙ below_split (λ t. f (place on b t)) u v
-    ∙ ap₂ (λ i j. i + j) (below_same (λ t. f (place on b t)) (λ t. f (place on (halves_of on b).0 t)) u (λ t lt. ap f (sym (place_first on b u t eu (omega arith)))))
+    ∙ ap₂ (λ i j. i + j) (below_same (λ t. f (place on b t)) (λ t. f (place on (halves_of on b).0 t)) u
+    (λ t lt. ap f (sym (place_first on b u t eu (omega arith)))))
     (below_same (λ t. f (place on b (u + t))) (λ t. f (place on (halves_of on b).1 t)) v (λ t lt. ap f (sym (place_second on b u t eu (omega arith)))))
 
 -- along a side of a block of one colour
-pub along_one : (on : Side) (n : ℕ) (g : Grid) (c d : ℕ) (b : Block) → IsBlock n b → HasColour n g b d → sum_by (λ t. differs n g c (place on b t)) (below b.side) ≡ b.side * cond {A = ℕ} (eqb d c) 0 1
-along_one on n g c d b h k = below_constant (λ t. differs n g c (place on b t)) (cond {A = ℕ} (eqb d c) 0 1) b.side (λ t lt. ap (λ z. cond {A = ℕ} (eqb z c) 0 1) (k.each (place on b t) (place_held on n b t h lt)))
+pub along_one : (on : Side) (n : ℕ) (g : Grid) (c d : ℕ) (b : Block) → IsBlock n b → HasColour n g b d
+    → sum_by (λ t. differs n g c (place on b t)) (below b.side) ≡ b.side * cond {A = ℕ} (eqb d c) 0 1
+along_one on n g c d b h k = below_constant (λ t. differs n g c (place on b t)) (cond {A = ℕ} (eqb d c) 0 1) b.side
+    (λ t lt. ap (λ z. cond {A = ℕ} (eqb z c) 0 1) (k.each (place on b t) (place_held on n b t h lt)))
 
 pub other_all : (s d c : ℕ) → eqb d c ≡ false → s * cond {A = ℕ} (eqb d c) 0 1 ≡ s
 other_all s d c e = ap (λ b. s * cond {A = ℕ} b 0 1) e ∙ (let z : s * 1 ≡ s = omega arith in z)
@@ -190,16 +195,20 @@ bare_at_end Left n g c t b h e = bare_out (eqb b.x 0) _ (not_chosen (eqb b.x 0) 
 bare_at_end Right n g c t b h e =
     let pos = side_pos n b h in
     let same : b.x + b.side - 1 + 1 ≡ b.x + b.side = omega arith in
-    bare_out (eqb (b.x + b.side - 1 + 1) (side n)) _ (ap (λ z. eqb z (side n)) same ∙ not_chosen (eqb (b.x + b.side) (side n)) (block (b.x + b.side) b.y b.side) e)
+    bare_out (eqb (b.x + b.side - 1 + 1) (side n)) _
+    (ap (λ z. eqb z (side n)) same ∙ not_chosen (eqb (b.x + b.side) (side n)) (block (b.x + b.side) b.y b.side) e)
 bare_at_end Top n g c t b h e = bare_out (eqb b.y 0) _ (not_chosen (eqb b.y 0) (block b.x (b.y - b.side) b.side) e)
 bare_at_end Bottom n g c t b h e =
     let pos = side_pos n b h in
     let same : b.y + b.side - 1 + 1 ≡ b.y + b.side = omega arith in
-    bare_out (eqb (b.y + b.side - 1 + 1) (side n)) _ (ap (λ z. eqb z (side n)) same ∙ not_chosen (eqb (b.y + b.side) (side n)) (block b.x (b.y + b.side) b.side) e)
+    bare_out (eqb (b.y + b.side - 1 + 1) (side n)) _
+    (ap (λ z. eqb z (side n)) same ∙ not_chosen (eqb (b.y + b.side) (side n)) (block b.x (b.y + b.side) b.side) e)
 
 -- a side at the end of the square
-pub bare_along_end : (on : Side) (n : ℕ) (g : Grid) (c : ℕ) (b : Block) → IsBlock n b → None ≡ behind_of on n b → sum_by (λ t. bare on n g c (place on b t)) (below b.side) ≡ b.side
-bare_along_end on n g c b h e = below_constant (λ t. bare on n g c (place on b t)) 1 b.side (λ t lt. bare_at_end on n g c t b h e) ∙ (let o : b.side * 1 ≡ b.side = omega arith in o)
+pub bare_along_end : (on : Side) (n : ℕ) (g : Grid) (c : ℕ) (b : Block) → IsBlock n b → None ≡ behind_of on n b
+    → sum_by (λ t. bare on n g c (place on b t)) (below b.side) ≡ b.side
+bare_along_end on n g c b h e =
+    below_constant (λ t. bare on n g c (place on b t)) 1 b.side (λ t lt. bare_at_end on n g c t b h e) ∙ (let o : b.side * 1 ≡ b.side = omega arith in o)
 
 -- a side with a block behind it
 pub bare_along : (on : Side) (n : ℕ) (g : Grid) (c : ℕ) (b q : Block) → IsBehind n on b q

@@ -1,5 +1,6 @@
 -- Sums over lists: with the same members, in two parts, and over the parts of a list of which each member is in one.
-use Rattle.std.proofs.Common.{◌≡◌, ℕ, suc, ◌+◌, ◌*◌, ◌↔◌, Bool, true, false, cond, ◌⊎◌, inl, inr, ⊎_elim, List, [], ◌∷◌, length, map, filter, flat_map, sum_by, count_by, Contains, refl, sym, ◌∙◌, ap, ap₂, subst, arith}
+use Rattle.std.proofs.Common.{◌≡◌, ℕ, suc, ◌+◌, ◌*◌, ◌↔◌, Bool, true, false, cond, ◌⊎◌, inl, inr, ⊎_elim, List, [], ◌∷◌, length, map, filter, flat_map, sum_by}
+use Rattle.std.proofs.Common.{count_by, Contains, refl, sym, ◌∙◌, ap, ap₂, subst, arith}
 use Rattle.std.proofs.lemmas.List.Sums.{sum_by-cons, sum_by-append}
 use Rattle.quilt_loc.proofs.Members.{Contains-nil, Contains-here, Contains-there, Contains-cons_cases}
 
@@ -75,7 +76,8 @@ module _ {X : Type 0} where
   pub sum_by-constant : (f : X → ℕ) (v : ℕ) (xs : List X) → ((x : X) → Contains xs x → f x ≡ v) → sum_by f xs ≡ length xs * v
   sum_by-constant f v [] h = omega arith
   sum_by-constant f v (x ∷ xs) h =
-      sum_by-cons f x xs ∙ ap₂ (λ a b. a + b) (h x (Contains-here x xs)) (sum_by-constant f v xs (λ y m. h y (Contains-there x xs y m))) ∙ one_more (length xs) v
+      sum_by-cons f x xs ∙ ap₂ (λ a b. a + b) (h x (Contains-here x xs)) (sum_by-constant f v xs (λ y m. h y (Contains-there x xs y m)))
+      ∙ one_more (length xs) v
     where
       one_more : (n v : ℕ) → v + n * v ≡ suc n * v
       one_more n v = omega (arith)
@@ -86,7 +88,8 @@ module _ {X : Type 0} where
       ap (sum_by f) (ap (λ b. cond {A = List X} b (x ∷ filter p xs) (filter p xs)) e) ∙ sum_by-cons f x (filter p xs)
       ∙ ap₂ (λ a b. a + b) (sym (ap (λ b. cond {A = ℕ} b (f x) 0) e)) h ∙ sym (sum_by-cons (λ y. cond (p y) (f y) 0) x xs)
   filtered_by f p x xs false e h =
-      ap (sum_by f) (ap (λ b. cond {A = List X} b (x ∷ filter p xs) (filter p xs)) e) ∙ h ∙ (let z : 0 + sum_by (λ y. cond (p y) (f y) 0) xs ≡ sum_by (λ y. cond (p y) (f y) 0) xs = omega arith in sym z)
+      ap (sum_by f) (ap (λ b. cond {A = List X} b (x ∷ filter p xs) (filter p xs)) e) ∙ h
+      ∙ (let z : 0 + sum_by (λ y. cond (p y) (f y) 0) xs ≡ sum_by (λ y. cond (p y) (f y) 0) xs = omega arith in sym z)
       ∙ ap (λ a. a + sum_by (λ y. cond (p y) (f y) 0) xs) (sym (ap (λ b. cond {A = ℕ} b (f x) 0) e)) ∙ sym (sum_by-cons (λ y. cond (p y) (f y) 0) x xs)
 
   pub sum_by-filter_is : (f : X → ℕ) (p : X → Bool) (xs : List X) → sum_by f (filter p xs) ≡ sum_by (λ x. cond (p x) (f x) 0) xs
@@ -125,5 +128,6 @@ module _ {X E : Type 0} (holds : E → X → Bool) (f : X → ℕ) where
       sum_by-same (λ e. sum_by (λ y. cond (holds e y) (f y) 0) (x ∷ xs)) (λ e. cond (holds e x) (f x) 0 + sum_by (λ y. cond (holds e y) (f y) 0) xs) es
       (λ e _. sum_by-cons (λ y. cond (holds e y) (f y) 0) x xs)
       ∙ sum_by-plus (λ e. cond (holds e x) (f x) 0) (λ e. sum_by (λ y. cond (holds e y) (f y) 0) xs) es
-      ∙ ap₂ (λ a b. a + b) (times (f x) x es ∙ ap (λ k. k * f x) (h x (Contains-here x xs)) ∙ (let r : 1 * f x ≡ f x = omega arith in r)) (sum_by-parts es xs (λ y m. h y (Contains-there x xs y m)))
+      ∙ ap₂ (λ a b. a + b) (times (f x) x es ∙ ap (λ k. k * f x) (h x (Contains-here x xs)) ∙ (let r : 1 * f x ≡ f x = omega arith in r))
+      (sum_by-parts es xs (λ y m. h y (Contains-there x xs y m)))
       ∙ sym (sum_by-cons f x xs)

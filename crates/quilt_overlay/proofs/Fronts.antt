@@ -34,7 +34,8 @@ multiples u c w k at a b d e =
     (omega arith, omega arith)
 
 -- of two blocks that have one code the smaller lies in the larger
-pub smaller_inside : (n : ℕ) (a b : Block) (at : ℕ) → n ≤ 12 → IsBlock n a → IsBlock n b → a.side ≤ b.side → code_from a ≤ at → at < code_to a → code_from b ≤ at → at < code_to b
+pub smaller_inside : (n : ℕ) (a b : Block) (at : ℕ) → n ≤ 12 → IsBlock n a → IsBlock n b → a.side ≤ b.side → code_from a ≤ at → at < code_to a
+    → code_from b ≤ at → at < code_to b
     → (code_from b ≤ code_from a) × (code_to a ≤ code_to b)
 smaller_inside n a b at le ha hb small af at' bf bt =
     let i = ha.level in
@@ -58,14 +59,16 @@ smaller_inside n a b at le ha hb small af at' bf bt =
     assoc u v k = omega arith
 
 -- it begins at the code where one of the two does
-pub smaller_begins : (n : ℕ) (a b : Block) (at : ℕ) → n ≤ 12 → IsBlock n a → IsBlock n b → a.side ≤ b.side → code_from a ≤ at → at < code_to a → code_from b ≤ at → at < code_to b
+pub smaller_begins : (n : ℕ) (a b : Block) (at : ℕ) → n ≤ 12 → IsBlock n a → IsBlock n b → a.side ≤ b.side → code_from a ≤ at → at < code_to a
+    → code_from b ≤ at → at < code_to b
     → (code_from a ≡ at) ⊎ (code_from b ≡ at) → code_from a ≡ at
 smaller_begins n a b at le ha hb small af at' bf bt start =
     let r = smaller_inside n a b at le ha hb small af at' bf bt in
     let low = r.0 in
     ⊎_elim (λ e. e) (λ e. omega arith) start
 
-colour_in : (w : Walk) (n : ℕ) (g : Grid) {code next : ℕ} (l : Leaf) → w.level ≡ n → w.grid ≡ g → IsAt n g code next l → HasColour w.level w.grid l.block l.colour.0
+colour_in : (w : Walk) (n : ℕ) (g : Grid) {code next : ℕ} (l : Leaf) → w.level ≡ n → w.grid ≡ g → IsAt n g code next l
+    → HasColour w.level w.grid l.block l.colour.0
 colour_in w n g l el eg h =
     subst (λ (i : Grid). HasColour w.level i l.block l.colour.0) (sym eg) (subst (λ (k : ℕ). HasColour k g l.block l.colour.0) (sym el) h.colour)
 
@@ -98,16 +101,31 @@ pub record IsStep (n at : ℕ) (a b s : Block) : Type 0 where
   pub in_second : code_to s ≤ code_to b
   pub ends : (code_to a ≡ code_to s) ⊎ (code_to b ≡ code_to s)
 
-module _ (n : ℕ) (at : ℕ) (a b : Block) (le : n ≤ 12) (ha : IsBlock n a) (hb : IsBlock n b) (af : code_from a ≤ at) (at' : at < code_to a) (bf : code_from b ≤ at) (bt : at < code_to b) (start : (code_from a ≡ at) ⊎ (code_from b ≡ at)) where
+module _ (n : ℕ) (at : ℕ) (a b : Block) (le : n ≤ 12) (ha : IsBlock n a) (hb : IsBlock n b) (af : code_from a ≤ at) (at' : at < code_to a)
+    (bf : code_from b ≤ at) (bt : at < code_to b) (start : (code_from a ≡ at) ⊎ (code_from b ≡ at)) where
   first_is : a.side ≤ b.side → IsStep n at a b a
   first_is small =
       let r = smaller_inside n a b at le ha hb small af at' bf bt in
-      record { block = ha; begins = smaller_begins n a b at le ha hb small af at' bf bt start; more = at'; in_first = omega arith; in_second = r.1; ends = inl refl }
+      record {
+        block = ha;
+        begins = smaller_begins n a b at le ha hb small af at' bf bt start;
+        more = at';
+        in_first = omega arith;
+        in_second = r.1;
+        ends = inl refl;
+      }
 
   second_is : b.side ≤ a.side → IsStep n at a b b
   second_is small =
       let r = smaller_inside n b a at le hb ha small bf bt af at' in
-      record { block = hb; begins = smaller_begins n b a at le hb ha small bf bt af at' (⊎_elim (λ e. inr e) (λ e. inl e) start); more = bt; in_first = r.1; in_second = omega arith; ends = inr refl }
+      record {
+        block = hb;
+        begins = smaller_begins n b a at le hb ha small bf bt af at' (⊎_elim (λ e. inr e) (λ e. inl e) start);
+        more = bt;
+        in_first = r.1;
+        in_second = omega arith;
+        ends = inr refl;
+      }
 
   pub step_is : (s : Block) → (s ≡ a) ⊎ (s ≡ b) → s.side ≤ a.side → s.side ≤ b.side → IsStep n at a b s
   step_is s one small_a small_b =
@@ -116,7 +134,8 @@ module _ (n : ℕ) (at : ℕ) (a b : Block) (le : n ≤ 12) (ha : IsBlock n a) (
       (λ e. let k = ap (λ (z : Block). z.side) e in subst (IsStep n at a b) (sym e) (second_is (omega arith))) one
 
 -- a pixel of a block whose codes are all a leaf's is one of the leaf's
-pub codes_inside : (n : ℕ) (s b : Block) (p : Pixel) → n ≤ 12 → IsBlock n s → IsBlock n b → code_from b ≤ code_from s → code_to s ≤ code_to b → Holds s p → Holds b p
+pub codes_inside : (n : ℕ) (s b : Block) (p : Pixel) → n ≤ 12 → IsBlock n s → IsBlock n b → code_from b ≤ code_from s
+    → code_to s ≤ code_to b → Holds s p → Holds b p
 codes_inside n s b p le hs hb from to held =
     let m = side_most n le in
     let sq = held_in n s p hs held in
@@ -130,7 +149,8 @@ codes_inside n s b p le hs hb from to held =
     held_code n b p hb le (omega arith) (omega arith) (omega arith) (omega arith) (omega arith) (omega arith)
 
 -- what a step of the walks over two grids is
-module _ (n : ℕ) (ga gb : Grid) (at : ℕ) (first second : Option Leaf) (wa wb : Walk) (le : n ≤ 12) (fa : IsFront n ga at first wa) (fb : IsFront n gb at second wb)
+module _ (n : ℕ) (ga gb : Grid) (at : ℕ) (first second : Option Leaf) (wa wb : Walk) (le : n ≤ 12) (fa : IsFront n ga at first wa)
+    (fb : IsFront n gb at second wb)
     (starts : (p q : Leaf) → first ≡ Some p → second ≡ Some q → (code_from p.block ≡ at) ⊎ (code_from q.block ≡ at)) where
   module _ (p q : Leaf) (z : option_zip first second ≡ Some (p, q)) where
     pub at_first : IsAt n ga at wa.at p
@@ -147,7 +167,8 @@ module _ (n : ℕ) (ga gb : Grid) (at : ℕ) (first second : Option Leaf) (wa wb
         step_is n at p.block q.block le a.block b.block a.from a.to b.from b.to (starts p q e.0 e.1) s one small_a small_b
 
     -- the colour of each pixel of the block
-    pub colour_of : (op : Op) (s : Block) (c : ℕ) → IsStep n at p.block q.block s → c ≡ combined op p.colour.0 q.colour.0 → (x : Pixel) → Holds s x → combined op (colour_at n ga x) (colour_at n gb x) ≡ c
+    pub colour_of : (op : Op) (s : Block) (c : ℕ) → IsStep n at p.block q.block s → c ≡ combined op p.colour.0 q.colour.0 → (x : Pixel) → Holds s x
+        → combined op (colour_at n ga x) (colour_at n gb x) ≡ c
     colour_of op s c st e x held =
         let a = at_first in
         let b = at_second in

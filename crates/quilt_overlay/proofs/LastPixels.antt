@@ -42,7 +42,8 @@ last_code b h =
     let sx = step_back k b.x m (ap (λ z. b.x % z) (sym e) ∙ h.on_x) (omega arith) in
     let sy = step_back k b.y m (ap (λ z. b.y % z) (sym e) ∙ h.on_y) (omega arith) in
     let low : interleaved k (b.x + m) (b.y + m) ≡ interleaved k m m = ap₂ (interleaved k) sx.0 sy.0 ∙ interleaved_low k m m (b.x / 2 ^ k) (b.y / 2 ^ k) in
-    let high : interleaved (12 - k) ((b.x + m) / 2 ^ k) ((b.y + m) / 2 ^ k) ≡ interleaved (12 - k) (b.x / 2 ^ k) (b.y / 2 ^ k) = ap₂ (interleaved (12 - k)) sx.1 sy.1 in
+    let high : interleaved (12 - k) ((b.x + m) / 2 ^ k) ((b.y + m) / 2 ^ k) ≡ interleaved (12 - k) (b.x / 2 ^ k) (b.y / 2 ^ k) =
+    ap₂ (interleaved (12 - k)) sx.1 sy.1 in
     let high' = ap (λ z. 4 ^ k * z) high in
     let split = code_split k (b.x + m) (b.y + m) h.low in
     let ones = interleaved_ones k m one in

@@ -54,7 +54,8 @@ moved_code k a b x y le oa ob hx hy =
     ap₂ (interleaved (12 - k)) (quotient k a x oa hx) (quotient k b y ob hy) in
     let low : interleaved k (a + x) (b + y) ≡ interleaved k x y =
     ap₂ (interleaved k) (low_bits k a x oa) (low_bits k b y ob) ∙ interleaved_low k x y (a / 2 ^ k) (b / 2 ^ k) in
-    let more : 4 ^ k * interleaved (12 - k) ((a + x) / 2 ^ k) ((b + y) / 2 ^ k) ≡ 4 ^ k * interleaved (12 - k) (a / 2 ^ k) (b / 2 ^ k) = ap (λ z. 4 ^ k * z) high in
+    let more : 4 ^ k * interleaved (12 - k) ((a + x) / 2 ^ k) ((b + y) / 2 ^ k) ≡ 4 ^ k * interleaved (12 - k) (a / 2 ^ k) (b / 2 ^ k) =
+    ap (λ z. 4 ^ k * z) high in
     let c = corner_code k a b le oa ob in
     let l = code_low k x y le hx hy in
     omega arith
@@ -115,7 +116,10 @@ moved_is n k b r le hb wide hr =
     }
 
 -- one leaf more of a square that is put down as a block
-pub Adds-moved : (n : ℕ) (b : Block) (list : Raster) (r : Block) (c at : ℕ) (old m new : Painted) → n ≤ 12 → IsBlock n b → b.side ≡ side list.level → IsLeafAt list.level list.grid at (r, c) → code_from b ≡ length old.colours → Adds n (moved_colour b (Leaves list)) (code_from b + at) old m → new ≡ record { level = m.level; colours = m.colours ++ replicate (r.side * r.side) c } → Adds n (moved_colour b (Leaves list)) (code_from b + (at + r.side * r.side)) old new
+pub Adds-moved : (n : ℕ) (b : Block) (list : Raster) (r : Block) (c at : ℕ) (old m new : Painted) → n ≤ 12 → IsBlock n b → b.side ≡ side list.level
+    → IsLeafAt list.level list.grid at (r, c) → code_from b ≡ length old.colours → Adds n (moved_colour b (Leaves list)) (code_from b + at) old m
+    → new ≡ record { level = m.level; colours = m.colours ++ replicate (r.side * r.side) c }
+    → Adds n (moved_colour b (Leaves list)) (code_from b + (at + r.side * r.side)) old new
 Adds-moved n b list r c at old m new le hb wide leaf next before is =
     let f : Pixel → ℕ = moved_colour b (Leaves list) in
     let mv = moved_is n list.level b r le hb wide leaf.block in
@@ -129,6 +133,7 @@ Adds-moved n b list r c at old m new le hb wide leaf next before is =
     let x = h.right in
     let t = h.top in
     let d = h.bottom in
-    leaf.colour.each (record { x = p.x - b.x; y = p.y - b.y }) (record { left = omega arith; right = omega arith; top = omega arith; bottom = omega arith })) is in
+    leaf.colour.each (record { x = p.x - b.x; y = p.y - b.y })
+    (record { left = omega arith; right = omega arith; top = omega arith; bottom = omega arith })) is in
     let end : code_to (moved b r) ≡ code_from b + (at + r.side * r.side) = omega arith in
     Adds-then n f (code_from b + at) (code_from b + (at + r.side * r.side)) old m new (omega arith) before (subst (λ (k : ℕ). Adds n f k m new) end step)

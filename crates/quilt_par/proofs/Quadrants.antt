@@ -1,5 +1,6 @@
 -- The quadrants of a square, and parts that stand for them.
-use Rattle.std.proofs.Common.{◌≡◌, ℕ, zero, suc, ◌+◌, ◌-◌, ◌*◌, ◌/◌, ◌%◌, ◌^◌, ◌<◌, ◌≤◌, List, [], ◌∷◌, length, get_or, sym, ◌∙◌, ap, ap₂, subst, arith, pow_pos, pow-suc}
+use Rattle.std.proofs.Common.{◌≡◌, ℕ, zero, suc, ◌+◌, ◌-◌, ◌*◌, ◌/◌, ◌%◌, ◌^◌, ◌<◌, ◌≤◌, List, [], ◌∷◌, length, get_or, sym, ◌∙◌, ap, ap₂, subst, arith}
+use Rattle.std.proofs.Common.{pow_pos, pow-suc}
 use Rattle.std.proofs.lemmas.List.{get_or_default}
 use Rattle.quilt_types.specs.declared.plane.Pixel.{Pixel}
 use Rattle.quilt_types.specs.declared.plane.Block.{Block}
@@ -62,7 +63,8 @@ half_side n k s is half =
     omega arith
 
 -- a finished square shows the quadrant
-pub Shows-square : (n k : ℕ) (g : Grid) (b : Block) (list : Raster) (m : Painted) → n ≡ suc k → n ≤ 12 → 2 * b.side ≡ side n → list ≡ record { level = k; grid = grid_by_code k m.colours }
+pub Shows-square : (n k : ℕ) (g : Grid) (b : Block) (list : Raster) (m : Painted) → n ≡ suc k → n ≤ 12 → 2 * b.side ≡ side n
+    → list ≡ record { level = k; grid = grid_by_code k m.colours }
     → Adds k (from_corner n g (corner b)) (4 ^ k) (record { level = k; colours = [] }) m → Shows n g b (Leaves list)
 Shows-square n k g b list m is most half made adds =
     let colours = m.colours in
@@ -85,7 +87,8 @@ Shows-square n k g b list m is most half made adds =
     subst (λ (r : Raster). Shows n g b (Leaves r)) (sym made) done
 
 -- one pixel does
-pub Shows-pixel : (n : ℕ) (g : Grid) (b : Block) (c : Colour) (place : ℕ) → n ≡ 1 → 2 * b.side ≡ side n → place ≡ 2 * b.y + b.x → c.0 ≡ get_or g place 0 → Shows n g b (Single c)
+pub Shows-pixel : (n : ℕ) (g : Grid) (b : Block) (c : Colour) (place : ℕ) → n ≡ 1 → 2 * b.side ≡ side n → place ≡ 2 * b.y + b.x
+    → c.0 ≡ get_or g place 0 → Shows n g b (Single c)
 Shows-pixel n g b c place is half at colour =
     let two : side n ≡ 2 = ap (λ z. 2 ^ z) is in
     record {
@@ -110,12 +113,14 @@ pixel_place n b is h =
     omega arith
 
 -- a quadrant as the code has it
-pub quadrant_found : (n i j : ℕ) (qs : List Block) → n ≤ 12 → qs ≡ quarters_of (record { x = 0; y = 0; side = 1 * 2 ^ n % 65536 }) → j ≡ i → get_or qs j nowhere ≡ quadrant_at n i
+pub quadrant_found : (n i j : ℕ) (qs : List Block) → n ≤ 12 → qs ≡ quarters_of (record { x = 0; y = 0; side = 1 * 2 ^ n % 65536 }) → j ≡ i
+    → get_or qs j nowhere ≡ quadrant_at n i
 quadrant_found n i j qs most are at =
     let e : qs ≡ quarters_of (whole n) = are ∙ ap (λ (s : ℕ). let b : Block = record { x = 0; y = 0; side = s } in quarters_of b) (width n most) in
     ap₂ (λ (l : List Block) (k : ℕ). get_or l k nowhere) e at
 
-module _ (n : ℕ) (g : Grid) (a b c d : Part) (ha : Shows n g (quadrant_at n 0) a) (hb : Shows n g (quadrant_at n 1) b) (hc : Shows n g (quadrant_at n 2) c) (hd : Shows n g (quadrant_at n 3) d) where
+module _ (n : ℕ) (g : Grid) (a b c d : Part) (ha : Shows n g (quadrant_at n 0) a) (hb : Shows n g (quadrant_at n 1) b)
+    (hc : Shows n g (quadrant_at n 2) c) (hd : Shows n g (quadrant_at n 3) d) where
   one_of_four : (i : ℕ) → i < 4 → Shows n g (quadrant_at n i) (part_in (a ∷ b ∷ c ∷ d ∷ []) i)
   one_of_four zero lt = ha
   one_of_four (suc zero) lt = hb
@@ -137,7 +142,9 @@ pub part_found : (parts : List Part) (i j : ℕ) (part : Part) → length parts 
 part_found parts i j part four lt at is = is ∙ ap (λ k. get_or parts k part) at ∙ get_or_default parts i part (Single (record { 0 = 0 })) (omega arith)
 
 -- one quadrant more
-pub Adds-quadrant : (n i : ℕ) (g : Grid) (part : Part) (old m new : Painted) → 1 ≤ n → n ≤ 12 → i < 4 → length old.colours ≡ 0 → Shows n g (quadrant_at n i) part → Adds n (colour_at n g) (i * (side n / 2 * (side n / 2))) old m → Adds n (moved_colour (quadrant_at n i) part) (code_to (quadrant_at n i)) m new → Adds n (colour_at n g) ((i + 1) * (side n / 2 * (side n / 2))) old new
+pub Adds-quadrant : (n i : ℕ) (g : Grid) (part : Part) (old m new : Painted) → 1 ≤ n → n ≤ 12 → i < 4 → length old.colours ≡ 0
+    → Shows n g (quadrant_at n i) part → Adds n (colour_at n g) (i * (side n / 2 * (side n / 2))) old m
+    → Adds n (moved_colour (quadrant_at n i) part) (code_to (quadrant_at n i)) m new → Adds n (colour_at n g) ((i + 1) * (side n / 2 * (side n / 2))) old new
 Adds-quadrant n i g part old m new some most lt none shows before step =
     let q = quadrant_at n i in
     let h = (quadrant_is n i some lt).block in

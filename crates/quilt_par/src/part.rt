@@ -26,7 +26,8 @@ pub(crate) fn merged(alloc: Global, level: u8, parts: &[Part]) -> Result<LeafLis
     requires most { level ≤ 12 }
     requires four { length parts.now ≡ 4 }
     requires wide { (i : ℕ) → i < 4 → 2 * width_of (part_in parts.now i) ≡ side_of level }
-    ensures { (g : Grid) → length g ≡ side_of level * side_of level → ShowAll level g parts.now → IfOk result (λ list. list ≡ record { level = level; grid = g }) }
+    ensures { (g : Grid) → length g ≡ side_of level * side_of level → ShowAll level g parts.now
+        → IfOk result (λ list. list ≡ record { level = level; grid = g }) }
 {
     let mut maker = Maker::new(alloc, level);
     for number in 0..4_u8 {

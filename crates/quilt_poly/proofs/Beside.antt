@@ -1,5 +1,6 @@
 -- An edge that passes by a block, on one side of all its pixels.
-use Rattle.std.proofs.Common.{◌≡◌, ℕ, ◌+◌, ◌-◌, ◌*◌, ◌<◌, ◌≤◌, Bool, true, false, ◌&&◌, ◌||◌, ◌⊎◌, inl, inr, ⊎_elim, nat_le, nat_lt, cond, ap, arith, le-leb, leb-true, ltb-true}
+use Rattle.std.proofs.Common.{◌≡◌, ℕ, ◌+◌, ◌-◌, ◌*◌, ◌<◌, ◌≤◌, Bool, true, false, ◌&&◌, ◌||◌, ◌⊎◌, inl, inr, ⊎_elim, nat_le, nat_lt, cond, ap, arith, le-leb}
+use Rattle.std.proofs.Common.{leb-true, ltb-true}
 use Rattle.std.proofs.lemmas.Bool.{and_parts, and_from, or_cases, leb-false, false_from_ne_true}
 use Rattle.quilt_types.specs.declared.plane.Pixel.{Pixel}
 use Rattle.quilt_types.specs.declared.plane.Block.{Block}
@@ -8,7 +9,8 @@ use Rattle.quilt_types.specs.Plane.{Holds, Within}
 use Rattle.quilt_types.specs.Polygons.{Edge, is_right_of}
 use Rattle.quilt_poly.specs.Edges.{ahead, behind, is_left, is_right, is_off, is_beyond, misses, first_row, last_row}
 use Rattle.quilt_poly.proofs.Turning.{IsCrossed-from, IsCrossed-to}
-use Rattle.quilt_poly.proofs.Rows.{IsLeftAt, IsRightAt, left_row, right_row, left_down, left_up, right_down, right_up, top_left, bottom_left, top_right, bottom_right, ends_left, ends_right}
+use Rattle.quilt_poly.proofs.Rows.{IsLeftAt, IsRightAt, left_row, right_row, left_down, left_up, right_down, right_up, top_left, bottom_left, top_right}
+use Rattle.quilt_poly.proofs.Rows.{bottom_right, ends_left, ends_right}
 
 -- an end of an edge, where it stands between the rows of the block, is left of its pixels
 abbrev pub IsEndLeft : Block → Corner → Type 0
@@ -64,7 +66,8 @@ is_off-within b r e w h =
     (λ a. or_left (one || two) three (or_left one two (le-leb _ _ (omega arith))))
     (λ z. ⊎_elim
     (λ a. or_left (one || two) three (or_right one two (le-leb _ _ (omega arith))))
-    (λ a. let x = a.0 in let y = a.1 in or_right (one || two) three (and_from (nat_le e.top.x r.x) (nat_le e.bottom.x r.x) (le-leb _ _ (omega arith)) (le-leb _ _ (omega arith)))) z)
+    (λ a. let x = a.0 in let y =
+    a.1 in or_right (one || two) three (and_from (nat_le e.top.x r.x) (nat_le e.bottom.x r.x) (le-leb _ _ (omega arith)) (le-leb _ _ (omega arith)))) z)
     (IsOff-from b e h).where_is
 
 pub off_misses : (b : Block) (e : Edge) → is_off b e ≡ true → misses b e ≡ true
@@ -100,7 +103,8 @@ module _ (b : Block) (e : Edge) where
             let k = IsCrossed-from p e c in
             let low = k.low in
             let high = k.high in
-            ends_left (2 * e.top.x) (2 * e.top.y) (2 * e.bottom.x) (2 * e.bottom.y) (2 * p.x + 1) (2 * p.y + 1) (omega arith) (omega arith) (omega arith) (omega arith) k.left);
+            ends_left (2 * e.top.x) (2 * e.top.y) (2 * e.bottom.x) (2 * e.bottom.y) (2 * p.x + 1) (2 * p.y + 1) (omega arith) (omega arith)
+            (omega arith) (omega arith) k.left);
         top = λ low high. x;
         bottom = λ low high. y;
       }) z)
@@ -118,7 +122,8 @@ module _ (b : Block) (e : Edge) where
             IsCrossed-to p e (record {
               low = low;
               high = high;
-              left = ends_right (2 * e.top.x) (2 * e.top.y) (2 * e.bottom.x) (2 * e.bottom.y) (2 * p.x + 1) (2 * p.y + 1) (omega arith) (omega arith) (omega arith) (omega arith);
+              left = ends_right (2 * e.top.x) (2 * e.top.y) (2 * e.bottom.x) (2 * e.bottom.y) (2 * p.x + 1) (2 * p.y + 1) (omega arith) (omega arith)
+                  (omega arith) (omega arith);
             });
         top = λ low high. omega arith;
         bottom = λ low high. omega arith;
@@ -133,14 +138,16 @@ module _ (b : Block) (e : Edge) where
       let start = ltb-true _ _ h in
       go (nat_le e.top.x e.bottom.x) (λ i. nat_le e.top.x e.bottom.x) start
     where
-      go : (t : Bool) → nat_le e.top.x e.bottom.x ≡ t → IsLeftAt (2 * e.top.x) (2 * e.top.y) (2 * e.bottom.x) (2 * e.bottom.y) (2 * (b.x + (b.side - 1)) + 1) (2 * cond t b.y (b.y + (b.side - 1)) + 1)
+      go : (t : Bool) → nat_le e.top.x e.bottom.x ≡ t
+          → IsLeftAt (2 * e.top.x) (2 * e.top.y) (2 * e.bottom.x) (2 * e.bottom.y) (2 * (b.x + (b.side - 1)) + 1) (2 * cond t b.y (b.y + (b.side - 1)) + 1)
           → IsLeftAt (2 * e.top.x) (2 * e.top.y) (2 * e.bottom.x) (2 * e.bottom.y) (2 * (b.x + (b.side - 1)) + 1) y
       go true is at =
           let le = leb-true _ _ is in
           left_down (2 * e.top.x) (2 * e.top.y) (2 * e.bottom.x) (2 * e.bottom.y) (2 * (b.x + (b.side - 1)) + 1) (2 * b.y + 1) y low (omega arith) at
       go false is at =
           let lt = leb-false _ _ is in
-          left_up (2 * e.top.x) (2 * e.top.y) (2 * e.bottom.x) (2 * e.bottom.y) (2 * (b.x + (b.side - 1)) + 1) y (2 * (b.y + (b.side - 1)) + 1) high (omega arith) at
+          left_up (2 * e.top.x) (2 * e.top.y) (2 * e.bottom.x) (2 * e.bottom.y) (2 * (b.x + (b.side - 1)) + 1) y (2 * (b.y + (b.side - 1)) + 1) high
+          (omega arith) at
 
   -- the first column lies right of the line in each row of the block
   line_left : 0 < b.side → is_right (last_row b e) e ≡ true → (y : ℕ) → 2 * b.y + 1 ≤ y → y ≤ 2 * (b.y + (b.side - 1)) + 1 →
@@ -149,7 +156,8 @@ module _ (b : Block) (e : Edge) where
   line_left some h y low high =
       go (nat_le e.top.x e.bottom.x) (λ i. nat_le e.top.x e.bottom.x) (ltb-true _ _ h)
     where
-      go : (t : Bool) → nat_le e.top.x e.bottom.x ≡ t → IsRightAt (2 * e.top.x) (2 * e.top.y) (2 * e.bottom.x) (2 * e.bottom.y) (2 * b.x + 1) (2 * cond t (b.y + (b.side - 1)) b.y + 1)
+      go : (t : Bool) → nat_le e.top.x e.bottom.x ≡ t
+          → IsRightAt (2 * e.top.x) (2 * e.top.y) (2 * e.bottom.x) (2 * e.bottom.y) (2 * b.x + 1) (2 * cond t (b.y + (b.side - 1)) b.y + 1)
           → IsRightAt (2 * e.top.x) (2 * e.top.y) (2 * e.bottom.x) (2 * e.bottom.y) (2 * b.x + 1) y
       go true is at =
           let le = leb-true _ _ is in
@@ -171,7 +179,8 @@ module _ (b : Block) (e : Edge) where
             IsCrossed-to p e (record {
               low = low;
               high = high;
-              left = left_row ax ay bx by (2 * p.x + 1) x (2 * p.y + 1) (omega arith) (omega arith) (line_right some h (2 * p.y + 1) (omega arith) (omega arith));
+              left =
+                  left_row ax ay bx by (2 * p.x + 1) x (2 * p.y + 1) (omega arith) (omega arith) (line_right some h (2 * p.y + 1) (omega arith) (omega arith));
             });
         top = λ low high. let k = top_left ax ay bx by x (omega arith) (line_right some h ay (omega arith) (omega arith)) in omega arith;
         bottom = λ low high. let k = bottom_left ax ay bx by x (omega arith) (line_right some h by (omega arith) (omega arith)) in omega arith;
@@ -187,7 +196,8 @@ module _ (b : Block) (e : Edge) where
             let l = hp.left in
             let t = hp.top in
             let u = hp.bottom in
-            let away = right_row ax ay bx by x (2 * p.x + 1) (2 * p.y + 1) (omega arith) (omega arith) (line_left some h (2 * p.y + 1) (omega arith) (omega arith)) in
+            let away =
+            right_row ax ay bx by x (2 * p.x + 1) (2 * p.y + 1) (omega arith) (omega arith) (line_left some h (2 * p.y + 1) (omega arith) (omega arith)) in
             false_from_ne_true (is_right_of p e) (λ c. let k = (IsCrossed-from p e c).left in absurd (omega arith));
         top = λ low high. let k = top_right ax ay bx by x (omega arith) (line_left some h ay (omega arith) (omega arith)) in omega arith;
         bottom = λ low high. let k = bottom_right ax ay bx by x (omega arith) (line_left some h by (omega arith) (omega arith)) in omega arith;

@@ -1,5 +1,6 @@
 -- Around a ring that passes by a block, the pixels of the block are all inside or all outside.
-use Rattle.std.proofs.Common.{◌≡◌, ℕ, ◌+◌, ◌*◌, ◌%◌, ◌<◌, ◌≤◌, Bool, true, false, ◌&&◌, ⊎_elim, nat_le, nat_lt, cond, List, [], ◌∷◌, ◌++◌, flat_map, count_by, refl, sym, ◌∙◌, ap, arith, le-leb, leb-true, ltb-true, lt-ltb}
+use Rattle.std.proofs.Common.{◌≡◌, ℕ, ◌+◌, ◌*◌, ◌%◌, ◌<◌, ◌≤◌, Bool, true, false, ◌&&◌, ⊎_elim, nat_le, nat_lt, cond, List, [], ◌∷◌, ◌++◌, flat_map, count_by}
+use Rattle.std.proofs.Common.{refl, sym, ◌∙◌, ap, arith, le-leb, leb-true, ltb-true, lt-ltb}
 use Rattle.std.specs.List.{list_all}
 use Rattle.std.proofs.lemmas.Bool.{and_parts, and_from, leb-false, lt-leb, false_from_ne_true}
 use Rattle.std.proofs.lemmas.Bool.Decides.{leb_tells}
@@ -37,8 +38,10 @@ splits n low high y le inside below above =
     ⊎_elim
     (λ l. ⊎_elim
     (λ h. let a = above h.1 in record { total = let x = bit_yes (nat_le high y) h.0 in let z = bit_yes (nat_le low y) l.0 in omega arith })
-    (λ h. let a = inside l.1 h.1 in record { total = let x = bit_no (nat_le high y) h.0 in let z = bit_yes (nat_le low y) l.0 in omega arith }) (leb_tells high y))
-    (λ l. let a = below l.1 in record { total = let x = bit_no (nat_le high y) (lt-leb high y (omega arith)) in let z = bit_no (nat_le low y) l.0 in omega arith })
+    (λ h. let a = inside l.1 h.1 in record { total = let x = bit_no (nat_le high y) h.0 in let z = bit_yes (nat_le low y) l.0 in omega arith })
+    (leb_tells high y))
+    (λ l. let a =
+    below l.1 in record { total = let x = bit_no (nat_le high y) (lt-leb high y (omega arith)) in let z = bit_no (nat_le low y) l.0 in omega arith })
     (leb_tells low y)
 
 module _ (b : Block) (some : 0 < b.side) (q : Pixel) (hq : Holds b q) where
@@ -86,7 +89,8 @@ module _ (b : Block) (some : 0 < b.side) (q : Pixel) (hq : Holds b q) where
       (λ h.
       let le = h.1 in
       let one = bit_yes (between b q v)
-      (and_from (nat_lt b.y v.y && nat_le v.y q.y) (nat_lt b.x v.x) (and_from (nat_lt b.y v.y) (nat_le v.y q.y) (lt-ltb _ _ lt) h.0) (lt-ltb _ _ (right lt (omega arith)))) in
+      (and_from (nat_lt b.y v.y && nat_le v.y q.y) (nat_lt b.x v.x) (and_from (nat_lt b.y v.y) (nat_le v.y q.y) (lt-ltb _ _ lt) h.0)
+      (lt-ltb _ _ (right lt (omega arith)))) in
       let z = bit_yes (nat_le v.y q.y) h.0 in
       omega arith)
       (λ h.
@@ -102,7 +106,8 @@ module _ (b : Block) (some : 0 < b.side) (q : Pixel) (hq : Holds b q) where
       (leb_tells v.y q.y))
       (leb_tells v.y b.y)
 
-  crossed_in : (e : Edge) → PassesRight b e → e.top.y ≤ e.bottom.y → (p : Pixel) → Holds b p → bit (is_right_of p e) + bit (nat_le e.bottom.y p.y) ≡ bit (nat_le e.top.y p.y)
+  crossed_in : (e : Edge) → PassesRight b e → e.top.y ≤ e.bottom.y → (p : Pixel) → Holds b p
+      → bit (is_right_of p e) + bit (nat_le e.bottom.y p.y) ≡ bit (nat_le e.top.y p.y)
   crossed_in e h order p hp =
       (splits (bit (is_right_of p e)) e.top.y e.bottom.y p.y order
       (λ low high. bit_yes (is_right_of p e) (h.always p hp low high))
@@ -123,7 +128,8 @@ module _ (b : Block) (some : 0 < b.side) (q : Pixel) (hq : Holds b q) where
       let c = crossed_in e r order q hq in
       let t = some_between e.top r.top in
       let u = some_between e.bottom r.bottom in
-      let all : crossings e + bit (between b q e.top) + bit (between b q e.bottom) + 2 * bit (nat_le e.bottom.y b.y) ≡ 2 * bit (nat_le e.top.y q.y) = omega arith in
+      let all : crossings e + bit (between b q e.top) + bit (between b q e.bottom) + 2 * bit (nat_le e.bottom.y b.y) ≡ 2 * bit (nat_le e.top.y q.y) =
+      omega arith in
       omega arith)
       (passes b e some order m)
 
@@ -149,7 +155,8 @@ module _ (b : Block) (some : 0 < b.side) (q : Pixel) (hq : Holds b q) where
       let g = sum_by-cons (λ d. bit (is_right_of q d)) e es in
       omega arith
 
-  even_ring : (first c : Corner) (cs : List Corner) → list_all (misses b) (edges_from first (c ∷ cs)) ≡ true → (total (edges_from first (c ∷ cs)) + bit (between b q c) + bit (between b q first)) % 2 ≡ 0
+  even_ring : (first c : Corner) (cs : List Corner) → list_all (misses b) (edges_from first (c ∷ cs)) ≡ true
+      → (total (edges_from first (c ∷ cs)) + bit (between b q c) + bit (between b q first)) % 2 ≡ 0
   even_ring first c [] m =
       let e = even_edge c first (and_parts (misses b (edge c first)) true m).0 in
       let t = total-cons (edge c first) [] in

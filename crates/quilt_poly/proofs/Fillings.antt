@@ -17,7 +17,8 @@ use Rattle.quilt_poly.specs.declared.edges.RingEdge.{RingEdge}
 use Rattle.quilt_poly.specs.Edges.{edge_of, colour_by, IsClosed}
 use Rattle.quilt_poly.proofs.Narrowing.{close_to, colour_by-close_to, colour_by-rings}
 
-pub filled_by_all : (n : ℕ) (square : Block) (edges near : List RingEdge) (c : ℕ) (old new : Painted) → n ≤ 12 → IsBlock n square → code_from square ≡ length old.colours → IsClosed square edges → near ≡ close_to square edges
+pub filled_by_all : (n : ℕ) (square : Block) (edges near : List RingEdge) (c : ℕ) (old new : Painted) → n ≤ 12 → IsBlock n square
+    → code_from square ≡ length old.colours → IsClosed square edges → near ≡ close_to square edges
     → Adds n (colour_by near c) (code_to square) old new → Adds n (colour_by edges c) (code_to square) old new
 filled_by_all n square edges near c old new le h next closed is a =
     let m = side_most n le in
@@ -29,6 +30,7 @@ filled_by_all n square edges near c old new le h next closed is a =
     colour_by-close_to square edges near c p closed is held) a
 
 -- the grid that is 0 outside of the rings
-pub filled_is : (n : ℕ) (edges : List RingEdge) (rings : List (List Corner)) (c : ℕ) → map edge_of edges ≡ flat_map ring_edges rings → grid_of n (colour_by edges c) ≡ filled_rings n rings c
+pub filled_is : (n : ℕ) (edges : List RingEdge) (rings : List (List Corner)) (c : ℕ) → map edge_of edges ≡ flat_map ring_edges rings
+    → grid_of n (colour_by edges c) ≡ filled_rings n rings c
 unfolding filled_rings
 filled_is n edges rings c are = grid_of-same n (colour_by edges c) (λ p. cond (is_inside rings p) c 0) (λ p hx hy. colour_by-rings edges rings c p are)

@@ -24,9 +24,11 @@ high_is : (y b : ℕ) → int_lt (pos (2 * y + 1)) (pos (2 * b)) ≡ nat_lt y b
 high_is y b =
     diff_less (diff_pos (2 * y + 1)) (diff_pos (2 * b)) ∙ same_less (2 * y + 1 + 0) (2 * b + 0) y b (λ h. omega arith) (λ h. omega arith)
 
-turn_is : (x y ax ay bx by : ℕ) → int_lt ((pos x -ℤ pos ax) *ℤ (pos by -ℤ pos ay)) ((pos bx -ℤ pos ax) *ℤ (pos y -ℤ pos ay)) ≡ nat_lt (x * by + ax * y + bx * ay) (bx * y + x * ay + ax * by)
+turn_is : (x y ax ay bx by : ℕ) → int_lt ((pos x -ℤ pos ax) *ℤ (pos by -ℤ pos ay)) ((pos bx -ℤ pos ax) *ℤ (pos y -ℤ pos ay))
+    ≡ nat_lt (x * by + ax * y + bx * ay) (bx * y + x * ay + ax * by)
 turn_is x y ax ay bx by =
-    diff_less (times (minus (diff_pos x) (diff_pos ax)) (minus (diff_pos by) (diff_pos ay))) (times (minus (diff_pos bx) (diff_pos ax)) (minus (diff_pos y) (diff_pos ay)))
+    diff_less (times (minus (diff_pos x) (diff_pos ax)) (minus (diff_pos by) (diff_pos ay)))
+    (times (minus (diff_pos bx) (diff_pos ax)) (minus (diff_pos y) (diff_pos ay)))
     ∙ same_less _ _ (x * by + ax * y + bx * ay) (bx * y + x * ay + ax * by) (λ h. omega arith) (λ h. omega arith)
 
 pub is_right_of_is : (p : Pixel) (e : Edge) → is_right_of p e ≡ (nat_le e.top.y p.y && nat_lt p.y e.bottom.y && is_left p e)

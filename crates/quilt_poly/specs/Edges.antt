@@ -1,5 +1,6 @@
 -- Edges of rings beside pixels and blocks. The middle of a pixel and the ends of an edge have doubled coordinates.
-use Rattle.std.specs.Prelude.{◌≡◌, ℕ, ◌+◌, ◌-◌, ◌*◌, ◌%◌, ◌≤◌, Bool, true, ◌&&◌, ◌||◌, nat_le, nat_lt, ◌==◌, List, [], ◌∷◌, drop, count_by, Contains, if◌then◌else◌}
+use Rattle.std.specs.Prelude.{◌≡◌, ℕ, ◌+◌, ◌-◌, ◌*◌, ◌%◌, ◌≤◌, Bool, true, ◌&&◌, ◌||◌, nat_le, nat_lt, ◌==◌, List, [], ◌∷◌, drop, count_by, Contains}
+use Rattle.std.specs.Prelude.{if◌then◌else◌}
 use Rattle.std.specs.List.{list_all}
 use Rattle.quilt_types.specs.declared.plane.Pixel.{Pixel}
 use Rattle.quilt_types.specs.declared.plane.Block.{Block}
@@ -68,4 +69,5 @@ colour_by edges c p = if count_by (crosses p) edges % 2 == 1 then c else 0
 -- edges with their upper ends first, of which a block of this one that all pass by is inside or outside as a whole
 pub record IsClosed (b : Block) (edges : List RingEdge) : Type 0 where
   pub ordered : (e : RingEdge) → Contains edges e → e.top.y ≤ e.bottom.y
-  pub same : (r : Block) → Within r b → list_all (λ e. misses r (edge_of e)) edges ≡ true → (p q : Pixel) → Holds r p → Holds r q → count_by (crosses p) edges % 2 ≡ count_by (crosses q) edges % 2
+  pub same : (r : Block) → Within r b → list_all (λ e. misses r (edge_of e)) edges ≡ true → (p q : Pixel) → Holds r p → Holds r q
+      → count_by (crosses p) edges % 2 ≡ count_by (crosses q) edges % 2

@@ -1,7 +1,9 @@
 ghost use Rattle.std.specs.Prelude.{◌≡◌, ◌*◌, ◌<◌, ◌+◌, ◌&&◌, ◌||◌, ◌==◌, nat_le, nat_lt, count_by, filter, not, IfOk};
 ghost use Rattle.std.specs.List.{list_all};
 ghost use Rattle.quilt_types.specs.Plane.{IsBlock};
-ghost use Rattle.quilt_poly.specs.Edges.{edge_of, ahead, behind, is_left as is_left_of, is_right as is_right_from, is_off as is_off_of, is_beyond as is_beyond_of, first_row as first_row_of, last_row as last_row_of, misses as misses_of, crosses as crosses_of};
+ghost use Rattle.quilt_poly.specs.Edges.{edge_of, ahead, behind, is_left as is_left_of, is_right as is_right_from, is_off as is_off_of};
+ghost use Rattle.quilt_poly.specs.Edges.{is_beyond as is_beyond_of, first_row as first_row_of, last_row as last_row_of, misses as misses_of};
+ghost use Rattle.quilt_poly.specs.Edges.{crosses as crosses_of};
 
 use crate::edges::RingEdge;
 use quilt_types::{Block, Pixel};

@@ -1,5 +1,6 @@
 -- A block that is opened is no farther than the last of the first k.
-use Rattle.std.proofs.Common.{◌≡◌, ℕ, ◌*◌, ◌≤◌, true, false, Bool, ◌⊎◌, inl, inr, ⊎_elim, List, [], ◌∷◌, length, All, Contains, eqb, eq-eqb, nat_lt, ◌&&◌, sym, ◌∙◌, subst, arith, ap, ltb-false, IsPermutation}
+use Rattle.std.proofs.Common.{◌≡◌, ℕ, ◌*◌, ◌≤◌, true, false, Bool, ◌⊎◌, inl, inr, ⊎_elim, List, [], ◌∷◌, length, All, Contains, eqb, eq-eqb, nat_lt, ◌&&◌, sym}
+use Rattle.std.proofs.Common.{◌∙◌, subst, arith, ap, ltb-false, IsPermutation}
 use Rattle.std.proofs.Math.Nat.{mul-le-mul_right}
 use Rattle.quilt_types.specs.declared.plane.Pixel.{Pixel}
 use Rattle.quilt_types.specs.declared.plane.Block.{Block}
@@ -21,7 +22,8 @@ not_past : (long : Bool) (a b : ℕ) → long ≡ true → (long && nat_lt a b) 
 not_past true a b l h = ltb-false a b h
 not_past false a b l h = cc
 
-module _ (n : ℕ) (p : Pixel) (k : ℕ) (l : Lines) (is : IsLines n l) (queue rest : List (ℕ × Block)) (rs : List Rank) (e : ℕ × Block) (f : Front n p k l queue rs) (h : IsPermutation queue (e ∷ rest)) (least : All (λ z. e.0 ≤ z.0) rest) where
+module _ (n : ℕ) (p : Pixel) (k : ℕ) (l : Lines) (is : IsLines n l) (queue rest : List (ℕ × Block)) (rs : List Rank) (e : ℕ × Block)
+    (f : Front n p k l queue rs) (h : IsPermutation queue (e ∷ rest)) (least : All (λ z. e.0 ≤ z.0) rest) where
   -- a segment that a block holds is no nearer than the block that comes out
   Near : Rank → Type 0
   Near z = e.0 * z.1.den ≤ z.1.num
@@ -40,14 +42,16 @@ module _ (n : ℕ) (p : Pixel) (k : ℕ) (l : Lines) (is : IsLines n l) (queue r
       let w = f.waits held.by held.listed in
       let le = least_of_all n p k l is queue rest e h least held.by held.listed in
       let near = at.1.near held.by.1 held.holds in
-      let at_by : held.by.0 * (square_distance p i.seg).den ≤ (square_distance p i.seg).num = subst (λ t. t * (square_distance p i.seg).den ≤ (square_distance p i.seg).num) (sym w.distance) near in
+      let at_by : held.by.0 * (square_distance p i.seg).den ≤ (square_distance p i.seg).num =
+      subst (λ t. t * (square_distance p i.seg).den ≤ (square_distance p i.seg).num) (sym w.distance) near in
       let up = mul-le-mul_right (square_distance p i.seg).den le in
       let own : e.0 * (square_distance p i.seg).den ≤ (square_distance p i.seg).num = omega arith in
       inr (subst (λ (t : Fraction). e.0 * t.den ≤ t.num) i.distance own))
       (f.seen s i.listed at.0 at.1)
 
   -- all of a list are among those so far, or one is not and the block is no farther than it, or all so far are ahead of one
-  look_all : (fs : List Rank) → ((z : Rank) → Contains fs z → IsRank p l.segs z) → ((z : Rank) → Contains fs z → Contains rs z) ⊎ ((z : Rank) × Contains fs z × (AllAhead z ⊎ Near z))
+  look_all : (fs : List Rank) → ((z : Rank) → Contains fs z → IsRank p l.segs z) → ((z : Rank) → Contains fs z → Contains rs z)
+      ⊎ ((z : Rank) × Contains fs z × (AllAhead z ⊎ Near z))
   look_all [] real = inl (λ z c. absurd (Contains-nil z c))
   look_all (x ∷ xs) real =
       ⊎_elim
@@ -65,7 +69,8 @@ module _ (n : ℕ) (p : Pixel) (k : ℕ) (l : Lines) (is : IsLines n l) (queue r
   unfolding AllAhead
   not_ahead fs r long z c a =
       let le = a.0 in
-      let in' = λ (y : Rank) (d : Contains rs y). ⊎_elim {C = Contains fs y} (λ i. i) (λ w. absurd (not_both y z (a.1 y d) (w.1 z c))) (r.settled y (f.real y d)) in
+      let in' =
+      λ (y : Rank) (d : Contains rs y). ⊎_elim {C = Contains fs y} (λ i. i) (λ w. absurd (not_both y z (a.1 y d) (w.1 z c))) (r.settled y (f.real y d)) in
       let same = sub_same rs fs f.order r.order in' (omega arith) in
       not_itself z (a.1 z (subst (λ (t : List Rank). Contains t z) (sym same) c))
 

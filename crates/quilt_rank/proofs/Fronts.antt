@@ -1,5 +1,6 @@
 -- The search for the first k: those so far and the blocks that wait stand for all segments.
-use Rattle.std.proofs.Common.{◌≡◌, ℕ, ◌*◌, ◌<◌, ◌≤◌, true, false, ◌⊎◌, inl, inr, ⊎_elim, List, [], ◌∷◌, ◌++◌, fold, map, length, All, Contains, eqb, eqb-true, nat_lt, refl, sym, subst, arith, ap, ltb-true, IsPermutation}
+use Rattle.std.proofs.Common.{◌≡◌, ℕ, ◌*◌, ◌<◌, ◌≤◌, true, false, ◌⊎◌, inl, inr, ⊎_elim, List, [], ◌∷◌, ◌++◌, fold, map, length, All, Contains, eqb, eqb-true}
+use Rattle.std.proofs.Common.{nat_lt, refl, sym, subst, arith, ap, ltb-true, IsPermutation}
 use Rattle.std.specs.FinMap as finmap
 use Rattle.std.proofs.Math.Nat.{mul-le-mul_right}
 use Rattle.std.proofs.lemmas.Bool.{and_parts}
@@ -16,7 +17,8 @@ use Rattle.quilt_types.specs.Segments.{square_distance, meets, square}
 use Rattle.quilt_types.specs.Ranking.{ranked}
 use Rattle.quilt_clip.specs.Fractions.{UpTo}
 use Rattle.quilt_clip.proofs.Orders.{up_to_trans, up_to_if_less}
-use Rattle.quilt_loc.proofs.Members.{Contains-nil, Contains-here, Contains-there, Contains-cons_cases, Contains-map, Contains-map_from, Contains-filter, Contains-filter_from}
+use Rattle.quilt_loc.proofs.Members.{Contains-nil, Contains-here, Contains-there, Contains-cons_cases, Contains-map, Contains-map_from, Contains-filter}
+use Rattle.quilt_loc.proofs.Members.{Contains-filter_from}
 use Rattle.quilt_loc.proofs.Quartered.{IsBlock-whole, Holds-whole, quarters_are}
 use Rattle.quilt_near.specs.Lines.{Lines, IsLines, meeting}
 use Rattle.quilt_near.specs.Nearness.{IsNearPixel}
@@ -35,7 +37,8 @@ pub record Front (n : ℕ) (p : Pixel) (k : ℕ) (l : Lines) (queue : List (ℕ 
   pub order : AreRanked rs
   pub real : (z : Rank) → Contains rs z → IsRank p l.segs z
   pub few : length rs ≤ k
-  pub seen : (e : ℕ × Seg) → Contains (finmap.entries l.segs) e → (q : Pixel) → IsNearPixel p e.1 (square_distance p e.1) q → IsSettled k rs (far_of p e) ⊎ IsHeld queue q
+  pub seen : (e : ℕ × Seg) → Contains (finmap.entries l.segs) e → (q : Pixel) → IsNearPixel p e.1 (square_distance p e.1) q
+      → IsSettled k rs (far_of p e) ⊎ IsHeld queue q
 
 module _ {X : Type 0} (xs ys : List X) (h : IsPermutation xs ys) where
   to : (x : X) → Contains xs x → Contains ys x
@@ -49,7 +52,8 @@ module _ (n : ℕ) (p : Pixel) (k : ℕ) (l : Lines) (is : IsLines n l) where
   start queue h =
       let first = placed_at p (whole n) in
       record {
-        waits = λ e c. ⊎_elim (λ e'. subst (Waits n p l) e' (record { block = IsBlock-whole n; distance = refl; reached = reached_whole n l is })) (λ d. absurd (Contains-nil e d))
+        waits = λ e c. ⊎_elim (λ e'. subst (Waits n p l) e' (record { block = IsBlock-whole n; distance = refl; reached = reached_whole n l is }))
+            (λ d. absurd (Contains-nil e d))
             (Contains-cons_cases first [] e (from (first ∷ []) queue h e c));
         order = tt;
         real = λ z c. absurd (Contains-nil z c);
@@ -61,7 +65,8 @@ module _ (n : ℕ) (p : Pixel) (k : ℕ) (l : Lines) (is : IsLines n l) where
       }
 
   -- a block of the cover is opened
-  pub leaf_step : (queue rest : List (ℕ × Block)) (rs : List Rank) (e : ℕ × Block) (list : List (ℕ × Seg)) → Front n p k l queue rs → IsPermutation queue (e ∷ rest) → list ≡ meeting l.segs e.1
+  pub leaf_step : (queue rest : List (ℕ × Block)) (rs : List Rank) (e : ℕ × Block) (list : List (ℕ × Seg)) → Front n p k l queue rs
+      → IsPermutation queue (e ∷ rest) → list ≡ meeting l.segs e.1
       → Front n p k l rest (fold (with_seg p k) rs list)
   leaf_step queue rest rs e list f h same =
       let es = finmap.entries l.segs in
@@ -75,7 +80,8 @@ module _ (n : ℕ) (p : Pixel) (k : ℕ) (l : Lines) (is : IsLines n l) where
         seen = λ z c q near.
             ⊎_elim (λ done. inl (s.kept (far_of p z) (rank_of p l.segs z c) done))
             (λ held. ⊎_elim
-            (λ is_e. inl (s.here z (subst (λ (t : List (ℕ × Seg)). Contains t z) (sym same) (Contains-filter test es z c (near.meets e.1 (subst (λ (t : ℕ × Block). Holds t.1 q) (sym is_e) held.holds))))))
+            (λ is_e. inl (s.here z (subst (λ (t : List (ℕ × Seg)). Contains t z) (sym same)
+            (Contains-filter test es z c (near.meets e.1 (subst (λ (t : ℕ × Block). Holds t.1 q) (sym is_e) held.holds))))))
             (λ d. inr (record { by = held.by; listed = d; holds = held.holds }))
             (Contains-cons_cases e rest held.by (to queue (e ∷ rest) h held.by held.listed)))
             (f.seen z c q near);
@@ -93,7 +99,8 @@ module _ (n : ℕ) (p : Pixel) (k : ℕ) (l : Lines) (is : IsLines n l) where
             (λ d.
             let m = Contains-map_from (placed_at p) (quarters_of e.1) z d in
             let q = quarters_are n e.1 m.0 here.block wide m.1 in
-            subst (Waits n p l) m.2 (record { block = q.block; distance = refl; reached = reached_quarter n l is e.1 m.0 here.block wide here.reached cut m.1 }))
+            subst (Waits n p l) m.2
+            (record { block = q.block; distance = refl; reached = reached_quarter n l is e.1 m.0 here.block wide here.reached cut m.1 }))
             (λ d. f.waits z (from queue (e ∷ rest) h z (Contains-there e rest z d)))
             (Contains-append_cases four rest z (from (four ++ rest) new h' z c));
         order = f.order;
@@ -104,28 +111,37 @@ module _ (n : ℕ) (p : Pixel) (k : ℕ) (l : Lines) (is : IsLines n l) where
             (λ held. ⊎_elim
             (λ is_e.
             let r = quarter_holding n e.1 q here.block wide (subst (λ (t : ℕ × Block). Holds t.1 q) (sym is_e) held.holds) in
-            inr (record { by = placed_at p r.0; listed = to (four ++ rest) new h' (placed_at p r.0) (Contains-append_left four rest (placed_at p r.0) (Contains-map (placed_at p) (quarters_of e.1) r.0 r.1)); holds = r.2 }))
+            inr (record {
+              by = placed_at p r.0;
+              listed = to (four ++ rest) new h' (placed_at p r.0)
+                  (Contains-append_left four rest (placed_at p r.0) (Contains-map (placed_at p) (quarters_of e.1) r.0 r.1));
+              holds = r.2;
+            }))
             (λ d. inr (record { by = held.by; listed = to (four ++ rest) new h' held.by (Contains-append_right four rest held.by d); holds = held.holds }))
             (Contains-cons_cases e rest held.by (to queue (e ∷ rest) h held.by held.listed)))
             (f.seen z c q near);
       }
 
-  pub least_of_all : (queue rest : List (ℕ × Block)) (e : ℕ × Block) → IsPermutation queue (e ∷ rest) → All (λ z. e.0 ≤ z.0) rest → (z : ℕ × Block) → Contains queue z → e.0 ≤ z.0
+  pub least_of_all : (queue rest : List (ℕ × Block)) (e : ℕ × Block) → IsPermutation queue (e ∷ rest) → All (λ z. e.0 ≤ z.0) rest → (z : ℕ × Block)
+      → Contains queue z → e.0 ≤ z.0
   least_of_all queue rest e h least z c =
       ⊎_elim (λ is_e. subst (λ (t : ℕ × Block). e.0 ≤ t.0) is_e (omega arith)) (λ d. All-at (λ (t : ℕ × Block). e.0 ≤ t.0) rest z least d)
       (Contains-cons_cases e rest z (to queue (e ∷ rest) h z c))
 
-  settled_of : (rs : List Rank) → ((z : ℕ × Seg) → Contains (finmap.entries l.segs) z → IsSettled k rs (far_of p z)) → (z : Rank) → IsRank p l.segs z → IsSettled k rs z
+  settled_of : (rs : List Rank) → ((z : ℕ × Seg) → Contains (finmap.entries l.segs) z → IsSettled k rs (far_of p z)) → (z : Rank)
+      → IsRank p l.segs z → IsSettled k rs z
   settled_of rs h z i =
       let e : ℕ × Seg = (z.0, i.seg) in
       subst (IsSettled k rs) (ap (λ (t : Fraction). let r : Rank = (z.0, t) in r) i.distance) (h e i.listed)
 
-  finish : (queue : List (ℕ × Block)) (rs : List Rank) → Front n p k l queue rs → ((z : ℕ × Seg) → Contains (finmap.entries l.segs) z → IsSettled k rs (far_of p z)) → rs ≡ ranked l.segs p k
+  finish : (queue : List (ℕ × Block)) (rs : List Rank) → Front n p k l queue rs
+      → ((z : ℕ × Seg) → Contains (finmap.entries l.segs) z → IsSettled k rs (far_of p z)) → rs ≡ ranked l.segs p k
   finish queue rs f h = ranking_from p l.segs k rs f.few (record { order = f.order; real = f.real; settled = settled_of rs h })
 
   -- Nothing waits.
   pub at_end : (rs : List Rank) → Front n p k l [] rs → rs ≡ ranked l.segs p k
-  at_end rs f = finish [] rs f (λ z c. let at = near_pixel p z.1 in ⊎_elim (λ done. done) (λ held. absurd (Contains-nil held.by held.listed)) (f.seen z c at.0 at.1))
+  at_end rs f =
+      finish [] rs f (λ z c. let at = near_pixel p z.1 in ⊎_elim (λ done. done) (λ held. absurd (Contains-nil held.by held.listed)) (f.seen z c at.0 at.1))
 
   -- what is strictly farther than the last comes after all
   past_parts : (rs : List Rank) (d : ℕ) → is_past k rs d ≡ true → (length rs ≡ k) × ((last_far rs).num < d * (last_far rs).den)
@@ -133,7 +149,8 @@ module _ (n : ℕ) (p : Pixel) (k : ℕ) (l : Lines) (is : IsLines n l) where
       let w = and_parts (eqb (length rs) k) (nat_lt (last_far rs).num (d * (last_far rs).den)) h in
       (eqb-true (length rs) k w.0, ltb-true _ _ w.1)
 
-  after_all : (rs : List Rank) (z : Rank) → AreRanked rs → ((y : Rank) → Contains rs y → IsRank p l.segs y) → IsRank p l.segs z → 0 < length rs → is_less (last_far rs) z.1 ≡ true → (y : Rank) → Contains rs y → Ahead y z
+  after_all : (rs : List Rank) (z : Rank) → AreRanked rs → ((y : Rank) → Contains rs y → IsRank p l.segs y) → IsRank p l.segs z → 0 < length rs
+      → is_less (last_far rs) z.1 ≡ true → (y : Rank) → Contains rs y → Ahead y z
   after_all rs z order real iz some less y c =
       let last = last_is rs order some in
       let lt : is_less last.0.1 z.1 ≡ true = subst (λ (t : Fraction). is_less t z.1 ≡ true) (sym last.1.far) less in
@@ -149,7 +166,8 @@ module _ (n : ℕ) (p : Pixel) (k : ℕ) (l : Lines) (is : IsLines n l) where
       }
 
   -- What waits is strictly farther than the last of k.
-  pub at_stop : (queue rest : List (ℕ × Block)) (rs : List Rank) (e : ℕ × Block) → 1 ≤ k → Front n p k l queue rs → IsPermutation queue (e ∷ rest) → All (λ z. e.0 ≤ z.0) rest → is_past k rs e.0 ≡ true → rs ≡ ranked l.segs p k
+  pub at_stop : (queue rest : List (ℕ × Block)) (rs : List Rank) (e : ℕ × Block) → 1 ≤ k → Front n p k l queue rs → IsPermutation queue (e ∷ rest)
+      → All (λ z. e.0 ≤ z.0) rest → is_past k rs e.0 ≡ true → rs ≡ ranked l.segs p k
   at_stop queue rest rs e some f h least past =
       let w = past_parts rs e.0 past in
       let long = w.0 in
@@ -162,5 +180,9 @@ module _ (n : ℕ) (p : Pixel) (k : ℕ) (l : Lines) (is : IsLines n l) where
       let le = least_of_all queue rest e h least held.by held.listed in
       let up = mul-le-mul_right (last_far rs).den (subst (λ t. e.0 ≤ t) a.distance le) in
       let more = w.1 in
-      inr (long, after_all rs (far_of p z) f.order f.real (rank_of p l.segs z c) (omega arith) (farther p z.1 at.0 held.by.1 (last_far rs) at.1 held.holds (omega arith))))
+      inr (
+        long,
+        after_all rs (far_of p z) f.order f.real (rank_of p l.segs z c) (omega arith)
+            (farther p z.1 at.0 held.by.1 (last_far rs) at.1 held.holds (omega arith)),
+      ))
       (f.seen z c at.0 at.1))

@@ -1,5 +1,6 @@
 -- What the loop of the search keeps, where the layer shows its lines and where it does not.
-use Rattle.std.proofs.Common.{◌≡◌, ℕ, ◌+◌, ◌*◌, ◌<◌, ◌≤◌, true, false, List, [], ◌∷◌, ◌++◌, Option, map, length, All, Contains, refl, sym, subst, arith, le-leb, ⊎_elim, IsPermutation}
+use Rattle.std.proofs.Common.{◌≡◌, ℕ, ◌+◌, ◌*◌, ◌<◌, ◌≤◌, true, false, List, [], ◌∷◌, ◌++◌, Option, map, length, All, Contains, refl, sym, subst, arith, le-leb}
+use Rattle.std.proofs.Common.{⊎_elim, IsPermutation}
 use Rattle.std.proofs.lemmas.List.Sorted.{Contains-permutation, IsPermutation-sym}
 use Rattle.std.proofs.lemmas.List.Elements.{Contains-append_cases}
 use Rattle.quilt_types.specs.declared.plane.Pixel.{Pixel}
@@ -33,21 +34,26 @@ block_of e = e.1
 pub record Going (n : ℕ) (p : Pixel) (k : ℕ) (shown : Lines → Type 0) (before now : Option ℕ) (queue : List (ℕ × Block)) (rs : List Rank) : Type 0 where
   pub valid : (e : ℕ × Block) → Contains queue e → IsBlock n e.1
   pub front : (l : Lines) → shown l → Front n p k l queue rs
-  pub paid : (l : Lines) → shown l → length (ranked l.segs p k) ≡ k → Tells (λ old new. new + owed block_of n (is_close p (last_far (ranked l.segs p k))) l queue ≤ old + reach n l.segs l.cover (is_close p (last_far (ranked l.segs p k)))) before now
+  pub paid : (l : Lines) → shown l → length (ranked l.segs p k) ≡ k
+      → Tells (λ old new. new + owed block_of n (is_close p (last_far (ranked l.segs p k))) l queue ≤ old
+      + reach n l.segs l.cover (is_close p (last_far (ranked l.segs p k)))) before now
 
 module _ (n : ℕ) (p : Pixel) (k : ℕ) (some : 1 ≤ k) (shown : Lines → Type 0) (lines : (l : Lines) → shown l → IsLines n l) (before : Option ℕ) where
   pub going_start : (queue : List (ℕ × Block)) → IsPermutation (placed_at p (whole n) ∷ []) queue → Going n p k shown before before queue []
   going_start queue h = record {
     valid = λ e c. ⊎_elim (λ is. subst (λ (z : ℕ × Block). IsBlock n z.1) is (IsBlock-whole n)) (λ d. absurd (Contains-nil e d))
-        (Contains-cons_cases (placed_at p (whole n)) [] e (Contains-permutation queue (placed_at p (whole n) ∷ []) e (IsPermutation-sym (placed_at p (whole n) ∷ []) queue h) c));
+        (Contains-cons_cases (placed_at p (whole n)) [] e
+        (Contains-permutation queue (placed_at p (whole n) ∷ []) e (IsPermutation-sym (placed_at p (whole n) ∷ []) queue h) c));
     front = λ l s. start n p k l (lines l s) queue h;
     paid = λ l s long.
         let test = is_close p (last_far (ranked l.segs p k)) in
-        tells_same (λ old new. new + owed block_of n test l queue ≤ old + reach n l.segs l.cover test) (λ x. let o = owed_first block_of n test l (placed_at p (whole n)) queue refl h in omega arith) before;
+        tells_same (λ old new. new + owed block_of n test l queue ≤ old + reach n l.segs l.cover test)
+        (λ x. let o = owed_first block_of n test l (placed_at p (whole n)) queue refl h in omega arith) before;
   }
 
   -- a block came out, is to be opened, and was opened
-  module _ (mid : Option ℕ) (queue rest : List (ℕ × Block)) (rs : List Rank) (e : ℕ × Block) (g : Going n p k shown before mid queue rs) (h : IsPermutation queue (e ∷ rest)) where
+  module _ (mid : Option ℕ) (queue rest : List (ℕ × Block)) (rs : List Rank) (e : ℕ × Block) (g : Going n p k shown before mid queue rs)
+      (h : IsPermutation queue (e ∷ rest)) where
     inside : (z : ℕ × Block) → Contains (e ∷ rest) z → Contains queue z
     inside z c = Contains-permutation (e ∷ rest) queue z (IsPermutation-sym queue (e ∷ rest) h) c
 
@@ -57,14 +63,16 @@ module _ (n : ℕ) (p : Pixel) (k : ℕ) (some : 1 ≤ k) (shown : Lines → Typ
     pub first_reached : (l : Lines) → shown l → is_reached l.cover e.1 ≡ true
     first_reached l s = ((g.front l s).waits e (inside e (Contains-here e rest))).reached
 
-    close_to : (l : Lines) (s : shown l) → All (λ z. e.0 ≤ z.0) rest → is_past k rs e.0 ≡ false → length (ranked l.segs p k) ≡ k → is_close p (last_far (ranked l.segs p k)) e.1 ≡ true
+    close_to : (l : Lines) (s : shown l) → All (λ z. e.0 ≤ z.0) rest → is_past k rs e.0 ≡ false → length (ranked l.segs p k) ≡ k
+        → is_close p (last_far (ranked l.segs p k)) e.1 ≡ true
     close_to l s least past long =
         let far = last_far (ranked l.segs p k) in
         let c = close n p k l (lines l s) queue rest rs e (g.front l s) h least (ranked l.segs p k) some refl long past in
         let w = (g.front l s).waits e (inside e (Contains-here e rest)) in
         le-leb (block_distance p e.1 * far.den) far.num (subst (λ t. t * far.den ≤ far.num) w.distance c)
 
-    by_part : (now : Option ℕ) (new : List (ℕ × Block)) (then : List Rank) → All (λ z. e.0 ≤ z.0) rest → is_past k rs e.0 ≡ false → (part : Part) → ((l : Lines) → shown l → IsPart l e.1 part) → IsPartOf n e.1 part → After p k e.1 part rest new rs then
+    by_part : (now : Option ℕ) (new : List (ℕ × Block)) (then : List Rank) → All (λ z. e.0 ≤ z.0) rest → is_past k rs e.0 ≡ false → (part : Part)
+        → ((l : Lines) → shown l → IsPart l e.1 part) → IsPartOf n e.1 part → After p k e.1 part rest new rs then
         → Tells (λ x y. y ≤ x + pages_for part) mid now → Going n p k shown before now new then
     by_part now new then least past (Leaf list) found of after reads =
         subst (λ (t : List (ℕ × Block)). Going n p k shown before now t then) (sym after.0) (subst (Going n p k shown before now rest) (sym after.1) (record {
@@ -72,47 +80,62 @@ module _ (n : ℕ) (p : Pixel) (k : ℕ) (some : 1 ≤ k) (shown : Lines → Typ
           front = λ l s. leaf_step n p k l (lines l s) queue rest rs e list (g.front l s) h (found l s).1;
           paid = λ l s long.
               let test = is_close p (last_far (ranked l.segs p k)) in
-              let less = owed_leaf block_of n test l queue rest e h first_valid (first_reached l s) (close_to l s least past long) list (found l s).0 (found l s).1 in
-              tells_then (λ x y. y + owed block_of n test l queue ≤ x + reach n l.segs l.cover test) (λ x y. y ≤ x + (12 + 6 * length list)) (λ x y. y + owed block_of n test l rest ≤ x + reach n l.segs l.cover test)
+              let less =
+              owed_leaf block_of n test l queue rest e h first_valid (first_reached l s) (close_to l s least past long) list (found l s).0 (found l s).1 in
+              tells_then (λ x y. y + owed block_of n test l queue ≤ x + reach n l.segs l.cover test) (λ x y. y ≤ x + (12 + 6 * length list))
+              (λ x y. y + owed block_of n test l rest ≤ x + reach n l.segs l.cover test)
               (λ x y z a b. omega arith) before mid now (g.paid l s long) reads;
         }))
     by_part now new then least past Split found wide after reads =
         subst (Going n p k shown before now new) (sym after.1) (record {
           valid = λ z c.
               ⊎_elim
-              (λ d. let m = Contains-map_from (placed_at p) (quarters_of e.1) z d in subst (λ (t : ℕ × Block). IsBlock n t.1) m.2 (quarters_are n e.1 m.0 first_valid wide m.1).block)
+              (λ d. let m = Contains-map_from (placed_at p) (quarters_of e.1) z d in
+              subst (λ (t : ℕ × Block). IsBlock n t.1) m.2 (quarters_are n e.1 m.0 first_valid wide m.1).block)
               (λ d. g.valid z (inside z (Contains-there e rest z d)))
-              (Contains-append_cases (map (placed_at p) (quarters_of e.1)) rest z (Contains-permutation new (map (placed_at p) (quarters_of e.1) ++ rest) z (IsPermutation-sym (map (placed_at p) (quarters_of e.1) ++ rest) new after.0) c));
+              (Contains-append_cases (map (placed_at p) (quarters_of e.1)) rest z
+              (Contains-permutation new (map (placed_at p) (quarters_of e.1) ++ rest) z
+              (IsPermutation-sym (map (placed_at p) (quarters_of e.1) ++ rest) new after.0) c));
           front = λ l s. split_step n p k l (lines l s) queue rest new rs e (g.front l s) h wide (found l s) after.0;
           paid = λ l s long.
               let test = is_close p (last_far (ranked l.segs p k)) in
-              let less = owed_split block_of n test l queue rest e h first_valid (first_reached l s) (close_to l s least past long) (map (placed_at p) (quarters_of e.1)) new wide (found l s) refl after.0 in
-              tells_then (λ x y. y + owed block_of n test l queue ≤ x + reach n l.segs l.cover test) (λ x y. y ≤ x + 12) (λ x y. y + owed block_of n test l new ≤ x + reach n l.segs l.cover test)
+              let less = owed_split block_of n test l queue rest e h first_valid (first_reached l s) (close_to l s least past long)
+              (map (placed_at p) (quarters_of e.1)) new wide (found l s) refl after.0 in
+              tells_then (λ x y. y + owed block_of n test l queue ≤ x + reach n l.segs l.cover test) (λ x y. y ≤ x + 12)
+              (λ x y. y + owed block_of n test l new ≤ x + reach n l.segs l.cover test)
               (λ x y z a b. omega arith) before mid now (g.paid l s long) reads;
         })
 
-    left_by_part : (new : List (ℕ × Block)) (then : List Rank) (part : Part) → IsPartOf n e.1 part → After p k e.1 part rest new rs then → left block_of new < left block_of queue
-    left_by_part new then (Leaf list) of after = subst (λ (t : List (ℕ × Block)). left block_of t < left block_of queue) (sym after.0) (left_leaf block_of queue rest e h (side_pos n e.1 first_valid))
+    left_by_part : (new : List (ℕ × Block)) (then : List Rank) (part : Part) → IsPartOf n e.1 part → After p k e.1 part rest new rs then
+        → left block_of new < left block_of queue
+    left_by_part new then (Leaf list) of after =
+        subst (λ (t : List (ℕ × Block)). left block_of t < left block_of queue) (sym after.0) (left_leaf block_of queue rest e h (side_pos n e.1 first_valid))
     left_by_part new then Split wide after = left_split block_of queue rest new (map (placed_at p) (quarters_of e.1)) e h wide refl after.0
 
-    pub going_on : (now : Option ℕ) (new : List (ℕ × Block)) (then : List Rank) (shown' : Lines → Type 0) → ((l : Lines) → shown l → shown' l) → All (λ z. e.0 ≤ z.0) rest → is_past k rs e.0 ≡ false → IsOpened n p k e.1 shown' rest new rs then mid now → Going n p k shown before now new then
+    pub going_on : (now : Option ℕ) (new : List (ℕ × Block)) (then : List Rank) (shown' : Lines → Type 0) → ((l : Lines) → shown l → shown' l)
+        → All (λ z. e.0 ≤ z.0) rest → is_past k rs e.0 ≡ false → IsOpened n p k e.1 shown' rest new rs then mid now → Going n p k shown before now new then
     going_on now new then shown' still least past o = by_part now new then least past o.part (λ l s. o.found l (still l s)) o.found_of o.after o.reads
 
-    pub less_left : (now : Option ℕ) (new : List (ℕ × Block)) (then : List Rank) (shown' : Lines → Type 0) → IsOpened n p k e.1 shown' rest new rs then mid now → left block_of new < left block_of queue
+    pub less_left : (now : Option ℕ) (new : List (ℕ × Block)) (then : List Rank) (shown' : Lines → Type 0) → IsOpened n p k e.1 shown' rest new rs
+        then mid now → left block_of new < left block_of queue
     less_left now new then shown' o = left_by_part new then o.part o.found_of o.after
 
-  pub going_end : (now : Option ℕ) (queue : List (ℕ × Block)) (rs : List Rank) → Going n p k shown before now queue rs → queue ≡ [] → (l : Lines) → shown l → rs ≡ ranked l.segs p k
+  pub going_end : (now : Option ℕ) (queue : List (ℕ × Block)) (rs : List Rank) → Going n p k shown before now queue rs → queue ≡ [] → (l : Lines)
+      → shown l → rs ≡ ranked l.segs p k
   going_end now queue rs g e l s = at_end n p k l (lines l s) rs (subst (λ (t : List (ℕ × Block)). Front n p k l t rs) e (g.front l s))
 
-  pub going_stop : (now : Option ℕ) (queue rest : List (ℕ × Block)) (rs : List Rank) (e : ℕ × Block) → Going n p k shown before now queue rs → IsPermutation queue (e ∷ rest) → All (λ z. e.0 ≤ z.0) rest
+  pub going_stop : (now : Option ℕ) (queue rest : List (ℕ × Block)) (rs : List Rank) (e : ℕ × Block) → Going n p k shown before now queue rs
+      → IsPermutation queue (e ∷ rest) → All (λ z. e.0 ≤ z.0) rest
       → is_past k rs e.0 ≡ true → (l : Lines) → shown l → rs ≡ ranked l.segs p k
   going_stop now queue rest rs e g h least past l s = at_stop n p k l (lines l s) queue rest rs e some (g.front l s) h least past
 
-  pub going_reads : (now : Option ℕ) (queue : List (ℕ × Block)) (rs : List Rank) → Going n p k shown before now queue rs → (l : Lines) → shown l → rs ≡ ranked l.segs p k → length rs ≡ k
+  pub going_reads : (now : Option ℕ) (queue : List (ℕ × Block)) (rs : List Rank) → Going n p k shown before now queue rs → (l : Lines) → shown l
+      → rs ≡ ranked l.segs p k → length rs ≡ k
       → Tells (λ old new. new ≤ old + reach n l.segs l.cover (is_close p (last_far rs))) before now
   going_reads now queue rs g l s is long =
       let answer = ranked l.segs p k in
       let test = is_close p (last_far answer) in
       let paid = g.paid l s (subst (λ (t : List Rank). length t ≡ k) is long) in
       subst (λ (t : List Rank). Tells (λ old new. new ≤ old + reach n l.segs l.cover (is_close p (last_far t))) before now) (sym is)
-      (tells_weaker (λ x y. y + owed block_of n test l queue ≤ x + reach n l.segs l.cover test) (λ x y. y ≤ x + reach n l.segs l.cover test) (λ x y a. omega arith) before now paid)
+      (tells_weaker (λ x y. y + owed block_of n test l queue ≤ x + reach n l.segs l.cover test) (λ x y. y ≤ x + reach n l.segs l.cover test)
+      (λ x y a. omega arith) before now paid)

@@ -1,5 +1,6 @@
 -- Lists in the order of distance and then id.
-use Rattle.std.proofs.Common.{◌≡◌, ℕ, zero, suc, ◌<◌, ◌≤◌, Bool, true, false, cond, ◌⊎◌, inl, inr, ⊎_elim, List, [], ◌∷◌, length, take, Contains, eqb, eqb-true, refl, sym, ◌∙◌, ap, ap₂, subst, arith, true≢false}
+use Rattle.std.proofs.Common.{◌≡◌, ℕ, zero, suc, ◌<◌, ◌≤◌, Bool, true, false, cond, ◌⊎◌, inl, inr, ⊎_elim, List, [], ◌∷◌, length, take, Contains, eqb, eqb-true}
+use Rattle.std.proofs.Common.{refl, sym, ◌∙◌, ap, ap₂, subst, arith, true≢false}
 use Rattle.std.specs.Prelude.{◌==◌, if◌then◌else◌}
 use Rattle.quilt_types.specs.Fractions.{Fraction}
 use Rattle.quilt_types.specs.Ranking.{comes_first, placed}
@@ -64,7 +65,8 @@ module _ (all : Rank → Type 0) (positive : (a : Rank) → all a → 0 < a.1.de
       eq_true : (x y : ℕ) → x ≡ y → eqb x y ≡ true
       eq_true x y i = grind arith
 
-  put_by : (f : Rank) (fs : List Rank) (e : Rank) (same before : Bool) → eqb f.0 e.0 ≡ same → comes_first e f ≡ before → all e → ((z : Rank) → Contains (f ∷ fs) z → all z) → AreRanked (f ∷ fs) → Puts fs e (put fs e)
+  put_by : (f : Rank) (fs : List Rank) (e : Rank) (same before : Bool) → eqb f.0 e.0 ≡ same → comes_first e f ≡ before → all e
+      → ((z : Rank) → Contains (f ∷ fs) z → all z) → AreRanked (f ∷ fs) → Puts fs e (put fs e)
       → Puts (f ∷ fs) e (cond same (f ∷ fs) (cond before (e ∷ f ∷ fs) (f ∷ put fs e)))
   put_by f fs e true before es eb ie in' ranked rest =
       let is : f ≡ e = one f e (in' f (Contains-here f fs)) ie (eqb-true f.0 e.0 es) in
@@ -73,7 +75,8 @@ module _ (all : Rank → Type 0) (positive : (a : Rank) → all a → 0 < a.1.de
       let h = first_ahead e f (not_eq f.0 e.0 es) eb in
       record {
         ranked = (
-          λ z c. ⊎_elim (λ is. subst (Ahead e) is h) (λ d. ahead_trans e f z ie (in' f (Contains-here f fs)) (in' z (Contains-there f fs z d)) h (ranked.0 z d)) (Contains-cons_cases f fs z c),
+          λ z c. ⊎_elim (λ is. subst (Ahead e) is h)
+              (λ d. ahead_trans e f z ie (in' f (Contains-here f fs)) (in' z (Contains-there f fs z d)) h (ranked.0 z d)) (Contains-cons_cases f fs z c),
           ranked,
         );
         here = Contains-here e (f ∷ fs);
@@ -85,16 +88,26 @@ module _ (all : Rank → Type 0) (positive : (a : Rank) → all a → 0 < a.1.de
       record {
         ranked = (λ z c. ⊎_elim (λ is. subst (Ahead f) is h) (λ d. ranked.0 z d) (rest.real z c), rest.ranked);
         here = Contains-there f (put fs e) e rest.here;
-        kept = λ z c. ⊎_elim (λ is. subst (Contains (f ∷ put fs e)) is (Contains-here f (put fs e))) (λ d. Contains-there f (put fs e) z (rest.kept z d)) (Contains-cons_cases f fs z c);
-        real = λ z c. ⊎_elim (λ is. inr (subst (Contains (f ∷ fs)) is (Contains-here f fs))) (λ d. ⊎_elim (λ i. inl i) (λ k. inr (Contains-there f fs z k)) (rest.real z d)) (Contains-cons_cases f (put fs e) z c);
+        kept = λ z c. ⊎_elim (λ is. subst (Contains (f ∷ put fs e)) is (Contains-here f (put fs e)))
+            (λ d. Contains-there f (put fs e) z (rest.kept z d)) (Contains-cons_cases f fs z c);
+        real = λ z c. ⊎_elim (λ is. inr (subst (Contains (f ∷ fs)) is (Contains-here f fs)))
+            (λ d. ⊎_elim (λ i. inl i) (λ k. inr (Contains-there f fs z k)) (rest.real z d)) (Contains-cons_cases f (put fs e) z c);
       }
 
   pub puts : (rs : List Rank) (e : Rank) → all e → ((z : Rank) → Contains rs z → all z) → AreRanked rs → Puts rs e (put rs e)
-  puts [] e ie in' ranked = record { ranked = (λ z c. absurd (Contains-nil z c), tt); here = Contains-here e []; kept = λ z c. absurd (Contains-nil z c); real = λ z c. Contains-cons_cases e [] z c }
-  puts (f ∷ fs) e ie in' ranked = put_by f fs e (eqb f.0 e.0) (comes_first e f) refl refl ie in' ranked (puts fs e ie (λ z c. in' z (Contains-there f fs z c)) ranked.1)
+  puts [] e ie in' ranked =
+      record {
+        ranked = (λ z c. absurd (Contains-nil z c), tt);
+        here = Contains-here e [];
+        kept = λ z c. absurd (Contains-nil z c);
+        real = λ z c. Contains-cons_cases e [] z c;
+      }
+  puts (f ∷ fs) e ie in' ranked =
+      put_by f fs e (eqb f.0 e.0) (comes_first e f) refl refl ie in' ranked (puts fs e ie (λ z c. in' z (Contains-there f fs z c)) ranked.1)
 
   -- where an id stands in no list before, `placed` is `put`
-  placed_by : (f : Rank) (fs : List Rank) (e : Rank) (same before : Bool) → eqb f.0 e.0 ≡ same → (f.0 ≡ e.0 → ⊥) → placed fs e ≡ put fs e → cond before (e ∷ f ∷ fs) (f ∷ placed fs e) ≡ cond same (f ∷ fs) (cond before (e ∷ f ∷ fs) (f ∷ put fs e))
+  placed_by : (f : Rank) (fs : List Rank) (e : Rank) (same before : Bool) → eqb f.0 e.0 ≡ same → (f.0 ≡ e.0 → ⊥) → placed fs e ≡ put fs e
+      → cond before (e ∷ f ∷ fs) (f ∷ placed fs e) ≡ cond same (f ∷ fs) (cond before (e ∷ f ∷ fs) (f ∷ put fs e))
   placed_by f fs e true before es apart h = absurd (apart (eqb-true f.0 e.0 es))
   placed_by f fs e false before es apart h = ap (λ t. cond before (e ∷ f ∷ fs) (f ∷ t)) h
 
@@ -107,7 +120,8 @@ module _ (all : Rank → Type 0) (positive : (a : Rank) → all a → 0 < a.1.de
 pub in_take : (k : ℕ) (xs : List Rank) (z : Rank) → Contains (take k xs) z → Contains xs z
 in_take zero xs z c = absurd (Contains-nil z c)
 in_take (suc k) [] z c = absurd (Contains-nil z c)
-in_take (suc k) (x ∷ xs) z c = ⊎_elim (λ is. subst (Contains (x ∷ xs)) is (Contains-here x xs)) (λ d. Contains-there x xs z (in_take k xs z d)) (Contains-cons_cases x (take k xs) z c)
+in_take (suc k) (x ∷ xs) z c =
+    ⊎_elim (λ is. subst (Contains (x ∷ xs)) is (Contains-here x xs)) (λ d. Contains-there x xs z (in_take k xs z d)) (Contains-cons_cases x (take k xs) z c)
 
 pub take_ranked : (k : ℕ) (xs : List Rank) → AreRanked xs → AreRanked (take k xs)
 take_ranked zero xs h = tt
@@ -129,19 +143,22 @@ take_settled (suc k) [] h e c = absurd (Contains-nil e c)
 take_settled (suc k) (x ∷ xs) h e c =
     ⊎_elim (λ is. inl (subst (Contains (x ∷ take k xs)) is (Contains-here x (take k xs))))
     (λ d. ⊎_elim (λ i. inl (Contains-there x (take k xs) e i))
-    (λ w. let l = w.0 in inr (omega arith, λ y i. ⊎_elim (λ is. subst (λ (z : Rank). Ahead z e) is (h.0 e d)) (λ j. w.1 y j) (Contains-cons_cases x (take k xs) y i)))
+    (λ w. let l =
+    w.0 in inr (omega arith, λ y i. ⊎_elim (λ is. subst (λ (z : Rank). Ahead z e) is (h.0 e d)) (λ j. w.1 y j) (Contains-cons_cases x (take k xs) y i)))
     (take_settled k xs h.1 e d))
     (Contains-cons_cases x xs e c)
 
 -- ---- ranked lists against each other
-lower : (x y : Rank) (xs ys : List Rank) → AreRanked (x ∷ xs) → AreRanked (y ∷ ys) → Contains ys x → (z : Rank) → Contains (x ∷ xs) z → Contains (y ∷ ys) z → Contains ys z
+lower : (x y : Rank) (xs ys : List Rank) → AreRanked (x ∷ xs) → AreRanked (y ∷ ys) → Contains ys x → (z : Rank) → Contains (x ∷ xs) z
+    → Contains (y ∷ ys) z → Contains ys z
 lower x y xs ys h k cx z cz c =
     ⊎_elim
     (λ is. absurd (⊎_elim (λ xz. not_itself x (subst (λ (t : Rank). Ahead t x) (is ∙ sym xz) (k.0 x cx)))
     (λ d. not_both x y (subst (Ahead x) (sym is) (h.0 z d)) (k.0 x cx)) (Contains-cons_cases x xs z cz)))
     (λ d. d) (Contains-cons_cases y ys z c)
 
-tail_in : (x y : Rank) (xs ys : List Rank) → AreRanked (x ∷ xs) → y ≡ x → ((z : Rank) → Contains (x ∷ xs) z → Contains (y ∷ ys) z) → (z : Rank) → Contains xs z → Contains ys z
+tail_in : (x y : Rank) (xs ys : List Rank) → AreRanked (x ∷ xs) → y ≡ x → ((z : Rank) → Contains (x ∷ xs) z → Contains (y ∷ ys) z) → (z : Rank)
+    → Contains xs z → Contains ys z
 tail_in x y xs ys h is in' z c =
     ⊎_elim (λ yz. absurd (not_itself x (subst (Ahead x) (sym (sym is ∙ yz)) (h.0 z c)))) (λ d. d) (Contains-cons_cases y ys z (in' z (Contains-there x xs z c)))
 
@@ -164,14 +181,16 @@ sub_same (x ∷ xs) (y ∷ ys) h k in' le =
     (Contains-cons_cases y ys x (in' x (Contains-here x xs)))
 
 -- the first of a ranked list: those of it, or else all ahead
-pub first_of : (xs ys : List Rank) → AreRanked xs → AreRanked ys → ((z : Rank) → Contains xs z → Contains ys z) → ((z : Rank) → Contains ys z → Contains xs z ⊎ ((y : Rank) → Contains xs y → Ahead y z)) → xs ≡ take (length xs) ys
+pub first_of : (xs ys : List Rank) → AreRanked xs → AreRanked ys → ((z : Rank) → Contains xs z → Contains ys z)
+    → ((z : Rank) → Contains ys z → Contains xs z ⊎ ((y : Rank) → Contains xs y → Ahead y z)) → xs ≡ take (length xs) ys
 first_of [] ys h k in' out = refl
 first_of (x ∷ xs) [] h k in' out = absurd (Contains-nil x (in' x (Contains-here x xs)))
 first_of (x ∷ xs) (y ∷ ys) h k in' out =
     let is : y ≡ x =
     ⊎_elim (λ i. i)
     (λ d. absurd (⊎_elim
-    (λ c. ⊎_elim (λ xy. not_itself x (subst (λ (t : Rank). Ahead t x) (sym xy) (k.0 x d))) (λ e. not_both x y (h.0 y e) (k.0 x d)) (Contains-cons_cases x xs y c))
+    (λ c. ⊎_elim (λ xy. not_itself x (subst (λ (t : Rank). Ahead t x) (sym xy) (k.0 x d))) (λ e. not_both x y (h.0 y e) (k.0 x d))
+    (Contains-cons_cases x xs y c))
     (λ f. not_both x y (f x (Contains-here x xs)) (k.0 x d))
     (out y (Contains-here y ys))))
     (Contains-cons_cases y ys x (in' x (Contains-here x xs))) in

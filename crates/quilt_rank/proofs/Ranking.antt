@@ -1,5 +1,6 @@
 -- The first k of the ranking, kept as segments come.
-use Rattle.std.proofs.Common.{◌≡◌, ℕ, zero, suc, ◌<◌, ◌≤◌, true, false, cond, inl, inr, ⊎_elim, List, [], ◌∷◌, length, take, fold, Contains, Bool, eqb, refl, sym, ◌∙◌, ap, subst, arith}
+use Rattle.std.proofs.Common.{◌≡◌, ℕ, zero, suc, ◌<◌, ◌≤◌, true, false, cond, inl, inr, ⊎_elim, List, [], ◌∷◌, length, take, fold, Contains, Bool, eqb, refl}
+use Rattle.std.proofs.Common.{sym, ◌∙◌, ap, subst, arith}
 use Rattle.std.specs.FinMap as finmap
 use Rattle.std.proofs.lemmas.Bool.{cases_lt}
 use Rattle.std.proofs.lemmas.List.{take_all, length-take-le}
@@ -15,7 +16,8 @@ use Rattle.quilt_loc.proofs.Members.{Contains-nil, Contains-here, Contains-there
 use Rattle.quilt_near.proofs.Leasts.{Rises, rises_if_sorted, same_entry}
 use Rattle.quilt_near.proofs.Leading.{IsOne, far_of, real_positive}
 use Rattle.quilt_rank.specs.Ranks.{added, with_seg, last_far}
-use Rattle.quilt_rank.proofs.Orders.{Rank, put, Ahead, AreRanked, ahead_trans, first_ahead, not_eq, Puts, puts, placed_put, in_take, take_ranked, take_few, IsSettled, take_settled, sub_length, first_of}
+use Rattle.quilt_rank.proofs.Orders.{Rank, put, Ahead, AreRanked, ahead_trans, first_ahead, not_eq, Puts, puts, placed_put, in_take, take_ranked, take_few}
+use Rattle.quilt_rank.proofs.Orders.{IsSettled, take_settled, sub_length, first_of}
 use Rattle.quilt_rank.proofs.Adding.{added_put}
 
 -- the last of a ranked list is as far as any
@@ -40,7 +42,8 @@ last_is (x ∷ z ∷ zs) h some =
       record {
         listed = Contains-there x (z ∷ zs) r.0 r.1.listed;
         far = r.1.far;
-        most = λ y c. ⊎_elim (λ is. subst (λ (t : Rank). UpTo t.1 r.0.1) is (h.0 r.0 r.1.listed).leads.near) (λ d. r.1.most y d) (Contains-cons_cases x (z ∷ zs) y c);
+        most = λ y c. ⊎_elim (λ is. subst (λ (t : Rank). UpTo t.1 r.0.1) is (h.0 r.0 r.1.listed).leads.near) (λ d. r.1.most y d)
+            (Contains-cons_cases x (z ∷ zs) y c);
       },
     )
 
@@ -72,7 +75,8 @@ module _ (p : Pixel) (segs : SegMap) where
   pub ahead : (a b c : Rank) → IsRank a → IsRank b → IsRank c → Ahead a b → Ahead b c → Ahead a c
   ahead a b c = ahead_trans IsRank rank_positive one_rank a b c
 
-  pub put_is : (rs : List Rank) (e : Rank) → IsRank e → ((z : Rank) → Contains rs z → IsRank z) → AreRanked rs → Puts IsRank rank_positive one_rank rs e (put rs e)
+  pub put_is : (rs : List Rank) (e : Rank) → IsRank e → ((z : Rank) → Contains rs z → IsRank z) → AreRanked rs
+      → Puts IsRank rank_positive one_rank rs e (put rs e)
   put_is rs e = puts IsRank rank_positive one_rank rs e
 
   -- ---- all in order
@@ -82,8 +86,10 @@ module _ (p : Pixel) (segs : SegMap) where
     here : (e : ℕ × Seg) → Contains fs e → Contains now (far_of p e)
     kept : (z : Rank) → Contains done z → Contains now z
 
-  sorts : (done : List Rank) (fs : List (ℕ × Seg)) → AreRanked done → ((z : Rank) → Contains done z → IsRank z) → ((e : ℕ × Seg) → Contains fs e → Contains (finmap.entries segs) e)
-      → ((z : Rank) → Contains done z → (e : ℕ × Seg) → Contains fs e → z.0 ≡ e.0 → ⊥) → Rises fs → Sorts done fs (fold (λ rs e. placed rs (e.0, square_distance p e.1)) done fs)
+  sorts : (done : List Rank) (fs : List (ℕ × Seg)) → AreRanked done → ((z : Rank) → Contains done z → IsRank z)
+      → ((e : ℕ × Seg) → Contains fs e → Contains (finmap.entries segs) e)
+      → ((z : Rank) → Contains done z → (e : ℕ × Seg) → Contains fs e → z.0 ≡ e.0 → ⊥) → Rises fs
+      → Sorts done fs (fold (λ rs e. placed rs (e.0, square_distance p e.1)) done fs)
   sorts done [] r real in' off rises = record { ranked_is = r; real = real; here = λ e c. absurd (Contains-nil e c); kept = λ z c. c }
   sorts done (x ∷ xs) r real in' off rises =
       let e = far_of p x in
@@ -94,12 +100,15 @@ module _ (p : Pixel) (segs : SegMap) where
       let more = sorts (placed done e) xs step.ranked
       (λ z c. ⊎_elim (λ is. subst IsRank is i) (λ d. real z d) (step.real z c))
       (λ y c. in' y (Contains-there x xs y c))
-      (λ z c y d is. ⊎_elim (λ ez. let lt = rises.0 y d in let j : x.0 ≡ z.0 = ap (λ (t : Rank). t.0) ez in omega arith) (λ k. off z k y (Contains-there x xs y d) is) (step.real z c))
+      (λ z c y d is. ⊎_elim (λ ez. let lt = rises.0 y d in let j : x.0 ≡ z.0 = ap (λ (t : Rank). t.0) ez in omega arith)
+      (λ k. off z k y (Contains-there x xs y d) is) (step.real z c))
       rises.1 in
       record {
         ranked_is = more.ranked_is;
         real = more.real;
-        here = λ y c. ⊎_elim (λ is. subst (λ (t : ℕ × Seg). Contains (fold (λ rs f. placed rs (f.0, square_distance p f.1)) (placed done e) xs) (far_of p t)) is (more.kept e step.here)) (λ d. more.here y d) (Contains-cons_cases x xs y c);
+        here =
+            λ y c. ⊎_elim (λ is. subst (λ (t : ℕ × Seg). Contains (fold (λ rs f. placed rs (f.0, square_distance p f.1)) (placed done e) xs)
+            (far_of p t)) is (more.kept e step.here)) (λ d. more.here y d) (Contains-cons_cases x xs y c);
         kept = λ z c. more.kept z (step.kept z c);
       }
 
@@ -140,7 +149,8 @@ module _ (p : Pixel) (segs : SegMap) where
       (λ z c. ⊎_elim (λ d. inl d) (λ w. inr w.1) (h.settled z (s.real z c))) in
       ⊎_elim
       (λ lt.
-      let all = λ (z : Rank) (c : Contains all_in_order z). ⊎_elim {C = Contains rs z} (λ d. d) (λ w. absurd (let l = w.0 in omega arith)) (h.settled z (s.real z c)) in
+      let all = λ (z : Rank) (c : Contains all_in_order z). ⊎_elim {C = Contains rs z} (λ d. d) (λ w. absurd (let l = w.0 in omega arith))
+      (h.settled z (s.real z c)) in
       let le = sub_length all_in_order rs s.ranked_is h.order all in
       first ∙ take_all (length rs) all_in_order le ∙ sym (take_all k all_in_order (omega arith)) ∙ sym (ranked_take k))
       (λ ge. first ∙ ap (λ j. take j all_in_order) (let e : length rs ≡ k = omega arith in e) ∙ sym (ranked_take k))
@@ -152,8 +162,10 @@ module _ (p : Pixel) (segs : SegMap) where
     full : length rs ≡ k
     each : (y : Rank) → Contains rs y → Ahead y z
 
-  cut_by : (f : Rank) (fs : List Rank) (x z : Rank) (k : ℕ) (same before : Bool) → eqb f.0 x.0 ≡ same → comes_first x f ≡ before → IsRank x → IsRank z → ((y : Rank) → Contains (f ∷ fs) y → IsRank y) → length fs ≡ k
-      → ((y : Rank) → Contains (f ∷ fs) y → Ahead y z) → AllAhead k (take k (put fs x)) z → AllAhead (suc k) (take (suc k) (cond same (f ∷ fs) (cond before (x ∷ f ∷ fs) (f ∷ put fs x)))) z
+  cut_by : (f : Rank) (fs : List Rank) (x z : Rank) (k : ℕ) (same before : Bool) → eqb f.0 x.0 ≡ same → comes_first x f ≡ before → IsRank x
+      → IsRank z → ((y : Rank) → Contains (f ∷ fs) y → IsRank y) → length fs ≡ k
+      → ((y : Rank) → Contains (f ∷ fs) y → Ahead y z) → AllAhead k (take k (put fs x)) z
+      → AllAhead (suc k) (take (suc k) (cond same (f ∷ fs) (cond before (x ∷ f ∷ fs) (f ∷ put fs x)))) z
   cut_by f fs x z k true before es eb ix iz real long each rest =
       let l = length-take-le k fs (omega arith) in
       record { full = omega arith; each = λ y c. each y (in_take (suc k) (f ∷ fs) y c) }
@@ -161,12 +173,21 @@ module _ (p : Pixel) (segs : SegMap) where
       let l = length-take-le k (f ∷ fs) (omega arith) in
       let before = first_ahead IsRank rank_positive one_rank x f (not_eq IsRank rank_positive one_rank f.0 x.0 es) eb in
       let own = ahead x f z ix (real f (Contains-here f fs)) iz before (each f (Contains-here f fs)) in
-      record { full = omega arith; each = λ y c. ⊎_elim (λ is. subst (λ (t : Rank). Ahead t z) is own) (λ d. each y (in_take k (f ∷ fs) y d)) (Contains-cons_cases x (take k (f ∷ fs)) y c) }
+      record {
+        full = omega arith;
+        each = λ y c. ⊎_elim (λ is. subst (λ (t : Rank). Ahead t z) is own) (λ d. each y (in_take k (f ∷ fs) y d))
+            (Contains-cons_cases x (take k (f ∷ fs)) y c);
+      }
   cut_by f fs x z k false false es eb ix iz real long each rest =
       let l = rest.full in
-      record { full = omega arith; each = λ y c. ⊎_elim (λ is. subst (λ (t : Rank). Ahead t z) is (each f (Contains-here f fs))) (λ d. rest.each y d) (Contains-cons_cases f (take k (put fs x)) y c) }
+      record {
+        full = omega arith;
+        each = λ y c. ⊎_elim (λ is. subst (λ (t : Rank). Ahead t z) is (each f (Contains-here f fs))) (λ d. rest.each y d)
+            (Contains-cons_cases f (take k (put fs x)) y c);
+      }
 
-  cut_put : (k : ℕ) (rs : List Rank) (x z : Rank) → IsRank x → IsRank z → ((y : Rank) → Contains rs y → IsRank y) → length rs ≡ k → ((y : Rank) → Contains rs y → Ahead y z) → AllAhead k (take k (put rs x)) z
+  cut_put : (k : ℕ) (rs : List Rank) (x z : Rank) → IsRank x → IsRank z → ((y : Rank) → Contains rs y → IsRank y) → length rs ≡ k
+      → ((y : Rank) → Contains rs y → Ahead y z) → AllAhead k (take k (put rs x)) z
   cut_put zero rs x z ix iz real long each = record { full = refl; each = λ y c. absurd (Contains-nil y c) }
   cut_put (suc k) [] x z ix iz real long each = absurd (let no : ⊥ = omega arith in no)
   cut_put (suc k) (f ∷ fs) x z ix iz real long each =
@@ -181,7 +202,8 @@ module _ (p : Pixel) (segs : SegMap) where
     pub here : (e : ℕ × Seg) → Contains list e → IsSettled k now (far_of p e)
     pub kept : (z : Rank) → IsRank z → IsSettled k rs z → IsSettled k now z
 
-  pub steps : (k : ℕ) (rs : List Rank) (list : List (ℕ × Seg)) → ((e : ℕ × Seg) → Contains list e → Contains (finmap.entries segs) e) → AreRanked rs → ((z : Rank) → Contains rs z → IsRank z) → length rs ≤ k
+  pub steps : (k : ℕ) (rs : List Rank) (list : List (ℕ × Seg)) → ((e : ℕ × Seg) → Contains list e → Contains (finmap.entries segs) e) → AreRanked rs
+      → ((z : Rank) → Contains rs z → IsRank z) → length rs ≤ k
       → Steps k rs list (fold (with_seg p k) rs list)
   steps k rs [] in' order real few = record { order = order; real = real; few = few; here = λ e c. absurd (Contains-nil e c); kept = λ z i s. s }
   steps k rs (x ∷ xs) in' order real few =
@@ -190,7 +212,8 @@ module _ (p : Pixel) (segs : SegMap) where
       let u = put_is rs e i real order in
       let now = take k (put rs e) in
       let now_real = λ (z : Rank) (c : Contains now z). ⊎_elim {C = IsRank z} (λ is. subst IsRank is i) (λ d. real z d) (u.real z (in_take k (put rs e) z c)) in
-      let keeps = λ (z : Rank) (iz : IsRank z) (s : IsSettled k rs z). ⊎_elim {C = IsSettled k now z} (λ c. take_settled k (put rs e) u.ranked z (u.kept z c)) (λ w. let a = cut_put k rs e z i iz real w.0 w.1 in inr (a.full, a.each)) s in
+      let keeps = λ (z : Rank) (iz : IsRank z) (s : IsSettled k rs z). ⊎_elim {C = IsSettled k now z}
+      (λ c. take_settled k (put rs e) u.ranked z (u.kept z c)) (λ w. let a = cut_put k rs e z i iz real w.0 w.1 in inr (a.full, a.each)) s in
       let more = steps k now xs (λ y c. in' y (Contains-there x xs y c)) (take_ranked k (put rs e) u.ranked) now_real (take_few k (put rs e)) in
       let same : added rs e ≡ put rs e = added_put IsRank rank_positive one_rank rs e i real in
       subst (λ (t : List Rank). Steps k rs (x ∷ xs) (fold (with_seg p k) (take k t) xs)) (sym same)
@@ -198,6 +221,9 @@ module _ (p : Pixel) (segs : SegMap) where
         order = more.order;
         real = more.real;
         few = more.few;
-        here = λ y c. ⊎_elim (λ is. more.kept (far_of p y) (rank_of y (in' y c)) (subst (λ (t : ℕ × Seg). IsSettled k now (far_of p t)) is (take_settled k (put rs e) u.ranked e u.here))) (λ d. more.here y d) (Contains-cons_cases x xs y c);
+        here =
+            λ y c. ⊎_elim (λ is. more.kept (far_of p y) (rank_of y (in' y c))
+            (subst (λ (t : ℕ × Seg). IsSettled k now (far_of p t)) is (take_settled k (put rs e) u.ranked e u.here))) (λ d. more.here y d)
+            (Contains-cons_cases x xs y c);
         kept = λ z iz s. more.kept z iz (keeps z iz s);
       })

@@ -19,7 +19,8 @@ After p k b Split old new was now = IsPermutation (map (placed_at p) (quarters_o
 After p k b (Leaf list) old new was now = (new ≡ old) × (now ≡ fold (with_seg p k) was list)
 
 -- a block was opened: what it was found to be, where the layer shows its lines, and what it cost
-pub record IsOpened (n : ℕ) (p : Pixel) (k : ℕ) (b : Block) (shown : Lines → Type 0) (old new : List (ℕ × Block)) (was now : List (ℕ × Fraction)) (reads_old reads_new : Option ℕ) : Type 0 where
+pub record IsOpened (n : ℕ) (p : Pixel) (k : ℕ) (b : Block) (shown : Lines → Type 0) (old new : List (ℕ × Block)) (was now : List (ℕ × Fraction))
+    (reads_old reads_new : Option ℕ) : Type 0 where
   pub part : Part
   pub found : (l : Lines) → shown l → IsPart l b part
   pub found_of : IsPartOf n b part

@@ -45,7 +45,8 @@ fn open<S: PageStore, B: SegBlocks<S>>(
     requires low { B.level_of blocks.now ≤ 12 }
     requires block { IsBlock (B.level_of blocks.now) b }
     requires reached { (l : Lines) → B.shows blocks.now store.old l → is_reached l.cover b ≡ true }
-    ensures opened { OnOk result (IsOpened (B.level_of blocks.now) p k b (B.shows blocks.now store.old) queue.old queue.new ranks.old ranks.new (S.reads store.old) (S.reads store.new)) }
+    ensures opened { OnOk result (IsOpened (B.level_of blocks.now) p k b (B.shows blocks.now store.old) queue.old queue.new ranks.old ranks.new
+        (S.reads store.old) (S.reads store.new)) }
     ensures sound { IfErr result (λ e. (l : Lines) → B.shows blocks.now store.old l → IsSound e) }
     ensures cause { HasStopCause (S.faults store.old) (S.faults store.new) result }
     ensures size { S.size store.new ≡ S.size store.old }
@@ -80,7 +81,8 @@ pub fn ranked<S: PageStore, B: SegBlocks<S>>(
     requires x { p.x < 8192 }
     requires y { p.y < 8192 }
     ensures ranked { IfOk result (λ list. (l : Lines) → B.shows blocks.now store.old l → list ≡ ranked_of l.segs p k) }
-    ensures reads { IfOk result (λ list. (l : Lines) → B.shows blocks.now store.old l → length list ≡ k → Tells (λ old new. new ≤ old + reach (B.level_of blocks.now) l.segs l.cover (is_close p (last_far list))) (S.reads store.old) (S.reads store.new)) }
+    ensures reads { IfOk result (λ list. (l : Lines) → B.shows blocks.now store.old l → length list ≡ k
+        → Tells (λ old new. new ≤ old + reach (B.level_of blocks.now) l.segs l.cover (is_close p (last_far list))) (S.reads store.old) (S.reads store.new)) }
     ensures sound { IfErr result (λ e. (l : Lines) → B.shows blocks.now store.old l → IsSound e) }
     ensures cause { HasStopCause (S.faults store.old) (S.faults store.new) result }
     ensures size { S.size store.new ≡ S.size store.old }

@@ -11,7 +11,8 @@ length-colours_of_bytes (suc m) (a ∷ []) e = absurd (omega arith)
 length-colours_of_bytes zero (a ∷ b ∷ bytes) e = absurd (omega arith)
 length-colours_of_bytes (suc m) (a ∷ b ∷ bytes) e = ap suc (length-colours_of_bytes m bytes (omega arith))
 
-pub get_or-colours_of_bytes : (bytes : List ℕ) (k : ℕ) → 2 * k + 1 < length bytes → get_or (colours_of_bytes bytes) k 0 ≡ 256 * get_or bytes (2 * k) 0 + get_or bytes (2 * k + 1) 0
+pub get_or-colours_of_bytes : (bytes : List ℕ) (k : ℕ) → 2 * k + 1 < length bytes
+    → get_or (colours_of_bytes bytes) k 0 ≡ 256 * get_or bytes (2 * k) 0 + get_or bytes (2 * k + 1) 0
 unfolding colours_of_bytes
 get_or-colours_of_bytes [] k lt = absurd (omega arith)
 get_or-colours_of_bytes (a ∷ []) k lt = absurd (omega arith)

@@ -25,7 +25,8 @@ earlier y dy x w lt in_row = let m : (y + 1) * w ≤ dy * w = mul-le-mul_right w
 later : (y dy x w : ℕ) → dy < y → dy * w + w ≤ y * w + x
 later y dy x w lt = let m : (dy + 1) * w ≤ y * w = mul-le-mul_right w (let e : dy + 1 ≤ y = omega arith in e) in omega arith
 
-module _ (w : Window) (b : Block) (c dy left right : ℕ) (old cells new : List ℕ) (first : left ≡ b.x - w.x) (in_row : right ≤ w.w) (last : right ≤ b.x + b.side - w.x) (reach : (dx : ℕ) → dx < w.w → dx < b.x + b.side - w.x → dx < right)
+module _ (w : Window) (b : Block) (c dy left right : ℕ) (old cells new : List ℕ) (first : left ≡ b.x - w.x) (in_row : right ≤ w.w)
+    (last : right ≤ b.x + b.side - w.x) (reach : (dx : ℕ) → dx < w.w → dx < b.x + b.side - w.x → dx < right)
     (top : b.y ≤ w.y + dy) (bottom : w.y + dy < b.y + b.side)
     (inside : (k : ℕ) → dy * w.w + left ≤ k → k < dy * w.w + right → get_or new k 0 ≡ c)
     (before : (k : ℕ) → k < dy * w.w + left → get_or new k 0 ≡ get_or cells k 0)
@@ -99,7 +100,8 @@ module _ (n : ℕ) (g : Grid) (w : Window) (b : Block) (most : n ≤ 12) (hb : I
   }
 
   -- a block with no pixel of the window
-  pub ArePainted-missed : (cells : List ℕ) → ((p : Pixel) → IsIn w p → Holds b p → ⊥) → ArePainted n g w (code_from b) cells → ArePainted n g w (code_to b) cells
+  pub ArePainted-missed : (cells : List ℕ) → ((p : Pixel) → IsIn w p → Holds b p → ⊥) → ArePainted n g w (code_from b) cells
+      → ArePainted n g w (code_to b) cells
   ArePainted-missed cells none before = record {
     each = λ p i lt. ⊎_elim (before.each p i) (λ from. absurd (none p i (held_in p i from lt))) (cases_lt (code_at p) (code_from b));
   }

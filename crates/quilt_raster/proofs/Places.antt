@@ -55,7 +55,8 @@ module _ (n : ℕ) (g : Grid) (most : n ≤ 12) where
 
   -- the last leaf that begins at the code of a pixel or before holds it
   pub held_at : (p : Pixel) (low high : ℕ) (d : Block × ℕ) → p.x < side n → p.y < side n → low < high → high ≤ low + 1 → high ≤ length (leaves_by_code n g)
-      → code_from (get_or (leaves_by_code n g) low d).0 ≤ code_at p → (high < length (leaves_by_code n g) → code_at p < code_from (get_or (leaves_by_code n g) high d).0)
+      → code_from (get_or (leaves_by_code n g) low d).0 ≤ code_at p
+      → (high < length (leaves_by_code n g) → code_at p < code_from (get_or (leaves_by_code n g) high d).0)
       → Holds (get_or (leaves_by_code n g) low d).0 p
   held_at p low high d hx hy lt one inside from to =
       let es = leaves_by_code n g in
@@ -80,7 +81,8 @@ module _ (n : ℕ) (g : Grid) (most : n ≤ 12) where
       held_code n (get_or es low d).0 p hb most (omega arith) (omega arith) (omega arith) (omega arith) from end
 
   -- one leaf further
-  pub IsAt-next : (place at : ℕ) (e : Block × ℕ) → place < length (leaves_by_code n g) → e ≡ get_or (leaves_by_code n g) place e → IsAt n g place at → IsAt n g (place + 1) (at + e.0.side * e.0.side)
+  pub IsAt-next : (place at : ℕ) (e : Block × ℕ) → place < length (leaves_by_code n g) → e ≡ get_or (leaves_by_code n g) place e → IsAt n g place at
+      → IsAt n g (place + 1) (at + e.0.side * e.0.side)
   IsAt-next place at e lt is h =
       let es = leaves_by_code n g in
       let run = leaves_run n g most in
@@ -105,7 +107,8 @@ module _ (n : ℕ) (g : Grid) (most : n ≤ 12) where
   IsAt-some place at lt h = ⊎_elim (λ some. some) (λ none. let e = h.ends none in absurd (omega arith)) (cases_lt place (length (leaves_by_code n g)))
 
   -- the first leaf of a block that no larger leaf holds
-  pub IsAt-corner : (b : Block) (place : ℕ) (e : Block × ℕ) → IsBlock n b → IsBlock n e.0 → e.0.side ≤ b.side → Holds e.0 (corner b) → place < length (leaves_by_code n g) → e ≡ get_or (leaves_by_code n g) place e → IsAt n g place (code_from b)
+  pub IsAt-corner : (b : Block) (place : ℕ) (e : Block × ℕ) → IsBlock n b → IsBlock n e.0 → e.0.side ≤ b.side → Holds e.0 (corner b)
+      → place < length (leaves_by_code n g) → e ≡ get_or (leaves_by_code n g) place e → IsAt n g place (code_from b)
   IsAt-corner b place e hb he small held lt is =
       let es = leaves_by_code n g in
       let w = nested n e.0 b (corner b) he hb small held (Holds-corner n b hb) in

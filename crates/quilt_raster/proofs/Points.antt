@@ -17,7 +17,8 @@ use Rattle.quilt_blocks.specs.Painting.{Painted}
 use Rattle.quilt_raster.specs.Bytes.{from_corner}
 
 -- a pixel of a block of a square that lies in a grid has the colour that the whole block has there
-pub held_from : (n : ℕ) (g : Grid) (corner : Pixel) (b : Block) (p : Pixel) (c : ℕ) → Holds b p → HasColour n g (record { x = corner.x + b.x; y = corner.y + b.y; side = b.side }) c → from_corner n g corner p ≡ c
+pub held_from : (n : ℕ) (g : Grid) (corner : Pixel) (b : Block) (p : Pixel) (c : ℕ) → Holds b p
+    → HasColour n g (record { x = corner.x + b.x; y = corner.y + b.y; side = b.side }) c → from_corner n g corner p ≡ c
 held_from n g corner b p c h has =
     let l = h.left in
     let r = h.right in
@@ -52,10 +53,12 @@ pub grid_of-colour_at : (n : ℕ) (g : Grid) → length g ≡ side n * side n �
 grid_of-colour_at n g long = grid_of-from n (colour_at n g) g long (λ k lt. sym (colour_at-pixel_at n g k))
 
 -- a whole square, put down from nothing
-pub all_added : (n : ℕ) (f : Pixel → ℕ) (s : ℕ) (start new : Painted) → s ≡ side n → start ≡ record { level = n; colours = [] } → Adds start.level f (code_to (record { x = 0; y = 0; side = s })) start new → Adds n f (4 ^ n) (record { level = n; colours = [] }) new
+pub all_added : (n : ℕ) (f : Pixel → ℕ) (s : ℕ) (start new : Painted) → s ≡ side n → start ≡ record { level = n; colours = [] }
+    → Adds start.level f (code_to (record { x = 0; y = 0; side = s })) start new → Adds n f (4 ^ n) (record { level = n; colours = [] }) new
 all_added n f s start new wide none a =
     let end = ap (λ (z : ℕ). let b : Block = record { x = 0; y = 0; side = z } in code_to b) wide ∙ code_to-whole n in
-    subst (λ (k : ℕ). Adds n f k (record { level = n; colours = [] }) new) end (subst (λ (m : Painted). Adds m.level f (code_to (record { x = 0; y = 0; side = s })) m new) none a)
+    subst (λ (k : ℕ). Adds n f k (record { level = n; colours = [] }) new) end
+    (subst (λ (m : Painted). Adds m.level f (code_to (record { x = 0; y = 0; side = s })) m new) none a)
 
 pub grid_from_corner : (n : ℕ) (g : Grid) → length g ≡ side n * side n → grid_of n (from_corner n g (record { x = 0; y = 0 })) ≡ g
 grid_from_corner n g long =
@@ -70,4 +73,5 @@ below_more n =
   where
     range_more : (a n : ℕ) → range_with_len a (suc n) ≡ range_with_len a n ++ (a + n) ∷ []
     range_more a zero = let e : a ≡ a + 0 = omega arith in ap (λ z. z ∷ []) e
-    range_more a (suc n) = ap (λ l. a ∷ l) (range_more (a + 1) n ∙ (let e : a + 1 + n ≡ a + suc n = omega arith in ap (λ z. range_with_len (a + 1) n ++ z ∷ []) e))
+    range_more a (suc n) =
+        ap (λ l. a ∷ l) (range_more (a + 1) n ∙ (let e : a + 1 + n ≡ a + suc n = omega arith in ap (λ z. range_with_len (a + 1) n ++ z ∷ []) e))

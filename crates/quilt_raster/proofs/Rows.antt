@@ -1,5 +1,6 @@
 -- Rows of a window out of its painted cells.
-use Rattle.std.proofs.Common.{◌≡◌, ℕ, zero, suc, ◌+◌, ◌-◌, ◌*◌, ◌%◌, ◌^◌, ◌<◌, ◌≤◌, List, [], ◌++◌, flat_map, map, get_or, refl, sym, ◌∙◌, ap, ap₂, subst, arith}
+use Rattle.std.proofs.Common.{◌≡◌, ℕ, zero, suc, ◌+◌, ◌-◌, ◌*◌, ◌%◌, ◌^◌, ◌<◌, ◌≤◌, List, [], ◌++◌, flat_map, map, get_or, refl, sym, ◌∙◌, ap, ap₂, subst}
+use Rattle.std.proofs.Common.{arith}
 use Rattle.std.proofs.Math.Nat.{mul-le-mul_right}
 use Rattle.std.proofs.lemmas.List.{flat_map_more}
 use Rattle.quilt_types.specs.declared.plane.Pixel.{Pixel}
@@ -21,7 +22,8 @@ pub ArePainted-none : (n : ℕ) (g : Grid) (w : Window) (s : ℕ) (cells : List 
 ArePainted-none n g w s cells = record { each = λ p i lt. let z = origin_code in absurd (omega arith) }
 
 -- all codes of the square, whose side is as the code has it
-pub ArePainted-all : (n k : ℕ) (g : Grid) (w : Window) (cells : List ℕ) → n ≤ 12 → k ≡ n → ArePainted n g w (code_to (record { x = 0; y = 0; side = 1 * 2 ^ k % 65536 })) cells → ArePainted n g w (4 ^ n) cells
+pub ArePainted-all : (n k : ℕ) (g : Grid) (w : Window) (cells : List ℕ) → n ≤ 12 → k ≡ n
+    → ArePainted n g w (code_to (record { x = 0; y = 0; side = 1 * 2 ^ k % 65536 })) cells → ArePainted n g w (4 ^ n) cells
 ArePainted-all n k g w cells most level h =
     let size : 1 * 2 ^ k % 65536 ≡ side n = ap (λ (j : ℕ). 1 * 2 ^ j % 65536) level ∙ width n most in
     let end = ap (λ (s : ℕ). let b : Block = record { x = 0; y = 0; side = s } in code_to b) size ∙ code_to-whole n in
@@ -44,11 +46,13 @@ below_same f g (suc k) same =
     ∙ flat_map_below g [] k ∙ ap (λ j. flat_map g (below j)) (sym e)
 
 -- a row as its cells have it
-pub row_painted : (f n : ℕ) (g : Grid) (w : Window) (cells : List ℕ) (dy : ℕ) → n ≤ 12 → w.x + w.w ≤ side n → w.y + w.h ≤ side n → dy < w.h → ArePainted n g w (4 ^ n) cells
+pub row_painted : (f n : ℕ) (g : Grid) (w : Window) (cells : List ℕ) (dy : ℕ) → n ≤ 12 → w.x + w.w ≤ side n → w.y + w.h ≤ side n → dy < w.h
+    → ArePainted n g w (4 ^ n) cells
     → flat_map (λ dx. digits_of f (written_in f (get_or cells (dy * w.w + dx) 0))) (below w.w) ≡ row_line f n (map (written_in f) g) w dy
 unfolding row_line
 row_painted f n g w cells dy most in_x in_y lt painted =
-    below_same (λ dx. digits_of f (written_in f (get_or cells (dy * w.w + dx) 0))) (λ dx. digits_of f (colour_at n (map (written_in f) g) (record { x = w.x + dx; y = w.y + dy }))) w.w
+    below_same (λ dx. digits_of f (written_in f (get_or cells (dy * w.w + dx) 0)))
+    (λ dx. digits_of f (colour_at n (map (written_in f) g) (record { x = w.x + dx; y = w.y + dy }))) w.w
     (λ dx in_row.
     let p : Pixel = record { x = w.x + dx; y = w.y + dy } in
     let row : w.y + dy - w.y ≡ dy = omega arith in

@@ -17,7 +17,8 @@ pub fn render(alloc: Global, list: &LeafList, w: Window, format: u8) -> Result<T
     ensures shown { IfOk result (λ text. text ≡ flat_map (λ line. line ++ 10 ∷ []) (shown format list.now.level list.now.grid w)) }
 
     // A grid of the format is shown as it is.
-    ensures rows { IsGrid format list.now.level list.now.grid → IfOk result (λ text. text ≡ flat_map (λ line. line ++ 10 ∷ []) (map (row_line format list.now.level list.now.grid w) (below w.h))) }
+    ensures rows { IsGrid format list.now.level list.now.grid
+        → IfOk result (λ text. text ≡ flat_map (λ line. line ++ 10 ∷ []) (map (row_line format list.now.level list.now.grid w) (below w.h))) }
 {
     let level = list.level();
     prove!(level <= 12);

@@ -76,7 +76,8 @@ named_block n k b p h o in_x in_y same =
     λ i. record { y = (corner i).y; x = (corner i).x; side = side i }
 
 -- the block that was read
-pub read_block : (n : ℕ) (k : Key) (p : Pixel) → n ≤ 12 → k.depth ≤ n → code p.x p.y ≡ k.code → IsBlock n (record { y = p.y; x = p.x; side = 1 * 2 ^ (n - k.depth) % 65536 })
+pub read_block : (n : ℕ) (k : Key) (p : Pixel) → n ≤ 12 → k.depth ≤ n → code p.x p.y ≡ k.code
+    → IsBlock n (record { y = p.y; x = p.x; side = 1 * 2 ^ (n - k.depth) % 65536 })
     → IsBlockOf n k (record { y = p.y; x = p.x; side = 1 * 2 ^ (n - k.depth) % 65536 })
 read_block n k p h low same block =
     let b : Block = record { y = p.y; x = p.x; side = 1 * 2 ^ (n - k.depth) % 65536 } in

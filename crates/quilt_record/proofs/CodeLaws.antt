@@ -1,5 +1,6 @@
 -- Locational codes: which numbers they are, that they tell pixels apart, and the codes of a block; the depth of a block.
-use Rattle.std.proofs.Common.{◌⊎◌, inl, inr, get_or, length, ◌≡◌, ℕ, zero, suc, ◌+◌, ◌-◌, ◌*◌, ◌/◌, ◌%◌, ◌^◌, ◌<◌, ◌≤◌, Bool, true, List, [], ◌∷◌, Some, find, ⊎_elim, refl, sym, ◌∙◌, ap, ap₂, arith, Contains, pow-suc, eqb, eqb-true, eq-eqb, div-one, true≢false}
+use Rattle.std.proofs.Common.{◌⊎◌, inl, inr, get_or, length, ◌≡◌, ℕ, zero, suc, ◌+◌, ◌-◌, ◌*◌, ◌/◌, ◌%◌, ◌^◌, ◌<◌, ◌≤◌, Bool, true, List, [], ◌∷◌, Some, find}
+use Rattle.std.proofs.Common.{⊎_elim, refl, sym, ◌∙◌, ap, ap₂, arith, Contains, pow-suc, eqb, eqb-true, eq-eqb, div-one, true≢false}
 use Rattle.std.specs.Option.{unwrap_or}
 use Rattle.std.proofs.Math.Nat.{pow-le-pow_right}
 use Rattle.std.proofs.lemmas.Bool.{cases_lt, cases_Bool, cond-true, cond-false}
@@ -88,7 +89,8 @@ interleaved_low (suc k) x y a b =
     let wy : 2 ^ suc k * b ≡ 2 * n = ap (λ z. z * b) p ∙ omega arith in
     let hx : (x + 2 ^ suc k * a) / 2 ≡ x / 2 + m = omega arith in
     let hy : (y + 2 ^ suc k * b) / 2 ≡ y / 2 + n = omega arith in
-    let ih : interleaved k ((x + 2 ^ suc k * a) / 2) ((y + 2 ^ suc k * b) / 2) ≡ interleaved k (x / 2) (y / 2) = ap₂ (interleaved k) hx hy ∙ interleaved_low k (x / 2) (y / 2) a b in
+    let ih : interleaved k ((x + 2 ^ suc k * a) / 2) ((y + 2 ^ suc k * b) / 2) ≡ interleaved k (x / 2) (y / 2) =
+    ap₂ (interleaved k) hx hy ∙ interleaved_low k (x / 2) (y / 2) a b in
     omega arith
 
 -- the last j pairs of bits, and the others
@@ -105,12 +107,16 @@ interleaved_split (suc j) k x y =
     let step : (n : ℕ) → n / 2 / 2 ^ j ≡ n / 2 ^ suc j = λ n. shr-shr n 1 j ∙ ap (λ i. n / 2 ^ i) (let o : 1 + j ≡ suc j = omega arith in o) in
     let r : interleaved k (x / 2 / 2 ^ j) (y / 2 / 2 ^ j) ≡ interleaved k (x / 2 ^ suc j) (y / 2 ^ suc j) = ap₂ (interleaved k) (step x) (step y) in
     let p = pow-suc 4 j in
-    ap (λ i. interleaved i x y) e ∙ (let all : interleaved (j + k) (x / 2) (y / 2) ≡ interleaved j (x / 2) (y / 2) + 4 ^ j * interleaved k (x / 2 ^ suc j) (y / 2 ^ suc j) = ih ∙ ap (λ z. interleaved j (x / 2) (y / 2) + 4 ^ j * z) r in
-    let m : 4 ^ suc j * interleaved k (x / 2 ^ suc j) (y / 2 ^ suc j) ≡ 4 * (4 ^ j * interleaved k (x / 2 ^ suc j) (y / 2 ^ suc j)) = ap (λ w. w * interleaved k (x / 2 ^ suc j) (y / 2 ^ suc j)) p ∙ omega arith in
+    ap (λ i. interleaved i x y) e
+    ∙ (let all : interleaved (j + k) (x / 2) (y / 2) ≡ interleaved j (x / 2) (y / 2) + 4 ^ j * interleaved k (x / 2 ^ suc j) (y / 2 ^ suc j) =
+    ih ∙ ap (λ z. interleaved j (x / 2) (y / 2) + 4 ^ j * z) r in
+    let m : 4 ^ suc j * interleaved k (x / 2 ^ suc j) (y / 2 ^ suc j) ≡ 4 * (4 ^ j * interleaved k (x / 2 ^ suc j) (y / 2 ^ suc j)) =
+    ap (λ w. w * interleaved k (x / 2 ^ suc j) (y / 2 ^ suc j)) p ∙ omega arith in
     omega arith)
 
 -- the first of a list that passes, where only it does
-pub find_only : {X : Type 0} (p : X → Bool) (xs : List X) (x : X) → Contains xs x → p x ≡ true → ((y : X) → Contains xs y → p y ≡ true → y ≡ x) → find p xs ≡ Some x
+pub find_only : {X : Type 0} (p : X → Bool) (xs : List X) (x : X) → Contains xs x → p x ≡ true
+    → ((y : X) → Contains xs y → p y ≡ true → y ≡ x) → find p xs ≡ Some x
 find_only p [] x c h one = absurd (Contains-nil x c)
 find_only p (y ∷ ys) x c h one =
     ⊎_elim
@@ -121,7 +127,8 @@ find_only p (y ∷ ys) x c h one =
     (cases_Bool (p y))
 
 pub pow_same : (i j : ℕ) → 2 ^ i ≡ 2 ^ j → i ≡ j
-pow_same i j e = ⊎_elim (λ lt. let w = pow_below i j lt in absurd (omega arith)) (λ ge. ⊎_elim (λ lt. let w = pow_below j i lt in absurd (omega arith)) (λ le. omega arith) (cases_lt j i)) (cases_lt i j)
+pow_same i j e = ⊎_elim (λ lt. let w = pow_below i j lt in absurd (omega arith))
+    (λ ge. ⊎_elim (λ lt. let w = pow_below j i lt in absurd (omega arith)) (λ le. omega arith) (cases_lt j i)) (cases_lt i j)
 
 pub depth_is : (n : ℕ) (b : Block) (h : IsBlock n b) → depth n b ≡ n - h.level
 depth_is n b h =
@@ -134,7 +141,8 @@ depth_is n b h =
     ap (λ o. unwrap_or o 0) (find_only test (below (n + 1)) (n - k) (Contains-below (n + 1) (n - k) (omega arith)) (eq-eqb (side (n - (n - k))) b.side at) only)
 
 -- a loop's step
-pub code_step : (i x y unit sum : ℕ) → i < 12 → sum + unit * interleaved (12 - i) x y ≡ sum + unit * (x % 2 + 2 * (y % 2)) + unit * 4 * interleaved (12 - (i + 1)) (x / 2) (y / 2)
+pub code_step : (i x y unit sum : ℕ) → i < 12
+    → sum + unit * interleaved (12 - i) x y ≡ sum + unit * (x % 2 + 2 * (y % 2)) + unit * 4 * interleaved (12 - (i + 1)) (x / 2) (y / 2)
 unfolding interleaved
 code_step i x y unit sum lt =
     let e : 12 - i ≡ suc (12 - (i + 1)) = omega arith in
@@ -149,7 +157,8 @@ unfolding interleaved
 code_end i x y unit sum le = ap (λ k. sum + unit * interleaved k x y) (let e : 12 - i ≡ zero = omega arith in e) ∙ omega arith
 
 -- the next pair of bits, above the last k
-pub interleaved_next : (k x y a b : ℕ) → x < 2 ^ k → y < 2 ^ k → a < 2 → b < 2 → interleaved (k + 1) (x + 2 ^ k * a) (y + 2 ^ k * b) ≡ interleaved k x y + 4 ^ k * (a + 2 * b)
+pub interleaved_next : (k x y a b : ℕ) → x < 2 ^ k → y < 2 ^ k → a < 2 → b < 2
+    → interleaved (k + 1) (x + 2 ^ k * a) (y + 2 ^ k * b) ≡ interleaved k x y + 4 ^ k * (a + 2 * b)
 unfolding interleaved
 interleaved_next k x y a b hx hy ha hb =
     let e : k + 1 ≡ k + suc zero = omega arith in
@@ -159,7 +168,8 @@ interleaved_next k x y a b hx hy ha hb =
     let qy : Y / 2 ^ k ≡ b = ap (λ z. z / 2 ^ k) (let c : Y ≡ b * 2 ^ k + y = omega arith in c) ∙ div-mul-add b (2 ^ k) y hy in
     let low = interleaved_low k x y a b in
     let one : interleaved (suc zero) a b ≡ a + 2 * b = omega arith in
-    let s : interleaved (k + 1) X Y ≡ interleaved k X Y + 4 ^ k * interleaved (suc zero) (X / 2 ^ k) (Y / 2 ^ k) = ap (λ i. interleaved i X Y) e ∙ interleaved_split k (suc zero) X Y in
+    let s : interleaved (k + 1) X Y ≡ interleaved k X Y + 4 ^ k * interleaved (suc zero) (X / 2 ^ k) (Y / 2 ^ k) =
+    ap (λ i. interleaved i X Y) e ∙ interleaved_split k (suc zero) X Y in
     s ∙ ap₂ (λ u v. u + 4 ^ k * v) low (ap₂ (interleaved (suc zero)) qx qy ∙ one)
 
 -- a number by its last two bits and the others

@@ -1,5 +1,6 @@
 -- A name with zeros behind it.
-use Rattle.std.proofs.Common.{◌≡◌, ℕ, zero, suc, ◌+◌, ◌-◌, ◌<◌, ◌≤◌, ◌⊎◌, inl, inr, Bool, true, false, ◌&&◌, ◌||◌, not, cond, nat_le, eqb-true, List, [], ◌∷◌, ◌++◌, length, take, drop, slice_index, Option, Some, None, IsSome, IfSome, replicate, refl, sym, ◌∙◌, ap, arith, one-add, lit<}
+use Rattle.std.proofs.Common.{◌≡◌, ℕ, zero, suc, ◌+◌, ◌-◌, ◌<◌, ◌≤◌, ◌⊎◌, inl, inr, Bool, true, false, ◌&&◌, ◌||◌, not, cond, nat_le, eqb-true, List, [], ◌∷◌}
+use Rattle.std.proofs.Common.{◌++◌, length, take, drop, slice_index, Option, Some, None, IsSome, IfSome, replicate, refl, sym, ◌∙◌, ap, arith, one-add, lit<}
 use Rattle.std.specs.Prelude.{◌==◌}
 use Rattle.std.specs.List.{list_all, position_or_len}
 use Rattle.std.specs.Str.{IsAscii}

@@ -21,7 +21,8 @@ pair_same {A} {B} a c b d h =
     let second : Option (A × B) → B = λ o. (unwrap_or o (a, b)).1 in
     (ap first h, ap second h)
 
-pub key_named : (n layer part : ℕ) (b : Block) (item : ℕ) (k : Key) → 1 ≤ layer → layer ≤ 255 → IsBlock n b → k ≡ block_key n layer part b item → IsNamed n k layer b
+pub key_named : (n layer part : ℕ) (b : Block) (item : ℕ) (k : Key) → 1 ≤ layer → layer ≤ 255 → IsBlock n b
+    → k ≡ block_key n layer part b item → IsNamed n k layer b
 key_named n layer part b item k least most block e = record {
   least = least;
   most = most;
@@ -38,18 +39,21 @@ region_colour n r layer b c f =
     ap (λ (s : Record). colour_of s.value) (f.written []) ∙ both
 
 -- the record of what was read is the record
-pub region_again : (n : ℕ) (r made : Record) (layer first : ℕ) (b at : Block) (c d : ℕ) → IsRecordOf n 0 r layer (HasColour b c) → first ≡ layer → at ≡ b → d ≡ c
+pub region_again : (n : ℕ) (r made : Record) (layer first : ℕ) (b at : Block) (c d : ℕ) → IsRecordOf n 0 r layer (HasColour b c)
+    → first ≡ layer → at ≡ b → d ≡ c
     → IsRecordOf n 0 made first (HasColour at d) → made ≡ r
 region_again n r made layer first b at c d f same_layer same_block same_colour g =
     g.written [] ∙ ap (λ l. record_of n 0 [] l (HasColour at d)) same_layer ∙ ap (λ p. record_of n 0 [] layer (HasColour p d)) same_block
     ∙ ap (λ v. record_of n 0 [] layer (HasColour b v)) same_colour ∙ sym (f.written [])
 
-pub point_named : (n capacity : ℕ) (r : Record) (layer : ℕ) (b : Block) (held : Option Point) → IsRecordOf n capacity r layer (point_fact b held) → IsNamed n r.key layer b
+pub point_named : (n capacity : ℕ) (r : Record) (layer : ℕ) (b : Block) (held : Option Point)
+    → IsRecordOf n capacity r layer (point_fact b held) → IsNamed n r.key layer b
 point_named n capacity r layer b None f = key_named n layer 2 b 0 r.key f.least f.most f.fits (ap (λ (s : Record). s.key) (f.written []))
 point_named n capacity r layer b (Some p) f =
     key_named n layer 2 b (point_item capacity p.at) r.key f.least f.most f.fits.0 (ap (λ (s : Record). s.key) (f.written []))
 
-pub point_held : (n capacity : ℕ) (r : Record) (layer : ℕ) (b : Block) (held : Option Point) → n ≤ 12 → IsRecordOf n capacity r layer (point_fact b held) → held_of r.value ≡ held
+pub point_held : (n capacity : ℕ) (r : Record) (layer : ℕ) (b : Block) (held : Option Point) → n ≤ 12
+    → IsRecordOf n capacity r layer (point_fact b held) → held_of r.value ≡ held
 point_held n capacity r layer b None h f = ap (λ (s : Record). held_of s.value) (f.written [])
 point_held n capacity r layer b (Some p) h f =
     let small = pixel_below n p.at h f.fits.1 in
@@ -60,11 +64,13 @@ point_held n capacity r layer b (Some p) h f =
     let label = from_be_bytes-to_be_bytes_4 p.label f.fits.2 in
     ap (λ (s : Record). held_of s.value) (f.written []) ∙ (λ i. Some (record { at = record { y = y i; x = x i }; label = label i }))
 
-pub point_inside : (n capacity : ℕ) (r : Record) (layer : ℕ) (b : Block) (held : Option Point) → IsRecordOf n capacity r layer (point_fact b held) → IfSome held (λ p. is_pixel n p.at ≡ true)
+pub point_inside : (n capacity : ℕ) (r : Record) (layer : ℕ) (b : Block) (held : Option Point) → IsRecordOf n capacity r layer (point_fact b held)
+    → IfSome held (λ p. is_pixel n p.at ≡ true)
 point_inside n capacity r layer b None f = tt
 point_inside n capacity r layer b (Some p) f = f.fits.1
 
-pub point_again : (n capacity : ℕ) (r made : Record) (layer first : ℕ) (b at : Block) (held read : Option Point) → IsRecordOf n capacity r layer (point_fact b held) → first ≡ layer → at ≡ b → read ≡ held
+pub point_again : (n capacity : ℕ) (r made : Record) (layer first : ℕ) (b at : Block) (held read : Option Point)
+    → IsRecordOf n capacity r layer (point_fact b held) → first ≡ layer → at ≡ b → read ≡ held
     → IsRecordOf n capacity made first (point_fact at read) → made ≡ r
 point_again n capacity r made layer first b at held read f same_layer same_block same_held g =
     g.written [] ∙ ap (λ l. record_of n capacity [] l (point_fact at read)) same_layer ∙ ap (λ p. record_of n capacity [] layer (point_fact p read)) same_block
@@ -95,8 +101,10 @@ segment_ends n r layer id s f =
 pub segment_key : (n : ℕ) (r : Record) (layer id : ℕ) (s : Seg) → IsRecordOf n 0 r layer (IsSegment id s) → (r.key.layer ≡ layer) × (r.key.item ≡ id)
 segment_key n r layer id s f = (ap (λ (t : Record). t.key.layer) (f.written []), ap (λ (t : Record). t.key.item) (f.written []))
 
-pub segment_again : (n : ℕ) (r made : Record) (layer id : ℕ) (s : Seg) → IsRecordOf n 0 r layer (IsSegment id s) → IsRecordOf n 0 made r.key.layer (IsSegment r.key.item (segment_of r.value)) → made ≡ r
+pub segment_again : (n : ℕ) (r made : Record) (layer id : ℕ) (s : Seg) → IsRecordOf n 0 r layer (IsSegment id s)
+    → IsRecordOf n 0 made r.key.layer (IsSegment r.key.item (segment_of r.value)) → made ≡ r
 segment_again n r made layer id s f g =
     let k = segment_key n r layer id s f in
-    g.written [] ∙ ap (λ l. record_of n 0 [] l (IsSegment r.key.item (segment_of r.value))) k.0 ∙ ap (λ m. record_of n 0 [] layer (IsSegment m (segment_of r.value))) k.1
+    g.written [] ∙ ap (λ l. record_of n 0 [] l (IsSegment r.key.item (segment_of r.value))) k.0
+    ∙ ap (λ m. record_of n 0 [] layer (IsSegment m (segment_of r.value))) k.1
     ∙ ap (λ t. record_of n 0 [] layer (IsSegment id t)) (segment_ends n r layer id s f) ∙ sym (f.written [])

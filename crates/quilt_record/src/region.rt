@@ -39,7 +39,8 @@ pub fn read_region(r: &Record, level: u8, format: u8) -> Option<(Block, Colour)>
     requires { (1 ≤ level) × (level ≤ 12) }
     ensures some { IfSome result (λ v. IsRecordOf level 0 r.now r.now.key.layer (HasColour v.0 v.1.0)) }
     ensures colour { IfSome result (λ v. v.1.0 < colours format) }
-    ensures one { (layer : ℕ) (b : AnyBlock) (c : AnyColour) → (format ≡ 1 → c.0 < 256) → IsRecordOf level 0 r.now layer (HasColour b c.0) → result ≡ Some (b, c) }
+    ensures one { (layer : ℕ) (b : AnyBlock) (c : AnyColour) → (format ≡ 1 → c.0 < 256) → IsRecordOf level 0 r.now layer (HasColour b c.0)
+        → result ≡ Some (b, c) }
 {
     let Some((layer, b)) = named(&r.key, level) else {
         return None;

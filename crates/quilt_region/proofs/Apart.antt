@@ -49,11 +49,13 @@ module _ (n : ℕ) (side_of : Pixel → Bool) where
     each = λ p held. let sq = held_in n b p hb held in sym (a.each p sq.0 sq.1 (on.each p held)) ∙ has.each p held;
   }
 
-  uniform_kept : (t : Bool) (g h : Grid) (b : Block) → AgreeOn n side_of t g h → IsBlock n b → LiesOn side_of t b → is_uniform n g b ≡ true → is_uniform n h b ≡ true
+  uniform_kept : (t : Bool) (g h : Grid) (b : Block) → AgreeOn n side_of t g h → IsBlock n b → LiesOn side_of t b → is_uniform n g b ≡ true
+      → is_uniform n h b ≡ true
   uniform_kept t g h b a hb on u = uniform-from_HasColour n h b _ hb (colour_kept t g h b _ a hb on (HasColour-from_uniform n g b u))
 
   -- a leaf on a side on which the grids agree
-  pub leaf_kept : (t : Bool) (g h : Grid) (e : Block × ℕ) → AgreeOn n side_of t g h → IsParted n side_of h → LiesOn side_of t e.0 → Contains (leaves n g) e → Contains (leaves n h) e
+  pub leaf_kept : (t : Bool) (g h : Grid) (e : Block × ℕ) → AgreeOn n side_of t g h → IsParted n side_of h → LiesOn side_of t e.0
+      → Contains (leaves n g) e → Contains (leaves n h) e
   leaf_kept t g h e a parted on c =
       let leaf = leaf_is n g e c in
       let m = leaf.maximal in
@@ -65,7 +67,8 @@ module _ (n : ℕ) (side_of : Pixel → Bool) where
             let larger = IsBlock-parent_of n e.0 hb lt in
             let w = Within-parent_of n e.0 hb lt in
             let here = Holds-corner n e.0 hb in
-            let on_side = side_from t (parent_of e.0) (corner e.0) (Within-holds e.0 (parent_of e.0) (corner e.0) w here) (on.each (corner e.0) here) (parted.one (parent_of e.0) larger u) in
+            let on_side = side_from t (parent_of e.0) (corner e.0) (Within-holds e.0 (parent_of e.0) (corner e.0) w here) (on.each (corner e.0) here)
+            (parted.one (parent_of e.0) larger u) in
             m.last lt (uniform_kept t h g (parent_of e.0) (agree_back n side_of t g h a) larger on_side u);
       } in
       is_leaf_from n h e (maximal_leaf n h e.0 e.1 maximal (colour_kept t g h e.0 e.1 a hb on leaf.colour))
@@ -90,8 +93,13 @@ module _ (n : ℕ) (side_of : Pixel → Bool) where
         (parted_g.one e.0 leaf.maximal.block leaf.maximal.passes)
 
 -- Two pairs of grids that agree on one side, where each pair agrees on the other, differ by the same records.
-pub records_same : (n : ℕ) (side_of : Pixel → Bool) (layer : ℕ) (g h i j : Grid) → n ≤ 12 → AgreeOn n side_of true g i → AgreeOn n side_of true h j → AgreeOn n side_of false g h → AgreeOn n side_of false i j
+pub records_same : (n : ℕ) (side_of : Pixel → Bool) (layer : ℕ) (g h i j : Grid) → n ≤ 12 → AgreeOn n side_of true g i → AgreeOn n side_of true h j
+    → AgreeOn n side_of false g h → AgreeOn n side_of false i j
     → IsParted n side_of g → IsParted n side_of h → IsParted n side_of i → IsParted n side_of j → records_without n layer g h ≡ records_without n layer i j
 records_same n side_of layer g h i j le gi hj gh ij pg ph pi pj =
     same_rising by_key by_key_total (records_without n layer g h) (records_without n layer i j) (only_rises n layer g h le) (only_rises n layer i j le)
-    (λ r. (moved_over n side_of layer g h i j le gi hj gh pg ph pi r, moved_over n side_of layer i j g h le (agree_back n side_of true g i gi) (agree_back n side_of true h j hj) ij pi pj pg r))
+    (λ r. (
+      moved_over n side_of layer g h i j le gi hj gh pg ph pi r,
+      moved_over n side_of layer i j g h le (agree_back n side_of true g i gi)
+          (agree_back n side_of true h j hj) ij pi pj pg r,
+    ))

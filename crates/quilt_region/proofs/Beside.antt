@@ -21,7 +21,8 @@ not_held b p f held = true_false (sym (in_block-true b p held) ∙ f)
 pub held_not : (b : Block) (p : Pixel) → (Holds b p → ⊥) → in_block b p ≡ false
 held_not b p none = false_from_ne_true (in_block b p) (λ t. none (Holds-from b p t))
 
-module _ (n : ℕ) (k : Known) (b : Block) (known : IsKnown n k) (hb : IsBlock n b) (wide : k.read.side ≤ b.side) (apart : in_block b (corner k.read) ≡ false) where
+module _ (n : ℕ) (k : Known) (b : Block) (known : IsKnown n k) (hb : IsBlock n b) (wide : k.read.side ≤ b.side)
+    (apart : in_block b (corner k.read) ≡ false) where
   read_apart : Within k.read b → ⊥
   read_apart w = not_held b (corner k.read) apart (Within-holds k.read b (corner k.read) w (Holds-corner n k.read known.read))
 
@@ -36,7 +37,8 @@ module _ (n : ℕ) (k : Known) (b : Block) (known : IsKnown n k) (hb : IsBlock n
   top_same p held =
       let here = Holds-corner n b hb in
       ⊎_elim
-      (λ lt. absurd_or k.top p (corner b) (λ h. top_apart (nested n k.top b p known.top hb (omega arith) h held)) (λ h. top_apart (nested n k.top b (corner b) known.top hb (omega arith) h here)))
+      (λ lt. absurd_or k.top p (corner b) (λ h. top_apart (nested n k.top b p known.top hb (omega arith) h held))
+      (λ h. top_apart (nested n k.top b (corner b) known.top hb (omega arith) h here)))
       (λ ge.
       both k.top p (corner b)
       (λ h. Within-holds b k.top (corner b) (nested n b k.top p hb known.top ge held h) here)
@@ -58,7 +60,8 @@ module _ (n : ℕ) (k : Known) (b : Block) (known : IsKnown n k) (hb : IsBlock n
 
 -- and that of a pixel of the block that was read
 pub read_colour : (n : ℕ) (k : Known) (g : Grid) (p : Pixel) → Holds k.read p → known_colour n g k p ≡ colour_at n g p
-read_colour n k g p held = ap (λ (t : Bool). if t then colour_at n g p else (if in_block k.top p then k.around.0 else k.elsewhere.0)) (in_block-true k.read p held)
+read_colour n k g p held =
+    ap (λ (t : Bool). if t then colour_at n g p else (if in_block k.top p then k.around.0 else k.elsewhere.0)) (in_block-true k.read p held)
 
 -- of two blocks that are not one the one that holds the other's corner is the larger, and so are its quarters
 pub wider : (n : ℕ) (b read : Block) → IsBlock n b → IsBlock n read → read.side ≤ b.side → Holds b (corner read) → (b ≡ read → ⊥) → read.side < b.side
@@ -81,7 +84,8 @@ blocks_equal a b h =
 
 pub blocks_differ : (a b : Block) → false ≡ same_blocks a b → a ≡ b → ⊥
 blocks_differ a b h e =
-    let t : same_blocks a b ≡ true = and_from _ _ (eq-eqb a.y b.y (ap (λ (d : Block). d.y) e)) (and_from _ _ (eq-eqb a.x b.x (ap (λ (d : Block). d.x) e)) (eq-eqb a.side b.side (ap (λ (d : Block). d.side) e))) in
+    let t : same_blocks a b ≡ true = and_from _ _ (eq-eqb a.y b.y (ap (λ (d : Block). d.y) e))
+    (and_from _ _ (eq-eqb a.x b.x (ap (λ (d : Block). d.x) e)) (eq-eqb a.side b.side (ap (λ (d : Block). d.side) e))) in
     true_false (sym t ∙ sym h)
 
 pub if_err_weaker : {T E : Type 0} {P Q : E → Type 0} (r : Result T E) → ((e : E) → P e → Q e) → IfErr r P → IfErr r Q

@@ -2,7 +2,8 @@
 use Rattle.std.proofs.Common.{ℕ, ◌+◌, ◌≤◌, Option, Some, None, arith}
 use Rattle.quilt_store.specs.Store.{Tells}
 
-pub reads_then : (i j k : ℕ) (a b c : Option ℕ) → i + j ≤ k → Tells {A = ℕ} (λ old new. new ≤ old + i) a b → Tells {A = ℕ} (λ old new. new ≤ old + j) b c → Tells {A = ℕ} (λ old new. new ≤ old + k) a c
+pub reads_then : (i j k : ℕ) (a b c : Option ℕ) → i + j ≤ k → Tells {A = ℕ} (λ old new. new ≤ old + i) a b
+    → Tells {A = ℕ} (λ old new. new ≤ old + j) b c → Tells {A = ℕ} (λ old new. new ≤ old + k) a c
 reads_then i j k (Some a) (Some b) (Some c) h x y = omega arith
 reads_then i j k (Some a) (Some b) None h x y = absurd y
 reads_then i j k (Some a) None c h x y = absurd x
@@ -27,7 +28,8 @@ reads_plain i j None (Some b) x = absurd x
 reads_plain i j None None x = tt
 
 -- ---- where some of what may be read was not
-pub saved_then : (s i j k : ℕ) (a b c : Option ℕ) → i + j ≤ k → Tells {A = ℕ} (λ old new. new + s ≤ old + i) a b → Tells {A = ℕ} (λ old new. new ≤ old + j) b c → Tells {A = ℕ} (λ old new. new + s ≤ old + k) a c
+pub saved_then : (s i j k : ℕ) (a b c : Option ℕ) → i + j ≤ k → Tells {A = ℕ} (λ old new. new + s ≤ old + i) a b
+    → Tells {A = ℕ} (λ old new. new ≤ old + j) b c → Tells {A = ℕ} (λ old new. new + s ≤ old + k) a c
 saved_then s i j k (Some a) (Some b) (Some c) h x y = omega arith
 saved_then s i j k (Some a) (Some b) None h x y = absurd y
 saved_then s i j k (Some a) None c h x y = absurd x
@@ -35,7 +37,8 @@ saved_then s i j k None (Some b) c h x y = absurd x
 saved_then s i j k None None (Some c) h x y = absurd y
 saved_then s i j k None None None h x y = tt
 
-pub then_saved : (s i j k : ℕ) (a b c : Option ℕ) → i + j ≤ k → Tells {A = ℕ} (λ old new. new ≤ old + i) a b → Tells {A = ℕ} (λ old new. new + s ≤ old + j) b c → Tells {A = ℕ} (λ old new. new + s ≤ old + k) a c
+pub then_saved : (s i j k : ℕ) (a b c : Option ℕ) → i + j ≤ k → Tells {A = ℕ} (λ old new. new ≤ old + i) a b
+    → Tells {A = ℕ} (λ old new. new + s ≤ old + j) b c → Tells {A = ℕ} (λ old new. new + s ≤ old + k) a c
 then_saved s i j k (Some a) (Some b) (Some c) h x y = omega arith
 then_saved s i j k (Some a) (Some b) None h x y = absurd y
 then_saved s i j k (Some a) None c h x y = absurd x
@@ -43,7 +46,8 @@ then_saved s i j k None (Some b) c h x y = absurd x
 then_saved s i j k None None (Some c) h x y = absurd y
 then_saved s i j k None None None h x y = tt
 
-pub saved_more : (s t i k : ℕ) (a b : Option ℕ) → t + i ≤ s + k → Tells {A = ℕ} (λ old new. new + s ≤ old + i) a b → Tells {A = ℕ} (λ old new. new + t ≤ old + k) a b
+pub saved_more : (s t i k : ℕ) (a b : Option ℕ) → t + i ≤ s + k → Tells {A = ℕ} (λ old new. new + s ≤ old + i) a b
+    → Tells {A = ℕ} (λ old new. new + t ≤ old + k) a b
 saved_more s t i k (Some a) (Some b) h x = omega arith
 saved_more s t i k (Some a) None h x = absurd x
 saved_more s t i k None (Some b) h x = absurd x

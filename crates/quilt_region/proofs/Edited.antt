@@ -18,7 +18,8 @@ true_false : true ≡ false → ⊥
 true_false e = cc
 
 -- the record of a leaf that the other grid does not have is one of those
-pub only_in : (n layer : ℕ) (g other : Grid) (e : Block × ℕ) → Contains (leaves n g) e → is_leaf n other e ≡ false → Contains (records_without n layer g other) (leaf_record n layer e)
+pub only_in : (n layer : ℕ) (g other : Grid) (e : Block × ℕ) → Contains (leaves n g) e → is_leaf n other e ≡ false
+    → Contains (records_without n layer g other) (leaf_record n layer e)
 unfolding records_without
 only_in n layer g other e c f =
     Contains-map (leaf_record n layer) (filter (only_test n other) (leaves_by_code n g)) e
@@ -51,7 +52,8 @@ module _ (n layer : ℕ) (g h : Grid) (le : n ≤ 12) where
         let l = Contains-map_from (leaf_record n layer) (leaves n g) r (spells.only r old.0 of) in
         ⊎_elim
         (λ t. leaf_of_new r l.0 (is_leaf_from n h l.0 t) l.2)
-        (λ f. absurd (old.1 (subst (λ (s : List Record). Contains s r) (sym leads.remove) (subst (Contains (records_without n layer g h)) l.2 (only_in n layer g h l.0 l.1 f)))))
+        (λ f. absurd (old.1 (subst (λ (s : List Record). Contains s r) (sym leads.remove)
+        (subst (Contains (records_without n layer g h)) l.2 (only_in n layer g h l.0 l.1 f)))))
         (cases_Bool (is_leaf n h l.0)))
         (λ new. let o = only_leaf n layer h g r (subst (λ (s : List Record). Contains s r) leads.add new) in leaf_of_new r o.0 o.2 o.4)
         ((is r).0 c)

@@ -1,5 +1,6 @@
 -- The record of the leaf that holds a pixel is the last at or before the pixel's key.
-use Rattle.std.proofs.Common.{◌≡◌, ℕ, ◌+◌, ◌*◌, ◌<◌, ◌≤◌, true, List, [], ◌∷◌, ◌++◌, Option, Some, None, refl, sym, ◌∙◌, ap, subst, ⊎_elim, arith, Contains, Less}
+use Rattle.std.proofs.Common.{◌≡◌, ℕ, ◌+◌, ◌*◌, ◌<◌, ◌≤◌, true, List, [], ◌∷◌, ◌++◌, Option, Some, None, refl, sym, ◌∙◌, ap, subst, ⊎_elim, arith, Contains}
+use Rattle.std.proofs.Common.{Less}
 use Rattle.std.specs.List.{last_or}
 use Rattle.std.specs.Ordering.{is_lt, is_le}
 use Rattle.std.specs.Prelude.{unwrap_or}
@@ -85,7 +86,8 @@ floor_at k r rs h c le above =
     }) ∙ one_floor k r (last_or None s.before) le
 
 -- two members of a chain of blocks, the one with the code at which the other begins
-pub same_member : (n at : ℕ) (es : List (Block × ℕ)) (d e : Block × ℕ) → Follows n at es → Contains es d → Contains es e → code_from d.0 ≤ code_from e.0 → code_from e.0 < code_to d.0 → d ≡ e
+pub same_member : (n at : ℕ) (es : List (Block × ℕ)) (d e : Block × ℕ) → Follows n at es → Contains es d → Contains es e
+    → code_from d.0 ≤ code_from e.0 → code_from e.0 < code_to d.0 → d ≡ e
 same_member n at [] d e h cd ce low high = absurd (Contains-nil d cd)
 same_member n at (x ∷ xs) d e h cd ce low high =
     let from = h.1 in
@@ -107,7 +109,8 @@ same_member n at (x ∷ xs) d e h cd ce low high =
     (Contains-cons_cases x xs d cd)
 
 module _ (rs : List Record) (layer n : ℕ) (g : Grid) (le : n ≤ 12) (up : Rises by_key rs) (spells : SpellsRegion rs layer n g) where
-  module _ (e : Block × ℕ) (member : Contains (leaves n g) e) (k : Key) (layer_is : k.layer ≡ layer) (part_is : k.part ≡ 1) (depth_is_most : k.depth ≡ 255) (from : code_from e.0 ≤ k.code) (to : k.code < code_to e.0) where
+  module _ (e : Block × ℕ) (member : Contains (leaves n g) e) (k : Key) (layer_is : k.layer ≡ layer) (part_is : k.part ≡ 1)
+      (depth_is_most : k.depth ≡ 255) (from : code_from e.0 ≤ k.code) (to : k.code < code_to e.0) where
     block : IsBlock n e.0
     block = (leaf_is n g e member).maximal.block
 
@@ -115,7 +118,8 @@ module _ (rs : List Record) (layer n : ℕ) (g : Grid) (le : n ≤ 12) (up : Ris
     at_most =
         let r = (leaf_record n layer e).key in
         let d = depth_is n e.0 block in
-        ap is_le (⊎_elim (λ lt. less_code r k (sym layer_is) (sym part_is) lt) (λ ge. less_depth r k (sym layer_is) (sym part_is) (omega arith) (omega arith)) (cases_lt (code_from e.0) k.code))
+        ap is_le (⊎_elim (λ lt. less_code r k (sym layer_is) (sym part_is) lt)
+        (λ ge. less_depth r k (sym layer_is) (sym part_is) (omega arith) (omega arith)) (cases_lt (code_from e.0) k.code))
 
     -- no other record of the layer stands between
     none_between : (s : Record) → Contains rs s → by_key (leaf_record n layer e) s ≡ Less → is_le (key_cmp s.key k) ≡ true → ⊥
@@ -158,7 +162,8 @@ leaf_at n g p le hx hy =
 -- what is found of a tree that has the layer
 pub floor_found : (told : Option (List (List ℕ))) (t : Tree) (layer n : ℕ) (g : Grid) (p : Pixel) (k : Key) (found : Option Record)
     → n ≤ 12 → p.x < side n → p.y < side n → k ≡ pixel_key layer p
-    → ((rs : List Record) → IsTree told t rs → found ≡ floor_of k rs) → HasRegion told t layer n g → (e : Block × ℕ) × HasLeaf n g p e × (found ≡ Some (leaf_record n layer e))
+    → ((rs : List Record) → IsTree told t rs → found ≡ floor_of k rs) → HasRegion told t layer n g
+    → (e : Block × ℕ) × HasLeaf n g p e × (found ≡ Some (leaf_record n layer e))
 floor_found told t layer n g p k found le hx hy key is h =
     let a = ap (λ (z : Key). z.layer) key in
     let b = ap (λ (z : Key). z.part) key in
@@ -166,8 +171,12 @@ floor_found told t layer n g p k found le hx hy key is h =
     let d = ap (λ (z : Key). z.depth) key in
     let l = leaf_at n g p le hx hy in
     let from = (l.1).from in
-    let to = (l.1).to in
-    (l.0, l.1, is h.records h.tree ∙ floor_leaf h.records layer n g le (tree_rises told t h.records h.tree) h.spelled l.0 (l.1).member k a b d (omega arith) (omega arith))
+    let to = (l.1).to in (
+      l.0,
+      l.1,
+      is h.records h.tree
+          ∙ floor_leaf h.records layer n g le (tree_rises told t h.records h.tree) h.spelled l.0 (l.1).member k a b d (omega arith) (omega arith),
+    )
 
 pub none_some : {X : Type 0} (x : X) → None ≡ Some x → ⊥
 none_some x e = cc
@@ -191,7 +200,8 @@ pub record IsRead (n : ℕ) (g : Grid) (p : Pixel) (read : Option Leaf) : Type 0
   pub holds : in_block leaf.block p ≡ true
   pub colour : leaf.colour.0 ≡ colour_at n g p
 
-pub leaf_read : (told : Option (List (List ℕ))) (t : Tree) (layer n : ℕ) (g : Grid) (p : Pixel) (k : Key) (found : Option Record) (r : Record) (read : Option Leaf)
+pub leaf_read : (told : Option (List (List ℕ))) (t : Tree) (layer n : ℕ) (g : Grid) (p : Pixel) (k : Key) (found : Option Record)
+    (r : Record) (read : Option Leaf)
     → 1 ≤ layer → n ≤ 12 → p.x < side n → p.y < side n → k ≡ pixel_key layer p
     → ((rs : List Record) → IsTree told t rs → found ≡ floor_of k rs) → found ≡ Some r
     → ((b : Block) (c : Colour) → 1 ≤ layer → IsBlock n b → r ≡ leaf_record n layer (b, c.0) → read ≡ Some (record { block = b; colour = c }))

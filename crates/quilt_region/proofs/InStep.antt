@@ -1,5 +1,6 @@
 -- Two walks in step: which leaves are in one list alone.
-use Rattle.std.proofs.Common.{◌≡◌, ℕ, ◌+◌, ◌*◌, ◌^◌, ◌<◌, ◌≤◌, Bool, true, false, not, List, [], ◌∷◌, ◌++◌, map, filter, Contains, ◌⊎◌, ◌↔◌, inl, inr, Option, Some, None, IfSome, IsNone, refl, sym, ◌∙◌, ap, subst, ⊎_elim, arith, eqb, eqb-true, eq-eqb, ◌&&◌, append-nil}
+use Rattle.std.proofs.Common.{◌≡◌, ℕ, ◌+◌, ◌*◌, ◌^◌, ◌<◌, ◌≤◌, Bool, true, false, not, List, [], ◌∷◌, ◌++◌, map, filter, Contains, ◌⊎◌, ◌↔◌, inl, inr, Option}
+use Rattle.std.proofs.Common.{Some, None, IfSome, IsNone, refl, sym, ◌∙◌, ap, subst, ⊎_elim, arith, eqb, eqb-true, eq-eqb, ◌&&◌, append-nil}
 use Rattle.std.specs.Option.{option_zip, is_some}
 use Rattle.quilt_types.specs.declared.plane.Block.{Block}
 use Rattle.quilt_types.specs.Plane.{IsBlock, corner, whole}
@@ -27,7 +28,8 @@ use Rattle.quilt_region.proofs.Leaves.{is_leaf_from, is_leaf_at, only_test, none
 use Rattle.std.proofs.lemmas.Bool.{false_from_ne_true, and_parts, and_from}
 
 -- a leaf that begins within a leaf of the other grid, and is not that one, is none of the other grid's
-pub inside_alone : (n : ℕ) (h : Grid) (e f : Block × ℕ) → n ≤ 12 → Contains (leaves n h) f → code_from f.0 ≤ code_from e.0 → code_from e.0 < code_to f.0 → (e ≡ f → ⊥) → only_test n h e ≡ true
+pub inside_alone : (n : ℕ) (h : Grid) (e f : Block × ℕ) → n ≤ 12 → Contains (leaves n h) f → code_from f.0 ≤ code_from e.0
+    → code_from e.0 < code_to f.0 → (e ≡ f → ⊥) → only_test n h e ≡ true
 inside_alone n h e f le c low high differ =
     let run = leaves_run n h le in
     ap not (false_from_ne_true (is_leaf n h e) (λ t.
@@ -60,17 +62,21 @@ pub at_same : (m n : ℕ) (g h : Grid) (at : ℕ) (e : Block × ℕ) → m ≡ n
 at_same m n g h at e a b l = subst (λ (i : Grid). IsLeafAt n i at e) b (subst (λ (k : ℕ). IsLeafAt k g at e) a l)
 
 -- the records so far, with one leaf more that passes or does not
-pub one_passes : (n layer : ℕ) (p : Block × ℕ → Bool) (old new all : List Record) (r : Record) (e : Block × ℕ) (before rest : List (Block × ℕ)) → new ≡ old ++ r ∷ [] → r ≡ leaf_record n layer e → before ≡ e ∷ rest → p e ≡ true
+pub one_passes : (n layer : ℕ) (p : Block × ℕ → Bool) (old new all : List Record) (r : Record) (e : Block × ℕ) (before rest : List (Block × ℕ))
+    → new ≡ old ++ r ∷ [] → r ≡ leaf_record n layer e → before ≡ e ∷ rest → p e ≡ true
     → AreSoFar n layer p old before all → AreSoFar n layer p new rest all
 one_passes n layer p old new all r e before rest is record_is first test h =
     ap (λ l. l ++ map (leaf_record n layer) (filter p rest)) (is ∙ ap (λ s. old ++ s ∷ []) record_is)
     ∙ passed_in n layer p old all e rest test (ap (λ l. old ++ map (leaf_record n layer) (filter p l)) (sym first) ∙ h)
 
-pub one_fails : (n layer : ℕ) (p : Block × ℕ → Bool) (old all : List Record) (e : Block × ℕ) (before rest : List (Block × ℕ)) → before ≡ e ∷ rest → p e ≡ false → AreSoFar n layer p old before all → AreSoFar n layer p old rest all
-one_fails n layer p old all e before rest first test h = passed_over n layer p old all e rest test (ap (λ l. old ++ map (leaf_record n layer) (filter p l)) (sym first) ∙ h)
+pub one_fails : (n layer : ℕ) (p : Block × ℕ → Bool) (old all : List Record) (e : Block × ℕ) (before rest : List (Block × ℕ)) → before ≡ e ∷ rest
+    → p e ≡ false → AreSoFar n layer p old before all → AreSoFar n layer p old rest all
+one_fails n layer p old all e before rest first test h =
+    passed_over n layer p old all e rest test (ap (λ l. old ++ map (leaf_record n layer) (filter p l)) (sym first) ∙ h)
 
 -- the first leaf is to come, and none has
-pub none_so_far : (n layer : ℕ) (g other : Grid) (records : List Record) (rest : List (Block × ℕ)) → records ≡ [] → rest ≡ leaves_by_code n g → AreSoFar n layer (only_test n other) records rest (records_without n layer g other)
+pub none_so_far : (n layer : ℕ) (g other : Grid) (records : List Record) (rest : List (Block × ℕ)) → records ≡ [] → rest ≡ leaves_by_code n g
+    → AreSoFar n layer (only_test n other) records rest (records_without n layer g other)
 none_so_far n layer g other records rest e f = none_yet n layer g other records rest e f
 
 -- ---- two walks that go on together
@@ -107,7 +113,8 @@ pub record HasPassed (n : ℕ) (g : Grid) (old new : Walk) (l : Leaf) : Type 0 w
   pub room : old.at < 4 ^ 12
 
 pub has_passed : (n : ℕ) (g : Grid) (old new : Walk) (o : Option Leaf) (l : Leaf) → n ≤ 12 → o ≡ Some l → old.level ≡ n → old.grid ≡ g
-    → IfSome o (λ l. old.rest ≡ pair_of l ∷ new.rest) → IfSome o (λ l. IsLeafAt old.level old.grid old.at (pair_of l)) → IfSome o (λ l. new.at ≡ old.at + l.block.side * l.block.side)
+    → IfSome o (λ l. old.rest ≡ pair_of l ∷ new.rest) → IfSome o (λ l. IsLeafAt old.level old.grid old.at (pair_of l))
+    → IfSome o (λ l. new.at ≡ old.at + l.block.side * l.block.side)
     → new.level ≡ old.level → new.grid ≡ old.grid → HasPassed n g old new l
 has_passed n g old new o l le e el eg first leaf at level grid =
     let here = at_same old.level n old.grid g old.at (pair_of l) el eg (at_some (λ l. IsLeafAt old.level old.grid old.at (pair_of l)) o l e leaf) in
@@ -144,7 +151,8 @@ both_end n a b p q z ea eb place end_a whole_a end_b whole_b =
     (zip_none p q z)
 
 -- no leaf is still to come
-pub none_left : (n layer : ℕ) (p : Block × ℕ → Bool) (records all : List Record) (rest : List (Block × ℕ)) → rest ≡ [] → AreSoFar n layer p records rest all → records ≡ all
+pub none_left : (n layer : ℕ) (p : Block × ℕ → Bool) (records all : List Record) (rest : List (Block × ℕ)) → rest ≡ []
+    → AreSoFar n layer p records rest all → records ≡ all
 none_left n layer p records all rest e h = sym (append-nil records) ∙ ap (λ l. records ++ map (leaf_record n layer) (filter p l)) (sym e) ∙ h
 
 -- what the test of two leaves says
@@ -183,7 +191,11 @@ leaves_differ a b h e = let no : true ≡ false = h ∙ ap not (leaves_test a b 
 module _ (n : ℕ) (g h : Grid) (le : n ≤ 12) (at : ℕ) (a b : Leaf) (first : IsLeafAt n g at (pair_of a)) (second : IsLeafAt n h at (pair_of b)) where
   -- one leaf is in both
   pub same_pass : pair_of a ≡ pair_of b → (only_test n h (pair_of a) ≡ false) × (only_test n g (pair_of b) ≡ false)
-  same_pass e = (both_have n h (pair_of a) (subst (Contains (leaves n h)) (sym e) second.member), both_have n g (pair_of b) (subst (Contains (leaves n g)) e first.member))
+  same_pass e = (
+    both_have n h (pair_of a) (subst (Contains (leaves n h)) (sym e) second.member),
+    both_have n g (pair_of b)
+        (subst (Contains (leaves n g)) e first.member),
+  )
 
   module _ (differ : pair_of a ≡ pair_of b → ⊥) where
     pub first_alone : only_test n h (pair_of a) ≡ true
@@ -201,11 +213,13 @@ module _ (n : ℕ) (g h : Grid) (le : n ≤ 12) (at : ℕ) (a b : Leaf) (first :
         inside_alone n g (pair_of b) (pair_of a) le first.member (omega arith) (omega arith) (λ e. differ (sym e))
 
 -- and so are those that begin within it, not at its first code
-pub within_alone : (n : ℕ) (h : Grid) (at : ℕ) (b : Leaf) → n ≤ 12 → IsLeafAt n h at (pair_of b) → (e : Block × ℕ) → code_from b.block < code_from e.0 → code_from e.0 < code_to b.block → only_test n h e ≡ true
+pub within_alone : (n : ℕ) (h : Grid) (at : ℕ) (b : Leaf) → n ≤ 12 → IsLeafAt n h at (pair_of b) → (e : Block × ℕ)
+    → code_from b.block < code_from e.0 → code_from e.0 < code_to b.block → only_test n h e ≡ true
 within_alone n h at b le leaf e low high =
     inside_alone n h e (pair_of b) le leaf.member (omega arith) high (λ same. let z = ap (λ (d : Block × ℕ). code_from d.0) same in absurd (omega arith))
 
 -- the level and the grid go by other names
-pub go_on_at : (k n layer : ℕ) (g h : Grid) (b : Block) (old new : List Record) (before rest : List (Block × ℕ)) → k ≡ n → g ≡ h → GoOnWithin k layer g b old new before rest → GoOnWithin n layer h b old new before rest
+pub go_on_at : (k n layer : ℕ) (g h : Grid) (b : Block) (old new : List Record) (before rest : List (Block × ℕ)) → k ≡ n → g ≡ h
+    → GoOnWithin k layer g b old new before rest → GoOnWithin n layer h b old new before rest
 go_on_at k n layer g h b old new before rest e f go =
     subst (λ (i : Grid). GoOnWithin n layer i b old new before rest) f (subst (λ (j : ℕ). GoOnWithin j layer g b old new before rest) e go)

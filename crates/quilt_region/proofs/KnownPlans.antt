@@ -40,8 +40,14 @@ parted_by n top a ht several = record {
       }))
       (λ ge.
       ⊎_elim
-      (λ t. inl (record { each = λ p held. in_block-true top p (Within-holds b top p (nested n b top (corner b) hb ht ge cb (Holds-from top (corner b) t)) held) }))
-      (λ f. inr (record { each = λ p held. held_not top p (λ h. not_held top (corner b) f (Within-holds b top (corner b) (nested n b top p hb ht ge held h) cb)) }))
+      (λ t. inl (record {
+        each = λ p held.
+            in_block-true top p (Within-holds b top p (nested n b top (corner b) hb ht ge cb (Holds-from top (corner b) t)) held);
+      }))
+      (λ f. inr (record {
+        each = λ p held.
+            held_not top p (λ h. not_held top (corner b) f (Within-holds b top (corner b) (nested n b top p hb ht ge held h) cb));
+      }))
       (cases_Bool (in_block top (corner b))))
       (cases_lt top.side b.side);
 }
@@ -71,7 +77,8 @@ corner_in n w t =
     let i = window_in n w t in
     let wide = i.wide in
     let high = i.high in
-    and_from _ _ (and_from _ _ (and_from _ _ (le-leb w.x w.x (omega arith)) (lt-ltb w.x (w.x + w.w) (omega arith))) (le-leb w.y w.y (omega arith))) (lt-ltb w.y (w.y + w.h) (omega arith))
+    and_from _ _ (and_from _ _ (and_from _ _ (le-leb w.x w.x (omega arith)) (lt-ltb w.x (w.x + w.w) (omega arith))) (le-leb w.y w.y (omega arith)))
+    (lt-ltb w.y (w.y + w.h) (omega arith))
 
 module _ (n : ℕ) (g : Grid) (w : Window) (k : Known) (le : n ≤ 12) (win : is_window n w ≡ true) (knows : Knows n g w k) where
   abbrev c : ℕ
@@ -117,7 +124,8 @@ module _ (n : ℕ) (g : Grid) (w : Window) (k : Known) (le : n ≤ 12) (win : is
         (λ r. read_colour n k g p (Holds-from k.read p r))
         (λ f.
         let other : ℕ = if in_block k.top p then k.around.0 else k.elsewhere.0 in
-        ap (λ (s : Bool). if s then colour_at n g p else other) f ∙ ap (λ (s : Bool). if s then k.around.0 else k.elsewhere.0) t ∙ sym (knows.around.each p (Holds-from k.top p t) f))
+        ap (λ (s : Bool). if s then colour_at n g p else other) f ∙ ap (λ (s : Bool). if s then k.around.0 else k.elsewhere.0) t
+        ∙ sym (knows.around.each p (Holds-from k.top p t) f))
         (cases_Bool (in_block k.read p)));
   }
 
@@ -169,7 +177,8 @@ module _ (n : ℕ) (g : Grid) (w : Window) (k : Known) (le : n ≤ 12) (win : is
     several_known u =
         let o = outside_pixel n k.top ht lt in
         let sq = held_in n larger spot hl spot_in in
-        knows.first (sym (outside_known o.0 o.1 o.2) ∙ one_colour i o.0 spot u o.1 spot_in ∙ known_at spot sq.0 sq.1 ∙ read_colour n k g spot (window_corner k.read n w win knows.holds))
+        knows.first (sym (outside_known o.0 o.1 o.2) ∙ one_colour i o.0 spot u o.1 spot_in ∙ known_at spot sq.0 sq.1
+        ∙ read_colour n k g spot (window_corner k.read n w win knows.holds))
 
     several_both : is_uniform n j larger ≡ true → ⊥
     several_both u =
@@ -189,9 +198,13 @@ module _ (n : ℕ) (g : Grid) (w : Window) (k : Known) (le : n ≤ 12) (win : is
   parted_j : IsParted n (in_block k.top) j
   parted_j = parted_by n k.top j ht several_both
 
-  pub removes_same : (layer : ℕ) → records_without n layer g (painted n g w c) ≡ records_without n layer (grid_of n (known_colour n g k)) (painted n (grid_of n (known_colour n g k)) w c)
-  removes_same layer = records_same n (in_block k.top) layer g h i j le same_inside same_painted (stays_outside g) (stays_outside i) parted_g parted_h parted_i parted_j
+  pub removes_same : (layer : ℕ)
+      → records_without n layer g (painted n g w c) ≡ records_without n layer (grid_of n (known_colour n g k)) (painted n (grid_of n (known_colour n g k)) w c)
+  removes_same layer =
+      records_same n (in_block k.top) layer g h i j le same_inside same_painted (stays_outside g) (stays_outside i) parted_g parted_h parted_i parted_j
 
-  pub adds_same : (layer : ℕ) → records_without n layer (painted n g w c) g ≡ records_without n layer (painted n (grid_of n (known_colour n g k)) w c) (grid_of n (known_colour n g k))
+  pub adds_same : (layer : ℕ)
+      → records_without n layer (painted n g w c) g ≡ records_without n layer (painted n (grid_of n (known_colour n g k)) w c) (grid_of n (known_colour n g k))
   adds_same layer =
-      records_same n (in_block k.top) layer h g j i le same_painted same_inside (agree_back n (in_block k.top) false g h (stays_outside g)) (agree_back n (in_block k.top) false i j (stays_outside i)) parted_h parted_g parted_j parted_i
+      records_same n (in_block k.top) layer h g j i le same_painted same_inside (agree_back n (in_block k.top) false g h (stays_outside g))
+      (agree_back n (in_block k.top) false i j (stays_outside i)) parted_h parted_g parted_j parted_i

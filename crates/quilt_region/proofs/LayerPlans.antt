@@ -1,5 +1,6 @@
 -- The records of a layer of any kind as a range gives them, and that they lead from the layer to none, or from none to its copy.
-use Rattle.std.proofs.Common.{◌≡◌, ◌↔◌, ℕ, ◌≤◌, Bool, true, false, List, [], ◌∷◌, map, length, filter, Some, None, refl, sym, ◌∙◌, ap, subst, ⊎_elim, arith, Contains, Less, nat_cmp, eqb, eqb-true, ne_eqb, eq-eqb}
+use Rattle.std.proofs.Common.{◌≡◌, ◌↔◌, ℕ, ◌≤◌, Bool, true, false, List, [], ◌∷◌, map, length, filter, Some, None, refl, sym, ◌∙◌, ap, subst, ⊎_elim, arith}
+use Rattle.std.proofs.Common.{Contains, Less, nat_cmp, eqb, eqb-true, ne_eqb, eq-eqb}
 use Rattle.std.specs.FinMap as finmap
 use Rattle.std.specs.Ordering.{is_le, ordering_then}
 use Rattle.std.proofs.lemmas.Bool.{cases_Bool, cond-false, and_parts, and_from}
@@ -36,7 +37,8 @@ entry_record n r name number (Points capacity points) e = e n capacity
 entry_record n r name number (Lines threshold segs cover) e = e n 0
 
 -- the part of a record that stands under its layer's number
-parts_of : (n c k : ℕ) (name : List ℕ) (f : Fact) → ((record_of n c name k f).key.layer ≡ 0 → ⊥) → (1 ≤ (record_of n c name k f).key.part) × ((record_of n c name k f).key.part ≤ 4)
+parts_of : (n c k : ℕ) (name : List ℕ) (f : Fact) → ((record_of n c name k f).key.layer ≡ 0 → ⊥) → (1 ≤ (record_of n c name k f).key.part)
+    × ((record_of n c name k f).key.part ≤ 4)
 parts_of n c k name (IsOfKind x y) h = absurd (h refl)
 parts_of n c k name (HasColour x y) h = (omega arith, omega arith)
 parts_of n c k name (HoldsPoint x y z) h = (omega arith, omega arith)
@@ -64,13 +66,16 @@ in_range k r is low high =
 -- records by their keys under another number stand in the same order
 moved_less : (j k : ℕ) (r s : Record) → r.key.layer ≡ k → s.key.layer ≡ k → by_key r s ≡ Less → by_key (moved j r) (moved j s) ≡ Less
 moved_less j k r s a b less =
-    let rest = ordering_then (nat_cmp r.key.part s.key.part) (ordering_then (nat_cmp r.key.code s.key.code) (ordering_then (nat_cmp r.key.depth s.key.depth) (nat_cmp r.key.item s.key.item))) in
-    then_equal (nat_cmp j j) rest (nat_same j j refl) ∙ sym (then_equal (nat_cmp r.key.layer s.key.layer) rest (nat_same r.key.layer s.key.layer (a ∙ sym b))) ∙ less
+    let rest = ordering_then (nat_cmp r.key.part s.key.part)
+    (ordering_then (nat_cmp r.key.code s.key.code) (ordering_then (nat_cmp r.key.depth s.key.depth) (nat_cmp r.key.item s.key.item))) in
+    then_equal (nat_cmp j j) rest (nat_same j j refl)
+    ∙ sym (then_equal (nat_cmp r.key.layer s.key.layer) rest (nat_same r.key.layer s.key.layer (a ∙ sym b))) ∙ less
 
 pub shorter : {X : Type 0} (p : X → Bool) (xs : List X) (R : Apart xs) → length (filter p xs) ≤ length xs
 shorter p xs once = Apart-le (filter p xs) xs (Apart-filter p xs once) (λ x c. (Contains-filter_from p xs x c).0)
 
-module _ (form n : ℕ) (numbers : Numbering) (rs : List Record) (layers : Map) (name : List ℕ) (l : Layer) (le : n ≤ 12) (s : SpellsUnder form n numbers rs layers) (at : finmap.get layers name ≡ Some l) (most : ℕ) (room : length rs ≤ most) where
+module _ (form n : ℕ) (numbers : Numbering) (rs : List Record) (layers : Map) (name : List ℕ) (l : Layer) (le : n ≤ 12)
+    (s : SpellsUnder form n numbers rs layers) (at : finmap.get layers name ≡ Some l) (most : ℕ) (room : length rs ≤ most) where
   abbrev k : ℕ
   k = number_of numbers name
 
@@ -112,7 +117,8 @@ module _ (form n : ℕ) (numbers : Numbering) (rs : List Record) (layers : Map) 
   range_layer r c = ((range_members r).0 c).1
 
   -- the catalog's record stands before
-  first_rises : (j : ℕ) (other : List ℕ) (more : List Record) → 1 ≤ j → ((r : Record) → Contains more r → r.key.layer ≡ j) → Rises by_key more → Rises by_key (kind_record n other j l ∷ more)
+  first_rises : (j : ℕ) (other : List ℕ) (more : List Record) → 1 ≤ j → ((r : Record) → Contains more r → r.key.layer ≡ j) → Rises by_key more
+      → Rises by_key (kind_record n other j l ∷ more)
   first_rises j other more some of up = (
     λ r c.
         let zero' = kind_layer n other j l in
@@ -135,7 +141,8 @@ module _ (form n : ℕ) (numbers : Numbering) (rs : List Record) (layers : Map) 
         ⊎_elim
         (λ t.
         let kind = kind_only form n l (capacity_of l) k name f.0 fits least f.1 (eqb-true old.key.layer 0 t) in
-        subst (Contains (kind_record n name k l ∷ records_under k most rs)) (ap (record_of n (capacity_of l) name k) (sym kind) ∙ f.2) (Contains-here (kind_record n name k l) (records_under k most rs)))
+        subst (Contains (kind_record n name k l ∷ records_under k most rs)) (ap (record_of n (capacity_of l) name k) (sym kind) ∙ f.2)
+        (Contains-here (kind_record n name k l) (records_under k most rs)))
         (λ no.
         let is = moved_is n (capacity_of l) k k name name f.0 (λ z. let t = eq-eqb old.key.layer 0 z in let w : true ≡ false = sym t ∙ no in cc) in
         Contains-there (kind_record n name k l) (records_under k most rs) r ((range_members r).1 (c, ap (λ (q : Record). q.key.layer) (sym f.2) ∙ is.1)))
@@ -145,7 +152,8 @@ module _ (form n : ℕ) (numbers : Numbering) (rs : List Record) (layers : Map) 
   drop_plan : (r : Record) → r ≡ kind_record n name k l → IsPlan n name k (Some l) None (r ∷ records_under k most rs) []
   drop_plan r is =
       subst (λ (z : Record). IsPlan n name k (Some l) None (z ∷ records_under k most rs) []) (sym is) (record {
-        leads = drop_leads n name k l (kind_record n name k l ∷ records_under k most rs) drop_members (Apart-rises by_key by_key_total (kind_record n name k l ∷ records_under k most rs) drop_rises);
+        leads = drop_leads n name k l (kind_record n name k l ∷ records_under k most rs) drop_members
+            (Apart-rises by_key by_key_total (kind_record n name k l ∷ records_under k most rs) drop_rises);
         removed_ascend = rises_ascend (kind_record n name k l ∷ records_under k most rs) drop_rises;
         added_ascend = refl;
       })
@@ -160,7 +168,8 @@ module _ (form n : ℕ) (numbers : Numbering) (rs : List Record) (layers : Map) 
     copy_plan : (r : Record) → r ≡ kind_record n other j l → IsPlan n other j None (Some l) [] (r ∷ map (moved j) (records_under k most rs))
     copy_plan r is =
         subst (λ (z : Record). IsPlan n other j None (Some l) [] (z ∷ map (moved j) (records_under k most rs))) (sym is) (record {
-          leads = copy_leads form n l fits name other k j least some (records_under k most rs) (Apart-rises by_key by_key_total (records_under k most rs) range_rises) range_members;
+          leads = copy_leads form n l fits name other k j least some (records_under k most rs)
+              (Apart-rises by_key by_key_total (records_under k most rs) range_rises) range_members;
           removed_ascend = refl;
           added_ascend = rises_ascend (kind_record n other j l ∷ map (moved j) (records_under k most rs)) copy_rises;
         })
@@ -169,7 +178,9 @@ pub numbers_law : NumberLaw
 numbers_law form n numbers rs layers name layer s at = number_fits layers numbers s.numbering name layer at
 
 pub drops_law : DropLaw
-drops_law form n numbers rs layers name layer most r le s at room is = drop_plan form n numbers rs layers name layer le s at most room r (entry_record n r name (number_of numbers name) layer is)
+drops_law form n numbers rs layers name layer most r le s at room is =
+    drop_plan form n numbers rs layers name layer le s at most room r (entry_record n r name (number_of numbers name) layer is)
 
 pub copies_law : CopyLaw
-copies_law form n numbers rs layers name layer most other number r le s at room some is = copy_plan form n numbers rs layers name layer le s at most room other number some r (entry_record n r other number layer is)
+copies_law form n numbers rs layers name layer most other number r le s at room some is =
+    copy_plan form n numbers rs layers name layer le s at most room other number some r (entry_record n r other number layer is)

@@ -1,5 +1,6 @@
 -- Which leaves a grid has, and the records of those that only one of two grids has.
-use Rattle.std.proofs.Common.{◌≡◌, ℕ, ◌≤◌, Bool, true, false, ◌&&◌, ◌==◌, not, cond, List, [], ◌∷◌, ◌++◌, map, filter, refl, sym, ◌∙◌, ap, subst, ⊎_elim, Contains, eq-eqb, eqb-true, append_assoc}
+use Rattle.std.proofs.Common.{◌≡◌, ℕ, ◌≤◌, Bool, true, false, ◌&&◌, ◌==◌, not, cond, List, [], ◌∷◌, ◌++◌, map, filter, refl, sym, ◌∙◌, ap, subst, ⊎_elim}
+use Rattle.std.proofs.Common.{Contains, eq-eqb, eqb-true, append_assoc}
 use Rattle.std.specs.List.{list_any}
 use Rattle.std.proofs.lemmas.Bool.{and_parts, and_from, or_cases, or_left, or_right}
 use Rattle.quilt_types.specs.declared.plane.Block.{Block}
@@ -47,7 +48,8 @@ same_is d e t =
 same_self : (e : Block × ℕ) → same_leaf e e ≡ true
 same_self e =
     let at = and_from ((e.0).x == (e.0).x) ((e.0).y == (e.0).y) (eq-eqb (e.0).x (e.0).x refl) (eq-eqb (e.0).y (e.0).y refl) in
-    and_from (same_block e.0 e.0) (e.1 == e.1) (and_from (((e.0).x == (e.0).x) && ((e.0).y == (e.0).y)) ((e.0).side == (e.0).side) at (eq-eqb (e.0).side (e.0).side refl)) (eq-eqb e.1 e.1 refl)
+    and_from (same_block e.0 e.0) (e.1 == e.1)
+    (and_from (((e.0).x == (e.0).x) && ((e.0).y == (e.0).y)) ((e.0).side == (e.0).side) at (eq-eqb (e.0).side (e.0).side refl)) (eq-eqb e.1 e.1 refl)
 
 pub is_leaf_from : (n : ℕ) (g : Grid) (e : Block × ℕ) → is_leaf n g e ≡ true → Contains (leaves n g) e
 is_leaf_from n g e t = let r = any_from (λ d. same_leaf d e) (leaves n g) t in subst (Contains (leaves n g)) (same_is r.0 e r.2) r.1
@@ -78,7 +80,8 @@ module _ (n layer : ℕ) (p : Block × ℕ → Bool) (done all : List Record) (e
   passed_over t h = ap (λ l. done ++ made l) (sym (kept false t)) ∙ h
 
 -- the leaf whose record stands in the records that only one of the grids has
-pub only_leaf : (n layer : ℕ) (g other : Grid) (r : Record) → Contains (records_without n layer g other) r → (e : Block × ℕ) × IsLeaf n g e × Contains (leaves n g) e × (is_leaf n other e ≡ false) × (leaf_record n layer e ≡ r)
+pub only_leaf : (n layer : ℕ) (g other : Grid) (r : Record) → Contains (records_without n layer g other) r
+    → (e : Block × ℕ) × IsLeaf n g e × Contains (leaves n g) e × (is_leaf n other e ≡ false) × (leaf_record n layer e ≡ r)
 unfolding records_without
 only_leaf n layer g other r c =
     let test : Block × ℕ → Bool = λ e. not (is_leaf n other e) in
@@ -92,7 +95,8 @@ only_leaf n layer g other r c =
     turned false h = refl
 
 -- no record is in both
-pub only_apart : (n layer : ℕ) (g other : Grid) (r : Record) → n ≤ 12 → Contains (records_without n layer g other) r → Contains (records_without n layer other g) r → ⊥
+pub only_apart : (n layer : ℕ) (g other : Grid) (r : Record) → n ≤ 12 → Contains (records_without n layer g other) r
+    → Contains (records_without n layer other g) r → ⊥
 only_apart n layer g other r le c d =
     let a = only_leaf n layer g other r c in
     let b = only_leaf n layer other g r d in
@@ -103,18 +107,22 @@ abbrev pub only_test : ℕ → Grid → Block × ℕ → Bool
 only_test n other e = not (is_leaf n other e)
 
 -- the records of the leaves that the other grid does not have, before the first
-pub none_yet : (n layer : ℕ) (g other : Grid) (done : List Record) (rest : List (Block × ℕ)) → done ≡ [] → rest ≡ leaves_by_code n g → done ++ map (leaf_record n layer) (filter (only_test n other) rest) ≡ records_without n layer g other
+pub none_yet : (n layer : ℕ) (g other : Grid) (done : List Record) (rest : List (Block × ℕ)) → done ≡ [] → rest ≡ leaves_by_code n g
+    → done ++ map (leaf_record n layer) (filter (only_test n other) rest) ≡ records_without n layer g other
 unfolding records_without
 none_yet n layer g other done rest e f =
     ap (λ l. l ++ map (leaf_record n layer) (filter (only_test n other) rest)) e ∙ ap (λ l. map (leaf_record n layer) (filter (only_test n other) l)) f
 
 -- and of all leaves
-pub none_made : (n layer : ℕ) (g : Grid) (done : List Record) (rest : List (Block × ℕ)) → done ≡ [] → rest ≡ leaves_by_code n g → done ++ map (leaf_record n layer) rest ≡ region_records n layer g
+pub none_made : (n layer : ℕ) (g : Grid) (done : List Record) (rest : List (Block × ℕ)) → done ≡ [] → rest ≡ leaves_by_code n g
+    → done ++ map (leaf_record n layer) rest ≡ region_records n layer g
 unfolding region_records
 none_made n layer g done rest e f = ap (λ l. l ++ map (leaf_record n layer) rest) e ∙ ap (map (leaf_record n layer)) f
 
-pub one_made : (n layer : ℕ) (old new all : List Record) (r : Record) (e : Block × ℕ) (before rest : List (Block × ℕ)) → new ≡ old ++ r ∷ [] → r ≡ leaf_record n layer e → before ≡ e ∷ rest
+pub one_made : (n layer : ℕ) (old new all : List Record) (r : Record) (e : Block × ℕ) (before rest : List (Block × ℕ)) → new ≡ old ++ r ∷ []
+    → r ≡ leaf_record n layer e → before ≡ e ∷ rest
     → old ++ map (leaf_record n layer) before ≡ all → new ++ map (leaf_record n layer) rest ≡ all
 one_made n layer old new all r e before rest is record_is first h =
-    ap (λ l. l ++ map (leaf_record n layer) rest) (is ∙ ap (λ s. old ++ s ∷ []) record_is) ∙ append_assoc old (leaf_record n layer e ∷ []) (map (leaf_record n layer) rest)
+    ap (λ l. l ++ map (leaf_record n layer) rest) (is ∙ ap (λ s. old ++ s ∷ []) record_is)
+    ∙ append_assoc old (leaf_record n layer e ∷ []) (map (leaf_record n layer) rest)
     ∙ ap (λ l. old ++ map (leaf_record n layer) l) (sym first) ∙ h

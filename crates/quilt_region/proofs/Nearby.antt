@@ -1,5 +1,6 @@
 -- Blocks around a window, and what the quarters of a block around another one say.
-use Rattle.std.proofs.Common.{◌≡◌, ℕ, suc, pow-suc, ◌+◌, ◌*◌, ◌^◌, ◌<◌, ◌≤◌, true, false, ◌&&◌, List, [], ◌∷◌, length, get_or, refl, sym, ◌∙◌, ap, subst, ⊎_elim, Contains, arith, nat_le}
+use Rattle.std.proofs.Common.{◌≡◌, ℕ, suc, pow-suc, ◌+◌, ◌*◌, ◌^◌, ◌<◌, ◌≤◌, true, false, ◌&&◌, List, [], ◌∷◌, length, get_or, refl, sym, ◌∙◌, ap, subst}
+use Rattle.std.proofs.Common.{⊎_elim, Contains, arith, nat_le}
 use Rattle.std.proofs.lemmas.Nat.{pow_below}
 use Rattle.std.proofs.lemmas.Bool.{cases_lt, cases_Bool, and_parts, leb-true}
 use Rattle.quilt_types.specs.declared.plane.Pixel.{Pixel}
@@ -49,7 +50,12 @@ window_in n w t =
     let last = and_parts (a && b && c) d t in
     let third = and_parts (a && b) c last.0 in
     let first = and_parts a b third.0 in
-    record { wide = leb-true 1 w.w first.0; high = leb-true 1 w.h first.1; right = leb-true (w.x + w.w) (side n) third.1; bottom = leb-true (w.y + w.h) (side n) last.1 }
+    record {
+      wide = leb-true 1 w.w first.0;
+      high = leb-true 1 w.h first.1;
+      right = leb-true (w.x + w.w) (side n) third.1;
+      bottom = leb-true (w.y + w.h) (side n) last.1;
+    }
 
 pub whole_holds : (n : ℕ) (b : Block) (w : Window) → IsBlock n b → is_window n w ≡ true → b.side ≡ side n → HoldsWindow b w
 whole_holds n b w hb t e =
@@ -65,7 +71,8 @@ pub not_whole : (n : ℕ) (b : Block) → IsBlock n b → (b.side ≡ side n →
 not_whole n b hb differ = let s = side_le n b hb in ⊎_elim (λ lt. lt) (λ ge. absurd (differ (omega arith))) (cases_lt b.side (side n))
 
 -- a block with the window holds the parent of a smaller one that does not
-pub parent_least : (n : ℕ) (b a : Block) (w : Window) → IsBlock n b → IsBlock n a → HoldsWindow a w → (HoldsWindow b w → ⊥) → Within b a → Within (parent_of b) a
+pub parent_least : (n : ℕ) (b a : Block) (w : Window) → IsBlock n b → IsBlock n a → HoldsWindow a w → (HoldsWindow b w → ⊥)
+    → Within b a → Within (parent_of b) a
 parent_least n b a w hb ha holds none within =
     let l = holds.left in
     let r = holds.right in
@@ -107,7 +114,8 @@ pub leaf_cut : (n : ℕ) (g : Grid) (e : Block × ℕ) → Contains (leaves n g)
 leaf_cut n g e c = record { several = (leaf_is n g e c).maximal.last }
 
 -- a block around a window that the leaf at its corner does not hold
-pub around_cut : (n : ℕ) (g : Grid) (e : Block × ℕ) (b : Block) (w : Window) → is_window n w ≡ true → IsLeafWith n g (record { x = w.x; y = w.y }) e → (HoldsWindow e.0 w → ⊥) → IsBlock n b → HoldsWindow b w → IsCutOut n g b
+pub around_cut : (n : ℕ) (g : Grid) (e : Block × ℕ) (b : Block) (w : Window) → is_window n w ≡ true → IsLeafWith n g (record { x = w.x; y = w.y }) e
+    → (HoldsWindow e.0 w → ⊥) → IsBlock n b → HoldsWindow b w → IsCutOut n g b
 around_cut n g e b w t leaf none hb holds = record {
   several = λ lt u.
       let m = (leaf_is n g e leaf.member).maximal in
@@ -165,8 +173,10 @@ leaf_same n g p d e hd he =
     let b = leaf_is n g e he.member in
     let block : d.0 ≡ e.0 =
     ⊎_elim
-    (λ lt. alone n (is_uniform n g) (uniform_down n g) d.0 e.0 a.maximal b.maximal.block b.maximal.passes (nested n d.0 e.0 p a.maximal.block b.maximal.block (let l : d.0.side ≤ e.0.side = omega arith in l) hd.holds he.holds))
-    (λ ge. sym (alone n (is_uniform n g) (uniform_down n g) e.0 d.0 b.maximal a.maximal.block a.maximal.passes (nested n e.0 d.0 p b.maximal.block a.maximal.block ge he.holds hd.holds)))
+    (λ lt. alone n (is_uniform n g) (uniform_down n g) d.0 e.0 a.maximal b.maximal.block b.maximal.passes
+    (nested n d.0 e.0 p a.maximal.block b.maximal.block (let l : d.0.side ≤ e.0.side = omega arith in l) hd.holds he.holds))
+    (λ ge. sym (alone n (is_uniform n g) (uniform_down n g) e.0 d.0 b.maximal a.maximal.block a.maximal.passes
+    (nested n e.0 d.0 p b.maximal.block a.maximal.block ge he.holds hd.holds)))
     (cases_lt d.0.side e.0.side) in
     let colour : d.1 ≡ e.1 = sym (a.colour.each p hd.holds) ∙ b.colour.each p he.holds in
     λ i. (block i, colour i)
@@ -209,7 +219,8 @@ module _ (n : ℕ) (b : Block) (hb : IsBlock n b) (lt : b.side < 2 ^ n) where
   wide : 1 < (parent_of b).side
   wide = let pos = side_pos n b hb in omega arith
 
-  module _ (g : Grid) (c : ℕ) (others : (j : ℕ) (d : Block) → j < 4 → (get_or (quarters_of (parent_of b)) j d ≡ b → ⊥) → Contains (leaves n g) (get_or (quarters_of (parent_of b)) j d, c)) where
+  module _ (g : Grid) (c : ℕ) (others : (j : ℕ) (d : Block) → j < 4 → (get_or (quarters_of (parent_of b)) j d ≡ b → ⊥)
+      → Contains (leaves n g) (get_or (quarters_of (parent_of b)) j d, c)) where
     other_leaf : (q : Block) → Contains (quarters_of (parent_of b)) q → (q ≡ b → ⊥) → Contains (leaves n g) (q, c)
     other_leaf q k differ = subst (λ (z : Block). Contains (leaves n g) (z, c)) k.2 (others k.0 q k.1 (λ e. differ (sym k.2 ∙ e)))
 
@@ -234,13 +245,15 @@ module _ (n : ℕ) (b : Block) (hb : IsBlock n b) (lt : b.side < 2 ^ n) where
         m.last (omega arith) (ap (is_uniform n g) r.parent ∙ u)
 
   -- where all around has the colour each other quarter is a leaf
-  pub quarter_leaf : (g : Grid) (c : ℕ) (q : Block) → IsCutOut n g b → HasAround n g (parent_of b) b c → Contains (quarters_of (parent_of b)) q → (q ≡ b → ⊥) → Contains (leaves n g) (q, c)
+  pub quarter_leaf : (g : Grid) (c : ℕ) (q : Block) → IsCutOut n g b → HasAround n g (parent_of b) b c → Contains (quarters_of (parent_of b)) q
+      → (q ≡ b → ⊥) → Contains (leaves n g) (q, c)
   quarter_leaf g c q out has k differ =
       let larger = IsBlock-parent_of n b hb lt in
       let r = quarters_are n (parent_of b) q larger wide k in
       let half = r.half in
       let colour : HasColour n g q c = record {
-        each = λ p held. has.each p (Within-holds q (parent_of b) p r.within held) (held_not b p (λ h. differ (same_block_from n q b p r.block hb (let s : q.side ≡ b.side = omega arith in s) held h)));
+        each = λ p held. has.each p (Within-holds q (parent_of b) p r.within held)
+            (held_not b p (λ h. differ (same_block_from n q b p r.block hb (let s : q.side ≡ b.side = omega arith in s) held h)));
       } in
       is_leaf_from n g (q, c) (maximal_leaf n g q c (record {
         block = r.block;
@@ -288,7 +301,8 @@ pub pixel_holds : (w : Window) → w.w ≡ 1 → w.h ≡ 1 → HoldsWindow (reco
 pixel_holds w a b = record { left = omega arith; right = omega arith; top = omega arith; bottom = omega arith }
 
 -- at most one leaf begins at it
-pub pixel_within : (n : ℕ) (g : Grid) (x y : ℕ) → n ≤ 12 → IsBlock n (record { y = y; x = x; side = 1 }) → length (leaves_within n g (record { y = y; x = x; side = 1 })) ≤ 1
+pub pixel_within : (n : ℕ) (g : Grid) (x y : ℕ) → n ≤ 12 → IsBlock n (record { y = y; x = x; side = 1 })
+    → length (leaves_within n g (record { y = y; x = x; side = 1 })) ≤ 1
 pixel_within n g x y le hb =
     let b : Block = record { y = y; x = x; side = 1 } in
     few (leaves_within n g b) (Apart-rises _ leaf_total (leaves_within n g b) (within_rise n g b le hb))

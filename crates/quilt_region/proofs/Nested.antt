@@ -21,7 +21,8 @@ multiples u c w k at a b d e =
     let high = mul-le-mul_left u r' in
     (omega arith, omega arith)
 
-pub smaller_inside : (n : ℕ) (a b : Block) (at : ℕ) → n ≤ 12 → IsBlock n a → IsBlock n b → a.side ≤ b.side → code_from a ≤ at → at < code_to a → code_from b ≤ at → at < code_to b
+pub smaller_inside : (n : ℕ) (a b : Block) (at : ℕ) → n ≤ 12 → IsBlock n a → IsBlock n b → a.side ≤ b.side → code_from a ≤ at → at < code_to a
+    → code_from b ≤ at → at < code_to b
     → (code_from b ≤ code_from a) × (code_to a ≤ code_to b)
 smaller_inside n a b at le ha hb small af at' bf bt =
     let i = ha.level in
@@ -45,7 +46,8 @@ smaller_inside n a b at le ha hb small af at' bf bt =
     assoc u v k = omega arith
 
 -- a block that begins within another one, and not at its first code, ends within it
-pub ends_within : (n : ℕ) (a b : Block) → n ≤ 12 → IsBlock n a → IsBlock n b → code_from b < code_from a → code_from a < code_to a → code_from a < code_to b → code_to a ≤ code_to b
+pub ends_within : (n : ℕ) (a b : Block) → n ≤ 12 → IsBlock n a → IsBlock n b → code_from b < code_from a → code_from a < code_to a
+    → code_from a < code_to b → code_to a ≤ code_to b
 ends_within n a b le ha hb low some high =
     ⊎_elim
     (λ lt. (smaller_inside n a b (code_from a) le ha hb (omega arith) (omega arith) some (omega arith) high).1)

@@ -1,5 +1,6 @@
 -- The room of blocks and windows, the quarters of a block at their places, and colours that are put down.
-use Rattle.std.proofs.Common.{◌≡◌, ℕ, zero, suc, ◌+◌, ◌*◌, ◌/◌, ◌<◌, ◌≤◌, true, ◌&&◌, nat_le, List, ◌++◌, length, get_or, sym, ◌∙◌, ap, subst, arith, leb-true, replicate}
+use Rattle.std.proofs.Common.{◌≡◌, ℕ, zero, suc, ◌+◌, ◌*◌, ◌/◌, ◌<◌, ◌≤◌, true, ◌&&◌, nat_le, List, ◌++◌, length, get_or, sym, ◌∙◌, ap, subst, arith, leb-true}
+use Rattle.std.proofs.Common.{replicate}
 use Rattle.std.proofs.lemmas.Bool.{and_parts}
 use Rattle.std.proofs.lemmas.List.{get_or_default}
 use Rattle.quilt_types.specs.declared.plane.Pixel.{Pixel}
@@ -35,7 +36,8 @@ window_room n w le t =
     (omega arith, omega arith)
 
 -- where the quarters of a block begin
-quarter_from : (n : ℕ) (b : Block) (i : ℕ) (q : Block) → n ≤ 12 → IsBlock n b → 1 < b.side → i < 4 → get_or (quarters_of b) i q ≡ q → code_from q ≡ code_from b + i * (b.side / 2 * (b.side / 2))
+quarter_from : (n : ℕ) (b : Block) (i : ℕ) (q : Block) → n ≤ 12 → IsBlock n b → 1 < b.side → i < 4 → get_or (quarters_of b) i q ≡ q
+    → code_from q ≡ code_from b + i * (b.side / 2 * (b.side / 2))
 quarter_from n b zero q le h wide lt is = let e = ap code_from is in omega arith
 quarter_from n b (suc zero) q le h wide lt is = let e = ap code_from is in let c = half_codes n b h le wide in let r = c.right in omega arith
 quarter_from n b (suc (suc zero)) q le h wide lt is = let e = ap code_from is in let c = half_codes n b h le wide in let r = c.below in omega arith
@@ -60,14 +62,16 @@ part_is n b i q le h wide lt is =
     let square : q.side * q.side ≡ b.side / 2 * (b.side / 2) = ap (λ z. z * z) half in
     record { block = r.block; within = r.within; smaller = omega arith; half = r.half; from = from; to = omega arith }
 
-pub part_at : (n : ℕ) (b : Block) (qs : List Block) (i : ℕ) (d : Block) → n ≤ 12 → IsBlock n b → 1 < b.side → qs ≡ quarters_of b → i < 4 → IsPart n b i (get_or qs i d)
+pub part_at : (n : ℕ) (b : Block) (qs : List Block) (i : ℕ) (d : Block) → n ≤ 12 → IsBlock n b → 1 < b.side → qs ≡ quarters_of b → i < 4
+    → IsPart n b i (get_or qs i d)
 part_at n b qs i d le h wide are lt =
     let q = get_or qs i d in
     let e : get_or qs i d ≡ get_or (quarters_of b) i d = ap (λ l. get_or l i d) are in
     part_is n b i q le h wide lt (get_or_default (quarters_of b) i q d lt ∙ sym e)
 
 -- a block of one colour, put down after others
-pub HasColours-push : (n : ℕ) (f : Pixel → ℕ) (old new : List ℕ) (b : Block) (c : ℕ) → n ≤ 12 → IsBlock n b → code_from b ≡ length old → ((p : Pixel) → Holds b p → f p ≡ c) → new ≡ old ++ replicate (b.side * b.side) c → HasColours n f old → HasColours n f new
+pub HasColours-push : (n : ℕ) (f : Pixel → ℕ) (old new : List ℕ) (b : Block) (c : ℕ) → n ≤ 12 → IsBlock n b → code_from b ≡ length old
+    → ((p : Pixel) → Holds b p → f p ≡ c) → new ≡ old ++ replicate (b.side * b.side) c → HasColours n f old → HasColours n f new
 HasColours-push n f old new b c le h at same is has =
     subst (HasColours n f) (sym is) (record { each = (Paints-push n f old b c le h at same (record { each = has.each })).each })
 

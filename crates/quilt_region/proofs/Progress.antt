@@ -1,5 +1,6 @@
 -- The records of a layer one after another: the leaves that they are, and the grid that these paint.
-use Rattle.std.proofs.Common.{◌≡◌, ℕ, ◌+◌, ◌*◌, ◌%◌, ◌^◌, ◌<◌, ◌≤◌, List, [], ◌++◌, length, get_or, take, Option, Some, None, sym, ◌∙◌, ap, subst, arith, replicate}
+use Rattle.std.proofs.Common.{◌≡◌, ℕ, ◌+◌, ◌*◌, ◌%◌, ◌^◌, ◌<◌, ◌≤◌, List, [], ◌++◌, length, get_or, take, Option, Some, None, sym, ◌∙◌, ap, subst, arith}
+use Rattle.std.proofs.Common.{replicate}
 use Rattle.std.proofs.Math.Nat.{pow-le-pow_right}
 use Rattle.std.proofs.lemmas.Nat.{pow-add}
 use Rattle.std.proofs.lemmas.List.{length-map, get_or-map, take_all}
@@ -40,7 +41,8 @@ pub record IsNext (n layer : ℕ) (g : Grid) (i : ℕ) (r : Record) : Type 0 whe
   pub from : code_from leaf.0 ≡ size_of (take i (leaves_by_code n g))
   pub to : size_of (take (i + 1) (leaves_by_code n g)) ≡ code_to leaf.0
 
-pub next_leaf : (n layer : ℕ) (g : Grid) (records : List Record) (i : ℕ) (d : Record) → n ≤ 12 → records ≡ region_records n layer g → i < length records → IsNext n layer g i (get_or records i d)
+pub next_leaf : (n layer : ℕ) (g : Grid) (records : List Record) (i : ℕ) (d : Record) → n ≤ 12 → records ≡ region_records n layer g
+    → i < length records → IsNext n layer g i (get_or records i d)
 unfolding region_records
 next_leaf n layer g records i d le is lt =
     let es = leaves_by_code n g in
@@ -61,7 +63,8 @@ next_leaf n layer g records i d le is lt =
       to = omega arith;
     }
 
-pub IsAsFar-more : (n layer : ℕ) (g : Grid) (i : ℕ) (colours new : List ℕ) (r : Record) (b : Block) (c : ℕ) → n ≤ 12 → (next : IsNext n layer g i r) → b ≡ next.leaf.0 → c ≡ next.leaf.1 → new ≡ colours ++ replicate (b.side * b.side) c → length new ≡ code_to b
+pub IsAsFar-more : (n layer : ℕ) (g : Grid) (i : ℕ) (colours new : List ℕ) (r : Record) (b : Block) (c : ℕ) → n ≤ 12 → (next : IsNext n layer g i r)
+    → b ≡ next.leaf.0 → c ≡ next.leaf.1 → new ≡ colours ++ replicate (b.side * b.side) c → length new ≡ code_to b
     → IsAsFar n g i colours → IsAsFar n g (i + 1) new
 IsAsFar-more n layer g i colours new r b c le next same_block same_colour is long old =
     let l = old.long in
@@ -77,7 +80,8 @@ IsAsFar-more n layer g i colours new r b c le next same_block same_colour is lon
     }
 
 -- once all records are read the square is full, and the grid is that of the layer
-pub IsAsFar-full : (n layer : ℕ) (g : Grid) (records : List Record) (i : ℕ) (colours : List ℕ) → n ≤ 12 → records ≡ region_records n layer g → length records ≤ i → IsAsFar n g i colours → length colours ≡ 4 ^ n
+pub IsAsFar-full : (n layer : ℕ) (g : Grid) (records : List Record) (i : ℕ) (colours : List ℕ) → n ≤ 12 → records ≡ region_records n layer g
+    → length records ≤ i → IsAsFar n g i colours → length colours ≡ 4 ^ n
 unfolding region_records
 IsAsFar-full n layer g records i colours le is all far =
     let es = leaves_by_code n g in
@@ -88,7 +92,8 @@ IsAsFar-full n layer g records i colours le is all far =
     let t = ap size_of (take_all i es (omega arith)) in
     omega arith
 
-pub IsAsFar-grid : (n : ℕ) (g : Grid) (i : ℕ) (colours : List ℕ) → n ≤ 12 → IsGrid 2 n g → length colours ≡ 4 ^ n → IsAsFar n g i colours → grid_by_code n colours ≡ g
+pub IsAsFar-grid : (n : ℕ) (g : Grid) (i : ℕ) (colours : List ℕ) → n ≤ 12 → IsGrid 2 n g → length colours ≡ 4 ^ n → IsAsFar n g i colours
+    → grid_by_code n colours ≡ g
 IsAsFar-grid n g i colours le is long far =
     Paints-all n (colour_at n g) colours le long far.paints ∙ sym (grid_of-from n (colour_at n g) g is.size (λ k lt. sym (colour_at-pixel_at n g k)))
 
@@ -98,8 +103,10 @@ pub record IsNextRead (n layer : ℕ) (g : Grid) (i : ℕ) (r : Record) (l : Lea
   pub block : l.block ≡ next.leaf.0
   pub colour : l.colour.0 ≡ next.leaf.1
 
-module _ (n layer : ℕ) (g : Grid) (records : List Record) (i : ℕ) (d : Record) (read : Option Leaf) (least : 1 ≤ layer) (le : n ≤ 12) (is : records ≡ region_records n layer g) (lt : i < length records)
-    (one : (b : Block) (c : Colour) → 1 ≤ layer → IsBlock n b → get_or records i d ≡ leaf_record n layer (b, c.0) → read ≡ Some (record { block = b; colour = c })) where
+module _ (n layer : ℕ) (g : Grid) (records : List Record) (i : ℕ) (d : Record) (read : Option Leaf) (least : 1 ≤ layer) (le : n ≤ 12)
+    (is : records ≡ region_records n layer g) (lt : i < length records)
+    (one : (b : Block) (c : Colour) → 1 ≤ layer → IsBlock n b → get_or records i d ≡ leaf_record n layer (b, c.0)
+    → read ≡ Some (record { block = b; colour = c })) where
   here : IsNext n layer g i (get_or records i d)
   here = next_leaf n layer g records i d le is lt
 
@@ -118,7 +125,8 @@ module _ (n layer : ℕ) (g : Grid) (records : List Record) (i : ℕ) (d : Recor
       record { next = here; block = sym (ap (λ (z : Leaf). z.block) same); colour = sym (ap (λ (z : Leaf). z.colour.0) same) }
 
 -- it begins where the leaves so far end
-pub next_from : (n layer : ℕ) (g : Grid) (i end : ℕ) (colours : List ℕ) (r : Record) (l : Leaf) → IsNextRead n layer g i r l → end ≡ length colours → IsAsFar n g i colours → code_from l.block ≡ end
+pub next_from : (n layer : ℕ) (g : Grid) (i end : ℕ) (colours : List ℕ) (r : Record) (l : Leaf) → IsNextRead n layer g i r l → end ≡ length colours
+    → IsAsFar n g i colours → code_from l.block ≡ end
 next_from n layer g i end colours r l h e far =
     let f = h.next.from in
     let b = ap code_from h.block in

@@ -1,5 +1,7 @@
 -- What is planned of a window quarter by quarter is the plan of the whole window.
-use Rattle.std.proofs.Common.{◌≡◌, ◌⊎◌, inl, inr, ℕ, ◌+◌, ◌-◌, ◌<◌, ◌≤◌, Bool, true, false, ◌&&◌, List, [], ◌∷◌, ◌++◌, length, take, get_or, flat_map, refl, sym, ◌∙◌, ap, subst, ⊎_elim, arith, Contains, Equal, Option, Some, None, Result, Ok, Err, IfOk, IfSome, append-nil, append_assoc, nat_le, nat_lt}
+use Rattle.std.proofs.Common.{◌≡◌, ◌⊎◌, inl, inr, ℕ, ◌+◌, ◌-◌, ◌<◌, ◌≤◌, Bool, true, false, ◌&&◌, List, [], ◌∷◌, ◌++◌, length, take, get_or, flat_map, refl}
+use Rattle.std.proofs.Common.{sym, ◌∙◌, ap, subst, ⊎_elim, arith, Contains, Equal, Option, Some, None, Result, Ok, Err, IfOk, IfSome, append-nil, append_assoc}
+use Rattle.std.proofs.Common.{nat_le, nat_lt}
 use Rattle.std.specs.Bool.{if◌then◌else◌}
 use Rattle.std.specs.Cmp.{tied_itself}
 use Rattle.std.specs.List.{sum_by}
@@ -58,20 +60,27 @@ inside_from w p t =
     let last = and_parts (a && r && u) d t in
     let third = and_parts (a && r) u last.0 in
     let first = and_parts a r third.0 in
-    record { left = leb-true w.x p.x first.0; right = ltb-true p.x (w.x + w.w) first.1; top = leb-true w.y p.y third.1; bottom = ltb-true p.y (w.y + w.h) last.1 }
+    record {
+      left = leb-true w.x p.x first.0;
+      right = ltb-true p.x (w.x + w.w) first.1;
+      top = leb-true w.y p.y third.1;
+      bottom = ltb-true p.y (w.y + w.h) last.1;
+    }
 
 pub inside_at : (w : Window) (p : Pixel) → InWindow w p → in_window w p ≡ true
 inside_at w p i =
     and_from _ _ (and_from _ _ (and_from _ _ (le-leb w.x p.x i.left) (lt-ltb p.x (w.x + w.w) i.right)) (le-leb w.y p.y i.top)) (lt-ltb p.y (w.y + w.h) i.bottom)
 
 -- the colours of a painted grid
-painted_at : (n : ℕ) (g : Grid) (w : Window) (c : ℕ) (p : Pixel) → p.x < side n → p.y < side n → colour_at n (painted n g w c) p ≡ (if in_window w p then c else colour_at n g p)
+painted_at : (n : ℕ) (g : Grid) (w : Window) (c : ℕ) (p : Pixel) → p.x < side n → p.y < side n
+    → colour_at n (painted n g w c) p ≡ (if in_window w p then c else colour_at n g p)
 painted_at n g w c p x y = colour_at-grid_of n (λ q. if in_window w q then c else colour_at n g q) p x y
 
 painted_in : (n : ℕ) (g : Grid) (w : Window) (c : ℕ) (p : Pixel) → p.x < side n → p.y < side n → in_window w p ≡ true → colour_at n (painted n g w c) p ≡ c
 painted_in n g w c p x y t = painted_at n g w c p x y ∙ ap (λ (s : Bool). if s then c else colour_at n g p) t
 
-painted_out : (n : ℕ) (g : Grid) (w : Window) (c : ℕ) (p : Pixel) → p.x < side n → p.y < side n → in_window w p ≡ false → colour_at n (painted n g w c) p ≡ colour_at n g p
+painted_out : (n : ℕ) (g : Grid) (w : Window) (c : ℕ) (p : Pixel) → p.x < side n → p.y < side n → in_window w p ≡ false
+    → colour_at n (painted n g w c) p ≡ colour_at n g p
 painted_out n g w c p x y t = painted_at n g w c p x y ∙ ap (λ (s : Bool). if s then c else colour_at n g p) t
 
 -- what a window has of a block is a window
@@ -82,7 +91,8 @@ part_window n w v q t part =
     let bottom = i.bottom in
     let r = part.right in
     let d = part.bottom in
-    and_from _ _ (and_from _ _ (and_from _ _ (le-leb 1 v.w part.wide) (le-leb 1 v.h part.high)) (le-leb (v.x + v.w) (side n) (omega arith))) (le-leb (v.y + v.h) (side n) (omega arith))
+    and_from _ _ (and_from _ _ (and_from _ _ (le-leb 1 v.w part.wide) (le-leb 1 v.h part.high)) (le-leb (v.x + v.w) (side n) (omega arith)))
+    (le-leb (v.y + v.h) (side n) (omega arith))
 
 module _ (n layer : ℕ) (g : Grid) (w : Window) (c : ℕ) (b : Block) (le : n ≤ 12) (win : is_window n w ≡ true) (hb : IsBlock n b) (wide : 1 < b.side) where
   abbrev h : Grid
@@ -151,7 +161,8 @@ module _ (n layer : ℕ) (g : Grid) (w : Window) (c : ℕ) (b : Block) (le : n �
       several_before u = knows.top_cut.several room ((uniform_down n g).down larger b hl hb in_large u)
 
       -- a window that has of the quarter what this one has leaves several colours in the larger block
-      several_after : (u : Window) → ((p : Pixel) → Holds q p → in_window u p ≡ true → in_window v p ≡ true) → in_window u spot ≡ true → is_uniform n (painted n g u c) b ≡ true → ⊥
+      several_after : (u : Window) → ((p : Pixel) → Holds q p → in_window u p ≡ true → in_window v p ≡ true) → in_window u spot ≡ true
+          → is_uniform n (painted n g u c) b ≡ true → ⊥
       several_after u only has one =
           let a = painted n g u c in
           let same = HasColour-from_uniform n a larger ((uniform_down n a).down larger b hl hb in_large one) in
@@ -192,21 +203,29 @@ module _ (n layer : ℕ) (g : Grid) (w : Window) (c : ℕ) (b : Block) (le : n �
             (cases_Bool (in_window w p));
       }
 
-      pub with_part : (records_without_in n layer g h q ≡ records_without n layer g (painted n g v c)) × (records_without_in n layer h g q ≡ records_without n layer (painted n g v c) g)
+      pub with_part : (records_without_in n layer g h q ≡ records_without n layer g (painted n g v c))
+          × (records_without_in n layer h g q ≡ records_without n layer (painted n g v c) g)
       with_part =
           let pg = quarter_parted n layer b le hb wide g q cq several_before in
           let ph = quarter_parted n layer b le hb wide h q cq part_several.second in
           let pv = quarter_parted n layer b le hb wide hv q cq (several_after v (λ p held t. t) (corner_in n v win_v)) in
           let own : AgreeOn n (in_block q) true g g = record { each = λ p x y t. refl } in
-          let out = agree_outside q v part.holds in
-          (without_same n layer q le hq g h pg ph g hv pg pv own same_in_quarter out, without_same n layer q le hq h g ph pg hv g pv pg same_in_quarter own (agree_back n (in_block q) false g hv out))
+          let out = agree_outside q v part.holds in (
+            without_same n layer q le hq g h pg ph g hv pg pv own same_in_quarter out,
+            without_same n layer q le hq h g ph pg hv g pv pg
+                same_in_quarter own (agree_back n (in_block q) false g hv out),
+          )
 
   -- ---- all quarters
   pub quarters_whole : HoldsWindow b w → AreSeveral n g h b
-      → (flat_map (records_without_in n layer g h) (quarters_of b) ≡ records_without n layer g h) × (flat_map (records_without_in n layer h g) (quarters_of b) ≡ records_without n layer h g)
+      → (flat_map (records_without_in n layer g h) (quarters_of b) ≡ records_without n layer g h)
+      × (flat_map (records_without_in n layer h g) (quarters_of b) ≡ records_without n layer h g)
   quarters_whole holds several =
-      let out = agree_outside b w holds in
-      (all_quarters n layer b le hb wide g h several.first several.second out, all_quarters n layer b le hb wide h g several.second several.first (agree_back n (in_block b) false g h out))
+      let out = agree_outside b w holds in (
+        all_quarters n layer b le hb wide g h several.first several.second out,
+        all_quarters n layer b le hb wide h g several.second several.first
+            (agree_back n (in_block b) false g h out),
+      )
 
 -- ---- the records as edits
 tied : (r s : Record) → r.key ≡ s.key → by_key r s ≡ Equal
@@ -231,14 +250,16 @@ keys_alone (x ∷ xs) r s h c d e =
 own_keys : (xs : List Record) → Rises by_key xs → HaveOwnKeys xs
 own_keys xs h = record { once = Apart-rises by_key by_key_total xs h; keys = λ r s c d e. keys_alone xs r s h c d e }
 
-pub can_be : (n layer : ℕ) (g h : Grid) (removed added : List Record) → n ≤ 12 → removed ≡ records_without n layer g h → added ≡ records_without n layer h g → CanBeEdits removed added
+pub can_be : (n layer : ℕ) (g h : Grid) (removed added : List Record) → n ≤ 12 → removed ≡ records_without n layer g h
+    → added ≡ records_without n layer h g → CanBeEdits removed added
 can_be n layer g h removed added le r a = record {
   remove_keys = own_keys removed (subst (Rises by_key) (sym r) (only_rises n layer g h le));
   add_keys = own_keys added (subst (Rises by_key) (sym a) (only_rises n layer h g le));
   apart = λ x c d. only_apart n layer g h x le (subst (λ (l : List Record). Contains l x) r c) (subst (λ (l : List Record). Contains l x) a d);
 }
 
-pub sorted_is : (n layer : ℕ) (g h : Grid) (made sorted : List Record) → n ≤ 12 → made ≡ records_without n layer g h → IsPermutation made sorted → is_ascending (keys_of sorted) ≡ true → sorted ≡ records_without n layer g h
+pub sorted_is : (n layer : ℕ) (g h : Grid) (made sorted : List Record) → n ≤ 12 → made ≡ records_without n layer g h → IsPermutation made sorted
+    → is_ascending (keys_of sorted) ≡ true → sorted ≡ records_without n layer g h
 sorted_is n layer g h made sorted le is p up =
     let same = permuted made sorted p in
     same_rising by_key by_key_total sorted (records_without n layer g h) (ascending_rises sorted up) (only_rises n layer g h le)
@@ -266,7 +287,8 @@ module _ (b : Block) (qs : List Block) (count : ℕ) (d : Block) (are : qs ≡ q
       ∙ take_next (quarters_of b) (count - 1) d (let f = four in omega arith)
       ∙ ap (λ l. take (count - 1) (quarters_of b) ++ get_or l (count - 1) d ∷ []) (sym are)
 
-  pub list_step : {X : Type 0} (f : Block → List X) (old mid new part : List X) → mid ≡ old ++ flat_map f (take (count - 1) (quarters_of b)) → new ≡ mid ++ part → f (get_or qs (count - 1) d) ≡ part
+  pub list_step : {X : Type 0} (f : Block → List X) (old mid new part : List X) → mid ≡ old ++ flat_map f (take (count - 1) (quarters_of b))
+      → new ≡ mid ++ part → f (get_or qs (count - 1) d) ≡ part
       → new ≡ old ++ flat_map f (take count (quarters_of b))
   list_step f old mid new part before more is =
       more ∙ ap (λ l. l ++ part) before ∙ append_assoc old (flat_map f (take (count - 1) (quarters_of b))) part
@@ -274,13 +296,16 @@ module _ (b : Block) (qs : List Block) (count : ℕ) (d : Block) (are : qs ≡ q
       (ap (λ l. flat_map f (take (count - 1) (quarters_of b)) ++ l) (sym is ∙ sym (append-nil (f (get_or qs (count - 1) d))))
       ∙ sym (flat_map-append f (take (count - 1) (quarters_of b)) (get_or qs (count - 1) d ∷ [])) ∙ ap (flat_map f) (sym taken))
 
-  pub same_step : {X : Type 0} (f : Block → List X) (old new : List X) → new ≡ old ++ flat_map f (take (count - 1) (quarters_of b)) → f (get_or qs (count - 1) d) ≡ [] → new ≡ old ++ flat_map f (take count (quarters_of b))
+  pub same_step : {X : Type 0} (f : Block → List X) (old new : List X) → new ≡ old ++ flat_map f (take (count - 1) (quarters_of b))
+      → f (get_or qs (count - 1) d) ≡ [] → new ≡ old ++ flat_map f (take count (quarters_of b))
   same_step f old new before is = list_step f old new new [] before (sym (append-nil new)) is
 
   pub sum_step : (f : Block → ℕ) → sum_by f (take count (quarters_of b)) ≡ sum_by f (take (count - 1) (quarters_of b)) + f (get_or qs (count - 1) d)
   sum_step f =
-      let one : sum_by f (get_or qs (count - 1) d ∷ []) ≡ f (get_or qs (count - 1) d) = (let e : 0 + f (get_or qs (count - 1) d) ≡ f (get_or qs (count - 1) d) = omega arith in e) in
-      ap (sum_by f) taken ∙ sum_by-append f (take (count - 1) (quarters_of b)) (get_or qs (count - 1) d ∷ []) ∙ ap (λ k. sum_by f (take (count - 1) (quarters_of b)) + k) one
+      let one : sum_by f (get_or qs (count - 1) d ∷ []) ≡ f (get_or qs (count - 1) d) =
+      (let e : 0 + f (get_or qs (count - 1) d) ≡ f (get_or qs (count - 1) d) = omega arith in e) in
+      ap (sum_by f) taken ∙ sum_by-append f (take (count - 1) (quarters_of b)) (get_or qs (count - 1) d ∷ [])
+      ∙ ap (λ k. sum_by f (take (count - 1) (quarters_of b)) + k) one
 
   pub last_or_before : (q : Block) → Contains (take count (quarters_of b)) q → Contains (take (count - 1) (quarters_of b)) q ⊎ (get_or qs (count - 1) d ≡ q)
   last_or_before q c =

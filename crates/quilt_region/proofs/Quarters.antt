@@ -1,5 +1,6 @@
 -- What changes where a window is painted, quarter by quarter of a block that has it.
-use Rattle.std.proofs.Common.{◌≡◌, ℕ, ◌+◌, ◌/◌, ◌<◌, ◌≤◌, Bool, true, false, ◌&&◌, List, [], ◌∷◌, length, filter, flat_map, refl, sym, ◌∙◌, ap, subst, ⊎_elim, arith, Contains, Ordering, Less, nat_le, nat_lt}
+use Rattle.std.proofs.Common.{◌≡◌, ℕ, ◌+◌, ◌/◌, ◌<◌, ◌≤◌, Bool, true, false, ◌&&◌, List, [], ◌∷◌, length, filter, flat_map, refl, sym, ◌∙◌, ap, subst, ⊎_elim}
+use Rattle.std.proofs.Common.{arith, Contains, Ordering, Less, nat_le, nat_lt}
 use Rattle.std.specs.List.{sum_by}
 use Rattle.std.proofs.lemmas.List.Concat.{length-flat_map}
 use Rattle.std.proofs.lemmas.List.Elements.{Contains-append_cases}
@@ -99,13 +100,29 @@ module _ (n : ℕ) (b : Block) (le : n ≤ 12) (hb : IsBlock n b) (wide : 1 < b.
       ⊎_elim
       (λ up.
       ⊎_elim
-      (λ west. (record { y = b.y; x = b.x; side = h }, (0, omega arith, refl), record { left = omega arith; right = omega arith; top = omega arith; bottom = omega arith }))
-      (λ east. (record { y = b.y; x = b.x + h; side = h }, (1, omega arith, refl), record { left = omega arith; right = omega arith; top = omega arith; bottom = omega arith }))
+      (λ west. (
+        record { y = b.y; x = b.x; side = h },
+        (0, omega arith, refl),
+        record { left = omega arith; right = omega arith; top = omega arith; bottom = omega arith },
+      ))
+      (λ east. (
+        record { y = b.y; x = b.x + h; side = h },
+        (1, omega arith, refl),
+        record { left = omega arith; right = omega arith; top = omega arith; bottom = omega arith },
+      ))
       (cases_lt p.x (b.x + h)))
       (λ down.
       ⊎_elim
-      (λ west. (record { y = b.y + h; x = b.x; side = h }, (2, omega arith, refl), record { left = omega arith; right = omega arith; top = omega arith; bottom = omega arith }))
-      (λ east. (record { y = b.y + h; x = b.x + h; side = h }, (3, omega arith, refl), record { left = omega arith; right = omega arith; top = omega arith; bottom = omega arith }))
+      (λ west. (
+        record { y = b.y + h; x = b.x; side = h },
+        (2, omega arith, refl),
+        record { left = omega arith; right = omega arith; top = omega arith; bottom = omega arith },
+      ))
+      (λ east. (
+        record { y = b.y + h; x = b.x + h; side = h },
+        (3, omega arith, refl),
+        record { left = omega arith; right = omega arith; top = omega arith; bottom = omega arith },
+      ))
       (cases_lt p.x (b.x + h)))
       (cases_lt p.y (b.y + h))
 
@@ -126,7 +143,8 @@ module _ (n : ℕ) (b : Block) (le : n ≤ 12) (hb : IsBlock n b) (wide : 1 < b.
   few_in_quarters g =
       let f : Block → List (Block × ℕ) = λ q. leaves_within n g q in
       let rise =
-      chained_rise n leaf_cmp (λ (e : Block × ℕ). code_from e.0) f (λ q hq. within_rise n g q le hq) (λ q e hq c. let w = within_from n g q le hq e c in (w.1, w.2))
+      chained_rise n leaf_cmp (λ (e : Block × ℕ). code_from e.0) f (λ q hq. within_rise n g q le hq) (λ q e hq c. let w =
+      within_from n g q le hq e c in (w.1, w.2))
       (λ p q x y _ _ lt. nat_less (code_from x.0) (code_from y.0) lt) (code_from b) (quarters_of b) quarters_chained in
       let few =
       Apart-le (flat_map f (quarters_of b)) (leaves_within n g b) (Apart-rises leaf_cmp leaf_total (flat_map f (quarters_of b)) rise)
@@ -151,14 +169,16 @@ module _ (n layer : ℕ) (g h : Grid) (q : Block) where
   unfolding records_without_in in_codes
   in_is = refl
 
-  pub in_from : (r : Record) → Contains (records_without_in n layer g h q) r → Contains (records_without n layer g h) r × (code_from q ≤ r.key.code) × (r.key.code < code_to q)
+  pub in_from : (r : Record) → Contains (records_without_in n layer g h q) r → Contains (records_without n layer g h) r × (code_from q ≤ r.key.code)
+      × (r.key.code < code_to q)
   unfolding in_codes
   in_from r c =
       let k = Contains-filter_from in_codes (records_without n layer g h) r (subst (λ (l : List Record). Contains l r) in_is c) in
       let both = and_parts (nat_le (code_from q) r.key.code) (nat_lt r.key.code (code_to q)) k.1 in
       (k.0, leb-true (code_from q) r.key.code both.0, ltb-true r.key.code (code_to q) both.1)
 
-  pub in_at : (r : Record) → Contains (records_without n layer g h) r → code_from q ≤ r.key.code → r.key.code < code_to q → Contains (records_without_in n layer g h q) r
+  pub in_at : (r : Record) → Contains (records_without n layer g h) r → code_from q ≤ r.key.code → r.key.code < code_to q
+      → Contains (records_without_in n layer g h q) r
   unfolding in_codes
   in_at r c low high =
       subst (λ (l : List Record). Contains l r) (sym in_is)
@@ -175,7 +195,8 @@ none_in (x ∷ xs) f = absurd (f x (Contains-here x xs))
 
 module _ (n layer : ℕ) (q : Block) (le : n ≤ 12) (hq : IsBlock n q) where
   -- a leaf lies in the block where it begins in it
-  begins_on : (a : Grid) (e : Block × ℕ) → IsParted n (in_block q) a → Contains (leaves n a) e → code_from q ≤ code_from e.0 → code_from e.0 < code_to q → LiesOn (in_block q) true e.0
+  begins_on : (a : Grid) (e : Block × ℕ) → IsParted n (in_block q) a → Contains (leaves n a) e → code_from q ≤ code_from e.0
+      → code_from e.0 < code_to q → LiesOn (in_block q) true e.0
   begins_on a e parted c low high =
       let m = (leaf_is n a e c).maximal in
       let here = corner_in n e.0 q le m.block hq low high in
@@ -198,7 +219,8 @@ module _ (n layer : ℕ) (q : Block) (le : n ≤ 12) (hq : IsBlock n q) where
         true_false (sym (is_leaf_at n d o.0 (leaf_kept n (in_block q) true a d o.0 ad parted_d on o.2)) ∙ o.3))
 
     -- Two pairs of grids that agree in a block, of which one agrees elsewhere, differ in the block as the latter does.
-    pub without_same : (i j : Grid) → IsParted n (in_block q) i → IsParted n (in_block q) j → AgreeOn n (in_block q) true a i → AgreeOn n (in_block q) true d j → AgreeOn n (in_block q) false i j
+    pub without_same : (i j : Grid) → IsParted n (in_block q) i → IsParted n (in_block q) j → AgreeOn n (in_block q) true a i
+        → AgreeOn n (in_block q) true d j → AgreeOn n (in_block q) false i j
         → records_without_in n layer a d q ≡ records_without n layer i j
     without_same i j parted_i parted_j ai dj ij =
         same_rising by_key by_key_total (records_without_in n layer a d q) (records_without n layer i j) (in_rises n layer a d q le) (only_rises n layer i j le)
@@ -241,7 +263,8 @@ module _ (n layer : ℕ) (b : Block) (le : n ≤ 12) (hb : IsBlock n b) (wide : 
       parted_by n q a r.block (λ lt u. several (ap (is_uniform n a) (sym r.parent) ∙ u))
 
   block_parted : (a : Grid) → (is_uniform n a b ≡ true → ⊥) → IsParted n (in_block b) a
-  block_parted a several = parted_by n b a hb (λ lt u. several ((uniform_down n a).down b (parent_of b) hb (IsBlock-parent_of n b hb lt) (Within-parent_of n b hb lt) u))
+  block_parted a several =
+      parted_by n b a hb (λ lt u. several ((uniform_down n a).down b (parent_of b) hb (IsBlock-parent_of n b hb lt) (Within-parent_of n b hb lt) u))
 
   pub all_quarters : (a d : Grid) → (is_uniform n a b ≡ true → ⊥) → (is_uniform n d b ≡ true → ⊥) → AgreeOn n (in_block b) false a d
       → flat_map (records_without_in n layer a d) (quarters_of b) ≡ records_without n layer a d
@@ -269,11 +292,13 @@ module _ (n layer : ℕ) (b : Block) (le : n ≤ 12) (hb : IsBlock n b) (wide : 
             ((block_parted a sa).one (o.0).0 m.block m.passes),
       ))
     where
-      less : (p q : Block) (x y : Record) → Contains (records_without_in n layer a d p) x → Contains (records_without_in n layer a d q) y → x.key.code < y.key.code → by_key x y ≡ Less
+      less : (p q : Block) (x y : Record) → Contains (records_without_in n layer a d p) x → Contains (records_without_in n layer a d q) y
+          → x.key.code < y.key.code → by_key x y ≡ Less
       less p q x y c e lt =
           let o = only_leaf n layer a d x (in_from n layer a d p x c).0 in
           let u = only_leaf n layer a d y (in_from n layer a d q y e).0 in
           let kx = ap (λ (z : Record). z.key.code) o.4 in
           let ky = ap (λ (z : Record). z.key.code) u.4 in
           subst (λ (z : Record). by_key z y ≡ Less) o.4
-          (subst (λ (z : Record). by_key (leaf_record n layer o.0) z ≡ Less) u.4 (less_code (leaf_record n layer o.0).key (leaf_record n layer u.0).key refl refl (omega arith)))
+          (subst (λ (z : Record). by_key (leaf_record n layer o.0) z ≡ Less) u.4
+          (less_code (leaf_record n layer o.0).key (leaf_record n layer u.0).key refl refl (omega arith)))

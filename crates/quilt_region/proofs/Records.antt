@@ -1,5 +1,6 @@
 -- The records of a layer's leaves: in which order they stand, which leaf each is, and how many there are.
-use Rattle.std.proofs.Common.{◌≡◌, ℕ, ◌-◌, ◌*◌, ◌+◌, ◌^◌, ◌<◌, ◌≤◌, true, List, [], ◌∷◌, length, filter, take, Option, refl, sym, ◌∙◌, ap, subst, arith, Contains, slice_index, ◌%◌, ◌/◌}
+use Rattle.std.proofs.Common.{◌≡◌, ℕ, ◌-◌, ◌*◌, ◌+◌, ◌^◌, ◌<◌, ◌≤◌, true, List, [], ◌∷◌, length, filter, take, Option, refl, sym, ◌∙◌, ap, subst, arith}
+use Rattle.std.proofs.Common.{Contains, slice_index, ◌%◌, ◌/◌}
 use Rattle.std.proofs.Math.Nat.{pow-le-pow_right}
 use Rattle.std.proofs.lemmas.Bool.{and_parts, and_from}
 use Rattle.std.proofs.lemmas.List.{length-map, take_all}
@@ -32,17 +33,20 @@ use Rattle.quilt_spell.proofs.Written.{by_key_total}
 use Rattle.quilt_edits.proofs.Keys.{le_layer, less_part, less_code}
 use Rattle.quilt_region.proofs.Trees.{tree_rises}
 
-pub leaf_is_record : (n layer : ℕ) (b : Block) (c : ℕ) → 1 ≤ layer → layer ≤ 255 → IsBlock n b → IsRecordOf n 0 (leaf_record n layer (b, c)) layer (HasColour b c)
+pub leaf_is_record : (n layer : ℕ) (b : Block) (c : ℕ) → 1 ≤ layer → layer ≤ 255 → IsBlock n b
+    → IsRecordOf n 0 (leaf_record n layer (b, c)) layer (HasColour b c)
 leaf_is_record n layer b c least most h = record { least = least; most = most; fits = h; written = λ name. refl }
 
 pub records_rise : (n layer : ℕ) (g : Grid) → n ≤ 12 → Rises by_key (region_records n layer g)
 unfolding region_records
 records_rise n layer g le =
     Rises-map leaf_cmp by_key (leaf_record n layer) (leaves_by_code n g)
-    (λ d e cd ce lt. less_code (leaf_record n layer d).key (leaf_record n layer e).key refl refl (nat_less_from (code_from d.0) (code_from e.0) lt)) (leaves_rise n g le)
+    (λ d e cd ce lt. less_code (leaf_record n layer d).key (leaf_record n layer e).key refl refl (nat_less_from (code_from d.0) (code_from e.0) lt))
+    (leaves_rise n g le)
 
 -- the leaf that a record of the layer is
-pub leaf_with : (n layer : ℕ) (g : Grid) (r : Record) → Contains (region_records n layer g) r → (e : Block × ℕ) × Contains (leaves_by_code n g) e × (leaf_record n layer e ≡ r)
+pub leaf_with : (n layer : ℕ) (g : Grid) (r : Record) → Contains (region_records n layer g) r → (e : Block × ℕ) × Contains (leaves_by_code n g) e
+    × (leaf_record n layer e ≡ r)
 unfolding region_records
 leaf_with n layer g r c = Contains-map_from (leaf_record n layer) (leaves_by_code n g) r c
 
@@ -58,7 +62,8 @@ leaf_alone n layer d e le hd he same =
     let dy = hd.in_y in
     let ex = he.in_x in
     let ey = he.in_y in
-    let at : corner d.0 ≡ corner e.0 = code_alone (corner d.0) (corner e.0) (omega arith) (omega arith) (omega arith) (omega arith) (ap (λ (r : Record). r.key.code) same) in
+    let at : corner d.0 ≡ corner e.0 =
+    code_alone (corner d.0) (corner e.0) (omega arith) (omega arith) (omega arith) (omega arith) (ap (λ (r : Record). r.key.code) same) in
     let deep : n - hd.level ≡ n - he.level = sym (depth_is n d.0 hd) ∙ ap (λ (r : Record). r.key.depth) same ∙ depth_is n e.0 he in
     let dl = hd.low in
     let el = he.low in
@@ -102,7 +107,8 @@ module _ (rs : List Record) (layer n : ℕ) (g : Grid) (le : n ≤ 12) (up : Ris
     in_range : (e : Block × ℕ) → is_from_to low high (leaf_record n layer e) ≡ true
     in_range e =
         let k = (leaf_record n layer e).key in
-        and_from (is_le (key_cmp low k)) (is_le (key_cmp k high)) (ap is_le (less_part low k low_layer (omega arith))) (ap is_le (less_part k high (sym high_layer) (omega arith)))
+        and_from (is_le (key_cmp low k)) (is_le (key_cmp k high)) (ap is_le (less_part low k low_layer (omega arith)))
+        (ap is_le (less_part k high (sym high_layer) (omega arith)))
 
     of_layer : (r : Record) → is_from_to low high r ≡ true → r.key.layer ≡ layer
     of_layer r t =
@@ -113,7 +119,8 @@ module _ (rs : List Record) (layer n : ℕ) (g : Grid) (le : n ≤ 12) (up : Ris
 
     pub range_filter : filter (is_from_to low high) rs ≡ region_records n layer g
     range_filter =
-        same_rising by_key by_key_total (filter (is_from_to low high) rs) (region_records n layer g) (Rises-filter by_key (is_from_to low high) rs up) (records_rise n layer g le)
+        same_rising by_key by_key_total (filter (is_from_to low high) rs) (region_records n layer g)
+        (Rises-filter by_key (is_from_to low high) rs up) (records_rise n layer g le)
         (λ r. (
           λ c.
               let k = Contains-filter_from (is_from_to low high) rs r c in

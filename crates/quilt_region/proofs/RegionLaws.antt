@@ -58,11 +58,14 @@ pub changes_law : ChangeLaw
 changes_law form n name number g h edits le hg hh leads =
     let remove = leads.remove ∙ only_are n number g h in
     let add = leads.add ∙ only_are n number h g in
-    let rises_at : (rs : List Record) (a b : Grid) → rs ≡ records_without n number a b → Rises by_key rs = λ rs a b e. subst (Rises by_key) (sym e) (only_rises n number a b le) in record {
+    let rises_at : (rs : List Record) (a b : Grid) → rs ≡ records_without n number a b → Rises by_key rs =
+    λ rs a b e. subst (Rises by_key) (sym e) (only_rises n number a b le) in record {
       leads =
           subst (λ (rs : List Record). changing.LeadsTo n name number (Some (Region g)) (Some (Region h)) rs edits.add) (sym remove)
-          (subst (λ (rs : List Record). changing.LeadsTo n name number (Some (Region g)) (Some (Region h)) (map (leaf_record n number) (filter (only_test n h) (leaves_by_code n g))) rs) (sym add)
-          (region_plan form n name number le g h hg hh (leaves_by_code n g) (leaves_by_code n h) (leaves_rise n g le) (leaves_members n g) (leaves_rise n h le) (leaves_members n h)));
+          (subst (λ (rs : List Record). changing.LeadsTo n name number (Some (Region g)) (Some (Region h))
+          (map (leaf_record n number) (filter (only_test n h) (leaves_by_code n g))) rs) (sym add)
+          (region_plan form n name number le g h hg hh (leaves_by_code n g) (leaves_by_code n h) (leaves_rise n g le) (leaves_members n g)
+          (leaves_rise n h le) (leaves_members n h)));
       removed_ascend = rises_ascend edits.remove (rises_at edits.remove g h leads.remove);
       added_ascend = rises_ascend edits.add (rises_at edits.add h g leads.add);
     }
@@ -76,16 +79,19 @@ module _ (n : ℕ) (name : List ℕ) (number : ℕ) (g : Grid) where
   unfolding fact
   fresh_members r = (
     λ c.
-        ⊎_elim (λ e. subst (Contains (layer_records n name number (Region g))) e (layer_record n name number (Region g) (IsOfKind 1 0) (kind_there n (Region g))))
+        ⊎_elim (λ e. subst (Contains (layer_records n name number (Region g))) e
+        (layer_record n name number (Region g) (IsOfKind 1 0) (kind_there n (Region g))))
         (λ d.
         let l = leaf_with n number g r d in
         subst (Contains (layer_records n name number (Region g))) l.2
-        (layer_record n name number (Region g) (fact l.0) (Contains-there (IsOfKind 1 0) (map fact (leaves n g)) (fact l.0) (Contains-map fact (leaves n g) l.0 ((leaves_members n g l.0).0 l.1)))))
+        (layer_record n name number (Region g) (fact l.0)
+        (Contains-there (IsOfKind 1 0) (map fact (leaves n g)) (fact l.0) (Contains-map fact (leaves n g) l.0 ((leaves_members n g l.0).0 l.1)))))
         (Contains-cons_cases (kind_record n name number (Region g)) (region_records n number g) r c),
     λ c.
         let f = layer_record_from n name number (Region g) r c in
         ⊎_elim
-        (λ kind. subst (Contains (kind_record n name number (Region g) ∷ region_records n number g)) (ap (record_of n 0 name number) kind ∙ f.2) (Contains-here (kind_record n name number (Region g)) (region_records n number g)))
+        (λ kind. subst (Contains (kind_record n name number (Region g) ∷ region_records n number g)) (ap (record_of n 0 name number) kind ∙ f.2)
+        (Contains-here (kind_record n name number (Region g)) (region_records n number g)))
         (λ leaf.
         let d = Contains-map_from fact (leaves n g) f.0 leaf in
         let is : leaf_record n number d.0 ≡ r = ap (record_of n 0 name number) d.2 ∙ f.2 in
@@ -107,7 +113,8 @@ pub fresh_law : FreshLaw
 fresh_law form n name number g r le some hg is =
     let up = fresh_rises n name number g le some in
     let all = kind_record n name number (Region g) ∷ region_records n number g in
-    subst (λ (z : Record). IsPlan n name number None (Some (Region g)) [] (z ∷ region_records n number g)) (sym (entry_record n r name number (Region g) is)) (record {
+    subst (λ (z : Record). IsPlan n name number None (Some (Region g)) [] (z ∷ region_records n number g))
+    (sym (entry_record n r name number (Region g) is)) (record {
       leads = fresh_leads n name number (Region g) all (fresh_members n name number g) (Apart-rises by_key by_key_total all up);
       removed_ascend = refl;
       added_ascend = rises_ascend all up;

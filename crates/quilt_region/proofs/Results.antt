@@ -8,13 +8,15 @@ use Rattle.quilt_btree.specs.declared.tree.Tree.{Tree}
 use Rattle.quilt_btree.specs.Stops.{IsSound}
 use Rattle.quilt_region.specs.Regions.{region_records, HasRegion}
 
-module _ (told : Option (List (List ℕ))) (t : Tree) (layer n : ℕ) (items : List Record) (read : (g : Grid) → HasRegion told t layer n g → items ≡ region_records n layer g) where
+module _ (told : Option (List (List ℕ))) (t : Tree) (layer n : ℕ) (items : List Record) (read : (g : Grid) → HasRegion told t layer n g
+    → items ≡ region_records n layer g) where
   pub list_whole : (r : Result Raster Stop) → IfOk r (λ l. (g : Grid) → IsGrid 2 n g → items ≡ region_records n layer g → l ≡ record { level = n; grid = g })
       → IfOk r (λ l. (g : Grid) → HasRegion told t layer n g → l ≡ record { level = n; grid = g })
   list_whole (Ok l) f = λ g h. f g h.spelled.grid (read g h)
   list_whole (Err e) f = f
 
-  pub sound_whole : {T : Type 0} (r : Result T Stop) → IfErr r (λ e. (g : Grid) → items ≡ region_records n layer g → IsSound e) → IfErr r (λ e. (g : Grid) → HasRegion told t layer n g → IsSound e)
+  pub sound_whole : {T : Type 0} (r : Result T Stop) → IfErr r (λ e. (g : Grid) → items ≡ region_records n layer g → IsSound e)
+      → IfErr r (λ e. (g : Grid) → HasRegion told t layer n g → IsSound e)
   sound_whole (Ok l) f = f
   sound_whole (Err e) f = λ g h. f g (read g h)
 

@@ -1,5 +1,6 @@
 -- The leaves within a block: they stand one behind the other from its first code to its last.
-use Rattle.std.proofs.Common.{◌≡◌, ◌↔◌, ℕ, ◌+◌, ◌*◌, ◌^◌, ◌<◌, ◌≤◌, Bool, ◌&&◌, List, ◌++◌, map, filter, length, take, get_or, Option, Some, None, refl, sym, ◌∙◌, ap, subst, ⊎_elim, Contains, arith, nat_le, nat_lt, replicate}
+use Rattle.std.proofs.Common.{◌≡◌, ◌↔◌, ℕ, ◌+◌, ◌*◌, ◌^◌, ◌<◌, ◌≤◌, Bool, ◌&&◌, List, ◌++◌, map, filter, length, take, get_or, Option, Some, None, refl, sym}
+use Rattle.std.proofs.Common.{◌∙◌, ap, subst, ⊎_elim, Contains, arith, nat_le, nat_lt, replicate}
 use Rattle.std.proofs.lemmas.Bool.{cases_lt, and_parts, and_from, ltb-true, leb-true, le-leb, lt-ltb}
 use Rattle.std.proofs.lemmas.List.{length-map, get_or-map, take_all}
 use Rattle.std.proofs.lemmas.List.Elements.{Contains-get_or}
@@ -34,7 +35,8 @@ use Rattle.quilt_region.proofs.Parts.{HasColours-push}
 use Rattle.quilt_region.proofs.Nested.{smaller_inside}
 
 -- a pixel of a block whose codes are all another one's is one of that one's
-pub codes_inside : (n : ℕ) (s b : Block) (p : Pixel) → n ≤ 12 → IsBlock n s → IsBlock n b → code_from b ≤ code_from s → code_to s ≤ code_to b → Holds s p → Holds b p
+pub codes_inside : (n : ℕ) (s b : Block) (p : Pixel) → n ≤ 12 → IsBlock n s → IsBlock n b → code_from b ≤ code_from s
+    → code_to s ≤ code_to b → Holds s p → Holds b p
 codes_inside n s b p le hs hb from to held =
     let m = side_most n le in
     let sq = held_in n s p hs held in
@@ -76,7 +78,8 @@ module _ (n : ℕ) (g : Grid) (b : Block) (le : n ≤ 12) (hb : IsBlock n b) whe
   unfolding begins_in
   within_at e c low high =
       Contains-filter begins_in (leaves_by_code n g) e ((leaves_members n g e).1 c)
-      (and_from (nat_le (code_from b) (code_from e.0)) (nat_lt (code_from e.0) (code_to b)) (le-leb (code_from b) (code_from e.0) low) (lt-ltb (code_from e.0) (code_to b) high))
+      (and_from (nat_le (code_from b) (code_from e.0)) (nat_lt (code_from e.0) (code_to b)) (le-leb (code_from b) (code_from e.0) low)
+      (lt-ltb (code_from e.0) (code_to b) high))
 
   pub within_rise : Rises leaf_cmp (leaves_within n g b)
   within_rise = subst (Rises leaf_cmp) (sym within_is) (Rises-filter leaf_cmp begins_in (leaves_by_code n g) (leaves_rise n g le))
@@ -107,7 +110,8 @@ module _ (n : ℕ) (g : Grid) (b : Block) (le : n ≤ 12) (hb : IsBlock n b) whe
         λ c.
             let r = Contains-map_from (coloured n g) (cut (is_uniform n g) hb.level b) e c in
             let m = (law r.0).0 r.1 in
-            let leaf : Contains (leaves n g) (coloured n g r.0) = Contains-map (coloured n g) (maximal_blocks n (is_uniform n g)) r.0 (Contains-maximal n (is_uniform n g) r.0 m.0) in
+            let leaf : Contains (leaves n g) (coloured n g r.0) =
+            Contains-map (coloured n g) (maximal_blocks n (is_uniform n g)) r.0 (Contains-maximal n (is_uniform n g) r.0 m.0) in
             let codes = code_held n b (corner r.0) hb le (Within-holds r.0 b (corner r.0) m.1 (Holds-corner n r.0 (m.0).block)) in
             subst (Contains (leaves_within n g b)) r.2 (within_at (coloured n g r.0) leaf codes.0 codes.1),
         λ c.
@@ -115,7 +119,8 @@ module _ (n : ℕ) (g : Grid) (b : Block) (le : n ≤ 12) (hb : IsBlock n b) whe
             let r = Contains-map_from (coloured n g) (maximal_blocks n (is_uniform n g)) e w.0 in
             let inside = leaf_inside cut_out e w.0 w.1 w.2 in
             let inside' : Within r.0 b = subst (λ (d : Block × ℕ). Within d.0 b) (sym r.2) inside in
-            subst (Contains cut_leaves) r.2 (Contains-map (coloured n g) (cut (is_uniform n g) hb.level b) r.0 ((law r.0).1 (IsMaximal-from n (is_uniform n g) r.0 r.1, inside'))),
+            subst (Contains cut_leaves) r.2
+            (Contains-map (coloured n g) (cut (is_uniform n g) hb.level b) r.0 ((law r.0).1 (IsMaximal-from n (is_uniform n g) r.0 r.1, inside'))),
       )
 
   pub within_runs : IsCutOut n g b → Runs n (code_from b) (code_to b) (leaves_within n g b)
@@ -123,7 +128,8 @@ module _ (n : ℕ) (g : Grid) (b : Block) (le : n ≤ 12) (hb : IsBlock n b) whe
   within_runs cut_out =
       let run = cut_runs n g le (is_uniform n g) hb.level b hb hb.size hb.low in
       subst (Runs n (code_from b) (code_to b))
-      (same_rising leaf_cmp leaf_total cut_leaves (leaves_within n g b) (Follows-rises n (code_from b) cut_leaves run.follows) within_rise (cut_members cut_out)) run
+      (same_rising leaf_cmp leaf_total cut_leaves (leaves_within n g b) (Follows-rises n (code_from b) cut_leaves run.follows) within_rise
+      (cut_members cut_out)) run
 
 -- ---- the records within a block, one after another
 pub record IsNth (n layer : ℕ) (g : Grid) (b : Block) (i : ℕ) (r : Record) : Type 0 where
@@ -135,7 +141,8 @@ pub record IsNth (n layer : ℕ) (g : Grid) (b : Block) (i : ℕ) (r : Record) :
   pub more : size_of (take (i + 1) (leaves_within n g b)) ≡ size_of (take i (leaves_within n g b)) + leaf.0.side * leaf.0.side
   pub from : IsCutOut n g b → code_from leaf.0 ≡ code_from b + size_of (take i (leaves_within n g b))
 
-pub nth_leaf : (n layer : ℕ) (g : Grid) (b : Block) (records : List Record) (i : ℕ) (d : Record) → n ≤ 12 → IsBlock n b → records ≡ records_within n layer g b → i < length records → IsNth n layer g b i (get_or records i d)
+pub nth_leaf : (n layer : ℕ) (g : Grid) (b : Block) (records : List Record) (i : ℕ) (d : Record) → n ≤ 12 → IsBlock n b
+    → records ≡ records_within n layer g b → i < length records → IsNth n layer g b i (get_or records i d)
 unfolding records_within
 nth_leaf n layer g b records i d le hb is lt =
     let es = leaves_within n g b in
@@ -156,7 +163,8 @@ nth_leaf n layer g b records i d le hb is lt =
     }
 
 -- all of them are read
-pub all_read : (n layer : ℕ) (g : Grid) (b : Block) (records : List Record) (i : ℕ) → n ≤ 12 → IsBlock n b → records ≡ records_within n layer g b → length records ≤ i → IsCutOut n g b → code_from b + size_of (take i (leaves_within n g b)) ≡ code_to b
+pub all_read : (n layer : ℕ) (g : Grid) (b : Block) (records : List Record) (i : ℕ) → n ≤ 12 → IsBlock n b → records ≡ records_within n layer g b
+    → length records ≤ i → IsCutOut n g b → code_from b + size_of (take i (leaves_within n g b)) ≡ code_to b
 unfolding records_within
 all_read n layer g b records i le hb is all out =
     let es = leaves_within n g b in
@@ -167,8 +175,10 @@ all_read n layer g b records i le hb is all out =
     omega arith
 
 -- the leaf that was read of a record
-module _ (n layer : ℕ) (g : Grid) (b : Block) (records : List Record) (i : ℕ) (d : Record) (read : Option Leaf) (least : 1 ≤ layer) (le : n ≤ 12) (hb : IsBlock n b) (is : records ≡ records_within n layer g b) (lt : i < length records)
-    (one : (b : Block) (c : Colour) → 1 ≤ layer → IsBlock n b → get_or records i d ≡ leaf_record n layer (b, c.0) → read ≡ Some (record { block = b; colour = c })) where
+module _ (n layer : ℕ) (g : Grid) (b : Block) (records : List Record) (i : ℕ) (d : Record) (read : Option Leaf) (least : 1 ≤ layer) (le : n ≤ 12)
+    (hb : IsBlock n b) (is : records ≡ records_within n layer g b) (lt : i < length records)
+    (one : (b : Block) (c : Colour) → 1 ≤ layer → IsBlock n b → get_or records i d ≡ leaf_record n layer (b, c.0)
+    → read ≡ Some (record { block = b; colour = c })) where
   abbrev nth : IsNth n layer g b i (get_or records i d)
   nth = nth_leaf n layer g b records i d le hb is lt
 
@@ -185,7 +195,8 @@ module _ (n layer : ℕ) (g : Grid) (b : Block) (records : List Record) (i : ℕ
   nth_same l e = ap pair_of (sym (some_same nth_read l (sym is_read ∙ e)))
 
 -- where the leaf begins and ends
-pub nth_codes : (n layer : ℕ) (g : Grid) (b : Block) (i end : ℕ) (r : Record) (l : Leaf) (nth : IsNth n layer g b i r) → n ≤ 12 → IsBlock n b → IsCutOut n g b → pair_of l ≡ nth.leaf → end ≡ code_from b + size_of (take i (leaves_within n g b))
+pub nth_codes : (n layer : ℕ) (g : Grid) (b : Block) (i end : ℕ) (r : Record) (l : Leaf) (nth : IsNth n layer g b i r) → n ≤ 12 → IsBlock n b
+    → IsCutOut n g b → pair_of l ≡ nth.leaf → end ≡ code_from b + size_of (take i (leaves_within n g b))
     → (code_from l.block ≡ end) × (code_to l.block ≡ code_from b + size_of (take (i + 1) (leaves_within n g b))) × (code_to l.block ≤ code_to b)
 nth_codes n layer g b i end r l nth le hb out same at =
     let from = nth.from out in
@@ -201,8 +212,11 @@ nth_codes n layer g b i end r l nth le hb out same at =
     (omega arith, omega arith, omega arith)
 
 -- its pixels are put down with the grid's colour
-pub nth_push : (n layer : ℕ) (g : Grid) (b : Block) (i : ℕ) (r : Record) (l : Leaf) (nth : IsNth n layer g b i r) → n ≤ 12 → IsBlock n b → pair_of l ≡ nth.leaf → IsBlock n l.block → code_from b ≤ code_from l.block → code_to l.block ≤ code_to b
-    → (f : Pixel → ℕ) → ((p : Pixel) → Holds b p → f p ≡ colour_at n g p) → (old new : List ℕ) → code_from l.block ≡ length old → new ≡ old ++ replicate (l.block.side * l.block.side) l.colour.0 → HasColours n f old → HasColours n f new
+pub nth_push : (n layer : ℕ) (g : Grid) (b : Block) (i : ℕ) (r : Record) (l : Leaf) (nth : IsNth n layer g b i r) → n ≤ 12 → IsBlock n b
+    → pair_of l ≡ nth.leaf → IsBlock n l.block → code_from b ≤ code_from l.block → code_to l.block ≤ code_to b
+    → (f : Pixel → ℕ) → ((p : Pixel) → Holds b p → f p ≡ colour_at n g p) → (old new : List ℕ) → code_from l.block ≡ length old
+    → new ≡ old ++ replicate (l.block.side * l.block.side) l.colour.0 → HasColours n f old → HasColours n f new
 nth_push n layer g b i r l nth le hb same block low high f is old new at made has =
     let colour : HasColour n g l.block l.colour.0 = subst (λ (d : Block × ℕ). HasColour n g d.0 d.1) (sym same) nth.colour in
-    HasColours-push n f old new l.block l.colour.0 le block at (λ p held. is p (codes_inside n l.block b p le block hb low high held) ∙ colour.each p held) made has
+    HasColours-push n f old new l.block l.colour.0 le block at
+    (λ p held. is p (codes_inside n l.block b p le block hb low high held) ∙ colour.each p held) made has

@@ -1,5 +1,6 @@
 -- A range over the keys of a block gives the records of the leaves that begin in it.
-use Rattle.std.proofs.Common.{◌≡◌, ℕ, zero, suc, ◌+◌, ◌<◌, ◌≤◌, true, List, map, length, filter, take, Option, refl, sym, ◌∙◌, ap, subst, ⊎_elim, Contains, arith}
+use Rattle.std.proofs.Common.{◌≡◌, ℕ, zero, suc, ◌+◌, ◌<◌, ◌≤◌, true, List, map, length, filter, take, Option, refl, sym, ◌∙◌, ap, subst, ⊎_elim, Contains}
+use Rattle.std.proofs.Common.{arith}
 use Rattle.std.specs.Cmp.{tied_itself}
 use Rattle.std.specs.Ordering.{is_le}
 use Rattle.std.proofs.lemmas.Bool.{cases_lt, and_parts, and_from}
@@ -57,7 +58,8 @@ few_within n layer g b le =
     let less' : length (leaves_within n g b) ≤ length (leaves_by_code n g) = less in
     omega arith
 
-module _ (rs : List Record) (layer n : ℕ) (g : Grid) (le : n ≤ 12) (up : Rises by_key rs) (spells : SpellsRegion rs layer n g) (b : Block) (hb : IsBlock n b) (low high : Key) (ends : AreEnds n layer b low high) where
+module _ (rs : List Record) (layer n : ℕ) (g : Grid) (le : n ≤ 12) (up : Rises by_key rs) (spells : SpellsRegion rs layer n g) (b : Block)
+    (hb : IsBlock n b) (low high : Key) (ends : AreEnds n layer b low high) where
   low_le : (e : Block × ℕ) → IsBlock n e.0 → code_from b ≤ code_from e.0 → is_le (key_cmp low (leaf_record n layer e).key) ≡ true
   low_le e he from =
       let k = (leaf_record n layer e).key in
@@ -75,7 +77,8 @@ module _ (rs : List Record) (layer n : ℕ) (g : Grid) (le : n ≤ 12) (up : Ris
           let same : low ≡ (leaf_record n layer e).key = λ j. record { layer = a j; part = p j; code = c j; depth = d j; item = i j } in
           ap (λ (z : Key). is_le (key_cmp low z)) (sym same) ∙ ap is_le (tied_itself key_total low)
       at_depth (suc d) is ge =
-          ap is_le (less_depth low (leaf_record n layer e).key ends.low_layer ends.low_part (let z = ends.low_code in omega arith) (let z = ends.low_depth in omega arith))
+          ap is_le (less_depth low (leaf_record n layer e).key ends.low_layer ends.low_part (let z = ends.low_code in omega arith)
+          (let z = ends.low_depth in omega arith))
 
   high_le : (e : Block × ℕ) → IsBlock n e.0 → code_from e.0 < code_to b → is_le (key_cmp (leaf_record n layer e).key high) ≡ true
   high_le e he to =
@@ -111,25 +114,29 @@ module _ (rs : List Record) (layer n : ℕ) (g : Grid) (le : n ≤ 12) (up : Ris
   unfolding records_within
   within_rises =
       Rises-map leaf_cmp by_key (leaf_record n layer) (leaves_within n g b)
-      (λ d e _ _ lt. less_code (leaf_record n layer d).key (leaf_record n layer e).key refl refl (nat_less_from (code_from d.0) (code_from e.0) lt)) (within_rise n g b le hb)
+      (λ d e _ _ lt. less_code (leaf_record n layer d).key (leaf_record n layer e).key refl refl (nat_less_from (code_from d.0) (code_from e.0) lt))
+      (within_rise n g b le hb)
 
   range_filter : filter (is_from_to low high) rs ≡ records_within n layer g b
   unfolding records_within
   range_filter =
-      same_rising by_key by_key_total (filter (is_from_to low high) rs) (records_within n layer g b) (Rises-filter by_key (is_from_to low high) rs up) within_rises
+      same_rising by_key by_key_total (filter (is_from_to low high) rs) (records_within n layer g b)
+      (Rises-filter by_key (is_from_to low high) rs up) within_rises
       (λ r. (
         λ c.
             let k = Contains-filter_from (is_from_to low high) rs r c in
             let l = spelled_leaf rs layer n g le up spells r k.0 (layer_of r k.1) in
             let t = ap (is_from_to low high) l.2 ∙ k.1 in
-            subst (Contains (map (leaf_record n layer) (leaves_within n g b))) l.2 (Contains-map (leaf_record n layer) (leaves_within n g b) l.0 (leaf_within l.0 l.1 t)),
+            subst (Contains (map (leaf_record n layer) (leaves_within n g b))) l.2
+            (Contains-map (leaf_record n layer) (leaves_within n g b) l.0 (leaf_within l.0 l.1 t)),
         λ c.
             let m = Contains-map_from (leaf_record n layer) (leaves_within n g b) r c in
             let w = within_from n g b le hb m.0 m.1 in
             let he = (leaf_is n g m.0 w.0).maximal.block in
             subst (Contains (filter (is_from_to low high) rs)) m.2
             (Contains-filter (is_from_to low high) rs (leaf_record n layer m.0) (spells.each m.0 w.0)
-            (and_from (is_le (key_cmp low (leaf_record n layer m.0).key)) (is_le (key_cmp (leaf_record n layer m.0).key high)) (low_le m.0 he w.1) (high_le m.0 he w.2))),
+            (and_from (is_le (key_cmp low (leaf_record n layer m.0).key)) (is_le (key_cmp (leaf_record n layer m.0).key high)) (low_le m.0 he w.1)
+            (high_le m.0 he w.2))),
       ))
 
   pub range_within : (most : ℕ) → 16777216 ≤ most → range_of low high most rs ≡ records_within n layer g b

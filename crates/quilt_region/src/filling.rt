@@ -27,7 +27,8 @@ pub fn fill(
     requires layer { 1 ≤ layer }
     requires level { (1 ≤ level) × (level ≤ 12) }
     requires known { IsKnown level known.now }
-    ensures list { IfOk result (λ list. (g : Grid) → records.now ≡ records_within level layer g known.now.read → list ≡ record { level = level; grid = grid_of level (known_colour level g known.now) }) }
+    ensures list { IfOk result (λ list. (g : Grid) → records.now ≡ records_within level layer g known.now.read
+        → list ≡ record { level = level; grid = grid_of level (known_colour level g known.now) }) }
     ensures level { IfOk result (λ list. list.level ≡ level) }
     ensures sound { IfErr result (λ e. (g : Grid) → records.now ≡ records_within level layer g known.now.read → IsCutOut level g known.now.read → IsSound e) }
     ensures no_fault { IsErrOf result Device → ⊥ }
@@ -62,7 +63,8 @@ fn put_around(
     requires next { length maker.old.colours ≡ code_from b }
     ensures level { OnOk result (maker.new.level ≡ level) }
     ensures end { OnOk result (length maker.new.colours ≡ code_to b) }
-    ensures colours { OnOk result ((g : Grid) → records.now ≡ records_within level layer g known.now.read → HasColours level (known_colour level g known.now) maker.old.colours → HasColours level (known_colour level g known.now) maker.new.colours) }
+    ensures colours { OnOk result ((g : Grid) → records.now ≡ records_within level layer g known.now.read
+        → HasColours level (known_colour level g known.now) maker.old.colours → HasColours level (known_colour level g known.now) maker.new.colours) }
     ensures sound { IfErr result (λ e. (g : Grid) → records.now ≡ records_within level layer g known.now.read → IsCutOut level g known.now.read → IsSound e) }
     ensures no_fault { IsErrOf result Device → ⊥ }
 {
@@ -92,7 +94,8 @@ fn put_beside(maker: &mut Maker, b: Block, known: &Known) -> Result<(), Stop>
     requires next { length maker.old.colours ≡ code_from b }
     ensures level { OnOk result (maker.new.level ≡ maker.old.level) }
     ensures end { OnOk result (length maker.new.colours ≡ code_to b) }
-    ensures colours { OnOk result ((g : Grid) → HasColours maker.old.level (known_colour maker.old.level g known.now) maker.old.colours → HasColours maker.old.level (known_colour maker.old.level g known.now) maker.new.colours) }
+    ensures colours { OnOk result ((g : Grid) → HasColours maker.old.level (known_colour maker.old.level g known.now) maker.old.colours
+        → HasColours maker.old.level (known_colour maker.old.level g known.now) maker.new.colours) }
     ensures sound { IfErr result IsSound }
     ensures no_fault { IsErrOf result Device → ⊥ }
 {

@@ -67,8 +67,10 @@ pub fn block_with<S: PageStore>(
     ensures block { IfOk result (λ r. IsBlock level r.0) }
     ensures holds { IfOk result (λ r. HoldsWindow r.0 w) }
     ensures cut_out { IfOk result (λ r. (g : Grid) → HasRegion (S.told store.old) tree.now layer level g → IsCutOut level g r.0) }
-    ensures first { IfOk result (λ r. (g : Grid) → HasRegion (S.told store.old) tree.now layer level g → r.1.0 ≡ colour_at level g (record { x = w.x; y = w.y })) }
-    ensures few { IfOk result (λ r. (g : Grid) (a : AnyBlock) → HasRegion (S.told store.old) tree.now layer level g → IsBlock level a → HoldsWindow a w → length (leaves_within level g r.0) ≤ 1 + length (leaves_within level g a)) }
+    ensures first { IfOk result (λ r. (g : Grid) → HasRegion (S.told store.old) tree.now layer level g
+        → r.1.0 ≡ colour_at level g (record { x = w.x; y = w.y })) }
+    ensures few { IfOk result (λ r. (g : Grid) (a : AnyBlock) → HasRegion (S.told store.old) tree.now layer level g → IsBlock level a
+        → HoldsWindow a w → length (leaves_within level g r.0) ≤ 1 + length (leaves_within level g a)) }
     ensures sound { IfErr result (λ e. (g : Grid) → HasRegion (S.told store.old) tree.now layer level g → IsSound e) }
     ensures cause { HasStopCause (S.faults store.old) (S.faults store.new) result }
     ensures size { S.size store.new ≡ S.size store.old }
@@ -103,7 +105,8 @@ fn has_around<S: PageStore>(
     requires larger { larger ≡ parent_of b }
     ensures yes { IfOk result (λ t. t ≡ true → (g : Grid) → HasRegion (S.told store.old) tree.now layer level g → HasAround level g larger b c.0) }
     ensures cut_out { IfOk result (λ t. t ≡ true → (g : Grid) → HasRegion (S.told store.old) tree.now layer level g → IsCutOut level g larger) }
-    ensures no { IfOk result (λ t. t ≡ false → (g : Grid) → HasRegion (S.told store.old) tree.now layer level g → IsCutOut level g b → HasAround level g larger b c.0 → ⊥) }
+    ensures no { IfOk result (λ t. t ≡ false → (g : Grid) → HasRegion (S.told store.old) tree.now layer level g → IsCutOut level g b
+        → HasAround level g larger b c.0 → ⊥) }
     ensures sound { IfErr result (λ e. (g : Grid) → HasRegion (S.told store.old) tree.now layer level g → IsSound e) }
     ensures cause { HasStopCause (S.faults store.old) (S.faults store.new) result }
     ensures size { S.size store.new ≡ S.size store.old }
@@ -137,8 +140,10 @@ fn has_quarter<S: PageStore>(
     requires layer { 1 ≤ layer }
     requires level { (1 ≤ level) × (level ≤ 12) }
     requires block { IsBlock level q }
-    ensures yes { IfOk result (λ t. t ≡ true → (g : Grid) → HasRegion (S.told store.old) tree.now layer level g → (q ≡ b → ⊥) → Contains (leaves level g) (q, c.0)) }
-    ensures no { IfOk result (λ t. t ≡ false → (g : Grid) → HasRegion (S.told store.old) tree.now layer level g → (q ≡ b → ⊥) × (Contains (leaves level g) (q, c.0) → ⊥)) }
+    ensures yes { IfOk result (λ t. t ≡ true → (g : Grid) → HasRegion (S.told store.old) tree.now layer level g → (q ≡ b → ⊥)
+        → Contains (leaves level g) (q, c.0)) }
+    ensures no { IfOk result (λ t. t ≡ false → (g : Grid) → HasRegion (S.told store.old) tree.now layer level g
+        → (q ≡ b → ⊥) × (Contains (leaves level g) (q, c.0) → ⊥)) }
     ensures sound { IfErr result (λ e. (g : Grid) → HasRegion (S.told store.old) tree.now layer level g → IsSound e) }
     ensures cause { HasStopCause (S.faults store.old) (S.faults store.new) result }
     ensures size { S.size store.new ≡ S.size store.old }
@@ -180,7 +185,8 @@ pub fn block_up_to<S: PageStore>(
     ensures inside { IfOk result (Within b) }
     ensures same { IfOk result (λ top. (g : Grid) → HasRegion (S.told store.old) tree.now layer level g → HasAround level g top b c.0) }
     ensures cut_out { IfOk result (λ top. (g : Grid) → HasRegion (S.told store.old) tree.now layer level g → IsCutOut level g b → IsCutOut level g top) }
-    ensures ends { IfOk result (λ top. (g : Grid) → HasRegion (S.told store.old) tree.now layer level g → IsCutOut level g b → top.side < side_of level → HasAround level g (parent_of top) top c.0 → ⊥) }
+    ensures ends { IfOk result (λ top. (g : Grid) → HasRegion (S.told store.old) tree.now layer level g → IsCutOut level g b
+        → top.side < side_of level → HasAround level g (parent_of top) top c.0 → ⊥) }
     ensures sound { IfErr result (λ e. (g : Grid) → HasRegion (S.told store.old) tree.now layer level g → IsSound e) }
     ensures cause { HasStopCause (S.faults store.old) (S.faults store.new) result }
     ensures size { S.size store.new ≡ S.size store.old }

@@ -38,7 +38,8 @@ fn put_block(
     requires next { code_from b ≡ length maker.old.colours }
     ensures level { OnOk result (maker.new.level ≡ maker.old.level) }
     ensures end { OnOk result (length maker.new.colours ≡ code_to b) }
-    ensures colours { OnOk result ((f : PixelValue → ℕ) → ((p : PixelValue) → Holds b p → f p ≡ colour_over w c.0 old.0 p) → HasColours maker.old.level f maker.old.colours → HasColours maker.old.level f maker.new.colours) }
+    ensures colours { OnOk result ((f : PixelValue → ℕ) → ((p : PixelValue) → Holds b p → f p ≡ colour_over w c.0 old.0 p)
+        → HasColours maker.old.level f maker.old.colours → HasColours maker.old.level f maker.new.colours) }
 {
     if let Some(colour) = one_colour(b, old, w, c) {
         return maker.push(b, colour);

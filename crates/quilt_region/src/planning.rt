@@ -45,7 +45,8 @@ pub fn plan_rect<S: PageStore>(
     requires layer { 1 ≤ layer }
     requires level { (1 ≤ level) × (level ≤ 12) }
     requires window { is_window level w ≡ true }
-    ensures plan { IfOk result (λ edits. (g : Grid) → HasRegion (S.told store.old) tree.now layer level g → LeadsTo level layer g (painted level g w c.0) edits) }
+    ensures plan { IfOk result (λ edits. (g : Grid) → HasRegion (S.told store.old) tree.now layer level g
+        → LeadsTo level layer g (painted level g w c.0) edits) }
     ensures sound { IfErr result (λ e. (g : Grid) → HasRegion (S.told store.old) tree.now layer level g → IsSound e) }
     ensures cause { HasStopCause (S.faults store.old) (S.faults store.new) result }
     ensures size { S.size store.new ≡ S.size store.old }
@@ -54,8 +55,11 @@ pub fn plan_rect<S: PageStore>(
     ensures later { S.later store.old store.new }
 
     // Of the leaves it reads no more than one and those that begin in any one block that has the whole window.
-    ensures reads { IfOk result (λ edits. (g : Grid) (b : AnyBlock) → HasRegion (S.told store.old) tree.now layer level g → IsBlock level b → HoldsWindow b w → Tells (λ old new. new ≤ old + (15 + 24 * level + 3 * length (leaves_within level g b))) (S.reads store.old) (S.reads store.new)) }
-    ensures pixel { w.w ≡ 1 → w.h ≡ 1 → IfOk result (λ edits. (g : Grid) → HasRegion (S.told store.old) tree.now layer level g → Tells (λ old new. new ≤ old + (18 + 24 * level)) (S.reads store.old) (S.reads store.new)) }
+    ensures reads { IfOk result (λ edits. (g : Grid) (b : AnyBlock) → HasRegion (S.told store.old) tree.now layer level g → IsBlock level b
+        → HoldsWindow b w → Tells (λ old new. new ≤ old + (15 + 24 * level + 3 * length (leaves_within level g b))) (S.reads store.old) (S.reads store.new)) }
+    ensures pixel { w.w ≡ 1 → w.h ≡ 1
+        → IfOk result (λ edits. (g : Grid) → HasRegion (S.told store.old) tree.now layer level g
+        → Tells (λ old new. new ≤ old + (18 + 24 * level)) (S.reads store.old) (S.reads store.new)) }
     ensures changed { S.changed store.new ≤ S.changed store.old }
 {
     match plan_apart(alloc, store, tree, layer, level, w, c) {
@@ -79,7 +83,8 @@ fn plan_together<S: PageStore>(
     requires layer { 1 ≤ layer }
     requires level { (1 ≤ level) × (level ≤ 12) }
     requires window { is_window level w ≡ true }
-    ensures plan { IfOk result (λ edits. (g : Grid) → HasRegion (S.told store.old) tree.now layer level g → LeadsTo level layer g (painted level g w c.0) edits) }
+    ensures plan { IfOk result (λ edits. (g : Grid) → HasRegion (S.told store.old) tree.now layer level g
+        → LeadsTo level layer g (painted level g w c.0) edits) }
     ensures sound { IfErr result (λ e. (g : Grid) → HasRegion (S.told store.old) tree.now layer level g → IsSound e) }
     ensures cause { HasStopCause (S.faults store.old) (S.faults store.new) result }
     ensures size { S.size store.new ≡ S.size store.old }
@@ -88,7 +93,9 @@ fn plan_together<S: PageStore>(
     ensures later { S.later store.old store.new }
 
     // The levels up to that of the smallest block that has the whole window cost nothing.
-    ensures reads { IfOk result (λ edits. (g : Grid) (b : AnyBlock) (j : ℕ) → HasRegion (S.told store.old) tree.now layer level g → IsBlock level b → HoldsWindow b w → ((a : AnyBlock) → IsBlock level a → HoldsWindow a w → 2 ^ j ≤ a.side) → Tells (λ old new. new + 24 * j ≤ old + (15 + 24 * level + 3 * length (leaves_within level g b))) (S.reads store.old) (S.reads store.new)) }
+    ensures reads { IfOk result (λ edits. (g : Grid) (b : AnyBlock) (j : ℕ) → HasRegion (S.told store.old) tree.now layer level g → IsBlock level b
+        → HoldsWindow b w → ((a : AnyBlock) → IsBlock level a → HoldsWindow a w → 2 ^ j ≤ a.side)
+        → Tells (λ old new. new + 24 * j ≤ old + (15 + 24 * level + 3 * length (leaves_within level g b))) (S.reads store.old) (S.reads store.new)) }
     ensures changed { S.changed store.new ≤ S.changed store.old }
 {
     match what_is_around(store, tree, layer, level, w, c) {
@@ -116,7 +123,8 @@ fn what_is_around<S: PageStore>(
     ensures blocks { IfOk result (IsKnown level) }
     ensures colour { IfOk result (λ k. k.around ≡ c) }
     ensures knows { IfOk result (λ k. (g : Grid) → HasRegion (S.told store.old) tree.now layer level g → Knows level g w k) }
-    ensures few { IfOk result (λ k. (g : Grid) (a : AnyBlock) → HasRegion (S.told store.old) tree.now layer level g → IsBlock level a → HoldsWindow a w → length (leaves_within level g k.read) ≤ 1 + length (leaves_within level g a)) }
+    ensures few { IfOk result (λ k. (g : Grid) (a : AnyBlock) → HasRegion (S.told store.old) tree.now layer level g → IsBlock level a
+        → HoldsWindow a w → length (leaves_within level g k.read) ≤ 1 + length (leaves_within level g a)) }
     ensures sound { IfErr result (λ e. (g : Grid) → HasRegion (S.told store.old) tree.now layer level g → IsSound e) }
     ensures cause { HasStopCause (S.faults store.old) (S.faults store.new) result }
     ensures size { S.size store.new ≡ S.size store.old }
@@ -124,7 +132,8 @@ fn what_is_around<S: PageStore>(
     ensures free { S.free store.new ≡ S.free store.old }
     ensures later { S.later store.old store.new }
     ensures holds { IfOk result (λ k. HoldsWindow k.read w) }
-    ensures reads { IfOk result (λ k. (j : ℕ) → k.read.side ≡ 2 ^ j → Tells (λ old new. new + 24 * j ≤ old + (6 + 24 * level)) (S.reads store.old) (S.reads store.new)) }
+    ensures reads { IfOk result (λ k. (j : ℕ) → k.read.side ≡ 2 ^ j
+        → Tells (λ old new. new + 24 * j ≤ old + (6 + 24 * level)) (S.reads store.old) (S.reads store.new)) }
     ensures changed { S.changed store.new ≤ S.changed store.old }
 {
     match block_with(store, tree, layer, level, w) {
@@ -154,7 +163,8 @@ pub fn plan_known(
     requires level { (1 ≤ level) × (level ≤ 12) }
     requires window { is_window level w ≡ true }
     requires blocks { IsKnown level known.now }
-    ensures plan { IfOk result (λ edits. (g : Grid) → records.now ≡ records_within level layer g known.now.read → Knows level g w known.now → LeadsTo level layer g (painted level g w known.now.around.0) edits) }
+    ensures plan { IfOk result (λ edits. (g : Grid) → records.now ≡ records_within level layer g known.now.read → Knows level g w known.now
+        → LeadsTo level layer g (painted level g w known.now.around.0) edits) }
     ensures sound { IfErr result (λ e. (g : Grid) → records.now ≡ records_within level layer g known.now.read → Knows level g w known.now → IsSound e) }
     ensures no_fault { IsErrOf result Device → ⊥ }
 {
@@ -214,7 +224,8 @@ pub fn plan_replace(
     ensures plan { IfOk result (λ edits. LeadsTo old.now.level layer old.now.grid new.now.grid edits) }
 
     // Such edits turn records that spell the layer as the old grid into records that spell it as the new one.
-    ensures law { (n number : ℕ) (g h : Grid) (edits : AnyEdits) (rs now : List AnyRecord) → n ≤ 12 → IsGrid 2 n h → LeadsTo n number g h edits → SpellsRegion rs number n g → IsEdited rs edits now → SpellsRegion now number n h }
+    ensures law { (n number : ℕ) (g h : Grid) (edits : AnyEdits) (rs now : List AnyRecord) → n ≤ 12 → IsGrid 2 n h → LeadsTo n number g h edits
+        → SpellsRegion rs number n g → IsEdited rs edits now → SpellsRegion now number n h }
 {
     edits_between(alloc, layer, old, new)
 }

@@ -1,4 +1,5 @@
-ghost use Rattle.std.specs.Prelude.{◌≡◌, ℕ, ◌+◌, ◌*◌, ◌^◌, ◌<◌, ◌≤◌, true, false, ◌++◌, IfOk, IfErr, OnOk, IfSome, IsNone, List, length, take, flat_map, Contains};
+ghost use Rattle.std.specs.Prelude.{◌≡◌, ℕ, ◌+◌, ◌*◌, ◌^◌, ◌<◌, ◌≤◌, true, false, ◌++◌, IfOk, IfErr, OnOk, IfSome, IsNone, List, length, take, flat_map};
+ghost use Rattle.std.specs.Prelude.{Contains};
 ghost use Rattle.std.specs.List.{sum_by};
 ghost use Rattle.quilt_types.specs.declared.plane.Pixel.{Pixel as AnyPixel};
 ghost use Rattle.quilt_types.specs.declared.plane.Block.{Block as AnyBlock};
@@ -45,7 +46,8 @@ pub fn plan_apart<S: PageStore>(
     requires layer { 1 ≤ layer }
     requires level { (1 ≤ level) × (level ≤ 12) }
     requires window { is_window level w ≡ true }
-    ensures plan { IfOk result (λ o. IfSome o (λ edits. (g : Grid) → HasRegion (S.told store.old) tree.now layer level g → LeadsTo level layer g (painted level g w c.0) edits)) }
+    ensures plan { IfOk result
+        (λ o. IfSome o (λ edits. (g : Grid) → HasRegion (S.told store.old) tree.now layer level g → LeadsTo level layer g (painted level g w c.0) edits)) }
     ensures sound { IfErr result (λ e. (g : Grid) → HasRegion (S.told store.old) tree.now layer level g → IsSound e) }
     ensures cause { HasStopCause (S.faults store.old) (S.faults store.new) result }
     ensures size { S.size store.new ≡ S.size store.old }
@@ -53,8 +55,11 @@ pub fn plan_apart<S: PageStore>(
     ensures free { S.free store.new ≡ S.free store.old }
     ensures later { S.later store.old store.new }
     ensures large { IfOk result (λ o. IfSome o (λ edits. (a : AnyBlock) → IsBlock level a → HoldsWindow a w → 64 ≤ a.side)) }
-    ensures reads { IfOk result (λ o. IfSome o (λ edits. (g : Grid) (a : AnyBlock) → HasRegion (S.told store.old) tree.now layer level g → IsBlock level a → HoldsWindow a w → Tells (λ old new. new ≤ old + (144 + 3 * length (leaves_within level g a))) (S.reads store.old) (S.reads store.new))) }
-    ensures tried { IfOk result (λ o. IsNone o → (j : ℕ) × ((a : AnyBlock) → IsBlock level a → HoldsWindow a w → 2 ^ j ≤ a.side) × Tells (λ old new. new ≤ old + 24 * j) (S.reads store.old) (S.reads store.new)) }
+    ensures reads { IfOk result
+        (λ o. IfSome o (λ edits. (g : Grid) (a : AnyBlock) → HasRegion (S.told store.old) tree.now layer level g → IsBlock level a → HoldsWindow a w
+        → Tells (λ old new. new ≤ old + (144 + 3 * length (leaves_within level g a))) (S.reads store.old) (S.reads store.new))) }
+    ensures tried { IfOk result (λ o. IsNone o → (j : ℕ) × ((a : AnyBlock) → IsBlock level a → HoldsWindow a w → 2 ^ j ≤ a.side)
+        × Tells (λ old new. new ≤ old + 24 * j) (S.reads store.old) (S.reads store.new)) }
     ensures changed { S.changed store.new ≤ S.changed store.old }
 {
     let b = block_around(w, level);
@@ -90,14 +95,17 @@ fn plan_in_block<S: PageStore>(
     requires block { IsBlock level b }
     requires wide { 1 < b.side }
     requires holds { HoldsWindow b w }
-    ensures plan { IfOk result (λ o. IfSome o (λ edits. (g : Grid) → HasRegion (S.told store.old) tree.now layer level g → LeadsTo level layer g (painted level g w c.0) edits)) }
+    ensures plan { IfOk result
+        (λ o. IfSome o (λ edits. (g : Grid) → HasRegion (S.told store.old) tree.now layer level g → LeadsTo level layer g (painted level g w c.0) edits)) }
     ensures sound { IfErr result (λ e. (g : Grid) → HasRegion (S.told store.old) tree.now layer level g → IsSound e) }
     ensures cause { HasStopCause (S.faults store.old) (S.faults store.new) result }
     ensures size { S.size store.new ≡ S.size store.old }
     ensures told { S.told store.new ≡ S.told store.old }
     ensures free { S.free store.new ≡ S.free store.old }
     ensures later { S.later store.old store.new }
-    ensures reads { IfOk result (λ o. IfSome o (λ edits. (g : Grid) → HasRegion (S.told store.old) tree.now layer level g → Tells (λ old new. new ≤ old + (144 + 3 * length (leaves_within level g b))) (S.reads store.old) (S.reads store.new))) }
+    ensures reads { IfOk result
+        (λ o. IfSome o (λ edits. (g : Grid) → HasRegion (S.told store.old) tree.now layer level g
+        → Tells (λ old new. new ≤ old + (144 + 3 * length (leaves_within level g b))) (S.reads store.old) (S.reads store.new))) }
     ensures tried { IfOk result (λ o. IsNone o → Tells (λ old new. new ≤ old + 120) (S.reads store.old) (S.reads store.new)) }
     ensures changed { S.changed store.new ≤ S.changed store.old }
 {
@@ -147,16 +155,23 @@ fn plan_quarters<S: PageStore>(
     requires block { IsBlock level b }
     requires wide { 1 < b.side }
     requires most { count ≤ 4 }
-    ensures remove { IfOk result (λ t. t ≡ true → (g : Grid) → HasRegion (S.told store.old) tree.now layer level g → AreSeveral level g (painted level g w c.0) b → remove.new.items ≡ remove.old.items ++ flat_map (records_without_in level layer g (painted level g w c.0)) (take count (quarters_of b))) }
-    ensures add { IfOk result (λ t. t ≡ true → (g : Grid) → HasRegion (S.told store.old) tree.now layer level g → AreSeveral level g (painted level g w c.0) b → add.new.items ≡ add.old.items ++ flat_map (records_without_in level layer (painted level g w c.0) g) (take count (quarters_of b))) }
-    ensures several { IfOk result (λ t. t ≡ true → (g : Grid) (q : AnyBlock) (p : AnyPixel) → HasRegion (S.told store.old) tree.now layer level g → Contains (take count (quarters_of b)) q → Holds q p → InWindow w p → AreSeveral level g (painted level g w c.0) b) }
+    ensures remove { IfOk result (λ t. t ≡ true → (g : Grid) → HasRegion (S.told store.old) tree.now layer level g
+        → AreSeveral level g (painted level g w c.0) b
+        → remove.new.items ≡ remove.old.items ++ flat_map (records_without_in level layer g (painted level g w c.0)) (take count (quarters_of b))) }
+    ensures add { IfOk result (λ t. t ≡ true → (g : Grid) → HasRegion (S.told store.old) tree.now layer level g
+        → AreSeveral level g (painted level g w c.0) b
+        → add.new.items ≡ add.old.items ++ flat_map (records_without_in level layer (painted level g w c.0) g) (take count (quarters_of b))) }
+    ensures several { IfOk result (λ t. t ≡ true → (g : Grid) (q : AnyBlock) (p : AnyPixel) → HasRegion (S.told store.old) tree.now layer level g
+        → Contains (take count (quarters_of b)) q → Holds q p → InWindow w p → AreSeveral level g (painted level g w c.0) b) }
     ensures sound { IfErr result (λ e. (g : Grid) → HasRegion (S.told store.old) tree.now layer level g → IsSound e) }
     ensures cause { HasStopCause (S.faults store.old) (S.faults store.new) result }
     ensures size { S.size store.new ≡ S.size store.old }
     ensures told { S.told store.new ≡ S.told store.old }
     ensures free { S.free store.new ≡ S.free store.old }
     ensures later { S.later store.old store.new }
-    ensures reads { IfOk result (λ t. t ≡ true → (g : Grid) → HasRegion (S.told store.old) tree.now layer level g → Tells (λ old new. new ≤ old + (36 * count + 3 * sum_by (λ q. length (leaves_within level g q)) (take count (quarters_of b)))) (S.reads store.old) (S.reads store.new)) }
+    ensures reads { IfOk result (λ t. t ≡ true → (g : Grid) → HasRegion (S.told store.old) tree.now layer level g
+        → Tells (λ old new. new ≤ old + (36 * count + 3 * sum_by (λ q. length (leaves_within level g q)) (take count (quarters_of b))))
+        (S.reads store.old) (S.reads store.new)) }
     ensures tried { IfOk result (λ t. t ≡ false → Tells (λ old new. new ≤ old + 30 * count) (S.reads store.old) (S.reads store.new)) }
     ensures changed { S.changed store.new ≤ S.changed store.old }
 {
@@ -223,15 +238,18 @@ fn plan_part<S: PageStore>(
     requires level { (1 ≤ level) × (level ≤ 12) }
     requires window { is_window level w ≡ true }
     requires blocks { IsKnown level known.now }
-    ensures remove { OnOk result ((g : Grid) → HasRegion (S.told store.old) tree.now layer level g → Knows level g w known.now → remove.new.items ≡ remove.old.items ++ records_without level layer g (painted level g w known.now.around.0)) }
-    ensures add { OnOk result ((g : Grid) → HasRegion (S.told store.old) tree.now layer level g → Knows level g w known.now → add.new.items ≡ add.old.items ++ records_without level layer (painted level g w known.now.around.0) g) }
+    ensures remove { OnOk result ((g : Grid) → HasRegion (S.told store.old) tree.now layer level g → Knows level g w known.now
+        → remove.new.items ≡ remove.old.items ++ records_without level layer g (painted level g w known.now.around.0)) }
+    ensures add { OnOk result ((g : Grid) → HasRegion (S.told store.old) tree.now layer level g → Knows level g w known.now
+        → add.new.items ≡ add.old.items ++ records_without level layer (painted level g w known.now.around.0) g) }
     ensures sound { IfErr result (λ e. (g : Grid) → HasRegion (S.told store.old) tree.now layer level g → Knows level g w known.now → IsSound e) }
     ensures cause { HasStopCause (S.faults store.old) (S.faults store.new) result }
     ensures size { S.size store.new ≡ S.size store.old }
     ensures told { S.told store.new ≡ S.told store.old }
     ensures free { S.free store.new ≡ S.free store.old }
     ensures later { S.later store.old store.new }
-    ensures reads { OnOk result ((g : Grid) → HasRegion (S.told store.old) tree.now layer level g → Tells (λ old new. new ≤ old + (6 + 3 * length (leaves_within level g known.now.read))) (S.reads store.old) (S.reads store.new)) }
+    ensures reads { OnOk result ((g : Grid) → HasRegion (S.told store.old) tree.now layer level g
+        → Tells (λ old new. new ≤ old + (6 + 3 * length (leaves_within level g known.now.read))) (S.reads store.old) (S.reads store.new)) }
     ensures changed { S.changed store.new ≤ S.changed store.old }
 {
     match records_in(alloc, store, tree, layer, level, known.read) {

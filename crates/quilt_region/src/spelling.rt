@@ -27,7 +27,8 @@ pub fn leaf_of(r: &Record, layer: u8, level: u8) -> Option<Leaf>
     ensures block { IfSome result (λ l. IsBlock level l.block) }
     ensures record { IfSome result (λ l. r.now ≡ leaf_record level layer (pair_of l)) }
     ensures code { IfSome result (λ l. r.now.key.code ≡ code_from l.block) }
-    ensures one { (b : AnyBlock) (c : AnyColour) → 1 ≤ layer → IsBlock level b → r.now ≡ leaf_record level layer (b, c.0) → result ≡ Some (record { block = b; colour = c }) }
+    ensures one { (b : AnyBlock) (c : AnyColour) → 1 ≤ layer → IsBlock level b → r.now ≡ leaf_record level layer (b, c.0)
+        → result ≡ Some (record { block = b; colour = c }) }
 {
     let (block, colour) = read_region(r, level, 2)?;
     if r.key.layer != u16::from(layer) {
@@ -80,7 +81,8 @@ pub fn put_records(
     requires next { length maker.old.colours ≡ code_from b }
     ensures level { OnOk result (maker.new.level ≡ level) }
     ensures end { OnOk result (length maker.new.colours ≡ code_to b) }
-    ensures colours { OnOk result ((g : Grid) (f : AnyPixel → ℕ) → records.now ≡ records_within level layer g b → ((p : AnyPixel) → Holds b p → f p ≡ colour_at level g p) → HasColours level f maker.old.colours → HasColours level f maker.new.colours) }
+    ensures colours { OnOk result ((g : Grid) (f : AnyPixel → ℕ) → records.now ≡ records_within level layer g b
+        → ((p : AnyPixel) → Holds b p → f p ≡ colour_at level g p) → HasColours level f maker.old.colours → HasColours level f maker.new.colours) }
     ensures sound { IfErr result (λ e. (g : Grid) → records.now ≡ records_within level layer g b → IsCutOut level g b → IsSound e) }
     ensures no_fault { IsErrOf result Device → ⊥ }
 {

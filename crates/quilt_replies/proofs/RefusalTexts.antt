@@ -35,7 +35,8 @@ refusal_is no.Many = refl
 told_no : (text : List ℕ) (code : Code) (r : Reply) → text ≡ refusal code → r ≡ Refused code → text ≡ text_of r
 told_no text code r is same = is ∙ refusal_is code ∙ sym (ap text_of same)
 
-pub told : (given : given_reply.Reply) (code : Code) (text : List ℕ) → given ≡ reply.No code → text ≡ refusal code → (r : Reply) → Tells given r → text ≡ text_of r
+pub told : (given : given_reply.Reply) (code : Code) (text : List ℕ) → given ≡ reply.No code → text ≡ refusal code → (r : Reply)
+    → Tells given r → text ≡ text_of r
 told given code text no_ is r tells = told_no text code r is (subst (λ (g : given_reply.Reply). Tells g r) no_ tells)
 
 pub refused : (given : given_reply.Reply) (code : Code) (text : List ℕ) → given ≡ reply.No code → text ≡ refusal code →

@@ -1,5 +1,6 @@
 -- The texts of replies, line by line.
-use Rattle.std.proofs.Common.{◌≡◌, ℕ, zero, suc, ◌+◌, ◌-◌, ◌/◌, ◌%◌, ◌^◌, ◌<◌, ◌≤◌, List, [], ◌∷◌, ◌++◌, map, flat_map, Result, Ok, Err, refl, sym, ◌∙◌, ap, subst, arith, append_assoc}
+use Rattle.std.proofs.Common.{◌≡◌, ℕ, zero, suc, ◌+◌, ◌-◌, ◌/◌, ◌%◌, ◌^◌, ◌<◌, ◌≤◌, List, [], ◌∷◌, ◌++◌, map, flat_map, Result, Ok, Err, refl, sym, ◌∙◌, ap}
+use Rattle.std.proofs.Common.{subst, arith, append_assoc}
 use Rattle.std.specs.Prelude.{IfOk, reverse, count_by, codes, decimal, slice_index, ◌==◌, if◌then◌else◌}
 use Rattle.std.specs.List.{range_with_len}
 use Rattle.std.proofs.lemmas.List.{append-nil, reverse-append}
@@ -19,7 +20,8 @@ use Rattle.quilt_replies.specs.Bodies.{lines, words_of_kind, entry_line, HasCoun
 use Rattle.quilt_replies.specs.Runs.{text_of}
 
 -- the text of a reply, where its body was put together
-pub finished : {E : Type 0} (r : Result (List ℕ) E) (text : List ℕ) (body : List (List ℕ)) → IfOk r (λ all. (b : List (List ℕ)) → text ≡ lines b → all ≡ text_of (Done b)) → text ≡ lines body → IfOk r (λ all. all ≡ text_of (Done body))
+pub finished : {E : Type 0} (r : Result (List ℕ) E) (text : List ℕ) (body : List (List ℕ))
+    → IfOk r (λ all. (b : List (List ℕ)) → text ≡ lines b → all ≡ text_of (Done b)) → text ≡ lines body → IfOk r (λ all. all ≡ text_of (Done body))
 finished (Ok all) text body h is = h body is
 finished (Err e) text body h is = tt
 
@@ -49,7 +51,8 @@ alone t0 t1 l e f = f ∙ ap (λ t. t ++ l ++ 10 ∷ []) e ∙ sym (one_line l)
 pub number_line : (n : ℕ) (t0 t1 t2 : List ℕ) → t0 ≡ [] → t1 ≡ t0 ++ decimal n → t2 ≡ t1 ++ 10 ∷ [] → t2 ≡ lines (decimal n ∷ [])
 number_line n t0 t1 t2 e f g = grown_more t1 t2 (decimal n) (10 ∷ []) (grown_one t0 t1 (decimal n) e f) g ∙ sym (one_line (decimal n))
 
-pub edition_line : (n : ℕ) (t0 t1 t2 t3 : List ℕ) → t0 ≡ [] → t1 ≡ t0 ++ codes "edition " → t2 ≡ t1 ++ decimal n → t3 ≡ t2 ++ 10 ∷ [] → t3 ≡ lines (spaced (codes "edition" ∷ decimal n ∷ []) ∷ [])
+pub edition_line : (n : ℕ) (t0 t1 t2 t3 : List ℕ) → t0 ≡ [] → t1 ≡ t0 ++ codes "edition " → t2 ≡ t1 ++ decimal n → t3 ≡ t2 ++ 10 ∷ []
+    → t3 ≡ lines (spaced (codes "edition" ∷ decimal n ∷ []) ∷ [])
 edition_line n t0 t1 t2 t3 e f g h =
     grown_more t2 t3 (codes "edition " ++ decimal n) (10 ∷ []) (grown_more t1 t2 (codes "edition ") (decimal n) (grown_one t0 t1 (codes "edition ") e f) g) h
     ∙ sym (one_line (spaced (codes "edition" ∷ decimal n ∷ [])))
@@ -69,7 +72,8 @@ count_lines k count = if count == 0 then [] else spaced (decimal (side k) ∷ de
 -- the lines of the sides from the greatest down to this one stand in the text
 pub record IsCounting (level : ℕ) (counts : List ℕ) (k : ℕ) (text : List ℕ) : Type 0 where
   pub most : k ≤ level + 1
-  pub rest : lines (flat_map (λ j. count_lines j (slice_index counts j)) (reverse (below (level + 1)))) ≡ text ++ lines (flat_map (λ j. count_lines j (slice_index counts j)) (reverse (below k)))
+  pub rest : lines (flat_map (λ j. count_lines j (slice_index counts j)) (reverse (below (level + 1)))) ≡ text
+      ++ lines (flat_map (λ j. count_lines j (slice_index counts j)) (reverse (below k)))
 
 range_more : (a n : ℕ) → range_with_len a (suc n) ≡ range_with_len a n ++ (a + n) ∷ []
 range_more a zero = let e : a ≡ a + 0 = omega arith in ap (λ (z : ℕ). z ∷ []) e
@@ -88,25 +92,32 @@ module _ (counts : List ℕ) where
   pub counting_starts : (level : ℕ) → IsCounting level counts (level + 1) []
   counting_starts level = record { most = omega arith; rest = refl }
 
-  counting_step : (level j : ℕ) (text more : List ℕ) → IsCounting level counts (suc j) text → more ≡ text ++ lines (count_lines j (slice_index counts j)) → IsCounting level counts j more
+  counting_step : (level j : ℕ) (text more : List ℕ) → IsCounting level counts (suc j) text
+      → more ≡ text ++ lines (count_lines j (slice_index counts j)) → IsCounting level counts j more
   counting_step level j text more h is = record {
     most = (let m = h.most in omega arith);
     rest = h.rest ∙ ap (λ (ks : List ℕ). text ++ lines (flat_map (λ i. count_lines i (slice_index counts i)) ks)) (reverse_below j)
-        ∙ ap (λ (l : List ℕ). text ++ l) (flat_map-append (λ l. l ++ 10 ∷ []) (count_lines j (slice_index counts j)) (flat_map (λ i. count_lines i (slice_index counts i)) (reverse (below j))))
-        ∙ sym (append_assoc text (lines (count_lines j (slice_index counts j))) (lines (flat_map (λ i. count_lines i (slice_index counts i)) (reverse (below j)))))
+        ∙ ap (λ (l : List ℕ). text ++ l)
+        (flat_map-append (λ l. l ++ 10 ∷ []) (count_lines j (slice_index counts j))
+        (flat_map (λ i. count_lines i (slice_index counts i)) (reverse (below j))))
+        ∙ sym (append_assoc text (lines (count_lines j (slice_index counts j)))
+        (lines (flat_map (λ i. count_lines i (slice_index counts i)) (reverse (below j)))))
         ∙ ap (λ (l : List ℕ). l ++ lines (flat_map (λ i. count_lines i (slice_index counts i)) (reverse (below j)))) (sym is);
   }
 
-  pub counting_more : (level k place : ℕ) (text more : List ℕ) → IsCounting level counts k text → 0 < k → more ≡ text ++ lines (count_lines (k - 1) (slice_index counts place)) → place ≡ k - 1 → IsCounting level counts (k - 1) more
+  pub counting_more : (level k place : ℕ) (text more : List ℕ) → IsCounting level counts k text → 0 < k
+      → more ≡ text ++ lines (count_lines (k - 1) (slice_index counts place)) → place ≡ k - 1 → IsCounting level counts (k - 1) more
   counting_more level zero place text more h some is at = absurd (let wrong : ⊥ = omega arith in wrong)
   counting_more level (suc j) place text more h some is at =
       let e : suc j - 1 ≡ j = omega arith in
       subst (λ (i : ℕ). IsCounting level counts i more) (sym e)
       (counting_step level j text more h
-      (is ∙ ap (λ (i : ℕ). text ++ lines (count_lines (suc j - 1) (slice_index counts i))) at ∙ ap (λ (i : ℕ). text ++ lines (count_lines i (slice_index counts i))) e))
+      (is ∙ ap (λ (i : ℕ). text ++ lines (count_lines (suc j - 1) (slice_index counts i))) at
+      ∙ ap (λ (i : ℕ). text ++ lines (count_lines i (slice_index counts i))) e))
 
   module _ (sides : List ℕ) (h : HasCounts counts sides) where
-    same_lines : (k : ℕ) → k ≤ 13 → flat_map (λ j. count_lines j (slice_index counts j)) (reverse (below k)) ≡ flat_map (λ j. count_lines j (count_by (λ s. s == side j) sides)) (reverse (below k))
+    same_lines : (k : ℕ) → k ≤ 13 → flat_map (λ j. count_lines j (slice_index counts j)) (reverse (below k))
+        ≡ flat_map (λ j. count_lines j (count_by (λ s. s == side j) sides)) (reverse (below k))
     same_lines zero le = refl
     same_lines (suc k) le =
         ap (flat_map (λ j. count_lines j (slice_index counts j))) (reverse_below k)
@@ -119,10 +130,12 @@ module _ (counts : List ℕ) where
 
 module _ (counts : List ℕ) where
   -- the reply, once the text has the lines of all sides
-  pub counted_reply : {E : Type 0} (r : Result (List ℕ) E) (level k : ℕ) (text : List ℕ) → IfOk r (λ all. (b : List (List ℕ)) → text ≡ lines b → all ≡ text_of (Done b)) → level ≤ 12 → IsCounting level counts k text → k ≤ 0
+  pub counted_reply : {E : Type 0} (r : Result (List ℕ) E) (level k : ℕ) (text : List ℕ)
+      → IfOk r (λ all. (b : List (List ℕ)) → text ≡ lines b → all ≡ text_of (Done b)) → level ≤ 12 → IsCounting level counts k text → k ≤ 0
       → IfOk r (λ all. (sides : List ℕ) → HasCounts counts sides → all ≡ text_of (Done (block_lines level sides)))
   counted_reply (Ok all) level k text h le c none =
-      λ sides is. let z : k ≡ 0 = omega arith in h (block_lines level sides) (counted counts sides is level text le (subst (λ (j : ℕ). IsCounting level counts j text) z c))
+      λ sides is. let z : k ≡ 0 =
+      omega arith in h (block_lines level sides) (counted counts sides is level text le (subst (λ (j : ℕ). IsCounting level counts j text) z c))
   counted_reply (Err e) level k text h le c none = tt
 
 -- ---- the lines of layers
@@ -140,7 +153,8 @@ map_lines numbers (e ∷ es) = λ i. layer_line_is numbers e i ∷ map_lines num
 
 pub listed_reply : {E : Type 0} (r : Result (List ℕ) E) (entries : List Entry) → IfOk r (λ all. all ≡ text_of (Done (map entry_line entries)))
     → IfOk r (λ all. (layers : Map) (numbers : Numbering) → IsCatalogOf layers numbers entries → all ≡ text_of (Done (map layer_line (finmap.entries layers))))
-listed_reply (Ok all) entries h = λ layers numbers c. h ∙ ap (λ (b : List (List ℕ)). text_of (Done b)) (ap (map entry_line) c.each ∙ map_lines numbers (finmap.entries layers))
+listed_reply (Ok all) entries h =
+    λ layers numbers c. h ∙ ap (λ (b : List (List ℕ)). text_of (Done b)) (ap (map entry_line) c.each ∙ map_lines numbers (finmap.entries layers))
 listed_reply (Err e) entries h = tt
 
 -- ---- the rows of a window
@@ -160,7 +174,8 @@ same_rows : (f n : ℕ) (g : List ℕ) (w : Window) (ys : List ℕ) → map (ras
 same_rows f n g w [] = refl
 same_rows f n g w (y ∷ ys) = λ i. same_row f n g w y i ∷ same_rows f n g w ys i
 
-pub shown_reply : {E : Type 0} (r : Result (List ℕ) E) (text : List ℕ) (f n : ℕ) (g : List ℕ) (w : Window) (ys : List ℕ) → IfOk r (λ all. (b : List (List ℕ)) → text ≡ lines b → all ≡ text_of (Done b))
+pub shown_reply : {E : Type 0} (r : Result (List ℕ) E) (text : List ℕ) (f n : ℕ) (g : List ℕ) (w : Window) (ys : List ℕ)
+    → IfOk r (λ all. (b : List (List ℕ)) → text ≡ lines b → all ≡ text_of (Done b))
     → (IsGrid f n g → text ≡ lines (map (raster.row_line f n g w) ys)) → IfOk r (λ all. IsGrid f n g → all ≡ text_of (Done (map (row_line f n g w) ys)))
 shown_reply (Ok all) text f n g w ys h is = λ grid. h (map (row_line f n g w) ys) (is grid ∙ ap lines (same_rows f n g w ys))
 shown_reply (Err e) text f n g w ys h is = tt

@@ -1,5 +1,6 @@
 -- Leaves in the order of the plane: what a sort of them leaves.
-use Rattle.std.proofs.Common.{◌≡◌, ◌↔◌, ℕ, suc, ◌+◌, ◌≤◌, Bool, true, false, cond, List, [], ◌∷◌, get_or, refl, sym, ◌∙◌, ap, subst, arith, Contains, ⊎_elim, nat_cmp, count_by, Ordering, Less, Equal, Greater}
+use Rattle.std.proofs.Common.{◌≡◌, ◌↔◌, ℕ, suc, ◌+◌, ◌≤◌, Bool, true, false, cond, List, [], ◌∷◌, get_or, refl, sym, ◌∙◌, ap, subst, arith, Contains, ⊎_elim}
+use Rattle.std.proofs.Common.{nat_cmp, count_by, Ordering, Less, Equal, Greater}
 use Rattle.std.specs.Ordering.{ordering_then, ordering_reverse, is_lt, is_eq}
 use Rattle.std.specs.Cmp.{IsTotalOrder, nat_cmp_total, on_total, then_total, tied_itself}
 use Rattle.std.specs.FinMap.{nat_cmp-IsAntisymmetric}
@@ -130,16 +131,19 @@ never_below e h = let wrong : Equal ≡ Less = sym (tied_itself nat_cmp_total (c
 leaves_rise : (n : ℕ) (g : Grid) → Rises row_cmp (leaves n g)
 unfolding leaves
 leaves_rise n g =
-    Rises-map block_cmp row_cmp (coloured n g) (maximal_blocks n (is_uniform n g)) (λ a b _ _ h. ap (λ (r : Ordering). ordering_then r (nat_cmp (coloured n g a).1 (coloured n g b).1)) h) (Rises-maximal n (is_uniform n g))
+    Rises-map block_cmp row_cmp (coloured n g) (maximal_blocks n (is_uniform n g))
+    (λ a b _ _ h. ap (λ (r : Ordering). ordering_then r (nat_cmp (coloured n g a).1 (coloured n g b).1)) h) (Rises-maximal n (is_uniform n g))
 
 -- a sort of the leaves by their codes is the leaves by rows
-pub leaves_sorted : (n : ℕ) (g : Grid) (xs ys : List (Block × ℕ)) → xs ≡ leaves_by_code n g → Rises leaf_cmp (leaves_by_code n g) → ((e : Block × ℕ) → Contains (leaves_by_code n g) e ↔ Contains (leaves n g) e)
+pub leaves_sorted : (n : ℕ) (g : Grid) (xs ys : List (Block × ℕ)) → xs ≡ leaves_by_code n g → Rises leaf_cmp (leaves_by_code n g)
+    → ((e : Block × ℕ) → Contains (leaves_by_code n g) e ↔ Contains (leaves n g) e)
     → IsPermutation xs ys → IsSorted row_cmp ys → ys ≡ leaves n g
 leaves_sorted n g xs ys is order members moved sorted =
     let apart : Apart xs = subst Apart (sym is) (rises_apart leaf_cmp never_below (leaves_by_code n g) order) in
     let once = λ (x : Block × ℕ).
     let few = count_once (λ y. is_eq (row_cmp x y)) xs x apart (λ y t. sym (row_same x y (tied (row_cmp x y) t))) in
-    let kept : count_by (λ y. is_eq (row_cmp x y)) ys ≡ count_by (λ y. is_eq (row_cmp x y)) xs = sum_by-IsPermutation (λ (y : Block × ℕ). cond {A = ℕ} (is_eq (row_cmp x y)) 1 0) xs ys moved in
+    let kept : count_by (λ y. is_eq (row_cmp x y)) ys ≡ count_by (λ y. is_eq (row_cmp x y)) xs =
+    sum_by-IsPermutation (λ (y : Block × ℕ). cond {A = ℕ} (is_eq (row_cmp x y)) 1 0) xs ys moved in
     let all : count_by (λ y. is_eq (row_cmp x y)) ys ≤ 1 = omega arith in
     all in
     same_rising row_cmp row_total ys (leaves n g) (rises_sorted row_cmp row_total ys sorted once) (leaves_rise n g) (λ e. (

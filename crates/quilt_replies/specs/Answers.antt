@@ -1,5 +1,6 @@
 -- The reply to each command, the work that it leaves, and the edition that it gives.
-use Rattle.std.specs.Prelude.{ℕ, ◌+◌, ◌/◌, ◌%◌, Bool, true, false, ◌&&◌, ◌||◌, not, ◌==◌, nat_le, nat_lt, List, [], ◌∷◌, ◌++◌, map, filter, fold, flat_map, count_by, reverse, length, ◌*◌, Option, Some, None, is_some, is_none, option_map, if◌then◌else◌, codes, decimal, unwrap_or}
+use Rattle.std.specs.Prelude.{ℕ, ◌+◌, ◌/◌, ◌%◌, Bool, true, false, ◌&&◌, ◌||◌, not, ◌==◌, nat_le, nat_lt, List, [], ◌∷◌, ◌++◌, map, filter, fold, flat_map}
+use Rattle.std.specs.Prelude.{count_by, reverse, length, ◌*◌, Option, Some, None, is_some, is_none, option_map, if◌then◌else◌, codes, decimal, unwrap_or}
 use Rattle.std.specs.List.{list_any}
 use Rattle.std.specs.FinMap as finmap
 use Rattle.quilt_types.specs.Sets as finset

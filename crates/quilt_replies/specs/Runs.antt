@@ -1,5 +1,6 @@
 -- A whole run: the replies to all items of a text, the work at the end, and the editions on the way.
-use Rattle.std.specs.Prelude.{ℕ, ◌+◌, Bool, true, false, ◌&&◌, ◌||◌, ◌==◌, if◌then◌else◌, List, [], ◌∷◌, ◌++◌, map, flat_map, Option, Some, None, Result, Ok, Err, codes, length, unwrap_or, is_some, drop}
+use Rattle.std.specs.Prelude.{ℕ, ◌+◌, Bool, true, false, ◌&&◌, ◌||◌, ◌==◌, if◌then◌else◌, List, [], ◌∷◌, ◌++◌, map, flat_map, Option, Some, None, Result, Ok}
+use Rattle.std.specs.Prelude.{Err, codes, length, unwrap_or, is_some, drop}
 use Rattle.quilt_types.specs.Layers.{Map, Edition}
 use Rattle.quilt_types.specs.declared.code.Code.{Code}
 use Rattle.quilt_types.specs.declared.code.Code.TheVariants as no

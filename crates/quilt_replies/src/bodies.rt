@@ -1,4 +1,5 @@
-ghost use Rattle.std.specs.Prelude.{◌≡◌, ◌==◌, ◌<◌, ◌≤◌, ◌^◌, ◌+◌, ◌↔◌, ℕ, List, Contains, [], ◌∷◌, ◌++◌, map, codes, decimal, slice_index, if◌then◌else◌, IfOk, OnOk};
+ghost use Rattle.std.specs.Prelude.{◌≡◌, ◌==◌, ◌<◌, ◌≤◌, ◌^◌, ◌+◌, ◌↔◌, ℕ, List, Contains, [], ◌∷◌, ◌++◌, map, codes, decimal, slice_index, if◌then◌else◌};
+ghost use Rattle.std.specs.Prelude.{IfOk, OnOk};
 ghost use Rattle.std.specs.FinMap as finmap;
 ghost use Rattle.quilt_types.specs.declared.plane.Block.{Block as BlockValue};
 ghost use Rattle.quilt_types.specs.Plane.{side as side_of, below};
@@ -110,7 +111,8 @@ pub fn layers_text(alloc: Global, entries: &[Entry]) -> Result<Text, AllocError>
     ensures listed { IfOk result (λ text. text ≡ text_of (Done (map entry_line entries.now))) }
 
     // What this says of a map that has this catalog.
-    ensures map { IfOk result (λ text. (layers : Map) (numbers : Numbering) → IsCatalogOf layers numbers entries.now → text ≡ text_of (Done (map layer_line (finmap.entries layers)))) }
+    ensures map { IfOk result (λ text. (layers : Map) (numbers : Numbering) → IsCatalogOf layers numbers entries.now
+        → text ≡ text_of (Done (map layer_line (finmap.entries layers)))) }
 {
     let mut text = Text::new(alloc);
     for e in entries {
@@ -152,7 +154,8 @@ pub fn blocks_text(alloc: Global, level: u8, counts: &[u32; 13]) -> Result<Text,
 pub fn show_text(alloc: Global, list: &LeafList, w: Window, format: u8) -> Result<Text, AllocError>
     requires in_x { w.x + w.w ≤ side_of list.now.level }
     requires in_y { w.y + w.h ≤ side_of list.now.level }
-    ensures { IfOk result (λ text. IsGrid format list.now.level list.now.grid → text ≡ text_of (Done (map (row_line format list.now.level list.now.grid w) (below w.h)))) }
+    ensures { IfOk result (λ text. IsGrid format list.now.level list.now.grid
+        → text ≡ text_of (Done (map (row_line format list.now.level list.now.grid w) (below w.h)))) }
 {
     finish(render(alloc, list, w, format)?)
 }

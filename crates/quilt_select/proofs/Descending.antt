@@ -1,5 +1,6 @@
 -- What the descent keeps: the segments found and the blocks that wait stand for all segments that meet a window.
-use Rattle.std.proofs.Common.{◌≡◌, ℕ, ◌+◌, ◌*◌, ◌<◌, ◌≤◌, true, false, ◌⊎◌, inl, inr, ⊎_elim, List, [], ◌∷◌, ◌++◌, Option, Some, None, IfSome, fold, filter, length, All, Contains, eqb, true≢false, zero, suc, refl, sym, subst, arith}
+use Rattle.std.proofs.Common.{◌≡◌, ℕ, ◌+◌, ◌*◌, ◌<◌, ◌≤◌, true, false, ◌⊎◌, inl, inr, ⊎_elim, List, [], ◌∷◌, ◌++◌, Option, Some, None, IfSome, fold, filter}
+use Rattle.std.proofs.Common.{length, All, Contains, eqb, true≢false, zero, suc, refl, sym, subst, arith}
 use Rattle.std.specs.Ordering.{nat_cmp}
 use Rattle.std.specs.List.Sorted.{IsStrictlySortedBy}
 use Rattle.std.specs.Map.{keys_of}
@@ -14,7 +15,8 @@ use Rattle.quilt_types.specs.Plane.{quarters_of, whole, is_window, Holds, IsBloc
 use Rattle.quilt_types.specs.Segments.{meets, square}
 use Rattle.quilt_types.specs.Quadtrees.{reach, is_reached}
 use Rattle.quilt_store.specs.Store.{Tells}
-use Rattle.quilt_loc.proofs.Members.{Contains-nil, Contains-here, Contains-there, Contains-cons_cases, Contains-map, Contains-map_from, Contains-filter, Contains-filter_from}
+use Rattle.quilt_loc.proofs.Members.{Contains-nil, Contains-here, Contains-there, Contains-cons_cases, Contains-map, Contains-map_from, Contains-filter}
+use Rattle.quilt_loc.proofs.Members.{Contains-filter_from}
 use Rattle.quilt_loc.proofs.Nesting.{side_pos}
 use Rattle.quilt_loc.proofs.Quartered.{IsBlock-whole, Holds-whole, quarters_are}
 use Rattle.quilt_near.specs.Lines.{Lines, IsLines}
@@ -48,7 +50,8 @@ pub record IsHeld (stack : List Waiting) (w : Window) (q : Pixel) : Type 0 where
 pub record Front (ws : List Window) (l : Lines) (stack : List Waiting) (found : Found) : Type 0 where
   pub reached : (e : Waiting) → Contains stack e → is_reached l.cover e.0 ≡ true
   pub real : (z : ℕ × Seg) → Contains found z → Contains (finmap.entries l.segs) z × (meets_any ws z.1 ≡ true)
-  pub seen : (z : ℕ × Seg) → Contains (finmap.entries l.segs) z → (w : Window) → Contains ws w → meets z.1 w ≡ true → (q : Pixel) → IsTouched z.1 w q → Contains found z ⊎ IsHeld stack w q
+  pub seen : (z : ℕ × Seg) → Contains (finmap.entries l.segs) z → (w : Window) → Contains ws w → meets z.1 w ≡ true → (q : Pixel) → IsTouched z.1 w q
+      → Contains found z ⊎ IsHeld stack w q
 
 -- The loop has come so far: with the reads before it and now, the blocks that wait, and what is found.
 pub record Going (n : ℕ) (ws : List Window) (shown : Lines → Type 0) (before now : Option ℕ) (stack : List Waiting) (found : Found) : Type 0 where
@@ -68,7 +71,8 @@ some_length (suc k) e = omega arith
 no_member : {X : Type 0} (xs : List X) (x : X) → length xs ≡ 0 → Contains xs x → ⊥
 no_member xs x e c = let lt = c.1 in omega arith
 
-module _ (n : ℕ) (ws : List Window) (inside : All (λ w. is_window n w ≡ true) ws) (shown : Lines → Type 0) (lines : (l : Lines) → shown l → IsLines n l) (before : Option ℕ) where
+module _ (n : ℕ) (ws : List Window) (inside : All (λ w. is_window n w ≡ true) ws) (shown : Lines → Type 0) (lines : (l : Lines) → shown l
+    → IsLines n l) (before : Option ℕ) where
   window : (w : Window) → Contains ws w → IsInside n w
   window w c = window_inside n w (All-at (λ (z : Window). is_window n z ≡ true) ws w inside c)
 
@@ -80,7 +84,8 @@ module _ (n : ℕ) (ws : List Window) (inside : All (λ w. is_window n w ≡ tru
       let first : Waiting = (whole n, ws) in
       record {
         valid = λ e c. only (λ (z : Waiting). IsBlock n z.0) e (IsBlock-whole n) c;
-        kept = λ e c. only (λ (z : Waiting). (w : Window) → Contains z.1 w → Contains ws w × (shares z.0 w ≡ true)) e (λ w d. (d, whole_shares n w (window w d))) c;
+        kept = λ e c. only (λ (z : Waiting). (w : Window) → Contains z.1 w → Contains ws w × (shares z.0 w ≡ true)) e
+            (λ w d. (d, whole_shares n w (window w d))) c;
         front = λ l s. record {
           reached = λ e c. only (λ (z : Waiting). is_reached l.cover z.0 ≡ true) e (reached_whole n l (lines l s)) c;
           real = λ z c. absurd (Contains-nil z c);
@@ -94,7 +99,8 @@ module _ (n : ℕ) (ws : List Window) (inside : All (λ w. is_window n w ≡ tru
             (λ x. let o = owed_first block_of n (holds_any ws) l first (first ∷ []) refl (IsPermutation-refl (first ∷ [])) in omega arith) before;
       }
 
-  pub going_start : (stack : List Waiting) (found : Found) (b : Block) (near : List Window) (old : List Waiting) → b ≡ whole n → near ≡ ws → old ≡ [] → stack ≡ (b, near) ∷ old → found ≡ [] → Going n ws shown before before stack found
+  pub going_start : (stack : List Waiting) (found : Found) (b : Block) (near : List Window) (old : List Waiting) → b ≡ whole n → near ≡ ws → old ≡ []
+      → stack ≡ (b, near) ∷ old → found ≡ [] → Going n ws shown before before stack found
   going_start stack found b near old eb en eo es ef =
       subst (λ (t : Found). Going n ws shown before before stack t) (sym ef)
       (subst (λ (t : List Waiting). Going n ws shown before before t []) (sym es)
@@ -103,7 +109,8 @@ module _ (n : ℕ) (ws : List Window) (inside : All (λ w. is_window n w ≡ tru
       (subst (λ (t : List Waiting). Going n ws shown before before ((whole n, ws) ∷ t) []) (sym eo) first_going))))
 
   -- a block came out
-  module _ (mid : Option ℕ) (stack : List Waiting) (e : Waiting) (rest : List Waiting) (was : Found) (given : Going n ws shown before mid stack was) (taken : stack ≡ e ∷ rest) where
+  module _ (mid : Option ℕ) (stack : List Waiting) (e : Waiting) (rest : List Waiting) (was : Found) (given : Going n ws shown before mid stack was)
+      (taken : stack ≡ e ∷ rest) where
     g : Going n ws shown before mid (e ∷ rest) was
     g = subst (λ (t : List Waiting). Going n ws shown before mid t was) taken given
 
@@ -144,11 +151,13 @@ module _ (n : ℕ) (ws : List Window) (inside : All (λ w. is_window n w ≡ tru
       paid = λ l s.
           let less = owed_left block_of n (holds_any ws) l (e ∷ rest) rest e (IsPermutation-refl (e ∷ rest)) in
           tells_then (λ x y. y + owed block_of n (holds_any ws) l (e ∷ rest) ≤ x + reach n l.segs l.cover (holds_any ws)) (λ x y. y ≤ x + 0)
-          (λ x y. y + owed block_of n (holds_any ws) l rest ≤ x + reach n l.segs l.cover (holds_any ws)) (λ x y z a b. omega arith) before mid now (g.paid l s) reads;
+          (λ x y. y + owed block_of n (holds_any ws) l rest ≤ x + reach n l.segs l.cover (holds_any ws)) (λ x y z a b. omega arith) before mid now
+          (g.paid l s) reads;
     }
 
     -- and is one of the layer
-    gathered : (now : Option ℕ) (list : Found) → 0 < length e.1 → ((l : Lines) → shown l → IsPart l e.0 (Leaf list)) → Tells (λ x y. y ≤ x + (12 + 6 * length list)) mid now → Going n ws shown before now rest (fold (with_seg e.1) was list)
+    gathered : (now : Option ℕ) (list : Found) → 0 < length e.1 → ((l : Lines) → shown l → IsPart l e.0 (Leaf list))
+        → Tells (λ x y. y ≤ x + (12 + 6 * length list)) mid now → Going n ws shown before now rest (fold (with_seg e.1) was list)
     gathered now list some found reads = record {
       valid = λ z c. g.valid z (Contains-there e rest z c);
       kept = λ z c. g.kept z (Contains-there e rest z c);
@@ -167,19 +176,24 @@ module _ (n : ℕ) (ws : List Window) (inside : All (λ w. is_window n w ≡ tru
                 (λ is.
                 let at : Holds e.0 q = subst (λ (y : Waiting). Holds y.0 q) (sym is) held.holds in
                 let with_it : Contains e.1 w = subst (λ (y : Waiting). Contains y.1 w) (sym is) held.with_it in
-                inl (more.here z (subst (λ (u : Found). Contains u z) (sym same) (Contains-filter test es z c (t.each e.0 at))) (list_any-true (meets z.1) e.1 w with_it met)))
+                inl (more.here z (subst (λ (u : Found). Contains u z) (sym same) (Contains-filter test es z c (t.each e.0 at)))
+                (list_any-true (meets z.1) e.1 w with_it met)))
                 (λ k. inr (record { by = held.by; listed = k; holds = held.holds; with_it = held.with_it }))
                 (Contains-cons_cases e rest held.by held.listed))
                 (f.seen z c w d met q t);
           };
       paid = λ l s.
-          let less = owed_leaf block_of n (holds_any ws) l (e ∷ rest) rest e (IsPermutation-refl (e ∷ rest)) first_valid (first_reached l s) (passes some) list (found l s).0 (found l s).1 in
-          tells_then (λ x y. y + owed block_of n (holds_any ws) l (e ∷ rest) ≤ x + reach n l.segs l.cover (holds_any ws)) (λ x y. y ≤ x + (12 + 6 * length list))
-          (λ x y. y + owed block_of n (holds_any ws) l rest ≤ x + reach n l.segs l.cover (holds_any ws)) (λ x y z a b. omega arith) before mid now (g.paid l s) reads;
+          let less = owed_leaf block_of n (holds_any ws) l (e ∷ rest) rest e (IsPermutation-refl (e ∷ rest)) first_valid (first_reached l s)
+          (passes some) list (found l s).0 (found l s).1 in
+          tells_then (λ x y. y + owed block_of n (holds_any ws) l (e ∷ rest) ≤ x + reach n l.segs l.cover (holds_any ws))
+          (λ x y. y ≤ x + (12 + 6 * length list))
+          (λ x y. y + owed block_of n (holds_any ws) l rest ≤ x + reach n l.segs l.cover (holds_any ws)) (λ x y z a b. omega arith) before mid now
+          (g.paid l s) reads;
     }
 
     -- and is cut further
-    divided : (now : Option ℕ) → 0 < length e.1 → 1 < e.0.side → ((l : Lines) → shown l → IsPart l e.0 Split) → Tells (λ x y. y ≤ x + 12) mid now → Going n ws shown before now (four e.0 e.1 ++ rest) was
+    divided : (now : Option ℕ) → 0 < length e.1 → 1 < e.0.side → ((l : Lines) → shown l → IsPart l e.0 Split) → Tells (λ x y. y ≤ x + 12) mid now
+        → Going n ws shown before now (four e.0 e.1 ++ rest) was
     divided now some wide found reads =
         let b = e.0 in
         let near = e.1 in
@@ -198,7 +212,9 @@ module _ (n : ℕ) (ws : List Window) (inside : All (λ w. is_window n w ≡ tru
               let f = g.front l s in
               record {
                 reached = λ z c. ⊎_elim
-                    (λ d. let m = part z d in subst (λ (t : Waiting). is_reached l.cover t.0 ≡ true) m.2 (reached_quarter n l (lines l s) b m.0 first_valid wide (first_reached l s) (found l s) m.1))
+                    (λ d. let m = part z d in
+                    subst (λ (t : Waiting). is_reached l.cover t.0 ≡ true) m.2
+                    (reached_quarter n l (lines l s) b m.0 first_valid wide (first_reached l s) (found l s) m.1))
                     (λ d. f.reached z (Contains-there e rest z d)) (Contains-append_cases (four b near) rest z c);
                 real = f.real;
                 seen = λ z c w d met q t. ⊎_elim (λ k. inl k)
@@ -213,42 +229,60 @@ module _ (n : ℕ) (ws : List Window) (inside : All (λ w. is_window n w ≡ tru
                       holds = r.2;
                       with_it = Contains-filter (shares r.0) near w with_it (pixel_shares z.1 r.0 w q r.2 t);
                     }))
-                    (λ k. inr (record { by = held.by; listed = Contains-append_right (four b near) rest held.by k; holds = held.holds; with_it = held.with_it }))
+                    (λ k. inr (record {
+                      by = held.by;
+                      listed = Contains-append_right (four b near) rest held.by k;
+                      holds = held.holds;
+                      with_it = held.with_it;
+                    }))
                     (Contains-cons_cases e rest held.by held.listed))
                     (f.seen z c w d met q t);
               };
           paid = λ l s.
-              let less = owed_split block_of n (holds_any ws) l (e ∷ rest) rest e (IsPermutation-refl (e ∷ rest)) first_valid (first_reached l s) (passes some) (four b near) (four b near ++ rest) wide (found l s) refl (IsPermutation-refl (four b near ++ rest)) in
+              let less = owed_split block_of n (holds_any ws) l (e ∷ rest) rest e (IsPermutation-refl (e ∷ rest)) first_valid (first_reached l s)
+              (passes some) (four b near) (four b near ++ rest) wide (found l s) refl (IsPermutation-refl (four b near ++ rest)) in
               tells_then (λ x y. y + owed block_of n (holds_any ws) l (e ∷ rest) ≤ x + reach n l.segs l.cover (holds_any ws)) (λ x y. y ≤ x + 12)
-              (λ x y. y + owed block_of n (holds_any ws) l (four b near ++ rest) ≤ x + reach n l.segs l.cover (holds_any ws)) (λ x y z a b. omega arith) before mid now (g.paid l s) reads;
+              (λ x y. y + owed block_of n (holds_any ws) l (four b near ++ rest) ≤ x + reach n l.segs l.cover (holds_any ws))
+              (λ x y z a b. omega arith) before mid now (g.paid l s) reads;
         }
 
-    by_part : (now : Option ℕ) (new : List Waiting) (then : Found) (part : Option Part) → ((l : Lines) → shown l → IfSome part (IsPart l e.0)) → After e.0 e.1 part rest new was then
+    by_part : (now : Option ℕ) (new : List Waiting) (then : Found) (part : Option Part) → ((l : Lines) → shown l → IfSome part (IsPart l e.0))
+        → After e.0 e.1 part rest new was then
         → Tells (λ x y. y ≤ x + pages_of part) mid now → Going n ws shown before now new then
     by_part now new then None found after reads =
-        subst (λ (t : List Waiting). Going n ws shown before now t then) (sym after.1) (subst (Going n ws shown before now rest) (sym after.2) (skipped now after.0 reads))
+        subst (λ (t : List Waiting). Going n ws shown before now t then) (sym after.1)
+        (subst (Going n ws shown before now rest) (sym after.2) (skipped now after.0 reads))
     by_part now new then (Some (Leaf list)) found after reads =
-        subst (λ (t : List Waiting). Going n ws shown before now t then) (sym after.1) (subst (Going n ws shown before now rest) (sym after.2) (gathered now list after.0 found reads))
+        subst (λ (t : List Waiting). Going n ws shown before now t then) (sym after.1)
+        (subst (Going n ws shown before now rest) (sym after.2) (gathered now list after.0 found reads))
     by_part now new then (Some Split) found after reads =
-        subst (λ (t : List Waiting). Going n ws shown before now t then) (sym after.2) (subst (Going n ws shown before now (four e.0 e.1 ++ rest)) (sym after.3) (divided now after.0 after.1 found reads))
+        subst (λ (t : List Waiting). Going n ws shown before now t then) (sym after.2)
+        (subst (Going n ws shown before now (four e.0 e.1 ++ rest)) (sym after.3) (divided now after.0 after.1 found reads))
 
-    pub going_on : (now : Option ℕ) (new : List Waiting) (then : Found) (shown' : Lines → Type 0) → ((l : Lines) → shown l → shown' l) → IsOpened e.0 e.1 shown' rest new was then mid now → Going n ws shown before now new then
+    pub going_on : (now : Option ℕ) (new : List Waiting) (then : Found) (shown' : Lines → Type 0) → ((l : Lines) → shown l → shown' l)
+        → IsOpened e.0 e.1 shown' rest new was then mid now → Going n ws shown before now new then
     going_on now new then shown' still o = by_part now new then o.part (λ l s. o.found l (still l s)) o.after o.reads
 
-    left_by_part : (new : List Waiting) (then : Found) (part : Option Part) → After e.0 e.1 part rest new was then → left block_of new < left block_of (e ∷ rest)
+    left_by_part : (new : List Waiting) (then : Found) (part : Option Part) → After e.0 e.1 part rest new was then
+        → left block_of new < left block_of (e ∷ rest)
     left_by_part new then None after =
-        subst (λ (t : List Waiting). left block_of t < left block_of (e ∷ rest)) (sym after.1) (left_leaf block_of (e ∷ rest) rest e (IsPermutation-refl (e ∷ rest)) (side_pos n e.0 first_valid))
+        subst (λ (t : List Waiting). left block_of t < left block_of (e ∷ rest)) (sym after.1)
+        (left_leaf block_of (e ∷ rest) rest e (IsPermutation-refl (e ∷ rest)) (side_pos n e.0 first_valid))
     left_by_part new then (Some (Leaf list)) after =
-        subst (λ (t : List Waiting). left block_of t < left block_of (e ∷ rest)) (sym after.1) (left_leaf block_of (e ∷ rest) rest e (IsPermutation-refl (e ∷ rest)) (side_pos n e.0 first_valid))
+        subst (λ (t : List Waiting). left block_of t < left block_of (e ∷ rest)) (sym after.1)
+        (left_leaf block_of (e ∷ rest) rest e (IsPermutation-refl (e ∷ rest)) (side_pos n e.0 first_valid))
     left_by_part new then (Some Split) after =
         subst (λ (t : List Waiting). left block_of t < left block_of (e ∷ rest)) (sym after.2)
-        (left_split block_of (e ∷ rest) rest (four e.0 e.1 ++ rest) (four e.0 e.1) e (IsPermutation-refl (e ∷ rest)) after.1 refl (IsPermutation-refl (four e.0 e.1 ++ rest)))
+        (left_split block_of (e ∷ rest) rest (four e.0 e.1 ++ rest) (four e.0 e.1) e (IsPermutation-refl (e ∷ rest)) after.1 refl
+        (IsPermutation-refl (four e.0 e.1 ++ rest)))
 
-    pub less_left : (now : Option ℕ) (new : List Waiting) (then : Found) (shown' : Lines → Type 0) → IsOpened e.0 e.1 shown' rest new was then mid now → left block_of new < left block_of stack
+    pub less_left : (now : Option ℕ) (new : List Waiting) (then : Found) (shown' : Lines → Type 0) → IsOpened e.0 e.1 shown' rest new was
+        then mid now → left block_of new < left block_of stack
     less_left now new then shown' o = subst (λ (t : List Waiting). left block_of new < left block_of t) (sym taken) (left_by_part new then o.part o.after)
 
   -- Nothing waits.
-  at_end : (now : Option ℕ) (found : Found) → Going n ws shown before now [] found → IsStrictlySortedBy nat_cmp (keys_of found) → (l : Lines) → shown l → found ≡ filter (λ e. meets_any ws e.1) (finmap.entries l.segs)
+  at_end : (now : Option ℕ) (found : Found) → Going n ws shown before now [] found → IsStrictlySortedBy nat_cmp (keys_of found) → (l : Lines)
+      → shown l → found ≡ filter (λ e. meets_any ws e.1) (finmap.entries l.segs)
   at_end now found g order l s =
       let f = g.front l s in
       let es = finmap.entries l.segs in
@@ -264,12 +298,15 @@ module _ (n : ℕ) (ws : List Window) (inside : All (λ w. is_window n w ≡ tru
             ⊎_elim (λ k. k) (λ held. absurd (Contains-nil held.by held.listed)) (f.seen z r.0 m.0 m.1 m.2 at.0 at.1),
       ))
 
-  pub going_end : (now : Option ℕ) (stack : List Waiting) (found list : Found) → Going n ws shown before now stack found → stack ≡ [] → list ≡ found → IsStrictlySortedBy nat_cmp (keys_of found) → (l : Lines) → shown l
+  pub going_end : (now : Option ℕ) (stack : List Waiting) (found list : Found) → Going n ws shown before now stack found → stack ≡ [] → list ≡ found
+      → IsStrictlySortedBy nat_cmp (keys_of found) → (l : Lines) → shown l
       → list ≡ filter (λ e. meets_any ws e.1) (finmap.entries l.segs)
   going_end now stack found list g e same order l s =
       subst (λ (t : Found). t ≡ filter (λ e. meets_any ws e.1) (finmap.entries l.segs)) (sym same)
       (at_end now found (subst (λ (t : List Waiting). Going n ws shown before now t found) e g) order l s)
 
-  pub going_reads : (now : Option ℕ) (stack : List Waiting) (found : Found) → Going n ws shown before now stack found → (l : Lines) → shown l → Tells (λ old new. new ≤ old + reach n l.segs l.cover (holds_any ws)) before now
+  pub going_reads : (now : Option ℕ) (stack : List Waiting) (found : Found) → Going n ws shown before now stack found → (l : Lines) → shown l
+      → Tells (λ old new. new ≤ old + reach n l.segs l.cover (holds_any ws)) before now
   going_reads now stack found g l s =
-      tells_weaker (λ x y. y + owed block_of n (holds_any ws) l stack ≤ x + reach n l.segs l.cover (holds_any ws)) (λ x y. y ≤ x + reach n l.segs l.cover (holds_any ws)) (λ x y a. omega arith) before now (g.paid l s)
+      tells_weaker (λ x y. y + owed block_of n (holds_any ws) l stack ≤ x + reach n l.segs l.cover (holds_any ws))
+      (λ x y. y ≤ x + reach n l.segs l.cover (holds_any ws)) (λ x y a. omega arith) before now (g.paid l s)

@@ -1,5 +1,6 @@
 -- Lists of segments by id, and what passes a test in them.
-use Rattle.std.proofs.Common.{◌≡◌, ℕ, ◌≤◌, Bool, true, false, cond, ◌&&◌, ◌||◌, ◌↔◌, ⊎_elim, List, [], ◌∷◌, filter, sum_by, Contains, Ordering, Less, nat_cmp, refl, sym, ◌∙◌, ap₂, subst, arith}
+use Rattle.std.proofs.Common.{◌≡◌, ℕ, ◌≤◌, Bool, true, false, cond, ◌&&◌, ◌||◌, ◌↔◌, ⊎_elim, List, [], ◌∷◌, filter, sum_by, Contains, Ordering, Less, nat_cmp}
+use Rattle.std.proofs.Common.{refl, sym, ◌∙◌, ap₂, subst, arith}
 use Rattle.std.specs.List.{AllByRecursion, list_any}
 use Rattle.std.specs.List.Sorted.{IsStrictlySortedBy}
 use Rattle.std.specs.Map.{keys_of}
@@ -45,7 +46,8 @@ module _ (segs : SegMap) where
   one_each a b c d e = same_entry (finmap.entries segs) (rises_if_sorted (finmap.entries segs) (finmap.entries_sorted segs)) a b c d e
 
   -- a list by id of those that pass the test
-  pub passing : (p : ℕ × Seg → Bool) (found : List (ℕ × Seg)) → IsStrictlySortedBy nat_cmp (keys_of found) → ((z : ℕ × Seg) → Contains found z ↔ Contains (filter p (finmap.entries segs)) z) → found ≡ filter p (finmap.entries segs)
+  pub passing : (p : ℕ × Seg → Bool) (found : List (ℕ × Seg)) → IsStrictlySortedBy nat_cmp (keys_of found)
+      → ((z : ℕ × Seg) → Contains found z ↔ Contains (filter p (finmap.entries segs)) z) → found ≡ filter p (finmap.entries segs)
   passing p found h same =
       same_rising by_id by_id_total found (filter p (finmap.entries segs)) (keys_rise found h)
       (Rises-filter by_id p (finmap.entries segs) (apart_rise (finmap.entries segs) (rises_if_sorted (finmap.entries segs) (finmap.entries_sorted segs)))) same
@@ -74,7 +76,8 @@ module _ {X : Type 0} (v : X → ℕ) (p q : X → Bool) where
   filter_le (x ∷ xs) h = kept_step x xs (p x) (q x) refl refl (h x (Contains-here x xs)) (filter_le xs (λ z c. h z (Contains-there x xs z c)))
 
 -- a test that more blocks pass
-pub reach_more : (n : ℕ) (segs : SegMap) (cover : BlockSet) (p q : Block → Bool) → ((b : Block) → IsBlock n b → p b ≡ true → q b ≡ true) → reach n segs cover p ≤ reach n segs cover q
+pub reach_more : (n : ℕ) (segs : SegMap) (cover : BlockSet) (p q : Block → Bool) → ((b : Block) → IsBlock n b → p b ≡ true → q b ≡ true)
+    → reach n segs cover p ≤ reach n segs cover q
 unfolding reach
 reach_more n segs cover p q h =
     filter_le (price segs cover) (λ b. p b && is_reached cover b) (λ b. q b && is_reached cover b) (blocks n)

@@ -1,5 +1,6 @@
 -- What is found after some segments were gathered.
-use Rattle.std.proofs.Common.{◌≡◌, ℕ, true, false, cond, ◌⊎◌, inl, inr, ⊎_elim, List, [], ◌∷◌, fold, Contains, Ordering, Less, Equal, Greater, nat_cmp, refl, sym, ◌∙◌, subst, ap}
+use Rattle.std.proofs.Common.{◌≡◌, ℕ, true, false, cond, ◌⊎◌, inl, inr, ⊎_elim, List, [], ◌∷◌, fold, Contains, Ordering, Less, Equal, Greater, nat_cmp, refl}
+use Rattle.std.proofs.Common.{sym, ◌∙◌, subst, ap}
 use Rattle.std.specs.Ordering.{match_ordering}
 use Rattle.std.specs.FinMap as finmap
 use Rattle.std.specs.BTreeMap.{insert_entry}
@@ -19,7 +20,8 @@ placed o k e es more = match_ordering o (k ∷ e ∷ es) ((e.0, k.1) ∷ es) (e 
 same_id : (k e : ℕ × Seg) → nat_cmp k.0 e.0 ≡ Equal → (e.0, k.1) ≡ k
 same_id k e is = ap (λ i. (i, k.1)) (sym (finmap.nat_cmp-IsAntisymmetric k.0 e.0 is))
 
-from_by : (o : Ordering) (k e : ℕ × Seg) (es more : Found) → nat_cmp k.0 e.0 ≡ o → ((z : ℕ × Seg) → Contains more z → (k ≡ z) ⊎ Contains es z) → (z : ℕ × Seg) → Contains (placed o k e es more) z → (k ≡ z) ⊎ Contains (e ∷ es) z
+from_by : (o : Ordering) (k e : ℕ × Seg) (es more : Found) → nat_cmp k.0 e.0 ≡ o → ((z : ℕ × Seg) → Contains more z → (k ≡ z) ⊎ Contains es z)
+    → (z : ℕ × Seg) → Contains (placed o k e es more) z → (k ≡ z) ⊎ Contains (e ∷ es) z
 from_by Less k e es more is h z c = Contains-cons_cases k (e ∷ es) z c
 from_by Equal k e es more is h z c =
     ⊎_elim (λ here. inl (sym (same_id k e is) ∙ here)) (λ d. inr (Contains-there e es z d)) (Contains-cons_cases (e.0, k.1) es z c)
@@ -40,11 +42,13 @@ put_here : (k : ℕ × Seg) (es : Found) → Contains (insert_entry nat_cmp es k
 put_here k [] = Contains-here k []
 put_here k (e ∷ es) = here_by (nat_cmp k.0 e.0) k e es (insert_entry nat_cmp es k.0 k.1) refl (put_here k es)
 
-there_by : (o : Ordering) (k e : ℕ × Seg) (es more : Found) → nat_cmp k.0 e.0 ≡ o → (z : ℕ × Seg) → (k.0 ≡ z.0 → k ≡ z) → (Contains es z → Contains more z) → Contains (e ∷ es) z → Contains (placed o k e es more) z
+there_by : (o : Ordering) (k e : ℕ × Seg) (es more : Found) → nat_cmp k.0 e.0 ≡ o → (z : ℕ × Seg) → (k.0 ≡ z.0 → k ≡ z)
+    → (Contains es z → Contains more z) → Contains (e ∷ es) z → Contains (placed o k e es more) z
 there_by Less k e es more is z one h c = Contains-there k (e ∷ es) z c
 there_by Equal k e es more is z one h c =
     ⊎_elim
-    (λ here. subst (Contains (placed Equal k e es more)) (same_id k e is ∙ one (finmap.nat_cmp-IsAntisymmetric k.0 e.0 is ∙ ap (λ (y : ℕ × Seg). y.0) here)) (Contains-here (e.0, k.1) es))
+    (λ here. subst (Contains (placed Equal k e es more))
+    (same_id k e is ∙ one (finmap.nat_cmp-IsAntisymmetric k.0 e.0 is ∙ ap (λ (y : ℕ × Seg). y.0) here)) (Contains-here (e.0, k.1) es))
     (λ d. Contains-there (e.0, k.1) es z d) (Contains-cons_cases e es z c)
 there_by Greater k e es more is z one h c =
     ⊎_elim (λ here. subst (Contains (e ∷ more)) here (Contains-here e more)) (λ d. Contains-there e more z (h d)) (Contains-cons_cases e es z c)
@@ -65,29 +69,40 @@ module _ (near : List Window) (all : Found) (one : (a b : ℕ × Seg) → Contai
   step was x listed inside =
       elim (meets_any near x.1) as (λ t. meets_any near x.1 ≡ t → Gathers near was (x ∷ []) (cond t (insert_entry nat_cmp was x.0 x.1) was)) [
         | true ↦ λ t. record {
-          real = λ z c. ⊎_elim (λ is. inr (subst (Contains (x ∷ [])) is (Contains-here x []), subst (λ (y : ℕ × Seg). meets_any near y.1 ≡ true) is t)) (λ d. inl d) (put_from x was z c);
-          here = λ z c m. ⊎_elim (λ is. subst (Contains (insert_entry nat_cmp was x.0 x.1)) is (put_here x was)) (λ d. absurd (Contains-nil z d)) (Contains-cons_cases x [] z c);
+          real =
+              λ z c. ⊎_elim (λ is. inr (subst (Contains (x ∷ [])) is (Contains-here x []), subst (λ (y : ℕ × Seg). meets_any near y.1 ≡ true) is t))
+              (λ d. inl d) (put_from x was z c);
+          here = λ z c m. ⊎_elim (λ is. subst (Contains (insert_entry nat_cmp was x.0 x.1)) is (put_here x was)) (λ d. absurd (Contains-nil z d))
+              (Contains-cons_cases x [] z c);
           kept = λ z c. put_there x was z (one x z listed (inside z c)) c;
         }
         | false ↦ λ t. record {
           real = λ z c. inl c;
-          here = λ z c m. ⊎_elim (λ is. absurd (let no : true ≡ false = sym m ∙ subst (λ (y : ℕ × Seg). meets_any near y.1 ≡ false) is t in cc)) (λ d. absurd (Contains-nil z d)) (Contains-cons_cases x [] z c);
+          here = λ z c m. ⊎_elim (λ is. absurd (let no : true ≡ false = sym m ∙ subst (λ (y : ℕ × Seg). meets_any near y.1 ≡ false) is t in cc))
+              (λ d. absurd (Contains-nil z d)) (Contains-cons_cases x [] z c);
           kept = λ z c. c;
         }
       ] refl
 
-  pub gathers : (was seen : Found) → ((z : ℕ × Seg) → Contains seen z → Contains all z) → ((z : ℕ × Seg) → Contains was z → Contains all z) → Gathers near was seen (fold (with_seg near) was seen)
+  pub gathers : (was seen : Found) → ((z : ℕ × Seg) → Contains seen z → Contains all z) → ((z : ℕ × Seg) → Contains was z → Contains all z)
+      → Gathers near was seen (fold (with_seg near) was seen)
   gathers was [] listed inside = record { real = λ z c. inl c; here = λ z c m. absurd (Contains-nil z c); kept = λ z c. c }
   gathers was (x ∷ xs) listed inside =
       let s = step was x (listed x (Contains-here x xs)) inside in
       let within : (z : ℕ × Seg) → Contains (with_seg near was x) z → Contains all z = λ z c.
-      ⊎_elim (λ d. inside z d) (λ w. ⊎_elim (λ is. subst (Contains all) is (listed x (Contains-here x xs))) (λ d. absurd (Contains-nil z d)) (Contains-cons_cases x [] z w.0)) (s.real z c) in
+      ⊎_elim (λ d. inside z d) (λ w. ⊎_elim (λ is. subst (Contains all) is (listed x (Contains-here x xs))) (λ d. absurd (Contains-nil z d))
+      (Contains-cons_cases x [] z w.0)) (s.real z c) in
       let r = gathers (with_seg near was x) xs (λ z c. listed z (Contains-there x xs z c)) within in
       record {
         real = λ z c. ⊎_elim
             (λ d. ⊎_elim (λ f. inl f)
-            (λ w. inr (⊎_elim (λ is. subst (Contains (x ∷ xs)) is (Contains-here x xs)) (λ f. absurd (Contains-nil z f)) (Contains-cons_cases x [] z w.0), w.1)) (s.real z d))
+            (λ w. inr (
+              ⊎_elim (λ is. subst (Contains (x ∷ xs)) is (Contains-here x xs)) (λ f. absurd (Contains-nil z f))
+                  (Contains-cons_cases x [] z w.0),
+              w.1,
+            )) (s.real z d))
             (λ w. inr (Contains-there x xs z w.0, w.1)) (r.real z c);
-        here = λ z c m. ⊎_elim (λ is. r.kept z (s.here z (subst (Contains (x ∷ [])) is (Contains-here x [])) m)) (λ d. r.here z d m) (Contains-cons_cases x xs z c);
+        here = λ z c m. ⊎_elim (λ is. r.kept z (s.here z (subst (Contains (x ∷ [])) is (Contains-here x [])) m)) (λ d. r.here z d m)
+            (Contains-cons_cases x xs z c);
         kept = λ z c. r.kept z (s.kept z c);
       }

@@ -1,5 +1,6 @@
 -- The squares of the coloured leaves hold the coloured pixels.
-use Rattle.std.proofs.Common.{◌≡◌, ℕ, ◌+◌, ◌≤◌, ◌^◌, true, ◌&&◌, not, nat_lt, eqb, max, List, Option, filter, get_or, All, Contains, sym, ◌∙◌, ap, subst, arith, le-leb, ltb-true}
+use Rattle.std.proofs.Common.{◌≡◌, ℕ, ◌+◌, ◌≤◌, ◌^◌, true, ◌&&◌, not, nat_lt, eqb, max, List, Option, filter, get_or, All, Contains, sym, ◌∙◌, ap, subst, arith}
+use Rattle.std.proofs.Common.{le-leb, ltb-true}
 use Rattle.std.specs.Cmp.{both_ways}
 use Rattle.std.proofs.lemmas.Bool.{and_parts, and_from}
 use Rattle.std.proofs.lemmas.List.{get_or_default}
@@ -59,12 +60,14 @@ module _ (n : ℕ) (g : Grid) where
       let some = side_pos n b h in
       let w = Within-whole n b h in
       let r = w.right in let d = w.bottom in
-      four_true _ _ _ _ (le-leb 1 b.side (omega arith)) (le-leb 1 b.side (omega arith)) (le-leb (b.x + b.side) (2 ^ n) (omega arith)) (le-leb (b.y + b.side) (2 ^ n) (omega arith))
+      four_true _ _ _ _ (le-leb 1 b.side (omega arith)) (le-leb 1 b.side (omega arith)) (le-leb (b.x + b.side) (2 ^ n) (omega arith))
+      (le-leb (b.y + b.side) (2 ^ n) (omega arith))
 
   pub all_inside : (ws : List Window) → ws ≡ coloured_windows (leaves_by_code n g) → All (λ w. is_window n w ≡ true) ws
   all_inside ws e =
       subst (All (λ w. is_window n w ≡ true)) (sym e)
-      (All-from (λ w. is_window n w ≡ true) leaf_windows (λ w c. let k = coloured_from w c in subst (λ (z : Window). is_window n z ≡ true) k.is (inside_by k.block k.valid)))
+      (All-from (λ w. is_window n w ≡ true) leaf_windows (λ w c. let k =
+      coloured_from w c in subst (λ (z : Window). is_window n z ≡ true) k.is (inside_by k.block k.valid)))
 
   to_over : (s : Seg) → meets_any leaf_windows s ≡ true → is_over n g s ≡ true
   to_over s e =
@@ -79,7 +82,8 @@ module _ (n : ℕ) (g : Grid) where
       let inside = held_in n b q k.valid held in
       let one : Block = record { x = q.x; y = q.y; side = 1 } in
       let here : Holds one q = record { left = omega arith; right = omega arith; top = omega arith; bottom = omega arith } in
-      list_any-true (λ p. is_coloured_at n g p && meets s (record { x = p.x; y = p.y; w = 1; h = 1 })) (pixels n) q (Contains-pixels n q inside.0 inside.1) (and_from _ _ (k.each q held) (at.1.each one here))
+      list_any-true (λ p. is_coloured_at n g p && meets s (record { x = p.x; y = p.y; w = 1; h = 1 })) (pixels n) q
+      (Contains-pixels n q inside.0 inside.1) (and_from _ _ (k.each q held) (at.1.each one here))
 
   from_over : n ≤ 12 → (s : Seg) → is_over n g s ≡ true → meets_any leaf_windows s ≡ true
   from_over le s e =
@@ -102,13 +106,16 @@ module _ (n : ℕ) (g : Grid) where
       let qy = inside.1 in
       let held = held_code n b q block le (omega arith) (omega arith) (omega arith) (omega arith) w.2 w.3 in
       let coloured : is_coloured w.0 ≡ true = ap (λ c. not (eqb c 0)) (sym (leaf.colour.each q held)) ∙ t.0 in
-      let member = Contains-map (λ (z : Block × ℕ). square z.0) (filter is_coloured (leaves_by_code n g)) w.0 (Contains-filter is_coloured (leaves_by_code n g) w.0 w.1 coloured) in
+      let member = Contains-map (λ (z : Block × ℕ). square z.0) (filter is_coloured (leaves_by_code n g)) w.0
+      (Contains-filter is_coloured (leaves_by_code n g) w.0 w.1 coloured) in
       let at = touched s unit (omega arith) (omega arith) t.1 in
       let al = at.1.left in let ar = at.1.right in let au = at.1.top in let ad = at.1.bottom in
       let hl = held.left in let hr = held.right in let hu = held.top in let hd = held.bottom in
-      list_any-true (meets s) leaf_windows (square b) member (at.1.each b (record { left = omega arith; right = omega arith; top = omega arith; bottom = omega arith }))
+      list_any-true (meets s) leaf_windows (square b) member
+      (at.1.each b (record { left = omega arith; right = omega arith; top = omega arith; bottom = omega arith }))
 
-  pub over_found : n ≤ 12 → (ws : List Window) → ws ≡ coloured_windows (leaves_by_code n g) → (es list : List (ℕ × Seg)) → list ≡ filter (λ e. meets_any ws e.1) es → list ≡ filter (λ e. is_over n g e.1) es
+  pub over_found : n ≤ 12 → (ws : List Window) → ws ≡ coloured_windows (leaves_by_code n g) → (es list : List (ℕ × Seg))
+      → list ≡ filter (λ e. meets_any ws e.1) es → list ≡ filter (λ e. is_over n g e.1) es
   over_found le ws e es list h =
       h ∙ filter_alike (λ z. meets_any ws z.1) (λ z. is_over n g z.1) es
       (λ z. ap (λ (t : List Window). meets_any t z.1) e ∙ both_ways (meets_any leaf_windows z.1) (is_over n g z.1) (to_over z.1) (from_over le z.1))
@@ -119,7 +126,8 @@ module _ (n : ℕ) (g : Grid) where
       let m = list_any-from (shares b) leaf_windows e in
       let k = coloured_from m.0 m.1 in
       let c = k.block in
-      let p4 = four_parts (nat_lt b.x (c.x + c.side)) (nat_lt c.x (b.x + b.side)) (nat_lt b.y (c.y + c.side)) (nat_lt c.y (b.y + b.side)) (subst (λ (z : Window). shares b z ≡ true) (sym k.is) m.2) in
+      let p4 = four_parts (nat_lt b.x (c.x + c.side)) (nat_lt c.x (b.x + b.side)) (nat_lt b.y (c.y + c.side)) (nat_lt c.y (b.y + b.side))
+      (subst (λ (z : Window). shares b z ≡ true) (sym k.is) m.2) in
       let l = ltb-true b.x (c.x + c.side) p4.0 in
       let r = ltb-true c.x (b.x + b.side) p4.1 in
       let t = ltb-true b.y (c.y + c.side) p4.2 in
@@ -131,8 +139,11 @@ module _ (n : ℕ) (g : Grid) where
       let hc : Holds c p = record { left = omega arith; right = omega arith; top = omega arith; bottom = omega arith } in
       list_any-true (is_coloured_at n g) (pixels_of b) p (Contains-pixels_of b p hb) (k.each p hc)
 
-  pub over_reads : (ws : List Window) → ws ≡ coloured_windows (leaves_by_code n g) → (l : Lines) (before now : Option ℕ) → Tells (λ old new. new ≤ old + reach n l.segs l.cover (holds_any ws)) before now
+  pub over_reads : (ws : List Window) → ws ≡ coloured_windows (leaves_by_code n g) → (l : Lines) (before now : Option ℕ)
+      → Tells (λ old new. new ≤ old + reach n l.segs l.cover (holds_any ws)) before now
       → Tells (λ old new. new ≤ old + reach n l.segs l.cover (has_coloured n g)) before now
   over_reads ws e l before now h =
-      let more = reach_more n l.segs l.cover (holds_any ws) (has_coloured n g) (λ b i k. shares_coloured b i (subst (λ (t : List Window). holds_any t b ≡ true) e k)) in
-      tells_weaker (λ x y. y ≤ x + reach n l.segs l.cover (holds_any ws)) (λ x y. y ≤ x + reach n l.segs l.cover (has_coloured n g)) (λ x y a. omega arith) before now h
+      let more = reach_more n l.segs l.cover (holds_any ws) (has_coloured n g)
+      (λ b i k. shares_coloured b i (subst (λ (t : List Window). holds_any t b ≡ true) e k)) in
+      tells_weaker (λ x y. y ≤ x + reach n l.segs l.cover (holds_any ws)) (λ x y. y ≤ x + reach n l.segs l.cover (has_coloured n g))
+      (λ x y a. omega arith) before now h

@@ -36,7 +36,8 @@ shares_true b w l r t d = four_true _ _ _ _ (lt-ltb _ _ l) (lt-ltb _ _ r) (lt-lt
 
 -- the whole square has all windows
 pub whole_shares : (n : ℕ) (w : Window) → IsInside n w → shares (whole n) w ≡ true
-whole_shares n w i = let a = i.wide in let b = i.high in let c = i.right in let d = i.bottom in shares_true (whole n) w (omega arith) (omega arith) (omega arith) (omega arith)
+whole_shares n w i = let a = i.wide in let b = i.high in let c = i.right in let d =
+    i.bottom in shares_true (whole n) w (omega arith) (omega arith) (omega arith) (omega arith)
 
 -- a block with a pixel of the window
 pub pixel_shares : (s : Seg) (b : Block) (w : Window) (q : Pixel) → Holds b q → IsTouched s w q → shares b w ≡ true
@@ -53,4 +54,5 @@ shares_touches b w h =
     let r = ltb-true w.x (b.x + b.side) p.1 in
     let t = ltb-true b.y (w.y + w.h) p.2 in
     let d = ltb-true w.y (b.y + b.side) p.3 in
-    four_true _ _ _ _ (le-leb b.x (w.x + w.w) (omega arith)) (le-leb w.x (b.x + b.side) (omega arith)) (le-leb b.y (w.y + w.h) (omega arith)) (le-leb w.y (b.y + b.side) (omega arith))
+    four_true _ _ _ _ (le-leb b.x (w.x + w.w) (omega arith)) (le-leb w.x (b.x + b.side) (omega arith)) (le-leb b.y (w.y + w.h) (omega arith))
+    (le-leb w.y (b.y + b.side) (omega arith))

@@ -26,7 +26,15 @@ record IsStep (a b low n : ℕ) (t : Fraction) (at : ℕ) : Type 0 where
   below : Below a b (at + 1) t
 
 step_at : (a b low k : ℕ) (t : Fraction) → Above a b low t → Below a b (low + suc k) t → (at : ℕ) × IsStep a b low (suc k) t at
-step_at a b low zero t above below = (low, record { least = omega arith; most = omega arith; above = above; below = subst (λ c. Below a b c t) (let e : low + 1 ≡ low + 1 = omega arith in e) below })
+step_at a b low zero t above below = (
+  low,
+  record {
+    least = omega arith;
+    most = omega arith;
+    above = above;
+    below = subst (λ c. Below a b c t) (let e : low + 1 ≡ low + 1 = omega arith in e) below;
+  },
+)
 step_at a b low (suc k) t above below =
     ⊎_elim
     (λ lt.

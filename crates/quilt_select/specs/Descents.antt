@@ -41,7 +41,8 @@ After b near (Some Split) old new was now = (0 < length near) × (1 < b.side) ×
 After b near (Some (Leaf list)) old new was now = (0 < length near) × (new ≡ old) × (now ≡ fold (with_seg near) was list)
 
 -- a block came out: what it was found to be, where the layer shows its lines, and what it cost
-pub record IsOpened (b : Block) (near : List Window) (shown : Lines → Type 0) (old new : List Waiting) (was now : List (ℕ × Seg)) (reads_old reads_new : Option ℕ) : Type 0 where
+pub record IsOpened (b : Block) (near : List Window) (shown : Lines → Type 0) (old new : List Waiting) (was now : List (ℕ × Seg))
+    (reads_old reads_new : Option ℕ) : Type 0 where
   pub part : Option Part
   pub found : (l : Lines) → shown l → IfSome part (IsPart l b)
   pub after : After b near part old new was now

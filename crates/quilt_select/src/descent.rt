@@ -102,7 +102,8 @@ fn open<S: PageStore, B: SegBlocks<S>>(
     requires low { B.level_of blocks.now ≤ 12 }
     requires block { IsBlock (B.level_of blocks.now) b }
     requires reached { (l : Lines) → B.shows blocks.now store.old l → is_reached l.cover b ≡ true }
-    ensures opened { OnOk result (IsOpened b near.now (B.shows blocks.now store.old) stack.old stack.new found.old.entries found.new.entries (S.reads store.old) (S.reads store.new)) }
+    ensures opened { OnOk result
+        (IsOpened b near.now (B.shows blocks.now store.old) stack.old stack.new found.old.entries found.new.entries (S.reads store.old) (S.reads store.new)) }
     ensures sound { IfErr result (λ e. (l : Lines) → B.shows blocks.now store.old l → IsSound e) }
     ensures cause { HasStopCause (S.faults store.old) (S.faults store.new) result }
     ensures size { S.size store.new ≡ S.size store.old }
@@ -149,8 +150,10 @@ pub fn select<S: PageStore, B: SegBlocks<S>>(
 ) -> Result<SegList, Stop>
     requires { All (λ w. is_window (B.level_of blocks.now) w ≡ true) windows.items }
     ensures level { B.level_of blocks.now ≤ 12 }
-    ensures selected { IfOk result (λ list. (l : Lines) → B.shows blocks.now store.old l → list ≡ filter (λ e. meets_any_of windows.items e.1) (finmap.entries l.segs)) }
-    ensures reads { IfOk result (λ _. (l : Lines) → B.shows blocks.now store.old l → Tells (λ old new. new ≤ old + reach (B.level_of blocks.now) l.segs l.cover (holds_any windows.items)) (S.reads store.old) (S.reads store.new)) }
+    ensures selected { IfOk result (λ list. (l : Lines) → B.shows blocks.now store.old l
+        → list ≡ filter (λ e. meets_any_of windows.items e.1) (finmap.entries l.segs)) }
+    ensures reads { IfOk result (λ _. (l : Lines) → B.shows blocks.now store.old l
+        → Tells (λ old new. new ≤ old + reach (B.level_of blocks.now) l.segs l.cover (holds_any windows.items)) (S.reads store.old) (S.reads store.new)) }
     ensures sound { IfErr result (λ e. (l : Lines) → B.shows blocks.now store.old l → IsSound e) }
     ensures cause { HasStopCause (S.faults store.old) (S.faults store.new) result }
     ensures size { S.size store.new ≡ S.size store.old }

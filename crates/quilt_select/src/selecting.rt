@@ -29,7 +29,8 @@ pub fn cross<S: PageStore, B: SegBlocks<S>>(
 ) -> Result<SegList, Stop>
     requires { is_window (B.level_of blocks.now) w ≡ true }
     ensures cross { IfOk result (λ list. (l : Lines) → B.shows blocks.now store.old l → list ≡ filter (λ e. meets e.1 w) (finmap.entries l.segs)) }
-    ensures reads { IfOk result (λ _. (l : Lines) → B.shows blocks.now store.old l → Tells (λ old new. new ≤ old + reach (B.level_of blocks.now) l.segs l.cover (is_touching w)) (S.reads store.old) (S.reads store.new)) }
+    ensures reads { IfOk result (λ _. (l : Lines) → B.shows blocks.now store.old l
+        → Tells (λ old new. new ≤ old + reach (B.level_of blocks.now) l.segs l.cover (is_touching w)) (S.reads store.old) (S.reads store.new)) }
     ensures sound { IfErr result (λ e. (l : Lines) → B.shows blocks.now store.old l → IsSound e) }
     ensures cause { HasStopCause (S.faults store.old) (S.faults store.new) result }
     ensures size { S.size store.new ≡ S.size store.old }
@@ -56,7 +57,8 @@ pub fn clipped<S: PageStore, B: SegBlocks<S>>(
 ) -> Result<ClipList, Stop>
     requires { is_window (B.level_of blocks.now) w ≡ true }
     ensures clipped { IfOk result (λ clips. (l : Lines) → B.shows blocks.now store.old l → clips ≡ clips_of_list w (finmap.entries l.segs)) }
-    ensures reads { IfOk result (λ _. (l : Lines) → B.shows blocks.now store.old l → Tells (λ old new. new ≤ old + reach (B.level_of blocks.now) l.segs l.cover (is_touching w)) (S.reads store.old) (S.reads store.new)) }
+    ensures reads { IfOk result (λ _. (l : Lines) → B.shows blocks.now store.old l
+        → Tells (λ old new. new ≤ old + reach (B.level_of blocks.now) l.segs l.cover (is_touching w)) (S.reads store.old) (S.reads store.new)) }
     ensures sound { IfErr result (λ e. (l : Lines) → B.shows blocks.now store.old l → IsSound e) }
     ensures cause { HasStopCause (S.faults store.old) (S.faults store.new) result }
     ensures size { S.size store.new ≡ S.size store.old }
@@ -103,8 +105,11 @@ pub fn over<S: PageStore, B: SegBlocks<S>>(
     list: &LeafList,
 ) -> Result<SegList, Stop>
     requires { list.now.level ≡ B.level_of blocks.now }
-    ensures over { IfOk result (λ found. (l : Lines) → B.shows blocks.now store.old l → found ≡ filter (λ e. is_over list.now.level list.now.grid e.1) (finmap.entries l.segs)) }
-    ensures reads { IfOk result (λ _. (l : Lines) → B.shows blocks.now store.old l → Tells (λ old new. new ≤ old + reach list.now.level l.segs l.cover (has_coloured list.now.level list.now.grid)) (S.reads store.old) (S.reads store.new)) }
+    ensures over { IfOk result (λ found. (l : Lines) → B.shows blocks.now store.old l
+        → found ≡ filter (λ e. is_over list.now.level list.now.grid e.1) (finmap.entries l.segs)) }
+    ensures reads { IfOk result (λ _. (l : Lines) → B.shows blocks.now store.old l
+        → Tells (λ old new. new ≤ old + reach list.now.level l.segs l.cover (has_coloured list.now.level list.now.grid)) (S.reads store.old)
+        (S.reads store.new)) }
     ensures sound { IfErr result (λ e. (l : Lines) → B.shows blocks.now store.old l → IsSound e) }
     ensures cause { HasStopCause (S.faults store.old) (S.faults store.new) result }
     ensures size { S.size store.new ≡ S.size store.old }

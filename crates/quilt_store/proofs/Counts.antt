@@ -1,5 +1,6 @@
 -- How many of the pages are free.
-use Rattle.std.proofs.Common.{◌≡◌, ℕ, zero, suc, ◌+◌, ◌-◌, ◌<◌, ◌≤◌, Bool, true, false, cond, List, [], ◌∷◌, ◌++◌, Some, None, IsSome, length, get_or, set, refl, sym, ◌∙◌, ap, subst, append_assoc, length-append, length-set, arith, nat_lt, replicate, zero-add, one-add, ◌⊎◌, inl, inr}
+use Rattle.std.proofs.Common.{◌≡◌, ℕ, zero, suc, ◌+◌, ◌-◌, ◌<◌, ◌≤◌, Bool, true, false, cond, List, [], ◌∷◌, ◌++◌, Some, None, IsSome, length, get_or, set}
+use Rattle.std.proofs.Common.{refl, sym, ◌∙◌, ap, subst, append_assoc, length-append, length-set, arith, nat_lt, replicate, zero-add, one-add, ◌⊎◌, inl, inr}
 use Rattle.std.specs.Prelude.{filter, position}
 use Rattle.std.specs.List.{range_with_len, position_or_len}
 use Rattle.std.proofs.Math.Seq.{get_or-append_seam}
@@ -32,8 +33,10 @@ count_behind pre (x ∷ xs) k e =
     let here : is_free (pre ++ x ∷ xs) k ≡ x = ap (λ m. get_or (pre ++ x ∷ xs) m false) e ∙ get_or-append_seam pre x xs false in
     let next : k + 1 ≡ length (pre ++ x ∷ []) = omega (arith, e, length-append pre (x ∷ [])) in
     let rest : length (filter (is_free (pre ++ x ∷ xs)) (range_with_len (k + 1) (length xs))) ≡ count xs =
-    ap (λ l. length (filter (is_free l) (range_with_len (k + 1) (length xs)))) (sym (append_assoc pre (x ∷ []) xs)) ∙ count_behind (pre ++ x ∷ []) xs (k + 1) next in
-    ap (λ b. length (cond b (k ∷ filter (is_free (pre ++ x ∷ xs)) (range_with_len (k + 1) (length xs))) (filter (is_free (pre ++ x ∷ xs)) (range_with_len (k + 1) (length xs))))) here
+    ap (λ l. length (filter (is_free l) (range_with_len (k + 1) (length xs)))) (sym (append_assoc pre (x ∷ []) xs))
+    ∙ count_behind (pre ++ x ∷ []) xs (k + 1) next in
+    ap (λ b. length (cond b (k ∷ filter (is_free (pre ++ x ∷ xs)) (range_with_len (k + 1) (length xs)))
+    (filter (is_free (pre ++ x ∷ xs)) (range_with_len (k + 1) (length xs))))) here
     ∙ (by_case x (filter (is_free (pre ++ x ∷ xs)) (range_with_len (k + 1) (length xs))) (count xs) rest ∙ sym (count_cons x xs))
   where
     by_case : (x : Bool) (l : List ℕ) (n : ℕ) → length l ≡ n → length (cond x (k ∷ l) l) ≡ cond x 1 0 + n
@@ -66,7 +69,8 @@ lt_test : (m n : ℕ) → m < n → nat_lt m n ≡ true
 lt_test m n h = grind (arith, nat_tests)
 
 -- a page that is free is found
-pub found : (free : List Bool) (size : ℕ) → AreFromOne free size → length free ≡ size → 1 ≤ size → 0 < count_free (is_free free) size → IsSome (position (λ b. b) free)
+pub found : (free : List Bool) (size : ℕ) → AreFromOne free size → length free ≡ size → 1 ≤ size → 0 < count_free (is_free free) size
+    → IsSome (position (λ b. b) free)
 found free size f e some h =
     let many : 0 < count free = subst (λ n. 0 < n) (count_of_free free size f e some) h in
     let at = position_or_len (λ b. b) free in
@@ -95,7 +99,8 @@ count_taken (b ∷ free) (suc i) h =
     omega (arith, count_cons b free, count_cons b (set free i false))
 
 -- it is no longer free
-pub taken : (free : List Bool) (size i n : ℕ) → AreFromOne free size → is_free free i ≡ true → n ≡ count free → (AreFromOne (set free i false) size) × (n - 1 ≡ count (set free i false))
+pub taken : (free : List Bool) (size i n : ℕ) → AreFromOne free size → is_free free i ≡ true → n ≡ count free → (AreFromOne (set free i false) size)
+    × (n - 1 ≡ count (set free i false))
 taken free size i n f h e =
     let one = count_taken free i h in
     ((λ page k. f page (still_free free i page k)), omega arith)
@@ -183,11 +188,13 @@ one_counted (suc n) c b e h =
     let one : cond {A = ℕ} b 1 0 ≡ 1 = ap (λ d. cond {A = ℕ} d 1 0) (e ∙ lt_test 0 (suc n) some) in
     omega arith
 
-pub one_more : (pages : List (List ℕ)) (free : List Bool) (n : ℕ) (b : Bool) → b ≡ nat_lt 0 n → AreFresh pages free n → AreFresh (pages ++ replicate 4096 0 ∷ []) (free ++ b ∷ []) (n + 1)
+pub one_more : (pages : List (List ℕ)) (free : List Bool) (n : ℕ) (b : Bool) → b ≡ nat_lt 0 n → AreFresh pages free n
+    → AreFresh (pages ++ replicate 4096 0 ∷ []) (free ++ b ∷ []) (n + 1)
 one_more pages free n b e f = record {
   zeros = ap (λ l. l ++ replicate 4096 0 ∷ []) f.zeros ∙ replicate-append-replicate n 1 (replicate {A = ℕ} 4096 0);
   tests = length-append free (b ∷ []) ∙ ap (λ m. m + 1) f.tests;
-  from_one = λ page h. elim (pushed free b page h) [ inl k ↦ earlier page (f.from_one page k) | inr at ↦ last page (at.0 ∙ f.tests) (some_of_test n (sym e ∙ at.1)) ];
+  from_one =
+      λ page h. elim (pushed free b page h) [ inl k ↦ earlier page (f.from_one page k) | inr at ↦ last page (at.0 ∙ f.tests) (some_of_test n (sym e ∙ at.1)) ];
   are_free = λ page h k. elim (cases_lt page n) [ inl lt ↦ stays free b page (f.are_free page h lt) | inr ge ↦ here page h k ge ];
   counted = count_push free b ∙ one_counted n (count free) b e f.counted;
 }

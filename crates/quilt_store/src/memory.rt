@@ -1,4 +1,5 @@
-ghost use Rattle.std.specs.Prelude.{◌≡◌, ◌+◌, ◌<◌, ◌≤◌, ℕ, true, false, length, replicate, Some, None, IfOk, IsOk, slice_index_or, slice_set, [], filter, position, refl};
+ghost use Rattle.std.specs.Prelude.{◌≡◌, ◌+◌, ◌<◌, ◌≤◌, ℕ, true, false, length, replicate, Some, None, IfOk, IsOk, slice_index_or, slice_set, [], filter};
+ghost use Rattle.std.specs.Prelude.{position, refl};
 ghost use Rattle.quilt_store.specs.Memory.{is_free};
 
 use crate::{PageStore, StoreErr};

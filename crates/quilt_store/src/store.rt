@@ -1,4 +1,5 @@
-ghost use Rattle.std.specs.Prelude.{◌≡◌, ◌≢◌, ◌⊎◌, ℕ, ◌+◌, ◌<◌, ◌≤◌, ◌↔◌, Bool, true, false, List, Option, Some, [], IsTrue, OnOk, IfSome, length, slice_set, slice_index_or, Contains};
+ghost use Rattle.std.specs.Prelude.{◌≡◌, ◌≢◌, ◌⊎◌, ℕ, ◌+◌, ◌<◌, ◌≤◌, ◌↔◌, Bool, true, false, List, Option, Some, [], IsTrue, OnOk, IfSome, length, slice_set};
+ghost use Rattle.std.specs.Prelude.{slice_index_or, Contains};
 ghost use Rattle.std.specs.List.{list_any, IsDistinct};
 ghost use Rattle.std.specs.Prelude.{nat_eq, ◌==◌, filter, not};
 ghost use Rattle.quilt_store.specs.Store.{HasStoreCause, Tells, Touches, count_free, FreesOnly};
@@ -60,7 +61,8 @@ pub trait PageStore {
         ensures bytes { OnOk result (IfSome (told self.old) (λ pages. into.new ≡ slice_index_or pages page [])) }
         ensures held { OnOk result (Tells (Touches page) (held self.old) (held self.new)) }
         ensures reads { Tells (λ old new. new ≤ old + 1) (reads self.old) (reads self.new) }
-        ensures held_is_free { IfSome (held self.old) (λ pages. IsTrue (list_any (λ p. p == page) pages) → Tells (λ old new. new ≤ old) (reads self.old) (reads self.new)) }
+        ensures held_is_free { IfSome (held self.old) (λ pages. IsTrue (list_any (λ p. p == page) pages)
+            → Tells (λ old new. new ≤ old) (reads self.old) (reads self.new)) }
         ensures changed { changed self.new ≤ changed self.old };
 
     fn write(&mut self, page: u32, bytes: &[u8; 4096]) -> Result<(), StoreErr>

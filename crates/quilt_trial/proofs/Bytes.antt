@@ -1,5 +1,6 @@
 -- The bytes of a command's line.
-use Rattle.std.proofs.Common.{◌≡◌, ℕ, ◌+◌, ◌%◌, ◌^◌, ◌<◌, ◌==◌, ◌&&◌, not, Bool, true, false, List, [], ◌∷◌, ◌++◌, map, flat_map, sym, ◌∙◌, ap, arith, append_assoc, append-nil}
+use Rattle.std.proofs.Common.{◌≡◌, ℕ, ◌+◌, ◌%◌, ◌^◌, ◌<◌, ◌==◌, ◌&&◌, not, Bool, true, false, List, [], ◌∷◌, ◌++◌, map, flat_map, sym, ◌∙◌, ap, arith}
+use Rattle.std.proofs.Common.{append_assoc, append-nil}
 use Rattle.std.specs.Fmt.{decimal}
 use Rattle.std.proofs.lemmas.Bool.{ne_eqb}
 use Rattle.std.proofs.lemmas.Fmt.{decimal_by_steps}
@@ -32,6 +33,8 @@ spaced_numbers w [] = sym (append-nil w)
 spaced_numbers w (n ∷ ns) = ap (λ (l : List ℕ). w ++ 32 ∷ l) (spaced_numbers (decimal n) ns)
 
 -- a word, a layer and numbers, and a newline
-pub command_is : (word layer : List ℕ) (ns : List ℕ) (bytes : List ℕ) → bytes ≡ (word ++ 32 ∷ layer) ++ numbers_text ns → bytes ++ 10 ∷ [] ≡ command_text word layer ns
+pub command_is : (word layer : List ℕ) (ns : List ℕ) (bytes : List ℕ) → bytes ≡ (word ++ 32 ∷ layer) ++ numbers_text ns
+    → bytes ++ 10 ∷ [] ≡ command_text word layer ns
 command_is word layer ns bytes is =
-    ap (λ (l : List ℕ). l ++ 10 ∷ []) (is ∙ append_assoc word (32 ∷ layer) (numbers_text ns) ∙ ap (λ (l : List ℕ). word ++ 32 ∷ l) (sym (spaced_numbers layer ns)))
+    ap (λ (l : List ℕ). l ++ 10 ∷ [])
+    (is ∙ append_assoc word (32 ∷ layer) (numbers_text ns) ∙ ap (λ (l : List ℕ). word ++ 32 ∷ l) (sym (spaced_numbers layer ns)))

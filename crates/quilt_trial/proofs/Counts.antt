@@ -1,10 +1,12 @@
 -- How many lines the text of a trial has.
-use Rattle.std.proofs.Common.{◌≡◌, ℕ, zero, suc, ◌+◌, ◌-◌, ◌*◌, ◌/◌, ◌%◌, ◌^◌, ◌≤◌, ◌<◌, ◌==◌, ◌&&◌, not, cond, Bool, true, false, List, [], ◌∷◌, ◌++◌, if◌then◌else◌, codes, refl, ◌∙◌, ap, arith}
+use Rattle.std.proofs.Common.{◌≡◌, ℕ, zero, suc, ◌+◌, ◌-◌, ◌*◌, ◌/◌, ◌%◌, ◌^◌, ◌≤◌, ◌<◌, ◌==◌, ◌&&◌, not, cond, Bool, true, false, List, [], ◌∷◌, ◌++◌}
+use Rattle.std.proofs.Common.{if◌then◌else◌, codes, refl, ◌∙◌, ap, arith}
 use Rattle.std.specs.Fmt.{decimal}
 use Rattle.std.proofs.Math.Nat.{mod-le}
 use Rattle.std.proofs.lemmas.List.Sums.{sum_by-append}
 use Rattle.quilt_types.specs.Plane.{side}
-use Rattle.quilt_lang.specs.Trials.{Drawn, drawn, stepped, spaced, line, draw, rect_line, numbered_line, pixel_line, small_line, seg_line, drawn_line, lines_from, trial_text}
+use Rattle.quilt_lang.specs.Trials.{Drawn, drawn, stepped, spaced, line, draw, rect_line, numbered_line, pixel_line, small_line, seg_line, drawn_line}
+use Rattle.quilt_lang.specs.Trials.{lines_from, trial_text}
 use Rattle.quilt_trial.specs.Drawing.{has_no_newline}
 use Rattle.quilt_trial.specs.Rest.{newlines}
 use Rattle.quilt_trial.proofs.Bytes.{plain_joined, plain_number}
@@ -62,7 +64,8 @@ rect_one a s x plain =
     (behind (more (s - u) z) (behind (more (s - v) (stepped z)) (one (number 4 (stepped (stepped z))))))))))
 
 numbered_one : (w a : List ℕ) (m s x : ℕ) → IsPlain w → IsPlain a → newlines (numbered_line w a m s x).text ≡ 1
-numbered_one w a m s x first second = one_line (behind first (behind second (behind (number s x) (behind (number s (stepped x)) (one (number m (stepped (stepped x))))))))
+numbered_one w a m s x first second =
+    one_line (behind first (behind second (behind (number s x) (behind (number s (stepped x)) (one (number m (stepped (stepped x))))))))
 
 pixel_one : (w a : List ℕ) (s x : ℕ) → IsPlain w → IsPlain a → newlines (pixel_line w a s x).text ≡ 1
 pixel_one w a s x first second = one_line (behind first (behind second (behind (number s x) (one (number s (stepped x))))))
@@ -111,7 +114,15 @@ from_few (suc left) i s x =
     let publish : List ℕ = if i % 64 == 0 then line (codes "publish" ∷ []) else [] in
     let rest = lines_from left (i + 1) s next.state in
     let first : newlines next.text ≡ 1 = drawn_one s (drawn (stepped x) 10) (stepped x) in
-    omega (arith, newlines-append (next.text ++ publish) rest, newlines-append next.text publish, first, publish_few (i % 64 == 0), from_few left (i + 1) s next.state)
+    omega (
+      arith,
+      newlines-append (next.text ++ publish) rest,
+      newlines-append next.text publish,
+      first,
+      publish_few
+          (i % 64 == 0),
+      from_few left (i + 1) s next.state,
+    )
 
 pub text_few : (seed count n : ℕ) → newlines (trial_text seed count n) ≤ 2 * count + 5
 unfolding trial_text

@@ -21,7 +21,8 @@ rest_at stages.First left i s x =
     line (codes "region" ∷ codes "ta" ∷ codes "0" ∷ []) ++ line (codes "region" ∷ codes "tb" ∷ codes "0" ∷ []) ++ line (codes "points" ∷ codes "tp" ∷ [])
     ++ line (codes "lines" ∷ codes "tl" ∷ codes "4" ∷ []) ++ lines_from left i s x
 rest_at stages.Second left i s x =
-    line (codes "region" ∷ codes "tb" ∷ codes "0" ∷ []) ++ line (codes "points" ∷ codes "tp" ∷ []) ++ line (codes "lines" ∷ codes "tl" ∷ codes "4" ∷ []) ++ lines_from left i s x
+    line (codes "region" ∷ codes "tb" ∷ codes "0" ∷ []) ++ line (codes "points" ∷ codes "tp" ∷ [])
+    ++ line (codes "lines" ∷ codes "tl" ∷ codes "4" ∷ []) ++ lines_from left i s x
 rest_at stages.Third left i s x = line (codes "points" ∷ codes "tp" ∷ []) ++ line (codes "lines" ∷ codes "tl" ∷ codes "4" ∷ []) ++ lines_from left i s x
 rest_at stages.Fourth left i s x = line (codes "lines" ∷ codes "tl" ∷ codes "4" ∷ []) ++ lines_from left i s x
 rest_at stages.Drawing left i s x = lines_from left i s x

@@ -1,5 +1,6 @@
 -- Where the pixels of a copy take their colours.
-use Rattle.std.proofs.Common.{◌≡◌, ℕ, ◌+◌, ◌-◌, ◌*◌, ◌/◌, ◌%◌, ◌<◌, ◌≤◌, Bool, true, false, ◌&&◌, nat_le, nat_lt, Some, None, cond, refl, ◌∙◌, ap, ap₂, subst, ⊎_elim, pow_pos, arith, le-leb, lt-ltb, leb-true}
+use Rattle.std.proofs.Common.{◌≡◌, ℕ, ◌+◌, ◌-◌, ◌*◌, ◌/◌, ◌%◌, ◌<◌, ◌≤◌, Bool, true, false, ◌&&◌, nat_le, nat_lt, Some, None, cond, refl, ◌∙◌, ap, ap₂, subst}
+use Rattle.std.proofs.Common.{⊎_elim, pow_pos, arith, le-leb, lt-ltb, leb-true}
 use Rattle.std.proofs.lemmas.Bool.{and_parts, and_from, cond-true}
 use Rattle.quilt_types.specs.declared.plane.Pixel.{Pixel}
 use Rattle.quilt_types.specs.declared.plane.Window.{Window}
@@ -28,7 +29,8 @@ pub source_in : (s : Span) (at : ℕ) → s.to ≤ at → at < s.to + s.length �
 source_in s at low high = cond-true _ _ _ (and_from _ _ (le-leb _ _ low) (lt-ltb _ _ high))
 
 -- all pixels of a block take their colours from one square of one colour
-pub copied_in : (n : ℕ) (g : Grid) (across down : Span) (b : Block) (q : Pixel) (c : ℕ) → across.to ≤ b.x → b.x + b.side ≤ across.to + across.length → down.to ≤ b.y → b.y + b.side ≤ down.to + down.length
+pub copied_in : (n : ℕ) (g : Grid) (across down : Span) (b : Block) (q : Pixel) (c : ℕ) → across.to ≤ b.x → b.x + b.side ≤ across.to + across.length
+    → down.to ≤ b.y → b.y + b.side ≤ down.to + down.length
     → q.x ≡ b.x - across.to + across.from → q.y ≡ b.y - down.to + down.from → HasColour n g (square q b.side) c
     → (p : Pixel) → Holds b p → copied n g across down p ≡ c
 copied_in n g across down b q c xl xr yl yr ex ey has p h =
@@ -59,7 +61,8 @@ pub record Begins (n : ℕ) (p : Pixel) (s x y : ℕ) : Type 0 where
   pub top : y ≤ p.y
   pub bottom : p.y < y + s
 
-pub begins_in : (n : ℕ) (p : Pixel) (s : ℕ) (b : Block) → n ≤ 12 → IsBlock 12 b → b.side ≡ s → Holds b p → p.x + s ≤ side n → p.y + s ≤ side n → Begins n p s b.x b.y
+pub begins_in : (n : ℕ) (p : Pixel) (s : ℕ) (b : Block) → n ≤ 12 → IsBlock 12 b → b.side ≡ s → Holds b p → p.x + s ≤ side n
+    → p.y + s ≤ side n → Begins n p s b.x b.y
 begins_in n p s b most h is held in_x in_y =
     let l = held.left in
     let r = held.right in
@@ -88,10 +91,19 @@ module _ (n : ℕ) (p : Pixel) (s x y : ℕ) (h : Begins n p s x y) (in_x : p.x 
   pub last_block : x < p.x → y < p.y → IsBlock n (record { x = x + s; y = y + s; side = s })
   last_block across down =
       let b = h.block in
-      record { level = b.level; low = b.low; size = b.size; on_x = next_on s x (side_pos n _ b) b.on_x; on_y = next_on s y (side_pos n _ b) b.on_y; in_x = omega arith; in_y = omega arith }
+      record {
+        level = b.level;
+        low = b.low;
+        size = b.size;
+        on_x = next_on s x (side_pos n _ b) b.on_x;
+        on_y = next_on s y (side_pos n _ b) b.on_y;
+        in_x = omega arith;
+        in_y = omega arith;
+      }
 
   -- a square has the colour of the blocks that it meets
-  pub square_has : (g : Grid) (c : ℕ) → HasColour n g (record { x = x; y = y; side = s }) c → (x < p.x → HasColour n g (record { x = x + s; y = y; side = s }) c) → (y < p.y → HasColour n g (record { x = x; y = y + s; side = s }) c)
+  pub square_has : (g : Grid) (c : ℕ) → HasColour n g (record { x = x; y = y; side = s }) c
+      → (x < p.x → HasColour n g (record { x = x + s; y = y; side = s }) c) → (y < p.y → HasColour n g (record { x = x; y = y + s; side = s }) c)
       → (x < p.x → y < p.y → HasColour n g (record { x = x + s; y = y + s; side = s }) c) → HasColour n g (square p s) c
   square_has g c first right lower last = record {
     each = λ q held.
@@ -107,10 +119,12 @@ module _ (n : ℕ) (p : Pixel) (s x y : ℕ) (h : Begins n p s x y) (in_x : p.x 
         (λ low. (lower (omega arith)).each q (record { left = omega arith; right = near; top = low; bottom = omega arith })) (cases_lt q.y (y + s)))
         (λ far.
         ⊎_elim (λ high. (right (omega arith)).each q (record { left = far; right = omega arith; top = omega arith; bottom = high }))
-        (λ low. (last (omega arith) (omega arith)).each q (record { left = far; right = omega arith; top = low; bottom = omega arith })) (cases_lt q.y (y + s))) (cases_lt q.x (x + s));
+        (λ low. (last (omega arith) (omega arith)).each q (record { left = far; right = omega arith; top = low; bottom = omega arith }))
+        (cases_lt q.y (y + s))) (cases_lt q.x (x + s));
   }
 
-by_tests : (n : ℕ) (g : Grid) (p : Pixel) (x y : ℕ) (ab c d : Bool) → (ab ≡ true → c && d ≡ true → (x ≡ p.x) × (y ≡ p.y)) → colour_from n g (cond ab (Some x) None) (cond (c && d) (Some y) None) ≡ cond (ab && c && d) (colour_at n g p) 0
+by_tests : (n : ℕ) (g : Grid) (p : Pixel) (x y : ℕ) (ab c d : Bool) → (ab ≡ true → c && d ≡ true → (x ≡ p.x) × (y ≡ p.y))
+    → colour_from n g (cond ab (Some x) None) (cond (c && d) (Some y) None) ≡ cond (ab && c && d) (colour_at n g p) 0
 by_tests n g p x y true true true same =
     let e = same refl refl in
     let ex = e.0 in
@@ -121,7 +135,8 @@ by_tests n g p x y true false d same = refl
 by_tests n g p x y false c d same = refl
 
 -- a window takes each of its pixels from where it is
-pub copied_window : (n : ℕ) (g : Grid) (w : Window) (p : Pixel) → copied n g (record { from = w.x; to = w.x; length = w.w }) (record { from = w.y; to = w.y; length = w.h }) p ≡ cond (in_window w p) (colour_at n g p) 0
+pub copied_window : (n : ℕ) (g : Grid) (w : Window) (p : Pixel)
+    → copied n g (record { from = w.x; to = w.x; length = w.w }) (record { from = w.y; to = w.y; length = w.h }) p ≡ cond (in_window w p) (colour_at n g p) 0
 copied_window n g w p =
     by_tests n g p (p.x - w.x + w.x) (p.y - w.y + w.y) (nat_le w.x p.x && nat_lt p.x (w.x + w.w)) (nat_le w.y p.y) (nat_lt p.y (w.y + w.h))
     (λ ab cd.

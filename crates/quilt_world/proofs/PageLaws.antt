@@ -2,7 +2,8 @@
 use Rattle.std.proofs.Common.{◌≡◌, inl, inr, ℕ, ◌<◌, Bool, false, cond, List, [], ◌∷◌, ◌++◌, Option, Some, None, length, get_or, refl, sym, ◌∙◌, ap}
 use Rattle.std.proofs.lemmas.Bool.{eq-eqb, ne_eqb, cases_Bool}
 use Rattle.std.proofs.lemmas.Option.{same_Some}
-use Rattle.quilt_world.specs.Disk.{Pages, Log, Mark, Untouched, Written, Torn, marked, mark_from, mark_of, unsynced_after, unsynced_from, is_unsynced, holds, CanLeave}
+use Rattle.quilt_world.specs.Disk.{Pages, Log, Mark, Untouched, Written, Torn, marked, mark_from, mark_of, unsynced_after, unsynced_from, is_unsynced, holds}
+use Rattle.quilt_world.specs.Disk.{CanLeave}
 use Rattle.quilt_world.specs.PageBytes.{bytes_by, last_bytes, fixed_bytes, Spares}
 use Rattle.quilt_world.specs.declared.event.Event.{Event}
 use Rattle.quilt_world.specs.declared.event.Event.TheVariants.{Took, Put, Wrote, Tore, Synced}
@@ -49,7 +50,8 @@ last-Tore start log i =
 
 -- ---- the bytes in each image
 
-fixed_parts : (start : Pages) (log : Log) (i : ℕ) (b : List ℕ) → fixed_bytes start log i ≡ Some b → (is_unsynced i log ≡ false) × (last_bytes start log i ≡ Some b)
+fixed_parts : (start : Pages) (log : Log) (i : ℕ) (b : List ℕ) → fixed_bytes start log i ≡ Some b
+    → (is_unsynced i log ≡ false) × (last_bytes start log i ≡ Some b)
 unfolding fixed_bytes
 fixed_parts start log i b is = elim (cases_Bool (is_unsynced i log)) [
   | inl torn ↦ absurd (let e : ◌≡◌ {A = Option (List ℕ)} None (Some b) = sym (ap (λ t. cond t None (last_bytes start log i)) torn) ∙ is in cc)
@@ -64,7 +66,8 @@ fixed_from start log i synced = ap (λ t. cond t None (last_bytes start log i)) 
 pub last_from_fixed : (start : Pages) (log : Log) (i : ℕ) (b : List ℕ) → fixed_bytes start log i ≡ Some b → last_bytes start log i ≡ Some b
 last_from_fixed start log i b is = (fixed_parts start log i b is).1
 
-pub fixed-spared : (start : Pages) (log : Log) (e : Event) (i : ℕ) (b : List ℕ) → Spares i e → fixed_bytes start log i ≡ Some b → fixed_bytes start (log ++ e ∷ []) i ≡ Some b
+pub fixed-spared : (start : Pages) (log : Log) (e : Event) (i : ℕ) (b : List ℕ) → Spares i e → fixed_bytes start log i ≡ Some b
+    → fixed_bytes start (log ++ e ∷ []) i ≡ Some b
 fixed-spared start log e i b ne is =
     let parts = fixed_parts start log i b is in
     let synced_yet : is_unsynced i (log ++ e ∷ []) ≡ false =
@@ -78,7 +81,8 @@ fixed-Synced start log i =
 -- ---- the images
 
 -- a page that is not free has its bytes
-pub left_page : (start : Pages) (log : Log) (image : Pages) (i : ℕ) (b : List ℕ) → CanLeave start log image → i < length start → fixed_bytes start log i ≡ Some b → get_or image i [] ≡ b
+pub left_page : (start : Pages) (log : Log) (image : Pages) (i : ℕ) (b : List ℕ) → CanLeave start log image → i < length start
+    → fixed_bytes start log i ≡ Some b → get_or image i [] ≡ b
 unfolding last_bytes
 left_page start log image i b left within is =
     let parts = fixed_parts start log i b is in
@@ -90,7 +94,8 @@ left_page start log image i b left within is =
     left_at Torn first now b h e = absurd (let e2 : ◌≡◌ {A = Option (List ℕ)} None (Some b) = e in cc)
 
 -- and an image where each such page has them can be left
-pub left_from_pages : (start : Pages) (log : Log) (image : Pages) → length image ≡ length start → ((i : ℕ) (b : List ℕ) → i < length start → fixed_bytes start log i ≡ Some b → get_or image i [] ≡ b) → CanLeave start log image
+pub left_from_pages : (start : Pages) (log : Log) (image : Pages) → length image ≡ length start
+    → ((i : ℕ) (b : List ℕ) → i < length start → fixed_bytes start log i ≡ Some b → get_or image i [] ≡ b) → CanLeave start log image
 unfolding last_bytes
 left_from_pages start log image size each = record {
   size = size;
@@ -103,5 +108,6 @@ left_from_pages start log image size each = record {
     holds_at Torn first now each = tt
 
 -- what the disk reads is one of the images that a stop may leave
-pub seen_left : (start : Pages) (log : Log) (seen : Pages) → length seen ≡ length start → ((i : ℕ) (b : List ℕ) → i < length start → last_bytes start log i ≡ Some b → get_or seen i [] ≡ b) → CanLeave start log seen
+pub seen_left : (start : Pages) (log : Log) (seen : Pages) → length seen ≡ length start
+    → ((i : ℕ) (b : List ℕ) → i < length start → last_bytes start log i ≡ Some b → get_or seen i [] ≡ b) → CanLeave start log seen
 seen_left start log seen size each = left_from_pages start log seen size (λ i b within is. each i b within (last_from_fixed start log i b is))

@@ -1,5 +1,6 @@
 -- What one more call does to the pages and to the images since.
-use Rattle.std.proofs.Common.{◌≡◌, ◌≢◌, ◌⊎◌, inl, inr, ℕ, ◌<◌, ◌≤◌, get_or, List, [], ◌∷◌, ◌++◌, Some, length, take, refl, sym, ◌∙◌, ap, subst, arith, append_assoc, length-append}
+use Rattle.std.proofs.Common.{◌≡◌, ◌≢◌, ◌⊎◌, inl, inr, ℕ, ◌<◌, ◌≤◌, get_or, List, [], ◌∷◌, ◌++◌, Some, length, take, refl, sym, ◌∙◌, ap, subst, arith}
+use Rattle.std.proofs.Common.{append_assoc, length-append}
 use Rattle.std.proofs.lemmas.List.{take-append-le, take_all, append-nil}
 use Rattle.std.proofs.lemmas.Bool.{cases_lt}
 use Rattle.quilt_world.specs.Disk.{Pages, Log, CanLeave}
@@ -9,7 +10,8 @@ use Rattle.quilt_world.specs.Tale.{Tale, IsConsistent, IsSameFile, Adds}
 use Rattle.quilt_world.specs.declared.event.Event.TheVariants.{Wrote, Tore, Synced}
 use Rattle.quilt_world.proofs.PageLaws.{last-spared, last-Wrote, fixed-spared, fixed-Synced, left_page, last_from_fixed}
 
-log_fixed : (start : Pages) (log events : Log) (i : ℕ) (b : List ℕ) → SparesAll i events → fixed_bytes start log i ≡ Some b → fixed_bytes start (log ++ events) i ≡ Some b
+log_fixed : (start : Pages) (log events : Log) (i : ℕ) (b : List ℕ) → SparesAll i events → fixed_bytes start log i ≡ Some b
+    → fixed_bytes start (log ++ events) i ≡ Some b
 log_fixed start log [] i b spares is = ap (λ (l : Log). fixed_bytes start l i) (append-nil log) ∙ is
 log_fixed start log (e ∷ events) i b spares is =
     ap (λ (l : Log). fixed_bytes start l i) (sym (append_assoc log (e ∷ []) events))
@@ -136,7 +138,8 @@ since_touch i o m n P since touches here = since_call touches.events o m n P sin
 
 -- ---- what is in every image, and what is read
 
-pub image_page : (t : Tale) (image : Pages) (i : ℕ) (b : List ℕ) → CanLeave t.start t.log image → i < length t.start → fixed t i ≡ Some b → get_or image i [] ≡ b
+pub image_page : (t : Tale) (image : Pages) (i : ℕ) (b : List ℕ) → CanLeave t.start t.log image → i < length t.start
+    → fixed t i ≡ Some b → get_or image i [] ≡ b
 image_page t image i b left within is = left_page t.start t.log image i b left within is
 
 pub seen_page : (t : Tale) (i : ℕ) (b : List ℕ) → IsConsistent t → i < length t.start → last t i ≡ Some b → get_or t.seen i [] ≡ b

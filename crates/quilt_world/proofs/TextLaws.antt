@@ -2,7 +2,8 @@
 use Rattle.std.specs.List.{list_all}
 use Rattle.std.proofs.lemmas.List.Folds.{list_all-append}
 use Rattle.std.proofs.lemmas.List.{append-nil}
-use Rattle.std.proofs.Common.{◌≡◌, ◌≢◌, inl, inr, ℕ, ◌<◌, cond, Bool, true, false, List, [], ◌∷◌, ◌++◌, Option, Some, None, length, get_or, refl, sym, ◌∙◌, ap, subst, arith, append_assoc}
+use Rattle.std.proofs.Common.{◌≡◌, ◌≢◌, inl, inr, ℕ, ◌<◌, cond, Bool, true, false, List, [], ◌∷◌, ◌++◌, Option, Some, None, length, get_or, refl, sym, ◌∙◌, ap}
+use Rattle.std.proofs.Common.{subst, arith, append_assoc}
 use Rattle.std.proofs.lemmas.Bool.{cases_lt}
 use Rattle.quilt_world.specs.Added.{is_of_text, AddsOnly}
 use Rattle.quilt_world.specs.Disk.{Pages, Log, Mark, Untouched, marked, mark_from, unsynced_after, unsynced_from, is_unsynced, holds, CanLeave}
@@ -45,7 +46,8 @@ fixed_bytes-text start log text i only =
     ∙ ap (λ l. cond (is_unsynced i log) None l) (last_bytes-text start log text i only)
 
 -- an image that can be left after the text could be left before it
-pub text_leaves : (start : Pages) (log text : Log) (image : Pages) → list_all is_of_text text ≡ true → CanLeave start (log ++ text) image → CanLeave start log image
+pub text_leaves : (start : Pages) (log text : Log) (image : Pages) → list_all is_of_text text ≡ true → CanLeave start (log ++ text) image
+    → CanLeave start log image
 text_leaves start log text image only left = record {
   size = left.size;
   kept = λ i within synced.
@@ -57,11 +59,13 @@ text_leaves start log text image only left = record {
 
 pub last_text : (o n : Tale) (i : ℕ) → AddsOnly is_of_text o n → last n i ≡ last o i
 last_text o n i adds =
-    ap (λ (l : Log). last_bytes n.start l i) adds.log ∙ last_bytes-text n.start o.log adds.events i adds.only ∙ ap (λ (s : Pages). last_bytes s o.log i) adds.file.start
+    ap (λ (l : Log). last_bytes n.start l i) adds.log ∙ last_bytes-text n.start o.log adds.events i adds.only
+    ∙ ap (λ (s : Pages). last_bytes s o.log i) adds.file.start
 
 pub fixed_text : (o n : Tale) (i : ℕ) → AddsOnly is_of_text o n → fixed n i ≡ fixed o i
 fixed_text o n i adds =
-    ap (λ (l : Log). fixed_bytes n.start l i) adds.log ∙ fixed_bytes-text n.start o.log adds.events i adds.only ∙ ap (λ (s : Pages). fixed_bytes s o.log i) adds.file.start
+    ap (λ (l : Log). fixed_bytes n.start l i) adds.log ∙ fixed_bytes-text n.start o.log adds.events i adds.only
+    ∙ ap (λ (s : Pages). fixed_bytes s o.log i) adds.file.start
 
 -- what a stop leaves before the text it leaves after it
 pub leaves_text : (o n : Tale) (P : Pages → Type 0) → AddsOnly is_of_text o n → LeavesNow o P → LeavesNow n P

@@ -11,7 +11,8 @@ goes_first P R None kept step = tt
 goes_first P R (Some t) kept step = step t refl kept
 
 -- a told fact, with the size
-pub told_first : (P : Tale → Type 0) (R : Tale → Tale → Type 0) (size : ℕ) (o : Option Tale) → IfSome o (λ t. IsConsistent t × (length t.start ≡ size)) → IfSome o P → ((t : Tale) → length t.start ≡ size → P t → R t t) → Goes R o o
+pub told_first : (P : Tale → Type 0) (R : Tale → Tale → Type 0) (size : ℕ) (o : Option Tale)
+    → IfSome o (λ t. IsConsistent t × (length t.start ≡ size)) → IfSome o P → ((t : Tale) → length t.start ≡ size → P t → R t t) → Goes R o o
 told_first P R size None law kept step = tt
 told_first P R size (Some t) law kept step = step t law.1 kept
 
@@ -25,7 +26,9 @@ goes_then R S T (Some t) (Some u) None r s step = s
 goes_then R S T (Some t) (Some u) (Some v) r s step = step t u v r s
 
 -- a read more, and what it gave
-pub goes_read : (i size : ℕ) (into : List ℕ) (R S T : Tale → Tale → Type 0) (o m n : Option Tale) → Goes R o m → Goes S m n → IfSome n (λ t. IsConsistent t × (length t.start ≡ size)) → i < size → IfSome n (λ t. into ≡ get_or t.seen i []) → ((t u v : Tale) → R t u → S u v → ((b : List ℕ) → last v i ≡ Some b → into ≡ b) → T t v) → Goes T o n
+pub goes_read : (i size : ℕ) (into : List ℕ) (R S T : Tale → Tale → Type 0) (o m n : Option Tale) → Goes R o m → Goes S m n
+    → IfSome n (λ t. IsConsistent t × (length t.start ≡ size)) → i < size → IfSome n (λ t. into ≡ get_or t.seen i [])
+    → ((t u v : Tale) → R t u → S u v → ((b : List ℕ) → last v i ≡ Some b → into ≡ b) → T t v) → Goes T o n
 goes_read i size into R S T None None None r s law within reads step = tt
 goes_read i size into R S T None None (Some v) r s law within reads step = s
 goes_read i size into R S T None (Some u) n r s law within reads step = absurd r
@@ -54,7 +57,8 @@ goes_and R S (Some t) None r s = r
 goes_and R S (Some t) (Some u) r s = (r, s)
 
 -- with what is known of the first tale
-pub goes_with : (P : Tale → Type 0) (R : Tale → Tale → Type 0) (o n : Option Tale) → ((t : Tale) → o ≡ Some t → P t) → Goes R o n → Goes (λ t u. P t × R t u) o n
+pub goes_with : (P : Tale → Type 0) (R : Tale → Tale → Type 0) (o n : Option Tale) → ((t : Tale) → o ≡ Some t → P t) → Goes R o n
+    → Goes (λ t u. P t × R t u) o n
 goes_with P R None None known r = tt
 goes_with P R None (Some u) known r = r
 goes_with P R (Some t) None known r = r
@@ -69,7 +73,9 @@ pub start_size : (o : Option Tale) (n : ℕ) (t : Tale) → IfSome o (λ t. IsCo
 start_size o n t law is = (subst (λ x. IfSome x (λ t. IsConsistent t × (length t.start ≡ n))) is law).1
 
 -- what a read gives: the page's last bytes, where it has them
-pub read_gives : (i size : ℕ) (into : List ℕ) (S : Tale → Tale → Type 0) (o n : Option Tale) → ((t u : Tale) → S t u → Adds [] t u) → Goes S o n → IfSome n (λ t. IsConsistent t × (length t.start ≡ size)) → i < size → IfSome n (λ t. into ≡ get_or t.seen i []) → IfSome o (λ t. (b : List ℕ) → last t i ≡ Some b → into ≡ b)
+pub read_gives : (i size : ℕ) (into : List ℕ) (S : Tale → Tale → Type 0) (o n : Option Tale) → ((t u : Tale) → S t u → Adds [] t u) → Goes S o n
+    → IfSome n (λ t. IsConsistent t × (length t.start ≡ size)) → i < size → IfSome n (λ t. into ≡ get_or t.seen i [])
+    → IfSome o (λ t. (b : List ℕ) → last t i ≡ Some b → into ≡ b)
 read_gives i size into S None n adds goes law within reads = tt
 read_gives i size into S (Some t) None adds goes law within reads = absurd goes
 read_gives i size into S (Some t) (Some u) adds goes law within reads = λ b is.

@@ -1,4 +1,5 @@
-ghost use Rattle.std.specs.Prelude.{◌≡◌, ◌⊎◌, ◌↔◌, ◌<◌, ◌≤◌, ◌+◌, ◌++◌, [], ◌∷◌, min, length, take, slice_set, slice_index_or, IsOk, IsSome, OnOk, OnErr, IfOk, IfSome, None};
+ghost use Rattle.std.specs.Prelude.{◌≡◌, ◌⊎◌, ◌↔◌, ◌<◌, ◌≤◌, ◌+◌, ◌++◌, [], ◌∷◌, min, length, take, slice_set, slice_index_or, IsOk, IsSome, OnOk, OnErr, IfOk};
+ghost use Rattle.std.specs.Prelude.{IfSome, None};
 ghost use Rattle.quilt_world.specs.Causes.{HasCause, next_count, last};
 ghost use Rattle.quilt_world.specs.Doors.{attached, made, OpensAt, MakesAt, TakesFrom};
 ghost use Rattle.quilt_world.specs.Tale.{Adds, Goes};
@@ -33,7 +34,8 @@ impl Disk for Calm {
         ensures cause { HasCause (⟦<Calm as Disk>⟧.faults self.old) (⟦<Calm as Disk>⟧.faults self.new) result }
         ensures size { ⟦<Calm as Disk>⟧.size self.new ≡ ⟦<Calm as Disk>⟧.size self.old }
         ensures door { ⟦<Calm as Disk>⟧.door self.new ≡ ⟦<Calm as Disk>⟧.door self.old }
-        ensures counts { Goes (λ old new. (new.reads ≡ next_count old.reads) × (new.writes ≡ old.writes)) (⟦<Calm as Disk>⟧.told self.old) (⟦<Calm as Disk>⟧.told self.new) }
+        ensures counts { Goes (λ old new. (new.reads ≡ next_count old.reads) × (new.writes ≡ old.writes)) (⟦<Calm as Disk>⟧.told self.old)
+            (⟦<Calm as Disk>⟧.told self.new) }
         ensures nothing { Goes (Adds []) (⟦<Calm as Disk>⟧.told self.old) (⟦<Calm as Disk>⟧.told self.new) }
         ensures bytes { OnOk result (IfSome (⟦<Calm as Disk>⟧.told self.new) (λ new. into.new ≡ slice_index_or new.seen i [])) }
         ensures ok { IsOk result }
@@ -50,9 +52,11 @@ impl Disk for Calm {
         ensures cause { HasCause (⟦<Calm as Disk>⟧.faults self.old) (⟦<Calm as Disk>⟧.faults self.new) result }
         ensures size { ⟦<Calm as Disk>⟧.size self.new ≡ ⟦<Calm as Disk>⟧.size self.old }
         ensures door { ⟦<Calm as Disk>⟧.door self.new ≡ ⟦<Calm as Disk>⟧.door self.old }
-        ensures counts { Goes (λ old new. (new.writes ≡ next_count old.writes) × (new.reads ≡ old.reads)) (⟦<Calm as Disk>⟧.told self.old) (⟦<Calm as Disk>⟧.told self.new) }
+        ensures counts { Goes (λ old new. (new.writes ≡ next_count old.writes) × (new.reads ≡ old.reads)) (⟦<Calm as Disk>⟧.told self.old)
+            (⟦<Calm as Disk>⟧.told self.new) }
         ensures wrote { OnOk result (Goes (Adds (Wrote i bytes.now ∷ [])) (⟦<Calm as Disk>⟧.told self.old) (⟦<Calm as Disk>⟧.told self.new)) }
-        ensures tore { OnErr result (Goes (λ old new. Adds (Tore i ∷ []) old new ⊎ Adds [] old new) (⟦<Calm as Disk>⟧.told self.old) (⟦<Calm as Disk>⟧.told self.new)) }
+        ensures tore { OnErr result
+            (Goes (λ old new. Adds (Tore i ∷ []) old new ⊎ Adds [] old new) (⟦<Calm as Disk>⟧.told self.old) (⟦<Calm as Disk>⟧.told self.new)) }
         ensures ok { IsOk result }
         ensures page { disk_of self.new ≡ slice_set (disk_of self.old) i bytes.now }
         ensures streams { KeepsStreams self.old self.new }
@@ -66,7 +70,8 @@ impl Disk for Calm {
         ensures cause { HasCause (⟦<Calm as Disk>⟧.faults self.old) (⟦<Calm as Disk>⟧.faults self.new) result }
         ensures size { ⟦<Calm as Disk>⟧.size self.new ≡ ⟦<Calm as Disk>⟧.size self.old }
         ensures door { ⟦<Calm as Disk>⟧.door self.new ≡ ⟦<Calm as Disk>⟧.door self.old }
-        ensures counts { Goes (λ old new. (new.writes ≡ old.writes) × (new.reads ≡ old.reads)) (⟦<Calm as Disk>⟧.told self.old) (⟦<Calm as Disk>⟧.told self.new) }
+        ensures counts { Goes (λ old new. (new.writes ≡ old.writes) × (new.reads ≡ old.reads)) (⟦<Calm as Disk>⟧.told self.old)
+            (⟦<Calm as Disk>⟧.told self.new) }
         ensures synced { OnOk result (Goes (Adds (Synced ∷ [])) (⟦<Calm as Disk>⟧.told self.old) (⟦<Calm as Disk>⟧.told self.new)) }
         ensures nothing { OnErr result (Goes (Adds []) (⟦<Calm as Disk>⟧.told self.old) (⟦<Calm as Disk>⟧.told self.new)) }
         ensures ok { IsOk result }
@@ -85,7 +90,8 @@ impl World for Calm {
         ensures tale { Goes (OpensAt path.now (⟦<Calm as Disk>⟧.door self.new)) (⟦<Calm as Disk>⟧.told self.old) (⟦<Calm as Disk>⟧.told self.new) }
         ensures ready { (⟦<Calm as Disk>⟧.door self.new ≡ doors.Ready) ↔ ((path.now ≡ path_of self.old) × IsSome (shelf_of self.old)) }
         ensures ok { IsOk result }
-        ensures file { IfSome (shelf_of self.old) (λ file. ⟦<Calm as Disk>⟧.door self.new ≡ doors.Ready → (disk_of self.new ≡ file) × (⟦<Calm as Disk>⟧.size self.new ≡ length file)) }
+        ensures file { IfSome (shelf_of self.old) (λ file. ⟦<Calm as Disk>⟧.door self.new ≡ doors.Ready
+            → (disk_of self.new ≡ file) × (⟦<Calm as Disk>⟧.size self.new ≡ length file)) }
         ensures streams { KeepsStreams self.old self.new }
     {
         self.door = Door::Missing;
@@ -109,7 +115,8 @@ impl World for Calm {
         ensures door { ⟦<Calm as Disk>⟧.door self.new ≡ made result }
         ensures size { ⟦<Calm as Disk>⟧.door self.new ≡ doors.Made → ⟦<Calm as Disk>⟧.size self.new ≡ pages }
         ensures tale { Goes (MakesAt path.now pages (⟦<Calm as Disk>⟧.door self.new)) (⟦<Calm as Disk>⟧.told self.old) (⟦<Calm as Disk>⟧.told self.new) }
-        ensures taken { (⟦<Calm as Disk>⟧.door self.new ≡ doors.Taken) ↔ (((path.now ≡ path_of self.old) × IsSome (shelf_of self.old)) ⊎ (room_of self.old < pages)) }
+        ensures taken { (⟦<Calm as Disk>⟧.door self.new ≡ doors.Taken)
+            ↔ (((path.now ≡ path_of self.old) × IsSome (shelf_of self.old)) ⊎ (room_of self.old < pages)) }
         ensures ok { IsOk result }
         ensures file { KeepsFile self.old self.new }
         ensures streams { KeepsStreams self.old self.new }

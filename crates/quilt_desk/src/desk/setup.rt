@@ -19,7 +19,9 @@ impl Desk {
         file: Option<Image>,
         input: &[u8],
     ) -> Result<Desk, AllocError>
-        ensures told { IfOk result (λ d. ⟦<Desk as Disk>⟧.told d ≡ Some (record { start = []; log = []; seen = []; reads = 0; writes = 0; input = input.now; path = path.now; was_there = is_some file })) }
+        ensures told { IfOk result
+            (λ d. ⟦<Desk as Disk>⟧.told d
+            ≡ Some (record { start = []; log = []; seen = []; reads = 0; writes = 0; input = input.now; path = path.now; was_there = is_some file })) }
         ensures door { IfOk result (λ d. ⟦<Desk as Disk>⟧.door d ≡ doors.Shut) }
         ensures faults { IfOk result (λ d. ⟦<Desk as Disk>⟧.faults d ≡ 0) }
         ensures file { IfOk result (λ d. file_of d ≡ file) }

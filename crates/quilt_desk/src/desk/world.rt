@@ -1,4 +1,5 @@
-ghost use Rattle.std.specs.Prelude.{◌≡◌, ◌⊎◌, ◌↔◌, ◌<◌, ◌≤◌, ◌++◌, [], ◌∷◌, min, length, take, slice_index_or, string_bytes, IsErr, OnOk, OnErr, IfOk, IfSome, Some, refl};
+ghost use Rattle.std.specs.Prelude.{◌≡◌, ◌⊎◌, ◌↔◌, ◌<◌, ◌≤◌, ◌++◌, [], ◌∷◌, min, length, take, slice_index_or, string_bytes, IsErr, OnOk, OnErr, IfOk, IfSome};
+ghost use Rattle.std.specs.Prelude.{Some, refl};
 ghost use Rattle.quilt_world.specs.Causes.{HasCause, next_count};
 ghost use Rattle.quilt_world.specs.Doors.{attached, made, OpensAt, MakesAt, TakesFrom};
 ghost use Rattle.quilt_world.specs.Tale.{Adds, Goes};
@@ -13,7 +14,17 @@ use quilt_types::Text;
 use quilt_world::{Attached, Disk, Door, Event, Fault, Made, World};
 
 impl Disk for Desk {
-    ghost told = { λ d. Some (record { start = d.start; log = d.log.items; seen = d.current; reads = d.reads; writes = d.writes; input = d.input; path = string_bytes d.path; was_there = d.was_there }) };
+    ghost told = { λ d. Some
+        (record {
+          start = d.start;
+          log = d.log.items;
+          seen = d.current;
+          reads = d.reads;
+          writes = d.writes;
+          input = d.input;
+          path = string_bytes d.path;
+          was_there = d.was_there;
+        }) };
 
     ghost door = { λ d. d.door };
 
@@ -34,7 +45,8 @@ impl Disk for Desk {
         ensures cause { HasCause (⟦<Desk as Disk>⟧.faults self.old) (⟦<Desk as Disk>⟧.faults self.new) result }
         ensures size { ⟦<Desk as Disk>⟧.size self.new ≡ ⟦<Desk as Disk>⟧.size self.old }
         ensures door { ⟦<Desk as Disk>⟧.door self.new ≡ ⟦<Desk as Disk>⟧.door self.old }
-        ensures counts { Goes (λ old new. (new.reads ≡ next_count old.reads) × (new.writes ≡ old.writes)) (⟦<Desk as Disk>⟧.told self.old) (⟦<Desk as Disk>⟧.told self.new) }
+        ensures counts { Goes (λ old new. (new.reads ≡ next_count old.reads) × (new.writes ≡ old.writes)) (⟦<Desk as Disk>⟧.told self.old)
+            (⟦<Desk as Disk>⟧.told self.new) }
         ensures nothing { Goes (Adds []) (⟦<Desk as Disk>⟧.told self.old) (⟦<Desk as Disk>⟧.told self.new) }
         ensures bytes { OnOk result (IfSome (⟦<Desk as Disk>⟧.told self.new) (λ new. into.new ≡ slice_index_or new.seen i [])) }
         ensures call { CountsCall self.old self.new }
@@ -51,9 +63,11 @@ impl Disk for Desk {
         ensures cause { HasCause (⟦<Desk as Disk>⟧.faults self.old) (⟦<Desk as Disk>⟧.faults self.new) result }
         ensures size { ⟦<Desk as Disk>⟧.size self.new ≡ ⟦<Desk as Disk>⟧.size self.old }
         ensures door { ⟦<Desk as Disk>⟧.door self.new ≡ ⟦<Desk as Disk>⟧.door self.old }
-        ensures counts { Goes (λ old new. (new.writes ≡ next_count old.writes) × (new.reads ≡ old.reads)) (⟦<Desk as Disk>⟧.told self.old) (⟦<Desk as Disk>⟧.told self.new) }
+        ensures counts { Goes (λ old new. (new.writes ≡ next_count old.writes) × (new.reads ≡ old.reads)) (⟦<Desk as Disk>⟧.told self.old)
+            (⟦<Desk as Disk>⟧.told self.new) }
         ensures wrote { OnOk result (Goes (Adds (Wrote i bytes.now ∷ [])) (⟦<Desk as Disk>⟧.told self.old) (⟦<Desk as Disk>⟧.told self.new)) }
-        ensures tore { OnErr result (Goes (λ old new. Adds (Tore i ∷ []) old new ⊎ Adds [] old new) (⟦<Desk as Disk>⟧.told self.old) (⟦<Desk as Disk>⟧.told self.new)) }
+        ensures tore { OnErr result
+            (Goes (λ old new. Adds (Tore i ∷ []) old new ⊎ Adds [] old new) (⟦<Desk as Disk>⟧.told self.old) (⟦<Desk as Disk>⟧.told self.new)) }
         ensures call { CountsCall self.old self.new }
         ensures named { FailsNext self.old → IsErr result }
     {
@@ -86,7 +100,8 @@ impl Disk for Desk {
         ensures cause { HasCause (⟦<Desk as Disk>⟧.faults self.old) (⟦<Desk as Disk>⟧.faults self.new) result }
         ensures size { ⟦<Desk as Disk>⟧.size self.new ≡ ⟦<Desk as Disk>⟧.size self.old }
         ensures door { ⟦<Desk as Disk>⟧.door self.new ≡ ⟦<Desk as Disk>⟧.door self.old }
-        ensures counts { Goes (λ old new. (new.writes ≡ old.writes) × (new.reads ≡ old.reads)) (⟦<Desk as Disk>⟧.told self.old) (⟦<Desk as Disk>⟧.told self.new) }
+        ensures counts { Goes (λ old new. (new.writes ≡ old.writes) × (new.reads ≡ old.reads)) (⟦<Desk as Disk>⟧.told self.old)
+            (⟦<Desk as Disk>⟧.told self.new) }
         ensures synced { OnOk result (Goes (Adds (Synced ∷ [])) (⟦<Desk as Disk>⟧.told self.old) (⟦<Desk as Disk>⟧.told self.new)) }
         ensures nothing { OnErr result (Goes (Adds []) (⟦<Desk as Disk>⟧.told self.old) (⟦<Desk as Disk>⟧.told self.new)) }
         ensures call { CountsCall self.old self.new }

@@ -1,5 +1,6 @@
 ghost use Rattle.quilt_pool.specs.Views.{entries_of};
-ghost use Rattle.std.specs.Prelude.{◌≡◌, ◌↔◌, IsTrue, ℕ, ◌+◌, ◌*◌, ◌≤◌, length, Some, None, [], ◌∷◌, ◌++◌, ◌⊎◌, ◌<◌, true, false, take, refl, IfOk, IfSome, OnOk, OnErr, slice_set};
+ghost use Rattle.std.specs.Prelude.{◌≡◌, ◌↔◌, IsTrue, ℕ, ◌+◌, ◌*◌, ◌≤◌, length, Some, None, [], ◌∷◌, ◌++◌, ◌⊎◌, ◌<◌, true, false, take, refl, IfOk, IfSome};
+ghost use Rattle.std.specs.Prelude.{OnOk, OnErr, slice_set};
 ghost use Rattle.std.specs.Map.{keys_of};
 ghost use Rattle.quilt_world.specs.Tale.{Adds, Goes};
 ghost use Rattle.quilt_world.specs.Doors.{TakesFrom};
@@ -147,7 +148,9 @@ impl<W: Disk> Book<W> {
         ensures number { IfOk result (λ n. n ≡ (last_of self.old).edition + 1) }
         ensures head { OnOk result ((last_of self.new ≡ next_of self.old) × (work_of self.new ≡ next_of self.old)) }
         ensures changed { OnOk result (⟦<Book<W> as PageStore>⟧.changed self.new ≡ 0) }
-        ensures told { OnOk result (Tells (λ old new. new ≡ slice_set old 0 (header_bytes (next_of self.old))) (⟦<Book<W> as PageStore>⟧.told self.old) (⟦<Book<W> as PageStore>⟧.told self.new)) }
+        ensures told { OnOk result
+            (Tells (λ old new. new ≡ slice_set old 0 (header_bytes (next_of self.old))) (⟦<Book<W> as PageStore>⟧.told self.old)
+            (⟦<Book<W> as PageStore>⟧.told self.new)) }
         ensures writes { Goes (Writing (2 * ⟦<Book<W> as PageStore>⟧.changed self.old + 5)) (W.told (world_of self.old)) (W.told (world_of self.new)) }
         ensures free { ⟦<Book<W> as PageStore>⟧.free self.new ≡ ⟦<Book<W> as PageStore>⟧.free self.old }
         ensures used { OnOk result ((page : ℕ) → published_free self.new page ≡ ⟦<Book<W> as PageStore>⟧.free self.old page) }

@@ -21,7 +21,8 @@ impl<W: Disk> PageStore for Book<W> {
 
     ghost faults = { λ s. W.faults s.world };
 
-    ghost later = { λ s t. (t.journal.pages ≡ s.journal.pages) × (t.journal.state ≡ s.journal.state) × ((t.last ≡ s.last) × (t.work ≡ s.work) × (t.used ≡ s.used)) × (W.door t.world ≡ W.door s.world)
+    ghost later = { λ s t. (t.journal.pages ≡ s.journal.pages) × (t.journal.state ≡ s.journal.state)
+        × ((t.last ≡ s.last) × (t.work ≡ s.work) × (t.used ≡ s.used)) × (W.door t.world ≡ W.door s.world)
         × Goes (IsLater s.journal.pages) (W.told s.world) (W.told t.world) };
 
     ghost held = { λ s. Some (keys_of (entries_of s.pool)) };
@@ -85,5 +86,12 @@ impl<W: Disk> PageStore for Book<W> {
 
     ghost same_time = { λ s. (refl, refl, (refl, refl, refl), refl, later_same s.journal.pages (W.told s.world)) };
 
-    ghost goes_on = { λ s t u p q. (q.0 ∙ p.0, q.1 ∙ p.1, (q.2.0 ∙ p.2.0, q.2.1 ∙ p.2.1, q.2.2 ∙ p.2.2), q.3 ∙ p.3, later_on s.journal.pages t.journal.pages (W.told s.world) (W.told t.world) (W.told u.world) p.0 p.4 q.4) };
+    ghost goes_on = { λ s t u p q. (
+      q.0 ∙ p.0,
+      q.1 ∙ p.1,
+      (q.2.0 ∙ p.2.0, q.2.1 ∙ p.2.1, q.2.2 ∙ p.2.2),
+      q.3
+          ∙ p.3,
+      later_on s.journal.pages t.journal.pages (W.told s.world) (W.told t.world) (W.told u.world) p.0 p.4 q.4,
+    ) };
 }

@@ -7,7 +7,8 @@ use Rattle.quilt_blocks.specs.Cutting.{pair_of}
 use Rattle.quilt_blocks.specs.Listing.{pairs_of, EndsInQuarters}
 use Rattle.quilt_blocks.proofs.Places.{followed_block}
 use Rattle.quilt_blocks.proofs.LastQuarter.{made_of, ends_in, is_alike, place, alike_from, last_from, same_from}
-use Rattle.quilt_blocks.proofs.maker.whole_of_last.Goals.{else-is_alike-via-then-is_alike+then-is_alike-2+else-is_alike-3, else-is_alike-via-then-is_alike+else-is_alike-2, else-is_alike-via-else-is_alike}
+use Rattle.quilt_blocks.proofs.maker.whole_of_last.Goals.{else-is_alike-via-then-is_alike+then-is_alike-2+else-is_alike-3}
+use Rattle.quilt_blocks.proofs.maker.whole_of_last.Goals.{else-is_alike-via-then-is_alike+else-is_alike-2, else-is_alike-via-else-is_alike}
 use Rattle.quilt_blocks.proofs.maker.whole_of_last.Goals as goal
 
 abbrev none : Leaf
@@ -35,7 +36,8 @@ returns-then-is_alike-3-clause-some c =
     let l = length-map items pair_of in
     let long : 4 ≤ length items = omega arith in
     let last = c.is_last_quarter.ensures.0 (let f = c.if-not-is_last_quarter.false in cc) in
-    let a = alike_from items none long last (c.is_alike.ensures.0 c.if-is_alike.true) (c.is_alike-then-is_alike.ensures.0 c.if-is_alike-2.true) (c.is_alike-then-is_alike-2.ensures.0 c.if-is_alike-3.true) in
+    let a = alike_from items none long last (c.is_alike.ensures.0 c.if-is_alike.true) (c.is_alike-then-is_alike.ensures.0 c.if-is_alike-2.true)
+    (c.is_alike-then-is_alike-2.ensures.0 c.if-is_alike-3.true) in
     subst (λ z. EndsInQuarters n (pairs_of items) (made_of z)) (place items none long 1 3 (omega arith) (omega arith))
     (ends_in n c.requires.most (pairs_of items) (pair_of none) k (omega arith) c.requires.follows a)
 
@@ -54,7 +56,10 @@ returns-else-is_alike-clause-none c _ e ends =
     let long : 4 ≤ length items = omega arith in
     let a = is_alike c.args.level (pairs_of items) e (pair_of none) (length items - 4) (omega arith) ends in
     elim c.else-is_alike.branch [
-      | else-is_alike-via-then-is_alike+then-is_alike-2+else-is_alike-3 w ↦ let t = w.is_alike-then-is_alike-2.ensures.1 (same_from items none long 4 0 (omega arith) (omega arith) a) in let f = w.if-is_alike-3.false in cc
-      | else-is_alike-via-then-is_alike+else-is_alike-2 w ↦ let t = w.is_alike-then-is_alike.ensures.1 (same_from items none long 3 1 (omega arith) (omega arith) a) in let f = w.if-is_alike-2.false in cc
-      | else-is_alike-via-else-is_alike w ↦ let t = c.is_alike.ensures.1 (same_from items none long 2 2 (omega arith) (omega arith) a) in let f = w.if-is_alike.false in cc
+      | else-is_alike-via-then-is_alike+then-is_alike-2+else-is_alike-3 w ↦ let t =
+          w.is_alike-then-is_alike-2.ensures.1 (same_from items none long 4 0 (omega arith) (omega arith) a) in let f = w.if-is_alike-3.false in cc
+      | else-is_alike-via-then-is_alike+else-is_alike-2 w ↦ let t =
+          w.is_alike-then-is_alike.ensures.1 (same_from items none long 3 1 (omega arith) (omega arith) a) in let f = w.if-is_alike-2.false in cc
+      | else-is_alike-via-else-is_alike w ↦ let t = c.is_alike.ensures.1 (same_from items none long 2 2 (omega arith) (omega arith) a) in
+          let f = w.if-is_alike.false in cc
     ]

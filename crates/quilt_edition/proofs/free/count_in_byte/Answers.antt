@@ -18,17 +18,25 @@ loop-page-preserved c =
     let from = 8 * c.args.byte in
     let back : page + 1 - from ≡ (page - from) + 1 = omega arith in
     let here : from + (page - from) ≡ page = omega arith in
-    let step = ap (λ k. length (filter f (range_with_len from k))) back ∙ count_more f from (page - from) ∙ ap (λ i. length (filter f (range_with_len from (page - from))) + cond {A = ℕ} (f i) 1 0) here in
+    let step = ap (λ k. length (filter f (range_with_len from k))) back ∙ count_more f from (page - from)
+    ∙ ap (λ i. length (filter f (range_with_len from (page - from))) + cond {A = ℕ} (f i) 1 0) here in
     elim c.if-is_free_at.branch [
-      | then-is_free_at w ↦ w.count-is ∙ ap (λ n. n + 1) c.loop-page.invariant ∙ sym (step ∙ ap (λ b. length (filter f (range_with_len from (page - from))) + cond {A = ℕ} b 1 0) (sym c.is_free_at.ensures ∙ w.if-is_free_at.true))
-      | else-is_free_at w ↦ w.count-is ∙ c.loop-page.invariant ∙ sym (step ∙ ap (λ b. length (filter f (range_with_len from (page - from))) + cond {A = ℕ} b 1 0) (sym c.is_free_at.ensures ∙ w.if-is_free_at.false) ∙ omega arith)
+      | then-is_free_at w ↦ w.count-is ∙ ap (λ n. n + 1) c.loop-page.invariant
+          ∙ sym (step ∙ ap (λ b. length (filter f (range_with_len from (page - from))) + cond {A = ℕ} b 1 0) (sym c.is_free_at.ensures ∙ w.if-is_free_at.true))
+      | else-is_free_at w ↦ w.count-is ∙ c.loop-page.invariant
+          ∙ sym (step ∙ ap (λ b. length (filter f (range_with_len from (page - from))) + cond {A = ℕ} b 1 0)
+          (sym c.is_free_at.ensures ∙ w.if-is_free_at.false) ∙ omega arith)
     ]
 
 pub returns-then-bits-eq0 : goal.returns-then-bits-eq0
-returns-then-bits-eq0 c = sym (count_none (is_free c.args.pages c.args.free.now) (8 * c.args.byte) 8 (λ i from to. none_in c.args.pages c.args.byte c.args.free.now i from to c.if-bits-eq0.true))
+returns-then-bits-eq0 c =
+    sym (count_none (is_free c.args.pages c.args.free.now) (8 * c.args.byte) 8
+    (λ i from to. none_in c.args.pages c.args.byte c.args.free.now i from to c.if-bits-eq0.true))
 
 pub returns-then-byte-pages : goal.returns-then-byte-pages
-returns-then-byte-pages c = sym (count_all (is_free c.args.pages c.args.free.now) (8 * c.args.byte) 8 (λ i from to. all_in c.args.pages c.args.byte c.args.free.now i from to c.if-byte-ge1.true c.if-byte-pages.true c.if-bits.true))
+returns-then-byte-pages c =
+    sym (count_all (is_free c.args.pages c.args.free.now) (8 * c.args.byte) 8
+    (λ i from to. all_in c.args.pages c.args.byte c.args.free.now i from to c.if-byte-ge1.true c.if-byte-pages.true c.if-bits.true))
 
 pub returns : goal.returns
 returns c =

@@ -5,5 +5,6 @@ use Rattle.quilt_edition.proofs.free.first_free.Goals as goal
 
 pub returns : goal.returns
 returns c =
-    let none = count_none (is_free c.args.pages c.args.free.now) 1 (c.args.pages - 1) (λ i le lt. c.loop-byte.invariant i (omega (arith, le, lt, c.requires.range, c.loop-byte-test.false))) in
+    let none = count_none (is_free c.args.pages c.args.free.now) 1 (c.args.pages - 1)
+    (λ i le lt. c.loop-byte.invariant i (omega (arith, le, lt, c.requires.range, c.loop-byte-test.false))) in
     absurd (omega (arith, none, c.requires.some))

@@ -1,5 +1,6 @@
 use Rattle.std.proofs.Common.{length, filter, set, true, ◌+◌, ◌*◌, ◌-◌, ◌≤◌, ◌≡◌, refl, ◌∙◌, ap, arith}
-use Rattle.quilt_edition.proofs.Publishing.{drain_stops, moves_drained, moves_torn, on_err_if, goes_drained, goes_old_stops, goes_listed, goes_opening, goes_opened, goes_new_stops, goes_carried, goes_finished}
+use Rattle.quilt_edition.proofs.Publishing.{drain_stops, moves_drained, moves_torn, on_err_if, goes_drained, goes_old_stops, goes_listed, goes_opening}
+use Rattle.quilt_edition.proofs.Publishing.{goes_opened, goes_new_stops, goes_carried, goes_finished}
 use Rattle.std.specs.List.{range_with_len}
 use Rattle.quilt_journal.specs.Changed.{changed_count}
 use Rattle.quilt_journal.proofs.Counts.{count_set}
@@ -43,7 +44,8 @@ returns-in_err-seal-clause-crash g c =
     let at1 = goes_drained n es old h fs a0 a1 a1 n refl j1.changed c.in_ok-drain_dirty.ensures.drained c.drain_dirty.ensures.kept in
     let j2 = c.write_slot.new.self in
     let p2 = c.write_slot.ensures.same.0 ∙ p1 in
-    let at2 = goes_listed n es old h fs a0 a1 a2 j1.pages p1 c.drain_dirty.ensures.below j1.changed j2.changed at1 c.in_ok-write_slot.ensures.changed c.write_slot.ensures.crash c.in_ok-write_slot.ensures.kept in
+    let at2 = goes_listed n es old h fs a0 a1 a2 j1.pages p1 c.drain_dirty.ensures.below j1.changed j2.changed at1 c.in_ok-write_slot.ensures.changed
+    c.write_slot.ensures.crash c.in_ok-write_slot.ensures.kept in
     let a3 = g.W.Disk.told c.seal.new.disk in
     goes_opening n es old h fs a0 a2 a3 j2.pages p2 j2.changed at2 c.seal.ensures.crash
 
@@ -62,7 +64,8 @@ returns-in_err-carry_home-clause-crash g c =
     let at1 = goes_drained n es old h fs a0 a1 a1 n refl j1.changed c.in_ok-drain_dirty.ensures.drained c.drain_dirty.ensures.kept in
     let j2 = c.write_slot.new.self in
     let p2 = c.write_slot.ensures.same.0 ∙ p1 in
-    let at2 = goes_listed n es old h fs a0 a1 a2 j1.pages p1 c.drain_dirty.ensures.below j1.changed j2.changed at1 c.in_ok-write_slot.ensures.changed c.write_slot.ensures.crash c.in_ok-write_slot.ensures.kept in
+    let at2 = goes_listed n es old h fs a0 a1 a2 j1.pages p1 c.drain_dirty.ensures.below j1.changed j2.changed at1 c.in_ok-write_slot.ensures.changed
+    c.write_slot.ensures.crash c.in_ok-write_slot.ensures.kept in
     let a3 = g.W.Disk.told c.seal.new.disk in
     let j3 = c.seal.new.self in
     let p3 = c.seal.ensures.same.0 ∙ p2 in
@@ -85,7 +88,8 @@ returns-in_err-unseal-clause-crash g c =
     let at1 = goes_drained n es old h fs a0 a1 a1 n refl j1.changed c.in_ok-drain_dirty.ensures.drained c.drain_dirty.ensures.kept in
     let j2 = c.write_slot.new.self in
     let p2 = c.write_slot.ensures.same.0 ∙ p1 in
-    let at2 = goes_listed n es old h fs a0 a1 a2 j1.pages p1 c.drain_dirty.ensures.below j1.changed j2.changed at1 c.in_ok-write_slot.ensures.changed c.write_slot.ensures.crash c.in_ok-write_slot.ensures.kept in
+    let at2 = goes_listed n es old h fs a0 a1 a2 j1.pages p1 c.drain_dirty.ensures.below j1.changed j2.changed at1 c.in_ok-write_slot.ensures.changed
+    c.write_slot.ensures.crash c.in_ok-write_slot.ensures.kept in
     let a3 = g.W.Disk.told c.seal.new.disk in
     let j3 = c.seal.new.self in
     let p3 = c.seal.ensures.same.0 ∙ p2 in
@@ -93,7 +97,8 @@ returns-in_err-unseal-clause-crash g c =
     let a4 = g.W.Disk.told c.carry_home.new.disk in
     let j4 = c.carry_home.new.self in
     let p4 = c.carry_home.ensures.same.0 ∙ p3 in
-    let at4 = goes_carried n es old h fs a0 a3 a4 j3.pages p3 j3.changed j4.changed c.carry_home.ensures.same.1 at3 c.carry_home.ensures.crash c.in_ok-carry_home.ensures.kept in
+    let at4 = goes_carried n es old h fs a0 a3 a4 j3.pages p3 j3.changed j4.changed c.carry_home.ensures.same.1 at3 c.carry_home.ensures.crash
+    c.in_ok-carry_home.ensures.kept in
     let a5 = g.W.Disk.told c.unseal.new.disk in
     goes_new_stops n es old h fs a0 a4 a5 j4.pages p4 j4.changed at4 c.unseal.ensures.crash
 
@@ -112,7 +117,8 @@ returns-clause-crash g c =
     let at1 = goes_drained n es old h fs a0 a1 a1 n refl j1.changed c.in_ok-drain_dirty.ensures.drained c.drain_dirty.ensures.kept in
     let j2 = c.write_slot.new.self in
     let p2 = c.write_slot.ensures.same.0 ∙ p1 in
-    let at2 = goes_listed n es old h fs a0 a1 a2 j1.pages p1 c.drain_dirty.ensures.below j1.changed j2.changed at1 c.in_ok-write_slot.ensures.changed c.write_slot.ensures.crash c.in_ok-write_slot.ensures.kept in
+    let at2 = goes_listed n es old h fs a0 a1 a2 j1.pages p1 c.drain_dirty.ensures.below j1.changed j2.changed at1 c.in_ok-write_slot.ensures.changed
+    c.write_slot.ensures.crash c.in_ok-write_slot.ensures.kept in
     let a3 = g.W.Disk.told c.seal.new.disk in
     let j3 = c.seal.new.self in
     let p3 = c.seal.ensures.same.0 ∙ p2 in
@@ -120,7 +126,8 @@ returns-clause-crash g c =
     let a4 = g.W.Disk.told c.carry_home.new.disk in
     let j4 = c.carry_home.new.self in
     let p4 = c.carry_home.ensures.same.0 ∙ p3 in
-    let at4 = goes_carried n es old h fs a0 a3 a4 j3.pages p3 j3.changed j4.changed c.carry_home.ensures.same.1 at3 c.carry_home.ensures.crash c.in_ok-carry_home.ensures.kept in
+    let at4 = goes_carried n es old h fs a0 a3 a4 j3.pages p3 j3.changed j4.changed c.carry_home.ensures.same.1 at3 c.carry_home.ensures.crash
+    c.in_ok-carry_home.ensures.kept in
     let a5 = g.W.Disk.told c.unseal.new.disk in
     goes_new_stops n es old h fs a0 a4 a5 j4.pages p4 j4.changed at4 c.unseal.ensures.crash
 
@@ -139,7 +146,8 @@ returns-clause-published g c =
     let at1 = goes_drained n es old h fs a0 a1 a1 n refl j1.changed c.in_ok-drain_dirty.ensures.drained c.drain_dirty.ensures.kept in
     let j2 = c.write_slot.new.self in
     let p2 = c.write_slot.ensures.same.0 ∙ p1 in
-    let at2 = goes_listed n es old h fs a0 a1 a2 j1.pages p1 c.drain_dirty.ensures.below j1.changed j2.changed at1 c.in_ok-write_slot.ensures.changed c.write_slot.ensures.crash c.in_ok-write_slot.ensures.kept in
+    let at2 = goes_listed n es old h fs a0 a1 a2 j1.pages p1 c.drain_dirty.ensures.below j1.changed j2.changed at1 c.in_ok-write_slot.ensures.changed
+    c.write_slot.ensures.crash c.in_ok-write_slot.ensures.kept in
     let a3 = g.W.Disk.told c.seal.new.disk in
     let j3 = c.seal.new.self in
     let p3 = c.seal.ensures.same.0 ∙ p2 in
@@ -147,7 +155,8 @@ returns-clause-published g c =
     let a4 = g.W.Disk.told c.carry_home.new.disk in
     let j4 = c.carry_home.new.self in
     let p4 = c.carry_home.ensures.same.0 ∙ p3 in
-    let at4 = goes_carried n es old h fs a0 a3 a4 j3.pages p3 j3.changed j4.changed c.carry_home.ensures.same.1 at3 c.carry_home.ensures.crash c.in_ok-carry_home.ensures.kept in
+    let at4 = goes_carried n es old h fs a0 a3 a4 j3.pages p3 j3.changed j4.changed c.carry_home.ensures.same.1 at3 c.carry_home.ensures.crash
+    c.in_ok-carry_home.ensures.kept in
     let a5 = g.W.Disk.told c.unseal.new.disk in
     goes_finished n es old h fs a0 a4 a5 j4.pages p4 j4.changed at4 c.in_ok-unseal.ensures.kept
 
@@ -156,8 +165,10 @@ returns-in_err-drain_dirty-clause-left g c = on_err_if _ _ _ (moves_drained _ _ 
 
 pub returns-in_err-write_slot-clause-left : goal.returns-in_err-write_slot-clause-left
 returns-in_err-write_slot-clause-left g c =
-    on_err_if _ _ _ (moves_torn c.args.journal.now.pages c.drain_dirty.new.journal.pages c.args.pool.now.table.entries c.drain_dirty.new.self.table.entries c.args.journal.now.changed c.drain_dirty.new.journal.changed c.write_slot.new.self.changed _ _ _
-    c.drain_dirty.ensures.journal.0 c.in_err-write_slot.ensures.unlisted c.drain_dirty.ensures.below c.drain_dirty.ensures.kept c.in_err-write_slot.ensures.given_up c.in_err-write_slot.ensures.tore c.write_slot.ensures.crash)
+    on_err_if _ _ _ (moves_torn c.args.journal.now.pages c.drain_dirty.new.journal.pages c.args.pool.now.table.entries
+    c.drain_dirty.new.self.table.entries c.args.journal.now.changed c.drain_dirty.new.journal.changed c.write_slot.new.self.changed _ _ _
+    c.drain_dirty.ensures.journal.0 c.in_err-write_slot.ensures.unlisted c.drain_dirty.ensures.below c.drain_dirty.ensures.kept
+    c.in_err-write_slot.ensures.given_up c.in_err-write_slot.ensures.tore c.write_slot.ensures.crash)
 
 pub returns-in_err-drain_dirty-clause-writes : goal.returns-in_err-drain_dirty-clause-writes
 returns-in_err-drain_dirty-clause-writes g c =

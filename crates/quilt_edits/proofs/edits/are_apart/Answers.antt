@@ -14,14 +14,16 @@ returns-then-is_same-clause-no c apart =
 
 pub loop-i-preserved-then-is_before : goal.loop-i-preserved-then-is_before
 loop-i-preserved-then-is_before c =
-    first_passed c.args.a.now c.args.b.now c.loop-i.i c.loop-i.j _ _ c.loop-i-test.true c.if-j-b.true (ascending_rises c.args.a.now c.requires.first) (ascending_rises c.args.b.now c.requires.second) c.loop-i.invariant (sym c.if-is_before.ensures)
+    first_passed c.args.a.now c.args.b.now c.loop-i.i c.loop-i.j _ _ c.loop-i-test.true c.if-j-b.true (ascending_rises c.args.a.now c.requires.first)
+    (ascending_rises c.args.b.now c.requires.second) c.loop-i.invariant (sym c.if-is_before.ensures)
 
 pub loop-i-smaller : goal.loop-i-smaller
 loop-i-smaller c = let i = c.loop-i-test.true in let j = c.if-j-b.true in omega arith
 
 pub loop-i-preserved : goal.loop-i-preserved
 loop-i-preserved c =
-    second_passed c.args.a.now c.args.b.now c.loop-i.i c.loop-i.j _ _ c.loop-i-test.true c.if-j-b.true (ascending_rises c.args.a.now c.requires.first) (ascending_rises c.args.b.now c.requires.second) c.loop-i.invariant (sym c.if-is_before.ensures)
+    second_passed c.args.a.now c.args.b.now c.loop-i.i c.loop-i.j _ _ c.loop-i-test.true c.if-j-b.true
+    (ascending_rises c.args.a.now c.requires.first) (ascending_rises c.args.b.now c.requires.second) c.loop-i.invariant (sym c.if-is_before.ensures)
     (λ e. both_ways false refl (sym c.if-is_same.false ∙ c.is_same.ensures.no e))
 
 pub returns-else-j-b-clause-yes : goal.returns-else-j-b-clause-yes

@@ -20,11 +20,13 @@ is_wide n g b h mixed =
 
 pub returns-then-eq-clause-value : goal.returns-then-eq-clause-value
 returns-then-eq-clause-value t c =
-    sym (along_one c.args.on c.args.a.now.level c.args.a.now.grid c.args.c.0 c.in-Some.d.0 c.args.b c.requires.valid c.in-Some.ensures.colour ∙ other_none c.args.b.side c.in-Some.d.0 c.args.c.0 (sym c.if-eq.ensures))
+    sym (along_one c.args.on c.args.a.now.level c.args.a.now.grid c.args.c.0 c.in-Some.d.0 c.args.b c.requires.valid c.in-Some.ensures.colour
+    ∙ other_none c.args.b.side c.in-Some.d.0 c.args.c.0 (sym c.if-eq.ensures))
 
 pub returns-else-eq-clause-value : goal.returns-else-eq-clause-value
 returns-else-eq-clause-value t c =
-    sym (along_one c.args.on c.args.a.now.level c.args.a.now.grid c.args.c.0 c.in-Some.d.0 c.args.b c.requires.valid c.in-Some.ensures.colour ∙ other_all c.args.b.side c.in-Some.d.0 c.args.c.0 (sym c.if-eq.ensures))
+    sym (along_one c.args.on c.args.a.now.level c.args.a.now.grid c.args.c.0 c.in-Some.d.0 c.args.b c.requires.valid c.in-Some.ensures.colour
+    ∙ other_all c.args.b.side c.in-Some.d.0 c.args.c.0 (sym c.if-eq.ensures))
 
 pub halves-requires-clause-valid : goal.halves-requires-clause-valid
 halves-requires-clause-valid t c = IsBlock-up c.args.a.now.level 12 c.args.b c.requires.most c.requires.valid

@@ -33,5 +33,6 @@ overflow_add-result-3 c =
 
 pub returns-clause-value : goal.returns-clause-value
 returns-clause-value c =
-    ap₂ (λ i j. i + j) (ap₂ (λ i j. i + j) (ap₂ (λ i j. i + j) c.edges_on.ensures.value c.edges_on-2.ensures.value) c.edges_on-3.ensures.value) c.edges_on-4.ensures.value
+    ap₂ (λ i j. i + j) (ap₂ (λ i j. i + j) (ap₂ (λ i j. i + j) c.edges_on.ensures.value c.edges_on-2.ensures.value) c.edges_on-3.ensures.value)
+    c.edges_on-4.ensures.value
     ∙ edges_sum c.args.a.now.level c.args.a.now.grid c.args.c.0 c.args.b c.requires.valid c.requires.colour

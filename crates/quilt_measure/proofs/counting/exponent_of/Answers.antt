@@ -16,7 +16,8 @@ only_bit s h =
     let t = bit_at-trailing_zeros w16 s (omega arith) (omega arith) in
     let one : bit_at (2 ^ k) (trailing_zeros w16 s) ≡ 1 = ap (λ z. bit_at z (trailing_zeros w16 s)) (sym e) ∙ t.1 in
     ⊎_elim (λ lt. absurd (let z = bit_at-pow_other k (trailing_zeros w16 s) (λ q. omega arith) in omega arith))
-    (λ ge. ⊎_elim (λ lt. absurd (let z = bit_at-pow_other k (trailing_zeros w16 s) (λ q. omega arith) in omega arith)) (λ le. omega arith) (cases_lt k (trailing_zeros w16 s)))
+    (λ ge. ⊎_elim (λ lt. absurd (let z = bit_at-pow_other k (trailing_zeros w16 s) (λ q. omega arith) in omega arith)) (λ le. omega arith)
+    (cases_lt k (trailing_zeros w16 s)))
     (cases_lt (trailing_zeros w16 s) k)
 
 pub returns-clause-most : goal.returns-clause-most

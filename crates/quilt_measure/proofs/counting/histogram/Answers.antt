@@ -1,4 +1,5 @@
-use Rattle.std.proofs.Common.{◌≡◌, ℕ, ◌+◌, ◌<◌, ◌≤◌, ◌==◌, List, Bool, cond, eqb, eq-eqb, eqb-true, length, take, get_or, set, count_by, ⊎_elim, sym, ◌∙◌, ap, arith}
+use Rattle.std.proofs.Common.{◌≡◌, ℕ, ◌+◌, ◌<◌, ◌≤◌, ◌==◌, List, Bool, cond, eqb, eq-eqb, eqb-true, length, take, get_or, set, count_by, ⊎_elim, sym, ◌∙◌, ap}
+use Rattle.std.proofs.Common.{arith}
 use Rattle.std.proofs.lemmas.Bool.{cases_lt, false_from_ne_true}
 use Rattle.std.proofs.lemmas.List.{take_all, get_or-set_same, get_or-set_other, length-set}
 use Rattle.std.proofs.lemmas.List.Sums.{count_by-le-length, count_by_more_yes, count_by_more_no}
@@ -41,7 +42,8 @@ counted es e counts i j k lt is room size old lj lk =
     other : (k ≡ j → ⊥) → get_or (set counts j (get_or counts j 0 + 1)) k 0 ≡ count_by (λ (d : Block × ℕ). d.0.side == side k) (take (i + 1) es)
     other q =
         get_or-set_other counts j k (get_or counts j 0 + 1) 0 q ∙ old k lk
-        ∙ sym (count_by_more_no (λ (d : Block × ℕ). d.0.side == side k) es i e lt (false_from_ne_true _ (λ t. q (pow_same k j (sym (eqb-true _ _ t) ∙ ap (λ (d : Block × ℕ). d.0.side) here ∙ size)))))
+        ∙ sym (count_by_more_no (λ (d : Block × ℕ). d.0.side == side k) es i e lt
+        (false_from_ne_true _ (λ t. q (pow_same k j (sym (eqb-true _ _ t) ∙ ap (λ (d : Block × ℕ). d.0.side) here ∙ size)))))
 
 pub loop-i-preserved : goal.loop-i-preserved
 loop-i-preserved c =
@@ -53,7 +55,8 @@ loop-i-preserved c =
     let most = c.exponent_of.ensures.most in
     record {
       long = length-set {A = ℕ} _ _ _ ∙ size;
-      known = λ k le. counted es (pair_of c.leaf.result) c.loop-i.counts c.loop-i.i c.exponent_of.result k (omega arith) c.leaf.ensures.value (omega arith) c.exponent_of.ensures.value c.loop-i.invariant.known most le;
+      known = λ k le. counted es (pair_of c.leaf.result) c.loop-i.counts c.loop-i.i c.exponent_of.result k (omega arith) c.leaf.ensures.value
+          (omega arith) c.exponent_of.ensures.value c.loop-i.invariant.known most le;
     }
 
 pub returns : goal.returns

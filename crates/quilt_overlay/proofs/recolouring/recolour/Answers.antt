@@ -42,5 +42,6 @@ returns c =
     let f : Pixel → ℕ = λ p. recoloured_by (numbers_of c.args.pairs.now) (colour_at n g p) in
     let end : length c.loop-leaf.maker.colours ≡ 4 ^ n = sym inv.place ∙ c.in_default.ensures.whole.0 refl ∙ ap (λ (k : ℕ). 4 ^ k) inv.same_level in
     let level = c.finish.ensures.level ∙ inv.level in
-    let grid = c.finish.ensures.value ∙ ap (λ (k : ℕ). grid_by_code k c.loop-leaf.maker.colours) inv.level ∙ Paints-all n f c.loop-leaf.maker.colours c.level.ensures.raster.most end inv.paints in
+    let grid = c.finish.ensures.value ∙ ap (λ (k : ℕ). grid_by_code k c.loop-leaf.maker.colours) inv.level
+    ∙ Paints-all n f c.loop-leaf.maker.colours c.level.ensures.raster.most end inv.paints in
     λ i. record { level = level i; grid = grid i }

@@ -17,4 +17,5 @@ returns g c =
     let n = c.args.level in
     let grid = colours_of_bytes c.args.colours.now in
     let e = c.in_ok-first.ensures in
-    c.merged.ensures grid (length-colours_of_bytes (side n * side n) c.args.colours.now c.requires.all) (ShowAll-four n grid _ _ _ _ e.first e.second e.third e.fourth)
+    c.merged.ensures grid (length-colours_of_bytes (side n * side n) c.args.colours.now c.requires.all)
+    (ShowAll-four n grid _ _ _ _ e.first e.second e.third e.fourth)

@@ -64,5 +64,6 @@ returns c g long all =
     let inv = c.loop-number.invariant in
     let adds = subst (λ (k : ℕ). Adds n (colour_at n g) k start m) (whole n c.loop-number.number c.requires.least c.requires.most end) (inv.adds g all) in
     let level = c.finish.ensures.level ∙ inv.level in
-    let grid = c.finish.ensures.value ∙ ap (λ (k : ℕ). grid_by_code k m.colours) inv.level ∙ Adds-all n (colour_at n g) m c.requires.most adds ∙ sym (grid_of-colour_at n g long) in
+    let grid = c.finish.ensures.value ∙ ap (λ (k : ℕ). grid_by_code k m.colours) inv.level ∙ Adds-all n (colour_at n g) m c.requires.most adds
+    ∙ sym (grid_of-colour_at n g long) in
     λ j. record { level = level j; grid = grid j }

@@ -9,5 +9,6 @@ abbrev pub invariant-loop-number : goal.invariant-loop-number
 invariant-loop-number l = record {
   level : l.maker.level ≡ l.level;
   long : length l.maker.colours ≡ l.number * (side l.level / 2 * (side l.level / 2));
-  adds : (g : Grid) → ShowAll l.level g l.parts → Adds l.level (colour_at l.level g) (l.number * (side l.level / 2 * (side l.level / 2))) (record { level = l.level; colours = [] }) l.maker;
+  adds : (g : Grid) → ShowAll l.level g l.parts
+      → Adds l.level (colour_at l.level g) (l.number * (side l.level / 2 * (side l.level / 2))) (record { level = l.level; colours = [] }) l.maker;
 }

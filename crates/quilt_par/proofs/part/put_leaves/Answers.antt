@@ -36,13 +36,16 @@ pub push-requires-clause-valid : goal.push-requires-clause-valid
 push-requires-clause-valid c =
     let n = c.args.maker.now.level in
     let r = c.in-Some.leaf.block in
-    let mv = moved_is n c.args.list.now.level c.args.b r c.requires.most c.requires.valid c.requires.wide (here c.args.list.now.level _ c.args.list.now.grid _ c.loop-leaf.leaves.at (pair_of c.in-Some.leaf) c.loop-leaf.invariant.same_level c.loop-leaf.invariant.same_grid c.in-Some.ensures.leaf).block in
+    let mv = moved_is n c.args.list.now.level c.args.b r c.requires.most c.requires.valid c.requires.wide
+    (here c.args.list.now.level _ c.args.list.now.grid _ c.loop-leaf.leaves.at
+    (pair_of c.in-Some.leaf) c.loop-leaf.invariant.same_level c.loop-leaf.invariant.same_grid c.in-Some.ensures.leaf).block in
     subst (λ (k : ℕ). IsBlock k (moved c.args.b r)) (sym c.loop-leaf.invariant.adds.level) mv.block
 
 pub push-requires-clause-next : goal.push-requires-clause-next
 push-requires-clause-next c =
     let n = c.args.maker.now.level in
-    let leaf = here c.args.list.now.level _ c.args.list.now.grid _ c.loop-leaf.leaves.at (pair_of c.in-Some.leaf) c.loop-leaf.invariant.same_level c.loop-leaf.invariant.same_grid c.in-Some.ensures.leaf in
+    let leaf = here c.args.list.now.level _ c.args.list.now.grid _ c.loop-leaf.leaves.at
+    (pair_of c.in-Some.leaf) c.loop-leaf.invariant.same_level c.loop-leaf.invariant.same_grid c.in-Some.ensures.leaf in
     let mv = moved_is n c.args.list.now.level c.args.b c.in-Some.leaf.block c.requires.most c.requires.valid c.requires.wide leaf.block in
     let from = mv.from in
     let begins = leaf.from in
@@ -63,7 +66,9 @@ loop-leaf-preserved c =
       same_level = c.in-Some.ensures.level ∙ inv.same_level;
       same_grid = c.in-Some.ensures.grid ∙ inv.same_grid;
       adds = subst (λ (k : ℕ). Adds n f (code_from b + k) old new) (sym c.in-Some.ensures.at)
-          (Adds-moved n b list leaf.block leaf.colour.0 c.loop-leaf.leaves.at old c.loop-leaf.maker new c.requires.most c.requires.valid c.requires.wide (here c.args.list.now.level _ c.args.list.now.grid _ c.loop-leaf.leaves.at (pair_of c.in-Some.leaf) c.loop-leaf.invariant.same_level c.loop-leaf.invariant.same_grid c.in-Some.ensures.leaf) c.requires.next inv.adds c.in_ok-push.ensures.ok);
+          (Adds-moved n b list leaf.block leaf.colour.0 c.loop-leaf.leaves.at old c.loop-leaf.maker new c.requires.most c.requires.valid
+          c.requires.wide (here c.args.list.now.level _ c.args.list.now.grid _ c.loop-leaf.leaves.at (pair_of c.in-Some.leaf)
+          c.loop-leaf.invariant.same_level c.loop-leaf.invariant.same_grid c.in-Some.ensures.leaf) c.requires.next inv.adds c.in_ok-push.ensures.ok);
     }
 
 pub returns : goal.returns

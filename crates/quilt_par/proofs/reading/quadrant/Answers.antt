@@ -10,7 +10,8 @@ use Rattle.quilt_par.proofs.reading.quadrant.Goals as goal
 pub quarters-requires-clause-valid : goal.quarters-requires-clause-valid
 quarters-requires-clause-valid c =
     let n = c.args.level in
-    subst (λ (s : ℕ). let b : Block = record { x = 0; y = 0; side = s } in IsBlock 12 b) (sym (width n c.requires.most)) (IsBlock-up n 12 (whole n) c.requires.most (IsBlock-whole n))
+    subst (λ (s : ℕ). let b : Block = record { x = 0; y = 0; side = s } in IsBlock 12 b) (sym (width n c.requires.most))
+    (IsBlock-up n 12 (whole n) c.requires.most (IsBlock-whole n))
 
 pub quarters-requires-clause-wide : goal.quarters-requires-clause-wide
 quarters-requires-clause-wide c =

@@ -35,7 +35,8 @@ finish-requires c =
     let least = c.requires.least in
     let is : n ≡ suc (n - 1) = omega arith in
     let half = half_side n (n - 1) c.args.b.side is c.requires.half in
-    let all = all_added (n - 1) (from_corner n (colours_of_bytes c.args.colours.now) (corner c.args.b)) c.args.b.side c.new-maker.result c.add_square.new.maker half c.new-maker.ensures c.in_ok-add_square.ensures in
+    let all = all_added (n - 1) (from_corner n (colours_of_bytes c.args.colours.now) (corner c.args.b))
+    c.args.b.side c.new-maker.result c.add_square.new.maker half c.new-maker.ensures c.in_ok-add_square.ensures in
     all.long ∙ ap (λ (k : ℕ). 4 ^ k) (sym all.level)
 
 pub returns : goal.returns
@@ -46,7 +47,8 @@ returns c =
     let least = c.requires.least in
     let is : n ≡ suc (n - 1) = omega arith in
     let half = half_side n (n - 1) b.side is c.requires.half in
-    let all = all_added (n - 1) (from_corner n g (corner b)) b.side c.new-maker.result c.add_square.new.maker half c.new-maker.ensures c.in_ok-add_square.ensures in
+    let all =
+    all_added (n - 1) (from_corner n g (corner b)) b.side c.new-maker.result c.add_square.new.maker half c.new-maker.ensures c.in_ok-add_square.ensures in
     let level = c.finish.ensures.level ∙ all.level in
     let grid = c.finish.ensures.value ∙ ap (λ (k : ℕ). grid_by_code k c.add_square.new.maker.colours) all.level in
     Shows-square n (n - 1) g b c.finish.result c.add_square.new.maker is c.requires.most c.requires.half (λ i. record { level = level i; grid = grid i }) all

@@ -43,11 +43,13 @@ fill-requires t c =
     let s = c.args.square in
     let wide = wide_unless s _ (side_pos n s c.requires.valid) (sym c.is_whole.ensures ∙ c.if-is_whole.false) in
     let quarter = get_or c.quarters-quarter-items.result c.loop-quarter.quarter-index (record { x = 0; y = 0; side = 0 }) in
-    let q = part_at n s c.quarters-quarter-items.result c.loop-quarter.quarter-index (record { x = 0; y = 0; side = 0 }) c.requires.most c.requires.valid wide c.quarters-quarter-items.ensures.value c.loop-quarter-test.true in
+    let q = part_at n s c.quarters-quarter-items.result c.loop-quarter.quarter-index
+    (record { x = 0; y = 0; side = 0 }) c.requires.most c.requires.valid wide c.quarters-quarter-items.ensures.value c.loop-quarter-test.true in
     let smaller = q.smaller in
     let level = c.loop-quarter.invariant.level in
     let most = c.requires.most in
-    let closed = subst (λ (l : List RingEdge). IsClosed quarter l) (sym (c.deref.ensures.value ∙ c.in_ok-near.ensures)) (IsClosed-close_to s quarter c.args.edges.now q.within c.requires.closed) in
+    let closed = subst (λ (l : List RingEdge). IsClosed quarter l) (sym (c.deref.ensures.value ∙ c.in_ok-near.ensures))
+    (IsClosed-close_to s quarter c.args.edges.now q.within c.requires.closed) in
     (omega arith, (omega arith, (subst (λ (k : ℕ). IsBlock k quarter) (sym level) q.block, (q.from ∙ sym c.loop-quarter.invariant.long, closed))))
 
 pub loop-quarter-preserved : goal.loop-quarter-preserved
@@ -58,7 +60,8 @@ loop-quarter-preserved t c =
     let i = c.loop-quarter.quarter-index in
     let h = s.side / 2 * (s.side / 2) in
     let wide = wide_unless s _ (side_pos n s c.requires.valid) (sym c.is_whole.ensures ∙ c.if-is_whole.false) in
-    let q = part_at n s c.quarters-quarter-items.result i (record { x = 0; y = 0; side = 0 }) c.requires.most c.requires.valid wide c.quarters-quarter-items.ensures.value c.loop-quarter-test.true in
+    let q = part_at n s c.quarters-quarter-items.result i (record { x = 0; y = 0; side = 0 }) c.requires.most c.requires.valid wide
+    c.quarters-quarter-items.ensures.value c.loop-quarter-test.true in
     let next = c.requires.next in
     let m = c.loop-quarter.maker in
     let new = c.fill.new.maker in
@@ -78,6 +81,8 @@ returns t c =
     let four : c.loop-quarter.quarter-index ≡ 4 = omega arith in
     let codes = half_codes n s c.requires.valid c.requires.most wide in
     let all = codes.all in
-    let end : code_from s + c.loop-quarter.quarter-index * (s.side / 2 * (s.side / 2)) ≡ code_to s = ap (λ k. code_from s + k * (s.side / 2 * (s.side / 2))) four ∙ sym all in
-    filled_by_all n s c.args.edges.now c.in_ok-near.near.items c.args.c.0 c.args.maker.now m c.requires.most c.requires.valid c.requires.next c.requires.closed c.in_ok-near.ensures
+    let end : code_from s + c.loop-quarter.quarter-index * (s.side / 2 * (s.side / 2)) ≡ code_to s =
+    ap (λ k. code_from s + k * (s.side / 2 * (s.side / 2))) four ∙ sym all in
+    filled_by_all n s c.args.edges.now c.in_ok-near.near.items c.args.c.0 c.args.maker.now m c.requires.most c.requires.valid c.requires.next
+    c.requires.closed c.in_ok-near.ensures
     (subst (λ (k : ℕ). Adds n f k c.args.maker.now m) end c.loop-quarter.invariant)

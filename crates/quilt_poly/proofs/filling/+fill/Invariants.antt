@@ -9,4 +9,5 @@ decreases-fill l = l.square.side
 
 abbrev pub invariant-loop-quarter : goal.invariant-loop-quarter
 invariant-loop-quarter l =
-    Adds l.initial.maker.level (colour_by l.near.items l.fn.c.0) (code_from l.fn.square + l.quarter-index * (l.fn.square.side / 2 * (l.fn.square.side / 2))) l.initial.maker l.maker
+    Adds l.initial.maker.level (colour_by l.near.items l.fn.c.0)
+    (code_from l.fn.square + l.quarter-index * (l.fn.square.side / 2 * (l.fn.square.side / 2))) l.initial.maker l.maker

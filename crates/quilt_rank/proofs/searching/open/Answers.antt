@@ -23,7 +23,9 @@ returns-in-Ok-Leaf-clause-opened g c = record {
   found = λ l s. subst (λ (part : Part). IsPart l c.args.b part) c.in-Ok-Leaf.field-0-is (c.in-Ok-Leaf.ensures.part l s);
   found_of = subst (λ (part : Part). IsPartOf (g.B.SegBlocks.level_of c.args.blocks.now) c.args.b part) c.in-Ok-Leaf.field-0-is c.in-Ok-Leaf.ensures.part_of;
   after = (refl, c.in-Ok.ensures ∙ ap (fold (with_seg c.args.p c.args.k) c.args.ranks.now) c.items.ensures);
-  reads = subst (λ (part : Part). Tells (λ old new. new ≤ old + pages_for part) (g.S.PageStore.reads c.args.store.now) (g.S.PageStore.reads c.part.new.store)) c.in-Ok-Leaf.field-0-is c.in-Ok-Leaf.ensures.reads;
+  reads =
+      subst (λ (part : Part). Tells (λ old new. new ≤ old + pages_for part) (g.S.PageStore.reads c.args.store.now)
+      (g.S.PageStore.reads c.part.new.store)) c.in-Ok-Leaf.field-0-is c.in-Ok-Leaf.ensures.reads;
 }
 
 pub returns-clause-opened : goal.returns-clause-opened
@@ -32,5 +34,7 @@ returns-clause-opened g c = record {
   found = λ l s. subst (λ (part : Part). IsPart l c.args.b part) c.in-Ok-Split.field-0-is (c.in-Ok-Split.ensures.part l s);
   found_of = subst (λ (part : Part). IsPartOf (g.B.SegBlocks.level_of c.args.blocks.now) c.args.b part) c.in-Ok-Split.field-0-is c.in-Ok-Split.ensures.part_of;
   after = (c.in-Ok-push_quarters.ensures, refl);
-  reads = subst (λ (part : Part). Tells (λ old new. new ≤ old + pages_for part) (g.S.PageStore.reads c.args.store.now) (g.S.PageStore.reads c.part.new.store)) c.in-Ok-Split.field-0-is c.in-Ok-Split.ensures.reads;
+  reads =
+      subst (λ (part : Part). Tells (λ old new. new ≤ old + pages_for part) (g.S.PageStore.reads c.args.store.now)
+      (g.S.PageStore.reads c.part.new.store)) c.in-Ok-Split.field-0-is c.in-Ok-Split.ensures.reads;
 }

@@ -14,7 +14,8 @@ use Rattle.quilt_rank.proofs.searching.ranked.Goals.{in-Some+then-is_past, in_de
 pub loop-distance-init : goal.loop-distance-init
 loop-distance-init g c =
     let low : g.B.SegBlocks.level_of c.args.blocks.now ≤ 12 = subst (λ k. k ≤ 12) c.level.ensures.value c.level.ensures.range.1 in
-    let first = going_start _ c.args.p c.args.k c.requires.some (g.B.SegBlocks.shows c.args.blocks.now c.args.store.now) (g.met.B.SegBlocks.lines c.args.blocks.now c.args.store.now) (g.S.PageStore.reads c.args.store.now) c.push.new.self
+    let first = going_start _ c.args.p c.args.k c.requires.some (g.B.SegBlocks.shows c.args.blocks.now c.args.store.now)
+    (g.met.B.SegBlocks.lines c.args.blocks.now c.args.store.now) (g.S.PageStore.reads c.args.store.now) c.push.new.self
     (first_pushed c.args.p _ _ _ _ _ c.block_distance.ensures (whole_by _ _ c.level.ensures.value low) c.new-queue.ensures c.in-Ok.ensures) in
     record {
       going = subst (Going _ c.args.p c.args.k _ _ _ c.push.new.self) (sym c.new-ranks.ensures) first;
@@ -28,13 +29,17 @@ loop-distance-init g c =
 
 pub open-requires-clause-block : goal.open-requires-clause-block
 open-requires-clause-block g c =
-    first_valid _ c.args.p c.args.k c.requires.some (g.B.SegBlocks.shows c.args.blocks.now c.args.store.now) (g.met.B.SegBlocks.lines c.args.blocks.now c.args.store.now) (g.S.PageStore.reads c.args.store.now)
-    (g.S.PageStore.reads c.loop-distance.store) c.loop-distance.queue c.pop.new.self c.loop-distance.ranks (c.in-Some.distance, c.in-Some.block) c.loop-distance.invariant.going c.in-Some.ensures.taken
+    first_valid _ c.args.p c.args.k c.requires.some (g.B.SegBlocks.shows c.args.blocks.now c.args.store.now)
+    (g.met.B.SegBlocks.lines c.args.blocks.now c.args.store.now) (g.S.PageStore.reads c.args.store.now)
+    (g.S.PageStore.reads c.loop-distance.store) c.loop-distance.queue c.pop.new.self c.loop-distance.ranks (c.in-Some.distance, c.in-Some.block)
+    c.loop-distance.invariant.going c.in-Some.ensures.taken
 
 pub open-requires-clause-reached : goal.open-requires-clause-reached
 open-requires-clause-reached g c l s =
-    first_reached _ c.args.p c.args.k c.requires.some (g.B.SegBlocks.shows c.args.blocks.now c.args.store.now) (g.met.B.SegBlocks.lines c.args.blocks.now c.args.store.now) (g.S.PageStore.reads c.args.store.now)
-    (g.S.PageStore.reads c.loop-distance.store) c.loop-distance.queue c.pop.new.self c.loop-distance.ranks (c.in-Some.distance, c.in-Some.block) c.loop-distance.invariant.going c.in-Some.ensures.taken l
+    first_reached _ c.args.p c.args.k c.requires.some (g.B.SegBlocks.shows c.args.blocks.now c.args.store.now)
+    (g.met.B.SegBlocks.lines c.args.blocks.now c.args.store.now) (g.S.PageStore.reads c.args.store.now)
+    (g.S.PageStore.reads c.loop-distance.store) c.loop-distance.queue c.pop.new.self c.loop-distance.ranks (c.in-Some.distance, c.in-Some.block)
+    c.loop-distance.invariant.going c.in-Some.ensures.taken l
     (g.met.B.SegBlocks.same c.args.blocks.now c.loop-distance.store c.args.store.now l (sym c.loop-distance.invariant.told) s)
 
 pub returns-in-Err-open-clause-sound : goal.returns-in-Err-open-clause-sound
@@ -43,17 +48,23 @@ returns-in-Err-open-clause-sound g c l s =
 
 pub loop-distance-smaller : goal.loop-distance-smaller
 loop-distance-smaller g c =
-    less_left _ c.args.p c.args.k c.requires.some (g.B.SegBlocks.shows c.args.blocks.now c.args.store.now) (g.met.B.SegBlocks.lines c.args.blocks.now c.args.store.now) (g.S.PageStore.reads c.args.store.now)
-    (g.S.PageStore.reads c.loop-distance.store) c.loop-distance.queue c.pop.new.self c.loop-distance.ranks (c.in-Some.distance, c.in-Some.block) c.loop-distance.invariant.going c.in-Some.ensures.taken
-    (g.S.PageStore.reads c.open.new.store) c.open.new.queue c.open.new.ranks (g.B.SegBlocks.shows c.args.blocks.now c.loop-distance.store) c.in-Ok-open.ensures.opened
+    less_left _ c.args.p c.args.k c.requires.some (g.B.SegBlocks.shows c.args.blocks.now c.args.store.now)
+    (g.met.B.SegBlocks.lines c.args.blocks.now c.args.store.now) (g.S.PageStore.reads c.args.store.now)
+    (g.S.PageStore.reads c.loop-distance.store) c.loop-distance.queue c.pop.new.self c.loop-distance.ranks (c.in-Some.distance, c.in-Some.block)
+    c.loop-distance.invariant.going c.in-Some.ensures.taken
+    (g.S.PageStore.reads c.open.new.store) c.open.new.queue c.open.new.ranks (g.B.SegBlocks.shows c.args.blocks.now c.loop-distance.store)
+    c.in-Ok-open.ensures.opened
 
 pub loop-distance-preserved : goal.loop-distance-preserved
 loop-distance-preserved g c =
     let i = c.loop-distance.invariant in
     record {
-      going = going_on _ c.args.p c.args.k c.requires.some (g.B.SegBlocks.shows c.args.blocks.now c.args.store.now) (g.met.B.SegBlocks.lines c.args.blocks.now c.args.store.now) (g.S.PageStore.reads c.args.store.now)
-          (g.S.PageStore.reads c.loop-distance.store) c.loop-distance.queue c.pop.new.self c.loop-distance.ranks (c.in-Some.distance, c.in-Some.block) c.loop-distance.invariant.going c.in-Some.ensures.taken
-          (g.S.PageStore.reads c.open.new.store) c.open.new.queue c.open.new.ranks (g.B.SegBlocks.shows c.args.blocks.now c.loop-distance.store) (λ l s. g.met.B.SegBlocks.same c.args.blocks.now c.args.store.now c.loop-distance.store l i.told s)
+      going = going_on _ c.args.p c.args.k c.requires.some (g.B.SegBlocks.shows c.args.blocks.now c.args.store.now)
+          (g.met.B.SegBlocks.lines c.args.blocks.now c.args.store.now) (g.S.PageStore.reads c.args.store.now)
+          (g.S.PageStore.reads c.loop-distance.store) c.loop-distance.queue c.pop.new.self c.loop-distance.ranks
+          (c.in-Some.distance, c.in-Some.block) c.loop-distance.invariant.going c.in-Some.ensures.taken
+          (g.S.PageStore.reads c.open.new.store) c.open.new.queue c.open.new.ranks (g.B.SegBlocks.shows c.args.blocks.now c.loop-distance.store)
+          (λ l s. g.met.B.SegBlocks.same c.args.blocks.now c.args.store.now c.loop-distance.store l i.told s)
           c.in-Some.ensures.least (sym c.is_past.ensures ∙ c.if-is_past.false) c.in-Ok-open.ensures.opened;
       size = c.open.ensures.size ∙ i.size;
       told = c.open.ensures.told ∙ i.told;
@@ -64,13 +75,19 @@ loop-distance-preserved g c =
     }
 
 -- at either end those so far are the answer
-found : (g : _) (c : goal.After-drop-queue-inside-2 g) (l : Lines) → g.B.SegBlocks.shows c.args.blocks.now c.args.store.now l → c.loop-distance.ranks ≡ ranked l.segs c.args.p c.args.k
+found : (g : _) (c : goal.After-drop-queue-inside-2 g) (l : Lines) → g.B.SegBlocks.shows c.args.blocks.now c.args.store.now l
+    → c.loop-distance.ranks ≡ ranked l.segs c.args.p c.args.k
 found g c l s =
     let now = g.S.PageStore.reads c.loop-distance.store in
     let i = c.loop-distance.invariant.going in
     elim c.match-pop.branch [
-      | in-Some+then-is_past w ↦ going_stop _ c.args.p c.args.k c.requires.some (g.B.SegBlocks.shows c.args.blocks.now c.args.store.now) (g.met.B.SegBlocks.lines c.args.blocks.now c.args.store.now) (g.S.PageStore.reads c.args.store.now) now c.loop-distance.queue c.pop.new.self c.loop-distance.ranks (w.in-Some.distance, w.in-Some.block) i w.in-Some.ensures.taken w.in-Some.ensures.least (sym w.is_past.ensures ∙ w.if-is_past.true) l s
-      | in_default w ↦ going_end _ c.args.p c.args.k c.requires.some (g.B.SegBlocks.shows c.args.blocks.now c.args.store.now) (g.met.B.SegBlocks.lines c.args.blocks.now c.args.store.now) (g.S.PageStore.reads c.args.store.now) now c.loop-distance.queue c.loop-distance.ranks i w.in_default.ensures.none l s
+      | in-Some+then-is_past w ↦ going_stop _ c.args.p c.args.k c.requires.some (g.B.SegBlocks.shows c.args.blocks.now c.args.store.now)
+          (g.met.B.SegBlocks.lines c.args.blocks.now c.args.store.now) (g.S.PageStore.reads c.args.store.now) now c.loop-distance.queue
+          c.pop.new.self c.loop-distance.ranks (w.in-Some.distance, w.in-Some.block) i w.in-Some.ensures.taken w.in-Some.ensures.least
+          (sym w.is_past.ensures ∙ w.if-is_past.true) l s
+      | in_default w ↦ going_end _ c.args.p c.args.k c.requires.some (g.B.SegBlocks.shows c.args.blocks.now c.args.store.now)
+          (g.met.B.SegBlocks.lines c.args.blocks.now c.args.store.now) (g.S.PageStore.reads c.args.store.now)
+          now c.loop-distance.queue c.loop-distance.ranks i w.in_default.ensures.none l s
     ]
 
 pub returns-clause-ranked : goal.returns-clause-ranked
@@ -79,7 +96,11 @@ returns-clause-ranked g c l s = c.in-Ok-listed.ensures ∙ found g c l s
 pub returns-clause-reads : goal.returns-clause-reads
 returns-clause-reads g c l s long =
     subst
-    (λ (t : List Rank). length t ≡ c.args.k → Tells (λ old new. new ≤ old + reach (g.B.SegBlocks.level_of c.args.blocks.now) l.segs l.cover (is_close c.args.p (last_far t))) (g.S.PageStore.reads c.args.store.now) (g.S.PageStore.reads c.loop-distance.store))
+    (λ (t : List Rank). length t ≡ c.args.k
+    → Tells (λ old new. new ≤ old + reach (g.B.SegBlocks.level_of c.args.blocks.now) l.segs l.cover (is_close c.args.p (last_far t)))
+    (g.S.PageStore.reads c.args.store.now) (g.S.PageStore.reads c.loop-distance.store))
     (sym c.in-Ok-listed.ensures)
-    (going_reads _ c.args.p c.args.k c.requires.some (g.B.SegBlocks.shows c.args.blocks.now c.args.store.now) (g.met.B.SegBlocks.lines c.args.blocks.now c.args.store.now) (g.S.PageStore.reads c.args.store.now) (g.S.PageStore.reads c.loop-distance.store) c.loop-distance.queue c.loop-distance.ranks c.loop-distance.invariant.going l s (found g c l s))
+    (going_reads _ c.args.p c.args.k c.requires.some (g.B.SegBlocks.shows c.args.blocks.now c.args.store.now)
+    (g.met.B.SegBlocks.lines c.args.blocks.now c.args.store.now) (g.S.PageStore.reads c.args.store.now)
+    (g.S.PageStore.reads c.loop-distance.store) c.loop-distance.queue c.loop-distance.ranks c.loop-distance.invariant.going l s (found g c l s))
     long

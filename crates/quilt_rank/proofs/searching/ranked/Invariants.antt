@@ -5,7 +5,8 @@ use Rattle.quilt_rank.proofs.searching.ranked.Given as goal
 
 abbrev pub invariant-loop-distance : goal.invariant-loop-distance
 invariant-loop-distance g l = record {
-  going : Going (g.B.SegBlocks.level_of l.blocks) l.p l.k (g.B.SegBlocks.shows l.blocks l.fn.store) (g.S.PageStore.reads l.fn.store) (g.S.PageStore.reads l.store) l.queue l.ranks;
+  going : Going (g.B.SegBlocks.level_of l.blocks) l.p l.k (g.B.SegBlocks.shows l.blocks l.fn.store) (g.S.PageStore.reads l.fn.store)
+      (g.S.PageStore.reads l.store) l.queue l.ranks;
   size : g.S.PageStore.size l.store ≡ g.S.PageStore.size l.fn.store;
   told : g.S.PageStore.told l.store ≡ g.S.PageStore.told l.fn.store;
   free : g.S.PageStore.free l.store ≡ g.S.PageStore.free l.fn.store;

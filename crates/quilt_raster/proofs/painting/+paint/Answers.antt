@@ -6,12 +6,14 @@ use Rattle.quilt_loc.proofs.Intervals.{half_codes}
 use Rattle.quilt_blocks.proofs.Adding.{part_at}
 use Rattle.quilt_raster.specs.Painting.{ArePainted}
 use Rattle.quilt_raster.proofs.Cells.{ArePainted-missed}
-use Rattle.quilt_raster.proofs.painting.+paint.Goals.{then-w-b-via-then-w-b, then-w-b-via-else-w-b+then-b-w, then-w-b-via-else-w-b+else-b-w+then-w-b-2, then-w-b-via-else-w-b+else-b-w+else-w-b-2+then-b-w-2}
+use Rattle.quilt_raster.proofs.painting.+paint.Goals.{then-w-b-via-then-w-b, then-w-b-via-else-w-b+then-b-w, then-w-b-via-else-w-b+else-b-w+then-w-b-2}
+use Rattle.quilt_raster.proofs.painting.+paint.Goals.{then-w-b-via-else-w-b+else-b-w+else-w-b-2+then-b-w-2}
 use Rattle.quilt_raster.proofs.painting.+paint.Goals as goal
 
 pub returns-then-w-b-clause-after : goal.returns-then-w-b-clause-after
 returns-then-w-b-clause-after t c =
-    ArePainted-missed c.args.list.now.level c.args.list.now.grid c.args.w c.args.b c.requires.most c.requires.valid c.requires.room.in_x c.requires.room.in_y c.args.cells.now
+    ArePainted-missed c.args.list.now.level c.args.list.now.grid c.args.w c.args.b c.requires.most c.requires.valid c.requires.room.in_x
+    c.requires.room.in_y c.args.cells.now
     (λ p i h.
     let l = h.left in
     let r = h.right in
@@ -36,7 +38,8 @@ paint-requires t c =
     let n = c.args.list.now.level in
     let wide = c.if-b-le32.false in
     let d : Block = record { x = 0; y = 0; side = 0 } in
-    let q = part_at n c.args.b c.quarters-q-items.result c.loop-q.q-index d c.requires.most c.requires.valid (omega arith) c.quarters-q-items.ensures.value c.loop-q-test.true in
+    let q = part_at n c.args.b c.quarters-q-items.result c.loop-q.q-index d c.requires.most c.requires.valid
+    (omega arith) c.quarters-q-items.ensures.value c.loop-q-test.true in
     let smaller = q.smaller in
     let r = c.requires.room in (
       omega arith,
@@ -57,7 +60,8 @@ loop-q-preserved t c =
     let n = c.args.list.now.level in
     let wide = c.if-b-le32.false in
     let d : Block = record { x = 0; y = 0; side = 0 } in
-    let q = part_at n c.args.b c.quarters-q-items.result c.loop-q.q-index d c.requires.most c.requires.valid (omega arith) c.quarters-q-items.ensures.value c.loop-q-test.true in
+    let q = part_at n c.args.b c.quarters-q-items.result c.loop-q.q-index d c.requires.most c.requires.valid
+    (omega arith) c.quarters-q-items.ensures.value c.loop-q-test.true in
     record {
       long = c.paint.ensures.long ∙ c.loop-q.invariant.long;
       painted = subst (λ (k : ℕ). ArePainted n c.args.list.now.grid c.args.w k c.paint.new.cells) q.to c.paint.ensures.after;
@@ -71,5 +75,6 @@ returns-clause-after t c =
     let four : c.loop-q.q-index ≡ 4 = omega arith in
     let codes = half_codes n b c.requires.valid c.requires.most (omega arith) in
     let all = codes.all in
-    let end : code_from b + c.loop-q.q-index * (b.side / 2 * (b.side / 2)) ≡ code_to b = ap (λ k. code_from b + k * (b.side / 2 * (b.side / 2))) four ∙ sym all in
+    let end : code_from b + c.loop-q.q-index * (b.side / 2 * (b.side / 2)) ≡ code_to b =
+    ap (λ k. code_from b + k * (b.side / 2 * (b.side / 2))) four ∙ sym all in
     subst (λ (k : ℕ). ArePainted n c.args.list.now.grid c.args.w k c.loop-q.cells) end c.loop-q.invariant.painted

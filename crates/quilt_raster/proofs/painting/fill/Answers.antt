@@ -20,6 +20,8 @@ loop-dy-preserved c =
     let f = c.fill_run.ensures in
     record {
       long = f.long ∙ c.loop-dy.invariant.long;
-      filled = IsFilled-row w c.args.b c.args.colour dy c.from-left.result c.from-right.result c.args.cells.now c.loop-dy.cells c.fill_run.new.cells (omega arith) (omega arith) (omega arith) (λ dx lw lb. omega arith) (omega arith) (omega arith)
-          (λ k from to. f.inside k (omega arith) (omega arith)) (λ k lt. f.before k (omega arith)) (λ k le. f.behind k (omega arith)) c.loop-dy.invariant.filled;
+      filled = IsFilled-row w c.args.b c.args.colour dy c.from-left.result c.from-right.result c.args.cells.now c.loop-dy.cells c.fill_run.new.cells
+          (omega arith) (omega arith) (omega arith) (λ dx lw lb. omega arith) (omega arith) (omega arith)
+          (λ k from to. f.inside k (omega arith) (omega arith)) (λ k lt. f.before k (omega arith))
+          (λ k le. f.behind k (omega arith)) c.loop-dy.invariant.filled;
     }

@@ -55,7 +55,10 @@ loop-done-init c =
     let none : code_from b ≡ code_from b + 0 = omega arith in
     record {
       long = refl;
-      at = subst (IsAt n g c.place_around-place.result) none (IsAt-corner n g c.requires.most b c.place_around-place.result (pair_of leaf) c.requires.valid v.block (omega arith) held c.place_around-place.ensures.inside v.value);
+      at =
+          subst (IsAt n g c.place_around-place.result) none
+          (IsAt-corner n g c.requires.most b c.place_around-place.result (pair_of leaf) c.requires.valid v.block
+          (omega arith) held c.place_around-place.ensures.inside v.value);
       painted = subst (λ (k : ℕ). ArePainted n g c.args.w k c.args.cells.now) none c.requires.before;
     }
 
@@ -81,10 +84,12 @@ fill-requires-in-loop-done-clause-in_y c =
     omega arith
 
 pub fill-requires-in-loop-done-clause-block_x : goal.fill-requires-in-loop-done-clause-block_x
-fill-requires-in-loop-done-clause-block_x c = (block_room c.args.list.now.level c.leaf-in-loop-done.result.block c.requires.most c.leaf-in-loop-done.ensures.block).0
+fill-requires-in-loop-done-clause-block_x c =
+    (block_room c.args.list.now.level c.leaf-in-loop-done.result.block c.requires.most c.leaf-in-loop-done.ensures.block).0
 
 pub fill-requires-in-loop-done-clause-block_y : goal.fill-requires-in-loop-done-clause-block_y
-fill-requires-in-loop-done-clause-block_y c = (block_room c.args.list.now.level c.leaf-in-loop-done.result.block c.requires.most c.leaf-in-loop-done.ensures.block).1
+fill-requires-in-loop-done-clause-block_y c =
+    (block_room c.args.list.now.level c.leaf-in-loop-done.result.block c.requires.most c.leaf-in-loop-done.ensures.block).1
 
 pub overflow_add-place : goal.overflow_add-place
 overflow_add-place c =
@@ -115,10 +120,13 @@ loop-done-preserved c =
     let area : c.from.result * c.from-2.result ≡ b.side * b.side = ap₂ (λ x y. x * y) c.from.ensures c.from-2.ensures in
     let some = IsAt-some n g c.requires.most place at (omega arith) inv.at in
     let from : code_from leaf.block ≡ at = ap (λ (z : Block × ℕ). code_from z.0) v.value ∙ inv.at.begins (pair_of leaf) some in
-    let size : c.from-in-loop-done.result * c.from-in-loop-done-2.result ≡ leaf.block.side * leaf.block.side = ap₂ (λ x y. x * y) c.from-in-loop-done.ensures c.from-in-loop-done-2.ensures in
-    let end : at + leaf.block.side * leaf.block.side ≡ code_from b + (c.loop-done.done + c.from-in-loop-done.result * c.from-in-loop-done-2.result) = omega arith in
+    let size : c.from-in-loop-done.result * c.from-in-loop-done-2.result ≡ leaf.block.side * leaf.block.side =
+    ap₂ (λ x y. x * y) c.from-in-loop-done.ensures c.from-in-loop-done-2.ensures in
+    let end : at + leaf.block.side * leaf.block.side ≡ code_from b + (c.loop-done.done + c.from-in-loop-done.result * c.from-in-loop-done-2.result) =
+    omega arith in
     let to : code_to leaf.block ≡ at + leaf.block.side * leaf.block.side = omega arith in
-    let painted = ArePainted-block n g w leaf.block c.requires.most v.block c.requires.room.in_x c.requires.room.in_y leaf.colour.0 c.loop-done.cells f.new.cells v.colour f.ensures.inside f.ensures.outside
+    let painted = ArePainted-block n g w leaf.block c.requires.most v.block c.requires.room.in_x c.requires.room.in_y leaf.colour.0 c.loop-done.cells
+    f.new.cells v.colour f.ensures.inside f.ensures.outside
     (subst (λ (k : ℕ). ArePainted n g w k c.loop-done.cells) (sym from) inv.painted) in
     record {
       long = f.ensures.long ∙ inv.long;

@@ -49,4 +49,5 @@ returns-clause-held c d =
     let v = c.code_of-code.ensures.value in
     let f = inv.from d in
     let end = c.loop-high-test.false in
-    held_at c.args.list.now.level c.args.list.now.grid c.len-high.ensures.raster.most c.args.p c.loop-high.low c.loop-high.high d c.requires.in_x c.requires.in_y some (omega arith) inside (omega arith) (λ lt. let t = inv.to d lt in omega arith)
+    held_at c.args.list.now.level c.args.list.now.grid c.len-high.ensures.raster.most c.args.p c.loop-high.low c.loop-high.high d c.requires.in_x
+    c.requires.in_y some (omega arith) inside (omega arith) (λ lt. let t = inv.to d lt in omega arith)

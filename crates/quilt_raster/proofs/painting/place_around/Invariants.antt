@@ -9,7 +9,8 @@ invariant-loop-high l = record {
   some : l.low < l.high;
   inside : l.high ≤ length (leaves_by_code l.list.level l.list.grid);
   from : (d : Block × ℕ) → code_from (get_or (leaves_by_code l.list.level l.list.grid) l.low d).0 ≤ l.code;
-  to : (d : Block × ℕ) → l.high < length (leaves_by_code l.list.level l.list.grid) → l.code < code_from (get_or (leaves_by_code l.list.level l.list.grid) l.high d).0;
+  to : (d : Block × ℕ) → l.high < length (leaves_by_code l.list.level l.list.grid)
+      → l.code < code_from (get_or (leaves_by_code l.list.level l.list.grid) l.high d).0;
 }
 
 abbrev pub decreases-loop-high : goal.decreases-loop-high

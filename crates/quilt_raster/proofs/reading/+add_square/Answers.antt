@@ -30,7 +30,8 @@ returns-in-Some t c =
     let low = c.requires.low in
     let most = c.requires.most in
     on_ok_weaker c.push.result
-    (λ is. Adds-push k (from_corner c.args.level (colours_of_bytes c.args.colours.now) c.args.corner) c.args.maker.now c.push.new.self c.args.b c.in-Some.colour.0 (omega arith) c.requires.valid c.requires.next
+    (λ is. Adds-push k (from_corner c.args.level (colours_of_bytes c.args.colours.now) c.args.corner) c.args.maker.now c.push.new.self c.args.b
+    c.in-Some.colour.0 (omega arith) c.requires.valid c.requires.next
     (λ p h. held_from c.args.level (colours_of_bytes c.args.colours.now) c.args.corner c.args.b p c.in-Some.colour.0 h c.in-Some.ensures.some) is)
     c.push.ensures.ok
 
@@ -46,7 +47,8 @@ add_square-requires t c =
     let low = c.requires.low in
     let most = c.requires.most in
     let d : Block = record { x = 0; y = 0; side = 0 } in
-    let q = part_at k c.args.b c.quarters-q-items.result c.loop-q.q-index d (omega arith) c.requires.valid (c.in_default.ensures.none refl) c.quarters-q-items.ensures.value c.loop-q-test.true in
+    let q = part_at k c.args.b c.quarters-q-items.result c.loop-q.q-index d (omega arith) c.requires.valid
+    (c.in_default.ensures.none refl) c.quarters-q-items.ensures.value c.loop-q-test.true in
     let smaller = q.smaller in
     let level = sym c.loop-q.invariant.level in (
       omega arith,
@@ -78,7 +80,8 @@ loop-q-preserved t c =
     let low = c.requires.low in
     let most = c.requires.most in
     let d : Block = record { x = 0; y = 0; side = 0 } in
-    let q = part_at k b c.quarters-q-items.result i d (omega arith) c.requires.valid (c.in_default.ensures.none refl) c.quarters-q-items.ensures.value c.loop-q-test.true in
+    let q = part_at k b c.quarters-q-items.result i d (omega arith) c.requires.valid
+    (c.in_default.ensures.none refl) c.quarters-q-items.ensures.value c.loop-q-test.true in
     let next = c.requires.next in
     let m = c.loop-q.maker in
     let new = c.add_square.new.maker in
@@ -96,5 +99,7 @@ returns t c =
     let four : c.loop-q.q-index ≡ 4 = omega arith in
     let codes = half_codes k b c.requires.valid (omega arith) wide in
     let all = codes.all in
-    let end : code_from b + c.loop-q.q-index * (b.side / 2 * (b.side / 2)) ≡ code_to b = ap (λ i. code_from b + i * (b.side / 2 * (b.side / 2))) four ∙ sym all in
-    subst (λ (e : ℕ). Adds k (from_corner c.args.level (colours_of_bytes c.args.colours.now) c.args.corner) e c.args.maker.now c.loop-q.maker) end c.loop-q.invariant
+    let end : code_from b + c.loop-q.q-index * (b.side / 2 * (b.side / 2)) ≡ code_to b =
+    ap (λ i. code_from b + i * (b.side / 2 * (b.side / 2))) four ∙ sym all in
+    subst (λ (e : ℕ). Adds k (from_corner c.args.level (colours_of_bytes c.args.colours.now) c.args.corner) e c.args.maker.now c.loop-q.maker)
+    end c.loop-q.invariant

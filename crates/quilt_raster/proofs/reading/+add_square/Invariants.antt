@@ -8,4 +8,5 @@ abbrev pub decreases-add_square : goal.decreases-add_square
 decreases-add_square l = l.b.side
 
 abbrev pub invariant-loop-q : goal.invariant-loop-q
-invariant-loop-q l = Adds l.initial.maker.level (from_corner l.level (colours_of_bytes l.colours) l.corner) (code_from l.fn.b + l.q-index * (l.fn.b.side / 2 * (l.fn.b.side / 2))) l.initial.maker l.maker
+invariant-loop-q l = Adds l.initial.maker.level (from_corner l.level (colours_of_bytes l.colours) l.corner)
+    (code_from l.fn.b + l.q-index * (l.fn.b.side / 2 * (l.fn.b.side / 2))) l.initial.maker l.maker

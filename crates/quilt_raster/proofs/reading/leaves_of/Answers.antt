@@ -15,7 +15,8 @@ add_square-requires-clause-next c = origin_code ∙ sym (ap (λ (m : Painted). l
 pub finish-requires : goal.finish-requires
 finish-requires c =
     let n = c.args.level in
-    let all = all_added n (from_corner n (colours_of_bytes c.args.colours.now) (record { x = 0; y = 0 })) (1 * 2 ^ n % 65536) c.new-maker.result c.add_square.new.maker (width n c.requires.most) c.new-maker.ensures c.in_ok-add_square.ensures in
+    let all = all_added n (from_corner n (colours_of_bytes c.args.colours.now) (record { x = 0; y = 0 }))
+    (1 * 2 ^ n % 65536) c.new-maker.result c.add_square.new.maker (width n c.requires.most) c.new-maker.ensures c.in_ok-add_square.ensures in
     all.long ∙ ap (λ (k : ℕ). 4 ^ k) (sym all.level)
 
 pub returns : goal.returns
@@ -23,8 +24,10 @@ returns c =
     let n = c.args.level in
     let g = colours_of_bytes c.args.colours.now in
     let f = from_corner n g (record { x = 0; y = 0 }) in
-    let all = all_added n f (1 * 2 ^ n % 65536) c.new-maker.result c.add_square.new.maker (width n c.requires.most) c.new-maker.ensures c.in_ok-add_square.ensures in
+    let all =
+    all_added n f (1 * 2 ^ n % 65536) c.new-maker.result c.add_square.new.maker (width n c.requires.most) c.new-maker.ensures c.in_ok-add_square.ensures in
     let level = c.finish.ensures.level ∙ all.level in
-    let grid = c.finish.ensures.value ∙ ap (λ (k : ℕ). grid_by_code k c.add_square.new.maker.colours) all.level ∙ Adds-all n f c.add_square.new.maker c.requires.most all
+    let grid = c.finish.ensures.value ∙ ap (λ (k : ℕ). grid_by_code k c.add_square.new.maker.colours) all.level
+    ∙ Adds-all n f c.add_square.new.maker c.requires.most all
     ∙ grid_from_corner n g (length-colours_of_bytes (side n * side n) c.args.colours.now c.requires.all) in
     λ i. record { level = level i; grid = grid i }

@@ -12,5 +12,6 @@ pub returns-else-format-eq1 : goal.returns-else-format-eq1
 returns-else-format-eq1 c =
     subst (λ (digits : List ℕ). OnOk c.push-else-format-eq1.result (c.push-else-format-eq1.new.self ≡ c.args.text.now ++ digits))
     (ap₂ ◌++◌ (ap₂ (λ a b. a ∷ b ∷ []) c.digit_of-else-format-eq1.ensures c.digit_of-else-format-eq1-2.ensures)
-    (ap₂ (λ a b. a ∷ b ∷ []) c.digit_of-else-format-eq1-3.ensures c.digit_of-else-format-eq1-4.ensures) ∙ sym (four_digits c.args.format c.args.colour.0 c.if-format-eq1.false))
+    (ap₂ (λ a b. a ∷ b ∷ []) c.digit_of-else-format-eq1-3.ensures c.digit_of-else-format-eq1-4.ensures)
+    ∙ sym (four_digits c.args.format c.args.colour.0 c.if-format-eq1.false))
     c.push-else-format-eq1.ensures.ok

@@ -8,7 +8,8 @@ pub loop-dx-preserved : goal.loop-dx-preserved
 loop-dx-preserved c =
     let f = c.args.format in
     let cells = c.args.cells.now in
-    let at : c.from.result * c.from-2.result + c.loop-dx.dx ≡ c.args.dy * c.args.w.w + c.loop-dx.dx = ap₂ (λ a b. a * b + c.loop-dx.dx) c.from.ensures c.from-2.ensures in
+    let at : c.from.result * c.from-2.result + c.loop-dx.dx ≡ c.args.dy * c.args.w.w + c.loop-dx.dx =
+    ap₂ (λ a b. a * b + c.loop-dx.dx) c.from.ensures c.from-2.ensures in
     let row : ℕ → List ℕ = λ dx. digits_of f (written_in f (get_or cells (c.args.dy * c.args.w.w + dx) 0)) in
     c.in_ok-push_colour.ensures ∙ ap₂ (λ (a b : List ℕ). a ++ b) c.loop-dx.invariant (ap (λ k. digits_of f (written_in f (get_or cells k 0))) at)
     ∙ flat_map_below row c.args.text.now c.loop-dx.dx

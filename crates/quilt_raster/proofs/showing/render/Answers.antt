@@ -14,7 +14,8 @@ abbrev ended : List ℕ → List ℕ
 ended line = line ++ 10 ∷ []
 
 pub paint-requires-clause-before : goal.paint-requires-clause-before
-paint-requires-clause-before c = ArePainted-none c.args.list.now.level c.args.list.now.grid c.args.w (1 * 2 ^ c.level-level.result % 65536) c.deref_mut.result.now
+paint-requires-clause-before c =
+    ArePainted-none c.args.list.now.level c.args.list.now.grid c.args.w (1 * 2 ^ c.level-level.result % 65536) c.deref_mut.result.now
 
 pub loop-dy-preserved : goal.loop-dy-preserved
 loop-dy-preserved c =
@@ -28,7 +29,8 @@ loop-dy-preserved c =
     let row = row_line f n (map (written_in f) g) w in
     let painted = ArePainted-all n c.level-level.result g w cells most c.level-level.ensures.value c.paint.ensures.after in
     let same = c.deref.ensures.value ∙ with_items_is c.in_ok-cells.cells cells (c.paint.ensures.long ∙ c.deref_mut.ensures.len) in
-    let line = ap (λ (l : List ℕ). flat_map (λ dx. digits_of f (written_in f (get_or l (dy * w.w + dx) 0))) (below w.w)) same ∙ row_painted f n g w cells dy most c.requires.in_x c.requires.in_y c.loop-dy-test.true painted in
+    let line = ap (λ (l : List ℕ). flat_map (λ dx. digits_of f (written_in f (get_or l (dy * w.w + dx) 0))) (below w.w)) same
+    ∙ row_painted f n g w cells dy most c.requires.in_x c.requires.in_y c.loop-dy-test.true painted in
     c.in_ok-push.ensures.ok
     ∙ ap (λ l. l ++ 10 ∷ []) (c.in_ok-push_row.ensures ∙ ap₂ (λ (a b : List ℕ). a ++ b) c.loop-dy.invariant line)
     ∙ append_assoc (flat_map ended (map row (below dy))) (row dy) (10 ∷ [])
@@ -51,4 +53,5 @@ returns-clause-rows c grid =
     let w = c.args.w in
     let row = row_line f n (map (written_in f) g) w in
     let is : c.loop-dy.dy ≡ c.args.w.h = omega arith in
-    c.loop-dy.invariant ∙ ap (λ k. flat_map ended (map row (below k))) is ∙ ap (λ (h : Grid). flat_map ended (map (row_line f n h w) (below w.h))) (map-written f g grid.colours)
+    c.loop-dy.invariant ∙ ap (λ k. flat_map ended (map row (below k))) is
+    ∙ ap (λ (h : Grid). flat_map ended (map (row_line f n h w) (below w.h))) (map-written f g grid.colours)

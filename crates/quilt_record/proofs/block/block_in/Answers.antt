@@ -18,10 +18,13 @@ is_block-requires-clause-size c = (c.args.level - c.args.k.now.depth, omega arit
 pub returns-then-not-is_block-clause-one : goal.returns-then-not-is_block-clause-one
 returns-then-not-is_block-clause-one c b o =
     let p = c.pixel_of-p.ensures in
-    absurd (true_false (sym (c.is_block.ensures.no (subst (IsBlock c.args.level) (sym (named_block c.args.level c.args.k.now b c.pixel_of-p.result c.requires o p.in_x p.in_y p.value)) o.block)) ∙ c.if-not-is_block.true))
+    absurd (true_false (sym
+    (c.is_block.ensures.no (subst (IsBlock c.args.level)
+    (sym (named_block c.args.level c.args.k.now b c.pixel_of-p.result c.requires o p.in_x p.in_y p.value)) o.block)) ∙ c.if-not-is_block.true))
 
 pub returns-clause-some : goal.returns-clause-some
-returns-clause-some c = read_block c.args.level c.args.k.now c.pixel_of-p.result c.requires c.if-level-k.false c.pixel_of-p.ensures.value (c.is_block.ensures.yes c.if-not-is_block.false)
+returns-clause-some c = read_block c.args.level c.args.k.now c.pixel_of-p.result c.requires c.if-level-k.false c.pixel_of-p.ensures.value
+    (c.is_block.ensures.yes c.if-not-is_block.false)
 
 pub returns-clause-one : goal.returns-clause-one
 returns-clause-one c b o =

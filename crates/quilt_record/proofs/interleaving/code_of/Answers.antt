@@ -9,7 +9,8 @@ unfolding code
 loop-i-init c = record {
   unit = omega arith;
   small = omega arith;
-  value = (let e : 0 + 1 * interleaved 12 c.from-x.result c.from-y.result ≡ interleaved 12 c.from-x.result c.from-y.result = omega arith in e) ∙ ap₂ (interleaved 12) c.from-x.ensures c.from-y.ensures;
+  value = (let e : 0 + 1 * interleaved 12 c.from-x.result c.from-y.result ≡ interleaved 12 c.from-x.result c.from-y.result = omega arith in e)
+      ∙ ap₂ (interleaved 12) c.from-x.ensures c.from-y.ensures;
 }
 
 three : (u a b : ℕ) → u * (a % 2 + 2 * (b % 2)) ≤ u * 3

@@ -52,7 +52,8 @@ loop-i-preserved c =
     let few : 4 ^ (12 - i) ≡ 4 ^ suc (12 - (i + 1)) = ap (λ k. 4 ^ k) rest in
     let low = inv.few in
     let next : interleaved (i + 1) (x + u * (r % 2)) (y + u * (r / 2 % 2)) ≡ interleaved i x y + 4 ^ i * (r % 2 + 2 * (r / 2 % 2)) =
-    ap (λ z. interleaved (i + 1) (x + z * (r % 2)) (y + z * (r / 2 % 2))) e ∙ interleaved_next i x y (r % 2) (r / 2 % 2) (omega arith) (omega arith) (omega arith) (omega arith) in
+    ap (λ z. interleaved (i + 1) (x + z * (r % 2)) (y + z * (r / 2 % 2))) e
+    ∙ interleaved_next i x y (r % 2) (r / 2 % 2) (omega arith) (omega arith) (omega arith) (omega arith) in
     let more : 4 ^ (i + 1) * (r / 4) ≡ 4 ^ i * 4 * (r / 4) = ap (λ k. 4 ^ k * (r / 4)) (add-one i) ∙ ap (λ z. z * (r / 4)) (pow-suc 4 i) in
     let all = two_bits (4 ^ i) r in
     let was = inv.value in

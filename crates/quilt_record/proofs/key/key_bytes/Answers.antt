@@ -18,5 +18,6 @@ returns-clause-order c other fits =
     let code = c.to_be_bytes-2.ensures in
     let item = c.to_be_bytes-3.ensures in
     let own : KeyFits k = search rules in
-    let bytes : joined c.to_be_bytes.result c.to_be_bytes-2.result c.to_be_bytes-3.result k.part k.depth ≡ key_bytes k = λ i. joined (layer i) (code i) (item i) k.part k.depth in
+    let bytes : joined c.to_be_bytes.result c.to_be_bytes-2.result c.to_be_bytes-3.result k.part k.depth ≡ key_bytes k =
+    λ i. joined (layer i) (code i) (item i) k.part k.depth in
     ap (λ l. slice_cmp nat_cmp l (key_bytes other)) bytes ∙ bytes_order k other own fits

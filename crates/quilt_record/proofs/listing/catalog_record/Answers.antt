@@ -14,9 +14,11 @@ returns c n capacity =
     let head = filled 12 c.args.e.now.name in
     let first : f ≡ head = c.copy_from_slice.ensures.after ∙ c.name_bytes.ensures in
     let rest : p ≡ number_of_kind c.args.e.now.kind ∷ beside ∷ 0 ∷ 0 ∷ [] =
-    c.copy_from_slice-2.ensures.after ∙ ap (λ k. k ∷ c.byte_beside.result ∷ 0 ∷ 0 ∷ []) c.number_of.ensures ∙ ap (λ t. number_of_kind c.args.e.now.kind ∷ t ∷ 0 ∷ 0 ∷ []) c.byte_beside.ensures in
+    c.copy_from_slice-2.ensures.after ∙ ap (λ k. k ∷ c.byte_beside.result ∷ 0 ∷ 0 ∷ []) c.number_of.ensures
+    ∙ ap (λ t. number_of_kind c.args.e.now.kind ∷ t ∷ 0 ∷ 0 ∷ []) c.byte_beside.ensures in
     let value : take 12 (f ++ z) ++ (p ++ drop 4 (drop 12 (f ++ z))) ≡ head ++ (number_of_kind c.args.e.now.kind ∷ beside ∷ 0 ∷ 0 ∷ []) =
-    ap (λ l. l ++ (p ++ drop 4 (drop 12 (f ++ z)))) (first_twelve f z c.copy_from_slice.ensures.len) ∙ ap (λ l. f ++ (p ++ drop 4 l)) (behind_twelve f z c.copy_from_slice.ensures.len)
+    ap (λ l. l ++ (p ++ drop 4 (drop 12 (f ++ z)))) (first_twelve f z c.copy_from_slice.ensures.len)
+    ∙ ap (λ l. f ++ (p ++ drop 4 l)) (behind_twelve f z c.copy_from_slice.ensures.len)
     ∙ ap (λ l. f ++ l) (append-nil p) ∙ ap (λ l. l ++ p) first ∙ ap (λ l. head ++ l) rest in
     let item = c.from.ensures in
     λ i. record { key = record { layer = 0; part = 0; code = 0; depth = 0; item = item i }; value = value i }

@@ -6,7 +6,8 @@ true_false : true ≡ false → ⊥
 true_false e = cc
 
 pub returns-in_default-clause-one : goal.returns-in_default-clause-one
-returns-in_default-clause-one c layer b colour in_format f = absurd (c.in_default.not-Some (layer, b) (c.named.ensures.one layer b (region_named c.args.level c.args.r.now layer b colour.0 f)))
+returns-in_default-clause-one c layer b colour in_format f =
+    absurd (c.in_default.not-Some (layer, b) (c.named.ensures.one layer b (region_named c.args.level c.args.r.now layer b colour.0 f)))
 
 pub returns-then-c-gt255-clause-one : goal.returns-then-c-gt255-clause-one
 returns-then-c-gt255-clause-one c layer b colour in_format f =
@@ -16,12 +17,16 @@ returns-then-c-gt255-clause-one c layer b colour in_format f =
 
 pub returns-then-not-is_same-clause-one : goal.returns-then-not-is_same-clause-one
 returns-then-not-is_same-clause-one c layer b colour in_format f =
-    let same = pair_same c.in-Some.layer layer c.in-Some.b b (sym c.in-Some.is ∙ c.named.ensures.one layer b (region_named c.args.level c.args.r.now layer b colour.0 f)) in
+    let same = pair_same c.in-Some.layer layer c.in-Some.b b
+    (sym c.in-Some.is ∙ c.named.ensures.one layer b (region_named c.args.level c.args.r.now layer b colour.0 f)) in
     let value = c.colour_in-c.ensures ∙ region_colour c.args.level c.args.r.now layer b colour.0 f in
-    absurd (true_false (sym (c.is_same.ensures.no (region_again c.args.level c.args.r.now c.region_record.result layer c.in-Some.layer b c.in-Some.b colour.0 c.colour_in-c.result.0 f same.0 same.1 value c.region_record.ensures)) ∙ c.if-not-is_same.true))
+    absurd (true_false (sym
+    (c.is_same.ensures.no (region_again c.args.level c.args.r.now c.region_record.result layer c.in-Some.layer b c.in-Some.b colour.0
+    c.colour_in-c.result.0 f same.0 same.1 value c.region_record.ensures)) ∙ c.if-not-is_same.true))
 
 pub returns-clause-one : goal.returns-clause-one
 returns-clause-one c layer b colour in_format f =
-    let same = pair_same c.in-Some.layer layer c.in-Some.b b (sym c.in-Some.is ∙ c.named.ensures.one layer b (region_named c.args.level c.args.r.now layer b colour.0 f)) in
+    let same = pair_same c.in-Some.layer layer c.in-Some.b b
+    (sym c.in-Some.is ∙ c.named.ensures.one layer b (region_named c.args.level c.args.r.now layer b colour.0 f)) in
     let value = c.colour_in-c.ensures ∙ region_colour c.args.level c.args.r.now layer b colour.0 f in
     λ i. Some (same.1 i, record { 0 = value i })

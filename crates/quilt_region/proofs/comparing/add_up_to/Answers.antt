@@ -35,13 +35,15 @@ returns-in_default-clause-at c =
 pub region_record-requires-clause-block : goal.region_record-requires-clause-block
 region_record-requires-clause-block c =
     let inv = c.loop-done.invariant in
-    (at_same c.loop-done.leaves.level c.args.level c.loop-done.leaves.grid c.args.leaves.now.grid c.loop-done.leaves.at (pair_of c.in-Some.leaf) (inv.level ∙ c.requires.same_level) inv.grid c.in-Some.ensures.leaf).block
+    (at_same c.loop-done.leaves.level c.args.level c.loop-done.leaves.grid c.args.leaves.now.grid c.loop-done.leaves.at (pair_of c.in-Some.leaf)
+    (inv.level ∙ c.requires.same_level) inv.grid c.in-Some.ensures.leaf).block
 
 pub area_of-done-requires-in-loop-done : goal.area_of-done-requires-in-loop-done
 area_of-done-requires-in-loop-done c =
     let inv = c.loop-done.invariant in
     side_small c.args.level c.in-Some.leaf.block c.requires.level.1
-    (at_same c.loop-done.leaves.level c.args.level c.loop-done.leaves.grid c.args.leaves.now.grid c.loop-done.leaves.at (pair_of c.in-Some.leaf) (inv.level ∙ c.requires.same_level) inv.grid c.in-Some.ensures.leaf).block
+    (at_same c.loop-done.leaves.level c.args.level c.loop-done.leaves.grid c.args.leaves.now.grid c.loop-done.leaves.at (pair_of c.in-Some.leaf)
+    (inv.level ∙ c.requires.same_level) inv.grid c.in-Some.ensures.leaf).block
 
 pub loop-done-preserved : goal.loop-done-preserved
 loop-done-preserved c =
@@ -49,7 +51,8 @@ loop-done-preserved c =
     let whole = c.args.whole in
     let inv = c.loop-done.invariant in
     let e = pair_of c.in-Some.leaf in
-    let here = at_same c.loop-done.leaves.level n c.loop-done.leaves.grid c.args.leaves.now.grid c.loop-done.leaves.at e (inv.level ∙ c.requires.same_level) inv.grid c.in-Some.ensures.leaf in
+    let here = at_same c.loop-done.leaves.level n c.loop-done.leaves.grid c.args.leaves.now.grid c.loop-done.leaves.at e
+    (inv.level ∙ c.requires.same_level) inv.grid c.in-Some.ensures.leaf in
     let from = here.from in
     let at = inv.at in
     let some = inv.some in
@@ -67,6 +70,7 @@ loop-done-preserved c =
       most = omega arith;
       at = omega arith;
       made = λ p all each so.
-          one_passes n c.args.layer p c.loop-done.records c.push.new.self all c.region_record.result e c.loop-done.leaves.rest c.next.new.self.rest c.in_ok-push.ensures.ok (c.region_record.ensures.written [])
+          one_passes n c.args.layer p c.loop-done.records c.push.new.self all c.region_record.result e c.loop-done.leaves.rest c.next.new.self.rest
+          c.in_ok-push.ensures.ok (c.region_record.ensures.written [])
           c.in-Some.ensures.first (each e here.member low high) (inv.made p all each so);
     }

@@ -17,7 +17,8 @@ returns-then-eq-clause-colours t c =
     let k = c.args.known.now in
     let same = blocks_equal c.args.b k.read (c.if-eq.ensures {u = tt}) in
     on_ok_weaker c.put_records.result
-    (λ law g is has. law g (known_colour n g k) (is ∙ ap (records_within n c.args.layer g) (sym same)) (λ p held. read_colour n k g p (subst (λ (b : Block). Holds b p) same held)) has)
+    (λ law g is has. law g (known_colour n g k) (is ∙ ap (records_within n c.args.layer g) (sym same))
+    (λ p held. read_colour n k g p (subst (λ (b : Block). Holds b p) same held)) has)
     c.put_records.ensures.colours
 
 pub returns-then-eq-clause-sound : goal.returns-then-eq-clause-sound
@@ -39,7 +40,8 @@ pub quarters-q-items-requires-clause-wide : goal.quarters-q-items-requires-claus
 quarters-q-items-requires-clause-wide t c =
     let n = c.args.level in
     let k = c.args.known.now in
-    let lt = wider n c.args.b k.read c.requires.block c.requires.known.read c.requires.wide (Holds-from c.args.b (corner k.read) (sym (c.if-not-covers.ensures {u = tt}))) (blocks_differ c.args.b k.read (c.if-eq.ensures {u = tt})) in
+    let lt = wider n c.args.b k.read c.requires.block c.requires.known.read c.requires.wide
+    (Holds-from c.args.b (corner k.read) (sym (c.if-not-covers.ensures {u = tt}))) (blocks_differ c.args.b k.read (c.if-eq.ensures {u = tt})) in
     let pos = side_pos n k.read c.requires.known.read in
     omega arith
 
@@ -48,10 +50,12 @@ put_around-requires t c =
     let n = c.args.level in
     let k = c.args.known.now in
     let inv = c.loop-q.invariant in
-    let lt = wider n c.args.b k.read c.requires.block c.requires.known.read c.requires.wide (Holds-from c.args.b (corner k.read) (sym (c.if-not-covers.ensures {u = tt}))) (blocks_differ c.args.b k.read (c.if-eq.ensures {u = tt})) in
+    let lt = wider n c.args.b k.read c.requires.block c.requires.known.read c.requires.wide
+    (Holds-from c.args.b (corner k.read) (sym (c.if-not-covers.ensures {u = tt}))) (blocks_differ c.args.b k.read (c.if-eq.ensures {u = tt})) in
     let pos = side_pos n k.read c.requires.known.read in
     let twice = twice_le n k.read c.args.b c.requires.known.read c.requires.block lt in
-    let q = part_at n c.args.b c.quarters-q-items.result c.loop-q.q-index (record { y = 0; x = 0; side = 0 }) c.requires.level.1 c.requires.block (omega arith) c.quarters-q-items.ensures.value c.loop-q-test.true in
+    let q = part_at n c.args.b c.quarters-q-items.result c.loop-q.q-index (record { y = 0; x = 0; side = 0 }) c.requires.level.1 c.requires.block
+    (omega arith) c.quarters-q-items.ensures.value c.loop-q-test.true in
     let smaller = q.smaller in
     let half = q.half in
     (omega arith, (c.requires.layer, (c.requires.level, (c.requires.known, (inv.level, (q.block, (omega arith, inv.long ∙ sym q.from)))))))
@@ -61,9 +65,11 @@ loop-q-preserved t c =
     let n = c.args.level in
     let k = c.args.known.now in
     let inv = c.loop-q.invariant in
-    let lt = wider n c.args.b k.read c.requires.block c.requires.known.read c.requires.wide (Holds-from c.args.b (corner k.read) (sym (c.if-not-covers.ensures {u = tt}))) (blocks_differ c.args.b k.read (c.if-eq.ensures {u = tt})) in
+    let lt = wider n c.args.b k.read c.requires.block c.requires.known.read c.requires.wide
+    (Holds-from c.args.b (corner k.read) (sym (c.if-not-covers.ensures {u = tt}))) (blocks_differ c.args.b k.read (c.if-eq.ensures {u = tt})) in
     let pos = side_pos n k.read c.requires.known.read in
-    let q = part_at n c.args.b c.quarters-q-items.result c.loop-q.q-index (record { y = 0; x = 0; side = 0 }) c.requires.level.1 c.requires.block (omega arith) c.quarters-q-items.ensures.value c.loop-q-test.true in
+    let q = part_at n c.args.b c.quarters-q-items.result c.loop-q.q-index (record { y = 0; x = 0; side = 0 }) c.requires.level.1 c.requires.block
+    (omega arith) c.quarters-q-items.ensures.value c.loop-q-test.true in
     let more = c.in_ok-put_around.ensures in
     record {
       level = more.level;
@@ -76,7 +82,8 @@ returns-clause-end t c =
     let n = c.args.level in
     let k = c.args.known.now in
     let b = c.args.b in
-    let lt = wider n b k.read c.requires.block c.requires.known.read c.requires.wide (Holds-from b (corner k.read) (sym (c.if-not-covers.ensures {u = tt}))) (blocks_differ b k.read (c.if-eq.ensures {u = tt})) in
+    let lt = wider n b k.read c.requires.block c.requires.known.read c.requires.wide
+    (Holds-from b (corner k.read) (sym (c.if-not-covers.ensures {u = tt}))) (blocks_differ b k.read (c.if-eq.ensures {u = tt})) in
     let pos = side_pos n k.read c.requires.known.read in
     let four : c.loop-q.q-index ≡ 4 = omega arith in
     let codes = half_codes n b c.requires.block c.requires.level.1 (omega arith) in

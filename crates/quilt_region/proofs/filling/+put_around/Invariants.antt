@@ -12,5 +12,6 @@ abbrev pub invariant-loop-q : goal.invariant-loop-q
 invariant-loop-q l = record {
   level : l.maker.level ≡ l.level;
   long : length l.maker.colours ≡ code_from l.fn.b + l.q-index * (l.fn.b.side / 2 * (l.fn.b.side / 2));
-  colours : (g : Grid) → l.records ≡ records_within l.level l.layer g l.known.read → HasColours l.level (known_colour l.level g l.known) l.initial.maker.colours → HasColours l.level (known_colour l.level g l.known) l.maker.colours;
+  colours : (g : Grid) → l.records ≡ records_within l.level l.layer g l.known.read
+      → HasColours l.level (known_colour l.level g l.known) l.initial.maker.colours → HasColours l.level (known_colour l.level g l.known) l.maker.colours;
 }

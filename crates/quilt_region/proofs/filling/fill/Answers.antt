@@ -43,5 +43,6 @@ returns-in-Ok-clause-list c g is =
     let has = c.in-Ok.ensures.colours g is empty in
     let end : length c.put_around.new.maker.colours ≡ 4 ^ n = c.in-Ok.ensures.end ∙ sym (ap code_to (whole_is n c.requires.level.1)) ∙ code_to-whole n in
     let level = c.finish.ensures.level ∙ c.in-Ok.ensures.level in
-    let grid = c.finish.ensures.value ∙ ap (λ (k : ℕ). grid_by_code k c.put_around.new.maker.colours) c.in-Ok.ensures.level ∙ Paints-all n f c.put_around.new.maker.colours c.requires.level.1 end (record { each = has.each }) in
+    let grid = c.finish.ensures.value ∙ ap (λ (k : ℕ). grid_by_code k c.put_around.new.maker.colours) c.in-Ok.ensures.level
+    ∙ Paints-all n f c.put_around.new.maker.colours c.requires.level.1 end (record { each = has.each }) in
     λ i. record { level = level i; grid = grid i }

@@ -12,6 +12,8 @@ colour_beside-requires c = IsBlock-up c.args.maker.now.level 12 c.args.known.now
 pub returns-in-Ok-clause-colours : goal.returns-in-Ok-clause-colours
 returns-in-Ok-clause-colours c g has =
     let n = c.args.maker.now.level in
-    HasColours-push n (known_colour n g c.args.known.now) c.args.maker.now.colours c.push.new.self.colours c.args.b c.colour_beside.result.0 c.requires.most c.requires.block (sym c.requires.next)
-    (λ p held. beside_colour n c.args.known.now c.args.b c.requires.known c.requires.block c.requires.wide c.requires.apart g p held ∙ sym c.colour_beside.ensures)
+    HasColours-push n (known_colour n g c.args.known.now) c.args.maker.now.colours c.push.new.self.colours c.args.b c.colour_beside.result.0
+    c.requires.most c.requires.block (sym c.requires.next)
+    (λ p held. beside_colour n c.args.known.now c.args.b c.requires.known c.requires.block c.requires.wide c.requires.apart g p held
+    ∙ sym c.colour_beside.ensures)
     (ap (λ (m : Painted). m.colours) c.in-Ok.ensures.ok) has

@@ -44,5 +44,6 @@ loop-w-preserved c =
     let is = c.in-Some.ensures.value in
     record {
       valid = subst (IsBlock n) (sym is) (IsBlock-parent_of n b inv.valid lt);
-      least = λ a ha holds. subst (λ (z : Block). Within z a) (sym is) (parent_least n b a c.args.w inv.valid ha holds (c.holds_window.ensures.no c.loop-w-test.true) (inv.least a ha holds));
+      least = λ a ha holds. subst (λ (z : Block). Within z a) (sym is)
+          (parent_least n b a c.args.w inv.valid ha holds (c.holds_window.ensures.no c.loop-w-test.true) (inv.least a ha holds));
     }

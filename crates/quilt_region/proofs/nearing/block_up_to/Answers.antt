@@ -52,7 +52,8 @@ loop-larger-preserved g c =
     record {
       block = subst (IsBlock n) (sym is) larger;
       inside = subst (Within c.args.b) (sym is) (Within-trans c.args.b top (parent_of top) inv.inside (Within-parent_of n top inv.block lt));
-      same = λ grid h. around_more n grid c.args.b top c.in-Some.larger c.args.c.0 (inv.same grid h) (more.yes c.in-Ok-true.field-0-test grid (subst (λ told. HasRegion told c.args.tree.now c.args.layer n grid) (sym inv.told) h));
+      same = λ grid h. around_more n grid c.args.b top c.in-Some.larger c.args.c.0 (inv.same grid h)
+          (more.yes c.in-Ok-true.field-0-test grid (subst (λ told. HasRegion told c.args.tree.now c.args.layer n grid) (sym inv.told) h));
       cut_out = λ grid h out. more.cut_out c.in-Ok-true.field-0-test grid (subst (λ told. HasRegion told c.args.tree.now c.args.layer n grid) (sym inv.told) h);
       size = more.size ∙ inv.size;
       told = more.told ∙ inv.told;
@@ -66,7 +67,8 @@ loop-larger-preserved g c =
     }
 
 pub returns-in-Err-clause-sound : goal.returns-in-Err-clause-sound
-returns-in-Err-clause-sound g c grid h = c.in-Err.ensures.sound grid (subst (λ told. HasRegion told c.args.tree.now c.args.layer c.args.level grid) (sym c.loop-larger.invariant.told) h)
+returns-in-Err-clause-sound g c grid h =
+    c.in-Err.ensures.sound grid (subst (λ told. HasRegion told c.args.tree.now c.args.layer c.args.level grid) (sym c.loop-larger.invariant.told) h)
 
 pub returns-in-Err-clause-reads : goal.returns-in-Err-clause-reads
 returns-in-Err-clause-reads g c j d =
@@ -79,7 +81,8 @@ pub returns-in-Ok-false-clause-ends : goal.returns-in-Ok-false-clause-ends
 returns-in-Ok-false-clause-ends g c grid h out lt has =
     let n = c.args.level in
     let inv = c.loop-larger.invariant in
-    c.in-Ok-false.ensures.no c.in-Ok-false.field-0-test grid (subst (λ told. HasRegion told c.args.tree.now c.args.layer n grid) (sym inv.told) h) (inv.cut_out grid h out)
+    c.in-Ok-false.ensures.no c.in-Ok-false.field-0-test grid (subst (λ told. HasRegion told c.args.tree.now c.args.layer n grid) (sym inv.told) h)
+    (inv.cut_out grid h out)
     (subst (λ (l : Block). HasAround n grid l c.loop-larger.top c.args.c.0) (sym c.in-Some.ensures.value) has)
 
 pub returns-in-Ok-false-clause-reads : goal.returns-in-Ok-false-clause-reads
@@ -87,7 +90,8 @@ returns-in-Ok-false-clause-reads g c j d =
     let inv = c.loop-larger.invariant in
     let lt = not_whole c.args.level c.loop-larger.top inv.block (λ e. true_false (c.in-Some.ensures.whole.1 e)) in
     let room = level_room c.args.level c.loop-larger.top inv.block lt in
-    saved_then (24 * j) (24 * inv.block.level) 24 (24 * c.args.level) _ _ _ (omega arith) (inv.reads j inv.block.level d inv.block.size) c.in-Ok-false.ensures.reads
+    saved_then (24 * j) (24 * inv.block.level) 24 (24 * c.args.level) _ _ _ (omega arith) (inv.reads j inv.block.level d inv.block.size)
+    c.in-Ok-false.ensures.reads
 
 pub returns-clause-ends : goal.returns-clause-ends
 returns-clause-ends g c grid h out lt has = let whole = c.in_default.ensures.whole.0 refl in omega arith

@@ -35,11 +35,13 @@ returns-in-Ok-clause-few g c grid a h ha holds =
 
 pub returns-in-Ok-2-clause-cut_out : goal.returns-in-Ok-2-clause-cut_out
 returns-in-Ok-2-clause-cut_out g c grid h =
-    around_cut c.args.level grid (pair_of c.in-Ok.leaf) c.block_around.result c.args.w c.requires.window (c.in-Ok.ensures.leaf grid h) (c.holds_window.ensures.no c.if-holds_window.false) c.block_around.ensures.valid c.block_around.ensures.holds
+    around_cut c.args.level grid (pair_of c.in-Ok.leaf) c.block_around.result c.args.w c.requires.window (c.in-Ok.ensures.leaf grid h)
+    (c.holds_window.ensures.no c.if-holds_window.false) c.block_around.ensures.valid c.block_around.ensures.holds
 
 pub returns-in-Ok-2-clause-few : goal.returns-in-Ok-2-clause-few
 returns-in-Ok-2-clause-few g c grid a h ha holds =
-    let more = more_within c.args.level grid c.requires.level.1 c.block_around.result a c.block_around.ensures.valid ha (c.block_around.ensures.least a ha holds) in
+    let more =
+    more_within c.args.level grid c.requires.level.1 c.block_around.result a c.block_around.ensures.valid ha (c.block_around.ensures.least a ha holds) in
     omega arith
 
 pub returns-in-Ok-clause-first : goal.returns-in-Ok-clause-first

@@ -21,7 +21,8 @@ larger_wide : (n : ℕ) (b larger : Block) → IsBlock n b → larger ≡ parent
 larger_wide n b larger hb is = let pos = side_pos n b hb in let e = ap (λ (z : Block). z.side) is in omega arith
 
 pub quarters-q-items-requires-clause-valid : goal.quarters-q-items-requires-clause-valid
-quarters-q-items-requires-clause-valid g c = IsBlock-up c.args.level 12 c.args.larger c.requires.level.1 (larger_block c.args.level c.args.b c.args.larger c.requires.block c.requires.small c.requires.larger)
+quarters-q-items-requires-clause-valid g c = IsBlock-up c.args.level 12 c.args.larger c.requires.level.1
+    (larger_block c.args.level c.args.b c.args.larger c.requires.block c.requires.small c.requires.larger)
 
 pub quarters-q-items-requires-clause-wide : goal.quarters-q-items-requires-clause-wide
 quarters-q-items-requires-clause-wide g c = larger_wide c.args.level c.args.b c.args.larger c.requires.block c.requires.larger
@@ -29,10 +30,12 @@ quarters-q-items-requires-clause-wide g c = larger_wide c.args.level c.args.b c.
 pub has_quarter-requires-clause-block : goal.has_quarter-requires-clause-block
 has_quarter-requires-clause-block g c =
     (part_at c.args.level c.args.larger c.quarters-q-items.result c.loop-q.q-index (record { y = 0; x = 0; side = 0 }) c.requires.level.1
-    (larger_block c.args.level c.args.b c.args.larger c.requires.block c.requires.small c.requires.larger) (larger_wide c.args.level c.args.b c.args.larger c.requires.block c.requires.larger) c.quarters-q-items.ensures.value c.loop-q-test.true).block
+    (larger_block c.args.level c.args.b c.args.larger c.requires.block c.requires.small c.requires.larger)
+    (larger_wide c.args.level c.args.b c.args.larger c.requires.block c.requires.larger) c.quarters-q-items.ensures.value c.loop-q-test.true).block
 
 pub returns-in-Err-clause-sound : goal.returns-in-Err-clause-sound
-returns-in-Err-clause-sound g c grid h = c.in-Err.ensures.sound grid (subst (λ told. HasRegion told c.args.tree.now c.args.layer c.args.level grid) (sym c.loop-q.invariant.told) h)
+returns-in-Err-clause-sound g c grid h =
+    c.in-Err.ensures.sound grid (subst (λ told. HasRegion told c.args.tree.now c.args.layer c.args.level grid) (sym c.loop-q.invariant.told) h)
 
 pub loop-q-preserved : goal.loop-q-preserved
 loop-q-preserved g c =
@@ -46,9 +49,11 @@ loop-q-preserved g c =
           let z : Block = record { y = 0; x = 0; side = 0 } in
           let test = c.loop-q-test.true in
           let q : get_or c.quarters-q-items.result c.loop-q.q-index z ≡ get_or (quarters_of c.args.larger) j d =
-          ap (λ l. get_or l c.loop-q.q-index z) c.quarters-q-items.ensures.value ∙ get_or_default (quarters_of c.args.larger) c.loop-q.q-index z d test ∙ ap (λ i. get_or (quarters_of c.args.larger) i d) (sym at) in
+          ap (λ l. get_or l c.loop-q.q-index z) c.quarters-q-items.ensures.value
+          ∙ get_or_default (quarters_of c.args.larger) c.loop-q.q-index z d test ∙ ap (λ i. get_or (quarters_of c.args.larger) i d) (sym at) in
           subst (λ (b : Block). Contains (leaves c.args.level grid) (b, c.args.c.0)) q
-          (more.yes c.in-Ok-true.field-0-test grid (subst (λ told. HasRegion told c.args.tree.now c.args.layer c.args.level grid) (sym inv.told) h) (λ e. differ (sym q ∙ e))))
+          (more.yes c.in-Ok-true.field-0-test grid (subst (λ told. HasRegion told c.args.tree.now c.args.layer c.args.level grid) (sym inv.told) h)
+          (λ e. differ (sym q ∙ e))))
           (cases_lt j c.loop-q.q-index);
       size = more.size ∙ inv.size;
       told = more.told ∙ inv.told;
@@ -70,8 +75,10 @@ returns-in-Ok-false-clause-no g c f grid h out has =
     let no = c.in-Ok-false.ensures.no c.in-Ok-false.field-0-test grid (subst (λ told. HasRegion told c.args.tree.now c.args.layer n grid) (sym inv.told) h) in
     let is : get_or c.quarters-q-items.result c.loop-q.q-index z ≡ get_or (quarters_of (parent_of b)) c.loop-q.q-index z =
     ap (λ l. get_or l c.loop-q.q-index z) (c.quarters-q-items.ensures.value ∙ ap quarters_of c.requires.larger) in
-    let there : Contains (quarters_of (parent_of b)) q = (c.loop-q.q-index, test, get_or_default (quarters_of (parent_of b)) c.loop-q.q-index q z test ∙ sym is) in
-    no.1 (quarter_leaf n b c.requires.block c.requires.small grid c.args.c.0 q out (subst (λ (l : Block). HasAround n grid l b c.args.c.0) c.requires.larger has) there no.0)
+    let there : Contains (quarters_of (parent_of b)) q =
+    (c.loop-q.q-index, test, get_or_default (quarters_of (parent_of b)) c.loop-q.q-index q z test ∙ sym is) in
+    no.1 (quarter_leaf n b c.requires.block c.requires.small grid c.args.c.0 q out
+    (subst (λ (l : Block). HasAround n grid l b c.args.c.0) c.requires.larger has) there no.0)
 
 pub returns-clause-yes : goal.returns-clause-yes
 returns-clause-yes g c t grid h =
@@ -96,5 +103,6 @@ returns-clause-cut_out g c t grid h =
           let is = ap (λ (l : Block). get_or (quarters_of l) j d) c.requires.larger in
           subst (λ (q : Block). Contains (leaves n grid) (q, c.args.c.0)) is (inv.others j d grid (omega arith) h (λ e. differ (sym is ∙ e))))
           (let hl = larger_block n c.args.b c.args.larger c.requires.block c.requires.small c.requires.larger in
-          ap (is_uniform n grid) (sym c.requires.larger) ∙ (uniform_down n grid).down c.args.larger (parent_of c.args.larger) hl (IsBlock-parent_of n c.args.larger hl lt) (Within-parent_of n c.args.larger hl lt) u);
+          ap (is_uniform n grid) (sym c.requires.larger) ∙ (uniform_down n grid).down c.args.larger (parent_of c.args.larger) hl
+          (IsBlock-parent_of n c.args.larger hl lt) (Within-parent_of n c.args.larger hl lt) u);
     }

@@ -9,7 +9,8 @@ use Rattle.quilt_region.proofs.nearing.has_around.Given as goal
 
 abbrev pub invariant-loop-q : goal.invariant-loop-q
 invariant-loop-q g l = record {
-  others : (j : ℕ) (d : Block) (grid : Grid) → j < l.q-index → HasRegion (g.S.PageStore.told l.initial.store) l.tree l.layer l.level grid → (get_or (quarters_of l.fn.larger) j d ≡ l.b → ⊥) → Contains (leaves l.level grid) (get_or (quarters_of l.fn.larger) j d, l.c.0);
+  others : (j : ℕ) (d : Block) (grid : Grid) → j < l.q-index → HasRegion (g.S.PageStore.told l.initial.store) l.tree l.layer l.level grid
+      → (get_or (quarters_of l.fn.larger) j d ≡ l.b → ⊥) → Contains (leaves l.level grid) (get_or (quarters_of l.fn.larger) j d, l.c.0);
   size : g.S.PageStore.size l.store ≡ g.S.PageStore.size l.initial.store;
   told : g.S.PageStore.told l.store ≡ g.S.PageStore.told l.initial.store;
   free : g.S.PageStore.free l.store ≡ g.S.PageStore.free l.initial.store;

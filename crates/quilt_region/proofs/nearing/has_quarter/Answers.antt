@@ -22,6 +22,7 @@ returns-in-Ok-clause-no g c f grid h = (
   blocks_differ c.args.q c.args.b (c.if-eq.ensures {u = tt}),
   λ there.
       let n = c.args.level in
-      let same = leaf_same n grid (corner c.args.q) (pair_of c.in-Ok.leaf) (c.args.q, c.args.c.0) (c.in-Ok.ensures.leaf grid h) (record { member = there; holds = Holds-corner n c.args.q c.requires.block }) in
+      let same = leaf_same n grid (corner c.args.q) (pair_of c.in-Ok.leaf) (c.args.q, c.args.c.0) (c.in-Ok.ensures.leaf grid h)
+      (record { member = there; holds = Holds-corner n c.args.q c.requires.block }) in
       true_false (sym (leaves_test c.in-Ok.leaf (record { block = c.args.q; colour = c.args.c }) same) ∙ sym c.eq-in-Ok.ensures ∙ f),
 )

@@ -11,7 +11,8 @@ pub has_around-requires-clause-small : goal.has_around-requires-clause-small
 has_around-requires-clause-small g c = not_whole c.args.level c.in-Ok.b c.in-Ok.ensures.block (λ e. true_false (c.in-Some.ensures.whole.1 e))
 
 pub returns-in-Err-has_around-clause-sound : goal.returns-in-Err-has_around-clause-sound
-returns-in-Err-has_around-clause-sound g c grid h = c.in-Err-has_around.ensures.sound grid (subst (λ told. HasRegion told c.args.tree.now c.args.layer c.args.level grid) (sym c.in-Ok.ensures.told) h)
+returns-in-Err-has_around-clause-sound g c grid h =
+    c.in-Err-has_around.ensures.sound grid (subst (λ told. HasRegion told c.args.tree.now c.args.layer c.args.level grid) (sym c.in-Ok.ensures.told) h)
 
 pub returns-in-Ok-false-clause-knows : goal.returns-in-Ok-false-clause-knows
 returns-in-Ok-false-clause-knows g c grid h =
@@ -25,7 +26,8 @@ returns-in-Ok-false-clause-knows g c grid h =
       read_cut = cut_out;
       top_cut = cut_out;
       around = around_self n grid b c.args.c.0;
-      ends = λ lt has. c.in-Ok-false.ensures.no c.in-Ok-false.field-0-test grid after cut_out (subst (λ (l : Block). HasAround n grid l b c.args.c.0) (sym c.in-Some.ensures.value) has);
+      ends = λ lt has. c.in-Ok-false.ensures.no c.in-Ok-false.field-0-test grid after cut_out
+          (subst (λ (l : Block). HasAround n grid l b c.args.c.0) (sym c.in-Some.ensures.value) has);
       other = c.other_colour.ensures.first;
       first = λ e. c.other_colour.ensures.second (e ∙ sym (c.in-Ok.ensures.first grid h));
     }

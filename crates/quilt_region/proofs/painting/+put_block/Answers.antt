@@ -23,7 +23,8 @@ one_colour-requires-clause-window_height t c = (window_room c.args.maker.now.lev
 pub returns-in-Some-clause-colours : goal.returns-in-Some-clause-colours
 returns-in-Some-clause-colours t c =
     on_ok_weaker c.push.result
-    (λ is f same. HasColours-push c.args.maker.now.level f c.args.maker.now.colours c.push.new.self.colours c.args.b c.in-Some.colour.0 c.requires.most c.requires.valid c.requires.next
+    (λ is f same. HasColours-push c.args.maker.now.level f c.args.maker.now.colours c.push.new.self.colours c.args.b c.in-Some.colour.0
+    c.requires.most c.requires.valid c.requires.next
     (λ p held. same p held ∙ c.in-Some.ensures.some p held) (ap (λ (m : Painted). m.colours) is))
     c.push.ensures.ok
 
@@ -34,25 +35,37 @@ pub put_block-requires : goal.put_block-requires
 put_block-requires t c =
     let n = c.args.maker.now.level in
     let inv = c.loop-q.invariant in
-    let q = part_at n c.args.b c.quarters-q-items.result c.loop-q.q-index (record { y = 0; x = 0; side = 0 }) c.requires.most c.requires.valid (c.in_default.ensures.none refl) c.quarters-q-items.ensures.value c.loop-q-test.true in
+    let q = part_at n c.args.b c.quarters-q-items.result c.loop-q.q-index (record { y = 0; x = 0; side = 0 }) c.requires.most c.requires.valid
+    (c.in_default.ensures.none refl) c.quarters-q-items.ensures.value c.loop-q-test.true in
     let smaller = q.smaller in
     let level = inv.level in
     let most = c.requires.most in
-    let low : c.loop-q.maker.level ≤ 12 = omega arith in
-    (omega arith, (low, (IsBlock-at n c.loop-q.maker.level _ (sym level) q.block, (is_window-at n c.loop-q.maker.level c.args.w (sym level) c.requires.window, q.from ∙ sym inv.long))))
+    let low : c.loop-q.maker.level ≤ 12 = omega arith in (
+      omega arith,
+      (
+        low,
+        (
+          IsBlock-at n c.loop-q.maker.level _
+              (sym level) q.block,
+          (is_window-at n c.loop-q.maker.level c.args.w (sym level) c.requires.window, q.from ∙ sym inv.long),
+        ),
+      ),
+    )
 
 pub loop-q-preserved : goal.loop-q-preserved
 loop-q-preserved t c =
     let n = c.args.maker.now.level in
     let inv = c.loop-q.invariant in
-    let q = part_at n c.args.b c.quarters-q-items.result c.loop-q.q-index _ c.requires.most c.requires.valid (c.in_default.ensures.none refl) c.quarters-q-items.ensures.value c.loop-q-test.true in
+    let q = part_at n c.args.b c.quarters-q-items.result c.loop-q.q-index _ c.requires.most c.requires.valid
+    (c.in_default.ensures.none refl) c.quarters-q-items.ensures.value c.loop-q-test.true in
     let more = c.in_ok-put_block.ensures in
     record {
       level = more.level ∙ inv.level;
       long = more.end ∙ q.to;
       colours = λ f same old.
           HasColours-at c.loop-q.maker.level n f c.put_block.new.maker.colours inv.level
-          (more.colours f (λ p held. same p (Within-holds _ c.args.b p q.within held)) (HasColours-at n c.loop-q.maker.level f c.loop-q.maker.colours (sym inv.level) (inv.colours f same old)));
+          (more.colours f (λ p held. same p (Within-holds _ c.args.b p q.within held))
+          (HasColours-at n c.loop-q.maker.level f c.loop-q.maker.colours (sym inv.level) (inv.colours f same old)));
     }
 
 pub returns-clause-end : goal.returns-clause-end

@@ -27,7 +27,8 @@ loop-leaf-preserved c =
     record {
       level = more.level ∙ inv.level;
       paints = HasColours-at c.loop-leaf.maker.level n f c.put_block.new.maker.colours inv.level
-          (more.colours f (λ p held. ap (λ k. colour_over c.args.w c.args.c.0 k p) (here.colour.each p held)) (HasColours-at n c.loop-leaf.maker.level f c.loop-leaf.maker.colours (sym inv.level) inv.paints));
+          (more.colours f (λ p held. ap (λ k. colour_over c.args.w c.args.c.0 k p) (here.colour.each p held))
+          (HasColours-at n c.loop-leaf.maker.level f c.loop-leaf.maker.colours (sym inv.level) inv.paints));
       same_level = c.in-Some.ensures.level ∙ inv.same_level;
       same_grid = c.in-Some.ensures.grid ∙ inv.same_grid;
       place = omega arith;
@@ -42,5 +43,6 @@ returns c =
     let f : Pixel → ℕ = λ p. colour_over c.args.w c.args.c.0 (colour_at n g p) p in
     let end : length colours ≡ 4 ^ n = sym inv.place ∙ c.in_default.ensures.whole.0 refl ∙ ap (λ (k : ℕ). 4 ^ k) inv.same_level in
     let level = c.finish.ensures.level ∙ inv.level in
-    let grid = c.finish.ensures.value ∙ ap (λ (k : ℕ). grid_by_code k colours) inv.level ∙ Paints-all n f colours c.level.ensures.raster.most end (record { each = inv.paints.each }) in
+    let grid = c.finish.ensures.value ∙ ap (λ (k : ℕ). grid_by_code k colours) inv.level
+    ∙ Paints-all n f colours c.level.ensures.raster.most end (record { each = inv.paints.each }) in
     λ i. record { level = level i; grid = grid i }

@@ -9,7 +9,8 @@ pub returns-in-Ok-repaint-clause-plan : goal.returns-in-Ok-repaint-clause-plan
 returns-in-Ok-repaint-clause-plan c g is knows =
     let n = c.args.level in
     let k = c.args.known.now in
-    let leads = subst (λ (m : Raster). LeadsTo m.level c.args.layer m.grid (painted m.level m.grid c.args.w k.around.0) c.in-Ok-repaint.edits) (c.in-Ok.ensures.list g is) c.in-Ok-repaint.ensures in
+    let leads = subst (λ (m : Raster). LeadsTo m.level c.args.layer m.grid (painted m.level m.grid c.args.w k.around.0) c.in-Ok-repaint.edits)
+    (c.in-Ok.ensures.list g is) c.in-Ok-repaint.ensures in
     record {
       remove = leads.remove ∙ sym (removes_same n g c.args.w k c.requires.level.1 c.requires.window knows c.args.layer);
       add = leads.add ∙ sym (adds_same n g c.args.w k c.requires.level.1 c.requires.window knows c.args.layer);

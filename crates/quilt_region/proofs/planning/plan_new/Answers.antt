@@ -6,7 +6,8 @@ use Rattle.quilt_region.proofs.planning.plan_new.Goals as goal
 
 pub loop-leaf-init : goal.loop-leaf-init
 loop-leaf-init c = record {
-  made = none_made c.args.list.now.level c.args.layer c.args.list.now.grid c.new-add.result c.new-leaves.result.rest c.new-add.ensures c.new-leaves.ensures.rest;
+  made =
+      none_made c.args.list.now.level c.args.layer c.args.list.now.grid c.new-add.result c.new-leaves.result.rest c.new-add.ensures c.new-leaves.ensures.rest;
   same_level = c.new-leaves.ensures.level;
 }
 
@@ -14,7 +15,9 @@ pub loop-leaf-preserved : goal.loop-leaf-preserved
 loop-leaf-preserved c =
     let e = pair_of c.in-Some.leaf in
     record {
-      made = one_made c.args.list.now.level c.args.layer c.loop-leaf.add c.push.new.self _ c.region_record.result e c.loop-leaf.leaves.rest c.next.new.self.rest c.in_ok-push.ensures.ok
-          (c.region_record.ensures.written [] ∙ ap (λ (k : ℕ). leaf_record k c.args.layer e) c.level-level.ensures.value) c.in-Some.ensures.first c.loop-leaf.invariant.made;
+      made = one_made c.args.list.now.level c.args.layer c.loop-leaf.add c.push.new.self _ c.region_record.result e c.loop-leaf.leaves.rest
+          c.next.new.self.rest c.in_ok-push.ensures.ok
+          (c.region_record.ensures.written [] ∙ ap (λ (k : ℕ). leaf_record k c.args.layer e) c.level-level.ensures.value)
+          c.in-Some.ensures.first c.loop-leaf.invariant.made;
       same_level = c.in-Some.ensures.level ∙ c.loop-leaf.invariant.same_level;
     }

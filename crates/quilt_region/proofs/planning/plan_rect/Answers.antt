@@ -17,22 +17,33 @@ pub returns-in-Ok-Some-clause-reads : goal.returns-in-Ok-Some-clause-reads
 returns-in-Ok-Some-clause-reads g c grid b h hb holds =
     let n = c.args.level in
     let own = length (leaves_within n grid b) in
-    let large : (a : Block) → IsBlock n a → HoldsWindow a c.args.w → 64 ≤ a.side = some_at (λ (edits : Edits). (a : Block) → IsBlock c.args.level a → HoldsWindow a c.args.w → 64 ≤ a.side) c.in-Ok-Some.field-0 c.in-Ok-Some.edits c.in-Ok-Some.field-0-is c.in-Ok-Some.ensures.large in
+    let large : (a : Block) → IsBlock n a → HoldsWindow a c.args.w
+    → 64 ≤ a.side = some_at (λ (edits : Edits). (a : Block) → IsBlock c.args.level a → HoldsWindow a c.args.w
+    → 64 ≤ a.side) c.in-Ok-Some.field-0 c.in-Ok-Some.edits c.in-Ok-Some.field-0-is c.in-Ok-Some.ensures.large in
     let six = power_le 6 hb.level hb.size (large b hb holds) in
     let low = hb.low in
-    reads_more (144 + 3 * own) (15 + 24 * n + 3 * own) _ _ (omega arith) (some_at (λ (edits : Edits). (grid : Grid) (a : Block) → HasRegion (g.S.PageStore.told c.args.store.now) c.args.tree.now c.args.layer n grid → IsBlock n a → HoldsWindow a c.args.w → Tells {A = ℕ} (λ old new. new ≤ old + (144 + 3 * length (leaves_within n grid a))) (g.S.PageStore.reads c.args.store.now) (g.S.PageStore.reads c.plan_apart.new.store)) c.in-Ok-Some.field-0 c.in-Ok-Some.edits c.in-Ok-Some.field-0-is c.in-Ok-Some.ensures.reads grid b h hb holds)
+    reads_more (144 + 3 * own) (15 + 24 * n + 3 * own) _ _ (omega arith)
+    (some_at (λ (edits : Edits). (grid : Grid) (a : Block) → HasRegion (g.S.PageStore.told c.args.store.now) c.args.tree.now c.args.layer n grid
+    → IsBlock n a → HoldsWindow a c.args.w
+    → Tells {A = ℕ} (λ old new. new ≤ old + (144 + 3 * length (leaves_within n grid a))) (g.S.PageStore.reads c.args.store.now)
+    (g.S.PageStore.reads c.plan_apart.new.store)) c.in-Ok-Some.field-0 c.in-Ok-Some.edits c.in-Ok-Some.field-0-is
+    c.in-Ok-Some.ensures.reads grid b h hb holds)
 
 pub returns-in-Ok-Some-clause-pixel : goal.returns-in-Ok-Some-clause-pixel
 returns-in-Ok-Some-clause-pixel g c wide high grid h =
     let w = c.args.w in
     let b : Block = record { y = w.y; x = w.x; side = 1 } in
-    let all : (a : Block) → IsBlock c.args.level a → HoldsWindow a w → 64 ≤ a.side = some_at (λ (edits : Edits). (a : Block) → IsBlock c.args.level a → HoldsWindow a c.args.w → 64 ≤ a.side) c.in-Ok-Some.field-0 c.in-Ok-Some.edits c.in-Ok-Some.field-0-is c.in-Ok-Some.ensures.large in
+    let all : (a : Block) → IsBlock c.args.level a → HoldsWindow a w
+    → 64 ≤ a.side = some_at (λ (edits : Edits). (a : Block) → IsBlock c.args.level a → HoldsWindow a c.args.w
+    → 64 ≤ a.side) c.in-Ok-Some.field-0 c.in-Ok-Some.edits c.in-Ok-Some.field-0-is c.in-Ok-Some.ensures.large in
     let large : 64 ≤ 1 = all b (pixel_block c.args.level w c.requires.window) (pixel_holds w wide high) in
     absurd (omega arith)
 
 pub returns-in-Ok-None-clause-sound : goal.returns-in-Ok-None-clause-sound
 returns-in-Ok-None-clause-sound g c =
-    if_err_weaker c.plan_together.result (λ e law grid h. law grid (subst (λ told. HasRegion told c.args.tree.now c.args.layer c.args.level grid) (sym c.in-Ok-None.ensures.told) h)) c.plan_together.ensures.sound
+    if_err_weaker c.plan_together.result
+    (λ e law grid h. law grid (subst (λ told. HasRegion told c.args.tree.now c.args.layer c.args.level grid) (sym c.in-Ok-None.ensures.told) h))
+    c.plan_together.ensures.sound
 
 pub returns-in-Ok-None-clause-reads : goal.returns-in-Ok-None-clause-reads
 returns-in-Ok-None-clause-reads g c =
@@ -42,7 +53,8 @@ returns-in-Ok-None-clause-reads g c =
     let most = 15 + 24 * n + 3 * length (leaves_within n grid b) in
     let tried = c.in-Ok-None.ensures.tried (ap is_some c.in-Ok-None.field-0-is) in
     let rest = law grid b tried.0 (subst (λ told. HasRegion told c.args.tree.now c.args.layer n grid) (sym c.in-Ok-None.ensures.told) h) hb holds tried.1 in
-    saved_less (24 * tried.0) (24 * tried.0 + most) most _ _ (omega arith) (then_saved (24 * tried.0) (24 * tried.0) most (24 * tried.0 + most) _ _ _ (omega arith) tried.2 rest))
+    saved_less (24 * tried.0) (24 * tried.0 + most) most _ _ (omega arith)
+    (then_saved (24 * tried.0) (24 * tried.0) most (24 * tried.0 + most) _ _ _ (omega arith) tried.2 rest))
     c.plan_together.ensures.reads
 
 pub returns-in-Ok-None-clause-pixel : goal.returns-in-Ok-None-clause-pixel
@@ -57,6 +69,8 @@ returns-in-Ok-None-clause-pixel g c wide high =
     let one = pixel_within n grid w.x w.y c.requires.level.1 hb in
     let most = 15 + 24 * n + 3 * own in
     let tried = c.in-Ok-None.ensures.tried (ap is_some c.in-Ok-None.field-0-is) in
-    let rest = law grid b tried.0 (subst (λ told. HasRegion told c.args.tree.now c.args.layer n grid) (sym c.in-Ok-None.ensures.told) h) hb (pixel_holds w wide high) tried.1 in
-    saved_less (24 * tried.0) (24 * tried.0 + most) (18 + 24 * n) _ _ (omega arith) (then_saved (24 * tried.0) (24 * tried.0) most (24 * tried.0 + most) _ _ _ (omega arith) tried.2 rest))
+    let rest = law grid b tried.0 (subst (λ told. HasRegion told c.args.tree.now c.args.layer n grid) (sym c.in-Ok-None.ensures.told) h) hb
+    (pixel_holds w wide high) tried.1 in
+    saved_less (24 * tried.0) (24 * tried.0 + most) (18 + 24 * n) _ _ (omega arith)
+    (then_saved (24 * tried.0) (24 * tried.0) most (24 * tried.0 + most) _ _ _ (omega arith) tried.2 rest))
     c.plan_together.ensures.reads

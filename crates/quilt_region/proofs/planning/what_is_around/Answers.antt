@@ -20,7 +20,9 @@ returns-in-Ok-block_up_to-clause-knows g c grid h =
     }
 
 pub returns-in-Err-block_up_to-clause-sound : goal.returns-in-Err-block_up_to-clause-sound
-returns-in-Err-block_up_to-clause-sound g c grid h = c.in-Err-block_up_to.ensures.sound grid (subst (λ told. HasRegion told c.args.tree.now c.args.layer c.args.level grid) (sym c.in-Ok.ensures.told) h)
+returns-in-Err-block_up_to-clause-sound g c grid h =
+    c.in-Err-block_up_to.ensures.sound grid (subst (λ told. HasRegion told c.args.tree.now c.args.layer c.args.level grid) (sym c.in-Ok.ensures.told) h)
 
 pub returns-in-Ok-block_up_to-clause-reads : goal.returns-in-Ok-block_up_to-clause-reads
-returns-in-Ok-block_up_to-clause-reads g c j e = then_saved (24 * j) 6 (24 * c.args.level) (6 + 24 * c.args.level) _ _ _ (omega arith) c.in-Ok.ensures.reads (c.in-Ok-block_up_to.ensures.reads j e)
+returns-in-Ok-block_up_to-clause-reads g c j e =
+    then_saved (24 * j) 6 (24 * c.args.level) (6 + 24 * c.args.level) _ _ _ (omega arith) c.in-Ok.ensures.reads (c.in-Ok-block_up_to.ensures.reads j e)

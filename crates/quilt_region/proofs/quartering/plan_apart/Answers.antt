@@ -26,5 +26,10 @@ pub returns-clause-tried : goal.returns-clause-tried
 returns-clause-tried g c =
     let big : 64 ≤ c.block_around-b.result.side = search rules in
     if_ok_weaker c.plan_in_block.result
-    (λ o law none. (6, λ a ha holds. let within = c.block_around-b.ensures.least a ha holds in let l = within.left in let r = within.right in (let all : 64 ≤ a.side = omega arith in all), reads_more 120 (24 * 6) _ _ (omega arith) (law none)))
+    (λ o law none. (
+      6,
+      λ a ha holds. let within = c.block_around-b.ensures.least a ha holds in let l = within.left in let r = within.right in
+          (let all : 64 ≤ a.side = omega arith in all),
+      reads_more 120 (24 * 6) _ _ (omega arith) (law none),
+    ))
     c.plan_in_block.ensures.tried

@@ -36,7 +36,8 @@ pub returns-in-Some-clause-leaf : goal.returns-in-Some-clause-leaf
 returns-in-Some-clause-leaf g c grid h =
     let f =
     leaf_read (g.S.PageStore.told c.args.store.now) c.args.tree.now c.args.layer c.args.level grid c.args.p _ _ c.in-Ok-Some.r c.leaf_of.result
-    c.requires.layer c.requires.level.1 c.requires.in_x c.requires.in_y c.key_with-k.ensures c.in-Ok-Some.ensures.floor c.in-Ok-Some.field-0-is c.leaf_of.ensures.one h in
+    c.requires.layer c.requires.level.1 c.requires.in_x c.requires.in_y c.key_with-k.ensures c.in-Ok-Some.ensures.floor c.in-Ok-Some.field-0-is
+    c.leaf_of.ensures.one h in
     let same = read_same c.args.level grid c.args.p c.leaf_of.result c.in-Some.leaf c.in-Some.is f in
     record {
       member = subst (λ (l : Leaf). Contains (leaves c.args.level grid) (pair_of l)) same f.member;
@@ -47,42 +48,57 @@ pub returns-in_default-clause-sound : goal.returns-in_default-clause-sound
 returns-in_default-clause-sound g c grid h page e =
     let f =
     leaf_read (g.S.PageStore.told c.args.store.now) c.args.tree.now c.args.layer c.args.level grid c.args.p _ _ c.in-Ok-Some.r c.leaf_of.result
-    c.requires.layer c.requires.level.1 c.requires.in_x c.requires.in_y c.key_with-k.ensures c.in-Ok-Some.ensures.floor c.in-Ok-Some.field-0-is c.leaf_of.ensures.one h in
-    false_true (c.if-covers.ensures ∙ ap (λ (l : Leaf). in_block l.block c.args.p) (sym (read_same c.args.level grid c.args.p c.leaf_of.result c.in-Some.leaf c.in-Some.is f)) ∙ f.holds)
+    c.requires.layer c.requires.level.1 c.requires.in_x c.requires.in_y c.key_with-k.ensures c.in-Ok-Some.ensures.floor c.in-Ok-Some.field-0-is
+    c.leaf_of.ensures.one h in
+    false_true (c.if-covers.ensures
+    ∙ ap (λ (l : Leaf). in_block l.block c.args.p) (sym (read_same c.args.level grid c.args.p c.leaf_of.result c.in-Some.leaf c.in-Some.is f)) ∙ f.holds)
 
 pub returns-in_default-2-clause-sound : goal.returns-in_default-2-clause-sound
 returns-in_default-2-clause-sound g c grid h page e =
     let f =
     leaf_read (g.S.PageStore.told c.args.store.now) c.args.tree.now c.args.layer c.args.level grid c.args.p _ _ c.in-Ok-Some.r c.leaf_of.result
-    c.requires.layer c.requires.level.1 c.requires.in_x c.requires.in_y c.key_with-k.ensures c.in-Ok-Some.ensures.floor c.in-Ok-Some.field-0-is c.leaf_of.ensures.one h in
+    c.requires.layer c.requires.level.1 c.requires.in_x c.requires.in_y c.key_with-k.ensures c.in-Ok-Some.ensures.floor c.in-Ok-Some.field-0-is
+    c.leaf_of.ensures.one h in
     none_some _ (sym c.in_default.is ∙ f.is)
 
 pub returns-in-Err-clause-again : goal.returns-in-Err-clause-again
 returns-in-Err-clause-again g c =
-    subst (λ k. (rs : List Record) → IsTree (g.S.PageStore.told c.args.store.now) c.args.tree.now rs → ReadsNone (λ pages. floor_pages pages k c.args.tree.now.height c.args.tree.now.root) (g.S.PageStore.told c.args.store.now) (g.S.PageStore.held c.args.store.now) (g.S.PageStore.reads c.args.store.now) (g.S.PageStore.reads c.floor.new.store))
+    subst (λ k. (rs : List Record) → IsTree (g.S.PageStore.told c.args.store.now) c.args.tree.now rs
+    → ReadsNone (λ pages. floor_pages pages k c.args.tree.now.height c.args.tree.now.root) (g.S.PageStore.told c.args.store.now)
+    (g.S.PageStore.held c.args.store.now) (g.S.PageStore.reads c.args.store.now) (g.S.PageStore.reads c.floor.new.store))
     c.key_with-k.ensures c.in-Err.ensures.again
 
 pub returns-in-Ok-None-clause-again : goal.returns-in-Ok-None-clause-again
 returns-in-Ok-None-clause-again g c =
-    subst (λ k. (rs : List Record) → IsTree (g.S.PageStore.told c.args.store.now) c.args.tree.now rs → ReadsNone (λ pages. floor_pages pages k c.args.tree.now.height c.args.tree.now.root) (g.S.PageStore.told c.args.store.now) (g.S.PageStore.held c.args.store.now) (g.S.PageStore.reads c.args.store.now) (g.S.PageStore.reads c.floor.new.store))
+    subst (λ k. (rs : List Record) → IsTree (g.S.PageStore.told c.args.store.now) c.args.tree.now rs
+    → ReadsNone (λ pages. floor_pages pages k c.args.tree.now.height c.args.tree.now.root) (g.S.PageStore.told c.args.store.now)
+    (g.S.PageStore.held c.args.store.now) (g.S.PageStore.reads c.args.store.now) (g.S.PageStore.reads c.floor.new.store))
     c.key_with-k.ensures c.in-Ok-None.ensures.again
 
 pub returns-in-Some-clause-again : goal.returns-in-Some-clause-again
 returns-in-Some-clause-again g c =
-    subst (λ k. (rs : List Record) → IsTree (g.S.PageStore.told c.args.store.now) c.args.tree.now rs → ReadsNone (λ pages. floor_pages pages k c.args.tree.now.height c.args.tree.now.root) (g.S.PageStore.told c.args.store.now) (g.S.PageStore.held c.args.store.now) (g.S.PageStore.reads c.args.store.now) (g.S.PageStore.reads c.floor.new.store))
+    subst (λ k. (rs : List Record) → IsTree (g.S.PageStore.told c.args.store.now) c.args.tree.now rs
+    → ReadsNone (λ pages. floor_pages pages k c.args.tree.now.height c.args.tree.now.root) (g.S.PageStore.told c.args.store.now)
+    (g.S.PageStore.held c.args.store.now) (g.S.PageStore.reads c.args.store.now) (g.S.PageStore.reads c.floor.new.store))
     c.key_with-k.ensures c.in-Ok-Some.ensures.again
 
 pub returns-in_default-clause-again : goal.returns-in_default-clause-again
 returns-in_default-clause-again g c =
-    subst (λ k. (rs : List Record) → IsTree (g.S.PageStore.told c.args.store.now) c.args.tree.now rs → ReadsNone (λ pages. floor_pages pages k c.args.tree.now.height c.args.tree.now.root) (g.S.PageStore.told c.args.store.now) (g.S.PageStore.held c.args.store.now) (g.S.PageStore.reads c.args.store.now) (g.S.PageStore.reads c.floor.new.store))
+    subst (λ k. (rs : List Record) → IsTree (g.S.PageStore.told c.args.store.now) c.args.tree.now rs
+    → ReadsNone (λ pages. floor_pages pages k c.args.tree.now.height c.args.tree.now.root) (g.S.PageStore.told c.args.store.now)
+    (g.S.PageStore.held c.args.store.now) (g.S.PageStore.reads c.args.store.now) (g.S.PageStore.reads c.floor.new.store))
     c.key_with-k.ensures c.in-Ok-Some.ensures.again
 
 pub returns-in_default-2-clause-again : goal.returns-in_default-2-clause-again
 returns-in_default-2-clause-again g c =
-    subst (λ k. (rs : List Record) → IsTree (g.S.PageStore.told c.args.store.now) c.args.tree.now rs → ReadsNone (λ pages. floor_pages pages k c.args.tree.now.height c.args.tree.now.root) (g.S.PageStore.told c.args.store.now) (g.S.PageStore.held c.args.store.now) (g.S.PageStore.reads c.args.store.now) (g.S.PageStore.reads c.floor.new.store))
+    subst (λ k. (rs : List Record) → IsTree (g.S.PageStore.told c.args.store.now) c.args.tree.now rs
+    → ReadsNone (λ pages. floor_pages pages k c.args.tree.now.height c.args.tree.now.root) (g.S.PageStore.told c.args.store.now)
+    (g.S.PageStore.held c.args.store.now) (g.S.PageStore.reads c.args.store.now) (g.S.PageStore.reads c.floor.new.store))
     c.key_with-k.ensures c.in-Ok-Some.ensures.again
 
 pub returns-in-Some-clause-held : goal.returns-in-Some-clause-held
 returns-in-Some-clause-held g c =
-    subst (λ k. (rs : List Record) → IsTree (g.S.PageStore.told c.args.store.now) c.args.tree.now rs → HoldsFirst (λ pages. floor_pages pages k c.args.tree.now.height c.args.tree.now.root) (g.S.PageStore.told c.args.store.now) (g.S.PageStore.held c.args.store.now) (g.S.PageStore.held c.floor.new.store))
+    subst (λ k. (rs : List Record) → IsTree (g.S.PageStore.told c.args.store.now) c.args.tree.now rs
+    → HoldsFirst (λ pages. floor_pages pages k c.args.tree.now.height c.args.tree.now.root) (g.S.PageStore.told c.args.store.now)
+    (g.S.PageStore.held c.args.store.now) (g.S.PageStore.held c.floor.new.store))
     c.key_with-k.ensures c.in-Ok-Some.ensures.held

@@ -21,8 +21,19 @@ pub returns-in-Ok-clause-records : goal.returns-in-Ok-clause-records
 returns-in-Ok-clause-records g c grid h =
     let pos = member_pos c.args.level c.args.b c.requires.block in
     let end = c.end_of.ensures.value in
-    read_within (g.S.PageStore.told c.args.store.now) c.args.tree.now c.args.layer c.args.level grid c.args.b _ _ c.in-Ok.records.items 4294967295 c.requires.level.1 c.requires.block
-    (record { low_layer = c.from.ensures; low_part = refl; low_code = c.code_of.ensures.value; low_depth = refl; low_item = refl; high_layer = c.from-2.ensures; high_part = refl; high_code = omega arith; high_depth = refl })
+    read_within (g.S.PageStore.told c.args.store.now) c.args.tree.now c.args.layer c.args.level grid c.args.b _ _ c.in-Ok.records.items 4294967295
+    c.requires.level.1 c.requires.block
+    (record {
+      low_layer = c.from.ensures;
+      low_part = refl;
+      low_code = c.code_of.ensures.value;
+      low_depth = refl;
+      low_item = refl;
+      high_layer = c.from-2.ensures;
+      high_part = refl;
+      high_code = omega arith;
+      high_depth = refl;
+    })
     (omega arith) c.in-Ok.ensures.range h
 
 pub returns-in-Ok-clause-reads : goal.returns-in-Ok-clause-reads
@@ -31,8 +42,20 @@ returns-in-Ok-clause-reads g c grid h =
     let pos = member_pos n c.args.b c.requires.block in
     let end = c.end_of.ensures.value in
     let all =
-    read_within (g.S.PageStore.told c.args.store.now) c.args.tree.now c.args.layer n grid c.args.b _ _ c.in-Ok.records.items 4294967295 c.requires.level.1 c.requires.block
-    (record { low_layer = c.from.ensures; low_part = refl; low_code = c.code_of.ensures.value; low_depth = refl; low_item = refl; high_layer = c.from-2.ensures; high_part = refl; high_code = omega arith; high_depth = refl })
+    read_within (g.S.PageStore.told c.args.store.now) c.args.tree.now c.args.layer n grid c.args.b _ _ c.in-Ok.records.items 4294967295
+    c.requires.level.1 c.requires.block
+    (record {
+      low_layer = c.from.ensures;
+      low_part = refl;
+      low_code = c.code_of.ensures.value;
+      low_depth = refl;
+      low_item = refl;
+      high_layer = c.from-2.ensures;
+      high_part = refl;
+      high_code = omega arith;
+      high_depth = refl;
+    })
     (omega arith) c.in-Ok.ensures.range h in
     let many = c.in-Ok.records.ok.0 ∙ ap length all ∙ length_within n c.args.layer grid c.args.b in
-    subst (λ (k : ℕ). Tells {A = ℕ} (λ old new. new ≤ old + 6 + 3 * k) (g.S.PageStore.reads c.args.store.now) (g.S.PageStore.reads c.range.new.store)) many c.in-Ok.ensures.reads
+    subst (λ (k : ℕ). Tells {A = ℕ} (λ old new. new ≤ old + 6 + 3 * k) (g.S.PageStore.reads c.args.store.now)
+    (g.S.PageStore.reads c.range.new.store)) many c.in-Ok.ensures.reads

@@ -9,7 +9,8 @@ use Rattle.quilt_region.specs.Regions.{leaf_record}
 use Rattle.quilt_region.proofs.Records.{leaf_is_record}
 use Rattle.quilt_region.proofs.spelling.leaf_of.Goals as goal
 
-named : (n layer : ℕ) (r : Record) (b : Block) (k : ℕ) → 1 ≤ layer → layer ≤ 255 → IsBlock n b → r ≡ leaf_record n layer (b, k) → IsRecordOf n 0 r layer (HasColour b k)
+named : (n layer : ℕ) (r : Record) (b : Block) (k : ℕ) → 1 ≤ layer → layer ≤ 255 → IsBlock n b → r ≡ leaf_record n layer (b, k)
+    → IsRecordOf n 0 r layer (HasColour b k)
 named n layer r b k least most h e = subst (λ (s : Record). IsRecordOf n 0 s layer (HasColour b k)) (sym e) (leaf_is_record n layer b k least most h)
 
 none_some : {X : Type 0} (x : X) → None ≡ Some x → ⊥
@@ -18,7 +19,8 @@ none_some x e = cc
 pub returns-in_err-block-clause-one : goal.returns-in_err-block-clause-one
 returns-in_err-block-clause-one c b k least h e =
     let fits = c.ranges.layer.fits in
-    absurd (none_some (b, k) (sym c.in_err-block.was ∙ c.read_region.ensures.one c.args.layer b k (λ no. absurd (omega arith)) (named c.args.level c.args.layer c.args.r.now b k.0 least (omega arith) h e)))
+    absurd (none_some (b, k) (sym c.in_err-block.was
+    ∙ c.read_region.ensures.one c.args.layer b k (λ no. absurd (omega arith)) (named c.args.level c.args.layer c.args.r.now b k.0 least (omega arith) h e)))
 
 pub returns-clause-record : goal.returns-clause-record
 returns-clause-record c =
@@ -31,5 +33,8 @@ returns-clause-code c = ap (λ (r : Record). r.key.code) (c.in_ok-block.ensures.
 pub returns-clause-one : goal.returns-clause-one
 returns-clause-one c b k least h e =
     let fits = c.ranges.layer.fits in
-    let same = pair_same c.in_ok-block.block b c.in_ok-block.colour k (sym c.in_ok-block.was ∙ c.read_region.ensures.one c.args.layer b k (λ no. absurd (omega arith)) (named c.args.level c.args.layer c.args.r.now b k.0 least (omega arith) h e)) in
+    let same =
+    pair_same c.in_ok-block.block b c.in_ok-block.colour k
+    (sym c.in_ok-block.was ∙ c.read_region.ensures.one c.args.layer b k (λ no. absurd (omega arith))
+    (named c.args.level c.args.layer c.args.r.now b k.0 least (omega arith) h e)) in
     λ i. Some (record { block = same.0 i; colour = same.1 i })

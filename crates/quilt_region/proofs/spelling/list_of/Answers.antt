@@ -24,12 +24,14 @@ loop-r-init c =
 
 pub returns-in_default-clause-sound : goal.returns-in_default-clause-sound
 returns-in_default-clause-sound c g is page e =
-    read_some c.args.level c.args.layer g c.args.records.now c.loop-r.r-index _ c.leaf_of.result c.requires.layer c.requires.level.1 is c.loop-r-test.true c.leaf_of.ensures.one c.in_default.is
+    read_some c.args.level c.args.layer g c.args.records.now c.loop-r.r-index _ c.leaf_of.result c.requires.layer c.requires.level.1 is
+    c.loop-r-test.true c.leaf_of.ensures.one c.in_default.is
 
 pub returns-then-r-end-clause-sound : goal.returns-then-r-end-clause-sound
 returns-then-r-end-clause-sound c g is page e =
     let inv = c.loop-r.invariant in
-    let next = read_next c.args.level c.args.layer g c.args.records.now c.loop-r.r-index _ c.leaf_of.result c.requires.layer c.requires.level.1 is c.loop-r-test.true c.leaf_of.ensures.one c.in-Some.leaf c.in-Some.is in
+    let next = read_next c.args.level c.args.layer g c.args.records.now c.loop-r.r-index _ c.leaf_of.result c.requires.layer c.requires.level.1 is
+    c.loop-r-test.true c.leaf_of.ensures.one c.in-Some.leaf c.in-Some.is in
     let from = next_from c.args.level c.args.layer g c.loop-r.r-index c.loop-r.end c.loop-r.maker.colours _ c.in-Some.leaf next inv.long (inv.as_far g is) in
     let code = c.in-Some.ensures.code in
     let differ = c.if-r-end.true in
@@ -48,15 +50,18 @@ loop-r-preserved c =
       level = ap (λ (m : Painted). m.level) ok ∙ inv.level;
       long = c.end_of-end.ensures.value ∙ sym end;
       as_far = λ g is.
-          let next = read_next c.args.level c.args.layer g c.args.records.now c.loop-r.r-index _ c.leaf_of.result c.requires.layer c.requires.level.1 is c.loop-r-test.true c.leaf_of.ensures.one c.in-Some.leaf c.in-Some.is in
-          IsAsFar-more c.args.level c.args.layer g c.loop-r.r-index c.loop-r.maker.colours c.push.new.self.colours _ c.in-Some.leaf.block c.in-Some.leaf.colour.0 c.requires.level.1
+          let next = read_next c.args.level c.args.layer g c.args.records.now c.loop-r.r-index _ c.leaf_of.result c.requires.layer c.requires.level.1
+          is c.loop-r-test.true c.leaf_of.ensures.one c.in-Some.leaf c.in-Some.is in
+          IsAsFar-more c.args.level c.args.layer g c.loop-r.r-index c.loop-r.maker.colours c.push.new.self.colours _ c.in-Some.leaf.block
+          c.in-Some.leaf.colour.0 c.requires.level.1
           next.next next.block next.colour colours end (inv.as_far g is);
     }
 
 pub returns-then-end-level-clause-sound : goal.returns-then-end-level-clause-sound
 returns-then-end-level-clause-sound c g is page e =
     let inv = c.loop-r.invariant in
-    let all = IsAsFar-full c.args.level c.args.layer g c.args.records.now c.loop-r.r-index c.loop-r.maker.colours c.requires.level.1 is (omega arith) (inv.as_far g is) in
+    let all = IsAsFar-full c.args.level c.args.layer g c.args.records.now c.loop-r.r-index c.loop-r.maker.colours c.requires.level.1 is
+    (omega arith) (inv.as_far g is) in
     let codes = codes_are c.args.level c.requires.level.1 in
     let long = inv.long in
     let differ = c.if-end-level.true in
@@ -79,5 +84,6 @@ returns-clause-list c g grid is =
     let far = inv.as_far g is in
     let all = IsAsFar-full n c.args.layer g c.args.records.now c.loop-r.r-index colours c.requires.level.1 is (omega arith) far in
     let level = c.finish.ensures.level ∙ inv.level in
-    let made = c.finish.ensures.value ∙ ap (λ (k : ℕ). grid_by_code k colours) inv.level ∙ IsAsFar-grid n g c.loop-r.r-index colours c.requires.level.1 grid all far in
+    let made =
+    c.finish.ensures.value ∙ ap (λ (k : ℕ). grid_by_code k colours) inv.level ∙ IsAsFar-grid n g c.loop-r.r-index colours c.requires.level.1 grid all far in
     λ i. record { level = level i; grid = made i }

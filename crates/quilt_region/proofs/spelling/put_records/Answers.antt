@@ -40,7 +40,8 @@ loop-r-init c =
 
 pub returns-in_default-clause-sound : goal.returns-in_default-clause-sound
 returns-in_default-clause-sound c g is out page e =
-    nth_some c.args.level c.args.layer g c.args.b c.args.records.now c.loop-r.r-index _ c.leaf_of.result c.requires.layer c.requires.level.1 c.requires.block is c.loop-r-test.true c.leaf_of.ensures.one c.in_default.is
+    nth_some c.args.level c.args.layer g c.args.b c.args.records.now c.loop-r.r-index _ c.leaf_of.result c.requires.layer c.requires.level.1
+    c.requires.block is c.loop-r-test.true c.leaf_of.ensures.one c.in_default.is
 
 pub end_of-next-requires : goal.end_of-next-requires
 end_of-next-requires c = IsBlock-up c.args.level 12 c.in-Some.leaf.block c.requires.level.1 c.in-Some.ensures.block
@@ -50,8 +51,10 @@ returns-then-r-end-clause-sound c g is out page e =
     let n = c.args.level in
     let inv = c.loop-r.invariant in
     let nth = nth_leaf n c.args.layer g c.args.b c.args.records.now c.loop-r.r-index _ c.requires.level.1 c.requires.block is c.loop-r-test.true in
-    let same = nth_same n c.args.layer g c.args.b c.args.records.now c.loop-r.r-index _ c.leaf_of.result c.requires.layer c.requires.level.1 c.requires.block is c.loop-r-test.true c.leaf_of.ensures.one c.in-Some.leaf c.in-Some.is in
-    let codes = nth_codes n c.args.layer g c.args.b c.loop-r.r-index c.loop-r.end _ c.in-Some.leaf nth c.requires.level.1 c.requires.block out same (inv.far g is out) in
+    let same = nth_same n c.args.layer g c.args.b c.args.records.now c.loop-r.r-index _ c.leaf_of.result c.requires.layer c.requires.level.1
+    c.requires.block is c.loop-r-test.true c.leaf_of.ensures.one c.in-Some.leaf c.in-Some.is in
+    let codes = nth_codes n c.args.layer g c.args.b c.loop-r.r-index c.loop-r.end _ c.in-Some.leaf nth c.requires.level.1 c.requires.block out
+    same (inv.far g is out) in
     let code = c.in-Some.ensures.code in
     let last = c.end_of-last.ensures.value in
     let next = c.end_of-next.ensures.value in
@@ -81,13 +84,17 @@ loop-r-preserved c =
       high = omega arith;
       made = λ g f is same old.
           let nth = nth_leaf n c.args.layer g c.args.b c.args.records.now c.loop-r.r-index _ c.requires.level.1 c.requires.block is c.loop-r-test.true in
-          let pair = nth_same n c.args.layer g c.args.b c.args.records.now c.loop-r.r-index _ c.leaf_of.result c.requires.layer c.requires.level.1 c.requires.block is c.loop-r-test.true c.leaf_of.ensures.one c.in-Some.leaf c.in-Some.is in
-          nth_push n c.args.layer g c.args.b c.loop-r.r-index _ c.in-Some.leaf nth c.requires.level.1 c.requires.block pair c.in-Some.ensures.block (omega arith) (omega arith) f same
+          let pair = nth_same n c.args.layer g c.args.b c.args.records.now c.loop-r.r-index _ c.leaf_of.result c.requires.layer c.requires.level.1
+          c.requires.block is c.loop-r-test.true c.leaf_of.ensures.one c.in-Some.leaf c.in-Some.is in
+          nth_push n c.args.layer g c.args.b c.loop-r.r-index _ c.in-Some.leaf nth c.requires.level.1 c.requires.block pair c.in-Some.ensures.block
+          (omega arith) (omega arith) f same
           c.loop-r.maker.colours c.push.new.self.colours (from ∙ inv.long) colours (inv.made g f is same old);
       far = λ g is out.
           let nth = nth_leaf n c.args.layer g c.args.b c.args.records.now c.loop-r.r-index _ c.requires.level.1 c.requires.block is c.loop-r-test.true in
-          let pair = nth_same n c.args.layer g c.args.b c.args.records.now c.loop-r.r-index _ c.leaf_of.result c.requires.layer c.requires.level.1 c.requires.block is c.loop-r-test.true c.leaf_of.ensures.one c.in-Some.leaf c.in-Some.is in
-          next ∙ (nth_codes n c.args.layer g c.args.b c.loop-r.r-index c.loop-r.end _ c.in-Some.leaf nth c.requires.level.1 c.requires.block out pair (inv.far g is out)).1;
+          let pair = nth_same n c.args.layer g c.args.b c.args.records.now c.loop-r.r-index _ c.leaf_of.result c.requires.layer c.requires.level.1
+          c.requires.block is c.loop-r-test.true c.leaf_of.ensures.one c.in-Some.leaf c.in-Some.is in
+          next ∙ (nth_codes n c.args.layer g c.args.b c.loop-r.r-index c.loop-r.end _ c.in-Some.leaf nth c.requires.level.1 c.requires.block out pair
+          (inv.far g is out)).1;
     }
 
 pub returns-then-end-last-clause-sound : goal.returns-then-end-last-clause-sound

@@ -14,6 +14,8 @@ invariant-loop-r l = record {
   long : l.end ≡ length l.maker.colours;
   low : code_from l.fn.b ≤ l.end;
   high : l.end ≤ code_to l.fn.b;
-  made : (g : Grid) (f : Pixel → ℕ) → l.records ≡ records_within l.level l.layer g l.fn.b → ((p : Pixel) → Holds l.fn.b p → f p ≡ colour_at l.level g p) → HasColours l.level f l.initial.maker.colours → HasColours l.level f l.maker.colours;
-  far : (g : Grid) → l.records ≡ records_within l.level l.layer g l.fn.b → IsCutOut l.level g l.fn.b → l.end ≡ code_from l.fn.b + size_of (take l.r-index (leaves_within l.level g l.fn.b));
+  made : (g : Grid) (f : Pixel → ℕ) → l.records ≡ records_within l.level l.layer g l.fn.b
+      → ((p : Pixel) → Holds l.fn.b p → f p ≡ colour_at l.level g p) → HasColours l.level f l.initial.maker.colours → HasColours l.level f l.maker.colours;
+  far : (g : Grid) → l.records ≡ records_within l.level l.layer g l.fn.b → IsCutOut l.level g l.fn.b
+      → l.end ≡ code_from l.fn.b + size_of (take l.r-index (leaves_within l.level g l.fn.b));
 }

@@ -10,4 +10,5 @@ returns-then-number-lt10 t c = search (rules, decimal_digit)
 pub returns : goal.returns
 returns t c =
     on_ok_weaker c.push-2.result
-    (λ e. digit_more c.args.text.now c.push_number.new.text c.push-2.new.self c.args.number (omega arith) (omega arith) c.in_ok-push_number.ensures e) c.push-2.ensures.ok
+    (λ e. digit_more c.args.text.now c.push_number.new.text c.push-2.new.self c.args.number (omega arith)
+    (omega arith) c.in_ok-push_number.ensures e) c.push-2.ensures.ok

@@ -6,4 +6,5 @@ use Rattle.quilt_replies.proofs.bodies.edition_text.Goals as goal
 pub returns : goal.returns
 returns c =
     finished c.finish.result _ (spaced (codes "edition" ∷ decimal c.args.number ∷ []) ∷ []) c.finish.ensures
-    (edition_line c.args.number _ _ _ _ c.new-text.ensures c.in_ok-push.ensures.ok (pushed _ _ _ c.args.number c.in_ok-push_number.ensures c.from.ensures) c.in_ok-push-2.ensures.ok)
+    (edition_line c.args.number _ _ _ _ c.new-text.ensures c.in_ok-push.ensures.ok
+    (pushed _ _ _ c.args.number c.in_ok-push_number.ensures c.from.ensures) c.in_ok-push-2.ensures.ok)

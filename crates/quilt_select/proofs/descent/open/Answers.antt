@@ -26,7 +26,9 @@ returns-in-Ok-Leaf-clause-opened g c = record {
     refl,
     c.in-Ok.ensures ∙ ap (fold (with_seg c.args.near.now) c.args.found.now.entries) c.items.ensures,
   );
-  reads = subst (λ (part : Part). Tells (λ old new. new ≤ old + pages_for part) (g.S.PageStore.reads c.args.store.now) (g.S.PageStore.reads c.part.new.store)) c.in-Ok-Leaf.field-0-is c.in-Ok-Leaf.ensures.reads;
+  reads =
+      subst (λ (part : Part). Tells (λ old new. new ≤ old + pages_for part) (g.S.PageStore.reads c.args.store.now)
+      (g.S.PageStore.reads c.part.new.store)) c.in-Ok-Leaf.field-0-is c.in-Ok-Leaf.ensures.reads;
 }
 
 pub push_quarters-requires-clause-valid : goal.push_quarters-requires-clause-valid
@@ -42,5 +44,7 @@ returns-clause-opened g c = record {
     c.in-Ok-push_quarters.ensures,
     refl,
   );
-  reads = subst (λ (part : Part). Tells (λ old new. new ≤ old + pages_for part) (g.S.PageStore.reads c.args.store.now) (g.S.PageStore.reads c.part.new.store)) c.in-Ok-Split.field-0-is c.in-Ok-Split.ensures.reads;
+  reads =
+      subst (λ (part : Part). Tells (λ old new. new ≤ old + pages_for part) (g.S.PageStore.reads c.args.store.now)
+      (g.S.PageStore.reads c.part.new.store)) c.in-Ok-Split.field-0-is c.in-Ok-Split.ensures.reads;
 }

@@ -9,8 +9,10 @@ pub loop-block-init : goal.loop-block-init
 loop-block-init g c =
     let low : g.B.SegBlocks.level_of c.args.blocks.now ≤ 12 = subst (λ k. k ≤ 12) c.level.ensures.value c.level.ensures.range.1 in
     record {
-      going = going_start _ c.args.windows.items c.requires (g.B.SegBlocks.shows c.args.blocks.now c.args.store.now) (g.met.B.SegBlocks.lines c.args.blocks.now c.args.store.now) (g.S.PageStore.reads c.args.store.now)
-          c.push.new.self c.new-found.result.entries _ c.args.windows.items c.new-stack.result (whole_by _ _ c.level.ensures.value low) refl c.new-stack.ensures c.in-Ok.ensures c.new-found.ensures.empty;
+      going = going_start _ c.args.windows.items c.requires (g.B.SegBlocks.shows c.args.blocks.now c.args.store.now)
+          (g.met.B.SegBlocks.lines c.args.blocks.now c.args.store.now) (g.S.PageStore.reads c.args.store.now)
+          c.push.new.self c.new-found.result.entries _ c.args.windows.items c.new-stack.result (whole_by _ _ c.level.ensures.value low)
+          refl c.new-stack.ensures c.in-Ok.ensures c.new-found.ensures.empty;
       size = refl;
       told = refl;
       free = refl;
@@ -21,13 +23,17 @@ loop-block-init g c =
 
 pub open-requires-clause-block : goal.open-requires-clause-block
 open-requires-clause-block g c =
-    first_valid _ c.args.windows.items c.requires (g.B.SegBlocks.shows c.args.blocks.now c.args.store.now) (g.met.B.SegBlocks.lines c.args.blocks.now c.args.store.now) (g.S.PageStore.reads c.args.store.now)
-    (g.S.PageStore.reads c.loop-block.store) c.loop-block.stack (c.in-Some.block, c.in-Some.near.items) c.pop.new.self c.loop-block.found.entries c.loop-block.invariant.going c.in-Some.ensures.taken
+    first_valid _ c.args.windows.items c.requires (g.B.SegBlocks.shows c.args.blocks.now c.args.store.now)
+    (g.met.B.SegBlocks.lines c.args.blocks.now c.args.store.now) (g.S.PageStore.reads c.args.store.now)
+    (g.S.PageStore.reads c.loop-block.store) c.loop-block.stack (c.in-Some.block, c.in-Some.near.items) c.pop.new.self c.loop-block.found.entries
+    c.loop-block.invariant.going c.in-Some.ensures.taken
 
 pub open-requires-clause-reached : goal.open-requires-clause-reached
 open-requires-clause-reached g c l s =
-    first_reached _ c.args.windows.items c.requires (g.B.SegBlocks.shows c.args.blocks.now c.args.store.now) (g.met.B.SegBlocks.lines c.args.blocks.now c.args.store.now) (g.S.PageStore.reads c.args.store.now)
-    (g.S.PageStore.reads c.loop-block.store) c.loop-block.stack (c.in-Some.block, c.in-Some.near.items) c.pop.new.self c.loop-block.found.entries c.loop-block.invariant.going c.in-Some.ensures.taken
+    first_reached _ c.args.windows.items c.requires (g.B.SegBlocks.shows c.args.blocks.now c.args.store.now)
+    (g.met.B.SegBlocks.lines c.args.blocks.now c.args.store.now) (g.S.PageStore.reads c.args.store.now)
+    (g.S.PageStore.reads c.loop-block.store) c.loop-block.stack (c.in-Some.block, c.in-Some.near.items) c.pop.new.self c.loop-block.found.entries
+    c.loop-block.invariant.going c.in-Some.ensures.taken
     l (g.met.B.SegBlocks.same c.args.blocks.now c.loop-block.store c.args.store.now l (sym c.loop-block.invariant.told) s)
 
 pub returns-in-Err-open-clause-sound : goal.returns-in-Err-open-clause-sound
@@ -36,20 +42,28 @@ returns-in-Err-open-clause-sound g c l s =
 
 pub loop-block-smaller : goal.loop-block-smaller
 loop-block-smaller g c =
-    less_left _ c.args.windows.items c.requires (g.B.SegBlocks.shows c.args.blocks.now c.args.store.now) (g.met.B.SegBlocks.lines c.args.blocks.now c.args.store.now) (g.S.PageStore.reads c.args.store.now)
-    (g.S.PageStore.reads c.loop-block.store) c.loop-block.stack (c.in-Some.block, c.in-Some.near.items) c.pop.new.self c.loop-block.found.entries c.loop-block.invariant.going c.in-Some.ensures.taken
+    less_left _ c.args.windows.items c.requires (g.B.SegBlocks.shows c.args.blocks.now c.args.store.now)
+    (g.met.B.SegBlocks.lines c.args.blocks.now c.args.store.now) (g.S.PageStore.reads c.args.store.now)
+    (g.S.PageStore.reads c.loop-block.store) c.loop-block.stack (c.in-Some.block, c.in-Some.near.items) c.pop.new.self c.loop-block.found.entries
+    c.loop-block.invariant.going c.in-Some.ensures.taken
     (g.S.PageStore.reads c.open.new.store) c.open.new.stack c.open.new.found.entries (g.B.SegBlocks.shows c.args.blocks.now c.loop-block.store)
-    (subst (λ (near : List Window). IsOpened c.in-Some.block near (g.B.SegBlocks.shows c.args.blocks.now c.loop-block.store) c.pop.new.self c.open.new.stack c.loop-block.found.entries c.open.new.found.entries (g.S.PageStore.reads c.loop-block.store) (g.S.PageStore.reads c.open.new.store)) c.deref.ensures.value c.in-Ok-open.ensures.opened)
+    (subst (λ (near : List Window). IsOpened c.in-Some.block near (g.B.SegBlocks.shows c.args.blocks.now c.loop-block.store)
+    c.pop.new.self c.open.new.stack c.loop-block.found.entries c.open.new.found.entries (g.S.PageStore.reads c.loop-block.store)
+    (g.S.PageStore.reads c.open.new.store)) c.deref.ensures.value c.in-Ok-open.ensures.opened)
 
 pub loop-block-preserved : goal.loop-block-preserved
 loop-block-preserved g c =
     let i = c.loop-block.invariant in
     record {
-      going = going_on _ c.args.windows.items c.requires (g.B.SegBlocks.shows c.args.blocks.now c.args.store.now) (g.met.B.SegBlocks.lines c.args.blocks.now c.args.store.now) (g.S.PageStore.reads c.args.store.now)
-          (g.S.PageStore.reads c.loop-block.store) c.loop-block.stack (c.in-Some.block, c.in-Some.near.items) c.pop.new.self c.loop-block.found.entries c.loop-block.invariant.going c.in-Some.ensures.taken
+      going = going_on _ c.args.windows.items c.requires (g.B.SegBlocks.shows c.args.blocks.now c.args.store.now)
+          (g.met.B.SegBlocks.lines c.args.blocks.now c.args.store.now) (g.S.PageStore.reads c.args.store.now)
+          (g.S.PageStore.reads c.loop-block.store) c.loop-block.stack (c.in-Some.block, c.in-Some.near.items)
+          c.pop.new.self c.loop-block.found.entries c.loop-block.invariant.going c.in-Some.ensures.taken
           (g.S.PageStore.reads c.open.new.store) c.open.new.stack c.open.new.found.entries (g.B.SegBlocks.shows c.args.blocks.now c.loop-block.store)
           (λ l s. g.met.B.SegBlocks.same c.args.blocks.now c.args.store.now c.loop-block.store l i.told s)
-          (subst (λ (near : List Window). IsOpened c.in-Some.block near (g.B.SegBlocks.shows c.args.blocks.now c.loop-block.store) c.pop.new.self c.open.new.stack c.loop-block.found.entries c.open.new.found.entries (g.S.PageStore.reads c.loop-block.store) (g.S.PageStore.reads c.open.new.store)) c.deref.ensures.value c.in-Ok-open.ensures.opened);
+          (subst (λ (near : List Window). IsOpened c.in-Some.block near (g.B.SegBlocks.shows c.args.blocks.now c.loop-block.store)
+          c.pop.new.self c.open.new.stack c.loop-block.found.entries c.open.new.found.entries (g.S.PageStore.reads c.loop-block.store)
+          (g.S.PageStore.reads c.open.new.store)) c.deref.ensures.value c.in-Ok-open.ensures.opened);
       size = c.open.ensures.size ∙ i.size;
       told = c.open.ensures.told ∙ i.told;
       free = c.open.ensures.free ∙ i.free;
@@ -60,10 +74,13 @@ loop-block-preserved g c =
 
 pub returns-clause-selected : goal.returns-clause-selected
 returns-clause-selected g c l s =
-    going_end _ c.args.windows.items c.requires (g.B.SegBlocks.shows c.args.blocks.now c.args.store.now) (g.met.B.SegBlocks.lines c.args.blocks.now c.args.store.now) (g.S.PageStore.reads c.args.store.now)
-    (g.S.PageStore.reads c.loop-block.store) c.loop-block.stack c.loop-block.found.entries c.in-Ok-listed.list c.loop-block.invariant.going c.in_default.ensures.none c.in-Ok-listed.ensures.list c.in-Ok-listed.ensures.ordered l s
+    going_end _ c.args.windows.items c.requires (g.B.SegBlocks.shows c.args.blocks.now c.args.store.now)
+    (g.met.B.SegBlocks.lines c.args.blocks.now c.args.store.now) (g.S.PageStore.reads c.args.store.now)
+    (g.S.PageStore.reads c.loop-block.store) c.loop-block.stack c.loop-block.found.entries c.in-Ok-listed.list c.loop-block.invariant.going
+    c.in_default.ensures.none c.in-Ok-listed.ensures.list c.in-Ok-listed.ensures.ordered l s
 
 pub returns-clause-reads : goal.returns-clause-reads
 returns-clause-reads g c l s =
-    going_reads _ c.args.windows.items c.requires (g.B.SegBlocks.shows c.args.blocks.now c.args.store.now) (g.met.B.SegBlocks.lines c.args.blocks.now c.args.store.now) (g.S.PageStore.reads c.args.store.now)
+    going_reads _ c.args.windows.items c.requires (g.B.SegBlocks.shows c.args.blocks.now c.args.store.now)
+    (g.met.B.SegBlocks.lines c.args.blocks.now c.args.store.now) (g.S.PageStore.reads c.args.store.now)
     (g.S.PageStore.reads c.loop-block.store) c.loop-block.stack c.loop-block.found.entries c.loop-block.invariant.going l s

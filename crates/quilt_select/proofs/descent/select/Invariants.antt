@@ -5,7 +5,8 @@ use Rattle.quilt_select.proofs.descent.select.Given as goal
 
 abbrev pub invariant-loop-block : goal.invariant-loop-block
 invariant-loop-block g l = record {
-  going : Going (g.B.SegBlocks.level_of l.blocks) l.fn.windows.items (g.B.SegBlocks.shows l.blocks l.fn.store) (g.S.PageStore.reads l.fn.store) (g.S.PageStore.reads l.store) l.stack l.found.entries;
+  going : Going (g.B.SegBlocks.level_of l.blocks) l.fn.windows.items (g.B.SegBlocks.shows l.blocks l.fn.store) (g.S.PageStore.reads l.fn.store)
+      (g.S.PageStore.reads l.store) l.stack l.found.entries;
   size : g.S.PageStore.size l.store ≡ g.S.PageStore.size l.fn.store;
   told : g.S.PageStore.told l.store ≡ g.S.PageStore.told l.fn.store;
   free : g.S.PageStore.free l.store ≡ g.S.PageStore.free l.fn.store;

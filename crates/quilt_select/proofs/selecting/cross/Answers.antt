@@ -10,9 +10,11 @@ windows g c = c.in-Ok.ensures.items ∙ ap (λ (t : List Window). t ++ c.args.w 
 
 pub returns-clause-cross : goal.returns-clause-cross
 returns-clause-cross g c =
-    IfOk-weaker c.select.result _ _ (λ list h l s. crossed c.args.w c.push.new.self.items (finmap.entries l.segs) list (windows g c) (h l s)) c.select.ensures.selected
+    IfOk-weaker c.select.result _ _ (λ list h l s. crossed c.args.w c.push.new.self.items (finmap.entries l.segs) list (windows g c) (h l s))
+    c.select.ensures.selected
 
 pub returns-clause-reads : goal.returns-clause-reads
 returns-clause-reads g c =
     IfOk-weaker c.select.result _ _
-    (λ list h l s. crossed_reads _ c.args.w c.push.new.self.items l (g.S.PageStore.reads c.args.store.now) (g.S.PageStore.reads c.select.new.store) (windows g c) (h l s)) c.select.ensures.reads
+    (λ list h l s. crossed_reads _ c.args.w c.push.new.self.items l (g.S.PageStore.reads c.args.store.now) (g.S.PageStore.reads c.select.new.store)
+    (windows g c) (h l s)) c.select.ensures.reads

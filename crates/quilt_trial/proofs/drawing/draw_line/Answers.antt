@@ -23,4 +23,5 @@ returns-in_default-clause-is c =
     let nine : c.draw.result ≡ 9 = omega arith in
     let is : draw 10 c.args.generator.now.state (drawn_line s) ≡ small_line (codes "area") (codes "ta") 4 y =
     ap (λ (z : ℕ). drawn_line s (drawn z 10) z) (sym c.draw.ensures.state) ∙ ap (λ (k : ℕ). drawn_line s k y) (sym c.draw.ensures.is ∙ nine) in
-    IfOk-weaker c.draw_small-in_default.result _ _ (λ text so. subst (λ (d : Drawn). IsDrawn text c.draw_small-in_default.new.generator.state d) (sym is) so) c.draw_small-in_default.ensures.is
+    IfOk-weaker c.draw_small-in_default.result _ _
+    (λ text so. subst (λ (d : Drawn). IsDrawn text c.draw_small-in_default.new.generator.state d) (sym is) so) c.draw_small-in_default.ensures.is

@@ -12,7 +12,8 @@ pub returns-in-Some : goal.returns-in-Some
 returns-in-Some t c =
     let n = c.args.a.now.level in
     on_ok_weaker c.push.result
-    (λ is. Adds-push n (copied n c.args.a.now.grid c.args.across c.args.down) c.args.maker.now c.push.new.self c.args.b c.in-Some.colour.0 c.requires.most c.requires.valid c.requires.next c.in-Some.ensures.some is)
+    (λ is. Adds-push n (copied n c.args.a.now.grid c.args.across c.args.down) c.args.maker.now c.push.new.self c.args.b c.in-Some.colour.0
+    c.requires.most c.requires.valid c.requires.next c.in-Some.ensures.some is)
     c.push.ensures.ok
 
 pub quarters-q-items-requires-clause-valid : goal.quarters-q-items-requires-clause-valid
@@ -20,7 +21,8 @@ quarters-q-items-requires-clause-valid t c = IsBlock-up c.args.a.now.level 12 c.
 
 pub copy_block-requires : goal.copy_block-requires
 copy_block-requires t c =
-    let q = part_at c.args.a.now.level c.args.b c.quarters-q-items.result c.loop-q.q-index _ c.requires.most c.requires.valid (c.in_default.ensures.none refl) c.quarters-q-items.ensures.value c.loop-q-test.true in
+    let q = part_at c.args.a.now.level c.args.b c.quarters-q-items.result c.loop-q.q-index _ c.requires.most c.requires.valid
+    (c.in_default.ensures.none refl) c.quarters-q-items.ensures.value c.loop-q-test.true in
     let smaller = q.smaller in
     let level = c.loop-q.invariant.level ∙ c.requires.level in
     (omega arith, (c.requires.least, (c.requires.most, (q.block, (c.requires.across, (c.requires.down, (level, q.from ∙ sym c.loop-q.invariant.long)))))))
@@ -32,7 +34,8 @@ loop-q-preserved t c =
     let b = c.args.b in
     let i = c.loop-q.q-index in
     let s = b.side / 2 * (b.side / 2) in
-    let q = part_at n b c.quarters-q-items.result i _ c.requires.most c.requires.valid (c.in_default.ensures.none refl) c.quarters-q-items.ensures.value c.loop-q-test.true in
+    let q = part_at n b c.quarters-q-items.result i _ c.requires.most c.requires.valid
+    (c.in_default.ensures.none refl) c.quarters-q-items.ensures.value c.loop-q-test.true in
     let next = c.requires.next in
     Adds-then n f (code_from b + i * s) (code_from b + (i + 1) * s) c.args.maker.now c.loop-q.maker c.copy_block.new.maker (omega arith) c.loop-q.invariant
     (subst (λ (k : ℕ). Adds n f k c.loop-q.maker c.copy_block.new.maker) q.to c.in_ok-copy_block.ensures)
@@ -45,5 +48,6 @@ returns t c =
     let four : c.loop-q.q-index ≡ 4 = omega arith in
     let codes = half_codes n b c.requires.valid c.requires.most wide in
     let all = codes.all in
-    let end : code_from b + c.loop-q.q-index * (b.side / 2 * (b.side / 2)) ≡ code_to b = ap (λ k. code_from b + k * (b.side / 2 * (b.side / 2))) four ∙ sym all in
+    let end : code_from b + c.loop-q.q-index * (b.side / 2 * (b.side / 2)) ≡ code_to b =
+    ap (λ k. code_from b + k * (b.side / 2 * (b.side / 2))) four ∙ sym all in
     subst (λ (k : ℕ). Adds n (copied n c.args.a.now.grid c.args.across c.args.down) k c.args.maker.now c.loop-q.maker) end c.loop-q.invariant

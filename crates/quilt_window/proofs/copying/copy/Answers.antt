@@ -12,7 +12,8 @@ pub finish-requires : goal.finish-requires
 finish-requires c =
     let n = c.args.a.now.level in
     let f = copied n c.args.a.now.grid c.args.across c.args.down in
-    let all = Adds-whole n c.level-level.result f c.new-maker.result c.copy_block.new.maker c.level-level.ensures.raster.most c.level-level.ensures.value c.new-maker.ensures c.in_ok-copy_block.ensures in
+    let all = Adds-whole n c.level-level.result f c.new-maker.result c.copy_block.new.maker c.level-level.ensures.raster.most
+    c.level-level.ensures.value c.new-maker.ensures c.in_ok-copy_block.ensures in
     all.long ∙ ap (λ (k : ℕ). 4 ^ k) (sym all.level)
 
 pub returns : goal.returns
@@ -20,7 +21,9 @@ returns c =
     let n = c.args.a.now.level in
     let f = copied n c.args.a.now.grid c.args.across c.args.down in
     let most = c.level-level.ensures.raster.most in
-    let all = Adds-whole n c.level-level.result f c.new-maker.result c.copy_block.new.maker most c.level-level.ensures.value c.new-maker.ensures c.in_ok-copy_block.ensures in
+    let all = Adds-whole n c.level-level.result f c.new-maker.result c.copy_block.new.maker most c.level-level.ensures.value c.new-maker.ensures
+    c.in_ok-copy_block.ensures in
     let level = c.finish.ensures.level ∙ all.level in
-    let grid = c.finish.ensures.value ∙ ap (λ (k : ℕ). grid_by_code k c.copy_block.new.maker.colours) all.level ∙ Adds-all n f c.copy_block.new.maker most all in
+    let grid =
+    c.finish.ensures.value ∙ ap (λ (k : ℕ). grid_by_code k c.copy_block.new.maker.colours) all.level ∙ Adds-all n f c.copy_block.new.maker most all in
     λ i. record { level = level i; grid = grid i }

@@ -13,6 +13,7 @@ returns c =
     let n = c.args.a.now.level in
     let g = c.args.a.now.grid in
     let w = c.args.w in
-    let same = grid_of-same n (copied n g (record { from = w.x; to = w.x; length = w.w }) (record { from = w.y; to = w.y; length = w.h })) (λ p. cond (in_window w p) (colour_at n g p) 0)
+    let same = grid_of-same n (copied n g (record { from = w.x; to = w.x; length = w.w }) (record { from = w.y; to = w.y; length = w.h }))
+    (λ p. cond (in_window w p) (colour_at n g p) 0)
     (λ p hx hy. copied_window n g w p) in
     subst (λ (h : Grid). IfOk c.copy.result (λ (list : Raster). list ≡ record { level = n; grid = h })) same c.copy.ensures

@@ -20,7 +20,9 @@ returns-then-self-len-clause-whole c =
     let e = subst (λ (w : Walk). w.at ≡ 4 ^ w.level) c.self.view_is at in
     (λ _. e, λ _. refl)
 
-here : (c : goal.After-self-1) → IsLeafAt c.self.inside.list.now.level c.self.inside.list.now.grid (size_of (take c.self.inside.place (leaves_by_code c.self.inside.list.now.level c.self.inside.list.now.grid))) (pair_of c.leaf-leaf.result)
+here : (c : goal.After-self-1)
+    → IsLeafAt c.self.inside.list.now.level c.self.inside.list.now.grid
+    (size_of (take c.self.inside.place (leaves_by_code c.self.inside.list.now.level c.self.inside.list.now.grid))) (pair_of c.leaf-leaf.result)
 here c =
     let n = c.self.inside.list.now.level in
     let g = c.self.inside.list.now.grid in

@@ -20,7 +20,8 @@ found c =
     let map = length-map items pair_of in
     let lt = c.requires in
     subst (Found c) c.self.view_is
-    (listed_leaf n (pairs_of items) c.self.invariant (pair_of c.index.result.now) (pair_member items c.args.i c.index.result.now (omega arith) (sym c.index.ensures)))
+    (listed_leaf n (pairs_of items) c.self.invariant (pair_of c.index.result.now)
+    (pair_member items c.args.i c.index.result.now (omega arith) (sym c.index.ensures)))
 
 pub returns-clause-block : goal.returns-clause-block
 returns-clause-block c = (found c).maximal.block

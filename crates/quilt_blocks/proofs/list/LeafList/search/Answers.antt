@@ -133,7 +133,8 @@ returns-clause-held c =
     let f = inv.from d in
     let end = c.loop-high-test.false in
     subst (λ (z : Leaf). Holds z.block c.args.p) (sym c.index-2.ensures)
-    (held_at n items c.self.invariant c.args.p c.loop-high.low c.loop-high.high d (omega arith) (omega arith) some (omega arith) inside (omega arith) (λ lt. let t = inv.to d lt in omega arith))
+    (held_at n items c.self.invariant c.args.p c.loop-high.low c.loop-high.high d (omega arith) (omega arith) some (omega arith) inside (omega arith)
+    (λ lt. let t = inv.to d lt in omega arith))
 
 found : (c : goal.After-result-1) → IsLeaf c.args.self.now.level c.args.self.now.grid (pair_of c.index-2.result.now)
 found c =

@@ -35,7 +35,8 @@ has c =
     let b = c.args.b in
     let e = pair_of c.search-leaf.result in
     let leaf = leaf_is n g e ((leaves_members n g e).0 c.search-leaf.ensures.member) in
-    HasColour-within n g b e.0 e.1 (nested n b e.0 (corner b) c.requires leaf.maximal.block c.if-leaf-b.false (Holds-corner n b c.requires) c.search-leaf.ensures.held) leaf.colour
+    HasColour-within n g b e.0 e.1
+    (nested n b e.0 (corner b) c.requires leaf.maximal.block c.if-leaf-b.false (Holds-corner n b c.requires) c.search-leaf.ensures.held) leaf.colour
 
 pub returns-clause-none : goal.returns-clause-none
 returns-clause-none c =

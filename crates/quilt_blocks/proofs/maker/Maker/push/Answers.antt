@@ -24,12 +24,14 @@ merge_last-requires-clause-growing c =
     subst (IsGrowing n) (sym (ap pairs_of c.in_ok-push.ensures.items ∙ map-append pair_of items (leaf ∷ [])))
     (IsGrowing-push n (pairs_of items) e c.self.invariant valid (omega arith) (omega arith))
 
-painted : (c : goal.After-merge_last) → colours_of (pairs_of c.merge_last.new.leaves.items) ≡ c.args.self.now.colours ++ replicate (c.args.b.side * c.args.b.side) c.args.c.0
+painted : (c : goal.After-merge_last) → colours_of (pairs_of c.merge_last.new.leaves.items) ≡ c.args.self.now.colours
+    ++ replicate (c.args.b.side * c.args.b.side) c.args.c.0
 unfolding colours_of
 painted c =
     let items = c.self.inside.leaves.items in
     let leaf : Leaf = record { block = c.args.b; colour = c.args.c } in
-    c.merge_last.ensures.colours ∙ ap (λ (l : List Leaf). colours_of (pairs_of l)) c.in_ok-push.ensures.items ∙ ap colours_of (map-append pair_of items (leaf ∷ []))
+    c.merge_last.ensures.colours ∙ ap (λ (l : List Leaf). colours_of (pairs_of l)) c.in_ok-push.ensures.items
+    ∙ ap colours_of (map-append pair_of items (leaf ∷ []))
     ∙ colours_of-append (pairs_of items) (pair_of leaf ∷ [])
     ∙ ap₂ (λ a b. a ++ b) (ap (λ (m : Painted). m.colours) c.self.view_is) (append-nil (replicate (c.args.b.side * c.args.b.side) c.args.c.0))
 

@@ -13,4 +13,6 @@ returns-then-is_less-2 c =
 
 pub returns-else-is_less-2 : goal.returns-else-is_less-2
 returns-else-is_less-2 c =
-    rest_all c.args.self _ c.requires.span (λ t on l. lies_from c.args.self c.args.m c.args.k t c.requires.span l (up_to_unless_less _ _ (sym c.is_less-else-is_less.ensures ∙ c.if-is_less-2.false)))
+    rest_all c.args.self _ c.requires.span
+    (λ t on l. lies_from c.args.self c.args.m c.args.k t c.requires.span l
+    (up_to_unless_less _ _ (sym c.is_less-else-is_less.ensures ∙ c.if-is_less-2.false)))

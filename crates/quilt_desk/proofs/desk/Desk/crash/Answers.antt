@@ -12,7 +12,9 @@ pub loop-page-init : goal.loop-page-init
 loop-page-init c = left_none _ _ _ _ c.in_ok-image.ensures
 
 pub loop-page-preserved : goal.loop-page-preserved
-loop-page-preserved c = rw c.set_page.ensures (left_more _ _ _ _ _ _ c.loop-page.invariant (omega (arith, c.pages-page-end.ensures)) (rw (c.left.ensures, c.after-state.ensures, c.page.ensures, c.deref.ensures.value) refl))
+loop-page-preserved c =
+    rw c.set_page.ensures (left_more _ _ _ _ _ _ c.loop-page.invariant (omega (arith, c.pages-page-end.ensures))
+    (rw (c.left.ensures, c.after-state.ensures, c.page.ensures, c.deref.ensures.value) refl))
 
 pub returns-clause-left : goal.returns-clause-left
 returns-clause-left c = left_can _ _ c.args.choice.now _ (left_all _ _ _ _ c.loop-page.page c.loop-page.invariant (omega (arith, c.pages-page-end.ensures)))

@@ -17,7 +17,8 @@ loop-event-preserved c =
     ∙ state_of-more c.args.page c.args.bytes.now c.args.log.now c.loop-event.event-index c.event-item.result c.loop-event-test.true c.event-item.is
 
 pub returns : goal.returns
-returns c = c.loop-event.invariant ∙ ap (λ (l : Log). state_of c.args.page c.args.bytes.now l) (take_all c.loop-event.event-index c.args.log.now c.loop-event-test.false)
+returns c = c.loop-event.invariant
+    ∙ ap (λ (l : Log). state_of c.args.page c.args.bytes.now l) (take_all c.loop-event.event-index c.args.log.now c.loop-event-test.false)
 
 pub add-requires : goal.add-requires
 add-requires c = whole_at c.args.log.now c.loop-event.event-index c.event-item.result c.loop-event-test.true c.event-item.is c.requires

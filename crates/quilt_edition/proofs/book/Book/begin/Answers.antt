@@ -13,7 +13,8 @@ use Rattle.quilt_edition.proofs.book.Book.begin.Goals as goal
 pub over-requires-clause-kept : goal.over-requires-clause-kept
 over-requires-clause-kept g c =
     let j = c.in-Journal.journal in
-    kept_begun (g.W.Disk.size c.args.world) c.in-Ok.begun j c.in-Ok-new.empty.table.entries c.in-Some.head c.read_page.new.into _ _ c.in-Journal.is c.in-Ok.ensures.gives
+    kept_begun (g.W.Disk.size c.args.world) c.in-Ok.begun j c.in-Ok-new.empty.table.entries c.in-Some.head c.read_page.new.into _ _
+    c.in-Journal.is c.in-Ok.ensures.gives
     (ap (λ (x : LruCache ℕ Frame). x.entries) c.in-Ok-new.ensures) c.read_page.ensures.kept c.in-Ok-read_page.ensures.bytes
     (subst (λ n. IsHeader n c.read_page.new.into c.in-Some.head) c.pages.ensures.pages c.in-Some.ensures)
 
@@ -37,7 +38,8 @@ returns-clause-crash g c = rw c.over.ensures.world (goes_redone _ _ _ c.begin.en
 pub returns-clause-cause : goal.returns-clause-cause
 returns-clause-cause g c =
     rw (c.over.ensures.journal, c.over.ensures.heads.0, c.over.ensures.world)
-    (goes_opened (g.W.Disk.size c.args.world) c.in-Ok.begun c.in-Journal.journal c.read_page.new.into _ _ _ c.in-Journal.is c.in-Ok.ensures.gives c.in-Ok.ensures.answer c.read_page.ensures.kept c.in-Ok-read_page.ensures.bytes
+    (goes_opened (g.W.Disk.size c.args.world) c.in-Ok.begun c.in-Journal.journal c.read_page.new.into _ _ _ c.in-Journal.is c.in-Ok.ensures.gives
+    c.in-Ok.ensures.answer c.read_page.ensures.kept c.in-Ok-read_page.ensures.bytes
     c.in-Some.head (subst (λ n. IsHeader n c.read_page.new.into c.in-Some.head) c.pages.ensures.pages c.in-Some.ensures))
 
 pub returns-in_default-read_page-clause-crash : goal.returns-in_default-read_page-clause-crash
@@ -49,6 +51,7 @@ returns-in_default-header_of-clause-crash g c = goes_redone _ _ _ c.begin.ensure
 pub returns-in_default-header_of-clause-cause : goal.returns-in_default-header_of-clause-cause
 returns-in_default-header_of-clause-cause g c = (
   refl,
-  goes_no_header (g.W.Disk.size c.args.world) c.in-Ok.begun c.in-Journal.journal c.read_page.new.into _ _ _ c.in-Journal.is c.in-Ok.ensures.gives c.in-Ok.ensures.answer c.read_page.ensures.kept c.in-Ok-read_page.ensures.bytes
+  goes_no_header (g.W.Disk.size c.args.world) c.in-Ok.begun c.in-Journal.journal c.read_page.new.into _ _ _ c.in-Journal.is c.in-Ok.ensures.gives
+      c.in-Ok.ensures.answer c.read_page.ensures.kept c.in-Ok-read_page.ensures.bytes
       (subst (λ n. (h : Head) → HeadFits h → IsHeader n c.read_page.new.into h → ⊥) c.pages.ensures.pages c.in_default-header_of.ensures),
 )

@@ -16,7 +16,8 @@ invariant_of-self g c =
       bits = c.publish_pages.ensures.bits;
       size = c.publish_pages.ensures.size ∙ s.size ∙ ap (λ n. 3 + 2 * n) (sym pages);
       below = subst (λ n. AreBelow n c.publish_pages.new.pool.table.entries) (sym pages) c.publish_pages.ensures.below;
-      kept = kept_left s.journal c.publish_pages.new.journal s.pool.table.entries c.publish_pages.new.pool.table.entries s.last _ _ c.requires.ready pages s.kept c.in_err-publish_pages.ensures.left;
+      kept = kept_left s.journal c.publish_pages.new.journal s.pool.table.entries c.publish_pages.new.pool.table.entries s.last _ _ c.requires.ready
+          pages s.kept c.in_err-publish_pages.ensures.left;
       published = subst (λ n. IsHead n s.last) (sym pages) s.published;
       next = subst (λ n. IsHead n s.work) (sym pages) s.next;
       edition = s.edition;
@@ -33,20 +34,29 @@ invariant_of-self-2 g c =
       bits = c.publish_pages.ensures.bits;
       size = c.publish_pages.ensures.size ∙ s.size ∙ ap (λ n. 3 + 2 * n) (sym pages);
       below = subst (λ n. AreBelow n c.publish_pages.new.pool.table.entries) (sym pages) c.publish_pages.ensures.below;
-      kept = kept_published s.journal.pages c.publish_pages.new.journal s.pool.table.entries c.publish_pages.new.pool.table.entries s.journal.changed c.header_bytes-header.result _ _ _ pages c.in_ok-publish_pages.ensures.state c.in_ok-publish_pages.ensures.changed (omega (arith, s.least)) (c.header_bytes-header.ensures.again s.journal.pages (next_head s.journal.pages s.work (s.last.edition + 1) s.next (omega (arith, c.requires.number)))) c.in_ok-publish_pages.ensures.published;
-      published = subst (λ n. IsHead n (record s.work { edition = s.last.edition + 1 })) (sym pages) (next_head s.journal.pages s.work (s.last.edition + 1) s.next (omega (arith, c.requires.number)));
-      next = subst (λ n. IsHead n (record s.work { edition = s.last.edition + 1 })) (sym pages) (next_head s.journal.pages s.work (s.last.edition + 1) s.next (omega (arith, c.requires.number)));
+      kept = kept_published s.journal.pages c.publish_pages.new.journal s.pool.table.entries c.publish_pages.new.pool.table.entries s.journal.changed
+          c.header_bytes-header.result _ _ _ pages c.in_ok-publish_pages.ensures.state c.in_ok-publish_pages.ensures.changed (omega (arith, s.least))
+          (c.header_bytes-header.ensures.again s.journal.pages
+          (next_head s.journal.pages s.work (s.last.edition + 1) s.next (omega (arith, c.requires.number)))) c.in_ok-publish_pages.ensures.published;
+      published = subst (λ n. IsHead n (record s.work { edition = s.last.edition + 1 })) (sym pages)
+          (next_head s.journal.pages s.work (s.last.edition + 1) s.next (omega (arith, c.requires.number)));
+      next = subst (λ n. IsHead n (record s.work { edition = s.last.edition + 1 })) (sym pages)
+          (next_head s.journal.pages s.work (s.last.edition + 1) s.next (omega (arith, c.requires.number)));
       edition = refl;
       level = refl;
     }
 
 pub returns-clause-changed : goal.returns-clause-changed
-returns-clause-changed g c = none_marked c.args.self.now.journal.pages c.publish_pages.new.journal.pages c.publish_pages.new.pool.table.entries c.publish_pages.new.journal.changed c.in_ok-publish_pages.ensures.changed c.in_ok-publish_pages.ensures.clean
+returns-clause-changed g c = none_marked c.args.self.now.journal.pages c.publish_pages.new.journal.pages c.publish_pages.new.pool.table.entries
+    c.publish_pages.new.journal.changed c.in_ok-publish_pages.ensures.changed c.in_ok-publish_pages.ensures.clean
 
 pub returns-clause-told : goal.returns-clause-told
 returns-clause-told g c =
     let s = c.args.self.now in
-    rw (← c.header_bytes-header.ensures.written) (told_published s.journal c.publish_pages.new.journal s.pool.table.entries c.publish_pages.new.pool.table.entries c.header_bytes-header.result _ _ c.requires.ready c.publish_pages.ensures.pages c.in_ok-publish_pages.ensures.state c.in_ok-publish_pages.ensures.changed c.in_ok-publish_pages.ensures.clean c.in_ok-publish_pages.ensures.published)
+    rw (← c.header_bytes-header.ensures.written)
+    (told_published s.journal c.publish_pages.new.journal s.pool.table.entries c.publish_pages.new.pool.table.entries
+    c.header_bytes-header.result _ _ c.requires.ready c.publish_pages.ensures.pages c.in_ok-publish_pages.ensures.state
+    c.in_ok-publish_pages.ensures.changed c.in_ok-publish_pages.ensures.clean c.in_ok-publish_pages.ensures.published)
 
 pub returns-clause-used : goal.returns-clause-used
 returns-clause-used g c =

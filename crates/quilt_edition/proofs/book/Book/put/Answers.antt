@@ -22,4 +22,5 @@ invariant_of-self g c =
 pub returns-clause-told : goal.returns-clause-told
 returns-clause-told g c =
     let s = c.args.self.now in
-    told_text s.journal s.pool.table.entries s.last (g.W.Disk.told s.world) (g.W.Disk.told c.put.new.self) (put c.put.result (λ n. take n c.args.bytes.now) (g.W.Disk.told s.world) (g.W.Disk.told c.put.new.self) c.put.ensures.put c.put.ensures.nothing) s.kept
+    told_text s.journal s.pool.table.entries s.last (g.W.Disk.told s.world) (g.W.Disk.told c.put.new.self)
+    (put c.put.result (λ n. take n c.args.bytes.now) (g.W.Disk.told s.world) (g.W.Disk.told c.put.new.self) c.put.ensures.put c.put.ensures.nothing) s.kept

@@ -5,7 +5,8 @@ use Rattle.quilt_edition.proofs.book.Book.take.Goals as goal
 pub invariant_of-self : goal.invariant_of-self
 invariant_of-self g c =
     let s = c.args.self.now in
-    let adds = took c.take.result (λ n. take n c.take.new.into) (g.W.Disk.told s.world) (g.W.Disk.told c.take.new.self) c.take.ensures.took c.take.ensures.nothing in
+    let adds =
+    took c.take.result (λ n. take n c.take.new.into) (g.W.Disk.told s.world) (g.W.Disk.told c.take.new.self) c.take.ensures.took c.take.ensures.nothing in
     record {
       least = s.least;
       most = s.most;
@@ -22,4 +23,6 @@ invariant_of-self g c =
 pub returns-clause-told : goal.returns-clause-told
 returns-clause-told g c =
     let s = c.args.self.now in
-    told_text s.journal s.pool.table.entries s.last (g.W.Disk.told s.world) (g.W.Disk.told c.take.new.self) (took c.take.result (λ n. take n c.take.new.into) (g.W.Disk.told s.world) (g.W.Disk.told c.take.new.self) c.take.ensures.took c.take.ensures.nothing) s.kept
+    told_text s.journal s.pool.table.entries s.last (g.W.Disk.told s.world) (g.W.Disk.told c.take.new.self)
+    (took c.take.result (λ n. take n c.take.new.into) (g.W.Disk.told s.world)
+    (g.W.Disk.told c.take.new.self) c.take.ensures.took c.take.ensures.nothing) s.kept

@@ -23,15 +23,18 @@ loop-r-init c = record {
 
 pub returns-in_default-clause-sound : goal.returns-in_default-clause-sound
 returns-in_default-clause-sound c t segs cover valid is page e =
-    let w = next_at c.args.self.now.level c.args.self.now.layer t segs cover valid c.args.self.now.has_level.1 c.args.records.now c.loop-r.r-index _ c.loop-r-test.true is c.segment_said.result c.segment_said.ensures.one in
+    let w = next_at c.args.self.now.level c.args.self.now.layer t segs cover valid c.args.self.now.has_level.1 c.args.records.now c.loop-r.r-index _
+    c.loop-r-test.true is c.segment_said.result c.segment_said.ensures.one in
     none_some w.next (sym c.in_default.is ∙ w.is_said)
 
 pub returns-then-from-least-clause-sound : goal.returns-then-from-least-clause-sound
 returns-then-from-least-clause-sound c t segs cover valid is page e =
-    let w = next_at c.args.self.now.level c.args.self.now.layer t segs cover valid c.args.self.now.has_level.1 c.args.records.now c.loop-r.r-index _ c.loop-r-test.true is c.segment_said.result c.segment_said.ensures.one in
+    let w = next_at c.args.self.now.level c.args.self.now.layer t segs cover valid c.args.self.now.has_level.1 c.args.records.now c.loop-r.r-index _
+    c.loop-r-test.true is c.segment_said.result c.segment_said.ensures.one in
     let same = same_some (c.in-Some.id, c.in-Some.s) w.next (sym c.in-Some.is ∙ w.is_said) in
     let id : c.in-Some.id ≡ w.next.0 = ap (λ (d : ℕ × Seg). d.0) same in
-    let le = c.loop-r.invariant.smallest w.next.0 (subst (All (λ (d : ℕ × Seg). d.0 < w.next.0)) (sym (c.loop-r.invariant.segments t segs cover valid is)) w.later) in
+    let le = c.loop-r.invariant.smallest w.next.0
+    (subst (All (λ (d : ℕ × Seg). d.0 < w.next.0)) (sym (c.loop-r.invariant.segments t segs cover valid is)) w.later) in
     let lt = c.if-from-least.true in
     let from = c.from.ensures in
     omega arith
@@ -45,16 +48,20 @@ loop-r-preserved c =
     let next : c.from-least.result ≡ c.in-Some.id = c.from-least.ensures in
     record {
       segments = λ t segs cover valid is.
-          let w = next_at c.args.self.now.level c.args.self.now.layer t segs cover valid c.args.self.now.has_level.1 c.args.records.now c.loop-r.r-index _ c.loop-r-test.true is c.segment_said.result c.segment_said.ensures.one in
+          let w = next_at c.args.self.now.level c.args.self.now.layer t segs cover valid c.args.self.now.has_level.1 c.args.records.now
+          c.loop-r.r-index _ c.loop-r-test.true is c.segment_said.result c.segment_said.ensures.one in
           let same = same_some (c.in-Some.id, c.in-Some.s) w.next (sym c.in-Some.is ∙ w.is_said) in
-          new ∙ ap (λ (l : List (ℕ × Seg)). l ++ more) (c.loop-r.invariant.segments t segs cover valid is) ∙ ap (λ (d : ℕ × Seg). take c.loop-r.r-index (finmap.entries segs) ++ d ∷ []) same ∙ sym w.longer;
+          new ∙ ap (λ (l : List (ℕ × Seg)). l ++ more) (c.loop-r.invariant.segments t segs cover valid is)
+          ∙ ap (λ (d : ℕ × Seg). take c.loop-r.r-index (finmap.entries segs) ++ d ∷ []) same ∙ sym w.longer;
       inside =
           let P = λ (e : ℕ × Seg). is_in_square c.args.self.now.level e.1 ≡ true in
           subst (All P) (sym new) (All-append P c.loop-r.list more c.loop-r.invariant.inside (all_one P (c.in-Some.id, c.in-Some.s) c.in-Some.ensures.inside));
-      order = subst (λ (l : List (ℕ × Seg)). Rises nat_cmp (ids_of l)) (sym new) (order_more c.loop-r.list c.in-Some.id c.loop-r.least c.in-Some.s c.loop-r.invariant.below (omega arith) c.loop-r.invariant.order);
+      order = subst (λ (l : List (ℕ × Seg)). Rises nat_cmp (ids_of l)) (sym new)
+          (order_more c.loop-r.list c.in-Some.id c.loop-r.least c.in-Some.s c.loop-r.invariant.below (omega arith) c.loop-r.invariant.order);
       below =
           let small = below_more c.loop-r.list c.in-Some.id c.loop-r.least c.in-Some.s c.loop-r.invariant.below (omega arith) in
-          subst (λ (l : List (ℕ × Seg)). All (λ e. e.0 < c.from-least.result + 1) l) (sym new) (subst (λ (z : ℕ). All (λ (e : ℕ × Seg). e.0 < z + 1) (c.loop-r.list ++ more)) (sym next) small);
+          subst (λ (l : List (ℕ × Seg)). All (λ e. e.0 < c.from-least.result + 1) l) (sym new)
+          (subst (λ (z : ℕ). All (λ (e : ℕ × Seg). e.0 < z + 1) (c.loop-r.list ++ more)) (sym next) small);
       smallest = λ k all.
           let le = smallest_more c.loop-r.list c.in-Some.id c.in-Some.s k (subst (All (λ (e : ℕ × Seg). e.0 < k)) new all) in
           omega arith;

@@ -9,7 +9,8 @@ use Rattle.quilt_lines.proofs.view.LineView.all_segments.Given as goal
 
 abbrev pub invariant-loop-r : goal.invariant-loop-r
 invariant-loop-r l = record {
-  segments : (t : ℕ) (segs : SegMap) (cover : BlockSet) → IsLineMap l.self.level t segs cover → l.records ≡ map (fact_record l.self.level l.self.layer) (segment_facts segs) → l.list ≡ take l.r-index (finmap.entries segs);
+  segments : (t : ℕ) (segs : SegMap) (cover : BlockSet) → IsLineMap l.self.level t segs cover
+      → l.records ≡ map (fact_record l.self.level l.self.layer) (segment_facts segs) → l.list ≡ take l.r-index (finmap.entries segs);
   inside : All (λ e. is_in_square l.self.level e.1 ≡ true) l.list;
   order : Rises nat_cmp (ids_of l.list);
   below : All (λ e. e.0 < l.least) l.list;

@@ -10,4 +10,5 @@ returns-then-is_same-clause-some c = c.is_same.ensures.yes c.if-is_same.true ∙
 pub returns-clause-none : goal.returns-clause-none
 returns-clause-none c = λ _ id e.
     let item : c.args.r.now.key.item ≡ id = ap (λ (z : Record). z.key.item) e in
-    both_ways c.is_same.result c.if-is_same.false (c.is_same.ensures.no (e ∙ ap (pair_of c.args.self.now.level c.args.self.now.layer c.args.b) (sym item) ∙ sym (c.pair_record-pair.ensures.written [])))
+    both_ways c.is_same.result c.if-is_same.false
+    (c.is_same.ensures.no (e ∙ ap (pair_of c.args.self.now.level c.args.self.now.layer c.args.b) (sym item) ∙ sym (c.pair_record-pair.ensures.written [])))

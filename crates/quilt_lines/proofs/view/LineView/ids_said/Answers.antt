@@ -7,14 +7,21 @@ use Rattle.quilt_lines.proofs.view.LineView.ids_said.Goals as goal
 
 pub returns-then-says_none-clause-ids : goal.returns-then-says_none-clause-ids
 returns-then-says_none-clause-ids c segs cover is =
-    none_said c.args.self.now.level c.args.self.now.layer c.args.b segs cover c.args.records.now c.new.result.items (c.says_none.ensures.yes c.if-says_none.true) c.new.ensures.items is
+    none_said c.args.self.now.level c.args.self.now.layer c.args.b segs cover c.args.records.now c.new.result.items
+    (c.says_none.ensures.yes c.if-says_none.true) c.new.ensures.items is
 
 pub returns-in-Err-clause-sound : goal.returns-in-Err-clause-sound
 returns-in-Err-clause-sound c segs cover is =
-    let w = pairs_said c.args.self.now.level c.args.self.now.layer c.args.b segs cover c.args.records.now (some_there (length c.args.records.now) c.if-is_empty.ensures) (λ e. both_ways c.says_none.result c.if-says_none.false (c.says_none.ensures.no e)) is in
+    let w = pairs_said c.args.self.now.level c.args.self.now.layer c.args.b segs cover c.args.records.now
+    (some_there (length c.args.records.now) c.if-is_empty.ensures) (λ e. both_ways c.says_none.result c.if-says_none.false (c.says_none.ensures.no e)) is in
     c.in-Err.ensures.sound (ids_of (meeting segs c.args.b)) w.1
 
 pub returns-in-Ok-clause-ids : goal.returns-in-Ok-clause-ids
 returns-in-Ok-clause-ids c segs cover is =
-    let w = pairs_said c.args.self.now.level c.args.self.now.layer c.args.b segs cover c.args.records.now (some_there (length c.args.records.now) c.if-is_empty.ensures) (λ e. both_ways c.says_none.result c.if-says_none.false (c.says_none.ensures.no e)) is in
-    record { there = w.0; are = pairs_alone c.args.self.now.level c.args.self.now.layer c.args.b c.in-Ok.ids.items (ids_of (meeting segs c.args.b)) (sym c.in-Ok.ensures.ids ∙ w.1) }
+    let w = pairs_said c.args.self.now.level c.args.self.now.layer c.args.b segs cover c.args.records.now
+    (some_there (length c.args.records.now) c.if-is_empty.ensures) (λ e. both_ways c.says_none.result c.if-says_none.false (c.says_none.ensures.no e)) is in
+    record {
+      there = w.0;
+      are = pairs_alone c.args.self.now.level c.args.self.now.layer c.args.b c.in-Ok.ids.items (ids_of (meeting segs c.args.b))
+          (sym c.in-Ok.ensures.ids ∙ w.1);
+    }

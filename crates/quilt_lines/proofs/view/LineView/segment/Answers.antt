@@ -8,16 +8,19 @@ returns-in-Err-clause-sound g c t segs cover h = c.in-Err.ensures.sound h.record
 
 pub returns-in-Ok-None-clause-segment : goal.returns-in-Ok-None-clause-segment
 returns-in-Ok-None-clause-segment g c t segs cover h =
-    none_found (g.S.PageStore.told c.args.store.now) c.args.self.now.tree c.args.self.now.layer c.args.self.now.level t segs cover c.args.id _ _ c.segment_key-key.ensures c.in-Ok-None.ensures.value h c.in-Ok-None.field-0-is
+    none_found (g.S.PageStore.told c.args.store.now) c.args.self.now.tree c.args.self.now.layer c.args.self.now.level t segs cover c.args.id _ _
+    c.segment_key-key.ensures c.in-Ok-None.ensures.value h c.in-Ok-None.field-0-is
 
 pub returns-in-Some-clause-segment : goal.returns-in-Some-clause-segment
 returns-in-Some-clause-segment g c t segs cover h =
-    let f = found (g.S.PageStore.told c.args.store.now) c.args.self.now.tree c.args.self.now.layer c.args.self.now.level t segs cover c.args.id _ _ c.segment_key-key.ensures c.in-Ok-Some.ensures.value h _ c.in-Ok-Some.field-0-is
+    let f = found (g.S.PageStore.told c.args.store.now) c.args.self.now.tree c.args.self.now.layer c.args.self.now.level t segs cover c.args.id _ _
+    c.segment_key-key.ensures c.in-Ok-Some.ensures.value h _ c.in-Ok-Some.field-0-is
     c.args.self.now.has_level.1 c.segment_said.result c.segment_said.ensures.one in
     ap Some (pair_same c.in-Some.field-0-0 c.args.id c.in-Some.s f.seg (sym c.in-Some.is ∙ f.is_said)).1 ∙ sym f.got
 
 pub returns-in-None-clause-sound : goal.returns-in-None-clause-sound
 returns-in-None-clause-sound g c t segs cover h page e =
-    let f = found (g.S.PageStore.told c.args.store.now) c.args.self.now.tree c.args.self.now.layer c.args.self.now.level t segs cover c.args.id _ _ c.segment_key-key.ensures c.in-Ok-Some.ensures.value h _ c.in-Ok-Some.field-0-is
+    let f = found (g.S.PageStore.told c.args.store.now) c.args.self.now.tree c.args.self.now.layer c.args.self.now.level t segs cover c.args.id _ _
+    c.segment_key-key.ensures c.in-Ok-Some.ensures.value h _ c.in-Ok-Some.field-0-is
     c.args.self.now.has_level.1 c.segment_said.result c.segment_said.ensures.one in
     none_some (c.args.id, f.seg) (sym c.in-None.is ∙ f.is_said)

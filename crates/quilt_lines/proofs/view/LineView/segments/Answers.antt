@@ -14,7 +14,8 @@ use Rattle.quilt_lines.proofs.view.LineView.segments.Goals as goal
 pub returns-in-Err-clause-sound : goal.returns-in-Err-clause-sound
 returns-in-Err-clause-sound g c t segs cover h all =
     let w = all _ (member_at c.args.ids.now c.loop-id.id-index _ c.loop-id-test.true) in
-    c.in-Err.ensures.sound t segs cover (lines_along _ _ c.args.self.now.tree c.args.self.now.layer c.args.self.now.level t segs cover c.loop-id.invariant.told h) w.0 w.1
+    c.in-Err.ensures.sound t segs cover
+    (lines_along _ _ c.args.self.now.tree c.args.self.now.layer c.args.self.now.level t segs cover c.loop-id.invariant.told h) w.0 w.1
 
 pub loop-id-preserved : goal.loop-id-preserved
 loop-id-preserved g c =
@@ -23,11 +24,13 @@ loop-id-preserved g c =
     let more : List (ℕ × Seg) = (id, a.0) ∷ [] in
     let longer = ap length a.1 ∙ length-append c.loop-id.list more in
     record {
-      ids = ap ids_of a.1 ∙ map-append (λ (e : ℕ × Seg). e.0) c.loop-id.list more ∙ ap (λ (l : List ℕ). l ++ id ∷ []) c.loop-id.invariant.ids ∙ sym (take_next c.args.ids.now c.loop-id.id-index _ c.loop-id-test.true);
+      ids = ap ids_of a.1 ∙ map-append (λ (e : ℕ × Seg). e.0) c.loop-id.list more ∙ ap (λ (l : List ℕ). l ++ id ∷ []) c.loop-id.invariant.ids
+          ∙ sym (take_next c.args.ids.now c.loop-id.id-index _ c.loop-id-test.true);
       found = λ t segs cover h.
           let P = λ (e : ℕ × Seg). finmap.get segs e.0 ≡ Some e.1 in
           subst (All P) (sym a.1) (All-append P c.loop-id.list more (c.loop-id.invariant.found t segs cover h)
-          (all_one P (id, a.0) (a.3 t segs cover (lines_along _ _ c.args.self.now.tree c.args.self.now.layer c.args.self.now.level t segs cover c.loop-id.invariant.told h))));
+          (all_one P (id, a.0) (a.3 t segs cover
+          (lines_along _ _ c.args.self.now.tree c.args.self.now.layer c.args.self.now.level t segs cover c.loop-id.invariant.told h))));
       inside =
           let P = λ (e : ℕ × Seg). is_in_square c.args.self.now.level e.1 ≡ true in
           subst (All P) (sym a.1) (All-append P c.loop-id.list more c.loop-id.invariant.inside (all_one P (id, a.0) a.2));

@@ -9,7 +9,8 @@ use Rattle.quilt_lines.proofs.view.LineView.segments.Given as goal
 abbrev pub invariant-loop-id : goal.invariant-loop-id
 invariant-loop-id g l = record {
   ids : ids_of l.list ≡ take l.id-index l.ids;
-  found : (t : ℕ) (segs : SegMap) (cover : BlockSet) → HasLines (g.S.PageStore.told l.initial.store) l.self.tree l.self.layer l.self.level t segs cover → All (λ e. finmap.get segs e.0 ≡ Some e.1) l.list;
+  found : (t : ℕ) (segs : SegMap) (cover : BlockSet)
+      → HasLines (g.S.PageStore.told l.initial.store) l.self.tree l.self.layer l.self.level t segs cover → All (λ e. finmap.get segs e.0 ≡ Some e.1) l.list;
   inside : All (λ e. is_in_square l.self.level e.1 ≡ true) l.list;
   faults : g.S.PageStore.faults l.initial.store ≤ g.S.PageStore.faults l.store;
   size : g.S.PageStore.size l.store ≡ g.S.PageStore.size l.initial.store;

@@ -8,7 +8,8 @@ returns-in-Err-clause-sound g c l h = c.in-Err.ensures.sound h.threshold l.segs 
 
 pub returns-then-b-le1-clause-sound : goal.returns-then-b-le1-clause-sound
 returns-then-b-le1-clause-sound g c l h page e =
-    one_pixel c.args.self.now.level c.args.self.now.layer h.threshold l.segs l.cover c.args.b h.has.spelled.valid c.requires.block c.if-b-le1.true (c.requires.reached l h)
+    one_pixel c.args.self.now.level c.args.self.now.layer h.threshold l.segs l.cover c.args.b h.has.spelled.valid c.requires.block c.if-b-le1.true
+    (c.requires.reached l h)
     (match_none c.in-Ok-None.field-0 _ _ c.in-Ok-None.field-0-is (c.in-Ok-None.ensures.ids h.threshold l.segs l.cover h.has))
 
 pub returns-in-Ok-None-clause-part : goal.returns-in-Ok-None-clause-part
@@ -17,7 +18,8 @@ returns-in-Ok-None-clause-part g c l h = match_none c.in-Ok-None.field-0 _ _ c.i
 pub returns-in-Err-segments-clause-sound : goal.returns-in-Err-segments-clause-sound
 returns-in-Err-segments-clause-sound g c l h =
     let at = match_some c.in-Ok-Some.field-0 _ _ c.in-Ok-Some.ids c.in-Ok-Some.field-0-is (c.in-Ok-Some.ensures.ids h.threshold l.segs l.cover h.has) in
-    c.in-Err-segments.ensures.sound h.threshold l.segs l.cover (lines_along _ _ c.args.self.now.tree c.args.self.now.layer c.args.self.now.level h.threshold l.segs l.cover c.in-Ok-Some.ensures.told h.has)
+    c.in-Err-segments.ensures.sound h.threshold l.segs l.cover
+    (lines_along _ _ c.args.self.now.tree c.args.self.now.layer c.args.self.now.level h.threshold l.segs l.cover c.in-Ok-Some.ensures.told h.has)
     (λ id m. each_there l.segs c.args.b id (subst (λ (ids : List ℕ). Contains ids id) (c.deref.ensures.value ∙ at.are) m))
 
 pub returns-clause-part : goal.returns-clause-part
@@ -25,6 +27,7 @@ returns-clause-part g c l h =
     let at = match_some c.in-Ok-Some.field-0 _ _ c.in-Ok-Some.ids c.in-Ok-Some.field-0-is (c.in-Ok-Some.ensures.ids h.threshold l.segs l.cover h.has) in (
       at.there,
       same_segments l.segs c.in-Ok.list _ (c.in-Ok.ensures.ids ∙ c.deref.ensures.value ∙ at.are)
-          (c.in-Ok.ensures.found h.threshold l.segs l.cover (lines_along _ _ c.args.self.now.tree c.args.self.now.layer c.args.self.now.level h.threshold l.segs l.cover c.in-Ok-Some.ensures.told h.has))
+          (c.in-Ok.ensures.found h.threshold l.segs l.cover
+          (lines_along _ _ c.args.self.now.tree c.args.self.now.layer c.args.self.now.level h.threshold l.segs l.cover c.in-Ok-Some.ensures.told h.has))
           (all_there l.segs c.args.b),
     )

@@ -6,4 +6,5 @@ use Rattle.quilt_rank.proofs.firsts.Firsts.add.Goals as goal
 
 pub returns : goal.returns
 returns c =
-    ap (map turned) c.in_ok-insert.ensures.keys ∙ turned_added c.self.inside.ranks.keys c.args.rank ∙ ap (λ (t : List Rank). added t (turned c.args.rank)) c.self.view_is
+    ap (map turned) c.in_ok-insert.ensures.keys ∙ turned_added c.self.inside.ranks.keys c.args.rank
+    ∙ ap (λ (t : List Rank). added t (turned c.args.rank)) c.self.view_is

@@ -9,7 +9,8 @@ pub insert-requires : goal.insert-requires
 insert-requires c = (
   lit< tt,
   (
-    subst (λ i. i ≤ length c.self.inside.entries.items) (sym (c.place_of-i.ensures ∙ ap (position_or_len (λ f. is_lt (name_cmp c.args.e.name f.name))) c.deref.ensures.0))
+    subst (λ i. i ≤ length c.self.inside.entries.items)
+        (sym (c.place_of-i.ensures ∙ ap (position_or_len (λ f. is_lt (name_cmp c.args.e.name f.name))) c.deref.ensures.0))
         (place_most (λ f. is_lt (name_cmp c.args.e.name f.name)) c.self.inside.entries.items),
     subst (λ es. length es < 255) (sym c.self.view_is) c.requires.room,
   ),
@@ -18,7 +19,8 @@ insert-requires c = (
 inserted : (c : goal.After-insert) → c.insert.new.self.items ≡ with_entry c.args.e c.args.self.now
 inserted c =
     c.insert.ensures.items
-    ∙ ap (λ i. insert c.self.inside.entries.items i c.args.e) (c.place_of-i.ensures ∙ ap (position_or_len (λ f. is_lt (name_cmp c.args.e.name f.name))) c.deref.ensures.0)
+    ∙ ap (λ i. insert c.self.inside.entries.items i c.args.e)
+    (c.place_of-i.ensures ∙ ap (position_or_len (λ f. is_lt (name_cmp c.args.e.name f.name))) c.deref.ensures.0)
     ∙ placed c.args.e c.self.inside.entries.items ∙ ap (with_entry c.args.e) c.self.view_is
 
 pub invariant_of-self : goal.invariant_of-self

@@ -29,5 +29,7 @@ invariant_of-self-2 c =
       no_pages = c.args.self.now.no_pages;
       put = rw (log, put_bytes-push c.args.self.now.log.items (Wrote c.args.i c.args.bytes.now), append-nil) c.args.self.now.put;
       some = c.args.self.now.some;
-      whole = rw log (whole-push c.args.self.now.log.items (Wrote c.args.i c.args.bytes.now) c.args.self.now.whole (eq-eqb (length c.args.bytes.now) 4096 c.told-bytes));
+      whole =
+          rw log (whole-push c.args.self.now.log.items (Wrote c.args.i c.args.bytes.now) c.args.self.now.whole
+          (eq-eqb (length c.args.bytes.now) 4096 c.told-bytes));
     }

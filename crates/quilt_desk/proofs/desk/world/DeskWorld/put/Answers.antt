@@ -15,7 +15,8 @@ invariant_of-self-else-is_err-3 c =
       unopened = λ shut. open_not_shut _ _ c.requires.open shut;
       shelved = c.args.self.now.shelved;
       no_pages = c.args.self.now.no_pages;
-      put = rw (log, put_bytes-push c.args.self.now.log.items (Put c.push.new.self), text, out) (ap (λ (l : List ℕ). l ++ take c.min-n.result c.args.bytes.now) c.args.self.now.put);
+      put = rw (log, put_bytes-push c.args.self.now.log.items (Put c.push.new.self), text, out)
+          (ap (λ (l : List ℕ). l ++ take c.min-n.result c.args.bytes.now) c.args.self.now.put);
       some = c.args.self.now.some;
       whole = rw log (whole-push c.args.self.now.log.items (Put c.push.new.self) c.args.self.now.whole refl);
     }

@@ -17,7 +17,8 @@ invariant_of-self g c =
       bits = s.bits;
       size = s.size;
       below = rw c.discard.ensures.table (below_gone es c.args.page s.pool.distinct s.journal.pages s.below);
-      kept = kept_busy s.journal s.journal es c.discard.new.self.table.entries s.last (λ is. c.in_default.not-Idle (c.state.ensures ∙ is)) refl (g.W.Disk.told s.world);
+      kept = kept_busy s.journal s.journal es c.discard.new.self.table.entries s.last (λ is. c.in_default.not-Idle (c.state.ensures ∙ is)) refl
+          (g.W.Disk.told s.world);
       published = s.published;
       next = s.next;
       edition = s.edition;
@@ -28,18 +29,22 @@ pub returns-in_default-clause-later : goal.returns-in_default-clause-later
 returns-in_default-clause-later g c = (refl, refl, (refl, refl, refl), refl, later_same c.args.self.now.journal.pages (g.W.Disk.told c.args.self.now.world))
 
 pub returns-in_default-clause-free : goal.returns-in_default-clause-free
-returns-in_default-clause-free g c = frees_only c.args.self.now.journal.pages c.args.self.now.free c.list_page.new.bits c.args.page true c.requires.page.0 c.requires.page.1 c.list_page.ensures
+returns-in_default-clause-free g c =
+    frees_only c.args.self.now.journal.pages c.args.self.now.free c.list_page.new.bits c.args.page true c.requires.page.0 c.requires.page.1 c.list_page.ensures
 
 pub returns-in_default-clause-told : goal.returns-in_default-clause-told
 returns-in_default-clause-told g c =
     let s = c.args.self.now in
-    told_busy s.journal s.journal s.pool.table.entries c.discard.new.self.table.entries s.last (λ is. c.in_default.not-Idle (c.state.ensures ∙ is)) refl _ (g.W.Disk.told s.world)
+    told_busy s.journal s.journal s.pool.table.entries c.discard.new.self.table.entries s.last (λ is. c.in_default.not-Idle (c.state.ensures ∙ is))
+    refl _ (g.W.Disk.told s.world)
 
 pub returns-in_default-clause-held : goal.returns-in_default-clause-held
-returns-in_default-clause-held g c = rw c.discard.ensures.table (inr (discarded_keys c.args.page c.args.self.now.pool.table.entries c.args.self.now.pool.distinct))
+returns-in_default-clause-held g c =
+    rw c.discard.ensures.table (inr (discarded_keys c.args.page c.args.self.now.pool.table.entries c.args.self.now.pool.distinct))
 
 pub returns-in_default-clause-changed : goal.returns-in_default-clause-changed
-returns-in_default-clause-changed g c = rw c.discard.ensures.table (marked_dropped c.args.self.now.pool.table.entries c.args.page c.args.self.now.pool.distinct c.args.self.now.journal.pages c.args.self.now.journal.changed)
+returns-in_default-clause-changed g c = rw c.discard.ensures.table
+    (marked_dropped c.args.self.now.pool.table.entries c.args.page c.args.self.now.pool.distinct c.args.self.now.journal.pages c.args.self.now.journal.changed)
 
 pub invariant_of-self-2 : goal.invariant_of-self-2
 invariant_of-self-2 g c =
@@ -52,7 +57,10 @@ invariant_of-self-2 g c =
       bits = ap length c.clear.ensures.changed ∙ length-set s.journal.changed c.args.page false ∙ s.bits ∙ sym pages;
       size = s.size ∙ ap (λ n. 3 + 2 * n) (sym pages);
       below = rw (c.discard.ensures.table, pages) (below_gone es c.args.page s.pool.distinct s.journal.pages s.below);
-      kept = rw c.discard.ensures.table (kept_given s.journal c.clear.new.self es s.last c.args.page (sym c.state.ensures ∙ c.in-Idle.is) pages c.clear.ensures.same.1 c.clear.ensures.changed s.pool.distinct c.clear.ensures.kept (g.W.Disk.told s.world) s.kept);
+      kept =
+          rw c.discard.ensures.table
+          (kept_given s.journal c.clear.new.self es s.last c.args.page (sym c.state.ensures ∙ c.in-Idle.is)
+          pages c.clear.ensures.same.1 c.clear.ensures.changed s.pool.distinct c.clear.ensures.kept (g.W.Disk.told s.world) s.kept);
       published = subst (λ n. IsHead n s.last) (sym pages) s.published;
       next = subst (λ n. IsHead n s.work) (sym pages) s.next;
       edition = s.edition;
@@ -60,12 +68,15 @@ invariant_of-self-2 g c =
     }
 
 pub returns-clause-later : goal.returns-clause-later
-returns-clause-later g c = (c.clear.ensures.same.0, c.clear.ensures.same.1, (refl, refl, refl), refl, later_same c.args.self.now.journal.pages (g.W.Disk.told c.args.self.now.world))
+returns-clause-later g c =
+    (c.clear.ensures.same.0, c.clear.ensures.same.1, (refl, refl, refl), refl, later_same c.args.self.now.journal.pages (g.W.Disk.told c.args.self.now.world))
 
 pub returns-clause-told : goal.returns-clause-told
 returns-clause-told g c =
     let s = c.args.self.now in
-    rw c.discard.ensures.table (told_given s.journal c.clear.new.self s.pool.table.entries s.last c.args.page (sym c.state.ensures ∙ c.in-Idle.is) c.clear.ensures.same.0 c.clear.ensures.same.1 c.clear.ensures.changed s.pool.distinct c.clear.ensures.kept (g.W.Disk.told s.world) s.kept)
+    rw c.discard.ensures.table
+    (told_given s.journal c.clear.new.self s.pool.table.entries s.last c.args.page (sym c.state.ensures ∙ c.in-Idle.is)
+    c.clear.ensures.same.0 c.clear.ensures.same.1 c.clear.ensures.changed s.pool.distinct c.clear.ensures.kept (g.W.Disk.told s.world) s.kept)
 
 pub returns-clause-held : goal.returns-clause-held
 returns-clause-held g c = rw c.discard.ensures.table (inr (discarded_keys c.args.page c.args.self.now.pool.table.entries c.args.self.now.pool.distinct))
@@ -73,4 +84,6 @@ returns-clause-held g c = rw c.discard.ensures.table (inr (discarded_keys c.args
 pub returns-clause-changed : goal.returns-clause-changed
 returns-clause-changed g c =
     let s = c.args.self.now in
-    rw c.discard.ensures.table (marked_given s.journal c.clear.new.self s.pool.table.entries s.last c.args.page (sym c.state.ensures ∙ c.in-Idle.is) c.clear.ensures.same.0 c.clear.ensures.same.1 c.clear.ensures.changed s.pool.distinct c.clear.ensures.kept (omega (arith, s.bits, c.requires.page)))
+    rw c.discard.ensures.table
+    (marked_given s.journal c.clear.new.self s.pool.table.entries s.last c.args.page (sym c.state.ensures ∙ c.in-Idle.is)
+    c.clear.ensures.same.0 c.clear.ensures.same.1 c.clear.ensures.changed s.pool.distinct c.clear.ensures.kept (omega (arith, s.bits, c.requires.page)))

@@ -27,7 +27,10 @@ invariant_of-self g c =
       bits = c.read.ensures.journal.2 ∙ s.bits ∙ sym pages;
       size = c.read.ensures.size ∙ s.size ∙ ap (λ n. 3 + 2 * n) (sym pages);
       below = subst (λ n. AreBelow n c.read.new.self.table.entries) (sym pages) c.read.ensures.below;
-      kept = kept_moves s.journal j s.pool.table.entries c.read.new.self.table.entries s.last (sym c.state.ensures ∙ c.in-Idle.is) pages c.read.ensures.journal.1 _ _ s.kept (goes_weaker _ (Moves s.journal.pages c.read.new.self.table.entries c.read.new.journal.changed) _ _ c.read.ensures.kept (of_keeps s.journal.pages s.pool.table.entries c.read.new.self.table.entries s.journal.changed c.read.new.journal.changed));
+      kept = kept_moves s.journal j s.pool.table.entries c.read.new.self.table.entries s.last (sym c.state.ensures ∙ c.in-Idle.is)
+          pages c.read.ensures.journal.1 _ _ s.kept
+          (goes_weaker _ (Moves s.journal.pages c.read.new.self.table.entries c.read.new.journal.changed) _ _ c.read.ensures.kept
+          (of_keeps s.journal.pages s.pool.table.entries c.read.new.self.table.entries s.journal.changed c.read.new.journal.changed));
       published = subst (λ n. IsHead n s.last) (sym pages) s.published;
       next = subst (λ n. IsHead n s.work) (sym pages) s.next;
       edition = s.edition;
@@ -41,7 +44,10 @@ returns-in_err-read-clause-later g c =
       c.read.ensures.journal.1,
       (refl, refl, refl),
       c.read.ensures.door,
-      later_moves s.journal c.read.new.journal s.pool.table.entries c.read.new.self.table.entries s.last (sym c.state.ensures ∙ c.in-Idle.is) c.read.ensures.journal.0 c.read.ensures.journal.1 _ _ _ _ (g.met.W.Disk.is_consistent s.world) (g.met.W.Disk.is_consistent c.read.new.disk) s.kept (goes_weaker _ (Moves s.journal.pages c.read.new.self.table.entries c.read.new.journal.changed) _ _ c.read.ensures.kept (of_keeps s.journal.pages s.pool.table.entries c.read.new.self.table.entries s.journal.changed c.read.new.journal.changed)),
+      later_moves s.journal c.read.new.journal s.pool.table.entries c.read.new.self.table.entries s.last (sym c.state.ensures ∙ c.in-Idle.is)
+          c.read.ensures.journal.0 c.read.ensures.journal.1 _ _ _ _ (g.met.W.Disk.is_consistent s.world) (g.met.W.Disk.is_consistent c.read.new.disk)
+          s.kept (goes_weaker _ (Moves s.journal.pages c.read.new.self.table.entries c.read.new.journal.changed) _ _ c.read.ensures.kept
+          (of_keeps s.journal.pages s.pool.table.entries c.read.new.self.table.entries s.journal.changed c.read.new.journal.changed)),
     )
 
 pub returns-clause-later : goal.returns-clause-later
@@ -51,13 +57,17 @@ returns-clause-later g c =
       c.read.ensures.journal.1,
       (refl, refl, refl),
       c.read.ensures.door,
-      later_moves s.journal c.read.new.journal s.pool.table.entries c.read.new.self.table.entries s.last (sym c.state.ensures ∙ c.in-Idle.is) c.read.ensures.journal.0 c.read.ensures.journal.1 _ _ _ _ (g.met.W.Disk.is_consistent s.world) (g.met.W.Disk.is_consistent c.read.new.disk) s.kept (goes_weaker _ (Moves s.journal.pages c.read.new.self.table.entries c.read.new.journal.changed) _ _ c.read.ensures.kept (of_keeps s.journal.pages s.pool.table.entries c.read.new.self.table.entries s.journal.changed c.read.new.journal.changed)),
+      later_moves s.journal c.read.new.journal s.pool.table.entries c.read.new.self.table.entries s.last (sym c.state.ensures ∙ c.in-Idle.is)
+          c.read.ensures.journal.0 c.read.ensures.journal.1 _ _ _ _ (g.met.W.Disk.is_consistent s.world) (g.met.W.Disk.is_consistent c.read.new.disk)
+          s.kept (goes_weaker _ (Moves s.journal.pages c.read.new.self.table.entries c.read.new.journal.changed) _ _ c.read.ensures.kept
+          (of_keeps s.journal.pages s.pool.table.entries c.read.new.self.table.entries s.journal.changed c.read.new.journal.changed)),
     )
 
 pub returns-in_err-read-clause-told : goal.returns-in_err-read-clause-told
 returns-in_err-read-clause-told g c =
     let s = c.args.self.now in
-    told_same s.journal c.read.new.journal s.pool.table.entries c.read.new.self.table.entries s.last (sym c.state.ensures ∙ c.in-Idle.is) c.read.ensures.journal.0 c.read.ensures.journal.1 _ _ c.read.ensures.kept
+    told_same s.journal c.read.new.journal s.pool.table.entries c.read.new.self.table.entries s.last (sym c.state.ensures ∙ c.in-Idle.is)
+    c.read.ensures.journal.0 c.read.ensures.journal.1 _ _ c.read.ensures.kept
 
 pub returns-in_err-read-clause-held_is_free : goal.returns-in_err-read-clause-held_is_free
 returns-in_err-read-clause-held_is_free g c = λ held. tells_reads _ _ (c.read.ensures.held (key_found c.args.page c.args.self.now.pool.table.entries held))
@@ -65,13 +75,15 @@ returns-in_err-read-clause-held_is_free g c = λ held. tells_reads _ _ (c.read.e
 pub returns-in_err-read-clause-changed : goal.returns-in_err-read-clause-changed
 returns-in_err-read-clause-changed g c =
     let s = c.args.self.now in
-    subst (λ n. marked_count n c.read.new.self.table.entries c.read.new.journal.changed ≤ marked_count s.journal.pages s.pool.table.entries s.journal.changed) (sym c.read.ensures.journal.0)
+    subst (λ n. marked_count n c.read.new.self.table.entries c.read.new.journal.changed
+    ≤ marked_count s.journal.pages s.pool.table.entries s.journal.changed) (sym c.read.ensures.journal.0)
     (marked_kept s.journal.pages s.pool.table.entries c.read.new.self.table.entries s.journal.changed c.read.new.journal.changed c.read.ensures.marked)
 
 pub returns-clause-told : goal.returns-clause-told
 returns-clause-told g c =
     let s = c.args.self.now in
-    told_same s.journal c.read.new.journal s.pool.table.entries c.read.new.self.table.entries s.last (sym c.state.ensures ∙ c.in-Idle.is) c.read.ensures.journal.0 c.read.ensures.journal.1 _ _ c.read.ensures.kept
+    told_same s.journal c.read.new.journal s.pool.table.entries c.read.new.self.table.entries s.last (sym c.state.ensures ∙ c.in-Idle.is)
+    c.read.ensures.journal.0 c.read.ensures.journal.1 _ _ c.read.ensures.kept
 
 pub returns-clause-held_is_free : goal.returns-clause-held_is_free
 returns-clause-held_is_free g c = λ held. tells_reads _ _ (c.read.ensures.held (key_found c.args.page c.args.self.now.pool.table.entries held))
@@ -79,7 +91,8 @@ returns-clause-held_is_free g c = λ held. tells_reads _ _ (c.read.ensures.held 
 pub returns-clause-changed : goal.returns-clause-changed
 returns-clause-changed g c =
     let s = c.args.self.now in
-    subst (λ n. marked_count n c.read.new.self.table.entries c.read.new.journal.changed ≤ marked_count s.journal.pages s.pool.table.entries s.journal.changed) (sym c.read.ensures.journal.0)
+    subst (λ n. marked_count n c.read.new.self.table.entries c.read.new.journal.changed
+    ≤ marked_count s.journal.pages s.pool.table.entries s.journal.changed) (sym c.read.ensures.journal.0)
     (marked_kept s.journal.pages s.pool.table.entries c.read.new.self.table.entries s.journal.changed c.read.new.journal.changed c.read.ensures.marked)
 
 pub returns-clause-bytes : goal.returns-clause-bytes

@@ -27,9 +27,13 @@ invariant_of-self g c =
       bits = c.write.ensures.journal.2 ∙ s.bits ∙ sym pages;
       size = c.write.ensures.size ∙ s.size ∙ ap (λ n. 3 + 2 * n) (sym pages);
       below = subst (λ n. AreBelow n c.write.new.self.table.entries) (sym pages) c.write.ensures.below;
-      kept = kept_moves s.journal j s.pool.table.entries c.write.new.self.table.entries s.last (sym c.state.ensures ∙ c.in-Idle.is) pages c.write.ensures.journal.1 _ _ s.kept (either c.write.result _ _ _ c.write.ensures.changes c.write.ensures.kept
-          (λ changes. goes_weaker _ (Moves s.journal.pages c.write.new.self.table.entries c.write.new.journal.changed) _ _ changes (of_changes s.journal.pages c.args.page c.args.bytes.now s.pool.table.entries c.write.new.self.table.entries s.journal.changed c.write.new.journal.changed))
-          (λ keeps. goes_weaker _ (Moves s.journal.pages c.write.new.self.table.entries c.write.new.journal.changed) _ _ keeps (of_keeps s.journal.pages s.pool.table.entries c.write.new.self.table.entries s.journal.changed c.write.new.journal.changed)));
+      kept = kept_moves s.journal j s.pool.table.entries c.write.new.self.table.entries s.last (sym c.state.ensures ∙ c.in-Idle.is)
+          pages c.write.ensures.journal.1 _ _ s.kept (either c.write.result _ _ _ c.write.ensures.changes c.write.ensures.kept
+          (λ changes. goes_weaker _ (Moves s.journal.pages c.write.new.self.table.entries c.write.new.journal.changed) _ _ changes
+          (of_changes s.journal.pages c.args.page c.args.bytes.now s.pool.table.entries c.write.new.self.table.entries s.journal.changed
+          c.write.new.journal.changed))
+          (λ keeps. goes_weaker _ (Moves s.journal.pages c.write.new.self.table.entries c.write.new.journal.changed) _ _ keeps
+          (of_keeps s.journal.pages s.pool.table.entries c.write.new.self.table.entries s.journal.changed c.write.new.journal.changed)));
       published = subst (λ n. IsHead n s.last) (sym pages) s.published;
       next = subst (λ n. IsHead n s.work) (sym pages) s.next;
       edition = s.edition;
@@ -43,7 +47,11 @@ returns-in_err-write-clause-later g c =
       c.write.ensures.journal.1,
       (refl, refl, refl),
       c.write.ensures.door,
-      later_moves s.journal c.write.new.journal s.pool.table.entries c.write.new.self.table.entries s.last (sym c.state.ensures ∙ c.in-Idle.is) c.write.ensures.journal.0 c.write.ensures.journal.1 _ _ _ _ (g.met.W.Disk.is_consistent s.world) (g.met.W.Disk.is_consistent c.write.new.disk) s.kept (goes_weaker _ (Moves s.journal.pages c.write.new.self.table.entries c.write.new.journal.changed) _ _ c.in_err-write.ensures.kept (of_keeps s.journal.pages s.pool.table.entries c.write.new.self.table.entries s.journal.changed c.write.new.journal.changed)),
+      later_moves s.journal c.write.new.journal s.pool.table.entries c.write.new.self.table.entries s.last (sym c.state.ensures ∙ c.in-Idle.is)
+          c.write.ensures.journal.0 c.write.ensures.journal.1 _ _ _ _ (g.met.W.Disk.is_consistent s.world)
+          (g.met.W.Disk.is_consistent c.write.new.disk) s.kept
+          (goes_weaker _ (Moves s.journal.pages c.write.new.self.table.entries c.write.new.journal.changed) _ _ c.in_err-write.ensures.kept
+          (of_keeps s.journal.pages s.pool.table.entries c.write.new.self.table.entries s.journal.changed c.write.new.journal.changed)),
     )
 
 pub returns-clause-later : goal.returns-clause-later
@@ -53,22 +61,32 @@ returns-clause-later g c =
       c.write.ensures.journal.1,
       (refl, refl, refl),
       c.write.ensures.door,
-      later_moves s.journal c.write.new.journal s.pool.table.entries c.write.new.self.table.entries s.last (sym c.state.ensures ∙ c.in-Idle.is) c.write.ensures.journal.0 c.write.ensures.journal.1 _ _ _ _ (g.met.W.Disk.is_consistent s.world) (g.met.W.Disk.is_consistent c.write.new.disk) s.kept (goes_weaker _ (Moves s.journal.pages c.write.new.self.table.entries c.write.new.journal.changed) _ _ c.in_ok-write.ensures.changes (of_changes s.journal.pages c.args.page c.args.bytes.now s.pool.table.entries c.write.new.self.table.entries s.journal.changed c.write.new.journal.changed)),
+      later_moves s.journal c.write.new.journal s.pool.table.entries c.write.new.self.table.entries s.last (sym c.state.ensures ∙ c.in-Idle.is)
+          c.write.ensures.journal.0 c.write.ensures.journal.1 _ _ _ _ (g.met.W.Disk.is_consistent s.world)
+          (g.met.W.Disk.is_consistent c.write.new.disk) s.kept
+          (goes_weaker _ (Moves s.journal.pages c.write.new.self.table.entries c.write.new.journal.changed) _ _ c.in_ok-write.ensures.changes
+          (of_changes s.journal.pages c.args.page c.args.bytes.now s.pool.table.entries c.write.new.self.table.entries s.journal.changed
+          c.write.new.journal.changed)),
     )
 
 pub returns-clause-told : goal.returns-clause-told
 returns-clause-told g c =
     let s = c.args.self.now in
-    told_set s.journal c.write.new.journal s.pool.table.entries c.write.new.self.table.entries s.last (sym c.state.ensures ∙ c.in-Idle.is) c.write.ensures.journal.0 c.write.ensures.journal.1 c.args.page c.args.bytes.now _ _ c.requires.page.1 c.in_ok-write.ensures.changes
+    told_set s.journal c.write.new.journal s.pool.table.entries c.write.new.self.table.entries s.last (sym c.state.ensures ∙ c.in-Idle.is)
+    c.write.ensures.journal.0 c.write.ensures.journal.1 c.args.page c.args.bytes.now _ _ c.requires.page.1 c.in_ok-write.ensures.changes
 
 pub returns-in_err-write-clause-changed : goal.returns-in_err-write-clause-changed
 returns-in_err-write-clause-changed g c =
     let s = c.args.self.now in
-    let kept = marked_kept s.journal.pages s.pool.table.entries c.write.new.self.table.entries s.journal.changed c.write.new.journal.changed c.in_err-write.ensures.unmarked in
-    subst (λ n. marked_count n c.write.new.self.table.entries c.write.new.journal.changed ≤ marked_count s.journal.pages s.pool.table.entries s.journal.changed + 1) (sym c.write.ensures.journal.0) (omega (arith, kept))
+    let kept = marked_kept s.journal.pages s.pool.table.entries c.write.new.self.table.entries s.journal.changed c.write.new.journal.changed
+    c.in_err-write.ensures.unmarked in
+    subst (λ n. marked_count n c.write.new.self.table.entries c.write.new.journal.changed
+    ≤ marked_count s.journal.pages s.pool.table.entries s.journal.changed + 1) (sym c.write.ensures.journal.0) (omega (arith, kept))
 
 pub returns-clause-changed : goal.returns-clause-changed
 returns-clause-changed g c =
     let s = c.args.self.now in
-    subst (λ n. marked_count n c.write.new.self.table.entries c.write.new.journal.changed ≤ marked_count s.journal.pages s.pool.table.entries s.journal.changed + 1) (sym c.write.ensures.journal.0)
-    (marked_more s.journal.pages s.pool.table.entries c.write.new.self.table.entries s.journal.changed c.write.new.journal.changed c.args.page c.in_ok-write.ensures.marked)
+    subst (λ n. marked_count n c.write.new.self.table.entries c.write.new.journal.changed
+    ≤ marked_count s.journal.pages s.pool.table.entries s.journal.changed + 1) (sym c.write.ensures.journal.0)
+    (marked_more s.journal.pages s.pool.table.entries c.write.new.self.table.entries s.journal.changed c.write.new.journal.changed c.args.page
+    c.in_ok-write.ensures.marked)
