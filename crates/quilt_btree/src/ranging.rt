@@ -1,4 +1,4 @@
-ghost use Rattle.std.specs.Prelude.{◌≡◌, ◌-◌, ◌≤◌, ◌&&◌, ◌++◌, OnOk, MatchOption, List, Some, true, false, drop, filter, length, take, vec_len};
+ghost use Rattle.std.specs.Prelude.{◌≡◌, ◌⊎◌, ◌-◌, ◌≤◌, ◌&&◌, ◌++◌, OnOk, MatchOption, List, Some, None, true, false, drop, filter, length, take, vec_len};
 ghost use Rattle.std.specs.List.{list_all};
 ghost use Rattle.std.specs.Ordering.{is_le, is_lt};
 ghost use Rattle.quilt_record.specs.Records.{key_cmp};
@@ -8,7 +8,7 @@ ghost use Rattle.quilt_node.specs.Pages.{leaf_of};
 ghost use Rattle.quilt_node.specs.Nodes.{records_of};
 ghost use Rattle.quilt_btree.specs.Lists.{is_from_to};
 
-use quilt_node::{find_in, rec_in, records_in};
+use quilt_node::{find_in, is_leaf, rec_in, records_in};
 use quilt_record::{Key, Record};
 use std::alloc::AllocError;
 
@@ -84,6 +84,15 @@ pub fn add_leaf(
     let first = count_below(bytes, low);
     let last = count_up_to(bytes, high);
     add_span(records, bytes, first, last, low, high, most)
+}
+
+/// The page that is at fault where a range that goes on behind it finds no record in it: the page itself where its bytes
+/// are no leaf, and else 0, since then the keys above it may be wrong as well as its own.
+pub fn page_at_fault(bytes: &[u8; 4096], page: u32) -> u32
+    ensures at_most { result ≤ page }
+    ensures fault { (result ≡ 0) ⊎ ((result ≡ page) × (leaf_of bytes.now ≡ None)) }
+{
+    if is_leaf(bytes) { 0 } else { page }
 }
 
 /// The key, where it is at most `last`.

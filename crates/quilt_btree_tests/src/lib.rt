@@ -2,7 +2,11 @@
 #![tactic(auto)]
 
 #[cfg(test)]
+mod damaged;
+#[cfg(test)]
 mod pages;
+#[cfg(test)]
+mod spoilt;
 #[cfg(test)]
 mod tests;
 #[cfg(test)]

@@ -4,6 +4,7 @@ use Rattle.quilt_node.specs.Nodes.{records_of}
 use Rattle.quilt_btree.proofs.Dividing.{leaf_cut}
 use Rattle.quilt_btree.proofs.Forks.{read_ok}
 use Rattle.quilt_btree.proofs.Steps.{step_led, step_cut, step_sound, step_holds, step_above, here_led, here_least, here_leaf}
+use Rattle.quilt_btree.proofs.Damage.{sound_names, bad_leaf, bad_inner, names_below, spoilt_below}
 use Rattle.quilt_btree.proofs.reading.+leaf_at.Goals as goal
 
 pub returns-in-Ok-clause-leads : goal.returns-in-Ok-clause-leads
@@ -35,3 +36,18 @@ returns-in-Some-clause-sound g t c = step_sound c.leaf_at.result (g.S.PageStore.
 
 pub returns-in-Some-clause-above : goal.returns-in-Some-clause-above
 returns-in-Some-clause-above g t c = step_above c.leaf_at.result c.args.k.now c.args.high.now c.in-Some.step.high c.in-Some.ensures.above c.leaf_at.ensures.above
+
+pub returns-in-Ok-clause-spoilt : goal.returns-in-Ok-clause-spoilt
+returns-in-Ok-clause-spoilt g t c = bad_leaf (g.S.PageStore.told c.args.store.now) c.args.page c.args.height c.read_into.new.bytes c.if-height-eq1.true c.in-Ok.ensures.bytes
+
+pub returns-in-Some-clause-spoilt : goal.returns-in-Some-clause-spoilt
+returns-in-Some-clause-spoilt g t c = spoilt_below c.leaf_at.result (g.S.PageStore.told c.args.store.now) (g.S.PageStore.told c.read_into.new.store) c.args.page c.args.height c.pages.result c.read_into.new.bytes c.leaf_at.new.bytes c.in-Some.step.child (read_ok (g.S.PageStore.told c.args.store.now) (g.S.PageStore.told c.read_into.new.store) c.args.page c.args.height c.pages.result (g.S.PageStore.size c.args.store.now) c.read_into.new.bytes c.requires.height c.if-height-eq1.false c.in-Ok.ensures.told (g.met.S.PageStore.as_many c.args.store.now) (c.pages.ensures ∙ c.in-Ok.ensures.size) c.in-Ok.ensures.bytes) c.in-Some.ensures.stands c.leaf_at.ensures.spoilt
+
+pub returns-in-Err-clause-bad : goal.returns-in-Err-clause-bad
+returns-in-Err-clause-bad g t c = sound_names (g.S.PageStore.told c.args.store.now) c.args.height c.args.page c.in-Err.e c.in-Err.ensures.sound
+
+pub returns-in-None-clause-bad : goal.returns-in-None-clause-bad
+returns-in-None-clause-bad g t c = bad_inner (g.S.PageStore.told c.args.store.now) (g.S.PageStore.told c.read_into.new.store) c.args.page c.args.height c.pages.result c.read_into.new.bytes (read_ok (g.S.PageStore.told c.args.store.now) (g.S.PageStore.told c.read_into.new.store) c.args.page c.args.height c.pages.result (g.S.PageStore.size c.args.store.now) c.read_into.new.bytes c.requires.height c.if-height-eq1.false c.in-Ok.ensures.told (g.met.S.PageStore.as_many c.args.store.now) (c.pages.ensures ∙ c.in-Ok.ensures.size) c.in-Ok.ensures.bytes) c.in-None.ensures.step
+
+pub returns-in-Some-clause-bad : goal.returns-in-Some-clause-bad
+returns-in-Some-clause-bad g t c = names_below c.leaf_at.result (g.S.PageStore.told c.args.store.now) (g.S.PageStore.told c.read_into.new.store) c.args.page c.args.height c.pages.result c.read_into.new.bytes c.in-Some.step.child (read_ok (g.S.PageStore.told c.args.store.now) (g.S.PageStore.told c.read_into.new.store) c.args.page c.args.height c.pages.result (g.S.PageStore.size c.args.store.now) c.read_into.new.bytes c.requires.height c.if-height-eq1.false c.in-Ok.ensures.told (g.met.S.PageStore.as_many c.args.store.now) (c.pages.ensures ∙ c.in-Ok.ensures.size) c.in-Ok.ensures.bytes) c.in-Some.ensures.stands c.leaf_at.ensures.bad

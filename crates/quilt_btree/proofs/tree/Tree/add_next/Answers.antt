@@ -3,6 +3,7 @@ use Rattle.quilt_btree.proofs.Spans.{added_within, above_bound}
 use Rattle.quilt_node.specs.Nodes.{records_of}
 use Rattle.quilt_btree.proofs.Whole.{tree_spells}
 use Rattle.quilt_btree.proofs.Rests.{rest_ends, rest_fills, rest_adds, rest_next, from_not_err, none_over}
+use Rattle.quilt_btree.proofs.Damage.{fault_named}
 use Rattle.quilt_btree.proofs.tree.Tree.add_next.Goals as goal
 
 pub returns-in-Err-clause-sound : goal.returns-in-Err-clause-sound
@@ -77,3 +78,9 @@ returns-in_default-2-clause-within g c = λ low le old.
 pub returns-in_default-clause-further : goal.returns-in_default-clause-further
 returns-in_default-clause-further g c =
     rw c.in-Some.is (above_bound c.args.from.now c.in-Some.field-0 c.in-Ok.found.high c.in-Ok.ensures.above c.in-Some.ensures.0)
+
+pub returns-in-Err-clause-bad : goal.returns-in-Err-clause-bad
+returns-in-Err-clause-bad g c = λ ne. c.in-Err.ensures.bad
+
+pub returns-in-Some-clause-bad : goal.returns-in-Some-clause-bad
+returns-in-Some-clause-bad g c = fault_named (g.S.PageStore.told c.args.store.now) c.args.self.now.height c.args.self.now.root c.in-Ok.found.page c.page_at_fault.result c.leaf_at.new.bytes c.page_at_fault.ensures.fault c.in-Ok.ensures.spoilt

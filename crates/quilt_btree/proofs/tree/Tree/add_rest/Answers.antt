@@ -4,6 +4,7 @@ use Rattle.std.specs.Ordering.{is_lt}
 use Rattle.quilt_record.specs.Records.{key_cmp}
 use Rattle.quilt_btree.proofs.Spans.{le_on, at_some}
 use Rattle.quilt_btree.proofs.Rests.{if_some, none_is, loop_goes_on, loop_ends, loop_sound, loop_reads}
+use Rattle.quilt_btree.proofs.Damage.{names_along}
 use Rattle.quilt_btree.proofs.tree.Tree.add_rest.Goals as goal
 
 pub returns-in_err-k-clause-sound : goal.returns-in_err-k-clause-sound
@@ -42,3 +43,8 @@ pub returns-clause-within : goal.returns-clause-within
 returns-clause-within g c = λ low le old.
     let so_far = c.loop-k.invariant.within low le old in
     c.in_ok-k.ensures.within low so_far.0 so_far.1
+
+pub returns-in_err-k-clause-bad : goal.returns-in_err-k-clause-bad
+returns-in_err-k-clause-bad g c =
+    let p = err_from_is_err_and c.from_residual.result c.from_residual.ensures.1 in
+    rw (p.1, p.2) (names_along (g.S.PageStore.told c.args.store.now) (g.S.PageStore.told c.loop-k.store) c.args.self.now.height c.args.self.now.root _ c.loop-k.invariant.told c.in_err-k.ensures.bad)

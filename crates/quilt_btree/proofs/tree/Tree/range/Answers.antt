@@ -79,3 +79,6 @@ returns-in-Ok-add_rest-clause-within g c =
     c.in-Ok-add_rest.ensures.within c.args.low.now (lt_to_le (key_cmp c.args.low.now c.in-Some.next) (above_bound c.args.low.now c.in-Some.next c.in-Ok.found.high c.in-Ok.ensures.above c.in-Some.ensures.0))
     (first_within c.args.low.now c.args.high.now c.args.most (from_not_err c.add_leaf.result c.is_err.result c.is_err.ensures.value c.if-is_err.false c.add_leaf.ensures).0 c.add_leaf.new.records.items
     ((from_not_err c.add_leaf.result c.is_err.result c.is_err.ensures.value c.if-is_err.false c.add_leaf.ensures).1 ∙ ap (λ (l : List Record). take c.args.most (l ++ filter (is_from_to c.args.low.now c.args.high.now) (from_not_err c.add_leaf.result c.is_err.result c.is_err.ensures.value c.if-is_err.false c.add_leaf.ensures).0)) c.new-records.ensures.items))
+
+pub returns-in-Err-clause-bad : goal.returns-in-Err-clause-bad
+returns-in-Err-clause-bad g c = λ ne. c.in-Err.ensures.bad

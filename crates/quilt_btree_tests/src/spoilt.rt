@@ -1,0 +1,302 @@
+//! Trees with one page spoilt, and what each call answers over them.
+ghost use Rattle.std.specs.Prelude.{◌≡◌, ◌+◌, ◌*◌, ◌≤◌};
+ghost use Rattle.quilt_types.specs.Facts.{quota};
+ghost use Rattle.quilt_btree.specs.Trees.{IsRooted};
+
+use quilt_btree::{Tree, keys_ascend, records_ascend};
+use quilt_record::{Key, Record};
+use quilt_store::{MemStore, PageStore};
+use quilt_types::Stop;
+use std::alloc::Global;
+use std::process::Abort;
+use std::test::Fail;
+
+/// How a page is spoilt.
+#[derive(Clone, Copy, Debug, PartialEq, Eq)]
+pub enum Spoil {
+    /// It has another byte at a place.
+    Byte(usize, u8),
+    /// It is a leaf of its first record alone.
+    First,
+    /// All its bytes are 255.
+    Ones,
+    /// It is a leaf with the records of the first one.
+    Leaf,
+    /// It is an inner page of height 2.
+    Inner,
+}
+
+/// A tree over a store in memory.
+#[derive(Drop)]
+pub struct Spoilt {
+    store: MemStore,
+    tree: Tree,
+    ghost rooted: { IsRooted (⟦<MemStore as PageStore>⟧.size store) tree },
+    ghost spare: { tree.records + 2 ≤ quota (⟦<MemStore as PageStore>⟧.size store) },
+}
+
+fn key(item: u32) -> Key {
+    Key {
+        layer: 1,
+        part: 4,
+        code: 0,
+        depth: 0,
+        item,
+    }
+}
+
+fn record(item: u32) -> Record {
+    Record {
+        key: key(item),
+        value: [7; 16],
+    }
+}
+
+/// The leaf of `n` records whose items are 4 from each other, from `first` on.
+fn leaf(first: u32, n: usize) -> [u8; 4096]
+    requires { n ≤ 144 }
+{
+    let mut page = [0; 4096];
+    page[..4].copy_from_slice(&[1, 1, 0, n as u8]);
+    let mut item = first;
+    for i in 0..n {
+        let at = 64 + 28 * i;
+        page[at + 1] = 1;
+        page[at + 2] = 4;
+        page[at + 8..at + 12].copy_from_slice(&item.to_be_bytes());
+        page[at + 12..at + 28].fill(7);
+        item = item.wrapping_add(4);
+    }
+    page
+}
+
+/// The inner page of the `n` children from the page `child` on, whose keys are `span` from each other, the first of them
+/// `span` above `first`.
+fn inner(height: u8, child: u32, n: usize, first: u32, span: u32) -> [u8; 4096]
+    requires { n ≤ 254 }
+{
+    let mut page = [0; 4096];
+    page[..4].copy_from_slice(&[2, height, 0, n as u8]);
+    let mut child = child;
+    let mut item = first;
+    for i in 0..n {
+        page[8 + 4 * i..12 + 4 * i].copy_from_slice(&child.to_be_bytes());
+        child = child.wrapping_add(1);
+        if i > 0 {
+            let at = 1012 + 12 * i;
+            page[at + 1] = 1;
+            page[at + 2] = 4;
+            page[at + 8..at + 12].copy_from_slice(&item.to_be_bytes());
+        }
+        item = item.wrapping_add(span);
+    }
+    page
+}
+
+/// Puts a page at the first place that is free.
+fn put(store: &mut MemStore, bytes: &[u8; 4096]) -> Result<(), Fail>
+    ensures { ⟦<MemStore as PageStore>⟧.size store.new ≡ ⟦<MemStore as PageStore>⟧.size store.old }
+{
+    if store.free_pages() == 0 {
+        return Err(Fail::from("no page is free"));
+    }
+    let page = store.take_page();
+    if page == 0 || page >= store.pages() {
+        return Err(Fail::from("a page"));
+    }
+    if store.write(page, bytes).is_err() {
+        return Err(Fail::from("a store in memory"));
+    }
+    Ok(())
+}
+
+/// Spoils the bytes of a page.
+fn change(bytes: &mut [u8; 4096], how: Spoil) {
+    match how {
+        Spoil::Byte(at, byte) => {
+            if at < 4096 {
+                bytes[at] = byte;
+            }
+        }
+        Spoil::First => {
+            bytes[3] = 1;
+            bytes[92..].fill(0);
+        }
+        Spoil::Ones => bytes.fill(255),
+        Spoil::Leaf => *bytes = leaf(0, 72),
+        Spoil::Inner => *bytes = inner(2, 2, 3, 0, 576),
+    }
+}
+
+/// Spoils a page of the store.
+fn spoil_page(store: &mut MemStore, page: u32, how: Spoil) -> Result<(), Fail>
+    ensures { ⟦<MemStore as PageStore>⟧.size store.new ≡ ⟦<MemStore as PageStore>⟧.size store.old }
+{
+    if page == 0 || page >= store.pages() || store.is_free(page) {
+        return Err(Fail::from("a page of the tree"));
+    }
+    let mut bytes = [0; 4096];
+    if store.read(page, &mut bytes).is_err() {
+        return Err(Fail::from("a store in memory"));
+    }
+    change(&mut bytes, how);
+    if store.write(page, &bytes).is_err() {
+        return Err(Fail::from("a store in memory"));
+    }
+    Ok(())
+}
+
+/// Puts `count` leaves of `n` records into the store, whose first records are 576 from each other.
+fn put_leaves(store: &mut MemStore, count: u32, n: usize) -> Result<(), Fail>
+    requires { n ≤ 144 }
+{
+    let mut first = 0;
+    for _ in 0..count {
+        put(store, &leaf(first, n))?;
+        first = first.wrapping_add(576);
+    }
+    Ok(())
+}
+
+impl Spoilt {
+    /// A tree of height 2 in 16 pages: the root is page 1, and the pages 2 to 4 are leaves of `n` records.
+    pub fn of_two_levels(alloc: Global, n: u32, page: u32, how: Spoil) -> Result<Spoilt, Fail>
+        requires { (1 ≤ n) × (n ≤ 144) }
+    {
+        let mut store = MemStore::new(alloc, 16)?;
+        put(&mut store, &inner(2, 2, 3, 0, 576))?;
+        put_leaves(&mut store, 3, n as usize)?;
+        spoil_page(&mut store, page, how)?;
+        if store.pages() != 16 {
+            return Err(Fail::from("16 pages"));
+        }
+        let tree = Tree {
+            root: 1,
+            height: 2,
+            records: 3 * n,
+        };
+        Ok(Spoilt { store, tree })
+    }
+
+    /// A tree of height 3 in 300 pages: the root is page 1, the pages 2 and 3 have 127 children each, and the pages from 4
+    /// on are leaves of 72 records.
+    pub fn of_three_levels(alloc: Global, page: u32, how: Spoil) -> Result<Spoilt, Fail> {
+        let mut store = MemStore::new(alloc, 300)?;
+        put(&mut store, &inner(3, 2, 2, 0, 73152))?;
+        put(&mut store, &inner(2, 4, 127, 0, 576))?;
+        put(&mut store, &inner(2, 131, 127, 73152, 576))?;
+        put_leaves(&mut store, 254, 72)?;
+        spoil_page(&mut store, page, how)?;
+        if store.pages() != 300 {
+            return Err(Fail::from("300 pages"));
+        }
+        let tree = Tree {
+            root: 1,
+            height: 3,
+            records: 18288,
+        };
+        Ok(Spoilt { store, tree })
+    }
+
+    /// Why a look-up of an item stops.
+    fn get(self, n: u32) -> Option<Stop> {
+        let Spoilt { mut store, tree } = self;
+        tree.get(&mut store, &key(n)).err()
+    }
+
+    /// Why a floor stops.
+    fn floor(self, n: u32) -> Option<Stop> {
+        let Spoilt { mut store, tree } = self;
+        tree.floor(&mut store, &key(n)).err()
+    }
+
+    /// Why a range from an item to another stops.
+    pub fn range(self, alloc: Global, low: u32, high: u32) -> Option<Stop> {
+        let Spoilt { mut store, tree } = self;
+        tree.range(alloc, &mut store, &key(low), &key(high), u32::MAX)
+            .err()
+    }
+
+    /// Why the insertion of an item stops.
+    fn insert(self, n: u32) -> Option<Stop> {
+        let Spoilt {
+            mut store,
+            mut tree,
+        } = self;
+        tree.insert(&mut store, &record(n)).err()
+    }
+
+    /// Why the removal of an item stops.
+    fn remove(self, n: u32) -> Option<Stop> {
+        let Spoilt {
+            mut store,
+            mut tree,
+        } = self;
+        tree.remove(&mut store, &key(n)).err()
+    }
+
+    /// Why the insertion of two items stops.
+    fn insert_all(self, rt: &impl Abort, first: u32, last: u32) -> Option<Stop> {
+        let Spoilt {
+            mut store,
+            mut tree,
+        } = self;
+        let run = [record(first), record(last)];
+        assert!(rt; records_ascend(&run));
+        tree.insert_all(&mut store, &run).err()
+    }
+
+    /// Why the removal of two items stops.
+    fn remove_all(self, rt: &impl Abort, first: u32, last: u32) -> Option<Stop> {
+        let Spoilt {
+            mut store,
+            mut tree,
+        } = self;
+        let run = [key(first), key(last)];
+        assert!(rt; keys_ascend(&run));
+        tree.remove_all(&mut store, &run).err()
+    }
+
+    /// Why a call stops at an item that the tree would have, or inserts one behind it: `get`, `floor`, `range`, `insert`,
+    /// `remove`, `insert_all` and `remove_all`.
+    pub fn stops(self, rt: &impl Abort, alloc: Global, call: usize, n: u32) -> Option<Stop> {
+        match call {
+            0 => self.get(n),
+            1 => self.floor(n),
+            2 => self.range(alloc, n, n.wrapping_add(8)),
+            3 => self.insert(n.wrapping_add(1)),
+            4 => self.remove(n),
+            5 => self.insert_all(rt, n.wrapping_add(1), n.wrapping_add(2)),
+            _ => self.remove_all(rt, n, n.wrapping_add(4)),
+        }
+    }
+
+    /// Inserts an item, finds it, and removes it.
+    pub fn edits(self, rt: &impl Abort, n: u32) -> Result<(), Fail> {
+        let Spoilt {
+            mut store,
+            mut tree,
+        } = self;
+        assert!(rt; tree.insert(&mut store, &record(n))?);
+        assert!(rt; tree.get(&mut store, &key(n))? == Some([7; 16]));
+        assert!(rt; tree.remove(&mut store, &key(n))?);
+        assert!(rt; tree.get(&mut store, &key(n))?.is_none());
+        Ok(())
+    }
+
+    /// Inserts two items, finds the last, and removes both.
+    pub fn runs(self, rt: &impl Abort, first: u32, last: u32) -> Result<(), Fail> {
+        let Spoilt {
+            mut store,
+            mut tree,
+        } = self;
+        let run = [record(first), record(last)];
+        assert!(rt; records_ascend(&run));
+        tree.insert_all(&mut store, &run)?;
+        assert!(rt; tree.floor(&mut store, &key(last))? == Some(record(last)));
+        let keys = [key(first), key(last)];
+        assert!(rt; keys_ascend(&keys));
+        tree.remove_all(&mut store, &keys)?;
+        Ok(())
+    }
+}
