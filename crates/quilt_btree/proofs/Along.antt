@@ -6,7 +6,7 @@ use Rattle.quilt_node.specs.Tree.{Bounds}
 use Rattle.quilt_types.specs.declared.stop.Stop.{Stop}
 use Rattle.quilt_btree.specs.Stops.{IsSound}
 use Rattle.quilt_btree.specs.Edits.{CanInsert, DidInsert}
-use Rattle.quilt_btree.specs.declared.inserted.Inserted.{Inserted}
+use Rattle.quilt_btree.specs.declared.outcomes.Inserted.{Inserted}
 
 -- the same pages, the same of them free, and as many
 pub record IsSame (told then_told : Option (List (List ℕ))) (free then_free : ℕ → Bool) (size then_size : ℕ) : Type 0 where

@@ -4,7 +4,7 @@ use Rattle.quilt_node.specs.Pages.{Inner, inner_of}
 use Rattle.quilt_node.specs.Nodes.{are_pages}
 use Rattle.quilt_node.specs.Edits.{without_child}
 use Rattle.quilt_store.specs.Store.{Tells}
-use Rattle.quilt_btree.specs.Mending.{Writes}
+use Rattle.quilt_btree.specs.Rebalancing.{Writes}
 use Rattle.quilt_btree.proofs.LeafRemovals.{tells_on, all_removed, one_fewer}
 
 pub inner_written : (told now_told : Option (List (List ℕ))) (size page : ℕ) (inner : Inner) (bytes : List ℕ) → IfSome told (λ l. length l ≡ size) → Tells (λ old new. new ≡ slice_set old page bytes) told now_told

@@ -7,10 +7,10 @@ use Rattle.quilt_record.specs.declared.record.Record.{Record}
 use Rattle.quilt_node.specs.Pages.{Inner}
 use Rattle.quilt_node.specs.Nodes.{IsPlace, IsFound, IsGap}
 use Rattle.quilt_btree.specs.declared.tree.Tree.{Tree}
-use Rattle.quilt_btree.specs.declared.inserted.Inserted.{Inserted}
-use Rattle.quilt_btree.specs.declared.inserted.Inserted.TheVariants.{There, Done, Split}
-use Rattle.quilt_btree.specs.declared.removed.Removed.{Removed}
-use Rattle.quilt_btree.specs.declared.removed.Removed.TheVariants as removed
+use Rattle.quilt_btree.specs.declared.outcomes.Inserted.{Inserted}
+use Rattle.quilt_btree.specs.declared.outcomes.Inserted.TheVariants.{There, Done, Split}
+use Rattle.quilt_btree.specs.declared.outcomes.Removed.{Removed}
+use Rattle.quilt_btree.specs.declared.outcomes.Removed.TheVariants as removed
 use Rattle.quilt_record.specs.Lists.{has_key}
 use Rattle.quilt_btree.specs.Outcomes.{was_there, was_found}
 use Rattle.quilt_btree.specs.Trees.{Spells, ReadsLeaf, ReadsInner, IsTree}
@@ -80,7 +80,7 @@ there_in_leaf (Ok o) told page height k one f = λ rs s. f height rs one s
 pub not_missing : (o : Removed) → (o ≡ removed.Missing → ⊥) → was_found o ≡ true
 not_missing removed.Missing h = absurd (h refl)
 not_missing removed.Done h = refl
-not_missing removed.Short h = refl
+not_missing removed.Underfull h = refl
 not_missing removed.Emptied h = refl
 not_missing (removed.Only child) h = refl
 

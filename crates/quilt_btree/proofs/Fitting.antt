@@ -11,7 +11,7 @@ use Rattle.quilt_record.proofs.Orders.{lt_le, lt_to_le}
 use Rattle.quilt_btree.proofs.Rising.{all_follow}
 use Rattle.quilt_btree.proofs.Trees.{ascending_first, ascending_rest}
 use Rattle.quilt_btree.proofs.Dividing.{member}
-use Rattle.quilt_btree.proofs.Parting.{below_parting, ascending_behind}
+use Rattle.quilt_btree.proofs.Separators.{below_separator, ascending_behind}
 use Rattle.quilt_btree.proofs.Walks.{and_parts, and_both}
 
 abbrev pub are_under : Key → List Key → Bool
@@ -73,7 +73,7 @@ pub fits_there : (ks : List Key) (i : ℕ) (k : Key) → is_ascending ks ≡ tru
 fits_there ks i k a =
     both_ways (are_under k (take i ks) && are_over k (drop i ks)) (is_ascending (insert ks i k))
     (λ h. let t = and_parts (are_under k (take i ks)) (are_over k (drop i ks)) h in ascending_insert k ks i a t.0 t.1)
-    (λ h. and_both (are_under k (take i ks)) (are_over k (drop i ks)) (below_parting k (take i ks) (drop i ks) h) (ascending_first k (drop i ks) (ascending_behind (take i ks) (k ∷ drop i ks) h)))
+    (λ h. and_both (are_under k (take i ks)) (are_over k (drop i ks)) (below_separator k (take i ks) (drop i ks) h) (ascending_first k (drop i ks) (ascending_behind (take i ks) (k ∷ drop i ks) h)))
 
 pub fits_not : (ks : List Key) (i : ℕ) (k : Key) → is_ascending ks ≡ true → are_under k (take i ks) ≡ false → false ≡ is_ascending (insert ks i k)
 fits_not ks i k a h = sym (ap (λ b. b && are_over k (drop i ks)) h) ∙ fits_there ks i k a

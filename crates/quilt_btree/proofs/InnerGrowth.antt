@@ -10,15 +10,15 @@ use Rattle.quilt_node.specs.Tree.{Bounds, bounded, are_within}
 use Rattle.quilt_node.proofs.Ascending.{all_take, all_drop}
 use Rattle.quilt_store.specs.Store.{Tells, FreesOnly}
 use Rattle.quilt_btree.specs.Subtree.{Row, Subtree}
-use Rattle.quilt_btree.specs.Edits.{times, Becomes, Parted}
+use Rattle.quilt_btree.specs.Edits.{times, Becomes, Separated}
 use Rattle.quilt_btree.specs.Inserts.{IsPending, DidPut}
-use Rattle.quilt_btree.specs.declared.inserted.Inserted.TheVariants as inserted
+use Rattle.quilt_btree.specs.declared.outcomes.Inserted.TheVariants as inserted
 use Rattle.quilt_btree.proofs.Counts.{times-append}
 use Rattle.quilt_btree.proofs.Moves.{moves_order, used_not_free}
 use Rattle.quilt_btree.proofs.Rows.{row_parts}
 use Rattle.quilt_btree.proofs.Leaves.{cut_at}
 use Rattle.quilt_btree.proofs.Splices.{bounded_join, rows_stay, page_in, apart_above, parent_written}
-use Rattle.quilt_btree.proofs.Parting.{parted_at}
+use Rattle.quilt_btree.proofs.Separators.{separated_at}
 use Rattle.quilt_btree.proofs.LeafGrowth.{at_least}
 use Rattle.quilt_btree.proofs.Writes.{tells_at, TellsAll, all_told, both_written, both_same}
 
@@ -86,7 +86,7 @@ put_split told now_told free now size page new height inner left right key is_ro
     let cs = inner.children in
     let ks = inner.keys in
     let key_cut : ks ≡ take 126 ks ++ key ∷ drop 127 ks = cut_at ks 126 key h.parts in
-    let sides = parted_at b (take 126 ks) key (drop 127 ks) (subst (λ l. is_ascending l ≡ true) key_cut p.ascends) (subst (λ l. are_within b l ≡ true) key_cut p.within) in
+    let sides = separated_at b (take 126 ks) key (drop 127 ks) (subst (λ l. is_ascending l ≡ true) key_cut p.ascends) (subst (λ l. are_within b l ≡ true) key_cut p.within) in
     let long : length ks ≡ 254 = fewer (length cs) (length ks) h.full p.many in
     let left_long : length (take 127 cs) ≡ 127 = length-take-le 127 cs (at_most (length cs) h.full) in
     let keys_long : length (take 126 ks) ≡ 126 = length-take-le 126 ks (at_most_keys (length ks) long) in
@@ -99,7 +99,7 @@ put_split told now_told free now size page new height inner left right key is_ro
     let size_same : length news ≡ length pages = both.moves.size in
     let page_none = none_each page under row.rest_used row.first_used row.is_used (apart_above free under page p.apart) in
     let new_none = none_each new under row.rest_used row.first_used row.is_used (none_below (times new (under ++ page ∷ [])) (times new under) (times new (page ∷ [])) (times-append new under (page ∷ [])) both.unused) in
-    let parted : Parted pages news free now page (suc (suc p.below)) b (under ++ page ∷ []) all key new = record {
+    let separated : Separated pages news free now page (suc (suc p.below)) b (under ++ page ∷ []) all key new = record {
       first = row.first;
       rest = row.rest;
       first_uses = row.first_used ++ page ∷ [];
@@ -137,7 +137,7 @@ put_split told now_told free now size page new height inner left right key is_ro
       news = news;
       was = p.is_told;
       is = written.1 ∙ ap Some written.2;
-      done = subst (λ n. Parted pages news free now page n b (under ++ page ∷ []) all key new) (sym p.is_height ∙ tall) parted;
+      done = subst (λ n. Separated pages news free now page n b (under ++ page ∷ []) all key new) (sym p.is_height ∙ tall) separated;
     }
   where
     fewer : (c k : ℕ) → c ≡ 255 → c ≡ suc k → k ≡ 254

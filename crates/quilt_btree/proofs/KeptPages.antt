@@ -10,19 +10,19 @@ use Rattle.quilt_node.specs.Pages.{leaf_of}
 use Rattle.quilt_node.specs.Tree.{Bounds, Whole}
 use Rattle.quilt_store.specs.Store.{Tells, FreesOnly, count_free}
 use Rattle.quilt_btree.specs.declared.tree.Tree.{Tree}
-use Rattle.quilt_btree.specs.declared.inserted.Inserted.TheVariants as inserted
-use Rattle.quilt_btree.specs.declared.removed.Removed.TheVariants as removed
+use Rattle.quilt_btree.specs.declared.outcomes.Inserted.TheVariants as inserted
+use Rattle.quilt_btree.specs.declared.outcomes.Removed.TheVariants as removed
 use Rattle.quilt_record.specs.Lists.{has_key, put, without}
 use Rattle.quilt_btree.specs.Stops.{IsSound}
 use Rattle.quilt_btree.specs.Subtree.{Subtree}
 use Rattle.quilt_btree.specs.Trees.{IsRooted}
 use Rattle.quilt_btree.specs.Edits.{times, account, Moves, Becomes, CanEdit, CanInsert, HasItsPages}
-use Rattle.quilt_btree.specs.Mending.{HasGiven}
+use Rattle.quilt_btree.specs.Rebalancing.{HasGiven}
 use Rattle.quilt_btree.proofs.Counts.{times_here}
 use Rattle.quilt_btree.proofs.Density.{third_filled}
 use Rattle.quilt_btree.proofs.LeafRemovals.{tells_on}
 use Rattle.quilt_btree.proofs.Moves.{AreApart, apart_then, moves_then, moves_taken, moves_written, used_account, used_not_free}
-use Rattle.quilt_btree.proofs.Shorts.{page_used}
+use Rattle.quilt_btree.proofs.Underfulls.{page_used}
 use Rattle.quilt_btree.proofs.Trees.{subtree_rises}
 use Rattle.quilt_btree.proofs.Whole.{no_records}
 use Rattle.quilt_btree.proofs.Withouts.{without_missing, without_one_fewer, without_none}
@@ -127,10 +127,10 @@ kept_low r told now_told free now size t rs key right few most tall f room numbe
     let ne : t.height ≢ 0 = omega arith in
     let a = at_root told free t rs ne w in
     let did = f true everywhere rs a.used (insert_can told free size t r.key rs room a) in
-    let parted = did.done.1 in
-    let left = third_filled did.news (t.root, record { low = everywhere.low; high = Some key }) parted.first parted.first_uses (subst (λ h. Subtree did.news h false (t.root, record { low = everywhere.low; high = Some key }) parted.first parted.first_uses) tall parted.is_left) in
-    let last = third_filled did.news (right, record { low = Some key; high = everywhere.high }) parted.rest parted.rest_uses (subst (λ h. Subtree did.news h false (right, record { low = Some key; high = everywhere.high }) parted.rest parted.rest_uses) tall parted.is_right) in
-    too_many size (length (put r rs)) (length parted.first) (length parted.rest) t.records (ap length parted.records ∙ length-append parted.first parted.rest) (more (length (put r rs)) (length rs) t.records (length-put r rs) number) left last few most
+    let separated = did.done.1 in
+    let left = third_filled did.news (t.root, record { low = everywhere.low; high = Some key }) separated.first separated.first_uses (subst (λ h. Subtree did.news h false (t.root, record { low = everywhere.low; high = Some key }) separated.first separated.first_uses) tall separated.is_left) in
+    let last = third_filled did.news (right, record { low = Some key; high = everywhere.high }) separated.rest separated.rest_uses (subst (λ h. Subtree did.news h false (right, record { low = Some key; high = everywhere.high }) separated.rest separated.rest_uses) tall separated.is_right) in
+    too_many size (length (put r rs)) (length separated.first) (length separated.rest) t.records (ap length separated.records ∙ length-append separated.first separated.rest) (more (length (put r rs)) (length rs) t.records (length-put r rs) number) left last few most
   where
     more : (a b n : ℕ) → a ≡ suc b → b ≡ n → a ≡ n + 1
     more a b n e f = omega arith
@@ -167,9 +167,9 @@ out_done k told now_told free now t rs ne f w =
     let did = f true everywhere rs a.used a.can in
     became k told now_told free now t rs a did.1.pages did.1.news ne did.1.is did.1.left
 
-pub out_short : (k : Key) (told now_told : Option (List (List ℕ))) (free now : ℕ → Bool) (t : Tree) (rs : List Record) → t.height ≢ 0 → removals.UnderRoot k told now_told free now t removed.Short
+pub out_underfull : (k : Key) (told now_told : Option (List (List ℕ))) (free now : ℕ → Bool) (t : Tree) (rs : List Record) → t.height ≢ 0 → removals.UnderRoot k told now_told free now t removed.Underfull
     → HasItsPages told free t rs → HasItsPages now_told now (record { root = t.root; height = t.height; records = t.records - 1 }) (without k rs)
-out_short k told now_told free now t rs ne f w =
+out_underfull k told now_told free now t rs ne f w =
     let a = at_root told free t rs ne w in
     let did = f true everywhere rs a.used a.can in
     let left = did.1.left in
@@ -218,8 +218,8 @@ two_done k told now_told free now t rs ne f number w =
     let did = f true everywhere rs a.used a.can in
     removals.two_left did.1.news t.height true (t.root, everywhere) (without k rs) did.1.left.uses t.records did.1.left.subtree (exact told free t rs k a number did.0)
 
-pub two_short : (k : Key) (told now_told : Option (List (List ℕ))) (free now : ℕ → Bool) (t : Tree) (rs : List Record) → t.height ≢ 0 → removals.UnderRoot k told now_told free now t removed.Short → length rs ≡ t.records → HasItsPages told free t rs → 2 ≤ t.records
-two_short k told now_told free now t rs ne f number w =
+pub two_underfull : (k : Key) (told now_told : Option (List (List ℕ))) (free now : ℕ → Bool) (t : Tree) (rs : List Record) → t.height ≢ 0 → removals.UnderRoot k told now_told free now t removed.Underfull → length rs ≡ t.records → HasItsPages told free t rs → 2 ≤ t.records
+two_underfull k told now_told free now t rs ne f number w =
     let a = at_root told free t rs ne w in
     let did = f true everywhere rs a.used a.can in
     let left = did.1.left in

@@ -13,15 +13,15 @@ use Rattle.quilt_node.specs.Tree.{Bounds, is_above, is_below, are_within}
 use Rattle.quilt_node.proofs.Ascending.{ascending_insert, all_take, all_drop}
 use Rattle.quilt_store.specs.Store.{Tells, FreesOnly}
 use Rattle.quilt_record.specs.Lists.{has_key, put}
-use Rattle.quilt_btree.specs.Edits.{times, Moves, Becomes, Parted, CanInsert, DidInsert}
-use Rattle.quilt_btree.specs.declared.inserted.Inserted.TheVariants as inserted
+use Rattle.quilt_btree.specs.Edits.{times, Moves, Becomes, Separated, CanInsert, DidInsert}
+use Rattle.quilt_btree.specs.declared.outcomes.Inserted.TheVariants as inserted
 use Rattle.quilt_btree.proofs.Counts.{times_here}
 use Rattle.quilt_btree.proofs.Moves.{moves_written, used_account}
 use Rattle.quilt_btree.proofs.Rising.{all_append, map_all}
 use Rattle.quilt_btree.proofs.Trees.{leaf_list, keys_append}
 use Rattle.quilt_btree.specs.Trees.{ReadsLeaf, Spells}
 use Rattle.quilt_btree.proofs.Leaves.{put_gap, gap_any, found_any, same_le}
-use Rattle.quilt_btree.proofs.Parting.{parted_at}
+use Rattle.quilt_btree.proofs.Separators.{separated_at}
 use Rattle.quilt_btree.proofs.Walks.{and_parts, and_both}
 use Rattle.quilt_btree.proofs.Writes.{tells_at, TellsAll, all_told, both_written}
 
@@ -131,7 +131,7 @@ halves b xs n start a w h =
     let rest = begins_with (drop n xs) start h in
     let cut : keys_of xs ≡ keys_of (take n xs) ++ start.key ∷ keys_of rest.0 =
     ap keys_of (sym (take-append-drop n xs)) ∙ keys_append (take n xs) (drop n xs) ∙ ap (λ l. keys_of (take n xs) ++ keys_of l) rest.1 in
-    let parts = parted_at b (keys_of (take n xs)) start.key (keys_of rest.0) (subst (λ l. is_ascending l ≡ true) cut a) (subst (λ l. are_within b l ≡ true) cut w) in
+    let parts = separated_at b (keys_of (take n xs)) start.key (keys_of rest.0) (subst (λ l. is_ascending l ≡ true) cut a) (subst (λ l. are_within b l ≡ true) cut w) in
     record {
       above = parts.above;
       below = parts.below;
@@ -160,7 +160,7 @@ leaf_split told now_told free now size page new i r left right key start is_root
     let long : length xs ≡ 145 = length_insert rs i r is.gap.in_range ∙ ap suc h.full in
     let first_many : 72 ≤ length (take 72 xs) = enough_left (length xs) (length (take 72 xs)) long (length-take-le 72 xs (most (length xs) long)) in
     let rest_many : 72 ≤ length (drop 72 xs) = enough_right (length xs) (length (drop 72 xs)) long (length-drop 72 xs) in
-    let parted : Parted pages news free now page 1 b used xs key new = record {
+    let separated : Separated pages news free now page 1 b used xs key new = record {
       first = take 72 xs;
       rest = drop 72 xs;
       first_uses = page ∷ [];
@@ -177,7 +177,7 @@ leaf_split told now_told free now size page new i r left right key start is_root
       news = news;
       was = told_is;
       is = written.1 ∙ ap Some written.2;
-      done = (gap_any r.key rs i is.gap, subst (λ l. Parted pages news free now page 1 b used l key new) (put_gap r rs i is.gap) parted);
+      done = (gap_any r.key rs i is.gap, subst (λ l. Separated pages news free now page 1 b used l key new) (put_gap r rs i is.gap) separated);
     }
   where
     first : (t : ℕ) → t ≡ 1 + 0 → 1 ≤ t

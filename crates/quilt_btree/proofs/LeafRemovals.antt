@@ -8,7 +8,7 @@ use Rattle.quilt_node.specs.Pages.{leaf_of}
 use Rattle.quilt_node.specs.Nodes.{IsFound, IsGap}
 use Rattle.quilt_node.specs.Tree.{Bounds, are_within, is_above, is_below}
 use Rattle.quilt_store.specs.Store.{Tells}
-use Rattle.quilt_btree.specs.declared.removed.Removed.TheVariants as removed
+use Rattle.quilt_btree.specs.declared.outcomes.Removed.TheVariants as removed
 use Rattle.quilt_record.specs.Lists.{has_key, without}
 use Rattle.quilt_btree.specs.Subtree.{Subtree}
 use Rattle.quilt_btree.specs.Trees.{Spells, ReadsLeaf}
@@ -188,10 +188,10 @@ one_fewer [] i h = absurd (omega arith)
 one_fewer (x ∷ xs) zero h = refl
 one_fewer (x ∷ xs) (suc i) h = ap suc (one_fewer xs i (omega arith))
 
-pub leaf_short : (k : Key) (told mid now_told : Option (List (List ℕ))) (free now : ℕ → Bool) (page height size i : ℕ) (is_root : Bool) (b : Bounds) (rs leaf all : List Record) (used bytes : List ℕ)
+pub leaf_underfull : (k : Key) (told mid now_told : Option (List (List ℕ))) (free now : ℕ → Bool) (page height size i : ℕ) (is_root : Bool) (b : Bounds) (rs leaf all : List Record) (used bytes : List ℕ)
     → height ≡ 1 → LeafCut k told mid now_told free now page size i leaf all bytes → CanEdit told free page height is_root b rs used
-    → DidRemove k told now_told free now page height is_root b rs used removed.Short
-leaf_short k told mid now_told free now page height size i is_root b rs leaf all used bytes one c can =
+    → DidRemove k told now_told free now page height is_root b rs used removed.Underfull
+leaf_underfull k told mid now_told free now page height size i is_root b rs leaf all used bytes one c can =
     let can1 = subst (λ h. CanEdit told free page h is_root b rs used) one can in
     let a = leaf_after k told mid now_told free now page size i is_root true b rs leaf all used bytes c refl can1 in
     let same = leaf_same told free page is_root b rs leaf used can1 c.reads in
@@ -201,7 +201,7 @@ leaf_short k told mid now_told free now page height size i is_root b rs leaf all
     let many = not_root is_root 72 (length rs) s.enough r in
     let is : ss ≡ all = some_same ss all (sym e ∙ a.page_is) in
     subst (λ l. 71 ≤ length l) (sym is) (less (length all) (length rs) fewer many) in
-    subst (λ h. DidRemove k told now_told free now page h is_root b rs used removed.Short) (sym one)
+    subst (λ h. DidRemove k told now_told free now page h is_root b rs used removed.Underfull) (sym one)
     (a.had, record { pages = a.pages; news = a.news; was = a.was; is = a.is; left = (nearly, a.becomes) })
   where
     less : (m n : ℕ) → suc m ≡ n → 72 ≤ n → 71 ≤ m

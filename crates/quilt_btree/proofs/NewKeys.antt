@@ -1,4 +1,4 @@
--- A key between two neighbours takes the place of the one that parted them.
+-- A key between two neighbours takes the place of the one that separated them.
 use Rattle.std.proofs.Common.{◌≡◌, ℕ, true, false, ◌&&◌, List, [], ◌∷◌, ◌++◌, map, Option, Some, refl, subst}
 use Rattle.std.specs.List.{list_all}
 use Rattle.std.specs.Ordering.{is_lt, is_le}

@@ -2,7 +2,7 @@
 use Rattle.std.proofs.Common.{◌≡◌, ◌≢◌, ℕ, ◌+◌, ◌<◌, ◌≤◌, Bool, true, false, List, [], ◌∷◌, length, slice_index_or, slice_set, sym, ◌∙◌, subst, arith, length-set, get_or-set_other, get_or-set_same}
 use Rattle.quilt_store.specs.Store.{FreesOnly}
 use Rattle.quilt_btree.specs.Edits.{times, account, Moves}
-use Rattle.quilt_btree.specs.Mending.{HasGiven}
+use Rattle.quilt_btree.specs.Rebalancing.{HasGiven}
 use Rattle.quilt_btree.proofs.Counts.{times_here}
 use Rattle.quilt_btree.proofs.Moves.{AreApart, moves_among, moves_then, moves_written, moves_given, used_account, stays_on, apart_some, used_not_free}
 use Rattle.quilt_btree.proofs.Rows.{SameOn}

@@ -24,8 +24,8 @@ take_next xs i x h = ap (λ n. take n xs) (add-one i) ∙ next xs i x h
     next (y ∷ xs) zero x h = let same : y ≡ x = cc in ap (λ z. z ∷ []) same
     next (y ∷ xs) (suc i) x h = ap (λ l. y ∷ l) (next xs i x h)
 
-short_take : {X : Type 0} (n : ℕ) (xs : List X) → length (take n xs) < n → length xs < n
-short_take n xs h = shorter n (length xs) (subst (λ m. m < n) (length-take n xs) h)
+underfull_take : {X : Type 0} (n : ℕ) (xs : List X) → length (take n xs) < n → length xs < n
+underfull_take n xs h = shorter n (length xs) (subst (λ m. m < n) (length-take n xs) h)
   where
     shorter : (n m : ℕ) → min n m < n → m < n
     shorter n m h = omega arith
@@ -33,7 +33,7 @@ short_take n xs h = shorter n (length xs) (subst (λ m. m < n) (length-take n xs
 -- one more, where there is room
 pub take_push : {X : Type 0} (n : ℕ) (xs : List X) (x : X) → length (take n xs) < n → take n (xs ++ x ∷ []) ≡ take n xs ++ x ∷ []
 take_push n xs x h =
-    let short = short_take n xs h in
+    let underfull = underfull_take n xs h in
     let long : length (xs ++ x ∷ []) ≤ n = let e = length-append xs (x ∷ []) in omega arith in
     take_all n (xs ++ x ∷ []) long ∙ ap (λ l. l ++ x ∷ []) (sym (take_all n xs (omega arith)))
 

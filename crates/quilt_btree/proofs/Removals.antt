@@ -7,14 +7,14 @@ use Rattle.quilt_node.specs.Pages.{Inner, inner_of}
 use Rattle.quilt_node.specs.Nodes.{IsPlace}
 use Rattle.quilt_node.specs.Tree.{Bounds, bounded, are_within}
 use Rattle.quilt_types.specs.declared.stop.Stop.{Stop}
-use Rattle.quilt_btree.specs.declared.removed.Removed.{Removed}
-use Rattle.quilt_btree.specs.declared.removed.Removed.TheVariants as removed
+use Rattle.quilt_btree.specs.declared.outcomes.Removed.{Removed}
+use Rattle.quilt_btree.specs.declared.outcomes.Removed.TheVariants as removed
 use Rattle.quilt_record.specs.Lists.{has_key, without}
 use Rattle.quilt_btree.specs.Stops.{IsSound}
 use Rattle.quilt_btree.specs.Subtree.{Row, Subtree}
 use Rattle.quilt_btree.specs.Trees.{ReadsInner}
 use Rattle.quilt_btree.specs.Edits.{times, Moves, Becomes, IsNearlyFull, CanEdit, HasLeft, DidLeave, DidRemove}
-use Rattle.quilt_btree.specs.Mending.{Partly, HasShort}
+use Rattle.quilt_btree.specs.Rebalancing.{Partly, HasUnderfull}
 use Rattle.quilt_btree.proofs.Counts.{times-append, times-three, self_test}
 use Rattle.quilt_btree.proofs.Moves.{AreApart, apart_some, apart_then, moves_then}
 use Rattle.quilt_btree.proofs.Splices.{parent_stays, becomes_then}
@@ -24,7 +24,7 @@ use Rattle.quilt_btree.proofs.Places.{front, from_keys, tail_places, bounded_at,
 use Rattle.quilt_btree.proofs.Descents.{child_bounds, LeadsDown, leads_down, place_in, cut_children, as_long}
 use Rattle.quilt_btree.proofs.Descending.{height_above}
 use Rattle.quilt_btree.proofs.Middles.{middle_changed}
-use Rattle.quilt_btree.proofs.Shorts.{any_root}
+use Rattle.quilt_btree.proofs.Underfulls.{any_root}
 
 -- a subtree above the leaves, with the child to which the key leads
 pub record AtInner (told : Option (List (List ℕ))) (free : ℕ → Bool) (page height : ℕ) (inner : Inner) (i : ℕ) (k : Key) (is_root : Bool) (b : Bounds) (rs : List Record) (used : List ℕ) : Type 0 where
@@ -194,36 +194,36 @@ done_child k told mid between free was then page height child i inner c f is_roo
       },
     )
 
-to_partly : (pages : List (List ℕ)) (h short : ℕ) (c : ℕ × Bounds) (ss : List Record) (u : List ℕ) → Subtree pages (suc h) false c ss u → Partly pages (suc h) short c ss u
-to_partly pages h short c ss u s = any_root pages (suc h) (c.0 == short) c ss u s
+to_partly : (pages : List (List ℕ)) (h underfull : ℕ) (c : ℕ × Bounds) (ss : List Record) (u : List ℕ) → Subtree pages (suc h) false c ss u → Partly pages (suc h) underfull c ss u
+to_partly pages h underfull c ss u s = any_root pages (suc h) (c.0 == underfull) c ss u s
 
--- the page with its child short
-pub record ShortChild (k : Key) (between : Option (List (List ℕ))) (free then : ℕ → Bool) (page height i : ℕ) (inner : Inner) (is_root : Bool) (b : Bounds) (rs : List Record) (used : List ℕ) (pages : List (List ℕ)) : Type 0 where
+-- the page with its child underfull
+pub record UnderfullChild (k : Key) (between : Option (List (List ℕ))) (free then : ℕ → Bool) (page height i : ℕ) (inner : Inner) (is_root : Bool) (b : Bounds) (rs : List Record) (used : List ℕ) (pages : List (List ℕ)) : Type 0 where
   pub more : List ℕ
   pub mids : List (List ℕ)
   pub is : between ≡ Some mids
   pub had : list_any (has_key k) rs ≡ true
-  pub short : HasShort between then page height inner i is_root b (without k rs) more
+  pub underfull : HasUnderfull between then page height inner i is_root b (without k rs) more
   pub moves : Moves pages mids free then used more
 
-pub short_child : (k : Key) (told mid between : Option (List (List ℕ))) (free was then : ℕ → Bool) (page height child i : ℕ) (inner : Inner) → ChildEdited k told mid free was page height child i inner
-    → Removes k mid between was then child (height - 1) removed.Short
-    → (is_root : Bool) (b : Bounds) (rs : List Record) (used : List ℕ) → (can : CanEdit told free page height is_root b rs used) → ShortChild k between free then page height i inner is_root b rs used can.pages
+pub underfull_child : (k : Key) (told mid between : Option (List (List ℕ))) (free was then : ℕ → Bool) (page height child i : ℕ) (inner : Inner) → ChildEdited k told mid free was page height child i inner
+    → Removes k mid between was then child (height - 1) removed.Underfull
+    → (is_root : Bool) (b : Bounds) (rs : List Record) (used : List ℕ) → (can : CanEdit told free page height is_root b rs used) → UnderfullChild k between free then page height i inner is_root b rs used can.pages
 unfolding child_left
-short_child k told mid between free was then page height child i inner c f is_root b rs used can =
+underfull_child k told mid between free was then page height child i inner c f is_root b rs used can =
     let a = at_inner told free page height inner i k is_root b rs used c.some c.above c.reads c.place can in
     let at = a.down.at in
     let among = among_child told free page height i inner k is_root b rs used a in
-    let short = slice_index inner.children i in
+    let underfull = slice_index inner.children i in
     let did = f false (child_bounds inner b i) at.here at.here_used (child_edit told mid free was page height child i inner k is_root b rs used a c.is_mid c.is_free c.is_child) in
     let left = did.1.left in
     let l = child_left k told mid between free was then page height child i inner is_root true b rs used a c.is_mid c.is_free c.is_child did.1.pages did.1.news did.1.was did.1.is left.1 in
-    let nearly : IsNearlyFull l.news (suc a.below) short = subst (λ n. IsNearlyFull l.news (suc a.below) n) c.is_child (subst (λ n. IsNearlyFull l.news n child) (one_less height a.below a.is_height) (left.0 refl)) in
-    let T = Partly l.news (suc a.below) short in
-    let here : T (short, child_bounds inner b i) (without k at.here) l.uses = subst (λ r. Subtree l.news (suc a.below) r (short, child_bounds inner b i) (without k at.here) l.uses) (sym (self_test short)) l.subtree in
-    let changed = middle_changed T a.pages l.news free then a.below page (to_partly l.news a.below short) (front (take i inner.children) (take i inner.keys) b) ((short, child_bounds inner b i) ∷ [])
+    let nearly : IsNearlyFull l.news (suc a.below) underfull = subst (λ n. IsNearlyFull l.news (suc a.below) n) c.is_child (subst (λ n. IsNearlyFull l.news n child) (one_less height a.below a.is_height) (left.0 refl)) in
+    let T = Partly l.news (suc a.below) underfull in
+    let here : T (underfull, child_bounds inner b i) (without k at.here) l.uses = subst (λ r. Subtree l.news (suc a.below) r (underfull, child_bounds inner b i) (without k at.here) l.uses) (sym (self_test underfull)) l.subtree in
+    let changed = middle_changed T a.pages l.news free then a.below page (to_partly l.news a.below underfull) (front (take i inner.children) (take i inner.keys) b) ((underfull, child_bounds inner b i) ∷ [])
     (tail_places (drop (suc i) inner.children) (drop i inner.keys) (from_keys (take i inner.keys) b)) at.first (without k at.here) at.last at.first_used at.here_used at.last_used l.uses a.under (subst (AreApart free) a.is_used a.apart) at.is_used
-    at.row_before at.row_behind (row_one T (short, child_bounds inner b i) (without k at.here) l.uses here) l.moves in
+    at.row_before at.row_behind (row_one T (underfull, child_bounds inner b i) (without k at.here) l.uses here) l.moves in
     let row = subst (λ x. Row T x (at.first ++ (without k at.here ++ at.last)) changed.uses) (sym (places_cut inner b i a.in_range a.list.keys)) changed.row in
     let same : a.pages ≡ can.pages = some_same a.pages can.pages (sym a.is_told ∙ can.is_told) in
     let moves = subst (λ u. Moves a.pages l.news free then u (changed.uses ++ page ∷ [])) (sym a.is_used) changed.moves in
@@ -232,7 +232,7 @@ short_child k told mid between free was then page height child i inner c f is_ro
       mids = l.news;
       is = l.is;
       had = any_between k at.first at.here at.last rs among ∙ did.0;
-      short = record {
+      underfull = record {
         pages = l.news;
         is_told = l.is;
         below = a.below;
@@ -258,7 +258,7 @@ left_then : (pages mids news : List (List ℕ)) (free then now : ℕ → Bool) (
     → HasLeft mids news then now page height is_root b more all o → HasLeft pages news free now page height is_root b used all o
 left_then pages mids news free then now page height is_root b used more all removed.Missing ne m l = l
 left_then pages mids news free then now page height is_root b used more all removed.Done ne m l = becomes_then pages mids news free then now page height is_root b used more all m l
-left_then pages mids news free then now page height is_root b used more all removed.Short ne m l = (l.0, becomes_then pages mids news free then now page height true b used more all m l.1)
+left_then pages mids news free then now page height is_root b used more all removed.Underfull ne m l = (l.0, becomes_then pages mids news free then now page height true b used more all m l.1)
 left_then pages mids news free then now page height is_root b used more all removed.Emptied ne m l = absurd (ne l.is_leaf)
 left_then pages mids news free then now page height is_root b used more all (removed.Only child) ne m l =
     let c = l.1 in
@@ -284,28 +284,28 @@ removed_as : (k : Key) (told now_told : Option (List (List ℕ))) (free now : �
     → DidLeave told now_told free now page height is_root b used (without k rs) o → DidRemove k told now_told free now page height is_root b rs used o
 removed_as k told now_told free now page height is_root b rs used removed.Missing some had d = absurd (some refl)
 removed_as k told now_told free now page height is_root b rs used removed.Done some had d = (had, d)
-removed_as k told now_told free now page height is_root b rs used removed.Short some had d = (had, d)
+removed_as k told now_told free now page height is_root b rs used removed.Underfull some had d = (had, d)
 removed_as k told now_told free now page height is_root b rs used removed.Emptied some had d = (had, d)
 removed_as k told now_told free now page height is_root b rs used (removed.Only child) some had d = (had, d)
 
-pub mended_child : (r : Result Removed Stop) (k : Key) (told mid between now_told : Option (List (List ℕ))) (free was then now : ℕ → Bool) (page height child i : ℕ) (inner : Inner) → ChildEdited k told mid free was page height child i inner
-    → Removes k mid between was then child (height - 1) removed.Short → IfOk r (λ o. o ≡ removed.Missing → ⊥)
-    → IfOk r (λ o. (is_root : Bool) (b : Bounds) (rs : List Record) (used : List ℕ) → HasShort between then page height inner i is_root b rs used → DidLeave between now_told then now page height is_root b used rs o)
+pub rebalanced_child : (r : Result Removed Stop) (k : Key) (told mid between now_told : Option (List (List ℕ))) (free was then now : ℕ → Bool) (page height child i : ℕ) (inner : Inner) → ChildEdited k told mid free was page height child i inner
+    → Removes k mid between was then child (height - 1) removed.Underfull → IfOk r (λ o. o ≡ removed.Missing → ⊥)
+    → IfOk r (λ o. (is_root : Bool) (b : Bounds) (rs : List Record) (used : List ℕ) → HasUnderfull between then page height inner i is_root b rs used → DidLeave between now_told then now page height is_root b used rs o)
     → IfOk r (λ o. (is_root : Bool) (b : Bounds) (rs : List Record) (used : List ℕ) → CanEdit told free page height is_root b rs used → DidRemove k told now_told free now page height is_root b rs used o)
-mended_child (Err e) k told mid between now_told free was then now page height child i inner c f some l = l
-mended_child (Ok o) k told mid between now_told free was then now page height child i inner c f some l = λ is_root b rs used can.
-    let s = short_child k told mid between free was then page height child i inner c f is_root b rs used can in
+rebalanced_child (Err e) k told mid between now_told free was then now page height child i inner c f some l = l
+rebalanced_child (Ok o) k told mid between now_told free was then now page height child i inner c f some l = λ is_root b rs used can.
+    let s = underfull_child k told mid between free was then page height child i inner c f is_root b rs used can in
     removed_as k told now_told free now page height is_root b rs used o some s.had
-    (did_leave told between now_told free then now page height is_root b used s.more (without k rs) o can.pages s.mids c.above can.is_told s.is s.moves (l is_root b (without k rs) s.more s.short))
+    (did_leave told between now_told free then now page height is_root b used s.more (without k rs) o can.pages s.mids c.above can.is_told s.is s.moves (l is_root b (without k rs) s.more s.underfull))
 
-pub mended_sound : (r : Result Removed Stop) (k : Key) (told mid between : Option (List (List ℕ))) (free was then : ℕ → Bool) (page height child i : ℕ) (inner : Inner) → ChildEdited k told mid free was page height child i inner
-    → Removes k mid between was then child (height - 1) removed.Short
-    → IfErr r (λ e. (is_root : Bool) (b : Bounds) (rs : List Record) (used : List ℕ) → HasShort between then page height inner i is_root b rs used → IsSound e)
+pub rebalanced_sound : (r : Result Removed Stop) (k : Key) (told mid between : Option (List (List ℕ))) (free was then : ℕ → Bool) (page height child i : ℕ) (inner : Inner) → ChildEdited k told mid free was page height child i inner
+    → Removes k mid between was then child (height - 1) removed.Underfull
+    → IfErr r (λ e. (is_root : Bool) (b : Bounds) (rs : List Record) (used : List ℕ) → HasUnderfull between then page height inner i is_root b rs used → IsSound e)
     → IfErr r (λ e. (is_root : Bool) (b : Bounds) (rs : List Record) (used : List ℕ) → CanEdit told free page height is_root b rs used → IsSound e)
-mended_sound (Ok v) k told mid between free was then page height child i inner c f l = l
-mended_sound (Err e) k told mid between free was then page height child i inner c f l = λ is_root b rs used can.
-    let s = short_child k told mid between free was then page height child i inner c f is_root b rs used can in
-    l is_root b (without k rs) s.more s.short
+rebalanced_sound (Ok v) k told mid between free was then page height child i inner c f l = l
+rebalanced_sound (Err e) k told mid between free was then page height child i inner c f l = λ is_root b rs used can.
+    let s = underfull_child k told mid between free was then page height child i inner c f is_root b rs used can in
+    l is_root b (without k rs) s.more s.underfull
 
 -- no child is emptied, or has one child alone
 pub emptied_child : (e : Stop) (k : Key) (told mid between : Option (List (List ℕ))) (free was then : ℕ → Bool) (page height child i : ℕ) (inner : Inner) → ChildEdited k told mid free was page height child i inner

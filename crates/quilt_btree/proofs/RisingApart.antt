@@ -1,4 +1,4 @@
--- Keys that ascend within bounds are parted at one of them.
+-- Keys that ascend within bounds are separated at one of them.
 use Rattle.std.proofs.Common.{◌≡◌, true, ◌&&◌, List, [], ◌∷◌, ◌++◌, Some, refl}
 use Rattle.std.specs.List.{list_all}
 use Rattle.std.specs.Ordering.{is_lt, is_le}

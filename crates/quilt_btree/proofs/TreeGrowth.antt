@@ -19,9 +19,9 @@ use Rattle.quilt_record.specs.Lists.{has_key, put}
 use Rattle.quilt_btree.specs.Stops.{IsSound}
 use Rattle.quilt_btree.specs.Subtree.{Row, Subtree, IsFresh}
 use Rattle.quilt_btree.specs.Trees.{IsRooted, IsTree}
-use Rattle.quilt_btree.specs.Edits.{times, account, Moves, Parted, CanInsert, DidInsert, IsWhole}
-use Rattle.quilt_btree.specs.declared.inserted.Inserted.{Inserted}
-use Rattle.quilt_btree.specs.declared.inserted.Inserted.TheVariants as inserted
+use Rattle.quilt_btree.specs.Edits.{times, account, Moves, Separated, CanInsert, DidInsert, IsWhole}
+use Rattle.quilt_btree.specs.declared.outcomes.Inserted.{Inserted}
+use Rattle.quilt_btree.specs.declared.outcomes.Inserted.TheVariants as inserted
 use Rattle.quilt_btree.proofs.Counts.{times-append, once_from_fresh, fresh_from_once, times_here}
 use Rattle.quilt_btree.proofs.Density.{third_filled, root_is_dense, pages_left}
 use Rattle.quilt_btree.proofs.InnerGrowth.{IsWritten}
@@ -191,10 +191,10 @@ not_split r told now_told free now size t rs key right i tall f w =
     let ne : t.height ≢ 0 = omega arith in
     let x = insert_from told free size t rs i ne w in
     let did = f true everywhere rs x.used (whole_can told free size t.root t.height r.key rs i.rooted.height x) in
-    let parted = did.done.1 in
-    let left = third_filled did.news (t.root, record { low = None; high = Some key }) parted.first parted.first_uses (subst (λ h. Subtree did.news h false (t.root, record { low = None; high = Some key }) parted.first parted.first_uses) tall parted.is_left) in
-    let right = third_filled did.news (right, record { low = Some key; high = None }) parted.rest parted.rest_uses (subst (λ h. Subtree did.news h false (right, record { low = Some key; high = None }) parted.rest parted.rest_uses) tall parted.is_right) in
-    too_many size (length (put r rs)) (length parted.first) (length parted.rest) t.records (ap length parted.records ∙ length-append parted.first parted.rest) (more_records r rs t.records w.number) left right i.room i.most
+    let separated = did.done.1 in
+    let left = third_filled did.news (t.root, record { low = None; high = Some key }) separated.first separated.first_uses (subst (λ h. Subtree did.news h false (t.root, record { low = None; high = Some key }) separated.first separated.first_uses) tall separated.is_left) in
+    let right = third_filled did.news (right, record { low = Some key; high = None }) separated.rest separated.rest_uses (subst (λ h. Subtree did.news h false (right, record { low = Some key; high = None }) separated.rest separated.rest_uses) tall separated.is_right) in
+    too_many size (length (put r rs)) (length separated.first) (length separated.rest) t.records (ap length separated.records ∙ length-append separated.first separated.rest) (more_records r rs t.records w.number) left right i.room i.most
   where
     too_many : (n p a b m : ℕ) → p ≡ a + b → p ≡ m + 1 → 1161288 ≤ a → 1161288 ≤ b → m < quota n → n ≤ 30000 → ⊥
     too_many n p a b m e f g h few most = omega arith
@@ -242,32 +242,32 @@ pub record IsRegrown (pages : List (List ℕ)) (now_told : Option (List (List �
   pub moves : Moves pages news free now used uses
 
 pub regrown_split : (told mid_told now_told : Option (List (List ℕ))) (pages mids : List (List ℕ)) (free mid now : ℕ → Bool) (size : ℕ) (t : Tree) (all : List Record) (used : List ℕ) (key : Key) (right new : ℕ) (bytes : List ℕ) (h : ℕ)
-    → IsRooted size t → TellsAll told size → t.height ≡ suc h → told ≡ Some pages → mid_told ≡ Some mids → Parted pages mids free mid t.root t.height everywhere used all key right → AreApart free used
+    → IsRooted size t → TellsAll told size → t.height ≡ suc h → told ≡ Some pages → mid_told ≡ Some mids → Separated pages mids free mid t.root t.height everywhere used all key right → AreApart free used
     → IsNewRoot t mid_told now_told mid now size key right new bytes → IsRegrown pages now_told free now new (t.height + 1) used all
-regrown_split told mid_told now_told pages mids free mid now size t all used key right new bytes h rooted many tall was mid_is parted apart is =
+regrown_split told mid_told now_told pages mids free mid now size t all used key right new bytes h rooted many tall was mid_is separated apart is =
     let some : 1 ≤ t.height = omega arith in
     let S = Subtree mids (suc h) false in
-    let U = parted.rest_uses ++ parted.first_uses in
+    let U = separated.rest_uses ++ separated.first_uses in
     let inner : Inner = record { height = t.height + 1; children = t.root ∷ right ∷ []; keys = key ∷ [] } in
     let taller : t.height + 1 ≡ suc (suc h) = omega arith in
-    let left = subst (λ n. Subtree mids n false (t.root, record { low = None; high = Some key }) parted.first parted.first_uses) tall parted.is_left in
-    let last = subst (λ n. Subtree mids n false (right, record { low = Some key; high = None }) parted.rest parted.rest_uses) tall parted.is_right in
+    let left = subst (λ n. Subtree mids n false (t.root, record { low = None; high = Some key }) separated.first separated.first_uses) tall separated.is_left in
+    let last = subst (λ n. Subtree mids n false (right, record { low = Some key; high = None }) separated.rest separated.rest_uses) tall separated.is_right in
     let row : Row S (bounded (t.root ∷ right ∷ []) (key ∷ []) everywhere) all U = record {
-      first = parted.first;
-      rest = parted.rest;
-      first_used = parted.first_uses;
-      rest_used = parted.rest_uses;
+      first = separated.first;
+      rest = separated.rest;
+      first_used = separated.first_uses;
+      rest_used = separated.rest_uses;
       here = left;
-      after = row_one S (right, record { low = Some key; high = None }) parted.rest parted.rest_uses last;
-      records = parted.records;
+      after = row_one S (right, record { low = Some key; high = None }) separated.rest separated.rest_uses last;
+      records = separated.records;
       is_used = refl;
     } in
     let told_long : length pages ≡ size = if_some_at (λ pages. length pages ≡ size) told pages many was in
-    let long : length mids ≡ size = parted.moves.size ∙ told_long in
+    let long : length mids ≡ size = separated.moves.size ∙ told_long in
     let inside : new < length mids = subst (λ n. new < n) (sym long) is.new_in.1 in
     let root_in = rooted.tree some in
     let written = tells_at (λ old news. news ≡ slice_set old new bytes) mid_told now_told mids is.wrote mid_is in
-    let apart_mid = apart_then pages mids free mid used U parted.moves apart in
+    let apart_mid = apart_then pages mids free mid used U separated.moves apart in
     let taken = moves_order mids mids mid now U (new ∷ U) U (U ++ new ∷ []) (λ p. refl) (λ p. behind_all p new U) (moves_taken mids mid now U new is.was_free is.taken) in
     let apart_now = apart_then mids mids mid now U (U ++ new ∷ []) taken apart_mid in
     let grown = parent_written mids now h new true everywhere inner bytes U all inside (is.is_written (length mids) (two_pages (length mids) size t.root right long (root_in.0, root_in.1) is.right_in)) taller refl refl apart_now row in
@@ -277,7 +277,7 @@ regrown_split told mid_told now_told pages mids free mid now size t all used key
       is = written.1 ∙ ap Some written.2;
       uses = grown.uses;
       subtree = subst (λ n. Subtree news n true (new, everywhere) all grown.uses) (sym taller) grown.subtree;
-      moves = moves_then pages mids news free now now used (U ++ new ∷ []) grown.uses (moves_then pages mids mids free mid now used U (U ++ new ∷ []) parted.moves taken) grown.moves;
+      moves = moves_then pages mids news free now now used (U ++ new ∷ []) grown.uses (moves_then pages mids mids free mid now used U (U ++ new ∷ []) separated.moves taken) grown.moves;
     }
 
 pub whole_split : (r : Record) (told mid_told now_told : Option (List (List ℕ))) (free mid now : ℕ → Bool) (size : ℕ) (t : Tree) (rs : List Record) (key : Key) (right new : ℕ) (bytes : List ℕ) (h : ℕ) → IsInserting told free size t → t.height ≡ suc h

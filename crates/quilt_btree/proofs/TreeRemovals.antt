@@ -7,14 +7,14 @@ use Rattle.quilt_record.specs.declared.record.Record.{Record}
 use Rattle.quilt_node.specs.Tree.{Bounds, Whole, walk_of}
 use Rattle.quilt_store.specs.Store.{Tells, FreesOnly}
 use Rattle.quilt_btree.specs.declared.tree.Tree.{Tree}
-use Rattle.quilt_btree.specs.declared.removed.Removed.{Removed}
-use Rattle.quilt_btree.specs.declared.removed.Removed.TheVariants as removed
+use Rattle.quilt_btree.specs.declared.outcomes.Removed.{Removed}
+use Rattle.quilt_btree.specs.declared.outcomes.Removed.TheVariants as removed
 use Rattle.quilt_record.specs.Lists.{has_key, without}
 use Rattle.quilt_btree.specs.Stops.{IsSound}
 use Rattle.quilt_btree.specs.Subtree.{Subtree}
 use Rattle.quilt_btree.specs.Trees.{IsRooted}
 use Rattle.quilt_btree.specs.Edits.{times, account, Becomes, OnlyChild, CanEdit, DidRemove, IsWhole}
-use Rattle.quilt_btree.specs.Mending.{HasGiven}
+use Rattle.quilt_btree.specs.Rebalancing.{HasGiven}
 use Rattle.quilt_btree.proofs.Counts.{times-append, times_here, in_times}
 use Rattle.quilt_btree.proofs.Moves.{AreApart, moves_then, moves_given, moves_order, apart_then, used_not_free}
 use Rattle.quilt_btree.proofs.Rows.{SameOn, subtree_stays}
@@ -22,7 +22,7 @@ use Rattle.quilt_btree.proofs.Trees.{subtree_rises}
 use Rattle.quilt_btree.proofs.Whole.{no_records}
 use Rattle.quilt_btree.proofs.LeafRemovals.{tells_on}
 use Rattle.quilt_btree.proofs.Holdings.{subtree_some}
-use Rattle.quilt_btree.proofs.Shorts.{any_root, page_used}
+use Rattle.quilt_btree.proofs.Underfulls.{any_root, page_used}
 use Rattle.quilt_btree.proofs.TreeGrowth.{everywhere, FreeIn, IsRegrown, whole_from, whole_again}
 use Rattle.quilt_btree.proofs.Withouts.{without_missing, without_one_fewer, without_none}
 
@@ -94,9 +94,9 @@ whole_done k told now_told free now size t rs i f w =
     let did = f true everywhere rs a.used a.can in
     root_became k told now_told free now size t rs a did.1.pages did.1.news i.above did.0 did.1.is did.1.left
 
-pub whole_short : (k : Key) (told now_told : Option (List (List ℕ))) (free now : ℕ → Bool) (size : ℕ) (t : Tree) (rs : List Record) → IsRemoving free size t → UnderRoot k told now_told free now t removed.Short
+pub whole_underfull : (k : Key) (told now_told : Option (List (List ℕ))) (free now : ℕ → Bool) (size : ℕ) (t : Tree) (rs : List Record) → IsRemoving free size t → UnderRoot k told now_told free now t removed.Underfull
     → IsWhole told free size t rs → (true ≡ list_any (has_key k) rs) × IsWhole now_told now size (record { root = t.root; height = t.height; records = t.records - 1 }) (without k rs)
-whole_short k told now_told free now size t rs i f w =
+whole_underfull k told now_told free now size t rs i f w =
     let a = at_root told free size t rs i w in
     let did = f true everywhere rs a.used a.can in
     let left = did.1.left in
@@ -115,8 +115,8 @@ many_done k told now_told free now size t rs i f w =
     let did = f true everywhere rs a.used a.can in
     two_left did.1.news t.height true (t.root, everywhere) (without k rs) did.1.left.uses t.records did.1.left.subtree (a.exact k did.0)
 
-pub many_short : (k : Key) (told now_told : Option (List (List ℕ))) (free now : ℕ → Bool) (size : ℕ) (t : Tree) (rs : List Record) → IsRemoving free size t → UnderRoot k told now_told free now t removed.Short → IsWhole told free size t rs → 2 ≤ t.records
-many_short k told now_told free now size t rs i f w =
+pub many_underfull : (k : Key) (told now_told : Option (List (List ℕ))) (free now : ℕ → Bool) (size : ℕ) (t : Tree) (rs : List Record) → IsRemoving free size t → UnderRoot k told now_told free now t removed.Underfull → IsWhole told free size t rs → 2 ≤ t.records
+many_underfull k told now_told free now size t rs i f w =
     let a = at_root told free size t rs i w in
     let did = f true everywhere rs a.used a.can in
     let left = did.1.left in

@@ -19,8 +19,8 @@ use Rattle.quilt_btree.specs.Subtree.{Row, Subtree}
 use Rattle.quilt_btree.specs.Trees.{ReadsInner}
 use Rattle.quilt_btree.specs.Edits.{Moves, Becomes, HasInserted, CanInsert, DidInsert}
 use Rattle.quilt_btree.specs.Inserts.{HasPut, IsPending, DidPut}
-use Rattle.quilt_btree.specs.declared.inserted.Inserted.{Inserted}
-use Rattle.quilt_btree.specs.declared.inserted.Inserted.TheVariants as inserted
+use Rattle.quilt_btree.specs.declared.outcomes.Inserted.{Inserted}
+use Rattle.quilt_btree.specs.declared.outcomes.Inserted.TheVariants as inserted
 use Rattle.quilt_btree.proofs.Along.{IsSame, can_along, did_along}
 use Rattle.quilt_btree.proofs.Below.{IsBelow, go_below, cut_at_child, child_above, child_below}
 use Rattle.quilt_btree.proofs.Descents.{child_bounds}
@@ -166,7 +166,7 @@ pub under_takes : (r : Record) (told then_told now_told : Option (List (List ℕ
 under_takes r told then_told now_told free then_free now size then_size page height child i inner is_root b rs used key right l many in_range f can =
     let x = insert_below told then_told free then_free size then_size page height child i r.key inner is_root b rs used l can in
     let did = child_did r told then_told now_told free then_free now size then_size page height child i inner is_root b rs used (inserted.Split key right) l can x f in
-    let parted = did.done.1 in
+    let separated = did.done.1 in
     let all = put r x.at.here in
     let c = slice_index inner.children i in
     let cb = child_bounds inner b i in
@@ -174,20 +174,20 @@ under_takes r told then_told now_told free then_free now size then_size page hei
     let behind = tail_places (drop (suc i) inner.children) (drop i inner.keys) (from_keys (take i inner.keys) b) in
     let S = Subtree did.news (suc x.below) false in
     let places = two_places c right key cb in
-    let row : Row S places all (parted.rest_uses ++ parted.first_uses) = record {
-      first = parted.first;
-      rest = parted.rest;
-      first_used = parted.first_uses;
-      rest_used = parted.rest_uses;
-      here = parted.is_left;
-      after = row_one S (right, record { low = Some key; high = cb.high }) parted.rest parted.rest_uses parted.is_right;
-      records = parted.records;
+    let row : Row S places all (separated.rest_uses ++ separated.first_uses) = record {
+      first = separated.first;
+      rest = separated.rest;
+      first_used = separated.first_uses;
+      rest_used = separated.rest_uses;
+      here = separated.is_left;
+      after = row_one S (right, record { low = Some key; high = cb.high }) separated.rest separated.rest_uses separated.is_right;
+      records = separated.records;
       is_used = refl;
     } in
-    let moved = middle_moved x.pages did.news free now x.below page before ((c, cb) ∷ []) behind places rs x.under all (parted.rest_uses ++ parted.first_uses) x.apart x.at row parted.moves in
+    let moved = middle_moved x.pages did.news free now x.below page before ((c, cb) ∷ []) behind places rs x.under all (separated.rest_uses ++ separated.first_uses) x.apart x.at row separated.moves in
     let next = subst (λ (cs : List (ℕ × Bounds)). RowMoved x.pages did.news free now x.below page cs (x.at.first ++ (all ++ x.at.last)) x.under) (sym (bounded_next inner b i right key x.in_range x.list.keys)) moved in
     let fitting = is_fitting inner b i key x.list.ascends x.within
-    (λ low e. bounds_part did.news (suc x.below) false c low key cb.low parted.first parted.first_uses e parted.is_left) parted.low parted.high in
+    (λ low e. bounds_part did.news (suc x.below) false c low key cb.low separated.first separated.first_uses e separated.is_left) separated.low separated.high in
     let long : length did.news ≡ size = moved.moves.size ∙ if_some_at (λ pages. length pages ≡ size) told x.pages many x.is_told in
     let children_more : length (insert inner.children (suc i) right) ≡ length inner.children + 1 = length-insert inner.children (suc i) right (next_in i (length inner.children) x.in_range) in
     let keys_more : length (insert inner.keys i key) ≡ length inner.keys + 1 = length-insert inner.keys i key l.place.in_range in

@@ -7,10 +7,10 @@ use Rattle.quilt_node.specs.Pages.{Inner, leaf_of, inner_of}
 use Rattle.quilt_node.specs.Tree.{Bounds, is_above, is_below}
 use Rattle.quilt_store.specs.Store.{count_free}
 use Rattle.quilt_btree.specs.declared.tree.Tree.{Tree}
-use Rattle.quilt_btree.specs.declared.inserted.Inserted.{Inserted}
-use Rattle.quilt_btree.specs.declared.inserted.Inserted.TheVariants as inserted
-use Rattle.quilt_btree.specs.declared.removed.Removed.{Removed}
-use Rattle.quilt_btree.specs.declared.removed.Removed.TheVariants as removed
+use Rattle.quilt_btree.specs.declared.outcomes.Inserted.{Inserted}
+use Rattle.quilt_btree.specs.declared.outcomes.Inserted.TheVariants as inserted
+use Rattle.quilt_btree.specs.declared.outcomes.Removed.{Removed}
+use Rattle.quilt_btree.specs.declared.outcomes.Removed.TheVariants as removed
 use Rattle.quilt_record.specs.Lists.{has_key, put, without}
 use Rattle.quilt_btree.specs.Subtree.{Subtree}
 use Rattle.quilt_btree.specs.Trees.{IsTree}
@@ -36,8 +36,8 @@ pub record Becomes (pages news : List (List ℕ)) (free now : ℕ → Bool) (pag
   pub subtree : Subtree news height is_root (page, b) all uses
   pub moves : Moves pages news free now used uses
 
--- two subtrees spell it now, parted at a key
-pub record Parted (pages news : List (List ℕ)) (free now : ℕ → Bool) (page height : ℕ) (b : Bounds) (used : List ℕ) (all : List Record) (key : Key) (right : ℕ) : Type 0 where
+-- two subtrees spell it now, separated at a key
+pub record Separated (pages news : List (List ℕ)) (free now : ℕ → Bool) (page height : ℕ) (b : Bounds) (used : List ℕ) (all : List Record) (key : Key) (right : ℕ) : Type 0 where
   pub first : List Record
   pub rest : List Record
   pub first_uses : List ℕ
@@ -55,7 +55,7 @@ HasInserted r pages news free now page height is_root b rs used inserted.There =
 HasInserted r pages news free now page height is_root b rs used inserted.Done =
     (list_any (has_key r.key) rs ≡ false) × Becomes pages news free now page height is_root b used (put r rs)
 HasInserted r pages news free now page height is_root b rs used (inserted.Split key right) =
-    (list_any (has_key r.key) rs ≡ false) × Parted pages news free now page height b used (put r rs) key right
+    (list_any (has_key r.key) rs ≡ false) × Separated pages news free now page height b used (put r rs) key right
 
 -- A subtree in a store that tells its pages, none of them used twice or free.
 pub record CanEdit (told : Option (List (List ℕ))) (free : ℕ → Bool) (page height : ℕ) (is_root : Bool) (b : Bounds) (rs : List Record) (used : List ℕ) : Type 0 where
@@ -106,7 +106,7 @@ pub record IsEmptied (pages news : List (List ℕ)) (free now : ℕ → Bool) (p
 abbrev pub HasLeft : (pages news : List (List ℕ)) (free now : ℕ → Bool) → ℕ → ℕ → Bool → Bounds → List ℕ → List Record → Removed → Type 0
 HasLeft pages news free now page height is_root b used all removed.Missing = ⊥
 HasLeft pages news free now page height is_root b used all removed.Done = Becomes pages news free now page height is_root b used all
-HasLeft pages news free now page height is_root b used all removed.Short =
+HasLeft pages news free now page height is_root b used all removed.Underfull =
     (is_root ≡ false → IsNearlyFull news height page) × Becomes pages news free now page height true b used all
 HasLeft pages news free now page height is_root b used all removed.Emptied = IsEmptied pages news free now page height is_root used all
 HasLeft pages news free now page height is_root b used all (removed.Only child) =
@@ -125,8 +125,8 @@ abbrev pub DidRemove : Key → (told now_told : Option (List (List ℕ))) (free 
 DidRemove k told now_told free now page height is_root b rs used removed.Missing = list_any (has_key k) rs ≡ false
 DidRemove k told now_told free now page height is_root b rs used removed.Done =
     (list_any (has_key k) rs ≡ true) × DidLeave told now_told free now page height is_root b used (without k rs) removed.Done
-DidRemove k told now_told free now page height is_root b rs used removed.Short =
-    (list_any (has_key k) rs ≡ true) × DidLeave told now_told free now page height is_root b used (without k rs) removed.Short
+DidRemove k told now_told free now page height is_root b rs used removed.Underfull =
+    (list_any (has_key k) rs ≡ true) × DidLeave told now_told free now page height is_root b used (without k rs) removed.Underfull
 DidRemove k told now_told free now page height is_root b rs used removed.Emptied =
     (list_any (has_key k) rs ≡ true) × DidLeave told now_told free now page height is_root b used (without k rs) removed.Emptied
 DidRemove k told now_told free now page height is_root b rs used (removed.Only child) =
@@ -136,7 +136,7 @@ DidRemove k told now_told free now page height is_root b rs used (removed.Only c
 abbrev pub HasPageIn : ℕ → Removed → Type 0
 HasPageIn size removed.Missing = Unit {0}
 HasPageIn size removed.Done = Unit {0}
-HasPageIn size removed.Short = Unit {0}
+HasPageIn size removed.Underfull = Unit {0}
 HasPageIn size removed.Emptied = Unit {0}
 HasPageIn size (removed.Only child) = (1 ≤ child) × (child < size)
 

@@ -5,9 +5,9 @@ use Rattle.quilt_node.specs.Pages.{Inner, is_ascending}
 use Rattle.quilt_node.specs.Nodes.{are_pages}
 use Rattle.quilt_node.specs.Tree.{Bounds, bounded, are_within}
 use Rattle.quilt_btree.specs.Subtree.{Row, Subtree}
-use Rattle.quilt_btree.specs.Edits.{account, Becomes, Parted}
-use Rattle.quilt_btree.specs.declared.inserted.Inserted.{Inserted}
-use Rattle.quilt_btree.specs.declared.inserted.Inserted.TheVariants as inserted
+use Rattle.quilt_btree.specs.Edits.{account, Becomes, Separated}
+use Rattle.quilt_btree.specs.declared.outcomes.Inserted.{Inserted}
+use Rattle.quilt_btree.specs.declared.outcomes.Inserted.TheVariants as inserted
 
 -- a new page to the right is one from 1 on
 abbrev pub HasRight : ℕ → Inserted → Type 0
@@ -33,7 +33,7 @@ pub record IsPending (told : Option (List (List ℕ))) (free : ℕ → Bool) (pa
 abbrev pub HasPut : (pages news : List (List ℕ)) (free now : ℕ → Bool) → ℕ → ℕ → Bool → Bounds → List ℕ → List Record → Inserted → Type 0
 HasPut pages news free now page height is_root b used all inserted.There = ⊥
 HasPut pages news free now page height is_root b used all inserted.Done = Becomes pages news free now page height is_root b used all
-HasPut pages news free now page height is_root b used all (inserted.Split key right) = Parted pages news free now page height b used all key right
+HasPut pages news free now page height is_root b used all (inserted.Split key right) = Separated pages news free now page height b used all key right
 
 -- what the store told before and tells now
 pub record DidPut (told now_told : Option (List (List ℕ))) (free now : ℕ → Bool) (page height : ℕ) (is_root : Bool) (b : Bounds) (used : List ℕ) (all : List Record) (o : Inserted) : Type 0 where

@@ -14,15 +14,15 @@ ghost use Rattle.quilt_btree.specs.Stops.{HasStopCause, IsSound, NamesPage};
 ghost use Rattle.quilt_btree.specs.Trees.{Spells};
 ghost use Rattle.quilt_btree.specs.Edits.{CanInsert, DidInsert};
 ghost use Rattle.quilt_btree.specs.Inserts.{HasRight, IsPending, DidPut};
-ghost use Rattle.quilt_btree.specs.declared.inserted.Inserted.TheVariants.{There};
+ghost use Rattle.quilt_btree.specs.declared.outcomes.Inserted.TheVariants.{There};
 
-use crate::inserted::Inserted;
-use crate::mending::precedes;
+use crate::outcomes::Inserted;
 use crate::pages::{inner_high, read_leaf};
+use crate::rebalancing::precedes;
 use crate::searching::read_way;
 use crate::splitting::write_split;
 use crate::writing::write_page;
-use quilt_node::{InnerPage, LeafPage};
+use quilt_node::{InnerPage, LeafPage, MOST_CHILDREN, MOST_RECORDS};
 use quilt_record::{Key, Record};
 use quilt_store::PageStore;
 use quilt_types::Stop;
@@ -75,7 +75,7 @@ pub fn put_record<S: PageStore>(
     ensures later { S.later store.old store.new }
     ensures changed { S.changed store.new ≤ S.changed store.old + 2 }
 {
-    if leaf.len() < 144 {
+    if leaf.len() < MOST_RECORDS {
         leaf.insert(i, r);
         return match write_page(store, page, leaf.bytes()) {
             Err(e) => Err(e),
@@ -147,18 +147,18 @@ pub fn put_child<S: PageStore>(
             page: inner.child(i),
         });
     }
-    if inner.len() < 254 {
+    if inner.len() < MOST_CHILDREN {
         inner.insert(i, key, child);
         return match write_page(store, page, inner.bytes()) {
             Err(e) => Err(e),
             Ok(()) => Ok(Inserted::Done),
         };
     }
-    let (parting, right) = inner.insert_split(i, key, child);
+    let (separator, right) = inner.insert_split(i, key, child);
     match write_split(store, page, inner.bytes(), right.bytes()) {
         Err(e) => Err(e),
         Ok(new) => Ok(Inserted::Split {
-            key: parting,
+            key: separator,
             right: new,
         }),
     }

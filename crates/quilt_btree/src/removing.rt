@@ -5,21 +5,20 @@ ghost use Rattle.quilt_node.specs.Pages.{is_ascending};
 ghost use Rattle.quilt_node.specs.Nodes.{are_pages};
 ghost use Rattle.quilt_node.specs.Edits.{with_key};
 ghost use Rattle.quilt_node.specs.Tree.{Bounds};
-ghost use Rattle.quilt_btree.specs.declared.removed.Removed.TheVariants.{Missing, Emptied};
+ghost use Rattle.quilt_btree.specs.declared.outcomes.Removed.TheVariants.{Missing, Emptied};
 ghost use Rattle.quilt_btree.specs.Edits.{CanEdit, DidLeave, DidRemove, HasPageIn};
 ghost use Rattle.quilt_record.specs.Lists.{has_key};
-ghost use Rattle.quilt_btree.specs.Mending.{HasShort, HasDropped, Writes};
+ghost use Rattle.quilt_btree.specs.Rebalancing.{HasUnderfull, HasDropped, Writes};
 ghost use Rattle.quilt_btree.specs.Outcomes.{was_found};
 ghost use Rattle.quilt_btree.specs.Stops.{HasStopCause, IsSound, NamesPage};
 ghost use Rattle.quilt_btree.specs.Trees.{Spells};
 
-use crate::mended::Mended;
-use crate::mending::{child_towards, key_fits, mend_pages};
+use crate::outcomes::{Rebalanced, Removed};
 use crate::pages::{inner_high, read_leaf};
-use crate::removed::Removed;
+use crate::rebalancing::{child_towards, key_fits, rebalance_pages};
 use crate::searching::read_way;
 use crate::writing::write_page;
-use quilt_node::InnerPage;
+use quilt_node::{InnerPage, LEAST_CHILDREN, LEAST_RECORDS};
 use quilt_record::Key;
 use quilt_store::PageStore;
 use quilt_types::Stop;
@@ -48,8 +47,8 @@ fn remove_in_leaf<S: PageStore>(store: &mut S, page: u32, k: &Key) -> Result<Rem
             let left = leaf.len();
             match write_page(store, page, leaf.bytes()) {
                 Err(e) => Err(e),
-                Ok(()) => Ok(if left < 72 {
-                    Removed::Short
+                Ok(()) => Ok(if left < LEAST_RECORDS {
+                    Removed::Underfull
                 } else {
                     Removed::Done
                 }),
@@ -97,8 +96,8 @@ fn drop_child<S: PageStore>(
     let left = inner.len();
     match write_page(store, page, inner.bytes()) {
         Err(e) => Err(e),
-        Ok(()) => Ok(if left < 127 {
-            Removed::Short
+        Ok(()) => Ok(if left < LEAST_CHILDREN {
+            Removed::Underfull
         } else {
             Removed::Done
         }),
@@ -135,8 +134,8 @@ fn renew_key<S: PageStore>(
     write_page(store, page, inner.bytes())
 }
 
-/// Mends child `i` of an inner page with a neighbour, and writes the page where it has two children or more then.
-fn mend_child<S: PageStore>(
+/// Rebalances child `i` of an inner page with a neighbour, and writes the page where it has two children or more then.
+fn rebalance_child<S: PageStore>(
     store: &mut S,
     page: u32,
     height: u8,
@@ -147,8 +146,8 @@ fn mend_child<S: PageStore>(
     requires height { 2 ≤ height }
     requires children { are_pages (S.size store.old) inner.old.children ≡ true }
     requires place { i < length inner.old.children }
-    ensures left { IfOk result (λ o. (is_root : Bool) (b : Bounds) (rs : List Record) (used : List ℕ) → HasShort (S.told store.old) (S.free store.old) page height inner.old i is_root b rs used → DidLeave (S.told store.old) (S.told store.new) (S.free store.old) (S.free store.new) page height is_root b used rs o) }
-    ensures sound { IfErr result (λ e. (is_root : Bool) (b : Bounds) (rs : List Record) (used : List ℕ) → HasShort (S.told store.old) (S.free store.old) page height inner.old i is_root b rs used → IsSound e) }
+    ensures left { IfOk result (λ o. (is_root : Bool) (b : Bounds) (rs : List Record) (used : List ℕ) → HasUnderfull (S.told store.old) (S.free store.old) page height inner.old i is_root b rs used → DidLeave (S.told store.old) (S.told store.new) (S.free store.old) (S.free store.new) page height is_root b used rs o) }
+    ensures sound { IfErr result (λ e. (is_root : Bool) (b : Bounds) (rs : List Record) (used : List ℕ) → HasUnderfull (S.told store.old) (S.free store.old) page height inner.old i is_root b rs used → IsSound e) }
     ensures some { IfOk result (λ o. o ≡ Missing → ⊥) }
     ensures child { IfOk result (λ o. HasPageIn (S.size store.old) o) }
     ensures names { IfErr result (NamesPage (S.size store.old)) }
@@ -161,10 +160,10 @@ fn mend_child<S: PageStore>(
     let left = inner.child(j);
     let right = inner.child(j + 1);
     let key = inner.key(j);
-    match mend_pages(store, height - 1, left, &key, right) {
+    match rebalance_pages(store, height - 1, left, &key, right) {
         Err(e) => Err(e),
-        Ok(Mended::Joined) => drop_child(store, page, inner, j),
-        Ok(Mended::Parted { key }) => match renew_key(store, page, inner, j, &key) {
+        Ok(Rebalanced::Joined) => drop_child(store, page, inner, j),
+        Ok(Rebalanced::Redistributed { key }) => match renew_key(store, page, inner, j, &key) {
             Err(e) => Err(e),
             Ok(()) => Ok(Removed::Done),
         },
@@ -205,9 +204,9 @@ pub fn remove_under<S: PageStore>(
         Err(e) => Err(e),
         Ok(Removed::Missing) => Ok(Removed::Missing),
         Ok(Removed::Done) => Ok(Removed::Done),
-        Ok(Removed::Short) => match inner_high(&bytes, store.pages(), height) {
+        Ok(Removed::Underfull) => match inner_high(&bytes, store.pages(), height) {
             None => Err(Stop::Damaged { page }),
-            Some(mut inner) => mend_child(store, page, height, &mut inner, way.place),
+            Some(mut inner) => rebalance_child(store, page, height, &mut inner, way.place),
         },
         Ok(Removed::Emptied) => Err(Stop::Damaged { page: child }),
         Ok(Removed::Only { .. }) => Err(Stop::Damaged { page: child }),

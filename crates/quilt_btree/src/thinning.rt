@@ -8,14 +8,14 @@ ghost use Rattle.quilt_btree.specs.Edits.{CanEdit};
 ghost use Rattle.quilt_btree.specs.Runs.{without_all, has_each, Lacks, DidDrain};
 ghost use Rattle.quilt_btree.specs.Stops.{HasStopCause, NamesPage};
 
-use crate::mending::precedes;
 use crate::pages::read_leaf;
 use crate::reading::step_in;
+use crate::rebalancing::precedes;
 use crate::running::stays_below;
 use crate::searching::read_into;
 use crate::tree::Tree;
 use crate::writing::write_page;
-use quilt_node::LeafPage;
+use quilt_node::{LEAST_RECORDS, LeafPage};
 use quilt_record::Key;
 use quilt_store::PageStore;
 use quilt_types::Stop;
@@ -131,7 +131,7 @@ impl Tree {
 fn least_records(is_root: bool) -> usize
     ensures { result ≡ (if is_root then 1 else 72) }
 {
-    if is_root { 1 } else { 72 }
+    if is_root { 1 } else { LEAST_RECORDS }
 }
 
 /// Takes the records of the first keys of a run out of a leaf: up to a key that is not below `high`, and while it keeps

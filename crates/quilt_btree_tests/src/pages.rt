@@ -257,8 +257,8 @@ fn children_come_and_go(rt: HostRuntime) -> Result<(), Fail> {
 #[test]
 fn a_full_inner_page_is_split(rt: HostRuntime) -> Result<(), Fail> {
     let mut inner = inner_from(0, 254);
-    let (parting, right) = inner.insert_split(253, &key(508), 255);
-    assert_eq!(rt; parting, key(254));
+    let (separator, right) = inner.insert_split(253, &key(508), 255);
+    assert_eq!(rt; separator, key(254));
     assert!(rt; *inner.bytes() == inner_spelled(0, 127));
     assert!(rt; *right.bytes() == inner_spelled(127, 128));
     Ok(())
@@ -267,8 +267,8 @@ fn a_full_inner_page_is_split(rt: HostRuntime) -> Result<(), Fail> {
 #[test]
 fn a_full_inner_page_is_split_at_its_start(rt: HostRuntime) -> Result<(), Fail> {
     let mut inner = inner_from(1, 254);
-    let (parting, right) = inner.insert_split(0, &key(2), 1);
-    assert_eq!(rt; parting, key(254));
+    let (separator, right) = inner.insert_split(0, &key(2), 1);
+    assert_eq!(rt; separator, key(254));
     let mut page = inner_spelled(0, 127);
     page[11] = 2;
     page[15] = 1;
@@ -280,8 +280,8 @@ fn a_full_inner_page_is_split_at_its_start(rt: HostRuntime) -> Result<(), Fail> 
 #[test]
 fn a_full_inner_page_is_split_at_its_middle(rt: HostRuntime) -> Result<(), Fail> {
     let mut inner = inner_from(0, 254);
-    let (parting, right) = inner.insert_split(126, &key(253), 255);
-    assert_eq!(rt; parting, key(253));
+    let (separator, right) = inner.insert_split(126, &key(253), 255);
+    assert_eq!(rt; separator, key(253));
     assert!(rt; *inner.bytes() == inner_spelled(0, 127));
     let mut page = inner_spelled(126, 128);
     page[11] = 255;
@@ -303,14 +303,14 @@ fn inner_pages_are_joined(rt: HostRuntime) -> Result<(), Fail> {
 fn inner_pages_lend_a_child(rt: HostRuntime) -> Result<(), Fail> {
     let mut inner = inner_from(0, 126);
     let mut right = inner_from(126, 128);
-    let parting = inner.from_right(&key(252), &mut right);
-    assert_eq!(rt; parting, key(254));
+    let separator = inner.from_right(&key(252), &mut right);
+    assert_eq!(rt; separator, key(254));
     assert!(rt; *inner.bytes() == inner_spelled(0, 127));
     assert!(rt; *right.bytes() == inner_spelled(127, 127));
     let mut left = inner_from(0, 128);
     let mut inner = inner_from(128, 126);
-    let parting = inner.from_left(&key(256), &mut left);
-    assert_eq!(rt; parting, key(254));
+    let separator = inner.from_left(&key(256), &mut left);
+    assert_eq!(rt; separator, key(254));
     assert!(rt; *left.bytes() == inner_spelled(0, 127));
     assert!(rt; *inner.bytes() == inner_spelled(127, 127));
     Ok(())

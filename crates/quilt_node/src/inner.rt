@@ -14,6 +14,7 @@ use crate::bytes::{
     clear, count_in, is_clear, key_in, put_in, put_over, set_count, take_out, word_in,
 };
 use crate::keys::{find_key, keys_ascend};
+use crate::sizes::{LEAST_CHILDREN, MOST_CHILDREN};
 use quilt_record::{Key, key_bytes};
 use std::marker::Model;
 
@@ -76,7 +77,7 @@ pub fn is_inner(bytes: &[u8; 4096], pages: u32) -> bool
 {
     let n = count_in(bytes) as usize;
     let height = bytes[1];
-    if height < 2 || 3 < height || n < 2 || 254 < n {
+    if height < 2 || 3 < height || n < 2 || MOST_CHILDREN < n {
         return false;
     }
     if !has_inner_head(bytes) {
@@ -281,12 +282,12 @@ impl InnerPage {
             self.insert(i, k, child);
             (key, right)
         } else if i == 126 {
-            let (key, mut right) = self.split_off(127);
+            let (key, mut right) = self.split_off(LEAST_CHILDREN);
             right.put_both(0, &key, 0, child);
             (*k, right)
         } else {
-            let (key, mut right) = self.split_off(127);
-            right.insert(i - 127, k, child);
+            let (key, mut right) = self.split_off(LEAST_CHILDREN);
+            right.insert(i - LEAST_CHILDREN, k, child);
             (key, right)
         }
     }

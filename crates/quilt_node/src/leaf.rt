@@ -12,6 +12,7 @@ use crate::bytes::{
     clear, count_in, is_clear, put_in, put_over, record_in, record_piece, set_count, take_out,
 };
 use crate::keys::{find_key, keys_ascend};
+use crate::sizes::{LEAST_RECORDS, MOST_RECORDS};
 use quilt_record::{Key, Record};
 use std::marker::Model;
 
@@ -61,7 +62,7 @@ pub fn is_leaf(bytes: &[u8; 4096]) -> bool
     ensures { result ≡ is_some (spec.leaf_of bytes.now) }
 {
     let n = count_in(bytes) as usize;
-    if n < 1 || 144 < n {
+    if n < 1 || MOST_RECORDS < n {
         return false;
     }
     if !has_leaf_head(bytes) {
@@ -171,13 +172,13 @@ impl LeafPage {
         ensures left { self.new ≡ take 72 (insert self.old i r.now) }
         ensures right { result ≡ drop 72 (insert self.old i r.now) }
     {
-        if i < 72 {
-            let right = self.split_off(71);
+        if i < LEAST_RECORDS {
+            let right = self.split_off(LEAST_RECORDS - 1);
             self.insert(i, r);
             right
         } else {
-            let mut right = self.split_off(72);
-            right.insert(i - 72, r);
+            let mut right = self.split_off(LEAST_RECORDS);
+            right.insert(i - LEAST_RECORDS, r);
             right
         }
     }

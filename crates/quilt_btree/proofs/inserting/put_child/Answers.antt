@@ -23,7 +23,7 @@ pub returns-in-Ok-write_split-clause-put : goal.returns-in-Ok-write_split-clause
 returns-in-Ok-write_split-clause-put g c is_root b all under p =
     let e = c.len.ensures.length in
     let r = c.len.ensures.range in
-    let f = c.if-len-lt254.false in
+    let f = c.if-len-lt-MOST_CHILDREN.false in
     let long : length c.args.inner.now.children ≡ 254 = omega arith in
     let behind : suc c.args.i ≤ length c.args.inner.now.children = let q = c.requires.place in omega arith in
     let full : length (insert c.args.inner.now.children (suc c.args.i) c.args.child) ≡ 255 = omega (arith, length-insert c.args.inner.now.children (suc c.args.i) c.args.child behind) in

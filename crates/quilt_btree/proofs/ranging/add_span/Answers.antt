@@ -24,8 +24,8 @@ loop-i-preserved c =
     let at = c.rec_in-r.ensures.stands (let h = c.requires.last.1 in omega arith) in
     elim c.if-is_within.branch [
       | then-is_within+in_ok-push w ↦
-          let short : length c.loop-i.records.items < c.args.most = below_most c.args.most (c.args.records.now.items ++ filter (is_from_to c.args.low.now c.args.high.now) (take (c.loop-i.i - c.args.first) (part c.args.first c.args.last (records_of c.args.bytes.now)))) c.loop-i.records.items c.loop-i.invariant.items (λ full. c.if-len-most.false (let e = c.len.ensures in omega (arith, c.loop-i.records.ok.0))) in
-          let s = add_place (is_from_to c.args.low.now c.args.high.now) c.args.most c.args.first c.args.last c.loop-i.i c.args.records.now.items c.loop-i.records.items (records_of c.args.bytes.now) c.rec_in-r.result c.loop-i.invariant.least lt at c.loop-i.invariant.items short (sym c.is_within.ensures ∙ w.if-is_within.true) in
+          let underfull : length c.loop-i.records.items < c.args.most = below_most c.args.most (c.args.records.now.items ++ filter (is_from_to c.args.low.now c.args.high.now) (take (c.loop-i.i - c.args.first) (part c.args.first c.args.last (records_of c.args.bytes.now)))) c.loop-i.records.items c.loop-i.invariant.items (λ full. c.if-len-most.false (let e = c.len.ensures in omega (arith, c.loop-i.records.ok.0))) in
+          let s = add_place (is_from_to c.args.low.now c.args.high.now) c.args.most c.args.first c.args.last c.loop-i.i c.args.records.now.items c.loop-i.records.items (records_of c.args.bytes.now) c.rec_in-r.result c.loop-i.invariant.least lt at c.loop-i.invariant.items underfull (sym c.is_within.ensures ∙ w.if-is_within.true) in
           record { least = least; items = rw w.records-is (rw (w.push.ensures.items, w.in_ok-push.was) s) }
       | else-is_within w ↦
           let s = skip_place (is_from_to c.args.low.now c.args.high.now) c.args.most c.args.first c.args.last c.loop-i.i c.args.records.now.items c.loop-i.records.items (records_of c.args.bytes.now) c.rec_in-r.result c.loop-i.invariant.least lt at c.loop-i.invariant.items (sym c.is_within.ensures ∙ w.if-is_within.false) in

@@ -14,13 +14,13 @@ returns-then-child_count_in-way-clause-step c = λ inner is.
 pub returns-then-not-precedes-clause-step : goal.returns-then-not-precedes-clause-step
 returns-then-not-precedes-clause-step c = λ inner is.
     let w = c.in-Some.ensures.way inner is in
-    next_is_above inner c.args.k.now c.parting_in-next.result c.in-Some.way.place w.1
-    (c.parting_in-next.ensures c.args.pages inner is (keys_many c.args.pages c.args.bytes.now inner c.in-Some.way.place c.child_count_in.result is (c.child_count_in.ensures.length c.args.pages inner is).0 c.if-child_count_in-way.false))
+    next_is_above inner c.args.k.now c.separator_in-next.result c.in-Some.way.place w.1
+    (c.separator_in-next.ensures c.args.pages inner is (keys_many c.args.pages c.args.bytes.now inner c.in-Some.way.place c.child_count_in.result is (c.child_count_in.ensures.length c.args.pages inner is).0 c.if-child_count_in-way.false))
     (sym c.precedes.ensures ∙ c.if-not-precedes.true)
 
 pub returns-clause-step : goal.returns-clause-step
 returns-clause-step c = λ inner is.
     let w = c.in-Some.ensures.way inner is in
-    next_step inner c.args.k.now c.parting_in-next.result c.in-Some.way.place c.in-Some.way.child c.args.high.now w.1
+    next_step inner c.args.k.now c.separator_in-next.result c.in-Some.way.place c.in-Some.way.child c.args.high.now w.1
     w.2
-    (c.parting_in-next.ensures c.args.pages inner is (keys_many c.args.pages c.args.bytes.now inner c.in-Some.way.place c.child_count_in.result is (c.child_count_in.ensures.length c.args.pages inner is).0 c.if-child_count_in-way.false))
+    (c.separator_in-next.ensures c.args.pages inner is (keys_many c.args.pages c.args.bytes.now inner c.in-Some.way.place c.child_count_in.result is (c.child_count_in.ensures.length c.args.pages inner is).0 c.if-child_count_in-way.false))

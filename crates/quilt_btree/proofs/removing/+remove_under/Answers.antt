@@ -4,7 +4,7 @@ use Rattle.quilt_btree.specs.Searches.{IsHigh}
 use Rattle.quilt_btree.proofs.Forks.{place_inside}
 use Rattle.quilt_btree.proofs.Finding.{finds_below, found_in_leaf, found_finds}
 use Rattle.quilt_btree.proofs.LeafRemovals.{leaf_reads}
-use Rattle.quilt_btree.proofs.Removals.{sound_child, missing_child, done_child, mended_child, mended_sound, emptied_child, only_child, leaf_sound}
+use Rattle.quilt_btree.proofs.Removals.{sound_child, missing_child, done_child, rebalanced_child, rebalanced_sound, emptied_child, only_child, leaf_sound}
 use Rattle.quilt_btree.proofs.removing.+remove_under.Goals as goal
 
 pub returns-then-height-eq1-clause-sound : goal.returns-then-height-eq1-clause-sound
@@ -46,23 +46,23 @@ returns-in-Ok-Done-clause-removed g t c = λ is_root b rs used can.
 
 pub returns-in-Some-clause-removed : goal.returns-in-Some-clause-removed
 returns-in-Some-clause-removed g t c =
-    let w = c.in-Ok.ensures.way c.in-Some.inner (subst (λ n. inner_of n c.read_way.new.bytes ≡ Some c.in-Some.inner) (c.pages.ensures ∙ c.in-Ok-Short.ensures.size ∙ c.in-Ok.ensures.size) c.in-Some.ensures.inner) in
-    let found = rw c.in-Ok-Short.field-0-is at c.in-Ok-Short.ensures in
-    mended_child c.mend_child.result c.args.k.now (g.S.PageStore.told c.args.store.now) (g.S.PageStore.told c.read_way.new.store) (g.S.PageStore.told c.remove_under.new.store) (g.S.PageStore.told c.mend_child.new.store)
-    (g.S.PageStore.free c.args.store.now) (g.S.PageStore.free c.read_way.new.store) (g.S.PageStore.free c.remove_under.new.store) (g.S.PageStore.free c.mend_child.new.store)
+    let w = c.in-Ok.ensures.way c.in-Some.inner (subst (λ n. inner_of n c.read_way.new.bytes ≡ Some c.in-Some.inner) (c.pages.ensures ∙ c.in-Ok-Underfull.ensures.size ∙ c.in-Ok.ensures.size) c.in-Some.ensures.inner) in
+    let found = rw c.in-Ok-Underfull.field-0-is at c.in-Ok-Underfull.ensures in
+    rebalanced_child c.rebalance_child.result c.args.k.now (g.S.PageStore.told c.args.store.now) (g.S.PageStore.told c.read_way.new.store) (g.S.PageStore.told c.remove_under.new.store) (g.S.PageStore.told c.rebalance_child.new.store)
+    (g.S.PageStore.free c.args.store.now) (g.S.PageStore.free c.read_way.new.store) (g.S.PageStore.free c.remove_under.new.store) (g.S.PageStore.free c.rebalance_child.new.store)
     c.args.page c.args.height c.in-Ok.way.child c.in-Ok.way.place c.in-Some.inner
     (record { some = c.requires.height; above = c.if-height-eq1.false; reads = w.reads; place = w.is_place; is_mid = c.in-Ok.ensures.told; is_free = c.in-Ok.ensures.free; is_child = w.child_is })
-    found.removed c.mend_child.ensures.some c.mend_child.ensures.left
+    found.removed c.rebalance_child.ensures.some c.rebalance_child.ensures.left
 
 pub returns-in-Some-clause-sound : goal.returns-in-Some-clause-sound
 returns-in-Some-clause-sound g t c =
-    let w = c.in-Ok.ensures.way c.in-Some.inner (subst (λ n. inner_of n c.read_way.new.bytes ≡ Some c.in-Some.inner) (c.pages.ensures ∙ c.in-Ok-Short.ensures.size ∙ c.in-Ok.ensures.size) c.in-Some.ensures.inner) in
-    let found = rw c.in-Ok-Short.field-0-is at c.in-Ok-Short.ensures in
-    mended_sound c.mend_child.result c.args.k.now (g.S.PageStore.told c.args.store.now) (g.S.PageStore.told c.read_way.new.store) (g.S.PageStore.told c.remove_under.new.store)
+    let w = c.in-Ok.ensures.way c.in-Some.inner (subst (λ n. inner_of n c.read_way.new.bytes ≡ Some c.in-Some.inner) (c.pages.ensures ∙ c.in-Ok-Underfull.ensures.size ∙ c.in-Ok.ensures.size) c.in-Some.ensures.inner) in
+    let found = rw c.in-Ok-Underfull.field-0-is at c.in-Ok-Underfull.ensures in
+    rebalanced_sound c.rebalance_child.result c.args.k.now (g.S.PageStore.told c.args.store.now) (g.S.PageStore.told c.read_way.new.store) (g.S.PageStore.told c.remove_under.new.store)
     (g.S.PageStore.free c.args.store.now) (g.S.PageStore.free c.read_way.new.store) (g.S.PageStore.free c.remove_under.new.store)
     c.args.page c.args.height c.in-Ok.way.child c.in-Ok.way.place c.in-Some.inner
     (record { some = c.requires.height; above = c.if-height-eq1.false; reads = w.reads; place = w.is_place; is_mid = c.in-Ok.ensures.told; is_free = c.in-Ok.ensures.free; is_child = w.child_is })
-    found.removed c.mend_child.ensures.sound
+    found.removed c.rebalance_child.ensures.sound
 
 pub returns-in-Ok-Emptied-clause-sound : goal.returns-in-Ok-Emptied-clause-sound
 returns-in-Ok-Emptied-clause-sound g t c = λ is_root b rs used can.
@@ -108,21 +108,21 @@ returns-in-Ok-Done-clause-finds g t c = λ rs s.
 
 pub returns-in-Some-clause-finds : goal.returns-in-Some-clause-finds
 returns-in-Some-clause-finds g t c =
-    found_finds c.mend_child.result (g.S.PageStore.told c.args.store.now) c.args.page c.args.height c.args.k.now c.mend_child.ensures.some
+    found_finds c.rebalance_child.result (g.S.PageStore.told c.args.store.now) c.args.page c.args.height c.args.k.now c.rebalance_child.ensures.some
     (λ rs s.
     let h = c.in-Ok.ensures.here c.args.height rs c.requires.height c.if-height-eq1.false s in
     let w = c.in-Ok.ensures.way h.inner h.is in
     finds_below (g.S.PageStore.told c.args.store.now) (g.S.PageStore.told c.read_way.new.store) c.args.page c.args.height c.in-Ok.way.child c.in-Ok.way.place c.args.k.now h.inner true
     (record { same = c.in-Ok.ensures.told; some = c.requires.height; above = c.if-height-eq1.false; reads = w.reads; place = w.is_place; is_child = w.child_is })
-    (rw c.in-Ok-Short.field-0-is at c.in-Ok-Short.ensures.finds) rs s)
+    (rw c.in-Ok-Underfull.field-0-is at c.in-Ok-Underfull.ensures.finds) rs s)
 
 pub returns-in-None-clause-sound : goal.returns-in-None-clause-sound
 returns-in-None-clause-sound g t c is_root b rs used can =
     let h = c.in-Ok.ensures.here c.args.height rs c.requires.height c.if-height-eq1.false (leaf_reads (g.S.PageStore.told c.args.store.now) (g.S.PageStore.free c.args.store.now) c.args.page c.args.height is_root b rs used can) in
-    absurd (c.in-None.ensures.none refl (subst (λ n. IsHigh n c.read_way.new.bytes c.args.height) (sym (c.pages.ensures ∙ c.in-Ok-Short.ensures.size ∙ c.in-Ok.ensures.size)) h))
+    absurd (c.in-None.ensures.none refl (subst (λ n. IsHigh n c.read_way.new.bytes c.args.height) (sym (c.pages.ensures ∙ c.in-Ok-Underfull.ensures.size ∙ c.in-Ok.ensures.size)) h))
 
-pub mend_child-requires-clause-place : goal.mend_child-requires-clause-place
-mend_child-requires-clause-place g t c =
-    let same : c.pages.result ≡ g.S.PageStore.size c.args.store.now = c.pages.ensures ∙ c.in-Ok-Short.ensures.size ∙ c.in-Ok.ensures.size in
+pub rebalance_child-requires-clause-place : goal.rebalance_child-requires-clause-place
+rebalance_child-requires-clause-place g t c =
+    let same : c.pages.result ≡ g.S.PageStore.size c.args.store.now = c.pages.ensures ∙ c.in-Ok-Underfull.ensures.size ∙ c.in-Ok.ensures.size in
     let is : inner_of (g.S.PageStore.size c.args.store.now) c.read_way.new.bytes ≡ Some c.in-Some.inner = subst (λ n. inner_of n c.read_way.new.bytes ≡ Some c.in-Some.inner) same c.in-Some.ensures.inner in
     place_inside (g.S.PageStore.size c.args.store.now) c.read_way.new.bytes c.in-Some.inner c.args.k.now c.in-Ok.way.place is (c.in-Ok.ensures.way c.in-Some.inner is).is_place

@@ -1,7 +1,7 @@
 use Rattle.std.proofs.Common.{◌∙◌, sym, arith}
 use Rattle.std.proofs.lemmas.Result.{err_from_is_err_and}
 use Rattle.quilt_btree.proofs.Finding.{finds_here, finds_none}
-use Rattle.quilt_btree.proofs.LeafRemovals.{leaf_missing, leaf_emptied, leaf_short, leaf_done, leaf_reads}
+use Rattle.quilt_btree.proofs.LeafRemovals.{leaf_missing, leaf_emptied, leaf_underfull, leaf_done, leaf_reads}
 use Rattle.quilt_btree.proofs.removing.remove_in_leaf.Goals as goal
 
 pub returns-in_err-leaf-clause-sound : goal.returns-in_err-leaf-clause-sound
@@ -19,9 +19,9 @@ returns-in-Ok-clause-removed g c = λ height is_root b rs used one can.
     leaf_emptied c.args.k.now (g.S.PageStore.told c.args.store.now) (g.S.PageStore.told c.read_leaf.new.store) (g.S.PageStore.free c.args.store.now) (g.S.PageStore.free c.read_leaf.new.store)
     c.args.page height c.in-Ok.field-0 is_root b rs c.in_ok-leaf.leaf used one c.in_ok-leaf.ensures.leaf c.in-Ok.ensures.place (sym c.len.ensures.length ∙ c.if-len-eq1.true) c.in_ok-leaf.ensures.told c.in_ok-leaf.ensures.free can
 
-pub returns-then-left-lt72-clause-removed : goal.returns-then-left-lt72-clause-removed
-returns-then-left-lt72-clause-removed g c = λ height is_root b rs used one can.
-    leaf_short c.args.k.now (g.S.PageStore.told c.args.store.now) (g.S.PageStore.told c.read_leaf.new.store) (g.S.PageStore.told c.write_page.new.store) (g.S.PageStore.free c.args.store.now) (g.S.PageStore.free c.write_page.new.store)
+pub returns-then-left-lt-LEAST_RECORDS-clause-removed : goal.returns-then-left-lt-LEAST_RECORDS-clause-removed
+returns-then-left-lt-LEAST_RECORDS-clause-removed g c = λ height is_root b rs used one can.
+    leaf_underfull c.args.k.now (g.S.PageStore.told c.args.store.now) (g.S.PageStore.told c.read_leaf.new.store) (g.S.PageStore.told c.write_page.new.store) (g.S.PageStore.free c.args.store.now) (g.S.PageStore.free c.write_page.new.store)
     c.args.page height (g.S.PageStore.size c.args.store.now) c.in-Ok.field-0 is_root b rs c.in_ok-leaf.leaf c.remove.new.self used c.bytes.result.now one (record {
       reads = c.in_ok-leaf.ensures.leaf;
       inside = c.requires.1;
@@ -34,8 +34,8 @@ returns-then-left-lt72-clause-removed g c = λ height is_root b rs used one can.
       frees = c.in-Ok-write_page.ensures.free ∙ c.in_ok-leaf.ensures.free;
     }) can
 
-pub returns-else-left-lt72-clause-removed : goal.returns-else-left-lt72-clause-removed
-returns-else-left-lt72-clause-removed g c = λ height is_root b rs used one can.
+pub returns-else-left-lt-LEAST_RECORDS-clause-removed : goal.returns-else-left-lt-LEAST_RECORDS-clause-removed
+returns-else-left-lt-LEAST_RECORDS-clause-removed g c = λ height is_root b rs used one can.
     leaf_done c.args.k.now (g.S.PageStore.told c.args.store.now) (g.S.PageStore.told c.read_leaf.new.store) (g.S.PageStore.told c.write_page.new.store) (g.S.PageStore.free c.args.store.now) (g.S.PageStore.free c.write_page.new.store)
     c.args.page height (g.S.PageStore.size c.args.store.now) c.in-Ok.field-0 is_root b rs c.in_ok-leaf.leaf c.remove.new.self used c.bytes.result.now one (record {
       reads = c.in_ok-leaf.ensures.leaf;
@@ -48,7 +48,7 @@ returns-else-left-lt72-clause-removed g c = λ height is_root b rs used one can.
       tells = c.in-Ok-write_page.ensures.told;
       frees = c.in-Ok-write_page.ensures.free ∙ c.in_ok-leaf.ensures.free;
     })
-    (let n = c.len-left.ensures.length in let h = c.if-left-lt72.false in omega arith) can
+    (let n = c.len-left.ensures.length in let h = c.if-left-lt-LEAST_RECORDS.false in omega arith) can
 
 pub returns-in-Err-clause-finds : goal.returns-in-Err-clause-finds
 returns-in-Err-clause-finds g c = λ height rs one s.
@@ -58,10 +58,10 @@ pub returns-in-Ok-clause-finds : goal.returns-in-Ok-clause-finds
 returns-in-Ok-clause-finds g c = λ height rs one s.
     finds_here (g.S.PageStore.told c.args.store.now) c.args.page height c.in-Ok.field-0 c.args.k.now c.in_ok-leaf.leaf c.in_ok-leaf.ensures.leaf c.in-Ok.ensures.place one rs s
 
-pub returns-then-left-lt72-clause-finds : goal.returns-then-left-lt72-clause-finds
-returns-then-left-lt72-clause-finds g c = λ height rs one s.
+pub returns-then-left-lt-LEAST_RECORDS-clause-finds : goal.returns-then-left-lt-LEAST_RECORDS-clause-finds
+returns-then-left-lt-LEAST_RECORDS-clause-finds g c = λ height rs one s.
     finds_here (g.S.PageStore.told c.args.store.now) c.args.page height c.in-Ok.field-0 c.args.k.now c.in_ok-leaf.leaf c.in_ok-leaf.ensures.leaf c.in-Ok.ensures.place one rs s
 
-pub returns-else-left-lt72-clause-finds : goal.returns-else-left-lt72-clause-finds
-returns-else-left-lt72-clause-finds g c = λ height rs one s.
+pub returns-else-left-lt-LEAST_RECORDS-clause-finds : goal.returns-else-left-lt-LEAST_RECORDS-clause-finds
+returns-else-left-lt-LEAST_RECORDS-clause-finds g c = λ height rs one s.
     finds_here (g.S.PageStore.told c.args.store.now) c.args.page height c.in-Ok.field-0 c.args.k.now c.in_ok-leaf.leaf c.in_ok-leaf.ensures.leaf c.in-Ok.ensures.place one rs s

@@ -53,10 +53,10 @@ passes c order = record {
   low = c.if-height-lt2.false;
   high = c.if-height-gt3.false;
   least = c.if-n-lt2.false;
-  most = c.if-n-gt254.false;
+  most = c.if-n-gt-MOST_CHILDREN.false;
   children = sym c.children_are_pages.ensures ∙ c.if-not-children_are_pages.false;
   ascends = order;
-  same = ends_written c.args.bytes.now c.count_in-n.result c.fits-bytes c.told-bytes c.if-n-lt2.false c.if-n-gt254.false (ends c);
+  same = ends_written c.args.bytes.now c.count_in-n.result c.fits-bytes c.told-bytes c.if-n-lt2.false c.if-n-gt-MOST_CHILDREN.false (ends c);
 }
 
 pub returns : goal.returns

@@ -14,17 +14,17 @@ returns-then-n-lt1 c = sym (ap is_some (bad_count c.args.bytes.now c.count_in-n.
 pub returns-then-not-has_leaf_head : goal.returns-then-not-has_leaf_head
 returns-then-not-has_leaf_head c =
     let n = c.count_in-n.result in
-    sym (ap is_some (bad_ends c.args.bytes.now n c.fits-bytes c.told-bytes c.count_in-n.ensures c.if-n-gt144.false
+    sym (ap is_some (bad_ends c.args.bytes.now n c.fits-bytes c.told-bytes c.count_in-n.ensures c.if-n-gt-MOST_RECORDS.false
     (λ ends. test_fails _ _ c.has_leaf_head.result c.has_leaf_head.ensures c.if-not-has_leaf_head.true (ends.head ∙ ap leaf_head c.count_in-n.ensures))))
 
 pub returns-then-not-is_clear : goal.returns-then-not-is_clear
 returns-then-not-is_clear c =
-    sym (ap is_some (bad_ends c.args.bytes.now c.count_in-n.result c.fits-bytes c.told-bytes c.count_in-n.ensures c.if-n-gt144.false
+    sym (ap is_some (bad_ends c.args.bytes.now c.count_in-n.result c.fits-bytes c.told-bytes c.count_in-n.ensures c.if-n-gt-MOST_RECORDS.false
     (λ ends. test_fails _ _ c.is_clear.result c.is_clear.ensures c.if-not-is_clear.true ends.rest)))
 
 pub returns : goal.returns
 returns c =
-    by_order c.args.bytes.now c.count_in-n.result c.fits-bytes c.told-bytes c.count_in-n.ensures c.if-n-lt1.false c.if-n-gt144.false
+    by_order c.args.bytes.now c.count_in-n.result c.fits-bytes c.told-bytes c.count_in-n.ensures c.if-n-lt1.false c.if-n-gt-MOST_RECORDS.false
     (record {
       head = test_holds _ _ c.has_leaf_head.result c.has_leaf_head.ensures c.if-not-has_leaf_head.false ∙ ap leaf_head (sym c.count_in-n.ensures);
       rest = test_holds _ _ c.is_clear.result c.is_clear.ensures c.if-not-is_clear.false;

@@ -1,7 +1,7 @@
 use Rattle.std.proofs.Common.{◌≡◌, true, false, ◌-◌, ◌≤◌, refl, arith}
 use Rattle.quilt_btree.proofs.Finding.{finds_root, finds_empty, shrunk_answer}
-use Rattle.quilt_btree.proofs.KeptPages.{out_none, sound_out, out_missing, out_done, out_short, out_emptied, out_only, out_shrunk, out_sound, two_done, two_short, one_empty, two_only}
-use Rattle.quilt_btree.proofs.TreeRemovals.{sound_root, whole_none, whole_missing, whole_done, whole_short, whole_emptied, whole_only, many_done, many_short, one_emptied, one_only, shrunk, shrunk_sound}
+use Rattle.quilt_btree.proofs.KeptPages.{out_none, sound_out, out_missing, out_done, out_underfull, out_emptied, out_only, out_shrunk, out_sound, two_done, two_underfull, one_empty, two_only}
+use Rattle.quilt_btree.proofs.TreeRemovals.{sound_root, whole_none, whole_missing, whole_done, whole_underfull, whole_emptied, whole_only, many_done, many_underfull, one_emptied, one_only, shrunk, shrunk_sound}
 use Rattle.quilt_btree.proofs.tree.Tree.remove.Goals as goal
 
 pub returns-then-self-eq0-clause-removed : goal.returns-then-self-eq0-clause-removed
@@ -36,20 +36,20 @@ returns-in-Ok-Done-clause-sound g c =
           (record { rooted = c.requires.rooted; least = (g.met.S.PageStore.in_range c.args.store.now).0; inside = g.met.S.PageStore.free_pages_are c.args.store.now; above = c.if-self-eq0.false }) found.removed w,
     ))
 
-pub returns-in-Ok-Short-clause-removed : goal.returns-in-Ok-Short-clause-removed
-returns-in-Ok-Short-clause-removed g c =
-    let found = rw c.in-Ok-Short.field-0-is at c.in-Ok-Short.ensures in
-    shrunk c.shrink-in-Ok-Short.result c.args.k.now (g.S.PageStore.told c.args.store.now) (g.S.PageStore.told c.remove_under.new.store) (g.S.PageStore.free c.args.store.now) (g.S.PageStore.free c.remove_under.new.store) (g.S.PageStore.size c.args.store.now) c.args.self.now c.shrink-in-Ok-Short.new.self (record { root = c.args.self.now.root; height = c.args.self.now.height; records = c.args.self.now.records - 1 }) c.shrink-in-Ok-Short.ensures.tree c.shrink-in-Ok-Short.ensures.answer
-    (λ rs w. whole_short c.args.k.now (g.S.PageStore.told c.args.store.now) (g.S.PageStore.told c.remove_under.new.store) (g.S.PageStore.free c.args.store.now) (g.S.PageStore.free c.remove_under.new.store) (g.S.PageStore.size c.args.store.now) c.args.self.now rs
+pub returns-in-Ok-Underfull-clause-removed : goal.returns-in-Ok-Underfull-clause-removed
+returns-in-Ok-Underfull-clause-removed g c =
+    let found = rw c.in-Ok-Underfull.field-0-is at c.in-Ok-Underfull.ensures in
+    shrunk c.shrink-in-Ok-Underfull.result c.args.k.now (g.S.PageStore.told c.args.store.now) (g.S.PageStore.told c.remove_under.new.store) (g.S.PageStore.free c.args.store.now) (g.S.PageStore.free c.remove_under.new.store) (g.S.PageStore.size c.args.store.now) c.args.self.now c.shrink-in-Ok-Underfull.new.self (record { root = c.args.self.now.root; height = c.args.self.now.height; records = c.args.self.now.records - 1 }) c.shrink-in-Ok-Underfull.ensures.tree c.shrink-in-Ok-Underfull.ensures.answer
+    (λ rs w. whole_underfull c.args.k.now (g.S.PageStore.told c.args.store.now) (g.S.PageStore.told c.remove_under.new.store) (g.S.PageStore.free c.args.store.now) (g.S.PageStore.free c.remove_under.new.store) (g.S.PageStore.size c.args.store.now) c.args.self.now rs
     (record { rooted = c.requires.rooted; least = (g.met.S.PageStore.in_range c.args.store.now).0; inside = g.met.S.PageStore.free_pages_are c.args.store.now; above = c.if-self-eq0.false }) found.removed w)
 
-pub returns-in-Ok-Short-clause-sound : goal.returns-in-Ok-Short-clause-sound
-returns-in-Ok-Short-clause-sound g c =
-    let found = rw c.in-Ok-Short.field-0-is at c.in-Ok-Short.ensures in
-    shrunk_sound c.shrink-in-Ok-Short.result (g.S.PageStore.told c.args.store.now) (g.S.PageStore.free c.args.store.now) (g.S.PageStore.size c.args.store.now) c.args.self.now (c.args.self.now.height ≡ 0 → (c.args.self.now.root ≡ 0) × (c.args.self.now.records ≡ 1)) (1 ≤ c.args.self.now.height → 2 ≤ c.args.self.now.records) c.shrink-in-Ok-Short.ensures.sound
+pub returns-in-Ok-Underfull-clause-sound : goal.returns-in-Ok-Underfull-clause-sound
+returns-in-Ok-Underfull-clause-sound g c =
+    let found = rw c.in-Ok-Underfull.field-0-is at c.in-Ok-Underfull.ensures in
+    shrunk_sound c.shrink-in-Ok-Underfull.result (g.S.PageStore.told c.args.store.now) (g.S.PageStore.free c.args.store.now) (g.S.PageStore.size c.args.store.now) c.args.self.now (c.args.self.now.height ≡ 0 → (c.args.self.now.root ≡ 0) × (c.args.self.now.records ≡ 1)) (1 ≤ c.args.self.now.height → 2 ≤ c.args.self.now.records) c.shrink-in-Ok-Underfull.ensures.sound
     (λ rs w. (
       λ e. absurd (c.if-self-eq0.false e),
-      λ e. many_short c.args.k.now (g.S.PageStore.told c.args.store.now) (g.S.PageStore.told c.remove_under.new.store) (g.S.PageStore.free c.args.store.now) (g.S.PageStore.free c.remove_under.new.store) (g.S.PageStore.size c.args.store.now) c.args.self.now rs
+      λ e. many_underfull c.args.k.now (g.S.PageStore.told c.args.store.now) (g.S.PageStore.told c.remove_under.new.store) (g.S.PageStore.free c.args.store.now) (g.S.PageStore.free c.remove_under.new.store) (g.S.PageStore.size c.args.store.now) c.args.self.now rs
           (record { rooted = c.requires.rooted; least = (g.met.S.PageStore.in_range c.args.store.now).0; inside = g.met.S.PageStore.free_pages_are c.args.store.now; above = c.if-self-eq0.false }) found.removed w,
     ))
 
@@ -115,10 +115,10 @@ returns-in-Ok-Done-clause-answer g c =
     shrunk_answer c.shrink.result (g.S.PageStore.told c.args.store.now) c.args.self.now c.args.k.now c.shrink.ensures.answer
     (λ rs is. finds_root (g.S.PageStore.told c.args.store.now) c.args.self.now c.args.k.now true rs c.if-self-eq0.false (rw c.in-Ok-Done.field-0-is at c.in-Ok-Done.ensures.finds) is)
 
-pub returns-in-Ok-Short-clause-answer : goal.returns-in-Ok-Short-clause-answer
-returns-in-Ok-Short-clause-answer g c =
-    shrunk_answer c.shrink-in-Ok-Short.result (g.S.PageStore.told c.args.store.now) c.args.self.now c.args.k.now c.shrink-in-Ok-Short.ensures.answer
-    (λ rs is. finds_root (g.S.PageStore.told c.args.store.now) c.args.self.now c.args.k.now true rs c.if-self-eq0.false (rw c.in-Ok-Short.field-0-is at c.in-Ok-Short.ensures.finds) is)
+pub returns-in-Ok-Underfull-clause-answer : goal.returns-in-Ok-Underfull-clause-answer
+returns-in-Ok-Underfull-clause-answer g c =
+    shrunk_answer c.shrink-in-Ok-Underfull.result (g.S.PageStore.told c.args.store.now) c.args.self.now c.args.k.now c.shrink-in-Ok-Underfull.ensures.answer
+    (λ rs is. finds_root (g.S.PageStore.told c.args.store.now) c.args.self.now c.args.k.now true rs c.if-self-eq0.false (rw c.in-Ok-Underfull.field-0-is at c.in-Ok-Underfull.ensures.finds) is)
 
 pub returns-in-Ok-clause-answer : goal.returns-in-Ok-clause-answer
 returns-in-Ok-clause-answer g c =
@@ -151,15 +151,15 @@ returns-in-Ok-Done-clause-goes g c =
     out_sound c.shrink.result (g.S.PageStore.told c.args.store.now) (g.S.PageStore.free c.args.store.now) c.args.self.now (c.args.self.now.height ≡ 0 → (c.args.self.now.root ≡ 0) × (c.args.self.now.records ≡ 1)) (1 ≤ c.args.self.now.height → 2 ≤ c.args.self.now.records) c.shrink.ensures.sound
     (λ rs w n. (λ e. absurd (c.if-self-eq0.false e), λ e. two_done c.args.k.now (g.S.PageStore.told c.args.store.now) (g.S.PageStore.told c.remove_under.new.store) (g.S.PageStore.free c.args.store.now) (g.S.PageStore.free c.remove_under.new.store) c.args.self.now rs c.if-self-eq0.false (rw c.in-Ok-Done.field-0-is at c.in-Ok-Done.ensures.removed) n w))
 
-pub returns-in-Ok-Short-clause-changes : goal.returns-in-Ok-Short-clause-changes
-returns-in-Ok-Short-clause-changes g c =
-    out_shrunk c.shrink-in-Ok-Short.result c.args.k.now (g.S.PageStore.told c.args.store.now) (g.S.PageStore.told c.remove_under.new.store) (g.S.PageStore.free c.args.store.now) (g.S.PageStore.free c.remove_under.new.store) c.args.self.now c.shrink-in-Ok-Short.new.self (record { root = c.args.self.now.root; height = c.args.self.now.height; records = c.args.self.now.records - 1 }) c.shrink-in-Ok-Short.ensures.tree
-    (λ rs w. out_short c.args.k.now (g.S.PageStore.told c.args.store.now) (g.S.PageStore.told c.remove_under.new.store) (g.S.PageStore.free c.args.store.now) (g.S.PageStore.free c.remove_under.new.store) c.args.self.now rs c.if-self-eq0.false (rw c.in-Ok-Short.field-0-is at c.in-Ok-Short.ensures.removed) w)
+pub returns-in-Ok-Underfull-clause-changes : goal.returns-in-Ok-Underfull-clause-changes
+returns-in-Ok-Underfull-clause-changes g c =
+    out_shrunk c.shrink-in-Ok-Underfull.result c.args.k.now (g.S.PageStore.told c.args.store.now) (g.S.PageStore.told c.remove_under.new.store) (g.S.PageStore.free c.args.store.now) (g.S.PageStore.free c.remove_under.new.store) c.args.self.now c.shrink-in-Ok-Underfull.new.self (record { root = c.args.self.now.root; height = c.args.self.now.height; records = c.args.self.now.records - 1 }) c.shrink-in-Ok-Underfull.ensures.tree
+    (λ rs w. out_underfull c.args.k.now (g.S.PageStore.told c.args.store.now) (g.S.PageStore.told c.remove_under.new.store) (g.S.PageStore.free c.args.store.now) (g.S.PageStore.free c.remove_under.new.store) c.args.self.now rs c.if-self-eq0.false (rw c.in-Ok-Underfull.field-0-is at c.in-Ok-Underfull.ensures.removed) w)
 
-pub returns-in-Ok-Short-clause-goes : goal.returns-in-Ok-Short-clause-goes
-returns-in-Ok-Short-clause-goes g c =
-    out_sound c.shrink-in-Ok-Short.result (g.S.PageStore.told c.args.store.now) (g.S.PageStore.free c.args.store.now) c.args.self.now (c.args.self.now.height ≡ 0 → (c.args.self.now.root ≡ 0) × (c.args.self.now.records ≡ 1)) (1 ≤ c.args.self.now.height → 2 ≤ c.args.self.now.records) c.shrink-in-Ok-Short.ensures.sound
-    (λ rs w n. (λ e. absurd (c.if-self-eq0.false e), λ e. two_short c.args.k.now (g.S.PageStore.told c.args.store.now) (g.S.PageStore.told c.remove_under.new.store) (g.S.PageStore.free c.args.store.now) (g.S.PageStore.free c.remove_under.new.store) c.args.self.now rs c.if-self-eq0.false (rw c.in-Ok-Short.field-0-is at c.in-Ok-Short.ensures.removed) n w))
+pub returns-in-Ok-Underfull-clause-goes : goal.returns-in-Ok-Underfull-clause-goes
+returns-in-Ok-Underfull-clause-goes g c =
+    out_sound c.shrink-in-Ok-Underfull.result (g.S.PageStore.told c.args.store.now) (g.S.PageStore.free c.args.store.now) c.args.self.now (c.args.self.now.height ≡ 0 → (c.args.self.now.root ≡ 0) × (c.args.self.now.records ≡ 1)) (1 ≤ c.args.self.now.height → 2 ≤ c.args.self.now.records) c.shrink-in-Ok-Underfull.ensures.sound
+    (λ rs w n. (λ e. absurd (c.if-self-eq0.false e), λ e. two_underfull c.args.k.now (g.S.PageStore.told c.args.store.now) (g.S.PageStore.told c.remove_under.new.store) (g.S.PageStore.free c.args.store.now) (g.S.PageStore.free c.remove_under.new.store) c.args.self.now rs c.if-self-eq0.false (rw c.in-Ok-Underfull.field-0-is at c.in-Ok-Underfull.ensures.removed) n w))
 
 pub returns-in-Err-give_back-clause-goes : goal.returns-in-Err-give_back-clause-goes
 returns-in-Err-give_back-clause-goes g c = λ rs w n. c.in-Err-give_back.ensures.sound (one_empty c.args.k.now (g.S.PageStore.told c.args.store.now) (g.S.PageStore.told c.remove_under.new.store) (g.S.PageStore.free c.args.store.now) (g.S.PageStore.free c.remove_under.new.store) c.args.self.now rs c.if-self-eq0.false (rw c.in-Ok-Emptied.field-0-is at c.in-Ok-Emptied.ensures.removed) n w).0

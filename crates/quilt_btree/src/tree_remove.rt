@@ -1,0 +1,87 @@
+ghost use Rattle.std.specs.Prelude.{◌≡◌, ℕ, ◌+◌, ◌-◌, ◌<◌, ◌≤◌, Bool, true, false, IfOk, IfErr, OnOk, IsErrOf, List, length};
+ghost use Rattle.std.specs.List.{list_any};
+ghost use Rattle.quilt_record.specs.declared.record.Record.{Record};
+ghost use Rattle.quilt_types.specs.declared.stop.Stop.TheVariants.{Device};
+ghost use Rattle.quilt_record.specs.Lists.{has_key, without};
+ghost use Rattle.quilt_btree.specs.Stops.{HasStopCause, IsSound, NamesPage};
+
+use crate::outcomes::Removed;
+use crate::removing::remove_under;
+use crate::tree::Tree;
+use crate::writing::give_back;
+use quilt_record::Key;
+use quilt_store::PageStore;
+use quilt_types::Stop;
+
+impl Tree {
+    ghost use Rattle.quilt_btree.specs.Trees.{IsRooted, IsTree};
+    ghost use Rattle.quilt_btree.specs.Edits.{IsWhole, HasItsPages};
+
+    /// Takes the record of a key out: false exactly where there is none, and nothing changes. It changes at most 7 pages.
+    /// Over a store that tells nothing, page 0 is said to be damaged where a page that is to be written or given back is
+    /// free, the number of records does not go with the height, or an inner page begins with the key that parts it from
+    /// the one before; and any other page where that is seen to be not well formed, not at its height, under its minimum,
+    /// or to have a key out of its bounds: an inner page that stays as it is is not looked into.
+    pub fn remove<S: PageStore>(&mut self, store: &mut S, k: &Key) -> Result<bool, Stop>
+        requires rooted { IsRooted (S.size store.old) self.old }
+        ensures rooted { OnOk result (IsRooted (S.size store.old) self.new) }
+        ensures removed { IfOk result (λ is_out. (rs : List Record) → IsWhole (S.told store.old) (S.free store.old) (S.size store.old) self.old rs → (is_out ≡ list_any (has_key k.now) rs) × IsWhole (S.told store.new) (S.free store.new) (S.size store.old) self.new (without k.now rs)) }
+        ensures answer { IfOk result (λ is_out. (rs : List Record) → IsTree (S.told store.old) self.old rs → is_out ≡ list_any (has_key k.now) rs) }
+        ensures changes { IfOk result (λ is_out. (rs : List Record) → HasItsPages (S.told store.old) (S.free store.old) self.old rs → HasItsPages (S.told store.new) (S.free store.new) self.new (without k.now rs)) }
+        ensures same { IfOk result (λ is_out. is_out ≡ false → (self.new ≡ self.old) × (S.told store.new ≡ S.told store.old) × (S.free store.new ≡ S.free store.old)) }
+        ensures unchanged { IfOk result (λ is_out. is_out ≡ false → S.changed store.new ≤ S.changed store.old) }
+        ensures count { IfOk result (λ is_out. is_out ≡ true → self.new.records + 1 ≡ self.old.records) }
+        ensures sound { IfErr result (λ e. (rs : List Record) → IsWhole (S.told store.old) (S.free store.old) (S.size store.old) self.old rs → IsSound e) }
+        ensures goes { IfErr result (λ e. (rs : List Record) → HasItsPages (S.told store.old) (S.free store.old) self.old rs → length rs ≡ self.old.records → IsSound e) }
+        ensures names { IfErr result (NamesPage (S.size store.old)) }
+        ensures cause { HasStopCause (S.faults store.old) (S.faults store.new) result }
+        ensures size { S.size store.new ≡ S.size store.old }
+        ensures later { S.later store.old store.new }
+        ensures changed { S.changed store.new ≤ S.changed store.old + 7 }
+    {
+        if self.height == 0 {
+            return Ok(false);
+        }
+        match remove_under(store, self.root, self.height, k) {
+            Err(e) => Err(e),
+            Ok(Removed::Missing) => Ok(false),
+            Ok(Removed::Done) => self.shrink(self.root, self.height),
+            Ok(Removed::Underfull) => self.shrink(self.root, self.height),
+            Ok(Removed::Emptied) => match give_back(store, self.root) {
+                Err(e) => Err(e),
+                Ok(()) => self.shrink(0, 0),
+            },
+            Ok(Removed::Only { child }) => match give_back(store, self.root) {
+                Err(e) => Err(e),
+                Ok(()) => self.shrink(child, self.height - 1),
+            },
+        }
+    }
+
+    /// Makes it a tree with this root and height, and one record fewer. Where the numbers do not fit together, page 0 is
+    /// said to be damaged.
+    fn shrink(&mut self, root: u32, height: u8) -> Result<bool, Stop>
+        requires { 1 ≤ self.old.records }
+        ensures tree { OnOk result (self.new ≡ record { root = root; height = height; records = self.old.records - 1 }) }
+        ensures answer { IfOk result (λ is_out. is_out ≡ true) }
+        ensures none { OnOk result (height ≡ 0 → (root ≡ 0) × (self.old.records ≡ 1)) }
+        ensures some { OnOk result (1 ≤ height → 2 ≤ self.old.records) }
+        ensures cause { IsErrOf result Device → ⊥ }
+        ensures names { (size : ℕ) → 0 < size → IfErr result (NamesPage size) }
+        ensures sound { IfErr result (λ e. (height ≡ 0 → (root ≡ 0) × (self.old.records ≡ 1)) → (1 ≤ height → 2 ≤ self.old.records) → IsSound e) }
+    {
+        let records = self.records - 1;
+        if height == 0 && (root != 0 || records != 0) {
+            return Err(Stop::Damaged { page: 0 });
+        }
+        if height != 0 && records == 0 {
+            return Err(Stop::Damaged { page: 0 });
+        }
+        *self = Tree {
+            root,
+            height,
+            records,
+        };
+        Ok(true)
+    }
+}
