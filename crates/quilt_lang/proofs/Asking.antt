@@ -83,6 +83,38 @@ line_asks n line ws what short plain is same =
       kind = by.kind;
     }
 
+-- a line whose first word asks for no further lines
+neither : (a b : Bool) → (a || b) ≡ false → (a ≡ false) × (b ≡ false)
+neither false b is = (refl, is)
+neither true b is = absurd (cc)
+
+none_listed : (w : List ℕ) (ws : List (List ℕ)) → bytes_eq w (codes "scatter") ≡ false → bytes_eq w (codes "polygon") ≡ false → listed_by (w ∷ ws) ≡ 0
+none_listed w [] points rings = refl
+none_listed w (p ∷ []) points rings = refl
+none_listed w (p ∷ k ∷ []) points rings = rw points refl
+none_listed w (p ∷ c ∷ k ∷ []) points rings = rw rings refl
+none_listed w (p ∷ c ∷ k ∷ l ∷ ws) points rings = refl
+
+pub none_asked : (n : ℕ) (ws : List (List ℕ)) →
+    (begins_with ws (codes "raster") || begins_with ws (codes "scatter") || begins_with ws (codes "polygon")) ≡ false → asked_by n ws ≡ 0
+none_asked n [] other = refl
+none_asked n (w ∷ ws) other =
+    let rings = neither (bytes_eq w (codes "raster") || bytes_eq w (codes "scatter")) (bytes_eq w (codes "polygon")) other in
+    let points = neither (bytes_eq w (codes "raster")) (bytes_eq w (codes "scatter")) rings.0 in
+    asks_listed n (w ∷ ws) points.0 ∙ none_listed w ws points.1 rings.1
+
+zero_either : (b : Bool) (k : ℕ) → k ≡ 0 → cond {A = ℕ} b 0 k ≡ 0
+zero_either true k none = refl
+zero_either false k none = none
+
+pub line_other : (n : ℕ) (line : List ℕ) →
+    (begins_with (words_of line) (codes "raster") || begins_with (words_of line) (codes "scatter") || begins_with (words_of line) (codes "polygon")) ≡ false →
+    IsAsked n (asked n line) (words_of line) kinds.Nothing
+line_other n line other = record {
+  number = zero_either (is_long line || not (list_all is_plain line)) (asked_by n (words_of line)) (none_asked n (words_of line) other);
+  kind = tt;
+}
+
 -- a word that stands first, and another
 other_word : (ws : List (List ℕ)) (a b : List ℕ) → begins_with ws a ≡ true → bytes_eq a b ≡ false → begins_with ws b ≡ false
 other_word [] a b first other = refl

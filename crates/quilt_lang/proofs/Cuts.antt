@@ -1,30 +1,30 @@
 -- Where the first newline stands.
-use Rattle.std.proofs.Common.{◌≡◌, inl, inr, ℕ, ◌+◌, ◌<◌, Bool, ◌==◌, List, ◌∷◌, ◌++◌, length, take, drop, Option, Some, None, ◌∙◌, ap, arith, position, nat_lt, length-take}
-use Rattle.std.specs.List.{position_or_len}
-use Rattle.std.proofs.lemmas.List.{get_or-take}
-use Rattle.std.proofs.lemmas.List.Sums.{fails_before_first, split_at_first, passes_at_first}
-use Rattle.std.proofs.lemmas.Bool.{eqb-true, ltb-true, ltb-false}
+use Rattle.std.proofs.Common.{◌≡◌, inl, inr, ℕ, ◌+◌, ◌<◌, true, false, ◌==◌, List, ◌∷◌, ◌++◌, length, take, drop, get_or}
+use Rattle.std.proofs.Common.{Option, Some, None, sym, ◌∙◌, ap, arith, length-take}
+use Rattle.std.proofs.lemmas.List.{get_or-take, get_or_default, take-append-drop, drop_more}
+use Rattle.std.proofs.lemmas.Bool.{eqb-true}
+use Rattle.memchr.specs.Find.{IsFirstByte, is_byte}
 use Rattle.quilt_words.proofs.Cases.{bool_cases}
-use Rattle.quilt_lang.specs.Reading.{IsCut, HasNewline}
+use Rattle.quilt_lang.specs.Reading.{IsCut}
 
-abbrev is_newline : ℕ → Bool
-is_newline c = c == 10
-
-cut_at : (bytes : List ℕ) → position_or_len is_newline bytes < length bytes → HasNewline bytes (position_or_len is_newline bytes)
-cut_at bytes lt =
-    let k = position_or_len is_newline bytes in
-    record {
-      within = lt;
-      before = λ j d below. let less : j < k = omega (arith, below, length-take k bytes) in rw (get_or-take k bytes j d less) (fails_before_first is_newline bytes j d less);
-      is = split_at_first is_newline bytes 0 lt ∙ ap (λ (x : ℕ). take k bytes ++ x ∷ drop (k + 1) bytes) (eqb-true _ 10 (passes_at_first is_newline bytes 0 lt));
-    }
-
-pub cut : (bytes : List ℕ) (r : Option ℕ) → r ≡ position (λ c. c == 10) bytes → IsCut bytes r
-cut bytes None is = elim (bool_cases (nat_lt (position_or_len is_newline bytes) (length bytes))) [
-  | inl within ↦ let e : None ≡ Some (position_or_len is_newline bytes) = rw within at is in absurd (cc)
-  | inr past ↦ λ j d below. fails_before_first is_newline bytes j d (omega (arith, below, ltb-false _ _ past))
+-- no byte passes where none is found
+not_newline : (bytes : List ℕ) (j d : ℕ) → j < length bytes → ((get_or bytes j 0 == 10) ≡ true → ⊥) → (get_or bytes j d == 10) ≡ false
+not_newline bytes j d below none = elim (bool_cases (get_or bytes j d == 10)) [
+  | inl is ↦ absurd (none (ap (λ (c : ℕ). c == 10) (get_or_default bytes j 0 d below) ∙ is))
+  | inr other ↦ other
 ]
-cut bytes (Some k) is = elim (bool_cases (nat_lt (position_or_len is_newline bytes) (length bytes))) [
-  | inl within ↦ let e : Some k ≡ Some (position_or_len is_newline bytes) = rw within at is in let same : k ≡ position_or_len is_newline bytes = cc in rw same (cut_at bytes (ltb-true _ _ within))
-  | inr past ↦ let e : Some k ≡ None = rw past at is in absurd (cc)
-]
+
+split_at : (bytes : List ℕ) (k : ℕ) → k < length bytes → (get_or bytes k 0 == 10) ≡ true → bytes ≡ take k bytes ++ 10 ∷ drop (k + 1) bytes
+split_at bytes k within is =
+    sym (take-append-drop k bytes) ∙ ap (λ (l : List ℕ). take k bytes ++ l) (drop_more bytes k 0 within)
+    ∙ ap (λ (c : ℕ). take k bytes ++ c ∷ drop (k + 1) bytes) (eqb-true (get_or bytes k 0) 10 is)
+
+pub cut : (bytes : List ℕ) (r : Option ℕ) → IsFirstByte (is_byte 10) bytes r → IsCut bytes r
+cut bytes None none = λ j d below. not_newline bytes j d below (none j (omega arith) below)
+cut bytes (Some k) at = record {
+  within = at.0.high;
+  before = λ j d below.
+      let less : j < k = omega (arith, below, length-take k bytes) in
+      rw (get_or-take k bytes j d less) (not_newline bytes j d (omega (arith, less, at.0.high)) (at.0.before j (omega arith) less));
+  is = split_at bytes k at.0.high at.1;
+}

@@ -1,11 +1,12 @@
 //! The further lines that a line asks for.
 ghost use Rattle.std.specs.Prelude.{◌≡◌, ◌==◌, ◌||◌, ℕ, false, codes, length, map, IfOk};
+ghost use Rattle.std.specs.Str.{bytes_eq};
 ghost use Rattle.quilt_types.specs.Plane.{side};
 ghost use Rattle.quilt_words.specs.Items.{asked, asked_by, begins_with, words_of};
 ghost use Rattle.quilt_lang.specs.Cutting.{IsAsked, number_of};
 
 use crate::spelled::listed;
-use quilt_words::{LINE_LIMIT, is_plain_line, line_words};
+use quilt_words::{LINE_LIMIT, first_word, is_plain_line, line_words};
 use std::alloc::{AllocError, Global};
 
 /// The further lines that a line asks for.
@@ -59,10 +60,31 @@ pub fn is_count(k: u32, count: usize) -> bool
     count == k as usize
 }
 
-/// What a line asks for.
+/// Whether a line begins with a word that asks for further lines.
+fn begins_asking(line: &[u8]) -> bool
+    ensures { result ≡ (begins_with (words_of line.now) (codes "raster") || begins_with (words_of line.now) (codes "scatter")
+        || begins_with (words_of line.now) (codes "polygon")) }
+{
+    match first_word(line) {
+        Some((word, _)) => is_asking(word),
+        None => false,
+    }
+}
+
+/// Whether a word asks for further lines.
+fn is_asking(word: &[u8]) -> bool
+    ensures { result ≡ (bytes_eq word.now (codes "raster") || bytes_eq word.now (codes "scatter") || bytes_eq word.now (codes "polygon")) }
+{
+    word == b"raster".as_slice() || word == b"scatter".as_slice() || word == b"polygon".as_slice()
+}
+
+/// What a line asks for. It takes no memory where the line does not begin with a word that asks.
 pub fn further_asked(alloc: Global, line: &[u8]) -> Result<Asked, AllocError>
     ensures { IfOk result (λ what. (n : ℕ) → IsAsked n (asked n line.now) (words_of line.now) what) }
 {
+    if !begins_asking(line) {
+        return Ok(Asked::Nothing);
+    }
     if line.len() > LINE_LIMIT {
         return Ok(Asked::Nothing);
     }

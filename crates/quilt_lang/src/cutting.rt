@@ -1,22 +1,20 @@
-ghost use Rattle.std.specs.Prelude.{◌≡◌, ◌==◌, ◌<◌, ◌≤◌, ◌+◌, ℕ, false, [], ◌∷◌, length, take, drop, position, IfSome, MatchOption};
+ghost use Rattle.std.specs.Prelude.{◌≡◌, ◌<◌, ◌≤◌, ◌+◌, ℕ, false, [], ◌∷◌, length, take, drop, IfSome, MatchOption};
 ghost use Rattle.quilt_words.specs.Items.{is_silent};
 ghost use Rattle.quilt_lang.specs.Reading.{IsLine, IsCut, Gives, HasNone, begins_silent, kept_limit};
 ghost use Rattle.quilt_lang.specs.Cutting.{Cuts, HasNoLine};
 ghost use Rattle.quilt_lang.specs.Progress.{IsUncut, IsFirstLine};
 
+use memchr::memchr;
 use quilt_words::{LINE_LIMIT, is_silent_line};
 
-/// The index of the first newline.
+/// The index of the first newline. That it stands first, as it does where a line was looked at before, is tested without a search.
 fn newline(bytes: &[u8]) -> Option<usize>
     ensures { IsCut bytes.now result }
 {
-    first_newline(bytes)
-}
-
-fn first_newline(bytes: &[u8]) -> Option<usize>
-    ensures { result ≡ position (λ c. c == 10) bytes.now }
-{
-    bytes.iter().position(|c| *c == b'\n')
+    match bytes {
+        [b'\n', ..] => Some(0),
+        _ => memchr(b'\n', bytes),
+    }
 }
 
 /// The index of the first newline, where so many bytes are known to have none.

@@ -6,7 +6,7 @@ ghost use Rattle.quilt_words.specs.Spelling.{number, row, hex_digit};
 ghost use Rattle.quilt_lang.specs.Spelled.{with_byte};
 
 use quilt_types::{Corner, Pixel, Point, PointList, RingList, Text};
-use quilt_words::{LINE_LIMIT, line_words, number_of, push_ring};
+use quilt_words::{LINE_LIMIT, few_words, line_words, number_of, push_ring};
 use std::alloc::{AllocError, Global};
 
 /// How many list lines or ring lines the words ask for.
@@ -74,16 +74,16 @@ fn row_bytes(alloc: Global, line: &[u8]) -> Result<Option<Vec<u8>>, AllocError>
 }
 
 /// The point that a list line spells.
-fn list_point(alloc: Global, line: &[u8]) -> Result<Option<Point>, AllocError>
-    ensures { IfOk result (λ p. p ≡ (if nat_le (length line.now) 64 then point_of (words_of line.now) else None)) }
+fn list_point(line: &[u8]) -> Option<Point>
+    ensures { result ≡ (if nat_le (length line.now) 64 then point_of (words_of line.now) else None) }
 {
     if line.len() > 64 {
-        return Ok(None);
+        return None;
     }
-    let words = line_words(alloc, line)?;
+    let words = few_words(line)?;
     match words.as_slice() {
-        [x, y, label] => Ok(point_in(x, y, label)),
-        _ => Ok(None),
+        [x, y, label] => point_in(x, y, label),
+        _ => None,
     }
 }
 
@@ -106,7 +106,7 @@ pub fn list_points(alloc: Global, lines: &[&[u8]]) -> Result<Option<PointList>, 
 {
     let mut points = PointList::new(alloc);
     for line in lines {
-        let Some(p) = list_point(alloc, line)? else {
+        let Some(p) = list_point(line) else {
             return Ok(None);
         };
         points.push(p)?;

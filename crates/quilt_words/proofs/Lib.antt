@@ -1,4 +1,5 @@
 pub mod Cases
+pub mod FirstWords
 pub mod Holding
 pub mod Names
 pub mod Numbers

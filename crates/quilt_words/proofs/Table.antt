@@ -1,11 +1,13 @@
 -- The words and the table of forms.
-use Rattle.std.proofs.Common.{◌≡◌, inl, inr, ℕ, Bool, true, false, List, [], ◌∷◌, Option, Some, None, Err, refl, sym, ◌∙◌, ap, subst, codes, find, IfSome}
+use Rattle.std.proofs.Common.{◌≡◌, inl, inr, ℕ, ◌≤◌, Bool, true, false, List, [], ◌∷◌}
+use Rattle.std.proofs.Common.{Option, Some, None, Err, refl, sym, ◌∙◌, ap, subst, codes, filter, find, length, get_or, arith, IfSome}
 use Rattle.std.specs.List.{list_any, list_all}
 use Rattle.std.specs.Str.{bytes_eq}
+use Rattle.std.proofs.lemmas.Bool.{eq-eqb}
 use Rattle.std.proofs.lemmas.Slice.Eq.{bytes_eq-Decides}
 use Rattle.quilt_words.specs.declared.word.Word.{Word}
 use Rattle.quilt_types.specs.declared.code.Code.TheVariants as codes_of
-use Rattle.quilt_words.specs.Words.{spelling, all_words}
+use Rattle.quilt_words.specs.Words.{first_is, spelling, all_words}
 use Rattle.quilt_words.specs.Forms.{Further, Entry, table, form_of_words}
 use Rattle.quilt_words.specs.Made.{formed}
 use Rattle.quilt_words.proofs.Cases.{bool_cases}
@@ -63,3 +65,23 @@ spelled_some bs (Some w) is = spelled_is bs w (sym is)
 -- a word spells what its row makes
 pub known_is : (f : ℕ) (more : Further) (bs : List ℕ) (w : Word) (args : List (List ℕ)) → bs ≡ spelling w → form_of_words f more (bs ∷ args) ≡ formed f more w args
 known_is f more bs w args same = ap (λ (v : List ℕ). form_of_words f more (v ∷ args)) same ∙ formed_is f more w args
+
+-- bytes that begin with a byte are found among the words that begin with it
+pub found_among : (c : ℕ) (cs : List ℕ) (xs : List Word) →
+    find (λ w. bytes_eq (spelling w) (c ∷ cs)) (filter (λ w. first_is c (spelling w)) xs) ≡ find (λ w. bytes_eq (spelling w) (c ∷ cs)) xs
+found_among c cs [] = refl
+found_among c cs (x ∷ xs) = elim (bool_cases (bytes_eq (spelling x) (c ∷ cs))) [
+  | inl same ↦
+      let is : spelling x ≡ c ∷ cs = (bytes_eq-Decides (spelling x) (c ∷ cs)).0 same in
+      let first : first_is c (spelling x) ≡ true = ap (first_is c) is ∙ eq-eqb c c refl in
+      rw first (rw same refl)
+  | inr other ↦ elim (bool_cases (first_is c (spelling x))) [
+    | inl first ↦ rw (first, other) (found_among c cs xs)
+    | inr not_ ↦ rw (not_, other) (found_among c cs xs)
+  ]
+]
+
+pub found_first : (bytes : List ℕ) (d : ℕ) (ws : List Word) → 1 ≤ length bytes → ws ≡ filter (λ w. first_is (get_or bytes 0 d) (spelling w)) all_words →
+    find (λ w. bytes_eq (spelling w) bytes) ws ≡ find (λ w. bytes_eq (spelling w) bytes) all_words
+found_first [] d ws some is = absurd (omega (arith, some))
+found_first (c ∷ cs) d ws some is = ap (find (λ w. bytes_eq (spelling w) (c ∷ cs))) is ∙ found_among c cs all_words

@@ -1,5 +1,5 @@
 -- How the words of commands are spelled.
-use Rattle.std.specs.Prelude.{ℕ, List, [], ◌∷◌, codes}
+use Rattle.std.specs.Prelude.{ℕ, Bool, false, ◌==◌, List, [], ◌∷◌, codes}
 use Rattle.quilt_words.specs.declared.word.MapWord.{MapWord}
 use Rattle.quilt_words.specs.declared.word.MapWord.TheVariants as map_words
 use Rattle.quilt_words.specs.declared.word.RegionWord.{RegionWord}
@@ -76,6 +76,11 @@ spelling (words.Region w) = region_spelling w
 spelling (words.Algebra w) = algebra_spelling w
 spelling (words.Point w) = point_spelling w
 spelling (words.Line w) = line_spelling w
+
+-- the bytes begin with this one
+abbrev pub first_is : ℕ → List ℕ → Bool
+first_is c [] = false
+first_is c (b ∷ bs) = b == c
 
 -- the words of all commands: those of the table in its order, and then the two whose arguments depend on their number
 abbrev pub all_words : List Word

@@ -1,5 +1,5 @@
 ghost use Rattle.std.specs.Prelude.{◌≡◌, ◌≤◌, ℕ, Ok, Err, Result, [], ◌∷◌, map, IfOk};
-ghost use Rattle.quilt_words.specs.Items.{Group, held};
+ghost use Rattle.quilt_words.specs.Items.{Group, held, words_of};
 ghost use Rattle.quilt_words.specs.Forms.{form_of_words, form_of_line, form, Spelled};
 ghost use Rattle.quilt_words.specs.Made.{further_of};
 ghost use Rattle.quilt_words.specs.Parsing.{Answers};
@@ -7,7 +7,7 @@ ghost use Rattle.quilt_words.specs.Fitting.{IsFitting, FurtherFits};
 
 use crate::commands::command;
 use crate::word::Word;
-use crate::words::{is_plain_line, line_words};
+use crate::words::{few_words, is_plain_line, line_words};
 use crate::{Command, Item, ParseErr};
 use quilt_types::Code;
 use std::alloc::Global;
@@ -43,6 +43,22 @@ fn parse_line(alloc: Global, format: u8, line: &[u8], item: &Item) -> Result<Com
     if !is_plain_line(line) {
         return Err(ParseErr::No(Code::Bytes));
     }
+    match few_words(line) {
+        Some(words) => parse_words(alloc, format, &words, item),
+        None => parse_many_words(alloc, format, line, item),
+    }
+}
+
+/// The command of a line whose words are too many to stand in a list without memory.
+fn parse_many_words(
+    alloc: Global,
+    format: u8,
+    line: &[u8],
+    item: &Item,
+) -> Result<Command, ParseErr>
+    ensures is { Answers result (form_of_words format (further_of item.now) (words_of line.now)) }
+    ensures fits { (n : ℕ) → FurtherFits format n (further_of item.now) → IfOk result (IsFitting format n) }
+{
     let words = line_words(alloc, line)?;
     parse_words(alloc, format, &words, item)
 }

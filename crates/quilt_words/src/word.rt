@@ -1,6 +1,6 @@
-ghost use Rattle.std.specs.Prelude.{◌≡◌, find, IfSome};
+ghost use Rattle.std.specs.Prelude.{◌≡◌, filter, find, IfSome};
 ghost use Rattle.std.specs.Str.{bytes_eq};
-ghost use Rattle.quilt_words.specs.Words.{spelling, map_spelling, region_spelling, algebra_spelling, point_spelling, line_spelling, all_words};
+ghost use Rattle.quilt_words.specs.Words.{spelling, map_spelling, region_spelling, algebra_spelling, point_spelling, line_spelling, first_is, all_words};
 
 /// A word of a command on the map and its layers.
 #[derive(Clone, Copy, Debug, PartialEq, Eq)]
@@ -164,50 +164,6 @@ pub enum Word {
     Line(LineWord),
 }
 
-const ALL: [Word; 41] = [
-    Word::Map(MapWord::Region),
-    Word::Map(MapWord::Lines),
-    Word::Map(MapWord::Drop),
-    Word::Map(MapWord::Copy),
-    Word::Map(MapWord::Layers),
-    Word::Map(MapWord::Blocks),
-    Word::Map(MapWord::Records),
-    Word::Region(RegionWord::Set),
-    Word::Region(RegionWord::Rect),
-    Word::Region(RegionWord::Raster),
-    Word::Region(RegionWord::At),
-    Word::Region(RegionWord::Show),
-    Word::Region(RegionWord::Leaves),
-    Word::Algebra(AlgebraWord::Union),
-    Word::Algebra(AlgebraWord::Inter),
-    Word::Algebra(AlgebraWord::Diff),
-    Word::Algebra(AlgebraWord::Window),
-    Word::Algebra(AlgebraWord::Shift),
-    Word::Algebra(AlgebraWord::Buffer),
-    Word::Region(RegionWord::Area),
-    Word::Region(RegionWord::Perimeter),
-    Word::Point(PointWord::Put),
-    Word::Point(PointWord::Del),
-    Word::Point(PointWord::Scatter),
-    Word::Point(PointWord::Find),
-    Word::Point(PointWord::Within),
-    Word::Line(LineWord::Line),
-    Word::Line(LineWord::Unline),
-    Word::Line(LineWord::Cross),
-    Word::Line(LineWord::Clip),
-    Word::Line(LineWord::Nearest),
-    Word::Line(LineWord::Over),
-    Word::Map(MapWord::Edition),
-    Word::Map(MapWord::Publish),
-    Word::Map(MapWord::Upgrade),
-    Word::Map(MapWord::Revert),
-    Word::Region(RegionWord::Polygon),
-    Word::Line(LineWord::Rank),
-    Word::Line(LineWord::Crossings),
-    Word::Algebra(AlgebraWord::Recolour),
-    Word::Map(MapWord::Points),
-];
-
 impl Word {
     /// How it is spelled.
     pub fn spelling(self) -> &'static [u8]
@@ -231,8 +187,86 @@ impl Word {
     }
 }
 
+/// The words that begin with this byte.
+fn begun_by(first: u8) -> &'static [Word]
+    ensures { result.now ≡ filter (λ w. first_is first (spelling w)) all_words }
+{
+    match first {
+        b'a' => &[Word::Region(RegionWord::At), Word::Region(RegionWord::Area)],
+        b'b' => &[
+            Word::Map(MapWord::Blocks),
+            Word::Algebra(AlgebraWord::Buffer),
+        ],
+        b'c' => &[
+            Word::Map(MapWord::Copy),
+            Word::Line(LineWord::Cross),
+            Word::Line(LineWord::Clip),
+            Word::Line(LineWord::Crossings),
+        ],
+        b'd' => &[
+            Word::Map(MapWord::Drop),
+            Word::Algebra(AlgebraWord::Diff),
+            Word::Point(PointWord::Del),
+        ],
+        b'e' => &[Word::Map(MapWord::Edition)],
+        b'f' => &[Word::Point(PointWord::Find)],
+        b'i' => &[Word::Algebra(AlgebraWord::Inter)],
+        b'l' => &[
+            Word::Map(MapWord::Lines),
+            Word::Map(MapWord::Layers),
+            Word::Region(RegionWord::Leaves),
+            Word::Line(LineWord::Line),
+        ],
+        b'n' => &[Word::Line(LineWord::Nearest)],
+        b'o' => &[Word::Line(LineWord::Over)],
+        b'p' => &[
+            Word::Region(RegionWord::Perimeter),
+            Word::Point(PointWord::Put),
+            Word::Map(MapWord::Publish),
+            Word::Region(RegionWord::Polygon),
+            Word::Map(MapWord::Points),
+        ],
+        b'r' => &[
+            Word::Map(MapWord::Region),
+            Word::Map(MapWord::Records),
+            Word::Region(RegionWord::Rect),
+            Word::Region(RegionWord::Raster),
+            Word::Map(MapWord::Revert),
+            Word::Line(LineWord::Rank),
+            Word::Algebra(AlgebraWord::Recolour),
+        ],
+        b's' => &[
+            Word::Region(RegionWord::Set),
+            Word::Region(RegionWord::Show),
+            Word::Algebra(AlgebraWord::Shift),
+            Word::Point(PointWord::Scatter),
+        ],
+        b'u' => &[
+            Word::Algebra(AlgebraWord::Union),
+            Word::Line(LineWord::Unline),
+            Word::Map(MapWord::Upgrade),
+        ],
+        b'w' => &[
+            Word::Algebra(AlgebraWord::Window),
+            Word::Point(PointWord::Within),
+        ],
+        _ => &[],
+    }
+}
+
+/// The word among these that the bytes spell.
+fn look_among(words: &[Word], bytes: &[u8]) -> Option<Word>
+    ensures { result ≡ find (λ w. bytes_eq (spelling w) bytes.now) words.now }
+{
+    words.iter().copied().find(|w| w.spelling() == bytes)
+}
+
+/// The word that the bytes spell.
 fn look_up(bytes: &[u8]) -> Option<Word>
     ensures { result ≡ find (λ w. bytes_eq (spelling w) bytes.now) all_words }
 {
-    ALL.iter().copied().find(|w| w.spelling() == bytes)
+    match bytes {
+        [first, ..] => look_among(begun_by(*first), bytes),
+        [] => None,
+    }
 }

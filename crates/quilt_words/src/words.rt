@@ -1,36 +1,85 @@
-ghost use Rattle.std.specs.Prelude.{◌≡◌, ◌==◌, IfOk, map, find, filter, length, not};
-ghost use Rattle.std.specs.List.{slice_split, list_all};
+ghost use Rattle.std.specs.Prelude.{◌≡◌, ◌==◌, ◌<◌, [], ◌∷◌, IfOk, IfSome, MatchOption, map, find, length, take, drop, not, position};
+ghost use Rattle.std.specs.List.{list_all, position_or_len};
 ghost use Rattle.quilt_words.specs.Items.{words_of, is_plain, is_remark, is_silent};
 
+use arrayvec::ArrayVec;
 use std::alloc::{AllocError, Global};
 
 /// The most bytes that a line may have.
 pub const LINE_LIMIT: usize = 8320;
 
-/// The pieces of a line between spaces.
-fn pieces(alloc: Global, line: &[u8]) -> Result<Vec<&[u8]>, AllocError>
-    ensures { IfOk result (λ v. map (λ w. w.now) v.items ≡ slice_split (λ c. c == 32) line.now) }
+/// The index of the first byte of a line other than a space.
+fn first_other(line: &[u8]) -> Option<usize>
+    ensures { result ≡ position (λ c. not (c == 32)) line.now }
 {
-    line.split(|c| *c == b' ').collect(alloc)
+    line.iter().position(|c| *c != b' ')
+}
+
+/// The index of the first space of a line.
+fn first_space(line: &[u8]) -> Option<usize>
+    ensures { result ≡ position (λ c. c == 32) line.now }
+{
+    line.iter().position(|c| *c == b' ')
+}
+
+/// The line without the spaces that it begins with.
+fn trimmed(line: &[u8]) -> &[u8]
+    ensures { result.now ≡ drop (position_or_len (λ c. not (c == 32)) line.now) line.now }
+{
+    match first_other(line) {
+        Some(k) => &line[k..],
+        None => &line[line.len()..],
+    }
+}
+
+/// The bytes of a line before its first space, and the others.
+fn split_at_space(line: &[u8]) -> (&[u8], &[u8])
+    ensures front { result.0.now ≡ take (position_or_len (λ c. c == 32) line.now) line.now }
+    ensures back { result.1.now ≡ drop (position_or_len (λ c. c == 32) line.now) line.now }
+{
+    match first_space(line) {
+        Some(k) => line.split_at(k),
+        None => line.split_at(line.len()),
+    }
+}
+
+/// The first word of a line, and what stands behind it.
+pub fn first_word(line: &[u8]) -> Option<(&[u8], &[u8])>
+    ensures is { MatchOption result (words_of line.now ≡ []) (λ w. words_of line.now ≡ w.0.now ∷ words_of w.1.now) }
+    ensures shorter { IfSome result (λ w. length w.1.now < length line.now) }
+{
+    let rest = trimmed(line);
+    if rest.is_empty() {
+        return None;
+    }
+    Some(split_at_space(rest))
+}
+
+/// The words of a line, where they are at most 8. It takes no memory.
+pub fn few_words(line: &[u8]) -> Option<ArrayVec<&[u8], 8>>
+    ensures { MatchOption result (8 < length (words_of line.now)) (λ v. map (λ w. w.now) v.items ≡ words_of line.now) }
+{
+    let mut words = ArrayVec::new();
+    let mut rest = line;
+    while let Some((word, behind)) = first_word(rest) {
+        if words.is_full() {
+            return None;
+        }
+        words.push(word);
+        rest = behind;
+    }
+    Some(words)
 }
 
 /// The words of a line.
 pub fn line_words(alloc: Global, line: &[u8]) -> Result<Vec<&[u8]>, AllocError>
     ensures { IfOk result (λ v. map (λ w. w.now) v.items ≡ words_of line.now) }
 {
-    nonempty_pieces(alloc, line)
-}
-
-/// The pieces of a line between spaces that have a byte.
-fn nonempty_pieces(alloc: Global, line: &[u8]) -> Result<Vec<&[u8]>, AllocError>
-    ensures { IfOk result (λ v. map (λ w. w.now) v.items ≡ filter (λ w. not (length w == 0)) (slice_split (λ c. c == 32) line.now)) }
-{
-    let pieces = pieces(alloc, line)?;
     let mut words = Vec::new(alloc);
-    for piece in &pieces {
-        if !piece.is_empty() {
-            words.push(*piece)?;
-        }
+    let mut rest = line;
+    while let Some((word, behind)) = first_word(rest) {
+        words.push(word)?;
+        rest = behind;
     }
     Ok(words)
 }
@@ -63,5 +112,5 @@ fn is_remark_line(line: &[u8]) -> bool
 pub fn is_silent_line(line: &[u8]) -> bool
     ensures { result ≡ is_silent line.now }
 {
-    line.len() <= LINE_LIMIT && is_plain_line(line) && is_remark_line(line)
+    is_remark_line(line) && line.len() <= LINE_LIMIT && is_plain_line(line)
 }

@@ -1,5 +1,7 @@
 use quilt_types::{Code, Colour, Text};
-use quilt_words::{Command, Item, Pairs, ParseErr, parse, refusal_text};
+use quilt_words::{
+    Command, Item, Pairs, ParseErr, few_words, first_word, line_words, parse, refusal_text,
+};
 use std::alloc::Global;
 use std::test::Fail;
 
@@ -48,6 +50,38 @@ fn refuses_in_order(rt: HostRuntime) -> Result<(), Fail> {
     );
     assert_eq!(rt; refused(alloc, 1, b"show A 1 2 3 x")?, Some(Code::Name));
     assert_eq!(rt; refused(alloc, 1, b"show a 1 2 0 x")?, Some(Code::Number));
+    Ok(())
+}
+
+#[test]
+fn refuses_few_and_many_words(rt: HostRuntime) -> Result<(), Fail> {
+    let alloc = rt.alloc();
+    assert_eq!(rt; refused(alloc, 1, b"  at  a 1  2 ")?, None);
+    assert_eq!(rt;
+        refused(alloc, 1, b"recolour a c 1 2 3 4 5")?,
+        Some(Code::Count)
+    );
+    assert_eq!(rt; refused(alloc, 1, b"recolour a c 1 2 3 4 5 6")?, None);
+    assert_eq!(rt;
+        refused(alloc, 1, b"line l 1 2 3 4 5 6 7")?,
+        Some(Code::Count)
+    );
+    assert_eq!(rt;
+        refused(alloc, 1, b"attic a 1 2 3 4 5 6 7")?,
+        Some(Code::Word)
+    );
+    Ok(())
+}
+
+#[test]
+fn cuts_words(rt: HostRuntime) -> Result<(), Fail> {
+    let (first, rest) = first_word(b"  at a ").ok_or("no word")?;
+    assert_eq!(rt; first, b"at".as_slice());
+    assert_eq!(rt; rest, b" a ".as_slice());
+    let words = few_words(b" at a  1 2 ").ok_or("too many words")?;
+    assert_eq!(rt; words.len(), 4);
+    assert!(rt; few_words(b"1 2 3 4 5 6 7 8 9").is_none());
+    assert_eq!(rt; line_words(rt.alloc(), b"1 2 3 4 5 6 7 8 9")?.len(), 9);
     Ok(())
 }
 
