@@ -5,7 +5,7 @@ ghost use Rattle.quilt_lang.specs.Cutting.{Cuts, HasNoLine};
 ghost use Rattle.quilt_lang.specs.Progress.{IsUncut, IsFirstLine};
 
 use memchr::memchr;
-use quilt_words::{LINE_LIMIT, is_silent_line};
+use quilt_words::{LINE_LIMIT, is_comment_line};
 
 /// The index of the first newline. That it stands first, as it does where a line was looked at before, is tested without a search.
 fn newline(bytes: &[u8]) -> Option<usize>
@@ -45,7 +45,7 @@ fn first_of(text: &[u8], scanned: usize) -> FirstLine
     let Some(k) = newline_behind(text, scanned) else {
         return FirstLine::Begun(text.len());
     };
-    if is_silent_line(&text[..k]) {
+    if is_comment_line(&text[..k]) {
         FirstLine::Silent(k + 1)
     } else {
         FirstLine::Begun(k)
@@ -129,7 +129,7 @@ fn last_len(text: &[u8], ended: bool) -> Option<usize>
     ensures within { IfSome result (λ k. k ≤ length text.now) }
     ensures whole { IfSome result (λ k. ended ≡ false → k < length text.now) }
 {
-    if !ended || is_silent_line(text) {
+    if !ended || is_comment_line(text) {
         return None;
     }
     Some(text.len())

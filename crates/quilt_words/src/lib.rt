@@ -24,4 +24,4 @@ pub use parse_err::ParseErr;
 pub use parser::parse;
 pub use refusal::refusal_text;
 pub use word::{AlgebraWord, LineWord, MapWord, PointWord, RegionWord, Word};
-pub use words::{LINE_LIMIT, few_words, first_word, is_plain_line, is_silent_line, line_words};
+pub use words::{LINE_LIMIT, few_words, first_word, is_comment_line, is_plain_line, line_words};

@@ -99,7 +99,7 @@ fn first_byte(line: &[u8]) -> Option<u8>
 }
 
 /// Whether a line has no word, or a first word that begins with `#`.
-fn is_remark_line(line: &[u8]) -> bool
+fn is_comment(line: &[u8]) -> bool
     ensures { result ≡ is_remark (words_of line.now) }
 {
     match first_byte(line) {
@@ -109,8 +109,8 @@ fn is_remark_line(line: &[u8]) -> bool
 }
 
 /// Whether a line begins no item and has no reply.
-pub fn is_silent_line(line: &[u8]) -> bool
+pub fn is_comment_line(line: &[u8]) -> bool
     ensures { result ≡ is_silent line.now }
 {
-    is_remark_line(line) && line.len() <= LINE_LIMIT && is_plain_line(line)
+    is_comment(line) && line.len() <= LINE_LIMIT && is_plain_line(line)
 }

@@ -1,6 +1,6 @@
 use Rattle.std.proofs.Common.{sym, ◌∙◌, ap}
 use Rattle.quilt_words.proofs.Remarks.{remark_is, is_hash}
-use Rattle.quilt_words.proofs.words.is_remark_line.Goals as goal
+use Rattle.quilt_words.proofs.words.is_comment.Goals as goal
 
 pub returns-in-None : goal.returns-in-None
 returns-in-None c = sym (remark_is c.args.line.now ∙ ap is_hash (sym c.first_byte.ensures ∙ c.in-None.is))
