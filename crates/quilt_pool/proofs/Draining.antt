@@ -1,5 +1,7 @@
 -- What writing a dirty page to its slot, and keeping it clean, keeps.
-use Rattle.std.proofs.Common.{Result, Ok, Err, OnOk, IsOk, ◌≡◌, ◌≢◌, ◌⊎◌, inl, inr, ℕ, zero, suc, ◌+◌, ◌-◌, ◌*◌, ◌<◌, ◌≤◌, Bool, true, false, cond, nat_eq, ◌||◌, List, [], ◌∷◌, Option, Some, None, length, filter, get_or, set, refl, sym, ◌∙◌, ap, subst, arith, add-one, add-zero, add-suc, get_or-set_same}
+use Rattle.std.proofs.Common.{Result, Ok, Err, OnOk, IsOk, ◌≡◌, ◌≢◌, ◌⊎◌, inl, inr, ℕ, zero, suc, ◌+◌, ◌-◌, ◌*◌, ◌<◌, ◌≤◌, Bool, true, false, cond, nat_eq}
+use Rattle.std.proofs.Common.{◌||◌, List, [], ◌∷◌, Option, Some, None, length, filter, get_or, set, refl, sym, ◌∙◌, ap, subst, arith, add-one, add-zero}
+use Rattle.std.proofs.Common.{add-suc, get_or-set_same}
 use Rattle.std.specs.Option.{IfSome}
 use Rattle.std.specs.List.{range_with_len}
 use Rattle.std.proofs.lemmas.Bool.{cases_Bool, cases_eq, cases_lt, false≢true, eqb-true, eqb-false, eq-eqb, ne_eqb}
@@ -52,7 +54,8 @@ module _ (es : Entries) (k : ℕ) (f : Frame) (at : frame_at es k ≡ Some f) wh
   over_clean : (pages : Pages) (i : ℕ) → page_over cleaned pages i ≡ page_over es pages i
   over_clean pages i = elim (cases_eq i k) [
     | inl same ↦
-        let new : frame_at cleaned i ≡ Some (record { bytes = f.bytes; is_dirty = false }) = subst (λ j. frame_at cleaned j ≡ Some (record { bytes = f.bytes; is_dirty = false })) (sym same) here_at in
+        let new : frame_at cleaned i ≡ Some (record { bytes = f.bytes; is_dirty = false }) =
+        subst (λ j. frame_at cleaned j ≡ Some (record { bytes = f.bytes; is_dirty = false })) (sym same) here_at in
         let old : frame_at es i ≡ Some f = subst (λ j. frame_at es j ≡ Some f) (sym same) at in
         ap (bytes_or (get_or pages i [])) new ∙ sym (ap (bytes_or (get_or pages i [])) old)
     | inr ne ↦ ap (bytes_or (get_or pages i [])) (other_at i ne)
@@ -62,7 +65,8 @@ module _ (es : Entries) (k : ℕ) (f : Frame) (at : frame_at es k ≡ Some f) wh
   unfolding cleaned
   bytes_clean i = elim (cases_eq i k) [
     | inl same ↦
-        let new : frame_at cleaned i ≡ Some (record { bytes = f.bytes; is_dirty = false }) = subst (λ j. frame_at cleaned j ≡ Some (record { bytes = f.bytes; is_dirty = false })) (sym same) here_at in
+        let new : frame_at cleaned i ≡ Some (record { bytes = f.bytes; is_dirty = false }) =
+        subst (λ j. frame_at cleaned j ≡ Some (record { bytes = f.bytes; is_dirty = false })) (sym same) here_at in
         let old : frame_at es i ≡ Some f = subst (λ j. frame_at es j ≡ Some f) (sym same) at in
         ap (bytes_or []) new ∙ sym (ap (bytes_or []) old)
     | inr ne ↦ ap (bytes_or []) (other_at i ne)
@@ -88,11 +92,13 @@ module _ (es : Entries) (k : ℕ) (f : Frame) (at : frame_at es k ≡ Some f) wh
     since = since_here t (HasHome n (published t n)) (idle_leaves n c t is.idle);
   }
 
-  pub marked_clean : (c : List Bool) → is_changed c k ≡ true → f.is_dirty ≡ true → (i : ℕ) → is_marked (set_value (nat_eq k) es (record { bytes = f.bytes; is_dirty = false })) c i ≡ is_marked es c i
+  pub marked_clean : (c : List Bool) → is_changed c k ≡ true → f.is_dirty ≡ true → (i : ℕ)
+      → is_marked (set_value (nat_eq k) es (record { bytes = f.bytes; is_dirty = false })) c i ≡ is_marked es c i
   unfolding cleaned
   marked_clean c bit dirty i = elim (cases_eq i k) [
     | inl same ↦
-        let new : frame_at cleaned i ≡ Some (record { bytes = f.bytes; is_dirty = false }) = subst (λ j. frame_at cleaned j ≡ Some (record { bytes = f.bytes; is_dirty = false })) (sym same) here_at in
+        let new : frame_at cleaned i ≡ Some (record { bytes = f.bytes; is_dirty = false }) =
+        subst (λ j. frame_at cleaned j ≡ Some (record { bytes = f.bytes; is_dirty = false })) (sym same) here_at in
         let old : frame_at es i ≡ Some f = subst (λ j. frame_at es j ≡ Some f) (sym same) at in
         ap (λ o. has_dirt o || is_changed c i) new
         ∙ ap (is_changed c) same ∙ bit
@@ -108,7 +114,8 @@ module _ (es : Entries) (k : ℕ) (f : Frame) (at : frame_at es k ≡ Some f) wh
   unfolding cleaned
   clean_other i ne = ap has_dirt (other_at i ne)
 
-  pub keeps_drained : (n : ℕ) (c d : List Bool) (o t : Tale) → Keeps n es es c d o t → f.bytes ≡ get_or (work t n d) k [] → Keeps n es (set_value (nat_eq k) es (record { bytes = f.bytes; is_dirty = false })) c d o t
+  pub keeps_drained : (n : ℕ) (c d : List Bool) (o t : Tale) → Keeps n es es c d o t → f.bytes ≡ get_or (work t n d) k []
+      → Keeps n es (set_value (nat_eq k) es (record { bytes = f.bytes; is_dirty = false })) c d o t
   unfolding cleaned
   keeps_drained n c d o t keeps fresh = keeps_then n es es cleaned c d d o t t keeps (keeps_clean n d t keeps.is fresh)
 
@@ -138,11 +145,13 @@ more f a (suc n) =
     omega (arith, left, right, on, same)
 
 -- the count up to a page, and with it
-pub count_page : (f : ℕ → Bool) (page : ℕ) → 1 ≤ page → length (filter f (range_with_len 1 (page + 1 - 1))) ≡ length (filter f (range_with_len 1 (page - 1))) + cond {A = ℕ} (f page) 1 0
+pub count_page : (f : ℕ → Bool) (page : ℕ) → 1 ≤ page
+    → length (filter f (range_with_len 1 (page + 1 - 1))) ≡ length (filter f (range_with_len 1 (page - 1))) + cond {A = ℕ} (f page) 1 0
 count_page f page some =
     let back : page + 1 - 1 ≡ suc (page - 1) = omega arith in
     let here : 1 + (page - 1) ≡ page = omega arith in
-    ap (λ k. length (filter f (range_with_len 1 k))) back ∙ more f 1 (page - 1) ∙ ap (λ i. length (filter f (range_with_len 1 (page - 1))) + cond {A = ℕ} (f i) 1 0) here
+    ap (λ k. length (filter f (range_with_len 1 k))) back ∙ more f 1 (page - 1)
+    ∙ ap (λ i. length (filter f (range_with_len 1 (page - 1))) + cond {A = ℕ} (f i) 1 0) here
 
 count_front : (f : ℕ → Bool) (a m d : ℕ) → length (filter f (range_with_len a m)) ≤ length (filter f (range_with_len a (m + d)))
 count_front f a m zero = subst (λ k. length (filter f (range_with_len a m)) ≤ length (filter f (range_with_len a k))) (sym (add-zero m)) (omega arith)
@@ -160,9 +169,12 @@ count_upto f a m n le =
 pub no_zero : (n : ℕ) (es : Entries) → AreBelow n es → (i : ℕ) → i < 1 → is_dirty es i ≡ false
 no_zero n es below i lt = dirt_of (frame_at es i) (λ f is. absurd (omega (arith, lt, (below.each i f is).0)))
 
-pub goes_drained : (n m : ℕ) (e1 e2 e3 : Entries) (c1 c2 c3 : List Bool) (a b d : Option Tale) → m ≡ n → Goes (Keeps n e1 e2 c1 c2) a b → Goes (Keeps m e2 e3 c2 c3) b d → Goes (Keeps n e1 e3 c1 c3) a d
+pub goes_drained : (n m : ℕ) (e1 e2 e3 : Entries) (c1 c2 c3 : List Bool) (a b d : Option Tale) → m ≡ n → Goes (Keeps n e1 e2 c1 c2) a b
+    → Goes (Keeps m e2 e3 c2 c3) b d → Goes (Keeps n e1 e3 c1 c3) a d
 goes_drained n m e1 e2 e3 c1 c2 c3 a b d same p q =
-    goes_then (Keeps n e1 e2 c1 c2) (Keeps n e2 e3 c2 c3) (Keeps n e1 e3 c1 c3) a b d p (subst (λ k. Goes (Keeps k e2 e3 c2 c3) b d) same q) (keeps_then n e1 e2 e3 c1 c2 c3)
+    goes_then (Keeps n e1 e2 c1 c2) (Keeps n e2 e3 c2 c3) (Keeps n e1 e3 c1 c3) a b d p (subst (λ k. Goes (Keeps k e2 e3 c2 c3) b d) same q)
+    (keeps_then n e1 e2 e3 c1 c2 c3)
 
 pub goes_written_too : (j k l : ℕ) (a b d : Option Tale) → j + k ≤ l → Goes (Writing j) a b → Goes (Writing k) b d → Goes (Writing l) a d
-goes_written_too j k l a b d le p q = goes_then (Writing j) (Writing k) (Writing l) a b d p q (λ o m t x y. writing_more (j + k) l o t le (writing_both j k o m t x y))
+goes_written_too j k l a b d le p q =
+    goes_then (Writing j) (Writing k) (Writing l) a b d p q (λ o m t x y. writing_more (j + k) l o t le (writing_both j k o m t x y))

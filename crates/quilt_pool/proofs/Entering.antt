@@ -1,5 +1,6 @@
 -- What a look-up and an entry that comes in keep.
-use Rattle.std.proofs.Common.{◌≡◌, ◌≢◌, ◌⊎◌, inl, inr, ℕ, ◌+◌, ◌<◌, ◌≤◌, Bool, true, false, cond, nat_eq, List, [], ◌∷◌, Option, Some, None, length, get_or, unwrap_or, refl, sym, ◌∙◌, ap, subst, arith, ◌||◌}
+use Rattle.std.proofs.Common.{◌≡◌, ◌≢◌, ◌⊎◌, inl, inr, ℕ, ◌+◌, ◌<◌, ◌≤◌, Bool, true, false, cond, nat_eq, List, [], ◌∷◌, Option, Some, None, length, get_or}
+use Rattle.std.proofs.Common.{unwrap_or, refl, sym, ◌∙◌, ap, subst, arith, ◌||◌}
 use Rattle.std.specs.Option.{IfSome}
 use Rattle.lru.specs.LruCache.{LruCache, promoted, put_entries, last_entry}
 use Rattle.std.proofs.lemmas.Bool.{cases_Bool, false≢true, eqb-true, eqb-false, eq-eqb, ne_eqb}
@@ -46,7 +47,8 @@ module _ (old new : Entries) (same : (i : ℕ) → frame_at new i ≡ frame_at o
 
 -- ---- one call after another
 
-pub keeps_then : (n : ℕ) (e1 e2 e3 : Entries) (c1 c2 c3 : List Bool) (a b d : Tale) → Keeps n e1 e2 c1 c2 a b → Keeps n e2 e3 c2 c3 b d → Keeps n e1 e3 c1 c3 a d
+pub keeps_then : (n : ℕ) (e1 e2 e3 : Entries) (c1 c2 c3 : List Bool) (a b d : Tale) → Keeps n e1 e2 c1 c2 a b
+    → Keeps n e2 e3 c2 c3 b d → Keeps n e1 e3 c1 c3 a d
 keeps_then n e1 e2 e3 c1 c2 c3 a b d p q = record {
   is = q.is;
   home = q.home ∙ p.home;
@@ -107,14 +109,18 @@ module _ (table : LruCache ℕ Frame) (k : ℕ) (v : Frame) (some : 0 < table.ca
       each = λ i f is none. elim (at i) [
         | inl (same, here) ↦
             let frame : v ≡ f = ap (λ (o : Option Frame). unwrap_or o v) (sym here ∙ is) in
-            subst (λ (x : Frame). x.bytes ≡ get_or pages i []) frame (fresh (ap (λ (x : Frame). x.is_dirty) frame ∙ none) ∙ ap (λ j. get_or pages j []) (sym same))
+            subst (λ (x : Frame). x.bytes ≡ get_or pages i []) frame
+            (fresh (ap (λ (x : Frame). x.is_dirty) frame ∙ none) ∙ ap (λ j. get_or pages j []) (sym same))
         | inr (ne, inl same) ↦ clean.each i f (sym same ∙ is) none
         | inr (ne, inr (lost, full, (g, last, was, gone))) ↦ absurd (none_some f (sym gone ∙ is))
       ];
     }
 
-  pub marked_put : (changed : List Bool) → (frame_at table.entries k ≡ None → length table.entries ≡ table.cap → (p : ℕ) (f : Frame) → last_entry table.entries ≡ Some (p, f) → f.is_dirty ≡ true → is_changed changed p ≡ true)
-      → (i : ℕ) → is_marked (put_entries nat_eq table k v) changed i ≡ cond (nat_eq i k) (v.is_dirty || is_changed changed k) (is_marked table.entries changed i)
+  pub marked_put : (changed : List Bool)
+      → (frame_at table.entries k ≡ None → length table.entries ≡ table.cap → (p : ℕ) (f : Frame) → last_entry table.entries ≡ Some (p, f)
+      → f.is_dirty ≡ true → is_changed changed p ≡ true)
+      → (i : ℕ) → is_marked (put_entries nat_eq table k v) changed i ≡ cond (nat_eq i k) (v.is_dirty || is_changed changed k)
+      (is_marked table.entries changed i)
   unfolding new
   marked_put changed listed i = elim (at i) [
     | inl (same, here) ↦ rw (eq-eqb i k same, here) (ap (λ j. v.is_dirty || is_changed changed j) same)
@@ -127,7 +133,8 @@ module _ (table : LruCache ℕ Frame) (k : ℕ) (v : Frame) (some : 0 < table.ca
 
 -- ---- the page is read and comes in, or is written
 
-read_same : (k : ℕ) (es : Entries) (pages : Pages) (x : List ℕ) → frame_at es k ≡ None → x ≡ get_or pages k [] → (i : ℕ) → cond (nat_eq i k) x (page_over es pages i) ≡ page_over es pages i
+read_same : (k : ℕ) (es : Entries) (pages : Pages) (x : List ℕ) → frame_at es k ≡ None → x ≡ get_or pages k [] → (i : ℕ)
+    → cond (nat_eq i k) x (page_over es pages i) ≡ page_over es pages i
 read_same k es pages x lost fresh i = elim (cases_Bool (nat_eq i k)) [
   | inl t ↦
       let same : i ≡ k = eqb-true i k t in
@@ -136,11 +143,13 @@ read_same k es pages x lost fresh i = elim (cases_Bool (nat_eq i k)) [
   | inr f ↦ rw f refl
 ]
 
-module _ (n : ℕ) (table : LruCache ℕ Frame) (k : ℕ) (some : 0 < table.cap) (fits : length table.entries ≤ table.cap) (c : List Bool) (t : Tale) (is : IsWork n table.entries c t) (saved : frame_at table.entries k ≡ None → IsSaved table (work t n c)) where
+module _ (n : ℕ) (table : LruCache ℕ Frame) (k : ℕ) (some : 0 < table.cap) (fits : length table.entries ≤ table.cap) (c : List Bool) (t : Tale)
+    (is : IsWork n table.entries c t) (saved : frame_at table.entries k ≡ None → IsSaved table (work t n c)) where
   since : Since t t (HasHome n (published t n))
   since = since_here t (HasHome n (published t n)) (idle_leaves n c t is.idle)
 
-  pub keeps_put : (v : Frame) → frame_at table.entries k ≡ None → v.bytes ≡ get_or (work t n c) k [] → Keeps n table.entries (put_entries nat_eq table k v) c c t t
+  pub keeps_put : (v : Frame) → frame_at table.entries k ≡ None → v.bytes ≡ get_or (work t n c) k []
+      → Keeps n table.entries (put_entries nat_eq table k v) c c t t
   keeps_put v lost fresh = record {
     is = record { idle = is.idle; clean = clean_put table k v some fits (work t n c) saved (λ none. fresh) is.clean };
     home = refl;
@@ -158,7 +167,8 @@ module _ (n : ℕ) (table : LruCache ℕ Frame) (k : ℕ) (some : 0 < table.cap)
     since = since;
   }
 
-pub changes_then : (n k : ℕ) (x : List ℕ) (e1 e2 e3 : Entries) (c1 c2 c3 : List Bool) (a b d : Tale) → Keeps n e1 e2 c1 c2 a b → Changes n k x e2 e3 c2 c3 b d → Changes n k x e1 e3 c1 c3 a d
+pub changes_then : (n k : ℕ) (x : List ℕ) (e1 e2 e3 : Entries) (c1 c2 c3 : List Bool) (a b d : Tale) → Keeps n e1 e2 c1 c2 a b
+    → Changes n k x e2 e3 c2 c3 b d → Changes n k x e1 e3 c1 c3 a d
 changes_then n k x e1 e2 e3 c1 c2 c3 a b d p q = record {
   is = q.is;
   home = q.home ∙ p.home;
@@ -168,7 +178,8 @@ changes_then n k x e1 e2 e3 c1 c2 c3 a b d p q = record {
 }
 
 -- a step more where the disk is left alone
-pub goes_more : (R S : Tale → Tale → Type 0) (P : Tale → Type 0) (o n : Option Tale) → Goes R o n → IfSome n P → ((t u : Tale) → R t u → P u → S t u) → Goes S o n
+pub goes_more : (R S : Tale → Tale → Type 0) (P : Tale → Type 0) (o n : Option Tale) → Goes R o n → IfSome n P
+    → ((t u : Tale) → R t u → P u → S t u) → Goes S o n
 goes_more R S P None None r p step = tt
 goes_more R S P None (Some u) r p step = absurd r
 goes_more R S P (Some t) None r p step = r
@@ -182,24 +193,33 @@ both P Q (Some t) p q = (p, q)
 
 module _ (n k : ℕ) (table : LruCache ℕ Frame) (old new : List Bool) (o m : Option Tale) (first : Goes (Keeps n table.entries table.entries old new) o m) where
   module _ (pages : ℕ) (state : State) (t : Option Tale) (is_pages : pages ≡ n) (is_state : state ≡ Idle)
-      (read : Goes (λ a b. IsKept state pages new b × (published b pages ≡ published a pages) × (work b pages new ≡ work a pages new)) m t) (nothing : Goes (Adds []) m t) where
+      (read : Goes (λ a b. IsKept state pages new b × (published b pages ≡ published a pages) × (work b pages new ≡ work a pages new)) m t)
+      (nothing : Goes (Adds []) m t) where
     pub goes_read : Goes (Keeps n table.entries table.entries old new) o t
     goes_read =
         goes_then _ _ _ _ _ _ first (goes_and _ _ _ _ read nothing) (λ a b c p h.
-        keeps_then n table.entries table.entries table.entries old new new a b c p (keeps_read n pages table.entries new state b c is_pages is_state p.is h.0 h.1))
+        keeps_then n table.entries table.entries table.entries old new new a b c p
+        (keeps_read n pages table.entries new state b c is_pages is_state p.is h.0 h.1))
 
-    pub goes_entered : (x : List ℕ) → 0 < table.cap → length table.entries ≤ table.cap → frame_at table.entries k ≡ None → IfSome m (λ b. frame_at table.entries k ≡ None → IsSaved table (work b n new)) → IfSome m (λ b. x ≡ get_or (work b pages new) k [])
+    pub goes_entered : (x : List ℕ) → 0 < table.cap → length table.entries ≤ table.cap → frame_at table.entries k ≡ None
+        → IfSome m (λ b. frame_at table.entries k ≡ None → IsSaved table (work b n new)) → IfSome m (λ b. x ≡ get_or (work b pages new) k [])
         → Goes (Keeps n table.entries (put_entries nat_eq table k (record { bytes = x; is_dirty = false })) old new) o t
     goes_entered x some fits lost saved bytes =
         let v : Frame = record { bytes = x; is_dirty = false } in
-        goes_then _ _ _ _ _ _ (goes_more _ (λ a b. Keeps n table.entries table.entries old new a b × IsSaved table (work b n new) × (x ≡ get_or (work b pages new) k [])) _ _ _ first (both (λ b. frame_at table.entries k ≡ None → IsSaved table (work b n new)) (λ b. x ≡ get_or (work b pages new) k []) m saved bytes) (λ a b p q. (p, q.0 lost, q.1))) (goes_and _ _ _ _ read nothing) (λ a b c p h.
+        goes_then _ _ _ _ _ _ (goes_more _ (λ a b. Keeps n table.entries table.entries old new a b × IsSaved table (work b n new)
+        × (x ≡ get_or (work b pages new) k [])) _ _ _ first
+        (both (λ b. frame_at table.entries k ≡ None → IsSaved table (work b n new)) (λ b. x ≡ get_or (work b pages new) k []) m saved bytes)
+        (λ a b p q. (p, q.0 lost, q.1))) (goes_and _ _ _ _ read nothing) (λ a b c p h.
         let step = keeps_read n pages table.entries new state b c is_pages is_state p.0.is h.0 h.1 in
         let same : work c n new ≡ work b n new = subst (λ j. work c j new ≡ work b j new) is_pages h.0.2 in
-        let fresh : x ≡ get_or (work c n new) k [] = p.2 ∙ ap (λ j. get_or (work b j new) k []) is_pages ∙ sym (ap (λ (pages : Pages). get_or pages k []) same) in
-        keeps_then n table.entries table.entries (put_entries nat_eq table k v) old new new a c c (keeps_then n table.entries table.entries table.entries old new new a b c p.0 step)
+        let fresh : x ≡ get_or (work c n new) k [] =
+        p.2 ∙ ap (λ j. get_or (work b j new) k []) is_pages ∙ sym (ap (λ (pages : Pages). get_or pages k []) same) in
+        keeps_then n table.entries table.entries (put_entries nat_eq table k v) old new new a c c
+        (keeps_then n table.entries table.entries table.entries old new new a b c p.0 step)
         (keeps_put n table k some fits new c step.is (λ lost. subst (IsSaved table) (sym same) p.1) v lost fresh))
 
-  pub goes_written : (x : List ℕ) → 0 < table.cap → length table.entries ≤ table.cap → IfSome m (λ b. frame_at table.entries k ≡ None → IsSaved table (work b n new))
+  pub goes_written : (x : List ℕ) → 0 < table.cap → length table.entries ≤ table.cap
+      → IfSome m (λ b. frame_at table.entries k ≡ None → IsSaved table (work b n new))
       → Goes (Changes n k x table.entries (put_entries nat_eq table k (record { bytes = x; is_dirty = true })) old new) o m
   goes_written x some fits saved =
       let v : Frame = record { bytes = x; is_dirty = true } in
@@ -207,8 +227,10 @@ module _ (n k : ℕ) (table : LruCache ℕ Frame) (old new : List Bool) (o m : O
       changes_then n k x table.entries table.entries (put_entries nat_eq table k v) old new new a b b p (changes_put n table k some fits new b p.is q v refl))
 
 -- the page that came in is not changed by that
-pub marked_entered : (table : LruCache ℕ Frame) (k : ℕ) (x : List ℕ) (changed : List Bool) → 0 < table.cap → length table.entries ≤ table.cap → frame_at table.entries k ≡ None
-    → (frame_at table.entries k ≡ None → length table.entries ≡ table.cap → (p : ℕ) (f : Frame) → last_entry table.entries ≡ Some (p, f) → f.is_dirty ≡ true → is_changed changed p ≡ true)
+pub marked_entered : (table : LruCache ℕ Frame) (k : ℕ) (x : List ℕ) (changed : List Bool) → 0 < table.cap → length table.entries ≤ table.cap
+    → frame_at table.entries k ≡ None
+    → (frame_at table.entries k ≡ None → length table.entries ≡ table.cap → (p : ℕ) (f : Frame) → last_entry table.entries ≡ Some (p, f)
+    → f.is_dirty ≡ true → is_changed changed p ≡ true)
     → (i : ℕ) → is_marked (put_entries nat_eq table k (record { bytes = x; is_dirty = false })) changed i ≡ is_marked table.entries changed i
 marked_entered table k x changed some fits lost listed i =
     marked_put table k (record { bytes = x; is_dirty = false }) some fits changed listed i
@@ -220,7 +242,8 @@ marked_entered table k x changed some fits lost listed i =
     ]
 
 -- another name for the table
-pub goes_named : (n : ℕ) (old new : List Bool) (es : Entries) (a b : LruCache ℕ Frame) (o t : Option Tale) → a ≡ b → Goes (Keeps n a.entries es old new) o t → Goes (Keeps n b.entries es old new) o t
+pub goes_named : (n : ℕ) (old new : List Bool) (es : Entries) (a b : LruCache ℕ Frame) (o t : Option Tale) → a ≡ b
+    → Goes (Keeps n a.entries es old new) o t → Goes (Keeps n b.entries es old new) o t
 goes_named n old new es a b o t same goes = subst (λ (x : LruCache ℕ Frame). Goes (Keeps n x.entries es old new) o t) same goes
 
 pub marked_named : (a b : LruCache ℕ Frame) (changed : List Bool) (i : ℕ) → a ≡ b → is_marked a.entries changed i ≡ is_marked b.entries changed i

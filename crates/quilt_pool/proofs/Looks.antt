@@ -1,5 +1,6 @@
 -- What is found in the entries after each step of the table.
-use Rattle.std.proofs.Common.{◌≡◌, ◌≢◌, ◌⊎◌, inl, inr, ℕ, zero, suc, ◌+◌, ◌-◌, ◌<◌, ◌≤◌, Bool, true, false, cond, nat_eq, List, [], ◌∷◌, Option, Some, None, length, take, slice_get, get_or, set, option_map, ◌||◌, refl, sym, ◌∙◌, ap, subst, arith, get_or-set_same, get_or-set_other}
+use Rattle.std.proofs.Common.{◌≡◌, ◌≢◌, ◌⊎◌, inl, inr, ℕ, zero, suc, ◌+◌, ◌-◌, ◌<◌, ◌≤◌, Bool, true, false, cond, nat_eq, List, [], ◌∷◌, Option, Some, None}
+use Rattle.std.proofs.Common.{length, take, slice_get, get_or, set, option_map, ◌||◌, refl, sym, ◌∙◌, ap, subst, arith, get_or-set_same, get_or-set_other}
 use Rattle.std.specs.Cmp.{nat_eq_equiv}
 use Rattle.std.specs.List.{IsDistinct}
 use Rattle.std.specs.Map.{keys_of, lookup, lookup_entry, remove_entry, set_value}
@@ -41,7 +42,8 @@ left_at (suc m) (e ∷ es) i size = elim (cases_Bool (nat_eq i e.0)) [
 ]
 
 -- an entry taken out and put first, maybe with another frame
-first_at : (k : ℕ) (es : Entries) (e : ℕ × Frame) (i : ℕ) → lookup_entry (nat_eq k) es ≡ Some e → nat_eq i k ≡ false → frame_at (remove_entry (nat_eq k) es) i ≡ frame_at es i
+first_at : (k : ℕ) (es : Entries) (e : ℕ × Frame) (i : ℕ) → lookup_entry (nat_eq k) es ≡ Some e → nat_eq i k ≡ false
+    → frame_at (remove_entry (nat_eq k) es) i ≡ frame_at es i
 first_at k [] e i h ne = cc
 first_at k (d ∷ es) e i h ne = elim (cases_Bool (nat_eq k d.0)) [
   | inl t ↦
@@ -72,7 +74,8 @@ not_found k (d ∷ es) h = elim (cases_Bool (nat_eq k d.0)) [
 
 -- ---- promoted
 
-promoted_from : (k : ℕ) (es : Entries) (i : ℕ) (o : Option (ℕ × Frame)) → lookup_entry (nat_eq k) es ≡ o → frame_at (option_map_or (λ e. e ∷ remove_entry (nat_eq k) es) o es) i ≡ frame_at es i
+promoted_from : (k : ℕ) (es : Entries) (i : ℕ) (o : Option (ℕ × Frame)) → lookup_entry (nat_eq k) es ≡ o
+    → frame_at (option_map_or (λ e. e ∷ remove_entry (nat_eq k) es) o es) i ≡ frame_at es i
 promoted_from k es i None h = refl
 promoted_from k es i (Some e) h = elim (cases_Bool (nat_eq i e.0)) [
   | inl t ↦
@@ -91,9 +94,13 @@ abbrev pub AtPut : LruCache ℕ Frame → Entries → ℕ → Frame → ℕ → 
 AtPut c new k v i =
     ((i ≡ k) × (frame_at new i ≡ Some v))
     ⊎ ((i ≢ k) × ((frame_at new i ≡ frame_at c.entries i)
-    ⊎ ((frame_at c.entries k ≡ None) × (length c.entries ≡ c.cap) × ((f : Frame) × (last_entry c.entries ≡ Some (i, f)) × (frame_at c.entries i ≡ Some f) × (frame_at new i ≡ None)))))
+    ⊎ ((frame_at c.entries k ≡ None) × (length c.entries ≡ c.cap)
+    × ((f : Frame) × (last_entry c.entries ≡ Some (i, f)) × (frame_at c.entries i ≡ Some f) × (frame_at new i ≡ None)))))
 
-taken_at : (c : LruCache ℕ Frame) (i m : ℕ) → c.cap ≡ suc m → length c.entries ≤ c.cap → (frame_at (take (c.cap - 1) c.entries) i ≡ frame_at c.entries i) ⊎ ((length c.entries ≡ c.cap) × ((f : Frame) × (last_entry c.entries ≡ Some (i, f)) × (frame_at c.entries i ≡ Some f) × (frame_at (take (c.cap - 1) c.entries) i ≡ None)))
+taken_at : (c : LruCache ℕ Frame) (i m : ℕ) → c.cap ≡ suc m → length c.entries ≤ c.cap
+    → (frame_at (take (c.cap - 1) c.entries) i ≡ frame_at c.entries i)
+    ⊎ ((length c.entries ≡ c.cap)
+    × ((f : Frame) × (last_entry c.entries ≡ Some (i, f)) × (frame_at c.entries i ≡ Some f) × (frame_at (take (c.cap - 1) c.entries) i ≡ None)))
 taken_at c i m cap fits =
     let less : c.cap - 1 ≡ m = omega (arith, cap) in
     elim (cases_lt m (length c.entries)) [
@@ -107,7 +114,8 @@ taken_at c i m cap fits =
       | inr le ↦ inl (rw less (ap (λ (l : Entries). frame_at l i) (take_all m c.entries le)))
     ]
 
-put_from : (c : LruCache ℕ Frame) (k : ℕ) (v : Frame) (i m : ℕ) (o : Option (ℕ × Frame)) → c.cap ≡ suc m → length c.entries ≤ c.cap → lookup_entry (nat_eq k) c.entries ≡ o
+put_from : (c : LruCache ℕ Frame) (k : ℕ) (v : Frame) (i m : ℕ) (o : Option (ℕ × Frame)) → c.cap ≡ suc m → length c.entries ≤ c.cap
+    → lookup_entry (nat_eq k) c.entries ≡ o
     → AtPut c (option_map_or (λ e. (e.0, v) ∷ remove_entry (nat_eq k) c.entries) o ((k, v) ∷ take (c.cap - 1) c.entries)) k v i
 put_from c k v i m None cap fits h = elim (cases_Bool (nat_eq i k)) [
   | inl t ↦ inl (eqb-true i k t, rw t refl)
@@ -134,12 +142,15 @@ none_found : (k : ℕ) (es : Entries) (f : Frame) → frame_at es k ≡ Some f �
 none_found k es f is h = let gone : None ≡ Some f = sym (not_found k es h) ∙ is in cc
 
 written_from : (c : LruCache ℕ Frame) (k : ℕ) (v f : Frame) (o : Option (ℕ × Frame)) → frame_at c.entries k ≡ Some f → lookup_entry (nat_eq k) c.entries ≡ o
-    → set_value (nat_eq k) (option_map_or (λ e. e ∷ remove_entry (nat_eq k) c.entries) o c.entries) v ≡ option_map_or (λ e. (e.0, v) ∷ remove_entry (nat_eq k) c.entries) o ((k, v) ∷ take (c.cap - 1) c.entries)
+    → set_value (nat_eq k) (option_map_or (λ e. e ∷ remove_entry (nat_eq k) c.entries) o c.entries) v
+    ≡ option_map_or (λ e. (e.0, v) ∷ remove_entry (nat_eq k) c.entries) o ((k, v) ∷ take (c.cap - 1) c.entries)
 written_from c k v f None is h = absurd (none_found k c.entries f is h)
 written_from c k v f (Some e) is h =
-    ap (λ b. cond b ((e.0, v) ∷ remove_entry (nat_eq k) c.entries) (e ∷ set_value (nat_eq k) (remove_entry (nat_eq k) c.entries) v)) (Contains-lookup_entry (nat_eq k) c.entries e h).1
+    ap (λ b. cond b ((e.0, v) ∷ remove_entry (nat_eq k) c.entries) (e ∷ set_value (nat_eq k) (remove_entry (nat_eq k) c.entries) v))
+    (Contains-lookup_entry (nat_eq k) c.entries e h).1
 
-pub written_first : (c : LruCache ℕ Frame) (k : ℕ) (v f : Frame) → frame_at c.entries k ≡ Some f → lru_cache (set_value (nat_eq k) (promoted (nat_eq k) c.entries) v) c.cap ≡ lru_cache (put_entries nat_eq c k v) c.cap
+pub written_first : (c : LruCache ℕ Frame) (k : ℕ) (v f : Frame) → frame_at c.entries k ≡ Some f
+    → lru_cache (set_value (nat_eq k) (promoted (nat_eq k) c.entries) v) c.cap ≡ lru_cache (put_entries nat_eq c k v) c.cap
 written_first c k v f is = ap (λ (es : Entries). lru_cache es c.cap) (written_from c k v f (lookup_entry (nat_eq k) c.entries) is refl)
 
 -- ---- the pages that the pool lies over

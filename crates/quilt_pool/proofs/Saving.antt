@@ -1,5 +1,6 @@
 -- What writing the last entry to its slot keeps.
-use Rattle.std.proofs.Common.{◌≡◌, ◌⊎◌, inl, inr, ℕ, ◌+◌, ◌<◌, ◌≤◌, Bool, true, false, List, [], ◌∷◌, ◌++◌, Option, Some, None, length, unwrap_or, get_or, set, refl, sym, ◌∙◌, ap, subst, arith, get_or-set_same, append_assoc}
+use Rattle.std.proofs.Common.{◌≡◌, ◌⊎◌, inl, inr, ℕ, ◌+◌, ◌<◌, ◌≤◌, Bool, true, false, List, [], ◌∷◌, ◌++◌, Option, Some, None, length, unwrap_or, get_or, set}
+use Rattle.std.proofs.Common.{refl, sym, ◌∙◌, ap, subst, arith, get_or-set_same, append_assoc}
 use Rattle.std.specs.Option.{IfSome}
 use Rattle.std.proofs.lemmas.List.{append-nil}
 use Rattle.quilt_world.specs.Disk.{Pages, Log}
@@ -72,7 +73,8 @@ goes_none n es changed None h = tt
 goes_none n es changed (Some t) h = keeps_none n es changed t h
 
 -- the last entry's bytes stand in its slot now
-pub saved_set : (n : ℕ) (changed : List Bool) (p : ℕ) (x : List ℕ) (o t : Tale) → p < n → work t n (set changed p true) ≡ set (work o n changed) p x → x ≡ get_or (work t n (set changed p true)) p []
+pub saved_set : (n : ℕ) (changed : List Bool) (p : ℕ) (x : List ℕ) (o t : Tale) → p < n → work t n (set changed p true) ≡ set (work o n changed) p x
+    → x ≡ get_or (work t n (set changed p true)) p []
 saved_set n changed p x o t within is =
     sym (ap (λ (pages : Pages). get_or pages p []) is ∙ get_or-set_same (work o n changed) p x [] (omega (arith, length-work o n changed, within)))
 
@@ -83,11 +85,14 @@ module _ (p q : ℕ) (f h : Frame) (l : Option (ℕ × Frame)) (last : l ≡ Som
   pub frame_is : f ≡ h
   frame_is = ap (λ (o : Option (ℕ × Frame)). (unwrap_or o (p, f)).1) (sym last ∙ is)
 
-pub saved_last : (table : LruCache ℕ Frame) (pages : Pages) (p : ℕ) (f : Frame) → last_entry table.entries ≡ Some (p, f) → f.bytes ≡ get_or pages p [] → IsSaved table pages
+pub saved_last : (table : LruCache ℕ Frame) (pages : Pages) (p : ℕ) (f : Frame) → last_entry table.entries ≡ Some (p, f)
+    → f.bytes ≡ get_or pages p [] → IsSaved table pages
 saved_last table pages p f last here = λ full q h is.
-    sym (ap (λ (x : Frame). x.bytes) (frame_is p q f h (last_entry table.entries) last is)) ∙ here ∙ ap (λ i. get_or pages i []) (page_is p q f h (last_entry table.entries) last is)
+    sym (ap (λ (x : Frame). x.bytes) (frame_is p q f h (last_entry table.entries) last is)) ∙ here
+    ∙ ap (λ i. get_or pages i []) (page_is p q f h (last_entry table.entries) last is)
 
-pub listed_last : (changed : List Bool) (l : Option (ℕ × Frame)) (p : ℕ) (f : Frame) → l ≡ Some (p, f) → p < length changed → (q : ℕ) (h : Frame) → l ≡ Some (q, h) → is_changed (set changed p true) q ≡ true
+pub listed_last : (changed : List Bool) (l : Option (ℕ × Frame)) (p : ℕ) (f : Frame) → l ≡ Some (p, f) → p < length changed → (q : ℕ) (h : Frame)
+    → l ≡ Some (q, h) → is_changed (set changed p true) q ≡ true
 listed_last changed l p f last within q h is =
     subst (λ i. is_changed (set changed p true) i ≡ true) (page_is p q f h l last is) (get_or-set_same changed p true false within)
 

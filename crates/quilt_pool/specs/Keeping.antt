@@ -42,4 +42,5 @@ pub record Changes (n : ℕ) (page : ℕ) (bytes : List ℕ) (oes nes : Entries)
 
 -- where the pool is full, its last entry has the bytes of these pages
 abbrev pub IsSaved : LruCache ℕ Frame → List (List ℕ) → Type 0
-IsSaved table pages = length table.entries ≡ table.cap → (page : ℕ) (f : Frame) → last_entry table.entries ≡ Some (page, f) → f.bytes ≡ slice_index_or pages page []
+IsSaved table pages = length table.entries ≡ table.cap → (page : ℕ) (f : Frame) → last_entry table.entries ≡ Some (page, f)
+    → f.bytes ≡ slice_index_or pages page []

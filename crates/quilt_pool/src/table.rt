@@ -16,7 +16,8 @@ pub fn put_frame(
     bytes: &[u8; 4096],
     is_dirty: bool,
 ) -> Result<(), StoreErr>
-    ensures entries { OnOk result (table.new ≡ lru_cache (put_entries nat_eq table.old page (record { bytes = bytes.now; is_dirty = is_dirty })) table.old.cap) }
+    ensures entries { OnOk result
+        (table.new ≡ lru_cache (put_entries nat_eq table.old page (record { bytes = bytes.now; is_dirty = is_dirty })) table.old.cap) }
     ensures same { OnErr result (table.new ≡ table.old) }
     ensures there { IsSome (frame_at table.old.entries page) → IsOk result }
     ensures valid { IsValid nat_eq table.new }
@@ -59,7 +60,8 @@ pub fn find_frame(table: &mut LruCache<u32, Frame>, page: u32, into: &mut [u8; 4
 
 /// The page is not dirty any more, where it is there. The order stays.
 pub fn clean_frame(table: &mut LruCache<u32, Frame>, page: u32)
-    ensures entries { (f : _) → frame_at table.old.entries page ≡ Some f → table.new ≡ lru_cache (set_value (nat_eq page) table.old.entries (record { bytes = f.bytes; is_dirty = false })) table.old.cap }
+    ensures entries { (f : _) → frame_at table.old.entries page ≡ Some f
+        → table.new ≡ lru_cache (set_value (nat_eq page) table.old.entries (record { bytes = f.bytes; is_dirty = false })) table.old.cap }
     ensures valid { IsValid nat_eq table.new }
 {
     if let Some(frame) = table.peek_mut(&page) {

@@ -1,4 +1,5 @@
-ghost use Rattle.std.specs.Prelude.{◌≡◌, ◌⊎◌, ℕ, ◌+◌, ◌*◌, ◌<◌, ◌≤◌, nat_eq, true, false, [], ◌∷◌, IfSome, OnOk, OnErr, IfOk, IsOk, IsSome, IsTrue, Some, None, length, slice_index_or, slice_set, if◌then◌else◌, ◌==◌, ◌-◌, ◌≢◌, filter};
+ghost use Rattle.std.specs.Prelude.{◌≡◌, ◌⊎◌, ℕ, ◌+◌, ◌*◌, ◌<◌, ◌≤◌, nat_eq, true, false, [], ◌∷◌, IfSome, OnOk, OnErr, IfOk, IsOk, IsSome, IsTrue, Some, None};
+ghost use Rattle.std.specs.Prelude.{length, slice_index_or, slice_set, if◌then◌else◌, ◌==◌, ◌-◌, ◌≢◌, filter};
 ghost use Rattle.std.specs.List.{IsDistinct, range_with_len};
 ghost use Rattle.std.specs.Map.{keys_of, remove_entry};
 ghost use Rattle.lru.specs.LruCache.{lru_cache, put_entries, promoted, last_entry};
@@ -42,11 +43,14 @@ impl Pool {
         ensures cause { HasCause (D.faults disk.old) (D.faults disk.new) result }
         ensures size { D.size disk.new ≡ D.size disk.old }
         ensures door { D.door disk.new ≡ D.door disk.old }
-        ensures journal { (journal.new.pages ≡ journal.old.pages) × (journal.new.state ≡ journal.old.state) × (length journal.new.changed ≡ length journal.old.changed) }
+        ensures journal { (journal.new.pages ≡ journal.old.pages) × (journal.new.state ≡ journal.old.state)
+            × (length journal.new.changed ≡ length journal.old.changed) }
         ensures reads { Goes (λ old new. new.reads ≡ old.reads) (D.told disk.old) (D.told disk.new) }
         ensures marked { (i : ℕ) → is_marked (entries_of self.now) journal.new.changed i ≡ is_marked (entries_of self.now) journal.old.changed i }
-        ensures kept { Goes (Keeps journal.old.pages (entries_of self.now) (entries_of self.now) journal.old.changed journal.new.changed) (D.told disk.old) (D.told disk.new) }
-        ensures listed { OnOk result (length (entries_of self.now) ≡ capacity_of self.now → (page : ℕ) (f : _) → last_entry (entries_of self.now) ≡ Some (page, f) → f.is_dirty ≡ true → is_changed journal.new.changed page ≡ true) }
+        ensures kept { Goes (Keeps journal.old.pages (entries_of self.now) (entries_of self.now) journal.old.changed journal.new.changed)
+            (D.told disk.old) (D.told disk.new) }
+        ensures listed { OnOk result (length (entries_of self.now) ≡ capacity_of self.now → (page : ℕ) (f : _)
+            → last_entry (entries_of self.now) ≡ Some (page, f) → f.is_dirty ≡ true → is_changed journal.new.changed page ≡ true) }
         ensures saved { OnOk result (IfSome (D.told disk.new) (λ new. IsSaved (seen self.now) (work new journal.old.pages journal.new.changed))) }
     {
         if self.table.len() < self.table.cap().get() {
@@ -76,13 +80,18 @@ impl Pool {
         ensures cause { HasCause (D.faults disk.old) (D.faults disk.new) result }
         ensures size { D.size disk.new ≡ D.size disk.old }
         ensures door { D.door disk.new ≡ D.door disk.old }
-        ensures journal { (journal.new.pages ≡ journal.old.pages) × (journal.new.state ≡ journal.old.state) × (length journal.new.changed ≡ length journal.old.changed) }
+        ensures journal { (journal.new.pages ≡ journal.old.pages) × (journal.new.state ≡ journal.old.state)
+            × (length journal.new.changed ≡ length journal.old.changed) }
         ensures reads { Goes (λ old new. new.reads ≡ old.reads) (D.told disk.old) (D.told disk.new) }
         ensures marked { (i : ℕ) → is_marked (entries_of self.now) journal.new.changed i ≡ is_marked (entries_of self.now) journal.old.changed i }
-        ensures kept { Goes (Keeps journal.old.pages (entries_of self.now) (entries_of self.now) journal.old.changed journal.new.changed) (D.told disk.old) (D.told disk.new) }
+        ensures kept { Goes (Keeps journal.old.pages (entries_of self.now) (entries_of self.now) journal.old.changed journal.new.changed)
+            (D.told disk.old) (D.told disk.new) }
         ensures there { IsSome (frame_at (entries_of self.now) page) → IsOk result × (journal.new ≡ journal.old) × (disk.new ≡ disk.old) }
-        ensures listed { OnOk result (frame_at (entries_of self.now) page ≡ None → length (entries_of self.now) ≡ capacity_of self.now → (page : ℕ) (f : _) → last_entry (entries_of self.now) ≡ Some (page, f) → f.is_dirty ≡ true → is_changed journal.new.changed page ≡ true) }
-        ensures saved { OnOk result (IfSome (D.told disk.new) (λ new. frame_at (entries_of self.now) page ≡ None → IsSaved (seen self.now) (work new journal.old.pages journal.new.changed))) }
+        ensures listed { OnOk result (frame_at (entries_of self.now) page ≡ None → length (entries_of self.now) ≡ capacity_of self.now
+            → (page : ℕ) (f : _) → last_entry (entries_of self.now) ≡ Some (page, f) → f.is_dirty ≡ true → is_changed journal.new.changed page ≡ true) }
+        ensures saved { OnOk result
+            (IfSome (D.told disk.new) (λ new. frame_at (entries_of self.now) page ≡ None
+            → IsSaved (seen self.now) (work new journal.old.pages journal.new.changed))) }
     {
         if self.table.contains(&page) {
             return Ok(());
@@ -108,18 +117,24 @@ impl Pool {
         ensures cause { HasStoreCause (D.faults disk.old) (D.faults disk.new) result }
         ensures size { D.size disk.new ≡ D.size disk.old }
         ensures door { D.door disk.new ≡ D.door disk.old }
-        ensures journal { (journal.new.pages ≡ journal.old.pages) × (journal.new.state ≡ journal.old.state) × (length journal.new.changed ≡ length journal.old.changed) }
+        ensures journal { (journal.new.pages ≡ journal.old.pages) × (journal.new.state ≡ journal.old.state)
+            × (length journal.new.changed ≡ length journal.old.changed) }
         ensures below { AreBelow journal.old.pages (entries_of self.new) }
         ensures cap { capacity_of self.new ≡ capacity_of self.old }
-        ensures found { IsSome (frame_at (entries_of self.old) page) → IsOk result × (seen self.new ≡ lru_cache (promoted (nat_eq page) (entries_of self.old)) (capacity_of self.old)) × (journal.new ≡ journal.old) × (disk.new ≡ disk.old) }
-        ensures entered { OnOk result (frame_at (entries_of self.old) page ≡ None → seen self.new ≡ lru_cache (put_entries nat_eq (seen self.old) page (record { bytes = into.new; is_dirty = false })) (capacity_of self.old)) }
+        ensures found { IsSome (frame_at (entries_of self.old) page)
+            → IsOk result × (seen self.new ≡ lru_cache (promoted (nat_eq page) (entries_of self.old)) (capacity_of self.old))
+            × (journal.new ≡ journal.old) × (disk.new ≡ disk.old) }
+        ensures entered { OnOk result (frame_at (entries_of self.old) page ≡ None
+            → seen self.new ≡ lru_cache (put_entries nat_eq (seen self.old) page (record { bytes = into.new; is_dirty = false })) (capacity_of self.old)) }
         ensures same { OnErr result (seen self.new ≡ seen self.old) }
         ensures touched { OnOk result (Touches page (keys_of (entries_of self.old)) (keys_of (entries_of self.new))) }
         ensures reads { Goes (λ old new. new.reads ≤ old.reads + 1) (D.told disk.old) (D.told disk.new) }
         ensures held { IsSome (frame_at (entries_of self.old) page) → Goes (λ old new. new.reads ≤ old.reads) (D.told disk.old) (D.told disk.new) }
         ensures marked { (i : ℕ) → is_marked (entries_of self.new) journal.new.changed i ≡ is_marked (entries_of self.old) journal.old.changed i }
-        ensures kept { Goes (Keeps journal.old.pages (entries_of self.old) (entries_of self.new) journal.old.changed journal.new.changed) (D.told disk.old) (D.told disk.new) }
-        ensures bytes { OnOk result (IfSome (D.told disk.old) (λ old. into.new ≡ page_over (entries_of self.old) (work old journal.old.pages journal.old.changed) page)) }
+        ensures kept { Goes (Keeps journal.old.pages (entries_of self.old) (entries_of self.new) journal.old.changed journal.new.changed)
+            (D.told disk.old) (D.told disk.new) }
+        ensures bytes { OnOk result
+            (IfSome (D.told disk.old) (λ old. into.new ≡ page_over (entries_of self.old) (work old journal.old.pages journal.old.changed) page)) }
     {
         if find_frame(&mut self.table, page, into) {
             return Ok(());
@@ -151,18 +166,26 @@ impl Pool {
         ensures cause { HasStoreCause (D.faults disk.old) (D.faults disk.new) result }
         ensures size { D.size disk.new ≡ D.size disk.old }
         ensures door { D.door disk.new ≡ D.door disk.old }
-        ensures journal { (journal.new.pages ≡ journal.old.pages) × (journal.new.state ≡ journal.old.state) × (length journal.new.changed ≡ length journal.old.changed) }
+        ensures journal { (journal.new.pages ≡ journal.old.pages) × (journal.new.state ≡ journal.old.state)
+            × (length journal.new.changed ≡ length journal.old.changed) }
         ensures below { AreBelow journal.old.pages (entries_of self.new) }
         ensures cap { capacity_of self.new ≡ capacity_of self.old }
         ensures found { IsSome (frame_at (entries_of self.old) page) → IsOk result × (journal.new ≡ journal.old) × (disk.new ≡ disk.old) }
-        ensures entered { OnOk result (seen self.new ≡ lru_cache (put_entries nat_eq (seen self.old) page (record { bytes = bytes.now; is_dirty = true })) (capacity_of self.old)) }
+        ensures entered { OnOk result
+            (seen self.new ≡ lru_cache (put_entries nat_eq (seen self.old) page (record { bytes = bytes.now; is_dirty = true })) (capacity_of self.old)) }
         ensures same { OnErr result (seen self.new ≡ seen self.old) }
         ensures touched { OnOk result (Touches page (keys_of (entries_of self.old)) (keys_of (entries_of self.new))) }
         ensures reads { Goes (λ old new. new.reads ≤ old.reads) (D.told disk.old) (D.told disk.new) }
-        ensures marked { OnOk result ((i : ℕ) → is_marked (entries_of self.new) journal.new.changed i ≡ (if i == page then true else is_marked (entries_of self.old) journal.old.changed i)) }
-        ensures unmarked { OnErr result ((i : ℕ) → is_marked (entries_of self.new) journal.new.changed i ≡ is_marked (entries_of self.old) journal.old.changed i) }
-        ensures changes { OnOk result (Goes (Changes journal.old.pages page bytes.now (entries_of self.old) (entries_of self.new) journal.old.changed journal.new.changed) (D.told disk.old) (D.told disk.new)) }
-        ensures kept { OnErr result (Goes (Keeps journal.old.pages (entries_of self.old) (entries_of self.new) journal.old.changed journal.new.changed) (D.told disk.old) (D.told disk.new)) }
+        ensures marked { OnOk result ((i : ℕ)
+            → is_marked (entries_of self.new) journal.new.changed i ≡ (if i == page then true else is_marked (entries_of self.old) journal.old.changed i)) }
+        ensures unmarked { OnErr result
+            ((i : ℕ) → is_marked (entries_of self.new) journal.new.changed i ≡ is_marked (entries_of self.old) journal.old.changed i) }
+        ensures changes { OnOk result
+            (Goes (Changes journal.old.pages page bytes.now (entries_of self.old) (entries_of self.new) journal.old.changed journal.new.changed)
+            (D.told disk.old) (D.told disk.new)) }
+        ensures kept { OnErr result
+            (Goes (Keeps journal.old.pages (entries_of self.old) (entries_of self.new) journal.old.changed journal.new.changed) (D.told disk.old)
+            (D.told disk.new)) }
     {
         let Ok(()) = self.make_room(journal, disk, page) else {
             return Err(StoreErr::Device);
@@ -202,10 +225,12 @@ impl Pool {
         ensures cause { HasCause (D.faults disk.old) (D.faults disk.new) result }
         ensures size { D.size disk.new ≡ D.size disk.old }
         ensures door { D.door disk.new ≡ D.door disk.old }
-        ensures journal { (journal.new.pages ≡ journal.old.pages) × (journal.new.state ≡ journal.old.state) × (length journal.new.changed ≡ length journal.old.changed) }
+        ensures journal { (journal.new.pages ≡ journal.old.pages) × (journal.new.state ≡ journal.old.state)
+            × (length journal.new.changed ≡ length journal.old.changed) }
         ensures below { AreBelow journal.old.pages (entries_of self.new) }
         ensures marked { (i : ℕ) → is_marked (entries_of self.new) journal.new.changed i ≡ is_marked (entries_of self.old) journal.old.changed i }
-        ensures kept { Goes (Keeps journal.old.pages (entries_of self.old) (entries_of self.new) journal.old.changed journal.new.changed) (D.told disk.old) (D.told disk.new) }
+        ensures kept { Goes (Keeps journal.old.pages (entries_of self.old) (entries_of self.new) journal.old.changed journal.new.changed)
+            (D.told disk.old) (D.told disk.new) }
         ensures writes { Goes (Writing (if is_dirty (entries_of self.old) page then 1 else 0)) (D.told disk.old) (D.told disk.new) }
         ensures drained { OnOk result (is_dirty (entries_of self.new) page ≡ false) }
         ensures order { keys_of (entries_of self.new) ≡ keys_of (entries_of self.old) }
@@ -235,11 +260,14 @@ impl Pool {
         ensures cause { HasCause (D.faults disk.old) (D.faults disk.new) result }
         ensures size { D.size disk.new ≡ D.size disk.old }
         ensures door { D.door disk.new ≡ D.door disk.old }
-        ensures journal { (journal.new.pages ≡ journal.old.pages) × (journal.new.state ≡ journal.old.state) × (length journal.new.changed ≡ length journal.old.changed) }
+        ensures journal { (journal.new.pages ≡ journal.old.pages) × (journal.new.state ≡ journal.old.state)
+            × (length journal.new.changed ≡ length journal.old.changed) }
         ensures below { AreBelow journal.old.pages (entries_of self.new) }
         ensures marked { (i : ℕ) → is_marked (entries_of self.new) journal.new.changed i ≡ is_marked (entries_of self.old) journal.old.changed i }
-        ensures kept { Goes (Keeps journal.old.pages (entries_of self.old) (entries_of self.new) journal.old.changed journal.new.changed) (D.told disk.old) (D.told disk.new) }
-        ensures writes { Goes (Writing (length (filter (is_dirty (entries_of self.old)) (range_with_len 1 (journal.old.pages - 1))))) (D.told disk.old) (D.told disk.new) }
+        ensures kept { Goes (Keeps journal.old.pages (entries_of self.old) (entries_of self.new) journal.old.changed journal.new.changed)
+            (D.told disk.old) (D.told disk.new) }
+        ensures writes { Goes (Writing (length (filter (is_dirty (entries_of self.old)) (range_with_len 1 (journal.old.pages - 1)))))
+            (D.told disk.old) (D.told disk.new) }
         ensures order { keys_of (entries_of self.new) ≡ keys_of (entries_of self.old) }
         ensures bytes { (i : ℕ) → bytes_or [] (frame_at (entries_of self.new) i) ≡ bytes_or [] (frame_at (entries_of self.old) i) }
         ensures cap { capacity_of self.new ≡ capacity_of self.old }

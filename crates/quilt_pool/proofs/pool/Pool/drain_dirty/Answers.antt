@@ -32,10 +32,13 @@ pub returns-in_err-drain_page-clause-writes : goal.returns-in_err-drain_page-cla
 returns-in_err-drain_page-clause-writes g c =
     let f = is_dirty c.args.self.now.table.entries in
     let page = c.loop-page.page in
-    let same : cond {A = ℕ} (is_dirty c.loop-page.self.table.entries page) 1 0 ≡ cond {A = ℕ} (f page) 1 0 = ap (λ b. cond {A = ℕ} b 1 0) (c.loop-page.invariant.others page (omega arith)) in
+    let same : cond {A = ℕ} (is_dirty c.loop-page.self.table.entries page) 1 0 ≡ cond {A = ℕ} (f page) 1 0 =
+    ap (λ b. cond {A = ℕ} b 1 0) (c.loop-page.invariant.others page (omega arith)) in
     let step = count_page f page (omega arith) in
     let most = count_upto f 1 (page + 1 - 1) (c.args.journal.now.pages - 1) (omega (arith, c.pages-page-end.ensures.pages)) in
-    goes_written_too (length (filter f (range_with_len 1 (page - 1)))) (cond {A = ℕ} (is_dirty c.loop-page.self.table.entries page) 1 0) (length (filter f (range_with_len 1 (c.args.journal.now.pages - 1)))) _ _ _ (omega (arith, same, step, most)) c.loop-page.invariant.writes c.drain_page.ensures.writes
+    goes_written_too (length (filter f (range_with_len 1 (page - 1)))) (cond {A = ℕ} (is_dirty c.loop-page.self.table.entries page) 1 0)
+    (length (filter f (range_with_len 1 (c.args.journal.now.pages - 1)))) _ _ _
+    (omega (arith, same, step, most)) c.loop-page.invariant.writes c.drain_page.ensures.writes
 
 pub loop-page-preserved : goal.loop-page-preserved
 loop-page-preserved g c =
@@ -43,7 +46,8 @@ loop-page-preserved g c =
     let e = c.drain_page.ensures in
     let f = is_dirty c.args.self.now.table.entries in
     let page = c.loop-page.page in
-    let same : cond {A = ℕ} (is_dirty c.loop-page.self.table.entries page) 1 0 ≡ cond {A = ℕ} (f page) 1 0 = ap (λ b. cond {A = ℕ} b 1 0) (i.others page (omega arith)) in
+    let same : cond {A = ℕ} (is_dirty c.loop-page.self.table.entries page) 1 0 ≡ cond {A = ℕ} (f page) 1 0 =
+    ap (λ b. cond {A = ℕ} b 1 0) (i.others page (omega arith)) in
     let step = count_page f page (omega arith) in
     record {
       size = e.size ∙ i.size;
@@ -63,5 +67,6 @@ loop-page-preserved g c =
       ];
       others = λ q le. e.others q (omega (arith, le)) ∙ i.others q (omega (arith, le));
       kept = goes_drained _ _ _ _ _ _ _ _ _ _ _ i.pages i.kept e.kept;
-      writes = goes_written_too (length (filter f (range_with_len 1 (page - 1)))) (cond {A = ℕ} (is_dirty c.loop-page.self.table.entries page) 1 0) (length (filter f (range_with_len 1 (page + 1 - 1)))) _ _ _ (omega (arith, same, step)) i.writes e.writes;
+      writes = goes_written_too (length (filter f (range_with_len 1 (page - 1)))) (cond {A = ℕ} (is_dirty c.loop-page.self.table.entries page) 1 0)
+          (length (filter f (range_with_len 1 (page + 1 - 1)))) _ _ _ (omega (arith, same, step)) i.writes e.writes;
     }

@@ -22,6 +22,8 @@ invariant-loop-page g l = record {
   marked : (i : ℕ) → is_marked l.self.table.entries l.journal.changed i ≡ is_marked l.initial.self.table.entries l.initial.journal.changed i;
   drained : (i : ℕ) → i < l.page → is_dirty l.self.table.entries i ≡ false;
   others : (i : ℕ) → l.page ≤ i → is_dirty l.self.table.entries i ≡ is_dirty l.initial.self.table.entries i;
-  kept : Goes (Keeps l.initial.journal.pages l.initial.self.table.entries l.self.table.entries l.initial.journal.changed l.journal.changed) (g.D.Disk.told l.initial.disk) (g.D.Disk.told l.disk);
-  writes : Goes (Writing (length (filter (is_dirty l.initial.self.table.entries) (range_with_len 1 (l.page - 1))))) (g.D.Disk.told l.initial.disk) (g.D.Disk.told l.disk);
+  kept : Goes (Keeps l.initial.journal.pages l.initial.self.table.entries l.self.table.entries l.initial.journal.changed l.journal.changed)
+      (g.D.Disk.told l.initial.disk) (g.D.Disk.told l.disk);
+  writes : Goes (Writing (length (filter (is_dirty l.initial.self.table.entries) (range_with_len 1 (l.page - 1)))))
+      (g.D.Disk.told l.initial.disk) (g.D.Disk.told l.disk);
 }

@@ -1,4 +1,5 @@
-use Rattle.std.proofs.Common.{◌≡◌, ◌≢◌, ℕ, ◌+◌, ◌<◌, ◌≤◌, Some, None, length, nat_eq, true, false, get_or, set, refl, sym, ◌∙◌, ap, subst, arith, get_or-set_same}
+use Rattle.std.proofs.Common.{◌≡◌, ◌≢◌, ℕ, ◌+◌, ◌<◌, ◌≤◌, Some, None, length, nat_eq, true, false, get_or, set, refl, sym, ◌∙◌, ap, subst, arith}
+use Rattle.std.proofs.Common.{get_or-set_same}
 use Rattle.std.specs.Option.{option_copied, is_some}
 use Rattle.std.proofs.lemmas.Map.{keys-set_value}
 use Rattle.quilt_world.proofs.Told.{goes_and, goes_weaker}
@@ -23,7 +24,8 @@ returns-then-not-frame-clause-kept g c = goes_none _ _ _ _ c.requires.kept
 pub returns-in_err-write_slot-clause-marked : goal.returns-in_err-write_slot-clause-marked
 returns-in_err-write_slot-clause-marked g c =
     let at = (sym c.peek.ensures ∙ ap option_copied c.in-Some.is) in
-    rw c.in_err-write_slot.ensures.unlisted (marked_set c.args.self.now.table.entries c.args.page c.in-Some.frame.now at c.if-not-frame.false c.args.journal.now.changed false)
+    rw c.in_err-write_slot.ensures.unlisted
+    (marked_set c.args.self.now.table.entries c.args.page c.in-Some.frame.now at c.if-not-frame.false c.args.journal.now.changed false)
 
 pub returns-in_err-write_slot-clause-kept : goal.returns-in_err-write_slot-clause-kept
 returns-in_err-write_slot-clause-kept g c =
@@ -52,7 +54,8 @@ returns-clause-kept g c =
 pub returns-clause-below : goal.returns-clause-below
 returns-clause-below g c =
     let at = (sym c.peek.ensures ∙ ap option_copied c.in-Some.is) in
-    rw (c.clean_frame.ensures.entries c.in-Some.frame.now at) (below_clean c.args.self.now.table.entries c.args.page c.in-Some.frame.now at c.args.journal.now.pages c.requires.below)
+    rw (c.clean_frame.ensures.entries c.in-Some.frame.now at)
+    (below_clean c.args.self.now.table.entries c.args.page c.in-Some.frame.now at c.args.journal.now.pages c.requires.below)
 
 pub returns-clause-marked : goal.returns-clause-marked
 returns-clause-marked g c =
@@ -62,7 +65,8 @@ returns-clause-marked g c =
     let k = c.args.page in
     let j = c.args.journal.now in
     rw (c.clean_frame.ensures.entries f at, c.in_ok-write_slot.ensures.changed)
-    (λ i. marked_clean es k f at (set j.changed k true) (get_or-set_same j.changed k true false (omega (arith, c.requires.bits, c.requires.page))) c.if-not-frame.false i
+    (λ i. marked_clean es k f at (set j.changed k true) (get_or-set_same j.changed k true false (omega (arith, c.requires.bits, c.requires.page)))
+    c.if-not-frame.false i
     ∙ marked_set es k f at c.if-not-frame.false j.changed true i)
 
 pub returns-clause-drained : goal.returns-clause-drained
@@ -78,7 +82,8 @@ returns-clause-others g c =
 pub returns-clause-order : goal.returns-clause-order
 returns-clause-order g c =
     let at = (sym c.peek.ensures ∙ ap option_copied c.in-Some.is) in
-    rw (c.clean_frame.ensures.entries c.in-Some.frame.now at) (keys-set_value (nat_eq c.args.page) c.args.self.now.table.entries (record { bytes = c.in-Some.frame.now.bytes; is_dirty = false }))
+    rw (c.clean_frame.ensures.entries c.in-Some.frame.now at)
+    (keys-set_value (nat_eq c.args.page) c.args.self.now.table.entries (record { bytes = c.in-Some.frame.now.bytes; is_dirty = false }))
 
 pub returns-clause-bytes : goal.returns-clause-bytes
 returns-clause-bytes g c =

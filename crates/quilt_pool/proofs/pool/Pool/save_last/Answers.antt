@@ -27,7 +27,8 @@ given f o x l is some = sym is ∙ ap (option_map f) some
 
 pub write_slot-requires-clause-page : goal.write_slot-requires-clause-page
 write_slot-requires-clause-page g c =
-    let at = last_found c.args.self.now.table.entries c.in-Some.page.now c.in-Some.frame.now c.args.self.now.distinct (sym c.peek_lru.ensures ∙ ap (option_map _) c.in-Some.is) in
+    let at = last_found c.args.self.now.table.entries c.in-Some.page.now c.in-Some.frame.now c.args.self.now.distinct
+    (sym c.peek_lru.ensures ∙ ap (option_map _) c.in-Some.is) in
     (c.requires.below.each c.in-Some.page.now c.in-Some.frame.now at).1
 
 pub write_slot-requires-clause-kept : goal.write_slot-requires-clause-kept
@@ -35,17 +36,22 @@ write_slot-requires-clause-kept g c = if_some_kept _ _ _ _ c.requires.kept
 
 pub returns-in_err-write_slot-clause-marked : goal.returns-in_err-write_slot-clause-marked
 returns-in_err-write_slot-clause-marked g c =
-    let at = last_found c.args.self.now.table.entries c.in-Some.page.now c.in-Some.frame.now c.args.self.now.distinct (sym c.peek_lru.ensures ∙ ap (option_map _) c.in-Some.is) in
-    rw c.in_err-write_slot.ensures.unlisted (marked_set c.args.self.now.table.entries c.in-Some.page.now c.in-Some.frame.now at c.if-frame.true c.args.journal.now.changed false)
+    let at = last_found c.args.self.now.table.entries c.in-Some.page.now c.in-Some.frame.now c.args.self.now.distinct
+    (sym c.peek_lru.ensures ∙ ap (option_map _) c.in-Some.is) in
+    rw c.in_err-write_slot.ensures.unlisted
+    (marked_set c.args.self.now.table.entries c.in-Some.page.now c.in-Some.frame.now at c.if-frame.true c.args.journal.now.changed false)
 
 pub returns-in_ok-write_slot-clause-marked : goal.returns-in_ok-write_slot-clause-marked
 returns-in_ok-write_slot-clause-marked g c =
-    let at = last_found c.args.self.now.table.entries c.in-Some.page.now c.in-Some.frame.now c.args.self.now.distinct (sym c.peek_lru.ensures ∙ ap (option_map _) c.in-Some.is) in
-    rw c.in_ok-write_slot.ensures.changed (marked_set c.args.self.now.table.entries c.in-Some.page.now c.in-Some.frame.now at c.if-frame.true c.args.journal.now.changed true)
+    let at = last_found c.args.self.now.table.entries c.in-Some.page.now c.in-Some.frame.now c.args.self.now.distinct
+    (sym c.peek_lru.ensures ∙ ap (option_map _) c.in-Some.is) in
+    rw c.in_ok-write_slot.ensures.changed
+    (marked_set c.args.self.now.table.entries c.in-Some.page.now c.in-Some.frame.now at c.if-frame.true c.args.journal.now.changed true)
 
 pub returns-in_err-write_slot-clause-kept : goal.returns-in_err-write_slot-clause-kept
 returns-in_err-write_slot-clause-kept g c =
-    let at = last_found c.args.self.now.table.entries c.in-Some.page.now c.in-Some.frame.now c.args.self.now.distinct (sym c.peek_lru.ensures ∙ ap (option_map _) c.in-Some.is) in
+    let at = last_found c.args.self.now.table.entries c.in-Some.page.now c.in-Some.frame.now c.args.self.now.distinct
+    (sym c.peek_lru.ensures ∙ ap (option_map _) c.in-Some.is) in
     let j = c.args.journal.now in
     let es = c.args.self.now.table.entries in
     let step = goes_and _ _ _ _ c.in_err-write_slot.ensures.given_up (goes_and _ _ _ _ c.in_err-write_slot.ensures.tore c.in_err-write_slot.ensures.crash) in
@@ -55,20 +61,24 @@ returns-in_err-write_slot-clause-kept g c =
 
 pub returns-in_ok-write_slot-clause-kept : goal.returns-in_ok-write_slot-clause-kept
 returns-in_ok-write_slot-clause-kept g c =
-    let at = last_found c.args.self.now.table.entries c.in-Some.page.now c.in-Some.frame.now c.args.self.now.distinct (sym c.peek_lru.ensures ∙ ap (option_map _) c.in-Some.is) in
+    let at = last_found c.args.self.now.table.entries c.in-Some.page.now c.in-Some.frame.now c.args.self.now.distinct
+    (sym c.peek_lru.ensures ∙ ap (option_map _) c.in-Some.is) in
     let j = c.args.journal.now in
     let es = c.args.self.now.table.entries in
     let step = goes_and _ _ _ _ c.in_ok-write_slot.ensures.kept (goes_and _ _ _ _ c.in_ok-write_slot.ensures.wrote c.in_ok-write_slot.ensures.crash) in
     rw c.in_ok-write_slot.ensures.changed
     (goes_from (IsWork j.pages es j.changed) _ _ _ _ c.requires.kept step (λ o t is h.
-    keeps_set j.pages es j.changed true c.in-Some.page.now c.in-Some.frame.now c.bytes.result.now o t at c.if-frame.true is h.0 (tries_adds _ o t refl h.1.0) h.1.1))
+    keeps_set j.pages es j.changed true c.in-Some.page.now c.in-Some.frame.now c.bytes.result.now o t at c.if-frame.true is h.0
+    (tries_adds _ o t refl h.1.0) h.1.1))
 
 pub returns-in_ok-write_slot-clause-listed : goal.returns-in_ok-write_slot-clause-listed
 returns-in_ok-write_slot-clause-listed g c =
     let last = sym c.peek_lru.ensures ∙ ap (option_map _) c.in-Some.is in
     let at = last_found c.args.self.now.table.entries c.in-Some.page.now c.in-Some.frame.now c.args.self.now.distinct last in
     let within = (c.requires.below.each c.in-Some.page.now c.in-Some.frame.now at).1 in
-    λ full page f is dirty. rw c.in_ok-write_slot.ensures.changed (listed_last c.args.journal.now.changed (last_entry c.args.self.now.table.entries) c.in-Some.page.now c.in-Some.frame.now last (omega (arith, c.requires.bits, within)) page f is)
+    λ full page f is dirty. rw c.in_ok-write_slot.ensures.changed
+    (listed_last c.args.journal.now.changed (last_entry c.args.self.now.table.entries) c.in-Some.page.now c.in-Some.frame.now last
+    (omega (arith, c.requires.bits, within)) page f is)
 
 pub returns-in_ok-write_slot-clause-saved : goal.returns-in_ok-write_slot-clause-saved
 returns-in_ok-write_slot-clause-saved g c =
@@ -77,13 +87,18 @@ returns-in_ok-write_slot-clause-saved g c =
     let within = (c.requires.below.each c.in-Some.page.now c.in-Some.frame.now at).1 in
     let j = c.args.journal.now in
     rw c.in_ok-write_slot.ensures.changed
-    (goes_now (λ o t. IsIdle j.pages (set j.changed c.in-Some.page.now true) t × (published t j.pages ≡ published o j.pages) × (work t j.pages (set j.changed c.in-Some.page.now true) ≡ set (work o j.pages j.changed) c.in-Some.page.now c.bytes.result.now)) (λ new. IsSaved c.args.self.now.table (work new j.pages (set j.changed c.in-Some.page.now true))) _ _ c.in_ok-write_slot.ensures.kept (λ o t h.
-    saved_last c.args.self.now.table (work t j.pages (set j.changed c.in-Some.page.now true)) c.in-Some.page.now c.in-Some.frame.now last (sym c.bytes.ensures ∙ saved_set j.pages j.changed c.in-Some.page.now c.bytes.result.now o t within h.2)))
+    (goes_now (λ o t. IsIdle j.pages (set j.changed c.in-Some.page.now true) t × (published t j.pages ≡ published o j.pages)
+    × (work t j.pages (set j.changed c.in-Some.page.now true) ≡ set (work o j.pages j.changed) c.in-Some.page.now c.bytes.result.now))
+    (λ new. IsSaved c.args.self.now.table (work new j.pages (set j.changed c.in-Some.page.now true))) _ _ c.in_ok-write_slot.ensures.kept (λ o t h.
+    saved_last c.args.self.now.table (work t j.pages (set j.changed c.in-Some.page.now true)) c.in-Some.page.now c.in-Some.frame.now last
+    (sym c.bytes.ensures ∙ saved_set j.pages j.changed c.in-Some.page.now c.bytes.result.now o t within h.2)))
 
 pub returns-else-frame-clause-saved : goal.returns-else-frame-clause-saved
 returns-else-frame-clause-saved g c =
     let last = sym c.peek_lru.ensures ∙ ap (option_map _) c.in-Some.is in
     let at = last_found c.args.self.now.table.entries c.in-Some.page.now c.in-Some.frame.now c.args.self.now.distinct last in
     let j = c.args.journal.now in
-    if_some (IsWork j.pages c.args.self.now.table.entries j.changed) (λ new. IsSaved c.args.self.now.table (work new j.pages j.changed)) _ c.requires.kept (λ t is.
-    saved_last c.args.self.now.table (work t j.pages j.changed) c.in-Some.page.now c.in-Some.frame.now last (is.clean.each c.in-Some.page.now c.in-Some.frame.now at c.if-frame.false))
+    if_some (IsWork j.pages c.args.self.now.table.entries j.changed) (λ new. IsSaved c.args.self.now.table (work new j.pages j.changed))
+    _ c.requires.kept (λ t is.
+    saved_last c.args.self.now.table (work t j.pages j.changed) c.in-Some.page.now c.in-Some.frame.now last
+    (is.clean.each c.in-Some.page.now c.in-Some.frame.now at c.if-frame.false))
