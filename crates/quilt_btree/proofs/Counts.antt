@@ -46,7 +46,8 @@ times_other p q used ne = ap (λ b. cond {A = ℕ} b 1 0 + times p used) (other_
     nothing : (n : ℕ) → 0 + n ≡ n
     nothing n = omega arith
 
-none_step : (x p : ℕ) (xs : List ℕ) (b : Bool) → (b || list_any (λ v. v == p) xs) ≡ false → (list_any (λ v. v == p) xs ≡ false → times p xs ≡ 0) → cond b 1 0 + times p xs ≡ 0
+none_step : (x p : ℕ) (xs : List ℕ) (b : Bool) → (b || list_any (λ v. v == p) xs) ≡ false → (list_any (λ v. v == p) xs ≡ false → times p xs ≡ 0)
+    → cond b 1 0 + times p xs ≡ 0
 none_step x p xs true h f = cc
 none_step x p xs false h f = let more = f h in omega arith
 
@@ -54,7 +55,8 @@ pub none_there : (p : ℕ) (xs : List ℕ) → list_any (λ v. v == p) xs ≡ fa
 none_there p [] h = refl
 none_there p (x ∷ xs) h = none_step x p xs (x == p) h (none_there p xs)
 
-there_step : (x p : ℕ) (xs : List ℕ) (b : Bool) → cond b 1 0 + times p xs ≡ 0 → (times p xs ≡ 0 → list_any (λ v. v == p) xs ≡ false) → (b || list_any (λ v. v == p) xs) ≡ false
+there_step : (x p : ℕ) (xs : List ℕ) (b : Bool) → cond b 1 0 + times p xs ≡ 0 → (times p xs ≡ 0 → list_any (λ v. v == p) xs ≡ false)
+    → (b || list_any (λ v. v == p) xs) ≡ false
 there_step x p xs true h f = absurd (omega arith)
 there_step x p xs false h f = f (omega arith)
 

@@ -1,5 +1,6 @@
 -- How many pages a tree uses for its records.
-use Rattle.std.proofs.Common.{◌≡◌, ℕ, zero, suc, ◌+◌, ◌-◌, ◌*◌, ◌<◌, ◌≤◌, true, false, ◌||◌, nat_le, List, [], ◌∷◌, length, Some, refl, ◌∙◌, ap, arith, length-append}
+use Rattle.std.proofs.Common.{◌≡◌, ℕ, zero, suc, ◌+◌, ◌-◌, ◌*◌, ◌<◌, ◌≤◌, true, false, ◌||◌, nat_le, List, [], ◌∷◌, length, Some, refl, ◌∙◌, ap, arith}
+use Rattle.std.proofs.Common.{length-append}
 use Rattle.std.proofs.Math.Nat.{suc-mul}
 use Rattle.std.proofs.lemmas.Bool.Decides.{nat_tests}
 use Rattle.quilt_types.specs.Facts.{quota}
@@ -20,7 +21,8 @@ row_filled S least one [] rs used row = nothing (length rs) least
     nothing r l = omega arith
 row_filled S least one (c ∷ cs) rs used row =
     let all : length rs ≡ length row.first + length row.rest = ap length row.records ∙ length-append row.first row.rest in
-    one_more (suc (length cs) * least) (length cs * least) (length rs) (length row.first) (length row.rest) least (suc-mul (length cs) least) all (one c row.first row.first_used row.here) (row_filled S least one cs row.rest row.rest_used row.after)
+    one_more (suc (length cs) * least) (length cs * least) (length rs) (length row.first) (length row.rest) least (suc-mul (length cs) least) all
+    (one c row.first row.first_used row.here) (row_filled S least one cs row.rest row.rest_used row.after)
   where
     one_more : (n m r s t l : ℕ) → n ≡ m + l → r ≡ s + t → l ≤ s → m ≤ t → n ≤ r
     one_more n m r s t l e p q h = omega arith
@@ -38,7 +40,8 @@ pub second_filled : (pages : List (List ℕ)) (at : ℕ × Bounds) (rs : List Re
 second_filled pages at rs used s =
     let row = row_filled (Subtree pages 1 false) 72 (leaf_filled pages) (bounded s.inner.children s.inner.keys at.1) rs s.under s.children in
     let places = length_bounded s.inner.children s.inner.keys at.1 in
-    filled (length (bounded s.inner.children s.inner.keys at.1)) (length s.inner.children) (length rs) places (le_test 127 (length s.inner.children) s.enough) row
+    filled (length (bounded s.inner.children s.inner.keys at.1)) (length s.inner.children) (length rs) places
+    (le_test 127 (length s.inner.children) s.enough) row
   where
     filled : (p c r : ℕ) → p ≡ c → 127 ≤ c → p * 72 ≤ r → 9144 ≤ r
     filled p c r e h g = omega arith
@@ -47,13 +50,15 @@ pub third_filled : (pages : List (List ℕ)) (at : ℕ × Bounds) (rs : List Rec
 third_filled pages at rs used s =
     let row = row_filled (Subtree pages 2 false) 9144 (second_filled pages) (bounded s.inner.children s.inner.keys at.1) rs s.under s.children in
     let places = length_bounded s.inner.children s.inner.keys at.1 in
-    filled (length (bounded s.inner.children s.inner.keys at.1)) (length s.inner.children) (length rs) places (le_test 127 (length s.inner.children) s.enough) row
+    filled (length (bounded s.inner.children s.inner.keys at.1)) (length s.inner.children) (length rs) places
+    (le_test 127 (length s.inner.children) s.enough) row
   where
     filled : (p c r : ℕ) → p ≡ c → 127 ≤ c → p * 9144 ≤ r → 1161288 ≤ r
     filled p c r e h g = omega arith
 
 -- a row of leaves has as many pages as places
-row_of_leaves : (pages : List (List ℕ)) (cs : List (ℕ × Bounds)) (rs : List Record) (used : List ℕ) → Row (Subtree pages 1 false) cs rs used → length used ≡ length cs
+row_of_leaves : (pages : List (List ℕ)) (cs : List (ℕ × Bounds)) (rs : List Record) (used : List ℕ)
+    → Row (Subtree pages 1 false) cs rs used → length used ≡ length cs
 row_of_leaves pages [] rs used row = ap length row.1
 row_of_leaves pages (c ∷ cs) rs used row =
     let more = row_of_leaves pages cs row.rest row.rest_used row.after in
@@ -99,13 +104,15 @@ inner_is_dense pages at rs used s =
     let filled = row_filled (Subtree pages 1 false) 72 (leaf_filled pages) cs rs s.under s.children in
     let many = row_of_leaves pages cs rs s.under s.children in
     let all : length used ≡ length s.under + 1 = ap length s.is_used ∙ length-append s.under (at.0 ∷ []) in
-    dense (length used) (length s.under) (length rs) (length cs) (length s.inner.children) all many filled (length_bounded s.inner.children s.inner.keys at.1) (le_test 127 (length s.inner.children) s.enough)
+    dense (length used) (length s.under) (length rs) (length cs) (length s.inner.children) all many filled
+    (length_bounded s.inner.children s.inner.keys at.1) (le_test 127 (length s.inner.children) s.enough)
   where
     dense : (u v r p c : ℕ) → u ≡ v + 1 → v ≡ p → p * 72 ≤ r → p ≡ c → 127 ≤ c → 9144 * u ≤ 128 * r
     dense u v r p c a b d e f = omega arith
 
 -- a whole tree: all but its root are dense
-pub root_is_dense : (pages : List (List ℕ)) (height : ℕ) (at : ℕ × Bounds) (rs : List Record) (used : List ℕ) → height ≤ 3 → Subtree pages height true at rs used → 9144 * (length used - 1) ≤ 128 * length rs
+pub root_is_dense : (pages : List (List ℕ)) (height : ℕ) (at : ℕ × Bounds) (rs : List Record) (used : List ℕ) → height ≤ 3
+    → Subtree pages height true at rs used → 9144 * (length used - 1) ≤ 128 * length rs
 root_is_dense pages zero at rs used low s = absurd s
 root_is_dense pages (suc zero) at rs used low s =
     let one : length used ≡ 1 = ap length s.is_used in

@@ -1,5 +1,6 @@
 -- The child to which a key leads, and what stands before and behind it.
-use Rattle.std.proofs.Common.{◌≡◌, ℕ, suc, ◌+◌, ◌-◌, ◌<◌, ◌≤◌, Bool, true, false, ◌&&◌, not, List, [], ◌∷◌, ◌++◌, length, map, take, drop, Option, Some, None, slice_index, refl, sym, ◌∙◌, ap, subst, arith, take-append-drop, length-take-le, length-drop, drop-cons}
+use Rattle.std.proofs.Common.{◌≡◌, ℕ, suc, ◌+◌, ◌-◌, ◌<◌, ◌≤◌, Bool, true, false, ◌&&◌, not, List, [], ◌∷◌, ◌++◌, length, map, take, drop, Option, Some, None}
+use Rattle.std.proofs.Common.{slice_index, refl, sym, ◌∙◌, ap, subst, arith, take-append-drop, length-take-le, length-drop, drop-cons}
 use Rattle.std.specs.List.{list_all}
 use Rattle.std.specs.Ordering.{is_lt, is_le}
 use Rattle.quilt_record.specs.declared.key.Key.{Key}
@@ -41,13 +42,15 @@ AtChild S inner b i rs used =
 pub cut_children : (cs : List ℕ) (i : ℕ) → i < length cs → cs ≡ take i cs ++ slice_index cs i ∷ drop (suc i) cs
 cut_children cs i lt = sym (take-append-drop i cs) ∙ ap (λ l. take i cs ++ l) (drop-cons cs i 0 lt)
 
-pub as_long : (inner : Inner) (i : ℕ) → i < length inner.children → length inner.children ≡ length inner.keys + 1 → length (take i inner.children) ≡ length (take i inner.keys)
+pub as_long : (inner : Inner) (i : ℕ) → i < length inner.children → length inner.children ≡ length inner.keys + 1
+    → length (take i inner.children) ≡ length (take i inner.keys)
 as_long inner i lt n =
     let a = length-take-le i inner.children (omega arith) in
     let b = length-take-le i inner.keys (omega arith) in
     a ∙ sym b
 
-pub at_child : (S : Reading) (inner : Inner) (b : Bounds) (i : ℕ) (rs : List Record) (used : List ℕ) → i < length inner.children → length inner.children ≡ length inner.keys + 1
+pub at_child : (S : Reading) (inner : Inner) (b : Bounds) (i : ℕ) (rs : List Record) (used : List ℕ) → i < length inner.children
+    → length inner.children ≡ length inner.keys + 1
     → Row S (bounded inner.children inner.keys b) rs used → AtChild S inner b i rs used
 at_child S inner b i rs used lt n row =
     let ca = take i inner.children in
@@ -95,12 +98,16 @@ leads_down pages h inner bytes b i k rs used page w p row =
     let at = at_child S inner b i rs used lt page.keys row in
     let ka = take i inner.keys in
     let kb = drop i inner.keys in
-    let behind = keys_behind ka kb b (subst (λ l. is_ascending l ≡ true) (sym (take-append-drop i inner.keys)) page.ascends) (subst (λ l. are_within b l ≡ true) (sym (take-append-drop i inner.keys)) w) in
+    let behind = keys_behind ka kb b (subst (λ l. is_ascending l ≡ true) (sym (take-append-drop i inner.keys)) page.ascends)
+    (subst (λ l. are_within b l ≡ true) (sym (take-append-drop i inner.keys)) w) in
     record {
       at = at;
-      lower = front_before S rises (λ l. is_le (key_cmp l k)) (λ m. is_lt (key_cmp m k)) (key_side k) (take i inner.children) ka b at.first at.first_used p.before at.row_before;
-      higher = all_follow (λ (r : Record). not (is_le (key_cmp r.key k))) (λ r. is_lt (key_cmp k r.key)) (λ r h. not_le r.key k (turned (is_le (key_cmp r.key k)) h)) at.last
-          (tail_behind S rises (λ l. is_le (key_cmp l k)) (λ m. is_lt (key_cmp m k)) (key_side k) (drop (suc i) inner.children) kb (from_keys ka b) at.last at.last_used
+      lower = front_before S rises (λ l. is_le (key_cmp l k)) (λ m. is_lt (key_cmp m k)) (key_side k)
+          (take i inner.children) ka b at.first at.first_used p.before at.row_before;
+      higher = all_follow (λ (r : Record). not (is_le (key_cmp r.key k))) (λ r. is_lt (key_cmp k r.key))
+          (λ r h. not_le r.key k (turned (is_le (key_cmp r.key k)) h)) at.last
+          (tail_behind S rises (λ l. is_le (key_cmp l k)) (λ m. is_lt (key_cmp m k)) (key_side k) (drop (suc i) inner.children) kb
+          (from_keys ka b) at.last at.last_used
           (behind_many inner.children inner.keys i page.keys) behind.ascend behind.within
           (all_follow (λ l. is_lt (key_cmp k l)) (λ l. not (is_le (key_cmp l k))) (λ l g. ap not (gt_not_le k l g)) kb p.behind) at.row_behind);
     }
@@ -111,13 +118,16 @@ leads_down pages h inner bytes b i k rs used page w p row =
 
 -- the records behind the first child are from its upper bound on
 pub tail_past : (S : Reading) → Rises S → (cs : List ℕ) (ks : List Key) (b : Bounds) (rs : List Record) (used : List ℕ)
-    → length cs ≡ length ks → is_ascending ks ≡ true → are_within b ks ≡ true → Row S (tail_places cs ks b) rs used → list_all (λ r. is_past (head_bounds ks b).high r.key) rs ≡ true
+    → length cs ≡ length ks → is_ascending ks ≡ true → are_within b ks ≡ true → Row S (tail_places cs ks b) rs used
+    → list_all (λ r. is_past (head_bounds ks b).high r.key) rs ≡ true
 tail_past S one [] [] b rs used n a w row = subst (λ l. list_all (λ (r : Record). is_past b.high r.key) l ≡ true) (sym row.0) refl
 tail_past S one (c ∷ cs) [] b rs used n a w row = absurd (omega arith)
 tail_past S one cs (k ∷ ks) b rs used n a w row =
-    let rises = row_rises S one cs ks (record { low = Some k; high = b.high }) rs used (more (length cs) (length ks) n) (ascending_rest k ks a) (within_rest b k ks a w) row in
+    let rises = row_rises S one cs ks (record { low = Some k; high = b.high }) rs used (more (length cs) (length ks) n) (ascending_rest k ks a)
+    (within_rest b k ks a w) row in
     all_map (λ (r : Record). r.key) (λ m. is_le (key_cmp k m)) rs
-    (all_follow (λ m. is_le (key_cmp k m) && is_below b.high m) (λ m. is_le (key_cmp k m)) (λ m g. (and_parts (is_le (key_cmp k m)) (is_below b.high m) g).0) (map (λ r. r.key) rs) rises.within)
+    (all_follow (λ m. is_le (key_cmp k m) && is_below b.high m) (λ m. is_le (key_cmp k m))
+    (λ m g. (and_parts (is_le (key_cmp k m)) (is_below b.high m) g).0) (map (λ r. r.key) rs) rises.within)
   where
     more : (m n : ℕ) → m ≡ suc n → m ≡ n + 1
     more m n h = omega arith

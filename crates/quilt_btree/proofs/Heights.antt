@@ -23,7 +23,8 @@ walk_low pages root (suc h) rs visited w =
     let found = root_found pages root (suc h) rs visited some w in
     subtree_low pages (suc h) (root, everywhere) rs found.used found.spells
 
-pub walk_pages : (pages : List (List ℕ)) (root height records : ℕ) (rs : List Record) (visited : List ℕ) → walk_of pages root height ≡ Whole rs visited → length rs ≤ records → length visited ≤ records * 16 / 1143 + 1
+pub walk_pages : (pages : List (List ℕ)) (root height records : ℕ) (rs : List Record) (visited : List ℕ)
+    → walk_of pages root height ≡ Whole rs visited → length rs ≤ records → length visited ≤ records * 16 / 1143 + 1
 unfolding walk_of
 walk_pages pages root zero records rs visited w few =
     let empty : visited ≡ [] = cc in
@@ -34,7 +35,8 @@ walk_pages pages root zero records rs visited w few =
 walk_pages pages root (suc h) records rs visited w few =
     let some : 1 ≤ suc h = omega arith in
     let found = root_found pages root (suc h) rs visited some w in
-    let dense = root_is_dense pages (suc h) (root, everywhere) rs found.used (subtree_low pages (suc h) (root, everywhere) rs found.used found.spells) found.spells in
+    let dense =
+    root_is_dense pages (suc h) (root, everywhere) rs found.used (subtree_low pages (suc h) (root, everywhere) rs found.used found.spells) found.spells in
     most (length visited) (length found.used) (length rs) records (ap length (found.is_now ∙ append-nil found.used)) dense few
   where
     most : (v u n r : ℕ) → v ≡ u → 9144 * (u - 1) ≤ 128 * n → n ≤ r → v ≤ r * 16 / 1143 + 1

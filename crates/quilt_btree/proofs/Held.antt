@@ -1,5 +1,6 @@
 -- The first of the pages that a store holds, while pages are read one after another.
-use Rattle.std.proofs.Common.{IfSome, IsTrue, ◌≡◌, ◌≢◌, ℕ, zero, suc, ◌+◌, ◌≤◌, Bool, true, false, cond, not, ◌&&◌, ◌||◌, ◌==◌, List, [], ◌∷◌, ◌++◌, length, take, Option, Some, None, refl, sym, ◌∙◌, ap, subst, arith}
+use Rattle.std.proofs.Common.{IfSome, IsTrue, ◌≡◌, ◌≢◌, ℕ, zero, suc, ◌+◌, ◌≤◌, Bool, true, false, cond, not, ◌&&◌, ◌||◌, ◌==◌, List, [], ◌∷◌, ◌++◌, length}
+use Rattle.std.proofs.Common.{take, Option, Some, None, refl, sym, ◌∙◌, ap, subst, arith}
 use Rattle.std.specs.List.{list_all, list_any, filter}
 use Rattle.std.proofs.lemmas.List.{take-take}
 use Rattle.std.proofs.lemmas.Bool.Decides.{nat_tests}
@@ -65,7 +66,8 @@ stays p q (suc m) (x ∷ xs) ne hp hq = by_test (x == p) refl (stays p q m xs ne
     by_test : (b : Bool) → (x == p) ≡ b → (is_in p (take (suc m) xs) ≡ true → is_in q (take (suc m) xs) ≡ true → is_in q (take m (but p xs)) ≡ true)
         → is_in q (take (suc m) (cond (not b) (x ∷ but p xs) (but p xs))) ≡ true
     by_test true e f = nearer p q (suc m) xs ne (not_first (x == q) (is_in q (take (suc m) xs)) hq (another x p q ne e))
-    by_test false e f = either_way (x == q) (is_in q (take (suc m) xs)) (is_in q (take m (but p xs))) hq (f (not_first (x == p) (is_in p (take (suc m) xs)) hp e))
+    by_test false e f =
+        either_way (x == q) (is_in q (take (suc m) xs)) (is_in q (take m (but p xs))) hq (f (not_first (x == p) (is_in p (take (suc m) xs)) hp e))
 
 -- the first pages after one is read
 touched_take : (p n : ℕ) (old new : List ℕ) → n ≤ 8 → Touches p old new → take n new ≡ take n (p ∷ but p old)
@@ -96,7 +98,8 @@ one_behind p q n old new le t h =
     (by_page p q (p == q) (is_in q (take n (but p old))) refl (λ ne. nearer p q n old ne h))
 
 -- where a page of the first is read, the others stay among the first
-pub stays_first : (p q : ℕ) (old new : List ℕ) → Touches p old new → is_in p (first_eight old) ≡ true → is_in q (first_eight old) ≡ true → is_in q (first_eight new) ≡ true
+pub stays_first : (p q : ℕ) (old new : List ℕ) → Touches p old new → is_in p (first_eight old) ≡ true → is_in q (first_eight old) ≡ true
+    → is_in q (first_eight new) ≡ true
 stays_first p q old new t hp hq =
     subst (λ l. is_in q l ≡ true) (sym t) (by_page p q (p == q) (is_in q (take 7 (but p old))) refl (λ ne. stays p q 7 old ne hp hq))
 
@@ -114,7 +117,8 @@ right_of : (a b : Bool) → (a && b) ≡ true → b ≡ true
 right_of a b h = grind arith
 
 -- a page of the first n is among the first eight after no more than eight less n are read
-far_behind : (ps : List ℕ) (q n : ℕ) (old new : List ℕ) → n + length ps ≤ 8 → TouchesEach ps old new → is_in q (take n old) ≡ true → is_in q (first_eight new) ≡ true
+far_behind : (ps : List ℕ) (q n : ℕ) (old new : List ℕ) → n + length ps ≤ 8 → TouchesEach ps old new → is_in q (take n old) ≡ true
+    → is_in q (first_eight new) ≡ true
 far_behind [] q n old new le t h = subst (λ l. is_in q (first_eight l) ≡ true) (sym t) (in_more q n 8 old (omega arith) h)
 far_behind (p ∷ ps) q n old new le t h = far_behind ps q (suc n) t.0 new (omega arith) t.2 (one_behind p q n old t.0 (omega arith) t.1 h)
 
@@ -152,7 +156,8 @@ turns_append (p ∷ ps) qs a b c s t = (s.0, s.1, turns_append ps qs s.0 b c s.2
 
 -- What a store tells of it.
 
-pub turns_first : (ps : List ℕ) (old new : Option (List ℕ)) → length ps ≤ 8 → Tells (TouchesEach ps) old new → Tells (λ before now. AreAmongFirst ps now) old new
+pub turns_first : (ps : List ℕ) (old new : Option (List ℕ)) → length ps ≤ 8 → Tells (TouchesEach ps) old new
+    → Tells (λ before now. AreAmongFirst ps now) old new
 turns_first ps (Some old) (Some new) le t = record { each = all_touched ps old new le t }
 turns_first ps (Some old) None le t = t
 turns_first ps None (Some new) le t = t
@@ -164,7 +169,8 @@ one_turn ps page (Some old) None e t = t
 one_turn ps page None (Some new) e t = t
 one_turn ps page None None e t = t
 
-pub more_turns : (ps qs rest : List ℕ) (a b c : Option (List ℕ)) → ps ≡ qs ++ rest → Tells (TouchesEach qs) a b → Tells (TouchesEach rest) b c → Tells (TouchesEach ps) a c
+pub more_turns : (ps qs rest : List ℕ) (a b c : Option (List ℕ)) → ps ≡ qs ++ rest → Tells (TouchesEach qs) a b → Tells (TouchesEach rest) b c
+    → Tells (TouchesEach ps) a c
 more_turns ps qs rest (Some a) (Some b) (Some c) e s t = subst (λ l. TouchesEach l a c) (sym e) (turns_append qs rest a b c s t)
 more_turns ps qs rest (Some a) (Some b) None e s t = t
 more_turns ps qs rest (Some a) None c e s t = absurd s
@@ -199,7 +205,8 @@ part_free ps qs rest None a b e f = f
 part_free ps qs rest (Some held) a b e f = λ h.
     f (record { each = part_first qs rest held (subst (λ l. all_first l held ≡ true) e h.each) })
 
-pub more_free : (ps qs rest : List ℕ) (held now : Option (List ℕ)) (a b c : Option ℕ) → ps ≡ qs ++ rest → Tells (TouchesEach qs) held now → Free qs held a b → Free rest now b c → Free ps held a c
+pub more_free : (ps qs rest : List ℕ) (held now : Option (List ℕ)) (a b c : Option ℕ) → ps ≡ qs ++ rest → Tells (TouchesEach qs) held now
+    → Free qs held a b → Free rest now b c → Free ps held a c
 more_free ps qs rest None None a b c e t f g = f
 more_free ps qs rest None (Some now) a b c e t f g = absurd t
 more_free ps qs rest (Some held) None a b c e t f g = absurd t

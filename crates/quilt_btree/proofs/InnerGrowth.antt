@@ -1,5 +1,6 @@
 -- An inner page that was to be written is written, whole or in two.
-use Rattle.std.proofs.Common.{◌≡◌, ℕ, suc, ◌+◌, ◌-◌, ◌<◌, ◌≤◌, Bool, true, false, nat_le, List, [], ◌∷◌, ◌++◌, length, take, drop, Option, Some, slice_index_or, slice_set, refl, sym, ◌∙◌, ap, subst, arith, take-append-drop, length-take-le, length-drop}
+use Rattle.std.proofs.Common.{◌≡◌, ℕ, suc, ◌+◌, ◌-◌, ◌<◌, ◌≤◌, Bool, true, false, nat_le, List, [], ◌∷◌, ◌++◌, length, take, drop, Option, Some, slice_index_or}
+use Rattle.std.proofs.Common.{slice_set, refl, sym, ◌∙◌, ap, subst, arith, take-append-drop, length-take-le, length-drop}
 use Rattle.std.specs.Prelude.{slice_get, nat_lt, ◌&&◌}
 use Rattle.quilt_record.specs.declared.key.Key.{Key}
 use Rattle.quilt_record.specs.declared.record.Record.{Record}
@@ -26,16 +27,20 @@ use Rattle.quilt_btree.proofs.Writes.{tells_at, TellsAll, all_told, both_written
 abbrev pub IsWritten : List ℕ → Inner → Type 0
 IsWritten bytes inner = (pages : ℕ) → are_pages pages inner.children ≡ true → inner_of pages bytes ≡ Some inner
 
-pub pending_taken : (told : Option (List (List ℕ))) (free : ℕ → Bool) (page : ℕ) (is_root : Bool) (b : Bounds) (inner : Inner) (all : List Record) (under : List ℕ) → IsPending told free page is_root b inner all under → free page ≡ false
+pub pending_taken : (told : Option (List (List ℕ))) (free : ℕ → Bool) (page : ℕ) (is_root : Bool) (b : Bounds) (inner : Inner) (all : List Record)
+    (under : List ℕ) → IsPending told free page is_root b inner all under → free page ≡ false
 pending_taken told free page is_root b inner all under p = used_not_free free (under ++ page ∷ []) page p.apart (page_in page under)
 
-pub put_done : (told now_told : Option (List (List ℕ))) (free now : ℕ → Bool) (size page height : ℕ) (inner : Inner) (bytes : List ℕ) (is_root : Bool) (b : Bounds) (all : List Record) (under : List ℕ)
-    → page < size → TellsAll told size → IsWritten bytes inner → inner.height ≡ height → Tells (λ old new. new ≡ slice_set old page bytes) told now_told → now ≡ free
+pub put_done : (told now_told : Option (List (List ℕ))) (free now : ℕ → Bool) (size page height : ℕ) (inner : Inner) (bytes : List ℕ)
+    (is_root : Bool) (b : Bounds) (all : List Record) (under : List ℕ)
+    → page < size → TellsAll told size → IsWritten bytes inner → inner.height ≡ height
+    → Tells (λ old new. new ≡ slice_set old page bytes) told now_told → now ≡ free
     → IsPending told free page is_root b inner all under → DidPut told now_told free now page height is_root b (under ++ page ∷ []) all inserted.Done
 put_done told now_told free now size page height inner bytes is_root b all under inside many is tall wrote same p =
     let written = tells_at (λ old new. new ≡ slice_set old page bytes) told now_told p.pages wrote p.is_told in
     let news = slice_set p.pages page bytes in
-    let becomes = parent_written p.pages free p.below page is_root b inner bytes under all (all_told told size page p.pages many p.is_told inside) (is (length p.pages) p.in_range) p.is_height p.enough p.within p.apart p.children in
+    let becomes = parent_written p.pages free p.below page is_root b inner bytes under all (all_told told size page p.pages many p.is_told inside)
+    (is (length p.pages) p.in_range) p.is_height p.enough p.within p.apart p.children in
     record {
       pages = p.pages;
       news = news;
@@ -52,9 +57,11 @@ pub record AreParts (inner : Inner) (left right : List ℕ) (key : Key) : Type 0
   pub is_right : IsWritten right (children_from 127 inner)
   pub parts : slice_get inner.keys 126 ≡ Some key
 
-counted : (p new page : ℕ) (under rest first : List ℕ) → under ≡ rest ++ first → times p ((rest ++ new ∷ []) ++ (first ++ page ∷ [])) ≡ times p (new ∷ (under ++ page ∷ []))
+counted : (p new page : ℕ) (under rest first : List ℕ) → under ≡ rest ++ first
+    → times p ((rest ++ new ∷ []) ++ (first ++ page ∷ [])) ≡ times p (new ∷ (under ++ page ∷ []))
 counted p new page under rest first e =
-    order (times p ((rest ++ new ∷ []) ++ (first ++ page ∷ []))) (times p (rest ++ new ∷ [])) (times p (first ++ page ∷ [])) (times p rest) (times p (new ∷ [])) (times p first) (times p (page ∷ []))
+    order (times p ((rest ++ new ∷ []) ++ (first ++ page ∷ []))) (times p (rest ++ new ∷ [])) (times p (first ++ page ∷ [])) (times p rest)
+    (times p (new ∷ [])) (times p first) (times p (page ∷ []))
     (times p (new ∷ (under ++ page ∷ []))) (times p (under ++ page ∷ [])) (times p under)
     (times-append p (rest ++ new ∷ []) (first ++ page ∷ [])) (times-append p rest (new ∷ [])) (times-append p first (page ∷ []))
     (times-append p (new ∷ []) (under ++ page ∷ [])) (times-append p under (page ∷ [])) (ap (times p) e ∙ times-append p rest first)
@@ -73,7 +80,8 @@ none_each p under rest first e h =
     right : (u r f : ℕ) → u ≡ r + f → u ≡ 0 → f ≡ 0
     right u r f e h = omega arith
 
-pub put_split : (told now_told : Option (List (List ℕ))) (free now : ℕ → Bool) (size page new height : ℕ) (inner : Inner) (left right : List ℕ) (key : Key) (is_root : Bool) (b : Bounds) (all : List Record) (under : List ℕ)
+pub put_split : (told now_told : Option (List (List ℕ))) (free now : ℕ → Bool) (size page new height : ℕ) (inner : Inner) (left right : List ℕ)
+    (key : Key) (is_root : Bool) (b : Bounds) (all : List Record) (under : List ℕ)
     → page < size → new < size → TellsAll told size → AreParts inner left right key → inner.height ≡ height → free new ≡ true → FreesOnly new false free now
     → Tells (λ old now. now ≡ slice_set (slice_set old page left) new right) told now_told
     → IsPending told free page is_root b inner all under → DidPut told now_told free now page height is_root b (under ++ page ∷ []) all (inserted.Split key new)
@@ -82,23 +90,28 @@ put_split told now_told free now size page new height inner left right key is_ro
     let S = Subtree pages (suc p.below) false in
     let news = slice_set (slice_set pages page left) new right in
     let written = tells_at (λ old now. now ≡ slice_set (slice_set old page left) new right) told now_told pages wrote p.is_told in
-    let both = both_written pages free now (under ++ page ∷ []) page new left right p.apart (page_in page under) (all_told told size page pages many p.is_told inside) (all_told told size new pages many p.is_told inside_new) t f in
+    let both = both_written pages free now (under ++ page ∷ []) page new left right p.apart (page_in page under)
+    (all_told told size page pages many p.is_told inside) (all_told told size new pages many p.is_told inside_new) t f in
     let cs = inner.children in
     let ks = inner.keys in
     let key_cut : ks ≡ take 126 ks ++ key ∷ drop 127 ks = cut_at ks 126 key h.parts in
-    let sides = separated_at b (take 126 ks) key (drop 127 ks) (subst (λ l. is_ascending l ≡ true) key_cut p.ascends) (subst (λ l. are_within b l ≡ true) key_cut p.within) in
+    let sides = separated_at b (take 126 ks) key (drop 127 ks) (subst (λ l. is_ascending l ≡ true) key_cut p.ascends)
+    (subst (λ l. are_within b l ≡ true) key_cut p.within) in
     let long : length ks ≡ 254 = fewer (length cs) (length ks) h.full p.many in
     let left_long : length (take 127 cs) ≡ 127 = length-take-le 127 cs (at_most (length cs) h.full) in
     let keys_long : length (take 126 ks) ≡ 126 = length-take-le 126 ks (at_most_keys (length ks) long) in
     let right_long : 127 ≤ length (drop 127 cs) = enough (length cs) (length (drop 127 cs)) h.full (length-drop 127 cs) in
-    let cut : bounded cs ks b ≡ bounded (take 127 cs) (take 126 ks) (record { low = b.low; high = Some key }) ++ bounded (drop 127 cs) (drop 127 ks) (record { low = Some key; high = b.high }) =
+    let cut : bounded cs ks b ≡ bounded (take 127 cs) (take 126 ks) (record { low = b.low; high = Some key })
+    ++ bounded (drop 127 cs) (drop 127 ks) (record { low = Some key; high = b.high }) =
     ap (λ l. bounded l ks b) (sym (take-append-drop 127 cs)) ∙ ap (λ l. bounded (take 127 cs ++ drop 127 cs) l b) key_cut
     ∙ bounded_join (take 127 cs) (drop 127 cs) (take 126 ks) (drop 127 ks) key b (one_more (length (take 127 cs)) (length (take 126 ks)) left_long keys_long) in
-    let row = row_parts S (bounded (take 127 cs) (take 126 ks) (record { low = b.low; high = Some key })) (bounded (drop 127 cs) (drop 127 ks) (record { low = Some key; high = b.high })) all under
+    let row = row_parts S (bounded (take 127 cs) (take 126 ks) (record { low = b.low; high = Some key }))
+    (bounded (drop 127 cs) (drop 127 ks) (record { low = Some key; high = b.high })) all under
     (subst (λ l. Row S l all under) cut p.children) in
     let size_same : length news ≡ length pages = both.moves.size in
     let page_none = none_each page under row.rest_used row.first_used row.is_used (apart_above free under page p.apart) in
-    let new_none = none_each new under row.rest_used row.first_used row.is_used (none_below (times new (under ++ page ∷ [])) (times new under) (times new (page ∷ [])) (times-append new under (page ∷ [])) both.unused) in
+    let new_none = none_each new under row.rest_used row.first_used row.is_used
+    (none_below (times new (under ++ page ∷ [])) (times new under) (times new (page ∷ [])) (times-append new under (page ∷ [])) both.unused) in
     let separated : Separated pages news free now page (suc (suc p.below)) b (under ++ page ∷ []) all key new = record {
       first = row.first;
       rest = row.rest;
@@ -106,30 +119,35 @@ put_split told now_told free now size page new height inner left right key is_ro
       rest_uses = row.rest_used ++ new ∷ [];
       is_left = record {
         inner = first_children 127 inner;
-        page = ap (λ n. inner_of n (slice_index_or news page [])) size_same ∙ ap (inner_of (length pages)) both.is_left ∙ h.is_left (length pages) (all_take (λ c. nat_le 1 c && nat_lt c (length pages)) cs 127 p.in_range);
+        page = ap (λ n. inner_of n (slice_index_or news page [])) size_same ∙ ap (inner_of (length pages)) both.is_left
+            ∙ h.is_left (length pages) (all_take (λ c. nat_le 1 c && nat_lt c (length pages)) cs 127 p.in_range);
         is_height = p.is_height;
         enough = at_least 127 (length (take 127 cs)) (same_least (length (take 127 cs)) left_long);
         within = sides.lower;
         under = row.first_used;
-        children = rows_stay pages news p.below size_same (bounded (take 127 cs) (take 126 ks) (record { low = b.low; high = Some key })) row.first row.first_used
+        children =
+            rows_stay pages news p.below size_same (bounded (take 127 cs) (take 126 ks) (record { low = b.low; high = Some key })) row.first row.first_used
             (both_same pages news free now (under ++ page ∷ []) page new left right row.first_used both page_none.1 new_none.1) row.here;
         is_used = refl;
       };
       is_right = record {
         inner = children_from 127 inner;
-        page = ap (λ n. inner_of n (slice_index_or news new [])) size_same ∙ ap (inner_of (length pages)) both.is_right ∙ h.is_right (length pages) (all_drop (λ c. nat_le 1 c && nat_lt c (length pages)) cs 127 p.in_range);
+        page = ap (λ n. inner_of n (slice_index_or news new [])) size_same ∙ ap (inner_of (length pages)) both.is_right
+            ∙ h.is_right (length pages) (all_drop (λ c. nat_le 1 c && nat_lt c (length pages)) cs 127 p.in_range);
         is_height = p.is_height;
         enough = at_least 127 (length (drop 127 cs)) right_long;
         within = sides.higher;
         under = row.rest_used;
-        children = rows_stay pages news p.below size_same (bounded (drop 127 cs) (drop 127 ks) (record { low = Some key; high = b.high })) row.rest row.rest_used
+        children =
+            rows_stay pages news p.below size_same (bounded (drop 127 cs) (drop 127 ks) (record { low = Some key; high = b.high })) row.rest row.rest_used
             (both_same pages news free now (under ++ page ∷ []) page new left right row.rest_used both page_none.0 new_none.0) row.after;
         is_used = refl;
       };
       records = row.records;
       low = sides.above;
       high = sides.below;
-      moves = moves_order pages news free now (under ++ page ∷ []) (new ∷ (under ++ page ∷ [])) (under ++ page ∷ []) ((row.rest_used ++ new ∷ []) ++ (row.first_used ++ page ∷ [])) (λ q. refl)
+      moves = moves_order pages news free now (under ++ page ∷ []) (new ∷ (under ++ page ∷ [])) (under ++ page ∷ [])
+          ((row.rest_used ++ new ∷ []) ++ (row.first_used ++ page ∷ [])) (λ q. refl)
           (λ q. counted q new page under row.rest_used row.first_used row.is_used) both.moves;
     } in
     record {

@@ -1,5 +1,6 @@
 -- Two neighbouring inner pages are joined, or their children are redistributed.
-use Rattle.std.proofs.Common.{◌≡◌, ℕ, zero, suc, ◌+◌, ◌<◌, ◌≤◌, Bool, true, false, ◌&&◌, nat_le, nat_lt, List, [], ◌∷◌, ◌++◌, length, Option, Some, IfSome, slice_index_or, slice_set, refl, sym, ◌∙◌, ap, subst, arith, length-append}
+use Rattle.std.proofs.Common.{◌≡◌, ℕ, zero, suc, ◌+◌, ◌<◌, ◌≤◌, Bool, true, false, ◌&&◌, nat_le, nat_lt, List, [], ◌∷◌, ◌++◌, length, Option, Some, IfSome}
+use Rattle.std.proofs.Common.{slice_index_or, slice_set, refl, sym, ◌∙◌, ap, subst, arith, length-append}
 use Rattle.quilt_record.specs.declared.key.Key.{Key}
 use Rattle.quilt_record.specs.declared.record.Record.{Record}
 use Rattle.quilt_record.specs.Records.{key_cmp}
@@ -33,16 +34,20 @@ two_above (suc zero) h = absurd (omega arith)
 two_above (suc (suc n)) h = (n, refl)
 
 -- the pages that two neighbours use
-pair_count : (p : ℕ) (late early : List ℕ) (left right : ℕ) → times p ((late ++ right ∷ []) ++ (early ++ left ∷ [])) ≡ times p (late ++ early) + times p (right ∷ left ∷ [])
+pair_count : (p : ℕ) (late early : List ℕ) (left right : ℕ)
+    → times p ((late ++ right ∷ []) ++ (early ++ left ∷ [])) ≡ times p (late ++ early) + times p (right ∷ left ∷ [])
 pair_count p late early left right =
-    sums (times p ((late ++ right ∷ []) ++ (early ++ left ∷ []))) (times p (late ++ right ∷ [])) (times p (early ++ left ∷ [])) (times p late) (times p (right ∷ [])) (times p early) (times p (left ∷ [])) (times p (late ++ early)) (times p (right ∷ left ∷ []))
-    (times-append p (late ++ right ∷ []) (early ++ left ∷ [])) (times-append p late (right ∷ [])) (times-append p early (left ∷ [])) (times-append p late early) (times-append p (right ∷ []) (left ∷ []))
+    sums (times p ((late ++ right ∷ []) ++ (early ++ left ∷ []))) (times p (late ++ right ∷ [])) (times p (early ++ left ∷ [])) (times p late)
+    (times p (right ∷ [])) (times p early) (times p (left ∷ [])) (times p (late ++ early)) (times p (right ∷ left ∷ []))
+    (times-append p (late ++ right ∷ []) (early ++ left ∷ [])) (times-append p late (right ∷ [])) (times-append p early (left ∷ []))
+    (times-append p late early) (times-append p (right ∷ []) (left ∷ []))
   where
     sums : (all x y l r e f m t : ℕ) → all ≡ x + y → x ≡ l + r → y ≡ e + f → m ≡ l + e → t ≡ r + f → all ≡ m + t
     sums all x y l r e f m t a b c d g = omega arith
 
 -- the two inner pages, as they were read
-pub record AreInners (told : Option (List (List ℕ))) (free : ℕ → Bool) (h left : ℕ) (key : Key) (right : ℕ) (b : Bounds) (rs : List Record) (used : List ℕ) (m : CanRebalance told free (suc (suc h)) left key right b rs used) (l r : Inner) : Type 0 where
+pub record AreInners (told : Option (List (List ℕ))) (free : ℕ → Bool) (h left : ℕ) (key : Key) (right : ℕ) (b : Bounds) (rs : List Record)
+    (used : List ℕ) (m : CanRebalance told free (suc (suc h)) left key right b rs used) (l r : Inner) : Type 0 where
   pub under : List ℕ
   pub row : Row (Subtree m.pages (suc h) false) (bounded (l.children ++ r.children) (l.keys ++ key ∷ r.keys) b) rs under
   pub rises : IsRising b (l.keys ++ key ∷ r.keys)
@@ -51,7 +56,8 @@ pub record AreInners (told : Option (List (List ℕ))) (free : ℕ → Bool) (h 
   pub pair : ArePair left right under used
   pub apart : AreApart free (right ∷ left ∷ [])
 
-pub are_inners : (told : Option (List (List ℕ))) (free : ℕ → Bool) (h left : ℕ) (key : Key) (right : ℕ) (b : Bounds) (rs : List Record) (used : List ℕ) (m : CanRebalance told free (suc (suc h)) left key right b rs used) (l r : Inner)
+pub are_inners : (told : Option (List (List ℕ))) (free : ℕ → Bool) (h left : ℕ) (key : Key) (right : ℕ) (b : Bounds) (rs : List Record)
+    (used : List ℕ) (m : CanRebalance told free (suc (suc h)) left key right b rs used) (l r : Inner)
     → ReadsInner told left l → ReadsInner told right r → AreInners told free h left key right b rs used m l r
 are_inners told free h left key right b rs used m l r reads also =
     let S = Subtree m.pages (suc h) false in
@@ -69,17 +75,33 @@ are_inners told free h left key right b rs used m l r reads also =
     let row_r = subst (λ (i : Inner). Row S (bounded i.children i.keys above) m.rest t.under) rest t.children in
     let within_l = subst (λ (i : Inner). are_within below i.keys ≡ true) first s.within in
     let within_r = subst (λ (i : Inner). are_within above i.keys ≡ true) rest t.within in
-    let from : is_ascending (key ∷ r.keys) ≡ true = ascends_from m.pages h r.children r.keys key b.high m.rest t.under (let n = list_too.least in omega arith) list_too.ascends row_r in
+    let from : is_ascending (key ∷ r.keys) ≡ true =
+    ascends_from m.pages h r.children r.keys key b.high m.rest t.under (let n = list_too.least in omega arith) list_too.ascends row_r in
     let pair : ArePair left right (t.under ++ s.under) used = record {
-      count = λ p. ap (times p) (m.is_used ∙ ap (λ u. u ++ m.first_used) t.is_used ∙ ap (λ u. (t.under ++ right ∷ []) ++ u) s.is_used) ∙ pair_count p t.under s.under left right;
+      count = λ p. ap (times p) (m.is_used ∙ ap (λ u. u ++ m.first_used) t.is_used ∙ ap (λ u. (t.under ++ right ∷ []) ++ u) s.is_used)
+          ∙ pair_count p t.under s.under left right;
     } in
     record {
       under = t.under ++ s.under;
-      row = subst (λ c. Row S c rs (t.under ++ s.under)) (sym (bounded_join l.children r.children l.keys r.keys key b (one_more (length l.children) (length l.keys) list.keys)))
+      row = subst (λ c. Row S c rs (t.under ++ s.under))
+          (sym (bounded_join l.children r.children l.keys r.keys key b (one_more (length l.children) (length l.keys) list.keys)))
           (row_join S (bounded l.children l.keys below) (bounded r.children r.keys above) rs (t.under ++ s.under)
-          (record { first = m.first; rest = m.rest; first_used = s.under; rest_used = t.under; here = row_l; after = row_r; records = m.records; is_used = refl }));
+          (record {
+            first = m.first;
+            rest = m.rest;
+            first_used = s.under;
+            rest_used = t.under;
+            here = row_l;
+            after = row_r;
+            records = m.records;
+            is_used = refl;
+          }));
       rises = rising_join b key l.keys (key ∷ r.keys) m.low m.high (record { ascends = list.ascends; within = within_l })
-          (record { ascends = from; within = and_both (is_le (key_cmp key key) && is_below b.high key) (are_within above r.keys) (and_both (is_le (key_cmp key key)) (is_below b.high key) (same_le key) m.high) within_r });
+          (record {
+            ascends = from;
+            within = and_both (is_le (key_cmp key key) && is_below b.high key) (are_within above r.keys)
+                (and_both (is_le (key_cmp key key)) (is_below b.high key) (same_le key) m.high) within_r;
+          });
       first_many = m.is_left.nearly l there;
       rest_many = m.is_right.nearly r other;
       pair = pair;
@@ -92,8 +114,10 @@ are_inners told free h left key right b rs used m l r reads also =
     one_more : (m n : ℕ) → m ≡ n + 1 → m ≡ suc n
     one_more m n e = omega arith
 
-one_inner : (pages : List (List ℕ)) (h page : ℕ) (bytes : List ℕ) (b : Bounds) (inner : Inner) (all : List Record) (under : List ℕ) → slice_index_or pages page [] ≡ bytes → inner_of (length pages) bytes ≡ Some inner → inner.height ≡ suc (suc h)
-    → 127 ≤ length inner.children → are_within b inner.keys ≡ true → Row (Subtree pages (suc h) false) (bounded inner.children inner.keys b) all under → Subtree pages (suc (suc h)) false (page, b) all (under ++ page ∷ [])
+one_inner : (pages : List (List ℕ)) (h page : ℕ) (bytes : List ℕ) (b : Bounds) (inner : Inner) (all : List Record) (under : List ℕ)
+    → slice_index_or pages page [] ≡ bytes → inner_of (length pages) bytes ≡ Some inner → inner.height ≡ suc (suc h)
+    → 127 ≤ length inner.children → are_within b inner.keys ≡ true →
+    Row (Subtree pages (suc h) false) (bounded inner.children inner.keys b) all under → Subtree pages (suc (suc h)) false (page, b) all (under ++ page ∷ [])
 one_inner pages h page bytes b inner all under here is height many within row = record {
   inner = inner;
   page = ap (inner_of (length pages)) here ∙ is;
@@ -109,7 +133,8 @@ pub all_pages : (size : ℕ) (cs ds : List ℕ) → are_pages size cs ≡ true �
 all_pages size cs ds h g = all_append (λ c. nat_le 1 c && nat_lt c size) cs ds h g
 
 -- what is known of a call that joins two inner pages
-pub record InnersJoin (told mid now_told : Option (List (List ℕ))) (free was now : ℕ → Bool) (size height left : ℕ) (key : Key) (right : ℕ) (l r all : Inner) (bytes : List ℕ) : Type 0 where
+pub record InnersJoin (told mid now_told : Option (List (List ℕ))) (free was now : ℕ → Bool) (size height left : ℕ) (key : Key) (right : ℕ)
+    (l r all : Inner) (bytes : List ℕ) : Type 0 where
   pub above : 2 ≤ height
   pub reads : ReadsInner told left l
   pub also : ReadsInner told right r
@@ -128,8 +153,10 @@ pub record InnersJoin (told mid now_told : Option (List (List ℕ))) (free was n
 if_told : (told : Option (List (List ℕ))) (pages : List (List ℕ)) (size : ℕ) → IfSome told (λ x. length x ≡ size) → told ≡ Some pages → length pages ≡ size
 if_told told pages size many e = subst (λ o. IfSome o (λ x. length x ≡ size)) e many
 
-pub inners_joined : (told mid now_told : Option (List (List ℕ))) (free was now : ℕ → Bool) (size height left : ℕ) (key : Key) (right : ℕ) (b : Bounds) (rs : List Record) (used : List ℕ) (l r all : Inner) (bytes : List ℕ)
-    → InnersJoin told mid now_told free was now size height left key right l r all bytes → CanRebalance told free height left key right b rs used → DidRebalance told now_told free now height left right b rs used rebalanced.Joined
+pub inners_joined : (told mid now_told : Option (List (List ℕ))) (free was now : ℕ → Bool) (size height left : ℕ) (key : Key) (right : ℕ)
+    (b : Bounds) (rs : List Record) (used : List ℕ) (l r all : Inner) (bytes : List ℕ)
+    → InnersJoin told mid now_told free was now size height left key right l r all bytes → CanRebalance told free height left key right b rs used
+    → DidRebalance told now_told free now height left right b rs used rebalanced.Joined
 inners_joined told mid now_told free was now size height left key right b rs used l r all bytes c can =
     let n = two_above height c.above in
     let h = n.0 in
@@ -137,16 +164,20 @@ inners_joined told mid now_told free was now size height left key right b rs use
     let a = are_inners told free h left key right b rs used m l r c.reads c.also in
     let on = tells_on (λ old new. HasGiven right (slice_set old left bytes) new) mid now_told m.pages (c.is_mid ∙ m.is_told) c.tells in
     let news = on.0 in
-    let j = is_joined m.pages news free now left right bytes a.apart (has_many told m.pages size left c.many m.is_told c.inside) on.2 (subst (λ f. FreesOnly right true f now) c.is_free c.frees) in
+    let j = is_joined m.pages news free now left right bytes a.apart (has_many told m.pages size left c.many m.is_told c.inside) on.2
+    (subst (λ f. FreesOnly right true f now) c.is_free c.frees) in
     let long : length news ≡ size = j.size ∙ if_told told m.pages size c.many m.is_told in
     let kids : all.children ≡ l.children ++ r.children = ap (λ (i : Inner). i.children) c.all_is in
     let keys : all.keys ≡ l.keys ++ key ∷ r.keys = ap (λ (i : Inner). i.keys) c.all_is in
-    let is : inner_of (length news) bytes ≡ Some all = ap (λ x. inner_of x bytes) long ∙ c.written size (subst (λ x. are_pages size x ≡ true) (sym kids) (all_pages size l.children r.children c.children c.children_too)) in
+    let is : inner_of (length news) bytes ≡ Some all = ap (λ x. inner_of x bytes) long
+    ∙ c.written size (subst (λ x. are_pages size x ≡ true) (sym kids) (all_pages size l.children r.children c.children c.children_too)) in
     let same = under_stays m.pages news free now left right (left ∷ []) a.under used a.pair m.apart j.moves in
     let row = rows_stay m.pages news h j.size (bounded (l.children ++ r.children) (l.keys ++ key ∷ r.keys) b) rs a.under same a.row in
     let there : Row (Subtree news (suc h) false) (bounded all.children all.keys b) rs a.under =
-    subst (λ x. Row (Subtree news (suc h) false) (bounded x all.keys b) rs a.under) (sym kids) (subst (λ x. Row (Subtree news (suc h) false) (bounded (l.children ++ r.children) x b) rs a.under) (sym keys) row) in
-    let many : 127 ≤ length all.children = enough (length all.children) (length l.children) (length r.children) (ap length kids ∙ length-append l.children r.children) a.first_many a.rest_many in
+    subst (λ x. Row (Subtree news (suc h) false) (bounded x all.keys b) rs a.under) (sym kids)
+    (subst (λ x. Row (Subtree news (suc h) false) (bounded (l.children ++ r.children) x b) rs a.under) (sym keys) row) in
+    let many : 127 ≤ length all.children =
+    enough (length all.children) (length l.children) (length r.children) (ap length kids ∙ length-append l.children r.children) a.first_many a.rest_many in
     subst (λ x. DidRebalance told now_told free now x left right b rs used rebalanced.Joined) (sym n.1) (record {
       pages = m.pages;
       news = news;
@@ -154,8 +185,10 @@ inners_joined told mid now_told free was now size height left key right b rs use
       is = on.1;
       done = record {
         uses = a.under ++ left ∷ [];
-        subtree = one_inner news h left bytes b all rs a.under j.here is (ap (λ (i : Inner). i.height) c.all_is ∙ c.is_height ∙ n.1) many (subst (λ x. are_within b x ≡ true) (sym keys) a.rises.within) there;
-        moves = pair_moves m.pages news free now left right (left ∷ []) a.under used (a.under ++ left ∷ []) a.pair (λ p. times-append p a.under (left ∷ [])) j.moves;
+        subtree = one_inner news h left bytes b all rs a.under j.here is (ap (λ (i : Inner). i.height) c.all_is ∙ c.is_height ∙ n.1) many
+            (subst (λ x. are_within b x ≡ true) (sym keys) a.rises.within) there;
+        moves = pair_moves m.pages news free now left right (left ∷ []) a.under used (a.under ++ left ∷ []) a.pair
+            (λ p. times-append p a.under (left ∷ [])) j.moves;
       };
     })
   where
@@ -163,7 +196,8 @@ inners_joined told mid now_told free was now size height left key right b rs use
     enough n x y e f g = omega arith
 
 -- what is known of a call that parts the children of two inner pages
-pub record InnersPart (told mid now_told : Option (List (List ℕ))) (free now : ℕ → Bool) (size height left : ℕ) (key : Key) (right : ℕ) (l r first rest : Inner) (separator : Key) (bytes others : List ℕ) : Type 0 where
+pub record InnersPart (told mid now_told : Option (List (List ℕ))) (free now : ℕ → Bool) (size height left : ℕ) (key : Key) (right : ℕ)
+    (l r first rest : Inner) (separator : Key) (bytes others : List ℕ) : Type 0 where
   pub above : 2 ≤ height
   pub reads : ReadsInner told left l
   pub also : ReadsInner told right r
@@ -184,8 +218,10 @@ pub record InnersPart (told mid now_told : Option (List (List ℕ))) (free now :
   pub tells : Tells (λ old new. new ≡ slice_set (slice_set old left bytes) right others) mid now_told
   pub frees : now ≡ free
 
-pub inners_separated : (told mid now_told : Option (List (List ℕ))) (free now : ℕ → Bool) (size height left : ℕ) (key : Key) (right : ℕ) (b : Bounds) (rs : List Record) (used : List ℕ) (l r first rest : Inner) (separator : Key) (bytes others : List ℕ)
-    → InnersPart told mid now_told free now size height left key right l r first rest separator bytes others → CanRebalance told free height left key right b rs used
+pub inners_separated : (told mid now_told : Option (List (List ℕ))) (free now : ℕ → Bool) (size height left : ℕ) (key : Key) (right : ℕ) (b : Bounds)
+    (rs : List Record) (used : List ℕ) (l r first rest : Inner) (separator : Key) (bytes others : List ℕ)
+    → InnersPart told mid now_told free now size height left key right l r first rest separator bytes others
+    → CanRebalance told free height left key right b rs used
     → DidRebalance told now_told free now height left right b rs used (rebalanced.Redistributed separator)
 inners_separated told mid now_told free now size height left key right b rs used l r first rest separator bytes others c can =
     let n = two_above height c.above in
@@ -193,19 +229,22 @@ inners_separated told mid now_told free now size height left key right b rs used
     let m = subst (λ x. CanRebalance told free x left key right b rs used) n.1 can in
     let a = are_inners told free h left key right b rs used m l r c.reads c.also in
     let on = tells_on (λ old new. new ≡ slice_set (slice_set old left bytes) right others) mid now_told m.pages (c.is_mid ∙ m.is_told) c.tells in
-    let w = are_written m.pages free left right bytes others a.apart (has_many told m.pages size left c.many m.is_told c.inside) (has_many told m.pages size right c.many m.is_told c.inside_too) in
+    let w = are_written m.pages free left right bytes others a.apart (has_many told m.pages size left c.many m.is_told c.inside)
+    (has_many told m.pages size right c.many m.is_told c.inside_too) in
     let news = slice_set (slice_set m.pages left bytes) right others in
     let S = Subtree news (suc h) false in
     let below : Bounds = record { low = b.low; high = Some separator } in
     let above : Bounds = record { low = Some separator; high = b.high } in
     let long : length news ≡ size = w.size ∙ if_told told m.pages size c.many m.is_told in
-    let kids = all_parts (λ x. nat_le 1 x && nat_lt x size) first.children rest.children (subst (λ x. are_pages size x ≡ true) (sym c.children) (all_pages size l.children r.children c.children_are c.children_are_too)) in
+    let kids = all_parts (λ x. nat_le 1 x && nat_lt x size) first.children rest.children
+    (subst (λ x. are_pages size x ≡ true) (sym c.children) (all_pages size l.children r.children c.children_are c.children_are_too)) in
     let is : inner_of (length news) bytes ≡ Some first = ap (λ x. inner_of x bytes) long ∙ c.written size kids.0 in
     let is_too : inner_of (length news) others ≡ Some rest = ap (λ x. inner_of x others) long ∙ c.written_too size kids.1 in
     let same = under_stays m.pages news free free left right (right ∷ left ∷ []) a.under used a.pair m.apart w.moves in
     let row = rows_stay m.pages news h w.size (bounded (l.children ++ r.children) (l.keys ++ key ∷ r.keys) b) rs a.under same a.row in
     let there : Row S (bounded (first.children ++ rest.children) (first.keys ++ separator ∷ rest.keys) b) rs a.under =
-    subst (λ x. Row S (bounded x (first.keys ++ separator ∷ rest.keys) b) rs a.under) (sym c.children) (subst (λ x. Row S (bounded (l.children ++ r.children) x b) rs a.under) (sym c.keys) row) in
+    subst (λ x. Row S (bounded x (first.keys ++ separator ∷ rest.keys) b) rs a.under) (sym c.children)
+    (subst (λ x. Row S (bounded (l.children ++ r.children) x b) rs a.under) (sym c.keys) row) in
     let two = row_parts S (bounded first.children first.keys below) (bounded rest.children rest.keys above) rs a.under
     (subst (λ x. Row S x rs a.under) (bounded_join first.children rest.children first.keys rest.keys separator b c.between) there) in
     let parts = rises_apart b first.keys separator rest.keys (subst (IsRising b) (sym c.keys) a.rises) in
@@ -223,8 +262,10 @@ inners_separated told mid now_told free now size height left key right b rs used
         rest = two.rest;
         first_uses = two.first_used ++ left ∷ [];
         rest_uses = two.rest_used ++ right ∷ [];
-        is_left = one_inner news h left bytes below first two.first two.first_used w.here is (c.heights.0 ∙ c.is_height ∙ n.1) enough.0 parts.before.within two.here;
-        is_right = one_inner news h right others above rest two.rest two.rest_used w.there is_too (c.heights.1 ∙ c.is_height ∙ n.1) enough.1 parts.behind.within two.after;
+        is_left =
+            one_inner news h left bytes below first two.first two.first_used w.here is (c.heights.0 ∙ c.is_height ∙ n.1) enough.0 parts.before.within two.here;
+        is_right = one_inner news h right others above rest two.rest two.rest_used w.there is_too
+            (c.heights.1 ∙ c.is_height ∙ n.1) enough.1 parts.behind.within two.after;
         records = two.records;
         low = parts.low;
         high = parts.high;
@@ -232,7 +273,8 @@ inners_separated told mid now_told free now size height left key right b rs used
       };
     })
 
-pub not_inners : (told : Option (List (List ℕ))) (free : ℕ → Bool) (height left : ℕ) (key : Key) (right : ℕ) (b : Bounds) (rs : List Record) (used : List ℕ) (l r : Inner) (test : Bool) → 2 ≤ height → ReadsInner told left l → ReadsInner told right r
+pub not_inners : (told : Option (List (List ℕ))) (free : ℕ → Bool) (height left : ℕ) (key : Key) (right : ℕ) (b : Bounds) (rs : List Record)
+    (used : List ℕ) (l r : Inner) (test : Bool) → 2 ≤ height → ReadsInner told left l → ReadsInner told right r
     → test ≡ is_ascending (l.keys ++ key ∷ r.keys) → test ≡ false → CanRebalance told free height left key right b rs used → ⊥
 not_inners told free height left key right b rs used l r test above reads also e fails can =
     let n = two_above height above in
@@ -242,7 +284,8 @@ not_inners told free height left key right b rs used l r test above reads also e
     never : (x y : Bool) → x ≡ y → x ≡ false → y ≡ true → ⊥
     never x y e f g = cc
 
-pub inners_taken : (told : Option (List (List ℕ))) (free was : ℕ → Bool) (height left : ℕ) (key : Key) (right : ℕ) (b : Bounds) (rs : List Record) (used : List ℕ) (l r : Inner) → 2 ≤ height → ReadsInner told left l → ReadsInner told right r → was ≡ free
+pub inners_taken : (told : Option (List (List ℕ))) (free was : ℕ → Bool) (height left : ℕ) (key : Key) (right : ℕ) (b : Bounds) (rs : List Record)
+    (used : List ℕ) (l r : Inner) → 2 ≤ height → ReadsInner told left l → ReadsInner told right r → was ≡ free
     → CanRebalance told free height left key right b rs used → (was left ≡ false) × (was right ≡ false)
 inners_taken told free was height left key right b rs used l r above reads also e can =
     let n = two_above height above in

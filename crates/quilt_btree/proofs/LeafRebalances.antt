@@ -1,5 +1,6 @@
 -- Two neighbouring leaves are joined, or their records are redistributed.
-use Rattle.std.proofs.Common.{◌≡◌, ℕ, ◌+◌, ◌<◌, ◌≤◌, Bool, true, false, List, [], ◌∷◌, ◌++◌, length, Option, Some, IfSome, slice_index_or, slice_set, refl, sym, ◌∙◌, ap, subst, arith, length-append}
+use Rattle.std.proofs.Common.{◌≡◌, ℕ, ◌+◌, ◌<◌, ◌≤◌, Bool, true, false, List, [], ◌∷◌, ◌++◌, length, Option, Some, IfSome, slice_index_or, slice_set, refl, sym}
+use Rattle.std.proofs.Common.{◌∙◌, ap, subst, arith, length-append}
 use Rattle.std.specs.Prelude.{slice_get}
 use Rattle.quilt_record.specs.declared.key.Key.{Key}
 use Rattle.quilt_record.specs.declared.record.Record.{Record}
@@ -20,7 +21,8 @@ use Rattle.quilt_btree.proofs.RisingApart.{rises_apart}
 use Rattle.quilt_btree.proofs.LeafRemovals.{tells_on, has_many, many_enough}
 
 -- the two leaves, as they were read
-pub record AreLeaves (told : Option (List (List ℕ))) (free : ℕ → Bool) (left : ℕ) (key : Key) (right : ℕ) (b : Bounds) (rs : List Record) (used : List ℕ) (m : CanRebalance told free 1 left key right b rs used) (l r : List Record) : Type 0 where
+pub record AreLeaves (told : Option (List (List ℕ))) (free : ℕ → Bool) (left : ℕ) (key : Key) (right : ℕ) (b : Bounds) (rs : List Record)
+    (used : List ℕ) (m : CanRebalance told free 1 left key right b rs used) (l r : List Record) : Type 0 where
   pub first : l ≡ m.first
   pub rest : r ≡ m.rest
   pub records : rs ≡ l ++ r
@@ -30,7 +32,8 @@ pub record AreLeaves (told : Option (List (List ℕ))) (free : ℕ → Bool) (le
   pub pages : used ≡ right ∷ left ∷ []
   pub apart : AreApart free (right ∷ left ∷ [])
 
-pub are_leaves : (told : Option (List (List ℕ))) (free : ℕ → Bool) (left : ℕ) (key : Key) (right : ℕ) (b : Bounds) (rs : List Record) (used : List ℕ) (m : CanRebalance told free 1 left key right b rs used) (l r : List Record)
+pub are_leaves : (told : Option (List (List ℕ))) (free : ℕ → Bool) (left : ℕ) (key : Key) (right : ℕ) (b : Bounds) (rs : List Record) (used : List ℕ)
+    (m : CanRebalance told free 1 left key right b rs used) (l r : List Record)
     → ReadsLeaf told left l → ReadsLeaf told right r → AreLeaves told free left key right b rs used m l r
 are_leaves told free left key right b rs used m l r reads also =
     let s : Subtree m.pages 1 true (left, record { low = b.low; high = Some key }) m.first m.first_used = m.is_left.subtree in
@@ -58,18 +61,22 @@ are_leaves told free left key right b rs used m l r reads also =
     some_same x y e = cc
 
 -- they ascend one behind the other
-pub leaves_ascend : (told : Option (List (List ℕ))) (free : ℕ → Bool) (left : ℕ) (key : Key) (right : ℕ) (b : Bounds) (rs : List Record) (used : List ℕ) → CanRebalance told free 1 left key right b rs used → (l r : List Record)
+pub leaves_ascend : (told : Option (List (List ℕ))) (free : ℕ → Bool) (left : ℕ) (key : Key) (right : ℕ) (b : Bounds) (rs : List Record)
+    (used : List ℕ) → CanRebalance told free 1 left key right b rs used → (l r : List Record)
     → ReadsLeaf told left l → ReadsLeaf told right r → is_ascending (keys_of (l ++ r)) ≡ true
 leaves_ascend told free left key right b rs used m l r reads also =
     let a = are_leaves told free left key right b rs used m l r reads also in
     subst (λ x. is_ascending (keys_of x) ≡ true) a.records a.rises.ascends
 
-one_leaf : (pages : List (List ℕ)) (page : ℕ) (bytes : List ℕ) (b : Bounds) (all : List Record) → slice_index_or pages page [] ≡ bytes → leaf_of bytes ≡ Some all → 72 ≤ length all → are_within b (keys_of all) ≡ true
+one_leaf : (pages : List (List ℕ)) (page : ℕ) (bytes : List ℕ) (b : Bounds) (all : List Record) → slice_index_or pages page [] ≡ bytes
+    → leaf_of bytes ≡ Some all → 72 ≤ length all → are_within b (keys_of all) ≡ true
     → Subtree pages 1 false (page, b) all (page ∷ [])
-one_leaf pages page bytes b all here is many within = record { page = ap leaf_of here ∙ is; enough = many_enough false 72 (length all) many; within = within; is_used = refl }
+one_leaf pages page bytes b all here is many within =
+    record { page = ap leaf_of here ∙ is; enough = many_enough false 72 (length all) many; within = within; is_used = refl }
 
 -- what is known of a call that joins two leaves
-pub record LeavesJoin (told mid now_told : Option (List (List ℕ))) (free was now : ℕ → Bool) (size left right : ℕ) (l r all : List Record) (bytes : List ℕ) : Type 0 where
+pub record LeavesJoin (told mid now_told : Option (List (List ℕ))) (free was now : ℕ → Bool) (size left right : ℕ) (l r all : List Record)
+    (bytes : List ℕ) : Type 0 where
   pub reads : ReadsLeaf told left l
   pub also : ReadsLeaf told right r
   pub inside : left < size
@@ -81,13 +88,16 @@ pub record LeavesJoin (told mid now_told : Option (List (List ℕ))) (free was n
   pub is_free : was ≡ free
   pub frees : FreesOnly right true was now
 
-pub leaves_joined : (told mid now_told : Option (List (List ℕ))) (free was now : ℕ → Bool) (size left : ℕ) (key : Key) (right height : ℕ) (b : Bounds) (rs : List Record) (used : List ℕ) (l r all : List Record) (bytes : List ℕ) → height ≡ 1
-    → LeavesJoin told mid now_told free was now size left right l r all bytes → CanRebalance told free height left key right b rs used → DidRebalance told now_told free now height left right b rs used rebalanced.Joined
+pub leaves_joined : (told mid now_told : Option (List (List ℕ))) (free was now : ℕ → Bool) (size left : ℕ) (key : Key) (right height : ℕ)
+    (b : Bounds) (rs : List Record) (used : List ℕ) (l r all : List Record) (bytes : List ℕ) → height ≡ 1
+    → LeavesJoin told mid now_told free was now size left right l r all bytes → CanRebalance told free height left key right b rs used
+    → DidRebalance told now_told free now height left right b rs used rebalanced.Joined
 leaves_joined told mid now_told free was now size left key right height b rs used l r all bytes one c can =
     let m = subst (λ h. CanRebalance told free h left key right b rs used) one can in
     let a = are_leaves told free left key right b rs used m l r c.reads c.also in
     let on = tells_on (λ old new. HasGiven right (slice_set old left bytes) new) mid now_told m.pages (c.is_mid ∙ m.is_told) c.tells in
-    let j = is_joined m.pages on.0 free now left right bytes a.apart (has_many told m.pages size left c.many m.is_told c.inside) on.2 (subst (λ f. FreesOnly right true f now) c.is_free c.frees) in
+    let j = is_joined m.pages on.0 free now left right bytes a.apart (has_many told m.pages size left c.many m.is_told c.inside) on.2
+    (subst (λ f. FreesOnly right true f now) c.is_free c.frees) in
     let same : all ≡ rs = c.all_is ∙ sym a.records in
     let many : 72 ≤ length all = enough (length all) (length l) (length r) (ap length c.all_is ∙ length-append l r) a.first_many a.rest_many in
     subst (λ h. DidRebalance told now_told free now h left right b rs used rebalanced.Joined) (sym one) (record {
@@ -107,7 +117,8 @@ leaves_joined told mid now_told free was now size left key right height b rs use
     enough n x y e f g = omega arith
 
 -- what is known of a call that parts the records of two leaves
-pub record LeavesPart (told mid now_told : Option (List (List ℕ))) (free now : ℕ → Bool) (size left right : ℕ) (l r first rest : List Record) (start : Record) (bytes others : List ℕ) : Type 0 where
+pub record LeavesPart (told mid now_told : Option (List (List ℕ))) (free now : ℕ → Bool) (size left right : ℕ) (l r first rest : List Record)
+    (start : Record) (bytes others : List ℕ) : Type 0 where
   pub reads : ReadsLeaf told left l
   pub also : ReadsLeaf told right r
   pub inside : left < size
@@ -127,20 +138,23 @@ begins : (rest : List Record) (x : Record) → slice_get rest 0 ≡ Some x → (
 begins [] x h = cc
 begins (y ∷ ys) x h = let same : y ≡ x = cc in (ys, ap (λ z. z ∷ ys) same)
 
-pub leaves_separated : (told mid now_told : Option (List (List ℕ))) (free now : ℕ → Bool) (size left : ℕ) (key : Key) (right height : ℕ) (b : Bounds) (rs : List Record) (used : List ℕ) (l r first rest : List Record) (start : Record) (bytes others : List ℕ) → height ≡ 1
+pub leaves_separated : (told mid now_told : Option (List (List ℕ))) (free now : ℕ → Bool) (size left : ℕ) (key : Key) (right height : ℕ) (b : Bounds)
+    (rs : List Record) (used : List ℕ) (l r first rest : List Record) (start : Record) (bytes others : List ℕ) → height ≡ 1
     → LeavesPart told mid now_told free now size left right l r first rest start bytes others → CanRebalance told free height left key right b rs used
     → DidRebalance told now_told free now height left right b rs used (rebalanced.Redistributed start.key)
 leaves_separated told mid now_told free now size left key right height b rs used l r first rest start bytes others one c can =
     let m = subst (λ h. CanRebalance told free h left key right b rs used) one can in
     let a = are_leaves told free left key right b rs used m l r c.reads c.also in
     let on = tells_on (λ old new. new ≡ slice_set (slice_set old left bytes) right others) mid now_told m.pages (c.is_mid ∙ m.is_told) c.tells in
-    let w = are_written m.pages free left right bytes others a.apart (has_many told m.pages size left c.many m.is_told c.inside) (has_many told m.pages size right c.many m.is_told c.inside_too) in
+    let w = are_written m.pages free left right bytes others a.apart (has_many told m.pages size left c.many m.is_told c.inside)
+    (has_many told m.pages size right c.many m.is_told c.inside_too) in
     let news = slice_set (slice_set m.pages left bytes) right others in
     let all : rs ≡ first ++ rest = a.records ∙ sym c.records in
     let enough = c.enough a.first_many a.rest_many in
     let from = begins rest start c.starts in
     let rises : IsRising b (keys_of first ++ start.key ∷ keys_of from.0) =
-    subst (IsRising b) (ap (λ x. keys_of first ++ keys_of x) from.1) (subst (IsRising b) (keys_append first rest) (subst (λ x. IsRising b (keys_of x)) all a.rises)) in
+    subst (IsRising b) (ap (λ x. keys_of first ++ keys_of x) from.1)
+    (subst (IsRising b) (keys_append first rest) (subst (λ x. IsRising b (keys_of x)) all a.rises)) in
     let parts = rises_apart b (keys_of first) start.key (keys_of from.0) rises in
     subst (λ h. DidRebalance told now_told free now h left right b rs used (rebalanced.Redistributed start.key)) (sym one) (record {
       pages = m.pages;
@@ -158,18 +172,38 @@ leaves_separated told mid now_told free now size left key right height b rs used
         records = all;
         low = parts.low;
         high = parts.high;
-        moves = subst (λ u. Moves m.pages news free now u (right ∷ left ∷ [])) (sym a.pages) (subst (λ f. Moves m.pages news free f (right ∷ left ∷ []) (right ∷ left ∷ [])) (sym c.frees) w.moves);
+        moves = subst (λ u. Moves m.pages news free now u (right ∷ left ∷ [])) (sym a.pages)
+            (subst (λ f. Moves m.pages news free f (right ∷ left ∷ []) (right ∷ left ∷ [])) (sym c.frees) w.moves);
       };
     })
 
 -- both are read
-pub left_spells : (told : Option (List (List ℕ))) (free : ℕ → Bool) (height left : ℕ) (key : Key) (right : ℕ) (b : Bounds) (rs : List Record) (used : List ℕ) → (m : CanRebalance told free height left key right b rs used) → Spells told left height m.first
-left_spells told free height left key right b rs used m = record { pages = m.pages; is_told = m.is_told; is_root = true; bounds = record { low = b.low; high = Some key }; used = m.first_used; subtree = m.is_left.subtree }
+pub left_spells : (told : Option (List (List ℕ))) (free : ℕ → Bool) (height left : ℕ) (key : Key) (right : ℕ) (b : Bounds) (rs : List Record)
+    (used : List ℕ) → (m : CanRebalance told free height left key right b rs used) → Spells told left height m.first
+left_spells told free height left key right b rs used m =
+    record {
+      pages = m.pages;
+      is_told = m.is_told;
+      is_root = true;
+      bounds = record { low = b.low; high = Some key };
+      used = m.first_used;
+      subtree = m.is_left.subtree;
+    }
 
-pub right_spells : (told : Option (List (List ℕ))) (free : ℕ → Bool) (height left : ℕ) (key : Key) (right : ℕ) (b : Bounds) (rs : List Record) (used : List ℕ) → (m : CanRebalance told free height left key right b rs used) → Spells told right height m.rest
-right_spells told free height left key right b rs used m = record { pages = m.pages; is_told = m.is_told; is_root = true; bounds = record { low = Some key; high = b.high }; used = m.rest_used; subtree = m.is_right.subtree }
+pub right_spells : (told : Option (List (List ℕ))) (free : ℕ → Bool) (height left : ℕ) (key : Key) (right : ℕ) (b : Bounds) (rs : List Record)
+    (used : List ℕ) → (m : CanRebalance told free height left key right b rs used) → Spells told right height m.rest
+right_spells told free height left key right b rs used m =
+    record {
+      pages = m.pages;
+      is_told = m.is_told;
+      is_root = true;
+      bounds = record { low = Some key; high = b.high };
+      used = m.rest_used;
+      subtree = m.is_right.subtree;
+    }
 
-pub not_leaves : (told : Option (List (List ℕ))) (free : ℕ → Bool) (left : ℕ) (key : Key) (right height : ℕ) (b : Bounds) (rs : List Record) (used : List ℕ) (l r : List Record) (test : Bool) → height ≡ 1 → ReadsLeaf told left l → ReadsLeaf told right r
+pub not_leaves : (told : Option (List (List ℕ))) (free : ℕ → Bool) (left : ℕ) (key : Key) (right height : ℕ) (b : Bounds) (rs : List Record)
+    (used : List ℕ) (l r : List Record) (test : Bool) → height ≡ 1 → ReadsLeaf told left l → ReadsLeaf told right r
     → test ≡ is_ascending (keys_of (l ++ r)) → test ≡ false → CanRebalance told free height left key right b rs used → ⊥
 not_leaves told free left key right height b rs used l r test one reads also e fails can =
     let t = leaves_ascend told free left key right b rs used (subst (λ h. CanRebalance told free h left key right b rs used) one can) l r reads also in
@@ -178,7 +212,8 @@ not_leaves told free left key right height b rs used l r test one reads also e f
     never : (x y : Bool) → x ≡ y → x ≡ false → y ≡ true → ⊥
     never x y e f g = cc
 
-pub leaves_taken : (told : Option (List (List ℕ))) (free was : ℕ → Bool) (left : ℕ) (key : Key) (right height : ℕ) (b : Bounds) (rs : List Record) (used : List ℕ) → height ≡ 1 → was ≡ free → CanRebalance told free height left key right b rs used
+pub leaves_taken : (told : Option (List (List ℕ))) (free was : ℕ → Bool) (left : ℕ) (key : Key) (right height : ℕ) (b : Bounds) (rs : List Record)
+    (used : List ℕ) → height ≡ 1 → was ≡ free → CanRebalance told free height left key right b rs used
     → (was left ≡ false) × (was right ≡ false)
 leaves_taken told free was left key right height b rs used one e can =
     let m = subst (λ h. CanRebalance told free h left key right b rs used) one can in

@@ -1,5 +1,6 @@
 -- What becomes of a leaf when a record is taken out of it.
-use Rattle.std.proofs.Common.{◌≡◌, ℕ, zero, suc, ◌<◌, ◌≤◌, Bool, true, false, ◌||◌, ◌&&◌, nat_le, List, [], ◌∷◌, length, map, take, drop, Option, Some, None, IfSome, slice_index_or, slice_set, refl, sym, ◌∙◌, ap, subst, arith, get_or-set_same, take-append-drop}
+use Rattle.std.proofs.Common.{◌≡◌, ℕ, zero, suc, ◌<◌, ◌≤◌, Bool, true, false, ◌||◌, ◌&&◌, nat_le, List, [], ◌∷◌, length, map, take, drop, Option, Some, None}
+use Rattle.std.proofs.Common.{IfSome, slice_index_or, slice_set, refl, sym, ◌∙◌, ap, subst, arith, get_or-set_same, take-append-drop}
 use Rattle.std.specs.List.{list_any, list_all, remove}
 use Rattle.std.proofs.lemmas.Bool.Decides.{nat_tests}
 use Rattle.quilt_record.specs.declared.key.Key.{Key}
@@ -20,13 +21,15 @@ use Rattle.quilt_btree.proofs.Rising.{all_parts, all_append}
 use Rattle.quilt_btree.proofs.Trees.{nat_le_is}
 
 -- a store that tells goes on telling
-pub tells_on : (step : List (List ℕ) → List (List ℕ) → Type 0) (old new : Option (List (List ℕ))) (pages : List (List ℕ)) → old ≡ Some pages → Tells step old new
+pub tells_on : (step : List (List ℕ) → List (List ℕ) → Type 0) (old new : Option (List (List ℕ))) (pages : List (List ℕ))
+    → old ≡ Some pages → Tells step old new
     → (news : List (List ℕ)) × (new ≡ Some news) × step pages news
 tells_on step (Some p) (Some q) pages e t = let same : p ≡ pages = cc in (q, refl, subst (λ l. step l q) same t)
 tells_on step (Some p) None pages e t = absurd t
 tells_on step None new pages e t = cc
 
-pub has_many : (told : Option (List (List ℕ))) (pages : List (List ℕ)) (size page : ℕ) → IfSome told (λ l. length l ≡ size) → told ≡ Some pages → page < size → page < length pages
+pub has_many : (told : Option (List (List ℕ))) (pages : List (List ℕ)) (size page : ℕ) → IfSome told (λ l. length l ≡ size) → told ≡ Some pages
+    → page < size → page < length pages
 has_many told pages size page many e inside = let long : length pages ≡ size = subst (λ o. IfSome o (λ l. length l ≡ size)) e many in omega arith
 
 -- a page with too few is the root
@@ -62,11 +65,13 @@ map_remove f (x ∷ xs) (suc i) = ap (λ l. f x ∷ l) (map_remove f xs i)
 -- the records that are left lie within the same bounds
 pub removed_within : (b : Bounds) (rs : List Record) (i : ℕ) → are_within b (map (λ r. r.key) rs) ≡ true → are_within b (map (λ r. r.key) (remove rs i)) ≡ true
 removed_within b rs i h =
-    subst (λ l. are_within b l ≡ true) (sym (map_remove (λ (r : Record). r.key) rs i)) (all_removed (λ k. is_above b.low k && is_below b.high k) (map (λ r. r.key) rs) i h)
+    subst (λ l. are_within b l ≡ true) (sym (map_remove (λ (r : Record). r.key) rs i))
+    (all_removed (λ k. is_above b.low k && is_below b.high k) (map (λ r. r.key) rs) i h)
 
 -- a leaf is written with other records
 pub leaf_becomes : (pages : List (List ℕ)) (free : ℕ → Bool) (page : ℕ) (is_root r : Bool) (b : Bounds) (rs all : List Record) (used bytes : List ℕ)
-    → Subtree pages 1 is_root (page, b) rs used → page < length pages → leaf_of bytes ≡ Some all → (r || nat_le 72 (length all)) ≡ true → are_within b (map (λ r. r.key) all) ≡ true
+    → Subtree pages 1 is_root (page, b) rs used → page < length pages → leaf_of bytes ≡ Some all → (r || nat_le 72 (length all)) ≡ true
+    → are_within b (map (λ r. r.key) all) ≡ true
     → Becomes pages (slice_set pages page bytes) free free page 1 r b used all
 leaf_becomes pages free page is_root r b rs all used bytes s inside is enough within = record {
   uses = used;
@@ -82,17 +87,21 @@ leaf_becomes pages free page is_root r b rs all used bytes s inside is enough wi
     some : (page : ℕ) → 1 ≤ times page (page ∷ [])
     some page = let e = times_here page [] in omega arith
 
-pub leaf_same : (told : Option (List (List ℕ))) (free : ℕ → Bool) (page : ℕ) (is_root : Bool) (b : Bounds) (rs leaf : List Record) (used : List ℕ) → CanEdit told free page 1 is_root b rs used → ReadsLeaf told page leaf → leaf ≡ rs
+pub leaf_same : (told : Option (List (List ℕ))) (free : ℕ → Bool) (page : ℕ) (is_root : Bool) (b : Bounds) (rs leaf : List Record) (used : List ℕ)
+    → CanEdit told free page 1 is_root b rs used → ReadsLeaf told page leaf → leaf ≡ rs
 leaf_same told free page is_root b rs leaf used can reads =
     let s : Subtree can.pages 1 is_root (page, b) rs used = can.subtree in
     let there = reads can.pages can.is_told in
     let mine = s.page in
     cc
 
-pub leaf_missing : (k : Key) (told now_told : Option (List (List ℕ))) (free now : ℕ → Bool) (page height i : ℕ) (is_root : Bool) (b : Bounds) (rs leaf : List Record) (used : List ℕ) → height ≡ 1
-    → ReadsLeaf told page leaf → IsGap k leaf i → CanEdit told free page height is_root b rs used → DidRemove k told now_told free now page height is_root b rs used removed.Missing
+pub leaf_missing : (k : Key) (told now_told : Option (List (List ℕ))) (free now : ℕ → Bool) (page height i : ℕ) (is_root : Bool) (b : Bounds)
+    (rs leaf : List Record) (used : List ℕ) → height ≡ 1
+    → ReadsLeaf told page leaf → IsGap k leaf i → CanEdit told free page height is_root b rs used
+    → DidRemove k told now_told free now page height is_root b rs used removed.Missing
 leaf_missing k told now_told free now page height i is_root b rs leaf used one reads gap can =
-    subst (λ l. list_any (has_key k) l ≡ false) (leaf_same told free page is_root b rs leaf used (subst (λ h. CanEdit told free page h is_root b rs used) one can) reads) (gap_any k leaf i gap)
+    subst (λ l. list_any (has_key k) l ≡ false)
+    (leaf_same told free page is_root b rs leaf used (subst (λ h. CanEdit told free page h is_root b rs used) one can) reads) (gap_any k leaf i gap)
 
 -- a leaf with one record alone
 no_one : {X : Type 0} (xs : List X) (i : ℕ) → i < length xs → length xs ≡ 1 → remove xs i ≡ []
@@ -101,7 +110,8 @@ no_one (x ∷ []) zero h e = refl
 no_one (x ∷ []) (suc i) h e = absurd (omega arith)
 no_one (x ∷ y ∷ xs) i h e = absurd (omega arith)
 
-pub leaf_emptied : (k : Key) (told now_told : Option (List (List ℕ))) (free now : ℕ → Bool) (page height i : ℕ) (is_root : Bool) (b : Bounds) (rs leaf : List Record) (used : List ℕ) → height ≡ 1
+pub leaf_emptied : (k : Key) (told now_told : Option (List (List ℕ))) (free now : ℕ → Bool) (page height i : ℕ) (is_root : Bool) (b : Bounds)
+    (rs leaf : List Record) (used : List ℕ) → height ≡ 1
     → ReadsLeaf told page leaf → IsFound k leaf i → length leaf ≡ 1 → now_told ≡ told → now ≡ free → CanEdit told free page height is_root b rs used
     → DidRemove k told now_told free now page height is_root b rs used removed.Emptied
 leaf_emptied k told now_told free now page height i is_root b rs leaf used one reads found alone t f can =
@@ -130,7 +140,8 @@ leaf_emptied k told now_told free now page height i is_root b rs leaf used one r
     one_few n e = omega arith
 
 -- what is known where a leaf was written without a record
-pub record LeafCut (k : Key) (told mid now_told : Option (List (List ℕ))) (free now : ℕ → Bool) (page size i : ℕ) (leaf all : List Record) (bytes : List ℕ) : Type 0 where
+pub record LeafCut (k : Key) (told mid now_told : Option (List (List ℕ))) (free now : ℕ → Bool) (page size i : ℕ) (leaf all : List Record)
+    (bytes : List ℕ) : Type 0 where
   pub reads : ReadsLeaf told page leaf
   pub inside : page < size
   pub many : IfSome told (λ l. length l ≡ size)
@@ -142,7 +153,8 @@ pub record LeafCut (k : Key) (told mid now_told : Option (List (List ℕ))) (fre
   pub frees : now ≡ free
 
 -- what the leaf is then
-pub record LeafAfter (k : Key) (told now_told : Option (List (List ℕ))) (free now : ℕ → Bool) (page : ℕ) (is_root r : Bool) (b : Bounds) (rs all : List Record) (used bytes : List ℕ) : Type 0 where
+pub record LeafAfter (k : Key) (told now_told : Option (List (List ℕ))) (free now : ℕ → Bool) (page : ℕ) (is_root r : Bool) (b : Bounds)
+    (rs all : List Record) (used bytes : List ℕ) : Type 0 where
   pub pages : List (List ℕ)
   pub news : List (List ℕ)
   pub was : told ≡ Some pages
@@ -151,7 +163,8 @@ pub record LeafAfter (k : Key) (told now_told : Option (List (List ℕ))) (free 
   pub had : list_any (has_key k) rs ≡ true
   pub page_is : leaf_of (slice_index_or news page []) ≡ Some all
 
-pub leaf_after : (k : Key) (told mid now_told : Option (List (List ℕ))) (free now : ℕ → Bool) (page size i : ℕ) (is_root r : Bool) (b : Bounds) (rs leaf all : List Record) (used bytes : List ℕ)
+pub leaf_after : (k : Key) (told mid now_told : Option (List (List ℕ))) (free now : ℕ → Bool) (page size i : ℕ) (is_root r : Bool) (b : Bounds)
+    (rs leaf all : List Record) (used bytes : List ℕ)
     → LeafCut k told mid now_told free now page size i leaf all bytes → (r || nat_le 72 (length all)) ≡ true → CanEdit told free page 1 is_root b rs used
     → LeafAfter k told now_told free now page is_root r b rs all used bytes
 leaf_after k told mid now_told free now page size i is_root r b rs leaf all used bytes c enough can =
@@ -174,7 +187,8 @@ leaf_after k told mid now_told free now page size i is_root r b rs leaf all used
       page_is = ap leaf_of (get_or-set_same can.pages page bytes [] inside) ∙ c.written;
     }
 
-pub leaf_done : (k : Key) (told mid now_told : Option (List (List ℕ))) (free now : ℕ → Bool) (page height size i : ℕ) (is_root : Bool) (b : Bounds) (rs leaf all : List Record) (used bytes : List ℕ)
+pub leaf_done : (k : Key) (told mid now_told : Option (List (List ℕ))) (free now : ℕ → Bool) (page height size i : ℕ) (is_root : Bool) (b : Bounds)
+    (rs leaf all : List Record) (used bytes : List ℕ)
     → height ≡ 1 → LeafCut k told mid now_told free now page size i leaf all bytes → 72 ≤ length all → CanEdit told free page height is_root b rs used
     → DidRemove k told now_told free now page height is_root b rs used removed.Done
 leaf_done k told mid now_told free now page height size i is_root b rs leaf all used bytes one c enough can =
@@ -188,7 +202,8 @@ one_fewer [] i h = absurd (omega arith)
 one_fewer (x ∷ xs) zero h = refl
 one_fewer (x ∷ xs) (suc i) h = ap suc (one_fewer xs i (omega arith))
 
-pub leaf_underfull : (k : Key) (told mid now_told : Option (List (List ℕ))) (free now : ℕ → Bool) (page height size i : ℕ) (is_root : Bool) (b : Bounds) (rs leaf all : List Record) (used bytes : List ℕ)
+pub leaf_underfull : (k : Key) (told mid now_told : Option (List (List ℕ))) (free now : ℕ → Bool) (page height size i : ℕ) (is_root : Bool)
+    (b : Bounds) (rs leaf all : List Record) (used bytes : List ℕ)
     → height ≡ 1 → LeafCut k told mid now_told free now page size i leaf all bytes → CanEdit told free page height is_root b rs used
     → DidRemove k told now_told free now page height is_root b rs used removed.Underfull
 leaf_underfull k told mid now_told free now page height size i is_root b rs leaf all used bytes one c can =
@@ -211,10 +226,13 @@ leaf_underfull k told mid now_told free now page height size i is_root b rs leaf
     some_same x y e = cc
 
 -- the leaf is read, and is not free
-pub leaf_reads : (told : Option (List (List ℕ))) (free : ℕ → Bool) (page height : ℕ) (is_root : Bool) (b : Bounds) (rs : List Record) (used : List ℕ) → CanEdit told free page height is_root b rs used → Spells told page height rs
-leaf_reads told free page height is_root b rs used can = record { pages = can.pages; is_told = can.is_told; is_root = is_root; bounds = b; used = used; subtree = can.subtree }
+pub leaf_reads : (told : Option (List (List ℕ))) (free : ℕ → Bool) (page height : ℕ) (is_root : Bool) (b : Bounds) (rs : List Record) (used : List ℕ)
+    → CanEdit told free page height is_root b rs used → Spells told page height rs
+leaf_reads told free page height is_root b rs used can =
+    record { pages = can.pages; is_told = can.is_told; is_root = is_root; bounds = b; used = used; subtree = can.subtree }
 
-pub leaf_taken : (told : Option (List (List ℕ))) (free : ℕ → Bool) (page height : ℕ) (is_root : Bool) (b : Bounds) (rs : List Record) (used : List ℕ) → height ≡ 1 → CanEdit told free page height is_root b rs used → free page ≡ false
+pub leaf_taken : (told : Option (List (List ℕ))) (free : ℕ → Bool) (page height : ℕ) (is_root : Bool) (b : Bounds) (rs : List Record) (used : List ℕ)
+    → height ≡ 1 → CanEdit told free page height is_root b rs used → free page ≡ false
 leaf_taken told free page height is_root b rs used one can =
     let can1 = subst (λ h. CanEdit told free page h is_root b rs used) one can in
     let s : Subtree can1.pages 1 is_root (page, b) rs used = can1.subtree in

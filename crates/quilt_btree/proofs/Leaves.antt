@@ -1,5 +1,6 @@
 -- What is found in one leaf.
-use Rattle.std.proofs.Common.{◌≡◌, ◌≢◌, ℕ, zero, suc, ◌-◌, true, false, ◌||◌, not, cond, List, [], ◌∷◌, ◌++◌, length, take, drop, Option, Some, None, refl, sym, ◌∙◌, ap, subst, arith, take-append-drop, Ordering, Less, Equal, Greater}
+use Rattle.std.proofs.Common.{◌≡◌, ◌≢◌, ℕ, zero, suc, ◌-◌, true, false, ◌||◌, not, cond, List, [], ◌∷◌, ◌++◌, length, take, drop, Option, Some, None, refl, sym}
+use Rattle.std.proofs.Common.{◌∙◌, ap, subst, arith, take-append-drop, Ordering, Less, Equal, Greater}
 use Rattle.std.specs.Prelude.{slice_get}
 use Rattle.std.specs.List.{list_any, insert, remove, last_or}
 use Rattle.std.specs.Ordering.{is_le, is_eq, ordering_reverse}
@@ -41,7 +42,8 @@ same_key k = ap is_eq (self_equal (key_cmp k k) (key_total.antisymm k k))
 pub same_le : (k : Key) → is_le (key_cmp k k) ≡ true
 same_le k = ap is_le (self_equal (key_cmp k k) (key_total.antisymm k k))
 
-pub found_among : (k : Key) (rs : List Record) (i : ℕ) (r : Record) → IsFound k rs i → slice_get rs i ≡ Some r → IsAmong k (take i rs) (r ∷ []) (drop (suc i) rs) rs
+pub found_among : (k : Key) (rs : List Record) (i : ℕ) (r : Record) → IsFound k rs i → slice_get rs i ≡ Some r
+    → IsAmong k (take i rs) (r ∷ []) (drop (suc i) rs) rs
 found_among k rs i r f e = record { records = cut_at rs i r e; lower = f.before; higher = f.behind }
 
 pub found_key : (k : Key) (rs : List Record) (i : ℕ) (r : Record) → IsFound k rs i → slice_get rs i ≡ Some r → r.key ≡ k

@@ -114,18 +114,22 @@ any_between k before here behind rs h =
     ∙ any_append (has_key k) here behind ∙ ap (λ b. list_any (has_key k) here || b) (any_none (has_key k) behind (above_other k behind h.higher))
     ∙ or_false (list_any (has_key k) here)
 
-at_most_between : (k : Key) (before here behind rs : List Record) → IsAmong k before here behind rs → filter (is_at_most k) rs ≡ before ++ filter (is_at_most k) here
+at_most_between : (k : Key) (before here behind rs : List Record) → IsAmong k before here behind rs
+    → filter (is_at_most k) rs ≡ before ++ filter (is_at_most k) here
 at_most_between k before here behind rs h =
     ap (filter (is_at_most k)) h.records ∙ filter-append (is_at_most k) before (here ++ behind)
     ∙ ap (λ l. l ++ filter (is_at_most k) (here ++ behind)) (filter_all (is_at_most k) before (below_at_most k before h.lower))
-    ∙ ap (λ l. before ++ l) (filter-append (is_at_most k) here behind ∙ ap (λ l. filter (is_at_most k) here ++ l) (filter_none (is_at_most k) behind (above_not_at_most k behind h.higher))
+    ∙ ap (λ l. before ++ l) (filter-append (is_at_most k) here behind
+    ∙ ap (λ l. filter (is_at_most k) here ++ l) (filter_none (is_at_most k) behind (above_not_at_most k behind h.higher))
     ∙ append-nil (filter (is_at_most k) here))
 
 -- the floor is here, or else the last record before
-pub floor_between : (k : Key) (before here behind rs : List Record) → IsAmong k before here behind rs → floor_of k rs ≡ option_or (floor_of k here) (last_or None before)
+pub floor_between : (k : Key) (before here behind rs : List Record) → IsAmong k before here behind rs
+    → floor_of k rs ≡ option_or (floor_of k here) (last_or None before)
 unfolding floor_of
 floor_between k before here behind rs h =
-    ap (last_or None) (at_most_between k before here behind rs h) ∙ last_append None before (filter (is_at_most k) here) ∙ last_or_is (last_or None before) (filter (is_at_most k) here)
+    ap (last_or None) (at_most_between k before here behind rs h) ∙ last_append None before (filter (is_at_most k) here)
+    ∙ last_or_is (last_or None before) (filter (is_at_most k) here)
   where
     some_last : {X : Type 0} (o : Option X) (x : X) (xs : List X) → last_or (Some x) xs ≡ option_or (last_or (Some x) xs) o
     some_last o x [] = refl
@@ -137,7 +141,8 @@ floor_between k before here behind rs h =
     last_or_is o (x ∷ xs) = some_last o x xs
 
 -- a record goes to its place behind those with smaller keys
-put_cond : (r s : Record) (rs more : List Record) (b : Bool) → is_lt (key_cmp r.key s.key) ≡ b → (if is_lt (key_cmp r.key s.key) then r ∷ s ∷ rs else s ∷ more) ≡ (if b then r ∷ s ∷ rs else s ∷ more)
+put_cond : (r s : Record) (rs more : List Record) (b : Bool) → is_lt (key_cmp r.key s.key) ≡ b
+    → (if is_lt (key_cmp r.key s.key) then r ∷ s ∷ rs else s ∷ more) ≡ (if b then r ∷ s ∷ rs else s ∷ more)
 put_cond r s rs more b e = ap (λ c. if c then r ∷ s ∷ rs else s ∷ more) e
 
 pub later_not : (a b : Key) → is_lt (key_cmp a b) ≡ true → is_lt (key_cmp b a) ≡ false
@@ -151,13 +156,15 @@ put_behind r (s ∷ first) rest h =
 
 pub put_last : (r : Record) (last : List Record) → AreAbove r.key last → put r last ≡ r ∷ last
 put_last r [] h = refl
-put_last r (s ∷ last) h = put_cond r s last (put r last) true (and_parts (is_lt (key_cmp r.key s.key)) (list_all (λ (u : Record). is_lt (key_cmp r.key u.key)) last) h).0
+put_last r (s ∷ last) h =
+    put_cond r s last (put r last) true (and_parts (is_lt (key_cmp r.key s.key)) (list_all (λ (u : Record). is_lt (key_cmp r.key u.key)) last) h).0
 
 pub put_before : (r : Record) (here last : List Record) → AreAbove r.key last → put r (here ++ last) ≡ put r here ++ last
 put_before r [] last h = put_last r last h
 put_before r (s ∷ here) last h = put_here r s here last (is_lt (key_cmp r.key s.key)) (put_before r here last h)
   where
-    put_here : (r s : Record) (here last : List Record) (b : Bool) → put r (here ++ last) ≡ put r here ++ last → (if b then r ∷ s ∷ here ++ last else s ∷ put r (here ++ last)) ≡ (if b then r ∷ s ∷ here else s ∷ put r here) ++ last
+    put_here : (r s : Record) (here last : List Record) (b : Bool) → put r (here ++ last) ≡ put r here ++ last
+        → (if b then r ∷ s ∷ here ++ last else s ∷ put r (here ++ last)) ≡ (if b then r ∷ s ∷ here else s ∷ put r here) ++ last
     put_here r s here last true h = refl
     put_here r s here last false h = ap (λ l. s ∷ l) h
 

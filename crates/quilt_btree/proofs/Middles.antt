@@ -1,5 +1,6 @@
 -- Two neighbouring children among the others of their page, and one or two in their stead.
-use Rattle.std.proofs.Common.{◌≡◌, ℕ, zero, suc, ◌+◌, ◌-◌, ◌<◌, ◌≤◌, Bool, true, false, List, [], ◌∷◌, ◌++◌, length, take, drop, Option, Some, slice_index, slice_index_or, slice_set, refl, sym, ◌∙◌, ap, arith, length-take-le, length-drop, drop-cons}
+use Rattle.std.proofs.Common.{◌≡◌, ℕ, zero, suc, ◌+◌, ◌-◌, ◌<◌, ◌≤◌, Bool, true, false, List, [], ◌∷◌, ◌++◌, length, take, drop, Option, Some, slice_index}
+use Rattle.std.proofs.Common.{slice_index_or, slice_set, refl, sym, ◌∙◌, ap, arith, length-take-le, length-drop, drop-cons}
 use Rattle.std.specs.Prelude.{slice_get}
 use Rattle.std.specs.List.{remove}
 use Rattle.std.proofs.lemmas.List.{append-nil}
@@ -29,7 +30,8 @@ rear (c ∷ cs) (k ∷ ks) high = (c, record { low = Some k; high = head_or ks h
 fewer : (m n : ℕ) → suc m ≡ suc n → m ≡ n
 fewer m n h = omega arith
 
-pub bounded_rear : (c : ℕ) (cb : List ℕ) (kb : List Key) (b : Bounds) → length cb ≡ length kb → bounded (c ∷ cb) kb b ≡ (c, record { low = b.low; high = head_or kb b.high }) ∷ rear cb kb b.high
+pub bounded_rear : (c : ℕ) (cb : List ℕ) (kb : List Key) (b : Bounds) → length cb ≡ length kb
+    → bounded (c ∷ cb) kb b ≡ (c, record { low = b.low; high = head_or kb b.high }) ∷ rear cb kb b.high
 bounded_rear c [] [] b n = refl
 bounded_rear c (d ∷ cb) [] b n = absurd (omega arith)
 bounded_rear c [] (k ∷ kb) b n = absurd (omega arith)
@@ -48,7 +50,8 @@ bounded_one ca c cb ka kb b n m =
 
 pub bounded_two : (ca : List ℕ) (c d : ℕ) (cb : List ℕ) (ka : List Key) (key : Key) (kb : List Key) (b : Bounds) → length ca ≡ length ka → length cb ≡ length kb
     → bounded (ca ++ c ∷ d ∷ cb) (ka ++ key ∷ kb) b
-    ≡ front ca ka b ++ (((c, record { low = (gap_bounds ka kb b).low; high = Some key }) ∷ (d, record { low = Some key; high = (gap_bounds ka kb b).high }) ∷ []) ++ rear cb kb b.high)
+    ≡ front ca ka b ++ (((c, record { low = (gap_bounds ka kb b).low; high = Some key })
+    ∷ (d, record { low = Some key; high = (gap_bounds ka kb b).high }) ∷ []) ++ rear cb kb b.high)
 bounded_two ca c d cb ka key kb b n m = bounded_one ca c (d ∷ cb) ka (key ∷ kb) b n (ap suc m)
 
 -- a list of children and one of keys, cut at two neighbours
@@ -63,7 +66,8 @@ pub record CutTwo (cs : List ℕ) (ks : List Key) (j left : ℕ) (key : Key) (ri
   pub behind : length cb ≡ length kb
   pub place : length ka ≡ j
 
-pub cut_two : (cs : List ℕ) (ks : List Key) (j next left : ℕ) (key : Key) (right : ℕ) → length cs ≡ length ks + 1 → j + 1 < length cs → next ≡ suc j → left ≡ slice_index cs j → right ≡ slice_index cs next → slice_get ks j ≡ Some key
+pub cut_two : (cs : List ℕ) (ks : List Key) (j next left : ℕ) (key : Key) (right : ℕ) → length cs ≡ length ks + 1 → j + 1 < length cs → next ≡ suc j
+    → left ≡ slice_index cs j → right ≡ slice_index cs next → slice_get ks j ≡ Some key
     → CutTwo cs ks j left key right
 cut_two cs ks j next left key right n lt nx l r k =
     let here : j < length cs = omega arith in
@@ -130,22 +134,36 @@ row_two S c d rs used two = record {
   first_used = two.first_used;
   rest_used = two.rest_used;
   here = two.here;
-  after = record { first = two.rest; rest = []; first_used = two.rest_used; rest_used = []; here = two.after; after = (refl, refl); records = sym (append-nil two.rest); is_used = refl };
+  after =
+      record {
+        first = two.rest;
+        rest = [];
+        first_used = two.rest_used;
+        rest_used = [];
+        here = two.after;
+        after = (refl, refl);
+        records = sym (append-nil two.rest);
+        is_used = refl;
+      };
   records = two.records;
   is_used = two.is_used;
 }
 
 -- what the children of a page are behind an edit of those in the middle
-pub record RowChanged (T : Reading) (pages news : List (List ℕ)) (free now : ℕ → Bool) (page : ℕ) (cs : List (ℕ × Bounds)) (rs : List Record) (under : List ℕ) : Type 0 where
+pub record RowChanged (T : Reading) (pages news : List (List ℕ)) (free now : ℕ → Bool) (page : ℕ) (cs : List (ℕ × Bounds)) (rs : List Record)
+    (under : List ℕ) : Type 0 where
   pub uses : List ℕ
   pub row : Row T cs rs uses
   pub moves : Moves pages news free now (under ++ page ∷ []) (uses ++ page ∷ [])
   pub page_stays : slice_index_or news page [] ≡ slice_index_or pages page []
 
 -- The children before and behind stay, and those in the middle become others by an edit of their pages.
-pub middle_changed : (T : Reading) (pages news : List (List ℕ)) (free now : ℕ → Bool) (h page : ℕ) → ((c : ℕ × Bounds) (ss : List Record) (u : List ℕ) → Subtree news (suc h) false c ss u → T c ss u)
-    → (before others behind : List (ℕ × Bounds)) (first all last : List Record) (fu hu lu uses under : List ℕ) → AreApart free (under ++ page ∷ []) → under ≡ (lu ++ hu) ++ fu
-    → Row (Subtree pages (suc h) false) before first fu → Row (Subtree pages (suc h) false) behind last lu → Row T others all uses → Moves pages news free now hu uses
+pub middle_changed : (T : Reading) (pages news : List (List ℕ)) (free now : ℕ → Bool) (h page : ℕ)
+    → ((c : ℕ × Bounds) (ss : List Record) (u : List ℕ) → Subtree news (suc h) false c ss u → T c ss u)
+    → (before others behind : List (ℕ × Bounds)) (first all last : List Record) (fu hu lu uses under : List ℕ) → AreApart free (under ++ page ∷ [])
+    → under ≡ (lu ++ hu) ++ fu
+    → Row (Subtree pages (suc h) false) before first fu → Row (Subtree pages (suc h) false) behind last lu → Row T others all uses
+    → Moves pages news free now hu uses
     → RowChanged T pages news free now page (before ++ (others ++ behind)) (first ++ (all ++ last)) under
 middle_changed T pages news free now h page embed before others behind first all last fu hu lu uses under apart is row_before row_behind row moves =
     let total : (p : ℕ) → times p (under ++ page ∷ []) ≡ times p lu + times p hu + times p fu + times p (page ∷ []) =
@@ -164,7 +182,8 @@ middle_changed T pages news free now h page embed before others behind first all
       row = place_back T before others behind first all last fu uses lu
           (row_stays (Subtree pages (suc h) false) T pages news one before first fu same_first row_before) row
           (row_stays (Subtree pages (suc h) false) T pages news one behind last lu same_last row_behind);
-      moves = moves_among pages news free now hu uses (under ++ page ∷ []) (((lu ++ uses) ++ fu) ++ page ∷ []) (λ p. times p lu + times p fu + times p (page ∷ []))
+      moves =
+          moves_among pages news free now hu uses (under ++ page ∷ []) (((lu ++ uses) ++ fu) ++ page ∷ []) (λ p. times p lu + times p fu + times p (page ∷ []))
           (λ p. order (times p (under ++ page ∷ [])) (times p lu) (times p hu) (times p fu) (times p (page ∷ [])) (total p))
           (λ p. order (times p (((lu ++ uses) ++ fu) ++ page ∷ [])) (times p lu) (times p uses) (times p fu) (times p (page ∷ [])) (total_now p)) moves;
       page_stays = same_page page (self page);

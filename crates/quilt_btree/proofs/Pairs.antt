@@ -1,5 +1,6 @@
 -- Two pages are written, or one is written and the other is given back.
-use Rattle.std.proofs.Common.{◌≡◌, ◌≢◌, ℕ, ◌+◌, ◌<◌, ◌≤◌, Bool, true, false, List, [], ◌∷◌, length, slice_index_or, slice_set, sym, ◌∙◌, subst, arith, length-set, get_or-set_other, get_or-set_same}
+use Rattle.std.proofs.Common.{◌≡◌, ◌≢◌, ℕ, ◌+◌, ◌<◌, ◌≤◌, Bool, true, false, List, [], ◌∷◌, length, slice_index_or, slice_set, sym, ◌∙◌, subst, arith}
+use Rattle.std.proofs.Common.{length-set, get_or-set_other, get_or-set_same}
 use Rattle.quilt_store.specs.Store.{FreesOnly}
 use Rattle.quilt_btree.specs.Edits.{times, account, Moves}
 use Rattle.quilt_btree.specs.Rebalancing.{HasGiven}
@@ -20,8 +21,10 @@ left_used left right = let e = times_here left [] in omega arith
 pub right_used : (left right : ℕ) → 1 ≤ times right (right ∷ left ∷ [])
 right_used left right = let e = times_here right (left ∷ []) in omega arith
 
-pub pair_apart : (free : ℕ → Bool) (left right : ℕ) (under used : List ℕ) → ArePair left right under used → AreApart free used → AreApart free (right ∷ left ∷ [])
-pair_apart free left right under used pair apart = apart_some free (right ∷ left ∷ []) used (λ p. less (times p used) (times p under) (times p (right ∷ left ∷ [])) (pair.count p)) apart
+pub pair_apart : (free : ℕ → Bool) (left right : ℕ) (under used : List ℕ) → ArePair left right under used → AreApart free used
+    → AreApart free (right ∷ left ∷ [])
+pair_apart free left right under used pair apart =
+    apart_some free (right ∷ left ∷ []) used (λ p. less (times p used) (times p under) (times p (right ∷ left ∷ [])) (pair.count p)) apart
   where
     less : (u n t : ℕ) → u ≡ n + t → t ≤ u
     less u n t e = omega arith
@@ -45,7 +48,8 @@ pub record IsJoined (pages news : List (List ℕ)) (free now : ℕ → Bool) (le
   pub here : slice_index_or news left [] ≡ bytes
   pub moves : Moves pages news free now (right ∷ left ∷ []) (left ∷ [])
 
-pub is_joined : (pages news : List (List ℕ)) (free now : ℕ → Bool) (left right : ℕ) (bytes : List ℕ) → AreApart free (right ∷ left ∷ []) → left < length pages → HasGiven right (slice_set pages left bytes) news → FreesOnly right true free now
+pub is_joined : (pages news : List (List ℕ)) (free now : ℕ → Bool) (left right : ℕ) (bytes : List ℕ) → AreApart free (right ∷ left ∷ [])
+    → left < length pages → HasGiven right (slice_set pages left bytes) news → FreesOnly right true free now
     → IsJoined pages news free now left right bytes
 is_joined pages news free now left right bytes apart inside given frees = record {
   size = given.size ∙ length-set pages left bytes;
@@ -62,7 +66,8 @@ pub record AreWritten (pages news : List (List ℕ)) (free : ℕ → Bool) (left
   pub there : slice_index_or news right [] ≡ others
   pub moves : Moves pages news free free (right ∷ left ∷ []) (right ∷ left ∷ [])
 
-pub are_written : (pages : List (List ℕ)) (free : ℕ → Bool) (left right : ℕ) (bytes others : List ℕ) → AreApart free (right ∷ left ∷ []) → left < length pages → right < length pages
+pub are_written : (pages : List (List ℕ)) (free : ℕ → Bool) (left right : ℕ) (bytes others : List ℕ) → AreApart free (right ∷ left ∷ [])
+    → left < length pages → right < length pages
     → AreWritten pages (slice_set (slice_set pages left bytes) right others) free left right bytes others
 are_written pages free left right bytes others apart inside also =
     let mid = slice_set pages left bytes in
@@ -77,15 +82,19 @@ are_written pages free left right bytes others apart inside also =
     }
 
 -- the pages below the two stay as they are
-pub under_stays : (pages news : List (List ℕ)) (free now : ℕ → Bool) (left right : ℕ) (uses under used : List ℕ) → ArePair left right under used → AreApart free used
+pub under_stays : (pages news : List (List ℕ)) (free now : ℕ → Bool) (left right : ℕ) (uses under used : List ℕ)
+    → ArePair left right under used → AreApart free used
     → Moves pages news free now (right ∷ left ∷ []) uses → SameOn pages news under
 under_stays pages news free now left right uses under used pair apart moves =
-    stays_on pages news free now (right ∷ left ∷ []) uses under used moves apart (λ p. parts (times p used) (times p under) (times p (right ∷ left ∷ [])) (pair.count p))
+    stays_on pages news free now (right ∷ left ∷ []) uses under used moves apart
+    (λ p. parts (times p used) (times p under) (times p (right ∷ left ∷ [])) (pair.count p))
   where
     parts : (u n t : ℕ) → u ≡ n + t → t + n ≤ u
     parts u n t e = omega arith
 
 -- and count as before
-pub pair_moves : (pages news : List (List ℕ)) (free now : ℕ → Bool) (left right : ℕ) (here under used uses : List ℕ) → ArePair left right under used → ((p : ℕ) → times p uses ≡ times p under + times p here)
+pub pair_moves : (pages news : List (List ℕ)) (free now : ℕ → Bool) (left right : ℕ) (here under used uses : List ℕ) → ArePair left right under used
+    → ((p : ℕ) → times p uses ≡ times p under + times p here)
     → Moves pages news free now (right ∷ left ∷ []) here → Moves pages news free now used uses
-pair_moves pages news free now left right here under used uses pair also moves = moves_among pages news free now (right ∷ left ∷ []) here used uses (λ p. times p under) pair.count also moves
+pair_moves pages news free now left right here under used uses pair also moves =
+    moves_among pages news free now (right ∷ left ∷ []) here used uses (λ p. times p under) pair.count also moves

@@ -46,12 +46,14 @@ nearer i n h = omega arith
 none_below : (i : ℕ) → i < 0 → ⊥
 none_below i h = omega arith
 
-pub bounded_front : (ca cs : List ℕ) (ka ks : List Key) (b : Bounds) → length ca ≡ length ka → bounded (ca ++ cs) (ka ++ ks) b ≡ front ca ka b ++ bounded cs ks (from_keys ka b)
+pub bounded_front : (ca cs : List ℕ) (ka ks : List Key) (b : Bounds) → length ca ≡ length ka
+    → bounded (ca ++ cs) (ka ++ ks) b ≡ front ca ka b ++ bounded cs ks (from_keys ka b)
 bounded_front [] cs [] ks b n = refl
 bounded_front [] cs (k ∷ ka) ks b n = absurd (omega arith)
 bounded_front (c ∷ ca) cs [] ks b n = absurd (omega arith)
 bounded_front (c ∷ ca) cs (k ∷ ka) ks b n =
-    ap (λ l. (c, record { low = b.low; high = Some k }) ∷ l) (bounded_front ca cs ka ks (record { low = Some k; high = b.high }) (fewer (length ca) (length ka) n))
+    ap (λ l. (c, record { low = b.low; high = Some k }) ∷ l)
+    (bounded_front ca cs ka ks (record { low = Some k; high = b.high }) (fewer (length ca) (length ka) n))
 
 pub bounded_head : (c : ℕ) (cs : List ℕ) (ks : List Key) (b : Bounds) → bounded (c ∷ cs) ks b ≡ (c, head_bounds ks b) ∷ tail_places cs ks b
 bounded_head c cs [] b = refl
@@ -126,7 +128,8 @@ place_back S before middle behind first here last first_used here_used last_used
 
 -- a row of one place
 pub row_one : (S : Reading) (c : ℕ × Bounds) (rs : List Record) (used : List ℕ) → S c rs used → Row S (c ∷ []) rs used
-row_one S c rs used s = record { first = rs; rest = []; first_used = used; rest_used = []; here = s; after = (refl, refl); records = sym (append-nil rs); is_used = refl }
+row_one S c rs used s =
+    record { first = rs; rest = []; first_used = used; rest_used = []; here = s; after = (refl, refl); records = sym (append-nil rs); is_used = refl }
 
 pub one_row : (S : Reading) (c : ℕ × Bounds) (rs : List Record) (used : List ℕ) → Row S (c ∷ []) rs used → S c rs used
 one_row S c rs used row =
@@ -145,7 +148,8 @@ abbrev pub Rises : Reading → Type 0
 Rises S = (c : ℕ × Bounds) (rs : List Record) (used : List ℕ) → S c rs used → IsRising c.1 (map (λ r. r.key) rs)
 
 -- records before keys that are passed
-pub front_before : (S : Reading) → Rises S → (past before : Key → Bool) → IsSide past before → (ca : List ℕ) (ka : List Key) (b : Bounds) (rs : List Record) (used : List ℕ)
+pub front_before : (S : Reading) → Rises S → (past before : Key → Bool) → IsSide past before
+    → (ca : List ℕ) (ka : List Key) (b : Bounds) (rs : List Record) (used : List ℕ)
     → list_all past ka ≡ true → Row S (front ca ka b) rs used → list_all (λ r. before r.key) rs ≡ true
 front_before S one past before side [] ka b rs used h row = subst (λ l. list_all (λ (r : Record). before r.key) l ≡ true) (sym row.0) refl
 front_before S one past before side (c ∷ ca) [] b rs used h row = subst (λ l. list_all (λ (r : Record). before r.key) l ≡ true) (sym row.0) refl
@@ -155,20 +159,24 @@ front_before S one past before side (c ∷ ca) (k ∷ ka) b rs used h row =
     subst (λ l. list_all (λ (r : Record). before r.key) l ≡ true) (sym row.records)
     (all_append (λ (r : Record). before r.key) row.first row.rest
     (all_map (λ (r : Record). r.key) before row.first
-    (all_follow (λ m. is_above b.low m && is_lt (key_cmp m k)) before (λ m g. side.down k m t.0 (and_parts (is_above b.low m) (is_lt (key_cmp m k)) g).1) (map (λ r. r.key) row.first) first.within))
+    (all_follow (λ m. is_above b.low m && is_lt (key_cmp m k)) before
+    (λ m g. side.down k m t.0 (and_parts (is_above b.low m) (is_lt (key_cmp m k)) g).1) (map (λ r. r.key) row.first) first.within))
     (front_before S one past before side ca ka (record { low = Some k; high = b.high }) row.rest row.rest_used t.1 row.after))
 
 -- records behind keys that are not passed
-pub tail_behind : (S : Reading) → Rises S → (past before : Key → Bool) → IsSide past before → (cs : List ℕ) (ks : List Key) (b : Bounds) (rs : List Record) (used : List ℕ)
+pub tail_behind : (S : Reading) → Rises S → (past before : Key → Bool) → IsSide past before
+    → (cs : List ℕ) (ks : List Key) (b : Bounds) (rs : List Record) (used : List ℕ)
     → length cs ≡ length ks → is_ascending ks ≡ true → are_within b ks ≡ true
     → list_all (λ l. not (past l)) ks ≡ true → Row S (tail_places cs ks b) rs used → list_all (λ r. not (past r.key)) rs ≡ true
 tail_behind S one past before side [] [] b rs used n a w h row = subst (λ l. list_all (λ (r : Record). not (past r.key)) l ≡ true) (sym row.0) refl
 tail_behind S one past before side (c ∷ cs) [] b rs used n a w h row = absurd (omega arith)
 tail_behind S one past before side cs (k ∷ ks) b rs used n a w h row =
     let t = and_parts (not (past k)) (list_all (λ l. not (past l)) ks) h in
-    let rises = row_rises S one cs ks (record { low = Some k; high = b.high }) rs used (more (length cs) (length ks) n) (ascending_rest k ks a) (within_rest b k ks a w) row in
+    let rises = row_rises S one cs ks (record { low = Some k; high = b.high }) rs used (more (length cs) (length ks) n) (ascending_rest k ks a)
+    (within_rest b k ks a w) row in
     all_map (λ (r : Record). r.key) (λ m. not (past m)) rs
-    (all_follow (λ m. is_le (key_cmp k m) && is_below b.high m) (λ m. not (past m)) (λ m g. ap not (side.up k m (turned (past k) t.0) (and_parts (is_le (key_cmp k m)) (is_below b.high m) g).0)) (map (λ r. r.key) rs) rises.within)
+    (all_follow (λ m. is_le (key_cmp k m) && is_below b.high m) (λ m. not (past m))
+    (λ m g. ap not (side.up k m (turned (past k) t.0) (and_parts (is_le (key_cmp k m)) (is_below b.high m) g).0)) (map (λ r. r.key) rs) rises.within)
   where
     more : (m n : ℕ) → m ≡ suc n → m ≡ n + 1
     more m n h = omega arith

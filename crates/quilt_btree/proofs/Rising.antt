@@ -18,9 +18,11 @@ ascending_tail : (k : Key) (ks : List Key) → is_ascending (k ∷ ks) ≡ true 
 ascending_tail k [] h = refl
 ascending_tail k (l ∷ ks) h = (and_parts _ _ h).1
 
-ascending_cons : (low k : Key) (ks : List Key) → is_lt (key_cmp low k) ≡ true → list_all (λ l. is_le (key_cmp k l)) ks ≡ true → is_ascending ks ≡ true → is_ascending (low ∷ ks) ≡ true
+ascending_cons : (low k : Key) (ks : List Key) → is_lt (key_cmp low k) ≡ true → list_all (λ l. is_le (key_cmp k l)) ks ≡ true
+    → is_ascending ks ≡ true → is_ascending (low ∷ ks) ≡ true
 ascending_cons low k [] h g a = refl
-ascending_cons low k (l ∷ ks) h g a = and_both (is_lt (key_cmp low l)) (is_ascending (l ∷ ks)) (lt_le low k l h (and_parts (is_le (key_cmp k l)) (list_all (λ m. is_le (key_cmp k m)) ks) g).0) a
+ascending_cons low k (l ∷ ks) h g a =
+    and_both (is_lt (key_cmp low l)) (is_ascending (l ∷ ks)) (lt_le low k l h (and_parts (is_le (key_cmp k l)) (list_all (λ m. is_le (key_cmp k m)) ks) g).0) a
 
 pub ascending_join : (k : Key) (ks ls : List Key) → list_all (λ l. is_lt (key_cmp l k)) ks ≡ true → list_all (λ l. is_le (key_cmp k l)) ls ≡ true
     → is_ascending ks ≡ true → is_ascending ls ≡ true → is_ascending (ks ++ ls) ≡ true
@@ -54,8 +56,10 @@ rising_join b k ks ls low high p q = record {
   ascends = ascending_join k ks ls (all_follow _ _ (λ l h. (and_parts (is_above b.low l) (is_lt (key_cmp l k)) h).1) ks p.within)
       (all_follow _ _ (λ l h. (and_parts (is_le (key_cmp k l)) (is_below b.high l) h).0) ls q.within) p.ascends q.ascends;
   within = all_append _ ks ls
-      (all_follow _ _ (λ l h. let t = and_parts (is_above b.low l) (is_lt (key_cmp l k)) h in and_both (is_above b.low l) (is_below b.high l) t.0 (below_on b.high k l high t.1)) ks p.within)
-      (all_follow _ _ (λ l h. let t = and_parts (is_le (key_cmp k l)) (is_below b.high l) h in and_both (is_above b.low l) (is_below b.high l) (above_on b.low k l low t.0) t.1) ls q.within);
+      (all_follow _ _ (λ l h. let t = and_parts (is_above b.low l) (is_lt (key_cmp l k)) h in
+      and_both (is_above b.low l) (is_below b.high l) t.0 (below_on b.high k l high t.1)) ks p.within)
+      (all_follow _ _ (λ l h. let t = and_parts (is_le (key_cmp k l)) (is_below b.high l) h in
+      and_both (is_above b.low l) (is_below b.high l) (above_on b.low k l low t.0) t.1) ls q.within);
 }
 
 pub all_map : {X Y : Type 0} (f : X → Y) (p : Y → Bool) (xs : List X) → list_all p (map f xs) ≡ true → list_all (λ x. p (f x)) xs ≡ true

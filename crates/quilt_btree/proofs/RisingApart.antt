@@ -44,8 +44,10 @@ rises_apart b ks k ls r =
     let w = all_parts (λ m. is_above b.low m && is_below b.high m) ks (k ∷ ls) r.within in
     let here = and_parts (is_above b.low k && is_below b.high k) (are_within b ls) w.1 in
     let mine = and_parts (is_above b.low k) (is_below b.high k) here.0 in
-    let over : list_all (λ m. is_le (key_cmp k m)) ls ≡ true = all_follow (λ m. is_lt (key_cmp k m)) (λ m. is_le (key_cmp k m)) (λ m h. lt_to_le (key_cmp k m) h) ls (ascending_first k ls asc) in
-    let below : list_all (is_below b.high) ls ≡ true = all_follow (λ m. is_above b.low m && is_below b.high m) (is_below b.high) (λ m h. (and_parts (is_above b.low m) (is_below b.high m) h).1) ls here.1 in
+    let over : list_all (λ m. is_le (key_cmp k m)) ls ≡ true =
+    all_follow (λ m. is_lt (key_cmp k m)) (λ m. is_le (key_cmp k m)) (λ m h. lt_to_le (key_cmp k m) h) ls (ascending_first k ls asc) in
+    let below : list_all (is_below b.high) ls ≡ true =
+    all_follow (λ m. is_above b.low m && is_below b.high m) (is_below b.high) (λ m h. (and_parts (is_above b.low m) (is_below b.high m) h).1) ls here.1 in
     let rest = all_both (λ m. is_le (key_cmp k m)) (is_below b.high) ls over below in
     record {
       before = record {
@@ -57,7 +59,8 @@ rises_apart b ks k ls r =
       behind = record { ascends = ascending_rest k ls asc; within = rest };
       from_here = record {
         ascends = asc;
-        within = and_both (is_le (key_cmp k k) && is_below b.high k) (list_all (λ m. is_le (key_cmp k m) && is_below b.high m) ls) (and_both (is_le (key_cmp k k)) (is_below b.high k) (same_le k) mine.1) rest;
+        within = and_both (is_le (key_cmp k k) && is_below b.high k) (list_all (λ m. is_le (key_cmp k m) && is_below b.high m) ls)
+            (and_both (is_le (key_cmp k k)) (is_below b.high k) (same_le k) mine.1) rest;
       };
       low = mine.0;
       high = mine.1;

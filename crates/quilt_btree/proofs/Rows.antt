@@ -1,5 +1,6 @@
 -- Rows of places: parts of them, and what keeps them.
-use Rattle.std.proofs.Common.{◌≡◌, ℕ, zero, suc, Bool, true, false, ◌||◌, ◌==◌, List, [], ◌∷◌, ◌++◌, length, slice_index_or, refl, sym, ◌∙◌, ap, subst, append_assoc, arith}
+use Rattle.std.proofs.Common.{◌≡◌, ℕ, zero, suc, Bool, true, false, ◌||◌, ◌==◌, List, [], ◌∷◌, ◌++◌, length, slice_index_or, refl, sym, ◌∙◌, ap, subst}
+use Rattle.std.proofs.Common.{append_assoc, arith}
 use Rattle.std.specs.List.{list_any}
 use Rattle.std.proofs.lemmas.List.{append-nil}
 use Rattle.std.proofs.lemmas.List.Folds.{list_any-append}
@@ -51,7 +52,8 @@ is_in_first : (p : ℕ) → is_in p (p ∷ []) ≡ true
 is_in_first p = grind arith
 
 -- A subtree stays as it is where its pages do.
-pub subtree_stays : (pages news : List (List ℕ)) → length news ≡ length pages → (height : ℕ) (is_root : Bool) (at : ℕ × Bounds) (rs : List Record) (used : List ℕ)
+pub subtree_stays : (pages news : List (List ℕ)) → length news ≡ length pages
+    → (height : ℕ) (is_root : Bool) (at : ℕ × Bounds) (rs : List Record) (used : List ℕ)
     → SameOn pages news used → Subtree pages height is_root at rs used → Subtree news height is_root at rs used
 subtree_stays pages news size zero is_root at rs used same s = s
 subtree_stays pages news size (suc zero) is_root at rs used same s =
@@ -92,7 +94,17 @@ row_parts S (c ∷ cs) ds rs used row =
       rest = more.rest;
       first_used = more.first_used ++ row.first_used;
       rest_used = more.rest_used;
-      here = record { first = row.first; rest = more.first; first_used = row.first_used; rest_used = more.first_used; here = row.here; after = more.here; records = refl; is_used = refl };
+      here =
+          record {
+            first = row.first;
+            rest = more.first;
+            first_used = row.first_used;
+            rest_used = more.first_used;
+            here = row.here;
+            after = more.here;
+            records = refl;
+            is_used = refl;
+          };
       after = more.after;
       records = row.records ∙ ap (λ l. row.first ++ l) more.records ∙ sym (append_assoc row.first more.first more.rest);
       is_used = row.is_used ∙ ap (λ l. l ++ row.first_used) more.is_used ∙ append_assoc more.rest_used more.first_used row.first_used;
@@ -112,7 +124,16 @@ row_join S (c ∷ cs) ds rs used parts =
       rest_used = parts.rest_used ++ here.rest_used;
       here = here.here;
       after = row_join S cs ds (here.rest ++ parts.rest) (parts.rest_used ++ here.rest_used)
-          (record { first = here.rest; rest = parts.rest; first_used = here.rest_used; rest_used = parts.rest_used; here = here.after; after = parts.after; records = refl; is_used = refl });
+          (record {
+            first = here.rest;
+            rest = parts.rest;
+            first_used = here.rest_used;
+            rest_used = parts.rest_used;
+            here = here.after;
+            after = parts.after;
+            records = refl;
+            is_used = refl;
+          });
       records = parts.records ∙ ap (λ l. l ++ parts.rest) here.records ∙ append_assoc here.first here.rest parts.rest;
       is_used = parts.is_used ∙ ap (λ l. parts.rest_used ++ l) here.is_used ∙ sym (append_assoc parts.rest_used here.rest_used here.first_used);
     }

@@ -29,7 +29,8 @@ pub record AreSeparatedAt (b : Bounds) (ks : List Key) (k : Key) (ls : List Key)
   pub lower : are_within (record { low = b.low; high = Some k }) ks ≡ true
   pub higher : are_within (record { low = Some k; high = b.high }) ls ≡ true
 
-pub separated_at : (b : Bounds) (ks : List Key) (k : Key) (ls : List Key) → is_ascending (ks ++ k ∷ ls) ≡ true → are_within b (ks ++ k ∷ ls) ≡ true → AreSeparatedAt b ks k ls
+pub separated_at : (b : Bounds) (ks : List Key) (k : Key) (ls : List Key) → is_ascending (ks ++ k ∷ ls) ≡ true → are_within b (ks ++ k ∷ ls) ≡ true
+    → AreSeparatedAt b ks k ls
 separated_at b ks k ls a w =
     let within = all_parts (λ l. is_above b.low l && is_below b.high l) ks (k ∷ ls) w in
     let here = and_parts (is_above b.low k && is_below b.high k) (are_within b ls) within.1 in
@@ -38,8 +39,10 @@ separated_at b ks k ls a w =
       above = both.0;
       below = both.1;
       lower = all_both (is_above b.low) (λ l. is_lt (key_cmp l k)) ks
-          (all_follow (λ l. is_above b.low l && is_below b.high l) (is_above b.low) (λ l h. (and_parts (is_above b.low l) (is_below b.high l) h).0) ks within.0) (below_separator k ks ls a);
+          (all_follow (λ l. is_above b.low l && is_below b.high l) (is_above b.low) (λ l h. (and_parts (is_above b.low l) (is_below b.high l) h).0)
+          ks within.0) (below_separator k ks ls a);
       higher = all_both (λ l. is_le (key_cmp k l)) (is_below b.high) ls
-          (all_follow (λ l. is_lt (key_cmp k l)) (λ l. is_le (key_cmp k l)) (λ l h. lt_to_le (key_cmp k l) h) ls (ascending_first k ls (ascending_behind ks (k ∷ ls) a)))
+          (all_follow (λ l. is_lt (key_cmp k l)) (λ l. is_le (key_cmp k l)) (λ l h. lt_to_le (key_cmp k l) h) ls
+          (ascending_first k ls (ascending_behind ks (k ∷ ls) a)))
           (all_follow (λ l. is_above b.low l && is_below b.high l) (is_below b.high) (λ l h. (and_parts (is_above b.low l) (is_below b.high l) h).1) ls here.1);
     }

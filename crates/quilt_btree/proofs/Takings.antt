@@ -1,5 +1,6 @@
 -- A run of keys whose records are taken out one after the other.
-use Rattle.std.proofs.Common.{◌≡◌, ℕ, ◌+◌, ◌-◌, ◌<◌, ◌≤◌, Bool, true, false, not, cond, ◌||◌, ◌&&◌, List, [], ◌∷◌, ◌++◌, length, map, take, drop, filter, get_or, Option, take-append-drop, length-drop, refl, sym, ◌∙◌, ap, subst, arith, Less, Equal, Greater, Ordering}
+use Rattle.std.proofs.Common.{◌≡◌, ℕ, ◌+◌, ◌-◌, ◌<◌, ◌≤◌, Bool, true, false, not, cond, ◌||◌, ◌&&◌, List, [], ◌∷◌, ◌++◌, length, map, take, drop, filter}
+use Rattle.std.proofs.Common.{get_or, Option, take-append-drop, length-drop, refl, sym, ◌∙◌, ap, subst, arith, Less, Equal, Greater, Ordering}
 use Rattle.std.specs.List.{list_any, list_all, range_with_len}
 use Rattle.std.specs.Ordering.{is_lt, is_eq, is_le, ordering_reverse}
 use Rattle.std.proofs.Math.Seq.{take-add}
@@ -38,15 +39,18 @@ without_all-append (x ∷ xs) ys rs = without_all-append xs ys (without x rs)
 
 pub has_each-append : (xs ys : List Key) (rs : List Record) → has_each (xs ++ ys) rs ≡ (has_each xs rs && has_each ys rs)
 has_each-append [] ys rs = refl
-has_each-append (x ∷ xs) ys rs = ap (λ b. list_any (has_key x) rs && b) (has_each-append xs ys rs) ∙ joined (list_any (has_key x) rs) (has_each xs rs) (has_each ys rs)
+has_each-append (x ∷ xs) ys rs =
+    ap (λ b. list_any (has_key x) rs && b) (has_each-append xs ys rs) ∙ joined (list_any (has_key x) rs) (has_each xs rs) (has_each ys rs)
   where
     joined : (a b c : Bool) → (a && (b && c)) ≡ ((a && b) && c)
     joined true b c = refl
     joined false b c = refl
 
 -- what is there after some were taken out was there before
-any_step : (p q : Record → Bool) (r : Record) (rs : List Record) (b : Bool) → q r ≡ b → (list_any p (filter q rs) ≡ true → list_any p rs ≡ true) → list_any p (cond (q r) (r ∷ filter q rs) (filter q rs)) ≡ true → list_any p (r ∷ rs) ≡ true
-any_step p q r rs true e f h = on (p r) (list_any p (filter q rs)) (list_any p rs) f (sym (ap (λ l. list_any p l) (filter_cond q r (filter q rs) (filter q rs) true e)) ∙ h)
+any_step : (p q : Record → Bool) (r : Record) (rs : List Record) (b : Bool) → q r ≡ b → (list_any p (filter q rs) ≡ true → list_any p rs ≡ true)
+    → list_any p (cond (q r) (r ∷ filter q rs) (filter q rs)) ≡ true → list_any p (r ∷ rs) ≡ true
+any_step p q r rs true e f h =
+    on (p r) (list_any p (filter q rs)) (list_any p rs) f (sym (ap (λ l. list_any p l) (filter_cond q r (filter q rs) (filter q rs) true e)) ∙ h)
   where
     on : (a b c : Bool) → (b ≡ true → c ≡ true) → (a || b) ≡ true → (a || c) ≡ true
     on true b c f h = refl
@@ -83,10 +87,12 @@ other_key j k r lt h = gt_not_eq j r.key (lt_le j k r.key lt (turned (key_cmp r.
     turned Equal p e h = ap is_le e
     turned Greater p e h = cc
 
-other_step : (p q : Record → Bool) (r : Record) (rs : List Record) (b c : Bool) → q r ≡ b → p r ≡ c → (p r ≡ true → q r ≡ true) → list_any p (filter q rs) ≡ list_any p rs → list_any p (cond (q r) (r ∷ filter q rs) (filter q rs)) ≡ (p r || list_any p rs)
+other_step : (p q : Record → Bool) (r : Record) (rs : List Record) (b c : Bool) → q r ≡ b → p r ≡ c → (p r ≡ true → q r ≡ true)
+    → list_any p (filter q rs) ≡ list_any p rs → list_any p (cond (q r) (r ∷ filter q rs) (filter q rs)) ≡ (p r || list_any p rs)
 other_step p q r rs true c e g f h = ap (λ l. list_any p l) (filter_cond q r (filter q rs) (filter q rs) true e) ∙ ap (λ b. p r || b) h
 other_step p q r rs false true e g f h = let k = f g in cc
-other_step p q r rs false false e g f h = ap (λ l. list_any p l) (filter_cond q r (filter q rs) (filter q rs) false e) ∙ h ∙ sym (ap (λ b. b || list_any p rs) g)
+other_step p q r rs false false e g f h =
+    ap (λ l. list_any p l) (filter_cond q r (filter q rs) (filter q rs) false e) ∙ h ∙ sym (ap (λ b. b || list_any p rs) g)
 
 any_filter_other : (p q : Record → Bool) (rs : List Record) → ((r : Record) → p r ≡ true → q r ≡ true) → list_any p (filter q rs) ≡ list_any p rs
 any_filter_other p q [] f = refl
@@ -96,17 +102,20 @@ any_without_other : (j k : Key) (rs : List Record) → is_lt (key_cmp j k) ≡ t
 unfolding without
 any_without_other j k rs lt = any_filter_other (has_key k) (λ r. not (has_key j r)) rs (λ r h. ap not (other_key j k r lt h))
 
-pub any_without_below : (k : Key) (xs : List Key) (rs : List Record) → list_all (λ m. is_lt (key_cmp m k)) xs ≡ true → list_any (has_key k) (without_all xs rs) ≡ list_any (has_key k) rs
+pub any_without_below : (k : Key) (xs : List Key) (rs : List Record) → list_all (λ m. is_lt (key_cmp m k)) xs ≡ true
+    → list_any (has_key k) (without_all xs rs) ≡ list_any (has_key k) rs
 any_without_below k [] rs h = refl
 any_without_below k (x ∷ xs) rs h =
     let t = and_parts (is_lt (key_cmp x k)) (list_all (λ m. is_lt (key_cmp m k)) xs) h in
     any_without_below k xs (without x rs) t.1 ∙ any_without_other x k rs t.0
 
-pub each_after : (ys xs : List Key) (rs : List Record) → list_all (λ y. list_all (λ m. is_lt (key_cmp m y)) xs) ys ≡ true → has_each ys (without_all xs rs) ≡ has_each ys rs
+pub each_after : (ys xs : List Key) (rs : List Record) → list_all (λ y. list_all (λ m. is_lt (key_cmp m y)) xs) ys ≡ true
+    → has_each ys (without_all xs rs) ≡ has_each ys rs
 each_after [] xs rs h = refl
 each_after (y ∷ ys) xs rs h =
     let t = and_parts (list_all (λ m. is_lt (key_cmp m y)) xs) (list_all (λ y. list_all (λ m. is_lt (key_cmp m y)) xs) ys) h in
-    both (list_any (has_key y) (without_all xs rs)) (list_any (has_key y) rs) (has_each ys (without_all xs rs)) (has_each ys rs) (any_without_below y xs rs t.0) (each_after ys xs rs t.1)
+    both (list_any (has_key y) (without_all xs rs)) (list_any (has_key y) rs) (has_each ys (without_all xs rs)) (has_each ys rs)
+    (any_without_below y xs rs t.0) (each_after ys xs rs t.1)
   where
     both : (a b c d : Bool) → a ≡ b → c ≡ d → (a && c) ≡ (b && d)
     both a b c d e f = cc
@@ -124,9 +133,11 @@ all_over (x ∷ xs) ys a =
     (all_over xs ys (ascending_rest x (xs ++ ys) a))
 
 -- the next keys of the run
-pub out_more : (told mid now_told : Option (List (List ℕ))) (free was now : ℕ → Bool) (size at i n : ℕ) (t u v : Tree) (run : List Key) → at ≡ size → i + n ≤ length run
+pub out_more : (told mid now_told : Option (List (List ℕ))) (free was now : ℕ → Bool) (size at i n : ℕ) (t u v : Tree) (run : List Key)
+    → at ≡ size → i + n ≤ length run
     → IsOut told mid free was size t u (take i run) → IsRooted at v → v.records + n ≡ u.records
-    → ((rs : List Record) → IsWhole mid was at u rs → (has_each (take n (drop i run)) rs ≡ true) × IsWhole now_told now at v (without_all (take n (drop i run)) rs))
+    → ((rs : List Record) → IsWhole mid was at u rs → (has_each (take n (drop i run)) rs ≡ true)
+    × IsWhole now_told now at v (without_all (take n (drop i run)) rs))
     → IsOut told now_told free now size t v (take (i + n) run)
 out_more told mid now_told free was now size at i n t u v run same le far rooted count f = record {
   rooted = subst (λ m. IsRooted m v) same rooted;
@@ -138,20 +149,25 @@ out_more told mid now_told free was now size at i n t u v run same le far rooted
       let cut : take (i + n) run ≡ xs ++ ys = take-add i n run in
       let g = f (without_all xs rs) (subst (λ m. IsWhole mid was m u (without_all xs rs)) (sym same) h.1) in (
         ap (λ l. has_each l rs) cut ∙ has_each-append xs ys rs ∙ and_both (has_each xs rs) (has_each ys rs) h.0 (each_before ys xs rs g.0),
-        subst (λ l. IsWhole now_told now size v l) (sym (ap (λ l. without_all l rs) cut ∙ without_all-append xs ys rs)) (subst (λ m. IsWhole now_told now m v (without_all ys (without_all xs rs))) same g.1),
+        subst (λ l. IsWhole now_told now size v l) (sym (ap (λ l. without_all l rs) cut ∙ without_all-append xs ys rs))
+            (subst (λ m. IsWhole now_told now m v (without_all ys (without_all xs rs))) same g.1),
       );
 }
 
 -- a key of the rest that is missing was missing before
-pub more_missing : (e : Stop) (told mid : Option (List (List ℕ))) (free was : ℕ → Bool) (size at i : ℕ) (t u : Tree) (run : List Key) → at ≡ size → is_ascending run ≡ true → IsOut told mid free was size t u (take i run)
+pub more_missing : (e : Stop) (told mid : Option (List (List ℕ))) (free was : ℕ → Bool) (size at i : ℕ) (t u : Tree) (run : List Key) → at ≡ size
+    → is_ascending run ≡ true → IsOut told mid free was size t u (take i run)
     → ((rs : List Record) → IsWhole mid was at u rs → (page : ℕ) → e ≡ Damaged page → (page ≡ 0) × (has_each (drop i run) rs ≡ false))
     → (rs : List Record) → IsWhole told free size t rs → (page : ℕ) → e ≡ Damaged page → (page ≡ 0) × (has_each run rs ≡ false)
 more_missing e told mid free was size at i t u run same order far f rs w page is =
     let xs = take i run in
     let ys = drop i run in
     let h = f (without_all xs rs) (subst (λ m. IsWhole mid was m u (without_all xs rs)) (sym same) (far.whole rs w).1) page is in
-    let apart = subst (λ l. is_ascending l ≡ true) (sym (take-append-drop i run)) order in
-    (h.0, ap (λ l. has_each l rs) (sym (take-append-drop i run)) ∙ has_each-append xs ys rs ∙ late (has_each xs rs) (has_each ys rs) (sym (each_after ys xs rs (all_over xs ys apart)) ∙ h.1))
+    let apart = subst (λ l. is_ascending l ≡ true) (sym (take-append-drop i run)) order in (
+      h.0,
+      ap (λ l. has_each l rs) (sym (take-append-drop i run)) ∙ has_each-append xs ys rs
+          ∙ late (has_each xs rs) (has_each ys rs) (sym (each_after ys xs rs (all_over xs ys apart)) ∙ h.1),
+    )
   where
     late : (a b : Bool) → b ≡ false → (a && b) ≡ false
     late true b h = h
@@ -166,24 +182,30 @@ rest_long run i n lt le = let e = ap (λ (l : List Key). length l) (take_rest ru
 
 pub rest_ascends : (run : List Key) (i : ℕ) → is_ascending run ≡ true → is_ascending (rest run i) ≡ true
 rest_ascends run i a =
-    subst (λ l. is_ascending l ≡ true) (sym (take_rest run i)) (ascending_back (take i run) (drop i run) (subst (λ l. is_ascending l ≡ true) (sym (take-append-drop i run)) a))
+    subst (λ l. is_ascending l ≡ true) (sym (take_rest run i))
+    (ascending_back (take i run) (drop i run) (subst (λ l. is_ascending l ≡ true) (sym (take-append-drop i run)) a))
 
-pub out_rest : (told mid now_told : Option (List (List ℕ))) (free was now : ℕ → Bool) (size at i n : ℕ) (t u v : Tree) (run : List Key) → at ≡ size → i + n ≤ length run
+pub out_rest : (told mid now_told : Option (List (List ℕ))) (free was now : ℕ → Bool) (size at i n : ℕ) (t u v : Tree) (run : List Key)
+    → at ≡ size → i + n ≤ length run
     → IsOut told mid free was size t u (take i run) → IsRooted at v → v.records + n ≡ u.records
-    → ((rs : List Record) → IsWhole mid was at u rs → (has_each (take n (rest run i)) rs ≡ true) × IsWhole now_told now at v (without_all (take n (rest run i)) rs))
+    → ((rs : List Record) → IsWhole mid was at u rs → (has_each (take n (rest run i)) rs ≡ true)
+    × IsWhole now_told now at v (without_all (take n (rest run i)) rs))
     → IsOut told now_told free now size t v (take (i + n) run)
 out_rest told mid now_told free was now size at i n t u v run same le far rooted count f =
     out_more told mid now_told free was now size at i n t u v run same le far rooted count
-    (subst (λ l. (rs : List Record) → IsWhole mid was at u rs → (has_each (take n l) rs ≡ true) × IsWhole now_told now at v (without_all (take n l) rs)) (take_rest run i) f)
+    (subst (λ l. (rs : List Record) → IsWhole mid was at u rs
+    → (has_each (take n l) rs ≡ true) × IsWhole now_told now at v (without_all (take n l) rs)) (take_rest run i) f)
 
-pub rest_missing : (e : Stop) (told mid : Option (List (List ℕ))) (free was : ℕ → Bool) (size at i : ℕ) (t u : Tree) (run : List Key) → at ≡ size → is_ascending run ≡ true → IsOut told mid free was size t u (take i run)
+pub rest_missing : (e : Stop) (told mid : Option (List (List ℕ))) (free was : ℕ → Bool) (size at i : ℕ) (t u : Tree) (run : List Key) → at ≡ size
+    → is_ascending run ≡ true → IsOut told mid free was size t u (take i run)
     → ((rs : List Record) → IsWhole mid was at u rs → (page : ℕ) → e ≡ Damaged page → (page ≡ 0) × (has_each (rest run i) rs ≡ false))
     → (rs : List Record) → IsWhole told free size t rs → (page : ℕ) → e ≡ Damaged page → (page ≡ 0) × (has_each run rs ≡ false)
 rest_missing e told mid free was size at i t u run same order far f =
     more_missing e told mid free was size at i t u run same order far
     (subst (λ l. (rs : List Record) → IsWhole mid was at u rs → (page : ℕ) → e ≡ Damaged page → (page ≡ 0) × (has_each l rs ≡ false)) (take_rest run i) f)
 
-pub out_all : (told now_told : Option (List (List ℕ))) (free now : ℕ → Bool) (size i : ℕ) (t u : Tree) (run : List Key) → length run ≤ i → IsOut told now_told free now size t u (take i run) → IsOut told now_told free now size t u run
+pub out_all : (told now_told : Option (List (List ℕ))) (free now : ℕ → Bool) (size i : ℕ) (t u : Tree) (run : List Key) → length run ≤ i
+    → IsOut told now_told free now size t u (take i run) → IsOut told now_told free now size t u run
 out_all told now_told free now size i t u run le far = subst (IsOut told now_told free now size t u) (take_all i run le) far
 
 -- the key at a place of a run, and one of zeros behind its end
@@ -205,7 +227,8 @@ first_out told now_told free now size t u run b some new f rs w =
       subst (λ l. IsWhole now_told now size u (without_all l rs)) (sym one) g.1,
     )
 
-pub first_missing : (told now_told : Option (List (List ℕ))) (free now : ℕ → Bool) (size : ℕ) (t u : Tree) (run : List Key) (b : Bool) → 1 ≤ length run → b ≡ false
+pub first_missing : (told now_told : Option (List (List ℕ))) (free now : ℕ → Bool) (size : ℕ) (t u : Tree) (run : List Key) (b : Bool)
+    → 1 ≤ length run → b ≡ false
     → ((rs : List Record) → IsWhole told free size t rs → (b ≡ list_any (has_key (key_at run 0)) rs) × IsWhole now_told now size u (without (key_at run 0) rs))
     → (rs : List Record) → IsWhole told free size t rs → has_each run rs ≡ false
 first_missing told now_told free now size t u [] b some old f rs w = absurd (omega arith)

@@ -1,5 +1,6 @@
 -- What pages are where they are well formed, and that the records of a subtree ascend.
-use Rattle.std.proofs.Common.{◌≡◌, ℕ, zero, suc, ◌+◌, ◌-◌, ◌*◌, ◌≤◌, Bool, true, false, ◌&&◌, nat_le, nat_lt, List, [], ◌∷◌, ◌++◌, length, map, Some, None, slice_index_or, refl, sym, ◌∙◌, ap, subst, arith}
+use Rattle.std.proofs.Common.{◌≡◌, ℕ, zero, suc, ◌+◌, ◌-◌, ◌*◌, ◌≤◌, Bool, true, false, ◌&&◌, nat_le, nat_lt, List, [], ◌∷◌, ◌++◌, length, map, Some, None}
+use Rattle.std.proofs.Common.{slice_index_or, refl, sym, ◌∙◌, ap, subst, arith}
 use Rattle.std.specs.Prelude.{if◌then◌else◌}
 use Rattle.std.specs.List.{list_all}
 use Rattle.std.specs.Ordering.{is_lt, is_le}
@@ -116,7 +117,8 @@ all_both p q (x ∷ xs) h g =
     and_both (p x && q x) (list_all (λ y. p y && q y) xs) (and_both (p x) (q x) s.0 t.0) (all_both p q xs s.1 t.1)
 
 -- the keys between children, behind the first of them
-pub within_rest : (b : Bounds) (k : Key) (ks : List Key) → is_ascending (k ∷ ks) ≡ true → are_within b (k ∷ ks) ≡ true → are_within (record { low = Some k; high = b.high }) ks ≡ true
+pub within_rest : (b : Bounds) (k : Key) (ks : List Key) → is_ascending (k ∷ ks) ≡ true → are_within b (k ∷ ks) ≡ true
+    → are_within (record { low = Some k; high = b.high }) ks ≡ true
 within_rest b k ks a w =
     let t = and_parts (is_above b.low k && is_below b.high k) (are_within b ks) w in
     all_both (λ l. is_le (key_cmp k l)) (is_below b.high) ks
@@ -129,7 +131,8 @@ keys_append (x ∷ xs) ys = ap (λ l. x.key ∷ l) (keys_append xs ys)
 
 -- the records of rising children rise
 pub row_rises : (S : Reading) → ((c : ℕ × Bounds) (rs : List Record) (used : List ℕ) → S c rs used → IsRising c.1 (map (λ r. r.key) rs))
-    → (cs : List ℕ) (ks : List Key) (b : Bounds) (rs : List Record) (used : List ℕ) → length cs ≡ length ks + 1 → is_ascending ks ≡ true → are_within b ks ≡ true
+    → (cs : List ℕ) (ks : List Key) (b : Bounds) (rs : List Record) (used : List ℕ) → length cs ≡ length ks + 1 → is_ascending ks ≡ true
+    → are_within b ks ≡ true
     → Row S (bounded cs ks b) rs used → IsRising b (map (λ r. r.key) rs)
 row_rises S one [] ks b rs used n a w row = absurd (no_child (length ks) n)
   where
@@ -146,7 +149,8 @@ row_rises S one (c ∷ cs) (k ∷ ks) b rs used n a w row =
     let t = and_parts (is_above b.low k && is_below b.high k) (are_within b ks) w in
     let u = and_parts (is_above b.low k) (is_below b.high k) t.0 in
     let first = one (c, record { low = b.low; high = Some k }) row.first row.first_used row.here in
-    let rest = row_rises S one cs ks (record { low = Some k; high = b.high }) row.rest row.rest_used (fewer (length cs) (length ks) n) (ascending_rest k ks a) (within_rest b k ks a w) row.after in
+    let rest = row_rises S one cs ks (record { low = Some k; high = b.high }) row.rest row.rest_used (fewer (length cs) (length ks) n)
+    (ascending_rest k ks a) (within_rest b k ks a w) row.after in
     subst (λ (l : List Record). IsRising b (map (λ r. r.key) l)) (sym row.records)
     (subst (IsRising b) (sym (keys_append row.first row.rest))
     (rising_join b k (map (λ r. r.key) row.first) (map (λ r. r.key) row.rest) u.0 u.1 first rest))

@@ -1,5 +1,6 @@
 -- The walk of a subtree, and what it has found.
-use Rattle.std.proofs.Common.{◌≡◌, ℕ, zero, suc, Bool, true, false, ◌&&◌, ◌||◌, ◌==◌, nat_le, List, [], ◌∷◌, ◌++◌, length, map, Option, Some, None, slice_index_or, refl, sym, ◌∙◌, ap, subst, append_assoc, arith}
+use Rattle.std.proofs.Common.{◌≡◌, ℕ, zero, suc, Bool, true, false, ◌&&◌, ◌||◌, ◌==◌, nat_le, List, [], ◌∷◌, ◌++◌, length, map, Option, Some, None}
+use Rattle.std.proofs.Common.{slice_index_or, refl, sym, ◌∙◌, ap, subst, append_assoc, arith}
 use Rattle.std.specs.List.{list_any}
 use Rattle.std.specs.Prelude.{if◌then◌else◌}
 use Rattle.std.proofs.lemmas.List.{append-nil}
@@ -127,7 +128,8 @@ same_number m n h = grind (arith, nat_tests)
 pub number_test : (m n : ℕ) → m ≡ n → (m == n) ≡ true
 number_test m n h = grind (arith, nat_tests)
 
-inner_found : (S : Reading) (visit : ℕ × Bounds → List ℕ → Walk) (pages : List (List ℕ)) (height : ℕ) (is_root : Bool) (at : ℕ × Bounds) (visited : List ℕ) (rs : List Record) (now : List ℕ)
+inner_found : (S : Reading) (visit : ℕ × Bounds → List ℕ → Walk) (pages : List (List ℕ)) (height : ℕ) (is_root : Bool) (at : ℕ × Bounds)
+    (visited : List ℕ) (rs : List Record) (now : List ℕ)
     → ((c : ℕ × Bounds) (v : List ℕ) (ss : List Record) (later : List ℕ) → visit c v ≡ Whole ss later → Found (S c) v ss later)
     → (o : Option Inner) → inner_of (length pages) (slice_index_or pages at.0 []) ≡ o
     → list_any (λ v. v == at.0) visited ≡ false
@@ -176,7 +178,8 @@ if_false true v w h = cc
 if_false false v w h = refl
 
 row_walked : (S : Reading) (visit : ℕ × Bounds → List ℕ → Walk)
-    → ((c : ℕ × Bounds) (visited : List ℕ) (rs : List Record) (used : List ℕ) → S c rs used → IsFresh used visited → visit c visited ≡ Whole rs (used ++ visited))
+    → ((c : ℕ × Bounds) (visited : List ℕ) (rs : List Record) (used : List ℕ) → S c rs used → IsFresh used visited
+    → visit c visited ≡ Whole rs (used ++ visited))
     → (cs : List (ℕ × Bounds)) (before : List Record) (visited : List ℕ) (rs : List Record) (used : List ℕ)
     → Row S cs rs used → IsFresh used visited → each_child visit cs (Whole before visited) ≡ Whole (before ++ rs) (used ++ visited)
 row_walked S visit one [] before visited rs used row fresh = rw (row.0, row.1, append-nil) refl

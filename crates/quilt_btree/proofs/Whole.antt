@@ -12,11 +12,13 @@ use Rattle.quilt_btree.specs.Trees.{Spells, IsTree, LeadsTo}
 use Rattle.quilt_btree.proofs.Walks.{walk_found}
 use Rattle.quilt_btree.proofs.Lists.{value_between}
 
-whole_spells : (told : Option (List (List ℕ))) (t : Tree) (rs : List Record) (height : ℕ) → t.height ≡ height → 1 ≤ height → IsTree told t rs → (s : Spells told t.root t.height rs) × (s.bounds.high ≡ None)
+whole_spells : (told : Option (List (List ℕ))) (t : Tree) (rs : List Record) (height : ℕ) → t.height ≡ height → 1 ≤ height → IsTree told t rs
+    → (s : Spells told t.root t.height rs) × (s.bounds.high ≡ None)
 unfolding walk_of
 whole_spells told t rs zero e some is = absurd (omega arith)
 whole_spells told t rs (suc h) e some is =
-    let found = walk_found is.pages (suc h) true (t.root, record { low = None; high = None }) [] rs is.visited (subst (λ n. walk_of is.pages t.root n ≡ Whole rs is.visited) e is.walk) in (
+    let found = walk_found is.pages (suc h) true (t.root, record { low = None; high = None }) [] rs is.visited
+    (subst (λ n. walk_of is.pages t.root n ≡ Whole rs is.visited) e is.walk) in (
       record {
         pages = is.pages;
         is_told = is.is_told;
@@ -28,7 +30,8 @@ whole_spells told t rs (suc h) e some is =
       refl,
     )
 
-pub tree_spells : (told : Option (List (List ℕ))) (t : Tree) (rs : List Record) → t.height ≢ 0 → IsTree told t rs → (s : Spells told t.root t.height rs) × (s.bounds.high ≡ None)
+pub tree_spells : (told : Option (List (List ℕ))) (t : Tree) (rs : List Record) → t.height ≢ 0 → IsTree told t rs
+    → (s : Spells told t.root t.height rs) × (s.bounds.high ≡ None)
 tree_spells told t rs ne is = let some : 1 ≤ t.height = omega arith in whole_spells told t rs t.height refl some is
 
 pub no_records : (told : Option (List (List ℕ))) (t : Tree) (rs : List Record) → t.height ≡ 0 → IsTree told t rs → rs ≡ []
@@ -56,6 +59,7 @@ sound_result (Ok x) told t ne f = f
 sound_result (Err e) told t ne f = sound_whole e told t ne f
 
 pub floor_whole : (r : Result (Option Record) Stop) (told : Option (List (List ℕ))) (t : Tree) (k : Key) → t.height ≢ 0
-    → IfOk r (λ v. (rs : List Record) → Spells told t.root t.height rs → v ≡ floor_of k rs) → IfOk r (λ v. (rs : List Record) → IsTree told t rs → v ≡ floor_of k rs)
+    → IfOk r (λ v. (rs : List Record) → Spells told t.root t.height rs → v ≡ floor_of k rs)
+    → IfOk r (λ v. (rs : List Record) → IsTree told t rs → v ≡ floor_of k rs)
 floor_whole (Err e) told t k ne f = f
 floor_whole (Ok v) told t k ne f = λ rs is. f rs (tree_spells told t rs ne is).0

@@ -37,21 +37,28 @@ turned Greater h = cc
 same_le : (a b : Key) → is_eq (key_cmp a b) ≡ true → is_le (key_cmp b a) ≡ true
 same_le a b h = ap is_le (key_total.antisymm b a) ∙ turned (key_cmp a b) h
 
-fewer_step : (k : Key) (r : Record) (rs : List Record) (b : Bool) → has_key k r ≡ b → is_ascending (keys_of (r ∷ rs)) ≡ true → (b || list_any (has_key k) rs) ≡ true → (list_any (has_key k) rs ≡ true → suc (length (filter (λ s. not (has_key k s)) rs)) ≡ length rs)
+fewer_step : (k : Key) (r : Record) (rs : List Record) (b : Bool) → has_key k r ≡ b → is_ascending (keys_of (r ∷ rs)) ≡ true
+    → (b || list_any (has_key k) rs) ≡ true → (list_any (has_key k) rs ≡ true → suc (length (filter (λ s. not (has_key k s)) rs)) ≡ length rs)
     → suc (length (filter (λ s. not (has_key k s)) (r ∷ rs))) ≡ length (r ∷ rs)
 fewer_step k r rs true e a h more =
     let above : list_all (λ (s : Record). is_lt (key_cmp k s.key)) rs ≡ true =
-    all_map (λ (s : Record). s.key) (λ m. is_lt (key_cmp k m)) rs (all_follow (λ m. is_lt (key_cmp r.key m)) (λ m. is_lt (key_cmp k m)) (λ m g. le_lt k r.key m (same_le r.key k e) g) (keys_of rs) (ascending_first r.key (keys_of rs) a)) in
-    ap (λ l. suc (length l)) (filter_cond (λ s. not (has_key k s)) r (filter (λ s. not (has_key k s)) rs) (filter (λ s. not (has_key k s)) rs) false (ap not e) ∙ filter_all (λ s. not (has_key k s)) rs (above_other k rs above))
+    all_map (λ (s : Record). s.key) (λ m. is_lt (key_cmp k m)) rs
+    (all_follow (λ m. is_lt (key_cmp r.key m)) (λ m. is_lt (key_cmp k m)) (λ m g. le_lt k r.key m (same_le r.key k e) g) (keys_of rs)
+    (ascending_first r.key (keys_of rs) a)) in
+    ap (λ l. suc (length l)) (filter_cond (λ s. not (has_key k s)) r (filter (λ s. not (has_key k s)) rs) (filter (λ s. not (has_key k s)) rs) false
+    (ap not e) ∙ filter_all (λ s. not (has_key k s)) rs (above_other k rs above))
 fewer_step k r rs false e a h more =
-    ap (λ l. suc (length l)) (filter_cond (λ s. not (has_key k s)) r (filter (λ s. not (has_key k s)) rs) (filter (λ s. not (has_key k s)) rs) true (ap not e)) ∙ ap suc (more h)
+    ap (λ l. suc (length l))
+    (filter_cond (λ s. not (has_key k s)) r (filter (λ s. not (has_key k s)) rs) (filter (λ s. not (has_key k s)) rs) true (ap not e)) ∙ ap suc (more h)
 
-fewer_one : (k : Key) (rs : List Record) → is_ascending (keys_of rs) ≡ true → list_any (has_key k) rs ≡ true → suc (length (filter (λ s. not (has_key k s)) rs)) ≡ length rs
+fewer_one : (k : Key) (rs : List Record) → is_ascending (keys_of rs) ≡ true → list_any (has_key k) rs ≡ true
+    → suc (length (filter (λ s. not (has_key k s)) rs)) ≡ length rs
 fewer_one k [] a h = cc
 fewer_one k (r ∷ rs) a h = fewer_step k r rs (has_key k r) refl a h (fewer_one k rs (ascending_rest r.key (keys_of rs) a))
 
 -- and else one fewer
-pub without_one_fewer : (k : Key) (rs : List Record) → is_ascending (keys_of rs) ≡ true → list_any (has_key k) rs ≡ true → suc (length (without k rs)) ≡ length rs
+pub without_one_fewer : (k : Key) (rs : List Record) → is_ascending (keys_of rs) ≡ true → list_any (has_key k) rs ≡ true
+    → suc (length (without k rs)) ≡ length rs
 unfolding without
 without_one_fewer k rs a h = fewer_one k rs a h
 

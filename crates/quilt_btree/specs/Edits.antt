@@ -31,13 +31,15 @@ pub record Moves (pages news : List (List ℕ)) (free now : ℕ → Bool) (used 
   pub balance : (p : ℕ) → account now uses p ≡ account free used p
 
 -- one subtree spells this list now
-pub record Becomes (pages news : List (List ℕ)) (free now : ℕ → Bool) (page height : ℕ) (is_root : Bool) (b : Bounds) (used : List ℕ) (all : List Record) : Type 0 where
+pub record Becomes (pages news : List (List ℕ)) (free now : ℕ → Bool) (page height : ℕ) (is_root : Bool) (b : Bounds) (used : List ℕ)
+    (all : List Record) : Type 0 where
   pub uses : List ℕ
   pub subtree : Subtree news height is_root (page, b) all uses
   pub moves : Moves pages news free now used uses
 
 -- two subtrees spell it now, separated at a key
-pub record Separated (pages news : List (List ℕ)) (free now : ℕ → Bool) (page height : ℕ) (b : Bounds) (used : List ℕ) (all : List Record) (key : Key) (right : ℕ) : Type 0 where
+pub record Separated (pages news : List (List ℕ)) (free now : ℕ → Bool) (page height : ℕ) (b : Bounds) (used : List ℕ) (all : List Record)
+    (key : Key) (right : ℕ) : Type 0 where
   pub first : List Record
   pub rest : List Record
   pub first_uses : List ℕ
@@ -58,21 +60,24 @@ HasInserted r pages news free now page height is_root b rs used (inserted.Split 
     (list_any (has_key r.key) rs ≡ false) × Separated pages news free now page height b used (put r rs) key right
 
 -- A subtree in a store that tells its pages, none of them used twice or free.
-pub record CanEdit (told : Option (List (List ℕ))) (free : ℕ → Bool) (page height : ℕ) (is_root : Bool) (b : Bounds) (rs : List Record) (used : List ℕ) : Type 0 where
+pub record CanEdit (told : Option (List (List ℕ))) (free : ℕ → Bool) (page height : ℕ) (is_root : Bool) (b : Bounds) (rs : List Record)
+    (used : List ℕ) : Type 0 where
   pub pages : List (List ℕ)
   pub is_told : told ≡ Some pages
   pub subtree : Subtree pages height is_root (page, b) rs used
   pub apart : (p : ℕ) → account free used p ≤ 1
 
 -- A subtree with room for a record: its key lies within the bounds, and a page is free for each level that may be split.
-pub record CanInsert (told : Option (List (List ℕ))) (free : ℕ → Bool) (size page height : ℕ) (is_root : Bool) (b : Bounds) (k : Key) (rs : List Record) (used : List ℕ) : Type 0 where
+pub record CanInsert (told : Option (List (List ℕ))) (free : ℕ → Bool) (size page height : ℕ) (is_root : Bool) (b : Bounds) (k : Key)
+    (rs : List Record) (used : List ℕ) : Type 0 where
   pub can_edit : CanEdit told free page height is_root b rs used
   pub low : is_above b.low k ≡ true
   pub high : is_below b.high k ≡ true
   pub room : height ≤ count_free free size
 
 -- what the store told before and tells now
-pub record DidInsert (r : Record) (told now_told : Option (List (List ℕ))) (free now : ℕ → Bool) (page height : ℕ) (is_root : Bool) (b : Bounds) (rs : List Record) (used : List ℕ) (o : Inserted) : Type 0 where
+pub record DidInsert (r : Record) (told now_told : Option (List (List ℕ))) (free now : ℕ → Bool) (page height : ℕ) (is_root : Bool) (b : Bounds)
+    (rs : List Record) (used : List ℕ) (o : Inserted) : Type 0 where
   pub pages : List (List ℕ)
   pub news : List (List ℕ)
   pub was : told ≡ Some pages
@@ -86,7 +91,8 @@ IsNearlyFull pages (suc zero) page = (rs : List Record) → leaf_of (slice_index
 IsNearlyFull pages (suc (suc h)) page = (inner : Inner) → inner_of (length pages) (slice_index_or pages page []) ≡ Some inner → 126 ≤ length inner.children
 
 -- the page has one child left, whose subtree spells this list now
-pub record OnlyChild (pages news : List (List ℕ)) (free now : ℕ → Bool) (page height : ℕ) (b : Bounds) (used : List ℕ) (all : List Record) (child : ℕ) : Type 0 where
+pub record OnlyChild (pages news : List (List ℕ)) (free now : ℕ → Bool) (page height : ℕ) (b : Bounds) (used : List ℕ) (all : List Record)
+    (child : ℕ) : Type 0 where
   pub below : ℕ
   pub is_height : height ≡ suc below
   pub uses : List ℕ
@@ -113,7 +119,8 @@ HasLeft pages news free now page height is_root b used all (removed.Only child) 
     (is_root ≡ true) × OnlyChild pages news free now page height b used all child
 
 -- what the store told before and tells now, where a subtree has come to spell this list
-pub record DidLeave (told now_told : Option (List (List ℕ))) (free now : ℕ → Bool) (page height : ℕ) (is_root : Bool) (b : Bounds) (used : List ℕ) (all : List Record) (o : Removed) : Type 0 where
+pub record DidLeave (told now_told : Option (List (List ℕ))) (free now : ℕ → Bool) (page height : ℕ) (is_root : Bool) (b : Bounds) (used : List ℕ)
+    (all : List Record) (o : Removed) : Type 0 where
   pub pages : List (List ℕ)
   pub news : List (List ℕ)
   pub was : told ≡ Some pages

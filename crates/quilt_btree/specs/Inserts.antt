@@ -16,7 +16,8 @@ HasRight size inserted.Done = Unit {0}
 HasRight size (inserted.Split key right) = (1 ≤ right) × (right < size)
 
 -- An inner page that is to be written: the subtrees of its children stand in the store, and their pages are neither it, nor free, nor used twice.
-pub record IsPending (told : Option (List (List ℕ))) (free : ℕ → Bool) (page : ℕ) (is_root : Bool) (b : Bounds) (inner : Inner) (all : List Record) (under : List ℕ) : Type 0 where
+pub record IsPending (told : Option (List (List ℕ))) (free : ℕ → Bool) (page : ℕ) (is_root : Bool) (b : Bounds) (inner : Inner) (all : List Record)
+    (under : List ℕ) : Type 0 where
   pub pages : List (List ℕ)
   pub is_told : told ≡ Some pages
   pub below : ℕ
@@ -36,7 +37,8 @@ HasPut pages news free now page height is_root b used all inserted.Done = Become
 HasPut pages news free now page height is_root b used all (inserted.Split key right) = Separated pages news free now page height b used all key right
 
 -- what the store told before and tells now
-pub record DidPut (told now_told : Option (List (List ℕ))) (free now : ℕ → Bool) (page height : ℕ) (is_root : Bool) (b : Bounds) (used : List ℕ) (all : List Record) (o : Inserted) : Type 0 where
+pub record DidPut (told now_told : Option (List (List ℕ))) (free now : ℕ → Bool) (page height : ℕ) (is_root : Bool) (b : Bounds) (used : List ℕ)
+    (all : List Record) (o : Inserted) : Type 0 where
   pub pages : List (List ℕ)
   pub news : List (List ℕ)
   pub was : told ≡ Some pages

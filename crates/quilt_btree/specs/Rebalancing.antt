@@ -1,5 +1,6 @@
 -- What rebalances a page with one record or child too few.
-use Rattle.std.specs.Prelude.{◌≡◌, ◌≢◌, ℕ, suc, ◌≤◌, ◌==◌, Bool, true, false, ◌||◌, nat_le, List, [], ◌∷◌, ◌++◌, Option, Some, length, slice_index, slice_index_or, slice_set}
+use Rattle.std.specs.Prelude.{◌≡◌, ◌≢◌, ℕ, suc, ◌≤◌, ◌==◌, Bool, true, false, ◌||◌, nat_le, List, [], ◌∷◌, ◌++◌, Option, Some, length, slice_index}
+use Rattle.std.specs.Prelude.{slice_index_or, slice_set}
 use Rattle.quilt_record.specs.declared.key.Key.{Key}
 use Rattle.quilt_record.specs.declared.record.Record.{Record}
 use Rattle.quilt_node.specs.Pages.{Inner, inner_of}
@@ -18,7 +19,8 @@ pub record IsNear (pages : List (List ℕ)) (height : ℕ) (at : ℕ × Bounds) 
   pub nearly : IsNearlyFull pages height at.0
 
 -- Two such subtrees one behind the other, separated at a key, in a store that tells its pages, none of them used twice or free.
-pub record CanRebalance (told : Option (List (List ℕ))) (free : ℕ → Bool) (height left : ℕ) (key : Key) (right : ℕ) (b : Bounds) (rs : List Record) (used : List ℕ) : Type 0 where
+pub record CanRebalance (told : Option (List (List ℕ))) (free : ℕ → Bool) (height left : ℕ) (key : Key) (right : ℕ) (b : Bounds) (rs : List Record)
+    (used : List ℕ) : Type 0 where
   pub pages : List (List ℕ)
   pub is_told : told ≡ Some pages
   pub first : List Record
@@ -39,7 +41,8 @@ HasRebalanced pages news free now height left right b rs used rebalanced.Joined 
 HasRebalanced pages news free now height left right b rs used (rebalanced.Redistributed key) = Separated pages news free now left height b used rs key right
 
 -- what the store told before and tells now
-pub record DidRebalance (told now_told : Option (List (List ℕ))) (free now : ℕ → Bool) (height left right : ℕ) (b : Bounds) (rs : List Record) (used : List ℕ) (o : Rebalanced) : Type 0 where
+pub record DidRebalance (told now_told : Option (List (List ℕ))) (free now : ℕ → Bool) (height left right : ℕ) (b : Bounds) (rs : List Record)
+    (used : List ℕ) (o : Rebalanced) : Type 0 where
   pub pages : List (List ℕ)
   pub news : List (List ℕ)
   pub was : told ≡ Some pages
@@ -51,7 +54,8 @@ abbrev pub Partly : List (List ℕ) → ℕ → ℕ → ℕ × Bounds → List R
 Partly pages height underfull at rs used = Subtree pages height (at.0 == underfull) at rs used
 
 -- An inner page of which child i may have one record or child too few, in a store that tells its pages, none of them used twice or free.
-pub record HasUnderfull (told : Option (List (List ℕ))) (free : ℕ → Bool) (page height : ℕ) (inner : Inner) (i : ℕ) (is_root : Bool) (b : Bounds) (rs : List Record) (used : List ℕ) : Type 0 where
+pub record HasUnderfull (told : Option (List (List ℕ))) (free : ℕ → Bool) (page height : ℕ) (inner : Inner) (i : ℕ) (is_root : Bool) (b : Bounds)
+    (rs : List Record) (used : List ℕ) : Type 0 where
   pub pages : List (List ℕ)
   pub is_told : told ≡ Some pages
   pub below : ℕ

@@ -1,5 +1,6 @@
 -- The tree of a store that tells its pages, and what the numbers of a tree have to be.
-use Rattle.std.specs.Prelude.{◌≡◌, ◌⊎◌, ℕ, zero, suc, slice_get, slice_index, ◌<◌, ◌≤◌, Bool, true, false, List, [], ◌++◌, Option, Some, None, length, slice_index_or}
+use Rattle.std.specs.Prelude.{◌≡◌, ◌⊎◌, ℕ, zero, suc, slice_get, slice_index, ◌<◌, ◌≤◌, Bool, true, false, List, [], ◌++◌, Option, Some, None, length}
+use Rattle.std.specs.Prelude.{slice_index_or}
 use Rattle.std.specs.List.{list_all}
 use Rattle.std.specs.Ordering.{is_le, is_lt}
 use Rattle.quilt_types.specs.Facts.{quota}
@@ -82,8 +83,10 @@ IsBound pages height page start high = (high ≡ start) ⊎ ((k : Key) × (high 
 
 -- what a leaf is that a search came to: from the key on where that parts two children, and up to another such
 pub record IsCut (told : Option (List (List ℕ))) (page height : ℕ) (k : Key) (start : Option Key) (leaf : List Record) (high : Option Key) : Type 0 where
-  pub starts : (pages : List (List ℕ)) (rs : List Record) → told ≡ Some pages → (s : Spells told page height rs) → s.bounds.high ≡ start → Divides pages height page k → list_all (λ r. is_le (key_cmp k r.key)) leaf ≡ true
-  pub ends : (pages : List (List ℕ)) (rs : List Record) (s : Spells told page height rs) → told ≡ Some pages → s.bounds.high ≡ start → is_below start k ≡ true → IsBound pages height page start high
+  pub starts : (pages : List (List ℕ)) (rs : List Record) → told ≡ Some pages → (s : Spells told page height rs) → s.bounds.high ≡ start
+      → Divides pages height page k → list_all (λ r. is_le (key_cmp k r.key)) leaf ≡ true
+  pub ends : (pages : List (List ℕ)) (rs : List Record) (s : Spells told page height rs) → told ≡ Some pages → s.bounds.high ≡ start
+      → is_below start k ≡ true → IsBound pages height page start high
 
 -- these are the records of a range with keys below one, in a list that goes on with the others
 pub record IsAsFar (low high : Key) (most : ℕ) (k : Key) (rs items : List Record) : Type 0 where

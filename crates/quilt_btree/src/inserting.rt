@@ -30,9 +30,13 @@ use quilt_types::Stop;
 /// Puts a record into the leaf at a page.
 pub fn insert_leaf<S: PageStore>(store: &mut S, page: u32, r: &Record) -> Result<Inserted, Stop>
     requires { (1 ≤ page) × (page < S.size store.old) }
-    ensures inserted { IfOk result (λ o. (is_root : Bool) (b : Bounds) (rs : List Record) (used : List ℕ) → CanInsert (S.told store.old) (S.free store.old) (S.size store.old) page 1 is_root b r.now.key rs used → DidInsert r.now (S.told store.old) (S.told store.new) (S.free store.old) (S.free store.new) page 1 is_root b rs used o) }
-    ensures sound { IfErr result (λ e. (is_root : Bool) (b : Bounds) (rs : List Record) (used : List ℕ) → CanInsert (S.told store.old) (S.free store.old) (S.size store.old) page 1 is_root b r.now.key rs used → IsSound e) }
-    ensures finds { IfOk result (λ o. (height : ℕ) (rs : List Record) → height ≡ 1 → Spells (S.told store.old) page height rs → was_there o ≡ list_any (has_key r.now.key) rs) }
+    ensures inserted { IfOk result (λ o. (is_root : Bool) (b : Bounds) (rs : List Record) (used : List ℕ)
+        → CanInsert (S.told store.old) (S.free store.old) (S.size store.old) page 1 is_root b r.now.key rs used
+        → DidInsert r.now (S.told store.old) (S.told store.new) (S.free store.old) (S.free store.new) page 1 is_root b rs used o) }
+    ensures sound { IfErr result (λ e. (is_root : Bool) (b : Bounds) (rs : List Record) (used : List ℕ)
+        → CanInsert (S.told store.old) (S.free store.old) (S.size store.old) page 1 is_root b r.now.key rs used → IsSound e) }
+    ensures finds { IfOk result (λ o. (height : ℕ) (rs : List Record) → height ≡ 1 → Spells (S.told store.old) page height rs
+        → was_there o ≡ list_any (has_key r.now.key) rs) }
     ensures right { IfOk result (λ o. HasRight (S.size store.old) o) }
     ensures room { OnOk result (count_free (S.free store.old) (S.size store.old) ≤ count_free (S.free store.new) (S.size store.old) + 1) }
     ensures told { IfOk result (λ o. o ≡ There → S.told store.new ≡ S.told store.old) }
@@ -64,8 +68,11 @@ pub fn put_record<S: PageStore>(
 ) -> Result<Inserted, Stop>
     requires page { (1 ≤ page) × (page < S.size store.old) }
     requires place { IsGap r.now.key leaf.old i }
-    ensures put { IfOk result (λ o. (is_root : Bool) (b : Bounds) (rs : List Record) (used : List ℕ) → leaf.old ≡ rs → CanInsert (S.told store.old) (S.free store.old) (S.size store.old) page 1 is_root b r.now.key rs used → DidInsert r.now (S.told store.old) (S.told store.new) (S.free store.old) (S.free store.new) page 1 is_root b rs used o) }
-    ensures sound { IfErr result (λ e. (is_root : Bool) (b : Bounds) (rs : List Record) (used : List ℕ) → CanInsert (S.told store.old) (S.free store.old) (S.size store.old) page 1 is_root b r.now.key rs used → IsSound e) }
+    ensures put { IfOk result (λ o. (is_root : Bool) (b : Bounds) (rs : List Record) (used : List ℕ) → leaf.old ≡ rs
+        → CanInsert (S.told store.old) (S.free store.old) (S.size store.old) page 1 is_root b r.now.key rs used
+        → DidInsert r.now (S.told store.old) (S.told store.new) (S.free store.old) (S.free store.new) page 1 is_root b rs used o) }
+    ensures sound { IfErr result (λ e. (is_root : Bool) (b : Bounds) (rs : List Record) (used : List ℕ)
+        → CanInsert (S.told store.old) (S.free store.old) (S.size store.old) page 1 is_root b r.now.key rs used → IsSound e) }
     ensures right { IfOk result (λ o. HasRight (S.size store.old) o) }
     ensures room { OnOk result (count_free (S.free store.old) (S.size store.old) ≤ count_free (S.free store.new) (S.size store.old) + 1) }
     ensures new { IfOk result (λ o. o ≢ There) }
@@ -131,8 +138,12 @@ pub fn put_child<S: PageStore>(
     requires children { are_pages (S.size store.old) inner.old.children ≡ true }
     requires place { i < length inner.old.children }
     requires child { 1 ≤ child }
-    ensures put { IfOk result (λ o. (is_root : Bool) (b : Bounds) (all : List Record) (under : List ℕ) → IsPending (S.told store.old) (S.free store.old) page is_root b (with_child inner.old i key.now child) all under → DidPut (S.told store.old) (S.told store.new) (S.free store.old) (S.free store.new) page inner.old.height is_root b (under ++ page ∷ []) all o) }
-    ensures sound { IfErr result (λ e. (is_root : Bool) (b : Bounds) (all : List Record) (under : List ℕ) → IsPending (S.told store.old) (S.free store.old) page is_root b (with_child inner.old i key.now child) all under → 0 < count_free (S.free store.old) (S.size store.old) → IsSound e) }
+    ensures put { IfOk result (λ o. (is_root : Bool) (b : Bounds) (all : List Record) (under : List ℕ)
+        → IsPending (S.told store.old) (S.free store.old) page is_root b (with_child inner.old i key.now child) all under
+        → DidPut (S.told store.old) (S.told store.new) (S.free store.old) (S.free store.new) page inner.old.height is_root b (under ++ page ∷ []) all o) }
+    ensures sound { IfErr result (λ e. (is_root : Bool) (b : Bounds) (all : List Record) (under : List ℕ)
+        → IsPending (S.told store.old) (S.free store.old) page is_root b (with_child inner.old i key.now child) all under
+        → 0 < count_free (S.free store.old) (S.size store.old) → IsSound e) }
     ensures right { IfOk result (λ o. HasRight (S.size store.old) o) }
     ensures room { OnOk result (count_free (S.free store.old) (S.size store.old) ≤ count_free (S.free store.new) (S.size store.old) + 1) }
     ensures new { IfOk result (λ o. o ≢ There) }
@@ -173,8 +184,11 @@ pub fn insert_under<S: PageStore>(
 ) -> Result<Inserted, Stop>
     requires page { (1 ≤ page) × (page < S.size store.old) }
     requires height { 1 ≤ height }
-    ensures inserted { IfOk result (λ o. (is_root : Bool) (b : Bounds) (rs : List Record) (used : List ℕ) → CanInsert (S.told store.old) (S.free store.old) (S.size store.old) page height is_root b r.now.key rs used → DidInsert r.now (S.told store.old) (S.told store.new) (S.free store.old) (S.free store.new) page height is_root b rs used o) }
-    ensures sound { IfErr result (λ e. (is_root : Bool) (b : Bounds) (rs : List Record) (used : List ℕ) → CanInsert (S.told store.old) (S.free store.old) (S.size store.old) page height is_root b r.now.key rs used → IsSound e) }
+    ensures inserted { IfOk result (λ o. (is_root : Bool) (b : Bounds) (rs : List Record) (used : List ℕ)
+        → CanInsert (S.told store.old) (S.free store.old) (S.size store.old) page height is_root b r.now.key rs used
+        → DidInsert r.now (S.told store.old) (S.told store.new) (S.free store.old) (S.free store.new) page height is_root b rs used o) }
+    ensures sound { IfErr result (λ e. (is_root : Bool) (b : Bounds) (rs : List Record) (used : List ℕ)
+        → CanInsert (S.told store.old) (S.free store.old) (S.size store.old) page height is_root b r.now.key rs used → IsSound e) }
     ensures finds { IfOk result (λ o. (rs : List Record) → Spells (S.told store.old) page height rs → was_there o ≡ list_any (has_key r.now.key) rs) }
     ensures right { IfOk result (λ o. HasRight (S.size store.old) o) }
     ensures room { OnOk result (count_free (S.free store.old) (S.size store.old) ≤ count_free (S.free store.new) (S.size store.old) + height) }

@@ -36,7 +36,8 @@ pub fn read_leaf<S: PageStore>(store: &mut S, page: u32) -> Result<LeafPage, Sto
     ensures later { S.later store.old store.new }
     ensures held { OnOk result (Tells (Touches page) (S.held store.old) (S.held store.new)) }
     ensures reads { Tells (λ old new. new ≤ old + 1) (S.reads store.old) (S.reads store.new) }
-    ensures held_is_free { IfSome (S.held store.old) (λ pages. IsTrue (list_any (λ p. p == page) pages) → Tells (λ old new. new ≤ old) (S.reads store.old) (S.reads store.new)) }
+    ensures held_is_free { IfSome (S.held store.old) (λ pages. IsTrue (list_any (λ p. p == page) pages)
+        → Tells (λ old new. new ≤ old) (S.reads store.old) (S.reads store.new)) }
     ensures changed { S.changed store.new ≤ S.changed store.old }
 {
     let mut bytes = [0; 4096];
@@ -87,7 +88,8 @@ pub fn read_inner<S: PageStore>(store: &mut S, page: u32, height: u8) -> Result<
     ensures later { S.later store.old store.new }
     ensures held { OnOk result (Tells (Touches page) (S.held store.old) (S.held store.new)) }
     ensures reads { Tells (λ old new. new ≤ old + 1) (S.reads store.old) (S.reads store.new) }
-    ensures held_is_free { IfSome (S.held store.old) (λ pages. IsTrue (list_any (λ p. p == page) pages) → Tells (λ old new. new ≤ old) (S.reads store.old) (S.reads store.new)) }
+    ensures held_is_free { IfSome (S.held store.old) (λ pages. IsTrue (list_any (λ p. p == page) pages)
+        → Tells (λ old new. new ≤ old) (S.reads store.old) (S.reads store.new)) }
     ensures changed { S.changed store.new ≤ S.changed store.old }
 {
     let mut bytes = [0; 4096];

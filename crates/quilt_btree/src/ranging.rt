@@ -55,7 +55,8 @@ fn add_span(
 ) -> Result<(), AllocError>
     requires room { vec_len records.old ≤ most }
     requires last { (last ≤ 144) × (last ≤ length (records_of bytes.now)) }
-    ensures { OnOk result (records.new.items ≡ take most (records.old.items ++ filter (is_from_to low.now high.now) (take (last - first) (drop first (records_of bytes.now))))) }
+    ensures { OnOk result (records.new.items
+        ≡ take most (records.old.items ++ filter (is_from_to low.now high.now) (take (last - first) (drop first (records_of bytes.now))))) }
 {
     for i in first..last {
         let r = rec_in(bytes, i);
@@ -79,7 +80,8 @@ pub fn add_leaf(
     most: u32,
 ) -> Result<(), AllocError>
     requires { vec_len records.old ≤ most }
-    ensures { OnOk result ((some : List Record) × (records.new.items ≡ take most (records.old.items ++ filter (is_from_to low.now high.now) some)) × ((rs : List Record) → leaf_of bytes.now ≡ Some rs → filter (is_from_to low.now high.now) some ≡ filter (is_from_to low.now high.now) rs)) }
+    ensures { OnOk result ((some : List Record) × (records.new.items ≡ take most (records.old.items ++ filter (is_from_to low.now high.now) some))
+        × ((rs : List Record) → leaf_of bytes.now ≡ Some rs → filter (is_from_to low.now high.now) some ≡ filter (is_from_to low.now high.now) rs)) }
 {
     let first = count_below(bytes, low);
     let last = count_up_to(bytes, high);

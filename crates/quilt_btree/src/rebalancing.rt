@@ -144,8 +144,11 @@ fn rebalance_leaves<S: PageStore>(
 ) -> Result<Rebalanced, Stop>
     requires left { (1 ≤ left) × (left < S.size store.old) }
     requires right { (1 ≤ right) × (right < S.size store.old) }
-    ensures rebalanced { IfOk result (λ o. (height : ℕ) (b : Bounds) (rs : List Record) (used : List ℕ) → height ≡ 1 → CanRebalance (S.told store.old) (S.free store.old) height left key.now right b rs used → DidRebalance (S.told store.old) (S.told store.new) (S.free store.old) (S.free store.new) height left right b rs used o) }
-    ensures sound { IfErr result (λ e. (height : ℕ) (b : Bounds) (rs : List Record) (used : List ℕ) → height ≡ 1 → CanRebalance (S.told store.old) (S.free store.old) height left key.now right b rs used → IsSound e) }
+    ensures rebalanced { IfOk result (λ o. (height : ℕ) (b : Bounds) (rs : List Record) (used : List ℕ) → height ≡ 1
+        → CanRebalance (S.told store.old) (S.free store.old) height left key.now right b rs used
+        → DidRebalance (S.told store.old) (S.told store.new) (S.free store.old) (S.free store.new) height left right b rs used o) }
+    ensures sound { IfErr result (λ e. (height : ℕ) (b : Bounds) (rs : List Record) (used : List ℕ) → height ≡ 1
+        → CanRebalance (S.told store.old) (S.free store.old) height left key.now right b rs used → IsSound e) }
     ensures names { IfErr result (NamesPage (S.size store.old)) }
     ensures cause { HasStopCause (S.faults store.old) (S.faults store.new) result }
     ensures size { S.size store.new ≡ S.size store.old }
@@ -186,8 +189,11 @@ fn rebalance_inners<S: PageStore>(
     requires height { 2 ≤ height }
     requires left { (1 ≤ left) × (left < S.size store.old) }
     requires right { (1 ≤ right) × (right < S.size store.old) }
-    ensures rebalanced { IfOk result (λ o. (b : Bounds) (rs : List Record) (used : List ℕ) → CanRebalance (S.told store.old) (S.free store.old) height left key.now right b rs used → DidRebalance (S.told store.old) (S.told store.new) (S.free store.old) (S.free store.new) height left right b rs used o) }
-    ensures sound { IfErr result (λ e. (b : Bounds) (rs : List Record) (used : List ℕ) → CanRebalance (S.told store.old) (S.free store.old) height left key.now right b rs used → IsSound e) }
+    ensures rebalanced { IfOk result (λ o. (b : Bounds) (rs : List Record) (used : List ℕ)
+        → CanRebalance (S.told store.old) (S.free store.old) height left key.now right b rs used
+        → DidRebalance (S.told store.old) (S.told store.new) (S.free store.old) (S.free store.new) height left right b rs used o) }
+    ensures sound { IfErr result (λ e. (b : Bounds) (rs : List Record) (used : List ℕ)
+        → CanRebalance (S.told store.old) (S.free store.old) height left key.now right b rs used → IsSound e) }
     ensures names { IfErr result (NamesPage (S.size store.old)) }
     ensures cause { HasStopCause (S.faults store.old) (S.faults store.new) result }
     ensures size { S.size store.new ≡ S.size store.old }
@@ -226,8 +232,11 @@ pub fn rebalance_pages<S: PageStore>(
     requires height { 1 ≤ height }
     requires left { (1 ≤ left) × (left < S.size store.old) }
     requires right { (1 ≤ right) × (right < S.size store.old) }
-    ensures rebalanced { IfOk result (λ o. (b : Bounds) (rs : List Record) (used : List ℕ) → CanRebalance (S.told store.old) (S.free store.old) height left key.now right b rs used → DidRebalance (S.told store.old) (S.told store.new) (S.free store.old) (S.free store.new) height left right b rs used o) }
-    ensures sound { IfErr result (λ e. (b : Bounds) (rs : List Record) (used : List ℕ) → CanRebalance (S.told store.old) (S.free store.old) height left key.now right b rs used → IsSound e) }
+    ensures rebalanced { IfOk result (λ o. (b : Bounds) (rs : List Record) (used : List ℕ)
+        → CanRebalance (S.told store.old) (S.free store.old) height left key.now right b rs used
+        → DidRebalance (S.told store.old) (S.told store.new) (S.free store.old) (S.free store.new) height left right b rs used o) }
+    ensures sound { IfErr result (λ e. (b : Bounds) (rs : List Record) (used : List ℕ)
+        → CanRebalance (S.told store.old) (S.free store.old) height left key.now right b rs used → IsSound e) }
     ensures names { IfErr result (NamesPage (S.size store.old)) }
     ensures cause { HasStopCause (S.faults store.old) (S.faults store.new) result }
     ensures size { S.size store.new ≡ S.size store.old }

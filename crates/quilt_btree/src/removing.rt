@@ -26,9 +26,13 @@ use quilt_types::Stop;
 /// Takes the record of a key out of the leaf at a page.
 fn remove_in_leaf<S: PageStore>(store: &mut S, page: u32, k: &Key) -> Result<Removed, Stop>
     requires { (1 ≤ page) × (page < S.size store.old) }
-    ensures removed { IfOk result (λ o. (height : ℕ) (is_root : Bool) (b : Bounds) (rs : List Record) (used : List ℕ) → height ≡ 1 → CanEdit (S.told store.old) (S.free store.old) page height is_root b rs used → DidRemove k.now (S.told store.old) (S.told store.new) (S.free store.old) (S.free store.new) page height is_root b rs used o) }
-    ensures sound { IfErr result (λ e. (height : ℕ) (is_root : Bool) (b : Bounds) (rs : List Record) (used : List ℕ) → height ≡ 1 → CanEdit (S.told store.old) (S.free store.old) page height is_root b rs used → IsSound e) }
-    ensures finds { IfOk result (λ o. (height : ℕ) (rs : List Record) → height ≡ 1 → Spells (S.told store.old) page height rs → was_found o ≡ list_any (has_key k.now) rs) }
+    ensures removed { IfOk result (λ o. (height : ℕ) (is_root : Bool) (b : Bounds) (rs : List Record) (used : List ℕ) → height ≡ 1
+        → CanEdit (S.told store.old) (S.free store.old) page height is_root b rs used
+        → DidRemove k.now (S.told store.old) (S.told store.new) (S.free store.old) (S.free store.new) page height is_root b rs used o) }
+    ensures sound { IfErr result (λ e. (height : ℕ) (is_root : Bool) (b : Bounds) (rs : List Record) (used : List ℕ) → height ≡ 1
+        → CanEdit (S.told store.old) (S.free store.old) page height is_root b rs used → IsSound e) }
+    ensures finds { IfOk result (λ o. (height : ℕ) (rs : List Record) → height ≡ 1 → Spells (S.told store.old) page height rs
+        → was_found o ≡ list_any (has_key k.now) rs) }
     ensures same { IfOk result (λ o. o ≡ Missing → (S.told store.new ≡ S.told store.old) × (S.free store.new ≡ S.free store.old)) }
     ensures unchanged { IfOk result (λ o. o ≡ Missing → S.changed store.new ≤ S.changed store.old) }
     ensures child { IfOk result (λ o. HasPageIn (S.size store.old) o) }
@@ -146,8 +150,11 @@ fn rebalance_child<S: PageStore>(
     requires height { 2 ≤ height }
     requires children { are_pages (S.size store.old) inner.old.children ≡ true }
     requires place { i < length inner.old.children }
-    ensures left { IfOk result (λ o. (is_root : Bool) (b : Bounds) (rs : List Record) (used : List ℕ) → HasUnderfull (S.told store.old) (S.free store.old) page height inner.old i is_root b rs used → DidLeave (S.told store.old) (S.told store.new) (S.free store.old) (S.free store.new) page height is_root b used rs o) }
-    ensures sound { IfErr result (λ e. (is_root : Bool) (b : Bounds) (rs : List Record) (used : List ℕ) → HasUnderfull (S.told store.old) (S.free store.old) page height inner.old i is_root b rs used → IsSound e) }
+    ensures left { IfOk result (λ o. (is_root : Bool) (b : Bounds) (rs : List Record) (used : List ℕ)
+        → HasUnderfull (S.told store.old) (S.free store.old) page height inner.old i is_root b rs used
+        → DidLeave (S.told store.old) (S.told store.new) (S.free store.old) (S.free store.new) page height is_root b used rs o) }
+    ensures sound { IfErr result (λ e. (is_root : Bool) (b : Bounds) (rs : List Record) (used : List ℕ)
+        → HasUnderfull (S.told store.old) (S.free store.old) page height inner.old i is_root b rs used → IsSound e) }
     ensures some { IfOk result (λ o. o ≡ Missing → ⊥) }
     ensures child { IfOk result (λ o. HasPageIn (S.size store.old) o) }
     ensures names { IfErr result (NamesPage (S.size store.old)) }
@@ -179,8 +186,11 @@ pub fn remove_under<S: PageStore>(
 ) -> Result<Removed, Stop>
     requires page { (1 ≤ page) × (page < S.size store.old) }
     requires height { 1 ≤ height }
-    ensures removed { IfOk result (λ o. (is_root : Bool) (b : Bounds) (rs : List Record) (used : List ℕ) → CanEdit (S.told store.old) (S.free store.old) page height is_root b rs used → DidRemove k.now (S.told store.old) (S.told store.new) (S.free store.old) (S.free store.new) page height is_root b rs used o) }
-    ensures sound { IfErr result (λ e. (is_root : Bool) (b : Bounds) (rs : List Record) (used : List ℕ) → CanEdit (S.told store.old) (S.free store.old) page height is_root b rs used → IsSound e) }
+    ensures removed { IfOk result (λ o. (is_root : Bool) (b : Bounds) (rs : List Record) (used : List ℕ)
+        → CanEdit (S.told store.old) (S.free store.old) page height is_root b rs used
+        → DidRemove k.now (S.told store.old) (S.told store.new) (S.free store.old) (S.free store.new) page height is_root b rs used o) }
+    ensures sound { IfErr result (λ e. (is_root : Bool) (b : Bounds) (rs : List Record) (used : List ℕ)
+        → CanEdit (S.told store.old) (S.free store.old) page height is_root b rs used → IsSound e) }
     ensures finds { IfOk result (λ o. (rs : List Record) → Spells (S.told store.old) page height rs → was_found o ≡ list_any (has_key k.now) rs) }
     ensures same { IfOk result (λ o. o ≡ Missing → (S.told store.new ≡ S.told store.old) × (S.free store.new ≡ S.free store.old)) }
     ensures unchanged { IfOk result (λ o. o ≡ Missing → S.changed store.new ≤ S.changed store.old) }

@@ -42,9 +42,11 @@ impl Tree {
         requires rooted { IsRooted (S.size store.old) self.old }
         requires order { is_ascending run.now ≡ true }
         ensures rooted { OnOk result (IsRooted (S.size store.old) self.new) }
-        ensures removed { OnOk result ((rs : List Record) → IsWhole (S.told store.old) (S.free store.old) (S.size store.old) self.old rs → (has_each run.now rs ≡ true) × IsWhole (S.told store.new) (S.free store.new) (S.size store.old) self.new (without_all run.now rs)) }
+        ensures removed { OnOk result ((rs : List Record) → IsWhole (S.told store.old) (S.free store.old) (S.size store.old) self.old rs
+            → (has_each run.now rs ≡ true) × IsWhole (S.told store.new) (S.free store.new) (S.size store.old) self.new (without_all run.now rs)) }
         ensures count { OnOk result (self.new.records + length run.now ≡ self.old.records) }
-        ensures missing { IfErr result (λ e. (rs : List Record) → IsWhole (S.told store.old) (S.free store.old) (S.size store.old) self.old rs → (page : ℕ) → e ≡ Damaged page → (page ≡ 0) × (has_each run.now rs ≡ false)) }
+        ensures missing { IfErr result (λ e. (rs : List Record) → IsWhole (S.told store.old) (S.free store.old) (S.size store.old) self.old rs
+            → (page : ℕ) → e ≡ Damaged page → (page ≡ 0) × (has_each run.now rs ≡ false)) }
         ensures names { IfErr result (NamesPage (S.size store.old)) }
         ensures cause { HasStopCause (S.faults store.old) (S.faults store.new) result }
         ensures size { S.size store.new ≡ S.size store.old }
@@ -68,9 +70,12 @@ impl Tree {
         requires order { is_ascending run.now ≡ true }
         ensures number { IfOk result (λ n. (1 ≤ n) × (n ≤ length run.now)) }
         ensures rooted { OnOk result (IsRooted (S.size store.old) self.new) }
-        ensures removed { IfOk result (λ n. (rs : List Record) → IsWhole (S.told store.old) (S.free store.old) (S.size store.old) self.old rs → (has_each (take n run.now) rs ≡ true) × IsWhole (S.told store.new) (S.free store.new) (S.size store.old) self.new (without_all (take n run.now) rs)) }
+        ensures removed { IfOk result (λ n. (rs : List Record) → IsWhole (S.told store.old) (S.free store.old) (S.size store.old) self.old rs
+            → (has_each (take n run.now) rs ≡ true)
+            × IsWhole (S.told store.new) (S.free store.new) (S.size store.old) self.new (without_all (take n run.now) rs)) }
         ensures count { IfOk result (λ n. self.new.records + n ≡ self.old.records) }
-        ensures missing { IfErr result (λ e. (rs : List Record) → IsWhole (S.told store.old) (S.free store.old) (S.size store.old) self.old rs → (page : ℕ) → e ≡ Damaged page → (page ≡ 0) × (has_each run.now rs ≡ false)) }
+        ensures missing { IfErr result (λ e. (rs : List Record) → IsWhole (S.told store.old) (S.free store.old) (S.size store.old) self.old rs
+            → (page : ℕ) → e ≡ Damaged page → (page ≡ 0) × (has_each run.now rs ≡ false)) }
         ensures names { IfErr result (NamesPage (S.size store.old)) }
         ensures cause { HasStopCause (S.faults store.old) (S.faults store.new) result }
         ensures size { S.size store.new ≡ S.size store.old }
@@ -98,9 +103,12 @@ impl Tree {
         requires order { is_ascending run.now ≡ true }
         ensures number { IfOk result (λ n. (1 ≤ n) × (n ≤ length run.now)) }
         ensures rooted { OnOk result (IsRooted (S.size store.old) self.new) }
-        ensures removed { IfOk result (λ n. (rs : List Record) → IsWhole (S.told store.old) (S.free store.old) (S.size store.old) self.old rs → (has_each (take n run.now) rs ≡ true) × IsWhole (S.told store.new) (S.free store.new) (S.size store.old) self.new (without_all (take n run.now) rs)) }
+        ensures removed { IfOk result (λ n. (rs : List Record) → IsWhole (S.told store.old) (S.free store.old) (S.size store.old) self.old rs
+            → (has_each (take n run.now) rs ≡ true)
+            × IsWhole (S.told store.new) (S.free store.new) (S.size store.old) self.new (without_all (take n run.now) rs)) }
         ensures count { IfOk result (λ n. self.new.records + n ≡ self.old.records) }
-        ensures missing { IfErr result (λ e. (rs : List Record) → IsWhole (S.told store.old) (S.free store.old) (S.size store.old) self.old rs → (page : ℕ) → e ≡ Damaged page → (page ≡ 0) × (has_each run.now rs ≡ false)) }
+        ensures missing { IfErr result (λ e. (rs : List Record) → IsWhole (S.told store.old) (S.free store.old) (S.size store.old) self.old rs
+            → (page : ℕ) → e ≡ Damaged page → (page ≡ 0) × (has_each run.now rs ≡ false)) }
         ensures names { IfErr result (NamesPage (S.size store.old)) }
         ensures cause { HasStopCause (S.faults store.old) (S.faults store.new) result }
         ensures size { S.size store.new ≡ S.size store.old }
@@ -175,9 +183,12 @@ fn drain_leaf<S: PageStore>(
     requires page { (1 ≤ page) × (page < S.size store.old) }
     requires order { is_ascending run.now ≡ true }
     ensures number { IfOk result (λ n. n ≤ length run.now) }
-    ensures drained { IfOk result (λ n. 1 ≤ n → (b : Bounds) (rs : List Record) (used : List ℕ) → b.high ≡ high.now → CanEdit (S.told store.old) (S.free store.old) page 1 is_root b rs used → DidDrain (take n run.now) (S.told store.old) (S.told store.new) (S.free store.old) (S.free store.new) page 1 is_root b rs used) }
+    ensures drained { IfOk result (λ n. 1 ≤ n → (b : Bounds) (rs : List Record) (used : List ℕ) → b.high ≡ high.now
+        → CanEdit (S.told store.old) (S.free store.old) page 1 is_root b rs used
+        → DidDrain (take n run.now) (S.told store.old) (S.told store.new) (S.free store.old) (S.free store.new) page 1 is_root b rs used) }
     ensures stays { IfOk result (λ n. n ≡ 0 → (S.told store.new ≡ S.told store.old) × (S.free store.new ≡ S.free store.old)) }
-    ensures lacks { IfErr result (λ e. (b : Bounds) (rs : List Record) (used : List ℕ) → b.high ≡ high.now → CanEdit (S.told store.old) (S.free store.old) page 1 is_root b rs used → (q : ℕ) → e ≡ Damaged q → (q ≡ 0) × Lacks run.now b.high rs) }
+    ensures lacks { IfErr result (λ e. (b : Bounds) (rs : List Record) (used : List ℕ) → b.high ≡ high.now
+        → CanEdit (S.told store.old) (S.free store.old) page 1 is_root b rs used → (q : ℕ) → e ≡ Damaged q → (q ≡ 0) × Lacks run.now b.high rs) }
     ensures names { IfErr result (NamesPage (S.size store.old)) }
     ensures cause { HasStopCause (S.faults store.old) (S.faults store.new) result }
     ensures size { S.size store.new ≡ S.size store.old }
@@ -220,9 +231,12 @@ fn drain_under<S: PageStore>(
     requires some { 1 ≤ length run.now }
     requires order { is_ascending run.now ≡ true }
     ensures number { IfOk result (λ n. n ≤ length run.now) }
-    ensures drained { IfOk result (λ n. 1 ≤ n → (b : Bounds) (rs : List Record) (used : List ℕ) → b.high ≡ high.now → CanEdit (S.told store.old) (S.free store.old) page height is_root b rs used → DidDrain (take n run.now) (S.told store.old) (S.told store.new) (S.free store.old) (S.free store.new) page height is_root b rs used) }
+    ensures drained { IfOk result (λ n. 1 ≤ n → (b : Bounds) (rs : List Record) (used : List ℕ) → b.high ≡ high.now
+        → CanEdit (S.told store.old) (S.free store.old) page height is_root b rs used
+        → DidDrain (take n run.now) (S.told store.old) (S.told store.new) (S.free store.old) (S.free store.new) page height is_root b rs used) }
     ensures stays { IfOk result (λ n. n ≡ 0 → (S.told store.new ≡ S.told store.old) × (S.free store.new ≡ S.free store.old)) }
-    ensures lacks { IfErr result (λ e. (b : Bounds) (rs : List Record) (used : List ℕ) → b.high ≡ high.now → CanEdit (S.told store.old) (S.free store.old) page height is_root b rs used → (q : ℕ) → e ≡ Damaged q → (q ≡ 0) × Lacks run.now b.high rs) }
+    ensures lacks { IfErr result (λ e. (b : Bounds) (rs : List Record) (used : List ℕ) → b.high ≡ high.now
+        → CanEdit (S.told store.old) (S.free store.old) page height is_root b rs used → (q : ℕ) → e ≡ Damaged q → (q ≡ 0) × Lacks run.now b.high rs) }
     ensures names { IfErr result (NamesPage (S.size store.old)) }
     ensures cause { HasStopCause (S.faults store.old) (S.faults store.new) result }
     ensures size { S.size store.new ≡ S.size store.old }

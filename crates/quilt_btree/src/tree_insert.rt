@@ -27,14 +27,20 @@ impl Tree {
         requires rooted { IsRooted (S.size store.old) self.old }
         requires room { self.old.records < quota (S.size store.old) }
         ensures rooted { OnOk result (IsRooted (S.size store.old) self.new) }
-        ensures inserted { IfOk result (λ is_new. (rs : List Record) → IsWhole (S.told store.old) (S.free store.old) (S.size store.old) self.old rs → (is_new ≡ not (list_any (has_key r.now.key) rs)) × IsWhole (S.told store.new) (S.free store.new) (S.size store.old) self.new (if is_new then put r.now rs else rs)) }
+        ensures inserted { IfOk result (λ is_new. (rs : List Record) → IsWhole (S.told store.old) (S.free store.old) (S.size store.old) self.old rs
+            → (is_new ≡ not (list_any (has_key r.now.key) rs))
+            × IsWhole (S.told store.new) (S.free store.new) (S.size store.old) self.new (if is_new then put r.now rs else rs)) }
         ensures answer { IfOk result (λ is_new. (rs : List Record) → IsTree (S.told store.old) self.old rs → is_new ≡ not (list_any (has_key r.now.key) rs)) }
-        ensures changes { IfOk result (λ is_new. (rs : List Record) → HasItsPages (S.told store.old) (S.free store.old) self.old rs → self.old.height < count_free (S.free store.old) (S.size store.old) → HasItsPages (S.told store.new) (S.free store.new) self.new (if is_new then put r.now rs else rs)) }
-        ensures same { IfOk result (λ is_new. is_new ≡ false → (self.new ≡ self.old) × (S.told store.new ≡ S.told store.old) × (S.free store.new ≡ S.free store.old)) }
+        ensures changes { IfOk result (λ is_new. (rs : List Record) → HasItsPages (S.told store.old) (S.free store.old) self.old rs
+            → self.old.height < count_free (S.free store.old) (S.size store.old)
+            → HasItsPages (S.told store.new) (S.free store.new) self.new (if is_new then put r.now rs else rs)) }
+        ensures same { IfOk result (λ is_new. is_new ≡ false → (self.new ≡ self.old) × (S.told store.new ≡ S.told store.old)
+            × (S.free store.new ≡ S.free store.old)) }
         ensures unchanged { IfOk result (λ is_new. is_new ≡ false → S.changed store.new ≤ S.changed store.old) }
         ensures count { IfOk result (λ is_new. is_new ≡ true → self.new.records ≡ self.old.records + 1) }
         ensures sound { IfErr result (λ e. (rs : List Record) → IsWhole (S.told store.old) (S.free store.old) (S.size store.old) self.old rs → IsSound e) }
-        ensures goes { IfErr result (λ e. (rs : List Record) → HasItsPages (S.told store.old) (S.free store.old) self.old rs → length rs ≡ self.old.records → self.old.height < count_free (S.free store.old) (S.size store.old) → IsSound e) }
+        ensures goes { IfErr result (λ e. (rs : List Record) → HasItsPages (S.told store.old) (S.free store.old) self.old rs
+            → length rs ≡ self.old.records → self.old.height < count_free (S.free store.old) (S.size store.old) → IsSound e) }
         ensures names { IfErr result (NamesPage (S.size store.old)) }
         ensures cause { HasStopCause (S.faults store.old) (S.faults store.new) result }
         ensures size { S.size store.new ≡ S.size store.old }

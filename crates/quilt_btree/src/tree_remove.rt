@@ -25,14 +25,18 @@ impl Tree {
     pub fn remove<S: PageStore>(&mut self, store: &mut S, k: &Key) -> Result<bool, Stop>
         requires rooted { IsRooted (S.size store.old) self.old }
         ensures rooted { OnOk result (IsRooted (S.size store.old) self.new) }
-        ensures removed { IfOk result (λ is_out. (rs : List Record) → IsWhole (S.told store.old) (S.free store.old) (S.size store.old) self.old rs → (is_out ≡ list_any (has_key k.now) rs) × IsWhole (S.told store.new) (S.free store.new) (S.size store.old) self.new (without k.now rs)) }
+        ensures removed { IfOk result (λ is_out. (rs : List Record) → IsWhole (S.told store.old) (S.free store.old) (S.size store.old) self.old rs
+            → (is_out ≡ list_any (has_key k.now) rs) × IsWhole (S.told store.new) (S.free store.new) (S.size store.old) self.new (without k.now rs)) }
         ensures answer { IfOk result (λ is_out. (rs : List Record) → IsTree (S.told store.old) self.old rs → is_out ≡ list_any (has_key k.now) rs) }
-        ensures changes { IfOk result (λ is_out. (rs : List Record) → HasItsPages (S.told store.old) (S.free store.old) self.old rs → HasItsPages (S.told store.new) (S.free store.new) self.new (without k.now rs)) }
-        ensures same { IfOk result (λ is_out. is_out ≡ false → (self.new ≡ self.old) × (S.told store.new ≡ S.told store.old) × (S.free store.new ≡ S.free store.old)) }
+        ensures changes { IfOk result (λ is_out. (rs : List Record) → HasItsPages (S.told store.old) (S.free store.old) self.old rs
+            → HasItsPages (S.told store.new) (S.free store.new) self.new (without k.now rs)) }
+        ensures same { IfOk result (λ is_out. is_out ≡ false → (self.new ≡ self.old) × (S.told store.new ≡ S.told store.old)
+            × (S.free store.new ≡ S.free store.old)) }
         ensures unchanged { IfOk result (λ is_out. is_out ≡ false → S.changed store.new ≤ S.changed store.old) }
         ensures count { IfOk result (λ is_out. is_out ≡ true → self.new.records + 1 ≡ self.old.records) }
         ensures sound { IfErr result (λ e. (rs : List Record) → IsWhole (S.told store.old) (S.free store.old) (S.size store.old) self.old rs → IsSound e) }
-        ensures goes { IfErr result (λ e. (rs : List Record) → HasItsPages (S.told store.old) (S.free store.old) self.old rs → length rs ≡ self.old.records → IsSound e) }
+        ensures goes { IfErr result (λ e. (rs : List Record) → HasItsPages (S.told store.old) (S.free store.old) self.old rs
+            → length rs ≡ self.old.records → IsSound e) }
         ensures names { IfErr result (NamesPage (S.size store.old)) }
         ensures cause { HasStopCause (S.faults store.old) (S.faults store.new) result }
         ensures size { S.size store.new ≡ S.size store.old }

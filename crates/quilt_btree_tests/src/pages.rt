@@ -126,7 +126,8 @@ fn row(item: u32) -> Record
 fn leaf_from(first: u32, n: u32) -> LeafPage
     requires few { (1 ≤ n) × (n ≤ 144) }
     requires low { first ≤ 1000 }
-    ensures { result ≡ map (λ i. record { key = record { layer = 1; part = 4; code = 0; depth = 0; item = 2 * i }; value = replicate 16 7 }) (range_with_len first n) }
+    ensures { result ≡ map (λ i. record { key = record { layer = 1; part = 4; code = 0; depth = 0; item = 2 * i }; value = replicate 16 7 })
+        (range_with_len first n) }
 {
     let mut leaf = LeafPage::one(&row(2 * first));
     for i in 1..n {
@@ -160,7 +161,11 @@ fn leaf_spelled(first: usize, n: usize) -> [u8; 4096]
 fn inner_from(first: u32, n: u32) -> InnerPage
     requires few { (2 ≤ n) × (n ≤ 254) }
     requires low { first ≤ 1000 }
-    ensures { result ≡ record { height = 2; children = range_with_len (first + 1) n; keys = map (λ i. record { layer = 1; part = 4; code = 0; depth = 0; item = 2 * i }) (range_with_len (first + 1) (n - 1)) } }
+    ensures { result ≡ record {
+      height = 2;
+      children = range_with_len (first + 1) n;
+      keys = map (λ i. record { layer = 1; part = 4; code = 0; depth = 0; item = 2 * i }) (range_with_len (first + 1) (n - 1));
+    } }
 {
     let mut inner = InnerPage::pair(2, first + 1, &key(2 * (first + 1)), first + 2);
     for i in 2..n {

@@ -1,5 +1,6 @@
 -- What lines ask for, and what they hold.
-use Rattle.std.proofs.Common.{◌≡◌, ℕ, zero, suc, ◌^◌, ◌<◌, ◌≤◌, ◌==◌, ◌||◌, not, Bool, true, false, List, [], ◌∷◌, length, map, None, codes, cond, refl, sym, ◌∙◌, ap, subst, arith, inl, inr}
+use Rattle.std.proofs.Common.{◌≡◌, ℕ, zero, suc, ◌^◌, ◌<◌, ◌≤◌, ◌==◌, ◌||◌, not, Bool, true, false, List, [], ◌∷◌, length, map, None, codes, cond, refl, sym}
+use Rattle.std.proofs.Common.{◌∙◌, ap, subst, arith, inl, inr}
 use Rattle.std.specs.List.{list_all}
 use Rattle.std.specs.Str.{bytes_eq}
 use Rattle.std.proofs.lemmas.Slice.Eq.{bytes_eq-Decides}
@@ -11,7 +12,8 @@ use Rattle.quilt_words.specs.declared.item.Item.{Item}
 use Rattle.quilt_words.specs.declared.item.Item.TheVariants.{Long, Line, Rows, PointLines, RingLines}
 use Rattle.quilt_lang.specs.declared.asked.Asked.{Asked}
 use Rattle.quilt_lang.specs.declared.asked.Asked.TheVariants as kinds
-use Rattle.quilt_words.specs.Items.{Group, asked, asked_by, begins_with, held, held_as, is_long, is_plain, listed_by, words_of, rows_of, rows_joined, points_of, points_joined, rings_of, rings_joined}
+use Rattle.quilt_words.specs.Items.{Group, asked, asked_by, begins_with, held, held_as, is_long, is_plain, listed_by, words_of, rows_of, rows_joined, points_of}
+use Rattle.quilt_words.specs.Items.{points_joined, rings_of, rings_joined}
 use Rattle.quilt_lang.specs.Cutting.{IsAsked, grouped, holding}
 use Rattle.quilt_words.proofs.Cases.{bool_cases}
 use Rattle.quilt_lang.proofs.LineLaws.{asked_long}
@@ -22,7 +24,8 @@ pub near_side : (n : ℕ) → n ≤ 63 → 2 ^ n < 2 ^ 64
 near_side n few = let most : 2 ^ n ≤ 2 ^ 63 = pow-le-pow_right {n = 2} (omega arith) {i = n} {j = 63} few in omega (arith, most)
 
 pub far_side : (n k : ℕ) → 63 < n → k < 2 ^ 64 → (k == 2 ^ n) ≡ false
-far_side n k past small = let least : 2 ^ 64 ≤ 2 ^ n = pow-le-pow_right {n = 2} (omega arith) {i = 64} {j = n} (omega (arith, past)) in ne_eqb k (2 ^ n) (λ e. omega (arith, e, least, small))
+far_side n k past small = let least : 2 ^ 64 ≤ 2 ^ n = pow-le-pow_right {n = 2} (omega arith) {i = 64} {j = n} (omega (arith, past)) in
+    ne_eqb k (2 ^ n) (λ e. omega (arith, e, least, small))
 
 -- the words of a raster, and others
 pub asks_rows : (n : ℕ) (ws : List (List ℕ)) → begins_with ws (codes "raster") ≡ true → IsAsked n (asked_by n ws) ws kinds.Rows
@@ -44,14 +47,17 @@ rings_word (w ∷ p ∷ c ∷ k ∷ []) some other = elim (bool_cases (bytes_eq 
 ]
 rings_word (w ∷ p ∷ c ∷ k ∷ l ∷ ws) some other = absurd (omega (arith, some))
 
-pub asks_none : (n : ℕ) (ws : List (List ℕ)) (k : ℕ) → begins_with ws (codes "raster") ≡ false → k ≡ listed_by ws → k ≡ 0 → IsAsked n (asked_by n ws) ws kinds.Nothing
+pub asks_none : (n : ℕ) (ws : List (List ℕ)) (k : ℕ) → begins_with ws (codes "raster") ≡ false → k ≡ listed_by ws → k ≡ 0
+    → IsAsked n (asked_by n ws) ws kinds.Nothing
 asks_none n ws k other is none = record { number = asks_listed n ws other ∙ sym is ∙ none; kind = tt }
 
-pub asks_points : (n : ℕ) (ws : List (List ℕ)) (k : ℕ) → begins_with ws (codes "raster") ≡ false → k ≡ listed_by ws → 0 < k → begins_with ws (codes "scatter") ≡ true →
+pub asks_points : (n : ℕ) (ws : List (List ℕ)) (k : ℕ) → begins_with ws (codes "raster") ≡ false → k ≡ listed_by ws → 0 < k
+    → begins_with ws (codes "scatter") ≡ true →
     IsAsked n (asked_by n ws) ws (kinds.Points k)
 asks_points n ws k other is some first = record { number = asks_listed n ws other ∙ sym is; kind = (some, first) }
 
-pub asks_rings : (n : ℕ) (ws : List (List ℕ)) (k : ℕ) → begins_with ws (codes "raster") ≡ false → k ≡ listed_by ws → 0 < k → begins_with ws (codes "scatter") ≡ false →
+pub asks_rings : (n : ℕ) (ws : List (List ℕ)) (k : ℕ) → begins_with ws (codes "raster") ≡ false → k ≡ listed_by ws → 0 < k
+    → begins_with ws (codes "scatter") ≡ false →
     IsAsked n (asked_by n ws) ws (kinds.Rings k)
 asks_rings n ws k other is some no_list = record { number = asks_listed n ws other ∙ sym is; kind = (some, rings_word ws (omega (arith, is, some)) no_list) }
 
@@ -73,13 +79,15 @@ line_odd n line odd = record {
   kind = tt;
 }
 
-pub line_asks : (n : ℕ) (line : List ℕ) (ws : List (List ℕ)) (what : Asked) → is_long line ≡ false → list_all is_plain line ≡ true → IsAsked n (asked_by n ws) ws what → ws ≡ words_of line →
+pub line_asks : (n : ℕ) (line : List ℕ) (ws : List (List ℕ)) (what : Asked) → is_long line ≡ false → list_all is_plain line ≡ true
+    → IsAsked n (asked_by n ws) ws what → ws ≡ words_of line →
     IsAsked n (asked n line) (words_of line) what
 line_asks n line ws what short plain is same =
     let P : List (List ℕ) → Type 0 = λ (x : List (List ℕ)). IsAsked n (asked_by n x) x what in
     let by : IsAsked n (asked_by n (words_of line)) (words_of line) what = subst P same is in
     record {
-      number = ap (λ (b : Bool). cond {A = ℕ} b 0 (asked_by n (words_of line))) (or_false (is_long line) (not (list_all is_plain line)) short (ap not plain)) ∙ by.number;
+      number = ap (λ (b : Bool). cond {A = ℕ} b 0 (asked_by n (words_of line)))
+          (or_false (is_long line) (not (list_all is_plain line)) short (ap not plain)) ∙ by.number;
       kind = by.kind;
     }
 
@@ -124,16 +132,19 @@ other_word (w ∷ ws) a b first other = let P : List ℕ → Type 0 = λ (x : Li
 as_none : (f n k : ℕ) (group : Group) → k ≡ 0 → held_as f n k group ≡ Line group.line
 as_none f n k group none = ap (λ (x : ℕ). held_as f n x group) none
 
-as_rows : (f n k : ℕ) (group : Group) → 0 < k → begins_with (words_of group.line) (codes "raster") ≡ true → held_as f n k group ≡ Rows group.line (rows_of f n group.more)
+as_rows : (f n k : ℕ) (group : Group) → 0 < k → begins_with (words_of group.line) (codes "raster") ≡ true
+    → held_as f n k group ≡ Rows group.line (rows_of f n group.more)
 as_rows f n zero group some first = absurd (omega (arith, some))
 as_rows f n (suc k) group some first = rw first refl
 
-as_points : (f n k : ℕ) (group : Group) → 0 < k → begins_with (words_of group.line) (codes "raster") ≡ false → begins_with (words_of group.line) (codes "scatter") ≡ true →
+as_points : (f n k : ℕ) (group : Group) → 0 < k → begins_with (words_of group.line) (codes "raster") ≡ false
+    → begins_with (words_of group.line) (codes "scatter") ≡ true →
     held_as f n k group ≡ PointLines group.line (points_of k group.more)
 as_points f n zero group some other first = absurd (omega (arith, some))
 as_points f n (suc k) group some other first = rw (other, first) refl
 
-as_rings : (f n k : ℕ) (group : Group) → 0 < k → begins_with (words_of group.line) (codes "raster") ≡ false → begins_with (words_of group.line) (codes "scatter") ≡ false →
+as_rings : (f n k : ℕ) (group : Group) → 0 < k → begins_with (words_of group.line) (codes "raster") ≡ false
+    → begins_with (words_of group.line) (codes "scatter") ≡ false →
     held_as f n k group ≡ RingLines group.line (rings_of k group.more)
 as_rings f n zero group some other no_list = absurd (omega (arith, some))
 as_rings f n (suc k) group some other no_list = rw (other, no_list) refl
@@ -155,13 +166,15 @@ as_holding f n k group (kinds.Rings m) is =
 pub holds_long : (f n : ℕ) (line : List ℕ) (more : List (List ℕ)) → is_long line ≡ true → Long ≡ held f n (grouped line more)
 holds_long f n line more long = sym (long_item f n (grouped line more) long)
 
-pub holds : (f n : ℕ) (line : List ℕ) (more : List (List ℕ)) (what : Asked) (item : Item) → is_long line ≡ false → IsAsked n (asked n line) (words_of line) what →
+pub holds : (f n : ℕ) (line : List ℕ) (more : List (List ℕ)) (what : Asked) (item : Item) → is_long line ≡ false
+    → IsAsked n (asked n line) (words_of line) what →
     item ≡ holding f n line more what → item ≡ held f n (grouped line more)
 holds f n line more what item short asks is =
     is ∙ sym (short_item f n (grouped line more) short ∙ as_holding f n (asked n line) (grouped line more) what asks)
 
 -- further lines that are all there, and others
-pub rows_all : {X : Type 0} (f n : ℕ) (g : X → List ℕ) (xs : List X) → (length xs == side n) ≡ true → rows_joined f (length xs) (map g xs) ≡ rows_of f n (map g xs)
+pub rows_all : {X : Type 0} (f n : ℕ) (g : X → List ℕ) (xs : List X) → (length xs == side n) ≡ true
+    → rows_joined f (length xs) (map g xs) ≡ rows_of f n (map g xs)
 rows_all f n g xs all =
     let same : length xs ≡ side n = eqb-true (length xs) (side n) all in
     ap (λ (k : ℕ). rows_joined f k (map g xs)) same
@@ -170,8 +183,10 @@ rows_all f n g xs all =
 pub rows_other : {X : Type 0} (f n : ℕ) (g : X → List ℕ) (xs : List X) → (length xs == side n) ≡ false → None ≡ rows_of f n (map g xs)
 rows_other f n g xs other = sym (ap (λ (b : Bool). cond b (rows_joined f (side n) (map g xs)) None) (ap (λ (k : ℕ). k == side n) (length-map xs g) ∙ other))
 
-pub points_some : {X : Type 0} (k : ℕ) (g : X → List ℕ) (xs : List X) (b : Bool) → (length xs == k) ≡ b → points_of k (map g xs) ≡ cond b (points_joined (map g xs)) None
+pub points_some : {X : Type 0} (k : ℕ) (g : X → List ℕ) (xs : List X) (b : Bool) → (length xs == k) ≡ b
+    → points_of k (map g xs) ≡ cond b (points_joined (map g xs)) None
 points_some k g xs b is = ap (λ (x : Bool). cond x (points_joined (map g xs)) None) (ap (λ (m : ℕ). m == k) (length-map xs g) ∙ is)
 
-pub rings_some : {X : Type 0} (k : ℕ) (g : X → List ℕ) (xs : List X) (b : Bool) → (length xs == k) ≡ b → rings_of k (map g xs) ≡ cond b (rings_joined (map g xs)) None
+pub rings_some : {X : Type 0} (k : ℕ) (g : X → List ℕ) (xs : List X) (b : Bool) → (length xs == k) ≡ b
+    → rings_of k (map g xs) ≡ cond b (rings_joined (map g xs)) None
 rings_some k g xs b is = ap (λ (x : Bool). cond x (rings_joined (map g xs)) None) (ap (λ (m : ℕ). m == k) (length-map xs g) ∙ is)

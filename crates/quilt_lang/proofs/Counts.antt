@@ -1,5 +1,6 @@
 -- Lines counted as they come, and bytes that are known to have no newline.
-use Rattle.std.proofs.Common.{◌≡◌, ℕ, ◌+◌, ◌-◌, ◌<◌, ◌≤◌, ◌==◌, ◌||◌, Bool, true, false, List, [], ◌∷◌, ◌++◌, length, take, drop, min, cond, refl, sym, ◌∙◌, ap, subst, arith, append-nil, inl, inr, length-append, length-drop, length-take}
+use Rattle.std.proofs.Common.{◌≡◌, ℕ, ◌+◌, ◌-◌, ◌<◌, ◌≤◌, ◌==◌, ◌||◌, Bool, true, false, List, [], ◌∷◌, ◌++◌, length, take, drop, min, cond, refl, sym, ◌∙◌, ap}
+use Rattle.std.proofs.Common.{subst, arith, append-nil, inl, inr, length-append, length-drop, length-take}
 use Rattle.std.proofs.lemmas.List.{take_all, drop-drop, take-append-le, take-append-drop, length-take-le}
 use Rattle.std.proofs.lemmas.List.Elements.{All-append, All-take}
 use Rattle.std.proofs.Math.Seq.{take-add, drop-append_seam}
@@ -47,13 +48,15 @@ newline_drop rest k at =
 pub cut_some : (text rest : List ℕ) (scanned k : ℕ) → IsUncut scanned text → rest ≡ drop scanned text → HasNewline rest k → HasNewline text (scanned + k)
 cut_some text rest scanned k so same at =
     let left : length rest ≡ length text - scanned = ap length same ∙ length-drop scanned text in
-    let front : take (scanned + k) text ≡ take scanned text ++ take k rest = take-add scanned k text ∙ ap (λ (l : List ℕ). take scanned text ++ take k l) (sym same) in
+    let front : take (scanned + k) text ≡ take scanned text ++ take k rest =
+    take-add scanned k text ∙ ap (λ (l : List ℕ). take scanned text ++ take k l) (sym same) in
     let back : drop (scanned + k) text ≡ 10 ∷ drop (scanned + k + 1) text =
     sym (drop-drop k scanned text) ∙ ap (drop k) (sym same) ∙ newline_drop rest k at ∙ ap (λ (l : List ℕ). 10 ∷ drop (k + 1) l) same
     ∙ ap (λ (l : List ℕ). 10 ∷ l) (drop-drop (k + 1) scanned text ∙ ap (λ (m : ℕ). drop m text) (omega arith)) in
     record {
       within = omega (arith, left, at.within, so.within);
-      before = line_as (take scanned text ++ take k rest) (take (scanned + k) text) (sym front) (line_joined (take scanned text) (take k rest) so.none at.before);
+      before =
+          line_as (take scanned text ++ take k rest) (take (scanned + k) text) (sym front) (line_joined (take scanned text) (take k rest) so.none at.before);
       is = sym (take-append-drop (scanned + k) text) ∙ ap (λ (l : List ℕ). take (scanned + k) text ++ l) back;
     }
 
@@ -68,10 +71,12 @@ take_less : (k m : ℕ) (text : List ℕ) → k ≤ m → k ≤ length text → 
 take_less k m text less within =
     let sum : k + (m - k) ≡ m = omega (arith, less) in
     let size : length (take k text) ≡ k = length-take-le k text within in
-    ap (take k) (ap (λ (x : ℕ). take x text) (sym sum) ∙ take-add k (m - k) text) ∙ take-append-le k (take k text) (take (m - k) (drop k text)) (omega (arith, size))
+    ap (take k) (ap (λ (x : ℕ). take x text) (sym sum) ∙ take-add k (m - k) text)
+    ∙ take-append-le k (take k text) (take (m - k) (drop k text)) (omega (arith, size))
     ∙ take_all k (take k text) (omega (arith, size))
 
-pub uncut_kept : (scanned kept known : ℕ) (rest bytes piece : List ℕ) → IsUncut scanned rest → kept ≤ length rest → known ≡ min scanned kept → bytes ≡ take kept rest ++ piece → IsUncut known bytes
+pub uncut_kept : (scanned kept known : ℕ) (rest bytes piece : List ℕ) → IsUncut scanned rest → kept ≤ length rest → known ≡ min scanned kept
+    → bytes ≡ take kept rest ++ piece → IsUncut known bytes
 uncut_kept scanned kept known rest bytes piece so within least put =
     let low : known ≤ length rest = omega (arith, least, within) in
     let same : take known (take scanned rest) ≡ take known (take kept rest) =
@@ -84,7 +89,8 @@ uncut_kept scanned kept known rest bytes piece so within least put =
     }))
 
 -- a text whose first line is cut
-first_whole : (n line : ℕ) (what : Asked) (text : List ℕ) → IsFirst false n line what text → whole_lines text ≡ take line text ∷ whole_lines (drop (line + 1) text)
+first_whole : (n line : ℕ) (what : Asked) (text : List ℕ) → IsFirst false n line what text
+    → whole_lines text ≡ take line text ∷ whole_lines (drop (line + 1) text)
 first_whole n line what text so = rw (append-nil text, append-nil (drop (line + 1) text)) at (so.cuts.whole refl [])
 
 pub waiting_kept : (n : ℕ) (waiting : Waiting) (text : List ℕ) → IsWaiting false n waiting text → kept_limit text ≡ length text
@@ -103,7 +109,8 @@ count_first most text = record {
   behind = uncut_first text;
 }
 
-pub count_next : (most k : ℕ) (cut : CutLines) (text rest : List ℕ) → IsCount most cut text → (cut.count == most) ≡ false → rest ≡ drop cut.len text → HasNewline rest k →
+pub count_next : (most k : ℕ) (cut : CutLines) (text rest : List ℕ) → IsCount most cut text → (cut.count == most) ≡ false
+    → rest ≡ drop cut.len text → HasNewline rest k →
     IsCount most (record { count = cut.count + 1; len = cut.len + k + 1; scanned = 0 }) text
 count_next most k cut text rest so other same at =
     let new = cut.len + k + 1 in
@@ -117,7 +124,8 @@ count_next most k cut text rest so other same at =
       number = omega (arith, so.number, length-append so.lines (take k rest ∷ []));
       few = omega (arith, so.few, eqb-false cut.count most other);
       short = omega (arith, so.short);
-      cuts = cuts_then false so.lines (take k rest ∷ []) text (drop cut.len text) (drop new text) so.cuts (subst P same (subst Q next (cuts_newline false rest k at)));
+      cuts = cuts_then false so.lines (take k rest ∷ []) text (drop cut.len text) (drop new text) so.cuts
+          (subst P same (subst Q next (cuts_newline false rest k at)));
       behind = uncut_first (drop new text);
     }
 
@@ -127,11 +135,13 @@ count_stops len text rest same none = ap whole_lines (sym same) ∙ whole_none r
 -- so many whole lines stand there
 pub count_there : (most : ℕ) (cut : CutLines) (text : List ℕ) → IsCount most cut text → (cut.count == most) ≡ true → most ≤ length (whole_lines text)
 count_there most cut text so all =
-    let lines : whole_lines text ≡ so.lines ++ whole_lines (drop cut.len text) = rw (append-nil text, append-nil (drop cut.len text)) at (so.cuts.whole refl []) in
+    let lines : whole_lines text ≡ so.lines ++ whole_lines (drop cut.len text) =
+    rw (append-nil text, append-nil (drop cut.len text)) at (so.cuts.whole refl []) in
     omega (arith, ap length lines, length-append so.lines (whole_lines (drop cut.len text)), so.number, eqb-true cut.count most all)
 
 -- and then as many are cut, or the input has ended
-pub lines_there : (e : Bool) (count : ℕ) (taken : List (List ℕ)) (text new : List ℕ) → CutsUpTo e count taken text new → (e ≡ false → count ≤ length (whole_lines text)) →
+pub lines_there : (e : Bool) (count : ℕ) (taken : List (List ℕ)) (text new : List ℕ) → CutsUpTo e count taken text new
+    → (e ≡ false → count ≤ length (whole_lines text)) →
     (e || (length taken == count)) ≡ true
 lines_there true count taken text new more there = refl
 lines_there false count taken text new more there = elim (bool_cases (length taken == count)) [
@@ -144,7 +154,8 @@ lines_there false count taken text new more there = elim (bool_cases (length tak
 ]
 
 -- and where there are fewer, the item waits
-pub count_waits : (n line : ℕ) (what : Asked) (cut : CutLines) (text : List ℕ) → IsFirst false n line what text → IsCount (number_of n what) cut (drop (line + 1) text) →
+pub count_waits : (n line : ℕ) (what : Asked) (cut : CutLines) (text : List ℕ) → IsFirst false n line what text
+    → IsCount (number_of n what) cut (drop (line + 1) text) →
     (cut.count == number_of n what) ≡ false → (cut.count < number_of n what → whole_lines (drop cut.len (drop (line + 1) text)) ≡ []) → HasNone false n text
 count_waits n line what cut text first so other stops =
     let behind : List ℕ = drop (line + 1) text in

@@ -1,5 +1,6 @@
 -- Lines cut from the front of a text, and the items that they are.
-use Rattle.std.proofs.Common.{◌≡◌, ◌≢◌, ℕ, zero, suc, ◌+◌, ◌-◌, ◌<◌, ◌≤◌, ◌==◌, ◌||◌, Bool, true, false, List, [], ◌∷◌, ◌++◌, length, take, drop, map, filter, min, refl, sym, ◌∙◌, ap, subst, arith, append_assoc, append-nil, inl, inr, length-append, length-drop}
+use Rattle.std.proofs.Common.{◌≡◌, ◌≢◌, ℕ, zero, suc, ◌+◌, ◌-◌, ◌<◌, ◌≤◌, ◌==◌, ◌||◌, Bool, true, false, List, [], ◌∷◌, ◌++◌, length, take, drop, map, filter}
+use Rattle.std.proofs.Common.{min, refl, sym, ◌∙◌, ap, subst, arith, append_assoc, append-nil, inl, inr, length-append, length-drop}
 use Rattle.std.proofs.lemmas.List.{drop_all, take_all, drop-drop, take-append-le, length-map, map-append}
 use Rattle.std.proofs.lemmas.Bool.{eqb-true, eqb-false, eq-eqb, ne_eqb}
 use Rattle.quilt_words.specs.declared.item.Item.{Item}
@@ -119,18 +120,21 @@ whole_full : (n : ℕ) (line : List ℕ) (taken : List (List ℕ)) (text rest : 
     whole_lines text ≡ (line ∷ taken) ++ whole_lines rest → whole_items n text ≡ grouped line taken ∷ whole_items n rest
 unfolding whole_items
 whole_full n line taken text rest loud full is =
-    ap (λ (ls : List (List ℕ)). filter (is_complete n) (groups_from n 0 ls)) is ∙ ap (filter (is_complete n)) (group_full n line taken (whole_lines rest) loud full)
+    ap (λ (ls : List (List ℕ)). filter (is_complete n) (groups_from n 0 ls)) is
+    ∙ ap (filter (is_complete n)) (group_full n line taken (whole_lines rest) loud full)
     ∙ complete_full n line taken (groups_from n 0 (whole_lines rest)) full
 
 whole_short : (n : ℕ) (line : List ℕ) (taken : List (List ℕ)) (text : List ℕ) → is_silent line ≡ false → length taken < asked n line →
     whole_lines text ≡ line ∷ taken → whole_items n text ≡ []
 unfolding whole_items
 whole_short n line taken text loud few is =
-    ap (λ (ls : List (List ℕ)). filter (is_complete n) (groups_from n 0 ls)) is ∙ ap (filter (is_complete n)) (group_short n line taken loud (omega (arith, few)))
+    ap (λ (ls : List (List ℕ)). filter (is_complete n) (groups_from n 0 ls)) is
+    ∙ ap (filter (is_complete n)) (group_short n line taken loud (omega (arith, few)))
     ∙ complete_short n line taken few
 
 -- the item of a line that all its further lines follow
-gives_full : (e : Bool) (n : ℕ) (line : List ℕ) (taken : List (List ℕ)) (a b : List ℕ) → is_silent line ≡ false → length taken ≡ asked n line → Cuts e (line ∷ taken) a b →
+gives_full : (e : Bool) (n : ℕ) (line : List ℕ) (taken : List (List ℕ)) (a b : List ℕ) → is_silent line ≡ false → length taken ≡ asked n line
+    → Cuts e (line ∷ taken) a b →
     Gives e n (grouped line taken ∷ []) a b
 gives_full e n line taken a b loud full cuts =
     gives_of e n (grouped line taken ∷ []) a b
@@ -147,11 +151,13 @@ gives_short n line taken a b loud few none cuts =
     (λ open_ v. absurd (let bad : true ≡ false = open_ in cc))
 
 -- a line, and the lines behind it
-both_cuts : (e : Bool) (count : ℕ) (text line behind new : List ℕ) (taken : List (List ℕ)) → Cuts e (line ∷ []) text behind → CutsUpTo e count taken behind new →
+both_cuts : (e : Bool) (count : ℕ) (text line behind new : List ℕ) (taken : List (List ℕ)) → Cuts e (line ∷ []) text behind
+    → CutsUpTo e count taken behind new →
     Cuts e (line ∷ taken) text new
 both_cuts e count text line behind new taken first more = cuts_then e (line ∷ []) taken text behind new first more.cuts
 
-met : (e : Bool) (n k : ℕ) (line : List ℕ) (taken : List (List ℕ)) (text behind new : List ℕ) → is_silent line ≡ false → asked n line ≡ k → Cuts e (line ∷ []) text behind →
+met : (e : Bool) (n k : ℕ) (line : List ℕ) (taken : List (List ℕ)) (text behind new : List ℕ) → is_silent line ≡ false → asked n line ≡ k
+    → Cuts e (line ∷ []) text behind →
     CutsUpTo e k taken behind new → (e || (length taken == k)) ≡ true → Gives e n (grouped line taken ∷ []) text new
 met false n k line taken text behind new loud number first more is =
     gives_full false n line taken text new loud (eqb-true (length taken) k is ∙ sym number) (both_cuts false k text line behind new taken first more)
@@ -163,7 +169,8 @@ met true n k line taken text behind new loud number first more is = elim (bool_c
 ]
 
 -- the item at the front of a text
-pub front_given : (e : Bool) (n f : ℕ) (item : Item) (what : Asked) (line text behind new : List ℕ) (taken : List (List ℕ)) → is_silent line ≡ false → Cuts e (line ∷ []) text behind →
+pub front_given : (e : Bool) (n f : ℕ) (item : Item) (what : Asked) (line text behind new : List ℕ) (taken : List (List ℕ)) → is_silent line ≡ false
+    → Cuts e (line ∷ []) text behind →
     IsAsked n (asked n line) (words_of line) what → CutsUpTo e (number_of n what) taken behind new → (e || (length taken == number_of n what)) ≡ true →
     item ≡ held f n (grouped line taken) → GivesItem e n f item text new
 front_given e n f item what line text behind new taken loud first asks more is holds = record {
@@ -173,14 +180,17 @@ front_given e n f item what line text behind new taken loud first asks more is h
 }
 
 -- and where it waits for further lines
-pub front_none : (e : Bool) (n : ℕ) (what : Asked) (line text behind new : List ℕ) (taken : List (List ℕ)) → is_silent line ≡ false → Cuts e (line ∷ []) text behind →
-    IsAsked n (asked n line) (words_of line) what → CutsUpTo e (number_of n what) taken behind new → (e || (length taken == number_of n what)) ≡ false → HasNone e n text
+pub front_none : (e : Bool) (n : ℕ) (what : Asked) (line text behind new : List ℕ) (taken : List (List ℕ)) → is_silent line ≡ false
+    → Cuts e (line ∷ []) text behind →
+    IsAsked n (asked n line) (words_of line) what → CutsUpTo e (number_of n what) taken behind new
+    → (e || (length taken == number_of n what)) ≡ false → HasNone e n text
 front_none true n what line text behind new taken loud first asks more is = absurd (let bad : true ≡ false = is in cc)
 front_none false n what line text behind new taken loud first asks more is =
     let few : length taken < number_of n what = omega (arith, more.few, eqb-false (length taken) (number_of n what) is) in
     let cuts : Cuts false (line ∷ taken) text new = both_cuts false (number_of n what) text line behind new taken first more in
     let lines : whole_lines text ≡ (line ∷ taken) ++ whole_lines new = rw (append-nil text, append-nil new) at (cuts.whole refl []) in
-    whole_short n line taken text loud (omega (arith, few, asks.number)) (lines ∙ ap (λ (l : List (List ℕ)). (line ∷ taken) ++ l) (more.stops few) ∙ append-nil (line ∷ taken))
+    whole_short n line taken text loud (omega (arith, few, asks.number)) (lines ∙ ap (λ (l : List (List ℕ)). (line ∷ taken) ++ l) (more.stops few)
+    ∙ append-nil (line ∷ taken))
 
 -- so far these lines are cut
 pub record CutSoFar (e : Bool) (count len : ℕ) (lines : List (List ℕ)) (text : List ℕ) : Type 0 where
@@ -192,11 +202,14 @@ pub so_far_first : (e : Bool) (count : ℕ) (text : List ℕ) → CutSoFar e cou
 so_far_first e count text = record { within = omega arith; few = omega arith; cuts = cuts_none e text }
 
 -- with one more, where fewer than all are cut
-so_far_more : (e : Bool) (count len k m new : ℕ) (lines more : List (List ℕ)) (text rest : List ℕ) → CutSoFar e count len lines text → (length lines == count) ≡ false →
-    rest ≡ drop len text → Cuts e (take k rest ∷ []) rest (drop (k + 1) rest) → m ≡ min (length rest) (k + 1) → new ≡ len + m → more ≡ lines ++ take k rest ∷ [] → new ≤ length text →
+so_far_more : (e : Bool) (count len k m new : ℕ) (lines more : List (List ℕ)) (text rest : List ℕ) → CutSoFar e count len lines text
+    → (length lines == count) ≡ false →
+    rest ≡ drop len text → Cuts e (take k rest ∷ []) rest (drop (k + 1) rest) → m ≡ min (length rest) (k + 1) → new ≡ len + m
+    → more ≡ lines ++ take k rest ∷ [] → new ≤ length text →
     CutSoFar e count new more text
 so_far_more e count len k m new lines more text rest so other same cut least sum put within =
-    let next : drop new text ≡ drop (k + 1) rest = ap (λ (x : ℕ). drop x text) sum ∙ sym (drop-drop m len text) ∙ ap (drop m) (sym same) ∙ ap (λ (x : ℕ). drop x rest) least ∙ drop_min (k + 1) rest in
+    let next : drop new text ≡ drop (k + 1) rest =
+    ap (λ (x : ℕ). drop x text) sum ∙ sym (drop-drop m len text) ∙ ap (drop m) (sym same) ∙ ap (λ (x : ℕ). drop x rest) least ∙ drop_min (k + 1) rest in
     let P : List ℕ → Type 0 = λ (t : List ℕ). Cuts e (take k rest ∷ []) t (drop new text) in
     let Q : List ℕ → Type 0 = λ (t : List ℕ). Cuts e (take k rest ∷ []) rest t in
     record {
@@ -205,21 +218,26 @@ so_far_more e count len k m new lines more text rest so other same cut least sum
       cuts = rw put (cuts_then e lines (take k rest ∷ []) text (drop len text) (drop new text) so.cuts (subst P same (subst Q (sym next) cut)));
     }
 
-pub so_far_put : {X : Type 0} (g : X → List ℕ) (e : Bool) (count size len k m : ℕ) (xs ys : List X) (x : X) (text rest : List ℕ) → CutSoFar e count len (map g xs) text →
-    (size == count) ≡ false → size ≡ length xs → rest ≡ drop len text → Cuts e (take k rest ∷ []) rest (drop (k + 1) rest) → m ≡ min (length rest) (k + 1) → ys ≡ xs ++ x ∷ [] →
+pub so_far_put : {X : Type 0} (g : X → List ℕ) (e : Bool) (count size len k m : ℕ) (xs ys : List X) (x : X) (text rest : List ℕ)
+    → CutSoFar e count len (map g xs) text →
+    (size == count) ≡ false → size ≡ length xs → rest ≡ drop len text → Cuts e (take k rest ∷ []) rest (drop (k + 1) rest)
+    → m ≡ min (length rest) (k + 1) → ys ≡ xs ++ x ∷ [] →
     g x ≡ take k rest → CutSoFar e count (len + m) (map g ys) text
 so_far_put g e count size len k m xs ys x text rest so other many same cut least put is =
     let left : length rest ≡ length text - len = ap length same ∙ length-drop len text in
-    so_far_more e count len k m (len + m) (map g xs) (map g ys) text rest so (ap (λ (s : ℕ). s == count) (length-map xs g ∙ sym many) ∙ other) same cut least refl
+    so_far_more e count len k m (len + m) (map g xs) (map g ys) text rest so
+    (ap (λ (s : ℕ). s == count) (length-map xs g ∙ sym many) ∙ other) same cut least refl
     (ap (map g) put ∙ map-append g xs (x ∷ []) ∙ ap (λ (l : List ℕ). map g xs ++ l ∷ []) is)
     (omega (arith, left, least, so.within))
 
-pub so_far_smaller : (text rest : List ℕ) (len k m : ℕ) → rest ≡ drop len text → 0 < length rest → m ≡ min (length rest) (k + 1) → length text - (len + m) < length text - len
+pub so_far_smaller : (text rest : List ℕ) (len k m : ℕ) → rest ≡ drop len text → 0 < length rest → m ≡ min (length rest) (k + 1)
+    → length text - (len + m) < length text - len
 so_far_smaller text rest len k m same some least =
     let left : length rest ≡ length text - len = ap length same ∙ length-drop len text in
     omega (arith, left, some, least)
 
-pub so_far_all : {X : Type 0} (g : X → List ℕ) (e : Bool) (count size len : ℕ) (xs : List X) (text : List ℕ) → CutSoFar e count len (map g xs) text → (size == count) ≡ true → size ≡ length xs →
+pub so_far_all : {X : Type 0} (g : X → List ℕ) (e : Bool) (count size len : ℕ) (xs : List X) (text : List ℕ) → CutSoFar e count len (map g xs) text
+    → (size == count) ≡ true → size ≡ length xs →
     CutsUpTo e count (map g xs) text (drop len text)
 so_far_all g e count size len xs text so all many = record {
   cuts = so.cuts;
@@ -227,7 +245,8 @@ so_far_all g e count size len xs text so all many = record {
   stops = λ few. absurd (omega (arith, few, length-map xs g, many, eqb-true size count all));
 }
 
-pub so_far_end : (e : Bool) (count len : ℕ) (lines : List (List ℕ)) (text rest : List ℕ) → CutSoFar e count len lines text → rest ≡ drop len text → HasNoLine e rest →
+pub so_far_end : (e : Bool) (count len : ℕ) (lines : List (List ℕ)) (text rest : List ℕ) → CutSoFar e count len lines text
+    → rest ≡ drop len text → HasNoLine e rest →
     CutsUpTo e count lines text (drop len text)
 so_far_end e count len lines text rest so same none = record {
   cuts = so.cuts;
@@ -241,7 +260,8 @@ from_behind text k m least = behind m text ∙ ap (λ (x : ℕ). drop x text) le
 
 -- the lines behind it
 pub lines_behind : (e : Bool) (count : ℕ) (taken : List (List ℕ)) (text : List ℕ) (k m len : ℕ) → m ≡ min (length text) (k + 1) →
-    CutsUpTo e count taken (take (length text - m) (drop m text)) (drop len (take (length text - m) (drop m text))) → CutsUpTo e count taken (drop (k + 1) text) (drop (m + len) text)
+    CutsUpTo e count taken (take (length text - m) (drop m text)) (drop len (take (length text - m) (drop m text)))
+    → CutsUpTo e count taken (drop (k + 1) text) (drop (m + len) text)
 lines_behind e count taken text k m len least is =
     let P : List ℕ → Type 0 = λ (u : List ℕ). CutsUpTo e count taken u (drop (m + len) text) in
     let Q : List ℕ → Type 0 = λ (u : List ℕ). CutsUpTo e count taken (take (length text - m) (drop m text)) u in

@@ -1,5 +1,7 @@
 -- Lists that are read a part at a time, and are nothing where a part is.
-use Rattle.std.proofs.Common.{◌≡◌, ◌≢◌, ◌%◌, ◌==◌, IfSome, ℕ, suc, ◌+◌, ◌*◌, ◌<◌, ◌≤◌, Bool, true, false, nat_le, List, [], ◌∷◌, ◌++◌, length, map, drop, get_or, Option, Some, None, option_map, option_and_then, if◌then◌else◌, cond, refl, sym, ◌∙◌, ap, arith, append_assoc, append-nil, drop-cons}
+use Rattle.std.proofs.Common.{◌≡◌, ◌≢◌, ◌%◌, ◌==◌, IfSome, ℕ, suc, ◌+◌, ◌*◌, ◌<◌, ◌≤◌, Bool, true, false, nat_le, List, [], ◌∷◌, ◌++◌, length, map, drop}
+use Rattle.std.proofs.Common.{get_or, Option, Some, None, option_map, option_and_then, if◌then◌else◌, cond, refl, sym, ◌∙◌, ap, arith, append_assoc, append-nil}
+use Rattle.std.proofs.Common.{drop-cons}
 use Rattle.std.proofs.lemmas.List.{drop_all, length-map}
 use Rattle.quilt_types.specs.declared.plane.Point.{Point}
 use Rattle.quilt_types.specs.declared.plane.Corner.{Corner}
@@ -12,7 +14,8 @@ use Rattle.quilt_words.specs.Spelling.{number, row}
 abbrev pub before : {A : Type 0} → Option (List A) → Option (List A) → Option (List A)
 before first others = option_and_then (λ b. option_map (λ r. b ++ r) others) first
 
-onto_more : {A : Type 0} (got b : List A) (others : Option (List A)) → option_map (λ r. got ++ r) (before (Some b) others) ≡ option_map (λ r. (got ++ b) ++ r) others
+onto_more : {A : Type 0} (got b : List A) (others : Option (List A))
+    → option_map (λ r. got ++ r) (before (Some b) others) ≡ option_map (λ r. (got ++ b) ++ r) others
 onto_more got b None = refl
 onto_more got b (Some r) = ap Some (sym (append_assoc got b r))
 
@@ -42,7 +45,8 @@ pub points_none : {X : Type 0} (g : X → List ℕ) (xs : List X) → PointsSoFa
 points_none g xs = some_same (points_joined (map g xs))
 
 points_at : {X : Type 0} (g : X → List ℕ) (xs : List X) (i : ℕ) (d : X) (got : List Point) → i < length xs → PointsSoFar g xs i got →
-    points_joined (map g xs) ≡ option_map (λ r. got ++ r) (before (option_map (λ q. q ∷ []) (one_point (g (get_or xs i d)))) (points_joined (map g (drop (suc i) xs))))
+    points_joined (map g xs)
+    ≡ option_map (λ r. got ++ r) (before (option_map (λ q. q ∷ []) (one_point (g (get_or xs i d)))) (points_joined (map g (drop (suc i) xs))))
 points_at g xs i d got within so =
     so ∙ ap (λ ys. option_map (λ r. got ++ r) (points_joined (map g ys))) (drop-cons xs i d within)
     ∙ ap (option_map (λ r. got ++ r)) (points_next (g (get_or xs i d)) (map g (drop (suc i) xs)))
@@ -63,7 +67,8 @@ points_fail g xs i d got within so is =
     (points_at g xs i d got within so
     ∙ ap (λ (o : Option Point). option_map (λ r. got ++ r) (before (option_map (λ q. q ∷ []) o) (points_joined (map g (drop (suc i) xs))))) (sym is))
 
-pub points_end : {X : Type 0} (g : X → List ℕ) (xs : List X) (i : ℕ) (got : List Point) → length xs ≤ i → PointsSoFar g xs i got → Some got ≡ points_joined (map g xs)
+pub points_end : {X : Type 0} (g : X → List ℕ) (xs : List X) (i : ℕ) (got : List Point) → length xs ≤ i → PointsSoFar g xs i got
+    → Some got ≡ points_joined (map g xs)
 points_end g xs i got past so = sym (so ∙ ap (λ ys. option_map (λ r. got ++ r) (points_joined (map g ys))) (drop_all i xs past) ∙ ap Some (append-nil got))
 
 -- the bytes of a row
@@ -78,11 +83,13 @@ pub bytes_none : (line : List ℕ) → BytesSoFar line 0 []
 bytes_none line = some_same (row line)
 
 bytes_at : (line : List ℕ) (i j k : ℕ) (r : Option ℕ) (got : List ℕ) → j ≡ suc i → k ≡ suc j → j < length line → BytesSoFar line i got →
-    ((rest : List ℕ) → row (get_or line i 0 ∷ get_or line j 0 ∷ rest) ≡ with_byte r (row rest)) → row line ≡ option_map (λ x. got ++ x) (with_byte r (row (drop k line)))
+    ((rest : List ℕ) → row (get_or line i 0 ∷ get_or line j 0 ∷ rest) ≡ with_byte r (row rest))
+    → row line ≡ option_map (λ x. got ++ x) (with_byte r (row (drop k line)))
 bytes_at line i j k r got second third within so is =
     let low : i < length line = omega (arith, within, second) in
     let next : drop (suc i) line ≡ get_or line j 0 ∷ drop k line = rw (sym second, third) (drop-cons line j 0 within) in
-    so ∙ ap (λ l. option_map (λ x. got ++ x) (row l)) (drop-cons line i 0 low ∙ ap (λ l. get_or line i 0 ∷ l) next) ∙ ap (option_map (λ x. got ++ x)) (is (drop k line))
+    so ∙ ap (λ l. option_map (λ x. got ++ x) (row l)) (drop-cons line i 0 low ∙ ap (λ l. get_or line i 0 ∷ l) next)
+    ∙ ap (option_map (λ x. got ++ x)) (is (drop k line))
 
 pub bytes_more : (line : List ℕ) (i b : ℕ) (got : List ℕ) → i + 1 < length line → BytesSoFar line i got →
     ((rest : List ℕ) → row (get_or line i 0 ∷ get_or line (i + 1) 0 ∷ rest) ≡ with_byte (Some b) (row rest)) → BytesSoFar line (i + 2) (got ++ b ∷ [])
@@ -102,7 +109,8 @@ abbrev pub one_row : ℕ → ℕ → List ℕ → Option (List ℕ)
 one_row f width line = if length line == 2 * f * width then option_map (colour_bytes f) (row line) else None
 
 either_row : (f : ℕ) (b : Bool) (r others : Option (List ℕ)) →
-    cond b (option_and_then (λ bytes. option_map (λ rest. colour_bytes f bytes ++ rest) others) r) None ≡ before (cond b (option_map (colour_bytes f) r) None) others
+    cond b (option_and_then (λ bytes. option_map (λ rest. colour_bytes f bytes ++ rest) others) r) None
+    ≡ before (cond b (option_map (colour_bytes f) r) None) others
 either_row f true None others = refl
 either_row f true (Some r) others = refl
 either_row f false r others = refl
@@ -139,7 +147,8 @@ rows_fail f width g xs i d got within so is =
 
 pub rows_end : {X : Type 0} (f width : ℕ) (g : X → List ℕ) (xs : List X) (i : ℕ) (got : List ℕ) → length xs ≤ i → RowsSoFar f width g xs i got →
     Some got ≡ rows_joined f width (map g xs)
-rows_end f width g xs i got past so = sym (so ∙ ap (λ ys. option_map (λ r. got ++ r) (rows_joined f width (map g ys))) (drop_all i xs past) ∙ ap Some (append-nil got))
+rows_end f width g xs i got past so =
+    sym (so ∙ ap (λ ys. option_map (λ r. got ++ r) (rows_joined f width (map g ys))) (drop_all i xs past) ∙ ap Some (append-nil got))
 
 -- the corner that two words spell
 abbrev pub one_corner : List ℕ → List ℕ → Option Corner
@@ -149,7 +158,8 @@ one_corner x y = corner_of (number 0 65535 x) (number 0 65535 y)
 abbrev pub corner_before : Option Corner → Option (List Corner) → Option (List Corner)
 corner_before first others = option_and_then (λ c. option_map (λ cs. c ∷ cs) others) first
 
-corner_onto : (got : List Corner) (c : Corner) (r : Option (List Corner)) → option_map (λ x. got ++ x) (corner_before (Some c) r) ≡ option_map (λ x. (got ++ c ∷ []) ++ x) r
+corner_onto : (got : List Corner) (c : Corner) (r : Option (List Corner))
+    → option_map (λ x. got ++ x) (corner_before (Some c) r) ≡ option_map (λ x. (got ++ c ∷ []) ++ x) r
 corner_onto got c None = refl
 corner_onto got c (Some r) = ap Some (sym (append_assoc got (c ∷ []) r))
 
@@ -160,7 +170,8 @@ CornersSoFar g xs i got = corners_of (map g xs) ≡ option_map (λ r. got ++ r) 
 pub corners_none : {X : Type 0} (g : X → List ℕ) (xs : List X) → CornersSoFar g xs 0 []
 corners_none g xs = some_same (corners_of (map g xs))
 
-corners_at : {X : Type 0} (g : X → List ℕ) (xs : List X) (i j k : ℕ) (d : X) (got : List Corner) → j ≡ suc i → k ≡ suc j → j < length xs → CornersSoFar g xs i got →
+corners_at : {X : Type 0} (g : X → List ℕ) (xs : List X) (i j k : ℕ) (d : X) (got : List Corner) → j ≡ suc i → k ≡ suc j → j < length xs
+    → CornersSoFar g xs i got →
     corners_of (map g xs) ≡ option_map (λ r. got ++ r) (corner_before (one_corner (g (get_or xs i d)) (g (get_or xs j d))) (corners_of (map g (drop k xs))))
 corners_at g xs i j k d got second third within so =
     let low : i < length xs = omega (arith, within, second) in
@@ -196,12 +207,14 @@ pub rings_none : {X : Type 0} (g : X → List ℕ) (xs : List X) → RingsSoFar 
 rings_none g xs = some_same (rings_joined (map g xs))
 
 rings_at : {X : Type 0} (g : X → List ℕ) (xs : List X) (i : ℕ) (d : X) (got : List (List Corner)) → i < length xs → RingsSoFar g xs i got →
-    rings_joined (map g xs) ≡ option_map (λ r. got ++ r) (before (option_map (λ q. q ∷ []) (ring_of (g (get_or xs i d)))) (rings_joined (map g (drop (suc i) xs))))
+    rings_joined (map g xs)
+    ≡ option_map (λ r. got ++ r) (before (option_map (λ q. q ∷ []) (ring_of (g (get_or xs i d)))) (rings_joined (map g (drop (suc i) xs))))
 rings_at g xs i d got within so =
     so ∙ ap (λ ys. option_map (λ r. got ++ r) (rings_joined (map g ys))) (drop-cons xs i d within)
     ∙ ap (option_map (λ r. got ++ r)) (ring_before (ring_of (g (get_or xs i d))) (rings_joined (map g (drop (suc i) xs))))
 
-pub rings_more : {X : Type 0} (g : X → List ℕ) (xs : List X) (i : ℕ) (d : X) (got : List (List Corner)) (ring : List Corner) → i < length xs → RingsSoFar g xs i got →
+pub rings_more : {X : Type 0} (g : X → List ℕ) (xs : List X) (i : ℕ) (d : X) (got : List (List Corner)) (ring : List Corner)
+    → i < length xs → RingsSoFar g xs i got →
     Some ring ≡ ring_of (g (get_or xs i d)) → RingsSoFar g xs (i + 1) (got ++ ring ∷ [])
 rings_more g xs i d got ring within so is =
     let next : i + 1 ≡ suc i = omega arith in
@@ -217,5 +230,6 @@ rings_fail g xs i d got within so is =
     (rings_at g xs i d got within so
     ∙ ap (λ (o : Option (List Corner)). option_map (λ r. got ++ r) (before (option_map (λ q. q ∷ []) o) (rings_joined (map g (drop (suc i) xs))))) (sym is))
 
-pub rings_end : {X : Type 0} (g : X → List ℕ) (xs : List X) (i : ℕ) (got : List (List Corner)) → length xs ≤ i → RingsSoFar g xs i got → Some got ≡ rings_joined (map g xs)
+pub rings_end : {X : Type 0} (g : X → List ℕ) (xs : List X) (i : ℕ) (got : List (List Corner)) → length xs ≤ i → RingsSoFar g xs i got
+    → Some got ≡ rings_joined (map g xs)
 rings_end g xs i got past so = sym (so ∙ ap (λ ys. option_map (λ r. got ++ r) (rings_joined (map g ys))) (drop_all i xs past) ∙ ap Some (append-nil got))

@@ -2,7 +2,8 @@
 use Rattle.std.proofs.Common.{◌≡◌, ℕ, ◌+◌, Bool, true, false, ◌==◌, ◌||◌, not, List, [], ◌∷◌, ◌++◌, length, take, filter, refl, ◌∙◌, ap, arith, cond}
 use Rattle.std.specs.List.{slice_split, list_all}
 use Rattle.std.proofs.lemmas.List.Splits.{slice_split_at, slice_split_none, length-slice_split}
-use Rattle.quilt_words.specs.Items.{Group, is_long, is_plain, is_silent, asked, asked_by, is_complete, lines_of, without_empty_end, without_last, whole_lines, groups_from, items_of, whole_items, words_of}
+use Rattle.quilt_words.specs.Items.{Group, is_long, is_plain, is_silent, asked, asked_by, is_complete, lines_of, without_empty_end, without_last, whole_lines}
+use Rattle.quilt_words.specs.Items.{groups_from, items_of, whole_items, words_of}
 use Rattle.quilt_lang.specs.Reading.{IsLine, alone, begins_silent, first_is_silent}
 use Rattle.quilt_lang.specs.Cutting.{grouped}
 
@@ -65,7 +66,8 @@ pub silent_next : (n : ℕ) (line v : List ℕ) → IsLine line → is_silent li
 unfolding items_of
 silent_next n line v none silent = rw (lines_line line v none) ((groups_silent n line (lines_of v) silent))
 
-pub complete_first : (n : ℕ) (line : List ℕ) (is : List Group) → asked n line ≡ 0 → filter (is_complete n) (alone line ∷ is) ≡ alone line ∷ filter (is_complete n) is
+pub complete_first : (n : ℕ) (line : List ℕ) (is : List Group) → asked n line ≡ 0
+    → filter (is_complete n) (alone line ∷ is) ≡ alone line ∷ filter (is_complete n) is
 complete_first n line is none = rw none refl
 
 pub whole_silent_next : (n : ℕ) (line v : List ℕ) → IsLine line → is_silent line ≡ true → whole_items n (line ++ 10 ∷ v) ≡ whole_items n v

@@ -1,5 +1,6 @@
 -- What a text gives, line by line and piece by piece.
-use Rattle.std.proofs.Common.{◌≡◌, ℕ, min, nat_lt, subst, inl, inr, ◌+◌, ◌<◌, ◌≤◌, Bool, true, false, List, [], ◌∷◌, ◌++◌, length, take, drop, refl, sym, ◌∙◌, ap, arith, append_assoc, map}
+use Rattle.std.proofs.Common.{◌≡◌, ℕ, min, nat_lt, subst, inl, inr, ◌+◌, ◌<◌, ◌≤◌, Bool, true, false, List, [], ◌∷◌, ◌++◌, length, take, drop, refl, sym, ◌∙◌}
+use Rattle.std.proofs.Common.{ap, arith, append_assoc, map}
 use Rattle.std.proofs.lemmas.List.{drop_all, drop-drop}
 use Rattle.std.proofs.lemmas.Bool.{ltb-true, ltb-false}
 use Rattle.quilt_words.specs.declared.item.Item.{Item}
@@ -28,8 +29,10 @@ gives_none e n a = record { all = λ v may f. refl; whole = λ open_ v f. refl }
 
 pub gives_then : (e : Bool) (n : ℕ) (g h : List Group) (a b c : List ℕ) → Gives e n g a b → Gives e n h b c → Gives e n (g ++ h) a c
 gives_then e n g h a b c first second = record {
-  all = λ v may. same_then n _ _ _ (first.all v may) (same_then n _ _ _ (same_onto n g _ _ (second.all v may)) (same_is n _ _ (sym (append_assoc g h (items_of n (c ++ v))))));
-  whole = λ open_ v. same_then n _ _ _ (first.whole open_ v) (same_then n _ _ _ (same_onto n g _ _ (second.whole open_ v)) (same_is n _ _ (sym (append_assoc g h (whole_items n (c ++ v))))));
+  all = λ v may. same_then n _ _ _ (first.all v may)
+      (same_then n _ _ _ (same_onto n g _ _ (second.all v may)) (same_is n _ _ (sym (append_assoc g h (items_of n (c ++ v))))));
+  whole = λ open_ v. same_then n _ _ _ (first.whole open_ v)
+      (same_then n _ _ _ (same_onto n g _ _ (second.whole open_ v)) (same_is n _ _ (sym (append_assoc g h (whole_items n (c ++ v))))));
 }
 
 -- from equations of lists of lines
@@ -92,5 +95,6 @@ given e f s i bytes behind from m j rest one back silent =
     record {
       group = one.group;
       is = one.is;
-      gives = gives_then e n (one.group ∷ []) [] s.rest behind (drop (from + m + j) bytes) (subst Q (sym same) one.gives) (gives_ended e n [] behind (drop (from + m + j) bytes) (subst R new (silent n)));
+      gives = gives_then e n (one.group ∷ []) [] s.rest behind (drop (from + m + j) bytes) (subst Q (sym same) one.gives)
+          (gives_ended e n [] behind (drop (from + m + j) bytes) (subst R new (silent n)));
     }

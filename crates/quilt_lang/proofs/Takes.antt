@@ -10,7 +10,8 @@ use Rattle.quilt_lang.proofs.Pieces.{gives_none, gives_then, gives_fed, same_the
 pub gave_none : (e : Bool) (f : ℕ) (s : Unread) (before : List Item) → Gave e f s s before before
 gave_none e f s before = record { level = refl; items = []; gives = gives_none e s.level s.rest; put = sym (append-nil before) }
 
-pub gave_next : (e : Bool) (f : ℕ) (s t u : Unread) (before after : List Item) (i : Item) → Gave e f s t before after → u.level ≡ t.level → GivesItem e t.level f i t.rest u.rest →
+pub gave_next : (e : Bool) (f : ℕ) (s t u : Unread) (before after : List Item) (i : Item) → Gave e f s t before after → u.level ≡ t.level
+    → GivesItem e t.level f i t.rest u.rest →
     Gave e f s u before (after ++ i ∷ [])
 gave_next e f s t u before after i so same next =
     let n = s.level in
@@ -23,7 +24,8 @@ gave_next e f s t u before after i so same next =
       gives = gives_then e n so.items (next.group ∷ []) s.rest t.rest u.rest so.gives (subst P so.level next.gives);
       put =
           ap (λ (l : List Item). l ++ i ∷ []) so.put ∙ append_assoc before (map (held f n) so.items) (i ∷ [])
-          ∙ ap (λ (l : List Item). before ++ l) (ap (λ (x : Item). map (held f n) so.items ++ x ∷ []) is ∙ sym (map-append (held f n) so.items (next.group ∷ [])));
+          ∙ ap (λ (l : List Item). before ++ l)
+          (ap (λ (x : Item). map (held f n) so.items ++ x ∷ []) is ∙ sym (map-append (held f n) so.items (next.group ∷ [])));
     }
 
 -- with each item there are fewer
@@ -85,9 +87,11 @@ all_of_it n f s u before after bytes so took =
     let first : Same n (items_of n bytes) (so.groups ++ items_of n s.rest) = rw (append-nil bytes, append-nil s.rest) at (so.gives.all [] tt) in
     let gave : Gives true n groups s.rest u.rest = subst P so.level took.gave.gives in
     let second : Same n (items_of n s.rest) (groups ++ items_of n u.rest) = rw (append-nil s.rest, append-nil u.rest) at (gave.all [] refl) in
-    let behind : Same n (items_of n s.rest) groups = λ g. second g ∙ ap (λ (l : List Group). map (held g n) (groups ++ l)) none ∙ ap (map (held g n)) (append-nil groups) in
+    let behind : Same n (items_of n s.rest) groups =
+    λ g. second g ∙ ap (λ (l : List Group). map (held g n) (groups ++ l)) none ∙ ap (map (held g n)) (append-nil groups) in
     subst R so.level took.gave.put ∙ ap (λ (l : List Item). l ++ map (held f n) groups) so.are ∙ sym (map-append (held f n) so.groups groups)
-    ∙ sym (same_then n (items_of n bytes) (so.groups ++ items_of n s.rest) (so.groups ++ groups) first (same_onto n so.groups (items_of n s.rest) groups behind) f)
+    ∙ sym (same_then n (items_of n bytes) (so.groups ++ items_of n s.rest) (so.groups ++ groups) first
+    (same_onto n so.groups (items_of n s.rest) groups behind) f)
 
 -- where no whole item is left, those given are the whole items, and stand at the front whatever follows
 pub whole_of_it : (n f : ℕ) (s : Unread) (items : List Item) (bytes : List ℕ) → SoFar n f s items bytes → items ≡ map (held f n) (whole_items n bytes)
@@ -95,8 +99,10 @@ whole_of_it n f s items bytes so =
     let whole : Same n (whole_items n bytes) (so.groups ++ whole_items n s.rest) = rw (append-nil bytes, append-nil s.rest) at (so.gives.whole refl []) in
     so.are ∙ sym (whole f ∙ ap (λ (l : List Group). map (held f n) (so.groups ++ l)) so.none ∙ ap (map (held f n)) (append-nil so.groups))
 
-pub front_of_it : (n f : ℕ) (s : Unread) (items : List Item) (bytes v : List ℕ) → SoFar n f s items bytes → BeginWith (map (held f n) (items_of n (bytes ++ v))) items
+pub front_of_it : (n f : ℕ) (s : Unread) (items : List Item) (bytes v : List ℕ) → SoFar n f s items bytes
+    → BeginWith (map (held f n) (items_of n (bytes ++ v))) items
 front_of_it n f s items bytes v so = (
   map (held f n) (items_of n (s.rest ++ v)),
-  so.gives.all v tt f ∙ map-append (held f n) so.groups (items_of n (s.rest ++ v)) ∙ ap (λ (l : List Item). l ++ map (held f n) (items_of n (s.rest ++ v))) (sym so.are),
+  so.gives.all v tt f ∙ map-append (held f n) so.groups (items_of n (s.rest ++ v))
+      ∙ ap (λ (l : List Item). l ++ map (held f n) (items_of n (s.rest ++ v))) (sym so.are),
 )

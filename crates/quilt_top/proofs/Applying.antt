@@ -1,5 +1,6 @@
 -- What applying the command of an item does, and putting its reply.
-use Rattle.std.proofs.Common.{◌≡◌, inl, inr, ℕ, ◌+◌, ◌*◌, true, List, [], ◌++◌, Option, Some, None, is_some, Result, Ok, Err, refl, sym, ◌∙◌, ap, subst, arith, append_assoc, append-nil}
+use Rattle.std.proofs.Common.{◌≡◌, inl, inr, ℕ, ◌+◌, ◌*◌, true, List, [], ◌++◌, Option, Some, None, is_some, Result, Ok, Err, refl, sym, ◌∙◌, ap, subst, arith}
+use Rattle.std.proofs.Common.{append_assoc, append-nil}
 use Rattle.std.specs.Option.{IfSome}
 use Rattle.quilt_types.specs.declared.code.Code.{Code}
 use Rattle.quilt_world.specs.Added.{AddsOnly, is_of_pages, is_of_text}
@@ -28,12 +29,14 @@ use Rattle.quilt_top.proofs.Said.{says_nothing}
 
 -- ---- what a session stands for, in its tale
 
-pub leaves_told : {W : Type 0} {D : disk.Ghosts W} (session : Session W D) (s : State) → IsAt session s → IfSome (D.told (world_of session)) (λ t. LeavesNow t (λ image. Stands image s.last))
+pub leaves_told : {W : Type 0} {D : disk.Ghosts W} (session : Session W D) (s : State) → IsAt session s
+    → IfSome (D.told (world_of session)) (λ t. LeavesNow t (λ image. Stands image s.last))
 leaves_told {D = D} session s at =
     let told = at_told session s at in
     subst (λ (o : Option Tale). IfSome o (λ t. LeavesNow t (λ image. Stands image s.last))) (sym told.1) told.2
 
-pub seen_told : {W : Type 0} {D : disk.Ghosts W} (session : Session W D) (s : State) → IsAt session s → IfSome (D.told (world_of session)) (λ t. Stands t.seen s.last)
+pub seen_told : {W : Type 0} {D : disk.Ghosts W} (session : Session W D) (s : State) → IsAt session s
+    → IfSome (D.told (world_of session)) (λ t. Stands t.seen s.last)
 seen_told {D = D} session s at =
     let told = at_told session s at in subst (λ (o : Option Tale). IfSome o (λ t. Stands t.seen s.last)) (sym told.1) told.3
 
@@ -50,14 +53,17 @@ applies_none s item c t leaves = record {
 }
 
 -- where no command is applied
-pub applies_nothing : (s : State) (item : Item) (c : ℕ) (o : Option Tale) → IfSome o (λ t. LeavesNow t (λ image. Stands image s.last)) → Goes (Applies s item c) o o
+pub applies_nothing : (s : State) (item : Item) (c : ℕ) (o : Option Tale) → IfSome o (λ t. LeavesNow t (λ image. Stands image s.last))
+    → Goes (Applies s item c) o o
 applies_nothing s item c None leaves = tt
 applies_nothing s item c (Some t) leaves = applies_none s item c t leaves
 
-new_as : (s : State) (r q : Result Command Code) (image : Pages) → q ≡ r → StandsForNew (outcome_of s r).published image → StandsForNew (outcome_of s q).published image
+new_as : (s : State) (r q : Result Command Code) (image : Pages) → q ≡ r → StandsForNew (outcome_of s r).published image
+    → StandsForNew (outcome_of s q).published image
 new_as s r q image is stands = subst (λ (p : Result Command Code). StandsForNew (outcome_of s p).published image) (sym is) stands
 
-applies_one : (s : State) (item : Item) (command : Command) (c : ℕ) (t u : Tale) → form s.last.format item ≡ Ok command → AddsOnly is_of_pages t u → Leaves s command t u → WritesFew s command c t u → Applies s item c t u
+applies_one : (s : State) (item : Item) (command : Command) (c : ℕ) (t u : Tale) → form s.last.format item ≡ Ok command → AddsOnly is_of_pages t u
+    → Leaves s command t u → WritesFew s command c t u → Applies s item c t u
 applies_one s item command c t u is pages leaves few = record {
   pages = pages;
   stops = since_weaker t u (StandsFor s command) (StandsForItem s item) leaves.since (λ image stands. elim stands [
@@ -67,7 +73,8 @@ applies_one s item command c t u is pages leaves few = record {
   few = λ some. few (subst (λ (r : Result Command Code). is_some (outcome_of s r).published ≡ true) is some);
 }
 
-pub applies_command : (s : State) (item : Item) (command : Command) (c : ℕ) (o n : Option Tale) → form s.last.format item ≡ Ok command → Goes (AddsOnly is_of_pages) o n → Goes (Leaves s command) o n → Goes (WritesFew s command c) o n
+pub applies_command : (s : State) (item : Item) (command : Command) (c : ℕ) (o n : Option Tale) → form s.last.format item ≡ Ok command
+    → Goes (AddsOnly is_of_pages) o n → Goes (Leaves s command) o n → Goes (WritesFew s command c) o n
     → Goes (Applies s item c) o n
 applies_command s item command c None None is pages leaves few = tt
 applies_command s item command c None (Some u) is pages leaves few = pages
@@ -80,7 +87,8 @@ pub changes_no : (s : State) (item : Item) (code : Code) (c : ℕ) → form s.la
 unfolding changes_then
 changes_no s item code c is = ap (λ (r : Result Command Code). changes_by s r c) is
 
-pub changes_is : (s : State) (item : Item) (command : Command) (c : ℕ) → form s.last.format item ≡ Ok command → changes_then s item c ≡ changes_by s (Ok command) c
+pub changes_is : (s : State) (item : Item) (command : Command) (c : ℕ) → form s.last.format item ≡ Ok command
+    → changes_then s item c ≡ changes_by s (Ok command) c
 unfolding changes_then
 changes_is s item command c is = ap (λ (r : Result Command Code). changes_by s r c) is
 
@@ -95,16 +103,19 @@ none_put s item c t u applies = record {
 }
 
 -- these bytes are put
-pub answers_put : (s : State) (item : Item) (c : ℕ) (said : List ℕ) (o m n : Option Tale) → Goes (Applies s item c) o m → IfSome m (λ t. LeavesNow t (λ image. Stands image (state_then s item).last))
+pub answers_put : (s : State) (item : Item) (c : ℕ) (said : List ℕ) (o m n : Option Tale) → Goes (Applies s item c) o m
+    → IfSome m (λ t. LeavesNow t (λ image. Stands image (state_then s item).last))
     → Goes (Says said) m n → Goes (AddsOnly is_of_text) m n → Goes (Answers s item c said) o n
 answers_put s item c said None None None applies leaves says text = tt
 answers_put s item c said None None (Some v) applies leaves says text = says
 answers_put s item c said None (Some u) n applies leaves says text = absurd applies
 answers_put s item c said (Some t) None n applies leaves says text = absurd applies
 answers_put s item c said (Some t) (Some u) None applies leaves says text = says
-answers_put s item c said (Some t) (Some u) (Some v) applies leaves says text = record { middle = u; applies = applies; left = λ some. leaves; says = says; text = text }
+answers_put s item c said (Some t) (Some u) (Some v) applies leaves says text =
+    record { middle = u; applies = applies; left = λ some. leaves; says = says; text = text }
 
-pub part_put : (s : State) (item : Item) (c : ℕ) (all : List ℕ) (o m n : Option Tale) → all ≡ text_of (reply_to s item) → Goes (Applies s item c) o m → IfSome m (λ t. LeavesNow t (λ image. Stands image (state_then s item).last))
+pub part_put : (s : State) (item : Item) (c : ℕ) (all : List ℕ) (o m n : Option Tale) → all ≡ text_of (reply_to s item) → Goes (Applies s item c) o m
+    → IfSome m (λ t. LeavesNow t (λ image. Stands image (state_then s item).last))
     → Goes (SaysFront all) m n → Goes (AddsOnly is_of_text) m n → Goes (AnswersFront s item c) o n
 part_put s item c all None None None is applies leaves says text = tt
 part_put s item c all None None (Some v) is applies leaves says text = says

@@ -1,5 +1,6 @@
 -- What a trial promises, by what opening and its commands did.
-use Rattle.std.proofs.Common.{◌≡◌, inl, inr, ℕ, ◌+◌, ◌≤◌, Bool, true, false, List, [], ◌∷◌, ◌++◌, length, Option, Some, None, Result, Ok, Err, OnErr, IfOk, IfErr, refl, sym, ◌∙◌, ap, subst, arith, append-nil, append_assoc}
+use Rattle.std.proofs.Common.{◌≡◌, inl, inr, ℕ, ◌+◌, ◌≤◌, Bool, true, false, List, [], ◌∷◌, ◌++◌, length, Option, Some, None, Result, Ok, Err, OnErr, IfOk}
+use Rattle.std.proofs.Common.{IfErr, refl, sym, ◌∙◌, ap, subst, arith, append-nil, append_assoc}
 use Rattle.std.specs.Option.{IfSome}
 use Rattle.quilt_types.specs.Facts.{quota}
 use Rattle.quilt_types.specs.Layers.{Edition}
@@ -48,7 +49,8 @@ front_none n r t u tries = record { said = []; front = (summary n r, refl); conc
 pub goes_none : (n : ℕ) (r : Run) (o m : Option Tale) → Goes (Tries r) o m → Goes (TriesFront n r) o m
 goes_none n r o m tries = goes_weaker _ _ o m tries (λ t u so. front_none n r t u so)
 
-pub goes_part : (n : ℕ) (r : Run) (all : List ℕ) (o m k : Option Tale) → all ≡ summary n r → Goes (Tries r) o m → IfSome m (λ t. LeavesNow t (StandsForLast r)) → Goes (SaysFront all) m k → Goes (AddsOnly is_of_text) m k
+pub goes_part : (n : ℕ) (r : Run) (all : List ℕ) (o m k : Option Tale) → all ≡ summary n r → Goes (Tries r) o m
+    → IfSome m (λ t. LeavesNow t (StandsForLast r)) → Goes (SaysFront all) m k → Goes (AddsOnly is_of_text) m k
     → Goes (TriesFront n r) o k
 goes_part n r all None None None is tries leaves says text = tt
 goes_part n r all None None (Some v) is tries leaves says text = says
@@ -61,7 +63,8 @@ goes_part n r all (Some t) (Some u) (Some v) is tries leaves says text = record 
   concludes = record { middle = u; tries = tries; left = λ some. leaves; says = says.says; text = text };
 }
 
-pub goes_whole : (n : ℕ) (r : Run) (flag : Bool) (all : List ℕ) (o m k : Option Tale) → all ≡ summary n r → flag ≡ all_done r → Goes (Tries r) o m → IfSome m (λ t. LeavesNow t (StandsForLast r)) → Goes (Says all) m k
+pub goes_whole : (n : ℕ) (r : Run) (flag : Bool) (all : List ℕ) (o m k : Option Tale) → all ≡ summary n r → flag ≡ all_done r → Goes (Tries r) o m
+    → IfSome m (λ t. LeavesNow t (StandsForLast r)) → Goes (Says all) m k
     → Goes (AddsOnly is_of_text) m k → IfSome k (λ t. StandsForLast r t.seen) → Goes (TriesWhole n r flag) o k
 goes_whole n r flag all None None None is done tries leaves says text last = tt
 goes_whole n r flag all None None (Some v) is done tries leaves says text last = says
@@ -106,15 +109,20 @@ module _ (n : ℕ) (r : Run) (old w : Tale) (front : TriesFront n r old w) where
   tries_at (Ok true) whole = record { front = front; done = λ is. whole; refused = λ e. absurd (apart ends.Done ends.Refused 0 1 refl refl (λ f. cc) e) }
   tries_at (Ok false) whole = record { front = front; done = λ e. absurd (apart ends.Refused ends.Done 1 0 refl refl (λ f. cc) e); refused = λ is. whole }
   tries_at (Err (halts.Stopped stops.Device)) whole =
-      stopped_to n r old w ends.Device front (λ e. apart ends.Device ends.Done 5 0 refl refl (λ f. cc) e) (λ e. apart ends.Device ends.Refused 5 1 refl refl (λ f. cc) e)
+      stopped_to n r old w ends.Device front (λ e. apart ends.Device ends.Done 5 0 refl refl (λ f. cc) e)
+      (λ e. apart ends.Device ends.Refused 5 1 refl refl (λ f. cc) e)
   tries_at (Err (halts.Stopped stops.Memory)) whole =
-      stopped_to n r old w ends.Memory front (λ e. apart ends.Memory ends.Done 5 0 refl refl (λ f. cc) e) (λ e. apart ends.Memory ends.Refused 5 1 refl refl (λ f. cc) e)
+      stopped_to n r old w ends.Memory front (λ e. apart ends.Memory ends.Done 5 0 refl refl (λ f. cc) e)
+      (λ e. apart ends.Memory ends.Refused 5 1 refl refl (λ f. cc) e)
   tries_at (Err (halts.Stopped (stops.Damaged page))) whole =
-      stopped_to n r old w (ends.Damaged page) front (λ e. apart (ends.Damaged page) ends.Done 4 0 refl refl (λ f. cc) e) (λ e. apart (ends.Damaged page) ends.Refused 4 1 refl refl (λ f. cc) e)
+      stopped_to n r old w (ends.Damaged page) front (λ e. apart (ends.Damaged page) ends.Done 4 0 refl refl (λ f. cc) e)
+      (λ e. apart (ends.Damaged page) ends.Refused 4 1 refl refl (λ f. cc) e)
   tries_at (Err halts.TooMuch) whole =
-      stopped_to n r old w ends.TooMuch front (λ e. apart ends.TooMuch ends.Done 2 0 refl refl (λ f. cc) e) (λ e. apart ends.TooMuch ends.Refused 2 1 refl refl (λ f. cc) e)
+      stopped_to n r old w ends.TooMuch front (λ e. apart ends.TooMuch ends.Done 2 0 refl refl (λ f. cc) e)
+      (λ e. apart ends.TooMuch ends.Refused 2 1 refl refl (λ f. cc) e)
 
-pub tries_goes : (n : ℕ) (r : Run) (outcome : Result Bool Halt) (o m : Option Tale) → Goes (TriesFront n r) o m → IfOk outcome (λ d. Goes (TriesWhole n r d) o m) → Goes (TriesTo n r (end_of outcome)) o m
+pub tries_goes : (n : ℕ) (r : Run) (outcome : Result Bool Halt) (o m : Option Tale) → Goes (TriesFront n r) o m
+    → IfOk outcome (λ d. Goes (TriesWhole n r d) o m) → Goes (TriesTo n r (end_of outcome)) o m
 tries_goes n r outcome None None front whole = tt
 tries_goes n r outcome None (Some w) front whole = front
 tries_goes n r outcome (Some t) None front whole = front
@@ -147,10 +155,12 @@ no_front (x ∷ a) b e = absurd (cc)
 
 module _ (n : ℕ) (r : Run) (v w : Tale) (untold : IsUntold v) (said : List ℕ) (so : Concludes r said v w) where
   at_front : (front rest : Log) (image : Pages) → so.tries.pages.events ≡ front ++ rest → CanLeave v.start (v.log ++ front) image → StandsForOne r image
-  at_front front rest image is left = stops_at (StandsForOne r) v so.middle front rest so.tries.stops (so.tries.pages.log ∙ ap (λ (l : Log). v.log ++ l) is) image left
+  at_front front rest image is left =
+      stops_at (StandsForOne r) v so.middle front rest so.tries.stops (so.tries.pages.log ∙ ap (λ (l : Log). v.log ++ l) is) image left
 
   -- while the summary is put
-  putting : (front rest : Log) (image : Pages) → so.text.events ≡ front ++ rest → CanLeave so.middle.start (so.middle.log ++ front) image → IsLeft n r (put_bytes front) image
+  putting : (front rest : Log) (image : Pages) → so.text.events ≡ front ++ rest → CanLeave so.middle.start (so.middle.log ++ front) image
+      → IsLeft n r (put_bytes front) image
   putting front rest image is left =
       let only = only_front is_of_text so.text.events front (rest, is) so.text.only in
       let here = text_leaves so.middle.start so.middle.log front image only left in
@@ -165,12 +175,14 @@ module _ (n : ℕ) (r : Run) (v w : Tale) (untold : IsUntold v) (said : List ℕ
         last = λ whole. so.left (λ none. summary_some n r (sym whole ∙ no_front (put_bytes front) (put_bytes rest) (sym puts ∙ none))) image here;
       }
 
-  pub left_at : ((so_far : Log) (image : Pages) → Begins v.log so_far → CanLeave v.start so_far image → StandsForOne r image) → (so_far : Log) (image : Pages) → IsStop w so_far image → IsLeft n r (put_bytes so_far) image
+  pub left_at : ((so_far : Log) (image : Pages) → Begins v.log so_far → CanLeave v.start so_far image → StandsForOne r image)
+      → (so_far : Log) (image : Pages) → IsStop w so_far image → IsLeft n r (put_bytes so_far) image
   left_at early so_far image stop =
       let start : w.start ≡ v.start = so.text.file.start ∙ so.tries.pages.file.start in
       let left : CanLeave v.start so_far image = subst (λ (p : Pages). CanLeave p so_far image) start stop.left in
       let pages_ = so.tries.pages.events in
-      let log : w.log ≡ v.log ++ (pages_ ++ so.text.events) = so.text.log ∙ ap (λ (l : Log). l ++ so.text.events) so.tries.pages.log ∙ append_assoc v.log pages_ so.text.events in
+      let log : w.log ≡ v.log ++ (pages_ ++ so.text.events) =
+      so.text.log ∙ ap (λ (l : Log). l ++ so.text.events) so.tries.pages.log ∙ append_assoc v.log pages_ so.text.events in
       elim (front_split v.log (pages_ ++ so.text.events) so_far (stop.front.0, sym log ∙ stop.front.1)) [
         | inl within ↦
             left_before n r image (put_bytes so_far) (pages_unput so_far (only_front is_of_pages v.log so_far within untold)) (early so_far image within left)
@@ -180,11 +192,14 @@ module _ (n : ℕ) (r : Run) (v w : Tale) (untold : IsUntold v) (said : List ℕ
             ap put_bytes past.1 ∙ put_bytes-append v.log past.0 ∙ ap (λ (l : List ℕ). l ++ put_bytes past.0) (pages_unput v.log untold) in
             elim (front_split pages_ so.text.events past.0 past.2) [
               | inl within ↦
-                  left_before n r image (put_bytes so_far) (put ∙ pages_unput past.0 (only_front is_of_pages pages_ past.0 within so.tries.pages.only)) (at_front past.0 within.0 image within.1 can)
+                  left_before n r image (put_bytes so_far)
+                  (put ∙ pages_unput past.0 (only_front is_of_pages pages_ past.0 within so.tries.pages.only)) (at_front past.0 within.0 image within.1 can)
               | inr further ↦
                   let same : put_bytes so_far ≡ put_bytes further.0 =
-                  put ∙ ap put_bytes further.1 ∙ put_bytes-append pages_ further.0 ∙ ap (λ (l : List ℕ). l ++ put_bytes further.0) (pages_unput pages_ so.tries.pages.only) in
-                  let there = moved v so.middle pages_ further.0 image so.tries.pages.file.start so.tries.pages.log (subst (λ (l : Log). CanLeave v.start (v.log ++ l) image) further.1 can) in
+                  put ∙ ap put_bytes further.1 ∙ put_bytes-append pages_ further.0
+                  ∙ ap (λ (l : List ℕ). l ++ put_bytes further.0) (pages_unput pages_ so.tries.pages.only) in
+                  let there = moved v so.middle pages_ further.0 image so.tries.pages.file.start so.tries.pages.log
+                  (subst (λ (l : Log). CanLeave v.start (v.log ++ l) image) further.1 can) in
                   subst (λ (p : List ℕ). IsLeft n r p image) (sym same) (putting further.0 further.2.0 image further.2.1 there)
             ]
       ]
@@ -193,23 +208,27 @@ module _ (n : ℕ) (r : Run) (v w : Tale) (untold : IsUntold v) (said : List ℕ
   pub put_is : put_bytes w.log ≡ said
   put_is =
       ap put_bytes (so.says.log ∙ ap (λ (l : Log). l ++ so.says.events) so.tries.pages.log)
-      ∙ put_bytes-append (v.log ++ so.tries.pages.events) so.says.events ∙ ap (λ (l : List ℕ). l ++ put_bytes so.says.events) (put_bytes-append v.log so.tries.pages.events)
+      ∙ put_bytes-append (v.log ++ so.tries.pages.events) so.says.events
+      ∙ ap (λ (l : List ℕ). l ++ put_bytes so.says.events) (put_bytes-append v.log so.tries.pages.events)
       ∙ ap (λ (l : List ℕ). (l ++ put_bytes so.tries.pages.events) ++ put_bytes so.says.events) (pages_unput v.log untold)
       ∙ ap (λ (l : List ℕ). l ++ put_bytes so.says.events) (pages_unput so.tries.pages.events so.tries.pages.only) ∙ so.says.put
 
   pub taken_is : taken_bytes w.log ≡ []
   taken_is =
       ap taken_bytes (so.says.log ∙ ap (λ (l : Log). l ++ so.says.events) so.tries.pages.log)
-      ∙ taken_bytes-append (v.log ++ so.tries.pages.events) so.says.events ∙ ap (λ (l : List ℕ). l ++ taken_bytes so.says.events) (taken_bytes-append v.log so.tries.pages.events)
+      ∙ taken_bytes-append (v.log ++ so.tries.pages.events) so.says.events
+      ∙ ap (λ (l : List ℕ). l ++ taken_bytes so.says.events) (taken_bytes-append v.log so.tries.pages.events)
       ∙ ap (λ (l : List ℕ). (l ++ taken_bytes so.tries.pages.events) ++ taken_bytes so.says.events) (nothing_taken v.log (pages_untaken v.log untold))
-      ∙ ap (λ (l : List ℕ). l ++ taken_bytes so.says.events) (nothing_taken so.tries.pages.events (pages_untaken so.tries.pages.events so.tries.pages.only)) ∙ nothing_taken so.says.events so.says.untaken
+      ∙ ap (λ (l : List ℕ). l ++ taken_bytes so.says.events)
+      (nothing_taken so.tries.pages.events (pages_untaken so.tries.pages.events so.tries.pages.only)) ∙ nothing_taken so.says.events so.says.untaken
 
   pub input_is : w.input ≡ v.input
   input_is = so.says.input ∙ so.tries.stops.input
 
 -- ---- the trial
 
-module _ (pages : ℕ) (first : Edition) (seed count : ℕ) (end : End) (v w : Tale) (untold : IsUntold v) (so : TriesTo first.level (trial_run first.level (first_state pages first) seed count) end v w) where
+module _ (pages : ℕ) (first : Edition) (seed count : ℕ) (end : End) (v w : Tale) (untold : IsUntold v)
+    (so : TriesTo first.level (trial_run first.level (first_state pages first) seed count) end v w) where
   abbrev n : ℕ
   n = first.level
 
@@ -239,15 +258,18 @@ module _ (pages : ℕ) (first : Edition) (seed count : ℕ) (end : End) (v w : T
       complete = λ calm. given_up end rose one device calm;
     }
 
-    pub runs_trial : (rose : Type 0) (before : Tale) → v.input ≡ before.input → IsOneOf end run_ends → (end ≡ ends.Device → rose) → RunsTrial pages first seed count rose end before w
+    pub runs_trial : (rose : Type 0) (before : Tale) → v.input ≡ before.input → IsOneOf end run_ends → (end ≡ ends.Device → rose)
+        → RunsTrial pages first seed count rose end before w
     runs_trial rose before input one device =
         let is = run_is pages first (trial_text seed count n) in record {
           text = subst (λ (x : Run). RunsText x (summary n x) (λ so_far. 0) rose end w) is (trial_text_runs rose one device);
-          told = subst (λ (x : Run). (so_far : Log) (image : Pages) → IsStop w so_far image → put_bytes so_far ≡ summary n x → StandsForLast x image) is (λ so_far image stop whole. (at_stop so_far image stop).last whole);
+          told = subst (λ (x : Run). (so_far : Log) (image : Pages) → IsStop w so_far image → put_bytes so_far ≡ summary n x → StandsForLast x image)
+              is (λ so_far image stop whole. (at_stop so_far image stop).last whole);
           untouched = (input_is n r v w untold so.front.said so.front.concludes ∙ input, taken_is n r v w untold so.front.said so.front.concludes);
         }
 
-    pub opens_tried : IsMapFile w.start pages → Stands w.start first → is_run_end end ≡ true → IsOneOf end run_ends → (end ≡ ends.TooMuch → ⊥) → OpensSafely end w
+    pub opens_tried : IsMapFile w.start pages → Stands w.start first → is_run_end end ≡ true → IsOneOf end run_ends
+        → (end ≡ ends.TooMuch → ⊥) → OpensSafely end w
     opens_tried file stands is one short = record {
       not_map = record { only = λ x. absurd (other_end end ends.NotMap is refl x); always = λ none. absurd (none pages file) };
       damaged = λ page x. absurd (not_damaged end page one x);
@@ -255,14 +277,20 @@ module _ (pages : ℕ) (first : Edition) (seed count : ℕ) (end : End) (v w : T
       quiet = λ none. absurd (none first stands);
       kept = λ k f none. absurd (none first stands);
       unwritten = λ none. absurd (none pages file);
-      too_much = record { only = λ x. absurd (short x); always = λ past. absurd (let none = ap length (taken_is n r v w untold so.front.said so.front.concludes) in omega arith) };
+      too_much =
+          record {
+            only = λ x. absurd (short x);
+            always = λ past. absurd (let none = ap length (taken_is n r v w untold so.front.said so.front.concludes) in omega arith);
+          };
     }
 
 -- a trial that was not begun
-pub quiet_try : (pages : ℕ) (first : Edition) (seed count : ℕ) (end : End) (v : Tale) → LeavesNow v (λ image. Stands image first) → (end ≡ ends.Done → ⊥) → (end ≡ ends.Refused → ⊥)
+pub quiet_try : (pages : ℕ) (first : Edition) (seed count : ℕ) (end : End) (v : Tale) → LeavesNow v (λ image. Stands image first)
+    → (end ≡ ends.Done → ⊥) → (end ≡ ends.Refused → ⊥)
     → TriesTo first.level (trial_run first.level (first_state pages first) seed count) end v v
 quiet_try pages first seed count end v leaves not_done not_refused =
     let s = first_state pages first in
     let r = trial_run first.level s seed count in
     stopped_to first.level r v v end
-    (front_none first.level r v v (tries_none r v (λ image left. one_first s (items_of first.level (trial_text seed count first.level)) image (leaves image left)))) not_done not_refused
+    (front_none first.level r v v
+    (tries_none r v (λ image left. one_first s (items_of first.level (trial_text seed count first.level)) image (leaves image left)))) not_done not_refused

@@ -49,22 +49,41 @@ Numbers n h = (1 ≤ h.format) × (h.format ≤ 2) × (h.edition < 2 ^ 32) × (1
 
 numbers : (n : ℕ) (h : Head) → Either (Numbers n h)
 numbers n h =
-    turned (((1 ≤ h.format) × (h.format ≤ 2)) × (((h.edition < 2 ^ 32) × (1 ≤ h.level)) × (((h.level ≤ 12) × (h.height ≤ 3)) × (h.records ≤ quota n)))) (Numbers n h)
+    turned (((1 ≤ h.format) × (h.format ≤ 2))
+    × (((h.edition < 2 ^ 32) × (1 ≤ h.level)) × (((h.level ≤ 12) × (h.height ≤ 3)) × (h.records ≤ quota n)))) (Numbers n h)
     (λ p. (p.0.0, p.0.1, p.1.0.0, p.1.0.1, p.1.1.0.0, p.1.1.0.1, p.1.1.1)) (λ p. ((p.0, p.1), ((p.2, p.3), ((p.4, p.5), p.6))))
-    (both _ _ (both _ _ (at_most 1 h.format) (at_most h.format 2)) (both _ _ (both _ _ (less h.edition (2 ^ 32)) (at_most 1 h.level)) (both _ _ (both _ _ (at_most h.level 12) (at_most h.height 3)) (at_most h.records (quota n)))))
+    (both _ _ (both _ _ (at_most 1 h.format) (at_most h.format 2))
+    (both _ _ (both _ _ (less h.edition (2 ^ 32)) (at_most 1 h.level))
+    (both _ _ (both _ _ (at_most h.level 12) (at_most h.height 3)) (at_most h.records (quota n)))))
 
 -- with no tree, and with one
 head_none : (n : ℕ) (h : Head) → h.height ≡ 0 → Either (IsHead n h)
 head_none n h none =
     turned (Numbers n h × ((h.root ≡ 0) × (h.records ≡ 0))) (IsHead n h)
-    (λ p. record { format = (p.0.0, p.0.1); edition = p.0.2; level = (p.0.3, p.0.4); height = p.0.5; no_tree = λ e. p.1; tree = λ some. absurd (omega arith); records = p.0.6 })
+    (λ p. record {
+      format = (p.0.0, p.0.1);
+      edition = p.0.2;
+      level = (p.0.3, p.0.4);
+      height = p.0.5;
+      no_tree = λ e. p.1;
+      tree = λ some. absurd (omega arith);
+      records = p.0.6;
+    })
     (λ is. ((is.format.0, is.format.1, is.edition, is.level.0, is.level.1, is.height, is.records), is.no_tree none))
     (both _ _ (numbers n h) (both _ _ (same h.root 0) (same h.records 0)))
 
 head_some : (n : ℕ) (h : Head) → (h.height ≡ 0 → ⊥) → Either (IsHead n h)
 head_some n h some =
     turned (Numbers n h × ((1 ≤ h.root) × ((h.root < n) × (1 ≤ h.records)))) (IsHead n h)
-    (λ p. record { format = (p.0.0, p.0.1); edition = p.0.2; level = (p.0.3, p.0.4); height = p.0.5; no_tree = λ e. absurd (some e); tree = λ le. (p.1.0, p.1.1.0, p.1.1.1); records = p.0.6 })
+    (λ p. record {
+      format = (p.0.0, p.0.1);
+      edition = p.0.2;
+      level = (p.0.3, p.0.4);
+      height = p.0.5;
+      no_tree = λ e. absurd (some e);
+      tree = λ le. (p.1.0, p.1.1.0, p.1.1.1);
+      records = p.0.6;
+    })
     (λ is. let t = is.tree (one_up h.height some) in ((is.format.0, is.format.1, is.edition, is.level.0, is.level.1, is.height, is.records), (t.0, (t.1, t.2))))
     (both _ _ (numbers n h) (both _ _ (at_most 1 h.root) (both _ _ (less h.root n) (at_most 1 h.records))))
   where

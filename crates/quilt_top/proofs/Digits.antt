@@ -1,5 +1,6 @@
 -- Numbers in decimal digits.
-use Rattle.std.proofs.Common.{◌≡◌, ◌≢◌, ◌<◌, ◌≤◌, cond, nat_le, Option, Some, None, ◌+◌, ◌-◌, ◌*◌, ℕ, Bool, true, false, ◌&&◌, not, List, [], ◌∷◌, length, get_or, take, drop, fold, refl, sym, ◌∙◌, ap, arith, take-append-drop}
+use Rattle.std.proofs.Common.{◌≡◌, ◌≢◌, ◌<◌, ◌≤◌, cond, nat_le, Option, Some, None, ◌+◌, ◌-◌, ◌*◌, ℕ, Bool, true, false, ◌&&◌, not, List, [], ◌∷◌, length}
+use Rattle.std.proofs.Common.{get_or, take, drop, fold, refl, sym, ◌∙◌, ap, arith, take-append-drop}
 use Rattle.std.specs.List.{list_all}
 use Rattle.std.proofs.lemmas.Bool.{ne_eqb, leb-false}
 use Rattle.std.proofs.lemmas.List.Sums.{fold-append}

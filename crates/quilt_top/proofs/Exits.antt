@@ -73,7 +73,8 @@ module _ (n : ℕ) (s : State) (at : s.last.level ≡ n) (input : List ℕ) (all
   publishes_are = publishes_same s.quota s.last s.work (record { before = 0; changed = 0 }) n (items_of n input) all at same
 
   -- the last edition of the run is the one at its end
-  pub last_is : (image : Pages) → Stands image (state_after s all).last → (k : ℕ) × (k + 1 ≡ length (run_in s (items_of n input)).editions) × IsEdition (run_in s (items_of n input)) k image
+  pub last_is : (image : Pages) → Stands image (state_after s all).last → (k : ℕ) × (k + 1 ≡ length (run_in s (items_of n input)).editions)
+      × IsEdition (run_in s (items_of n input)) k image
   last_is image stands =
       let place = edition_last s all in (
         place.0,
@@ -81,15 +82,20 @@ module _ (n : ℕ) (s : State) (at : s.last.level ≡ n) (input : List ℕ) (all
         record { edition = (state_after s all).last; is = ap (λ (r : Run). slice_get r.editions place.0) run_is ∙ place.2; stands = stands },
       )
 
-pub exit_fine : (n : ℕ) (s : State) (at : s.last.level ≡ n) (input : List ℕ) (gs next h : List Group) (t u v : Tale) → Same n (items_of n input) (gs ++ (next ++ h))
-    → Steps s 0 gs t u → PartStep (state_after s gs) (changes_all s 0 gs) next u v → LeavesNow t (λ image. Stands image s.last) → (E : Log) → v.log ≡ t.log ++ E → AreFine (run_in s (items_of n input)) t.start t.log E
+pub exit_fine : (n : ℕ) (s : State) (at : s.last.level ≡ n) (input : List ℕ) (gs next h : List Group) (t u v : Tale)
+    → Same n (items_of n input) (gs ++ (next ++ h))
+    → Steps s 0 gs t u → PartStep (state_after s gs) (changes_all s 0 gs) next u v → LeavesNow t (λ image. Stands image s.last) → (E : Log)
+    → v.log ≡ t.log ++ E → AreFine (run_in s (items_of n input)) t.start t.log E
 exit_fine n s at input gs next h t u v same steps part leaves E is =
     subst (λ (r : Run). AreFine r t.start t.log E) (sym (run_is n s at input (gs ++ (next ++ h)) same)) (steps_fine gs next h s 0 t u v steps part leaves E is)
 
-pub exit_writes : (n : ℕ) (s : State) (at : s.last.level ≡ n) (input : List ℕ) (gs next h : List Group) (t u v : Tale) → Same n (items_of n input) (gs ++ (next ++ h))
-    → Steps s 0 gs t u → PartStep (state_after s gs) (changes_all s 0 gs) next u v → IsUntold t → All (WritesFew (run_in s (items_of n input)) v.log) (publishes_in s (items_of n input))
+pub exit_writes : (n : ℕ) (s : State) (at : s.last.level ≡ n) (input : List ℕ) (gs next h : List Group) (t u v : Tale)
+    → Same n (items_of n input) (gs ++ (next ++ h))
+    → Steps s 0 gs t u → PartStep (state_after s gs) (changes_all s 0 gs) next u v → IsUntold t
+    → All (WritesFew (run_in s (items_of n input)) v.log) (publishes_in s (items_of n input))
 exit_writes n s at input gs next h t u v same steps part untold =
     let all = gs ++ (next ++ h) in
-    let few = steps_writes gs next h s 0 0 t u v (run_in s all) [] steps part (untold_fresh t untold) (omega arith) (pages_unput t.log untold) (run_replies s all) in
+    let few =
+    steps_writes gs next h s 0 0 t u v (run_in s all) [] steps part (untold_fresh t untold) (omega arith) (pages_unput t.log untold) (run_replies s all) in
     subst (λ (r : Run). All (WritesFew r v.log) (publishes_in s (items_of n input))) (sym (run_is n s at input all same))
     (subst (λ (ps : List Published). All (WritesFew (run_in s all) v.log) ps) (sym (publishes_are n s at input all same)) few)

@@ -45,14 +45,16 @@ step_grows s i c t u a = grows_then t a.first u (grows_by is_took t a.first a.ta
 pub steps_grow : (gs : List Group) (s : State) (c : ℕ) (t u : Tale) → Steps s c gs t u → Grows t u
 steps_grow [] s c t u steps = grows_by is_took t u steps
 steps_grow (g ∷ gs) s c t u steps =
-    grows_then t steps.0 u (step_grows s (held_at s g) c t steps.0 steps.1) (steps_grow gs (state_then s (held_at s g)) (changes_then s (held_at s g) c) steps.0 u steps.2)
+    grows_then t steps.0 u (step_grows s (held_at s g) c t steps.0 steps.1)
+    (steps_grow gs (state_then s (held_at s g)) (changes_then s (held_at s g) c) steps.0 u steps.2)
 
 pub part_grows : (next : List Group) (s : State) (c : ℕ) (t u : Tale) → PartStep s c next t u → Grows t u
 part_grows [] s c t u part = record { events = []; log = part.log; file = part.file }
 part_grows (g ∷ gs) s c t u part = answer_grows s (held_at s g) c part.said t u part.answers
 
 -- an image left at a log that goes on
-pub moved : (t u : Tale) (events more : Log) (image : Pages) → u.start ≡ t.start → u.log ≡ t.log ++ events → CanLeave t.start (t.log ++ (events ++ more)) image → CanLeave u.start (u.log ++ more) image
+pub moved : (t u : Tale) (events more : Log) (image : Pages) → u.start ≡ t.start → u.log ≡ t.log ++ events
+    → CanLeave t.start (t.log ++ (events ++ more)) image → CanLeave u.start (u.log ++ more) image
 moved t u events more image start log left =
     subst (λ (p : Pages). CanLeave p (u.log ++ more) image) (sym start)
     (subst (λ (l : Log). CanLeave t.start l image) (sym (ap (λ (l : Log). l ++ more) log ∙ append_assoc t.log events more)) left)
@@ -64,7 +66,8 @@ pub took_then : (r : Run) (t u : Tale) (takes : AddsOnly is_took t u) (rest : Lo
 took_then r t u takes rest here later = λ so_far image front left. elim (front_split takes.events rest so_far front) [
   | inl within ↦
       let only = only_front is_took takes.events so_far within takes.only in
-      subst (λ (p : List ℕ). IsFine r p image) (sym (took_unput so_far only)) (here image (text_leaves t.start t.log so_far image (took_text_only so_far only) left))
+      subst (λ (p : List ℕ). IsFine r p image) (sym (took_unput so_far only))
+      (here image (text_leaves t.start t.log so_far image (took_text_only so_far only) left))
   | inr past ↦
       let can = moved t u takes.events past.0 image takes.file.start takes.log (subst (λ (l : Log). CanLeave t.start (t.log ++ l) image) past.1 left) in
       let put : put_bytes so_far ≡ put_bytes past.0 =
@@ -76,13 +79,15 @@ took_then r t u takes rest here later = λ so_far image front left. elim (front_
 
 module _ (s : State) (g : Group) (gs : List Group) where
   -- before its reply
-  pub fine_either : (o : Option Edition) → (outcome s (held_at s g)).published ≡ o → (image : Pages) → Stands image s.last ⊎ StandsForNew o image → IsFine (run_in s (g ∷ gs)) [] image
+  pub fine_either : (o : Option Edition) → (outcome s (held_at s g)).published ≡ o → (image : Pages) → Stands image s.last ⊎ StandsForNew o image
+      → IsFine (run_in s (g ∷ gs)) [] image
   fine_either o is image (inl stands) = fine_last s (g ∷ gs) [] image (told_none s (g ∷ gs)) stands
   fine_either None is image (inr stands) = absurd stands
   fine_either (Some e) is image (inr stands) = fine_new s g gs [] image e (told_none s (g ∷ gs)) is stands
 
   -- with a part of it put, or all of it
-  fine_part : (p rest : List ℕ) (image : Pages) → text_of (reply_to s (held_at s g)) ≡ p ++ rest → Stands image (state_then s (held_at s g)).last → IsFine (run_in s (g ∷ gs)) p image
+  fine_part : (p rest : List ℕ) (image : Pages) → text_of (reply_to s (held_at s g)) ≡ p ++ rest → Stands image (state_then s (held_at s g)).last
+      → IsFine (run_in s (g ∷ gs)) p image
   fine_part p [] image text stands =
       subst (λ (l : List ℕ). IsFine (run_in s (g ∷ gs)) l image) (append-nil (text_of (reply_to s (held_at s g))) ∙ text ∙ append-nil p)
       (fine_behind s g gs [] image (fine_last (state_then s (held_at s g)) gs [] image (told_none (state_then s (held_at s g)) gs) stands))
@@ -90,13 +95,15 @@ module _ (s : State) (g : Group) (gs : List Group) where
 
   module _ (c : ℕ) (said : List ℕ) (t v : Tale) (a : Answers s (held_at s g) c said t v) (front : Begins (text_of (reply_to s (held_at s g))) said) where
     -- while its command is applied
-    fine_applying : (so rest : Log) (image : Pages) → a.applies.pages.events ≡ so ++ rest → CanLeave t.start (t.log ++ so) image → IsFine (run_in s (g ∷ gs)) [] image
+    fine_applying : (so rest : Log) (image : Pages) → a.applies.pages.events ≡ so ++ rest → CanLeave t.start (t.log ++ so) image
+        → IsFine (run_in s (g ∷ gs)) [] image
     fine_applying so rest image is left =
         fine_either (outcome s (held_at s g)).published refl image
         (stops_at (StandsForItem s (held_at s g)) t a.middle so rest a.applies.stops (a.applies.pages.log ∙ ap (λ (l : Log). t.log ++ l) is) image left)
 
     -- while its reply is put
-    fine_putting : (so rest : Log) (image : Pages) → a.text.events ≡ so ++ rest → CanLeave a.middle.start (a.middle.log ++ so) image → (p : List ℕ) → put_bytes so ≡ p → IsFine (run_in s (g ∷ gs)) p image
+    fine_putting : (so rest : Log) (image : Pages) → a.text.events ≡ so ++ rest → CanLeave a.middle.start (a.middle.log ++ so) image → (p : List ℕ)
+        → put_bytes so ≡ p → IsFine (run_in s (g ∷ gs)) p image
     fine_putting so rest image is left [] none =
         let only = only_front is_of_text a.text.events so (rest, is) a.text.only in
         let here = text_leaves a.middle.start a.middle.log so image only left in
@@ -107,7 +114,8 @@ module _ (s : State) (g : Group) (gs : List Group) where
         let only = only_front is_of_text a.text.events so (rest, is) a.text.only in
         let here = text_leaves a.middle.start a.middle.log so image only left in
         let puts : said ≡ (x ∷ xs) ++ put_bytes rest =
-        sym a.says.put ∙ ap put_bytes (same_events a.middle v a.says.events a.text.events a.says.log a.text.log ∙ is) ∙ put_bytes-append so rest ∙ ap (λ (l : List ℕ). l ++ put_bytes rest) some in
+        sym a.says.put ∙ ap put_bytes (same_events a.middle v a.says.events a.text.events a.says.log a.text.log ∙ is) ∙ put_bytes-append so rest
+        ∙ ap (λ (l : List ℕ). l ++ put_bytes rest) some in
         let stands = a.left (λ none. let e : ◌≡◌ {A = List ℕ} [] (x ∷ (xs ++ put_bytes rest)) = sym none ∙ puts in cc) image here in
         fine_part (x ∷ xs) (put_bytes rest ++ front.0) image
         (front.1 ∙ ap (λ (l : List ℕ). l ++ front.0) puts ∙ append_assoc (x ∷ xs) (put_bytes rest) front.0) stands
@@ -121,7 +129,8 @@ module _ (s : State) (g : Group) (gs : List Group) where
               let none = pages_unput so_far (only_front is_of_pages pages so_far within a.applies.pages.only) in
               subst (λ (p : List ℕ). IsFine (run_in s (g ∷ gs)) p image) (sym none) (fine_applying so_far within.0 image within.1 left)
           | inr past ↦
-              let can = moved t a.middle pages past.0 image a.applies.pages.file.start a.applies.pages.log (subst (λ (l : Log). CanLeave t.start (t.log ++ l) image) past.1 left) in
+              let can = moved t a.middle pages past.0 image a.applies.pages.file.start a.applies.pages.log
+              (subst (λ (l : Log). CanLeave t.start (t.log ++ l) image) past.1 left) in
               let put : put_bytes so_far ≡ put_bytes past.0 =
               ap put_bytes past.1 ∙ put_bytes-append pages past.0 ∙ ap (λ (l : List ℕ). l ++ put_bytes past.0) (pages_unput pages a.applies.pages.only) in
               subst (λ (p : List ℕ). IsFine (run_in s (g ∷ gs)) p image) (sym put) (fine_putting past.0 past.2.0 image past.2.1 can (put_bytes past.0) refl)
@@ -135,14 +144,16 @@ module _ (s : State) (g : Group) (gs : List Group) where
         ∙ ap (λ (l : List ℕ). l ++ put_bytes a.says.events) (pages_unput pages a.applies.pages.only) ∙ a.says.put
 
 -- a whole answer leaves the last edition that comes of it
-pub answer_leaves : (s : State) (g : Group) (c : ℕ) (t v : Tale) → Answers s (held_at s g) c (text_of (reply_to s (held_at s g))) t v → LeavesNow v (λ image. Stands image (state_then s (held_at s g)).last)
+pub answer_leaves : (s : State) (g : Group) (c : ℕ) (t v : Tale) → Answers s (held_at s g) c (text_of (reply_to s (held_at s g))) t v
+    → LeavesNow v (λ image. Stands image (state_then s (held_at s g)).last)
 answer_leaves s g c t v a =
     leaves_text a.middle v (λ image. Stands image (state_then s (held_at s g)).last) a.text
     (a.left (none_or_some (text_of (reply_to s (held_at s g))) (text_some (reply_to s (held_at s g)))))
 
 -- ---- items, and a part of the next
 
-fine_begins : (s : State) (gs : List Group) (t : Tale) → LeavesNow t (λ image. Stands image s.last) → (image : Pages) → CanLeave t.start t.log image → IsFine (run_in s gs) [] image
+fine_begins : (s : State) (gs : List Group) (t : Tale) → LeavesNow t (λ image. Stands image s.last) → (image : Pages) → CanLeave t.start t.log image
+    → IsFine (run_in s gs) [] image
 fine_begins s gs t leaves image left = fine_last s gs [] image (told_none s gs) (leaves image left)
 
 none_fine : (r : Run) (t : Tale) → ((image : Pages) → CanLeave t.start t.log image → IsFine r [] image) → (E : Log) → E ≡ [] → AreFine r t.start t.log E
@@ -155,17 +166,20 @@ none_fine r t here E is = λ so_far image front left.
     nil_front [] b e = refl
     nil_front (x ∷ a) b e = absurd (cc)
 
-part_fine : (next h : List Group) (s : State) (c : ℕ) (t v : Tale) → PartStep s c next t v → LeavesNow t (λ image. Stands image s.last) → (E : Log) → v.log ≡ t.log ++ E → AreFine (run_in s (next ++ h)) t.start t.log E
+part_fine : (next h : List Group) (s : State) (c : ℕ) (t v : Tale) → PartStep s c next t v → LeavesNow t (λ image. Stands image s.last) → (E : Log)
+    → v.log ≡ t.log ++ E → AreFine (run_in s (next ++ h)) t.start t.log E
 part_fine [] h s c t v part leaves E is =
     none_fine (run_in s h) t (fine_begins s h t leaves) E (same_events t v E [] is part.log)
 part_fine (g ∷ gs) h s c t v part leaves E is = answer_fine s g (gs ++ h) c part.said t v part.answers part.front E is
 
-pub steps_fine : (gs next h : List Group) (s : State) (c : ℕ) (t u v : Tale) → Steps s c gs t u → PartStep (state_after s gs) (changes_all s c gs) next u v → LeavesNow t (λ image. Stands image s.last)
+pub steps_fine : (gs next h : List Group) (s : State) (c : ℕ) (t u v : Tale) → Steps s c gs t u
+    → PartStep (state_after s gs) (changes_all s c gs) next u v → LeavesNow t (λ image. Stands image s.last)
     → (E : Log) → v.log ≡ t.log ++ E → AreFine (run_in s (gs ++ (next ++ h))) t.start t.log E
 steps_fine [] next h s c t u v steps part leaves E is =
     let grows = part_grows next s c u v part in
     let events : E ≡ steps.events ++ grows.events = events_then t u v steps.events grows.events E steps.log grows.log is in
-    let here = leaves_text t u (λ image. Stands image s.last) (record { file = steps.file; events = steps.events; log = steps.log; only = took_text_only steps.events steps.only }) leaves in
+    let here = leaves_text t u (λ image. Stands image s.last)
+    (record { file = steps.file; events = steps.events; log = steps.log; only = took_text_only steps.events steps.only }) leaves in
     subst (λ (l : Log). AreFine (run_in s (next ++ h)) t.start t.log l) (sym events)
     (took_then (run_in s (next ++ h)) t u steps grows.events (fine_begins s (next ++ h) t leaves) (part_fine next h s c u v part here grows.events grows.log))
 steps_fine (g ∷ gs) next h s c t u v steps part leaves E is =
@@ -176,16 +190,19 @@ steps_fine (g ∷ gs) next h s c t u v steps part leaves E is =
     let first = step.first in
     let mid = steps.0 in
     let one = answer_grows s item c text first mid step.answers in
-    let rest = grows_then mid u v (steps_grow gs (state_then s item) (changes_then s item c) mid u steps.2) (part_grows next (state_after s (g ∷ gs)) (changes_all s c (g ∷ gs)) u v part) in
+    let rest = grows_then mid u v (steps_grow gs (state_then s item) (changes_then s item c) mid u steps.2)
+    (part_grows next (state_after s (g ∷ gs)) (changes_all s c (g ∷ gs)) u v part) in
     let later : Log = one.events ++ rest.events in
     let later_log : v.log ≡ first.log ++ later = rest.log ∙ ap (λ (l : Log). l ++ rest.events) one.log ∙ append_assoc first.log one.events rest.events in
     let events : E ≡ step.takes.events ++ later = events_then t first v step.takes.events later E step.takes.log later_log is in
-    let behind = steps_fine gs next h (state_then s item) (changes_then s item c) mid u v steps.2 part (answer_leaves s g c first mid step.answers) rest.events rest.log in
+    let behind = steps_fine gs next h (state_then s item) (changes_then s item c) mid u v steps.2 part (answer_leaves s g c first mid step.answers)
+    rest.events rest.log in
     let both : AreFine (run_in s (g ∷ all)) first.start first.log (one.events ++ rest.events) =
     λ so_far image begins left. elim (front_split one.events rest.events so_far begins) [
       | inl within ↦ answer_fine s g all c text first mid step.answers ([], sym (append-nil text)) one.events one.log so_far image within left
       | inr past ↦
-          let can = moved first mid one.events past.0 image one.file.start one.log (subst (λ (l : Log). CanLeave first.start (first.log ++ l) image) past.1 left) in
+          let can =
+          moved first mid one.events past.0 image one.file.start one.log (subst (λ (l : Log). CanLeave first.start (first.log ++ l) image) past.1 left) in
           let put : put_bytes so_far ≡ text ++ put_bytes past.0 =
           ap put_bytes past.1 ∙ put_bytes-append one.events past.0
           ∙ ap (λ (l : List ℕ). l ++ put_bytes past.0) (answer_puts s g all c text first mid step.answers ([], sym (append-nil text)) one.events one.log) in

@@ -92,18 +92,25 @@ goes_begun size (Some t) (Some u) new law redoes = begun_keeps t u new law.0 red
 since_last : (a b : Tale) (P : Pages → Type 0) → Since a b P → LeavesNow b P
 since_last a b P since =
     let long : length a.log ≤ length b.log = subst (λ (l : Log). length a.log ≤ length l) (sym since.log) (omega (arith, length-append a.log since.added)) in
-    let whole : Leaves a.start b.log P = subst (λ (l : Log). Leaves a.start l P) (take_all (length b.log) b.log (omega arith)) (since.each (length b.log) long) in
+    let whole : Leaves a.start b.log P =
+    subst (λ (l : Log). Leaves a.start l P) (take_all (length b.log) b.log (omega arith)) (since.each (length b.log) long) in
     subst (λ (s : Pages). Leaves s b.log P) (sym since.file.start) whole
 
 later_keeps : (t u w : Tale) (n : ℕ) → IsMapFile t.start n → home u.seen n ≡ home t.start n → Keeps t u → IsLater n u w → Keeps t w
 later_keeps t u w n file same keeps later = record {
   input = later.tries.input ∙ keeps.input;
   pages = adds_only_both is_of_pages t u w keeps.pages
-      (record { file = later.tries.file; events = later.tries.added; log = later.tries.log; only = only_wider is_write is_of_pages later.tries.added write_of_pages later.tries.only });
+      (record {
+        file = later.tries.file;
+        events = later.tries.added;
+        log = later.tries.log;
+        only = only_wider is_write is_of_pages later.tries.added write_of_pages later.tries.only;
+      });
   homes = λ m other.
       let is : n ≡ m = one_size t.start n m file other in
       let first = keeps.homes n file in
-      let here : LeavesNow u (HasHome n (home u.seen n)) = subst (λ (h : Pages). LeavesNow u (HasHome n h)) (sym same) (since_last t u (HasHome n (home t.start n)) first) in
+      let here : LeavesNow u (HasHome n (home u.seen n)) =
+      subst (λ (h : Pages). LeavesNow u (HasHome n h)) (sym same) (since_last t u (HasHome n (home t.start n)) first) in
       let both = since_both t u w (HasHome n (home t.start n)) first (subst (λ (h : Pages). Since u w (HasHome n h)) same (later.stays here)) in
       subst (λ k. Since t w (HasHome k (home t.start k))) is both;
   other = λ none. absurd (none n file);
@@ -116,14 +123,16 @@ module _ (start : Pages) (n : ℕ) (file : IsMapFile start n) where
   size_is = home_length start n
 
   -- no edition is held where no tree of this header spells one
-  damage_found : (last : Head) (page : ℕ) → IsHeader n (page_of (home start n) 0) last → IsDamage (home start n) last page → IsDamagePage (home start n) page × StandsForNothing start
+  damage_found : (last : Head) (page : ℕ) → IsHeader n (page_of (home start n) 0) last → IsDamage (home start n) last page
+      → IsDamagePage (home start n) page × StandsForNothing start
   damage_found last page header damage =
       let pages = home start n in
       let here : IsHeader (length pages) (page_of pages 0) last = subst (λ m. IsHeader m (page_of pages 0) last) (sym size_is) header in
       let most : length pages ≤ 30000 = omega (arith, size_is, file.most) in (
         record {
           no_header = λ none. absurd (none last here);
-          header = λ h so. damage.first ∙ ap (λ (k : Head). page_of_walk (walk_of pages k.root k.height)) (one_head (length pages) most (page_of pages 0) last h here so);
+          header = λ h so. damage.first
+              ∙ ap (λ (k : Head). page_of_walk (walk_of pages k.root k.height)) (one_head (length pages) most (page_of pages 0) last h here so);
         },
         λ E so.
             let holds = subst (λ m. HoldsEdition (home start m) E) (one_size start so.pages n so.file file) so.holds in
@@ -156,17 +165,20 @@ no_header : (t u : Tale) (page : ℕ) → IsNew t → IsConsistent t → page �
 no_header t u page new law first none =
     let seen = seen_first t new.log law in
     let file : IsMapFile t.start none.pages = subst (λ (p : Pages). IsMapFile p none.pages) seen none.file in
-    let both = none_found t.start none.pages file page first (λ h so. none.none h (subst (λ (p : Pages). IsHeader none.pages (page_of (home p none.pages) 0) h) (sym seen) so)) in
+    let both = none_found t.start none.pages file page first
+    (λ h so. none.none h (subst (λ (p : Pages). IsHeader none.pages (page_of (home p none.pages) 0) h) (sym seen) so)) in
     (none.pages, file, both.0, both.1)
 
-pub stop_found : (stop : Stop) (before now size : ℕ) (o m : Option Tale) → IfSome o IsNew → Lawful size o → StopCause stop before now o m → IfSome o (λ t. (page : ℕ) → stop ≡ stops.Damaged page → IsFoundDamaged t.start page)
+pub stop_found : (stop : Stop) (before now size : ℕ) (o m : Option Tale) → IfSome o IsNew → Lawful size o → StopCause stop before now o m
+    → IfSome o (λ t. (page : ℕ) → stop ≡ stops.Damaged page → IsFoundDamaged t.start page)
 stop_found stops.Device before now size None m new law cause = tt
 stop_found stops.Device before now size (Some t) m new law cause = λ page is. absurd (let e : ◌≡◌ {A = Stop} stops.Device (stops.Damaged page) = is in cc)
 stop_found stops.Memory before now size None m new law cause = tt
 stop_found stops.Memory before now size (Some t) m new law cause = λ page is. absurd (let e : ◌≡◌ {A = Stop} stops.Memory (stops.Damaged page) = is in cc)
 stop_found (stops.Damaged p) before now size None m new law cause = tt
 stop_found (stops.Damaged p) before now size (Some t) None new law cause = absurd cause.1
-stop_found (stops.Damaged p) before now size (Some t) (Some u) new law cause = λ page is. no_header t u page new law.0 (sym (same_damage p page is) ∙ cause.0) cause.1
+stop_found (stops.Damaged p) before now size (Some t) (Some u) new law cause =
+    λ page is. no_header t u page new law.0 (sym (same_damage p page is) ∙ cause.0) cause.1
 
 pub not_map_found : (size : ℕ) (o m : Option Tale) → IfSome o IsNew → Lawful size o → Goes IsNoMapFile o m → IfSome o (λ t. IsNoMap t.start)
 not_map_found size None m new law none = tt
@@ -176,10 +188,13 @@ not_map_found size (Some t) (Some u) new law none = λ n file. none.none n (file
 -- ---- behind a book
 
 module _ (j : View) (es : Entries) (last : Head) (idle : j.state ≡ Idle) where
-  book_home : (t u : Tale) → IsNew t → IsConsistent t → IsConsistent u → IsKeptBy j es last (Some u) → BookOpened j.pages last t u → home u.seen j.pages ≡ home t.start j.pages
-  book_home t u new law_t law_u kept found = home_read j es last u idle law_u kept ∙ found.same ∙ ap (λ (p : Pages). home p j.pages) (seen_first t new.log law_t)
+  book_home : (t u : Tale) → IsNew t → IsConsistent t → IsConsistent u → IsKeptBy j es last (Some u) → BookOpened j.pages last t u
+      → home u.seen j.pages ≡ home t.start j.pages
+  book_home t u new law_t law_u kept found =
+      home_read j es last u idle law_u kept ∙ found.same ∙ ap (λ (p : Pages). home p j.pages) (seen_first t new.log law_t)
 
-  pub book_keeps : (s1 s2 : ℕ) (o m n : Option Tale) → IfSome o IsNew → Lawful s1 o → Lawful s2 m → IsKeptBy j es last m → Goes Redoes o m → Goes (BookOpened j.pages last) o m → Goes (IsLater j.pages) m n → Goes Keeps o n
+  pub book_keeps : (s1 s2 : ℕ) (o m n : Option Tale) → IfSome o IsNew → Lawful s1 o → Lawful s2 m → IsKeptBy j es last m → Goes Redoes o m
+      → Goes (BookOpened j.pages last) o m → Goes (IsLater j.pages) m n → Goes Keeps o n
   book_keeps s1 s2 None None None new law_o law_m kept redoes found later = tt
   book_keeps s1 s2 None None (Some w) new law_o law_m kept redoes found later = later
   book_keeps s1 s2 None (Some u) n new law_o law_m kept redoes found later = absurd redoes
@@ -190,7 +205,8 @@ module _ (j : View) (es : Entries) (last : Head) (idle : j.state ≡ Idle) where
       later_keeps t u w j.pages file (book_home t u new law_o.0 law_m.0 kept found) (begun_keeps t u new law_o.0 redoes) later
 
   module _ {W : Type 0} {D : disk.Ghosts W} where
-    one_found : (result : Opened W D) (t u : Tale) → IsNew t → IsConsistent t → BookOpened j.pages last t u → HoldsAs j.pages last (published u j.pages) result → FindsAt t.start result
+    one_found : (result : Opened W D) (t u : Tale) → IsNew t → IsConsistent t → BookOpened j.pages last t u
+        → HoldsAs j.pages last (published u j.pages) result → FindsAt t.start result
     one_found (opened.Map session) t u new law found holds =
         let seen = seen_first t new.log law in
         let file = subst (λ (p : Pages). IsMapFile p j.pages) seen found.file in
@@ -206,11 +222,13 @@ module _ (j : View) (es : Entries) (last : Head) (idle : j.state ≡ Idle) where
         let seen = seen_first t new.log law in
         let file = subst (λ (p : Pages). IsMapFile p j.pages) seen found.file in
         let pages : published u j.pages ≡ home t.start j.pages = found.same ∙ ap (λ (p : Pages). home p j.pages) seen in
-        let header : IsHeader j.pages (page_of (home t.start j.pages) 0) last = subst (λ (p : Pages). IsHeader j.pages (page_of (home p j.pages) 0) last) seen found.header in
+        let header : IsHeader j.pages (page_of (home t.start j.pages) 0) last =
+        subst (λ (p : Pages). IsHeader j.pages (page_of (home p j.pages) 0) last) seen found.header in
         let both = damage_found t.start j.pages file last page header (subst (λ (p : Pages). IsDamage p last page) pages (holds page is)) in
         (j.pages, file, both.0, both.1)
 
-    pub book_finds : (result : Opened W D) (s1 : ℕ) (o m : Option Tale) → IfSome o IsNew → Lawful s1 o → Goes (BookOpened j.pages last) o m → IfSome m (λ u. HoldsAs j.pages last (published u j.pages) result) → IfSome o (λ t. FindsAt t.start result)
+    pub book_finds : (result : Opened W D) (s1 : ℕ) (o m : Option Tale) → IfSome o IsNew → Lawful s1 o → Goes (BookOpened j.pages last) o m
+        → IfSome m (λ u. HoldsAs j.pages last (published u j.pages) result) → IfSome o (λ t. FindsAt t.start result)
     book_finds result s1 None m new law found holds = tt
     book_finds result s1 (Some t) None new law found holds = absurd found
     book_finds result s1 (Some t) (Some u) new law found holds = one_found result t u new law.0 found holds

@@ -21,7 +21,8 @@ tails e f a b is = cc
 heads : (e f : Event) (a b : Log) → e ∷ a ≡ f ∷ b → e ≡ f
 heads e f a b is = cc
 
-join : (x e : Event) (a b so : Log) → x ≡ e → Begins a so ⊎ ((more : Log) × (so ≡ a ++ more) × Begins b more) → Begins (x ∷ a) (e ∷ so) ⊎ ((more : Log) × (e ∷ so ≡ (x ∷ a) ++ more) × Begins b more)
+join : (x e : Event) (a b so : Log) → x ≡ e → Begins a so ⊎ ((more : Log) × (so ≡ a ++ more) × Begins b more)
+    → Begins (x ∷ a) (e ∷ so) ⊎ ((more : Log) × (e ∷ so ≡ (x ∷ a) ++ more) × Begins b more)
 join x e a b so same (inl within) = inl (within.0, ap (λ (l : Log). x ∷ l) within.1 ∙ ap (λ (y : Event). y ∷ (so ++ within.0)) same)
 join x e a b so same (inr past) = inr (past.0, ap (λ (l : Log). e ∷ l) past.1 ∙ ap (λ (y : Event). y ∷ (a ++ past.0)) (sym same), past.2)
 

@@ -35,6 +35,7 @@ summary_pieces_are done refused records edition =
     let last = line (codes "edition" ∷ decimal edition ∷ []) in
     append_assoc (ok ++ no) held last ∙ append_assoc ok no (held ++ last)
     ∙ ap (λ (l : List ℕ). ok ++ (no ++ l))
-    (line_with (codes "records") (decimal records) last ∙ ap (λ (l : List ℕ). codes "records" ++ 32 ∷ (decimal records ++ 10 ∷ l)) (append_assoc (codes "edition") (32 ∷ decimal edition) (10 ∷ [])))
+    (line_with (codes "records") (decimal records) last
+    ∙ ap (λ (l : List ℕ). codes "records" ++ 32 ∷ (decimal records ++ 10 ∷ l)) (append_assoc (codes "edition") (32 ∷ decimal edition) (10 ∷ [])))
     ∙ ap (λ (l : List ℕ). ok ++ l) (line_with (codes "no") (decimal refused) (records_piece records edition))
     ∙ line_with (codes "ok") (decimal done) (no_piece refused records edition)

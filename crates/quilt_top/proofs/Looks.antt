@@ -1,5 +1,6 @@
 -- How a word looks, to the table and to the reader of the command.
-use Rattle.std.proofs.Common.{◌≡◌, ◌≢◌, ℕ, Bool, true, false, ◌||◌, not, cond, ◌+◌, ◌<◌, nat_eq, List, [], ◌∷◌, ◌++◌, length, take, drop, get_or, Option, Some, None, codes, refl, sym, ◌∙◌, ap, subst, arith, ◌==◌, inl, inr}
+use Rattle.std.proofs.Common.{◌≡◌, ◌≢◌, ℕ, Bool, true, false, ◌||◌, not, cond, ◌+◌, ◌<◌, nat_eq, List, [], ◌∷◌, ◌++◌, length, take, drop, get_or, Option, Some}
+use Rattle.std.proofs.Common.{None, codes, refl, sym, ◌∙◌, ap, subst, arith, ◌==◌, inl, inr}
 use Rattle.std.specs.Prelude.{option_and_then}
 use Rattle.std.specs.List.{starts_with, list_any, position_or_len, before_first, after_first}
 use Rattle.std.specs.Str.{bytes_eq}
@@ -75,7 +76,8 @@ is_found : (p : ℕ → Bool) (xs : List ℕ) → list_any p xs ≡ true → pos
 is_found p [] any = absurd (cc)
 is_found p (x ∷ xs) any = by (p x) any (is_found p xs)
   where
-    by : (b : Bool) → (b || list_any p xs) ≡ true → (list_any p xs ≡ true → position_or_len p xs < length xs) → cond (not b) (1 + position_or_len p xs) 0 < length (x ∷ xs)
+    by : (b : Bool) → (b || list_any p xs) ≡ true → (list_any p xs ≡ true → position_or_len p xs < length xs)
+        → cond (not b) (1 + position_or_len p xs) 0 < length (x ∷ xs)
     by true any rest = omega arith
     by false any rest = omega (arith, rest any)
 
@@ -83,7 +85,8 @@ not_found : (p : ℕ → Bool) (xs : List ℕ) → list_any p xs ≡ false → p
 not_found p [] none = refl
 not_found p (x ∷ xs) none = by (p x) none (not_found p xs)
   where
-    by : (b : Bool) → (b || list_any p xs) ≡ false → (list_any p xs ≡ false → position_or_len p xs ≡ length xs) → cond (not b) (1 + position_or_len p xs) 0 ≡ length (x ∷ xs)
+    by : (b : Bool) → (b || list_any p xs) ≡ false → (list_any p xs ≡ false → position_or_len p xs ≡ length xs)
+        → cond (not b) (1 + position_or_len p xs) 0 ≡ length (x ∷ xs)
     by true none rest = absurd (cc)
     by false none rest = omega (arith, rest none)
 
@@ -116,7 +119,8 @@ look_bare : Looks (codes "--pool")
 look_bare = bare (record { dashed = refl; ends = refl; valued = refl; bare = refl; long = refl })
 
 -- a name that is not the option's
-look_strange : (z : ℕ) (zs : List ℕ) → (has_byte 61 (z ∷ zs) ≡ true → before_first is_equals (z ∷ zs) ≢ codes "pool") → (has_byte 61 (z ∷ zs) ≡ false → z ∷ zs ≢ codes "pool")
+look_strange : (z : ℕ) (zs : List ℕ) → (has_byte 61 (z ∷ zs) ≡ true → before_first is_equals (z ∷ zs) ≢ codes "pool")
+    → (has_byte 61 (z ∷ zs) ≡ false → z ∷ zs ≢ codes "pool")
     → Looks (dashes (z ∷ zs))
 look_strange z zs with_value with_none = strange (record {
   dashed = is_dashed-two 45 (z ∷ zs);
@@ -148,7 +152,8 @@ look_two z zs = by (has_byte 61 (z ∷ zs)) refl
     with_value : (b : Bool) → bytes_eq (codes "pool") (before_first is_equals (z ∷ zs)) ≡ b → has_byte 61 (z ∷ zs) ≡ true → Looks (dashes (z ∷ zs))
     with_value true is has =
         let e : codes "pool" ≡ before_first is_equals (z ∷ zs) = (bytes_eq-Decides (codes "pool") (before_first is_equals (z ∷ zs))).0 is in
-        subst (λ l. Looks (dashes l)) (ap (λ l. l ++ 61 ∷ after_first is_equals (z ∷ zs)) e ∙ sym (cut_at (z ∷ zs) has)) (look_valued (after_first is_equals (z ∷ zs)))
+        subst (λ l. Looks (dashes l)) (ap (λ l. l ++ 61 ∷ after_first is_equals (z ∷ zs)) e ∙ sym (cut_at (z ∷ zs) has))
+        (look_valued (after_first is_equals (z ∷ zs)))
     with_value false is has = look_strange z zs (λ h. ne_from_false (before_first is_equals (z ∷ zs)) (codes "pool") is) (λ h. absurd (cc))
 
     with_none : (b : Bool) → bytes_eq (codes "pool") (z ∷ zs) ≡ b → has_byte 61 (z ∷ zs) ≡ false → Looks (dashes (z ∷ zs))

@@ -1,5 +1,6 @@
 -- What a stop leaves of a file that is being made, and what is put.
-use Rattle.std.proofs.Common.{◌≡◌, ◌≢◌, inl, inr, ◌+◌, ◌-◌, ◌*◌, ℕ, Bool, true, false, ◌&&◌, List, [], ◌∷◌, ◌++◌, length, get_or, take, drop, replicate, Option, Some, None, Result, Ok, Err, OnErr, refl, sym, ◌∙◌, ap, subst, arith, append-nil, take-append-drop}
+use Rattle.std.proofs.Common.{◌≡◌, ◌≢◌, inl, inr, ◌+◌, ◌-◌, ◌*◌, ℕ, Bool, true, false, ◌&&◌, List, [], ◌∷◌, ◌++◌, length, get_or, take, drop, replicate, Option}
+use Rattle.std.proofs.Common.{Some, None, Result, Ok, Err, OnErr, refl, sym, ◌∙◌, ap, subst, arith, append-nil, take-append-drop}
 use Rattle.std.specs.Option.{IfSome}
 use Rattle.std.specs.List.{list_all}
 use Rattle.std.proofs.lemmas.Bool.{cases_lt}
@@ -83,7 +84,8 @@ pub record HasMade (pages level : ℕ) (t v : Tale) : Type 0 where
   pub making : IsMaking level [] t v
   pub size : length v.start ≡ 3 + 2 * pages
 
-pub created_making : (path : List ℕ) (pages level : ℕ) (door : Door) (t u v : Tale) → door ≡ doors.Made → MakesAt path (3 + 2 * pages) door t u → Creates level u v → HasMade pages level t v
+pub created_making : (path : List ℕ) (pages level : ℕ) (door : Door) (t u v : Tale) → door ≡ doors.Made → MakesAt path (3 + 2 * pages) door t u
+    → Creates level u v → HasMade pages level t v
 created_making path pages level door t u v is makes creates =
     let log : v.log ≡ creates.added.events = creates.added.log ∙ ap (λ (l : Log). l ++ creates.added.events) makes.fresh.log in
     let unput : put_bytes v.log ≡ [] = ap put_bytes log ∙ pages_put_nothing creates.added.events creates.added.only in
@@ -105,10 +107,12 @@ created_making path pages level door t u v is makes creates =
     }
 
 -- puts behind a file that is there
-said_making : (level : ℕ) (said : List ℕ) (t v w : Tale) → IsMaking level [] t v → IsCreated level v → Says said v w → AddsOnly is_of_text v w → IsMaking level said t w
+said_making : (level : ℕ) (said : List ℕ) (t v w : Tale) → IsMaking level [] t v → IsCreated level v → Says said v w
+    → AddsOnly is_of_text v w → IsMaking level said t w
 said_making level said t v w making created says only = record {
   input = says.input ∙ making.input;
-  taken = ap taken_bytes says.log ∙ taken_bytes-append v.log says.events ∙ ap (λ (l : List ℕ). l ++ taken_bytes says.events) making.taken ∙ nothing_taken says.events says.untaken;
+  taken = ap taken_bytes says.log ∙ taken_bytes-append v.log says.events ∙ ap (λ (l : List ℕ). l ++ taken_bytes says.events) making.taken
+      ∙ nothing_taken says.events says.untaken;
   put = ap put_bytes says.log ∙ put_bytes-append v.log says.events ∙ ap (λ (l : List ℕ). l ++ put_bytes says.events) making.put ∙ says.put;
   crash = λ so_far image stop.
       let n = length so_far in
@@ -123,7 +127,8 @@ said_making level said t v w making created says only = record {
             let longer : so_far ≡ v.log ++ events =
             front ∙ ap (λ j. take j (v.log ++ only.events)) (let e : n ≡ m + k = omega arith in e) ∙ take-append-add v.log only.events k in
             let of_text : list_all is_of_text events ≡ true =
-            (and_both _ _ (sym (list_all-append is_of_text events (drop k only.events)) ∙ ap (list_all is_of_text) (take-append-drop k only.events) ∙ only.only)).0 in
+            (and_both _ _ (sym (list_all-append is_of_text events (drop k only.events)) ∙ ap (list_all is_of_text) (take-append-drop k only.events)
+            ∙ only.only)).0 in
             let there : CanLeave v.start v.log image = text_leaves v.start v.log events image of_text (subst (λ l. CanLeave v.start l image) longer left) in
             ((making.crash v.log image (record { front = ([], sym (append-nil v.log)); left = there })).0, λ some. created.left image there)
         | inr within ↦
@@ -137,7 +142,8 @@ said_making level said t v w making created says only = record {
 
 -- ---- what is promised
 
-file_stopped : (pages level : ℕ) (said : List ℕ) (rose : Type 0) (t v : Tale) → Begins (new_line pages level) said → IsMaking level said t v → rose → MakesFile pages level rose ends.Device t v
+file_stopped : (pages level : ℕ) (said : List ℕ) (rose : Type 0) (t v : Tale) → Begins (new_line pages level) said → IsMaking level said t v → rose
+    → MakesFile pages level rose ends.Device t v
 file_stopped pages level said rose t v begins making risen = record {
   front = (begins.0, begins.1 ∙ ap (λ (l : List ℕ). l ++ begins.0) (sym making.put));
   done = λ is. absurd (let e : ◌≡◌ {A = End} ends.Device ends.Done = is in cc);
@@ -150,7 +156,8 @@ same_pages : (image : Pages) (pages : ℕ) (E : _) → length image ≡ 3 + 2 * 
 same_pages image pages E size stands =
     subst (IsMapFile image) (let e : stands.pages ≡ pages = omega (arith, size, stands.file.size) in e) stands.file
 
-file_done : (pages level : ℕ) (rose : Type 0) (t v w : Tale) → HasMade pages level t v → IsCreated level v → Says (new_line pages level) v w → AddsOnly is_of_text v w → IsConsistent w → MakesFile pages level rose ends.Done t w
+file_done : (pages level : ℕ) (rose : Type 0) (t v w : Tale) → HasMade pages level t v → IsCreated level v → Says (new_line pages level) v w
+    → AddsOnly is_of_text v w → IsConsistent w → MakesFile pages level rose ends.Done t w
 file_done pages level rose t v w has created says only consistent =
     let making = said_making level (new_line pages level) t v w has.making created says only in
     let left : CanLeave w.start w.log w.seen = seen_left w.start w.log w.seen consistent.size consistent.last in
@@ -166,7 +173,8 @@ file_done pages level rose t v w has created says only consistent =
       complete = λ not. inl refl;
     }
 
-finds_made : (path : List ℕ) (pages : ℕ) (door : Door) (end : End) (t u v : Tale) → door ≡ doors.Made → MakesAt path pages door t u → (IsOneOf end (ends.Missing ∷ ends.Taken ∷ ends.NotMap ∷ []) → ⊥) → FindsFile path door end t v
+finds_made : (path : List ℕ) (pages : ℕ) (door : Door) (end : End) (t u v : Tale) → door ≡ doors.Made → MakesAt path pages door t u
+    → (IsOneOf end (ends.Missing ∷ ends.Taken ∷ ends.NotMap ∷ []) → ⊥) → FindsFile path door end t v
 finds_made path pages door end t u v is makes other = record {
   ready = λ e. absurd (let f : ◌≡◌ {A = Door} doors.Made doors.Ready = sym is ∙ e in cc);
   missing = λ e. absurd (let f : ◌≡◌ {A = Door} doors.Made doors.Missing = sym is ∙ e in cc);
@@ -197,7 +205,8 @@ module _ (path : List ℕ) (pages level : ℕ) (door : Door) (is : door ≡ door
   abbrev Promise : Door → End → Tale → Tale → Type 0
   Promise now end = KeepsPromises (Some (New path pages level)) rose now end
 
-  pub create_stopped : (now : Door) → now ≡ door → rose → (o m n : Option Tale) → Goes (MakesAt path (3 + 2 * pages) door) o m → Goes (Creates level) m n → WhereTold (Promise now ends.Device) o n
+  pub create_stopped : (now : Door) → now ≡ door → rose → (o m n : Option Tale) → Goes (MakesAt path (3 + 2 * pages) door) o m
+      → Goes (Creates level) m n → WhereTold (Promise now ends.Device) o n
   create_stopped now same risen None None None makes creates = tt
   create_stopped now same risen None None (Some v) makes creates = absurd creates
   create_stopped now same risen None (Some u) n makes creates = absurd makes
@@ -209,7 +218,9 @@ module _ (path : List ℕ) (pages level : ℕ) (door : Door) (is : door ≡ door
         λ e. file_stopped pages level [] rose t v (new_line pages level, refl) has.making risen,
       )
 
-  pub put_stopped : (now : Door) → now ≡ door → rose → (o m n p : Option Tale) → Goes (MakesAt path (3 + 2 * pages) door) o m → Goes (Creates level) m n → IfSome n (IsCreated level) → Goes (λ v w. SaysFront (new_line pages level) v w × AddsOnly is_of_text v w) n p → WhereTold (Promise now ends.Device) o p
+  pub put_stopped : (now : Door) → now ≡ door → rose → (o m n p : Option Tale) → Goes (MakesAt path (3 + 2 * pages) door) o m
+      → Goes (Creates level) m n → IfSome n (IsCreated level) → Goes (λ v w. SaysFront (new_line pages level) v w × AddsOnly is_of_text v w) n p
+      → WhereTold (Promise now ends.Device) o p
   put_stopped now same risen None None None None makes creates created says = tt
   put_stopped now same risen None None None (Some w) makes creates created says = absurd says
   put_stopped now same risen None None (Some v) p makes creates created says = absurd creates
@@ -223,7 +234,9 @@ module _ (path : List ℕ) (pages level : ℕ) (door : Door) (is : door ≡ door
         λ e. file_stopped pages level says.0.said rose t w says.0.front (said_making level says.0.said t v w has.making created says.0.says says.1) risen,
       )
 
-  pub all_done : (size : ℕ) (now : Door) → now ≡ door → (o m n p : Option Tale) → Goes (MakesAt path (3 + 2 * pages) door) o m → Goes (Creates level) m n → IfSome n (IsCreated level) → Goes (λ v w. Says (new_line pages level) v w × AddsOnly is_of_text v w) n p → IfSome p (λ t. IsConsistent t × (length t.start ≡ size)) → WhereTold (Promise now ends.Done) o p
+  pub all_done : (size : ℕ) (now : Door) → now ≡ door → (o m n p : Option Tale) → Goes (MakesAt path (3 + 2 * pages) door) o m
+      → Goes (Creates level) m n → IfSome n (IsCreated level) → Goes (λ v w. Says (new_line pages level) v w × AddsOnly is_of_text v w) n p
+      → IfSome p (λ t. IsConsistent t × (length t.start ≡ size)) → WhereTold (Promise now ends.Done) o p
   all_done size now same None None None None makes creates created says law = tt
   all_done size now same None None None (Some w) makes creates created says law = absurd says
   all_done size now same None None (Some v) p makes creates created says law = absurd creates

@@ -40,19 +40,22 @@ unfolding state_then
 state_is s item c is = ap (λ (r : Result Command Code). after_outcome s (outcome_of s r)) is
 
 -- what the session told
-pub text_given : (s : State) (item : Item) (c : Command) (given : given_reply.Reply) (text : List ℕ) → form s.last.format item ≡ Ok c → Tells given (answer s c).reply → given ≡ reply.Ok text →
+pub text_given : (s : State) (item : Item) (c : Command) (given : given_reply.Reply) (text : List ℕ) → form s.last.format item ≡ Ok c
+    → Tells given (answer s c).reply → given ≡ reply.Ok text →
     (text ≡ text_of (reply_to s item)) × (true ≡ is_done (reply_to s item))
 text_given s item c given text is tells ok =
     let told : Tells (reply.Ok text) (answer s c).reply = subst (λ r. Tells r (answer s c).reply) ok tells in
     (told.0 ∙ sym (ap text_of (reply_is s item c is)), sym (ap is_done (reply_is s item c is) ∙ told.1))
 
-pub code_given : (s : State) (item : Item) (c : Command) (given : given_reply.Reply) (code : Code) → form s.last.format item ≡ Ok c → Tells given (answer s c).reply → given ≡ reply.No code →
+pub code_given : (s : State) (item : Item) (c : Command) (given : given_reply.Reply) (code : Code) → form s.last.format item ≡ Ok c
+    → Tells given (answer s c).reply → given ≡ reply.No code →
     reply_to s item ≡ Refused code
 code_given s item c given code is tells no_ = reply_is s item c is ∙ subst (λ r. Tells r (answer s c).reply) no_ tells
 
 -- an item that was given
 pub item_is : (f g n m : ℕ) (group : Group) (item : Item) → item ≡ held f n group → f ≡ g → n ≡ m → IsItem g m item
-item_is f g n m group item is format level = record { group = group; is = sym (is ∙ ap (λ (h : ℕ). held h n group) format ∙ ap (λ (k : ℕ). held g k group) level) }
+item_is f g n m group item is format level =
+    record { group = group; is = sym (is ∙ ap (λ (h : ℕ). held h n group) format ∙ ap (λ (k : ℕ). held g k group) level) }
 
 pub held_is : (f n : ℕ) (s : State) (group : Group) (item : Item) → item ≡ held f n group → s.last.format ≡ f → s.last.level ≡ n → item ≡ held_at s group
 held_is f n s group item is format level = is ∙ sym (ap (λ (h : ℕ). held h s.last.level group) format ∙ ap (λ (k : ℕ). held f k group) level)

@@ -3,7 +3,8 @@ use Rattle.std.proofs.Common.{◌≡◌, inl, inr, suc, true, List, [], ◌∷�
 use Rattle.std.specs.Borrow.{Bor}
 use Rattle.std.specs.Str.{IsUtf8}
 use Rattle.std.proofs.lemmas.Bool.{and_parts}
-use Rattle.clap.specs.Words.{App, HasKind, HasMatchesOf, IsAmong, Kinds, Row, Text, fault_of, first_of, first_value, found_of, is_simple, is_simple_and_free, kind_of, matches_of, rows_of}
+use Rattle.clap.specs.Words.{App, HasKind, HasMatchesOf, IsAmong, Kinds, Row, Text, fault_of, first_of, first_value, found_of, is_simple, is_simple_and_free}
+use Rattle.clap.specs.Words.{kind_of, matches_of, rows_of}
 use Rattle.clap.specs.Faults.{is_free_app}
 use Rattle.clap.specs.Simple.{built}
 use Rattle.clap.specs.declared.parser.matches.ArgMatches.{ArgMatches}
@@ -29,7 +30,8 @@ pub taken : (a : App) (ws : List Text) (m : ArgMatches) → a ≡ reader → Are
     → order_by (first_value (found_of m)) ≡ asked_for ws
 taken a ws m is texts none has =
     let rows : rows_of (found_of m) ≡ matches_of reader ws = (has (simple a is)).0 ∙ ap (λ (b : App). matches_of b ws) is in
-    let same : order_by (first_value (found_of m)) ≡ order_by (λ id. first_of id (rows_of (found_of m))) = λ i. order_by (λ id. first_value-rows (found_of m) id i) in
+    let same : order_by (first_value (found_of m)) ≡ order_by (λ id. first_of id (rows_of (found_of m))) =
+    λ i. order_by (λ id. first_value-rows (found_of m) id i) in
     let free : [] ≡ fault_of reader ws = sym none ∙ ap (λ (b : App). fault_of b ws) is in
     same ∙ ap₂ (λ (k : Kinds) (r : List Row). read k (order_by (λ id. first_of id r))) free rows ∙ reads ws texts
 
@@ -41,7 +43,9 @@ among_some : (e : Error) (k : Kinds) → HasKind k e → (kind_of e ≡ OutOfMem
 among_some e k (inl is) unequal none = unequal is
 among_some e k (inr among) unequal none = subst (IsAmong (kind_of e)) none among
 
-pub not_taken : (a : App) (ws : List Text) (e : Error) → a ≡ reader → AreTexts ws → HasKind (fault_of a ws) e → (kind_of e ≡ OutOfMemory → ⊥) → None ≡ asked_for ws
+pub not_taken : (a : App) (ws : List Text) (e : Error) → a ≡ reader → AreTexts ws → HasKind (fault_of a ws) e
+    → (kind_of e ≡ OutOfMemory → ⊥) → None ≡ asked_for ws
 not_taken a ws e is texts has unequal =
     let some = among_some e (fault_of a ws) has unequal in
-    sym (not_empty (fault_of reader ws) (order_by (λ id. first_of id (matches_of reader ws))) (λ none. some (ap (λ (b : App). fault_of b ws) is ∙ none))) ∙ reads ws texts
+    sym (not_empty (fault_of reader ws) (order_by (λ id. first_of id (matches_of reader ws)))
+    (λ none. some (ap (λ (b : App). fault_of b ws) is ∙ none))) ∙ reads ws texts

@@ -1,5 +1,6 @@
 -- The place of an edition in a run, by what was put.
-use Rattle.std.proofs.Common.{◌≡◌, ℕ, suc, ◌+◌, ◌≤◌, Bool, true, false, ◌&&◌, cond, List, [], ◌∷◌, ◌++◌, length, length-append, drop, Option, Some, None, is_some, unwrap_or, codes, refl, ◌∙◌, ap, subst, arith}
+use Rattle.std.proofs.Common.{◌≡◌, ℕ, suc, ◌+◌, ◌≤◌, Bool, true, false, ◌&&◌, cond, List, [], ◌∷◌, ◌++◌, length, length-append, drop, Option, Some, None}
+use Rattle.std.proofs.Common.{is_some, unwrap_or, codes, refl, ◌∙◌, ap, subst, arith}
 use Rattle.std.specs.Prelude.{slice_get, flat_map}
 use Rattle.std.proofs.lemmas.Bool.{eq-eqb}
 use Rattle.std.proofs.lemmas.List.{drop_at}
@@ -46,7 +47,9 @@ told_from : (steps : List (Reply × Bool)) (put : List ℕ) (n : ℕ) → told_w
 told_from [] put n = omega arith
 told_from (r ∷ rs) put n = either (prefix_of (text_of r.0) put) (told_from rs (drop (length (text_of r.0)) put))
   where
-    either : (b : Bool) → ((m : ℕ) → told_within rs (drop (length (text_of r.0)) put) m ≡ m + told_within rs (drop (length (text_of r.0)) put) 0) → cond b (told_within rs (drop (length (text_of r.0)) put) (cond r.1 (n + 1) n)) n ≡ n + cond b (told_within rs (drop (length (text_of r.0)) put) (cond r.1 (0 + 1) 0)) 0
+    either : (b : Bool) → ((m : ℕ) → told_within rs (drop (length (text_of r.0)) put) m ≡ m + told_within rs (drop (length (text_of r.0)) put) 0)
+        → cond b (told_within rs (drop (length (text_of r.0)) put) (cond r.1 (n + 1) n)) n ≡ n
+        + cond b (told_within rs (drop (length (text_of r.0)) put) (cond r.1 (0 + 1) 0)) 0
     either true more = omega (arith, more (cond r.1 (n + 1) n), more (cond r.1 (0 + 1) 0), bumped r.1 n)
     either false more = omega arith
 
@@ -63,23 +66,27 @@ bump_is (Some e) = refl
 pub told_none : (s : State) (gs : List Group) → told_within (run_in s gs).steps [] 0 ≡ 0
 told_none s [] = refl
 told_none s (g ∷ gs) =
-    ap (λ b. cond b (told_within (run_in (state_after_of g) gs).steps (drop (length (text_of (outcome s (held_at s g)).reply)) []) (cond (is_some (outcome s (held_at s g)).published) (0 + 1) 0)) 0)
+    ap (λ b. cond b (told_within (run_in (state_after_of g) gs).steps (drop (length (text_of (outcome s (held_at s g)).reply)) [])
+    (cond (is_some (outcome s (held_at s g)).published) (0 + 1) 0)) 0)
     (prefix_none (text_of (outcome s (held_at s g)).reply) (text_some (outcome s (held_at s g)).reply))
   where
     state_after_of : Group → State
     state_after_of i = record { quota = s.quota; last = unwrap_or (outcome s (held_at s i)).published s.last; work = (outcome s (held_at s i)).work }
 
 -- less than the first reply was put
-pub told_short : (s : State) (g : Group) (gs : List Group) (p : List ℕ) (c : ℕ) (cs : List ℕ) → text_of (reply_to s (held_at s g)) ≡ p ++ c ∷ cs → told_within (run_in s (g ∷ gs)).steps p 0 ≡ 0
+pub told_short : (s : State) (g : Group) (gs : List Group) (p : List ℕ) (c : ℕ) (cs : List ℕ) → text_of (reply_to s (held_at s g)) ≡ p ++ c ∷ cs
+    → told_within (run_in s (g ∷ gs)).steps p 0 ≡ 0
 unfolding reply_to
 told_short s g gs p c cs text =
     let out = outcome s (held_at s g) in
     let short : prefix_of (text_of out.reply) p ≡ false = ap (λ (t : List ℕ). prefix_of t p) text ∙ prefix_short p c cs in
-    ap (λ b. cond b (told_within (run_of s.quota (unwrap_or out.published s.last) out.work gs).steps (drop (length (text_of out.reply)) p) (cond (is_some out.published) (0 + 1) 0)) 0) short
+    ap (λ b. cond b (told_within (run_of s.quota (unwrap_or out.published s.last) out.work gs).steps (drop (length (text_of out.reply)) p)
+    (cond (is_some out.published) (0 + 1) 0)) 0) short
 
 -- the first reply was put, and then more
 told_behind : (s : State) (g : Group) (gs : List Group) (put : List ℕ) →
-    told_within (run_in s (g ∷ gs)).steps (text_of (reply_to s (held_at s g)) ++ put) 0 ≡ bump (outcome s (held_at s g)).published + told_within (run_in (state_then s (held_at s g)) gs).steps put 0
+    told_within (run_in s (g ∷ gs)).steps (text_of (reply_to s (held_at s g)) ++ put) 0 ≡ bump (outcome s (held_at s g)).published
+    + told_within (run_in (state_then s (held_at s g)) gs).steps put 0
 unfolding reply_to state_then
 told_behind s g gs put =
     let out = outcome s (held_at s g) in
@@ -111,7 +118,8 @@ counted : (last : Edition) (o : Option Edition) (es : List Edition) → length (
 counted last None es = omega arith
 counted last (Some e) es = omega arith
 
-pub edition_last : (s : State) (gs : List Group) → (k : ℕ) × (k + 1 ≡ length (run_in s gs).editions) × (slice_get (run_in s gs).editions k ≡ Some (state_after s gs).last)
+pub edition_last : (s : State) (gs : List Group) → (k : ℕ) × (k + 1 ≡ length (run_in s gs).editions)
+    × (slice_get (run_in s gs).editions k ≡ Some (state_after s gs).last)
 unfolding state_then
 edition_last s [] = (0, refl, refl)
 edition_last s (g ∷ gs) =
@@ -126,7 +134,8 @@ edition_last s (g ∷ gs) =
 -- ---- an image
 
 -- it stands for the last edition, and no further one is told
-pub fine_last : (s : State) (gs : List Group) (put : List ℕ) (image : Pages) → told_within (run_in s gs).steps put 0 ≡ 0 → Stands image s.last → IsFine (run_in s gs) put image
+pub fine_last : (s : State) (gs : List Group) (put : List ℕ) (image : Pages) → told_within (run_in s gs).steps put 0 ≡ 0 → Stands image s.last
+    → IsFine (run_in s gs) put image
 fine_last s gs put image told stands = record {
   place = 0;
   least = omega arith;
@@ -135,7 +144,8 @@ fine_last s gs put image told stands = record {
 }
 
 -- it stands for the edition that the first item gives
-pub fine_new : (s : State) (g : Group) (gs : List Group) (put : List ℕ) (image : Pages) (e : Edition) → told_within (run_in s (g ∷ gs)).steps put 0 ≡ 0 → (outcome s (held_at s g)).published ≡ Some e → Stands image e → IsFine (run_in s (g ∷ gs)) put image
+pub fine_new : (s : State) (g : Group) (gs : List Group) (put : List ℕ) (image : Pages) (e : Edition)
+    → told_within (run_in s (g ∷ gs)).steps put 0 ≡ 0 → (outcome s (held_at s g)).published ≡ Some e → Stands image e → IsFine (run_in s (g ∷ gs)) put image
 fine_new s g gs put image e told given stands =
     let out = outcome s (held_at s g) in
     let es = (run_of s.quota (unwrap_or out.published s.last) out.work gs).editions in
@@ -149,16 +159,19 @@ fine_new s g gs put image e told given stands =
     }
 
 -- it stands for the last edition after the first item
-pub fine_then : (s : State) (g : Group) (gs : List Group) (put : List ℕ) (image : Pages) → told_within (run_in s (g ∷ gs)).steps put 0 ≡ 0 → Stands image (state_then s (held_at s g)).last → IsFine (run_in s (g ∷ gs)) put image
+pub fine_then : (s : State) (g : Group) (gs : List Group) (put : List ℕ) (image : Pages) → told_within (run_in s (g ∷ gs)).steps put 0 ≡ 0
+    → Stands image (state_then s (held_at s g)).last → IsFine (run_in s (g ∷ gs)) put image
 unfolding state_then
 fine_then s g gs put image told stands = by_given (outcome s (held_at s g)).published refl stands
   where
-    by_given : (o : Option Edition) → (outcome s (held_at s g)).published ≡ o → Stands image (unwrap_or (outcome s (held_at s g)).published s.last) → IsFine (run_in s (g ∷ gs)) put image
+    by_given : (o : Option Edition) → (outcome s (held_at s g)).published ≡ o → Stands image (unwrap_or (outcome s (held_at s g)).published s.last)
+        → IsFine (run_in s (g ∷ gs)) put image
     by_given None none stands = fine_last s (g ∷ gs) put image told (subst (λ (o : Option Edition). Stands image (unwrap_or o s.last)) none stands)
     by_given (Some e) given stands = fine_new s g gs put image e told given (subst (λ (o : Option Edition). Stands image (unwrap_or o s.last)) given stands)
 
 -- behind the first reply
-pub fine_behind : (s : State) (g : Group) (gs : List Group) (put : List ℕ) (image : Pages) → IsFine (run_in (state_then s (held_at s g)) gs) put image → IsFine (run_in s (g ∷ gs)) (text_of (reply_to s (held_at s g)) ++ put) image
+pub fine_behind : (s : State) (g : Group) (gs : List Group) (put : List ℕ) (image : Pages)
+    → IsFine (run_in (state_then s (held_at s g)) gs) put image → IsFine (run_in s (g ∷ gs)) (text_of (reply_to s (held_at s g)) ++ put) image
 unfolding state_then
 fine_behind s g gs put image so =
     let out = outcome s (held_at s g) in

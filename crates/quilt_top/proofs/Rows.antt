@@ -44,7 +44,9 @@ added id v (r ∷ rows) none = by (bytes_eq r.id id) refl none (added id v rows)
         → (found id rows ≡ None → with_values id (reading_of vp.String) CommandLine (v ∷ []) (without id rows) ≡ rows ++ row id v ∷ [])
         → with_values id (reading_of vp.String) CommandLine (v ∷ []) (cond b rows (r ∷ without id rows)) ≡ r ∷ rows ++ row id v ∷ []
     by true is none rest = absurd (cc)
-    by false is none rest = ap (λ (b : Bool). cond b (more_values CommandLine (v ∷ []) r ++ without id rows) (r ∷ with_values id (reading_of vp.String) CommandLine (v ∷ []) (without id rows))) is ∙ ap (λ l. r ∷ l) (rest none)
+    by false is none rest =
+        ap (λ (b : Bool). cond b (more_values CommandLine (v ∷ []) r ++ without id rows)
+        (r ∷ with_values id (reading_of vp.String) CommandLine (v ∷ []) (without id rows))) is ∙ ap (λ l. r ∷ l) (rest none)
 
 pub has_row-found : (id : Text) (rows : List Row) → has_row id rows ≡ is_some (found id rows)
 has_row-found id [] = refl
@@ -55,7 +57,8 @@ has_row-found id (r ∷ rows) = by (bytes_eq r.id id) (has_row-found id rows)
     by false rest = rest
 
 -- one row more
-pushed : (id other v : Text) (rows : List Row) → found other (rows ++ row id v ∷ []) ≡ option_or (found other rows) (cond (bytes_eq id other) (Some (row id v)) None)
+pushed : (id other v : Text) (rows : List Row)
+    → found other (rows ++ row id v ∷ []) ≡ option_or (found other rows) (cond (bytes_eq id other) (Some (row id v)) None)
 pushed id other v rows = find-append (λ r. bytes_eq r.id other) rows (row id v ∷ [])
 
 -- the word at the next place

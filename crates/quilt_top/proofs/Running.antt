@@ -1,5 +1,6 @@
 -- What a run over a file promises, by what opening and the text did.
-use Rattle.std.proofs.Common.{◌≡◌, inl, inr, ◌+◌, ◌≤◌, ◌<◌, ℕ, Bool, true, false, List, [], ◌∷◌, ◌++◌, length, length-append, take, Option, Some, None, Result, Ok, Err, IfOk, IfErr, refl, sym, ◌∙◌, ap, subst, arith, append-nil}
+use Rattle.std.proofs.Common.{◌≡◌, inl, inr, ◌+◌, ◌≤◌, ◌<◌, ℕ, Bool, true, false, List, [], ◌∷◌, ◌++◌, length, length-append, take, Option, Some, None, Result}
+use Rattle.std.proofs.Common.{Ok, Err, IfOk, IfErr, refl, sym, ◌∙◌, ap, subst, arith, append-nil}
 use Rattle.std.specs.Option.{IfSome}
 use Rattle.std.specs.List.{All}
 use Rattle.std.proofs.lemmas.List.{take_at}
@@ -37,7 +38,8 @@ use Rattle.quilt_top.specs.declared.halt.Halt.{Halt}
 use Rattle.quilt_top.specs.declared.halt.Halt.TheVariants as halts
 use Rattle.quilt_top.specs.declared.run.End.{End}
 use Rattle.quilt_top.specs.declared.run.End.TheVariants as ends
-use Rattle.quilt_top.specs.Headline.{IsOneOf, ComesExactly, IsStop, IsEdition, WritesFew, all_done, RunsText, IsPrompt, input_limit, told_by_replies, RunsInput, IsNoMap, StandsForNothing, OpensSafely, FindsFile, may_end_run, HasEndCause, KeepsPromises, WhereTold}
+use Rattle.quilt_top.specs.Headline.{IsOneOf, ComesExactly, IsStop, IsEdition, WritesFew, all_done, RunsText, IsPrompt, input_limit, told_by_replies, RunsInput}
+use Rattle.quilt_top.specs.Headline.{IsNoMap, StandsForNothing, OpensSafely, FindsFile, may_end_run, HasEndCause, KeepsPromises, WhereTold}
 use Rattle.quilt_top.specs.Words.{Run as RunText}
 use Rattle.quilt_top.specs.Openings.{Keeps, RunsTo, run_ends, is_run_end, end_of, end_of_stop}
 
@@ -46,15 +48,21 @@ use Rattle.quilt_top.specs.Openings.{Keeps, RunsTo, run_ends, is_run_end, end_of
 pub stands_as : (n : ℕ) (start image : Pages) (E : Edition) → IsMapFile start n → Stands start E → HasHome n (home start n) image → Stands image E
 stands_as n start image E file stands has =
     let size : stands.pages ≡ n = omega (arith, stands.file.size, file.size) in
-    record { pages = n; file = has.file; holds = subst (λ (p : Pages). HoldsEdition p E) (sym has.same) (subst (λ k. HoldsEdition (home start k) E) size stands.holds) }
+    record {
+      pages = n;
+      file = has.file;
+      holds = subst (λ (p : Pages). HoldsEdition p E) (sym has.same) (subst (λ k. HoldsEdition (home start k) E) size stands.holds);
+    }
 
 -- each image that a stop may leave so far has the home pages of the start
-pub home_kept : (u v : Tale) (n : ℕ) → u.log ≡ [] → Keeps u v → IsMapFile u.start n → (so_far : Log) (image : Pages) → Begins v.log so_far → CanLeave v.start so_far image → HasHome n (home u.start n) image
+pub home_kept : (u v : Tale) (n : ℕ) → u.log ≡ [] → Keeps u v → IsMapFile u.start n → (so_far : Log) (image : Pages) → Begins v.log so_far
+    → CanLeave v.start so_far image → HasHome n (home u.start n) image
 home_kept u v n new keeps file so_far image front left =
     let since = keeps.homes n file in
     let k = length so_far in
     let is : take k v.log ≡ so_far = ap (take k) front.1 ∙ take_at so_far front.0 k refl in
-    since.each k (omega (arith, ap length new)) image (subst (λ (l : Log). CanLeave u.start l image) (sym is) (subst (λ (p : Pages). CanLeave p so_far image) since.file.start left))
+    since.each k (omega (arith, ap length new)) image
+    (subst (λ (l : Log). CanLeave u.start l image) (sym is) (subst (λ (p : Pages). CanLeave p so_far image) since.file.start left))
 
 opened_leaves : (u v : Tale) (n : ℕ) (E : Edition) → u.log ≡ [] → Keeps u v → IsMapFile u.start n → Stands u.start E → LeavesNow v (λ image. Stands image E)
 opened_leaves u v n E new keeps file stands = λ image left.
@@ -103,7 +111,8 @@ not_damaged end page (inr (inr (inr (inl e)))) is = let f : ◌≡◌ {A = End} 
 not_damaged end page (inr (inr (inr (inr (inl e))))) is = let f : ◌≡◌ {A = End} ends.TooMuch (ends.Damaged page) = sym e ∙ is in cc
 not_damaged end page (inr (inr (inr (inr (inr e))))) is = e
 
-pub given_up : (end : End) (rose : Type 0) → IsOneOf end run_ends → (end ≡ ends.Device → rose) → (rose → ⊥) → IsOneOf end (ends.Done ∷ ends.Refused ∷ ends.Memory ∷ ends.TooMuch ∷ [])
+pub given_up : (end : End) (rose : Type 0) → IsOneOf end run_ends → (end ≡ ends.Device → rose) → (rose → ⊥)
+    → IsOneOf end (ends.Done ∷ ends.Refused ∷ ends.Memory ∷ ends.TooMuch ∷ [])
 given_up end rose (inl e) device calm = inl e
 given_up end rose (inr (inl e)) device calm = inr (inl e)
 given_up end rose (inr (inr (inl e))) device calm = absurd (calm (device e))
@@ -117,7 +126,8 @@ pub run_is : (pages : ℕ) (first : Edition) (text : List ℕ) → run_in (first
 unfolding run
 run_is pages first text = refl
 
-publishes_are : (pages : ℕ) (first : Edition) (text : List ℕ) → publishes_in (first_state pages first) (items_of first.level text) ≡ publishes (quota pages) first text
+publishes_are : (pages : ℕ) (first : Edition) (text : List ℕ)
+    → publishes_in (first_state pages first) (items_of first.level text) ≡ publishes (quota pages) first text
 unfolding publishes
 publishes_are pages first text = refl
 
@@ -160,7 +170,8 @@ module _ (pages : ℕ) (first : Edition) (end : End) (v w : Tale) (so : RunsTo f
       last = λ is. subst (λ (x : Run). (k : ℕ) × (k + 1 ≡ length x.editions) × IsEdition x k w.seen) (run_is pages first v.input) (whole_of is).1.last;
       done = λ is. ap all_done (sym (run_is pages first v.input)) ∙ sym (so.done is).done;
       refused = λ is. ap all_done (sym (run_is pages first v.input)) ∙ sym (so.refused is).done;
-      crash = λ so_far image stop. let fine = fine_at so_far image stop in (fine.place, (let e = told_is r so_far in let f = fine.least in omega arith), fine.edition);
+      crash = λ so_far image stop. let fine =
+          fine_at so_far image stop in (fine.place, (let e = told_is r so_far in let f = fine.least in omega arith), fine.edition);
       complete = λ calm. given_up end rose one device calm;
     }
 
@@ -173,11 +184,13 @@ module _ (pages : ℕ) (first : Edition) (end : End) (v w : Tale) (so : RunsTo f
           let fine = fine_at so_far image stop in
           let e = told_is r so_far in
           (fine.place, (let f = fine.most in omega arith), (let f = fine.least in omega arith), fine.edition);
-      short = λ fits is. let past = (so.too_much is).past in let all = ap length so.runs.input in let sum = length-append (taken_bytes w.log) w.input in omega arith;
+      short = λ fits is. let past = (so.too_much is).past in let all = ap length so.runs.input in let sum =
+          length-append (taken_bytes w.log) w.input in omega arith;
       bounded = so.runs.bounded;
       unanswered = λ is. let over = so.too_much is in (over.so_far, over.piece, over.last);
       writes = subst (λ (ps : List Published). All (WritesFew r w.log) ps) (publishes_are pages first v.input)
-          (subst (λ (x : Run). All (WritesFew x w.log) (publishes_in (first_state pages first) (items_of first.level v.input))) (run_is pages first v.input) so.runs.writes);
+          (subst (λ (x : Run). All (WritesFew x w.log) (publishes_in (first_state pages first) (items_of first.level v.input)))
+          (run_is pages first v.input) so.runs.writes);
     }
 
   past_is : IsOneOf end run_ends → input_limit < length (taken_bytes w.log) → IsOneOf end (ends.TooMuch ∷ ends.Device ∷ ends.Memory ∷ [])
@@ -201,17 +214,21 @@ module _ (pages : ℕ) (first : Edition) (end : End) (v w : Tale) (so : RunsTo f
 
 -- ---- a run that was not begun
 
-pub quiet_run : (pages : ℕ) (first : Edition) (end : End) (v : Tale) → IsUntold v → LeavesNow v (λ image. Stands image first) → (end ≡ ends.Done → ⊥) → (end ≡ ends.Refused → ⊥) → (end ≡ ends.TooMuch → ⊥)
+pub quiet_run : (pages : ℕ) (first : Edition) (end : End) (v : Tale) → IsUntold v → LeavesNow v (λ image. Stands image first) → (end ≡ ends.Done → ⊥)
+    → (end ≡ ends.Refused → ⊥) → (end ≡ ends.TooMuch → ⊥)
     → RunsTo first.level (first_state pages first) end v v
 quiet_run pages first end v untold leaves not_done not_refused not_much = record {
-  runs = runs_now first.level (first_state pages first) refl 0 true (first_state pages first) 0 [] v v (omega arith) (reading_first first.level (first_state pages first) refl 0 v refl untold leaves);
+  runs = runs_now first.level (first_state pages first) refl 0 true (first_state pages first) 0 [] v v (omega arith)
+      (reading_first first.level (first_state pages first) refl 0 v refl untold leaves);
   done = λ is. absurd (not_done is);
   refused = λ is. absurd (not_refused is);
   too_much = λ is. absurd (not_much is);
 }
 
-pub opens_quiet : (end : End) (u v : Tale) → u.log ≡ [] → Keeps u v → ComesExactly end ends.NotMap (IsNoMap v.start) → ((page : ℕ) → end ≡ ends.Damaged page → StandsForNothing v.start)
-    → ((pages : ℕ) → IsMapFile v.start pages → StandsForNothing v.start → (page : ℕ) × IsDamagePage (home v.start pages) page × IsOneOf end (ends.Damaged page ∷ ends.Device ∷ ends.Memory ∷ []))
+pub opens_quiet : (end : End) (u v : Tale) → u.log ≡ [] → Keeps u v → ComesExactly end ends.NotMap (IsNoMap v.start)
+    → ((page : ℕ) → end ≡ ends.Damaged page → StandsForNothing v.start)
+    → ((pages : ℕ) → IsMapFile v.start pages → StandsForNothing v.start → (page : ℕ) × IsDamagePage (home v.start pages) page
+    × IsOneOf end (ends.Damaged page ∷ ends.Device ∷ ends.Memory ∷ []))
     → (end ≡ ends.TooMuch → ⊥) → OpensSafely end v
 opens_quiet end u v new keeps not_map damaged is_damaged not_much =
     let untold = opened_untold u v new keeps in
@@ -223,12 +240,14 @@ opens_quiet end u v new keeps not_map damaged is_damaged not_much =
       is_damaged = is_damaged;
       quiet = λ none. (pages_unput v.log untold, none_taken);
       kept = λ pages file none so_far image stop.
-          (home_kept u v pages new keeps (subst (λ (p : Pages). IsMapFile p pages) start file) so_far image stop.front stop.left).same ∙ ap (λ (p : Pages). home p pages) (sym start);
+          (home_kept u v pages new keeps (subst (λ (p : Pages). IsMapFile p pages) start file) so_far image stop.front stop.left).same
+          ∙ ap (λ (p : Pages). home p pages) (sym start);
       unwritten = λ none. keeps.other (subst IsNoMap start none) ∙ new;
       too_much = record { only = λ is. absurd (not_much is); always = λ past. absurd (let e = ap length none_taken in omega arith) };
     }
 
-pub finds_opened : (path : List ℕ) (door now : Door) (end : End) (t u w : Tale) → now ≡ door → (door ≡ doors.Made → ⊥) → (door ≡ doors.Taken → ⊥) → OpensAt path door t u →
+pub finds_opened : (path : List ℕ) (door now : Door) (end : End) (t u w : Tale) → now ≡ door → (door ≡ doors.Made → ⊥)
+    → (door ≡ doors.Taken → ⊥) → OpensAt path door t u →
     (IsOneOf end (ends.Missing ∷ ends.Taken ∷ ends.NotMap ∷ []) → w.log ≡ []) → FindsFile path now end t w
 finds_opened path door now end t u w same not_made not_taken opens quiet = record {
   ready = λ e. opens.ready (sym same ∙ e);
@@ -254,24 +273,48 @@ apart a b n m x y other is = other (sym x ∙ ap number is ∙ y)
 
 -- ---- a run of the text over a session
 
-stopped_to : (n : ℕ) (s : State) (old w : Tale) (end : End) → RunsFrom n s old w → (end ≡ ends.Done → ⊥) → (end ≡ ends.Refused → ⊥) → (end ≡ ends.TooMuch → ⊥) → RunsTo n s end old w
+stopped_to : (n : ℕ) (s : State) (old w : Tale) (end : End) → RunsFrom n s old w → (end ≡ ends.Done → ⊥) → (end ≡ ends.Refused → ⊥)
+    → (end ≡ ends.TooMuch → ⊥) → RunsTo n s end old w
 stopped_to n s old w end runs a b c = record { runs = runs; done = λ e. absurd (a e); refused = λ e. absurd (b e); too_much = λ e. absurd (c e) }
 
 module _ (n : ℕ) (s : State) (old w : Tale) (runs : RunsFrom n s old w) where
-  runs_at : (outcome : Result Bool Halt) → IfOk outcome (λ d. RunsWhole n d s old w) → IfErr outcome (λ e. e ≡ halts.TooMuch → Overruns w) → RunsTo n s (end_of outcome) old w
-  runs_at (Ok true) whole much = record { runs = runs; done = λ is. whole; refused = λ e. absurd (apart ends.Done ends.Refused 0 1 refl refl (λ f. cc) e); too_much = λ e. absurd (apart ends.Done ends.TooMuch 0 2 refl refl (λ f. cc) e) }
-  runs_at (Ok false) whole much = record { runs = runs; done = λ e. absurd (apart ends.Refused ends.Done 1 0 refl refl (λ f. cc) e); refused = λ is. whole; too_much = λ e. absurd (apart ends.Refused ends.TooMuch 1 2 refl refl (λ f. cc) e) }
+  runs_at : (outcome : Result Bool Halt) → IfOk outcome (λ d. RunsWhole n d s old w) → IfErr outcome (λ e. e ≡ halts.TooMuch → Overruns w)
+      → RunsTo n s (end_of outcome) old w
+  runs_at (Ok true) whole much =
+      record {
+        runs = runs;
+        done = λ is. whole;
+        refused = λ e. absurd (apart ends.Done ends.Refused 0 1 refl refl (λ f. cc) e);
+        too_much = λ e. absurd (apart ends.Done ends.TooMuch 0 2 refl refl (λ f. cc) e);
+      }
+  runs_at (Ok false) whole much =
+      record {
+        runs = runs;
+        done = λ e. absurd (apart ends.Refused ends.Done 1 0 refl refl (λ f. cc) e);
+        refused = λ is. whole;
+        too_much = λ e. absurd (apart ends.Refused ends.TooMuch 1 2 refl refl (λ f. cc) e);
+      }
   runs_at (Err (halts.Stopped stops.Device)) whole much =
-      stopped_to n s old w ends.Device runs (λ e. apart ends.Device ends.Done 5 0 refl refl (λ f. cc) e) (λ e. apart ends.Device ends.Refused 5 1 refl refl (λ f. cc) e) (λ e. apart ends.Device ends.TooMuch 5 2 refl refl (λ f. cc) e)
+      stopped_to n s old w ends.Device runs (λ e. apart ends.Device ends.Done 5 0 refl refl (λ f. cc) e)
+      (λ e. apart ends.Device ends.Refused 5 1 refl refl (λ f. cc) e) (λ e. apart ends.Device ends.TooMuch 5 2 refl refl (λ f. cc) e)
   runs_at (Err (halts.Stopped stops.Memory)) whole much =
-      stopped_to n s old w ends.Memory runs (λ e. apart ends.Memory ends.Done 5 0 refl refl (λ f. cc) e) (λ e. apart ends.Memory ends.Refused 5 1 refl refl (λ f. cc) e) (λ e. apart ends.Memory ends.TooMuch 5 2 refl refl (λ f. cc) e)
+      stopped_to n s old w ends.Memory runs (λ e. apart ends.Memory ends.Done 5 0 refl refl (λ f. cc) e)
+      (λ e. apart ends.Memory ends.Refused 5 1 refl refl (λ f. cc) e) (λ e. apart ends.Memory ends.TooMuch 5 2 refl refl (λ f. cc) e)
   runs_at (Err (halts.Stopped (stops.Damaged page))) whole much =
-      stopped_to n s old w (ends.Damaged page) runs (λ e. apart (ends.Damaged page) ends.Done 4 0 refl refl (λ f. cc) e) (λ e. apart (ends.Damaged page) ends.Refused 4 1 refl refl (λ f. cc) e)
+      stopped_to n s old w (ends.Damaged page) runs (λ e. apart (ends.Damaged page) ends.Done 4 0 refl refl (λ f. cc) e)
+      (λ e. apart (ends.Damaged page) ends.Refused 4 1 refl refl (λ f. cc) e)
       (λ e. apart (ends.Damaged page) ends.TooMuch 4 2 refl refl (λ f. cc) e)
-  runs_at (Err halts.TooMuch) whole much = record { runs = runs; done = λ e. absurd (apart ends.TooMuch ends.Done 2 0 refl refl (λ f. cc) e); refused = λ e. absurd (apart ends.TooMuch ends.Refused 2 1 refl refl (λ f. cc) e); too_much = λ is. much refl }
+  runs_at (Err halts.TooMuch) whole much =
+      record {
+        runs = runs;
+        done = λ e. absurd (apart ends.TooMuch ends.Done 2 0 refl refl (λ f. cc) e);
+        refused = λ e. absurd (apart ends.TooMuch ends.Refused 2 1 refl refl (λ f. cc) e);
+        too_much = λ is. much refl;
+      }
 
 pub runs_goes : (n : ℕ) (s : State) (outcome : Result Bool Halt) (o m : Option Tale) → Goes (RunsFrom n s) o m →
-    IfOk outcome (λ d. Goes (RunsWhole n d s) o m) → IfErr outcome (λ e. e ≡ halts.TooMuch → Goes (λ old new. Overruns new) o m) → Goes (RunsTo n s (end_of outcome)) o m
+    IfOk outcome (λ d. Goes (RunsWhole n d s) o m) → IfErr outcome (λ e. e ≡ halts.TooMuch → Goes (λ old new. Overruns new) o m)
+    → Goes (RunsTo n s (end_of outcome)) o m
 runs_goes n s outcome None None runs whole much = tt
 runs_goes n s outcome None (Some w) runs whole much = runs
 runs_goes n s outcome (Some t) None runs whole much = runs
@@ -287,11 +330,13 @@ is_end (Err halts.TooMuch) = refl
 
 -- where the session stands for a state
 module _ {A : Type 0} (At : A → Type 0) (s : A) (at : At s) where
-  pub much_first : (outcome : Result Bool Halt) (P : A → Type 0) → IfErr outcome (λ e. e ≡ halts.TooMuch → (t : A) → At t → P t) → IfErr outcome (λ e. e ≡ halts.TooMuch → P s)
+  pub much_first : (outcome : Result Bool Halt) (P : A → Type 0) → IfErr outcome (λ e. e ≡ halts.TooMuch → (t : A) → At t → P t)
+      → IfErr outcome (λ e. e ≡ halts.TooMuch → P s)
   much_first (Ok d) P all = tt
   much_first (Err e) P all = λ is. all is s at
 
-  pub end_of_run : (outcome : Result Bool Halt) → IfErr outcome (λ e. (page : ℕ) → e ≡ halts.Stopped (stops.Damaged page) → (t : A) → At t → ⊥) → IsOneOf (end_of outcome) run_ends
+  pub end_of_run : (outcome : Result Bool Halt) → IfErr outcome (λ e. (page : ℕ) → e ≡ halts.Stopped (stops.Damaged page) → (t : A) → At t → ⊥)
+      → IsOneOf (end_of outcome) run_ends
   end_of_run (Ok true) sound = inl refl
   end_of_run (Ok false) sound = inr (inl refl)
   end_of_run (Err (halts.Stopped stops.Device)) sound = inr (inr (inl refl))

@@ -1,5 +1,6 @@
 -- What is put, call after call.
-use Rattle.std.proofs.Common.{◌≡◌, ℕ, ◌+◌, ◌≤◌, arith, ◌&&◌, List, [], ◌∷◌, ◌++◌, length, suc, take, drop, refl, sym, ◌∙◌, ap, subst, append_assoc, append-nil, Option, Result, Ok, Err, OnErr, IfOk, IfErr}
+use Rattle.std.proofs.Common.{◌≡◌, ℕ, ◌+◌, ◌≤◌, arith, ◌&&◌, List, [], ◌∷◌, ◌++◌, length, suc, take, drop, refl, sym, ◌∙◌, ap, subst, append_assoc, append-nil}
+use Rattle.std.proofs.Common.{Option, Result, Ok, Err, OnErr, IfOk, IfErr}
 use Rattle.std.specs.List.{list_all}
 use Rattle.std.specs.Result.{IsErrAnd}
 use Rattle.std.proofs.lemmas.List.{take-take, drop-take, take-append-drop}
@@ -45,7 +46,8 @@ says_then a b t u v first second = record {
 }
 
 pub says_same : (a b : List ℕ) (t u : Tale) → a ≡ b → Says a t u → Says b t u
-says_same a b t u same says = record { file = says.file; input = says.input; events = says.events; log = says.log; untaken = says.untaken; put = says.put ∙ same }
+says_same a b t u same says =
+    record { file = says.file; input = says.input; events = says.events; log = says.log; untaken = says.untaken; put = says.put ∙ same }
 
 pub says_put : (bytes : List ℕ) (t u : Tale) → Adds (Put bytes ∷ []) t u → Says bytes t u
 says_put bytes t u adds = record { file = adds.file; input = adds.input; events = Put bytes ∷ []; log = adds.log; untaken = refl; put = append-nil bytes }
@@ -71,7 +73,8 @@ err_from (Err e) x P Q given is so = subst Q (sym (is e given)) so
 pub take_two : (d n m : ℕ) (b : List ℕ) → n ≤ m → take d b ++ take n (take m (drop d b)) ≡ take (d + n) b
 take_two d n m b le =
     rw (take-take n m (drop d b) le)
-    (sym (ap (λ (l : List ℕ). l ++ drop d (take (d + n) b)) (take-take d (d + n) b (omega arith)) ∙ ap (λ (l : List ℕ). take d b ++ l) (drop-take d n b)) ∙ take-append-drop d (take (d + n) b))
+    (sym (ap (λ (l : List ℕ). l ++ drop d (take (d + n) b)) (take-take d (d + n) b (omega arith))
+    ∙ ap (λ (l : List ℕ). take d b ++ l) (drop-take d n b)) ∙ take-append-drop d (take (d + n) b))
 
 -- only text is added, call after call
 pub text_put : (bytes : List ℕ) (o m n : Option Tale) → Goes (AddsOnly is_of_text) o m → Goes (Adds (Put bytes ∷ [])) m n → Goes (AddsOnly is_of_text) o n
@@ -110,7 +113,8 @@ length-replies s [] = refl
 length-replies s (i ∷ g) = ap suc (length-replies (state_then s (held_at s i)) g)
 
 -- whether none of the replies is a refusal, by parts
-pub done-append : (s : State) (g h : List Group) → list_all is_done (replies_from s (g ++ h)) ≡ (list_all is_done (replies_from s g) && list_all is_done (replies_from (state_after s g) h))
+pub done-append : (s : State) (g h : List Group)
+    → list_all is_done (replies_from s (g ++ h)) ≡ (list_all is_done (replies_from s g) && list_all is_done (replies_from (state_after s g) h))
 done-append s g h = ap (list_all is_done) (replies-append s g h) ∙ list_all-append is_done (replies_from s g) (replies_from (state_after s g) h)
 
 pub either_way : {A E : Type 0} (r : Result A E) (P : A → Type 0) (Q X : Type 0) → IfOk r P → OnErr r Q → ((x : A) → P x → X) → (Q → X) → X

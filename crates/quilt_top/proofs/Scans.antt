@@ -1,5 +1,6 @@
 -- The words, read from the first to the last, and that the table reads them alike.
-use Rattle.std.proofs.Common.{◌≡◌, ℕ, Bool, true, false, ◌||◌, not, cond, ◌≤◌, ◌-◌, ◌^◌, nat_eq, nat_lt, List, [], ◌∷◌, ◌++◌, length, length-append, get_or, drop, Option, Some, None, codes, refl, sym, ◌∙◌, ap, subst, arith, append_assoc}
+use Rattle.std.proofs.Common.{◌≡◌, ℕ, Bool, true, false, ◌||◌, not, cond, ◌≤◌, ◌-◌, ◌^◌, nat_eq, nat_lt, List, [], ◌∷◌, ◌++◌, length, length-append, get_or}
+use Rattle.std.proofs.Common.{drop, Option, Some, None, codes, refl, sym, ◌∙◌, ap, subst, arith, append_assoc}
 use Rattle.std.specs.Prelude.{is_none, if◌then◌else◌, option_and_then}
 use Rattle.std.specs.List.{starts_with}
 use Rattle.std.specs.Str.{bytes_eq}
@@ -7,7 +8,8 @@ use Rattle.std.proofs.lemmas.Bool.{and_parts, and_right, ltb-false}
 use Rattle.std.proofs.lemmas.Slice.Eq.{bytes_eq-Decides}
 use Rattle.std.proofs.lemmas.List.{append-nil}
 use Rattle.quilt_words.specs.Spelling.{number}
-use Rattle.quilt_top.specs.Words.{Order, Parts, is_dashed, with_word, with_pool, parts_of, run_order, new_order, trial_order, order_of_words, order_of, asked_for}
+use Rattle.quilt_top.specs.Words.{Order, Parts, is_dashed, with_word, with_pool, parts_of, run_order, new_order, trial_order, order_of_words, order_of}
+use Rattle.quilt_top.specs.Words.{asked_for}
 
 -- where the reading stands: between two words, behind `--pool`, or at words that are refused
 pub data Place : Type 0 where
@@ -94,11 +96,13 @@ dashed_pool v (a ∷ b ∷ c ∷ d ∷ []) is =
     let trial = bytes_eq a (codes "trial") in
     let seed = number 0 (2 ^ 64 - 1) c in
     let count = number 1 1000000 d in
-    ap (λ t. cond t (new_order b (number 16 30000 c) (number 1 12 d)) (cond trial (trial_order b seed count (number 8 4096 v)) None)) (and_right (bytes_eq a (codes "new")) false refl)
+    ap (λ t. cond t (new_order b (number 16 30000 c) (number 1 12 d)) (cond trial (trial_order b seed count (number 8 4096 v)) None))
+    (and_right (bytes_eq a (codes "new")) false refl)
     ∙ ap (λ p. cond trial (trial_order b seed count p) None) is ∙ ap (λ o. cond trial o None) (no_trial b seed count) ∙ cond_none trial
 dashed_pool v (a ∷ b ∷ c ∷ d ∷ e ∷ ws) is = refl
 
-after-word : (alone : List (List ℕ)) (pool : Option (List ℕ)) (w : List ℕ) (o : Option Parts) → after (alone ++ w ∷ []) pool o ≡ after alone pool (with_word w o)
+after-word : (alone : List (List ℕ)) (pool : Option (List ℕ)) (w : List ℕ) (o : Option Parts)
+    → after (alone ++ w ∷ []) pool o ≡ after alone pool (with_word w o)
 after-word alone pool w None = refl
 after-word alone None w (Some p) = ap (order_of_words p.pool) (append_assoc alone (w ∷ []) p.alone)
 after-word alone (Some v) w (Some p) = ap (λ ws. cond (is_none p.pool) (order_of_words (Some v) ws) None) (append_assoc alone (w ∷ []) p.alone)
@@ -106,7 +110,8 @@ after-word alone (Some v) w (Some p) = ap (λ ws. cond (is_none p.pool) (order_o
 after-many : (alone : List (List ℕ)) (pool : Option (List ℕ)) (w : List ℕ) (o : Option Parts) → 4 ≤ length alone → after alone pool (with_word w o) ≡ None
 after-many alone pool w None many = refl
 after-many alone None w (Some p) many = too_many p.pool (alone ++ w ∷ p.alone) (omega (arith, length-append alone (w ∷ p.alone)))
-after-many alone (Some v) w (Some p) many = ap (λ o. cond (is_none p.pool) o None) (too_many (Some v) (alone ++ w ∷ p.alone) (omega (arith, length-append alone (w ∷ p.alone)))) ∙ cond_none (is_none p.pool)
+after-many alone (Some v) w (Some p) many = ap (λ o. cond (is_none p.pool) o None)
+    (too_many (Some v) (alone ++ w ∷ p.alone) (omega (arith, length-append alone (w ∷ p.alone)))) ∙ cond_none (is_none p.pool)
 
 after-pool : (alone : List (List ℕ)) (v : List ℕ) (o : Option Parts) → after alone (Some v) o ≡ after alone None (with_pool v o)
 after-pool alone v None = refl
@@ -125,10 +130,12 @@ after-twice alone u v (Some p) = by p.pool
     by None = refl
     by (Some w) = refl
 
-after-dashed : (alone : List (List ℕ)) (pool : Option (List ℕ)) (v : List ℕ) (o : Option Parts) → number 8 4096 v ≡ None → after alone pool (with_pool v o) ≡ None
+after-dashed : (alone : List (List ℕ)) (pool : Option (List ℕ)) (v : List ℕ) (o : Option Parts) → number 8 4096 v ≡ None
+    → after alone pool (with_pool v o) ≡ None
 after-dashed alone (Some u) v o is = after-twice alone u v o
 after-dashed alone None v None is = refl
-after-dashed alone None v (Some p) is = sym (after-pool alone v (Some p)) ∙ ap (λ o. cond (is_none p.pool) o None) (dashed_pool v (alone ++ p.alone) is) ∙ cond_none (is_none p.pool)
+after-dashed alone None v (Some p) is =
+    sym (after-pool alone v (Some p)) ∙ ap (λ o. cond (is_none p.pool) o None) (dashed_pool v (alone ++ p.alone) is) ∙ cond_none (is_none p.pool)
 
 abbrev Agrees : List (List ℕ) → Bool → Type 0
 Agrees ws ended = (alone : List (List ℕ)) (pool : Option (List ℕ)) → scan (between ended alone pool) ws ≡ after alone pool (parts_of ended ws)
@@ -137,7 +144,8 @@ places : (w : List ℕ) (ws : List (List ℕ)) (ended : Bool) → Agrees ws ende
     → scan (placing ended alone pool w) ws ≡ after alone pool (with_word w (parts_of ended ws))
 places w ws ended rest alone pool = by (nat_lt (length alone) 4) refl
   where
-    by : (b : Bool) → nat_lt (length alone) 4 ≡ b → scan (cond b (between ended (alone ++ w ∷ []) pool) lost) ws ≡ after alone pool (with_word w (parts_of ended ws))
+    by : (b : Bool) → nat_lt (length alone) 4 ≡ b
+        → scan (cond b (between ended (alone ++ w ∷ []) pool) lost) ws ≡ after alone pool (with_word w (parts_of ended ws))
     by true few = rest (alone ++ w ∷ []) pool ∙ after-word alone pool w (parts_of ended ws)
     by false many = scan-lost ws ∙ sym (after-many alone pool w (parts_of ended ws) (ltb-false _ _ many))
 
@@ -191,7 +199,8 @@ scans (w ∷ v ∷ ws) false alone pool =
     let rest = scans (v ∷ ws) false in
     ways alone pool (v ∷ ws) (placing false alone pool w) (between true alone pool) (pooling alone pool (drop 7 w)) (wants alone pool)
     (with_word w (parts_of false (v ∷ ws))) (parts_of true (v ∷ ws)) (with_pool (drop 7 w) (parts_of false (v ∷ ws))) (with_pool v (parts_of false ws))
-    (places w (v ∷ ws) false rest alone pool) (scans (v ∷ ws) true alone pool) (pools (drop 7 w) (v ∷ ws) rest alone pool) (wanted v ws (scans ws false) alone pool)
+    (places w (v ∷ ws) false rest alone pool) (scans (v ∷ ws) true alone pool) (pools (drop 7 w) (v ∷ ws) rest alone pool)
+    (wanted v ws (scans ws false) alone pool)
     (not (is_dashed w)) (bytes_eq w (codes "--")) (starts_with nat_eq w (codes "--pool=")) (bytes_eq w (codes "--pool"))
 
 pub asked_for-scans : (ws : List (List ℕ)) → asked_for ws ≡ scan (between false [] None) ws

@@ -1,5 +1,6 @@
 -- The summary of a trial, by the numbers that it tells.
-use Rattle.std.proofs.Common.{◌≡◌, ℕ, ◌+◌, ◌-◌, ◌==◌, ◌&&◌, Bool, true, false, cond, map, append-nil, List, [], ◌∷◌, ◌++◌, length, Option, IfSome, subst, Some, None, unwrap_or, codes, decimal, refl, sym, ◌∙◌, ap, arith}
+use Rattle.std.proofs.Common.{◌≡◌, ℕ, ◌+◌, ◌-◌, ◌==◌, ◌&&◌, Bool, true, false, cond, map, append-nil, List, [], ◌∷◌, ◌++◌, length, Option, IfSome, subst, Some}
+use Rattle.std.proofs.Common.{None, unwrap_or, codes, decimal, refl, sym, ◌∙◌, ap, arith}
 use Rattle.std.specs.List.{count_by, list_all}
 use Rattle.std.proofs.lemmas.Bool.{ne_eqb}
 use Rattle.std.proofs.lemmas.List.Sums.{count_by-le-length, sum_by-cons}
@@ -31,7 +32,8 @@ pub none_refused : (rs : List Reply) (refused : ℕ) → count_by is_done rs + r
 none_refused [] refused all = ap (λ k. k == 0) (let none : refused ≡ 0 = omega (arith, all) in none)
 none_refused (q ∷ rs) refused all = by (is_done q) refl (sum_by-cons (λ (p : Reply). cond {A = ℕ} (is_done p) 1 0) q rs) (none_refused rs refused)
   where
-    by : (b : Bool) → is_done q ≡ b → count_by is_done (q ∷ rs) ≡ cond {A = ℕ} (is_done q) 1 0 + count_by is_done rs → (count_by is_done rs + refused ≡ length rs → (refused == 0) ≡ list_all is_done rs)
+    by : (b : Bool) → is_done q ≡ b → count_by is_done (q ∷ rs) ≡ cond {A = ℕ} (is_done q) 1 0 + count_by is_done rs
+        → (count_by is_done rs + refused ≡ length rs → (refused == 0) ≡ list_all is_done rs)
         → (refused == 0) ≡ (is_done q && list_all is_done rs)
     by true is first rest =
         let one : cond {A = ℕ} (is_done q) 1 0 ≡ 1 = ap (λ b. cond {A = ℕ} b 1 0) is in
@@ -47,7 +49,8 @@ unfolding state_then
 work_is s [] = refl
 work_is s (g ∷ gs) = work_is (state_then s (held_at s g)) gs
 
-number_after : (last first : Edition) (o : Option Edition) (es : List Edition) → slice_get es 0 ≡ Some first → last_number (with_first last o es) ≡ last_number es
+number_after : (last first : Edition) (o : Option Edition) (es : List Edition) → slice_get es 0 ≡ Some first
+    → last_number (with_first last o es) ≡ last_number es
 number_after last first None es some = refl
 number_after last first (Some e) [] some = absurd (cc)
 number_after last first (Some e) (f ∷ es) some = refl
@@ -91,7 +94,8 @@ module _ (n : ℕ) (text : List ℕ) (s now : State) (at : s.last.level ≡ n) (
   flag_is counted = none_refused (replies_of r) tally.refused (omega (arith, size_is, done_is, counted))
 
   -- what the numbers of the code spell
-  pub summary_is : (count edition : ℕ) → tally.done + tally.refused ≡ length (items_of n text) → records now.last.level now.work ≡ count → now.last.number ≡ edition
+  pub summary_is : (count edition : ℕ) → tally.done + tally.refused ≡ length (items_of n text) → records now.last.level now.work ≡ count
+      → now.last.number ≡ edition
       → summary_of tally.done tally.refused count edition ≡ summary n r
   summary_is count edition counted counts numbers =
       let done = done_is in

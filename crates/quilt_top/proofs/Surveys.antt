@@ -1,5 +1,6 @@
 -- A book that was just opened, and what an audit finds of it.
-use Rattle.std.proofs.Common.{◌≡◌, ℕ, zero, suc, ◌+◌, ◌<◌, ◌≤◌, nat_eq, nat_le, nat_lt, ◌==◌, Bool, true, false, ◌&&◌, not, ◌||◌, cond, List, [], ◌∷◌, length, map, replicate, Option, Some, None, refl, sym, ◌∙◌, ap, subst, arith, append-nil}
+use Rattle.std.proofs.Common.{◌≡◌, ℕ, zero, suc, ◌+◌, ◌<◌, ◌≤◌, nat_eq, nat_le, nat_lt, ◌==◌, Bool, true, false, ◌&&◌, not, ◌||◌, cond, List, [], ◌∷◌, length}
+use Rattle.std.proofs.Common.{map, replicate, Option, Some, None, refl, sym, ◌∙◌, ap, subst, arith, append-nil}
 use Rattle.std.specs.Option.{IfSome}
 use Rattle.std.specs.List.{list_all, list_any, IsDistinct, AllByRecursion, Contains}
 use Rattle.std.proofs.lemmas.Bool.{false≢true, eqb-true, le-leb, lt-ltb}
@@ -52,12 +53,14 @@ use Rattle.quilt_map.specs.Sessions as sessions
 
 -- ---- what a book with nothing in it tells
 
-pub told_fresh : (j : View) (es : Entries) (last : Head) (t : Tale) → j.state ≡ Idle → es ≡ [] → j.changed ≡ replicate j.pages false → IsKeptBy j es last (Some t) → told_pages j es (Some t) ≡ Some (published t j.pages)
+pub told_fresh : (j : View) (es : Entries) (last : Head) (t : Tale) → j.state ≡ Idle → es ≡ [] → j.changed ≡ replicate j.pages false
+    → IsKeptBy j es last (Some t) → told_pages j es (Some t) ≡ Some (published t j.pages)
 told_fresh j es last t idle empty changed kept =
     told_reverted j j es es last (Some t) idle refl refl empty kept (λ u is.
     subst (λ (c : List Bool). IsIdle j.pages c u × (work u j.pages c ≡ published u j.pages)) (sym changed) (idle_none j.pages j.changed u is))
 
-pub fresh_header : (j : View) (es : Entries) (last : Head) (t : Tale) → 16 ≤ j.pages → j.state ≡ Idle → IsKeptBy j es last (Some t) → IsHeader j.pages (page_of (published t j.pages) 0) last
+pub fresh_header : (j : View) (es : Entries) (last : Head) (t : Tale) → 16 ≤ j.pages → j.state ≡ Idle → IsKeptBy j es last (Some t)
+    → IsHeader j.pages (page_of (published t j.pages) 0) last
 fresh_header j es last t some idle kept =
     subst (λ (bytes : List ℕ). IsHeader j.pages bytes last) (sym (published_at t j.pages 0 (omega arith))) (kept_idle j es last (Some t) idle kept).header
 
@@ -65,7 +68,8 @@ length-published : (t : Tale) (n : ℕ) → length (published t n) ≡ n
 unfolding published
 length-published t n = length-map-range_with_len (home_page t) 0 n
 
-pub home_read : (j : View) (es : Entries) (last : Head) (t : Tale) → j.state ≡ Idle → IsConsistent t → IsKeptBy j es last (Some t) → home t.seen j.pages ≡ published t j.pages
+pub home_read : (j : View) (es : Entries) (last : Head) (t : Tale) → j.state ≡ Idle → IsConsistent t → IsKeptBy j es last (Some t)
+    → home t.seen j.pages ≡ published t j.pages
 home_read j es last t idle law kept = seen_home j.pages j.changed t law (kept_idle j es last (Some t) idle kept).work.idle
 
 -- ---- the page that is said to be damaged
@@ -93,7 +97,8 @@ number_differs a b false is ne = is
 number_differs a b true is ne = absurd (ne (eqb-true a b is))
 
 -- an entry's number is not among those behind it
-behind_differs : (e : Entry) (es : List Entry) → list_all (λ (f : Entry). is_lt (name_cmp e.name f.name)) es ≡ true → ((f : Entry) → Contains es f → e.number ≡ f.number → e ≡ f)
+behind_differs : (e : Entry) (es : List Entry) → list_all (λ (f : Entry). is_lt (name_cmp e.name f.name)) es ≡ true
+    → ((f : Entry) → Contains es f → e.number ≡ f.number → e ≡ f)
     → AllByRecursion (λ y. nat_eq e.number y ≡ false) (map (λ (f : Entry). f.number) es)
 behind_differs e [] order once = tt
 behind_differs e (f ∷ fs) order once =
@@ -104,7 +109,8 @@ behind_differs e (f ∷ fs) order once =
       behind_differs e fs parts.1 (λ x there same. once x (Contains-there f fs x there) same),
     )
 
-numbers_differ : (es : List Entry) → AreInOrder es → ((d e : Entry) → Contains es d → Contains es e → d.number ≡ e.number → d ≡ e) → IsDistinct nat_eq (map (λ (e : Entry). e.number) es)
+numbers_differ : (es : List Entry) → AreInOrder es → ((d e : Entry) → Contains es d → Contains es e → d.number ≡ e.number → d ≡ e)
+    → IsDistinct nat_eq (map (λ (e : Entry). e.number) es)
 unfolding IsDistinct
 numbers_differ [] order once = tt
 numbers_differ (e ∷ es) order once = (
@@ -130,7 +136,8 @@ is_numbered format entries catalog are = record {
 
 -- ---- the pages of a tree
 
-times_by : (q p : ℕ) (used : List ℕ) (b : Bool) → (q == p) ≡ b → list_any (λ v. v == q) used ≡ false → times p used ≡ cond {A = ℕ} (list_any (λ v. v == p) used) 1 0
+times_by : (q p : ℕ) (used : List ℕ) (b : Bool) → (q == p) ≡ b → list_any (λ v. v == q) used ≡ false
+    → times p used ≡ cond {A = ℕ} (list_any (λ v. v == p) used) 1 0
     → cond {A = ℕ} b 1 0 + times p used ≡ cond {A = ℕ} (b || list_any (λ v. v == p) used) 1 0
 times_by q p used true is none later =
     let same : q ≡ p = eqb-true q p is in
@@ -143,13 +150,15 @@ fresh_times p [] fresh = refl
 fresh_times p (q ∷ used) fresh =
     times_by q p used (q == p) refl (subst (λ (l : List ℕ). list_any (λ v. v == q) l ≡ false) (append-nil used) fresh.0) (fresh_times p used fresh.1)
 
-walk_times : (pages : Pages) (root height : ℕ) (rs : List Record) (visited : List ℕ) (p : ℕ) → walk_of pages root height ≡ Whole rs visited → times p visited ≡ cond {A = ℕ} (list_any (λ v. v == p) visited) 1 0
+walk_times : (pages : Pages) (root height : ℕ) (rs : List Record) (visited : List ℕ) (p : ℕ) → walk_of pages root height ≡ Whole rs visited
+    → times p visited ≡ cond {A = ℕ} (list_any (λ v. v == p) visited) 1 0
 unfolding walk_of
 walk_times pages root zero rs visited p is =
     let none : [] ≡ visited = cc in subst (λ (l : List ℕ). times p l ≡ cond {A = ℕ} (list_any (λ v. v == p) l) 1 0) none refl
 walk_times pages root (suc h) rs visited p is =
     let found = walk_found pages (suc h) true (root, record { low = None; high = None }) [] rs visited is in
-    subst (λ (l : List ℕ). times p l ≡ cond {A = ℕ} (list_any (λ v. v == p) l) 1 0) (sym (found.is_now ∙ append-nil found.used)) (fresh_times p found.used found.fresh)
+    subst (λ (l : List ℕ). times p l ≡ cond {A = ℕ} (list_any (λ v. v == p) l) 1 0) (sym (found.is_now ∙ append-nil found.used))
+    (fresh_times p found.used found.fresh)
 
 one_of : (b : Bool) → cond {A = ℕ} (not b) 1 0 + cond {A = ℕ} b 1 0 ≡ 1
 one_of true = refl
@@ -160,12 +169,14 @@ both_true true b x y = y
 both_true false b x y = absurd (false≢true x)
 
 -- the pages that an audit found, and no others, are spoken for by the tree
-balanced : (n : ℕ) (used visited : List ℕ) (free : ℕ → Bool) (p : ℕ) → ((q : ℕ) → free q ≡ is_left_out n used q) → bits.Marks used visited → times p visited ≡ cond {A = ℕ} (list_any (λ v. v == p) visited) 1 0 → 1 ≤ p → p < n → account free visited p ≡ 1
+balanced : (n : ℕ) (used visited : List ℕ) (free : ℕ → Bool) (p : ℕ) → ((q : ℕ) → free q ≡ is_left_out n used q) → bits.Marks used visited
+    → times p visited ≡ cond {A = ℕ} (list_any (λ v. v == p) visited) 1 0 → 1 ≤ p → p < n → account free visited p ≡ 1
 balanced n used visited free p is marks once low high =
     let within : (nat_le 1 p && nat_lt p n) ≡ true = both_true (nat_le 1 p) (nat_lt p n) (le-leb 1 p low) (lt-ltb p n high) in
     let out : is_left_out n used p ≡ not (list_any (λ v. v == p) visited) =
     ap (λ b. b && not (has_bit used p)) within ∙ ap not (marks.each p) in
-    ap (λ b. cond {A = ℕ} b 1 0 + times p visited) (is p ∙ out) ∙ ap (λ m. cond {A = ℕ} (not (list_any (λ v. v == p) visited)) 1 0 + m) once ∙ one_of (list_any (λ v. v == p) visited)
+    ap (λ b. cond {A = ℕ} b 1 0 + times p visited) (is p ∙ out) ∙ ap (λ m. cond {A = ℕ} (not (list_any (λ v. v == p) visited)) 1 0 + m) once
+    ∙ one_of (list_any (λ v. v == p) visited)
 
 -- ---- what is found
 
@@ -180,7 +191,8 @@ module _ (pages : Pages) (n : ℕ) (h : Head) (catalog : List Entry) (used : Lis
     whole = record {
       tree = record { pages = pages; is_told = refl; visited = survey.visited; walk = survey.tree };
       number = survey.count;
-      balance = λ p low high. balanced n used survey.visited free p is survey.marks (walk_times pages h.root h.height survey.records survey.visited p survey.tree) low high;
+      balance = λ p low high.
+          balanced n used survey.visited free p is survey.marks (walk_times pages h.root h.height survey.records survey.visited p survey.tree) low high;
     };
     spelled = survey.spelled;
     catalog = survey.catalogued;
@@ -209,8 +221,10 @@ goes_from R t None goes = absurd goes
 law_at : (size : ℕ) (o : Option Tale) (t : Tale) → o ≡ Some t → IfSome o (λ t. IsConsistent t × (length t.start ≡ size)) → IsConsistent t
 law_at size o t is law = (subst (λ (x : Option Tale). IfSome x (λ t. IsConsistent t × (length t.start ≡ size))) is law).0
 
-module _ {W : Type 0} {D : disk.Ghosts W} (a b : Book W D) (session : Session W D) (catalog : List Entry) (used : List ℕ) (s1 s2 : ℕ) (ready : books.IsReady a) (size : b.journal.pages ≡ a.journal.pages)
-    (state : b.journal.state ≡ a.journal.state) (last : b.last ≡ a.last) (free : (q : ℕ) → books.published_free b q ≡ is_left_out a.journal.pages used q) (told : told_of b ≡ told_of a)
+module _ {W : Type 0} {D : disk.Ghosts W} (a b : Book W D) (session : Session W D) (catalog : List Entry) (used : List ℕ) (s1 s2 : ℕ)
+    (ready : books.IsReady a) (size : b.journal.pages ≡ a.journal.pages)
+    (state : b.journal.state ≡ a.journal.state) (last : b.last ≡ a.last) (free : (q : ℕ)
+    → books.published_free b q ≡ is_left_out a.journal.pages used q) (told : told_of b ≡ told_of a)
     (tale : Goes (IsLater a.journal.pages) (D.told a.world) (D.told b.world)) (law_a : IfSome (D.told a.world) (λ t. IsConsistent t × (length t.start ≡ s1)))
     (law_b : IfSome (D.told b.world) (λ t. IsConsistent t × (length t.start ≡ s2)))
     (at : (e : Edition) → IsOpened b catalog e → IsAt session (first_state b.journal.pages e)) where
@@ -222,7 +236,8 @@ module _ {W : Type 0} {D : disk.Ghosts W} (a b : Book W D) (session : Session W 
       let kept : IsKeptBy a.journal es a.last (Some t) = subst (λ (o : Option Tale). IsKeptBy a.journal es a.last o) is a.kept in
       let next = goes_from (IsLater n) t (D.told b.world) (subst (λ (o : Option Tale). Goes (IsLater n) o (D.told b.world)) is tale) in
       let u = next.0 in
-      let kept_b : IsKeptBy b.journal (entries_of b.pool) b.last (Some u) = subst (λ (o : Option Tale). IsKeptBy b.journal (entries_of b.pool) b.last o) next.1 b.kept in
+      let kept_b : IsKeptBy b.journal (entries_of b.pool) b.last (Some u) =
+      subst (λ (o : Option Tale). IsKeptBy b.journal (entries_of b.pool) b.last o) next.1 b.kept in
       let law_u = law_at s2 (D.told b.world) u next.1 law_b in
       let read_a = home_read a.journal es a.last t ready (law_at s1 (D.told a.world) t is law_a) kept in
       let read_b = home_read b.journal (entries_of b.pool) b.last u (state ∙ ready) law_u kept_b in
@@ -235,7 +250,12 @@ module _ {W : Type 0} {D : disk.Ghosts W} (a b : Book W D) (session : Session W 
         lawful = law_u;
         pages = told ∙ pages ∙ ap Some same;
         holds = record {
-          head = record { format = sym (ap (λ (h : Head). h.format) last); number = sym (ap (λ (h : Head). h.edition) last); level = sym (ap (λ (h : Head). h.level) last) };
+          head =
+              record {
+                format = sym (ap (λ (h : Head). h.format) last);
+                number = sym (ap (λ (h : Head). h.edition) last);
+                level = sym (ap (λ (h : Head). h.level) last);
+              };
           spelled = subst (λ (p : Pages). IsSpelled (Some p) (books.published_free b) b.journal.pages b.last catalog survey.layers) same
               (subst (λ k. IsSpelled (Some (published t n)) (books.published_free b) k b.last catalog survey.layers) (sym size)
               (subst (λ (h : Head). IsSpelled (Some (published t n)) (books.published_free b) n h catalog survey.layers) (sym last) spelled));
@@ -252,9 +272,12 @@ when_told P None so = tt
 when_told P (Some t) so = so t refl
 
 module _ {W : Type 0} {D : disk.Ghosts W} (a b : Book W D) (session : Session W D) (catalog : List Entry) (used : List ℕ) (s1 s2 : ℕ) where
-  pub map_holds : books.IsReady a → b.journal.pages ≡ a.journal.pages → b.journal.state ≡ a.journal.state → b.last ≡ a.last → ((q : ℕ) → books.published_free b q ≡ is_left_out a.journal.pages used q) → told_of b ≡ told_of a
-      → Goes (IsLater a.journal.pages) (D.told a.world) (D.told b.world) → IfSome (D.told a.world) (λ t. IsConsistent t × (length t.start ≡ s1)) → IfSome (D.told b.world) (λ t. IsConsistent t × (length t.start ≡ s2))
-      → ((e : Edition) → IsOpened b catalog e → IsAt session (first_state b.journal.pages e)) → ((t : Tale) → D.told a.world ≡ Some t → told_of a ≡ Some (published t a.journal.pages))
+  pub map_holds : books.IsReady a → b.journal.pages ≡ a.journal.pages → b.journal.state ≡ a.journal.state → b.last ≡ a.last
+      → ((q : ℕ) → books.published_free b q ≡ is_left_out a.journal.pages used q) → told_of b ≡ told_of a
+      → Goes (IsLater a.journal.pages) (D.told a.world) (D.told b.world) → IfSome (D.told a.world) (λ t. IsConsistent t × (length t.start ≡ s1))
+      → IfSome (D.told b.world) (λ t. IsConsistent t × (length t.start ≡ s2))
+      → ((e : Edition) → IsOpened b catalog e → IsAt session (first_state b.journal.pages e))
+      → ((t : Tale) → D.told a.world ≡ Some t → told_of a ≡ Some (published t a.journal.pages))
       → (h : Head) → h ≡ a.last → ((told : Pages) → told_of a ≡ Some told → IsSurvey told h catalog used)
       → IfSome (D.told a.world) (λ t. (e : Edition) × HoldsEdition (published t a.journal.pages) e × IsAt session (first_state a.journal.pages e))
   map_holds ready size state last free told tale law_a law_b at pages h is survey =

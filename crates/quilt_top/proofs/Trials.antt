@@ -1,5 +1,6 @@
 -- Turns of the loops that give and answer the items of the text of a trial.
-use Rattle.std.proofs.Common.{◌≡◌, inl, inr, ℕ, ◌+◌, ◌<◌, ◌≤◌, ◌==◌, Bool, true, false, cond, List, [], ◌∷◌, ◌++◌, length, map, Option, Some, None, refl, sym, ◌∙◌, ap, subst, arith, length-append, append-nil, append_assoc, zero, suc, take, IfSome, MatchOption}
+use Rattle.std.proofs.Common.{◌≡◌, inl, inr, ℕ, ◌+◌, ◌<◌, ◌≤◌, ◌==◌, Bool, true, false, cond, List, [], ◌∷◌, ◌++◌, length, map, Option, Some, None, refl, sym}
+use Rattle.std.proofs.Common.{◌∙◌, ap, subst, arith, length-append, append-nil, append_assoc, zero, suc, take, IfSome, MatchOption}
 use Rattle.std.specs.List.{count_by, slice_split}
 use Rattle.std.proofs.lemmas.List.{length-map, map-append, nil_from_length}
 use Rattle.std.proofs.lemmas.List.Sums.{sum_by-append}
@@ -58,7 +59,8 @@ module _ (n : ℕ) (start rest trial : List ℕ) (leads : Leads n start (rest ++
       ∙ ap (λ (l : List ℕ). map (held k n) (items_of n l)) (sym (append_assoc rest line behind)) ∙ gives.all behind tt k
 
 -- what is given last, where the text has ended
-pub given_last : (n f : ℕ) (start rest trial ended : List ℕ) → Leads n start (rest ++ trial) → trial ≡ [] → ended ≡ [] → (found : Option Item) (new : List ℕ) → MatchOption found ((new ≡ rest) × HasNone true n rest) (λ item. GivesItem true n f item rest new)
+pub given_last : (n f : ℕ) (start rest trial ended : List ℕ) → Leads n start (rest ++ trial) → trial ≡ [] → ended ≡ []
+    → (found : Option Item) (new : List ℕ) → MatchOption found ((new ≡ rest) × HasNone true n rest) (λ item. GivesItem true n f item rest new)
     → MatchOption found (items_of n start ≡ []) (λ item. IsNextItem n f item start (new ++ ended))
 given_last n f start rest trial ended leads none now None new given = none_last n start rest trial leads none given.1
 given_last n f start rest trial ended leads none now (Some item) new given =
@@ -105,7 +107,8 @@ items_few n text =
 -- ---- the commands
 
 -- behind more items
-one_behind : (s : State) (gs h : List Group) (put : List ℕ) (image : Pages) → IsFine (run_in (state_after s gs) h) put image → (more : List ℕ) × IsFine (run_in s (gs ++ h)) more image
+one_behind : (s : State) (gs h : List Group) (put : List ℕ) (image : Pages) → IsFine (run_in (state_after s gs) h) put image
+    → (more : List ℕ) × IsFine (run_in s (gs ++ h)) more image
 one_behind s [] h put image fine = (put, fine)
 one_behind s (g ∷ gs) h put image fine =
     let rest = one_behind (state_then s (held_at s g)) gs h put image fine in
@@ -118,10 +121,12 @@ tries_both : (r : Run) (t u v : Tale) → Tries r t u → Tries r u v → Tries 
 tries_both r t u v a b = record { pages = adds_only_both is_of_pages t u v a.pages b.pages; stops = since_both t u v (StandsForOne r) a.stops b.stops }
 
 -- an item that stands behind others in the run
-tries_one : (s : State) (gs : List Group) (g : Group) (h : List Group) (c : ℕ) (t u : Tale) → Applies (state_after s gs) (held_at (state_after s gs) g) c t u → Tries (run_in s (gs ++ g ∷ h)) t u
+tries_one : (s : State) (gs : List Group) (g : Group) (h : List Group) (c : ℕ) (t u : Tale)
+    → Applies (state_after s gs) (held_at (state_after s gs) g) c t u → Tries (run_in s (gs ++ g ∷ h)) t u
 tries_one s gs g h c t u applies = record {
   pages = applies.pages;
-  stops = since_weaker t u (StandsForItem (state_after s gs) (held_at (state_after s gs) g)) (StandsForOne (run_in s (gs ++ g ∷ h))) applies.stops (λ image stands.
+  stops =
+      since_weaker t u (StandsForItem (state_after s gs) (held_at (state_after s gs) g)) (StandsForOne (run_in s (gs ++ g ∷ h))) applies.stops (λ image stands.
       let fine = fine_either (state_after s gs) g h (outcome (state_after s gs) (held_at (state_after s gs) g)).published refl image stands in
       let so = one_behind s gs (g ∷ h) [] image fine in (so.1.place, so.1.edition));
 }
@@ -141,10 +146,12 @@ module _ (n : ℕ) (text : List ℕ) (s : State) (at : s.last.level ≡ n) where
   pub first_tried : (tally : Tally) → tally.done ≡ 0 → Tried n text (items_of n text) s s tally
   first_tried tally none = record { items = []; all = λ f. refl; state = refl; done = none }
 
-  module _ (left : List Group) (now : State) (tally : Tally) (so : Tried n text left s now tally) (g : Group) (behind : List Group) (rest : Same n left (g ∷ behind)) where
+  module _ (left : List Group) (now : State) (tally : Tally) (so : Tried n text left s now tally) (g : Group) (behind : List Group)
+      (rest : Same n left (g ∷ behind)) where
     pub next_tries : (c : ℕ) (o m l : Option Tale) → Goes (Tries r) o m → Goes (Applies now (held_at now g) c) m l → Goes (Tries r) o l
     next_tries c o m l tries applies =
-        let all : Same n (items_of n text) (so.items ++ g ∷ behind) = λ f. so.all f ∙ map-append (held f n) so.items left ∙ ap (λ l. map (held f n) so.items ++ l) (rest f) ∙ sym (map-append (held f n) so.items (g ∷ behind)) in
+        let all : Same n (items_of n text) (so.items ++ g ∷ behind) = λ f. so.all f ∙ map-append (held f n) so.items left
+        ∙ ap (λ l. map (held f n) so.items ++ l) (rest f) ∙ sym (map-append (held f n) so.items (g ∷ behind)) in
         let is : r ≡ run_in s (so.items ++ g ∷ behind) = run_same s.quota s.last s.work n (items_of n text) (so.items ++ g ∷ behind) at all in
         goes_then _ _ _ o m l tries applies (λ t u v before one.
         tries_both r t u v before (subst (λ (x : Run). Tries x u v) (sym is)
@@ -153,7 +160,8 @@ module _ (n : ℕ) (text : List ℕ) (s : State) (at : s.last.level ≡ n) where
     one_more : (x : State) → count_by is_done (replies_from x (g ∷ [])) ≡ cond {A = ℕ} (is_done (reply_to x (held_at x g))) 1 0
     one_more x = omega arith
 
-    pub next_tried : (then_ : State) (more : Tally) → then_ ≡ state_then now (held_at now g) → more.done ≡ tally.done + cond (is_done (reply_to now (held_at now g))) 1 0 → Tried n text behind s then_ more
+    pub next_tried : (then_ : State) (more : Tally) → then_ ≡ state_then now (held_at now g)
+        → more.done ≡ tally.done + cond (is_done (reply_to now (held_at now g))) 1 0 → Tried n text behind s then_ more
     next_tried then_ more is count = record {
       items = so.items ++ g ∷ [];
       all = then_same n so.items (g ∷ []) (items_of n text) left behind so.all rest;
@@ -161,5 +169,6 @@ module _ (n : ℕ) (text : List ℕ) (s : State) (at : s.last.level ≡ n) where
       done = count ∙ ap (λ k. k + cond {A = ℕ} (is_done (reply_to now (held_at now g))) 1 0) so.done
           ∙ ap (λ k. count_by is_done (replies_from s so.items) + k) (sym (one_more now))
           ∙ ap (λ (x : State). count_by is_done (replies_from s so.items) + count_by is_done (replies_from x (g ∷ []))) so.state
-          ∙ sym (ap (count_by is_done) (replies-append s so.items (g ∷ [])) ∙ sum_by-append (λ (q : Reply). cond {A = ℕ} (is_done q) 1 0) (replies_from s so.items) (replies_from (state_after s so.items) (g ∷ [])));
+          ∙ sym (ap (count_by is_done) (replies-append s so.items (g ∷ []))
+          ∙ sum_by-append (λ (q : Reply). cond {A = ℕ} (is_done q) 1 0) (replies_from s so.items) (replies_from (state_after s so.items) (g ∷ [])));
     }

@@ -39,7 +39,8 @@ took_steps s c [] t u v takes steps = adds_only_both is_took t u v takes steps
 took_steps s c (h ∷ hs) t u v takes steps =
     (steps.0, record { first = steps.1.first; takes = adds_only_both is_took t u steps.1.first takes steps.1.takes; answers = steps.1.answers }, steps.2)
 
-pub steps_then : (gs hs : List Group) (s : State) (c : ℕ) (t u v : Tale) → Steps s c gs t u → Steps (state_after s gs) (changes_all s c gs) hs u v → Steps s c (gs ++ hs) t v
+pub steps_then : (gs hs : List Group) (s : State) (c : ℕ) (t u v : Tale) → Steps s c gs t u → Steps (state_after s gs) (changes_all s c gs) hs u v
+    → Steps s c (gs ++ hs) t v
 steps_then [] hs s c t u v steps more = took_steps s c hs t u v steps more
 steps_then (g ∷ gs) hs s c t u v steps more =
     (steps.0, steps.1, steps_then gs hs (state_then s (held_at s g)) (changes_then s (held_at s g) c) steps.0 u v steps.2 more)
@@ -65,7 +66,8 @@ module _ (ended : Bool) (n : ℕ) where
       done = and_true so_far;
     }
 
-    front_here : (g : List Group) (r1 : List ℕ) (t u : Tale) → Gives ended n g r0 r1 → Says (said_for s0 g) t u → Steps s0 c0 g t u → FrontOfAll ended n s0 c0 r0 t u
+    front_here : (g : List Group) (r1 : List ℕ) (t u : Tale) → Gives ended n g r0 r1 → Says (said_for s0 g) t u → Steps s0 c0 g t u
+        → FrontOfAll ended n s0 c0 r0 t u
     front_here g r1 t u gives says steps = record {
       said = said_for s0 g;
       says = says;
@@ -74,15 +76,22 @@ module _ (ended : Bool) (n : ℕ) where
       next = [];
       left = r1;
       gives = subst (λ (l : List Group). Gives ended n l r0 r1) (sym (append-nil g)) gives;
-      steps = record { middle = u; steps = steps; part = record { file = record { start = refl; path = refl; was_there = refl }; log = sym (append-nil u.log); input = refl } };
+      steps =
+          record {
+            middle = u;
+            steps = steps;
+            part = record { file = record { start = refl; path = refl; was_there = refl }; log = sym (append-nil u.log); input = refl };
+          };
     }
 
-    pub stopped_now : (flag : Bool) (s1 : State) (c1 : ℕ) (r1 : List ℕ) (o m : Option Tale) → Answered ended n so_far flag s0 s1 c0 c1 r0 r1 o m → Goes (FrontOfAll ended n s0 c0 r0) o m
+    pub stopped_now : (flag : Bool) (s1 : State) (c1 : ℕ) (r1 : List ℕ) (o m : Option Tale) → Answered ended n so_far flag s0 s1 c0 c1 r0 r1 o m
+        → Goes (FrontOfAll ended n s0 c0 r0) o m
     stopped_now flag s1 c1 r1 o m so = goes_weaker _ _ o m (goes_and _ _ o m so.said so.steps) (λ t u both. front_here so.items r1 t u so.gives both.0 both.1)
 
     -- a front of the next reply
     front_next : (g : List Group) (i : Group) (r1 r2 : List ℕ) (t u v : Tale) → Gives ended n g r0 r1 → Gives ended n (i ∷ []) r1 r2 →
-        Says (said_for s0 g) t u → Steps s0 c0 g t u → AnswersFront (state_after s0 g) (held_at (state_after s0 g) i) (changes_all s0 c0 g) u v → FrontOfAll ended n s0 c0 r0 t v
+        Says (said_for s0 g) t u → Steps s0 c0 g t u → AnswersFront (state_after s0 g) (held_at (state_after s0 g) i) (changes_all s0 c0 g) u v
+        → FrontOfAll ended n s0 c0 r0 t v
     front_next g i r1 r2 t u v gives next says steps part =
         let s1 = state_after s0 g in
         let some = part_says s1 (held_at s1 i) (changes_all s0 c0 g) u v part in
@@ -106,14 +115,17 @@ module _ (ended : Bool) (n : ℕ) where
           steps = record { middle = u; steps = steps; part = part };
         }
 
-    pub stopped_part : (flag : Bool) (s1 : State) (c1 : ℕ) (i : Group) (r1 r2 : List ℕ) (o m l : Option Tale) → Answered ended n so_far flag s0 s1 c0 c1 r0 r1 o m → Gives ended n (i ∷ []) r1 r2 →
+    pub stopped_part : (flag : Bool) (s1 : State) (c1 : ℕ) (i : Group) (r1 r2 : List ℕ) (o m l : Option Tale)
+        → Answered ended n so_far flag s0 s1 c0 c1 r0 r1 o m → Gives ended n (i ∷ []) r1 r2 →
         Goes (AnswersFront s1 (held_at s1 i) c1) m l → Goes (FrontOfAll ended n s0 c0 r0) o l
     stopped_part flag s1 c1 i r1 r2 o m l so next part =
         goes_then _ _ _ o m l (goes_and _ _ o m so.said so.steps) (rw (so.state, so.changes) at part) (λ t u v old new.
         front_next so.items i r1 r2 t u v so.gives next old.0 old.1 new)
 
-    pub answered_next : (flag next_flag : Bool) (s1 s2 : State) (c1 c2 : ℕ) (i : Group) (r1 r2 : List ℕ) (o m l : Option Tale) → Answered ended n so_far flag s0 s1 c0 c1 r0 r1 o m → Gives ended n (i ∷ []) r1 r2 →
-        Goes (Answers s1 (held_at s1 i) c1 (text_of (reply_to s1 (held_at s1 i)))) m l → s2 ≡ state_then s1 (held_at s1 i) → c2 ≡ changes_then s1 (held_at s1 i) c1
+    pub answered_next : (flag next_flag : Bool) (s1 s2 : State) (c1 c2 : ℕ) (i : Group) (r1 r2 : List ℕ) (o m l : Option Tale)
+        → Answered ended n so_far flag s0 s1 c0 c1 r0 r1 o m → Gives ended n (i ∷ []) r1 r2 →
+        Goes (Answers s1 (held_at s1 i) c1 (text_of (reply_to s1 (held_at s1 i)))) m l → s2 ≡ state_then s1 (held_at s1 i)
+        → c2 ≡ changes_then s1 (held_at s1 i) c1
         → next_flag ≡ (flag && is_done (reply_to s1 (held_at s1 i))) → Answered ended n so_far next_flag s0 s2 c0 c2 r0 r2 o l
     answered_next flag next_flag s1 s2 c1 c2 i r1 r2 o m l so next answers is count holds =
         let last = state_after s0 so.items in
@@ -128,7 +140,8 @@ module _ (ended : Bool) (n : ℕ) where
           said = goes_then _ _ _ o m l so.said here (λ t u v says reply.
               says_same _ _ t v (ap (λ (b : List ℕ). said_for s0 so.items ++ b) (sym (said_one last i)) ∙ sym (said-append s0 so.items (i ∷ [])))
               (says_then (said_for s0 so.items) text t u v says (answer_says last (held_at last i) (changes_all s0 c0 so.items) text u v reply)));
-          steps = goes_then _ _ _ o m l so.steps here (λ t u v steps reply. steps_then so.items (i ∷ []) s0 c0 t u v steps (steps_one last (changes_all s0 c0 so.items) i u v reply));
+          steps = goes_then _ _ _ o m l so.steps here
+              (λ t u v steps reply. steps_then so.items (i ∷ []) s0 c0 t u v steps (steps_one last (changes_all s0 c0 so.items) i u v reply));
           done = holds
               ∙ ap (λ (s : State). flag && is_done (reply_to s (held_at s i))) so.state
               ∙ ap (λ (b : Bool). b && is_done (reply_to last (held_at last i))) so.done

@@ -1,5 +1,6 @@
 -- How the command walks over the words, beside the reading of the table.
-use Rattle.std.proofs.Common.{◌≡◌, ◌⊎◌, inl, inr, ℕ, suc, Bool, true, false, ◌&&◌, ◌||◌, not, cond, ◌+◌, ◌<◌, ◌≤◌, nat_eq, List, [], ◌∷◌, ◌++◌, length, drop, Option, Some, None, length-append, codes, refl, sym, ◌∙◌, ap, ap₂, subst, arith}
+use Rattle.std.proofs.Common.{◌≡◌, ◌⊎◌, inl, inr, ℕ, suc, Bool, true, false, ◌&&◌, ◌||◌, not, cond, ◌+◌, ◌<◌, ◌≤◌, nat_eq, List, [], ◌∷◌, ◌++◌, length, drop}
+use Rattle.std.proofs.Common.{Option, Some, None, length-append, codes, refl, sym, ◌∙◌, ap, ap₂, subst, arith}
 use Rattle.std.specs.Prelude.{fold, option_map, option_and_then, slice_get, is_some, encode_utf8_all, IsUtf8}
 use Rattle.std.specs.Char.{encode_utf8}
 use Rattle.std.specs.Option.{option_map_or}
@@ -15,13 +16,18 @@ use Rattle.clap.specs.Kinds.{or_else}
 use Rattle.clap.specs.Values.{reading_of}
 use Rattle.clap.specs.declared.builder.value_parser.ValueParser.TheVariants as vp
 use Rattle.clap.specs.declared.parser.matches.ValueSource.TheVariants.{CommandLine}
-use Rattle.clap.specs.Walk.{Held, Step, Waiting, Walk, idle, option, next, trailing, value, positional, after_step, walked, walk_from, nothing_held, is_empty, settled, settled_rows, subcommand_met, word_met, reacted, long_or_other, short_or_plain, subcommand_or_other, finished, with_default, default_rows, reading_by, has_row, used, pushed, with_values, without, takes_several, positional_held, is_pending, first_of}
-use Rattle.clap.specs.Faults.{settle_fault, word_fault, other_fault, flag_word_fault, step_fault, positional_fault, turn_fault, walk_fault, flags_fault, bundle_fault, bundle_step_fault, long_fault, default_fault, defaults_fault, check_fault, react_fault, given_default_fault}
+use Rattle.clap.specs.Walk.{Held, Step, Waiting, Walk, idle, option, next, trailing, value, positional, after_step, walked, walk_from, nothing_held, is_empty}
+use Rattle.clap.specs.Walk.{settled, settled_rows, subcommand_met, word_met, reacted, long_or_other, short_or_plain, subcommand_or_other, finished}
+use Rattle.clap.specs.Walk.{with_default, default_rows, reading_by, has_row, used, pushed, with_values, without, takes_several, positional_held, is_pending}
+use Rattle.clap.specs.Walk.{first_of}
+use Rattle.clap.specs.Faults.{settle_fault, word_fault, other_fault, flag_word_fault, step_fault, positional_fault, turn_fault, walk_fault, flags_fault}
+use Rattle.clap.specs.Faults.{bundle_fault, bundle_step_fault, long_fault, default_fault, defaults_fault, check_fault, react_fault, given_default_fault}
 use Rattle.clap.specs.declared.error.kind.ErrorKind.TheVariants as kind
 use Rattle.quilt_top.specs.Words.{Order, asked_for, is_dashed, order_of_words}
 use Rattle.quilt_top.specs.CommandLine.{order_of_found, order_by, reader}
 use Rattle.quilt_top.proofs.Commands.{at_place, pool_rule, rules, shape, fault_is, rows_are}
-use Rattle.quilt_top.proofs.Looks.{Looks, LooksPlain, LooksLast, LooksValued, LooksBare, LooksStrange, LooksShort, plain, last, valued, bare, strange, short, look}
+use Rattle.quilt_top.proofs.Looks.{Looks, LooksPlain, LooksLast, LooksValued, LooksBare, LooksStrange, LooksShort, plain, last, valued, bare, strange, short}
+use Rattle.quilt_top.proofs.Looks.{look}
 use Rattle.quilt_top.proofs.Rows.{row, found, Shows, shows_nothing, shows_word, shows_pool, next_free, id_at, added, has_row-found}
 use Rattle.quilt_top.proofs.Scans.{Place, between, wants, lost, placing, pooling, step, ends, scan, scan-lost, asked_for-scans}
 
@@ -84,12 +90,14 @@ record Meets (ended : Bool) (waiting : Waiting) (position : ℕ) (word : Text) (
   met : word_met rules [] ended waiting position word h ≡ (next_held, taken)
   fault : word_fault shape [] ended waiting word h ≡ kinds
 
-turn_is : {ended : Bool} {waiting : Waiting} {position : ℕ} {word : Text} {rows : List Row} {pending : Option (Text × List Text)} {next_held : Held} {taken : Step} {kinds : Kinds}
+turn_is : {ended : Bool} {waiting : Waiting} {position : ℕ} {word : Text} {rows : List Row} {pending : Option (Text × List Text)} {next_held : Held}
+    {taken : Step} {kinds : Kinds}
     → Meets ended waiting position word (held_at rows pending) next_held taken kinds
     → turn_fault shape [] (walk_at ended waiting position rows pending) word ≡ or_else kinds (step_fault shape position next_held taken)
 turn_is {position = position} m = ap₂ (λ k (p : Held × Step). or_else k (step_fault shape position p.0 p.1)) m.fault m.met
 
-walked_is : {ended : Bool} {waiting : Waiting} {position : ℕ} {word : Text} {rows : List Row} {pending : Option (Text × List Text)} {next_held : Held} {taken : Step} {kinds : Kinds}
+walked_is : {ended : Bool} {waiting : Waiting} {position : ℕ} {word : Text} {rows : List Row} {pending : Option (Text × List Text)}
+    {next_held : Held} {taken : Step} {kinds : Kinds}
     → Meets ended waiting position word (held_at rows pending) next_held taken kinds
     → walked rules [] (walk_at ended waiting position rows pending) word ≡ after_step rules word (walk_at ended waiting position rows pending) next_held taken
 unfolding walked
@@ -115,7 +123,8 @@ no_subcommand (option id) word = refl
 no_subcommand positional word = refl
 
 met_other : (waiting : Waiting) (position : ℕ) (word : Text) (h : Held)
-    → word_met rules [] false waiting position word h ≡ cond (bytes_eq word (codes "--")) (h, trailing position) (long_or_other rules waiting word (long_of word) h)
+    → word_met rules [] false waiting position word h ≡ cond (bytes_eq word (codes "--")) (h, trailing position)
+    (long_or_other rules waiting word (long_of word) h)
 met_other waiting position word h = ap (λ o. subcommand_or_other rules o waiting position word h) (no_subcommand waiting word)
 
 fault_other : (waiting : Waiting) (word : Text) (h : Held)
@@ -129,7 +138,8 @@ meets_last waiting position word h l = record {
 }
 
 -- a word that begins with a dash, and is not `--`
-met_dashed : (waiting : Waiting) (position : ℕ) (word : Text) (h : Held) (o : Option (Text × Option Text)) → bytes_eq word (codes "--") ≡ false → long_of word ≡ o
+met_dashed : (waiting : Waiting) (position : ℕ) (word : Text) (h : Held) (o : Option (Text × Option Text))
+    → bytes_eq word (codes "--") ≡ false → long_of word ≡ o
     → word_met rules [] false waiting position word h ≡ long_or_other rules waiting word o h
 met_dashed waiting position word h o other long =
     met_other waiting position word h ∙ ap (λ b. cond b (h, trailing position) (long_or_other rules waiting word (long_of word) h)) other
@@ -149,7 +159,8 @@ meets_valued waiting position word h l = record {
 }
 
 meets_bare : (waiting : Waiting) (position : ℕ) (word : Text) (h : Held) → LooksBare word
-    → Meets false waiting position word h (record (settled rules h) { pending = Some (codes "pool", []) }) (next (option (codes "pool"))) (settle_fault rules false h)
+    → Meets false waiting position word h (record (settled rules h) { pending = Some (codes "pool", []) }) (next (option (codes "pool")))
+    (settle_fault rules false h)
 meets_bare waiting position word h l = record {
   met = met_dashed waiting position word h _ l.ends l.long;
   fault = fault_dashed waiting word h _ l.ends l.long;
@@ -217,7 +228,8 @@ settles_fresh id rows v none = ap (λ b. or_else (cond (b && true) (kind.Argumen
 settles_again : (id : Text) (rows : List Row) (u : Text) → found id rows ≡ Some (row id u)
     → or_else (cond (has_row id rows && true) (kind.ArgumentConflict ∷ []) []) [] ≡ [] → ⊥
 settles_again id rows u some none =
-    let bad : kind.ArgumentConflict ∷ [] ≡ [] = sym (ap (λ b. or_else (cond (b && true) (kind.ArgumentConflict ∷ []) []) []) (has_row-found id rows ∙ ap is_some some)) ∙ none in
+    let bad : kind.ArgumentConflict ∷ [] ≡ [] =
+    sym (ap (λ b. or_else (cond (b && true) (kind.ArgumentConflict ∷ []) []) []) (has_row-found id rows ∙ ap is_some some)) ∙ none in
     cc
 
 -- ---- a word at its place
@@ -245,7 +257,8 @@ placed_by : (a : Rule) (ended : Bool) (position : ℕ) (rows : List Row) (pendin
     → step_fault shape position (held_at rows pending) value ≡ positional_fault rules false a (held_at rows pending)
     → after_step rules word (walk_at ended idle position rows pending) (held_at rows pending) value
     ≡ walk_with (ended || false) (positional_held rules a word (held_at rows pending)) (position + 1)
-    → sound (settled_rows rules pending rows) (Some (a.id, word ∷ [])) ≡ or_else (cond (has_row a.id (settled_rows rules pending rows) && true) (kind.ArgumentConflict ∷ []) []) []
+    → sound (settled_rows rules pending rows) (Some (a.id, word ∷ []))
+    ≡ or_else (cond (has_row a.id (settled_rows rules pending rows) && true) (kind.ArgumentConflict ∷ []) []) []
     → settled_rows rules (Some (a.id, word ∷ [])) (settled_rows rules pending rows)
     ≡ with_values a.id (reading_of vp.String) CommandLine (word ∷ []) (without a.id (settled_rows rules pending rows))
     → sound rows pending ≡ [] → found a.id (settled_rows rules pending rows) ≡ None → Placed a.id ended position rows pending word
@@ -267,8 +280,10 @@ places (a ∷ b ∷ c ∷ d ∷ rest) ended rows pending word few = absurd (omeg
 -- ---- a word between two others
 
 value_goes : (alone : List Text) (pool : Option Text) (ended : Bool) (rows : List Row) (pending : Option (Text × List Text)) (word : Text) → length alone < 4
-    → sound rows pending ≡ [] → Shows (settled_rows rules pending rows) alone pool → Meets ended idle (length alone + 1) word (held_at rows pending) (held_at rows pending) value []
-    → step (between ended alone pool) word ≡ placing ended alone pool word → Turn (between ended alone pool) (walk_at ended idle (length alone + 1) rows pending) word
+    → sound rows pending ≡ [] → Shows (settled_rows rules pending rows) alone pool
+    → Meets ended idle (length alone + 1) word (held_at rows pending) (held_at rows pending) value []
+    → step (between ended alone pool) word ≡ placing ended alone pool word
+    → Turn (between ended alone pool) (walk_at ended idle (length alone + 1) rows pending) word
 value_goes alone pool ended rows pending word few settles shows m is =
     let now = settled_rows rules pending rows in
     let p = places alone ended rows pending word few settles (next_free now alone pool few shows) in
@@ -286,11 +301,14 @@ value_goes alone pool ended rows pending word few settles shows m is =
     goes (turn_is m ∙ p.step_none) (subst (λ q. Fits q (walked rules [] (walk_at ended idle (length alone + 1) rows pending) word)) (sym at) fits)
 
 value_turn : (alone : List Text) (pool : Option Text) (ended : Bool) (rows : List Row) (pending : Option (Text × List Text)) (word : Text) → length alone ≤ 4
-    → sound rows pending ≡ [] → Shows (settled_rows rules pending rows) alone pool → Meets ended idle (length alone + 1) word (held_at rows pending) (held_at rows pending) value []
-    → step (between ended alone pool) word ≡ placing ended alone pool word → Turn (between ended alone pool) (walk_at ended idle (length alone + 1) rows pending) word
+    → sound rows pending ≡ [] → Shows (settled_rows rules pending rows) alone pool
+    → Meets ended idle (length alone + 1) word (held_at rows pending) (held_at rows pending) value []
+    → step (between ended alone pool) word ≡ placing ended alone pool word
+    → Turn (between ended alone pool) (walk_at ended idle (length alone + 1) rows pending) word
 value_turn [] pool ended rows pending word few settles shows m is = value_goes [] pool ended rows pending word (omega arith) settles shows m is
 value_turn (a ∷ []) pool ended rows pending word few settles shows m is = value_goes (a ∷ []) pool ended rows pending word (omega arith) settles shows m is
-value_turn (a ∷ b ∷ []) pool ended rows pending word few settles shows m is = value_goes (a ∷ b ∷ []) pool ended rows pending word (omega arith) settles shows m is
+value_turn (a ∷ b ∷ []) pool ended rows pending word few settles shows m is =
+    value_goes (a ∷ b ∷ []) pool ended rows pending word (omega arith) settles shows m is
 value_turn (a ∷ b ∷ c ∷ []) pool ended rows pending word few settles shows m is =
     value_goes (a ∷ b ∷ c ∷ []) pool ended rows pending word (omega arith) settles shows m is
 value_turn (a ∷ b ∷ c ∷ d ∷ []) pool ended rows pending word few settles shows m is = fails (not_unknown (turn_is m)) is
@@ -301,11 +319,13 @@ past_dash : (alone : List Text) (pool : Option Text) (word : Text) → is_dashed
     ≡ cond (bytes_eq word (codes "--")) (between true alone pool)
     (cond (starts_with nat_eq word (codes "--pool=")) (pooling alone pool (drop 7 word)) (cond (bytes_eq word (codes "--pool")) (wants alone pool) lost))
 past_dash alone pool word dashed = ap (λ b. cond (not b) (placing false alone pool word) (cond (bytes_eq word (codes "--")) (between true alone pool)
-    (cond (starts_with nat_eq word (codes "--pool=")) (pooling alone pool (drop 7 word)) (cond (bytes_eq word (codes "--pool")) (wants alone pool) lost)))) dashed
+    (cond (starts_with nat_eq word (codes "--pool=")) (pooling alone pool (drop 7 word))
+    (cond (bytes_eq word (codes "--pool")) (wants alone pool) lost)))) dashed
 
 step_refused : (alone : List Text) (pool : Option Text) (word : Text) → is_dashed word ≡ true → bytes_eq word (codes "--") ≡ false
     → starts_with nat_eq word (codes "--pool=") ≡ false → bytes_eq word (codes "--pool") ≡ false → step (between false alone pool) word ≡ lost
-step_refused alone pool word dashed at_end with_value alone_named = past_dash alone pool word dashed ∙ cond-false _ _ _ at_end ∙ cond-false _ _ _ with_value ∙ cond-false _ _ _ alone_named
+step_refused alone pool word dashed at_end with_value alone_named =
+    past_dash alone pool word dashed ∙ cond-false _ _ _ at_end ∙ cond-false _ _ _ with_value ∙ cond-false _ _ _ alone_named
 
 module _ (alone : List Text) (pool : Option Text) (rows : List Row) (pending : Option (Text × List Text)) (word : Text) (few : length alone ≤ 4)
     (settles : sound rows pending ≡ []) (shows : Shows (settled_rows rules pending rows) alone pool) where
@@ -334,7 +354,8 @@ module _ (alone : List Text) (pool : Option Text) (rows : List Row) (pending : O
         few = few;
         shows = shows;
       } in
-      goes (turn_is m ∙ both_none _ [] settles refl) (subst (λ q. Fits q (walked rules [] (walk_at false idle (length alone + 1) rows pending) word)) (sym at) fits)
+      goes (turn_is m ∙ both_none _ [] settles refl)
+      (subst (λ q. Fits q (walked rules [] (walk_at false idle (length alone + 1) rows pending) word)) (sym at) fits)
 
 -- the option's word, where there is one already or none yet
 module _ (alone : List Text) (rows : List Row) (pending : Option (Text × List Text)) (word : Text) (l : LooksValued word) where
@@ -352,7 +373,8 @@ module _ (alone : List Text) (rows : List Row) (pending : Option (Text × List T
         is = walked_is m;
         few = few;
         settles = refl;
-        shows = subst (λ r. Shows r alone (Some (drop 7 word))) (sym (added (codes "pool") (drop 7 word) now shows.option)) (shows_pool now alone (drop 7 word) shows);
+        shows = subst (λ r. Shows r alone (Some (drop 7 word))) (sym (added (codes "pool") (drop 7 word) now shows.option))
+            (shows_pool now alone (drop 7 word) shows);
       } in
       goes (turn_is m ∙ both_none _ [] (both_none _ _ settles (settles_fresh (codes "pool") now (drop 7 word) shows.option)) refl)
       (subst (λ q. Fits q (walked rules [] (walk_at false idle (length alone + 1) rows pending) word)) (sym (valued_step None)) fits)
@@ -376,7 +398,8 @@ between_at : (alone : List Text) (pool : Option Text) (rows : List Row) (pending
 between_at alone pool rows pending word text few settles shows (plain l) =
     value_turn alone pool false rows pending word few settles shows (meets_plain (length alone + 1) word (held_at rows pending) l)
     (ap (λ b. cond (not b) (placing false alone pool word) (cond (bytes_eq word (codes "--")) (between true alone pool)
-    (cond (starts_with nat_eq word (codes "--pool=")) (pooling alone pool (drop 7 word)) (cond (bytes_eq word (codes "--pool")) (wants alone pool) lost)))) l.dashed)
+    (cond (starts_with nat_eq word (codes "--pool=")) (pooling alone pool (drop 7 word))
+    (cond (bytes_eq word (codes "--pool")) (wants alone pool) lost)))) l.dashed)
 between_at alone pool rows pending word text few settles shows (last l) = turn_last alone pool rows pending word few settles shows l
 between_at alone pool rows pending word text few settles shows (valued l) = turn_valued alone pool rows pending word few settles shows l
 between_at alone pool rows pending word text few settles shows (bare l) = turn_bare alone pool rows pending word few settles shows l
@@ -387,7 +410,8 @@ between_at alone pool rows pending word text few settles shows (short l) =
     fails (refused false idle (length alone + 1) word rows pending (not_unknown (fault_short idle word rows pending text l)))
     (step_refused alone pool word l.dashed l.ends l.valued l.bare)
 
-between_turn : (ended : Bool) (alone : List Text) (pool : Option Text) (w : Walk) (word : Text) → IsUtf8 word → Between ended alone pool w → Turn (between ended alone pool) w word
+between_turn : (ended : Bool) (alone : List Text) (pool : Option Text) (w : Walk) (word : Text) → IsUtf8 word → Between ended alone pool w
+    → Turn (between ended alone pool) w word
 between_turn true alone pool w word text f = subst (λ v. Turn (between true alone pool) v word) (sym f.is)
     (value_turn alone pool true f.rows f.pending word f.few f.settles f.shows (meets_ended idle (length alone + 1) word (held_at f.rows f.pending)) refl)
 between_turn false alone pool w word text f = subst (λ v. Turn (between false alone pool) v word) (sym f.is)
@@ -482,20 +506,23 @@ stuck_value : (position : ℕ) (rows : List Row) (pending : Option (Text × List
 stuck_value position rows pending unsettled = by (nat_eq 1 position) (nat_eq 2 position) (nat_eq 3 position) (nat_eq 4 position)
   where
     by : (b c d e : Bool) → option_map_or (λ a. positional_fault rules false a (held_at rows pending)) (cond b (Some (at_place (codes "mode") true 1))
-        (cond c (Some (at_place (codes "file") true 2)) (cond d (Some (at_place (codes "first") false 3)) (cond e (Some (at_place (codes "second") false 4)) None)))) unknown ≡ [] → ⊥
+        (cond c (Some (at_place (codes "file") true 2))
+        (cond d (Some (at_place (codes "first") false 3)) (cond e (Some (at_place (codes "second") false 4)) None)))) unknown ≡ [] → ⊥
     by true c d e = unsettled_value (at_place (codes "mode") true 1) rows pending refl unsettled
     by false true d e = unsettled_value (at_place (codes "file") true 2) rows pending refl unsettled
     by false false true e = unsettled_value (at_place (codes "first") false 3) rows pending refl unsettled
     by false false false true = unsettled_value (at_place (codes "second") false 4) rows pending refl unsettled
     by false false false false = λ none. cc
 
-lost_value : (ended : Bool) (waiting : Waiting) (position : ℕ) (rows : List Row) (pending : Option (Text × List Text)) (word : Text) → (sound rows pending ≡ [] → ⊥)
+lost_value : (ended : Bool) (waiting : Waiting) (position : ℕ) (rows : List Row) (pending : Option (Text × List Text)) (word : Text)
+    → (sound rows pending ≡ [] → ⊥)
     → Meets ended waiting position word (held_at rows pending) (held_at rows pending) value [] → Turn lost (walk_at ended waiting position rows pending) word
 lost_value ended waiting position rows pending word unsettled m = fails (λ none. stuck_value position rows pending unsettled (sym (turn_is m) ∙ none)) refl
 
 lost_at : (position : ℕ) (rows : List Row) (pending : Option (Text × List Text)) (word : Text) → IsUtf8 word → (sound rows pending ≡ [] → ⊥) → Looks word
     → Turn lost (walk_at false idle position rows pending) word
-lost_at position rows pending word text unsettled (plain l) = lost_value false idle position rows pending word unsettled (meets_plain position word (held_at rows pending) l)
+lost_at position rows pending word text unsettled (plain l) =
+    lost_value false idle position rows pending word unsettled (meets_plain position word (held_at rows pending) l)
 lost_at position rows pending word text unsettled (last l) =
     let m = meets_last idle position word (held_at rows pending) l in
     goes (turn_is m) (record {
@@ -519,7 +546,8 @@ lost_at position rows pending word text unsettled (strange l) =
 lost_at position rows pending word text unsettled (short l) =
     fails (refused false idle position word rows pending (not_unknown (fault_short idle word rows pending text l))) refl
 
-lost_quiet : (ended : Bool) (waiting : Waiting) (position : ℕ) (rows : List Row) (pending : Option (Text × List Text)) (word : Text) → IsUtf8 word → (sound rows pending ≡ [] → ⊥)
+lost_quiet : (ended : Bool) (waiting : Waiting) (position : ℕ) (rows : List Row) (pending : Option (Text × List Text)) (word : Text) → IsUtf8 word
+    → (sound rows pending ≡ [] → ⊥)
     → (ended ≡ true) ⊎ (waiting ≡ idle) → Turn lost (walk_at ended waiting position rows pending) word
 lost_quiet true waiting position rows pending word text unsettled quiet =
     lost_value true waiting position rows pending word unsettled (meets_ended waiting position word (held_at rows pending))
@@ -547,7 +575,8 @@ no_defaults rows [] none = (refl, refl)
 no_defaults rows (a ∷ rs) none =
     let parts = and_parts (is_empty a.defaults) (list_all (λ b. is_empty b.defaults) rs) none in
     let empty = is_nil a.defaults parts.0 in
-    let left : with_default rows a ≡ rows = ap (λ ds. cond (has_row a.id rows) rows (default_rows a.id (reading_by a) ds rows)) empty ∙ same_rows (has_row a.id rows) rows in
+    let left : with_default rows a ≡ rows =
+    ap (λ ds. cond (has_row a.id rows) rows (default_rows a.id (reading_by a) ds rows)) empty ∙ same_rows (has_row a.id rows) rows in
     let fault : default_fault rows a ≡ [] =
     ap (λ b. cond b [] (given_default_fault a a.defaults)) (or_right (has_row a.id rows) (is_empty a.defaults) parts.0) in
     let rest = no_defaults rows rs parts.1 in
@@ -571,14 +600,16 @@ abbrev ending : Option Row → Option Row → Option Row → Option Row → Opti
 ending mode file first second pool = read (missing mode file) (order_of_found (text_of mode) (text_of file) (text_of first) (text_of second) (text_of pool))
 
 abbrev by_rows : List Row → Option Order
-by_rows rows = ending (found (codes "mode") rows) (found (codes "file") rows) (found (codes "first") rows) (found (codes "second") rows) (found (codes "pool") rows)
+by_rows rows =
+    ending (found (codes "mode") rows) (found (codes "file") rows) (found (codes "first") rows) (found (codes "second") rows) (found (codes "pool") rows)
 
 pool_text : (pool : Option Text) → text_of (option_map (row (codes "pool")) pool) ≡ pool
 pool_text None = refl
 pool_text (Some v) = refl
 
 ending_is : (alone : List Text) (pool : Option Text) → length alone ≤ 4
-    → ending (option_map (row (codes "mode")) (slice_get alone 0)) (option_map (row (codes "file")) (slice_get alone 1)) (option_map (row (codes "first")) (slice_get alone 2))
+    → ending (option_map (row (codes "mode")) (slice_get alone 0)) (option_map (row (codes "file")) (slice_get alone 1))
+    (option_map (row (codes "first")) (slice_get alone 2))
     (option_map (row (codes "second")) (slice_get alone 3)) (option_map (row (codes "pool")) pool) ≡ order_of_words pool alone
 ending_is [] pool few = refl
 ending_is (a ∷ []) pool few = refl
@@ -590,7 +621,8 @@ ending_is (a ∷ b ∷ c ∷ d ∷ e ∷ rest) pool few = absurd (omega arith)
 by_rows_is : (rows : List Row) (alone : List Text) (pool : Option Text) → length alone ≤ 4 → Shows rows alone pool → by_rows rows ≡ order_of_words pool alone
 by_rows_is rows alone pool few s =
     ap₂ (λ a b. ending a b (found (codes "first") rows) (found (codes "second") rows) (found (codes "pool") rows)) s.mode s.file
-    ∙ ap₂ (λ a b. ending (option_map (row (codes "mode")) (slice_get alone 0)) (option_map (row (codes "file")) (slice_get alone 1)) a b (found (codes "pool") rows)) s.first s.second
+    ∙ ap₂ (λ a b. ending (option_map (row (codes "mode")) (slice_get alone 0)) (option_map (row (codes "file")) (slice_get alone 1)) a b
+    (found (codes "pool") rows)) s.first s.second
     ∙ ap (λ a. ending (option_map (row (codes "mode")) (slice_get alone 0)) (option_map (row (codes "file")) (slice_get alone 1))
     (option_map (row (codes "first")) (slice_get alone 2)) (option_map (row (codes "second")) (slice_get alone 3)) a) s.option
     ∙ ending_is alone pool few
@@ -608,18 +640,21 @@ outcome w ws =
 abbrev closing : Held → Option Order
 closing h = read (last_fault h) (order_by (λ id. first_of id (finished rules h)))
 
-closes : (rows : List Row) (pending : Option (Text × List Text)) → sound rows pending ≡ [] → closing (held_at rows pending) ≡ by_rows (settled_rows rules pending rows)
+closes : (rows : List Row) (pending : Option (Text × List Text)) → sound rows pending ≡ []
+    → closing (held_at rows pending) ≡ by_rows (settled_rows rules pending rows)
 closes rows pending settles =
     let now = settled_rows rules pending rows in
     let none = no_defaults now rules refl in
-    ap (λ k. read (or_else k (or_else (defaults_fault now rules) (check_fault shape (fold with_default now rules) false))) (order_by (λ id. first_of id (fold with_default now rules)))) settles
+    ap (λ k. read (or_else k (or_else (defaults_fault now rules) (check_fault shape (fold with_default now rules) false)))
+    (order_by (λ id. first_of id (fold with_default now rules)))) settles
     ∙ ap (λ k. read (or_else k (check_fault shape (fold with_default now rules) false)) (order_by (λ id. first_of id (fold with_default now rules)))) none.0
     ∙ ap (λ r. read (check_fault shape r false) (order_by (λ id. first_of id r))) none.1
 
 closes_not : (rows : List Row) (pending : Option (Text × List Text)) → (sound rows pending ≡ [] → ⊥) → closing (held_at rows pending) ≡ None
 closes_not rows pending unsettled = by (sound rows pending) unsettled
   where
-    by : (k : Kinds) → (k ≡ [] → ⊥) → read (or_else k (or_else (defaults_fault (settled_rows rules pending rows) rules) (check_fault shape (finished rules (held_at rows pending)) false)))
+    by : (k : Kinds) → (k ≡ [] → ⊥)
+        → read (or_else k (or_else (defaults_fault (settled_rows rules pending rows) rules) (check_fault shape (finished rules (held_at rows pending)) false)))
         (order_by (λ id. first_of id (finished rules (held_at rows pending)))) ≡ None
     by [] unequal = absurd (unequal refl)
     by (x ∷ k) unequal = refl
@@ -644,7 +679,8 @@ unfolding walk_fault
 follows [] at w texts f = close at w f
 follows (word ∷ ws) at w texts f = elim (turn at w word texts.0 f) [
   | goes none fits ↦
-      ap (λ k. read (or_else (or_else k (walk_fault shape [] (walked rules [] w word) ws)) (last_fault (fold (walked rules []) (walked rules [] w word) ws).held))
+      ap (λ k. read (or_else (or_else k (walk_fault shape [] (walked rules [] w word) ws))
+      (last_fault (fold (walked rules []) (walked rules [] w word) ws).held))
       (order_by (λ id. first_of id (finished rules (fold (walked rules []) (walked rules [] w word) ws).held)))) none
       ∙ follows ws (step at word) (walked rules [] w word) texts.1 fits
   | fails some is ↦ read_none _ _ _ _ some ∙ sym (ap (λ q. scan q ws) is ∙ scan-lost ws)

@@ -1,5 +1,6 @@
 -- How many pages a log writes where just these bytes were put.
-use Rattle.std.proofs.Common.{◌≡◌, ◌≢◌, ℕ, ◌+◌, ◌<◌, ◌≤◌, Bool, true, false, ◌&&◌, ◌||◌, cond, List, [], ◌∷◌, ◌++◌, length, length-append, take, Some, refl, sym, ◌∙◌, ap, arith, append_assoc, append-nil}
+use Rattle.std.proofs.Common.{◌≡◌, ◌≢◌, ℕ, ◌+◌, ◌<◌, ◌≤◌, Bool, true, false, ◌&&◌, ◌||◌, cond, List, [], ◌∷◌, ◌++◌, length, length-append, take, Some, refl}
+use Rattle.std.proofs.Common.{sym, ◌∙◌, ap, arith, append_assoc, append-nil}
 use Rattle.std.specs.Prelude.{slice_get}
 use Rattle.std.specs.List.{list_any, count_by, range_with_len}
 use Rattle.std.specs.Str.{bytes_eq}
@@ -38,7 +39,8 @@ took_more pre e = list_any-append is_took pre (e ∷ []) ∙ ap (λ b. list_any 
 put_more : (pre : Log) (e : Event) → put_bytes (pre ++ e ∷ []) ≡ put_bytes pre ++ put_by e
 put_more pre e = put_bytes-append pre (e ∷ []) ∙ ap (λ (l : List ℕ). put_bytes pre ++ l) (append-nil (put_by e))
 
-count_is : (put : List ℕ) (log pre : Log) → count_by (is_written_at put (pre ++ log)) (range_with_len (length pre) (length log)) ≡ written put (list_any is_took pre) (put_bytes pre) log
+count_is : (put : List ℕ) (log pre : Log)
+    → count_by (is_written_at put (pre ++ log)) (range_with_len (length pre) (length log)) ≡ written put (list_any is_took pre) (put_bytes pre) log
 count_is put [] pre = refl
 count_is put (e ∷ log) pre =
     let whole = pre ++ e ∷ log in
@@ -47,7 +49,8 @@ count_is put (e ∷ log) pre =
     ap (λ o. is_wrote o && list_any is_took (take (length pre) whole) && bytes_eq (put_bytes (take (length pre) whole)) put) (at_seam pre e log)
     ∙ ap (λ (l : Log). is_wrote (Some e) && list_any is_took l && bytes_eq (put_bytes l) put) (take-append_seam pre (e ∷ log)) in
     let size : length pre + 1 ≡ length more = sym (length-append pre (e ∷ [])) in
-    let later : count_by (is_written_at put whole) (range_with_len (length pre + 1) (length log)) ≡ written put (list_any is_took pre || is_took e) (put_bytes pre ++ put_by e) log =
+    let later : count_by (is_written_at put whole) (range_with_len (length pre + 1) (length log)) ≡ written put (list_any is_took pre || is_took e)
+    (put_bytes pre ++ put_by e) log =
     ap (λ n. count_by (is_written_at put whole) (range_with_len n (length log))) size
     ∙ ap (λ (l : Log). count_by (is_written_at put l) (range_with_len (length more) (length log))) (sym (append_assoc pre (e ∷ []) log))
     ∙ count_is put log more
@@ -70,7 +73,8 @@ or_assoc : (a b c : Bool) → ((a || b) || c) ≡ (a || (b || c))
 or_assoc true b c = refl
 or_assoc false b c = refl
 
-pub written-append : (put : List ℕ) (a b : Log) (took : Bool) (before : List ℕ) → written put took before (a ++ b) ≡ written put took before a + written put (took || list_any is_took a) (before ++ put_bytes a) b
+pub written-append : (put : List ℕ) (a b : Log) (took : Bool) (before : List ℕ)
+    → written put took before (a ++ b) ≡ written put took before a + written put (took || list_any is_took a) (before ++ put_bytes a) b
 written-append put [] b took before =
     ap (λ t. written put t before b) (sym (or_false took)) ∙ ap (λ (l : List ℕ). written put (took || false) l b) (sym (append-nil before)) ∙ zero_before _
   where
@@ -79,7 +83,8 @@ written-append put [] b took before =
 written-append put (e ∷ a) b took before =
     let here : ℕ = cond {A = ℕ} (is_wrote (Some e) && took && bytes_eq before put) 1 0 in
     let first = written put (took || is_took e) (before ++ put_by e) a in
-    let same : written put ((took || is_took e) || list_any is_took a) ((before ++ put_by e) ++ put_bytes a) b ≡ written put (took || (is_took e || list_any is_took a)) (before ++ (put_by e ++ put_bytes a)) b =
+    let same : written put ((took || is_took e) || list_any is_took a) ((before ++ put_by e) ++ put_bytes a) b
+    ≡ written put (took || (is_took e || list_any is_took a)) (before ++ (put_by e ++ put_bytes a)) b =
     ap (λ t. written put t ((before ++ put_by e) ++ put_bytes a) b) (or_assoc took (is_took e) (list_any is_took a))
     ∙ ap (λ (l : List ℕ). written put (took || (is_took e || list_any is_took a)) l b) (append_assoc before (put_by e) (put_bytes a)) in
     let more = written-append put a b (took || is_took e) (before ++ put_by e) in
@@ -130,9 +135,16 @@ apart_none put [] took before only ne = refl
 apart_none put (Took bytes ∷ log) took before only ne = absurd (cc)
 apart_none put (Put bytes ∷ log) took before only ne = absurd (cc)
 apart_none put (Wrote page bytes ∷ log) took before only ne =
-    omega (arith, unwritten (Wrote page bytes) took before put ne, apart_none put log (took || false) (before ++ []) only (λ e. ne (sym (append-nil before) ∙ e)))
-apart_none put (Tore page ∷ log) took before only ne = omega (arith, apart_none put log (took || false) (before ++ []) only (λ e. ne (sym (append-nil before) ∙ e)))
-apart_none put (Synced ∷ log) took before only ne = omega (arith, apart_none put log (took || false) (before ++ []) only (λ e. ne (sym (append-nil before) ∙ e)))
+    omega (
+      arith,
+      unwritten (Wrote page bytes) took before put ne,
+      apart_none put log (took || false) (before ++ []) only
+          (λ e. ne (sym (append-nil before) ∙ e)),
+    )
+apart_none put (Tore page ∷ log) took before only ne =
+    omega (arith, apart_none put log (took || false) (before ++ []) only (λ e. ne (sym (append-nil before) ∙ e)))
+apart_none put (Synced ∷ log) took before only ne =
+    omega (arith, apart_none put log (took || false) (before ++ []) only (λ e. ne (sym (append-nil before) ∙ e)))
 
 -- more bytes were put
 pub past_none : (put : List ℕ) (log : Log) (took : Bool) (before : List ℕ) → length put < length before → written put took before log ≡ 0

@@ -55,7 +55,8 @@ pub(crate) fn answer_item<R: Threads + Sync, W: World>(
     ensures damaged { IfErr result (λ e. (page : ℕ) → e ≡ halts.Stopped (stops.Damaged page) → (s : State) → IsAt session.old s → ⊥) }
     ensures short { IfErr result (λ e. e ≡ halts.TooMuch → ⊥) }
     ensures door { W.door (world_of session.new) ≡ W.door (world_of session.old) }
-    ensures applies { (s : State) → IsAt session.old s → Goes (Applies s item.now (changes_of session.old)) (W.told (world_of session.old)) (W.told (world_of session.new)) }
+    ensures applies { (s : State) → IsAt session.old s
+        → Goes (Applies s item.now (changes_of session.old)) (W.told (world_of session.old)) (W.told (world_of session.new)) }
 {
     let command = match parse(alloc, session.head().format, item) {
         Ok(command) => command,
@@ -94,8 +95,10 @@ pub(crate) fn put_answer<R: Threads + Sync, W: World>(
     ensures done { IfOk result (λ done. (s : State) → IsAt session.old s → done ≡ (so_far && is_done (reply_to s item))) }
     ensures at { OnOk result ((s : State) → IsAt session.old s → IsAt session.new (state_then s item)) }
     ensures changes { OnOk result ((s : State) → IsAt session.old s → changes_of session.new ≡ changes_then s item (changes_of session.old)) }
-    ensures said { OnOk result ((s : State) → IsAt session.old s → Goes (Answers s item (changes_of session.old) (text_of (reply_to s item))) (W.told (world_of session.old)) (W.told (world_of session.new))) }
-    ensures part { OnErr result ((s : State) → IsAt session.old s → Goes (AnswersFront s item (changes_of session.old)) (W.told (world_of session.old)) (W.told (world_of session.new))) }
+    ensures said { OnOk result ((s : State) → IsAt session.old s
+        → Goes (Answers s item (changes_of session.old) (text_of (reply_to s item))) (W.told (world_of session.old)) (W.told (world_of session.new))) }
+    ensures part { OnErr result ((s : State) → IsAt session.old s
+        → Goes (AnswersFront s item (changes_of session.old)) (W.told (world_of session.old)) (W.told (world_of session.new))) }
 {
     let answer = answer_item(rt, alloc, session, &item)?;
     put_reply(session, answer.text.bytes())?;

@@ -70,7 +70,8 @@ fn try_session<R: Threads + Sync, W: World>(
     ensures ends { is_run_end result.0 ≡ true }
     ensures short { result.0 ≢ ends.TooMuch }
     ensures sound { (s : State) → IsAt session s → IsOneOf result.0 run_ends }
-    ensures tries { (s : State) → IsAt session s → Goes (TriesTo (level_of session) (trial_run (level_of session) s seed count) result.0) (W.told (world_of session)) (W.told result.1) }
+    ensures tries { (s : State) → IsAt session s
+        → Goes (TriesTo (level_of session) (trial_run (level_of session) s seed count) result.0) (W.told (world_of session)) (W.told result.1) }
 {
     let mut session = session;
     let end = end_of(run_trial(rt, alloc, &mut session, seed, count));
@@ -88,7 +89,8 @@ pub(crate) fn run_file<R: Threads + Sync, W: World>(
     ensures cause { HasEndCause (Some (Run file.entry.path.now file.entry.pool)) (W.faults world) (W.faults result.1) (W.door result.1) result.0 }
     ensures short { result.0 ≡ ends.TooMuch → file.entry.source ≡ sources.Input }
     ensures usage { result.0 ≢ ends.Usage }
-    ensures promises { WhereTold (KeepsPromises (Some (run_from file.entry.source file.entry.path.now file.entry.pool)) (Rose (W.faults world) (W.faults result.1)) (W.door result.1) result.0)
+    ensures promises { WhereTold (KeepsPromises (Some (run_from file.entry.source file.entry.path.now file.entry.pool))
+        (Rose (W.faults world) (W.faults result.1)) (W.door result.1) result.0)
         (W.told world) (W.told result.1) }
 {
     let mut world = world;

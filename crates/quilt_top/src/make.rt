@@ -49,9 +49,12 @@ fn make_map<W: World>(world: &mut W, path: &str, pages: u32, level: u8, line: &[
 /// Makes the file that the words ask for.
 pub(crate) fn new_file<W: World>(alloc: Global, world: W, file: NewFile) -> (End, W)
     requires { W.door world ≡ doors.Shut }
-    ensures cause { HasEndCause (Some (New file.entry.path.now file.entry.pages file.entry.level)) (W.faults world) (W.faults result.1) (W.door result.1) result.0 }
+    ensures cause { HasEndCause (Some (New file.entry.path.now file.entry.pages file.entry.level)) (W.faults world) (W.faults result.1)
+        (W.door result.1) result.0 }
     ensures usage { result.0 ≢ ends.Usage }
-    ensures promises { WhereTold (KeepsPromises (Some (New file.entry.path.now file.entry.pages file.entry.level)) (Rose (W.faults world) (W.faults result.1)) (W.door result.1) result.0)
+    ensures promises { WhereTold
+        (KeepsPromises (Some (New file.entry.path.now file.entry.pages file.entry.level)) (Rose (W.faults world) (W.faults result.1))
+        (W.door result.1) result.0)
         (W.told world) (W.told result.1) }
 {
     // The line is there before the file, so that no refused memory leaves a file half made.

@@ -82,7 +82,8 @@ pub fn run_quilt<'a, R: Threads + Sync, W: World>(
     ensures usage { IsUsage (asked_for (map (λ w. w.now) words.entry.now)) result.0 }
     ensures untouched { asked_for (map (λ w. w.now) words.entry.now) ≡ None → result.1 ≡ world }
     ensures cause { HasEndCause (asked_for (map (λ w. w.now) words.entry.now)) (W.faults world) (W.faults result.1) (W.door result.1) result.0 }
-    ensures promises { WhereTold (KeepsPromises (asked_for (map (λ w. w.now) words.entry.now)) (Rose (W.faults world) (W.faults result.1)) (W.door result.1) result.0) (W.told world) (W.told result.1) }
+    ensures promises { WhereTold (KeepsPromises (asked_for (map (λ w. w.now) words.entry.now)) (Rose (W.faults world) (W.faults result.1))
+        (W.door result.1) result.0) (W.told world) (W.told result.1) }
 {
     let Ok(order) = read_order(alloc, words) else {
         return (End::Memory, world);

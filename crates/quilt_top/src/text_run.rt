@@ -39,10 +39,12 @@ fn answer_items<R: Threads + Sync, W: World>(
     ensures door { W.door (world_of session.new) ≡ W.door (world_of session.old) }
     ensures level { lines.new.level ≡ lines.old.level }
     ensures same { IfOk result (λ done. level_of session.new ≡ level_of session.old) }
-    ensures answered { IfOk result (λ done. (s : State) → IsAt session.old s → (now : State) × IsAt session.new now × Answered ended lines.old.level so_far done s now (changes_of session.old) (changes_of session.new)
+    ensures answered { IfOk result (λ done. (s : State) → IsAt session.old s → (now : State) × IsAt session.new now
+        × Answered ended lines.old.level so_far done s now (changes_of session.old) (changes_of session.new)
         lines.old.rest lines.new.rest (W.told (world_of session.old)) (W.told (world_of session.new))) }
     ensures none { IfOk result (λ done. HasNone ended lines.old.level lines.new.rest) }
-    ensures stopped { OnErr result ((s : State) → IsAt session.old s → Goes (FrontOfAll ended lines.old.level s (changes_of session.old) lines.old.rest) (W.told (world_of session.old)) (W.told (world_of session.new))) }
+    ensures stopped { OnErr result ((s : State) → IsAt session.old s
+        → Goes (FrontOfAll ended lines.old.level s (changes_of session.old) lines.old.rest) (W.told (world_of session.old)) (W.told (world_of session.new))) }
 {
     let mut all_done = so_far;
     'items: while let Some(item) = lines.next_item(session.head().format, ended)? {
@@ -82,8 +84,10 @@ pub(crate) fn run_text<R: Threads + Sync, W: World>(
     ensures damaged { IfErr result (λ e. (page : ℕ) → e ≡ halts.Stopped (stops.Damaged page) → (s : State) → IsAt session.old s → ⊥) }
     ensures door { W.door (world_of session.new) ≡ W.door (world_of session.old) }
     ensures runs { (s : State) → IsAt session.old s → Goes (RunsFrom (level_of session.old) s) (W.told (world_of session.old)) (W.told (world_of session.new)) }
-    ensures whole { IfOk result (λ done. (s : State) → IsAt session.old s → Goes (RunsWhole (level_of session.old) done s) (W.told (world_of session.old)) (W.told (world_of session.new))) }
-    ensures too_much { IfErr result (λ e. e ≡ halts.TooMuch → (s : State) → IsAt session.old s → Goes (λ old new. Overruns new) (W.told (world_of session.old)) (W.told (world_of session.new))) }
+    ensures whole { IfOk result (λ done. (s : State) → IsAt session.old s
+        → Goes (RunsWhole (level_of session.old) done s) (W.told (world_of session.old)) (W.told (world_of session.new))) }
+    ensures too_much { IfErr result (λ e. e ≡ halts.TooMuch → (s : State) → IsAt session.old s
+        → Goes (λ old new. Overruns new) (W.told (world_of session.old)) (W.told (world_of session.new))) }
 {
     let mut lines = Lines::new(alloc, session.head().level);
     let mut buffer = [0; 4096];

@@ -68,7 +68,8 @@ fn try_item<R: Threads + Sync, W: World>(
     ensures damaged { IfErr result (λ e. (page : ℕ) → e ≡ halts.Stopped (stops.Damaged page) → (s : State) → IsAt session.old s → ⊥) }
     ensures short { IfErr result (λ e. e ≡ halts.TooMuch → ⊥) }
     ensures door { W.door (world_of session.new) ≡ W.door (world_of session.old) }
-    ensures applies { (s : State) → IsAt session.old s → Goes (Applies s item (changes_of session.old)) (W.told (world_of session.old)) (W.told (world_of session.new)) }
+    ensures applies { (s : State) → IsAt session.old s
+        → Goes (Applies s item (changes_of session.old)) (W.told (world_of session.old)) (W.told (world_of session.new)) }
 {
     let answer = answer_item(rt, alloc, session, &item)?;
     Ok(answer.is_done)
@@ -88,9 +89,11 @@ fn try_items<R: Threads + Sync, W: World>(
     ensures damaged { IfErr result (λ e. (page : ℕ) → e ≡ halts.Stopped (stops.Damaged page) → (s : State) → IsAt session.old s → ⊥) }
     ensures short { IfErr result (λ e. e ≡ halts.TooMuch → ⊥) }
     ensures door { W.door (world_of session.new) ≡ W.door (world_of session.old) }
-    ensures tries { (s : State) → IsAt session.old s → Goes (Tries (run_in s (items_of items.old.lines.level (text_left items.old)))) (W.told (world_of session.old)) (W.told (world_of session.new)) }
+    ensures tries { (s : State) → IsAt session.old s
+        → Goes (Tries (run_in s (items_of items.old.lines.level (text_left items.old)))) (W.told (world_of session.old)) (W.told (world_of session.new)) }
     ensures counted { IfOk result (λ tally. tally.done + tally.refused ≡ length (items_of items.old.lines.level (text_left items.old))) }
-    ensures tried { IfOk result (λ tally. (s : State) → IsAt session.old s → (now : State) × IsAt session.new now × Tried items.old.lines.level (text_left items.old) [] s now tally) }
+    ensures tried { IfOk result (λ tally. (s : State) → IsAt session.old s → (now : State) × IsAt session.new now
+        × Tried items.old.lines.level (text_left items.old) [] s now tally) }
 {
     let mut tally = Tally {
         done: 0,
@@ -126,8 +129,11 @@ pub(crate) fn run_trial<R: Threads + Sync, W: World>(
     ensures damaged { IfErr result (λ e. (page : ℕ) → e ≡ halts.Stopped (stops.Damaged page) → (s : State) → IsAt session.old s → ⊥) }
     ensures short { IfErr result (λ e. e ≡ halts.TooMuch → ⊥) }
     ensures door { W.door (world_of session.new) ≡ W.door (world_of session.old) }
-    ensures front { (s : State) → IsAt session.old s → Goes (TriesFront (level_of session.old) (trial_run (level_of session.old) s seed count)) (W.told (world_of session.old)) (W.told (world_of session.new)) }
-    ensures whole { IfOk result (λ done. (s : State) → IsAt session.old s → Goes (TriesWhole (level_of session.old) (trial_run (level_of session.old) s seed count) done) (W.told (world_of session.old)) (W.told (world_of session.new))) }
+    ensures front { (s : State) → IsAt session.old s → Goes (TriesFront (level_of session.old) (trial_run (level_of session.old) s seed count))
+        (W.told (world_of session.old)) (W.told (world_of session.new)) }
+    ensures whole { IfOk result (λ done. (s : State) → IsAt session.old s
+        → Goes (TriesWhole (level_of session.old) (trial_run (level_of session.old) s seed count) done) (W.told (world_of session.old))
+        (W.told (world_of session.new))) }
 {
     let mut items = TrialItems::new(alloc, seed, count, session.head().level);
     let tally = try_items(rt, alloc, &mut items, session)?;

@@ -1,5 +1,7 @@
 -- What further lines spell where they are well formed: as many rows, points or rings as are asked for, each within its range.
-use Rattle.std.proofs.Common.{◌≡◌, ◌≢◌, ◌⊎◌, inl, inr, subst, Result, Ok, Err, IfOk, ℕ, zero, suc, ◌+◌, ◌-◌, ◌*◌, ◌<◌, ◌≤◌, ◌==◌, ◌&&◌, ◌||◌, not, nat_le, nat_lt, Bool, true, false, List, [], ◌∷◌, ◌++◌, length, flat_map, All, Option, Some, None, IfSome, option_map, option_and_then, unwrap_or, cond, codes, refl, sym, ◌∙◌, ap, arith, length-append}
+use Rattle.std.proofs.Common.{◌≡◌, ◌≢◌, ◌⊎◌, inl, inr, subst, Result, Ok, Err, IfOk, ℕ, zero, suc, ◌+◌, ◌-◌, ◌*◌, ◌<◌, ◌≤◌, ◌==◌, ◌&&◌, ◌||◌, not, nat_le}
+use Rattle.std.proofs.Common.{nat_lt, Bool, true, false, List, [], ◌∷◌, ◌++◌, length, flat_map, All, Option, Some, None, IfSome, option_map, option_and_then}
+use Rattle.std.proofs.Common.{unwrap_or, cond, codes, refl, sym, ◌∙◌, ap, arith, length-append}
 use Rattle.std.specs.List.{list_all}
 use Rattle.std.specs.Str.{bytes_eq}
 use Rattle.std.proofs.lemmas.Bool.{leb-true, ltb-false, eqb-true, eqb-false}
@@ -13,7 +15,8 @@ use Rattle.quilt_words.specs.declared.item.Item.TheVariants.{Long}
 use Rattle.quilt_words.specs.declared.command.Command.{Command}
 use Rattle.quilt_words.specs.declared.parse_err.ParseErr.{ParseErr}
 use Rattle.quilt_words.specs.Fitting.{IsWithin, AreColours, IsRows, ArePoints, AreRings, IsRing, IsPointOf16, IsCornerOf16, FurtherFits, IsFitting}
-use Rattle.quilt_words.specs.Items.{Group, held, held_as, asked, asked_by, listed_by, is_long, is_plain, words_of, begins_with, rows_of, rows_joined, colour_bytes, points_of, points_joined, point_of, point, rings_of, rings_joined, ring_of, corners_of, corner_of}
+use Rattle.quilt_words.specs.Items.{Group, held, held_as, asked, asked_by, listed_by, is_long, is_plain, words_of, begins_with, rows_of, rows_joined}
+use Rattle.quilt_words.specs.Items.{colour_bytes, points_of, points_joined, point_of, point, rings_of, rings_joined, ring_of, corners_of, corner_of}
 use Rattle.quilt_words.specs.Spelling.{number, row, hex_digit, cons_both, is_spelled, value_of}
 use Rattle.quilt_words.specs.Made.{further_of}
 use Rattle.quilt_words.proofs.Cases.{bool_cases}
@@ -64,7 +67,8 @@ pub listed_rings : (w : List ℕ) (ws : List (List ℕ)) → bytes_eq w (codes "
 listed_rings w [] other = omega arith
 listed_rings w (p ∷ []) other = omega arith
 listed_rings w (p ∷ k ∷ []) other = rw other (omega arith)
-listed_rings w (p ∷ c ∷ k ∷ []) other = either_most (bytes_eq w (codes "polygon")) (unwrap_or (number 1 1000 k) 0) 1000 (most_of 1 1000 k (number 1 1000 k) refl)
+listed_rings w (p ∷ c ∷ k ∷ []) other =
+    either_most (bytes_eq w (codes "polygon")) (unwrap_or (number 1 1000 k) 0) 1000 (most_of 1 1000 k (number 1 1000 k) refl)
 listed_rings w (p ∷ c ∷ k ∷ l ∷ ws) other = omega arith
 
 none_most : (b : Bool) (k m : ℕ) → k ≤ m → cond b 0 k ≤ m
@@ -83,8 +87,10 @@ words_rings n (w ∷ ws) other no_list = rw other (listed_rings w ws no_list)
 pub asked_most : (n : ℕ) (line : List ℕ) → begins_with (words_of line) (codes "raster") ≡ false → asked n line ≤ 100000
 asked_most n line other = none_most (is_long line || not (list_all is_plain line)) (asked_by n (words_of line)) 100000 (words_most n (words_of line) other)
 
-pub asked_rings : (n : ℕ) (line : List ℕ) → begins_with (words_of line) (codes "raster") ≡ false → begins_with (words_of line) (codes "scatter") ≡ false → asked n line ≤ 1000
-asked_rings n line other no_list = none_most (is_long line || not (list_all is_plain line)) (asked_by n (words_of line)) 1000 (words_rings n (words_of line) other no_list)
+pub asked_rings : (n : ℕ) (line : List ℕ) → begins_with (words_of line) (codes "raster") ≡ false
+    → begins_with (words_of line) (codes "scatter") ≡ false → asked n line ≤ 1000
+asked_rings n line other no_list =
+    none_most (is_long line || not (list_all is_plain line)) (asked_by n (words_of line)) 1000 (words_rings n (words_of line) other no_list)
 
 -- a point of a list line
 abbrev IsOnePoint : Option Point → Type 0
@@ -127,7 +133,8 @@ either_are P false r is = tt
 pub points_are : (lines : List (List ℕ)) → IfSome (points_joined lines) (Are IsPointOf16 (length lines))
 points_are [] = are_none IsPointOf16
 points_are (line ∷ lines) =
-    either_are (Are IsPointOf16 (suc (length lines))) (nat_le (length line) 64) _ (next_are IsPointOf16 (length lines) (point_of (words_of line)) (points_joined lines) (words_point (words_of line)) (points_are lines))
+    either_are (Are IsPointOf16 (suc (length lines))) (nat_le (length line) 64) _
+    (next_are IsPointOf16 (length lines) (point_of (words_of line)) (points_joined lines) (words_point (words_of line)) (points_are lines))
 
 -- the corners of a ring line
 corner_fits : (x y : List ℕ) (a b : Option ℕ) → number 0 65535 x ≡ a → number 0 65535 y ≡ b → IfSome (corner_of a b) IsCornerOf16
@@ -196,8 +203,10 @@ pub record Bytes (k : ℕ) (bytes : List ℕ) : Type 0 where
   pub size : 2 * length bytes ≡ k
   pub each : All IsByte bytes
 
-next_byte : (k : ℕ) (a b : Option ℕ) (r : Option (List ℕ)) → IfSome a (λ d. d < 16) → IfSome b (λ d. d < 16) → IfSome r (Bytes k) → IfSome (cons_both a b r) (Bytes (suc (suc k)))
-next_byte k (Some a) (Some b) (Some r) high low others = record { size = omega (arith, others.size); each = All-cons IsByte (16 * a + b) r (omega (arith, high, low)) others.each }
+next_byte : (k : ℕ) (a b : Option ℕ) (r : Option (List ℕ)) → IfSome a (λ d. d < 16) → IfSome b (λ d. d < 16) → IfSome r (Bytes k)
+    → IfSome (cons_both a b r) (Bytes (suc (suc k)))
+next_byte k (Some a) (Some b) (Some r) high low others =
+    record { size = omega (arith, others.size); each = All-cons IsByte (16 * a + b) r (omega (arith, high, low)) others.each }
 next_byte k None b r high low others = tt
 next_byte k (Some a) None r high low others = tt
 next_byte k (Some a) (Some b) None high low others = tt
@@ -255,7 +264,8 @@ next_rows f width m (Some b) (Some r) one others = record {
   colours = joined_colours f width (colour_bytes f b) r one.size one.colours others.colours;
 }
 
-one_row : (f width k : ℕ) (r : Option (List ℕ)) → (f ≡ 1) ⊎ (f ≡ 2) → k ≡ 2 * f * width → IfSome r (Bytes k) → IfSome r (λ b. RowsAre f width (colour_bytes f b))
+one_row : (f width k : ℕ) (r : Option (List ℕ)) → (f ≡ 1) ⊎ (f ≡ 2) → k ≡ 2 * f * width → IfSome r (Bytes k)
+    → IfSome r (λ b. RowsAre f width (colour_bytes f b))
 one_row f width k None form size are = tt
 one_row f width k (Some b) form size are = row_colours f width k b form size are
 
@@ -290,7 +300,8 @@ points_fit k more some few = elim (bool_cases (length more == k)) [
   where
     enough : (r : Option (List Point)) → length more ≡ k → IfSome r (Are IsPointOf16 (length more)) → IfSome r ArePoints
     enough None same is = tt
-    enough (Some points) same is = record { number = record { least = omega (arith, is.size, same, some); most = omega (arith, is.size, same, few) }; each = is.each }
+    enough (Some points) same is =
+        record { number = record { least = omega (arith, is.size, same, some); most = omega (arith, is.size, same, few) }; each = is.each }
 
 rings_fit : (k : ℕ) (more : List (List ℕ)) → 1 ≤ k → k ≤ 1000 → IfSome (rings_of k more) AreRings
 rings_fit k more some few = elim (bool_cases (length more == k)) [
@@ -300,7 +311,8 @@ rings_fit k more some few = elim (bool_cases (length more == k)) [
   where
     enough : (r : Option (List (List Corner))) → length more ≡ k → IfSome r (Are IsRing (length more)) → IfSome r AreRings
     enough None same is = tt
-    enough (Some rings) same is = record { number = record { least = omega (arith, is.size, same, some); most = omega (arith, is.size, same, few) }; each = is.each }
+    enough (Some rings) same is =
+        record { number = record { least = omega (arith, is.size, same, some); most = omega (arith, is.size, same, few) }; each = is.each }
 
 no_further : (f n : ℕ) → FurtherFits f n (record { rows = None; points = None; rings = None })
 no_further f n = record { rows = tt; points = tt; rings = tt }
@@ -310,8 +322,10 @@ as_fits f n zero group form is = no_further f n
 as_fits f n (suc k) group form is = elim (bool_cases (begins_with (words_of group.line) (codes "raster"))) [
   | inl raster ↦ rw raster (record { rows = rows_fit f n group.more form; points = tt; rings = tt })
   | inr other ↦ rw other (elim (bool_cases (begins_with (words_of group.line) (codes "scatter"))) [
-    | inl scatter ↦ rw scatter (record { rows = tt; points = points_fit (suc k) group.more (omega arith) (omega (arith, is, asked_most n group.line other)); rings = tt })
-    | inr no_list ↦ rw no_list (record { rows = tt; points = tt; rings = rings_fit (suc k) group.more (omega arith) (omega (arith, is, asked_rings n group.line other no_list)) })
+    | inl scatter ↦ rw scatter
+        (record { rows = tt; points = points_fit (suc k) group.more (omega arith) (omega (arith, is, asked_most n group.line other)); rings = tt })
+    | inr no_list ↦ rw no_list
+        (record { rows = tt; points = tt; rings = rings_fit (suc k) group.more (omega arith) (omega (arith, is, asked_rings n group.line other no_list)) })
   ])
 ]
 

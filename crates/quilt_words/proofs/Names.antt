@@ -1,5 +1,6 @@
 -- A name is ASCII, and so it is text.
-use Rattle.std.proofs.Common.{◌≡◌, ◌↔◌, inl, inr, ℕ, ◌<◌, Bool, true, false, ◌&&◌, List, [], ◌∷◌, length, Option, Some, None, IsSome, IfSome, refl, ap, arith, nat_le}
+use Rattle.std.proofs.Common.{◌≡◌, ◌↔◌, inl, inr, ℕ, ◌<◌, Bool, true, false, ◌&&◌, List, [], ◌∷◌, length, Option, Some, None, IsSome, IfSome, refl, ap, arith}
+use Rattle.std.proofs.Common.{nat_le}
 use Rattle.std.specs.List.{list_all}
 use Rattle.std.specs.Str.{IsAscii, IsUtf8}
 use Rattle.std.proofs.lemmas.Str.{IsUtf8-from_ascii}
@@ -26,13 +27,15 @@ byte_ascii c is = grind (arith, nat_tests)
 bytes_ascii : (cs : List ℕ) → list_all is_name_byte cs ≡ true → IsAscii cs
 bytes_ascii [] is = IsAscii-nil
 bytes_ascii (c ∷ cs) is =
-    IsAscii-cons c cs (byte_ascii c (and_first (is_name_byte c) (list_all is_name_byte cs) is)) (bytes_ascii cs (and_second (is_name_byte c) (list_all is_name_byte cs) is))
+    IsAscii-cons c cs (byte_ascii c (and_first (is_name_byte c) (list_all is_name_byte cs) is))
+    (bytes_ascii cs (and_second (is_name_byte c) (list_all is_name_byte cs) is))
 
 name_ascii : (cs : List ℕ) → is_name cs ≡ true → IsAscii cs
 name_ascii [] is = cc
 name_ascii (c ∷ cs) is =
     let both : (is_letter c && list_all is_name_byte cs) ≡ true = and_first (is_letter c && list_all is_name_byte cs) (nat_le (length cs) 11) is in
-    IsAscii-cons c cs (letter_ascii c (and_first (is_letter c) (list_all is_name_byte cs) both)) (bytes_ascii cs (and_second (is_letter c) (list_all is_name_byte cs) both))
+    IsAscii-cons c cs (letter_ascii c (and_first (is_letter c) (list_all is_name_byte cs) both))
+    (bytes_ascii cs (and_second (is_letter c) (list_all is_name_byte cs) both))
 
 -- what is no text is no name
 pub unnamed : (cs : List ℕ) → (IsUtf8 cs → ⊥) → None ≡ name cs

@@ -1,5 +1,6 @@
 -- The pairs of a recolouring, as the table's arguments read them.
-use Rattle.std.proofs.Common.{◌≡◌, ℕ, zero, suc, ◌+◌, ◌-◌, ◌*◌, ◌/◌, ◌<◌, true, List, [], ◌∷◌, ◌++◌, length, map, drop, get_or, append_assoc, drop-cons, flat_map, Option, Some, None, Result, Ok, Err, option_map, refl, sym, ◌∙◌, ap, arith}
+use Rattle.std.proofs.Common.{◌≡◌, ℕ, zero, suc, ◌+◌, ◌-◌, ◌*◌, ◌/◌, ◌<◌, true, List, [], ◌∷◌, ◌++◌, length, map, drop, get_or, append_assoc, drop-cons}
+use Rattle.std.proofs.Common.{flat_map, Option, Some, None, Result, Ok, Err, option_map, refl, sym, ◌∙◌, ap, arith}
 use Rattle.std.specs.List.{range_with_len}
 use Rattle.quilt_types.specs.declared.plane.Colour.{Colour}
 use Rattle.quilt_types.specs.declared.code.Code.{Code}
@@ -26,7 +27,8 @@ SamePairs vs ps = (vs >>= λ v. Ok (pairs_of v)) ≡ ps
 
 one_pair : (f : ℕ) (a b : Option ℕ) (vs : Result (List Value) Code) (ps : Result (List (Colour × Colour)) Code) → SamePairs vs ps →
     SamePairs
-    (or_err codes_of.Number (option_map Number a) >>= λ v. (or_err codes_of.Number (option_map Number b) >>= λ w. vs >>= λ rest. Ok (w ∷ rest)) >>= λ rest. Ok (v ∷ rest))
+    (or_err codes_of.Number (option_map Number a) >>= λ v. (or_err codes_of.Number (option_map Number b) >>= λ w. vs >>= λ rest. Ok (w ∷ rest))
+    >>= λ rest. Ok (v ∷ rest))
     (or_err codes_of.Number a >>= λ x. or_err codes_of.Number b >>= λ y. ps >>= λ rest. Ok ((record { 0 = x }, record { 0 = y }) ∷ rest))
 one_pair f None b vs ps so = refl
 one_pair f (Some x) None vs ps so = refl
@@ -39,14 +41,16 @@ same_pairs f k zero (w ∷ ws) size = absurd (omega (arith, size))
 same_pairs f k (suc m) [] size = absurd (omega (arith, size))
 same_pairs f k (suc m) (o ∷ []) size = absurd (omega (arith, size))
 same_pairs f k (suc m) (o ∷ n ∷ ws) size =
-    one_pair f (number 0 (colours f - 1) o) (number 0 (colours f - 1) n) (values_of (paired f (k + 1) m) ws) (pairs_in f ws) (same_pairs f (k + 1) m ws (omega (arith, size)))
+    one_pair f (number 0 (colours f - 1) o) (number 0 (colours f - 1) n) (values_of (paired f (k + 1) m) ws) (pairs_in f ws)
+    (same_pairs f (k + 1) m ws (omega (arith, size)))
 
 -- two layers and pairs
 abbrev pub recolours : ℕ → List ℕ → List ℕ → List (List ℕ) → Result Command Code
 recolours f a c ws = or_err codes_of.Name (name a) >>= λ x. or_err codes_of.Name (name c) >>= λ y. pairs_in f ws >>= λ ps. Ok (commands.Recolour x y ps)
 
 with_names : (f : ℕ) (more : Further) (a c : Option (List ℕ)) (vs : Result (List Value) Code) (ps : Result (List (Colour × Colour)) Code) → SamePairs vs ps →
-    ((or_err codes_of.Name (option_map Called a) >>= λ v. (or_err codes_of.Name (option_map Called c) >>= λ w. vs >>= λ rest. Ok (w ∷ rest)) >>= λ rest. Ok (v ∷ rest))
+    ((or_err codes_of.Name (option_map Called a) >>= λ v. (or_err codes_of.Name (option_map Called c) >>= λ w. vs >>= λ rest. Ok (w ∷ rest))
+    >>= λ rest. Ok (v ∷ rest))
     >>= λ all. or_err codes_of.Word (recolour_command more all))
     ≡ (or_err codes_of.Name a >>= λ x. or_err codes_of.Name c >>= λ y. ps >>= λ pairs. Ok (commands.Recolour x y pairs))
 with_names f more None c vs ps so = refl
@@ -93,7 +97,8 @@ pair_onto : (pairs : List (Colour × Colour)) (pair : Colour × Colour) (r : Res
 pair_onto pairs pair (Ok ps) = ap Ok (sym (append_assoc pairs (pair ∷ []) ps))
 pair_onto pairs pair (Err e) = refl
 
-pub so_far_pair : {X : Type 0} (f : ℕ) (g : X → List ℕ) (xs : List X) (i : ℕ) (d : X) (pairs : List (Colour × Colour)) (pair : Colour × Colour) → i + 1 < length xs →
+pub so_far_pair : {X : Type 0} (f : ℕ) (g : X → List ℕ) (xs : List X) (i : ℕ) (d : X) (pairs : List (Colour × Colour)) (pair : Colour × Colour)
+    → i + 1 < length xs →
     SoFar f g xs i pairs → ReadsPair f (Ok pair) (g (get_or xs i d)) (g (get_or xs (i + 1) d)) → SoFar f g xs (i + 2) (pairs ++ pair ∷ [])
 so_far_pair f g xs i d pairs pair within so reads =
     so
@@ -102,7 +107,8 @@ so_far_pair f g xs i d pairs pair within so reads =
     ∙ pair_onto pairs pair (pairs_in f (map g (drop (i + 2) xs)))
 
 pub so_far_err : {X : Type 0} (f : ℕ) (g : X → List ℕ) (xs : List X) (i : ℕ) (d : X) (pairs : List (Colour × Colour)) (e : ParseErr) → i + 1 < length xs →
-    SoFar f g xs i pairs → ReadsPair f (Err e) (g (get_or xs i d)) (g (get_or xs (i + 1) d)) → Answers {A = List (Colour × Colour)} (Err e) (pairs_in f (map g xs))
+    SoFar f g xs i pairs → ReadsPair f (Err e) (g (get_or xs i d)) (g (get_or xs (i + 1) d))
+    → Answers {A = List (Colour × Colour)} (Err e) (pairs_in f (map g xs))
 so_far_err f g xs i d pairs (errs.No code) within so reads =
     so
     ∙ ap (λ (ws : List (List ℕ)). pairs_in f ws >>= λ ps. Ok (pairs ++ ps)) (two_more g xs i d within)
@@ -118,8 +124,10 @@ words_are f more g xs d is =
     ap (recoloured f more) same ∙ recoloured_is f more (g (get_or xs 0 d)) (g (get_or xs 1 d)) (map g (drop 2 xs)) (ap has_pairs size ∙ is)
 
 -- two layers' names, and the pairs
-pub recolour_ok : {X : Type 0} (f : ℕ) (more : Further) (g : X → List ℕ) (xs : List X) (d : X) (a c : List ℕ) (pairs : List (Colour × Colour)) → has_pairs (length xs) ≡ true →
-    or_err codes_of.Name (name (g (get_or xs 0 d))) ≡ Ok a → or_err codes_of.Name (name (g (get_or xs 1 d))) ≡ Ok c → pairs_in f (map g (drop 2 xs)) ≡ Ok pairs →
+pub recolour_ok : {X : Type 0} (f : ℕ) (more : Further) (g : X → List ℕ) (xs : List X) (d : X) (a c : List ℕ) (pairs : List (Colour × Colour))
+    → has_pairs (length xs) ≡ true →
+    or_err codes_of.Name (name (g (get_or xs 0 d))) ≡ Ok a → or_err codes_of.Name (name (g (get_or xs 1 d))) ≡ Ok c
+    → pairs_in f (map g (drop 2 xs)) ≡ Ok pairs →
     recoloured f more (map g xs) ≡ Ok (commands.Recolour a c pairs)
 recolour_ok f more g xs d a c pairs is first second third = rw (words_are f more g xs d is, first, second, third) refl
 

@@ -19,7 +19,8 @@ ring_more old all rings corners i d within is more =
     ∙ ap (λ (r : List Corner). rings ++ r ∷ []) (sym (take_more corners i d within))
 
 -- the rings copied so far, with one more
-pub copied_more : (rings copy new : List (List Corner)) (i : ℕ) (ring : List Corner) → slice_get rings i ≡ Some ring → copy ≡ take i rings → new ≡ copy ++ ring ∷ [] → new ≡ take (i + 1) rings
+pub copied_more : (rings copy new : List (List Corner)) (i : ℕ) (ring : List Corner) → slice_get rings i ≡ Some ring → copy ≡ take i rings
+    → new ≡ copy ++ ring ∷ [] → new ≡ take (i + 1) rings
 copied_more rings copy new i ring there so more =
     more ∙ ap (λ (l : List (List Corner)). l ++ ring ∷ []) so
     ∙ ap (λ (r : List Corner). take i rings ++ r ∷ []) (sym (get_or_from_slice_get rings i ring ring there))

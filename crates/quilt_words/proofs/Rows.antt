@@ -15,7 +15,13 @@ use Rattle.quilt_words.specs.declared.word.Word.{Word}
 use Rattle.quilt_words.specs.declared.word.Word.TheVariants as words
 use Rattle.quilt_words.specs.Words.{spelling, map_spelling, region_spelling, algebra_spelling, point_spelling, line_spelling}
 use Rattle.quilt_words.specs.Made.{made, has_pairs, formed, map_formed, region_formed, algebra_formed, point_formed, line_formed}
-use Rattle.quilt_words.specs.Forms.{A_name, A_number, A_signed, Further, Entry, coordinate, colour, label, pixel, window, or_err, ◌>>=◌, values_of, with_count, recolour_entry, points_entry, form_of_words, region_command, lines_command, drop_command, copy_command, layers_command, blocks_command, records_command, set_command, rect_command, raster_command, at_command, show_command, leaves_command, union_command, inter_command, diff_command, window_command, shift_command, buffer_command, area_command, perimeter_command, put_command, del_command, scatter_command, find_command, within_command, line_command, unline_command, cross_command, clip_command, nearest_command, over_command, edition_command, publish_command, upgrade_command, revert_command, polygon_command, rank_command, crossings_command}
+use Rattle.quilt_words.specs.Forms.{A_name, A_number, A_signed, Further, Entry, coordinate, colour, label, pixel, window, or_err, ◌>>=◌, values_of, with_count}
+use Rattle.quilt_words.specs.Forms.{recolour_entry, points_entry, form_of_words, region_command, lines_command, drop_command, copy_command, layers_command}
+use Rattle.quilt_words.specs.Forms.{blocks_command, records_command, set_command, rect_command, raster_command, at_command, show_command, leaves_command}
+use Rattle.quilt_words.specs.Forms.{union_command, inter_command, diff_command, window_command, shift_command, buffer_command, area_command, perimeter_command}
+use Rattle.quilt_words.specs.Forms.{put_command, del_command, scatter_command, find_command, within_command, line_command, unline_command, cross_command}
+use Rattle.quilt_words.specs.Forms.{clip_command, nearest_command, over_command, edition_command, publish_command, upgrade_command, revert_command}
+use Rattle.quilt_words.specs.Forms.{polygon_command, rank_command, crossings_command}
 
 -- the number of words is looked at before the first of them is
 counted_first : (b : Bool) (e : Entry) (more : Further) (ws : List (List ℕ)) →
@@ -25,7 +31,8 @@ counted_first true e more ws = refl
 counted_first false e more ws = refl
 
 row : (e : Entry) (more : Further) (ws : List (List ℕ)) →
-    (with_count (length ws) e >>= λ (x : Entry). values_of x.arguments ws >>= λ vs. or_err codes_of.Word (x.command more vs)) ≡ made e.arguments e.command more ws
+    (with_count (length ws) e >>= λ (x : Entry). values_of x.arguments ws >>= λ vs. or_err codes_of.Word (x.command more vs))
+    ≡ made e.arguments e.command more ws
 row e more ws = counted_first (length e.arguments == length ws) e more ws
 
 paired : (b : Bool) (e : Entry) (more : Further) (ws : List (List ℕ)) →
@@ -59,23 +66,28 @@ region_row f more region_words.Show ws = row (record { word = codes "show"; argu
 region_row f more region_words.Leaves ws = row (record { word = codes "leaves"; arguments = A_name ∷ []; command = leaves_command }) more ws
 region_row f more region_words.Area ws = row (record { word = codes "area"; arguments = A_name ∷ colour f ∷ []; command = area_command }) more ws
 region_row f more region_words.Perimeter ws = row (record { word = codes "perimeter"; arguments = A_name ∷ colour f ∷ []; command = perimeter_command }) more ws
-region_row f more region_words.Polygon ws = row (record { word = codes "polygon"; arguments = A_name ∷ colour f ∷ A_number 1 1000 ∷ []; command = polygon_command }) more ws
+region_row f more region_words.Polygon ws =
+    row (record { word = codes "polygon"; arguments = A_name ∷ colour f ∷ A_number 1 1000 ∷ []; command = polygon_command }) more ws
 
 algebra_row : (f : ℕ) (more : Further) (w : AlgebraWord) (ws : List (List ℕ)) → form_of_words f more (algebra_spelling w ∷ ws) ≡ algebra_formed f more w ws
 unfolding form_of_words
 algebra_row f more algebra_words.Union ws = row (record { word = codes "union"; arguments = A_name ∷ A_name ∷ A_name ∷ []; command = union_command }) more ws
 algebra_row f more algebra_words.Inter ws = row (record { word = codes "inter"; arguments = A_name ∷ A_name ∷ A_name ∷ []; command = inter_command }) more ws
 algebra_row f more algebra_words.Diff ws = row (record { word = codes "diff"; arguments = A_name ∷ A_name ∷ A_name ∷ []; command = diff_command }) more ws
-algebra_row f more algebra_words.Window ws = row (record { word = codes "window"; arguments = A_name ∷ window ++ A_name ∷ []; command = window_command }) more ws
-algebra_row f more algebra_words.Shift ws = row (record { word = codes "shift"; arguments = A_name ∷ A_signed ∷ A_signed ∷ A_name ∷ []; command = shift_command }) more ws
-algebra_row f more algebra_words.Buffer ws = row (record { word = codes "buffer"; arguments = A_name ∷ coordinate ∷ A_name ∷ []; command = buffer_command }) more ws
+algebra_row f more algebra_words.Window ws =
+    row (record { word = codes "window"; arguments = A_name ∷ window ++ A_name ∷ []; command = window_command }) more ws
+algebra_row f more algebra_words.Shift ws =
+    row (record { word = codes "shift"; arguments = A_name ∷ A_signed ∷ A_signed ∷ A_name ∷ []; command = shift_command }) more ws
+algebra_row f more algebra_words.Buffer ws =
+    row (record { word = codes "buffer"; arguments = A_name ∷ coordinate ∷ A_name ∷ []; command = buffer_command }) more ws
 algebra_row f more algebra_words.Recolour ws = paired (has_pairs (length ws)) (recolour_entry f ((length ws - 2) / 2)) more ws
 
 point_row : (f : ℕ) (more : Further) (w : PointWord) (ws : List (List ℕ)) → form_of_words f more (point_spelling w ∷ ws) ≡ point_formed f more w ws
 unfolding form_of_words
 point_row f more point_words.Put ws = row (record { word = codes "put"; arguments = A_name ∷ pixel ++ label ∷ []; command = put_command }) more ws
 point_row f more point_words.Del ws = row (record { word = codes "del"; arguments = A_name ∷ pixel; command = del_command }) more ws
-point_row f more point_words.Scatter ws = row (record { word = codes "scatter"; arguments = A_name ∷ A_number 1 100000 ∷ []; command = scatter_command }) more ws
+point_row f more point_words.Scatter ws =
+    row (record { word = codes "scatter"; arguments = A_name ∷ A_number 1 100000 ∷ []; command = scatter_command }) more ws
 point_row f more point_words.Find ws = row (record { word = codes "find"; arguments = A_name ∷ pixel; command = find_command }) more ws
 point_row f more point_words.Within ws = row (record { word = codes "within"; arguments = A_name ∷ window; command = within_command }) more ws
 

@@ -1,5 +1,6 @@
 -- What a command that an item spells has fits the format and the level.
-use Rattle.std.proofs.Common.{◌≡◌, inl, inr, ℕ, zero, suc, ◌+◌, ◌-◌, ◌*◌, ◌/◌, ◌<◌, ◌≤◌, ◌^◌, arith, Bool, true, false, cond, List, [], ◌∷◌, ◌++◌, length, All, Option, Some, None, Result, Ok, Err, refl, sym, ◌∙◌, ap, subst, ◌==◌, option_map, find, ℤ, pos, neg_ℤ}
+use Rattle.std.proofs.Common.{◌≡◌, inl, inr, ℕ, zero, suc, ◌+◌, ◌-◌, ◌*◌, ◌/◌, ◌<◌, ◌≤◌, ◌^◌, arith, Bool, true, false, cond, List, [], ◌∷◌, ◌++◌, length, All}
+use Rattle.std.proofs.Common.{Option, Some, None, Result, Ok, Err, refl, sym, ◌∙◌, ap, subst, ◌==◌, option_map, find, ℤ, pos, neg_ℤ}
 use Rattle.std.specs.List.{list_all}
 use Rattle.std.specs.Str.{bytes_eq}
 use Rattle.std.proofs.lemmas.Bool.{eqb-true}
@@ -25,7 +26,14 @@ use Rattle.quilt_words.specs.declared.word.LineWord.TheVariants as line_words
 use Rattle.quilt_words.specs.declared.word.Word.{Word}
 use Rattle.quilt_words.specs.declared.word.Word.TheVariants as words
 use Rattle.quilt_words.specs.Fitting.{IsFitting, FurtherFits, IsName, IsWithin, IsShift, IsColour, IsPixelOf16, IsWindowOf16}
-use Rattle.quilt_words.specs.Forms.{Further, Argument, A_name, A_number, A_signed, Value, Called, Number, Signed, coordinate, colour, label, pixel, window, pairs_of, or_err, ◌>>=◌, argument_value, values_of, form_of_words, form_of_line, form, Spelled, area_command, at_command, blocks_command, buffer_command, clip_command, copy_command, cross_command, crossings_command, del_command, diff_command, drop_command, edition_command, find_command, inter_command, layers_command, leaves_command, line_command, lines_command, nearest_command, over_command, perimeter_command, points_command, polygon_command, publish_command, put_command, rank_command, raster_command, recolour_command, records_command, rect_command, region_command, revert_command, scatter_command, set_command, shift_command, show_command, union_command, unline_command, upgrade_command, window_command, within_command}
+use Rattle.quilt_words.specs.Forms.{Further, Argument, A_name, A_number, A_signed, Value, Called, Number, Signed, coordinate, colour, label, pixel, window}
+use Rattle.quilt_words.specs.Forms.{pairs_of, or_err, ◌>>=◌, argument_value, values_of, form_of_words, form_of_line, form, Spelled, area_command, at_command}
+use Rattle.quilt_words.specs.Forms.{blocks_command, buffer_command, clip_command, copy_command, cross_command, crossings_command, del_command, diff_command}
+use Rattle.quilt_words.specs.Forms.{drop_command, edition_command, find_command, inter_command, layers_command, leaves_command, line_command, lines_command}
+use Rattle.quilt_words.specs.Forms.{nearest_command, over_command, perimeter_command, points_command, polygon_command, publish_command, put_command}
+use Rattle.quilt_words.specs.Forms.{rank_command, raster_command, recolour_command, records_command, rect_command, region_command, revert_command}
+use Rattle.quilt_words.specs.Forms.{scatter_command, set_command, shift_command, show_command, union_command, unline_command, upgrade_command, window_command}
+use Rattle.quilt_words.specs.Forms.{within_command}
 use Rattle.quilt_words.specs.Items.{held, is_plain, words_of}
 use Rattle.quilt_words.specs.Made.{made, recoloured, has_pairs, formed, map_formed, region_formed, algebra_formed, point_formed, line_formed, further_of}
 use Rattle.quilt_words.specs.Spelling.{number, signed, name}
@@ -62,7 +70,8 @@ or_some code None x is = cc
 or_some code (Some z) x is = let same : z ≡ x = cc in ap Some same
 
 -- what a value was made of
-made_of : {A : Type 0} (value : A → Value) (code : Code) (o : Option A) (v : Value) → or_err code (option_map value o) ≡ Ok v → (x : A) × (o ≡ Some x) × (value x ≡ v)
+made_of : {A : Type 0} (value : A → Value) (code : Code) (o : Option A) (v : Value) → or_err code (option_map value o) ≡ Ok v
+    → (x : A) × (o ≡ Some x) × (value x ≡ v)
 made_of value code None v is = cc
 made_of value code (Some x) v is = (x, refl, let same : value x ≡ v = cc in same)
 
@@ -84,9 +93,11 @@ mapped_from : (value : ℕ → ℤ) (o : Option ℕ) (z : ℤ) → option_map va
 mapped_from value None z is = cc
 mapped_from value (Some k) z is = (k, refl, let same : value k ≡ z = cc in same)
 
-sign_fits : (b : Bool) (cs word : List ℕ) (z : ℤ) → cond b (option_map (λ v. neg_ℤ (pos v)) (number 1 65535 cs)) (option_map pos (number 0 65535 word)) ≡ Some z → IsShift z
+sign_fits : (b : Bool) (cs word : List ℕ) (z : ℤ)
+    → cond b (option_map (λ v. neg_ℤ (pos v)) (number 1 65535 cs)) (option_map pos (number 0 65535 word)) ≡ Some z → IsShift z
 sign_fits true cs word z is =
-    let from = mapped_from (λ v. neg_ℤ (pos v)) (number 1 65535 cs) z is in subst IsShift from.2 (negative_fits from.0 (number_within 1 65535 cs from.0 from.1).most)
+    let from = mapped_from (λ v. neg_ℤ (pos v)) (number 1 65535 cs) z is in
+    subst IsShift from.2 (negative_fits from.0 (number_within 1 65535 cs from.0 from.1).most)
 sign_fits false cs word z is =
     let from = mapped_from pos (number 0 65535 word) z is in subst IsShift from.2 (positive_fits from.0 (number_within 0 65535 word from.0 from.1).most)
 
@@ -98,7 +109,8 @@ argument_fits : (a : Argument) (word : List ℕ) (v : Value) → argument_value 
 argument_fits A_name word v is = let from = made_of Called codes_of.Name (name word) v is in subst (Fits A_name) from.2 (name_fits word from.0 from.1)
 argument_fits (A_number low high) word v is =
     let from = made_of Number codes_of.Number (number low high word) v is in subst (Fits (A_number low high)) from.2 (number_within low high word from.0 from.1)
-argument_fits A_signed word v is = let from = made_of Signed codes_of.Number (signed 65535 word) v is in subst (Fits A_signed) from.2 (signed_fits word from.0 from.1)
+argument_fits A_signed word v is = let from = made_of Signed codes_of.Number (signed 65535 word) v is in
+    subst (Fits A_signed) from.2 (signed_fits word from.0 from.1)
 
 values_fit : (rest : List Argument) (ws : List (List ℕ)) (vs : List Value) → length rest ≡ length ws → values_of rest ws ≡ Ok vs → AllFit rest vs
 values_fit [] ws vs size is = let e : [] ≡ vs = cc in subst (AllFit []) e tt
@@ -122,7 +134,8 @@ few_labels k fit = let most = fit.most in omega (arith, most)
 pixel_within : {x y : ℕ} → IsWithin 0 65535 x → IsWithin 0 65535 y → IsPixelOf16 (record { x = x; y = y })
 pixel_within first second = record { x = first.most; y = second.most }
 
-window_within : {x y w h : ℕ} → IsWithin 0 65535 x → IsWithin 0 65535 y → IsWithin 1 65535 w → IsWithin 1 65535 h → IsWindowOf16 (record { x = x; y = y; w = w; h = h })
+window_within : {x y w h : ℕ} → IsWithin 0 65535 x → IsWithin 0 65535 y → IsWithin 1 65535 w → IsWithin 1 65535 h
+    → IsWindowOf16 (record { x = x; y = y; w = w; h = h })
 window_within first second third fourth = record { x = first.most; y = second.most; w = third; h = fourth }
 
 -- ---- the pairs of a recolouring
@@ -172,7 +185,8 @@ module _ (f n : ℕ) where
     | inl same ↦
         let all : (values_of arguments ws >>= λ vs. or_err codes_of.Word (command more vs)) ≡ Ok c = rw same at is in
         let first = bound (values_of arguments ws) _ c all in
-        row more first.0 c (record { each = values_fit arguments ws first.0 (eqb-true (length arguments) (length ws) same) first.1 }) (or_some codes_of.Word _ c first.2)
+        row more first.0 c (record { each = values_fit arguments ws first.0 (eqb-true (length arguments) (length ws) same) first.1 })
+        (or_some codes_of.Word _ c first.2)
     | inr other ↦ let none : Err codes_of.Count ≡ Ok c = rw other at is in absurd (cc)
   ]
 
@@ -221,11 +235,14 @@ module _ (f n : ℕ) where
   revert_fits more (v ∷ vs) c fit is = cc
 
   set_fits : Row (A_name ∷ pixel ++ colour f ∷ []) set_command
-  set_fits more (Called a ∷ Number x ∷ Number y ∷ Number k ∷ []) c fit is = made_by more _ c is (λ further. (fit.each.0, pixel_within fit.each.1.0 fit.each.1.1.0, few_colours f k fit.each.1.1.1.0))
+  set_fits more (Called a ∷ Number x ∷ Number y ∷ Number k ∷ []) c fit is =
+      made_by more _ c is (λ further. (fit.each.0, pixel_within fit.each.1.0 fit.each.1.1.0, few_colours f k fit.each.1.1.1.0))
   set_fits more vs c fit is = cc
 
   rect_fits : Row (A_name ∷ window ++ colour f ∷ []) rect_command
-  rect_fits more (Called a ∷ Number x ∷ Number y ∷ Number w ∷ Number h ∷ Number k ∷ []) c fit is = made_by more _ c is (λ further. (fit.each.0, window_within fit.each.1.0 fit.each.1.1.0 fit.each.1.1.1.0 fit.each.1.1.1.1.0, few_colours f k fit.each.1.1.1.1.1.0))
+  rect_fits more (Called a ∷ Number x ∷ Number y ∷ Number w ∷ Number h ∷ Number k ∷ []) c fit is =
+      made_by more _ c is (λ further.
+      (fit.each.0, window_within fit.each.1.0 fit.each.1.1.0 fit.each.1.1.1.0 fit.each.1.1.1.1.0, few_colours f k fit.each.1.1.1.1.1.0))
   rect_fits more vs c fit is = cc
 
   raster_fits : Row (A_name ∷ []) raster_command
@@ -237,7 +254,8 @@ module _ (f n : ℕ) where
   at_fits more vs c fit is = cc
 
   show_fits : Row (A_name ∷ window) show_command
-  show_fits more (Called a ∷ Number x ∷ Number y ∷ Number w ∷ Number h ∷ []) c fit is = made_by more _ c is (λ further. (fit.each.0, window_within fit.each.1.0 fit.each.1.1.0 fit.each.1.1.1.0 fit.each.1.1.1.1.0))
+  show_fits more (Called a ∷ Number x ∷ Number y ∷ Number w ∷ Number h ∷ []) c fit is =
+      made_by more _ c is (λ further. (fit.each.0, window_within fit.each.1.0 fit.each.1.1.0 fit.each.1.1.1.0 fit.each.1.1.1.1.0))
   show_fits more vs c fit is = cc
 
   leaves_fits : Row (A_name ∷ []) leaves_command
@@ -269,11 +287,13 @@ module _ (f n : ℕ) where
   diff_fits more vs c fit is = cc
 
   window_fits : Row (A_name ∷ window ++ A_name ∷ []) window_command
-  window_fits more (Called a ∷ Number x ∷ Number y ∷ Number w ∷ Number h ∷ Called d ∷ []) c fit is = made_by more _ c is (λ further. (fit.each.0, window_within fit.each.1.0 fit.each.1.1.0 fit.each.1.1.1.0 fit.each.1.1.1.1.0, fit.each.1.1.1.1.1.0))
+  window_fits more (Called a ∷ Number x ∷ Number y ∷ Number w ∷ Number h ∷ Called d ∷ []) c fit is =
+      made_by more _ c is (λ further. (fit.each.0, window_within fit.each.1.0 fit.each.1.1.0 fit.each.1.1.1.0 fit.each.1.1.1.1.0, fit.each.1.1.1.1.1.0))
   window_fits more vs c fit is = cc
 
   shift_fits : Row (A_name ∷ A_signed ∷ A_signed ∷ A_name ∷ []) shift_command
-  shift_fits more (Called a ∷ Signed dx ∷ Signed dy ∷ Called d ∷ []) c fit is = made_by more _ c is (λ further. (fit.each.0, fit.each.1.0, fit.each.1.1.0, fit.each.1.1.1.0))
+  shift_fits more (Called a ∷ Signed dx ∷ Signed dy ∷ Called d ∷ []) c fit is =
+      made_by more _ c is (λ further. (fit.each.0, fit.each.1.0, fit.each.1.1.0, fit.each.1.1.1.0))
   shift_fits more vs c fit is = cc
 
   buffer_fits : Row (A_name ∷ coordinate ∷ A_name ∷ []) buffer_command
@@ -281,7 +301,8 @@ module _ (f n : ℕ) where
   buffer_fits more vs c fit is = cc
 
   put_fits : Row (A_name ∷ pixel ++ label ∷ []) put_command
-  put_fits more (Called p ∷ Number x ∷ Number y ∷ Number j ∷ []) c fit is = made_by more _ c is (λ further. (fit.each.0, pixel_within fit.each.1.0 fit.each.1.1.0, few_labels j fit.each.1.1.1.0))
+  put_fits more (Called p ∷ Number x ∷ Number y ∷ Number j ∷ []) c fit is =
+      made_by more _ c is (λ further. (fit.each.0, pixel_within fit.each.1.0 fit.each.1.1.0, few_labels j fit.each.1.1.1.0))
   put_fits more vs c fit is = cc
 
   del_fits : Row (A_name ∷ pixel) del_command
@@ -297,11 +318,18 @@ module _ (f n : ℕ) where
   find_fits more vs c fit is = cc
 
   within_fits : Row (A_name ∷ window) within_command
-  within_fits more (Called p ∷ Number x ∷ Number y ∷ Number w ∷ Number h ∷ []) c fit is = made_by more _ c is (λ further. (fit.each.0, window_within fit.each.1.0 fit.each.1.1.0 fit.each.1.1.1.0 fit.each.1.1.1.1.0))
+  within_fits more (Called p ∷ Number x ∷ Number y ∷ Number w ∷ Number h ∷ []) c fit is =
+      made_by more _ c is (λ further. (fit.each.0, window_within fit.each.1.0 fit.each.1.1.0 fit.each.1.1.1.0 fit.each.1.1.1.1.0))
   within_fits more vs c fit is = cc
 
   line_fits : Row (A_name ∷ label ∷ pixel ++ pixel) line_command
-  line_fits more (Called l ∷ Number i ∷ Number x ∷ Number y ∷ Number u ∷ Number v ∷ []) c fit is = made_by more _ c is (λ further. (fit.each.0, few_labels i fit.each.1.0, record { first = pixel_within fit.each.1.1.0 fit.each.1.1.1.0; second = pixel_within fit.each.1.1.1.1.0 fit.each.1.1.1.1.1.0 }))
+  line_fits more (Called l ∷ Number i ∷ Number x ∷ Number y ∷ Number u ∷ Number v ∷ []) c fit is =
+      made_by more _ c is (λ further. (
+        fit.each.0,
+        few_labels i
+            fit.each.1.0,
+        record { first = pixel_within fit.each.1.1.0 fit.each.1.1.1.0; second = pixel_within fit.each.1.1.1.1.0 fit.each.1.1.1.1.1.0 },
+      ))
   line_fits more vs c fit is = cc
 
   unline_fits : Row (A_name ∷ label ∷ []) unline_command
@@ -309,11 +337,13 @@ module _ (f n : ℕ) where
   unline_fits more vs c fit is = cc
 
   cross_fits : Row (A_name ∷ window) cross_command
-  cross_fits more (Called l ∷ Number x ∷ Number y ∷ Number w ∷ Number h ∷ []) c fit is = made_by more _ c is (λ further. (fit.each.0, window_within fit.each.1.0 fit.each.1.1.0 fit.each.1.1.1.0 fit.each.1.1.1.1.0))
+  cross_fits more (Called l ∷ Number x ∷ Number y ∷ Number w ∷ Number h ∷ []) c fit is =
+      made_by more _ c is (λ further. (fit.each.0, window_within fit.each.1.0 fit.each.1.1.0 fit.each.1.1.1.0 fit.each.1.1.1.1.0))
   cross_fits more vs c fit is = cc
 
   clip_fits : Row (A_name ∷ window) clip_command
-  clip_fits more (Called l ∷ Number x ∷ Number y ∷ Number w ∷ Number h ∷ []) c fit is = made_by more _ c is (λ further. (fit.each.0, window_within fit.each.1.0 fit.each.1.1.0 fit.each.1.1.1.0 fit.each.1.1.1.1.0))
+  clip_fits more (Called l ∷ Number x ∷ Number y ∷ Number w ∷ Number h ∷ []) c fit is =
+      made_by more _ c is (λ further. (fit.each.0, window_within fit.each.1.0 fit.each.1.1.0 fit.each.1.1.1.0 fit.each.1.1.1.1.0))
   clip_fits more vs c fit is = cc
 
   nearest_fits : Row (A_name ∷ pixel) nearest_command
@@ -325,7 +355,8 @@ module _ (f n : ℕ) where
   over_fits more vs c fit is = cc
 
   rank_fits : Row (A_name ∷ pixel ++ A_number 1 100000 ∷ []) rank_command
-  rank_fits more (Called l ∷ Number x ∷ Number y ∷ Number k ∷ []) c fit is = made_by more _ c is (λ further. (fit.each.0, pixel_within fit.each.1.0 fit.each.1.1.0, fit.each.1.1.1.0))
+  rank_fits more (Called l ∷ Number x ∷ Number y ∷ Number k ∷ []) c fit is =
+      made_by more _ c is (λ further. (fit.each.0, pixel_within fit.each.1.0 fit.each.1.1.0, fit.each.1.1.1.0))
   rank_fits more vs c fit is = cc
 
   crossings_fits : Row (A_name ∷ A_name ∷ []) crossings_command
@@ -353,7 +384,8 @@ module _ (f n : ℕ) where
         let all : (values_of (A_name ∷ A_name ∷ paired f 0 m) ws >>= λ vs. or_err codes_of.Word (recolour_command more vs)) ≡ Ok c = rw some at is in
         let first = bound (values_of (A_name ∷ A_name ∷ paired f 0 m) ws) _ c all in
         let size : length (A_name ∷ A_name ∷ paired f 0 m) ≡ length ws = omega (arith, paired_length f 0 m, pair_number (length ws) some) in
-        recolour_fits m (number_of_pairs (length ws) some) more first.0 c (record { each = values_fit (A_name ∷ A_name ∷ paired f 0 m) ws first.0 size first.1 }) (or_some codes_of.Word _ c first.2)
+        recolour_fits m (number_of_pairs (length ws) some) more first.0 c
+        (record { each = values_fit (A_name ∷ A_name ∷ paired f 0 m) ws first.0 size first.1 }) (or_some codes_of.Word _ c first.2)
     | inr not_ ↦ let none : Err codes_of.Count ≡ Ok c = rw not_ at is in absurd (cc)
   ]
 

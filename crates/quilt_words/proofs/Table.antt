@@ -21,7 +21,8 @@ find_holds p (y ∷ ys) x is = elim (bool_cases (p y)) [
 ]
 
 -- bytes that spell no word are other bytes than those of each word
-other_bytes : (bs w : List ℕ) (xs : List Word) → find (λ v. bytes_eq (spelling v) bs) xs ≡ None → list_any (λ v. bytes_eq (spelling v) w) xs ≡ true → bytes_eq w bs ≡ false
+other_bytes : (bs w : List ℕ) (xs : List Word) → find (λ v. bytes_eq (spelling v) bs) xs ≡ None
+    → list_any (λ v. bytes_eq (spelling v) w) xs ≡ true → bytes_eq w bs ≡ false
 other_bytes bs w [] none some = cc
 other_bytes bs w (x ∷ xs) none some = elim (bool_cases (bytes_eq (spelling x) bs)) [
   | inl there ↦ let e : Some x ≡ None = rw there at none in absurd (cc)
@@ -63,7 +64,8 @@ spelled_some bs None is = tt
 spelled_some bs (Some w) is = spelled_is bs w (sym is)
 
 -- a word spells what its row makes
-pub known_is : (f : ℕ) (more : Further) (bs : List ℕ) (w : Word) (args : List (List ℕ)) → bs ≡ spelling w → form_of_words f more (bs ∷ args) ≡ formed f more w args
+pub known_is : (f : ℕ) (more : Further) (bs : List ℕ) (w : Word) (args : List (List ℕ)) → bs ≡ spelling w
+    → form_of_words f more (bs ∷ args) ≡ formed f more w args
 known_is f more bs w args same = ap (λ (v : List ℕ). form_of_words f more (v ∷ args)) same ∙ formed_is f more w args
 
 -- bytes that begin with a byte are found among the words that begin with it

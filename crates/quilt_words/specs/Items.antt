@@ -1,5 +1,6 @@
 -- The items of a text: lines, each with the further lines that belong to it.
-use Rattle.std.specs.Prelude.{ℕ, zero, suc, ◌*◌, Bool, true, false, ◌&&◌, ◌||◌, not, ◌==◌, nat_le, nat_lt, List, [], ◌∷◌, ◌++◌, length, filter, flat_map, take, Option, Some, None, if◌then◌else◌, codes, unwrap_or, option_map, option_and_then}
+use Rattle.std.specs.Prelude.{ℕ, zero, suc, ◌*◌, Bool, true, false, ◌&&◌, ◌||◌, not, ◌==◌, nat_le, nat_lt, List, [], ◌∷◌, ◌++◌, length, filter, flat_map, take}
+use Rattle.std.specs.Prelude.{Option, Some, None, if◌then◌else◌, codes, unwrap_or, option_map, option_and_then}
 use Rattle.std.specs.List.{list_all, slice_split}
 use Rattle.std.specs.Str.{bytes_eq}
 use Rattle.quilt_types.specs.Plane.{side}

@@ -18,7 +18,13 @@ use Rattle.quilt_words.specs.declared.word.LineWord.TheVariants as line_words
 use Rattle.quilt_words.specs.declared.word.Word.{Word}
 use Rattle.quilt_words.specs.declared.word.Word.TheVariants as words
 use Rattle.quilt_words.specs.Parsing.{counted}
-use Rattle.quilt_words.specs.Forms.{Argument, A_name, A_number, A_signed, Value, Further, coordinate, colour, label, pixel, window, or_err, ◌>>=◌, values_of, points_arguments, recolour_arguments, recolour_command, points_command, region_command, lines_command, drop_command, copy_command, layers_command, blocks_command, records_command, set_command, rect_command, raster_command, at_command, show_command, leaves_command, union_command, inter_command, diff_command, window_command, shift_command, buffer_command, area_command, perimeter_command, put_command, del_command, scatter_command, find_command, within_command, line_command, unline_command, cross_command, clip_command, nearest_command, over_command, edition_command, publish_command, upgrade_command, revert_command, polygon_command, rank_command, crossings_command}
+use Rattle.quilt_words.specs.Forms.{Argument, A_name, A_number, A_signed, Value, Further, coordinate, colour, label, pixel, window, or_err, ◌>>=◌, values_of}
+use Rattle.quilt_words.specs.Forms.{points_arguments, recolour_arguments, recolour_command, points_command, region_command, lines_command, drop_command}
+use Rattle.quilt_words.specs.Forms.{copy_command, layers_command, blocks_command, records_command, set_command, rect_command, raster_command, at_command}
+use Rattle.quilt_words.specs.Forms.{show_command, leaves_command, union_command, inter_command, diff_command, window_command, shift_command, buffer_command}
+use Rattle.quilt_words.specs.Forms.{area_command, perimeter_command, put_command, del_command, scatter_command, find_command, within_command, line_command}
+use Rattle.quilt_words.specs.Forms.{unline_command, cross_command, clip_command, nearest_command, over_command, edition_command, publish_command}
+use Rattle.quilt_words.specs.Forms.{upgrade_command, revert_command, polygon_command, rank_command, crossings_command}
 
 -- the command that so many arguments make, each as it is spelled
 abbrev pub made : List Argument → (Further → List Value → Option Command) → Further → List (List ℕ) → Result Command Code

@@ -1,4 +1,5 @@
-ghost use Rattle.std.specs.Prelude.{◌≡◌, ◌≤◌, ◌<◌, ◌+◌, ◌*◌, ◌-◌, ℕ, Ok, Err, Some, None, Option, Bool, cond, nat_le, if◌then◌else◌, Result, option_map, IfOk, IfSome};
+ghost use Rattle.std.specs.Prelude.{◌≡◌, ◌≤◌, ◌<◌, ◌+◌, ◌*◌, ◌-◌, ℕ, Ok, Err, Some, None, Option, Bool, cond, nat_le, if◌then◌else◌, Result, option_map, IfOk};
+ghost use Rattle.std.specs.Prelude.{IfSome};
 ghost use Rattle.std.specs.List.{list_all};
 ghost use Rattle.quilt_types.specs.declared.code.Code.TheVariants as codes_of;
 ghost use Rattle.quilt_words.specs.Spelling.{number, signed, name, is_digit, is_spelled, value_of};

@@ -92,7 +92,8 @@ fn read_name_number(a: &[u8], n: &[u8], low: u32, high: u32) -> Result<(Name, u3
 
 /// A layer and a pixel.
 pub fn name_pixel(words: &[&[u8]]) -> Result<(Name, Pixel), ParseErr>
-    ensures is { Reads (λ v. Called v.0 ∷ Number v.1.x ∷ Number v.1.y ∷ []) result (counted (A_name ∷ coordinate ∷ coordinate ∷ []) (map (λ w. w.now) words.now)) }
+    ensures is { Reads (λ v. Called v.0 ∷ Number v.1.x ∷ Number v.1.y ∷ []) result
+        (counted (A_name ∷ coordinate ∷ coordinate ∷ []) (map (λ w. w.now) words.now)) }
     ensures fits { IfOk result (λ v. IsName v.0 × IsPixelOf16 v.1) }
 {
     let [a, x, y] = words else {
@@ -102,7 +103,8 @@ pub fn name_pixel(words: &[&[u8]]) -> Result<(Name, Pixel), ParseErr>
 }
 
 fn read_name_pixel(a: &[u8], x: &[u8], y: &[u8]) -> Result<(Name, Pixel), ParseErr>
-    ensures is { Reads (λ v. Called v.0 ∷ Number v.1.x ∷ Number v.1.y ∷ []) result (values_of (A_name ∷ coordinate ∷ coordinate ∷ []) (a.now ∷ x.now ∷ y.now ∷ [])) }
+    ensures is { Reads (λ v. Called v.0 ∷ Number v.1.x ∷ Number v.1.y ∷ []) result
+        (values_of (A_name ∷ coordinate ∷ coordinate ∷ []) (a.now ∷ x.now ∷ y.now ∷ [])) }
     ensures fits { IfOk result (λ v. IsName v.0 × IsPixelOf16 v.1) }
 {
     let a = parse_name(a)?;
@@ -117,7 +119,8 @@ pub fn name_pixel_number(
     low: u32,
     high: u32,
 ) -> Result<(Name, Pixel, u32), ParseErr>
-    ensures is { Reads (λ v. Called v.0 ∷ Number v.1.x ∷ Number v.1.y ∷ Number v.2 ∷ []) result (counted (A_name ∷ coordinate ∷ coordinate ∷ A_number low high ∷ []) (map (λ w. w.now) words.now)) }
+    ensures is { Reads (λ v. Called v.0 ∷ Number v.1.x ∷ Number v.1.y ∷ Number v.2 ∷ []) result
+        (counted (A_name ∷ coordinate ∷ coordinate ∷ A_number low high ∷ []) (map (λ w. w.now) words.now)) }
     ensures fits { IfOk result (λ v. IsName v.0 × IsPixelOf16 v.1 × IsWithin low high v.2) }
 {
     let [a, x, y, n] = words else {
@@ -134,7 +137,8 @@ fn read_name_pixel_number(
     low: u32,
     high: u32,
 ) -> Result<(Name, Pixel, u32), ParseErr>
-    ensures is { Reads (λ v. Called v.0 ∷ Number v.1.x ∷ Number v.1.y ∷ Number v.2 ∷ []) result (values_of (A_name ∷ coordinate ∷ coordinate ∷ A_number low high ∷ []) (a.now ∷ x.now ∷ y.now ∷ n.now ∷ [])) }
+    ensures is { Reads (λ v. Called v.0 ∷ Number v.1.x ∷ Number v.1.y ∷ Number v.2 ∷ []) result
+        (values_of (A_name ∷ coordinate ∷ coordinate ∷ A_number low high ∷ []) (a.now ∷ x.now ∷ y.now ∷ n.now ∷ [])) }
     ensures fits { IfOk result (λ v. IsName v.0 × IsPixelOf16 v.1 × IsWithin low high v.2) }
 {
     let a = parse_name(a)?;
@@ -146,7 +150,8 @@ fn read_name_pixel_number(
 
 /// A layer and a window.
 pub fn name_window(words: &[&[u8]]) -> Result<(Name, Window), ParseErr>
-    ensures is { Reads (λ v. Called v.0 ∷ Number v.1.x ∷ Number v.1.y ∷ Number v.1.w ∷ Number v.1.h ∷ []) result (counted (A_name ∷ coordinate ∷ coordinate ∷ extent ∷ extent ∷ []) (map (λ w. w.now) words.now)) }
+    ensures is { Reads (λ v. Called v.0 ∷ Number v.1.x ∷ Number v.1.y ∷ Number v.1.w ∷ Number v.1.h ∷ []) result
+        (counted (A_name ∷ coordinate ∷ coordinate ∷ extent ∷ extent ∷ []) (map (λ w. w.now) words.now)) }
     ensures fits { IfOk result (λ v. IsName v.0 × IsWindowOf16 v.1) }
 {
     let [a, x, y, w, h] = words else {
@@ -162,7 +167,8 @@ fn read_name_window(
     w: &[u8],
     h: &[u8],
 ) -> Result<(Name, Window), ParseErr>
-    ensures is { Reads (λ v. Called v.0 ∷ Number v.1.x ∷ Number v.1.y ∷ Number v.1.w ∷ Number v.1.h ∷ []) result (values_of (A_name ∷ coordinate ∷ coordinate ∷ extent ∷ extent ∷ []) (a.now ∷ x.now ∷ y.now ∷ w.now ∷ h.now ∷ [])) }
+    ensures is { Reads (λ v. Called v.0 ∷ Number v.1.x ∷ Number v.1.y ∷ Number v.1.w ∷ Number v.1.h ∷ []) result
+        (values_of (A_name ∷ coordinate ∷ coordinate ∷ extent ∷ extent ∷ []) (a.now ∷ x.now ∷ y.now ∷ w.now ∷ h.now ∷ [])) }
     ensures fits { IfOk result (λ v. IsName v.0 × IsWindowOf16 v.1) }
 {
     let a = parse_name(a)?;
@@ -179,7 +185,8 @@ pub fn name_window_number(
     low: u32,
     high: u32,
 ) -> Result<(Name, Window, u32), ParseErr>
-    ensures is { Reads (λ v. Called v.0 ∷ Number v.1.x ∷ Number v.1.y ∷ Number v.1.w ∷ Number v.1.h ∷ Number v.2 ∷ []) result (counted (A_name ∷ coordinate ∷ coordinate ∷ extent ∷ extent ∷ A_number low high ∷ []) (map (λ w. w.now) words.now)) }
+    ensures is { Reads (λ v. Called v.0 ∷ Number v.1.x ∷ Number v.1.y ∷ Number v.1.w ∷ Number v.1.h ∷ Number v.2 ∷ []) result
+        (counted (A_name ∷ coordinate ∷ coordinate ∷ extent ∷ extent ∷ A_number low high ∷ []) (map (λ w. w.now) words.now)) }
     ensures fits { IfOk result (λ v. IsName v.0 × IsWindowOf16 v.1 × IsWithin low high v.2) }
 {
     let [a, x, y, w, h, n] = words else {
@@ -198,7 +205,8 @@ fn read_name_window_number(
     low: u32,
     high: u32,
 ) -> Result<(Name, Window, u32), ParseErr>
-    ensures is { Reads (λ v. Called v.0 ∷ Number v.1.x ∷ Number v.1.y ∷ Number v.1.w ∷ Number v.1.h ∷ Number v.2 ∷ []) result (values_of (A_name ∷ coordinate ∷ coordinate ∷ extent ∷ extent ∷ A_number low high ∷ []) (a.now ∷ x.now ∷ y.now ∷ w.now ∷ h.now ∷ n.now ∷ [])) }
+    ensures is { Reads (λ v. Called v.0 ∷ Number v.1.x ∷ Number v.1.y ∷ Number v.1.w ∷ Number v.1.h ∷ Number v.2 ∷ []) result
+        (values_of (A_name ∷ coordinate ∷ coordinate ∷ extent ∷ extent ∷ A_number low high ∷ []) (a.now ∷ x.now ∷ y.now ∷ w.now ∷ h.now ∷ n.now ∷ [])) }
     ensures fits { IfOk result (λ v. IsName v.0 × IsWindowOf16 v.1 × IsWithin low high v.2) }
 {
     let a = parse_name(a)?;
@@ -212,7 +220,8 @@ fn read_name_window_number(
 
 /// A layer, a window and a layer.
 pub fn name_window_name(words: &[&[u8]]) -> Result<(Name, Window, Name), ParseErr>
-    ensures is { Reads (λ v. Called v.0 ∷ Number v.1.x ∷ Number v.1.y ∷ Number v.1.w ∷ Number v.1.h ∷ Called v.2 ∷ []) result (counted (A_name ∷ coordinate ∷ coordinate ∷ extent ∷ extent ∷ A_name ∷ []) (map (λ w. w.now) words.now)) }
+    ensures is { Reads (λ v. Called v.0 ∷ Number v.1.x ∷ Number v.1.y ∷ Number v.1.w ∷ Number v.1.h ∷ Called v.2 ∷ []) result
+        (counted (A_name ∷ coordinate ∷ coordinate ∷ extent ∷ extent ∷ A_name ∷ []) (map (λ w. w.now) words.now)) }
     ensures fits { IfOk result (λ v. IsName v.0 × IsWindowOf16 v.1 × IsName v.2) }
 {
     let [a, x, y, w, h, c] = words else {
@@ -229,7 +238,8 @@ fn read_name_window_name(
     h: &[u8],
     c: &[u8],
 ) -> Result<(Name, Window, Name), ParseErr>
-    ensures is { Reads (λ v. Called v.0 ∷ Number v.1.x ∷ Number v.1.y ∷ Number v.1.w ∷ Number v.1.h ∷ Called v.2 ∷ []) result (values_of (A_name ∷ coordinate ∷ coordinate ∷ extent ∷ extent ∷ A_name ∷ []) (a.now ∷ x.now ∷ y.now ∷ w.now ∷ h.now ∷ c.now ∷ [])) }
+    ensures is { Reads (λ v. Called v.0 ∷ Number v.1.x ∷ Number v.1.y ∷ Number v.1.w ∷ Number v.1.h ∷ Called v.2 ∷ []) result
+        (values_of (A_name ∷ coordinate ∷ coordinate ∷ extent ∷ extent ∷ A_name ∷ []) (a.now ∷ x.now ∷ y.now ∷ w.now ∷ h.now ∷ c.now ∷ [])) }
     ensures fits { IfOk result (λ v. IsName v.0 × IsWindowOf16 v.1 × IsName v.2) }
 {
     let a = parse_name(a)?;
@@ -243,7 +253,8 @@ fn read_name_window_name(
 
 /// A layer, how far to the right and down, and a layer.
 pub fn name_shift_name(words: &[&[u8]]) -> Result<(Name, i32, i32, Name), ParseErr>
-    ensures is { Reads (λ v. Called v.0 ∷ Signed v.1 ∷ Signed v.2 ∷ Called v.3 ∷ []) result (counted (A_name ∷ A_signed ∷ A_signed ∷ A_name ∷ []) (map (λ w. w.now) words.now)) }
+    ensures is { Reads (λ v. Called v.0 ∷ Signed v.1 ∷ Signed v.2 ∷ Called v.3 ∷ []) result
+        (counted (A_name ∷ A_signed ∷ A_signed ∷ A_name ∷ []) (map (λ w. w.now) words.now)) }
     ensures fits { IfOk result (λ v. IsName v.0 × IsShift v.1 × IsShift v.2 × IsName v.3) }
 {
     let [a, x, y, c] = words else {
@@ -258,7 +269,8 @@ fn read_name_shift_name(
     y: &[u8],
     c: &[u8],
 ) -> Result<(Name, i32, i32, Name), ParseErr>
-    ensures is { Reads (λ v. Called v.0 ∷ Signed v.1 ∷ Signed v.2 ∷ Called v.3 ∷ []) result (values_of (A_name ∷ A_signed ∷ A_signed ∷ A_name ∷ []) (a.now ∷ x.now ∷ y.now ∷ c.now ∷ [])) }
+    ensures is { Reads (λ v. Called v.0 ∷ Signed v.1 ∷ Signed v.2 ∷ Called v.3 ∷ []) result
+        (values_of (A_name ∷ A_signed ∷ A_signed ∷ A_name ∷ []) (a.now ∷ x.now ∷ y.now ∷ c.now ∷ [])) }
     ensures fits { IfOk result (λ v. IsName v.0 × IsShift v.1 × IsShift v.2 × IsName v.3) }
 {
     let a = parse_name(a)?;
@@ -291,7 +303,8 @@ fn read_name_radius_name(a: &[u8], r: &[u8], c: &[u8]) -> Result<(Name, u16, Nam
 
 /// A layer, a number from `low` to `high`, and a number of rings.
 pub fn name_number_rings(words: &[&[u8]], low: u32, high: u32) -> Result<(Name, u32, u32), ParseErr>
-    ensures is { Reads (λ v. Called v.0 ∷ Number v.1 ∷ Number v.2 ∷ []) result (counted (A_name ∷ A_number low high ∷ A_number 1 1000 ∷ []) (map (λ w. w.now) words.now)) }
+    ensures is { Reads (λ v. Called v.0 ∷ Number v.1 ∷ Number v.2 ∷ []) result
+        (counted (A_name ∷ A_number low high ∷ A_number 1 1000 ∷ []) (map (λ w. w.now) words.now)) }
     ensures fits { IfOk result (λ v. IsName v.0 × IsWithin low high v.1) }
 {
     let [a, n, k] = words else {
@@ -307,7 +320,8 @@ fn read_name_number_rings(
     low: u32,
     high: u32,
 ) -> Result<(Name, u32, u32), ParseErr>
-    ensures is { Reads (λ v. Called v.0 ∷ Number v.1 ∷ Number v.2 ∷ []) result (values_of (A_name ∷ A_number low high ∷ A_number 1 1000 ∷ []) (a.now ∷ n.now ∷ k.now ∷ [])) }
+    ensures is { Reads (λ v. Called v.0 ∷ Number v.1 ∷ Number v.2 ∷ []) result
+        (values_of (A_name ∷ A_number low high ∷ A_number 1 1000 ∷ []) (a.now ∷ n.now ∷ k.now ∷ [])) }
     ensures fits { IfOk result (λ v. IsName v.0 × IsWithin low high v.1) }
 {
     let a = parse_name(a)?;
@@ -318,7 +332,8 @@ fn read_name_number_rings(
 
 /// A layer, an id and the ends of a segment.
 pub fn name_id_segment(words: &[&[u8]]) -> Result<(Name, u32, Seg), ParseErr>
-    ensures is { Reads (λ v. Called v.0 ∷ Number v.1 ∷ Number v.2.x1 ∷ Number v.2.y1 ∷ Number v.2.x2 ∷ Number v.2.y2 ∷ []) result (counted (A_name ∷ label ∷ coordinate ∷ coordinate ∷ coordinate ∷ coordinate ∷ []) (map (λ w. w.now) words.now)) }
+    ensures is { Reads (λ v. Called v.0 ∷ Number v.1 ∷ Number v.2.x1 ∷ Number v.2.y1 ∷ Number v.2.x2 ∷ Number v.2.y2 ∷ []) result
+        (counted (A_name ∷ label ∷ coordinate ∷ coordinate ∷ coordinate ∷ coordinate ∷ []) (map (λ w. w.now) words.now)) }
     ensures fits { IfOk result (λ v. IsName v.0 × (v.1 < 2 ^ 32) × IsSegOf16 v.2) }
 {
     let [a, id, x1, y1, x2, y2] = words else {
@@ -335,7 +350,8 @@ fn read_name_id_segment(
     x2: &[u8],
     y2: &[u8],
 ) -> Result<(Name, u32, Seg), ParseErr>
-    ensures is { Reads (λ v. Called v.0 ∷ Number v.1 ∷ Number v.2.x1 ∷ Number v.2.y1 ∷ Number v.2.x2 ∷ Number v.2.y2 ∷ []) result (values_of (A_name ∷ label ∷ coordinate ∷ coordinate ∷ coordinate ∷ coordinate ∷ []) (a.now ∷ id.now ∷ x1.now ∷ y1.now ∷ x2.now ∷ y2.now ∷ [])) }
+    ensures is { Reads (λ v. Called v.0 ∷ Number v.1 ∷ Number v.2.x1 ∷ Number v.2.y1 ∷ Number v.2.x2 ∷ Number v.2.y2 ∷ []) result
+        (values_of (A_name ∷ label ∷ coordinate ∷ coordinate ∷ coordinate ∷ coordinate ∷ []) (a.now ∷ id.now ∷ x1.now ∷ y1.now ∷ x2.now ∷ y2.now ∷ [])) }
     ensures fits { IfOk result (λ v. IsName v.0 × (v.1 < 2 ^ 32) × IsSegOf16 v.2) }
 {
     let a = parse_name(a)?;

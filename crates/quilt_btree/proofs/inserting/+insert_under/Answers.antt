@@ -11,18 +11,23 @@ use Rattle.quilt_btree.proofs.inserting.+insert_under.Goals as goal
 
 pub returns-then-height-eq1-clause-sound : goal.returns-then-height-eq1-clause-sound
 returns-then-height-eq1-clause-sound g t c =
-    sound_leaf c.insert_leaf.result (g.S.PageStore.told c.args.store.now) (g.S.PageStore.free c.args.store.now) (g.S.PageStore.size c.args.store.now) c.args.page c.args.height c.args.r.now.key c.if-height-eq1.true c.insert_leaf.ensures.sound
+    sound_leaf c.insert_leaf.result (g.S.PageStore.told c.args.store.now) (g.S.PageStore.free c.args.store.now) (g.S.PageStore.size c.args.store.now)
+    c.args.page c.args.height c.args.r.now.key c.if-height-eq1.true c.insert_leaf.ensures.sound
 
 pub returns-in-Err-clause-sound : goal.returns-in-Err-clause-sound
 returns-in-Err-clause-sound g t c is_root b rs used can =
-    c.in-Err.ensures.sound c.args.height rs c.requires.height c.if-height-eq1.false (edit_spells (g.S.PageStore.told c.args.store.now) (g.S.PageStore.free c.args.store.now) c.args.page c.args.height is_root b rs used can.can_edit)
+    c.in-Err.ensures.sound c.args.height rs c.requires.height c.if-height-eq1.false
+    (edit_spells (g.S.PageStore.told c.args.store.now) (g.S.PageStore.free c.args.store.now) c.args.page c.args.height is_root b rs used can.can_edit)
 
 pub returns-in-Err-insert_under-clause-sound : goal.returns-in-Err-insert_under-clause-sound
 returns-in-Err-insert_under-clause-sound g t c is_root b rs used can =
-    let h = c.in-Ok.ensures.here c.args.height rs c.requires.height c.if-height-eq1.false (edit_spells (g.S.PageStore.told c.args.store.now) (g.S.PageStore.free c.args.store.now) c.args.page c.args.height is_root b rs used can.can_edit) in
+    let h = c.in-Ok.ensures.here c.args.height rs c.requires.height c.if-height-eq1.false
+    (edit_spells (g.S.PageStore.told c.args.store.now) (g.S.PageStore.free c.args.store.now) c.args.page c.args.height is_root b rs used can.can_edit) in
     let w = c.in-Ok.ensures.way h.inner h.is in
-    sound_under c.in-Err-insert_under.e (g.S.PageStore.told c.args.store.now) (g.S.PageStore.told c.read_way.new.store) (g.S.PageStore.free c.args.store.now) (g.S.PageStore.free c.read_way.new.store)
-    (g.S.PageStore.size c.args.store.now) (g.S.PageStore.size c.read_way.new.store) c.args.page c.args.height c.in-Ok.way.child c.in-Ok.way.place c.args.r.now.key h.inner is_root b rs used
+    sound_under c.in-Err-insert_under.e (g.S.PageStore.told c.args.store.now) (g.S.PageStore.told c.read_way.new.store)
+    (g.S.PageStore.free c.args.store.now) (g.S.PageStore.free c.read_way.new.store)
+    (g.S.PageStore.size c.args.store.now) (g.S.PageStore.size c.read_way.new.store) c.args.page c.args.height c.in-Ok.way.child c.in-Ok.way.place
+    c.args.r.now.key h.inner is_root b rs used
     (record {
       same = record { same_pages = c.in-Ok.ensures.told; same_free = c.in-Ok.ensures.free; same_size = c.in-Ok.ensures.size };
       some = c.requires.height;
@@ -34,10 +39,14 @@ returns-in-Err-insert_under-clause-sound g t c is_root b rs used can =
 
 pub returns-in-Ok-There-clause-inserted : goal.returns-in-Ok-There-clause-inserted
 returns-in-Ok-There-clause-inserted g t c is_root b rs used can =
-    let h = c.in-Ok.ensures.here c.args.height rs c.requires.height c.if-height-eq1.false (edit_spells (g.S.PageStore.told c.args.store.now) (g.S.PageStore.free c.args.store.now) c.args.page c.args.height is_root b rs used can.can_edit) in
+    let h = c.in-Ok.ensures.here c.args.height rs c.requires.height c.if-height-eq1.false
+    (edit_spells (g.S.PageStore.told c.args.store.now) (g.S.PageStore.free c.args.store.now) c.args.page c.args.height is_root b rs used can.can_edit) in
     let w = c.in-Ok.ensures.way h.inner h.is in
-    under_there c.args.r.now (g.S.PageStore.told c.args.store.now) (g.S.PageStore.told c.read_way.new.store) (g.S.PageStore.told c.insert_under.new.store) (g.S.PageStore.free c.args.store.now) (g.S.PageStore.free c.read_way.new.store) (g.S.PageStore.free c.insert_under.new.store)
-    (g.S.PageStore.size c.args.store.now) (g.S.PageStore.size c.read_way.new.store) c.args.page c.args.height c.in-Ok.way.child c.in-Ok.way.place h.inner is_root b rs used
+    under_there c.args.r.now (g.S.PageStore.told c.args.store.now) (g.S.PageStore.told c.read_way.new.store)
+    (g.S.PageStore.told c.insert_under.new.store) (g.S.PageStore.free c.args.store.now) (g.S.PageStore.free c.read_way.new.store)
+    (g.S.PageStore.free c.insert_under.new.store)
+    (g.S.PageStore.size c.args.store.now) (g.S.PageStore.size c.read_way.new.store) c.args.page c.args.height c.in-Ok.way.child c.in-Ok.way.place
+    h.inner is_root b rs used
     (record {
       same = record { same_pages = c.in-Ok.ensures.told; same_free = c.in-Ok.ensures.free; same_size = c.in-Ok.ensures.size };
       some = c.requires.height;
@@ -49,10 +58,14 @@ returns-in-Ok-There-clause-inserted g t c is_root b rs used can =
 
 pub returns-in-Ok-Done-clause-inserted : goal.returns-in-Ok-Done-clause-inserted
 returns-in-Ok-Done-clause-inserted g t c is_root b rs used can =
-    let h = c.in-Ok.ensures.here c.args.height rs c.requires.height c.if-height-eq1.false (edit_spells (g.S.PageStore.told c.args.store.now) (g.S.PageStore.free c.args.store.now) c.args.page c.args.height is_root b rs used can.can_edit) in
+    let h = c.in-Ok.ensures.here c.args.height rs c.requires.height c.if-height-eq1.false
+    (edit_spells (g.S.PageStore.told c.args.store.now) (g.S.PageStore.free c.args.store.now) c.args.page c.args.height is_root b rs used can.can_edit) in
     let w = c.in-Ok.ensures.way h.inner h.is in
-    under_done c.args.r.now (g.S.PageStore.told c.args.store.now) (g.S.PageStore.told c.read_way.new.store) (g.S.PageStore.told c.insert_under.new.store) (g.S.PageStore.free c.args.store.now) (g.S.PageStore.free c.read_way.new.store) (g.S.PageStore.free c.insert_under.new.store)
-    (g.S.PageStore.size c.args.store.now) (g.S.PageStore.size c.read_way.new.store) c.args.page c.args.height c.in-Ok.way.child c.in-Ok.way.place h.inner is_root b rs used
+    under_done c.args.r.now (g.S.PageStore.told c.args.store.now) (g.S.PageStore.told c.read_way.new.store)
+    (g.S.PageStore.told c.insert_under.new.store) (g.S.PageStore.free c.args.store.now) (g.S.PageStore.free c.read_way.new.store)
+    (g.S.PageStore.free c.insert_under.new.store)
+    (g.S.PageStore.size c.args.store.now) (g.S.PageStore.size c.read_way.new.store) c.args.page c.args.height c.in-Ok.way.child c.in-Ok.way.place
+    h.inner is_root b rs used
     (record {
       same = record { same_pages = c.in-Ok.ensures.told; same_free = c.in-Ok.ensures.free; same_size = c.in-Ok.ensures.size };
       some = c.requires.height;
@@ -64,12 +77,18 @@ returns-in-Ok-Done-clause-inserted g t c is_root b rs used can =
 
 pub returns-in-Some-clause-inserted : goal.returns-in-Some-clause-inserted
 returns-in-Some-clause-inserted g t c =
-    let w = c.in-Ok.ensures.way c.in-Some.inner (subst (λ n. inner_of n c.read_way.new.bytes ≡ Some c.in-Some.inner) (c.pages.ensures ∙ c.in-Ok-Split.ensures.size ∙ c.in-Ok.ensures.size) c.in-Some.ensures.inner) in
+    let w =
+    c.in-Ok.ensures.way c.in-Some.inner
+    (subst (λ n. inner_of n c.read_way.new.bytes ≡ Some c.in-Some.inner) (c.pages.ensures ∙ c.in-Ok-Split.ensures.size ∙ c.in-Ok.ensures.size)
+    c.in-Some.ensures.inner) in
     let range : (1 ≤ c.in-Ok-Split.right) × (c.in-Ok-Split.right < g.S.PageStore.size c.args.store.now) =
     subst (λ n. (1 ≤ c.in-Ok-Split.right) × (c.in-Ok-Split.right < n)) c.in-Ok.ensures.size (rw c.in-Ok-Split.field-0-is at c.in-Ok-Split.ensures.right) in
-    took_child c.put_child.result c.args.r.now (g.S.PageStore.told c.args.store.now) (g.S.PageStore.told c.read_way.new.store) (g.S.PageStore.told c.insert_under.new.store) (g.S.PageStore.told c.put_child.new.store)
-    (g.S.PageStore.free c.args.store.now) (g.S.PageStore.free c.read_way.new.store) (g.S.PageStore.free c.insert_under.new.store) (g.S.PageStore.free c.put_child.new.store)
-    (g.S.PageStore.size c.args.store.now) (g.S.PageStore.size c.read_way.new.store) c.args.page c.args.height c.in-Ok.way.child c.in-Ok.way.place c.in-Some.inner c.in-Ok-Split.key c.in-Ok-Split.right
+    took_child c.put_child.result c.args.r.now (g.S.PageStore.told c.args.store.now) (g.S.PageStore.told c.read_way.new.store)
+    (g.S.PageStore.told c.insert_under.new.store) (g.S.PageStore.told c.put_child.new.store)
+    (g.S.PageStore.free c.args.store.now) (g.S.PageStore.free c.read_way.new.store) (g.S.PageStore.free c.insert_under.new.store)
+    (g.S.PageStore.free c.put_child.new.store)
+    (g.S.PageStore.size c.args.store.now) (g.S.PageStore.size c.read_way.new.store) c.args.page c.args.height c.in-Ok.way.child c.in-Ok.way.place
+    c.in-Some.inner c.in-Ok-Split.key c.in-Ok-Split.right
     (record {
       same = record { same_pages = c.in-Ok.ensures.told; same_free = c.in-Ok.ensures.free; same_size = c.in-Ok.ensures.size };
       some = c.requires.height;
@@ -81,15 +100,23 @@ returns-in-Some-clause-inserted g t c =
 
 pub returns-in-Some-clause-sound : goal.returns-in-Some-clause-sound
 returns-in-Some-clause-sound g t c =
-    let w = c.in-Ok.ensures.way c.in-Some.inner (subst (λ n. inner_of n c.read_way.new.bytes ≡ Some c.in-Some.inner) (c.pages.ensures ∙ c.in-Ok-Split.ensures.size ∙ c.in-Ok.ensures.size) c.in-Some.ensures.inner) in
+    let w =
+    c.in-Ok.ensures.way c.in-Some.inner
+    (subst (λ n. inner_of n c.read_way.new.bytes ≡ Some c.in-Some.inner) (c.pages.ensures ∙ c.in-Ok-Split.ensures.size ∙ c.in-Ok.ensures.size)
+    c.in-Some.ensures.inner) in
     let range : (1 ≤ c.in-Ok-Split.right) × (c.in-Ok-Split.right < g.S.PageStore.size c.args.store.now) =
     subst (λ n. (1 ≤ c.in-Ok-Split.right) × (c.in-Ok-Split.right < n)) c.in-Ok.ensures.size (rw c.in-Ok-Split.field-0-is at c.in-Ok-Split.ensures.right) in
-    let few : count_free (g.S.PageStore.free c.args.store.now) (g.S.PageStore.size c.args.store.now) ≤ count_free (g.S.PageStore.free c.insert_under.new.store) (g.S.PageStore.size c.args.store.now) + (c.args.height - 1) =
-    subst (λ f. count_free f (g.S.PageStore.size c.args.store.now) ≤ count_free (g.S.PageStore.free c.insert_under.new.store) (g.S.PageStore.size c.args.store.now) + (c.args.height - 1)) c.in-Ok.ensures.free
-    (subst (λ n. count_free (g.S.PageStore.free c.read_way.new.store) n ≤ count_free (g.S.PageStore.free c.insert_under.new.store) n + (c.args.height - 1)) c.in-Ok.ensures.size c.in-Ok-Split.ensures.room) in
-    sound_child c.put_child.result c.args.r.now (g.S.PageStore.told c.args.store.now) (g.S.PageStore.told c.read_way.new.store) (g.S.PageStore.told c.insert_under.new.store)
+    let few : count_free (g.S.PageStore.free c.args.store.now) (g.S.PageStore.size c.args.store.now)
+    ≤ count_free (g.S.PageStore.free c.insert_under.new.store) (g.S.PageStore.size c.args.store.now) + (c.args.height - 1) =
+    subst (λ f. count_free f (g.S.PageStore.size c.args.store.now) ≤ count_free (g.S.PageStore.free c.insert_under.new.store)
+    (g.S.PageStore.size c.args.store.now) + (c.args.height - 1)) c.in-Ok.ensures.free
+    (subst (λ n. count_free (g.S.PageStore.free c.read_way.new.store) n ≤ count_free (g.S.PageStore.free c.insert_under.new.store) n
+    + (c.args.height - 1)) c.in-Ok.ensures.size c.in-Ok-Split.ensures.room) in
+    sound_child c.put_child.result c.args.r.now (g.S.PageStore.told c.args.store.now) (g.S.PageStore.told c.read_way.new.store)
+    (g.S.PageStore.told c.insert_under.new.store)
     (g.S.PageStore.free c.args.store.now) (g.S.PageStore.free c.read_way.new.store) (g.S.PageStore.free c.insert_under.new.store)
-    (g.S.PageStore.size c.args.store.now) (g.S.PageStore.size c.read_way.new.store) (g.S.PageStore.size c.insert_under.new.store) c.args.page c.args.height c.in-Ok.way.child c.in-Ok.way.place c.in-Some.inner c.in-Ok-Split.key c.in-Ok-Split.right
+    (g.S.PageStore.size c.args.store.now) (g.S.PageStore.size c.read_way.new.store) (g.S.PageStore.size c.insert_under.new.store)
+    c.args.page c.args.height c.in-Ok.way.child c.in-Ok.way.place c.in-Some.inner c.in-Ok-Split.key c.in-Ok-Split.right
     (record {
       same = record { same_pages = c.in-Ok.ensures.told; same_free = c.in-Ok.ensures.free; same_size = c.in-Ok.ensures.size };
       some = c.requires.height;
@@ -97,26 +124,44 @@ returns-in-Some-clause-sound g t c =
       reads = w.reads;
       place = w.is_place;
       is_child = w.child_is;
-    }) (g.met.S.PageStore.as_many c.args.store.now) range (c.in-Ok-Split.ensures.size ∙ c.in-Ok.ensures.size) few (rw c.in-Ok-Split.field-0-is at c.in-Ok-Split.ensures.inserted) c.put_child.ensures.sound
+    }) (g.met.S.PageStore.as_many c.args.store.now) range (c.in-Ok-Split.ensures.size ∙ c.in-Ok.ensures.size) few
+    (rw c.in-Ok-Split.field-0-is at c.in-Ok-Split.ensures.inserted) c.put_child.ensures.sound
 
 pub returns-then-height-eq1-clause-finds : goal.returns-then-height-eq1-clause-finds
 returns-then-height-eq1-clause-finds g t c =
-    there_in_leaf c.insert_leaf.result (g.S.PageStore.told c.args.store.now) c.args.page c.args.height c.args.r.now.key c.if-height-eq1.true c.insert_leaf.ensures.finds
+    there_in_leaf c.insert_leaf.result (g.S.PageStore.told c.args.store.now) c.args.page c.args.height c.args.r.now.key c.if-height-eq1.true
+    c.insert_leaf.ensures.finds
 
 pub returns-in-Ok-There-clause-finds : goal.returns-in-Ok-There-clause-finds
 returns-in-Ok-There-clause-finds g t c = λ rs s.
     let h = c.in-Ok.ensures.here c.args.height rs c.requires.height c.if-height-eq1.false s in
     let w = c.in-Ok.ensures.way h.inner h.is in
-    finds_below (g.S.PageStore.told c.args.store.now) (g.S.PageStore.told c.read_way.new.store) c.args.page c.args.height c.in-Ok.way.child c.in-Ok.way.place c.args.r.now.key h.inner true
-    (record { same = c.in-Ok.ensures.told; some = c.requires.height; above = c.if-height-eq1.false; reads = w.reads; place = w.is_place; is_child = w.child_is })
+    finds_below (g.S.PageStore.told c.args.store.now) (g.S.PageStore.told c.read_way.new.store) c.args.page c.args.height c.in-Ok.way.child
+    c.in-Ok.way.place c.args.r.now.key h.inner true
+    (record {
+      same = c.in-Ok.ensures.told;
+      some = c.requires.height;
+      above = c.if-height-eq1.false;
+      reads = w.reads;
+      place = w.is_place;
+      is_child = w.child_is;
+    })
     (rw c.in-Ok-There.field-0-is at c.in-Ok-There.ensures.finds) rs s
 
 pub returns-in-Ok-Done-clause-finds : goal.returns-in-Ok-Done-clause-finds
 returns-in-Ok-Done-clause-finds g t c = λ rs s.
     let h = c.in-Ok.ensures.here c.args.height rs c.requires.height c.if-height-eq1.false s in
     let w = c.in-Ok.ensures.way h.inner h.is in
-    finds_below (g.S.PageStore.told c.args.store.now) (g.S.PageStore.told c.read_way.new.store) c.args.page c.args.height c.in-Ok.way.child c.in-Ok.way.place c.args.r.now.key h.inner false
-    (record { same = c.in-Ok.ensures.told; some = c.requires.height; above = c.if-height-eq1.false; reads = w.reads; place = w.is_place; is_child = w.child_is })
+    finds_below (g.S.PageStore.told c.args.store.now) (g.S.PageStore.told c.read_way.new.store) c.args.page c.args.height c.in-Ok.way.child
+    c.in-Ok.way.place c.args.r.now.key h.inner false
+    (record {
+      same = c.in-Ok.ensures.told;
+      some = c.requires.height;
+      above = c.if-height-eq1.false;
+      reads = w.reads;
+      place = w.is_place;
+      is_child = w.child_is;
+    })
     (rw c.in-Ok-Done.field-0-is at c.in-Ok-Done.ensures.finds) rs s
 
 pub returns-in-Some-clause-finds : goal.returns-in-Some-clause-finds
@@ -125,17 +170,29 @@ returns-in-Some-clause-finds g t c =
     (λ rs s.
     let h = c.in-Ok.ensures.here c.args.height rs c.requires.height c.if-height-eq1.false s in
     let w = c.in-Ok.ensures.way h.inner h.is in
-    finds_below (g.S.PageStore.told c.args.store.now) (g.S.PageStore.told c.read_way.new.store) c.args.page c.args.height c.in-Ok.way.child c.in-Ok.way.place c.args.r.now.key h.inner false
-    (record { same = c.in-Ok.ensures.told; some = c.requires.height; above = c.if-height-eq1.false; reads = w.reads; place = w.is_place; is_child = w.child_is })
+    finds_below (g.S.PageStore.told c.args.store.now) (g.S.PageStore.told c.read_way.new.store) c.args.page c.args.height c.in-Ok.way.child
+    c.in-Ok.way.place c.args.r.now.key h.inner false
+    (record {
+      same = c.in-Ok.ensures.told;
+      some = c.requires.height;
+      above = c.if-height-eq1.false;
+      reads = w.reads;
+      place = w.is_place;
+      is_child = w.child_is;
+    })
     (rw c.in-Ok-Split.field-0-is at c.in-Ok-Split.ensures.finds) rs s)
 
 pub returns-in-None-clause-sound : goal.returns-in-None-clause-sound
 returns-in-None-clause-sound g t c is_root b rs used can =
-    let h = c.in-Ok.ensures.here c.args.height rs c.requires.height c.if-height-eq1.false (edit_spells (g.S.PageStore.told c.args.store.now) (g.S.PageStore.free c.args.store.now) c.args.page c.args.height is_root b rs used can.can_edit) in
-    absurd (c.in-None.ensures.none refl (subst (λ n. IsHigh n c.read_way.new.bytes c.args.height) (sym (c.pages.ensures ∙ c.in-Ok-Split.ensures.size ∙ c.in-Ok.ensures.size)) h))
+    let h = c.in-Ok.ensures.here c.args.height rs c.requires.height c.if-height-eq1.false
+    (edit_spells (g.S.PageStore.told c.args.store.now) (g.S.PageStore.free c.args.store.now) c.args.page c.args.height is_root b rs used can.can_edit) in
+    absurd (c.in-None.ensures.none refl
+    (subst (λ n. IsHigh n c.read_way.new.bytes c.args.height) (sym (c.pages.ensures ∙ c.in-Ok-Split.ensures.size ∙ c.in-Ok.ensures.size)) h))
 
 pub put_child-requires-clause-place : goal.put_child-requires-clause-place
 put_child-requires-clause-place g t c =
     let same : c.pages.result ≡ g.S.PageStore.size c.args.store.now = c.pages.ensures ∙ c.in-Ok-Split.ensures.size ∙ c.in-Ok.ensures.size in
-    let is : inner_of (g.S.PageStore.size c.args.store.now) c.read_way.new.bytes ≡ Some c.in-Some.inner = subst (λ n. inner_of n c.read_way.new.bytes ≡ Some c.in-Some.inner) same c.in-Some.ensures.inner in
-    place_inside (g.S.PageStore.size c.args.store.now) c.read_way.new.bytes c.in-Some.inner c.args.r.now.key c.in-Ok.way.place is (c.in-Ok.ensures.way c.in-Some.inner is).is_place
+    let is : inner_of (g.S.PageStore.size c.args.store.now) c.read_way.new.bytes ≡ Some c.in-Some.inner =
+    subst (λ n. inner_of n c.read_way.new.bytes ≡ Some c.in-Some.inner) same c.in-Some.ensures.inner in
+    place_inside (g.S.PageStore.size c.args.store.now) c.read_way.new.bytes c.in-Some.inner c.args.r.now.key c.in-Ok.way.place is
+    (c.in-Ok.ensures.way c.in-Some.inner is).is_place

@@ -6,26 +6,32 @@ use Rattle.quilt_btree.proofs.inserting.insert_leaf.Goals as goal
 
 pub returns-in-Err-clause-sound : goal.returns-in-Err-clause-sound
 returns-in-Err-clause-sound g c is_root b rs used can =
-    c.in-Err.ensures.sound 1 rs refl (leaf_can_spell (g.S.PageStore.told c.args.store.now) (g.S.PageStore.free c.args.store.now) (g.S.PageStore.size c.args.store.now) c.args.page c.args.r.now.key is_root b rs used can)
+    c.in-Err.ensures.sound 1 rs refl (leaf_can_spell (g.S.PageStore.told c.args.store.now) (g.S.PageStore.free c.args.store.now)
+    (g.S.PageStore.size c.args.store.now) c.args.page c.args.r.now.key is_root b rs used can)
 
 pub returns-in-Ok-find-clause-inserted : goal.returns-in-Ok-find-clause-inserted
 returns-in-Ok-find-clause-inserted g c is_root b rs used can =
-    leaf_there (g.S.PageStore.told c.args.store.now) (g.S.PageStore.told c.read_leaf.new.store) (g.S.PageStore.free c.args.store.now) (g.S.PageStore.free c.read_leaf.new.store) (g.S.PageStore.size c.args.store.now)
+    leaf_there (g.S.PageStore.told c.args.store.now) (g.S.PageStore.told c.read_leaf.new.store) (g.S.PageStore.free c.args.store.now)
+    (g.S.PageStore.free c.read_leaf.new.store) (g.S.PageStore.size c.args.store.now)
     c.args.page c.in-Ok-find.field-0 c.args.r.now c.in-Ok.leaf is_root b rs used c.in-Ok.ensures.told
-    (leaf_read (g.S.PageStore.told c.args.store.now) (g.S.PageStore.free c.args.store.now) (g.S.PageStore.size c.args.store.now) c.args.page c.args.r.now.key c.in-Ok.leaf is_root b rs used c.in-Ok.ensures.leaf can)
+    (leaf_read (g.S.PageStore.told c.args.store.now) (g.S.PageStore.free c.args.store.now) (g.S.PageStore.size c.args.store.now)
+    c.args.page c.args.r.now.key c.in-Ok.leaf is_root b rs used c.in-Ok.ensures.leaf can)
     c.in-Ok-find.ensures.place can
 
 pub returns-in-Err-find-clause-sound : goal.returns-in-Err-find-clause-sound
 returns-in-Err-find-clause-sound g c =
-    sound_along c.put_record.result (g.S.PageStore.told c.args.store.now) (g.S.PageStore.told c.read_leaf.new.store) (g.S.PageStore.free c.args.store.now) (g.S.PageStore.free c.read_leaf.new.store)
+    sound_along c.put_record.result (g.S.PageStore.told c.args.store.now) (g.S.PageStore.told c.read_leaf.new.store)
+    (g.S.PageStore.free c.args.store.now) (g.S.PageStore.free c.read_leaf.new.store)
     (g.S.PageStore.size c.args.store.now) (g.S.PageStore.size c.read_leaf.new.store) c.args.page 1 c.args.r.now.key
     (record { same_pages = c.in-Ok.ensures.told; same_free = c.in-Ok.ensures.free; same_size = c.in-Ok.ensures.size }) c.put_record.ensures.sound
 
 pub returns-in-Ok-find-clause-finds : goal.returns-in-Ok-find-clause-finds
 returns-in-Ok-find-clause-finds g c height rs one s =
-    finds_here (g.S.PageStore.told c.args.store.now) c.args.page height c.in-Ok-find.field-0 c.args.r.now.key c.in-Ok.leaf c.in-Ok.ensures.leaf c.in-Ok-find.ensures.place one rs s
+    finds_here (g.S.PageStore.told c.args.store.now) c.args.page height c.in-Ok-find.field-0 c.args.r.now.key c.in-Ok.leaf c.in-Ok.ensures.leaf
+    c.in-Ok-find.ensures.place one rs s
 
 pub returns-in-Err-find-clause-finds : goal.returns-in-Err-find-clause-finds
 returns-in-Err-find-clause-finds g c =
     new_in_leaf c.put_record.result (g.S.PageStore.told c.args.store.now) c.args.page c.args.r.now.key c.put_record.ensures.new
-    (λ height one. finds_none (g.S.PageStore.told c.args.store.now) c.args.page height c.in-Err-find.i c.args.r.now.key c.in-Ok.leaf c.in-Ok.ensures.leaf c.in-Err-find.ensures.place one)
+    (λ height one. finds_none (g.S.PageStore.told c.args.store.now) c.args.page height c.in-Err-find.i c.args.r.now.key c.in-Ok.leaf
+    c.in-Ok.ensures.leaf c.in-Err-find.ensures.place one)

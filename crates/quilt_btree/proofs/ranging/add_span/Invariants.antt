@@ -7,5 +7,6 @@ use Rattle.quilt_btree.proofs.ranging.add_span.Given as goal
 abbrev pub invariant-loop-i : goal.invariant-loop-i
 invariant-loop-i l = record {
   least : l.first ≤ l.i;
-  items : l.records.items ≡ take l.most (l.initial.records.items ++ filter (is_from_to l.low l.high) (take (l.i - l.first) (part l.first l.last (records_of l.bytes))));
+  items : l.records.items
+      ≡ take l.most (l.initial.records.items ++ filter (is_from_to l.low l.high) (take (l.i - l.first) (part l.first l.last (records_of l.bytes))));
 }

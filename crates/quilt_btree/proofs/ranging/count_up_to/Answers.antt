@@ -11,4 +11,5 @@ pub returns-in-Err-clause-above : goal.returns-in-Err-clause-above
 returns-in-Err-clause-above c = λ rs is. (c.in-Err.ensures.place rs is).behind
 
 pub returns-in_default-clause-above : goal.returns-in_default-clause-above
-returns-in_default-clause-above c = λ rs is. past_all (λ (r : Record). is_lt (key_cmp c.args.k.now r.key)) c.records_in-n.result rs (c.records_in-n.ensures.length rs is).0
+returns-in_default-clause-above c =
+    λ rs is. past_all (λ (r : Record). is_lt (key_cmp c.args.k.now r.key)) c.records_in-n.result rs (c.records_in-n.ensures.length rs is).0

@@ -18,13 +18,17 @@ returns-in_err-rest-clause-sound g c =
     (right_spells (g.S.PageStore.told c.args.store.now) (g.S.PageStore.free c.args.store.now) height c.args.left c.args.key.now c.args.right b rs used m)))
 
 pub returns-then-not-leaves_ascend-clause-sound : goal.returns-then-not-leaves_ascend-clause-sound
-returns-then-not-leaves_ascend-clause-sound g c = λ height b rs used one m page e. not_leaves (g.S.PageStore.told c.args.store.now) (g.S.PageStore.free c.args.store.now) c.args.left c.args.key.now c.args.right height b rs used
-    c.in_ok-first.first c.in_ok-rest.rest c.leaves_ascend.result one c.in_ok-first.ensures.leaf (λ pages t. c.in_ok-rest.ensures.leaf pages (c.in_ok-first.ensures.told ∙ t)) c.leaves_ascend.ensures c.if-not-leaves_ascend.true m
+returns-then-not-leaves_ascend-clause-sound g c = λ height b rs used one m page e.
+    not_leaves (g.S.PageStore.told c.args.store.now) (g.S.PageStore.free c.args.store.now) c.args.left c.args.key.now c.args.right height b rs used
+    c.in_ok-first.first c.in_ok-rest.rest c.leaves_ascend.result one c.in_ok-first.ensures.leaf
+    (λ pages t. c.in_ok-rest.ensures.leaf pages (c.in_ok-first.ensures.told ∙ t)) c.leaves_ascend.ensures c.if-not-leaves_ascend.true m
 
 pub returns-in-Ok-clause-rebalanced : goal.returns-in-Ok-clause-rebalanced
 returns-in-Ok-clause-rebalanced g c = λ height b rs used one m.
-    leaves_joined (g.S.PageStore.told c.args.store.now) (g.S.PageStore.told c.read_leaf-2.new.store) (g.S.PageStore.told c.write_and_give.new.store) (g.S.PageStore.free c.args.store.now) (g.S.PageStore.free c.read_leaf-2.new.store) (g.S.PageStore.free c.write_and_give.new.store)
-    (g.S.PageStore.size c.args.store.now) c.args.left c.args.key.now c.args.right height b rs used c.in_ok-first.first c.in_ok-rest.rest c.join.new.self c.bytes.result.now one (record {
+    leaves_joined (g.S.PageStore.told c.args.store.now) (g.S.PageStore.told c.read_leaf-2.new.store) (g.S.PageStore.told c.write_and_give.new.store)
+    (g.S.PageStore.free c.args.store.now) (g.S.PageStore.free c.read_leaf-2.new.store) (g.S.PageStore.free c.write_and_give.new.store)
+    (g.S.PageStore.size c.args.store.now) c.args.left c.args.key.now c.args.right height b rs used c.in_ok-first.first c.in_ok-rest.rest
+    c.join.new.self c.bytes.result.now one (record {
       reads = c.in_ok-first.ensures.leaf;
       also = λ pages t. c.in_ok-rest.ensures.leaf pages (c.in_ok-first.ensures.told ∙ t);
       inside = c.requires.left.1;
@@ -39,20 +43,24 @@ returns-in-Ok-clause-rebalanced g c = λ height b rs used one m.
 
 pub returns-in-Err-clause-sound : goal.returns-in-Err-clause-sound
 returns-in-Err-clause-sound g c = λ height b rs used one m.
-    let t = leaves_taken (g.S.PageStore.told c.args.store.now) (g.S.PageStore.free c.args.store.now) (g.S.PageStore.free c.read_leaf-2.new.store) c.args.left c.args.key.now c.args.right height b rs used one
+    let t = leaves_taken (g.S.PageStore.told c.args.store.now) (g.S.PageStore.free c.args.store.now) (g.S.PageStore.free c.read_leaf-2.new.store)
+    c.args.left c.args.key.now c.args.right height b rs used one
     (c.in_ok-rest.ensures.free ∙ c.in_ok-first.ensures.free) m in
     c.in-Err.ensures.sound t.0 t.1
 
 pub returns-in-Err-write_both-clause-sound : goal.returns-in-Err-write_both-clause-sound
 returns-in-Err-write_both-clause-sound g c = λ height b rs used one m.
-    let t = leaves_taken (g.S.PageStore.told c.args.store.now) (g.S.PageStore.free c.args.store.now) (g.S.PageStore.free c.read_leaf-2.new.store) c.args.left c.args.key.now c.args.right height b rs used one
+    let t = leaves_taken (g.S.PageStore.told c.args.store.now) (g.S.PageStore.free c.args.store.now) (g.S.PageStore.free c.read_leaf-2.new.store)
+    c.args.left c.args.key.now c.args.right height b rs used one
     (c.in_ok-rest.ensures.free ∙ c.in_ok-first.ensures.free) m in
     c.in-Err-write_both.ensures.sound t.0 t.1
 
 pub returns-in-Ok-write_both-clause-rebalanced : goal.returns-in-Ok-write_both-clause-rebalanced
 returns-in-Ok-write_both-clause-rebalanced g c = λ height b rs used one m.
-    leaves_separated (g.S.PageStore.told c.args.store.now) (g.S.PageStore.told c.read_leaf-2.new.store) (g.S.PageStore.told c.write_both.new.store) (g.S.PageStore.free c.args.store.now) (g.S.PageStore.free c.write_both.new.store)
-    (g.S.PageStore.size c.args.store.now) c.args.left c.args.key.now c.args.right height b rs used c.in_ok-first.first c.in_ok-rest.rest c.share_records.new.left c.share_records.new.right c.rec.result c.bytes-2.result.now c.bytes-3.result.now one (record {
+    leaves_separated (g.S.PageStore.told c.args.store.now) (g.S.PageStore.told c.read_leaf-2.new.store) (g.S.PageStore.told c.write_both.new.store)
+    (g.S.PageStore.free c.args.store.now) (g.S.PageStore.free c.write_both.new.store)
+    (g.S.PageStore.size c.args.store.now) c.args.left c.args.key.now c.args.right height b rs used c.in_ok-first.first c.in_ok-rest.rest
+    c.share_records.new.left c.share_records.new.right c.rec.result c.bytes-2.result.now c.bytes-3.result.now one (record {
       reads = c.in_ok-first.ensures.leaf;
       also = λ pages t. c.in_ok-rest.ensures.leaf pages (c.in_ok-first.ensures.told ∙ t);
       inside = c.requires.left.1;

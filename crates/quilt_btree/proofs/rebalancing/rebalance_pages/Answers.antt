@@ -15,4 +15,5 @@ sound_one (Err e) told free height left key right one f = λ b rs used m. f heig
 
 pub returns-then-height-eq1-clause-sound : goal.returns-then-height-eq1-clause-sound
 returns-then-height-eq1-clause-sound g c =
-    sound_one c.rebalance_leaves.result (g.S.PageStore.told c.args.store.now) (g.S.PageStore.free c.args.store.now) c.args.height c.args.left c.args.key.now c.args.right c.if-height-eq1.true c.rebalance_leaves.ensures.sound
+    sound_one c.rebalance_leaves.result (g.S.PageStore.told c.args.store.now) (g.S.PageStore.free c.args.store.now)
+    c.args.height c.args.left c.args.key.now c.args.right c.if-height-eq1.true c.rebalance_leaves.ensures.sound

@@ -9,101 +9,195 @@ use Rattle.quilt_btree.proofs.removing.+remove_under.Goals as goal
 
 pub returns-then-height-eq1-clause-sound : goal.returns-then-height-eq1-clause-sound
 returns-then-height-eq1-clause-sound g t c =
-    leaf_sound c.remove_in_leaf.result (g.S.PageStore.told c.args.store.now) (g.S.PageStore.free c.args.store.now) c.args.page c.args.height c.if-height-eq1.true c.remove_in_leaf.ensures.sound
+    leaf_sound c.remove_in_leaf.result (g.S.PageStore.told c.args.store.now) (g.S.PageStore.free c.args.store.now)
+    c.args.page c.args.height c.if-height-eq1.true c.remove_in_leaf.ensures.sound
 
 pub returns-in-Err-clause-sound : goal.returns-in-Err-clause-sound
 returns-in-Err-clause-sound g t c is_root b rs used can =
-    c.in-Err.ensures.sound c.args.height rs c.requires.height c.if-height-eq1.false (leaf_reads (g.S.PageStore.told c.args.store.now) (g.S.PageStore.free c.args.store.now) c.args.page c.args.height is_root b rs used can)
+    c.in-Err.ensures.sound c.args.height rs c.requires.height c.if-height-eq1.false
+    (leaf_reads (g.S.PageStore.told c.args.store.now) (g.S.PageStore.free c.args.store.now) c.args.page c.args.height is_root b rs used can)
 
 pub returns-in-Err-remove_under-clause-sound : goal.returns-in-Err-remove_under-clause-sound
 returns-in-Err-remove_under-clause-sound g t c = λ is_root b rs used can.
-    let h = c.in-Ok.ensures.here c.args.height rs c.requires.height c.if-height-eq1.false (leaf_reads (g.S.PageStore.told c.args.store.now) (g.S.PageStore.free c.args.store.now) c.args.page c.args.height is_root b rs used can) in
+    let h = c.in-Ok.ensures.here c.args.height rs c.requires.height c.if-height-eq1.false
+    (leaf_reads (g.S.PageStore.told c.args.store.now) (g.S.PageStore.free c.args.store.now) c.args.page c.args.height is_root b rs used can) in
     let w = c.in-Ok.ensures.way h.inner h.is in
-    sound_child c.in-Err-remove_under.e c.args.k.now (g.S.PageStore.told c.args.store.now) (g.S.PageStore.told c.read_way.new.store) (g.S.PageStore.free c.args.store.now) (g.S.PageStore.free c.read_way.new.store)
+    sound_child c.in-Err-remove_under.e c.args.k.now (g.S.PageStore.told c.args.store.now) (g.S.PageStore.told c.read_way.new.store)
+    (g.S.PageStore.free c.args.store.now) (g.S.PageStore.free c.read_way.new.store)
     c.args.page c.args.height c.in-Ok.way.child c.in-Ok.way.place h.inner
-    (record { some = c.requires.height; above = c.if-height-eq1.false; reads = w.reads; place = w.is_place; is_mid = c.in-Ok.ensures.told; is_free = c.in-Ok.ensures.free; is_child = w.child_is })
+    (record {
+      some = c.requires.height;
+      above = c.if-height-eq1.false;
+      reads = w.reads;
+      place = w.is_place;
+      is_mid = c.in-Ok.ensures.told;
+      is_free = c.in-Ok.ensures.free;
+      is_child = w.child_is;
+    })
     c.in-Err-remove_under.ensures.sound is_root b rs used can
 
 pub returns-in-Ok-Missing-clause-removed : goal.returns-in-Ok-Missing-clause-removed
 returns-in-Ok-Missing-clause-removed g t c = λ is_root b rs used can.
-    let h = c.in-Ok.ensures.here c.args.height rs c.requires.height c.if-height-eq1.false (leaf_reads (g.S.PageStore.told c.args.store.now) (g.S.PageStore.free c.args.store.now) c.args.page c.args.height is_root b rs used can) in
+    let h = c.in-Ok.ensures.here c.args.height rs c.requires.height c.if-height-eq1.false
+    (leaf_reads (g.S.PageStore.told c.args.store.now) (g.S.PageStore.free c.args.store.now) c.args.page c.args.height is_root b rs used can) in
     let w = c.in-Ok.ensures.way h.inner h.is in
     let found = rw c.in-Ok-Missing.field-0-is at c.in-Ok-Missing.ensures in
-    missing_child c.args.k.now (g.S.PageStore.told c.args.store.now) (g.S.PageStore.told c.read_way.new.store) (g.S.PageStore.told c.remove_under.new.store) (g.S.PageStore.free c.args.store.now) (g.S.PageStore.free c.read_way.new.store) (g.S.PageStore.free c.remove_under.new.store)
+    missing_child c.args.k.now (g.S.PageStore.told c.args.store.now) (g.S.PageStore.told c.read_way.new.store)
+    (g.S.PageStore.told c.remove_under.new.store) (g.S.PageStore.free c.args.store.now) (g.S.PageStore.free c.read_way.new.store)
+    (g.S.PageStore.free c.remove_under.new.store)
     c.args.page c.args.height c.in-Ok.way.child c.in-Ok.way.place h.inner
-    (record { some = c.requires.height; above = c.if-height-eq1.false; reads = w.reads; place = w.is_place; is_mid = c.in-Ok.ensures.told; is_free = c.in-Ok.ensures.free; is_child = w.child_is })
+    (record {
+      some = c.requires.height;
+      above = c.if-height-eq1.false;
+      reads = w.reads;
+      place = w.is_place;
+      is_mid = c.in-Ok.ensures.told;
+      is_free = c.in-Ok.ensures.free;
+      is_child = w.child_is;
+    })
     found.removed is_root b rs used can
 
 pub returns-in-Ok-Done-clause-removed : goal.returns-in-Ok-Done-clause-removed
 returns-in-Ok-Done-clause-removed g t c = λ is_root b rs used can.
-    let h = c.in-Ok.ensures.here c.args.height rs c.requires.height c.if-height-eq1.false (leaf_reads (g.S.PageStore.told c.args.store.now) (g.S.PageStore.free c.args.store.now) c.args.page c.args.height is_root b rs used can) in
+    let h = c.in-Ok.ensures.here c.args.height rs c.requires.height c.if-height-eq1.false
+    (leaf_reads (g.S.PageStore.told c.args.store.now) (g.S.PageStore.free c.args.store.now) c.args.page c.args.height is_root b rs used can) in
     let w = c.in-Ok.ensures.way h.inner h.is in
     let found = rw c.in-Ok-Done.field-0-is at c.in-Ok-Done.ensures in
-    done_child c.args.k.now (g.S.PageStore.told c.args.store.now) (g.S.PageStore.told c.read_way.new.store) (g.S.PageStore.told c.remove_under.new.store) (g.S.PageStore.free c.args.store.now) (g.S.PageStore.free c.read_way.new.store) (g.S.PageStore.free c.remove_under.new.store)
+    done_child c.args.k.now (g.S.PageStore.told c.args.store.now) (g.S.PageStore.told c.read_way.new.store)
+    (g.S.PageStore.told c.remove_under.new.store) (g.S.PageStore.free c.args.store.now) (g.S.PageStore.free c.read_way.new.store)
+    (g.S.PageStore.free c.remove_under.new.store)
     c.args.page c.args.height c.in-Ok.way.child c.in-Ok.way.place h.inner
-    (record { some = c.requires.height; above = c.if-height-eq1.false; reads = w.reads; place = w.is_place; is_mid = c.in-Ok.ensures.told; is_free = c.in-Ok.ensures.free; is_child = w.child_is })
+    (record {
+      some = c.requires.height;
+      above = c.if-height-eq1.false;
+      reads = w.reads;
+      place = w.is_place;
+      is_mid = c.in-Ok.ensures.told;
+      is_free = c.in-Ok.ensures.free;
+      is_child = w.child_is;
+    })
     found.removed is_root b rs used can
 
 pub returns-in-Some-clause-removed : goal.returns-in-Some-clause-removed
 returns-in-Some-clause-removed g t c =
-    let w = c.in-Ok.ensures.way c.in-Some.inner (subst (λ n. inner_of n c.read_way.new.bytes ≡ Some c.in-Some.inner) (c.pages.ensures ∙ c.in-Ok-Underfull.ensures.size ∙ c.in-Ok.ensures.size) c.in-Some.ensures.inner) in
+    let w =
+    c.in-Ok.ensures.way c.in-Some.inner
+    (subst (λ n. inner_of n c.read_way.new.bytes ≡ Some c.in-Some.inner)
+    (c.pages.ensures ∙ c.in-Ok-Underfull.ensures.size ∙ c.in-Ok.ensures.size) c.in-Some.ensures.inner) in
     let found = rw c.in-Ok-Underfull.field-0-is at c.in-Ok-Underfull.ensures in
-    rebalanced_child c.rebalance_child.result c.args.k.now (g.S.PageStore.told c.args.store.now) (g.S.PageStore.told c.read_way.new.store) (g.S.PageStore.told c.remove_under.new.store) (g.S.PageStore.told c.rebalance_child.new.store)
-    (g.S.PageStore.free c.args.store.now) (g.S.PageStore.free c.read_way.new.store) (g.S.PageStore.free c.remove_under.new.store) (g.S.PageStore.free c.rebalance_child.new.store)
+    rebalanced_child c.rebalance_child.result c.args.k.now (g.S.PageStore.told c.args.store.now) (g.S.PageStore.told c.read_way.new.store)
+    (g.S.PageStore.told c.remove_under.new.store) (g.S.PageStore.told c.rebalance_child.new.store)
+    (g.S.PageStore.free c.args.store.now) (g.S.PageStore.free c.read_way.new.store) (g.S.PageStore.free c.remove_under.new.store)
+    (g.S.PageStore.free c.rebalance_child.new.store)
     c.args.page c.args.height c.in-Ok.way.child c.in-Ok.way.place c.in-Some.inner
-    (record { some = c.requires.height; above = c.if-height-eq1.false; reads = w.reads; place = w.is_place; is_mid = c.in-Ok.ensures.told; is_free = c.in-Ok.ensures.free; is_child = w.child_is })
+    (record {
+      some = c.requires.height;
+      above = c.if-height-eq1.false;
+      reads = w.reads;
+      place = w.is_place;
+      is_mid = c.in-Ok.ensures.told;
+      is_free = c.in-Ok.ensures.free;
+      is_child = w.child_is;
+    })
     found.removed c.rebalance_child.ensures.some c.rebalance_child.ensures.left
 
 pub returns-in-Some-clause-sound : goal.returns-in-Some-clause-sound
 returns-in-Some-clause-sound g t c =
-    let w = c.in-Ok.ensures.way c.in-Some.inner (subst (λ n. inner_of n c.read_way.new.bytes ≡ Some c.in-Some.inner) (c.pages.ensures ∙ c.in-Ok-Underfull.ensures.size ∙ c.in-Ok.ensures.size) c.in-Some.ensures.inner) in
+    let w =
+    c.in-Ok.ensures.way c.in-Some.inner
+    (subst (λ n. inner_of n c.read_way.new.bytes ≡ Some c.in-Some.inner)
+    (c.pages.ensures ∙ c.in-Ok-Underfull.ensures.size ∙ c.in-Ok.ensures.size) c.in-Some.ensures.inner) in
     let found = rw c.in-Ok-Underfull.field-0-is at c.in-Ok-Underfull.ensures in
-    rebalanced_sound c.rebalance_child.result c.args.k.now (g.S.PageStore.told c.args.store.now) (g.S.PageStore.told c.read_way.new.store) (g.S.PageStore.told c.remove_under.new.store)
+    rebalanced_sound c.rebalance_child.result c.args.k.now (g.S.PageStore.told c.args.store.now) (g.S.PageStore.told c.read_way.new.store)
+    (g.S.PageStore.told c.remove_under.new.store)
     (g.S.PageStore.free c.args.store.now) (g.S.PageStore.free c.read_way.new.store) (g.S.PageStore.free c.remove_under.new.store)
     c.args.page c.args.height c.in-Ok.way.child c.in-Ok.way.place c.in-Some.inner
-    (record { some = c.requires.height; above = c.if-height-eq1.false; reads = w.reads; place = w.is_place; is_mid = c.in-Ok.ensures.told; is_free = c.in-Ok.ensures.free; is_child = w.child_is })
+    (record {
+      some = c.requires.height;
+      above = c.if-height-eq1.false;
+      reads = w.reads;
+      place = w.is_place;
+      is_mid = c.in-Ok.ensures.told;
+      is_free = c.in-Ok.ensures.free;
+      is_child = w.child_is;
+    })
     found.removed c.rebalance_child.ensures.sound
 
 pub returns-in-Ok-Emptied-clause-sound : goal.returns-in-Ok-Emptied-clause-sound
 returns-in-Ok-Emptied-clause-sound g t c = λ is_root b rs used can.
-    let h = c.in-Ok.ensures.here c.args.height rs c.requires.height c.if-height-eq1.false (leaf_reads (g.S.PageStore.told c.args.store.now) (g.S.PageStore.free c.args.store.now) c.args.page c.args.height is_root b rs used can) in
+    let h = c.in-Ok.ensures.here c.args.height rs c.requires.height c.if-height-eq1.false
+    (leaf_reads (g.S.PageStore.told c.args.store.now) (g.S.PageStore.free c.args.store.now) c.args.page c.args.height is_root b rs used can) in
     let w = c.in-Ok.ensures.way h.inner h.is in
     let found = rw c.in-Ok-Emptied.field-0-is at c.in-Ok-Emptied.ensures in
     emptied_child _ c.args.k.now (g.S.PageStore.told c.args.store.now) (g.S.PageStore.told c.read_way.new.store) (g.S.PageStore.told c.remove_under.new.store)
     (g.S.PageStore.free c.args.store.now) (g.S.PageStore.free c.read_way.new.store) (g.S.PageStore.free c.remove_under.new.store)
     c.args.page c.args.height c.in-Ok.way.child c.in-Ok.way.place h.inner
-    (record { some = c.requires.height; above = c.if-height-eq1.false; reads = w.reads; place = w.is_place; is_mid = c.in-Ok.ensures.told; is_free = c.in-Ok.ensures.free; is_child = w.child_is })
+    (record {
+      some = c.requires.height;
+      above = c.if-height-eq1.false;
+      reads = w.reads;
+      place = w.is_place;
+      is_mid = c.in-Ok.ensures.told;
+      is_free = c.in-Ok.ensures.free;
+      is_child = w.child_is;
+    })
     found.removed is_root b rs used can
 
 pub returns-in-Ok-Only-clause-sound : goal.returns-in-Ok-Only-clause-sound
 returns-in-Ok-Only-clause-sound g t c = λ is_root b rs used can.
-    let h = c.in-Ok.ensures.here c.args.height rs c.requires.height c.if-height-eq1.false (leaf_reads (g.S.PageStore.told c.args.store.now) (g.S.PageStore.free c.args.store.now) c.args.page c.args.height is_root b rs used can) in
+    let h = c.in-Ok.ensures.here c.args.height rs c.requires.height c.if-height-eq1.false
+    (leaf_reads (g.S.PageStore.told c.args.store.now) (g.S.PageStore.free c.args.store.now) c.args.page c.args.height is_root b rs used can) in
     let w = c.in-Ok.ensures.way h.inner h.is in
     let found = rw c.in-Ok-Only.field-0-is at c.in-Ok-Only.ensures in
     only_child _ _ c.args.k.now (g.S.PageStore.told c.args.store.now) (g.S.PageStore.told c.read_way.new.store) (g.S.PageStore.told c.remove_under.new.store)
     (g.S.PageStore.free c.args.store.now) (g.S.PageStore.free c.read_way.new.store) (g.S.PageStore.free c.remove_under.new.store)
     c.args.page c.args.height c.in-Ok.way.child c.in-Ok.way.place h.inner
-    (record { some = c.requires.height; above = c.if-height-eq1.false; reads = w.reads; place = w.is_place; is_mid = c.in-Ok.ensures.told; is_free = c.in-Ok.ensures.free; is_child = w.child_is })
+    (record {
+      some = c.requires.height;
+      above = c.if-height-eq1.false;
+      reads = w.reads;
+      place = w.is_place;
+      is_mid = c.in-Ok.ensures.told;
+      is_free = c.in-Ok.ensures.free;
+      is_child = w.child_is;
+    })
     found.removed is_root b rs used can
 
 pub returns-then-height-eq1-clause-finds : goal.returns-then-height-eq1-clause-finds
 returns-then-height-eq1-clause-finds g t c =
-    found_in_leaf c.remove_in_leaf.result (g.S.PageStore.told c.args.store.now) c.args.page c.args.height c.args.k.now c.if-height-eq1.true c.remove_in_leaf.ensures.finds
+    found_in_leaf c.remove_in_leaf.result (g.S.PageStore.told c.args.store.now) c.args.page c.args.height c.args.k.now c.if-height-eq1.true
+    c.remove_in_leaf.ensures.finds
 
 pub returns-in-Ok-Missing-clause-finds : goal.returns-in-Ok-Missing-clause-finds
 returns-in-Ok-Missing-clause-finds g t c = λ rs s.
     let h = c.in-Ok.ensures.here c.args.height rs c.requires.height c.if-height-eq1.false s in
     let w = c.in-Ok.ensures.way h.inner h.is in
-    finds_below (g.S.PageStore.told c.args.store.now) (g.S.PageStore.told c.read_way.new.store) c.args.page c.args.height c.in-Ok.way.child c.in-Ok.way.place c.args.k.now h.inner false
-    (record { same = c.in-Ok.ensures.told; some = c.requires.height; above = c.if-height-eq1.false; reads = w.reads; place = w.is_place; is_child = w.child_is })
+    finds_below (g.S.PageStore.told c.args.store.now) (g.S.PageStore.told c.read_way.new.store) c.args.page c.args.height c.in-Ok.way.child
+    c.in-Ok.way.place c.args.k.now h.inner false
+    (record {
+      same = c.in-Ok.ensures.told;
+      some = c.requires.height;
+      above = c.if-height-eq1.false;
+      reads = w.reads;
+      place = w.is_place;
+      is_child = w.child_is;
+    })
     (rw c.in-Ok-Missing.field-0-is at c.in-Ok-Missing.ensures.finds) rs s
 
 pub returns-in-Ok-Done-clause-finds : goal.returns-in-Ok-Done-clause-finds
 returns-in-Ok-Done-clause-finds g t c = λ rs s.
     let h = c.in-Ok.ensures.here c.args.height rs c.requires.height c.if-height-eq1.false s in
     let w = c.in-Ok.ensures.way h.inner h.is in
-    finds_below (g.S.PageStore.told c.args.store.now) (g.S.PageStore.told c.read_way.new.store) c.args.page c.args.height c.in-Ok.way.child c.in-Ok.way.place c.args.k.now h.inner true
-    (record { same = c.in-Ok.ensures.told; some = c.requires.height; above = c.if-height-eq1.false; reads = w.reads; place = w.is_place; is_child = w.child_is })
+    finds_below (g.S.PageStore.told c.args.store.now) (g.S.PageStore.told c.read_way.new.store) c.args.page c.args.height c.in-Ok.way.child
+    c.in-Ok.way.place c.args.k.now h.inner true
+    (record {
+      same = c.in-Ok.ensures.told;
+      some = c.requires.height;
+      above = c.if-height-eq1.false;
+      reads = w.reads;
+      place = w.is_place;
+      is_child = w.child_is;
+    })
     (rw c.in-Ok-Done.field-0-is at c.in-Ok-Done.ensures.finds) rs s
 
 pub returns-in-Some-clause-finds : goal.returns-in-Some-clause-finds
@@ -112,17 +206,29 @@ returns-in-Some-clause-finds g t c =
     (λ rs s.
     let h = c.in-Ok.ensures.here c.args.height rs c.requires.height c.if-height-eq1.false s in
     let w = c.in-Ok.ensures.way h.inner h.is in
-    finds_below (g.S.PageStore.told c.args.store.now) (g.S.PageStore.told c.read_way.new.store) c.args.page c.args.height c.in-Ok.way.child c.in-Ok.way.place c.args.k.now h.inner true
-    (record { same = c.in-Ok.ensures.told; some = c.requires.height; above = c.if-height-eq1.false; reads = w.reads; place = w.is_place; is_child = w.child_is })
+    finds_below (g.S.PageStore.told c.args.store.now) (g.S.PageStore.told c.read_way.new.store) c.args.page c.args.height c.in-Ok.way.child
+    c.in-Ok.way.place c.args.k.now h.inner true
+    (record {
+      same = c.in-Ok.ensures.told;
+      some = c.requires.height;
+      above = c.if-height-eq1.false;
+      reads = w.reads;
+      place = w.is_place;
+      is_child = w.child_is;
+    })
     (rw c.in-Ok-Underfull.field-0-is at c.in-Ok-Underfull.ensures.finds) rs s)
 
 pub returns-in-None-clause-sound : goal.returns-in-None-clause-sound
 returns-in-None-clause-sound g t c is_root b rs used can =
-    let h = c.in-Ok.ensures.here c.args.height rs c.requires.height c.if-height-eq1.false (leaf_reads (g.S.PageStore.told c.args.store.now) (g.S.PageStore.free c.args.store.now) c.args.page c.args.height is_root b rs used can) in
-    absurd (c.in-None.ensures.none refl (subst (λ n. IsHigh n c.read_way.new.bytes c.args.height) (sym (c.pages.ensures ∙ c.in-Ok-Underfull.ensures.size ∙ c.in-Ok.ensures.size)) h))
+    let h = c.in-Ok.ensures.here c.args.height rs c.requires.height c.if-height-eq1.false
+    (leaf_reads (g.S.PageStore.told c.args.store.now) (g.S.PageStore.free c.args.store.now) c.args.page c.args.height is_root b rs used can) in
+    absurd (c.in-None.ensures.none refl
+    (subst (λ n. IsHigh n c.read_way.new.bytes c.args.height) (sym (c.pages.ensures ∙ c.in-Ok-Underfull.ensures.size ∙ c.in-Ok.ensures.size)) h))
 
 pub rebalance_child-requires-clause-place : goal.rebalance_child-requires-clause-place
 rebalance_child-requires-clause-place g t c =
     let same : c.pages.result ≡ g.S.PageStore.size c.args.store.now = c.pages.ensures ∙ c.in-Ok-Underfull.ensures.size ∙ c.in-Ok.ensures.size in
-    let is : inner_of (g.S.PageStore.size c.args.store.now) c.read_way.new.bytes ≡ Some c.in-Some.inner = subst (λ n. inner_of n c.read_way.new.bytes ≡ Some c.in-Some.inner) same c.in-Some.ensures.inner in
-    place_inside (g.S.PageStore.size c.args.store.now) c.read_way.new.bytes c.in-Some.inner c.args.k.now c.in-Ok.way.place is (c.in-Ok.ensures.way c.in-Some.inner is).is_place
+    let is : inner_of (g.S.PageStore.size c.args.store.now) c.read_way.new.bytes ≡ Some c.in-Some.inner =
+    subst (λ n. inner_of n c.read_way.new.bytes ≡ Some c.in-Some.inner) same c.in-Some.ensures.inner in
+    place_inside (g.S.PageStore.size c.args.store.now) c.read_way.new.bytes c.in-Some.inner c.args.k.now c.in-Ok.way.place is
+    (c.in-Ok.ensures.way c.in-Some.inner is).is_place

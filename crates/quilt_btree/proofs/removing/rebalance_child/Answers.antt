@@ -5,7 +5,8 @@ use Rattle.quilt_btree.proofs.removing.rebalance_child.Goals as goal
 
 pub returns-in-Err-clause-sound : goal.returns-in-Err-clause-sound
 returns-in-Err-clause-sound g c =
-    sound_rebalance c.in-Err.e (g.S.PageStore.told c.args.store.now) (g.S.PageStore.free c.args.store.now) c.args.page c.args.height c.args.inner.now c.args.i c.pair_at-j.result (c.pair_at-j.result + 1) c.child-left.result c.key-key.result c.child-right.result (record {
+    sound_rebalance c.in-Err.e (g.S.PageStore.told c.args.store.now) (g.S.PageStore.free c.args.store.now) c.args.page c.args.height c.args.inner.now
+    c.args.i c.pair_at-j.result (c.pair_at-j.result + 1) c.child-left.result c.key-key.result c.child-right.result (record {
       in_range = subst (λ n. c.pair_at-j.result + 1 < n) c.len.ensures.length c.pair_at-j.ensures.both;
       one = c.pair_at-j.ensures.one;
       is_next = omega arith;
@@ -13,14 +14,18 @@ returns-in-Err-clause-sound g c =
       is_right = c.child-right.ensures.child;
       is_key = c.key-key.ensures;
       many = sym c.len.ensures.length ∙ c.len.ensures.keys;
-      inside = λ pages e. has_many (g.S.PageStore.told c.args.store.now) pages (g.S.PageStore.size c.args.store.now) c.args.page (g.met.S.PageStore.as_many c.args.store.now) e c.requires.page.1;
+      inside = λ pages e. has_many (g.S.PageStore.told c.args.store.now) pages (g.S.PageStore.size c.args.store.now) c.args.page
+          (g.met.S.PageStore.as_many c.args.store.now) e c.requires.page.1;
     }) c.in-Err.ensures.sound
 
 pub returns-in-Ok-Joined-clause-left : goal.returns-in-Ok-Joined-clause-left
 returns-in-Ok-Joined-clause-left g c =
     let found = rw c.in-Ok-Joined.field-0-is at c.in-Ok-Joined.ensures in
-    joined_left c.drop_child.result (g.S.PageStore.told c.args.store.now) (g.S.PageStore.told c.rebalance_pages.new.store) (g.S.PageStore.told c.drop_child.new.store) (g.S.PageStore.free c.args.store.now) (g.S.PageStore.free c.rebalance_pages.new.store) (g.S.PageStore.free c.drop_child.new.store)
-    c.args.page c.args.height c.args.inner.now c.args.i c.pair_at-j.result (c.pair_at-j.result + 1) c.child-left.result c.key-key.result c.child-right.result (record {
+    joined_left c.drop_child.result (g.S.PageStore.told c.args.store.now) (g.S.PageStore.told c.rebalance_pages.new.store)
+    (g.S.PageStore.told c.drop_child.new.store) (g.S.PageStore.free c.args.store.now) (g.S.PageStore.free c.rebalance_pages.new.store)
+    (g.S.PageStore.free c.drop_child.new.store)
+    c.args.page c.args.height c.args.inner.now c.args.i c.pair_at-j.result
+    (c.pair_at-j.result + 1) c.child-left.result c.key-key.result c.child-right.result (record {
       in_range = subst (λ n. c.pair_at-j.result + 1 < n) c.len.ensures.length c.pair_at-j.ensures.both;
       one = c.pair_at-j.ensures.one;
       is_next = omega arith;
@@ -28,14 +33,17 @@ returns-in-Ok-Joined-clause-left g c =
       is_right = c.child-right.ensures.child;
       is_key = c.key-key.ensures;
       many = sym c.len.ensures.length ∙ c.len.ensures.keys;
-      inside = λ pages e. has_many (g.S.PageStore.told c.args.store.now) pages (g.S.PageStore.size c.args.store.now) c.args.page (g.met.S.PageStore.as_many c.args.store.now) e c.requires.page.1;
+      inside = λ pages e. has_many (g.S.PageStore.told c.args.store.now) pages (g.S.PageStore.size c.args.store.now) c.args.page
+          (g.met.S.PageStore.as_many c.args.store.now) e c.requires.page.1;
     }) found.rebalanced c.drop_child.ensures.free c.drop_child.ensures.dropped
 
 pub returns-in-Ok-Joined-clause-sound : goal.returns-in-Ok-Joined-clause-sound
 returns-in-Ok-Joined-clause-sound g c =
     let found = rw c.in-Ok-Joined.field-0-is at c.in-Ok-Joined.ensures in
-    joined_sound c.drop_child.result (g.S.PageStore.told c.args.store.now) (g.S.PageStore.told c.rebalance_pages.new.store) (g.S.PageStore.free c.args.store.now) (g.S.PageStore.free c.rebalance_pages.new.store)
-    c.args.page c.args.height c.args.inner.now c.args.i c.pair_at-j.result (c.pair_at-j.result + 1) c.child-left.result c.key-key.result c.child-right.result (record {
+    joined_sound c.drop_child.result (g.S.PageStore.told c.args.store.now) (g.S.PageStore.told c.rebalance_pages.new.store)
+    (g.S.PageStore.free c.args.store.now) (g.S.PageStore.free c.rebalance_pages.new.store)
+    c.args.page c.args.height c.args.inner.now c.args.i c.pair_at-j.result
+    (c.pair_at-j.result + 1) c.child-left.result c.key-key.result c.child-right.result (record {
       in_range = subst (λ n. c.pair_at-j.result + 1 < n) c.len.ensures.length c.pair_at-j.ensures.both;
       one = c.pair_at-j.ensures.one;
       is_next = omega arith;
@@ -43,14 +51,17 @@ returns-in-Ok-Joined-clause-sound g c =
       is_right = c.child-right.ensures.child;
       is_key = c.key-key.ensures;
       many = sym c.len.ensures.length ∙ c.len.ensures.keys;
-      inside = λ pages e. has_many (g.S.PageStore.told c.args.store.now) pages (g.S.PageStore.size c.args.store.now) c.args.page (g.met.S.PageStore.as_many c.args.store.now) e c.requires.page.1;
+      inside = λ pages e. has_many (g.S.PageStore.told c.args.store.now) pages (g.S.PageStore.size c.args.store.now) c.args.page
+          (g.met.S.PageStore.as_many c.args.store.now) e c.requires.page.1;
     }) found.rebalanced c.drop_child.ensures.sound
 
 pub returns-in-Err-renew_key-clause-sound : goal.returns-in-Err-renew_key-clause-sound
 returns-in-Err-renew_key-clause-sound g c =
     let found = rw c.in-Ok-Redistributed.field-0-is at c.in-Ok-Redistributed.ensures in
-    separated_sound c.in-Err-renew_key.e (g.S.PageStore.told c.args.store.now) (g.S.PageStore.told c.rebalance_pages.new.store) (g.S.PageStore.free c.args.store.now) (g.S.PageStore.free c.rebalance_pages.new.store)
-    c.args.page c.args.height c.args.inner.now c.args.i c.pair_at-j.result (c.pair_at-j.result + 1) c.child-left.result c.key-key.result c.child-right.result c.in-Ok-Redistributed.key (record {
+    separated_sound c.in-Err-renew_key.e (g.S.PageStore.told c.args.store.now) (g.S.PageStore.told c.rebalance_pages.new.store)
+    (g.S.PageStore.free c.args.store.now) (g.S.PageStore.free c.rebalance_pages.new.store)
+    c.args.page c.args.height c.args.inner.now c.args.i c.pair_at-j.result
+    (c.pair_at-j.result + 1) c.child-left.result c.key-key.result c.child-right.result c.in-Ok-Redistributed.key (record {
       in_range = subst (λ n. c.pair_at-j.result + 1 < n) c.len.ensures.length c.pair_at-j.ensures.both;
       one = c.pair_at-j.ensures.one;
       is_next = omega arith;
@@ -58,14 +69,17 @@ returns-in-Err-renew_key-clause-sound g c =
       is_right = c.child-right.ensures.child;
       is_key = c.key-key.ensures;
       many = sym c.len.ensures.length ∙ c.len.ensures.keys;
-      inside = λ pages e. has_many (g.S.PageStore.told c.args.store.now) pages (g.S.PageStore.size c.args.store.now) c.args.page (g.met.S.PageStore.as_many c.args.store.now) e c.requires.page.1;
+      inside = λ pages e. has_many (g.S.PageStore.told c.args.store.now) pages (g.S.PageStore.size c.args.store.now) c.args.page
+          (g.met.S.PageStore.as_many c.args.store.now) e c.requires.page.1;
     }) found.rebalanced c.in-Err-renew_key.ensures.sound
 
 pub returns-in-Ok-clause-left : goal.returns-in-Ok-clause-left
 returns-in-Ok-clause-left g c =
     let found = rw c.in-Ok-Redistributed.field-0-is at c.in-Ok-Redistributed.ensures in
-    separated_left (g.S.PageStore.told c.args.store.now) (g.S.PageStore.told c.rebalance_pages.new.store) (g.S.PageStore.told c.renew_key.new.store) (g.S.PageStore.free c.args.store.now) (g.S.PageStore.free c.rebalance_pages.new.store) (g.S.PageStore.free c.renew_key.new.store)
-    c.args.page c.args.height c.args.inner.now c.args.i c.pair_at-j.result (c.pair_at-j.result + 1) c.child-left.result c.key-key.result c.child-right.result c.in-Ok-Redistributed.key (record {
+    separated_left (g.S.PageStore.told c.args.store.now) (g.S.PageStore.told c.rebalance_pages.new.store) (g.S.PageStore.told c.renew_key.new.store)
+    (g.S.PageStore.free c.args.store.now) (g.S.PageStore.free c.rebalance_pages.new.store) (g.S.PageStore.free c.renew_key.new.store)
+    c.args.page c.args.height c.args.inner.now c.args.i c.pair_at-j.result
+    (c.pair_at-j.result + 1) c.child-left.result c.key-key.result c.child-right.result c.in-Ok-Redistributed.key (record {
       in_range = subst (λ n. c.pair_at-j.result + 1 < n) c.len.ensures.length c.pair_at-j.ensures.both;
       one = c.pair_at-j.ensures.one;
       is_next = omega arith;
@@ -73,5 +87,6 @@ returns-in-Ok-clause-left g c =
       is_right = c.child-right.ensures.child;
       is_key = c.key-key.ensures;
       many = sym c.len.ensures.length ∙ c.len.ensures.keys;
-      inside = λ pages e. has_many (g.S.PageStore.told c.args.store.now) pages (g.S.PageStore.size c.args.store.now) c.args.page (g.met.S.PageStore.as_many c.args.store.now) e c.requires.page.1;
+      inside = λ pages e. has_many (g.S.PageStore.told c.args.store.now) pages (g.S.PageStore.size c.args.store.now) c.args.page
+          (g.met.S.PageStore.as_many c.args.store.now) e c.requires.page.1;
     }) found.rebalanced c.in-Ok.ensures.free c.in-Ok.ensures.renewed

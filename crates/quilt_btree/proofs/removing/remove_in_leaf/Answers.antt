@@ -7,22 +7,28 @@ use Rattle.quilt_btree.proofs.removing.remove_in_leaf.Goals as goal
 pub returns-in_err-leaf-clause-sound : goal.returns-in_err-leaf-clause-sound
 returns-in_err-leaf-clause-sound g c =
     let p = err_from_is_err_and c.from_residual.result c.from_residual.ensures.1 in
-    rw (p.1, p.2) (λ height is_root b rs used one can. c.in_err-leaf.ensures.sound height rs one (leaf_reads (g.S.PageStore.told c.args.store.now) (g.S.PageStore.free c.args.store.now) c.args.page height is_root b rs used can))
+    rw (p.1, p.2) (λ height is_root b rs used one can. c.in_err-leaf.ensures.sound height rs one
+    (leaf_reads (g.S.PageStore.told c.args.store.now) (g.S.PageStore.free c.args.store.now) c.args.page height is_root b rs used can))
 
 pub returns-in-Err-clause-removed : goal.returns-in-Err-clause-removed
 returns-in-Err-clause-removed g c = λ height is_root b rs used one can.
-    leaf_missing c.args.k.now (g.S.PageStore.told c.args.store.now) (g.S.PageStore.told c.read_leaf.new.store) (g.S.PageStore.free c.args.store.now) (g.S.PageStore.free c.read_leaf.new.store)
+    leaf_missing c.args.k.now (g.S.PageStore.told c.args.store.now) (g.S.PageStore.told c.read_leaf.new.store) (g.S.PageStore.free c.args.store.now)
+    (g.S.PageStore.free c.read_leaf.new.store)
     c.args.page height c.in-Err.field-0 is_root b rs c.in_ok-leaf.leaf used one c.in_ok-leaf.ensures.leaf c.in-Err.ensures.place can
 
 pub returns-in-Ok-clause-removed : goal.returns-in-Ok-clause-removed
 returns-in-Ok-clause-removed g c = λ height is_root b rs used one can.
-    leaf_emptied c.args.k.now (g.S.PageStore.told c.args.store.now) (g.S.PageStore.told c.read_leaf.new.store) (g.S.PageStore.free c.args.store.now) (g.S.PageStore.free c.read_leaf.new.store)
-    c.args.page height c.in-Ok.field-0 is_root b rs c.in_ok-leaf.leaf used one c.in_ok-leaf.ensures.leaf c.in-Ok.ensures.place (sym c.len.ensures.length ∙ c.if-len-eq1.true) c.in_ok-leaf.ensures.told c.in_ok-leaf.ensures.free can
+    leaf_emptied c.args.k.now (g.S.PageStore.told c.args.store.now) (g.S.PageStore.told c.read_leaf.new.store) (g.S.PageStore.free c.args.store.now)
+    (g.S.PageStore.free c.read_leaf.new.store)
+    c.args.page height c.in-Ok.field-0 is_root b rs c.in_ok-leaf.leaf used one c.in_ok-leaf.ensures.leaf c.in-Ok.ensures.place
+    (sym c.len.ensures.length ∙ c.if-len-eq1.true) c.in_ok-leaf.ensures.told c.in_ok-leaf.ensures.free can
 
 pub returns-then-left-lt-LEAST_RECORDS-clause-removed : goal.returns-then-left-lt-LEAST_RECORDS-clause-removed
 returns-then-left-lt-LEAST_RECORDS-clause-removed g c = λ height is_root b rs used one can.
-    leaf_underfull c.args.k.now (g.S.PageStore.told c.args.store.now) (g.S.PageStore.told c.read_leaf.new.store) (g.S.PageStore.told c.write_page.new.store) (g.S.PageStore.free c.args.store.now) (g.S.PageStore.free c.write_page.new.store)
-    c.args.page height (g.S.PageStore.size c.args.store.now) c.in-Ok.field-0 is_root b rs c.in_ok-leaf.leaf c.remove.new.self used c.bytes.result.now one (record {
+    leaf_underfull c.args.k.now (g.S.PageStore.told c.args.store.now) (g.S.PageStore.told c.read_leaf.new.store)
+    (g.S.PageStore.told c.write_page.new.store) (g.S.PageStore.free c.args.store.now) (g.S.PageStore.free c.write_page.new.store)
+    c.args.page height (g.S.PageStore.size c.args.store.now) c.in-Ok.field-0 is_root b rs c.in_ok-leaf.leaf c.remove.new.self used
+    c.bytes.result.now one (record {
       reads = c.in_ok-leaf.ensures.leaf;
       inside = c.requires.1;
       many = g.met.S.PageStore.as_many c.args.store.now;
@@ -36,8 +42,10 @@ returns-then-left-lt-LEAST_RECORDS-clause-removed g c = λ height is_root b rs u
 
 pub returns-else-left-lt-LEAST_RECORDS-clause-removed : goal.returns-else-left-lt-LEAST_RECORDS-clause-removed
 returns-else-left-lt-LEAST_RECORDS-clause-removed g c = λ height is_root b rs used one can.
-    leaf_done c.args.k.now (g.S.PageStore.told c.args.store.now) (g.S.PageStore.told c.read_leaf.new.store) (g.S.PageStore.told c.write_page.new.store) (g.S.PageStore.free c.args.store.now) (g.S.PageStore.free c.write_page.new.store)
-    c.args.page height (g.S.PageStore.size c.args.store.now) c.in-Ok.field-0 is_root b rs c.in_ok-leaf.leaf c.remove.new.self used c.bytes.result.now one (record {
+    leaf_done c.args.k.now (g.S.PageStore.told c.args.store.now) (g.S.PageStore.told c.read_leaf.new.store)
+    (g.S.PageStore.told c.write_page.new.store) (g.S.PageStore.free c.args.store.now) (g.S.PageStore.free c.write_page.new.store)
+    c.args.page height (g.S.PageStore.size c.args.store.now) c.in-Ok.field-0 is_root b rs c.in_ok-leaf.leaf c.remove.new.self used
+    c.bytes.result.now one (record {
       reads = c.in_ok-leaf.ensures.leaf;
       inside = c.requires.1;
       many = g.met.S.PageStore.as_many c.args.store.now;
@@ -52,16 +60,20 @@ returns-else-left-lt-LEAST_RECORDS-clause-removed g c = λ height is_root b rs u
 
 pub returns-in-Err-clause-finds : goal.returns-in-Err-clause-finds
 returns-in-Err-clause-finds g c = λ height rs one s.
-    finds_none (g.S.PageStore.told c.args.store.now) c.args.page height c.in-Err.field-0 c.args.k.now c.in_ok-leaf.leaf c.in_ok-leaf.ensures.leaf c.in-Err.ensures.place one rs s
+    finds_none (g.S.PageStore.told c.args.store.now) c.args.page height c.in-Err.field-0 c.args.k.now c.in_ok-leaf.leaf c.in_ok-leaf.ensures.leaf
+    c.in-Err.ensures.place one rs s
 
 pub returns-in-Ok-clause-finds : goal.returns-in-Ok-clause-finds
 returns-in-Ok-clause-finds g c = λ height rs one s.
-    finds_here (g.S.PageStore.told c.args.store.now) c.args.page height c.in-Ok.field-0 c.args.k.now c.in_ok-leaf.leaf c.in_ok-leaf.ensures.leaf c.in-Ok.ensures.place one rs s
+    finds_here (g.S.PageStore.told c.args.store.now) c.args.page height c.in-Ok.field-0 c.args.k.now c.in_ok-leaf.leaf c.in_ok-leaf.ensures.leaf
+    c.in-Ok.ensures.place one rs s
 
 pub returns-then-left-lt-LEAST_RECORDS-clause-finds : goal.returns-then-left-lt-LEAST_RECORDS-clause-finds
 returns-then-left-lt-LEAST_RECORDS-clause-finds g c = λ height rs one s.
-    finds_here (g.S.PageStore.told c.args.store.now) c.args.page height c.in-Ok.field-0 c.args.k.now c.in_ok-leaf.leaf c.in_ok-leaf.ensures.leaf c.in-Ok.ensures.place one rs s
+    finds_here (g.S.PageStore.told c.args.store.now) c.args.page height c.in-Ok.field-0 c.args.k.now c.in_ok-leaf.leaf c.in_ok-leaf.ensures.leaf
+    c.in-Ok.ensures.place one rs s
 
 pub returns-else-left-lt-LEAST_RECORDS-clause-finds : goal.returns-else-left-lt-LEAST_RECORDS-clause-finds
 returns-else-left-lt-LEAST_RECORDS-clause-finds g c = λ height rs one s.
-    finds_here (g.S.PageStore.told c.args.store.now) c.args.page height c.in-Ok.field-0 c.args.k.now c.in_ok-leaf.leaf c.in_ok-leaf.ensures.leaf c.in-Ok.ensures.place one rs s
+    finds_here (g.S.PageStore.told c.args.store.now) c.args.page height c.in-Ok.field-0 c.args.k.now c.in_ok-leaf.leaf c.in_ok-leaf.ensures.leaf
+    c.in-Ok.ensures.place one rs s

@@ -10,16 +10,22 @@ returns-in-Err-clause-sound g c = λ height rs some above s. c.in-Err.ensures.so
 pub returns-in-None-clause-sound : goal.returns-in-None-clause-sound
 returns-in-None-clause-sound g c = λ height rs some above s.
     let h = is_high (g.S.PageStore.told c.args.store.now) (g.S.PageStore.told c.read_into.new.store) c.args.page height c.pages.result c.read_into.new.bytes rs
-    (read_ok (g.S.PageStore.told c.args.store.now) (g.S.PageStore.told c.read_into.new.store) c.args.page height c.pages.result (g.S.PageStore.size c.args.store.now) c.read_into.new.bytes some above c.in-Ok.ensures.told (g.met.S.PageStore.as_many c.args.store.now) (c.pages.ensures ∙ c.in-Ok.ensures.size) c.in-Ok.ensures.bytes) s in
+    (read_ok (g.S.PageStore.told c.args.store.now) (g.S.PageStore.told c.read_into.new.store) c.args.page height c.pages.result
+    (g.S.PageStore.size c.args.store.now) c.read_into.new.bytes some above c.in-Ok.ensures.told (g.met.S.PageStore.as_many c.args.store.now)
+    (c.pages.ensures ∙ c.in-Ok.ensures.size) c.in-Ok.ensures.bytes) s in
     absurd (c.in-None.ensures.way h.inner h.is)
 
 pub returns-in-Some-clause-way : goal.returns-in-Some-clause-way
 returns-in-Some-clause-way g c =
     let same : c.pages.result ≡ g.S.PageStore.size c.args.store.now = c.pages.ensures ∙ c.in-Ok.ensures.size in
-    is_way (g.S.PageStore.told c.args.store.now) c.args.page (g.S.PageStore.size c.args.store.now) c.read_into.new.bytes c.args.k.now c.in-Some.way.place c.in-Some.way.child (g.met.S.PageStore.as_many c.args.store.now) c.in-Ok.ensures.bytes
+    is_way (g.S.PageStore.told c.args.store.now) c.args.page (g.S.PageStore.size c.args.store.now)
+    c.read_into.new.bytes c.args.k.now c.in-Some.way.place c.in-Some.way.child (g.met.S.PageStore.as_many c.args.store.now) c.in-Ok.ensures.bytes
     (λ inner is. c.in-Some.ensures.way inner (subst (λ n. inner_of n c.read_into.new.bytes ≡ Some inner) (sym same) is))
 
 pub returns-in-Some-clause-here : goal.returns-in-Some-clause-here
 returns-in-Some-clause-here g c = λ height rs some above s.
-    is_high (g.S.PageStore.told c.args.store.now) (g.S.PageStore.told c.read_into.new.store) c.args.page height (g.S.PageStore.size c.args.store.now) c.read_into.new.bytes rs
-    (read_ok (g.S.PageStore.told c.args.store.now) (g.S.PageStore.told c.read_into.new.store) c.args.page height (g.S.PageStore.size c.args.store.now) (g.S.PageStore.size c.args.store.now) c.read_into.new.bytes some above c.in-Ok.ensures.told (g.met.S.PageStore.as_many c.args.store.now) refl c.in-Ok.ensures.bytes) s
+    is_high (g.S.PageStore.told c.args.store.now) (g.S.PageStore.told c.read_into.new.store) c.args.page height (g.S.PageStore.size c.args.store.now)
+    c.read_into.new.bytes rs
+    (read_ok (g.S.PageStore.told c.args.store.now) (g.S.PageStore.told c.read_into.new.store) c.args.page height
+    (g.S.PageStore.size c.args.store.now) (g.S.PageStore.size c.args.store.now) c.read_into.new.bytes some above c.in-Ok.ensures.told
+    (g.met.S.PageStore.as_many c.args.store.now) refl c.in-Ok.ensures.bytes) s

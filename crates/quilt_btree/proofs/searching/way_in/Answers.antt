@@ -5,13 +5,19 @@ use Rattle.quilt_btree.proofs.searching.way_in.Goals as goal
 pub returns-then-child-lt1-clause-way : goal.returns-then-child-lt1-clause-way
 returns-then-child-lt1-clause-way c = λ inner is.
     let place = c.place_in-place.ensures.place c.args.pages inner is in
-    let p = inside c.args.pages c.args.bytes.now inner c.place_in-place.result c.child_in-child.result is (place_inside c.args.pages c.args.bytes.now inner c.args.k.now c.place_in-place.result is place) (c.child_in-child.ensures.inner c.args.pages inner is) in
+    let p = inside c.args.pages c.args.bytes.now inner c.place_in-place.result c.child_in-child.result is
+    (place_inside c.args.pages c.args.bytes.now inner c.args.k.now c.place_in-place.result is place)
+    (c.child_in-child.ensures.inner c.args.pages inner is) in
     no_page c.args.pages c.child_in-child.result c.then-child-lt1.either p.least p.most
 
 pub returns-clause-way : goal.returns-clause-way
 returns-clause-way c = λ inner is.
-    let place = c.place_in-place.ensures.place c.args.pages inner is in
-    (c.place_in-place.ensures.number c.args.pages inner is, place, c.child_in-child.ensures.inner c.args.pages inner is (place_inside c.args.pages c.args.bytes.now inner c.args.k.now c.place_in-place.result is place))
+    let place = c.place_in-place.ensures.place c.args.pages inner is in (
+      c.place_in-place.ensures.number c.args.pages inner is,
+      place,
+      c.child_in-child.ensures.inner c.args.pages inner is
+          (place_inside c.args.pages c.args.bytes.now inner c.args.k.now c.place_in-place.result is place),
+    )
 
 pub returns-clause-stands : goal.returns-clause-stands
 returns-clause-stands c = record {

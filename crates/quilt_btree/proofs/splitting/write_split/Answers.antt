@@ -9,6 +9,8 @@ returns-in-Ok-clause-room g c =
     let size = g.S.PageStore.size c.args.store.now in
     let new = c.take_page-new.result in
     let range = g.met.S.PageStore.free_pages_are c.args.store.now new c.take_page-new.ensures.page in
-    let one = count_taken new size (free c.args.store.now) (free c.take_page-new.new.self) range.0 range.1 c.take_page-new.ensures.page c.take_page-new.ensures.free in
-    let same : count_free (free c.write_page-2.new.store) size ≡ count_free (free c.take_page-new.new.self) size = ap (λ (f : ℕ → Bool). count_free f size) (c.in-Ok.ensures.free ∙ c.in_default.ensures.free) in
+    let one = count_taken new size (free c.args.store.now) (free c.take_page-new.new.self) range.0 range.1 c.take_page-new.ensures.page
+    c.take_page-new.ensures.free in
+    let same : count_free (free c.write_page-2.new.store) size ≡ count_free (free c.take_page-new.new.self) size =
+    ap (λ (f : ℕ → Bool). count_free f size) (c.in-Ok.ensures.free ∙ c.in_default.ensures.free) in
     omega (arith, one, same)

@@ -11,7 +11,8 @@ loop-i-init c = from_first _ (length c.args.run.now)
 pub returns-then-not-precedes : goal.returns-then-not-precedes
 returns-then-not-precedes c =
     let f : ℕ → Key = λ i. key_at c.args.run.now i in
-    stops f (length c.args.run.now) c.loop-i.i c.loop-i.auto.i c.loop-i-test.true c.loop-i.invariant (sym c.precedes.ensures ∙ c.if-not-precedes.true) ∙ ap is_ascending (sym (keys_are c.args.run.now))
+    stops f (length c.args.run.now) c.loop-i.i c.loop-i.auto.i c.loop-i-test.true c.loop-i.invariant
+    (sym c.precedes.ensures ∙ c.if-not-precedes.true) ∙ ap is_ascending (sym (keys_are c.args.run.now))
 
 pub loop-i-preserved : goal.loop-i-preserved
 loop-i-preserved c =
@@ -19,4 +20,5 @@ loop-i-preserved c =
     from_next f (length c.args.run.now) c.loop-i.i c.loop-i.auto.i c.loop-i-test.true c.loop-i.invariant (sym c.precedes.ensures ∙ c.if-not-precedes.false)
 
 pub returns : goal.returns
-returns c = to_last (λ i. key_at c.args.run.now i) (length c.args.run.now) c.loop-i.i c.loop-i-test.false c.loop-i.invariant ∙ ap is_ascending (sym (keys_are c.args.run.now))
+returns c = to_last (λ i. key_at c.args.run.now i) (length c.args.run.now) c.loop-i.i c.loop-i-test.false c.loop-i.invariant
+    ∙ ap is_ascending (sym (keys_are c.args.run.now))

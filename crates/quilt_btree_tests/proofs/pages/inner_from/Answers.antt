@@ -28,9 +28,11 @@ more_range a zero j e = let same : a ≡ j = omega arith in ap (λ x. x ∷ []) 
 more_range a (suc n) j e = let m : suc n + 1 ≡ suc (n + 1) = omega arith in ap (range_with_len a) m ∙ ap (λ l. a ∷ l) (more_range (a + 1) n j (omega arith))
 
 -- one more key
-more_key : (first i j : ℕ) → first + 1 + i ≡ j → insert (map item_key (range_with_len (first + 1) i)) i (item_key j) ≡ map item_key (range_with_len (first + 1) (i + 1))
+more_key : (first i j : ℕ) → first + 1 + i ≡ j
+    → insert (map item_key (range_with_len (first + 1) i)) i (item_key j) ≡ map item_key (range_with_len (first + 1) (i + 1))
 more_key first i j e =
-    insert_last (map item_key (range_with_len (first + 1) i)) i (item_key j) (sym (length-map-range_with_len item_key (first + 1) i)) ∙ sym (map-range_with_len_more item_key (first + 1) i j e)
+    insert_last (map item_key (range_with_len (first + 1) i)) i (item_key j) (sym (length-map-range_with_len item_key (first + 1) i))
+    ∙ sym (map-range_with_len_more item_key (first + 1) i j e)
 
 -- and one more child
 more_child : (first i j : ℕ) → first + 1 + i ≡ j → insert (range_with_len (first + 1) i) i j ≡ range_with_len (first + 1) (i + 1)
@@ -40,18 +42,23 @@ abbrev page_of : ℕ → ℕ → Inner
 page_of first i = record { height = 2; children = range_with_len (first + 1) i; keys = map item_key (range_with_len (first + 1) (i - 1)) }
 
 -- the keys then
-keys_more : (first i : ℕ) (inner : Inner) (k : Key) → 2 ≤ i → inner ≡ page_of first i → k ≡ item_key (first + i) → insert inner.keys (i - 1) k ≡ map item_key (range_with_len (first + 1) ((i + 1) - 1))
+keys_more : (first i : ℕ) (inner : Inner) (k : Key) → 2 ≤ i → inner ≡ page_of first i → k ≡ item_key (first + i)
+    → insert inner.keys (i - 1) k ≡ map item_key (range_with_len (first + 1) ((i + 1) - 1))
 keys_more first i inner k two e f =
     let m : (i - 1) + 1 ≡ (i + 1) - 1 = omega arith in
-    ap (λ (p : Inner). insert p.keys (i - 1) k) e ∙ ap (λ l. insert (map item_key (range_with_len (first + 1) (i - 1))) (i - 1) l) f ∙ more_key first (i - 1) (first + i) (omega arith)
+    ap (λ (p : Inner). insert p.keys (i - 1) k) e ∙ ap (λ l. insert (map item_key (range_with_len (first + 1) (i - 1))) (i - 1) l) f
+    ∙ more_key first (i - 1) (first + i) (omega arith)
     ∙ ap (λ n. map item_key (range_with_len (first + 1) n)) m
 
-children_more : (first i : ℕ) (inner : Inner) → 2 ≤ i → inner ≡ page_of first i → insert inner.children (suc (i - 1)) (first + i + 1) ≡ range_with_len (first + 1) (i + 1)
+children_more : (first i : ℕ) (inner : Inner) → 2 ≤ i → inner ≡ page_of first i
+    → insert inner.children (suc (i - 1)) (first + i + 1) ≡ range_with_len (first + 1) (i + 1)
 children_more first i inner two e =
     let m : suc (i - 1) ≡ i = omega arith in
-    ap (λ (p : Inner). insert p.children (suc (i - 1)) (first + i + 1)) e ∙ ap (λ n. insert (range_with_len (first + 1) i) n (first + i + 1)) m ∙ more_child first i (first + i + 1) (omega arith)
+    ap (λ (p : Inner). insert p.children (suc (i - 1)) (first + i + 1)) e ∙ ap (λ n. insert (range_with_len (first + 1) i) n (first + i + 1)) m
+    ∙ more_child first i (first + i + 1) (omega arith)
 
-page_more : (first i : ℕ) (inner : Inner) (k : Key) → 2 ≤ i → inner ≡ page_of first i → k ≡ item_key (first + i) → with_child inner (i - 1) k (first + i + 1) ≡ page_of first (i + 1)
+page_more : (first i : ℕ) (inner : Inner) (k : Key) → 2 ≤ i → inner ≡ page_of first i → k ≡ item_key (first + i)
+    → with_child inner (i - 1) k (first + i + 1) ≡ page_of first (i + 1)
 page_more first i inner k two e f =
     let a : inner.height ≡ 2 = ap (λ (p : Inner). p.height) e in
     let b = children_more first i inner two e in
@@ -74,7 +81,8 @@ insert-requires-clause-place c =
 
 pub insert-requires-clause-order : goal.insert-requires-clause-order
 insert-requires-clause-order c =
-    subst (λ l. is_ascending l ≡ true) (sym (keys_more c.args.first c.loop-i.i c.loop-i.inner c.key-in-loop-i.result c.loop-i.auto.i c.loop-i.invariant c.key-in-loop-i.ensures))
+    subst (λ l. is_ascending l ≡ true)
+    (sym (keys_more c.args.first c.loop-i.i c.loop-i.inner c.key-in-loop-i.result c.loop-i.auto.i c.loop-i.invariant c.key-in-loop-i.ensures))
     (keys_ascend (c.args.first + 1) ((c.loop-i.i + 1) - 1))
 
 pub loop-i-preserved : goal.loop-i-preserved

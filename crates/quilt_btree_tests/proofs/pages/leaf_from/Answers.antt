@@ -46,7 +46,8 @@ insert-requires-clause-place c =
 pub insert-requires-clause-order : goal.insert-requires-clause-order
 insert-requires-clause-order c =
     let same : insert c.loop-i.leaf c.loop-i.i c.row-in-loop-i.result ≡ map item_row (range_with_len c.args.first (c.loop-i.i + 1)) =
-    ap (λ l. insert l c.loop-i.i c.row-in-loop-i.result) c.loop-i.invariant ∙ ap (λ r. insert (map item_row (range_with_len c.args.first c.loop-i.i)) c.loop-i.i r) c.row-in-loop-i.ensures
+    ap (λ l. insert l c.loop-i.i c.row-in-loop-i.result) c.loop-i.invariant
+    ∙ ap (λ r. insert (map item_row (range_with_len c.args.first c.loop-i.i)) c.loop-i.i r) c.row-in-loop-i.ensures
     ∙ one_more c.args.first c.loop-i.i in
     subst (λ l. is_ascending (keys_of l) ≡ true) (sym same) (rows_ascend c.args.first (c.loop-i.i + 1))
 

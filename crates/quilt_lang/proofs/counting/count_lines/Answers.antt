@@ -10,5 +10,6 @@ returns-in_default-clause-stops c = λ few.
 
 pub loop-what-preserved : goal.loop-what-preserved
 loop-what-preserved c =
-    count_next (number_of c.args.level c.args.what) c.in-Some.k c.loop-what.cut c.args.text.now _ c.loop-what.invariant (sym c.is_met.ensures ∙ c.loop-what-test.true)
+    count_next (number_of c.args.level c.args.what) c.in-Some.k c.loop-what.cut c.args.text.now _ c.loop-what.invariant
+    (sym c.is_met.ensures ∙ c.loop-what-test.true)
     (behind c.loop-what.cut.len c.args.text.now) (rw c.in-Some.is at c.newline_behind.ensures)

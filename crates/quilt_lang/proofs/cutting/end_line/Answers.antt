@@ -9,7 +9,8 @@ pub returns-then-not-ended-clause-found : goal.returns-then-not-ended-clause-fou
 returns-then-not-ended-clause-found c = no_whole c.args.ended c.args.text.now c.if-not-ended.true c.requires
 
 pub returns-clause-found : goal.returns-clause-found
-returns-clause-found c = cuts_last c.args.ended c.args.text.now c.if-not-ended.false c.requires (some_bytes c.args.text.now (sym c.is_empty.ensures ∙ c.if-is_empty.false))
+returns-clause-found c =
+    cuts_last c.args.ended c.args.text.now c.if-not-ended.false c.requires (some_bytes c.args.text.now (sym c.is_empty.ensures ∙ c.if-is_empty.false))
 
 pub returns-clause-some : goal.returns-clause-some
 returns-clause-some c = some_bytes c.args.text.now (sym c.is_empty.ensures ∙ c.if-is_empty.false)

@@ -12,6 +12,7 @@ loop-k-preserved c =
     let found = rw (behind from text) at c.in-Silent.ensures in
     record {
       within = omega (arith, found.1, length-drop from text);
-      gives = λ n. gives_then false n [] [] text (drop from text) (drop (from + c.in-Silent.k) text) (c.loop-k.invariant.gives n) (rw (drop-drop c.in-Silent.k from text) at (found.2 n));
+      gives = λ n. gives_then false n [] [] text (drop from text) (drop (from + c.in-Silent.k) text) (c.loop-k.invariant.gives n)
+          (rw (drop-drop c.in-Silent.k from text) at (found.2 n));
       uncut = uncut_first (drop (from + c.in-Silent.k) text);
     }

@@ -24,5 +24,6 @@ held_item-requires-2-clause-there c = λ open_.
     let n = c.args.level in
     let line = c.args.waiting.line in
     let what = c.args.waiting.what in
-    let count : IsCount (number_of n what) c.count_lines-cut.result (drop (line + 1) c.args.text.now) = rw (behind (line + 1) c.args.text.now) at c.count_lines-cut.ensures.is in
+    let count : IsCount (number_of n what) c.count_lines-cut.result (drop (line + 1) c.args.text.now) =
+    rw (behind (line + 1) c.args.text.now) at c.count_lines-cut.ensures.is in
     count_there (number_of n what) c.count_lines-cut.result (drop (line + 1) c.args.text.now) count (sym c.is_met.ensures ∙ c.if-not-is_met.false)

@@ -11,15 +11,18 @@ pub loop-what-preserved : goal.loop-what-preserved
 loop-what-preserved c =
     let text : List ℕ = c.args.text.now in
     let len = c.loop-what.len in
-    so_far_put (λ w. w.now) c.args.ended (number_of c.args.level c.args.what) _ len c.in-Some.k c.min-len.result c.loop-what.lines.items _ _ text (take (length text - len) (drop len text))
-    c.loop-what.invariant (sym c.is_met.ensures ∙ c.loop-what-test.true) (omega (arith, c.loop-what.lines.ok.0)) (behind len text) (rw c.in-Some.is at c.first_line.ensures.found) c.min-len.ensures
+    so_far_put (λ w. w.now) c.args.ended (number_of c.args.level c.args.what) _ len c.in-Some.k c.min-len.result c.loop-what.lines.items _ _ text
+    (take (length text - len) (drop len text))
+    c.loop-what.invariant (sym c.is_met.ensures ∙ c.loop-what-test.true) (omega (arith, c.loop-what.lines.ok.0)) (behind len text)
+    (rw c.in-Some.is at c.first_line.ensures.found) c.min-len.ensures
     c.in_ok-push.ensures.items refl
 
 pub loop-what-smaller : goal.loop-what-smaller
 loop-what-smaller c =
     let text : List ℕ = c.args.text.now in
     let len = c.loop-what.len in
-    so_far_smaller text (take (length text - len) (drop len text)) len c.in-Some.k c.min-len.result (behind len text) (rw c.in-Some.is at c.first_line.ensures.some) c.min-len.ensures
+    so_far_smaller text (take (length text - len) (drop len text)) len c.in-Some.k c.min-len.result (behind len text)
+    (rw c.in-Some.is at c.first_line.ensures.some) c.min-len.ensures
 
 pub returns-in_default-clause-is : goal.returns-in_default-clause-is
 returns-in_default-clause-is c =

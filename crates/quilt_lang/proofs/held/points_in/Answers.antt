@@ -8,4 +8,5 @@ returns-then-not-is_count c = sym (points_some c.args.k (λ w. w.now) c.args.mor
 
 pub returns : goal.returns
 returns c =
-    IfOk-weaker c.list_points.result _ _ (λ v is. is ∙ sym (points_some c.args.k (λ w. w.now) c.args.more.now _ (sym c.is_count.ensures ∙ c.if-not-is_count.false))) c.list_points.ensures
+    IfOk-weaker c.list_points.result _ _
+    (λ v is. is ∙ sym (points_some c.args.k (λ w. w.now) c.args.more.now _ (sym c.is_count.ensures ∙ c.if-not-is_count.false))) c.list_points.ensures

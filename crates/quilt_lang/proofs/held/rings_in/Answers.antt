@@ -8,4 +8,5 @@ returns-then-not-is_count c = sym (rings_some c.args.k (λ w. w.now) c.args.more
 
 pub returns : goal.returns
 returns c =
-    IfOk-weaker c.ring_lines.result _ _ (λ v is. is ∙ sym (rings_some c.args.k (λ w. w.now) c.args.more.now _ (sym c.is_count.ensures ∙ c.if-not-is_count.false))) c.ring_lines.ensures
+    IfOk-weaker c.ring_lines.result _ _
+    (λ v is. is ∙ sym (rings_some c.args.k (λ w. w.now) c.args.more.now _ (sym c.is_count.ensures ∙ c.if-not-is_count.false))) c.ring_lines.ensures

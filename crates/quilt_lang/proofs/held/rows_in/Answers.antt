@@ -8,4 +8,5 @@ returns-then-not-is_side c = rows_other c.args.format c.args.level (λ w. w.now)
 
 pub returns : goal.returns
 returns c =
-    IfOk-weaker c.raster_rows.result _ _ (λ rows is. is ∙ rows_all c.args.format c.args.level (λ w. w.now) c.args.more.now (sym c.is_side.ensures ∙ c.if-not-is_side.false)) c.raster_rows.ensures
+    IfOk-weaker c.raster_rows.result _ _ (λ rows is. is
+    ∙ rows_all c.args.format c.args.level (λ w. w.now) c.args.more.now (sym c.is_side.ensures ∙ c.if-not-is_side.false)) c.raster_rows.ensures

@@ -16,5 +16,6 @@ loop-i-preserved c =
     record {
       number = grind (arith, common_steps);
       within = omega (arith, within);
-      is = rw c.in_ok-push.ensures.items (corners_more (λ w. w.now) c.args.words.now c.loop-i.i _ c.loop-i.corners.items c.in-Some.c within c.loop-i.invariant.is is);
+      is = rw c.in_ok-push.ensures.items
+          (corners_more (λ w. w.now) c.args.words.now c.loop-i.i _ c.loop-i.corners.items c.in-Some.c within c.loop-i.invariant.is is);
     }

@@ -8,7 +8,8 @@ loop-line-init c = rw c.new-points.ensures (points_none (λ w. w.now) c.args.lin
 pub loop-line-preserved : goal.loop-line-preserved
 loop-line-preserved c =
     let is = rw c.in-Some.is at c.list_point.ensures in
-    rw c.in_ok-push.ensures.ok (points_more (λ w. w.now) c.args.lines.now c.loop-line.line-index _ c.loop-line.points c.in-Some.p (omega arith) c.loop-line.invariant is)
+    rw c.in_ok-push.ensures.ok
+    (points_more (λ w. w.now) c.args.lines.now c.loop-line.line-index _ c.loop-line.points c.in-Some.p (omega arith) c.loop-line.invariant is)
 
 pub returns-in_default : goal.returns-in_default
 returns-in_default c =

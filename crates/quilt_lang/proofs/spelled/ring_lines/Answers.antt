@@ -8,7 +8,8 @@ loop-line-init c = rw c.new-rings.ensures (rings_none (λ w. w.now) c.args.lines
 pub loop-line-preserved : goal.loop-line-preserved
 loop-line-preserved c =
     let is = rw c.in-Some.is at c.in_ok-corners.ensures in
-    rw (c.in_ok-push_ring.ensures, c.deref.ensures.value) (rings_more (λ w. w.now) c.args.lines.now c.loop-line.line-index _ c.loop-line.rings _ (omega arith) c.loop-line.invariant is)
+    rw (c.in_ok-push_ring.ensures, c.deref.ensures.value)
+    (rings_more (λ w. w.now) c.args.lines.now c.loop-line.line-index _ c.loop-line.rings _ (omega arith) c.loop-line.invariant is)
 
 pub returns-in_default : goal.returns-in_default
 returns-in_default c =

@@ -15,13 +15,15 @@ pub returns-in-Err-No-clause-text : goal.returns-in-Err-No-clause-text
 returns-in-Err-No-clause-text g c = λ s at.
     let spelled = subst (λ f. Answers c.parse.result (form f c.args.item.now)) (sym (c.head.ensures.format s at)) c.parse.ensures.form in
     c.in_ok-refusal-in-Err-No.ensures.0
-    ∙ sym (ap text_of (reply_no s c.args.item.now c.in-Err-No.code (form_no c.parse.result _ c.in-Err-No.code (c.in-Err-No.is ∙ ap Err c.in-Err-No.field-0-is) spelled)))
+    ∙ sym (ap text_of (reply_no s c.args.item.now c.in-Err-No.code
+    (form_no c.parse.result _ c.in-Err-No.code (c.in-Err-No.is ∙ ap Err c.in-Err-No.field-0-is) spelled)))
 
 pub returns-in-Err-No-clause-done : goal.returns-in-Err-No-clause-done
 returns-in-Err-No-clause-done g c = λ s at.
     let spelled = subst (λ f. Answers c.parse.result (form f c.args.item.now)) (sym (c.head.ensures.format s at)) c.parse.ensures.form in
     c.in_ok-refusal-in-Err-No.ensures.1
-    ∙ sym (ap is_done (reply_no s c.args.item.now c.in-Err-No.code (form_no c.parse.result _ c.in-Err-No.code (c.in-Err-No.is ∙ ap Err c.in-Err-No.field-0-is) spelled)))
+    ∙ sym (ap is_done (reply_no s c.args.item.now c.in-Err-No.code
+    (form_no c.parse.result _ c.in-Err-No.code (c.in-Err-No.is ∙ ap Err c.in-Err-No.field-0-is) spelled)))
 
 pub returns-in-Err-No-clause-at : goal.returns-in-Err-No-clause-at
 returns-in-Err-No-clause-at g c = λ s at.

@@ -12,7 +12,8 @@ use Rattle.quilt_top.proofs.answering.put_answer.Goals as goal
 
 pub returns-in_err-answer-clause-part : goal.returns-in_err-answer-clause-part
 returns-in_err-answer-clause-part g c =
-    on_err_all {S = State} _ _ _ (λ s at. goes_weaker _ _ _ _ (c.answer_item.ensures.applies s at) (λ t u applies. none_put s c.args.item (changes_of c.args.session.now) t u applies))
+    on_err_all {S = State} _ _ _
+    (λ s at. goes_weaker _ _ _ _ (c.answer_item.ensures.applies s at) (λ t u applies. none_put s c.args.item (changes_of c.args.session.now) t u applies))
 
 pub returns-in_err-put_reply-clause-part : goal.returns-in_err-put_reply-clause-part
 returns-in_err-put_reply-clause-part g c =
@@ -25,6 +26,8 @@ pub returns-clause-said : goal.returns-clause-said
 returns-clause-said g c = λ s at.
     let now = c.in_ok-answer.ensures.at s at in
     let text : c.bytes.result.now ≡ text_of (reply_to s c.args.item) = c.bytes.ensures ∙ c.in_ok-answer.ensures.text s at in
-    let says = subst (λ (l : List ℕ). Goes (Says l) (g.W.Disk.told (world_of c.answer_item.new.session)) (g.W.Disk.told (world_of c.put_reply.new.session))) text c.in_ok-put_reply.ensures.said in
+    let says =
+    subst (λ (l : List ℕ). Goes (Says l) (g.W.Disk.told (world_of c.answer_item.new.session)) (g.W.Disk.told (world_of c.put_reply.new.session)))
+    text c.in_ok-put_reply.ensures.said in
     answers_put s c.args.item _ (text_of (reply_to s c.args.item)) _ _ _ (c.answer_item.ensures.applies s at)
     (leaves_told c.answer_item.new.session (state_then s c.args.item) now) says c.put_reply.ensures.text

@@ -12,4 +12,5 @@ pub returns : goal.returns
 returns c =
     let ws = map (λ w. w.now) c.args.words.now in
     let is = c.in_ok-reader.ensures in
-    not_taken _ ws c.in-Err.error is (texts_are c.args.words.now c.are_texts.ensures) (c.in-Err.ensures.kinds (free_and_simple _ is)) (λ e. c.in_default.not-OutOfMemory (c.kind.ensures ∙ e))
+    not_taken _ ws c.in-Err.error is (texts_are c.args.words.now c.are_texts.ensures) (c.in-Err.ensures.kinds (free_and_simple _ is))
+    (λ e. c.in_default.not-OutOfMemory (c.kind.ensures ∙ e))

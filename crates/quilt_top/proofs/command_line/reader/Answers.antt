@@ -15,7 +15,8 @@ returns c =
     let second : rule_of c.new-second.result ≡ placed (codes "second") false = search rules in
     let pool : rule_of c.long-pool.result ≡ pool_option = search rules in
     let start : app_of c.disable_help_flag.result ≡ bare =
-    ap app_of_fields c.disable_help_flag.ensures ∙ ap (λ (f : Command-F Command). app_of_fields (record f { disable_help_flag = true })) c.no_binary_name.ensures
+    ap app_of_fields c.disable_help_flag.ensures
+    ∙ ap (λ (f : Command-F Command). app_of_fields (record f { disable_help_flag = true })) c.no_binary_name.ensures
     ∙ ap (λ (app : App). record app { top = record app.top { no_binary_name = true; disable_help_flag = true } }) c.new-4.ensures.app in
     let one = c.in_ok-arg.ensures.shape (search rules) ∙ ap₂ with_rule start mode in
     let two = c.in_ok-arg-2.ensures.shape (search rules) ∙ ap₂ with_rule one file in

@@ -9,7 +9,8 @@ use Rattle.quilt_top.proofs.file_run.run_file.Goals as goal
 
 pub returns-in_default-clause-promises : goal.returns-in_default-clause-promises
 returns-in_default-clause-promises g c =
-    attach_failed c.args.file.source c.args.file.path.now c.args.file.pool _ _ _ c.attach.result _ _ c.attach.ensures.door c.in_default.not-Ok c.attach.ensures.tale
+    attach_failed c.args.file.source c.args.file.path.now c.args.file.pool _ _ _ c.attach.result _ _ c.attach.ensures.door
+    c.in_default.not-Ok c.attach.ensures.tale
 
 pub returns-in-Missing-clause-promises : goal.returns-in-Missing-clause-promises
 returns-in-Missing-clause-promises g c =
@@ -22,7 +23,8 @@ returns-in-Input-clause-promises g c =
     let rose = Rose (g.W.Disk.faults c.args.world) (g.W.Disk.faults c.run_session.result.1) in
     let now = g.W.Disk.door c.run_session.result.1 in
     let end = c.run_session.result.0 in
-    subst (λ (source : Source). WhereTold (Promise source c.args.file.path.now c.args.file.pool rose now end) (g.W.Disk.told c.args.world) (g.W.Disk.told c.run_session.result.1)) (sym c.in-Input.is)
+    subst (λ (source : Source). WhereTold (Promise source c.args.file.path.now c.args.file.pool rose now end) (g.W.Disk.told c.args.world)
+    (g.W.Disk.told c.run_session.result.1)) (sym c.in-Input.is)
     (ran c.args.file.path.now c.args.file.pool rose _ now ready (c.run_session.ensures.door ∙ c.in-Map.ensures.door) c.in-Map.session end _ _ _ _
     (λ e. let risen = c.run_session.ensures.device e in omega (arith, c.attach.ensures.cause.later, c.in-Map.ensures.later, risen))
     c.run_session.ensures.sound c.attach.ensures.tale c.in-Map.ensures.keeps c.in-Map.ensures.finds c.run_session.ensures.runs)
@@ -33,7 +35,8 @@ returns-in-Trial-clause-promises g c =
     let rose = Rose (g.W.Disk.faults c.args.world) (g.W.Disk.faults c.try_session.result.1) in
     let now = g.W.Disk.door c.try_session.result.1 in
     let end = c.try_session.result.0 in
-    subst (λ (source : Source). WhereTold (Promise source c.args.file.path.now c.args.file.pool rose now end) (g.W.Disk.told c.args.world) (g.W.Disk.told c.try_session.result.1)) (sym c.in-Trial.is)
+    subst (λ (source : Source). WhereTold (Promise source c.args.file.path.now c.args.file.pool rose now end) (g.W.Disk.told c.args.world)
+    (g.W.Disk.told c.try_session.result.1)) (sym c.in-Trial.is)
     (tried c.args.file.path.now c.args.file.pool rose _ now ready (c.try_session.ensures.door ∙ c.in-Map.ensures.door) c.in-Map.session _ _ end _ _ _ _
     (λ e. let risen = c.try_session.ensures.device e in omega (arith, c.attach.ensures.cause.later, c.in-Map.ensures.later, risen))
     c.try_session.ensures.short c.try_session.ensures.sound c.attach.ensures.tale c.in-Map.ensures.keeps c.in-Map.ensures.finds c.try_session.ensures.tries)
@@ -41,13 +44,16 @@ returns-in-Trial-clause-promises g c =
 pub returns-in-NotMap-clause-promises : goal.returns-in-NotMap-clause-promises
 returns-in-NotMap-clause-promises g c =
     let ready = c.in-Ok.ensures.door ∙ ap (λ a. attached (Ok a)) c.in-Ready.is in
-    found_no_map c.args.file.source c.args.file.path.now c.args.file.pool _ _ _ ready c.in-NotMap.ensures.door _ _ _ c.attach.ensures.tale c.in-NotMap.ensures.keeps c.in-NotMap.ensures.finds
+    found_no_map c.args.file.source c.args.file.path.now c.args.file.pool _ _ _ ready c.in-NotMap.ensures.door _ _ _ c.attach.ensures.tale
+    c.in-NotMap.ensures.keeps c.in-NotMap.ensures.finds
 
 pub returns-in-Stopped-clause-promises : goal.returns-in-Stopped-clause-promises
 returns-in-Stopped-clause-promises g c =
     let ready = c.in-Ok.ensures.door ∙ ap (λ a. attached (Ok a)) c.in-Ready.is in
     let rose = Rose (g.W.Disk.faults c.args.world) (g.W.Disk.faults c.in-Stopped.world) in
     let now = g.W.Disk.door c.in-Stopped.world in
-    subst (λ (e : End). WhereTold (Promise c.args.file.source c.args.file.path.now c.args.file.pool rose now e) (g.W.Disk.told c.args.world) (g.W.Disk.told c.in-Stopped.world)) (sym c.of_stop.ensures)
+    subst (λ (e : End). WhereTold (Promise c.args.file.source c.args.file.path.now c.args.file.pool rose now e) (g.W.Disk.told c.args.world)
+    (g.W.Disk.told c.in-Stopped.world)) (sym c.of_stop.ensures)
     (open_stopped c.args.file.source c.args.file.path.now c.args.file.pool rose _ now ready c.in-Stopped.ensures.door c.in-Stopped.stop _ _ _
-    (λ e. let risen = c.in-Stopped.ensures.cause e in omega (arith, c.attach.ensures.cause.later, risen)) c.attach.ensures.tale c.in-Stopped.ensures.keeps c.in-Stopped.ensures.finds)
+    (λ e. let risen = c.in-Stopped.ensures.cause e in omega (arith, c.attach.ensures.cause.later, risen))
+    c.attach.ensures.tale c.in-Stopped.ensures.keeps c.in-Stopped.ensures.finds)

@@ -23,5 +23,6 @@ returns-clause-sound g c = λ s at.
 pub returns-clause-tries : goal.returns-clause-tries
 returns-clause-tries g c = λ s at.
     rw (c.end_of-end.ensures, c.into_world.ensures)
-    (tries_goes (level_of c.args.session) (trial_run (level_of c.args.session) s c.args.seed c.args.count) c.run_trial.result _ _ (c.run_trial.ensures.front s at)
+    (tries_goes (level_of c.args.session) (trial_run (level_of c.args.session) s c.args.seed c.args.count) c.run_trial.result _ _
+    (c.run_trial.ensures.front s at)
     (ok_at (IsAt c.args.session) s at c.run_trial.result _ c.run_trial.ensures.whole))

@@ -36,7 +36,8 @@ returns-in_default-put_all-clause-promises g c =
 pub returns-clause-promises : goal.returns-clause-promises
 returns-clause-promises g c =
     let is = c.in-Ok.ensures.door ∙ ap (λ m. made (Ok m)) c.in-Ready.is in
-    let says = subst (λ (line : List ℕ). Goes (Says line) (g.W.Disk.told c.create.new.disk) (g.W.Disk.told c.put_all.new.world)) c.requires.line c.in-Ok-put_all.ensures.said in
+    let says = subst (λ (line : List ℕ). Goes (Says line) (g.W.Disk.told c.create.new.disk) (g.W.Disk.told c.put_all.new.world))
+    c.requires.line c.in-Ok-put_all.ensures.said in
     let both = goes_and (Says (new_line c.args.pages c.args.level)) (AddsOnly is_of_text) _ _ says c.put_all.ensures.text in
     all_done c.args.path.now c.args.pages c.args.level _ is _ _ _ (c.put_all.ensures.door ∙ c.create.ensures.door) _ _ _ _
     c.make.ensures.tale c.create.ensures.crash c.in-Ok-create.ensures.created both (g.met.W.Disk.is_consistent c.put_all.new.world)

@@ -25,18 +25,21 @@ survey_book-requires-clause-pages g c = λ t is.
     let book = c.in-Ready.book in
     let kept = subst (λ (o : Option Tale). IsKeptBy book.journal (entries_of book.pool) book.last o) is book.kept in
     subst (λ (o : Option Tale). told_pages book.journal (entries_of book.pool) o ≡ Some (published t book.journal.pages)) (sym is)
-    (told_fresh book.journal (entries_of book.pool) book.last t c.in-Ready.ensures.fresh.0 (ap (λ (x : LruCache ℕ Frame). x.entries) c.in-Ready.ensures.fresh.4) c.in-Ready.ensures.fresh.2 kept)
+    (told_fresh book.journal (entries_of book.pool) book.last t c.in-Ready.ensures.fresh.0
+    (ap (λ (x : LruCache ℕ Frame). x.entries) c.in-Ready.ensures.fresh.4) c.in-Ready.ensures.fresh.2 kept)
 
 pub returns-in-Ready-clause-keeps : goal.returns-in-Ready-clause-keeps
 returns-in-Ready-clause-keeps g c =
     let book = c.in-Ready.book in
-    book_keeps book.journal (entries_of book.pool) book.last c.in-Ready.ensures.fresh.0 _ _ _ _ _ c.requires.new (g.met.W.Disk.is_consistent c.args.world) (g.met.W.Disk.is_consistent book.world) book.kept
+    book_keeps book.journal (entries_of book.pool) book.last c.in-Ready.ensures.fresh.0 _ _ _ _ _ c.requires.new
+    (g.met.W.Disk.is_consistent c.args.world) (g.met.W.Disk.is_consistent book.world) book.kept
     c.in-Ready.ensures.crash c.in-Ready.ensures.cause c.survey_book.ensures.tale
 
 pub returns-in-Ready-clause-finds : goal.returns-in-Ready-clause-finds
 returns-in-Ready-clause-finds g c =
     let book = c.in-Ready.book in
-    book_finds book.journal (entries_of book.pool) book.last c.in-Ready.ensures.fresh.0 c.survey_book.result _ _ _ c.requires.new (g.met.W.Disk.is_consistent c.args.world) c.in-Ready.ensures.cause c.survey_book.ensures.holds
+    book_finds book.journal (entries_of book.pool) book.last c.in-Ready.ensures.fresh.0 c.survey_book.result _ _ _ c.requires.new
+    (g.met.W.Disk.is_consistent c.args.world) c.in-Ready.ensures.cause c.survey_book.ensures.holds
 
 pub returns-in-NotMap-clause-keeps : goal.returns-in-NotMap-clause-keeps
 returns-in-NotMap-clause-keeps g c = goes_begun _ _ _ c.requires.new (g.met.W.Disk.is_consistent c.args.world) c.in-NotMap.ensures.crash

@@ -17,7 +17,8 @@ new-requires-clause-numbered g c = is_numbered _ _ c.entries.ensures.is c.in-Ok.
 
 pub returns-in-Ok-clause-later : goal.returns-in-Ok-clause-later
 returns-in-Ok-clause-later g c =
-    subst (λ (w : _). g.W.Disk.faults (books.world_of c.args.book) ≤ g.W.Disk.faults w) (sym (c.new.ensures.world ∙ c.set_used.ensures.world)) c.audit.ensures.cause.later
+    subst (λ (w : _). g.W.Disk.faults (books.world_of c.args.book) ≤ g.W.Disk.faults w) (sym (c.new.ensures.world ∙ c.set_used.ensures.world))
+    c.audit.ensures.cause.later
 
 pub returns-in-Ok-clause-tale : goal.returns-in-Ok-clause-tale
 returns-in-Ok-clause-tale g c =
@@ -30,7 +31,8 @@ returns-in-Ok-clause-holds g c =
     let n = books.pages_of c.args.book in
     let tale = later_on n _ _ _ _ c.audit.ensures.later.0 c.audit.ensures.later.4 c.set_used.ensures.goes_on.4 in
     map_holds c.args.book c.set_used.new.self c.new.result c.in-Ok.survey.catalog c.in-Ok.survey.used _ _ c.requires.ready
-    (c.set_used.ensures.goes_on.0 ∙ c.audit.ensures.later.0) (c.set_used.ensures.goes_on.1 ∙ c.audit.ensures.later.1) (c.set_used.ensures.goes_on.2 ∙ c.audit.ensures.later.2.0)
+    (c.set_used.ensures.goes_on.0 ∙ c.audit.ensures.later.0) (c.set_used.ensures.goes_on.1 ∙ c.audit.ensures.later.1)
+    (c.set_used.ensures.goes_on.2 ∙ c.audit.ensures.later.2.0)
     (λ q. c.set_used.ensures.used q ∙ ap (λ m. is_left_out m c.in-Ok.survey.used q) c.audit.ensures.later.0)
     (c.set_used.ensures.told ∙ c.audit.ensures.told) tale
     (g.met.W.Disk.is_consistent (books.world_of c.args.book)) (g.met.W.Disk.is_consistent (books.world_of c.set_used.new.self))
@@ -42,5 +44,6 @@ returns-in-Err-clause-holds g c =
     let Is = λ (t : Tale). (page : ℕ) → c.in-Err.stop ≡ stops.Damaged page → IsDamage (published t n) (books.last_of c.args.book) page in
     let each : (t : Tale) → g.W.Disk.told (books.world_of c.args.book) ≡ Some t → Is t = λ t now page is.
     subst (λ (h : Head). IsDamage (published t n) h page) (c.head-head.ensures.work ∙ c.requires.heads)
-    (on_damaged (λ p. (told : Pages) → told_of c.args.book ≡ Some told → IsDamage told c.head-head.result p) c.in-Err.stop c.in-Err.ensures.damaged page is (published t n) (c.requires.pages t now)) in
+    (on_damaged (λ p. (told : Pages) → told_of c.args.book ≡ Some told → IsDamage told c.head-head.result p) c.in-Err.stop c.in-Err.ensures.damaged
+    page is (published t n) (c.requires.pages t now)) in
     when_told Is (g.W.Disk.told (books.world_of c.args.book)) each

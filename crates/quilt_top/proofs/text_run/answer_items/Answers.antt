@@ -27,7 +27,8 @@ items-init g c = record {
 
 pub returns-in_err-item-clause-stopped : goal.returns-in_err-item-clause-stopped
 returns-in_err-item-clause-stopped g c =
-    on_err_all {S = State} _ _ _ (λ s at. stopped_now _ _ _ _ _ _ (at_level c.args.session.now s at ∙ c.requires.level) _ _ _ _ _ _ (c.items.invariant.done s at).2)
+    on_err_all {S = State} _ _ _
+    (λ s at. stopped_now _ _ _ _ _ _ (at_level c.args.session.now s at ∙ c.requires.level) _ _ _ _ _ _ (c.items.invariant.done s at).2)
 
 pub returns-in_err-all_done-clause-stopped : goal.returns-in_err-all_done-clause-stopped
 returns-in_err-all_done-clause-stopped g c =
@@ -35,8 +36,11 @@ returns-in_err-all_done-clause-stopped g c =
     on_err_all {S = State} _ _ _ (λ s at.
     let so = c.items.invariant.done s at in
     let held_ : c.in-Some.item ≡ held_at so.0 given.group =
-    held_is _ _ so.0 given.group c.in-Some.item given.is (c.head.ensures.format so.0 so.1) (at_level c.items.session so.0 so.1 ∙ c.items.invariant.same ∙ c.requires.level) in
-    let part = subst (λ (i : Item). Goes (AnswersFront so.0 i (changes_of c.items.session)) (g.W.Disk.told (world_of c.items.session)) (g.W.Disk.told (world_of c.put_answer.new.session)))
+    held_is _ _ so.0 given.group c.in-Some.item given.is (c.head.ensures.format so.0 so.1)
+    (at_level c.items.session so.0 so.1 ∙ c.items.invariant.same ∙ c.requires.level) in
+    let part =
+    subst (λ (i : Item). Goes (AnswersFront so.0 i (changes_of c.items.session)) (g.W.Disk.told (world_of c.items.session))
+    (g.W.Disk.told (world_of c.put_answer.new.session)))
     held_ (c.in_err-all_done.ensures.part so.0 so.1) in
     stopped_part _ _ _ _ _ _ (at_level c.args.session.now s at ∙ c.requires.level) _ _ _ _ _ _ _ _ _ so.2 given.gives part)
 
@@ -56,8 +60,11 @@ items-preserved g c =
       done = λ s at.
           let so = c.items.invariant.done s at in
           let held_ : c.in-Some.item ≡ held_at so.0 given.group =
-          held_is _ _ so.0 given.group c.in-Some.item given.is (c.head.ensures.format so.0 so.1) (at_level c.items.session so.0 so.1 ∙ c.items.invariant.same ∙ c.requires.level) in
-          let said = subst (λ (i : Item). Goes (Answers so.0 i (changes_of c.items.session) (text_of (reply_to so.0 i))) (g.W.Disk.told (world_of c.items.session)) (g.W.Disk.told (world_of c.put_answer.new.session)))
+          held_is _ _ so.0 given.group c.in-Some.item given.is (c.head.ensures.format so.0 so.1)
+          (at_level c.items.session so.0 so.1 ∙ c.items.invariant.same ∙ c.requires.level) in
+          let said =
+          subst (λ (i : Item). Goes (Answers so.0 i (changes_of c.items.session) (text_of (reply_to so.0 i)))
+          (g.W.Disk.told (world_of c.items.session)) (g.W.Disk.told (world_of c.put_answer.new.session)))
           held_ (c.in_ok-all_done.ensures.said so.0 so.1) in (
             state_then so.0 c.in-Some.item,
             c.in_ok-all_done.ensures.at so.0 so.1,
@@ -76,5 +83,6 @@ returns-clause-answered g c =
 pub returns-in_err-all_done-clause-damaged : goal.returns-in_err-all_done-clause-damaged
 returns-in_err-all_done-clause-damaged g c =
     let Sound = λ (e : Halt). (page : ℕ) → e ≡ halts.Stopped (stops.Damaged page) → (s : State) → IsAt c.args.session.now s → ⊥ in
-    let here : Sound c.in_err-all_done.field-0.0 = λ page is s at. let so = c.items.invariant.done s at in c.in_err-all_done.ensures.damaged page is so.0 so.1 in
+    let here : Sound c.in_err-all_done.field-0.0 = λ page is s at. let so = c.items.invariant.done s at in
+    c.in_err-all_done.ensures.damaged page is so.0 so.1 in
     err_from _ c.in_err-all_done.field-0.0 _ Sound c.from_residual-in_err-all_done.ensures.1 (λ e is. is) here

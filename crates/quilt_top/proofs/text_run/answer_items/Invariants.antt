@@ -11,7 +11,8 @@ invariant-items g l = record {
   faults : g.W.Disk.faults (world_of l.initial.session) ≤ g.W.Disk.faults (world_of l.session);
   level : l.lines.level ≡ l.initial.lines.level;
   same : level_of l.session ≡ level_of l.initial.session;
-  done : (s : State) → IsAt l.initial.session s → (now : State) × IsAt l.session now × Answered l.ended l.initial.lines.level l.so_far l.all_done s now (changes_of l.initial.session) (changes_of l.session)
+  done : (s : State) → IsAt l.initial.session s → (now : State) × IsAt l.session now
+      × Answered l.ended l.initial.lines.level l.so_far l.all_done s now (changes_of l.initial.session) (changes_of l.session)
       l.initial.lines.rest l.lines.rest (g.W.Disk.told (world_of l.initial.session)) (g.W.Disk.told (world_of l.session));
 }
 

@@ -12,7 +12,8 @@ use Rattle.quilt_replies.specs.Answers.{State}
 use Rattle.quilt_top.specs.TextRun.{IsUntold, Overruns}
 use Rattle.quilt_top.proofs.Applying.{leaves_told, seen_told}
 use Rattle.quilt_top.proofs.Said.{either_way, if_err_const, if_ok_both, ok_at, err_at, err_from}
-use Rattle.quilt_top.proofs.Runs.{reading_first, runs_quiet, goes_took, goes_fed, goes_counted, ended_counted, goes_runs, goes_past, goes_stopped, goes_stopped_end, goes_ended, runs_answered, reading_answered, goes_left, goes_right}
+use Rattle.quilt_top.proofs.Runs.{reading_first, runs_quiet, goes_took, goes_fed, goes_counted, ended_counted, goes_runs, goes_past, goes_stopped}
+use Rattle.quilt_top.proofs.Runs.{goes_stopped_end, goes_ended, runs_answered, reading_answered, goes_left, goes_right}
 use Rattle.quilt_map.proofs.TextLaws.{whole_empty}
 use Rattle.quilt_map.proofs.Laws.{at_level}
 use Rattle.quilt_top.proofs.text_run.run_text.Goals as goal
@@ -26,15 +27,20 @@ pieces-init g c = record {
   same = search rules;
   none = rw c.new-lines.ensures.empty (whole_empty _);
   tale = λ s at.
-      let both = if_some_and IsUntold (λ t. LeavesNow t (λ image. Stands image s.last)) (λ t. IsUntold t × LeavesNow t (λ image. Stands image s.last)) (g.W.Disk.told (world_of c.args.session.now)) c.requires.untold (leaves_told c.args.session.now s at) (λ t a b. (a, b)) in (
+      let both = if_some_and IsUntold (λ t. LeavesNow t (λ image. Stands image s.last))
+      (λ t. IsUntold t × LeavesNow t (λ image. Stands image s.last)) (g.W.Disk.told (world_of c.args.session.now)) c.requires.untold
+      (leaves_told c.args.session.now s at) (λ t a b. (a, b)) in (
         s,
         at,
-        rw c.new-lines.ensures.empty (goes_first (λ t. IsUntold t × LeavesNow t (λ image. Stands image s.last)) _ _ both (λ t is so. reading_first _ _ (at_level c.args.session.now s at) _ t c.requires.unchanged so.0 so.1)),
+        rw c.new-lines.ensures.empty
+            (goes_first (λ t. IsUntold t × LeavesNow t (λ image. Stands image s.last)) _ _ both
+            (λ t is so. reading_first _ _ (at_level c.args.session.now s at) _ t c.requires.unchanged so.0 so.1)),
       );
 }
 
 pub returns-in_err-n-clause-runs : goal.returns-in_err-n-clause-runs
-returns-in_err-n-clause-runs g c = λ s at. runs_quiet _ _ (at_level c.args.session.now s at) _ _ _ _ _ _ _ _ (omega arith) (c.pieces.invariant.tale s at).2 c.in_err-n.ensures.nothing
+returns-in_err-n-clause-runs g c =
+    λ s at. runs_quiet _ _ (at_level c.args.session.now s at) _ _ _ _ _ _ _ _ (omega arith) (c.pieces.invariant.tale s at).2 c.in_err-n.ensures.nothing
 
 pub returns-in_err-total-clause-runs : goal.returns-in_err-total-clause-runs
 returns-in_err-total-clause-runs g c = λ s at.
@@ -42,7 +48,8 @@ returns-in_err-total-clause-runs g c = λ s at.
     let into : List ℕ = c.take.new.into in
     let size : length (take n into) ≡ n = omega (arith, length-take n into, c.take.auto.into, c.in_ok-n.ensures.count) in
     let some : 0 < length (take n into) = omega (arith, size, c.if-n-eq0.false) in
-    let took = goes_took _ _ (at_level c.args.session.now s at) _ _ _ _ _ (c.pieces.total + n) (take n into) _ _ _ (omega (arith, size)) (c.pieces.invariant.tale s at).2 c.pieces.invariant.none some c.in_ok-n.ensures.took in
+    let took = goes_took _ _ (at_level c.args.session.now s at) _ _ _ _ _ (c.pieces.total + n) (take n into) _ _ _ (omega (arith, size))
+    (c.pieces.invariant.tale s at).2 c.pieces.invariant.none some c.in_ok-n.ensures.took in
     goes_runs _ _ (at_level c.args.session.now s at) _ _ _ _ _ _ _ (omega (arith, c.take.auto.into, c.in_ok-n.ensures.count)) took
 
 pub returns-in_err-total-clause-too_much : goal.returns-in_err-total-clause-too_much
@@ -51,8 +58,10 @@ returns-in_err-total-clause-too_much g c =
     let into : List ℕ = c.take.new.into in
     let size : length (take n into) ≡ n = omega (arith, length-take n into, c.take.auto.into, c.in_ok-n.ensures.count) in
     let some : 0 < length (take n into) = omega (arith, size, c.if-n-eq0.false) in
-    let over : (s : State) → IsAt c.args.session.now s → Goes (λ old new. Overruns new) (g.W.Disk.told (world_of c.args.session.now)) (g.W.Disk.told (world_of c.take.new.self)) = λ s at.
-    goes_past _ _ (at_level c.args.session.now s at) _ _ _ _ _ (c.pieces.total + n) (take n into) _ _ _ (omega (arith, size)) c.in_err-total.ensures.much (c.pieces.invariant.tale s at).2 c.pieces.invariant.none some c.in_ok-n.ensures.took in
+    let over : (s : State) → IsAt c.args.session.now s
+    → Goes (λ old new. Overruns new) (g.W.Disk.told (world_of c.args.session.now)) (g.W.Disk.told (world_of c.take.new.self)) = λ s at.
+    goes_past _ _ (at_level c.args.session.now s at) _ _ _ _ _ (c.pieces.total + n) (take n into) _ _ _
+    (omega (arith, size)) c.in_err-total.ensures.much (c.pieces.invariant.tale s at).2 c.pieces.invariant.none some c.in_ok-n.ensures.took in
     if_err_const _ _ _ over
 
 pub returns-in_err-feed-clause-runs : goal.returns-in_err-feed-clause-runs
@@ -61,7 +70,8 @@ returns-in_err-feed-clause-runs g c = λ s at.
     let into : List ℕ = c.take.new.into in
     let size : length (take n into) ≡ n = omega (arith, length-take n into, c.take.auto.into, c.in_ok-n.ensures.count) in
     let some : 0 < length (take n into) = omega (arith, size, c.if-n-eq0.false) in
-    let took = goes_took _ _ (at_level c.args.session.now s at) _ _ _ _ _ (c.pieces.total + n) (take n into) _ _ _ (omega (arith, size)) (c.pieces.invariant.tale s at).2 c.pieces.invariant.none some c.in_ok-n.ensures.took in
+    let took = goes_took _ _ (at_level c.args.session.now s at) _ _ _ _ _ (c.pieces.total + n) (take n into) _ _ _ (omega (arith, size))
+    (c.pieces.invariant.tale s at).2 c.pieces.invariant.none some c.in_ok-n.ensures.took in
     goes_runs _ _ (at_level c.args.session.now s at) _ _ _ _ _ _ _ (omega (arith, c.in_ok-total.ensures.few)) took
 
 pub returns-in_err-all_done-clause-runs : goal.returns-in_err-all_done-clause-runs
@@ -71,12 +81,14 @@ returns-in_err-all_done-clause-runs g c = λ s at.
     let into : List ℕ = c.take.new.into in
     let size : length (take n into) ≡ n = omega (arith, length-take n into, c.take.auto.into, c.in_ok-n.ensures.count) in
     let some : 0 < length (take n into) = omega (arith, size, c.if-n-eq0.false) in
-    let took = goes_took _ _ (at_level c.args.session.now s at) _ _ _ _ _ (c.pieces.total + n) (take n into) _ _ _ (omega (arith, size)) so.2 c.pieces.invariant.none some c.in_ok-n.ensures.took in
+    let took = goes_took _ _ (at_level c.args.session.now s at) _ _ _ _ _ (c.pieces.total + n) (take n into) _ _ _
+    (omega (arith, size)) so.2 c.pieces.invariant.none some c.in_ok-n.ensures.took in
     let fed = goes_fed _ _ (at_level c.args.session.now s at) _ _ _ _ _ _ _ _ took (rw c.pieces.invariant.level at c.in_ok-feed.ensures.fed) in
     let here = goes_counted _ _ (at_level c.args.session.now s at) _ _ _ _ _ _ _ _ c.take.ensures.changes fed in
     let level = c.in_ok-feed.ensures.level ∙ c.pieces.invariant.level in
     let stopped = rw level at c.in_err-all_done.ensures.stopped in
-    goes_stopped _ _ (at_level c.args.session.now s at) _ _ _ _ _ _ _ _ (omega (arith, c.in_ok-total.ensures.few)) here (stopped so.0 (c.take.ensures.at so.0 so.1))
+    goes_stopped _ _ (at_level c.args.session.now s at) _ _ _ _ _ _ _ _ (omega (arith, c.in_ok-total.ensures.few)) here
+    (stopped so.0 (c.take.ensures.at so.0 so.1))
 
 pub pieces-preserved : goal.pieces-preserved
 pieces-preserved g c =
@@ -95,7 +107,8 @@ pieces-preserved g c =
       none = rw level at c.in_ok-all_done.ensures.none;
       tale = λ s at.
           let so = c.pieces.invariant.tale s at in
-          let took = goes_took _ _ (at_level c.args.session.now s at) _ _ _ _ _ c.in_ok-total.total (take n into) _ _ _ (omega (arith, size, c.in_ok-total.ensures.few)) so.2 c.pieces.invariant.none some c.in_ok-n.ensures.took in
+          let took = goes_took _ _ (at_level c.args.session.now s at) _ _ _ _ _ c.in_ok-total.total (take n into) _ _ _
+          (omega (arith, size, c.in_ok-total.ensures.few)) so.2 c.pieces.invariant.none some c.in_ok-n.ensures.took in
           let fed = goes_fed _ _ (at_level c.args.session.now s at) _ _ _ _ _ _ _ _ took (rw c.pieces.invariant.level at c.in_ok-feed.ensures.fed) in
           let here = goes_counted _ _ (at_level c.args.session.now s at) _ _ _ _ _ _ _ _ c.take.ensures.changes fed in
           let next = answered so.0 (c.take.ensures.at so.0 so.1) in
@@ -111,8 +124,11 @@ returns-clause-runs g c = λ s at.
     let ok = rw c.pieces.invariant.level at c.answer_items-2.ensures.answered in
     let none = rw c.pieces.invariant.level at c.answer_items-2.ensures.none in
     let err = rw c.pieces.invariant.level at c.answer_items-2.ensures.stopped in
-    either_way c.answer_items-2.result _ _ _ (if_ok_both _ _ _ (ok_at (IsAt c.take.new.self) so.0 now _ _ ok) none) (err_at (IsAt c.take.new.self) so.0 now _ _ err)
-    (λ done all. goes_left _ _ _ _ (runs_answered _ _ (at_level c.args.session.now s at) _ _ _ _ _ _ _ _ _ _ _ _ c.pieces.invariant.few ended all.0.2 all.1 (seen_told c.answer_items-2.new.session all.0.0 all.0.1)))
+    either_way c.answer_items-2.result _ _ _ (if_ok_both _ _ _ (ok_at (IsAt c.take.new.self) so.0 now _ _ ok) none)
+    (err_at (IsAt c.take.new.self) so.0 now _ _ err)
+    (λ done all. goes_left _ _ _ _
+    (runs_answered _ _ (at_level c.args.session.now s at) _ _ _ _ _ _ _ _ _ _ _ _ c.pieces.invariant.few ended all.0.2 all.1
+    (seen_told c.answer_items-2.new.session all.0.0 all.0.1)))
     (λ stopped. goes_stopped_end _ _ (at_level c.args.session.now s at) _ _ _ _ _ _ _ _ (omega arith) ended stopped)
 
 pub returns-clause-whole : goal.returns-clause-whole
@@ -125,7 +141,8 @@ returns-clause-whole g c =
     let at_end = goes_ended _ _ (at_level c.args.session.now s at) _ _ _ _ _ _ _ _ so.2 (rw c.if-n-eq0.true at c.in_ok-n.ensures.took) in
     let ended = ended_counted _ _ (at_level c.args.session.now s at) _ _ _ _ _ _ _ _ c.take.ensures.changes at_end in
     let next = all.0 so.0 (c.take.ensures.at so.0 so.1) in
-    goes_right _ _ _ _ (runs_answered _ _ (at_level c.args.session.now s at) _ _ _ _ _ _ _ _ _ _ _ _ c.pieces.invariant.few ended next.2 all.1 (seen_told c.answer_items-2.new.session next.0 next.1))) (if_ok_both _ _ _ ok none)
+    goes_right _ _ _ _ (runs_answered _ _ (at_level c.args.session.now s at) _ _ _ _ _ _ _ _ _ _ _ _ c.pieces.invariant.few ended next.2 all.1
+    (seen_told c.answer_items-2.new.session next.0 next.1))) (if_ok_both _ _ _ ok none)
 
 -- ---- where a page is damaged
 

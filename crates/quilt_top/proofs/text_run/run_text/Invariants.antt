@@ -15,7 +15,8 @@ invariant-pieces g l = record {
   same : level_of l.session ≡ level_of l.initial.session;
   none : whole_items (level_of l.initial.session) l.lines.rest ≡ [];
   tale : (s : State) → IsAt l.initial.session s → (now : State) × IsAt l.session now
-      × Goes (Reading (level_of l.initial.session) l.total l.all_done s now (changes_of l.session) l.lines.rest) (g.W.Disk.told (world_of l.initial.session)) (g.W.Disk.told (world_of l.session));
+      × Goes (Reading (level_of l.initial.session) l.total l.all_done s now (changes_of l.session) l.lines.rest)
+      (g.W.Disk.told (world_of l.initial.session)) (g.W.Disk.told (world_of l.session));
 }
 
 abbrev pub decreases-pieces : goal.decreases-pieces

@@ -8,5 +8,6 @@ pub returns : goal.returns
 returns c =
     let done = c.args.tally.done in
     let refused = c.args.tally.refused in
-    IfOk-weaker c.format.result (λ text. string_bytes text ≡ summary_pieces done refused c.args.records c.args.edition) (λ text. string_bytes text ≡ summary_of done refused c.args.records c.args.edition)
+    IfOk-weaker c.format.result (λ text. string_bytes text ≡ summary_pieces done refused c.args.records c.args.edition)
+    (λ text. string_bytes text ≡ summary_of done refused c.args.records c.args.edition)
     (λ text is. is ∙ sym (summary_pieces_are done refused c.args.records c.args.edition)) c.format.ensures.ok

@@ -54,14 +54,18 @@ items-preserved g c =
           let so = c.items.invariant.tries s at in
           let level = at_level c.args.session.now s at ∙ c.requires.level in
           let held_ : c.in-Some.item ≡ held_at so.0 given.group =
-          held_is _ _ so.0 given.group c.in-Some.item given.is (c.head.ensures.format so.0 so.1) (at_level c.items.session so.0 so.1 ∙ c.items.invariant.same ∙ c.requires.level) in
-          let applies = subst (λ (i : Item). Goes (Applies so.0 i (changes_of c.items.session)) (g.W.Disk.told (world_of c.items.session)) (g.W.Disk.told (world_of c.try_item.new.session)))
+          held_is _ _ so.0 given.group c.in-Some.item given.is (c.head.ensures.format so.0 so.1)
+          (at_level c.items.session so.0 so.1 ∙ c.items.invariant.same ∙ c.requires.level) in
+          let applies =
+          subst (λ (i : Item). Goes (Applies so.0 i (changes_of c.items.session)) (g.W.Disk.told (world_of c.items.session))
+          (g.W.Disk.told (world_of c.try_item.new.session)))
           held_ (c.try_item.ensures.applies so.0 so.1) in
           let done = c.in_ok-is_done.ensures.done so.0 so.1 ∙ ap (λ (i : Item). is_done (reply_to so.0 i)) held_ in
           let left = items_of n (text_left c.next_item.new.self) in (
             state_then so.0 c.in-Some.item,
             c.in_ok-is_done.ensures.at so.0 so.1,
-            next_tried n (text_left c.args.items.now) s level _ so.0 c.items.tally so.2 given.group left given.rest _ _ (ap (λ (i : Item). state_then so.0 i) held_)
+            next_tried n (text_left c.args.items.now) s level _ so.0 c.items.tally so.2 given.group left given.rest _ _
+                (ap (λ (i : Item). state_then so.0 i) held_)
                 (c.with-tally.ensures.done ∙ ap (λ (b : Bool). c.items.tally.done + cond {A = ℕ} b 1 0) done),
             next_tries n (text_left c.args.items.now) s level _ so.0 c.items.tally so.2 given.group left given.rest _ _ _ _ so.3 applies,
           );
@@ -77,10 +81,14 @@ returns-in_err-is_done-clause-tries g c = λ s at.
     let so = c.items.invariant.tries s at in
     let level = at_level c.args.session.now s at ∙ c.requires.level in
     let held_ : c.in-Some.item ≡ held_at so.0 given.group =
-    held_is _ _ so.0 given.group c.in-Some.item given.is (c.head.ensures.format so.0 so.1) (at_level c.items.session so.0 so.1 ∙ c.items.invariant.same ∙ c.requires.level) in
-    let applies = subst (λ (i : Item). Goes (Applies so.0 i (changes_of c.items.session)) (g.W.Disk.told (world_of c.items.session)) (g.W.Disk.told (world_of c.try_item.new.session)))
+    held_is _ _ so.0 given.group c.in-Some.item given.is (c.head.ensures.format so.0 so.1)
+    (at_level c.items.session so.0 so.1 ∙ c.items.invariant.same ∙ c.requires.level) in
+    let applies =
+    subst (λ (i : Item). Goes (Applies so.0 i (changes_of c.items.session)) (g.W.Disk.told (world_of c.items.session))
+    (g.W.Disk.told (world_of c.try_item.new.session)))
     held_ (c.try_item.ensures.applies so.0 so.1) in
-    next_tries n (text_left c.args.items.now) s level _ so.0 c.items.tally so.2 given.group (items_of n (text_left c.next_item.new.self)) given.rest _ _ _ _ so.3 applies
+    next_tries n (text_left c.args.items.now) s level _ so.0 c.items.tally so.2 given.group (items_of n (text_left c.next_item.new.self))
+    given.rest _ _ _ _ so.3 applies
 
 pub returns-in_err-is_done-clause-damaged : goal.returns-in_err-is_done-clause-damaged
 returns-in_err-is_done-clause-damaged g c =

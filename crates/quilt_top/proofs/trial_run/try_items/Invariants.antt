@@ -13,10 +13,12 @@ invariant-items g l = record {
   faults : g.W.Disk.faults (world_of l.initial.session) ≤ g.W.Disk.faults (world_of l.session);
   level : l.items.lines.level ≡ l.initial.items.lines.level;
   same : level_of l.session ≡ level_of l.initial.session;
-  count : l.tally.done + l.tally.refused + length (items_of l.initial.items.lines.level (text_left l.items)) ≡ length (items_of l.initial.items.lines.level (text_left l.initial.items));
+  count : l.tally.done + l.tally.refused + length (items_of l.initial.items.lines.level (text_left l.items))
+      ≡ length (items_of l.initial.items.lines.level (text_left l.initial.items));
   tries : (s : State) → IsAt l.initial.session s → (now : State) × IsAt l.session now
       × Tried l.initial.items.lines.level (text_left l.initial.items) (items_of l.initial.items.lines.level (text_left l.items)) s now l.tally
-      × Goes (Tries (run_in s (items_of l.initial.items.lines.level (text_left l.initial.items)))) (g.W.Disk.told (world_of l.initial.session)) (g.W.Disk.told (world_of l.session));
+      × Goes (Tries (run_in s (items_of l.initial.items.lines.level (text_left l.initial.items)))) (g.W.Disk.told (world_of l.initial.session))
+      (g.W.Disk.told (world_of l.session));
 }
 
 abbrev pub decreases-items : goal.decreases-items

@@ -5,7 +5,8 @@ use Rattle.quilt_words.proofs.recolour.parse_pairs.Goals as goal
 
 pub returns-in_err-o-clause-is : goal.returns-in_err-o-clause-is
 returns-in_err-o-clause-is c =
-    let fact = so_far_err c.args.format (λ w. w.now) c.args.words.now 0 _ [] _ (omega (arith, c.requires.some)) (so_far_none c.args.format (λ w. w.now) c.args.words.now) c.in_err-o.ensures.is in
+    let fact = so_far_err c.args.format (λ w. w.now) c.args.words.now 0 _ [] _ (omega (arith, c.requires.some))
+    (so_far_none c.args.format (λ w. w.now) c.args.words.now) c.in_err-o.ensures.is in
     search (rules, fact)
 
 pub returns-in_err-o-2-clause-is : goal.returns-in_err-o-2-clause-is
@@ -20,6 +21,8 @@ loop-i-preserved c =
     record {
       number = grind (arith, common_steps);
       within = omega (arith, within);
-      is = rw c.push.ensures (so_far_pair c.args.format (λ w. w.now) c.args.words.now c.loop-i.i _ c.loop-i.pairs _ within c.loop-i.invariant.is c.in_ok-o-2.ensures.is);
+      is =
+          rw c.push.ensures (so_far_pair c.args.format (λ w. w.now) c.args.words.now c.loop-i.i _ c.loop-i.pairs _ within c.loop-i.invariant.is
+          c.in_ok-o-2.ensures.is);
       fits = grind (arith, common_steps);
     }

@@ -6,10 +6,12 @@ use Rattle.quilt_words.proofs.recolour.recolour_command.Goals as goal
 pub returns-in_err-pairs-clause-is : goal.returns-in_err-pairs-clause-is
 returns-in_err-pairs-clause-is c = λ more.
     let third = rw (behind 2 c.args.words.now) at c.in_err-pairs.ensures.is in
-    let fact = recolour_err c.args.format more (λ w. w.now) c.args.words.now _ _ _ _ (sym c.is_number_of_words.ensures ∙ c.if-not-is_number_of_words.false) c.in_ok-a.ensures.is c.in_ok-c.ensures.is third in
+    let fact = recolour_err c.args.format more (λ w. w.now) c.args.words.now _ _ _ _
+    (sym c.is_number_of_words.ensures ∙ c.if-not-is_number_of_words.false) c.in_ok-a.ensures.is c.in_ok-c.ensures.is third in
     search (rules, fact)
 
 pub returns-clause-is : goal.returns-clause-is
 returns-clause-is c = λ more.
     let third = rw (behind 2 c.args.words.now) at c.in_ok-pairs.ensures.is in
-    recolour_ok c.args.format more (λ w. w.now) c.args.words.now _ _ _ _ (sym c.is_number_of_words.ensures ∙ c.if-not-is_number_of_words.false) c.in_ok-a.ensures.is c.in_ok-c.ensures.is third
+    recolour_ok c.args.format more (λ w. w.now) c.args.words.now _ _ _ _ (sym c.is_number_of_words.ensures ∙ c.if-not-is_number_of_words.false)
+    c.in_ok-a.ensures.is c.in_ok-c.ensures.is third

@@ -3,4 +3,5 @@ use Rattle.quilt_words.proofs.Slices.{map_five}
 use Rattle.quilt_words.proofs.shapes.name_window.Goals as goal
 
 pub returns-clause-is : goal.returns-clause-is
-returns-clause-is c = rw (map_five (λ w. w.now) c.args.words.now (record { ref_ptr = (0, 0); now = [] }) c.in-len5.len_at_least c.in-len5.len_below) c.read_name_window.ensures.is
+returns-clause-is c =
+    rw (map_five (λ w. w.now) c.args.words.now (record { ref_ptr = (0, 0); now = [] }) c.in-len5.len_at_least c.in-len5.len_below) c.read_name_window.ensures.is

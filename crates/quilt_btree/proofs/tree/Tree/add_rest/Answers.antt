@@ -10,14 +10,16 @@ use Rattle.quilt_btree.proofs.tree.Tree.add_rest.Goals as goal
 pub returns-in_err-k-clause-sound : goal.returns-in_err-k-clause-sound
 returns-in_err-k-clause-sound g c =
     let p = err_from_is_err_and c.from_residual.result c.from_residual.ensures.1 in
-    rw (p.1, p.2) (loop_sound _ (g.S.PageStore.told c.args.store.now) (g.S.PageStore.told c.loop-k.store) c.args.self.now c.args.high.now c.args.from.now c.loop-k.next c.args.most c.args.records.now.items c.loop-k.records.items
+    rw (p.1, p.2) (loop_sound _ (g.S.PageStore.told c.args.store.now) (g.S.PageStore.told c.loop-k.store)
+    c.args.self.now c.args.high.now c.args.from.now c.loop-k.next c.args.most c.args.records.now.items c.loop-k.records.items
     c.loop-k.invariant.told c.loop-k.invariant.goes_on c.in_err-k.ensures.sound)
 
 pub loop-k-preserved : goal.loop-k-preserved
 loop-k-preserved g c =
     let adds = if_some c.in_ok-k.field-0 c.in-Some.k (vec_len c.loop-k.records < vec_len c.add_next.new.records) c.in-Some.is c.in_ok-k.ensures.adds in
     record {
-      goes_on = loop_goes_on c.in_ok-k.field-0 (g.S.PageStore.told c.args.store.now) (g.S.PageStore.told c.loop-k.store) c.args.self.now c.args.high.now c.args.from.now c.loop-k.next c.in-Some.k c.args.most c.args.records.now.items c.loop-k.records.items c.add_next.new.records.items
+      goes_on = loop_goes_on c.in_ok-k.field-0 (g.S.PageStore.told c.args.store.now) (g.S.PageStore.told c.loop-k.store) c.args.self.now
+          c.args.high.now c.args.from.now c.loop-k.next c.in-Some.k c.args.most c.args.records.now.items c.loop-k.records.items c.add_next.new.records.items
           c.loop-k.invariant.told c.in-Some.is c.loop-k.invariant.goes_on c.in_ok-k.ensures.goes_on;
       room = c.in_ok-k.ensures.room;
       within = λ low le old.
@@ -30,13 +32,15 @@ loop-k-preserved g c =
       told = c.in_ok-k.ensures.told ∙ c.loop-k.invariant.told;
       free = c.in_ok-k.ensures.free ∙ c.loop-k.invariant.free;
       later = g.met.S.PageStore.goes_on _ _ _ c.loop-k.invariant.later c.in_ok-k.ensures.later;
-      reads = loop_reads _ _ _ (vec_len c.args.records.now) (vec_len c.loop-k.records) (vec_len c.add_next.new.records) adds c.loop-k.invariant.reads c.in_ok-k.ensures.reads;
+      reads = loop_reads _ _ _ (vec_len c.args.records.now) (vec_len c.loop-k.records)
+          (vec_len c.add_next.new.records) adds c.loop-k.invariant.reads c.in_ok-k.ensures.reads;
       changed = let m = c.loop-k.invariant.changed in let n = c.in_ok-k.ensures.changed in omega arith;
     }
 
 pub returns-clause-rest : goal.returns-clause-rest
 returns-clause-rest g c =
-    loop_ends c.in_ok-k.field-0 (g.S.PageStore.told c.args.store.now) (g.S.PageStore.told c.loop-k.store) c.args.self.now c.args.high.now c.args.from.now c.loop-k.next c.args.most c.args.records.now.items c.loop-k.records.items c.add_next.new.records.items
+    loop_ends c.in_ok-k.field-0 (g.S.PageStore.told c.args.store.now) (g.S.PageStore.told c.loop-k.store)
+    c.args.self.now c.args.high.now c.args.from.now c.loop-k.next c.args.most c.args.records.now.items c.loop-k.records.items c.add_next.new.records.items
     c.loop-k.invariant.told (none_is c.in_ok-k.field-0 c.in_default.not-Some) c.loop-k.invariant.goes_on c.in_ok-k.ensures.ends
 
 pub returns-clause-within : goal.returns-clause-within
@@ -47,4 +51,5 @@ returns-clause-within g c = λ low le old.
 pub returns-in_err-k-clause-bad : goal.returns-in_err-k-clause-bad
 returns-in_err-k-clause-bad g c =
     let p = err_from_is_err_and c.from_residual.result c.from_residual.ensures.1 in
-    rw (p.1, p.2) (names_along (g.S.PageStore.told c.args.store.now) (g.S.PageStore.told c.loop-k.store) c.args.self.now.height c.args.self.now.root _ c.loop-k.invariant.told c.in_err-k.ensures.bad)
+    rw (p.1, p.2) (names_along (g.S.PageStore.told c.args.store.now) (g.S.PageStore.told c.loop-k.store) c.args.self.now.height c.args.self.now.root
+    _ c.loop-k.invariant.told c.in_err-k.ensures.bad)

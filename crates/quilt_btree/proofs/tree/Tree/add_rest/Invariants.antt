@@ -11,16 +11,20 @@ use Rattle.quilt_btree.proofs.tree.Tree.add_rest.Given as goal
 
 abbrev pub invariant-loop-k : goal.invariant-loop-k
 invariant-loop-k g l = record {
-  goes_on : (low : Key) (rs : List Record) → IsTree (g.S.PageStore.told l.initial.store) l.self rs → Before (g.S.PageStore.told l.initial.store) l.self low l.high l.most l.initial.next rs l.initial.records.items → Before (g.S.PageStore.told l.initial.store) l.self low l.high l.most l.next rs l.records.items;
+  goes_on : (low : Key) (rs : List Record) → IsTree (g.S.PageStore.told l.initial.store) l.self rs
+      → Before (g.S.PageStore.told l.initial.store) l.self low l.high l.most l.initial.next rs l.initial.records.items
+      → Before (g.S.PageStore.told l.initial.store) l.self low l.high l.most l.next rs l.records.items;
   room : vec_len l.records ≤ l.most;
-  within : (low : Key) → is_le (key_cmp low l.initial.next) ≡ true → list_all (is_from_to low l.high) l.initial.records.items ≡ true → (is_le (key_cmp low l.next) ≡ true) × (list_all (is_from_to low l.high) l.records.items ≡ true);
+  within : (low : Key) → is_le (key_cmp low l.initial.next) ≡ true → list_all (is_from_to low l.high) l.initial.records.items ≡ true
+      → (is_le (key_cmp low l.next) ≡ true) × (list_all (is_from_to low l.high) l.records.items ≡ true);
   more : vec_len l.initial.records ≤ vec_len l.records;
   faults : g.S.PageStore.faults l.initial.store ≤ g.S.PageStore.faults l.store;
   size : g.S.PageStore.size l.store ≡ g.S.PageStore.size l.initial.store;
   told : g.S.PageStore.told l.store ≡ g.S.PageStore.told l.initial.store;
   free : g.S.PageStore.free l.store ≡ g.S.PageStore.free l.initial.store;
   later : g.S.PageStore.later l.initial.store l.store;
-  reads : Tells (λ old new. new + 3 * vec_len l.initial.records ≤ old + 3 * vec_len l.records) (g.S.PageStore.reads l.initial.store) (g.S.PageStore.reads l.store);
+  reads : Tells (λ old new. new + 3 * vec_len l.initial.records ≤ old + 3 * vec_len l.records) (g.S.PageStore.reads l.initial.store)
+      (g.S.PageStore.reads l.store);
   changed : g.S.PageStore.changed l.store ≤ g.S.PageStore.changed l.initial.store;
 }
 

@@ -11,54 +11,75 @@ use Rattle.quilt_btree.proofs.Rests.{first_ends, first_fills, first_sound, first
 use Rattle.quilt_btree.proofs.tree.Tree.range.Goals as goal
 
 pub returns-then-self-eq0-clause-range : goal.returns-then-self-eq0-clause-range
-returns-then-self-eq0-clause-range g c = λ rs is. c.new-records.ensures.items ∙ no_range (g.S.PageStore.told c.args.store.now) c.args.self.now rs c.args.low.now c.args.high.now c.args.most c.if-self-eq0.true is
+returns-then-self-eq0-clause-range g c = λ rs is. c.new-records.ensures.items
+    ∙ no_range (g.S.PageStore.told c.args.store.now) c.args.self.now rs c.args.low.now c.args.high.now c.args.most c.if-self-eq0.true is
 
 pub returns-in-Err-clause-sound : goal.returns-in-Err-clause-sound
 returns-in-Err-clause-sound g c = sound_whole c.in-Err.e (g.S.PageStore.told c.args.store.now) c.args.self.now c.if-self-eq0.false c.in-Err.ensures.sound
 
 pub returns-then-len-most-clause-range : goal.returns-then-len-most-clause-range
-returns-then-len-most-clause-range g c = λ rs is. first_fills (g.S.PageStore.told c.args.store.now) c.args.self.now c.args.low.now c.args.high.now c.args.most (records_of c.leaf_at.new.bytes) c.add_leaf.new.records.items rs c.in-Ok.found.high (record {
-  some = c.if-self-eq0.false;
-  leads = c.in-Ok.ensures.leads;
-  cut = c.in-Ok.ensures.cut;
-  seen = (from_not_err c.add_leaf.result c.is_err.result c.is_err.ensures.value c.if-is_err.false c.add_leaf.ensures).0;
-  added = (from_not_err c.add_leaf.result c.is_err.result c.is_err.ensures.value c.if-is_err.false c.add_leaf.ensures).1 ∙ ap (λ (l : List Record). take c.args.most (l ++ filter (is_from_to c.args.low.now c.args.high.now) (from_not_err c.add_leaf.result c.is_err.result c.is_err.ensures.value c.if-is_err.false c.add_leaf.ensures).0)) c.new-records.ensures.items;
-  same = λ rs s. (from_not_err c.add_leaf.result c.is_err.result c.is_err.ensures.value c.if-is_err.false c.add_leaf.ensures).2 (records_of c.leaf_at.new.bytes) (c.in-Ok.ensures.leaf rs s);
-}) is
+returns-then-len-most-clause-range g c = λ rs is. first_fills (g.S.PageStore.told c.args.store.now) c.args.self.now c.args.low.now c.args.high.now
+    c.args.most (records_of c.leaf_at.new.bytes) c.add_leaf.new.records.items rs c.in-Ok.found.high (record {
+      some = c.if-self-eq0.false;
+      leads = c.in-Ok.ensures.leads;
+      cut = c.in-Ok.ensures.cut;
+      seen = (from_not_err c.add_leaf.result c.is_err.result c.is_err.ensures.value c.if-is_err.false c.add_leaf.ensures).0;
+      added = (from_not_err c.add_leaf.result c.is_err.result c.is_err.ensures.value c.if-is_err.false c.add_leaf.ensures).1
+          ∙ ap (λ (l : List Record).
+          take c.args.most (l ++ filter (is_from_to c.args.low.now c.args.high.now)
+          (from_not_err c.add_leaf.result c.is_err.result c.is_err.ensures.value c.if-is_err.false c.add_leaf.ensures).0)) c.new-records.ensures.items;
+      same = λ rs s. (from_not_err c.add_leaf.result c.is_err.result c.is_err.ensures.value c.if-is_err.false c.add_leaf.ensures).2
+          (records_of c.leaf_at.new.bytes) (c.in-Ok.ensures.leaf rs s);
+    }) is
     (let e = c.len.ensures in let t = c.if-len-most.true in omega (arith, c.add_leaf.new.records.ok.0))
 
 pub returns-in-None-clause-range : goal.returns-in-None-clause-range
-returns-in-None-clause-range g c = λ rs is. first_ends (g.S.PageStore.told c.args.store.now) c.args.self.now c.args.low.now c.args.high.now c.args.most (records_of c.leaf_at.new.bytes) c.add_leaf.new.records.items rs c.in-Ok.found.high (record {
-  some = c.if-self-eq0.false;
-  leads = c.in-Ok.ensures.leads;
-  cut = c.in-Ok.ensures.cut;
-  seen = (from_not_err c.add_leaf.result c.is_err.result c.is_err.ensures.value c.if-is_err.false c.add_leaf.ensures).0;
-  added = (from_not_err c.add_leaf.result c.is_err.result c.is_err.ensures.value c.if-is_err.false c.add_leaf.ensures).1 ∙ ap (λ (l : List Record). take c.args.most (l ++ filter (is_from_to c.args.low.now c.args.high.now) (from_not_err c.add_leaf.result c.is_err.result c.is_err.ensures.value c.if-is_err.false c.add_leaf.ensures).0)) c.new-records.ensures.items;
-  same = λ rs s. (from_not_err c.add_leaf.result c.is_err.result c.is_err.ensures.value c.if-is_err.false c.add_leaf.ensures).2 (records_of c.leaf_at.new.bytes) (c.in-Ok.ensures.leaf rs s);
-}) is c.in-None.ensures
+returns-in-None-clause-range g c = λ rs is. first_ends (g.S.PageStore.told c.args.store.now) c.args.self.now c.args.low.now c.args.high.now
+    c.args.most (records_of c.leaf_at.new.bytes) c.add_leaf.new.records.items rs c.in-Ok.found.high (record {
+      some = c.if-self-eq0.false;
+      leads = c.in-Ok.ensures.leads;
+      cut = c.in-Ok.ensures.cut;
+      seen = (from_not_err c.add_leaf.result c.is_err.result c.is_err.ensures.value c.if-is_err.false c.add_leaf.ensures).0;
+      added = (from_not_err c.add_leaf.result c.is_err.result c.is_err.ensures.value c.if-is_err.false c.add_leaf.ensures).1
+          ∙ ap (λ (l : List Record).
+          take c.args.most (l ++ filter (is_from_to c.args.low.now c.args.high.now)
+          (from_not_err c.add_leaf.result c.is_err.result c.is_err.ensures.value c.if-is_err.false c.add_leaf.ensures).0)) c.new-records.ensures.items;
+      same = λ rs s. (from_not_err c.add_leaf.result c.is_err.result c.is_err.ensures.value c.if-is_err.false c.add_leaf.ensures).2
+          (records_of c.leaf_at.new.bytes) (c.in-Ok.ensures.leaf rs s);
+    }) is c.in-None.ensures
 
 pub returns-in-Err-add_rest-clause-sound : goal.returns-in-Err-add_rest-clause-sound
 returns-in-Err-add_rest-clause-sound g c =
-    first_sound (g.S.PageStore.told c.args.store.now) (g.S.PageStore.told c.leaf_at.new.store) c.args.self.now c.args.low.now c.args.high.now c.in-Some.next c.args.most (records_of c.leaf_at.new.bytes) c.add_leaf.new.records.items c.in-Ok.found.high c.in-Err-add_rest.e
+    first_sound (g.S.PageStore.told c.args.store.now) (g.S.PageStore.told c.leaf_at.new.store) c.args.self.now c.args.low.now c.args.high.now
+    c.in-Some.next c.args.most (records_of c.leaf_at.new.bytes) c.add_leaf.new.records.items c.in-Ok.found.high c.in-Err-add_rest.e
     c.in-Ok.ensures.told (record {
       some = c.if-self-eq0.false;
       leads = c.in-Ok.ensures.leads;
       cut = c.in-Ok.ensures.cut;
       seen = (from_not_err c.add_leaf.result c.is_err.result c.is_err.ensures.value c.if-is_err.false c.add_leaf.ensures).0;
-      added = (from_not_err c.add_leaf.result c.is_err.result c.is_err.ensures.value c.if-is_err.false c.add_leaf.ensures).1 ∙ ap (λ (l : List Record). take c.args.most (l ++ filter (is_from_to c.args.low.now c.args.high.now) (from_not_err c.add_leaf.result c.is_err.result c.is_err.ensures.value c.if-is_err.false c.add_leaf.ensures).0)) c.new-records.ensures.items;
-      same = λ rs s. (from_not_err c.add_leaf.result c.is_err.result c.is_err.ensures.value c.if-is_err.false c.add_leaf.ensures).2 (records_of c.leaf_at.new.bytes) (c.in-Ok.ensures.leaf rs s);
+      added = (from_not_err c.add_leaf.result c.is_err.result c.is_err.ensures.value c.if-is_err.false c.add_leaf.ensures).1
+          ∙ ap (λ (l : List Record).
+          take c.args.most (l ++ filter (is_from_to c.args.low.now c.args.high.now)
+          (from_not_err c.add_leaf.result c.is_err.result c.is_err.ensures.value c.if-is_err.false c.add_leaf.ensures).0)) c.new-records.ensures.items;
+      same = λ rs s. (from_not_err c.add_leaf.result c.is_err.result c.is_err.ensures.value c.if-is_err.false c.add_leaf.ensures).2
+          (records_of c.leaf_at.new.bytes) (c.in-Ok.ensures.leaf rs s);
     }) c.in-Some.ensures.0 c.in-Err-add_rest.ensures.sound
 
 pub returns-in-Ok-add_rest-clause-range : goal.returns-in-Ok-add_rest-clause-range
 returns-in-Ok-add_rest-clause-range g c =
-    first_result (g.S.PageStore.told c.args.store.now) (g.S.PageStore.told c.leaf_at.new.store) c.args.self.now c.args.low.now c.args.high.now c.in-Some.next c.args.most (records_of c.leaf_at.new.bytes) c.add_leaf.new.records.items c.add_rest.new.records.items c.in-Ok.found.high
+    first_result (g.S.PageStore.told c.args.store.now) (g.S.PageStore.told c.leaf_at.new.store) c.args.self.now c.args.low.now c.args.high.now
+    c.in-Some.next c.args.most (records_of c.leaf_at.new.bytes) c.add_leaf.new.records.items c.add_rest.new.records.items c.in-Ok.found.high
     c.in-Ok.ensures.told (record {
       some = c.if-self-eq0.false;
       leads = c.in-Ok.ensures.leads;
       cut = c.in-Ok.ensures.cut;
       seen = (from_not_err c.add_leaf.result c.is_err.result c.is_err.ensures.value c.if-is_err.false c.add_leaf.ensures).0;
-      added = (from_not_err c.add_leaf.result c.is_err.result c.is_err.ensures.value c.if-is_err.false c.add_leaf.ensures).1 ∙ ap (λ (l : List Record). take c.args.most (l ++ filter (is_from_to c.args.low.now c.args.high.now) (from_not_err c.add_leaf.result c.is_err.result c.is_err.ensures.value c.if-is_err.false c.add_leaf.ensures).0)) c.new-records.ensures.items;
-      same = λ rs s. (from_not_err c.add_leaf.result c.is_err.result c.is_err.ensures.value c.if-is_err.false c.add_leaf.ensures).2 (records_of c.leaf_at.new.bytes) (c.in-Ok.ensures.leaf rs s);
+      added = (from_not_err c.add_leaf.result c.is_err.result c.is_err.ensures.value c.if-is_err.false c.add_leaf.ensures).1
+          ∙ ap (λ (l : List Record).
+          take c.args.most (l ++ filter (is_from_to c.args.low.now c.args.high.now)
+          (from_not_err c.add_leaf.result c.is_err.result c.is_err.ensures.value c.if-is_err.false c.add_leaf.ensures).0)) c.new-records.ensures.items;
+      same = λ rs s. (from_not_err c.add_leaf.result c.is_err.result c.is_err.ensures.value c.if-is_err.false c.add_leaf.ensures).2
+          (records_of c.leaf_at.new.bytes) (c.in-Ok.ensures.leaf rs s);
     }) c.in-Some.ensures.0 c.in-Ok-add_rest.ensures.rest
 
 pub returns-then-self-eq0-clause-within : goal.returns-then-self-eq0-clause-within
@@ -66,19 +87,33 @@ returns-then-self-eq0-clause-within g c = ap (list_all (is_from_to c.args.low.no
 
 pub returns-then-len-most-clause-within : goal.returns-then-len-most-clause-within
 returns-then-len-most-clause-within g c =
-    first_within c.args.low.now c.args.high.now c.args.most (from_not_err c.add_leaf.result c.is_err.result c.is_err.ensures.value c.if-is_err.false c.add_leaf.ensures).0 c.add_leaf.new.records.items
-    ((from_not_err c.add_leaf.result c.is_err.result c.is_err.ensures.value c.if-is_err.false c.add_leaf.ensures).1 ∙ ap (λ (l : List Record). take c.args.most (l ++ filter (is_from_to c.args.low.now c.args.high.now) (from_not_err c.add_leaf.result c.is_err.result c.is_err.ensures.value c.if-is_err.false c.add_leaf.ensures).0)) c.new-records.ensures.items)
+    first_within c.args.low.now c.args.high.now c.args.most
+    (from_not_err c.add_leaf.result c.is_err.result c.is_err.ensures.value c.if-is_err.false c.add_leaf.ensures).0 c.add_leaf.new.records.items
+    ((from_not_err c.add_leaf.result c.is_err.result c.is_err.ensures.value c.if-is_err.false c.add_leaf.ensures).1
+    ∙ ap (λ (l : List Record).
+    take c.args.most (l ++ filter (is_from_to c.args.low.now c.args.high.now)
+    (from_not_err c.add_leaf.result c.is_err.result c.is_err.ensures.value c.if-is_err.false c.add_leaf.ensures).0)) c.new-records.ensures.items)
 
 pub returns-in-None-clause-within : goal.returns-in-None-clause-within
 returns-in-None-clause-within g c =
-    first_within c.args.low.now c.args.high.now c.args.most (from_not_err c.add_leaf.result c.is_err.result c.is_err.ensures.value c.if-is_err.false c.add_leaf.ensures).0 c.add_leaf.new.records.items
-    ((from_not_err c.add_leaf.result c.is_err.result c.is_err.ensures.value c.if-is_err.false c.add_leaf.ensures).1 ∙ ap (λ (l : List Record). take c.args.most (l ++ filter (is_from_to c.args.low.now c.args.high.now) (from_not_err c.add_leaf.result c.is_err.result c.is_err.ensures.value c.if-is_err.false c.add_leaf.ensures).0)) c.new-records.ensures.items)
+    first_within c.args.low.now c.args.high.now c.args.most
+    (from_not_err c.add_leaf.result c.is_err.result c.is_err.ensures.value c.if-is_err.false c.add_leaf.ensures).0 c.add_leaf.new.records.items
+    ((from_not_err c.add_leaf.result c.is_err.result c.is_err.ensures.value c.if-is_err.false c.add_leaf.ensures).1
+    ∙ ap (λ (l : List Record).
+    take c.args.most (l ++ filter (is_from_to c.args.low.now c.args.high.now)
+    (from_not_err c.add_leaf.result c.is_err.result c.is_err.ensures.value c.if-is_err.false c.add_leaf.ensures).0)) c.new-records.ensures.items)
 
 pub returns-in-Ok-add_rest-clause-within : goal.returns-in-Ok-add_rest-clause-within
 returns-in-Ok-add_rest-clause-within g c =
-    c.in-Ok-add_rest.ensures.within c.args.low.now (lt_to_le (key_cmp c.args.low.now c.in-Some.next) (above_bound c.args.low.now c.in-Some.next c.in-Ok.found.high c.in-Ok.ensures.above c.in-Some.ensures.0))
-    (first_within c.args.low.now c.args.high.now c.args.most (from_not_err c.add_leaf.result c.is_err.result c.is_err.ensures.value c.if-is_err.false c.add_leaf.ensures).0 c.add_leaf.new.records.items
-    ((from_not_err c.add_leaf.result c.is_err.result c.is_err.ensures.value c.if-is_err.false c.add_leaf.ensures).1 ∙ ap (λ (l : List Record). take c.args.most (l ++ filter (is_from_to c.args.low.now c.args.high.now) (from_not_err c.add_leaf.result c.is_err.result c.is_err.ensures.value c.if-is_err.false c.add_leaf.ensures).0)) c.new-records.ensures.items))
+    c.in-Ok-add_rest.ensures.within c.args.low.now
+    (lt_to_le (key_cmp c.args.low.now c.in-Some.next)
+    (above_bound c.args.low.now c.in-Some.next c.in-Ok.found.high c.in-Ok.ensures.above c.in-Some.ensures.0))
+    (first_within c.args.low.now c.args.high.now c.args.most
+    (from_not_err c.add_leaf.result c.is_err.result c.is_err.ensures.value c.if-is_err.false c.add_leaf.ensures).0 c.add_leaf.new.records.items
+    ((from_not_err c.add_leaf.result c.is_err.result c.is_err.ensures.value c.if-is_err.false c.add_leaf.ensures).1
+    ∙ ap (λ (l : List Record).
+    take c.args.most (l ++ filter (is_from_to c.args.low.now c.args.high.now)
+    (from_not_err c.add_leaf.result c.is_err.result c.is_err.ensures.value c.if-is_err.false c.add_leaf.ensures).0)) c.new-records.ensures.items))
 
 pub returns-in-Err-clause-bad : goal.returns-in-Err-clause-bad
 returns-in-Err-clause-bad g c = λ ne. c.in-Err.ensures.bad

@@ -4,7 +4,8 @@ use Rattle.quilt_btree.proofs.tree.Tree.remove_all.Given as goal
 
 abbrev pub invariant-loop-done : goal.invariant-loop-done
 invariant-loop-done g l = record {
-  far : IsOut (g.S.PageStore.told l.initial.store) (g.S.PageStore.told l.store) (g.S.PageStore.free l.initial.store) (g.S.PageStore.free l.store) (g.S.PageStore.size l.initial.store) l.initial.self l.self (take l.done l.run);
+  far : IsOut (g.S.PageStore.told l.initial.store) (g.S.PageStore.told l.store) (g.S.PageStore.free l.initial.store) (g.S.PageStore.free l.store)
+      (g.S.PageStore.size l.initial.store) l.initial.self l.self (take l.done l.run);
   in_range : l.done ≤ length l.run;
   faults : g.S.PageStore.faults l.initial.store ≤ g.S.PageStore.faults l.store;
   size : g.S.PageStore.size l.store ≡ g.S.PageStore.size l.initial.store;

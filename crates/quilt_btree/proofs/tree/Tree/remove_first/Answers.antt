@@ -7,8 +7,14 @@ returns-in-Err-clause-missing g c rs w page is = absurd (c.in-Err.ensures.sound 
 
 pub returns-then-is_out-clause-removed : goal.returns-then-is_out-clause-removed
 returns-then-is_out-clause-removed g c =
-    first_out (g.S.PageStore.told c.args.store.now) (g.S.PageStore.told c.remove.new.store) (g.S.PageStore.free c.args.store.now) (g.S.PageStore.free c.remove.new.store) (g.S.PageStore.size c.args.store.now) c.args.self.now c.remove.new.self c.args.run.now c.in-Ok.is_out c.requires.some c.if-is_out.true c.in-Ok.ensures.removed
+    first_out (g.S.PageStore.told c.args.store.now) (g.S.PageStore.told c.remove.new.store) (g.S.PageStore.free c.args.store.now)
+    (g.S.PageStore.free c.remove.new.store) (g.S.PageStore.size c.args.store.now) c.args.self.now c.remove.new.self c.args.run.now c.in-Ok.is_out
+    c.requires.some c.if-is_out.true c.in-Ok.ensures.removed
 
 pub returns-else-is_out-clause-missing : goal.returns-else-is_out-clause-missing
-returns-else-is_out-clause-missing g c rs w page is =
-    (page_zero page is, first_missing (g.S.PageStore.told c.args.store.now) (g.S.PageStore.told c.remove.new.store) (g.S.PageStore.free c.args.store.now) (g.S.PageStore.free c.remove.new.store) (g.S.PageStore.size c.args.store.now) c.args.self.now c.remove.new.self c.args.run.now c.in-Ok.is_out c.requires.some c.if-is_out.false c.in-Ok.ensures.removed rs w)
+returns-else-is_out-clause-missing g c rs w page is = (
+  page_zero page is,
+  first_missing (g.S.PageStore.told c.args.store.now) (g.S.PageStore.told c.remove.new.store)
+      (g.S.PageStore.free c.args.store.now) (g.S.PageStore.free c.remove.new.store) (g.S.PageStore.size c.args.store.now)
+      c.args.self.now c.remove.new.self c.args.run.now c.in-Ok.is_out c.requires.some c.if-is_out.false c.in-Ok.ensures.removed rs w,
+)

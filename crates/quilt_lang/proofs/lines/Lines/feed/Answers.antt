@@ -12,7 +12,8 @@ silent_front-from-requires c =
     let rest : List ℕ = drop from bytes in
     let within : c.kept_len-kept.result ≤ length rest = rw (c.deref.ensures.value, behind from bytes) at c.kept_len-kept.ensures.within in
     rw c.deref-in-Begun.ensures.value
-    (uncut_kept c.in-Begun.scanned c.kept_len-kept.result c.min.result rest c.put_behind-in-Begun.new.bytes.items c.args.piece.now (rw c.in-Begun.is at c.self.invariant.2) within c.min.ensures
+    (uncut_kept c.in-Begun.scanned c.kept_len-kept.result c.min.result rest c.put_behind-in-Begun.new.bytes.items c.args.piece.now
+    (rw c.in-Begun.is at c.self.invariant.2) within c.min.ensures
     c.in_ok-put_behind-in-Begun.ensures.put)
 
 pub returns-in_ok-put_behind-in-Waiting-clause-short : goal.returns-in_ok-put_behind-in-Waiting-clause-short

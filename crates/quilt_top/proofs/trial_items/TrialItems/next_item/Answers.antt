@@ -10,6 +10,8 @@ returns-clause-given c =
     let start = text_left c.args.self.now in
     let none = rw c.in_default.is at c.in_ok-item.ensures.given in
     let ended = rw c.in_default-2.is at c.in_ok-line.ensures.given in
-    let leads : Leads n start (c.next_item.new.self.rest ++ c.lines.self.trial) = subst (λ (l : List ℕ). Leads n start (l ++ c.lines.self.trial)) (sym none.0) c.lines.invariant.leads in
+    let leads : Leads n start (c.next_item.new.self.rest ++ c.lines.self.trial) =
+    subst (λ (l : List ℕ). Leads n start (l ++ c.lines.self.trial)) (sym none.0) c.lines.invariant.leads in
     let last = rw (c.next_item.ensures.level ∙ c.lines.invariant.level) at c.next_item-2.ensures.given in
-    IfOk-weaker c.next_item-2.result _ _ (λ found so. given_last n c.args.format start c.next_item.new.self.rest c.lines.self.trial _ leads ended.0 ended.1 found _ so) last
+    IfOk-weaker c.next_item-2.result _ _
+    (λ found so. given_last n c.args.format start c.next_item.new.self.rest c.lines.self.trial _ leads ended.0 ended.1 found _ so) last
