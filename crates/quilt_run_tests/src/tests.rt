@@ -1,9 +1,7 @@
 mod answers;
-mod drawn;
 mod editions;
 mod faults;
 mod openings;
-mod pools;
 mod rows;
 mod stops;
 mod trials;

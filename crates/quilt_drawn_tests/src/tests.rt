@@ -1,0 +1,4 @@
+mod chain;
+mod grids;
+mod pools;
+mod surveys;
