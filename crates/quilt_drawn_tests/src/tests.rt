@@ -2,3 +2,4 @@ mod chain;
 mod grids;
 mod pools;
 mod surveys;
+mod trials;

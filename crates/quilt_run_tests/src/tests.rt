@@ -1,8 +1,7 @@
-mod answers;
-mod editions;
 mod faults;
+mod gates;
 mod openings;
 mod rows;
+mod scripts;
 mod stops;
-mod trials;
 mod words;

@@ -32,20 +32,18 @@ fn plays_survey<R: Threads + Sync + Abort>(rt: &R, alloc: Global, level: u32, se
         .expect(rt, "the replies of plain lists");
 }
 
-/// Two texts at each level up to 4.
+/// Thirty texts at each level up to 4.
 #[test]
 fn drawn_layers_are_answered_as_plain_lists(rt: HostRuntime) {
-    for seed in 0..8_u64 {
+    for seed in 0..120_u64 {
         plays_survey(&rt, rt.alloc(), (seed % 4) as u32 + 1, seed);
     }
 }
 
+/// Ten texts at each of levels 5 and 6.
 #[test]
-fn drawn_layers_of_level_5_too(rt: HostRuntime) {
-    plays_survey(&rt, rt.alloc(), 5, 101);
-}
-
-#[test]
-fn drawn_layers_of_level_6_too(rt: HostRuntime) {
-    plays_survey(&rt, rt.alloc(), 6, 102);
+fn drawn_layers_of_greater_levels_too(rt: HostRuntime) {
+    for seed in 120..140_u64 {
+        plays_survey(&rt, rt.alloc(), (seed % 2) as u32 + 5, seed);
+    }
 }
