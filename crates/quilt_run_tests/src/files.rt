@@ -1,67 +1,88 @@
-//! Files that runs are tried over.
-ghost use Rattle.std.specs.Prelude.{◌≡◌};
-ghost use Rattle.quilt_world.specs.declared.disk.Door.TheVariants as doors;
-
-use quilt_desk::Desk;
-use quilt_node::{Head, header_bytes};
-use quilt_top::run_quilt;
-use quilt_world::{Disk, Image};
-use std::alloc::Global;
+//! Files that are laid byte by byte.
+use quilt_world::Image;
+use std::alloc::{AllocError, Global};
 use std::process::Abort;
-use std::thread::Threads;
 
-/// A desk with no file, whose file would be `m`.
-pub fn empty_desk(rt: &impl Abort, alloc: Global) -> Desk
-    ensures { ⟦<Desk as Disk>⟧.door result ≡ doors.Shut }
-{
-    Desk::new(alloc, "m", None, b"").expect(rt, "a desk")
+/// A page that begins with these bytes, and is else zero.
+fn page_of(front: &[u8]) -> [u8; 4096] {
+    let mut page = [0; 4096];
+    for (to, from) in page.iter_mut().zip(front) {
+        *to = *from;
+    }
+    page
 }
 
-/// The file that `new m PAGES LEVEL` makes.
-pub fn file_of<R: Threads + Sync + Abort>(
-    rt: &R,
-    alloc: Global,
-    pages: &str,
-    level: &str,
-) -> Image {
-    let words = ["new", "m", pages, level];
-    let (_, desk) = run_quilt(rt, alloc, &words, empty_desk(rt, alloc));
-    file_after(rt, &desk)
+/// Lets the page of the file begin with these bytes, and be else zero.
+pub fn lay(rt: &impl Abort, file: &mut Image, page: u32, front: &[u8]) {
+    assert!(rt; page < file.pages());
+    file.set_page(page, &page_of(front));
 }
 
-/// The file that `new m 16 3` makes.
-pub fn file_of_level_3<R: Threads + Sync + Abort>(rt: &R, alloc: Global) -> Image {
-    file_of(rt, alloc, "16", "3")
-}
-
-/// A map file of 16 home pages with this header, no tree and a closed gate.
-pub fn file_with_header(rt: &impl Abort, alloc: Global, header: &[u8; 4096]) -> Image {
-    let mut label = [0; 4096];
-    label[..15].copy_from_slice(b"QUILT MAP FILE\n");
-    let mut file = Image::new(alloc, 35).expect(rt, "an image");
-    assert_eq!(rt; file.pages(), 35);
-    file.set_page(0, &label);
-    file.set_page(3, header);
+/// A file of so many pages with the label, and else zero.
+pub fn labelled(rt: &impl Abort, alloc: Global, pages: u32) -> Image {
+    let mut file = Image::new(alloc, pages).expect(rt, "an image");
+    lay(rt, &mut file, 0, b"QUILT MAP FILE\n");
     file
 }
 
-/// The header of a file of level 3 with no tree, in format 2.
-pub fn header_of_format_2() -> [u8; 4096] {
-    let head = Head {
-        format: 2,
-        edition: 7,
-        level: 3,
-        root: 0,
-        height: 0,
-        records: 0,
-    };
-    header_bytes(&head)
+/// What a header says.
+#[derive(Clone, Copy)]
+pub struct Header {
+    pub version: u8,
+    pub edition: [u8; 4],
+    pub level: u8,
+    pub height: u8,
+    pub records: u8,
 }
 
-/// The file of a desk after a run.
-pub fn file_after(rt: &impl Abort, desk: &Desk) -> Image {
-    desk.image()
-        .expect(rt, "a file")
-        .copy()
-        .expect(rt, "a copy")
+impl Header {
+    /// The front of the header's page.
+    fn front(&self) -> [u8; 24] {
+        let mut bytes = [0; 24];
+        bytes[..4].copy_from_slice(b"QHDR");
+        bytes[7] = self.version;
+        bytes[8..12].copy_from_slice(&self.edition);
+        bytes[12] = self.level;
+        bytes[13] = self.height;
+        bytes[19] = u8::from(self.height > 0);
+        bytes[23] = self.records;
+        bytes
+    }
+}
+
+/// A map file of 35 pages with a closed gate, this header, its tree's root at page 1, and these fronts of the home pages from 1 on.
+pub fn file_with(rt: &impl Abort, alloc: Global, header: Header, pages: &[&[u8]]) -> Image {
+    let mut file = labelled(rt, alloc, 35);
+    lay(rt, &mut file, 3, &header.front());
+    let mut place = 4_u32;
+    for front in pages {
+        lay(rt, &mut file, place, front);
+        place = place.saturating_add(1);
+    }
+    file
+}
+
+/// A record: the last bytes of its key's layer, part, code, depth and item, and the front of its value.
+pub type Row<'a> = ([u8; 5], &'a [u8]);
+
+/// Adds a record.
+fn add_row(bytes: &mut Vec<u8>, row: &Row) -> Result<(), AllocError> {
+    let ([layer, part, code, depth, item], value) = *row;
+    bytes.extend_from_slice(&[0, layer, part, 0, 0, 0, code, depth, 0, 0, 0, item])?;
+    for i in 0..16_usize {
+        bytes.push(value.get(i).copied().unwrap_or(0))?;
+    }
+    Ok(())
+}
+
+/// The front of a leaf page with these records, at most 144.
+pub fn leaf_of(alloc: Global, rows: &[Row]) -> Result<Vec<u8>, AllocError> {
+    let mut bytes = Vec::new(alloc);
+    let count = u8::try_from(rows.len()).unwrap_or(u8::MAX);
+    bytes.extend_from_slice(&[1, 1, 0, count])?;
+    bytes.extend_from_slice(&[0; 60])?;
+    for row in rows {
+        add_row(&mut bytes, row)?;
+    }
+    Ok(bytes)
 }

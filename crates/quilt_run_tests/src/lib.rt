@@ -1,4 +1,4 @@
-//! Tries whole runs of the program over worlds in memory: files that are made and opened, texts, trials, words, and failing calls.
+//! Tries whole runs of the program over worlds in memory: files that are made and opened, scripts, words, stops and failing calls.
 #![tactic(auto)]
 
 #[cfg(test)]

@@ -1,10 +1,7 @@
-mod answers;
-mod drawn;
-mod editions;
 mod faults;
+mod gates;
 mod openings;
-mod pools;
 mod rows;
+mod scripts;
 mod stops;
-mod trials;
 mod words;

@@ -1,33 +1,34 @@
-use crate::files::{empty_desk, file_of_level_3};
-use crate::runs::fails_in_turn;
+use crate::runs::{done, file_of_level_3};
 use quilt_desk::Calm;
+use quilt_scripts::Run;
 use quilt_top::{End, run_quilt};
 use std::alloc::Global;
 use std::process::Abort;
 use std::thread::Threads;
 
+/// What `new m 16 3` puts.
+const LINE: &[u8] = b"new 16 pages level 3\n";
+
+/// Makes a file with this call failing and each byte put by a call of its own: the end, and how many bytes of the line are put.
+fn making_fails_at<R: Threads + Sync + Abort>(rt: &R, alloc: Global, call: u64) -> (End, usize) {
+    let words = ["new", "m", "16", "3"];
+    let run = Run::of(&words, b"").in_pieces(1).failing_at(call);
+    let (end, desk) = done(rt, alloc, run, None);
+    assert!(rt; LINE.starts_with(desk.output()));
+    (end, desk.output().len())
+}
+
 #[test]
 fn ends_at_each_fault(rt: HostRuntime) {
-    let alloc = rt.alloc();
-    let words = ["new", "m", "16", "3"];
-    let line = b"new 16 pages level 3\n";
     // One call makes the file, two writes and two syncs fill it, and each byte of the line is put by a call.
     for call in 1..27_u64 {
-        let mut desk = empty_desk(&rt, alloc);
-        desk.piece(1);
-        desk.fail_at(call).expect(&rt, "a call that fails");
-        let (end, desk) = run_quilt(&rt, alloc, &words, desk);
+        let (end, put) = making_fails_at(&rt, rt.alloc(), call);
         assert_eq!(rt; end, End::Device);
-        let said = desk.output();
-        assert_eq!(rt; said.len() as u64, call.saturating_sub(6));
-        assert!(rt; line.starts_with(said));
+        assert_eq!(rt; put as u64, call.saturating_sub(6));
     }
-    let mut desk = empty_desk(&rt, alloc);
-    desk.fail_at(27).expect(&rt, "a call that fails");
-    desk.piece(1);
-    let (end, desk) = run_quilt(&rt, alloc, &words, desk);
+    let (end, put) = making_fails_at(&rt, rt.alloc(), 27);
     assert_eq!(rt; end, End::Done);
-    assert!(rt; desk.output() == line.as_slice());
+    assert_eq!(rt; put, LINE.len());
 }
 
 /// Runs the input over a world that tells nothing, and compares the number of bytes that are put and the status.
@@ -43,7 +44,7 @@ fn counts<R: Threads + Sync + Abort>(rt: &R, alloc: Global, input: &[u8], bytes:
 fn counts_over_a_world_that_tells_nothing(rt: HostRuntime) {
     let alloc = rt.alloc();
     counts(&rt, alloc, b"", 0, 0);
-    counts(&rt, alloc, b"edition", 13, 0);
+    counts(&rt, alloc, b"edition\nrecords\n", 25, 0);
 }
 
 #[test]
@@ -56,6 +57,43 @@ fn ends_an_input_without_end(rt: HostRuntime) {
     assert_eq!(rt; end.status(), 8);
 }
 
+/// Does it over the file that `new m 16 3` makes: whether it ends with this status and puts all of the output. Else it ends in a device
+/// fault, and puts a front of the output.
+fn is_whole<R: Threads + Sync + Abort>(
+    rt: &R,
+    alloc: Global,
+    run: Run,
+    output: &[u8],
+    status: u8,
+) -> bool {
+    let file = file_of_level_3(rt, alloc);
+    let (end, desk) = done(rt, alloc, run, Some(file));
+    if end.status() == status {
+        assert!(rt; desk.output() == output);
+        return true;
+    }
+    assert_eq!(rt; end, End::Device);
+    assert!(rt; output.starts_with(desk.output()));
+    false
+}
+
+/// The same with the first call failing, the second, and so on, until no call fails.
+fn fails_in_turn<R: Threads + Sync + Abort>(
+    rt: &R,
+    alloc: Global,
+    run: Run,
+    output: &[u8],
+    status: u8,
+) {
+    for call in 1..1000_u64 {
+        if is_whole(rt, alloc, run.failing_at(call), output, status) {
+            assert!(rt; call > 1);
+            return;
+        }
+    }
+    panic!(rt; "each run met a fault");
+}
+
 #[test]
 fn ends_a_text_at_each_fault(rt: HostRuntime) {
     let alloc = rt.alloc();
@@ -63,6 +101,17 @@ fn ends_a_text_at_each_fault(rt: HostRuntime) {
         region a 0\nat b 0 0\nregion b 0\nshow b 7 7 1 1\nedition\n";
     let replies = b"ok\nok\n255\nok\n04ff04\nok\nno 8 outside\n\
         no 7 exists\nno 5 unknown\nok\n00\nok\nedition 0\nok\n";
-    fails_in_turn(&rt, alloc, &["run", "m"], 1, text, replies, 1);
-    fails_in_turn(&rt, alloc, &["run", "m"], 4096, text, replies, 1);
+    assert_eq!(rt; End::Device.status(), 3);
+    fails_in_turn(&rt, alloc, Run::text(text).in_pieces(1), replies, 1);
+    fails_in_turn(&rt, alloc, Run::text(text), replies, 1);
+}
+
+#[test]
+fn ends_a_trial_at_each_fault(rt: HostRuntime) {
+    let alloc = rt.alloc();
+    let words = ["trial", "m", "0", "1"];
+    let trial = Run::of(&words, b"");
+    let lines = b"ok 6\nno 0\nrecords 8\nedition 1\n";
+    fails_in_turn(&rt, alloc, trial.in_pieces(1), lines, 0);
+    fails_in_turn(&rt, alloc, trial, lines, 0);
 }

@@ -1,7 +1,8 @@
 ghost use Rattle.std.specs.Prelude.{◌≤◌};
 
-use crate::files::empty_desk;
-use quilt_top::{End, run_quilt};
+use crate::runs::done;
+use quilt_scripts::Run;
+use quilt_top::End;
 use std::alloc::Global;
 use std::process::Abort;
 use std::thread::Threads;
@@ -141,6 +142,32 @@ fn expected(rt: &impl Abort, alloc: Global, words: &[&str]) -> Option<Asked> {
     by_table(alone.as_slice(), pool)
 }
 
+/// Whether this is the line of a new file.
+fn is_line_of_new(rt: &impl Abort, alloc: Global, pages: u32, level: u32, output: &[u8]) -> bool {
+    let line = format!(in alloc; "new {pages} pages level {level}\n").expect(rt, "a line");
+    output == line.as_bytes()
+}
+
+/// Whether a run over no file, of which the table says this, may end so and put this.
+fn is_answer(
+    rt: &impl Abort,
+    alloc: Global,
+    wanted: Option<Asked>,
+    end: End,
+    output: &[u8],
+) -> bool {
+    match wanted {
+        None => end == End::Usage && output.is_empty(),
+        Some(Asked::Run) => end == End::Missing && output.is_empty(),
+        Some(Asked::New(pages, level)) => {
+            if end == End::Done {
+                return is_line_of_new(rt, alloc, pages, level, output);
+            }
+            end == End::Taken && output.is_empty()
+        }
+    }
+}
+
 /// Does what the words say where there is no file, and compares it with what the table says of them.
 fn reads_as<R: Threads + Sync + Abort>(
     rt: &R,
@@ -148,22 +175,8 @@ fn reads_as<R: Threads + Sync + Abort>(
     words: &[&str],
     wanted: Option<Asked>,
 ) {
-    let (end, desk) = run_quilt(rt, alloc, words, empty_desk(rt, alloc));
-    match wanted {
-        None => {
-            assert_eq!(rt; end, End::Usage);
-            assert!(rt; desk.output().is_empty());
-        }
-        Some(Asked::Run) => {
-            assert_eq!(rt; end, End::Missing);
-            assert!(rt; desk.output().is_empty());
-        }
-        Some(Asked::New(pages, level)) if end == End::Done => {
-            let line = format!(in alloc; "new {pages} pages level {level}\n").expect(rt, "a line");
-            assert!(rt; desk.output() == line.as_bytes());
-        }
-        Some(Asked::New(..)) => assert_eq!(rt; end, End::Taken),
-    }
+    let (end, desk) = done(rt, alloc, Run::of(words, b""), None);
+    assert!(rt; is_answer(rt, alloc, wanted, end, desk.output()));
 }
 
 #[test]

@@ -1,0 +1,5 @@
+mod chain;
+mod grids;
+mod pools;
+mod surveys;
+mod trials;
