@@ -13,14 +13,14 @@ use Rattle.quilt_top.proofs.make.make_map.Goals as goal
 pub create-requires-clause-blank : goal.create-requires-clause-blank
 create-requires-clause-blank g c =
     let is = c.in-Ok.ensures.door ∙ ap (λ m. made (Ok m)) c.in-Ready.is in
-    goes_now _ IsBlank _ _ c.make.ensures.tale (λ t u makes. made_blank c.args.path.now (3 + 2 * c.args.pages) _ t u is makes)
+    goes_now _ IsBlank _ _ (rw c.file_pages.ensures at c.make.ensures.tale) (λ t u makes. made_blank c.args.path.now (3 + 2 * c.args.pages) _ t u is makes)
 
 pub returns-in_default-create-clause-promises : goal.returns-in_default-create-clause-promises
 returns-in_default-create-clause-promises g c =
     let is = c.in-Ok.ensures.door ∙ ap (λ m. made (Ok m)) c.in-Ready.is in
     let rose : Rose _ _ = where_not_ok _ _ c.create.ensures.cause.failed c.in_default-create.not-Ok in
     create_stopped c.args.path.now c.args.pages c.args.level _ is _ _ c.create.ensures.door (omega (arith, c.make.ensures.cause.later, rose)) _ _ _
-    c.make.ensures.tale c.create.ensures.crash
+    (rw c.file_pages.ensures at c.make.ensures.tale) c.create.ensures.crash
 
 pub returns-in_default-put_all-clause-promises : goal.returns-in_default-put_all-clause-promises
 returns-in_default-put_all-clause-promises g c =
@@ -31,7 +31,7 @@ returns-in_default-put_all-clause-promises g c =
     let both = goes_and (SaysFront (new_line c.args.pages c.args.level)) (AddsOnly is_of_text) _ _ says c.put_all.ensures.text in
     put_stopped c.args.path.now c.args.pages c.args.level _ is _ _ (c.put_all.ensures.door ∙ c.create.ensures.door)
     (omega (arith, c.make.ensures.cause.later, c.create.ensures.cause.later, rose)) _ _ _ _
-    c.make.ensures.tale c.create.ensures.crash c.in-Ok-create.ensures.created both
+    (rw c.file_pages.ensures at c.make.ensures.tale) c.create.ensures.crash c.in-Ok-create.ensures.created both
 
 pub returns-clause-promises : goal.returns-clause-promises
 returns-clause-promises g c =
@@ -40,4 +40,4 @@ returns-clause-promises g c =
     c.requires.line c.in-Ok-put_all.ensures.said in
     let both = goes_and (Says (new_line c.args.pages c.args.level)) (AddsOnly is_of_text) _ _ says c.put_all.ensures.text in
     all_done c.args.path.now c.args.pages c.args.level _ is _ _ _ (c.put_all.ensures.door ∙ c.create.ensures.door) _ _ _ _
-    c.make.ensures.tale c.create.ensures.crash c.in-Ok-create.ensures.created both (g.met.W.Disk.is_consistent c.put_all.new.world)
+    (rw c.file_pages.ensures at c.make.ensures.tale) c.create.ensures.crash c.in-Ok-create.ensures.created both (g.met.W.Disk.is_consistent c.put_all.new.world)
