@@ -11,7 +11,7 @@ use Rattle.quilt_types.specs.Fractions.{Fraction, lowest, is_less}
 use Rattle.quilt_types.specs.Segments.{crossing, stops, is_in, least_of, greatest_of, ends_of, clip_range, meets, Meets, is_on, IsClipRange}
 use Rattle.quilt_clip.specs.Fractions.{IsReduced, UpTo}
 use Rattle.quilt_clip.specs.Spans.{IsOn, Above, Below, Inside}
-use Rattle.quilt_clip.proofs.Members.{Contains-nil, Contains-here, Contains-there, Contains-cons_cases, Contains-filter, Contains-filter_from}
+use Rattle.quilt_types.proofs.Members.{Contains-nil, Contains-here, Contains-there, Contains-cons_cases, Contains-filter, Contains-filter_from}
 use Rattle.quilt_clip.proofs.Orders.{up_to_itself, up_to_trans, up_to_if_less, up_to_unless_less}
 use Rattle.quilt_clip.proofs.Lowest.{lowest_is, lowest_reduced, reduced_same}
 use Rattle.quilt_clip.proofs.Stretches.{Stretch, start, finish, start_on, finish_on, lowest_on, stretch_both, stretch_weaker}

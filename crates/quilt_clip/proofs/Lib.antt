@@ -1,4 +1,3 @@
-pub mod Members
 pub mod Orders
 pub mod Lowest
 pub mod Stretches

@@ -6,7 +6,7 @@ use Rattle.std.proofs.lemmas.Bool.{and_parts, and_from}
 use Rattle.quilt_types.specs.declared.plane.Pixel.{Pixel}
 use Rattle.quilt_types.specs.declared.plane.Block.{Block}
 use Rattle.quilt_types.specs.Plane.{side, below, pixels, blocks_at, blocks, in_block, pixels_of, Holds, IsBlock}
-use Rattle.quilt_loc.proofs.Members.{Contains-map, Contains-map_from, Contains-flat_map, Contains-flat_map_from, Contains-filter, Contains-filter_from}
+use Rattle.quilt_types.proofs.Members.{Contains-map, Contains-map_from, Contains-flat_map, Contains-flat_map_from, Contains-filter, Contains-filter_from}
 use Rattle.quilt_loc.proofs.Rows.{Contains-below, Contains-below_from, Contains-pixels, Contains-pixels_from}
 
 pub Holds-from : (b : Block) (p : Pixel) → in_block b p ≡ true → Holds b p

@@ -9,7 +9,7 @@ use Rattle.quilt_types.specs.Plane.{side, below, pixels, pixel_cmp, blocks_at, b
 use Rattle.quilt_types.specs.Layers.{Grid}
 use Rattle.quilt_types.specs.Quadtrees.{is_uniform, is_maximal, maximal_blocks, coloured, leaves}
 use Rattle.quilt_loc.specs.Codes.{Rises}
-use Rattle.quilt_loc.proofs.Members.{Contains-map_from}
+use Rattle.quilt_types.proofs.Members.{Contains-map_from}
 use Rattle.quilt_loc.proofs.Rising.{Rises-filter, Rises-map, Rises-flat_map, Rises-range, nat_less, nat_less_from}
 
 pub same_number : (a : ℕ) → nat_cmp a a ≡ Equal

@@ -9,11 +9,11 @@ use Rattle.quilt_types.specs.declared.plane.Block.{Block}
 use Rattle.quilt_types.specs.Plane.{quarters_of, Holds, IsBlock}
 use Rattle.quilt_types.specs.Codes.{interleaved, code}
 use Rattle.quilt_loc.specs.Codes.{code_at, code_from, code_to, code_cmp, Rises}
-use Rattle.quilt_loc.proofs.Members.{Contains-nil}
+use Rattle.quilt_types.proofs.Members.{Contains-nil}
 use Rattle.quilt_loc.proofs.Rising.{nat_less}
 use Rattle.quilt_loc.proofs.Quartered.{halved}
 use Rattle.std.proofs.lemmas.List.Elements.{All-contains, All-from_recursion}
-use Rattle.quilt_loc.proofs.CodeLaws.{interleaved_below, interleaved_split, interleaved_apart}
+use Rattle.quilt_types.proofs.CodeLaws.{interleaved_below, interleaved_split, interleaved_apart}
 
 -- a side times itself
 double_twice : (a : ℕ) → a * 2 * (a * 2) ≡ 4 * (a * a)

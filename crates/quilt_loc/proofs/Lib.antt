@@ -1,10 +1,9 @@
 pub mod Around
 pub mod Blocks
-pub mod CodeLaws
-pub mod CodeTables
+pub use Rattle.quilt_types.proofs.CodeLaws
 pub mod InOrder
 pub mod Intervals
-pub mod Members
+pub use Rattle.quilt_types.proofs.Members
 pub mod Nesting
 pub mod Once
 pub mod PlaneOrders

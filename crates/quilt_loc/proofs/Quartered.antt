@@ -6,7 +6,7 @@ use Rattle.std.proofs.lemmas.Nat.{mod-mul-add, div-add-mod'}
 use Rattle.quilt_types.specs.declared.plane.Pixel.{Pixel}
 use Rattle.quilt_types.specs.declared.plane.Block.{Block}
 use Rattle.quilt_types.specs.Plane.{parent_of, quarters_of, corner, whole, Holds, IsBlock, Within}
-use Rattle.quilt_loc.proofs.Members.{Contains-cons_cases, Contains-nil}
+use Rattle.quilt_types.proofs.Members.{Contains-cons_cases, Contains-nil}
 use Rattle.quilt_loc.proofs.Steps.{start_is, start_nests}
 use Rattle.quilt_loc.proofs.Nesting.{Within-holds, side_pos, Holds-corner, nested, same_block_from, Holds-parent_of, IsBlock-parent_of}
 

@@ -6,8 +6,8 @@ use Rattle.std.specs.Cmp.{IsTotalOrder, tied_itself}
 use Rattle.std.proofs.lemmas.Bool.Decides.{nat_tests}
 use Rattle.std.proofs.lemmas.List.Elements.{Contains-append_cases}
 use Rattle.quilt_loc.specs.Codes.{Rises}
-use Rattle.quilt_loc.proofs.Members.{Contains-nil, Contains-here, Contains-there, Contains-cons_cases, Contains-filter_from, Contains-map_from}
-use Rattle.quilt_loc.proofs.Members.{Contains-flat_map_from, Contains-range_from}
+use Rattle.quilt_types.proofs.Members.{Contains-nil, Contains-here, Contains-there, Contains-cons_cases, Contains-filter_from, Contains-map_from}
+use Rattle.quilt_types.proofs.Members.{Contains-flat_map_from, Contains-range_from}
 
 Less≢Equal : Less ≡ Equal → ⊥
 Less≢Equal e = cc

@@ -9,13 +9,8 @@ use Rattle.quilt_types.specs.declared.plane.Pixel.{Pixel}
 use Rattle.quilt_types.specs.Plane.{side, below, pixels, pixel_at}
 use Rattle.quilt_types.specs.Layers.{colour_at}
 use Rattle.quilt_types.specs.Algebra.{grid_of}
-use Rattle.quilt_loc.proofs.Members.{Contains-map, Contains-map_from, Contains-flat_map, Contains-flat_map_from, Contains-range, Contains-range_from}
-
-pub Contains-below : (n k : ℕ) → k < n → Contains (below n) k
-Contains-below n k h = Contains-range 0 n k (omega arith) (omega arith)
-
-pub Contains-below_from : (n k : ℕ) → Contains (below n) k → k < n
-Contains-below_from n k c = let r = Contains-range_from 0 n k c in omega arith
+use Rattle.quilt_types.proofs.Members.{Contains-map, Contains-map_from, Contains-flat_map, Contains-flat_map_from}
+pub use Rattle.quilt_types.proofs.Members.{Contains-below, Contains-below_from}
 
 pub Contains-pixels : (n : ℕ) (p : Pixel) → p.x < side n → p.y < side n → Contains (pixels n) p
 unfolding pixels

@@ -1,16 +1,12 @@
 -- The codes of pixels and of blocks, and lists in their order.
-use Rattle.std.specs.Prelude.{◌≡◌, ℕ, zero, suc, ◌+◌, ◌*◌, ◌/◌, ◌%◌, ◌≤◌, List, [], ◌∷◌, Contains}
+use Rattle.std.specs.Prelude.{◌≡◌, ℕ, ◌+◌, ◌*◌, ◌≤◌, List, [], ◌∷◌, Contains}
 use Rattle.std.specs.Ordering.{nat_cmp}
 use Rattle.std.specs.declared.cmp.Ordering.{Ordering}
 use Rattle.std.specs.declared.cmp.Ordering.TheVariants.{Less}
-use Rattle.quilt_types.specs.declared.plane.Pixel.{Pixel}
 use Rattle.quilt_types.specs.declared.plane.Block.{Block}
 use Rattle.quilt_types.specs.Plane.{side}
 use Rattle.quilt_types.specs.Codes.{code}
-
--- the code of a pixel
-abbrev pub code_at : Pixel → ℕ
-code_at p = code p.x p.y
+pub use Rattle.quilt_types.specs.Codes.{code_at}
 
 -- the first code of a block is that of its upper left pixel
 abbrev pub code_from : Block → ℕ
@@ -19,11 +15,6 @@ code_from b = code b.x b.y
 -- the code after the last one of a block
 abbrev pub code_to : Block → ℕ
 code_to b = code_from b + b.side * b.side
-
--- the number of the first k even bits of a code
-unfoldable pub gathered : ℕ → ℕ → ℕ
-gathered zero c = 0
-gathered (suc k) c = c % 2 + 2 * gathered k (c / 4)
 
 -- a side of a block: a power of two up to 4096
 pub record IsSide (s : ℕ) : Type 0 where

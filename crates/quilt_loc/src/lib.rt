@@ -5,4 +5,5 @@ mod block;
 mod code;
 
 pub use block::{block_at, covers, parent, quarters};
-pub use code::{code_of, end_of, pixel_of};
+pub use code::end_of;
+pub use quilt_types::{code_of, pixel_of};

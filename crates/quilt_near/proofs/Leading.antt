@@ -8,7 +8,7 @@ use Rattle.quilt_types.specs.Layers.{SegMap}
 use Rattle.quilt_types.specs.Fractions.{Fraction, is_less}
 use Rattle.quilt_types.specs.Segments.{square_distance, nearest}
 use Rattle.quilt_clip.specs.Fractions.{UpTo}
-use Rattle.quilt_clip.proofs.Members.{Contains-nil, Contains-here, Contains-there, Contains-cons_cases}
+use Rattle.quilt_types.proofs.Members.{Contains-nil, Contains-here, Contains-there, Contains-cons_cases}
 use Rattle.quilt_clip.proofs.Orders.{up_to_itself, up_to_trans, up_to_if_less, up_to_unless_less}
 use Rattle.quilt_types.specs.Ranking.{comes_first}
 use Rattle.quilt_near.specs.Choices.{better_seg}

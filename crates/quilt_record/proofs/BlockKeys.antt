@@ -10,7 +10,7 @@ use Rattle.quilt_types.specs.declared.plane.Pixel.{Pixel}
 use Rattle.quilt_types.specs.declared.plane.Block.{Block}
 use Rattle.quilt_types.specs.Plane.{IsBlock, is_pixel}
 use Rattle.quilt_types.specs.Codes.{code, depth}
-use Rattle.quilt_record.proofs.CodeLaws.{code_below, code_alone, depth_is}
+use Rattle.quilt_types.proofs.CodeLaws.{code_below, code_alone, depth_is}
 use Rattle.quilt_record.specs.declared.key.Key.{Key}
 use Rattle.quilt_record.specs.Blocks.{IsBlockOf}
 

@@ -1,5 +1,4 @@
 pub mod BlockKeys
-pub mod CodeLaws
 pub mod Entries
 pub mod KeyOrder
 pub mod Names

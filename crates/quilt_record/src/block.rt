@@ -5,9 +5,8 @@ ghost use Rattle.quilt_types.specs.Codes.{code, depth};
 ghost use Rattle.quilt_record.specs.Records as spec;
 ghost use Rattle.quilt_record.specs.Blocks.{IsBlockOf, IsNamed};
 
-use crate::interleaving::{code_of, pixel_of};
 use crate::{Key, Record};
-use quilt_types::{Block, Pixel};
+use quilt_types::{Block, Pixel, code_of, pixel_of};
 
 /// How many codes there are: 4 ^ 12.
 const CODES: u32 = 1 << 24;

@@ -5,7 +5,6 @@ mod block;
 mod catalog;
 mod edits;
 mod entry;
-mod interleaving;
 mod key;
 mod lines;
 mod list;

@@ -8,8 +8,7 @@ ghost use Rattle.quilt_record.specs.Values.{held_of};
 
 use crate::Record;
 use crate::block::{block_key, is_same, named};
-use crate::interleaving::code_of;
-use quilt_types::{Block, Pixel, Point};
+use quilt_types::{Block, Pixel, Point, code_of};
 
 /// The item in the key of a held point: 0 where a block holds one point at most, and else one more than the code of its
 /// pixel.

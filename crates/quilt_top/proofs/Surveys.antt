@@ -25,7 +25,7 @@ use Rattle.quilt_record.specs.declared.entry.Entry.{Entry}
 use Rattle.quilt_record.specs.declared.record.Record.{Record}
 use Rattle.quilt_record.specs.Catalogs.{IsCatalog, AreInOrder, name_cmp}
 use Rattle.quilt_record.specs.Listing.{KindFits}
-use Rattle.quilt_record.proofs.CodeLaws.{Contains-here, Contains-there}
+use Rattle.quilt_types.proofs.Members.{Contains-here, Contains-there}
 use Rattle.quilt_record.proofs.Orders.{lt_not_eq}
 use Rattle.quilt_spell.proofs.Spelling.{all_from}
 use Rattle.quilt_node.specs.declared.head.Head.{Head}

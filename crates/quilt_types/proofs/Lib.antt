@@ -1,1 +1,4 @@
+pub mod CodeLaws
+pub mod CodeTables
 pub mod Growing
+pub mod Members

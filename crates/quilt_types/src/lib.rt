@@ -2,6 +2,7 @@
 #![tactic(auto)]
 
 mod code;
+mod interleaving;
 mod name;
 mod plane;
 mod points;
@@ -10,6 +11,7 @@ mod stop;
 mod text;
 
 pub use code::Code;
+pub use interleaving::{code_of, pixel_of};
 pub use name::Name;
 pub use plane::{Block, Colour, Corner, Kind, Pixel, Point, Seg, Window};
 pub use points::PointList;

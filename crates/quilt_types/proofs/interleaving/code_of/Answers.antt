@@ -1,15 +1,15 @@
 use Rattle.std.proofs.Common.{◌∙◌, arith}
 use Rattle.quilt_types.specs.Codes.{code}
-use Rattle.quilt_loc.proofs.CodeLaws.{code_below, code_alone}
-use Rattle.quilt_loc.proofs.CodeTables.{interleaved_sum}
-use Rattle.quilt_loc.proofs.code.code_of.Goals as goal
+use Rattle.quilt_types.proofs.CodeLaws.{code_below, code_alone}
+use Rattle.quilt_types.proofs.CodeTables.{interleaved_bytes}
+use Rattle.quilt_types.proofs.interleaving.code_of.Goals as goal
 
 pub returns-clause-value : goal.returns-clause-value
 unfolding code
 returns-clause-value c =
-    let x = c.spread.ensures.value in
-    let y = c.spread-2.ensures.value in
-    let both = interleaved_sum 12 c.args.p.x c.args.p.y in omega arith
+    let low = c.byte_code.ensures.value in
+    let high = c.byte_code-2.ensures.value in
+    let both = interleaved_bytes c.args.p.x c.args.p.y c.requires.in_x c.requires.in_y in omega arith
 
 pub returns-clause-below : goal.returns-clause-below
 returns-clause-below c =
