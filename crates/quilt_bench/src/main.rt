@@ -1,6 +1,7 @@
-//! Makes single calls of the tree, of plans and of the audit many times, so that their instructions can be counted.
+//! Makes single calls of the tree, of plans, of the audit and of map algebra many times, so that their instructions can be counted.
 #![tactic(auto)]
 
+mod algebra;
 mod calls;
 mod drawing;
 mod planted;
