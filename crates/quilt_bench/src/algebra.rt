@@ -1,5 +1,5 @@
 ghost use Rattle.std.specs.Prelude.{◌≡◌, ◌+◌, ◌*◌, ◌≤◌, length, true, IfOk};
-ghost use Rattle.quilt_types.specs.Plane.{side, side_of};
+ghost use Rattle.quilt_types.specs.Plane.{side as side_of};
 
 use quilt_blocks::LeafList;
 use quilt_measure::perimeter;
@@ -17,33 +17,39 @@ const MEASURED: Colour = Colour(1);
 /// to an eighth of the square wide and high, one for each 4096 pixels.
 pub fn drawn_raster(alloc: Global, level: u8, seed: u64) -> Result<Vec<u8>, AllocError>
     requires { level ≤ 12 }
-    ensures { IfOk result (λ bytes. length bytes ≡ 2 * (side_of level * side_of level)) }
+    ensures { IfOk result (λ bytes. length bytes.items ≡ 2 * (side_of level * side_of level)) }
 {
     let side = 1_usize << level;
     let mut bytes = vec![in alloc; 0_u8; 2 * (side * side)]?;
+    paint_rectangles(&mut bytes, side, seed);
+    Ok(bytes)
+}
+
+/// Paints drawn rectangles.
+fn paint_rectangles(bytes: &mut [u8], side: usize, seed: u64)
+    requires { side ≤ 4096 }
+{
     let mut dice = Dice::new(seed);
-    let most = (side / 8) as u32;
     for number in 0..side * side / 4096 {
         let left = dice.below(side as u32) as usize;
         let top = dice.below(side as u32) as usize;
-        let right = (left + dice.below(most) as usize + 1).min(side);
-        let bottom = (top + dice.below(most) as usize + 1).min(side);
+        let right = (left + dice.below(side as u32 / 8) as usize + 1).min(side);
+        let bottom = (top + dice.below(side as u32 / 8) as usize + 1).min(side);
         for y in top..bottom {
             paint_row(
-                &mut bytes,
+                bytes,
                 side * y + left,
                 side * y + right,
                 (number % 3) as u8 + 1,
             );
         }
     }
-    Ok(bytes)
 }
 
 /// Gives the pixels from one place up to another a colour below 256.
 fn paint_row(bytes: &mut [u8], from: usize, to: usize, colour: u8) {
     for place in from..to {
-        if let Some(low) = bytes.get_mut(2 * place + 1) {
+        if let Some(low) = bytes.get_mut(place.wrapping_mul(2).wrapping_add(1)) {
             *low = colour;
         }
     }

@@ -31,7 +31,12 @@ fn main(rt: HostRuntime) -> anyhow::Result<()> {
         None => "all",
         Some(word) => word.as_str(),
     };
-    for word in WORDS {
+    tell(&rt, &WORDS, wanted, sizes)
+}
+
+/// Prints what each of the words that are wanted answers.
+fn tell(rt: &HostRuntime, words: &[&str], wanted: &str, sizes: Sizes) -> anyhow::Result<()> {
+    for &word in words {
         if wanted == "all" || wanted == word {
             let answer = measured(rt.alloc(), word, sizes)?;
             println!(rt; "{word} {answer}")?;
