@@ -1,5 +1,6 @@
 ghost use Rattle.std.specs.Prelude.{◌≤◌};
 
+use crate::algebra::{bounded, listed, moved, shown, united};
 use crate::drawing::{CATALOG, drawn_map, drawn_pixel, key_of, key_with, record_of};
 use crate::planted::Planted;
 use quilt_plain::Dice;
@@ -11,8 +12,20 @@ use std::alloc::Global;
 const RUN: usize = 1000;
 
 /// What can be measured.
-pub const WORDS: [&str; 8] = [
-    "fill", "drain", "get", "floor", "rect", "replace", "audit", "form",
+pub const WORDS: [&str; 13] = [
+    "fill",
+    "drain",
+    "get",
+    "floor",
+    "rect",
+    "replace",
+    "audit",
+    "form",
+    "leaves",
+    "render",
+    "union",
+    "shift",
+    "perimeter",
 ];
 
 /// How large the tree or the map is, and how often a call is made.
@@ -35,7 +48,12 @@ pub fn measured(alloc: Global, word: &str, sizes: Sizes) -> anyhow::Result<u64> 
         "rect" => painted(alloc, level, calls),
         "replace" => replaced(alloc, level, calls),
         "audit" => audited(alloc, level, calls),
-        _ => formed(alloc, level, calls),
+        "form" => formed(alloc, level, calls),
+        "leaves" => Ok(listed(alloc, level, calls)?),
+        "render" => Ok(shown(alloc, level, calls)?),
+        "union" => Ok(united(alloc, level, calls)?),
+        "shift" => Ok(moved(alloc, level, calls)?),
+        _ => Ok(bounded(alloc, level, calls)?),
     }
 }
 

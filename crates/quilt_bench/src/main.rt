@@ -1,6 +1,7 @@
-//! Makes single calls of the tree, of plans and of the audit many times, so that their instructions can be counted.
+//! Makes single calls of the tree, of plans, of the audit and of map algebra many times, so that their instructions can be counted.
 #![tactic(auto)]
 
+mod algebra;
 mod calls;
 mod drawing;
 mod planted;
@@ -30,7 +31,12 @@ fn main(rt: HostRuntime) -> anyhow::Result<()> {
         None => "all",
         Some(word) => word.as_str(),
     };
-    for word in WORDS {
+    tell(&rt, &WORDS, wanted, sizes)
+}
+
+/// Prints what each of the words that are wanted answers.
+fn tell(rt: &HostRuntime, words: &[&str], wanted: &str, sizes: Sizes) -> anyhow::Result<()> {
+    for &word in words {
         if wanted == "all" || wanted == word {
             let answer = measured(rt.alloc(), word, sizes)?;
             println!(rt; "{word} {answer}")?;
