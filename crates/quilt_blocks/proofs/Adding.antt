@@ -95,6 +95,7 @@ pub record IsPart (n : ℕ) (b : Block) (i : ℕ) (q : Block) : Type 0 where
   pub block : IsBlock n q
   pub within : Within q b
   pub smaller : q.side < b.side
+  pub half : 2 * q.side ≡ b.side
   pub from : code_from q ≡ code_from b + i * (b.side / 2 * (b.side / 2))
   pub to : code_to q ≡ code_from b + (i + 1) * (b.side / 2 * (b.side / 2))
 
@@ -105,8 +106,9 @@ part_is n b i q le h wide lt is =
     let from = quarter_from n b i q le h wide lt is in
     let half : q.side ≡ b.side / 2 = omega arith in
     let square : q.side * q.side ≡ b.side / 2 * (b.side / 2) = ap (λ z. z * z) half in
-    record { block = r.block; within = r.within; smaller = omega arith; from = from; to = omega arith }
+    record { block = r.block; within = r.within; smaller = omega arith; half = f; from = from; to = omega arith }
 
+-- the one that stands there
 pub part_at : (n : ℕ) (b : Block) (qs : List Block) (i : ℕ) (d : Block) → n ≤ 12 → IsBlock n b → 1 < b.side → qs ≡ quarters_of b → i < 4
     → IsPart n b i (get_or qs i d)
 part_at n b qs i d le h wide are lt =

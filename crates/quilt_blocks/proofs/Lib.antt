@@ -10,3 +10,6 @@ pub mod Merging
 pub mod Painting
 pub mod Places
 pub mod Squares
+pub mod Inside
+pub mod PixelLeaves
+pub mod Paired

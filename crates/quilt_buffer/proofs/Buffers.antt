@@ -11,17 +11,13 @@ use Rattle.quilt_types.specs.declared.plane.Block.{Block}
 use Rattle.quilt_types.specs.Plane.{pixels, Holds}
 use Rattle.quilt_types.specs.Layers.{Grid, colour_at}
 use Rattle.quilt_types.specs.Algebra.{difference_of, chessboard_distance, grid_of, buffered}
-use Rattle.quilt_loc.specs.Codes.{code_at}
-use Rattle.quilt_loc.proofs.Blocks.{side_most}
 use Rattle.quilt_loc.proofs.Rows.{Contains-pixels, Contains-pixels_from}
 use Rattle.quilt_loc.proofs.Members.{Contains-map, Contains-map_from, Contains-filter, Contains-filter_from}
 use Rattle.quilt_loc.proofs.Nesting.{side_pos}
-use Rattle.quilt_loc.proofs.Intervals.{held_code}
 use Rattle.quilt_blocks.specs.Cutting.{leaves_by_code}
-use Rattle.quilt_blocks.proofs.Chains.{member_with}
-use Rattle.quilt_blocks.proofs.Cuts.{leaves_run, leaves_members, leaf_is}
+use Rattle.quilt_blocks.proofs.Cuts.{leaves_members, leaf_is}
 use Rattle.quilt_blocks.proofs.Listed.{held_in}
-use Rattle.quilt_blocks.proofs.Painting.{code_in}
+use Rattle.quilt_blocks.proofs.PixelLeaves.{leaf_at}
 use Rattle.quilt_buffer.specs.Reach.{reaches, near, is_coloured, blocks_with_colour}
 use Rattle.quilt_blocks.proofs.Squares.{grid_of-same}
 use Rattle.quilt_buffer.proofs.Reaching.{any_member, any_from, InReach, InReach-from, reaches-true}
@@ -89,22 +85,13 @@ module _ (n : ℕ) (g : Grid) (r : ℕ) (le : n ≤ 12) (p : Pixel) where
       let q = m.0 in
       let inside = Contains-pixels_from n q m.1 in
       let t = and_parts (not (eqb (colour_at n g q) 0)) (nat_le (chessboard_distance p q) r) m.2 in
-      let run = leaves_run n g le in
-      let size = run.size in
-      let code = code_in n q le inside.0 inside.1 in
-      let w = member_with n 0 (leaves_by_code n g) (code_at q) run.follows (omega arith) (omega arith) in
+      let w = leaf_at n g q le inside.0 inside.1 in
+      let h = w.1 in
       let b = w.0.0 in
-      let leaf = leaf_is n g w.0 ((leaves_members n g w.0).0 w.1) in
-      let block = leaf.maximal.block in
-      let most = side_most n le in
-      let ix = block.in_x in
-      let iy = block.in_y in
-      let qx = inside.0 in
-      let qy = inside.1 in
-      let held = held_code n b q block le (omega arith) (omega arith) (omega arith) (omega arith) w.2 w.3 in
-      let coloured : is_coloured w.0 ≡ true = ap (λ c. not (eqb c 0)) (sym (leaf.colour.each q held)) ∙ t.0 in
+      let held = h.holds in
+      let coloured : is_coloured w.0 ≡ true = ap (λ c. not (eqb c 0)) (sym (h.leaf.colour.each q held)) ∙ t.0 in
       let member = Contains-map (λ (z : Block × ℕ). z.0) (filter is_coloured (leaves_by_code n g)) w.0
-      (Contains-filter is_coloured (leaves_by_code n g) w.0 w.1 coloured) in
+      (Contains-filter is_coloured (leaves_by_code n g) w.0 ((leaves_members n g w.0).1 h.member) coloured) in
       any_from (reaches r p) (blocks_with_colour (leaves_by_code n g)) b member (reaches-true r p b (held_near r b p q held (leb-true _ _ t.1)))
 
   pub near_leaves : near r (blocks_with_colour (leaves_by_code n g)) p ≡ cond (list_any (is_near n g r p) (pixels n)) 1 0

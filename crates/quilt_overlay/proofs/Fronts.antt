@@ -1,62 +1,21 @@
 -- The last leaves of two walks that have one code: the smaller one lies in the larger.
-use Rattle.std.proofs.Common.{◌≡◌, ℕ, ◌+◌, ◌-◌, ◌*◌, ◌/◌, ◌^◌, ◌<◌, ◌≤◌, ◌⊎◌, inl, inr, ⊎_elim, Option, Some, None, IfSome, refl, sym, ◌∙◌, ap, subst, arith}
+use Rattle.std.proofs.Common.{◌≡◌, ℕ, ◌-◌, ◌^◌, ◌<◌, ◌≤◌, ◌⊎◌, inl, inr, ⊎_elim, Option, Some, None, refl, sym, ◌∙◌, ap, subst, arith}
 use Rattle.std.specs.Option.{option_zip}
-use Rattle.std.proofs.Math.Nat.{mul-le-mul_left, lt_of_mul-lt-mul_left}
-use Rattle.std.proofs.lemmas.Nat.{pow-add}
 use Rattle.quilt_types.specs.declared.plane.Pixel.{Pixel}
 use Rattle.quilt_types.specs.declared.plane.Block.{Block}
 use Rattle.quilt_types.specs.Plane.{Holds, IsBlock}
 use Rattle.quilt_types.specs.Layers.{Grid, colour_at}
 use Rattle.quilt_types.specs.Algebra.{grid_of}
-use Rattle.quilt_types.specs.Codes.{interleaved}
 use Rattle.quilt_loc.specs.Codes.{code_from, code_to}
-use Rattle.quilt_loc.proofs.Blocks.{side_most}
-use Rattle.quilt_loc.proofs.Nesting.{level_le}
-use Rattle.quilt_loc.proofs.Intervals.{code_from_is, code_to_is, code_held, held_code}
 use Rattle.quilt_blocks.specs.declared.leaf.Leaf.{Leaf}
 use Rattle.quilt_blocks.specs.Mosaic.{HasColour}
 use Rattle.quilt_blocks.specs.Walk.{Walk}
-use Rattle.quilt_blocks.proofs.Listed.{held_in}
+use Rattle.quilt_blocks.proofs.Inside.{smaller_inside, codes_inside}
+use Rattle.quilt_blocks.proofs.Paired.{zip_some, zip_none}
 use Rattle.quilt_overlay.specs.declared.operation.Op.{Op}
 use Rattle.quilt_overlay.specs.declared.operation.Op.TheVariants.{Union, Inter, Diff}
 use Rattle.quilt_overlay.specs.Combining.{combined, overlaid}
 use Rattle.quilt_overlay.specs.Fronts.{IsAt, IsFront, IsPassed}
-
--- an interval of u numbers from a multiple of u, and one of w times as many
-multiples : (u c w k at : ℕ) → u * k ≤ at → at < u * k + u → u * c ≤ at → at < u * c + u * w → (u * c ≤ u * k) × (u * k + u ≤ u * c + u * w)
-multiples u c w k at a b d e =
-    let l : c < k + 1 = lt_of_mul-lt-mul_left u {m = c} {n = k + 1} (omega arith) in
-    let r : k < c + w = lt_of_mul-lt-mul_left u {m = k} {n = c + w} (omega arith) in
-    let l' : c ≤ k = omega arith in
-    let r' : k + 1 ≤ c + w = omega arith in
-    let low = mul-le-mul_left u l' in
-    let high = mul-le-mul_left u r' in
-    (omega arith, omega arith)
-
--- of two blocks that have one code the smaller lies in the larger
-pub smaller_inside : (n : ℕ) (a b : Block) (at : ℕ) → n ≤ 12 → IsBlock n a → IsBlock n b → a.side ≤ b.side → code_from a ≤ at → at < code_to a
-    → code_from b ≤ at → at < code_to b
-    → (code_from b ≤ code_from a) × (code_to a ≤ code_to b)
-smaller_inside n a b at le ha hb small af at' bf bt =
-    let i = ha.level in
-    let j = hb.level in
-    let ij = level_le n a b ha hb small in
-    let ka = interleaved (12 - i) (a.x / 2 ^ i) (a.y / 2 ^ i) in
-    let kb = interleaved (12 - j) (b.x / 2 ^ j) (b.y / 2 ^ j) in
-    let split : 4 ^ j ≡ 4 ^ i * 4 ^ (j - i) = ap (λ k. 4 ^ k) (let e : j ≡ i + (j - i) = omega arith in e) ∙ pow-add 4 i (j - i) in
-    let fa = code_from_is n a ha le in
-    let fb = code_from_is n b hb le in
-    let ta = code_to_is n a ha in
-    let tb = code_to_is n b hb in
-    let w = 4 ^ (j - i) in
-    let many : 4 ^ j * kb ≡ 4 ^ i * (w * kb) = ap (λ z. z * kb) split ∙ assoc (4 ^ i) w kb in
-    let r = multiples (4 ^ i) (w * kb) w ka at (omega arith) (omega arith) (omega arith) (omega arith) in
-    let low = r.0 in
-    let high = r.1 in
-    (omega arith, omega arith)
-  where
-    assoc : (u v k : ℕ) → u * v * k ≡ u * (v * k)
-    assoc u v k = omega arith
 
 -- it begins at the code where one of the two does
 pub smaller_begins : (n : ℕ) (a b : Block) (at : ℕ) → n ≤ 12 → IsBlock n a → IsBlock n b → a.side ≤ b.side → code_from a ≤ at → at < code_to a
@@ -71,26 +30,6 @@ colour_in : (w : Walk) (n : ℕ) (g : Grid) {code next : ℕ} (l : Leaf) → w.l
     → HasColour w.level w.grid l.block l.colour.0
 colour_in w n g l el eg h =
     subst (λ (i : Grid). HasColour w.level i l.block l.colour.0) (sym eg) (subst (λ (k : ℕ). HasColour k g l.block l.colour.0) (sym el) h.colour)
-
--- both are there, or one is not
-first_of : {T U : Type 0} → Option (T × U) → T → T
-first_of None d = d
-first_of (Some z) d = z.0
-
-second_of : {T U : Type 0} → Option (T × U) → U → U
-second_of None d = d
-second_of (Some z) d = z.1
-
-pub zip_some : {T U : Type 0} (a : Option T) (b : Option U) (p : T) (q : U) → option_zip a b ≡ Some (p, q) → (a ≡ Some p) × (b ≡ Some q)
-unfolding first_of second_of
-zip_some None b p q e = absurd (cc)
-zip_some (Some x) None p q e = absurd (cc)
-zip_some (Some x) (Some y) p q e = (ap Some (ap (λ o. first_of o x) e), ap Some (ap (λ o. second_of o y) e))
-
-pub zip_none : {T U : Type 0} (a : Option T) (b : Option U) → option_zip a b ≡ None → (a ≡ None) ⊎ (b ≡ None)
-zip_none None b e = inl refl
-zip_none (Some x) None e = inr refl
-zip_none (Some x) (Some y) e = absurd (cc)
 
 -- the block that the walks pass next: it begins at the code, lies in both leaves and ends where one of them does
 pub record IsStep (n at : ℕ) (a b s : Block) : Type 0 where
@@ -132,21 +71,6 @@ module _ (n : ℕ) (at : ℕ) (a b : Block) (le : n ≤ 12) (ha : IsBlock n a) (
       ⊎_elim
       (λ e. let k = ap (λ (z : Block). z.side) e in subst (IsStep n at a b) (sym e) (first_is (omega arith)))
       (λ e. let k = ap (λ (z : Block). z.side) e in subst (IsStep n at a b) (sym e) (second_is (omega arith))) one
-
--- a pixel of a block whose codes are all a leaf's is one of the leaf's
-pub codes_inside : (n : ℕ) (s b : Block) (p : Pixel) → n ≤ 12 → IsBlock n s → IsBlock n b → code_from b ≤ code_from s
-    → code_to s ≤ code_to b → Holds s p → Holds b p
-codes_inside n s b p le hs hb from to held =
-    let m = side_most n le in
-    let sq = held_in n s p hs held in
-    let px = sq.0 in
-    let py = sq.1 in
-    let w = code_held n s p hs le held in
-    let low = w.0 in
-    let high = w.1 in
-    let bx = hb.in_x in
-    let by = hb.in_y in
-    held_code n b p hb le (omega arith) (omega arith) (omega arith) (omega arith) (omega arith) (omega arith)
 
 -- what a step of the walks over two grids is
 module _ (n : ℕ) (ga gb : Grid) (at : ℕ) (first second : Option Leaf) (wa wb : Walk) (le : n ≤ 12) (fa : IsFront n ga at first wa)
@@ -218,9 +142,6 @@ module _ (n : ℕ) (ga gb : Grid) (at : ℕ) (first second : Option Leaf) (wa wb
 pub IsFront-at : (n m : ℕ) (g h : Grid) (k j : ℕ) (leaf : Option Leaf) (w : Walk) → n ≡ m → g ≡ h → k ≡ j → IsFront n g k leaf w → IsFront m h j leaf w
 IsFront-at n m g h k j leaf w en eg ek f =
     subst (λ (i : ℕ). IsFront m h i leaf w) ek (subst (λ (i : Grid). IsFront m i k leaf w) eg (subst (λ (i : ℕ). IsFront i g k leaf w) en f))
-
-pub at_some : (P : Leaf → Type 0) (o : Option Leaf) (l : Leaf) → o ≡ Some l → IfSome o P → P l
-at_some P o l e h = let r : IfSome (Some l) P = subst (λ (z : Option Leaf). IfSome z P) e h in r
 
 -- the grid pixel by pixel
 pub overlaid_is : (op : Op) (n : ℕ) (a b : Grid) → grid_of n (λ p. combined op (colour_at n a p) (colour_at n b p)) ≡ overlaid op n a b

@@ -9,13 +9,12 @@ use Rattle.std.proofs.lemmas.Bool.{cases_lt, cases_Bool}
 use Rattle.quilt_types.specs.declared.plane.Pixel.{Pixel}
 use Rattle.quilt_types.specs.declared.plane.Block.{Block}
 use Rattle.quilt_types.specs.declared.plane.Colour.{Colour}
-use Rattle.quilt_types.specs.Plane.{side, in_block, Holds, IsBlock}
+use Rattle.quilt_types.specs.Plane.{side, in_block, IsBlock}
 use Rattle.quilt_types.specs.Layers.{Grid, colour_at}
 use Rattle.quilt_types.specs.Quadtrees.{leaves}
-use Rattle.quilt_loc.specs.Codes.{code_at, code_from, code_to, Rises}
+use Rattle.quilt_loc.specs.Codes.{code_from, code_to, Rises}
 use Rattle.quilt_loc.proofs.Members.{Contains-nil, Contains-there, Contains-cons_cases, list_all-from}
-use Rattle.quilt_loc.proofs.Blocks.{side_most, in_block-true}
-use Rattle.quilt_loc.proofs.Intervals.{held_code}
+use Rattle.quilt_loc.proofs.Blocks.{in_block-true}
 use Rattle.quilt_loc.proofs.CodeLaws.{depth_is}
 use Rattle.quilt_record.specs.declared.key.Key.{Key}
 use Rattle.quilt_record.specs.declared.record.Record.{Record}
@@ -23,9 +22,9 @@ use Rattle.quilt_record.specs.Records.{key_cmp}
 use Rattle.quilt_blocks.specs.declared.leaf.Leaf.{Leaf}
 use Rattle.quilt_blocks.specs.Cutting.{leaves_by_code, pair_of}
 use Rattle.quilt_blocks.specs.Listing.{Follows}
-use Rattle.quilt_blocks.proofs.Chains.{member_pos, Follows-member, member_with}
-use Rattle.quilt_blocks.proofs.Cuts.{IsLeaf, leaf_is, leaves_run, leaves_members}
-use Rattle.quilt_blocks.proofs.Painting.{code_in}
+use Rattle.quilt_blocks.proofs.Chains.{member_pos, Follows-member}
+use Rattle.quilt_blocks.proofs.Cuts.{leaf_is, leaves_run, leaves_members}
+use Rattle.quilt_blocks.proofs.PixelLeaves.{HasLeaf, leaf_at}
 use Rattle.quilt_btree.specs.declared.tree.Tree.{Tree}
 use Rattle.quilt_btree.specs.Lists.{is_at_most, floor_of}
 use Rattle.quilt_btree.specs.Trees.{IsTree}
@@ -143,22 +142,6 @@ module _ (rs : List Record) (layer n : ℕ) (g : Grid) (le : n ≤ 12) (up : Ris
         floor_at k (leaf_record n layer e) rs up (spells.each e member) at_most
         (λ s c less. ⊎_elim (λ t. absurd (none_between s c less t)) (λ f. not_le s.key k f) (cases_Bool (is_le (key_cmp s.key k))))
 
--- the leaf that has the code of a pixel
-pub record HasLeaf (n : ℕ) (g : Grid) (p : Pixel) (e : Block × ℕ) : Type 0 where
-  pub member : Contains (leaves n g) e
-  pub leaf : IsLeaf n g e
-  pub from : code_from e.0 ≤ code_at p
-  pub to : code_at p < code_to e.0
-
-pub leaf_at : (n : ℕ) (g : Grid) (p : Pixel) → n ≤ 12 → p.x < side n → p.y < side n → (e : Block × ℕ) × HasLeaf n g p e
-leaf_at n g p le hx hy =
-    let run = leaves_run n g le in
-    let s = run.size in
-    let i = code_in n p le hx hy in
-    let m = member_with n 0 (leaves_by_code n g) (code_at p) run.follows (omega arith) (omega arith) in
-    let c = (leaves_members n g m.0).0 m.1 in
-    (m.0, record { member = c; leaf = leaf_is n g m.0 c; from = m.2; to = m.3 })
-
 -- what is found of a tree that has the layer
 pub floor_found : (told : Option (List (List ℕ))) (t : Tree) (layer n : ℕ) (g : Grid) (p : Pixel) (k : Key) (found : Option Record)
     → n ≤ 12 → p.x < side n → p.y < side n → k ≡ pixel_key layer p
@@ -184,14 +167,6 @@ none_some x e = cc
 pub some_same : {X : Type 0} (x y : X) → Some x ≡ Some y → x ≡ y
 some_same x y e = ap (λ o. unwrap_or o x) e
 
-held : (n : ℕ) (g : Grid) (p : Pixel) (e : Block × ℕ) → n ≤ 12 → p.x < side n → p.y < side n → HasLeaf n g p e → Holds e.0 p
-held n g p e le hx hy h =
-    let m = side_most n le in
-    let b = h.leaf.maximal.block in
-    let bx = b.in_x in
-    let by = b.in_y in
-    held_code n e.0 p b le (omega arith) (omega arith) (omega arith) (omega arith) h.from h.to
-
 -- a leaf that was read holds the pixel and has its colour
 pub record IsRead (n : ℕ) (g : Grid) (p : Pixel) (read : Option Leaf) : Type 0 where
   pub leaf : Leaf
@@ -210,7 +185,7 @@ leaf_read told t layer n g p k found r read least le hx hy key is some one h =
     let f = floor_found told t layer n g p k found le hx hy key is h in
     let e = f.0 in
     let leaf = (f.1).leaf in
-    let holds = held n g p e le hx hy f.1 in
+    let holds = (f.1).holds in
     record {
       leaf = record { block = e.0; colour = record { 0 = e.1 } };
       is = one e.0 (record { 0 = e.1 }) least leaf.maximal.block (some_same r (leaf_record n layer e) (sym some ∙ f.2));

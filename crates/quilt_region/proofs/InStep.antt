@@ -1,5 +1,5 @@
 -- Two walks in step: which leaves are in one list alone.
-use Rattle.std.proofs.Common.{◌≡◌, ℕ, ◌+◌, ◌*◌, ◌^◌, ◌<◌, ◌≤◌, Bool, true, false, not, List, [], ◌∷◌, ◌++◌, map, filter, Contains, ◌⊎◌, ◌↔◌, inl, inr, Option}
+use Rattle.std.proofs.Common.{◌≡◌, ℕ, ◌+◌, ◌*◌, ◌^◌, ◌<◌, ◌≤◌, Bool, true, false, not, List, [], ◌∷◌, ◌++◌, map, filter, Contains, ◌⊎◌, ◌↔◌, Option}
 use Rattle.std.proofs.Common.{Some, None, IfSome, IsNone, refl, sym, ◌∙◌, ap, subst, ⊎_elim, arith, eqb, eqb-true, eq-eqb, ◌&&◌, append-nil}
 use Rattle.std.specs.Option.{option_zip, is_some}
 use Rattle.quilt_types.specs.declared.plane.Block.{Block}
@@ -16,6 +16,8 @@ use Rattle.quilt_blocks.specs.Cutting.{leaves_by_code, pair_of}
 use Rattle.quilt_blocks.specs.declared.leaf.Leaf.{Leaf}
 use Rattle.quilt_blocks.specs.Walk.{Walk, IsLeafAt}
 use Rattle.quilt_blocks.proofs.Chains.{member_pos}
+use Rattle.quilt_blocks.proofs.Inside.{smaller_inside}
+use Rattle.quilt_blocks.proofs.Paired.{zip_none, at_some}
 use Rattle.std.proofs.Math.Nat.{mul-le-mul_left, mul-le-mul_right}
 use Rattle.quilt_blocks.proofs.Squares.{code_to-whole}
 use Rattle.quilt_blocks.proofs.Painting.{code_in}
@@ -23,7 +25,6 @@ use Rattle.quilt_blocks.proofs.Cuts.{leaves_run, leaves_members}
 use Rattle.quilt_region.specs.Regions.{leaf_record}
 use Rattle.quilt_region.specs.Plans.{is_leaf, records_without, AreSoFar, GoOnWithin}
 use Rattle.quilt_region.proofs.Floors.{same_member}
-use Rattle.quilt_region.proofs.Nested.{smaller_inside}
 use Rattle.quilt_region.proofs.Leaves.{is_leaf_from, is_leaf_at, only_test, none_yet, passed_in, passed_over}
 use Rattle.std.proofs.lemmas.Bool.{false_from_ne_true, and_parts, and_from}
 
@@ -80,28 +81,6 @@ pub none_so_far : (n layer : ℕ) (g other : Grid) (records : List Record) (rest
 none_so_far n layer g other records rest e f = none_yet n layer g other records rest e f
 
 -- ---- two walks that go on together
-first_of : {T U : Type 0} → Option (T × U) → T → T
-first_of None d = d
-first_of (Some z) d = z.0
-
-second_of : {T U : Type 0} → Option (T × U) → U → U
-second_of None d = d
-second_of (Some z) d = z.1
-
-pub zip_some : {T U : Type 0} (a : Option T) (b : Option U) (p : T) (q : U) → option_zip a b ≡ Some (p, q) → (a ≡ Some p) × (b ≡ Some q)
-unfolding first_of second_of
-zip_some None b p q e = absurd (cc)
-zip_some (Some x) None p q e = absurd (cc)
-zip_some (Some x) (Some y) p q e = (ap Some (ap (λ o. first_of o x) e), ap Some (ap (λ o. second_of o y) e))
-
-zip_none : {T U : Type 0} (a : Option T) (b : Option U) → option_zip a b ≡ None → (a ≡ None) ⊎ (b ≡ None)
-zip_none None b e = inl refl
-zip_none (Some x) None e = inr refl
-zip_none (Some x) (Some y) e = absurd (cc)
-
-at_some : (P : Leaf → Type 0) (o : Option Leaf) (l : Leaf) → o ≡ Some l → IfSome o P → P l
-at_some P o l e h = let r : IfSome (Some l) P = subst (λ (z : Option Leaf). IfSome z P) e h in r
-
 -- a walk that has passed a leaf
 pub record HasPassed (n : ℕ) (g : Grid) (old new : Walk) (l : Leaf) : Type 0 where
   pub level : new.level ≡ n

@@ -22,6 +22,7 @@ use Rattle.quilt_blocks.specs.Cutting.{leaves_by_code}
 use Rattle.quilt_blocks.proofs.Chains.{member_pos}
 use Rattle.quilt_blocks.proofs.Colours.{uniform-from_HasColour}
 use Rattle.quilt_blocks.proofs.Cuts.{leaf_is, leaf_total, leaves_run, leaves_members}
+use Rattle.quilt_blocks.proofs.Inside.{smaller_inside}
 use Rattle.quilt_blocks.proofs.Leaves.{uniform_down}
 use Rattle.quilt_blocks.proofs.Listed.{held_in}
 use Rattle.quilt_blocks.proofs.Maximal.{alone}
@@ -31,7 +32,6 @@ use Rattle.quilt_region.specs.Windows.{HoldsWindow, IsLeafWith, IsCutOut, HasAro
 use Rattle.quilt_region.proofs.Beside.{not_held, held_not}
 use Rattle.quilt_region.proofs.Floors.{same_member}
 use Rattle.quilt_region.proofs.Leaves.{is_leaf_from, maximal_leaf}
-use Rattle.quilt_region.proofs.Nested.{smaller_inside}
 use Rattle.quilt_region.proofs.Within.{within_from, within_at, within_rise}
 
 -- the room of a window

@@ -19,7 +19,9 @@ use Rattle.quilt_loc.proofs.Quartered.{quarters_are}
 use Rattle.quilt_loc.proofs.Rising.{nat_less, same_rising, Rises-filter, Rises-append}
 use Rattle.quilt_record.specs.declared.record.Record.{Record}
 use Rattle.quilt_blocks.specs.Cutting.{leaf_cmp}
+use Rattle.quilt_blocks.proofs.Adding.{part_at}
 use Rattle.quilt_blocks.proofs.Cuts.{leaf_is, leaf_total}
+use Rattle.quilt_blocks.proofs.Inside.{smaller_inside}
 use Rattle.quilt_blocks.proofs.Leaves.{uniform_down}
 use Rattle.quilt_spell.specs.Written.{by_key}
 use Rattle.quilt_spell.proofs.Written.{by_key_total}
@@ -34,8 +36,6 @@ use Rattle.quilt_region.proofs.Beside.{true_false}
 use Rattle.quilt_region.proofs.Edited.{only_in}
 use Rattle.quilt_region.proofs.KnownPlans.{parted_by}
 use Rattle.quilt_region.proofs.Leaves.{is_leaf_from, is_leaf_at, only_leaf}
-use Rattle.quilt_region.proofs.Nested.{smaller_inside}
-use Rattle.quilt_region.proofs.Parts.{part_at}
 use Rattle.quilt_region.proofs.RegionLaws.{only_rises}
 use Rattle.quilt_region.proofs.Within.{corner_in, within_from, within_at, within_rise}
 

@@ -26,28 +26,12 @@ use Rattle.quilt_blocks.proofs.Chains.{Follows-rises, Follows-place, size_of-tak
 use Rattle.quilt_blocks.proofs.Leaves.{uniform_down, uniform_pixel}
 use Rattle.quilt_blocks.proofs.Maximal.{IsMaximal-from, Contains-maximal, cut_law}
 use Rattle.quilt_blocks.proofs.Cuts.{Runs, cut_runs, leaf_total, leaf_is, leaves_rise, leaves_members}
-use Rattle.quilt_blocks.proofs.Listed.{held_in}
+use Rattle.quilt_blocks.proofs.Inside.{smaller_inside, codes_inside}
 use Rattle.quilt_region.specs.Painting.{HasColours}
 use Rattle.quilt_region.specs.Regions.{leaf_record}
 use Rattle.quilt_region.specs.Windows.{IsCutOut, leaves_within, records_within}
 use Rattle.quilt_region.proofs.Floors.{none_some, some_same}
 use Rattle.quilt_region.proofs.Parts.{HasColours-push}
-use Rattle.quilt_region.proofs.Nested.{smaller_inside}
-
--- a pixel of a block whose codes are all another one's is one of that one's
-pub codes_inside : (n : ℕ) (s b : Block) (p : Pixel) → n ≤ 12 → IsBlock n s → IsBlock n b → code_from b ≤ code_from s
-    → code_to s ≤ code_to b → Holds s p → Holds b p
-codes_inside n s b p le hs hb from to held =
-    let m = side_most n le in
-    let sq = held_in n s p hs held in
-    let px = sq.0 in
-    let py = sq.1 in
-    let w = code_held n s p hs le held in
-    let low = w.0 in
-    let high = w.1 in
-    let bx = hb.in_x in
-    let by' = hb.in_y in
-    held_code n b p hb le (omega arith) (omega arith) (omega arith) (omega arith) (omega arith) (omega arith)
 
 -- a block holds the corner of one that begins within its codes
 pub corner_in : (n : ℕ) (a b : Block) → n ≤ 12 → IsBlock n a → IsBlock n b → code_from b ≤ code_from a → code_from a < code_to b → Holds b (corner a)

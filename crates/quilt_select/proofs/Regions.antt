@@ -13,18 +13,15 @@ use Rattle.quilt_types.specs.Layers.{Grid}
 use Rattle.quilt_types.specs.Segments.{meets, square}
 use Rattle.quilt_types.specs.Quadtrees.{reach}
 use Rattle.quilt_store.specs.Store.{Tells}
-use Rattle.quilt_loc.specs.Codes.{code_at}
-use Rattle.quilt_loc.proofs.Blocks.{side_most, Contains-pixels_of}
+use Rattle.quilt_loc.proofs.Blocks.{Contains-pixels_of}
 use Rattle.quilt_loc.proofs.Rows.{Contains-pixels, Contains-pixels_from}
 use Rattle.quilt_loc.proofs.Members.{Contains-map, Contains-map_from, Contains-filter, Contains-filter_from}
 use Rattle.quilt_loc.proofs.Nesting.{side_pos}
 use Rattle.quilt_loc.proofs.Quartered.{Within-whole}
-use Rattle.quilt_loc.proofs.Intervals.{held_code}
 use Rattle.quilt_blocks.specs.Cutting.{leaves_by_code}
-use Rattle.quilt_blocks.proofs.Chains.{member_with}
-use Rattle.quilt_blocks.proofs.Cuts.{leaves_run, leaves_members, leaf_is}
+use Rattle.quilt_blocks.proofs.Cuts.{leaves_members, leaf_is}
 use Rattle.quilt_blocks.proofs.Listed.{held_in}
-use Rattle.quilt_blocks.proofs.Painting.{code_in}
+use Rattle.quilt_blocks.proofs.PixelLeaves.{leaf_at}
 use Rattle.quilt_near.specs.Lines.{Lines}
 use Rattle.quilt_near.proofs.Reached.{list_any-true, list_any-from}
 use Rattle.quilt_near.proofs.Telling.{tells_weaker}
@@ -92,22 +89,13 @@ module _ (n : ℕ) (g : Grid) where
       let inside = Contains-pixels_from n q m.1 in
       let unit : Window = record { x = q.x; y = q.y; w = 1; h = 1 } in
       let t = and_parts (is_coloured_at n g q) (meets s unit) m.2 in
-      let run = leaves_run n g le in
-      let size = run.size in
-      let code = code_in n q le inside.0 inside.1 in
-      let w = member_with n 0 (leaves_by_code n g) (code_at q) run.follows (omega arith) (omega arith) in
+      let w = leaf_at n g q le inside.0 inside.1 in
+      let h = w.1 in
       let b = w.0.0 in
-      let leaf = leaf_is n g w.0 ((leaves_members n g w.0).0 w.1) in
-      let block = leaf.maximal.block in
-      let most = side_most n le in
-      let ix = block.in_x in
-      let iy = block.in_y in
-      let qx = inside.0 in
-      let qy = inside.1 in
-      let held = held_code n b q block le (omega arith) (omega arith) (omega arith) (omega arith) w.2 w.3 in
-      let coloured : is_coloured w.0 ≡ true = ap (λ c. not (eqb c 0)) (sym (leaf.colour.each q held)) ∙ t.0 in
+      let held = h.holds in
+      let coloured : is_coloured w.0 ≡ true = ap (λ c. not (eqb c 0)) (sym (h.leaf.colour.each q held)) ∙ t.0 in
       let member = Contains-map (λ (z : Block × ℕ). square z.0) (filter is_coloured (leaves_by_code n g)) w.0
-      (Contains-filter is_coloured (leaves_by_code n g) w.0 w.1 coloured) in
+      (Contains-filter is_coloured (leaves_by_code n g) w.0 ((leaves_members n g w.0).1 h.member) coloured) in
       let at = touched s unit (omega arith) (omega arith) t.1 in
       let al = at.1.left in let ar = at.1.right in let au = at.1.top in let ad = at.1.bottom in
       let hl = held.left in let hr = held.right in let hu = held.top in let hd = held.bottom in

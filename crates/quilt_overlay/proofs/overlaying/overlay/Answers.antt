@@ -6,8 +6,9 @@ use Rattle.quilt_loc.specs.Codes.{code_from, code_to}
 use Rattle.quilt_loc.proofs.CodeLaws.{code_below}
 use Rattle.quilt_blocks.specs.Painting.{Painted, grid_by_code}
 use Rattle.quilt_blocks.proofs.Painting.{Paints, Paints-push, Paints-all}
+use Rattle.quilt_blocks.proofs.Paired.{at_some}
 use Rattle.quilt_overlay.specs.Combining.{combined}
-use Rattle.quilt_overlay.proofs.Fronts.{step_of, colour_of, passed_first, passed_second, both_over, IsFront-at, at_some, overlaid_is}
+use Rattle.quilt_overlay.proofs.Fronts.{step_of, colour_of, passed_first, passed_second, both_over, IsFront-at, overlaid_is}
 use Rattle.quilt_overlay.proofs.overlaying.overlay.Goals as goal
 
 pub push-requires-clause-valid : goal.push-requires-clause-valid

@@ -6,9 +6,9 @@ use Rattle.quilt_loc.specs.Codes.{code_from}
 use Rattle.quilt_loc.proofs.Blocks.{IsBlock-up, Holds-from}
 use Rattle.quilt_loc.proofs.Intervals.{half_codes}
 use Rattle.quilt_loc.proofs.Nesting.{side_pos, twice_le}
+use Rattle.quilt_blocks.proofs.Adding.{part_at}
 use Rattle.quilt_region.specs.Windows.{IsCutOut, known_colour, records_within}
 use Rattle.quilt_region.proofs.Beside.{wider, read_colour, blocks_equal, blocks_differ, if_err_weaker}
-use Rattle.quilt_region.proofs.Parts.{part_at}
 use Rattle.quilt_region.proofs.filling.+put_around.Goals as goal
 
 pub returns-then-eq-clause-colours : goal.returns-then-eq-clause-colours

@@ -7,11 +7,11 @@ use Rattle.quilt_types.specs.Quadtrees.{is_uniform, leaves}
 use Rattle.quilt_blocks.proofs.Leaves.{uniform_down}
 use Rattle.quilt_loc.proofs.Blocks.{IsBlock-up}
 use Rattle.quilt_loc.proofs.Nesting.{side_pos, IsBlock-parent_of, Within-parent_of}
+use Rattle.quilt_blocks.proofs.Adding.{part_at}
 use Rattle.quilt_region.specs.Regions.{HasRegion}
 use Rattle.quilt_region.specs.Windows.{HasAround}
 use Rattle.quilt_region.proofs.Counting.{reads_then}
 use Rattle.quilt_region.proofs.Nearby.{around_has, around_several, quarter_leaf}
-use Rattle.quilt_region.proofs.Parts.{part_at}
 use Rattle.quilt_region.proofs.nearing.has_around.Goals as goal
 
 larger_block : (n : ℕ) (b larger : Block) → IsBlock n b → b.side < 2 ^ n → larger ≡ parent_of b → IsBlock n larger

@@ -5,7 +5,8 @@ use Rattle.quilt_loc.proofs.Blocks.{IsBlock-up}
 use Rattle.quilt_loc.proofs.Intervals.{half_codes}
 use Rattle.quilt_loc.proofs.Nesting.{Within-holds}
 use Rattle.quilt_blocks.specs.Painting.{Painted}
-use Rattle.quilt_region.proofs.Parts.{block_room, window_room, part_at, HasColours-push, HasColours-at, IsBlock-at, is_window-at}
+use Rattle.quilt_blocks.proofs.Adding.{part_at}
+use Rattle.quilt_region.proofs.Parts.{block_room, window_room, HasColours-push, HasColours-at, IsBlock-at, is_window-at}
 use Rattle.quilt_region.proofs.painting.+put_block.Goals as goal
 
 pub one_colour-requires-clause-width : goal.one_colour-requires-clause-width
