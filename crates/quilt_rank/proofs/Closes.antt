@@ -13,10 +13,11 @@ use Rattle.quilt_loc.proofs.Members.{Contains-nil, Contains-here, Contains-there
 use Rattle.quilt_near.specs.Lines.{Lines, IsLines}
 use Rattle.quilt_near.proofs.NearPixels.{near_pixel}
 use Rattle.quilt_near.proofs.Leading.{far_of}
+use Rattle.quilt_near.proofs.Waiting.{least_of_all}
 use Rattle.quilt_rank.specs.Ranks.{last_far, is_past}
 use Rattle.quilt_rank.proofs.Orders.{Rank, Ahead, IsSettled, sub_same, not_itself, not_both}
 use Rattle.quilt_rank.proofs.Ranking.{last_is, IsRank, rank_positive, IsRanking, ranking_is}
-use Rattle.quilt_rank.proofs.Fronts.{Front, least_of_all}
+use Rattle.quilt_rank.proofs.Fronts.{Front}
 
 not_past : (long : Bool) (a b : ℕ) → long ≡ true → (long && nat_lt a b) ≡ false → b ≤ a
 not_past true a b l h = ltb-false a b h
@@ -40,7 +41,7 @@ module _ (n : ℕ) (p : Pixel) (k : ℕ) (l : Lines) (is : IsLines n l) (queue r
       ⊎_elim (λ done. inl (subst (IsSettled k rs) same done))
       (λ held.
       let w = f.waits held.by held.listed in
-      let le = least_of_all n p k l is queue rest e h least held.by held.listed in
+      let le = least_of_all queue rest e h least held.by held.listed in
       let near = at.1.near held.by.1 held.holds in
       let at_by : held.by.0 * (square_distance p i.seg).den ≤ (square_distance p i.seg).num =
       subst (λ t. t * (square_distance p i.seg).den ≤ (square_distance p i.seg).num) (sym w.distance) near in

@@ -1,32 +1,27 @@
 -- The search for the first k: those so far and the blocks that wait stand for all segments.
 use Rattle.std.proofs.Common.{◌≡◌, ℕ, ◌*◌, ◌<◌, ◌≤◌, true, false, ◌⊎◌, inl, inr, ⊎_elim, List, [], ◌∷◌, ◌++◌, fold, map, length, All, Contains, eqb, eqb-true}
-use Rattle.std.proofs.Common.{nat_lt, refl, sym, subst, arith, ap, ltb-true, IsPermutation}
+use Rattle.std.proofs.Common.{nat_lt, sym, subst, arith, ap, ltb-true, IsPermutation}
 use Rattle.std.specs.FinMap as finmap
 use Rattle.std.proofs.Math.Nat.{mul-le-mul_right}
 use Rattle.std.proofs.lemmas.Bool.{and_parts}
-use Rattle.std.proofs.lemmas.List.Sorted.{Contains-permutation, IsPermutation-sym}
-use Rattle.std.proofs.lemmas.List.Elements.{Contains-append_left, Contains-append_right, Contains-append_cases}
 use Rattle.quilt_types.specs.Sets as finset
 use Rattle.quilt_types.specs.declared.plane.Pixel.{Pixel}
 use Rattle.quilt_types.specs.declared.plane.Block.{Block}
 use Rattle.quilt_types.specs.declared.plane.Seg.{Seg}
-use Rattle.quilt_types.specs.Plane.{quarters_of, whole, Holds}
-use Rattle.quilt_types.specs.Layers.{is_in_square}
+use Rattle.quilt_types.specs.Plane.{quarters_of, whole}
 use Rattle.quilt_types.specs.Fractions.{Fraction, is_less}
 use Rattle.quilt_types.specs.Segments.{square_distance, meets, square}
 use Rattle.quilt_types.specs.Ranking.{ranked}
 use Rattle.quilt_clip.specs.Fractions.{UpTo}
 use Rattle.quilt_clip.proofs.Orders.{up_to_trans, up_to_if_less}
-use Rattle.quilt_loc.proofs.Members.{Contains-nil, Contains-here, Contains-there, Contains-cons_cases, Contains-map, Contains-map_from, Contains-filter}
+use Rattle.quilt_loc.proofs.Members.{Contains-nil, Contains-filter}
 use Rattle.quilt_loc.proofs.Members.{Contains-filter_from}
-use Rattle.quilt_loc.proofs.Quartered.{IsBlock-whole, Holds-whole, quarters_are}
 use Rattle.quilt_near.specs.Lines.{Lines, IsLines, meeting}
 use Rattle.quilt_near.specs.Nearness.{IsNearPixel}
 use Rattle.quilt_near.specs.Choices.{placed_at}
 use Rattle.quilt_near.proofs.NearPixels.{near_pixel, farther}
-use Rattle.quilt_near.proofs.Frontiers.{Waits, IsHeld, below_side}
 use Rattle.quilt_near.proofs.Leading.{far_of}
-use Rattle.quilt_near.proofs.Reached.{All-at, quarter_holding, reached_whole, reached_quarter}
+use Rattle.quilt_near.proofs.Waiting.{Waits, IsHeld, all_rest, came_out, least_of_all, waits_first, held_first, waits_split, held_rest, held_split}
 use Rattle.quilt_rank.specs.Ranks.{with_seg, last_far, is_past}
 use Rattle.quilt_rank.proofs.Orders.{Rank, Ahead, AreRanked, IsSettled}
 use Rattle.quilt_rank.proofs.Ranking.{last_is, IsRank, rank_of, rank_positive, ranking_from, steps}
@@ -40,28 +35,15 @@ pub record Front (n : ℕ) (p : Pixel) (k : ℕ) (l : Lines) (queue : List (ℕ 
   pub seen : (e : ℕ × Seg) → Contains (finmap.entries l.segs) e → (q : Pixel) → IsNearPixel p e.1 (square_distance p e.1) q
       → IsSettled k rs (far_of p e) ⊎ IsHeld queue q
 
-module _ {X : Type 0} (xs ys : List X) (h : IsPermutation xs ys) where
-  to : (x : X) → Contains xs x → Contains ys x
-  to x c = Contains-permutation xs ys x h c
-
-  from : (x : X) → Contains ys x → Contains xs x
-  from x c = Contains-permutation ys xs x (IsPermutation-sym xs ys h) c
-
 module _ (n : ℕ) (p : Pixel) (k : ℕ) (l : Lines) (is : IsLines n l) where
   pub start : (queue : List (ℕ × Block)) → IsPermutation (placed_at p (whole n) ∷ []) queue → Front n p k l queue []
   start queue h =
-      let first = placed_at p (whole n) in
       record {
-        waits = λ e c. ⊎_elim (λ e'. subst (Waits n p l) e' (record { block = IsBlock-whole n; distance = refl; reached = reached_whole n l is }))
-            (λ d. absurd (Contains-nil e d))
-            (Contains-cons_cases first [] e (from (first ∷ []) queue h e c));
+        waits = waits_first n p l is queue h;
         order = tt;
         real = λ z c. absurd (Contains-nil z c);
         few = omega arith;
-        seen = λ e c q near.
-            let b = below_side n e.1 (All-at (λ (z : ℕ × Seg). is_in_square n z.1 ≡ true) (finmap.entries l.segs) e is.inside c) in
-            let ix = near.in_x in let iy = near.in_y in
-            inr (record { by = first; listed = to (first ∷ []) queue h first (Contains-here first []); holds = Holds-whole n q (omega arith) (omega arith) });
+        seen = λ e c q near. inr (held_first n p l is queue h e c q near);
       }
 
   -- a block of the cover is opened
@@ -73,17 +55,16 @@ module _ (n : ℕ) (p : Pixel) (k : ℕ) (l : Lines) (is : IsLines n l) where
       let test = λ (z : ℕ × Seg). meets z.1 (square e.1) in
       let s = steps p l.segs k rs list (λ z c. (Contains-filter_from test es z (subst (λ (t : List (ℕ × Seg)). Contains t z) same c)).0) f.order f.real f.few in
       record {
-        waits = λ z c. f.waits z (from queue (e ∷ rest) h z (Contains-there e rest z c));
+        waits = all_rest (Waits n p l) queue rest e h f.waits;
         order = s.order;
         real = s.real;
         few = s.few;
         seen = λ z c q near.
             ⊎_elim (λ done. inl (s.kept (far_of p z) (rank_of p l.segs z c) done))
             (λ held. ⊎_elim
-            (λ is_e. inl (s.here z (subst (λ (t : List (ℕ × Seg)). Contains t z) (sym same)
-            (Contains-filter test es z c (near.meets e.1 (subst (λ (t : ℕ × Block). Holds t.1 q) (sym is_e) held.holds))))))
-            (λ d. inr (record { by = held.by; listed = d; holds = held.holds }))
-            (Contains-cons_cases e rest held.by (to queue (e ∷ rest) h held.by held.listed)))
+            (λ here. inl (s.here z (subst (λ (t : List (ℕ × Seg)). Contains t z) (sym same) (Contains-filter test es z c (near.meets e.1 here)))))
+            (λ on. inr on)
+            (held_rest queue rest e q h held))
             (f.seen z c q near);
       }
 
@@ -91,42 +72,14 @@ module _ (n : ℕ) (p : Pixel) (k : ℕ) (l : Lines) (is : IsLines n l) where
   pub split_step : (queue rest new : List (ℕ × Block)) (rs : List Rank) (e : ℕ × Block) → Front n p k l queue rs → IsPermutation queue (e ∷ rest) → 1 < e.1.side
       → finset.contains l.cover e.1 ≡ false → IsPermutation (map (placed_at p) (quarters_of e.1) ++ rest) new → Front n p k l new rs
   split_step queue rest new rs e f h wide cut h' =
-      let here = f.waits e (from queue (e ∷ rest) h e (Contains-here e rest)) in
-      let four = map (placed_at p) (quarters_of e.1) in
+      let here = f.waits e (came_out queue rest e h) in
       record {
-        waits = λ z c.
-            ⊎_elim
-            (λ d.
-            let m = Contains-map_from (placed_at p) (quarters_of e.1) z d in
-            let q = quarters_are n e.1 m.0 here.block wide m.1 in
-            subst (Waits n p l) m.2
-            (record { block = q.block; distance = refl; reached = reached_quarter n l is e.1 m.0 here.block wide here.reached cut m.1 }))
-            (λ d. f.waits z (from queue (e ∷ rest) h z (Contains-there e rest z d)))
-            (Contains-append_cases four rest z (from (four ++ rest) new h' z c));
+        waits = waits_split n p l is queue rest new e f.waits h wide cut h';
         order = f.order;
         real = f.real;
         few = f.few;
-        seen = λ z c q near.
-            ⊎_elim (λ done. inl done)
-            (λ held. ⊎_elim
-            (λ is_e.
-            let r = quarter_holding n e.1 q here.block wide (subst (λ (t : ℕ × Block). Holds t.1 q) (sym is_e) held.holds) in
-            inr (record {
-              by = placed_at p r.0;
-              listed = to (four ++ rest) new h' (placed_at p r.0)
-                  (Contains-append_left four rest (placed_at p r.0) (Contains-map (placed_at p) (quarters_of e.1) r.0 r.1));
-              holds = r.2;
-            }))
-            (λ d. inr (record { by = held.by; listed = to (four ++ rest) new h' held.by (Contains-append_right four rest held.by d); holds = held.holds }))
-            (Contains-cons_cases e rest held.by (to queue (e ∷ rest) h held.by held.listed)))
-            (f.seen z c q near);
+        seen = λ z c q near. ⊎_elim (λ done. inl done) (λ held. inr (held_split n p queue rest new e q here.block wide h h' held)) (f.seen z c q near);
       }
-
-  pub least_of_all : (queue rest : List (ℕ × Block)) (e : ℕ × Block) → IsPermutation queue (e ∷ rest) → All (λ z. e.0 ≤ z.0) rest → (z : ℕ × Block)
-      → Contains queue z → e.0 ≤ z.0
-  least_of_all queue rest e h least z c =
-      ⊎_elim (λ is_e. subst (λ (t : ℕ × Block). e.0 ≤ t.0) is_e (omega arith)) (λ d. All-at (λ (t : ℕ × Block). e.0 ≤ t.0) rest z least d)
-      (Contains-cons_cases e rest z (to queue (e ∷ rest) h z c))
 
   settled_of : (rs : List Rank) → ((z : ℕ × Seg) → Contains (finmap.entries l.segs) z → IsSettled k rs (far_of p z)) → (z : Rank)
       → IsRank p l.segs z → IsSettled k rs z

@@ -1,8 +1,6 @@
 -- What the loop of the search keeps, where the layer shows its lines and where it does not.
-use Rattle.std.proofs.Common.{◌≡◌, ℕ, ◌+◌, ◌*◌, ◌<◌, ◌≤◌, true, false, List, [], ◌∷◌, ◌++◌, Option, map, length, All, Contains, refl, sym, subst, arith, le-leb}
-use Rattle.std.proofs.Common.{⊎_elim, IsPermutation}
-use Rattle.std.proofs.lemmas.List.Sorted.{Contains-permutation, IsPermutation-sym}
-use Rattle.std.proofs.lemmas.List.Elements.{Contains-append_cases}
+use Rattle.std.proofs.Common.{◌≡◌, ℕ, ◌+◌, ◌*◌, ◌<◌, ◌≤◌, true, false, List, [], ◌∷◌, Option, map, length, All, Contains, refl, sym, subst, arith, le-leb}
+use Rattle.std.proofs.Common.{IsPermutation}
 use Rattle.quilt_types.specs.declared.plane.Pixel.{Pixel}
 use Rattle.quilt_types.specs.declared.plane.Block.{Block}
 use Rattle.quilt_types.specs.Plane.{quarters_of, whole, IsBlock}
@@ -10,7 +8,6 @@ use Rattle.quilt_types.specs.Segments.{block_distance}
 use Rattle.quilt_types.specs.Ranking.{ranked}
 use Rattle.quilt_types.specs.Quadtrees.{reach, is_reached}
 use Rattle.quilt_store.specs.Store.{Tells}
-use Rattle.quilt_loc.proofs.Members.{Contains-nil, Contains-here, Contains-there, Contains-cons_cases, Contains-map_from}
 use Rattle.quilt_loc.proofs.Nesting.{side_pos}
 use Rattle.quilt_loc.proofs.Quartered.{IsBlock-whole, quarters_are}
 use Rattle.quilt_near.specs.Lines.{Lines, IsLines}
@@ -20,6 +17,7 @@ use Rattle.quilt_near.specs.Parts.{IsPart, IsPartOf, pages_for}
 use Rattle.quilt_near.specs.declared.part.Part.{Part}
 use Rattle.quilt_near.specs.declared.part.Part.TheVariants.{Split, Leaf}
 use Rattle.quilt_near.proofs.Owing.{owed, owed_first, owed_leaf, owed_split, left, left_leaf, left_split}
+use Rattle.quilt_near.proofs.Waiting.{all_first, all_rest, all_split, came_out}
 use Rattle.quilt_near.proofs.Telling.{tells_same, tells_then, tells_weaker}
 use Rattle.quilt_rank.specs.Ranks.{last_far, is_past}
 use Rattle.quilt_rank.specs.Opened.{After, IsOpened}
@@ -41,9 +39,7 @@ pub record Going (n : ℕ) (p : Pixel) (k : ℕ) (shown : Lines → Type 0) (bef
 module _ (n : ℕ) (p : Pixel) (k : ℕ) (some : 1 ≤ k) (shown : Lines → Type 0) (lines : (l : Lines) → shown l → IsLines n l) (before : Option ℕ) where
   pub going_start : (queue : List (ℕ × Block)) → IsPermutation (placed_at p (whole n) ∷ []) queue → Going n p k shown before before queue []
   going_start queue h = record {
-    valid = λ e c. ⊎_elim (λ is. subst (λ (z : ℕ × Block). IsBlock n z.1) is (IsBlock-whole n)) (λ d. absurd (Contains-nil e d))
-        (Contains-cons_cases (placed_at p (whole n)) [] e
-        (Contains-permutation queue (placed_at p (whole n) ∷ []) e (IsPermutation-sym (placed_at p (whole n) ∷ []) queue h) c));
+    valid = all_first (λ z. IsBlock n z.1) (placed_at p (whole n)) queue h (IsBlock-whole n);
     front = λ l s. start n p k l (lines l s) queue h;
     paid = λ l s long.
         let test = is_close p (last_far (ranked l.segs p k)) in
@@ -54,21 +50,18 @@ module _ (n : ℕ) (p : Pixel) (k : ℕ) (some : 1 ≤ k) (shown : Lines → Typ
   -- a block came out, is to be opened, and was opened
   module _ (mid : Option ℕ) (queue rest : List (ℕ × Block)) (rs : List Rank) (e : ℕ × Block) (g : Going n p k shown before mid queue rs)
       (h : IsPermutation queue (e ∷ rest)) where
-    inside : (z : ℕ × Block) → Contains (e ∷ rest) z → Contains queue z
-    inside z c = Contains-permutation (e ∷ rest) queue z (IsPermutation-sym queue (e ∷ rest) h) c
-
     pub first_valid : IsBlock n e.1
-    first_valid = g.valid e (inside e (Contains-here e rest))
+    first_valid = g.valid e (came_out queue rest e h)
 
     pub first_reached : (l : Lines) → shown l → is_reached l.cover e.1 ≡ true
-    first_reached l s = ((g.front l s).waits e (inside e (Contains-here e rest))).reached
+    first_reached l s = ((g.front l s).waits e (came_out queue rest e h)).reached
 
     close_to : (l : Lines) (s : shown l) → All (λ z. e.0 ≤ z.0) rest → is_past k rs e.0 ≡ false → length (ranked l.segs p k) ≡ k
         → is_close p (last_far (ranked l.segs p k)) e.1 ≡ true
     close_to l s least past long =
         let far = last_far (ranked l.segs p k) in
         let c = close n p k l (lines l s) queue rest rs e (g.front l s) h least (ranked l.segs p k) some refl long past in
-        let w = (g.front l s).waits e (inside e (Contains-here e rest)) in
+        let w = (g.front l s).waits e (came_out queue rest e h) in
         le-leb (block_distance p e.1 * far.den) far.num (subst (λ t. t * far.den ≤ far.num) w.distance c)
 
     by_part : (now : Option ℕ) (new : List (ℕ × Block)) (then : List Rank) → All (λ z. e.0 ≤ z.0) rest → is_past k rs e.0 ≡ false → (part : Part)
@@ -76,7 +69,7 @@ module _ (n : ℕ) (p : Pixel) (k : ℕ) (some : 1 ≤ k) (shown : Lines → Typ
         → Tells (λ x y. y ≤ x + pages_for part) mid now → Going n p k shown before now new then
     by_part now new then least past (Leaf list) found of after reads =
         subst (λ (t : List (ℕ × Block)). Going n p k shown before now t then) (sym after.0) (subst (Going n p k shown before now rest) (sym after.1) (record {
-          valid = λ z c. g.valid z (inside z (Contains-there e rest z c));
+          valid = all_rest (λ z. IsBlock n z.1) queue rest e h g.valid;
           front = λ l s. leaf_step n p k l (lines l s) queue rest rs e list (g.front l s) h (found l s).1;
           paid = λ l s long.
               let test = is_close p (last_far (ranked l.segs p k)) in
@@ -88,14 +81,7 @@ module _ (n : ℕ) (p : Pixel) (k : ℕ) (some : 1 ≤ k) (shown : Lines → Typ
         }))
     by_part now new then least past Split found wide after reads =
         subst (Going n p k shown before now new) (sym after.1) (record {
-          valid = λ z c.
-              ⊎_elim
-              (λ d. let m = Contains-map_from (placed_at p) (quarters_of e.1) z d in
-              subst (λ (t : ℕ × Block). IsBlock n t.1) m.2 (quarters_are n e.1 m.0 first_valid wide m.1).block)
-              (λ d. g.valid z (inside z (Contains-there e rest z d)))
-              (Contains-append_cases (map (placed_at p) (quarters_of e.1)) rest z
-              (Contains-permutation new (map (placed_at p) (quarters_of e.1) ++ rest) z
-              (IsPermutation-sym (map (placed_at p) (quarters_of e.1) ++ rest) new after.0) c));
+          valid = all_split (λ z. IsBlock n z.1) p queue rest new e h after.0 g.valid (λ b c. (quarters_are n e.1 b first_valid wide c).block);
           front = λ l s. split_step n p k l (lines l s) queue rest new rs e (g.front l s) h wide (found l s) after.0;
           paid = λ l s long.
               let test = is_close p (last_far (ranked l.segs p k)) in

@@ -11,7 +11,7 @@ ghost use Rattle.quilt_rank.specs.Opened.{IsOpened};
 
 use crate::firsts::Firsts;
 use crate::ranks::RankList;
-use quilt_near::{Part, Queue, SegBlocks, block_distance, push_quarters, square_distance};
+use quilt_near::{Part, Queue, SegBlocks, first_queue, push_quarters, square_distance};
 use quilt_store::PageStore;
 use quilt_types::{Block, Pixel, Seg, Stop};
 use std::alloc::{AllocError, Global};
@@ -91,13 +91,10 @@ pub fn ranked<S: PageStore, B: SegBlocks<S>>(
     ensures later { S.later store.old store.new }
     ensures changed { S.changed store.new ≤ S.changed store.old }
 {
-    let side = 1 << blocks.level();
-    let whole = Block { x: 0, y: 0, side };
-    let mut queue = Queue::new(alloc);
-    match queue.push(block_distance(p, whole), whole) {
+    let mut queue = match first_queue(alloc, blocks, p) {
         Err(_) => return Err(Stop::Memory),
-        Ok(()) => {}
-    }
+        Ok(queue) => queue,
+    };
     let mut ranks = Firsts::new(alloc);
     while let Some((distance, block)) = queue.pop() {
         if ranks.is_past(k as usize, distance) {

@@ -13,7 +13,7 @@ ghost use Rattle.quilt_select.specs.Descents.{four, with_seg, IsOpened};
 use crate::stack::Stack;
 use quilt_clip::crosses;
 use quilt_loc::quarters;
-use quilt_near::{Part, SegBlocks, SegList};
+use quilt_near::{Part, SegBlocks, SegList, whole_square};
 use quilt_store::PageStore;
 use quilt_types::{Block, Seg, Stop, Window};
 use std::alloc::{AllocError, Global};
@@ -162,10 +162,8 @@ pub fn select<S: PageStore, B: SegBlocks<S>>(
     ensures later { S.later store.old store.new }
     ensures changed { S.changed store.new ≤ S.changed store.old }
 {
-    let side = 1 << blocks.level();
-    let whole = Block { x: 0, y: 0, side };
     let mut stack = Stack::new(alloc);
-    match stack.push(whole, windows) {
+    match stack.push(whole_square(blocks), windows) {
         Err(_) => return Err(Stop::Memory),
         Ok(()) => {}
     }

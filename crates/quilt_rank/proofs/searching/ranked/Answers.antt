@@ -6,19 +6,16 @@ use Rattle.quilt_rank.specs.Ranks.{last_far}
 use Rattle.quilt_rank.proofs.Orders.{Rank}
 use Rattle.quilt_types.specs.Ranking.{ranked}
 use Rattle.quilt_near.specs.Lines.{Lines}
-use Rattle.quilt_near.proofs.QuarterBlocks.{whole_by, first_pushed}
 use Rattle.quilt_rank.proofs.Goings.{Going, going_start, going_on, going_end, going_stop, going_reads, first_valid, first_reached, less_left}
 use Rattle.quilt_rank.proofs.searching.ranked.Goals as goal
 use Rattle.quilt_rank.proofs.searching.ranked.Goals.{in-Some+then-is_past, in_default}
 
 pub loop-distance-init : goal.loop-distance-init
 loop-distance-init g c =
-    let low : g.B.SegBlocks.level_of c.args.blocks.now ≤ 12 = subst (λ k. k ≤ 12) c.level.ensures.value c.level.ensures.range.1 in
     let first = going_start _ c.args.p c.args.k c.requires.some (g.B.SegBlocks.shows c.args.blocks.now c.args.store.now)
-    (g.met.B.SegBlocks.lines c.args.blocks.now c.args.store.now) (g.S.PageStore.reads c.args.store.now) c.push.new.self
-    (first_pushed c.args.p _ _ _ _ _ c.block_distance.ensures (whole_by _ _ c.level.ensures.value low) c.new-queue.ensures c.in-Ok.ensures) in
+    (g.met.B.SegBlocks.lines c.args.blocks.now c.args.store.now) (g.S.PageStore.reads c.args.store.now) _ c.in-Ok.ensures.first in
     record {
-      going = subst (Going _ c.args.p c.args.k _ _ _ c.push.new.self) (sym c.new-ranks.ensures) first;
+      going = subst (Going _ c.args.p c.args.k _ _ _ _) (sym c.new-ranks.ensures) first;
       size = refl;
       told = refl;
       free = refl;

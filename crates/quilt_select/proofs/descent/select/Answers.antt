@@ -1,17 +1,15 @@
-use Rattle.std.proofs.Common.{◌≤◌, List, sym, ◌∙◌, subst, refl, arith}
+use Rattle.std.proofs.Common.{List, sym, ◌∙◌, subst, refl, arith}
 use Rattle.quilt_types.specs.declared.plane.Window.{Window}
-use Rattle.quilt_near.proofs.QuarterBlocks.{whole_by}
 use Rattle.quilt_select.specs.Descents.{IsOpened}
 use Rattle.quilt_select.proofs.Descending.{going_start, going_on, going_end, going_reads, first_valid, first_reached, less_left}
 use Rattle.quilt_select.proofs.descent.select.Goals as goal
 
 pub loop-block-init : goal.loop-block-init
 loop-block-init g c =
-    let low : g.B.SegBlocks.level_of c.args.blocks.now ≤ 12 = subst (λ k. k ≤ 12) c.level.ensures.value c.level.ensures.range.1 in
     record {
       going = going_start _ c.args.windows.items c.requires (g.B.SegBlocks.shows c.args.blocks.now c.args.store.now)
           (g.met.B.SegBlocks.lines c.args.blocks.now c.args.store.now) (g.S.PageStore.reads c.args.store.now)
-          c.push.new.self c.new-found.result.entries _ c.args.windows.items c.new-stack.result (whole_by _ _ c.level.ensures.value low)
+          c.push.new.self c.new-found.result.entries _ c.args.windows.items c.new-stack.result c.whole_square.ensures.square
           refl c.new-stack.ensures c.in-Ok.ensures c.new-found.ensures.empty;
       size = refl;
       told = refl;
