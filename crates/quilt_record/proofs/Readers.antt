@@ -1,5 +1,5 @@
 -- A record that spells a fact is read as that fact alone.
-use Rattle.std.proofs.Common.{◌≡◌, ℕ, ◌+◌, ◌*◌, ◌/◌, ◌%◌, ◌≤◌, [], Option, Some, None, sym, ◌∙◌, ap, arith}
+use Rattle.std.proofs.Common.{◌≡◌, ℕ, ◌+◌, ◌*◌, ◌/◌, ◌%◌, ◌≤◌, [], ◌∷◌, Option, Some, None, sym, ◌∙◌, ap, subst, arith}
 use Rattle.std.specs.Prelude.{true, unwrap_or, IfSome}
 use Rattle.quilt_types.specs.declared.plane.Block.{Block}
 use Rattle.quilt_types.specs.Plane.{IsBlock, is_pixel}
@@ -9,7 +9,7 @@ use Rattle.quilt_types.specs.Facts.{HasColour, IsSegment}
 use Rattle.std.proofs.lemmas.Nat.{from_be_bytes-to_be_bytes_2, from_be_bytes-to_be_bytes_4}
 use Rattle.quilt_record.specs.declared.key.Key.{Key}
 use Rattle.quilt_record.specs.declared.record.Record.{Record}
-use Rattle.quilt_record.specs.Records.{block_key, point_item, record_of}
+use Rattle.quilt_record.specs.Records.{block_key, filled, point_item, record_of}
 use Rattle.quilt_record.specs.Blocks.{IsNamed}
 use Rattle.quilt_record.proofs.BlockKeys.{pixel_below}
 use Rattle.quilt_record.specs.Canonical.{IsRecordOf, point_fact, pair_fact}
@@ -38,13 +38,29 @@ region_colour n r layer b c f =
     let both : c % 256 + 256 * (c / 256) ≡ c = omega arith in
     ap (λ (s : Record). colour_of s.value) (f.written []) ∙ both
 
--- the record of what was read is the record
-pub region_again : (n : ℕ) (r made : Record) (layer first : ℕ) (b at : Block) (c d : ℕ) → IsRecordOf n 0 r layer (HasColour b c)
-    → first ≡ layer → at ≡ b → d ≡ c
-    → IsRecordOf n 0 made first (HasColour at d) → made ≡ r
-region_again n r made layer first b at c d f same_layer same_block same_colour g =
-    g.written [] ∙ ap (λ l. record_of n 0 [] l (HasColour at d)) same_layer ∙ ap (λ p. record_of n 0 [] layer (HasColour p d)) same_block
-    ∙ ap (λ v. record_of n 0 [] layer (HasColour b v)) same_colour ∙ sym (f.written [])
+-- a record under the key of a block, with the part of a region layer, the item 0 and the value of a colour
+pub region_under : (n : ℕ) (r : Record) (layer : ℕ) (b : Block) (c : ℕ) → IsNamed n r.key layer b
+    → record { key = record r.key { part = 1; item = 0 }; value = filled 16 (c % 256 ∷ c / 256 ∷ []) } ≡ r
+    → IsRecordOf n 0 r r.key.layer (HasColour b c)
+region_under n r layer b c h e = record {
+  least = subst (λ l. 1 ≤ l) (sym h.same) h.least;
+  most = subst (λ l. l ≤ 255) (sym h.same) h.most;
+  fits = h.of.block;
+  written = λ name. sym e ∙ (λ i. record {
+    key = record { layer = r.key.layer; part = 1; code = h.of.code i; depth = h.of.depth i; item = 0 };
+    value = filled 16 (c % 256 ∷ c / 256 ∷ []);
+  });
+}
+
+-- and the record of a colour is such a one
+pub under_region : (n : ℕ) (r : Record) (layer : ℕ) (b : Block) (c d : ℕ) → IsRecordOf n 0 r layer (HasColour b c) → d ≡ c
+    → record { key = record r.key { part = 1; item = 0 }; value = filled 16 (d % 256 ∷ d / 256 ∷ []) } ≡ r
+under_region n r layer b c d f same =
+    let part : 1 ≡ r.key.part = sym (ap (λ (s : Record). s.key.part) (f.written [])) in
+    let item : 0 ≡ r.key.item = sym (ap (λ (s : Record). s.key.item) (f.written [])) in
+    let value : filled 16 (c % 256 ∷ c / 256 ∷ []) ≡ r.value = sym (ap (λ (s : Record). s.value) (f.written [])) in
+    ap (λ v. let made : Record = record { key = record r.key { part = 1; item = 0 }; value = filled 16 (v % 256 ∷ v / 256 ∷ []) } in made) same
+    ∙ (λ i. record { key = record r.key { part = part i; item = item i }; value = value i })
 
 pub point_named : (n capacity : ℕ) (r : Record) (layer : ℕ) (b : Block) (held : Option Point)
     → IsRecordOf n capacity r layer (point_fact b held) → IsNamed n r.key layer b

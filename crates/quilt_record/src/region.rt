@@ -1,14 +1,15 @@
-ghost use Rattle.std.specs.Prelude.{◌≡◌, ℕ, ◌<◌, ◌≤◌, Some, IfSome};
+ghost use Rattle.std.specs.Prelude.{◌≡◌, ℕ, ◌<◌, ◌≤◌, ◌/◌, ◌%◌, [], ◌∷◌, Some, IfSome};
 ghost use Rattle.quilt_types.specs.declared.plane.Block.{Block as AnyBlock};
 ghost use Rattle.quilt_types.specs.declared.plane.Colour.{Colour as AnyColour};
 ghost use Rattle.quilt_types.specs.Plane.{IsBlock};
 ghost use Rattle.quilt_types.specs.Layers.{colours};
 ghost use Rattle.quilt_types.specs.Facts.{HasColour};
 ghost use Rattle.quilt_record.specs.Canonical.{IsRecordOf};
+ghost use Rattle.quilt_record.specs.Records.{filled};
 ghost use Rattle.quilt_record.specs.Values.{colour_of};
 
-use crate::Record;
 use crate::block::{block_key, is_same, named};
+use crate::{Key, Record};
 use quilt_types::{Block, Colour};
 
 /// The record of a block of one colour of a region layer, with the colour's low byte first.
@@ -18,10 +19,31 @@ pub fn region_record(layer: u8, b: Block, level: u8, c: Colour) -> Record
     requires block { IsBlock level b }
     ensures { IsRecordOf level 0 result layer (HasColour b c.0) }
 {
-    let [low, high] = c.0.to_le_bytes();
-    let value = [low, high, 0, 0, 0, 0, 0, 0, 0, 0, 0, 0, 0, 0, 0, 0];
     Record {
         key: block_key(layer, 1, b, level, 0),
+        value: value_of(c),
+    }
+}
+
+/// The value of a record of a block of this colour.
+fn value_of(c: Colour) -> [u8; 16]
+    ensures { result ≡ filled 16 (c.0 % 256 ∷ c.0 / 256 ∷ []) }
+{
+    let [low, high] = c.0.to_le_bytes();
+    let value = [low, high, 0, 0, 0, 0, 0, 0, 0, 0, 0, 0, 0, 0, 0, 0];
+    value
+}
+
+/// The record with this key and this value, but of a region layer's part and with the item 0.
+fn record_with(k: &Key, value: [u8; 16]) -> Record
+    ensures { result ≡ record { key = record k.now { part = 1; item = 0 }; value = value } }
+{
+    Record {
+        key: Key {
+            part: 1,
+            item: 0,
+            ..*k
+        },
         value,
     }
 }
@@ -42,14 +64,14 @@ pub fn read_region(r: &Record, level: u8, format: u8) -> Option<(Block, Colour)>
     ensures one { (layer : ℕ) (b : AnyBlock) (c : AnyColour) → (format ≡ 1 → c.0 < 256) → IsRecordOf level 0 r.now layer (HasColour b c.0)
         → result ≡ Some (b, c) }
 {
-    let Some((layer, b)) = named(&r.key, level) else {
+    let Some((_, b)) = named(&r.key, level) else {
         return None;
     };
     let c = colour_in(&r.value);
     if format == 1 && 255 < c.0 {
         return None;
     }
-    if !is_same(&region_record(layer, b, level, c), r) {
+    if !is_same(&record_with(&r.key, value_of(c)), r) {
         return None;
     }
     Some((b, c))
