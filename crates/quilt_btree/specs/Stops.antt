@@ -25,3 +25,9 @@ NamesPage size (Damaged page) = page < size
 -- no page is said to be damaged
 abbrev pub IsSound : Stop → Type 0
 IsSound stop = (page : ℕ) → stop ≢ Damaged page
+
+-- the reason that names page 0 in place of a page
+abbrev pub unnamed : Stop → Stop
+unnamed Device = Device
+unnamed Memory = Memory
+unnamed (Damaged page) = Damaged 0

@@ -8,6 +8,8 @@ ghost use Rattle.quilt_node.specs.Nodes.{IsGap, are_pages};
 ghost use Rattle.quilt_node.specs.Edits.{with_child};
 ghost use Rattle.quilt_node.specs.Tree.{Bounds};
 ghost use Rattle.quilt_store.specs.Store.{count_free};
+ghost use Rattle.quilt_types.specs.declared.stop.Stop.TheVariants.{Damaged};
+ghost use Rattle.quilt_btree.specs.Damage.{NamesBad};
 ghost use Rattle.quilt_record.specs.Lists.{has_key};
 ghost use Rattle.quilt_btree.specs.Outcomes.{was_there};
 ghost use Rattle.quilt_btree.specs.Stops.{HasStopCause, IsSound, NamesPage};
@@ -17,7 +19,7 @@ ghost use Rattle.quilt_btree.specs.Inserts.{HasRight, IsPending, DidPut};
 ghost use Rattle.quilt_btree.specs.declared.outcomes.Inserted.TheVariants.{There};
 
 use crate::outcomes::Inserted;
-use crate::pages::{inner_high, read_leaf};
+use crate::pages::{inner_at_fault, inner_high, read_leaf};
 use crate::rebalancing::precedes;
 use crate::searching::read_way;
 use crate::splitting::write_split;
@@ -43,12 +45,13 @@ pub fn insert_leaf<S: PageStore>(store: &mut S, page: u32, r: &Record) -> Result
     ensures free { IfOk result (λ o. o ≡ There → S.free store.new ≡ S.free store.old) }
     ensures unchanged { IfOk result (λ o. o ≡ There → S.changed store.new ≤ S.changed store.old) }
     ensures names { IfErr result (NamesPage (S.size store.old)) }
+    ensures bad { IfErr result (λ e. e ≢ Damaged 0 → NamesBad (S.told store.old) 1 page e) }
     ensures cause { HasStopCause (S.faults store.old) (S.faults store.new) result }
     ensures size { S.size store.new ≡ S.size store.old }
     ensures later { S.later store.old store.new }
     ensures changed { S.changed store.new ≤ S.changed store.old + 2 }
 {
-    let mut leaf = match read_leaf(store, page) {
+    let mut leaf = match read_leaf(store, page, page) {
         Err(e) => return Err(e),
         Ok(leaf) => leaf,
     };
@@ -76,7 +79,7 @@ pub fn put_record<S: PageStore>(
     ensures right { IfOk result (λ o. HasRight (S.size store.old) o) }
     ensures room { OnOk result (count_free (S.free store.old) (S.size store.old) ≤ count_free (S.free store.new) (S.size store.old) + 1) }
     ensures new { IfOk result (λ o. o ≢ There) }
-    ensures names { IfErr result (NamesPage (S.size store.old)) }
+    ensures names { IfErr result (NamesPage 1) }
     ensures cause { HasStopCause (S.faults store.old) (S.faults store.new) result }
     ensures size { S.size store.new ≡ S.size store.old }
     ensures later { S.later store.old store.new }
@@ -147,16 +150,14 @@ pub fn put_child<S: PageStore>(
     ensures right { IfOk result (λ o. HasRight (S.size store.old) o) }
     ensures room { OnOk result (count_free (S.free store.old) (S.size store.old) ≤ count_free (S.free store.new) (S.size store.old) + 1) }
     ensures new { IfOk result (λ o. o ≢ There) }
-    ensures names { IfErr result (NamesPage (S.size store.old)) }
+    ensures names { IfErr result (NamesPage 1) }
     ensures cause { HasStopCause (S.faults store.old) (S.faults store.new) result }
     ensures size { S.size store.new ≡ S.size store.old }
     ensures later { S.later store.old store.new }
     ensures changed { S.changed store.new ≤ S.changed store.old + 2 }
 {
     if !fits(inner, i, key) {
-        return Err(Stop::Damaged {
-            page: inner.child(i),
-        });
+        return Err(Stop::Damaged { page: 0 });
     }
     if inner.len() < MOST_CHILDREN {
         inner.insert(i, key, child);
@@ -196,6 +197,7 @@ pub fn insert_under<S: PageStore>(
     ensures free { IfOk result (λ o. o ≡ There → S.free store.new ≡ S.free store.old) }
     ensures unchanged { IfOk result (λ o. o ≡ There → S.changed store.new ≤ S.changed store.old) }
     ensures names { IfErr result (NamesPage (S.size store.old)) }
+    ensures bad { IfErr result (λ e. e ≢ Damaged 0 → NamesBad (S.told store.old) height page e) }
     ensures cause { HasStopCause (S.faults store.old) (S.faults store.new) result }
     ensures size { S.size store.new ≡ S.size store.old }
     ensures later { S.later store.old store.new }
@@ -214,7 +216,9 @@ pub fn insert_under<S: PageStore>(
         Ok(Inserted::There) => Ok(Inserted::There),
         Ok(Inserted::Done) => Ok(Inserted::Done),
         Ok(Inserted::Split { key, right }) => match inner_high(&bytes, store.pages(), height) {
-            None => Err(Stop::Damaged { page }),
+            None => Err(Stop::Damaged {
+                page: inner_at_fault(&bytes, store.pages(), page),
+            }),
             Some(mut inner) => put_child(store, page, &mut inner, way.place, &key, right),
         },
     }

@@ -1,11 +1,12 @@
-ghost use Rattle.std.specs.Prelude.{◌≡◌, ℕ, ◌+◌, ◌<◌, ◌≤◌, true, IfOk, IfErr, OnOk, IfSome, IsTrue, List, [], Some, None, length, slice_index_or, ◌==◌};
+ghost use Rattle.std.specs.Prelude.{◌≡◌, ◌⊎◌, ℕ, ◌+◌, ◌<◌, ◌≤◌, true, IfOk, IfErr, OnOk, IfSome, IsTrue, List, [], Some, None, length, slice_index_or, ◌==◌, if◌then◌else◌};
 ghost use Rattle.std.specs.List.{list_any};
 ghost use Rattle.quilt_record.specs.declared.record.Record.{Record};
 ghost use Rattle.quilt_node.specs.Pages as spec;
 ghost use Rattle.quilt_node.specs.Nodes.{are_pages};
 ghost use Rattle.quilt_store.specs.Store.{Tells, Touches};
+ghost use Rattle.quilt_btree.specs.Damage.{NamesBad};
 ghost use Rattle.quilt_btree.specs.Searches.{IsHigh};
-ghost use Rattle.quilt_btree.specs.Stops.{store_stop, HasStopCause, IsSound, NamesPage};
+ghost use Rattle.quilt_btree.specs.Stops.{store_stop, unnamed, HasStopCause, IsSound, NamesPage};
 ghost use Rattle.quilt_btree.specs.Trees.{ReadsLeaf, ReadsInner, Spells};
 
 use quilt_node::{InnerPage, LeafPage, inner_of, is_leaf};
@@ -23,12 +24,25 @@ pub fn stop_of(e: StoreErr) -> Stop
     }
 }
 
-/// The leaf at a page.
-pub fn read_leaf<S: PageStore>(store: &mut S, page: u32) -> Result<LeafPage, Stop>
-    requires { (1 ≤ page) × (page < S.size store.old) }
+/// The reason why a run stops behind so many of its items: once the call has written, it names page 0 in place of a page.
+pub fn stop_behind(e: Stop, done: usize) -> Stop
+    ensures { result ≡ (if done == 0 then e else unnamed e) }
+{
+    match e {
+        Stop::Damaged { .. } if done != 0 => Stop::Damaged { page: 0 },
+        _ => e,
+    }
+}
+
+/// The leaf at a page. Where it is none, `named` is said to be damaged: the page itself, or 0 where the call has written
+/// before.
+pub fn read_leaf<S: PageStore>(store: &mut S, page: u32, named: u32) -> Result<LeafPage, Stop>
+    requires page { (1 ≤ page) × (page < S.size store.old) }
+    requires named { named ≤ page }
     ensures leaf { IfOk result (λ leaf. ReadsLeaf (S.told store.old) page leaf) }
     ensures sound { IfErr result (λ e. (height : ℕ) (rs : List Record) → height ≡ 1 → Spells (S.told store.old) page height rs → IsSound e) }
-    ensures names { IfErr result (NamesPage (S.size store.old)) }
+    ensures names { IfErr result (NamesPage (named + 1)) }
+    ensures bad { IfErr result (λ e. named ≡ page → NamesBad (S.told store.old) 1 page e) }
     ensures cause { HasStopCause (S.faults store.old) (S.faults store.new) result }
     ensures size { S.size store.new ≡ S.size store.old }
     ensures told { S.told store.new ≡ S.told store.old }
@@ -45,7 +59,7 @@ pub fn read_leaf<S: PageStore>(store: &mut S, page: u32) -> Result<LeafPage, Sto
         Err(e) => Err(stop_of(e)),
         Ok(()) => {
             if !is_leaf(&bytes) {
-                return Err(Stop::Damaged { page });
+                return Err(Stop::Damaged { page: named });
             }
             Ok(LeafPage::from_bytes(bytes))
         }
@@ -72,7 +86,19 @@ pub fn inner_high(bytes: &[u8; 4096], pages: u32, height: u8) -> Option<InnerPag
     }
 }
 
-/// The inner page of this height at a page.
+/// The page that is at fault where its bytes are no inner page of its height in a store of so many pages: the page itself
+/// where they are no inner page, and else 0, since then the page above may be wrong as well.
+pub fn inner_at_fault(bytes: &[u8; 4096], pages: u32, page: u32) -> u32
+    ensures at_most { result ≤ page }
+    ensures fault { (result ≡ 0) ⊎ ((result ≡ page) × (spec.inner_of pages bytes.now ≡ None)) }
+{
+    match inner_of(bytes, pages) {
+        None => page,
+        Some(_) => 0,
+    }
+}
+
+/// The inner page of this height at a page beside one that was written. Where it is none, page 0 is said to be damaged.
 pub fn read_inner<S: PageStore>(store: &mut S, page: u32, height: u8) -> Result<InnerPage, Stop>
     requires page { (1 ≤ page) × (page < S.size store.old) }
     requires height { 2 ≤ height }
@@ -80,7 +106,7 @@ pub fn read_inner<S: PageStore>(store: &mut S, page: u32, height: u8) -> Result<
     ensures height { IfOk result (λ inner. inner.height ≡ height) }
     ensures children { IfOk result (λ inner. are_pages (S.size store.old) inner.children ≡ true) }
     ensures sound { IfErr result (λ e. (rs : List Record) → Spells (S.told store.old) page height rs → IsSound e) }
-    ensures names { IfErr result (NamesPage (S.size store.old)) }
+    ensures names { IfErr result (NamesPage 1) }
     ensures cause { HasStopCause (S.faults store.old) (S.faults store.new) result }
     ensures size { S.size store.new ≡ S.size store.old }
     ensures told { S.told store.new ≡ S.told store.old }
@@ -99,7 +125,7 @@ pub fn read_inner<S: PageStore>(store: &mut S, page: u32, height: u8) -> Result<
             if let Some(inner) = inner_high(&bytes, store.pages(), height) {
                 Ok(inner)
             } else {
-                Err(Stop::Damaged { page })
+                Err(Stop::Damaged { page: 0 })
             }
         }
     }

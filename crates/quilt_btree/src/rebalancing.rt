@@ -1,4 +1,4 @@
-ghost use Rattle.std.specs.Prelude.{◌≡◌, ◌⊎◌, ℕ, ◌+◌, ◌-◌, ◌<◌, ◌≤◌, ◌++◌, ◌∷◌, Bool, true, IfOk, IfErr, List, length, slice_index, slice_set};
+ghost use Rattle.std.specs.Prelude.{◌≡◌, ℕ, ◌+◌, ◌-◌, ◌<◌, ◌≤◌, ◌++◌, ◌∷◌, Bool, true, IfOk, IfErr, List, length, slice_set};
 ghost use Rattle.std.specs.Ordering.{is_lt};
 ghost use Rattle.quilt_record.specs.Records.{key_cmp};
 ghost use Rattle.quilt_record.specs.declared.record.Record.{Record};
@@ -59,48 +59,6 @@ pub fn key_fits(inner: &InnerPage, i: usize, key: &Key) -> bool
     }
 }
 
-/// The one of two leaves that has a key out of its bounds, where `key` parts the two and they do not ascend one behind
-/// the other.
-fn stray_leaf(left: u32, first: &LeafPage, key: &Key, right: u32) -> u32
-    ensures { (result ≡ left) ⊎ (result ≡ right) }
-{
-    let last = first.rec(first.len() - 1);
-    if precedes(&last.key, key) {
-        right
-    } else {
-        left
-    }
-}
-
-/// The one of two inner pages that has a key out of its bounds, where `key` parts the two and does not lie between their
-/// keys: 0 where the second begins with `key` itself.
-fn stray_inner(left: u32, first: &InnerPage, key: &Key, right: u32, rest: &InnerPage) -> u32
-    ensures { (result ≡ left) ⊎ (result ≡ right) ⊎ (result ≡ 0) }
-{
-    let _ = rest.len();
-    let last = first.key(first.len() - 2);
-    if !precedes(&last, key) {
-        left
-    } else if precedes(&rest.key(0), key) {
-        right
-    } else {
-        0
-    }
-}
-
-/// The child at that side of key `i` on which another key lies.
-pub fn child_towards(inner: &InnerPage, i: usize, key: &Key) -> u32
-    requires { i < length inner.now.keys }
-    ensures { (result ≡ slice_index inner.now.children i) ⊎ (result ≡ slice_index inner.now.children (i + 1)) }
-{
-    let _ = inner.len();
-    if precedes(key, &inner.key(i)) {
-        inner.child(i)
-    } else {
-        inner.child(i + 1)
-    }
-}
-
 /// Moves a record to the one of two leaves that has under 72. They have more than 144 together.
 fn share_records(left: &mut LeafPage, right: &mut LeafPage)
     requires many { 144 < length left.old + length right.old }
@@ -149,18 +107,16 @@ fn rebalance_leaves<S: PageStore>(
         → DidRebalance (S.told store.old) (S.told store.new) (S.free store.old) (S.free store.new) height left right b rs used o) }
     ensures sound { IfErr result (λ e. (height : ℕ) (b : Bounds) (rs : List Record) (used : List ℕ) → height ≡ 1
         → CanRebalance (S.told store.old) (S.free store.old) height left key.now right b rs used → IsSound e) }
-    ensures names { IfErr result (NamesPage (S.size store.old)) }
+    ensures names { IfErr result (NamesPage 1) }
     ensures cause { HasStopCause (S.faults store.old) (S.faults store.new) result }
     ensures size { S.size store.new ≡ S.size store.old }
     ensures later { S.later store.old store.new }
     ensures changed { S.changed store.new ≤ S.changed store.old + 2 }
 {
-    let mut first = read_leaf(store, left)?;
-    let mut rest = read_leaf(store, right)?;
+    let mut first = read_leaf(store, left, 0)?;
+    let mut rest = read_leaf(store, right, 0)?;
     if !leaves_ascend(&first, &rest) {
-        return Err(Stop::Damaged {
-            page: stray_leaf(left, &first, key, right),
-        });
+        return Err(Stop::Damaged { page: 0 });
     }
     if first.len() + rest.len() <= MOST_RECORDS {
         first.join(&rest);
@@ -194,7 +150,7 @@ fn rebalance_inners<S: PageStore>(
         → DidRebalance (S.told store.old) (S.told store.new) (S.free store.old) (S.free store.new) height left right b rs used o) }
     ensures sound { IfErr result (λ e. (b : Bounds) (rs : List Record) (used : List ℕ)
         → CanRebalance (S.told store.old) (S.free store.old) height left key.now right b rs used → IsSound e) }
-    ensures names { IfErr result (NamesPage (S.size store.old)) }
+    ensures names { IfErr result (NamesPage 1) }
     ensures cause { HasStopCause (S.faults store.old) (S.faults store.new) result }
     ensures size { S.size store.new ≡ S.size store.old }
     ensures later { S.later store.old store.new }
@@ -203,9 +159,7 @@ fn rebalance_inners<S: PageStore>(
     let mut first = read_inner(store, left, height)?;
     let mut rest = read_inner(store, right, height)?;
     if !inners_ascend(&first, key, &rest) {
-        return Err(Stop::Damaged {
-            page: stray_inner(left, &first, key, right, &rest),
-        });
+        return Err(Stop::Damaged { page: 0 });
     }
     if first.len() + rest.len() <= MOST_CHILDREN {
         first.join(key, &rest);
@@ -237,7 +191,7 @@ pub fn rebalance_pages<S: PageStore>(
         → DidRebalance (S.told store.old) (S.told store.new) (S.free store.old) (S.free store.new) height left right b rs used o) }
     ensures sound { IfErr result (λ e. (b : Bounds) (rs : List Record) (used : List ℕ)
         → CanRebalance (S.told store.old) (S.free store.old) height left key.now right b rs used → IsSound e) }
-    ensures names { IfErr result (NamesPage (S.size store.old)) }
+    ensures names { IfErr result (NamesPage 1) }
     ensures cause { HasStopCause (S.faults store.old) (S.faults store.new) result }
     ensures size { S.size store.new ≡ S.size store.old }
     ensures later { S.later store.old store.new }

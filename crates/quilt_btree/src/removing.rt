@@ -1,4 +1,4 @@
-ghost use Rattle.std.specs.Prelude.{◌≡◌, ◌⊎◌, ℕ, suc, ◌+◌, ◌*◌, ◌<◌, ◌≤◌, Bool, true, false, IfOk, IfErr, OnOk, List, length, slice_set};
+ghost use Rattle.std.specs.Prelude.{◌≡◌, ◌≢◌, ◌⊎◌, ℕ, suc, ◌+◌, ◌*◌, ◌<◌, ◌≤◌, Bool, true, false, IfOk, IfErr, OnOk, List, length, slice_set};
 ghost use Rattle.std.specs.List.{list_any};
 ghost use Rattle.quilt_record.specs.declared.record.Record.{Record};
 ghost use Rattle.quilt_node.specs.Pages.{is_ascending};
@@ -8,14 +8,16 @@ ghost use Rattle.quilt_node.specs.Tree.{Bounds};
 ghost use Rattle.quilt_btree.specs.declared.outcomes.Removed.TheVariants.{Missing, Emptied};
 ghost use Rattle.quilt_btree.specs.Edits.{CanEdit, DidLeave, DidRemove, HasPageIn};
 ghost use Rattle.quilt_record.specs.Lists.{has_key};
+ghost use Rattle.quilt_types.specs.declared.stop.Stop.TheVariants.{Damaged};
+ghost use Rattle.quilt_btree.specs.Damage.{NamesBad};
 ghost use Rattle.quilt_btree.specs.Rebalancing.{HasUnderfull, HasDropped, Writes};
 ghost use Rattle.quilt_btree.specs.Outcomes.{was_found};
 ghost use Rattle.quilt_btree.specs.Stops.{HasStopCause, IsSound, NamesPage};
 ghost use Rattle.quilt_btree.specs.Trees.{Spells};
 
 use crate::outcomes::{Rebalanced, Removed};
-use crate::pages::{inner_high, read_leaf};
-use crate::rebalancing::{child_towards, key_fits, rebalance_pages};
+use crate::pages::{inner_at_fault, inner_high, read_leaf};
+use crate::rebalancing::{key_fits, rebalance_pages};
 use crate::searching::read_way;
 use crate::writing::write_page;
 use quilt_node::{InnerPage, LEAST_CHILDREN, LEAST_RECORDS};
@@ -37,12 +39,13 @@ fn remove_in_leaf<S: PageStore>(store: &mut S, page: u32, k: &Key) -> Result<Rem
     ensures unchanged { IfOk result (λ o. o ≡ Missing → S.changed store.new ≤ S.changed store.old) }
     ensures child { IfOk result (λ o. HasPageIn (S.size store.old) o) }
     ensures names { IfErr result (NamesPage (S.size store.old)) }
+    ensures bad { IfErr result (λ e. e ≢ Damaged 0 → NamesBad (S.told store.old) 1 page e) }
     ensures cause { HasStopCause (S.faults store.old) (S.faults store.new) result }
     ensures size { S.size store.new ≡ S.size store.old }
     ensures later { S.later store.old store.new }
     ensures changed { S.changed store.new ≤ S.changed store.old + 1 }
 {
-    let mut leaf = read_leaf(store, page)?;
+    let mut leaf = read_leaf(store, page, page)?;
     match leaf.find(k) {
         Err(_) => Ok(Removed::Missing),
         Ok(_) if leaf.len() == 1 => Ok(Removed::Emptied),
@@ -85,7 +88,7 @@ fn drop_child<S: PageStore>(
     ensures some { IfOk result (λ o. o ≡ Missing → ⊥) }
     ensures sound { IfErr result (λ e. S.free store.old page ≡ false → IsSound e) }
     ensures free { S.free store.new ≡ S.free store.old }
-    ensures names { IfErr result (NamesPage (S.size store.old)) }
+    ensures names { IfErr result (NamesPage 1) }
     ensures cause { HasStopCause (S.faults store.old) (S.faults store.new) result }
     ensures size { S.size store.new ≡ S.size store.old }
     ensures later { S.later store.old store.new }
@@ -123,16 +126,14 @@ fn renew_key<S: PageStore>(
     ensures order { OnOk result (is_ascending (slice_set inner.old.keys j key.now) ≡ true) }
     ensures sound { IfErr result (λ e. S.free store.old page ≡ false → is_ascending (slice_set inner.old.keys j key.now) ≡ true → IsSound e) }
     ensures free { S.free store.new ≡ S.free store.old }
-    ensures names { IfErr result (NamesPage (S.size store.old)) }
+    ensures names { IfErr result (NamesPage 1) }
     ensures cause { HasStopCause (S.faults store.old) (S.faults store.new) result }
     ensures size { S.size store.new ≡ S.size store.old }
     ensures later { S.later store.old store.new }
     ensures changed { S.changed store.new ≤ S.changed store.old + 1 }
 {
     if !key_fits(inner, j, key) {
-        return Err(Stop::Damaged {
-            page: child_towards(inner, j, key),
-        });
+        return Err(Stop::Damaged { page: 0 });
     }
     inner.set_key(j, key);
     write_page(store, page, inner.bytes())
@@ -157,7 +158,7 @@ fn rebalance_child<S: PageStore>(
         → HasUnderfull (S.told store.old) (S.free store.old) page height inner.old i is_root b rs used → IsSound e) }
     ensures some { IfOk result (λ o. o ≡ Missing → ⊥) }
     ensures child { IfOk result (λ o. HasPageIn (S.size store.old) o) }
-    ensures names { IfErr result (NamesPage (S.size store.old)) }
+    ensures names { IfErr result (NamesPage 1) }
     ensures cause { HasStopCause (S.faults store.old) (S.faults store.new) result }
     ensures size { S.size store.new ≡ S.size store.old }
     ensures later { S.later store.old store.new }
@@ -196,6 +197,7 @@ pub fn remove_under<S: PageStore>(
     ensures unchanged { IfOk result (λ o. o ≡ Missing → S.changed store.new ≤ S.changed store.old) }
     ensures child { IfOk result (λ o. HasPageIn (S.size store.old) o) }
     ensures names { IfErr result (NamesPage (S.size store.old)) }
+    ensures bad { IfErr result (λ e. e ≢ Damaged 0 → NamesBad (S.told store.old) height page e) }
     ensures cause { HasStopCause (S.faults store.old) (S.faults store.new) result }
     ensures size { S.size store.new ≡ S.size store.old }
     ensures later { S.later store.old store.new }
@@ -215,10 +217,12 @@ pub fn remove_under<S: PageStore>(
         Ok(Removed::Missing) => Ok(Removed::Missing),
         Ok(Removed::Done) => Ok(Removed::Done),
         Ok(Removed::Underfull) => match inner_high(&bytes, store.pages(), height) {
-            None => Err(Stop::Damaged { page }),
+            None => Err(Stop::Damaged {
+                page: inner_at_fault(&bytes, store.pages(), page),
+            }),
             Some(mut inner) => rebalance_child(store, page, height, &mut inner, way.place),
         },
-        Ok(Removed::Emptied) => Err(Stop::Damaged { page: child }),
-        Ok(Removed::Only { .. }) => Err(Stop::Damaged { page: child }),
+        Ok(Removed::Emptied) => Err(Stop::Damaged { page: 0 }),
+        Ok(Removed::Only { .. }) => Err(Stop::Damaged { page: 0 }),
     }
 }

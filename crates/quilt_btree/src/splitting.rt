@@ -20,7 +20,7 @@ pub fn write_split<S: PageStore>(
     ensures taken { IfOk result (λ new. FreesOnly new false (S.free store.old) (S.free store.new)) }
     ensures room { OnOk result (count_free (S.free store.old) (S.size store.old) ≤ count_free (S.free store.new) (S.size store.old) + 1) }
     ensures sound { IfErr result (λ e. S.free store.old page ≡ false → 0 < count_free (S.free store.old) (S.size store.old) → IsSound e) }
-    ensures names { IfErr result (NamesPage (S.size store.old)) }
+    ensures names { IfErr result (NamesPage 1) }
     ensures cause { HasStopCause (S.faults store.old) (S.faults store.new) result }
     ensures size { S.size store.new ≡ S.size store.old }
     ensures later { S.later store.old store.new }
@@ -46,7 +46,7 @@ pub fn write_new<S: PageStore>(store: &mut S, bytes: &[u8; 4096]) -> Result<u32,
     ensures free { IfOk result (λ new. S.free store.old new ≡ true) }
     ensures taken { IfOk result (λ new. FreesOnly new false (S.free store.old) (S.free store.new)) }
     ensures sound { IfErr result (λ e. 0 < count_free (S.free store.old) (S.size store.old) → IsSound e) }
-    ensures names { IfErr result (NamesPage (S.size store.old)) }
+    ensures names { IfErr result (NamesPage 1) }
     ensures cause { HasStopCause (S.faults store.old) (S.faults store.new) result }
     ensures size { S.size store.new ≡ S.size store.old }
     ensures later { S.later store.old store.new }

@@ -1,4 +1,4 @@
-ghost use Rattle.std.specs.Prelude.{◌≡◌, ℕ, ◌+◌, ◌*◌, ◌<◌, ◌≤◌, Bool, true, false, IfOk, IfErr, IfSome, OnOk, List, None, length, take, if◌then◌else◌};
+ghost use Rattle.std.specs.Prelude.{◌≡◌, ◌≢◌, ℕ, ◌+◌, ◌*◌, ◌<◌, ◌≤◌, Bool, true, false, IfOk, IfErr, IfSome, OnOk, List, None, length, take, if◌then◌else◌};
 ghost use Rattle.std.specs.List.{list_all};
 ghost use Rattle.quilt_record.specs.declared.record.Record.{Record};
 ghost use Rattle.quilt_types.specs.declared.stop.Stop.TheVariants.{Damaged};
@@ -6,9 +6,10 @@ ghost use Rattle.quilt_node.specs.Pages.{is_ascending};
 ghost use Rattle.quilt_node.specs.Tree.{Bounds, is_below};
 ghost use Rattle.quilt_btree.specs.Edits.{CanEdit};
 ghost use Rattle.quilt_btree.specs.Runs.{without_all, has_each, Lacks, DidDrain};
+ghost use Rattle.quilt_btree.specs.Damage.{NamesBad};
 ghost use Rattle.quilt_btree.specs.Stops.{HasStopCause, NamesPage};
 
-use crate::pages::read_leaf;
+use crate::pages::{read_leaf, stop_behind};
 use crate::reading::step_in;
 use crate::rebalancing::precedes;
 use crate::running::stays_below;
@@ -37,7 +38,8 @@ impl Tree {
     ghost use Rattle.quilt_btree.specs.Edits.{IsWhole};
 
     /// Takes the records of a run of keys out, which ascend. It changes at most 7 pages for each. Where a key is not
-    /// there page 0 is said to be damaged, and the tree and the store are then only given up.
+    /// there page 0 is said to be damaged, and the tree and the store are then only given up. Behind its first step it
+    /// names no page over 0.
     pub fn remove_all<S: PageStore>(&mut self, store: &mut S, run: &[Key]) -> Result<(), Stop>
         requires rooted { IsRooted (S.size store.old) self.old }
         requires order { is_ascending run.now ≡ true }
@@ -48,6 +50,7 @@ impl Tree {
         ensures missing { IfErr result (λ e. (rs : List Record) → IsWhole (S.told store.old) (S.free store.old) (S.size store.old) self.old rs
             → (page : ℕ) → e ≡ Damaged page → (page ≡ 0) × (has_each run.now rs ≡ false)) }
         ensures names { IfErr result (NamesPage (S.size store.old)) }
+        ensures bad { IfErr result (λ e. e ≢ Damaged 0 → NamesBad (S.told store.old) self.old.height self.old.root e) }
         ensures cause { HasStopCause (S.faults store.old) (S.faults store.new) result }
         ensures size { S.size store.new ≡ S.size store.old }
         ensures later { S.later store.old store.new }
@@ -56,7 +59,7 @@ impl Tree {
         let mut done = 0;
         while done < run.len() {
             match self.remove_some(store, &run[done..]) {
-                Err(e) => return Err(e),
+                Err(e) => return Err(stop_behind(e, done)),
                 Ok(n) => done += n,
             }
         }
@@ -77,6 +80,7 @@ impl Tree {
         ensures missing { IfErr result (λ e. (rs : List Record) → IsWhole (S.told store.old) (S.free store.old) (S.size store.old) self.old rs
             → (page : ℕ) → e ≡ Damaged page → (page ≡ 0) × (has_each run.now rs ≡ false)) }
         ensures names { IfErr result (NamesPage (S.size store.old)) }
+        ensures bad { IfErr result (λ e. e ≢ Damaged 0 → NamesBad (S.told store.old) self.old.height self.old.root e) }
         ensures cause { HasStopCause (S.faults store.old) (S.faults store.new) result }
         ensures size { S.size store.new ≡ S.size store.old }
         ensures later { S.later store.old store.new }
@@ -110,6 +114,7 @@ impl Tree {
         ensures missing { IfErr result (λ e. (rs : List Record) → IsWhole (S.told store.old) (S.free store.old) (S.size store.old) self.old rs
             → (page : ℕ) → e ≡ Damaged page → (page ≡ 0) × (has_each run.now rs ≡ false)) }
         ensures names { IfErr result (NamesPage (S.size store.old)) }
+        ensures bad { IfErr result (λ e. e ≢ Damaged 0 → NamesBad (S.told store.old) self.old.height self.old.root e) }
         ensures cause { HasStopCause (S.faults store.old) (S.faults store.new) result }
         ensures size { S.size store.new ≡ S.size store.old }
         ensures later { S.later store.old store.new }
@@ -190,13 +195,14 @@ fn drain_leaf<S: PageStore>(
     ensures lacks { IfErr result (λ e. (b : Bounds) (rs : List Record) (used : List ℕ) → b.high ≡ high.now
         → CanEdit (S.told store.old) (S.free store.old) page 1 is_root b rs used → (q : ℕ) → e ≡ Damaged q → (q ≡ 0) × Lacks run.now b.high rs) }
     ensures names { IfErr result (NamesPage (S.size store.old)) }
+    ensures bad { IfErr result (λ e. e ≢ Damaged 0 → NamesBad (S.told store.old) 1 page e) }
     ensures cause { HasStopCause (S.faults store.old) (S.faults store.new) result }
     ensures size { S.size store.new ≡ S.size store.old }
     ensures later { S.later store.old store.new }
     ensures changed { S.changed store.new ≤ S.changed store.old + 1 }
     ensures unchanged { IfOk result (λ n. n ≡ 0 → S.changed store.new ≤ S.changed store.old) }
 {
-    let mut leaf = match read_leaf(store, page) {
+    let mut leaf = match read_leaf(store, page, page) {
         Err(e) => return Err(e),
         Ok(leaf) => leaf,
     };
@@ -238,6 +244,7 @@ fn drain_under<S: PageStore>(
     ensures lacks { IfErr result (λ e. (b : Bounds) (rs : List Record) (used : List ℕ) → b.high ≡ high.now
         → CanEdit (S.told store.old) (S.free store.old) page height is_root b rs used → (q : ℕ) → e ≡ Damaged q → (q ≡ 0) × Lacks run.now b.high rs) }
     ensures names { IfErr result (NamesPage (S.size store.old)) }
+    ensures bad { IfErr result (λ e. e ≢ Damaged 0 → NamesBad (S.told store.old) height page e) }
     ensures cause { HasStopCause (S.faults store.old) (S.faults store.new) result }
     ensures size { S.size store.new ≡ S.size store.old }
     ensures later { S.later store.old store.new }

@@ -1,9 +1,11 @@
-ghost use Rattle.std.specs.Prelude.{◌≡◌, ℕ, ◌+◌, ◌<◌, ◌≤◌, Bool, true, false, not, IfOk, IfErr, OnOk, List, length, if◌then◌else◌};
+ghost use Rattle.std.specs.Prelude.{◌≡◌, ◌≢◌, ℕ, ◌+◌, ◌<◌, ◌≤◌, Bool, true, false, not, IfOk, IfErr, OnOk, List, length, if◌then◌else◌};
 ghost use Rattle.std.specs.List.{list_any};
 ghost use Rattle.quilt_record.specs.declared.record.Record.{Record};
 ghost use Rattle.quilt_types.specs.Facts.{quota};
 ghost use Rattle.quilt_store.specs.Store.{count_free};
 ghost use Rattle.quilt_record.specs.Lists.{has_key, put};
+ghost use Rattle.quilt_types.specs.declared.stop.Stop.TheVariants.{Damaged};
+ghost use Rattle.quilt_btree.specs.Damage.{NamesBad};
 ghost use Rattle.quilt_btree.specs.Stops.{HasStopCause, IsSound, NamesPage};
 
 use crate::inserting::insert_under;
@@ -21,8 +23,8 @@ impl Tree {
 
     /// Puts a record in: false exactly where its key is there, and nothing changes. It changes at most 6 pages. Over a
     /// store that tells nothing, page 0 is said to be damaged where no page is free for a split, a page that is to be
-    /// written is free, or the tree would come to height 4; and any other page where that is seen to be not well formed,
-    /// not at its height, or to have a key out of its bounds: an inner page that stays as it is is not looked into.
+    /// written is free, the tree would come to height 4, or a page does not fit the one above by its height or its keys;
+    /// and any other page where that was not well formed at the call: an inner page that stays as it is is not looked into.
     pub fn insert<S: PageStore>(&mut self, store: &mut S, r: &Record) -> Result<bool, Stop>
         requires rooted { IsRooted (S.size store.old) self.old }
         requires room { self.old.records < quota (S.size store.old) }
@@ -42,6 +44,7 @@ impl Tree {
         ensures goes { IfErr result (λ e. (rs : List Record) → HasItsPages (S.told store.old) (S.free store.old) self.old rs
             → length rs ≡ self.old.records → self.old.height < count_free (S.free store.old) (S.size store.old) → IsSound e) }
         ensures names { IfErr result (NamesPage (S.size store.old)) }
+        ensures bad { IfErr result (λ e. e ≢ Damaged 0 → NamesBad (S.told store.old) self.old.height self.old.root e) }
         ensures cause { HasStopCause (S.faults store.old) (S.faults store.new) result }
         ensures size { S.size store.new ≡ S.size store.old }
         ensures later { S.later store.old store.new }

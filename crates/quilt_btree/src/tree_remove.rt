@@ -1,8 +1,9 @@
-ghost use Rattle.std.specs.Prelude.{◌≡◌, ℕ, ◌+◌, ◌-◌, ◌<◌, ◌≤◌, Bool, true, false, IfOk, IfErr, OnOk, IsErrOf, List, length};
+ghost use Rattle.std.specs.Prelude.{◌≡◌, ◌≢◌, ℕ, ◌+◌, ◌-◌, ◌<◌, ◌≤◌, Bool, true, false, IfOk, IfErr, OnOk, IsErrOf, List, length};
 ghost use Rattle.std.specs.List.{list_any};
 ghost use Rattle.quilt_record.specs.declared.record.Record.{Record};
-ghost use Rattle.quilt_types.specs.declared.stop.Stop.TheVariants.{Device};
+ghost use Rattle.quilt_types.specs.declared.stop.Stop.TheVariants.{Device, Damaged};
 ghost use Rattle.quilt_record.specs.Lists.{has_key, without};
+ghost use Rattle.quilt_btree.specs.Damage.{NamesBad};
 ghost use Rattle.quilt_btree.specs.Stops.{HasStopCause, IsSound, NamesPage};
 
 use crate::outcomes::Removed;
@@ -19,9 +20,9 @@ impl Tree {
 
     /// Takes the record of a key out: false exactly where there is none, and nothing changes. It changes at most 7 pages.
     /// Over a store that tells nothing, page 0 is said to be damaged where a page that is to be written or given back is
-    /// free, the number of records does not go with the height, or an inner page begins with the key that parts it from
-    /// the one before; and any other page where that is seen to be not well formed, not at its height, under its minimum,
-    /// or to have a key out of its bounds: an inner page that stays as it is is not looked into.
+    /// free, the number of records does not go with the height, a page does not fit the one above or beside by its height,
+    /// its keys or how few they are, or a page beside one that was written is not well formed; and any other page where
+    /// that was not well formed at the call: an inner page that stays as it is is not looked into.
     pub fn remove<S: PageStore>(&mut self, store: &mut S, k: &Key) -> Result<bool, Stop>
         requires rooted { IsRooted (S.size store.old) self.old }
         ensures rooted { OnOk result (IsRooted (S.size store.old) self.new) }
@@ -38,6 +39,7 @@ impl Tree {
         ensures goes { IfErr result (λ e. (rs : List Record) → HasItsPages (S.told store.old) (S.free store.old) self.old rs
             → length rs ≡ self.old.records → IsSound e) }
         ensures names { IfErr result (NamesPage (S.size store.old)) }
+        ensures bad { IfErr result (λ e. e ≢ Damaged 0 → NamesBad (S.told store.old) self.old.height self.old.root e) }
         ensures cause { HasStopCause (S.faults store.old) (S.faults store.new) result }
         ensures size { S.size store.new ≡ S.size store.old }
         ensures later { S.later store.old store.new }

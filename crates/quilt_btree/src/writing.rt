@@ -14,7 +14,7 @@ pub fn write_page<S: PageStore>(store: &mut S, page: u32, bytes: &[u8; 4096]) ->
     ensures taken { OnOk result (S.free store.old page ≡ false) }
     ensures sound { IfErr result (λ e. S.free store.old page ≡ false → IsSound e) }
     ensures free { S.free store.new ≡ S.free store.old }
-    ensures names { IfErr result (NamesPage (S.size store.old)) }
+    ensures names { IfErr result (NamesPage 1) }
     ensures cause { HasStopCause (S.faults store.old) (S.faults store.new) result }
     ensures size { S.size store.new ≡ S.size store.old }
     ensures later { S.later store.old store.new }
@@ -42,7 +42,7 @@ pub fn write_and_give<S: PageStore>(
     ensures free { OnOk result (FreesOnly right true (S.free store.old) (S.free store.new)) }
     ensures taken { OnOk result (S.free store.old right ≡ false) }
     ensures sound { IfErr result (λ e. S.free store.old left ≡ false → S.free store.old right ≡ false → IsSound e) }
-    ensures names { IfErr result (NamesPage (S.size store.old)) }
+    ensures names { IfErr result (NamesPage 1) }
     ensures cause { HasStopCause (S.faults store.old) (S.faults store.new) result }
     ensures size { S.size store.new ≡ S.size store.old }
     ensures later { S.later store.old store.new }
@@ -73,7 +73,7 @@ pub fn write_both<S: PageStore>(
     ensures told { OnOk result (Tells (λ old new. new ≡ slice_set (slice_set old left bytes.now) right others.now) (S.told store.old) (S.told store.new)) }
     ensures sound { IfErr result (λ e. S.free store.old left ≡ false → S.free store.old right ≡ false → IsSound e) }
     ensures free { S.free store.new ≡ S.free store.old }
-    ensures names { IfErr result (NamesPage (S.size store.old)) }
+    ensures names { IfErr result (NamesPage 1) }
     ensures cause { HasStopCause (S.faults store.old) (S.faults store.new) result }
     ensures size { S.size store.new ≡ S.size store.old }
     ensures later { S.later store.old store.new }
@@ -92,7 +92,7 @@ pub fn give_back<S: PageStore>(store: &mut S, page: u32) -> Result<(), Stop>
     ensures free { OnOk result (FreesOnly page true (S.free store.old) (S.free store.new)) }
     ensures taken { OnOk result (S.free store.old page ≡ false) }
     ensures sound { IfErr result (λ e. S.free store.old page ≡ false → IsSound e) }
-    ensures names { IfErr result (NamesPage (S.size store.old)) }
+    ensures names { IfErr result (NamesPage 1) }
     ensures cause { HasStopCause (S.faults store.old) (S.faults store.new) result }
     ensures size { S.size store.new ≡ S.size store.old }
     ensures later { S.later store.old store.new }

@@ -31,7 +31,8 @@ fn by_edits(page: u32) -> [u32; 7] {
     [NONE, NONE, NONE, page, page, page, page]
 }
 
-/// The removals alone name the page: they have to look at the one above the leaf, and at the one beside it.
+/// The removals alone name the page: they have to look at the one above the leaf, and at the one beside it. They name page 0
+/// for what they see once they have written.
 fn by_removals(page: u32) -> [u32; 7] {
     [NONE, NONE, NONE, NONE, page, NONE, page]
 }
@@ -109,23 +110,97 @@ fn a_page_that_is_no_leaf_is_named_by_edits(rt: HostRuntime) -> Result<(), Fail>
 }
 
 #[test]
-fn a_leaf_of_one_record_is_named_by_its_removal(rt: HostRuntime) -> Result<(), Fail> {
-    try_two(&rt, rt.alloc(), 72, (3, Spoil::First), 576, by_removals(3))?;
+fn a_leaf_of_one_record_stops_its_removal(rt: HostRuntime) -> Result<(), Fail> {
+    try_two(&rt, rt.alloc(), 72, (3, Spoil::First), 576, by_removals(0))?;
     try_beside(&rt, rt.alloc(), 3, Spoil::First, 81)
 }
 
 #[test]
-fn a_leaf_out_of_its_bounds_is_named_by_removals(rt: HostRuntime) -> Result<(), Fail> {
+fn a_leaf_out_of_its_bounds_stops_removals(rt: HostRuntime) -> Result<(), Fail> {
     let how = Spoil::Byte(2062, 5);
-    try_two(&rt, rt.alloc(), 72, (3, how), 656, by_removals(3))?;
+    try_two(&rt, rt.alloc(), 72, (3, how), 656, by_removals(0))?;
     try_beside(&rt, rt.alloc(), 3, how, 81)
 }
 
 #[test]
-fn a_leaf_that_is_listed_twice_is_named_by_removals(rt: HostRuntime) -> Result<(), Fail> {
+fn a_leaf_that_is_listed_twice_stops_removals(rt: HostRuntime) -> Result<(), Fail> {
     let how = Spoil::Byte(15, 2);
-    try_two(&rt, rt.alloc(), 72, (1, how), 80, by_removals(2))?;
+    try_two(&rt, rt.alloc(), 72, (1, how), 80, by_removals(0))?;
     try_beside(&rt, rt.alloc(), 1, how, 1233)
+}
+
+#[test]
+fn a_page_that_is_no_leaf_stops_removals_beside_it(rt: HostRuntime) -> Result<(), Fail> {
+    for how in [
+        Spoil::Byte(354, 0),
+        Spoil::Byte(2, 255),
+        Spoil::Byte(4095, 1),
+        Spoil::Ones,
+        Spoil::Inner,
+    ] {
+        try_two(&rt, rt.alloc(), 72, (3, how), 80, by_removals(0))?;
+    }
+    Ok(())
+}
+
+/// How often the edits at an item of a tree of height 2 name the page that is spoilt. They name no other but page 0.
+fn count_by_edits(
+    rt: &impl Abort,
+    alloc: Global,
+    n: u32,
+    spoilt: (u32, Spoil),
+    item: u32,
+) -> Result<u32, Fail>
+    requires { (1 ≤ n) × (n ≤ 144) }
+{
+    let mut count = 0_u32;
+    for call in 3..7_usize {
+        let tree = Spoilt::of_two_levels(alloc, n, spoilt.0, spoilt.1)?;
+        let page = named(tree.stops(rt, alloc, call, item));
+        assert!(rt; page == NONE || page == 0 || page == spoilt.0);
+        if page == spoilt.0 {
+            count = count.wrapping_add(1);
+        }
+    }
+    Ok(count)
+}
+
+/// How often the edits of a tree of height 2 with one page spoilt name it.
+fn count_at_items(rt: &impl Abort, alloc: Global, n: u32, spoilt: (u32, Spoil)) -> Result<u32, Fail>
+    requires { (1 ≤ n) × (n ≤ 144) }
+{
+    let mut count = 0_u32;
+    for item in [0, 80, 284, 576, 656, 860, 1152, 1232, 1436] {
+        count = count.wrapping_add(count_by_edits(rt, alloc, n, spoilt, item)?);
+    }
+    Ok(count)
+}
+
+/// How often the edits of trees of height 2 with one page spoilt in this way name it.
+fn count_at_pages(rt: &impl Abort, alloc: Global, how: Spoil) -> Result<u32, Fail> {
+    let mut count = 0_u32;
+    for page in 1..5_u32 {
+        count = count.wrapping_add(count_at_items(rt, alloc, 72, (page, how))?);
+        count = count.wrapping_add(count_at_items(rt, alloc, 144, (page, how))?);
+    }
+    Ok(count)
+}
+
+#[test]
+fn edits_name_the_page_that_is_spoilt_or_page_0(rt: HostRuntime) -> Result<(), Fail> {
+    for how in [
+        Spoil::Byte(2, 255),
+        Spoil::Byte(354, 0),
+        Spoil::Byte(4095, 1),
+        Spoil::Ones,
+        Spoil::Inner,
+    ] {
+        assert!(rt; count_at_pages(&rt, rt.alloc(), how)? > 0);
+    }
+    for how in [Spoil::Byte(2062, 5), Spoil::First, Spoil::Leaf] {
+        let _ = count_at_pages(&rt, rt.alloc(), how)?;
+    }
+    Ok(())
 }
 
 #[test]
@@ -169,24 +244,12 @@ fn a_page_below_the_root_of_three_levels_is_named(rt: HostRuntime) -> Result<(),
 }
 
 #[test]
-fn a_leaf_of_three_levels_is_named_by_removals(rt: HostRuntime) -> Result<(), Fail> {
-    try_three(
-        &rt,
-        rt.alloc(),
-        (134, Spoil::First),
-        74880,
-        by_removals(134),
-    )?;
+fn a_leaf_of_three_levels_stops_removals(rt: HostRuntime) -> Result<(), Fail> {
+    try_three(&rt, rt.alloc(), (134, Spoil::First), 74880, by_removals(0))?;
     let out_of_bounds = Spoil::Byte(2062, 53);
-    try_three(
-        &rt,
-        rt.alloc(),
-        (134, out_of_bounds),
-        74960,
-        by_removals(134),
-    )?;
+    try_three(&rt, rt.alloc(), (134, out_of_bounds), 74960, by_removals(0))?;
     let twice = Spoil::Byte(23, 133);
-    try_three(&rt, rt.alloc(), (3, twice), 74384, by_removals(133))
+    try_three(&rt, rt.alloc(), (3, twice), 74384, by_removals(0))
 }
 
 #[test]

@@ -1,5 +1,6 @@
-use Rattle.std.proofs.Common.{refl}
+use Rattle.std.proofs.Common.{◌+◌, refl, arith}
 use Rattle.quilt_btree.proofs.Along.{sound_along}
+use Rattle.quilt_btree.proofs.Damage.{zero_named, names_more, named_more}
 use Rattle.quilt_btree.proofs.Finding.{finds_here, finds_none, new_in_leaf}
 use Rattle.quilt_btree.proofs.LeafGrowth.{leaf_there, leaf_read, leaf_can_spell}
 use Rattle.quilt_btree.proofs.inserting.insert_leaf.Goals as goal
@@ -35,3 +36,17 @@ returns-in-Err-find-clause-finds g c =
     new_in_leaf c.put_record.result (g.S.PageStore.told c.args.store.now) c.args.page c.args.r.now.key c.put_record.ensures.new
     (λ height one. finds_none (g.S.PageStore.told c.args.store.now) c.args.page height c.in-Err-find.i c.args.r.now.key c.in-Ok.leaf
     c.in-Ok.ensures.leaf c.in-Err-find.ensures.place one)
+
+pub returns-in-Err-clause-names : goal.returns-in-Err-clause-names
+returns-in-Err-clause-names g c =
+    names_more (c.args.page + 1) (g.S.PageStore.size c.args.store.now) c.in-Err.e (let q = c.requires.1 in omega arith) c.in-Err.ensures.names
+
+pub returns-in-Err-clause-bad : goal.returns-in-Err-clause-bad
+returns-in-Err-clause-bad g c = λ ne. c.in-Err.ensures.bad refl
+
+pub returns-in-Err-find-clause-names : goal.returns-in-Err-find-clause-names
+returns-in-Err-find-clause-names g c =
+    named_more c.put_record.result 1 (g.S.PageStore.size c.args.store.now) (let q = c.requires.1 in omega arith) c.put_record.ensures.names
+
+pub returns-in-Err-find-clause-bad : goal.returns-in-Err-find-clause-bad
+returns-in-Err-find-clause-bad g c = zero_named c.put_record.result (g.S.PageStore.told c.args.store.now) 1 c.args.page c.put_record.ensures.names

@@ -1,9 +1,8 @@
-use Rattle.std.proofs.Common.{◌≡◌, suc, ◌<◌, ◌≤◌, length, refl, sym, subst, arith}
+use Rattle.std.proofs.Common.{◌≡◌, suc, ◌≤◌, length, refl, subst, arith}
 use Rattle.quilt_node.specs.Pages.{Inner}
 use Rattle.std.specs.List.{insert}
 use Rattle.std.proofs.lemmas.List.Edits.{length-insert}
 use Rattle.quilt_node.specs.Edits.{with_child}
-use Rattle.quilt_btree.proofs.Forks.{child_page}
 use Rattle.quilt_btree.proofs.InnerGrowth.{IsWritten, pending_taken, put_done, put_split}
 use Rattle.quilt_btree.proofs.inserting.put_child.Goals as goal
 
@@ -41,8 +40,3 @@ returns-in-Ok-write_split-clause-put g c is_root b all under p =
       parts = c.insert_split-right.ensures.key;
     })
     refl c.in-Ok-write_split.ensures.free c.in-Ok-write_split.ensures.taken c.in-Ok-write_split.ensures.told p
-
-pub returns-then-not-fits-clause-names : goal.returns-then-not-fits-clause-names
-returns-then-not-fits-clause-names g c =
-    subst (λ p. p < g.S.PageStore.size c.args.store.now) (sym c.child.ensures.child)
-    (child_page (g.S.PageStore.size c.args.store.now) c.args.inner.now.children c.args.i c.requires.children c.requires.place).1

@@ -1,7 +1,8 @@
-use Rattle.std.proofs.Common.{◌≡◌, true, false, Some, refl, sym, subst, ◌∙◌}
+use Rattle.std.proofs.Common.{◌≡◌, true, false, Some, refl, sym, subst, ◌∙◌, arith}
 use Rattle.quilt_node.specs.Pages.{inner_of}
 use Rattle.quilt_btree.specs.Searches.{IsHigh}
-use Rattle.quilt_btree.proofs.Forks.{place_inside}
+use Rattle.quilt_btree.proofs.Forks.{place_inside, read_ok}
+use Rattle.quilt_btree.proofs.Damage.{bad_below, inner_fault, zero_named, named_more, named_leaf}
 use Rattle.quilt_btree.proofs.Finding.{finds_below, found_in_leaf, found_finds}
 use Rattle.quilt_btree.proofs.LeafRemovals.{leaf_reads}
 use Rattle.quilt_btree.proofs.Removals.{sound_child, missing_child, done_child, rebalanced_child, rebalanced_sound, emptied_child, only_child, leaf_sound}
@@ -232,3 +233,40 @@ rebalance_child-requires-clause-place g t c =
     subst (λ n. inner_of n c.read_way.new.bytes ≡ Some c.in-Some.inner) same c.in-Some.ensures.inner in
     place_inside (g.S.PageStore.size c.args.store.now) c.read_way.new.bytes c.in-Some.inner c.args.k.now c.in-Ok.way.place is
     (c.in-Ok.ensures.way c.in-Some.inner is).is_place
+
+pub returns-then-height-eq1-clause-bad : goal.returns-then-height-eq1-clause-bad
+returns-then-height-eq1-clause-bad g t c =
+    named_leaf c.remove_in_leaf.result (g.S.PageStore.told c.args.store.now) c.args.height c.args.page c.if-height-eq1.true c.remove_in_leaf.ensures.bad
+
+pub returns-in-Err-clause-bad : goal.returns-in-Err-clause-bad
+returns-in-Err-clause-bad g t c = λ ne. c.in-Err.ensures.bad c.args.height c.requires.height c.if-height-eq1.false
+
+pub returns-in-Err-remove_under-clause-bad : goal.returns-in-Err-remove_under-clause-bad
+returns-in-Err-remove_under-clause-bad g t c = λ ne.
+    bad_below (g.S.PageStore.told c.args.store.now) (g.S.PageStore.told c.read_way.new.store) c.args.page c.args.height
+    (g.S.PageStore.size c.args.store.now) c.read_way.new.bytes c.in-Ok.way.child c.in-Err-remove_under.e
+    (read_ok (g.S.PageStore.told c.args.store.now) (g.S.PageStore.told c.read_way.new.store) c.args.page c.args.height
+    (g.S.PageStore.size c.args.store.now) (g.S.PageStore.size c.args.store.now) c.read_way.new.bytes c.requires.height c.if-height-eq1.false
+    c.in-Ok.ensures.told (g.met.S.PageStore.as_many c.args.store.now) refl c.in-Ok.ensures.bytes)
+    c.in-Ok.ensures.stands (c.in-Err-remove_under.ensures.bad ne)
+
+pub returns-in-None-clause-bad : goal.returns-in-None-clause-bad
+returns-in-None-clause-bad g t c =
+    let same : c.pages-in-None.result ≡ g.S.PageStore.size c.args.store.now = c.pages-in-None.ensures ∙ c.in-Ok-Underfull.ensures.size ∙ c.in-Ok.ensures.size in
+    inner_fault (g.S.PageStore.told c.args.store.now) (g.S.PageStore.told c.read_way.new.store) c.args.page c.args.height
+    c.pages-in-None.result c.inner_at_fault.result c.read_way.new.bytes
+    (read_ok (g.S.PageStore.told c.args.store.now) (g.S.PageStore.told c.read_way.new.store) c.args.page c.args.height
+    c.pages-in-None.result (g.S.PageStore.size c.args.store.now) c.read_way.new.bytes c.requires.height c.if-height-eq1.false
+    c.in-Ok.ensures.told (g.met.S.PageStore.as_many c.args.store.now) same c.in-Ok.ensures.bytes)
+    c.inner_at_fault.ensures.fault
+
+pub returns-in-Some-clause-names : goal.returns-in-Some-clause-names
+returns-in-Some-clause-names g t c =
+    named_more c.rebalance_child.result 1 (g.S.PageStore.size c.args.store.now) (let q = c.requires.page.1 in omega arith) c.rebalance_child.ensures.names
+
+pub returns-in-Some-clause-bad : goal.returns-in-Some-clause-bad
+returns-in-Some-clause-bad g t c = zero_named c.rebalance_child.result (g.S.PageStore.told c.args.store.now) c.args.height c.args.page c.rebalance_child.ensures.names
+
+pub returns-in-Some-clause-later : goal.returns-in-Some-clause-later
+returns-in-Some-clause-later g t c =
+    g.met.S.PageStore.goes_on _ _ _ (g.met.S.PageStore.goes_on _ _ _ c.in-Ok.ensures.later c.in-Ok-Underfull.ensures.later) c.rebalance_child.ensures.later

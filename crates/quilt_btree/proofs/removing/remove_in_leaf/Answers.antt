@@ -1,5 +1,6 @@
-use Rattle.std.proofs.Common.{◌∙◌, sym, arith}
+use Rattle.std.proofs.Common.{◌+◌, ◌∙◌, refl, sym, arith}
 use Rattle.std.proofs.lemmas.Result.{err_from_is_err_and}
+use Rattle.quilt_btree.proofs.Damage.{zero_names, names_more}
 use Rattle.quilt_btree.proofs.Finding.{finds_here, finds_none}
 use Rattle.quilt_btree.proofs.LeafRemovals.{leaf_missing, leaf_emptied, leaf_underfull, leaf_done, leaf_reads}
 use Rattle.quilt_btree.proofs.removing.remove_in_leaf.Goals as goal
@@ -77,3 +78,21 @@ pub returns-else-left-lt-LEAST_RECORDS-clause-finds : goal.returns-else-left-lt-
 returns-else-left-lt-LEAST_RECORDS-clause-finds g c = λ height rs one s.
     finds_here (g.S.PageStore.told c.args.store.now) c.args.page height c.in-Ok.field-0 c.args.k.now c.in_ok-leaf.leaf c.in_ok-leaf.ensures.leaf
     c.in-Ok.ensures.place one rs s
+
+pub returns-in_err-leaf-clause-names : goal.returns-in_err-leaf-clause-names
+returns-in_err-leaf-clause-names g c =
+    let p = err_from_is_err_and c.from_residual.result c.from_residual.ensures.1 in
+    rw (p.1, p.2) (names_more (c.args.page + 1) (g.S.PageStore.size c.args.store.now) _ (let q = c.requires.1 in omega arith) c.in_err-leaf.ensures.names)
+
+pub returns-in_err-leaf-clause-bad : goal.returns-in_err-leaf-clause-bad
+returns-in_err-leaf-clause-bad g c =
+    let p = err_from_is_err_and c.from_residual.result c.from_residual.ensures.1 in
+    rw (p.1, p.2) (λ ne. c.in_err-leaf.ensures.bad refl)
+
+pub returns-in-Err-write_page-clause-names : goal.returns-in-Err-write_page-clause-names
+returns-in-Err-write_page-clause-names g c =
+    names_more 1 (g.S.PageStore.size c.args.store.now) c.in-Err-write_page.e (let q = c.requires.1 in omega arith) c.in-Err-write_page.ensures.names
+
+pub returns-in-Err-write_page-clause-bad : goal.returns-in-Err-write_page-clause-bad
+returns-in-Err-write_page-clause-bad g c =
+    zero_names (g.S.PageStore.told c.args.store.now) 1 c.args.page c.in-Err-write_page.e c.in-Err-write_page.ensures.names

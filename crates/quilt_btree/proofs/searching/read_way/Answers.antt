@@ -1,6 +1,8 @@
 use Rattle.std.proofs.Common.{◌≡◌, Some, refl, sym, ◌∙◌, subst}
 use Rattle.quilt_node.specs.Pages.{inner_of}
 use Rattle.quilt_btree.proofs.Forks.{read_ok}
+use Rattle.quilt_btree.specs.Damage.{HasChild}
+use Rattle.quilt_btree.proofs.Damage.{sound_names, bad_inner}
 use Rattle.quilt_btree.proofs.Ways.{is_way, is_high}
 use Rattle.quilt_btree.proofs.searching.read_way.Goals as goal
 
@@ -29,3 +31,19 @@ returns-in-Some-clause-here g c = λ height rs some above s.
     (read_ok (g.S.PageStore.told c.args.store.now) (g.S.PageStore.told c.read_into.new.store) c.args.page height
     (g.S.PageStore.size c.args.store.now) (g.S.PageStore.size c.args.store.now) c.read_into.new.bytes some above c.in-Ok.ensures.told
     (g.met.S.PageStore.as_many c.args.store.now) refl c.in-Ok.ensures.bytes) s
+
+pub returns-in-Some-clause-stands : goal.returns-in-Some-clause-stands
+returns-in-Some-clause-stands g c =
+    subst (λ n. HasChild n c.read_into.new.bytes c.in-Some.way.child) (c.pages.ensures ∙ c.in-Ok.ensures.size) c.in-Some.ensures.stands
+
+pub returns-in-Err-clause-bad : goal.returns-in-Err-clause-bad
+returns-in-Err-clause-bad g c = λ height some above.
+    sound_names (g.S.PageStore.told c.args.store.now) height c.args.page c.in-Err.e c.in-Err.ensures.sound
+
+pub returns-in-None-clause-bad : goal.returns-in-None-clause-bad
+returns-in-None-clause-bad g c = λ height some above.
+    bad_inner (g.S.PageStore.told c.args.store.now) (g.S.PageStore.told c.read_into.new.store)
+    c.args.page height c.pages.result c.read_into.new.bytes
+    (read_ok (g.S.PageStore.told c.args.store.now) (g.S.PageStore.told c.read_into.new.store) c.args.page height c.pages.result
+    (g.S.PageStore.size c.args.store.now) c.read_into.new.bytes some above c.in-Ok.ensures.told (g.met.S.PageStore.as_many c.args.store.now)
+    (c.pages.ensures ∙ c.in-Ok.ensures.size) c.in-Ok.ensures.bytes) c.in-None.ensures.way

@@ -1,5 +1,6 @@
-use Rattle.std.proofs.Common.{◌≡◌, ◌≤◌, ◌∙◌, slice_set, length, refl, subst, take}
+use Rattle.std.proofs.Common.{◌≡◌, ◌+◌, ◌≤◌, ◌∙◌, slice_set, length, refl, subst, take, arith}
 use Rattle.quilt_store.specs.Store.{Tells}
+use Rattle.quilt_btree.proofs.Damage.{zero_names, names_more}
 use Rattle.quilt_btree.proofs.Below.{edit_spells}
 use Rattle.quilt_btree.proofs.LeafRemovals.{leaf_same}
 use Rattle.quilt_btree.proofs.Runs.{page_zero}
@@ -33,3 +34,18 @@ returns-in-Ok-write_page-clause-drained g c some b rs used top can =
     c.in-Ok.ensures.told c.in-Ok-write_page.ensures.told)
     (c.in-Ok-write_page.ensures.free ∙ c.in-Ok.ensures.free)
     (subst (λ m. m ≤ length c.drain.new.leaf) c.least_records.ensures (c.in-Some.ensures.least some)) top can
+
+pub returns-in-Err-clause-names : goal.returns-in-Err-clause-names
+returns-in-Err-clause-names g c =
+    names_more (c.args.page + 1) (g.S.PageStore.size c.args.store.now) c.in-Err.e (let q = c.requires.page.1 in omega arith) c.in-Err.ensures.names
+
+pub returns-in-Err-write_page-clause-names : goal.returns-in-Err-write_page-clause-names
+returns-in-Err-write_page-clause-names g c =
+    names_more 1 (g.S.PageStore.size c.args.store.now) c.in-Err-write_page.e (let q = c.requires.page.1 in omega arith) c.in-Err-write_page.ensures.names
+
+pub returns-in-Err-clause-bad : goal.returns-in-Err-clause-bad
+returns-in-Err-clause-bad g c = λ ne. c.in-Err.ensures.bad refl
+
+pub returns-in-Err-write_page-clause-bad : goal.returns-in-Err-write_page-clause-bad
+returns-in-Err-write_page-clause-bad g c =
+    zero_names (g.S.PageStore.told c.args.store.now) 1 c.args.page c.in-Err-write_page.e c.in-Err-write_page.ensures.names

@@ -1,4 +1,5 @@
-use Rattle.std.proofs.Common.{◌≢◌, arith}
+use Rattle.std.proofs.Common.{◌≡◌, ◌≢◌, None, arith}
+use Rattle.quilt_node.specs.Pages.{leaf_of}
 use Rattle.quilt_btree.proofs.Spans.{added_within, above_bound}
 use Rattle.quilt_node.specs.Nodes.{records_of}
 use Rattle.quilt_btree.proofs.Whole.{tree_spells}
@@ -100,4 +101,4 @@ returns-in-Err-clause-bad g c = λ ne. c.in-Err.ensures.bad
 
 pub returns-in-Some-clause-bad : goal.returns-in-Some-clause-bad
 returns-in-Some-clause-bad g c = fault_named (g.S.PageStore.told c.args.store.now) c.args.self.now.height c.args.self.now.root c.in-Ok.found.page
-    c.page_at_fault.result c.leaf_at.new.bytes c.page_at_fault.ensures.fault c.in-Ok.ensures.spoilt
+    c.page_at_fault.result (leaf_of c.leaf_at.new.bytes ≡ None) c.page_at_fault.ensures.fault c.in-Ok.ensures.spoilt

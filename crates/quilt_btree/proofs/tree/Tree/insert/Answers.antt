@@ -1,5 +1,6 @@
 use Rattle.std.proofs.Common.{◌≡◌, true, false, not, suc, ◌-◌, ◌≤◌, ◌<◌, Some, ap, subst, ◌∙◌, arith}
 use Rattle.quilt_node.specs.Pages.{Inner}
+use Rattle.quilt_btree.proofs.Damage.{zero_names, names_more}
 use Rattle.quilt_btree.proofs.Finding.{finds_root, finds_empty}
 use Rattle.quilt_btree.proofs.InnerGrowth.{IsWritten}
 use Rattle.quilt_btree.proofs.KeptPages.{kept_first, kept_low, sound_kept, same_tree, kept_done, room_left, kept_split}
@@ -226,3 +227,24 @@ returns-in-Ok-write_new-clause-changes g c rs w room =
       taken = c.in-Ok-write_new.ensures.taken;
       wrote = c.in-Ok-write_new.ensures.told;
     }) room w
+
+pub returns-in-Err-clause-names : goal.returns-in-Err-clause-names
+returns-in-Err-clause-names g c =
+    names_more 1 (g.S.PageStore.size c.args.store.now) c.in-Err.e (let q = (g.met.S.PageStore.in_range c.args.store.now).0 in omega arith)
+    c.in-Err.ensures.names
+
+pub returns-in-Err-clause-bad : goal.returns-in-Err-clause-bad
+returns-in-Err-clause-bad g c =
+    zero_names (g.S.PageStore.told c.args.store.now) c.args.self.now.height c.args.self.now.root c.in-Err.e c.in-Err.ensures.names
+
+pub returns-in-Err-write_new-clause-names : goal.returns-in-Err-write_new-clause-names
+returns-in-Err-write_new-clause-names g c =
+    names_more 1 (g.S.PageStore.size c.args.store.now) c.in-Err-write_new.e (let q = (g.met.S.PageStore.in_range c.args.store.now).0 in omega arith)
+    c.in-Err-write_new.ensures.names
+
+pub returns-in-Err-write_new-clause-bad : goal.returns-in-Err-write_new-clause-bad
+returns-in-Err-write_new-clause-bad g c =
+    zero_names (g.S.PageStore.told c.args.store.now) c.args.self.now.height c.args.self.now.root c.in-Err-write_new.e c.in-Err-write_new.ensures.names
+
+pub returns-in-Err-insert_under-clause-bad : goal.returns-in-Err-insert_under-clause-bad
+returns-in-Err-insert_under-clause-bad g c = c.in-Err-insert_under.ensures.bad

@@ -1,4 +1,5 @@
 use Rattle.std.proofs.Common.{◌≡◌, true, false, ◌-◌, ◌≤◌, refl, arith}
+use Rattle.quilt_btree.proofs.Damage.{zero_names, zero_named, names_more}
 use Rattle.quilt_btree.proofs.Finding.{finds_root, finds_empty, shrunk_answer}
 use Rattle.quilt_btree.proofs.KeptPages.{out_none, sound_out, out_missing, out_done, out_underfull, out_emptied, out_only, out_shrunk, out_sound, two_done}
 use Rattle.quilt_btree.proofs.KeptPages.{two_underfull, one_empty, two_only}
@@ -362,3 +363,40 @@ returns-in-Ok-give_back-clause-goes g c =
     (g.S.PageStore.free c.args.store.now) (g.S.PageStore.free c.remove_under.new.store) c.in-Ok-Only.child c.args.self.now rs c.if-self-eq0.false
     (rw c.in-Ok-Only.field-0-is at c.in-Ok-Only.ensures.removed) n w in
     (λ e. absurd (let low = two.2 in omega arith), λ e. two.1))
+
+pub returns-in-Err-clause-bad : goal.returns-in-Err-clause-bad
+returns-in-Err-clause-bad g c = c.in-Err.ensures.bad
+
+pub returns-in-Err-give_back-clause-names : goal.returns-in-Err-give_back-clause-names
+returns-in-Err-give_back-clause-names g c =
+    names_more 1 (g.S.PageStore.size c.args.store.now) c.in-Err-give_back.e (let q = (g.met.S.PageStore.in_range c.args.store.now).0 in omega arith)
+    c.in-Err-give_back.ensures.names
+
+pub returns-in-Err-give_back-clause-bad : goal.returns-in-Err-give_back-clause-bad
+returns-in-Err-give_back-clause-bad g c =
+    zero_names (g.S.PageStore.told c.args.store.now) c.args.self.now.height c.args.self.now.root c.in-Err-give_back.e c.in-Err-give_back.ensures.names
+
+pub returns-in-Err-give_back-2-clause-names : goal.returns-in-Err-give_back-2-clause-names
+returns-in-Err-give_back-2-clause-names g c =
+    names_more 1 (g.S.PageStore.size c.args.store.now) c.in-Err-give_back-2.e (let q = (g.met.S.PageStore.in_range c.args.store.now).0 in omega arith)
+    c.in-Err-give_back-2.ensures.names
+
+pub returns-in-Err-give_back-2-clause-bad : goal.returns-in-Err-give_back-2-clause-bad
+returns-in-Err-give_back-2-clause-bad g c =
+    zero_names (g.S.PageStore.told c.args.store.now) c.args.self.now.height c.args.self.now.root c.in-Err-give_back-2.e c.in-Err-give_back-2.ensures.names
+
+pub returns-in-Ok-Done-clause-bad : goal.returns-in-Ok-Done-clause-bad
+returns-in-Ok-Done-clause-bad g c =
+    zero_named c.shrink.result (g.S.PageStore.told c.args.store.now) c.args.self.now.height c.args.self.now.root (c.shrink.ensures.names 1 (omega arith))
+
+pub returns-in-Ok-Underfull-clause-bad : goal.returns-in-Ok-Underfull-clause-bad
+returns-in-Ok-Underfull-clause-bad g c =
+    zero_named c.shrink-in-Ok-Underfull.result (g.S.PageStore.told c.args.store.now) c.args.self.now.height c.args.self.now.root (c.shrink-in-Ok-Underfull.ensures.names 1 (omega arith))
+
+pub returns-in-Ok-clause-bad : goal.returns-in-Ok-clause-bad
+returns-in-Ok-clause-bad g c =
+    zero_named c.shrink-in-Ok.result (g.S.PageStore.told c.args.store.now) c.args.self.now.height c.args.self.now.root (c.shrink-in-Ok.ensures.names 1 (omega arith))
+
+pub returns-in-Ok-give_back-clause-bad : goal.returns-in-Ok-give_back-clause-bad
+returns-in-Ok-give_back-clause-bad g c =
+    zero_named c.shrink-in-Ok-give_back.result (g.S.PageStore.told c.args.store.now) c.args.self.now.height c.args.self.now.root (c.shrink-in-Ok-give_back.ensures.names 1 (omega arith))

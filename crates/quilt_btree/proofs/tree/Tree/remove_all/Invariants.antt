@@ -11,6 +11,7 @@ invariant-loop-done g l = record {
   size : g.S.PageStore.size l.store ≡ g.S.PageStore.size l.initial.store;
   later : g.S.PageStore.later l.initial.store l.store;
   changed : g.S.PageStore.changed l.store ≤ g.S.PageStore.changed l.initial.store + 7 * l.done;
+  start : l.done ≡ 0 → (g.S.PageStore.told l.store ≡ g.S.PageStore.told l.initial.store) × (l.self ≡ l.initial.self);
 }
 
 abbrev pub decreases-loop-done : goal.decreases-loop-done

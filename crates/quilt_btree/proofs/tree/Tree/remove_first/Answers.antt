@@ -18,3 +18,6 @@ returns-else-is_out-clause-missing g c rs w page is = (
       (g.S.PageStore.free c.args.store.now) (g.S.PageStore.free c.remove.new.store) (g.S.PageStore.size c.args.store.now)
       c.args.self.now c.remove.new.self c.args.run.now c.in-Ok.is_out c.requires.some c.if-is_out.false c.in-Ok.ensures.removed rs w,
 )
+
+pub returns-in-Err-clause-bad : goal.returns-in-Err-clause-bad
+returns-in-Err-clause-bad g c = c.in-Err.ensures.bad

@@ -2,6 +2,7 @@ use Rattle.std.proofs.Common.{◌≤◌, take, arith}
 use Rattle.std.proofs.lemmas.List.{length-take-le}
 use Rattle.quilt_node.proofs.Ascending.{ascending_take}
 use Rattle.quilt_btree.proofs.Drains.{whole_drained, whole_lacks, some_left, stays_removed, stays_missing}
+use Rattle.quilt_btree.proofs.Damage.{named_along}
 use Rattle.quilt_btree.proofs.tree.Tree.remove_some.Goals as goal
 
 pub returns-in-Err-clause-missing : goal.returns-in-Err-clause-missing
@@ -60,3 +61,11 @@ returns-clause-removed g c rs w =
           c.if-self-eq0.false;
     }) (length-take-le c.in-Ok.n c.args.run.now c.in-Ok.ensures.number)
     (ascending_take c.args.run.now c.in-Ok.n c.requires.order) (c.in-Ok.ensures.drained one) w
+
+pub returns-in-Err-clause-bad : goal.returns-in-Err-clause-bad
+returns-in-Err-clause-bad g c = c.in-Err.ensures.bad
+
+pub returns-then-n-eq0-clause-bad : goal.returns-then-n-eq0-clause-bad
+returns-then-n-eq0-clause-bad g c =
+    named_along c.remove_first-then-n-eq0.result (g.S.PageStore.told c.args.store.now) (g.S.PageStore.told c.drain_under.new.store)
+    c.args.self.now.height c.args.self.now.root (c.in-Ok.ensures.stays c.if-n-eq0.true).0 c.remove_first-then-n-eq0.ensures.bad
