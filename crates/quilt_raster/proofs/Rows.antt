@@ -10,7 +10,6 @@ use Rattle.quilt_types.specs.Plane.{side, below}
 use Rattle.quilt_types.specs.Layers.{Grid, colour_at}
 use Rattle.quilt_loc.specs.Codes.{code_from, code_to}
 use Rattle.quilt_loc.proofs.Intervals.{origin_code}
-use Rattle.quilt_blocks.proofs.Painting.{code_in}
 use Rattle.quilt_blocks.proofs.Squares.{width, code_to-whole}
 use Rattle.quilt_raster.specs.Painting.{IsIn, place_of, ArePainted}
 use Rattle.quilt_raster.specs.Showing.{digits_of, row_line, written_in}
@@ -46,11 +45,11 @@ below_same f g (suc k) same =
     ∙ flat_map_below g [] k ∙ ap (λ j. flat_map g (below j)) (sym e)
 
 -- a row as its cells have it
-pub row_painted : (f n : ℕ) (g : Grid) (w : Window) (cells : List ℕ) (dy : ℕ) → n ≤ 12 → w.x + w.w ≤ side n → w.y + w.h ≤ side n → dy < w.h
-    → ArePainted n g w (4 ^ n) cells
+pub row_painted : (f n : ℕ) (g : Grid) (w : Window) (cells : List ℕ) (dy : ℕ) → dy < w.h
+    → ((p : Pixel) → IsIn w p → get_or cells (place_of w p) 0 ≡ colour_at n g p)
     → flat_map (λ dx. digits_of f (written_in f (get_or cells (dy * w.w + dx) 0))) (below w.w) ≡ row_line f n (map (written_in f) g) w dy
 unfolding row_line
-row_painted f n g w cells dy most in_x in_y lt painted =
+row_painted f n g w cells dy lt painted =
     below_same (λ dx. digits_of f (written_in f (get_or cells (dy * w.w + dx) 0)))
     (λ dx. digits_of f (colour_at n (map (written_in f) g) (record { x = w.x + dx; y = w.y + dy }))) w.w
     (λ dx in_row.
@@ -59,5 +58,5 @@ row_painted f n g w cells dy most in_x in_y lt painted =
     let column : w.x + dx - w.x ≡ dx = omega arith in
     let at : place_of w p ≡ dy * w.w + dx = ap₂ (λ a b. a * w.w + b) row column in
     let held : IsIn w p = record { left = omega arith; right = omega arith; top = omega arith; bottom = omega arith } in
-    ap (λ c. digits_of f (written_in f c)) (ap (λ k. get_or cells k 0) (sym at) ∙ painted.each p held (code_in n p most (omega arith) (omega arith)))
+    ap (λ c. digits_of f (written_in f c)) (ap (λ k. get_or cells k 0) (sym at) ∙ painted p held)
     ∙ ap (digits_of f) (sym (colour_at-written f n g p)))

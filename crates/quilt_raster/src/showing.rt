@@ -3,9 +3,9 @@ ghost use Rattle.quilt_types.specs.Plane.{side, below};
 ghost use Rattle.quilt_types.specs.Layers.{IsGrid};
 ghost use Rattle.quilt_raster.specs.Showing.{hex, digits_of, row_line, written_in, shown};
 
-use crate::painting::paint;
+use crate::painting::paint_window;
 use quilt_blocks::LeafList;
-use quilt_types::{Block, Colour, Text, Window};
+use quilt_types::{Colour, Text, Window};
 use std::alloc::{AllocError, Global};
 
 /// The colours of a window of the square in lower-case hexadecimal digits, a line for each row. The format is 1 or 2: a
@@ -20,15 +20,8 @@ pub fn render(alloc: Global, list: &LeafList, w: Window, format: u8) -> Result<T
     ensures rows { IsGrid format list.now.level list.now.grid
         → IfOk result (λ text. text ≡ flat_map (λ line. line ++ 10 ∷ []) (map (row_line format list.now.level list.now.grid w) (below w.h))) }
 {
-    let level = list.level();
-    prove!(level <= 12);
-    let whole = Block {
-        x: 0,
-        y: 0,
-        side: 1 << level,
-    };
     let mut cells = vec![in alloc; 0_u16; usize::from(w.w) * usize::from(w.h)]?;
-    paint(&mut cells, list, w, whole);
+    paint_window(&mut cells, list, w);
     let mut text = Text::new(alloc);
     for dy in 0..w.h {
         push_row(&mut text, &cells, w, format, dy)?;

@@ -1,4 +1,4 @@
-use Rattle.std.proofs.Common.{◌≡◌, ℕ, ◌+◌, ◌*◌, ◌/◌, ◌∙◌, sym, ap, subst, arith}
+use Rattle.std.proofs.Common.{◌≡◌, ◌≤◌, ℕ, ◌+◌, ◌*◌, ◌/◌, ◌∙◌, sym, ap, subst, arith}
 use Rattle.quilt_types.specs.declared.plane.Block.{Block}
 use Rattle.quilt_loc.specs.Codes.{code_from, code_to}
 use Rattle.quilt_loc.proofs.Blocks.{IsBlock-up}
@@ -48,7 +48,7 @@ paint-requires t c =
         (
           q.block,
           (
-            record { in_x = r.in_x; in_y = r.in_y; all = c.loop-q.invariant.long ∙ r.all },
+            record { in_x = r.in_x; in_y = r.in_y; all = subst (λ (k : ℕ). c.args.w.w * c.args.w.h ≤ k) (sym c.loop-q.invariant.long) r.all },
             subst (λ (k : ℕ). ArePainted n c.args.list.now.grid c.args.w k c.loop-q.cells) (sym q.from) c.loop-q.invariant.painted,
           ),
         ),

@@ -1,21 +1,17 @@
-use Rattle.std.proofs.Common.{◌≡◌, ℕ, ◌+◌, ◌*◌, ◌%◌, ◌^◌, get_or, ap₂, List, [], ◌∷◌, ◌++◌, sym, ◌∙◌, ap, arith, flat_map, map, append_assoc}
+use Rattle.std.proofs.Common.{◌≡◌, ℕ, ◌+◌, ◌*◌, get_or, ap₂, List, [], ◌∷◌, ◌++◌, sym, ◌∙◌, ap, arith, flat_map, map, append_assoc}
 use Rattle.std.proofs.lemmas.List.{flat_map_more, map-append}
 use Rattle.quilt_types.specs.Plane.{below}
 use Rattle.quilt_types.specs.Layers.{Grid}
 use Rattle.quilt_raster.specs.Showing.{digits_of, row_line, written_in, shown}
 use Rattle.std.proofs.lemmas.List.{with_items_is}
 use Rattle.quilt_raster.proofs.Points.{below_more}
-use Rattle.quilt_raster.proofs.Rows.{ArePainted-none, ArePainted-all, row_painted}
+use Rattle.quilt_raster.proofs.Rows.{row_painted}
 use Rattle.quilt_raster.proofs.Written.{map-written}
 use Rattle.quilt_raster.proofs.showing.render.Goals as goal
 
 -- a line with its newline
 abbrev ended : List ℕ → List ℕ
 ended line = line ++ 10 ∷ []
-
-pub paint-requires-clause-before : goal.paint-requires-clause-before
-paint-requires-clause-before c =
-    ArePainted-none c.args.list.now.level c.args.list.now.grid c.args.w (1 * 2 ^ c.level-level.result % 65536) c.deref_mut.result.now
 
 pub loop-dy-preserved : goal.loop-dy-preserved
 loop-dy-preserved c =
@@ -24,13 +20,11 @@ loop-dy-preserved c =
     let g = c.args.list.now.grid in
     let w = c.args.w in
     let dy = c.loop-dy.dy in
-    let cells = c.paint.new.cells in
-    let most = c.level-level.ensures.raster.most in
+    let cells = c.paint_window.new.cells in
     let row = row_line f n (map (written_in f) g) w in
-    let painted = ArePainted-all n c.level-level.result g w cells most c.level-level.ensures.value c.paint.ensures.after in
-    let same = c.deref.ensures.value ∙ with_items_is c.in_ok-cells.cells cells (c.paint.ensures.long ∙ c.deref_mut.ensures.len) in
+    let same = c.deref.ensures.value ∙ with_items_is c.in_ok-cells.cells cells (c.paint_window.ensures.long ∙ c.deref_mut.ensures.len) in
     let line = ap (λ (l : List ℕ). flat_map (λ dx. digits_of f (written_in f (get_or l (dy * w.w + dx) 0))) (below w.w)) same
-    ∙ row_painted f n g w cells dy most c.requires.in_x c.requires.in_y c.loop-dy-test.true painted in
+    ∙ row_painted f n g w cells dy c.loop-dy-test.true c.paint_window.ensures.painted in
     c.in_ok-push.ensures.ok
     ∙ ap (λ l. l ++ 10 ∷ []) (c.in_ok-push_row.ensures ∙ ap₂ (λ (a b : List ℕ). a ++ b) c.loop-dy.invariant line)
     ∙ append_assoc (flat_map ended (map row (below dy))) (row dy) (10 ∷ [])
