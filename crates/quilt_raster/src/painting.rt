@@ -12,7 +12,7 @@ use quilt_loc::{code_of, quarters};
 use quilt_types::{Block, Pixel, Window};
 
 /// Puts the colours of a window's pixels into the first cells, one for each pixel, row by row. It finds the leaves of each
-/// block of 32 pixels in a row that the window meets by one binary search.
+/// block of 16 pixels in a row that the window meets by one binary search.
 pub fn paint_window(cells: &mut [u16], list: &LeafList, w: Window)
     requires in_x { w.x + w.w ≤ side list.now.level }
     requires in_y { w.y + w.h ≤ side list.now.level }
@@ -31,7 +31,7 @@ pub fn paint_window(cells: &mut [u16], list: &LeafList, w: Window)
 }
 
 /// Puts the colours of a window's pixels that lie in a block into cells, one for each pixel of the window, row by row. It
-/// cuts the block into quarters down to 32 pixels in a row, and leaves out those that have no pixel of the window.
+/// cuts the block into quarters down to 16 pixels in a row, and leaves out those that have no pixel of the window.
 fn paint(cells: &mut [u16], list: &LeafList, w: Window, b: Block)
     requires most { list.now.level ≤ 12 }
     requires valid { IsBlock list.now.level b }
@@ -43,7 +43,7 @@ fn paint(cells: &mut [u16], list: &LeafList, w: Window, b: Block)
     if w.x + w.w <= b.x || b.x + b.side <= w.x || w.y + w.h <= b.y || b.y + b.side <= w.y {
         return;
     }
-    if b.side <= 32 {
+    if b.side <= 16 {
         return paint_leaves(cells, list, w, b);
     }
     for q in quarters(b) {
