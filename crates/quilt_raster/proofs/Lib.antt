@@ -3,4 +3,5 @@ pub mod Cells
 pub mod Places
 pub mod Points
 pub mod Rows
+pub mod Tiles
 pub mod Written

@@ -1,8 +1,8 @@
 -- Rows of a window out of its painted cells.
 use Rattle.std.proofs.Common.{◌≡◌, ℕ, zero, suc, ◌+◌, ◌-◌, ◌*◌, ◌%◌, ◌^◌, ◌<◌, ◌≤◌, List, [], ◌++◌, flat_map, map, get_or, refl, sym, ◌∙◌, ap, ap₂, subst}
-use Rattle.std.proofs.Common.{arith}
+use Rattle.std.proofs.Common.{arith, append_assoc}
 use Rattle.std.proofs.Math.Nat.{mul-le-mul_right}
-use Rattle.std.proofs.lemmas.List.{flat_map_more}
+use Rattle.std.proofs.lemmas.List.{flat_map_more, append-nil}
 use Rattle.quilt_types.specs.declared.plane.Pixel.{Pixel}
 use Rattle.quilt_types.specs.declared.plane.Window.{Window}
 use Rattle.quilt_types.specs.declared.plane.Block.{Block}
@@ -10,7 +10,6 @@ use Rattle.quilt_types.specs.Plane.{side, below}
 use Rattle.quilt_types.specs.Layers.{Grid, colour_at}
 use Rattle.quilt_loc.specs.Codes.{code_from, code_to}
 use Rattle.quilt_loc.proofs.Intervals.{origin_code}
-use Rattle.quilt_blocks.proofs.Painting.{code_in}
 use Rattle.quilt_blocks.proofs.Squares.{width, code_to-whole}
 use Rattle.quilt_raster.specs.Painting.{IsIn, place_of, ArePainted}
 use Rattle.quilt_raster.specs.Showing.{digits_of, row_line, written_in}
@@ -46,11 +45,11 @@ below_same f g (suc k) same =
     ∙ flat_map_below g [] k ∙ ap (λ j. flat_map g (below j)) (sym e)
 
 -- a row as its cells have it
-pub row_painted : (f n : ℕ) (g : Grid) (w : Window) (cells : List ℕ) (dy : ℕ) → n ≤ 12 → w.x + w.w ≤ side n → w.y + w.h ≤ side n → dy < w.h
-    → ArePainted n g w (4 ^ n) cells
+pub row_painted : (f n : ℕ) (g : Grid) (w : Window) (cells : List ℕ) (dy : ℕ) → dy < w.h
+    → ((p : Pixel) → IsIn w p → get_or cells (place_of w p) 0 ≡ colour_at n g p)
     → flat_map (λ dx. digits_of f (written_in f (get_or cells (dy * w.w + dx) 0))) (below w.w) ≡ row_line f n (map (written_in f) g) w dy
 unfolding row_line
-row_painted f n g w cells dy most in_x in_y lt painted =
+row_painted f n g w cells dy lt painted =
     below_same (λ dx. digits_of f (written_in f (get_or cells (dy * w.w + dx) 0)))
     (λ dx. digits_of f (colour_at n (map (written_in f) g) (record { x = w.x + dx; y = w.y + dy }))) w.w
     (λ dx in_row.
@@ -59,5 +58,23 @@ row_painted f n g w cells dy most in_x in_y lt painted =
     let column : w.x + dx - w.x ≡ dx = omega arith in
     let at : place_of w p ≡ dy * w.w + dx = ap₂ (λ a b. a * w.w + b) row column in
     let held : IsIn w p = record { left = omega arith; right = omega arith; top = omega arith; bottom = omega arith } in
-    ap (λ c. digits_of f (written_in f c)) (ap (λ k. get_or cells k 0) (sym at) ∙ painted.each p held (code_in n p most (omega arith) (omega arith)))
+    ap (λ c. digits_of f (written_in f c)) (ap (λ k. get_or cells k 0) (sym at) ∙ painted p held)
     ∙ ap (digits_of f) (sym (colour_at-written f n g p)))
+
+-- a row of a window that stands in another
+pub row_within : (f n : ℕ) (g : Grid) (s w : Window) (i j : ℕ) → s.x ≡ w.x → s.w ≡ w.w → s.y + i ≡ w.y + j → row_line f n g s i ≡ row_line f n g w j
+unfolding row_line
+row_within f n g s w i j ex ew ey = λ k. flat_map (λ dx. digits_of f (colour_at n g (record { x = ex k + dx; y = ey k }))) (below (ew k))
+
+-- rows behind others
+pub rows_joined : (f g : ℕ → List ℕ) (a k : ℕ) → ((i : ℕ) → i < k → g i ≡ f (a + i))
+    → flat_map f (below a) ++ flat_map g (below k) ≡ flat_map f (below (a + k))
+rows_joined f g a zero same = append-nil (flat_map f (below a)) ∙ (let e : a ≡ a + 0 = omega arith in ap (λ j. flat_map f (below j)) e)
+rows_joined f g a (suc k) same =
+    let e : suc k ≡ k + 1 = omega arith in
+    let next : a + k + 1 ≡ a + suc k = omega arith in
+    ap (λ j. flat_map f (below a) ++ flat_map g (below j)) e
+    ∙ ap (λ l. flat_map f (below a) ++ l) (sym (flat_map_below g [] k))
+    ∙ sym (append_assoc (flat_map f (below a)) (flat_map g (below k)) (g k))
+    ∙ ap₂ (λ (l m : List ℕ). l ++ m) (rows_joined f g a k (λ i lt. same i (omega arith))) (same k (omega arith))
+    ∙ flat_map_below f [] (a + k) ∙ ap (λ j. flat_map f (below j)) next

@@ -2,6 +2,7 @@ ghost use Rattle.std.specs.Prelude.{◌≡◌, ℕ, ◌+◌, ◌*◌, ◌^◌, �
 ghost use Rattle.quilt_types.specs.declared.plane.Pixel.{Pixel as PixelValue};
 ghost use Rattle.quilt_types.specs.declared.plane.Block.{Block as BlockValue};
 ghost use Rattle.quilt_types.specs.Plane.{side, Holds, IsBlock};
+ghost use Rattle.quilt_types.specs.Layers.{colour_at};
 ghost use Rattle.quilt_loc.specs.Codes.{code_from, code_to};
 ghost use Rattle.quilt_blocks.specs.Cutting.{leaves_by_code};
 ghost use Rattle.quilt_raster.specs.Painting.{IsRoom, IsIn, place_of, ArePainted};
@@ -10,9 +11,28 @@ use quilt_blocks::{Leaf, LeafList};
 use quilt_loc::{code_of, quarters};
 use quilt_types::{Block, Pixel, Window};
 
+/// Puts the colours of a window's pixels into the first cells, one for each pixel, row by row. It finds the leaves of each
+/// block of 16 pixels in a row that the window meets by one binary search.
+pub fn paint_window(cells: &mut [u16], list: &LeafList, w: Window)
+    requires in_x { w.x + w.w ≤ side list.now.level }
+    requires in_y { w.y + w.h ≤ side list.now.level }
+    requires room { w.w * w.h ≤ length cells.old }
+    ensures long { length cells.new ≡ length cells.old }
+    ensures painted { (p : PixelValue) → IsIn w p → slice_index cells.new (place_of w p) ≡ colour_at list.now.level list.now.grid p }
+{
+    let level = list.level();
+    prove!(level <= 12);
+    let whole = Block {
+        x: 0,
+        y: 0,
+        side: 1 << level,
+    };
+    paint(cells, list, w, whole);
+}
+
 /// Puts the colours of a window's pixels that lie in a block into cells, one for each pixel of the window, row by row. It
-/// cuts the block into quarters down to 32 pixels in a row, and leaves out those that have no pixel of the window.
-pub(crate) fn paint(cells: &mut [u16], list: &LeafList, w: Window, b: Block)
+/// cuts the block into quarters down to 16 pixels in a row, and leaves out those that have no pixel of the window.
+fn paint(cells: &mut [u16], list: &LeafList, w: Window, b: Block)
     requires most { list.now.level ≤ 12 }
     requires valid { IsBlock list.now.level b }
     requires room { IsRoom list.now.level w cells.old }
@@ -23,7 +43,7 @@ pub(crate) fn paint(cells: &mut [u16], list: &LeafList, w: Window, b: Block)
     if w.x + w.w <= b.x || b.x + b.side <= w.x || w.y + w.h <= b.y || b.y + b.side <= w.y {
         return;
     }
-    if b.side <= 32 {
+    if b.side <= 16 {
         return paint_leaves(cells, list, w, b);
     }
     for q in quarters(b) {
@@ -82,7 +102,7 @@ fn place_around(list: &LeafList, p: Pixel) -> usize
 fn fill(cells: &mut [u16], w: Window, b: Block, colour: u16)
     requires in_x { w.x + w.w ≤ 4096 }
     requires in_y { w.y + w.h ≤ 4096 }
-    requires all { length cells.old ≡ w.w * w.h }
+    requires room { w.w * w.h ≤ length cells.old }
     requires block_x { b.x + b.side ≤ 4096 }
     requires block_y { b.y + b.side ≤ 4096 }
     ensures long { length cells.new ≡ length cells.old }

@@ -1,16 +1,19 @@
-ghost use Rattle.std.specs.Prelude.{◌≡◌, ◌+◌, ◌*◌, ◌<◌, ◌≤◌, [], ◌∷◌, ◌++◌, length, map, flat_map, slice_index, OnOk, IfOk};
+ghost use Rattle.std.specs.Prelude.{◌≡◌, ℕ, ◌+◌, ◌*◌, ◌<◌, ◌≤◌, [], ◌∷◌, ◌++◌, length, map, flat_map, slice_index, OnOk, IfOk};
 ghost use Rattle.quilt_types.specs.Plane.{side, below};
 ghost use Rattle.quilt_types.specs.Layers.{IsGrid};
 ghost use Rattle.quilt_raster.specs.Showing.{hex, digits_of, row_line, written_in, shown};
 
-use crate::painting::paint;
+use crate::painting::paint_window;
 use quilt_blocks::LeafList;
-use quilt_types::{Block, Colour, Text, Window};
+use quilt_types::{Colour, Text, Window};
 use std::alloc::{AllocError, Global};
 
+/// How many rows of a window stand in cells at once.
+const ROWS: u16 = 32;
+
 /// The colours of a window of the square in lower-case hexadecimal digits, a line for each row. The format is 1 or 2: a
-/// colour has two digits in format 1, those of its low byte, and four in format 2. It paints the window's pixels into
-/// cells, leaf by leaf, and writes them row by row.
+/// colour has two digits in format 1, those of its low byte, and four in format 2. It paints up to 32 rows of the window
+/// into cells, leaf by leaf, and writes them, and then the next.
 pub fn render(alloc: Global, list: &LeafList, w: Window, format: u8) -> Result<Text, AllocError>
     requires in_x { w.x + w.w ≤ side list.now.level }
     requires in_y { w.y + w.h ≤ side list.now.level }
@@ -22,19 +25,69 @@ pub fn render(alloc: Global, list: &LeafList, w: Window, format: u8) -> Result<T
 {
     let level = list.level();
     prove!(level <= 12);
-    let whole = Block {
-        x: 0,
-        y: 0,
-        side: 1 << level,
-    };
-    let mut cells = vec![in alloc; 0_u16; usize::from(w.w) * usize::from(w.h)]?;
-    paint(&mut cells, list, w, whole);
+    let mut cells = vec![in alloc; 0_u16; usize::from(w.w) * usize::from(w.h.min(ROWS))]?;
     let mut text = Text::new(alloc);
+    push_window(&mut text, &mut cells, list, w, format)?;
+    Ok(text)
+}
+
+/// Adds a line for each row of a window. The cells have room for all of its rows or 32 of them, and may hold anything.
+fn push_window(
+    text: &mut Text,
+    cells: &mut [u16],
+    list: &LeafList,
+    w: Window,
+    format: u8,
+) -> Result<(), AllocError>
+    requires in_x { w.x + w.w ≤ side list.now.level }
+    requires in_y { w.y + w.h ≤ side list.now.level }
+    requires rows { w.y + w.h < 65536 }
+    requires room { (h : ℕ) → h ≤ w.h → h ≤ 32 → w.w * h ≤ length cells.old }
+    ensures { OnOk result (text.new ≡ text.old
+        ++ flat_map (λ dy. row_line format list.now.level (map (written_in format) list.now.grid) w dy ++ 10 ∷ []) (below w.h)) }
+{
+    let mut done = 0;
+    while done < w.h {
+        let strip = strip_from(w, done);
+        paint_window(cells, list, strip);
+        push_rows(text, cells, strip, format)?;
+        done += strip.h;
+    }
+    Ok(())
+}
+
+/// The window's rows from this one on, up to the next multiple of 32 of the square's rows.
+fn strip_from(w: Window, dy: u16) -> Window
+    requires inside { dy < w.h }
+    requires room { w.y + w.h < 65536 }
+    ensures x { result.x ≡ w.x }
+    ensures y { result.y ≡ w.y + dy }
+    ensures wide { result.w ≡ w.w }
+    ensures some { 0 < result.h }
+    ensures few { result.h ≤ 32 }
+    ensures inside { dy + result.h ≤ w.h }
+{
+    let y = w.y + dy;
+    let rows = ROWS - y % ROWS;
+    Window {
+        x: w.x,
+        y,
+        w: w.w,
+        h: rows.min(w.h - dy),
+    }
+}
+
+/// Adds a line for each row of a window, whose colours stand in the first cells.
+fn push_rows(text: &mut Text, cells: &[u16], w: Window, format: u8) -> Result<(), AllocError>
+    requires { w.w * w.h ≤ length cells.now }
+    ensures { OnOk result (text.new ≡ text.old ++ flat_map (λ dy.
+        flat_map (λ dx. digits_of format (written_in format (slice_index cells.now (dy * w.w + dx)))) (below w.w) ++ 10 ∷ []) (below w.h)) }
+{
     for dy in 0..w.h {
-        push_row(&mut text, &cells, w, format, dy)?;
+        push_row(text, cells, w, format, dy)?;
         text.push(b"\n")?;
     }
-    Ok(text)
+    Ok(())
 }
 
 /// Adds the digits of one row of the window, whose colours are these.
@@ -45,7 +98,7 @@ fn push_row(
     format: u8,
     dy: u16,
 ) -> Result<(), AllocError>
-    requires all { length cells.now ≡ w.w * w.h }
+    requires room { w.w * w.h ≤ length cells.now }
     requires inside { dy < w.h }
     ensures { OnOk result (text.new ≡ text.old ++ flat_map (λ dx. digits_of format (written_in format (slice_index cells.now (dy * w.w + dx)))) (below w.w)) }
 {

@@ -1,5 +1,5 @@
 -- Where the pixels of a copy take their colours.
-use Rattle.std.proofs.Common.{◌≡◌, ℕ, ◌+◌, ◌-◌, ◌*◌, ◌/◌, ◌%◌, ◌<◌, ◌≤◌, Bool, true, false, ◌&&◌, nat_le, nat_lt, Some, None, cond, refl, ◌∙◌, ap, ap₂, subst}
+use Rattle.std.proofs.Common.{◌≡◌, ℕ, ◌+◌, ◌-◌, ◌*◌, ◌/◌, ◌%◌, ◌<◌, ◌≤◌, Bool, true, false, ◌&&◌, nat_le, nat_lt, Some, None, cond, refl, sym, ◌∙◌, ap, ap₂, subst, List, get_or}
 use Rattle.std.proofs.Common.{⊎_elim, pow_pos, arith, le-leb, lt-ltb, leb-true}
 use Rattle.std.proofs.lemmas.Bool.{and_parts, and_from, cond-true}
 use Rattle.quilt_types.specs.declared.plane.Pixel.{Pixel}
@@ -15,6 +15,7 @@ use Rattle.quilt_loc.proofs.Nesting.{side_pos}
 use Rattle.quilt_blocks.proofs.Squares.{IsBlock-down}
 use Rattle.std.proofs.lemmas.Bool.{cases_lt}
 use Rattle.quilt_blocks.specs.Mosaic.{HasColour}
+use Rattle.quilt_raster.specs.Painting.{IsIn, place_of, in_cells}
 use Rattle.quilt_window.specs.declared.span.Span.{Span}
 use Rattle.quilt_window.specs.Copying.{IsSpan, source, copied, square}
 
@@ -42,6 +43,26 @@ copied_in n g across down b q c xl xr yl yr ex ey has p h =
     let held : Holds (square q b.side) from = record { left = omega arith; right = omega arith; top = omega arith; bottom = omega arith } in
     ap₂ (colour_from n g) (source_in across p.x (omega arith) (omega arith)) (source_in down p.y (omega arith) (omega arith))
     ∙ has.each from held
+
+-- pixels of a block take their colours from a window whose colours stand in cells
+pub copied_cells : (n : ℕ) (g : Grid) (across down : Span) (b : Block) (w : Window) (cells : List ℕ) → across.to ≤ b.x
+    → b.x + b.side ≤ across.to + across.length → down.to ≤ b.y → b.y + b.side ≤ down.to + down.length → w.x ≡ b.x - across.to + across.from
+    → w.y ≡ b.y - down.to + down.from → w.w ≡ b.side → w.h ≡ b.side
+    → ((q : Pixel) → IsIn w q → get_or cells (place_of w q) 0 ≡ colour_at n g q)
+    → (p : Pixel) → Holds b p → in_cells cells b p ≡ copied n g across down p
+copied_cells n g across down b w cells xl xr yl yr ex ey ew eh has p h =
+    let l = h.left in
+    let r = h.right in
+    let t = h.top in
+    let d = h.bottom in
+    let from : Pixel = record { x = p.x - across.to + across.from; y = p.y - down.to + down.from } in
+    let held : IsIn w from = record { left = omega arith; right = omega arith; top = omega arith; bottom = omega arith } in
+    let row : p.y - b.y ≡ p.y - down.to + down.from - w.y = omega arith in
+    let column : p.x - b.x ≡ p.x - across.to + across.from - w.x = omega arith in
+    let at : (p.y - b.y) * b.side + (p.x - b.x) ≡ place_of w from =
+    ap₂ (λ i j. i * b.side + j) row column ∙ ap (λ k. (from.y - w.y) * k + (from.x - w.x)) (sym ew) in
+    ap (λ k. get_or cells k 0) at ∙ has from held
+    ∙ sym (ap₂ (colour_from n g) (source_in across p.x (omega arith) (omega arith)) (source_in down p.y (omega arith) (omega arith)))
 
 -- a side is not 0
 pub side_some : (s : ℕ) → IsSide s → 0 < s

@@ -1,4 +1,4 @@
-ghost use Rattle.std.specs.Prelude.{◌≡◌, ◌+◌, ◌<◌, ◌≤◌, true, length, IfOk, OnOk, IfSome, IsNone};
+ghost use Rattle.std.specs.Prelude.{◌≡◌, ◌+◌, ◌*◌, ◌<◌, ◌≤◌, true, length, IfOk, OnOk, IfSome, IsNone};
 ghost use Rattle.quilt_types.specs.declared.plane.Pixel.{Pixel as PixelValue};
 ghost use Rattle.quilt_types.specs.Plane.{side as side_of, Holds, IsBlock};
 ghost use Rattle.quilt_types.specs.Algebra.{grid_of};
@@ -10,12 +10,17 @@ ghost use Rattle.quilt_window.specs.Copying.{IsSpan, copied, square};
 use crate::span::Span;
 use quilt_blocks::{LeafList, Maker};
 use quilt_loc::{block_at, quarters};
-use quilt_types::{Block, Colour, Pixel};
+use quilt_raster::{add_cells, paint_window};
+use quilt_types::{Block, Colour, Pixel, Window};
 use std::alloc::{AllocError, Global};
 
+/// How many pixels in a row a block has at most whose colours go by cells.
+const TILE: u16 = 32;
+
 /// The leaves of the map whose pixels take their colours from another map by a span of each axis, and else are 0. It cuts
-/// the square into quarters down to squares of which no pixel takes a colour, or all from leaves of one colour. Each costs four
-/// binary searches at most, and their number grows with the edges of the leaves there and here, not with the pixels.
+/// the square into quarters down to squares of which no pixel takes a colour, or all take theirs from leaves of one colour,
+/// which four binary searches tell at most, or there are at most 32 pixels in a row and all take a colour: these go by
+/// cells. The number of squares grows with the edges of the leaves there and here, not with the pixels.
 pub(crate) fn copy(
     alloc: Global,
     a: &LeafList,
@@ -33,13 +38,16 @@ pub(crate) fn copy(
         side: 1 << level,
     };
     let mut maker = Maker::new(alloc, level);
-    copy_block(&mut maker, a, across, down, whole)?;
+    let mut cells = [0_u16; 1024];
+    copy_block(&mut maker, &mut cells, a, across, down, whole)?;
     Ok(maker.finish())
 }
 
-/// Puts the pixels of the block down, in squares of one colour.
+/// Puts the pixels of the block down, in squares of one colour. The cells have room for a block of 32 pixels in a row, and
+/// may hold anything.
 fn copy_block(
     maker: &mut Maker,
+    cells: &mut [u16],
     a: &LeafList,
     across: Span,
     down: Span,
@@ -52,15 +60,56 @@ fn copy_block(
     requires down { IsSpan a.now.level down }
     requires level { maker.old.level ≡ a.now.level }
     requires next { code_from b ≡ length maker.old.colours }
-    ensures { OnOk result (Adds a.now.level (copied a.now.level a.now.grid across down) (code_to b) maker.old maker.new) }
+    requires room { length cells.old ≡ 1024 }
+    ensures copied { OnOk result (Adds a.now.level (copied a.now.level a.now.grid across down) (code_to b) maker.old maker.new) }
+    ensures room { length cells.new ≡ 1024 }
 {
     if let Some(colour) = one_colour(a, across, down, b) {
         return maker.push(b, colour);
     }
+    if b.side <= TILE && across.covers(b.x, b.side) && down.covers(b.y, b.side) {
+        return copy_tile(maker, cells, a, across, down, b);
+    }
     for q in quarters(b) {
-        copy_block(maker, a, across, down, q)?;
+        copy_block(maker, cells, a, across, down, q)?;
     }
     Ok(())
+}
+
+/// The same for a block whose pixels are all in both spans: paints the square from which they take their colours into
+/// cells, and gathers squares of one colour from these.
+fn copy_tile(
+    maker: &mut Maker,
+    cells: &mut [u16],
+    a: &LeafList,
+    across: Span,
+    down: Span,
+    b: Block,
+) -> Result<(), AllocError>
+    requires most { a.now.level ≤ 12 }
+    requires valid { IsBlock a.now.level b }
+    requires across { IsSpan a.now.level across }
+    requires down { IsSpan a.now.level down }
+    requires left { across.to ≤ b.x }
+    requires right { b.x + b.side ≤ across.to + across.length }
+    requires top { down.to ≤ b.y }
+    requires bottom { b.y + b.side ≤ down.to + down.length }
+    requires level { maker.old.level ≡ a.now.level }
+    requires next { code_from b ≡ length maker.old.colours }
+    requires room { b.side * b.side ≤ length cells.old }
+    ensures copied { OnOk result (Adds a.now.level (copied a.now.level a.now.grid across down) (code_to b) maker.old maker.new) }
+    ensures long { length cells.new ≡ length cells.old }
+{
+    let left = across.source_of(b.x);
+    let top = down.source_of(b.y);
+    let source = Window {
+        x: left,
+        y: top,
+        w: b.side,
+        h: b.side,
+    };
+    paint_window(cells, a, source);
+    add_cells(maker, cells, b, b)
 }
 
 /// The colour of all pixels of the block: 0 where none of them is in both spans, or that of the leaf from which all of

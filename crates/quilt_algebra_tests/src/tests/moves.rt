@@ -40,6 +40,26 @@ fn shifts_of_drawn_maps(rt: HostRuntime) -> Result<(), Fail> {
     Ok(())
 }
 
+/// 20 maps of level 7, which has sixteen blocks of 32 pixels in a row, each moved in x and in y and cut to a window.
+#[test]
+fn moves_of_large_maps(rt: HostRuntime) -> Result<(), Fail> {
+    let mut dice = Dice::new(6);
+    for _ in 0..20_u8 {
+        let colours = drawn(rt.alloc(), &mut dice, 128)?;
+        let dx = drawn_distance(&mut dice, 128);
+        let dy = drawn_distance(&mut dice, 128);
+        let w = drawn_window(&rt, &mut dice, 7);
+        let a = list_of(&rt, rt.alloc(), 7, &colours)?;
+        let moved = shift(rt.alloc(), &a, dx, dy)?;
+        let wanted = plain_shift(rt.alloc(), &colours, 128, dx, dy)?;
+        compare(&rt, rt.alloc(), &moved, 7, &wanted)?;
+        let part = window(rt.alloc(), &a, w)?;
+        let wanted = plain_window(rt.alloc(), &colours, 128, w)?;
+        compare(&rt, rt.alloc(), &part, 7, &wanted)?;
+    }
+    Ok(())
+}
+
 /// 200 maps of levels 1 to 5, each with the pixels within a distance up to one more than the side, or the greatest one.
 #[test]
 fn buffers_of_drawn_maps(rt: HostRuntime) -> Result<(), Fail> {

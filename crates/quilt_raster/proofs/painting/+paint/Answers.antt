@@ -1,4 +1,4 @@
-use Rattle.std.proofs.Common.{◌≡◌, ℕ, ◌+◌, ◌*◌, ◌/◌, ◌∙◌, sym, ap, subst, arith}
+use Rattle.std.proofs.Common.{◌≡◌, ◌≤◌, ℕ, ◌+◌, ◌*◌, ◌/◌, ◌∙◌, sym, ap, subst, arith}
 use Rattle.quilt_types.specs.declared.plane.Block.{Block}
 use Rattle.quilt_loc.specs.Codes.{code_from, code_to}
 use Rattle.quilt_loc.proofs.Blocks.{IsBlock-up}
@@ -36,7 +36,7 @@ quarters-q-items-requires-clause-valid t c = IsBlock-up c.args.list.now.level 12
 pub paint-requires : goal.paint-requires
 paint-requires t c =
     let n = c.args.list.now.level in
-    let wide = c.if-b-le32.false in
+    let wide = c.if-b-le16.false in
     let d : Block = record { x = 0; y = 0; side = 0 } in
     let q = part_at n c.args.b c.quarters-q-items.result c.loop-q.q-index d c.requires.most c.requires.valid
     (omega arith) c.quarters-q-items.ensures.value c.loop-q-test.true in
@@ -48,7 +48,7 @@ paint-requires t c =
         (
           q.block,
           (
-            record { in_x = r.in_x; in_y = r.in_y; all = c.loop-q.invariant.long ∙ r.all },
+            record { in_x = r.in_x; in_y = r.in_y; all = subst (λ (k : ℕ). c.args.w.w * c.args.w.h ≤ k) (sym c.loop-q.invariant.long) r.all },
             subst (λ (k : ℕ). ArePainted n c.args.list.now.grid c.args.w k c.loop-q.cells) (sym q.from) c.loop-q.invariant.painted,
           ),
         ),
@@ -58,7 +58,7 @@ paint-requires t c =
 pub loop-q-preserved : goal.loop-q-preserved
 loop-q-preserved t c =
     let n = c.args.list.now.level in
-    let wide = c.if-b-le32.false in
+    let wide = c.if-b-le16.false in
     let d : Block = record { x = 0; y = 0; side = 0 } in
     let q = part_at n c.args.b c.quarters-q-items.result c.loop-q.q-index d c.requires.most c.requires.valid
     (omega arith) c.quarters-q-items.ensures.value c.loop-q-test.true in
@@ -71,7 +71,7 @@ pub returns-clause-after : goal.returns-clause-after
 returns-clause-after t c =
     let n = c.args.list.now.level in
     let b = c.args.b in
-    let wide = c.if-b-le32.false in
+    let wide = c.if-b-le16.false in
     let four : c.loop-q.q-index ≡ 4 = omega arith in
     let codes = half_codes n b c.requires.valid c.requires.most (omega arith) in
     let all = codes.all in

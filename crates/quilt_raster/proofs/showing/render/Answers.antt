@@ -1,11 +1,10 @@
-use Rattle.std.proofs.Common.{◌≡◌, ℕ, ◌+◌, ◌*◌, ◌%◌, ◌^◌, get_or, ap₂, List, [], ◌∷◌, ◌++◌, sym, ◌∙◌, ap, arith, flat_map, map, append_assoc}
-use Rattle.std.proofs.lemmas.List.{flat_map_more, map-append}
+use Rattle.std.proofs.Common.{◌≡◌, ℕ, ◌*◌, ◌≤◌, List, [], ◌∷◌, ◌++◌, flat_map, map, sym, ◌∙◌, ap, arith}
+use Rattle.std.proofs.Math.Nat.{mul-le-mul_left}
+use Rattle.std.proofs.lemmas.List.Folds.{flat_map-map}
+use Rattle.quilt_loc.proofs.Blocks.{side_most}
 use Rattle.quilt_types.specs.Plane.{below}
 use Rattle.quilt_types.specs.Layers.{Grid}
-use Rattle.quilt_raster.specs.Showing.{digits_of, row_line, written_in, shown}
-use Rattle.std.proofs.lemmas.List.{with_items_is}
-use Rattle.quilt_raster.proofs.Points.{below_more}
-use Rattle.quilt_raster.proofs.Rows.{ArePainted-none, ArePainted-all, row_painted}
+use Rattle.quilt_raster.specs.Showing.{row_line, written_in, shown}
 use Rattle.quilt_raster.proofs.Written.{map-written}
 use Rattle.quilt_raster.proofs.showing.render.Goals as goal
 
@@ -13,37 +12,28 @@ use Rattle.quilt_raster.proofs.showing.render.Goals as goal
 abbrev ended : List ℕ → List ℕ
 ended line = line ++ 10 ∷ []
 
-pub paint-requires-clause-before : goal.paint-requires-clause-before
-paint-requires-clause-before c =
-    ArePainted-none c.args.list.now.level c.args.list.now.grid c.args.w (1 * 2 ^ c.level-level.result % 65536) c.deref_mut.result.now
+pub push_window-requires-clause-rows : goal.push_window-requires-clause-rows
+push_window-requires-clause-rows c =
+    let m = side_most c.args.list.now.level c.level-level.ensures.raster.most in
+    let y = c.requires.in_y in
+    omega arith
 
-pub loop-dy-preserved : goal.loop-dy-preserved
-loop-dy-preserved c =
-    let f = c.args.format in
-    let n = c.args.list.now.level in
-    let g = c.args.list.now.grid in
-    let w = c.args.w in
-    let dy = c.loop-dy.dy in
-    let cells = c.paint.new.cells in
-    let most = c.level-level.ensures.raster.most in
-    let row = row_line f n (map (written_in f) g) w in
-    let painted = ArePainted-all n c.level-level.result g w cells most c.level-level.ensures.value c.paint.ensures.after in
-    let same = c.deref.ensures.value ∙ with_items_is c.in_ok-cells.cells cells (c.paint.ensures.long ∙ c.deref_mut.ensures.len) in
-    let line = ap (λ (l : List ℕ). flat_map (λ dx. digits_of f (written_in f (get_or l (dy * w.w + dx) 0))) (below w.w)) same
-    ∙ row_painted f n g w cells dy most c.requires.in_x c.requires.in_y c.loop-dy-test.true painted in
-    c.in_ok-push.ensures.ok
-    ∙ ap (λ l. l ++ 10 ∷ []) (c.in_ok-push_row.ensures ∙ ap₂ (λ (a b : List ℕ). a ++ b) c.loop-dy.invariant line)
-    ∙ append_assoc (flat_map ended (map row (below dy))) (row dy) (10 ∷ [])
-    ∙ flat_map_more ended [] (map row (below dy)) (row dy)
-    ∙ ap (flat_map ended) (sym (map-append row (below dy) (dy ∷ [])) ∙ ap (map row) (sym (below_more dy)))
+pub push_window-requires-clause-room : goal.push_window-requires-clause-room
+push_window-requires-clause-room c h le few =
+    let v = c.in_ok-cells.ensures.len in
+    let d = c.deref_mut.ensures.len in
+    let rows = c.min.ensures in
+    let r = c.from-2.ensures in
+    let wide : c.args.w.w * h ≡ c.from.result * h = ap (λ z. z * h) (sym c.from.ensures) in
+    let room = mul-le-mul_left c.from.result (let e : h ≤ c.from-2.result = omega arith in e) in
+    omega arith
 
 pub returns-clause-shown : goal.returns-clause-shown
 unfolding shown
 returns-clause-shown c =
-    let f = c.args.format in
-    let row = row_line f c.args.list.now.level (map (written_in f) c.args.list.now.grid) c.args.w in
-    let is : c.loop-dy.dy ≡ c.args.w.h = omega arith in
-    c.loop-dy.invariant ∙ ap (λ k. flat_map ended (map row (below k))) is
+    let row : ℕ → List ℕ = row_line c.args.format c.args.list.now.level (map (written_in c.args.format) c.args.list.now.grid) c.args.w in
+    let lines = flat_map (λ dy. ended (row dy)) (below c.args.w.h) in
+    c.in_ok-push_window.ensures ∙ ap (λ l. l ++ lines) c.new-text.ensures ∙ sym (flat_map-map ended row (below c.args.w.h))
 
 pub returns-clause-rows : goal.returns-clause-rows
 returns-clause-rows c grid =
@@ -51,7 +41,7 @@ returns-clause-rows c grid =
     let n = c.args.list.now.level in
     let g = c.args.list.now.grid in
     let w = c.args.w in
-    let row = row_line f n (map (written_in f) g) w in
-    let is : c.loop-dy.dy ≡ c.args.w.h = omega arith in
-    c.loop-dy.invariant ∙ ap (λ k. flat_map ended (map row (below k))) is
+    let row : ℕ → List ℕ = row_line f n (map (written_in f) g) w in
+    let lines = flat_map (λ dy. ended (row dy)) (below w.h) in
+    c.in_ok-push_window.ensures ∙ ap (λ l. l ++ lines) c.new-text.ensures ∙ sym (flat_map-map ended row (below w.h))
     ∙ ap (λ (h : Grid). flat_map ended (map (row_line f n h w) (below w.h))) (map-written f g grid.colours)

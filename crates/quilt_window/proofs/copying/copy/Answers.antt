@@ -13,7 +13,7 @@ finish-requires c =
     let n = c.args.a.now.level in
     let f = copied n c.args.a.now.grid c.args.across c.args.down in
     let all = Adds-whole n c.level-level.result f c.new-maker.result c.copy_block.new.maker c.level-level.ensures.raster.most
-    c.level-level.ensures.value c.new-maker.ensures c.in_ok-copy_block.ensures in
+    c.level-level.ensures.value c.new-maker.ensures c.in_ok-copy_block.ensures.copied in
     all.long ∙ ap (λ (k : ℕ). 4 ^ k) (sym all.level)
 
 pub returns : goal.returns
@@ -22,7 +22,7 @@ returns c =
     let f = copied n c.args.a.now.grid c.args.across c.args.down in
     let most = c.level-level.ensures.raster.most in
     let all = Adds-whole n c.level-level.result f c.new-maker.result c.copy_block.new.maker most c.level-level.ensures.value c.new-maker.ensures
-    c.in_ok-copy_block.ensures in
+    c.in_ok-copy_block.ensures.copied in
     let level = c.finish.ensures.level ∙ all.level in
     let grid =
     c.finish.ensures.value ∙ ap (λ (k : ℕ). grid_by_code k c.copy_block.new.maker.colours) all.level ∙ Adds-all n f c.copy_block.new.maker most all in
