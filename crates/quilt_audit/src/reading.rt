@@ -118,12 +118,7 @@ fn has_its_minimum(bytes: &[u8; 4096], is_root: bool) -> bool
 }
 
 /// Whether the bytes are a leaf that has its minimum of records and keeps its bounds.
-fn is_leaf_of_tree(
-    bytes: &[u8; 4096],
-    is_root: bool,
-    low: &Option<Key>,
-    high: &Option<Key>,
-) -> bool
+fn is_leaf_of_tree(bytes: &[u8; 4096], is_root: bool, low: &Option<Key>, high: &Option<Key>) -> bool
     ensures yes { result ≡ true → (page : ℕ) (visited : List ℕ)
         → leaf_walk is_root (record { low = low.now; high = high.now }) page visited (spec.leaf_of bytes.now)
         ≡ Whole (records_of bytes.now) (page ∷ visited) }

@@ -1,4 +1,4 @@
-use Rattle.std.proofs.Common.{◌≡◌, ◌&&◌, Bool, true, false, sym, ◌∙◌, ap₂}
+use Rattle.std.proofs.Common.{◌≡◌, true, false, sym, ◌∙◌}
 use Rattle.quilt_audit.proofs.Ends.{leaf_kept, leaf_left}
 use Rattle.quilt_audit.proofs.Walked.{from_to}
 use Rattle.quilt_audit.proofs.reading.is_leaf_of_tree.Goals as goal

@@ -1,4 +1,4 @@
-use Rattle.std.proofs.Common.{◌-◌, [], ◌∷◌, false, refl, sym, ◌∙◌, arith}
+use Rattle.std.proofs.Common.{◌-◌, [], ◌∷◌, false, refl, ◌∙◌, arith}
 use Rattle.quilt_node.specs.Tree.{walk}
 use Rattle.quilt_audit.specs.declared.surveying.Surveying.{Surveying}
 use Rattle.quilt_audit.proofs.Feeding.{Takes-none}
