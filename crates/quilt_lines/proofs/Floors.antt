@@ -1,9 +1,8 @@
 -- The last record at or before the greatest key of a block says whether the block is one of the layer's.
 use Rattle.std.proofs.Common.{◌≡◌, ℕ, ◌≤◌, true, false, List, [], ◌∷◌, Option, Some, None}
-use Rattle.std.proofs.Common.{refl, sym, ◌∙◌, ap, subst, ◌⊎◌, inl, inr, ⊎_elim, Contains, filter, map}
+use Rattle.std.proofs.Common.{sym, ◌∙◌, ap, subst, ◌⊎◌, inl, inr, ⊎_elim, Contains, filter, map}
 use Rattle.std.specs.List.{last_or}
 use Rattle.std.specs.Ordering.{is_le}
-use Rattle.std.specs.Cmp.{tied_itself}
 use Rattle.std.proofs.lemmas.Bool.{and_parts, and_from, cases_Bool, both_ways}
 use Rattle.quilt_types.specs.Sets as finset
 use Rattle.quilt_types.specs.declared.plane.Block.{Block}
@@ -11,7 +10,7 @@ use Rattle.quilt_types.specs.Plane.{IsBlock}
 use Rattle.quilt_types.specs.Layers.{SegMap, BlockSet}
 use Rattle.quilt_types.specs.Facts.{Fact, IsMetBy, IsMetByNone, or_none}
 use Rattle.quilt_loc.specs.Codes.{Rises}
-use Rattle.quilt_loc.proofs.Members.{Contains-nil, Contains-here, Contains-there, Contains-cons_cases, Contains-filter, Contains-filter_from, Contains-map_from}
+use Rattle.quilt_loc.proofs.Members.{Contains-here, Contains-there, Contains-filter, Contains-filter_from, Contains-map_from}
 use Rattle.quilt_loc.proofs.PlaneOrders.{block_total}
 use Rattle.quilt_loc.proofs.Rising.{Rises-filter}
 use Rattle.quilt_record.specs.declared.key.Key.{Key}
@@ -23,7 +22,7 @@ use Rattle.quilt_btree.specs.Lists.{is_at_most, floor_of}
 use Rattle.quilt_btree.specs.Trees.{IsTree}
 use Rattle.quilt_spell.specs.Written.{by_key}
 use Rattle.quilt_spell.proofs.FactKeys.{block_same}
-use Rattle.quilt_spell.proofs.Written.{by_key_total}
+use Rattle.quilt_edits.proofs.Lasts.{last_is}
 use Rattle.quilt_line_laws.proofs.LineFacts.{on_block}
 use Rattle.quilt_line_laws.proofs.SetLaws.{contains_is}
 use Rattle.quilt_near.specs.Lines.{meeting}
@@ -33,36 +32,7 @@ use Rattle.quilt_lines.proofs.Lookups.{none_some, same_some}
 use Rattle.quilt_lines.proofs.Shown.{first_key, shown_says, block_shown, on_alike, alike_on}
 use Rattle.quilt_lines.proofs.Trees.{tree_rises}
 
--- the last of a rising list
-record IsLast (xs : List Record) (x : Record) : Type 0 where
-  there : Contains xs x
-  above : (y : Record) → Contains xs y → is_le (by_key y x) ≡ true
-
-last_from : (o : Option Record) (x : Record) (xs : List Record) → Rises by_key (x ∷ xs) → (r : Record) × (last_or o (x ∷ xs) ≡ Some r) × IsLast (x ∷ xs) r
-last_from o x [] h = (
-  x,
-  refl,
-  record {
-    there = Contains-here x [];
-    above = λ y c. ⊎_elim (λ e. ap is_le (ap (λ (z : Record). by_key z x) (sym e) ∙ tied_itself by_key_total x)) (λ d. absurd (Contains-nil y d))
-        (Contains-cons_cases x [] y c);
-  },
-)
-last_from o x (z ∷ zs) h =
-    let l = last_from (Some x) z zs h.1 in (
-      l.0,
-      l.1,
-      record {
-        there = Contains-there x (z ∷ zs) l.0 (l.2).there;
-        above = λ y c. ⊎_elim (λ e. ap is_le (ap (λ (w : Record). by_key w l.0) (sym e) ∙ h.0 l.0 (l.2).there)) (λ d. (l.2).above y d)
-            (Contains-cons_cases x (z ∷ zs) y c);
-      },
-    )
-
-last_is : (xs : List Record) (x : Record) → Rises by_key xs → Contains xs x → (r : Record) × (last_or None xs ≡ Some r) × IsLast xs r
-last_is [] x h c = absurd (Contains-nil x c)
-last_is (y ∷ ys) x h c = last_from None y ys h
-
+-- the last of a list, or the one that stands in for it
 last_there : (o : Option Record) (xs : List Record) (r : Record) → last_or o xs ≡ Some r → Contains xs r ⊎ (o ≡ Some r)
 last_there o [] r e = inr e
 last_there o (x ∷ xs) r e =

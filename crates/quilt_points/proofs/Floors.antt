@@ -1,6 +1,5 @@
 -- The last record at or before the key of a pixel is one of the block that holds the pixel.
-use Rattle.std.proofs.Common.{◌≡◌, ℕ, ◌<◌, ◌≤◌, true, List, [], ◌∷◌, Option, Some, None, refl, sym, ◌∙◌, ap, subst, ⊎_elim, arith, Contains, filter}
-use Rattle.std.specs.List.{last_or}
+use Rattle.std.proofs.Common.{◌≡◌, ℕ, ◌<◌, ◌≤◌, true, List, Option, Some, sym, ◌∙◌, ap, subst, ⊎_elim, arith, Contains, filter}
 use Rattle.std.specs.Ordering.{is_le}
 use Rattle.std.proofs.lemmas.Bool.{cases_lt}
 use Rattle.quilt_types.specs.declared.plane.Pixel.{Pixel}
@@ -10,7 +9,7 @@ use Rattle.quilt_types.specs.Layers.{PointMap}
 use Rattle.quilt_types.specs.Facts.{Fact}
 use Rattle.quilt_types.specs.Quadtrees.{holds_few}
 use Rattle.quilt_loc.specs.Codes.{code_at, code_from, Rises}
-use Rattle.quilt_loc.proofs.Members.{Contains-nil, Contains-here, Contains-there, Contains-cons_cases, Contains-filter, Contains-filter_from}
+use Rattle.quilt_loc.proofs.Members.{Contains-filter, Contains-filter_from}
 use Rattle.quilt_loc.proofs.Blocks.{side_most}
 use Rattle.quilt_loc.proofs.Rising.{Rises-filter}
 use Rattle.quilt_loc.proofs.CodeLaws.{depth_is}
@@ -22,10 +21,9 @@ use Rattle.quilt_record.specs.Records.{key_cmp}
 use Rattle.quilt_blocks.proofs.Maximal.{IsMaximal, IsMaximal-from}
 use Rattle.quilt_btree.specs.Lists.{is_at_most, floor_of}
 use Rattle.quilt_spell.specs.Written.{by_key}
-use Rattle.quilt_spell.proofs.Written.{by_key_total}
+use Rattle.quilt_edits.proofs.Lasts.{last_is}
 use Rattle.quilt_edits.proofs.Keys.{le_layer, le_code, less_code, less_depth}
 use Rattle.quilt_spell.proofs.Holding.{HeldBy}
-use Rattle.std.specs.Cmp.{tied_itself}
 use Rattle.quilt_point_laws.proofs.Narrowing.{one_maximal}
 use Rattle.quilt_point_laws.proofs.Counts.{few_down}
 use Rattle.quilt_point_laws.proofs.OnBlocks.{OfBlock}
@@ -33,36 +31,6 @@ use Rattle.quilt_point_laws.proofs.Plans.{block_around}
 use Rattle.quilt_points.specs.Layers.{pixel_key, block_record, SpellsPoints}
 use Rattle.quilt_points.proofs.Shapes.{key_is}
 use Rattle.quilt_points.proofs.Records.{fact_there, fact_at, some_on}
-
--- the last of a rising list
-record IsLast (xs : List Record) (x : Record) : Type 0 where
-  there : Contains xs x
-  above : (y : Record) → Contains xs y → is_le (by_key y x) ≡ true
-
-last_from : (o : Option Record) (x : Record) (xs : List Record) → Rises by_key (x ∷ xs) → (r : Record) × (last_or o (x ∷ xs) ≡ Some r) × IsLast (x ∷ xs) r
-last_from o x [] h = (
-  x,
-  refl,
-  record {
-    there = Contains-here x [];
-    above = λ y c. ⊎_elim (λ e. ap is_le (ap (λ (z : Record). by_key z x) (sym e) ∙ tied_itself by_key_total x)) (λ d. absurd (Contains-nil y d))
-        (Contains-cons_cases x [] y c);
-  },
-)
-last_from o x (z ∷ zs) h =
-    let l = last_from (Some x) z zs h.1 in (
-      l.0,
-      l.1,
-      record {
-        there = Contains-there x (z ∷ zs) l.0 (l.2).there;
-        above = λ y c. ⊎_elim (λ e. ap is_le (ap (λ (w : Record). by_key w l.0) (sym e) ∙ h.0 l.0 (l.2).there)) (λ d. (l.2).above y d)
-            (Contains-cons_cases x (z ∷ zs) y c);
-      },
-    )
-
-last_is : (xs : List Record) (x : Record) → Rises by_key xs → Contains xs x → (r : Record) × (last_or None xs ≡ Some r) × IsLast xs r
-last_is [] x h c = absurd (Contains-nil x c)
-last_is (y ∷ ys) x h c = last_from None y ys h
 
 -- the greatest key at or before one
 record IsGreatest (rs : List Record) (k : Key) (r : Record) : Type 0 where
