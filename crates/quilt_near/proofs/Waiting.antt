@@ -106,7 +106,11 @@ module _ (n : ℕ) (p : Pixel) (l : Lines) (is : IsLines n l) where
   waits_split queue rest new e waits h wide cut h' =
       let here = waits e (came_out queue rest e h) in
       all_split (Waits n p l) p queue rest new e h h' waits
-      (λ b c. record { block = (quarters_are n e.1 b here.block wide c).block; distance = refl; reached = reached_quarter n l is e.1 b here.block wide here.reached cut c })
+      (λ b c. record {
+        block = (quarters_are n e.1 b here.block wide c).block;
+        distance = refl;
+        reached = reached_quarter n l is e.1 b here.block wide here.reached cut c;
+      })
 
 -- a block came out: it holds the pixel, or another that waits does
 pub held_rest : (queue rest : List (ℕ × Block)) (e : ℕ × Block) (q : Pixel) → IsPermutation queue (e ∷ rest) → IsHeld queue q → Holds e.1 q ⊎ IsHeld rest q
