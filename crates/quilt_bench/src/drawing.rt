@@ -1,11 +1,10 @@
 ghost use Rattle.std.specs.Prelude.{◌≡◌, ◌≤◌, true, IfOk};
 ghost use Rattle.quilt_types.specs.Plane.{is_window};
 
-use quilt_blocks::{LeafList, Maker};
-use quilt_loc::pixel_of;
-use quilt_plain::Dice;
+use quilt_blocks::LeafList;
+use quilt_plain::{Dice, map_of};
 use quilt_record::{Key, Record};
-use quilt_types::{Block, Colour, Pixel, Window};
+use quilt_types::{Colour, Window};
 use std::alloc::{AllocError, Global};
 
 /// The key of the record of this number. Drawn keys with an odd code have none.
@@ -52,16 +51,15 @@ pub fn drawn_map(alloc: Global, level: u8, seed: u64) -> Result<LeafList, AllocE
     ensures { IfOk result (λ list. list.level ≡ level) }
 {
     let mut dice = Dice::new(seed);
-    let mut maker = Maker::new(alloc, level);
+    let mut colours = Vec::new(alloc);
     let mut drawn = 0;
     for code in 0..1_u32 << (2 * level) {
         if code % 4 == 0 {
             drawn = dice.below(65536);
         }
-        let Pixel { x, y } = pixel_of(code);
-        maker.push(Block { x, y, side: 1 }, colour_at(code, drawn))?;
+        colours.push(colour_at(code, drawn))?;
     }
-    Ok(maker.finish())
+    map_of(alloc, level, &colours)
 }
 
 /// The colour of a pixel of a block of side 2 for which this was drawn.

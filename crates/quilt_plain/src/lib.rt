@@ -4,11 +4,13 @@
 mod algebra;
 mod drawing;
 mod measures;
+mod pixel_maps;
 mod points;
 mod segments;
 
 pub use algebra::{plain_buffer, plain_overlay, plain_recolour, plain_shift, plain_window};
 pub use drawing::{Dice, colour_of, drawn, drawn_distance, drawn_pairs};
 pub use measures::{plain_area, plain_histogram, plain_perimeter};
+pub use pixel_maps::map_of;
 pub use points::PlainPoints;
 pub use segments::{Fraction, PlainSegments, plain_distance, plain_meets, plain_shares};

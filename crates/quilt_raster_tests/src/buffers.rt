@@ -1,8 +1,8 @@
 ghost use Rattle.std.specs.Prelude.{◌≡◌, ◌≤◌, IfOk};
 
-use crate::pixel_maps::map_of;
 use quilt_blocks::LeafList;
 use quilt_buffer::buffer;
+use quilt_plain::map_of;
 use quilt_types::{Colour, Pixel};
 use std::alloc::{AllocError, Global};
 use std::test::Fail;

@@ -6,8 +6,6 @@ mod buffers;
 #[cfg(test)]
 mod drawn_polygons;
 #[cfg(test)]
-mod pixel_maps;
-#[cfg(test)]
 mod polygons;
 #[cfg(test)]
 mod rasters;

@@ -1,7 +1,7 @@
 ghost use Rattle.std.specs.Prelude.{◌≡◌, ◌≤◌, IfOk};
 
-use crate::pixel_maps::map_of;
 use quilt_blocks::{LeafList, Maker};
+use quilt_plain::map_of;
 use quilt_types::{Block, Colour, Pixel, Window};
 use quilt_window::{shift, window};
 use std::alloc::{AllocError, Global};

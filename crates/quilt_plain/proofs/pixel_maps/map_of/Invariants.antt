@@ -1,5 +1,5 @@
 use Rattle.std.proofs.Common.{◌≡◌, length}
-use Rattle.quilt_bench.proofs.drawing.drawn_map.Given as goal
+use Rattle.quilt_plain.proofs.pixel_maps.map_of.Given as goal
 
 abbrev pub invariant-loop-code : goal.invariant-loop-code
 invariant-loop-code l = record {

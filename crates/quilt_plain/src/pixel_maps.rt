@@ -6,7 +6,7 @@ use quilt_types::{Block, Colour, Pixel};
 use std::alloc::{AllocError, Global};
 
 /// The map of a level from 1 to 12 whose pixels have these colours, in the order of their codes. Where the list ends early, the others have colour 0.
-pub(crate) fn map_of(alloc: Global, level: u8, colours: &[Colour]) -> Result<LeafList, AllocError>
+pub fn map_of(alloc: Global, level: u8, colours: &[Colour]) -> Result<LeafList, AllocError>
     requires least { 1 ≤ level }
     requires most { level ≤ 12 }
     ensures { IfOk result (λ list. list.level ≡ level) }

@@ -5,7 +5,7 @@ use Rattle.quilt_types.specs.Plane.{whole, IsBlock}
 use Rattle.quilt_loc.specs.Codes.{code_at}
 use Rattle.quilt_loc.proofs.Quartered.{IsBlock-whole}
 use Rattle.quilt_loc.proofs.Intervals.{held_code, side_squared, origin_code}
-use Rattle.quilt_raster_tests.proofs.pixel_maps.map_of.Goals as goal
+use Rattle.quilt_plain.proofs.pixel_maps.map_of.Goals as goal
 
 -- how many pixels the square has, as the code has it
 pixels_in : (n : ℕ) → n ≤ 12 → 1 * 2 ^ (2 * n) % 4294967296 ≡ 4 ^ n
