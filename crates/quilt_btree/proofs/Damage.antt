@@ -1,5 +1,6 @@
 -- The page that a way down names as damaged is bad itself.
-use Rattle.std.proofs.Common.{◌≡◌, ◌≢◌, ◌⊎◌, inl, inr, ℕ, zero, suc, ◌+◌, ◌-◌, ◌<◌, ◌≤◌, List, [], length, Option, Some, None, Result, Ok, Err, IfOk, IfErr, IfSome, slice_index, false, ◌==◌}
+use Rattle.std.proofs.Common.{◌≡◌, ◌≢◌, ◌⊎◌, inl, inr, ℕ, zero, suc, ◌+◌, ◌-◌, ◌<◌, ◌≤◌, List}
+use Rattle.std.proofs.Common.{[], length, Option, Some, None, Result, Ok, Err, IfOk, IfErr, IfSome, slice_index, false, ◌==◌}
 use Rattle.std.proofs.Common.{slice_index_or, refl, sym, ◌∙◌, ap, subst, arith}
 use Rattle.std.specs.Prelude.{if◌then◌else◌, IsErrOf, min}
 use Rattle.std.specs.List.{last_or}

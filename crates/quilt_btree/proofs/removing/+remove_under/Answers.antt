@@ -265,7 +265,8 @@ returns-in-Some-clause-names g t c =
     named_more c.rebalance_child.result 1 (g.S.PageStore.size c.args.store.now) (let q = c.requires.page.1 in omega arith) c.rebalance_child.ensures.names
 
 pub returns-in-Some-clause-bad : goal.returns-in-Some-clause-bad
-returns-in-Some-clause-bad g t c = zero_named c.rebalance_child.result (g.S.PageStore.told c.args.store.now) c.args.height c.args.page c.rebalance_child.ensures.names
+returns-in-Some-clause-bad g t c =
+    zero_named c.rebalance_child.result (g.S.PageStore.told c.args.store.now) c.args.height c.args.page c.rebalance_child.ensures.names
 
 pub returns-in-Some-clause-later : goal.returns-in-Some-clause-later
 returns-in-Some-clause-later g t c =

@@ -66,4 +66,5 @@ returns-in-Some-clause-bad g t c =
     c.args.page c.args.height c.pages.result c.read_into.new.bytes c.in-Some.step.child
     (read_ok (g.S.PageStore.told c.args.store.now) (g.S.PageStore.told c.read_into.new.store) c.args.page c.args.height c.pages.result
     (g.S.PageStore.size c.args.store.now) c.read_into.new.bytes c.requires.height c.if-height-eq1.false c.in-Ok.ensures.told
-    (g.met.S.PageStore.as_many c.args.store.now) (c.pages.ensures ∙ c.in-Ok.ensures.size) c.in-Ok.ensures.bytes) c.in-Some.ensures.stands c.drain_under.ensures.bad
+    (g.met.S.PageStore.as_many c.args.store.now) (c.pages.ensures ∙ c.in-Ok.ensures.size) c.in-Ok.ensures.bytes)
+    c.in-Some.ensures.stands c.drain_under.ensures.bad

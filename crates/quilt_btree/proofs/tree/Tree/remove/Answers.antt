@@ -391,12 +391,15 @@ returns-in-Ok-Done-clause-bad g c =
 
 pub returns-in-Ok-Underfull-clause-bad : goal.returns-in-Ok-Underfull-clause-bad
 returns-in-Ok-Underfull-clause-bad g c =
-    zero_named c.shrink-in-Ok-Underfull.result (g.S.PageStore.told c.args.store.now) c.args.self.now.height c.args.self.now.root (c.shrink-in-Ok-Underfull.ensures.names 1 (omega arith))
+    zero_named c.shrink-in-Ok-Underfull.result (g.S.PageStore.told c.args.store.now) c.args.self.now.height c.args.self.now.root
+    (c.shrink-in-Ok-Underfull.ensures.names 1 (omega arith))
 
 pub returns-in-Ok-clause-bad : goal.returns-in-Ok-clause-bad
 returns-in-Ok-clause-bad g c =
-    zero_named c.shrink-in-Ok.result (g.S.PageStore.told c.args.store.now) c.args.self.now.height c.args.self.now.root (c.shrink-in-Ok.ensures.names 1 (omega arith))
+    zero_named c.shrink-in-Ok.result (g.S.PageStore.told c.args.store.now) c.args.self.now.height c.args.self.now.root
+    (c.shrink-in-Ok.ensures.names 1 (omega arith))
 
 pub returns-in-Ok-give_back-clause-bad : goal.returns-in-Ok-give_back-clause-bad
 returns-in-Ok-give_back-clause-bad g c =
-    zero_named c.shrink-in-Ok-give_back.result (g.S.PageStore.told c.args.store.now) c.args.self.now.height c.args.self.now.root (c.shrink-in-Ok-give_back.ensures.names 1 (omega arith))
+    zero_named c.shrink-in-Ok-give_back.result (g.S.PageStore.told c.args.store.now) c.args.self.now.height c.args.self.now.root
+    (c.shrink-in-Ok-give_back.ensures.names 1 (omega arith))
