@@ -16,6 +16,7 @@ pub mod Next
 pub mod Steps
 pub mod Feeding
 pub mod Walked
+pub mod Ends
 pub mod Making
 pub mod Taking
 pub mod Whole

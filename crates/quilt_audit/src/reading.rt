@@ -1,5 +1,6 @@
-ghost use Rattle.std.specs.Prelude.{◌≡◌, ℕ, ◌+◌, ◌<◌, ◌≤◌, ◌&&◌, true, List, [], ◌∷◌, map, length, Some, IfOk, IfErr, IfSome, IfNone, slice_index_or};
-ghost use Rattle.quilt_node.specs.Nodes.{are_pages};
+ghost use Rattle.std.specs.Prelude.{◌≡◌, ℕ, ◌+◌, ◌<◌, ◌≤◌, ◌&&◌, ◌||◌, nat_le, true, false, List, [], ◌∷◌, length, Some, is_some, IfOk};
+ghost use Rattle.std.specs.Prelude.{IfErr, IfSome, IfNone, OnOk, slice_index_or};
+ghost use Rattle.quilt_node.specs.Nodes.{are_pages, keys_of, records_of};
 ghost use Rattle.quilt_node.specs.Pages as spec;
 ghost use Rattle.quilt_node.specs.Tree.{Bounds, Walk, Whole, Damaged, are_within, bounded, each_child, leaf_walk, inner_walk, is_above as is_above_of};
 ghost use Rattle.quilt_node.specs.Tree.{is_below as is_below_of};
@@ -7,7 +8,7 @@ ghost use Rattle.quilt_store.specs.Store.{Tells};
 ghost use Rattle.quilt_btree.specs.Stops.{store_stop, HasStopCause, NamesPage};
 ghost use Rattle.quilt_audit.specs.Surveys.{OnDamaged};
 
-use quilt_node::{InnerPage, LeafPage, inner_of, leaf_of};
+use quilt_node::{InnerPage, inner_of, is_leaf, rec_in, records_in};
 use quilt_record::Key;
 use quilt_store::{PageStore, StoreErr};
 use quilt_types::Stop;
@@ -49,17 +50,15 @@ fn is_within(k: &Key, low: &Option<Key>, high: &Option<Key>) -> bool
     is_above(low, k) && is_below(high, k)
 }
 
-/// Whether each key of the leaf is within the bounds.
-fn leaf_is_within(leaf: &LeafPage, low: &Option<Key>, high: &Option<Key>) -> bool
-    ensures { result ≡ are_within (record { low = low.now; high = high.now }) (map (λ r. r.key) leaf.now) }
+/// Whether each key of the leaf that the bytes are is within the bounds. As they ascend, the first and the last tell.
+fn leaf_is_within(bytes: &[u8; 4096], low: &Option<Key>, high: &Option<Key>) -> bool
+    requires { is_some (spec.leaf_of bytes.now) ≡ true }
+    ensures { result ≡ are_within (record { low = low.now; high = high.now }) (keys_of (records_of bytes.now)) }
 {
-    for i in 0..leaf.len() {
-        let r = leaf.rec(i);
-        if !is_within(&r.key, low, high) {
-            return false;
-        }
-    }
-    true
+    let n = records_in(bytes);
+    let first = rec_in(bytes, 0);
+    let last = rec_in(bytes, n - 1);
+    is_above(low, &first.key) && is_below(high, &last.key)
 }
 
 /// Whether each key of the inner page is within the bounds.
@@ -75,18 +74,19 @@ fn inner_is_within(inner: &InnerPage, low: &Option<Key>, high: &Option<Key>) -> 
     true
 }
 
-/// The leaf at a page, where it is well formed, has its minimum of records and keeps its bounds.
+/// Reads the leaf at a page into the buffer, where it is well formed, has its minimum of records and keeps its bounds.
 pub fn read_leaf<S: PageStore>(
     store: &mut S,
     page: u32,
     is_root: bool,
     low: &Option<Key>,
     high: &Option<Key>,
-) -> Result<LeafPage, Stop>
+    bytes: &mut [u8; 4096],
+) -> Result<(), Stop>
     requires { (1 ≤ page) × (page < S.size store.old) }
-    ensures leaf { IfOk result (λ leaf. (pages : List (List ℕ)) (visited : List ℕ) → S.told store.old ≡ Some pages
+    ensures leaf { OnOk result ((pages : List (List ℕ)) (visited : List ℕ) → S.told store.old ≡ Some pages
         → leaf_walk is_root (record { low = low.now; high = high.now }) page visited (spec.leaf_of (slice_index_or pages page []))
-        ≡ Whole leaf (page ∷ visited)) }
+        ≡ Whole (records_of bytes.new) (page ∷ visited)) }
     ensures damaged { IfErr result
         (OnDamaged (λ p. (pages : List (List ℕ)) (visited : List ℕ) → S.told store.old ≡ Some pages
         → leaf_walk is_root (record { low = low.now; high = high.now }) page visited (spec.leaf_of (slice_index_or pages page [])) ≡ Damaged p)) }
@@ -99,33 +99,36 @@ pub fn read_leaf<S: PageStore>(
     ensures reads { Tells (λ old new. new ≤ old + 1) (S.reads store.old) (S.reads store.new) }
     ensures changed { S.changed store.new ≤ S.changed store.old }
 {
-    let mut bytes = [0; 4096];
-    match store.read(page, &mut bytes) {
+    match store.read(page, bytes) {
         Err(e) => Err(stop_of(e)),
-        Ok(()) => match leaf_in(&bytes, is_root, low, high) {
-            None => Err(Stop::Damaged { page }),
-            Some(leaf) => Ok(leaf),
-        },
+        Ok(()) => {
+            if !is_leaf_of_tree(bytes, is_root, low, high) {
+                return Err(Stop::Damaged { page });
+            }
+            Ok(())
+        }
     }
 }
 
-/// The leaf that the bytes are, where it has its minimum of records and keeps its bounds.
-fn leaf_in(
-    bytes: &[u8; 4096],
-    is_root: bool,
-    low: &Option<Key>,
-    high: &Option<Key>,
-) -> Option<LeafPage>
-    ensures some { IfSome result (λ leaf. (page : ℕ) (visited : List ℕ)
-        → leaf_walk is_root (record { low = low.now; high = high.now }) page visited (spec.leaf_of bytes.now) ≡ Whole leaf (page ∷ visited)) }
-    ensures none { IfNone result ((page : ℕ) (visited : List ℕ)
-        → leaf_walk is_root (record { low = low.now; high = high.now }) page visited (spec.leaf_of bytes.now) ≡ Damaged page) }
+/// Whether the leaf that the bytes are has its minimum of records, which the root need not have.
+fn has_its_minimum(bytes: &[u8; 4096], is_root: bool) -> bool
+    ensures { result ≡ (is_root || nat_le 72 (length (records_of bytes.now))) }
 {
-    let leaf = leaf_of(bytes)?;
-    if (is_root || 72 <= leaf.len()) && leaf_is_within(&leaf, low, high) {
-        return Some(leaf);
+    is_root || 72 <= records_in(bytes)
+}
+
+/// Whether the bytes are a leaf that has its minimum of records and keeps its bounds.
+fn is_leaf_of_tree(bytes: &[u8; 4096], is_root: bool, low: &Option<Key>, high: &Option<Key>) -> bool
+    ensures yes { result ≡ true → (page : ℕ) (visited : List ℕ)
+        → leaf_walk is_root (record { low = low.now; high = high.now }) page visited (spec.leaf_of bytes.now)
+        ≡ Whole (records_of bytes.now) (page ∷ visited) }
+    ensures no { result ≡ false → (page : ℕ) (visited : List ℕ)
+        → leaf_walk is_root (record { low = low.now; high = high.now }) page visited (spec.leaf_of bytes.now) ≡ Damaged page }
+{
+    if !is_leaf(bytes) {
+        return false;
     }
-    None
+    has_its_minimum(bytes, is_root) && leaf_is_within(bytes, low, high)
 }
 
 /// The inner page at a page of the store, where it is well formed, stands at its height, has its minimum of children and

@@ -2,7 +2,7 @@ ghost use Rattle.std.specs.Prelude.{◌≡◌, ℕ, ◌^◌, ◌<◌, ◌≤◌,
 ghost use Rattle.quilt_types.specs.declared.plane.Kind.TheVariants as kinds;
 ghost use Rattle.quilt_types.specs.Plane.{IsBlock};
 ghost use Rattle.quilt_types.specs.Layers.{colours};
-ghost use Rattle.quilt_loc.specs.Codes.{code_from};
+ghost use Rattle.quilt_loc.specs.Codes.{code_from, code_to};
 ghost use Rattle.quilt_blocks.specs.Cutting.{pair_of};
 ghost use Rattle.quilt_record.specs.declared.record.Record.{Record as AnyRecord};
 ghost use Rattle.quilt_region.specs.Regions.{leaf_record};
@@ -11,7 +11,6 @@ ghost use Rattle.quilt_audit.specs.Regions.{IsGoing, no_leaves};
 
 use crate::siblings::are_siblings;
 use quilt_blocks::Leaf;
-use quilt_loc::end_of;
 use quilt_types::{Block, Colour};
 
 /// No leaf, which stands for one before the first.
@@ -23,6 +22,16 @@ const NOTHING: Leaf = Leaf {
     },
     colour: Colour(0),
 };
+
+/// The code after the last one of the block, which begins at this code.
+fn end_from(code: u32, b: Block) -> u32
+    requires block { IsBlock 12 b }
+    requires code { code ≡ code_from b }
+    ensures { result ≡ code_to b }
+{
+    let side = u32::from(b.side);
+    code + side * side
+}
 
 /// How far the records of a region layer have come.
 #[derive(Clone, Copy)]
@@ -65,7 +74,7 @@ impl RegionRun {
             return None;
         }
         Some(RegionRun {
-            end: end_of(leaf.block),
+            end: end_from(code, leaf.block),
             recent: [b, c, leaf],
         })
     }

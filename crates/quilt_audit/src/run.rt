@@ -1,4 +1,4 @@
-ghost use Rattle.std.specs.Prelude.{◌≡◌, ℕ, ◌≤◌, ◌++◌, true, false, List, [], ◌∷◌, IfOk, IfSome, IfNone};
+ghost use Rattle.std.specs.Prelude.{◌≡◌, ℕ, ◌≤◌, ◌++◌, List, [], ◌∷◌, IfOk};
 ghost use Rattle.std.specs.Bool.{OnTrue, OnFalse};
 ghost use Rattle.quilt_types.specs.declared.plane.Kind.{Kind as AnyKind};
 ghost use Rattle.quilt_record.specs.declared.record.Record.{Record as AnyRecord};
@@ -43,17 +43,10 @@ impl Run {
         ensures refused { IfOk result (λ ok. (rs : List AnyRecord) (kind : AnyKind) → IsRun format level rs r.now.key.layer kind self.old
             → OnFalse ok (Refuses format level rs r.now.key.layer kind r.now)) }
     {
-        let next = match self {
-            Run::Region(run) => next_leaf(run, r, level, format),
-            Run::Points(run) => next_point(run, r, level),
-            Run::Lines(run) => return run.take(r, level),
-        };
-        match next {
-            None => Ok(false),
-            Some(next) => {
-                *self = next;
-                Ok(true)
-            }
+        match self {
+            Run::Region(run) => Ok(take_leaf(run, r, level, format)),
+            Run::Points(run) => Ok(take_point(run, r, level)),
+            Run::Lines(run) => run.take(r, level),
         }
     }
 
@@ -71,38 +64,41 @@ impl Run {
     }
 }
 
-/// After one more record of a region layer.
-fn next_leaf(run: &RegionRun, r: &Record, level: u8, format: u8) -> Option<Run>
+/// Takes one more record of a region layer, where it may be the next one.
+fn take_leaf(run: &mut RegionRun, r: &Record, level: u8, format: u8) -> bool
     requires level { (1 ≤ level) × (level ≤ 12) }
     requires layer { (1 ≤ r.now.key.layer) × (r.now.key.layer ≤ 255) }
-    ensures some { IfSome result (λ next. (rs : List AnyRecord) (kind : AnyKind) → IsRun format level rs r.now.key.layer kind (runs.Region run.now)
-        → IsRun format level (rs ++ r.now ∷ []) r.now.key.layer kind next) }
-    ensures none { IfNone result ((rs : List AnyRecord) (kind : AnyKind) → IsRun format level rs r.now.key.layer kind (runs.Region run.now)
+    ensures yes { OnTrue result ((rs : List AnyRecord) (kind : AnyKind) → IsRun format level rs r.now.key.layer kind (runs.Region run.old)
+        → IsRun format level (rs ++ r.now ∷ []) r.now.key.layer kind (runs.Region run.new)) }
+    ensures no { OnFalse result ((rs : List AnyRecord) (kind : AnyKind) → IsRun format level rs r.now.key.layer kind (runs.Region run.old)
         → Refuses format level rs r.now.key.layer kind r.now) }
 {
     let Some((block, colour)) = read_region(r, level, format) else {
-        return None;
+        return false;
     };
     let Some(next) = run.next(r.key.code, Leaf { block, colour }, level) else {
-        return None;
+        return false;
     };
-    Some(Run::Region(next))
+    *run = next;
+    true
 }
 
-/// After one more record of a point layer, in a map of the format.
-fn next_point(run: &PointRun, r: &Record, level: u8) -> Option<Run>
+/// Takes one more record of a point layer, where it may be the next one, in a map of any format.
+fn take_point(run: &mut PointRun, r: &Record, level: u8) -> bool
     requires level { (1 ≤ level) × (level ≤ 12) }
     requires layer { (1 ≤ r.now.key.layer) × (r.now.key.layer ≤ 255) }
-    ensures some { IfSome result (λ next. (format : ℕ) (rs : List AnyRecord) (kind : AnyKind)
-        → IsRun format level rs r.now.key.layer kind (runs.Points run.now) → IsRun format level (rs ++ r.now ∷ []) r.now.key.layer kind next) }
-    ensures none { IfNone result ((format : ℕ) (rs : List AnyRecord) (kind : AnyKind)
-        → IsRun format level rs r.now.key.layer kind (runs.Points run.now) → Refuses format level rs r.now.key.layer kind r.now) }
+    ensures yes { OnTrue result ((format : ℕ) (rs : List AnyRecord) (kind : AnyKind)
+        → IsRun format level rs r.now.key.layer kind (runs.Points run.old)
+        → IsRun format level (rs ++ r.now ∷ []) r.now.key.layer kind (runs.Points run.new)) }
+    ensures no { OnFalse result ((format : ℕ) (rs : List AnyRecord) (kind : AnyKind)
+        → IsRun format level rs r.now.key.layer kind (runs.Points run.old) → Refuses format level rs r.now.key.layer kind r.now) }
 {
     let Some((block, held)) = read_point(r, level, run.bucket) else {
-        return None;
+        return false;
     };
     let Some(next) = run.next(r.key.code, block, held, level) else {
-        return None;
+        return false;
     };
-    Some(Run::Points(next))
+    *run = next;
+    true
 }

@@ -24,6 +24,13 @@ fn are(a: Leaf, first: Block, b: Leaf, second: Block, colour: Colour) -> bool
     is(a, first, colour) && is(b, second, colour)
 }
 
+/// Whether the two leaves have one colour and blocks of one side.
+fn is_alike(a: Leaf, b: Leaf) -> bool
+    ensures { result ≡ false → a.colour.0 ≡ b.colour.0 → a.block.side ≡ b.block.side → ⊥ }
+{
+    a.colour == b.colour && a.block.side == b.block.side
+}
+
 /// Whether the leaves are the four quarters of a block, in the order of their codes, and have one colour.
 pub fn are_siblings(a: Leaf, b: Leaf, c: Leaf, d: Leaf, level: u8) -> bool
     requires level { (1 ≤ level) × (level ≤ 12) }
@@ -31,6 +38,9 @@ pub fn are_siblings(a: Leaf, b: Leaf, c: Leaf, d: Leaf, level: u8) -> bool
     ensures yes { result ≡ true → (whole : BlockValue × ℕ) × AreSiblings level (a ∷ b ∷ c ∷ d ∷ []) whole }
     ensures no { result ≡ false → (whole : BlockValue × ℕ) → AreSiblings level (a ∷ b ∷ c ∷ d ∷ []) whole → ⊥ }
 {
+    if !is_alike(c, d) {
+        return false;
+    }
     let Some(block) = parent(d.block, level) else {
         return false;
     };

@@ -93,6 +93,7 @@ fn survey_tree<S: PageStore>(alloc: Global, store: &mut S, head: &Head) -> Resul
         true,
         &None,
         &None,
+        &mut [0; 4096],
     ) {
         Err(e) => Err(e),
         Ok(()) => Ok(state),

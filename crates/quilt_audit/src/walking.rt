@@ -2,7 +2,7 @@ ghost use Rattle.std.specs.Prelude.{◌≡◌, ℕ, zero, suc, ◌+◌, ◌<◌,
 ghost use Rattle.std.specs.Prelude.{◌==◌};
 ghost use Rattle.std.specs.List.{list_any};
 ghost use Rattle.std.specs.Option.{option_or};
-ghost use Rattle.quilt_node.specs.Nodes.{are_pages};
+ghost use Rattle.quilt_node.specs.Nodes.{are_pages, records_of};
 ghost use Rattle.quilt_node.specs.Tree.{Bounds, Walk, Whole, Damaged, bounded, each_child, walk};
 ghost use Rattle.quilt_store.specs.Store.{Tells};
 ghost use Rattle.quilt_btree.specs.Stops.{HasStopCause, NamesPage};
@@ -15,18 +15,18 @@ use crate::checker::Checker;
 use crate::marks::{is_marked, mark};
 use crate::reading::{read_inner, read_leaf};
 use crate::surveying::Surveying;
-use quilt_node::{InnerPage, LeafPage};
+use quilt_node::{InnerPage, rec_in, records_in};
 use quilt_record::Key;
 use quilt_store::PageStore;
 use quilt_types::Stop;
 use std::alloc::AllocError;
 
-/// Hands the records of a leaf to the checker.
-fn feed(checker: &mut Checker, leaf: &LeafPage) -> Result<(), AllocError>
-    ensures { OnOk result (Takes checker.old leaf.now checker.new) }
+/// Hands the records of the leaf that the bytes are to the checker.
+fn feed(checker: &mut Checker, bytes: &[u8; 4096]) -> Result<(), AllocError>
+    ensures { OnOk result (Takes checker.old (records_of bytes.now) checker.new) }
 {
-    for i in 0..leaf.len() {
-        checker.push(&leaf.rec(i))?;
+    for i in 0..records_in(bytes) {
+        checker.push(&rec_in(bytes, i))?;
     }
     Ok(())
 }
@@ -43,7 +43,7 @@ fn bound_behind(inner: &InnerPage, i: usize, high: &Option<Key>) -> Option<Key>
     }
 }
 
-/// Visits the page of a leaf that was not visited before.
+/// Visits the page of a leaf that was not visited before, which the buffer then has.
 fn survey_leaf<S: PageStore>(
     store: &mut S,
     state: &mut Surveying,
@@ -51,6 +51,7 @@ fn survey_leaf<S: PageStore>(
     is_root: bool,
     low: &Option<Key>,
     high: &Option<Key>,
+    bytes: &mut [u8; 4096],
 ) -> Result<(), Stop>
     requires page { (1 ≤ page) × (page < S.size store.old) }
     ensures found { OnOk result ((visited : List ℕ) → Marks state.old.used visited → list_any (λ v. v == page) visited ≡ false
@@ -69,11 +70,11 @@ fn survey_leaf<S: PageStore>(
     ensures later { S.later store.old store.new }
     ensures changed { S.changed store.new ≤ S.changed store.old }
 {
-    match read_leaf(store, page, is_root, low, high) {
+    match read_leaf(store, page, is_root, low, high, bytes) {
         Err(e) => Err(e),
-        Ok(leaf) => {
+        Ok(()) => {
             mark(&mut state.used, page);
-            match feed(&mut state.checker, &leaf) {
+            match feed(&mut state.checker, bytes) {
                 Err(_) => Err(Stop::Memory),
                 Ok(()) => Ok(()),
             }
@@ -82,7 +83,7 @@ fn survey_leaf<S: PageStore>(
 }
 
 /// Visits a page of the tree at a height, and all below it: a page before its children, and these from left to right.
-/// It reads each page once, and stops at the first that is damaged.
+/// It reads each page once, leaves into the buffer, and stops at the first that is damaged.
 #[cycle(walking)]
 pub fn survey_page<S: PageStore>(
     store: &mut S,
@@ -92,6 +93,7 @@ pub fn survey_page<S: PageStore>(
     is_root: bool,
     low: &Option<Key>,
     high: &Option<Key>,
+    bytes: &mut [u8; 4096],
 ) -> Result<(), Stop>
     requires page { (1 ≤ page) × (page < S.size store.old) }
     requires height { 1 ≤ height }
@@ -115,13 +117,47 @@ pub fn survey_page<S: PageStore>(
         return Err(Stop::Damaged { page });
     }
     if height == 1 {
-        return survey_leaf(store, state, page, is_root, low, high);
+        return survey_leaf(store, state, page, is_root, low, high, bytes);
     }
+    survey_inner(store, state, page, height, is_root, low, high, bytes)
+}
+
+/// Visits an inner page that was not visited before, and all below it.
+#[cycle(walking)]
+fn survey_inner<S: PageStore>(
+    store: &mut S,
+    state: &mut Surveying,
+    page: u32,
+    height: u8,
+    is_root: bool,
+    low: &Option<Key>,
+    high: &Option<Key>,
+    bytes: &mut [u8; 4096],
+) -> Result<(), Stop>
+    requires page { (1 ≤ page) × (page < S.size store.old) }
+    requires height { 2 ≤ height }
+    ensures found { OnOk result ((visited : List ℕ) → Marks state.old.used visited → list_any (λ v. v == page) visited ≡ false
+        → Found (S.size store.old) (S.told store.old) (λ pages. walk pages height is_root (page, record { low = low.now; high = high.now }) visited)
+        visited state.old state.new (S.reads store.old) (S.reads store.new)) }
+    ensures damaged { IfErr result
+        (OnDamaged (λ p. (pages : List (List ℕ)) (visited : List ℕ) → S.told store.old ≡ Some pages → Marks state.old.used visited
+        → list_any (λ v. v == page) visited ≡ false
+        → walk pages height is_root (page, record { low = low.now; high = high.now }) visited ≡ Damaged p)) }
+    ensures spent { OnErr result ((visited : List ℕ) → Marks state.old.used visited → list_any (λ v. v == page) visited ≡ false
+        → SpentSome (S.size store.old) visited (S.reads store.old) (S.reads store.new)) }
+    ensures names { IfErr result (NamesPage (S.size store.old)) }
+    ensures cause { HasStopCause (S.faults store.old) (S.faults store.new) result }
+    ensures size { S.size store.new ≡ S.size store.old }
+    ensures told { S.told store.new ≡ S.told store.old }
+    ensures free { S.free store.new ≡ S.free store.old }
+    ensures later { S.later store.old store.new }
+    ensures changed { S.changed store.new ≤ S.changed store.old }
+{
     match read_inner(store, page, height, is_root, low, high) {
         Err(e) => Err(e),
         Ok(inner) => {
             mark(&mut state.used, page);
-            survey_children(store, state, &inner, height - 1, low, high)
+            survey_children(store, state, &inner, height - 1, low, high, bytes)
         }
     }
 }
@@ -135,6 +171,7 @@ fn survey_children<S: PageStore>(
     height: u8,
     low: &Option<Key>,
     high: &Option<Key>,
+    bytes: &mut [u8; 4096],
 ) -> Result<(), Stop>
     requires pages { are_pages (S.size store.old) inner.now.children ≡ true }
     requires height { 1 ≤ height }
@@ -160,7 +197,7 @@ fn survey_children<S: PageStore>(
     for i in 0..inner.len() {
         let to = bound_behind(inner, i, high);
         let page = inner.child(i);
-        if let Err(e) = survey_page(store, state, page, height, false, &from, &to) {
+        if let Err(e) = survey_page(store, state, page, height, false, &from, &to, bytes) {
             return Err(e);
         }
         from = to;

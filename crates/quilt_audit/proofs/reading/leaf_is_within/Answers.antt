@@ -1,19 +1,31 @@
-use Rattle.std.proofs.Common.{◌&&◌, Bool, map, sym, ◌∙◌}
-use Rattle.quilt_record.specs.declared.key.Key.{Key}
-use Rattle.quilt_record.specs.declared.record.Record.{Record}
-use Rattle.quilt_node.specs.Tree.{is_above, is_below}
-use Rattle.quilt_audit.proofs.Walked.{all_more, all_stops, key_of_record}
+use Rattle.std.proofs.Common.{◌≡◌, ◌&&◌, Bool, true, false, refl, sym, ◌∙◌, arith}
+use Rattle.quilt_node.specs.Nodes.{records_of}
+use Rattle.quilt_audit.proofs.Ends.{leaf_ends, leaf_stands}
 use Rattle.quilt_audit.proofs.reading.leaf_is_within.Goals as goal
 
-pub returns-then-not-is_within : goal.returns-then-not-is_within
-returns-then-not-is_within c =
-    let p : Key → Bool = λ k. is_above c.args.low.now k && is_below c.args.high.now k in
-    all_stops p (map (λ (r : Record). r.key) c.args.leaf.now) c.loop-i.i c.rec-r.result.key
-    (key_of_record c.args.leaf.now c.loop-i.i c.rec-r.result c.rec-r.ensures) (sym c.is_within.ensures ∙ c.if-not-is_within.true)
+pub overflow_sub-n : goal.overflow_sub-n
+overflow_sub-n c = (c.records_in-n.ensures.length (records_of c.args.bytes.now) (leaf_stands c.args.bytes.now c.requires)).1
 
-pub loop-i-preserved : goal.loop-i-preserved
-loop-i-preserved c =
-    let p : Key → Bool = λ k. is_above c.args.low.now k && is_below c.args.high.now k in
-    all_more p (map (λ (r : Record). r.key) c.args.leaf.now) c.loop-i.i c.rec-r.result.key
-    (key_of_record c.args.leaf.now c.loop-i.i c.rec-r.result c.rec-r.ensures) c.loop-i.invariant
-    (sym c.is_within.ensures ∙ c.if-not-is_within.false)
+above : (a b : Bool) → a ≡ true → b ≡ (a && b)
+above true b e = refl
+above false b e = cc
+
+below : (a b : Bool) → a ≡ false → a ≡ (a && b)
+below false b e = refl
+below true b e = cc
+
+pub returns-then-is_above : goal.returns-then-is_above
+returns-then-is_above c =
+    let some = (c.records_in-n.ensures.length (records_of c.args.bytes.now) (leaf_stands c.args.bytes.now c.requires)).1 in
+    let many = c.records_in-n.ensures.all in
+    c.is_below.ensures ∙ above _ _ (sym c.is_above.ensures ∙ c.if-is_above.true)
+    ∙ leaf_ends c.args.bytes.now c.args.low.now c.args.high.now c.records_in-n.result c.rec_in-first.result c.rec_in-last.result c.requires
+    some many (c.rec_in-first.ensures.stands (omega arith)) (c.rec_in-last.ensures.stands (omega arith))
+
+pub returns-else-is_above : goal.returns-else-is_above
+returns-else-is_above c =
+    let some = (c.records_in-n.ensures.length (records_of c.args.bytes.now) (leaf_stands c.args.bytes.now c.requires)).1 in
+    let many = c.records_in-n.ensures.all in
+    c.is_above.ensures ∙ below _ _ (sym c.is_above.ensures ∙ c.if-is_above.false)
+    ∙ leaf_ends c.args.bytes.now c.args.low.now c.args.high.now c.records_in-n.result c.rec_in-first.result c.rec_in-last.result c.requires
+    some many (c.rec_in-first.ensures.stands (omega arith)) (c.rec_in-last.ensures.stands (omega arith))

@@ -1,6 +1,6 @@
 use Rattle.quilt_types.specs.declared.plane.Block.{Block}
 use Rattle.quilt_loc.proofs.Blocks.{IsBlock-up}
-use Rattle.quilt_audit.proofs.FourLeaves.{IsParent, parent_is, siblings_from, siblings_are}
+use Rattle.quilt_audit.proofs.FourLeaves.{IsParent, parent_is, siblings_alike, siblings_from, siblings_are}
 use Rattle.quilt_audit.proofs.siblings.are_siblings.Goals as goal
 
 found : (c : goal.In-Some) → IsParent c.args.level c.args.d.block c.in-Some.block
@@ -35,3 +35,8 @@ returns-else-are-clause-no c f w s =
     c.quarters.ensures.value in
     let t = c.are.ensures.no these.first these.second in
     cc
+
+pub returns-then-not-is_alike-clause-no : goal.returns-then-not-is_alike-clause-no
+returns-then-not-is_alike-clause-no c f w s =
+    let alike = siblings_alike c.args.level c.args.a c.args.b c.args.c c.args.d w s in
+    c.is_alike.ensures c.if-not-is_alike.true alike.0 alike.1

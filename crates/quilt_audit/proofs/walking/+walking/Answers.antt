@@ -1,4 +1,4 @@
-use Rattle.std.proofs.Common.{◌-◌, [], ◌∷◌, false, refl, sym, ◌∙◌, arith}
+use Rattle.std.proofs.Common.{◌-◌, [], ◌∷◌, false, refl, ◌∙◌, arith}
 use Rattle.quilt_node.specs.Tree.{walk}
 use Rattle.quilt_audit.specs.declared.surveying.Surveying.{Surveying}
 use Rattle.quilt_audit.proofs.Feeding.{Takes-none}
@@ -65,52 +65,49 @@ survey_children-returns-in-Err-clause-damaged g t c =
     (w pages h.now (inv.told ∙ e) h.added.marks))
     c.in-Err.ensures.damaged
 
-pub survey_page-returns-in-Err-clause-damaged : goal.survey_page-returns-in-Err-clause-damaged
-survey_page-returns-in-Err-clause-damaged g t c =
-    let ne = c.if-height-eq1.false in
+pub survey_inner-returns-in-Err-clause-damaged : goal.survey_inner-returns-in-Err-clause-damaged
+survey_inner-returns-in-Err-clause-damaged g t c =
     let some = c.requires.height in
     stop_map c.in-Err.e _ _
-    (λ p w pages visited e m.
+    (λ p w pages visited e m fresh.
     walk_inner pages c.args.height c.args.is_root (c.args.page, from_to c.args.low.now c.args.high.now) visited (omega arith)
-    (sym (m.each c.args.page) ∙ sym c.is_marked.ensures ∙ c.if-is_marked.false)
+    fresh
     ∙ w pages visited (walk pages (c.args.height - 1) false) e)
     c.in-Err.ensures.damaged
 
-pub survey_page-returns-in-Ok-clause-found : goal.survey_page-returns-in-Ok-clause-found
-survey_page-returns-in-Ok-clause-found g t c =
-    let ne = c.if-height-eq1.false in
+pub survey_inner-returns-in-Ok-clause-found : goal.survey_inner-returns-in-Ok-clause-found
+survey_inner-returns-in-Ok-clause-found g t c =
     let some = c.requires.height in
     let b = from_to c.args.low.now c.args.high.now in
     let mid : Surveying = record { used = c.mark.new.bits; checker = c.args.state.now.checker } in
     on_ok_map c.survey_children.result _ _
-    (λ found visited m.
+    (λ found visited m fresh.
     let a = Added-page (g.S.PageStore.size c.args.store.now) visited c.args.state.now mid (g.S.PageStore.reads c.args.store.now)
     (g.S.PageStore.reads c.read_inner.new.store) c.args.page []
-    c.requires.page.0 c.requires.page.1 m (sym (m.each c.args.page) ∙ sym c.is_marked.ensures ∙ c.if-is_marked.false) c.mark.ensures
+    c.requires.page.0 c.requires.page.1 m fresh c.mark.ensures
     (Takes-none c.args.state.now.checker) c.in-Ok.ensures.reads in
     page_found (g.S.PageStore.size c.args.store.now) (g.S.PageStore.told c.args.store.now) c.args.height c.args.is_root c.args.page b visited
     c.args.state.now mid c.survey_children.new.state
     (g.S.PageStore.reads c.args.store.now) (g.S.PageStore.reads c.read_inner.new.store) (g.S.PageStore.reads c.survey_children.new.store)
     c.in-Ok.inner.children c.in-Ok.inner.keys
     (g.S.PageStore.size c.read_inner.new.store) (g.S.PageStore.told c.read_inner.new.store) c.in-Ok.ensures.size c.in-Ok.ensures.told (omega arith)
-    (sym (m.each c.args.page) ∙ sym c.is_marked.ensures ∙ c.if-is_marked.false) a (λ pages visit e. c.in-Ok.ensures.inner pages visited visit e)
+    fresh a (λ pages visit e. c.in-Ok.ensures.inner pages visited visit e)
     (found (c.args.page ∷ visited) a.marks))
     c.survey_children.ensures.found
 
-pub survey_page-returns-in-Ok-clause-damaged : goal.survey_page-returns-in-Ok-clause-damaged
-survey_page-returns-in-Ok-clause-damaged g t c =
-    let ne = c.if-height-eq1.false in
+pub survey_inner-returns-in-Ok-clause-damaged : goal.survey_inner-returns-in-Ok-clause-damaged
+survey_inner-returns-in-Ok-clause-damaged g t c =
     let some = c.requires.height in
     let b = from_to c.args.low.now c.args.high.now in
     let mid : Surveying = record { used = c.mark.new.bits; checker = c.args.state.now.checker } in
     damaged_map c.survey_children.result _ _
-    (λ p w pages visited e m.
+    (λ p w pages visited e m fresh.
     let a = Added-page (g.S.PageStore.size c.args.store.now) visited c.args.state.now mid (g.S.PageStore.reads c.args.store.now)
     (g.S.PageStore.reads c.read_inner.new.store) c.args.page []
-    c.requires.page.0 c.requires.page.1 m (sym (m.each c.args.page) ∙ sym c.is_marked.ensures ∙ c.if-is_marked.false) c.mark.ensures
+    c.requires.page.0 c.requires.page.1 m fresh c.mark.ensures
     (Takes-none c.args.state.now.checker) c.in-Ok.ensures.reads in
     walk_inner pages c.args.height c.args.is_root (c.args.page, b) visited (omega arith)
-    (sym (m.each c.args.page) ∙ sym c.is_marked.ensures ∙ c.if-is_marked.false)
+    fresh
     ∙ c.in-Ok.ensures.inner pages visited (walk pages (c.args.height - 1) false) e
     ∙ w pages (c.args.page ∷ visited) (c.in-Ok.ensures.told ∙ e) a.marks)
     c.survey_children.ensures.damaged
@@ -119,22 +116,22 @@ pub survey_page-returns-then-is_marked-clause-spent : goal.survey_page-returns-t
 survey_page-returns-then-is_marked-clause-spent g t c visited m =
     record { now = visited; spent = Spent-none (g.S.PageStore.size c.args.store.now) visited (g.S.PageStore.reads c.args.store.now) }
 
-pub survey_page-returns-in-Err-clause-spent : goal.survey_page-returns-in-Err-clause-spent
-survey_page-returns-in-Err-clause-spent g t c visited m = record {
+pub survey_inner-returns-in-Err-clause-spent : goal.survey_inner-returns-in-Err-clause-spent
+survey_inner-returns-in-Err-clause-spent g t c visited m fresh = record {
   now = c.args.page ∷ visited;
   spent = Spent-page (g.S.PageStore.size c.args.store.now) visited (g.S.PageStore.reads c.args.store.now)
       (g.S.PageStore.reads c.read_inner.new.store) c.args.page c.requires.page.0 c.requires.page.1
-      (sym (m.each c.args.page) ∙ sym c.is_marked.ensures ∙ c.if-is_marked.false) c.in-Err.ensures.reads;
+      fresh c.in-Err.ensures.reads;
 }
 
-pub survey_page-returns-in-Ok-clause-spent : goal.survey_page-returns-in-Ok-clause-spent
-survey_page-returns-in-Ok-clause-spent g t c =
+pub survey_inner-returns-in-Ok-clause-spent : goal.survey_inner-returns-in-Ok-clause-spent
+survey_inner-returns-in-Ok-clause-spent g t c =
     let mid : Surveying = record { used = c.mark.new.bits; checker = c.args.state.now.checker } in
     on_err_map c.survey_children.result _ _
-    (λ spent visited m.
+    (λ spent visited m fresh.
     let a = Added-page (g.S.PageStore.size c.args.store.now) visited c.args.state.now mid (g.S.PageStore.reads c.args.store.now)
     (g.S.PageStore.reads c.read_inner.new.store) c.args.page []
-    c.requires.page.0 c.requires.page.1 m (sym (m.each c.args.page) ∙ sym c.is_marked.ensures ∙ c.if-is_marked.false) c.mark.ensures
+    c.requires.page.0 c.requires.page.1 m fresh c.mark.ensures
     (Takes-none c.args.state.now.checker) c.in-Ok.ensures.reads in
     SpentSome-then (g.S.PageStore.size c.args.store.now) visited (c.args.page ∷ visited) (g.S.PageStore.reads c.args.store.now)
     (g.S.PageStore.reads c.read_inner.new.store) (g.S.PageStore.reads c.survey_children.new.store)

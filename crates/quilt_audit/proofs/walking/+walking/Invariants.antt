@@ -5,10 +5,13 @@ use Rattle.quilt_audit.proofs.Walked.{of_all, of_rest}
 use Rattle.quilt_audit.proofs.walking.+walking.Given as goal
 
 abbrev pub decreases-survey_children : goal.decreases-survey_children
-decreases-survey_children g l = 2 * l.height + 1
+decreases-survey_children g l = 3 * l.height + 2
 
 abbrev pub decreases-survey_page : goal.decreases-survey_page
-decreases-survey_page g l = 2 * l.height
+decreases-survey_page g l = 3 * l.height + 1
+
+abbrev pub decreases-survey_inner : goal.decreases-survey_inner
+decreases-survey_inner g l = 3 * l.height
 
 abbrev pub invariant-survey_children-loop-i : goal.invariant-survey_children-loop-i
 invariant-survey_children-loop-i g l = record {

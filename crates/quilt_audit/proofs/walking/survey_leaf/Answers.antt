@@ -1,4 +1,5 @@
 use Rattle.std.proofs.Common.{◌∷◌, ◌∙◌}
+use Rattle.quilt_node.specs.Nodes.{records_of}
 use Rattle.quilt_audit.specs.declared.surveying.Surveying.{Surveying}
 use Rattle.quilt_audit.proofs.Walked.{Spent-page, Added-page, walk_leaf, from_to}
 use Rattle.quilt_audit.proofs.walking.survey_leaf.Goals as goal
@@ -7,10 +8,10 @@ pub returns-in-Ok-feed-clause-found : goal.returns-in-Ok-feed-clause-found
 returns-in-Ok-feed-clause-found g c visited m fresh =
     let new : Surveying = record { used = c.mark.new.bits; checker = c.feed.new.checker } in
     record {
-      rs = c.in-Ok.leaf;
+      rs = records_of c.read_leaf.new.bytes;
       now = c.args.page ∷ visited;
       added = Added-page (g.S.PageStore.size c.args.store.now) visited c.args.state.now new (g.S.PageStore.reads c.args.store.now)
-          (g.S.PageStore.reads c.read_leaf.new.store) c.args.page c.in-Ok.leaf
+          (g.S.PageStore.reads c.read_leaf.new.store) c.args.page (records_of c.read_leaf.new.bytes)
           c.requires.page.0 c.requires.page.1 m fresh c.mark.ensures c.in-Ok-feed.ensures c.in-Ok.ensures.reads;
       walks =
           λ pages e. walk_leaf pages c.args.is_root (c.args.page, from_to c.args.low.now c.args.high.now) visited fresh ∙ c.in-Ok.ensures.leaf pages visited e;

@@ -16,12 +16,12 @@ returns-then-are_siblings-clause-none c form layer rs some g =
     let w = c.are_siblings.ensures.yes c.if-are_siblings.true in
     siblings_refused form c.args.level c.requires.level.0 c.requires.level.1 layer some rs s.end s.recent g c.args.leaf nothing c.requires.block w.0 w.1
 
-pub end_of-requires : goal.end_of-requires
-end_of-requires c = IsBlock-up c.args.level 12 c.args.leaf.block c.requires.level.1 c.requires.block
+pub end_from-requires-clause-block : goal.end_from-requires-clause-block
+end_from-requires-clause-block c = IsBlock-up c.args.level 12 c.args.leaf.block c.requires.level.1 c.requires.block
 
 pub returns-clause-some : goal.returns-clause-some
 returns-clause-some c form layer rs some small g =
     let s = c.args.self.now in
     leaf_taken form c.args.level c.requires.level.0 c.requires.level.1 layer some rs s.end s.recent g c.args.leaf nothing c.requires.block
     (sym c.requires.code ∙ c.if-code-self.false) small
-    c.end_of.result c.end_of.ensures.value (c.are_siblings.ensures.no c.if-are_siblings.false)
+    c.end_from.result c.end_from.ensures (c.are_siblings.ensures.no c.if-are_siblings.false)

@@ -1,16 +1,9 @@
-use Rattle.std.proofs.Common.{sym, ◌∙◌, subst}
-use Rattle.quilt_line_audit.proofs.Descents.{none_from}
+use Rattle.std.proofs.Common.{subst}
 use Rattle.quilt_audit.specs.Runs.{IsRun}
-use Rattle.quilt_audit.proofs.run.Run.take.Goals.{in-Region, in-Points}
+use Rattle.quilt_audit.proofs.Taking.{from_false, on_false}
 use Rattle.quilt_audit.proofs.run.Run.take.Goals as goal
 
-pub returns-in-None-clause-refused : goal.returns-in-None-clause-refused
-returns-in-None-clause-refused c rs kind h =
-    elim c.match-self.branch [
-      | in-Region w ↦
-          none_from w.next_leaf-next.result (sym w.next-is ∙ c.in-None.is) w.next_leaf-next.ensures.none rs kind
-          (subst (IsRun c.args.format c.args.level rs c.args.r.now.key.layer kind) w.in-Region.is h)
-      | in-Points w ↦
-          none_from w.next_point-next.result (sym w.next-is ∙ c.in-None.is) w.next_point-next.ensures.none c.args.format rs kind
-          (subst (IsRun c.args.format c.args.level rs c.args.r.now.key.layer kind) w.in-Points.is h)
-    ]
+pub returns-in-Region-clause-refused : goal.returns-in-Region-clause-refused
+returns-in-Region-clause-refused c rs kind h =
+    on_false c.take_leaf.result _ (λ f. from_false c.take_leaf.result _ f c.take_leaf.ensures.no rs kind
+    (subst (IsRun c.args.format c.args.level rs c.args.r.now.key.layer kind) c.in-Region.is h))

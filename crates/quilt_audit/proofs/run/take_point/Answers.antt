@@ -10,10 +10,10 @@ use Rattle.quilt_audit.specs.Points.{IsPointRun}
 use Rattle.quilt_audit.specs.Runs.{IsRun}
 use Rattle.quilt_audit.proofs.Runs.{by_points}
 use Rattle.quilt_audit.proofs.PointRuns.{unread_refused, point_code}
-use Rattle.quilt_audit.proofs.run.next_point.Goals as goal
+use Rattle.quilt_audit.proofs.run.take_point.Goals as goal
 
-pub returns-in_default-clause-none : goal.returns-in_default-clause-none
-returns-in_default-clause-none c form rs kind h =
+pub returns-in_default-clause-no : goal.returns-in_default-clause-no
+returns-in_default-clause-no c form rs kind h =
     let r = c.args.r.now in
     by_points form c.args.level rs r.key.layer (λ (z : Kind). Refuses form c.args.level rs r.key.layer z r) c.args.run.now
     (λ g. unread_refused form c.args.level c.requires.level.1 rs c.args.run.now.bucket r c.requires.layer.0 c.requires.layer.1
@@ -24,15 +24,15 @@ pub next-requires-clause-code : goal.next-requires-clause-code
 next-requires-clause-code c = ap (λ (q : Record). q.key.code) (c.in-Some.ensures.some.written [])
     ∙ point_code c.args.level c.args.run.now.bucket c.args.r.now.key.layer c.in-Some.block c.in-Some.held
 
-pub returns-in_default-next-clause-none : goal.returns-in_default-next-clause-none
-returns-in_default-next-clause-none c form rs kind h =
+pub returns-in_default-next-clause-no : goal.returns-in_default-next-clause-no
+returns-in_default-next-clause-no c form rs kind h =
     let r = c.args.r.now in
     by_points form c.args.level rs r.key.layer (λ (z : Kind). Refuses form c.args.level rs r.key.layer z r) c.args.run.now
     (λ g. subst (λ (q : Record). Refuses form c.args.level rs r.key.layer (kinds.Points c.args.run.now.bucket) q) (sym (c.in-Some.ensures.some.written []))
     (c.in_default-next.ensures.none form r.key.layer rs c.requires.layer.0 g)) kind h
 
-pub returns-clause-some : goal.returns-clause-some
-returns-clause-some c form rs kind h =
+pub returns-clause-yes : goal.returns-clause-yes
+returns-clause-yes c form rs kind h =
     let r = c.args.r.now in
     let next = c.in-Some-next.next in
     by_points form c.args.level rs r.key.layer (λ (z : Kind). IsRun form c.args.level (rs ++ r ∷ []) r.key.layer z (runs.Points next)) c.args.run.now

@@ -10,10 +10,10 @@ use Rattle.quilt_audit.specs.Regions.{IsGoing}
 use Rattle.quilt_audit.specs.Runs.{IsRun}
 use Rattle.quilt_audit.proofs.Runs.{by_region}
 use Rattle.quilt_audit.proofs.RegionRuns.{unread_refused}
-use Rattle.quilt_audit.proofs.run.next_leaf.Goals as goal
+use Rattle.quilt_audit.proofs.run.take_leaf.Goals as goal
 
-pub returns-in_default-clause-none : goal.returns-in_default-clause-none
-returns-in_default-clause-none c rs kind h =
+pub returns-in_default-clause-no : goal.returns-in_default-clause-no
+returns-in_default-clause-no c rs kind h =
     let r = c.args.r.now in
     by_region c.args.format c.args.level rs r.key.layer (λ (z : Kind). Refuses c.args.format c.args.level rs r.key.layer z r) c.args.run.now
     (λ g. unread_refused c.args.format c.args.level c.requires.level.1 rs r c.requires.layer.0 c.requires.layer.1
@@ -23,15 +23,15 @@ returns-in_default-clause-none c rs kind h =
 pub next-requires-clause-code : goal.next-requires-clause-code
 next-requires-clause-code c = ap (λ (q : Record). q.key.code) (c.in-Some.ensures.some.written [])
 
-pub returns-in_default-next-clause-none : goal.returns-in_default-next-clause-none
-returns-in_default-next-clause-none c rs kind h =
+pub returns-in_default-next-clause-no : goal.returns-in_default-next-clause-no
+returns-in_default-next-clause-no c rs kind h =
     let r = c.args.r.now in
     by_region c.args.format c.args.level rs r.key.layer (λ (z : Kind). Refuses c.args.format c.args.level rs r.key.layer z r) c.args.run.now
     (λ g. subst (λ (q : Record). Refuses c.args.format c.args.level rs r.key.layer kinds.Region q) (sym (c.in-Some.ensures.some.written []))
     (c.in_default-next.ensures.none c.args.format r.key.layer rs c.requires.layer.0 g)) kind h
 
-pub returns-clause-some : goal.returns-clause-some
-returns-clause-some c rs kind h =
+pub returns-clause-yes : goal.returns-clause-yes
+returns-clause-yes c rs kind h =
     let r = c.args.r.now in
     let next = c.in-Some-next.next in
     by_region c.args.format c.args.level rs r.key.layer
