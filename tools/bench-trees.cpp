@@ -1,13 +1,18 @@
 // The floor that docs/PERFORMANCE.md compares single calls with: an in-place B-tree over pages of the file's form, quadtrees
 // of nodes, and one pass over the pages. It takes the arguments of crates/quilt_bench, draws the same numbers, and prints the
-// same lines, but for `audit`. Build: c++ -O2 -std=c++20 -g -o bench-trees tools/bench-trees.cpp
+// same lines, but for `audit`. `form-of-file FILE` reads the pages of a map file's tree from the file and checks their form, ten
+// times, and prints the least times. Build: c++ -O2 -std=c++20 -g -o bench-trees tools/bench-trees.cpp
 #include <algorithm>
 #include <cstdint>
 #include <cstdio>
 #include <cstdlib>
 #include <cstring>
+#include <ctime>
+#include <fcntl.h>
 #include <memory>
 #include <string>
+#include <sys/stat.h>
+#include <unistd.h>
 #include <vector>
 
 using u8 = uint8_t;
@@ -348,14 +353,15 @@ struct Tree {
             if (number_in(keys + width * (i - 1)) >= number_in(keys + width * i)) return false;
         return true;
     }
-    bool is_sound(Page &p) {
+    // Whether the page is well formed in a file of `size` home pages.
+    static bool is_sound(Page &p, u32 size) {
         int n = p.count();
         if (p.bytes[0] == 1)
             return p.bytes[1] == 1 && n >= 1 && n <= MOST_RECORDS && is_clear(p.bytes + 4, p.bytes + 64)
                 && is_clear(p.record(n), p.bytes + 4096) && rises(p.record(0), RECORD, n);
         if (p.bytes[0] != 2 || (p.bytes[1] != 2 && p.bytes[1] != 3) || n < 2 || n > MOST_CHILDREN) return false;
         for (int i = 0; i < n; ++i)
-            if (p.child(i) < 1 || p.child(i) >= pages.size()) return false;
+            if (p.child(i) < 1 || p.child(i) >= size) return false;
         return is_clear(p.bytes + 4, p.bytes + 8) && is_clear(p.child_at(n), p.bytes + 1024)
             && is_clear(p.key(n - 1), p.bytes + 4096) && rises(p.key(0), KEY, n - 1);
     }
@@ -367,11 +373,63 @@ struct Tree {
         for (u32 page = 1; page < pages.size(); ++page) {
             if (is_free[page]) continue;
             Page copy = pages[page];
-            count += is_sound(copy);
+            count += is_sound(copy, u32(pages.size()));
         }
         return count;
     }
 };
+
+// ---- a map file
+
+struct Times {
+    double processor, elapsed;
+};
+static double milliseconds(clockid_t clock) {
+    timespec now;
+    clock_gettime(clock, &now);
+    return double(now.tv_sec) * 1e3 + double(now.tv_nsec) / 1e6;
+}
+
+struct MapFile {
+    int file;
+    u32 size;
+    u64 sound = 0;
+    // Reads a home page, which stands behind the label, the gate and the directory.
+    bool read(u32 page, Page &into) const { return pread(file, into.bytes, 4096, off_t(3 + page) * 4096) == 4096; }
+    void visit(u32 page, int height) {
+        Page p;
+        if (!read(page, p) || !Tree::is_sound(p, size)) return;
+        ++sound;
+        if (height == 1) return;
+        for (int i = 0; i < p.count(); ++i) visit(p.child(i), height - 1);
+    }
+};
+// How many pages of the tree of a map file are well formed. The file's gate is closed, so that its home pages count.
+static u64 sound_pages(const char *path) {
+    MapFile map{open(path, O_RDONLY), 0};
+    struct stat told;
+    if (map.file < 0 || fstat(map.file, &told) != 0) exit(1);
+    map.size = u32(told.st_size / 4096 - 3) / 2;
+    Page head;
+    if (!map.read(0, head) || memcmp(head.bytes, "QHDR", 4) != 0) exit(1);
+    u32 root;
+    memcpy(&root, head.bytes + 16, 4);
+    int height = head.bytes[13];
+    if (height > 0) map.visit(__builtin_bswap32(root), height);
+    close(map.file);
+    return map.sound;
+}
+static void print_form_of_file(const char *path) {
+    Times least{1e9, 1e9};
+    u64 sound = 0;
+    for (int i = 0; i < 10; ++i) {
+        double processor = milliseconds(CLOCK_PROCESS_CPUTIME_ID), elapsed = milliseconds(CLOCK_MONOTONIC);
+        sound = sound_pages(path);
+        least.processor = std::min(least.processor, milliseconds(CLOCK_PROCESS_CPUTIME_ID) - processor);
+        least.elapsed = std::min(least.elapsed, milliseconds(CLOCK_MONOTONIC) - elapsed);
+    }
+    printf("form-of-file %llu pages, processor %.2f ms, elapsed %.2f ms\n", (unsigned long long)sound, least.processor, least.elapsed);
+}
 
 // ---- quadtrees
 
@@ -561,6 +619,7 @@ static u64 measured(const std::string &word, u32 records, int level, u32 calls) 
 int main(int count, char **args) {
     auto number = [&](int i, u32 otherwise) { return i < count ? u32(atol(args[i])) : otherwise; };
     std::string wanted = count > 1 ? args[1] : "all";
+    if (wanted == "form-of-file" && count > 2) print_form_of_file(args[2]);
     for (std::string word : {"fill", "drain", "get", "floor", "rect", "replace", "form"})
         if (wanted == "all" || wanted == word)
             printf("%s %llu\n", word.c_str(), (unsigned long long)measured(word, number(2, 20000), int(number(3, 6)), number(4, 10)));
