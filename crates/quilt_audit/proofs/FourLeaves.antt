@@ -69,8 +69,9 @@ siblings_small n a b c d w s e =
 pub siblings_alike : (n : ℕ) (a b c d : Leaf) (w : Block × ℕ) → AreSiblings n (a ∷ b ∷ c ∷ d ∷ []) w
     → (c.colour.0 ≡ d.colour.0) × (c.block.side ≡ d.block.side)
 siblings_alike n a b c d w s =
-    let third : pair_of c ≡ get_or (map (λ q. (q, w.1)) (quarters_of w.0)) 2 (pair_of c) = ap (λ (l : List (Block × ℕ)). get_or l 2 (pair_of c)) s.quarters in
-    let fourth : pair_of d ≡ get_or (map (λ q. (q, w.1)) (quarters_of w.0)) 3 (pair_of c) = ap (λ (l : List (Block × ℕ)). get_or l 3 (pair_of c)) s.quarters in (
+    let all : List (Block × ℕ) = map (λ q. (q, w.1)) (quarters_of w.0) in
+    let third : pair_of c ≡ get_or all 2 (pair_of c) = ap (λ (l : List (Block × ℕ)). get_or l 2 (pair_of c)) s.quarters in
+    let fourth : pair_of d ≡ get_or all 3 (pair_of c) = ap (λ (l : List (Block × ℕ)). get_or l 3 (pair_of c)) s.quarters in (
       ap (λ (x : Block × ℕ). x.1) third ∙ sym (ap (λ (x : Block × ℕ). x.1) fourth),
       ap (λ (x : Block × ℕ). x.0.side) third ∙ sym (ap (λ (x : Block × ℕ). x.0.side) fourth),
     )

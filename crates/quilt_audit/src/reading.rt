@@ -1,5 +1,5 @@
-ghost use Rattle.std.specs.Prelude.{◌≡◌, ℕ, ◌+◌, ◌<◌, ◌≤◌, ◌&&◌, ◌||◌, nat_le, true, false, List, [], ◌∷◌, length, Some, is_some, IfOk, IfErr, IfSome, IfNone, OnOk};
-ghost use Rattle.std.specs.Prelude.{slice_index_or};
+ghost use Rattle.std.specs.Prelude.{◌≡◌, ℕ, ◌+◌, ◌<◌, ◌≤◌, ◌&&◌, ◌||◌, nat_le, true, false, List, [], ◌∷◌, length, Some, is_some, IfOk};
+ghost use Rattle.std.specs.Prelude.{IfErr, IfSome, IfNone, OnOk, slice_index_or};
 ghost use Rattle.quilt_node.specs.Nodes.{are_pages, keys_of, records_of};
 ghost use Rattle.quilt_node.specs.Pages as spec;
 ghost use Rattle.quilt_node.specs.Tree.{Bounds, Walk, Whole, Damaged, are_within, bounded, each_child, leaf_walk, inner_walk, is_above as is_above_of};
