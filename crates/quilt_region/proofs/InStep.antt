@@ -1,5 +1,5 @@
 -- Two walks in step: which leaves are in one list alone.
-use Rattle.std.proofs.Common.{◌≡◌, ℕ, ◌+◌, ◌*◌, ◌^◌, ◌<◌, ◌≤◌, Bool, true, false, not, List, [], ◌∷◌, ◌++◌, map, filter, Contains, ◌⊎◌, ◌↔◌, Option}
+use Rattle.std.proofs.Common.{◌≡◌, ℕ, ◌+◌, ◌*◌, ◌^◌, ◌<◌, ◌≤◌, Bool, true, false, not, List, [], ◌∷◌, ◌++◌, map, filter, Contains, ◌↔◌, Option}
 use Rattle.std.proofs.Common.{Some, None, IfSome, IsNone, refl, sym, ◌∙◌, ap, subst, ⊎_elim, arith, eqb, eqb-true, eq-eqb, ◌&&◌, append-nil}
 use Rattle.std.specs.Option.{option_zip, is_some}
 use Rattle.quilt_types.specs.declared.plane.Block.{Block}
