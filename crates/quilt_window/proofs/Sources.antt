@@ -1,6 +1,6 @@
 -- Where the pixels of a copy take their colours.
-use Rattle.std.proofs.Common.{◌≡◌, ℕ, ◌+◌, ◌-◌, ◌*◌, ◌/◌, ◌%◌, ◌<◌, ◌≤◌, Bool, true, false, ◌&&◌, nat_le, nat_lt, Some, None, cond, refl, sym, ◌∙◌, ap, ap₂, subst, List, get_or}
-use Rattle.std.proofs.Common.{⊎_elim, pow_pos, arith, le-leb, lt-ltb, leb-true}
+use Rattle.std.proofs.Common.{◌≡◌, ℕ, ◌+◌, ◌-◌, ◌*◌, ◌/◌, ◌%◌, ◌<◌, ◌≤◌, Bool, true, false, ◌&&◌, nat_le, nat_lt, Some, None, cond, refl, ◌∙◌, ap, ap₂, subst}
+use Rattle.std.proofs.Common.{sym, List, get_or, ⊎_elim, pow_pos, arith, le-leb, lt-ltb, leb-true}
 use Rattle.std.proofs.lemmas.Bool.{and_parts, and_from, cond-true}
 use Rattle.quilt_types.specs.declared.plane.Pixel.{Pixel}
 use Rattle.quilt_types.specs.declared.plane.Window.{Window}

@@ -28,7 +28,8 @@ copy_block-requires t c =
     (c.in_default.ensures.none refl) c.quarters-q-items.ensures.value c.loop-q-test.true in
     let smaller = q.smaller in
     let level = c.loop-q.invariant.added.level ∙ c.requires.level in
-    (omega arith, (c.requires.least, (c.requires.most, (q.block, (c.requires.across, (c.requires.down, (level, (q.from ∙ sym c.loop-q.invariant.added.long, c.loop-q.invariant.room))))))))
+    let next = q.from ∙ sym c.loop-q.invariant.added.long in
+    (omega arith, (c.requires.least, (c.requires.most, (q.block, (c.requires.across, (c.requires.down, (level, (next, c.loop-q.invariant.room))))))))
 
 pub loop-q-preserved : goal.loop-q-preserved
 loop-q-preserved t c =
