@@ -1,4 +1,5 @@
-use Rattle.std.proofs.Common.{refl, sym}
+use Rattle.std.proofs.Common.{refl, sym, ◌∙◌}
+use Rattle.std.proofs.lemmas.Bool.{false≢true}
 use Rattle.quilt_btree.specs.Runs.{put_all, without_all}
 use Rattle.quilt_edition.specs.Books.{work_of}
 use Rattle.quilt_map.specs.Sessions.{told_of, free_of}
@@ -41,3 +42,26 @@ returns-clause-edited g c = λ rs whole.
     (record (work_of d) { root = c.insert_all.new.self.root; height = c.insert_all.new.self.height; records = c.insert_all.new.self.records })
     e.work (put_all c.args.added.now left)
     c.set_tree.ensures.told c.set_tree.ensures.free (sym size) c.set_tree.ensures.work come
+
+pub returns-in-Err-clause-sound : goal.returns-in-Err-clause-sound
+returns-in-Err-clause-sound g c = λ rs whole there none page is.
+    let a = c.args.book.now in
+    let before = whole_as (told_of a) (told_of a) (free_of a) (free_of a) a.journal.pages a.journal.pages a.work c.head-head.result rs refl refl refl
+    c.head-head.ensures.work whole in
+    false≢true (sym (c.in-Err.ensures.missing rs before page is).1 ∙ there)
+
+pub returns-in-Err-insert_all-clause-sound : goal.returns-in-Err-insert_all-clause-sound
+returns-in-Err-insert_all-clause-sound g c = λ rs whole there none page is.
+    let a = c.args.book.now in
+    let b = c.remove_all.new.store in
+    let d = c.insert_all.new.store in
+    let size = c.remove_all.ensures.size in
+    let before = whole_as (told_of a) (told_of a) (free_of a) (free_of a) a.journal.pages a.journal.pages a.work c.head-head.result rs refl refl refl
+    c.head-head.ensures.work whole in
+    let gone = (c.in-Ok.ensures.removed rs before).1 in
+    let left = without_all c.args.keys.now rs in
+    let begun = whole_as (told_of b) (told_of b) (free_of b) (free_of b) a.journal.pages b.journal.pages
+    (record (work_of d) { root = c.remove_all.new.self.root; height = c.remove_all.new.self.height; records = c.remove_all.new.self.records })
+    (record (work_of d) { root = c.remove_all.new.self.root; height = c.remove_all.new.self.height; records = c.remove_all.new.self.records })
+    left refl refl size refl gone in
+    false≢true (sym none ∙ (c.in-Err-insert_all.ensures.there left begun page is).1)
