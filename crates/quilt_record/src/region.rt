@@ -1,4 +1,4 @@
-ghost use Rattle.std.specs.Prelude.{◌≡◌, ℕ, ◌<◌, ◌≤◌, ◌/◌, ◌%◌, [], ◌∷◌, Some, IfSome};
+ghost use Rattle.std.specs.Prelude.{◌≡◌, ℕ, ◌<◌, ◌≤◌, ◌/◌, ◌%◌, [], ◌∷◌, true, Some, IfSome};
 ghost use Rattle.quilt_types.specs.declared.plane.Block.{Block as AnyBlock};
 ghost use Rattle.quilt_types.specs.declared.plane.Colour.{Colour as AnyColour};
 ghost use Rattle.quilt_types.specs.Plane.{IsBlock};
@@ -8,8 +8,8 @@ ghost use Rattle.quilt_record.specs.Canonical.{IsRecordOf};
 ghost use Rattle.quilt_record.specs.Records.{filled};
 ghost use Rattle.quilt_record.specs.Values.{colour_of};
 
-use crate::block::{block_key, is_same, named};
-use crate::{Key, Record};
+use crate::Record;
+use crate::block::{block_key, named};
 use quilt_types::{Block, Colour};
 
 /// The record of a block of one colour of a region layer, with the colour's low byte first.
@@ -34,18 +34,12 @@ fn value_of(c: Colour) -> [u8; 16]
     value
 }
 
-/// The record with this key and this value, but of a region layer's part and with the item 0.
-fn record_with(k: &Key, value: [u8; 16]) -> Record
-    ensures { result ≡ record { key = record k.now { part = 1; item = 0 }; value = value } }
+/// Whether the record is of a region layer's part, with the item 0 and the value of this colour.
+fn is_of_colour(r: &Record, c: Colour) -> bool
+    ensures yes { result ≡ true → r.now ≡ record { key = record r.now.key { part = 1; item = 0 }; value = filled 16 (c.0 % 256 ∷ c.0 / 256 ∷ []) } }
+    ensures no { r.now ≡ record { key = record r.now.key { part = 1; item = 0 }; value = filled 16 (c.0 % 256 ∷ c.0 / 256 ∷ []) } → result ≡ true }
 {
-    Record {
-        key: Key {
-            part: 1,
-            item: 0,
-            ..*k
-        },
-        value,
-    }
+    r.key.part == 1 && r.key.item == 0 && r.value == value_of(c)
 }
 
 /// The colour that the value of a record says.
@@ -71,7 +65,7 @@ pub fn read_region(r: &Record, level: u8, format: u8) -> Option<(Block, Colour)>
     if format == 1 && 255 < c.0 {
         return None;
     }
-    if !is_same(&record_with(&r.key, value_of(c)), r) {
+    if !is_of_colour(r, c) {
         return None;
     }
     Some((b, c))
