@@ -93,7 +93,8 @@ impl Buckets {
         requires most { level ≤ 12 }
         requires shift { shift ≤ level }
         requires ends { All (λ e. is_in_square level e.1 ≡ true) list.now }
-        ensures { IfOk result (λ b. AreFilled (2 ^ b.shift) b.columns b.lists.items list.now) }
+        ensures filled { IfOk result (λ b. AreFilled (2 ^ b.shift) b.columns b.lists.items list.now) }
+        ensures shift { IfOk result (λ b. b.shift ≡ shift) }
     {
         let columns = columns_of(level, shift);
         let mut buckets = Buckets {

@@ -6,7 +6,7 @@ use Rattle.quilt_join.proofs.joining.crossings.Goals as goal
 pub returns-then-branch-clause-pairs : goal.returns-then-branch-clause-pairs
 returns-then-branch-clause-pairs g c =
     let b = c.args.b.now in
-    let more = c.in_ok-are_more.ensures b (record { filled = c.in_ok-buckets.ensures; rising = c.requires.second_ids }) in
+    let more = c.in_ok-are_more.ensures b (record { filled = c.in_ok-buckets.ensures.filled; rising = c.requires.second_ids }) in
     are_many (sum (map (λ e. length (ids_sharing e.1 b)) c.args.a.now)) _ (rows_counted c.args.a.now b) (sym more ∙ c.if-branch.true)
 
 pub returns-then-branch-clause-maps : goal.returns-then-branch-clause-maps
@@ -16,8 +16,8 @@ returns-then-branch-clause-maps g c l m e f =
 pub returns-clause-pairs : goal.returns-clause-pairs
 returns-clause-pairs g c =
     let b = c.args.b.now in
-    let more = c.in_ok-are_more.ensures b (record { filled = c.in_ok-buckets.ensures; rising = c.requires.second_ids }) in
-    let rows = c.in_ok-rows.ensures b (record { filled = c.in_ok-buckets.ensures; rising = c.requires.second_ids }) in (
+    let more = c.in_ok-are_more.ensures b (record { filled = c.in_ok-buckets.ensures.filled; rising = c.requires.second_ids }) in
+    let rows = c.in_ok-rows.ensures b (record { filled = c.in_ok-buckets.ensures.filled; rising = c.requires.second_ids }) in (
       c.in_ok-joined.ensures ∙ ap (flat_map (λ (row : List (ℕ × ℕ)). row)) (c.deref.ensures.value ∙ rows) ∙ rows_joined c.args.a.now b,
       are_few (sum (map (λ e. length (ids_sharing e.1 b)) c.args.a.now)) _
           (rows_counted c.args.a.now b) (sym more ∙ c.if-branch.false),
