@@ -1,5 +1,5 @@
-use crate::comparing::{compare, list_of};
-use quilt_overlay::{Op, overlay, recolour};
+use crate::comparing::{compare, compare_overlay, list_of, recolour_of};
+use quilt_overlay::Op;
 use quilt_plain::{Dice, drawn, drawn_pairs, plain_overlay, plain_recolour};
 use std::test::Fail;
 
@@ -12,12 +12,9 @@ fn overlays_of_drawn_maps(rt: HostRuntime) -> Result<(), Fail> {
         let side = 1_u32 << level;
         let first = drawn(rt.alloc(), &mut dice, side)?;
         let second = drawn(rt.alloc(), &mut dice, side)?;
-        let a = list_of(&rt, rt.alloc(), level, &first)?;
-        let b = list_of(&rt, rt.alloc(), level, &second)?;
         for op in [Op::Union, Op::Inter, Op::Diff] {
-            let list = overlay(rt.alloc(), op, &a, &b)?;
             let wanted = plain_overlay(rt.alloc(), op, &first, &second)?;
-            compare(&rt, rt.alloc(), &list, level, &wanted)?;
+            compare_overlay(rt.alloc(), op, level, (&first, &second), &wanted)?;
         }
     }
     Ok(())
@@ -32,10 +29,10 @@ fn other_colours_of_drawn_maps(rt: HostRuntime) -> Result<(), Fail> {
         let side = 1_u32 << level;
         let colours = drawn(rt.alloc(), &mut dice, side)?;
         let pairs = drawn_pairs(rt.alloc(), &mut dice)?;
-        let a = list_of(&rt, rt.alloc(), level, &colours)?;
-        let list = recolour(rt.alloc(), &a, &pairs)?;
+        let a = list_of(rt.alloc(), level, &colours)?;
+        let list = recolour_of(rt.alloc(), &a, &pairs)?;
         let wanted = plain_recolour(rt.alloc(), &colours, &pairs)?;
-        compare(&rt, rt.alloc(), &list, level, &wanted)?;
+        compare(rt.alloc(), &list, level, &wanted)?;
     }
     Ok(())
 }
