@@ -21,6 +21,14 @@ fn check_shift(alloc: Global, level: u8, colours: &[u16], dx: i32, dy: i32) -> R
     compare(alloc, &list, level, &wanted)
 }
 
+/// Takes the pixels within a distance of the map of these colours, and compares.
+fn check_buffer(alloc: Global, level: u8, colours: &[u16], r: u16) -> Result<(), Fail> {
+    let side = 1_u32 << level.min(12);
+    let list = buffer_of(alloc, &list_of(alloc, level, colours)?, r)?;
+    let wanted = plain_buffer(alloc, colours, side, u32::from(r))?;
+    compare(alloc, &list, level, &wanted)
+}
+
 /// 200 maps of levels 1 to 5, each cut to a window.
 #[test]
 fn windows_of_drawn_maps(rt: HostRuntime) -> Result<(), Fail> {
@@ -78,10 +86,7 @@ fn buffers_of_drawn_maps(rt: HostRuntime) -> Result<(), Fail> {
             1..5 => few as u16,
             _ => dice.below(side + 2) as u16,
         };
-        let a = list_of(rt.alloc(), level, &colours)?;
-        let list = buffer_of(rt.alloc(), &a, r)?;
-        let wanted = plain_buffer(rt.alloc(), &colours, side, u32::from(r))?;
-        compare(rt.alloc(), &list, level, &wanted)?;
+        check_buffer(rt.alloc(), level, &colours, r)?;
     }
     Ok(())
 }
