@@ -129,6 +129,15 @@ fn drawn(seed: u32) -> (Seg, Window) {
     (s, w)
 }
 
+/// Whether the clipper's answer is that of all fractions tried.
+fn is_clipped_as_tried(s: Seg, w: Window) -> bool {
+    let want = match tried(s, w) {
+        Some((first, last)) => Some((wide(first), wide(last))),
+        None => None,
+    };
+    clipped(s, w) == want
+}
+
 #[test]
 fn clips_as_each_fraction_tried(rt: HostRuntime) {
     let mut seed = 7;
@@ -136,9 +145,19 @@ fn clips_as_each_fraction_tried(rt: HostRuntime) {
         seed = next(next(seed));
         let (s, w) = drawn(seed);
         let s = shaped(turn, s, w);
-        let want = tried(s, w).map(|ends| (wide(ends.0), wide(ends.1)));
-        assert_eq!(rt; clipped(s, w), want, "{s:?} in {w:?}");
+        assert!(rt; is_clipped_as_tried(s, w), "{s:?} in {w:?}");
     }
+}
+
+/// Whether the segment is said to meet the square block at the window's corner where one of all fractions tried does.
+fn meets_as_tried(s: Seg, w: Window) -> bool {
+    let b = Block {
+        x: w.x,
+        y: w.y,
+        side: w.w,
+    };
+    let square = Window { h: w.w, ..w };
+    meets(s, b) == tried(s, square).is_some()
 }
 
 #[test]
@@ -148,19 +167,33 @@ fn meets_as_each_fraction_tried(rt: HostRuntime) {
         seed = next(next(seed));
         let (s, w) = drawn(seed);
         let s = shaped(turn, s, w);
-        let b = Block {
-            x: w.x,
-            y: w.y,
-            side: w.w,
-        };
-        let square = Window {
-            x: b.x,
-            y: b.y,
-            w: b.side,
-            h: b.side,
-        };
-        assert_eq!(rt; meets(s, b), tried(s, square).is_some(), "{s:?} in {b:?}");
+        assert!(rt; meets_as_tried(s, w), "{s:?} in {w:?}");
     }
+}
+
+/// Whether the segment meets the block of one pixel.
+fn meets_pixel(s: Seg, x: u16, y: u16) -> bool {
+    meets(s, Block { x, y, side: 1 })
+}
+
+/// The fraction of these parts. A denominator of 0 is taken as 1.
+fn fraction(num: u64, den: u64) -> Frac {
+    Frac::of(num, den.max(1))
+}
+
+/// Both parts of a fraction in lowest terms.
+fn lowest(num: u64, den: u64) -> (u64, u64) {
+    pair_of(fraction(num, den))
+}
+
+/// Which of two fractions is the greater.
+fn order(first: (u64, u64), second: (u64, u64)) -> Ordering {
+    cmp(fraction(first.0, first.1), fraction(second.0, second.1))
+}
+
+/// The window of one pixel.
+fn pixel(x: u16, y: u16) -> Window {
+    Window { x, y, w: 1, h: 1 }
 }
 
 #[test]
@@ -171,36 +204,12 @@ fn clips_and_compares_by_hand(rt: HostRuntime) {
         x2: 3,
         y2: 1,
     };
-    let near = Window {
-        x: 1,
-        y: 0,
-        w: 1,
-        h: 1,
-    };
-    let far = Window {
-        x: 5,
-        y: 5,
-        w: 1,
-        h: 1,
-    };
-    assert_eq!(rt; clipped(s, near), Some(((1, 3), (2, 3))));
-    assert_eq!(rt; clipped(s, far), None);
-    assert!(rt;
-        meets(
-            s,
-            Block {
-                x: 1,
-                y: 0,
-                side: 1
-            }
-        )
-    );
-    assert_eq!(rt; pair_of(Frac::of(6, 4)), (3, 2));
-    assert_eq!(rt; pair_of(Frac::of(0, 7)), (0, 1));
-    assert_eq!(rt; cmp(Frac::of(2, 5), Frac::of(1, 2)), Ordering::Less);
-    assert_eq!(rt; cmp(Frac::of(2, 4), Frac::of(1, 2)), Ordering::Equal);
-    assert_eq!(rt;
-        cmp(Frac::of(u64::MAX, 1), Frac::of(1, u64::MAX)),
-        Ordering::Greater
-    );
+    assert_eq!(rt; clipped(s, pixel(1, 0)), Some(((1, 3), (2, 3))));
+    assert_eq!(rt; clipped(s, pixel(5, 5)), None);
+    assert!(rt; meets_pixel(s, 1, 0));
+    assert_eq!(rt; lowest(6, 4), (3, 2));
+    assert_eq!(rt; lowest(0, 7), (0, 1));
+    assert_eq!(rt; order((2, 5), (1, 2)), Ordering::Less);
+    assert_eq!(rt; order((2, 4), (1, 2)), Ordering::Equal);
+    assert_eq!(rt; order((u64::MAX, 1), (1, u64::MAX)), Ordering::Greater);
 }

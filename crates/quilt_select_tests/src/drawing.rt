@@ -1,4 +1,4 @@
-ghost use Rattle.std.specs.Prelude.{◌≡◌, ◌≤◌, ◌<◌, true, All};
+ghost use Rattle.std.specs.Prelude.{◌≡◌, ◌≤◌, true, All};
 ghost use Rattle.std.specs.Bool.{OnTrue};
 ghost use Rattle.quilt_types.specs.Layers.{is_in_square};
 ghost use Rattle.quilt_types.specs.Plane.{is_window as is_window_of};
@@ -6,6 +6,7 @@ ghost use Rattle.quilt_types.specs.Plane.{is_window as is_window_of};
 use quilt_near::{Even, SegList};
 use quilt_types::{Pixel, Seg, Window};
 use std::alloc::{AllocError, Global};
+use std::test::Fail;
 
 /// The next of a row of numbers that look drawn by lot.
 pub fn next(state: u64) -> u64 {
@@ -78,31 +79,56 @@ fn drawn_segs(alloc: Global, level: u8, seed: u64) -> Result<SegList, AllocError
 }
 
 /// A power of 2 up to 256.
-fn drawn_side(state: u64) -> u16
-    ensures { 1 ≤ result }
-{
+fn drawn_side(state: u64) -> u16 {
     (1_u16 << (state % 9)).max(1)
 }
 
-/// Up to 15 drawn segments over blocks of a drawn side.
-pub fn drawn_layer(alloc: Global, level: u8, seed: u64) -> Result<Option<Even>, AllocError>
-    requires least { 1 ≤ level }
-    requires most { level ≤ 8 }
-{
+/// The segments over blocks of this side, or none where the level, the side or a segment does not fit.
+fn layer_of(level: u8, side: u16, segs: SegList) -> Option<Even> {
+    if level == 0 || level > 12 || side == 0 {
+        return None;
+    }
+    if are_in_square(level, segs.items()) {
+        Some(Even { level, side, segs })
+    } else {
+        None
+    }
+}
+
+/// Up to 15 drawn segments over blocks of a drawn side. The level is 8 at most.
+pub fn drawn_layer(alloc: Global, level: u8, seed: u64) -> Result<Even, Fail> {
+    if level > 8 {
+        return Err(Fail::from("a level"));
+    }
     let segs = drawn_segs(alloc, level, seed)?;
     let side = drawn_side(next(next(seed)));
-    if are_in_square(level, segs.items()) {
-        Ok(Some(Even { level, side, segs }))
-    } else {
-        Ok(None)
+    let layer = layer_of(level, side, segs).ok_or("a layer")?;
+    Ok(layer)
+}
+
+/// These segments of the square of level 3, over blocks of one side.
+pub fn small_layer(alloc: Global, side: u16, segs: &[(u32, Seg)]) -> Result<Even, Fail> {
+    let mut list = SegList::new(alloc);
+    for (id, s) in segs {
+        list.push(*id, *s)?;
+    }
+    let layer = layer_of(3, side, list).ok_or("a layer")?;
+    Ok(layer)
+}
+
+/// The segment from one pixel to another.
+pub fn between(first: (u16, u16), last: (u16, u16)) -> Seg {
+    Seg {
+        x1: first.0,
+        y1: first.1,
+        x2: last.0,
+        y2: last.1,
     }
 }
 
 /// A pixel of the level.
 pub fn drawn_pixel(state: u64, level: u8) -> Pixel
     requires { level ≤ 8 }
-    ensures x { result.x < 8192 }
-    ensures y { result.y < 8192 }
 {
     Pixel {
         x: coordinate(state, 0, level).min(8191),

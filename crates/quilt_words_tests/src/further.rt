@@ -223,12 +223,16 @@ fn missing(alloc: Global, text: &[u8]) -> Result<&'static str, Fail> {
 
 #[test]
 fn holds_none_where_a_line_is_missing(rt: HostRuntime) -> Result<(), Fail> {
-    let alloc = rt.alloc();
-    assert_eq!(rt; missing(alloc, b"raster a\n0001\n02")?, "rows");
-    assert_eq!(rt; missing(alloc, b"raster a\n0001\n")?, "rows");
-    assert_eq!(rt; missing(alloc, b"scatter p 2\n1 2 3\n")?, "points");
-    assert_eq!(rt; missing(alloc, b"polygon a 2 1\n1 2 3 4\n")?, "rings");
-    assert_eq!(rt; missing(alloc, b"polygon a 2 2\n1 2 3 4 5 6\n")?, "rings");
+    let cases: [(&[u8], &str); 5] = [
+        (b"raster a\n0001\n02", "rows"),
+        (b"raster a\n0001\n", "rows"),
+        (b"scatter p 2\n1 2 3\n", "points"),
+        (b"polygon a 2 1\n1 2 3 4\n", "rings"),
+        (b"polygon a 2 2\n1 2 3 4 5 6\n", "rings"),
+    ];
+    for (text, kind) in cases {
+        assert_eq!(rt; missing(rt.alloc(), text)?, kind);
+    }
     Ok(())
 }
 
@@ -242,29 +246,32 @@ fn awaits_the_last_newline(rt: HostRuntime) -> Result<(), Fail> {
     Ok(())
 }
 
-/// The items of this line and of four lines behind it.
-fn items_before_four(alloc: Global, line: &[u8]) -> Result<Vec<Item>, Fail> {
+/// What the first item of this line and of four lines behind it asks for, and how many items there are.
+fn asked_before_four(alloc: Global, line: &[u8]) -> Result<(&'static str, usize), Fail> {
     let items = items_in(alloc, LEVEL, 1, &[line, b"\nw\nx\ny\nz\n"])?;
-    Ok(items)
+    let kind = match items.first() {
+        Some(Item::Rows(..)) => "rows",
+        Some(Item::PointLines(..)) => "points",
+        Some(Item::RingLines(..)) => "rings",
+        Some(Item::Line(_)) => "nothing",
+        _ => "no line",
+    };
+    Ok((kind, items.len()))
 }
 
 #[test]
 fn asks_by_words(rt: HostRuntime) -> Result<(), Fail> {
-    let alloc = rt.alloc();
-    let rows = items_before_four(alloc, b"raster a")?;
-    assert!(rt; matches!(rows.first(), Some(Item::Rows(..))));
-    assert_eq!(rt; rows.len(), 3);
-    let points = items_before_four(alloc, b"scatter p 3")?;
-    assert!(rt; matches!(points.first(), Some(Item::PointLines(..))));
-    assert_eq!(rt; points.len(), 2);
-    let none = items_before_four(alloc, b"scatter p 0")?;
-    assert!(rt; matches!(none.first(), Some(Item::Line(_))));
-    assert_eq!(rt; none.len(), 5);
-    let rings = items_before_four(alloc, b"polygon a 1 2")?;
-    assert!(rt; matches!(rings.first(), Some(Item::RingLines(..))));
-    assert_eq!(rt; rings.len(), 3);
-    let few = items_before_four(alloc, b"polygon a 2")?;
-    assert!(rt; matches!(few.first(), Some(Item::Line(_))));
-    assert_eq!(rt; few.len(), 5);
+    let cases: [(&[u8], &str, usize); 5] = [
+        (b"raster a", "rows", 3),
+        (b"scatter p 3", "points", 2),
+        (b"scatter p 0", "nothing", 5),
+        (b"polygon a 1 2", "rings", 3),
+        (b"polygon a 2", "nothing", 5),
+    ];
+    for (line, kind, count) in cases {
+        let (asked, items) = asked_before_four(rt.alloc(), line)?;
+        assert_eq!(rt; asked, kind);
+        assert_eq!(rt; items, count);
+    }
     Ok(())
 }

@@ -14,9 +14,18 @@ fn refused(alloc: Global, text: &[u8]) -> Result<Option<Code>, Fail> {
     }
 }
 
+/// The place of the first text that is refused otherwise than by its code, or none.
+fn first_other(alloc: Global, texts: &[(&[u8], Option<Code>)]) -> Result<Option<usize>, Fail> {
+    for (i, (text, code)) in texts.iter().enumerate() {
+        if refused(alloc, text)? != *code {
+            return Ok(Some(i));
+        }
+    }
+    Ok(None)
+}
+
 #[test]
 fn refuses_by_form(rt: HostRuntime) -> Result<(), Fail> {
-    let alloc = rt.alloc();
     let texts: [(&[u8], Option<Code>); 13] = [
         (b"set nosuch 99 x 1\n", Some(Code::Number)),
         (b"set nosuch 99 0 1\n", None),
@@ -32,26 +41,45 @@ fn refuses_by_form(rt: HostRuntime) -> Result<(), Fail> {
         (b"region\ta 0\n", Some(Code::Bytes)),
         (b"  edition", None),
     ];
-    for (i, (text, code)) in texts.iter().enumerate() {
-        assert_eq!(rt; refused(alloc, text)?, *code, "text {i}");
-    }
+    assert_eq!(rt; first_other(rt.alloc(), &texts)?, None);
     Ok(())
+}
+
+/// A line of 8,321 bytes, lines that ask for nothing, and a call.
+fn long_text(alloc: Global) -> Result<Vec<u8>, Fail> {
+    let mut long = vec![in alloc; b'x'; 8321]?;
+    long.extend_from_slice(b"\n# a remark\n\nshow a 1 2 3 4")?;
+    Ok(long)
+}
+
+/// The items of a text that comes byte by byte.
+fn items_by_bytes(alloc: Global, text: &[u8]) -> Result<Vec<Item>, Fail> {
+    let pieces: Vec<&[u8]> = text.chunks(1).collect(alloc)?;
+    let items = items_in(alloc, 3, 1, &pieces)?;
+    Ok(items)
+}
+
+/// How many items a text has that may go on.
+fn whole_count(alloc: Global, text: &[u8]) -> Result<usize, Fail> {
+    Ok(whole_items_in(alloc, 3, 1, text)?.len())
+}
+
+/// Whether the item asks to show the window from (1, 2) of 3 by 4 pixels.
+fn is_show(alloc: Global, item: &Item) -> bool {
+    match parse(alloc, 1, item) {
+        Ok(Command::Show { w, .. }) => (w.x, w.y, w.w, w.h) == (1, 2, 3, 4),
+        _ => false,
+    }
 }
 
 #[test]
 fn reads_in_pieces(rt: HostRuntime) -> Result<(), Fail> {
-    let alloc = rt.alloc();
-    let mut long = vec![in alloc; b'x'; 8321]?;
-    long.extend_from_slice(b"\n# a remark\n\nshow a 1 2 3 4")?;
-    let pieces: Vec<&[u8]> = long.chunks(1).collect(alloc)?;
-    let items = items_in(alloc, 3, 1, &pieces)?;
+    let long = long_text(rt.alloc())?;
+    let items = items_by_bytes(rt.alloc(), &long)?;
     assert_eq!(rt; items.len(), 2);
-    assert_eq!(rt; whole_items_in(alloc, 3, 1, &long)?.len(), 1);
+    assert_eq!(rt; whole_count(rt.alloc(), &long)?, 1);
     assert!(rt; matches!(&items[0], Item::Long));
-    match parse(alloc, 1, &items[1]) {
-        Ok(Command::Show { w, .. }) => assert_eq!(rt; (w.x, w.y, w.w, w.h), (1, 2, 3, 4)),
-        _ => assert!(rt; false, "no show"),
-    }
+    assert!(rt; is_show(rt.alloc(), &items[1]), "no show");
     Ok(())
 }
 
@@ -72,23 +100,34 @@ fn has_no_rows(alloc: Global, level: u8, format: u8, text: &[u8]) -> Result<bool
 
 #[test]
 fn reads_rows_of_both_formats(rt: HostRuntime) -> Result<(), Fail> {
-    let alloc = rt.alloc();
-    let narrow = b"raster a\n00Ff\n0102\n";
-    assert!(rt; has_rows(alloc, 1, 1, narrow, &[0, 0, 0, 255, 0, 1, 0, 2])?);
-    assert!(rt; has_rows(alloc, 0, 2, b"raster a\n00Ff\n", &[0, 255])?);
-    assert!(rt; has_rows(alloc, 0, 2, b"raster a\n0102\n", &[1, 2])?);
-    let wide = b"raster a\n00Ff0102\naBcDeF90\n";
-    assert!(rt; has_rows(alloc, 1, 2, wide, &[0, 255, 1, 2, 171, 205, 239, 144])?);
+    let cases: [(u8, u8, &[u8], &[u8]); 4] = [
+        (1, 1, b"raster a\n00Ff\n0102\n", &[0, 0, 0, 255, 0, 1, 0, 2]),
+        (0, 2, b"raster a\n00Ff\n", &[0, 255]),
+        (0, 2, b"raster a\n0102\n", &[1, 2]),
+        (
+            1,
+            2,
+            b"raster a\n00Ff0102\naBcDeF90\n",
+            &[0, 255, 1, 2, 171, 205, 239, 144],
+        ),
+    ];
+    for (level, format, text, bytes) in cases {
+        assert!(rt; has_rows(rt.alloc(), level, format, text, bytes)?);
+    }
     Ok(())
 }
 
 #[test]
 fn reads_no_rows_of_other_forms(rt: HostRuntime) -> Result<(), Fail> {
-    let alloc = rt.alloc();
-    assert!(rt; has_no_rows(alloc, 1, 2, b"raster a\n00Ff\n0102\n")?);
-    assert!(rt; has_no_rows(alloc, 1, 1, b"raster a\n00Ff0102\n00Ff0102\n")?);
-    assert!(rt; has_no_rows(alloc, 0, 2, b"raster a\n00g0\n")?);
-    assert!(rt; has_no_rows(alloc, 1, 1, b"raster a\n0001\n00g0\n")?);
-    assert!(rt; has_no_rows(alloc, 1, 1, b"raster a\n0001\n000\n")?);
+    let cases: [(u8, u8, &[u8]); 5] = [
+        (1, 2, b"raster a\n00Ff\n0102\n"),
+        (1, 1, b"raster a\n00Ff0102\n00Ff0102\n"),
+        (0, 2, b"raster a\n00g0\n"),
+        (1, 1, b"raster a\n0001\n00g0\n"),
+        (1, 1, b"raster a\n0001\n000\n"),
+    ];
+    for (level, format, text) in cases {
+        assert!(rt; has_no_rows(rt.alloc(), level, format, text)?);
+    }
     Ok(())
 }

@@ -4,87 +4,99 @@ use quilt_replies::{
     Reply, blocks_text, done_text, edition_text, layers_text, leaves_text, number_text,
     points_text, records_text, show_text,
 };
-use quilt_types::{Code, Kind, Name, Pixel, Point, PointList, Window};
+use quilt_types::{Code, Kind, Name, Pixel, Point, PointList, Text, Window};
+use std::alloc::Global;
 use std::test::Fail;
 
-/// A catalog of one entry.
-fn alone(number: u8, name: Name, kind: Kind) -> Catalog {
-    let mut catalog = Catalog::new();
-    catalog.insert(Entry { number, name, kind });
-    catalog
+/// Whether the reply of a number is this text.
+fn is_number(alloc: Global, number: u64, text: &[u8]) -> Result<bool, Fail> {
+    Ok(number_text(alloc, number)?.bytes() == text)
+}
+
+/// Whether the reply with the number of an edition is this text.
+fn is_edition(alloc: Global, number: u32, text: &[u8]) -> Result<bool, Fail> {
+    Ok(edition_text(alloc, number)?.bytes() == text)
+}
+
+/// Whether the reply with the number of records out of a quota is this text.
+fn is_quota(alloc: Global, records: u32, quota: u32, text: &[u8]) -> Result<bool, Fail> {
+    Ok(records_text(alloc, records, quota)?.bytes() == text)
+}
+
+/// Whether the reply of a call that is done is this text.
+fn is_done(alloc: Global, text: &[u8]) -> Result<bool, Fail> {
+    Ok(done_text(alloc)?.bytes() == text)
 }
 
 #[test]
 fn replies_of_one_line(rt: HostRuntime) -> Result<(), Fail> {
-    assert_eq!(rt; done_text(rt.alloc())?.bytes(), b"ok\n".as_slice());
-    assert_eq!(rt; number_text(rt.alloc(), 0)?.bytes(), b"0\nok\n".as_slice());
-    assert_eq!(rt;
-        number_text(rt.alloc(), 65535)?.bytes(),
-        b"65535\nok\n".as_slice()
-    );
-    assert_eq!(rt;
-        edition_text(rt.alloc(), 1)?.bytes(),
-        b"edition 1\nok\n".as_slice()
-    );
-    assert_eq!(rt;
-        records_text(rt.alloc(), 257, 512)?.bytes(),
-        b"257 of 512\nok\n".as_slice()
-    );
+    assert!(rt; is_done(rt.alloc(), b"ok\n")?);
+    assert!(rt; is_number(rt.alloc(), 0, b"0\nok\n")?);
+    assert!(rt; is_number(rt.alloc(), 65535, b"65535\nok\n")?);
+    assert!(rt; is_edition(rt.alloc(), 1, b"edition 1\nok\n")?);
+    assert!(rt; is_quota(rt.alloc(), 257, 512, b"257 of 512\nok\n")?);
     Ok(())
+}
+
+/// A catalog of one entry, or an empty one where the name is none.
+fn alone(number: u8, name: &str, kind: Kind) -> Catalog {
+    let mut catalog = Catalog::new();
+    if let Some(name) = Name::of(name) {
+        catalog.insert(Entry { number, name, kind });
+    }
+    catalog
+}
+
+/// Whether the list of this layer alone is this text.
+fn is_listed(alloc: Global, number: u8, name: &str, kind: Kind, text: &[u8]) -> Result<bool, Fail> {
+    let catalog = alone(number, name, kind);
+    Ok(layers_text(alloc, catalog.entries())?.bytes() == text)
 }
 
 #[test]
 fn layers_by_kind(rt: HostRuntime) -> Result<(), Fail> {
-    let a = Name::of("a").ok_or("a name")?;
-    let l = Name::of("l").ok_or("a name")?;
-    let p = Name::of("p").ok_or("a name")?;
-    let q = Name::of("q").ok_or("a name")?;
-    let region = alone(1, a, Kind::Region);
-    let lines = alone(2, l, Kind::Lines { threshold: 4 });
-    let points = alone(3, p, Kind::Points { bucket: 2 });
-    let single = alone(4, q, Kind::Points { bucket: 1 });
-    assert_eq!(rt;
-        layers_text(rt.alloc(), region.entries())?.bytes(),
-        b"a region\nok\n".as_slice()
-    );
-    assert_eq!(rt;
-        layers_text(rt.alloc(), lines.entries())?.bytes(),
-        b"l lines 4\nok\n".as_slice()
-    );
-    assert_eq!(rt;
-        layers_text(rt.alloc(), points.entries())?.bytes(),
-        b"p points 2\nok\n".as_slice()
-    );
-    assert_eq!(rt;
-        layers_text(rt.alloc(), single.entries())?.bytes(),
-        b"q points\nok\n".as_slice()
-    );
+    let alloc = rt.alloc();
+    let lines = Kind::Lines { threshold: 4 };
+    let points = Kind::Points { bucket: 2 };
+    let single = Kind::Points { bucket: 1 };
+    assert!(rt; is_listed(alloc, 1, "a", Kind::Region, b"a region\nok\n")?);
+    assert!(rt; is_listed(alloc, 2, "l", lines, b"l lines 4\nok\n")?);
+    assert!(rt; is_listed(alloc, 3, "p", points, b"p points 2\nok\n")?);
+    assert!(rt; is_listed(alloc, 4, "q", single, b"q points\nok\n")?);
     Ok(())
 }
 
-#[test]
-fn regions_row_by_row(rt: HostRuntime) -> Result<(), Fail> {
+/// The leaves of a region of level 2 with one pixel of colour 2, and its window from (1, 0) of two by two pixels.
+fn region_texts(alloc: Global) -> Result<(Text, Text), Fail> {
     let mut colours = [0_u8; 32];
     colours[11] = 2;
-    let list = leaves_of(rt.alloc(), &colours, 2)?;
-    assert_eq!(rt;
-        leaves_text(rt.alloc(), &list)?.bytes(),
-        b"0 0 1 0\n1 0 1 0\n2 0 2 0\n0 1 1 0\n1 1 1 2\n0 2 2 0\n2 2 2 0\nok\n".as_slice()
-    );
-    assert_eq!(rt;
-        blocks_text(rt.alloc(), 2, &[4, 3, 0, 0, 0, 0, 0, 0, 0, 0, 0, 0, 0])?.bytes(),
-        b"2 3\n1 4\nok\n".as_slice()
-    );
+    let list = leaves_of(alloc, &colours, 2)?;
+    let leaves = leaves_text(alloc, &list)?;
     let w = Window {
         x: 1,
         y: 0,
         w: 2,
         h: 2,
     };
+    let rows = show_text(alloc, &list, w, 1)?;
+    Ok((leaves, rows))
+}
+
+/// Whether this text tells of four leaves of one pixel and of three of two by two.
+fn has_blocks(alloc: Global, text: &[u8]) -> Result<bool, Fail> {
+    let counts = [4, 3, 0, 0, 0, 0, 0, 0, 0, 0, 0, 0, 0];
+    Ok(blocks_text(alloc, 2, &counts)?.bytes() == text)
+}
+
+#[test]
+fn regions_row_by_row(rt: HostRuntime) -> Result<(), Fail> {
+    let (leaves, rows) = region_texts(rt.alloc())?;
     assert_eq!(rt;
-        show_text(rt.alloc(), &list, w, 1)?.bytes(),
-        b"0000\n0200\nok\n".as_slice()
+        leaves.bytes(),
+        b"0 0 1 0\n1 0 1 0\n2 0 2 0\n0 1 1 0\n1 1 1 2\n0 2 2 0\n2 2 2 0\nok\n".as_slice()
     );
+    assert!(rt; has_blocks(rt.alloc(), b"2 3\n1 4\nok\n")?);
+    assert_eq!(rt; rows.bytes(), b"0000\n0200\nok\n".as_slice());
     Ok(())
 }
 

@@ -24,13 +24,16 @@ fn draws_lines_of_each_kind(rt: HostRuntime) -> Result<(), Fail> {
     Ok(())
 }
 
+/// Whether the trial has a further line.
+fn goes_on(trial: &mut Trial) -> Result<bool, Fail> {
+    Ok(trial.next_line()?.is_some())
+}
+
 #[test]
 fn ends(rt: HostRuntime) -> Result<(), Fail> {
     let mut trial = Trial::new(rt.alloc(), 5, 0, 12);
-    for _ in 0..5_u32 {
-        assert!(rt; trial.next_line()?.is_some());
+    for further in [true, true, true, true, true, false, false] {
+        assert_eq!(rt; goes_on(&mut trial)?, further);
     }
-    assert!(rt; trial.next_line()?.is_none());
-    assert!(rt; trial.next_line()?.is_none());
     Ok(())
 }

@@ -1,6 +1,8 @@
-use crate::comparing::{compare, list_of};
-use quilt_overlay::{Op, overlay, recolour};
+use crate::comparing::{compare, compare_overlay, list_of, recolour_of};
+use quilt_overlay::Op;
 use quilt_plain::{Dice, drawn, drawn_pairs, plain_overlay, plain_recolour};
+use quilt_types::Colour;
+use std::alloc::Global;
 use std::test::Fail;
 
 /// 200 pairs of maps of levels 1 to 5, laid over each other in each way.
@@ -12,15 +14,24 @@ fn overlays_of_drawn_maps(rt: HostRuntime) -> Result<(), Fail> {
         let side = 1_u32 << level;
         let first = drawn(rt.alloc(), &mut dice, side)?;
         let second = drawn(rt.alloc(), &mut dice, side)?;
-        let a = list_of(&rt, rt.alloc(), level, &first)?;
-        let b = list_of(&rt, rt.alloc(), level, &second)?;
         for op in [Op::Union, Op::Inter, Op::Diff] {
-            let list = overlay(rt.alloc(), op, &a, &b)?;
             let wanted = plain_overlay(rt.alloc(), op, &first, &second)?;
-            compare(&rt, rt.alloc(), &list, level, &wanted)?;
+            compare_overlay(rt.alloc(), op, level, (&first, &second), &wanted)?;
         }
     }
     Ok(())
+}
+
+/// Gives the map of these colours others by the pairs, and compares.
+fn check_recolour(
+    alloc: Global,
+    level: u8,
+    colours: &[u16],
+    pairs: &[(Colour, Colour)],
+) -> Result<(), Fail> {
+    let list = recolour_of(alloc, &list_of(alloc, level, colours)?, pairs)?;
+    let wanted = plain_recolour(alloc, colours, pairs)?;
+    compare(alloc, &list, level, &wanted)
 }
 
 /// 200 maps of levels 1 to 5, each recoloured by up to 16 pairs.
@@ -29,13 +40,9 @@ fn other_colours_of_drawn_maps(rt: HostRuntime) -> Result<(), Fail> {
     let mut dice = Dice::new(2);
     for turn in 0..200_u8 {
         let level = turn % 5 + 1;
-        let side = 1_u32 << level;
-        let colours = drawn(rt.alloc(), &mut dice, side)?;
+        let colours = drawn(rt.alloc(), &mut dice, 1 << level)?;
         let pairs = drawn_pairs(rt.alloc(), &mut dice)?;
-        let a = list_of(&rt, rt.alloc(), level, &colours)?;
-        let list = recolour(rt.alloc(), &a, &pairs)?;
-        let wanted = plain_recolour(rt.alloc(), &colours, &pairs)?;
-        compare(&rt, rt.alloc(), &list, level, &wanted)?;
+        check_recolour(rt.alloc(), level, &colours, &pairs)?;
     }
     Ok(())
 }

@@ -1,9 +1,33 @@
-use crate::comparing::{compare, list_of};
+use crate::comparing::{buffer_of, compare, list_of, shift_of, window_of};
 use crate::windows::drawn_window;
-use quilt_buffer::buffer;
 use quilt_plain::{Dice, drawn, drawn_distance, plain_buffer, plain_shift, plain_window};
-use quilt_window::{shift, window};
+use quilt_types::Window;
+use std::alloc::Global;
 use std::test::Fail;
+
+/// Cuts the map of these colours to a window, and compares.
+fn check_window(alloc: Global, level: u8, colours: &[u16], w: Window) -> Result<(), Fail> {
+    let side = 1_u32 << level.min(12);
+    let list = window_of(alloc, &list_of(alloc, level, colours)?, w)?;
+    let wanted = plain_window(alloc, colours, side, w)?;
+    compare(alloc, &list, level, &wanted)
+}
+
+/// Moves the map of these colours in x and in y, and compares.
+fn check_shift(alloc: Global, level: u8, colours: &[u16], dx: i32, dy: i32) -> Result<(), Fail> {
+    let side = 1_u32 << level.min(12);
+    let list = shift_of(alloc, &list_of(alloc, level, colours)?, dx, dy)?;
+    let wanted = plain_shift(alloc, colours, side, dx, dy)?;
+    compare(alloc, &list, level, &wanted)
+}
+
+/// Takes the pixels within a distance of the map of these colours, and compares.
+fn check_buffer(alloc: Global, level: u8, colours: &[u16], r: u16) -> Result<(), Fail> {
+    let side = 1_u32 << level.min(12);
+    let list = buffer_of(alloc, &list_of(alloc, level, colours)?, r)?;
+    let wanted = plain_buffer(alloc, colours, side, u32::from(r))?;
+    compare(alloc, &list, level, &wanted)
+}
 
 /// 200 maps of levels 1 to 5, each cut to a window.
 #[test]
@@ -11,13 +35,9 @@ fn windows_of_drawn_maps(rt: HostRuntime) -> Result<(), Fail> {
     let mut dice = Dice::new(3);
     for turn in 0..200_u8 {
         let level = turn % 5 + 1;
-        let side = 1_u32 << level;
-        let colours = drawn(rt.alloc(), &mut dice, side)?;
+        let colours = drawn(rt.alloc(), &mut dice, 1 << level)?;
         let w = drawn_window(&rt, &mut dice, level);
-        let a = list_of(&rt, rt.alloc(), level, &colours)?;
-        let list = window(rt.alloc(), &a, w)?;
-        let wanted = plain_window(rt.alloc(), &colours, side, w)?;
-        compare(&rt, rt.alloc(), &list, level, &wanted)?;
+        check_window(rt.alloc(), level, &colours, w)?;
     }
     Ok(())
 }
@@ -32,10 +52,7 @@ fn shifts_of_drawn_maps(rt: HostRuntime) -> Result<(), Fail> {
         let colours = drawn(rt.alloc(), &mut dice, side)?;
         let dx = drawn_distance(&mut dice, side);
         let dy = drawn_distance(&mut dice, side);
-        let a = list_of(&rt, rt.alloc(), level, &colours)?;
-        let list = shift(rt.alloc(), &a, dx, dy)?;
-        let wanted = plain_shift(rt.alloc(), &colours, side, dx, dy)?;
-        compare(&rt, rt.alloc(), &list, level, &wanted)?;
+        check_shift(rt.alloc(), level, &colours, dx, dy)?;
     }
     Ok(())
 }
@@ -49,13 +66,8 @@ fn moves_of_large_maps(rt: HostRuntime) -> Result<(), Fail> {
         let dx = drawn_distance(&mut dice, 128);
         let dy = drawn_distance(&mut dice, 128);
         let w = drawn_window(&rt, &mut dice, 7);
-        let a = list_of(&rt, rt.alloc(), 7, &colours)?;
-        let moved = shift(rt.alloc(), &a, dx, dy)?;
-        let wanted = plain_shift(rt.alloc(), &colours, 128, dx, dy)?;
-        compare(&rt, rt.alloc(), &moved, 7, &wanted)?;
-        let part = window(rt.alloc(), &a, w)?;
-        let wanted = plain_window(rt.alloc(), &colours, 128, w)?;
-        compare(&rt, rt.alloc(), &part, 7, &wanted)?;
+        check_shift(rt.alloc(), 7, &colours, dx, dy)?;
+        check_window(rt.alloc(), 7, &colours, w)?;
     }
     Ok(())
 }
@@ -74,10 +86,7 @@ fn buffers_of_drawn_maps(rt: HostRuntime) -> Result<(), Fail> {
             1..5 => few as u16,
             _ => dice.below(side + 2) as u16,
         };
-        let a = list_of(&rt, rt.alloc(), level, &colours)?;
-        let list = buffer(rt.alloc(), &a, r)?;
-        let wanted = plain_buffer(rt.alloc(), &colours, side, u32::from(r))?;
-        compare(&rt, rt.alloc(), &list, level, &wanted)?;
+        check_buffer(rt.alloc(), level, &colours, r)?;
     }
     Ok(())
 }

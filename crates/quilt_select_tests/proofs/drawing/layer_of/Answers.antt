@@ -2,7 +2,7 @@ use Rattle.std.proofs.Common.{◌≡◌, ℕ, List, All, true, subst}
 use Rattle.std.specs.Bool.{OnTrue}
 use Rattle.quilt_types.specs.declared.plane.Seg.{Seg}
 use Rattle.quilt_types.specs.Layers.{is_in_square}
-use Rattle.quilt_select_tests.proofs.drawing.drawn_layer.Goals as goal
+use Rattle.quilt_select_tests.proofs.drawing.layer_of.Goals as goal
 
 pub invariant_of-result-clause-inside : goal.invariant_of-result-clause-inside
 invariant_of-result-clause-inside c =
