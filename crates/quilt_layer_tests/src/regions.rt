@@ -1,4 +1,4 @@
-ghost use Rattle.std.specs.Prelude.{◌≡◌, ◌+◌, ◌<◌, ◌≤◌, true};
+ghost use Rattle.std.specs.Prelude.{◌≡◌, ◌+◌, ◌<◌, ◌≤◌, true, IfOk};
 ghost use Rattle.quilt_types.specs.Plane.{is_window};
 
 use crate::layer::{DAMAGED, Layer};
@@ -26,7 +26,9 @@ const PIXEL: Window = Window {
 };
 
 /// A map of level 3 of one colour.
-fn uniform(alloc: Global, colour: Colour) -> Result<LeafList, AllocError> {
+fn uniform(alloc: Global, colour: Colour) -> Result<LeafList, AllocError>
+    ensures { IfOk result (λ list. list.level ≡ 3) }
+{
     let [high, low] = colour.0.to_be_bytes();
     let mut bytes = [0; 128];
     for i in 0..64_usize {
@@ -37,7 +39,9 @@ fn uniform(alloc: Global, colour: Colour) -> Result<LeafList, AllocError> {
 }
 
 /// The same map of colour 0 in which the pixel has colour 7.
-fn dotted(alloc: Global) -> Result<LeafList, AllocError> {
+fn dotted(alloc: Global) -> Result<LeafList, AllocError>
+    ensures { IfOk result (λ list. list.level ≡ 3) }
+{
     let mut bytes = [0; 128];
     bytes[2 * (8 * 2 + 5) + 1] = 7;
     leaves_of(alloc, &bytes, 3)
