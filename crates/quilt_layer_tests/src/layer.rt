@@ -14,12 +14,15 @@ use quilt_record::{Edits, Key, Record, read_point};
 use quilt_region as regions;
 use quilt_store::{MemStore, PageStore};
 use quilt_types::{Block, Colour, Pixel, Point, PointList, Seg, Stop, Window};
-use std::alloc::Global;
+use std::alloc::{AllocError, Global};
 use std::process::Abort;
 use std::test::Fail;
 
 /// How many pages the store has.
 const PAGES: u32 = 256;
+
+/// What a damaged layer answers.
+pub const DAMAGED: Stop = Stop::Damaged { page: 0 };
 
 /// A layer in a tree over a store in memory: its number, the level of its map, and how many points or segments a block may hold.
 /// What each call asks of the tree and of these numbers is kept here, so that a test need not show it again.
@@ -73,6 +76,11 @@ fn has_window(level: u8, w: Window) -> bool
         && 1 <= w.h
         && u32::from(w.x) + u32::from(w.w) <= side
         && u32::from(w.y) + u32::from(w.h) <= side
+}
+
+/// The keys of the records.
+fn keys_of(alloc: Global, records: &[Record]) -> Result<Vec<Key>, AllocError> {
+    records.iter().map(|r| r.key).collect(alloc)
 }
 
 impl Layer {
@@ -158,14 +166,22 @@ impl Layer {
 
     /// The layer once a plan is carried out. Each record that goes has to be there.
     pub fn edited(mut self, alloc: Global, plan: &Edits) -> Result<Layer, Fail> {
-        let mut keys = Vec::new(alloc);
-        for r in plan.remove.records() {
-            if self.value(&r.key)? != Some(r.value) {
-                return Err(Fail::from("a record that is there"));
-            }
-            keys.push(r.key)?;
+        let gone = plan.remove.records();
+        if !self.has_all(gone)? {
+            return Err(Fail::from("records that are there"));
         }
+        let keys = keys_of(alloc, gone)?;
         self.take_all(&keys)?.put_all(plan.add.records())
+    }
+
+    /// Whether all of these records are in the tree.
+    fn has_all(&mut self, records: &[Record]) -> Result<bool, Stop> {
+        for r in records {
+            if self.value(&r.key)? != Some(r.value) {
+                return Ok(false);
+            }
+        }
+        Ok(true)
     }
 
     /// The value of the record with this key.

@@ -12,6 +12,8 @@ mod mixed_points;
 #[cfg(test)]
 mod plain_points;
 #[cfg(test)]
+mod plans;
+#[cfg(test)]
 mod points;
 #[cfg(test)]
 mod regions;

@@ -1,15 +1,16 @@
 use crate::drawing::Draw;
 use crate::layer::Layer;
 use crate::plain_points::{PlainPoints, holds};
-use quilt_types::{Pixel, Point, PointList, Window};
-use std::alloc::Global;
-use std::collections::BTreeMap;
+use quilt_record::Edits;
+use quilt_types::{Block, Pixel, Point, PointList, Window};
+use std::alloc::{AllocError, Global};
+use std::collections::{BTreeMap, BTreeSet};
 use std::process::Abort;
 use std::test::Fail;
 
 /// The pixel of a drawn point, if there is a point.
 fn taken(draw: &mut Draw, plain: &PlainPoints) -> Option<Pixel> {
-    let count = u32::try_from(plain.labels.len()).unwrap_or(0);
+    let count = u32::try_from(plain.total()).unwrap_or(0);
     let place = draw.below(count) as usize;
     plain.labels.keys().nth(place).copied()
 }
@@ -50,6 +51,14 @@ fn window(draw: &mut Draw, side: u16) -> Window {
     }
 }
 
+/// The layer once a plan is carried out, if there is one.
+fn edited(alloc: Global, layer: Layer, plan: Option<Edits>) -> Result<Layer, Fail> {
+    match plan {
+        None => Ok(layer),
+        Some(edits) => layer.edited(alloc, &edits),
+    }
+}
+
 /// Puts a point into both, unless one is at its pixel.
 fn put(
     rt: &impl Abort,
@@ -59,14 +68,12 @@ fn put(
     p: Point,
 ) -> Result<Layer, Fail> {
     let plan = layer.plan_put(rt, alloc, p)?;
-    assert!(rt; plan.is_none() == plain.labels.contains_key(&p.at));
-    match plan {
-        None => Ok(layer),
-        Some(edits) => {
-            plain.labels.insert(p.at, p.label)?;
-            layer.edited(alloc, &edits)
-        }
+    let is_taken = plain.has(p.at);
+    assert!(rt; plan.is_none() == is_taken);
+    if !is_taken {
+        plain.put(p)?;
     }
+    edited(alloc, layer, plan)
 }
 
 /// Takes the point at a pixel out of both, if one is there.
@@ -78,14 +85,43 @@ fn del(
     at: Pixel,
 ) -> Result<Layer, Fail> {
     let plan = layer.plan_del(rt, alloc, at)?;
-    assert!(rt; plan.is_some() == plain.labels.contains_key(&at));
-    match plan {
-        None => Ok(layer),
-        Some(edits) => {
-            let _gone = plain.labels.remove(&at);
-            layer.edited(alloc, &edits)
-        }
+    assert!(rt; plan.is_some() == plain.has(at));
+    plain.take(at);
+    edited(alloc, layer, plan)
+}
+
+/// Two to six drawn points.
+fn drawn_points(
+    alloc: Global,
+    plain: &PlainPoints,
+    draw: &mut Draw,
+) -> Result<PointList, AllocError> {
+    let mut list = PointList::new(alloc);
+    let count = draw.below(5).saturating_add(2);
+    for _ in 0..count {
+        list.push(point(draw, plain))?;
     }
+    Ok(list)
+}
+
+/// Whether no two of the points share a pixel, and no point is at one of them.
+fn are_new(alloc: Global, plain: &PlainPoints, points: &[Point]) -> Result<bool, AllocError> {
+    let mut news = BTreeSet::new(alloc);
+    for p in points {
+        if plain.has(p.at) {
+            return Ok(false);
+        }
+        news.insert(p.at)?;
+    }
+    Ok(news.len() == points.len())
+}
+
+/// Puts points down.
+fn put_all(plain: &mut PlainPoints, points: &[Point]) -> Result<(), AllocError> {
+    for p in points {
+        plain.put(*p)?;
+    }
+    Ok(())
 }
 
 /// Puts two to six points into both at once, unless two share a pixel or a point is at one of them.
@@ -96,27 +132,27 @@ fn scatter(
     plain: &mut PlainPoints,
     draw: &mut Draw,
 ) -> Result<Layer, Fail> {
-    let mut list = PointList::new(alloc);
-    let mut news = BTreeMap::new(alloc);
-    let count = draw.below(5).saturating_add(2);
-    for _ in 0..count {
-        let p = point(draw, plain);
-        list.push(p)?;
-        news.insert(p.at, p.label)?;
-    }
-    let are_new = news.len() == list.items().len()
-        && news.keys().all(|at| !plain.labels.contains_key(at));
+    let list = drawn_points(alloc, plain, draw)?;
+    let are_new = are_new(alloc, plain, list.items())?;
     let plan = layer.plan_scatter(rt, alloc, &list)?;
     assert!(rt; plan.is_some() == are_new);
-    match plan {
-        None => Ok(layer),
-        Some(edits) => {
-            for p in list.items() {
-                plain.labels.insert(p.at, p.label)?;
-            }
-            layer.edited(alloc, &edits)
-        }
+    if are_new {
+        put_all(plain, list.items())?;
     }
+    edited(alloc, layer, plan)
+}
+
+/// Whether both have the same points in the window.
+fn is_same_within(
+    rt: &impl Abort,
+    alloc: Global,
+    layer: &mut Layer,
+    plain: &PlainPoints,
+    w: Window,
+) -> Result<bool, Fail> {
+    let found = layer.within(rt, alloc, w)?;
+    let expected = plain.within(alloc, w)?;
+    Ok(found.items() == expected.as_slice())
 }
 
 /// Compares the points at a drawn pixel and in a drawn window.
@@ -128,11 +164,23 @@ fn look(
     draw: &mut Draw,
 ) -> Result<(), Fail> {
     let at = pixel(draw, plain);
-    assert_eq!(rt; layer.find(rt, at)?, plain.labels.get(&at).copied());
+    assert!(rt; layer.find(rt, at) == Ok(plain.label(at)));
     let w = window(draw, plain.side());
-    let found = layer.within(rt, alloc, w)?;
-    assert_eq!(rt; found.items(), plain.within(alloc, w)?.as_slice());
+    assert!(rt; is_same_within(rt, alloc, layer, plain, w)?);
     Ok(())
+}
+
+/// Whether what the record of a block says is so: that it holds this point, or that it holds none.
+fn is_said(plain: &PlainPoints, b: Block, held: Option<Point>) -> bool {
+    match held {
+        None => plain.count(b) == 0,
+        Some(p) => holds(b, p.at) && plain.label(p.at) == Some(p.label),
+    }
+}
+
+/// How many pixels the block has.
+fn area(b: Block) -> u32 {
+    u32::from(b.side).wrapping_mul(u32::from(b.side))
 }
 
 /// Compares all records: each says a block of the layer and a point that it holds, or that it holds none, and the blocks are as
@@ -144,27 +192,21 @@ fn compare(
     plain: &PlainPoints,
 ) -> Result<(), Fail> {
     let mut last = None;
-    let mut area = 0_u32;
+    let mut pixels = 0_u32;
     let mut points = 0_usize;
     for r in &layer.records(alloc)? {
         let (b, held) = layer.read_point(r).ok_or("a record of a point layer")?;
         if last != Some(b) {
             assert!(rt; plain.is_block(b));
-            area = area.wrapping_add(u32::from(b.side).wrapping_mul(u32::from(b.side)));
+            pixels = pixels.wrapping_add(area(b));
             last = Some(b);
         }
-        match held {
-            None => assert!(rt; plain.count(b) == 0),
-            Some(p) => {
-                assert!(rt; holds(b, p.at));
-                assert_eq!(rt; plain.labels.get(&p.at).copied(), Some(p.label));
-                points = points.wrapping_add(1);
-            }
-        }
+        assert!(rt; is_said(plain, b, held));
+        points = points.wrapping_add(usize::from(held.is_some()));
     }
     let side = u32::from(plain.side());
-    assert_eq!(rt; area, side.wrapping_mul(side));
-    assert_eq!(rt; points, plain.labels.len());
+    assert!(rt; pixels == side.wrapping_mul(side));
+    assert!(rt; points == plain.total());
     Ok(())
 }
 

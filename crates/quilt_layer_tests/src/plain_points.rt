@@ -37,6 +37,32 @@ impl PlainPoints {
         1_u16.wrapping_shl(u32::from(self.level))
     }
 
+    /// The label of the point at the pixel, if one is there.
+    pub fn label(&self, at: Pixel) -> Option<u32> {
+        self.labels.get(&at).copied()
+    }
+
+    /// Whether a point is at the pixel.
+    pub fn has(&self, at: Pixel) -> bool {
+        self.labels.contains_key(&at)
+    }
+
+    /// How many points there are.
+    pub fn total(&self) -> usize {
+        self.labels.len()
+    }
+
+    /// Puts a point down.
+    pub fn put(&mut self, p: Point) -> Result<(), AllocError> {
+        self.labels.insert(p.at, p.label)?;
+        Ok(())
+    }
+
+    /// Takes the point at the pixel away, if one is there.
+    pub fn take(&mut self, at: Pixel) {
+        let _gone = self.labels.remove(&at);
+    }
+
     /// How many points the block holds.
     pub fn count(&self, b: Block) -> usize {
         self.labels.keys().filter(|p| holds(b, **p)).count()

@@ -1,13 +1,15 @@
 ghost use Rattle.std.specs.Prelude.{◌≡◌, ◌+◌, ◌<◌, ◌≤◌, true, IfOk};
 ghost use Rattle.quilt_types.specs.Plane.{is_window};
 
-use crate::layer::Layer;
+use crate::layer::{DAMAGED, Layer};
+use crate::plans::{added, adds, adds_bytes, adds_many, removes, removes_many};
 use quilt_blocks::LeafList;
 use quilt_raster::leaves_of;
-use quilt_record::{Record, key_bytes};
+use quilt_record::{Edits, Record, key_bytes};
 use quilt_region::{first_key, last_key, layer_laws, plan_new, plan_replace, region_laws};
 use quilt_types::{Colour, Pixel, Stop, Window};
 use std::alloc::{AllocError, Global};
+use std::process::Abort;
 use std::test::Fail;
 
 /// A region layer of the number 1 in a map of this level.
@@ -45,54 +47,85 @@ fn dotted(alloc: Global) -> Result<LeafList, AllocError>
     leaves_of(alloc, &bytes, 3)
 }
 
+/// The plan of a new layer of the number 1.
+fn fresh_plan(alloc: Global, map: &LeafList) -> Result<Edits, AllocError> {
+    plan_new(alloc, 1, map)
+}
+
+/// The plan that turns one map into another, both of the number 1 and of one level.
+fn changes(alloc: Global, old: &LeafList, new: &LeafList) -> Result<Edits, Fail> {
+    if old.level() != new.level() {
+        return Err(Fail::from("maps of one level"));
+    }
+    Ok(plan_replace(alloc, 1, old, new)?)
+}
+
+/// Whether this is the answer about how many leaves the layer has.
+fn has_leaves(alloc: Global, layer: &mut Layer, expected: Result<usize, Stop>) -> bool {
+    match layer.leaves(alloc) {
+        Err(stop) => expected == Err(stop),
+        Ok(leaves) => expected == Ok(leaves.len()),
+    }
+}
+
+/// Whether this is the answer about the colour of the pixel.
+fn has_colour(
+    rt: &impl Abort,
+    layer: &mut Layer,
+    at: Pixel,
+    expected: Result<Colour, Stop>,
+) -> bool {
+    layer.colour_at(rt, at) == expected
+}
+
 #[test]
 fn plans_of_one_pixel_and_back(rt: HostRuntime) -> Result<(), Fail> {
     let old = uniform(rt.alloc(), Colour(0))?;
-    let fresh = plan_new(rt.alloc(), 1, &old)?;
-    assert_eq!(rt; fresh.remove.records().len(), 0);
-    assert_eq!(rt; fresh.add.records().len(), 1);
+    let fresh = fresh_plan(rt.alloc(), &old)?;
+    assert!(rt; removes_many(&fresh, 0));
+    assert!(rt; adds_many(&fresh, 1));
     let new = dotted(rt.alloc())?;
-    let there = plan_replace(rt.alloc(), 1, &old, &new)?;
-    assert_eq!(rt; there.remove.records(), fresh.add.records());
-    assert_eq!(rt; there.add.records().len(), 10);
-    let one = there.add.records().get(4).ok_or("ten records")?;
-    assert_eq!(rt; key_bytes(&one.key), *b"\0\x01\x01\0\0\0\x19\x03\0\0\0\0");
-    assert_eq!(rt; one.value, *b"\x07\0\0\0\0\0\0\0\0\0\0\0\0\0\0\0");
-    let back = plan_replace(rt.alloc(), 1, &new, &old)?;
-    assert_eq!(rt; back.remove.records(), there.add.records());
-    assert_eq!(rt; back.add.records(), fresh.add.records());
+    let there = changes(rt.alloc(), &old, &new)?;
+    assert!(rt; removes(&there, added(&fresh)));
+    assert!(rt; adds_many(&there, 10));
+    let key = *b"\0\x01\x01\0\0\0\x19\x03\0\0\0\0";
+    let value = *b"\x07\0\0\0\0\0\0\0\0\0\0\0\0\0\0\0";
+    assert!(rt; adds_bytes(&there, 4, key, value));
+    let back = changes(rt.alloc(), &new, &old)?;
+    assert!(rt; removes(&back, added(&there)));
+    assert!(rt; adds(&back, added(&fresh)));
     Ok(())
 }
 
 #[test]
 fn a_layer_in_a_store(rt: HostRuntime) -> Result<(), Fail> {
     let map = dotted(rt.alloc())?;
-    let plan = plan_new(rt.alloc(), 1, &map)?;
-    let mut layer = planted(rt.alloc(), 3, plan.add.records())?;
-    assert_eq!(rt; layer.leaves(rt.alloc())?.len(), 10);
+    let plan = fresh_plan(rt.alloc(), &map)?;
+    let mut layer = planted(rt.alloc(), 3, added(&plan))?;
+    assert!(rt; has_leaves(rt.alloc(), &mut layer, Ok(10)));
     let one = Pixel { x: 5, y: 2 };
-    assert_eq!(rt; layer.colour_at(&rt, one)?, Colour(7));
+    assert!(rt; has_colour(&rt, &mut layer, one, Ok(Colour(7))));
     let above = Pixel { x: 5, y: 1 };
-    assert_eq!(rt; layer.colour_at(&rt, above)?, Colour(0));
+    assert!(rt; has_colour(&rt, &mut layer, above, Ok(Colour(0))));
     let last = Pixel { x: 7, y: 7 };
-    assert_eq!(rt; layer.colour_at(&rt, last)?, Colour(0));
+    assert!(rt; has_colour(&rt, &mut layer, last, Ok(Colour(0))));
     let back = layer.plan_rect(&rt, rt.alloc(), PIXEL, Colour(0))?;
-    assert_eq!(rt; back.remove.records(), plan.add.records());
-    assert_eq!(rt; back.add.records().len(), 1);
+    assert!(rt; removes(&back, added(&plan)));
+    assert!(rt; adds_many(&back, 1));
     Ok(())
 }
 
 #[test]
 fn plans_of_windows_in_a_store(rt: HostRuntime) -> Result<(), Fail> {
     let blank = uniform(rt.alloc(), Colour(0))?;
-    let plan = plan_new(rt.alloc(), 1, &blank)?;
-    let mut layer = planted(rt.alloc(), 3, plan.add.records())?;
+    let plan = fresh_plan(rt.alloc(), &blank)?;
+    let mut layer = planted(rt.alloc(), 3, added(&plan))?;
     let one = layer.plan_rect(&rt, rt.alloc(), PIXEL, Colour(7))?;
-    assert_eq!(rt; one.remove.records(), plan.add.records());
-    assert_eq!(rt; one.add.records().len(), 10);
+    assert!(rt; removes(&one, added(&plan)));
+    assert!(rt; adds_many(&one, 10));
     let none = layer.plan_rect(&rt, rt.alloc(), PIXEL, Colour(0))?;
-    assert_eq!(rt; none.remove.records().len(), 0);
-    assert_eq!(rt; none.add.records().len(), 0);
+    assert!(rt; removes_many(&none, 0));
+    assert!(rt; adds_many(&none, 0));
     let across = Window {
         x: 3,
         y: 3,
@@ -100,8 +133,8 @@ fn plans_of_windows_in_a_store(rt: HostRuntime) -> Result<(), Fail> {
         h: 2,
     };
     let four = layer.plan_rect(&rt, rt.alloc(), across, Colour(7))?;
-    assert_eq!(rt; four.remove.records().len(), 1);
-    assert_eq!(rt; four.add.records().len(), 28);
+    assert!(rt; removes_many(&four, 1));
+    assert!(rt; adds_many(&four, 28));
     Ok(())
 }
 
@@ -161,24 +194,37 @@ fn paint(bytes: &mut [u8; 8192], w: Window, colour: u8)
     }
 }
 
+/// The map of level 6 that the bytes say.
+fn map_of(alloc: Global, bytes: &[u8; 8192]) -> Result<LeafList, AllocError> {
+    leaves_of(alloc, bytes, 6)
+}
+
+/// Whether two plans take the same records out and put the same in.
+fn are_same(one: &Edits, other: &Edits) -> bool {
+    removes(one, other.remove.records()) && adds(one, added(other))
+}
+
+/// Compares the plan of a drawn window with that of the plain colours before and after.
+fn try_window(rt: &impl Abort, alloc: Global, state: &mut u32) -> Result<(), Fail> {
+    let mut bytes = drawn(state);
+    let old = map_of(alloc, &bytes)?;
+    let fresh = fresh_plan(alloc, &old)?;
+    let mut layer = planted(alloc, 6, added(&fresh))?;
+    let w = around_middle(state);
+    let colour = below(state, 3) as u8;
+    let plan = layer.plan_rect(rt, alloc, w, Colour(u16::from(colour)))?;
+    paint(&mut bytes, w, colour);
+    let whole = changes(alloc, &old, &map_of(alloc, &bytes)?)?;
+    assert!(rt; are_same(&plan, &whole));
+    Ok(())
+}
+
 /// Plans of windows around the middle of drawn maps are those of the plain colours before and after.
 #[test]
 fn windows_across_the_middle(rt: HostRuntime) -> Result<(), Fail> {
     let mut state = 1;
     for _ in 0..40 {
-        let mut bytes = drawn(&mut state);
-        let old = leaves_of(rt.alloc(), &bytes, 6)?;
-        let fresh = plan_new(rt.alloc(), 1, &old)?;
-        let mut layer = planted(rt.alloc(), 6, fresh.add.records())?;
-        let w = around_middle(&mut state);
-        let colour = below(&mut state, 3) as u8;
-        let c = Colour(u16::from(colour));
-        let plan = layer.plan_rect(&rt, rt.alloc(), w, c)?;
-        paint(&mut bytes, w, colour);
-        let new = leaves_of(rt.alloc(), &bytes, 6)?;
-        let whole = plan_replace(rt.alloc(), 1, &old, &new)?;
-        assert_eq!(rt; plan.remove.records(), whole.remove.records());
-        assert_eq!(rt; plan.add.records(), whole.add.records());
+        try_window(&rt, rt.alloc(), &mut state)?;
     }
     Ok(())
 }
@@ -202,16 +248,15 @@ fn keys_around_a_layer(rt: HostRuntime) -> Result<(), Fail> {
 #[test]
 fn damaged_layers(rt: HostRuntime) -> Result<(), Fail> {
     let map = dotted(rt.alloc())?;
-    let plan = plan_new(rt.alloc(), 1, &map)?;
-    let gap = plan.add.records().get(1..).ok_or("records")?;
+    let plan = fresh_plan(rt.alloc(), &map)?;
+    let gap = added(&plan).get(1..).ok_or("records")?;
     let mut layer = planted(rt.alloc(), 3, gap)?;
     let mut higher = planted(rt.alloc(), 4, gap)?;
     let mut other = Layer::new(rt.alloc(), 2, 3, 1, gap)?;
-    let damaged = Some(Stop::Damaged { page: 0 });
-    assert_eq!(rt; layer.leaves(rt.alloc()).err(), damaged);
-    assert_eq!(rt; higher.leaves(rt.alloc()).err(), damaged);
-    assert_eq!(rt; other.leaves(rt.alloc()).err(), damaged);
+    assert!(rt; has_leaves(rt.alloc(), &mut layer, Err(DAMAGED)));
+    assert!(rt; has_leaves(rt.alloc(), &mut higher, Err(DAMAGED)));
+    assert!(rt; has_leaves(rt.alloc(), &mut other, Err(DAMAGED)));
     let corner = Pixel { x: 0, y: 0 };
-    assert_eq!(rt; layer.colour_at(&rt, corner).err(), damaged);
+    assert!(rt; has_colour(&rt, &mut layer, corner, Err(DAMAGED)));
     Ok(())
 }
