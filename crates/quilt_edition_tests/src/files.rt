@@ -1,5 +1,4 @@
 ghost use Rattle.std.specs.Prelude.{◌≡◌, ◌<◌, length, IfOk, IfSome};
-ghost use Rattle.quilt_world.specs.declared.disk.Door.TheVariants as doors;
 ghost use Rattle.quilt_journal.specs.Beginning.{NoneFree};
 
 use quilt_desk::Desk;
@@ -71,17 +70,11 @@ pub fn foreign_file(alloc: Global, gate: u8, torn: bool) -> Result<Image, AllocE
     Ok(image)
 }
 
-/// A desk that has opened this file, with this input, and of which the call of this number fails.
-pub fn attached(
-    alloc: Global,
-    file: Image,
-    input: &[u8],
-    failing: u64,
-) -> Result<Option<Desk>, AllocError>
-    ensures door { IfOk result (λ o. IfSome o (λ d. ⟦<Desk as Disk>⟧.door d ≡ doors.Ready)) }
+/// A desk that has opened this file, and of which the call of this number fails.
+pub fn attached(alloc: Global, file: Image, failing: u64) -> Result<Option<Desk>, AllocError>
     ensures none { IfOk result (λ o. IfSome o (λ d. IfSome (⟦<Desk as Disk>⟧.told d) NoneFree)) }
 {
-    let mut desk = Desk::new(alloc, "m", Some(file), input)?;
+    let mut desk = Desk::new(alloc, "m", Some(file), b"")?;
     desk.fail_at(failing)?;
     match desk.attach("m") {
         Ok(Attached::Ready) => Ok(Some(desk)),

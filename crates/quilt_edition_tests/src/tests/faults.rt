@@ -1,9 +1,7 @@
 use super::choice;
-use crate::{
-    Opening, attached, first_edition, map_file, next_edition, publish_over, reopened, stops,
-};
+use crate::edition::{first_edition, next_edition};
+use crate::steps::{Opening, pages_of, publish_over, reopened_now, stops};
 use quilt_types::Stop;
-use quilt_world::Disk;
 use std::test::Fail;
 
 // Of the calls the first opens the file and the next three read its label, its gate and its header. Thirteen slots, the
@@ -15,20 +13,18 @@ fn each_failing_call_leaves_old_or_new(rt: HostRuntime) -> Result<(), Fail> {
     let old = Opening::Ready(first_edition());
     let new = Opening::Ready(next_edition(12, 2));
     for failing in 2..52 {
-        let Some(desk) = attached(rt.alloc(), map_file(rt.alloc())?, b"", failing)? else {
+        let Some((answer, desk)) = publish_over(rt.alloc(), failing, 8, 12)? else {
             panic!(rt; "no desk");
         };
-        let (answer, desk) = publish_over(rt.alloc(), desk, 8, 12);
         let want = if failing < 51 {
             Err(Stop::Device)
         } else {
             Ok(7)
         };
         assert_eq!(rt; answer, want, "call {failing}");
-        let file = desk.image().ok_or("no file")?.copy()?;
-        let found = reopened(rt.alloc(), file)?;
-        assert!(rt; found == old || found == new, "call {failing}");
-        assert!(rt; desk.pages() == 99);
+        let found = reopened_now(rt.alloc(), &desk)?;
+        assert!(rt; found == Some(old) || found == Some(new), "call {failing}");
+        assert!(rt; pages_of(&desk) == 99);
         for k in [0, 1, 2, 4] {
             let all = stops(rt.alloc(), &desk, &choice(k))?;
             for found in &all {

@@ -1,4 +1,6 @@
-use crate::{Opening, first_edition, foreign_file, header, map_file, reopened};
+use crate::edition::first_edition;
+use crate::files::{foreign_file, header, map_file};
+use crate::steps::{Opening, reopened};
 use quilt_types::Stop;
 use quilt_world::Image;
 use std::test::Fail;
