@@ -1,5 +1,3 @@
-ghost use Rattle.std.specs.Prelude.{◌≤◌};
-
 use crate::spoilt::{Spoil, Spoilt};
 use quilt_types::Stop;
 use std::alloc::Global;
@@ -45,12 +43,10 @@ fn try_two(
     spoilt: (u32, Spoil),
     item: u32,
     expected: [u32; 7],
-) -> Result<(), Fail>
-    requires { (1 ≤ n) × (n ≤ 144) }
-{
+) -> Result<(), Fail> {
     for call in 0..7_usize {
-        let tree = Spoilt::of_two_levels(alloc, n, spoilt.0, spoilt.1)?;
-        assert_eq!(rt; named(tree.stops(rt, alloc, call, item)), expected[call]);
+        let mut tree = Spoilt::of_two_levels(alloc, n, spoilt.0, spoilt.1)?;
+        assert_eq!(rt; named(tree.stops(alloc, call, item)), expected[call]);
     }
     Ok(())
 }
@@ -64,8 +60,8 @@ fn try_three(
     expected: [u32; 7],
 ) -> Result<(), Fail> {
     for call in 0..7_usize {
-        let tree = Spoilt::of_three_levels(alloc, spoilt.0, spoilt.1)?;
-        assert_eq!(rt; named(tree.stops(rt, alloc, call, item)), expected[call]);
+        let mut tree = Spoilt::of_three_levels(alloc, spoilt.0, spoilt.1)?;
+        assert_eq!(rt; named(tree.stops(alloc, call, item)), expected[call]);
     }
     Ok(())
 }
@@ -150,13 +146,11 @@ fn count_by_edits(
     n: u32,
     spoilt: (u32, Spoil),
     item: u32,
-) -> Result<u32, Fail>
-    requires { (1 ≤ n) × (n ≤ 144) }
-{
+) -> Result<u32, Fail> {
     let mut count = 0_u32;
     for call in 3..7_usize {
-        let tree = Spoilt::of_two_levels(alloc, n, spoilt.0, spoilt.1)?;
-        let page = named(tree.stops(rt, alloc, call, item));
+        let mut tree = Spoilt::of_two_levels(alloc, n, spoilt.0, spoilt.1)?;
+        let page = named(tree.stops(alloc, call, item));
         assert!(rt; page == NONE || page == 0 || page == spoilt.0);
         if page == spoilt.0 {
             count = count.wrapping_add(1);
@@ -166,9 +160,12 @@ fn count_by_edits(
 }
 
 /// How often the edits of a tree of height 2 with one page spoilt name it.
-fn count_at_items(rt: &impl Abort, alloc: Global, n: u32, spoilt: (u32, Spoil)) -> Result<u32, Fail>
-    requires { (1 ≤ n) × (n ≤ 144) }
-{
+fn count_at_items(
+    rt: &impl Abort,
+    alloc: Global,
+    n: u32,
+    spoilt: (u32, Spoil),
+) -> Result<u32, Fail> {
     let mut count = 0_u32;
     for item in [0, 80, 284, 576, 656, 860, 1152, 1232, 1436] {
         count = count.wrapping_add(count_by_edits(rt, alloc, n, spoilt, item)?);
@@ -216,9 +213,9 @@ fn a_root_with_a_byte_behind_its_keys_is_named_by_what_writes_it(
 
 #[test]
 fn a_range_names_a_leaf_that_adds_nothing_where_it_is_none(rt: HostRuntime) -> Result<(), Fail> {
-    let ones = Spoilt::of_two_levels(rt.alloc(), 72, 3, Spoil::Ones)?;
+    let mut ones = Spoilt::of_two_levels(rt.alloc(), 72, 3, Spoil::Ones)?;
     assert_eq!(rt; named(ones.range(rt.alloc(), 80, 1300)), 3);
-    let twice = Spoilt::of_two_levels(rt.alloc(), 72, 1, Spoil::Byte(15, 2))?;
+    let mut twice = Spoilt::of_two_levels(rt.alloc(), 72, 1, Spoil::Byte(15, 2))?;
     assert_eq!(rt; named(twice.range(rt.alloc(), 80, 1300)), 0);
     Ok(())
 }

@@ -4,6 +4,8 @@
 #[cfg(test)]
 mod damaged;
 #[cfg(test)]
+mod grown;
+#[cfg(test)]
 mod pages;
 #[cfg(test)]
 mod spoilt;

@@ -1,9 +1,8 @@
 //! Trees with one page spoilt, and what each call answers over them.
-ghost use Rattle.std.specs.Prelude.{◌≡◌, ◌+◌, ◌*◌, ◌≤◌};
-ghost use Rattle.quilt_types.specs.Facts.{quota};
-ghost use Rattle.quilt_btree.specs.Trees.{IsRooted};
+ghost use Rattle.std.specs.Prelude.{◌≤◌};
 
-use quilt_btree::{Tree, keys_ascend, records_ascend};
+use crate::grown::Grown;
+use quilt_btree::Tree;
 use quilt_record::{Key, Record};
 use quilt_store::{MemStore, PageStore};
 use quilt_types::Stop;
@@ -12,7 +11,7 @@ use std::process::Abort;
 use std::test::Fail;
 
 /// How a page is spoilt.
-#[derive(Clone, Copy, Debug, PartialEq, Eq)]
+#[derive(Clone, Copy)]
 pub enum Spoil {
     /// It has another byte at a place.
     Byte(usize, u8),
@@ -26,14 +25,9 @@ pub enum Spoil {
     Inner,
 }
 
-/// A tree over a store in memory.
+/// A tree with one page spoilt.
 #[derive(Drop)]
-pub struct Spoilt {
-    store: MemStore,
-    tree: Tree,
-    ghost rooted: { IsRooted (⟦<MemStore as PageStore>⟧.size store) tree },
-    ghost spare: { tree.records + 2 ≤ quota (⟦<MemStore as PageStore>⟧.size store) },
-}
+pub struct Spoilt(Grown);
 
 fn key(item: u32) -> Key {
     Key {
@@ -94,9 +88,7 @@ fn inner(height: u8, child: u32, n: usize, first: u32, span: u32) -> [u8; 4096]
 }
 
 /// Puts a page at the first place that is free.
-fn put(store: &mut MemStore, bytes: &[u8; 4096]) -> Result<(), Fail>
-    ensures { ⟦<MemStore as PageStore>⟧.size store.new ≡ ⟦<MemStore as PageStore>⟧.size store.old }
-{
+fn put(store: &mut MemStore, bytes: &[u8; 4096]) -> Result<(), Fail> {
     if store.free_pages() == 0 {
         return Err(Fail::from("no page is free"));
     }
@@ -129,9 +121,7 @@ fn change(bytes: &mut [u8; 4096], how: Spoil) {
 }
 
 /// Spoils a page of the store.
-fn spoil_page(store: &mut MemStore, page: u32, how: Spoil) -> Result<(), Fail>
-    ensures { ⟦<MemStore as PageStore>⟧.size store.new ≡ ⟦<MemStore as PageStore>⟧.size store.old }
-{
+fn spoil_page(store: &mut MemStore, page: u32, how: Spoil) -> Result<(), Fail> {
     if page == 0 || page >= store.pages() || store.is_free(page) {
         return Err(Fail::from("a page of the tree"));
     }
@@ -160,22 +150,20 @@ fn put_leaves(store: &mut MemStore, count: u32, n: usize) -> Result<(), Fail>
 
 impl Spoilt {
     /// A tree of height 2 in 16 pages: the root is page 1, and the pages 2 to 4 are leaves of `n` records.
-    pub fn of_two_levels(alloc: Global, n: u32, page: u32, how: Spoil) -> Result<Spoilt, Fail>
-        requires { (1 ≤ n) × (n ≤ 144) }
-    {
+    pub fn of_two_levels(alloc: Global, n: u32, page: u32, how: Spoil) -> Result<Spoilt, Fail> {
+        if n < 1 || 144 < n {
+            return Err(Fail::from("1 to 144 records"));
+        }
         let mut store = MemStore::new(alloc, 16)?;
         put(&mut store, &inner(2, 2, 3, 0, 576))?;
         put_leaves(&mut store, 3, n as usize)?;
         spoil_page(&mut store, page, how)?;
-        if store.pages() != 16 {
-            return Err(Fail::from("16 pages"));
-        }
         let tree = Tree {
             root: 1,
             height: 2,
             records: 3 * n,
         };
-        Ok(Spoilt { store, tree })
+        Ok(Spoilt(Grown { store, tree }))
     }
 
     /// A tree of height 3 in 300 pages: the root is page 1, the pages 2 and 3 have 127 children each, and the pages from 4
@@ -187,116 +175,58 @@ impl Spoilt {
         put(&mut store, &inner(2, 131, 127, 73152, 576))?;
         put_leaves(&mut store, 254, 72)?;
         spoil_page(&mut store, page, how)?;
-        if store.pages() != 300 {
-            return Err(Fail::from("300 pages"));
-        }
         let tree = Tree {
             root: 1,
             height: 3,
             records: 18288,
         };
-        Ok(Spoilt { store, tree })
-    }
-
-    /// Why a look-up of an item stops.
-    fn get(self, n: u32) -> Option<Stop> {
-        let Spoilt { mut store, tree } = self;
-        tree.get(&mut store, &key(n)).err()
-    }
-
-    /// Why a floor stops.
-    fn floor(self, n: u32) -> Option<Stop> {
-        let Spoilt { mut store, tree } = self;
-        tree.floor(&mut store, &key(n)).err()
+        Ok(Spoilt(Grown { store, tree }))
     }
 
     /// Why a range from an item to another stops.
-    pub fn range(self, alloc: Global, low: u32, high: u32) -> Option<Stop> {
-        let Spoilt { mut store, tree } = self;
-        tree.range(alloc, &mut store, &key(low), &key(high), u32::MAX)
-            .err()
-    }
-
-    /// Why the insertion of an item stops.
-    fn insert(self, n: u32) -> Option<Stop> {
-        let Spoilt {
-            mut store,
-            mut tree,
-        } = self;
-        tree.insert(&mut store, &record(n)).err()
-    }
-
-    /// Why the removal of an item stops.
-    fn remove(self, n: u32) -> Option<Stop> {
-        let Spoilt {
-            mut store,
-            mut tree,
-        } = self;
-        tree.remove(&mut store, &key(n)).err()
+    pub fn range(&mut self, alloc: Global, low: u32, high: u32) -> Option<Stop> {
+        self.0.range(alloc, &key(low), &key(high), u32::MAX).err()
     }
 
     /// Why the insertion of two items stops.
-    fn insert_all(self, rt: &impl Abort, first: u32, last: u32) -> Option<Stop> {
-        let Spoilt {
-            mut store,
-            mut tree,
-        } = self;
-        let run = [record(first), record(last)];
-        assert!(rt; records_ascend(&run));
-        tree.insert_all(&mut store, &run).err()
+    fn insert_all(&mut self, first: u32, last: u32) -> Option<Stop> {
+        self.0.insert_all(&[record(first), record(last)]).err()
     }
 
     /// Why the removal of two items stops.
-    fn remove_all(self, rt: &impl Abort, first: u32, last: u32) -> Option<Stop> {
-        let Spoilt {
-            mut store,
-            mut tree,
-        } = self;
-        let run = [key(first), key(last)];
-        assert!(rt; keys_ascend(&run));
-        tree.remove_all(&mut store, &run).err()
+    fn remove_all(&mut self, first: u32, last: u32) -> Option<Stop> {
+        self.0.remove_all(&[key(first), key(last)]).err()
     }
 
     /// Why a call stops at an item that the tree would have, or inserts one behind it: `get`, `floor`, `range`, `insert`,
     /// `remove`, `insert_all` and `remove_all`.
-    pub fn stops(self, rt: &impl Abort, alloc: Global, call: usize, n: u32) -> Option<Stop> {
+    pub fn stops(&mut self, alloc: Global, call: usize, n: u32) -> Option<Stop> {
         match call {
-            0 => self.get(n),
-            1 => self.floor(n),
+            0 => self.0.get(&key(n)).err(),
+            1 => self.0.floor(&key(n)).err(),
             2 => self.range(alloc, n, n.wrapping_add(8)),
-            3 => self.insert(n.wrapping_add(1)),
-            4 => self.remove(n),
-            5 => self.insert_all(rt, n.wrapping_add(1), n.wrapping_add(2)),
-            _ => self.remove_all(rt, n, n.wrapping_add(4)),
+            3 => self.0.insert(&record(n.wrapping_add(1))).err(),
+            4 => self.0.remove(&key(n)).err(),
+            5 => self.insert_all(n.wrapping_add(1), n.wrapping_add(2)),
+            _ => self.remove_all(n, n.wrapping_add(4)),
         }
     }
 
     /// Inserts an item, finds it, and removes it.
-    pub fn edits(self, rt: &impl Abort, n: u32) -> Result<(), Fail> {
-        let Spoilt {
-            mut store,
-            mut tree,
-        } = self;
-        assert!(rt; tree.insert(&mut store, &record(n))?);
-        assert!(rt; tree.get(&mut store, &key(n))? == Some([7; 16]));
-        assert!(rt; tree.remove(&mut store, &key(n))?);
-        assert!(rt; tree.get(&mut store, &key(n))?.is_none());
+    pub fn edits(&mut self, rt: &impl Abort, n: u32) -> Result<(), Fail> {
+        let k = key(n);
+        assert!(rt; self.0.insert(&record(n))?);
+        assert!(rt; self.0.get(&k)? == Some([7; 16]));
+        assert!(rt; self.0.remove(&k)?);
+        assert!(rt; self.0.get(&k)?.is_none());
         Ok(())
     }
 
     /// Inserts two items, finds the last, and removes both.
-    pub fn runs(self, rt: &impl Abort, first: u32, last: u32) -> Result<(), Fail> {
-        let Spoilt {
-            mut store,
-            mut tree,
-        } = self;
-        let run = [record(first), record(last)];
-        assert!(rt; records_ascend(&run));
-        tree.insert_all(&mut store, &run)?;
-        assert!(rt; tree.floor(&mut store, &key(last))? == Some(record(last)));
-        let keys = [key(first), key(last)];
-        assert!(rt; keys_ascend(&keys));
-        tree.remove_all(&mut store, &keys)?;
+    pub fn runs(&mut self, rt: &impl Abort, first: u32, last: u32) -> Result<(), Fail> {
+        self.0.insert_all(&[record(first), record(last)])?;
+        assert!(rt; self.0.floor(&key(last))? == Some(record(last)));
+        self.0.remove_all(&[key(first), key(last)])?;
         Ok(())
     }
 }

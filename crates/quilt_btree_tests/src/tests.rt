@@ -1,5 +1,4 @@
 use crate::trial::Trial;
-use quilt_store::PageStore;
 use std::alloc::{AllocError, Global};
 use std::process::Abort;
 use std::test::Fail;
@@ -16,18 +15,18 @@ fn draw(seed: &mut u64, bound: u32) -> u32 {
 fn leaves_split_and_join(rt: HostRuntime) -> Result<(), Fail> {
     let mut trial = Trial::new(rt.alloc(), 16)?;
     for n in 0..145_u32 {
-        trial = trial.insert(&rt, n, 1)?;
+        trial.insert(&rt, n, 1)?;
     }
-    assert_eq!(rt; trial.tree.height, 2);
-    assert_eq!(rt; trial.tree.records, 145);
-    assert_eq!(rt; trial.store.free_pages(), 12);
-    trial = trial.insert(&rt, 7, 2)?;
-    assert_eq!(rt; trial.tree.records, 145);
-    trial = trial.remove(&rt, 70)?;
-    trial = trial.remove(&rt, 3)?;
-    assert_eq!(rt; trial.tree.height, 1);
-    assert_eq!(rt; trial.tree.records, 143);
-    assert_eq!(rt; trial.store.free_pages(), 14);
+    assert_eq!(rt; trial.grown.tree.height, 2);
+    assert_eq!(rt; trial.grown.tree.records, 145);
+    assert_eq!(rt; trial.grown.free_pages(), 12);
+    trial.insert(&rt, 7, 2)?;
+    assert_eq!(rt; trial.grown.tree.records, 145);
+    trial.remove(&rt, 70)?;
+    trial.remove(&rt, 3)?;
+    assert_eq!(rt; trial.grown.tree.height, 1);
+    assert_eq!(rt; trial.grown.tree.records, 143);
+    assert_eq!(rt; trial.grown.free_pages(), 14);
     Ok(())
 }
 
@@ -48,11 +47,11 @@ fn any_two_of_145_records_are_removed(rt: HostRuntime) -> Result<(), Fail> {
     for first in 0..145_u32 {
         for second in 0..first {
             let mut trial = Trial::new(rt.alloc(), 16)?;
-            trial = trial.insert_all(&rt, rt.alloc(), &all, 1)?;
-            trial = trial.remove(&rt, first)?;
-            trial = trial.remove(&rt, second)?;
-            assert_eq!(rt; trial.tree.records, 143);
-            assert!(rt; trial.store.free_pages() >= 12);
+            trial.insert_all(&rt, rt.alloc(), &all, 1)?;
+            trial.remove(&rt, first)?;
+            trial.remove(&rt, second)?;
+            assert_eq!(rt; trial.grown.tree.records, 143);
+            assert!(rt; trial.grown.free_pages() >= 12);
         }
     }
     Ok(())
@@ -63,67 +62,68 @@ fn fill_to_quota(rt: &impl Abort, alloc: Global, step: u32) -> Result<Trial, Fai
     let mut trial = Trial::new(alloc, 16)?;
     let mut n = 0_u32;
     for _ in 0..512_u32 {
-        trial = trial.insert(rt, n % 512, 3)?;
+        trial.insert(rt, n % 512, 3)?;
         n = n.wrapping_add(step);
     }
-    assert_eq!(rt; trial.tree.records, 512);
-    trial = trial.insert(rt, 600, 3)?;
-    assert_eq!(rt; trial.tree.records, 512);
-    assert!(rt; trial.store.free_pages() >= 6);
-    trial.compare_all(rt, alloc, 300)
+    assert_eq!(rt; trial.grown.tree.records, 512);
+    trial.insert(rt, 600, 3)?;
+    assert_eq!(rt; trial.grown.tree.records, 512);
+    assert!(rt; trial.grown.free_pages() >= 6);
+    trial.compare_all(rt, alloc, 300)?;
+    Ok(trial)
 }
 
 #[test]
 fn a_tree_reaches_its_quota(rt: HostRuntime) -> Result<(), Fail> {
     let _rising = fill_to_quota(&rt, rt.alloc(), 1)?;
     let _falling = fill_to_quota(&rt, rt.alloc(), 511)?;
-    let trial = fill_to_quota(&rt, rt.alloc(), 77)?;
-    let trial = trial.remove_all(&rt, rt.alloc(), &numbers(rt.alloc(), 0, 1, 512)?)?;
-    assert_eq!(rt; trial.tree.height, 0);
-    assert_eq!(rt; trial.store.free_pages(), 15);
+    let mut trial = fill_to_quota(&rt, rt.alloc(), 77)?;
+    trial.remove_all(&rt, rt.alloc(), &numbers(rt.alloc(), 0, 1, 512)?)?;
+    assert_eq!(rt; trial.grown.tree.height, 0);
+    assert_eq!(rt; trial.grown.free_pages(), 15);
     Ok(())
 }
 
 #[test]
 fn a_run_goes_over_three_leaves(rt: HostRuntime) -> Result<(), Fail> {
     let mut trial = Trial::new(rt.alloc(), 32)?;
-    trial = trial.insert_all(&rt, rt.alloc(), &numbers(rt.alloc(), 0, 4, 300)?, 1)?;
-    assert_eq!(rt; trial.tree.height, 2);
-    trial = trial.insert_all(&rt, rt.alloc(), &numbers(rt.alloc(), 102, 8, 80)?, 2)?;
-    trial = trial.compare_all(&rt, rt.alloc(), 502)?;
-    trial = trial.remove_all(&rt, rt.alloc(), &numbers(rt.alloc(), 102, 16, 40)?)?;
-    trial = trial.compare_all(&rt, rt.alloc(), 502)?;
-    trial = trial.remove_all(&rt, rt.alloc(), &numbers(rt.alloc(), 0, 4, 300)?)?;
-    trial = trial.compare_all(&rt, rt.alloc(), 502)?;
-    assert_eq!(rt; trial.tree.records, 40);
-    assert_eq!(rt; trial.tree.height, 1);
+    trial.insert_all(&rt, rt.alloc(), &numbers(rt.alloc(), 0, 4, 300)?, 1)?;
+    assert_eq!(rt; trial.grown.tree.height, 2);
+    trial.insert_all(&rt, rt.alloc(), &numbers(rt.alloc(), 102, 8, 80)?, 2)?;
+    trial.compare_all(&rt, rt.alloc(), 502)?;
+    trial.remove_all(&rt, rt.alloc(), &numbers(rt.alloc(), 102, 16, 40)?)?;
+    trial.compare_all(&rt, rt.alloc(), 502)?;
+    trial.remove_all(&rt, rt.alloc(), &numbers(rt.alloc(), 0, 4, 300)?)?;
+    trial.compare_all(&rt, rt.alloc(), 502)?;
+    assert_eq!(rt; trial.grown.tree.records, 40);
+    assert_eq!(rt; trial.grown.tree.height, 1);
     Ok(())
 }
 
 #[test]
 fn a_run_splits_a_leaf_twice(rt: HostRuntime) -> Result<(), Fail> {
     let mut trial = Trial::new(rt.alloc(), 32)?;
-    trial = trial.insert_all(&rt, rt.alloc(), &numbers(rt.alloc(), 0, 1000, 144)?, 1)?;
-    assert_eq!(rt; trial.tree.height, 1);
-    trial = trial.insert_all(&rt, rt.alloc(), &numbers(rt.alloc(), 70001, 1, 220)?, 2)?;
-    assert_eq!(rt; trial.tree.records, 364);
-    assert!(rt; trial.store.free_pages() <= 27);
-    trial = trial.compare_all(&rt, rt.alloc(), 70100)?;
-    let _trial = trial.remove_all(&rt, rt.alloc(), &numbers(rt.alloc(), 70001, 1, 220)?)?;
+    trial.insert_all(&rt, rt.alloc(), &numbers(rt.alloc(), 0, 1000, 144)?, 1)?;
+    assert_eq!(rt; trial.grown.tree.height, 1);
+    trial.insert_all(&rt, rt.alloc(), &numbers(rt.alloc(), 70001, 1, 220)?, 2)?;
+    assert_eq!(rt; trial.grown.tree.records, 364);
+    assert!(rt; trial.grown.free_pages() <= 27);
+    trial.compare_all(&rt, rt.alloc(), 70100)?;
+    trial.remove_all(&rt, rt.alloc(), &numbers(rt.alloc(), 70001, 1, 220)?)?;
     Ok(())
 }
 
 #[test]
 fn a_run_meets_a_key_that_is_there(rt: HostRuntime) -> Result<(), Fail> {
     let mut trial = Trial::new(rt.alloc(), 32)?;
-    trial = trial.insert_all(&rt, rt.alloc(), &numbers(rt.alloc(), 200, 1, 100)?, 1)?;
+    trial.insert_all(&rt, rt.alloc(), &numbers(rt.alloc(), 200, 1, 100)?, 1)?;
     trial.meets_one(&rt, rt.alloc(), &numbers(rt.alloc(), 101, 1, 100)?)
 }
 
 #[test]
 fn a_run_misses_its_last_key(rt: HostRuntime) -> Result<(), Fail> {
     let mut trial = Trial::new(rt.alloc(), 32)?;
-    trial = trial.insert_all(&rt, rt.alloc(), &numbers(rt.alloc(), 200, 1, 300)?, 1)?;
+    trial.insert_all(&rt, rt.alloc(), &numbers(rt.alloc(), 200, 1, 300)?, 1)?;
     trial.misses_one(&rt, rt.alloc(), &numbers(rt.alloc(), 301, 1, 200)?)
 }
 
@@ -135,12 +135,12 @@ fn mixed_edits(rt: HostRuntime) -> Result<(), Fail> {
     for step in 0..9000_u32 {
         let n = draw(&mut seed, 4000);
         if draw(&mut seed, 9000) > step {
-            trial = trial.insert(&rt, n, (step % 251) as u8)?;
+            trial.insert(&rt, n, (step % 251) as u8)?;
         } else {
-            trial = trial.remove(&rt, n)?;
+            trial.remove(&rt, n)?;
         }
         if step % 300 == 0 {
-            trial = trial.compare_all(&rt, rt.alloc(), n)?;
+            trial.compare_all(&rt, rt.alloc(), n)?;
         }
     }
     Ok(())
@@ -151,19 +151,19 @@ fn mixed_edits(rt: HostRuntime) -> Result<(), Fail> {
 fn up_to_height_three_and_down(rt: HostRuntime) -> Result<(), Fail> {
     let mut trial = Trial::new(rt.alloc(), 600)?;
     for n in 0..20011_u32 {
-        trial = trial.insert(&rt, n, (n % 251) as u8)?;
+        trial.insert(&rt, n, (n % 251) as u8)?;
     }
-    assert_eq!(rt; trial.tree.height, 3);
-    trial = trial.compare_all(&rt, rt.alloc(), 10000)?;
+    assert_eq!(rt; trial.grown.tree.height, 3);
+    trial.compare_all(&rt, rt.alloc(), 10000)?;
     let mut n = 0_u32;
     for step in 0..20011_u32 {
         n = n.wrapping_add(7919) % 20011;
-        trial = trial.remove(&rt, n)?;
+        trial.remove(&rt, n)?;
         if step % 2000 == 0 {
-            trial = trial.compare_all(&rt, rt.alloc(), n)?;
+            trial.compare_all(&rt, rt.alloc(), n)?;
         }
     }
-    assert_eq!(rt; trial.tree.height, 0);
-    assert_eq!(rt; trial.store.free_pages(), 599);
+    assert_eq!(rt; trial.grown.tree.height, 0);
+    assert_eq!(rt; trial.grown.free_pages(), 599);
     Ok(())
 }

@@ -1,6 +1,7 @@
 use quilt_edits::edits_of;
-use quilt_record::{Key, Record};
+use quilt_record::{Edits, Key, Record};
 use quilt_types::Stop;
+use std::alloc::{AllocError, Global};
 use std::test::Fail;
 
 /// A record of the first layer with this code and this first byte.
@@ -17,37 +18,50 @@ fn record(code: u32, first: u8) -> Record {
     Record { key, value }
 }
 
+/// The records of these codes and first bytes.
+fn records(alloc: Global, all: &[(u32, u8)]) -> Result<Vec<Record>, AllocError> {
+    let mut list = Vec::new(alloc);
+    for (code, first) in all {
+        list.push(record(*code, *first))?;
+    }
+    Ok(list)
+}
+
+/// The edits of these records, or why there are none.
+fn edits(alloc: Global, remove: Vec<Record>, add: Vec<Record>) -> Result<Edits, Stop> {
+    edits_of(alloc, remove, add)
+}
+
+/// Why these records cannot be removed and added.
+fn refusal(
+    alloc: Global,
+    remove: &[(u32, u8)],
+    add: &[(u32, u8)],
+) -> Result<Option<Stop>, AllocError> {
+    Ok(edits_of(alloc, records(alloc, remove)?, records(alloc, add)?).err())
+}
+
 #[test]
 fn both_lists_are_put_in_order(rt: HostRuntime) -> Result<(), Fail> {
-    let remove = vec![in rt.alloc(); record(7, 0), record(2, 0), record(5, 0)]?;
-    let add = vec![in rt.alloc(); record(5, 1), record(1, 0)]?;
-    let edits = edits_of(rt.alloc(), remove, add)?;
-    assert_eq!(rt;
-        edits.remove.records(),
-        [record(2, 0), record(5, 0), record(7, 0)].as_slice()
-    );
-    assert_eq!(rt;
-        edits.add.records(),
-        [record(1, 0), record(5, 1)].as_slice()
-    );
+    let remove = records(rt.alloc(), &[(7, 0), (2, 0), (5, 0)])?;
+    let add = records(rt.alloc(), &[(5, 1), (1, 0)])?;
+    let edits = edits(rt.alloc(), remove, add)?;
+    let removed = records(rt.alloc(), &[(2, 0), (5, 0), (7, 0)])?;
+    assert_eq!(rt; edits.remove.records(), removed.as_slice());
+    let added = records(rt.alloc(), &[(1, 0), (5, 1)])?;
+    assert_eq!(rt; edits.add.records(), added.as_slice());
     Ok(())
 }
 
 #[test]
 fn records_that_cannot_be_edits(rt: HostRuntime) -> Result<(), Fail> {
     let damaged = Some(Stop::Damaged { page: 0 });
-    let twice = vec![in rt.alloc(); record(3, 0), record(4, 0), record(3, 1)]?;
-    assert_eq!(rt;
-        edits_of(rt.alloc(), twice, Vec::new(rt.alloc())).err(),
-        damaged
-    );
-    let other = vec![in rt.alloc(); record(3, 0), record(3, 0)]?;
-    assert_eq!(rt;
-        edits_of(rt.alloc(), Vec::new(rt.alloc()), other).err(),
-        damaged
-    );
-    let gone = vec![in rt.alloc(); record(3, 0), record(4, 0)]?;
-    let come = vec![in rt.alloc(); record(5, 0), record(4, 0)]?;
-    assert_eq!(rt; edits_of(rt.alloc(), gone, come).err(), damaged);
+    let twice = [(3, 0), (4, 0), (3, 1)];
+    assert_eq!(rt; refusal(rt.alloc(), &twice, &[])?, damaged);
+    let other = [(3, 0), (3, 0)];
+    assert_eq!(rt; refusal(rt.alloc(), &[], &other)?, damaged);
+    let gone = [(3, 0), (4, 0)];
+    let come = [(5, 0), (4, 0)];
+    assert_eq!(rt; refusal(rt.alloc(), &gone, &come)?, damaged);
     Ok(())
 }
