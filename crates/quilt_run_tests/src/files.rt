@@ -38,15 +38,14 @@ pub struct Header {
 impl Header {
     /// The front of the header's page.
     fn front(&self) -> [u8; 24] {
-        let mut bytes = [0; 24];
-        bytes[..4].copy_from_slice(b"QHDR");
-        bytes[7] = self.version;
-        bytes[8..12].copy_from_slice(&self.edition);
-        bytes[12] = self.level;
-        bytes[13] = self.height;
-        bytes[19] = u8::from(self.height > 0);
-        bytes[23] = self.records;
-        bytes
+        let [a, b, c, d] = self.edition;
+        let (version, records) = (self.version, self.records);
+        let (level, height) = (self.level, self.height);
+        let root = u8::from(height > 0);
+        [
+            b'Q', b'H', b'D', b'R', 0, 0, 0, version, a, b, c, d, level, height, 0, 0, 0, 0, 0,
+            root, 0, 0, 0, records,
+        ]
     }
 }
 

@@ -2,7 +2,7 @@
 use quilt_desk::Desk;
 use quilt_scripts::{Run, Turns, file_of};
 use quilt_top::End;
-use quilt_world::Image;
+use quilt_world::{Event, Image};
 use std::alloc::Global;
 use std::process::Abort;
 use std::thread::Threads;
@@ -12,14 +12,61 @@ pub fn file_of_level_3<R: Threads + Sync + Abort>(rt: &R, alloc: Global) -> Imag
     file_of(rt, alloc, "16", "3").expect(rt, "a file")
 }
 
+/// How a run ended, and its desk.
+pub type Ran = (End, Desk);
+
 /// Does the run over a desk with this file.
 pub fn done<R: Threads + Sync + Abort>(
     rt: &R,
     alloc: Global,
     run: Run,
     file: Option<Image>,
-) -> (End, Desk) {
+) -> Ran {
     run.over(rt, alloc, file).expect(rt, "memory")
+}
+
+/// All bytes that the desk has put.
+pub fn put_by(desk: &Desk) -> &[u8] {
+    desk.output()
+}
+
+/// What the desk tells of the outside.
+pub fn log_of(desk: &Desk) -> &[Event] {
+    desk.log()
+}
+
+/// Whether a page was written.
+pub fn is_write(event: &Event) -> bool {
+    matches!(event, Event::Wrote { .. })
+}
+
+/// The exit status of the end.
+pub fn status_of(end: End) -> u8 {
+    end.status()
+}
+
+/// Whether the text begins with these bytes.
+pub fn begins_with(text: &[u8], front: &[u8]) -> bool {
+    text.starts_with(front)
+}
+
+/// Compares what the desk has put.
+pub fn puts(rt: &impl Abort, desk: &Desk, output: &[u8]) {
+    assert!(rt; put_by(desk) == output);
+}
+
+/// Compares how a run ended, and what it put.
+pub fn ends(rt: &impl Abort, ran: &Ran, wanted: End, output: &[u8]) {
+    let (end, desk) = ran;
+    assert_eq!(rt; *end, wanted);
+    puts(rt, desk, output);
+}
+
+/// How many bytes the desk has put, which have to be a front of this text.
+pub fn puts_front(rt: &impl Abort, desk: &Desk, text: &[u8]) -> usize {
+    let put = put_by(desk);
+    assert!(rt; begins_with(text, put));
+    put.len()
 }
 
 /// Does the run over a desk with this file, which has to put this and end with this status, and gives the file as it is then.

@@ -1,7 +1,11 @@
-use crate::runs::{done, file_of_level_3};
+ghost use Rattle.std.specs.Prelude.{◌≡◌};
+ghost use Rattle.quilt_world.specs.declared.disk.Door.TheVariants as doors;
+
+use crate::runs::{Ran, done, file_of_level_3, puts, puts_front, status_of};
 use quilt_desk::Calm;
 use quilt_scripts::Run;
 use quilt_top::{End, run_quilt};
+use quilt_world::Disk;
 use std::alloc::Global;
 use std::process::Abort;
 use std::thread::Threads;
@@ -14,8 +18,7 @@ fn making_fails_at<R: Threads + Sync + Abort>(rt: &R, alloc: Global, call: u64) 
     let words = ["new", "m", "16", "3"];
     let run = Run::of(&words, b"").in_pieces(1).failing_at(call);
     let (end, desk) = done(rt, alloc, run, None);
-    assert!(rt; LINE.starts_with(desk.output()));
-    (end, desk.output().len())
+    (end, puts_front(rt, &desk, LINE))
 }
 
 #[test]
@@ -31,13 +34,19 @@ fn ends_at_each_fault(rt: HostRuntime) {
     assert_eq!(rt; put, LINE.len());
 }
 
+/// Does what the input says over a world that tells nothing: how many bytes are put, and the status.
+fn ran<R: Threads + Sync>(rt: &R, alloc: Global, calm: Calm) -> (u64, u8)
+    requires { ⟦<Calm as Disk>⟧.door calm ≡ doors.Shut }
+{
+    let (end, calm) = run_quilt(rt, alloc, &["run", "m"], calm);
+    (calm.written(), end.status())
+}
+
 /// Runs the input over a world that tells nothing, and compares the number of bytes that are put and the status.
 fn counts<R: Threads + Sync + Abort>(rt: &R, alloc: Global, input: &[u8], bytes: u64, status: u8) {
     let file = file_of_level_3(rt, alloc);
     let calm = Calm::new(alloc, "m", Some(file), 0, input).expect(rt, "a world");
-    let (end, calm) = run_quilt(rt, alloc, &["run", "m"], calm);
-    assert_eq!(rt; calm.written(), bytes);
-    assert_eq!(rt; end.status(), status);
+    assert_eq!(rt; ran(rt, alloc, calm), (bytes, status));
 }
 
 #[test]
@@ -52,9 +61,20 @@ fn ends_an_input_without_end(rt: HostRuntime) {
     let alloc = rt.alloc();
     let file = file_of_level_3(&rt, alloc);
     let calm = Calm::endless(alloc, "m", Some(file), b'#').expect(&rt, "a world");
-    let (end, calm) = run_quilt(&rt, alloc, &["run", "m"], calm);
-    assert_eq!(rt; calm.written(), 0);
-    assert_eq!(rt; end.status(), 8);
+    assert_eq!(rt; ran(&rt, alloc, calm), (0, 8));
+}
+
+/// Whether a run has ended with this status: it has to put all of the output then. Else it has to end in a device fault, and to put a
+/// front of the output.
+fn has_status(rt: &impl Abort, ran: &Ran, output: &[u8], status: u8) -> bool {
+    let (end, desk) = ran;
+    if status_of(*end) == status {
+        puts(rt, desk, output);
+        return true;
+    }
+    assert_eq!(rt; *end, End::Device);
+    puts_front(rt, desk, output);
+    false
 }
 
 /// Does it over the file that `new m 16 3` makes: whether it ends with this status and puts all of the output. Else it ends in a device
@@ -67,14 +87,7 @@ fn is_whole<R: Threads + Sync + Abort>(
     status: u8,
 ) -> bool {
     let file = file_of_level_3(rt, alloc);
-    let (end, desk) = done(rt, alloc, run, Some(file));
-    if end.status() == status {
-        assert!(rt; desk.output() == output);
-        return true;
-    }
-    assert_eq!(rt; end, End::Device);
-    assert!(rt; output.starts_with(desk.output()));
-    false
+    has_status(rt, &done(rt, alloc, run, Some(file)), output, status)
 }
 
 /// The same with the first call failing, the second, and so on, until no call fails.
@@ -101,7 +114,7 @@ fn ends_a_text_at_each_fault(rt: HostRuntime) {
         region a 0\nat b 0 0\nregion b 0\nshow b 7 7 1 1\nedition\n";
     let replies = b"ok\nok\n255\nok\n04ff04\nok\nno 8 outside\n\
         no 7 exists\nno 5 unknown\nok\n00\nok\nedition 0\nok\n";
-    assert_eq!(rt; End::Device.status(), 3);
+    assert_eq!(rt; status_of(End::Device), 3);
     fails_in_turn(&rt, alloc, Run::text(text).in_pieces(1), replies, 1);
     fails_in_turn(&rt, alloc, Run::text(text), replies, 1);
 }

@@ -1,11 +1,19 @@
 use crate::files::{Header, Row, file_with, labelled, lay, leaf_of};
-use crate::runs::{answered, done, file_of_level_3};
+use crate::runs::{Ran, answered, done, ends, file_of_level_3, puts, status_of};
 use quilt_scripts::{Run, file_after};
 use quilt_top::End;
 use quilt_world::Image;
 use std::alloc::{AllocError, Global};
 use std::process::Abort;
 use std::thread::Threads;
+
+/// Compares what is put and the status, and gives the file as it is then.
+fn left_by(rt: &impl Abort, ran: &Ran, output: &[u8], status: u8) -> Image {
+    let (end, desk) = ran;
+    assert_eq!(rt; status_of(*end), status);
+    puts(rt, desk, output);
+    file_after(desk).expect(rt, "a file")
+}
 
 /// Makes a file where this one is, or none: compares what is put and the status, and gives the file as it is then.
 fn makes<R: Threads + Sync + Abort>(
@@ -16,10 +24,12 @@ fn makes<R: Threads + Sync + Abort>(
     status: u8,
 ) -> Image {
     let words = ["new", "m", "16", "3"];
-    let (end, desk) = done(rt, alloc, Run::of(&words, b""), file);
-    assert_eq!(rt; end.status(), status);
-    assert!(rt; desk.output() == output);
-    file_after(&desk).expect(rt, "a file")
+    left_by(
+        rt,
+        &done(rt, alloc, Run::of(&words, b""), file),
+        output,
+        status,
+    )
 }
 
 #[test]
@@ -39,9 +49,8 @@ fn opens_nothing<R: Threads + Sync + Abort>(
     end: End,
 ) {
     let words = ["run", path];
-    let (found, desk) = done(rt, alloc, Run::of(&words, b"edition\n"), file);
-    assert_eq!(rt; found, end);
-    assert!(rt; desk.output().is_empty());
+    let ran = done(rt, alloc, Run::of(&words, b"edition\n"), file);
+    ends(rt, &ran, end, b"");
 }
 
 /// The header of a file of level 3 with no tree, in format 2.
@@ -82,7 +91,7 @@ fn finds_no_other_file(rt: HostRuntime) {
     let file = file_of_level_3(&rt, alloc);
     opens_nothing(&rt, alloc, "k", Some(file), End::Missing);
     opens_nothing(&rt, alloc, "m", None, End::Missing);
-    assert_eq!(rt; End::Missing.status(), 6);
+    assert_eq!(rt; status_of(End::Missing), 6);
 }
 
 #[test]
@@ -99,8 +108,8 @@ fn opens_no_foreign_file(rt: HostRuntime) {
     let mut file = file_of_level_3(&rt, alloc);
     lay(&rt, &mut file, 0, b"QUILT MAP FILE");
     opens_nothing(&rt, alloc, "m", Some(file), End::NotMap);
-    assert_eq!(rt; End::NotMap.status(), 5);
-    assert_eq!(rt; End::Damaged { page: 0 }.status(), 9);
+    assert_eq!(rt; status_of(End::NotMap), 5);
+    assert_eq!(rt; status_of(End::Damaged { page: 0 }), 9);
 }
 
 /// The name of a region layer `a`, and that of a line layer `l` of threshold 4.
@@ -138,18 +147,29 @@ const LEAF: Header = Header {
     records: 5,
 };
 
+/// A file of blocks has to be there, and to give this answer to the text.
+fn spells<R: Threads + Sync + Abort>(
+    rt: &R,
+    alloc: Global,
+    file: Result<Image, AllocError>,
+    text: &[u8],
+    output: &[u8],
+) {
+    let file = file.expect(rt, "a file");
+    answered(rt, alloc, Run::text(text), file, output, 0);
+}
+
 #[test]
-fn opens_a_file_with_lawful_blocks(rt: HostRuntime) -> Result<(), AllocError> {
+fn opens_a_file_with_lawful_blocks(rt: HostRuntime) {
     let alloc = rt.alloc();
-    let file = file_of_blocks(&rt, alloc, LEAF, REGION, 1, [&[0], &[0], &[0], &[1]])?;
-    answered(&rt, alloc, Run::text(b"blocks a\n"), file, b"1 4\nok\n", 0);
+    let file = file_of_blocks(&rt, alloc, LEAF, REGION, 1, [&[0], &[0], &[0], &[1]]);
+    spells(&rt, alloc, file, b"blocks a\n", b"1 4\nok\n");
     // Each cover of the square by blocks is one that a line layer may have.
-    let file = file_of_blocks(&rt, alloc, LEAF, LINES, 3, [&[0], &[0], &[0], &[0]])?;
-    answered(&rt, alloc, Run::text(b"blocks l\n"), file, b"1 4\nok\n", 0);
+    let file = file_of_blocks(&rt, alloc, LEAF, LINES, 3, [&[0], &[0], &[0], &[0]]);
+    spells(&rt, alloc, file, b"blocks l\n", b"1 4\nok\n");
     let wide = Header { version: 2, ..LEAF };
-    let file = file_of_blocks(&rt, alloc, wide, REGION, 1, [&[2, 1], &[0], &[0], &[0]])?;
-    answered(&rt, alloc, Run::text(b"at a 0 0\n"), file, b"258\nok\n", 0);
-    Ok(())
+    let file = file_of_blocks(&rt, alloc, wide, REGION, 1, [&[2, 1], &[0], &[0], &[0]]);
+    spells(&rt, alloc, file, b"at a 0 0\n", b"258\nok\n");
 }
 
 /// A file whose tree is one leaf of the blocks of a region opens to nothing: the records spell no map.

@@ -1,18 +1,26 @@
 //! Worked commands, and texts at the limits of a map.
 use super::scripts::SCRIPTS;
 use crate::files::{Header, file_with};
-use crate::runs::{answered, done, file_of_level_3, played};
+use crate::runs::{Ran, answered, done, file_of_level_3, is_write, log_of, played, status_of};
 use quilt_desk::Desk;
 use quilt_map::settled_replies;
 use quilt_scripts::{Run, Turns, plays};
 use quilt_world::Event;
 use std::alloc::{AllocError, Global};
+use std::process::Abort;
+use std::thread::Threads;
+
+/// Plays the script behind its name, which is told where it is not answered.
+fn plays_named<R: Threads + Sync + Abort>(rt: &R, alloc: Global, text: &str) {
+    let (name, script) = text.split_once('\n').unwrap_or((text, ""));
+    let is_answered = plays(rt, alloc, script).is_some();
+    assert!(rt; is_answered, "{name}");
+}
 
 #[test]
 fn scripts_are_answered(rt: HostRuntime) {
-    for (name, script) in &SCRIPTS {
-        let file = plays(&rt, rt.alloc(), script);
-        assert!(rt; file.is_some(), "{name}");
+    for text in &SCRIPTS {
+        plays_named(&rt, rt.alloc(), text);
     }
 }
 
@@ -41,30 +49,48 @@ fn striped(alloc: Global, name: &str, rows: u32, empty: u32) -> Result<String, A
     Ok(text)
 }
 
+/// Adds a striped raster of 16 rows: its layer, how many of its pairs have no 1, and its reply.
+fn say_striped(turns: &mut Turns, row: (&str, u32, &str), alloc: Global) -> Result<(), AllocError> {
+    let (name, empty, reply) = row;
+    let raster = striped(alloc, name, 16, empty)?;
+    turns.says(&raster, reply)
+}
+
+/// What a map is told once a raster has 256 blocks, and answers.
+static ONE_RASTER: [(&str, &str); 2] = [("records", "257 of 512; ok"), ("region b 0", "ok")];
+
+/// What the map is told once a raster has had too many blocks.
+static TOO_MANY: [(&str, &str); 3] = [
+    ("records", "259 of 512; ok"),
+    ("blocks a", "1 256; ok"),
+    ("blocks b", "16 1; ok"),
+];
+
+/// What the map is told once a raster has had fewer blocks.
+static FEWER: [(&str, &str); 5] = [
+    ("blocks b", "2 1; 1 252; ok"),
+    ("records", "511 of 512; ok"),
+    ("region c 0", "no 11 full"),
+    ("points p", "no 11 full"),
+    ("publish", "edition 1; ok"),
+];
+
+/// Adds two rasters, of which the second fits into the quota once a pair of its pixels has no 1.
+fn add_rasters(alloc: Global, turns: &mut Turns) -> Result<(), AllocError> {
+    turns.says("region a 0", "ok")?;
+    say_striped(turns, ("a", 0, "ok"), alloc)?;
+    say_all(turns, &ONE_RASTER)?;
+    say_striped(turns, ("b", 0, "no 11 full"), alloc)?;
+    say_all(turns, &TOO_MANY)?;
+    say_striped(turns, ("b", 1, "ok"), alloc)?;
+    say_all(turns, &FEWER)
+}
+
 #[test]
 fn the_quota_is_exact(rt: HostRuntime) -> Result<(), AllocError> {
     let alloc = rt.alloc();
-    let first = striped(alloc, "a", 16, 0)?;
-    let too_many = striped(alloc, "b", 16, 0)?;
-    let fewer = striped(alloc, "b", 16, 1)?;
-    let rows = [
-        ("region a 0", "ok"),
-        (first.as_str(), "ok"),
-        ("records", "257 of 512; ok"),
-        ("region b 0", "ok"),
-        (too_many.as_str(), "no 11 full"),
-        ("records", "259 of 512; ok"),
-        ("blocks a", "1 256; ok"),
-        ("blocks b", "16 1; ok"),
-        (fewer.as_str(), "ok"),
-        ("blocks b", "2 1; 1 252; ok"),
-        ("records", "511 of 512; ok"),
-        ("region c 0", "no 11 full"),
-        ("points p", "no 11 full"),
-        ("publish", "edition 1; ok"),
-    ];
     let mut turns = Turns::new(alloc);
-    say_all(&mut turns, &rows)?;
+    add_rasters(alloc, &mut turns)?;
     played(&rt, alloc, ["16", "4"], &turns);
     Ok(())
 }
@@ -176,18 +202,33 @@ fn the_greatest_number_is_the_last_edition(rt: HostRuntime) {
     answered(&rt, alloc, run, file, replies, 1);
 }
 
+/// How many bytes the event puts.
+fn bytes_put(event: &Event) -> usize {
+    match event {
+        Event::Put(text) => text.bytes().len(),
+        _ => 0,
+    }
+}
+
 /// How many pages a run wrote once it had put so many bytes.
 fn writes_behind(desk: &Desk, bytes: usize) -> u32 {
     let mut put = 0_usize;
     let mut writes = 0_u32;
-    for event in desk.log() {
-        match event {
-            Event::Put(text) => put = put.saturating_add(text.bytes().len()),
-            Event::Wrote { .. } if put >= bytes => writes = writes.saturating_add(1),
-            _ => {}
+    for event in log_of(desk) {
+        put = put.saturating_add(bytes_put(event));
+        if put >= bytes {
+            writes = writes.saturating_add(u32::from(is_write(event)));
         }
     }
     writes
+}
+
+/// The run has refused nothing. Behind the reply of the first publish it wrote up to 8 pages, and at least one.
+fn writes_few_pages(rt: &impl Abort, ran: &Ran) {
+    let (end, desk) = ran;
+    assert_eq!(rt; status_of(*end), 0);
+    let writes = writes_behind(desk, b"ok\nedition 1\nok\n".len());
+    assert!(rt; writes > 0 && writes <= 8);
 }
 
 /// The second publish changes no record. A publish writes at most 8 pages, and 18 more for each record that was changed.
@@ -195,10 +236,8 @@ fn writes_behind(desk: &Desk, bytes: usize) -> u32 {
 fn a_publish_of_nothing_writes_few_pages(rt: HostRuntime) {
     let alloc = rt.alloc();
     let run = Run::text(b"region a 0\npublish\nset a 0 0 0\nset a 0 0 0\npublish\n");
-    let (end, desk) = done(&rt, alloc, run, Some(file_of_level_3(&rt, alloc)));
-    assert_eq!(rt; end.status(), 0);
-    let writes = writes_behind(&desk, b"ok\nedition 1\nok\n".len());
-    assert!(rt; writes > 0 && writes <= 8);
+    let file = file_of_level_3(&rt, alloc);
+    writes_few_pages(&rt, &done(&rt, alloc, run, Some(file)));
 }
 
 #[test]

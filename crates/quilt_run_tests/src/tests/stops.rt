@@ -1,5 +1,5 @@
 //! One script over all kinds of layers: stopped at each event, with each call failing in turn, and cut after each byte.
-use crate::runs::{done, file_of_level_3};
+use crate::runs::{Ran, begins_with, done, ends, file_of_level_3, log_of, put_by, puts_front};
 use quilt_desk::Desk;
 use quilt_scripts::{Run, choice, edition_of, put_within, stopped};
 use quilt_top::End;
@@ -32,9 +32,9 @@ fn replies_to(commands: usize) -> &'static [u8] {
 
 /// The number of the last edition whose reply was put whole.
 fn answered(output: &[u8]) -> u32 {
-    if output.starts_with(replies_to(9)) {
+    if begins_with(output, replies_to(9)) {
         2
-    } else if output.starts_with(replies_to(3)) {
+    } else if begins_with(output, replies_to(3)) {
         1
     } else {
         0
@@ -58,18 +58,44 @@ fn stops_at<R: Threads + Sync + Abort>(
     }
 }
 
+/// Stops at an event of a run that went to its end.
+fn stops_within<R: Threads + Sync + Abort>(rt: &R, alloc: Global, desk: &Desk, events: usize) {
+    let put = put_by(desk).get(..put_within(desk, events));
+    let told = answered(put.expect(rt, "what was put"));
+    stops_at(rt, alloc, desk, events, told);
+}
+
+/// Stops a run that was done, and put all replies, at each event.
+fn stops_at_each_event<R: Threads + Sync + Abort>(rt: &R, alloc: Global, ran: &Ran) {
+    ends(rt, ran, End::Done, REPLIES);
+    let desk = &ran.1;
+    for events in 0..=log_of(desk).len() {
+        stops_within(rt, alloc, desk, events);
+    }
+}
+
 #[test]
 fn a_stop_at_each_event(rt: HostRuntime) {
     let words = ["run", "m", "--pool", "8"];
     let file = file_of_level_3(&rt, rt.alloc());
-    let (end, desk) = done(&rt, rt.alloc(), Run::of(&words, SCRIPT), Some(file));
-    assert_eq!(rt; end, End::Done);
-    assert!(rt; desk.output() == REPLIES);
-    for events in 0..=desk.log().len() {
-        let put = desk.output().get(..put_within(&desk, events));
-        let told = answered(put.expect(&rt, "what was put"));
-        stops_at(&rt, rt.alloc(), &desk, events, told);
+    let ran = done(&rt, rt.alloc(), Run::of(&words, SCRIPT), Some(file));
+    stops_at_each_event(&rt, rt.alloc(), &ran);
+}
+
+/// Whether a run of the script went to its end. If not, it has ended in a device fault, what was put is a front of the replies, and a
+/// stop at the end leaves a whole edition.
+fn is_done<R: Threads + Sync + Abort>(rt: &R, alloc: Global, ran: &Ran) -> bool {
+    let (end, desk) = ran;
+    puts_front(rt, desk, REPLIES);
+    if *end == End::Done {
+        return true;
     }
+    assert_eq!(rt; *end, End::Device);
+    if desk.pages() == 35 {
+        let told = answered(put_by(desk));
+        stops_at(rt, alloc, desk, log_of(desk).len(), told);
+    }
+    false
 }
 
 /// Runs the script with one call failing: true where none failed. Where one did, what was put is a front of the replies, and a stop at
@@ -77,17 +103,8 @@ fn a_stop_at_each_event(rt: HostRuntime) {
 fn fails_at<R: Threads + Sync + Abort>(rt: &R, alloc: Global, call: u64) -> bool {
     let words = ["run", "m", "--pool", "8"];
     let run = Run::of(&words, SCRIPT).failing_at(call);
-    let (end, desk) = done(rt, alloc, run, Some(file_of_level_3(rt, alloc)));
-    assert!(rt; REPLIES.starts_with(desk.output()));
-    if end == End::Done {
-        return true;
-    }
-    assert_eq!(rt; end, End::Device);
-    if desk.pages() == 35 {
-        let told = answered(desk.output());
-        stops_at(rt, alloc, &desk, desk.log().len(), told);
-    }
-    false
+    let file = file_of_level_3(rt, alloc);
+    is_done(rt, alloc, &done(rt, alloc, run, Some(file)))
 }
 
 #[test]
@@ -106,12 +123,17 @@ fn whole_lines(text: &[u8]) -> usize {
     text.iter().filter(|b| **b == b'\n').count()
 }
 
+/// What the desk has put has to begin with this.
+fn puts_more(rt: &impl Abort, desk: &Desk, front: &[u8]) {
+    assert!(rt; begins_with(put_by(desk), front));
+}
+
 #[test]
 fn the_script_is_cut_after_each_byte(rt: HostRuntime) {
     for length in 0..=SCRIPT.len() {
         let front = SCRIPT.get(..length).unwrap_or(SCRIPT);
         let file = file_of_level_3(&rt, rt.alloc());
         let (_, desk) = done(&rt, rt.alloc(), Run::text(front), Some(file));
-        assert!(rt; desk.output().starts_with(replies_to(whole_lines(front))));
+        puts_more(&rt, &desk, replies_to(whole_lines(front)));
     }
 }

@@ -1,6 +1,7 @@
 ghost use Rattle.std.specs.Prelude.{◌≤◌};
 
-use crate::runs::done;
+use crate::runs::{done, put_by};
+use quilt_desk::Desk;
 use quilt_scripts::Run;
 use quilt_top::End;
 use std::alloc::Global;
@@ -168,6 +169,11 @@ fn is_answer(
     }
 }
 
+/// Compares how a run over no file ended, and what it put, with what the table says.
+fn compares(rt: &impl Abort, alloc: Global, wanted: Option<Asked>, end: End, desk: &Desk) {
+    assert!(rt; is_answer(rt, alloc, wanted, end, put_by(desk)));
+}
+
 /// Does what the words say where there is no file, and compares it with what the table says of them.
 fn reads_as<R: Threads + Sync + Abort>(
     rt: &R,
@@ -176,7 +182,7 @@ fn reads_as<R: Threads + Sync + Abort>(
     wanted: Option<Asked>,
 ) {
     let (end, desk) = done(rt, alloc, Run::of(words, b""), None);
-    assert!(rt; is_answer(rt, alloc, wanted, end, desk.output()));
+    compares(rt, alloc, wanted, end, &desk);
 }
 
 #[test]
