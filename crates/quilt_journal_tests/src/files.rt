@@ -1,5 +1,4 @@
 ghost use Rattle.std.specs.Prelude.{◌≡◌, length, IfOk, IfSome};
-ghost use Rattle.quilt_world.specs.declared.disk.Door.TheVariants as doors;
 ghost use Rattle.quilt_journal.specs.Beginning.{NoneFree};
 
 use quilt_desk::Desk;
@@ -35,7 +34,6 @@ pub fn foreign_file(alloc: Global, gate: u8, listed: u8) -> Result<Image, AllocE
 
 /// A desk that has opened this file, and of which the call of this number fails.
 pub fn opened(alloc: Global, file: Image, failing: u64) -> Result<Option<Desk>, AllocError>
-    ensures door { IfOk result (λ o. IfSome o (λ d. ⟦<Desk as Disk>⟧.door d ≡ doors.Ready)) }
     ensures none { IfOk result (λ o. IfSome o (λ d. IfSome (⟦<Desk as Disk>⟧.told d) NoneFree)) }
 {
     let mut desk = Desk::new(alloc, "m", Some(file), b"")?;

@@ -1,16 +1,16 @@
 ghost use Rattle.std.specs.Prelude.{◌≡◌, ◌+◌, ◌*◌, ◌≤◌, IfSome};
-ghost use Rattle.quilt_world.specs.declared.disk.Door.TheVariants as doors;
 ghost use Rattle.quilt_journal.specs.Kept.{IsIdle, IsKept};
 ghost use Rattle.quilt_journal.specs.declared.journal.State.TheVariants.{Idle};
 
-use crate::files::opened;
+use crate::calls::{crashed, events_of};
+use crate::files::{map_file, opened};
 use quilt_desk::Desk;
 use quilt_journal::{Begun, Journal};
 use quilt_world::{Disk, Fault, Image};
 use std::alloc::{AllocError, Global};
 
 /// The first byte of each of the first 16 pages of the work.
-pub fn marks<D: Disk>(journal: &Journal, disk: &mut D) -> Result<[u8; 16], Fault>
+fn marks<D: Disk>(journal: &Journal, disk: &mut D) -> Result<[u8; 16], Fault>
     requires least { 16 ≤ journal.now.pages }
     requires size { D.size disk.old ≡ 3 + 2 * journal.now.pages }
     requires kept { IfSome (D.told disk.old) (IsKept journal.now.state journal.now.pages journal.now.changed) }
@@ -25,13 +25,11 @@ pub fn marks<D: Disk>(journal: &Journal, disk: &mut D) -> Result<[u8; 16], Fault
 }
 
 /// Publishes the pages 0, 5 and 15, filled with this byte.
-pub fn publish_three<D: Disk>(journal: &mut Journal, disk: &mut D, byte: u8) -> Result<(), Fault>
+fn publish_three<D: Disk>(journal: &mut Journal, disk: &mut D, byte: u8) -> Result<(), Fault>
     requires least { 16 ≤ journal.old.pages }
     requires idle { journal.old.state ≡ Idle }
     requires size { D.size disk.old ≡ 3 + 2 * journal.old.pages }
     requires kept { IfSome (D.told disk.old) (IsIdle journal.old.pages journal.old.changed) }
-    ensures size { D.size disk.new ≡ D.size disk.old }
-    ensures door { D.door disk.new ≡ D.door disk.old }
 {
     let bytes = [byte; 4096];
     journal.write_slot(disk, 0, &bytes)?;
@@ -40,6 +38,22 @@ pub fn publish_three<D: Disk>(journal: &mut Journal, disk: &mut D, byte: u8) -> 
     journal.seal(disk)?;
     journal.carry_home(disk)?;
     journal.unseal(disk)
+}
+
+/// Publishes the pages 0, 5 and 15 of a new map file, filled with 9, where the call of this number fails. It gives the answer, if
+/// the journal was opened, and the desk as that leaves it.
+pub fn published(
+    alloc: Global,
+    failing: u64,
+) -> Result<Option<(Option<Result<(), Fault>>, Desk)>, AllocError> {
+    let Some(mut desk) = opened(alloc, map_file(alloc)?, failing)? else {
+        return Ok(None);
+    };
+    let answer = match Journal::begin(&mut desk) {
+        Ok(Begun::Journal(mut journal)) => Some(publish_three(&mut journal, &mut desk, 9)),
+        _ => None,
+    };
+    Ok(Some((answer, desk)))
 }
 
 /// The marks of a file that is opened again.
@@ -53,19 +67,37 @@ pub fn reopened(alloc: Global, file: Image) -> Result<Option<[u8; 16]>, AllocErr
     }
 }
 
+/// The desk that has opened the journal of what a stop after so many events leaves.
+pub fn begun_after(
+    alloc: Global,
+    desk: &Desk,
+    events: usize,
+    choice: &[u8; 35],
+) -> Result<Option<Desk>, AllocError> {
+    let Some(file) = crashed(desk, events, choice)? else {
+        return Ok(None);
+    };
+    let Some(mut again) = opened(alloc, file, 0)? else {
+        return Ok(None);
+    };
+    match Journal::begin(&mut again) {
+        Ok(Begun::Journal(_)) => Ok(Some(again)),
+        _ => Ok(None),
+    }
+}
+
 /// The marks after a stop at each event, and reopening.
 pub fn stops(
     alloc: Global,
     desk: &Desk,
     choice: &[u8; 35],
-) -> Result<Vec<Option<[u8; 16]>>, AllocError>
-    requires door { ⟦<Desk as Disk>⟧.door desk.now ≡ doors.Ready }
-    requires size { ⟦<Desk as Disk>⟧.size desk.now ≡ 35 }
-{
+) -> Result<Vec<Option<[u8; 16]>>, AllocError> {
     let mut all = Vec::new(alloc);
-    for events in 0..=desk.log().len() {
-        let image = desk.crash(events, choice)?;
-        all.push(reopened(alloc, image)?)?;
+    for events in 0..=events_of(desk) {
+        all.push(match crashed(desk, events, choice)? {
+            Some(file) => reopened(alloc, file)?,
+            None => None,
+        })?;
     }
     Ok(all)
 }

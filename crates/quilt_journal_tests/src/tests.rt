@@ -1,6 +1,6 @@
-use crate::{foreign_file, map_file, opened, publish_three, reopened, stops};
-use quilt_journal::{Begun, Journal};
-use quilt_world::Disk;
+use crate::calls::{events_of, pages_of};
+use crate::files::foreign_file;
+use crate::steps::{begun_after, published, reopened, stops};
 use std::test::Fail;
 
 const OLD: [u8; 16] = [0, 1, 2, 3, 4, 5, 6, 7, 8, 9, 10, 11, 12, 13, 14, 15];
@@ -23,14 +23,11 @@ fn choice(k: u8) -> [u8; 35] {
 // At each event of a publish a stop leaves the old pages or the new ones, and at last the new ones.
 #[test]
 fn each_stop_leaves_old_or_new(rt: HostRuntime) -> Result<(), Fail> {
-    let Some(mut desk) = opened(rt.alloc(), map_file(rt.alloc())?, 0)? else {
+    let Some((answer, desk)) = published(rt.alloc(), 0)? else {
         panic!(rt; "no desk");
     };
-    let Ok(Begun::Journal(mut journal)) = Journal::begin(&mut desk) else {
-        panic!(rt; "no journal");
-    };
-    assert!(rt; publish_three(&mut journal, &mut desk, 9).is_ok());
-    assert!(rt; desk.pages() == 35);
+    assert_eq!(rt; answer, Some(Ok(())));
+    assert!(rt; pages_of(&desk) == 35);
     for k in 0..23 {
         let all = stops(rt.alloc(), &desk, &choice(k))?;
         assert_eq!(rt; all.len(), 14, "choice {k}");
@@ -45,21 +42,16 @@ fn each_stop_leaves_old_or_new(rt: HostRuntime) -> Result<(), Fail> {
 // A stop while an open gate is carried home leaves the new pages too.
 #[test]
 fn second_stop_leaves_new(rt: HostRuntime) -> Result<(), Fail> {
-    let Some(mut desk) = opened(rt.alloc(), map_file(rt.alloc())?, 0)? else {
+    let Some((answer, desk)) = published(rt.alloc(), 0)? else {
         panic!(rt; "no desk");
     };
-    let Ok(Begun::Journal(mut journal)) = Journal::begin(&mut desk) else {
-        panic!(rt; "no journal");
-    };
-    assert!(rt; publish_three(&mut journal, &mut desk, 9).is_ok());
-    assert!(rt; desk.pages() == 35 && desk.log().len() == 13);
+    assert_eq!(rt; answer, Some(Ok(())));
+    assert!(rt; pages_of(&desk) == 35 && events_of(&desk) == 13);
     for k in 0..5 {
-        let image = desk.crash(8, &choice(k))?;
-        let Some(mut again) = opened(rt.alloc(), image, 0)? else {
-            panic!(rt; "no desk");
+        let Some(again) = begun_after(rt.alloc(), &desk, 8, &choice(k))? else {
+            panic!(rt; "no journal");
         };
-        assert!(rt; matches!(Journal::begin(&mut again), Ok(Begun::Journal(_))));
-        assert!(rt; again.pages() == 35);
+        assert!(rt; pages_of(&again) == 35);
         for marks in &stops(rt.alloc(), &again, &choice(k))? {
             assert_eq!(rt; *marks, Some(NEW), "choice {k}");
         }
@@ -71,16 +63,11 @@ fn second_stop_leaves_new(rt: HostRuntime) -> Result<(), Fail> {
 #[test]
 fn each_fault_leaves_old_or_new(rt: HostRuntime) -> Result<(), Fail> {
     for failing in 2..20 {
-        let Some(mut desk) = opened(rt.alloc(), map_file(rt.alloc())?, failing)? else {
+        let Some((answer, desk)) = published(rt.alloc(), failing)? else {
             panic!(rt; "no desk");
         };
-        if let Ok(Begun::Journal(mut journal)) = Journal::begin(&mut desk) {
-            assert!(rt;
-                publish_three(&mut journal, &mut desk, 9).is_err(),
-                "call {failing}"
-            );
-        }
-        assert!(rt; desk.pages() == 35);
+        assert!(rt; answer != Some(Ok(())), "call {failing}");
+        assert!(rt; pages_of(&desk) == 35);
         for marks in &stops(rt.alloc(), &desk, &choice(2))? {
             assert!(rt;
                 *marks == Some(OLD) || *marks == Some(NEW),

@@ -1,5 +1,5 @@
 use Rattle.quilt_journal.proofs.Begins.{none_free_fresh}
 use Rattle.quilt_journal_tests.proofs.files.opened.Goals as goal
 
-pub returns-in-Ok-Ready-clause-none : goal.returns-in-Ok-Ready-clause-none
-returns-in-Ok-Ready-clause-none c = none_free_fresh _ c.attach.ensures.tale.fresh.log
+pub returns-in-Ok-Ready : goal.returns-in-Ok-Ready
+returns-in-Ok-Ready c = record { none = none_free_fresh _ c.attach.ensures.tale.fresh.log }
