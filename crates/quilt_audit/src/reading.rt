@@ -4,8 +4,9 @@ ghost use Rattle.quilt_node.specs.Nodes.{are_pages, keys_of, records_of};
 ghost use Rattle.quilt_node.specs.Pages as spec;
 ghost use Rattle.quilt_node.specs.Tree.{Bounds, Walk, Whole, Damaged, are_within, bounded, each_child, leaf_walk, inner_walk, is_above as is_above_of};
 ghost use Rattle.quilt_node.specs.Tree.{is_below as is_below_of};
-ghost use Rattle.quilt_store.specs.Store.{Tells};
-ghost use Rattle.quilt_btree.specs.Stops.{store_stop, HasStopCause, NamesPage};
+ghost use Rattle.quilt_store.specs.Store.{IsOnlyRead, Tells};
+ghost use Rattle.quilt_store.specs.Stops.{HasStopCause};
+ghost use Rattle.quilt_btree.specs.Stops.{store_stop, NamesPage};
 ghost use Rattle.quilt_audit.specs.Surveys.{OnDamaged};
 
 use quilt_node::{InnerPage, inner_of, is_leaf, rec_in, records_in};
@@ -92,12 +93,8 @@ pub fn read_leaf<S: PageStore>(
         → leaf_walk is_root (record { low = low.now; high = high.now }) page visited (spec.leaf_of (slice_index_or pages page [])) ≡ Damaged p)) }
     ensures names { IfErr result (NamesPage (S.size store.old)) }
     ensures cause { HasStopCause (S.faults store.old) (S.faults store.new) result }
-    ensures size { S.size store.new ≡ S.size store.old }
-    ensures told { S.told store.new ≡ S.told store.old }
-    ensures free { S.free store.new ≡ S.free store.old }
-    ensures later { S.later store.old store.new }
+    ensures left { IsOnlyRead S.size S.told S.free S.later S.changed store.old store.new }
     ensures reads { Tells (λ old new. new ≤ old + 1) (S.reads store.old) (S.reads store.new) }
-    ensures changed { S.changed store.new ≤ S.changed store.old }
 {
     match store.read(page, bytes) {
         Err(e) => Err(stop_of(e)),
@@ -154,12 +151,8 @@ pub fn read_inner<S: PageStore>(
         (spec.inner_of (length pages) (slice_index_or pages page [])) ≡ Damaged p)) }
     ensures names { IfErr result (NamesPage (S.size store.old)) }
     ensures cause { HasStopCause (S.faults store.old) (S.faults store.new) result }
-    ensures size { S.size store.new ≡ S.size store.old }
-    ensures told { S.told store.new ≡ S.told store.old }
-    ensures free { S.free store.new ≡ S.free store.old }
-    ensures later { S.later store.old store.new }
+    ensures left { IsOnlyRead S.size S.told S.free S.later S.changed store.old store.new }
     ensures reads { Tells (λ old new. new ≤ old + 1) (S.reads store.old) (S.reads store.new) }
-    ensures changed { S.changed store.new ≤ S.changed store.old }
 {
     let mut bytes = [0; 4096];
     match store.read(page, &mut bytes) {

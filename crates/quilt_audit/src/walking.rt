@@ -4,8 +4,9 @@ ghost use Rattle.std.specs.List.{list_any};
 ghost use Rattle.std.specs.Option.{option_or};
 ghost use Rattle.quilt_node.specs.Nodes.{are_pages, records_of};
 ghost use Rattle.quilt_node.specs.Tree.{Bounds, Walk, Whole, Damaged, bounded, each_child, walk};
-ghost use Rattle.quilt_store.specs.Store.{Tells};
-ghost use Rattle.quilt_btree.specs.Stops.{HasStopCause, NamesPage};
+ghost use Rattle.quilt_store.specs.Store.{IsOnlyRead, Tells};
+ghost use Rattle.quilt_store.specs.Stops.{HasStopCause};
+ghost use Rattle.quilt_btree.specs.Stops.{NamesPage};
 ghost use Rattle.quilt_audit.specs.Bits.{Marks};
 ghost use Rattle.quilt_audit.specs.Surveys.{OnDamaged};
 ghost use Rattle.quilt_audit.specs.Checking.{Takes};
@@ -64,11 +65,7 @@ fn survey_leaf<S: PageStore>(
         → SpentSome (S.size store.old) visited (S.reads store.old) (S.reads store.new)) }
     ensures names { IfErr result (NamesPage (S.size store.old)) }
     ensures cause { HasStopCause (S.faults store.old) (S.faults store.new) result }
-    ensures size { S.size store.new ≡ S.size store.old }
-    ensures told { S.told store.new ≡ S.told store.old }
-    ensures free { S.free store.new ≡ S.free store.old }
-    ensures later { S.later store.old store.new }
-    ensures changed { S.changed store.new ≤ S.changed store.old }
+    ensures left { IsOnlyRead S.size S.told S.free S.later S.changed store.old store.new }
 {
     match read_leaf(store, page, is_root, low, high, bytes) {
         Err(e) => Err(e),
@@ -107,11 +104,7 @@ pub fn survey_page<S: PageStore>(
         → SpentSome (S.size store.old) visited (S.reads store.old) (S.reads store.new)) }
     ensures names { IfErr result (NamesPage (S.size store.old)) }
     ensures cause { HasStopCause (S.faults store.old) (S.faults store.new) result }
-    ensures size { S.size store.new ≡ S.size store.old }
-    ensures told { S.told store.new ≡ S.told store.old }
-    ensures free { S.free store.new ≡ S.free store.old }
-    ensures later { S.later store.old store.new }
-    ensures changed { S.changed store.new ≤ S.changed store.old }
+    ensures left { IsOnlyRead S.size S.told S.free S.later S.changed store.old store.new }
 {
     if is_marked(&state.used, page) {
         return Err(Stop::Damaged { page });
@@ -147,11 +140,7 @@ fn survey_inner<S: PageStore>(
         → SpentSome (S.size store.old) visited (S.reads store.old) (S.reads store.new)) }
     ensures names { IfErr result (NamesPage (S.size store.old)) }
     ensures cause { HasStopCause (S.faults store.old) (S.faults store.new) result }
-    ensures size { S.size store.new ≡ S.size store.old }
-    ensures told { S.told store.new ≡ S.told store.old }
-    ensures free { S.free store.new ≡ S.free store.old }
-    ensures later { S.later store.old store.new }
-    ensures changed { S.changed store.new ≤ S.changed store.old }
+    ensures left { IsOnlyRead S.size S.told S.free S.later S.changed store.old store.new }
 {
     match read_inner(store, page, height, is_root, low, high) {
         Err(e) => Err(e),
@@ -187,11 +176,7 @@ fn survey_children<S: PageStore>(
         → SpentSome (S.size store.old) visited (S.reads store.old) (S.reads store.new)) }
     ensures names { IfErr result (NamesPage (S.size store.old)) }
     ensures cause { HasStopCause (S.faults store.old) (S.faults store.new) result }
-    ensures size { S.size store.new ≡ S.size store.old }
-    ensures told { S.told store.new ≡ S.told store.old }
-    ensures free { S.free store.new ≡ S.free store.old }
-    ensures later { S.later store.old store.new }
-    ensures changed { S.changed store.new ≤ S.changed store.old }
+    ensures left { IsOnlyRead S.size S.told S.free S.later S.changed store.old store.new }
 {
     let mut from = *low;
     for i in 0..inner.len() {

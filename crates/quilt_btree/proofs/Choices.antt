@@ -12,7 +12,7 @@ use Rattle.quilt_btree.specs.declared.outcomes.Rebalanced.{Rebalanced}
 use Rattle.quilt_btree.specs.declared.outcomes.Rebalanced.TheVariants as rebalanced
 use Rattle.quilt_btree.specs.declared.outcomes.Removed.{Removed}
 use Rattle.quilt_btree.specs.declared.outcomes.Removed.TheVariants as removed
-use Rattle.quilt_btree.specs.Stops.{IsSound}
+use Rattle.quilt_store.specs.Stops.{IsSound}
 use Rattle.quilt_btree.specs.Edits.{DidLeave}
 use Rattle.quilt_btree.specs.Rebalancing.{CanRebalance, DidRebalance, HasUnderfull, Writes, HasDropped}
 use Rattle.quilt_btree.proofs.Middles.{gap_bounds}

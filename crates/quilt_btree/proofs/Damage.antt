@@ -14,7 +14,8 @@ use Rattle.quilt_btree.specs.declared.tree.Tree.{Tree}
 use Rattle.quilt_btree.specs.declared.reading.Found.{Found}
 use Rattle.quilt_btree.specs.Damage.{HasChild, IsBadUnder, NamesBad}
 use Rattle.quilt_btree.specs.Searches.{AreOf}
-use Rattle.quilt_btree.specs.Stops.{unnamed, HasStopCause, IsSound, NamesPage}
+use Rattle.quilt_store.specs.Stops.{HasStopCause, IsSound}
+use Rattle.quilt_btree.specs.Stops.{unnamed, NamesPage}
 use Rattle.quilt_btree.proofs.Counts.{other_test}
 use Rattle.quilt_btree.proofs.Descending.{height_above}
 use Rattle.quilt_btree.proofs.Forks.{IsRead, leaf_has_last}

@@ -18,7 +18,7 @@ use Rattle.quilt_btree.specs.declared.reading.Found.{Found}
 use Rattle.quilt_btree.specs.Edits.{CanEdit}
 use Rattle.quilt_btree.specs.Runs.{has_any, DidFill, DidDrain, Lacks}
 use Rattle.quilt_btree.specs.Searches.{AreOf, IsStep}
-use Rattle.quilt_btree.specs.Stops.{IsSound}
+use Rattle.quilt_store.specs.Stops.{IsSound}
 use Rattle.quilt_btree.specs.Trees.{Spells, LeadsTo, IsCut}
 use Rattle.quilt_btree.proofs.Along.{IsSame}
 use Rattle.quilt_btree.proofs.Below.{edit_spells}

@@ -17,7 +17,7 @@ use Rattle.quilt_node.specs.Tree.{Bounds, Whole, walk_of, bounded}
 use Rattle.quilt_store.specs.Store.{Tells, FreesOnly, count_free}
 use Rattle.quilt_btree.specs.declared.tree.Tree.{Tree}
 use Rattle.quilt_record.specs.Lists.{has_key, put}
-use Rattle.quilt_btree.specs.Stops.{IsSound}
+use Rattle.quilt_store.specs.Stops.{IsSound}
 use Rattle.quilt_btree.specs.Subtree.{Row, Subtree, IsFresh}
 use Rattle.quilt_btree.specs.Trees.{IsRooted, IsTree}
 use Rattle.quilt_btree.specs.Edits.{times, account, Moves, Separated, CanInsert, DidInsert, IsWhole}

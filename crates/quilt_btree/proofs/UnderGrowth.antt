@@ -15,7 +15,7 @@ use Rattle.quilt_node.specs.Tree.{Bounds, bounded}
 use Rattle.quilt_node.proofs.Ascending.{all_take, all_drop}
 use Rattle.quilt_store.specs.Store.{count_free}
 use Rattle.quilt_record.specs.Lists.{has_key, put}
-use Rattle.quilt_btree.specs.Stops.{IsSound}
+use Rattle.quilt_store.specs.Stops.{IsSound}
 use Rattle.quilt_btree.specs.Subtree.{Row, Subtree}
 use Rattle.quilt_btree.specs.Trees.{ReadsInner}
 use Rattle.quilt_btree.specs.Edits.{Moves, Becomes, HasInserted, CanInsert, DidInsert}

@@ -6,7 +6,7 @@ use Rattle.quilt_node.specs.Tree.{Whole, walk_of}
 use Rattle.quilt_types.specs.declared.stop.Stop.{Stop}
 use Rattle.quilt_btree.specs.declared.tree.Tree.{Tree}
 use Rattle.quilt_btree.specs.Lists.{value_of, floor_of}
-use Rattle.quilt_btree.specs.Stops.{IsSound}
+use Rattle.quilt_store.specs.Stops.{IsSound}
 use Rattle.quilt_btree.specs.Subtree.{Subtree}
 use Rattle.quilt_btree.specs.Trees.{Spells, IsTree, LeadsTo}
 use Rattle.quilt_btree.proofs.Walks.{walk_found}

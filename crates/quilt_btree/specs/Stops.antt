@@ -11,20 +11,11 @@ abbrev pub store_stop : StoreErr → Stop
 store_stop store.Device = Device
 store_stop store.Memory = Memory
 
--- the count of faults does not fall, and `Device` comes only where it rose
-pub record HasStopCause {T : Type 0} (before now : ℕ) (result : Result T Stop) : Type 0 where
-  pub later : before ≤ now
-  pub device : IsErrOf result Device → Rose before now
-
 -- a page that is said to be damaged is one of so many
 abbrev pub NamesPage : ℕ → Stop → Type 0
 NamesPage size Device = Unit {0}
 NamesPage size Memory = Unit {0}
 NamesPage size (Damaged page) = page < size
-
--- no page is said to be damaged
-abbrev pub IsSound : Stop → Type 0
-IsSound stop = (page : ℕ) → stop ≢ Damaged page
 
 -- the reason that names page 0 in place of a page
 abbrev pub unnamed : Stop → Stop

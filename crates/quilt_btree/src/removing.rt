@@ -12,7 +12,8 @@ ghost use Rattle.quilt_types.specs.declared.stop.Stop.TheVariants.{Damaged};
 ghost use Rattle.quilt_btree.specs.Damage.{NamesBad};
 ghost use Rattle.quilt_btree.specs.Rebalancing.{HasUnderfull, HasDropped, Writes};
 ghost use Rattle.quilt_btree.specs.Outcomes.{was_found};
-ghost use Rattle.quilt_btree.specs.Stops.{HasStopCause, IsSound, NamesPage};
+ghost use Rattle.quilt_store.specs.Stops.{HasStopCause, IsSound};
+ghost use Rattle.quilt_btree.specs.Stops.{NamesPage};
 ghost use Rattle.quilt_btree.specs.Trees.{Spells};
 
 use crate::outcomes::{Rebalanced, Removed};

@@ -7,7 +7,8 @@ ghost use Rattle.quilt_node.specs.Tree.{Bounds, is_below};
 ghost use Rattle.quilt_btree.specs.Edits.{CanEdit};
 ghost use Rattle.quilt_btree.specs.Runs.{without_all, has_each, Lacks, DidDrain};
 ghost use Rattle.quilt_btree.specs.Damage.{NamesBad};
-ghost use Rattle.quilt_btree.specs.Stops.{HasStopCause, NamesPage};
+ghost use Rattle.quilt_store.specs.Stops.{HasStopCause};
+ghost use Rattle.quilt_btree.specs.Stops.{NamesPage};
 
 use crate::pages::{read_leaf, stop_behind};
 use crate::reading::step_in;

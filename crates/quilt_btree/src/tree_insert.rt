@@ -6,7 +6,8 @@ ghost use Rattle.quilt_store.specs.Store.{count_free};
 ghost use Rattle.quilt_record.specs.Lists.{has_key, put};
 ghost use Rattle.quilt_types.specs.declared.stop.Stop.TheVariants.{Damaged};
 ghost use Rattle.quilt_btree.specs.Damage.{NamesBad};
-ghost use Rattle.quilt_btree.specs.Stops.{HasStopCause, IsSound, NamesPage};
+ghost use Rattle.quilt_store.specs.Stops.{HasStopCause, IsSound};
+ghost use Rattle.quilt_btree.specs.Stops.{NamesPage};
 
 use crate::inserting::insert_under;
 use crate::outcomes::Inserted;

@@ -1,6 +1,7 @@
 ghost use Rattle.std.specs.Prelude.{◌≡◌, ℕ, ◌+◌, ◌<◌, ◌≤◌, true, false, OnOk, IfErr, slice_set};
 ghost use Rattle.quilt_store.specs.Store.{Tells, FreesOnly};
-ghost use Rattle.quilt_btree.specs.Stops.{HasStopCause, IsSound, NamesPage};
+ghost use Rattle.quilt_store.specs.Stops.{HasStopCause, IsSound};
+ghost use Rattle.quilt_btree.specs.Stops.{NamesPage};
 ghost use Rattle.quilt_btree.specs.Rebalancing.{HasGiven};
 
 use crate::pages::stop_of;

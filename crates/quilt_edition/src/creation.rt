@@ -1,6 +1,7 @@
 ghost use Rattle.std.specs.Prelude.{◌≡◌, ◌⊎◌, ◌<◌, ◌≤◌, [], ◌∷◌, OnOk, OnErr, IfSome};
 ghost use Rattle.quilt_world.specs.Tale.{Adds, Goes};
 ghost use Rattle.quilt_world.specs.Causes.{HasCause};
+ghost use Rattle.quilt_world.specs.Doors.{KeepsDevice};
 ghost use Rattle.quilt_world.specs.declared.event.Event.TheVariants.{Wrote, Tore, Synced};
 ghost use Rattle.quilt_edition.specs.Creating.{HasMapSize, IsBlank, Creates, IsCreated};
 
@@ -11,8 +12,7 @@ use quilt_world::{Disk, Fault, HOME_AT, LABEL_AT};
 fn write_synced<D: Disk>(disk: &mut D, i: u32, bytes: &[u8; 4096]) -> Result<(), Fault>
     requires { i < D.size disk.old }
     ensures cause { HasCause (D.faults disk.old) (D.faults disk.new) result }
-    ensures size { D.size disk.new ≡ D.size disk.old }
-    ensures door { D.door disk.new ≡ D.door disk.old }
+    ensures device { KeepsDevice D.size D.door disk.old disk.new }
     ensures wrote { OnOk result (Goes (Adds (Wrote i bytes.now ∷ Synced ∷ [])) (D.told disk.old) (D.told disk.new)) }
     ensures failed { OnErr result (Goes (λ old new. Adds [] old new ⊎ Adds (Tore i ∷ []) old new ⊎ Adds (Wrote i bytes.now ∷ []) old new)
         (D.told disk.old) (D.told disk.new)) }
@@ -28,8 +28,7 @@ pub fn create<D: Disk>(disk: &mut D, level: u8) -> Result<(), Fault>
     requires level { (1 ≤ level) × (level ≤ 12) }
     requires blank { IfSome (D.told disk.old) IsBlank }
     ensures cause { HasCause (D.faults disk.old) (D.faults disk.new) result }
-    ensures size { D.size disk.new ≡ D.size disk.old }
-    ensures door { D.door disk.new ≡ D.door disk.old }
+    ensures device { KeepsDevice D.size D.door disk.old disk.new }
     ensures crash { Goes (Creates level) (D.told disk.old) (D.told disk.new) }
     ensures created { OnOk result (IfSome (D.told disk.new) (IsCreated level)) }
 {

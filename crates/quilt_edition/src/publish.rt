@@ -1,6 +1,7 @@
 ghost use Rattle.quilt_pool.specs.Views.{entries_of};
 ghost use Rattle.std.specs.Prelude.{◌≡◌, ℕ, ◌+◌, ◌*◌, ◌<◌, ◌≤◌, false, replicate, length, IfSome, OnOk, OnErr};
 ghost use Rattle.quilt_world.specs.Causes.{HasCause};
+ghost use Rattle.quilt_world.specs.Doors.{KeepsDevice};
 ghost use Rattle.quilt_world.specs.Tale.{Goes};
 ghost use Rattle.quilt_journal.specs.declared.journal.State.TheVariants.{Idle};
 ghost use Rattle.quilt_journal.specs.Writing.{Writing};
@@ -27,8 +28,7 @@ pub fn publish_pages<W: Disk>(
     requires size { W.size world.old ≡ 3 + 2 * journal.old.pages }
     requires kept { IfSome (W.told world.old) (IsWork journal.old.pages (entries_of pool.old) journal.old.changed) }
     ensures cause { HasCause (W.faults world.old) (W.faults world.new) result }
-    ensures size { W.size world.new ≡ W.size world.old }
-    ensures door { W.door world.new ≡ W.door world.old }
+    ensures device { KeepsDevice W.size W.door world.old world.new }
     ensures pages { journal.new.pages ≡ journal.old.pages }
     ensures below { AreBelow journal.old.pages (entries_of pool.new) }
     ensures bits { length journal.new.changed ≡ journal.new.pages }

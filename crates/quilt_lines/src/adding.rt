@@ -8,13 +8,14 @@ ghost use Rattle.quilt_types.specs.Quadtrees.{after_add, is_reached};
 ghost use Rattle.quilt_types.specs.Segments.{square, meets as segment_meets};
 ghost use Rattle.quilt_near.specs.Lines.{meeting};
 ghost use Rattle.quilt_line_laws.specs.Merging.{met_in};
-ghost use Rattle.quilt_btree.specs.Stops.{HasStopCause, IsSound};
+ghost use Rattle.quilt_store.specs.Stops.{HasStopCause, IsSound};
 ghost use Rattle.quilt_btree.specs.Trees.{IsRooted};
 ghost use Rattle.quilt_edits.specs.Edits.{AreInOrder};
 ghost use Rattle.quilt_lines.specs.Layers.{HasLines};
 ghost use Rattle.quilt_lines.specs.Reads.{ids_of};
 ghost use Rattle.quilt_lines.specs.Adding.{facts_by, none_by, quarter_facts, ids_meeting as ids_meeting_it, Follow, IsAdded};
 ghost use Rattle.quilt_lines.specs.Plans.{IsLinePlan};
+ghost use Rattle.quilt_store.specs.Store.{IsOnlyRead};
 
 use crate::square::whole_square;
 use crate::view::{DAMAGED, LineView};
@@ -54,11 +55,7 @@ pub fn plan_add<S: PageStore>(
     ensures sound { IfErr result (λ e. (segs : SegMap) (cover : BlockSet) → HasLines (S.told store.old) tree.now layer level t segs cover →
         IsSound e) }
     ensures cause { HasStopCause (S.faults store.old) (S.faults store.new) result }
-    ensures size { S.size store.new ≡ S.size store.old }
-    ensures told { S.told store.new ≡ S.told store.old }
-    ensures free { S.free store.new ≡ S.free store.old }
-    ensures later { S.later store.old store.new }
-    ensures changed { S.changed store.new ≤ S.changed store.old }
+    ensures left { IsOnlyRead S.size S.told S.free S.later S.changed store.old store.new }
 {
     let view = LineView {
         tree: *tree,
@@ -110,11 +107,7 @@ impl Arrival {
             HasLines (S.told store.old) self.now.view.tree self.now.view.layer self.now.view.level self.now.t segs cover →
             finmap.get segs self.now.id ≡ None → IsSound e) }
         ensures cause { HasStopCause (S.faults store.old) (S.faults store.new) result }
-        ensures size { S.size store.new ≡ S.size store.old }
-        ensures told { S.told store.new ≡ S.told store.old }
-        ensures free { S.free store.new ≡ S.free store.old }
-        ensures later { S.later store.old store.new }
-        ensures changed { S.changed store.new ≤ S.changed store.old }
+        ensures left { IsOnlyRead S.size S.told S.free S.later S.changed store.old store.new }
     {
         let mut change = Change {
             gone: Vec::new(alloc),
@@ -151,11 +144,7 @@ impl Arrival {
             HasLines (S.told store.old) self.now.view.tree self.now.view.layer self.now.view.level self.now.t segs cover →
             is_reached cover b ≡ true → IsSound e) }
         ensures cause { HasStopCause (S.faults store.old) (S.faults store.new) result }
-        ensures size { S.size store.new ≡ S.size store.old }
-        ensures told { S.told store.new ≡ S.told store.old }
-        ensures free { S.free store.new ≡ S.free store.old }
-        ensures later { S.later store.old store.new }
-        ensures changed { S.changed store.new ≤ S.changed store.old }
+        ensures left { IsOnlyRead S.size S.told S.free S.later S.changed store.old store.new }
     {
         if !meets(self.s, b) {
             return Ok(());
@@ -197,11 +186,7 @@ impl Arrival {
             HasLines (S.told store.old) self.now.view.tree self.now.view.layer self.now.view.level self.now.t segs cover →
             ids.now ≡ ids_of (meeting segs b) → IsSound e) }
         ensures cause { HasStopCause (S.faults store.old) (S.faults store.new) result }
-        ensures size { S.size store.new ≡ S.size store.old }
-        ensures told { S.told store.new ≡ S.told store.old }
-        ensures free { S.free store.new ≡ S.free store.old }
-        ensures later { S.later store.old store.new }
-        ensures changed { S.changed store.new ≤ S.changed store.old }
+        ensures left { IsOnlyRead S.size S.told S.free S.later S.changed store.old store.new }
     {
         if b.side > 1 && ids.len() >= usize::from(self.t) {
             return self.split(alloc, store, change, b, ids);
@@ -250,11 +235,7 @@ impl Arrival {
             HasLines (S.told store.old) self.now.view.tree self.now.view.layer self.now.view.level self.now.t segs cover →
             ids.now ≡ ids_of (meeting segs b) → IsSound e) }
         ensures cause { HasStopCause (S.faults store.old) (S.faults store.new) result }
-        ensures size { S.size store.new ≡ S.size store.old }
-        ensures told { S.told store.new ≡ S.told store.old }
-        ensures free { S.free store.new ≡ S.free store.old }
-        ensures later { S.later store.old store.new }
-        ensures changed { S.changed store.new ≤ S.changed store.old }
+        ensures left { IsOnlyRead S.size S.told S.free S.later S.changed store.old store.new }
     {
         match self.view.push_facts(&mut change.gone, b, ids) {
             Err(_) => return Err(Stop::Memory),

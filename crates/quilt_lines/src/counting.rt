@@ -5,8 +5,8 @@ ghost use Rattle.quilt_types.specs.Plane.{side as side_of, IsBlock};
 ghost use Rattle.quilt_types.specs.Layers.{SegMap, BlockSet};
 ghost use Rattle.quilt_types.specs.Quadtrees.{is_reached};
 ghost use Rattle.quilt_record.specs.Records.{key_cmp};
-ghost use Rattle.quilt_store.specs.Store.{Tells};
-ghost use Rattle.quilt_btree.specs.Stops.{HasStopCause, IsSound};
+ghost use Rattle.quilt_store.specs.Store.{IsOnlyRead, Tells};
+ghost use Rattle.quilt_store.specs.Stops.{HasStopCause, IsSound};
 ghost use Rattle.quilt_btree.specs.Trees.{IsRooted};
 ghost use Rattle.quilt_lines.specs.Layers.{HasLines};
 ghost use Rattle.quilt_lines.specs.Counting.{held_in};
@@ -36,11 +36,7 @@ pub fn block_counts<S: PageStore>(
     ensures sound { IfErr result (λ e. (t : ℕ) (segs : SegMap) (cover : BlockSet) →
         HasLines (S.told store.old) tree.now layer level t segs cover → IsSound e) }
     ensures cause { HasStopCause (S.faults store.old) (S.faults store.new) result }
-    ensures size { S.size store.new ≡ S.size store.old }
-    ensures told { S.told store.new ≡ S.told store.old }
-    ensures free { S.free store.new ≡ S.free store.old }
-    ensures later { S.later store.old store.new }
-    ensures changed { S.changed store.new ≤ S.changed store.old }
+    ensures left { IsOnlyRead S.size S.told S.free S.later S.changed store.old store.new }
 {
     let view = LineView {
         tree: *tree,
@@ -92,11 +88,7 @@ impl LineView {
         ensures sound { IfErr result (λ e. (t : ℕ) (segs : SegMap) (cover : BlockSet) →
             HasLines (S.told store.old) self.now.tree self.now.layer self.now.level t segs cover → is_reached cover b ≡ true → IsSound e) }
         ensures cause { HasStopCause (S.faults store.old) (S.faults store.new) result }
-        ensures size { S.size store.new ≡ S.size store.old }
-        ensures told { S.told store.new ≡ S.told store.old }
-        ensures free { S.free store.new ≡ S.free store.old }
-        ensures later { S.later store.old store.new }
-        ensures changed { S.changed store.new ≤ S.changed store.old }
+        ensures left { IsOnlyRead S.size S.told S.free S.later S.changed store.old store.new }
     {
         match self.has_block(store, b) {
             Err(e) => return Err(e),
@@ -127,12 +119,8 @@ impl LineView {
         ensures sound { IfErr result (λ e. (t : ℕ) (segs : SegMap) (cover : BlockSet) →
             HasLines (S.told store.old) self.now.tree self.now.layer self.now.level t segs cover → IsSound e) }
         ensures cause { HasStopCause (S.faults store.old) (S.faults store.new) result }
-        ensures size { S.size store.new ≡ S.size store.old }
-        ensures told { S.told store.new ≡ S.told store.old }
-        ensures free { S.free store.new ≡ S.free store.old }
-        ensures later { S.later store.old store.new }
+        ensures left { IsOnlyRead S.size S.told S.free S.later S.changed store.old store.new }
         ensures reads { Tells (λ old new. new ≤ old + 6) (S.reads store.old) (S.reads store.new) }
-        ensures changed { S.changed store.new ≤ S.changed store.old }
     {
         let low = pair_record(self.layer, b, self.level, None).key;
         let high = Key {

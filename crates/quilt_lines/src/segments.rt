@@ -8,8 +8,8 @@ ghost use Rattle.quilt_types.specs.Facts.{IsSegment};
 ghost use Rattle.quilt_types.specs.Layers.{SegMap, BlockSet, IsLineMap, is_in_square as is_seg_in_square};
 ghost use Rattle.quilt_loc.specs.Codes.{Rises};
 ghost use Rattle.quilt_record.specs.Canonical.{FactFits};
-ghost use Rattle.quilt_store.specs.Store.{Tells};
-ghost use Rattle.quilt_btree.specs.Stops.{HasStopCause, IsSound};
+ghost use Rattle.quilt_store.specs.Store.{IsOnlyRead, Tells};
+ghost use Rattle.quilt_store.specs.Stops.{HasStopCause, IsSound};
 ghost use Rattle.quilt_btree.specs.Trees.{IsRooted};
 ghost use Rattle.quilt_lines.specs.Layers.{HasLines, fact_record, segment_facts};
 ghost use Rattle.quilt_lines.specs.Reads.{segment_key as key_of, ids_of};
@@ -39,12 +39,8 @@ pub fn segment<S: PageStore>(
     ensures inside { IfOk result (λ o. IfSome o (λ s. is_seg_in_square level s ≡ true)) }
     ensures sound { IfErr result (λ e. (t : ℕ) (segs : SegMap) (cover : BlockSet) → HasLines (S.told store.old) tree.now layer level t segs cover → IsSound e) }
     ensures cause { HasStopCause (S.faults store.old) (S.faults store.new) result }
-    ensures size { S.size store.new ≡ S.size store.old }
-    ensures told { S.told store.new ≡ S.told store.old }
-    ensures free { S.free store.new ≡ S.free store.old }
-    ensures later { S.later store.old store.new }
+    ensures left { IsOnlyRead S.size S.told S.free S.later S.changed store.old store.new }
     ensures reads { Tells (λ old new. new ≤ old + 3) (S.reads store.old) (S.reads store.new) }
-    ensures changed { S.changed store.new ≤ S.changed store.old }
 {
     let view = LineView {
         tree: *tree,
@@ -71,11 +67,7 @@ pub fn scan<S: PageStore>(
     ensures order { IfOk result (λ list. Rises nat_cmp (ids_of list)) }
     ensures sound { IfErr result (λ e. (t : ℕ) (segs : SegMap) (cover : BlockSet) → HasLines (S.told store.old) tree.now layer level t segs cover → IsSound e) }
     ensures cause { HasStopCause (S.faults store.old) (S.faults store.new) result }
-    ensures size { S.size store.new ≡ S.size store.old }
-    ensures told { S.told store.new ≡ S.told store.old }
-    ensures free { S.free store.new ≡ S.free store.old }
-    ensures later { S.later store.old store.new }
-    ensures changed { S.changed store.new ≤ S.changed store.old }
+    ensures left { IsOnlyRead S.size S.told S.free S.later S.changed store.old store.new }
 {
     let view = LineView {
         tree: *tree,
@@ -122,12 +114,8 @@ impl LineView {
         ensures sound { IfErr result (λ e. (t : ℕ) (segs : SegMap) (cover : BlockSet)
             → HasLines (S.told store.old) self.now.tree self.now.layer self.now.level t segs cover → IsSound e) }
         ensures cause { HasStopCause (S.faults store.old) (S.faults store.new) result }
-        ensures size { S.size store.new ≡ S.size store.old }
-        ensures told { S.told store.new ≡ S.told store.old }
-        ensures free { S.free store.new ≡ S.free store.old }
-        ensures later { S.later store.old store.new }
+        ensures left { IsOnlyRead S.size S.told S.free S.later S.changed store.old store.new }
         ensures reads { Tells (λ old new. new ≤ old + 3) (S.reads store.old) (S.reads store.new) }
-        ensures changed { S.changed store.new ≤ S.changed store.old }
     {
         let key = segment_key(self.layer, id);
         match self.tree.get(store, &key) {
@@ -168,12 +156,8 @@ impl LineView {
             → HasLines (S.told store.old) self.now.tree self.now.layer self.now.level t segs cover
             → ((id : ℕ) → Contains ids.now id → (s : AnySeg) × (finmap.get segs id ≡ Some s)) → IsSound e) }
         ensures cause { HasStopCause (S.faults store.old) (S.faults store.new) result }
-        ensures size { S.size store.new ≡ S.size store.old }
-        ensures told { S.told store.new ≡ S.told store.old }
-        ensures free { S.free store.new ≡ S.free store.old }
-        ensures later { S.later store.old store.new }
+        ensures left { IsOnlyRead S.size S.told S.free S.later S.changed store.old store.new }
         ensures reads { IfOk result (λ list. Tells (λ old new. new ≤ old + 3 * length list) (S.reads store.old) (S.reads store.new)) }
-        ensures changed { S.changed store.new ≤ S.changed store.old }
     {
         let mut list = SegList::new(alloc);
         for id in ids {
@@ -199,12 +183,8 @@ impl LineView {
         ensures sound { IfErr result (λ e. (t : ℕ) (segs : SegMap) (cover : BlockSet)
             → HasLines (S.told store.old) self.now.tree self.now.layer self.now.level t segs cover → (s : AnySeg) → finmap.get segs id ≡ Some s → IsSound e) }
         ensures cause { HasStopCause (S.faults store.old) (S.faults store.new) result }
-        ensures size { S.size store.new ≡ S.size store.old }
-        ensures told { S.told store.new ≡ S.told store.old }
-        ensures free { S.free store.new ≡ S.free store.old }
-        ensures later { S.later store.old store.new }
+        ensures left { IsOnlyRead S.size S.told S.free S.later S.changed store.old store.new }
         ensures reads { Tells (λ old new. new ≤ old + 3) (S.reads store.old) (S.reads store.new) }
-        ensures changed { S.changed store.new ≤ S.changed store.old }
     {
         match self.segment(store, id) {
             Err(e) => Err(e),

@@ -4,10 +4,11 @@ ghost use Rattle.quilt_types.specs.Sets as finset;
 ghost use Rattle.quilt_types.specs.Plane.{side, IsBlock};
 ghost use Rattle.quilt_types.specs.Segments.{square, meets as segment_meets};
 ghost use Rattle.quilt_types.specs.Layers.{SegMap, BlockSet};
-ghost use Rattle.quilt_btree.specs.Stops.{HasStopCause, IsSound};
+ghost use Rattle.quilt_store.specs.Stops.{HasStopCause, IsSound};
 ghost use Rattle.quilt_btree.specs.Trees.{IsRooted};
 ghost use Rattle.quilt_lines.specs.Layers.{HasLines};
 ghost use Rattle.quilt_lines.specs.Merges.{Becomes};
+ghost use Rattle.quilt_store.specs.Store.{IsOnlyRead};
 
 use crate::merging::Settled;
 use crate::removal::Removal;
@@ -36,11 +37,7 @@ impl Removal {
         ensures sound { IfErr result (λ e. (segs : SegMap) (cover : BlockSet) →
             HasLines (S.told store.old) tree.now self.now.layer self.now.level self.now.threshold segs cover → IsSound e) }
         ensures cause { HasStopCause (S.faults store.old) (S.faults store.new) result }
-        ensures size { S.size store.new ≡ S.size store.old }
-        ensures told { S.told store.new ≡ S.told store.old }
-        ensures free { S.free store.new ≡ S.free store.old }
-        ensures later { S.later store.old store.new }
-        ensures changed { S.changed store.new ≤ S.changed store.old }
+        ensures left { IsOnlyRead S.size S.told S.free S.later S.changed store.old store.new }
     {
         let view = LineView {
             tree: *tree,
@@ -90,11 +87,7 @@ impl Removal {
         ensures sound { IfErr result (λ e. (segs : SegMap) (cover : BlockSet) →
             HasLines (S.told store.old) tree.now self.now.layer self.now.level self.now.threshold segs cover → IsSound e) }
         ensures cause { HasStopCause (S.faults store.old) (S.faults store.new) result }
-        ensures size { S.size store.new ≡ S.size store.old }
-        ensures told { S.told store.new ≡ S.told store.old }
-        ensures free { S.free store.new ≡ S.free store.old }
-        ensures later { S.later store.old store.new }
-        ensures changed { S.changed store.new ≤ S.changed store.old }
+        ensures left { IsOnlyRead S.size S.told S.free S.later S.changed store.old store.new }
     {
         let mut all = Settled::new(alloc, true);
         for q in quarters(b) {

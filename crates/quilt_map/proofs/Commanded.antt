@@ -24,7 +24,7 @@ use Rattle.quilt_words.specs.declared.command.Command.{Command}
 use Rattle.quilt_words.specs.declared.command.Command.TheVariants as commands
 use Rattle.quilt_journal.specs.Kept.{HasHome}
 use Rattle.quilt_journal.specs.Writing.{Writing}
-use Rattle.quilt_btree.specs.Stops.{HasStopCause, IsSound}
+use Rattle.quilt_store.specs.Stops.{HasStopCause, IsSound}
 use Rattle.quilt_edition.specs.Books as books
 use Rattle.quilt_edition.specs.Keeping.{IsLater}
 use Rattle.quilt_edition.proofs.Steps.{seen_home}

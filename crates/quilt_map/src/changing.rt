@@ -3,7 +3,7 @@ ghost use Rattle.quilt_types.specs.Facts.{quota};
 ghost use Rattle.quilt_types.specs.Layers.{Layer};
 ghost use Rattle.quilt_record.specs.declared.entry.Entry.{Entry};
 ghost use Rattle.quilt_node.specs.Nodes.{keys_of};
-ghost use Rattle.quilt_btree.specs.Stops.{HasStopCause, IsSound};
+ghost use Rattle.quilt_store.specs.Stops.{HasStopCause, IsSound};
 ghost use Rattle.quilt_spell.specs.Catalogued.{IsCatalogOf};
 ghost use Rattle.quilt_spell.specs.Changing.{with_layer, with_number};
 ghost use Rattle.quilt_edition.specs.Books as books;

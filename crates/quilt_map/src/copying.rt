@@ -2,7 +2,7 @@ ghost use Rattle.std.specs.Prelude.{◌≡◌, ℕ, ◌≤◌, List, IfOk, IfErr
 ghost use Rattle.quilt_words.specs.declared.command.Command.TheVariants as commands;
 ghost use Rattle.quilt_record.specs.declared.record.Record.{Record as AnyRecord};
 ghost use Rattle.quilt_spell.specs.Copying.{moved};
-ghost use Rattle.quilt_btree.specs.Stops.{HasStopCause, IsSound};
+ghost use Rattle.quilt_store.specs.Stops.{HasStopCause, IsSound};
 ghost use Rattle.quilt_btree.specs.Trees.{IsTree};
 ghost use Rattle.quilt_edition.specs.Books as books;
 ghost use Rattle.quilt_replies.specs.Answers.{State};

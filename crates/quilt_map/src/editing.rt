@@ -5,7 +5,7 @@ ghost use Rattle.quilt_node.specs.Pages.{is_ascending};
 ghost use Rattle.quilt_node.specs.Nodes.{keys_of};
 ghost use Rattle.quilt_btree.specs.Edits.{IsWhole};
 ghost use Rattle.quilt_btree.specs.Runs.{put_all, has_any, without_all, has_each};
-ghost use Rattle.quilt_btree.specs.Stops.{HasStopCause, IsSound};
+ghost use Rattle.quilt_store.specs.Stops.{HasStopCause, IsSound};
 ghost use Rattle.quilt_edition.specs.Books.{world_of, pages_of, last_of, work_of, published_free, GoesOn};
 ghost use Rattle.quilt_map.specs.Sessions.{told_of, free_of, changed_of, tree_in};
 ghost use Rattle.quilt_map.specs.Editing.{SameButTree};

@@ -6,7 +6,7 @@ ghost use Rattle.quilt_types.specs.Layers.{Map, SegMap, BlockSet, is_in_square a
 ghost use Rattle.quilt_types.specs.Plane.{side};
 ghost use Rattle.quilt_types.specs.Quadtrees.{after_add, after_remove};
 ghost use Rattle.quilt_record.specs.Records.{Numbering};
-ghost use Rattle.quilt_btree.specs.Stops.{HasStopCause, IsSound};
+ghost use Rattle.quilt_store.specs.Stops.{HasStopCause, IsSound};
 ghost use Rattle.quilt_edits.specs.Edits.{AreInOrder};
 ghost use Rattle.quilt_lines.specs.Plans.{IsLinePlan};
 ghost use Rattle.quilt_spell.specs.Catalogued.{IsCatalogOf};

@@ -4,7 +4,7 @@ ghost use Rattle.quilt_types.specs.Layers.{Layer, Map, IsGrid, Region, is_name};
 ghost use Rattle.quilt_record.specs.declared.record.Record.{Record as AnyRecord};
 ghost use Rattle.quilt_record.specs.Records.{Numbering, record_of};
 ghost use Rattle.quilt_record.specs.Listing.{kind_fact};
-ghost use Rattle.quilt_btree.specs.Stops.{HasStopCause, IsSound};
+ghost use Rattle.quilt_store.specs.Stops.{HasStopCause, IsSound};
 ghost use Rattle.quilt_spell.specs.Catalogued.{IsCatalogOf, kind_of};
 ghost use Rattle.quilt_spell.specs.Written.{IsNumbering};
 ghost use Rattle.quilt_region.specs.Regions.{region_records};

@@ -1,7 +1,7 @@
 ghost use Rattle.std.specs.Prelude.{◌≡◌, ◌≢◌, ℕ, ◌<◌, ◌≤◌, List, IfOk, IfErr, All, length};
 ghost use Rattle.quilt_types.specs.Layers.{Grid, Map, Region};
 ghost use Rattle.quilt_record.specs.Records.{Numbering};
-ghost use Rattle.quilt_btree.specs.Stops.{HasStopCause, IsSound};
+ghost use Rattle.quilt_store.specs.Stops.{HasStopCause, IsSound};
 ghost use Rattle.quilt_spell.specs.Catalogued.{IsCatalogOf};
 ghost use Rattle.quilt_overlay.specs.Combining.{overlaid};
 ghost use Rattle.quilt_edition.specs.Books as books;

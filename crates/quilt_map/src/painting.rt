@@ -3,7 +3,7 @@ ghost use Rattle.quilt_types.specs.Algebra.{painted};
 ghost use Rattle.quilt_types.specs.Layers.{Grid, Region, colours};
 ghost use Rattle.quilt_types.specs.Plane.{is_window};
 ghost use Rattle.quilt_words.specs.declared.command.Command.TheVariants as commands;
-ghost use Rattle.quilt_btree.specs.Stops.{HasStopCause, IsSound};
+ghost use Rattle.quilt_store.specs.Stops.{HasStopCause, IsSound};
 ghost use Rattle.quilt_edition.specs.Books as books;
 ghost use Rattle.quilt_replies.specs.Answers.{State};
 ghost use Rattle.quilt_map.specs.Commanding.{Answered};

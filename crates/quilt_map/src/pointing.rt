@@ -3,7 +3,7 @@ ghost use Rattle.quilt_types.specs.Layers.{PointMap};
 ghost use Rattle.quilt_types.specs.Plane.{side};
 ghost use Rattle.quilt_words.specs.declared.command.Command.TheVariants as commands;
 ghost use Rattle.quilt_store.specs.Store.{Tells as StoreTells};
-ghost use Rattle.quilt_btree.specs.Stops.{HasStopCause, IsSound};
+ghost use Rattle.quilt_store.specs.Stops.{HasStopCause, IsSound};
 ghost use Rattle.quilt_edition.specs.Books as books;
 ghost use Rattle.quilt_replies.specs.Answers.{State, layer as layer_of, capacity_in};
 ghost use Rattle.quilt_map.specs.Asking.{KeepsAll, reads_in};

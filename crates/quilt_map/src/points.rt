@@ -6,7 +6,7 @@ ghost use Rattle.quilt_types.specs.Plane.{side, is_pixel, is_window, in_window};
 ghost use Rattle.quilt_types.specs.Quadtrees.{point_blocks};
 ghost use Rattle.quilt_record.specs.Records.{Numbering};
 ghost use Rattle.quilt_store.specs.Store.{Tells as StoreTells};
-ghost use Rattle.quilt_btree.specs.Stops.{HasStopCause, IsSound};
+ghost use Rattle.quilt_store.specs.Stops.{HasStopCause, IsSound};
 ghost use Rattle.quilt_edits.specs.Edits.{AreInOrder};
 ghost use Rattle.quilt_points.specs.Layers.{entries_of};
 ghost use Rattle.quilt_points.specs.Plans.{IsPlan, AreNew, with_points};

@@ -7,7 +7,7 @@ ghost use Rattle.quilt_record.specs.declared.record.Record.{Record as AnyRecord}
 ghost use Rattle.quilt_record.specs.Records.{Numbering};
 ghost use Rattle.quilt_store.specs.Store.{Tells as StoreTells};
 ghost use Rattle.quilt_btree.specs.Floors.{HoldsFirst, ReadsNone};
-ghost use Rattle.quilt_btree.specs.Stops.{HasStopCause, IsSound};
+ghost use Rattle.quilt_store.specs.Stops.{HasStopCause, IsSound};
 ghost use Rattle.quilt_btree.specs.Trees.{IsTree};
 ghost use Rattle.quilt_region.specs.Regions.{HasRegion};
 ghost use Rattle.quilt_region.specs.Plans.{LeadsTo};

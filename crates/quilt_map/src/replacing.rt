@@ -2,7 +2,7 @@ ghost use Rattle.std.specs.Prelude.{◌≡◌, ℕ, List, [], IfSome, IfOk, IfEr
 ghost use Rattle.quilt_types.specs.Layers.{Grid, IsGrid, Region};
 ghost use Rattle.quilt_words.specs.Fitting.{IsRows};
 ghost use Rattle.quilt_words.specs.declared.command.Command.TheVariants as commands;
-ghost use Rattle.quilt_btree.specs.Stops.{HasStopCause, IsSound};
+ghost use Rattle.quilt_store.specs.Stops.{HasStopCause, IsSound};
 ghost use Rattle.quilt_region.specs.Plans.{LeadsTo};
 ghost use Rattle.quilt_edition.specs.Books as books;
 ghost use Rattle.quilt_replies.specs.Answers.{State, Done};

@@ -1,7 +1,7 @@
 ghost use Rattle.std.specs.Prelude.{◌≡◌, ◌≤◌, true, List, ℕ, IfOk, IfErr};
 ghost use Rattle.quilt_types.specs.Layers.{SegMap, BlockSet, is_in_square as is_seg_in_square};
 ghost use Rattle.quilt_words.specs.declared.command.Command.TheVariants as commands;
-ghost use Rattle.quilt_btree.specs.Stops.{HasStopCause, IsSound};
+ghost use Rattle.quilt_store.specs.Stops.{HasStopCause, IsSound};
 ghost use Rattle.quilt_edition.specs.Books as books;
 ghost use Rattle.quilt_replies.specs.Answers.{State};
 ghost use Rattle.quilt_map.specs.Commanding.{Answered};

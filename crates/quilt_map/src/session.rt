@@ -1,4 +1,4 @@
-ghost use Rattle.std.specs.Prelude.{◌≡◌, ◌⊎◌, ℕ, ◌<◌, ◌≤◌, [], ◌∷◌, List, Some, None, take, length, IfOk, IfErr, OnErr, OnOk};
+ghost use Rattle.std.specs.Prelude.{◌≡◌, ℕ, ◌<◌, ◌≤◌, [], ◌∷◌, List, Some, None, take, length, IfOk, IfErr, OnErr, OnOk};
 ghost use Rattle.quilt_types.specs.Facts.{records};
 ghost use Rattle.quilt_types.specs.declared.plane.Pixel.{Pixel as AnyPixel};
 ghost use Rattle.quilt_types.specs.Layers.{Edition};
@@ -8,7 +8,7 @@ ghost use Rattle.quilt_types.specs.declared.stop.Stop.TheVariants as stops;
 ghost use Rattle.quilt_world.specs.Added.{AddsOnly, is_of_pages};
 ghost use Rattle.quilt_world.specs.Tale.{Tale, Adds, Goes};
 ghost use Rattle.quilt_world.specs.Causes.{HasCause, Rose};
-ghost use Rattle.quilt_world.specs.Doors.{TakesFrom};
+ghost use Rattle.quilt_world.specs.Doors.{IsOpen, TakesFrom};
 ghost use Rattle.quilt_world.specs.declared.event.Event.TheVariants.{Put};
 ghost use Rattle.quilt_world.specs.declared.disk.Door.TheVariants as doors;
 ghost use Rattle.quilt_words.specs.Forms.{Spelled};
@@ -107,7 +107,7 @@ impl<W: World> Session<W> {
     /// The next bytes of the input, as the world takes them. 0 says that it has ended.
     #[tactic(auto, unfolding(crate::specs::Sessions::world_of, crate::specs::Sessions::format_of, crate::specs::Sessions::level_of, crate::specs::Sessions::changes_of, crate::specs::Sessions::reads_of, crate::specs::Sessions::warm_of, crate::specs::Sessions::IsAt))]
     pub fn take(&mut self, into: &mut [u8]) -> Result<usize, Fault>
-        requires open { (W.door (world_of self.old) ≡ doors.Ready) ⊎ (W.door (world_of self.old) ≡ doors.Made) }
+        requires open { IsOpen (W.door (world_of self.old)) }
         requires room { 0 < length into.old }
         ensures cause { HasCause (W.faults (world_of self.old)) (W.faults (world_of self.new)) result }
         ensures door { W.door (world_of self.new) ≡ W.door (world_of self.old) }
@@ -126,7 +126,7 @@ impl<W: World> Session<W> {
     /// Puts a front of the bytes to the output, as the world puts them.
     #[tactic(auto, unfolding(crate::specs::Sessions::world_of, crate::specs::Sessions::format_of, crate::specs::Sessions::level_of, crate::specs::Sessions::changes_of, crate::specs::Sessions::reads_of, crate::specs::Sessions::warm_of, crate::specs::Sessions::IsAt))]
     pub fn put(&mut self, bytes: &[u8]) -> Result<usize, Fault>
-        requires open { (W.door (world_of self.old) ≡ doors.Ready) ⊎ (W.door (world_of self.old) ≡ doors.Made) }
+        requires open { IsOpen (W.door (world_of self.old)) }
         requires some { 0 < length bytes.now }
         ensures cause { HasCause (W.faults (world_of self.old)) (W.faults (world_of self.new)) result }
         ensures door { W.door (world_of self.new) ≡ W.door (world_of self.old) }

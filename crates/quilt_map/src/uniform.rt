@@ -2,7 +2,7 @@ ghost use Rattle.std.specs.Prelude.{◌≡◌, ℕ, ◌<◌, ◌≤◌, IfOk, If
 ghost use Rattle.quilt_types.specs.Algebra.{uniform};
 ghost use Rattle.quilt_types.specs.Layers.{colours};
 ghost use Rattle.quilt_words.specs.declared.command.Command.TheVariants as commands;
-ghost use Rattle.quilt_btree.specs.Stops.{HasStopCause, IsSound};
+ghost use Rattle.quilt_store.specs.Stops.{HasStopCause, IsSound};
 ghost use Rattle.quilt_edition.specs.Books as books;
 ghost use Rattle.quilt_replies.specs.Answers.{State};
 ghost use Rattle.quilt_map.specs.Commanding.{Answered};

@@ -2,7 +2,7 @@ ghost use Rattle.std.specs.Prelude.{◌≡◌, ◌+◌, ◌*◌, ◌<◌, ◌≤
 ghost use Rattle.quilt_types.specs.Layers.{is_in_square};
 ghost use Rattle.quilt_types.specs.Segments.{meets as meets_of, square};
 ghost use Rattle.quilt_near.specs.Evens.{ShowsEven};
-ghost use Rattle.quilt_near.specs.Parts.{HasStopCause, IsSound};
+ghost use Rattle.quilt_store.specs.Stops.{HasStopCause, IsSound};
 
 use crate::blocks::SegBlocks;
 use crate::part::{Part, SegList};

@@ -7,7 +7,7 @@ ghost use Rattle.quilt_types.specs.Plane.{side, is_pixel, in_block, IsBlock};
 ghost use Rattle.quilt_types.specs.Layers.{PointMap, IsPointMap};
 ghost use Rattle.quilt_types.specs.Facts.{same_pixel};
 ghost use Rattle.quilt_types.specs.Quadtrees.{point_blocks};
-ghost use Rattle.quilt_btree.specs.Stops.{HasStopCause, IsSound};
+ghost use Rattle.quilt_store.specs.Stops.{HasStopCause, IsSound};
 ghost use Rattle.quilt_btree.specs.Trees.{IsRooted};
 ghost use Rattle.quilt_points.specs.Layers.{HasPoints, entries_of, block_record};
 ghost use Rattle.quilt_points.specs.Reads.{IsHeld};
@@ -15,6 +15,7 @@ ghost use Rattle.quilt_points.specs.Climbing.{IsOnWay};
 ghost use Rattle.quilt_point_laws.specs.Growing.{gone_of, come_of};
 ghost use Rattle.quilt_edits.specs.Edits.{AreInOrder};
 ghost use Rattle.quilt_points.specs.Plans.{IsPlan};
+ghost use Rattle.quilt_store.specs.Store.{IsOnlyRead};
 
 use crate::climbing::topmost;
 use crate::growing::{Growth, add_growth};
@@ -53,11 +54,7 @@ pub fn plan_put<S: PageStore>(
     ensures order { IfOk result (λ o. IfSome o AreInOrder) }
     ensures sound { IfErr result (λ e. (points : PointMap) → HasPoints (S.told store.old) tree.now layer level bucket points → IsSound e) }
     ensures cause { HasStopCause (S.faults store.old) (S.faults store.new) result }
-    ensures size { S.size store.new ≡ S.size store.old }
-    ensures told { S.told store.new ≡ S.told store.old }
-    ensures free { S.free store.new ≡ S.free store.old }
-    ensures later { S.later store.old store.new }
-    ensures changed { S.changed store.new ≤ S.changed store.old }
+    ensures left { IsOnlyRead S.size S.told S.free S.later S.changed store.old store.new }
 {
     let layer = PointLayer {
         number: layer,
@@ -95,11 +92,7 @@ pub fn plan_del<S: PageStore>(
     ensures order { IfOk result (λ o. IfSome o AreInOrder) }
     ensures sound { IfErr result (λ e. (points : PointMap) → HasPoints (S.told store.old) tree.now layer level bucket points → IsSound e) }
     ensures cause { HasStopCause (S.faults store.old) (S.faults store.new) result }
-    ensures size { S.size store.new ≡ S.size store.old }
-    ensures told { S.told store.new ≡ S.told store.old }
-    ensures free { S.free store.new ≡ S.free store.old }
-    ensures later { S.later store.old store.new }
-    ensures changed { S.changed store.new ≤ S.changed store.old }
+    ensures left { IsOnlyRead S.size S.told S.free S.later S.changed store.old store.new }
 {
     let layer = PointLayer {
         number: layer,
@@ -139,11 +132,7 @@ fn take_from<S: PageStore>(
         → IsHeld layer.level layer.bucket points leaf.block leaf.points.items → in_block leaf.block p.at ≡ true
         → finmap.get points p.at ≡ Some p.label → IsSound e) }
     ensures cause { HasStopCause (S.faults store.old) (S.faults store.new) result }
-    ensures size { S.size store.new ≡ S.size store.old }
-    ensures told { S.told store.new ≡ S.told store.old }
-    ensures free { S.free store.new ≡ S.free store.old }
-    ensures later { S.later store.old store.new }
-    ensures changed { S.changed store.new ≤ S.changed store.old }
+    ensures left { IsOnlyRead S.size S.told S.free S.later S.changed store.old store.new }
 {
     let points = match others(alloc, &leaf.points, p.at) {
         Err(_) => return Err(Stop::Memory),

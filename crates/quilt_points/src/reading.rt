@@ -6,8 +6,8 @@ ghost use Rattle.quilt_types.specs.Plane.{side, in_block, is_pixel, IsBlock};
 ghost use Rattle.quilt_types.specs.Layers.{PointMap};
 ghost use Rattle.quilt_types.specs.Quadtrees.{point_blocks};
 ghost use Rattle.quilt_record.specs.Canonical.{IsRecordOf, point_fact};
-ghost use Rattle.quilt_store.specs.Store.{Tells};
-ghost use Rattle.quilt_btree.specs.Stops.{HasStopCause, IsSound};
+ghost use Rattle.quilt_store.specs.Store.{IsOnlyRead, Tells};
+ghost use Rattle.quilt_store.specs.Stops.{HasStopCause, IsSound};
 ghost use Rattle.quilt_btree.specs.Trees.{IsRooted};
 ghost use Rattle.quilt_points.specs.Layers.{HasPoints, pixel_key};
 ghost use Rattle.quilt_points.specs.Reads.{IsBlockRead, label_at};
@@ -43,12 +43,8 @@ pub fn find<S: PageStore>(
         → label ≡ finmap.get points at) }
     ensures sound { IfErr result (λ e. (points : PointMap) → HasPoints (S.told store.old) tree.now layer level bucket points → IsSound e) }
     ensures cause { HasStopCause (S.faults store.old) (S.faults store.new) result }
-    ensures size { S.size store.new ≡ S.size store.old }
-    ensures told { S.told store.new ≡ S.told store.old }
-    ensures free { S.free store.new ≡ S.free store.old }
-    ensures later { S.later store.old store.new }
+    ensures left { IsOnlyRead S.size S.told S.free S.later S.changed store.old store.new }
     ensures reads { Tells (λ old new. new ≤ old + (if bucket == 1 then 6 else 9)) (S.reads store.old) (S.reads store.new) }
-    ensures changed { S.changed store.new ≤ S.changed store.old }
 {
     let layer = PointLayer {
         number: layer,
@@ -84,12 +80,8 @@ pub(crate) fn block_around<S: PageStore>(
     ensures holds { IfOk result (λ v. in_block v.0 at ≡ true) }
     ensures sound { IfErr result (λ e. (points : PointMap) → HasPoints (S.told store.old) tree.now layer.number layer.level layer.bucket points → IsSound e) }
     ensures cause { HasStopCause (S.faults store.old) (S.faults store.new) result }
-    ensures size { S.size store.new ≡ S.size store.old }
-    ensures told { S.told store.new ≡ S.told store.old }
-    ensures free { S.free store.new ≡ S.free store.old }
-    ensures later { S.later store.old store.new }
+    ensures left { IsOnlyRead S.size S.told S.free S.later S.changed store.old store.new }
     ensures reads { Tells (λ old new. new ≤ old + 6) (S.reads store.old) (S.reads store.new) }
-    ensures changed { S.changed store.new ≤ S.changed store.old }
 {
     let k = key_behind(layer.number, at);
     match tree.floor(store, &k) {
@@ -172,12 +164,8 @@ fn label_in<S: PageStore>(
     ensures sound { IfErr result (λ e. (points : PointMap) → HasPoints (S.told store.old) tree.now layer.number layer.level layer.bucket points
         → Contains (point_blocks layer.level layer.bucket points) b → in_block b at ≡ true → IsSound e) }
     ensures cause { HasStopCause (S.faults store.old) (S.faults store.new) result }
-    ensures size { S.size store.new ≡ S.size store.old }
-    ensures told { S.told store.new ≡ S.told store.old }
-    ensures free { S.free store.new ≡ S.free store.old }
-    ensures later { S.later store.old store.new }
+    ensures left { IsOnlyRead S.size S.told S.free S.later S.changed store.old store.new }
     ensures reads { Tells (λ old new. new ≤ old + 3) (S.reads store.old) (S.reads store.new) }
-    ensures changed { S.changed store.new ≤ S.changed store.old }
 {
     let like = point_record(
         layer.number,

@@ -6,13 +6,14 @@ ghost use Rattle.quilt_types.specs.declared.stop.Stop.TheVariants.{Device};
 ghost use Rattle.quilt_types.specs.Plane.{is_pixel, in_block, IsBlock};
 ghost use Rattle.quilt_types.specs.Layers.{PointMap};
 ghost use Rattle.quilt_loc.specs.Codes.{code_at, Rises};
-ghost use Rattle.quilt_btree.specs.Stops.{HasStopCause, IsSound};
+ghost use Rattle.quilt_store.specs.Stops.{HasStopCause, IsSound};
 ghost use Rattle.quilt_btree.specs.Trees.{IsRooted};
 ghost use Rattle.quilt_edits.specs.Edits.{AreInOrder};
 ghost use Rattle.quilt_points.specs.Layers.{HasPoints};
 ghost use Rattle.quilt_points.specs.Coding.{by_code};
 ghost use Rattle.quilt_points.specs.Plans.{IsPlan, AreNew, with_points};
 ghost use Rattle.quilt_points.specs.Scattering.{IsTaken, IsGrown};
+ghost use Rattle.quilt_store.specs.Store.{IsOnlyRead};
 
 use crate::coding::in_order;
 use crate::growing::{Growth, add_growth};
@@ -51,11 +52,7 @@ pub fn plan_scatter<S: PageStore>(
     ensures order { IfOk result (λ o. IfSome o AreInOrder) }
     ensures sound { IfErr result (λ e. (old : PointMap) → HasPoints (S.told store.old) tree.now layer level bucket old → IsSound e) }
     ensures cause { HasStopCause (S.faults store.old) (S.faults store.new) result }
-    ensures size { S.size store.new ≡ S.size store.old }
-    ensures told { S.told store.new ≡ S.told store.old }
-    ensures free { S.free store.new ≡ S.free store.old }
-    ensures later { S.later store.old store.new }
-    ensures changed { S.changed store.new ≤ S.changed store.old }
+    ensures left { IsOnlyRead S.size S.told S.free S.later S.changed store.old store.new }
 {
     let place = PointLayer {
         number: layer,
@@ -95,11 +92,7 @@ fn grown<S: PageStore>(
         → (p : AnyPoint) × Contains news.now p × IsSome (finmap.get old p.at)) }
     ensures sound { IfErr result (λ e. (old : PointMap) → HasPoints (S.told store.old) tree.now layer.number layer.level layer.bucket old → IsSound e) }
     ensures cause { HasStopCause (S.faults store.old) (S.faults store.new) result }
-    ensures size { S.size store.new ≡ S.size store.old }
-    ensures told { S.told store.new ≡ S.told store.old }
-    ensures free { S.free store.new ≡ S.free store.old }
-    ensures later { S.later store.old store.new }
-    ensures changed { S.changed store.new ≤ S.changed store.old }
+    ensures left { IsOnlyRead S.size S.told S.free S.later S.changed store.old store.new }
 {
     let mut growth = Growth {
         without: Vec::new(alloc),
@@ -139,11 +132,7 @@ fn add_block<S: PageStore>(
         → (p : AnyPoint) × Contains news.now p × IsSome (finmap.get old p.at)) }
     ensures sound { IfErr result (λ e. (old : PointMap) → HasPoints (S.told store.old) tree.now layer.number layer.level layer.bucket old → IsSound e) }
     ensures cause { HasStopCause (S.faults store.old) (S.faults store.new) result }
-    ensures size { S.size store.new ≡ S.size store.old }
-    ensures told { S.told store.new ≡ S.told store.old }
-    ensures free { S.free store.new ≡ S.free store.old }
-    ensures later { S.later store.old store.new }
-    ensures changed { S.changed store.new ≤ S.changed store.old }
+    ensures left { IsOnlyRead S.size S.told S.free S.later S.changed store.old store.new }
 {
     match leaf_around(alloc, store, tree, layer, news[0].at) {
         Err(e) => Err(e),

@@ -2,10 +2,10 @@ ghost use Rattle.std.specs.Prelude.{◌≡◌, ℕ, ◌+◌, ◌<◌, ◌≤◌,
 ghost use Rattle.quilt_types.specs.Plane.{IsBlock};
 ghost use Rattle.quilt_types.specs.Quadtrees.{is_reached, reach};
 ghost use Rattle.quilt_types.specs.Ranking.{ranked as ranked_of};
-ghost use Rattle.quilt_store.specs.Store.{Tells};
+ghost use Rattle.quilt_store.specs.Store.{IsOnlyRead, Tells};
 ghost use Rattle.quilt_near.specs.Budgets.{is_close};
 ghost use Rattle.quilt_near.specs.Lines.{Lines};
-ghost use Rattle.quilt_near.specs.Parts.{HasStopCause, IsSound};
+ghost use Rattle.quilt_store.specs.Stops.{HasStopCause, IsSound};
 ghost use Rattle.quilt_rank.specs.Ranks.{with_seg, last_far};
 ghost use Rattle.quilt_rank.specs.Opened.{IsOpened};
 
@@ -49,11 +49,7 @@ fn open<S: PageStore, B: SegBlocks<S>>(
         (S.reads store.old) (S.reads store.new)) }
     ensures sound { IfErr result (λ e. (l : Lines) → B.shows blocks.now store.old l → IsSound e) }
     ensures cause { HasStopCause (S.faults store.old) (S.faults store.new) result }
-    ensures size { S.size store.new ≡ S.size store.old }
-    ensures told { S.told store.new ≡ S.told store.old }
-    ensures free { S.free store.new ≡ S.free store.old }
-    ensures later { S.later store.old store.new }
-    ensures changed { S.changed store.new ≤ S.changed store.old }
+    ensures left { IsOnlyRead S.size S.told S.free S.later S.changed store.old store.new }
 {
     match blocks.part(alloc, store, b) {
         Err(e) => Err(e),
@@ -85,11 +81,7 @@ pub fn ranked<S: PageStore, B: SegBlocks<S>>(
         → Tells (λ old new. new ≤ old + reach (B.level_of blocks.now) l.segs l.cover (is_close p (last_far list))) (S.reads store.old) (S.reads store.new)) }
     ensures sound { IfErr result (λ e. (l : Lines) → B.shows blocks.now store.old l → IsSound e) }
     ensures cause { HasStopCause (S.faults store.old) (S.faults store.new) result }
-    ensures size { S.size store.new ≡ S.size store.old }
-    ensures told { S.told store.new ≡ S.told store.old }
-    ensures free { S.free store.new ≡ S.free store.old }
-    ensures later { S.later store.old store.new }
-    ensures changed { S.changed store.new ≤ S.changed store.old }
+    ensures left { IsOnlyRead S.size S.told S.free S.later S.changed store.old store.new }
 {
     let mut queue = match first_queue(alloc, blocks, p) {
         Err(_) => return Err(Stop::Memory),

@@ -5,7 +5,7 @@ use Rattle.quilt_types.specs.Layers.{Grid, IsGrid}
 use Rattle.quilt_record.specs.declared.record.Record.{Record}
 use Rattle.quilt_blocks.specs.Raster.{Raster}
 use Rattle.quilt_btree.specs.declared.tree.Tree.{Tree}
-use Rattle.quilt_btree.specs.Stops.{IsSound}
+use Rattle.quilt_store.specs.Stops.{IsSound}
 use Rattle.quilt_region.specs.Regions.{region_records, HasRegion}
 
 module _ (told : Option (List (List ℕ))) (t : Tree) (layer n : ℕ) (items : List Record) (read : (g : Grid) → HasRegion told t layer n g

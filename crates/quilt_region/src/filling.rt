@@ -4,7 +4,7 @@ ghost use Rattle.quilt_types.specs.Plane.{corner, in_block, IsBlock};
 ghost use Rattle.quilt_types.specs.Layers.{Grid};
 ghost use Rattle.quilt_types.specs.Algebra.{grid_of};
 ghost use Rattle.quilt_loc.specs.Codes.{code_from, code_to};
-ghost use Rattle.quilt_btree.specs.Stops.{IsSound};
+ghost use Rattle.quilt_store.specs.Stops.{IsSound};
 ghost use Rattle.quilt_region.specs.Painting.{HasColours};
 ghost use Rattle.quilt_region.specs.Windows.{IsKnown, IsCutOut, records_within, known_colour};
 

@@ -3,8 +3,8 @@ ghost use Rattle.quilt_types.specs.declared.plane.Block.{Block as AnyBlock};
 ghost use Rattle.quilt_types.specs.Plane.{parent_of, side as side_of, is_window, IsBlock, Within};
 ghost use Rattle.quilt_types.specs.Layers.{Grid, colour_at};
 ghost use Rattle.quilt_types.specs.Quadtrees.{leaves};
-ghost use Rattle.quilt_store.specs.Store.{Tells};
-ghost use Rattle.quilt_btree.specs.Stops.{HasStopCause, IsSound};
+ghost use Rattle.quilt_store.specs.Store.{IsOnlyRead, Tells};
+ghost use Rattle.quilt_store.specs.Stops.{HasStopCause, IsSound};
 ghost use Rattle.quilt_btree.specs.Trees.{IsRooted};
 ghost use Rattle.quilt_region.specs.Regions.{HasRegion};
 ghost use Rattle.quilt_region.specs.Windows.{HoldsWindow, HasAround, IsCutOut, IsKnown, Knows, leaves_within};
@@ -73,12 +73,8 @@ pub fn block_with<S: PageStore>(
         → HoldsWindow a w → length (leaves_within level g r.0) ≤ 1 + length (leaves_within level g a)) }
     ensures sound { IfErr result (λ e. (g : Grid) → HasRegion (S.told store.old) tree.now layer level g → IsSound e) }
     ensures cause { HasStopCause (S.faults store.old) (S.faults store.new) result }
-    ensures size { S.size store.new ≡ S.size store.old }
-    ensures told { S.told store.new ≡ S.told store.old }
-    ensures free { S.free store.new ≡ S.free store.old }
-    ensures later { S.later store.old store.new }
+    ensures left { IsOnlyRead S.size S.told S.free S.later S.changed store.old store.new }
     ensures reads { Tells (λ old new. new ≤ old + 6) (S.reads store.old) (S.reads store.new) }
-    ensures changed { S.changed store.new ≤ S.changed store.old }
 {
     match leaf_with(store, tree, layer, level, Pixel { x: w.x, y: w.y }) {
         Err(e) => Err(e),
@@ -109,12 +105,8 @@ fn has_around<S: PageStore>(
         → HasAround level g larger b c.0 → ⊥) }
     ensures sound { IfErr result (λ e. (g : Grid) → HasRegion (S.told store.old) tree.now layer level g → IsSound e) }
     ensures cause { HasStopCause (S.faults store.old) (S.faults store.new) result }
-    ensures size { S.size store.new ≡ S.size store.old }
-    ensures told { S.told store.new ≡ S.told store.old }
-    ensures free { S.free store.new ≡ S.free store.old }
-    ensures later { S.later store.old store.new }
+    ensures left { IsOnlyRead S.size S.told S.free S.later S.changed store.old store.new }
     ensures reads { Tells (λ old new. new ≤ old + 24) (S.reads store.old) (S.reads store.new) }
-    ensures changed { S.changed store.new ≤ S.changed store.old }
 {
     for q in quarters(larger) {
         match has_quarter(store, tree, layer, level, b, q, c) {
@@ -146,12 +138,8 @@ fn has_quarter<S: PageStore>(
         → (q ≡ b → ⊥) × (Contains (leaves level g) (q, c.0) → ⊥)) }
     ensures sound { IfErr result (λ e. (g : Grid) → HasRegion (S.told store.old) tree.now layer level g → IsSound e) }
     ensures cause { HasStopCause (S.faults store.old) (S.faults store.new) result }
-    ensures size { S.size store.new ≡ S.size store.old }
-    ensures told { S.told store.new ≡ S.told store.old }
-    ensures free { S.free store.new ≡ S.free store.old }
-    ensures later { S.later store.old store.new }
+    ensures left { IsOnlyRead S.size S.told S.free S.later S.changed store.old store.new }
     ensures reads { Tells (λ old new. new ≤ old + 6) (S.reads store.old) (S.reads store.new) }
-    ensures changed { S.changed store.new ≤ S.changed store.old }
 {
     if q == b {
         return Ok(true);
@@ -189,12 +177,8 @@ pub fn block_up_to<S: PageStore>(
         → top.side < side_of level → HasAround level g (parent_of top) top c.0 → ⊥) }
     ensures sound { IfErr result (λ e. (g : Grid) → HasRegion (S.told store.old) tree.now layer level g → IsSound e) }
     ensures cause { HasStopCause (S.faults store.old) (S.faults store.new) result }
-    ensures size { S.size store.new ≡ S.size store.old }
-    ensures told { S.told store.new ≡ S.told store.old }
-    ensures free { S.free store.new ≡ S.free store.old }
-    ensures later { S.later store.old store.new }
+    ensures left { IsOnlyRead S.size S.told S.free S.later S.changed store.old store.new }
     ensures reads { (j : ℕ) → b.side ≡ 2 ^ j → Tells (λ old new. new + 24 * j ≤ old + 24 * level) (S.reads store.old) (S.reads store.new) }
-    ensures changed { S.changed store.new ≤ S.changed store.old }
 {
     let mut top = b;
     while let Some(larger) = parent(top, level) {
@@ -228,12 +212,8 @@ pub fn known_beside<S: PageStore>(
     ensures knows { IfOk result (λ o. IfSome o (λ k. (g : Grid) → HasRegion (S.told store.old) tree.now layer level g → Knows level g w k)) }
     ensures sound { IfErr result (λ e. (g : Grid) → HasRegion (S.told store.old) tree.now layer level g → IsSound e) }
     ensures cause { HasStopCause (S.faults store.old) (S.faults store.new) result }
-    ensures size { S.size store.new ≡ S.size store.old }
-    ensures told { S.told store.new ≡ S.told store.old }
-    ensures free { S.free store.new ≡ S.free store.old }
-    ensures later { S.later store.old store.new }
+    ensures left { IsOnlyRead S.size S.told S.free S.later S.changed store.old store.new }
     ensures reads { Tells (λ old new. new ≤ old + 30) (S.reads store.old) (S.reads store.new) }
-    ensures changed { S.changed store.new ≤ S.changed store.old }
 {
     match block_with(store, tree, layer, level, w) {
         Err(e) => Err(e),

@@ -6,8 +6,8 @@ ghost use Rattle.quilt_types.specs.Layers.{Grid, IsGrid};
 ghost use Rattle.quilt_types.specs.Algebra.{painted};
 ghost use Rattle.quilt_record.specs.declared.record.Record.{Record as AnyRecord};
 ghost use Rattle.quilt_record.specs.declared.edits.Edits.{Edits as AnyEdits};
-ghost use Rattle.quilt_store.specs.Store.{Tells};
-ghost use Rattle.quilt_btree.specs.Stops.{HasStopCause, IsSound};
+ghost use Rattle.quilt_store.specs.Store.{IsOnlyRead, Tells};
+ghost use Rattle.quilt_store.specs.Stops.{HasStopCause, IsSound};
 ghost use Rattle.quilt_btree.specs.Trees.{IsRooted};
 ghost use Rattle.quilt_region.specs.Regions.{HasRegion, SpellsRegion};
 ghost use Rattle.quilt_region.specs.Plans.{LeadsTo, IsEdited, IsFresh};
@@ -49,10 +49,7 @@ pub fn plan_rect<S: PageStore>(
         → LeadsTo level layer g (painted level g w c.0) edits) }
     ensures sound { IfErr result (λ e. (g : Grid) → HasRegion (S.told store.old) tree.now layer level g → IsSound e) }
     ensures cause { HasStopCause (S.faults store.old) (S.faults store.new) result }
-    ensures size { S.size store.new ≡ S.size store.old }
-    ensures told { S.told store.new ≡ S.told store.old }
-    ensures free { S.free store.new ≡ S.free store.old }
-    ensures later { S.later store.old store.new }
+    ensures left { IsOnlyRead S.size S.told S.free S.later S.changed store.old store.new }
 
     // Of the leaves it reads no more than one and those that begin in any one block that has the whole window.
     ensures reads { IfOk result (λ edits. (g : Grid) (b : AnyBlock) → HasRegion (S.told store.old) tree.now layer level g → IsBlock level b
@@ -60,7 +57,6 @@ pub fn plan_rect<S: PageStore>(
     ensures pixel { w.w ≡ 1 → w.h ≡ 1
         → IfOk result (λ edits. (g : Grid) → HasRegion (S.told store.old) tree.now layer level g
         → Tells (λ old new. new ≤ old + (18 + 24 * level)) (S.reads store.old) (S.reads store.new)) }
-    ensures changed { S.changed store.new ≤ S.changed store.old }
 {
     match plan_apart(alloc, store, tree, layer, level, w, c) {
         Err(e) => Err(e),
@@ -87,16 +83,12 @@ fn plan_together<S: PageStore>(
         → LeadsTo level layer g (painted level g w c.0) edits) }
     ensures sound { IfErr result (λ e. (g : Grid) → HasRegion (S.told store.old) tree.now layer level g → IsSound e) }
     ensures cause { HasStopCause (S.faults store.old) (S.faults store.new) result }
-    ensures size { S.size store.new ≡ S.size store.old }
-    ensures told { S.told store.new ≡ S.told store.old }
-    ensures free { S.free store.new ≡ S.free store.old }
-    ensures later { S.later store.old store.new }
+    ensures left { IsOnlyRead S.size S.told S.free S.later S.changed store.old store.new }
 
     // The levels up to that of the smallest block that has the whole window cost nothing.
     ensures reads { IfOk result (λ edits. (g : Grid) (b : AnyBlock) (j : ℕ) → HasRegion (S.told store.old) tree.now layer level g → IsBlock level b
         → HoldsWindow b w → ((a : AnyBlock) → IsBlock level a → HoldsWindow a w → 2 ^ j ≤ a.side)
         → Tells (λ old new. new + 24 * j ≤ old + (15 + 24 * level + 3 * length (leaves_within level g b))) (S.reads store.old) (S.reads store.new)) }
-    ensures changed { S.changed store.new ≤ S.changed store.old }
 {
     match what_is_around(store, tree, layer, level, w, c) {
         Err(e) => Err(e),
@@ -127,14 +119,10 @@ fn what_is_around<S: PageStore>(
         → HoldsWindow a w → length (leaves_within level g k.read) ≤ 1 + length (leaves_within level g a)) }
     ensures sound { IfErr result (λ e. (g : Grid) → HasRegion (S.told store.old) tree.now layer level g → IsSound e) }
     ensures cause { HasStopCause (S.faults store.old) (S.faults store.new) result }
-    ensures size { S.size store.new ≡ S.size store.old }
-    ensures told { S.told store.new ≡ S.told store.old }
-    ensures free { S.free store.new ≡ S.free store.old }
-    ensures later { S.later store.old store.new }
+    ensures left { IsOnlyRead S.size S.told S.free S.later S.changed store.old store.new }
     ensures holds { IfOk result (λ k. HoldsWindow k.read w) }
     ensures reads { IfOk result (λ k. (j : ℕ) → k.read.side ≡ 2 ^ j
         → Tells (λ old new. new + 24 * j ≤ old + (6 + 24 * level)) (S.reads store.old) (S.reads store.new)) }
-    ensures changed { S.changed store.new ≤ S.changed store.old }
 {
     match block_with(store, tree, layer, level, w) {
         Err(e) => Err(e),

@@ -6,8 +6,8 @@ ghost use Rattle.quilt_types.specs.declared.plane.Block.{Block as AnyBlock};
 ghost use Rattle.quilt_types.specs.Plane.{quarters_of, is_window, Holds, IsBlock};
 ghost use Rattle.quilt_types.specs.Layers.{Grid};
 ghost use Rattle.quilt_types.specs.Algebra.{painted};
-ghost use Rattle.quilt_store.specs.Store.{Tells};
-ghost use Rattle.quilt_btree.specs.Stops.{HasStopCause, IsSound};
+ghost use Rattle.quilt_store.specs.Store.{IsOnlyRead, Tells};
+ghost use Rattle.quilt_store.specs.Stops.{HasStopCause, IsSound};
 ghost use Rattle.quilt_btree.specs.Trees.{IsRooted};
 ghost use Rattle.quilt_region.specs.Regions.{HasRegion};
 ghost use Rattle.quilt_region.specs.Plans.{LeadsTo, records_without};
@@ -50,17 +50,13 @@ pub fn plan_apart<S: PageStore>(
         (λ o. IfSome o (λ edits. (g : Grid) → HasRegion (S.told store.old) tree.now layer level g → LeadsTo level layer g (painted level g w c.0) edits)) }
     ensures sound { IfErr result (λ e. (g : Grid) → HasRegion (S.told store.old) tree.now layer level g → IsSound e) }
     ensures cause { HasStopCause (S.faults store.old) (S.faults store.new) result }
-    ensures size { S.size store.new ≡ S.size store.old }
-    ensures told { S.told store.new ≡ S.told store.old }
-    ensures free { S.free store.new ≡ S.free store.old }
-    ensures later { S.later store.old store.new }
+    ensures left { IsOnlyRead S.size S.told S.free S.later S.changed store.old store.new }
     ensures large { IfOk result (λ o. IfSome o (λ edits. (a : AnyBlock) → IsBlock level a → HoldsWindow a w → 64 ≤ a.side)) }
     ensures reads { IfOk result
         (λ o. IfSome o (λ edits. (g : Grid) (a : AnyBlock) → HasRegion (S.told store.old) tree.now layer level g → IsBlock level a → HoldsWindow a w
         → Tells (λ old new. new ≤ old + (144 + 3 * length (leaves_within level g a))) (S.reads store.old) (S.reads store.new))) }
     ensures tried { IfOk result (λ o. IsNone o → (j : ℕ) × ((a : AnyBlock) → IsBlock level a → HoldsWindow a w → 2 ^ j ≤ a.side)
         × Tells (λ old new. new ≤ old + 24 * j) (S.reads store.old) (S.reads store.new)) }
-    ensures changed { S.changed store.new ≤ S.changed store.old }
 {
     let b = block_around(w, level);
     if !is_large(b, w) {
@@ -99,15 +95,11 @@ fn plan_in_block<S: PageStore>(
         (λ o. IfSome o (λ edits. (g : Grid) → HasRegion (S.told store.old) tree.now layer level g → LeadsTo level layer g (painted level g w c.0) edits)) }
     ensures sound { IfErr result (λ e. (g : Grid) → HasRegion (S.told store.old) tree.now layer level g → IsSound e) }
     ensures cause { HasStopCause (S.faults store.old) (S.faults store.new) result }
-    ensures size { S.size store.new ≡ S.size store.old }
-    ensures told { S.told store.new ≡ S.told store.old }
-    ensures free { S.free store.new ≡ S.free store.old }
-    ensures later { S.later store.old store.new }
+    ensures left { IsOnlyRead S.size S.told S.free S.later S.changed store.old store.new }
     ensures reads { IfOk result
         (λ o. IfSome o (λ edits. (g : Grid) → HasRegion (S.told store.old) tree.now layer level g
         → Tells (λ old new. new ≤ old + (144 + 3 * length (leaves_within level g b))) (S.reads store.old) (S.reads store.new))) }
     ensures tried { IfOk result (λ o. IsNone o → Tells (λ old new. new ≤ old + 120) (S.reads store.old) (S.reads store.new)) }
-    ensures changed { S.changed store.new ≤ S.changed store.old }
 {
     let mut remove = Vec::new(alloc);
     let mut add = Vec::new(alloc);
@@ -165,15 +157,11 @@ fn plan_quarters<S: PageStore>(
         → Contains (take count (quarters_of b)) q → Holds q p → InWindow w p → AreSeveral level g (painted level g w c.0) b) }
     ensures sound { IfErr result (λ e. (g : Grid) → HasRegion (S.told store.old) tree.now layer level g → IsSound e) }
     ensures cause { HasStopCause (S.faults store.old) (S.faults store.new) result }
-    ensures size { S.size store.new ≡ S.size store.old }
-    ensures told { S.told store.new ≡ S.told store.old }
-    ensures free { S.free store.new ≡ S.free store.old }
-    ensures later { S.later store.old store.new }
+    ensures left { IsOnlyRead S.size S.told S.free S.later S.changed store.old store.new }
     ensures reads { IfOk result (λ t. t ≡ true → (g : Grid) → HasRegion (S.told store.old) tree.now layer level g
         → Tells (λ old new. new ≤ old + (36 * count + 3 * sum_by (λ q. length (leaves_within level g q)) (take count (quarters_of b))))
         (S.reads store.old) (S.reads store.new)) }
     ensures tried { IfOk result (λ t. t ≡ false → Tells (λ old new. new ≤ old + 30 * count) (S.reads store.old) (S.reads store.new)) }
-    ensures changed { S.changed store.new ≤ S.changed store.old }
 {
     if count == 0 {
         return Ok(true);
@@ -244,13 +232,9 @@ fn plan_part<S: PageStore>(
         → add.new.items ≡ add.old.items ++ records_without level layer (painted level g w known.now.around.0) g) }
     ensures sound { IfErr result (λ e. (g : Grid) → HasRegion (S.told store.old) tree.now layer level g → Knows level g w known.now → IsSound e) }
     ensures cause { HasStopCause (S.faults store.old) (S.faults store.new) result }
-    ensures size { S.size store.new ≡ S.size store.old }
-    ensures told { S.told store.new ≡ S.told store.old }
-    ensures free { S.free store.new ≡ S.free store.old }
-    ensures later { S.later store.old store.new }
+    ensures left { IsOnlyRead S.size S.told S.free S.later S.changed store.old store.new }
     ensures reads { OnOk result ((g : Grid) → HasRegion (S.told store.old) tree.now layer level g
         → Tells (λ old new. new ≤ old + (6 + 3 * length (leaves_within level g known.now.read))) (S.reads store.old) (S.reads store.new)) }
-    ensures changed { S.changed store.new ≤ S.changed store.old }
 {
     match records_in(alloc, store, tree, layer, level, known.read) {
         Err(e) => Err(e),

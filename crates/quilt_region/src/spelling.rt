@@ -7,7 +7,7 @@ ghost use Rattle.quilt_types.specs.Plane.{Holds, IsBlock};
 ghost use Rattle.quilt_types.specs.Layers.{Grid, IsGrid, colour_at};
 ghost use Rattle.quilt_loc.specs.Codes.{code_from, code_to};
 ghost use Rattle.quilt_blocks.specs.Cutting.{pair_of};
-ghost use Rattle.quilt_btree.specs.Stops.{IsSound};
+ghost use Rattle.quilt_store.specs.Stops.{IsSound};
 ghost use Rattle.quilt_region.specs.Painting.{HasColours};
 ghost use Rattle.quilt_region.specs.Regions.{leaf_record, region_records};
 ghost use Rattle.quilt_region.specs.Windows.{IsCutOut, records_within};

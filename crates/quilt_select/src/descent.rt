@@ -4,9 +4,9 @@ ghost use Rattle.std.specs.BTreeMap.{IsOrdered};
 ghost use Rattle.std.specs.FinMap as finmap;
 ghost use Rattle.quilt_types.specs.Plane.{IsBlock, is_window};
 ghost use Rattle.quilt_types.specs.Quadtrees.{is_reached, reach};
-ghost use Rattle.quilt_store.specs.Store.{Tells};
+ghost use Rattle.quilt_store.specs.Store.{IsOnlyRead, Tells};
 ghost use Rattle.quilt_near.specs.Lines.{Lines};
-ghost use Rattle.quilt_near.specs.Parts.{HasStopCause, IsSound};
+ghost use Rattle.quilt_store.specs.Stops.{HasStopCause, IsSound};
 ghost use Rattle.quilt_select.specs.Shares.{shares as shares_of, holds_any, meets_any as meets_any_of};
 ghost use Rattle.quilt_select.specs.Descents.{four, with_seg, IsOpened};
 
@@ -106,11 +106,7 @@ fn open<S: PageStore, B: SegBlocks<S>>(
         (IsOpened b near.now (B.shows blocks.now store.old) stack.old stack.new found.old.entries found.new.entries (S.reads store.old) (S.reads store.new)) }
     ensures sound { IfErr result (λ e. (l : Lines) → B.shows blocks.now store.old l → IsSound e) }
     ensures cause { HasStopCause (S.faults store.old) (S.faults store.new) result }
-    ensures size { S.size store.new ≡ S.size store.old }
-    ensures told { S.told store.new ≡ S.told store.old }
-    ensures free { S.free store.new ≡ S.free store.old }
-    ensures later { S.later store.old store.new }
-    ensures changed { S.changed store.new ≤ S.changed store.old }
+    ensures left { IsOnlyRead S.size S.told S.free S.later S.changed store.old store.new }
 {
     if near.is_empty() {
         return Ok(());
@@ -156,11 +152,7 @@ pub fn select<S: PageStore, B: SegBlocks<S>>(
         → Tells (λ old new. new ≤ old + reach (B.level_of blocks.now) l.segs l.cover (holds_any windows.items)) (S.reads store.old) (S.reads store.new)) }
     ensures sound { IfErr result (λ e. (l : Lines) → B.shows blocks.now store.old l → IsSound e) }
     ensures cause { HasStopCause (S.faults store.old) (S.faults store.new) result }
-    ensures size { S.size store.new ≡ S.size store.old }
-    ensures told { S.told store.new ≡ S.told store.old }
-    ensures free { S.free store.new ≡ S.free store.old }
-    ensures later { S.later store.old store.new }
-    ensures changed { S.changed store.new ≤ S.changed store.old }
+    ensures left { IsOnlyRead S.size S.told S.free S.later S.changed store.old store.new }
 {
     let mut stack = Stack::new(alloc);
     match stack.push(whole_square(blocks), windows) {

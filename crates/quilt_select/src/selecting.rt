@@ -3,9 +3,9 @@ ghost use Rattle.std.specs.FinMap as finmap;
 ghost use Rattle.quilt_types.specs.Plane.{is_window};
 ghost use Rattle.quilt_types.specs.Segments.{meets};
 ghost use Rattle.quilt_types.specs.Quadtrees.{reach};
-ghost use Rattle.quilt_store.specs.Store.{Tells};
+ghost use Rattle.quilt_store.specs.Store.{IsOnlyRead, Tells};
 ghost use Rattle.quilt_near.specs.Lines.{Lines};
-ghost use Rattle.quilt_near.specs.Parts.{HasStopCause, IsSound};
+ghost use Rattle.quilt_store.specs.Stops.{HasStopCause, IsSound};
 ghost use Rattle.quilt_blocks.specs.Cutting.{leaves_by_code};
 ghost use Rattle.quilt_select.specs.Clips.{clips_of as clips_of_list};
 ghost use Rattle.quilt_select.specs.Regions.{is_over, has_coloured, coloured_windows as coloured_windows_of};
@@ -33,11 +33,7 @@ pub fn cross<S: PageStore, B: SegBlocks<S>>(
         → Tells (λ old new. new ≤ old + reach (B.level_of blocks.now) l.segs l.cover (is_touching w)) (S.reads store.old) (S.reads store.new)) }
     ensures sound { IfErr result (λ e. (l : Lines) → B.shows blocks.now store.old l → IsSound e) }
     ensures cause { HasStopCause (S.faults store.old) (S.faults store.new) result }
-    ensures size { S.size store.new ≡ S.size store.old }
-    ensures told { S.told store.new ≡ S.told store.old }
-    ensures free { S.free store.new ≡ S.free store.old }
-    ensures later { S.later store.old store.new }
-    ensures changed { S.changed store.new ≤ S.changed store.old }
+    ensures left { IsOnlyRead S.size S.told S.free S.later S.changed store.old store.new }
 {
     let mut windows = Vec::new(alloc);
     match windows.push(w) {
@@ -61,11 +57,7 @@ pub fn clipped<S: PageStore, B: SegBlocks<S>>(
         → Tells (λ old new. new ≤ old + reach (B.level_of blocks.now) l.segs l.cover (is_touching w)) (S.reads store.old) (S.reads store.new)) }
     ensures sound { IfErr result (λ e. (l : Lines) → B.shows blocks.now store.old l → IsSound e) }
     ensures cause { HasStopCause (S.faults store.old) (S.faults store.new) result }
-    ensures size { S.size store.new ≡ S.size store.old }
-    ensures told { S.told store.new ≡ S.told store.old }
-    ensures free { S.free store.new ≡ S.free store.old }
-    ensures later { S.later store.old store.new }
-    ensures changed { S.changed store.new ≤ S.changed store.old }
+    ensures left { IsOnlyRead S.size S.told S.free S.later S.changed store.old store.new }
 {
     match cross(alloc, blocks, store, w) {
         Err(e) => Err(e),
@@ -112,11 +104,7 @@ pub fn over<S: PageStore, B: SegBlocks<S>>(
         (S.reads store.new)) }
     ensures sound { IfErr result (λ e. (l : Lines) → B.shows blocks.now store.old l → IsSound e) }
     ensures cause { HasStopCause (S.faults store.old) (S.faults store.new) result }
-    ensures size { S.size store.new ≡ S.size store.old }
-    ensures told { S.told store.new ≡ S.told store.old }
-    ensures free { S.free store.new ≡ S.free store.old }
-    ensures later { S.later store.old store.new }
-    ensures changed { S.changed store.new ≤ S.changed store.old }
+    ensures left { IsOnlyRead S.size S.told S.free S.later S.changed store.old store.new }
 {
     match coloured_windows(alloc, list) {
         Err(_) => Err(Stop::Memory),

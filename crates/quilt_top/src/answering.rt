@@ -1,8 +1,8 @@
-ghost use Rattle.std.specs.Prelude.{◌≡◌, ◌⊎◌, ℕ, ◌≤◌, ◌&&◌, false, OnOk, OnErr, IfOk, IfErr};
+ghost use Rattle.std.specs.Prelude.{◌≡◌, ℕ, ◌≤◌, ◌&&◌, false, OnOk, OnErr, IfOk, IfErr};
 ghost use Rattle.quilt_types.specs.declared.stop.Stop.TheVariants as stops;
 ghost use Rattle.quilt_world.specs.Tale.{Goes};
 ghost use Rattle.quilt_world.specs.Causes.{Rose};
-ghost use Rattle.quilt_world.specs.declared.disk.Door.TheVariants as doors;
+ghost use Rattle.quilt_world.specs.Doors.{IsOpen};
 ghost use Rattle.quilt_top.specs.Answering.{Applies, Answers, AnswersFront, changes_then};
 ghost use Rattle.quilt_top.specs.declared.halt.Halt.TheVariants as halts;
 ghost use Rattle.quilt_replies.specs.Answers.{State, Refused};
@@ -84,7 +84,7 @@ pub(crate) fn put_answer<R: Threads + Sync, W: World>(
     item: Item,
     so_far: bool,
 ) -> Result<bool, Halt>
-    requires open { (W.door (world_of session.old) ≡ doors.Ready) ⊎ (W.door (world_of session.old) ≡ doors.Made) }
+    requires open { IsOpen (W.door (world_of session.old)) }
     requires item { IsItem (format_of session.old) (level_of session.old) item }
     ensures later { W.faults (world_of session.old) ≤ W.faults (world_of session.new) }
     ensures device { IfErr result (λ e. e ≡ halts.Stopped stops.Device → Rose (W.faults (world_of session.old)) (W.faults (world_of session.new))) }

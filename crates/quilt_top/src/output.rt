@@ -1,7 +1,7 @@
-ghost use Rattle.std.specs.Prelude.{◌≡◌, ◌⊎◌, ℕ, OnOk, OnErr};
+ghost use Rattle.std.specs.Prelude.{◌≡◌, ℕ, OnOk, OnErr};
 ghost use Rattle.quilt_world.specs.Tale.{Goes};
 ghost use Rattle.quilt_world.specs.Causes.{HasCause};
-ghost use Rattle.quilt_world.specs.declared.disk.Door.TheVariants as doors;
+ghost use Rattle.quilt_world.specs.Doors.{IsOpen};
 ghost use Rattle.quilt_world.specs.Added.{AddsOnly, is_of_text};
 ghost use Rattle.quilt_replies.specs.Answers.{State};
 ghost use Rattle.quilt_map.specs.Sessions.{world_of, level_of, changes_of, IsAt};
@@ -12,7 +12,7 @@ use quilt_world::{Fault, World};
 
 /// Puts all of the bytes, in as many calls as the world needs. After an Err a front of them was put.
 pub(crate) fn put_all<W: World>(world: &mut W, bytes: &[u8]) -> Result<(), Fault>
-    requires { (W.door world.old ≡ doors.Ready) ⊎ (W.door world.old ≡ doors.Made) }
+    requires { IsOpen (W.door world.old) }
     ensures cause { HasCause (W.faults world.old) (W.faults world.new) result }
     ensures door { W.door world.new ≡ W.door world.old }
     ensures said { OnOk result (Goes (Says bytes.now) (W.told world.old) (W.told world.new)) }
@@ -28,7 +28,7 @@ pub(crate) fn put_all<W: World>(world: &mut W, bytes: &[u8]) -> Result<(), Fault
 
 /// The same by the world that a session has.
 pub(crate) fn put_reply<W: World>(session: &mut Session<W>, bytes: &[u8]) -> Result<(), Fault>
-    requires { (W.door (world_of session.old) ≡ doors.Ready) ⊎ (W.door (world_of session.old) ≡ doors.Made) }
+    requires { IsOpen (W.door (world_of session.old)) }
     ensures cause { HasCause (W.faults (world_of session.old)) (W.faults (world_of session.new)) result }
     ensures door { W.door (world_of session.new) ≡ W.door (world_of session.old) }
     ensures said { OnOk result (Goes (Says bytes.now) (W.told (world_of session.old)) (W.told (world_of session.new))) }

@@ -1,8 +1,8 @@
-ghost use Rattle.std.specs.Prelude.{◌≡◌, ◌⊎◌, ℕ, ◌<◌, ◌≤◌, ◌+◌, ◌^◌, length, [], IfOk, IfErr, OnErr, IfSome};
+ghost use Rattle.std.specs.Prelude.{◌≡◌, ℕ, ◌<◌, ◌≤◌, ◌+◌, ◌^◌, length, [], IfOk, IfErr, OnErr, IfSome};
 ghost use Rattle.quilt_types.specs.declared.stop.Stop.TheVariants as stops;
 ghost use Rattle.quilt_world.specs.Tale.{Tale, Goes};
 ghost use Rattle.quilt_world.specs.Causes.{Rose};
-ghost use Rattle.quilt_world.specs.declared.disk.Door.TheVariants as doors;
+ghost use Rattle.quilt_world.specs.Doors.{IsOpen};
 ghost use Rattle.quilt_lang.specs.Reading.{HasNone};
 ghost use Rattle.quilt_replies.specs.Answers.{State};
 ghost use Rattle.quilt_map.specs.Sessions.{world_of, level_of, changes_of, IsAt};
@@ -30,7 +30,7 @@ fn answer_items<R: Threads + Sync, W: World>(
     ended: bool,
     so_far: bool,
 ) -> Result<bool, Halt>
-    requires open { (W.door (world_of session.old) ≡ doors.Ready) ⊎ (W.door (world_of session.old) ≡ doors.Made) }
+    requires open { IsOpen (W.door (world_of session.old)) }
     requires level { level_of session.old ≡ lines.old.level }
     ensures later { W.faults (world_of session.old) ≤ W.faults (world_of session.new) }
     ensures device { IfErr result (λ e. e ≡ halts.Stopped stops.Device → Rose (W.faults (world_of session.old)) (W.faults (world_of session.new))) }
@@ -76,7 +76,7 @@ pub(crate) fn run_text<R: Threads + Sync, W: World>(
     alloc: Global,
     session: &mut Session<W>,
 ) -> Result<bool, Halt>
-    requires open { (W.door (world_of session.old) ≡ doors.Ready) ⊎ (W.door (world_of session.old) ≡ doors.Made) }
+    requires open { IsOpen (W.door (world_of session.old)) }
     requires untold { IfSome (W.told (world_of session.old)) IsUntold }
     requires unchanged { changes_of session.old ≡ 0 }
     ensures later { W.faults (world_of session.old) ≤ W.faults (world_of session.new) }

@@ -1,8 +1,8 @@
-ghost use Rattle.std.specs.Prelude.{◌≡◌, ◌⊎◌, ℕ, Bool, ◌<◌, ◌≤◌, ◌+◌, ◌*◌, ◌^◌, [], length, string_bytes, if◌then◌else◌, IfOk, IfErr, OnOk};
+ghost use Rattle.std.specs.Prelude.{◌≡◌, ℕ, Bool, ◌<◌, ◌≤◌, ◌+◌, ◌*◌, ◌^◌, [], length, string_bytes, if◌then◌else◌, IfOk, IfErr, OnOk};
 ghost use Rattle.quilt_types.specs.declared.stop.Stop.TheVariants as stops;
 ghost use Rattle.quilt_world.specs.Tale.{Goes};
 ghost use Rattle.quilt_world.specs.Causes.{Rose};
-ghost use Rattle.quilt_world.specs.declared.disk.Door.TheVariants as doors;
+ghost use Rattle.quilt_world.specs.Doors.{IsOpen};
 ghost use Rattle.quilt_words.specs.Items.{items_of};
 ghost use Rattle.quilt_replies.specs.Answers.{State};
 ghost use Rattle.quilt_replies.specs.Runs.{is_done};
@@ -123,7 +123,7 @@ pub(crate) fn run_trial<R: Threads + Sync, W: World>(
     seed: u64,
     count: u32,
 ) -> Result<bool, Halt>
-    requires open { (W.door (world_of session.old) ≡ doors.Ready) ⊎ (W.door (world_of session.old) ≡ doors.Made) }
+    requires open { IsOpen (W.door (world_of session.old)) }
     ensures later { W.faults (world_of session.old) ≤ W.faults (world_of session.new) }
     ensures device { IfErr result (λ e. e ≡ halts.Stopped stops.Device → Rose (W.faults (world_of session.old)) (W.faults (world_of session.new))) }
     ensures damaged { IfErr result (λ e. (page : ℕ) → e ≡ halts.Stopped (stops.Damaged page) → (s : State) → IsAt session.old s → ⊥) }

@@ -1,9 +1,9 @@
 ghost use Rattle.quilt_pool.specs.Views.{entries_of};
-ghost use Rattle.std.specs.Prelude.{◌≡◌, ◌↔◌, IsTrue, ℕ, ◌+◌, ◌*◌, ◌≤◌, length, Some, None, [], ◌∷◌, ◌++◌, ◌⊎◌, ◌<◌, true, false, take, refl, IfOk, IfSome};
+ghost use Rattle.std.specs.Prelude.{◌≡◌, ◌↔◌, IsTrue, ℕ, ◌+◌, ◌*◌, ◌≤◌, length, Some, None, [], ◌∷◌, ◌++◌, ◌<◌, true, false, take, refl, IfOk, IfSome};
 ghost use Rattle.std.specs.Prelude.{OnOk, OnErr, slice_set};
 ghost use Rattle.std.specs.Map.{keys_of};
 ghost use Rattle.quilt_world.specs.Tale.{Adds, Goes};
-ghost use Rattle.quilt_world.specs.Doors.{TakesFrom};
+ghost use Rattle.quilt_world.specs.Doors.{IsOpen, TakesFrom};
 ghost use Rattle.quilt_world.specs.declared.event.Event.TheVariants.{Put};
 ghost use Rattle.quilt_world.specs.declared.disk.Door.TheVariants as doors;
 ghost use Rattle.quilt_world.specs.Causes.{HasCause};
@@ -193,7 +193,7 @@ impl<W: Disk> Book<W> {
 impl<W: World> Book<W> {
     /// Takes the next bytes of the input. 0 says that it has ended.
     pub fn take(&mut self, into: &mut [u8]) -> Result<usize, Fault>
-        requires open { (W.door (world_of self.old) ≡ doors.Ready) ⊎ (W.door (world_of self.old) ≡ doors.Made) }
+        requires open { IsOpen (W.door (world_of self.old)) }
         requires room { 0 < length into.old }
         ensures cause { HasCause (W.faults (world_of self.old)) (W.faults (world_of self.new)) result }
         ensures door { W.door (world_of self.new) ≡ W.door (world_of self.old) }
@@ -208,7 +208,7 @@ impl<W: World> Book<W> {
 
     /// Puts a front of the bytes to the output.
     pub fn put(&mut self, bytes: &[u8]) -> Result<usize, Fault>
-        requires open { (W.door (world_of self.old) ≡ doors.Ready) ⊎ (W.door (world_of self.old) ≡ doors.Made) }
+        requires open { IsOpen (W.door (world_of self.old)) }
         requires some { 0 < length bytes.now }
         ensures cause { HasCause (W.faults (world_of self.old)) (W.faults (world_of self.new)) result }
         ensures door { W.door (world_of self.new) ≡ W.door (world_of self.old) }

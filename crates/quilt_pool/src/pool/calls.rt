@@ -1,9 +1,10 @@
-ghost use Rattle.std.specs.Prelude.{◌≡◌, ◌⊎◌, ℕ, ◌+◌, ◌*◌, ◌<◌, ◌≤◌, nat_eq, true, false, [], ◌∷◌, IfSome, OnOk, OnErr, IfOk, IsOk, IsSome, IsTrue, Some, None};
+ghost use Rattle.std.specs.Prelude.{◌≡◌, ℕ, ◌+◌, ◌*◌, ◌<◌, ◌≤◌, nat_eq, true, false, [], ◌∷◌, IfSome, OnOk, OnErr, IfOk, IsOk, IsSome, IsTrue, Some, None};
 ghost use Rattle.std.specs.Prelude.{length, slice_index_or, slice_set, if◌then◌else◌, ◌==◌, ◌-◌, ◌≢◌, filter};
 ghost use Rattle.std.specs.List.{IsDistinct, range_with_len};
 ghost use Rattle.std.specs.Map.{keys_of, remove_entry};
 ghost use Rattle.lru.specs.LruCache.{lru_cache, put_entries, promoted, last_entry};
 ghost use Rattle.quilt_world.specs.Causes.{HasCause, next_count};
+ghost use Rattle.quilt_world.specs.Doors.{KeepsDevice};
 ghost use Rattle.quilt_world.specs.Tale.{Goes};
 ghost use Rattle.quilt_store.specs.Store.{HasStoreCause, Touches};
 ghost use Rattle.quilt_journal.specs.declared.journal.State.TheVariants.{Idle};
@@ -41,8 +42,7 @@ impl Pool {
         requires size { D.size disk.old ≡ 3 + 2 * journal.old.pages }
         requires kept { IfSome (D.told disk.old) (IsWork journal.old.pages (entries_of self.now) journal.old.changed) }
         ensures cause { HasCause (D.faults disk.old) (D.faults disk.new) result }
-        ensures size { D.size disk.new ≡ D.size disk.old }
-        ensures door { D.door disk.new ≡ D.door disk.old }
+        ensures device { KeepsDevice D.size D.door disk.old disk.new }
         ensures journal { (journal.new.pages ≡ journal.old.pages) × (journal.new.state ≡ journal.old.state)
             × (length journal.new.changed ≡ length journal.old.changed) }
         ensures reads { Goes (λ old new. new.reads ≡ old.reads) (D.told disk.old) (D.told disk.new) }
@@ -78,8 +78,7 @@ impl Pool {
         requires size { D.size disk.old ≡ 3 + 2 * journal.old.pages }
         requires kept { IfSome (D.told disk.old) (IsWork journal.old.pages (entries_of self.now) journal.old.changed) }
         ensures cause { HasCause (D.faults disk.old) (D.faults disk.new) result }
-        ensures size { D.size disk.new ≡ D.size disk.old }
-        ensures door { D.door disk.new ≡ D.door disk.old }
+        ensures device { KeepsDevice D.size D.door disk.old disk.new }
         ensures journal { (journal.new.pages ≡ journal.old.pages) × (journal.new.state ≡ journal.old.state)
             × (length journal.new.changed ≡ length journal.old.changed) }
         ensures reads { Goes (λ old new. new.reads ≡ old.reads) (D.told disk.old) (D.told disk.new) }
@@ -115,8 +114,7 @@ impl Pool {
         requires size { D.size disk.old ≡ 3 + 2 * journal.old.pages }
         requires kept { IfSome (D.told disk.old) (IsWork journal.old.pages (entries_of self.old) journal.old.changed) }
         ensures cause { HasStoreCause (D.faults disk.old) (D.faults disk.new) result }
-        ensures size { D.size disk.new ≡ D.size disk.old }
-        ensures door { D.door disk.new ≡ D.door disk.old }
+        ensures device { KeepsDevice D.size D.door disk.old disk.new }
         ensures journal { (journal.new.pages ≡ journal.old.pages) × (journal.new.state ≡ journal.old.state)
             × (length journal.new.changed ≡ length journal.old.changed) }
         ensures below { AreBelow journal.old.pages (entries_of self.new) }
@@ -164,8 +162,7 @@ impl Pool {
         requires size { D.size disk.old ≡ 3 + 2 * journal.old.pages }
         requires kept { IfSome (D.told disk.old) (IsWork journal.old.pages (entries_of self.old) journal.old.changed) }
         ensures cause { HasStoreCause (D.faults disk.old) (D.faults disk.new) result }
-        ensures size { D.size disk.new ≡ D.size disk.old }
-        ensures door { D.door disk.new ≡ D.door disk.old }
+        ensures device { KeepsDevice D.size D.door disk.old disk.new }
         ensures journal { (journal.new.pages ≡ journal.old.pages) × (journal.new.state ≡ journal.old.state)
             × (length journal.new.changed ≡ length journal.old.changed) }
         ensures below { AreBelow journal.old.pages (entries_of self.new) }
@@ -223,8 +220,7 @@ impl Pool {
         requires size { D.size disk.old ≡ 3 + 2 * journal.old.pages }
         requires kept { IfSome (D.told disk.old) (IsWork journal.old.pages (entries_of self.old) journal.old.changed) }
         ensures cause { HasCause (D.faults disk.old) (D.faults disk.new) result }
-        ensures size { D.size disk.new ≡ D.size disk.old }
-        ensures door { D.door disk.new ≡ D.door disk.old }
+        ensures device { KeepsDevice D.size D.door disk.old disk.new }
         ensures journal { (journal.new.pages ≡ journal.old.pages) × (journal.new.state ≡ journal.old.state)
             × (length journal.new.changed ≡ length journal.old.changed) }
         ensures below { AreBelow journal.old.pages (entries_of self.new) }
@@ -258,8 +254,7 @@ impl Pool {
         requires size { D.size disk.old ≡ 3 + 2 * journal.old.pages }
         requires kept { IfSome (D.told disk.old) (IsWork journal.old.pages (entries_of self.old) journal.old.changed) }
         ensures cause { HasCause (D.faults disk.old) (D.faults disk.new) result }
-        ensures size { D.size disk.new ≡ D.size disk.old }
-        ensures door { D.door disk.new ≡ D.door disk.old }
+        ensures device { KeepsDevice D.size D.door disk.old disk.new }
         ensures journal { (journal.new.pages ≡ journal.old.pages) × (journal.new.state ≡ journal.old.state)
             × (length journal.new.changed ≡ length journal.old.changed) }
         ensures below { AreBelow journal.old.pages (entries_of self.new) }

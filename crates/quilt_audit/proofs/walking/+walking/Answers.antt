@@ -1,4 +1,5 @@
 use Rattle.std.proofs.Common.{◌-◌, [], ◌∷◌, false, refl, ◌∙◌, arith}
+use Rattle.quilt_store.proofs.Reading.{only_read_then, only_read_same}
 use Rattle.quilt_node.specs.Tree.{walk}
 use Rattle.quilt_audit.specs.declared.surveying.Surveying.{Surveying}
 use Rattle.quilt_audit.proofs.Feeding.{Takes-none}
@@ -8,12 +9,8 @@ use Rattle.quilt_audit.proofs.walking.+walking.Goals as goal
 
 pub survey_children-loop-i-init : goal.survey_children-loop-i-init
 survey_children-loop-i-init g t c = record {
-  size = refl;
-  told = refl;
-  free = refl;
-  later = g.met.S.PageStore.same_time c.args.store.now;
+  left = only_read_same _ _ _ _ _ _ (g.met.S.PageStore.same_time c.args.store.now);
   faults = omega arith;
-  changed = omega arith;
   found = λ visited m. reached_first (g.S.PageStore.size c.args.store.now) (g.S.PageStore.told c.args.store.now)
       c.args.height c.args.inner.now.children c.args.inner.now.keys c.args.low.now c.args.high.now
       visited c.args.state.now (g.S.PageStore.reads c.args.store.now) m;
@@ -27,16 +24,10 @@ survey_children-loop-i-preserved g t c =
     let keys = c.len-i-end.ensures.keys in
     let lt = c.loop-i-test.true in
     let later = e.cause.later in
-    let changed = e.changed in
     let faults_before = inv.faults in
-    let changed_before = inv.changed in
     record {
-      size = e.size ∙ inv.size;
-      told = e.told ∙ inv.told;
-      free = e.free ∙ inv.free;
-      later = g.met.S.PageStore.goes_on c.args.store.now c.loop-i.store c.survey_page.new.store inv.later e.later;
+      left = only_read_then _ _ _ _ _ g.met.S.PageStore.goes_on c.args.store.now c.loop-i.store c.survey_page.new.store inv.left e.left;
       faults = omega arith;
-      changed = omega arith;
       found = λ visited m.
           let h = inv.found visited m in
           reached_next (g.S.PageStore.size c.args.store.now) (g.S.PageStore.told c.args.store.now) c.args.height c.args.inner.now.children
@@ -44,7 +35,7 @@ survey_children-loop-i-preserved g t c =
           c.loop-i.i c.child-page.result c.loop-i.from (omega arith) (omega arith) c.child-page.ensures.child
           visited c.args.state.now c.loop-i.state c.survey_page.new.state (g.S.PageStore.reads c.args.store.now) (g.S.PageStore.reads c.loop-i.store)
           (g.S.PageStore.reads c.survey_page.new.store)
-          c.bound_behind-to.result (g.S.PageStore.told c.loop-i.store) (g.S.PageStore.size c.loop-i.store) inv.told inv.size c.bound_behind-to.ensures h
+          c.bound_behind-to.result (g.S.PageStore.told c.loop-i.store) (g.S.PageStore.size c.loop-i.store) inv.left.told inv.left.size c.bound_behind-to.ensures h
           (e.found h.now h.added.marks);
     }
 
@@ -62,7 +53,7 @@ survey_children-returns-in-Err-clause-damaged g t c =
     c.loop-i.i c.child-page.result c.loop-i.from (omega arith) (omega arith) c.child-page.ensures.child
     visited c.args.state.now c.loop-i.state (g.S.PageStore.reads c.args.store.now) (g.S.PageStore.reads c.loop-i.store)
     c.bound_behind-to.result p pages e c.bound_behind-to.ensures h
-    (w pages h.now (inv.told ∙ e) h.added.marks))
+    (w pages h.now (inv.left.told ∙ e) h.added.marks))
     c.in-Err.ensures.damaged
 
 pub survey_inner-returns-in-Err-clause-damaged : goal.survey_inner-returns-in-Err-clause-damaged
@@ -90,7 +81,7 @@ survey_inner-returns-in-Ok-clause-found g t c =
     c.args.state.now mid c.survey_children.new.state
     (g.S.PageStore.reads c.args.store.now) (g.S.PageStore.reads c.read_inner.new.store) (g.S.PageStore.reads c.survey_children.new.store)
     c.in-Ok.inner.children c.in-Ok.inner.keys
-    (g.S.PageStore.size c.read_inner.new.store) (g.S.PageStore.told c.read_inner.new.store) c.in-Ok.ensures.size c.in-Ok.ensures.told (omega arith)
+    (g.S.PageStore.size c.read_inner.new.store) (g.S.PageStore.told c.read_inner.new.store) c.in-Ok.ensures.left.size c.in-Ok.ensures.left.told (omega arith)
     fresh a (λ pages visit e. c.in-Ok.ensures.inner pages visited visit e)
     (found (c.args.page ∷ visited) a.marks))
     c.survey_children.ensures.found
@@ -109,7 +100,7 @@ survey_inner-returns-in-Ok-clause-damaged g t c =
     walk_inner pages c.args.height c.args.is_root (c.args.page, b) visited (omega arith)
     fresh
     ∙ c.in-Ok.ensures.inner pages visited (walk pages (c.args.height - 1) false) e
-    ∙ w pages (c.args.page ∷ visited) (c.in-Ok.ensures.told ∙ e) a.marks)
+    ∙ w pages (c.args.page ∷ visited) (c.in-Ok.ensures.left.told ∙ e) a.marks)
     c.survey_children.ensures.damaged
 
 pub survey_page-returns-then-is_marked-clause-spent : goal.survey_page-returns-then-is_marked-clause-spent
@@ -135,7 +126,7 @@ survey_inner-returns-in-Ok-clause-spent g t c =
     (Takes-none c.args.state.now.checker) c.in-Ok.ensures.reads in
     SpentSome-then (g.S.PageStore.size c.args.store.now) visited (c.args.page ∷ visited) (g.S.PageStore.reads c.args.store.now)
     (g.S.PageStore.reads c.read_inner.new.store) (g.S.PageStore.reads c.survey_children.new.store)
-    (g.S.PageStore.size c.read_inner.new.store) c.in-Ok.ensures.size a.spent (spent (c.args.page ∷ visited) a.marks))
+    (g.S.PageStore.size c.read_inner.new.store) c.in-Ok.ensures.left.size a.spent (spent (c.args.page ∷ visited) a.marks))
     c.survey_children.ensures.spent
 
 pub survey_children-returns-in-Err-clause-spent : goal.survey_children-returns-in-Err-clause-spent
@@ -144,4 +135,4 @@ survey_children-returns-in-Err-clause-spent g t c visited m =
     let h = inv.found visited m in
     SpentSome-then (g.S.PageStore.size c.args.store.now) visited h.now (g.S.PageStore.reads c.args.store.now) (g.S.PageStore.reads c.loop-i.store)
     (g.S.PageStore.reads c.survey_page.new.store)
-    (g.S.PageStore.size c.loop-i.store) inv.size h.added.spent (c.in-Err.ensures.spent h.now h.added.marks)
+    (g.S.PageStore.size c.loop-i.store) inv.left.size h.added.spent (c.in-Err.ensures.spent h.now h.added.marks)

@@ -1,4 +1,5 @@
 use Rattle.std.proofs.Common.{◌≡◌, ℕ, ◌+◌, ◌*◌, ◌≤◌, List}
+use Rattle.quilt_store.specs.Store.{IsOnlyRead}
 use Rattle.quilt_audit.specs.Bits.{Marks}
 use Rattle.quilt_audit.specs.Walking.{Reached}
 use Rattle.quilt_audit.proofs.Walked.{of_all, of_rest}
@@ -15,12 +16,8 @@ decreases-survey_inner g l = 3 * l.height
 
 abbrev pub invariant-survey_children-loop-i : goal.invariant-survey_children-loop-i
 invariant-survey_children-loop-i g l = record {
-  size : g.S.PageStore.size l.store ≡ g.S.PageStore.size l.initial.store;
-  told : g.S.PageStore.told l.store ≡ g.S.PageStore.told l.initial.store;
-  free : g.S.PageStore.free l.store ≡ g.S.PageStore.free l.initial.store;
-  later : g.S.PageStore.later l.initial.store l.store;
+  left : IsOnlyRead g.S.PageStore.size g.S.PageStore.told g.S.PageStore.free g.S.PageStore.later g.S.PageStore.changed l.initial.store l.store;
   faults : g.S.PageStore.faults l.initial.store ≤ g.S.PageStore.faults l.store;
-  changed : g.S.PageStore.changed l.store ≤ g.S.PageStore.changed l.initial.store;
   found : (visited : List ℕ) → Marks l.initial.state.used visited
       → Reached (g.S.PageStore.size l.initial.store) (g.S.PageStore.told l.initial.store)
       (of_all (g.S.PageStore.size l.initial.store) (g.S.PageStore.told l.initial.store) l.height l.inner.children l.inner.keys l.low l.high visited)

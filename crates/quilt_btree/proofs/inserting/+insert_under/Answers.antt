@@ -30,7 +30,7 @@ returns-in-Err-insert_under-clause-sound g t c is_root b rs used can =
     (g.S.PageStore.size c.args.store.now) (g.S.PageStore.size c.read_way.new.store) c.args.page c.args.height c.in-Ok.way.child c.in-Ok.way.place
     c.args.r.now.key h.inner is_root b rs used
     (record {
-      same = record { same_pages = c.in-Ok.ensures.told; same_free = c.in-Ok.ensures.free; same_size = c.in-Ok.ensures.size };
+      same = record { same_pages = c.in-Ok.ensures.left.told; same_free = c.in-Ok.ensures.left.free; same_size = c.in-Ok.ensures.left.size };
       some = c.requires.height;
       above = c.if-height-eq1.false;
       reads = w.reads;
@@ -49,7 +49,7 @@ returns-in-Ok-There-clause-inserted g t c is_root b rs used can =
     (g.S.PageStore.size c.args.store.now) (g.S.PageStore.size c.read_way.new.store) c.args.page c.args.height c.in-Ok.way.child c.in-Ok.way.place
     h.inner is_root b rs used
     (record {
-      same = record { same_pages = c.in-Ok.ensures.told; same_free = c.in-Ok.ensures.free; same_size = c.in-Ok.ensures.size };
+      same = record { same_pages = c.in-Ok.ensures.left.told; same_free = c.in-Ok.ensures.left.free; same_size = c.in-Ok.ensures.left.size };
       some = c.requires.height;
       above = c.if-height-eq1.false;
       reads = w.reads;
@@ -68,7 +68,7 @@ returns-in-Ok-Done-clause-inserted g t c is_root b rs used can =
     (g.S.PageStore.size c.args.store.now) (g.S.PageStore.size c.read_way.new.store) c.args.page c.args.height c.in-Ok.way.child c.in-Ok.way.place
     h.inner is_root b rs used
     (record {
-      same = record { same_pages = c.in-Ok.ensures.told; same_free = c.in-Ok.ensures.free; same_size = c.in-Ok.ensures.size };
+      same = record { same_pages = c.in-Ok.ensures.left.told; same_free = c.in-Ok.ensures.left.free; same_size = c.in-Ok.ensures.left.size };
       some = c.requires.height;
       above = c.if-height-eq1.false;
       reads = w.reads;
@@ -80,10 +80,10 @@ pub returns-in-Some-clause-inserted : goal.returns-in-Some-clause-inserted
 returns-in-Some-clause-inserted g t c =
     let w =
     c.in-Ok.ensures.way c.in-Some.inner
-    (subst (λ n. inner_of n c.read_way.new.bytes ≡ Some c.in-Some.inner) (c.pages.ensures ∙ c.in-Ok-Split.ensures.size ∙ c.in-Ok.ensures.size)
+    (subst (λ n. inner_of n c.read_way.new.bytes ≡ Some c.in-Some.inner) (c.pages.ensures ∙ c.in-Ok-Split.ensures.size ∙ c.in-Ok.ensures.left.size)
     c.in-Some.ensures.inner) in
     let range : (1 ≤ c.in-Ok-Split.right) × (c.in-Ok-Split.right < g.S.PageStore.size c.args.store.now) =
-    subst (λ n. (1 ≤ c.in-Ok-Split.right) × (c.in-Ok-Split.right < n)) c.in-Ok.ensures.size (rw c.in-Ok-Split.field-0-is at c.in-Ok-Split.ensures.right) in
+    subst (λ n. (1 ≤ c.in-Ok-Split.right) × (c.in-Ok-Split.right < n)) c.in-Ok.ensures.left.size (rw c.in-Ok-Split.field-0-is at c.in-Ok-Split.ensures.right) in
     took_child c.put_child.result c.args.r.now (g.S.PageStore.told c.args.store.now) (g.S.PageStore.told c.read_way.new.store)
     (g.S.PageStore.told c.insert_under.new.store) (g.S.PageStore.told c.put_child.new.store)
     (g.S.PageStore.free c.args.store.now) (g.S.PageStore.free c.read_way.new.store) (g.S.PageStore.free c.insert_under.new.store)
@@ -91,7 +91,7 @@ returns-in-Some-clause-inserted g t c =
     (g.S.PageStore.size c.args.store.now) (g.S.PageStore.size c.read_way.new.store) c.args.page c.args.height c.in-Ok.way.child c.in-Ok.way.place
     c.in-Some.inner c.in-Ok-Split.key c.in-Ok-Split.right
     (record {
-      same = record { same_pages = c.in-Ok.ensures.told; same_free = c.in-Ok.ensures.free; same_size = c.in-Ok.ensures.size };
+      same = record { same_pages = c.in-Ok.ensures.left.told; same_free = c.in-Ok.ensures.left.free; same_size = c.in-Ok.ensures.left.size };
       some = c.requires.height;
       above = c.if-height-eq1.false;
       reads = w.reads;
@@ -103,29 +103,29 @@ pub returns-in-Some-clause-sound : goal.returns-in-Some-clause-sound
 returns-in-Some-clause-sound g t c =
     let w =
     c.in-Ok.ensures.way c.in-Some.inner
-    (subst (λ n. inner_of n c.read_way.new.bytes ≡ Some c.in-Some.inner) (c.pages.ensures ∙ c.in-Ok-Split.ensures.size ∙ c.in-Ok.ensures.size)
+    (subst (λ n. inner_of n c.read_way.new.bytes ≡ Some c.in-Some.inner) (c.pages.ensures ∙ c.in-Ok-Split.ensures.size ∙ c.in-Ok.ensures.left.size)
     c.in-Some.ensures.inner) in
     let range : (1 ≤ c.in-Ok-Split.right) × (c.in-Ok-Split.right < g.S.PageStore.size c.args.store.now) =
-    subst (λ n. (1 ≤ c.in-Ok-Split.right) × (c.in-Ok-Split.right < n)) c.in-Ok.ensures.size (rw c.in-Ok-Split.field-0-is at c.in-Ok-Split.ensures.right) in
+    subst (λ n. (1 ≤ c.in-Ok-Split.right) × (c.in-Ok-Split.right < n)) c.in-Ok.ensures.left.size (rw c.in-Ok-Split.field-0-is at c.in-Ok-Split.ensures.right) in
     let few : count_free (g.S.PageStore.free c.args.store.now) (g.S.PageStore.size c.args.store.now)
     ≤ count_free (g.S.PageStore.free c.insert_under.new.store) (g.S.PageStore.size c.args.store.now) + (c.args.height - 1) =
     subst (λ f. count_free f (g.S.PageStore.size c.args.store.now) ≤ count_free (g.S.PageStore.free c.insert_under.new.store)
-    (g.S.PageStore.size c.args.store.now) + (c.args.height - 1)) c.in-Ok.ensures.free
+    (g.S.PageStore.size c.args.store.now) + (c.args.height - 1)) c.in-Ok.ensures.left.free
     (subst (λ n. count_free (g.S.PageStore.free c.read_way.new.store) n ≤ count_free (g.S.PageStore.free c.insert_under.new.store) n
-    + (c.args.height - 1)) c.in-Ok.ensures.size c.in-Ok-Split.ensures.room) in
+    + (c.args.height - 1)) c.in-Ok.ensures.left.size c.in-Ok-Split.ensures.room) in
     sound_child c.put_child.result c.args.r.now (g.S.PageStore.told c.args.store.now) (g.S.PageStore.told c.read_way.new.store)
     (g.S.PageStore.told c.insert_under.new.store)
     (g.S.PageStore.free c.args.store.now) (g.S.PageStore.free c.read_way.new.store) (g.S.PageStore.free c.insert_under.new.store)
     (g.S.PageStore.size c.args.store.now) (g.S.PageStore.size c.read_way.new.store) (g.S.PageStore.size c.insert_under.new.store)
     c.args.page c.args.height c.in-Ok.way.child c.in-Ok.way.place c.in-Some.inner c.in-Ok-Split.key c.in-Ok-Split.right
     (record {
-      same = record { same_pages = c.in-Ok.ensures.told; same_free = c.in-Ok.ensures.free; same_size = c.in-Ok.ensures.size };
+      same = record { same_pages = c.in-Ok.ensures.left.told; same_free = c.in-Ok.ensures.left.free; same_size = c.in-Ok.ensures.left.size };
       some = c.requires.height;
       above = c.if-height-eq1.false;
       reads = w.reads;
       place = w.is_place;
       is_child = w.child_is;
-    }) (g.met.S.PageStore.as_many c.args.store.now) range (c.in-Ok-Split.ensures.size ∙ c.in-Ok.ensures.size) few
+    }) (g.met.S.PageStore.as_many c.args.store.now) range (c.in-Ok-Split.ensures.size ∙ c.in-Ok.ensures.left.size) few
     (rw c.in-Ok-Split.field-0-is at c.in-Ok-Split.ensures.inserted) c.put_child.ensures.sound
 
 pub returns-then-height-eq1-clause-finds : goal.returns-then-height-eq1-clause-finds
@@ -140,7 +140,7 @@ returns-in-Ok-There-clause-finds g t c = λ rs s.
     finds_below (g.S.PageStore.told c.args.store.now) (g.S.PageStore.told c.read_way.new.store) c.args.page c.args.height c.in-Ok.way.child
     c.in-Ok.way.place c.args.r.now.key h.inner true
     (record {
-      same = c.in-Ok.ensures.told;
+      same = c.in-Ok.ensures.left.told;
       some = c.requires.height;
       above = c.if-height-eq1.false;
       reads = w.reads;
@@ -156,7 +156,7 @@ returns-in-Ok-Done-clause-finds g t c = λ rs s.
     finds_below (g.S.PageStore.told c.args.store.now) (g.S.PageStore.told c.read_way.new.store) c.args.page c.args.height c.in-Ok.way.child
     c.in-Ok.way.place c.args.r.now.key h.inner false
     (record {
-      same = c.in-Ok.ensures.told;
+      same = c.in-Ok.ensures.left.told;
       some = c.requires.height;
       above = c.if-height-eq1.false;
       reads = w.reads;
@@ -174,7 +174,7 @@ returns-in-Some-clause-finds g t c =
     finds_below (g.S.PageStore.told c.args.store.now) (g.S.PageStore.told c.read_way.new.store) c.args.page c.args.height c.in-Ok.way.child
     c.in-Ok.way.place c.args.r.now.key h.inner false
     (record {
-      same = c.in-Ok.ensures.told;
+      same = c.in-Ok.ensures.left.told;
       some = c.requires.height;
       above = c.if-height-eq1.false;
       reads = w.reads;
@@ -188,11 +188,11 @@ returns-in-None-clause-sound g t c is_root b rs used can =
     let h = c.in-Ok.ensures.here c.args.height rs c.requires.height c.if-height-eq1.false
     (edit_spells (g.S.PageStore.told c.args.store.now) (g.S.PageStore.free c.args.store.now) c.args.page c.args.height is_root b rs used can.can_edit) in
     absurd (c.in-None.ensures.none refl
-    (subst (λ n. IsHigh n c.read_way.new.bytes c.args.height) (sym (c.pages.ensures ∙ c.in-Ok-Split.ensures.size ∙ c.in-Ok.ensures.size)) h))
+    (subst (λ n. IsHigh n c.read_way.new.bytes c.args.height) (sym (c.pages.ensures ∙ c.in-Ok-Split.ensures.size ∙ c.in-Ok.ensures.left.size)) h))
 
 pub put_child-requires-clause-place : goal.put_child-requires-clause-place
 put_child-requires-clause-place g t c =
-    let same : c.pages.result ≡ g.S.PageStore.size c.args.store.now = c.pages.ensures ∙ c.in-Ok-Split.ensures.size ∙ c.in-Ok.ensures.size in
+    let same : c.pages.result ≡ g.S.PageStore.size c.args.store.now = c.pages.ensures ∙ c.in-Ok-Split.ensures.size ∙ c.in-Ok.ensures.left.size in
     let is : inner_of (g.S.PageStore.size c.args.store.now) c.read_way.new.bytes ≡ Some c.in-Some.inner =
     subst (λ n. inner_of n c.read_way.new.bytes ≡ Some c.in-Some.inner) same c.in-Some.ensures.inner in
     place_inside (g.S.PageStore.size c.args.store.now) c.read_way.new.bytes c.in-Some.inner c.args.r.now.key c.in-Ok.way.place is
@@ -211,17 +211,17 @@ returns-in-Err-insert_under-clause-bad g t c = λ ne.
     (g.S.PageStore.size c.args.store.now) c.read_way.new.bytes c.in-Ok.way.child c.in-Err-insert_under.e
     (read_ok (g.S.PageStore.told c.args.store.now) (g.S.PageStore.told c.read_way.new.store) c.args.page c.args.height
     (g.S.PageStore.size c.args.store.now) (g.S.PageStore.size c.args.store.now) c.read_way.new.bytes c.requires.height c.if-height-eq1.false
-    c.in-Ok.ensures.told (g.met.S.PageStore.as_many c.args.store.now) refl c.in-Ok.ensures.bytes)
+    c.in-Ok.ensures.left.told (g.met.S.PageStore.as_many c.args.store.now) refl c.in-Ok.ensures.bytes)
     c.in-Ok.ensures.stands (c.in-Err-insert_under.ensures.bad ne)
 
 pub returns-in-None-clause-bad : goal.returns-in-None-clause-bad
 returns-in-None-clause-bad g t c =
-    let same : c.pages-in-None.result ≡ g.S.PageStore.size c.args.store.now = c.pages-in-None.ensures ∙ c.in-Ok-Split.ensures.size ∙ c.in-Ok.ensures.size in
+    let same : c.pages-in-None.result ≡ g.S.PageStore.size c.args.store.now = c.pages-in-None.ensures ∙ c.in-Ok-Split.ensures.size ∙ c.in-Ok.ensures.left.size in
     inner_fault (g.S.PageStore.told c.args.store.now) (g.S.PageStore.told c.read_way.new.store) c.args.page c.args.height
     c.pages-in-None.result c.inner_at_fault.result c.read_way.new.bytes
     (read_ok (g.S.PageStore.told c.args.store.now) (g.S.PageStore.told c.read_way.new.store) c.args.page c.args.height
     c.pages-in-None.result (g.S.PageStore.size c.args.store.now) c.read_way.new.bytes c.requires.height c.if-height-eq1.false
-    c.in-Ok.ensures.told (g.met.S.PageStore.as_many c.args.store.now) same c.in-Ok.ensures.bytes)
+    c.in-Ok.ensures.left.told (g.met.S.PageStore.as_many c.args.store.now) same c.in-Ok.ensures.bytes)
     c.inner_at_fault.ensures.fault
 
 pub returns-in-Some-clause-names : goal.returns-in-Some-clause-names
@@ -233,4 +233,4 @@ returns-in-Some-clause-bad g t c = zero_named c.put_child.result (g.S.PageStore.
 
 pub returns-in-Some-clause-later : goal.returns-in-Some-clause-later
 returns-in-Some-clause-later g t c =
-    g.met.S.PageStore.goes_on _ _ _ (g.met.S.PageStore.goes_on _ _ _ c.in-Ok.ensures.later c.in-Ok-Split.ensures.later) c.put_child.ensures.later
+    g.met.S.PageStore.goes_on _ _ _ (g.met.S.PageStore.goes_on _ _ _ c.in-Ok.ensures.left.later c.in-Ok-Split.ensures.later) c.put_child.ensures.later

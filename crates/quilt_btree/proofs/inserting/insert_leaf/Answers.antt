@@ -14,7 +14,7 @@ pub returns-in-Ok-find-clause-inserted : goal.returns-in-Ok-find-clause-inserted
 returns-in-Ok-find-clause-inserted g c is_root b rs used can =
     leaf_there (g.S.PageStore.told c.args.store.now) (g.S.PageStore.told c.read_leaf.new.store) (g.S.PageStore.free c.args.store.now)
     (g.S.PageStore.free c.read_leaf.new.store) (g.S.PageStore.size c.args.store.now)
-    c.args.page c.in-Ok-find.field-0 c.args.r.now c.in-Ok.leaf is_root b rs used c.in-Ok.ensures.told
+    c.args.page c.in-Ok-find.field-0 c.args.r.now c.in-Ok.leaf is_root b rs used c.in-Ok.ensures.left.told
     (leaf_read (g.S.PageStore.told c.args.store.now) (g.S.PageStore.free c.args.store.now) (g.S.PageStore.size c.args.store.now)
     c.args.page c.args.r.now.key c.in-Ok.leaf is_root b rs used c.in-Ok.ensures.leaf can)
     c.in-Ok-find.ensures.place can
@@ -24,7 +24,7 @@ returns-in-Err-find-clause-sound g c =
     sound_along c.put_record.result (g.S.PageStore.told c.args.store.now) (g.S.PageStore.told c.read_leaf.new.store)
     (g.S.PageStore.free c.args.store.now) (g.S.PageStore.free c.read_leaf.new.store)
     (g.S.PageStore.size c.args.store.now) (g.S.PageStore.size c.read_leaf.new.store) c.args.page 1 c.args.r.now.key
-    (record { same_pages = c.in-Ok.ensures.told; same_free = c.in-Ok.ensures.free; same_size = c.in-Ok.ensures.size }) c.put_record.ensures.sound
+    (record { same_pages = c.in-Ok.ensures.left.told; same_free = c.in-Ok.ensures.left.free; same_size = c.in-Ok.ensures.left.size }) c.put_record.ensures.sound
 
 pub returns-in-Ok-find-clause-finds : goal.returns-in-Ok-find-clause-finds
 returns-in-Ok-find-clause-finds g c height rs one s =

@@ -27,15 +27,15 @@ pub returns-in-Some-clause-leads : goal.returns-in-Some-clause-leads
 returns-in-Some-clause-leads g t c = step_led c.leaf_at.result (g.S.PageStore.told c.args.store.now) (g.S.PageStore.told c.read_into.new.store)
     c.args.page c.args.height c.pages.result c.read_into.new.bytes (records_of c.leaf_at.new.bytes) c.args.k.now c.in-Some.step.child c.args.high.now
     c.in-Some.step.high (read_ok (g.S.PageStore.told c.args.store.now) (g.S.PageStore.told c.read_into.new.store) c.args.page c.args.height
-    c.pages.result (g.S.PageStore.size c.args.store.now) c.read_into.new.bytes c.requires.height c.if-height-eq1.false c.in-Ok.ensures.told
-    (g.met.S.PageStore.as_many c.args.store.now) (c.pages.ensures ∙ c.in-Ok.ensures.size) c.in-Ok.ensures.bytes) c.in-Some.ensures.step c.leaf_at.ensures.leads
+    c.pages.result (g.S.PageStore.size c.args.store.now) c.read_into.new.bytes c.requires.height c.if-height-eq1.false c.in-Ok.ensures.left.told
+    (g.met.S.PageStore.as_many c.args.store.now) (c.pages.ensures ∙ c.in-Ok.ensures.left.size) c.in-Ok.ensures.bytes) c.in-Some.ensures.step c.leaf_at.ensures.leads
 
 pub returns-in-Some-clause-cut : goal.returns-in-Some-clause-cut
 returns-in-Some-clause-cut g t c = step_cut c.leaf_at.result (g.S.PageStore.told c.args.store.now) (g.S.PageStore.told c.read_into.new.store)
     c.args.page c.args.height c.pages.result c.read_into.new.bytes (records_of c.leaf_at.new.bytes) c.args.k.now c.in-Some.step.child c.args.high.now
     c.in-Some.step.high (read_ok (g.S.PageStore.told c.args.store.now) (g.S.PageStore.told c.read_into.new.store) c.args.page c.args.height
-    c.pages.result (g.S.PageStore.size c.args.store.now) c.read_into.new.bytes c.requires.height c.if-height-eq1.false c.in-Ok.ensures.told
-    (g.met.S.PageStore.as_many c.args.store.now) (c.pages.ensures ∙ c.in-Ok.ensures.size) c.in-Ok.ensures.bytes)
+    c.pages.result (g.S.PageStore.size c.args.store.now) c.read_into.new.bytes c.requires.height c.if-height-eq1.false c.in-Ok.ensures.left.told
+    (g.met.S.PageStore.as_many c.args.store.now) (c.pages.ensures ∙ c.in-Ok.ensures.left.size) c.in-Ok.ensures.bytes)
     c.in-Some.ensures.step c.leaf_at.ensures.leads c.leaf_at.ensures.cut
 
 pub returns-in-Some-clause-least : goal.returns-in-Some-clause-least
@@ -43,23 +43,23 @@ returns-in-Some-clause-least g t c = step_holds c.leaf_at.result (g.S.PageStore.
     c.args.page c.args.height c.pages.result c.read_into.new.bytes (1 ≤ length (records_of c.leaf_at.new.bytes)) c.args.k.now c.in-Some.step.child
     c.args.high.now c.in-Some.step.high
     (read_ok (g.S.PageStore.told c.args.store.now) (g.S.PageStore.told c.read_into.new.store) c.args.page c.args.height c.pages.result
-    (g.S.PageStore.size c.args.store.now) c.read_into.new.bytes c.requires.height c.if-height-eq1.false c.in-Ok.ensures.told
-    (g.met.S.PageStore.as_many c.args.store.now) (c.pages.ensures ∙ c.in-Ok.ensures.size) c.in-Ok.ensures.bytes) c.in-Some.ensures.step c.leaf_at.ensures.least
+    (g.S.PageStore.size c.args.store.now) c.read_into.new.bytes c.requires.height c.if-height-eq1.false c.in-Ok.ensures.left.told
+    (g.met.S.PageStore.as_many c.args.store.now) (c.pages.ensures ∙ c.in-Ok.ensures.left.size) c.in-Ok.ensures.bytes) c.in-Some.ensures.step c.leaf_at.ensures.least
 
 pub returns-in-Some-clause-leaf : goal.returns-in-Some-clause-leaf
 returns-in-Some-clause-leaf g t c = step_holds c.leaf_at.result (g.S.PageStore.told c.args.store.now) (g.S.PageStore.told c.read_into.new.store)
     c.args.page c.args.height c.pages.result c.read_into.new.bytes (leaf_of c.leaf_at.new.bytes ≡ Some (records_of c.leaf_at.new.bytes))
     c.args.k.now c.in-Some.step.child c.args.high.now c.in-Some.step.high
     (read_ok (g.S.PageStore.told c.args.store.now) (g.S.PageStore.told c.read_into.new.store) c.args.page c.args.height c.pages.result
-    (g.S.PageStore.size c.args.store.now) c.read_into.new.bytes c.requires.height c.if-height-eq1.false c.in-Ok.ensures.told
-    (g.met.S.PageStore.as_many c.args.store.now) (c.pages.ensures ∙ c.in-Ok.ensures.size) c.in-Ok.ensures.bytes) c.in-Some.ensures.step c.leaf_at.ensures.leaf
+    (g.S.PageStore.size c.args.store.now) c.read_into.new.bytes c.requires.height c.if-height-eq1.false c.in-Ok.ensures.left.told
+    (g.met.S.PageStore.as_many c.args.store.now) (c.pages.ensures ∙ c.in-Ok.ensures.left.size) c.in-Ok.ensures.bytes) c.in-Some.ensures.step c.leaf_at.ensures.leaf
 
 pub returns-in-Some-clause-sound : goal.returns-in-Some-clause-sound
 returns-in-Some-clause-sound g t c = step_sound c.leaf_at.result (g.S.PageStore.told c.args.store.now) (g.S.PageStore.told c.read_into.new.store)
     c.args.page c.args.height c.pages.result c.read_into.new.bytes c.args.k.now c.in-Some.step.child c.args.high.now c.in-Some.step.high
     (read_ok (g.S.PageStore.told c.args.store.now) (g.S.PageStore.told c.read_into.new.store) c.args.page c.args.height c.pages.result
-    (g.S.PageStore.size c.args.store.now) c.read_into.new.bytes c.requires.height c.if-height-eq1.false c.in-Ok.ensures.told
-    (g.met.S.PageStore.as_many c.args.store.now) (c.pages.ensures ∙ c.in-Ok.ensures.size) c.in-Ok.ensures.bytes) c.in-Some.ensures.step c.leaf_at.ensures.sound
+    (g.S.PageStore.size c.args.store.now) c.read_into.new.bytes c.requires.height c.if-height-eq1.false c.in-Ok.ensures.left.told
+    (g.met.S.PageStore.as_many c.args.store.now) (c.pages.ensures ∙ c.in-Ok.ensures.left.size) c.in-Ok.ensures.bytes) c.in-Some.ensures.step c.leaf_at.ensures.sound
 
 pub returns-in-Some-clause-above : goal.returns-in-Some-clause-above
 returns-in-Some-clause-above g t c =
@@ -73,8 +73,8 @@ pub returns-in-Some-clause-spoilt : goal.returns-in-Some-clause-spoilt
 returns-in-Some-clause-spoilt g t c = spoilt_below c.leaf_at.result (g.S.PageStore.told c.args.store.now) (g.S.PageStore.told c.read_into.new.store)
     c.args.page c.args.height c.pages.result c.read_into.new.bytes c.leaf_at.new.bytes c.in-Some.step.child
     (read_ok (g.S.PageStore.told c.args.store.now) (g.S.PageStore.told c.read_into.new.store) c.args.page c.args.height c.pages.result
-    (g.S.PageStore.size c.args.store.now) c.read_into.new.bytes c.requires.height c.if-height-eq1.false c.in-Ok.ensures.told
-    (g.met.S.PageStore.as_many c.args.store.now) (c.pages.ensures ∙ c.in-Ok.ensures.size) c.in-Ok.ensures.bytes)
+    (g.S.PageStore.size c.args.store.now) c.read_into.new.bytes c.requires.height c.if-height-eq1.false c.in-Ok.ensures.left.told
+    (g.met.S.PageStore.as_many c.args.store.now) (c.pages.ensures ∙ c.in-Ok.ensures.left.size) c.in-Ok.ensures.bytes)
     c.in-Some.ensures.stands c.leaf_at.ensures.spoilt
 
 pub returns-in-Err-clause-bad : goal.returns-in-Err-clause-bad
@@ -84,12 +84,12 @@ pub returns-in-None-clause-bad : goal.returns-in-None-clause-bad
 returns-in-None-clause-bad g t c = bad_inner (g.S.PageStore.told c.args.store.now) (g.S.PageStore.told c.read_into.new.store)
     c.args.page c.args.height c.pages.result c.read_into.new.bytes
     (read_ok (g.S.PageStore.told c.args.store.now) (g.S.PageStore.told c.read_into.new.store) c.args.page c.args.height c.pages.result
-    (g.S.PageStore.size c.args.store.now) c.read_into.new.bytes c.requires.height c.if-height-eq1.false c.in-Ok.ensures.told
-    (g.met.S.PageStore.as_many c.args.store.now) (c.pages.ensures ∙ c.in-Ok.ensures.size) c.in-Ok.ensures.bytes) c.in-None.ensures.step
+    (g.S.PageStore.size c.args.store.now) c.read_into.new.bytes c.requires.height c.if-height-eq1.false c.in-Ok.ensures.left.told
+    (g.met.S.PageStore.as_many c.args.store.now) (c.pages.ensures ∙ c.in-Ok.ensures.left.size) c.in-Ok.ensures.bytes) c.in-None.ensures.step
 
 pub returns-in-Some-clause-bad : goal.returns-in-Some-clause-bad
 returns-in-Some-clause-bad g t c = names_below c.leaf_at.result (g.S.PageStore.told c.args.store.now) (g.S.PageStore.told c.read_into.new.store)
     c.args.page c.args.height c.pages.result c.read_into.new.bytes c.in-Some.step.child
     (read_ok (g.S.PageStore.told c.args.store.now) (g.S.PageStore.told c.read_into.new.store) c.args.page c.args.height c.pages.result
-    (g.S.PageStore.size c.args.store.now) c.read_into.new.bytes c.requires.height c.if-height-eq1.false c.in-Ok.ensures.told
-    (g.met.S.PageStore.as_many c.args.store.now) (c.pages.ensures ∙ c.in-Ok.ensures.size) c.in-Ok.ensures.bytes) c.in-Some.ensures.stands c.leaf_at.ensures.bad
+    (g.S.PageStore.size c.args.store.now) c.read_into.new.bytes c.requires.height c.if-height-eq1.false c.in-Ok.ensures.left.told
+    (g.met.S.PageStore.as_many c.args.store.now) (c.pages.ensures ∙ c.in-Ok.ensures.left.size) c.in-Ok.ensures.bytes) c.in-Some.ensures.stands c.leaf_at.ensures.bad

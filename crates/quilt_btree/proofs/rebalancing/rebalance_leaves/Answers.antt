@@ -14,14 +14,14 @@ pub returns-in_err-rest-clause-sound : goal.returns-in_err-rest-clause-sound
 returns-in_err-rest-clause-sound g c =
     let p = err_from_is_err_and c.from_residual-in_err-rest.result c.from_residual-in_err-rest.ensures.1 in
     rw (p.1, p.2) (λ height b rs used one m. c.in_err-rest.ensures.sound height m.rest one
-    (along_told (g.S.PageStore.told c.args.store.now) (g.S.PageStore.told c.read_leaf.new.store) c.args.right height m.rest c.in_ok-first.ensures.told
+    (along_told (g.S.PageStore.told c.args.store.now) (g.S.PageStore.told c.read_leaf.new.store) c.args.right height m.rest c.in_ok-first.ensures.left.told
     (right_spells (g.S.PageStore.told c.args.store.now) (g.S.PageStore.free c.args.store.now) height c.args.left c.args.key.now c.args.right b rs used m)))
 
 pub returns-then-not-leaves_ascend-clause-sound : goal.returns-then-not-leaves_ascend-clause-sound
 returns-then-not-leaves_ascend-clause-sound g c = λ height b rs used one m page e.
     not_leaves (g.S.PageStore.told c.args.store.now) (g.S.PageStore.free c.args.store.now) c.args.left c.args.key.now c.args.right height b rs used
     c.in_ok-first.first c.in_ok-rest.rest c.leaves_ascend.result one c.in_ok-first.ensures.leaf
-    (λ pages t. c.in_ok-rest.ensures.leaf pages (c.in_ok-first.ensures.told ∙ t)) c.leaves_ascend.ensures c.if-not-leaves_ascend.true m
+    (λ pages t. c.in_ok-rest.ensures.leaf pages (c.in_ok-first.ensures.left.told ∙ t)) c.leaves_ascend.ensures c.if-not-leaves_ascend.true m
 
 pub returns-in-Ok-clause-rebalanced : goal.returns-in-Ok-clause-rebalanced
 returns-in-Ok-clause-rebalanced g c = λ height b rs used one m.
@@ -30,14 +30,14 @@ returns-in-Ok-clause-rebalanced g c = λ height b rs used one m.
     (g.S.PageStore.size c.args.store.now) c.args.left c.args.key.now c.args.right height b rs used c.in_ok-first.first c.in_ok-rest.rest
     c.join.new.self c.bytes.result.now one (record {
       reads = c.in_ok-first.ensures.leaf;
-      also = λ pages t. c.in_ok-rest.ensures.leaf pages (c.in_ok-first.ensures.told ∙ t);
+      also = λ pages t. c.in_ok-rest.ensures.leaf pages (c.in_ok-first.ensures.left.told ∙ t);
       inside = c.requires.left.1;
       many = g.met.S.PageStore.as_many c.args.store.now;
       all_is = c.join.ensures;
       written = c.bytes.ensures.leaf;
-      is_mid = c.in_ok-rest.ensures.told ∙ c.in_ok-first.ensures.told;
+      is_mid = c.in_ok-rest.ensures.left.told ∙ c.in_ok-first.ensures.left.told;
       tells = c.in-Ok.ensures.told;
-      is_free = c.in_ok-rest.ensures.free ∙ c.in_ok-first.ensures.free;
+      is_free = c.in_ok-rest.ensures.left.free ∙ c.in_ok-first.ensures.left.free;
       frees = c.in-Ok.ensures.free;
     }) m
 
@@ -45,14 +45,14 @@ pub returns-in-Err-clause-sound : goal.returns-in-Err-clause-sound
 returns-in-Err-clause-sound g c = λ height b rs used one m.
     let t = leaves_taken (g.S.PageStore.told c.args.store.now) (g.S.PageStore.free c.args.store.now) (g.S.PageStore.free c.read_leaf-2.new.store)
     c.args.left c.args.key.now c.args.right height b rs used one
-    (c.in_ok-rest.ensures.free ∙ c.in_ok-first.ensures.free) m in
+    (c.in_ok-rest.ensures.left.free ∙ c.in_ok-first.ensures.left.free) m in
     c.in-Err.ensures.sound t.0 t.1
 
 pub returns-in-Err-write_both-clause-sound : goal.returns-in-Err-write_both-clause-sound
 returns-in-Err-write_both-clause-sound g c = λ height b rs used one m.
     let t = leaves_taken (g.S.PageStore.told c.args.store.now) (g.S.PageStore.free c.args.store.now) (g.S.PageStore.free c.read_leaf-2.new.store)
     c.args.left c.args.key.now c.args.right height b rs used one
-    (c.in_ok-rest.ensures.free ∙ c.in_ok-first.ensures.free) m in
+    (c.in_ok-rest.ensures.left.free ∙ c.in_ok-first.ensures.left.free) m in
     c.in-Err-write_both.ensures.sound t.0 t.1
 
 pub returns-in-Ok-write_both-clause-rebalanced : goal.returns-in-Ok-write_both-clause-rebalanced
@@ -62,7 +62,7 @@ returns-in-Ok-write_both-clause-rebalanced g c = λ height b rs used one m.
     (g.S.PageStore.size c.args.store.now) c.args.left c.args.key.now c.args.right height b rs used c.in_ok-first.first c.in_ok-rest.rest
     c.share_records.new.left c.share_records.new.right c.rec.result c.bytes-2.result.now c.bytes-3.result.now one (record {
       reads = c.in_ok-first.ensures.leaf;
-      also = λ pages t. c.in_ok-rest.ensures.leaf pages (c.in_ok-first.ensures.told ∙ t);
+      also = λ pages t. c.in_ok-rest.ensures.leaf pages (c.in_ok-first.ensures.left.told ∙ t);
       inside = c.requires.left.1;
       inside_too = c.requires.right.1;
       many = g.met.S.PageStore.as_many c.args.store.now;
@@ -71,7 +71,7 @@ returns-in-Ok-write_both-clause-rebalanced g c = λ height b rs used one m.
       starts = c.rec.ensures;
       written = c.bytes-2.ensures.leaf;
       written_too = c.bytes-3.ensures.leaf;
-      is_mid = c.in_ok-rest.ensures.told ∙ c.in_ok-first.ensures.told;
+      is_mid = c.in_ok-rest.ensures.left.told ∙ c.in_ok-first.ensures.left.told;
       tells = c.in-Ok-write_both.ensures.told;
-      frees = c.in-Ok-write_both.ensures.free ∙ c.in_ok-rest.ensures.free ∙ c.in_ok-first.ensures.free;
+      frees = c.in-Ok-write_both.ensures.free ∙ c.in_ok-rest.ensures.left.free ∙ c.in_ok-first.ensures.left.free;
     }) m

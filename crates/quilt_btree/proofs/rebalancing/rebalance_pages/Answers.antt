@@ -3,7 +3,7 @@ use Rattle.quilt_record.specs.declared.key.Key.{Key}
 use Rattle.quilt_record.specs.declared.record.Record.{Record}
 use Rattle.quilt_node.specs.Tree.{Bounds}
 use Rattle.quilt_types.specs.declared.stop.Stop.{Stop}
-use Rattle.quilt_btree.specs.Stops.{IsSound}
+use Rattle.quilt_store.specs.Stops.{IsSound}
 use Rattle.quilt_btree.specs.Rebalancing.{CanRebalance}
 use Rattle.quilt_btree.proofs.rebalancing.rebalance_pages.Goals as goal
 

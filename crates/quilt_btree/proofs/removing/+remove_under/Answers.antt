@@ -31,8 +31,8 @@ returns-in-Err-remove_under-clause-sound g t c = λ is_root b rs used can.
       above = c.if-height-eq1.false;
       reads = w.reads;
       place = w.is_place;
-      is_mid = c.in-Ok.ensures.told;
-      is_free = c.in-Ok.ensures.free;
+      is_mid = c.in-Ok.ensures.left.told;
+      is_free = c.in-Ok.ensures.left.free;
       is_child = w.child_is;
     })
     c.in-Err-remove_under.ensures.sound is_root b rs used can
@@ -52,8 +52,8 @@ returns-in-Ok-Missing-clause-removed g t c = λ is_root b rs used can.
       above = c.if-height-eq1.false;
       reads = w.reads;
       place = w.is_place;
-      is_mid = c.in-Ok.ensures.told;
-      is_free = c.in-Ok.ensures.free;
+      is_mid = c.in-Ok.ensures.left.told;
+      is_free = c.in-Ok.ensures.left.free;
       is_child = w.child_is;
     })
     found.removed is_root b rs used can
@@ -73,8 +73,8 @@ returns-in-Ok-Done-clause-removed g t c = λ is_root b rs used can.
       above = c.if-height-eq1.false;
       reads = w.reads;
       place = w.is_place;
-      is_mid = c.in-Ok.ensures.told;
-      is_free = c.in-Ok.ensures.free;
+      is_mid = c.in-Ok.ensures.left.told;
+      is_free = c.in-Ok.ensures.left.free;
       is_child = w.child_is;
     })
     found.removed is_root b rs used can
@@ -84,7 +84,7 @@ returns-in-Some-clause-removed g t c =
     let w =
     c.in-Ok.ensures.way c.in-Some.inner
     (subst (λ n. inner_of n c.read_way.new.bytes ≡ Some c.in-Some.inner)
-    (c.pages.ensures ∙ c.in-Ok-Underfull.ensures.size ∙ c.in-Ok.ensures.size) c.in-Some.ensures.inner) in
+    (c.pages.ensures ∙ c.in-Ok-Underfull.ensures.size ∙ c.in-Ok.ensures.left.size) c.in-Some.ensures.inner) in
     let found = rw c.in-Ok-Underfull.field-0-is at c.in-Ok-Underfull.ensures in
     rebalanced_child c.rebalance_child.result c.args.k.now (g.S.PageStore.told c.args.store.now) (g.S.PageStore.told c.read_way.new.store)
     (g.S.PageStore.told c.remove_under.new.store) (g.S.PageStore.told c.rebalance_child.new.store)
@@ -96,8 +96,8 @@ returns-in-Some-clause-removed g t c =
       above = c.if-height-eq1.false;
       reads = w.reads;
       place = w.is_place;
-      is_mid = c.in-Ok.ensures.told;
-      is_free = c.in-Ok.ensures.free;
+      is_mid = c.in-Ok.ensures.left.told;
+      is_free = c.in-Ok.ensures.left.free;
       is_child = w.child_is;
     })
     found.removed c.rebalance_child.ensures.some c.rebalance_child.ensures.left
@@ -107,7 +107,7 @@ returns-in-Some-clause-sound g t c =
     let w =
     c.in-Ok.ensures.way c.in-Some.inner
     (subst (λ n. inner_of n c.read_way.new.bytes ≡ Some c.in-Some.inner)
-    (c.pages.ensures ∙ c.in-Ok-Underfull.ensures.size ∙ c.in-Ok.ensures.size) c.in-Some.ensures.inner) in
+    (c.pages.ensures ∙ c.in-Ok-Underfull.ensures.size ∙ c.in-Ok.ensures.left.size) c.in-Some.ensures.inner) in
     let found = rw c.in-Ok-Underfull.field-0-is at c.in-Ok-Underfull.ensures in
     rebalanced_sound c.rebalance_child.result c.args.k.now (g.S.PageStore.told c.args.store.now) (g.S.PageStore.told c.read_way.new.store)
     (g.S.PageStore.told c.remove_under.new.store)
@@ -118,8 +118,8 @@ returns-in-Some-clause-sound g t c =
       above = c.if-height-eq1.false;
       reads = w.reads;
       place = w.is_place;
-      is_mid = c.in-Ok.ensures.told;
-      is_free = c.in-Ok.ensures.free;
+      is_mid = c.in-Ok.ensures.left.told;
+      is_free = c.in-Ok.ensures.left.free;
       is_child = w.child_is;
     })
     found.removed c.rebalance_child.ensures.sound
@@ -138,8 +138,8 @@ returns-in-Ok-Emptied-clause-sound g t c = λ is_root b rs used can.
       above = c.if-height-eq1.false;
       reads = w.reads;
       place = w.is_place;
-      is_mid = c.in-Ok.ensures.told;
-      is_free = c.in-Ok.ensures.free;
+      is_mid = c.in-Ok.ensures.left.told;
+      is_free = c.in-Ok.ensures.left.free;
       is_child = w.child_is;
     })
     found.removed is_root b rs used can
@@ -158,8 +158,8 @@ returns-in-Ok-Only-clause-sound g t c = λ is_root b rs used can.
       above = c.if-height-eq1.false;
       reads = w.reads;
       place = w.is_place;
-      is_mid = c.in-Ok.ensures.told;
-      is_free = c.in-Ok.ensures.free;
+      is_mid = c.in-Ok.ensures.left.told;
+      is_free = c.in-Ok.ensures.left.free;
       is_child = w.child_is;
     })
     found.removed is_root b rs used can
@@ -176,7 +176,7 @@ returns-in-Ok-Missing-clause-finds g t c = λ rs s.
     finds_below (g.S.PageStore.told c.args.store.now) (g.S.PageStore.told c.read_way.new.store) c.args.page c.args.height c.in-Ok.way.child
     c.in-Ok.way.place c.args.k.now h.inner false
     (record {
-      same = c.in-Ok.ensures.told;
+      same = c.in-Ok.ensures.left.told;
       some = c.requires.height;
       above = c.if-height-eq1.false;
       reads = w.reads;
@@ -192,7 +192,7 @@ returns-in-Ok-Done-clause-finds g t c = λ rs s.
     finds_below (g.S.PageStore.told c.args.store.now) (g.S.PageStore.told c.read_way.new.store) c.args.page c.args.height c.in-Ok.way.child
     c.in-Ok.way.place c.args.k.now h.inner true
     (record {
-      same = c.in-Ok.ensures.told;
+      same = c.in-Ok.ensures.left.told;
       some = c.requires.height;
       above = c.if-height-eq1.false;
       reads = w.reads;
@@ -210,7 +210,7 @@ returns-in-Some-clause-finds g t c =
     finds_below (g.S.PageStore.told c.args.store.now) (g.S.PageStore.told c.read_way.new.store) c.args.page c.args.height c.in-Ok.way.child
     c.in-Ok.way.place c.args.k.now h.inner true
     (record {
-      same = c.in-Ok.ensures.told;
+      same = c.in-Ok.ensures.left.told;
       some = c.requires.height;
       above = c.if-height-eq1.false;
       reads = w.reads;
@@ -224,11 +224,11 @@ returns-in-None-clause-sound g t c is_root b rs used can =
     let h = c.in-Ok.ensures.here c.args.height rs c.requires.height c.if-height-eq1.false
     (leaf_reads (g.S.PageStore.told c.args.store.now) (g.S.PageStore.free c.args.store.now) c.args.page c.args.height is_root b rs used can) in
     absurd (c.in-None.ensures.none refl
-    (subst (λ n. IsHigh n c.read_way.new.bytes c.args.height) (sym (c.pages.ensures ∙ c.in-Ok-Underfull.ensures.size ∙ c.in-Ok.ensures.size)) h))
+    (subst (λ n. IsHigh n c.read_way.new.bytes c.args.height) (sym (c.pages.ensures ∙ c.in-Ok-Underfull.ensures.size ∙ c.in-Ok.ensures.left.size)) h))
 
 pub rebalance_child-requires-clause-place : goal.rebalance_child-requires-clause-place
 rebalance_child-requires-clause-place g t c =
-    let same : c.pages.result ≡ g.S.PageStore.size c.args.store.now = c.pages.ensures ∙ c.in-Ok-Underfull.ensures.size ∙ c.in-Ok.ensures.size in
+    let same : c.pages.result ≡ g.S.PageStore.size c.args.store.now = c.pages.ensures ∙ c.in-Ok-Underfull.ensures.size ∙ c.in-Ok.ensures.left.size in
     let is : inner_of (g.S.PageStore.size c.args.store.now) c.read_way.new.bytes ≡ Some c.in-Some.inner =
     subst (λ n. inner_of n c.read_way.new.bytes ≡ Some c.in-Some.inner) same c.in-Some.ensures.inner in
     place_inside (g.S.PageStore.size c.args.store.now) c.read_way.new.bytes c.in-Some.inner c.args.k.now c.in-Ok.way.place is
@@ -247,17 +247,17 @@ returns-in-Err-remove_under-clause-bad g t c = λ ne.
     (g.S.PageStore.size c.args.store.now) c.read_way.new.bytes c.in-Ok.way.child c.in-Err-remove_under.e
     (read_ok (g.S.PageStore.told c.args.store.now) (g.S.PageStore.told c.read_way.new.store) c.args.page c.args.height
     (g.S.PageStore.size c.args.store.now) (g.S.PageStore.size c.args.store.now) c.read_way.new.bytes c.requires.height c.if-height-eq1.false
-    c.in-Ok.ensures.told (g.met.S.PageStore.as_many c.args.store.now) refl c.in-Ok.ensures.bytes)
+    c.in-Ok.ensures.left.told (g.met.S.PageStore.as_many c.args.store.now) refl c.in-Ok.ensures.bytes)
     c.in-Ok.ensures.stands (c.in-Err-remove_under.ensures.bad ne)
 
 pub returns-in-None-clause-bad : goal.returns-in-None-clause-bad
 returns-in-None-clause-bad g t c =
-    let same : c.pages-in-None.result ≡ g.S.PageStore.size c.args.store.now = c.pages-in-None.ensures ∙ c.in-Ok-Underfull.ensures.size ∙ c.in-Ok.ensures.size in
+    let same : c.pages-in-None.result ≡ g.S.PageStore.size c.args.store.now = c.pages-in-None.ensures ∙ c.in-Ok-Underfull.ensures.size ∙ c.in-Ok.ensures.left.size in
     inner_fault (g.S.PageStore.told c.args.store.now) (g.S.PageStore.told c.read_way.new.store) c.args.page c.args.height
     c.pages-in-None.result c.inner_at_fault.result c.read_way.new.bytes
     (read_ok (g.S.PageStore.told c.args.store.now) (g.S.PageStore.told c.read_way.new.store) c.args.page c.args.height
     c.pages-in-None.result (g.S.PageStore.size c.args.store.now) c.read_way.new.bytes c.requires.height c.if-height-eq1.false
-    c.in-Ok.ensures.told (g.met.S.PageStore.as_many c.args.store.now) same c.in-Ok.ensures.bytes)
+    c.in-Ok.ensures.left.told (g.met.S.PageStore.as_many c.args.store.now) same c.in-Ok.ensures.bytes)
     c.inner_at_fault.ensures.fault
 
 pub returns-in-Some-clause-names : goal.returns-in-Some-clause-names
@@ -270,4 +270,4 @@ returns-in-Some-clause-bad g t c =
 
 pub returns-in-Some-clause-later : goal.returns-in-Some-clause-later
 returns-in-Some-clause-later g t c =
-    g.met.S.PageStore.goes_on _ _ _ (g.met.S.PageStore.goes_on _ _ _ c.in-Ok.ensures.later c.in-Ok-Underfull.ensures.later) c.rebalance_child.ensures.later
+    g.met.S.PageStore.goes_on _ _ _ (g.met.S.PageStore.goes_on _ _ _ c.in-Ok.ensures.left.later c.in-Ok-Underfull.ensures.later) c.rebalance_child.ensures.later

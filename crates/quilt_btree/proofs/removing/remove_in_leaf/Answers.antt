@@ -22,7 +22,7 @@ returns-in-Ok-clause-removed g c = λ height is_root b rs used one can.
     leaf_emptied c.args.k.now (g.S.PageStore.told c.args.store.now) (g.S.PageStore.told c.read_leaf.new.store) (g.S.PageStore.free c.args.store.now)
     (g.S.PageStore.free c.read_leaf.new.store)
     c.args.page height c.in-Ok.field-0 is_root b rs c.in_ok-leaf.leaf used one c.in_ok-leaf.ensures.leaf c.in-Ok.ensures.place
-    (sym c.len.ensures.length ∙ c.if-len-eq1.true) c.in_ok-leaf.ensures.told c.in_ok-leaf.ensures.free can
+    (sym c.len.ensures.length ∙ c.if-len-eq1.true) c.in_ok-leaf.ensures.left.told c.in_ok-leaf.ensures.left.free can
 
 pub returns-then-left-lt-LEAST_RECORDS-clause-removed : goal.returns-then-left-lt-LEAST_RECORDS-clause-removed
 returns-then-left-lt-LEAST_RECORDS-clause-removed g c = λ height is_root b rs used one can.
@@ -36,9 +36,9 @@ returns-then-left-lt-LEAST_RECORDS-clause-removed g c = λ height is_root b rs u
       found = c.in-Ok.ensures.place;
       all_is = c.remove.ensures;
       written = c.bytes.ensures.leaf;
-      is_mid = c.in_ok-leaf.ensures.told;
+      is_mid = c.in_ok-leaf.ensures.left.told;
       tells = c.in-Ok-write_page.ensures.told;
-      frees = c.in-Ok-write_page.ensures.free ∙ c.in_ok-leaf.ensures.free;
+      frees = c.in-Ok-write_page.ensures.free ∙ c.in_ok-leaf.ensures.left.free;
     }) can
 
 pub returns-else-left-lt-LEAST_RECORDS-clause-removed : goal.returns-else-left-lt-LEAST_RECORDS-clause-removed
@@ -53,9 +53,9 @@ returns-else-left-lt-LEAST_RECORDS-clause-removed g c = λ height is_root b rs u
       found = c.in-Ok.ensures.place;
       all_is = c.remove.ensures;
       written = c.bytes.ensures.leaf;
-      is_mid = c.in_ok-leaf.ensures.told;
+      is_mid = c.in_ok-leaf.ensures.left.told;
       tells = c.in-Ok-write_page.ensures.told;
-      frees = c.in-Ok-write_page.ensures.free ∙ c.in_ok-leaf.ensures.free;
+      frees = c.in-Ok-write_page.ensures.free ∙ c.in_ok-leaf.ensures.left.free;
     })
     (let n = c.len-left.ensures.length in let h = c.if-left-lt-LEAST_RECORDS.false in omega arith) can
 

@@ -13,13 +13,13 @@ pub returns-in-None-clause-sound : goal.returns-in-None-clause-sound
 returns-in-None-clause-sound g c = λ height rs some above s.
     let h = is_high (g.S.PageStore.told c.args.store.now) (g.S.PageStore.told c.read_into.new.store) c.args.page height c.pages.result c.read_into.new.bytes rs
     (read_ok (g.S.PageStore.told c.args.store.now) (g.S.PageStore.told c.read_into.new.store) c.args.page height c.pages.result
-    (g.S.PageStore.size c.args.store.now) c.read_into.new.bytes some above c.in-Ok.ensures.told (g.met.S.PageStore.as_many c.args.store.now)
-    (c.pages.ensures ∙ c.in-Ok.ensures.size) c.in-Ok.ensures.bytes) s in
+    (g.S.PageStore.size c.args.store.now) c.read_into.new.bytes some above c.in-Ok.ensures.left.told (g.met.S.PageStore.as_many c.args.store.now)
+    (c.pages.ensures ∙ c.in-Ok.ensures.left.size) c.in-Ok.ensures.bytes) s in
     absurd (c.in-None.ensures.way h.inner h.is)
 
 pub returns-in-Some-clause-way : goal.returns-in-Some-clause-way
 returns-in-Some-clause-way g c =
-    let same : c.pages.result ≡ g.S.PageStore.size c.args.store.now = c.pages.ensures ∙ c.in-Ok.ensures.size in
+    let same : c.pages.result ≡ g.S.PageStore.size c.args.store.now = c.pages.ensures ∙ c.in-Ok.ensures.left.size in
     is_way (g.S.PageStore.told c.args.store.now) c.args.page (g.S.PageStore.size c.args.store.now)
     c.read_into.new.bytes c.args.k.now c.in-Some.way.place c.in-Some.way.child (g.met.S.PageStore.as_many c.args.store.now) c.in-Ok.ensures.bytes
     (λ inner is. c.in-Some.ensures.way inner (subst (λ n. inner_of n c.read_into.new.bytes ≡ Some inner) (sym same) is))
@@ -29,12 +29,12 @@ returns-in-Some-clause-here g c = λ height rs some above s.
     is_high (g.S.PageStore.told c.args.store.now) (g.S.PageStore.told c.read_into.new.store) c.args.page height (g.S.PageStore.size c.args.store.now)
     c.read_into.new.bytes rs
     (read_ok (g.S.PageStore.told c.args.store.now) (g.S.PageStore.told c.read_into.new.store) c.args.page height
-    (g.S.PageStore.size c.args.store.now) (g.S.PageStore.size c.args.store.now) c.read_into.new.bytes some above c.in-Ok.ensures.told
+    (g.S.PageStore.size c.args.store.now) (g.S.PageStore.size c.args.store.now) c.read_into.new.bytes some above c.in-Ok.ensures.left.told
     (g.met.S.PageStore.as_many c.args.store.now) refl c.in-Ok.ensures.bytes) s
 
 pub returns-in-Some-clause-stands : goal.returns-in-Some-clause-stands
 returns-in-Some-clause-stands g c =
-    subst (λ n. HasChild n c.read_into.new.bytes c.in-Some.way.child) (c.pages.ensures ∙ c.in-Ok.ensures.size) c.in-Some.ensures.stands
+    subst (λ n. HasChild n c.read_into.new.bytes c.in-Some.way.child) (c.pages.ensures ∙ c.in-Ok.ensures.left.size) c.in-Some.ensures.stands
 
 pub returns-in-Err-clause-bad : goal.returns-in-Err-clause-bad
 returns-in-Err-clause-bad g c = λ height some above.
@@ -45,5 +45,5 @@ returns-in-None-clause-bad g c = λ height some above.
     bad_inner (g.S.PageStore.told c.args.store.now) (g.S.PageStore.told c.read_into.new.store)
     c.args.page height c.pages.result c.read_into.new.bytes
     (read_ok (g.S.PageStore.told c.args.store.now) (g.S.PageStore.told c.read_into.new.store) c.args.page height c.pages.result
-    (g.S.PageStore.size c.args.store.now) c.read_into.new.bytes some above c.in-Ok.ensures.told (g.met.S.PageStore.as_many c.args.store.now)
-    (c.pages.ensures ∙ c.in-Ok.ensures.size) c.in-Ok.ensures.bytes) c.in-None.ensures.way
+    (g.S.PageStore.size c.args.store.now) c.read_into.new.bytes some above c.in-Ok.ensures.left.told (g.met.S.PageStore.as_many c.args.store.now)
+    (c.pages.ensures ∙ c.in-Ok.ensures.left.size) c.in-Ok.ensures.bytes) c.in-None.ensures.way

@@ -13,8 +13,8 @@ returns-in-None-clause-lacks g t c b rs used top can page is =
     absurd (step_none _ (g.S.PageStore.told c.args.store.now) (g.S.PageStore.told c.read_into.new.store) (g.S.PageStore.free c.args.store.now)
     c.args.page c.args.height c.pages.result c.read_into.new.bytes c.args.is_root b rs used
     (read_ok (g.S.PageStore.told c.args.store.now) (g.S.PageStore.told c.read_into.new.store) c.args.page c.args.height c.pages.result
-    (g.S.PageStore.size c.args.store.now) c.read_into.new.bytes c.requires.height c.if-height-eq1.false c.in-Ok.ensures.told
-    (g.met.S.PageStore.as_many c.args.store.now) (c.pages.ensures ∙ c.in-Ok.ensures.size) c.in-Ok.ensures.bytes) c.in-None.ensures.step can page is)
+    (g.S.PageStore.size c.args.store.now) c.read_into.new.bytes c.requires.height c.if-height-eq1.false c.in-Ok.ensures.left.told
+    (g.met.S.PageStore.as_many c.args.store.now) (c.pages.ensures ∙ c.in-Ok.ensures.left.size) c.in-Ok.ensures.bytes) c.in-None.ensures.step can page is)
 
 pub returns-in-Some-clause-drained : goal.returns-in-Some-clause-drained
 returns-in-Some-clause-drained g t c =
@@ -23,9 +23,9 @@ returns-in-Some-clause-drained g t c =
     (g.S.PageStore.free c.drain_under.new.store) (g.S.PageStore.size c.args.store.now) (g.S.PageStore.size c.read_into.new.store)
     c.args.page c.args.height c.pages.result c.read_into.new.bytes c.in-Some.step.child c.args.high.now c.in-Some.step.high c.args.run.now
     c.args.is_root (read_ok (g.S.PageStore.told c.args.store.now) (g.S.PageStore.told c.read_into.new.store) c.args.page c.args.height
-    c.pages.result (g.S.PageStore.size c.args.store.now) c.read_into.new.bytes c.requires.height c.if-height-eq1.false c.in-Ok.ensures.told
-    (g.met.S.PageStore.as_many c.args.store.now) (c.pages.ensures ∙ c.in-Ok.ensures.size) c.in-Ok.ensures.bytes)
-    (record { same_pages = c.in-Ok.ensures.told; same_free = c.in-Ok.ensures.free; same_size = c.in-Ok.ensures.size })
+    c.pages.result (g.S.PageStore.size c.args.store.now) c.read_into.new.bytes c.requires.height c.if-height-eq1.false c.in-Ok.ensures.left.told
+    (g.met.S.PageStore.as_many c.args.store.now) (c.pages.ensures ∙ c.in-Ok.ensures.left.size) c.in-Ok.ensures.bytes)
+    (record { same_pages = c.in-Ok.ensures.left.told; same_free = c.in-Ok.ensures.left.free; same_size = c.in-Ok.ensures.left.size })
     c.in-Some.ensures.step c.requires.order c.requires.some c.drain_under.ensures.drained
 
 pub returns-in-Some-clause-lacks : goal.returns-in-Some-clause-lacks
@@ -35,9 +35,9 @@ returns-in-Some-clause-lacks g t c =
     (g.S.PageStore.size c.read_into.new.store) c.args.page c.args.height c.pages.result c.read_into.new.bytes c.in-Some.step.child
     c.args.high.now c.in-Some.step.high c.args.run.now c.args.is_root
     (read_ok (g.S.PageStore.told c.args.store.now) (g.S.PageStore.told c.read_into.new.store) c.args.page c.args.height c.pages.result
-    (g.S.PageStore.size c.args.store.now) c.read_into.new.bytes c.requires.height c.if-height-eq1.false c.in-Ok.ensures.told
-    (g.met.S.PageStore.as_many c.args.store.now) (c.pages.ensures ∙ c.in-Ok.ensures.size) c.in-Ok.ensures.bytes)
-    (record { same_pages = c.in-Ok.ensures.told; same_free = c.in-Ok.ensures.free; same_size = c.in-Ok.ensures.size })
+    (g.S.PageStore.size c.args.store.now) c.read_into.new.bytes c.requires.height c.if-height-eq1.false c.in-Ok.ensures.left.told
+    (g.met.S.PageStore.as_many c.args.store.now) (c.pages.ensures ∙ c.in-Ok.ensures.left.size) c.in-Ok.ensures.bytes)
+    (record { same_pages = c.in-Ok.ensures.left.told; same_free = c.in-Ok.ensures.left.free; same_size = c.in-Ok.ensures.left.size })
     c.in-Some.ensures.step c.requires.order c.requires.some c.drain_under.ensures.lacks
 
 pub returns-then-height-eq1-clause-lacks : goal.returns-then-height-eq1-clause-lacks
@@ -57,14 +57,14 @@ returns-in-None-clause-bad g t c = λ ne.
     bad_inner (g.S.PageStore.told c.args.store.now) (g.S.PageStore.told c.read_into.new.store)
     c.args.page c.args.height c.pages.result c.read_into.new.bytes
     (read_ok (g.S.PageStore.told c.args.store.now) (g.S.PageStore.told c.read_into.new.store) c.args.page c.args.height c.pages.result
-    (g.S.PageStore.size c.args.store.now) c.read_into.new.bytes c.requires.height c.if-height-eq1.false c.in-Ok.ensures.told
-    (g.met.S.PageStore.as_many c.args.store.now) (c.pages.ensures ∙ c.in-Ok.ensures.size) c.in-Ok.ensures.bytes) c.in-None.ensures.step
+    (g.S.PageStore.size c.args.store.now) c.read_into.new.bytes c.requires.height c.if-height-eq1.false c.in-Ok.ensures.left.told
+    (g.met.S.PageStore.as_many c.args.store.now) (c.pages.ensures ∙ c.in-Ok.ensures.left.size) c.in-Ok.ensures.bytes) c.in-None.ensures.step
 
 pub returns-in-Some-clause-bad : goal.returns-in-Some-clause-bad
 returns-in-Some-clause-bad g t c =
     named_below c.drain_under.result (g.S.PageStore.told c.args.store.now) (g.S.PageStore.told c.read_into.new.store)
     c.args.page c.args.height c.pages.result c.read_into.new.bytes c.in-Some.step.child
     (read_ok (g.S.PageStore.told c.args.store.now) (g.S.PageStore.told c.read_into.new.store) c.args.page c.args.height c.pages.result
-    (g.S.PageStore.size c.args.store.now) c.read_into.new.bytes c.requires.height c.if-height-eq1.false c.in-Ok.ensures.told
-    (g.met.S.PageStore.as_many c.args.store.now) (c.pages.ensures ∙ c.in-Ok.ensures.size) c.in-Ok.ensures.bytes)
+    (g.S.PageStore.size c.args.store.now) c.read_into.new.bytes c.requires.height c.if-height-eq1.false c.in-Ok.ensures.left.told
+    (g.met.S.PageStore.as_many c.args.store.now) (c.pages.ensures ∙ c.in-Ok.ensures.left.size) c.in-Ok.ensures.bytes)
     c.in-Some.ensures.stands c.drain_under.ensures.bad

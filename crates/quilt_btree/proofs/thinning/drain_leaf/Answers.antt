@@ -31,8 +31,8 @@ returns-in-Ok-write_page-clause-drained g c some b rs used top can =
     (leaf_same (g.S.PageStore.told c.args.store.now) (g.S.PageStore.free c.args.store.now) c.args.page c.args.is_root b rs c.in-Ok.leaf used
     can c.in-Ok.ensures.leaf)
     (subst (λ o. Tells (λ old new. new ≡ slice_set old c.args.page c.bytes.result.now) o (g.S.PageStore.told c.write_page.new.store))
-    c.in-Ok.ensures.told c.in-Ok-write_page.ensures.told)
-    (c.in-Ok-write_page.ensures.free ∙ c.in-Ok.ensures.free)
+    c.in-Ok.ensures.left.told c.in-Ok-write_page.ensures.told)
+    (c.in-Ok-write_page.ensures.free ∙ c.in-Ok.ensures.left.free)
     (subst (λ m. m ≤ length c.drain.new.leaf) c.least_records.ensures (c.in-Some.ensures.least some)) top can
 
 pub returns-in-Err-clause-names : goal.returns-in-Err-clause-names

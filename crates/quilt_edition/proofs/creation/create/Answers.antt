@@ -21,6 +21,6 @@ returns-clause-created g c =
     (rw c.header_page.ensures at c.in_ok-write_synced.ensures.wrote) in
     on_ok _ _ _ c.write_synced-2.ensures.wrote (λ wrote.
     told_created c.args.level _
-    (subst (λ size. HasMapSize size) (sym (c.write_synced-2.ensures.size ∙ c.in_ok-write_synced.ensures.size)) c.requires.size)
+    (subst (λ size. HasMapSize size) (sym (c.write_synced-2.ensures.device.size ∙ c.in_ok-write_synced.ensures.device.size)) c.requires.size)
     _ _ c.requires.level (g.met.D.Disk.is_consistent c.write_synced-2.new.disk)
     (told_label c.args.level c.requires.level.1 _ _ _ _ c.label_page.ensures ready wrote))

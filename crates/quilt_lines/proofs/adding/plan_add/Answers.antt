@@ -17,12 +17,12 @@ returns-in-Ok-Some-clause-none g c segs cover
 
 pub returns-in-Err-edits-clause-sound : goal.returns-in-Err-edits-clause-sound
 returns-in-Err-edits-clause-sound g c segs cover h =
-    c.in-Err-edits.ensures.sound segs cover (lines_along _ _ c.args.tree.now c.args.layer c.args.level c.args.t segs cover c.in-Ok-None.ensures.told h)
+    c.in-Err-edits.ensures.sound segs cover (lines_along _ _ c.args.tree.now c.args.layer c.args.level c.args.t segs cover c.in-Ok-None.ensures.left.told h)
     (sym (c.in-Ok-None.ensures.segment c.args.t segs cover h) ∙ c.in-Ok-None.field-0-is)
 
 pub returns-in-Ok-clause-plan : goal.returns-in-Ok-clause-plan
 returns-in-Ok-clause-plan g c segs cover h =
-    c.in-Ok.ensures.plan segs cover (lines_along _ _ c.args.tree.now c.args.layer c.args.level c.args.t segs cover c.in-Ok-None.ensures.told h)
+    c.in-Ok.ensures.plan segs cover (lines_along _ _ c.args.tree.now c.args.layer c.args.level c.args.t segs cover c.in-Ok-None.ensures.left.told h)
     (sym (c.in-Ok-None.ensures.segment c.args.t segs cover h) ∙ c.in-Ok-None.field-0-is)
 
 pub returns-in-Ok-clause-none : goal.returns-in-Ok-clause-none

@@ -19,7 +19,7 @@ returns-in-Ok-None-clause-none g c segs cover h = (
 
 pub returns-in-Err-plan-clause-sound : goal.returns-in-Err-plan-clause-sound
 returns-in-Err-plan-clause-sound g c segs cover h =
-    c.in-Err-plan.ensures.sound segs cover (lines_along _ _ c.args.tree.now c.args.layer c.args.level c.args.t segs cover c.in-Ok-Some.ensures.told h)
+    c.in-Err-plan.ensures.sound segs cover (lines_along _ _ c.args.tree.now c.args.layer c.args.level c.args.t segs cover c.in-Ok-Some.ensures.left.told h)
     (sym (c.in-Ok-Some.ensures.segment c.args.t segs cover h) ∙ c.in-Ok-Some.field-0-is)
 
 pub returns-in-Ok-clause-plan : goal.returns-in-Ok-clause-plan
@@ -28,7 +28,7 @@ returns-in-Ok-clause-plan g c segs cover h s e =
     let now = finmap.remove segs c.args.id in
     subst (λ (z : Seg). IsLinePlan c.args.level c.args.layer c.args.t segs now cover (after_remove c.args.level c.args.t now cover z) c.in-Ok.edits)
     (same_some c.in-Ok-Some.s s (sym got ∙ e))
-    (c.in-Ok.ensures.plan segs cover (lines_along _ _ c.args.tree.now c.args.layer c.args.level c.args.t segs cover c.in-Ok-Some.ensures.told h) got).plan
+    (c.in-Ok.ensures.plan segs cover (lines_along _ _ c.args.tree.now c.args.layer c.args.level c.args.t segs cover c.in-Ok-Some.ensures.left.told h) got).plan
 
 pub returns-in-Ok-clause-none : goal.returns-in-Ok-clause-none
 returns-in-Ok-clause-none g c segs cover h = (
@@ -38,5 +38,5 @@ returns-in-Ok-clause-none g c segs cover h = (
 
 pub returns-in-Ok-clause-fewer : goal.returns-in-Ok-clause-fewer
 returns-in-Ok-clause-fewer g c segs cover h =
-    (c.in-Ok.ensures.plan segs cover (lines_along _ _ c.args.tree.now c.args.layer c.args.level c.args.t segs cover c.in-Ok-Some.ensures.told h)
+    (c.in-Ok.ensures.plan segs cover (lines_along _ _ c.args.tree.now c.args.layer c.args.level c.args.t segs cover c.in-Ok-Some.ensures.left.told h)
     (sym (c.in-Ok-Some.ensures.segment c.args.t segs cover h) ∙ c.in-Ok-Some.field-0-is)).fewer

@@ -1,7 +1,7 @@
 use Rattle.std.proofs.Common.{List, IfErr, subst}
 use Rattle.quilt_record.specs.declared.record.Record.{Record}
 use Rattle.quilt_node.specs.declared.head.Head.{Head}
-use Rattle.quilt_btree.specs.Stops.{IsSound}
+use Rattle.quilt_store.specs.Stops.{IsSound}
 use Rattle.quilt_btree.specs.Trees.{IsTree}
 use Rattle.quilt_map.specs.Sessions.{told_of, tree_in}
 use Rattle.quilt_map.proofs.copying.read_records.Goals as goal

@@ -4,7 +4,7 @@ use Rattle.std.specs.FinMap as finmap
 use Rattle.quilt_types.specs.Layers.{SegMap, BlockSet}
 use Rattle.quilt_types.specs.Quadtrees.{after_add}
 use Rattle.quilt_node.specs.declared.head.Head.{Head}
-use Rattle.quilt_btree.specs.Stops.{IsSound}
+use Rattle.quilt_store.specs.Stops.{IsSound}
 use Rattle.quilt_lines.specs.Plans.{IsLinePlan}
 use Rattle.quilt_map.proofs.Asked.{still_here, if_ok, if_err, if_some}
 use Rattle.quilt_map.proofs.LinePlans.{lines_said}

@@ -5,7 +5,7 @@ use Rattle.quilt_types.specs.declared.plane.Seg.{Seg}
 use Rattle.quilt_types.specs.Layers.{SegMap, BlockSet}
 use Rattle.quilt_types.specs.Quadtrees.{after_remove}
 use Rattle.quilt_node.specs.declared.head.Head.{Head}
-use Rattle.quilt_btree.specs.Stops.{IsSound}
+use Rattle.quilt_store.specs.Stops.{IsSound}
 use Rattle.quilt_lines.specs.Plans.{IsLinePlan}
 use Rattle.quilt_map.proofs.Asked.{still_here, if_ok, if_err, if_some}
 use Rattle.quilt_map.proofs.LinePlans.{lines_said}

@@ -1,5 +1,6 @@
 use Rattle.std.proofs.Common.{true, [], length, get_or, refl, sym, ◌∙◌, ap, subst, arith, Contains, List}
 use Rattle.std.specs.FinMap as finmap
+use Rattle.quilt_store.proofs.Reading.{only_read_then, only_read_same}
 use Rattle.quilt_types.specs.declared.plane.Block.{Block}
 use Rattle.quilt_types.specs.declared.plane.Point.{Point}
 use Rattle.quilt_types.specs.Plane.{quarters_of, IsBlock}
@@ -27,11 +28,7 @@ loop-q-init g c = record {
       (sym c.new-all.ensures.items) (all_none (finmap.remove points p) (λ q. true));
   pixels = λ k d lt. let none = ap length c.new-all.ensures.items in absurd (omega arith);
   faults = omega arith;
-  size = refl;
-  told = refl;
-  free = refl;
-  later = g.met.S.PageStore.same_time _;
-  changed = omega arith;
+  left = only_read_same _ _ _ _ _ _ (g.met.S.PageStore.same_time _);
 }
 
 pub add_quarter-requires-clause-block : goal.add_quarter-requires-clause-block
@@ -45,7 +42,7 @@ add_quarter-requires-clause-block g c =
 
 pub returns-in-Err-clause-sound : goal.returns-in-Err-clause-sound
 returns-in-Err-clause-sound g c points h =
-    c.in-Err.ensures.sound points (has_along _ _ c.args.tree.now c.args.layer.number c.args.layer.level c.args.layer.bucket points c.loop-q.invariant.told h)
+    c.in-Err.ensures.sound points (has_along _ _ c.args.tree.now c.args.layer.number c.args.layer.level c.args.layer.bucket points c.loop-q.invariant.left.told h)
 
 pub returns-in-Ok-false-clause-none : goal.returns-in-Ok-false-clause-none
 returns-in-Ok-false-clause-none g c _ points p label h some way =
@@ -58,7 +55,7 @@ returns-in-Ok-false-clause-none g c _ points p label h some way =
     (get_or c.quarters-q-items.result c.loop-q.q-index (record { y = 0; x = 0; side = 0 }))
     (subst (λ (l : List Block). Contains l (get_or c.quarters-q-items.result c.loop-q.q-index (record { y = 0; x = 0; side = 0 }))) are
     (member_at c.quarters-q-items.result c.loop-q.q-index (record { y = 0; x = 0; side = 0 }) (omega arith))) o.0
-    (o.1 points (has_along _ _ c.args.tree.now c.args.layer.number c.args.layer.level c.args.layer.bucket points c.loop-q.invariant.told h))
+    (o.1 points (has_along _ _ c.args.tree.now c.args.layer.number c.args.layer.level c.args.layer.bucket points c.loop-q.invariant.left.told h))
 
 pub loop-q-preserved : goal.loop-q-preserved
 loop-q-preserved g c =
@@ -73,16 +70,12 @@ loop-q-preserved g c =
             a.0,
             a.1,
             a.2 points (has_along _ _ c.args.tree.now c.args.layer.number c.args.layer.level c.args.layer.bucket points
-                c.loop-q.invariant.told h),
+                c.loop-q.invariant.left.told h),
           ))
           (c.loop-q.invariant.all points p label h some way);
       pixels = c.in-Ok-true.ensures.pixels;
       faults = let m = c.loop-q.invariant.faults in let n = c.in-Ok-true.ensures.cause.later in omega arith;
-      size = c.in-Ok-true.ensures.size ∙ c.loop-q.invariant.size;
-      told = c.in-Ok-true.ensures.told ∙ c.loop-q.invariant.told;
-      free = c.in-Ok-true.ensures.free ∙ c.loop-q.invariant.free;
-      later = g.met.S.PageStore.goes_on _ _ _ c.loop-q.invariant.later c.in-Ok-true.ensures.later;
-      changed = let m = c.loop-q.invariant.changed in let n = c.in-Ok-true.ensures.changed in omega arith;
+      left = only_read_then _ _ _ _ _ g.met.S.PageStore.goes_on _ _ _ c.loop-q.invariant.left c.in-Ok-true.ensures.left;
     }
 
 pub returns-clause-all : goal.returns-clause-all

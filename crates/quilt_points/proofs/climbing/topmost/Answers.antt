@@ -1,4 +1,5 @@
 use Rattle.std.proofs.Common.{◌∙◌, arith}
+use Rattle.quilt_store.proofs.Reading.{only_read_then}
 use Rattle.quilt_loc.proofs.Blocks.{side_most}
 use Rattle.quilt_loc.proofs.Quartered.{side_le}
 use Rattle.quilt_points.proofs.Finds.{has_along, if_some_at}
@@ -6,7 +7,7 @@ use Rattle.quilt_points.proofs.climbing.topmost.Goals as goal
 
 pub returns-in-Err-clause-sound : goal.returns-in-Err-clause-sound
 returns-in-Err-clause-sound g c points h =
-    c.in-Err.ensures.sound points (has_along _ _ c.args.tree.now c.args.layer.number c.args.layer.level c.args.layer.bucket points c.climb.invariant.told h)
+    c.in-Err.ensures.sound points (has_along _ _ c.args.tree.now c.args.layer.number c.args.layer.level c.args.layer.bucket points c.climb.invariant.left.told h)
 
 pub climb-smaller : goal.climb-smaller
 climb-smaller g c =
@@ -20,20 +21,16 @@ pub climb-preserved : goal.climb-preserved
 climb-preserved g c = record {
   way = λ points p label h some way.
       if_some_at c.in-Ok-Some.field-0 _ c.in-Ok-Some.up c.in-Ok-Some.field-0-is c.in-Ok-Some.ensures.up points p label
-      (has_along _ _ c.args.tree.now c.args.layer.number c.args.layer.level c.args.layer.bucket points c.climb.invariant.told h) some
+      (has_along _ _ c.args.tree.now c.args.layer.number c.args.layer.level c.args.layer.bucket points c.climb.invariant.left.told h) some
       (c.climb.invariant.way points p label h some way);
   block = if_some_at c.in-Ok-Some.field-0 _ c.in-Ok-Some.up c.in-Ok-Some.field-0-is c.in-Ok-Some.ensures.block;
   pixels = if_some_at c.in-Ok-Some.field-0 _ c.in-Ok-Some.up c.in-Ok-Some.field-0-is c.in-Ok-Some.ensures.pixels;
   faults = let m = c.climb.invariant.faults in let n = c.in-Ok-Some.ensures.cause.later in omega arith;
-  size = c.in-Ok-Some.ensures.size ∙ c.climb.invariant.size;
-  told = c.in-Ok-Some.ensures.told ∙ c.climb.invariant.told;
-  free = c.in-Ok-Some.ensures.free ∙ c.climb.invariant.free;
-  later = g.met.S.PageStore.goes_on _ _ _ c.climb.invariant.later c.in-Ok-Some.ensures.later;
-  changed = let m = c.climb.invariant.changed in let n = c.in-Ok-Some.ensures.changed in omega arith;
+  left = only_read_then _ _ _ _ _ g.met.S.PageStore.goes_on _ _ _ c.climb.invariant.left c.in-Ok-Some.ensures.left;
 }
 
 pub returns-in-Ok-None-clause-last : goal.returns-in-Ok-None-clause-last
 returns-in-Ok-None-clause-last g c points p label h some way =
     c.in-Ok-None.ensures.last c.in-Ok-None.field-0-is points p label
-    (has_along _ _ c.args.tree.now c.args.layer.number c.args.layer.level c.args.layer.bucket points c.climb.invariant.told h) some
+    (has_along _ _ c.args.tree.now c.args.layer.number c.args.layer.level c.args.layer.bucket points c.climb.invariant.left.told h) some
     (c.climb.invariant.way points p label h some way)

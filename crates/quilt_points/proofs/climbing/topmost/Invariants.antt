@@ -1,5 +1,6 @@
 use Rattle.std.proofs.Common.{◌≡◌, ℕ, ◌-◌, ◌≤◌, true, All, Some}
 use Rattle.std.specs.FinMap as finmap
+use Rattle.quilt_store.specs.Store.{IsOnlyRead}
 use Rattle.quilt_types.specs.declared.plane.Pixel.{Pixel}
 use Rattle.quilt_types.specs.Plane.{is_pixel, IsBlock}
 use Rattle.quilt_types.specs.Layers.{PointMap}
@@ -19,9 +20,5 @@ invariant-climb g l = record {
   block : IsBlock l.layer.level l.top.block;
   pixels : All (λ p. is_pixel l.layer.level p.at ≡ true) l.top.points.items;
   faults : g.S.PageStore.faults l.initial.store ≤ g.S.PageStore.faults l.store;
-  size : g.S.PageStore.size l.store ≡ g.S.PageStore.size l.initial.store;
-  told : g.S.PageStore.told l.store ≡ g.S.PageStore.told l.initial.store;
-  free : g.S.PageStore.free l.store ≡ g.S.PageStore.free l.initial.store;
-  later : g.S.PageStore.later l.initial.store l.store;
-  changed : g.S.PageStore.changed l.store ≤ g.S.PageStore.changed l.initial.store;
+  left : IsOnlyRead g.S.PageStore.size g.S.PageStore.told g.S.PageStore.free g.S.PageStore.later g.S.PageStore.changed l.initial.store l.store;
 }

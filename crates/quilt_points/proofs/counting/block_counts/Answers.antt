@@ -1,5 +1,6 @@
 use Rattle.std.proofs.Common.{ℕ, ◌*◌, length, refl, ◌∙◌, arith}
 use Rattle.std.proofs.lemmas.List.{length-set}
+use Rattle.quilt_store.proofs.Reading.{only_read_then, only_read_same}
 use Rattle.quilt_types.specs.Quadtrees.{point_blocks}
 use Rattle.quilt_loc.proofs.Blocks.{Holds-from}
 use Rattle.quilt_loc.proofs.Intervals.{code_held}
@@ -17,11 +18,7 @@ loop-code-init g c = record {
       let none = s.1 in
       (s.0, tells_less 0 _ _ _ (omega arith) (tells_none (g.S.PageStore.reads c.args.store.now)));
   faults = omega arith;
-  size = refl;
-  told = refl;
-  free = refl;
-  later = g.met.S.PageStore.same_time _;
-  changed = omega arith;
+  left = only_read_same _ _ _ _ _ _ (g.met.S.PageStore.same_time _);
 }
 
 pub pixel_of-requires : goal.pixel_of-requires
@@ -50,7 +47,7 @@ block_around-requires-clause-in_y g c =
 
 pub returns-in-Err-clause-sound : goal.returns-in-Err-clause-sound
 returns-in-Err-clause-sound g c points h =
-    c.in-Err.ensures.sound points (has_along _ _ c.args.tree.now c.args.layer c.args.level c.args.bucket points c.loop-code.invariant.told h)
+    c.in-Err.ensures.sound points (has_along _ _ c.args.tree.now c.args.layer c.args.level c.args.bucket points c.loop-code.invariant.left.told h)
 
 pub loop-code-preserved : goal.loop-code-preserved
 loop-code-preserved g c =
@@ -67,7 +64,7 @@ loop-code-preserved g c =
           (omega arith) (omega arith);
       seen = λ points h.
           let s = c.loop-code.invariant.seen points h in
-          let read = c.in-Ok.ensures.read points (has_along _ _ c.args.tree.now c.args.layer c.args.level c.args.bucket points c.loop-code.invariant.told h) in
+          let read = c.in-Ok.ensures.read points (has_along _ _ c.args.tree.now c.args.layer c.args.level c.args.bucket points c.loop-code.invariant.left.told h) in
           let more =
           seen_next c.args.level c.args.bucket points c.requires.level.1 c.loop-code.code c.loop-code.counts s.0 c.pixel_of.result c.in-Ok.b
           c.exponent_of.result c.end_of-code.result to read.block (Holds-from c.in-Ok.b c.pixel_of.result c.in-Ok.ensures.holds) at small
@@ -75,11 +72,7 @@ loop-code-preserved g c =
           let length_is = more.1 in
           (more.0, tells_more (6 * length (s.0).blocks) 6 _ _ _ _ (omega arith) s.1 c.in-Ok.ensures.reads);
       faults = let m = c.loop-code.invariant.faults in let n = c.in-Ok.ensures.cause.later in omega arith;
-      size = c.in-Ok.ensures.size ∙ c.loop-code.invariant.size;
-      told = c.in-Ok.ensures.told ∙ c.loop-code.invariant.told;
-      free = c.in-Ok.ensures.free ∙ c.loop-code.invariant.free;
-      later = g.met.S.PageStore.goes_on _ _ _ c.loop-code.invariant.later c.in-Ok.ensures.later;
-      changed = let m = c.loop-code.invariant.changed in let n = c.in-Ok.ensures.changed in omega arith;
+      left = only_read_then _ _ _ _ _ g.met.S.PageStore.goes_on _ _ _ c.loop-code.invariant.left c.in-Ok.ensures.left;
     }
 
 pub returns-clause-counts : goal.returns-clause-counts

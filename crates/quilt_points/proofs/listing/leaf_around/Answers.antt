@@ -3,17 +3,17 @@ use Rattle.quilt_points.proofs.listing.leaf_around.Goals as goal
 
 pub returns-in-Err-points_of-clause-sound : goal.returns-in-Err-points_of-clause-sound
 returns-in-Err-points_of-clause-sound g c points h = c.in-Err-points_of.ensures.sound points
-    (has_along _ _ c.args.tree.now c.args.layer.number c.args.layer.level c.args.layer.bucket points c.in-Ok.ensures.told h)
+    (has_along _ _ c.args.tree.now c.args.layer.number c.args.layer.level c.args.layer.bucket points c.in-Ok.ensures.left.told h)
 
 pub returns-in-Ok-None-clause-sound : goal.returns-in-Ok-None-clause-sound
 returns-in-Ok-None-clause-sound g c points h page e =
     let read = c.in-Ok.ensures.read points h in
     match_none c.in-Ok-None.field-0 _ _ c.in-Ok-None.field-0-is
     (c.in-Ok-None.ensures.read points
-    (has_along _ _ c.args.tree.now c.args.layer.number c.args.layer.level c.args.layer.bucket points c.in-Ok.ensures.told h)) read.block
+    (has_along _ _ c.args.tree.now c.args.layer.number c.args.layer.level c.args.layer.bucket points c.in-Ok.ensures.left.told h)) read.block
 
 pub returns-in-Ok-Some-clause-read : goal.returns-in-Ok-Some-clause-read
 returns-in-Ok-Some-clause-read g c points h =
     match_some c.in-Ok-Some.field-0 _ _ c.in-Ok-Some.points c.in-Ok-Some.field-0-is
     (c.in-Ok-Some.ensures.read points
-    (has_along _ _ c.args.tree.now c.args.layer.number c.args.layer.level c.args.layer.bucket points c.in-Ok.ensures.told h))
+    (has_along _ _ c.args.tree.now c.args.layer.number c.args.layer.level c.args.layer.bucket points c.in-Ok.ensures.left.told h))

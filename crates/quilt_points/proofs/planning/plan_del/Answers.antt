@@ -19,7 +19,7 @@ pub returns-in-Err-take_from-clause-sound : goal.returns-in-Err-take_from-clause
 returns-in-Err-take_from-clause-sound g c points h =
     let read = c.in-Ok.ensures.read points h in
     let found = c.in-Some.ensures.some in
-    c.in-Err-take_from.ensures.sound points (has_along _ _ c.args.tree.now c.args.layer c.args.level c.args.bucket points c.in-Ok.ensures.told h)
+    c.in-Err-take_from.ensures.sound points (has_along _ _ c.args.tree.now c.args.layer c.args.level c.args.bucket points c.in-Ok.ensures.left.told h)
     read (ap (in_block c.in-Ok.leaf.block) found.1 ∙ c.in-Ok.ensures.holds)
     (held_point points c.in-Ok.leaf.block c.in-Ok.leaf.points.items c.in-Some.p read.are
     (subst (λ (l : List Point). Contains l c.in-Some.p) c.deref.ensures.value found.0))
@@ -29,7 +29,7 @@ returns-in-Ok-take_from-clause-plan g c points h =
     let read = c.in-Ok.ensures.read points h in
     let found = c.in-Some.ensures.some in
     subst (λ (p : _). IsPlan c.args.level c.args.layer c.args.bucket points (finmap.remove points p) c.in-Ok-take_from.edits) found.1
-    (c.in-Ok-take_from.ensures.plan points (has_along _ _ c.args.tree.now c.args.layer c.args.level c.args.bucket points c.in-Ok.ensures.told h) read
+    (c.in-Ok-take_from.ensures.plan points (has_along _ _ c.args.tree.now c.args.layer c.args.level c.args.bucket points c.in-Ok.ensures.left.told h) read
     (ap (in_block c.in-Ok.leaf.block) found.1 ∙ c.in-Ok.ensures.holds)
     (held_point points c.in-Ok.leaf.block c.in-Ok.leaf.points.items c.in-Some.p read.are
     (subst (λ (l : List Point). Contains l c.in-Some.p) c.deref.ensures.value found.0)))

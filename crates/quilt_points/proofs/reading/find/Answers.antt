@@ -11,5 +11,5 @@ returns-then-bucket-eq1-clause-label g c points h =
 pub returns-else-bucket-eq1-clause-sound : goal.returns-else-bucket-eq1-clause-sound
 returns-else-bucket-eq1-clause-sound g c =
     IfErr-weaker c.label_in.result _ _
-    (λ e f points h. f points (has_along _ _ c.args.tree.now c.args.layer c.args.level c.args.bucket points c.in-Ok.ensures.told h)
+    (λ e f points h. f points (has_along _ _ c.args.tree.now c.args.layer c.args.level c.args.bucket points c.in-Ok.ensures.left.told h)
     (c.in-Ok.ensures.read points h).block c.in-Ok.ensures.holds) c.label_in.ensures.sound

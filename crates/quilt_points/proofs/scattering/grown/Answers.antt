@@ -1,5 +1,6 @@
 use Rattle.std.proofs.Common.{◌+◌, ◌++◌, [], List, take, drop, length, refl, sym, ◌∙◌, ap, subst, arith, Contains}
 use Rattle.std.proofs.lemmas.List.{take_all, drop_all, length-drop}
+use Rattle.quilt_store.proofs.Reading.{only_read_then, only_read_same}
 use Rattle.quilt_types.specs.declared.plane.Point.{Point}
 use Rattle.quilt_record.specs.declared.record.Record.{Record}
 use Rattle.quilt_loc.specs.Codes.{Rises}
@@ -19,11 +20,7 @@ loop-done-init g c = record {
       (grown_none c.args.layer.level c.args.layer.number c.args.layer.bucket old c.args.news.now));
   most = omega arith;
   faults = omega arith;
-  size = refl;
-  told = refl;
-  free = refl;
-  later = g.met.S.PageStore.same_time _;
-  changed = omega arith;
+  left = only_read_same _ _ _ _ _ _ (g.met.S.PageStore.same_time _);
 }
 
 pub add_block-requires-clause-order : goal.add_block-requires-clause-order
@@ -32,12 +29,12 @@ add_block-requires-clause-order g c =
 
 pub returns-in-Err-clause-sound : goal.returns-in-Err-clause-sound
 returns-in-Err-clause-sound g c old h =
-    c.in-Err.ensures.sound old (has_along _ _ c.args.tree.now c.args.layer.number c.args.layer.level c.args.layer.bucket old c.loop-done.invariant.told h)
+    c.in-Err.ensures.sound old (has_along _ _ c.args.tree.now c.args.layer.number c.args.layer.level c.args.layer.bucket old c.loop-done.invariant.left.told h)
 
 pub returns-in-Ok-None-clause-taken : goal.returns-in-Ok-None-clause-taken
 returns-in-Ok-None-clause-taken g c _ old h =
     let w = c.in-Ok-None.ensures.taken c.in-Ok-None.field-0-is old
-    (has_along _ _ c.args.tree.now c.args.layer.number c.args.layer.level c.args.layer.bucket old c.loop-done.invariant.told h) in
+    (has_along _ _ c.args.tree.now c.args.layer.number c.args.layer.level c.args.layer.bucket old c.loop-done.invariant.left.told h) in
     (w.0, dropped_there c.args.news.now c.loop-done.done w.0 (subst (λ (l : List Point). Contains l w.0) (rest_is c.loop-done.done c.args.news.now) w.1), w.2)
 
 pub loop-done-preserved : goal.loop-done-preserved
@@ -55,7 +52,7 @@ loop-done-preserved g c =
           c.loop-done.growth.without.items c.add_block.new.growth.without.items c.loop-done.growth.with.items c.add_block.new.growth.with.items)
           (rest_is c.loop-done.done c.args.news.now)
           (if_some_at c.in-Ok-Some.field-0 _ c.in-Ok-Some.count c.in-Ok-Some.field-0-is c.in-Ok-Some.ensures.added old
-          (has_along _ _ c.args.tree.now c.args.layer.number c.args.layer.level c.args.layer.bucket old c.loop-done.invariant.told h)) in
+          (has_along _ _ c.args.tree.now c.args.layer.number c.args.layer.level c.args.layer.bucket old c.loop-done.invariant.left.told h)) in
           let alone = entries_apart (take c.in-Ok-Some.count (drop c.loop-done.done c.args.news.now))
           (pixels_apart (take c.in-Ok-Some.count (drop c.loop-done.done c.args.news.now))
           (Rises-take by_code c.in-Ok-Some.count (drop c.loop-done.done c.args.news.now)
@@ -73,11 +70,7 @@ loop-done-preserved g c =
           (omega arith) alone));
       most = omega arith;
       faults = let m = c.loop-done.invariant.faults in let n = c.in-Ok-Some.ensures.cause.later in omega arith;
-      size = c.in-Ok-Some.ensures.size ∙ c.loop-done.invariant.size;
-      told = c.in-Ok-Some.ensures.told ∙ c.loop-done.invariant.told;
-      free = c.in-Ok-Some.ensures.free ∙ c.loop-done.invariant.free;
-      later = g.met.S.PageStore.goes_on _ _ _ c.loop-done.invariant.later c.in-Ok-Some.ensures.later;
-      changed = let m = c.loop-done.invariant.changed in let n = c.in-Ok-Some.ensures.changed in omega arith;
+      left = only_read_then _ _ _ _ _ g.met.S.PageStore.goes_on _ _ _ c.loop-done.invariant.left c.in-Ok-Some.ensures.left;
     }
 
 pub returns-clause-grown : goal.returns-clause-grown

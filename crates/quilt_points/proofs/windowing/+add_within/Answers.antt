@@ -1,6 +1,7 @@
 use Rattle.std.proofs.Common.{ℕ, ◌++◌, [], List, length, filter, get_or, sym, ◌∙◌, ap, subst, arith, Contains}
 use Rattle.std.proofs.lemmas.List.{append-nil}
 use Rattle.std.proofs.lemmas.Result.{on_ok_weaker}
+use Rattle.quilt_store.proofs.Reading.{only_read_then}
 use Rattle.quilt_types.specs.declared.plane.Block.{Block}
 use Rattle.quilt_types.specs.declared.plane.Point.{Point}
 use Rattle.quilt_types.specs.Plane.{in_window}
@@ -43,11 +44,7 @@ pub loop-q-init : goal.loop-q-init
 loop-q-init g t c = record {
   found = λ points h o. ([], sym (append-nil c.args.found.now.items), all_none points (in_window c.args.w));
   faults = c.in-Ok-None.ensures.cause.later;
-  size = c.in-Ok-None.ensures.size;
-  told = c.in-Ok-None.ensures.told;
-  free = c.in-Ok-None.ensures.free;
-  later = c.in-Ok-None.ensures.later;
-  changed = c.in-Ok-None.ensures.changed;
+  left = c.in-Ok-None.ensures.left;
 }
 
 pub add_within-requires : goal.add_within-requires
@@ -55,13 +52,13 @@ add_within-requires g t c κs within =
     let q = quarter_at c.args.layer.level c.args.b c.quarters-q-items.result c.loop-q.q-index
     (record { y = 0; x = 0; side = 0 }) c.requires.block c.if-b-le1.false c.quarters-q-items.ensures.value c.loop-q-test.true in
     let half = q.half in
-    let rooted = subst (λ (s : ℕ). IsRooted s c.args.tree.now) (sym c.loop-q.invariant.size) c.requires.rooted in
+    let rooted = subst (λ (s : ℕ). IsRooted s c.args.tree.now) (sym c.loop-q.invariant.left.size) c.requires.rooted in
     (omega arith, (within, (rooted, q.block)))
 
 pub returns-in-Err-add_within-clause-sound : goal.returns-in-Err-add_within-clause-sound
 returns-in-Err-add_within-clause-sound g t c points h o =
     c.in-Err-add_within.ensures.sound points
-    (has_along _ _ c.args.tree.now c.args.layer.number c.args.layer.level c.args.layer.bucket points c.loop-q.invariant.told h)
+    (has_along _ _ c.args.tree.now c.args.layer.number c.args.layer.level c.args.layer.bucket points c.loop-q.invariant.left.told h)
     (open_quarter c.args.layer.level c.args.layer.bucket points c.args.b o
     (match_none c.in-Ok-None.field-0 _ _ c.in-Ok-None.field-0-is (c.in-Ok-None.ensures.read points h)) c.if-b-le1.false
     (get_or c.quarters-q-items.result c.loop-q.q-index (record { y = 0; x = 0; side = 0 }))
@@ -76,7 +73,7 @@ loop-q-preserved g t c = record {
       found_next points (in_window c.args.w) c.args.layer.level c.args.b c.quarters-q-items.result c.loop-q.q-index
       (record { y = 0; x = 0; side = 0 }) c.requires.block c.if-b-le1.false c.quarters-q-items.ensures.value c.loop-q-test.true
       c.args.found.now.items c.loop-q.found.items c.add_within.new.found.items (c.loop-q.invariant.found points h o)
-      (c.in-Ok.ensures.found points (has_along _ _ c.args.tree.now c.args.layer.number c.args.layer.level c.args.layer.bucket points c.loop-q.invariant.told h)
+      (c.in-Ok.ensures.found points (has_along _ _ c.args.tree.now c.args.layer.number c.args.layer.level c.args.layer.bucket points c.loop-q.invariant.left.told h)
       (open_quarter c.args.layer.level c.args.layer.bucket points c.args.b o
       (match_none c.in-Ok-None.field-0 _ _ c.in-Ok-None.field-0-is (c.in-Ok-None.ensures.read points h)) c.if-b-le1.false
       (get_or c.quarters-q-items.result c.loop-q.q-index (record { y = 0; x = 0; side = 0 }))
@@ -85,11 +82,7 @@ loop-q-preserved g t c = record {
       (member_at c.quarters-q-items.result c.loop-q.q-index (record { y = 0; x = 0; side = 0 }) (let lt = c.loop-q-test.true in
       let four = ap length c.quarters-q-items.ensures.value in omega arith)))));
   faults = let m = c.loop-q.invariant.faults in let n = c.in-Ok.ensures.cause.later in omega arith;
-  size = c.in-Ok.ensures.size ∙ c.loop-q.invariant.size;
-  told = c.in-Ok.ensures.told ∙ c.loop-q.invariant.told;
-  free = c.in-Ok.ensures.free ∙ c.loop-q.invariant.free;
-  later = g.met.S.PageStore.goes_on _ _ _ c.loop-q.invariant.later c.in-Ok.ensures.later;
-  changed = let m = c.loop-q.invariant.changed in let n = c.in-Ok.ensures.changed in omega arith;
+  left = only_read_then _ _ _ _ _ g.met.S.PageStore.goes_on _ _ _ c.loop-q.invariant.left c.in-Ok.ensures.left;
 }
 
 pub returns-clause-found : goal.returns-clause-found

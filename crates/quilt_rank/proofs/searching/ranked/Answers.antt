@@ -1,4 +1,5 @@
 use Rattle.std.proofs.Common.{◌≡◌, ◌+◌, ◌≤◌, List, length, sym, ◌∙◌, subst, refl, arith}
+use Rattle.quilt_store.proofs.Reading.{only_read_then, only_read_same}
 use Rattle.quilt_types.specs.Quadtrees.{reach}
 use Rattle.quilt_store.specs.Store.{Tells}
 use Rattle.quilt_near.specs.Budgets.{is_close}
@@ -16,12 +17,8 @@ loop-distance-init g c =
     (g.met.B.SegBlocks.lines c.args.blocks.now c.args.store.now) (g.S.PageStore.reads c.args.store.now) _ c.in-Ok.ensures.first in
     record {
       going = subst (Going _ c.args.p c.args.k _ _ _ _) (sym c.new-ranks.ensures) first;
-      size = refl;
-      told = refl;
-      free = refl;
-      later = g.met.S.PageStore.same_time c.args.store.now;
+      left = only_read_same _ _ _ _ _ _ (g.met.S.PageStore.same_time c.args.store.now);
       faults = omega arith;
-      changed = omega arith;
     }
 
 pub open-requires-clause-block : goal.open-requires-clause-block
@@ -37,11 +34,11 @@ open-requires-clause-reached g c l s =
     (g.met.B.SegBlocks.lines c.args.blocks.now c.args.store.now) (g.S.PageStore.reads c.args.store.now)
     (g.S.PageStore.reads c.loop-distance.store) c.loop-distance.queue c.pop.new.self c.loop-distance.ranks (c.in-Some.distance, c.in-Some.block)
     c.loop-distance.invariant.going c.in-Some.ensures.taken l
-    (g.met.B.SegBlocks.same c.args.blocks.now c.loop-distance.store c.args.store.now l (sym c.loop-distance.invariant.told) s)
+    (g.met.B.SegBlocks.same c.args.blocks.now c.loop-distance.store c.args.store.now l (sym c.loop-distance.invariant.left.told) s)
 
 pub returns-in-Err-open-clause-sound : goal.returns-in-Err-open-clause-sound
 returns-in-Err-open-clause-sound g c l s =
-    c.in-Err-open.ensures.sound l (g.met.B.SegBlocks.same c.args.blocks.now c.args.store.now c.loop-distance.store l c.loop-distance.invariant.told s)
+    c.in-Err-open.ensures.sound l (g.met.B.SegBlocks.same c.args.blocks.now c.args.store.now c.loop-distance.store l c.loop-distance.invariant.left.told s)
 
 pub loop-distance-smaller : goal.loop-distance-smaller
 loop-distance-smaller g c =
@@ -61,14 +58,10 @@ loop-distance-preserved g c =
           (g.S.PageStore.reads c.loop-distance.store) c.loop-distance.queue c.pop.new.self c.loop-distance.ranks
           (c.in-Some.distance, c.in-Some.block) c.loop-distance.invariant.going c.in-Some.ensures.taken
           (g.S.PageStore.reads c.open.new.store) c.open.new.queue c.open.new.ranks (g.B.SegBlocks.shows c.args.blocks.now c.loop-distance.store)
-          (λ l s. g.met.B.SegBlocks.same c.args.blocks.now c.args.store.now c.loop-distance.store l i.told s)
+          (λ l s. g.met.B.SegBlocks.same c.args.blocks.now c.args.store.now c.loop-distance.store l i.left.told s)
           c.in-Some.ensures.least (sym c.is_past.ensures ∙ c.if-is_past.false) c.in-Ok-open.ensures.opened;
-      size = c.open.ensures.size ∙ i.size;
-      told = c.open.ensures.told ∙ i.told;
-      free = c.open.ensures.free ∙ i.free;
-      later = g.met.S.PageStore.goes_on c.args.store.now c.loop-distance.store c.open.new.store i.later c.open.ensures.later;
+      left = only_read_then _ _ _ _ _ g.met.S.PageStore.goes_on c.args.store.now c.loop-distance.store c.open.new.store i.left c.open.ensures.left;
       faults = (let a = c.open.ensures.cause.later in let b = i.faults in omega arith);
-      changed = (let a = c.open.ensures.changed in let b = i.changed in omega arith);
     }
 
 -- at either end those so far are the answer

@@ -1,4 +1,5 @@
 use Rattle.std.proofs.Common.{◌≡◌, ◌*◌, refl, sym, ◌∙◌, ap, subst, arith}
+use Rattle.quilt_store.proofs.Reading.{only_read_then, only_read_same}
 use Rattle.quilt_types.specs.declared.plane.Block.{Block}
 use Rattle.quilt_types.specs.Plane.{parent_of, IsBlock, Within}
 use Rattle.quilt_loc.proofs.Blocks.{side_most}
@@ -18,13 +19,9 @@ loop-larger-init g c = record {
   inside = Within-self c.args.b;
   same = λ grid h. around_self c.args.level grid c.args.b c.args.c.0;
   cut_out = λ grid h out. out;
-  size = refl;
-  told = refl;
-  free = refl;
-  later = g.met.S.PageStore.same_time c.args.store.now;
+  left = only_read_same _ _ _ _ _ _ (g.met.S.PageStore.same_time c.args.store.now);
   faults = omega arith;
   reads = λ j k d e. let same = pow_same j k (sym d ∙ e) in saved_none (24 * j) (24 * k) (g.S.PageStore.reads c.args.store.now) (omega arith);
-  changed = omega arith;
 }
 
 pub has_around-requires-clause-small : goal.has_around-requires-clause-small
@@ -53,22 +50,18 @@ loop-larger-preserved g c =
       block = subst (IsBlock n) (sym is) larger;
       inside = subst (Within c.args.b) (sym is) (Within-trans c.args.b top (parent_of top) inv.inside (Within-parent_of n top inv.block lt));
       same = λ grid h. around_more n grid c.args.b top c.in-Some.larger c.args.c.0 (inv.same grid h)
-          (more.yes c.in-Ok-true.field-0-test grid (subst (λ told. HasRegion told c.args.tree.now c.args.layer n grid) (sym inv.told) h));
-      cut_out = λ grid h out. more.cut_out c.in-Ok-true.field-0-test grid (subst (λ told. HasRegion told c.args.tree.now c.args.layer n grid) (sym inv.told) h);
-      size = more.size ∙ inv.size;
-      told = more.told ∙ inv.told;
-      free = more.free ∙ inv.free;
-      later = g.met.S.PageStore.goes_on _ _ _ inv.later more.later;
+          (more.yes c.in-Ok-true.field-0-test grid (subst (λ told. HasRegion told c.args.tree.now c.args.layer n grid) (sym inv.left.told) h));
+      cut_out = λ grid h out. more.cut_out c.in-Ok-true.field-0-test grid (subst (λ told. HasRegion told c.args.tree.now c.args.layer n grid) (sym inv.left.told) h);
+      left = only_read_then _ _ _ _ _ g.met.S.PageStore.goes_on _ _ _ inv.left more.left;
       faults = let a = inv.faults in let b = more.cause.later in omega arith;
       reads = λ j k d e.
           let next = level_more n top inv.block lt k (ap (λ (z : Block). z.side) (sym is) ∙ e) in
           saved_then (24 * j) (24 * inv.block.level) 24 (24 * k) _ _ _ (omega arith) (inv.reads j inv.block.level d inv.block.size) more.reads;
-      changed = let a = inv.changed in let b = more.changed in omega arith;
     }
 
 pub returns-in-Err-clause-sound : goal.returns-in-Err-clause-sound
 returns-in-Err-clause-sound g c grid h =
-    c.in-Err.ensures.sound grid (subst (λ told. HasRegion told c.args.tree.now c.args.layer c.args.level grid) (sym c.loop-larger.invariant.told) h)
+    c.in-Err.ensures.sound grid (subst (λ told. HasRegion told c.args.tree.now c.args.layer c.args.level grid) (sym c.loop-larger.invariant.left.told) h)
 
 pub returns-in-Err-clause-reads : goal.returns-in-Err-clause-reads
 returns-in-Err-clause-reads g c j d =
@@ -81,7 +74,7 @@ pub returns-in-Ok-false-clause-ends : goal.returns-in-Ok-false-clause-ends
 returns-in-Ok-false-clause-ends g c grid h out lt has =
     let n = c.args.level in
     let inv = c.loop-larger.invariant in
-    c.in-Ok-false.ensures.no c.in-Ok-false.field-0-test grid (subst (λ told. HasRegion told c.args.tree.now c.args.layer n grid) (sym inv.told) h)
+    c.in-Ok-false.ensures.no c.in-Ok-false.field-0-test grid (subst (λ told. HasRegion told c.args.tree.now c.args.layer n grid) (sym inv.left.told) h)
     (inv.cut_out grid h out)
     (subst (λ (l : Block). HasAround n grid l c.loop-larger.top c.args.c.0) (sym c.in-Some.ensures.value) has)
 

@@ -1,6 +1,7 @@
 use Rattle.std.proofs.Common.{◌≡◌, ℕ, ◌+◌, ◌*◌, ◌^◌, ◌<◌, get_or, sym, ◌∙◌, ap, subst, ⊎_elim, Contains, arith}
 use Rattle.std.proofs.lemmas.Bool.{cases_lt}
 use Rattle.std.proofs.lemmas.List.{get_or_default}
+use Rattle.quilt_store.proofs.Reading.{only_read_then}
 use Rattle.quilt_types.specs.declared.plane.Block.{Block}
 use Rattle.quilt_types.specs.Plane.{quarters_of, parent_of, IsBlock}
 use Rattle.quilt_types.specs.Quadtrees.{is_uniform, leaves}
@@ -35,7 +36,7 @@ has_quarter-requires-clause-block g c =
 
 pub returns-in-Err-clause-sound : goal.returns-in-Err-clause-sound
 returns-in-Err-clause-sound g c grid h =
-    c.in-Err.ensures.sound grid (subst (λ told. HasRegion told c.args.tree.now c.args.layer c.args.level grid) (sym c.loop-q.invariant.told) h)
+    c.in-Err.ensures.sound grid (subst (λ told. HasRegion told c.args.tree.now c.args.layer c.args.level grid) (sym c.loop-q.invariant.left.told) h)
 
 pub loop-q-preserved : goal.loop-q-preserved
 loop-q-preserved g c =
@@ -52,16 +53,12 @@ loop-q-preserved g c =
           ap (λ l. get_or l c.loop-q.q-index z) c.quarters-q-items.ensures.value
           ∙ get_or_default (quarters_of c.args.larger) c.loop-q.q-index z d test ∙ ap (λ i. get_or (quarters_of c.args.larger) i d) (sym at) in
           subst (λ (b : Block). Contains (leaves c.args.level grid) (b, c.args.c.0)) q
-          (more.yes c.in-Ok-true.field-0-test grid (subst (λ told. HasRegion told c.args.tree.now c.args.layer c.args.level grid) (sym inv.told) h)
+          (more.yes c.in-Ok-true.field-0-test grid (subst (λ told. HasRegion told c.args.tree.now c.args.layer c.args.level grid) (sym inv.left.told) h)
           (λ e. differ (sym q ∙ e))))
           (cases_lt j c.loop-q.q-index);
-      size = more.size ∙ inv.size;
-      told = more.told ∙ inv.told;
-      free = more.free ∙ inv.free;
-      later = g.met.S.PageStore.goes_on _ _ _ inv.later more.later;
+      left = only_read_then _ _ _ _ _ g.met.S.PageStore.goes_on _ _ _ inv.left more.left;
       faults = let a = inv.faults in let b = more.cause.later in omega arith;
       reads = reads_then (6 * c.loop-q.q-index) 6 (6 * (c.loop-q.q-index + 1)) _ _ _ (omega arith) inv.reads more.reads;
-      changed = let a = inv.changed in let b = more.changed in omega arith;
     }
 
 pub returns-in-Ok-false-clause-no : goal.returns-in-Ok-false-clause-no
@@ -72,7 +69,7 @@ returns-in-Ok-false-clause-no g c f grid h out has =
     let z : Block = record { y = 0; x = 0; side = 0 } in
     let q = get_or c.quarters-q-items.result c.loop-q.q-index z in
     let test = c.loop-q-test.true in
-    let no = c.in-Ok-false.ensures.no c.in-Ok-false.field-0-test grid (subst (λ told. HasRegion told c.args.tree.now c.args.layer n grid) (sym inv.told) h) in
+    let no = c.in-Ok-false.ensures.no c.in-Ok-false.field-0-test grid (subst (λ told. HasRegion told c.args.tree.now c.args.layer n grid) (sym inv.left.told) h) in
     let is : get_or c.quarters-q-items.result c.loop-q.q-index z ≡ get_or (quarters_of (parent_of b)) c.loop-q.q-index z =
     ap (λ l. get_or l c.loop-q.q-index z) (c.quarters-q-items.ensures.value ∙ ap quarters_of c.requires.larger) in
     let there : Contains (quarters_of (parent_of b)) q =

@@ -12,13 +12,13 @@ has_around-requires-clause-small g c = not_whole c.args.level c.in-Ok.b c.in-Ok.
 
 pub returns-in-Err-has_around-clause-sound : goal.returns-in-Err-has_around-clause-sound
 returns-in-Err-has_around-clause-sound g c grid h =
-    c.in-Err-has_around.ensures.sound grid (subst (λ told. HasRegion told c.args.tree.now c.args.layer c.args.level grid) (sym c.in-Ok.ensures.told) h)
+    c.in-Err-has_around.ensures.sound grid (subst (λ told. HasRegion told c.args.tree.now c.args.layer c.args.level grid) (sym c.in-Ok.ensures.left.told) h)
 
 pub returns-in-Ok-false-clause-knows : goal.returns-in-Ok-false-clause-knows
 returns-in-Ok-false-clause-knows g c grid h =
     let n = c.args.level in
     let b = c.in-Ok.b in
-    let after = subst (λ told. HasRegion told c.args.tree.now c.args.layer n grid) (sym c.in-Ok.ensures.told) h in
+    let after = subst (λ told. HasRegion told c.args.tree.now c.args.layer n grid) (sym c.in-Ok.ensures.left.told) h in
     let cut_out = c.in-Ok.ensures.cut_out grid h in
     record {
       blocks = record { read = c.in-Ok.ensures.block; top = c.in-Ok.ensures.block; inside = Within-self b };

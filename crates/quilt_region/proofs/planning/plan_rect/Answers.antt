@@ -42,7 +42,7 @@ returns-in-Ok-Some-clause-pixel g c wide high grid h =
 pub returns-in-Ok-None-clause-sound : goal.returns-in-Ok-None-clause-sound
 returns-in-Ok-None-clause-sound g c =
     if_err_weaker c.plan_together.result
-    (λ e law grid h. law grid (subst (λ told. HasRegion told c.args.tree.now c.args.layer c.args.level grid) (sym c.in-Ok-None.ensures.told) h))
+    (λ e law grid h. law grid (subst (λ told. HasRegion told c.args.tree.now c.args.layer c.args.level grid) (sym c.in-Ok-None.ensures.left.told) h))
     c.plan_together.ensures.sound
 
 pub returns-in-Ok-None-clause-reads : goal.returns-in-Ok-None-clause-reads
@@ -52,7 +52,7 @@ returns-in-Ok-None-clause-reads g c =
     let n = c.args.level in
     let most = 15 + 24 * n + 3 * length (leaves_within n grid b) in
     let tried = c.in-Ok-None.ensures.tried (ap is_some c.in-Ok-None.field-0-is) in
-    let rest = law grid b tried.0 (subst (λ told. HasRegion told c.args.tree.now c.args.layer n grid) (sym c.in-Ok-None.ensures.told) h) hb holds tried.1 in
+    let rest = law grid b tried.0 (subst (λ told. HasRegion told c.args.tree.now c.args.layer n grid) (sym c.in-Ok-None.ensures.left.told) h) hb holds tried.1 in
     saved_less (24 * tried.0) (24 * tried.0 + most) most _ _ (omega arith)
     (then_saved (24 * tried.0) (24 * tried.0) most (24 * tried.0 + most) _ _ _ (omega arith) tried.2 rest))
     c.plan_together.ensures.reads
@@ -69,7 +69,7 @@ returns-in-Ok-None-clause-pixel g c wide high =
     let one = pixel_within n grid w.x w.y c.requires.level.1 hb in
     let most = 15 + 24 * n + 3 * own in
     let tried = c.in-Ok-None.ensures.tried (ap is_some c.in-Ok-None.field-0-is) in
-    let rest = law grid b tried.0 (subst (λ told. HasRegion told c.args.tree.now c.args.layer n grid) (sym c.in-Ok-None.ensures.told) h) hb
+    let rest = law grid b tried.0 (subst (λ told. HasRegion told c.args.tree.now c.args.layer n grid) (sym c.in-Ok-None.ensures.left.told) h) hb
     (pixel_holds w wide high) tried.1 in
     saved_less (24 * tried.0) (24 * tried.0 + most) (18 + 24 * n) _ _ (omega arith)
     (then_saved (24 * tried.0) (24 * tried.0) most (24 * tried.0 + most) _ _ _ (omega arith) tried.2 rest))

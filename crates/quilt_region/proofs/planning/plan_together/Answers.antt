@@ -12,7 +12,7 @@ use Rattle.quilt_region.proofs.planning.plan_together.Goals as goal
 
 pub returns-in-Err-records_in-clause-sound : goal.returns-in-Err-records_in-clause-sound
 returns-in-Err-records_in-clause-sound g c grid h =
-    c.in-Err-records_in.ensures.sound grid (subst (λ told. HasRegion told c.args.tree.now c.args.layer c.args.level grid) (sym c.in-Ok.ensures.told) h)
+    c.in-Err-records_in.ensures.sound grid (subst (λ told. HasRegion told c.args.tree.now c.args.layer c.args.level grid) (sym c.in-Ok.ensures.left.told) h)
 
 pub returns-in-Ok-records_in-clause-plan : goal.returns-in-Ok-records_in-clause-plan
 returns-in-Ok-records_in-clause-plan g c =
@@ -21,7 +21,7 @@ returns-in-Ok-records_in-clause-plan g c =
     let n = c.args.level in
     let leads =
     law grid (c.deref.ensures.value ∙ c.in-Ok-records_in.ensures.records grid
-    (subst (λ told. HasRegion told c.args.tree.now c.args.layer n grid) (sym c.in-Ok.ensures.told) h)) (c.in-Ok.ensures.knows grid h) in
+    (subst (λ told. HasRegion told c.args.tree.now c.args.layer n grid) (sym c.in-Ok.ensures.left.told) h)) (c.in-Ok.ensures.knows grid h) in
     subst (λ (d : Colour). LeadsTo n c.args.layer grid (painted n grid c.args.w d.0) edits) c.in-Ok.ensures.colour leads)
     c.plan_known.ensures.plan
 
@@ -30,7 +30,7 @@ returns-in-Ok-records_in-clause-sound g c =
     if_err_weaker c.plan_known.result
     (λ e law grid h.
     law grid (c.deref.ensures.value ∙ c.in-Ok-records_in.ensures.records grid
-    (subst (λ told. HasRegion told c.args.tree.now c.args.layer c.args.level grid) (sym c.in-Ok.ensures.told) h)) (c.in-Ok.ensures.knows grid h))
+    (subst (λ told. HasRegion told c.args.tree.now c.args.layer c.args.level grid) (sym c.in-Ok.ensures.left.told) h)) (c.in-Ok.ensures.knows grid h))
     c.plan_known.ensures.sound
 
 pub returns-in-Ok-records_in-clause-reads : goal.returns-in-Ok-records_in-clause-reads
@@ -40,7 +40,7 @@ returns-in-Ok-records_in-clause-reads g c =
     let n = c.args.level in
     let few = c.in-Ok.ensures.few grid b h hb holds in
     let own = length (leaves_within n grid c.in-Ok.known.read) in
-    let read = c.in-Ok-records_in.ensures.reads grid (subst (λ told. HasRegion told c.args.tree.now c.args.layer n grid) (sym c.in-Ok.ensures.told) h) in
+    let read = c.in-Ok-records_in.ensures.reads grid (subst (λ told. HasRegion told c.args.tree.now c.args.layer n grid) (sym c.in-Ok.ensures.left.told) h) in
     let known = c.in-Ok.ensures.blocks.read in
     let up = power_le j known.level known.size (most c.in-Ok.known.read known c.in-Ok.ensures.holds) in
     saved_more (24 * known.level) (24 * j) (12 + 24 * n + 3 * own) (15 + 24 * n + 3 * length (leaves_within n grid b)) _ _ (omega arith)

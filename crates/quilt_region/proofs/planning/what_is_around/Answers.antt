@@ -5,7 +5,7 @@ use Rattle.quilt_region.proofs.planning.what_is_around.Goals as goal
 
 pub returns-in-Ok-block_up_to-clause-knows : goal.returns-in-Ok-block_up_to-clause-knows
 returns-in-Ok-block_up_to-clause-knows g c grid h =
-    let after = subst (λ told. HasRegion told c.args.tree.now c.args.layer c.args.level grid) (sym c.in-Ok.ensures.told) h in
+    let after = subst (λ told. HasRegion told c.args.tree.now c.args.layer c.args.level grid) (sym c.in-Ok.ensures.left.told) h in
     let cut_out = c.in-Ok.ensures.cut_out grid h in
     let up = c.in-Ok-block_up_to.ensures in
     record {
@@ -21,7 +21,7 @@ returns-in-Ok-block_up_to-clause-knows g c grid h =
 
 pub returns-in-Err-block_up_to-clause-sound : goal.returns-in-Err-block_up_to-clause-sound
 returns-in-Err-block_up_to-clause-sound g c grid h =
-    c.in-Err-block_up_to.ensures.sound grid (subst (λ told. HasRegion told c.args.tree.now c.args.layer c.args.level grid) (sym c.in-Ok.ensures.told) h)
+    c.in-Err-block_up_to.ensures.sound grid (subst (λ told. HasRegion told c.args.tree.now c.args.layer c.args.level grid) (sym c.in-Ok.ensures.left.told) h)
 
 pub returns-in-Ok-block_up_to-clause-reads : goal.returns-in-Ok-block_up_to-clause-reads
 returns-in-Ok-block_up_to-clause-reads g c j e =

@@ -97,11 +97,11 @@ returns-in_default-clause-reads g t c =
 
 pub returns-in-Err-plan_quarters-clause-sound : goal.returns-in-Err-plan_quarters-clause-sound
 returns-in-Err-plan_quarters-clause-sound g t c grid h =
-    c.in-Err-plan_quarters.ensures.sound grid (subst (λ told. HasRegion told c.args.tree.now c.args.layer c.args.level grid) (sym c.in-Ok-Some.ensures.told) h)
+    c.in-Err-plan_quarters.ensures.sound grid (subst (λ told. HasRegion told c.args.tree.now c.args.layer c.args.level grid) (sym c.in-Ok-Some.ensures.left.told) h)
 
 pub returns-in-Err-plan_part-clause-sound : goal.returns-in-Err-plan_part-clause-sound
 returns-in-Err-plan_part-clause-sound g t c grid h =
-    let after = subst (λ told. HasRegion told c.args.tree.now c.args.layer c.args.level grid) (sym (c.in-Ok-true.ensures.told ∙ c.in-Ok-Some.ensures.told)) h in
+    let after = subst (λ told. HasRegion told c.args.tree.now c.args.layer c.args.level grid) (sym (c.in-Ok-true.ensures.left.told ∙ c.in-Ok-Some.ensures.left.told)) h in
     let law : (grid : Grid) → HasRegion (g.S.PageStore.told c.args.store.now) c.args.tree.now c.args.layer c.args.level grid
     → Knows c.args.level grid c.in-Some.v c.in-Ok-Some.known =
     some_at (λ (k : Known). (grid : Grid) → HasRegion (g.S.PageStore.told c.args.store.now) c.args.tree.now c.args.layer c.args.level grid
@@ -121,9 +121,9 @@ returns-in-Ok-clause-remove g t c test grid h several =
     some_at (λ (k : Known). (grid : Grid) → HasRegion (g.S.PageStore.told c.args.store.now) c.args.tree.now c.args.layer c.args.level grid
     → Knows c.args.level grid c.in-Some.v k) c.in-Ok-Some.field-0 c.in-Ok-Some.known c.in-Ok-Some.field-0-is c.in-Ok-Some.ensures.knows in
     let knows = law grid h in
-    let told = c.in-Ok-Some.ensures.told in
+    let told = c.in-Ok-Some.ensures.left.told in
     let after = subst (λ told. HasRegion told c.args.tree.now c.args.layer n grid) (sym told) h in
-    let later = subst (λ told. HasRegion told c.args.tree.now c.args.layer n grid) (sym (c.in-Ok-true.ensures.told ∙ told)) h in
+    let later = subst (λ told. HasRegion told c.args.tree.now c.args.layer n grid) (sym (c.in-Ok-true.ensures.left.told ∙ told)) h in
     let part = with_part n c.args.layer grid c.args.w c.args.c.0 c.args.b le c.requires.window c.requires.block c.requires.wide _ at.member
     c.in-Some.v c.in-Ok-Some.known c.in-Some.ensures.some colour knows
     (some_at (λ (k : Known). k.top.side < (get_or c.quarters.result (c.args.count - 1) zero_block).side) c.in-Ok-Some.field-0 c.in-Ok-Some.known
@@ -146,9 +146,9 @@ returns-in-Ok-clause-add g t c test grid h several =
     some_at (λ (k : Known). (grid : Grid) → HasRegion (g.S.PageStore.told c.args.store.now) c.args.tree.now c.args.layer c.args.level grid
     → Knows c.args.level grid c.in-Some.v k) c.in-Ok-Some.field-0 c.in-Ok-Some.known c.in-Ok-Some.field-0-is c.in-Ok-Some.ensures.knows in
     let knows = law grid h in
-    let told = c.in-Ok-Some.ensures.told in
+    let told = c.in-Ok-Some.ensures.left.told in
     let after = subst (λ told. HasRegion told c.args.tree.now c.args.layer n grid) (sym told) h in
-    let later = subst (λ told. HasRegion told c.args.tree.now c.args.layer n grid) (sym (c.in-Ok-true.ensures.told ∙ told)) h in
+    let later = subst (λ told. HasRegion told c.args.tree.now c.args.layer n grid) (sym (c.in-Ok-true.ensures.left.told ∙ told)) h in
     let part = with_part n c.args.layer grid c.args.w c.args.c.0 c.args.b le c.requires.window c.requires.block c.requires.wide _ at.member
     c.in-Some.v c.in-Ok-Some.known c.in-Some.ensures.some colour knows
     (some_at (λ (k : Known). k.top.side < (get_or c.quarters.result (c.args.count - 1) zero_block).side) c.in-Ok-Some.field-0 c.in-Ok-Some.known
@@ -181,9 +181,9 @@ returns-in-Ok-clause-reads g t c test grid h =
     let le = c.requires.level.1 in
     let some : 1 ≤ c.args.count = omega (arith, c.if-count-eq0.false) in
     let at = quarter_is c.args.b c.quarters.result c.args.count _ c.quarters.ensures.value some c.requires.most n c.requires.block c.requires.wide in
-    let told = c.in-Ok-Some.ensures.told in
+    let told = c.in-Ok-Some.ensures.left.told in
     let after = subst (λ told. HasRegion told c.args.tree.now c.args.layer n grid) (sym told) h in
-    let later = subst (λ told. HasRegion told c.args.tree.now c.args.layer n grid) (sym (c.in-Ok-true.ensures.told ∙ told)) h in
+    let later = subst (λ told. HasRegion told c.args.tree.now c.args.layer n grid) (sym (c.in-Ok-true.ensures.left.told ∙ told)) h in
     let f : Block → ℕ = λ q. length (leaves_within n grid q) in
     let sum = sum_step c.args.b c.quarters.result c.args.count zero_block c.quarters.ensures.value some c.requires.most f in
     let law : (grid : Grid) → HasRegion (g.S.PageStore.told c.args.store.now) c.args.tree.now c.args.layer c.args.level grid

@@ -1,4 +1,5 @@
 use Rattle.std.proofs.Common.{List, sym, ◌∙◌, subst, refl, arith}
+use Rattle.quilt_store.proofs.Reading.{only_read_then, only_read_same}
 use Rattle.quilt_types.specs.declared.plane.Window.{Window}
 use Rattle.quilt_select.specs.Descents.{IsOpened}
 use Rattle.quilt_select.proofs.Descending.{going_start, going_on, going_end, going_reads, first_valid, first_reached, less_left}
@@ -11,12 +12,8 @@ loop-block-init g c =
           (g.met.B.SegBlocks.lines c.args.blocks.now c.args.store.now) (g.S.PageStore.reads c.args.store.now)
           c.push.new.self c.new-found.result.entries _ c.args.windows.items c.new-stack.result c.whole_square.ensures.square
           refl c.new-stack.ensures c.in-Ok.ensures c.new-found.ensures.empty;
-      size = refl;
-      told = refl;
-      free = refl;
-      later = g.met.S.PageStore.same_time c.args.store.now;
+      left = only_read_same _ _ _ _ _ _ (g.met.S.PageStore.same_time c.args.store.now);
       faults = omega arith;
-      changed = omega arith;
     }
 
 pub open-requires-clause-block : goal.open-requires-clause-block
@@ -32,11 +29,11 @@ open-requires-clause-reached g c l s =
     (g.met.B.SegBlocks.lines c.args.blocks.now c.args.store.now) (g.S.PageStore.reads c.args.store.now)
     (g.S.PageStore.reads c.loop-block.store) c.loop-block.stack (c.in-Some.block, c.in-Some.near.items) c.pop.new.self c.loop-block.found.entries
     c.loop-block.invariant.going c.in-Some.ensures.taken
-    l (g.met.B.SegBlocks.same c.args.blocks.now c.loop-block.store c.args.store.now l (sym c.loop-block.invariant.told) s)
+    l (g.met.B.SegBlocks.same c.args.blocks.now c.loop-block.store c.args.store.now l (sym c.loop-block.invariant.left.told) s)
 
 pub returns-in-Err-open-clause-sound : goal.returns-in-Err-open-clause-sound
 returns-in-Err-open-clause-sound g c l s =
-    c.in-Err-open.ensures.sound l (g.met.B.SegBlocks.same c.args.blocks.now c.args.store.now c.loop-block.store l c.loop-block.invariant.told s)
+    c.in-Err-open.ensures.sound l (g.met.B.SegBlocks.same c.args.blocks.now c.args.store.now c.loop-block.store l c.loop-block.invariant.left.told s)
 
 pub loop-block-smaller : goal.loop-block-smaller
 loop-block-smaller g c =
@@ -58,16 +55,12 @@ loop-block-preserved g c =
           (g.S.PageStore.reads c.loop-block.store) c.loop-block.stack (c.in-Some.block, c.in-Some.near.items)
           c.pop.new.self c.loop-block.found.entries c.loop-block.invariant.going c.in-Some.ensures.taken
           (g.S.PageStore.reads c.open.new.store) c.open.new.stack c.open.new.found.entries (g.B.SegBlocks.shows c.args.blocks.now c.loop-block.store)
-          (λ l s. g.met.B.SegBlocks.same c.args.blocks.now c.args.store.now c.loop-block.store l i.told s)
+          (λ l s. g.met.B.SegBlocks.same c.args.blocks.now c.args.store.now c.loop-block.store l i.left.told s)
           (subst (λ (near : List Window). IsOpened c.in-Some.block near (g.B.SegBlocks.shows c.args.blocks.now c.loop-block.store)
           c.pop.new.self c.open.new.stack c.loop-block.found.entries c.open.new.found.entries (g.S.PageStore.reads c.loop-block.store)
           (g.S.PageStore.reads c.open.new.store)) c.deref.ensures.value c.in-Ok-open.ensures.opened);
-      size = c.open.ensures.size ∙ i.size;
-      told = c.open.ensures.told ∙ i.told;
-      free = c.open.ensures.free ∙ i.free;
-      later = g.met.S.PageStore.goes_on c.args.store.now c.loop-block.store c.open.new.store i.later c.open.ensures.later;
+      left = only_read_then _ _ _ _ _ g.met.S.PageStore.goes_on c.args.store.now c.loop-block.store c.open.new.store i.left c.open.ensures.left;
       faults = (let a = c.open.ensures.cause.later in let b = i.faults in omega arith);
-      changed = (let a = c.open.ensures.changed in let b = i.changed in omega arith);
     }
 
 pub returns-clause-selected : goal.returns-clause-selected

@@ -1,4 +1,5 @@
 use Rattle.std.proofs.Common.{◌≡◌, ◌≤◌}
+use Rattle.quilt_store.specs.Store.{IsOnlyRead}
 use Rattle.quilt_near.proofs.Owing.{left}
 use Rattle.quilt_select.proofs.Descending.{Going, block_of}
 use Rattle.quilt_select.proofs.descent.select.Given as goal
@@ -7,12 +8,8 @@ abbrev pub invariant-loop-block : goal.invariant-loop-block
 invariant-loop-block g l = record {
   going : Going (g.B.SegBlocks.level_of l.blocks) l.fn.windows.items (g.B.SegBlocks.shows l.blocks l.fn.store) (g.S.PageStore.reads l.fn.store)
       (g.S.PageStore.reads l.store) l.stack l.found.entries;
-  size : g.S.PageStore.size l.store ≡ g.S.PageStore.size l.fn.store;
-  told : g.S.PageStore.told l.store ≡ g.S.PageStore.told l.fn.store;
-  free : g.S.PageStore.free l.store ≡ g.S.PageStore.free l.fn.store;
-  later : g.S.PageStore.later l.fn.store l.store;
+  left : IsOnlyRead g.S.PageStore.size g.S.PageStore.told g.S.PageStore.free g.S.PageStore.later g.S.PageStore.changed l.fn.store l.store;
   faults : g.S.PageStore.faults l.fn.store ≤ g.S.PageStore.faults l.store;
-  changed : g.S.PageStore.changed l.store ≤ g.S.PageStore.changed l.fn.store;
 }
 
 abbrev pub decreases-loop-block : goal.decreases-loop-block

@@ -19,7 +19,7 @@ pub returns-in_default-create-clause-promises : goal.returns-in_default-create-c
 returns-in_default-create-clause-promises g c =
     let is = c.in-Ok.ensures.door ∙ ap (λ m. made (Ok m)) c.in-Ready.is in
     let rose : Rose _ _ = where_not_ok _ _ c.create.ensures.cause.failed c.in_default-create.not-Ok in
-    create_stopped c.args.path.now c.args.pages c.args.level _ is _ _ c.create.ensures.door (omega (arith, c.make.ensures.cause.later, rose)) _ _ _
+    create_stopped c.args.path.now c.args.pages c.args.level _ is _ _ c.create.ensures.device.door (omega (arith, c.make.ensures.cause.later, rose)) _ _ _
     (rw c.file_pages.ensures at c.make.ensures.tale) c.create.ensures.crash
 
 pub returns-in_default-put_all-clause-promises : goal.returns-in_default-put_all-clause-promises
@@ -29,7 +29,7 @@ returns-in_default-put_all-clause-promises g c =
     let part = where_not_ok _ _ c.put_all.ensures.part c.in_default-put_all.not-Ok in
     let says = subst (λ (line : List ℕ). Goes (SaysFront line) (g.W.Disk.told c.create.new.disk) (g.W.Disk.told c.put_all.new.world)) c.requires.line part in
     let both = goes_and (SaysFront (new_line c.args.pages c.args.level)) (AddsOnly is_of_text) _ _ says c.put_all.ensures.text in
-    put_stopped c.args.path.now c.args.pages c.args.level _ is _ _ (c.put_all.ensures.door ∙ c.create.ensures.door)
+    put_stopped c.args.path.now c.args.pages c.args.level _ is _ _ (c.put_all.ensures.door ∙ c.create.ensures.device.door)
     (omega (arith, c.make.ensures.cause.later, c.create.ensures.cause.later, rose)) _ _ _ _
     (rw c.file_pages.ensures at c.make.ensures.tale) c.create.ensures.crash c.in-Ok-create.ensures.created both
 
@@ -39,5 +39,5 @@ returns-clause-promises g c =
     let says = subst (λ (line : List ℕ). Goes (Says line) (g.W.Disk.told c.create.new.disk) (g.W.Disk.told c.put_all.new.world))
     c.requires.line c.in-Ok-put_all.ensures.said in
     let both = goes_and (Says (new_line c.args.pages c.args.level)) (AddsOnly is_of_text) _ _ says c.put_all.ensures.text in
-    all_done c.args.path.now c.args.pages c.args.level _ is _ _ _ (c.put_all.ensures.door ∙ c.create.ensures.door) _ _ _ _
+    all_done c.args.path.now c.args.pages c.args.level _ is _ _ _ (c.put_all.ensures.door ∙ c.create.ensures.device.door) _ _ _ _
     (rw c.file_pages.ensures at c.make.ensures.tale) c.create.ensures.crash c.in-Ok-create.ensures.created both (g.met.W.Disk.is_consistent c.put_all.new.world)

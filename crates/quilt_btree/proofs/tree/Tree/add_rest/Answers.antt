@@ -1,6 +1,7 @@
 use Rattle.std.proofs.Common.{◌≡◌, true, ◌<◌, ◌∙◌, vec_len, arith}
 use Rattle.std.proofs.lemmas.Result.{err_from_is_err_and}
 use Rattle.std.specs.Ordering.{is_lt}
+use Rattle.quilt_store.proofs.Reading.{only_read_then}
 use Rattle.quilt_record.specs.Records.{key_cmp}
 use Rattle.quilt_btree.proofs.Spans.{le_on, at_some}
 use Rattle.quilt_btree.proofs.Rests.{if_some, none_is, loop_goes_on, loop_ends, loop_sound, loop_reads}
@@ -12,7 +13,7 @@ returns-in_err-k-clause-sound g c =
     let p = err_from_is_err_and c.from_residual.result c.from_residual.ensures.1 in
     rw (p.1, p.2) (loop_sound _ (g.S.PageStore.told c.args.store.now) (g.S.PageStore.told c.loop-k.store)
     c.args.self.now c.args.high.now c.args.from.now c.loop-k.next c.args.most c.args.records.now.items c.loop-k.records.items
-    c.loop-k.invariant.told c.loop-k.invariant.goes_on c.in_err-k.ensures.sound)
+    c.loop-k.invariant.left.told c.loop-k.invariant.goes_on c.in_err-k.ensures.sound)
 
 pub loop-k-preserved : goal.loop-k-preserved
 loop-k-preserved g c =
@@ -20,7 +21,7 @@ loop-k-preserved g c =
     record {
       goes_on = loop_goes_on c.in_ok-k.field-0 (g.S.PageStore.told c.args.store.now) (g.S.PageStore.told c.loop-k.store) c.args.self.now
           c.args.high.now c.args.from.now c.loop-k.next c.in-Some.k c.args.most c.args.records.now.items c.loop-k.records.items c.add_next.new.records.items
-          c.loop-k.invariant.told c.in-Some.is c.loop-k.invariant.goes_on c.in_ok-k.ensures.goes_on;
+          c.loop-k.invariant.left.told c.in-Some.is c.loop-k.invariant.goes_on c.in_ok-k.ensures.goes_on;
       room = c.in_ok-k.ensures.room;
       within = λ low le old.
           let so_far = c.loop-k.invariant.within low le old in
@@ -28,20 +29,16 @@ loop-k-preserved g c =
           (le_on low c.loop-k.next c.in-Some.k so_far.0 on, c.in_ok-k.ensures.within low so_far.0 so_far.1);
       more = let m = c.loop-k.invariant.more in let n = c.in_ok-k.ensures.more in omega arith;
       faults = let m = c.loop-k.invariant.faults in let n = c.in_ok-k.ensures.cause.later in omega arith;
-      size = c.in_ok-k.ensures.size ∙ c.loop-k.invariant.size;
-      told = c.in_ok-k.ensures.told ∙ c.loop-k.invariant.told;
-      free = c.in_ok-k.ensures.free ∙ c.loop-k.invariant.free;
-      later = g.met.S.PageStore.goes_on _ _ _ c.loop-k.invariant.later c.in_ok-k.ensures.later;
+      left = only_read_then _ _ _ _ _ g.met.S.PageStore.goes_on _ _ _ c.loop-k.invariant.left c.in_ok-k.ensures.left;
       reads = loop_reads _ _ _ (vec_len c.args.records.now) (vec_len c.loop-k.records)
           (vec_len c.add_next.new.records) adds c.loop-k.invariant.reads c.in_ok-k.ensures.reads;
-      changed = let m = c.loop-k.invariant.changed in let n = c.in_ok-k.ensures.changed in omega arith;
     }
 
 pub returns-clause-rest : goal.returns-clause-rest
 returns-clause-rest g c =
     loop_ends c.in_ok-k.field-0 (g.S.PageStore.told c.args.store.now) (g.S.PageStore.told c.loop-k.store)
     c.args.self.now c.args.high.now c.args.from.now c.loop-k.next c.args.most c.args.records.now.items c.loop-k.records.items c.add_next.new.records.items
-    c.loop-k.invariant.told (none_is c.in_ok-k.field-0 c.in_default.not-Some) c.loop-k.invariant.goes_on c.in_ok-k.ensures.ends
+    c.loop-k.invariant.left.told (none_is c.in_ok-k.field-0 c.in_default.not-Some) c.loop-k.invariant.goes_on c.in_ok-k.ensures.ends
 
 pub returns-clause-within : goal.returns-clause-within
 returns-clause-within g c = λ low le old.
@@ -52,4 +49,4 @@ pub returns-in_err-k-clause-bad : goal.returns-in_err-k-clause-bad
 returns-in_err-k-clause-bad g c =
     let p = err_from_is_err_and c.from_residual.result c.from_residual.ensures.1 in
     rw (p.1, p.2) (names_along (g.S.PageStore.told c.args.store.now) (g.S.PageStore.told c.loop-k.store) c.args.self.now.height c.args.self.now.root
-    _ c.loop-k.invariant.told c.in_err-k.ensures.bad)
+    _ c.loop-k.invariant.left.told c.in_err-k.ensures.bad)

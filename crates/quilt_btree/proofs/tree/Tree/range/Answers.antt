@@ -52,7 +52,7 @@ pub returns-in-Err-add_rest-clause-sound : goal.returns-in-Err-add_rest-clause-s
 returns-in-Err-add_rest-clause-sound g c =
     first_sound (g.S.PageStore.told c.args.store.now) (g.S.PageStore.told c.leaf_at.new.store) c.args.self.now c.args.low.now c.args.high.now
     c.in-Some.next c.args.most (records_of c.leaf_at.new.bytes) c.add_leaf.new.records.items c.in-Ok.found.high c.in-Err-add_rest.e
-    c.in-Ok.ensures.told (record {
+    c.in-Ok.ensures.left.told (record {
       some = c.if-self-eq0.false;
       leads = c.in-Ok.ensures.leads;
       cut = c.in-Ok.ensures.cut;
@@ -69,7 +69,7 @@ pub returns-in-Ok-add_rest-clause-range : goal.returns-in-Ok-add_rest-clause-ran
 returns-in-Ok-add_rest-clause-range g c =
     first_result (g.S.PageStore.told c.args.store.now) (g.S.PageStore.told c.leaf_at.new.store) c.args.self.now c.args.low.now c.args.high.now
     c.in-Some.next c.args.most (records_of c.leaf_at.new.bytes) c.add_leaf.new.records.items c.add_rest.new.records.items c.in-Ok.found.high
-    c.in-Ok.ensures.told (record {
+    c.in-Ok.ensures.left.told (record {
       some = c.if-self-eq0.false;
       leads = c.in-Ok.ensures.leads;
       cut = c.in-Ok.ensures.cut;

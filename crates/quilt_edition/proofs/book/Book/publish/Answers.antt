@@ -14,7 +14,7 @@ invariant_of-self g c =
       least = subst (λ n. 16 ≤ n) (sym pages) s.least;
       most = subst (λ n. n ≤ 30000) (sym pages) s.most;
       bits = c.publish_pages.ensures.bits;
-      size = c.publish_pages.ensures.size ∙ s.size ∙ ap (λ n. 3 + 2 * n) (sym pages);
+      size = c.publish_pages.ensures.device.size ∙ s.size ∙ ap (λ n. 3 + 2 * n) (sym pages);
       below = subst (λ n. AreBelow n c.publish_pages.new.pool.table.entries) (sym pages) c.publish_pages.ensures.below;
       kept = kept_left s.journal c.publish_pages.new.journal s.pool.table.entries c.publish_pages.new.pool.table.entries s.last _ _ c.requires.ready
           pages s.kept c.in_err-publish_pages.ensures.left;
@@ -32,7 +32,7 @@ invariant_of-self-2 g c =
       least = subst (λ n. 16 ≤ n) (sym pages) s.least;
       most = subst (λ n. n ≤ 30000) (sym pages) s.most;
       bits = c.publish_pages.ensures.bits;
-      size = c.publish_pages.ensures.size ∙ s.size ∙ ap (λ n. 3 + 2 * n) (sym pages);
+      size = c.publish_pages.ensures.device.size ∙ s.size ∙ ap (λ n. 3 + 2 * n) (sym pages);
       below = subst (λ n. AreBelow n c.publish_pages.new.pool.table.entries) (sym pages) c.publish_pages.ensures.below;
       kept = kept_published s.journal.pages c.publish_pages.new.journal s.pool.table.entries c.publish_pages.new.pool.table.entries s.journal.changed
           c.header_bytes-header.result _ _ _ pages c.in_ok-publish_pages.ensures.state c.in_ok-publish_pages.ensures.changed (omega (arith, s.least))

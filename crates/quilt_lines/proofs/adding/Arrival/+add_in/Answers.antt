@@ -1,5 +1,6 @@
 use Rattle.std.proofs.Common.{ℕ, List, flat_map, length, get_or, sym, ◌∙◌, ap, subst, arith}
 use Rattle.std.proofs.lemmas.Result.{on_ok_weaker, IfErr-weaker}
+use Rattle.quilt_store.proofs.Reading.{only_read_then}
 use Rattle.quilt_types.specs.declared.plane.Block.{Block}
 use Rattle.quilt_loc.proofs.Blocks.{IsBlock-up}
 use Rattle.quilt_btree.specs.Trees.{IsRooted}
@@ -31,7 +32,7 @@ returns-in-Ok-Some-clause-added g t c =
     subst (λ (bs : List Block). IsAdded self.view.level self.view.layer self.t segs self.id self.s bs c.args.change.now.gone.items
     c.add_block.new.change.gone.items c.args.change.now.come.items c.add_block.new.change.come.items)
     (sym (met_here cover self.s k c.args.b (sym c.if-not-meets.ensures.value) at.there))
-    (f segs cover (lines_along _ _ self.view.tree self.view.layer self.view.level self.t segs cover c.in-Ok-Some.ensures.told h) new
+    (f segs cover (lines_along _ _ self.view.tree self.view.layer self.view.level self.t segs cover c.in-Ok-Some.ensures.left.told h) new
     (c.deref.ensures.value ∙ at.are) (sym c.if-not-meets.ensures.value))) c.add_block.ensures.added
 
 pub returns-in-Ok-Some-clause-sound : goal.returns-in-Ok-Some-clause-sound
@@ -39,7 +40,7 @@ returns-in-Ok-Some-clause-sound g t c =
     let self = c.args.self.now in
     IfErr-weaker c.add_block.result _ _ (λ e f segs cover h reached.
     let at = match_some c.in-Ok-Some.field-0 _ _ c.in-Ok-Some.ids c.in-Ok-Some.field-0-is (c.in-Ok-Some.ensures.ids self.t segs cover h) in
-    f segs cover (lines_along _ _ self.view.tree self.view.layer self.view.level self.t segs cover c.in-Ok-Some.ensures.told h)
+    f segs cover (lines_along _ _ self.view.tree self.view.layer self.view.level self.t segs cover c.in-Ok-Some.ensures.left.told h)
     (c.deref.ensures.value ∙ at.are)) c.add_block.ensures.sound
 
 pub returns-then-b-le1-clause-sound : goal.returns-then-b-le1-clause-sound
@@ -56,7 +57,7 @@ add_in-requires g t c κs within =
     let q = quarter_at c.args.self.now.view.level c.args.b c.quarters-q-items.result c.loop-q.q-index (record { y = 0; x = 0; side = 0 }) c.requires.block
     c.if-b-le1.false c.quarters-q-items.ensures.value c.loop-q-test.true in
     let half = q.half in
-    let rooted = subst (λ (s : ℕ). IsRooted s c.args.self.now.view.tree) (sym c.loop-q.invariant.size) c.requires.rooted in
+    let rooted = subst (λ (s : ℕ). IsRooted s c.args.self.now.view.tree) (sym c.loop-q.invariant.left.size) c.requires.rooted in
     (omega arith, (within, (rooted, q.block)))
 
 pub returns-in-Err-add_in-clause-sound : goal.returns-in-Err-add_in-clause-sound
@@ -64,7 +65,7 @@ returns-in-Err-add_in-clause-sound g t c segs cover h reached =
     let self = c.args.self.now in
     let valid = h.spelled.valid in
     let q = get_or c.quarters-q-items.result c.loop-q.q-index (record { y = 0; x = 0; side = 0 }) in
-    c.in-Err-add_in.ensures.sound segs cover (lines_along _ _ self.view.tree self.view.layer self.view.level self.t segs cover c.loop-q.invariant.told h)
+    c.in-Err-add_in.ensures.sound segs cover (lines_along _ _ self.view.tree self.view.layer self.view.level self.t segs cover c.loop-q.invariant.left.told h)
     (reached_quarter self.view.level (record { segs = segs; cover = cover }) (record { inside = valid.inside; each = valid.each; once = valid.once })
     c.args.b q c.requires.block c.if-b-le1.false reached
     (match_none c.in-Ok-None.field-0 _ _ c.in-Ok-None.field-0-is (c.in-Ok-None.ensures.ids self.t segs cover h))
@@ -82,15 +83,11 @@ loop-q-preserved g t c =
           c.args.change.now.gone.items c.loop-q.change.gone.items c.add_in.new.change.gone.items c.args.change.now.come.items c.loop-q.change.come.items
           c.add_in.new.change.come.items
           (let lt = c.loop-q-test.true in omega arith) (c.loop-q.invariant.added segs cover h new k e)
-          (c.in-Ok.ensures.added segs cover (lines_along _ _ self.view.tree self.view.layer self.view.level self.t segs cover c.loop-q.invariant.told h) new k
+          (c.in-Ok.ensures.added segs cover (lines_along _ _ self.view.tree self.view.layer self.view.level self.t segs cover c.loop-q.invariant.left.told h) new k
           (quarter_side self.view.level c.args.b c.quarters-q-items.result c.loop-q.q-index (record { y = 0; x = 0; side = 0 }) c.requires.block
           c.if-b-le1.false c.quarters-q-items.ensures.value c.loop-q-test.true k e));
       faults = let m = c.loop-q.invariant.faults in let n = c.in-Ok.ensures.cause.later in omega arith;
-      size = c.in-Ok.ensures.size ∙ c.loop-q.invariant.size;
-      told = c.in-Ok.ensures.told ∙ c.loop-q.invariant.told;
-      free = c.in-Ok.ensures.free ∙ c.loop-q.invariant.free;
-      later = g.met.S.PageStore.goes_on _ _ _ c.loop-q.invariant.later c.in-Ok.ensures.later;
-      changed = let m = c.loop-q.invariant.changed in let n = c.in-Ok.ensures.changed in omega arith;
+      left = only_read_then _ _ _ _ _ g.met.S.PageStore.goes_on _ _ _ c.loop-q.invariant.left c.in-Ok.ensures.left;
     }
 
 pub returns-clause-added : goal.returns-clause-added

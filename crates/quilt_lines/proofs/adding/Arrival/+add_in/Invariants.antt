@@ -1,5 +1,6 @@
 use Rattle.std.proofs.Common.{◌≡◌, ◌≤◌, ℕ, suc, take, flat_map, None}
 use Rattle.std.specs.FinMap as finmap
+use Rattle.quilt_store.specs.Store.{IsOnlyRead}
 use Rattle.quilt_types.specs.Layers.{SegMap, BlockSet}
 use Rattle.quilt_types.specs.Plane.{side}
 use Rattle.quilt_line_laws.specs.Merging.{met_in}
@@ -18,9 +19,5 @@ invariant-loop-q g l = record {
       → IsAdded l.self.view.level l.self.view.layer l.self.t segs l.self.id l.self.s (flat_map (met_in cover l.self.s k) (take l.q-index l.q-items))
       l.fn.change.gone.items l.change.gone.items l.fn.change.come.items l.change.come.items;
   faults : g.S.PageStore.faults l.fn.store ≤ g.S.PageStore.faults l.store;
-  size : g.S.PageStore.size l.store ≡ g.S.PageStore.size l.fn.store;
-  told : g.S.PageStore.told l.store ≡ g.S.PageStore.told l.fn.store;
-  free : g.S.PageStore.free l.store ≡ g.S.PageStore.free l.fn.store;
-  later : g.S.PageStore.later l.fn.store l.store;
-  changed : g.S.PageStore.changed l.store ≤ g.S.PageStore.changed l.fn.store;
+  left : IsOnlyRead g.S.PageStore.size g.S.PageStore.told g.S.PageStore.free g.S.PageStore.later g.S.PageStore.changed l.fn.store l.store;
 }

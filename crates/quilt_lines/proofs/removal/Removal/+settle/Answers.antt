@@ -1,6 +1,7 @@
 use Rattle.std.proofs.Common.{◌≡◌, ℕ, zero, suc, List, take, length, get_or, sym, ◌∙◌, ap, subst, arith, Contains, pow-suc}
 use Rattle.std.proofs.lemmas.Result.{IfOk-weaker, IfErr-weaker}
 use Rattle.std.proofs.lemmas.List.{take_all}
+use Rattle.quilt_store.proofs.Reading.{only_read_then}
 use Rattle.quilt_types.specs.declared.plane.Block.{Block}
 use Rattle.quilt_types.specs.Plane.{side}
 use Rattle.quilt_loc.proofs.Blocks.{IsBlock-up}
@@ -33,7 +34,7 @@ pub settle-returns-clause-settled : goal.settle-returns-clause-settled
 settle-returns-clause-settled g t c =
     IfOk-weaker c.settle_quarters.result _ _ (λ x f k segs cover e h.
     f k segs cover e (lines_along _ _ c.args.tree.now c.args.self.now.layer c.args.self.now.level c.args.self.now.threshold segs cover
-    c.in-Ok-None.ensures.told h)
+    c.in-Ok-None.ensures.left.told h)
     (match_none c.in-Ok-None.field-0 _ _ c.in-Ok-None.field-0-is (c.in-Ok-None.ensures.ids c.args.self.now.threshold segs cover h)))
     c.settle_quarters.ensures.settled
 
@@ -41,7 +42,7 @@ pub settle-returns-clause-sound : goal.settle-returns-clause-sound
 settle-returns-clause-sound g t c =
     IfErr-weaker c.settle_quarters.result _ _ (λ x f segs cover h.
     f segs cover (lines_along _ _ c.args.tree.now c.args.self.now.layer c.args.self.now.level c.args.self.now.threshold segs cover
-    c.in-Ok-None.ensures.told h)) c.settle_quarters.ensures.sound
+    c.in-Ok-None.ensures.left.told h)) c.settle_quarters.ensures.sound
 
 pub settle_quarters-quarters-q-items-requires-clause-valid :
     goal.settle_quarters-quarters-q-items-requires-clause-valid
@@ -59,11 +60,11 @@ settle_quarters-settle-requires g t c κs within =
     let half = is.half in
     let d = c.decreases in
     let wide = c.requires.wide in
-    (omega arith, (within, (subst (λ (z : ℕ). IsRooted z c.args.tree.now) (sym c.loop-q.invariant.size) c.requires.rooted, is.block)))
+    (omega arith, (within, (subst (λ (z : ℕ). IsRooted z c.args.tree.now) (sym c.loop-q.invariant.left.size) c.requires.rooted, is.block)))
 
 pub settle_quarters-returns-in-Err-clause-sound : goal.settle_quarters-returns-in-Err-clause-sound
 settle_quarters-returns-in-Err-clause-sound g t c segs cover h = c.in-Err.ensures.sound segs cover
-    (lines_along _ _ c.args.tree.now c.args.self.now.layer c.args.self.now.level c.args.self.now.threshold segs cover c.loop-q.invariant.told h)
+    (lines_along _ _ c.args.tree.now c.args.self.now.layer c.args.self.now.level c.args.self.now.threshold segs cover c.loop-q.invariant.left.told h)
 
 pub settle_quarters-loop-q-preserved : goal.settle_quarters-loop-q-preserved
 settle_quarters-loop-q-preserved g t c =
@@ -83,14 +84,10 @@ settle_quarters-loop-q-preserved g t c =
           (take c.loop-q.q-index qs) q c.loop-q.all c.in-Ok.x c.gather.new.self
           (c.loop-q.invariant.gathered k segs cover e h)
           (c.in-Ok.ensures.settled k segs cover (omega arith)
-          (lines_along _ _ c.args.tree.now c.args.self.now.layer c.args.self.now.level c.args.self.now.threshold segs cover c.loop-q.invariant.told h))
+          (lines_along _ _ c.args.tree.now c.args.self.now.layer c.args.self.now.level c.args.self.now.threshold segs cover c.loop-q.invariant.left.told h))
           c.in-Ok-gather.ensures);
       faults = let m = c.loop-q.invariant.faults in let n = c.in-Ok.ensures.cause.later in omega arith;
-      size = c.in-Ok.ensures.size ∙ c.loop-q.invariant.size;
-      told = c.in-Ok.ensures.told ∙ c.loop-q.invariant.told;
-      free = c.in-Ok.ensures.free ∙ c.loop-q.invariant.free;
-      later = g.met.S.PageStore.goes_on _ _ _ c.loop-q.invariant.later c.in-Ok.ensures.later;
-      changed = let m = c.loop-q.invariant.changed in let n = c.in-Ok.ensures.changed in omega arith;
+      left = only_read_then _ _ _ _ _ g.met.S.PageStore.goes_on _ _ _ c.loop-q.invariant.left c.in-Ok.ensures.left;
     }
 
 pub settle_quarters-returns-in-Ok-joined-clause-settled :

@@ -1,4 +1,5 @@
 use Rattle.std.proofs.Common.{◌≡◌, ℕ, suc, ◌+◌, ◌*◌, ◌≤◌, take}
+use Rattle.quilt_store.specs.Store.{IsOnlyRead}
 use Rattle.quilt_types.specs.Plane.{side}
 use Rattle.quilt_types.specs.Layers.{SegMap, BlockSet}
 use Rattle.quilt_lines.specs.Layers.{HasLines}
@@ -17,9 +18,5 @@ invariant-settle_quarters-loop-q g l = record {
       → HasLines (g.S.PageStore.told l.initial.store) l.tree l.self.layer l.self.level l.self.threshold segs cover
       → Gathers l.self.level l.self.layer l.self.threshold l.self.id segs cover l.self.segment k (take l.q-index l.q-items) l.all;
   faults : g.S.PageStore.faults l.initial.store ≤ g.S.PageStore.faults l.store;
-  size : g.S.PageStore.size l.store ≡ g.S.PageStore.size l.initial.store;
-  told : g.S.PageStore.told l.store ≡ g.S.PageStore.told l.initial.store;
-  free : g.S.PageStore.free l.store ≡ g.S.PageStore.free l.initial.store;
-  later : g.S.PageStore.later l.initial.store l.store;
-  changed : g.S.PageStore.changed l.store ≤ g.S.PageStore.changed l.initial.store;
+  left : IsOnlyRead g.S.PageStore.size g.S.PageStore.told g.S.PageStore.free g.S.PageStore.later g.S.PageStore.changed l.initial.store l.store;
 }

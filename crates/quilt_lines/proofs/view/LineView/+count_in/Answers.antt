@@ -1,6 +1,7 @@
 use Rattle.std.proofs.Common.{◌+◌, ◌-◌, ◌^◌, ◌<◌, ℕ, List, flat_map, length, get_or, count_by, sym, ◌∙◌, ap, subst, arith}
 use Rattle.std.specs.Prelude.{◌==◌}
 use Rattle.std.proofs.lemmas.List.{take_all}
+use Rattle.quilt_store.proofs.Reading.{only_read_then}
 use Rattle.quilt_types.specs.declared.plane.Block.{Block}
 use Rattle.quilt_types.specs.Plane.{side}
 use Rattle.quilt_loc.proofs.Blocks.{IsBlock-up}
@@ -50,7 +51,7 @@ count_in-requires g t c κs within =
     let wide = wide_side c.args.b c.args.k c.requires.side some in
     let q = quarter_at c.args.self.now.level c.args.b c.quarters-q-items.result c.loop-q.q-index (record { y = 0; x = 0; side = 0 }) c.requires.block wide
     c.quarters-q-items.ensures.value c.loop-q-test.true in
-    let rooted = subst (λ (s : ℕ). IsRooted s c.args.self.now.tree) (sym c.loop-q.invariant.size) c.requires.rooted in
+    let rooted = subst (λ (s : ℕ). IsRooted s c.args.self.now.tree) (sym c.loop-q.invariant.left.size) c.requires.rooted in
     let size =
     quarter_side c.args.self.now.level c.args.b c.quarters-q-items.result c.loop-q.q-index (record { y = 0; x = 0; side = 0 }) c.requires.block wide
     c.quarters-q-items.ensures.value c.loop-q-test.true (c.args.k - 1) (c.requires.side ∙ side_fold c.args.k some) in (
@@ -84,7 +85,7 @@ returns-in-Err-count_in-clause-sound g t c t' segs cover h reached =
     let valid = h.spelled.valid in
     let some : 0 < c.args.k = let no = c.if-k-eq0.false in omega arith in
     let q = get_or c.quarters-q-items.result c.loop-q.q-index (record { y = 0; x = 0; side = 0 }) in
-    c.in-Err-count_in.ensures.sound t' segs cover (lines_along _ _ self.tree self.layer self.level t' segs cover c.loop-q.invariant.told h)
+    c.in-Err-count_in.ensures.sound t' segs cover (lines_along _ _ self.tree self.layer self.level t' segs cover c.loop-q.invariant.left.told h)
     (reached_quarter self.level (record { segs = segs; cover = cover }) (record { inside = valid.inside; each = valid.each; once = valid.once }) c.args.b q
     c.requires.block (wide_side c.args.b c.args.k c.requires.side some) reached
     (sym (c.in-Ok-false.ensures.there t' segs cover h) ∙ c.in-Ok-false.field-0-test)
@@ -99,15 +100,11 @@ loop-q-preserved g t c =
           count_next (held_in cover (c.args.k - 1)) (λ d. d.side == side j) c.quarters-q-items.result c.loop-q.q-index (record { y = 0; x = 0; side = 0 })
           (get_or c.args.counts.now j 0) (get_or c.loop-q.counts j 0) (get_or c.count_in.new.counts j 0)
           (let lt = c.loop-q-test.true in omega arith) (c.loop-q.invariant.counts t' segs cover h j)
-          (c.in-Ok.ensures.counts t' segs cover (lines_along _ _ self.tree self.layer self.level t' segs cover c.loop-q.invariant.told h) j);
+          (c.in-Ok.ensures.counts t' segs cover (lines_along _ _ self.tree self.layer self.level t' segs cover c.loop-q.invariant.left.told h) j);
       most = λ j. room_step c.loop-q.q-index (4 ^ (c.args.k - 1)) (get_or c.args.counts.now j 0) (get_or c.loop-q.counts j 0)
           (get_or c.count_in.new.counts j 0) (c.loop-q.invariant.most j) (c.in-Ok.ensures.most j);
       faults = let m = c.loop-q.invariant.faults in let n = c.in-Ok.ensures.cause.later in omega arith;
-      size = c.in-Ok.ensures.size ∙ c.loop-q.invariant.size;
-      told = c.in-Ok.ensures.told ∙ c.loop-q.invariant.told;
-      free = c.in-Ok.ensures.free ∙ c.loop-q.invariant.free;
-      later = g.met.S.PageStore.goes_on _ _ _ c.loop-q.invariant.later c.in-Ok.ensures.later;
-      changed = let m = c.loop-q.invariant.changed in let n = c.in-Ok.ensures.changed in omega arith;
+      left = only_read_then _ _ _ _ _ g.met.S.PageStore.goes_on _ _ _ c.loop-q.invariant.left c.in-Ok.ensures.left;
     }
 
 pub returns-clause-counts : goal.returns-clause-counts

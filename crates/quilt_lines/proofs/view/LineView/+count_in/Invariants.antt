@@ -1,5 +1,6 @@
 use Rattle.std.proofs.Common.{◌≡◌, ◌≤◌, ◌+◌, ◌*◌, ◌-◌, ◌^◌, ℕ, take, flat_map, get_or, count_by}
 use Rattle.std.specs.Prelude.{◌==◌}
+use Rattle.quilt_store.specs.Store.{IsOnlyRead}
 use Rattle.quilt_types.specs.Layers.{SegMap, BlockSet}
 use Rattle.quilt_types.specs.Plane.{side}
 use Rattle.quilt_lines.specs.Layers.{HasLines}
@@ -16,9 +17,5 @@ invariant-loop-q g l = record {
       (flat_map (held_in cover (l.k - 1)) (take l.q-index l.q-items));
   most : (j : ℕ) → get_or l.counts j 0 ≤ get_or l.fn.counts j 0 + l.q-index * 4 ^ (l.k - 1);
   faults : g.S.PageStore.faults l.fn.store ≤ g.S.PageStore.faults l.store;
-  size : g.S.PageStore.size l.store ≡ g.S.PageStore.size l.fn.store;
-  told : g.S.PageStore.told l.store ≡ g.S.PageStore.told l.fn.store;
-  free : g.S.PageStore.free l.store ≡ g.S.PageStore.free l.fn.store;
-  later : g.S.PageStore.later l.fn.store l.store;
-  changed : g.S.PageStore.changed l.store ≤ g.S.PageStore.changed l.fn.store;
+  left : IsOnlyRead g.S.PageStore.size g.S.PageStore.told g.S.PageStore.free g.S.PageStore.later g.S.PageStore.changed l.fn.store l.store;
 }

@@ -2,6 +2,7 @@ use Rattle.std.proofs.Common.{◌≡◌, ℕ, ◌*◌, true, Some, [], ◌∷◌
 use Rattle.std.specs.FinMap as finmap
 use Rattle.std.proofs.lemmas.List.{map-append}
 use Rattle.std.proofs.lemmas.List.Elements.{All-append}
+use Rattle.quilt_store.proofs.Reading.{only_read_then}
 use Rattle.quilt_types.specs.declared.plane.Seg.{Seg}
 use Rattle.quilt_types.specs.Layers.{is_in_square}
 use Rattle.quilt_edits.proofs.Lists.{member_at, take_next}
@@ -15,7 +16,7 @@ pub returns-in-Err-clause-sound : goal.returns-in-Err-clause-sound
 returns-in-Err-clause-sound g c t segs cover h all =
     let w = all _ (member_at c.args.ids.now c.loop-id.id-index _ c.loop-id-test.true) in
     c.in-Err.ensures.sound t segs cover
-    (lines_along _ _ c.args.self.now.tree c.args.self.now.layer c.args.self.now.level t segs cover c.loop-id.invariant.told h) w.0 w.1
+    (lines_along _ _ c.args.self.now.tree c.args.self.now.layer c.args.self.now.level t segs cover c.loop-id.invariant.left.told h) w.0 w.1
 
 pub loop-id-preserved : goal.loop-id-preserved
 loop-id-preserved g c =
@@ -30,15 +31,11 @@ loop-id-preserved g c =
           let P = λ (e : ℕ × Seg). finmap.get segs e.0 ≡ Some e.1 in
           subst (All P) (sym a.1) (All-append P c.loop-id.list more (c.loop-id.invariant.found t segs cover h)
           (all_one P (id, a.0) (a.3 t segs cover
-          (lines_along _ _ c.args.self.now.tree c.args.self.now.layer c.args.self.now.level t segs cover c.loop-id.invariant.told h))));
+          (lines_along _ _ c.args.self.now.tree c.args.self.now.layer c.args.self.now.level t segs cover c.loop-id.invariant.left.told h))));
       inside =
           let P = λ (e : ℕ × Seg). is_in_square c.args.self.now.level e.1 ≡ true in
           subst (All P) (sym a.1) (All-append P c.loop-id.list more c.loop-id.invariant.inside (all_one P (id, a.0) a.2));
       faults = let m = c.loop-id.invariant.faults in let n = c.in-Ok.ensures.cause.later in omega arith;
-      size = c.in-Ok.ensures.size ∙ c.loop-id.invariant.size;
-      told = c.in-Ok.ensures.told ∙ c.loop-id.invariant.told;
-      free = c.in-Ok.ensures.free ∙ c.loop-id.invariant.free;
-      later = g.met.S.PageStore.goes_on _ _ _ c.loop-id.invariant.later c.in-Ok.ensures.later;
+      left = only_read_then _ _ _ _ _ g.met.S.PageStore.goes_on _ _ _ c.loop-id.invariant.left c.in-Ok.ensures.left;
       reads = reads_sum _ _ _ (3 * length c.loop-id.list) 3 (3 * length c.add_segment.new.list) (omega arith) c.loop-id.invariant.reads c.in-Ok.ensures.reads;
-      changed = let m = c.loop-id.invariant.changed in let n = c.in-Ok.ensures.changed in omega arith;
     }

@@ -19,7 +19,7 @@ pub returns-in-Err-segments-clause-sound : goal.returns-in-Err-segments-clause-s
 returns-in-Err-segments-clause-sound g c l h =
     let at = match_some c.in-Ok-Some.field-0 _ _ c.in-Ok-Some.ids c.in-Ok-Some.field-0-is (c.in-Ok-Some.ensures.ids h.threshold l.segs l.cover h.has) in
     c.in-Err-segments.ensures.sound h.threshold l.segs l.cover
-    (lines_along _ _ c.args.self.now.tree c.args.self.now.layer c.args.self.now.level h.threshold l.segs l.cover c.in-Ok-Some.ensures.told h.has)
+    (lines_along _ _ c.args.self.now.tree c.args.self.now.layer c.args.self.now.level h.threshold l.segs l.cover c.in-Ok-Some.ensures.left.told h.has)
     (λ id m. each_there l.segs c.args.b id (subst (λ (ids : List ℕ). Contains ids id) (c.deref.ensures.value ∙ at.are) m))
 
 pub returns-clause-part : goal.returns-clause-part
@@ -28,6 +28,6 @@ returns-clause-part g c l h =
       at.there,
       same_segments l.segs c.in-Ok.list _ (c.in-Ok.ensures.ids ∙ c.deref.ensures.value ∙ at.are)
           (c.in-Ok.ensures.found h.threshold l.segs l.cover
-          (lines_along _ _ c.args.self.now.tree c.args.self.now.layer c.args.self.now.level h.threshold l.segs l.cover c.in-Ok-Some.ensures.told h.has))
+          (lines_along _ _ c.args.self.now.tree c.args.self.now.layer c.args.self.now.level h.threshold l.segs l.cover c.in-Ok-Some.ensures.left.told h.has))
           (all_there l.segs c.args.b),
     )

@@ -25,7 +25,7 @@ invariant_of-self g c =
       least = subst (λ n. 16 ≤ n) (sym pages) s.least;
       most = subst (λ n. n ≤ 30000) (sym pages) s.most;
       bits = c.read.ensures.journal.2 ∙ s.bits ∙ sym pages;
-      size = c.read.ensures.size ∙ s.size ∙ ap (λ n. 3 + 2 * n) (sym pages);
+      size = c.read.ensures.device.size ∙ s.size ∙ ap (λ n. 3 + 2 * n) (sym pages);
       below = subst (λ n. AreBelow n c.read.new.self.table.entries) (sym pages) c.read.ensures.below;
       kept = kept_moves s.journal j s.pool.table.entries c.read.new.self.table.entries s.last (sym c.state.ensures ∙ c.in-Idle.is)
           pages c.read.ensures.journal.1 _ _ s.kept
@@ -43,7 +43,7 @@ returns-in_err-read-clause-later g c =
       c.read.ensures.journal.0,
       c.read.ensures.journal.1,
       (refl, refl, refl),
-      c.read.ensures.door,
+      c.read.ensures.device.door,
       later_moves s.journal c.read.new.journal s.pool.table.entries c.read.new.self.table.entries s.last (sym c.state.ensures ∙ c.in-Idle.is)
           c.read.ensures.journal.0 c.read.ensures.journal.1 _ _ _ _ (g.met.W.Disk.is_consistent s.world) (g.met.W.Disk.is_consistent c.read.new.disk)
           s.kept (goes_weaker _ (Moves s.journal.pages c.read.new.self.table.entries c.read.new.journal.changed) _ _ c.read.ensures.kept
@@ -56,7 +56,7 @@ returns-clause-later g c =
       c.read.ensures.journal.0,
       c.read.ensures.journal.1,
       (refl, refl, refl),
-      c.read.ensures.door,
+      c.read.ensures.device.door,
       later_moves s.journal c.read.new.journal s.pool.table.entries c.read.new.self.table.entries s.last (sym c.state.ensures ∙ c.in-Idle.is)
           c.read.ensures.journal.0 c.read.ensures.journal.1 _ _ _ _ (g.met.W.Disk.is_consistent s.world) (g.met.W.Disk.is_consistent c.read.new.disk)
           s.kept (goes_weaker _ (Moves s.journal.pages c.read.new.self.table.entries c.read.new.journal.changed) _ _ c.read.ensures.kept

@@ -25,7 +25,7 @@ invariant_of-self g c =
       least = subst (λ n. 16 ≤ n) (sym pages) s.least;
       most = subst (λ n. n ≤ 30000) (sym pages) s.most;
       bits = c.write.ensures.journal.2 ∙ s.bits ∙ sym pages;
-      size = c.write.ensures.size ∙ s.size ∙ ap (λ n. 3 + 2 * n) (sym pages);
+      size = c.write.ensures.device.size ∙ s.size ∙ ap (λ n. 3 + 2 * n) (sym pages);
       below = subst (λ n. AreBelow n c.write.new.self.table.entries) (sym pages) c.write.ensures.below;
       kept = kept_moves s.journal j s.pool.table.entries c.write.new.self.table.entries s.last (sym c.state.ensures ∙ c.in-Idle.is)
           pages c.write.ensures.journal.1 _ _ s.kept (either c.write.result _ _ _ c.write.ensures.changes c.write.ensures.kept
@@ -46,7 +46,7 @@ returns-in_err-write-clause-later g c =
       c.write.ensures.journal.0,
       c.write.ensures.journal.1,
       (refl, refl, refl),
-      c.write.ensures.door,
+      c.write.ensures.device.door,
       later_moves s.journal c.write.new.journal s.pool.table.entries c.write.new.self.table.entries s.last (sym c.state.ensures ∙ c.in-Idle.is)
           c.write.ensures.journal.0 c.write.ensures.journal.1 _ _ _ _ (g.met.W.Disk.is_consistent s.world)
           (g.met.W.Disk.is_consistent c.write.new.disk) s.kept
@@ -60,7 +60,7 @@ returns-clause-later g c =
       c.write.ensures.journal.0,
       c.write.ensures.journal.1,
       (refl, refl, refl),
-      c.write.ensures.door,
+      c.write.ensures.device.door,
       later_moves s.journal c.write.new.journal s.pool.table.entries c.write.new.self.table.entries s.last (sym c.state.ensures ∙ c.in-Idle.is)
           c.write.ensures.journal.0 c.write.ensures.journal.1 _ _ _ _ (g.met.W.Disk.is_consistent s.world)
           (g.met.W.Disk.is_consistent c.write.new.disk) s.kept
