@@ -8,8 +8,7 @@ use Rattle.quilt_pool.proofs.pool.Pool.drain_dirty.Goals as goal
 
 pub loop-page-init : goal.loop-page-init
 loop-page-init g c = record {
-  size = refl;
-  door = refl;
+  device = record { size = refl; door = refl };
   faults = omega arith;
   pages = refl;
   state = refl;
@@ -50,8 +49,7 @@ loop-page-preserved g c =
     ap (λ b. cond {A = ℕ} b 1 0) (i.others page (omega arith)) in
     let step = count_page f page (omega arith) in
     record {
-      size = e.size ∙ i.size;
-      door = e.door ∙ i.door;
+      device = record { size = e.device.size ∙ i.device.size; door = e.device.door ∙ i.device.door };
       faults = omega (arith, e.cause.later, i.faults);
       pages = e.journal.0 ∙ i.pages;
       state = e.journal.1 ∙ i.state;

@@ -1,6 +1,7 @@
 use Rattle.std.proofs.Common.{◌≡◌, ℕ, ◌-◌, ◌<◌, ◌≤◌, false, List, [], length, filter}
 use Rattle.std.specs.Map.{keys_of}
 use Rattle.std.specs.List.{range_with_len}
+use Rattle.quilt_world.specs.Doors.{KeepsDevice}
 use Rattle.quilt_world.specs.Tale.{Goes}
 use Rattle.quilt_journal.specs.Writing.{Writing}
 use Rattle.quilt_pool.specs.Entries.{frame_at, bytes_or, is_dirty, is_marked, AreBelow}
@@ -9,8 +10,7 @@ use Rattle.quilt_pool.proofs.pool.Pool.drain_dirty.Given as goal
 
 abbrev pub invariant-loop-page : goal.invariant-loop-page
 invariant-loop-page g l = record {
-  size : g.D.Disk.size l.disk ≡ g.D.Disk.size l.initial.disk;
-  door : g.D.Disk.door l.disk ≡ g.D.Disk.door l.initial.disk;
+  device : KeepsDevice g.D.Disk.size g.D.Disk.door l.initial.disk l.disk;
   faults : g.D.Disk.faults l.initial.disk ≤ g.D.Disk.faults l.disk;
   pages : l.journal.pages ≡ l.initial.journal.pages;
   state : l.journal.state ≡ l.initial.journal.state;
