@@ -11,7 +11,7 @@ use Rattle.quilt_record.proofs.Orders.{le_le, lt_lt, lt_to_le}
 use Rattle.quilt_node.specs.Nodes.{keys_of, records_of}
 use Rattle.quilt_node.specs.Pages.{leaf_of, is_ascending, short_at}
 use Rattle.quilt_node.specs.Tree.{Bounds, Whole, Damaged, is_above, is_below, are_within, leaf_walk}
-use Rattle.quilt_btree.proofs.Walks.{if_true, if_false}
+use Rattle.quilt_btree.proofs.subtrees.Walks.{if_true, if_false}
 use Rattle.quilt_node.proofs.Ascending.{and_parts, is_over, ascending_all}
 use Rattle.quilt_node.proofs.Places.{leaf_records}
 use Rattle.quilt_node.proofs.LeafReads.{keys_read, told}

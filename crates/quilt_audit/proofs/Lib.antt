@@ -1,18 +1,7 @@
 pub mod Bits
 pub mod Lists
-pub mod Laid
-pub mod FourLeaves
 pub mod Covering
-pub mod PointSteps
-pub mod PointAhead
-pub mod PointWhole
-pub mod PointRuns
-pub mod RegionAhead
-pub mod RegionRuns
-pub mod Runs
 pub mod Catalog
-pub mod Ahead
-pub mod Next
 pub mod Steps
 pub mod Feeding
 pub mod Walked
@@ -20,3 +9,5 @@ pub mod Ends
 pub mod Making
 pub mod Taking
 pub mod Whole
+pub mod ahead
+pub mod runs

@@ -18,7 +18,7 @@ use Rattle.quilt_line_audit.specs.Layers.{IsLayerOf}
 use Rattle.quilt_audit.specs.Runs.{IsRun, IsRunFinished, Starts}
 use Rattle.quilt_audit.specs.Checking.{entry_record, IsSoFar}
 use Rattle.quilt_audit.proofs.Lists.{last_cases, in_front, at_last, rises_front}
-use Rattle.quilt_audit.proofs.Runs.{finished}
+use Rattle.quilt_audit.proofs.runs.Runs.{finished}
 
 -- ---- the entries with one more
 pub with_from : (e : Entry) (es : List Entry) (x : Entry) → Contains (with_entry e es) x → (e ≡ x) ⊎ Contains es x

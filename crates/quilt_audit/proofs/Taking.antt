@@ -21,7 +21,7 @@ use Rattle.quilt_line_audit.specs.Layers.{Refuses}
 use Rattle.quilt_audit.specs.Runs.{IsRun, IsRunFinished}
 use Rattle.quilt_audit.specs.Surveys.{AreNumbered}
 use Rattle.quilt_audit.specs.Checking.{IsSoFar, HasBegun, Stops, MayList, IsWhole, AreRefused, IsFed, IsSpelled}
-use Rattle.quilt_audit.proofs.Next.{NextEntry, NextLayer, next_entry, next_layer, next_taken, end_covered, end_listed}
+use Rattle.quilt_audit.proofs.ahead.Next.{NextEntry, NextLayer, next_entry, next_layer, next_taken, end_covered, end_listed}
 use Rattle.quilt_audit.proofs.Steps.{all_covered}
 use Rattle.quilt_audit.proofs.Making.{is_spelled}
 

@@ -15,8 +15,8 @@ use Rattle.quilt_node.specs.Nodes.{are_pages}
 use Rattle.quilt_node.specs.Pages.{leaf_of, inner_of}
 use Rattle.quilt_node.specs.Tree.{Bounds, Walk, Whole, Damaged, bounded, behind, each_child, leaf_walk, inner_walk, walk}
 use Rattle.quilt_store.specs.Store.{Tells}
-use Rattle.quilt_btree.proofs.Walks.{and_parts, if_true, if_false}
-use Rattle.quilt_btree.proofs.Trees.{nat_le_is}
+use Rattle.quilt_btree.proofs.subtrees.Walks.{and_parts, if_true, if_false}
+use Rattle.quilt_btree.proofs.subtrees.Trees.{nat_le_is}
 use Rattle.quilt_types.specs.declared.stop.Stop.{Stop}
 use Rattle.quilt_types.specs.declared.stop.Stop.TheVariants.{Device, Memory, Damaged as Says}
 use Rattle.quilt_audit.specs.Surveys.{OnDamaged}
@@ -25,7 +25,7 @@ use Rattle.quilt_audit.specs.declared.surveying.Surveying.{Surveying}
 use Rattle.quilt_audit.specs.Bits.{has_bit, Marks}
 use Rattle.quilt_audit.specs.Walking.{Spent, SpentSome, Added, Found, Reached}
 use Rattle.quilt_spell.proofs.Lists.{Apart-le}
-use Rattle.quilt_spell.proofs.SameFacts.{member_any}
+use Rattle.quilt_spell.proofs.facts.SameFacts.{member_any}
 use Rattle.quilt_audit.proofs.Bits.{Marks-more, AreWithin-more}
 use Rattle.quilt_audit.proofs.Feeding.{Takes-none, Takes-then}
 

@@ -15,7 +15,7 @@ use Rattle.quilt_node.specs.Pages.{magic, header_bytes, IsHead, IsHeader}
 use Rattle.quilt_node.specs.Tree.{Whole, walk_of}
 use Rattle.quilt_world.specs.Home.{page_of, home}
 use Rattle.quilt_edition.specs.Stands.{HoldsEdition, Stands}
-use Rattle.quilt_spell.proofs.OneMap.{one_map}
+use Rattle.quilt_spell.proofs.facts.OneMap.{one_map}
 
 four_bytes : (a b : ℕ) → a < 2 ^ 32 → b < 2 ^ 32 → to_be_bytes w32 a ≡ to_be_bytes w32 b → a ≡ b
 four_bytes a b ha hb e = sym (from_be_bytes-to_be_bytes_4 a ha) ∙ ap (from_be_bytes w32) e ∙ from_be_bytes-to_be_bytes_4 b hb

@@ -8,9 +8,9 @@ use Rattle.quilt_node.specs.Pages.{IsHeader}
 use Rattle.quilt_node.specs.Tree.{Whole, walk_of}
 use Rattle.quilt_world.specs.Home.{page_of}
 use Rattle.quilt_edition.specs.Stands.{HoldsEdition}
-use Rattle.quilt_btree.proofs.Rows.{subtree_stays}
-use Rattle.quilt_btree.proofs.TreeGrowth.{everywhere}
-use Rattle.quilt_btree.proofs.Walks.{walk_found, walk_again}
+use Rattle.quilt_btree.proofs.lists.Rows.{subtree_stays}
+use Rattle.quilt_btree.proofs.growth.TreeGrowth.{everywhere}
+use Rattle.quilt_btree.proofs.subtrees.Walks.{walk_found, walk_again}
 
 module _ (pages others : List (List ℕ)) (size : length pages ≡ length others) where
   -- a walk that finds a whole tree finds it again

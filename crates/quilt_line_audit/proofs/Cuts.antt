@@ -19,7 +19,7 @@ use Rattle.quilt_blocks.proofs.Adding.{IsPart, part_at}
 use Rattle.quilt_blocks.proofs.Chains.{Follows-member, one_holds}
 use Rattle.quilt_blocks.proofs.Cuts.{Runs, Runs-append, Runs-nil, Runs-one, Runs-at}
 use Rattle.quilt_blocks.proofs.Painting.{code_in}
-use Rattle.quilt_spell.proofs.FactKeys.{block_same}
+use Rattle.quilt_spell.proofs.facts.FactKeys.{block_same}
 use Rattle.quilt_line_laws.proofs.Merges.{IsBlockCover}
 use Rattle.quilt_line_laws.proofs.SetLaws.{items-from_list}
 use Rattle.quilt_line_audit.specs.declared.pair.Pair.{Pair}

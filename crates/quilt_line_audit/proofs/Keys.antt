@@ -19,7 +19,7 @@ use Rattle.quilt_record.specs.Canonical.{IsRecordOf, pair_fact}
 use Rattle.quilt_record.specs.Values.{segment_of}
 use Rattle.quilt_record.proofs.Readers.{segment_ends}
 use Rattle.quilt_spell.specs.Written.{by_key}
-use Rattle.quilt_spell.proofs.FactKeys.{block_alone}
+use Rattle.quilt_spell.proofs.facts.FactKeys.{block_alone}
 use Rattle.quilt_edits.proofs.Keys.{then_equal, nat_same, less_code}
 use Rattle.quilt_line_audit.specs.declared.pair.Pair.{Pair}
 use Rattle.quilt_line_audit.specs.Runs.{pair_record, segment_record, is_of_part}

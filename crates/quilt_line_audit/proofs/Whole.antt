@@ -22,7 +22,7 @@ use Rattle.quilt_loc.proofs.Rising.{Rises-filter}
 use Rattle.quilt_record.specs.declared.record.Record.{Record}
 use Rattle.quilt_record.specs.Records.{record_of}
 use Rattle.quilt_spell.specs.Written.{by_key}
-use Rattle.quilt_spell.proofs.FactKeys.{block_same}
+use Rattle.quilt_spell.proofs.facts.FactKeys.{block_same}
 use Rattle.quilt_spell.proofs.Maps.{by_first}
 use Rattle.quilt_spell.proofs.Spelling.{all_from}
 use Rattle.quilt_line_laws.proofs.Adding.{cover_of}

@@ -18,7 +18,7 @@ use Rattle.quilt_loc.proofs.Nesting.{around, Within-holds, nested, same_block_fr
 use Rattle.quilt_loc.proofs.Quartered.{quarters_are, is_quarter}
 use Rattle.quilt_loc.proofs.Around.{IsBlock-around, Holds-around}
 use Rattle.quilt_loc.proofs.PlaneOrders.{block_total}
-use Rattle.quilt_spell.proofs.FactKeys.{block_same}
+use Rattle.quilt_spell.proofs.facts.FactKeys.{block_same}
 use Rattle.quilt_line_laws.proofs.SetLaws.{items-from_list, keys_once}
 
 -- exactly one block of the set holds each pixel, in words

@@ -13,7 +13,7 @@ use Rattle.quilt_loc.proofs.Members.{Contains-nil, Contains-here, Contains-cons_
 use Rattle.quilt_loc.proofs.Nesting.{Within-holds, Holds-corner}
 use Rattle.quilt_loc.proofs.Quartered.{quarters_are}
 use Rattle.quilt_loc.proofs.PlaneOrders.{block_total}
-use Rattle.quilt_spell.proofs.FactKeys.{block_same}
+use Rattle.quilt_spell.proofs.facts.FactKeys.{block_same}
 use Rattle.quilt_line_laws.proofs.SetLaws.{items-from_list}
 use Rattle.quilt_line_laws.proofs.Merges.{IsBlockCover}
 

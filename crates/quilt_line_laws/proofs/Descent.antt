@@ -14,7 +14,7 @@ use Rattle.quilt_loc.proofs.Nesting.{Within-holds, Within-trans, Holds-corner, s
 use Rattle.quilt_loc.proofs.Quartered.{quarters_are, side_le, IsBlock-whole, Within-whole}
 use Rattle.quilt_blocks.proofs.Maximal.{Within-self, quarter_with}
 use Rattle.quilt_loc.proofs.PlaneOrders.{block_total}
-use Rattle.quilt_spell.proofs.FactKeys.{block_same}
+use Rattle.quilt_spell.proofs.facts.FactKeys.{block_same}
 use Rattle.quilt_line_laws.proofs.SetLaws.{contains_is}
 use Rattle.quilt_line_laws.proofs.Merges.{IsBlockCover, after_remove-cover}
 use Rattle.quilt_line_laws.specs.Merging.{is_one, becomes_one, blocks_in, coming_in, going_in, staying_in}

@@ -15,7 +15,7 @@ use Rattle.quilt_loc.proofs.Blocks.{Contains-blocks}
 use Rattle.quilt_spell.proofs.Maps.{get_removed, get_kept, get_inserted, get_others}
 use Rattle.quilt_loc.proofs.Quartered.{quarters_are, IsBlock-whole, Holds-whole}
 use Rattle.quilt_loc.proofs.PlaneOrders.{block_total}
-use Rattle.quilt_spell.proofs.FactKeys.{block_same}
+use Rattle.quilt_spell.proofs.facts.FactKeys.{block_same}
 use Rattle.quilt_line_laws.proofs.SetLaws.{contains_is, items-insert}
 use Rattle.quilt_line_laws.proofs.Covers.{is_cover-true, after_add-cover}
 use Rattle.quilt_line_laws.proofs.Merges.{IsBlockCover, after_remove-cover}

@@ -10,9 +10,9 @@ use Rattle.quilt_spell.specs.Apart.{Apart, SameMembers}
 use Rattle.quilt_spell.specs.Changing.{is_among, records_alone, LeadsTo}
 use Rattle.quilt_loc.proofs.Members.{Contains-map, Contains-map_from, Contains-filter, Contains-filter_from}
 use Rattle.quilt_spell.proofs.Lists as lists
-use Rattle.quilt_spell.proofs.SameFacts.{among_from, among_is}
+use Rattle.quilt_spell.proofs.facts.SameFacts.{among_from, among_is}
 use Rattle.quilt_spell.proofs.Changes.{not_true, not_from}
-use Rattle.quilt_spell.proofs.FactKeys.{fact_alone}
+use Rattle.quilt_spell.proofs.facts.FactKeys.{fact_alone}
 use Rattle.quilt_line_laws.specs.Lines.{IsAlone, facts_added, facts_removed, with_seg}
 use Rattle.quilt_line_laws.specs.Merging.{coming_in, going_in, staying_in}
 use Rattle.quilt_line_laws.specs.Removing.{without_seg, facts_back, facts_gone}

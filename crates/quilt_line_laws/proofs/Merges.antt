@@ -17,7 +17,7 @@ use Rattle.quilt_loc.proofs.Nesting.{Within-holds, nested, around}
 use Rattle.quilt_loc.proofs.Quartered.{quarters_are, is_quarter}
 use Rattle.quilt_loc.proofs.Around.{IsBlock-around, Holds-around}
 use Rattle.quilt_loc.proofs.PlaneOrders.{block_total}
-use Rattle.quilt_spell.proofs.FactKeys.{block_same}
+use Rattle.quilt_spell.proofs.facts.FactKeys.{block_same}
 use Rattle.quilt_line_laws.proofs.SetLaws.{contains_is, items-insert, items-removes}
 use Rattle.quilt_line_laws.proofs.Covers.{IsCover}
 

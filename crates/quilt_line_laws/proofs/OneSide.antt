@@ -14,7 +14,7 @@ use Rattle.quilt_spell.specs.Apart.{Apart}
 use Rattle.quilt_loc.proofs.Members.{Contains-nil, Contains-here, Contains-there, Contains-cons_cases, list_all-at, list_all-from}
 use Rattle.quilt_loc.proofs.Quartered.{quarters_are}
 use Rattle.quilt_loc.proofs.PlaneOrders.{block_total}
-use Rattle.quilt_spell.proofs.FactKeys.{block_same}
+use Rattle.quilt_spell.proofs.facts.FactKeys.{block_same}
 use Rattle.quilt_line_laws.proofs.SetLaws.{contains_is}
 use Rattle.quilt_line_laws.proofs.Merges.{joined, joined_members}
 

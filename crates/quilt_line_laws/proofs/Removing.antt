@@ -18,7 +18,7 @@ use Rattle.quilt_loc.proofs.Members.{Contains-here, Contains-there, Contains-con
 use Rattle.quilt_loc.proofs.Members.{Contains-flat_map_from}
 use Rattle.quilt_spell.proofs.Maps.{get_removed, get_kept}
 use Rattle.quilt_loc.proofs.PlaneOrders.{block_total}
-use Rattle.quilt_spell.proofs.FactKeys.{block_same}
+use Rattle.quilt_spell.proofs.facts.FactKeys.{block_same}
 use Rattle.quilt_line_laws.proofs.SetLaws.{contains_is}
 use Rattle.quilt_line_laws.proofs.Merges.{IsBlockCover}
 use Rattle.quilt_line_laws.specs.Lines.{IsMet, IsLineFact, IsOnBlock, none_on, IsAlone}

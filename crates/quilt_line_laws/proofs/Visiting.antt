@@ -13,7 +13,7 @@ use Rattle.quilt_loc.proofs.Nesting.{side_pos}
 use Rattle.quilt_loc.proofs.Quartered.{IsBlock-whole, Within-whole}
 use Rattle.quilt_blocks.proofs.Maximal.{Within-self}
 use Rattle.quilt_loc.proofs.PlaneOrders.{block_total}
-use Rattle.quilt_spell.proofs.FactKeys.{block_same}
+use Rattle.quilt_spell.proofs.facts.FactKeys.{block_same}
 use Rattle.quilt_line_laws.proofs.SetLaws.{contains_is}
 use Rattle.quilt_line_laws.proofs.Merges.{IsBlockCover}
 use Rattle.quilt_line_laws.specs.Merging.{met_in, VisitLaw}

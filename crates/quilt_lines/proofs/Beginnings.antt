@@ -20,7 +20,7 @@ use Rattle.quilt_spell.specs.Apart.{Apart, SameMembers}
 use Rattle.quilt_spell.specs.Changing.{LeadsTo}
 use Rattle.quilt_spell.specs.Written.{by_key, layer_records}
 use Rattle.quilt_spell.proofs.Commands.{fresh_leads}
-use Rattle.quilt_spell.proofs.FactKeys.{block_same}
+use Rattle.quilt_spell.proofs.facts.FactKeys.{block_same}
 use Rattle.quilt_spell.proofs.Written.{layer_record, layer_record_from}
 use Rattle.quilt_edits.proofs.Ascents.{rises_ascend}
 use Rattle.quilt_edits.proofs.Keys.{less_layer}

@@ -19,7 +19,7 @@ use Rattle.quilt_loc.proofs.Nesting.{side_pos}
 use Rattle.quilt_loc.proofs.PlaneOrders.{block_total}
 use Rattle.quilt_loc.proofs.Quartered.{IsBlock-whole, Within-whole}
 use Rattle.quilt_spell.specs.Apart.{Apart}
-use Rattle.quilt_spell.proofs.FactKeys.{block_same}
+use Rattle.quilt_spell.proofs.facts.FactKeys.{block_same}
 use Rattle.quilt_spell.proofs.Lists.{Apart-filter, Apart-rises, same_length}
 use Rattle.quilt_spell.proofs.Maps.{Rises-keys}
 use Rattle.quilt_edits.proofs.Lists.{take_next}

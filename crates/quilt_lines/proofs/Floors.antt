@@ -21,7 +21,7 @@ use Rattle.quilt_btree.specs.declared.tree.Tree.{Tree}
 use Rattle.quilt_btree.specs.Lists.{is_at_most, floor_of}
 use Rattle.quilt_btree.specs.Trees.{IsTree}
 use Rattle.quilt_spell.specs.Written.{by_key}
-use Rattle.quilt_spell.proofs.FactKeys.{block_same}
+use Rattle.quilt_spell.proofs.facts.FactKeys.{block_same}
 use Rattle.quilt_edits.proofs.Lasts.{last_is}
 use Rattle.quilt_line_laws.proofs.LineFacts.{on_block}
 use Rattle.quilt_line_laws.proofs.SetLaws.{contains_is}

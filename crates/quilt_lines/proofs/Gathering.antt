@@ -19,7 +19,7 @@ use Rattle.quilt_line_laws.specs.Counting.{gone_of_quarter}
 use Rattle.quilt_lines.specs.declared.merging.Settled.{Settled}
 use Rattle.quilt_lines.specs.Layers.{fact_record}
 use Rattle.quilt_lines.specs.Merges.{records_on, met_by, Settles, Gathers, IsGathered}
-use Rattle.quilt_lines.proofs.MergeSteps.{ids_are}
+use Rattle.quilt_lines.proofs.plans.MergeSteps.{ids_are}
 
 -- the records of the blocks that a function gives of one block more
 one_more : (n layer : ℕ) (facts : Block → List Fact) (f : Block → List Block) (bs : List Block) (b : Block) (old more new : List Record) → new ≡ old ++ more

@@ -20,8 +20,8 @@ use Rattle.quilt_loc.proofs.Nesting.{side_pos}
 use Rattle.quilt_loc.proofs.PlaneOrders.{block_total}
 use Rattle.quilt_record.specs.declared.record.Record.{Record}
 use Rattle.quilt_spell.proofs.Spelling.{all_from}
-use Rattle.quilt_spell.proofs.FactKeys.{block_same}
-use Rattle.quilt_spell.proofs.SameFacts.{any_member}
+use Rattle.quilt_spell.proofs.facts.FactKeys.{block_same}
+use Rattle.quilt_spell.proofs.facts.SameFacts.{any_member}
 use Rattle.quilt_line_laws.proofs.LineFacts.{got}
 use Rattle.quilt_line_laws.proofs.SetLaws.{contains_is}
 use Rattle.quilt_near.specs.Lines.{meeting}

@@ -23,7 +23,7 @@ use Rattle.quilt_btree.specs.declared.tree.Tree.{Tree}
 use Rattle.quilt_btree.specs.Lists.{is_from_to, range_of}
 use Rattle.quilt_btree.specs.Trees.{IsTree}
 use Rattle.quilt_spell.specs.Written.{by_key}
-use Rattle.quilt_spell.proofs.FactKeys.{block_same}
+use Rattle.quilt_spell.proofs.facts.FactKeys.{block_same}
 use Rattle.quilt_spell.proofs.Lists.{Apart-rises, Apart-le}
 use Rattle.quilt_spell.proofs.Maps.{by_first, Rises-entries}
 use Rattle.quilt_spell.proofs.Written.{by_key_total}

@@ -17,7 +17,7 @@ use Rattle.quilt_record.specs.declared.key.Key.{Key}
 use Rattle.quilt_record.specs.declared.record.Record.{Record}
 use Rattle.quilt_record.specs.Records.{block_key}
 use Rattle.quilt_record.specs.Canonical.{FactFits}
-use Rattle.quilt_spell.proofs.FactKeys.{block_alone}
+use Rattle.quilt_spell.proofs.facts.FactKeys.{block_alone}
 use Rattle.quilt_line_laws.specs.Lines.{IsMet, IsLineFact, IsOnBlock}
 use Rattle.quilt_line_laws.proofs.LineFacts.{entry, on_block, says}
 use Rattle.quilt_lines.specs.Layers.{segment_facts, shown_facts, fact_record}

@@ -8,7 +8,7 @@ use Rattle.quilt_world.specs.Disk.{Pages}
 use Rattle.quilt_journal.specs.Kept.{HasHome, published}
 use Rattle.quilt_replies.specs.Answers.{State}
 use Rattle.quilt_map.specs.declared.session.Session.{Session}
-use Rattle.quilt_map.proofs.Keeping.{book_leaves, book_seen, book_stands}
+use Rattle.quilt_map.proofs.states.Keeping.{book_leaves, book_seen, book_stands}
 use Rattle.quilt_map.specs.Sessions.{IsAt, world_of, format_of, level_of}
 
 module _ {W : Type 0} {D : disk.Ghosts W} (session : Session W D) (s : State) where

@@ -17,7 +17,7 @@ use Rattle.quilt_record.specs.Records.{record_of}
 use Rattle.quilt_spell.specs.Apart.{Apart, SameMembers}
 use Rattle.quilt_spell.specs.Written.{layer_records}
 use Rattle.quilt_spell.proofs.Commands.{fresh_leads}
-use Rattle.quilt_spell.proofs.FactKeys.{pixel_same}
+use Rattle.quilt_spell.proofs.facts.FactKeys.{pixel_same}
 use Rattle.quilt_spell.proofs.Maps.{get_from_entry}
 use Rattle.quilt_spell.proofs.Written.{layer_record, layer_record_from}
 use Rattle.quilt_blocks.proofs.Maximal.{IsMaximal}

@@ -17,7 +17,7 @@ use Rattle.quilt_loc.proofs.Nesting.{Within-holds}
 use Rattle.quilt_spell.proofs.Lists.{Apart-filter, Apart-rises, same_length}
 use Rattle.quilt_spell.proofs.Maps.{by_first, Rises-entries, entry_from_get, get_from_entry, get_inserted, get_others, get_removed, get_kept, same_or_not}
 use Rattle.quilt_loc.proofs.PlaneOrders.{pixel_total}
-use Rattle.quilt_spell.proofs.FactKeys.{pixel_same, one_label}
+use Rattle.quilt_spell.proofs.facts.FactKeys.{pixel_same, one_label}
 use Rattle.quilt_blocks.proofs.Maximal.{GoesDown}
 use Rattle.quilt_point_laws.proofs.Narrowing.{Narrows}
 

@@ -19,7 +19,7 @@ use Rattle.quilt_loc.proofs.Members.{Contains-here, Contains-there, Contains-con
 use Rattle.quilt_loc.proofs.Blocks.{Holds-from, in_block-true}
 use Rattle.quilt_loc.proofs.PlaneOrders.{pixel_total}
 use Rattle.quilt_loc.proofs.Quartered.{quarters_are}
-use Rattle.quilt_spell.proofs.FactKeys.{pixel_same}
+use Rattle.quilt_spell.proofs.facts.FactKeys.{pixel_same}
 use Rattle.quilt_spell.proofs.Lists.{Apart-filter, Apart-le, same_length}
 use Rattle.quilt_spell.proofs.Maps.{entry_from_get}
 use Rattle.quilt_blocks.proofs.Maximal.{IsMaximal-from}

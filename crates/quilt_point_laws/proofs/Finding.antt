@@ -11,7 +11,7 @@ use Rattle.quilt_types.specs.Facts.{HoldsPoint, facts}
 use Rattle.quilt_loc.proofs.Blocks.{in_block-true}
 use Rattle.quilt_spell.proofs.Maps.{entry_from_get, get_from_entry}
 use Rattle.quilt_loc.proofs.PlaneOrders.{pixel_total}
-use Rattle.quilt_spell.proofs.FactKeys.{pixel_same}
+use Rattle.quilt_spell.proofs.facts.FactKeys.{pixel_same}
 use Rattle.quilt_blocks.proofs.Maximal.{IsMaximal, IsMaximal-from}
 use Rattle.quilt_point_laws.proofs.Narrowing.{one_maximal, kept}
 use Rattle.quilt_point_laws.proofs.Counts.{Comes, few_down, few_narrows, room_passes, full_fails}

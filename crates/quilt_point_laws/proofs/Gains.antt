@@ -20,7 +20,7 @@ use Rattle.quilt_loc.proofs.PlaneOrders.{block_total}
 use Rattle.quilt_spell.specs.Apart.{Apart, SameMembers}
 use Rattle.quilt_spell.proofs.Lists.{Apart-append, Apart-filter, Apart-map, Apart-flat_map}
 use Rattle.quilt_spell.proofs.Maps.{same_or_not}
-use Rattle.quilt_spell.proofs.FactKeys.{block_same}
+use Rattle.quilt_spell.proofs.facts.FactKeys.{block_same}
 use Rattle.quilt_blocks.proofs.Maximal.{IsMaximal, IsMaximal-from}
 use Rattle.quilt_point_laws.specs.Swapping.{Swaps}
 use Rattle.quilt_point_laws.specs.Local.{full_come}

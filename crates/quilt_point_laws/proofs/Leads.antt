@@ -8,9 +8,9 @@ use Rattle.quilt_spell.specs.Apart.{Apart}
 use Rattle.quilt_spell.specs.Changing.{is_among, records_alone, LeadsTo}
 use Rattle.quilt_loc.proofs.Members.{Contains-map, Contains-map_from, Contains-filter, Contains-filter_from}
 use Rattle.quilt_spell.proofs.Lists.{Apart-map}
-use Rattle.quilt_spell.proofs.SameFacts.{among_from, among_is}
+use Rattle.quilt_spell.proofs.facts.SameFacts.{among_from, among_is}
 use Rattle.quilt_spell.proofs.Changes.{not_true, not_from}
-use Rattle.quilt_spell.proofs.FactKeys.{fact_alone}
+use Rattle.quilt_spell.proofs.facts.FactKeys.{fact_alone}
 use Rattle.quilt_point_laws.specs.Swapping.{Swaps}
 
 module _ (form n : ℕ) (name : List ℕ) (number capacity : ℕ) (le : n ≤ 12) (least : 1 ≤ number) where

@@ -9,7 +9,7 @@ use Rattle.quilt_types.specs.Quadtrees.{holds_few, point_blocks}
 use Rattle.quilt_types.specs.Facts.{Fact, IsOfKind, HoldsPoint, HoldsNoPoint, or_none, point_facts, facts}
 use Rattle.quilt_loc.proofs.Members.{Contains-nil, Contains-here, Contains-there, Contains-cons_cases, Contains-map, Contains-map_from, Contains-filter}
 use Rattle.quilt_loc.proofs.Members.{Contains-filter_from, Contains-flat_map, Contains-flat_map_from}
-use Rattle.quilt_spell.proofs.FactMembers.{or_none_member}
+use Rattle.quilt_spell.proofs.facts.FactMembers.{or_none_member}
 use Rattle.quilt_blocks.proofs.Maximal.{IsMaximal, IsMaximal-from, Contains-maximal}
 
 -- no point of the block

@@ -11,7 +11,7 @@ use Rattle.quilt_loc.proofs.Members.{Contains-nil, Contains-map, Contains-map_fr
 use Rattle.quilt_loc.proofs.Members.{Contains-flat_map_from}
 use Rattle.quilt_loc.proofs.Nesting.{Within-holds, Within-trans, Holds-corner, same_block_from}
 use Rattle.quilt_spell.proofs.Lists.{Apart-filter, Apart-map, Apart-flat_map, same_length}
-use Rattle.quilt_spell.proofs.FactMembers.{or_none_member}
+use Rattle.quilt_spell.proofs.facts.FactMembers.{or_none_member}
 use Rattle.quilt_loc.proofs.Quartered.{quarters_are}
 use Rattle.quilt_blocks.proofs.Maximal.{Within-self}
 use Rattle.quilt_point_laws.proofs.Cuts.{quarters_apart, or_none_apart}

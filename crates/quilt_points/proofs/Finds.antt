@@ -30,7 +30,7 @@ use Rattle.quilt_spell.specs.Written.{by_key}
 use Rattle.quilt_points.proofs.Trees.{tree_rises}
 use Rattle.quilt_edits.proofs.Lookups.{find_away, find_at}
 use Rattle.quilt_spell.proofs.Maps.{entry_from_get, get_from_entry}
-use Rattle.quilt_spell.proofs.FactKeys.{pixel_same}
+use Rattle.quilt_spell.proofs.facts.FactKeys.{pixel_same}
 use Rattle.quilt_point_laws.proofs.OnBlocks.{OfBlock}
 use Rattle.quilt_points.specs.Layers.{block_facts, block_record, pixel_key, SpellsPoints, HasPoints}
 use Rattle.quilt_points.specs.Reads.{IsBlockRead, label_at}

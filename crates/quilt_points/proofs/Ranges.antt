@@ -26,7 +26,7 @@ use Rattle.quilt_record.specs.Records.{key_cmp}
 use Rattle.quilt_btree.specs.declared.tree.Tree.{Tree}
 use Rattle.quilt_btree.specs.Lists.{is_from_to, range_of}
 use Rattle.quilt_btree.specs.Trees.{IsTree}
-use Rattle.quilt_btree.proofs.Lists.{gt_not_le}
+use Rattle.quilt_btree.proofs.lists.Lists.{gt_not_le}
 use Rattle.quilt_edits.proofs.Keys.{then_equal, nat_same, le_layer, le_code, less_depth}
 use Rattle.quilt_points.proofs.Trees.{tree_rises}
 use Rattle.quilt_spell.specs.Written.{by_key}

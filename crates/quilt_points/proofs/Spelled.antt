@@ -14,7 +14,7 @@ use Rattle.quilt_spell.proofs.Written.{layer_record_from, number_fits, layer_fit
 use Rattle.quilt_points.specs.Layers.{block_record}
 use Rattle.quilt_points.specs.Laws.{PointsLaw}
 use Rattle.quilt_points.proofs.Shapes.{block_fact_from}
-use Rattle.quilt_points.proofs.Plans.{nameless}
+use Rattle.quilt_points.proofs.plans.Plans.{nameless}
 
 -- a format allows no more than the later one
 later_valid : (form n capacity : ℕ) (points : PointMap) → IsPointMap form n capacity points → IsPointMap 2 n capacity points

@@ -14,7 +14,7 @@ use Rattle.quilt_loc.proofs.Nesting.{Within-holds, Within-trans, same_block_from
 use Rattle.quilt_loc.proofs.Quartered.{quarters_are, side_le}
 use Rattle.quilt_loc.proofs.PlaneOrders.{block_total}
 use Rattle.quilt_spell.proofs.Maps.{same_or_not}
-use Rattle.quilt_spell.proofs.FactKeys.{block_same}
+use Rattle.quilt_spell.proofs.facts.FactKeys.{block_same}
 use Rattle.quilt_point_laws.specs.Laws.{AreIn}
 use Rattle.quilt_point_laws.proofs.Counts.{Comes, del_comes, few_down, few_narrows}
 use Rattle.quilt_point_laws.proofs.Merging.{siblings, AreIn-same}

@@ -25,7 +25,7 @@ use Rattle.quilt_loc.proofs.Nesting.{side_pos}
 use Rattle.quilt_spell.specs.Apart.{Apart}
 use Rattle.quilt_spell.proofs.Lists.{Apart-filter}
 use Rattle.quilt_spell.proofs.Maps.{by_first, Rises-entries, get_from_entry}
-use Rattle.quilt_spell.proofs.FactKeys.{pixel_same}
+use Rattle.quilt_spell.proofs.facts.FactKeys.{pixel_same}
 use Rattle.quilt_point_laws.specs.Laws.{AreIn}
 use Rattle.quilt_point_laws.proofs.Counts.{few_pixel}
 use Rattle.quilt_points.specs.Layers.{entry_of, entries_of}

@@ -19,7 +19,7 @@ use Rattle.quilt_spell.specs.Written.{by_key}
 use Rattle.quilt_spell.proofs.Written.{by_key_total}
 use Rattle.quilt_region.proofs.Leaves.{is_leaf_from, is_leaf_at, maximal_leaf, only_leaf}
 use Rattle.quilt_region.proofs.Edited.{only_in}
-use Rattle.quilt_region.proofs.RegionLaws.{only_rises}
+use Rattle.quilt_region.proofs.plans.RegionLaws.{only_rises}
 
 -- all pixels of the block are on this side
 pub record LiesOn (side_of : Pixel → Bool) (t : Bool) (b : Block) : Type 0 where

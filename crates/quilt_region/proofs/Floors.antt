@@ -28,7 +28,7 @@ use Rattle.quilt_blocks.proofs.PixelLeaves.{HasLeaf, leaf_at}
 use Rattle.quilt_btree.specs.declared.tree.Tree.{Tree}
 use Rattle.quilt_btree.specs.Lists.{is_at_most, floor_of}
 use Rattle.quilt_btree.specs.Trees.{IsTree}
-use Rattle.quilt_btree.proofs.Lists.{filter_cond, floor_between}
+use Rattle.quilt_btree.proofs.lists.Lists.{filter_cond, floor_between}
 use Rattle.quilt_record.proofs.Orders.{lt_le, not_le}
 use Rattle.std.specs.Cmp.{tied_itself}
 use Rattle.quilt_region.specs.Regions.{leaf_record, pixel_key, SpellsRegion, HasRegion}

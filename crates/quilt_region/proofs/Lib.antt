@@ -8,15 +8,11 @@ pub mod Results
 pub mod Edited
 pub mod Nested
 pub mod InStep
-pub mod LayerPlans
 pub mod GridsFit
-pub mod RegionLaws
 pub mod Apart
 pub mod Within
 pub mod Beside
 pub mod Counting
 pub mod Nearby
 pub mod WithinKeys
-pub mod KnownPlans
-pub mod Quarters
-pub mod QuarterPlans
+pub mod plans

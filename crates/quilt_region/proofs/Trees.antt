@@ -6,8 +6,8 @@ use Rattle.quilt_spell.specs.Written.{by_key}
 use Rattle.quilt_edits.proofs.Ascents.{ascending_rises}
 use Rattle.quilt_btree.specs.declared.tree.Tree.{Tree}
 use Rattle.quilt_btree.specs.Trees.{IsTree}
-use Rattle.quilt_btree.proofs.Trees.{subtree_rises}
-use Rattle.quilt_btree.proofs.Whole.{tree_spells, no_records}
+use Rattle.quilt_btree.proofs.subtrees.Trees.{subtree_rises}
+use Rattle.quilt_btree.proofs.subtrees.Whole.{tree_spells, no_records}
 
 rises_at : (told : Option (List (List ℕ))) (t : Tree) (rs : List Record) (height : ℕ) → t.height ≡ height → IsTree told t rs → Rises by_key rs
 rises_at told t rs zero e is = subst (Rises by_key) (sym (no_records told t rs e is)) tt

@@ -28,7 +28,7 @@ use Rattle.quilt_region.specs.Windows.{leaves_within, records_within}
 use Rattle.quilt_spell.specs.Written.{by_key}
 use Rattle.quilt_spell.proofs.Written.{by_key_total}
 use Rattle.quilt_edits.proofs.Keys.{le_layer, le_code, less_code, less_depth}
-use Rattle.quilt_region.proofs.LayerPlans.{shorter}
+use Rattle.quilt_region.proofs.plans.LayerPlans.{shorter}
 use Rattle.quilt_region.proofs.Records.{region_small, region_length, spelled_leaf}
 use Rattle.quilt_region.proofs.Trees.{tree_rises}
 use Rattle.quilt_region.proofs.Within.{within_from, within_at, within_rise}

@@ -18,7 +18,7 @@ use Rattle.quilt_loc.proofs.PlaneOrders.{block_total}
 use Rattle.quilt_loc.proofs.Rising.{Rises-map, same_rising}
 use Rattle.quilt_blocks.specs.Cutting.{leaves_by_code, leaf_cmp}
 use Rattle.quilt_spell.specs.Apart.{Apart}
-use Rattle.quilt_spell.proofs.FactKeys.{then_parts, block_same}
+use Rattle.quilt_spell.proofs.facts.FactKeys.{then_parts, block_same}
 
 -- leaves by their blocks, and then their colours
 abbrev pub row_cmp : Block × ℕ → Block × ℕ → Ordering

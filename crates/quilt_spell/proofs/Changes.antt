@@ -16,9 +16,9 @@ use Rattle.quilt_loc.proofs.Members.{Contains-nil, Contains-map, Contains-map_fr
 use Rattle.quilt_loc.proofs.Members.{Contains-filter_from}
 use Rattle.quilt_spell.proofs.Lists.{Apart-filter, Apart-map, Apart-flat_map, Apart-rises, same_length}
 use Rattle.quilt_spell.proofs.Maps.{by_first, Rises-entries, entry_from_get, get_from_entry, get_inserted, get_others, get_removed, get_kept, same_or_not}
-use Rattle.quilt_spell.proofs.FactKeys.{facts_apart}
+use Rattle.quilt_spell.proofs.facts.FactKeys.{facts_apart}
 use Rattle.quilt_spell.proofs.Written.{name_same}
-use Rattle.quilt_spell.proofs.SameFacts.{among_from, among_is, fact_of_from, fact_of_is}
+use Rattle.quilt_spell.proofs.facts.SameFacts.{among_from, among_is, fact_of_from, fact_of_is}
 
 -- ---- what a test that fails says
 pub not_true : (b : Bool) → not b ≡ true → b ≡ true → ⊥

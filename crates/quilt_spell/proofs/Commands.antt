@@ -18,12 +18,12 @@ use Rattle.quilt_spell.specs.Stepping.{IsStep}
 use Rattle.quilt_spell.specs.Applying.{taken, given}
 use Rattle.quilt_loc.proofs.Members.{Contains-here, Contains-there, Contains-map, Contains-map_from, Contains-filter, Contains-filter_from}
 use Rattle.quilt_spell.proofs.Lists.{Apart-map}
-use Rattle.quilt_spell.proofs.FactKeys.{fact_alone}
-use Rattle.quilt_spell.proofs.FactMembers.{layer_says}
+use Rattle.quilt_spell.proofs.facts.FactKeys.{fact_alone}
+use Rattle.quilt_spell.proofs.facts.FactMembers.{layer_says}
 use Rattle.quilt_spell.proofs.Written.{layer_record_from, layer_record}
 use Rattle.quilt_spell.proofs.Edits.{record_with_from, alone_from, facts_some}
 use Rattle.quilt_spell.proofs.OfLayer.{region_alone_from, region_alone_is}
-use Rattle.quilt_spell.proofs.Decoding.{fact_of}
+use Rattle.quilt_spell.proofs.facts.Decoding.{fact_of}
 use Rattle.quilt_spell.proofs.Stepping.{step_least, step_there, step_apart, step_spells}
 use Rattle.quilt_spell.proofs.Applying.{KeysApart, edits_edited, edits_rise}
 

@@ -15,7 +15,7 @@ use Rattle.quilt_loc.proofs.Members.{Contains-here, Contains-there, Contains-con
 use Rattle.quilt_spell.proofs.Lists.{Apart-map}
 use Rattle.quilt_spell.proofs.Written.{layer_record, layer_record_from}
 use Rattle.quilt_spell.proofs.OfLayer.{kind_there, kind_only}
-use Rattle.quilt_spell.proofs.OneMap.{kind_layer}
+use Rattle.quilt_spell.proofs.facts.OneMap.{kind_layer}
 use Rattle.quilt_spell.proofs.Commands.{fresh_leads}
 
 -- what tells of no kind stands under the layer's number, and nothing else of it tells name or number

@@ -15,8 +15,8 @@ use Rattle.quilt_spell.specs.Changing.{with_layer, facts_in, is_among, facts_alo
 use Rattle.quilt_loc.proofs.Members.{Contains-nil, Contains-map, Contains-map_from, Contains-filter, Contains-filter_from}
 use Rattle.quilt_spell.proofs.Lists.{Apart-filter, Apart-map, same_length}
 use Rattle.quilt_spell.proofs.Maps.{same_or_not}
-use Rattle.quilt_spell.proofs.FactKeys.{fact_alone, facts_apart}
-use Rattle.quilt_spell.proofs.SameFacts.{among_from, among_is}
+use Rattle.quilt_spell.proofs.facts.FactKeys.{fact_alone, facts_apart}
+use Rattle.quilt_spell.proofs.facts.SameFacts.{among_from, among_is}
 use Rattle.quilt_spell.proofs.Changes.{not_true, got_here, got_there, changes_are, records_balance, lost_at}
 use Rattle.quilt_spell.proofs.Written.{name_same, number_in_layer, layer_record, layer_record_from, number_fits, name_alone, layer_fits}
 

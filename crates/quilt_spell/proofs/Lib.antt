@@ -1,18 +1,12 @@
-pub mod FactKeys
-pub mod FactMembers
 pub mod Lists
 pub mod Maps
 pub mod Written
 pub mod Spelling
-pub mod SameFacts
 pub mod Changes
 pub mod Edits
 pub mod Session
 pub mod OfLayer
-pub mod Decoding
 pub mod Holding
-pub mod LayerAlone
-pub mod OneMap
 pub mod Stepping
 pub mod Applying
 pub mod Commands
@@ -22,3 +16,4 @@ pub mod Laws
 pub mod Meeting
 pub mod InKeyOrder
 pub mod RegionPlans
+pub mod facts

@@ -24,7 +24,7 @@ use Rattle.quilt_spell.proofs.Lists.{same_length, Apart-rises}
 use Rattle.std.proofs.lemmas.List.Sums.{length-filter}
 use Rattle.quilt_spell.proofs.Maps.{same_or_not}
 use Rattle.quilt_spell.proofs.Written.{key_same, by_key_total, record_total, record_same}
-use Rattle.quilt_spell.proofs.SameFacts.{fact_of_is}
+use Rattle.quilt_spell.proofs.facts.SameFacts.{fact_of_is}
 use Rattle.quilt_spell.proofs.Changes.{not_true, changes_are}
 use Rattle.quilt_spell.proofs.Applying.{KeysApart, taken_members, given_members, put_length, without_members, without_rises}
 

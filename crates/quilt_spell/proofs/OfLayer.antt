@@ -18,9 +18,9 @@ use Rattle.quilt_spell.specs.OfLayer.{kind_fact, kind_record, SpellsLayer, leaf_
 use Rattle.quilt_loc.proofs.Members.{Contains-here, Contains-there, Contains-cons_cases, Contains-map, Contains-map_from, Contains-filter, Contains-filter_from}
 use Rattle.quilt_loc.proofs.Rising.{Rises-filter}
 use Rattle.quilt_spell.proofs.Lists.{Apart-rises, same_length}
-use Rattle.quilt_spell.proofs.FactKeys.{fact_alone}
-use Rattle.quilt_spell.proofs.FactMembers.{layer_says}
-use Rattle.quilt_spell.proofs.SameFacts.{among_from, among_is}
+use Rattle.quilt_spell.proofs.facts.FactKeys.{fact_alone}
+use Rattle.quilt_spell.proofs.facts.FactMembers.{layer_says}
+use Rattle.quilt_spell.proofs.facts.SameFacts.{among_from, among_is}
 use Rattle.quilt_spell.proofs.Changes.{not_true, not_from}
 use Rattle.quilt_spell.proofs.Edits.{record_with_from, same_capacity}
 use Rattle.quilt_spell.proofs.Written.{by_key_total, number_in_layer, layer_record, layer_record_from, layer_length, layer_apart, number_is, number_fits}

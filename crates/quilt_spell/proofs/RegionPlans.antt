@@ -14,7 +14,7 @@ use Rattle.quilt_spell.specs.OfLayer.{leaf_record}
 use Rattle.quilt_spell.specs.Changing.{LeadsTo}
 use Rattle.quilt_loc.proofs.Members.{Contains-filter, Contains-filter_from}
 use Rattle.quilt_spell.proofs.Lists.{Apart-filter, Apart-rises}
-use Rattle.quilt_spell.proofs.SameFacts.{itself, block_is, block_itself, any_member, member_any}
+use Rattle.quilt_spell.proofs.facts.SameFacts.{itself, block_is, block_itself, any_member, member_any}
 use Rattle.quilt_spell.proofs.Changes.{not_true, not_from}
 use Rattle.quilt_spell.proofs.InKeyOrder.{by_code}
 use Rattle.quilt_spell.proofs.Commands.{IsAlone, region_leads}

@@ -29,9 +29,9 @@ use Rattle.quilt_spell.proofs.Spelling.{spelled_are}
 use Rattle.quilt_spell.proofs.Edits.{record_with_from, alone_from, facts_some, removed_there, edits_count, edits_records}
 use Rattle.quilt_spell.proofs.Session.{layer_becomes, layer_comes, layer_goes}
 use Rattle.quilt_spell.proofs.OfLayer.{added_apart, kind_only}
-use Rattle.quilt_spell.proofs.Decoding.{fact_of, facts_fit}
-use Rattle.quilt_spell.proofs.LayerAlone.{kind_of}
-use Rattle.quilt_spell.proofs.OneMap.{extent_of, kind_value, some_part, kinds_alone}
+use Rattle.quilt_spell.proofs.facts.Decoding.{fact_of, facts_fit}
+use Rattle.quilt_spell.proofs.facts.LayerAlone.{kind_of}
+use Rattle.quilt_spell.proofs.facts.OneMap.{extent_of, kind_value, some_part, kinds_alone}
 use Rattle.quilt_record.proofs.Names as names
 
 -- how many records there are

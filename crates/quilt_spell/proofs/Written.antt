@@ -23,7 +23,7 @@ use Rattle.quilt_record.proofs.Orders.{key_total}
 use Rattle.quilt_loc.proofs.Rising.{same_rising}
 use Rattle.quilt_spell.proofs.Lists.{Apart-map, Apart-flat_map, Apart-rises, same_length}
 use Rattle.quilt_spell.proofs.Maps.{by_first, Rises-entries, entry_from_get, get_from_entry, member_from_list, from_list_member, items_rise}
-use Rattle.quilt_spell.proofs.FactKeys.{then_parts, fact_alone, facts_apart}
+use Rattle.quilt_spell.proofs.facts.FactKeys.{then_parts, fact_alone, facts_apart}
 
 -- ---- orders
 pub name_same : IsAntisymmetric (slice_cmp nat_cmp)

@@ -30,12 +30,12 @@ use Rattle.quilt_top.specs.Openings.{run_ends, is_run_end, end_of}
 use Rattle.quilt_top.specs.Saying.{Says, SaysFront}
 use Rattle.quilt_top.specs.TextRun.{IsUntold, run_in}
 use Rattle.quilt_top.specs.Trying.{StandsForOne, StandsForLast, Tries, Tried, trial_run, Concludes, TriesFront, TriesWhole, TriesTo}
-use Rattle.quilt_top.proofs.Events.{put_bytes-append, taken_bytes-append, nothing_taken, pages_untaken, pages_unput}
-use Rattle.quilt_top.proofs.Fine.{moved}
-use Rattle.quilt_top.proofs.Fronts.{front_split, only_front, same_events, stops_at}
+use Rattle.quilt_top.proofs.logs.Events.{put_bytes-append, taken_bytes-append, nothing_taken, pages_untaken, pages_unput}
+use Rattle.quilt_top.proofs.turns.Fine.{moved}
+use Rattle.quilt_top.proofs.logs.Fronts.{front_split, only_front, same_events, stops_at}
 use Rattle.quilt_top.proofs.Running.{apart, given_up, not_damaged, other_end, run_is}
-use Rattle.quilt_top.proofs.Said.{says_nothing}
-use Rattle.quilt_top.proofs.Trials.{tries_none, one_first}
+use Rattle.quilt_top.proofs.logs.Said.{says_nothing}
+use Rattle.quilt_top.proofs.turns.Trials.{tries_none, one_first}
 
 -- ---- what is put
 

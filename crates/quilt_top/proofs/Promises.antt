@@ -36,8 +36,8 @@ use Rattle.quilt_top.specs.TextRun.{IsUntold}
 use Rattle.quilt_top.specs.Trying.{trial_run, TriesTo}
 use Rattle.quilt_top.specs.Words.{Run as RunText}
 use Rattle.quilt_top.proofs.Concluding.{quiet_try, runs_trial, opens_tried}
-use Rattle.quilt_top.proofs.Damages.{damage_page}
-use Rattle.quilt_top.proofs.Found.{IsFoundDamaged}
+use Rattle.quilt_top.proofs.openings.Damages.{damage_page}
+use Rattle.quilt_top.proofs.openings.Found.{IsFoundDamaged}
 use Rattle.quilt_top.proofs.Running.{stands_as, home_kept, opened_untold, other_end, no_start_end, run_end, apart, number, runs_input, quiet_run, opens_quiet}
 use Rattle.quilt_top.proofs.Running.{opens_map, finds_opened}
 

@@ -16,15 +16,15 @@ use Rattle.quilt_lang.specs.Reading.{Same}
 use Rattle.quilt_lang.specs.Trials.{line}
 use Rattle.quilt_replies.specs.Answers.{State, Reply}
 use Rattle.quilt_replies.specs.Runs.{Run, run_of, replies_of, is_done, with_first, form_in, outcome_of}
-use Rattle.quilt_map.proofs.TextLaws.{run_same}
+use Rattle.quilt_map.proofs.answers.TextLaws.{run_same}
 use Rattle.quilt_top.specs.Headline.{all_done, last_number, summary}
 use Rattle.quilt_top.specs.Replies.{held_at, outcome, state_then, state_after, replies_from}
 use Rattle.quilt_top.specs.TextRun.{run_in}
 use Rattle.quilt_top.specs.Trying.{StandsForLast, summary_of, Tried}
 use Rattle.quilt_top.specs.declared.trial_run.Tally.{Tally}
-use Rattle.quilt_top.proofs.Exits.{last_is}
-use Rattle.quilt_top.proofs.Places.{edition_first}
-use Rattle.quilt_top.proofs.Said.{run_replies, length-replies, level_after}
+use Rattle.quilt_top.proofs.turns.Exits.{last_is}
+use Rattle.quilt_top.proofs.turns.Places.{edition_first}
+use Rattle.quilt_top.proofs.logs.Said.{run_replies, length-replies, level_after}
 
 -- ---- no reply is a refusal
 

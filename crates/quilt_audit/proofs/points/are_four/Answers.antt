@@ -1,4 +1,4 @@
-use Rattle.quilt_audit.proofs.FourLeaves.{siblings_four, four_siblings}
+use Rattle.quilt_audit.proofs.runs.FourLeaves.{siblings_four, four_siblings}
 use Rattle.quilt_audit.proofs.points.are_four.Goals as goal
 
 pub returns-clause-yes : goal.returns-clause-yes

@@ -8,8 +8,8 @@ use Rattle.quilt_audit.specs.declared.run.Run.TheVariants as runs
 use Rattle.quilt_line_audit.specs.Layers.{Refuses}
 use Rattle.quilt_audit.specs.Regions.{IsGoing}
 use Rattle.quilt_audit.specs.Runs.{IsRun}
-use Rattle.quilt_audit.proofs.Runs.{by_region}
-use Rattle.quilt_audit.proofs.RegionRuns.{unread_refused}
+use Rattle.quilt_audit.proofs.runs.Runs.{by_region}
+use Rattle.quilt_audit.proofs.runs.RegionRuns.{unread_refused}
 use Rattle.quilt_audit.proofs.run.take_leaf.Goals as goal
 
 pub returns-in_default-clause-no : goal.returns-in_default-clause-no

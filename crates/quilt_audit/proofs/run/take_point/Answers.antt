@@ -8,8 +8,8 @@ use Rattle.quilt_audit.specs.declared.run.Run.TheVariants as runs
 use Rattle.quilt_line_audit.specs.Layers.{Refuses}
 use Rattle.quilt_audit.specs.Points.{IsPointRun}
 use Rattle.quilt_audit.specs.Runs.{IsRun}
-use Rattle.quilt_audit.proofs.Runs.{by_points}
-use Rattle.quilt_audit.proofs.PointRuns.{unread_refused, point_code}
+use Rattle.quilt_audit.proofs.runs.Runs.{by_points}
+use Rattle.quilt_audit.proofs.runs.PointRuns.{unread_refused, point_code}
 use Rattle.quilt_audit.proofs.run.take_point.Goals as goal
 
 pub returns-in_default-clause-no : goal.returns-in_default-clause-no

@@ -1,6 +1,6 @@
 use Rattle.quilt_types.specs.declared.plane.Block.{Block}
 use Rattle.quilt_loc.proofs.Blocks.{IsBlock-up}
-use Rattle.quilt_audit.proofs.FourLeaves.{IsParent, parent_is, siblings_alike, siblings_from, siblings_are}
+use Rattle.quilt_audit.proofs.runs.FourLeaves.{IsParent, parent_is, siblings_alike, siblings_from, siblings_are}
 use Rattle.quilt_audit.proofs.siblings.are_siblings.Goals as goal
 
 found : (c : goal.In-Some) → IsParent c.args.level c.args.d.block c.in-Some.block

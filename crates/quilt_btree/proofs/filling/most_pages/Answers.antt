@@ -1,5 +1,5 @@
 use Rattle.std.proofs.Common.{◌≤◌, length, sym, subst}
-use Rattle.quilt_btree.proofs.Heights.{walk_low, walk_pages}
+use Rattle.quilt_btree.proofs.subtrees.Heights.{walk_low, walk_pages}
 use Rattle.quilt_btree.proofs.filling.most_pages.Goals as goal
 
 pub returns-clause-pages : goal.returns-clause-pages

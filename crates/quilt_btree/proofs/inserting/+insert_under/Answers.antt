@@ -1,13 +1,13 @@
 use Rattle.std.proofs.Common.{◌≡◌, true, false, ◌≤◌, ◌<◌, ◌+◌, ◌-◌, Some, refl, sym, subst, ◌∙◌, arith}
 use Rattle.quilt_node.specs.Pages.{inner_of}
 use Rattle.quilt_btree.specs.Searches.{IsHigh}
-use Rattle.quilt_btree.proofs.Forks.{place_inside, read_ok}
-use Rattle.quilt_btree.proofs.Damage.{bad_below, inner_fault, zero_named, named_more, named_leaf}
+use Rattle.quilt_btree.proofs.ways.Forks.{place_inside, read_ok}
+use Rattle.quilt_btree.proofs.ways.Damage.{bad_below, inner_fault, zero_named, named_more, named_leaf}
 use Rattle.quilt_store.specs.Store.{count_free}
 use Rattle.quilt_btree.specs.Trees.{Spells}
-use Rattle.quilt_btree.proofs.UnderGrowth.{sound_leaf, sound_under, under_there, under_done, took_child, sound_child}
-use Rattle.quilt_btree.proofs.Below.{edit_spells}
-use Rattle.quilt_btree.proofs.Finding.{there_in_leaf, finds_below, new_finds}
+use Rattle.quilt_btree.proofs.growth.UnderGrowth.{sound_leaf, sound_under, under_there, under_done, took_child, sound_child}
+use Rattle.quilt_btree.proofs.growth.Below.{edit_spells}
+use Rattle.quilt_btree.proofs.growth.Finding.{there_in_leaf, finds_below, new_finds}
 use Rattle.quilt_btree.proofs.inserting.+insert_under.Goals as goal
 
 pub returns-then-height-eq1-clause-sound : goal.returns-then-height-eq1-clause-sound

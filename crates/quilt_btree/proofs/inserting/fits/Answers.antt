@@ -1,5 +1,5 @@
 use Rattle.std.proofs.Common.{◌∙◌, sym}
-use Rattle.quilt_btree.proofs.Fitting.{fits_if, fits_not}
+use Rattle.quilt_btree.proofs.lists.Fitting.{fits_if, fits_not}
 use Rattle.quilt_btree.proofs.inserting.fits.Goals as goal
 
 pub returns-then-is_over : goal.returns-then-is_over

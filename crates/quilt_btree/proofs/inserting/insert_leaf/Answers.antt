@@ -1,8 +1,8 @@
 use Rattle.std.proofs.Common.{◌+◌, refl, arith}
-use Rattle.quilt_btree.proofs.Along.{sound_along}
-use Rattle.quilt_btree.proofs.Damage.{zero_named, names_more, named_more}
-use Rattle.quilt_btree.proofs.Finding.{finds_here, finds_none, new_in_leaf}
-use Rattle.quilt_btree.proofs.LeafGrowth.{leaf_there, leaf_read, leaf_can_spell}
+use Rattle.quilt_btree.proofs.subtrees.Along.{sound_along}
+use Rattle.quilt_btree.proofs.ways.Damage.{zero_named, names_more, named_more}
+use Rattle.quilt_btree.proofs.growth.Finding.{finds_here, finds_none, new_in_leaf}
+use Rattle.quilt_btree.proofs.growth.LeafGrowth.{leaf_there, leaf_read, leaf_can_spell}
 use Rattle.quilt_btree.proofs.inserting.insert_leaf.Goals as goal
 
 pub returns-in-Err-clause-sound : goal.returns-in-Err-clause-sound

@@ -1,5 +1,5 @@
 use Rattle.std.proofs.Common.{◌<◌, ◌∙◌, arith}
-use Rattle.quilt_btree.proofs.Fitting.{under_last}
+use Rattle.quilt_btree.proofs.lists.Fitting.{under_last}
 use Rattle.quilt_btree.proofs.inserting.is_over.Goals as goal
 
 pub returns-else-i-eq0 : goal.returns-else-i-eq0

@@ -1,5 +1,5 @@
 use Rattle.std.proofs.Common.{◌∙◌}
-use Rattle.quilt_btree.proofs.Fitting.{over_first}
+use Rattle.quilt_btree.proofs.lists.Fitting.{over_first}
 use Rattle.quilt_btree.proofs.inserting.is_under.Goals as goal
 
 pub returns-else-i-len : goal.returns-else-i-len

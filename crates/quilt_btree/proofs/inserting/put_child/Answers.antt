@@ -3,7 +3,7 @@ use Rattle.quilt_node.specs.Pages.{Inner}
 use Rattle.std.specs.List.{insert}
 use Rattle.std.proofs.lemmas.List.Edits.{length-insert}
 use Rattle.quilt_node.specs.Edits.{with_child}
-use Rattle.quilt_btree.proofs.InnerGrowth.{IsWritten, pending_taken, put_done, put_split}
+use Rattle.quilt_btree.proofs.growth.InnerGrowth.{IsWritten, pending_taken, put_done, put_split}
 use Rattle.quilt_btree.proofs.inserting.put_child.Goals as goal
 
 pub returns-in-Err-clause-sound : goal.returns-in-Err-clause-sound

@@ -3,7 +3,7 @@ use Rattle.std.proofs.Common.{◌≡◌, List, length, refl, Some, take, drop, �
 use Rattle.std.specs.List.{insert}
 use Rattle.quilt_record.specs.declared.record.Record.{Record}
 use Rattle.quilt_node.specs.Nodes.{IsGap}
-use Rattle.quilt_btree.proofs.LeafGrowth.{gap_ascends, leaf_done, leaf_split}
+use Rattle.quilt_btree.proofs.growth.LeafGrowth.{gap_ascends, leaf_done, leaf_split}
 use Rattle.quilt_btree.proofs.inserting.put_record.Goals as goal
 
 pub insert-requires-clause-order : goal.insert-requires-clause-order

@@ -1,4 +1,4 @@
-use Rattle.quilt_btree.proofs.Parts.{part_added}
+use Rattle.quilt_btree.proofs.ranges.Parts.{part_added}
 use Rattle.quilt_btree.proofs.ranging.add_leaf.Goals as goal
 
 pub returns : goal.returns

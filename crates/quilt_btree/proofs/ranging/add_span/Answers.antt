@@ -1,8 +1,8 @@
 use Rattle.std.proofs.Common.{◌≡◌, ◌<◌, ◌≤◌, ◌+◌, ◌-◌, ◌++◌, take, filter, length, sym, ◌∙◌, arith}
 use Rattle.quilt_node.specs.Nodes.{records_of}
 use Rattle.quilt_btree.specs.Lists.{is_from_to}
-use Rattle.quilt_btree.proofs.Parts.{part, no_place, add_place, skip_place}
-use Rattle.quilt_btree.proofs.Ranges.{full_list, below_most}
+use Rattle.quilt_btree.proofs.ranges.Parts.{part, no_place, add_place, skip_place}
+use Rattle.quilt_btree.proofs.ranges.Ranges.{full_list, below_most}
 use Rattle.quilt_btree.proofs.ranging.add_span.Goals as goal
 use Rattle.quilt_btree.proofs.ranging.add_span.Goals.{then-is_within+in_ok-push, else-is_within}
 

@@ -1,7 +1,7 @@
 use Rattle.std.proofs.Common.{◌≡◌, ◌≤◌, ◌-◌, ◌++◌, take, filter}
 use Rattle.quilt_node.specs.Nodes.{records_of}
 use Rattle.quilt_btree.specs.Lists.{is_from_to}
-use Rattle.quilt_btree.proofs.Parts.{part}
+use Rattle.quilt_btree.proofs.ranges.Parts.{part}
 use Rattle.quilt_btree.proofs.ranging.add_span.Given as goal
 
 abbrev pub invariant-loop-i : goal.invariant-loop-i

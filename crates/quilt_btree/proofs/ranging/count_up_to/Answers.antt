@@ -1,7 +1,7 @@
 use Rattle.std.specs.Ordering.{is_lt}
 use Rattle.quilt_record.specs.declared.record.Record.{Record}
 use Rattle.quilt_record.specs.Records.{key_cmp}
-use Rattle.quilt_btree.proofs.Parts.{past_place, past_all}
+use Rattle.quilt_btree.proofs.ranges.Parts.{past_place, past_all}
 use Rattle.quilt_btree.proofs.ranging.count_up_to.Goals as goal
 
 pub returns-in-Ok-clause-above : goal.returns-in-Ok-clause-above

@@ -1,10 +1,10 @@
 use Rattle.std.proofs.Common.{◌≡◌, ◌≤◌, Some, length, ◌∙◌}
 use Rattle.quilt_node.specs.Pages.{leaf_of}
 use Rattle.quilt_node.specs.Nodes.{records_of}
-use Rattle.quilt_btree.proofs.Dividing.{leaf_cut}
-use Rattle.quilt_btree.proofs.Forks.{read_ok}
-use Rattle.quilt_btree.proofs.Steps.{step_led, step_cut, step_sound, step_holds, step_above, here_led, here_least, here_leaf}
-use Rattle.quilt_btree.proofs.Damage.{sound_names, bad_leaf, bad_inner, names_below, spoilt_below}
+use Rattle.quilt_btree.proofs.subtrees.Dividing.{leaf_cut}
+use Rattle.quilt_btree.proofs.ways.Forks.{read_ok}
+use Rattle.quilt_btree.proofs.ways.Steps.{step_led, step_cut, step_sound, step_holds, step_above, here_led, here_least, here_leaf}
+use Rattle.quilt_btree.proofs.ways.Damage.{sound_names, bad_leaf, bad_inner, names_below, spoilt_below}
 use Rattle.quilt_btree.proofs.reading.+leaf_at.Goals as goal
 
 pub returns-in-Ok-clause-leads : goal.returns-in-Ok-clause-leads

@@ -1,5 +1,5 @@
 use Rattle.std.proofs.Common.{◌∙◌, sym}
-use Rattle.quilt_btree.proofs.Steps.{last_step, keys_many, next_step, next_is_above}
+use Rattle.quilt_btree.proofs.ways.Steps.{last_step, keys_many, next_step, next_is_above}
 use Rattle.quilt_btree.proofs.reading.step_in.Goals as goal
 
 pub returns-in-None-clause-step : goal.returns-in-None-clause-step

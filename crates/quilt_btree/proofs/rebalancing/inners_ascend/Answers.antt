@@ -2,7 +2,7 @@ use Rattle.std.proofs.Common.{◌≡◌, ℕ, ◌&&◌, ◌+◌, ◌-◌, length
 use Rattle.std.specs.Prelude.{slice_get}
 use Rattle.std.specs.Ordering.{is_lt}
 use Rattle.quilt_record.specs.Records.{key_cmp}
-use Rattle.quilt_btree.proofs.Ascents.{inners_test}
+use Rattle.quilt_btree.proofs.lists.Ascents.{inners_test}
 use Rattle.quilt_btree.proofs.rebalancing.inners_ascend.Goals as goal
 
 one_less : (m n : ℕ) → m ≡ n + 1 → m - 2 ≡ n - 1

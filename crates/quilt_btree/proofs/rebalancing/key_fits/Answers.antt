@@ -1,5 +1,5 @@
 use Rattle.std.proofs.Common.{◌≤◌, ◌+◌, length, sym, ◌∙◌, arith}
-use Rattle.quilt_btree.proofs.Ascents.{not_fits, fits_behind, fits_last, known_past, first_past}
+use Rattle.quilt_btree.proofs.lists.Ascents.{not_fits, fits_behind, fits_last, known_past, first_past}
 use Rattle.quilt_btree.proofs.rebalancing.key_fits.Goals.{else-i-gt0-via-then-i-gt0+else-not-precedes, else-i-gt0-via-else-i-gt0}
 use Rattle.quilt_btree.proofs.rebalancing.key_fits.Goals as goal
 

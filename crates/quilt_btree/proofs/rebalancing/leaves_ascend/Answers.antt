@@ -1,5 +1,5 @@
 use Rattle.std.proofs.Common.{ap, ◌∙◌, ◌-◌}
-use Rattle.quilt_btree.proofs.Ascents.{leaves_test}
+use Rattle.quilt_btree.proofs.lists.Ascents.{leaves_test}
 use Rattle.quilt_btree.proofs.rebalancing.leaves_ascend.Goals as goal
 
 pub returns : goal.returns

@@ -1,8 +1,8 @@
 use Rattle.std.proofs.Common.{◌∙◌}
 use Rattle.std.proofs.lemmas.Result.{err_from_is_err_and}
-use Rattle.quilt_btree.proofs.Descending.{along_told}
-use Rattle.quilt_btree.proofs.LeafRebalances.{left_spells, right_spells}
-use Rattle.quilt_btree.proofs.InnerRebalances.{inners_joined, inners_separated, inners_taken, not_inners}
+use Rattle.quilt_btree.proofs.subtrees.Descending.{along_told}
+use Rattle.quilt_btree.proofs.removals.LeafRebalances.{left_spells, right_spells}
+use Rattle.quilt_btree.proofs.removals.InnerRebalances.{inners_joined, inners_separated, inners_taken, not_inners}
 use Rattle.quilt_btree.proofs.rebalancing.rebalance_inners.Goals as goal
 
 pub returns-in_err-first-clause-sound : goal.returns-in_err-first-clause-sound

@@ -1,7 +1,7 @@
 use Rattle.std.proofs.Common.{◌∙◌}
 use Rattle.std.proofs.lemmas.Result.{err_from_is_err_and}
-use Rattle.quilt_btree.proofs.Descending.{along_told}
-use Rattle.quilt_btree.proofs.LeafRebalances.{leaves_joined, leaves_separated, leaves_taken, not_leaves, left_spells, right_spells}
+use Rattle.quilt_btree.proofs.subtrees.Descending.{along_told}
+use Rattle.quilt_btree.proofs.removals.LeafRebalances.{leaves_joined, leaves_separated, leaves_taken, not_leaves, left_spells, right_spells}
 use Rattle.quilt_btree.proofs.rebalancing.rebalance_leaves.Goals as goal
 
 pub returns-in_err-first-clause-sound : goal.returns-in_err-first-clause-sound

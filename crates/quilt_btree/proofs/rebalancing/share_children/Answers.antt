@@ -1,6 +1,6 @@
 use Rattle.std.proofs.Common.{length, ap, sym, ◌∙◌}
 use Rattle.quilt_node.specs.Pages.{Inner}
-use Rattle.quilt_btree.proofs.Cuts.{last_again}
+use Rattle.quilt_btree.proofs.lists.Cuts.{last_again}
 use Rattle.quilt_btree.proofs.rebalancing.share_children.Goals as goal
 
 pub returns-then-len-lt-LEAST_CHILDREN-2-clause-keys : goal.returns-then-len-lt-LEAST_CHILDREN-2-clause-keys

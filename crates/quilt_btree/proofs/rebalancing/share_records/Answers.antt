@@ -1,5 +1,5 @@
 use Rattle.std.proofs.Common.{◌-◌, length}
-use Rattle.quilt_btree.proofs.Cuts.{cut_again}
+use Rattle.quilt_btree.proofs.lists.Cuts.{cut_again}
 use Rattle.quilt_btree.proofs.rebalancing.share_records.Goals as goal
 
 pub returns-then-len-lt-LEAST_RECORDS-2-clause-records : goal.returns-then-len-lt-LEAST_RECORDS-2-clause-records

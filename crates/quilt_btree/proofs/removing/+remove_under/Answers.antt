@@ -1,11 +1,11 @@
 use Rattle.std.proofs.Common.{◌≡◌, true, false, Some, refl, sym, subst, ◌∙◌, arith}
 use Rattle.quilt_node.specs.Pages.{inner_of}
 use Rattle.quilt_btree.specs.Searches.{IsHigh}
-use Rattle.quilt_btree.proofs.Forks.{place_inside, read_ok}
-use Rattle.quilt_btree.proofs.Damage.{bad_below, inner_fault, zero_named, named_more, named_leaf}
-use Rattle.quilt_btree.proofs.Finding.{finds_below, found_in_leaf, found_finds}
-use Rattle.quilt_btree.proofs.LeafRemovals.{leaf_reads}
-use Rattle.quilt_btree.proofs.Removals.{sound_child, missing_child, done_child, rebalanced_child, rebalanced_sound, emptied_child, only_child, leaf_sound}
+use Rattle.quilt_btree.proofs.ways.Forks.{place_inside, read_ok}
+use Rattle.quilt_btree.proofs.ways.Damage.{bad_below, inner_fault, zero_named, named_more, named_leaf}
+use Rattle.quilt_btree.proofs.growth.Finding.{finds_below, found_in_leaf, found_finds}
+use Rattle.quilt_btree.proofs.removals.LeafRemovals.{leaf_reads}
+use Rattle.quilt_btree.proofs.removals.Removals.{sound_child, missing_child, done_child, rebalanced_child, rebalanced_sound, emptied_child, only_child, leaf_sound}
 use Rattle.quilt_btree.proofs.removing.+remove_under.Goals as goal
 
 pub returns-then-height-eq1-clause-sound : goal.returns-then-height-eq1-clause-sound

@@ -1,5 +1,5 @@
 use Rattle.std.proofs.Common.{arith}
-use Rattle.quilt_btree.proofs.Drops.{dropped_written, dropped_many}
+use Rattle.quilt_btree.proofs.removals.Drops.{dropped_written, dropped_many}
 use Rattle.quilt_btree.proofs.removing.drop_child.Goals as goal
 
 pub returns-then-left-lt-LEAST_CHILDREN-clause-dropped : goal.returns-then-left-lt-LEAST_CHILDREN-clause-dropped

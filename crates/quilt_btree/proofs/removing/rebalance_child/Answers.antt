@@ -1,6 +1,6 @@
 use Rattle.std.proofs.Common.{◌+◌, ◌<◌, ◌∙◌, sym, subst, arith}
-use Rattle.quilt_btree.proofs.LeafRemovals.{has_many}
-use Rattle.quilt_btree.proofs.Choices.{sound_rebalance, joined_sound, joined_left, separated_sound, separated_left}
+use Rattle.quilt_btree.proofs.removals.LeafRemovals.{has_many}
+use Rattle.quilt_btree.proofs.removals.Choices.{sound_rebalance, joined_sound, joined_left, separated_sound, separated_left}
 use Rattle.quilt_btree.proofs.removing.rebalance_child.Goals as goal
 
 pub returns-in-Err-clause-sound : goal.returns-in-Err-clause-sound

@@ -1,8 +1,8 @@
 use Rattle.std.proofs.Common.{◌+◌, ◌∙◌, refl, sym, arith}
 use Rattle.std.proofs.lemmas.Result.{err_from_is_err_and}
-use Rattle.quilt_btree.proofs.Damage.{zero_names, names_more}
-use Rattle.quilt_btree.proofs.Finding.{finds_here, finds_none}
-use Rattle.quilt_btree.proofs.LeafRemovals.{leaf_missing, leaf_emptied, leaf_underfull, leaf_done, leaf_reads}
+use Rattle.quilt_btree.proofs.ways.Damage.{zero_names, names_more}
+use Rattle.quilt_btree.proofs.growth.Finding.{finds_here, finds_none}
+use Rattle.quilt_btree.proofs.removals.LeafRemovals.{leaf_missing, leaf_emptied, leaf_underfull, leaf_done, leaf_reads}
 use Rattle.quilt_btree.proofs.removing.remove_in_leaf.Goals as goal
 
 pub returns-in_err-leaf-clause-sound : goal.returns-in_err-leaf-clause-sound

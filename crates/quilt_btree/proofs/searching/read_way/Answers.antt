@@ -1,9 +1,9 @@
 use Rattle.std.proofs.Common.{◌≡◌, Some, refl, sym, ◌∙◌, subst}
 use Rattle.quilt_node.specs.Pages.{inner_of}
-use Rattle.quilt_btree.proofs.Forks.{read_ok}
+use Rattle.quilt_btree.proofs.ways.Forks.{read_ok}
 use Rattle.quilt_btree.specs.Damage.{HasChild}
-use Rattle.quilt_btree.proofs.Damage.{sound_names, bad_inner}
-use Rattle.quilt_btree.proofs.Ways.{is_way, is_high}
+use Rattle.quilt_btree.proofs.ways.Damage.{sound_names, bad_inner}
+use Rattle.quilt_btree.proofs.ways.Ways.{is_way, is_high}
 use Rattle.quilt_btree.proofs.searching.read_way.Goals as goal
 
 pub returns-in-Err-clause-sound : goal.returns-in-Err-clause-sound

@@ -1,5 +1,5 @@
 use Rattle.std.proofs.Common.{arith}
-use Rattle.quilt_btree.proofs.Forks.{inside, place_inside, no_page}
+use Rattle.quilt_btree.proofs.ways.Forks.{inside, place_inside, no_page}
 use Rattle.quilt_btree.proofs.searching.way_in.Goals as goal
 
 pub returns-then-child-lt1-clause-way : goal.returns-then-child-lt1-clause-way

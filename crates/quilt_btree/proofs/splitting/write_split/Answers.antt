@@ -1,6 +1,6 @@
 use Rattle.std.proofs.Common.{◌≡◌, arith, ap, ◌∙◌, ℕ, Bool}
 use Rattle.quilt_store.specs.Store.{count_free}
-use Rattle.quilt_btree.proofs.Room.{count_taken}
+use Rattle.quilt_btree.proofs.stores.Room.{count_taken}
 use Rattle.quilt_btree.proofs.splitting.write_split.Goals as goal
 
 pub returns-in-Ok-clause-room : goal.returns-in-Ok-clause-room

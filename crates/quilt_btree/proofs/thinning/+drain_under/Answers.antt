@@ -1,8 +1,8 @@
 use Rattle.std.proofs.Common.{◌∙◌}
-use Rattle.quilt_btree.proofs.Drains.{lacks_leaf}
-use Rattle.quilt_btree.proofs.Forks.{read_ok}
-use Rattle.quilt_btree.proofs.Damage.{sound_names, bad_inner, named_leaf, named_below}
-use Rattle.quilt_btree.proofs.Steps.{step_drained, step_lacks, step_none}
+use Rattle.quilt_btree.proofs.removals.Drains.{lacks_leaf}
+use Rattle.quilt_btree.proofs.ways.Forks.{read_ok}
+use Rattle.quilt_btree.proofs.ways.Damage.{sound_names, bad_inner, named_leaf, named_below}
+use Rattle.quilt_btree.proofs.ways.Steps.{step_drained, step_lacks, step_none}
 use Rattle.quilt_btree.proofs.thinning.+drain_under.Goals as goal
 
 pub returns-in-Err-clause-lacks : goal.returns-in-Err-clause-lacks

@@ -1,5 +1,5 @@
 use Rattle.std.proofs.Common.{sym, arith}
-use Rattle.quilt_btree.proofs.Drains.{drained_next, drained_lacks, spared}
+use Rattle.quilt_btree.proofs.removals.Drains.{drained_next, drained_lacks, spared}
 use Rattle.quilt_btree.proofs.thinning.drain.Goals as goal
 
 pub loop-i-preserved : goal.loop-i-preserved

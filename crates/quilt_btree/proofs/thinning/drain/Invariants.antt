@@ -1,5 +1,5 @@
 use Rattle.std.proofs.Common.{◌≤◌, take, length}
-use Rattle.quilt_btree.proofs.Drains.{IsDrained}
+use Rattle.quilt_btree.proofs.removals.Drains.{IsDrained}
 use Rattle.quilt_btree.proofs.thinning.drain.Given as goal
 
 abbrev pub invariant-loop-i : goal.invariant-loop-i

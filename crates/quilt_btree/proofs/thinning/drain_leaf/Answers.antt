@@ -1,10 +1,10 @@
 use Rattle.std.proofs.Common.{◌≡◌, ◌+◌, ◌≤◌, ◌∙◌, slice_set, length, refl, subst, take, arith}
 use Rattle.quilt_store.specs.Store.{Tells}
-use Rattle.quilt_btree.proofs.Damage.{zero_names, names_more}
-use Rattle.quilt_btree.proofs.Below.{edit_spells}
-use Rattle.quilt_btree.proofs.LeafRemovals.{leaf_same}
-use Rattle.quilt_btree.proofs.Runs.{page_zero}
-use Rattle.quilt_btree.proofs.Drains.{leaf_drained, lacks_here}
+use Rattle.quilt_btree.proofs.ways.Damage.{zero_names, names_more}
+use Rattle.quilt_btree.proofs.growth.Below.{edit_spells}
+use Rattle.quilt_btree.proofs.removals.LeafRemovals.{leaf_same}
+use Rattle.quilt_btree.proofs.growth.Runs.{page_zero}
+use Rattle.quilt_btree.proofs.removals.Drains.{leaf_drained, lacks_here}
 use Rattle.quilt_btree.proofs.thinning.drain_leaf.Goals as goal
 
 pub returns-in-Err-clause-lacks : goal.returns-in-Err-clause-lacks

@@ -2,7 +2,7 @@ use Rattle.std.proofs.Common.{ℕ, ◌∙◌, sym, ap, length}
 use Rattle.quilt_node.specs.Pages.{is_ascending}
 use Rattle.quilt_record.specs.declared.key.Key.{Key}
 use Rattle.quilt_node.proofs.Searches.{from_first, from_next, stops, to_last}
-use Rattle.quilt_btree.proofs.Takings.{key_at, keys_are}
+use Rattle.quilt_btree.proofs.removals.Takings.{key_at, keys_are}
 use Rattle.quilt_btree.proofs.thinning.keys_ascend.Goals as goal
 
 pub loop-i-init : goal.loop-i-init

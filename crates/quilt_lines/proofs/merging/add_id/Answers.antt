@@ -1,7 +1,7 @@
 use Rattle.std.proofs.Common.{[], ◌∷◌, List, sym, subst, Contains}
 use Rattle.std.proofs.lemmas.Bool.{both_ways}
 use Rattle.quilt_lines.specs.Merges.{AddsIds}
-use Rattle.quilt_lines.proofs.Merges.{adds_one}
+use Rattle.quilt_lines.proofs.plans.Merges.{adds_one}
 use Rattle.quilt_lines.proofs.merging.add_id.Goals as goal
 
 pub returns : goal.returns

@@ -1,7 +1,7 @@
 use Rattle.std.proofs.Common.{take, subst, sym, List}
 use Rattle.quilt_edits.proofs.Lists.{take_next}
 use Rattle.quilt_lines.specs.Merges.{AddsIds}
-use Rattle.quilt_lines.proofs.Merges.{adds_more}
+use Rattle.quilt_lines.proofs.plans.Merges.{adds_more}
 use Rattle.quilt_lines.proofs.merging.add_ids.Goals as goal
 
 pub loop-id-preserved : goal.loop-id-preserved

@@ -1,4 +1,4 @@
-use Rattle.quilt_map.proofs.Asked.{still_here}
+use Rattle.quilt_map.proofs.answers.Asked.{still_here}
 use Rattle.quilt_map.proofs.copying.layer_records.Goals as goal
 
 pub returns-then-entry-eq0-clause-still : goal.returns-then-entry-eq0-clause-still

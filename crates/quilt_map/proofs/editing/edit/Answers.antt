@@ -3,7 +3,7 @@ use Rattle.std.proofs.lemmas.Bool.{false≢true}
 use Rattle.quilt_btree.specs.Runs.{put_all, without_all}
 use Rattle.quilt_edition.specs.Books.{work_of}
 use Rattle.quilt_map.specs.Sessions.{told_of, free_of}
-use Rattle.quilt_map.proofs.Going.{goes_of, goes_both, whole_as}
+use Rattle.quilt_map.proofs.states.Going.{goes_of, goes_both, whole_as}
 use Rattle.quilt_map.proofs.editing.edit.Goals as goal
 
 pub returns-in-Err-insert_all-clause-goes_on : goal.returns-in-Err-insert_all-clause-goes_on

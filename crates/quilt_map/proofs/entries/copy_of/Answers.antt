@@ -1,6 +1,6 @@
 -- Each entry comes behind those before it.
 use Rattle.std.proofs.Common.{◌+◌, sym, subst}
-use Rattle.quilt_map.proofs.Catalogs.{IsCopied, copied_new, copied_more, same_read}
+use Rattle.quilt_map.proofs.states.Catalogs.{IsCopied, copied_new, copied_more, same_read}
 use Rattle.quilt_map.proofs.entries.copy_of.Goals as goal
 
 pub insert-requires-clause-new : goal.insert-requires-clause-new

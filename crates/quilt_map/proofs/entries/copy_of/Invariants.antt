@@ -1,4 +1,4 @@
-use Rattle.quilt_map.proofs.Catalogs.{IsCopied}
+use Rattle.quilt_map.proofs.states.Catalogs.{IsCopied}
 use Rattle.quilt_map.proofs.entries.copy_of.Given as goal
 
 abbrev pub invariant-loop-e : goal.invariant-loop-e

@@ -1,7 +1,7 @@
 -- The first number that no entry has, or the last one.
 use Rattle.std.proofs.Common.{rules, arith, ◌≡◌, ◌==◌, false}
 use Rattle.std.specs.List.{list_any}
-use Rattle.quilt_map.proofs.Catalogs.{none_numbered, last_free, unused_number}
+use Rattle.quilt_map.proofs.states.Catalogs.{none_numbered, last_free, unused_number}
 use Rattle.quilt_map.proofs.entries.free_number.Goals as goal
 
 pub returns-then-not-has_number-clause-unused : goal.returns-then-not-has_number-clause-unused

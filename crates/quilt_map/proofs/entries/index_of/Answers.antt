@@ -1,5 +1,5 @@
 -- The first entry with the name is that of the layer.
-use Rattle.quilt_map.proofs.Catalogs.{if_some, none_named, one_named, no_layer, layer_at, some_entry}
+use Rattle.quilt_map.proofs.states.Catalogs.{if_some, none_named, one_named, no_layer, layer_at, some_entry}
 use Rattle.quilt_map.proofs.entries.index_of.Goals as goal
 
 pub returns-clause-others : goal.returns-clause-others

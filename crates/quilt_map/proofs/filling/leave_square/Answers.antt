@@ -1,5 +1,5 @@
 use Rattle.std.proofs.Common.{sym, ◌∙◌}
-use Rattle.quilt_map.proofs.Fillings.{leave_here, leave_more}
+use Rattle.quilt_map.proofs.layers.Fillings.{leave_here, leave_more}
 use Rattle.quilt_map.proofs.filling.leave_square.Goals as goal
 
 pub returns-then-leaves_square : goal.returns-then-leaves_square

@@ -1,4 +1,4 @@
-use Rattle.quilt_map.proofs.LinePlans.{lines_under}
+use Rattle.quilt_map.proofs.plans.LinePlans.{lines_under}
 use Rattle.quilt_map.proofs.lines.line_number.Goals as goal
 
 pub returns-in-Some-default-Lines-clause-found : goal.returns-in-Some-default-Lines-clause-found

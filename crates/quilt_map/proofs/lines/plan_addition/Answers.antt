@@ -6,8 +6,8 @@ use Rattle.quilt_types.specs.Quadtrees.{after_add}
 use Rattle.quilt_node.specs.declared.head.Head.{Head}
 use Rattle.quilt_store.specs.Stops.{IsSound}
 use Rattle.quilt_lines.specs.Plans.{IsLinePlan}
-use Rattle.quilt_map.proofs.Asked.{still_here, if_ok, if_err, if_some}
-use Rattle.quilt_map.proofs.LinePlans.{lines_said}
+use Rattle.quilt_map.proofs.answers.Asked.{still_here, if_ok, if_err, if_some}
+use Rattle.quilt_map.proofs.plans.LinePlans.{lines_said}
 use Rattle.quilt_map.proofs.lines.plan_addition.Goals as goal
 
 pub returns-then-not-can_be-clause-still : goal.returns-then-not-can_be-clause-still

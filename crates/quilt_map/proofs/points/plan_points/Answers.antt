@@ -1,7 +1,7 @@
 use Rattle.std.proofs.lemmas.Bool.{both_ways}
 use Rattle.quilt_map.specs.Sessions.{told_of}
-use Rattle.quilt_map.proofs.Asked.{still_here, if_ok, if_err}
-use Rattle.quilt_map.proofs.PointPlans.{points_as}
+use Rattle.quilt_map.proofs.answers.Asked.{still_here, if_ok, if_err}
+use Rattle.quilt_map.proofs.plans.PointPlans.{points_as}
 use Rattle.quilt_map.proofs.points.plan_points.Goals as goal
 
 pub returns-then-not-can_be-clause-still : goal.returns-then-not-can_be-clause-still

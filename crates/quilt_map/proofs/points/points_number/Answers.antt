@@ -1,4 +1,4 @@
-use Rattle.quilt_map.proofs.PointPlans.{points_under}
+use Rattle.quilt_map.proofs.plans.PointPlans.{points_under}
 use Rattle.quilt_map.proofs.points.points_number.Goals as goal
 
 pub returns-in-Some-default-Points-clause-found : goal.returns-in-Some-default-Points-clause-found

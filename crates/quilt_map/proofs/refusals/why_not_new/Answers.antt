@@ -1,8 +1,8 @@
 use Rattle.std.proofs.Common.{◌≡◌, ◌∷◌, true, sym, ◌∙◌, arith}
 use Rattle.quilt_types.specs.declared.code.Code.TheVariants as no
 use Rattle.quilt_replies.specs.Answers.{exists, too_many}
-use Rattle.quilt_map.proofs.Catalogs.{catalog_length}
-use Rattle.quilt_map.proofs.FirstTests.{first_true, first_false, exists_not, few_layers, many_layers}
+use Rattle.quilt_map.proofs.states.Catalogs.{catalog_length}
+use Rattle.quilt_map.proofs.answers.FirstTests.{first_true, first_false, exists_not, few_layers, many_layers}
 use Rattle.quilt_map.proofs.refusals.why_not_new.Goals as goal
 
 pub returns-then-entries-ge-LAYER_LIMIT-clause-refuses : goal.returns-then-entries-ge-LAYER_LIMIT-clause-refuses

@@ -1,5 +1,5 @@
 use Rattle.quilt_map.specs.Sessions.{told_of}
-use Rattle.quilt_map.proofs.Asked.{still_here, has_as, if_err}
+use Rattle.quilt_map.proofs.answers.Asked.{still_here, has_as, if_err}
 use Rattle.quilt_map.proofs.regions.plan_paint.Goals as goal
 
 pub returns-then-number-eq0-clause-still : goal.returns-then-number-eq0-clause-still

@@ -6,7 +6,7 @@ use Rattle.quilt_btree.specs.declared.tree.Tree.{Tree}
 use Rattle.quilt_region.specs.Regions.{pixel_key}
 use Rattle.quilt_map.specs.Asking.{reads_in, held_of}
 use Rattle.quilt_map.specs.Sessions.{told_of, tree_in}
-use Rattle.quilt_map.proofs.Asked.{still_here, has_as, if_err}
+use Rattle.quilt_map.proofs.answers.Asked.{still_here, has_as, if_err}
 use Rattle.quilt_map.proofs.regions.read_colour.Goals as goal
 
 pub returns-then-number-eq0-clause-still : goal.returns-then-number-eq0-clause-still

@@ -1,7 +1,7 @@
 use Rattle.std.proofs.Common.{ap}
 use Rattle.quilt_node.specs.declared.head.Head.{Head}
 use Rattle.quilt_map.specs.Sessions.{told_of}
-use Rattle.quilt_map.proofs.Asked.{still_here, has_as, if_err, if_ok, raster_as}
+use Rattle.quilt_map.proofs.answers.Asked.{still_here, has_as, if_err, if_ok, raster_as}
 use Rattle.quilt_map.proofs.regions.read_region.Goals as goal
 
 pub returns-then-number-eq0-clause-still : goal.returns-then-number-eq0-clause-still

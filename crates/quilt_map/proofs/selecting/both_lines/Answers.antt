@@ -1,4 +1,4 @@
-use Rattle.quilt_map.proofs.LinePlans.{lines_under}
+use Rattle.quilt_map.proofs.plans.LinePlans.{lines_under}
 use Rattle.quilt_map.proofs.selecting.both_lines.Goals as goal
 
 pub returns-in-Lines-other-clause-first : goal.returns-in-Lines-other-clause-first

@@ -1,4 +1,4 @@
-use Rattle.quilt_map.proofs.LinePlans.{lines_under}
+use Rattle.quilt_map.proofs.plans.LinePlans.{lines_under}
 use Rattle.quilt_map.proofs.selecting.lines_and_region.Goals as goal
 
 pub returns-in-Region-clause-lines : goal.returns-in-Region-clause-lines

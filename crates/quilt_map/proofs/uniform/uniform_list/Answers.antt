@@ -1,7 +1,7 @@
 use Rattle.std.proofs.Common.{ℕ, ◌^◌, sym, ◌∙◌, ap}
 use Rattle.quilt_blocks.specs.Painting.{Painted, grid_by_code}
 use Rattle.quilt_blocks.proofs.Adding.{Adds-all}
-use Rattle.quilt_map.proofs.Uniforms.{square_valid, square_next, square_added}
+use Rattle.quilt_map.proofs.plans.Uniforms.{square_valid, square_next, square_added}
 use Rattle.quilt_map.proofs.uniform.uniform_list.Goals as goal
 
 pub push-requires-clause-valid : goal.push-requires-clause-valid

@@ -1,8 +1,8 @@
 use Rattle.quilt_lines.specs.Reads.{ids_of}
 use Rattle.quilt_map.specs.Sessions.{told_of}
-use Rattle.quilt_map.proofs.Asked.{still_here, if_ok, if_err}
-use Rattle.quilt_map.proofs.LinePlans.{lines_as}
-use Rattle.quilt_map.proofs.ShownLines.{rising_ids}
+use Rattle.quilt_map.proofs.answers.Asked.{still_here, if_ok, if_err}
+use Rattle.quilt_map.proofs.plans.LinePlans.{lines_as}
+use Rattle.quilt_map.proofs.questions.ShownLines.{rising_ids}
 use Rattle.quilt_map.proofs.views.read_segments.Goals as goal
 
 pub returns-then-layer-eq0-clause-still : goal.returns-then-layer-eq0-clause-still

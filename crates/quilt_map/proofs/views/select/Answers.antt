@@ -4,10 +4,10 @@ use Rattle.quilt_words.specs.declared.command.Command.{Command}
 use Rattle.quilt_words.specs.declared.command.Command.TheVariants as commands
 use Rattle.quilt_map.specs.Asking.{reads_in}
 use Rattle.quilt_map.specs.Selecting.{Shows, selected, is_asked, AsksSome}
-use Rattle.quilt_map.proofs.Answered.{told_reply}
-use Rattle.quilt_map.proofs.Asked.{if_ok}
-use Rattle.quilt_map.proofs.ShownLines.{any_ok, nearest_small, rank_small, cross_body, clip_body, nearest_none, nearest_body, nearest_costs, rank_absent}
-use Rattle.quilt_map.proofs.ShownLines.{rank_body, window_costs}
+use Rattle.quilt_map.proofs.answers.Answered.{told_reply}
+use Rattle.quilt_map.proofs.answers.Asked.{if_ok}
+use Rattle.quilt_map.proofs.questions.ShownLines.{any_ok, nearest_small, rank_small, cross_body, clip_body, nearest_none, nearest_body, nearest_costs, rank_absent}
+use Rattle.quilt_map.proofs.questions.ShownLines.{rank_body, window_costs}
 use Rattle.std.proofs.Common.{subst}
 use Rattle.quilt_map.proofs.views.select.Goals as goal
 

@@ -1,6 +1,6 @@
 use Rattle.quilt_map.specs.Asking.{reads_in}
-use Rattle.quilt_map.proofs.Asked.{still_here, if_ok, if_err}
-use Rattle.quilt_map.proofs.ShownLines.{costs_at}
+use Rattle.quilt_map.proofs.answers.Asked.{still_here, if_ok, if_err}
+use Rattle.quilt_map.proofs.questions.ShownLines.{costs_at}
 use Rattle.quilt_map.proofs.views.select_in.Goals as goal
 
 pub returns-in-None-clause-still : goal.returns-in-None-clause-still

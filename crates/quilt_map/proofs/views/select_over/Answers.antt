@@ -1,9 +1,9 @@
 use Rattle.quilt_near.specs.Lines.{Lines}
 use Rattle.quilt_map.specs.LineLayers.{HoldsLines}
 use Rattle.quilt_map.specs.Selecting.{selected_over}
-use Rattle.quilt_map.proofs.Answered.{told_reply}
-use Rattle.quilt_map.proofs.Asked.{still_here, if_ok}
-use Rattle.quilt_map.proofs.ShownLines.{over_body}
+use Rattle.quilt_map.proofs.answers.Answered.{told_reply}
+use Rattle.quilt_map.proofs.answers.Asked.{still_here, if_ok}
+use Rattle.quilt_map.proofs.questions.ShownLines.{over_body}
 use Rattle.quilt_map.proofs.views.select_over.Goals as goal
 
 pub returns-in-None-clause-still : goal.returns-in-None-clause-still

@@ -1,4 +1,4 @@
-use Rattle.quilt_map.proofs.ShownLines.{shown}
+use Rattle.quilt_map.proofs.questions.ShownLines.{shown}
 use Rattle.quilt_map.proofs.views.view_of.Goals as goal
 
 pub returns-clause-shows : goal.returns-clause-shows

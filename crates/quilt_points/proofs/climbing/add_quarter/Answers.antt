@@ -3,7 +3,7 @@ use Rattle.std.proofs.lemmas.Result.{IfOk-weaker}
 use Rattle.quilt_types.specs.declared.plane.Point.{Point}
 use Rattle.quilt_types.specs.Plane.{is_pixel}
 use Rattle.quilt_points.proofs.Finds.{false_true, match_none, match_some, if_some_at}
-use Rattle.quilt_points.proofs.Adds.{added_all}
+use Rattle.quilt_points.proofs.plans.Adds.{added_all}
 use Rattle.quilt_points.proofs.climbing.add_quarter.Goals as goal
 
 pub returns-in-Ok-None-clause-other : goal.returns-in-Ok-None-clause-other

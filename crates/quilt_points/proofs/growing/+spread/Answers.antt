@@ -8,7 +8,7 @@ use Rattle.quilt_types.specs.declared.plane.Point.{Point}
 use Rattle.quilt_types.specs.Plane.{in_block, is_pixel}
 use Rattle.quilt_loc.proofs.Blocks.{IsBlock-up}
 use Rattle.quilt_points.proofs.Quarters.{quarter_at}
-use Rattle.quilt_points.proofs.Growths.{spread_next, spread_all, spread_few, part_half}
+use Rattle.quilt_points.proofs.plans.Growths.{spread_next, spread_all, spread_few, part_half}
 use Rattle.quilt_points.proofs.growing.+spread.Goals as goal
 use Rattle.quilt_points.proofs.growing.+spread.Goals.{then-points-from-via-then-points-from, then-points-from-via-else-points-from+then-b-le1}
 

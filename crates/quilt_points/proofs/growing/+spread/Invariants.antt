@@ -1,5 +1,5 @@
 use Rattle.std.proofs.Common.{take}
-use Rattle.quilt_points.proofs.Growths.{IsSpread}
+use Rattle.quilt_points.proofs.plans.Growths.{IsSpread}
 use Rattle.quilt_points.proofs.growing.+spread.Given as goal
 
 abbrev pub decreases-spread : goal.decreases-spread

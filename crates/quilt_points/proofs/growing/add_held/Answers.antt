@@ -2,7 +2,7 @@ use Rattle.std.proofs.Common.{◌++◌, [], ◌∷◌, List, length, sym, ◌∙
 use Rattle.std.proofs.lemmas.Result.{on_ok_weaker}
 use Rattle.quilt_record.specs.declared.record.Record.{Record}
 use Rattle.quilt_points.proofs.Said.{nonzero}
-use Rattle.quilt_points.proofs.Growths.{none_held, some_held}
+use Rattle.quilt_points.proofs.plans.Growths.{none_held, some_held}
 use Rattle.quilt_points.proofs.growing.add_held.Goals as goal
 
 pub returns-then-is_empty : goal.returns-then-is_empty

@@ -1,5 +1,5 @@
 use Rattle.std.proofs.Common.{[], arith}
-use Rattle.quilt_points.proofs.Growths.{rows_next, rows_all}
+use Rattle.quilt_points.proofs.plans.Growths.{rows_next, rows_all}
 use Rattle.quilt_points.proofs.growing.add_points.Goals as goal
 
 pub loop-p-preserved : goal.loop-p-preserved

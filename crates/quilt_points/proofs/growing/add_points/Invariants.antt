@@ -1,5 +1,5 @@
 use Rattle.std.proofs.Common.{◌≡◌, ◌++◌, take}
-use Rattle.quilt_points.proofs.Growths.{point_rows}
+use Rattle.quilt_points.proofs.plans.Growths.{point_rows}
 use Rattle.quilt_points.proofs.growing.add_points.Given as goal
 
 abbrev pub invariant-loop-p : goal.invariant-loop-p

@@ -4,8 +4,8 @@ use Rattle.quilt_types.specs.declared.plane.Point.{Point}
 use Rattle.quilt_types.specs.Plane.{in_block}
 use Rattle.quilt_points.specs.Plans.{IsPlan}
 use Rattle.quilt_points.proofs.Finds.{has_along, false_true, none_some}
-use Rattle.quilt_points.proofs.Puts.{free_from, held_point}
-use Rattle.quilt_points.proofs.Dels.{is_none_from, none_is}
+use Rattle.quilt_points.proofs.plans.Puts.{free_from, held_point}
+use Rattle.quilt_points.proofs.plans.Dels.{is_none_from, none_is}
 use Rattle.quilt_points.proofs.planning.plan_del.Goals as goal
 
 pub returns-in-None-clause-none : goal.returns-in-None-clause-none

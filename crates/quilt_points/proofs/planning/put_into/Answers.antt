@@ -1,6 +1,6 @@
 use Rattle.std.proofs.Common.{refl, sym, ◌∙◌}
 use Rattle.quilt_points.proofs.Finds.{false_true}
-use Rattle.quilt_points.proofs.Puts.{free_from, taken_from, not_some, put_can, put_plan}
+use Rattle.quilt_points.proofs.plans.Puts.{free_from, taken_from, not_some, put_can, put_plan}
 use Rattle.quilt_points.proofs.Results.{memory_sound}
 use Rattle.quilt_points.proofs.planning.put_into.Goals as goal
 

@@ -5,7 +5,7 @@ use Rattle.quilt_types.specs.declared.plane.Point.{Point}
 use Rattle.quilt_types.specs.Plane.{is_pixel}
 use Rattle.quilt_types.specs.Facts.{same_pixel}
 use Rattle.quilt_points.specs.Climbing.{IsOnWay}
-use Rattle.quilt_points.proofs.Dels.{way_first}
+use Rattle.quilt_points.proofs.plans.Dels.{way_first}
 use Rattle.quilt_points.proofs.planning.take_from.Goals as goal
 
 pub topmost-requires-clause-pixels : goal.topmost-requires-clause-pixels

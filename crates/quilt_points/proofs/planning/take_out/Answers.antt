@@ -1,6 +1,6 @@
 use Rattle.std.proofs.lemmas.Result.{IfErr-weaker}
 use Rattle.quilt_points.proofs.Results.{if_ok_both, memory_sound}
-use Rattle.quilt_points.proofs.Dels.{del_can, del_plan}
+use Rattle.quilt_points.proofs.plans.Dels.{del_can, del_plan}
 use Rattle.quilt_points.proofs.planning.take_out.Goals as goal
 
 pub returns-in-Ok-clause-plan : goal.returns-in-Ok-clause-plan

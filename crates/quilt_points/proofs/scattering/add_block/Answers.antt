@@ -6,8 +6,8 @@ use Rattle.quilt_edits.proofs.Lists.{taken_there}
 use Rattle.quilt_point_laws.specs.Growing.{gone_of, come_of}
 use Rattle.quilt_point_laws.proofs.Gains.{level_is}
 use Rattle.quilt_points.specs.Layers.{entries_of, block_record}
-use Rattle.quilt_points.proofs.Puts.{free_from, taken_from}
-use Rattle.quilt_points.proofs.Scatters.{some_taken, taken_inside, left_outside, pixels_up}
+use Rattle.quilt_points.proofs.plans.Puts.{free_from, taken_from}
+use Rattle.quilt_points.proofs.plans.Scatters.{some_taken, taken_inside, left_outside, pixels_up}
 use Rattle.quilt_points.proofs.scattering.add_block.Goals as goal
 
 pub end_of-requires : goal.end_of-requires

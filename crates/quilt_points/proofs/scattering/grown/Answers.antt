@@ -8,7 +8,7 @@ use Rattle.quilt_points.specs.Coding.{by_code}
 use Rattle.quilt_points.specs.Scattering.{IsTaken, IsGrown}
 use Rattle.quilt_points.proofs.Finds.{has_along, if_some_at}
 use Rattle.quilt_points.proofs.Codings.{rest_is, Rises-drop, Rises-take, dropped_there, take_further, drop_further, pixels_apart}
-use Rattle.quilt_points.proofs.Scatters.{grown_none, grown_next, entries_apart}
+use Rattle.quilt_points.proofs.plans.Scatters.{grown_none, grown_next, entries_apart}
 use Rattle.quilt_points.proofs.scattering.grown.Goals as goal
 
 pub loop-done-init : goal.loop-done-init

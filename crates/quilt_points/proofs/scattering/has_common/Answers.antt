@@ -2,7 +2,7 @@ use Rattle.std.proofs.Common.{List, sym, ◌∙◌, subst, arith, Contains}
 use Rattle.std.proofs.lemmas.List.{take_all}
 use Rattle.quilt_types.specs.declared.plane.Point.{Point}
 use Rattle.quilt_points.proofs.Finds.{false_true}
-use Rattle.quilt_points.proofs.Scatters.{common_next}
+use Rattle.quilt_points.proofs.plans.Scatters.{common_next}
 use Rattle.quilt_points.proofs.scattering.has_common.Goals as goal
 
 pub loop-p-preserved : goal.loop-p-preserved

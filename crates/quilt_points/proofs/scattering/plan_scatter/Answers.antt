@@ -7,9 +7,9 @@ use Rattle.quilt_types.specs.Plane.{is_pixel}
 use Rattle.quilt_edits.proofs.Ascents.{permuted}
 use Rattle.quilt_points.specs.Scattering.{IsGrown}
 use Rattle.quilt_points.proofs.Finds.{false_true, if_some_at}
-use Rattle.quilt_points.proofs.Puts.{not_some}
+use Rattle.quilt_points.proofs.plans.Puts.{not_some}
 use Rattle.quilt_points.proofs.Results.{memory_sound}
-use Rattle.quilt_points.proofs.Scatters.{pixels_up, all_new, scatter_can, scatter_plan}
+use Rattle.quilt_points.proofs.plans.Scatters.{pixels_up, all_new, scatter_can, scatter_plan}
 use Rattle.quilt_points.proofs.scattering.plan_scatter.Goals as goal
 
 pub in_order-requires : goal.in_order-requires

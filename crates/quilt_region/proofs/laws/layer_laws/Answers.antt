@@ -1,4 +1,4 @@
-use Rattle.quilt_region.proofs.LayerPlans.{numbers_law, drops_law, copies_law}
+use Rattle.quilt_region.proofs.plans.LayerPlans.{numbers_law, drops_law, copies_law}
 use Rattle.quilt_region.proofs.laws.layer_laws.Goals as goal
 
 pub returns-clause-number : goal.returns-clause-number

@@ -1,5 +1,5 @@
 use Rattle.quilt_region.proofs.GridsFit.{fits_law}
-use Rattle.quilt_region.proofs.RegionLaws.{reads_law, changes_law, fresh_law}
+use Rattle.quilt_region.proofs.plans.RegionLaws.{reads_law, changes_law, fresh_law}
 use Rattle.quilt_region.proofs.laws.region_laws.Goals as goal
 
 pub returns-clause-reads : goal.returns-clause-reads

@@ -2,7 +2,7 @@ use Rattle.std.proofs.Common.{sym, ◌∙◌, subst}
 use Rattle.quilt_types.specs.Algebra.{painted}
 use Rattle.quilt_blocks.specs.Raster.{Raster}
 use Rattle.quilt_region.specs.Plans.{LeadsTo}
-use Rattle.quilt_region.proofs.KnownPlans.{removes_same, adds_same}
+use Rattle.quilt_region.proofs.plans.KnownPlans.{removes_same, adds_same}
 use Rattle.quilt_region.proofs.planning.plan_known.Goals as goal
 
 pub returns-in-Ok-repaint-clause-plan : goal.returns-in-Ok-repaint-clause-plan

@@ -15,8 +15,8 @@ use Rattle.quilt_region.proofs.Beside.{if_ok_weaker}
 use Rattle.quilt_region.proofs.Counting.{reads_then, reads_more}
 use Rattle.quilt_region.proofs.Nearby.{more_within}
 use Rattle.quilt_region.proofs.Parts.{block_room, window_room}
-use Rattle.quilt_region.proofs.QuarterPlans.{without_part, part_several, with_part, top_inside, quarter_is, list_step, same_step, sum_step, last_or_before}
-use Rattle.quilt_region.proofs.QuarterPlans.{some_at}
+use Rattle.quilt_region.proofs.plans.QuarterPlans.{without_part, part_several, with_part, top_inside, quarter_is, list_step, same_step, sum_step, last_or_before}
+use Rattle.quilt_region.proofs.plans.QuarterPlans.{some_at}
 use Rattle.quilt_region.proofs.quartering.+plan_quarters.Goals as goal
 
 abbrev zero_block : Block

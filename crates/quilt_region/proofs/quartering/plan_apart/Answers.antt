@@ -3,7 +3,7 @@ use Rattle.quilt_region.specs.Windows.{leaves_within}
 use Rattle.quilt_region.proofs.Beside.{if_ok_weaker}
 use Rattle.quilt_region.proofs.Counting.{reads_more}
 use Rattle.quilt_region.proofs.Nearby.{more_within}
-use Rattle.quilt_region.proofs.QuarterPlans.{if_planned, if_some_plan}
+use Rattle.quilt_region.proofs.plans.QuarterPlans.{if_planned, if_some_plan}
 use Rattle.quilt_region.proofs.quartering.plan_apart.Goals as goal
 
 pub returns-clause-large : goal.returns-clause-large

@@ -4,10 +4,10 @@ use Rattle.quilt_types.specs.declared.stop.Stop.TheVariants.{Memory, Damaged}
 use Rattle.quilt_types.specs.Algebra.{painted}
 use Rattle.quilt_region.specs.Windows.{leaves_within}
 use Rattle.quilt_region.proofs.Counting.{reads_more}
-use Rattle.quilt_region.proofs.KnownPlans.{corner_in}
+use Rattle.quilt_region.proofs.plans.KnownPlans.{corner_in}
 use Rattle.quilt_region.proofs.Nearby.{window_corner}
-use Rattle.quilt_region.proofs.Quarters.{quarter_with, few_in_quarters}
-use Rattle.quilt_region.proofs.QuarterPlans.{inside_from, quarters_whole, can_be, sorted_is, from_none}
+use Rattle.quilt_region.proofs.plans.Quarters.{quarter_with, few_in_quarters}
+use Rattle.quilt_region.proofs.plans.QuarterPlans.{inside_from, quarters_whole, can_be, sorted_is, from_none}
 use Rattle.quilt_region.proofs.quartering.plan_in_block.Goals as goal
 
 memory_sound : (page : _) → Memory ≡ Damaged page → ⊥

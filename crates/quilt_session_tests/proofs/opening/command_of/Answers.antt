@@ -1,4 +1,4 @@
-use Rattle.quilt_map.proofs.TextLaws.{whole_empty}
+use Rattle.quilt_map.proofs.answers.TextLaws.{whole_empty}
 use Rattle.quilt_session_tests.proofs.opening.command_of.Goals as goal
 
 pub feed-requires : goal.feed-requires

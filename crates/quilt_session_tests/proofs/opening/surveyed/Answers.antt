@@ -1,4 +1,4 @@
-use Rattle.quilt_top.proofs.Surveys.{is_numbered}
+use Rattle.quilt_top.proofs.openings.Surveys.{is_numbered}
 use Rattle.quilt_session_tests.proofs.opening.surveyed.Goals as goal
 
 pub new-requires-clause-numbered : goal.new-requires-clause-numbered

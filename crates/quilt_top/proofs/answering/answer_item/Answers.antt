@@ -7,8 +7,8 @@ use Rattle.quilt_map.specs.Sessions.{IsAt}
 use Rattle.quilt_types.specs.declared.stop.Stop.{Stop}
 use Rattle.quilt_types.specs.declared.stop.Stop.TheVariants as stops
 use Rattle.quilt_top.specs.declared.halt.Halt.TheVariants as halts
-use Rattle.quilt_top.proofs.Applying.{leaves_told, applies_nothing, applies_command, changes_no, changes_is}
-use Rattle.quilt_top.proofs.Outcomes.{form_no, reply_no, state_no, state_is, text_given, code_given}
+use Rattle.quilt_top.proofs.turns.Applying.{leaves_told, applies_nothing, applies_command, changes_no, changes_is}
+use Rattle.quilt_top.proofs.turns.Outcomes.{form_no, reply_no, state_no, state_is, text_given, code_given}
 use Rattle.quilt_top.proofs.answering.answer_item.Goals as goal
 
 pub returns-in-Err-No-clause-text : goal.returns-in-Err-No-clause-text

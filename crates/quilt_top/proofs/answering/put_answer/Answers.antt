@@ -6,8 +6,8 @@ use Rattle.quilt_replies.specs.Runs.{text_of}
 use Rattle.quilt_map.specs.Sessions.{world_of, changes_of}
 use Rattle.quilt_top.specs.Replies.{reply_to, state_then}
 use Rattle.quilt_top.specs.Saying.{Says}
-use Rattle.quilt_top.proofs.Applying.{leaves_told, none_put, answers_put, part_put}
-use Rattle.quilt_top.proofs.Said.{on_err_all}
+use Rattle.quilt_top.proofs.turns.Applying.{leaves_told, none_put, answers_put, part_put}
+use Rattle.quilt_top.proofs.logs.Said.{on_err_all}
 use Rattle.quilt_top.proofs.answering.put_answer.Goals as goal
 
 pub returns-in_err-answer-clause-part : goal.returns-in_err-answer-clause-part

@@ -1,5 +1,5 @@
 use Rattle.std.proofs.Common.{map, ◌∙◌}
-use Rattle.quilt_top.proofs.Parses.{free_and_simple, not_taken, taken, texts_are}
+use Rattle.quilt_top.proofs.usage.Parses.{free_and_simple, not_taken, taken, texts_are}
 use Rattle.quilt_top.proofs.command_line.parsed.Goals as goal
 
 pub returns-in-Ok : goal.returns-in-Ok

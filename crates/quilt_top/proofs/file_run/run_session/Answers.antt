@@ -4,7 +4,7 @@ use Rattle.quilt_top.specs.declared.run.End.{End}
 use Rattle.quilt_top.specs.Headline.{IsOneOf}
 use Rattle.quilt_top.specs.Openings.{run_ends, is_run_end}
 use Rattle.quilt_top.proofs.Running.{runs_goes, much_first, end_of_run, is_end}
-use Rattle.quilt_top.proofs.Said.{ok_at}
+use Rattle.quilt_top.proofs.logs.Said.{ok_at}
 use Rattle.quilt_top.proofs.file_run.run_session.Goals as goal
 
 pub returns-clause-ends : goal.returns-clause-ends

@@ -7,7 +7,7 @@ use Rattle.quilt_top.specs.Openings.{run_ends, is_run_end}
 use Rattle.quilt_top.specs.Trying.{trial_run}
 use Rattle.quilt_top.proofs.Concluding.{tries_goes, not_much}
 use Rattle.quilt_top.proofs.Running.{end_of_run, is_end}
-use Rattle.quilt_top.proofs.Said.{ok_at}
+use Rattle.quilt_top.proofs.logs.Said.{ok_at}
 use Rattle.quilt_top.proofs.file_run.try_session.Goals as goal
 
 pub returns-clause-ends : goal.returns-clause-ends

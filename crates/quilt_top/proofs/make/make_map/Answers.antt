@@ -7,7 +7,7 @@ use Rattle.quilt_world.proofs.Told.{goes_now, goes_and}
 use Rattle.quilt_top.specs.Headline.{new_line}
 use Rattle.quilt_edition.specs.Creating.{IsBlank}
 use Rattle.quilt_top.specs.Saying.{Says, SaysFront}
-use Rattle.quilt_top.proofs.Making.{made_blank, create_stopped, put_stopped, all_done, where_not_ok}
+use Rattle.quilt_top.proofs.openings.Making.{made_blank, create_stopped, put_stopped, all_done, where_not_ok}
 use Rattle.quilt_top.proofs.make.make_map.Goals as goal
 
 pub create-requires-clause-blank : goal.create-requires-clause-blank

@@ -1,7 +1,7 @@
 use Rattle.std.proofs.Common.{◌≡◌, ◌∙◌, string_bytes}
 use Rattle.std.proofs.lemmas.Result.{IfOk-weaker}
 use Rattle.quilt_top.specs.Headline.{new_line}
-use Rattle.quilt_top.proofs.Lines.{pieces, pieces_are}
+use Rattle.quilt_top.proofs.openings.Lines.{pieces, pieces_are}
 use Rattle.quilt_top.proofs.make.new_line.Goals as goal
 
 pub returns : goal.returns

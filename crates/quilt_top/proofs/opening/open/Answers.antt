@@ -7,8 +7,8 @@ use Rattle.quilt_pool.specs.Entries.{is_dirty}
 use Rattle.quilt_pool.specs.Views.{entries_of}
 use Rattle.quilt_edition.specs.Keeping.{IsKeptBy, told_pages}
 use Rattle.quilt_edition.proofs.Publishing.{none_marked}
-use Rattle.quilt_top.proofs.Surveys.{told_fresh}
-use Rattle.quilt_top.proofs.Found.{none_free, goes_begun, stop_found, not_map_found, book_keeps, book_finds}
+use Rattle.quilt_top.proofs.openings.Surveys.{told_fresh}
+use Rattle.quilt_top.proofs.openings.Found.{none_free, goes_begun, stop_found, not_map_found, book_keeps, book_finds}
 use Rattle.quilt_top.proofs.opening.open.Goals as goal
 
 pub begin-requires-clause-whole : goal.begin-requires-clause-whole

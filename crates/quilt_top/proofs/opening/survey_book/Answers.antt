@@ -9,7 +9,7 @@ use Rattle.quilt_edition.specs.Keeping.{IsLater, is_left_out}
 use Rattle.quilt_edition.specs.Laws.{later_on}
 use Rattle.quilt_audit.specs.Surveys.{IsDamage}
 use Rattle.quilt_map.specs.Sessions.{told_of}
-use Rattle.quilt_top.proofs.Surveys.{is_numbered, map_holds, on_damaged, when_told}
+use Rattle.quilt_top.proofs.openings.Surveys.{is_numbered, map_holds, on_damaged, when_told}
 use Rattle.quilt_top.proofs.opening.survey_book.Goals as goal
 
 pub new-requires-clause-numbered : goal.new-requires-clause-numbered

@@ -1,6 +1,6 @@
 use Rattle.std.proofs.Common.{◌≤◌, ◌-◌, length, length-take, length-drop, sym, ◌∙◌, rules, arith, take, drop, ℕ, List, append-nil, [], take-append-drop}
 use Rattle.quilt_world.proofs.Told.{goes_then}
-use Rattle.quilt_top.proofs.Said.{says_then, says_same, says_put, says_quiet, says_front, on_err, take_two, text_put, text_quiet}
+use Rattle.quilt_top.proofs.logs.Said.{says_then, says_same, says_put, says_quiet, says_front, on_err, take_two, text_put, text_quiet}
 use Rattle.quilt_top.proofs.output.put_reply.Goals as goal
 
 pub returns-in_err-done-clause-part : goal.returns-in_err-done-clause-part

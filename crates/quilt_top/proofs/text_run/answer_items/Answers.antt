@@ -5,15 +5,15 @@ use Rattle.quilt_replies.specs.Answers.{State}
 use Rattle.quilt_replies.specs.Runs.{text_of, is_done}
 use Rattle.quilt_map.specs.Sessions.{world_of, changes_of, IsAt}
 use Rattle.quilt_map.proofs.Laws.{at_level}
-use Rattle.quilt_map.proofs.TextLaws.{fewer_left}
+use Rattle.quilt_map.proofs.answers.TextLaws.{fewer_left}
 use Rattle.quilt_types.specs.declared.stop.Stop.TheVariants as stops
 use Rattle.quilt_top.specs.declared.halt.Halt.{Halt}
 use Rattle.quilt_top.specs.declared.halt.Halt.TheVariants as halts
 use Rattle.quilt_top.specs.Answering.{Answers, AnswersFront, changes_then}
 use Rattle.quilt_top.specs.Replies.{held_at, reply_to, state_then}
-use Rattle.quilt_top.proofs.Said.{on_err_all, err_from}
-use Rattle.quilt_top.proofs.Outcomes.{held_is}
-use Rattle.quilt_top.proofs.Turns.{answered_first, stopped_now, stopped_part, answered_next}
+use Rattle.quilt_top.proofs.logs.Said.{on_err_all, err_from}
+use Rattle.quilt_top.proofs.turns.Outcomes.{held_is}
+use Rattle.quilt_top.proofs.turns.Turns.{answered_first, stopped_now, stopped_part, answered_next}
 use Rattle.quilt_top.proofs.text_run.answer_items.Goals as goal
 
 pub items-init : goal.items-init

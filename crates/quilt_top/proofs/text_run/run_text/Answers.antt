@@ -10,11 +10,11 @@ use Rattle.quilt_edition.specs.Stands.{Stands}
 use Rattle.quilt_map.specs.Sessions.{world_of, IsAt}
 use Rattle.quilt_replies.specs.Answers.{State}
 use Rattle.quilt_top.specs.TextRun.{IsUntold, Overruns}
-use Rattle.quilt_top.proofs.Applying.{leaves_told, seen_told}
-use Rattle.quilt_top.proofs.Said.{either_way, if_err_const, if_ok_both, ok_at, err_at, err_from}
-use Rattle.quilt_top.proofs.Runs.{reading_first, runs_quiet, goes_took, goes_fed, goes_counted, ended_counted, goes_runs, goes_past, goes_stopped}
-use Rattle.quilt_top.proofs.Runs.{goes_stopped_end, goes_ended, runs_answered, reading_answered, goes_left, goes_right}
-use Rattle.quilt_map.proofs.TextLaws.{whole_empty}
+use Rattle.quilt_top.proofs.turns.Applying.{leaves_told, seen_told}
+use Rattle.quilt_top.proofs.logs.Said.{either_way, if_err_const, if_ok_both, ok_at, err_at, err_from}
+use Rattle.quilt_top.proofs.turns.Runs.{reading_first, runs_quiet, goes_took, goes_fed, goes_counted, ended_counted, goes_runs, goes_past, goes_stopped}
+use Rattle.quilt_top.proofs.turns.Runs.{goes_stopped_end, goes_ended, runs_answered, reading_answered, goes_left, goes_right}
+use Rattle.quilt_map.proofs.answers.TextLaws.{whole_empty}
 use Rattle.quilt_map.proofs.Laws.{at_level}
 use Rattle.quilt_top.proofs.text_run.run_text.Goals as goal
 

@@ -1,7 +1,7 @@
 use Rattle.std.proofs.Common.{◌≡◌, ◌∙◌, sym, string_bytes}
 use Rattle.std.proofs.lemmas.Result.{IfOk-weaker}
 use Rattle.quilt_top.specs.Trying.{summary_of}
-use Rattle.quilt_top.proofs.Lines.{summary_pieces, summary_pieces_are}
+use Rattle.quilt_top.proofs.openings.Lines.{summary_pieces, summary_pieces_are}
 use Rattle.quilt_top.proofs.trial_run.summary.Goals as goal
 
 pub returns : goal.returns

@@ -12,10 +12,10 @@ use Rattle.quilt_top.specs.declared.halt.Halt.TheVariants as halts
 use Rattle.quilt_top.specs.Answering.{Applies}
 use Rattle.quilt_top.specs.Replies.{held_at, reply_to, state_then}
 use Rattle.quilt_top.specs.Trying.{text_left, Tried}
-use Rattle.quilt_top.proofs.Applying.{leaves_told}
-use Rattle.quilt_top.proofs.Outcomes.{held_is}
-use Rattle.quilt_top.proofs.Said.{err_from}
-use Rattle.quilt_top.proofs.Trials.{fewer, items_few, first_tries, first_tried, next_tries, next_tried}
+use Rattle.quilt_top.proofs.turns.Applying.{leaves_told}
+use Rattle.quilt_top.proofs.turns.Outcomes.{held_is}
+use Rattle.quilt_top.proofs.logs.Said.{err_from}
+use Rattle.quilt_top.proofs.turns.Trials.{fewer, items_few, first_tries, first_tried, next_tries, next_tried}
 use Rattle.quilt_top.proofs.trial_run.try_items.Goals as goal
 
 pub items-init : goal.items-init

@@ -2,7 +2,7 @@ use Rattle.std.proofs.Common.{sym, ◌∙◌, arith, rules, tests}
 use Rattle.std.proofs.lemmas.Iterator.{YieldsList-from_slice}
 use Rattle.std.proofs.lemmas.Iterator.Search.{all_from_yields_List}
 use Rattle.quilt_words.specs.Spelling.{is_digit}
-use Rattle.quilt_top.proofs.Digits.{is_spelled_by_digits}
+use Rattle.quilt_top.proofs.usage.Digits.{is_spelled_by_digits}
 use Rattle.quilt_top.proofs.words.is_spelled.Goals as goal
 
 pub returns-then-first-ne48 : goal.returns-then-first-ne48

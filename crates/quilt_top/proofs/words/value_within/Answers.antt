@@ -2,7 +2,7 @@ use Rattle.std.proofs.Common.{◌≡◌, ◌∙◌, ◌<◌, ◌+◌, Some, None
 use Rattle.std.proofs.lemmas.List.Sums.{fold_more}
 use Rattle.std.proofs.lemmas.Bool.{lt-leb}
 use Rattle.quilt_words.specs.Spelling.{value_of}
-use Rattle.quilt_top.proofs.Digits.{shifted, not_within, value_of-take}
+use Rattle.quilt_top.proofs.usage.Digits.{shifted, not_within, value_of-take}
 use Rattle.quilt_top.proofs.words.value_within.Goals as goal
 
 pub returns-in_err-value : goal.returns-in_err-value

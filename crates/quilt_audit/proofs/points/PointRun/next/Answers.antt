@@ -1,7 +1,7 @@
 use Rattle.std.proofs.Common.{ℕ, sym, ◌∙◌, subst, arith}
 use Rattle.quilt_loc.proofs.Blocks.{IsBlock-up}
 use Rattle.quilt_audit.specs.Points.{IsOpened}
-use Rattle.quilt_audit.proofs.PointRuns.{some_map, none_map, outside_refused, more_refused, code_refused, enough_refused, more_taken, opened_taken}
+use Rattle.quilt_audit.proofs.runs.PointRuns.{some_map, none_map, outside_refused, more_refused, code_refused, enough_refused, more_taken, opened_taken}
 use Rattle.quilt_audit.proofs.points.PointRun.next.Goals.{then-code-self-via-then-code-self, then-code-self-via-else-code-self+then-from-self}
 use Rattle.quilt_audit.proofs.points.PointRun.next.Goals as goal
 

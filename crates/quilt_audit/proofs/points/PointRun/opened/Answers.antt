@@ -1,7 +1,7 @@
 use Rattle.std.proofs.Common.{refl, sym}
 use Rattle.quilt_loc.proofs.Blocks.{IsBlock-up}
 use Rattle.quilt_audit.specs.Points.{no_tally}
-use Rattle.quilt_audit.proofs.PointRuns.{shifted_three}
+use Rattle.quilt_audit.proofs.runs.PointRuns.{shifted_three}
 use Rattle.quilt_audit.proofs.points.PointRun.opened.Goals as goal
 
 pub end_of-requires : goal.end_of-requires

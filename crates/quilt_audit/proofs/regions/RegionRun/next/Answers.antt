@@ -1,7 +1,7 @@
 use Rattle.std.proofs.Common.{sym, ◌∙◌}
 use Rattle.quilt_loc.proofs.Blocks.{IsBlock-up}
 use Rattle.quilt_audit.specs.Regions.{nothing}
-use Rattle.quilt_audit.proofs.RegionRuns.{code_refused, siblings_refused, leaf_taken}
+use Rattle.quilt_audit.proofs.runs.RegionRuns.{code_refused, siblings_refused, leaf_taken}
 use Rattle.quilt_audit.proofs.regions.RegionRun.next.Goals as goal
 
 pub returns-then-code-self-clause-none : goal.returns-then-code-self-clause-none

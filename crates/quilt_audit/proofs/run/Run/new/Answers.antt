@@ -5,8 +5,8 @@ use Rattle.quilt_blocks.specs.declared.leaf.Leaf.{Leaf}
 use Rattle.quilt_audit.specs.declared.run.Run.TheVariants as runs
 use Rattle.quilt_audit.specs.Regions.{IsGoing}
 use Rattle.quilt_audit.specs.Runs.{IsRun}
-use Rattle.quilt_audit.proofs.RegionRuns.{going_none}
-use Rattle.quilt_audit.proofs.Runs.{lines_none}
+use Rattle.quilt_audit.proofs.runs.RegionRuns.{going_none}
+use Rattle.quilt_audit.proofs.runs.Runs.{lines_none}
 use Rattle.quilt_audit.proofs.run.Run.new.Goals as goal
 
 pub returns-in-Region : goal.returns-in-Region

@@ -1,10 +1,10 @@
 use Rattle.std.proofs.Common.{◌≡◌, ◌≢◌, None, arith}
 use Rattle.quilt_node.specs.Pages.{leaf_of}
-use Rattle.quilt_btree.proofs.Spans.{added_within, above_bound}
+use Rattle.quilt_btree.proofs.ranges.Spans.{added_within, above_bound}
 use Rattle.quilt_node.specs.Nodes.{records_of}
-use Rattle.quilt_btree.proofs.Whole.{tree_spells}
-use Rattle.quilt_btree.proofs.Rests.{rest_ends, rest_fills, rest_adds, rest_next, from_not_err, none_over}
-use Rattle.quilt_btree.proofs.Damage.{fault_named}
+use Rattle.quilt_btree.proofs.subtrees.Whole.{tree_spells}
+use Rattle.quilt_btree.proofs.ranges.Rests.{rest_ends, rest_fills, rest_adds, rest_next, from_not_err, none_over}
+use Rattle.quilt_btree.proofs.ways.Damage.{fault_named}
 use Rattle.quilt_btree.proofs.tree.Tree.add_next.Goals as goal
 
 pub returns-in-Err-clause-sound : goal.returns-in-Err-clause-sound

@@ -3,9 +3,9 @@ use Rattle.std.proofs.lemmas.Result.{err_from_is_err_and}
 use Rattle.std.specs.Ordering.{is_lt}
 use Rattle.quilt_store.proofs.Reading.{only_read_then}
 use Rattle.quilt_record.specs.Records.{key_cmp}
-use Rattle.quilt_btree.proofs.Spans.{le_on, at_some}
-use Rattle.quilt_btree.proofs.Rests.{if_some, none_is, loop_goes_on, loop_ends, loop_sound, loop_reads}
-use Rattle.quilt_btree.proofs.Damage.{names_along}
+use Rattle.quilt_btree.proofs.ranges.Spans.{le_on, at_some}
+use Rattle.quilt_btree.proofs.ranges.Rests.{if_some, none_is, loop_goes_on, loop_ends, loop_sound, loop_reads}
+use Rattle.quilt_btree.proofs.ways.Damage.{names_along}
 use Rattle.quilt_btree.proofs.tree.Tree.add_rest.Goals as goal
 
 pub returns-in_err-k-clause-sound : goal.returns-in_err-k-clause-sound

@@ -1,10 +1,10 @@
 use Rattle.std.proofs.Common.{◌≡◌, true, false, not, suc, ◌-◌, ◌≤◌, ◌<◌, Some, ap, subst, ◌∙◌, arith}
 use Rattle.quilt_node.specs.Pages.{Inner}
-use Rattle.quilt_btree.proofs.Damage.{zero_names, names_more}
-use Rattle.quilt_btree.proofs.Finding.{finds_root, finds_empty}
-use Rattle.quilt_btree.proofs.InnerGrowth.{IsWritten}
-use Rattle.quilt_btree.proofs.KeptPages.{kept_first, kept_low, sound_kept, same_tree, kept_done, room_left, kept_split}
-use Rattle.quilt_btree.proofs.TreeGrowth.{sound_root, whole_there, whole_done, not_split, root_room, whole_split, empty_room, whole_first}
+use Rattle.quilt_btree.proofs.ways.Damage.{zero_names, names_more}
+use Rattle.quilt_btree.proofs.growth.Finding.{finds_root, finds_empty}
+use Rattle.quilt_btree.proofs.growth.InnerGrowth.{IsWritten}
+use Rattle.quilt_btree.proofs.growth.KeptPages.{kept_first, kept_low, sound_kept, same_tree, kept_done, room_left, kept_split}
+use Rattle.quilt_btree.proofs.growth.TreeGrowth.{sound_root, whole_there, whole_done, not_split, root_room, whole_split, empty_room, whole_first}
 use Rattle.quilt_btree.proofs.tree.Tree.insert.Goals as goal
 
 pub returns-in-Err-clause-sound : goal.returns-in-Err-clause-sound

@@ -4,10 +4,10 @@ use Rattle.quilt_record.specs.declared.record.Record.{Record}
 use Rattle.quilt_record.specs.Records.{key_cmp}
 use Rattle.quilt_btree.specs.Lists.{is_from_to}
 use Rattle.quilt_record.proofs.Orders.{lt_to_le}
-use Rattle.quilt_btree.proofs.Spans.{first_within, above_bound}
+use Rattle.quilt_btree.proofs.ranges.Spans.{first_within, above_bound}
 use Rattle.quilt_node.specs.Nodes.{records_of}
-use Rattle.quilt_btree.proofs.Whole.{sound_whole}
-use Rattle.quilt_btree.proofs.Rests.{first_ends, first_fills, first_sound, first_result, no_range, from_not_err}
+use Rattle.quilt_btree.proofs.subtrees.Whole.{sound_whole}
+use Rattle.quilt_btree.proofs.ranges.Rests.{first_ends, first_fills, first_sound, first_result, no_range, from_not_err}
 use Rattle.quilt_btree.proofs.tree.Tree.range.Goals as goal
 
 pub returns-then-self-eq0-clause-range : goal.returns-then-self-eq0-clause-range

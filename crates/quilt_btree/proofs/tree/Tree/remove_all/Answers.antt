@@ -1,7 +1,7 @@
 use Rattle.std.proofs.Common.{◌∙◌, ◌+◌, ◌≤◌, length, subst, arith}
 use Rattle.quilt_btree.specs.Stops.{NamesPage}
-use Rattle.quilt_btree.proofs.Damage.{stops_behind, run_zero, run_names, run_cause}
-use Rattle.quilt_btree.proofs.Takings.{out_rest, out_all, rest_long, rest_ascends, rest_missing}
+use Rattle.quilt_btree.proofs.ways.Damage.{stops_behind, run_zero, run_names, run_cause}
+use Rattle.quilt_btree.proofs.removals.Takings.{out_rest, out_all, rest_long, rest_ascends, rest_missing}
 use Rattle.quilt_btree.proofs.tree.Tree.remove_all.Goals as goal
 
 pub loop-done-preserved : goal.loop-done-preserved

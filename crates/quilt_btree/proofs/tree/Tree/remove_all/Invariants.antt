@@ -1,5 +1,5 @@
 use Rattle.std.proofs.Common.{◌≡◌, ◌+◌, ◌*◌, ◌-◌, ◌≤◌, take, length}
-use Rattle.quilt_btree.proofs.Takings.{IsOut}
+use Rattle.quilt_btree.proofs.removals.Takings.{IsOut}
 use Rattle.quilt_btree.proofs.tree.Tree.remove_all.Given as goal
 
 abbrev pub invariant-loop-done : goal.invariant-loop-done

@@ -1,5 +1,5 @@
-use Rattle.quilt_btree.proofs.Runs.{page_zero}
-use Rattle.quilt_btree.proofs.Takings.{first_out, first_missing}
+use Rattle.quilt_btree.proofs.growth.Runs.{page_zero}
+use Rattle.quilt_btree.proofs.removals.Takings.{first_out, first_missing}
 use Rattle.quilt_btree.proofs.tree.Tree.remove_first.Goals as goal
 
 pub returns-in-Err-clause-missing : goal.returns-in-Err-clause-missing

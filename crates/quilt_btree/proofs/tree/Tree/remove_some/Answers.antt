@@ -1,8 +1,8 @@
 use Rattle.std.proofs.Common.{◌≤◌, take, arith}
 use Rattle.std.proofs.lemmas.List.{length-take-le}
 use Rattle.quilt_node.proofs.Ascending.{ascending_take}
-use Rattle.quilt_btree.proofs.Drains.{whole_drained, whole_lacks, some_left, stays_removed, stays_missing}
-use Rattle.quilt_btree.proofs.Damage.{named_along}
+use Rattle.quilt_btree.proofs.removals.Drains.{whole_drained, whole_lacks, some_left, stays_removed, stays_missing}
+use Rattle.quilt_btree.proofs.ways.Damage.{named_along}
 use Rattle.quilt_btree.proofs.tree.Tree.remove_some.Goals as goal
 
 pub returns-in-Err-clause-missing : goal.returns-in-Err-clause-missing

@@ -7,7 +7,7 @@ use Rattle.quilt_btree.specs.Trees.{IsRooted}
 use Rattle.quilt_line_laws.specs.Merging.{met_in}
 use Rattle.quilt_near.proofs.Reached.{reached_quarter}
 use Rattle.quilt_lines.specs.Adding.{IsAdded}
-use Rattle.quilt_lines.proofs.Additions.{added_none, added_next, added_all, added_below, met_away, met_here}
+use Rattle.quilt_lines.proofs.plans.Additions.{added_none, added_next, added_all, added_below, met_away, met_here}
 use Rattle.quilt_lines.proofs.Listed.{one_pixel}
 use Rattle.quilt_lines.proofs.Lookups.{lines_along, match_none, match_some}
 use Rattle.quilt_lines.proofs.Quarters.{quarter_at, quarter_side, quarter_in}

@@ -1,5 +1,5 @@
 use Rattle.std.proofs.Common.{inl, inr, arith}
-use Rattle.quilt_lines.proofs.Additions.{added_kept, added_cut}
+use Rattle.quilt_lines.proofs.plans.Additions.{added_kept, added_cut}
 use Rattle.quilt_lines.proofs.Results.{on_ok_both}
 use Rattle.quilt_lines.proofs.adding.Arrival.add_block.Goals as goal
 use Rattle.quilt_lines.proofs.adding.Arrival.add_block.Goals.{else-b-gt1-via-then-b-gt1+else-ids-from, else-b-gt1-via-else-b-gt1}

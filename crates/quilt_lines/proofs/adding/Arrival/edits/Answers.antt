@@ -4,7 +4,7 @@ use Rattle.quilt_record.specs.declared.record.Record.{Record}
 use Rattle.quilt_types.specs.declared.plane.Block.{Block}
 use Rattle.quilt_types.specs.Quadtrees.{is_reached}
 use Rattle.quilt_near.proofs.Reached.{reached_whole}
-use Rattle.quilt_lines.proofs.Additions.{added_whole, add_can, add_plan}
+use Rattle.quilt_lines.proofs.plans.Additions.{added_whole, add_can, add_plan}
 use Rattle.quilt_lines.proofs.Results.{if_ok_both, memory_sound}
 use Rattle.quilt_lines.proofs.adding.Arrival.edits.Goals as goal
 

@@ -11,7 +11,7 @@ use Rattle.quilt_btree.specs.Trees.{IsRooted}
 use Rattle.quilt_lines.specs.Reads.{AreIdsAt}
 use Rattle.quilt_lines.specs.Merges.{Becomes, Gathers}
 use Rattle.quilt_lines.proofs.Lookups.{match_none, match_some, lines_along}
-use Rattle.quilt_lines.proofs.MergeSteps.{unmet_settles}
+use Rattle.quilt_lines.proofs.plans.MergeSteps.{unmet_settles}
 use Rattle.quilt_lines.proofs.Gathering.{gathers_next}
 use Rattle.quilt_lines.proofs.removal.Removal.+settle.Goals as goal
 

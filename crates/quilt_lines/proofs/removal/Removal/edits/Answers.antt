@@ -1,5 +1,5 @@
 use Rattle.std.proofs.lemmas.Result.{IfErr-weaker}
-use Rattle.quilt_lines.proofs.Removals as removals
+use Rattle.quilt_lines.proofs.plans.Removals as removals
 use Rattle.quilt_lines.proofs.Results.{if_ok_both, memory_sound}
 use Rattle.quilt_lines.proofs.removal.Removal.edits.Goals as goal
 

@@ -1,5 +1,5 @@
 use Rattle.std.proofs.Common.{[]}
-use Rattle.quilt_lines.proofs.Removals.{behind_one}
+use Rattle.quilt_lines.proofs.plans.Removals.{behind_one}
 use Rattle.quilt_lines.proofs.removal.Removal.gone.Goals as goal
 
 pub returns : goal.returns

@@ -1,7 +1,7 @@
 use Rattle.std.proofs.Common.{List, refl, sym, subst}
 use Rattle.std.proofs.lemmas.Result.{IfOk-weaker}
 use Rattle.quilt_lines.specs.Merges.{IsMerged}
-use Rattle.quilt_lines.proofs.MergeSteps.{cut_settles, merged_settles}
+use Rattle.quilt_lines.proofs.plans.MergeSteps.{cut_settles, merged_settles}
 use Rattle.quilt_lines.proofs.removal.Removal.joined.Goals as goal
 
 pub returns-then-not-is_one_now : goal.returns-then-not-is_one_now

@@ -4,7 +4,7 @@ use Rattle.quilt_types.specs.Facts.{IsMetBy, IsMetByNone}
 use Rattle.quilt_types.specs.Segments.{square, meets}
 use Rattle.quilt_record.specs.declared.record.Record.{Record}
 use Rattle.quilt_lines.specs.Layers.{fact_record}
-use Rattle.quilt_lines.proofs.MergeSteps.{kept_settles}
+use Rattle.quilt_lines.proofs.plans.MergeSteps.{kept_settles}
 use Rattle.quilt_lines.proofs.removal.Removal.kept.Goals as goal
 
 pub returns : goal.returns

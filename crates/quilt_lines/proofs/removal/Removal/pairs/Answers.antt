@@ -1,7 +1,7 @@
 use Rattle.std.proofs.Common.{◌∙◌, sym, ap, map, arith}
 use Rattle.std.proofs.lemmas.List.{take_all}
 use Rattle.quilt_lines.specs.Reads.{pair_of}
-use Rattle.quilt_lines.proofs.Merges.{some_pairs}
+use Rattle.quilt_lines.proofs.plans.Merges.{some_pairs}
 use Rattle.quilt_lines.proofs.removal.Removal.pairs.Goals as goal
 
 pub returns : goal.returns

@@ -1,7 +1,7 @@
 use Rattle.std.proofs.Common.{Some, subst}
 use Rattle.quilt_map.specs.Planning.{HasChanged}
-use Rattle.quilt_map.proofs.Amends.{planned_as, entries_as, amended_answer}
-use Rattle.quilt_map.proofs.Placing.{full_answer}
+use Rattle.quilt_map.proofs.plans.Amends.{planned_as, entries_as, amended_answer}
+use Rattle.quilt_map.proofs.answers.Placing.{full_answer}
 use Rattle.quilt_map.proofs.session.Session.amend.Goals as goal
 
 pub returns-in-Err-clause-sound : goal.returns-in-Err-clause-sound

@@ -3,10 +3,10 @@ use Rattle.quilt_words.specs.declared.command.Command.TheVariants as commands
 use Rattle.quilt_map.specs.Asking.{reads_in}
 use Rattle.quilt_map.specs.Sessions.{IsAt, IsAtState, warm_of}
 use Rattle.quilt_map.specs.Steps.{gives_edition}
-use Rattle.quilt_map.proofs.Bounded.{at_reads, other_than_at, warm_none}
-use Rattle.quilt_map.proofs.Commanded.{applied_going, applied_forgets, applied_warm}
-use Rattle.quilt_map.proofs.Going.{goes_of}
-use Rattle.quilt_map.proofs.Warming.{cold, is_again}
+use Rattle.quilt_map.proofs.questions.Bounded.{at_reads, other_than_at, warm_none}
+use Rattle.quilt_map.proofs.answers.Commanded.{applied_going, applied_forgets, applied_warm}
+use Rattle.quilt_map.proofs.states.Going.{goes_of}
+use Rattle.quilt_map.proofs.questions.Warming.{cold, is_again}
 use Rattle.quilt_map.proofs.session.Session.answer.Goals as goal
 
 pub dispatch-reply-requires-clause-other : goal.dispatch-reply-requires-clause-other

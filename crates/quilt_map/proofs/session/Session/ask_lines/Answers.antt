@@ -6,11 +6,11 @@ use Rattle.quilt_replies.specs.States.{Tells}
 use Rattle.quilt_replies.specs.declared.reply.Reply.TheVariants as reply
 use Rattle.quilt_map.specs.Asking.{reads_in}
 use Rattle.quilt_map.specs.Selecting.{is_place}
-use Rattle.quilt_map.proofs.Answered.{level_is, test_at, catalog_as, keeps_here}
-use Rattle.quilt_map.proofs.Asked.{if_ok, if_err}
-use Rattle.quilt_map.proofs.Asks.{asked_here, asked_on}
-use Rattle.quilt_map.proofs.LinePlans.{found_lines}
-use Rattle.quilt_map.proofs.Selects.{ask_asks, ask_refused, ask_outside, ask_done, ask_reads}
+use Rattle.quilt_map.proofs.answers.Answered.{level_is, test_at, catalog_as, keeps_here}
+use Rattle.quilt_map.proofs.answers.Asked.{if_ok, if_err}
+use Rattle.quilt_map.proofs.answers.Asks.{asked_here, asked_on}
+use Rattle.quilt_map.proofs.plans.LinePlans.{found_lines}
+use Rattle.quilt_map.proofs.questions.Selects.{ask_asks, ask_refused, ask_outside, ask_done, ask_reads}
 use Rattle.quilt_map.proofs.session.Session.ask_lines.Goals as goal
 
 pub returns-in-Err-clause-answer : goal.returns-in-Err-clause-answer

@@ -12,13 +12,13 @@ use Rattle.quilt_spell.specs.Written.{number_of}
 use Rattle.quilt_pool.specs.Views.{entries_of}
 use Rattle.quilt_map.specs.Asking.{reads_in}
 use Rattle.quilt_map.specs.Sessions.{told_of, tree_in}
-use Rattle.quilt_map.proofs.Warming.{cold, warm_as, warmed, held_again, reads_same}
+use Rattle.quilt_map.proofs.questions.Warming.{cold, warm_as, warmed, held_again, reads_same}
 use Rattle.quilt_types.specs.Plane.{is_pixel}
 use Rattle.quilt_node.specs.declared.head.Head.{Head}
 use Rattle.quilt_words.specs.declared.command.Command.TheVariants as commands
 use Rattle.quilt_replies.specs.Answers.{answer}
-use Rattle.quilt_map.proofs.Answered.{text_tells, at_refused, at_outside, at_body, level_is, test_at, catalog_as, keeps_here, has_region, has_number}
-use Rattle.quilt_map.proofs.Asks.{asked_here, asked_on, at_asks}
+use Rattle.quilt_map.proofs.answers.Answered.{text_tells, at_refused, at_outside, at_body, level_is, test_at, catalog_as, keeps_here, has_region, has_number}
+use Rattle.quilt_map.proofs.answers.Asks.{asked_here, asked_on, at_asks}
 use Rattle.quilt_map.proofs.session.Session.at.Goals as goal
 
 pub returns-then-not-has_pixel-clause-answer : goal.returns-then-not-has_pixel-clause-answer

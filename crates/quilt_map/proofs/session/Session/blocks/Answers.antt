@@ -3,10 +3,10 @@ use Rattle.quilt_node.specs.declared.head.Head.{Head}
 use Rattle.quilt_words.specs.declared.command.Command.TheVariants as commands
 use Rattle.quilt_types.specs.declared.code.Code.TheVariants as no
 use Rattle.quilt_replies.specs.declared.reply.Reply.TheVariants as reply
-use Rattle.quilt_map.proofs.Answered.{blocks_unknown, catalog_as, keeps_here}
-use Rattle.quilt_map.proofs.Asked.{if_ok}
-use Rattle.quilt_map.proofs.Asks.{asked_here, told_on, blocks_asks}
-use Rattle.quilt_map.proofs.Counts.{under_there, under_number, blocks_body}
+use Rattle.quilt_map.proofs.answers.Answered.{blocks_unknown, catalog_as, keeps_here}
+use Rattle.quilt_map.proofs.answers.Asked.{if_ok}
+use Rattle.quilt_map.proofs.answers.Asks.{asked_here, told_on, blocks_asks}
+use Rattle.quilt_map.proofs.questions.Counts.{under_there, under_number, blocks_body}
 use Rattle.quilt_map.proofs.session.Session.blocks.Goals as goal
 
 pub returns-in-None-clause-answer : goal.returns-in-None-clause-answer

@@ -7,7 +7,7 @@ use Rattle.quilt_btree.specs.Edits.{IsWhole}
 use Rattle.quilt_map.specs.Sessions.{told_of, free_of, changed_of, tree_in}
 use Rattle.quilt_record.specs.declared.key.Key.{Key}
 use Rattle.quilt_btree.specs.Runs.{has_each, has_any, put_all, without_all}
-use Rattle.quilt_map.proofs.ChangeSteps.{goes_here, at_whole, there, new, is_full, is_within, has_layer, counted_twice}
+use Rattle.quilt_map.proofs.states.ChangeSteps.{goes_here, at_whole, there, new, is_full, is_within, has_layer, counted_twice}
 use Rattle.quilt_map.proofs.session.Session.change.Goals as goal
 
 pub returns-then-is_over-clause-goes_on : goal.returns-then-is_over-clause-goes_on

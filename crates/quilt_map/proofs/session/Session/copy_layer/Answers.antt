@@ -7,12 +7,12 @@ use Rattle.quilt_words.specs.declared.command.Command.TheVariants as commands
 use Rattle.quilt_replies.specs.Answers.{Refused}
 use Rattle.quilt_map.specs.Making.{AnsweredBy, placed}
 use Rattle.quilt_replies.specs.declared.reply.Reply.TheVariants as given
-use Rattle.quilt_map.proofs.Asked.{if_ok, if_err}
-use Rattle.quilt_map.proofs.ChangeSteps.{goes_here}
-use Rattle.quilt_map.proofs.Copies.{copy_unknown, copy_refused, tree_before, at_tree, copy_plan, copy_answer}
-use Rattle.quilt_map.proofs.Going.{goes_of, goes_both}
-use Rattle.quilt_map.proofs.Moving.{later_at, with_book}
-use Rattle.quilt_map.proofs.Outcomes.{answered_same}
+use Rattle.quilt_map.proofs.answers.Asked.{if_ok, if_err}
+use Rattle.quilt_map.proofs.states.ChangeSteps.{goes_here}
+use Rattle.quilt_map.proofs.plans.Copies.{copy_unknown, copy_refused, tree_before, at_tree, copy_plan, copy_answer}
+use Rattle.quilt_map.proofs.states.Going.{goes_of, goes_both}
+use Rattle.quilt_map.proofs.states.Moving.{later_at, with_book}
+use Rattle.quilt_map.proofs.answers.Outcomes.{answered_same}
 use Rattle.quilt_map.proofs.session.Session.copy_layer.Goals as goal
 
 pub returns-in_default-clause-goes_on : goal.returns-in_default-clause-goes_on

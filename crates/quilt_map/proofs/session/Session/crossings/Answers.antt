@@ -4,14 +4,14 @@ use Rattle.quilt_words.specs.declared.command.Command.TheVariants as commands
 use Rattle.quilt_replies.specs.Answers as answers
 use Rattle.quilt_replies.specs.States.{Tells}
 use Rattle.quilt_replies.specs.declared.reply.Reply.TheVariants as reply
-use Rattle.quilt_map.proofs.Amends.{mid_at}
-use Rattle.quilt_map.proofs.Answered.{catalog_as, keeps_here}
-use Rattle.quilt_map.proofs.Asked.{if_ok, still_both}
-use Rattle.quilt_map.proofs.Asks.{asked_here, asked_on}
-use Rattle.quilt_map.proofs.LinePlans.{found_lines}
-use Rattle.quilt_map.proofs.Moving.{with_book}
-use Rattle.quilt_map.proofs.Selects.{crossings_asks, crossings_refused, crossings_done}
-use Rattle.quilt_map.proofs.ShownLines.{ends_at}
+use Rattle.quilt_map.proofs.plans.Amends.{mid_at}
+use Rattle.quilt_map.proofs.answers.Answered.{catalog_as, keeps_here}
+use Rattle.quilt_map.proofs.answers.Asked.{if_ok, still_both}
+use Rattle.quilt_map.proofs.answers.Asks.{asked_here, asked_on}
+use Rattle.quilt_map.proofs.plans.LinePlans.{found_lines}
+use Rattle.quilt_map.proofs.states.Moving.{with_book}
+use Rattle.quilt_map.proofs.questions.Selects.{crossings_asks, crossings_refused, crossings_done}
+use Rattle.quilt_map.proofs.questions.ShownLines.{ends_at}
 use Rattle.quilt_map.proofs.session.Session.crossings.Goals as goal
 
 pub returns-in-Err-clause-answer : goal.returns-in-Err-clause-answer

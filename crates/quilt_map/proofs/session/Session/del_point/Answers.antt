@@ -4,12 +4,12 @@ use Rattle.quilt_types.specs.declared.code.Code.TheVariants as no
 use Rattle.quilt_node.specs.declared.head.Head.{Head}
 use Rattle.quilt_words.specs.declared.command.Command.TheVariants as commands
 use Rattle.quilt_replies.specs.Answers.{Refused}
-use Rattle.quilt_map.proofs.Answered.{level_is, test_at, catalog_as}
-use Rattle.quilt_map.proofs.Asked.{if_ok, if_err}
-use Rattle.quilt_map.proofs.ChangeSteps.{goes_here}
-use Rattle.quilt_map.proofs.Outcomes.{answered_same}
-use Rattle.quilt_map.proofs.PointAnswers.{del_refused, del_outside, del_answered}
-use Rattle.quilt_map.proofs.PointPlans.{found_points}
+use Rattle.quilt_map.proofs.answers.Answered.{level_is, test_at, catalog_as}
+use Rattle.quilt_map.proofs.answers.Asked.{if_ok, if_err}
+use Rattle.quilt_map.proofs.states.ChangeSteps.{goes_here}
+use Rattle.quilt_map.proofs.answers.Outcomes.{answered_same}
+use Rattle.quilt_map.proofs.layers.PointAnswers.{del_refused, del_outside, del_answered}
+use Rattle.quilt_map.proofs.plans.PointPlans.{found_points}
 use Rattle.quilt_map.proofs.session.Session.del_point.Goals as goal
 
 pub returns-then-not-has_pixel-clause-answer : goal.returns-then-not-has_pixel-clause-answer

@@ -4,12 +4,12 @@ use Rattle.quilt_types.specs.declared.code.Code.TheVariants as no
 use Rattle.quilt_replies.specs.Answers.{Refused}
 use Rattle.quilt_map.specs.Derivation.{is_inside}
 use Rattle.quilt_replies.specs.declared.reply.Reply.TheVariants as given
-use Rattle.quilt_map.proofs.Answered.{catalog_as, level_is, test_at}
-use Rattle.quilt_map.proofs.Asked.{if_ok, if_err}
-use Rattle.quilt_map.proofs.ChangeSteps.{goes_here}
-use Rattle.quilt_map.proofs.Derives.{derive_forward, derive_refused, derive_taken, derive_outside, derive_answered}
-use Rattle.quilt_map.proofs.Outcomes.{answered_same}
-use Rattle.quilt_map.proofs.PaintPlans.{region_in}
+use Rattle.quilt_map.proofs.answers.Answered.{catalog_as, level_is, test_at}
+use Rattle.quilt_map.proofs.answers.Asked.{if_ok, if_err}
+use Rattle.quilt_map.proofs.states.ChangeSteps.{goes_here}
+use Rattle.quilt_map.proofs.layers.Derives.{derive_forward, derive_refused, derive_taken, derive_outside, derive_answered}
+use Rattle.quilt_map.proofs.answers.Outcomes.{answered_same}
+use Rattle.quilt_map.proofs.plans.PaintPlans.{region_in}
 use Rattle.quilt_map.proofs.session.Session.derive.Goals as goal
 
 pub returns-in-Err-clause-answer : goal.returns-in-Err-clause-answer

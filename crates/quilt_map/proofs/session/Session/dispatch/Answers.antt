@@ -5,10 +5,10 @@ use Rattle.quilt_map.specs.Reading.{is_bounded}
 use Rattle.quilt_map.specs.Selecting.{layer_asked}
 use Rattle.quilt_map.specs.Sessions.{IsAtState}
 use Rattle.quilt_map.specs.Steps.{gives_edition}
-use Rattle.quilt_map.proofs.Bounded.{unbounded_else, unbounded_reads, find_reads, ask_reads}
-use Rattle.quilt_map.proofs.Commanded.{applied_going, applied_giving, fitting_here, sound_at, quiet_else, forward_else, quiet_revert}
-use Rattle.quilt_map.proofs.Going.{goes_of}
-use Rattle.quilt_map.proofs.Selects.{fits_some}
+use Rattle.quilt_map.proofs.questions.Bounded.{unbounded_else, unbounded_reads, find_reads, ask_reads}
+use Rattle.quilt_map.proofs.answers.Commanded.{applied_going, applied_giving, fitting_here, sound_at, quiet_else, forward_else, quiet_revert}
+use Rattle.quilt_map.proofs.states.Going.{goes_of}
+use Rattle.quilt_map.proofs.questions.Selects.{fits_some}
 use Rattle.quilt_map.proofs.session.Session.dispatch.Goals as goal
 
 pub serve-requires-clause-quiet : goal.serve-requires-clause-quiet

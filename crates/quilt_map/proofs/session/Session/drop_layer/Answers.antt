@@ -11,11 +11,11 @@ use Rattle.quilt_map.specs.Lookups.{IsLayerAt}
 use Rattle.quilt_map.specs.Planning.{HasChanged}
 use Rattle.std.specs.List.{remove}
 use Rattle.quilt_replies.specs.declared.reply.Reply.TheVariants as given
-use Rattle.quilt_map.proofs.ChangeSteps.{goes_here}
-use Rattle.quilt_map.proofs.Going.{goes_of, goes_both}
-use Rattle.quilt_map.proofs.Moving.{later_at, with_book}
-use Rattle.quilt_map.proofs.Outcomes.{answered_same}
-use Rattle.quilt_map.proofs.Copies.{drop_unknown, entry_is, entry_goes, tree_before, at_tree, number_least, drop_plan, never_full, drop_answer}
+use Rattle.quilt_map.proofs.states.ChangeSteps.{goes_here}
+use Rattle.quilt_map.proofs.states.Going.{goes_of, goes_both}
+use Rattle.quilt_map.proofs.states.Moving.{later_at, with_book}
+use Rattle.quilt_map.proofs.answers.Outcomes.{answered_same}
+use Rattle.quilt_map.proofs.plans.Copies.{drop_unknown, entry_is, entry_goes, tree_before, at_tree, number_least, drop_plan, never_full, drop_answer}
 use Rattle.quilt_map.proofs.session.Session.drop_layer.Goals as goal
 
 pub returns-in_default-clause-goes_on : goal.returns-in_default-clause-goes_on

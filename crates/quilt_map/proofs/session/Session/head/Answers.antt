@@ -1,7 +1,7 @@
 use Rattle.std.proofs.Common.{◌∙◌, sym, ap}
 use Rattle.quilt_node.specs.declared.head.Head.{Head}
 use Rattle.quilt_map.specs.Sessions.{IsAt}
-use Rattle.quilt_map.proofs.Answered.{count_is}
+use Rattle.quilt_map.proofs.answers.Answered.{count_is}
 use Rattle.quilt_map.proofs.session.Session.head.Goals as goal
 
 pub returns-clause-records : goal.returns-clause-records

@@ -1,7 +1,7 @@
 use Rattle.quilt_words.specs.declared.command.Command.TheVariants as commands
-use Rattle.quilt_map.proofs.Answered.{layers_done, catalog_as}
-use Rattle.quilt_map.proofs.Asks.{told_here, layers_asks}
-use Rattle.quilt_map.proofs.Asked.{if_ok}
+use Rattle.quilt_map.proofs.answers.Answered.{layers_done, catalog_as}
+use Rattle.quilt_map.proofs.answers.Asks.{told_here, layers_asks}
+use Rattle.quilt_map.proofs.answers.Asked.{if_ok}
 use Rattle.quilt_map.proofs.session.Session.layers.Goals as goal
 
 pub returns-clause-answer : goal.returns-clause-answer

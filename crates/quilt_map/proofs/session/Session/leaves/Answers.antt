@@ -1,8 +1,8 @@
 use Rattle.quilt_replies.specs.declared.reply.Reply.TheVariants as reply
 use Rattle.quilt_words.specs.declared.command.Command.TheVariants as commands
-use Rattle.quilt_map.proofs.Answered.{leaves_refused, leaves_body, catalog_as, keeps_here, has_region, has_number}
-use Rattle.quilt_map.proofs.Asks.{asked_here, told_on, leaves_asks}
-use Rattle.quilt_map.proofs.Asked.{if_ok}
+use Rattle.quilt_map.proofs.answers.Answered.{leaves_refused, leaves_body, catalog_as, keeps_here, has_region, has_number}
+use Rattle.quilt_map.proofs.answers.Asks.{asked_here, told_on, leaves_asks}
+use Rattle.quilt_map.proofs.answers.Asked.{if_ok}
 use Rattle.quilt_map.proofs.session.Session.leaves.Goals as goal
 
 pub returns-in-Err-clause-answer : goal.returns-in-Err-clause-answer

@@ -4,12 +4,12 @@ use Rattle.quilt_words.specs.declared.command.Command.TheVariants as commands
 use Rattle.quilt_replies.specs.Answers.{Refused}
 use Rattle.quilt_replies.specs.declared.reply.Reply.TheVariants as given
 use Rattle.quilt_map.specs.Making.{AnsweredBy, placed}
-use Rattle.quilt_map.proofs.Answered.{catalog_as, level_is}
-use Rattle.quilt_map.proofs.Asked.{if_ok, if_err}
-use Rattle.quilt_map.proofs.ChangeSteps.{goes_here}
-use Rattle.quilt_map.proofs.NewLines.{bare_lines, lines_refused, lines_given, lines_plan}
-use Rattle.quilt_map.proofs.Outcomes.{answered_same}
-use Rattle.quilt_map.proofs.Placing.{answered_by, placed_none}
+use Rattle.quilt_map.proofs.answers.Answered.{catalog_as, level_is}
+use Rattle.quilt_map.proofs.answers.Asked.{if_ok, if_err}
+use Rattle.quilt_map.proofs.states.ChangeSteps.{goes_here}
+use Rattle.quilt_map.proofs.plans.NewLines.{bare_lines, lines_refused, lines_given, lines_plan}
+use Rattle.quilt_map.proofs.answers.Outcomes.{answered_same}
+use Rattle.quilt_map.proofs.answers.Placing.{answered_by, placed_none}
 use Rattle.quilt_map.proofs.session.Session.make_lines.Goals as goal
 
 pub returns-in-Some-clause-answer : goal.returns-in-Some-clause-answer

@@ -1,13 +1,13 @@
 use Rattle.std.proofs.Common.{refl}
 use Rattle.quilt_overlay.specs.Combining.{overlaid}
-use Rattle.quilt_map.proofs.Amends.{mid_at}
-use Rattle.quilt_map.proofs.Answered.{has_number}
-use Rattle.quilt_map.proofs.Asked.{if_ok, if_err}
-use Rattle.quilt_map.proofs.Derives.{list_of, grid_of_layer, made_level, made_fits, made_answered}
-use Rattle.quilt_map.proofs.Going.{goes_of, goes_both}
-use Rattle.quilt_map.proofs.Moving.{with_book}
-use Rattle.quilt_map.proofs.Overlays.{overlaid_as, overlaid_fits}
-use Rattle.quilt_map.proofs.PaintPlans.{as_region, region_there}
+use Rattle.quilt_map.proofs.plans.Amends.{mid_at}
+use Rattle.quilt_map.proofs.answers.Answered.{has_number}
+use Rattle.quilt_map.proofs.answers.Asked.{if_ok, if_err}
+use Rattle.quilt_map.proofs.layers.Derives.{list_of, grid_of_layer, made_level, made_fits, made_answered}
+use Rattle.quilt_map.proofs.states.Going.{goes_of, goes_both}
+use Rattle.quilt_map.proofs.states.Moving.{with_book}
+use Rattle.quilt_map.proofs.layers.Overlays.{overlaid_as, overlaid_fits}
+use Rattle.quilt_map.proofs.plans.PaintPlans.{as_region, region_there}
 use Rattle.quilt_map.proofs.session.Session.make_overlay.Goals as goal
 
 pub returns-in-Err-clause-sound : goal.returns-in-Err-clause-sound

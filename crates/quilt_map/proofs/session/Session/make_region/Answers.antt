@@ -7,9 +7,9 @@ use Rattle.quilt_record.specs.Listing.{kind_fact}
 use Rattle.quilt_spell.specs.Catalogued.{IsCatalogOf}
 use Rattle.quilt_map.specs.Making.{AnsweredBy, placed}
 use Rattle.quilt_map.specs.Planning.{IsPlan}
-use Rattle.quilt_map.proofs.ChangeSteps.{goes_here}
-use Rattle.quilt_map.proofs.Asked.{if_ok, if_err}
-use Rattle.quilt_map.proofs.NewLayers.{region_plan}
+use Rattle.quilt_map.proofs.states.ChangeSteps.{goes_here}
+use Rattle.quilt_map.proofs.answers.Asked.{if_ok, if_err}
+use Rattle.quilt_map.proofs.plans.NewLayers.{region_plan}
 use Rattle.quilt_map.proofs.session.Session.make_region.Goals as goal
 
 pub returns-in_default-clause-goes_on : goal.returns-in_default-clause-goes_on

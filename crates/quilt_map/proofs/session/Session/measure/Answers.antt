@@ -1,8 +1,8 @@
 use Rattle.quilt_replies.specs.declared.reply.Reply.TheVariants as reply
-use Rattle.quilt_map.proofs.Answered.{catalog_as, keeps_here, has_region, has_number}
-use Rattle.quilt_map.proofs.Asks.{asked_here, told_on}
-use Rattle.quilt_map.proofs.Asked.{if_ok}
-use Rattle.quilt_map.proofs.Measures.{measure_asks, measure_refused, measure_body}
+use Rattle.quilt_map.proofs.answers.Answered.{catalog_as, keeps_here, has_region, has_number}
+use Rattle.quilt_map.proofs.answers.Asks.{asked_here, told_on}
+use Rattle.quilt_map.proofs.answers.Asked.{if_ok}
+use Rattle.quilt_map.proofs.questions.Measures.{measure_asks, measure_refused, measure_body}
 use Rattle.quilt_map.proofs.session.Session.measure.Goals as goal
 
 pub returns-in-Err-clause-answer : goal.returns-in-Err-clause-answer

@@ -1,7 +1,7 @@
 use Rattle.std.proofs.Common.{refl}
 use Rattle.quilt_map.specs.Sessions.{IsAt}
-use Rattle.quilt_map.proofs.Moving.{opened_at}
-use Rattle.quilt_map.proofs.Warming.{cold}
+use Rattle.quilt_map.proofs.states.Moving.{opened_at}
+use Rattle.quilt_map.proofs.questions.Warming.{cold}
 use Rattle.quilt_map.proofs.session.Session.new.Goals as goal
 
 pub returns-clause-at : goal.returns-clause-at

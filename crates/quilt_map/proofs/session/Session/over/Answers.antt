@@ -5,13 +5,13 @@ use Rattle.quilt_replies.specs.Answers as answers
 use Rattle.quilt_replies.specs.States.{Tells}
 use Rattle.quilt_replies.specs.declared.reply.Reply.TheVariants as reply
 use Rattle.quilt_map.specs.Selecting.{selected_over}
-use Rattle.quilt_map.proofs.Amends.{mid_at}
-use Rattle.quilt_map.proofs.Answered.{catalog_as, keeps_here, has_region, has_number, raster_is}
-use Rattle.quilt_map.proofs.Asked.{if_ok, if_err, still_both}
-use Rattle.quilt_map.proofs.Asks.{asked_here, asked_on}
-use Rattle.quilt_map.proofs.LinePlans.{found_lines}
-use Rattle.quilt_map.proofs.Moving.{with_book}
-use Rattle.quilt_map.proofs.Selects.{over_asks, over_refused, over_done}
+use Rattle.quilt_map.proofs.plans.Amends.{mid_at}
+use Rattle.quilt_map.proofs.answers.Answered.{catalog_as, keeps_here, has_region, has_number, raster_is}
+use Rattle.quilt_map.proofs.answers.Asked.{if_ok, if_err, still_both}
+use Rattle.quilt_map.proofs.answers.Asks.{asked_here, asked_on}
+use Rattle.quilt_map.proofs.plans.LinePlans.{found_lines}
+use Rattle.quilt_map.proofs.states.Moving.{with_book}
+use Rattle.quilt_map.proofs.questions.Selects.{over_asks, over_refused, over_done}
 use Rattle.quilt_map.proofs.session.Session.over.Goals as goal
 
 pub returns-in-Err-clause-answer : goal.returns-in-Err-clause-answer

@@ -2,12 +2,12 @@ use Rattle.std.proofs.Common.{refl}
 use Rattle.quilt_replies.specs.Answers.{Refused}
 use Rattle.quilt_map.specs.Overlaying.{overlay_command}
 use Rattle.quilt_replies.specs.declared.reply.Reply.TheVariants as given
-use Rattle.quilt_map.proofs.Answered.{catalog_as}
-use Rattle.quilt_map.proofs.Asked.{if_ok, if_err}
-use Rattle.quilt_map.proofs.ChangeSteps.{goes_here}
-use Rattle.quilt_map.proofs.Outcomes.{answered_same}
-use Rattle.quilt_map.proofs.Overlays.{overlay_forward, overlay_refused, overlay_taken, overlay_answered}
-use Rattle.quilt_map.proofs.PaintPlans.{region_in}
+use Rattle.quilt_map.proofs.answers.Answered.{catalog_as}
+use Rattle.quilt_map.proofs.answers.Asked.{if_ok, if_err}
+use Rattle.quilt_map.proofs.states.ChangeSteps.{goes_here}
+use Rattle.quilt_map.proofs.answers.Outcomes.{answered_same}
+use Rattle.quilt_map.proofs.layers.Overlays.{overlay_forward, overlay_refused, overlay_taken, overlay_answered}
+use Rattle.quilt_map.proofs.plans.PaintPlans.{region_in}
 use Rattle.quilt_map.proofs.session.Session.overlay.Goals as goal
 
 pub returns-in-Err-clause-answer : goal.returns-in-Err-clause-answer

@@ -4,8 +4,8 @@ use Rattle.quilt_record.specs.Catalogs.{with_entry}
 use Rattle.quilt_spell.specs.Catalogued.{IsCatalogOf, kind_of}
 use Rattle.quilt_spell.specs.Changing.{with_layer, with_number}
 use Rattle.quilt_map.specs.Planning.{HasChanged}
-use Rattle.quilt_map.proofs.Catalogs.{catalog_comes}
-use Rattle.quilt_map.proofs.Placing.{full_answer, placed_answer}
+use Rattle.quilt_map.proofs.states.Catalogs.{catalog_comes}
+use Rattle.quilt_map.proofs.answers.Placing.{full_answer, placed_answer}
 use Rattle.quilt_map.proofs.session.Session.place.Goals as goal
 
 pub returns-in-Err-clause-sound : goal.returns-in-Err-clause-sound

@@ -4,11 +4,11 @@ use Rattle.quilt_types.specs.declared.code.Code.TheVariants as no
 use Rattle.quilt_node.specs.declared.head.Head.{Head}
 use Rattle.quilt_words.specs.declared.command.Command.TheVariants as commands
 use Rattle.quilt_replies.specs.declared.reply.Reply.TheVariants as reply
-use Rattle.quilt_map.proofs.Answered.{level_is, test_at, catalog_as, keeps_here}
-use Rattle.quilt_map.proofs.Asked.{if_ok}
-use Rattle.quilt_map.proofs.Asks.{asked_here, told_on}
-use Rattle.quilt_map.proofs.PointAnswers.{within_asks, within_refused, within_outside, within_body}
-use Rattle.quilt_map.proofs.PointPlans.{found_points}
+use Rattle.quilt_map.proofs.answers.Answered.{level_is, test_at, catalog_as, keeps_here}
+use Rattle.quilt_map.proofs.answers.Asked.{if_ok}
+use Rattle.quilt_map.proofs.answers.Asks.{asked_here, told_on}
+use Rattle.quilt_map.proofs.layers.PointAnswers.{within_asks, within_refused, within_outside, within_body}
+use Rattle.quilt_map.proofs.plans.PointPlans.{found_points}
 use Rattle.quilt_map.proofs.session.Session.points_within.Goals as goal
 
 pub returns-in-Err-clause-answer : goal.returns-in-Err-clause-answer

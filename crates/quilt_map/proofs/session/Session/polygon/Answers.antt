@@ -3,11 +3,11 @@ use Rattle.quilt_node.specs.declared.head.Head.{Head}
 use Rattle.quilt_types.specs.declared.code.Code.TheVariants as no
 use Rattle.quilt_words.specs.declared.command.Command.TheVariants as commands
 use Rattle.quilt_replies.specs.Answers.{Refused}
-use Rattle.quilt_map.proofs.Answered.{catalog_as, level_is}
-use Rattle.quilt_map.proofs.Asked.{if_ok, if_err}
-use Rattle.quilt_map.proofs.ChangeSteps.{goes_here, at_most}
-use Rattle.quilt_map.proofs.Fillings.{leave_at, polygon_refusal, polygon_missing, polygon_outside, filled_level, filled_fits, polygon_answered}
-use Rattle.quilt_map.proofs.Outcomes.{answered_same}
+use Rattle.quilt_map.proofs.answers.Answered.{catalog_as, level_is}
+use Rattle.quilt_map.proofs.answers.Asked.{if_ok, if_err}
+use Rattle.quilt_map.proofs.states.ChangeSteps.{goes_here, at_most}
+use Rattle.quilt_map.proofs.layers.Fillings.{leave_at, polygon_refusal, polygon_missing, polygon_outside, filled_level, filled_fits, polygon_answered}
+use Rattle.quilt_map.proofs.answers.Outcomes.{answered_same}
 use Rattle.quilt_map.proofs.session.Session.polygon.Goals as goal
 
 pub returns-in-Some-clause-answer : goal.returns-in-Some-clause-answer

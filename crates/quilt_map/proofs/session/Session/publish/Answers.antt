@@ -2,8 +2,8 @@ use Rattle.std.proofs.Common.{◌≡◌, ◌==◌, ◌+◌, true, false, eq-eqb,
 use Rattle.quilt_types.specs.declared.code.Code.TheVariants as no
 use Rattle.quilt_words.specs.declared.command.Command.TheVariants as commands
 use Rattle.quilt_replies.specs.Answers.{Outcome, Refused, edition_after}
-use Rattle.quilt_map.proofs.Outcomes.{answered_same, leaves_last, can_publish, leaves_given, answered_given, publish_full, publish_gives, not_equal}
-use Rattle.quilt_map.proofs.Outcomes.{tells_edition}
+use Rattle.quilt_map.proofs.answers.Outcomes.{answered_same, leaves_last, can_publish, leaves_given, answered_given, publish_full, publish_gives, not_equal}
+use Rattle.quilt_map.proofs.answers.Outcomes.{tells_edition}
 use Rattle.quilt_map.proofs.session.Session.publish.Goals as goal
 
 pub returns-then-number-clause-answer : goal.returns-then-number-clause-answer

@@ -3,9 +3,9 @@ use Rattle.std.specs.Map.{keys_of}
 use Rattle.quilt_pool.specs.Views.{entries_of}
 use Rattle.quilt_pool.specs.declared.pool.Pool.{Pool}
 use Rattle.quilt_map.specs.Sessions.{IsAt}
-use Rattle.quilt_map.proofs.Warming.{warm_as}
+use Rattle.quilt_map.proofs.questions.Warming.{warm_as}
 use Rattle.quilt_edition.proofs.TextSteps.{put}
-use Rattle.quilt_map.proofs.Moving.{text_at}
+use Rattle.quilt_map.proofs.states.Moving.{text_at}
 use Rattle.quilt_map.proofs.session.Session.put.Goals as goal
 
 pub returns-clause-at : goal.returns-clause-at

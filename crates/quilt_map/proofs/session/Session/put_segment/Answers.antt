@@ -1,14 +1,14 @@
 use Rattle.std.specs.FinMap as finmap
 use Rattle.quilt_types.specs.declared.code.Code.TheVariants as no
 use Rattle.quilt_map.specs.LineLayers.{with_segment, segment_put}
-use Rattle.quilt_map.proofs.Amends.{mid_at}
-use Rattle.quilt_map.proofs.Asked.{if_ok, if_err}
-use Rattle.quilt_map.proofs.ChangeSteps.{goes_here}
-use Rattle.quilt_map.proofs.Going.{goes_of, goes_both}
-use Rattle.quilt_map.proofs.LineAnswers.{segment_present, segment_new}
-use Rattle.quilt_map.proofs.LinePlans.{lines_there, put_amendment}
-use Rattle.quilt_map.proofs.Planned.{unplanned, planned}
-use Rattle.quilt_map.proofs.PointAnswers.{put_finds}
+use Rattle.quilt_map.proofs.plans.Amends.{mid_at}
+use Rattle.quilt_map.proofs.answers.Asked.{if_ok, if_err}
+use Rattle.quilt_map.proofs.states.ChangeSteps.{goes_here}
+use Rattle.quilt_map.proofs.states.Going.{goes_of, goes_both}
+use Rattle.quilt_map.proofs.layers.LineAnswers.{segment_present, segment_new}
+use Rattle.quilt_map.proofs.plans.LinePlans.{lines_there, put_amendment}
+use Rattle.quilt_map.proofs.plans.Planned.{unplanned, planned}
+use Rattle.quilt_map.proofs.layers.PointAnswers.{put_finds}
 use Rattle.quilt_map.proofs.session.Session.put_segment.Goals as goal
 
 pub returns-in_default-clause-goes_on : goal.returns-in_default-clause-goes_on

@@ -2,12 +2,12 @@ use Rattle.std.proofs.Common.{Some, refl, sym, ◌∙◌, ap}
 use Rattle.quilt_types.specs.declared.code.Code.TheVariants as no
 use Rattle.quilt_words.specs.declared.command.Command.TheVariants as commands
 use Rattle.quilt_replies.specs.Answers.{Refused}
-use Rattle.quilt_map.proofs.Answered.{catalog_as}
-use Rattle.quilt_map.proofs.Asked.{if_ok, if_err}
-use Rattle.quilt_map.proofs.ChangeSteps.{goes_here}
-use Rattle.quilt_map.proofs.Outcomes.{answered_same}
-use Rattle.quilt_map.proofs.PaintPlans.{region_in}
-use Rattle.quilt_map.proofs.Rasters.{raster_refused, raster_missing, raster_answered, rows_at, some_rows, list_grid}
+use Rattle.quilt_map.proofs.answers.Answered.{catalog_as}
+use Rattle.quilt_map.proofs.answers.Asked.{if_ok, if_err}
+use Rattle.quilt_map.proofs.states.ChangeSteps.{goes_here}
+use Rattle.quilt_map.proofs.answers.Outcomes.{answered_same}
+use Rattle.quilt_map.proofs.plans.PaintPlans.{region_in}
+use Rattle.quilt_map.proofs.layers.Rasters.{raster_refused, raster_missing, raster_answered, rows_at, some_rows, list_grid}
 use Rattle.quilt_map.proofs.session.Session.raster.Goals as goal
 
 pub returns-in-Err-clause-answer : goal.returns-in-Err-clause-answer

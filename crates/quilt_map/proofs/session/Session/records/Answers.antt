@@ -1,9 +1,9 @@
 use Rattle.std.proofs.Common.{ap}
 use Rattle.quilt_node.specs.declared.head.Head.{Head}
 use Rattle.quilt_words.specs.declared.command.Command.TheVariants as commands
-use Rattle.quilt_map.proofs.Answered.{records_body}
-use Rattle.quilt_map.proofs.Asks.{told_here, records_asks}
-use Rattle.quilt_map.proofs.Asked.{if_ok}
+use Rattle.quilt_map.proofs.answers.Answered.{records_body}
+use Rattle.quilt_map.proofs.answers.Asks.{told_here, records_asks}
+use Rattle.quilt_map.proofs.answers.Asked.{if_ok}
 use Rattle.quilt_map.proofs.session.Session.records.Goals as goal
 
 pub returns-clause-answer : goal.returns-clause-answer

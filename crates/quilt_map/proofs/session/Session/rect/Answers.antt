@@ -4,11 +4,11 @@ use Rattle.quilt_types.specs.declared.code.Code.TheVariants as no
 use Rattle.quilt_node.specs.declared.head.Head.{Head}
 use Rattle.quilt_words.specs.declared.command.Command.TheVariants as commands
 use Rattle.quilt_replies.specs.Answers.{Refused}
-use Rattle.quilt_map.proofs.Answered.{level_is, test_at, catalog_as}
-use Rattle.quilt_map.proofs.Asked.{if_ok, if_err}
-use Rattle.quilt_map.proofs.ChangeSteps.{goes_here}
-use Rattle.quilt_map.proofs.Outcomes.{answered_same}
-use Rattle.quilt_map.proofs.PaintPlans.{region_in, rect_refused, rect_outside, rect_answered}
+use Rattle.quilt_map.proofs.answers.Answered.{level_is, test_at, catalog_as}
+use Rattle.quilt_map.proofs.answers.Asked.{if_ok, if_err}
+use Rattle.quilt_map.proofs.states.ChangeSteps.{goes_here}
+use Rattle.quilt_map.proofs.answers.Outcomes.{answered_same}
+use Rattle.quilt_map.proofs.plans.PaintPlans.{region_in, rect_refused, rect_outside, rect_answered}
 use Rattle.quilt_map.proofs.session.Session.rect.Goals as goal
 
 pub returns-then-not-has_window-clause-answer : goal.returns-then-not-has_window-clause-answer

@@ -3,11 +3,11 @@ use Rattle.quilt_node.specs.declared.head.Head.{Head}
 use Rattle.quilt_words.specs.declared.command.Command.TheVariants as commands
 use Rattle.quilt_replies.specs.Answers.{Refused}
 use Rattle.quilt_replies.specs.declared.reply.Reply.TheVariants as given
-use Rattle.quilt_map.proofs.Answered.{catalog_as, level_is}
-use Rattle.quilt_map.proofs.Asked.{if_ok, if_err}
-use Rattle.quilt_map.proofs.ChangeSteps.{goes_here}
-use Rattle.quilt_map.proofs.Outcomes.{answered_same}
-use Rattle.quilt_map.proofs.Uniforms.{list_level, list_fits, region_refusal, region_answered}
+use Rattle.quilt_map.proofs.answers.Answered.{catalog_as, level_is}
+use Rattle.quilt_map.proofs.answers.Asked.{if_ok, if_err}
+use Rattle.quilt_map.proofs.states.ChangeSteps.{goes_here}
+use Rattle.quilt_map.proofs.answers.Outcomes.{answered_same}
+use Rattle.quilt_map.proofs.plans.Uniforms.{list_level, list_fits, region_refusal, region_answered}
 use Rattle.quilt_map.proofs.session.Session.region.Goals as goal
 
 pub returns-in-Some-clause-answer : goal.returns-in-Some-clause-answer

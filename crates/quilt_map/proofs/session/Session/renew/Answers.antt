@@ -1,4 +1,4 @@
-use Rattle.quilt_map.proofs.Renewed.{leaves_either, writes_few, is_renewed}
+use Rattle.quilt_map.proofs.states.Renewed.{leaves_either, writes_few, is_renewed}
 use Rattle.quilt_map.proofs.session.Session.renew.Goals as goal
 
 pub returns-in_default-clause-crash : goal.returns-in_default-clause-crash

@@ -2,14 +2,14 @@ use Rattle.std.proofs.Common.{refl}
 use Rattle.quilt_types.specs.Algebra.{painted}
 use Rattle.quilt_types.specs.Layers.{Region}
 use Rattle.quilt_map.specs.Making.{placed}
-use Rattle.quilt_map.proofs.Amends.{mid_at}
-use Rattle.quilt_map.proofs.Answered.{has_number}
-use Rattle.quilt_map.proofs.Asked.{if_ok, if_err}
-use Rattle.quilt_map.proofs.ChangeSteps.{goes_here}
-use Rattle.quilt_map.proofs.Going.{goes_of, goes_both}
-use Rattle.quilt_map.proofs.Moving.{with_book}
-use Rattle.quilt_map.proofs.PaintPlans.{as_region, region_there, painted_grid, mid_amendment}
-use Rattle.quilt_map.proofs.Placing.{answered_from}
+use Rattle.quilt_map.proofs.plans.Amends.{mid_at}
+use Rattle.quilt_map.proofs.answers.Answered.{has_number}
+use Rattle.quilt_map.proofs.answers.Asked.{if_ok, if_err}
+use Rattle.quilt_map.proofs.states.ChangeSteps.{goes_here}
+use Rattle.quilt_map.proofs.states.Going.{goes_of, goes_both}
+use Rattle.quilt_map.proofs.states.Moving.{with_book}
+use Rattle.quilt_map.proofs.plans.PaintPlans.{as_region, region_there, painted_grid, mid_amendment}
+use Rattle.quilt_map.proofs.answers.Placing.{answered_from}
 use Rattle.quilt_map.proofs.session.Session.repaint.Goals as goal
 
 pub returns-in_default-clause-goes_on : goal.returns-in_default-clause-goes_on

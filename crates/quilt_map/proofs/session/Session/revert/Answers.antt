@@ -1,6 +1,6 @@
 use Rattle.std.proofs.Common.{refl}
-use Rattle.quilt_map.proofs.ChangeSteps.{goes_here}
-use Rattle.quilt_map.proofs.Outcomes.{is_reverted, answered_reverted}
+use Rattle.quilt_map.proofs.states.ChangeSteps.{goes_here}
+use Rattle.quilt_map.proofs.answers.Outcomes.{is_reverted, answered_reverted}
 use Rattle.quilt_map.proofs.session.Session.revert.Goals as goal
 
 pub returns-clause-answer : goal.returns-clause-answer

@@ -8,12 +8,12 @@ use Rattle.quilt_words.specs.declared.command.Command.TheVariants as commands
 use Rattle.quilt_replies.specs.Answers.{Refused}
 use Rattle.quilt_replies.specs.declared.reply.Reply.TheVariants as given
 use Rattle.quilt_map.specs.Commanding.{Answered}
-use Rattle.quilt_map.proofs.Answered.{level_is, test_at, catalog_as}
-use Rattle.quilt_map.proofs.Asked.{if_ok, if_err}
-use Rattle.quilt_map.proofs.ChangeSteps.{goes_here}
-use Rattle.quilt_map.proofs.Outcomes.{answered_same}
-use Rattle.quilt_map.proofs.PointPlans.{found_points}
-use Rattle.quilt_map.proofs.Scatters.{scatter_refused, scatter_rows, scatter_outside, scatter_answered, none_outside}
+use Rattle.quilt_map.proofs.answers.Answered.{level_is, test_at, catalog_as}
+use Rattle.quilt_map.proofs.answers.Asked.{if_ok, if_err}
+use Rattle.quilt_map.proofs.states.ChangeSteps.{goes_here}
+use Rattle.quilt_map.proofs.answers.Outcomes.{answered_same}
+use Rattle.quilt_map.proofs.plans.PointPlans.{found_points}
+use Rattle.quilt_map.proofs.layers.Scatters.{scatter_refused, scatter_rows, scatter_outside, scatter_answered, none_outside}
 use Rattle.quilt_map.proofs.session.Session.scatter.Goals as goal
 
 pub scatter_into-requires : goal.scatter_into-requires

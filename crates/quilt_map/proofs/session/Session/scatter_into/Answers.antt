@@ -2,13 +2,13 @@ use Rattle.quilt_types.specs.Layers.{Points}
 use Rattle.quilt_types.specs.declared.code.Code.TheVariants as no
 use Rattle.quilt_replies.specs.Answers.{with_points}
 use Rattle.quilt_map.specs.PointLayers.{points_scattered}
-use Rattle.quilt_map.proofs.Amends.{mid_at}
-use Rattle.quilt_map.proofs.Asked.{if_ok, if_err}
-use Rattle.quilt_map.proofs.ChangeSteps.{goes_here}
-use Rattle.quilt_map.proofs.Going.{goes_of, goes_both}
-use Rattle.quilt_map.proofs.Planned.{unplanned, planned}
-use Rattle.quilt_map.proofs.PointPlans.{points_there, number_there, mid_point}
-use Rattle.quilt_map.proofs.Scatters.{scatter_finds, scatter_present, scatter_new}
+use Rattle.quilt_map.proofs.plans.Amends.{mid_at}
+use Rattle.quilt_map.proofs.answers.Asked.{if_ok, if_err}
+use Rattle.quilt_map.proofs.states.ChangeSteps.{goes_here}
+use Rattle.quilt_map.proofs.states.Going.{goes_of, goes_both}
+use Rattle.quilt_map.proofs.plans.Planned.{unplanned, planned}
+use Rattle.quilt_map.proofs.plans.PointPlans.{points_there, number_there, mid_point}
+use Rattle.quilt_map.proofs.layers.Scatters.{scatter_finds, scatter_present, scatter_new}
 use Rattle.quilt_map.proofs.session.Session.scatter_into.Goals as goal
 
 pub returns-in_default-clause-goes_on : goal.returns-in_default-clause-goes_on

@@ -1,5 +1,5 @@
-use Rattle.quilt_map.proofs.Asked.{if_ok}
-use Rattle.quilt_map.proofs.PaintPlans.{set_answered}
+use Rattle.quilt_map.proofs.answers.Asked.{if_ok}
+use Rattle.quilt_map.proofs.plans.PaintPlans.{set_answered}
 use Rattle.quilt_map.proofs.session.Session.set.Goals as goal
 
 pub returns-clause-answer : goal.returns-clause-answer

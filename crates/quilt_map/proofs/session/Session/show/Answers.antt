@@ -4,9 +4,9 @@ use Rattle.std.proofs.Common.{true, false, ◌∙◌, ap}
 use Rattle.quilt_types.specs.Plane.{is_window}
 use Rattle.quilt_node.specs.declared.head.Head.{Head}
 use Rattle.quilt_words.specs.declared.command.Command.TheVariants as commands
-use Rattle.quilt_map.proofs.Answered.{show_refused, show_outside, show_body, level_is, test_at, catalog_as, keeps_here, has_region, has_number}
-use Rattle.quilt_map.proofs.Asks.{asked_here, told_on, show_asks}
-use Rattle.quilt_map.proofs.Asked.{if_ok}
+use Rattle.quilt_map.proofs.answers.Answered.{show_refused, show_outside, show_body, level_is, test_at, catalog_as, keeps_here, has_region, has_number}
+use Rattle.quilt_map.proofs.answers.Asks.{asked_here, told_on, show_asks}
+use Rattle.quilt_map.proofs.answers.Asked.{if_ok}
 use Rattle.quilt_map.proofs.session.Session.show.Goals as goal
 
 pub returns-in-Err-clause-answer : goal.returns-in-Err-clause-answer

@@ -1,14 +1,14 @@
 use Rattle.std.specs.FinMap as finmap
 use Rattle.quilt_types.specs.declared.code.Code.TheVariants as no
 use Rattle.quilt_map.specs.LineLayers.{without_segment, segment_taken}
-use Rattle.quilt_map.proofs.Amends.{mid_at}
-use Rattle.quilt_map.proofs.Asked.{if_ok, if_err}
-use Rattle.quilt_map.proofs.ChangeSteps.{goes_here}
-use Rattle.quilt_map.proofs.Going.{goes_of, goes_both}
-use Rattle.quilt_map.proofs.LineAnswers.{segment_absent, segment_there}
-use Rattle.quilt_map.proofs.LinePlans.{lines_there, taken_amendment, taken_within}
-use Rattle.quilt_map.proofs.Planned.{unplanned, planned}
-use Rattle.quilt_map.proofs.PointAnswers.{del_finds}
+use Rattle.quilt_map.proofs.plans.Amends.{mid_at}
+use Rattle.quilt_map.proofs.answers.Asked.{if_ok, if_err}
+use Rattle.quilt_map.proofs.states.ChangeSteps.{goes_here}
+use Rattle.quilt_map.proofs.states.Going.{goes_of, goes_both}
+use Rattle.quilt_map.proofs.layers.LineAnswers.{segment_absent, segment_there}
+use Rattle.quilt_map.proofs.plans.LinePlans.{lines_there, taken_amendment, taken_within}
+use Rattle.quilt_map.proofs.plans.Planned.{unplanned, planned}
+use Rattle.quilt_map.proofs.layers.PointAnswers.{del_finds}
 use Rattle.quilt_map.proofs.session.Session.take_segment.Goals as goal
 
 pub returns-in_default-clause-goes_on : goal.returns-in_default-clause-goes_on

@@ -1,12 +1,12 @@
 use Rattle.std.proofs.Common.{refl}
 use Rattle.quilt_words.specs.declared.command.Command.TheVariants as commands
 use Rattle.quilt_replies.specs.Answers.{Refused}
-use Rattle.quilt_map.proofs.Answered.{catalog_as}
-use Rattle.quilt_map.proofs.Asked.{if_ok, if_err}
-use Rattle.quilt_map.proofs.ChangeSteps.{goes_here}
-use Rattle.quilt_map.proofs.LineAnswers.{unline_refused, unline_answered}
-use Rattle.quilt_map.proofs.LinePlans.{found_lines}
-use Rattle.quilt_map.proofs.Outcomes.{answered_same}
+use Rattle.quilt_map.proofs.answers.Answered.{catalog_as}
+use Rattle.quilt_map.proofs.answers.Asked.{if_ok, if_err}
+use Rattle.quilt_map.proofs.states.ChangeSteps.{goes_here}
+use Rattle.quilt_map.proofs.layers.LineAnswers.{unline_refused, unline_answered}
+use Rattle.quilt_map.proofs.plans.LinePlans.{found_lines}
+use Rattle.quilt_map.proofs.answers.Outcomes.{answered_same}
 use Rattle.quilt_map.proofs.session.Session.unline.Goals as goal
 
 pub returns-in-Err-clause-answer : goal.returns-in-Err-clause-answer

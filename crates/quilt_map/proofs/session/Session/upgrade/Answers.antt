@@ -6,8 +6,8 @@ use Rattle.quilt_node.specs.declared.head.Head.{Head}
 use Rattle.quilt_journal.specs.Writing.{Writing}
 use Rattle.quilt_replies.specs.Answers.{Outcome, Refused, upgraded}
 use Rattle.quilt_map.specs.Steps.{Leaves}
-use Rattle.quilt_map.proofs.Outcomes.{answered_same, leaves_last, can_upgrade, leaves_given, answered_given, upgrade_again, upgrade_full, upgrade_gives}
-use Rattle.quilt_map.proofs.Outcomes.{not_equal, tells_edition}
+use Rattle.quilt_map.proofs.answers.Outcomes.{answered_same, leaves_last, can_upgrade, leaves_given, answered_given, upgrade_again, upgrade_full, upgrade_gives}
+use Rattle.quilt_map.proofs.answers.Outcomes.{not_equal, tells_edition}
 use Rattle.quilt_map.proofs.session.Session.upgrade.Goals as goal
 
 pub returns-then-head-eq2-clause-answer : goal.returns-then-head-eq2-clause-answer

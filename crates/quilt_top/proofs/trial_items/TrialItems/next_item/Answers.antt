@@ -1,7 +1,7 @@
 use Rattle.std.proofs.Common.{◌≡◌, ◌∙◌, ◌++◌, List, ℕ, sym, subst}
 use Rattle.std.proofs.lemmas.Result.{IfOk-weaker}
 use Rattle.quilt_top.specs.Trying.{text_left}
-use Rattle.quilt_top.proofs.Trials.{Leads, given_last}
+use Rattle.quilt_top.proofs.turns.Trials.{Leads, given_last}
 use Rattle.quilt_top.proofs.trial_items.TrialItems.next_item.Goals as goal
 
 pub returns-clause-given : goal.returns-clause-given

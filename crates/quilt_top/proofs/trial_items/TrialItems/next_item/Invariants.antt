@@ -1,6 +1,6 @@
 use Rattle.std.proofs.Common.{◌≡◌, length}
 use Rattle.quilt_top.specs.Trying.{text_left}
-use Rattle.quilt_top.proofs.Trials.{Leads}
+use Rattle.quilt_top.proofs.turns.Trials.{Leads}
 use Rattle.quilt_top.proofs.trial_items.TrialItems.next_item.Given as goal
 
 abbrev pub invariant-lines : goal.invariant-lines

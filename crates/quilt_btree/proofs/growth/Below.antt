@@ -1,0 +1,130 @@
+-- A subtree that is to be edited, and the child to which a key leads.
+use Rattle.std.proofs.Common.{◌≡◌, ◌≢◌, ℕ, suc, ◌+◌, ◌<◌, ◌≤◌, Bool, true, false, ◌||◌, nat_le, List, [], ◌∷◌, ◌++◌, length, take, drop, Option, Some}
+use Rattle.std.proofs.Common.{slice_index, slice_index_or, refl, sym, ◌∙◌, ap, subst, arith, take-append-drop}
+use Rattle.std.specs.List.{list_all}
+use Rattle.std.specs.Ordering.{is_lt, is_le}
+use Rattle.quilt_record.specs.declared.key.Key.{Key}
+use Rattle.quilt_record.specs.declared.record.Record.{Record}
+use Rattle.quilt_record.specs.Records.{key_cmp}
+use Rattle.quilt_node.specs.Pages.{Inner, inner_of}
+use Rattle.quilt_node.specs.Nodes.{IsPlace}
+use Rattle.quilt_node.specs.Tree.{Bounds, bounded, are_within, is_above, is_below}
+use Rattle.quilt_btree.specs.Subtree.{Row, Subtree}
+use Rattle.quilt_btree.specs.Edits.{times, CanEdit}
+use Rattle.quilt_btree.specs.Trees.{ReadsInner, Spells}
+use Rattle.quilt_btree.proofs.lists.Counts.{times-append, times-three}
+use Rattle.quilt_btree.proofs.stores.Moves.{AreApart, apart_some}
+use Rattle.quilt_btree.proofs.subtrees.Walks.{and_parts}
+use Rattle.quilt_btree.proofs.subtrees.Trees.{IsInnerList, inner_list}
+use Rattle.quilt_btree.proofs.rows.Places.{front, from_keys, head_bounds, tail_places, bounded_at, one_row, high_from}
+use Rattle.quilt_btree.proofs.lists.Lists.{IsAmong}
+use Rattle.quilt_btree.proofs.subtrees.Descents.{child_bounds, AtChild, leads_down, cut_children, as_long, place_in}
+use Rattle.quilt_btree.proofs.subtrees.Descending.{height_above}
+
+-- what stands below an inner page, around the child to which the key leads
+pub record IsBelow (told : Option (List (List ℕ))) (free : ℕ → Bool) (page height : ℕ) (is_root : Bool) (b : Bounds) (k : Key) (rs : List Record)
+    (used : List ℕ) (inner : Inner) (i : ℕ) : Type 0 where
+  pub pages : List (List ℕ)
+  pub is_told : told ≡ Some pages
+  pub below : ℕ
+  pub is_height : height ≡ suc (suc below)
+  pub page_is : inner_of (length pages) (slice_index_or pages page []) ≡ Some inner
+  pub list : IsInnerList (length pages) (slice_index_or pages page []) inner
+  pub inner_height : inner.height ≡ suc (suc below)
+  pub enough : (is_root || nat_le 127 (length inner.children)) ≡ true
+  pub within : are_within b inner.keys ≡ true
+  pub under : List ℕ
+  pub is_used : used ≡ under ++ page ∷ []
+  pub apart : AreApart free (under ++ page ∷ [])
+  pub at : AtChild (Subtree pages (suc below) false) inner b i rs under
+  pub among : IsAmong k at.first at.here at.last rs
+  pub child : Subtree pages (suc below) false (slice_index inner.children i, child_bounds inner b i) at.here at.here_used
+  pub here_apart : AreApart free at.here_used
+  pub in_range : i < length inner.children
+
+pub go_below : (told : Option (List (List ℕ))) (free : ℕ → Bool) (page height : ℕ) (is_root : Bool) (b : Bounds) (k : Key) (rs : List Record)
+    (used : List ℕ) (inner : Inner) (i : ℕ)
+    → 1 ≤ height → height ≢ 1 → ReadsInner told page inner → IsPlace inner.keys k i → CanEdit told free page height is_root b rs used
+    → IsBelow told free page height is_root b k rs used inner i
+go_below told free page height is_root b k rs used inner i some ne reads p can =
+    let n = height_above height some ne in
+    let s = subst (λ m. Subtree can.pages m is_root (page, b) rs used) n.1 can.subtree in
+    let there = reads can.pages can.is_told in
+    let mine = s.page in
+    let same : s.inner ≡ inner = cc in
+    let list = inner_list (length can.pages) (slice_index_or can.pages page []) inner there in
+    let within = subst (λ (x : Inner). are_within b x.keys ≡ true) same s.within in
+    let row = subst (λ (x : Inner). Row (Subtree can.pages (suc n.0) false) (bounded x.children x.keys b) rs s.under) same s.children in
+    let down = leads_down can.pages n.0 inner (slice_index_or can.pages page []) b i k rs s.under list within p row in
+    let at = down.at in
+    let inside : (p : ℕ) → times p at.here_used ≤ times p used = λ p.
+    part (times p used) (times p s.under) (times p (page ∷ [])) (times p at.last_used) (times p at.here_used) (times p at.first_used)
+    (ap (times p) s.is_used ∙ times-append p s.under (page ∷ [])) (ap (times p) at.is_used ∙ times-three p at.last_used at.here_used at.first_used) in
+    record {
+      pages = can.pages;
+      is_told = can.is_told;
+      below = n.0;
+      is_height = n.1;
+      page_is = there;
+      list = list;
+      inner_height = subst (λ (x : Inner). x.height ≡ suc (suc n.0)) same s.is_height;
+      enough = subst (λ (x : Inner). (is_root || nat_le 127 (length x.children)) ≡ true) same s.enough;
+      within = within;
+      under = s.under;
+      is_used = s.is_used;
+      apart = subst (AreApart free) s.is_used can.apart;
+      at = at;
+      among = record { records = at.records; lower = down.lower; higher = down.higher };
+      child = one_row (Subtree can.pages (suc n.0) false) (slice_index inner.children i, child_bounds inner b i) at.here at.here_used at.row_here;
+      here_apart = apart_some free at.here_used used inside can.apart;
+      in_range = place_in inner k i p list.keys;
+    }
+  where
+    part : (u d g l h f : ℕ) → u ≡ d + g → d ≡ l + h + f → h ≤ u
+    part u d g l h f e q = omega arith
+
+-- the children before, at and behind the place
+pub cut_at_child : (inner : Inner) (b : Bounds) (i : ℕ) → i < length inner.children → length inner.children ≡ length inner.keys + 1
+    → bounded inner.children inner.keys b ≡ front (take i inner.children) (take i inner.keys) b
+    ++ ((slice_index inner.children i, child_bounds inner b i) ∷ []
+    ++ tail_places (drop (suc i) inner.children) (drop i inner.keys) (from_keys (take i inner.keys) b))
+cut_at_child inner b i lt n =
+    let ca = take i inner.children in
+    let ka = take i inner.keys in
+    let kb = drop i inner.keys in
+    let cb = drop (suc i) inner.children in
+    ap (λ l. bounded l inner.keys b) (cut_children inner.children i lt)
+    ∙ ap (λ l. bounded (ca ++ slice_index inner.children i ∷ cb) l b) (sym (take-append-drop i inner.keys))
+    ∙ bounded_at ca (slice_index inner.children i) cb ka kb b (as_long inner i lt n)
+
+-- the key lies within the child's bounds
+pub above_from : (ks : List Key) (b : Bounds) (k : Key) → list_all (λ l. is_le (key_cmp l k)) ks ≡ true → is_above b.low k ≡ true
+    → is_above (from_keys ks b).low k ≡ true
+above_from [] b k h g = g
+above_from (l ∷ ks) b k h g =
+    let t = and_parts (is_le (key_cmp l k)) (list_all (λ m. is_le (key_cmp m k)) ks) h in
+    above_from ks (record { low = Some l; high = b.high }) k t.1 t.0
+
+head_low : (ks : List Key) (b : Bounds) → (head_bounds ks b).low ≡ b.low
+head_low [] b = refl
+head_low (k ∷ ks) b = refl
+
+pub child_above : (inner : Inner) (b : Bounds) (i : ℕ) (k : Key) → IsPlace inner.keys k i → is_above b.low k ≡ true
+    → is_above (child_bounds inner b i).low k ≡ true
+child_above inner b i k p h =
+    subst (λ o. is_above o k ≡ true) (sym (head_low (drop i inner.keys) (from_keys (take i inner.keys) b))) (above_from (take i inner.keys) b k p.before h)
+
+pub head_below : (ks : List Key) (b : Bounds) (k : Key) → list_all (λ l. is_lt (key_cmp k l)) ks ≡ true → is_below b.high k ≡ true
+    → is_below (head_bounds ks b).high k ≡ true
+head_below [] b k p h = h
+head_below (l ∷ ks) b k p h = (and_parts (is_lt (key_cmp k l)) (list_all (λ m. is_lt (key_cmp k m)) ks) p).0
+
+pub child_below : (inner : Inner) (b : Bounds) (i : ℕ) (k : Key) → IsPlace inner.keys k i → is_below b.high k ≡ true
+    → is_below (child_bounds inner b i).high k ≡ true
+child_below inner b i k p h =
+    head_below (drop i inner.keys) (from_keys (take i inner.keys) b) k p.behind (subst (λ o. is_below o k ≡ true) (sym (high_from (take i inner.keys) b)) h)
+
+pub edit_spells : (told : Option (List (List ℕ))) (free : ℕ → Bool) (page height : ℕ) (is_root : Bool) (b : Bounds) (rs : List Record)
+    (used : List ℕ) → CanEdit told free page height is_root b rs used → Spells told page height rs
+edit_spells told free page height is_root b rs used can =
+    record { pages = can.pages; is_told = can.is_told; is_root = is_root; bounds = b; used = used; subtree = can.subtree }

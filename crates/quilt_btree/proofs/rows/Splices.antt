@@ -1,0 +1,174 @@
+-- Children of a page are replaced by others, with the page as it was or written anew.
+use Rattle.std.proofs.Common.{◌≡◌, ℕ, suc, ◌+◌, ◌<◌, ◌≤◌, Bool, true, false, ◌||◌, nat_le, List, [], ◌∷◌, ◌++◌, length, Some, slice_index_or, slice_set, refl}
+use Rattle.std.proofs.Common.{◌∙◌, ap, subst, arith, get_or-set_other, get_or-set_same, length-set}
+use Rattle.quilt_record.specs.declared.key.Key.{Key}
+use Rattle.quilt_record.specs.declared.record.Record.{Record}
+use Rattle.quilt_node.specs.Pages.{Inner, inner_of}
+use Rattle.quilt_node.specs.Tree.{Bounds, bounded, are_within}
+use Rattle.quilt_btree.specs.Subtree.{Row, Subtree}
+use Rattle.quilt_btree.specs.Edits.{times, account, Moves, Becomes}
+use Rattle.quilt_btree.proofs.lists.Counts.{times-append, times-three, times_here, in_times}
+use Rattle.quilt_btree.proofs.stores.Moves.{AreApart, moves_among, moves_then, moves_written, used_account, stays_on}
+use Rattle.quilt_btree.proofs.lists.Rows.{is_in, SameOn, row_stays, subtree_stays}
+use Rattle.quilt_btree.proofs.rows.Places.{AtPlace, place_back}
+
+-- The children of two lists of children and keys, with a key between, are those of the first below the key, and then those of the second from it on.
+pub bounded_join : (ca cb : List ℕ) (ka kb : List Key) (key : Key) (b : Bounds) → length ca ≡ suc (length ka)
+    → bounded (ca ++ cb) (ka ++ key ∷ kb) b ≡ bounded ca ka (record { low = b.low; high = Some key })
+    ++ bounded cb kb (record { low = Some key; high = b.high })
+bounded_join [] cb ka kb key b n = absurd (omega arith)
+bounded_join (c ∷ []) cb [] kb key b n = refl
+bounded_join (c ∷ d ∷ ca) cb [] kb key b n = absurd (omega arith)
+bounded_join (c ∷ ca) cb (k ∷ ka) kb key b n =
+    ap (λ l. (c, record { low = b.low; high = Some k }) ∷ l)
+    (bounded_join ca cb ka kb key (record { low = Some k; high = b.high }) (fewer (length ca) (length ka) n))
+  where
+    fewer : (m n : ℕ) → suc m ≡ suc (suc n) → m ≡ suc n
+    fewer m n h = omega arith
+
+-- a row stays as it is where its pages do
+pub rows_stay : (pages news : List (List ℕ)) (h : ℕ) → length news ≡ length pages
+    → (cs : List (ℕ × Bounds)) (rs : List Record) (used : List ℕ) → SameOn pages news used
+    → Row (Subtree pages (suc h) false) cs rs used → Row (Subtree news (suc h) false) cs rs used
+rows_stay pages news h size cs rs used same row =
+    row_stays (Subtree pages (suc h) false) (Subtree news (suc h) false) pages news
+    (λ c ss u e t. subtree_stays pages news size (suc h) false c ss u e t) cs rs used same row
+
+-- what the children of a page are behind an edit that leaves the page itself
+pub record RowMoved (pages news : List (List ℕ)) (free now : ℕ → Bool) (h page : ℕ) (cs : List (ℕ × Bounds)) (rs : List Record) (under : List ℕ) : Type 0 where
+  pub uses : List ℕ
+  pub row : Row (Subtree news (suc h) false) cs rs uses
+  pub moves : Moves pages news free now (under ++ page ∷ []) (uses ++ page ∷ [])
+  pub page_stays : slice_index_or news page [] ≡ slice_index_or pages page []
+
+-- Children in the middle of a row become others by an edit of their pages.
+pub middle_moved : (pages news : List (List ℕ)) (free now : ℕ → Bool) (h page : ℕ) (before middle behind others : List (ℕ × Bounds))
+    (rs : List Record) (under : List ℕ) (all : List Record) (uses : List ℕ)
+    → AreApart free (under ++ page ∷ []) → (at : AtPlace (Subtree pages (suc h) false) before middle behind rs under)
+    → Row (Subtree news (suc h) false) others all uses → Moves pages news free now at.here_used uses
+    → RowMoved pages news free now h page (before ++ (others ++ behind)) (at.first ++ (all ++ at.last)) under
+middle_moved pages news free now h page before middle behind others rs under all uses apart at row moves =
+    let total : (p : ℕ) → times p (under ++ page ∷ []) ≡ times p at.last_used + times p at.here_used + times p at.first_used + times p (page ∷ []) =
+    λ p. times-append p under (page ∷ [])
+    ∙ ap (λ n. n + times p (page ∷ [])) (ap (times p) at.is_used ∙ times-three p at.last_used at.here_used at.first_used) in
+    let total_now : (p : ℕ)
+    → times p (((at.last_used ++ uses) ++ at.first_used) ++ page ∷ []) ≡ times p at.last_used + times p uses + times p at.first_used + times p (page ∷ []) =
+    λ p. times-append p ((at.last_used ++ uses) ++ at.first_used) (page ∷ [])
+    ∙ ap (λ n. n + times p (page ∷ [])) (times-three p at.last_used uses at.first_used) in
+    let stay : (others : List ℕ) → ((p : ℕ) → times p at.here_used + times p others ≤ times p (under ++ page ∷ [])) → SameOn pages news others =
+    λ others parts. stays_on pages news free now at.here_used uses others (under ++ page ∷ []) moves apart parts in
+    let same_first = stay at.first_used
+    (λ p. in_first (times p (under ++ page ∷ [])) (times p at.last_used) (times p at.here_used) (times p at.first_used) (times p (page ∷ [])) (total p)) in
+    let same_last = stay at.last_used
+    (λ p. in_last (times p (under ++ page ∷ [])) (times p at.last_used) (times p at.here_used) (times p at.first_used) (times p (page ∷ [])) (total p)) in
+    let same_page = stay (page ∷ [])
+    (λ p. in_page (times p (under ++ page ∷ [])) (times p at.last_used) (times p at.here_used) (times p at.first_used) (times p (page ∷ [])) (total p)) in
+    record {
+      uses = (at.last_used ++ uses) ++ at.first_used;
+      row = place_back (Subtree news (suc h) false) before others behind at.first all at.last at.first_used uses at.last_used
+          (rows_stay pages news h moves.size before at.first at.first_used same_first at.row_before) row
+          (rows_stay pages news h moves.size behind at.last at.last_used same_last at.row_behind);
+      moves = moves_among pages news free now at.here_used uses (under ++ page ∷ []) (((at.last_used ++ uses) ++ at.first_used) ++ page ∷ [])
+          (λ p. times p at.last_used + times p at.first_used + times p (page ∷ []))
+          (λ p. order (times p (under ++ page ∷ [])) (times p at.last_used) (times p at.here_used) (times p at.first_used) (times p (page ∷ [])) (total p))
+          (λ p. order (times p (((at.last_used ++ uses) ++ at.first_used) ++ page ∷ [])) (times p at.last_used) (times p uses)
+          (times p at.first_used) (times p (page ∷ [])) (total_now p)) moves;
+      page_stays = same_page page (self page);
+    }
+  where
+    in_first : (u l h f p : ℕ) → u ≡ l + h + f + p → h + f ≤ u
+    in_first u l h f p e = omega arith
+
+    in_last : (u l h f p : ℕ) → u ≡ l + h + f + p → h + l ≤ u
+    in_last u l h f p e = omega arith
+
+    in_page : (u l h f p : ℕ) → u ≡ l + h + f + p → h + p ≤ u
+    in_page u l h f p e = omega arith
+
+    order : (u l h f p : ℕ) → u ≡ l + h + f + p → u ≡ l + f + p + h
+    order u l h f p e = omega arith
+
+    self : (p : ℕ) → is_in p (p ∷ []) ≡ true
+    self p = grind arith
+
+-- The page is as it was, and so a subtree whose children have become others.
+pub parent_stays : (pages news : List (List ℕ)) (free now : ℕ → Bool) (h page : ℕ) (is_root : Bool) (b : Bounds) (inner : Inner)
+    (under : List ℕ) (all : List Record)
+    → inner_of (length pages) (slice_index_or pages page []) ≡ Some inner → inner.height ≡ suc (suc h)
+    → (is_root || nat_le 127 (length inner.children)) ≡ true → are_within b inner.keys ≡ true
+    → RowMoved pages news free now h page (bounded inner.children inner.keys b) all under
+    → Becomes pages news free now page (suc (suc h)) is_root b (under ++ page ∷ []) all
+parent_stays pages news free now h page is_root b inner under all is height enough within moved = record {
+  uses = moved.uses ++ page ∷ [];
+  subtree = record {
+    inner = inner;
+    page = ap (λ n. inner_of n (slice_index_or news page [])) moved.moves.size ∙ ap (inner_of (length pages)) moved.page_stays ∙ is;
+    is_height = height;
+    enough = enough;
+    within = within;
+    under = moved.uses;
+    children = moved.row;
+    is_used = refl;
+  };
+  moves = moved.moves;
+}
+
+pub page_in : (p : ℕ) (under : List ℕ) → 1 ≤ times p (under ++ p ∷ [])
+page_in p under = some (times p (under ++ p ∷ [])) (times p under) (times p (p ∷ [])) (times-append p under (p ∷ [])) (times_here p [])
+  where
+    some : (t u m : ℕ) → t ≡ u + m → m ≡ 1 + 0 → 1 ≤ t
+    some t u m e f = omega arith
+
+-- writing a page leaves those that are used apart from it
+pub written_same : (pages : List (List ℕ)) (page : ℕ) (bytes : List ℕ) (used : List ℕ) → times page used ≡ 0 → SameOn pages (slice_set pages page bytes) used
+written_same pages page bytes used none p inside =
+    get_or-set_other pages page p bytes [] (λ e. nothing (times page used) (subst (λ q. 1 ≤ times q used) e (in_times p used inside)) none)
+  where
+    nothing : (n : ℕ) → 1 ≤ n → n ≡ 0 → ⊥
+    nothing n h g = omega arith
+
+pub apart_above : (free : ℕ → Bool) (under : List ℕ) (page : ℕ) → AreApart free (under ++ page ∷ []) → times page under ≡ 0
+apart_above free under page apart =
+    none (account free (under ++ page ∷ []) page) (times page (under ++ page ∷ [])) (times page under) (times page (page ∷ []))
+    (at_most free (under ++ page ∷ [])) (times-append page under (page ∷ [])) (times_here page []) (apart page)
+  where
+    at_most : (free : ℕ → Bool) (used : List ℕ) → times page used ≤ account free used page
+    at_most free used = omega arith
+
+    none : (a t u m : ℕ) → t ≤ a → t ≡ u + m → m ≡ 1 + 0 → a ≤ 1 → u ≡ 0
+    none a t u m e f g h = omega arith
+
+-- The page is written anew, with other children and keys.
+pub parent_written : (pages : List (List ℕ)) (free : ℕ → Bool) (h page : ℕ) (is_root : Bool) (b : Bounds) (inner : Inner)
+    (bytes under : List ℕ) (all : List Record)
+    → page < length pages → inner_of (length pages) bytes ≡ Some inner → inner.height ≡ suc (suc h)
+    → (is_root || nat_le 127 (length inner.children)) ≡ true → are_within b inner.keys ≡ true
+    → AreApart free (under ++ page ∷ []) → Row (Subtree pages (suc h) false) (bounded inner.children inner.keys b) all under
+    → Becomes pages (slice_set pages page bytes) free free page (suc (suc h)) is_root b (under ++ page ∷ []) all
+parent_written pages free h page is_root b inner bytes under all inside is height enough within apart row = record {
+  uses = under ++ page ∷ [];
+  subtree = record {
+    inner = inner;
+    page = ap (λ n. inner_of n (slice_index_or (slice_set pages page bytes) page [])) (length-set pages page bytes)
+        ∙ ap (inner_of (length pages)) (get_or-set_same pages page bytes [] inside) ∙ is;
+    is_height = height;
+    enough = enough;
+    within = within;
+    under = under;
+    children = rows_stay pages (slice_set pages page bytes) h (length-set pages page bytes) (bounded inner.children inner.keys b) all under
+        (written_same pages page bytes under (apart_above free under page apart)) row;
+    is_used = refl;
+  };
+  moves = moves_written pages free (under ++ page ∷ []) page bytes (used_account free (under ++ page ∷ []) page (page_in page under));
+}
+
+-- an edit, and then one by which the subtree becomes what it is
+pub becomes_then : (pages mid news : List (List ℕ)) (free between now : ℕ → Bool) (page height : ℕ) (is_root : Bool) (b : Bounds)
+    (used more : List ℕ) (all : List Record)
+    → Moves pages mid free between used more → Becomes mid news between now page height is_root b more all
+    → Becomes pages news free now page height is_root b used all
+becomes_then pages mid news free between now page height is_root b used more all m o = record {
+  uses = o.uses;
+  subtree = o.subtree;
+  moves = moves_then pages mid news free between now used more o.uses m o.moves;
+}

@@ -1,0 +1,6 @@
+-- What calls do to the pages of a store.
+pub mod Held
+pub mod Moves
+pub mod Pairs
+pub mod Room
+pub mod Writes

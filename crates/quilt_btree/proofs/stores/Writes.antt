@@ -1,0 +1,71 @@
+-- What writing one page, or two of which one was free, does to the others.
+use Rattle.std.proofs.Common.{◌≡◌, ◌≢◌, ℕ, ◌+◌, ◌<◌, ◌≤◌, Bool, true, false, List, [], ◌∷◌, length, Option, Some, None, IfSome, slice_index_or, slice_set, refl}
+use Rattle.std.proofs.Common.{sym, ◌∙◌, subst, arith, length-set, get_or-set_other, get_or-set_same}
+use Rattle.quilt_store.specs.Store.{Tells, FreesOnly}
+use Rattle.quilt_btree.specs.Edits.{times, Moves}
+use Rattle.quilt_btree.proofs.lists.Rows.{SameOn}
+use Rattle.quilt_btree.proofs.lists.Counts.{times_here, times_other, in_times}
+use Rattle.quilt_btree.proofs.stores.Moves.{AreApart, moves_then, moves_taken, moves_written, used_account, free_not_used}
+
+pub tells_at : (step : List (List ℕ) → List (List ℕ) → Type 0) (a b : Option (List (List ℕ))) (x : List (List ℕ)) → Tells step a b → a ≡ Some x
+    → (y : List (List ℕ)) × (b ≡ Some y) × step x y
+tells_at step a None x t e = absurd (subst (λ o. Tells step o None) e t)
+tells_at step a (Some y) x t e = (y, refl, subst (λ o. Tells step o (Some y)) e t)
+
+pub if_some_at : {X : Type 0} (P : X → Type 0) (o : Option X) (x : X) → IfSome o P → o ≡ Some x → P x
+if_some_at P o x h e = subst (λ o. IfSome o P) e h
+
+-- a store that tells its pages tells as many as it has
+abbrev pub TellsAll : Option (List (List ℕ)) → ℕ → Type 0
+TellsAll told size = IfSome told (λ pages. length pages ≡ size)
+
+pub all_told : (told : Option (List (List ℕ))) (size page : ℕ) (pages : List (List ℕ)) → TellsAll told size → told ≡ Some pages
+    → page < size → page < length pages
+all_told told size page pages many e lt = subst (λ n. page < n) (sym (if_some_at (λ pages. length pages ≡ size) told pages many e)) lt
+
+-- a page and one that was free are written
+pub record IsBoth (pages news : List (List ℕ)) (free now : ℕ → Bool) (used : List ℕ) (page new : ℕ) (left right : List ℕ) : Type 0 where
+  pub is_left : slice_index_or news page [] ≡ left
+  pub is_right : slice_index_or news new [] ≡ right
+  pub others : (q : ℕ) → q ≢ page → q ≢ new → slice_index_or news q [] ≡ slice_index_or pages q []
+  pub moves : Moves pages news free now used (new ∷ used)
+  pub unused : times new used ≡ 0
+
+pub both_written : (pages : List (List ℕ)) (free now : ℕ → Bool) (used : List ℕ) (page new : ℕ) (left right : List ℕ) → AreApart free used
+    → 1 ≤ times page used → page < length pages → new < length pages
+    → free new ≡ true → FreesOnly new false free now → IsBoth pages (slice_set (slice_set pages page left) new right) free now used page new left right
+both_written pages free now used page new left right apart some inside inside_new t f =
+    let one = slice_set pages page left in
+    let unused = free_not_used free used new apart t in
+    let ne : page ≢ new = λ e. nothing (times new used) (subst (λ p. 1 ≤ times p used) e some) unused in
+    let lt : new < length one = subst (λ n. new < n) (sym (length-set pages page left)) inside_new in
+    let taken = moves_taken pages free now used new t f in
+    let here : 1 ≤ times page (new ∷ used) = subst (λ n. 1 ≤ n) (sym (times_other page new used ne)) some in
+    let there : 1 ≤ times new (new ∷ used) = first (times new (new ∷ used)) (times new used) (times_here new used) in
+    record {
+      is_left = get_or-set_other one new page right [] ne ∙ get_or-set_same pages page left [] inside;
+      is_right = get_or-set_same one new right [] lt;
+      others = λ q p n. get_or-set_other one new q right [] n ∙ get_or-set_other pages page q left [] p;
+      moves = moves_then pages one (slice_set one new right) free now now used (new ∷ used) (new ∷ used)
+          (moves_then pages pages one free now now used (new ∷ used) (new ∷ used) taken
+          (moves_written pages now (new ∷ used) page left (used_account now (new ∷ used) page here)))
+          (moves_written one now (new ∷ used) new right (used_account now (new ∷ used) new there));
+      unused = unused;
+    }
+  where
+    nothing : (n : ℕ) → 1 ≤ n → n ≡ 0 → ⊥
+    nothing n h g = omega arith
+
+    first : (m n : ℕ) → m ≡ 1 + n → 1 ≤ m
+    first m n e = omega arith
+
+-- pages that are neither of the two stay
+pub both_same : (pages news : List (List ℕ)) (free now : ℕ → Bool) (used : List ℕ) (page new : ℕ) (left right some : List ℕ)
+    → IsBoth pages news free now used page new left right
+    → times page some ≡ 0 → times new some ≡ 0 → SameOn pages news some
+both_same pages news free now used page new left right some both none none_new p inside =
+    both.others p (λ e. nothing (times page some) (subst (λ q. 1 ≤ times q some) e (in_times p some inside)) none)
+    (λ e. nothing (times new some) (subst (λ q. 1 ≤ times q some) e (in_times p some inside)) none_new)
+  where
+    nothing : (n : ℕ) → 1 ≤ n → n ≡ 0 → ⊥
+    nothing n h g = omega arith

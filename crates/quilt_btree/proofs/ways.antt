@@ -1,0 +1,8 @@
+-- The way down to a leaf, and what its pages say.
+pub mod Damage
+pub mod Floors
+pub mod Forks
+pub mod Leaves
+pub mod Steps
+pub mod Turns
+pub mod Ways

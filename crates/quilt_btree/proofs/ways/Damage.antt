@@ -1,0 +1,248 @@
+-- The page that a way down names as damaged is bad itself.
+use Rattle.std.proofs.Common.{◌≡◌, ◌≢◌, ◌⊎◌, inl, inr, ℕ, zero, suc, ◌+◌, ◌-◌, ◌<◌, ◌≤◌, List}
+use Rattle.std.proofs.Common.{[], length, Option, Some, None, Result, Ok, Err, IfOk, IfErr, IfSome, slice_index, false, ◌==◌}
+use Rattle.std.proofs.Common.{slice_index_or, refl, sym, ◌∙◌, ap, subst, arith}
+use Rattle.std.specs.Prelude.{if◌then◌else◌, IsErrOf, min}
+use Rattle.std.specs.List.{last_or}
+use Rattle.quilt_record.specs.declared.record.Record.{Record}
+use Rattle.quilt_node.specs.Pages.{Inner, leaf_of, inner_of}
+use Rattle.quilt_types.specs.declared.stop.Stop.{Stop}
+use Rattle.quilt_types.specs.declared.stop.Stop.TheVariants.{Device, Memory, Damaged}
+use Rattle.quilt_world.specs.Causes.{Rose}
+use Rattle.quilt_world.specs.Causes as causes
+use Rattle.quilt_btree.specs.declared.tree.Tree.{Tree}
+use Rattle.quilt_btree.specs.declared.reading.Found.{Found}
+use Rattle.quilt_btree.specs.Damage.{HasChild, IsBadUnder, NamesBad}
+use Rattle.quilt_btree.specs.Searches.{AreOf}
+use Rattle.quilt_store.specs.Stops.{HasStopCause, IsSound}
+use Rattle.quilt_btree.specs.Stops.{unnamed, NamesPage}
+use Rattle.quilt_btree.proofs.lists.Counts.{other_test}
+use Rattle.quilt_btree.proofs.subtrees.Descending.{height_above}
+use Rattle.quilt_btree.proofs.ways.Forks.{IsRead, leaf_has_last}
+
+-- what names no page names no good one
+pub sound_names : (told : Option (List (List ℕ))) (height page : ℕ) (e : Stop) → IsSound e → NamesBad told height page e
+sound_names told height page Device s = tt
+sound_names told height page Memory s = tt
+sound_names told height page (Damaged q) s = absurd (s q refl)
+
+not_some : {A : Type 0} (o : Option A) → ((x : A) → o ≡ Some x → ⊥) → o ≡ None
+not_some None f = refl
+not_some (Some x) f = absurd (f x refl)
+
+-- a page above the leaves that is no inner page
+pub bad_inner : (old new : Option (List (List ℕ))) (page height size : ℕ) (bytes : List ℕ) → IsRead old new page height size bytes
+    → ((inner : Inner) → inner_of size bytes ≡ Some inner → ⊥)
+    → NamesBad old height page (Damaged page)
+bad_inner old new page height size bytes r f = λ pages is.
+    let n = height_above height r.some r.above in
+    let same : bytes ≡ slice_index_or pages page [] = r.are pages is in
+    let long : length pages ≡ size = subst (λ o. IfSome o (λ pages. length pages ≡ size)) is r.many in
+    let none : inner_of size bytes ≡ None = not_some (inner_of size bytes) f in
+    let there : inner_of (length pages) (slice_index_or pages page []) ≡ None =
+    ap (λ m. inner_of m (slice_index_or pages page [])) long ∙ ap (inner_of size) (sym same) ∙ none in
+    subst (λ h. IsBadUnder pages h page page) (sym n.1) (inl (refl, there))
+
+-- a leaf that is none
+pub bad_leaf : (told : Option (List (List ℕ))) (page height : ℕ) (bytes : List ℕ) → height ≡ 1 → AreOf told page bytes → leaf_of bytes ≡ None
+    → NamesBad told height page (Damaged page)
+bad_leaf told page height bytes one are none = λ pages is.
+    subst (λ h. IsBadUnder pages h page page) (sym one) (refl, ap leaf_of (sym (are pages is)) ∙ none)
+
+pub bad_last : (told : Option (List (List ℕ))) (page height : ℕ) (bytes : List ℕ) → height ≡ 1 → AreOf told page bytes
+    → ((rs : List Record) → leaf_of bytes ≡ Some rs → None ≡ last_or None rs) → NamesBad told height page (Damaged page)
+bad_last told page height bytes one are f = bad_leaf told page height bytes one are (not_some (leaf_of bytes) (leaf_has_last bytes f))
+
+pub bad_end : (old new : Option (List (List ℕ))) (page height size : ℕ) (bytes : List ℕ) → IsRead old new page height size bytes
+    → ((inner : Inner) → inner_of size bytes ≡ Some inner → None ≡ Some (slice_index inner.children (length inner.children - 1)))
+    → NamesBad old height page (Damaged page)
+bad_end old new page height size bytes r f =
+    bad_inner old new page height size bytes r (λ inner is. differ (slice_index inner.children (length inner.children - 1)) (f inner is))
+  where
+    differ : (c : ℕ) → None ≡ Some c → ⊥
+    differ c h = cc
+
+one_less : (height h : ℕ) → height ≡ suc (suc h) → height - 1 ≡ suc h
+one_less height h e = omega arith
+
+-- what is bad under a child is bad under its page
+pub bad_below : (old new : Option (List (List ℕ))) (page height size : ℕ) (bytes : List ℕ) (child : ℕ) (e : Stop)
+    → IsRead old new page height size bytes → HasChild size bytes child
+    → NamesBad new (height - 1) child e → NamesBad old height page e
+bad_below old new page height size bytes child Device r c f = tt
+bad_below old new page height size bytes child Memory r c f = tt
+bad_below old new page height size bytes child (Damaged q) r c f = λ pages is.
+    let n = height_above height r.some r.above in
+    let same : bytes ≡ slice_index_or pages page [] = r.are pages is in
+    let long : length pages ≡ size = subst (λ o. IfSome o (λ pages. length pages ≡ size)) is r.many in
+    let less : height - 1 ≡ suc n.0 = one_less height n.0 n.1 in
+    let under : IsBadUnder pages (suc n.0) child q = subst (λ h. IsBadUnder pages h child q) less (f pages (r.told ∙ is)) in
+    let here : HasChild (length pages) (slice_index_or pages page []) child =
+    subst (λ m. HasChild m (slice_index_or pages page []) child) (sym long) (subst (λ b. HasChild size b child) same c) in
+    subst (λ h. IsBadUnder pages h page q) (sym n.1) (inr (child, here, under))
+
+pub names_below : {T : Type 0} (r : Result T Stop) (old new : Option (List (List ℕ))) (page height size : ℕ) (bytes : List ℕ) (child : ℕ)
+    → IsRead old new page height size bytes → HasChild size bytes child
+    → IfErr r (NamesBad new (height - 1) child) → IfErr r (NamesBad old height page)
+names_below (Ok v) old new page height size bytes child r c f = f
+names_below (Err e) old new page height size bytes child r c f = bad_below old new page height size bytes child e r c f
+
+pub child_at : (size : ℕ) (bytes : List ℕ) (o : Option ℕ) (child : ℕ) → o ≡ Some child → IfSome o (HasChild size bytes) → HasChild size bytes child
+child_at size bytes o child e h = subst (λ p. IfSome p (HasChild size bytes)) e h
+
+-- the page of the bytes that the search came to
+pub spoilt_below : (r : Result Found Stop) (old new : Option (List (List ℕ))) (page height size : ℕ) (bytes last : List ℕ) (child : ℕ)
+    → IsRead old new page height size bytes → HasChild size bytes child
+    → IfOk r (λ found. leaf_of last ≡ None → NamesBad new (height - 1) child (Damaged found.page))
+    → IfOk r (λ found. leaf_of last ≡ None → NamesBad old height page (Damaged found.page))
+spoilt_below (Err e) old new page height size bytes last child r c f = f
+spoilt_below (Ok v) old new page height size bytes last child r c f = λ none. bad_below old new page height size bytes child (Damaged v.page) r c (f none)
+
+-- page 0, or one that is bad for this reason
+pub fault_named : (told : Option (List (List ℕ))) (height page at q : ℕ) (P : Type 0) → ((q ≡ 0) ⊎ ((q ≡ at) × P))
+    → (P → NamesBad told height page (Damaged at))
+    → Damaged q ≢ Damaged 0 → NamesBad told height page (Damaged q)
+fault_named told height page at q P (inl e) f ne = absurd (ne (ap Damaged e))
+fault_named told height page at q P (inr e) f ne = subst (λ q. NamesBad told height page (Damaged q)) (sym e.0) (f e.1)
+
+not_none : {A : Type 0} (o : Option A) → o ≡ None → (x : A) → o ≡ Some x → ⊥
+not_none o none x is = differ x (sym none ∙ is)
+  where
+    differ : {A : Type 0} (x : A) → None ≡ Some x → ⊥
+    differ x h = cc
+
+-- page 0, or a page above the leaves that is no inner page
+pub inner_fault : (old new : Option (List (List ℕ))) (page height size q : ℕ) (bytes : List ℕ) → IsRead old new page height size bytes
+    → ((q ≡ 0) ⊎ ((q ≡ page) × (inner_of size bytes ≡ None)))
+    → Damaged q ≢ Damaged 0 → NamesBad old height page (Damaged q)
+inner_fault old new page height size q bytes r f =
+    fault_named old height page page q (inner_of size bytes ≡ None) f
+    (λ none. bad_inner old new page height size bytes r (not_none (inner_of size bytes) none))
+
+-- what names no page over 0 names no good one
+pub zero_names : (told : Option (List (List ℕ))) (height page : ℕ) (e : Stop) → NamesPage 1 e → e ≢ Damaged 0 → NamesBad told height page e
+zero_names told height page Device h ne = tt
+zero_names told height page Memory h ne = tt
+zero_names told height page (Damaged q) h ne = absurd (ne (ap Damaged (zero q h)))
+  where
+    zero : (q : ℕ) → q < 1 → q ≡ 0
+    zero q h = omega arith
+
+pub zero_named : {T : Type 0} (r : Result T Stop) (told : Option (List (List ℕ))) (height page : ℕ) → IfErr r (NamesPage 1)
+    → IfErr r (λ e. e ≢ Damaged 0 → NamesBad told height page e)
+zero_named (Ok v) told height page f = f
+zero_named (Err e) told height page f = zero_names told height page e f
+
+-- one of so many pages is one of more
+pub names_more : (n m : ℕ) (e : Stop) → n ≤ m → NamesPage n e → NamesPage m e
+names_more n m Device le h = tt
+names_more n m Memory le h = tt
+names_more n m (Damaged q) le h = omega arith
+
+pub named_more : {T : Type 0} (r : Result T Stop) (n m : ℕ) → n ≤ m → IfErr r (NamesPage n) → IfErr r (NamesPage m)
+named_more (Ok v) n m le f = f
+named_more (Err e) n m le f = names_more n m e le f
+
+-- what is named at a leaf
+pub named_leaf : {T : Type 0} (r : Result T Stop) (told : Option (List (List ℕ))) (height page : ℕ) → height ≡ 1
+    → IfErr r (λ e. e ≢ Damaged 0 → NamesBad told 1 page e) → IfErr r (λ e. e ≢ Damaged 0 → NamesBad told height page e)
+named_leaf r told height page one f = subst (λ h. IfErr r (λ e. e ≢ Damaged 0 → NamesBad told h page e)) (sym one) f
+
+-- where the store tells the same, and the way has come to a child
+pub named_below : {T : Type 0} (r : Result T Stop) (old new : Option (List (List ℕ))) (page height size : ℕ) (bytes : List ℕ) (child : ℕ)
+    → IsRead old new page height size bytes → HasChild size bytes child
+    → IfErr r (λ e. e ≢ Damaged 0 → NamesBad new (height - 1) child e) → IfErr r (λ e. e ≢ Damaged 0 → NamesBad old height page e)
+named_below (Ok v) old new page height size bytes child r c f = f
+named_below (Err e) old new page height size bytes child r c f = λ ne. bad_below old new page height size bytes child e r c (f ne)
+
+-- where the store tells the same
+pub names_along : (told now : Option (List (List ℕ))) (height page : ℕ) (e : Stop) → now ≡ told → (e ≢ Damaged 0 → NamesBad now height page e)
+    → e ≢ Damaged 0 → NamesBad told height page e
+names_along told now height page e same f = subst (λ t. e ≢ Damaged 0 → NamesBad t height page e) same f
+
+-- what a run says of why it stops, where one of its steps has stopped for that reason
+pub record StopsBehind (e stop : Stop) (done : ℕ) : Type 0 where
+  pub first : done ≡ 0 → stop ≡ e
+  pub names : (size : ℕ) → 0 < size → NamesPage size e → NamesPage size stop
+  pub device : stop ≡ Device → e ≡ Device
+  pub damaged : (page : ℕ) → stop ≡ Damaged page → (q : ℕ) × (e ≡ Damaged q) × ((page ≡ q) ⊎ (page ≡ 0))
+  pub later : 0 < done → NamesPage 1 stop
+
+unnamed_behind : (e : Stop) (done : ℕ) → 0 < done → StopsBehind e (unnamed e) done
+unnamed_behind Device done some =
+    record { first = λ z. refl; names = λ size lt h. tt; device = λ d. refl; damaged = λ page is. (page, is, inl refl); later = λ lt. tt }
+unnamed_behind Memory done some =
+    record { first = λ z. refl; names = λ size lt h. tt; device = λ d. d; damaged = λ page is. (page, is, inl refl); later = λ lt. tt }
+unnamed_behind (Damaged q) done some = record {
+  first = λ z. absurd (omega arith);
+  names = λ size lt h. lt;
+  device = λ d. absurd (other d);
+  damaged = λ page is. (q, refl, inr (same page is));
+  later = λ lt. omega arith;
+}
+  where
+    other : Damaged 0 ≡ Device → ⊥
+    other h = cc
+
+    same : (page : ℕ) → Damaged 0 ≡ Damaged page → page ≡ 0
+    same page h = cc
+
+pub stops_behind : (e stop : Stop) (done : ℕ) → stop ≡ (if done == 0 then e else unnamed e) → StopsBehind e stop done
+stops_behind e stop zero is = record {
+  first = λ z. is;
+  names = λ size lt h. subst (λ s. NamesPage size s) (sym is) h;
+  device = λ d. sym is ∙ d;
+  damaged = λ page p. (page, sym is ∙ p, inl refl);
+  later = λ lt. absurd (omega arith);
+}
+stops_behind e stop (suc n) is =
+    let some : (suc n == 0) ≡ false = other_test (suc n) 0 (λ h. omega arith) in
+    let same : stop ≡ unnamed e = is ∙ ap (λ b. if b then e else unnamed e) some in
+    subst (λ s. StopsBehind e s (suc n)) (sym same) (unnamed_behind e (suc n) (omega arith))
+
+pub run_zero : (P : Type 0) (e stop : Stop) (done : ℕ) → StopsBehind e stop done → ((page : ℕ) → e ≡ Damaged page → (page ≡ 0) × P)
+    → (page : ℕ) → stop ≡ Damaged page → (page ≡ 0) × P
+run_zero P e stop done s f page is =
+    let d = s.damaged page is in
+    let z = f d.0 d.1 in
+    (at d.0 page z.0 d.2, z.1)
+  where
+    at : (q page : ℕ) → q ≡ 0 → ((page ≡ q) ⊎ (page ≡ 0)) → page ≡ 0
+    at q page none (inl same) = same ∙ none
+    at q page none (inr is) = is
+
+-- the first step of a run judges the store as it was, and what a later one says names no page over 0
+pub run_names : (e stop : Stop) (done : ℕ) (told mid : Option (List (List ℕ))) (t u : Tree) → StopsBehind e stop done
+    → (done ≡ 0 → (mid ≡ told) × (u ≡ t))
+    → (e ≢ Damaged 0 → NamesBad mid u.height u.root e)
+    → stop ≢ Damaged 0 → NamesBad told t.height t.root stop
+run_names e stop zero told mid t u s start f ne =
+    let is = s.first refl in
+    subst (λ x. NamesBad told t.height t.root x) (sym is)
+    (subst (λ (x : Tree). NamesBad told x.height x.root e) (start refl).1
+    (subst (λ o. NamesBad o u.height u.root e) (start refl).0 (f (λ z. ne (is ∙ z)))))
+run_names e stop (suc n) told mid t u s start f ne = zero_names told t.height t.root stop (s.later (omega arith)) ne
+
+least_rises : (top before mid now : ℕ) → before ≤ mid → min (mid + 1) top ≤ now → min (before + 1) top ≤ now
+least_rises top before mid now le h = omega arith
+
+rose : (before mid now : ℕ) → before ≤ mid → Rose mid now → Rose before now
+rose before mid now le h = least_rises causes.last before mid now le h
+
+pub run_cause : {T U : Type 0} (e stop : Stop) (done before mid now : ℕ) → StopsBehind e stop done → before ≤ mid → HasStopCause {T = U} mid now (Err e)
+    → HasStopCause {T = T} before now (Err stop)
+run_cause e stop done before mid now s le c = record {
+  later = let m = c.later in omega arith;
+  device = λ d. rose before mid now le (c.device (onto e (s.device (from stop d))));
+}
+  where
+    from : {T : Type 0} (x : Stop) → IsErrOf {T = T} {E = Stop} (Err x) Device → x ≡ Device
+    from x h = cc
+
+    onto : {T : Type 0} (x : Stop) → x ≡ Device → IsErrOf {T = T} {E = Stop} (Err x) Device
+    onto x h = ap Err h
+
+-- where the store tells the same
+pub named_along : {T : Type 0} (r : Result T Stop) (told now : Option (List (List ℕ))) (height page : ℕ) → now ≡ told
+    → IfErr r (λ e. e ≢ Damaged 0 → NamesBad now height page e) → IfErr r (λ e. e ≢ Damaged 0 → NamesBad told height page e)
+named_along r told now height page same f = subst (λ t. IfErr r (λ e. e ≢ Damaged 0 → NamesBad t height page e)) same f

@@ -1,0 +1,169 @@
+-- What a store tells of the pages that a floor reads, step by step as it goes down.
+use Rattle.std.proofs.Common.{◌≡◌, ◌≢◌, ℕ, ◌-◌, ◌≤◌, Bool, true, false, ◌||◌, nat_lt, List, [], ◌∷◌, ◌++◌, length, Option, Some, Result, Ok, Err, OnOk}
+use Rattle.std.proofs.Common.{slice_index, refl, ◌∙◌, ap, arith}
+use Rattle.std.proofs.lemmas.List.{append-nil}
+use Rattle.std.proofs.lemmas.Bool.Decides.{nat_tests}
+use Rattle.quilt_record.specs.declared.key.Key.{Key}
+use Rattle.quilt_record.specs.declared.record.Record.{Record}
+use Rattle.quilt_node.specs.Pages.{Inner}
+use Rattle.quilt_store.specs.Store.{Tells, Touches}
+use Rattle.quilt_types.specs.declared.stop.Stop.{Stop}
+use Rattle.quilt_btree.specs.Trees.{ReadsInner}
+use Rattle.quilt_btree.specs.Floors.{last_pages, finds_floor, floor_pages, before_child, place_of, TouchesInTurn, HoldsFirst, ReadsNone}
+use Rattle.quilt_btree.proofs.subtrees.Descending.{AtFloor}
+use Rattle.quilt_btree.proofs.stores.Held.{OneFree, one_turn, more_turns, turns_first, one_free, part_free, more_free}
+use Rattle.quilt_btree.proofs.ways.Floors.{last_starts, floor_starts, last_splits, floor_splits, finds_splits, child_before, length_floor}
+
+-- a page that could not be read or is damaged
+pub last_begun : (told : Option (List (List ℕ))) (page height : ℕ) (held : Option (List ℕ)) (a b : Option ℕ) → 1 ≤ height → OneFree page held a b
+    → ReadsNone (λ pages. last_pages pages height page) told held a b
+last_begun told page height held a b some f = λ pages is.
+    let s = last_starts pages height page some in
+    one_free (last_pages pages height page) s.0 page held a b s.1 f
+
+pub floor_begun : (told : Option (List (List ℕ))) (k : Key) (page height : ℕ) (held : Option (List ℕ)) (a b : Option ℕ) → 1 ≤ height
+    → OneFree page held a b → ReadsNone (λ pages. floor_pages pages k height page) told held a b
+floor_begun told k page height held a b some f = λ pages is.
+    let s = floor_starts pages k height page some in
+    one_free (floor_pages pages k height page) s.0 page held a b s.1 f
+
+-- the last child
+pub record AtLast (old new : Option (List (List ℕ))) (page height child n : ℕ) (inner : Inner) : Type 0 where
+  pub told : new ≡ old
+  pub some : 1 ≤ height
+  pub above : height ≢ 1
+  pub reads : ReadsInner old page inner
+  pub many : n ≡ length inner.children
+  pub is_child : child ≡ slice_index inner.children (n - 1)
+
+last_parts : (old new : Option (List (List ℕ))) (page height child n : ℕ) (inner : Inner) → AtLast old new page height child n inner
+    → (pages : List (List ℕ)) → old ≡ Some pages
+    → last_pages pages height page ≡ page ∷ last_pages pages (height - 1) child
+last_parts old new page height child n inner a pages is = last_splits pages height page child n inner a.some a.above (a.reads pages is) a.many a.is_child
+
+pub last_touched : (r : Result Record Stop) (old new : Option (List (List ℕ))) (page height child n : ℕ) (inner : Inner) (h0 h1 h2 : Option (List ℕ))
+    → AtLast old new page height child n inner
+    → Tells (Touches page) h0 h1 → OnOk r (TouchesInTurn (λ pages. last_pages pages (height - 1) child) new h1 h2)
+    → OnOk r (TouchesInTurn (λ pages. last_pages pages height page) old h0 h2)
+last_touched (Err e) old new page height child n inner h0 h1 h2 a t f = f
+last_touched (Ok x) old new page height child n inner h0 h1 h2 a t f = λ pages is.
+    more_turns (last_pages pages height page) (page ∷ []) (last_pages pages (height - 1) child) h0 h1 h2
+    (last_parts old new page height child n inner a pages is)
+    (one_turn (page ∷ []) page h0 h1 refl t) (f pages (a.told ∙ is))
+
+pub last_again : (old new : Option (List (List ℕ))) (page height child n : ℕ) (inner : Inner) (h0 h1 : Option (List ℕ)) (a b c : Option ℕ)
+    → AtLast old new page height child n inner
+    → Tells (Touches page) h0 h1 → OneFree page h0 a b → ReadsNone (λ pages. last_pages pages (height - 1) child) new h1 b c
+    → ReadsNone (λ pages. last_pages pages height page) old h0 a c
+last_again old new page height child n inner h0 h1 a b c at t f g = λ pages is.
+    more_free (last_pages pages height page) (page ∷ []) (last_pages pages (height - 1) child) h0 h1 a b c
+    (last_parts old new page height child n inner at pages is)
+    (one_turn (page ∷ []) page h0 h1 refl t) (one_free (page ∷ []) [] page h0 a b refl f) (g pages (at.told ∙ is))
+
+-- the child to which the key leads
+abbrev before_in : List (List ℕ) → Key → ℕ → Inner → ℕ → List ℕ
+before_in pages k height inner i = before_child (finds_floor pages k (height - 1)) (last_pages pages (height - 1)) inner i
+
+floor_parts : (old new : Option (List (List ℕ))) (page height child i : ℕ) (k : Key) (inner : Inner) → AtFloor old new page height child i k inner
+    → i ≡ place_of k inner → (pages : List (List ℕ)) → old ≡ Some pages
+    → floor_pages pages k height page ≡ page ∷ (floor_pages pages k (height - 1) child ++ before_in pages k height inner i)
+floor_parts old new page height child i k inner a place pages is =
+    floor_splits pages k height page child i inner a.some a.above (a.reads pages is) place a.is_child
+
+-- no more is read than under it
+pub floor_touched : (old new : Option (List (List ℕ))) (page height child i : ℕ) (k : Key) (inner : Inner) (h0 h1 h2 : Option (List ℕ))
+    → AtFloor old new page height child i k inner → i ≡ place_of k inner
+    → Tells (Touches page) h0 h1 → TouchesInTurn (λ pages. floor_pages pages k (height - 1) child) new h1 h2
+    → ((pages : List (List ℕ)) → new ≡ Some pages → before_in pages k height inner i ≡ [])
+    → TouchesInTurn (λ pages. floor_pages pages k height page) old h0 h2
+floor_touched old new page height child i k inner h0 h1 h2 a place t f none = λ pages is.
+    let under = floor_pages pages k (height - 1) child in
+    let parts : floor_pages pages k height page ≡ page ∷ under = floor_parts old new page height child i k inner a place pages is
+    ∙ ap (λ l. page ∷ (under ++ l)) (none pages (a.told ∙ is)) ∙ ap (λ l. page ∷ l) (append-nil under) in
+    more_turns (floor_pages pages k height page) (page ∷ []) under h0 h1 h2 parts (one_turn (page ∷ []) page h0 h1 refl t) (f pages (a.told ∙ is))
+
+pub floor_again : (old new : Option (List (List ℕ))) (page height child i : ℕ) (k : Key) (inner : Inner) (h0 h1 : Option (List ℕ)) (a b c : Option ℕ)
+    → AtFloor old new page height child i k inner → i ≡ place_of k inner
+    → Tells (Touches page) h0 h1 → OneFree page h0 a b → ReadsNone (λ pages. floor_pages pages k (height - 1) child) new h1 b c
+    → ReadsNone (λ pages. floor_pages pages k height page) old h0 a c
+floor_again old new page height child i k inner h0 h1 a b c at place t f g = λ pages is.
+    let under = floor_pages pages k (height - 1) child in
+    let more = before_in pages k height inner i in
+    more_free (floor_pages pages k height page) (page ∷ []) (under ++ more) h0 h1 a b c (floor_parts old new page height child i k inner at place pages is)
+    (one_turn (page ∷ []) page h0 h1 refl t) (one_free (page ∷ []) [] page h0 a b refl f)
+    (part_free (under ++ more) under more h1 b c refl (g pages (at.told ∙ is)))
+
+-- the last record before it too
+pub floor_touched_more : (old new newer : Option (List (List ℕ))) (page height child prior i : ℕ) (k : Key) (inner : Inner)
+    (h0 h1 h2 h3 : Option (List ℕ)) → AtFloor old new page height child i k inner
+    → i ≡ place_of k inner → i ≢ 0 → newer ≡ old → prior ≡ slice_index inner.children (i - 1)
+    → ((pages : List (List ℕ)) → new ≡ Some pages → finds_floor pages k (height - 1) child ≡ false)
+    → Tells (Touches page) h0 h1 → TouchesInTurn (λ pages. floor_pages pages k (height - 1) child) new h1 h2
+    → TouchesInTurn (λ pages. last_pages pages (height - 1) prior) newer h2 h3
+    → TouchesInTurn (λ pages. floor_pages pages k height page) old h0 h3
+floor_touched_more old new newer page height child prior i k inner h0 h1 h2 h3 a place ne told was lacks t f g = λ pages is.
+    let under = floor_pages pages k (height - 1) child in
+    let more = last_pages pages (height - 1) prior in
+    let parts : floor_pages pages k height page ≡ page ∷ (under ++ more) =
+    floor_parts old new page height child i k inner a place pages is
+    ∙ ap (λ l. page ∷ (under ++ l)) (child_before pages k (height - 1) child prior i inner a.is_child was (lacks pages (a.told ∙ is)) ne) in
+    more_turns (floor_pages pages k height page) (page ∷ []) (under ++ more) h0 h1 h3 parts (one_turn (page ∷ []) page h0 h1 refl t)
+    (more_turns (under ++ more) under more h1 h2 h3 refl (f pages (a.told ∙ is)) (g pages (told ∙ is)))
+
+pub floor_again_more : (old new newer : Option (List (List ℕ))) (page height child prior i : ℕ) (k : Key) (inner : Inner)
+    (h0 h1 h2 : Option (List ℕ)) (a b c d : Option ℕ) → AtFloor old new page height child i k inner
+    → i ≡ place_of k inner → i ≢ 0 → newer ≡ old → prior ≡ slice_index inner.children (i - 1)
+    → ((pages : List (List ℕ)) → new ≡ Some pages → finds_floor pages k (height - 1) child ≡ false)
+    → Tells (Touches page) h0 h1 → OneFree page h0 a b → TouchesInTurn (λ pages. floor_pages pages k (height - 1) child) new h1 h2
+    → ReadsNone (λ pages. floor_pages pages k (height - 1) child) new h1 b c
+    → ReadsNone (λ pages. last_pages pages (height - 1) prior) newer h2 c d → ReadsNone (λ pages. floor_pages pages k height page) old h0 a d
+floor_again_more old new newer page height child prior i k inner h0 h1 h2 a b c d at place ne told was lacks t f s g l = λ pages is.
+    let under = floor_pages pages k (height - 1) child in
+    let more = last_pages pages (height - 1) prior in
+    let parts : floor_pages pages k height page ≡ page ∷ (under ++ more) =
+    floor_parts old new page height child i k inner at place pages is
+    ∙ ap (λ l. page ∷ (under ++ l)) (child_before pages k (height - 1) child prior i inner at.is_child was (lacks pages (at.told ∙ is)) ne) in
+    more_free (floor_pages pages k height page) (page ∷ []) (under ++ more) h0 h1 a b d parts (one_turn (page ∷ []) page h0 h1 refl t)
+    (one_free (page ∷ []) [] page h0 a b refl f)
+    (more_free (under ++ more) under more h1 h2 b c d refl (s pages (at.told ∙ is)) (g pages (at.told ∙ is)) (l pages (told ∙ is)))
+
+-- whether it comes to a record
+abbrev pub Finds : Option (List (List ℕ)) → Key → ℕ → ℕ → Bool → Type 0
+Finds told k height page b = (pages : List (List ℕ)) → told ≡ Some pages → finds_floor pages k height page ≡ b
+
+finds_parts : (old new : Option (List (List ℕ))) (page height child i : ℕ) (k : Key) (inner : Inner) → AtFloor old new page height child i k inner
+    → i ≡ place_of k inner → (pages : List (List ℕ)) → old ≡ Some pages
+    → finds_floor pages k height page ≡ (nat_lt 0 i || finds_floor pages k (height - 1) child)
+finds_parts old new page height child i k inner a place pages is =
+    finds_splits pages k height page child i inner a.some a.above (a.reads pages is) place a.is_child
+
+pub finds_here : (old new : Option (List (List ℕ))) (page height child i : ℕ) (k : Key) (inner : Inner) → AtFloor old new page height child i k inner
+    → i ≡ place_of k inner → Finds new k (height - 1) child true → Finds old k height page true
+finds_here old new page height child i k inner a place f = λ pages is. finds_parts old new page height child i k inner a place pages is
+    ∙ late (nat_lt 0 i) (finds_floor pages k (height - 1) child) (f pages (a.told ∙ is))
+  where
+    late : (b c : Bool) → c ≡ true → (b || c) ≡ true
+    late b c h = grind arith
+
+pub finds_none : (old new : Option (List (List ℕ))) (page height child i : ℕ) (k : Key) (inner : Inner) → AtFloor old new page height child i k inner
+    → i ≡ place_of k inner → i ≡ 0 → Finds new k (height - 1) child false
+    → Finds old k height page false
+finds_none old new page height child i k inner a place e f = λ pages is.
+    finds_parts old new page height child i k inner a place pages is ∙ ap (λ j. nat_lt 0 j || finds_floor pages k (height - 1) child) e ∙ f pages (a.told ∙ is)
+
+pub finds_before : (old new : Option (List (List ℕ))) (page height child i : ℕ) (k : Key) (inner : Inner)
+    → AtFloor old new page height child i k inner → i ≡ place_of k inner → i ≢ 0 → Finds old k height page true
+finds_before old new page height child i k inner a place ne =
+    λ pages is. finds_parts old new page height child i k inner a place pages is ∙ ap (λ b. b || finds_floor pages k (height - 1) child) (some i ne)
+  where
+    some : (i : ℕ) → i ≢ 0 → nat_lt 0 i ≡ true
+    some i ne = grind (arith, nat_tests)
+
+-- from the root
+pub root_first : {T : Type 0} (r : Result T Stop) (told : Option (List (List ℕ))) (k : Key) (height root : ℕ) (old new : Option (List ℕ)) → height ≤ 3
+    → OnOk r (TouchesInTurn (λ pages. floor_pages pages k height root) told old new)
+    → OnOk r (HoldsFirst (λ pages. floor_pages pages k height root) told old new)
+root_first (Err e) told k height root old new le f = f
+root_first (Ok x) told k height root old new le f = λ pages is.
+    let few = length_floor pages k height root le in
+    turns_first (floor_pages pages k height root) old new (omega arith) (f pages is)

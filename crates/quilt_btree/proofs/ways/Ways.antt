@@ -1,0 +1,38 @@
+-- An edit goes down through an inner page whose bytes were not validated.
+use Rattle.std.proofs.Common.{◌≡◌, ◌≢◌, ℕ, ◌≤◌, Bool, List, [], length, Option, Some, IfSome, slice_index, slice_index_or, sym, ◌∙◌, ap, subst}
+use Rattle.quilt_record.specs.declared.key.Key.{Key}
+use Rattle.quilt_record.specs.declared.record.Record.{Record}
+use Rattle.quilt_node.specs.Pages.{Inner, inner_of}
+use Rattle.quilt_node.specs.Nodes.{IsPlace}
+use Rattle.quilt_btree.specs.Floors.{place_of}
+use Rattle.quilt_btree.specs.Searches.{AreOf, IsWay, IsHigh}
+use Rattle.quilt_btree.specs.Trees.{Spells, ReadsInner}
+use Rattle.quilt_btree.proofs.subtrees.Along.{IsSame}
+use Rattle.quilt_btree.proofs.ways.Forks.{IsRead, page_here}
+use Rattle.quilt_btree.proofs.growth.UnderGrowth.{LeadsToChild}
+
+reads_inner : (told : Option (List (List ℕ))) (page size : ℕ) (bytes : List ℕ) (inner : Inner) → IfSome told (λ pages. length pages ≡ size)
+    → AreOf told page bytes → inner_of size bytes ≡ Some inner → ReadsInner told page inner
+reads_inner told page size bytes inner many are is = λ pages t.
+    let long : length pages ≡ size = subst (λ o. IfSome o (λ pages. length pages ≡ size)) t many in
+    ap (λ m. inner_of m (slice_index_or pages page [])) long ∙ ap (inner_of size) (sym (are pages t)) ∙ is
+
+pub is_way : (told : Option (List (List ℕ))) (page size : ℕ) (bytes : List ℕ) (k : Key) (place child : ℕ)
+    → IfSome told (λ pages. length pages ≡ size) → AreOf told page bytes
+    → ((inner : Inner) → inner_of size bytes ≡ Some inner → (place ≡ place_of k inner) × IsPlace inner.keys k place
+    × (child ≡ slice_index inner.children place))
+    → (inner : Inner) → inner_of size bytes ≡ Some inner → IsWay told page k place child inner
+is_way told page size bytes k place child many are f inner is =
+    let w = f inner is in
+    record { reads = reads_inner told page size bytes inner many are is; is_place = w.1; child_is = w.2 }
+
+pub is_high : (old new : Option (List (List ℕ))) (page height size : ℕ) (bytes : List ℕ) (rs : List Record) → IsRead old new page height size bytes
+    → Spells old page height rs → IsHigh size bytes height
+is_high old new page height size bytes rs r s = let h = page_here old new page height size bytes rs r s in
+    record { inner = h.inner; is = h.is; is_height = h.is_height }
+
+pub way_leads : (told then_told : Option (List (List ℕ))) (free then_free : ℕ → Bool) (size then_size page height child i : ℕ) (k : Key) (inner : Inner)
+    → IsSame told then_told free then_free size then_size → 1 ≤ height → height ≢ 1 → IsWay told page k i child inner
+    → LeadsToChild told then_told free then_free size then_size page height child i k inner
+way_leads told then_told free then_free size then_size page height child i k inner same some above w =
+    record { same = same; some = some; above = above; reads = w.reads; place = w.is_place; is_child = w.child_is }

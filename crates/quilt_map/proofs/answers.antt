@@ -1,0 +1,11 @@
+-- Commands as the definition has them, by the tests that they pass.
+pub mod Answered
+pub mod Asked
+pub mod Asks
+pub mod Commanded
+pub mod FirstTests
+pub mod Orderly
+pub mod Outcomes
+pub mod Placing
+pub mod Fronts
+pub mod TextLaws

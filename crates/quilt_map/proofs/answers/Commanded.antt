@@ -1,0 +1,272 @@
+-- What the contracts of commands say of all commands.
+use Rattle.std.proofs.Common.{◌≡◌, inl, ℕ, ◌+◌, ◌*◌, true, false, List, [], ◌∷◌, Option, Some, None, is_some, Result, Ok, Err, IfOk, IfErr, OnOk, refl, sym}
+use Rattle.std.proofs.Common.{◌∙◌, ap, subst}
+use Rattle.std.specs.List.{list_all}
+use Rattle.std.proofs.lemmas.Bool.{and_parts}
+use Rattle.quilt_types.specs.declared.plane.Pixel.{Pixel}
+use Rattle.quilt_types.specs.declared.stop.Stop.{Stop}
+use Rattle.quilt_types.specs.declared.stop.Stop.TheVariants as stops
+use Rattle.quilt_types.specs.Layers.{Edition}
+use Rattle.quilt_world.specs.Added.{AddsOnly, Only, is_of_pages, is_write}
+use Rattle.quilt_world.specs.Disk.{Pages}
+use Rattle.quilt_world.specs.Home.{home}
+use Rattle.quilt_world.specs.Stops.{LeavesNow}
+use Rattle.quilt_world.specs.declared.event.Event.{Event}
+use Rattle.quilt_world.specs.declared.event.Event.TheVariants as event
+use Rattle.quilt_world.specs.Causes.{Rose}
+use Rattle.quilt_world.specs.Tale.{Tale, IsConsistent, Goes}
+use Rattle.quilt_world.specs.declared.disk.Disk as disk
+use Rattle.quilt_world.proofs.StopLaws.{since_weaker}
+use Rattle.quilt_words.specs.Fitting.{IsFitting}
+use Rattle.quilt_words.specs.Forms.{Spelled}
+use Rattle.quilt_words.proofs.SpelledLaws.{spelled_fits}
+use Rattle.quilt_words.specs.declared.command.Command.{Command}
+use Rattle.quilt_words.specs.declared.command.Command.TheVariants as commands
+use Rattle.quilt_journal.specs.Kept.{HasHome}
+use Rattle.quilt_journal.specs.Writing.{Writing}
+use Rattle.quilt_store.specs.Stops.{HasStopCause, IsSound}
+use Rattle.quilt_edition.specs.Books as books
+use Rattle.quilt_edition.specs.Keeping.{IsLater}
+use Rattle.quilt_edition.proofs.Steps.{seen_home}
+use Rattle.quilt_node.specs.declared.head.Head.{Head}
+use Rattle.quilt_replies.specs.Answers.{State, answer}
+use Rattle.quilt_map.specs.Commanding.{Answered, IsApplied, IsAppliedBy}
+use Rattle.quilt_map.specs.Asking.{reads_in}
+use Rattle.quilt_map.specs.Reading.{IsPromised, ReadsFew}
+use Rattle.quilt_map.specs.Sessions.{IsAt, IsAtState, IsWarm, IsPublishedAs, world_of, level_of, changes_of, reads_of}
+use Rattle.quilt_replies.specs.States.{Tells, IsRefusal, after}
+use Rattle.quilt_map.specs.Steps.{Leaves, StandsFor, WritesFew, changes_after, gives_edition, goes_back}
+use Rattle.quilt_replies.specs.declared.reply.Reply.{Reply}
+use Rattle.quilt_replies.specs.declared.reply.Reply.TheVariants as given
+use Rattle.quilt_map.specs.declared.session.Session.{Session}
+use Rattle.quilt_map.proofs.answers.Answered.{format_is, warm_at}
+use Rattle.quilt_map.proofs.answers.Asked.{if_ok, if_err}
+use Rattle.quilt_map.proofs.states.Keeping.{book_idle, book_leaves, book_stands}
+use Rattle.quilt_map.proofs.answers.Orderly.{quiet_none, refused_after}
+
+goes_map : (R S : Tale → Tale → Type 0) (a b : Option Tale) → ((t u : Tale) → a ≡ Some t → R t u → S t u) → Goes R a b → Goes S a b
+goes_map R S None None f g = tt
+goes_map R S None (Some u) f g = absurd g
+goes_map R S (Some t) None f g = absurd g
+goes_map R S (Some t) (Some u) f g = f t u refl g
+
+write_of_pages : (e : Event) → is_write e ≡ true → is_of_pages e ≡ true
+write_of_pages (event.Took bytes) is = absurd (cc)
+write_of_pages (event.Put bytes) is = absurd (cc)
+write_of_pages (event.Wrote page bytes) is = refl
+write_of_pages (event.Tore page) is = refl
+write_of_pages event.Synced is = refl
+
+only_pages : (added : List Event) → Only is_write added → Only is_of_pages added
+only_pages [] only = refl
+only_pages (e ∷ es) only = let parts = and_parts (is_write e) (list_all is_write es) only in rw (write_of_pages e parts.0) (only_pages es parts.1)
+
+damaged_of : {T : Type 0} (At : State → Type 0) (r : Result T Stop) → IfErr r (λ e. (s : State) → At s → IsSound e)
+    → IfErr r (λ stop. (page : ℕ) → stop ≡ stops.Damaged page → (s : State) → At s → ⊥)
+damaged_of At (Ok x) h = tt
+damaged_of At (Err e) h = λ page is s at. h s at page is
+
+device_of : {T : Type 0} (before now : ℕ) (r : Result T Stop) → HasStopCause before now r → IfErr r (λ stop. stop ≡ stops.Device → Rose before now)
+device_of before now (Ok x) h = tt
+device_of before now (Err e) h = λ is. h.device (ap Err is)
+
+pub quiet_revert : (c : Command) → c ≡ commands.Revert → gives_edition c ≡ false
+quiet_revert c is = ap gives_edition is
+
+pub quiet_else : (c : Command) → (c ≡ commands.Publish → ⊥) → (c ≡ commands.Upgrade → ⊥) → gives_edition c ≡ false
+quiet_else commands.Publish publish upgrade = absurd (publish refl)
+quiet_else commands.Upgrade publish upgrade = absurd (upgrade refl)
+quiet_else c publish upgrade = refl
+
+pub forward_else : (c : Command) → (c ≡ commands.Revert → ⊥) → goes_back c ≡ false
+forward_else commands.Revert revert = absurd (revert refl)
+forward_else c revert = refl
+
+-- what a command has that is spelled is of the format and the level of the work, and so of the last edition
+module _ {W : Type 0} {D : disk.Ghosts W} where
+  pub fitting_here : (old : Session W D) (command other : Command) → Spelled old.book.work.format old.book.last.level command → command ≡ other
+      → IsFitting old.book.work.format old.book.last.level other
+  fitting_here old command other spelled is =
+      let format = old.book.work.format in
+      subst (IsFitting format old.book.last.level) is (spelled_fits format old.book.last.level command old.book.next.format.0 old.book.next.format.1 spelled)
+
+  pub fitting_of : (old : Session W D) (command other : Command) (s : State) → Spelled old.book.work.format old.book.last.level command
+      → command ≡ other → IsAtState old s → IsFitting s.last.format s.last.level other
+  fitting_of old command other s spelled is at =
+      subst (λ (f : ℕ). IsFitting f s.last.level other) (format_is old s at)
+      (subst (λ (n : ℕ). IsFitting old.book.work.format n other) (sym at.last.head.level) (fitting_here old command other spelled is))
+
+  module _ (old new : Session W D) (command other : Command) (same : other ≡ command) where
+    abbrev Says : Reply → Type 0
+    Says reply = (s : State) → IsAtState old s → Answered s other old new reply
+
+    answer_of : (r : Result Reply Stop) → IfOk r Says
+        → IfOk r (λ reply. (s : State) → IsAtState old s → Tells reply (answer s command).reply × IsAtState new (after s command))
+    answer_of (Err e) h = tt
+    answer_of (Ok reply) h = λ s at. let a = subst (λ (x : Command). Answered s x old new reply) same (h s at) in (a.tells, a.at)
+
+    changes_are : (r : Result Reply Stop) → IfOk r Says
+        → IfOk r (λ reply. (s : State) → IsAtState old s → changes_of new ≡ changes_after s command (changes_of old))
+    unfolding changes_of
+    changes_are (Err e) h = tt
+    changes_are (Ok reply) h = λ s at. let a = subst (λ (x : Command). Answered s x old new reply) same (h s at) in a.count
+
+    refused_keeps : (r : Result Reply Stop) → IfOk r Says → IfOk r (λ reply. IsRefusal reply → (s : State) → IsAtState old s → IsAtState new s)
+    refused_keeps (Err e) h = tt
+    refused_keeps (Ok (given.Ok text)) h = λ no_. absurd no_
+    refused_keeps (Ok (given.No code)) h = λ refused s at.
+        let a = subst (λ (x : Command). Answered s x old new (given.No code)) same (h s at) in
+        subst (λ (x : State). IsAtState new x) (refused_after s command code a.tells) a.at
+
+  -- ---- a book that goes on
+  module _ (old new : Session W D) (goes : books.GoesOn old.book new.book) where
+    level_on : level_of new ≡ level_of old
+    unfolding level_of
+    level_on = ap (λ (h : Head). h.level) goes.2
+
+    events_on : Goes (AddsOnly is_of_pages) (D.told (world_of old)) (D.told (world_of new))
+    unfolding world_of
+    events_on =
+        goes_map (IsLater old.book.journal.pages) (AddsOnly is_of_pages) (D.told old.book.world) (D.told new.book.world)
+        (λ t u is l. record { file = l.tries.file; events = l.tries.added; log = l.tries.log; only = only_pages l.tries.added l.tries.only }) goes.4
+
+    input_on : Goes (λ old new. new.input ≡ old.input) (D.told (world_of old)) (D.told (world_of new))
+    unfolding world_of
+    input_on =
+        goes_map (IsLater old.book.journal.pages) (λ t u. u.input ≡ t.input) (D.told old.book.world) (D.told new.book.world) (λ t u is l. l.tries.input) goes.4
+
+    leaves_from : (command : Command) (s : State) → IsAtState old s → (t u : Tale) → D.told old.book.world ≡ Some t
+        → IsLater old.book.journal.pages t u → Leaves s command t u
+    leaves_from command s at t u told later =
+        let n = old.book.journal.pages in
+        let same : at.tale ≡ t = let e : Some at.tale ≡ Some t = sym at.told ∙ told in cc in
+        let law = subst (λ (x : Tale). IsConsistent x) same at.lawful in
+        let last = subst (λ (x : Tale). IsPublishedAs old.book x old.last s.last) same at.last in
+        let home_is = seen_home n old.book.journal.changed t law (book_idle old.book t told at.ready).work.idle in
+        let stays = later.stays (subst (λ (p : Pages). LeavesNow t (HasHome n p)) (sym home_is) (book_leaves old.book t told at.ready)) in
+        record {
+          since = since_weaker t u (HasHome n (home t.seen n)) (StandsFor s command) stays
+              (λ image has. inl (book_stands old.book t told at.ready old.last s.last image last (subst (λ (p : Pages). HasHome n p image) home_is has)));
+        }
+
+    leaves_on : (command : Command) (s : State) → IsAtState old s → Goes (Leaves s command) (D.told (world_of old)) (D.told (world_of new))
+    unfolding world_of
+    leaves_on command s at = goes_map (IsLater old.book.journal.pages) (Leaves s command) (D.told old.book.world) (D.told new.book.world)
+        (λ t u is l. leaves_from command s at t u is l) goes.4
+
+    few_on : (command : Command) → gives_edition command ≡ false → (s : State)
+        → Goes (WritesFew s command (changes_of old)) (D.told (world_of old)) (D.told (world_of new))
+    unfolding world_of changes_of
+    few_on command quiet s =
+        goes_map (IsLater old.book.journal.pages) (WritesFew s command old.changes) (D.told old.book.world) (D.told new.book.world)
+        (λ t u is l some. absurd (let no_ : false ≡ true = sym (ap (λ (o : Option Edition). is_some o) (quiet_none s command quiet)) ∙ some in cc)) goes.4
+
+-- ---- a session that may give an edition
+abbrev pub WritesPages : Option Tale → Option Tale → Type 0
+WritesPages a b = Goes (λ old new. (most : ℕ) × Writing most old new) a b
+
+writing_events : (a b : Option Tale) → WritesPages a b → Goes (AddsOnly is_of_pages) a b
+writing_events a b w = goes_map (λ old new. (most : ℕ) × Writing most old new) (AddsOnly is_of_pages) a b
+    (λ t u is x. record { file = x.1.file; events = x.1.added; log = x.1.log; only = x.1.only }) w
+
+writing_input : (a b : Option Tale) → WritesPages a b → Goes (λ old new. new.input ≡ old.input) a b
+writing_input a b w = goes_map (λ old new. (most : ℕ) × Writing most old new) (λ t u. u.input ≡ t.input) a b (λ t u is x. x.1.input) w
+
+writing_few : (a b : Option Tale) (s : State) (command : Command) (k : ℕ) → Goes (Writing (18 * k + 8)) a b → Goes (WritesFew s command k) a b
+writing_few a b s command k w = goes_map (Writing (18 * k + 8)) (WritesFew s command k) a b (λ t u is x some. x) w
+
+on_ok : {T E : Type 0} (P : Type 0) (r : Result T E) → P → OnOk r P
+on_ok P (Ok x) h = h
+on_ok P (Err e) h = tt
+
+pub sound_at : {T : Type 0} (At : State → Type 0) (r : Result T Stop) → IfErr r IsSound → IfErr r (λ e. (s : State) → At s → IsSound e)
+sound_at At (Ok x) h = tt
+sound_at At (Err e) h = λ s at. h
+
+module _ {W : Type 0} {D : disk.Ghosts W} (old new : Session W D) (command other : Command) (same : other ≡ command) (r : Result Reply Stop)
+    (answers : IfOk r (λ reply. (s : State) → IsAtState old s → Answered s other old new reply))
+    (sound : IfErr r (λ e. (s : State) → IsAtState old s → IsSound e))
+    (cause : HasStopCause (D.faults old.book.world) (D.faults new.book.world) r)
+    (reads : (s : State) → IsAtState old s → IsPromised s command r → ReadsFew s command (reads_in old.book) (reads_in new.book)) where
+  -- a command that gives no edition
+  pub applied_going : books.GoesOn old.book new.book → gives_edition command ≡ false → IsAppliedBy IsAtState command old new r
+  unfolding world_of reads_of
+  applied_going goes quiet = record {
+    answer = answer_of old new command other same r answers;
+    refused = refused_keeps old new command other same r answers;
+    changes = changes_are old new command other same r answers;
+    level = on_ok (level_of new ≡ level_of old) r (level_on old new goes);
+    later = cause.later;
+    device = device_of (D.faults old.book.world) (D.faults new.book.world) r cause;
+    damaged = damaged_of (IsAtState old) r sound;
+    door = goes.3;
+    events = events_on old new goes;
+    input = input_on old new goes;
+    crash = leaves_on old new goes command;
+    writes = λ s at. few_on old new goes command quiet s;
+    reads = reads;
+  }
+
+  -- and one that may give one
+  pub applied_giving : OnOk r (new.book.last.level ≡ old.book.last.level) → D.door new.book.world ≡ D.door old.book.world
+      → WritesPages (D.told old.book.world) (D.told new.book.world)
+      → ((s : State) → IsAtState old s → Goes (Leaves s other) (D.told old.book.world) (D.told new.book.world))
+      → ((s : State) → IsAtState old s → Goes (Writing (18 * old.changes + 8)) (D.told old.book.world) (D.told new.book.world))
+      → IsAppliedBy IsAtState command old new r
+  unfolding world_of level_of changes_of reads_of
+  applied_giving level door events crash writes = record {
+    answer = answer_of old new command other same r answers;
+    refused = refused_keeps old new command other same r answers;
+    changes = changes_are old new command other same r answers;
+    level = level;
+    later = cause.later;
+    device = device_of (D.faults old.book.world) (D.faults new.book.world) r cause;
+    damaged = damaged_of (IsAtState old) r sound;
+    door = door;
+    events = writing_events (D.told old.book.world) (D.told new.book.world) events;
+    input = writing_input (D.told old.book.world) (D.told new.book.world) events;
+    crash = λ s at. subst (λ (c : Command). Goes (Leaves s c) (D.told old.book.world) (D.told new.book.world)) same (crash s at);
+    writes = λ s at. writing_few (D.told old.book.world) (D.told new.book.world) s command old.changes (writes s at);
+    reads = reads;
+  }
+
+-- another last pixel leaves what was promised
+module _ {W : Type 0} {D : disk.Ghosts W} (old new : Session W D) where
+  pub applied_forgets : (w : Option (List ℕ × Pixel)) (command : Command) (r : Result Reply Stop) → IsAppliedBy IsAtState command old new r
+      → IsAppliedBy IsAtState command old
+      (record { book = new.book; catalog = new.catalog; last = new.last; changes = new.changes; warm = w; alloc = new.alloc }) r
+  unfolding world_of level_of changes_of reads_of
+  applied_forgets w command r h = record {
+    answer = if_ok _ _ r (λ reply p s at. let a = p s at in (a.0, warm_at {D = D} new w (after s command) a.1)) h.answer;
+    refused = if_ok _ _ r (λ reply p no_ s at. warm_at {D = D} new w s (p no_ s at)) h.refused;
+    changes = h.changes;
+    level = h.level;
+    later = h.later;
+    device = h.device;
+    damaged = h.damaged;
+    door = h.door;
+    events = h.events;
+    input = h.input;
+    crash = h.crash;
+    writes = h.writes;
+    reads = h.reads;
+  }
+
+  -- and with the pages of the last pixel held, it is what is promised above this crate
+  pub applied_warm : (command : Command) (r : Result Reply Stop) → IsWarm new → IsAppliedBy IsAtState command old new r → IsApplied command old new r
+  unfolding IsAt
+  applied_warm command r warm h = record {
+    answer = if_ok _ _ r (λ reply p s at. let a = p s at.at in (a.0, record { at = a.1; warm = warm })) h.answer;
+    refused = if_ok _ _ r (λ reply p no_ s at. record { at = p no_ s at.at; warm = warm }) h.refused;
+    changes = if_ok _ _ r (λ reply p s at. p s at.at) h.changes;
+    level = h.level;
+    later = h.later;
+    device = h.device;
+    damaged = if_err _ _ r (λ e p page is s at. p page is s at.at) h.damaged;
+    door = h.door;
+    events = h.events;
+    input = h.input;
+    crash = λ s at. h.crash s at.at;
+    writes = λ s at. h.writes s at.at;
+    reads = λ s at. h.reads s at.at;
+  }

@@ -1,0 +1,7 @@
+-- What points that come or go change.
+pub mod Adds
+pub mod Dels
+pub mod Growths
+pub mod Plans
+pub mod Puts
+pub mod Scatters

@@ -1,0 +1,7 @@
+-- Logs of events, and what they put and write.
+pub mod Events
+pub mod Fronts
+pub mod Said
+pub mod Prompts
+pub mod Written
+pub mod Writes

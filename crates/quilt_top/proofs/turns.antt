@@ -1,0 +1,9 @@
+-- Turns of the loops that answer items.
+pub mod Applying
+pub mod Exits
+pub mod Fine
+pub mod Outcomes
+pub mod Places
+pub mod Runs
+pub mod Trials
+pub mod Turns
