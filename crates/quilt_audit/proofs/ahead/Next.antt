@@ -18,7 +18,8 @@ use Rattle.quilt_audit.specs.Runs.{IsRun, IsRunFinished}
 use Rattle.quilt_audit.specs.Checking.{entry_record, IsSoFar, HasBegun}
 use Rattle.quilt_audit.proofs.Lists.{rises_behind}
 use Rattle.quilt_audit.proofs.Catalog.{named_entry}
-use Rattle.quilt_audit.proofs.ahead.Ahead.{key_layers, catalog_record, number_range, layer_record_of, in_order, entry_layer, all_listed, behind, current_spelled}
+use Rattle.quilt_audit.proofs.ahead.Ahead.{key_layers, catalog_record, number_range, layer_record_of}
+use Rattle.quilt_audit.proofs.ahead.Ahead.{in_order, entry_layer, all_listed, behind, current_spelled}
 use Rattle.quilt_audit.proofs.runs.Runs.{short}
 
 -- a record of the catalog that may come next

@@ -29,7 +29,8 @@ use Rattle.quilt_line_audit.specs.Layers.{SpellsOne, IsLayerOf, Refuses, IsShort
 use Rattle.quilt_audit.specs.Points.{IsTallied, IsPointRun, AreClosed, IsOpened, IsFinished, IsIn, IsStart, count_of, shifted}
 use Rattle.quilt_audit.proofs.Lists.{rises_front, rises_behind}
 use Rattle.quilt_audit.proofs.runs.PointSteps.{opened, more_tallied, closes, begins_placed, begins_closed}
-use Rattle.quilt_audit.proofs.ahead.PointAhead.{on_layer, on_part, on_code, from_record, of_fits, fact_said, covers_all, next_from, last_end, last_max, holds_enough}
+use Rattle.quilt_audit.proofs.ahead.PointAhead.{on_layer, on_part, on_code, from_record, of_fits}
+use Rattle.quilt_audit.proofs.ahead.PointAhead.{fact_said, covers_all, next_from, last_end, last_max, holds_enough}
 use Rattle.quilt_audit.proofs.ahead.PointAhead.{no_second, no_first, no_more, new_block}
 use Rattle.quilt_audit.proofs.runs.PointWhole.{whole_points}
 

@@ -31,7 +31,8 @@ use Rattle.quilt_region.specs.Regions.{leaf_record}
 use Rattle.quilt_region.proofs.Records.{leaf_is_record}
 use Rattle.quilt_line_audit.specs.Layers.{SpellsOne, IsLayerOf, Refuses, IsShort}
 use Rattle.quilt_audit.specs.Regions.{AreLaid, IsGoing, AreSiblings, no_leaves, EndsIn}
-use Rattle.quilt_audit.proofs.runs.Laid.{making, HasBlocks-more, HasBlocks-none, EndsIn-more, EndsIn-none, end_siblings, siblings_end, AreLaid-none, AreLaid-more}
+use Rattle.quilt_audit.proofs.runs.Laid.{making, HasBlocks-more, HasBlocks-none, EndsIn-more}
+use Rattle.quilt_audit.proofs.runs.Laid.{EndsIn-none, end_siblings, siblings_end, AreLaid-none, AreLaid-more}
 use Rattle.quilt_audit.proofs.ahead.RegionAhead.{leaf_at, all_laid, none_left, next_code, next_unmerged}
 
 -- ---- a list of three

@@ -26,7 +26,8 @@ use Rattle.clap.specs.declared.error.kind.ErrorKind.TheVariants as kind
 use Rattle.quilt_top.specs.Words.{Order, asked_for, is_dashed, order_of_words}
 use Rattle.quilt_top.specs.CommandLine.{order_of_found, order_by, reader}
 use Rattle.quilt_top.proofs.usage.Commands.{at_place, pool_rule, rules, shape, fault_is, rows_are}
-use Rattle.quilt_top.proofs.usage.Looks.{Looks, LooksPlain, LooksLast, LooksValued, LooksBare, LooksStrange, LooksShort, plain, last, valued, bare, strange, short}
+use Rattle.quilt_top.proofs.usage.Looks.{Looks, LooksPlain, LooksLast, LooksValued, LooksBare, LooksStrange}
+use Rattle.quilt_top.proofs.usage.Looks.{LooksShort, plain, last, valued, bare, strange, short}
 use Rattle.quilt_top.proofs.usage.Looks.{look}
 use Rattle.quilt_top.proofs.usage.Rows.{row, found, Shows, shows_nothing, shows_word, shows_pool, next_free, id_at, added, has_row-found}
 use Rattle.quilt_top.proofs.usage.Scans.{Place, between, wants, lost, placing, pooling, step, ends, scan, scan-lost, asked_for-scans}

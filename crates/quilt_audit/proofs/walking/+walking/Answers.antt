@@ -35,7 +35,8 @@ survey_children-loop-i-preserved g t c =
           c.loop-i.i c.child-page.result c.loop-i.from (omega arith) (omega arith) c.child-page.ensures.child
           visited c.args.state.now c.loop-i.state c.survey_page.new.state (g.S.PageStore.reads c.args.store.now) (g.S.PageStore.reads c.loop-i.store)
           (g.S.PageStore.reads c.survey_page.new.store)
-          c.bound_behind-to.result (g.S.PageStore.told c.loop-i.store) (g.S.PageStore.size c.loop-i.store) inv.left.told inv.left.size c.bound_behind-to.ensures h
+          c.bound_behind-to.result (g.S.PageStore.told c.loop-i.store) (g.S.PageStore.size c.loop-i.store) inv.left.told inv.left.size
+          c.bound_behind-to.ensures h
           (e.found h.now h.added.marks);
     }
 

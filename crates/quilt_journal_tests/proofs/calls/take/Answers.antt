@@ -3,4 +3,5 @@ use Rattle.quilt_journal_tests.proofs.Opened.{is_open}
 use Rattle.quilt_journal_tests.proofs.calls.take.Goals as goal
 
 pub take-requires-clause-open : goal.take-requires-clause-open
-take-requires-clause-open g c = is_open (g.W.Disk.door c.args.world.now) _ (g.met.W.Disk.no_file c.args.world.now) (omega (arith, c.pages.ensures, c.if-pages-eq0.false))
+take-requires-clause-open g c = is_open (g.W.Disk.door c.args.world.now) _ (g.met.W.Disk.no_file c.args.world.now)
+    (omega (arith, c.pages.ensures, c.if-pages-eq0.false))

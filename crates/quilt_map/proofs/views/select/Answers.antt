@@ -6,7 +6,8 @@ use Rattle.quilt_map.specs.Asking.{reads_in}
 use Rattle.quilt_map.specs.Selecting.{Shows, selected, is_asked, AsksSome}
 use Rattle.quilt_map.proofs.answers.Answered.{told_reply}
 use Rattle.quilt_map.proofs.answers.Asked.{if_ok}
-use Rattle.quilt_map.proofs.questions.ShownLines.{any_ok, nearest_small, rank_small, cross_body, clip_body, nearest_none, nearest_body, nearest_costs, rank_absent}
+use Rattle.quilt_map.proofs.questions.ShownLines.{any_ok, nearest_small, rank_small, cross_body}
+use Rattle.quilt_map.proofs.questions.ShownLines.{clip_body, nearest_none, nearest_body, nearest_costs, rank_absent}
 use Rattle.quilt_map.proofs.questions.ShownLines.{rank_body, window_costs}
 use Rattle.std.proofs.Common.{subst}
 use Rattle.quilt_map.proofs.views.select.Goals as goal

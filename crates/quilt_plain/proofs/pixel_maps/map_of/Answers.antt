@@ -41,7 +41,8 @@ push-requires-clause-valid c =
     let e = v.value in
     let s = pixels_in n c.requires.most in
     let lt = c.loop-code-test.true in
-    subst (λ (k : ℕ). IsBlock k (record { x = p.x; y = p.y; side = 1 })) (sym c.loop-code.invariant.level) (pixel_block n p c.requires.most v.in_x v.in_y (omega arith))
+    subst (λ (k : ℕ). IsBlock k (record { x = p.x; y = p.y; side = 1 })) (sym c.loop-code.invariant.level)
+    (pixel_block n p c.requires.most v.in_x v.in_y (omega arith))
 
 pub finish-requires : goal.finish-requires
 finish-requires c =

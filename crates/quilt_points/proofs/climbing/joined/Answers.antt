@@ -42,7 +42,8 @@ add_quarter-requires-clause-block g c =
 
 pub returns-in-Err-clause-sound : goal.returns-in-Err-clause-sound
 returns-in-Err-clause-sound g c points h =
-    c.in-Err.ensures.sound points (has_along _ _ c.args.tree.now c.args.layer.number c.args.layer.level c.args.layer.bucket points c.loop-q.invariant.left.told h)
+    c.in-Err.ensures.sound points (has_along _ _ c.args.tree.now c.args.layer.number c.args.layer.level c.args.layer.bucket points
+    c.loop-q.invariant.left.told h)
 
 pub returns-in-Ok-false-clause-none : goal.returns-in-Ok-false-clause-none
 returns-in-Ok-false-clause-none g c _ points p label h some way =

@@ -7,7 +7,8 @@ use Rattle.quilt_points.proofs.climbing.topmost.Goals as goal
 
 pub returns-in-Err-clause-sound : goal.returns-in-Err-clause-sound
 returns-in-Err-clause-sound g c points h =
-    c.in-Err.ensures.sound points (has_along _ _ c.args.tree.now c.args.layer.number c.args.layer.level c.args.layer.bucket points c.climb.invariant.left.told h)
+    c.in-Err.ensures.sound points (has_along _ _ c.args.tree.now c.args.layer.number c.args.layer.level c.args.layer.bucket points
+    c.climb.invariant.left.told h)
 
 pub climb-smaller : goal.climb-smaller
 climb-smaller g c =

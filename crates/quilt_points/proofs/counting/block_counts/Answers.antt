@@ -64,7 +64,8 @@ loop-code-preserved g c =
           (omega arith) (omega arith);
       seen = λ points h.
           let s = c.loop-code.invariant.seen points h in
-          let read = c.in-Ok.ensures.read points (has_along _ _ c.args.tree.now c.args.layer c.args.level c.args.bucket points c.loop-code.invariant.left.told h) in
+          let read = c.in-Ok.ensures.read points (has_along _ _ c.args.tree.now c.args.layer c.args.level c.args.bucket points
+          c.loop-code.invariant.left.told h) in
           let more =
           seen_next c.args.level c.args.bucket points c.requires.level.1 c.loop-code.code c.loop-code.counts s.0 c.pixel_of.result c.in-Ok.b
           c.exponent_of.result c.end_of-code.result to read.block (Holds-from c.in-Ok.b c.pixel_of.result c.in-Ok.ensures.holds) at small

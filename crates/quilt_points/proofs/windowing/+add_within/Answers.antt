@@ -73,7 +73,8 @@ loop-q-preserved g t c = record {
       found_next points (in_window c.args.w) c.args.layer.level c.args.b c.quarters-q-items.result c.loop-q.q-index
       (record { y = 0; x = 0; side = 0 }) c.requires.block c.if-b-le1.false c.quarters-q-items.ensures.value c.loop-q-test.true
       c.args.found.now.items c.loop-q.found.items c.add_within.new.found.items (c.loop-q.invariant.found points h o)
-      (c.in-Ok.ensures.found points (has_along _ _ c.args.tree.now c.args.layer.number c.args.layer.level c.args.layer.bucket points c.loop-q.invariant.left.told h)
+      (c.in-Ok.ensures.found points (has_along _ _ c.args.tree.now c.args.layer.number c.args.layer.level c.args.layer.bucket points
+      c.loop-q.invariant.left.told h)
       (open_quarter c.args.layer.level c.args.layer.bucket points c.args.b o
       (match_none c.in-Ok-None.field-0 _ _ c.in-Ok-None.field-0-is (c.in-Ok-None.ensures.read points h)) c.if-b-le1.false
       (get_or c.quarters-q-items.result c.loop-q.q-index (record { y = 0; x = 0; side = 0 }))

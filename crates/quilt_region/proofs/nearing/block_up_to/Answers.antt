@@ -51,7 +51,8 @@ loop-larger-preserved g c =
       inside = subst (Within c.args.b) (sym is) (Within-trans c.args.b top (parent_of top) inv.inside (Within-parent_of n top inv.block lt));
       same = λ grid h. around_more n grid c.args.b top c.in-Some.larger c.args.c.0 (inv.same grid h)
           (more.yes c.in-Ok-true.field-0-test grid (subst (λ told. HasRegion told c.args.tree.now c.args.layer n grid) (sym inv.left.told) h));
-      cut_out = λ grid h out. more.cut_out c.in-Ok-true.field-0-test grid (subst (λ told. HasRegion told c.args.tree.now c.args.layer n grid) (sym inv.left.told) h);
+      cut_out = λ grid h out. more.cut_out c.in-Ok-true.field-0-test grid
+          (subst (λ told. HasRegion told c.args.tree.now c.args.layer n grid) (sym inv.left.told) h);
       left = only_read_then _ _ _ _ _ g.met.S.PageStore.goes_on _ _ _ inv.left more.left;
       faults = let a = inv.faults in let b = more.cause.later in omega arith;
       reads = λ j k d e.

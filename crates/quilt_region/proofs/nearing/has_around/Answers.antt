@@ -69,7 +69,8 @@ returns-in-Ok-false-clause-no g c f grid h out has =
     let z : Block = record { y = 0; x = 0; side = 0 } in
     let q = get_or c.quarters-q-items.result c.loop-q.q-index z in
     let test = c.loop-q-test.true in
-    let no = c.in-Ok-false.ensures.no c.in-Ok-false.field-0-test grid (subst (λ told. HasRegion told c.args.tree.now c.args.layer n grid) (sym inv.left.told) h) in
+    let no = c.in-Ok-false.ensures.no c.in-Ok-false.field-0-test grid (subst (λ told. HasRegion told c.args.tree.now c.args.layer n grid)
+    (sym inv.left.told) h) in
     let is : get_or c.quarters-q-items.result c.loop-q.q-index z ≡ get_or (quarters_of (parent_of b)) c.loop-q.q-index z =
     ap (λ l. get_or l c.loop-q.q-index z) (c.quarters-q-items.ensures.value ∙ ap quarters_of c.requires.larger) in
     let there : Contains (quarters_of (parent_of b)) q =

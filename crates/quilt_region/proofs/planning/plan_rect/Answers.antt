@@ -52,7 +52,8 @@ returns-in-Ok-None-clause-reads g c =
     let n = c.args.level in
     let most = 15 + 24 * n + 3 * length (leaves_within n grid b) in
     let tried = c.in-Ok-None.ensures.tried (ap is_some c.in-Ok-None.field-0-is) in
-    let rest = law grid b tried.0 (subst (λ told. HasRegion told c.args.tree.now c.args.layer n grid) (sym c.in-Ok-None.ensures.left.told) h) hb holds tried.1 in
+    let rest = law grid b tried.0 (subst (λ told. HasRegion told c.args.tree.now c.args.layer n grid) (sym c.in-Ok-None.ensures.left.told) h) hb holds
+    tried.1 in
     saved_less (24 * tried.0) (24 * tried.0 + most) most _ _ (omega arith)
     (then_saved (24 * tried.0) (24 * tried.0) most (24 * tried.0 + most) _ _ _ (omega arith) tried.2 rest))
     c.plan_together.ensures.reads

@@ -15,7 +15,8 @@ use Rattle.quilt_region.proofs.Beside.{if_ok_weaker}
 use Rattle.quilt_region.proofs.Counting.{reads_then, reads_more}
 use Rattle.quilt_region.proofs.Nearby.{more_within}
 use Rattle.quilt_region.proofs.Parts.{block_room, window_room}
-use Rattle.quilt_region.proofs.plans.QuarterPlans.{without_part, part_several, with_part, top_inside, quarter_is, list_step, same_step, sum_step, last_or_before}
+use Rattle.quilt_region.proofs.plans.QuarterPlans.{without_part, part_several, with_part, top_inside}
+use Rattle.quilt_region.proofs.plans.QuarterPlans.{quarter_is, list_step, same_step, sum_step, last_or_before}
 use Rattle.quilt_region.proofs.plans.QuarterPlans.{some_at}
 use Rattle.quilt_region.proofs.quartering.+plan_quarters.Goals as goal
 
@@ -97,11 +98,13 @@ returns-in_default-clause-reads g t c =
 
 pub returns-in-Err-plan_quarters-clause-sound : goal.returns-in-Err-plan_quarters-clause-sound
 returns-in-Err-plan_quarters-clause-sound g t c grid h =
-    c.in-Err-plan_quarters.ensures.sound grid (subst (λ told. HasRegion told c.args.tree.now c.args.layer c.args.level grid) (sym c.in-Ok-Some.ensures.left.told) h)
+    c.in-Err-plan_quarters.ensures.sound grid (subst (λ told. HasRegion told c.args.tree.now c.args.layer c.args.level grid)
+    (sym c.in-Ok-Some.ensures.left.told) h)
 
 pub returns-in-Err-plan_part-clause-sound : goal.returns-in-Err-plan_part-clause-sound
 returns-in-Err-plan_part-clause-sound g t c grid h =
-    let after = subst (λ told. HasRegion told c.args.tree.now c.args.layer c.args.level grid) (sym (c.in-Ok-true.ensures.left.told ∙ c.in-Ok-Some.ensures.left.told)) h in
+    let after = subst (λ told. HasRegion told c.args.tree.now c.args.layer c.args.level grid)
+    (sym (c.in-Ok-true.ensures.left.told ∙ c.in-Ok-Some.ensures.left.told)) h in
     let law : (grid : Grid) → HasRegion (g.S.PageStore.told c.args.store.now) c.args.tree.now c.args.layer c.args.level grid
     → Knows c.args.level grid c.in-Some.v c.in-Ok-Some.known =
     some_at (λ (k : Known). (grid : Grid) → HasRegion (g.S.PageStore.told c.args.store.now) c.args.tree.now c.args.layer c.args.level grid

@@ -83,7 +83,8 @@ loop-q-preserved g t c =
           c.args.change.now.gone.items c.loop-q.change.gone.items c.add_in.new.change.gone.items c.args.change.now.come.items c.loop-q.change.come.items
           c.add_in.new.change.come.items
           (let lt = c.loop-q-test.true in omega arith) (c.loop-q.invariant.added segs cover h new k e)
-          (c.in-Ok.ensures.added segs cover (lines_along _ _ self.view.tree self.view.layer self.view.level self.t segs cover c.loop-q.invariant.left.told h) new k
+          (c.in-Ok.ensures.added segs cover (lines_along _ _ self.view.tree self.view.layer self.view.level self.t segs cover c.loop-q.invariant.left.told
+          h) new k
           (quarter_side self.view.level c.args.b c.quarters-q-items.result c.loop-q.q-index (record { y = 0; x = 0; side = 0 }) c.requires.block
           c.if-b-le1.false c.quarters-q-items.ensures.value c.loop-q-test.true k e));
       faults = let m = c.loop-q.invariant.faults in let n = c.in-Ok.ensures.cause.later in omega arith;
