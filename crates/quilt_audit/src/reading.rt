@@ -6,23 +6,14 @@ ghost use Rattle.quilt_node.specs.Tree.{Bounds, Walk, Whole, Damaged, are_within
 ghost use Rattle.quilt_node.specs.Tree.{is_below as is_below_of};
 ghost use Rattle.quilt_store.specs.Store.{IsOnlyRead, Tells};
 ghost use Rattle.quilt_store.specs.Stops.{HasStopCause};
-ghost use Rattle.quilt_btree.specs.Stops.{store_stop, NamesPage};
+ghost use Rattle.quilt_btree.specs.Stops.{NamesPage};
 ghost use Rattle.quilt_audit.specs.Surveys.{OnDamaged};
 
+use quilt_btree::stop_of;
 use quilt_node::{InnerPage, inner_of, is_leaf, rec_in, records_in};
 use quilt_record::Key;
-use quilt_store::{PageStore, StoreErr};
+use quilt_store::PageStore;
 use quilt_types::Stop;
-
-/// The store's reason as that of the walk.
-fn stop_of(e: StoreErr) -> Stop
-    ensures { result ≡ store_stop e }
-{
-    match e {
-        StoreErr::Device => Stop::Device,
-        StoreErr::Memory => Stop::Memory,
-    }
-}
 
 /// Whether the key is from the bound on, where there is one.
 fn is_above(low: &Option<Key>, k: &Key) -> bool

@@ -17,12 +17,11 @@ ghost use Rattle.quilt_lines.specs.Adding.{facts_by, none_by, quarter_facts, ids
 ghost use Rattle.quilt_lines.specs.Plans.{IsLinePlan};
 ghost use Rattle.quilt_store.specs.Store.{IsOnlyRead};
 
-use crate::square::whole_square;
 use crate::view::{DAMAGED, LineView};
 use quilt_btree::Tree;
 use quilt_clip::meets;
 use quilt_edits::edits_of;
-use quilt_loc::quarters;
+use quilt_loc::{quarters, whole_square};
 use quilt_record::{Edits, Record, pair_record, segment_record};
 use quilt_store::PageStore;
 use quilt_types::{Block, Seg, Stop};

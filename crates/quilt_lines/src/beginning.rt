@@ -1,7 +1,7 @@
 ghost use Rattle.std.specs.Prelude.{◌≤◌};
 ghost use Rattle.quilt_lines.specs.Plans.{IsLineBeginning};
 
-use crate::square::whole_square;
+use quilt_loc::whole_square;
 use quilt_record::{Record, pair_record};
 
 /// The record that comes, beside that of the catalog, when a line layer of no segments does: that of the whole square, its one

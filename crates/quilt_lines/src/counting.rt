@@ -11,10 +11,9 @@ ghost use Rattle.quilt_btree.specs.Trees.{IsRooted};
 ghost use Rattle.quilt_lines.specs.Layers.{HasLines};
 ghost use Rattle.quilt_lines.specs.Counting.{held_in};
 
-use crate::square::whole_square;
 use crate::view::{DAMAGED, LineView};
 use quilt_btree::Tree;
-use quilt_loc::quarters;
+use quilt_loc::{quarters, whole_square};
 use quilt_record::{Key, Record, pair_record};
 use quilt_store::PageStore;
 use quilt_types::{Block, Stop};

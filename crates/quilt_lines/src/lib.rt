@@ -12,7 +12,6 @@ mod removal;
 mod removing;
 mod segments;
 mod settling;
-mod square;
 mod view;
 
 pub use adding::plan_add;

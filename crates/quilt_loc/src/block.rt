@@ -1,8 +1,20 @@
 ghost use Rattle.std.specs.Prelude.{◌≡◌, ◌-◌, ◌%◌, ◌<◌, ◌≤◌, ◌↔◌, IsNone, IfSome};
-ghost use Rattle.quilt_types.specs.Plane.{side as side_of, in_block, parent_of, quarters_of, Holds, IsBlock};
+ghost use Rattle.quilt_types.specs.Plane.{side as side_of, in_block, parent_of, quarters_of, whole, Holds, IsBlock};
 ghost use Rattle.quilt_loc.specs.Codes.{IsSide, Rises, code_cmp};
 
 use quilt_types::{Block, Pixel};
+
+/// The whole square of a level.
+pub fn whole_square(level: u8) -> Block
+    requires { level ≤ 12 }
+    ensures { result ≡ whole level }
+{
+    Block {
+        x: 0,
+        y: 0,
+        side: 1 << level,
+    }
+}
 
 /// The four blocks of half the side, in the order of their codes. The side is over 1.
 pub fn quarters(b: Block) -> [Block; 4]

@@ -4,6 +4,6 @@
 mod block;
 mod code;
 
-pub use block::{block_at, covers, parent, quarters};
+pub use block::{block_at, covers, parent, quarters, whole_square};
 pub use code::end_of;
 pub use quilt_types::{code_of, pixel_of};

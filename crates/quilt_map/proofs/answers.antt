@@ -7,5 +7,5 @@ pub mod FirstTests
 pub mod Orderly
 pub mod Outcomes
 pub mod Placing
-pub mod Fronts
+pub mod Prefixes
 pub mod TextLaws

@@ -1,4 +1,4 @@
--- What a longer text leaves of the run of its front.
+-- What a longer text leaves of the run of its prefix.
 use Rattle.std.specs.Prelude.{ℕ, ◌≤◌, take, length}
 use Rattle.quilt_world.specs.Tale.{Begins}
 use Rattle.quilt_replies.specs.Runs.{Run, replies_of}

@@ -123,7 +123,7 @@ impl<W: World> Session<W> {
         self.book.take(into)
     }
 
-    /// Puts a front of the bytes to the output, as the world puts them.
+    /// Puts a prefix of the bytes to the output, as the world puts them.
     #[tactic(auto, unfolding(crate::specs::Sessions::world_of, crate::specs::Sessions::format_of, crate::specs::Sessions::level_of, crate::specs::Sessions::changes_of, crate::specs::Sessions::reads_of, crate::specs::Sessions::warm_of, crate::specs::Sessions::IsAt))]
     pub fn put(&mut self, bytes: &[u8]) -> Result<usize, Fault>
         requires open { IsOpen (W.door (world_of self.old)) }

@@ -1,7 +1,7 @@
 ghost use Rattle.std.specs.Prelude.{◌≤◌};
 ghost use Rattle.quilt_points.specs.Plans.{IsBeginning};
 
-use crate::square::whole_square;
+use quilt_loc::whole_square;
 use quilt_record::{Record, point_record};
 
 /// The record that comes, beside that of the catalog, when a point layer of no points does: that of the whole square, its one

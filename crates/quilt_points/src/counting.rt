@@ -9,9 +9,8 @@ ghost use Rattle.quilt_points.specs.Layers.{HasPoints};
 
 use crate::layer::PointLayer;
 use crate::reading::block_around;
-use crate::square::whole_square;
 use quilt_btree::Tree;
-use quilt_loc::{end_of, pixel_of};
+use quilt_loc::{end_of, pixel_of, whole_square};
 use quilt_measure::exponent_of;
 use quilt_store::PageStore;
 use quilt_types::Stop;

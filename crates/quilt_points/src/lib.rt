@@ -13,7 +13,6 @@ mod listing;
 mod planning;
 mod reading;
 mod scattering;
-mod square;
 mod windowing;
 
 pub use beginning::first_record;

@@ -27,12 +27,12 @@ use Rattle.quilt_top.specs.declared.trial_run.Tally.{Tally}
 use Rattle.quilt_top.specs.declared.run.End.TheVariants as ends
 use Rattle.quilt_top.specs.Headline.{IsOneOf, IsStop, IsEdition, all_done, RunsText, summary, RunsTrial, OpensSafely, input_limit}
 use Rattle.quilt_top.specs.Openings.{run_ends, is_run_end, end_of}
-use Rattle.quilt_top.specs.Saying.{Says, SaysFront}
+use Rattle.quilt_top.specs.Saying.{Says, SaysPrefix}
 use Rattle.quilt_top.specs.TextRun.{IsUntold, run_in}
-use Rattle.quilt_top.specs.Trying.{StandsForOne, StandsForLast, Tries, Tried, trial_run, Concludes, TriesFront, TriesWhole, TriesTo}
+use Rattle.quilt_top.specs.Trying.{StandsForOne, StandsForLast, Tries, Tried, trial_run, Concludes, TriesPrefix, TriesWhole, TriesTo}
 use Rattle.quilt_top.proofs.logs.Events.{put_bytes-append, taken_bytes-append, nothing_taken, pages_untaken, pages_unput}
 use Rattle.quilt_top.proofs.turns.Fine.{moved}
-use Rattle.quilt_top.proofs.logs.Fronts.{front_split, only_front, same_events, stops_at}
+use Rattle.quilt_top.proofs.logs.Prefixes.{front_split, only_front, same_events, stops_at}
 use Rattle.quilt_top.proofs.Running.{apart, given_up, not_damaged, other_end, run_is}
 use Rattle.quilt_top.proofs.logs.Said.{says_nothing}
 use Rattle.quilt_top.proofs.turns.Trials.{tries_none, one_first}
@@ -43,15 +43,15 @@ concludes_none : (r : Run) (t u : Tale) → Tries r t u → Concludes r [] t u
 concludes_none r t u tries = record { middle = u; tries = tries; left = λ some. absurd (some refl); says = says_nothing u; text = adds_only_none is_of_text u }
 
 -- nothing of the summary is put
-front_none : (n : ℕ) (r : Run) (t u : Tale) → Tries r t u → TriesFront n r t u
+front_none : (n : ℕ) (r : Run) (t u : Tale) → Tries r t u → TriesPrefix n r t u
 front_none n r t u tries = record { said = []; front = (summary n r, refl); concludes = concludes_none r t u tries }
 
-pub goes_none : (n : ℕ) (r : Run) (o m : Option Tale) → Goes (Tries r) o m → Goes (TriesFront n r) o m
+pub goes_none : (n : ℕ) (r : Run) (o m : Option Tale) → Goes (Tries r) o m → Goes (TriesPrefix n r) o m
 goes_none n r o m tries = goes_weaker _ _ o m tries (λ t u so. front_none n r t u so)
 
 pub goes_part : (n : ℕ) (r : Run) (all : List ℕ) (o m k : Option Tale) → all ≡ summary n r → Goes (Tries r) o m
-    → IfSome m (λ t. LeavesNow t (StandsForLast r)) → Goes (SaysFront all) m k → Goes (AddsOnly is_of_text) m k
-    → Goes (TriesFront n r) o k
+    → IfSome m (λ t. LeavesNow t (StandsForLast r)) → Goes (SaysPrefix all) m k → Goes (AddsOnly is_of_text) m k
+    → Goes (TriesPrefix n r) o k
 goes_part n r all None None None is tries leaves says text = tt
 goes_part n r all None None (Some v) is tries leaves says text = says
 goes_part n r all None (Some u) k is tries leaves says text = absurd tries
@@ -77,10 +77,10 @@ goes_whole n r flag all (Some t) (Some u) (Some v) is done tries leaves says tex
   done = done;
 }
 
-whole_front : (n : ℕ) (r : Run) (flag : Bool) (t u : Tale) → TriesWhole n r flag t u → TriesFront n r t u
+whole_front : (n : ℕ) (r : Run) (flag : Bool) (t u : Tale) → TriesWhole n r flag t u → TriesPrefix n r t u
 whole_front n r flag t u whole = record { said = summary n r; front = ([], sym (append-nil (summary n r))); concludes = whole.concludes }
 
-pub goes_front : (n : ℕ) (r : Run) (flag : Bool) (o m : Option Tale) → Goes (TriesWhole n r flag) o m → Goes (TriesFront n r) o m
+pub goes_front : (n : ℕ) (r : Run) (flag : Bool) (o m : Option Tale) → Goes (TriesWhole n r flag) o m → Goes (TriesPrefix n r) o m
 goes_front n r flag o m whole = goes_weaker _ _ o m whole (λ t u so. whole_front n r flag t u so)
 
 -- ---- the text of the trial, by the items that its commands were read from
@@ -101,10 +101,10 @@ module _ (n k seed count : ℕ) (text : List ℕ) (level : k ≡ n) (is : text �
 
 -- ---- over a session
 
-stopped_to : (n : ℕ) (r : Run) (old w : Tale) (end : End) → TriesFront n r old w → (end ≡ ends.Done → ⊥) → (end ≡ ends.Refused → ⊥) → TriesTo n r end old w
+stopped_to : (n : ℕ) (r : Run) (old w : Tale) (end : End) → TriesPrefix n r old w → (end ≡ ends.Done → ⊥) → (end ≡ ends.Refused → ⊥) → TriesTo n r end old w
 stopped_to n r old w end front a b = record { front = front; done = λ e. absurd (a e); refused = λ e. absurd (b e) }
 
-module _ (n : ℕ) (r : Run) (old w : Tale) (front : TriesFront n r old w) where
+module _ (n : ℕ) (r : Run) (old w : Tale) (front : TriesPrefix n r old w) where
   tries_at : (outcome : Result Bool Halt) → IfOk outcome (λ d. TriesWhole n r d old w) → TriesTo n r (end_of outcome) old w
   tries_at (Ok true) whole = record { front = front; done = λ is. whole; refused = λ e. absurd (apart ends.Done ends.Refused 0 1 refl refl (λ f. cc) e) }
   tries_at (Ok false) whole = record { front = front; done = λ e. absurd (apart ends.Refused ends.Done 1 0 refl refl (λ f. cc) e); refused = λ is. whole }
@@ -121,7 +121,7 @@ module _ (n : ℕ) (r : Run) (old w : Tale) (front : TriesFront n r old w) where
       stopped_to n r old w ends.TooMuch front (λ e. apart ends.TooMuch ends.Done 2 0 refl refl (λ f. cc) e)
       (λ e. apart ends.TooMuch ends.Refused 2 1 refl refl (λ f. cc) e)
 
-pub tries_goes : (n : ℕ) (r : Run) (outcome : Result Bool Halt) (o m : Option Tale) → Goes (TriesFront n r) o m
+pub tries_goes : (n : ℕ) (r : Run) (outcome : Result Bool Halt) (o m : Option Tale) → Goes (TriesPrefix n r) o m
     → IfOk outcome (λ d. Goes (TriesWhole n r d) o m) → Goes (TriesTo n r (end_of outcome)) o m
 tries_goes n r outcome None None front whole = tt
 tries_goes n r outcome None (Some w) front whole = front

@@ -30,7 +30,7 @@ use Rattle.quilt_map.proofs.Laws.{at_level}
 use Rattle.quilt_top.specs.TextRun.{run_in, publishes_in, IsUntold, IsFine, RunsFrom, RunsWhole, Overruns}
 use Rattle.quilt_top.proofs.logs.Events.{put_bytes-append, nothing_taken, pages_untaken, pages_unput}
 use Rattle.quilt_top.proofs.openings.Found.{IsFoundDamaged}
-use Rattle.quilt_top.proofs.logs.Fronts.{front_split, only_front}
+use Rattle.quilt_top.proofs.logs.Prefixes.{front_split, only_front}
 use Rattle.quilt_top.proofs.openings.Damages.{damage_page}
 use Rattle.quilt_top.proofs.turns.Places.{told_none, fine_last}
 use Rattle.quilt_top.proofs.turns.Runs.{reading_first, runs_now}

@@ -1,6 +1,6 @@
 -- Logs of events, and what they put and write.
 pub mod Events
-pub mod Fronts
+pub mod Prefixes
 pub mod Said
 pub mod Prompts
 pub mod Written

@@ -6,7 +6,7 @@ use Rattle.quilt_words.specs.Items.{Group, items_of}
 use Rattle.quilt_lang.specs.Reading.{Gives, MayFollow}
 use Rattle.quilt_replies.specs.Answers.{State}
 use Rattle.quilt_replies.specs.Runs.{is_done}
-use Rattle.quilt_top.specs.Answering.{Steps, StepsFront, changes_all}
+use Rattle.quilt_top.specs.Answering.{Steps, StepsPrefix, changes_all}
 use Rattle.quilt_top.specs.Replies.{state_after, replies_from, said_for}
 use Rattle.quilt_top.specs.Saying.{Says}
 
@@ -20,8 +20,8 @@ pub record Answered (ended : Bool) (n : ℕ) (so_far flag : Bool) (s0 s1 : State
   pub steps : Goes (Steps s0 c0 items) old new
   pub done : flag ≡ (so_far && list_all is_done (replies_from s0 items))
 
--- whatever follows, what is put is a front of the replies to all items, and all but the last of those are answered whole
-pub record FrontOfAll (ended : Bool) (n : ℕ) (s : State) (changed : ℕ) (rest : List ℕ) (old new : Tale) : Type 0 where
+-- whatever follows, what is put is a prefix of the replies to all items, and all but the last of those are answered whole
+pub record PrefixOfAll (ended : Bool) (n : ℕ) (s : State) (changed : ℕ) (rest : List ℕ) (old new : Tale) : Type 0 where
   pub said : List ℕ
   pub says : Says said old new
   pub front : (v : List ℕ) → MayFollow ended v → Begins (said_for s (items_of n (rest ++ v))) said
@@ -29,4 +29,4 @@ pub record FrontOfAll (ended : Bool) (n : ℕ) (s : State) (changed : ℕ) (rest
   pub next : List Group
   pub left : List ℕ
   pub gives : Gives ended n (items ++ next) rest left
-  pub steps : StepsFront s changed items next old new
+  pub steps : StepsPrefix s changed items next old new

@@ -40,7 +40,7 @@ pub record Answers (s : State) (item : Item) (changed : ℕ) (said : List ℕ) (
   pub text : AddsOnly is_of_text middle new
 
 -- of the reply a front is put
-pub record AnswersFront (s : State) (item : Item) (changed : ℕ) (old new : Tale) : Type 0 where
+pub record AnswersPrefix (s : State) (item : Item) (changed : ℕ) (old new : Tale) : Type 0 where
   pub said : List ℕ
   pub front : Begins (text_of (reply_to s item)) said
   pub answers : Answers s item changed said old new
@@ -71,13 +71,13 @@ Steps s changed [] old new = AddsOnly is_took old new
 Steps s changed (g ∷ gs) old new =
     (next : Tale) × Step s (held_at s g) changed old next × Steps (state_then s (held_at s g)) (changes_then s (held_at s g) changed) gs next new
 
--- of the first of these items, if there is one, a front of the reply is put
+-- of the first of these items, if there is one, a prefix of the reply is put
 abbrev pub PartStep : State → ℕ → List Group → Tale → Tale → Type 0
 PartStep s changed [] old new = Adds [] old new
-PartStep s changed (g ∷ gs) old new = AnswersFront s (held_at s g) changed old new
+PartStep s changed (g ∷ gs) old new = AnswersPrefix s (held_at s g) changed old new
 
 -- These items are answered, and of what follows the first may be in part.
-pub record StepsFront (s : State) (changed : ℕ) (items next : List Group) (old new : Tale) : Type 0 where
+pub record StepsPrefix (s : State) (changed : ℕ) (items next : List Group) (old new : Tale) : Type 0 where
   pub middle : Tale
   pub steps : Steps s changed items old middle
   pub part : PartStep (state_after s items) (changes_all s changed items) next middle new

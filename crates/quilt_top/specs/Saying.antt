@@ -24,8 +24,8 @@ pub record Says (bytes : List ℕ) (old new : Tale) : Type 0 where
   pub untaken : Only takes_none events
   pub put : put_bytes events ≡ bytes
 
--- a front of these bytes is put
-pub record SaysFront (bytes : List ℕ) (old new : Tale) : Type 0 where
+-- a prefix of these bytes is put
+pub record SaysPrefix (bytes : List ℕ) (old new : Tale) : Type 0 where
   pub said : List ℕ
   pub front : Begins bytes said
   pub says : Says said old new

@@ -38,12 +38,12 @@ pub record IsFine (r : Run) (put : List ℕ) (image : Pages) : Type 0 where
   pub most : place ≤ told_within r.steps put 0 + 1
   pub edition : IsEdition r place image
 
--- each image that a stop leaves behind a front of the events since
+-- each image that a stop leaves behind a prefix of the events since
 abbrev pub AreFine : Run → Pages → Log → Log → Type 0
 AreFine r start before events =
     (so_far : Log) (image : Pages) → Begins events so_far → CanLeave start (before ++ so_far) image → IsFine r (put_bytes so_far) image
 
--- What a run from this state does, at every exit: it puts a front of the replies to all items, each before more is taken, takes at most
+-- What a run from this state does, at every exit: it puts a prefix of the replies to all items, each before more is taken, takes at most
 -- one piece past the limit, leaves one of two editions at each event, and writes few pages for each publish.
 pub record RunsFrom (n : ℕ) (s : State) (old new : Tale) : Type 0 where
   pub file : IsSameFile old new

@@ -74,7 +74,7 @@ pub record Concludes (r : Run) (said : List ℕ) (old new : Tale) : Type 0 where
   pub text : AddsOnly is_of_text middle new
 
 -- of the summary a front is put
-pub record TriesFront (n : ℕ) (r : Run) (old new : Tale) : Type 0 where
+pub record TriesPrefix (n : ℕ) (r : Run) (old new : Tale) : Type 0 where
   pub said : List ℕ
   pub front : Begins (summary n r) said
   pub concludes : Concludes r said old new
@@ -87,6 +87,6 @@ pub record TriesWhole (n : ℕ) (r : Run) (flag : Bool) (old new : Tale) : Type 
 
 -- how a trial over a session ends
 pub record TriesTo (n : ℕ) (r : Run) (end : End) (old new : Tale) : Type 0 where
-  pub front : TriesFront n r old new
+  pub front : TriesPrefix n r old new
   pub done : end ≡ ends.Done → TriesWhole n r true old new
   pub refused : end ≡ ends.Refused → TriesWhole n r false old new

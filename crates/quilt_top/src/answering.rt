@@ -3,7 +3,7 @@ ghost use Rattle.quilt_types.specs.declared.stop.Stop.TheVariants as stops;
 ghost use Rattle.quilt_world.specs.Tale.{Goes};
 ghost use Rattle.quilt_world.specs.Causes.{Rose};
 ghost use Rattle.quilt_world.specs.Doors.{IsOpen};
-ghost use Rattle.quilt_top.specs.Answering.{Applies, Answers, AnswersFront, changes_then};
+ghost use Rattle.quilt_top.specs.Answering.{Applies, Answers, AnswersPrefix, changes_then};
 ghost use Rattle.quilt_top.specs.declared.halt.Halt.TheVariants as halts;
 ghost use Rattle.quilt_replies.specs.Answers.{State, Refused};
 ghost use Rattle.quilt_replies.specs.Runs.{text_of, is_done};
@@ -98,7 +98,7 @@ pub(crate) fn put_answer<R: Threads + Sync, W: World>(
     ensures said { OnOk result ((s : State) → IsAt session.old s
         → Goes (Answers s item (changes_of session.old) (text_of (reply_to s item))) (W.told (world_of session.old)) (W.told (world_of session.new))) }
     ensures part { OnErr result ((s : State) → IsAt session.old s
-        → Goes (AnswersFront s item (changes_of session.old)) (W.told (world_of session.old)) (W.told (world_of session.new))) }
+        → Goes (AnswersPrefix s item (changes_of session.old)) (W.told (world_of session.old)) (W.told (world_of session.new))) }
 {
     let answer = answer_item(rt, alloc, session, &item)?;
     put_reply(session, answer.text.bytes())?;

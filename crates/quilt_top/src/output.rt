@@ -5,18 +5,18 @@ ghost use Rattle.quilt_world.specs.Doors.{IsOpen};
 ghost use Rattle.quilt_world.specs.Added.{AddsOnly, is_of_text};
 ghost use Rattle.quilt_replies.specs.Answers.{State};
 ghost use Rattle.quilt_map.specs.Sessions.{world_of, level_of, changes_of, IsAt};
-ghost use Rattle.quilt_top.specs.Saying.{Says, SaysFront};
+ghost use Rattle.quilt_top.specs.Saying.{Says, SaysPrefix};
 
 use quilt_map::Session;
 use quilt_world::{Fault, World};
 
-/// Puts all of the bytes, in as many calls as the world needs. After an Err a front of them was put.
+/// Puts all of the bytes, in as many calls as the world needs. After an Err a prefix of them was put.
 pub(crate) fn put_all<W: World>(world: &mut W, bytes: &[u8]) -> Result<(), Fault>
     requires { IsOpen (W.door world.old) }
     ensures cause { HasCause (W.faults world.old) (W.faults world.new) result }
     ensures door { W.door world.new ≡ W.door world.old }
     ensures said { OnOk result (Goes (Says bytes.now) (W.told world.old) (W.told world.new)) }
-    ensures part { OnErr result (Goes (SaysFront bytes.now) (W.told world.old) (W.told world.new)) }
+    ensures part { OnErr result (Goes (SaysPrefix bytes.now) (W.told world.old) (W.told world.new)) }
     ensures text { Goes (AddsOnly is_of_text) (W.told world.old) (W.told world.new) }
 {
     let mut done = 0;
@@ -32,7 +32,7 @@ pub(crate) fn put_reply<W: World>(session: &mut Session<W>, bytes: &[u8]) -> Res
     ensures cause { HasCause (W.faults (world_of session.old)) (W.faults (world_of session.new)) result }
     ensures door { W.door (world_of session.new) ≡ W.door (world_of session.old) }
     ensures said { OnOk result (Goes (Says bytes.now) (W.told (world_of session.old)) (W.told (world_of session.new))) }
-    ensures part { OnErr result (Goes (SaysFront bytes.now) (W.told (world_of session.old)) (W.told (world_of session.new))) }
+    ensures part { OnErr result (Goes (SaysPrefix bytes.now) (W.told (world_of session.old)) (W.told (world_of session.new))) }
     ensures text { Goes (AddsOnly is_of_text) (W.told (world_of session.old)) (W.told (world_of session.new)) }
     ensures level { level_of session.new ≡ level_of session.old }
     ensures changes { changes_of session.new ≡ changes_of session.old }

@@ -7,7 +7,7 @@ ghost use Rattle.quilt_lang.specs.Reading.{HasNone};
 ghost use Rattle.quilt_replies.specs.Answers.{State};
 ghost use Rattle.quilt_map.specs.Sessions.{world_of, level_of, changes_of, IsAt};
 ghost use Rattle.quilt_top.specs.declared.halt.Halt.TheVariants as halts;
-ghost use Rattle.quilt_top.specs.Answered.{Answered, FrontOfAll};
+ghost use Rattle.quilt_top.specs.Answered.{Answered, PrefixOfAll};
 ghost use Rattle.quilt_top.specs.TextRun.{IsUntold, RunsFrom, RunsWhole, Overruns};
 
 use crate::answering::put_answer;
@@ -44,7 +44,7 @@ fn answer_items<R: Threads + Sync, W: World>(
         lines.old.rest lines.new.rest (W.told (world_of session.old)) (W.told (world_of session.new))) }
     ensures none { IfOk result (λ done. HasNone ended lines.old.level lines.new.rest) }
     ensures stopped { OnErr result ((s : State) → IsAt session.old s
-        → Goes (FrontOfAll ended lines.old.level s (changes_of session.old) lines.old.rest) (W.told (world_of session.old)) (W.told (world_of session.new))) }
+        → Goes (PrefixOfAll ended lines.old.level s (changes_of session.old) lines.old.rest) (W.told (world_of session.old)) (W.told (world_of session.new))) }
 {
     let mut all_done = so_far;
     'items: while let Some(item) = lines.next_item(session.head().format, ended)? {
@@ -70,7 +70,7 @@ fn counted(total: u32, piece: usize) -> Result<u32, Halt>
 
 /// Takes the input to its end, at most 4096 bytes a call, and puts each reply before more is taken. Says whether none was a refusal.
 /// More than 2^30 bytes of input are too much, which is told once they are taken, and before their items are answered.
-/// After an Err a front of the replies was put, and the session is only given up.
+/// After an Err a prefix of the replies was put, and the session is only given up.
 pub(crate) fn run_text<R: Threads + Sync, W: World>(
     rt: &R,
     alloc: Global,

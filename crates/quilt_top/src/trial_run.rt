@@ -12,7 +12,7 @@ ghost use Rattle.quilt_top.specs.declared.halt.Halt.TheVariants as halts;
 ghost use Rattle.quilt_top.specs.Answering.{Applies};
 ghost use Rattle.quilt_top.specs.Replies.{IsItem, reply_to, state_then};
 ghost use Rattle.quilt_top.specs.TextRun.{run_in};
-ghost use Rattle.quilt_top.specs.Trying.{text_left, Tries, Tried, trial_run, summary_of, TriesFront, TriesWhole};
+ghost use Rattle.quilt_top.specs.Trying.{text_left, Tries, Tried, trial_run, summary_of, TriesPrefix, TriesWhole};
 
 use crate::answering::answer_item;
 use crate::halt::Halt;
@@ -115,7 +115,7 @@ fn summary(alloc: Global, tally: Tally, records: u32, edition: u32) -> Result<St
 }
 
 /// Runs the text of a trial in place of the input and puts a summary in place of the replies. Says whether no reply was a refusal.
-/// After an Err a front of the summary was put, and the session is only given up.
+/// After an Err a prefix of the summary was put, and the session is only given up.
 pub(crate) fn run_trial<R: Threads + Sync, W: World>(
     rt: &R,
     alloc: Global,
@@ -129,7 +129,7 @@ pub(crate) fn run_trial<R: Threads + Sync, W: World>(
     ensures damaged { IfErr result (λ e. (page : ℕ) → e ≡ halts.Stopped (stops.Damaged page) → (s : State) → IsAt session.old s → ⊥) }
     ensures short { IfErr result (λ e. e ≡ halts.TooMuch → ⊥) }
     ensures door { W.door (world_of session.new) ≡ W.door (world_of session.old) }
-    ensures front { (s : State) → IsAt session.old s → Goes (TriesFront (level_of session.old) (trial_run (level_of session.old) s seed count))
+    ensures front { (s : State) → IsAt session.old s → Goes (TriesPrefix (level_of session.old) (trial_run (level_of session.old) s seed count))
         (W.told (world_of session.old)) (W.told (world_of session.new)) }
     ensures whole { IfOk result (λ done. (s : State) → IsAt session.old s
         → Goes (TriesWhole (level_of session.old) (trial_run (level_of session.old) s seed count) done) (W.told (world_of session.old))

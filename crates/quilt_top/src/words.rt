@@ -56,23 +56,6 @@ fn number(low: u64, high: u64, word: &str) -> Option<u64>
     (low <= value).then_some(value)
 }
 
-/// The file of this path, where the other two words are its numbers.
-fn file_of<'a>(path: &'a str, pages: &str, level: &str) -> Option<NewFile<'a>>
-    ensures { option_map (λ f. table.New f.path.now f.pages f.level) result
-        ≡ table.new_order path.entry.now (spelling.number 16 30000 pages.now) (spelling.number 1 12 level.now) }
-{
-    let pages = number(16, 30000, pages)?;
-    let level = number(1, 12, level)?;
-    if path.is_empty() {
-        return None;
-    }
-    Some(NewFile {
-        path,
-        pages: pages as u32,
-        level: level as u8,
-    })
-}
-
 /// The number of pages that the option's word asks for, and 256 where it is not there.
 fn pool_size(pool: Option<&str>) -> Option<u32>
     ensures value { result ≡ table.pool_size (option_map (λ w. w.now) pool.entry) }
@@ -131,8 +114,16 @@ fn trial_of<'a>(
 fn new_of<'a>(path: &'a str, pages: &str, level: &str) -> Option<Order<'a>>
     ensures { option_map meant result ≡ table.new_order path.entry.now (spelling.number 16 30000 pages.now) (spelling.number 1 12 level.now) }
 {
-    let file = file_of(path, pages, level)?;
-    Some(Order::New(file))
+    let pages = number(16, 30000, pages)?;
+    let level = number(1, 12, level)?;
+    if path.is_empty() {
+        return None;
+    }
+    Some(Order::New(NewFile {
+        path,
+        pages: pages as u32,
+        level: level as u8,
+    }))
 }
 
 /// What is asked for by the words that the command found.

@@ -206,7 +206,7 @@ impl<W: World> Book<W> {
         self.world.take(into)
     }
 
-    /// Puts a front of the bytes to the output.
+    /// Puts a prefix of the bytes to the output.
     pub fn put(&mut self, bytes: &[u8]) -> Result<usize, Fault>
         requires open { IsOpen (W.door (world_of self.old)) }
         requires some { 0 < length bytes.now }

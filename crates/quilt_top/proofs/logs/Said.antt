@@ -22,7 +22,7 @@ use Rattle.quilt_replies.specs.Answers.{State, Reply}
 use Rattle.quilt_replies.specs.Runs.{Run, replies_of, text_of, output, is_done}
 use Rattle.quilt_top.specs.Replies.{held_at, reply_to, state_then, state_after, replies_from, said_for}
 use Rattle.quilt_top.specs.TextRun.{run_in}
-use Rattle.quilt_top.specs.Saying.{takes_none, Says, SaysFront}
+use Rattle.quilt_top.specs.Saying.{takes_none, Says, SaysPrefix}
 use Rattle.quilt_top.proofs.logs.Events.{put_bytes-append}
 
 pub says_nothing : (t : Tale) → Says [] t t
@@ -55,7 +55,7 @@ says_put bytes t u adds = record { file = adds.file; input = adds.input; events 
 pub says_quiet : (t u : Tale) → Adds [] t u → Says [] t u
 says_quiet t u adds = record { file = adds.file; input = adds.input; events = []; log = adds.log; untaken = refl; put = refl }
 
-pub says_front : (a b : List ℕ) (t u : Tale) → Begins b a → Says a t u → SaysFront b t u
+pub says_front : (a b : List ℕ) (t u : Tale) → Begins b a → Says a t u → SaysPrefix b t u
 says_front a b t u front says = record { said = a; front = front; says = says }
 
 pub on_err : {A E : Type 0} (r : Result A E) (P : Type 0) → P → OnErr r P

@@ -25,7 +25,7 @@ use Rattle.quilt_top.specs.Replies.{held_at, outcome, reply_to, state_then, stat
 use Rattle.quilt_top.specs.Saying.{is_took}
 use Rattle.quilt_top.proofs.logs.Events.{put_bytes-append, pages_unput}
 use Rattle.quilt_top.proofs.turns.Fine.{steps_grow, part_grows, grows_then}
-use Rattle.quilt_top.proofs.logs.Fronts.{took_text_only, took_unput, same_events}
+use Rattle.quilt_top.proofs.logs.Prefixes.{took_text_only, took_unput, same_events}
 use Rattle.quilt_top.proofs.turns.Places.{text_some}
 use Rattle.quilt_top.proofs.logs.Said.{output-append}
 use Rattle.quilt_top.proofs.logs.Written.{written, written_in, counted_in, written-append, wrote_most, text_none, apart_none, past_none}

@@ -21,7 +21,7 @@ use Rattle.quilt_edition.specs.Stands.{Stands}
 use Rattle.quilt_edition.specs.Creating.{IsBlank, is_of_pages, IsNoneOrEmpty, Creates, IsCreated}
 use Rattle.quilt_top.specs.declared.run.End.{End}
 use Rattle.quilt_top.specs.declared.run.End.TheVariants as ends
-use Rattle.quilt_top.specs.Saying.{Says, SaysFront}
+use Rattle.quilt_top.specs.Saying.{Says, SaysPrefix}
 use Rattle.quilt_world.specs.Added.{AddsOnly, is_of_text}
 use Rattle.quilt_world.proofs.TextLaws.{text_leaves}
 use Rattle.quilt_top.specs.Words.{New}
@@ -219,7 +219,7 @@ module _ (path : List ℕ) (pages level : ℕ) (door : Door) (is : door ≡ door
       )
 
   pub put_stopped : (now : Door) → now ≡ door → rose → (o m n p : Option Tale) → Goes (MakesAt path (3 + 2 * pages) door) o m
-      → Goes (Creates level) m n → IfSome n (IsCreated level) → Goes (λ v w. SaysFront (new_line pages level) v w × AddsOnly is_of_text v w) n p
+      → Goes (Creates level) m n → IfSome n (IsCreated level) → Goes (λ v w. SaysPrefix (new_line pages level) v w × AddsOnly is_of_text v w) n p
       → WhereTold (Promise now ends.Device) o p
   put_stopped now same risen None None None None makes creates created says = tt
   put_stopped now same risen None None None (Some w) makes creates created says = absurd says

@@ -21,9 +21,9 @@ use Rattle.quilt_map.specs.Sessions.{IsAt, world_of}
 use Rattle.quilt_map.specs.Steps.{Leaves, WritesFew, StandsFor, StandsForNew}
 use Rattle.quilt_map.specs.declared.session.Session.{Session}
 use Rattle.quilt_map.proofs.Laws.{at_told}
-use Rattle.quilt_top.specs.Answering.{StandsForItem, Applies, Answers, AnswersFront, changes_by, changes_then}
+use Rattle.quilt_top.specs.Answering.{StandsForItem, Applies, Answers, AnswersPrefix, changes_by, changes_then}
 use Rattle.quilt_top.specs.Replies.{reply_to, state_then}
-use Rattle.quilt_top.specs.Saying.{takes_none, Says, SaysFront}
+use Rattle.quilt_top.specs.Saying.{takes_none, Says, SaysPrefix}
 use Rattle.quilt_top.proofs.logs.Events.{put_bytes-append, pages_unput, pages_untaken}
 use Rattle.quilt_top.proofs.logs.Said.{says_nothing}
 
@@ -95,7 +95,7 @@ changes_is s item command c is = ap (λ (r : Result Command Code). changes_by s 
 -- ---- the reply
 
 -- nothing of it is put
-pub none_put : (s : State) (item : Item) (c : ℕ) (t u : Tale) → Applies s item c t u → AnswersFront s item c t u
+pub none_put : (s : State) (item : Item) (c : ℕ) (t u : Tale) → Applies s item c t u → AnswersPrefix s item c t u
 none_put s item c t u applies = record {
   said = [];
   front = (text_of (reply_to s item), refl);
@@ -116,7 +116,7 @@ answers_put s item c said (Some t) (Some u) (Some v) applies leaves says text =
 
 pub part_put : (s : State) (item : Item) (c : ℕ) (all : List ℕ) (o m n : Option Tale) → all ≡ text_of (reply_to s item) → Goes (Applies s item c) o m
     → IfSome m (λ t. LeavesNow t (λ image. Stands image (state_then s item).last))
-    → Goes (SaysFront all) m n → Goes (AddsOnly is_of_text) m n → Goes (AnswersFront s item c) o n
+    → Goes (SaysPrefix all) m n → Goes (AddsOnly is_of_text) m n → Goes (AnswersPrefix s item c) o n
 part_put s item c all None None None is applies leaves says text = tt
 part_put s item c all None None (Some v) is applies leaves says text = says
 part_put s item c all None (Some u) n is applies leaves says text = absurd applies
@@ -140,5 +140,5 @@ answer_says s item c said t v a =
       put = put_bytes-append pages a.says.events ∙ ap (λ (l : List ℕ). l ++ put_bytes a.says.events) (pages_unput pages a.applies.pages.only) ∙ a.says.put;
     }
 
-pub part_says : (s : State) (item : Item) (c : ℕ) (t v : Tale) → AnswersFront s item c t v → SaysFront (text_of (reply_to s item)) t v
+pub part_says : (s : State) (item : Item) (c : ℕ) (t v : Tale) → AnswersPrefix s item c t v → SaysPrefix (text_of (reply_to s item)) t v
 part_says s item c t v part = record { said = part.said; front = part.front; says = answer_says s item c part.said t v part.answers }

@@ -17,7 +17,7 @@ use Rattle.quilt_top.specs.Replies.{held_at, outcome, reply_to, state_then, stat
 use Rattle.quilt_top.specs.Saying.{is_took}
 use Rattle.quilt_top.specs.TextRun.{run_in, IsFine, AreFine}
 use Rattle.quilt_top.proofs.logs.Events.{put_bytes-append, pages_unput}
-use Rattle.quilt_top.proofs.logs.Fronts.{front_split, only_front, took_text_only, took_unput, same_events, events_then, stops_at}
+use Rattle.quilt_top.proofs.logs.Prefixes.{front_split, only_front, took_text_only, took_unput, same_events, events_then, stops_at}
 use Rattle.quilt_top.proofs.turns.Places.{text_some, none_or_some, told_none, told_short, fine_last, fine_new, fine_then, fine_behind}
 
 -- a tale goes on from another

@@ -16,7 +16,7 @@ use Rattle.quilt_top.specs.Answering.{Steps, PartStep, changes_all}
 use Rattle.quilt_top.specs.Replies.{state_after, said_for, replies_from}
 use Rattle.quilt_top.specs.Saying.{is_took, Says}
 use Rattle.quilt_top.specs.TextRun.{PromptAt, IsUntold, RunsFrom, RunsWhole, Overruns}
-use Rattle.quilt_top.specs.Answered.{Answered, FrontOfAll}
+use Rattle.quilt_top.specs.Answered.{Answered, PrefixOfAll}
 use Rattle.quilt_top.specs.Reading.{Reading}
 use Rattle.quilt_world.specs.Added.{AtEachTook}
 use Rattle.quilt_world.proofs.AddedLaws.{adds_only_none}
@@ -264,7 +264,7 @@ module _ (n : ℕ) (s0 : State) (at : s0.last.level ≡ n) where
         runs_quietly t u u few so (record { file = record { start = refl; path = refl; was_there = refl }; log = sym (append-nil u.log); input = refl })
 
     runs_stopped : (ended : Bool) (t u v : Tale) → count ≤ 2 ^ 30 + 4096 → MayFollow ended u.input → Reading n count flag s0 s1 c1 rest t u
-        → FrontOfAll ended n s1 c1 rest u v → RunsFrom n s0 t v
+        → PrefixOfAll ended n s1 c1 rest u v → RunsFrom n s0 t v
     runs_stopped ended t u v few may so stopped =
         runs_after stopped.said stopped.items stopped.next (items_of n (stopped.left ++ u.input)) t u stopped.steps.middle v few so stopped.says
         (stopped.front u.input may)
@@ -343,7 +343,7 @@ module _ (n : ℕ) (s0 : State) (at : s0.last.level ≡ n) where
     goes_past next b o m k sum past so none some takes = goes_then _ _ _ o m k so takes (λ t u v so takes. overruns next b t u v sum past so none some takes)
 
     pub goes_stopped : (o m k : Option Tale) → count ≤ 2 ^ 30 + 4096 → Goes (Reading n count flag s0 s1 c1 rest) o m
-        → Goes (FrontOfAll false n s1 c1 rest) m k → Goes (RunsFrom n s0) o k
+        → Goes (PrefixOfAll false n s1 c1 rest) m k → Goes (RunsFrom n s0) o k
     goes_stopped o m k few so stopped = goes_then _ _ _ o m k so stopped (λ t u v so stopped. runs_stopped false t u v few tt so stopped)
 
     pub goes_ended : (o m k : Option Tale) → Goes (Reading n count flag s0 s1 c1 rest) o m → Goes (TakesFrom []) m k
@@ -355,7 +355,7 @@ module _ (n : ℕ) (s0 : State) (at : s0.last.level ≡ n) where
     ended_counted c o m is so = subst (λ x. Goes (λ t u. Reading n count flag s0 s1 x rest t u × (u.input ≡ [])) o m) (sym is) so
 
     pub goes_stopped_end : (o m k : Option Tale) → count ≤ 2 ^ 30 + 4096 → Goes (λ t u. Reading n count flag s0 s1 c1 rest t u × (u.input ≡ [])) o m
-        → Goes (FrontOfAll true n s1 c1 rest) m k → Goes (RunsFrom n s0) o k
+        → Goes (PrefixOfAll true n s1 c1 rest) m k → Goes (RunsFrom n s0) o k
     goes_stopped_end o m k few so stopped = goes_then _ _ _ o m k so stopped (λ t u v so stopped. runs_stopped true t u v few so.1 so.0 stopped)
 
 pub goes_left : (R S : Tale → Tale → Type 0) (o m : Option Tale) → Goes (λ t u. R t u × S t u) o m → Goes R o m

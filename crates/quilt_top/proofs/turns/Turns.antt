@@ -6,8 +6,8 @@ use Rattle.quilt_words.specs.Items.{Group, items_of}
 use Rattle.quilt_lang.specs.Reading.{Gives, MayFollow}
 use Rattle.quilt_replies.specs.Answers.{State}
 use Rattle.quilt_replies.specs.Runs.{text_of, is_done}
-use Rattle.quilt_top.specs.Answered.{Answered, FrontOfAll}
-use Rattle.quilt_top.specs.Answering.{Answers, AnswersFront, Steps, changes_then, changes_all}
+use Rattle.quilt_top.specs.Answered.{Answered, PrefixOfAll}
+use Rattle.quilt_top.specs.Answering.{Answers, AnswersPrefix, Steps, changes_then, changes_all}
 use Rattle.quilt_top.specs.Replies.{held_at, reply_to, state_then, state_after, replies_from, said_for}
 use Rattle.quilt_top.specs.Saying.{is_took, Says}
 use Rattle.quilt_world.proofs.AddedLaws.{adds_only_none, adds_only_both}
@@ -67,7 +67,7 @@ module _ (ended : Bool) (n : ℕ) where
     }
 
     front_here : (g : List Group) (r1 : List ℕ) (t u : Tale) → Gives ended n g r0 r1 → Says (said_for s0 g) t u → Steps s0 c0 g t u
-        → FrontOfAll ended n s0 c0 r0 t u
+        → PrefixOfAll ended n s0 c0 r0 t u
     front_here g r1 t u gives says steps = record {
       said = said_for s0 g;
       says = says;
@@ -85,13 +85,13 @@ module _ (ended : Bool) (n : ℕ) where
     }
 
     pub stopped_now : (flag : Bool) (s1 : State) (c1 : ℕ) (r1 : List ℕ) (o m : Option Tale) → Answered ended n so_far flag s0 s1 c0 c1 r0 r1 o m
-        → Goes (FrontOfAll ended n s0 c0 r0) o m
+        → Goes (PrefixOfAll ended n s0 c0 r0) o m
     stopped_now flag s1 c1 r1 o m so = goes_weaker _ _ o m (goes_and _ _ o m so.said so.steps) (λ t u both. front_here so.items r1 t u so.gives both.0 both.1)
 
-    -- a front of the next reply
+    -- a prefix of the next reply
     front_next : (g : List Group) (i : Group) (r1 r2 : List ℕ) (t u v : Tale) → Gives ended n g r0 r1 → Gives ended n (i ∷ []) r1 r2 →
-        Says (said_for s0 g) t u → Steps s0 c0 g t u → AnswersFront (state_after s0 g) (held_at (state_after s0 g) i) (changes_all s0 c0 g) u v
-        → FrontOfAll ended n s0 c0 r0 t v
+        Says (said_for s0 g) t u → Steps s0 c0 g t u → AnswersPrefix (state_after s0 g) (held_at (state_after s0 g) i) (changes_all s0 c0 g) u v
+        → PrefixOfAll ended n s0 c0 r0 t v
     front_next g i r1 r2 t u v gives next says steps part =
         let s1 = state_after s0 g in
         let some = part_says s1 (held_at s1 i) (changes_all s0 c0 g) u v part in
@@ -117,7 +117,7 @@ module _ (ended : Bool) (n : ℕ) where
 
     pub stopped_part : (flag : Bool) (s1 : State) (c1 : ℕ) (i : Group) (r1 r2 : List ℕ) (o m l : Option Tale)
         → Answered ended n so_far flag s0 s1 c0 c1 r0 r1 o m → Gives ended n (i ∷ []) r1 r2 →
-        Goes (AnswersFront s1 (held_at s1 i) c1) m l → Goes (FrontOfAll ended n s0 c0 r0) o l
+        Goes (AnswersPrefix s1 (held_at s1 i) c1) m l → Goes (PrefixOfAll ended n s0 c0 r0) o l
     stopped_part flag s1 c1 i r1 r2 o m l so next part =
         goes_then _ _ _ o m l (goes_and _ _ o m so.said so.steps) (rw (so.state, so.changes) at part) (λ t u v old new.
         front_next so.items i r1 r2 t u v so.gives next old.0 old.1 new)

@@ -1,6 +1,6 @@
 use Rattle.std.proofs.Common.{◌≡◌, ◌∙◌, ◌∷◌, [], ◌++◌, length, length-append, sym, ap, arith, rules}
 use Rattle.quilt_map.proofs.answers.TextLaws.{whole_empty, gives_then, fewer_left, settled_count}
-use Rattle.quilt_map.proofs.answers.Fronts.{settled_run}
+use Rattle.quilt_map.proofs.answers.Prefixes.{settled_run}
 use Rattle.quilt_map.proofs.settled.settled_replies.Goals as goal
 
 pub feed-requires : goal.feed-requires

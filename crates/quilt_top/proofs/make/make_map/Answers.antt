@@ -6,7 +6,7 @@ use Rattle.quilt_world.specs.Added.{AddsOnly, is_of_text}
 use Rattle.quilt_world.proofs.Told.{goes_now, goes_and}
 use Rattle.quilt_top.specs.Headline.{new_line}
 use Rattle.quilt_edition.specs.Creating.{IsBlank}
-use Rattle.quilt_top.specs.Saying.{Says, SaysFront}
+use Rattle.quilt_top.specs.Saying.{Says, SaysPrefix}
 use Rattle.quilt_top.proofs.openings.Making.{made_blank, create_stopped, put_stopped, all_done, where_not_ok}
 use Rattle.quilt_top.proofs.make.make_map.Goals as goal
 
@@ -27,8 +27,8 @@ returns-in_default-put_all-clause-promises g c =
     let is = c.in-Ok.ensures.door ∙ ap (λ m. made (Ok m)) c.in-Ready.is in
     let rose : Rose _ _ = where_not_ok _ _ c.put_all.ensures.cause.failed c.in_default-put_all.not-Ok in
     let part = where_not_ok _ _ c.put_all.ensures.part c.in_default-put_all.not-Ok in
-    let says = subst (λ (line : List ℕ). Goes (SaysFront line) (g.W.Disk.told c.create.new.disk) (g.W.Disk.told c.put_all.new.world)) c.requires.line part in
-    let both = goes_and (SaysFront (new_line c.args.pages c.args.level)) (AddsOnly is_of_text) _ _ says c.put_all.ensures.text in
+    let says = subst (λ (line : List ℕ). Goes (SaysPrefix line) (g.W.Disk.told c.create.new.disk) (g.W.Disk.told c.put_all.new.world)) c.requires.line part in
+    let both = goes_and (SaysPrefix (new_line c.args.pages c.args.level)) (AddsOnly is_of_text) _ _ says c.put_all.ensures.text in
     put_stopped c.args.path.now c.args.pages c.args.level _ is _ _ (c.put_all.ensures.door ∙ c.create.ensures.device.door)
     (omega (arith, c.make.ensures.cause.later, c.create.ensures.cause.later, rose)) _ _ _ _
     (rw c.file_pages.ensures at c.make.ensures.tale) c.create.ensures.crash c.in-Ok-create.ensures.created both

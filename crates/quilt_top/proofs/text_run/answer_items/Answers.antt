@@ -9,7 +9,7 @@ use Rattle.quilt_map.proofs.answers.TextLaws.{fewer_left}
 use Rattle.quilt_types.specs.declared.stop.Stop.TheVariants as stops
 use Rattle.quilt_top.specs.declared.halt.Halt.{Halt}
 use Rattle.quilt_top.specs.declared.halt.Halt.TheVariants as halts
-use Rattle.quilt_top.specs.Answering.{Answers, AnswersFront, changes_then}
+use Rattle.quilt_top.specs.Answering.{Answers, AnswersPrefix, changes_then}
 use Rattle.quilt_top.specs.Replies.{held_at, reply_to, state_then}
 use Rattle.quilt_top.proofs.logs.Said.{on_err_all, err_from}
 use Rattle.quilt_top.proofs.turns.Outcomes.{held_is}
@@ -39,7 +39,7 @@ returns-in_err-all_done-clause-stopped g c =
     held_is _ _ so.0 given.group c.in-Some.item given.is (c.head.ensures.format so.0 so.1)
     (at_level c.items.session so.0 so.1 ∙ c.items.invariant.same ∙ c.requires.level) in
     let part =
-    subst (λ (i : Item). Goes (AnswersFront so.0 i (changes_of c.items.session)) (g.W.Disk.told (world_of c.items.session))
+    subst (λ (i : Item). Goes (AnswersPrefix so.0 i (changes_of c.items.session)) (g.W.Disk.told (world_of c.items.session))
     (g.W.Disk.told (world_of c.put_answer.new.session)))
     held_ (c.in_err-all_done.ensures.part so.0 so.1) in
     stopped_part _ _ _ _ _ _ (at_level c.args.session.now s at ∙ c.requires.level) _ _ _ _ _ _ _ _ _ so.2 given.gives part)

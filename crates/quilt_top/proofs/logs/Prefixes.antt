@@ -1,4 +1,4 @@
--- Fronts of logs, and what they put.
+-- Prefixes of logs, and what they put.
 use Rattle.std.proofs.Common.{◌≡◌, ◌⊎◌, inl, inr, ◌+◌, Bool, true, false, ◌&&◌, [], ◌∷◌, ◌++◌, length, take, refl, sym, ◌∙◌, ap, subst, arith, append_assoc}
 use Rattle.std.specs.List.{list_all}
 use Rattle.std.proofs.lemmas.List.{take_at, append_cancel_left}
@@ -13,7 +13,7 @@ use Rattle.quilt_world.specs.declared.event.Event.TheVariants.{Took, Put, Wrote,
 use Rattle.quilt_world.proofs.AddedLaws.{only_wider}
 use Rattle.quilt_top.specs.Saying.{is_took}
 
--- ---- a front of two logs
+-- ---- a prefix of two logs
 
 tails : (e f : Event) (a b : Log) → e ∷ a ≡ f ∷ b → a ≡ b
 tails e f a b is = cc
@@ -69,7 +69,7 @@ same_events t u a b p q = append_cancel_left t.log a b (sym p ∙ q)
 pub events_then : (t u v : Tale) (a b c : Log) → u.log ≡ t.log ++ a → v.log ≡ u.log ++ b → v.log ≡ t.log ++ c → c ≡ a ++ b
 events_then t u v a b c p q r = same_events t v c (a ++ b) r (q ∙ ap (λ (l : Log). l ++ b) p ∙ append_assoc t.log a b)
 
--- what a stop leaves behind a front of the events since
+-- what a stop leaves behind a prefix of the events since
 pub stops_at : (P : Pages → Type 0) (t u : Tale) (so rest : Log) → Since t u P → u.log ≡ t.log ++ (so ++ rest) → Leaves t.start (t.log ++ so) P
 stops_at P t u so rest since is = λ image left.
     let n = length t.log + length so in

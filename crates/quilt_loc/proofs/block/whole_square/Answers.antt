@@ -1,6 +1,6 @@
 use Rattle.std.proofs.Common.{◌≡◌, ◌*◌, ◌%◌, ◌^◌, arith}
 use Rattle.quilt_loc.proofs.Blocks.{side_most}
-use Rattle.quilt_points.proofs.square.whole_square.Goals as goal
+use Rattle.quilt_loc.proofs.block.whole_square.Goals as goal
 
 pub returns : goal.returns
 returns c =
