@@ -23,18 +23,18 @@ returns-in-Ok-clause-later g c =
 pub returns-in-Ok-clause-tale : goal.returns-in-Ok-clause-tale
 returns-in-Ok-clause-tale g c =
     let n = books.pages_of c.args.book in
-    let both = later_on n _ _ _ _ c.audit.ensures.later.0 c.audit.ensures.later.4 c.set_used.ensures.goes_on.4 in
+    let both = later_on n _ _ _ _ c.audit.ensures.left.later.0 c.audit.ensures.left.later.4 c.set_used.ensures.goes_on.4 in
     subst (λ (w : _). Goes (IsLater n) (g.W.Disk.told (books.world_of c.args.book)) (g.W.Disk.told w)) (sym c.new.ensures.world) both
 
 pub returns-in-Ok-clause-holds : goal.returns-in-Ok-clause-holds
 returns-in-Ok-clause-holds g c =
     let n = books.pages_of c.args.book in
-    let tale = later_on n _ _ _ _ c.audit.ensures.later.0 c.audit.ensures.later.4 c.set_used.ensures.goes_on.4 in
+    let tale = later_on n _ _ _ _ c.audit.ensures.left.later.0 c.audit.ensures.left.later.4 c.set_used.ensures.goes_on.4 in
     map_holds c.args.book c.set_used.new.self c.new.result c.in-Ok.survey.catalog c.in-Ok.survey.used _ _ c.requires.ready
-    (c.set_used.ensures.goes_on.0 ∙ c.audit.ensures.later.0) (c.set_used.ensures.goes_on.1 ∙ c.audit.ensures.later.1)
-    (c.set_used.ensures.goes_on.2 ∙ c.audit.ensures.later.2.0)
-    (λ q. c.set_used.ensures.used q ∙ ap (λ m. is_left_out m c.in-Ok.survey.used q) c.audit.ensures.later.0)
-    (c.set_used.ensures.told ∙ c.audit.ensures.told) tale
+    (c.set_used.ensures.goes_on.0 ∙ c.audit.ensures.left.later.0) (c.set_used.ensures.goes_on.1 ∙ c.audit.ensures.left.later.1)
+    (c.set_used.ensures.goes_on.2 ∙ c.audit.ensures.left.later.2.0)
+    (λ q. c.set_used.ensures.used q ∙ ap (λ m. is_left_out m c.in-Ok.survey.used q) c.audit.ensures.left.later.0)
+    (c.set_used.ensures.told ∙ c.audit.ensures.left.told) tale
     (g.met.W.Disk.is_consistent (books.world_of c.args.book)) (g.met.W.Disk.is_consistent (books.world_of c.set_used.new.self))
     c.new.ensures.at c.requires.pages c.head-head.result (c.head-head.ensures.work ∙ c.requires.heads) c.in-Ok.ensures.survey
 
