@@ -1,4 +1,4 @@
-ghost use Rattle.std.specs.Prelude.{◌≡◌, ◌≤◌, ℕ, Ok, Err, Result, [], ◌∷◌, map, IfOk};
+ghost use Rattle.std.specs.Prelude.{◌≡◌, ◌≤◌, ℕ, map, IfOk};
 ghost use Rattle.quilt_words.specs.Items.{Group, held, words_of};
 ghost use Rattle.quilt_words.specs.Forms.{form_of_words, form_of_line, form, Spelled};
 ghost use Rattle.quilt_words.specs.Made.{further_of};
