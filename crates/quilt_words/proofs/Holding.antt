@@ -18,7 +18,9 @@ use Rattle.quilt_words.specs.Fitting.{IsWithin, AreColours, IsRows, ArePoints, A
 use Rattle.quilt_words.specs.Items.{Group, held, held_as, asked, asked_by, listed_by, is_long, is_plain, words_of, begins_with, rows_of, rows_joined}
 use Rattle.quilt_words.specs.Items.{colour_bytes, points_of, points_joined, point_of, point, rings_of, rings_joined, ring_of, corners_of, corner_of}
 use Rattle.quilt_words.specs.Spelling.{number, row, hex_digit, cons_both, is_spelled, value_of}
+use Rattle.quilt_words.specs.Forms.{form, Spelled}
 use Rattle.quilt_words.specs.Made.{further_of}
+use Rattle.quilt_words.specs.Parsing.{Answers}
 use Rattle.quilt_words.proofs.Cases.{bool_cases}
 
 both_right : (a b : Bool) → (a && b) ≡ true → b ≡ true
@@ -343,6 +345,12 @@ pub further_fits : (f n : ℕ) (group : Group) → 1 ≤ f → f ≤ 2 → Furth
 unfolding held
 further_fits f n group low high =
     either_fits f n (is_long group.line) (held_as f n (asked n group.line) group) (as_fits f n (asked n group.line) group (one_or_two f low high) refl)
+
+-- an item that some lines hold spells the command that is parsed of it
+pub spelled : (f : ℕ) (item : Item) (r : Result Command ParseErr) → Answers r (form f item) →
+    IfOk r (λ command. (n : ℕ) (group : Group) → held f n group ≡ item → Spelled f n command)
+spelled f item (Err e) is = tt
+spelled f item (Ok command) is = λ n group same. (group, ap (form f) same ∙ is)
 
 -- what is parsed of an item that some lines hold
 pub fitting : (f : ℕ) (item : Item) (r : Result Command ParseErr) → ((n : ℕ) → FurtherFits f n (further_of item) → IfOk r (IsFitting f n)) →

@@ -1,5 +1,5 @@
 -- A name is ASCII, and so it is text.
-use Rattle.std.proofs.Common.{◌≡◌, ◌↔◌, inl, inr, ℕ, ◌<◌, Bool, true, false, ◌&&◌, List, [], ◌∷◌, length, Option, Some, None, IsSome, IfSome, refl, ap, arith}
+use Rattle.std.proofs.Common.{◌≡◌, inl, inr, ℕ, ◌<◌, Bool, true, false, ◌&&◌, List, [], ◌∷◌, length, None, refl, arith}
 use Rattle.std.proofs.Common.{nat_le}
 use Rattle.std.specs.List.{list_all}
 use Rattle.std.specs.Str.{IsAscii, IsUtf8}
@@ -44,12 +44,3 @@ unnamed cs none = elim (bool_cases (is_name cs)) [
   | inl is ↦ absurd (none (IsUtf8-from_ascii cs (name_ascii cs is)))
   | inr not_ ↦ rw not_ refl
 ]
-
--- the name that a word is, where one is found exactly where the word is one
-pub named : (r : Option (List ℕ)) (cs : List ℕ) → (IsSome r ↔ (is_name cs ≡ true)) → IfSome r (λ n. n ≡ cs) → r ≡ name cs
-unfolding name
-named None cs found same = elim (bool_cases (is_name cs)) [
-  | inl is ↦ absurd (let bad : false ≡ true = found.1 is in cc)
-  | inr not_ ↦ rw not_ refl
-]
-named (Some n) cs found same = rw (found.0 refl) (ap Some same)

@@ -18,19 +18,12 @@ pub fn parse_name(word: &[u8]) -> Result<Name, ParseErr>
     ensures is { Answers result (or_err codes_of.Name (name word.now)) }
     ensures named { IfOk result IsName }
 {
-    match name_of(word) {
+    let Ok(text) = str::from_utf8(word) else {
+        return Err(ParseErr::No(Code::Name));
+    };
+    match Name::of(text) {
         Some(name) => Ok(name),
         None => Err(ParseErr::No(Code::Name)),
-    }
-}
-
-fn name_of(word: &[u8]) -> Option<Name>
-    ensures is { result ≡ name word.now }
-    ensures named { IfSome result IsName }
-{
-    match str::from_utf8(word) {
-        Ok(text) => Name::of(text),
-        Err(_) => None,
     }
 }
 

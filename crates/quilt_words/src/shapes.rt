@@ -1,6 +1,6 @@
 //! The arguments of commands, by what they are.
 ghost use Rattle.std.specs.Prelude.{◌≡◌, ◌≤◌, ◌<◌, ◌^◌, ℕ, [], ◌∷◌, map, IfOk};
-ghost use Rattle.quilt_words.specs.Forms.{A_name, A_number, A_signed, Called, Number, Signed, coordinate, extent, label, values_of};
+ghost use Rattle.quilt_words.specs.Forms.{A_name, A_number, A_signed, Called, Number, Signed, coordinate, extent, label};
 ghost use Rattle.quilt_words.specs.Fitting.{IsName, IsWithin, IsPixelOf16, IsWindowOf16, IsShift, IsSegOf16};
 ghost use Rattle.quilt_words.specs.Parsing.{Reads, counted};
 
@@ -37,13 +37,6 @@ pub fn two_names(words: &[&[u8]]) -> Result<(Name, Name), ParseErr>
     let [a, b] = words else {
         return Err(ParseErr::No(Code::Count));
     };
-    read_two_names(a, b)
-}
-
-fn read_two_names(a: &[u8], b: &[u8]) -> Result<(Name, Name), ParseErr>
-    ensures is { Reads (λ v. Called v.0 ∷ Called v.1 ∷ []) result (values_of (A_name ∷ A_name ∷ []) (a.now ∷ b.now ∷ [])) }
-    ensures fits { IfOk result (λ v. IsName v.0 × IsName v.1) }
-{
     let a = parse_name(a)?;
     let b = parse_name(b)?;
     Ok((a, b))
@@ -57,13 +50,6 @@ pub fn three_names(words: &[&[u8]]) -> Result<(Name, Name, Name), ParseErr>
     let [a, b, c] = words else {
         return Err(ParseErr::No(Code::Count));
     };
-    read_three_names(a, b, c)
-}
-
-fn read_three_names(a: &[u8], b: &[u8], c: &[u8]) -> Result<(Name, Name, Name), ParseErr>
-    ensures is { Reads (λ v. Called v.0 ∷ Called v.1 ∷ Called v.2 ∷ []) result (values_of (A_name ∷ A_name ∷ A_name ∷ []) (a.now ∷ b.now ∷ c.now ∷ [])) }
-    ensures fits { IfOk result (λ v. IsName v.0 × IsName v.1 × IsName v.2) }
-{
     let a = parse_name(a)?;
     let b = parse_name(b)?;
     let c = parse_name(c)?;
@@ -78,13 +64,6 @@ pub fn name_number(words: &[&[u8]], low: u32, high: u32) -> Result<(Name, u32), 
     let [a, n] = words else {
         return Err(ParseErr::No(Code::Count));
     };
-    read_name_number(a, n, low, high)
-}
-
-fn read_name_number(a: &[u8], n: &[u8], low: u32, high: u32) -> Result<(Name, u32), ParseErr>
-    ensures is { Reads (λ v. Called v.0 ∷ Number v.1 ∷ []) result (values_of (A_name ∷ A_number low high ∷ []) (a.now ∷ n.now ∷ [])) }
-    ensures fits { IfOk result (λ v. IsName v.0 × IsWithin low high v.1) }
-{
     let a = parse_name(a)?;
     let n = parse_number(low, high, n)?;
     Ok((a, n))
@@ -99,14 +78,6 @@ pub fn name_pixel(words: &[&[u8]]) -> Result<(Name, Pixel), ParseErr>
     let [a, x, y] = words else {
         return Err(ParseErr::No(Code::Count));
     };
-    read_name_pixel(a, x, y)
-}
-
-fn read_name_pixel(a: &[u8], x: &[u8], y: &[u8]) -> Result<(Name, Pixel), ParseErr>
-    ensures is { Reads (λ v. Called v.0 ∷ Number v.1.x ∷ Number v.1.y ∷ []) result
-        (values_of (A_name ∷ coordinate ∷ coordinate ∷ []) (a.now ∷ x.now ∷ y.now ∷ [])) }
-    ensures fits { IfOk result (λ v. IsName v.0 × IsPixelOf16 v.1) }
-{
     let a = parse_name(a)?;
     let x = parse_coordinate(x)?;
     let y = parse_coordinate(y)?;
@@ -126,21 +97,6 @@ pub fn name_pixel_number(
     let [a, x, y, n] = words else {
         return Err(ParseErr::No(Code::Count));
     };
-    read_name_pixel_number(a, x, y, n, low, high)
-}
-
-fn read_name_pixel_number(
-    a: &[u8],
-    x: &[u8],
-    y: &[u8],
-    n: &[u8],
-    low: u32,
-    high: u32,
-) -> Result<(Name, Pixel, u32), ParseErr>
-    ensures is { Reads (λ v. Called v.0 ∷ Number v.1.x ∷ Number v.1.y ∷ Number v.2 ∷ []) result
-        (values_of (A_name ∷ coordinate ∷ coordinate ∷ A_number low high ∷ []) (a.now ∷ x.now ∷ y.now ∷ n.now ∷ [])) }
-    ensures fits { IfOk result (λ v. IsName v.0 × IsPixelOf16 v.1 × IsWithin low high v.2) }
-{
     let a = parse_name(a)?;
     let x = parse_coordinate(x)?;
     let y = parse_coordinate(y)?;
@@ -157,20 +113,6 @@ pub fn name_window(words: &[&[u8]]) -> Result<(Name, Window), ParseErr>
     let [a, x, y, w, h] = words else {
         return Err(ParseErr::No(Code::Count));
     };
-    read_name_window(a, x, y, w, h)
-}
-
-fn read_name_window(
-    a: &[u8],
-    x: &[u8],
-    y: &[u8],
-    w: &[u8],
-    h: &[u8],
-) -> Result<(Name, Window), ParseErr>
-    ensures is { Reads (λ v. Called v.0 ∷ Number v.1.x ∷ Number v.1.y ∷ Number v.1.w ∷ Number v.1.h ∷ []) result
-        (values_of (A_name ∷ coordinate ∷ coordinate ∷ extent ∷ extent ∷ []) (a.now ∷ x.now ∷ y.now ∷ w.now ∷ h.now ∷ [])) }
-    ensures fits { IfOk result (λ v. IsName v.0 × IsWindowOf16 v.1) }
-{
     let a = parse_name(a)?;
     let x = parse_coordinate(x)?;
     let y = parse_coordinate(y)?;
@@ -192,23 +134,6 @@ pub fn name_window_number(
     let [a, x, y, w, h, n] = words else {
         return Err(ParseErr::No(Code::Count));
     };
-    read_name_window_number(a, x, y, w, h, n, low, high)
-}
-
-fn read_name_window_number(
-    a: &[u8],
-    x: &[u8],
-    y: &[u8],
-    w: &[u8],
-    h: &[u8],
-    n: &[u8],
-    low: u32,
-    high: u32,
-) -> Result<(Name, Window, u32), ParseErr>
-    ensures is { Reads (λ v. Called v.0 ∷ Number v.1.x ∷ Number v.1.y ∷ Number v.1.w ∷ Number v.1.h ∷ Number v.2 ∷ []) result
-        (values_of (A_name ∷ coordinate ∷ coordinate ∷ extent ∷ extent ∷ A_number low high ∷ []) (a.now ∷ x.now ∷ y.now ∷ w.now ∷ h.now ∷ n.now ∷ [])) }
-    ensures fits { IfOk result (λ v. IsName v.0 × IsWindowOf16 v.1 × IsWithin low high v.2) }
-{
     let a = parse_name(a)?;
     let x = parse_coordinate(x)?;
     let y = parse_coordinate(y)?;
@@ -227,21 +152,6 @@ pub fn name_window_name(words: &[&[u8]]) -> Result<(Name, Window, Name), ParseEr
     let [a, x, y, w, h, c] = words else {
         return Err(ParseErr::No(Code::Count));
     };
-    read_name_window_name(a, x, y, w, h, c)
-}
-
-fn read_name_window_name(
-    a: &[u8],
-    x: &[u8],
-    y: &[u8],
-    w: &[u8],
-    h: &[u8],
-    c: &[u8],
-) -> Result<(Name, Window, Name), ParseErr>
-    ensures is { Reads (λ v. Called v.0 ∷ Number v.1.x ∷ Number v.1.y ∷ Number v.1.w ∷ Number v.1.h ∷ Called v.2 ∷ []) result
-        (values_of (A_name ∷ coordinate ∷ coordinate ∷ extent ∷ extent ∷ A_name ∷ []) (a.now ∷ x.now ∷ y.now ∷ w.now ∷ h.now ∷ c.now ∷ [])) }
-    ensures fits { IfOk result (λ v. IsName v.0 × IsWindowOf16 v.1 × IsName v.2) }
-{
     let a = parse_name(a)?;
     let x = parse_coordinate(x)?;
     let y = parse_coordinate(y)?;
@@ -260,19 +170,6 @@ pub fn name_shift_name(words: &[&[u8]]) -> Result<(Name, i32, i32, Name), ParseE
     let [a, x, y, c] = words else {
         return Err(ParseErr::No(Code::Count));
     };
-    read_name_shift_name(a, x, y, c)
-}
-
-fn read_name_shift_name(
-    a: &[u8],
-    x: &[u8],
-    y: &[u8],
-    c: &[u8],
-) -> Result<(Name, i32, i32, Name), ParseErr>
-    ensures is { Reads (λ v. Called v.0 ∷ Signed v.1 ∷ Signed v.2 ∷ Called v.3 ∷ []) result
-        (values_of (A_name ∷ A_signed ∷ A_signed ∷ A_name ∷ []) (a.now ∷ x.now ∷ y.now ∷ c.now ∷ [])) }
-    ensures fits { IfOk result (λ v. IsName v.0 × IsShift v.1 × IsShift v.2 × IsName v.3) }
-{
     let a = parse_name(a)?;
     let x = parse_signed(x)?;
     let y = parse_signed(y)?;
@@ -288,13 +185,6 @@ pub fn name_radius_name(words: &[&[u8]]) -> Result<(Name, u16, Name), ParseErr>
     let [a, r, c] = words else {
         return Err(ParseErr::No(Code::Count));
     };
-    read_name_radius_name(a, r, c)
-}
-
-fn read_name_radius_name(a: &[u8], r: &[u8], c: &[u8]) -> Result<(Name, u16, Name), ParseErr>
-    ensures is { Reads (λ v. Called v.0 ∷ Number v.1 ∷ Called v.2 ∷ []) result (values_of (A_name ∷ coordinate ∷ A_name ∷ []) (a.now ∷ r.now ∷ c.now ∷ [])) }
-    ensures fits { IfOk result (λ v. IsName v.0 × (v.1 ≤ 65535) × IsName v.2) }
-{
     let a = parse_name(a)?;
     let r = parse_coordinate(r)?;
     let c = parse_name(c)?;
@@ -310,20 +200,6 @@ pub fn name_number_rings(words: &[&[u8]], low: u32, high: u32) -> Result<(Name, 
     let [a, n, k] = words else {
         return Err(ParseErr::No(Code::Count));
     };
-    read_name_number_rings(a, n, k, low, high)
-}
-
-fn read_name_number_rings(
-    a: &[u8],
-    n: &[u8],
-    k: &[u8],
-    low: u32,
-    high: u32,
-) -> Result<(Name, u32, u32), ParseErr>
-    ensures is { Reads (λ v. Called v.0 ∷ Number v.1 ∷ Number v.2 ∷ []) result
-        (values_of (A_name ∷ A_number low high ∷ A_number 1 1000 ∷ []) (a.now ∷ n.now ∷ k.now ∷ [])) }
-    ensures fits { IfOk result (λ v. IsName v.0 × IsWithin low high v.1) }
-{
     let a = parse_name(a)?;
     let n = parse_number(low, high, n)?;
     let k = parse_number(1, 1000, k)?;
@@ -339,21 +215,6 @@ pub fn name_id_segment(words: &[&[u8]]) -> Result<(Name, u32, Seg), ParseErr>
     let [a, id, x1, y1, x2, y2] = words else {
         return Err(ParseErr::No(Code::Count));
     };
-    read_name_id_segment(a, id, x1, y1, x2, y2)
-}
-
-fn read_name_id_segment(
-    a: &[u8],
-    id: &[u8],
-    x1: &[u8],
-    y1: &[u8],
-    x2: &[u8],
-    y2: &[u8],
-) -> Result<(Name, u32, Seg), ParseErr>
-    ensures is { Reads (λ v. Called v.0 ∷ Number v.1 ∷ Number v.2.x1 ∷ Number v.2.y1 ∷ Number v.2.x2 ∷ Number v.2.y2 ∷ []) result
-        (values_of (A_name ∷ label ∷ coordinate ∷ coordinate ∷ coordinate ∷ coordinate ∷ []) (a.now ∷ id.now ∷ x1.now ∷ y1.now ∷ x2.now ∷ y2.now ∷ [])) }
-    ensures fits { IfOk result (λ v. IsName v.0 × (v.1 < 2 ^ 32) × IsSegOf16 v.2) }
-{
     let a = parse_name(a)?;
     let id = parse_number(0, u32::MAX, id)?;
     let x1 = parse_coordinate(x1)?;

@@ -183,7 +183,10 @@ impl Word {
         ensures found { result ≡ find (λ w. bytes_eq (spelling w) bytes.now) all_words }
         ensures spelled { IfSome result (λ w. bytes.now ≡ spelling w) }
     {
-        look_up(bytes)
+        match bytes {
+            [first, ..] => look_among(begun_by(*first), bytes),
+            [] => None,
+        }
     }
 }
 
@@ -259,14 +262,4 @@ fn look_among(words: &[Word], bytes: &[u8]) -> Option<Word>
     ensures { result ≡ find (λ w. bytes_eq (spelling w) bytes.now) words.now }
 {
     words.iter().copied().find(|w| w.spelling() == bytes)
-}
-
-/// The word that the bytes spell.
-fn look_up(bytes: &[u8]) -> Option<Word>
-    ensures { result ≡ find (λ w. bytes_eq (spelling w) bytes.now) all_words }
-{
-    match bytes {
-        [first, ..] => look_among(begun_by(*first), bytes),
-        [] => None,
-    }
 }

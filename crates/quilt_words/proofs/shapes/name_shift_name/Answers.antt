@@ -1,7 +1,18 @@
-use Rattle.std.proofs.Common.{[]}
-use Rattle.quilt_words.proofs.Slices.{map_four}
+use Rattle.std.proofs.Common.{rules}
+use Rattle.quilt_words.proofs.Slices.{four_words}
 use Rattle.quilt_words.proofs.shapes.name_shift_name.Goals as goal
 
+pub returns-in_err-a-clause-is : goal.returns-in_err-a-clause-is
+returns-in_err-a-clause-is c = rw (four_words c.args.words.now c.in-len4.len_at_least c.in-len4.len_below) (search rules)
+
+pub returns-in_err-x-clause-is : goal.returns-in_err-x-clause-is
+returns-in_err-x-clause-is c = rw (four_words c.args.words.now c.in-len4.len_at_least c.in-len4.len_below) (search rules)
+
+pub returns-in_err-y-clause-is : goal.returns-in_err-y-clause-is
+returns-in_err-y-clause-is c = rw (four_words c.args.words.now c.in-len4.len_at_least c.in-len4.len_below) (search rules)
+
+pub returns-in_err-c-clause-is : goal.returns-in_err-c-clause-is
+returns-in_err-c-clause-is c = rw (four_words c.args.words.now c.in-len4.len_at_least c.in-len4.len_below) (search rules)
+
 pub returns-clause-is : goal.returns-clause-is
-returns-clause-is c = rw (map_four (λ w. w.now) c.args.words.now (record { ref_ptr = (0, 0); now = [] }) c.in-len4.len_at_least c.in-len4.len_below)
-    c.read_name_shift_name.ensures.is
+returns-clause-is c = rw (four_words c.args.words.now c.in-len4.len_at_least c.in-len4.len_below) (search rules)

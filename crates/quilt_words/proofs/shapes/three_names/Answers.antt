@@ -1,7 +1,15 @@
-use Rattle.std.proofs.Common.{[]}
-use Rattle.quilt_words.proofs.Slices.{map_three}
+use Rattle.std.proofs.Common.{rules}
+use Rattle.quilt_words.proofs.Slices.{three_words}
 use Rattle.quilt_words.proofs.shapes.three_names.Goals as goal
 
+pub returns-in_err-a-clause-is : goal.returns-in_err-a-clause-is
+returns-in_err-a-clause-is c = rw (three_words c.args.words.now c.in-len3.len_at_least c.in-len3.len_below) (search rules)
+
+pub returns-in_err-b-clause-is : goal.returns-in_err-b-clause-is
+returns-in_err-b-clause-is c = rw (three_words c.args.words.now c.in-len3.len_at_least c.in-len3.len_below) (search rules)
+
+pub returns-in_err-c-clause-is : goal.returns-in_err-c-clause-is
+returns-in_err-c-clause-is c = rw (three_words c.args.words.now c.in-len3.len_at_least c.in-len3.len_below) (search rules)
+
 pub returns-clause-is : goal.returns-clause-is
-returns-clause-is c = rw (map_three (λ w. w.now) c.args.words.now (record { ref_ptr = (0, 0); now = [] }) c.in-len3.len_at_least c.in-len3.len_below)
-    c.read_three_names.ensures.is
+returns-clause-is c = rw (three_words c.args.words.now c.in-len3.len_at_least c.in-len3.len_below) (search rules)
