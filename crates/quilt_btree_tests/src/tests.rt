@@ -50,8 +50,9 @@ fn any_two_of_145_records_are_removed(rt: HostRuntime) -> Result<(), Fail> {
             trial.insert_all(&rt, rt.alloc(), &all, 1)?;
             trial.remove(&rt, first)?;
             trial.remove(&rt, second)?;
+            assert_eq!(rt; trial.grown.tree.height, 1);
             assert_eq!(rt; trial.grown.tree.records, 143);
-            assert!(rt; trial.grown.free_pages() >= 12);
+            assert_eq!(rt; trial.grown.free_pages(), 14);
         }
     }
     Ok(())

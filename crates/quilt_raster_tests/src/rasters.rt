@@ -92,6 +92,12 @@ fn worked_rasters(rt: HostRuntime) -> Result<(), Fail> {
 
     let four = leaves_of(rt.alloc(), &[0, 0, 0, 1, 0, 1, 0, 0], 1)?;
     assert_eq!(rt; four.len(), 4);
+    let whole = Block {
+        x: 0,
+        y: 0,
+        side: 2,
+    };
+    assert_eq!(rt; four.uniform_in(whole), None);
     assert_eq!(rt; four.leaf(0).colour, Colour(0));
     assert_eq!(rt; four.leaf(1).colour, Colour(1));
     assert_eq!(rt; four.leaf(2).colour, Colour(1));

@@ -61,6 +61,15 @@ pub fn file_with(rt: &impl Abort, alloc: Global, header: Header, pages: &[&[u8]]
     file
 }
 
+/// The same file, where the header says this version.
+pub fn with_version(rt: &impl Abort, mut file: Image, version: u8) -> Image {
+    assert!(rt; file.pages() > 3);
+    let mut header = *file.page(3);
+    header[7] = version;
+    file.set_page(3, &header);
+    file
+}
+
 /// A record: the last bytes of its key's layer, part, code, depth and item, and the front of its value.
 pub type Row<'a> = ([u8; 5], &'a [u8]);
 

@@ -1,5 +1,6 @@
 //! Runs over a file in memory that have to end as they should.
 use quilt_desk::Desk;
+use quilt_map::settled_replies;
 use quilt_scripts::{Run, Turns, file_of};
 use quilt_top::End;
 use quilt_world::{Event, Image};
@@ -43,6 +44,11 @@ pub fn is_write(event: &Event) -> bool {
 /// The exit status of the end.
 pub fn status_of(end: End) -> u8 {
     end.status()
+}
+
+/// How many replies to the text stand, whatever follows it.
+pub fn settled(rt: &impl Abort, alloc: Global, level: u8, text: &[u8]) -> usize {
+    settled_replies(alloc, level, text).expect(rt, "memory")
 }
 
 /// Whether the text begins with these bytes.

@@ -1,4 +1,4 @@
-//! Tries that rasters are built by parts that run at the same time, alone and in a session.
+//! Tries that rasters are built by parts that run at the same time, alone and in a session, and what a session tells of itself.
 #![tactic(auto)]
 
 #[cfg(test)]

@@ -2,6 +2,7 @@ use crate::meeting::Meeting;
 use crate::opening::{begun, replied};
 use quilt_desk::Calm;
 use quilt_map::{Reply, Session};
+use quilt_types::Pixel;
 use std::alloc::Global;
 use std::process::Abort;
 use std::thread::Threads;
@@ -66,4 +67,40 @@ fn a_session_hands_its_gate_to_a_raster(rt: HostRuntime) {
         b"at a 0 7\n",
         b"1\nok\n",
     );
+}
+
+/// Commands with the lines of their replies, and how many records the work has then removed and added since the last publish: one for a
+/// layer, one for each block, and none where a pixel has its colour already.
+static COUNTED: [(&[u8], &[u8], u64); 6] = [
+    (b"region a 0\n", b"ok\n", 2),
+    (b"set a 0 0 0\n", b"ok\n", 2),
+    (b"set a 5 2 7\n", b"ok\n", 13),
+    (b"publish\n", b"edition 1\nok\n", 0),
+    (b"set a 0 0 0\n", b"ok\n", 0),
+    (b"at a 5 2\n", b"7\nok\n", 0),
+];
+
+/// Compares the number of records that were removed and added.
+fn counts(rt: &impl Abort, session: &Session<Calm>, changes: u64) {
+    assert_eq!(rt; session.changes(), changes);
+}
+
+/// Compares the layer and the pixel of the last command, which has to be an `at`.
+fn was_asked(rt: &impl Abort, session: &Session<Calm>, layer: &str, pixel: Pixel) {
+    match session.warm() {
+        Some((name, at)) => assert!(rt; name.text() == layer && at == pixel),
+        None => panic!(rt; "the last command was another"),
+    }
+}
+
+#[test]
+fn a_session_counts_changes_and_knows_the_last_pixel(rt: HostRuntime) {
+    let alloc = rt.alloc();
+    let mut session = begun(alloc).expect(&rt, "a session");
+    let gate = Meeting::new();
+    for (text, lines, changes) in &COUNTED {
+        says(&rt, alloc, &mut session, &gate, text, lines);
+        counts(&rt, &session, *changes);
+    }
+    was_asked(&rt, &session, "a", Pixel { x: 5, y: 2 });
 }

@@ -1,4 +1,4 @@
-use crate::files::{Header, Row, file_with, labelled, lay, leaf_of};
+use crate::files::{Header, Row, file_with, labelled, lay, leaf_of, with_version};
 use crate::runs::{Ran, answered, done, ends, file_of_level_3, puts, status_of};
 use quilt_scripts::{Run, file_after};
 use quilt_top::End;
@@ -85,6 +85,19 @@ fn opens_no_later_format(rt: HostRuntime) {
     }
 }
 
+/// What the program wrote in format 2 is no file of format 1 where a colour has more than 8 bits.
+#[test]
+fn opens_no_colour_of_16_bits_in_format_1(rt: HostRuntime) {
+    let alloc = rt.alloc();
+    let file = file_of_level_3(&rt, alloc);
+    let run = Run::text(b"upgrade\nregion a 0\nset a 5 2 258\npublish\nat a 5 2\n");
+    let replies = b"edition 1\nok\nok\nok\nedition 2\nok\n258\nok\n";
+    let file = answered(&rt, alloc, run, file, replies, 0);
+    let file = answered(&rt, alloc, Run::text(b"at a 5 2\n"), file, b"258\nok\n", 0);
+    let file = with_version(&rt, file, 1);
+    opens_nothing(&rt, alloc, "m", Some(file), End::Damaged { page: 0 });
+}
+
 #[test]
 fn finds_no_other_file(rt: HostRuntime) {
     let alloc = rt.alloc();
@@ -109,7 +122,9 @@ fn opens_no_foreign_file(rt: HostRuntime) {
     lay(&rt, &mut file, 0, b"QUILT MAP FILE");
     opens_nothing(&rt, alloc, "m", Some(file), End::NotMap);
     assert_eq!(rt; status_of(End::NotMap), 5);
-    assert_eq!(rt; status_of(End::Damaged { page: 0 }), 9);
+    for page in 0..3 {
+        assert_eq!(rt; status_of(End::Damaged { page }), 9);
+    }
 }
 
 /// The name of a region layer `a`, and that of a line layer `l` of threshold 4.

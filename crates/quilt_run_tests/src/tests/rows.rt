@@ -1,10 +1,10 @@
 //! Worked commands, and texts at the limits of a map.
 use super::scripts::SCRIPTS;
 use crate::files::{Header, file_with};
-use crate::runs::{Ran, answered, done, file_of_level_3, is_write, log_of, played, status_of};
+use crate::runs::{Ran, answered, done, ends, file_of_level_3, is_write, log_of, played, settled};
 use quilt_desk::Desk;
-use quilt_map::settled_replies;
-use quilt_scripts::{Run, Turns, plays};
+use quilt_scripts::{Run, Turns, file_of, plays};
+use quilt_top::End;
 use quilt_world::Event;
 use std::alloc::{AllocError, Global};
 use std::process::Abort;
@@ -174,8 +174,9 @@ fn the_last_line_needs_no_newline(rt: HostRuntime) {
     let file = file_of_level_3(&rt, alloc);
     let run = Run::text(b"edition");
     let file = answered(&rt, alloc, run, file, b"edition 0\nok\n", 0);
-    let file = answered(&rt, alloc, Run::text(b""), file, b"", 0);
-    let run = Run::text(b"region a 0\nraster a\n0001020300010203");
+    answered(&rt, alloc, Run::text(b""), file, b"", 0);
+    let file = file_of(&rt, alloc, "16", "1").expect(&rt, "a file");
+    let run = Run::text(b"region a 0\nraster a\n0001");
     answered(&rt, alloc, run, file, b"ok\nno 14 rows\n", 1);
 }
 
@@ -223,11 +224,11 @@ fn writes_behind(desk: &Desk, bytes: usize) -> u32 {
     writes
 }
 
-/// The run has refused nothing. Behind the reply of the first publish it wrote up to 8 pages, and at least one.
+/// The run has published twice. Behind the reply of the first publish it wrote up to 8 pages, and at least one.
 fn writes_few_pages(rt: &impl Abort, ran: &Ran) {
-    let (end, desk) = ran;
-    assert_eq!(rt; status_of(*end), 0);
-    let writes = writes_behind(desk, b"ok\nedition 1\nok\n".len());
+    let output = b"ok\nedition 1\nok\nok\nok\nedition 2\nok\n";
+    ends(rt, ran, End::Done, output);
+    let writes = writes_behind(&ran.1, b"ok\nedition 1\nok\n".len());
     assert!(rt; writes > 0 && writes <= 8);
 }
 
@@ -241,10 +242,6 @@ fn a_publish_of_nothing_writes_few_pages(rt: HostRuntime) {
 }
 
 #[test]
-fn a_longer_text_settles_the_replies_of_its_front(rt: HostRuntime) -> Result<(), AllocError> {
-    assert_eq!(rt;
-        settled_replies(rt.alloc(), 3, b"edition\n# none\nfrob")?,
-        1
-    );
-    Ok(())
+fn a_longer_text_settles_the_replies_of_its_front(rt: HostRuntime) {
+    assert_eq!(rt; settled(&rt, rt.alloc(), 3, b"edition\n# none\nfrob"), 1);
 }

@@ -1,5 +1,7 @@
 //! One script over all kinds of layers: stopped at each event, with each call failing in turn, and cut after each byte.
-use crate::runs::{Ran, begins_with, done, ends, file_of_level_3, log_of, put_by, puts_front};
+use crate::runs::{
+    Ran, begins_with, done, ends, file_of_level_3, log_of, put_by, puts, puts_front, settled,
+};
 use quilt_desk::Desk;
 use quilt_scripts::{Run, choice, edition_of, put_within, stopped};
 use quilt_top::End;
@@ -82,12 +84,13 @@ fn a_stop_at_each_event(rt: HostRuntime) {
     stops_at_each_event(&rt, rt.alloc(), &ran);
 }
 
-/// Whether a run of the script went to its end. If not, it has ended in a device fault, what was put is a front of the replies, and a
-/// stop at the end leaves a whole edition.
+/// Whether a run of the script went to its end, with all replies put. If not, it has ended in a device fault, what was put is a front of
+/// the replies, and a stop at the end leaves a whole edition.
 fn is_done<R: Threads + Sync + Abort>(rt: &R, alloc: Global, ran: &Ran) -> bool {
     let (end, desk) = ran;
     puts_front(rt, desk, REPLIES);
     if *end == End::Done {
+        puts(rt, desk, REPLIES);
         return true;
     }
     assert_eq!(rt; *end, End::Device);
@@ -134,6 +137,8 @@ fn the_script_is_cut_after_each_byte(rt: HostRuntime) {
         let front = SCRIPT.get(..length).unwrap_or(SCRIPT);
         let file = file_of_level_3(&rt, rt.alloc());
         let (_, desk) = done(&rt, rt.alloc(), Run::text(front), Some(file));
-        puts_more(&rt, &desk, replies_to(whole_lines(front)));
+        let replies = settled(&rt, rt.alloc(), 3, front);
+        assert_eq!(rt; replies, whole_lines(front));
+        puts_more(&rt, &desk, replies_to(replies));
     }
 }

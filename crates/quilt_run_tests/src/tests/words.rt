@@ -1,6 +1,6 @@
 ghost use Rattle.std.specs.Prelude.{◌≤◌};
 
-use crate::runs::{done, put_by};
+use crate::runs::{done, put_by, status_of};
 use quilt_desk::Desk;
 use quilt_scripts::Run;
 use quilt_top::End;
@@ -225,6 +225,7 @@ fn reads_the_option_wherever_it_stands(rt: HostRuntime) {
 #[test]
 fn refuses_other_words(rt: HostRuntime) {
     let alloc = rt.alloc();
+    assert_eq!(rt; status_of(End::Usage), 2);
     let others: [&[&str]; 14] = [
         &[],
         &["run"],
