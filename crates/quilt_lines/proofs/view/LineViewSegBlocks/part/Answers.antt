@@ -35,6 +35,3 @@ returns-clause-part g c l h =
 
 pub returns-in-Err-segments-clause-left : goal.returns-in-Err-segments-clause-left
 returns-in-Err-segments-clause-left g c = only_read_then _ _ _ _ _ g.met.S.PageStore.goes_on _ _ _ c.in-Ok-Some.ensures.left c.in-Err-segments.ensures.left
-
-pub returns-in-Ok-clause-left : goal.returns-in-Ok-clause-left
-returns-in-Ok-clause-left g c = only_read_then _ _ _ _ _ g.met.S.PageStore.goes_on _ _ _ c.in-Ok-Some.ensures.left c.in-Ok.ensures.left
