@@ -1,6 +1,7 @@
 use Rattle.std.proofs.Common.{◌≡◌, ◌≤◌, Some, length, ◌∙◌}
 use Rattle.quilt_node.specs.Pages.{leaf_of}
 use Rattle.quilt_node.specs.Nodes.{records_of}
+use Rattle.quilt_store.proofs.Reading.{only_read_then}
 use Rattle.quilt_btree.proofs.subtrees.Dividing.{leaf_cut}
 use Rattle.quilt_btree.proofs.ways.Forks.{read_ok}
 use Rattle.quilt_btree.proofs.ways.Steps.{step_led, step_cut, step_sound, step_holds, step_above, here_led, here_least, here_leaf}
@@ -93,3 +94,6 @@ returns-in-Some-clause-bad g t c = names_below c.leaf_at.result (g.S.PageStore.t
     (read_ok (g.S.PageStore.told c.args.store.now) (g.S.PageStore.told c.read_into.new.store) c.args.page c.args.height c.pages.result
     (g.S.PageStore.size c.args.store.now) c.read_into.new.bytes c.requires.height c.if-height-eq1.false c.in-Ok.ensures.left.told
     (g.met.S.PageStore.as_many c.args.store.now) (c.pages.ensures ∙ c.in-Ok.ensures.left.size) c.in-Ok.ensures.bytes) c.in-Some.ensures.stands c.leaf_at.ensures.bad
+
+pub returns-in-Some-clause-left : goal.returns-in-Some-clause-left
+returns-in-Some-clause-left g t c = only_read_then _ _ _ _ _ g.met.S.PageStore.goes_on _ _ _ c.in-Ok.ensures.left c.leaf_at.ensures.left

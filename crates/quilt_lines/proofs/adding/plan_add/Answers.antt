@@ -1,5 +1,6 @@
 use Rattle.std.proofs.Common.{◌≡◌, true, false, refl, sym, ◌∙◌}
 use Rattle.std.specs.FinMap as finmap
+use Rattle.quilt_store.proofs.Reading.{only_read_then}
 use Rattle.quilt_lines.proofs.Lookups.{lines_along}
 use Rattle.quilt_lines.proofs.Options.{some_there, none_there}
 use Rattle.quilt_lines.proofs.adding.plan_add.Goals as goal
@@ -29,3 +30,9 @@ pub returns-in-Ok-clause-none : goal.returns-in-Ok-clause-none
 returns-in-Ok-clause-none g c segs cover h =
     let none = sym (c.in-Ok-None.ensures.segment c.args.t segs cover h) ∙ c.in-Ok-None.field-0-is in
     (λ e. absurd (let no : true ≡ false = e in cc), λ some. absurd (none_there (finmap.get segs c.args.id) none some))
+
+pub returns-in-Err-edits-clause-left : goal.returns-in-Err-edits-clause-left
+returns-in-Err-edits-clause-left g c = only_read_then _ _ _ _ _ g.met.S.PageStore.goes_on _ _ _ c.in-Ok-None.ensures.left c.in-Err-edits.ensures.left
+
+pub returns-in-Ok-clause-left : goal.returns-in-Ok-clause-left
+returns-in-Ok-clause-left g c = only_read_then _ _ _ _ _ g.met.S.PageStore.goes_on _ _ _ c.in-Ok-None.ensures.left c.in-Ok.ensures.left

@@ -1,6 +1,7 @@
 use Rattle.std.proofs.Common.{refl, sym, ◌∙◌, subst, true≢false}
 use Rattle.std.specs.Prelude.{IsNone}
 use Rattle.std.specs.FinMap as finmap
+use Rattle.quilt_store.proofs.Reading.{only_read_then}
 use Rattle.quilt_types.specs.declared.plane.Seg.{Seg}
 use Rattle.quilt_types.specs.Quadtrees.{after_remove}
 use Rattle.quilt_lines.specs.Plans.{IsLinePlan}
@@ -40,3 +41,9 @@ pub returns-in-Ok-clause-fewer : goal.returns-in-Ok-clause-fewer
 returns-in-Ok-clause-fewer g c segs cover h =
     (c.in-Ok.ensures.plan segs cover (lines_along _ _ c.args.tree.now c.args.layer c.args.level c.args.t segs cover c.in-Ok-Some.ensures.left.told h)
     (sym (c.in-Ok-Some.ensures.segment c.args.t segs cover h) ∙ c.in-Ok-Some.field-0-is)).fewer
+
+pub returns-in-Err-plan-clause-left : goal.returns-in-Err-plan-clause-left
+returns-in-Err-plan-clause-left g c = only_read_then _ _ _ _ _ g.met.S.PageStore.goes_on _ _ _ c.in-Ok-Some.ensures.left c.in-Err-plan.ensures.left
+
+pub returns-in-Ok-clause-left : goal.returns-in-Ok-clause-left
+returns-in-Ok-clause-left g c = only_read_then _ _ _ _ _ g.met.S.PageStore.goes_on _ _ _ c.in-Ok-Some.ensures.left c.in-Ok.ensures.left

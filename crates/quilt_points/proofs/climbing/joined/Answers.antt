@@ -85,3 +85,9 @@ returns-clause-all g c points p label h some way =
     (way_all c.args.layer.level c.args.layer.bucket points p label some c.args.leaf.now.block c.args.leaf.now.points.items way c.requires.inner
     c.quarters-q-items.result (c.quarters-q-items.ensures.value ∙ ap quarters_of c.requires.parent) c.loop-q.q-index c.loop-q-test.false c.loop-q.all.items
     (c.loop-q.invariant.all points p label h some way))
+
+pub returns-in-Err-clause-left : goal.returns-in-Err-clause-left
+returns-in-Err-clause-left g c = only_read_then _ _ _ _ _ g.met.S.PageStore.goes_on _ _ _ c.loop-q.invariant.left c.in-Err.ensures.left
+
+pub returns-in-Ok-false-clause-left : goal.returns-in-Ok-false-clause-left
+returns-in-Ok-false-clause-left g c = only_read_then _ _ _ _ _ g.met.S.PageStore.goes_on _ _ _ c.loop-q.invariant.left c.in-Ok-false.ensures.left

@@ -35,3 +35,9 @@ returns-in-Ok-None-clause-last g c points p label h some way =
     c.in-Ok-None.ensures.last c.in-Ok-None.field-0-is points p label
     (has_along _ _ c.args.tree.now c.args.layer.number c.args.layer.level c.args.layer.bucket points c.climb.invariant.left.told h) some
     (c.climb.invariant.way points p label h some way)
+
+pub returns-in-Err-clause-left : goal.returns-in-Err-clause-left
+returns-in-Err-clause-left g c = only_read_then _ _ _ _ _ g.met.S.PageStore.goes_on _ _ _ c.climb.invariant.left c.in-Err.ensures.left
+
+pub returns-in-Ok-None-clause-left : goal.returns-in-Ok-None-clause-left
+returns-in-Ok-None-clause-left g c = only_read_then _ _ _ _ _ g.met.S.PageStore.goes_on _ _ _ c.climb.invariant.left c.in-Ok-None.ensures.left

@@ -91,3 +91,6 @@ returns-clause-reads g c points h =
     let s = c.loop-code.invariant.seen points h in
     let few = few_seen c.args.level c.args.bucket points c.requires.level.1 c.loop-code.code c.loop-code.counts s.0 in
     tells_less (6 * length (s.0).blocks) (6 * length (point_blocks c.args.level c.args.bucket points)) _ _ (omega arith) s.1
+
+pub returns-in-Err-clause-left : goal.returns-in-Err-clause-left
+returns-in-Err-clause-left g c = only_read_then _ _ _ _ _ g.met.S.PageStore.goes_on _ _ _ c.loop-code.invariant.left c.in-Err.ensures.left

@@ -1,3 +1,4 @@
+use Rattle.quilt_store.proofs.Reading.{only_read_then}
 use Rattle.quilt_points.proofs.Finds.{has_along, match_none, match_some}
 use Rattle.quilt_points.proofs.listing.leaf_around.Goals as goal
 
@@ -17,3 +18,12 @@ returns-in-Ok-Some-clause-read g c points h =
     match_some c.in-Ok-Some.field-0 _ _ c.in-Ok-Some.points c.in-Ok-Some.field-0-is
     (c.in-Ok-Some.ensures.read points
     (has_along _ _ c.args.tree.now c.args.layer.number c.args.layer.level c.args.layer.bucket points c.in-Ok.ensures.left.told h))
+
+pub returns-in-Err-points_of-clause-left : goal.returns-in-Err-points_of-clause-left
+returns-in-Err-points_of-clause-left g c = only_read_then _ _ _ _ _ g.met.S.PageStore.goes_on _ _ _ c.in-Ok.ensures.left c.in-Err-points_of.ensures.left
+
+pub returns-in-Ok-None-clause-left : goal.returns-in-Ok-None-clause-left
+returns-in-Ok-None-clause-left g c = only_read_then _ _ _ _ _ g.met.S.PageStore.goes_on _ _ _ c.in-Ok.ensures.left c.in-Ok-None.ensures.left
+
+pub returns-in-Ok-Some-clause-left : goal.returns-in-Ok-Some-clause-left
+returns-in-Ok-Some-clause-left g c = only_read_then _ _ _ _ _ g.met.S.PageStore.goes_on _ _ _ c.in-Ok.ensures.left c.in-Ok-Some.ensures.left

@@ -1,5 +1,6 @@
 use Rattle.std.proofs.Common.{◌∙◌}
 use Rattle.std.proofs.lemmas.Result.{IfErr-weaker}
+use Rattle.quilt_store.proofs.Reading.{only_read_then}
 use Rattle.quilt_points.proofs.Finds.{one_found_at, has_along}
 use Rattle.quilt_points.proofs.reading.find.Goals as goal
 
@@ -13,3 +14,6 @@ returns-else-bucket-eq1-clause-sound g c =
     IfErr-weaker c.label_in.result _ _
     (λ e f points h. f points (has_along _ _ c.args.tree.now c.args.layer c.args.level c.args.bucket points c.in-Ok.ensures.left.told h)
     (c.in-Ok.ensures.read points h).block c.in-Ok.ensures.holds) c.label_in.ensures.sound
+
+pub returns-else-bucket-eq1-clause-left : goal.returns-else-bucket-eq1-clause-left
+returns-else-bucket-eq1-clause-left g c = only_read_then _ _ _ _ _ g.met.S.PageStore.goes_on _ _ _ c.in-Ok.ensures.left c.label_in.ensures.left

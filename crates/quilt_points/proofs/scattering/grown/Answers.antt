@@ -80,3 +80,9 @@ returns-clause-grown g c old h =
     (subst (λ (l : List Point). IsGrown c.args.layer.level c.args.layer.number c.args.layer.bucket old (take c.loop-done.done c.args.news.now)
     l c.loop-done.growth.without.items c.loop-done.growth.with.items) (drop_all c.loop-done.done c.args.news.now (omega arith))
     (c.loop-done.invariant.grown old h))
+
+pub returns-in-Err-clause-left : goal.returns-in-Err-clause-left
+returns-in-Err-clause-left g c = only_read_then _ _ _ _ _ g.met.S.PageStore.goes_on _ _ _ c.loop-done.invariant.left c.in-Err.ensures.left
+
+pub returns-in-Ok-None-clause-left : goal.returns-in-Ok-None-clause-left
+returns-in-Ok-None-clause-left g c = only_read_then _ _ _ _ _ g.met.S.PageStore.goes_on _ _ _ c.loop-done.invariant.left c.in-Ok-None.ensures.left

@@ -91,3 +91,6 @@ returns-clause-found g t c points h o =
     found_all points (in_window c.args.w) c.args.layer.level c.args.b c.quarters-q-items.result c.loop-q.q-index c.requires.block c.if-b-le1.false
     c.quarters-q-items.ensures.value c.loop-q-test.false
     c.args.found.now.items c.loop-q.found.items (c.loop-q.invariant.found points h o)
+
+pub returns-in-Err-add_within-clause-left : goal.returns-in-Err-add_within-clause-left
+returns-in-Err-add_within-clause-left g t c = only_read_then _ _ _ _ _ g.met.S.PageStore.goes_on _ _ _ c.loop-q.invariant.left c.in-Err-add_within.ensures.left

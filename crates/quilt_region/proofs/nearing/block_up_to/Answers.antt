@@ -95,3 +95,9 @@ returns-clause-reads g c j d =
     let inv = c.loop-larger.invariant in
     let low = inv.block.low in
     saved_more (24 * j) (24 * j) (24 * inv.block.level) (24 * c.args.level) _ _ (omega arith) (inv.reads j inv.block.level d inv.block.size)
+
+pub returns-in-Err-clause-left : goal.returns-in-Err-clause-left
+returns-in-Err-clause-left g c = only_read_then _ _ _ _ _ g.met.S.PageStore.goes_on _ _ _ c.loop-larger.invariant.left c.in-Err.ensures.left
+
+pub returns-in-Ok-false-clause-left : goal.returns-in-Ok-false-clause-left
+returns-in-Ok-false-clause-left g c = only_read_then _ _ _ _ _ g.met.S.PageStore.goes_on _ _ _ c.loop-larger.invariant.left c.in-Ok-false.ensures.left

@@ -104,3 +104,9 @@ returns-clause-cut_out g c t grid h =
           ap (is_uniform n grid) (sym c.requires.larger) ∙ (uniform_down n grid).down c.args.larger (parent_of c.args.larger) hl
           (IsBlock-parent_of n c.args.larger hl lt) (Within-parent_of n c.args.larger hl lt) u);
     }
+
+pub returns-in-Err-clause-left : goal.returns-in-Err-clause-left
+returns-in-Err-clause-left g c = only_read_then _ _ _ _ _ g.met.S.PageStore.goes_on _ _ _ c.loop-q.invariant.left c.in-Err.ensures.left
+
+pub returns-in-Ok-false-clause-left : goal.returns-in-Ok-false-clause-left
+returns-in-Ok-false-clause-left g c = only_read_then _ _ _ _ _ g.met.S.PageStore.goes_on _ _ _ c.loop-q.invariant.left c.in-Ok-false.ensures.left

@@ -1,5 +1,6 @@
 use Rattle.std.proofs.Common.{ℕ, ◌+◌, ◌*◌, ◌≤◌, length, sym, ap, subst, arith}
 use Rattle.std.specs.Option.{is_some}
+use Rattle.quilt_store.proofs.Reading.{only_read_then}
 use Rattle.quilt_types.specs.declared.plane.Block.{Block}
 use Rattle.quilt_types.specs.Plane.{IsBlock}
 use Rattle.quilt_types.specs.Layers.{Grid}
@@ -75,3 +76,6 @@ returns-in-Ok-None-clause-pixel g c wide high =
     saved_less (24 * tried.0) (24 * tried.0 + most) (18 + 24 * n) _ _ (omega arith)
     (then_saved (24 * tried.0) (24 * tried.0) most (24 * tried.0 + most) _ _ _ (omega arith) tried.2 rest))
     c.plan_together.ensures.reads
+
+pub returns-in-Ok-None-clause-left : goal.returns-in-Ok-None-clause-left
+returns-in-Ok-None-clause-left g c = only_read_then _ _ _ _ _ g.met.S.PageStore.goes_on _ _ _ c.in-Ok-None.ensures.left c.plan_together.ensures.left

@@ -2,6 +2,7 @@ use Rattle.std.proofs.Common.{◌++◌, List, take, filter, ◌∙◌, ap, arith
 use Rattle.std.specs.List.{list_all}
 use Rattle.quilt_record.specs.declared.record.Record.{Record}
 use Rattle.quilt_record.specs.Records.{key_cmp}
+use Rattle.quilt_store.proofs.Reading.{only_read_then}
 use Rattle.quilt_btree.specs.Lists.{is_from_to}
 use Rattle.quilt_record.proofs.Orders.{lt_to_le}
 use Rattle.quilt_btree.proofs.ranges.Spans.{first_within, above_bound}
@@ -117,3 +118,9 @@ returns-in-Ok-add_rest-clause-within g c =
 
 pub returns-in-Err-clause-bad : goal.returns-in-Err-clause-bad
 returns-in-Err-clause-bad g c = λ ne. c.in-Err.ensures.bad
+
+pub returns-in-Err-add_rest-clause-left : goal.returns-in-Err-add_rest-clause-left
+returns-in-Err-add_rest-clause-left g c = only_read_then _ _ _ _ _ g.met.S.PageStore.goes_on _ _ _ c.in-Ok.ensures.left c.in-Err-add_rest.ensures.left
+
+pub returns-in-Ok-add_rest-clause-left : goal.returns-in-Ok-add_rest-clause-left
+returns-in-Ok-add_rest-clause-left g c = only_read_then _ _ _ _ _ g.met.S.PageStore.goes_on _ _ _ c.in-Ok.ensures.left c.in-Ok-add_rest.ensures.left

@@ -104,3 +104,9 @@ returns-clause-added g t c segs cover h new k e =
     (added_all self.view.level self.view.layer self.t segs self.id self.s (met_in cover self.s j) c.quarters-q-items.result c.loop-q.q-index
     c.args.change.now.gone.items c.loop-q.change.gone.items c.args.change.now.come.items c.loop-q.change.come.items
     (let end = c.loop-q-test.false in omega arith) (c.loop-q.invariant.added segs cover h new j f)))
+
+pub returns-in-Ok-Some-clause-left : goal.returns-in-Ok-Some-clause-left
+returns-in-Ok-Some-clause-left g t c = only_read_then _ _ _ _ _ g.met.S.PageStore.goes_on _ _ _ c.in-Ok-Some.ensures.left c.add_block.ensures.left
+
+pub returns-in-Err-add_in-clause-left : goal.returns-in-Err-add_in-clause-left
+returns-in-Err-add_in-clause-left g t c = only_read_then _ _ _ _ _ g.met.S.PageStore.goes_on _ _ _ c.loop-q.invariant.left c.in-Err-add_in.ensures.left

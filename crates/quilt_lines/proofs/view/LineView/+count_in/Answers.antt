@@ -124,3 +124,6 @@ returns-clause-most g t c j =
     let all = room_all c.loop-q.q-index (4 ^ (c.args.k - 1)) (get_or c.args.counts.now j 0) (get_or c.loop-q.counts j 0) (c.loop-q.invariant.most j)
     c.loop-q.auto.q-index-end in
     omega arith
+
+pub returns-in-Err-count_in-clause-left : goal.returns-in-Err-count_in-clause-left
+returns-in-Err-count_in-clause-left g t c = only_read_then _ _ _ _ _ g.met.S.PageStore.goes_on _ _ _ c.loop-q.invariant.left c.in-Err-count_in.ensures.left

@@ -1,4 +1,5 @@
 use Rattle.std.proofs.Common.{◌≡◌, ℕ, List, Contains, sym, ◌∙◌, subst}
+use Rattle.quilt_store.proofs.Reading.{only_read_then}
 use Rattle.quilt_lines.proofs.Listed.{same_segments, all_there, each_there, one_pixel}
 use Rattle.quilt_lines.proofs.Lookups.{lines_along, match_none, match_some}
 use Rattle.quilt_lines.proofs.view.LineViewSegBlocks.part.Goals as goal
@@ -31,3 +32,6 @@ returns-clause-part g c l h =
           (lines_along _ _ c.args.self.now.tree c.args.self.now.layer c.args.self.now.level h.threshold l.segs l.cover c.in-Ok-Some.ensures.left.told h.has))
           (all_there l.segs c.args.b),
     )
+
+pub returns-in-Err-segments-clause-left : goal.returns-in-Err-segments-clause-left
+returns-in-Err-segments-clause-left g c = only_read_then _ _ _ _ _ g.met.S.PageStore.goes_on _ _ _ c.in-Ok-Some.ensures.left c.in-Err-segments.ensures.left
