@@ -216,7 +216,8 @@ returns-in-Err-insert_under-clause-bad g t c = λ ne.
 
 pub returns-in-None-clause-bad : goal.returns-in-None-clause-bad
 returns-in-None-clause-bad g t c =
-    let same : c.pages-in-None.result ≡ g.S.PageStore.size c.args.store.now = c.pages-in-None.ensures ∙ c.in-Ok-Split.ensures.size ∙ c.in-Ok.ensures.left.size in
+    let same : c.pages-in-None.result ≡ g.S.PageStore.size c.args.store.now = c.pages-in-None.ensures ∙ c.in-Ok-Split.ensures.size ∙
+    c.in-Ok.ensures.left.size in
     inner_fault (g.S.PageStore.told c.args.store.now) (g.S.PageStore.told c.read_way.new.store) c.args.page c.args.height
     c.pages-in-None.result c.inner_at_fault.result c.read_way.new.bytes
     (read_ok (g.S.PageStore.told c.args.store.now) (g.S.PageStore.told c.read_way.new.store) c.args.page c.args.height
@@ -234,3 +235,15 @@ returns-in-Some-clause-bad g t c = zero_named c.put_child.result (g.S.PageStore.
 pub returns-in-Some-clause-later : goal.returns-in-Some-clause-later
 returns-in-Some-clause-later g t c =
     g.met.S.PageStore.goes_on _ _ _ (g.met.S.PageStore.goes_on _ _ _ c.in-Ok.ensures.left.later c.in-Ok-Split.ensures.later) c.put_child.ensures.later
+
+pub returns-in-Err-insert_under-clause-later : goal.returns-in-Err-insert_under-clause-later
+returns-in-Err-insert_under-clause-later g t c = g.met.S.PageStore.goes_on _ _ _ c.in-Ok.ensures.left.later c.in-Err-insert_under.ensures.later
+
+pub returns-in-Ok-There-clause-later : goal.returns-in-Ok-There-clause-later
+returns-in-Ok-There-clause-later g t c = g.met.S.PageStore.goes_on _ _ _ c.in-Ok.ensures.left.later c.in-Ok-There.ensures.later
+
+pub returns-in-Ok-Done-clause-later : goal.returns-in-Ok-Done-clause-later
+returns-in-Ok-Done-clause-later g t c = g.met.S.PageStore.goes_on _ _ _ c.in-Ok.ensures.left.later c.in-Ok-Done.ensures.later
+
+pub returns-in-None-clause-later : goal.returns-in-None-clause-later
+returns-in-None-clause-later g t c = g.met.S.PageStore.goes_on _ _ _ c.in-Ok.ensures.left.later c.in-Ok-Split.ensures.later

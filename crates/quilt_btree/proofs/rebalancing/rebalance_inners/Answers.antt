@@ -15,7 +15,8 @@ pub returns-in_err-rest-clause-sound : goal.returns-in_err-rest-clause-sound
 returns-in_err-rest-clause-sound g c =
     let p = err_from_is_err_and c.from_residual-in_err-rest.result c.from_residual-in_err-rest.ensures.1 in
     rw (p.1, p.2) (λ b rs used m. c.in_err-rest.ensures.sound m.rest
-    (along_told (g.S.PageStore.told c.args.store.now) (g.S.PageStore.told c.read_inner.new.store) c.args.right c.args.height m.rest c.in_ok-first.ensures.left.told
+    (along_told (g.S.PageStore.told c.args.store.now) (g.S.PageStore.told c.read_inner.new.store) c.args.right c.args.height m.rest
+    c.in_ok-first.ensures.left.told
     (right_spells (g.S.PageStore.told c.args.store.now) (g.S.PageStore.free c.args.store.now) c.args.height c.args.left c.args.key.now
     c.args.right b rs used m)))
 
@@ -90,3 +91,25 @@ returns-in-Ok-write_both-clause-rebalanced g c = λ b rs used m.
       tells = c.in-Ok-write_both.ensures.told;
       frees = c.in-Ok-write_both.ensures.free ∙ c.in_ok-rest.ensures.left.free ∙ c.in_ok-first.ensures.left.free;
     }) m
+
+pub returns-in_err-rest-clause-later : goal.returns-in_err-rest-clause-later
+returns-in_err-rest-clause-later g c = g.met.S.PageStore.goes_on _ _ _ c.in_ok-first.ensures.left.later c.in_err-rest.ensures.left.later
+
+pub returns-then-not-inners_ascend-clause-later : goal.returns-then-not-inners_ascend-clause-later
+returns-then-not-inners_ascend-clause-later g c = g.met.S.PageStore.goes_on _ _ _ c.in_ok-first.ensures.left.later c.in_ok-rest.ensures.left.later
+
+pub returns-in-Err-clause-later : goal.returns-in-Err-clause-later
+returns-in-Err-clause-later g c = g.met.S.PageStore.goes_on _ _ _ c.in_ok-first.ensures.left.later
+    (g.met.S.PageStore.goes_on _ _ _ c.in_ok-rest.ensures.left.later c.in-Err.ensures.later)
+
+pub returns-in-Ok-clause-later : goal.returns-in-Ok-clause-later
+returns-in-Ok-clause-later g c = g.met.S.PageStore.goes_on _ _ _ c.in_ok-first.ensures.left.later
+    (g.met.S.PageStore.goes_on _ _ _ c.in_ok-rest.ensures.left.later c.in-Ok.ensures.later)
+
+pub returns-in-Err-write_both-clause-later : goal.returns-in-Err-write_both-clause-later
+returns-in-Err-write_both-clause-later g c = g.met.S.PageStore.goes_on _ _ _ c.in_ok-first.ensures.left.later
+    (g.met.S.PageStore.goes_on _ _ _ c.in_ok-rest.ensures.left.later c.in-Err-write_both.ensures.later)
+
+pub returns-in-Ok-write_both-clause-later : goal.returns-in-Ok-write_both-clause-later
+returns-in-Ok-write_both-clause-later g c = g.met.S.PageStore.goes_on _ _ _ c.in_ok-first.ensures.left.later
+    (g.met.S.PageStore.goes_on _ _ _ c.in_ok-rest.ensures.left.later c.in-Ok-write_both.ensures.later)

@@ -5,7 +5,8 @@ use Rattle.quilt_btree.proofs.ways.Forks.{place_inside, read_ok}
 use Rattle.quilt_btree.proofs.ways.Damage.{bad_below, inner_fault, zero_named, named_more, named_leaf}
 use Rattle.quilt_btree.proofs.growth.Finding.{finds_below, found_in_leaf, found_finds}
 use Rattle.quilt_btree.proofs.removals.LeafRemovals.{leaf_reads}
-use Rattle.quilt_btree.proofs.removals.Removals.{sound_child, missing_child, done_child, rebalanced_child, rebalanced_sound, emptied_child, only_child, leaf_sound}
+use Rattle.quilt_btree.proofs.removals.Removals.{sound_child, missing_child, done_child, rebalanced_child}
+use Rattle.quilt_btree.proofs.removals.Removals.{rebalanced_sound, emptied_child, only_child, leaf_sound}
 use Rattle.quilt_btree.proofs.removing.+remove_under.Goals as goal
 
 pub returns-then-height-eq1-clause-sound : goal.returns-then-height-eq1-clause-sound
@@ -252,7 +253,8 @@ returns-in-Err-remove_under-clause-bad g t c = λ ne.
 
 pub returns-in-None-clause-bad : goal.returns-in-None-clause-bad
 returns-in-None-clause-bad g t c =
-    let same : c.pages-in-None.result ≡ g.S.PageStore.size c.args.store.now = c.pages-in-None.ensures ∙ c.in-Ok-Underfull.ensures.size ∙ c.in-Ok.ensures.left.size in
+    let same : c.pages-in-None.result ≡ g.S.PageStore.size c.args.store.now = c.pages-in-None.ensures ∙ c.in-Ok-Underfull.ensures.size ∙
+    c.in-Ok.ensures.left.size in
     inner_fault (g.S.PageStore.told c.args.store.now) (g.S.PageStore.told c.read_way.new.store) c.args.page c.args.height
     c.pages-in-None.result c.inner_at_fault.result c.read_way.new.bytes
     (read_ok (g.S.PageStore.told c.args.store.now) (g.S.PageStore.told c.read_way.new.store) c.args.page c.args.height
@@ -271,3 +273,21 @@ returns-in-Some-clause-bad g t c =
 pub returns-in-Some-clause-later : goal.returns-in-Some-clause-later
 returns-in-Some-clause-later g t c =
     g.met.S.PageStore.goes_on _ _ _ (g.met.S.PageStore.goes_on _ _ _ c.in-Ok.ensures.left.later c.in-Ok-Underfull.ensures.later) c.rebalance_child.ensures.later
+
+pub returns-in-Err-remove_under-clause-later : goal.returns-in-Err-remove_under-clause-later
+returns-in-Err-remove_under-clause-later g t c = g.met.S.PageStore.goes_on _ _ _ c.in-Ok.ensures.left.later c.in-Err-remove_under.ensures.later
+
+pub returns-in-Ok-Missing-clause-later : goal.returns-in-Ok-Missing-clause-later
+returns-in-Ok-Missing-clause-later g t c = g.met.S.PageStore.goes_on _ _ _ c.in-Ok.ensures.left.later c.in-Ok-Missing.ensures.later
+
+pub returns-in-Ok-Done-clause-later : goal.returns-in-Ok-Done-clause-later
+returns-in-Ok-Done-clause-later g t c = g.met.S.PageStore.goes_on _ _ _ c.in-Ok.ensures.left.later c.in-Ok-Done.ensures.later
+
+pub returns-in-None-clause-later : goal.returns-in-None-clause-later
+returns-in-None-clause-later g t c = g.met.S.PageStore.goes_on _ _ _ c.in-Ok.ensures.left.later c.in-Ok-Underfull.ensures.later
+
+pub returns-in-Ok-Emptied-clause-later : goal.returns-in-Ok-Emptied-clause-later
+returns-in-Ok-Emptied-clause-later g t c = g.met.S.PageStore.goes_on _ _ _ c.in-Ok.ensures.left.later c.in-Ok-Emptied.ensures.later
+
+pub returns-in-Ok-Only-clause-later : goal.returns-in-Ok-Only-clause-later
+returns-in-Ok-Only-clause-later g t c = g.met.S.PageStore.goes_on _ _ _ c.in-Ok.ensures.left.later c.in-Ok-Only.ensures.later

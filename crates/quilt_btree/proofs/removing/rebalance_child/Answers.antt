@@ -90,3 +90,12 @@ returns-in-Ok-clause-left g c =
       inside = λ pages e. has_many (g.S.PageStore.told c.args.store.now) pages (g.S.PageStore.size c.args.store.now) c.args.page
           (g.met.S.PageStore.as_many c.args.store.now) e c.requires.page.1;
     }) found.rebalanced c.in-Ok.ensures.free c.in-Ok.ensures.renewed
+
+pub returns-in-Ok-Joined-clause-later : goal.returns-in-Ok-Joined-clause-later
+returns-in-Ok-Joined-clause-later g c = g.met.S.PageStore.goes_on _ _ _ c.in-Ok-Joined.ensures.later c.drop_child.ensures.later
+
+pub returns-in-Err-renew_key-clause-later : goal.returns-in-Err-renew_key-clause-later
+returns-in-Err-renew_key-clause-later g c = g.met.S.PageStore.goes_on _ _ _ c.in-Ok-Redistributed.ensures.later c.in-Err-renew_key.ensures.later
+
+pub returns-in-Ok-clause-later : goal.returns-in-Ok-clause-later
+returns-in-Ok-clause-later g c = g.met.S.PageStore.goes_on _ _ _ c.in-Ok-Redistributed.ensures.later c.in-Ok.ensures.later

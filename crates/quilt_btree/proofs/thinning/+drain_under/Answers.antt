@@ -68,3 +68,6 @@ returns-in-Some-clause-bad g t c =
     (g.S.PageStore.size c.args.store.now) c.read_into.new.bytes c.requires.height c.if-height-eq1.false c.in-Ok.ensures.left.told
     (g.met.S.PageStore.as_many c.args.store.now) (c.pages.ensures ∙ c.in-Ok.ensures.left.size) c.in-Ok.ensures.bytes)
     c.in-Some.ensures.stands c.drain_under.ensures.bad
+
+pub returns-in-Some-clause-later : goal.returns-in-Some-clause-later
+returns-in-Some-clause-later g t c = g.met.S.PageStore.goes_on _ _ _ c.in-Ok.ensures.left.later c.drain_under.ensures.later

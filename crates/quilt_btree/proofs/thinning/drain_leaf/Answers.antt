@@ -49,3 +49,9 @@ returns-in-Err-clause-bad g c = λ ne. c.in-Err.ensures.bad refl
 pub returns-in-Err-write_page-clause-bad : goal.returns-in-Err-write_page-clause-bad
 returns-in-Err-write_page-clause-bad g c =
     zero_names (g.S.PageStore.told c.args.store.now) 1 c.args.page c.in-Err-write_page.e c.in-Err-write_page.ensures.names
+
+pub returns-in-Err-write_page-clause-later : goal.returns-in-Err-write_page-clause-later
+returns-in-Err-write_page-clause-later g c = g.met.S.PageStore.goes_on _ _ _ c.in-Ok.ensures.left.later c.in-Err-write_page.ensures.later
+
+pub returns-in-Ok-write_page-clause-later : goal.returns-in-Ok-write_page-clause-later
+returns-in-Ok-write_page-clause-later g c = g.met.S.PageStore.goes_on _ _ _ c.in-Ok.ensures.left.later c.in-Ok-write_page.ensures.later

@@ -403,3 +403,15 @@ pub returns-in-Ok-give_back-clause-bad : goal.returns-in-Ok-give_back-clause-bad
 returns-in-Ok-give_back-clause-bad g c =
     zero_named c.shrink-in-Ok-give_back.result (g.S.PageStore.told c.args.store.now) c.args.self.now.height c.args.self.now.root
     (c.shrink-in-Ok-give_back.ensures.names 1 (omega arith))
+
+pub returns-in-Err-give_back-clause-later : goal.returns-in-Err-give_back-clause-later
+returns-in-Err-give_back-clause-later g c = g.met.S.PageStore.goes_on _ _ _ c.in-Ok-Emptied.ensures.later c.in-Err-give_back.ensures.later
+
+pub returns-in-Ok-clause-later : goal.returns-in-Ok-clause-later
+returns-in-Ok-clause-later g c = g.met.S.PageStore.goes_on _ _ _ c.in-Ok-Emptied.ensures.later c.in-Ok.ensures.later
+
+pub returns-in-Err-give_back-2-clause-later : goal.returns-in-Err-give_back-2-clause-later
+returns-in-Err-give_back-2-clause-later g c = g.met.S.PageStore.goes_on _ _ _ c.in-Ok-Only.ensures.later c.in-Err-give_back-2.ensures.later
+
+pub returns-in-Ok-give_back-clause-later : goal.returns-in-Ok-give_back-clause-later
+returns-in-Ok-give_back-clause-later g c = g.met.S.PageStore.goes_on _ _ _ c.in-Ok-Only.ensures.later c.in-Ok-give_back.ensures.later
