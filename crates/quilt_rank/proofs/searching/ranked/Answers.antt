@@ -94,3 +94,6 @@ returns-clause-reads g c l s long =
     (g.met.B.SegBlocks.lines c.args.blocks.now c.args.store.now) (g.S.PageStore.reads c.args.store.now)
     (g.S.PageStore.reads c.loop-distance.store) c.loop-distance.queue c.loop-distance.ranks c.loop-distance.invariant.going l s (found g c l s))
     long
+
+pub returns-in-Err-open-clause-left : goal.returns-in-Err-open-clause-left
+returns-in-Err-open-clause-left g c = only_read_then _ _ _ _ _ g.met.S.PageStore.goes_on _ _ _ c.loop-distance.invariant.left c.in-Err-open.ensures.left

@@ -75,3 +75,6 @@ returns-clause-reads g c l s =
     going_reads _ c.args.windows.items c.requires (g.B.SegBlocks.shows c.args.blocks.now c.args.store.now)
     (g.met.B.SegBlocks.lines c.args.blocks.now c.args.store.now) (g.S.PageStore.reads c.args.store.now)
     (g.S.PageStore.reads c.loop-block.store) c.loop-block.stack c.loop-block.found.entries c.loop-block.invariant.going l s
+
+pub returns-in-Err-open-clause-left : goal.returns-in-Err-open-clause-left
+returns-in-Err-open-clause-left g c = only_read_then _ _ _ _ _ g.met.S.PageStore.goes_on _ _ _ c.loop-block.invariant.left c.in-Err-open.ensures.left
