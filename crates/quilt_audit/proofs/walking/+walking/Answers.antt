@@ -137,3 +137,11 @@ survey_children-returns-in-Err-clause-spent g t c visited m =
     SpentSome-then (g.S.PageStore.size c.args.store.now) visited h.now (g.S.PageStore.reads c.args.store.now) (g.S.PageStore.reads c.loop-i.store)
     (g.S.PageStore.reads c.survey_page.new.store)
     (g.S.PageStore.size c.loop-i.store) inv.left.size h.added.spent (c.in-Err.ensures.spent h.now h.added.marks)
+
+pub survey_inner-returns-in-Ok-clause-left : goal.survey_inner-returns-in-Ok-clause-left
+survey_inner-returns-in-Ok-clause-left g t c =
+    only_read_then _ _ _ _ _ g.met.S.PageStore.goes_on _ _ _ c.in-Ok.ensures.left c.survey_children.ensures.left
+
+pub survey_children-returns-in-Err-clause-left : goal.survey_children-returns-in-Err-clause-left
+survey_children-returns-in-Err-clause-left g t c =
+    only_read_then _ _ _ _ _ g.met.S.PageStore.goes_on _ _ _ c.loop-i.invariant.left c.in-Err.ensures.left

@@ -29,7 +29,8 @@ returns-in-Some-clause-leads g t c = step_led c.leaf_at.result (g.S.PageStore.to
     c.args.page c.args.height c.pages.result c.read_into.new.bytes (records_of c.leaf_at.new.bytes) c.args.k.now c.in-Some.step.child c.args.high.now
     c.in-Some.step.high (read_ok (g.S.PageStore.told c.args.store.now) (g.S.PageStore.told c.read_into.new.store) c.args.page c.args.height
     c.pages.result (g.S.PageStore.size c.args.store.now) c.read_into.new.bytes c.requires.height c.if-height-eq1.false c.in-Ok.ensures.left.told
-    (g.met.S.PageStore.as_many c.args.store.now) (c.pages.ensures ∙ c.in-Ok.ensures.left.size) c.in-Ok.ensures.bytes) c.in-Some.ensures.step c.leaf_at.ensures.leads
+    (g.met.S.PageStore.as_many c.args.store.now) (c.pages.ensures ∙ c.in-Ok.ensures.left.size) c.in-Ok.ensures.bytes) c.in-Some.ensures.step
+    c.leaf_at.ensures.leads
 
 pub returns-in-Some-clause-cut : goal.returns-in-Some-clause-cut
 returns-in-Some-clause-cut g t c = step_cut c.leaf_at.result (g.S.PageStore.told c.args.store.now) (g.S.PageStore.told c.read_into.new.store)
@@ -45,7 +46,8 @@ returns-in-Some-clause-least g t c = step_holds c.leaf_at.result (g.S.PageStore.
     c.args.high.now c.in-Some.step.high
     (read_ok (g.S.PageStore.told c.args.store.now) (g.S.PageStore.told c.read_into.new.store) c.args.page c.args.height c.pages.result
     (g.S.PageStore.size c.args.store.now) c.read_into.new.bytes c.requires.height c.if-height-eq1.false c.in-Ok.ensures.left.told
-    (g.met.S.PageStore.as_many c.args.store.now) (c.pages.ensures ∙ c.in-Ok.ensures.left.size) c.in-Ok.ensures.bytes) c.in-Some.ensures.step c.leaf_at.ensures.least
+    (g.met.S.PageStore.as_many c.args.store.now) (c.pages.ensures ∙ c.in-Ok.ensures.left.size) c.in-Ok.ensures.bytes) c.in-Some.ensures.step
+    c.leaf_at.ensures.least
 
 pub returns-in-Some-clause-leaf : goal.returns-in-Some-clause-leaf
 returns-in-Some-clause-leaf g t c = step_holds c.leaf_at.result (g.S.PageStore.told c.args.store.now) (g.S.PageStore.told c.read_into.new.store)
@@ -53,14 +55,16 @@ returns-in-Some-clause-leaf g t c = step_holds c.leaf_at.result (g.S.PageStore.t
     c.args.k.now c.in-Some.step.child c.args.high.now c.in-Some.step.high
     (read_ok (g.S.PageStore.told c.args.store.now) (g.S.PageStore.told c.read_into.new.store) c.args.page c.args.height c.pages.result
     (g.S.PageStore.size c.args.store.now) c.read_into.new.bytes c.requires.height c.if-height-eq1.false c.in-Ok.ensures.left.told
-    (g.met.S.PageStore.as_many c.args.store.now) (c.pages.ensures ∙ c.in-Ok.ensures.left.size) c.in-Ok.ensures.bytes) c.in-Some.ensures.step c.leaf_at.ensures.leaf
+    (g.met.S.PageStore.as_many c.args.store.now) (c.pages.ensures ∙ c.in-Ok.ensures.left.size) c.in-Ok.ensures.bytes) c.in-Some.ensures.step
+    c.leaf_at.ensures.leaf
 
 pub returns-in-Some-clause-sound : goal.returns-in-Some-clause-sound
 returns-in-Some-clause-sound g t c = step_sound c.leaf_at.result (g.S.PageStore.told c.args.store.now) (g.S.PageStore.told c.read_into.new.store)
     c.args.page c.args.height c.pages.result c.read_into.new.bytes c.args.k.now c.in-Some.step.child c.args.high.now c.in-Some.step.high
     (read_ok (g.S.PageStore.told c.args.store.now) (g.S.PageStore.told c.read_into.new.store) c.args.page c.args.height c.pages.result
     (g.S.PageStore.size c.args.store.now) c.read_into.new.bytes c.requires.height c.if-height-eq1.false c.in-Ok.ensures.left.told
-    (g.met.S.PageStore.as_many c.args.store.now) (c.pages.ensures ∙ c.in-Ok.ensures.left.size) c.in-Ok.ensures.bytes) c.in-Some.ensures.step c.leaf_at.ensures.sound
+    (g.met.S.PageStore.as_many c.args.store.now) (c.pages.ensures ∙ c.in-Ok.ensures.left.size) c.in-Ok.ensures.bytes) c.in-Some.ensures.step
+    c.leaf_at.ensures.sound
 
 pub returns-in-Some-clause-above : goal.returns-in-Some-clause-above
 returns-in-Some-clause-above g t c =
@@ -93,7 +97,8 @@ returns-in-Some-clause-bad g t c = names_below c.leaf_at.result (g.S.PageStore.t
     c.args.page c.args.height c.pages.result c.read_into.new.bytes c.in-Some.step.child
     (read_ok (g.S.PageStore.told c.args.store.now) (g.S.PageStore.told c.read_into.new.store) c.args.page c.args.height c.pages.result
     (g.S.PageStore.size c.args.store.now) c.read_into.new.bytes c.requires.height c.if-height-eq1.false c.in-Ok.ensures.left.told
-    (g.met.S.PageStore.as_many c.args.store.now) (c.pages.ensures ∙ c.in-Ok.ensures.left.size) c.in-Ok.ensures.bytes) c.in-Some.ensures.stands c.leaf_at.ensures.bad
+    (g.met.S.PageStore.as_many c.args.store.now) (c.pages.ensures ∙ c.in-Ok.ensures.left.size) c.in-Ok.ensures.bytes) c.in-Some.ensures.stands
+    c.leaf_at.ensures.bad
 
 pub returns-in-Some-clause-left : goal.returns-in-Some-clause-left
 returns-in-Some-clause-left g t c = only_read_then _ _ _ _ _ g.met.S.PageStore.goes_on _ _ _ c.in-Ok.ensures.left c.leaf_at.ensures.left

@@ -1,7 +1,8 @@
 use Rattle.std.proofs.Common.{◌≡◌, true, false, ◌-◌, ◌≤◌, refl, arith}
 use Rattle.quilt_btree.proofs.ways.Damage.{zero_names, zero_named, names_more}
 use Rattle.quilt_btree.proofs.growth.Finding.{finds_root, finds_empty, shrunk_answer}
-use Rattle.quilt_btree.proofs.growth.KeptPages.{out_none, sound_out, out_missing, out_done, out_underfull, out_emptied, out_only, out_shrunk, out_sound, two_done}
+use Rattle.quilt_btree.proofs.growth.KeptPages.{out_none, sound_out, out_missing, out_done, out_underfull}
+use Rattle.quilt_btree.proofs.growth.KeptPages.{out_emptied, out_only, out_shrunk, out_sound, two_done}
 use Rattle.quilt_btree.proofs.growth.KeptPages.{two_underfull, one_empty, two_only}
 use Rattle.quilt_btree.proofs.removals.TreeRemovals.{sound_root, whole_none, whole_missing, whole_done, whole_underfull, whole_emptied, whole_only, many_done}
 use Rattle.quilt_btree.proofs.removals.TreeRemovals.{many_underfull, one_emptied, one_only, shrunk, shrunk_sound}
