@@ -1,15 +1,14 @@
 -- The records of a block, and those of the segments, as a range of the tree's.
-use Rattle.std.proofs.Common.{◌≡◌, ℕ, ◌<◌, ◌≤◌, Bool, true, false, cond, List, [], ◌∷◌, map, filter, length, Option, Some, refl, sym, ◌∙◌, ap, subst, ⊎_elim}
-use Rattle.std.proofs.Common.{arith, Contains, Less, nat_cmp, Ordering}
+use Rattle.std.proofs.Common.{◌≡◌, ℕ, ◌≤◌, Bool, true, false, cond, List, [], ◌∷◌, map, filter, length, Option, refl, sym, ◌∙◌, ap, subst}
+use Rattle.std.proofs.Common.{arith, Contains, nat_cmp, Ordering}
 use Rattle.std.specs.FinMap as finmap
-use Rattle.std.specs.Cmp.{nat_cmp_total}
-use Rattle.std.proofs.lemmas.Bool.{cases_Bool, both_ways}
+use Rattle.std.proofs.lemmas.Bool.{both_ways}
 use Rattle.std.proofs.lemmas.List.{take_all}
 use Rattle.quilt_types.specs.Sets as finset
 use Rattle.quilt_types.specs.declared.plane.Block.{Block}
 use Rattle.quilt_types.specs.declared.plane.Seg.{Seg}
-use Rattle.quilt_types.specs.Plane.{IsBlock, block_cmp}
-use Rattle.quilt_types.specs.Layers.{SegMap, BlockSet, IsLineMap}
+use Rattle.quilt_types.specs.Plane.{IsBlock}
+use Rattle.quilt_types.specs.Layers.{SegMap, BlockSet}
 use Rattle.quilt_types.specs.Segments.{square, meets}
 use Rattle.quilt_types.specs.Facts.{Fact, IsSegment, IsMetBy, IsMetByNone, or_none, line_facts}
 use Rattle.quilt_loc.specs.Codes.{Rises}
@@ -18,7 +17,6 @@ use Rattle.quilt_loc.proofs.PlaneOrders.{block_total}
 use Rattle.quilt_loc.proofs.Rising.{same_rising, Rises-filter, Rises-map}
 use Rattle.quilt_record.specs.declared.key.Key.{Key}
 use Rattle.quilt_record.specs.declared.record.Record.{Record}
-use Rattle.quilt_record.specs.Records.{key_cmp}
 use Rattle.quilt_btree.specs.declared.tree.Tree.{Tree}
 use Rattle.quilt_btree.specs.Lists.{is_from_to, range_of}
 use Rattle.quilt_btree.specs.Trees.{IsTree}

@@ -1,5 +1,5 @@
 -- The segments of a layer, read one after the other by their ids.
-use Rattle.std.proofs.Common.{◌≡◌, ℕ, zero, suc, ◌+◌, ◌<◌, ◌≤◌, true, List, [], ◌∷◌, ◌++◌, map, length, get_or, take, All, Option, Some, None, refl, sym, ◌∙◌}
+use Rattle.std.proofs.Common.{◌≡◌, ℕ, zero, suc, ◌+◌, ◌<◌, ◌≤◌, true, List, [], ◌∷◌, ◌++◌, map, length, get_or, take, All, Option, Some, sym, ◌∙◌}
 use Rattle.std.proofs.Common.{ap, subst, ⊎_elim, arith, Contains, Ordering, Less, nat_cmp}
 use Rattle.std.specs.FinMap as finmap
 use Rattle.std.proofs.lemmas.List.{get_or-map, length-map, map-append}

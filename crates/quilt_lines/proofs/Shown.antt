@@ -1,5 +1,5 @@
 -- The facts on the segments and the blocks of a line layer, and their records.
-use Rattle.std.proofs.Common.{◌≡◌, ℕ, ◌<◌, ◌≤◌, ◌^◌, true, List, ◌++◌, map, flat_map, Some, refl, sym, ◌∙◌, ap, subst, ⊎_elim, arith, Contains, nat_lt}
+use Rattle.std.proofs.Common.{◌≡◌, ℕ, ◌<◌, ◌≤◌, ◌^◌, true, flat_map, Some, refl, sym, ap, subst, ⊎_elim, arith, Contains, nat_lt}
 use Rattle.std.proofs.Common.{ltb-true}
 use Rattle.std.specs.FinMap as finmap
 use Rattle.std.proofs.lemmas.Bool.{and_parts}
@@ -8,13 +8,11 @@ use Rattle.quilt_types.specs.Sets as finset
 use Rattle.quilt_types.specs.declared.plane.Block.{Block}
 use Rattle.quilt_types.specs.declared.plane.Seg.{Seg}
 use Rattle.quilt_types.specs.Plane.{side, is_pixel, blocks, IsBlock}
-use Rattle.quilt_types.specs.Codes.{depth}
 use Rattle.quilt_types.specs.Layers.{SegMap, BlockSet, IsLineMap, is_in_square}
 use Rattle.quilt_types.specs.Facts.{Fact, IsOfKind, HasColour, HoldsPoint, HoldsNoPoint, IsSegment, IsMetBy, IsMetByNone, line_facts}
 use Rattle.quilt_loc.proofs.Members.{Contains-there, Contains-map, Contains-map_from, Contains-flat_map, Contains-flat_map_from}
 use Rattle.quilt_loc.proofs.Blocks.{IsBlock-from, side_most}
 use Rattle.quilt_record.specs.declared.key.Key.{Key}
-use Rattle.quilt_record.specs.declared.record.Record.{Record}
 use Rattle.quilt_record.specs.Records.{block_key}
 use Rattle.quilt_record.specs.Canonical.{FactFits}
 use Rattle.quilt_spell.proofs.facts.FactKeys.{block_alone}

@@ -1,5 +1,5 @@
 -- A list that spells a map spells each of its line layers.
-use Rattle.std.proofs.Common.{◌≡◌, ℕ, ◌≤◌, List, [], map, refl, sym, ◌∙◌, ap, subst, ⊎_elim, arith, Contains, eqb, ne_eqb}
+use Rattle.std.proofs.Common.{◌≡◌, ℕ, List, map, refl, sym, ◌∙◌, ap, subst, ⊎_elim, arith, Contains, eqb, ne_eqb}
 use Rattle.std.proofs.lemmas.Bool.{cond-false}
 use Rattle.quilt_types.specs.Layers.{Lines, SegMap, BlockSet}
 use Rattle.quilt_types.specs.Facts.{Fact, IsOfKind, HasColour, HoldsPoint, HoldsNoPoint, IsSegment, IsMetBy, IsMetByNone}

@@ -9,7 +9,7 @@ use Rattle.quilt_node.specs.Tree.{Bounds, bounded}
 use Rattle.quilt_spell.specs.Written.{by_key}
 use Rattle.quilt_edits.proofs.Ascents.{ascending_rises}
 use Rattle.quilt_btree.specs.declared.tree.Tree.{Tree}
-use Rattle.quilt_btree.specs.Subtree.{Reading, Row, Subtree, IsInner}
+use Rattle.quilt_btree.specs.Subtree.{Reading, Row, Subtree}
 use Rattle.quilt_btree.specs.Trees.{IsTree}
 use Rattle.quilt_btree.proofs.subtrees.Trees.{subtree_rises, leaf_list, inner_list}
 use Rattle.quilt_btree.proofs.subtrees.Whole.{tree_spells, no_records}

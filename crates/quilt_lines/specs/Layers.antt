@@ -1,5 +1,5 @@
 -- A line layer as records of a tree.
-use Rattle.std.specs.Prelude.{◌≡◌, ℕ, ◌<◌, List, [], ◌∷◌, ◌++◌, length, map, flat_map, Contains, Option}
+use Rattle.std.specs.Prelude.{◌≡◌, ℕ, List, [], ◌++◌, length, map, flat_map, Contains, Option}
 use Rattle.std.specs.FinMap as finmap
 use Rattle.quilt_types.specs.Sets as finset
 use Rattle.quilt_types.specs.Layers.{SegMap, BlockSet, IsLineMap}

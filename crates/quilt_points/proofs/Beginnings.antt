@@ -1,5 +1,5 @@
 -- A point layer that begins: the record of the catalog and that of the whole square.
-use Rattle.std.proofs.Common.{◌≡◌, ℕ, ◌<◌, ◌≤◌, List, [], ◌∷◌, Some, None, sym, ◌∙◌, ap, subst, ⊎_elim, arith, Contains, Less}
+use Rattle.std.proofs.Common.{◌≡◌, ℕ, ◌≤◌, [], ◌∷◌, Some, None, sym, ◌∙◌, ap, subst, ⊎_elim, arith, Less}
 use Rattle.std.specs.FinMap as finmap
 use Rattle.quilt_types.specs.declared.plane.Block.{Block}
 use Rattle.quilt_types.specs.Plane.{whole}

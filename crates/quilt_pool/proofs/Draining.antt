@@ -1,10 +1,10 @@
 -- What writing a dirty page to its slot, and keeping it clean, keeps.
-use Rattle.std.proofs.Common.{Result, Ok, Err, OnOk, IsOk, ◌≡◌, ◌≢◌, ◌⊎◌, inl, inr, ℕ, zero, suc, ◌+◌, ◌-◌, ◌*◌, ◌<◌, ◌≤◌, Bool, true, false, cond, nat_eq}
-use Rattle.std.proofs.Common.{◌||◌, List, [], ◌∷◌, Option, Some, None, length, filter, get_or, set, refl, sym, ◌∙◌, ap, subst, arith, add-one, add-zero}
-use Rattle.std.proofs.Common.{add-suc, get_or-set_same}
+use Rattle.std.proofs.Common.{◌≡◌, ◌≢◌, inl, inr, ℕ, zero, suc, ◌+◌, ◌-◌, ◌<◌, ◌≤◌, Bool, true, false, cond, nat_eq}
+use Rattle.std.proofs.Common.{◌||◌, List, [], ◌∷◌, Option, Some, None, length, filter, get_or, refl, sym, ◌∙◌, ap, subst, arith, add-zero}
+use Rattle.std.proofs.Common.{add-suc}
 use Rattle.std.specs.Option.{IfSome}
 use Rattle.std.specs.List.{range_with_len}
-use Rattle.std.proofs.lemmas.Bool.{cases_Bool, cases_eq, cases_lt, false≢true, eqb-true, eqb-false, eq-eqb, ne_eqb}
+use Rattle.std.proofs.lemmas.Bool.{cases_eq, eqb-true, eq-eqb, ne_eqb}
 use Rattle.std.specs.Cmp.{nat_eq_equiv}
 use Rattle.std.specs.Map.{set_value}
 use Rattle.std.specs.Option.{is_some}
@@ -12,16 +12,16 @@ use Rattle.std.proofs.lemmas.Map.{lookup-set_value}
 use Rattle.quilt_world.specs.Disk.{Pages}
 use Rattle.quilt_world.specs.Tale.{Tale, Goes}
 use Rattle.quilt_world.proofs.StopLaws.{since_here}
-use Rattle.quilt_world.proofs.Told.{goes_then, goes_weaker}
+use Rattle.quilt_world.proofs.Told.{goes_then}
 use Rattle.quilt_journal.specs.Changed.{is_changed}
-use Rattle.quilt_journal.specs.Kept.{IsIdle, HasHome, published, work}
+use Rattle.quilt_journal.specs.Kept.{HasHome, published, work}
 use Rattle.quilt_journal.specs.Writing.{Writing}
 use Rattle.quilt_journal.proofs.Leaving.{idle_leaves}
 use Rattle.quilt_journal.proofs.Writes.{writing_none, writing_both, writing_more}
 use Rattle.quilt_pool.specs.declared.frame.Frame.{Frame}
 use Rattle.quilt_pool.specs.Entries.{Entries, frame_at, page_over, bytes_or, has_dirt, is_dirty, is_marked, IsClean, AreBelow}
-use Rattle.quilt_pool.specs.Keeping.{IsWork, Keeps, IsSaved}
-use Rattle.quilt_pool.proofs.Saving.{tries_none, saved_set}
+use Rattle.quilt_pool.specs.Keeping.{IsWork, Keeps}
+use Rattle.quilt_pool.proofs.Saving.{tries_none}
 use Rattle.quilt_pool.proofs.Entering.{keeps_then}
 
 eqb-same : (k : ℕ) (x y : ℕ) → nat_eq k x ≡ true → nat_eq k y ≡ nat_eq x y

@@ -1,9 +1,9 @@
 -- What a look-up and an entry that comes in keep.
-use Rattle.std.proofs.Common.{◌≡◌, ◌≢◌, ◌⊎◌, inl, inr, ℕ, ◌+◌, ◌<◌, ◌≤◌, Bool, true, false, cond, nat_eq, List, [], ◌∷◌, Option, Some, None, length, get_or}
-use Rattle.std.proofs.Common.{unwrap_or, refl, sym, ◌∙◌, ap, subst, arith, ◌||◌}
+use Rattle.std.proofs.Common.{◌≡◌, inl, inr, ℕ, ◌<◌, ◌≤◌, Bool, true, false, cond, nat_eq, List, [], Option, Some, None, length, get_or}
+use Rattle.std.proofs.Common.{unwrap_or, refl, sym, ◌∙◌, ap, subst, ◌||◌}
 use Rattle.std.specs.Option.{IfSome}
-use Rattle.lru.specs.LruCache.{LruCache, promoted, put_entries, last_entry}
-use Rattle.std.proofs.lemmas.Bool.{cases_Bool, false≢true, eqb-true, eqb-false, eq-eqb, ne_eqb}
+use Rattle.lru.specs.LruCache.{LruCache, put_entries, last_entry}
+use Rattle.std.proofs.lemmas.Bool.{cases_Bool, false≢true, eqb-true, eq-eqb, ne_eqb}
 use Rattle.quilt_world.specs.Disk.{Pages}
 use Rattle.quilt_world.specs.Stops.{Since}
 use Rattle.quilt_world.specs.Tale.{Tale, Adds, Goes}
@@ -15,10 +15,10 @@ use Rattle.quilt_journal.specs.declared.journal.State.{State}
 use Rattle.quilt_journal.specs.declared.journal.State.TheVariants.{Idle}
 use Rattle.quilt_journal.proofs.Leaving.{idle_leaves}
 use Rattle.quilt_pool.specs.declared.frame.Frame.{Frame}
-use Rattle.quilt_pool.specs.Entries.{Entries, frame_at, page_over, bytes_or, has_dirt, is_dirty, is_marked, IsClean, AreBelow}
+use Rattle.quilt_pool.specs.Entries.{Entries, frame_at, page_over, has_dirt, is_marked, IsClean, AreBelow}
 use Rattle.quilt_pool.specs.Keeping.{IsWork, Keeps, Changes, IsSaved}
-use Rattle.quilt_pool.proofs.Looks.{AtPut, put_at, promoted_at, over_at}
-use Rattle.quilt_pool.proofs.Saving.{tries_none, tries_both, tries_adds, keeps_none}
+use Rattle.quilt_pool.proofs.Looks.{AtPut, put_at, over_at}
+use Rattle.quilt_pool.proofs.Saving.{tries_none, tries_both, tries_adds}
 
 -- ---- entries in another order
 

@@ -1,13 +1,13 @@
 -- What writing the last entry to its slot keeps.
-use Rattle.std.proofs.Common.{◌≡◌, ◌⊎◌, inl, inr, ℕ, ◌+◌, ◌<◌, ◌≤◌, Bool, true, false, List, [], ◌∷◌, ◌++◌, Option, Some, None, length, unwrap_or, get_or, set}
+use Rattle.std.proofs.Common.{◌≡◌, ◌⊎◌, inl, inr, ℕ, ◌<◌, Bool, true, false, List, [], ◌∷◌, ◌++◌, Option, Some, None, length, unwrap_or, get_or, set}
 use Rattle.std.proofs.Common.{refl, sym, ◌∙◌, ap, subst, arith, get_or-set_same, append_assoc}
 use Rattle.std.specs.Option.{IfSome}
 use Rattle.std.proofs.lemmas.List.{append-nil}
 use Rattle.quilt_world.specs.Disk.{Pages, Log}
 use Rattle.quilt_world.specs.Stops.{Since}
-use Rattle.quilt_world.specs.Tale.{Tale, IsSameFile, Adds, Goes}
-use Rattle.quilt_world.specs.declared.event.Event.TheVariants.{Wrote, Tore}
-use Rattle.quilt_world.proofs.StopLaws.{same_file, since_here, since_both, since_nothing}
+use Rattle.quilt_world.specs.Tale.{Tale, Adds, Goes}
+use Rattle.quilt_world.specs.declared.event.Event.TheVariants.{Tore}
+use Rattle.quilt_world.proofs.StopLaws.{same_file, since_here}
 use Rattle.quilt_journal.specs.Changed.{is_changed}
 use Rattle.quilt_journal.specs.Kept.{IsIdle, HasHome, published, work}
 use Rattle.quilt_journal.proofs.Homes.{length-work}

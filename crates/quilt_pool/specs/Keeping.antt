@@ -1,12 +1,10 @@
 -- What the pool's calls keep of the pages of the work.
-use Rattle.std.specs.Prelude.{◌≡◌, ◌⊎◌, ℕ, ◌+◌, ◌<◌, ◌≤◌, ◌==◌, Bool, true, nat_eq, List, [], ◌∷◌, ◌++◌, Some, slice_index_or, slice_set, length, if◌then◌else◌}
+use Rattle.std.specs.Prelude.{◌≡◌, ℕ, ◌==◌, Bool, List, [], ◌++◌, Some, slice_index_or, length, if◌then◌else◌}
 use Rattle.lru.specs.LruCache.{LruCache, last_entry}
 use Rattle.quilt_world.specs.Added.{is_write, Only}
 use Rattle.quilt_world.specs.Disk.{Log}
 use Rattle.quilt_world.specs.Tale.{Tale, IsSameFile}
-use Rattle.quilt_world.specs.Stops.{Since, LeavesNow}
-use Rattle.quilt_world.specs.declared.event.Event.{Event}
-use Rattle.quilt_world.specs.declared.event.Event.TheVariants.{Took, Put, Wrote, Tore, Synced}
+use Rattle.quilt_world.specs.Stops.{Since}
 use Rattle.quilt_journal.specs.Kept.{IsIdle, HasHome, published, work}
 use Rattle.quilt_pool.specs.declared.frame.Frame.{Frame}
 use Rattle.quilt_pool.specs.Entries.{Entries, page_over, IsClean}

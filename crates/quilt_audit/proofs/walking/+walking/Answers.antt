@@ -1,4 +1,4 @@
-use Rattle.std.proofs.Common.{◌-◌, [], ◌∷◌, false, refl, ◌∙◌, arith}
+use Rattle.std.proofs.Common.{◌-◌, [], ◌∷◌, false, ◌∙◌, arith}
 use Rattle.quilt_store.proofs.Reading.{only_read_then, only_read_same}
 use Rattle.quilt_node.specs.Tree.{walk}
 use Rattle.quilt_audit.specs.declared.surveying.Surveying.{Surveying}

@@ -1,4 +1,4 @@
-use Rattle.std.proofs.Common.{◌≡◌, ℕ, ◌+◌, ◌*◌, ◌≤◌, List}
+use Rattle.std.proofs.Common.{ℕ, ◌+◌, ◌*◌, ◌≤◌, List}
 use Rattle.quilt_store.specs.Store.{IsOnlyRead}
 use Rattle.quilt_audit.specs.Bits.{Marks}
 use Rattle.quilt_audit.specs.Walking.{Reached}

@@ -1,4 +1,4 @@
-use Rattle.std.proofs.Common.{true, [], length, get_or, refl, sym, ◌∙◌, ap, subst, arith, Contains, List}
+use Rattle.std.proofs.Common.{true, [], length, get_or, sym, ◌∙◌, ap, subst, arith, Contains, List}
 use Rattle.std.specs.FinMap as finmap
 use Rattle.quilt_store.proofs.Reading.{only_read_then, only_read_same}
 use Rattle.quilt_types.specs.declared.plane.Block.{Block}

@@ -1,4 +1,4 @@
-use Rattle.std.proofs.Common.{◌≡◌, ◌-◌, ◌≤◌, take, drop, length}
+use Rattle.std.proofs.Common.{◌-◌, ◌≤◌, take, drop, length}
 use Rattle.quilt_store.specs.Store.{IsOnlyRead}
 use Rattle.quilt_types.specs.Layers.{PointMap}
 use Rattle.quilt_points.specs.Layers.{HasPoints}

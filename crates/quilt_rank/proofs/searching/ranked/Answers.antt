@@ -1,4 +1,4 @@
-use Rattle.std.proofs.Common.{◌≡◌, ◌+◌, ◌≤◌, List, length, sym, ◌∙◌, subst, refl, arith}
+use Rattle.std.proofs.Common.{◌≡◌, ◌+◌, ◌≤◌, List, length, sym, ◌∙◌, subst, arith}
 use Rattle.quilt_store.proofs.Reading.{only_read_then, only_read_same}
 use Rattle.quilt_types.specs.Quadtrees.{reach}
 use Rattle.quilt_store.specs.Store.{Tells}

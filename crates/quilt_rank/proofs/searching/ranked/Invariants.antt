@@ -1,4 +1,4 @@
-use Rattle.std.proofs.Common.{◌≡◌, ◌≤◌}
+use Rattle.std.proofs.Common.{◌≤◌}
 use Rattle.quilt_store.specs.Store.{IsOnlyRead}
 use Rattle.quilt_near.proofs.Owing.{left}
 use Rattle.quilt_rank.proofs.Goings.{Going, block_of}

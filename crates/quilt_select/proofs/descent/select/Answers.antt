@@ -1,4 +1,4 @@
-use Rattle.std.proofs.Common.{List, sym, ◌∙◌, subst, refl, arith}
+use Rattle.std.proofs.Common.{List, sym, subst, refl, arith}
 use Rattle.quilt_store.proofs.Reading.{only_read_then, only_read_same}
 use Rattle.quilt_types.specs.declared.plane.Window.{Window}
 use Rattle.quilt_select.specs.Descents.{IsOpened}

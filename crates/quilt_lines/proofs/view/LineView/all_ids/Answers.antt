@@ -1,4 +1,3 @@
-use Rattle.std.proofs.Common.{[], ◌∷◌, ◌++◌, List, ℕ, map, sym, ◌∙◌, ap}
 use Rattle.quilt_lines.specs.Reads.{pair_of}
 use Rattle.quilt_lines.proofs.Listed.{missed}
 use Rattle.quilt_lines.proofs.view.LineView.all_ids.Goals as goal

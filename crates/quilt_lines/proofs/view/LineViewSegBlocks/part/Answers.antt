@@ -1,4 +1,4 @@
-use Rattle.std.proofs.Common.{◌≡◌, ℕ, List, Contains, sym, ◌∙◌, subst}
+use Rattle.std.proofs.Common.{ℕ, List, Contains, ◌∙◌, subst}
 use Rattle.quilt_store.proofs.Reading.{only_read_then}
 use Rattle.quilt_lines.proofs.Listed.{same_segments, all_there, each_there, one_pixel}
 use Rattle.quilt_lines.proofs.Lookups.{lines_along, match_none, match_some}

@@ -1,4 +1,4 @@
-use Rattle.std.proofs.Common.{◌≡◌, ℕ, ◌-◌, ◌<◌, ◌≤◌, false, List, [], length, filter}
+use Rattle.std.proofs.Common.{◌≡◌, ℕ, ◌-◌, ◌<◌, ◌≤◌, false, [], length, filter}
 use Rattle.std.specs.Map.{keys_of}
 use Rattle.std.specs.List.{range_with_len}
 use Rattle.quilt_world.specs.Doors.{KeepsDevice}

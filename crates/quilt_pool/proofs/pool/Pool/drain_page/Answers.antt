@@ -1,15 +1,13 @@
-use Rattle.std.proofs.Common.{◌≡◌, ◌≢◌, ℕ, ◌+◌, ◌<◌, ◌≤◌, Some, None, length, nat_eq, true, false, get_or, set, refl, sym, ◌∙◌, ap, subst, arith}
+use Rattle.std.proofs.Common.{nat_eq, true, false, set, refl, sym, ◌∙◌, ap, arith}
 use Rattle.std.proofs.Common.{get_or-set_same}
-use Rattle.std.specs.Option.{option_copied, is_some}
+use Rattle.std.specs.Option.{option_copied}
 use Rattle.std.proofs.lemmas.Map.{keys-set_value}
-use Rattle.quilt_world.proofs.Told.{goes_and, goes_weaker}
+use Rattle.quilt_world.proofs.Told.{goes_and}
 use Rattle.quilt_journal.proofs.Calls.{goes_from}
-use Rattle.quilt_journal.specs.Kept.{work}
-use Rattle.quilt_pool.specs.Entries.{frame_at, has_dirt, is_dirty}
-use Rattle.quilt_pool.specs.Keeping.{IsWork, Keeps}
+use Rattle.quilt_pool.specs.Keeping.{IsWork}
 use Rattle.quilt_pool.proofs.Looks.{marked_set}
 use Rattle.quilt_pool.proofs.Saving.{goes_none, keeps_set, tries_adds, tries_tore, saved_set, if_some_kept}
-use Rattle.quilt_pool.proofs.Draining.{below_clean, marked_clean, clean_here, clean_other, keeps_drained, bytes_clean, goes_no_write}
+use Rattle.quilt_pool.proofs.Draining.{below_clean, marked_clean, clean_here, clean_other, keeps_drained, bytes_clean}
 use Rattle.quilt_pool.proofs.pool.Pool.drain_page.Goals as goal
 
 pub write_slot-requires-clause-kept : goal.write_slot-requires-clause-kept

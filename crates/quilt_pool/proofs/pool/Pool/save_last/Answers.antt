@@ -1,12 +1,9 @@
-use Rattle.std.proofs.Common.{◌≡◌, ℕ, ◌<◌, Some, length, true, false, get_or, set, refl, sym, ◌∙◌, ap, subst, arith, get_or-set_same}
+use Rattle.std.proofs.Common.{◌≡◌, Some, true, false, set, refl, sym, ◌∙◌, ap, arith}
 use Rattle.std.specs.Option.{option_map}
 use Rattle.lru.specs.LruCache.{last_entry}
 use Rattle.quilt_world.proofs.Told.{goes_and, goes_now}
 use Rattle.quilt_journal.proofs.Calls.{goes_from}
 use Rattle.quilt_journal.specs.Kept.{IsIdle, published, work}
-use Rattle.quilt_journal.specs.Changed.{is_changed}
-use Rattle.quilt_pool.specs.declared.frame.Frame.{Frame}
-use Rattle.quilt_pool.specs.Entries.{frame_at}
 use Rattle.quilt_pool.specs.Keeping.{IsWork, IsSaved}
 use Rattle.quilt_pool.proofs.Looks.{last_found, marked_set}
 use Rattle.quilt_pool.proofs.Saving.{goes_none, keeps_set, tries_adds, tries_tore, saved_set, saved_last, listed_last, if_some, if_some_kept}
