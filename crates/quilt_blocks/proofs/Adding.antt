@@ -1,20 +1,20 @@
 -- Pixels that are put down after others: none, a block of one colour, one step after another, and all.
-use Rattle.std.proofs.Common.{◌≡◌, ℕ, ◌+◌, ◌-◌, ◌*◌, ◌/◌, ◌%◌, ◌^◌, ◌<◌, ◌≤◌, List, [], ◌++◌, length, get_or, refl, sym, ◌∙◌, ap, subst, zero, suc, ⊎_elim}
+use Rattle.std.proofs.Common.{◌≡◌, ℕ, ◌+◌, ◌-◌, ◌*◌, ◌/◌, ◌^◌, ◌<◌, ◌≤◌, List, [], ◌++◌, length, get_or, refl, sym, ◌∙◌, ap, subst, zero, suc, ⊎_elim}
 use Rattle.std.proofs.Common.{arith, replicate, get_or-append-add, length-append}
 use Rattle.std.proofs.lemmas.Bool.{cases_lt}
 use Rattle.std.proofs.lemmas.List.{length-replicate, get_or-replicate, get_or_append_left, get_or_default}
 use Rattle.quilt_types.specs.declared.plane.Pixel.{Pixel}
 use Rattle.quilt_types.specs.declared.plane.Block.{Block}
-use Rattle.quilt_types.specs.Plane.{side, quarters_of, Holds, IsBlock, Within}
+use Rattle.quilt_types.specs.Plane.{side, whole, quarters_of, Holds, IsBlock, Within}
 use Rattle.quilt_loc.proofs.Quartered.{quarters_are}
 use Rattle.quilt_types.specs.Algebra.{grid_of}
 use Rattle.quilt_loc.specs.Codes.{code_at, code_from, code_to}
 use Rattle.quilt_loc.proofs.Blocks.{side_most}
-use Rattle.quilt_loc.proofs.Intervals.{held_code, half_codes}
+use Rattle.quilt_loc.proofs.Intervals.{held_code, half_codes, origin_code}
 use Rattle.quilt_blocks.specs.Painting.{Painted, grid_by_code}
 use Rattle.quilt_blocks.proofs.Painting.{Paints-all}
 use Rattle.quilt_blocks.specs.Adding.{Adds}
-use Rattle.quilt_blocks.proofs.Squares.{width, code_to-whole}
+use Rattle.quilt_blocks.proofs.Squares.{code_to-whole}
 
 pub Adds-none : (n : ℕ) (f : Pixel → ℕ) (m : Painted) → Adds n f (length m.colours) m m
 Adds-none n f m = record { level = refl; long = refl; kept = λ k lt. refl; each = λ p hx hy low high. absurd (omega arith) }
@@ -66,13 +66,16 @@ Adds-push n f old new b c le h at same is =
           ∙ sym (same p held);
     }
 
--- the whole square, from nothing, as the code has them
-pub Adds-whole : (n k : ℕ) (f : Pixel → ℕ) (old new : Painted) → n ≤ 12 → k ≡ n → old ≡ record { level = k; colours = [] }
-    → Adds n f (code_to (record { x = 0; y = 0; side = 1 * 2 ^ k % 65536 })) old new → Adds n f (4 ^ n) (record { level = n; colours = [] }) new
-Adds-whole n k f old new le level start a =
+-- the whole square begins where nothing is put down yet
+pub whole_next : (n : ℕ) (b : Block) (m : Painted) → b ≡ whole n → m ≡ record { level = n; colours = [] } → code_from b ≡ length m.colours
+whole_next n b m is start = ap code_from is ∙ origin_code ∙ sym (ap (λ (z : Painted). length z.colours) start)
+
+-- the whole square, from nothing
+pub Adds-whole : (n k : ℕ) (f : Pixel → ℕ) (b : Block) (old new : Painted) → k ≡ n → b ≡ whole k → old ≡ record { level = k; colours = [] }
+    → Adds n f (code_to b) old new → Adds n f (4 ^ n) (record { level = n; colours = [] }) new
+Adds-whole n k f b old new level is start a =
     let empty : old ≡ record { level = n; colours = [] } = start ∙ ap (λ (j : ℕ). let m : Painted = record { level = j; colours = [] } in m) level in
-    let size : 1 * 2 ^ k % 65536 ≡ side n = ap (λ (j : ℕ). 1 * 2 ^ j % 65536) level ∙ width n le in
-    let end = ap (λ (s : ℕ). let b : Block = record { x = 0; y = 0; side = s } in code_to b) size ∙ code_to-whole n in
+    let end : code_to b ≡ 4 ^ n = ap code_to (is ∙ ap whole level) ∙ code_to-whole n in
     subst (λ (m : Painted). Adds n f (4 ^ n) m new) empty (subst (λ (j : ℕ). Adds n f j old new) end a)
 
 -- once all is there, the grid is that of f

@@ -1,5 +1,5 @@
 -- Squares of pixels, blocks of the square, and how much room they have.
-use Rattle.std.proofs.Common.{◌≡◌, ℕ, ◌+◌, ◌*◌, ◌%◌, ◌^◌, ◌<◌, ◌≤◌, ⊎_elim, ◌∙◌, arith}
+use Rattle.std.proofs.Common.{◌≡◌, ℕ, ◌+◌, ◌*◌, ◌%◌, ◌^◌, ◌<◌, ◌≤◌, ⊎_elim, sym, ◌∙◌, subst, arith}
 use Rattle.std.proofs.lemmas.Bool.{cases_lt}
 use Rattle.std.proofs.lemmas.Nat.{pow_below}
 use Rattle.quilt_types.specs.declared.plane.Pixel.{Pixel}
@@ -9,7 +9,7 @@ use Rattle.quilt_types.specs.Algebra.{grid_of}
 use Rattle.quilt_loc.specs.Codes.{code_to}
 use Rattle.quilt_loc.proofs.Blocks.{side_most}
 use Rattle.quilt_loc.proofs.Rows.{grid_of-from, get_or-grid_of, length-grid_of}
-use Rattle.quilt_loc.proofs.Quartered.{Within-whole}
+use Rattle.quilt_loc.proofs.Quartered.{Within-whole, IsBlock-whole}
 use Rattle.quilt_loc.proofs.Intervals.{side_squared, origin_code}
 use Rattle.quilt_types.specs.Plane.{pixel_at}
 use Rattle.std.proofs.lemmas.Nat.{mod_below, div_below}
@@ -46,6 +46,10 @@ code_to-whole n =
     let s = side_squared n in
     let z = origin_code in
     omega arith
+
+-- the whole square, as a call gives it, is a block
+pub whole_at : (m n : ℕ) (b : Block) → m ≡ n → b ≡ whole n → IsBlock m b
+whole_at m n b level is = subst (λ (k : ℕ). IsBlock k b) (sym level) (subst (IsBlock n) (sym is) (IsBlock-whole n))
 
 -- two grids that have one colour at each pixel
 pub grid_of-same : (n : ℕ) (f g : Pixel → ℕ) → ((p : Pixel) → p.x < side n → p.y < side n → f p ≡ g p) → grid_of n f ≡ grid_of n g

@@ -8,7 +8,7 @@ ghost use Rattle.quilt_buffer.specs.Reach.{near, blocks_with_colour};
 
 use crate::reach::{blocks_near, is_covered};
 use quilt_blocks::{Cursor, LeafList, Maker};
-use quilt_loc::quarters;
+use quilt_loc::{quarters, whole_square};
 use quilt_types::{Block, Colour};
 use std::alloc::{AllocError, Global};
 
@@ -22,11 +22,7 @@ pub fn buffer(alloc: Global, a: &LeafList, r: u16) -> Result<LeafList, AllocErro
     ensures { IfOk result (λ list. list ≡ record { level = a.now.level; grid = buffered a.now.level a.now.grid r }) }
 {
     let level = a.level();
-    let whole = Block {
-        x: 0,
-        y: 0,
-        side: 1 << level,
-    };
+    let whole = whole_square(level);
     let blocks = coloured_blocks(alloc, a)?;
     let mut maker = Maker::new(alloc, level);
     fill(alloc, &mut maker, &blocks, r, whole)?;

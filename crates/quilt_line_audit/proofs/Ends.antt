@@ -2,6 +2,7 @@
 use Rattle.std.proofs.Common.{◌≡◌, ℕ, ◌≤◌, Bool, true, false, List, [], length, drop, refl, ap, subst, arith}
 use Rattle.std.specs.Bool.{OnFalse}
 use Rattle.std.proofs.lemmas.List.{length-drop}
+use Rattle.quilt_types.specs.declared.plane.Block.{Block}
 use Rattle.quilt_types.specs.declared.plane.Seg.{Seg}
 use Rattle.quilt_types.specs.Plane.{side, whole}
 use Rattle.quilt_line_audit.specs.declared.pair.Pair.{Pair}
@@ -12,10 +13,10 @@ pub on_false : {P : Type 0} (b : Bool) → (b ≡ false → P) → OnFalse b P
 on_false true f = tt
 on_false false f = f refl
 
-module _ (n s : ℕ) (is : s ≡ side n) (segs : List (ℕ × Seg)) (pairs : List Pair) (end : ℕ) (le : end ≤ length pairs)
-    (some : (k : ℕ) → s ≡ side k → Begins segs k (record { y = 0; x = 0; side = s }) pairs (drop end pairs)) where
+module _ (n : ℕ) (b : Block) (is : b ≡ whole n) (segs : List (ℕ × Seg)) (pairs : List Pair) (end : ℕ) (le : end ≤ length pairs)
+    (some : (k : ℕ) → b.side ≡ side k → Begins segs k b pairs (drop end pairs)) where
   here : Begins segs n (whole n) pairs (drop end pairs)
-  here = subst (λ (z : ℕ). Begins segs n (record { y = 0; x = 0; side = z }) pairs (drop end pairs)) is (some n is)
+  here = subst (λ (z : Block). Begins segs n z pairs (drop end pairs)) is (some n (ap (λ (z : Block). z.side) is))
 
   pub ends_there : Begins segs n (whole n) pairs [] → end ≡ length pairs
   ends_there h =

@@ -8,8 +8,9 @@ ghost use Rattle.quilt_line_audit.specs.Runs.{IsStart, IsLineRun, IsLined};
 
 use crate::descent::end_in;
 use crate::pair::Pair;
+use quilt_loc::whole_square;
 use quilt_record::{Record, read_pair, read_segment};
-use quilt_types::{Block, Seg};
+use quilt_types::Seg;
 use std::alloc::{AllocError, Global};
 
 /// The records of a line layer that have come: its pairs and its segments, each in the order in which they came. Its memory is
@@ -64,11 +65,7 @@ impl LineRun {
         ensures yes { IfOk result (λ ok. OnTrue ok (IsLined level self.now)) }
         ensures no { IfOk result (λ ok. OnFalse ok (IsLined level self.now → ⊥)) }
     {
-        let square = Block {
-            x: 0,
-            y: 0,
-            side: 1 << level,
-        };
+        let square = whole_square(level);
         match end_in(self.alloc, &self.pairs, 0, &self.segs, square)? {
             None => Ok(false),
             Some(end) => Ok(end == self.pairs.len()),

@@ -11,8 +11,9 @@ ghost use Rattle.quilt_map.specs.Sessions.{IsAtState};
 use crate::refusals::why_not_new;
 use crate::session::Session;
 use quilt_blocks::{LeafList, Maker};
+use quilt_loc::whole_square;
 use quilt_replies::Reply;
-use quilt_types::{Block, Colour, Name, Stop};
+use quilt_types::{Colour, Name, Stop};
 use quilt_world::World;
 use std::alloc::{AllocError, Global};
 
@@ -22,13 +23,8 @@ fn uniform_list(alloc: Global, level: u8, c: Colour) -> Result<LeafList, AllocEr
     requires most { level ≤ 12 }
     ensures { IfOk result (λ list. list ≡ record { level = level; grid = uniform level c.0 }) }
 {
-    let whole = Block {
-        x: 0,
-        y: 0,
-        side: 1 << level,
-    };
     let mut maker = Maker::new(alloc, level);
-    maker.push(whole, c)?;
+    maker.push(whole_square(level), c)?;
     Ok(maker.finish())
 }
 

@@ -6,18 +6,10 @@ ghost use Rattle.quilt_near.specs.Choices.{placed_at};
 use crate::blocks::SegBlocks;
 use crate::choosing::block_distance;
 use crate::queue::Queue;
+use quilt_loc::whole_square;
 use quilt_store::PageStore;
-use quilt_types::{Block, Pixel};
+use quilt_types::Pixel;
 use std::alloc::{AllocError, Global};
-
-/// The whole square of a layer, at which a search begins.
-pub fn whole_square<S: PageStore, B: SegBlocks<S>>(blocks: &B) -> Block
-    ensures square { result ≡ whole (B.level_of blocks.now) }
-    ensures level { B.level_of blocks.now ≤ 12 }
-{
-    let side = 1 << blocks.level();
-    Block { x: 0, y: 0, side }
-}
 
 /// The queue of a search by distance at its beginning: the whole square waits alone.
 pub fn first_queue<S: PageStore, B: SegBlocks<S>>(
@@ -30,7 +22,7 @@ pub fn first_queue<S: PageStore, B: SegBlocks<S>>(
     ensures first { IfOk result (λ queue. IsPermutation (placed_at p (whole (B.level_of blocks.now)) ∷ []) queue) }
     ensures level { B.level_of blocks.now ≤ 12 }
 {
-    let whole = whole_square(blocks);
+    let whole = whole_square(blocks.level());
     let mut queue = Queue::new(alloc);
     queue.push(block_distance(p, whole), whole)?;
     Ok(queue)

@@ -1,5 +1,5 @@
 -- The quadrants of a square, and parts that stand for them.
-use Rattle.std.proofs.Common.{◌≡◌, ℕ, zero, suc, ◌+◌, ◌-◌, ◌*◌, ◌/◌, ◌%◌, ◌^◌, ◌<◌, ◌≤◌, List, [], ◌∷◌, length, get_or, sym, ◌∙◌, ap, ap₂, subst, arith}
+use Rattle.std.proofs.Common.{◌≡◌, ℕ, zero, suc, ◌+◌, ◌-◌, ◌*◌, ◌/◌, ◌^◌, ◌<◌, ◌≤◌, List, [], ◌∷◌, length, get_or, sym, ◌∙◌, ap, ap₂, subst, arith}
 use Rattle.std.proofs.Common.{pow_pos, pow-suc}
 use Rattle.std.proofs.lemmas.List.{get_or_default}
 use Rattle.quilt_types.specs.declared.plane.Pixel.{Pixel}
@@ -16,7 +16,7 @@ use Rattle.quilt_blocks.specs.Adding.{Adds}
 use Rattle.quilt_blocks.specs.Painting.{Painted, grid_by_code}
 use Rattle.quilt_blocks.proofs.Painting.{code_in, colour_at-grid_by_code}
 use Rattle.quilt_blocks.proofs.Adding.{part_at, Adds-then, Adds-change}
-use Rattle.quilt_blocks.proofs.Squares.{width, code_to-whole}
+use Rattle.quilt_blocks.proofs.Squares.{code_to-whole}
 use Rattle.quilt_raster.specs.Bytes.{from_corner}
 use Rattle.quilt_par.specs.declared.part.Part.{Part}
 use Rattle.quilt_par.specs.declared.part.Part.TheVariants.{Single, Leaves}
@@ -112,12 +112,9 @@ pixel_place n b is h =
     let y = h.in_y in
     omega arith
 
--- a quadrant as the code has it
-pub quadrant_found : (n i j : ℕ) (qs : List Block) → n ≤ 12 → qs ≡ quarters_of (record { x = 0; y = 0; side = 1 * 2 ^ n % 65536 }) → j ≡ i
-    → get_or qs j nowhere ≡ quadrant_at n i
-quadrant_found n i j qs most are at =
-    let e : qs ≡ quarters_of (whole n) = are ∙ ap (λ (s : ℕ). let b : Block = record { x = 0; y = 0; side = s } in quarters_of b) (width n most) in
-    ap₂ (λ (l : List Block) (k : ℕ). get_or l k nowhere) e at
+-- a quadrant among the four quarters of the whole square
+pub quadrant_found : (n i j : ℕ) (b : Block) (qs : List Block) → b ≡ whole n → qs ≡ quarters_of b → j ≡ i → get_or qs j nowhere ≡ quadrant_at n i
+quadrant_found n i j b qs is are at = ap₂ (λ (l : List Block) (k : ℕ). get_or l k nowhere) (are ∙ ap quarters_of is) at
 
 module _ (n : ℕ) (g : Grid) (a b c d : Part) (ha : Shows n g (quadrant_at n 0) a) (hb : Shows n g (quadrant_at n 1) b)
     (hc : Shows n g (quadrant_at n 2) c) (hd : Shows n g (quadrant_at n 3) d) where

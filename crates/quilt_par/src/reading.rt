@@ -6,7 +6,7 @@ ghost use Rattle.quilt_par.specs.Parts.{Shows, quadrant_at};
 use crate::gate::Gate;
 use crate::part::Part;
 use quilt_blocks::Maker;
-use quilt_loc::quarters;
+use quilt_loc::{quarters, whole_square};
 use quilt_raster::{add_square, colour_in};
 use quilt_types::{Block, Pixel};
 use std::alloc::{AllocError, Global};
@@ -20,12 +20,7 @@ pub(crate) fn quadrant(level: u8, number: u8) -> Block
     ensures valid { IsBlock level result }
     ensures half { 2 * result.side ≡ side_of level }
 {
-    let whole = Block {
-        x: 0,
-        y: 0,
-        side: 1 << level,
-    };
-    quarters(whole)[usize::from(number)]
+    quarters(whole_square(level))[usize::from(number)]
 }
 
 /// What a raster has in the quadrant of this number, after the number has passed the gate.
@@ -62,12 +57,7 @@ fn square_of(alloc: Global, colours: &[u8], level: u8, b: Block) -> Result<Part,
     ensures { IfOk result (λ part. Shows level (colours_of_bytes colours.now) b part) }
 {
     let corner = Pixel { x: b.x, y: b.y };
-    let whole = Block {
-        x: 0,
-        y: 0,
-        side: b.side,
-    };
     let mut maker = Maker::new(alloc, level - 1);
-    add_square(&mut maker, colours, level, corner, whole)?;
+    add_square(&mut maker, colours, level, corner, whole_square(level - 1))?;
     Ok(Part::Leaves(maker.finish()))
 }

@@ -8,7 +8,7 @@ ghost use Rattle.quilt_poly.specs.Edges.{IsClosed, colour_by};
 use crate::edges::{RingEdge, edges_of};
 use crate::passing::{crossed, edges_near, is_whole};
 use quilt_blocks::{LeafList, Maker};
-use quilt_loc::quarters;
+use quilt_loc::{quarters, whole_square};
 use quilt_types::{Block, Colour, Pixel, RingList};
 use std::alloc::{AllocError, Global};
 
@@ -28,11 +28,7 @@ pub fn region_of(
     ensures { IfOk result (λ list. list ≡ record { level = level; grid = filled_rings level rings.now c.0 }) }
 {
     let edges = edges_of(alloc, rings)?;
-    let whole = Block {
-        x: 0,
-        y: 0,
-        side: 1 << level,
-    };
+    let whole = whole_square(level);
     let mut maker = Maker::new(alloc, level);
     fill(alloc, &mut maker, &edges, c, whole)?;
     Ok(maker.finish())

@@ -1,17 +1,18 @@
 -- Squares in a grid, and a grid from its own colours.
-use Rattle.std.proofs.Common.{◌≡◌, ℕ, zero, suc, ◌+◌, ◌*◌, ◌^◌, ◌<◌, ◌≤◌, [], ◌∷◌, ◌++◌, length, get_or, ⊎_elim, add-one, sym, ◌∙◌, ap, ap₂, subst, arith}
+use Rattle.std.proofs.Common.{◌≡◌, ℕ, zero, suc, ◌+◌, ◌*◌, ◌^◌, ◌<◌, ◌≤◌, [], ◌∷◌, ◌++◌, length, get_or, ⊎_elim, add-one, refl, sym, ◌∙◌, ap, ap₂, subst, arith}
 use Rattle.std.proofs.Math.Nat.{mul-le-mul_right}
 use Rattle.std.proofs.lemmas.Bool.{cases_lt}
 use Rattle.std.specs.List.{range_with_len}
 use Rattle.quilt_types.specs.declared.plane.Pixel.{Pixel}
 use Rattle.quilt_types.specs.declared.plane.Block.{Block}
-use Rattle.quilt_types.specs.Plane.{side, below, Holds}
+use Rattle.quilt_types.specs.Plane.{side, whole, below, Holds}
 use Rattle.quilt_types.specs.Layers.{Grid, colour_at}
 use Rattle.quilt_types.specs.Algebra.{grid_of}
 use Rattle.quilt_loc.specs.Codes.{code_to}
 use Rattle.quilt_blocks.specs.Mosaic.{HasColour}
 use Rattle.quilt_loc.proofs.Rows.{grid_of-from, colour_at-pixel_at}
-use Rattle.quilt_blocks.proofs.Squares.{grid_of-same, code_to-whole}
+use Rattle.quilt_blocks.proofs.Squares.{grid_of-same}
+use Rattle.quilt_blocks.proofs.Adding.{Adds-whole}
 use Rattle.quilt_blocks.specs.Adding.{Adds}
 use Rattle.quilt_blocks.specs.Painting.{Painted}
 use Rattle.quilt_raster.specs.Bytes.{from_corner}
@@ -53,12 +54,10 @@ pub grid_of-colour_at : (n : ℕ) (g : Grid) → length g ≡ side n * side n �
 grid_of-colour_at n g long = grid_of-from n (colour_at n g) g long (λ k lt. sym (colour_at-pixel_at n g k))
 
 -- a whole square, put down from nothing
-pub all_added : (n : ℕ) (f : Pixel → ℕ) (s : ℕ) (start new : Painted) → s ≡ side n → start ≡ record { level = n; colours = [] }
-    → Adds start.level f (code_to (record { x = 0; y = 0; side = s })) start new → Adds n f (4 ^ n) (record { level = n; colours = [] }) new
-all_added n f s start new wide none a =
-    let end = ap (λ (z : ℕ). let b : Block = record { x = 0; y = 0; side = z } in code_to b) wide ∙ code_to-whole n in
-    subst (λ (k : ℕ). Adds n f k (record { level = n; colours = [] }) new) end
-    (subst (λ (m : Painted). Adds m.level f (code_to (record { x = 0; y = 0; side = s })) m new) none a)
+pub all_added : (n : ℕ) (f : Pixel → ℕ) (b : Block) (start new : Painted) → b ≡ whole n → start ≡ record { level = n; colours = [] }
+    → Adds start.level f (code_to b) start new → Adds n f (4 ^ n) (record { level = n; colours = [] }) new
+all_added n f b start new is none a =
+    Adds-whole n n f b start new refl is none (subst (λ (k : ℕ). Adds k f (code_to b) start new) (ap (λ (m : Painted). m.level) none) a)
 
 pub grid_from_corner : (n : ℕ) (g : Grid) → length g ≡ side n * side n → grid_of n (from_corner n g (record { x = 0; y = 0 })) ≡ g
 grid_from_corner n g long =

@@ -1,31 +1,30 @@
 -- Rows of a window out of its painted cells.
-use Rattle.std.proofs.Common.{◌≡◌, ℕ, zero, suc, ◌+◌, ◌-◌, ◌*◌, ◌%◌, ◌^◌, ◌<◌, ◌≤◌, List, [], ◌++◌, flat_map, map, get_or, refl, sym, ◌∙◌, ap, ap₂, subst}
+use Rattle.std.proofs.Common.{◌≡◌, ℕ, zero, suc, ◌+◌, ◌-◌, ◌*◌, ◌^◌, ◌<◌, ◌≤◌, List, [], ◌++◌, flat_map, map, get_or, refl, sym, ◌∙◌, ap, ap₂, subst}
 use Rattle.std.proofs.Common.{arith, append_assoc}
 use Rattle.std.proofs.Math.Nat.{mul-le-mul_right}
 use Rattle.std.proofs.lemmas.List.{flat_map_more, append-nil}
 use Rattle.quilt_types.specs.declared.plane.Pixel.{Pixel}
 use Rattle.quilt_types.specs.declared.plane.Window.{Window}
 use Rattle.quilt_types.specs.declared.plane.Block.{Block}
-use Rattle.quilt_types.specs.Plane.{side, below}
+use Rattle.quilt_types.specs.Plane.{whole, below}
 use Rattle.quilt_types.specs.Layers.{Grid, colour_at}
 use Rattle.quilt_loc.specs.Codes.{code_from, code_to}
 use Rattle.quilt_loc.proofs.Intervals.{origin_code}
-use Rattle.quilt_blocks.proofs.Squares.{width, code_to-whole}
+use Rattle.quilt_blocks.proofs.Squares.{code_to-whole}
 use Rattle.quilt_raster.specs.Painting.{IsIn, place_of, ArePainted}
 use Rattle.quilt_raster.specs.Showing.{digits_of, row_line, written_in}
 use Rattle.quilt_raster.proofs.Points.{below_more}
 use Rattle.quilt_raster.proofs.Written.{colour_at-written}
 
 -- nothing is painted before the first code
-pub ArePainted-none : (n : ℕ) (g : Grid) (w : Window) (s : ℕ) (cells : List ℕ) → ArePainted n g w (code_from (record { x = 0; y = 0; side = s })) cells
-ArePainted-none n g w s cells = record { each = λ p i lt. let z = origin_code in absurd (omega arith) }
+pub ArePainted-none : (n k : ℕ) (g : Grid) (w : Window) (b : Block) (cells : List ℕ) → b ≡ whole k → ArePainted n g w (code_from b) cells
+ArePainted-none n k g w b cells is = record { each = λ p i lt. let z : code_from b ≡ 0 = ap code_from is ∙ origin_code in absurd (omega arith) }
 
--- all codes of the square, whose side is as the code has it
-pub ArePainted-all : (n k : ℕ) (g : Grid) (w : Window) (cells : List ℕ) → n ≤ 12 → k ≡ n
-    → ArePainted n g w (code_to (record { x = 0; y = 0; side = 1 * 2 ^ k % 65536 })) cells → ArePainted n g w (4 ^ n) cells
-ArePainted-all n k g w cells most level h =
-    let size : 1 * 2 ^ k % 65536 ≡ side n = ap (λ (j : ℕ). 1 * 2 ^ j % 65536) level ∙ width n most in
-    let end = ap (λ (s : ℕ). let b : Block = record { x = 0; y = 0; side = s } in code_to b) size ∙ code_to-whole n in
+-- all codes of the square
+pub ArePainted-all : (n k : ℕ) (g : Grid) (w : Window) (b : Block) (cells : List ℕ) → k ≡ n → b ≡ whole k → ArePainted n g w (code_to b) cells
+    → ArePainted n g w (4 ^ n) cells
+ArePainted-all n k g w b cells level is h =
+    let end : code_to b ≡ 4 ^ n = ap code_to (is ∙ ap whole level) ∙ code_to-whole n in
     subst (λ (e : ℕ). ArePainted n g w e cells) end h
 
 -- a place in a row of a window, and all rows

@@ -8,7 +8,7 @@ ghost use Rattle.quilt_blocks.specs.Cutting.{leaves_by_code};
 ghost use Rattle.quilt_raster.specs.Painting.{IsRoom, IsIn, place_of, ArePainted};
 
 use quilt_blocks::{Leaf, LeafList};
-use quilt_loc::{code_of, quarters};
+use quilt_loc::{code_of, quarters, whole_square};
 use quilt_types::{Block, Pixel, Window};
 
 /// Puts the colours of a window's pixels into the first cells, one for each pixel, row by row. It finds the leaves of each
@@ -22,12 +22,7 @@ pub fn paint_window(cells: &mut [u16], list: &LeafList, w: Window)
 {
     let level = list.level();
     prove!(level <= 12);
-    let whole = Block {
-        x: 0,
-        y: 0,
-        side: 1 << level,
-    };
-    paint(cells, list, w, whole);
+    paint(cells, list, w, whole_square(level));
 }
 
 /// Puts the colours of a window's pixels that lie in a block into cells, one for each pixel of the window, row by row. It

@@ -6,7 +6,7 @@ ghost use Rattle.quilt_blocks.specs.Mosaic.{HasColour};
 ghost use Rattle.quilt_raster.specs.Bytes.{colours_of_bytes, from_corner};
 
 use quilt_blocks::{LeafList, Maker};
-use quilt_loc::quarters;
+use quilt_loc::{quarters, whole_square};
 use quilt_types::{Block, Colour, Pixel};
 use std::alloc::{AllocError, Global};
 
@@ -18,11 +18,7 @@ pub fn leaves_of(alloc: Global, colours: &[u8], level: u8) -> Result<LeafList, A
     requires all { length colours.now ≡ 2 * (side_of level * side_of level) }
     ensures { IfOk result (λ list. list ≡ record { level = level; grid = colours_of_bytes colours.now }) }
 {
-    let whole = Block {
-        x: 0,
-        y: 0,
-        side: 1 << level,
-    };
+    let whole = whole_square(level);
     let mut maker = Maker::new(alloc, level);
     add_square(&mut maker, colours, level, Pixel { x: 0, y: 0 }, whole)?;
     Ok(maker.finish())

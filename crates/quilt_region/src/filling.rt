@@ -11,7 +11,7 @@ ghost use Rattle.quilt_region.specs.Windows.{IsKnown, IsCutOut, records_within, 
 use crate::known::Known;
 use crate::spelling::put_records;
 use quilt_blocks::{LeafList, Maker};
-use quilt_loc::{covers, quarters};
+use quilt_loc::{covers, quarters, whole_square};
 use quilt_record::Record;
 use quilt_types::{Block, Colour, Pixel, Stop};
 use std::alloc::Global;
@@ -34,11 +34,7 @@ pub fn fill(
     ensures no_fault { IsErrOf result Device → ⊥ }
 {
     let mut maker = Maker::new(alloc, level);
-    let whole = Block {
-        x: 0,
-        y: 0,
-        side: 1 << level,
-    };
+    let whole = whole_square(level);
     match put_around(&mut maker, records, layer, level, whole, known) {
         Err(e) => Err(e),
         Ok(()) => Ok(maker.finish()),

@@ -12,8 +12,8 @@ ghost use Rattle.quilt_select.specs.Descents.{four, with_seg, IsOpened};
 
 use crate::stack::Stack;
 use quilt_clip::crosses;
-use quilt_loc::quarters;
-use quilt_near::{Part, SegBlocks, SegList, whole_square};
+use quilt_loc::{quarters, whole_square};
+use quilt_near::{Part, SegBlocks, SegList};
 use quilt_store::PageStore;
 use quilt_types::{Block, Seg, Stop, Window};
 use std::alloc::{AllocError, Global};
@@ -155,7 +155,7 @@ pub fn select<S: PageStore, B: SegBlocks<S>>(
     ensures left { IsOnlyRead S.size S.told S.free S.later S.changed store.old store.new }
 {
     let mut stack = Stack::new(alloc);
-    match stack.push(whole_square(blocks), windows) {
+    match stack.push(whole_square(blocks.level()), windows) {
         Err(_) => return Err(Stop::Memory),
         Ok(()) => {}
     }

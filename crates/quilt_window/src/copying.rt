@@ -9,7 +9,7 @@ ghost use Rattle.quilt_window.specs.Copying.{IsSpan, copied, square};
 
 use crate::span::Span;
 use quilt_blocks::{LeafList, Maker};
-use quilt_loc::{block_at, quarters};
+use quilt_loc::{block_at, quarters, whole_square};
 use quilt_raster::{add_cells, paint_window};
 use quilt_types::{Block, Colour, Pixel, Window};
 use std::alloc::{AllocError, Global};
@@ -32,11 +32,7 @@ pub(crate) fn copy(
     ensures { IfOk result (λ list. list ≡ record { level = a.now.level; grid = grid_of a.now.level (copied a.now.level a.now.grid across down) }) }
 {
     let level = a.level();
-    let whole = Block {
-        x: 0,
-        y: 0,
-        side: 1 << level,
-    };
+    let whole = whole_square(level);
     let mut maker = Maker::new(alloc, level);
     let mut cells = [0_u16; 1024];
     copy_block(&mut maker, &mut cells, a, across, down, whole)?;

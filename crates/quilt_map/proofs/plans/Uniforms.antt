@@ -1,21 +1,18 @@
 -- A region layer of one colour.
-use Rattle.std.proofs.Common.{◌≡◌, ℕ, ◌*◌, ◌^◌, ◌%◌, ◌<◌, ◌≤◌, Bool, false, List, [], ◌∷◌, ◌++◌, length, replicate, refl, sym, ◌∙◌, ap, subst}
+use Rattle.std.proofs.Common.{◌≡◌, ℕ, ◌*◌, ◌^◌, ◌<◌, ◌≤◌, Bool, false, List, [], ◌∷◌, ◌++◌, replicate, refl, sym, ◌∙◌, ap, subst}
 use Rattle.quilt_types.specs.declared.plane.Block.{Block}
 use Rattle.quilt_types.specs.declared.plane.Colour.{Colour}
 use Rattle.quilt_types.specs.declared.code.Code.{Code}
 use Rattle.quilt_types.specs.declared.code.Code.TheVariants as no
 use Rattle.quilt_types.specs.Algebra.{uniform}
 use Rattle.quilt_types.specs.Layers.{Region, Grid, IsGrid, colours}
-use Rattle.quilt_types.specs.Plane.{IsBlock}
+use Rattle.quilt_types.specs.Plane.{whole}
 use Rattle.quilt_world.specs.declared.disk.Disk as disk
-use Rattle.quilt_loc.specs.Codes.{code_from}
-use Rattle.quilt_loc.proofs.Intervals.{origin_code}
-use Rattle.quilt_loc.proofs.Quartered.{IsBlock-whole}
 use Rattle.quilt_blocks.specs.Painting.{Painted}
 use Rattle.quilt_blocks.specs.Raster.{Raster}
 use Rattle.quilt_blocks.specs.Adding.{Adds}
-use Rattle.quilt_blocks.proofs.Squares.{width}
-use Rattle.quilt_blocks.proofs.Adding.{Adds-push, Adds-whole}
+use Rattle.quilt_blocks.proofs.Squares.{whole_at}
+use Rattle.quilt_blocks.proofs.Adding.{whole_next, Adds-push, Adds-whole}
 use Rattle.quilt_region.proofs.GridsFit.{fits_law}
 use Rattle.quilt_words.specs.declared.command.Command.TheVariants as commands
 use Rattle.quilt_replies.specs.Answers.{State, Outcome, Refused, answer, unless, exists, too_many, full, with, changed}
@@ -27,24 +24,13 @@ use Rattle.quilt_map.proofs.answers.Outcomes.{nothing_done}
 use Rattle.quilt_map.proofs.answers.Placing.{answered_by, placed_none}
 use Rattle.quilt_map.proofs.answers.FirstTests.{first_false}
 
--- the whole square, as its side is computed
-abbrev square : ℕ → Block
-square n = record { x = 0; y = 0; side = 1 * 2 ^ n % 65536 }
-
-pub square_valid : (m n : ℕ) → n ≤ 12 → m ≡ n → IsBlock m (square n)
-square_valid m n le same =
-    subst (λ (k : ℕ). IsBlock k (square n)) (sym same)
-    (subst (λ (s : ℕ). let b : Block = record { x = 0; y = 0; side = s } in IsBlock n b) (sym (width n le)) (IsBlock-whole n))
-
-pub square_next : (n : ℕ) (old : Painted) → old ≡ record { level = n; colours = [] } → code_from (square n) ≡ length old.colours
-square_next n old start = origin_code ∙ sym (ap (λ (m : Painted). length m.colours) start)
-
-pub square_added : (n c : ℕ) (old new : Painted) → n ≤ 12 → old ≡ record { level = n; colours = [] }
-    → new ≡ record { level = old.level; colours = old.colours ++ replicate ((1 * 2 ^ n % 65536) * (1 * 2 ^ n % 65536)) c }
+-- the whole square in one colour
+pub square_added : (n c : ℕ) (b : Block) (old new : Painted) → n ≤ 12 → b ≡ whole n → old ≡ record { level = n; colours = [] }
+    → new ≡ record { level = old.level; colours = old.colours ++ replicate (b.side * b.side) c }
     → Adds n (λ p. c) (4 ^ n) (record { level = n; colours = [] }) new
-square_added n c old new le start is =
-    Adds-whole n n (λ p. c) old new le refl start
-    (Adds-push n (λ p. c) old new (square n) c le (square_valid n n le refl) (square_next n old start) (λ p h. refl) is)
+square_added n c b old new le is start more =
+    Adds-whole n n (λ p. c) b old new refl is start
+    (Adds-push n (λ p. c) old new b c le (whole_at n n b refl is) (whole_next n b old is start) (λ p h. refl) more)
 
 region_answer : (s : State) (name : List ℕ) (c : Colour) → (exists s name).0 ≡ false → (too_many s).0 ≡ false
     → answer s (commands.Region name c) ≡ placed s name (Region (uniform s.last.level c.0))

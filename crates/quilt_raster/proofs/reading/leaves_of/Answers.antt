@@ -1,22 +1,24 @@
-use Rattle.std.proofs.Common.{ℕ, ◌*◌, ◌%◌, ◌^◌, length, sym, ◌∙◌, ap}
+use Rattle.std.proofs.Common.{ℕ, ◌*◌, ◌^◌, sym, ◌∙◌, ap}
 use Rattle.quilt_types.specs.Plane.{side}
-use Rattle.quilt_loc.proofs.Intervals.{origin_code}
 use Rattle.quilt_blocks.specs.Painting.{Painted, grid_by_code}
-use Rattle.quilt_blocks.proofs.Adding.{Adds-all}
-use Rattle.quilt_blocks.proofs.Squares.{width}
+use Rattle.quilt_blocks.proofs.Adding.{whole_next, Adds-all}
+use Rattle.quilt_blocks.proofs.Squares.{whole_at}
 use Rattle.quilt_raster.specs.Bytes.{colours_of_bytes, from_corner}
 use Rattle.quilt_raster.proofs.Bytes.{length-colours_of_bytes}
 use Rattle.quilt_raster.proofs.Points.{all_added, grid_from_corner}
 use Rattle.quilt_raster.proofs.reading.leaves_of.Goals as goal
 
+pub add_square-requires-clause-valid : goal.add_square-requires-clause-valid
+add_square-requires-clause-valid c = whole_at _ _ _ (ap (λ (m : Painted). m.level) c.new-maker.ensures) c.whole_square-whole.ensures
+
 pub add_square-requires-clause-next : goal.add_square-requires-clause-next
-add_square-requires-clause-next c = origin_code ∙ sym (ap (λ (m : Painted). length m.colours) c.new-maker.ensures)
+add_square-requires-clause-next c = whole_next _ _ _ c.whole_square-whole.ensures c.new-maker.ensures
 
 pub finish-requires : goal.finish-requires
 finish-requires c =
     let n = c.args.level in
     let all = all_added n (from_corner n (colours_of_bytes c.args.colours.now) (record { x = 0; y = 0 }))
-    (1 * 2 ^ n % 65536) c.new-maker.result c.add_square.new.maker (width n c.requires.most) c.new-maker.ensures c.in_ok-add_square.ensures in
+    _ c.new-maker.result c.add_square.new.maker c.whole_square-whole.ensures c.new-maker.ensures c.in_ok-add_square.ensures in
     all.long ∙ ap (λ (k : ℕ). 4 ^ k) (sym all.level)
 
 pub returns : goal.returns
@@ -24,8 +26,7 @@ returns c =
     let n = c.args.level in
     let g = colours_of_bytes c.args.colours.now in
     let f = from_corner n g (record { x = 0; y = 0 }) in
-    let all =
-    all_added n f (1 * 2 ^ n % 65536) c.new-maker.result c.add_square.new.maker (width n c.requires.most) c.new-maker.ensures c.in_ok-add_square.ensures in
+    let all = all_added n f _ c.new-maker.result c.add_square.new.maker c.whole_square-whole.ensures c.new-maker.ensures c.in_ok-add_square.ensures in
     let level = c.finish.ensures.level ∙ all.level in
     let grid = c.finish.ensures.value ∙ ap (λ (k : ℕ). grid_by_code k c.add_square.new.maker.colours) all.level
     ∙ Adds-all n f c.add_square.new.maker c.requires.most all

@@ -1,37 +1,31 @@
-use Rattle.std.proofs.Common.{◌≡◌, ℕ, ◌*◌, ◌%◌, ◌^◌, ◌≤◌, length, sym, ◌∙◌, ap, subst, arith}
-use Rattle.quilt_types.specs.Plane.{whole, IsBlock}
+use Rattle.std.proofs.Common.{◌≡◌, ℕ, ◌^◌, length, refl, sym, ◌∙◌, ap, subst, arith}
+use Rattle.quilt_types.specs.declared.plane.Block.{Block}
 use Rattle.quilt_loc.specs.Codes.{code_to}
-use Rattle.quilt_loc.proofs.Intervals.{origin_code}
-use Rattle.quilt_loc.proofs.Quartered.{IsBlock-whole, side_le}
+use Rattle.quilt_loc.proofs.Quartered.{side_le}
 use Rattle.quilt_blocks.specs.Painting.{Painted, grid_by_code}
 use Rattle.quilt_blocks.proofs.Painting.{Paints-none, Paints-all}
-use Rattle.quilt_blocks.proofs.Squares.{width, code_to-whole}
+use Rattle.quilt_blocks.proofs.Squares.{whole_at, code_to-whole}
+use Rattle.quilt_blocks.proofs.Adding.{whole_next}
 use Rattle.quilt_region.specs.Painting.{HasColours}
 use Rattle.quilt_region.specs.Windows.{known_colour}
 use Rattle.quilt_region.proofs.filling.fill.Goals as goal
 
-whole_is : (n : ℕ) → n ≤ 12 → whole n ≡ record { y = 0; x = 0; side = 1 * 2 ^ n % 65536 }
-whole_is n le = let w = width n le in λ i. record { y = 0; x = 0; side = sym w i }
-
 pub put_around-requires-clause-block : goal.put_around-requires-clause-block
-put_around-requires-clause-block c = subst (IsBlock c.args.level) (whole_is c.args.level c.requires.level.1) (IsBlock-whole c.args.level)
+put_around-requires-clause-block c = whole_at _ _ _ refl c.whole_square-whole.ensures
 
 pub put_around-requires-clause-wide : goal.put_around-requires-clause-wide
 put_around-requires-clause-wide c =
     let s = side_le c.args.level c.args.known.now.read c.requires.known.read in
-    let w = width c.args.level c.requires.level.1 in
+    let w = ap (λ (b : Block). b.side) c.whole_square-whole.ensures in
     omega arith
 
 pub put_around-requires-clause-next : goal.put_around-requires-clause-next
-put_around-requires-clause-next c = ap (λ (m : Painted). length m.colours) c.new-maker.ensures ∙ sym origin_code
+put_around-requires-clause-next c = sym (whole_next _ _ _ c.whole_square-whole.ensures c.new-maker.ensures)
 
 pub finish-requires : goal.finish-requires
 finish-requires c =
     let n = c.args.level in
-    let end = c.in-Ok.ensures.end in
-    let last = ap code_to (whole_is n c.requires.level.1) in
-    let all = code_to-whole n in
-    end ∙ sym last ∙ all ∙ ap (λ (k : ℕ). 4 ^ k) (sym c.in-Ok.ensures.level)
+    c.in-Ok.ensures.end ∙ ap code_to c.whole_square-whole.ensures ∙ code_to-whole n ∙ ap (λ (k : ℕ). 4 ^ k) (sym c.in-Ok.ensures.level)
 
 pub returns-in-Ok-clause-list : goal.returns-in-Ok-clause-list
 returns-in-Ok-clause-list c g is =
@@ -41,7 +35,7 @@ returns-in-Ok-clause-list c g is =
     let start = Paints-none n f in
     let empty : HasColours n f c.new-maker.result.colours = subst (HasColours n f) (sym none) (record { each = start.each }) in
     let has = c.in-Ok.ensures.colours g is empty in
-    let end : length c.put_around.new.maker.colours ≡ 4 ^ n = c.in-Ok.ensures.end ∙ sym (ap code_to (whole_is n c.requires.level.1)) ∙ code_to-whole n in
+    let end : length c.put_around.new.maker.colours ≡ 4 ^ n = c.in-Ok.ensures.end ∙ ap code_to c.whole_square-whole.ensures ∙ code_to-whole n in
     let level = c.finish.ensures.level ∙ c.in-Ok.ensures.level in
     let grid = c.finish.ensures.value ∙ ap (λ (k : ℕ). grid_by_code k c.put_around.new.maker.colours) c.in-Ok.ensures.level
     ∙ Paints-all n f c.put_around.new.maker.colours c.requires.level.1 end (record { each = has.each }) in

@@ -1,6 +1,7 @@
-use Rattle.std.proofs.Common.{List, sym, subst, refl, arith}
+use Rattle.std.proofs.Common.{List, ◌∙◌, ap, sym, subst, refl, arith}
 use Rattle.quilt_store.proofs.Reading.{only_read_then, only_read_same}
 use Rattle.quilt_types.specs.declared.plane.Window.{Window}
+use Rattle.quilt_types.specs.Plane.{whole}
 use Rattle.quilt_select.specs.Descents.{IsOpened}
 use Rattle.quilt_select.proofs.Descending.{going_start, going_on, going_end, going_reads, first_valid, first_reached, less_left}
 use Rattle.quilt_select.proofs.descent.select.Goals as goal
@@ -10,7 +11,7 @@ loop-block-init g c =
     record {
       going = going_start _ c.args.windows.items c.requires (g.B.SegBlocks.shows c.args.blocks.now c.args.store.now)
           (g.met.B.SegBlocks.lines c.args.blocks.now c.args.store.now) (g.S.PageStore.reads c.args.store.now)
-          c.push.new.self c.new-found.result.entries _ c.args.windows.items c.new-stack.result c.whole_square.ensures.square
+          c.push.new.self c.new-found.result.entries _ c.args.windows.items c.new-stack.result (c.whole_square.ensures ∙ ap whole c.level.ensures.value)
           refl c.new-stack.ensures c.in-Ok.ensures c.new-found.ensures.empty;
       left = only_read_same _ _ _ _ _ _ (g.met.S.PageStore.same_time c.args.store.now);
       faults = omega arith;
