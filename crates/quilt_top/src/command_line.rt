@@ -13,19 +13,14 @@ use std::alloc::{AllocError, Global};
 fn reader<'a>(alloc: Global) -> Result<Command<'a>, AllocError>
     ensures { IfOk result (λ c. app_of c ≡ reader) }
 {
-    let mode = Arg::new(alloc, "mode").required(true);
-    let file = Arg::new(alloc, "file").required(true);
-    let first = Arg::new(alloc, "first");
-    let second = Arg::new(alloc, "second");
-    let pool = Arg::new(alloc, "pool").long("pool");
     Command::new(alloc, "quilt")
         .no_binary_name(true)
         .disable_help_flag(true)
-        .arg(mode)?
-        .arg(file)?
-        .arg(first)?
-        .arg(second)?
-        .arg(pool)
+        .arg(Arg::new(alloc, "mode").required(true))?
+        .arg(Arg::new(alloc, "file").required(true))?
+        .arg(Arg::new(alloc, "first"))?
+        .arg(Arg::new(alloc, "second"))?
+        .arg(Arg::new(alloc, "pool").long("pool"))
 }
 
 /// Says that a word is text. It does nothing when it runs.
