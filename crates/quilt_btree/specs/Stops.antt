@@ -1,10 +1,9 @@
 -- Why a call of the tree stops.
-use Rattle.std.specs.Prelude.{◌≢◌, ℕ, ◌<◌, ◌≤◌, Result, IsErrOf}
+use Rattle.std.specs.Prelude.{ℕ, ◌<◌}
 use Rattle.quilt_types.specs.declared.stop.Stop.{Stop}
 use Rattle.quilt_types.specs.declared.stop.Stop.TheVariants.{Device, Memory, Damaged}
 use Rattle.quilt_store.specs.declared.store.StoreErr.{StoreErr}
 use Rattle.quilt_store.specs.declared.store.StoreErr.TheVariants as store
-use Rattle.quilt_world.specs.Causes.{Rose}
 
 -- the store's reason as the tree's
 abbrev pub store_stop : StoreErr → Stop

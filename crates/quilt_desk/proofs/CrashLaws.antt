@@ -14,7 +14,7 @@ use Rattle.quilt_world.specs.declared.event.Event.{Event}
 use Rattle.quilt_world.specs.declared.event.Event.TheVariants.{Took, Put, Wrote, Tore, Synced}
 use Rattle.quilt_world.proofs.PageLaws.{left_from_pages}
 use Rattle.quilt_desk.specs.declared.page_state.PageState.{PageState}
-use Rattle.quilt_desk.specs.Crash.{is_sync, until_sync, since_sync, written_after, last_written, bytes_at_sync, chosen, left_by, page_filled, IsLeftBy}
+use Rattle.quilt_desk.specs.Crash.{is_sync, until_sync, since_sync, written_after, last_written, chosen, left_by, page_filled, IsLeftBy}
 use Rattle.quilt_desk.specs.PageStates.{first_state, state_after, state_of, kept_of, chosen_of, left_of}
 use Rattle.quilt_desk.specs.Whole.{is_whole}
 

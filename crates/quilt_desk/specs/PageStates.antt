@@ -1,5 +1,5 @@
 -- What is known of a page as the events go by: how a desk works out what a crash leaves.
-use Rattle.std.specs.Prelude.{◌≡◌, ℕ, true, false, List, [], fold, Option, Some, None, unwrap_or, if◌then◌else◌, ◌==◌}
+use Rattle.std.specs.Prelude.{ℕ, true, false, List, fold, Option, Some, None, unwrap_or, if◌then◌else◌, ◌==◌}
 use Rattle.quilt_world.specs.Disk.{Log}
 use Rattle.quilt_world.specs.declared.event.Event.{Event}
 use Rattle.quilt_world.specs.declared.event.Event.TheVariants.{Took, Put, Wrote, Tore, Synced}

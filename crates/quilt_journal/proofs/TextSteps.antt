@@ -1,7 +1,7 @@
 -- Bytes that are taken or put keep each state of the journal.
-use Rattle.std.proofs.Common.{◌≡◌, ℕ, ◌+◌, ◌<◌, Bool, true, false, cond, unwrap_or, List, [], Option, Some, length, sym, ◌∙◌, ap}
+use Rattle.std.proofs.Common.{◌≡◌, ℕ, ◌+◌, Bool, true, false, cond, unwrap_or, List, [], Option, Some, length, sym, ◌∙◌, ap}
 use Rattle.quilt_world.specs.Added.{is_of_text, AddsOnly}
-use Rattle.quilt_world.specs.Stops.{last, fixed}
+use Rattle.quilt_world.specs.Stops.{last}
 use Rattle.quilt_world.specs.Tale.{Tale}
 use Rattle.quilt_world.proofs.TextLaws.{last_text, fixed_text}
 use Rattle.quilt_journal.specs.Changed.{is_changed}

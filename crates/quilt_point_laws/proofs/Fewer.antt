@@ -1,5 +1,5 @@
 -- A del of a point layer never makes more records: each point of a block has one of its own.
-use Rattle.std.proofs.Common.{◌≡◌, ℕ, zero, suc, ◌+◌, ◌*◌, ◌/◌, ◌^◌, ◌<◌, ◌≤◌, Bool, true, false, cond, nat_lt, nat_le, List, [], ◌∷◌, ◌++◌, map, length, Some}
+use Rattle.std.proofs.Common.{◌≡◌, ℕ, zero, suc, ◌+◌, ◌*◌, ◌/◌, ◌^◌, ◌≤◌, Bool, true, false, cond, nat_lt, nat_le, List, [], ◌∷◌, map, length}
 use Rattle.std.proofs.Common.{refl, subst, arith, ⊎_elim, Contains, filter, flat_map, eqb, ltb-true, length-append, pow-suc, pow_pos}
 use Rattle.std.specs.FinMap as finmap
 use Rattle.std.proofs.lemmas.Bool.{cases_lt, and_parts}
@@ -8,13 +8,11 @@ use Rattle.std.proofs.lemmas.List.Elements.{All-contains}
 use Rattle.quilt_types.specs.declared.plane.Block.{Block}
 use Rattle.quilt_types.specs.declared.plane.Pixel.{Pixel}
 use Rattle.quilt_types.specs.Plane.{side, in_block, is_pixel, pixel_cmp, quarters_of, Holds, IsBlock}
-use Rattle.quilt_types.specs.Layers.{Points, PointMap, IsPointMap}
 use Rattle.quilt_types.specs.Quadtrees.{holds_few}
 use Rattle.quilt_types.specs.Facts.{Fact, HoldsPoint, HoldsNoPoint}
 use Rattle.quilt_record.specs.declared.record.Record.{Record}
 use Rattle.quilt_record.specs.Records.{record_of}
 use Rattle.quilt_spell.specs.Apart.{Apart}
-use Rattle.quilt_spell.specs.Changing.{LeadsTo}
 use Rattle.quilt_loc.proofs.Members.{Contains-here, Contains-there, Contains-cons_cases, Contains-filter, Contains-filter_from, Contains-flat_map}
 use Rattle.quilt_loc.proofs.Blocks.{Holds-from, in_block-true}
 use Rattle.quilt_loc.proofs.PlaneOrders.{pixel_total}

@@ -1,5 +1,5 @@
 -- What calls that only read leave of a store, one behind the other.
-use Rattle.std.proofs.Common.{◌≡◌, ◌∙◌, ℕ, ◌≤◌, refl, Bool, List, Option, arith}
+use Rattle.std.proofs.Common.{◌∙◌, ℕ, refl, Bool, List, Option, arith}
 use Rattle.quilt_store.specs.Store.{IsOnlyRead}
 
 -- where no call came

@@ -1,31 +1,29 @@
 -- What a trial promises, by what opening and its commands did.
-use Rattle.std.proofs.Common.{◌≡◌, inl, inr, ℕ, ◌+◌, ◌≤◌, Bool, true, false, List, [], ◌∷◌, ◌++◌, length, Option, Some, None, Result, Ok, Err, OnErr, IfOk}
+use Rattle.std.proofs.Common.{◌≡◌, inl, inr, ℕ, Bool, true, false, List, [], ◌∷◌, ◌++◌, length, Option, Some, None, Result, Ok, Err, IfOk}
 use Rattle.std.proofs.Common.{IfErr, refl, sym, ◌∙◌, ap, subst, arith, append-nil, append_assoc}
 use Rattle.std.specs.Option.{IfSome}
-use Rattle.quilt_types.specs.Facts.{quota}
 use Rattle.quilt_types.specs.Layers.{Edition}
 use Rattle.quilt_types.specs.declared.stop.Stop.TheVariants as stops
 use Rattle.quilt_world.specs.Added.{AddsOnly, is_of_pages, is_of_text}
 use Rattle.quilt_world.specs.Disk.{Pages, Log, CanLeave}
 use Rattle.quilt_world.specs.Home.{IsMapFile}
 use Rattle.quilt_world.specs.Stops.{LeavesNow}
-use Rattle.quilt_world.specs.Tale.{Tale, IsSameFile, Goes, put_bytes, taken_bytes, Begins}
+use Rattle.quilt_world.specs.Tale.{Tale, Goes, put_bytes, taken_bytes, Begins}
 use Rattle.quilt_world.proofs.AddedLaws.{adds_only_none}
-use Rattle.quilt_world.proofs.StopLaws.{same_file}
 use Rattle.quilt_world.proofs.TextLaws.{text_leaves}
 use Rattle.quilt_world.proofs.Told.{goes_weaker}
 use Rattle.quilt_edition.specs.Stands.{Stands}
 use Rattle.quilt_words.specs.Items.{items_of}
 use Rattle.quilt_lang.specs.Trials.{trial_text}
 use Rattle.quilt_replies.specs.Answers.{State}
-use Rattle.quilt_replies.specs.Runs.{Run, run}
+use Rattle.quilt_replies.specs.Runs.{Run}
 use Rattle.quilt_map.specs.Sessions.{first_state}
 use Rattle.quilt_top.specs.declared.halt.Halt.{Halt}
 use Rattle.quilt_top.specs.declared.halt.Halt.TheVariants as halts
 use Rattle.quilt_top.specs.declared.run.End.{End}
 use Rattle.quilt_top.specs.declared.trial_run.Tally.{Tally}
 use Rattle.quilt_top.specs.declared.run.End.TheVariants as ends
-use Rattle.quilt_top.specs.Headline.{IsOneOf, IsStop, IsEdition, all_done, RunsText, summary, RunsTrial, OpensSafely, input_limit}
+use Rattle.quilt_top.specs.Headline.{IsOneOf, IsStop, all_done, RunsText, summary, RunsTrial, OpensSafely}
 use Rattle.quilt_top.specs.Openings.{run_ends, is_run_end, end_of}
 use Rattle.quilt_top.specs.Saying.{Says, SaysPrefix}
 use Rattle.quilt_top.specs.TextRun.{IsUntold, run_in}

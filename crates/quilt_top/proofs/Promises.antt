@@ -1,16 +1,14 @@
 -- What the program promises of a run over a file, told or not, whichever source its commands come from.
-use Rattle.std.proofs.Common.{◌≡◌, ◌⊎◌, inl, inr, ℕ, ◌≤◌, ◌<◌, Bool, true, List, [], ◌∷◌, ◌++◌, length, Option, Some, None, Result, Ok, Err, refl, sym, ◌∙◌, ap}
+use Rattle.std.proofs.Common.{◌≡◌, inl, inr, ℕ, ◌≤◌, true, List, [], ◌∷◌, length, Option, Some, None, Result, Ok, Err, refl, sym, ◌∙◌}
 use Rattle.std.proofs.Common.{subst, arith, append-nil}
 use Rattle.std.specs.Option.{IfSome}
 use Rattle.quilt_types.specs.Layers.{Edition}
 use Rattle.quilt_types.specs.declared.stop.Stop.{Stop}
 use Rattle.quilt_types.specs.declared.stop.Stop.TheVariants as stops
-use Rattle.quilt_world.specs.Causes.{Rose}
 use Rattle.quilt_world.specs.Disk.{Pages, Log, CanLeave}
 use Rattle.quilt_world.specs.Doors.{OpensAt, attached}
 use Rattle.quilt_world.specs.Home.{IsMapFile, home}
-use Rattle.quilt_world.specs.Stops.{LeavesNow}
-use Rattle.quilt_world.specs.Tale.{Tale, Goes, taken_bytes, Begins}
+use Rattle.quilt_world.specs.Tale.{Tale, Goes, Begins}
 use Rattle.quilt_world.specs.declared.disk.Disk as disk
 use Rattle.quilt_world.specs.declared.disk.Fault.{Fault}
 use Rattle.quilt_world.specs.declared.world.Attached.{Attached}
@@ -18,8 +16,6 @@ use Rattle.quilt_world.specs.declared.disk.Door.{Door}
 use Rattle.quilt_world.specs.declared.disk.Door.TheVariants as doors
 use Rattle.quilt_edition.specs.Stands.{Stands, IsDamagePage}
 use Rattle.quilt_edition.proofs.OneEdition.{stands_once, home_length}
-use Rattle.quilt_words.specs.Items.{items_of}
-use Rattle.quilt_lang.specs.Trials.{trial_text}
 use Rattle.quilt_replies.specs.Answers.{State}
 use Rattle.quilt_map.specs.Sessions.{IsAt, level_of, first_state}
 use Rattle.quilt_map.specs.declared.session.Session.{Session}
@@ -28,7 +24,7 @@ use Rattle.quilt_top.specs.declared.orders.Source.{Source}
 use Rattle.quilt_top.specs.declared.orders.Source.TheVariants as sources
 use Rattle.quilt_top.specs.declared.run.End.{End}
 use Rattle.quilt_top.specs.declared.run.End.TheVariants as ends
-use Rattle.quilt_top.specs.Headline.{IsOneOf, RunsInput, RunsTrial, IsNoMap, OpensSafely, FindsFile, allowed_doors, is_allowed, may_end_run, may_end_trial}
+use Rattle.quilt_top.specs.Headline.{IsOneOf, RunsInput, RunsTrial, IsNoMap, OpensSafely, FindsFile, may_end_run, may_end_trial}
 use Rattle.quilt_top.specs.Headline.{HasEndCause, KeepsPromises, WhereTold}
 use Rattle.quilt_top.specs.Meanings.{run_from}
 use Rattle.quilt_top.specs.Openings.{Keeps, RunsTo, run_ends, is_run_end, end_of_stop}
@@ -38,7 +34,7 @@ use Rattle.quilt_top.specs.Words.{Run as RunText}
 use Rattle.quilt_top.proofs.Concluding.{quiet_try, runs_trial, opens_tried}
 use Rattle.quilt_top.proofs.openings.Damages.{damage_page}
 use Rattle.quilt_top.proofs.openings.Found.{IsFoundDamaged}
-use Rattle.quilt_top.proofs.Running.{stands_as, home_kept, opened_untold, other_end, no_start_end, run_end, apart, number, runs_input, quiet_run, opens_quiet}
+use Rattle.quilt_top.proofs.Running.{stands_as, home_kept, opened_untold, no_start_end, run_end, apart, number, runs_input, quiet_run, opens_quiet}
 use Rattle.quilt_top.proofs.Running.{opens_map, finds_opened}
 
 -- ---- the causes

@@ -1,37 +1,28 @@
 -- What a run over a file promises, by what opening and the text did.
-use Rattle.std.proofs.Common.{◌≡◌, inl, inr, ◌+◌, ◌≤◌, ◌<◌, ℕ, Bool, true, false, List, [], ◌∷◌, ◌++◌, length, length-append, take, Option, Some, None, Result}
+use Rattle.std.proofs.Common.{◌≡◌, inl, inr, ◌+◌, ◌<◌, ℕ, Bool, true, false, List, [], ◌∷◌, ◌++◌, length, length-append, take, Option, Some, None, Result}
 use Rattle.std.proofs.Common.{Ok, Err, IfOk, IfErr, refl, sym, ◌∙◌, ap, subst, arith, append-nil}
-use Rattle.std.specs.Option.{IfSome}
 use Rattle.std.specs.List.{All}
 use Rattle.std.proofs.lemmas.List.{take_at}
 use Rattle.quilt_types.specs.Facts.{quota}
 use Rattle.quilt_types.specs.Layers.{Edition}
-use Rattle.quilt_types.specs.declared.stop.Stop.{Stop}
 use Rattle.quilt_types.specs.declared.stop.Stop.TheVariants as stops
 use Rattle.quilt_world.specs.Added.{Only, AtEachTook, is_of_pages}
-use Rattle.quilt_world.specs.Causes.{Rose}
 use Rattle.quilt_world.specs.Disk.{Pages, Log, CanLeave}
 use Rattle.quilt_world.specs.Doors.{OpensAt}
 use Rattle.quilt_world.specs.Home.{IsMapFile, home}
 use Rattle.quilt_world.specs.Stops.{LeavesNow}
 use Rattle.quilt_world.specs.Tale.{Tale, Goes, put_bytes, taken_bytes, Begins}
-use Rattle.quilt_world.specs.declared.disk.Disk as disk
 use Rattle.quilt_world.specs.declared.disk.Door.{Door}
 use Rattle.quilt_world.specs.declared.disk.Door.TheVariants as doors
 use Rattle.quilt_journal.specs.Kept.{HasHome}
 use Rattle.quilt_edition.specs.Stands.{HoldsEdition, Stands, IsDamagePage}
-use Rattle.quilt_edition.proofs.OneEdition.{stands_once, home_length}
 use Rattle.quilt_words.specs.Items.{items_of}
 use Rattle.quilt_replies.specs.Answers.{State}
 use Rattle.quilt_replies.specs.Runs.{Run, Published, run, publishes, replies_of, output, told_within, editions_told}
-use Rattle.quilt_map.specs.Sessions.{IsAt, level_of, first_state}
-use Rattle.quilt_map.specs.declared.session.Session.{Session}
-use Rattle.quilt_map.proofs.Laws.{at_level}
+use Rattle.quilt_map.specs.Sessions.{first_state}
 use Rattle.quilt_top.specs.TextRun.{run_in, publishes_in, IsUntold, IsFine, RunsFrom, RunsWhole, Overruns}
 use Rattle.quilt_top.proofs.logs.Events.{put_bytes-append, nothing_taken, pages_untaken, pages_unput}
-use Rattle.quilt_top.proofs.openings.Found.{IsFoundDamaged}
 use Rattle.quilt_top.proofs.logs.Prefixes.{front_split, only_front}
-use Rattle.quilt_top.proofs.openings.Damages.{damage_page}
 use Rattle.quilt_top.proofs.turns.Places.{told_none, fine_last}
 use Rattle.quilt_top.proofs.turns.Runs.{reading_first, runs_now}
 use Rattle.quilt_top.specs.declared.halt.Halt.{Halt}
@@ -39,9 +30,8 @@ use Rattle.quilt_top.specs.declared.halt.Halt.TheVariants as halts
 use Rattle.quilt_top.specs.declared.run.End.{End}
 use Rattle.quilt_top.specs.declared.run.End.TheVariants as ends
 use Rattle.quilt_top.specs.Headline.{IsOneOf, ComesExactly, IsStop, IsEdition, WritesFew, all_done, RunsText, IsPrompt, input_limit, told_by_replies, RunsInput}
-use Rattle.quilt_top.specs.Headline.{IsNoMap, StandsForNothing, OpensSafely, FindsFile, may_end_run, HasEndCause, KeepsPromises, WhereTold}
-use Rattle.quilt_top.specs.Words.{Run as RunText}
-use Rattle.quilt_top.specs.Openings.{Keeps, RunsTo, run_ends, is_run_end, end_of, end_of_stop}
+use Rattle.quilt_top.specs.Headline.{IsNoMap, StandsForNothing, OpensSafely, FindsFile, may_end_run}
+use Rattle.quilt_top.specs.Openings.{Keeps, RunsTo, run_ends, is_run_end, end_of}
 
 -- ---- what opening leaves
 

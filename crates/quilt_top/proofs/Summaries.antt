@@ -1,24 +1,23 @@
 -- The summary of a trial, by the numbers that it tells.
-use Rattle.std.proofs.Common.{◌≡◌, ℕ, ◌+◌, ◌-◌, ◌==◌, ◌&&◌, Bool, true, false, cond, map, append-nil, List, [], ◌∷◌, ◌++◌, length, Option, IfSome, subst, Some}
-use Rattle.std.proofs.Common.{None, unwrap_or, codes, decimal, refl, sym, ◌∙◌, ap, arith}
+use Rattle.std.proofs.Common.{◌≡◌, ℕ, ◌+◌, ◌-◌, ◌==◌, ◌&&◌, Bool, true, false, cond, map, append-nil, List, [], ◌∷◌, length, Option, IfSome, subst, Some}
+use Rattle.std.proofs.Common.{None, refl, sym, ◌∙◌, ap, arith}
 use Rattle.std.specs.List.{count_by, list_all}
 use Rattle.std.proofs.lemmas.Bool.{ne_eqb}
 use Rattle.std.proofs.lemmas.List.Sums.{count_by-le-length, sum_by-cons}
 use Rattle.std.specs.Prelude.{slice_get}
 use Rattle.quilt_types.specs.Facts.{records}
-use Rattle.quilt_types.specs.Layers.{Map, Edition}
+use Rattle.quilt_types.specs.Layers.{Edition}
 use Rattle.quilt_world.specs.Disk.{Pages}
 use Rattle.quilt_world.specs.Stops.{LeavesNow}
 use Rattle.quilt_world.specs.Tale.{Tale}
 use Rattle.quilt_edition.specs.Stands.{Stands}
 use Rattle.quilt_words.specs.Items.{Group, held, items_of}
 use Rattle.quilt_lang.specs.Reading.{Same}
-use Rattle.quilt_lang.specs.Trials.{line}
 use Rattle.quilt_replies.specs.Answers.{State, Reply}
-use Rattle.quilt_replies.specs.Runs.{Run, run_of, replies_of, is_done, with_first, form_in, outcome_of}
+use Rattle.quilt_replies.specs.Runs.{Run, replies_of, is_done, with_first}
 use Rattle.quilt_map.proofs.answers.TextLaws.{run_same}
 use Rattle.quilt_top.specs.Headline.{all_done, last_number, summary}
-use Rattle.quilt_top.specs.Replies.{held_at, outcome, state_then, state_after, replies_from}
+use Rattle.quilt_top.specs.Replies.{held_at, outcome, state_then, state_after}
 use Rattle.quilt_top.specs.TextRun.{run_in}
 use Rattle.quilt_top.specs.Trying.{StandsForLast, summary_of, Tried}
 use Rattle.quilt_top.specs.declared.trial_run.Tally.{Tally}

@@ -2,10 +2,10 @@
 use Rattle.std.specs.List.{list_all}
 use Rattle.std.proofs.lemmas.List.Folds.{list_all-append}
 use Rattle.std.proofs.lemmas.List.{append-nil}
-use Rattle.std.proofs.Common.{◌≡◌, Bool, true, false, ◌&&◌, List, [], ◌∷◌, ◌++◌, refl, sym, ◌∙◌, ap, append_assoc}
+use Rattle.std.proofs.Common.{◌≡◌, Bool, true, false, ◌&&◌, [], ◌∷◌, ◌++◌, refl, sym, ◌∙◌, ap, append_assoc}
 use Rattle.quilt_world.specs.Added.{Only, AddsOnly}
 use Rattle.quilt_world.specs.Disk.{Log}
-use Rattle.quilt_world.specs.Tale.{Tale, Adds}
+use Rattle.quilt_world.specs.Tale.{Tale}
 use Rattle.quilt_world.specs.declared.event.Event.{Event}
 use Rattle.quilt_world.proofs.StopLaws.{same_file}
 

@@ -1,19 +1,15 @@
 -- Bytes that are taken or put change no page.
 use Rattle.std.specs.List.{list_all}
-use Rattle.std.proofs.lemmas.List.Folds.{list_all-append}
 use Rattle.std.proofs.lemmas.List.{append-nil}
-use Rattle.std.proofs.Common.{◌≡◌, ◌≢◌, inl, inr, ℕ, ◌<◌, cond, Bool, true, false, List, [], ◌∷◌, ◌++◌, Option, Some, None, length, get_or, refl, sym, ◌∙◌, ap}
-use Rattle.std.proofs.Common.{subst, arith, append_assoc}
-use Rattle.std.proofs.lemmas.Bool.{cases_lt}
+use Rattle.std.proofs.Common.{◌≡◌, ℕ, cond, Bool, true, false, List, [], ◌∷◌, ◌++◌, None, get_or, refl, sym, ◌∙◌, ap}
+use Rattle.std.proofs.Common.{subst, arith}
 use Rattle.quilt_world.specs.Added.{is_of_text, AddsOnly}
 use Rattle.quilt_world.specs.Disk.{Pages, Log, Mark, Untouched, marked, mark_from, unsynced_after, unsynced_from, is_unsynced, holds, CanLeave}
 use Rattle.quilt_world.specs.Doors.{TakesFrom}
 use Rattle.quilt_world.specs.PageBytes.{bytes_by, last_bytes, fixed_bytes}
-use Rattle.quilt_world.specs.Stops.{last, fixed, Leaves, LeavesNow}
+use Rattle.quilt_world.specs.Stops.{last, fixed, LeavesNow}
 use Rattle.quilt_world.specs.Tale.{Tale, Adds}
-use Rattle.quilt_world.specs.declared.event.Event.{Event}
 use Rattle.quilt_world.specs.declared.event.Event.TheVariants.{Took, Put, Wrote, Tore, Synced}
-use Rattle.quilt_world.proofs.StopLaws.{same_file}
 
 -- ---- the log
 

@@ -1,5 +1,5 @@
 -- The pages that the answer to a command reads, as all calls of the session say it.
-use Rattle.std.proofs.Common.{◌≡◌, ℕ, ◌+◌, ◌≤◌, false, List, Option, Some, None, Result, Ok, Err, refl, sym, ap, subst, ◌==◌}
+use Rattle.std.proofs.Common.{◌≡◌, ℕ, ◌+◌, ◌≤◌, false, List, Option, Some, None, Result, Ok, Err, refl, sym, subst, ◌==◌}
 use Rattle.std.specs.Prelude.{IfOk, if◌then◌else◌}
 use Rattle.quilt_types.specs.declared.plane.Pixel.{Pixel}
 use Rattle.quilt_types.specs.declared.plane.Window.{Window}
@@ -9,7 +9,7 @@ use Rattle.quilt_words.specs.declared.command.Command.TheVariants as commands
 use Rattle.quilt_store.specs.Store.{Tells as StoreTells}
 use Rattle.quilt_replies.specs.Answers.{State, layer, capacity_in, segs_in, cover_in}
 use Rattle.quilt_replies.specs.declared.reply.Reply.{Reply}
-use Rattle.quilt_map.specs.Reading.{is_bounded, IsAnsweredOk, IsPromised, pages_most, ReadsFew, is_at, warm_left}
+use Rattle.quilt_map.specs.Reading.{is_bounded, IsAnsweredOk, IsPromised, ReadsFew, is_at, warm_left}
 use Rattle.quilt_map.specs.Selecting.{layer_asked, HasFound, IsAnswered, pages_for}
 
 -- nothing is promised of the other commands

@@ -32,8 +32,7 @@ use Rattle.quilt_node.specs.declared.head.Head.{Head}
 use Rattle.quilt_btree.specs.Trees.{IsRooted}
 use Rattle.quilt_btree.specs.declared.tree.Tree.{Tree}
 use Rattle.quilt_near.specs.Budgets.{is_close}
-use Rattle.quilt_near.specs.Lines.{Lines}
-use Rattle.quilt_lines.specs.Layers.{HasLines, ShowsLines}
+use Rattle.quilt_lines.specs.Layers.{HasLines}
 use Rattle.quilt_lines.specs.declared.view.LineView.{LineView}
 use Rattle.quilt_select.specs.Clips.{with_range, clip_of, clips_of}
 use Rattle.quilt_select.specs.Shares.{is_touching}

@@ -1,16 +1,15 @@
 -- Turns of the loops that give and answer the items of the text of a trial.
-use Rattle.std.proofs.Common.{◌≡◌, inl, inr, ℕ, ◌+◌, ◌<◌, ◌≤◌, ◌==◌, Bool, true, false, cond, List, [], ◌∷◌, ◌++◌, length, map, Option, Some, None, refl, sym}
+use Rattle.std.proofs.Common.{◌≡◌, ℕ, ◌+◌, ◌<◌, ◌≤◌, ◌==◌, Bool, true, false, cond, List, [], ◌∷◌, ◌++◌, length, map, Option, Some, None, refl, sym}
 use Rattle.std.proofs.Common.{◌∙◌, ap, subst, arith, length-append, append-nil, append_assoc, zero, suc, take, IfSome, MatchOption}
 use Rattle.std.specs.List.{count_by, slice_split}
 use Rattle.std.proofs.lemmas.List.{length-map, map-append, nil_from_length}
 use Rattle.std.proofs.lemmas.List.Sums.{sum_by-append}
 use Rattle.std.proofs.lemmas.List.Splits.{length-slice_split}
 use Rattle.quilt_world.specs.Disk.{Pages}
-use Rattle.quilt_world.specs.Stops.{Since}
 use Rattle.quilt_world.specs.Tale.{Tale, Goes}
 use Rattle.quilt_world.proofs.AddedLaws.{adds_only_none, adds_only_both}
 use Rattle.quilt_world.proofs.StopLaws.{since_here, since_both, since_weaker}
-use Rattle.quilt_world.proofs.Told.{goes_then, goes_weaker}
+use Rattle.quilt_world.proofs.Told.{goes_then}
 use Rattle.quilt_world.specs.Added.{is_of_pages}
 use Rattle.quilt_edition.specs.Stands.{Stands}
 use Rattle.quilt_world.specs.Stops.{LeavesNow}
@@ -23,8 +22,7 @@ use Rattle.quilt_replies.specs.Answers.{State, Reply}
 use Rattle.quilt_replies.specs.Runs.{Run, is_done}
 use Rattle.quilt_map.proofs.answers.TextLaws.{run_same, then_same}
 use Rattle.quilt_top.specs.Answering.{StandsForItem, Applies}
-use Rattle.quilt_top.specs.Headline.{IsEdition}
-use Rattle.quilt_top.specs.Replies.{held_at, outcome, reply_to, state_then, state_after, replies_from, said_for}
+use Rattle.quilt_top.specs.Replies.{held_at, outcome, reply_to, state_then, state_after, replies_from}
 use Rattle.quilt_top.specs.TextRun.{run_in, IsFine}
 use Rattle.quilt_top.specs.Trying.{IsNextItem, StandsForOne, Tries, Tried}
 use Rattle.quilt_top.specs.declared.trial_run.Tally.{Tally}

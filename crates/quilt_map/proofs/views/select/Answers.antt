@@ -1,7 +1,5 @@
 use Rattle.std.proofs.Common.{ap}
-use Rattle.quilt_near.specs.Lines.{Lines}
 use Rattle.quilt_words.specs.declared.command.Command.{Command}
-use Rattle.quilt_words.specs.declared.command.Command.TheVariants as commands
 use Rattle.quilt_map.specs.Asking.{reads_in}
 use Rattle.quilt_map.specs.Selecting.{Shows, selected, is_asked, AsksSome}
 use Rattle.quilt_map.proofs.answers.Answered.{told_reply}

@@ -1,4 +1,4 @@
-use Rattle.std.proofs.Common.{◌≡◌, ℕ, true, false, List, Some, ◌∙◌, sym, arith}
+use Rattle.std.proofs.Common.{◌≡◌, true, false, Some, ◌∙◌, sym, arith}
 use Rattle.quilt_record.proofs.Readers.{pair_same, region_named, region_colour, region_under, under_region}
 use Rattle.quilt_record.proofs.region.read_region.Goals as goal
 

@@ -1,7 +1,6 @@
 use Rattle.std.proofs.Common.{◌∙◌, sym, ap, subst}
 use Rattle.quilt_map.specs.Sessions.{level_of, IsAt}
 use Rattle.quilt_top.specs.declared.run.End.{End}
-use Rattle.quilt_top.specs.declared.run.End.TheVariants as ends
 use Rattle.quilt_top.specs.Headline.{IsOneOf}
 use Rattle.quilt_top.specs.Openings.{run_ends, is_run_end}
 use Rattle.quilt_top.specs.Trying.{trial_run}

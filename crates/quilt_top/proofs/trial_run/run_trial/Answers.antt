@@ -1,8 +1,8 @@
-use Rattle.std.proofs.Common.{◌≡◌, ◌∙◌, ap, subst, arith}
+use Rattle.std.proofs.Common.{◌∙◌, ap, arith}
 use Rattle.quilt_lang.specs.Trials.{trial_text}
 use Rattle.quilt_map.specs.Sessions.{level_of}
 use Rattle.quilt_map.proofs.Laws.{at_level}
-use Rattle.quilt_top.specs.Trying.{text_left, trial_run}
+use Rattle.quilt_top.specs.Trying.{trial_run}
 use Rattle.quilt_top.proofs.turns.Applying.{leaves_told, seen_told}
 use Rattle.quilt_top.proofs.Concluding.{goes_none, goes_part, goes_whole, goes_front, tries_as, tried_as, counted_as}
 use Rattle.quilt_top.proofs.Summaries.{summary_is, flag_is, last_leaves, last_seen}

@@ -1,4 +1,4 @@
-use Rattle.std.proofs.Common.{◌≡◌, ◌∙◌, ◌+◌, ℕ, Bool, List, [], cond, refl, sym, ap, subst, rules, arith, length}
+use Rattle.std.proofs.Common.{◌≡◌, ◌∙◌, ◌+◌, ℕ, Bool, List, cond, refl, ap, subst, rules, arith, length}
 use Rattle.quilt_types.specs.declared.stop.Stop.TheVariants as stops
 use Rattle.quilt_world.specs.Tale.{Goes}
 use Rattle.quilt_words.specs.declared.item.Item.{Item}

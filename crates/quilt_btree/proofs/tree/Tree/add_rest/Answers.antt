@@ -1,4 +1,4 @@
-use Rattle.std.proofs.Common.{◌≡◌, true, ◌<◌, ◌∙◌, vec_len, arith}
+use Rattle.std.proofs.Common.{◌≡◌, true, ◌<◌, vec_len, arith}
 use Rattle.std.proofs.lemmas.Result.{err_from_is_err_and}
 use Rattle.std.specs.Ordering.{is_lt}
 use Rattle.quilt_store.proofs.Reading.{only_read_then}

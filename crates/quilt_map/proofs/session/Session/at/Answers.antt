@@ -1,6 +1,6 @@
 use Rattle.quilt_types.specs.declared.code.Code.TheVariants as no
 use Rattle.quilt_replies.specs.declared.reply.Reply.TheVariants as reply
-use Rattle.std.proofs.Common.{ℕ, true, false, List, Option, refl, sym, subst, ◌∙◌, ap, Some, None}
+use Rattle.std.proofs.Common.{true, false, List, Option, refl, sym, subst, ◌∙◌, ap, Some, None}
 use Rattle.std.specs.Map.{keys_of}
 use Rattle.quilt_types.specs.Layers.{Map}
 use Rattle.quilt_world.specs.Disk.{Pages}
