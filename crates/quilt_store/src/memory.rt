@@ -89,6 +89,14 @@ impl PageStore for MemStore {
         Ok(())
     }
 
+    fn page(&mut self, page: u32) -> Result<&[u8; 4096], StoreErr> {
+        Ok(&self.pages[page as usize])
+    }
+
+    fn edit(&mut self, page: u32) -> Result<&mut [u8; 4096], StoreErr> {
+        Ok(&mut self.pages[page as usize])
+    }
+
     fn write(&mut self, page: u32, bytes: &[u8; 4096]) -> Result<(), StoreErr>
         requires page { (1 ≤ page) × (page < length self.old.pages.items) }
         requires taken { is_free self.old.free.items page ≡ false }
