@@ -24,7 +24,7 @@ use Rattle.quilt_pool.specs.Keeping.{IsWork, Keeps}
 use Rattle.quilt_pool.proofs.Saving.{tries_none}
 use Rattle.quilt_pool.proofs.Entering.{keeps_then}
 
-eqb-same : (k : ℕ) (x y : ℕ) → nat_eq k x ≡ true → nat_eq k y ≡ nat_eq x y
+pub eqb-same : (k : ℕ) (x y : ℕ) → nat_eq k x ≡ true → nat_eq k y ≡ nat_eq x y
 eqb-same k x y t = ap (λ j. nat_eq j y) (eqb-true k x t)
 
 -- the page's frame becomes clean where it stands
@@ -169,6 +169,9 @@ count_upto f a m n le =
 pub no_zero : (n : ℕ) (es : Entries) → AreBelow n es → (i : ℕ) → i < 1 → is_dirty es i ≡ false
 no_zero n es below i lt = dirt_of (frame_at es i) (λ f is. absurd (omega (arith, lt, (below.each i f is).0)))
 
+pub none_past : (n : ℕ) (es : Entries) → AreBelow n es → (i : ℕ) → n ≤ i → is_dirty es i ≡ false
+none_past n es below i le = dirt_of (frame_at es i) (λ f is. absurd (omega (arith, le, (below.each i f is).1)))
+
 pub goes_drained : (n m : ℕ) (e1 e2 e3 : Entries) (c1 c2 c3 : List Bool) (a b d : Option Tale) → m ≡ n → Goes (Keeps n e1 e2 c1 c2) a b
     → Goes (Keeps m e2 e3 c2 c3) b d → Goes (Keeps n e1 e3 c1 c3) a d
 goes_drained n m e1 e2 e3 c1 c2 c3 a b d same p q =
@@ -178,3 +181,21 @@ goes_drained n m e1 e2 e3 c1 c2 c3 a b d same p q =
 pub goes_written_too : (j k l : ℕ) (a b d : Option Tale) → j + k ≤ l → Goes (Writing j) a b → Goes (Writing k) b d → Goes (Writing l) a d
 goes_written_too j k l a b d le p q =
     goes_then (Writing j) (Writing k) (Writing l) a b d p q (λ o m t x y. writing_more (j + k) l o t le (writing_both j k o m t x y))
+
+-- the count up to a page, where none is dirty in between
+count_gap : (f : ℕ → Bool) (d from : ℕ) → 1 ≤ from → ((i : ℕ) → from ≤ i → i < from + d → f i ≡ false)
+    → length (filter f (range_with_len 1 (from + d - 1))) ≡ length (filter f (range_with_len 1 (from - 1)))
+count_gap f zero from some none = ap (λ k. length (filter f (range_with_len 1 (k - 1)))) (add-zero from)
+count_gap f (suc d) from some none =
+    let on = count_gap f d from some (λ i le lt. none i le (omega (arith, lt))) in
+    let step = count_page f (from + d) (omega (arith, some)) in
+    let clear : cond {A = ℕ} (f (from + d)) 1 0 ≡ 0 = ap (λ b. cond {A = ℕ} b 1 0) (none (from + d) (omega arith) (omega arith)) in
+    let same : from + suc d ≡ from + d + 1 = omega arith in
+    ap (λ k. length (filter f (range_with_len 1 (k - 1)))) same ∙ omega (arith, on, step, clear)
+
+pub count_to : (f : ℕ → Bool) (from page : ℕ) → 1 ≤ from → from ≤ page → ((i : ℕ) → from ≤ i → i < page → f i ≡ false)
+    → length (filter f (range_with_len 1 (page - 1))) ≡ length (filter f (range_with_len 1 (from - 1)))
+count_to f from page some le none =
+    let same : from + (page - from) ≡ page = omega (arith, le) in
+    subst (λ k. length (filter f (range_with_len 1 (k - 1))) ≡ length (filter f (range_with_len 1 (from - 1)))) same
+    (count_gap f (page - from) from some (λ i low lt. none i low (omega (arith, lt, le))))

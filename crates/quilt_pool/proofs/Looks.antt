@@ -57,7 +57,7 @@ first_at k (d ∷ es) e i h ne = elim (cases_Bool (nat_eq k d.0)) [
 pub found_key : (k : ℕ) (es : Entries) (e : ℕ × Frame) → lookup_entry (nat_eq k) es ≡ Some e → e.0 ≡ k
 found_key k es e h = sym (eqb-true k e.0 (Contains-lookup_entry (nat_eq k) es e h).1)
 
-found_value : (k : ℕ) (es : Entries) (e : ℕ × Frame) → lookup_entry (nat_eq k) es ≡ Some e → frame_at es k ≡ Some e.1
+pub found_value : (k : ℕ) (es : Entries) (e : ℕ × Frame) → lookup_entry (nat_eq k) es ≡ Some e → frame_at es k ≡ Some e.1
 found_value k [] e h = cc
 found_value k (d ∷ es) e h = elim (cases_Bool (nat_eq k d.0)) [
   | inl t ↦ let h' : Some d ≡ Some e = rw t at h in rw t (ap (option_map (λ (x : ℕ × Frame). x.1)) h')

@@ -1,3 +1,5 @@
+pub mod Dirt
 pub mod Entries
 pub mod Keeping
+pub mod Lending
 pub mod Views

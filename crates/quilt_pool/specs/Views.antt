@@ -1,5 +1,5 @@
 -- A pool as it is seen: a capacity, and a list of entries.
-use Rattle.std.specs.Prelude.{ℕ}
+use Rattle.std.specs.Prelude.{ℕ, List}
 use Rattle.lru.specs.LruCache.{LruCache}
 use Rattle.quilt_pool.specs.Entries.{Entries}
 use Rattle.quilt_pool.specs.declared.frame.Frame.{Frame}
@@ -16,3 +16,7 @@ entries_of p = p.table.entries
 -- how many pages the pool holds at most
 abbrev pub capacity_of : Pool → ℕ
 capacity_of p = p.table.cap
+
+-- the bits of the pages that may be dirty: each dirty page has its bit
+abbrev pub dirty_bits : Pool → List ℕ
+dirty_bits p = p.dirty

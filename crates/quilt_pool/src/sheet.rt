@@ -1,4 +1,5 @@
 ghost use Rattle.std.specs.Prelude.{◌≡◌, IfOk, IsOk};
+ghost use Rattle.std.specs.Borrow.{sem};
 
 use std::alloc::{AllocError, Global};
 use std::marker::Model;
@@ -18,6 +19,8 @@ impl Model for Sheet {
 }
 
 impl Sheet {
+    ghost use Rattle.quilt_pool.specs.Lending.{LendsSheet};
+
     /// A copy of these bytes.
     pub fn new(alloc: Global, bytes: &[u8; 4096]) -> Result<Sheet, AllocError>
         ensures { IfOk result (λ sheet. sheet ≡ bytes.now) }
@@ -31,6 +34,14 @@ impl Sheet {
         ensures { result.now ≡ self.now }
     {
         &self.bytes
+    }
+
+    /// The bytes, where they lie, to be changed.
+    pub fn bytes_mut(&mut self) -> &mut [u8; 4096]
+        ensures* writes_back { sem 𝓛 (LendsSheet self.entry result) }
+        ensures bytes { result.now ≡ self.old }
+    {
+        &mut self.bytes
     }
 
     /// Writes these bytes over those that are there.

@@ -2,7 +2,9 @@ ghost use Rattle.std.specs.Prelude.{◌≡◌, ◌≢◌, nat_eq, true, false, O
 ghost use Rattle.quilt_store.specs.declared.store.StoreErr.TheVariants.{Device};
 ghost use Rattle.lru.specs.LruCache.{IsValid, lru_cache, put_entries, promoted};
 ghost use Rattle.std.specs.Map.{remove_entry, set_value};
-ghost use Rattle.quilt_pool.specs.Entries.{frame_at, has_frame};
+ghost use Rattle.std.specs.Prelude.{ℕ, List};
+ghost use Rattle.std.specs.Borrow.{sem, Lends, Array, u8 as byte};
+ghost use Rattle.quilt_pool.specs.Entries.{frame_at, has_frame, bytes_or, edited};
 
 use crate::frame::Frame;
 use crate::sheet::Sheet;
@@ -58,6 +60,75 @@ pub fn find_frame(table: &mut LruCache<u32, Frame>, page: u32, into: &mut [u8; 4
     false
 }
 
+/// The page's bytes, where they lie. The page that was used last is found with no look-up.
+pub fn lent_frame(table: &LruCache<u32, Frame>, page: u32) -> &[u8; 4096]
+    requires there { IsSome (frame_at table.now.entries page) }
+    ensures bytes { result.now ≡ bytes_or [] (frame_at table.now.entries page) }
+{
+    if let Some((first, frame)) = table.peek_mru() {
+        if *first == page {
+            return frame.bytes.bytes();
+        }
+    }
+    table.peek(&page).unwrap().bytes.bytes()
+}
+
+/// Whether the page was used last, and is dirty.
+fn is_dirty_first(table: &LruCache<u32, Frame>, page: u32) -> bool
+    ensures { result ≡ true → (f : _) → frame_at table.now.entries page ≡ Some f → f.is_dirty ≡ true }
+{
+    match table.peek_mru() {
+        Some((first, frame)) => *first == page && frame.is_dirty,
+        None => false,
+    }
+}
+
+/// Entries that lend a page.
+pub trait Lending {
+    /// The page is there.
+    ghost has: { Self → ℕ → Type 0 };
+
+    /// The page's bytes.
+    ghost bytes: { Self → ℕ → List ℕ };
+
+    /// They are as before, but that the page has these bytes.
+    ghost edited: { Self → ℕ → List ℕ → Self };
+
+    /// The page's bytes, where they lie, to be changed.
+    fn edit_frame(&mut self, page: u32) -> &mut [u8; 4096]
+        requires there { has self.old page }
+        ensures* writes_back { sem 𝓛 (Lends Self.row (Array byte 4096) self.entry result (edited self.old page)) }
+        ensures bytes { result.now ≡ bytes self.old page };
+}
+
+impl Lending for LruCache<u32, Frame> {
+    ghost has = { λ s page. IsSome (frame_at s.entries page) };
+
+    ghost bytes = { λ s page. bytes_or [] (frame_at s.entries page) };
+
+    ghost edited = { λ s page w. lru_cache (edited s.entries page w) s.cap };
+
+    fn edit_frame(&mut self, page: u32) -> &mut [u8; 4096] {
+        let frame = self.peek_mut(&page).unwrap();
+        frame.bytes.bytes_mut()
+    }
+}
+
+/// Brings the page to the front, where it is there.
+pub fn touch_frame(table: &mut LruCache<u32, Frame>, page: u32) -> bool
+    ensures found { result ≡ true → IsSome (frame_at table.old.entries page) }
+    ensures entries { result ≡ true → table.new ≡ lru_cache (promoted (nat_eq page) table.old.entries) table.old.cap }
+    ensures lost { result ≡ false → (frame_at table.old.entries page ≡ None) × (table.new ≡ table.old) }
+    ensures valid { IsValid nat_eq table.new }
+{
+    if table.promote(&page) {
+        let _ = table.len();
+        return true;
+    }
+    let _ = table.len();
+    false
+}
+
 /// The page is not dirty any more, where it is there. The order stays.
 pub fn clean_frame(table: &mut LruCache<u32, Frame>, page: u32)
     ensures entries { (f : _) → frame_at table.old.entries page ≡ Some f
@@ -66,6 +137,22 @@ pub fn clean_frame(table: &mut LruCache<u32, Frame>, page: u32)
 {
     if let Some(frame) = table.peek_mut(&page) {
         frame.is_dirty = false;
+    }
+    let _ = table.len();
+}
+
+/// The page is dirty then, where it is there. The order stays.
+pub fn mark_frame(table: &mut LruCache<u32, Frame>, page: u32)
+    ensures entries { (f : _) → frame_at table.old.entries page ≡ Some f
+        → table.new ≡ lru_cache (set_value (nat_eq page) table.old.entries (record { bytes = f.bytes; is_dirty = true })) table.old.cap }
+    ensures valid { IsValid nat_eq table.new }
+{
+    if is_dirty_first(table, page) {
+        let _ = table.len();
+        return;
+    }
+    if let Some(frame) = table.peek_mut(&page) {
+        frame.is_dirty = true;
     }
     let _ = table.len();
 }

@@ -8,10 +8,12 @@ use Rattle.quilt_pool.specs.Entries.{frame_at, bytes_or, is_dirty, is_marked, Ar
 use Rattle.quilt_pool.specs.Keeping.{Keeps}
 use Rattle.quilt_pool.proofs.pool.Pool.drain_dirty.Given as goal
 
-abbrev pub invariant-loop-page : goal.invariant-loop-page
-invariant-loop-page g l = record {
+abbrev pub invariant-bits : goal.invariant-bits
+invariant-bits g l = record {
   device : KeepsDevice g.D.Disk.size g.D.Disk.door l.initial.disk l.disk;
   faults : g.D.Disk.faults l.initial.disk ≤ g.D.Disk.faults l.disk;
+  low : 1 ≤ l.from;
+  high : l.from ≤ l.pages;
   pages : l.journal.pages ≡ l.initial.journal.pages;
   state : l.journal.state ≡ l.initial.journal.state;
   bits : length l.journal.changed ≡ length l.initial.journal.changed;
@@ -20,10 +22,13 @@ invariant-loop-page g l = record {
   bytes : (i : ℕ) → bytes_or [] (frame_at l.self.table.entries i) ≡ bytes_or [] (frame_at l.initial.self.table.entries i);
   cap : l.self.table.cap ≡ l.initial.self.table.cap;
   marked : (i : ℕ) → is_marked l.self.table.entries l.journal.changed i ≡ is_marked l.initial.self.table.entries l.initial.journal.changed i;
-  drained : (i : ℕ) → i < l.page → is_dirty l.self.table.entries i ≡ false;
-  others : (i : ℕ) → l.page ≤ i → is_dirty l.self.table.entries i ≡ is_dirty l.initial.self.table.entries i;
+  drained : (i : ℕ) → i < l.from → is_dirty l.self.table.entries i ≡ false;
+  others : (i : ℕ) → l.from ≤ i → is_dirty l.self.table.entries i ≡ is_dirty l.initial.self.table.entries i;
   kept : Goes (Keeps l.initial.journal.pages l.initial.self.table.entries l.self.table.entries l.initial.journal.changed l.journal.changed)
       (g.D.Disk.told l.initial.disk) (g.D.Disk.told l.disk);
-  writes : Goes (Writing (length (filter (is_dirty l.initial.self.table.entries) (range_with_len 1 (l.page - 1)))))
+  writes : Goes (Writing (length (filter (is_dirty l.initial.self.table.entries) (range_with_len 1 (l.from - 1)))))
       (g.D.Disk.told l.initial.disk) (g.D.Disk.told l.disk);
 }
+
+abbrev pub decreases-bits : goal.decreases-bits
+decreases-bits g l = l.pages - l.from

@@ -1,6 +1,9 @@
-use Rattle.std.proofs.Common.{nat_eq, true, false, set, refl, sym, ◌∙◌, ap, arith}
+use Rattle.std.proofs.Common.{◌≡◌, inl, inr, nat_eq, true, false, set, refl, sym, ◌∙◌, ap, subst, arith}
 use Rattle.std.proofs.Common.{get_or-set_same}
 use Rattle.std.specs.Option.{option_copied}
+use Rattle.std.specs.Map.{set_value}
+use Rattle.std.proofs.lemmas.Bool.{cases_eq, false≢true}
+use Rattle.quilt_pool.specs.Entries.{is_dirty}
 use Rattle.std.proofs.lemmas.Map.{keys-set_value}
 use Rattle.quilt_world.proofs.Told.{goes_and}
 use Rattle.quilt_journal.proofs.Calls.{goes_from}
@@ -100,4 +103,8 @@ invariant_of-self g c =
       distinct = c.clean_frame.ensures.valid.0;
       fits = c.clean_frame.ensures.valid.1;
       least = rw (c.clean_frame.ensures.entries c.in-Some.frame.now at) c.args.self.now.least;
+      listed = rw (c.clean_frame.ensures.entries c.in-Some.frame.now at) (λ i d. elim (cases_eq i c.args.page) [
+        | inl same ↦ absurd (false≢true (sym (clean_here c.args.self.now.table.entries c.args.page c.in-Some.frame.now at) ∙ subst (λ p. is_dirty (set_value (nat_eq c.args.page) c.args.self.now.table.entries (record { bytes = c.in-Some.frame.now.bytes; is_dirty = false })) p ≡ true) same d))
+        | inr ne ↦ c.args.self.now.listed i (sym (clean_other c.args.self.now.table.entries c.args.page c.in-Some.frame.now at i ne) ∙ d)
+      ]);
     }
