@@ -7,7 +7,7 @@ use Rattle.quilt_types.specs.Plane.{below}
 use Rattle.quilt_pool.specs.Entries.{Entries, is_marked}
 use Rattle.quilt_edition.specs.Keeping.{marked_count}
 
-count_same : (f h : ℕ → Bool) → ((i : ℕ) → f i ≡ h i) → (xs : List ℕ) → length (filter f xs) ≡ length (filter h xs)
+pub count_same : (f h : ℕ → Bool) → ((i : ℕ) → f i ≡ h i) → (xs : List ℕ) → length (filter f xs) ≡ length (filter h xs)
 count_same f h same [] = refl
 count_same f h same (x ∷ xs) = elim (cases_Bool (h x)) [
   | inl t ↦ rw (same x, t) (ap (λ n. suc n) (count_same f h same xs))

@@ -100,7 +100,7 @@ left_out_named m n used bits same each i = each i ∙ ap (λ k. is_left_out k us
 
 -- ---- the 8 pages of a byte
 
-none_and : (a : Bool) → (a && false) ≡ false
+pub none_and : (a : Bool) → (a && false) ≡ false
 none_and true = refl
 none_and false = refl
 

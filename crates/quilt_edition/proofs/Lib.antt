@@ -12,3 +12,5 @@ pub mod Starting
 pub mod Steps
 pub mod TextSteps
 pub mod Unlabelled
+pub mod Lent
+pub mod Tallying

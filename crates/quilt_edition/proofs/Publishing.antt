@@ -1,6 +1,6 @@
 -- How a publish goes on, one call after another.
 use Rattle.std.proofs.Common.{Result, Ok, Err, OnErr, ◌≡◌, ◌≢◌, ◌⊎◌, inl, inr, ℕ, ◌+◌, ◌-◌, suc, filter, ◌<◌, ◌≤◌, Bool, true, false, List, [], ◌∷◌, map}
-use Rattle.std.proofs.Common.{length, Option, Some, None, get_or, set, replicate, refl, sym, ◌∙◌, ap, subst, arith, get_or-set_same, get_or-set_other, ◌||◌}
+use Rattle.std.proofs.Common.{length, Option, Some, None, get_or, set, replicate, refl, sym, ◌∙◌, ap, subst, arith, cond, unwrap_or, get_or-set_same, get_or-set_other, ◌||◌}
 use Rattle.std.specs.Option.{IfSome}
 use Rattle.std.proofs.lemmas.List.FromFn.{fill_by_all, length-map-range_with_len}
 use Rattle.quilt_types.specs.Plane.{below}
@@ -12,12 +12,12 @@ use Rattle.quilt_pool.proofs.Saving.{tries_both, tries_tore}
 use Rattle.quilt_edition.specs.Keeping.{IsKeptBy, told_pages, work_pages, marked_count, Moves}
 use Rattle.quilt_world.proofs.StopLaws.{since_both, since_weaker}
 use Rattle.quilt_world.proofs.Told.{goes_then, goes_and, goes_weaker, goes_now}
-use Rattle.quilt_journal.specs.Kept.{HasHome, IsIdle, IsSealed, IsCarried, home_page, published, work}
+use Rattle.quilt_journal.specs.Kept.{HasHome, IsIdle, IsSealed, IsCarried, HoldsWork, home_page, published, work}
 use Rattle.quilt_journal.proofs.Homes.{length-work, published_at}
 use Rattle.quilt_journal.proofs.Clearing.{idle_none}
 use Rattle.quilt_journal.proofs.Leaving.{idle_leaves}
 use Rattle.quilt_pool.specs.declared.frame.Frame.{Frame}
-use Rattle.quilt_pool.specs.Entries.{Entries, frame_at, page_over, bytes_or, has_dirt, is_dirty, is_marked, IsClean, AreBelow}
+use Rattle.quilt_pool.specs.Entries.{Entries, frame_at, page_over, bytes_or, has_dirt, held_bytes, is_dirty, is_marked, IsClean, AreBelow}
 use Rattle.quilt_pool.specs.Keeping.{IsWork, Keeps}
 use Rattle.quilt_journal.specs.Changed.{View, is_changed, changed_count}
 use Rattle.quilt_journal.specs.declared.journal.State.{State}
@@ -34,8 +34,8 @@ use Rattle.quilt_store.specs.Store.{Tells}
 use Rattle.quilt_store.proofs.Counts.{count_behind}
 use Rattle.std.specs.List.{range_with_len}
 use Rattle.std.proofs.lemmas.List.Sums.{length-filter}
-use Rattle.std.proofs.lemmas.Bool.{cases_Bool}
-use Rattle.quilt_edition.specs.Publishing.{next_pages, Publishing, IsPublished}
+use Rattle.std.proofs.lemmas.Bool.{cases_Bool, cases_eq, eq-eqb, ne_eqb}
+use Rattle.quilt_edition.specs.Publishing.{next_pages, Publishing, IsPublished, held_under}
 
 -- where no page is dirty, the pages of the work are those that the pool lies over
 over_clean : (es : Entries) (pages : Pages) (i : ℕ) (o : Option Frame) → frame_at es i ≡ o → has_dirt o ≡ false → IsClean es pages
@@ -191,6 +191,40 @@ module _ (n : ℕ) (es : Entries) (c : List Bool) (header : List ℕ) where
       goes_finished d at kept =
           goes_then (AtNew d) (λ a b. IsIdle n (replicate n false) b × (published b n ≡ work a n d)) (IsPublished n es c header fs) o t u at
           (subst (λ k. Goes (λ a b. IsIdle k (replicate k false) b × (published b k ≡ work a k d)) t u) is kept) (finished d)
+
+-- the pages that the pool holds have their bytes in the work
+held_frame : (o : Option Frame) (bytes : List ℕ) → held_bytes o ≡ Some bytes → (f : Frame) × (o ≡ Some f) × (bytes ≡ f.bytes)
+held_frame None bytes is = absurd cc
+held_frame (Some f) bytes is = (f, refl, ap (λ (x : Option (List ℕ)). unwrap_or x []) (sym is))
+
+held_at : (header : List ℕ) (fs : Entries) (i : ℕ) (bytes : List ℕ) → held_under header fs i ≡ Some bytes
+    → ((i ≡ 0) × (bytes ≡ header)) ⊎ ((f : Frame) × (frame_at fs i ≡ Some f) × (bytes ≡ f.bytes))
+held_at header fs i bytes is = elim (cases_eq i 0) [
+  | inl zero_is ↦
+      let here : Some header ≡ Some bytes = sym (ap (λ b. cond b (Some header) (held_bytes (frame_at fs i))) (eq-eqb i 0 zero_is)) ∙ is in
+      inl (zero_is, ap (λ (x : Option (List ℕ)). unwrap_or x []) (sym here))
+  | inr ne ↦
+      inr (held_frame (frame_at fs i) bytes (sym (ap (λ b. cond b (Some header) (held_bytes (frame_at fs i))) (ne_eqb i 0 ne)) ∙ is))
+]
+
+pub goes_held : (n : ℕ) (es : Entries) (c : List Bool) (header : List ℕ) (fs : Entries) (m : ℕ) (d : List Bool) (o t : Option Tale) → m ≡ n → 0 < n
+    → ((i : ℕ) → is_dirty fs i ≡ false) → Goes (AtNew n es c header fs d) o t → IfSome t (HoldsWork m d (held_under header fs))
+unfolding next_pages
+goes_held n es c header fs m d o t is some clean at =
+    goes_now (AtNew n es c header fs d) (HoldsWork m d (held_under header fs)) o t at (λ x y new.
+    subst (λ k. HoldsWork k d (held_under header fs) y) (sym is) (record {
+      each = λ i bytes lt bit held. elim (held_at header fs i bytes held) [
+        | inl (zero_is, same) ↦
+            let size : 0 < length (map (page_over es (work x n c)) (below n)) =
+            subst (λ k. 0 < k) (sym (length-map-range_with_len (page_over es (work x n c)) 0 n)) some in
+            same
+            ∙ sym (get_or-set_same (map (page_over es (work x n c)) (below n)) 0 header [] size)
+            ∙ ap (λ (p : Pages). get_or p 0 []) (sym new.same)
+            ∙ ap (λ k. get_or (work y n d) k []) (sym zero_is)
+        | inr (f, there, same) ↦
+            same ∙ new.clean.each i f there (sym (ap has_dirt there) ∙ clean i) ∙ ap (λ (p : Pages). get_or p i []) (sym new.same)
+      ];
+    }))
 
 -- what the drain leaves
 pub drain_stops : (n : ℕ) (es fs : Entries) (c d : List Bool) (header : List ℕ) (o t : Option Tale) → Goes (Keeps n es fs c d) o t

@@ -61,3 +61,5 @@ module _ {W : Type 0} {D : disk.Ghosts W} where
     pub work : new.work ≡ old.work
     pub used : new.used ≡ old.used
     pub free : new.free ≡ old.free
+    pub tally : new.tally ≡ old.tally
+    pub last_tally : new.last_tally ≡ old.last_tally

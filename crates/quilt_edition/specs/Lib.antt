@@ -7,3 +7,4 @@ pub mod Props
 pub mod Publishing
 pub mod Stands
 pub mod Starting
+pub mod Tallies

@@ -2,12 +2,14 @@ ghost use Rattle.quilt_pool.specs.Views.{entries_of};
 ghost use Rattle.std.specs.Prelude.{◌≡◌, ◌+◌, ◌*◌, ◌≤◌, length};
 ghost use Rattle.quilt_node.specs.Pages.{IsHead};
 ghost use Rattle.quilt_pool.specs.Entries.{AreBelow};
-ghost use Rattle.quilt_edition.specs.Keeping.{IsKeptBy};
+ghost use Rattle.quilt_edition.specs.Keeping.{IsKeptBy, is_free, is_left_out};
+ghost use Rattle.quilt_edition.specs.Tallies.{IsTally, IsTally-prop};
 ghost use Rattle.quilt_edition.specs.Props.{IsKeptBy-prop, AreBelow-prop, IsHead-prop};
 
 mod calls;
 mod store;
 
+use crate::free::Tally;
 use quilt_journal::Journal;
 use quilt_node::Head;
 use quilt_pool::Pool;
@@ -23,6 +25,8 @@ pub struct Book<W: Disk> {
     work: Head,
     used: [u8; 3750],
     free: [u8; 3750],
+    tally: Tally,
+    last_tally: Tally,
     ghost least: { 16 ≤ journal.pages },
     ghost most: { journal.pages ≤ 30000 },
     ghost bits: { length journal.changed ≡ journal.pages },
@@ -33,4 +37,6 @@ pub struct Book<W: Disk> {
     ghost next: { IsHead journal.pages work } by { IsHead-prop journal.pages work },
     ghost edition: { work.edition ≡ last.edition },
     ghost level: { work.level ≡ last.level },
+    ghost counted: { IsTally journal.pages (is_free journal.pages free) tally } by { IsTally-prop journal.pages (is_free journal.pages free) tally },
+    ghost last_counted: { IsTally journal.pages (is_left_out journal.pages used) last_tally } by { IsTally-prop journal.pages (is_left_out journal.pages used) last_tally },
 }

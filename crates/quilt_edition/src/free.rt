@@ -1,10 +1,18 @@
-ghost use Rattle.std.specs.Prelude.{◌≡◌, ◌<◌, ◌≤◌, ◌+◌, ◌*◌, ℕ, true, false, None, IfSome, length, filter};
+ghost use Rattle.std.specs.Prelude.{◌≡◌, ◌<◌, ◌≤◌, ◌+◌, ◌*◌, ℕ, true, false, length, filter, not};
 ghost use Rattle.std.specs.List.{range_with_len};
-ghost use Rattle.quilt_store.specs.Store.{count_free};
+ghost use Rattle.quilt_store.specs.Store.{count_free, FreesOnly};
 ghost use Rattle.quilt_journal.specs.Changed.{has_bit};
-ghost use Rattle.quilt_edition.specs.Keeping.{is_free, is_left_out};
+ghost use Rattle.quilt_edition.specs.Keeping.{is_free};
+ghost use Rattle.quilt_edition.specs.Tallies.{IsTally};
 
-use quilt_journal::{is_listed, list_page};
+use quilt_journal::{is_listed, list_page, next_listed, unlist_page};
+
+/// How many pages are free, and a number below which none is.
+#[derive(Clone, Copy, Debug, PartialEq, Eq)]
+pub struct Tally {
+    pub count: u32,
+    pub first: u32,
+}
 
 /// Whether the page is free.
 pub fn is_free_page(free: &[u8; 3750], page: u32, pages: u32) -> bool
@@ -55,47 +63,66 @@ pub fn count_free_pages(free: &[u8; 3750], pages: u32) -> u32
     count
 }
 
-/// The first free page among the 8 of a byte.
-fn first_in_byte(free: &[u8; 3750], byte: u32, pages: u32) -> Option<u32>
-    requires { byte < 3750 }
-    ensures some { IfSome result (λ page. is_free pages free.now page ≡ true) }
-    ensures none { result ≡ None → (i : ℕ) → 8 * byte ≤ i → i < 8 * byte + 8 → is_free pages free.now i ≡ false }
-{
-    if free[byte as usize] == 0 {
-        return None;
-    }
-    for page in 8 * byte..8 * byte + 8 {
-        if is_free_at(free, page, pages) {
-            return Some(page);
-        }
-    }
-    None
-}
-
-/// The first free page.
-pub fn first_free(free: &[u8; 3750], pages: u32) -> u32
-    requires range { (1 ≤ pages) × (pages ≤ 30000) }
+/// The first free page. None is free before this one.
+fn first_free(free: &[u8; 3750], pages: u32, from: u32) -> u32
+    requires range { (1 ≤ from) × (1 ≤ pages) × (pages ≤ 30000) }
+    requires before { (i : ℕ) → i < from → is_free pages free.now i ≡ false }
     requires some { 0 < count_free (is_free pages free.now) pages }
-    ensures { is_free pages free.now result ≡ true }
+    ensures page { is_free pages free.now result ≡ true }
+    ensures first { (i : ℕ) → i < result → is_free pages free.now i ≡ false }
 {
-    for byte in 0..(pages + 7) / 8 {
-        if let Some(page) = first_in_byte(free, byte, pages) {
-            return page;
-        }
+    match next_listed(free, from, pages) {
+        Some(page) => page,
+        None => 0,
     }
-    0
 }
 
-/// The bits of the pages from 1 on that these bits leave out.
-pub fn others_of(bits: &[u8; 3750], pages: u32) -> [u8; 3750]
-    requires { (1 ≤ pages) × (pages ≤ 30000) }
-    ensures { (i : ℕ) → has_bit result i ≡ is_left_out pages bits.now i }
+/// Takes the first free page.
+pub fn take_free(free: &mut [u8; 3750], tally: &mut Tally, pages: u32) -> u32
+    requires range { (1 ≤ pages) × (pages ≤ 30000) }
+    requires tally { IsTally pages (is_free pages free.old) tally.old }
+    requires some { 0 < count_free (is_free pages free.old) pages }
+    ensures page { is_free pages free.old result ≡ true }
+    ensures free { FreesOnly result false (is_free pages free.old) (is_free pages free.new) }
+    ensures tally { IsTally pages (is_free pages free.new) tally.new }
 {
-    let mut others = [0; 3750];
-    for page in 1..pages {
-        if !is_listed(bits, page) {
-            list_page(&mut others, page);
-        }
+    let page = first_free(free, pages, tally.first);
+    unlist_page(free, page);
+    tally.count -= 1;
+    tally.first = page + 1;
+    page
+}
+
+/// The lower of two page numbers.
+fn lower_of(page: u32, other: u32) -> u32
+    requires { (1 ≤ page) × (1 ≤ other) }
+    ensures least { 1 ≤ result }
+    ensures page { result ≤ page }
+    ensures other { result ≤ other }
+{
+    if page < other { page } else { other }
+}
+
+/// Makes a page free that is not.
+pub fn give_free(free: &mut [u8; 3750], tally: &mut Tally, pages: u32, page: u32)
+    requires range { (1 ≤ page) × (page < pages) × (pages ≤ 30000) }
+    requires tally { IsTally pages (is_free pages free.old) tally.old }
+    requires taken { is_free pages free.old page ≡ false }
+    ensures free { FreesOnly page true (is_free pages free.old) (is_free pages free.new) }
+    ensures tally { IsTally pages (is_free pages free.new) tally.new }
+{
+    list_page(free, page);
+    tally.count += 1;
+    tally.first = lower_of(tally.first, page);
+}
+
+/// The bits turned round: those of the pages that these bits leave out.
+pub fn complement_of(bits: &[u8; 3750]) -> [u8; 3750]
+    ensures { (i : ℕ) → i < 30000 → has_bit result i ≡ not (has_bit bits.now i) }
+{
+    let mut others = *bits;
+    for byte in others.iter_mut() {
+        *byte = !*byte;
     }
     others
 }

@@ -8,11 +8,29 @@ ghost use Rattle.quilt_journal.specs.Writing.{Writing};
 ghost use Rattle.quilt_pool.specs.Entries.{AreBelow, is_dirty};
 ghost use Rattle.quilt_pool.specs.Keeping.{IsWork};
 ghost use Rattle.quilt_edition.specs.Keeping.{Moves, marked_count};
-ghost use Rattle.quilt_edition.specs.Publishing.{Publishing, IsPublished};
+ghost use Rattle.quilt_edition.specs.Publishing.{Publishing, IsPublished, held_under};
 
-use quilt_journal::Journal;
+use quilt_journal::{Held, Journal};
 use quilt_pool::Pool;
 use quilt_world::{Disk, Fault};
+
+/// The pages of a publish that are in memory: the new header, and what the pool holds.
+#[derive(Drop)]
+struct Fresh<'a> {
+    header: &'a [u8; 4096],
+    pool: &'a Pool,
+}
+
+impl Held for Fresh<'_> {
+    ghost bytes = { λ fresh page. held_under fresh.header.now (entries_of fresh.pool.now) page };
+
+    fn held(&self, page: u32) -> Option<&[u8; 4096]> {
+        if page == 0 {
+            return Some(self.header);
+        }
+        self.pool.held(page)
+    }
+}
 
 /// Publishes the pages of the work under a new header.
 pub fn publish_pages<W: Disk>(
@@ -45,7 +63,7 @@ pub fn publish_pages<W: Disk>(
     pool.drain_dirty(journal, world)?;
     journal.write_slot(world, 0, header)?;
     journal.seal(world)?;
-    journal.carry_home(world)?;
+    journal.carry_home_from(world, &Fresh { header, pool })?;
     journal.unseal(world)?;
     Ok(())
 }

@@ -18,7 +18,7 @@ ghost use Rattle.quilt_pool.specs.Entries.{AreBelow};
 ghost use Rattle.quilt_edition.specs.Keeping.{IsKeptBy, told_pages, reads_of, is_free, is_left_out, marked_count, IsLater};
 
 use crate::book::Book;
-use crate::free::others_of;
+use crate::free::{Tally, complement_of, count_free_pages};
 use crate::publish::publish_pages;
 use crate::reverting::give_up_pages;
 use quilt_journal::{Journal, State};
@@ -43,7 +43,8 @@ impl<W: Disk> Book<W> {
         ensures used { (page : ℕ) → published_free result page ≡ false }
     {
         let free = [0; 3750];
-        let used = others_of(&free, journal.pages());
+        let used = complement_of(&free);
+        let tally = Tally { count: 0, first: 1 };
         Book {
             world,
             journal,
@@ -52,6 +53,8 @@ impl<W: Disk> Book<W> {
             work: last,
             used,
             free,
+            tally,
+            last_tally: tally,
         }
     }
 
@@ -69,7 +72,8 @@ impl<W: Disk> Book<W> {
     {
         give_up_pages(&mut self.pool, &mut self.journal);
         self.work = self.last;
-        self.free = others_of(&self.used, self.journal.pages());
+        self.free = complement_of(&self.used);
+        self.tally = self.last_tally;
     }
 
     /// States the pages of the published tree. The other pages from 1 on are free then, in the last edition and in the work.
@@ -84,8 +88,15 @@ impl<W: Disk> Book<W> {
         ensures heads { (last_of self.new ≡ last_of self.old) × (work_of self.new ≡ work_of self.old) }
         ensures changed { ⟦<Book<W> as PageStore>⟧.changed self.new ≡ 0 }
     {
-        self.free = others_of(used, self.journal.pages());
+        let free = complement_of(used);
+        let tally = Tally {
+            count: count_free_pages(&free, self.journal.pages()),
+            first: 1,
+        };
+        self.free = free;
         self.used = *used;
+        self.tally = tally;
+        self.last_tally = tally;
     }
 
     /// What the last edition's header says, with the tree of the work.
@@ -169,7 +180,8 @@ impl<W: Disk> Book<W> {
         publish_pages(&mut self.world, &mut self.journal, &mut self.pool, &header)?;
         self.last = head;
         self.work = head;
-        self.used = others_of(&self.free, self.journal.pages());
+        self.used = complement_of(&self.free);
+        self.last_tally = self.tally;
         Ok(head.edition)
     }
 
@@ -185,6 +197,8 @@ impl<W: Disk> Book<W> {
             work: _,
             used: _,
             free: _,
+            tally: _,
+            last_tally: _,
         } = self;
         world
     }

@@ -7,8 +7,8 @@ ghost use Rattle.quilt_edition.specs.Laws.{free_within, told_many, later_same, l
 ghost use Rattle.std.proofs.Common.{◌∙◌};
 
 use crate::book::Book;
-use crate::free::{count_free_pages, first_free, is_free_page};
-use quilt_journal::{State, list_page, unlist_page};
+use crate::free::{give_free, is_free_page, take_free};
+use quilt_journal::State;
 use quilt_store::{PageStore, StoreErr};
 use quilt_world::Disk;
 
@@ -36,7 +36,7 @@ impl<W: Disk> PageStore for Book<W> {
     }
 
     fn free_pages(&self) -> u32 {
-        count_free_pages(&self.free, self.journal.pages())
+        self.tally.count
     }
 
     fn is_free(&self, page: u32) -> bool {
@@ -52,6 +52,29 @@ impl<W: Disk> PageStore for Book<W> {
         Ok(())
     }
 
+    fn page(&mut self, page: u32) -> Result<&[u8; 4096], StoreErr> {
+        let State::Idle = self.journal.state() else {
+            return Err(StoreErr::Memory);
+        };
+        match self.pool.bring(&mut self.journal, &mut self.world, page) {
+            Ok(()) => {}
+            Err(err) => return Err(err),
+        }
+        Ok(self.pool.lent(page))
+    }
+
+    fn edit(&mut self, page: u32) -> Result<&mut [u8; 4096], StoreErr> {
+        let State::Idle = self.journal.state() else {
+            return Err(StoreErr::Memory);
+        };
+        match self.pool.bring(&mut self.journal, &mut self.world, page) {
+            Ok(()) => {}
+            Err(err) => return Err(err),
+        }
+        self.pool.mark(page);
+        Ok(self.pool.lend(page))
+    }
+
     fn write(&mut self, page: u32, bytes: &[u8; 4096]) -> Result<(), StoreErr> {
         let State::Idle = self.journal.state() else {
             return Err(StoreErr::Memory);
@@ -62,13 +85,13 @@ impl<W: Disk> PageStore for Book<W> {
     }
 
     fn take_page(&mut self) -> u32 {
-        let page = first_free(&self.free, self.journal.pages());
-        unlist_page(&mut self.free, page);
-        page
+        let pages = self.journal.pages();
+        take_free(&mut self.free, &mut self.tally, pages)
     }
 
     fn give_page(&mut self, page: u32) {
-        list_page(&mut self.free, page);
+        let pages = self.journal.pages();
+        give_free(&mut self.free, &mut self.tally, pages, page);
         self.pool.discard(page);
         let State::Idle = self.journal.state() else {
             return;

@@ -1,6 +1,6 @@
 use Rattle.std.proofs.Common.{length, filter, set, true, ◌+◌, ◌*◌, ◌-◌, ◌≤◌, ◌≡◌, refl, ◌∙◌, ap, arith}
 use Rattle.quilt_edition.proofs.Publishing.{drain_stops, moves_drained, moves_torn, on_err_if, goes_drained, goes_old_stops, goes_listed, goes_opening}
-use Rattle.quilt_edition.proofs.Publishing.{goes_opened, goes_new_stops, goes_carried, goes_finished}
+use Rattle.quilt_edition.proofs.Publishing.{goes_opened, goes_new_stops, goes_carried, goes_finished, goes_held}
 use Rattle.std.specs.List.{range_with_len}
 use Rattle.quilt_journal.specs.Changed.{changed_count}
 use Rattle.quilt_journal.proofs.Counts.{count_set}
@@ -49,8 +49,8 @@ returns-in_err-seal-clause-crash g c =
     let a3 = g.W.Disk.told c.seal.new.disk in
     goes_opening n es old h fs a0 a2 a3 j2.pages p2 j2.changed at2 c.seal.ensures.crash
 
-pub returns-in_err-carry_home-clause-crash : goal.returns-in_err-carry_home-clause-crash
-returns-in_err-carry_home-clause-crash g c =
+pub carry_home_from-requires-clause-held : goal.carry_home_from-requires-clause-held
+carry_home_from-requires-clause-held g c =
     let n = c.args.journal.now.pages in
     let es = c.args.pool.now.table.entries in
     let old = c.args.journal.now.changed in
@@ -70,8 +70,31 @@ returns-in_err-carry_home-clause-crash g c =
     let j3 = c.seal.new.self in
     let p3 = c.seal.ensures.same.0 ∙ p2 in
     let at3 = goes_opened n es old h fs a0 a2 a3 j2.pages p2 j2.changed j3.changed c.seal.ensures.same.1 at2 c.seal.ensures.crash c.in_ok-seal.ensures.kept in
-    let a4 = g.W.Disk.told c.carry_home.new.disk in
-    goes_new_stops n es old h fs a0 a3 a4 j3.pages p3 j3.changed at3 c.carry_home.ensures.crash
+    goes_held n es old h fs j3.pages j3.changed a0 a3 p3 (omega (arith, c.requires.range)) c.in_ok-drain_dirty.ensures.drained at3
+
+pub returns-in_err-carry_home_from-clause-crash : goal.returns-in_err-carry_home_from-clause-crash
+returns-in_err-carry_home_from-clause-crash g c =
+    let n = c.args.journal.now.pages in
+    let es = c.args.pool.now.table.entries in
+    let old = c.args.journal.now.changed in
+    let h = c.args.header.now in
+    let fs = c.drain_dirty.new.self.table.entries in
+    let a0 = g.W.Disk.told c.args.world.now in
+    let a1 = g.W.Disk.told c.drain_dirty.new.disk in
+    let a2 = g.W.Disk.told c.write_slot.new.disk in
+    let j1 = c.drain_dirty.new.journal in
+    let p1 = c.drain_dirty.ensures.journal.0 in
+    let at1 = goes_drained n es old h fs a0 a1 a1 n refl j1.changed c.in_ok-drain_dirty.ensures.drained c.drain_dirty.ensures.kept in
+    let j2 = c.write_slot.new.self in
+    let p2 = c.write_slot.ensures.same.0 ∙ p1 in
+    let at2 = goes_listed n es old h fs a0 a1 a2 j1.pages p1 c.drain_dirty.ensures.below j1.changed j2.changed at1 c.in_ok-write_slot.ensures.changed
+    c.write_slot.ensures.crash c.in_ok-write_slot.ensures.kept in
+    let a3 = g.W.Disk.told c.seal.new.disk in
+    let j3 = c.seal.new.self in
+    let p3 = c.seal.ensures.same.0 ∙ p2 in
+    let at3 = goes_opened n es old h fs a0 a2 a3 j2.pages p2 j2.changed j3.changed c.seal.ensures.same.1 at2 c.seal.ensures.crash c.in_ok-seal.ensures.kept in
+    let a4 = g.W.Disk.told c.carry_home_from.new.disk in
+    goes_new_stops n es old h fs a0 a3 a4 j3.pages p3 j3.changed at3 c.carry_home_from.ensures.crash
 
 pub returns-in_err-unseal-clause-crash : goal.returns-in_err-unseal-clause-crash
 returns-in_err-unseal-clause-crash g c =
@@ -94,11 +117,11 @@ returns-in_err-unseal-clause-crash g c =
     let j3 = c.seal.new.self in
     let p3 = c.seal.ensures.same.0 ∙ p2 in
     let at3 = goes_opened n es old h fs a0 a2 a3 j2.pages p2 j2.changed j3.changed c.seal.ensures.same.1 at2 c.seal.ensures.crash c.in_ok-seal.ensures.kept in
-    let a4 = g.W.Disk.told c.carry_home.new.disk in
-    let j4 = c.carry_home.new.self in
-    let p4 = c.carry_home.ensures.same.0 ∙ p3 in
-    let at4 = goes_carried n es old h fs a0 a3 a4 j3.pages p3 j3.changed j4.changed c.carry_home.ensures.same.1 at3 c.carry_home.ensures.crash
-    c.in_ok-carry_home.ensures.kept in
+    let a4 = g.W.Disk.told c.carry_home_from.new.disk in
+    let j4 = c.carry_home_from.new.self in
+    let p4 = c.carry_home_from.ensures.same.0 ∙ p3 in
+    let at4 = goes_carried n es old h fs a0 a3 a4 j3.pages p3 j3.changed j4.changed c.carry_home_from.ensures.same.1 at3 c.carry_home_from.ensures.crash
+    c.in_ok-carry_home_from.ensures.kept in
     let a5 = g.W.Disk.told c.unseal.new.disk in
     goes_new_stops n es old h fs a0 a4 a5 j4.pages p4 j4.changed at4 c.unseal.ensures.crash
 
@@ -123,11 +146,11 @@ returns-clause-crash g c =
     let j3 = c.seal.new.self in
     let p3 = c.seal.ensures.same.0 ∙ p2 in
     let at3 = goes_opened n es old h fs a0 a2 a3 j2.pages p2 j2.changed j3.changed c.seal.ensures.same.1 at2 c.seal.ensures.crash c.in_ok-seal.ensures.kept in
-    let a4 = g.W.Disk.told c.carry_home.new.disk in
-    let j4 = c.carry_home.new.self in
-    let p4 = c.carry_home.ensures.same.0 ∙ p3 in
-    let at4 = goes_carried n es old h fs a0 a3 a4 j3.pages p3 j3.changed j4.changed c.carry_home.ensures.same.1 at3 c.carry_home.ensures.crash
-    c.in_ok-carry_home.ensures.kept in
+    let a4 = g.W.Disk.told c.carry_home_from.new.disk in
+    let j4 = c.carry_home_from.new.self in
+    let p4 = c.carry_home_from.ensures.same.0 ∙ p3 in
+    let at4 = goes_carried n es old h fs a0 a3 a4 j3.pages p3 j3.changed j4.changed c.carry_home_from.ensures.same.1 at3 c.carry_home_from.ensures.crash
+    c.in_ok-carry_home_from.ensures.kept in
     let a5 = g.W.Disk.told c.unseal.new.disk in
     goes_new_stops n es old h fs a0 a4 a5 j4.pages p4 j4.changed at4 c.unseal.ensures.crash
 
@@ -152,11 +175,11 @@ returns-clause-published g c =
     let j3 = c.seal.new.self in
     let p3 = c.seal.ensures.same.0 ∙ p2 in
     let at3 = goes_opened n es old h fs a0 a2 a3 j2.pages p2 j2.changed j3.changed c.seal.ensures.same.1 at2 c.seal.ensures.crash c.in_ok-seal.ensures.kept in
-    let a4 = g.W.Disk.told c.carry_home.new.disk in
-    let j4 = c.carry_home.new.self in
-    let p4 = c.carry_home.ensures.same.0 ∙ p3 in
-    let at4 = goes_carried n es old h fs a0 a3 a4 j3.pages p3 j3.changed j4.changed c.carry_home.ensures.same.1 at3 c.carry_home.ensures.crash
-    c.in_ok-carry_home.ensures.kept in
+    let a4 = g.W.Disk.told c.carry_home_from.new.disk in
+    let j4 = c.carry_home_from.new.self in
+    let p4 = c.carry_home_from.ensures.same.0 ∙ p3 in
+    let at4 = goes_carried n es old h fs a0 a3 a4 j3.pages p3 j3.changed j4.changed c.carry_home_from.ensures.same.1 at3 c.carry_home_from.ensures.crash
+    c.in_ok-carry_home_from.ensures.kept in
     let a5 = g.W.Disk.told c.unseal.new.disk in
     goes_finished n es old h fs a0 a4 a5 j4.pages p4 j4.changed at4 c.in_ok-unseal.ensures.kept
 
@@ -204,8 +227,8 @@ returns-in_err-seal-clause-writes g c =
     let w2 = goes_written_too d 1 (d + 1) _ _ _ (omega arith) w1 c.write_slot.ensures.writes in
     goes_written_too (d + 1) 2 (2 * m + 5) _ _ _ (omega (arith, most)) w2 c.seal.ensures.writes
 
-pub returns-in_err-carry_home-clause-writes : goal.returns-in_err-carry_home-clause-writes
-returns-in_err-carry_home-clause-writes g c =
+pub returns-in_err-carry_home_from-clause-writes : goal.returns-in_err-carry_home_from-clause-writes
+returns-in_err-carry_home_from-clause-writes g c =
     let n = c.args.journal.now.pages in
     let es = c.args.pool.now.table.entries in
     let old = c.args.journal.now.changed in
@@ -222,7 +245,7 @@ returns-in_err-carry_home-clause-writes g c =
     let more = count_set j1.changed 0 in
     let k = changed_count c.seal.new.self.changed in
     let same : k ≡ changed_count (set j1.changed 0 true) = ap changed_count (c.seal.ensures.same.1 ∙ c.in_ok-write_slot.ensures.changed) in
-    goes_written_too (d + 3) k (2 * m + 5) _ _ _ (omega (arith, most, kept, first, more, same)) w3 c.carry_home.ensures.writes
+    goes_written_too (d + 3) k (2 * m + 5) _ _ _ (omega (arith, most, kept, first, more, same)) w3 c.carry_home_from.ensures.writes
 
 pub returns-in_err-unseal-clause-writes : goal.returns-in_err-unseal-clause-writes
 returns-in_err-unseal-clause-writes g c =
@@ -242,7 +265,7 @@ returns-in_err-unseal-clause-writes g c =
     let more = count_set j1.changed 0 in
     let k = changed_count c.seal.new.self.changed in
     let same : k ≡ changed_count (set j1.changed 0 true) = ap changed_count (c.seal.ensures.same.1 ∙ c.in_ok-write_slot.ensures.changed) in
-    let w4 = goes_written_too (d + 3) k (d + 3 + k) _ _ _ (omega arith) w3 c.carry_home.ensures.writes in
+    let w4 = goes_written_too (d + 3) k (d + 3 + k) _ _ _ (omega arith) w3 c.carry_home_from.ensures.writes in
     goes_written_too (d + 3 + k) 1 (2 * m + 5) _ _ _ (omega (arith, most, kept, first, more, same)) w4 c.unseal.ensures.writes
 
 pub returns-clause-writes : goal.returns-clause-writes
@@ -263,5 +286,5 @@ returns-clause-writes g c =
     let more = count_set j1.changed 0 in
     let k = changed_count c.seal.new.self.changed in
     let same : k ≡ changed_count (set j1.changed 0 true) = ap changed_count (c.seal.ensures.same.1 ∙ c.in_ok-write_slot.ensures.changed) in
-    let w4 = goes_written_too (d + 3) k (d + 3 + k) _ _ _ (omega arith) w3 c.carry_home.ensures.writes in
+    let w4 = goes_written_too (d + 3) k (d + 3 + k) _ _ _ (omega arith) w3 c.carry_home_from.ensures.writes in
     goes_written_too (d + 3 + k) 1 (2 * m + 5) _ _ _ (omega (arith, most, kept, first, more, same)) w4 c.unseal.ensures.writes

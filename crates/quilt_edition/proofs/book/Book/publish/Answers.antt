@@ -1,7 +1,8 @@
 use Rattle.std.proofs.Common.{◌+◌, ◌*◌, ◌≤◌, refl, sym, ◌∙◌, ap, subst, arith}
 use Rattle.quilt_pool.specs.Entries.{AreBelow}
 use Rattle.quilt_edition.proofs.Heads.{next_head}
-use Rattle.quilt_edition.proofs.Frees.{left_out_twice, left_out_named}
+use Rattle.quilt_edition.specs.Keeping.{is_free, is_left_out}
+use Rattle.quilt_edition.proofs.Tallying.{tally_at, left_tally_at, tally_same, left_complement}
 use Rattle.quilt_edition.proofs.Publishing.{kept_left, kept_published, none_marked, told_published}
 use Rattle.quilt_node.specs.Pages.{IsHead}
 use Rattle.quilt_edition.proofs.book.Book.publish.Goals as goal
@@ -22,6 +23,8 @@ invariant_of-self g c =
       next = subst (λ n. IsHead n s.work) (sym pages) s.next;
       edition = s.edition;
       level = s.level;
+      counted = tally_at c.publish_pages.new.journal.pages s.journal.pages s.free s.tally pages s.counted;
+      last_counted = left_tally_at c.publish_pages.new.journal.pages s.journal.pages s.used s.last_tally pages s.last_counted;
     }
 
 pub invariant_of-self-2 : goal.invariant_of-self-2
@@ -44,6 +47,11 @@ invariant_of-self-2 g c =
           (next_head s.journal.pages s.work (s.last.edition + 1) s.next (omega (arith, c.requires.number)));
       edition = refl;
       level = refl;
+      counted = tally_at c.publish_pages.new.journal.pages s.journal.pages s.free s.tally pages s.counted;
+      last_counted =
+          left_tally_at c.publish_pages.new.journal.pages s.journal.pages c.complement_of-self.result s.tally pages
+          (tally_same s.journal.pages (is_free s.journal.pages s.free) (is_left_out s.journal.pages c.complement_of-self.result) s.tally
+          (left_complement s.journal.pages s.most s.free c.complement_of-self.result c.complement_of-self.ensures) s.counted);
     }
 
 pub returns-clause-changed : goal.returns-clause-changed
@@ -62,5 +70,6 @@ pub returns-clause-used : goal.returns-clause-used
 returns-clause-used g c =
     let n = c.publish_pages.new.journal.pages in
     let s = c.args.self.now in
-    λ page. left_out_twice n s.journal.pages s.free c.others_of-self.result c.publish_pages.ensures.pages page
-    (left_out_named c.pages.result n s.free c.others_of-self.result c.pages.ensures.pages c.others_of-self.ensures)
+    let pages = c.publish_pages.ensures.pages in
+    λ page. left_complement n (subst (λ k. k ≤ 30000) (sym pages) s.most) s.free c.complement_of-self.result c.complement_of-self.ensures page
+    ∙ ap (λ k. is_free k s.free page) pages

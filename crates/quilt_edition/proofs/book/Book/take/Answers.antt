@@ -18,6 +18,8 @@ invariant_of-self g c =
       next = s.next;
       edition = s.edition;
       level = s.level;
+      counted = s.counted;
+      last_counted = s.last_counted;
     }
 
 pub returns-clause-told : goal.returns-clause-told

@@ -2,8 +2,10 @@ use Rattle.std.proofs.Common.{◌+◌, ◌*◌, ◌≤◌, false, true, inr, len
 use Rattle.std.proofs.Math.ListN.{length-set}
 use Rattle.quilt_pool.proofs.Touching.{discarded_keys}
 use Rattle.quilt_edition.specs.Laws.{later_same}
-use Rattle.quilt_edition.proofs.Frees.{frees_only}
+use Rattle.quilt_store.specs.Store.{FreesOnly}
+use Rattle.quilt_edition.specs.Keeping.{is_free}
 use Rattle.quilt_edition.proofs.Giving.{kept_busy, told_busy, below_gone, kept_given, told_given, marked_given, marked_dropped}
+use Rattle.quilt_edition.proofs.Tallying.{tally_at, left_tally_at}
 use Rattle.quilt_node.specs.Pages.{IsHead}
 use Rattle.quilt_edition.proofs.book.store.BookPageStore.give_page.Goals as goal
 
@@ -23,14 +25,31 @@ invariant_of-self g c =
       next = s.next;
       edition = s.edition;
       level = s.level;
+      counted = tally_at s.journal.pages c.pages-pages.result c.give_free.new.free c.give_free.new.tally (sym c.pages-pages.ensures.pages) c.give_free.ensures.tally;
+      last_counted = s.last_counted;
     }
 
 pub returns-in_default-clause-later : goal.returns-in_default-clause-later
 returns-in_default-clause-later g c = (refl, refl, (refl, refl, refl), refl, later_same c.args.self.now.journal.pages (g.W.Disk.told c.args.self.now.world))
 
+pub give_free-requires-clause-tally : goal.give_free-requires-clause-tally
+give_free-requires-clause-tally g c =
+    let s = c.args.self.now in
+    tally_at c.pages-pages.result s.journal.pages s.free s.tally c.pages-pages.ensures.pages s.counted
+
+pub give_free-requires-clause-taken : goal.give_free-requires-clause-taken
+give_free-requires-clause-taken g c = ap (λ n. is_free n c.args.self.now.free c.args.page) c.pages-pages.ensures.pages ∙ c.requires.taken
+
 pub returns-in_default-clause-free : goal.returns-in_default-clause-free
 returns-in_default-clause-free g c =
-    frees_only c.args.self.now.journal.pages c.args.self.now.free c.list_page.new.bits c.args.page true c.requires.page.0 c.requires.page.1 c.list_page.ensures
+    subst (λ n. FreesOnly c.args.page true (is_free n c.args.self.now.free) (is_free n c.give_free.new.free)) c.pages-pages.ensures.pages c.give_free.ensures.free
+
+pub returns-clause-free : goal.returns-clause-free
+returns-clause-free g c =
+    let s = c.args.self.now in
+    let only =
+    subst (λ n. FreesOnly c.args.page true (is_free n s.free) (is_free n c.give_free.new.free)) c.pages-pages.ensures.pages c.give_free.ensures.free in
+    subst (λ n. FreesOnly c.args.page true (is_free s.journal.pages s.free) (is_free n c.give_free.new.free)) (sym c.clear.ensures.same.0) only
 
 pub returns-in_default-clause-told : goal.returns-in_default-clause-told
 returns-in_default-clause-told g c =
@@ -65,6 +84,10 @@ invariant_of-self-2 g c =
       next = subst (λ n. IsHead n s.work) (sym pages) s.next;
       edition = s.edition;
       level = s.level;
+      counted =
+          tally_at c.clear.new.self.pages c.pages-pages.result c.give_free.new.free c.give_free.new.tally (pages ∙ sym c.pages-pages.ensures.pages)
+          c.give_free.ensures.tally;
+      last_counted = left_tally_at c.clear.new.self.pages s.journal.pages s.used s.last_tally pages s.last_counted;
     }
 
 pub returns-clause-later : goal.returns-clause-later

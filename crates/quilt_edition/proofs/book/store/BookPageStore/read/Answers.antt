@@ -5,6 +5,7 @@ use Rattle.quilt_edition.specs.Keeping.{marked_count, Moves}
 use Rattle.quilt_edition.specs.Laws.{later_same}
 use Rattle.quilt_edition.proofs.Counts.{marked_kept}
 use Rattle.quilt_edition.proofs.Steps.{work_idle, of_keeps, later_moves, kept_moves, told_same, told_bytes, key_found, tells_reads}
+use Rattle.quilt_edition.proofs.Tallying.{tally_at, left_tally_at}
 use Rattle.quilt_node.specs.Pages.{IsHead}
 use Rattle.quilt_edition.proofs.book.store.BookPageStore.read.Goals as goal
 
@@ -35,6 +36,8 @@ invariant_of-self g c =
       next = subst (λ n. IsHead n s.work) (sym pages) s.next;
       edition = s.edition;
       level = s.level;
+      counted = tally_at c.read.new.journal.pages s.journal.pages s.free s.tally pages s.counted;
+      last_counted = left_tally_at c.read.new.journal.pages s.journal.pages s.used s.last_tally pages s.last_counted;
     }
 
 pub returns-in_err-read-clause-later : goal.returns-in_err-read-clause-later

@@ -1,0 +1,135 @@
+use Rattle.std.proofs.Common.{◌+◌, ◌*◌, ◌≤◌, Ok, Err, List, ℕ, ap, subst, arith, refl, sym, ◌∙◌}
+use Rattle.quilt_world.proofs.Told.{goes_weaker}
+use Rattle.quilt_pool.specs.Entries.{AreBelow, edited}
+use Rattle.quilt_pool.proofs.Lent.{below_edited, goes_edited, marked_edited, keys_edited}
+use Rattle.quilt_store.specs.Store.{HasStoreCause, Touches, first_eight}
+use Rattle.quilt_edition.specs.Keeping.{marked_count, Moves, is_free}
+use Rattle.quilt_edition.specs.Laws.{later_same}
+use Rattle.quilt_edition.proofs.Counts.{marked_kept, marked_more}
+use Rattle.quilt_edition.proofs.Lent.{memory_cause, cause_err, cause_ok, reads_same, reads_same_more, reads_more}
+use Rattle.quilt_edition.proofs.Steps.{work_idle, of_keeps, of_changes, later_moves, kept_moves, told_same, told_set, told_bytes, key_found, tells_reads}
+use Rattle.quilt_edition.proofs.Tallying.{tally_at, left_tally_at}
+use Rattle.quilt_node.specs.Pages.{IsHead}
+use Rattle.quilt_edition.proofs.book.store.BookPageStore.page.Goals as goal
+
+pub bring-requires-clause-kept : goal.bring-requires-clause-kept
+bring-requires-clause-kept g c =
+    let s = c.args.self.now in
+    work_idle s.journal s.pool.table.entries s.last _ (sym c.state.ensures ∙ c.in-Idle.is) s.kept
+
+pub invariant_of-self : goal.invariant_of-self
+invariant_of-self g c =
+    let s = c.args.self.now in
+    let j = c.bring.new.journal in
+    let pages = c.bring.ensures.journal.0 in
+    record {
+      least = subst (λ n. 16 ≤ n) (sym pages) s.least;
+      most = subst (λ n. n ≤ 30000) (sym pages) s.most;
+      bits = c.bring.ensures.journal.2 ∙ s.bits ∙ sym pages;
+      size = c.bring.ensures.device.size ∙ s.size ∙ ap (λ n. 3 + 2 * n) (sym pages);
+      below = subst (λ n. AreBelow n c.bring.new.self.table.entries) (sym pages) c.bring.ensures.below;
+      kept = kept_moves s.journal j s.pool.table.entries c.bring.new.self.table.entries s.last (sym c.state.ensures ∙ c.in-Idle.is)
+          pages c.bring.ensures.journal.1 _ _ s.kept
+          (goes_weaker _ (Moves s.journal.pages c.bring.new.self.table.entries c.bring.new.journal.changed) _ _ c.bring.ensures.kept
+          (of_keeps s.journal.pages s.pool.table.entries c.bring.new.self.table.entries s.journal.changed c.bring.new.journal.changed));
+      published = subst (λ n. IsHead n s.last) (sym pages) s.published;
+      next = subst (λ n. IsHead n s.work) (sym pages) s.next;
+      edition = s.edition;
+      level = s.level;
+      counted = tally_at c.bring.new.journal.pages s.journal.pages s.free s.tally pages s.counted;
+      last_counted = left_tally_at c.bring.new.journal.pages s.journal.pages s.used s.last_tally pages s.last_counted;
+    }
+
+pub returns-in_default : goal.returns-in_default
+returns-in_default g c =
+    let s = c.args.self.now in (
+      (
+        refl,
+        (λ _. tt),
+        (
+          memory_cause _,
+          (refl, refl, (refl, refl, refl), refl, later_same s.journal.pages (g.W.Disk.told s.world)),
+          refl,
+          refl,
+          refl,
+          tt,
+          reads_same_more (g.W.Disk.told s.world),
+          (λ held. reads_same (g.W.Disk.told s.world)),
+          omega arith,
+        ),
+      ),
+      record { bytes = tt; after_borrow = tt },
+    )
+
+pub returns-in-Err : goal.returns-in-Err
+returns-in-Err g c =
+    let s = c.args.self.now in
+    let j = c.bring.new.journal in
+    let idle = sym c.state.ensures ∙ c.in-Idle.is in (
+      (
+        refl,
+        (λ _. tt),
+        (
+          cause_err _ _ _ _ c.in-Err.is c.bring.ensures.cause,
+          (
+            c.bring.ensures.journal.0,
+            c.bring.ensures.journal.1,
+            (refl, refl, refl),
+            c.bring.ensures.device.door,
+            later_moves s.journal j s.pool.table.entries c.bring.new.self.table.entries s.last idle c.bring.ensures.journal.0
+                c.bring.ensures.journal.1 _ _ _ _ (g.met.W.Disk.is_consistent s.world) (g.met.W.Disk.is_consistent c.bring.new.disk) s.kept
+                (goes_weaker _ (Moves s.journal.pages c.bring.new.self.table.entries j.changed) _ _ c.bring.ensures.kept
+                (of_keeps s.journal.pages s.pool.table.entries c.bring.new.self.table.entries s.journal.changed j.changed)),
+          ),
+          c.bring.ensures.journal.0,
+          ap (λ n. is_free n s.free) c.bring.ensures.journal.0,
+          told_same s.journal j s.pool.table.entries c.bring.new.self.table.entries s.last idle c.bring.ensures.journal.0 c.bring.ensures.journal.1 _ _
+              c.bring.ensures.kept,
+          tt,
+          reads_more _ _ c.bring.ensures.reads,
+          (λ held. tells_reads _ _ (c.bring.ensures.held (key_found c.args.page s.pool.table.entries held))),
+          subst (λ n. marked_count n c.bring.new.self.table.entries j.changed ≤ marked_count s.journal.pages s.pool.table.entries s.journal.changed)
+              (sym c.bring.ensures.journal.0)
+              (marked_kept s.journal.pages s.pool.table.entries c.bring.new.self.table.entries s.journal.changed j.changed c.bring.ensures.marked),
+        ),
+      ),
+      record { bytes = tt; after_borrow = tt },
+    )
+
+pub returns : goal.returns
+returns g c =
+    let s = c.args.self.now in
+    let j = c.bring.new.journal in
+    let idle = sym c.state.ensures ∙ c.in-Idle.is in (
+      (
+        refl,
+        (λ _. tt),
+        (
+          cause_ok _ _ _ _ c.bring.ensures.cause,
+          (
+            c.bring.ensures.journal.0,
+            c.bring.ensures.journal.1,
+            (refl, refl, refl),
+            c.bring.ensures.device.door,
+            later_moves s.journal j s.pool.table.entries c.bring.new.self.table.entries s.last idle c.bring.ensures.journal.0
+                c.bring.ensures.journal.1 _ _ _ _ (g.met.W.Disk.is_consistent s.world) (g.met.W.Disk.is_consistent c.bring.new.disk) s.kept
+                (goes_weaker _ (Moves s.journal.pages c.bring.new.self.table.entries j.changed) _ _ c.bring.ensures.kept
+                (of_keeps s.journal.pages s.pool.table.entries c.bring.new.self.table.entries s.journal.changed j.changed)),
+          ),
+          c.bring.ensures.journal.0,
+          ap (λ n. is_free n s.free) c.bring.ensures.journal.0,
+          told_same s.journal j s.pool.table.entries c.bring.new.self.table.entries s.last idle c.bring.ensures.journal.0 c.bring.ensures.journal.1 _ _
+              c.bring.ensures.kept,
+          c.in-Ok.ensures.touched,
+          reads_more _ _ c.bring.ensures.reads,
+          (λ held. tells_reads _ _ (c.bring.ensures.held (key_found c.args.page s.pool.table.entries held))),
+          subst (λ n. marked_count n c.bring.new.self.table.entries j.changed ≤ marked_count s.journal.pages s.pool.table.entries s.journal.changed)
+              (sym c.bring.ensures.journal.0)
+              (marked_kept s.journal.pages s.pool.table.entries c.bring.new.self.table.entries s.journal.changed j.changed c.bring.ensures.marked),
+        ),
+      ),
+      record {
+        bytes = rw c.lent.ensures.bytes (told_bytes s.journal s.pool.table.entries c.args.page _ _ idle c.requires.1 c.in-Ok.ensures.bytes);
+        after_borrow = tt;
+      },
+    )
