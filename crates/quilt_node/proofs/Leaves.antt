@@ -1,6 +1,6 @@
 -- A leaf page over its bytes: what is read in it, and what edits of the bytes make of its records.
 use Rattle.std.proofs.Common.{◌≡◌, ℕ, zero, suc, ◌+◌, ◌-◌, ◌*◌, ◌<◌, ◌≤◌, ◌^◌, Bool, true, false, ◌&&◌, nat_le, Some, None, List, [], ◌∷◌, ◌++◌, length, map}
-use Rattle.std.proofs.Common.{take, drop, get_or, slice_range, refl, sym, ◌∙◌, ap, subst, append_assoc, arith, replicate, flat_map, length-append, length-drop}
+use Rattle.std.proofs.Common.{take, drop, get_or, set, length-set, slice_range, refl, sym, ◌∙◌, ap, subst, append_assoc, arith, replicate, flat_map, length-append, length-drop}
 use Rattle.std.proofs.Common.{length-take-le}
 use Rattle.std.specs.Prelude.{if◌then◌else◌, slice_get}
 use Rattle.std.specs.Str.{bytes_eq}
@@ -20,7 +20,7 @@ use Rattle.quilt_record.specs.Records.{record_bytes}
 use Rattle.quilt_record.specs.Fits.{IsFitting, AllFit}
 use Rattle.quilt_node.specs.Pages.{short_at, record_at, read_leaf, leaf_bytes, leaf_of, is_ascending}
 use Rattle.quilt_node.specs.Nodes.{IsLeaf, IsLeafPage, keys_of, leaf_head}
-use Rattle.quilt_node.proofs.Rows.{HasArea, area, row_stands, cut_front, put_row, take_row, add_rows, cut_rows, rows_from, wide_length, length_insert}
+use Rattle.quilt_node.proofs.Rows.{HasArea, area, row_stands, cut_front, put_row, take_row, add_rows, cut_rows, rows_from, set_row, wide_length, length_insert}
 use Rattle.quilt_node.proofs.Rows.{length_remove}
 use Rattle.quilt_node.proofs.Spelled.{record_stands, wide_records}
 use Rattle.quilt_node.proofs.Ascending.{ascending_take, ascending_drop, ascending_remove}
@@ -201,6 +201,36 @@ remove_page bytes mid new rs i n p count place some made counts =
     (counted (length rs) (n - 1) mid new (remove rs i)
     (take_row record_bytes 28 4032 (leaf_head (length rs)) [] bytes mid rs i (64 + 28 * i) (64 + 28 * n) nothing (has_records bytes rs p) place refl
     (ap (λ m. 64 + 28 * m) many) made) counts)
+
+fit_set : (rs : List Record) (i : ℕ) (r : Record) → AllFit rs → IsFitting r → AllFit (set rs i r)
+fit_set [] i r f g = f
+fit_set (x ∷ rs) zero r f g = (g, f.1)
+fit_set (x ∷ rs) (suc i) r f g = (f.0, fit_set rs i r f.1 g)
+
+-- A record takes the place of another.
+pub replace_page : (bytes new piece : List ℕ) (rs : List Record) (i : ℕ) (r : Record) → IsLeafPage bytes rs → IsFitting r → i < length rs
+    → is_ascending (keys_of (set rs i r)) ≡ true → piece ≡ record_bytes r
+    → new ≡ take (64 + 28 * i) bytes ++ (piece ++ drop (64 + 28 * i + length piece) bytes) → IsLeafPage new (set rs i r)
+replace_page bytes new piece rs i r p f place order row made =
+    let same = length-set rs i r in
+    leaf_page_of (length rs) new (set rs i r) (sym same)
+    (record {
+      fit = fit_set rs i r p.is_leaf.fit f;
+      least = omega (arith, same, p.is_leaf.least);
+      most = omega (arith, same, p.is_leaf.most);
+      ascends = order;
+    })
+    (set_row record_bytes 28 4032 (leaf_head (length rs)) [] bytes new piece rs i (64 + 28 * i) r (has_records bytes rs p) (wide_records (r ∷ []) (f, tt)).0
+    place refl row made)
+
+-- the keys stay where a record takes the place of one with its key
+pub keys_stay : (rs : List Record) (i : ℕ) (r found : Record) → slice_get rs i ≡ Some found → found.key ≡ r.key → keys_of (set rs i r) ≡ keys_of rs
+keys_stay [] i r found is e = refl
+keys_stay (x ∷ rs) zero r found is e = ap (λ k. k ∷ keys_of rs) (sym (ap (λ (s : Record). s.key) (one x found is) ∙ e))
+  where
+    one : (x y : Record) → Some x ≡ Some y → x ≡ y
+    one x y h = cc
+keys_stay (x ∷ rs) (suc i) r found is e = ap (λ l. x.key ∷ l) (keys_stay rs i r found is e)
 
 -- The records of another page are added.
 pub join_page : (bytes mid new other : List ℕ) (rs ss : List Record) (n m : ℕ) → IsLeafPage bytes rs → IsLeafPage other ss → n ≡ length rs → m ≡ length ss

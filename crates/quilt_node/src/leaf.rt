@@ -8,9 +8,8 @@ ghost use Rattle.quilt_node.specs.Pages as spec;
 ghost use Rattle.quilt_node.specs.Pages.{leaf_bytes, is_ascending, short_at};
 ghost use Rattle.quilt_node.specs.Nodes.{IsLeaf, IsFound, IsGap, keys_of, leaf_head};
 
-use crate::bytes::{
-    clear, count_in, is_clear, put_in, put_over, record_in, record_piece, set_count, take_out,
-};
+use crate::bytes::{clear, count_in, is_clear, put_over, record_in, record_piece, set_count};
+use crate::editing::{insert_in, remove_in};
 use crate::keys::{find_key, keys_ascend};
 use crate::sizes::{LEAST_RECORDS, MOST_RECORDS};
 use quilt_record::{Key, Record};
@@ -144,9 +143,7 @@ impl LeafPage {
         requires order { is_ascending (keys_of (insert self.old i r.now)) ≡ true }
         ensures { self.new ≡ insert self.old i r.now }
     {
-        let n = self.len();
-        put_in(&mut self.bytes, 64 + 28 * i, 64 + 28 * n, &record_piece(r));
-        set_count(&mut self.bytes, (n + 1) as u16);
+        insert_in(&mut self.bytes, i, r);
     }
 
     /// Keeps the first `n` records. The others are the answer.
@@ -189,9 +186,7 @@ impl LeafPage {
         requires place { i < length self.old }
         ensures { self.new ≡ remove self.old i }
     {
-        let n = self.len();
-        take_out(&mut self.bytes, 64 + 28 * i, 28, 64 + 28 * n);
-        set_count(&mut self.bytes, (n - 1) as u16);
+        remove_in(&mut self.bytes, i);
     }
 
     /// Takes over all records of the page to the right, whose bytes stay as they are.
