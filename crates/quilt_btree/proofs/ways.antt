@@ -3,6 +3,7 @@ pub mod Damage
 pub mod Floors
 pub mod Forks
 pub mod Leaves
+pub mod Looked
 pub mod Steps
 pub mod Turns
 pub mod Ways

@@ -1,4 +1,4 @@
-ghost use Rattle.std.specs.Prelude.{◌≡◌, ◌⊎◌, ◌-◌, ◌≤◌, ◌&&◌, ◌++◌, OnOk, MatchOption, List, Some, None, true, false, drop, filter, length, take, vec_len};
+ghost use Rattle.std.specs.Prelude.{◌≡◌, ◌⊎◌, ◌-◌, ◌<◌, ◌≤◌, ◌&&◌, ◌++◌, IfOk, IfErr, OnOk, MatchOption, List, Some, None, true, false, drop, filter, length, take, vec_len};
 ghost use Rattle.std.specs.List.{list_all};
 ghost use Rattle.std.specs.Ordering.{is_le, is_lt};
 ghost use Rattle.quilt_record.specs.Records.{key_cmp};
@@ -6,10 +6,15 @@ ghost use Rattle.quilt_record.specs.declared.key.Key.{Key};
 ghost use Rattle.quilt_record.specs.declared.record.Record.{Record};
 ghost use Rattle.quilt_node.specs.Pages.{leaf_of};
 ghost use Rattle.quilt_node.specs.Nodes.{records_of};
+ghost use Rattle.quilt_store.specs.Stops.{IsSound};
 ghost use Rattle.quilt_btree.specs.Lists.{is_from_to};
+ghost use Rattle.quilt_btree.specs.Looks.{LooksAt, AddsFrom, IsSpoilt};
 
+use crate::pages::stop_of;
 use quilt_node::{find_in, is_leaf, rec_in, records_in};
 use quilt_record::{Key, Record};
+use quilt_store::PageStore;
+use quilt_types::Stop;
 use std::alloc::AllocError;
 
 /// Whether the key is one of those from `low` to `high`.
@@ -72,7 +77,7 @@ fn add_span(
 
 /// Adds the records of a leaf with keys from `low` to `high`, until the list has `most`. It looks for the first and the
 /// last of them, and reads no others; of any bytes it adds some records with such keys.
-pub fn add_leaf(
+fn add_leaf(
     records: &mut Vec<Record>,
     bytes: &[u8; 4096],
     low: &Key,
@@ -88,9 +93,52 @@ pub fn add_leaf(
     add_span(records, bytes, first, last, low, high, most)
 }
 
+/// Adds the records of the leaf at a page with keys from `low` to `high`, until the list has `most`. The leaf is looked at
+/// where it lies. The answer is the number of records of the list.
+pub fn add_at<S: PageStore>(
+    store: &mut S,
+    page: u32,
+    records: &mut Vec<Record>,
+    low: &Key,
+    high: &Key,
+    most: u32,
+) -> Result<usize, Stop>
+    requires page { (1 ≤ page) × (page < S.size store.old) }
+    requires room { vec_len records.old ≤ most }
+    ensures number { IfOk result (λ n. n ≡ vec_len records.new) }
+    ensures adds { OnOk result (AddsFrom (S.told store.old) page low.now high.now most records.old.items records.new.items) }
+    ensures sound { IfErr result (λ e. IsSound e) }
+    ensures looks { LooksAt S.PageStore page store.old store.new result }
+{
+    match store.page(page) {
+        Err(e) => Err(stop_of(e)),
+        Ok(bytes) => {
+            if add_leaf(records, bytes, low, high, most).is_err() {
+                return Err(Stop::Memory);
+            }
+            Ok(records.len())
+        }
+    }
+}
+
+/// The page that is at fault where a range that goes on behind the leaf at a page finds no record in it, as
+/// `page_at_fault` has it of the leaf's bytes.
+pub fn fault_at<S: PageStore>(store: &mut S, page: u32) -> Result<u32, Stop>
+    requires { (1 ≤ page) × (page < S.size store.old) }
+    ensures at_most { IfOk result (λ q. q ≤ page) }
+    ensures fault { IfOk result (λ q. (q ≡ 0) ⊎ ((q ≡ page) × IsSpoilt (S.told store.old) page)) }
+    ensures sound { IfErr result (λ e. IsSound e) }
+    ensures looks { LooksAt S.PageStore page store.old store.new result }
+{
+    match store.page(page) {
+        Err(e) => Err(stop_of(e)),
+        Ok(bytes) => Ok(page_at_fault(bytes, page)),
+    }
+}
+
 /// The page that is at fault where a range that goes on behind it finds no record in it: the page itself where its bytes
 /// are no leaf, and else 0, since then the keys above it may be wrong as well as its own.
-pub fn page_at_fault(bytes: &[u8; 4096], page: u32) -> u32
+fn page_at_fault(bytes: &[u8; 4096], page: u32) -> u32
     ensures at_most { result ≤ page }
     ensures fault { (result ≡ 0) ⊎ ((result ≡ page) × (leaf_of bytes.now ≡ None)) }
 {

@@ -142,7 +142,7 @@ impl Tree {
 }
 
 /// The least number of records of a leaf.
-fn least_records(is_root: bool) -> usize
+pub fn least_records(is_root: bool) -> usize
     ensures { result ≡ (if is_root then 1 else 72) }
 {
     if is_root { 1 } else { LEAST_RECORDS }

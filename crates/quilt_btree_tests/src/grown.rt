@@ -3,7 +3,7 @@ ghost use Rattle.std.specs.Prelude.{◌+◌, ◌*◌, ◌-◌, ◌≤◌, IfSome
 ghost use Rattle.quilt_types.specs.Facts.{quota};
 ghost use Rattle.quilt_btree.specs.Trees.{IsRooted};
 
-use quilt_btree::{Tree, keys_ascend, records_ascend};
+use quilt_btree::{Cursor, Edit, Tree, edits_ascend, keys_ascend, records_ascend};
 use quilt_record::{Key, Record};
 use quilt_store::{MemStore, PageStore};
 use quilt_types::Stop;
@@ -116,5 +116,59 @@ impl Grown {
             return Err(Stop::Device);
         }
         self.tree.remove_all(&mut self.store, run)
+    }
+
+    /// Makes the edits of a run, whose keys have to ascend.
+    pub fn apply(&mut self, run: &[Edit]) -> Result<(), Stop> {
+        match self.room() {
+            Some(room) if run.len() <= room as usize && edits_ascend(run) => {
+                self.tree.apply(&mut self.store, run)
+            }
+            _ => Err(Stop::Device),
+        }
+    }
+
+    /// How many pages have other bytes behind a run of edits.
+    pub fn pages_changed_by(&mut self, alloc: Global, run: &[Edit]) -> Result<u32, Stop> {
+        let before = self.copy_pages(alloc).ok_or(Stop::Memory)?;
+        self.apply(run)?;
+        let after = self.copy_pages(alloc).ok_or(Stop::Memory)?;
+        let changed = before.iter().zip(&after).filter(|(a, b)| a != b).count();
+        Ok((changed & 0xffff) as u32)
+    }
+
+    /// A page, as it is.
+    fn copy_page(&mut self, page: u32) -> Option<[u8; 4096]> {
+        if page == 0 || page >= self.store.pages() {
+            return None;
+        }
+        let mut bytes = [0; 4096];
+        self.store.read(page, &mut bytes).ok()?;
+        Some(bytes)
+    }
+
+    /// All pages, as they are.
+    fn copy_pages(&mut self, alloc: Global) -> Option<Vec<[u8; 4096]>> {
+        let mut all = Vec::new(alloc);
+        for page in 1..self.store.pages() {
+            all.push(self.copy_page(page)?).ok()?;
+        }
+        Some(all)
+    }
+
+    /// The place behind all records whose keys are below this one.
+    pub fn seek(&mut self, k: &Key) -> Result<Cursor, Stop> {
+        if self.room().is_none() || self.tree.height == 0 {
+            return Err(Stop::Device);
+        }
+        self.tree.seek(&mut self.store, k)
+    }
+
+    /// The next record of a cursor.
+    pub fn next(&mut self, c: &mut Cursor) -> Result<Option<Record>, Stop> {
+        if self.room().is_none() || self.tree.height == 0 {
+            return Err(Stop::Device);
+        }
+        self.tree.next(&mut self.store, c)
     }
 }

@@ -1,15 +1,7 @@
-use crate::trial::Trial;
+use crate::trial::{Trial, draw, replacement};
 use std::alloc::{AllocError, Global};
 use std::process::Abort;
 use std::test::Fail;
-
-/// The next of pseudo-random numbers by a linear congruence, and its upper bits below the bound.
-fn draw(seed: &mut u64, bound: u32) -> u32 {
-    *seed = seed
-        .wrapping_mul(6364136223846793005)
-        .wrapping_add(1442695040888963407);
-    ((*seed >> 33) as u32).checked_rem(bound).unwrap_or(0)
-}
 
 #[test]
 fn leaves_split_and_join(rt: HostRuntime) -> Result<(), Fail> {
@@ -166,5 +158,61 @@ fn up_to_height_three_and_down(rt: HostRuntime) -> Result<(), Fail> {
     }
     assert_eq!(rt; trial.grown.tree.height, 0);
     assert_eq!(rt; trial.grown.free_pages(), 599);
+    Ok(())
+}
+
+/// Batches of drawn edits, dense and thin ones in turn, over trees of height 1 to 3.
+#[test]
+fn batches_beside_an_ordered_map(rt: HostRuntime) -> Result<(), Fail> {
+    let mut trial = Trial::new(rt.alloc(), 1200)?;
+    let mut seed = 11_u64;
+    for step in 0..60_u32 {
+        let most = if step % 10 == 9 { 50000 } else { 900 };
+        let gap = if step % 3 == 0 { 2 } else { 40 };
+        let run = trial.drawn_run(rt.alloc(), &mut seed, most, gap)?;
+        trial.apply(&rt, &run)?;
+        trial.compare_all(&rt, rt.alloc(), draw(&mut seed, most))?;
+    }
+    assert_eq!(rt; trial.grown.tree.height, 3);
+    Ok(())
+}
+
+#[test]
+fn a_batch_empties_a_tree(rt: HostRuntime) -> Result<(), Fail> {
+    let mut trial = Trial::new(rt.alloc(), 64)?;
+    trial.insert_all(&rt, rt.alloc(), &numbers(rt.alloc(), 0, 3, 700)?, 1)?;
+    assert_eq!(rt; trial.grown.tree.height, 2);
+    let run = trial.removals(rt.alloc())?;
+    trial.apply(&rt, &run)?;
+    assert_eq!(rt; trial.grown.tree.height, 0);
+    assert_eq!(rt; trial.grown.free_pages(), 63);
+    Ok(())
+}
+
+/// Another value in the place of one changes one page, whether its leaf has the fewest records or the most.
+#[test]
+fn a_replacement_changes_one_page(rt: HostRuntime) -> Result<(), Fail> {
+    let mut trial = Trial::new(rt.alloc(), 64)?;
+    trial.insert_all(&rt, rt.alloc(), &numbers(rt.alloc(), 0, 2, 600)?, 1)?;
+    for n in 0..600_u32 {
+        let run = [replacement(2 * n, 2)];
+        let pages = trial.grown.pages_changed_by(rt.alloc(), &run)?;
+        assert_eq!(rt; pages, 1);
+    }
+    Ok(())
+}
+
+#[test]
+fn a_cursor_goes_over_all_records(rt: HostRuntime) -> Result<(), Fail> {
+    let mut trial = Trial::new(rt.alloc(), 600)?;
+    trial.insert_all(&rt, rt.alloc(), &numbers(rt.alloc(), 0, 2, 20000)?, 1)?;
+    assert_eq!(rt; trial.grown.tree.height, 3);
+    let mut seed = 5_u64;
+    trial.compare_from(&rt, 0)?;
+    trial.compare_from(&rt, 40000)?;
+    for _ in 0..20 {
+        let n = draw(&mut seed, 41000);
+        trial.compare_from(&rt, n)?;
+    }
     Ok(())
 }

@@ -1,5 +1,5 @@
 use crate::grown::Grown;
-use quilt_btree::Tree;
+use quilt_btree::{Edit, Tree};
 use quilt_node::{InnerPage, inner_of};
 use quilt_record::{Key, Record};
 use quilt_store::{MemStore, PageStore};
@@ -15,6 +15,14 @@ pub struct Trial {
     pub grown: Grown,
     expected: BTreeMap<u32, u8>,
     pages: u32,
+}
+
+/// The next of pseudo-random numbers by a linear congruence, and its upper bits below the bound.
+pub fn draw(seed: &mut u64, bound: u32) -> u32 {
+    *seed = seed
+        .wrapping_mul(6364136223846793005)
+        .wrapping_add(1442695040888963407);
+    ((*seed >> 33) as u32).checked_rem(bound).unwrap_or(0)
 }
 
 /// The key with this code.
@@ -33,6 +41,13 @@ fn record(n: u32, value: u8) -> Record {
     Record {
         key: key(n),
         value: [value; 16],
+    }
+}
+
+/// The edit that gives the record of a number another value.
+pub fn replacement(n: u32, value: u8) -> Edit {
+    Edit::Replace {
+        record: record(n, value),
     }
 }
 
@@ -185,6 +200,73 @@ impl Trial {
     ) -> Result<(), Fail> {
         let end = self.grown.remove_all(&keys_of(alloc, numbers)?);
         assert!(rt; end == Err(Stop::Damaged { page: 0 }));
+        Ok(())
+    }
+
+    /// Makes the edits of a run on both at once.
+    pub fn apply(&mut self, rt: &impl Abort, run: &[Edit]) -> Result<(), Fail> {
+        for edit in run {
+            match edit {
+                Edit::Remove { key } => {
+                    let _ = self.expected.remove(&key.code);
+                }
+                Edit::Put { record } | Edit::Replace { record } => {
+                    self.expected.insert(record.key.code, record.value[0])?;
+                }
+            }
+        }
+        self.grown.apply(run)?;
+        self.compare(rt)
+    }
+
+    /// A drawn run of edits of the numbers below `most`, about one in `gap`: each is due, and of the numbers that are there
+    /// about half go and half have another value.
+    pub fn drawn_run(
+        &self,
+        alloc: Global,
+        seed: &mut u64,
+        most: u32,
+        gap: u32,
+    ) -> Result<Vec<Edit>, Fail> {
+        let mut run = Vec::new(alloc);
+        for n in 0..most {
+            if draw(seed, gap) != 0 {
+                continue;
+            }
+            let value = (draw(seed, 250) & 255) as u8;
+            run.push(if !self.expected.contains_key(&n) {
+                Edit::Put {
+                    record: record(n, value),
+                }
+            } else if draw(seed, 2) == 0 {
+                Edit::Remove { key: key(n) }
+            } else {
+                Edit::Replace {
+                    record: record(n, value),
+                }
+            })?;
+        }
+        Ok(run)
+    }
+
+    /// The edits that take all records out.
+    pub fn removals(&self, alloc: Global) -> Result<Vec<Edit>, Fail> {
+        let mut run = Vec::new(alloc);
+        for (n, _) in self.expected.iter() {
+            run.push(Edit::Remove { key: key(*n) })?;
+        }
+        Ok(run)
+    }
+
+    /// Goes over the records from a number on by a cursor, beside those of the map.
+    pub fn compare_from(&mut self, rt: &impl Abort, n: u32) -> Result<(), Fail> {
+        let mut cursor = self.grown.seek(&key(n))?;
+        for (m, value) in self.expected.range(n..) {
+            let next = self.grown.next(&mut cursor)?;
+            assert!(rt; next == Some(record(*m, *value)));
+        }
+        let end = self.grown.next(&mut cursor)?;
+        assert!(rt; end.is_none());
         Ok(())
     }
 

@@ -42,7 +42,7 @@ use Rattle.quilt_btree.proofs.growth.UnderGrowth.{LeadsToChild}
 use Rattle.quilt_btree.proofs.subtrees.Walks.{and_parts, and_both}
 use Rattle.quilt_btree.proofs.stores.Writes.{tells_at, TellsAll, all_told}
 
-within_put : (p : Key → Bool) (r : Record) (rs : List Record) → p r.key ≡ true → list_all p (keys_of rs) ≡ true → list_all p (keys_of (put r rs)) ≡ true
+pub within_put : (p : Key → Bool) (r : Record) (rs : List Record) → p r.key ≡ true → list_all p (keys_of rs) ≡ true → list_all p (keys_of (put r rs)) ≡ true
 within_put p r [] h w = and_both (p r.key) true h refl
 within_put p r (s ∷ rs) h w =
     let t = and_parts (p s.key) (list_all p (keys_of rs)) w in
@@ -188,7 +188,7 @@ nearer (k ∷ ks) b w m h =
     on None k m g h = refl
     on (Some high) k m g h = lt_le m k high h (lt_to_le (key_cmp k high) g)
 
-child_low : (ks : List Key) (b : Bounds) → (head_bounds ks b).low ≡ b.low
+pub child_low : (ks : List Key) (b : Bounds) → (head_bounds ks b).low ≡ b.low
 child_low [] b = refl
 child_low (k ∷ ks) b = refl
 

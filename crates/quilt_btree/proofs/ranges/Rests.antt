@@ -56,7 +56,7 @@ pub rest_fills : (told : Option (List (List ℕ))) (t : Tree) (low from high : K
 rest_fills told t low from high most leaf old new rs up c is b full =
     let l = rest_so_far told t low from high most leaf old new rs up c is b in range_fills low from high most rs leaf new None up l.0 full l.1
 
-next_divides : (pages : List (List ℕ)) (height page : ℕ) (up : Option Key) (next : Key) → up ≡ Some next → IsBound pages height page None up
+pub next_divides : (pages : List (List ℕ)) (height page : ℕ) (up : Option Key) (next : Key) → up ≡ Some next → IsBound pages height page None up
     → Divides pages height page next
 next_divides pages height page up next e (inl none) = cc
 next_divides pages height page up next e (inr q) = let is = q.1 in let same : q.0 ≡ next = cc in subst (λ k. Divides pages height page k) same q.2

@@ -135,15 +135,15 @@ kept_filter : (p : Key → Bool) (q : Record → Bool) (rs : List Record) → li
 kept_filter p q [] h = refl
 kept_filter p q (r ∷ rs) h = let t = and_parts (p r.key) (list_all p (keys_of rs)) h in kept_step p q r rs (q r) refl t.0 (kept_filter p q rs t.1)
 
-kept_without : (p : Key → Bool) (k : Key) (rs : List Record) → list_all p (keys_of rs) ≡ true → list_all p (keys_of (without k rs)) ≡ true
+pub kept_without : (p : Key → Bool) (k : Key) (rs : List Record) → list_all p (keys_of rs) ≡ true → list_all p (keys_of (without k rs)) ≡ true
 unfolding without
 kept_without p k rs h = kept_filter p (λ r. not (has_key k r)) rs h
 
-kept_all : (p : Key → Bool) (xs : List Key) (rs : List Record) → list_all p (keys_of rs) ≡ true → list_all p (keys_of (without_all xs rs)) ≡ true
+pub kept_all : (p : Key → Bool) (xs : List Key) (rs : List Record) → list_all p (keys_of rs) ≡ true → list_all p (keys_of (without_all xs rs)) ≡ true
 kept_all p [] rs h = h
 kept_all p (x ∷ xs) rs h = kept_all p xs (without x rs) (kept_without p x rs h)
 
-still_enough : (is_root : Bool) (n : ℕ) → (if is_root then 1 else 72) ≤ n → (is_root || nat_le 72 n) ≡ true
+pub still_enough : (is_root : Bool) (n : ℕ) → (if is_root then 1 else 72) ≤ n → (is_root || nat_le 72 n) ≡ true
 still_enough true n h = refl
 still_enough false n h = grind (arith, nat_tests)
 
@@ -187,7 +187,7 @@ pub record AreAmong (first last : List Record) (xs : List Key) : Type 0 where
   pub lower : list_all (λ x. list_all (λ r. is_lt (key_cmp r.key x)) first) xs ≡ true
   pub higher : list_all (λ x. list_all (λ r. is_lt (key_cmp x r.key)) last) xs ≡ true
 
-head_among : (first here last rs : List Record) (x : Key) (xs : List Key) → rs ≡ first ++ (here ++ last) → AreAmong first last (x ∷ xs)
+pub head_among : (first here last rs : List Record) (x : Key) (xs : List Key) → rs ≡ first ++ (here ++ last) → AreAmong first last (x ∷ xs)
     → IsAmong x first here last rs
 head_among first here last rs x xs e a = record {
   records = e;
@@ -199,7 +199,7 @@ head_among first here last rs x xs e a = record {
       (list_all (λ (x : Key). list_all (λ (r : Record). is_lt (key_cmp x r.key)) last) xs) a.higher).0;
 }
 
-rest_among : (first last : List Record) (x : Key) (xs : List Key) → AreAmong first last (x ∷ xs) → AreAmong first last xs
+pub rest_among : (first last : List Record) (x : Key) (xs : List Key) → AreAmong first last (x ∷ xs) → AreAmong first last xs
 rest_among first last x xs a = record {
   lower =
       (and_parts (list_all (λ (r : Record). is_lt (key_cmp r.key x)) first)
@@ -227,13 +227,13 @@ has_each_between first here last rs (x ∷ xs) e a =
     both : (a b c d : Bool) → a ≡ b → c ≡ d → (a && c) ≡ (b && d)
     both a b c d h g = cc
 
-all_lower : (k : Key) (first : List Record) (xs : List Key) → list_all (λ r. is_lt (key_cmp r.key k)) first ≡ true
+pub all_lower : (k : Key) (first : List Record) (xs : List Key) → list_all (λ r. is_lt (key_cmp r.key k)) first ≡ true
     → list_all (λ x. is_le (key_cmp k x)) xs ≡ true → list_all (λ x. list_all (λ r. is_lt (key_cmp r.key x)) first) xs ≡ true
 all_lower k first xs l h =
     all_follow (λ x. is_le (key_cmp k x)) (λ x. list_all (λ (r : Record). is_lt (key_cmp r.key x)) first)
     (λ x g. all_follow (λ (r : Record). is_lt (key_cmp r.key k)) (λ r. is_lt (key_cmp r.key x)) (λ r e. lt_le r.key k x e g) first l) xs h
 
-all_higher : (o : Option Key) (last : List Record) (xs : List Key) → list_all (λ r. is_past o r.key) last ≡ true → list_all (is_below o) xs ≡ true
+pub all_higher : (o : Option Key) (last : List Record) (xs : List Key) → list_all (λ r. is_past o r.key) last ≡ true → list_all (is_below o) xs ≡ true
     → list_all (λ x. list_all (λ r. is_lt (key_cmp x r.key)) last) xs ≡ true
 all_higher o last xs l h =
     all_follow (is_below o) (λ x. list_all (λ (r : Record). is_lt (key_cmp x r.key)) last)
@@ -425,11 +425,11 @@ asc_filter q [] a = refl
 asc_filter q (r ∷ rs) a = asc_step q r rs (q r) refl (asc_filter q rs (ascending_rest r.key (keys_of rs) a))
     (kept_filter (λ m. is_lt (key_cmp r.key m)) q rs (ascending_first r.key (keys_of rs) a))
 
-asc_without : (k : Key) (rs : List Record) → is_ascending (keys_of rs) ≡ true → is_ascending (keys_of (without k rs)) ≡ true
+pub asc_without : (k : Key) (rs : List Record) → is_ascending (keys_of rs) ≡ true → is_ascending (keys_of (without k rs)) ≡ true
 unfolding without
 asc_without k rs a = asc_filter (λ r. not (has_key k r)) rs a
 
-fewer_all : (xs : List Key) (rs : List Record) → is_ascending (keys_of rs) ≡ true → is_ascending xs ≡ true → has_each xs rs ≡ true
+pub fewer_all : (xs : List Key) (rs : List Record) → is_ascending (keys_of rs) ≡ true → is_ascending xs ≡ true → has_each xs rs ≡ true
     → length (without_all xs rs) + length xs ≡ length rs
 fewer_all [] rs a order h = omega arith
 fewer_all (x ∷ xs) rs a order h =

@@ -17,7 +17,7 @@ use Rattle.quilt_record.specs.Lists.{has_key, without}
 use Rattle.quilt_btree.specs.Runs.{without_all, has_each}
 use Rattle.quilt_btree.specs.Trees.{IsRooted}
 use Rattle.quilt_btree.proofs.lists.Lists.{filter_cond}
-use Rattle.quilt_record.proofs.Orders.{key_total, lt_le, gt_not_eq}
+use Rattle.quilt_record.proofs.Orders.{key_total, key_equal, lt_le, lt_not_eq, gt_not_eq}
 use Rattle.quilt_btree.proofs.lists.Rising.{all_parts}
 use Rattle.quilt_btree.proofs.lists.RisingApart.{ascending_back}
 use Rattle.quilt_btree.proofs.subtrees.Trees.{ascending_first, ascending_rest, all_both}
@@ -101,6 +101,19 @@ any_filter_other p q (r ∷ rs) f = other_step p q r rs (q r) (p r) refl refl (f
 any_without_other : (j k : Key) (rs : List Record) → is_lt (key_cmp j k) ≡ true → list_any (has_key k) (without j rs) ≡ list_any (has_key k) rs
 unfolding without
 any_without_other j k rs lt = any_filter_other (has_key k) (λ r. not (has_key j r)) rs (λ r h. ap not (other_key j k r lt h))
+
+-- a record of an earlier key stays
+pub any_without_above : (j k : Key) (rs : List Record) → is_lt (key_cmp k j) ≡ true → list_any (has_key k) (without j rs) ≡ list_any (has_key k) rs
+unfolding without
+any_without_above j k rs lt = any_filter_other (has_key k) (λ r. not (has_key j r)) rs (λ r h. ap not (earlier_key j k r lt h))
+  where
+    equal : (o : Ordering) → is_eq o ≡ true → o ≡ Equal
+    equal Less h = cc
+    equal Equal h = refl
+    equal Greater h = cc
+
+    earlier_key : (j k : Key) (r : Record) → is_lt (key_cmp k j) ≡ true → has_key k r ≡ true → has_key j r ≡ false
+    earlier_key j k r lt h = lt_not_eq (key_cmp r.key j) (subst (λ l. is_lt (key_cmp l j) ≡ true) (sym (key_equal r.key k (equal (key_cmp r.key k) h))) lt)
 
 pub any_without_below : (k : Key) (xs : List Key) (rs : List Record) → list_all (λ m. is_lt (key_cmp m k)) xs ≡ true
     → list_any (has_key k) (without_all xs rs) ≡ list_any (has_key k) rs

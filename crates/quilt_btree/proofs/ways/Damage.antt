@@ -91,12 +91,13 @@ pub child_at : (size : ℕ) (bytes : List ℕ) (o : Option ℕ) (child : ℕ) �
 child_at size bytes o child e h = subst (λ p. IfSome p (HasChild size bytes)) e h
 
 -- the page of the bytes that the search came to
-pub spoilt_below : (r : Result Found Stop) (old new : Option (List (List ℕ))) (page height size : ℕ) (bytes last : List ℕ) (child : ℕ)
+pub spoilt_below : (r : Result Found Stop) (old new : Option (List (List ℕ))) (page height size : ℕ) (bytes : List ℕ) (child : ℕ)
     → IsRead old new page height size bytes → HasChild size bytes child
-    → IfOk r (λ found. leaf_of last ≡ None → NamesBad new (height - 1) child (Damaged found.page))
-    → IfOk r (λ found. leaf_of last ≡ None → NamesBad old height page (Damaged found.page))
-spoilt_below (Err e) old new page height size bytes last child r c f = f
-spoilt_below (Ok v) old new page height size bytes last child r c f = λ none. bad_below old new page height size bytes child (Damaged v.page) r c (f none)
+    → IfOk r (λ found. (last : List ℕ) → AreOf new found.page last → leaf_of last ≡ None → NamesBad new (height - 1) child (Damaged found.page))
+    → IfOk r (λ found. (last : List ℕ) → AreOf old found.page last → leaf_of last ≡ None → NamesBad old height page (Damaged found.page))
+spoilt_below (Err e) old new page height size bytes child r c f = f
+spoilt_below (Ok v) old new page height size bytes child r c f = λ last are none.
+    bad_below old new page height size bytes child (Damaged v.page) r c (f last (λ pages is. are pages (sym r.told ∙ is)) none)
 
 -- page 0, or one that is bad for this reason
 pub fault_named : (told : Option (List (List ℕ))) (height page at q : ℕ) (P : Type 0) → ((q ≡ 0) ⊎ ((q ≡ at) × P))

@@ -154,6 +154,21 @@ led_on (Ok v) old new page height size bytes last k child prior r fork f = λ rs
     let a = forked old new page height size bytes k child prior rs r fork s in
     led_up k a.before a.here a.behind rs last a.among (f a.here a.spells)
 
+-- the leaf's page in place of its bytes
+pub led_page : (r : Result ℕ Stop) (old new : Option (List (List ℕ))) (page height size : ℕ) (bytes : List ℕ) (k : Key) (child : ℕ)
+    (prior : Option ℕ) → IsRead old new page height size bytes
+    → ((inner : Inner) → inner_of size bytes ≡ Some inner → IsFork k inner child prior)
+    → IfOk r (λ leaf. (rs : List Record) → Spells new child (height - 1) rs → (last : List ℕ) → AreOf new leaf last → IsLeafFor k rs last)
+    → IfOk r (λ leaf. (rs : List Record) → Spells old page height rs → (last : List ℕ) → AreOf old leaf last → IsLeafFor k rs last)
+led_page (Err e) old new page height size bytes k child prior r fork f = f
+led_page (Ok leaf) old new page height size bytes k child prior r fork f = λ rs s last are.
+    let a = forked old new page height size bytes k child prior rs r fork s in
+    led_up k a.before a.here a.behind rs last a.among (f a.here a.spells last (λ pages is. are pages (sym r.told ∙ is)))
+
+-- what a lent page shows
+pub are_of : (told : Option (List (List ℕ))) (page : ℕ) (bytes : List ℕ) → IfSome told (λ pages. bytes ≡ slice_index_or pages page []) → AreOf told page bytes
+are_of told page bytes shown = λ pages is. subst (λ o. IfSome o (λ ps. bytes ≡ slice_index_or ps page [])) is shown
+
 pub sound_on : {T : Type 0} (r : Result T Stop) (old new : Option (List (List ℕ))) (page height size : ℕ) (bytes : List ℕ) (k : Key) (child : ℕ)
     (prior : Option ℕ) → IsRead old new page height size bytes
     → ((inner : Inner) → inner_of size bytes ≡ Some inner → IsFork k inner child prior)

@@ -1,6 +1,6 @@
 -- The way down to a leaf in the bytes of pages, with the bound below which the leaf's keys stay.
 use Rattle.std.proofs.Common.{◌≡◌, ℕ, zero, suc, ◌+◌, ◌-◌, ◌<◌, ◌≤◌, Bool, true, false, List, [], ◌∷◌, take, drop, length, Option, Some, None, Result, Ok, Err}
-use Rattle.std.proofs.Common.{IfOk, IfErr, OnOk, slice_index, refl, sym, ◌∙◌, ap, subst, arith}
+use Rattle.std.proofs.Common.{IfOk, IfErr, slice_index, refl, sym, ◌∙◌, ap, subst, arith}
 use Rattle.std.specs.Prelude.{slice_get}
 use Rattle.std.specs.List.{list_all}
 use Rattle.std.specs.Option.{option_or}
@@ -36,27 +36,39 @@ use Rattle.quilt_btree.proofs.subtrees.Walks.{and_parts}
 abbrev pub StepsTo : ℕ → List ℕ → Key → Option Key → ℕ → Option Key → Type 0
 StepsTo size bytes k start child next = (inner : Inner) → inner_of size bytes ≡ Some inner → IsStep k inner start child next
 
-pub step_led : (r : Result Found Stop) (old new : Option (List (List ℕ))) (page height size : ℕ) (bytes : List ℕ) (leaf : List Record) (k : Key)
+-- the leaf is one of the pages that were told before
+pub told_before : (old new : Option (List (List ℕ))) (page : ℕ) (last : List ℕ) → new ≡ old → AreOf old page last → AreOf new page last
+told_before old new page last same are = λ pages is. are pages (sym same ∙ is)
+
+pub step_led : (r : Result Found Stop) (old new : Option (List (List ℕ))) (page height size : ℕ) (bytes : List ℕ) (k : Key)
     (child : ℕ) (start next : Option Key) → IsRead old new page height size bytes → StepsTo size bytes k start child next
-    → IfOk r (λ f. (rs : List Record) (s : Spells new child (height - 1) rs) → s.bounds.high ≡ next → LeadsTo k rs leaf next f.high)
-    → IfOk r (λ f. (rs : List Record) (s : Spells old page height rs) → s.bounds.high ≡ start → LeadsTo k rs leaf start f.high)
-step_led (Err e) old new page height size bytes leaf k child start next is step f = f
-step_led (Ok v) old new page height size bytes leaf k child start next is step f = λ rs s top.
+    → IfOk r (λ f. (last : List ℕ) → AreOf new f.page last → (rs : List Record) (s : Spells new child (height - 1) rs) → s.bounds.high ≡ next
+    → LeadsTo k rs (records_of last) next f.high)
+    → IfOk r (λ f. (last : List ℕ) → AreOf old f.page last → (rs : List Record) (s : Spells old page height rs) → s.bounds.high ≡ start
+    → LeadsTo k rs (records_of last) start f.high)
+step_led (Err e) old new page height size bytes k child start next is step f = f
+step_led (Ok v) old new page height size bytes k child start next is step f = λ last are rs s top.
     let h = page_here old new page height size bytes rs is s in
     let st = step h.inner h.is in
-    leads_up (Ok v) leaf old new page height child st.place k h.inner start next is.told is.some is.above h.reads st.is_place st.child_is st.next_is f rs s top
+    leads_up (Ok v) (records_of last) old new page height child st.place k h.inner start next is.told is.some is.above h.reads st.is_place st.child_is st.next_is
+    (f last (told_before old new v.page last is.told are)) rs s top
 
-pub step_cut : (r : Result Found Stop) (old new : Option (List (List ℕ))) (page height size : ℕ) (bytes : List ℕ) (leaf : List Record) (k : Key)
+pub step_cut : (r : Result Found Stop) (old new : Option (List (List ℕ))) (page height size : ℕ) (bytes : List ℕ) (k : Key)
     (child : ℕ) (start next : Option Key) → IsRead old new page height size bytes → StepsTo size bytes k start child next
-    → IfOk r (λ f. (rs : List Record) (s : Spells new child (height - 1) rs) → s.bounds.high ≡ next → LeadsTo k rs leaf next f.high)
-    → IfOk r (λ f. IsCut new child (height - 1) k next leaf f.high) → IfOk r (λ f. IsCut old page height k start leaf f.high)
-step_cut (Err e) old new page height size bytes leaf k child start next is step f g = g
-step_cut (Ok v) old new page height size bytes leaf k child start next is step f g =
+    → IfOk r (λ f. (last : List ℕ) → AreOf new f.page last → (rs : List Record) (s : Spells new child (height - 1) rs) → s.bounds.high ≡ next
+    → LeadsTo k rs (records_of last) next f.high)
+    → IfOk r (λ f. (last : List ℕ) → AreOf new f.page last → IsCut new child (height - 1) k next (records_of last) f.high)
+    → IfOk r (λ f. (last : List ℕ) → AreOf old f.page last → IsCut old page height k start (records_of last) f.high)
+step_cut (Err e) old new page height size bytes k child start next is step f g = g
+step_cut (Ok v) old new page height size bytes k child start next is step f g = λ last are.
+    let leaf = records_of last in
+    let then_are = told_before old new v.page last is.told are in
     let up : (rs : List Record) → Spells old page height rs → IsCut old page height k start leaf v.high = λ rs s.
     let h = page_here old new page height size bytes rs is s in
     let st = step h.inner h.is in
     cut_up old new page height child st.place k h.inner start next leaf v.high
-    (record { told = is.told; some = is.some; above = is.above; reads = h.reads; place = st.is_place; is_child = st.child_is }) st.next_is f g in
+    (record { told = is.told; some = is.some; above = is.above; reads = h.reads; place = st.is_place; is_child = st.child_is }) st.next_is (f last then_are)
+    (g last then_are) in
     record {
       starts = λ pages rs t s top d. (up rs s).starts pages rs t s top d;
       ends = λ pages rs s t top b. (up rs s).ends pages rs s t top b;
@@ -74,15 +86,16 @@ step_sound {T} (Err e) old new page height size bytes k child start next is step
     f low.here (subst (λ c. Spells new c (height - 1) low.here) (sym st.child_is)
     (along_told old new (slice_index h.inner.children st.place) (height - 1) low.here is.told low.spells))
 
-pub step_holds : {T : Type 0} (r : Result T Stop) (old new : Option (List (List ℕ))) (page height size : ℕ) (bytes : List ℕ) (P : Type 0) (k : Key)
+pub step_holds : (r : Result Found Stop) (old new : Option (List (List ℕ))) (page height size : ℕ) (bytes : List ℕ) (P : List ℕ → Type 0) (k : Key)
     (child : ℕ) (start next : Option Key) → IsRead old new page height size bytes → StepsTo size bytes k start child next
-    → OnOk r ((rs : List Record) → Spells new child (height - 1) rs → P) → OnOk r ((rs : List Record) → Spells old page height rs → P)
+    → IfOk r (λ f. (last : List ℕ) → AreOf new f.page last → (rs : List Record) → Spells new child (height - 1) rs → P last)
+    → IfOk r (λ f. (last : List ℕ) → AreOf old f.page last → (rs : List Record) → Spells old page height rs → P last)
 step_holds (Err e) old new page height size bytes P k child start next is step f = f
-step_holds {T} (Ok v) old new page height size bytes P k child start next is step f = λ rs s.
+step_holds (Ok v) old new page height size bytes P k child start next is step f = λ last are rs s.
     let h = page_here old new page height size bytes rs is s in
     let st = step h.inner h.is in
     let low = leads_below old page height rs h.inner st.place k is.some is.above s h.reads st.is_place in
-    f low.here (subst (λ c. Spells new c (height - 1) low.here) (sym st.child_is)
+    f last (told_before old new v.page last is.told are) low.here (subst (λ c. Spells new c (height - 1) low.here) (sym st.child_is)
     (along_told old new (slice_index h.inner.children st.place) (height - 1) low.here is.told low.spells))
 
 pub step_above : (r : Result Found Stop) (k : Key) (start next : Option Key) → (is_below start k ≡ true → is_below next k ≡ true)

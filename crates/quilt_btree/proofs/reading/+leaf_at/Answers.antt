@@ -1,104 +1,119 @@
-use Rattle.std.proofs.Common.{◌≡◌, ◌≤◌, Some, length, ◌∙◌}
+use Rattle.std.proofs.Common.{◌≡◌, ◌≤◌, Some, List, ℕ, length}
 use Rattle.quilt_node.specs.Pages.{leaf_of}
 use Rattle.quilt_node.specs.Nodes.{records_of}
-use Rattle.quilt_store.proofs.Reading.{only_read_then}
+use Rattle.quilt_store.proofs.Reading.{only_reads_then}
 use Rattle.quilt_btree.proofs.subtrees.Dividing.{leaf_cut}
-use Rattle.quilt_btree.proofs.ways.Forks.{read_ok}
+use Rattle.quilt_btree.proofs.ways.Looked.{read_of}
 use Rattle.quilt_btree.proofs.ways.Steps.{step_led, step_cut, step_sound, step_holds, step_above, here_led, here_least, here_leaf}
-use Rattle.quilt_btree.proofs.ways.Damage.{sound_names, bad_leaf, bad_inner, names_below, spoilt_below}
+use Rattle.quilt_btree.proofs.ways.Damage.{bad_leaf, names_below, spoilt_below}
 use Rattle.quilt_btree.proofs.reading.+leaf_at.Goals as goal
 
-pub returns-in-Ok-clause-leads : goal.returns-in-Ok-clause-leads
-returns-in-Ok-clause-leads g t c = here_led (g.S.PageStore.told c.args.store.now) c.args.page c.args.height c.read_into.new.bytes c.args.k.now
-    c.args.high.now c.if-height-eq1.true c.in-Ok.ensures.bytes
+pub returns-then-height-eq1-clause-leads : goal.returns-then-height-eq1-clause-leads
+returns-then-height-eq1-clause-leads g t c = λ bytes are. here_led (g.S.PageStore.told c.args.store.now) c.args.page c.args.height bytes c.args.k.now
+    c.args.high.now c.if-height-eq1.true are
 
-pub returns-in-Ok-clause-cut : goal.returns-in-Ok-clause-cut
-returns-in-Ok-clause-cut g t c = leaf_cut (g.S.PageStore.told c.args.store.now) c.args.page c.args.height c.args.k.now
-    (records_of c.read_into.new.bytes) c.args.high.now c.if-height-eq1.true
+pub returns-then-height-eq1-clause-cut : goal.returns-then-height-eq1-clause-cut
+returns-then-height-eq1-clause-cut g t c = λ bytes are. leaf_cut (g.S.PageStore.told c.args.store.now) c.args.page c.args.height c.args.k.now
+    (records_of bytes) c.args.high.now c.if-height-eq1.true
 
-pub returns-in-Ok-clause-least : goal.returns-in-Ok-clause-least
-returns-in-Ok-clause-least g t c =
-    here_least (g.S.PageStore.told c.args.store.now) c.args.page c.args.height c.read_into.new.bytes c.if-height-eq1.true c.in-Ok.ensures.bytes
+pub returns-then-height-eq1-clause-least : goal.returns-then-height-eq1-clause-least
+returns-then-height-eq1-clause-least g t c = λ bytes are.
+    here_least (g.S.PageStore.told c.args.store.now) c.args.page c.args.height bytes c.if-height-eq1.true are
 
-pub returns-in-Ok-clause-leaf : goal.returns-in-Ok-clause-leaf
-returns-in-Ok-clause-leaf g t c =
-    here_leaf (g.S.PageStore.told c.args.store.now) c.args.page c.args.height c.read_into.new.bytes c.if-height-eq1.true c.in-Ok.ensures.bytes
+pub returns-then-height-eq1-clause-leaf : goal.returns-then-height-eq1-clause-leaf
+returns-then-height-eq1-clause-leaf g t c = λ bytes are.
+    here_leaf (g.S.PageStore.told c.args.store.now) c.args.page c.args.height bytes c.if-height-eq1.true are
 
-pub returns-in-Some-clause-leads : goal.returns-in-Some-clause-leads
-returns-in-Some-clause-leads g t c = step_led c.leaf_at.result (g.S.PageStore.told c.args.store.now) (g.S.PageStore.told c.read_into.new.store)
-    c.args.page c.args.height c.pages.result c.read_into.new.bytes (records_of c.leaf_at.new.bytes) c.args.k.now c.in-Some.step.child c.args.high.now
-    c.in-Some.step.high (read_ok (g.S.PageStore.told c.args.store.now) (g.S.PageStore.told c.read_into.new.store) c.args.page c.args.height
-    c.pages.result (g.S.PageStore.size c.args.store.now) c.read_into.new.bytes c.requires.height c.if-height-eq1.false c.in-Ok.ensures.left.told
-    (g.met.S.PageStore.as_many c.args.store.now) (c.pages.ensures ∙ c.in-Ok.ensures.left.size) c.in-Ok.ensures.bytes) c.in-Some.ensures.step
-    c.leaf_at.ensures.leads
+pub returns-then-height-eq1-clause-spoilt : goal.returns-then-height-eq1-clause-spoilt
+returns-then-height-eq1-clause-spoilt g t c = λ bytes are.
+    bad_leaf (g.S.PageStore.told c.args.store.now) c.args.page c.args.height bytes c.if-height-eq1.true are
 
-pub returns-in-Some-clause-cut : goal.returns-in-Some-clause-cut
-returns-in-Some-clause-cut g t c = step_cut c.leaf_at.result (g.S.PageStore.told c.args.store.now) (g.S.PageStore.told c.read_into.new.store)
-    c.args.page c.args.height c.pages.result c.read_into.new.bytes (records_of c.leaf_at.new.bytes) c.args.k.now c.in-Some.step.child c.args.high.now
-    c.in-Some.step.high (read_ok (g.S.PageStore.told c.args.store.now) (g.S.PageStore.told c.read_into.new.store) c.args.page c.args.height
-    c.pages.result (g.S.PageStore.size c.args.store.now) c.read_into.new.bytes c.requires.height c.if-height-eq1.false c.in-Ok.ensures.left.told
-    (g.met.S.PageStore.as_many c.args.store.now) (c.pages.ensures ∙ c.in-Ok.ensures.left.size) c.in-Ok.ensures.bytes)
-    c.in-Some.ensures.step c.leaf_at.ensures.leads c.leaf_at.ensures.cut
-
-pub returns-in-Some-clause-least : goal.returns-in-Some-clause-least
-returns-in-Some-clause-least g t c = step_holds c.leaf_at.result (g.S.PageStore.told c.args.store.now) (g.S.PageStore.told c.read_into.new.store)
-    c.args.page c.args.height c.pages.result c.read_into.new.bytes (1 ≤ length (records_of c.leaf_at.new.bytes)) c.args.k.now c.in-Some.step.child
-    c.args.high.now c.in-Some.step.high
-    (read_ok (g.S.PageStore.told c.args.store.now) (g.S.PageStore.told c.read_into.new.store) c.args.page c.args.height c.pages.result
-    (g.S.PageStore.size c.args.store.now) c.read_into.new.bytes c.requires.height c.if-height-eq1.false c.in-Ok.ensures.left.told
-    (g.met.S.PageStore.as_many c.args.store.now) (c.pages.ensures ∙ c.in-Ok.ensures.left.size) c.in-Ok.ensures.bytes) c.in-Some.ensures.step
-    c.leaf_at.ensures.least
-
-pub returns-in-Some-clause-leaf : goal.returns-in-Some-clause-leaf
-returns-in-Some-clause-leaf g t c = step_holds c.leaf_at.result (g.S.PageStore.told c.args.store.now) (g.S.PageStore.told c.read_into.new.store)
-    c.args.page c.args.height c.pages.result c.read_into.new.bytes (leaf_of c.leaf_at.new.bytes ≡ Some (records_of c.leaf_at.new.bytes))
-    c.args.k.now c.in-Some.step.child c.args.high.now c.in-Some.step.high
-    (read_ok (g.S.PageStore.told c.args.store.now) (g.S.PageStore.told c.read_into.new.store) c.args.page c.args.height c.pages.result
-    (g.S.PageStore.size c.args.store.now) c.read_into.new.bytes c.requires.height c.if-height-eq1.false c.in-Ok.ensures.left.told
-    (g.met.S.PageStore.as_many c.args.store.now) (c.pages.ensures ∙ c.in-Ok.ensures.left.size) c.in-Ok.ensures.bytes) c.in-Some.ensures.step
-    c.leaf_at.ensures.leaf
-
-pub returns-in-Some-clause-sound : goal.returns-in-Some-clause-sound
-returns-in-Some-clause-sound g t c = step_sound c.leaf_at.result (g.S.PageStore.told c.args.store.now) (g.S.PageStore.told c.read_into.new.store)
-    c.args.page c.args.height c.pages.result c.read_into.new.bytes c.args.k.now c.in-Some.step.child c.args.high.now c.in-Some.step.high
-    (read_ok (g.S.PageStore.told c.args.store.now) (g.S.PageStore.told c.read_into.new.store) c.args.page c.args.height c.pages.result
-    (g.S.PageStore.size c.args.store.now) c.read_into.new.bytes c.requires.height c.if-height-eq1.false c.in-Ok.ensures.left.told
-    (g.met.S.PageStore.as_many c.args.store.now) (c.pages.ensures ∙ c.in-Ok.ensures.left.size) c.in-Ok.ensures.bytes) c.in-Some.ensures.step
-    c.leaf_at.ensures.sound
-
-pub returns-in-Some-clause-above : goal.returns-in-Some-clause-above
-returns-in-Some-clause-above g t c =
-    step_above c.leaf_at.result c.args.k.now c.args.high.now c.in-Some.step.high c.in-Some.ensures.above c.leaf_at.ensures.above
-
-pub returns-in-Ok-clause-spoilt : goal.returns-in-Ok-clause-spoilt
-returns-in-Ok-clause-spoilt g t c =
-    bad_leaf (g.S.PageStore.told c.args.store.now) c.args.page c.args.height c.read_into.new.bytes c.if-height-eq1.true c.in-Ok.ensures.bytes
-
-pub returns-in-Some-clause-spoilt : goal.returns-in-Some-clause-spoilt
-returns-in-Some-clause-spoilt g t c = spoilt_below c.leaf_at.result (g.S.PageStore.told c.args.store.now) (g.S.PageStore.told c.read_into.new.store)
-    c.args.page c.args.height c.pages.result c.read_into.new.bytes c.leaf_at.new.bytes c.in-Some.step.child
-    (read_ok (g.S.PageStore.told c.args.store.now) (g.S.PageStore.told c.read_into.new.store) c.args.page c.args.height c.pages.result
-    (g.S.PageStore.size c.args.store.now) c.read_into.new.bytes c.requires.height c.if-height-eq1.false c.in-Ok.ensures.left.told
-    (g.met.S.PageStore.as_many c.args.store.now) (c.pages.ensures ∙ c.in-Ok.ensures.left.size) c.in-Ok.ensures.bytes)
-    c.in-Some.ensures.stands c.leaf_at.ensures.spoilt
+pub returns-in-Err-clause-sound : goal.returns-in-Err-clause-sound
+returns-in-Err-clause-sound g t c = λ rs s. c.in-Err.ensures.sound c.args.height rs c.requires.height c.if-height-eq1.false s
 
 pub returns-in-Err-clause-bad : goal.returns-in-Err-clause-bad
-returns-in-Err-clause-bad g t c = sound_names (g.S.PageStore.told c.args.store.now) c.args.height c.args.page c.in-Err.e c.in-Err.ensures.sound
+returns-in-Err-clause-bad g t c = c.in-Err.ensures.bad c.args.height c.requires.height c.if-height-eq1.false
 
-pub returns-in-None-clause-bad : goal.returns-in-None-clause-bad
-returns-in-None-clause-bad g t c = bad_inner (g.S.PageStore.told c.args.store.now) (g.S.PageStore.told c.read_into.new.store)
-    c.args.page c.args.height c.pages.result c.read_into.new.bytes
-    (read_ok (g.S.PageStore.told c.args.store.now) (g.S.PageStore.told c.read_into.new.store) c.args.page c.args.height c.pages.result
-    (g.S.PageStore.size c.args.store.now) c.read_into.new.bytes c.requires.height c.if-height-eq1.false c.in-Ok.ensures.left.told
-    (g.met.S.PageStore.as_many c.args.store.now) (c.pages.ensures ∙ c.in-Ok.ensures.left.size) c.in-Ok.ensures.bytes) c.in-None.ensures.step
+pub returns-in-Ok-clause-leads : goal.returns-in-Ok-clause-leads
+returns-in-Ok-clause-leads g t c = step_led c.leaf_at.result (g.S.PageStore.told c.args.store.now)
+    (g.S.PageStore.told c.step_at.new.store)
+    c.args.page c.args.height (g.S.PageStore.size c.args.store.now) c.in-Ok.ensures.shows.bytes c.args.k.now c.in-Ok.step.child c.args.high.now c.in-Ok.step.high
+    (read_of _ _ _ _ _ _ (record {
+      some = c.requires.height;
+      above = c.if-height-eq1.false;
+      told = c.in-Ok.ensures.looks.left.told;
+      many = g.met.S.PageStore.as_many c.args.store.now;
+    }) c.in-Ok.ensures.shows.are) c.in-Ok.ensures.shows.step c.leaf_at.ensures.leads
 
-pub returns-in-Some-clause-bad : goal.returns-in-Some-clause-bad
-returns-in-Some-clause-bad g t c = names_below c.leaf_at.result (g.S.PageStore.told c.args.store.now) (g.S.PageStore.told c.read_into.new.store)
-    c.args.page c.args.height c.pages.result c.read_into.new.bytes c.in-Some.step.child
-    (read_ok (g.S.PageStore.told c.args.store.now) (g.S.PageStore.told c.read_into.new.store) c.args.page c.args.height c.pages.result
-    (g.S.PageStore.size c.args.store.now) c.read_into.new.bytes c.requires.height c.if-height-eq1.false c.in-Ok.ensures.left.told
-    (g.met.S.PageStore.as_many c.args.store.now) (c.pages.ensures ∙ c.in-Ok.ensures.left.size) c.in-Ok.ensures.bytes) c.in-Some.ensures.stands
-    c.leaf_at.ensures.bad
+pub returns-in-Ok-clause-cut : goal.returns-in-Ok-clause-cut
+returns-in-Ok-clause-cut g t c = step_cut c.leaf_at.result (g.S.PageStore.told c.args.store.now)
+    (g.S.PageStore.told c.step_at.new.store)
+    c.args.page c.args.height (g.S.PageStore.size c.args.store.now) c.in-Ok.ensures.shows.bytes c.args.k.now c.in-Ok.step.child c.args.high.now c.in-Ok.step.high
+    (read_of _ _ _ _ _ _ (record {
+      some = c.requires.height;
+      above = c.if-height-eq1.false;
+      told = c.in-Ok.ensures.looks.left.told;
+      many = g.met.S.PageStore.as_many c.args.store.now;
+    }) c.in-Ok.ensures.shows.are) c.in-Ok.ensures.shows.step c.leaf_at.ensures.leads c.leaf_at.ensures.cut
 
-pub returns-in-Some-clause-left : goal.returns-in-Some-clause-left
-returns-in-Some-clause-left g t c = only_read_then _ _ _ _ _ g.met.S.PageStore.goes_on _ _ _ c.in-Ok.ensures.left c.leaf_at.ensures.left
+pub returns-in-Ok-clause-least : goal.returns-in-Ok-clause-least
+returns-in-Ok-clause-least g t c = step_holds c.leaf_at.result (g.S.PageStore.told c.args.store.now)
+    (g.S.PageStore.told c.step_at.new.store)
+    c.args.page c.args.height (g.S.PageStore.size c.args.store.now) c.in-Ok.ensures.shows.bytes (λ (last : List ℕ). 1 ≤ length (records_of last)) c.args.k.now c.in-Ok.step.child c.args.high.now c.in-Ok.step.high
+    (read_of _ _ _ _ _ _ (record {
+      some = c.requires.height;
+      above = c.if-height-eq1.false;
+      told = c.in-Ok.ensures.looks.left.told;
+      many = g.met.S.PageStore.as_many c.args.store.now;
+    }) c.in-Ok.ensures.shows.are) c.in-Ok.ensures.shows.step c.leaf_at.ensures.least
+
+pub returns-in-Ok-clause-leaf : goal.returns-in-Ok-clause-leaf
+returns-in-Ok-clause-leaf g t c = step_holds c.leaf_at.result (g.S.PageStore.told c.args.store.now)
+    (g.S.PageStore.told c.step_at.new.store)
+    c.args.page c.args.height (g.S.PageStore.size c.args.store.now) c.in-Ok.ensures.shows.bytes (λ (last : List ℕ). leaf_of last ≡ Some (records_of last)) c.args.k.now c.in-Ok.step.child c.args.high.now c.in-Ok.step.high
+    (read_of _ _ _ _ _ _ (record {
+      some = c.requires.height;
+      above = c.if-height-eq1.false;
+      told = c.in-Ok.ensures.looks.left.told;
+      many = g.met.S.PageStore.as_many c.args.store.now;
+    }) c.in-Ok.ensures.shows.are) c.in-Ok.ensures.shows.step c.leaf_at.ensures.leaf
+
+pub returns-in-Ok-clause-sound : goal.returns-in-Ok-clause-sound
+returns-in-Ok-clause-sound g t c = step_sound c.leaf_at.result (g.S.PageStore.told c.args.store.now)
+    (g.S.PageStore.told c.step_at.new.store)
+    c.args.page c.args.height (g.S.PageStore.size c.args.store.now) c.in-Ok.ensures.shows.bytes c.args.k.now c.in-Ok.step.child c.args.high.now c.in-Ok.step.high
+    (read_of _ _ _ _ _ _ (record {
+      some = c.requires.height;
+      above = c.if-height-eq1.false;
+      told = c.in-Ok.ensures.looks.left.told;
+      many = g.met.S.PageStore.as_many c.args.store.now;
+    }) c.in-Ok.ensures.shows.are) c.in-Ok.ensures.shows.step c.leaf_at.ensures.sound
+
+pub returns-in-Ok-clause-above : goal.returns-in-Ok-clause-above
+returns-in-Ok-clause-above g t c =
+    step_above c.leaf_at.result c.args.k.now c.args.high.now c.in-Ok.step.high c.in-Ok.ensures.above c.leaf_at.ensures.above
+
+pub returns-in-Ok-clause-spoilt : goal.returns-in-Ok-clause-spoilt
+returns-in-Ok-clause-spoilt g t c = spoilt_below c.leaf_at.result (g.S.PageStore.told c.args.store.now)
+    (g.S.PageStore.told c.step_at.new.store)
+    c.args.page c.args.height (g.S.PageStore.size c.args.store.now) c.in-Ok.ensures.shows.bytes c.in-Ok.step.child
+    (read_of _ _ _ _ _ _ (record {
+      some = c.requires.height;
+      above = c.if-height-eq1.false;
+      told = c.in-Ok.ensures.looks.left.told;
+      many = g.met.S.PageStore.as_many c.args.store.now;
+    }) c.in-Ok.ensures.shows.are) c.in-Ok.ensures.shows.stands c.leaf_at.ensures.spoilt
+
+pub returns-in-Ok-clause-bad : goal.returns-in-Ok-clause-bad
+returns-in-Ok-clause-bad g t c = names_below c.leaf_at.result (g.S.PageStore.told c.args.store.now)
+    (g.S.PageStore.told c.step_at.new.store)
+    c.args.page c.args.height (g.S.PageStore.size c.args.store.now) c.in-Ok.ensures.shows.bytes c.in-Ok.step.child
+    (read_of _ _ _ _ _ _ (record {
+      some = c.requires.height;
+      above = c.if-height-eq1.false;
+      told = c.in-Ok.ensures.looks.left.told;
+      many = g.met.S.PageStore.as_many c.args.store.now;
+    }) c.in-Ok.ensures.shows.are) c.in-Ok.ensures.shows.stands c.leaf_at.ensures.bad
+
+pub returns-in-Ok-clause-left : goal.returns-in-Ok-clause-left
+returns-in-Ok-clause-left g t c = only_reads_then _ g.met.S.PageStore.goes_on _ _ _ c.in-Ok.ensures.looks.left c.leaf_at.ensures.left

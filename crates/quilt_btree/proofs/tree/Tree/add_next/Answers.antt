@@ -1,10 +1,11 @@
-use Rattle.std.proofs.Common.{◌≡◌, ◌≢◌, None, arith}
-use Rattle.quilt_node.specs.Pages.{leaf_of}
+use Rattle.std.proofs.Common.{sym, ◌∙◌, ◌≢◌, arith}
+use Rattle.quilt_btree.specs.Looks.{IsSpoilt}
 use Rattle.quilt_btree.proofs.ranges.Spans.{added_within, above_bound}
 use Rattle.quilt_node.specs.Nodes.{records_of}
 use Rattle.quilt_btree.proofs.subtrees.Whole.{tree_spells}
-use Rattle.quilt_btree.proofs.ranges.Rests.{rest_ends, rest_fills, rest_adds, rest_next, from_not_err, none_over}
+use Rattle.quilt_btree.proofs.ranges.Rests.{rest_ends, rest_fills, rest_adds, rest_next, none_over}
 use Rattle.quilt_btree.proofs.ways.Damage.{fault_named}
+use Rattle.quilt_btree.proofs.ways.Steps.{told_before}
 use Rattle.quilt_btree.proofs.tree.Tree.add_next.Goals as goal
 
 pub returns-in-Err-clause-sound : goal.returns-in-Err-clause-sound
@@ -15,82 +16,82 @@ returns-in-Err-clause-sound g c =
 pub returns-then-now-most-clause-ends : goal.returns-then-now-most-clause-ends
 returns-then-now-most-clause-ends g c = λ none low rs is b.
     rest_fills (g.S.PageStore.told c.args.store.now) c.args.self.now low c.args.from.now c.args.high.now c.args.most
-    (records_of c.leaf_at.new.bytes) c.args.records.now.items c.add_leaf.new.records.items rs c.in-Ok.found.high (record {
+    (records_of c.in-Ok-add_at.ensures.adds.bytes) c.args.records.now.items c.add_at.new.records.items rs c.in-Ok.found.high (record {
       some = let h = c.requires.height in omega arith;
-      leads = c.in-Ok.ensures.leads;
-      cut = c.in-Ok.ensures.cut;
-      seen = (from_not_err c.add_leaf.result c.is_err.result c.is_err.ensures.value c.if-is_err.false c.add_leaf.ensures).0;
-      added = (from_not_err c.add_leaf.result c.is_err.result c.is_err.ensures.value c.if-is_err.false c.add_leaf.ensures).1;
-      same = λ rs s. (from_not_err c.add_leaf.result c.is_err.result c.is_err.ensures.value c.if-is_err.false c.add_leaf.ensures).2
-          (records_of c.leaf_at.new.bytes) (c.in-Ok.ensures.leaf rs s);
+      leads = c.in-Ok.ensures.leads c.in-Ok-add_at.ensures.adds.bytes (told_before _ _ _ _ (sym c.in-Ok.ensures.left.told) c.in-Ok-add_at.ensures.adds.are);
+      cut = c.in-Ok.ensures.cut c.in-Ok-add_at.ensures.adds.bytes (told_before _ _ _ _ (sym c.in-Ok.ensures.left.told) c.in-Ok-add_at.ensures.adds.are);
+      seen = c.in-Ok-add_at.ensures.adds.some;
+      added = c.in-Ok-add_at.ensures.adds.added;
+      same = λ rs s. c.in-Ok-add_at.ensures.adds.same
+          (records_of c.in-Ok-add_at.ensures.adds.bytes) (c.in-Ok.ensures.leaf c.in-Ok-add_at.ensures.adds.bytes (told_before _ _ _ _ (sym c.in-Ok.ensures.left.told) c.in-Ok-add_at.ensures.adds.are) rs s);
     }) is b
-    (let e = c.len-now.ensures in let t = c.if-now-most.true in omega (arith, c.add_leaf.new.records.ok.0))
+    (let e = c.in-Ok-add_at.ensures.number in let t = c.if-now-most.true in omega arith)
 
-pub returns-in-Some-clause-sound : goal.returns-in-Some-clause-sound
-returns-in-Some-clause-sound g c = λ low rs is b page e. rest_adds (g.S.PageStore.told c.args.store.now) c.args.self.now c.args.from.now
-    c.args.high.now c.in-Some.field-0 c.args.most (records_of c.leaf_at.new.bytes) c.args.records.now.items c.add_leaf.new.records.items rs
+pub returns-in-Ok-fault_at-clause-sound : goal.returns-in-Ok-fault_at-clause-sound
+returns-in-Ok-fault_at-clause-sound g c = λ low rs is b page e. rest_adds (g.S.PageStore.told c.args.store.now) c.args.self.now c.args.from.now
+    c.args.high.now c.in-Some.field-0 c.args.most (records_of c.in-Ok-add_at.ensures.adds.bytes) c.args.records.now.items c.add_at.new.records.items rs
     c.in-Ok.found.high (record {
       some = let h = c.requires.height in omega arith;
-      leads = c.in-Ok.ensures.leads;
-      cut = c.in-Ok.ensures.cut;
-      seen = (from_not_err c.add_leaf.result c.is_err.result c.is_err.ensures.value c.if-is_err.false c.add_leaf.ensures).0;
-      added = (from_not_err c.add_leaf.result c.is_err.result c.is_err.ensures.value c.if-is_err.false c.add_leaf.ensures).1;
-      same = λ rs s. (from_not_err c.add_leaf.result c.is_err.result c.is_err.ensures.value c.if-is_err.false c.add_leaf.ensures).2
-          (records_of c.leaf_at.new.bytes) (c.in-Ok.ensures.leaf rs s);
+      leads = c.in-Ok.ensures.leads c.in-Ok-add_at.ensures.adds.bytes (told_before _ _ _ _ (sym c.in-Ok.ensures.left.told) c.in-Ok-add_at.ensures.adds.are);
+      cut = c.in-Ok.ensures.cut c.in-Ok-add_at.ensures.adds.bytes (told_before _ _ _ _ (sym c.in-Ok.ensures.left.told) c.in-Ok-add_at.ensures.adds.are);
+      seen = c.in-Ok-add_at.ensures.adds.some;
+      added = c.in-Ok-add_at.ensures.adds.added;
+      same = λ rs s. c.in-Ok-add_at.ensures.adds.same
+          (records_of c.in-Ok-add_at.ensures.adds.bytes) (c.in-Ok.ensures.leaf c.in-Ok-add_at.ensures.adds.bytes (told_before _ _ _ _ (sym c.in-Ok.ensures.left.told) c.in-Ok-add_at.ensures.adds.are) rs s);
     }) is
     b.0 b.1 b.2 c.in-Some.ensures.0 c.in-Some.ensures.1
-    (c.in-Ok.ensures.least rs (tree_spells (g.S.PageStore.told c.args.store.now) c.args.self.now rs (let h = c.requires.height in omega arith) is).0)
+    (c.in-Ok.ensures.least c.in-Ok-add_at.ensures.adds.bytes (told_before _ _ _ _ (sym c.in-Ok.ensures.left.told) c.in-Ok-add_at.ensures.adds.are) rs (tree_spells (g.S.PageStore.told c.args.store.now) c.args.self.now rs (let h = c.requires.height in omega arith) is).0)
     (let r = c.requires.room in omega (arith, c.args.records.now.ok.0))
-    (λ same. c.if-now-most.false (let e = c.len-now.ensures in omega (arith, c.add_leaf.new.records.ok.0)))
-    (let e = c.len-now.ensures in let f = c.len-had.ensures in let t = c.if-now-had.true in omega (arith, c.add_leaf.new.records.ok.0, c.args.records.now.ok.0))
+    (λ same. c.if-now-most.false (let e = c.in-Ok-add_at.ensures.number in omega arith))
+    (let e = c.in-Ok-add_at.ensures.number in let f = c.len-had.ensures in let t = c.if-now-had.true in omega (arith, c.args.records.now.ok.0))
 
 pub returns-in_default-clause-goes_on : goal.returns-in_default-clause-goes_on
 returns-in_default-clause-goes_on g c = rw c.in-Some.is (λ low rs is b.
     rest_next (g.S.PageStore.told c.args.store.now) c.args.self.now low c.args.from.now c.args.high.now c.in-Some.field-0 c.args.most
-    (records_of c.leaf_at.new.bytes) c.args.records.now.items c.add_leaf.new.records.items rs c.in-Ok.found.high (record {
+    (records_of c.in-Ok-add_at.ensures.adds.bytes) c.args.records.now.items c.add_at.new.records.items rs c.in-Ok.found.high (record {
       some = let h = c.requires.height in omega arith;
-      leads = c.in-Ok.ensures.leads;
-      cut = c.in-Ok.ensures.cut;
-      seen = (from_not_err c.add_leaf.result c.is_err.result c.is_err.ensures.value c.if-is_err.false c.add_leaf.ensures).0;
-      added = (from_not_err c.add_leaf.result c.is_err.result c.is_err.ensures.value c.if-is_err.false c.add_leaf.ensures).1;
-      same = λ rs s. (from_not_err c.add_leaf.result c.is_err.result c.is_err.ensures.value c.if-is_err.false c.add_leaf.ensures).2
-          (records_of c.leaf_at.new.bytes) (c.in-Ok.ensures.leaf rs s);
+      leads = c.in-Ok.ensures.leads c.in-Ok-add_at.ensures.adds.bytes (told_before _ _ _ _ (sym c.in-Ok.ensures.left.told) c.in-Ok-add_at.ensures.adds.are);
+      cut = c.in-Ok.ensures.cut c.in-Ok-add_at.ensures.adds.bytes (told_before _ _ _ _ (sym c.in-Ok.ensures.left.told) c.in-Ok-add_at.ensures.adds.are);
+      seen = c.in-Ok-add_at.ensures.adds.some;
+      added = c.in-Ok-add_at.ensures.adds.added;
+      same = λ rs s. c.in-Ok-add_at.ensures.adds.same
+          (records_of c.in-Ok-add_at.ensures.adds.bytes) (c.in-Ok.ensures.leaf c.in-Ok-add_at.ensures.adds.bytes (told_before _ _ _ _ (sym c.in-Ok.ensures.left.told) c.in-Ok-add_at.ensures.adds.are) rs s);
     }) is b c.in-Some.ensures.0)
 
 pub returns-in_default-2-clause-ends : goal.returns-in_default-2-clause-ends
 returns-in_default-2-clause-ends g c = λ none low rs is b.
     rest_ends (g.S.PageStore.told c.args.store.now) c.args.self.now low c.args.from.now c.args.high.now c.args.most
-    (records_of c.leaf_at.new.bytes) c.args.records.now.items c.add_leaf.new.records.items rs c.in-Ok.found.high (record {
+    (records_of c.in-Ok-add_at.ensures.adds.bytes) c.args.records.now.items c.add_at.new.records.items rs c.in-Ok.found.high (record {
       some = let h = c.requires.height in omega arith;
-      leads = c.in-Ok.ensures.leads;
-      cut = c.in-Ok.ensures.cut;
-      seen = (from_not_err c.add_leaf.result c.is_err.result c.is_err.ensures.value c.if-is_err.false c.add_leaf.ensures).0;
-      added = (from_not_err c.add_leaf.result c.is_err.result c.is_err.ensures.value c.if-is_err.false c.add_leaf.ensures).1;
-      same = λ rs s. (from_not_err c.add_leaf.result c.is_err.result c.is_err.ensures.value c.if-is_err.false c.add_leaf.ensures).2
-          (records_of c.leaf_at.new.bytes) (c.in-Ok.ensures.leaf rs s);
+      leads = c.in-Ok.ensures.leads c.in-Ok-add_at.ensures.adds.bytes (told_before _ _ _ _ (sym c.in-Ok.ensures.left.told) c.in-Ok-add_at.ensures.adds.are);
+      cut = c.in-Ok.ensures.cut c.in-Ok-add_at.ensures.adds.bytes (told_before _ _ _ _ (sym c.in-Ok.ensures.left.told) c.in-Ok-add_at.ensures.adds.are);
+      seen = c.in-Ok-add_at.ensures.adds.some;
+      added = c.in-Ok-add_at.ensures.adds.added;
+      same = λ rs s. c.in-Ok-add_at.ensures.adds.same
+          (records_of c.in-Ok-add_at.ensures.adds.bytes) (c.in-Ok.ensures.leaf c.in-Ok-add_at.ensures.adds.bytes (told_before _ _ _ _ (sym c.in-Ok.ensures.left.told) c.in-Ok-add_at.ensures.adds.are) rs s);
     }) is b
     (none_over c.key_up_to.result c.in-Ok.found.high c.args.high.now c.key_up_to.ensures none)
 
 pub returns-then-now-most-clause-within : goal.returns-then-now-most-clause-within
 returns-then-now-most-clause-within g c = λ low le old.
     added_within low c.args.from.now c.args.high.now c.args.most
-    (from_not_err c.add_leaf.result c.is_err.result c.is_err.ensures.value c.if-is_err.false c.add_leaf.ensures).0 c.args.records.now.items
-    c.add_leaf.new.records.items
-    ((from_not_err c.add_leaf.result c.is_err.result c.is_err.ensures.value c.if-is_err.false c.add_leaf.ensures).1) le old
+    c.in-Ok-add_at.ensures.adds.some c.args.records.now.items
+    c.add_at.new.records.items
+    (c.in-Ok-add_at.ensures.adds.added) le old
 
 pub returns-in_default-clause-within : goal.returns-in_default-clause-within
 returns-in_default-clause-within g c = λ low le old.
     added_within low c.args.from.now c.args.high.now c.args.most
-    (from_not_err c.add_leaf.result c.is_err.result c.is_err.ensures.value c.if-is_err.false c.add_leaf.ensures).0 c.args.records.now.items
-    c.add_leaf.new.records.items
-    ((from_not_err c.add_leaf.result c.is_err.result c.is_err.ensures.value c.if-is_err.false c.add_leaf.ensures).1) le old
+    c.in-Ok-add_at.ensures.adds.some c.args.records.now.items
+    c.add_at.new.records.items
+    (c.in-Ok-add_at.ensures.adds.added) le old
 
 pub returns-in_default-2-clause-within : goal.returns-in_default-2-clause-within
 returns-in_default-2-clause-within g c = λ low le old.
     added_within low c.args.from.now c.args.high.now c.args.most
-    (from_not_err c.add_leaf.result c.is_err.result c.is_err.ensures.value c.if-is_err.false c.add_leaf.ensures).0 c.args.records.now.items
-    c.add_leaf.new.records.items
-    ((from_not_err c.add_leaf.result c.is_err.result c.is_err.ensures.value c.if-is_err.false c.add_leaf.ensures).1) le old
+    c.in-Ok-add_at.ensures.adds.some c.args.records.now.items
+    c.add_at.new.records.items
+    (c.in-Ok-add_at.ensures.adds.added) le old
 
 pub returns-in_default-clause-further : goal.returns-in_default-clause-further
 returns-in_default-clause-further g c =
@@ -99,6 +100,8 @@ returns-in_default-clause-further g c =
 pub returns-in-Err-clause-bad : goal.returns-in-Err-clause-bad
 returns-in-Err-clause-bad g c = λ ne. c.in-Err.ensures.bad
 
-pub returns-in-Some-clause-bad : goal.returns-in-Some-clause-bad
-returns-in-Some-clause-bad g c = fault_named (g.S.PageStore.told c.args.store.now) c.args.self.now.height c.args.self.now.root c.in-Ok.found.page
-    c.page_at_fault.result (leaf_of c.leaf_at.new.bytes ≡ None) c.page_at_fault.ensures.fault c.in-Ok.ensures.spoilt
+pub returns-in-Ok-fault_at-clause-bad : goal.returns-in-Ok-fault_at-clause-bad
+returns-in-Ok-fault_at-clause-bad g c = fault_named (g.S.PageStore.told c.args.store.now) c.args.self.now.height c.args.self.now.root c.in-Ok.found.page
+    c.in-Ok-fault_at.page (IsSpoilt (g.S.PageStore.told c.add_at.new.store) c.in-Ok.found.page) c.in-Ok-fault_at.ensures.fault
+    (λ (s : IsSpoilt (g.S.PageStore.told c.add_at.new.store) c.in-Ok.found.page). c.in-Ok.ensures.spoilt s.bytes
+    (told_before _ _ _ _ (sym (c.in-Ok-add_at.ensures.looks.left.told ∙ c.in-Ok.ensures.left.told)) s.are) s.is_none)

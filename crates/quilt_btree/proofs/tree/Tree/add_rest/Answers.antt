@@ -1,7 +1,7 @@
 use Rattle.std.proofs.Common.{◌≡◌, true, ◌<◌, vec_len, arith}
 use Rattle.std.proofs.lemmas.Result.{err_from_is_err_and}
 use Rattle.std.specs.Ordering.{is_lt}
-use Rattle.quilt_store.proofs.Reading.{only_read_then}
+use Rattle.quilt_store.proofs.Reading.{only_reads_then, only_reads_ok}
 use Rattle.quilt_record.specs.Records.{key_cmp}
 use Rattle.quilt_btree.proofs.ranges.Spans.{le_on, at_some}
 use Rattle.quilt_btree.proofs.ranges.Rests.{if_some, none_is, loop_goes_on, loop_ends, loop_sound, loop_reads}
@@ -28,8 +28,7 @@ loop-k-preserved g c =
           let on = at_some c.in_ok-k.field-0 c.in-Some.k (λ k. is_lt (key_cmp c.loop-k.next k) ≡ true) c.in-Some.is c.in_ok-k.ensures.further in
           (le_on low c.loop-k.next c.in-Some.k so_far.0 on, c.in_ok-k.ensures.within low so_far.0 so_far.1);
       more = let m = c.loop-k.invariant.more in let n = c.in_ok-k.ensures.more in omega arith;
-      faults = let m = c.loop-k.invariant.faults in let n = c.in_ok-k.ensures.cause.later in omega arith;
-      left = only_read_then _ _ _ _ _ g.met.S.PageStore.goes_on _ _ _ c.loop-k.invariant.left c.in_ok-k.ensures.left;
+      left = only_reads_ok _ (only_reads_then _ g.met.S.PageStore.goes_on _ _ _ c.loop-k.invariant.left c.in_ok-k.ensures.left) tt;
       reads = loop_reads _ _ _ (vec_len c.args.records.now) (vec_len c.loop-k.records)
           (vec_len c.add_next.new.records) adds c.loop-k.invariant.reads c.in_ok-k.ensures.reads;
     }

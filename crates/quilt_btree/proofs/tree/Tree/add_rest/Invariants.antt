@@ -5,7 +5,8 @@ use Rattle.std.specs.List.{list_all}
 use Rattle.std.specs.Ordering.{is_le}
 use Rattle.quilt_record.specs.Records.{key_cmp}
 use Rattle.quilt_btree.specs.Lists.{is_from_to}
-use Rattle.quilt_store.specs.Store.{IsOnlyRead, Tells}
+use Rattle.quilt_store.specs.Calls.{IsOnlyRead}
+use Rattle.quilt_store.specs.Store.{Tells}
 use Rattle.quilt_btree.specs.Trees.{IsTree, Before}
 use Rattle.quilt_btree.proofs.tree.Tree.add_rest.Given as goal
 
@@ -18,8 +19,7 @@ invariant-loop-k g l = record {
   within : (low : Key) → is_le (key_cmp low l.initial.next) ≡ true → list_all (is_from_to low l.high) l.initial.records.items ≡ true
       → (is_le (key_cmp low l.next) ≡ true) × (list_all (is_from_to low l.high) l.records.items ≡ true);
   more : vec_len l.initial.records ≤ vec_len l.records;
-  faults : g.S.PageStore.faults l.initial.store ≤ g.S.PageStore.faults l.store;
-  left : IsOnlyRead g.S.PageStore.size g.S.PageStore.told g.S.PageStore.free g.S.PageStore.later g.S.PageStore.changed l.initial.store l.store;
+  left : IsOnlyRead g.S.PageStore l.initial.store l.store;
   reads : Tells (λ old new. new + 3 * vec_len l.initial.records ≤ old + 3 * vec_len l.records) (g.S.PageStore.reads l.initial.store)
       (g.S.PageStore.reads l.store);
 }

@@ -1,0 +1,8 @@
+pub mod Below
+pub mod Leaves
+pub mod Lists
+pub mod Made
+pub mod Plans
+pub mod Rises
+pub mod Whole
+pub mod Singles

@@ -1,0 +1,362 @@
+-- A whole tree behind edits.
+use Rattle.std.proofs.Common.{◌≡◌, ◌≢◌, ℕ, zero, suc, ◌+◌, ◌-◌, ◌<◌, ◌≤◌, Bool, true, false, not, ◌&&◌, ◌||◌, filter, List, [], ◌∷◌, ◌++◌, length, map, take, drop}
+use Rattle.std.proofs.Common.{Option, None, Result, Ok, Err, IfOk, IfErr, refl, sym, ◌∙◌, ap, subst, arith, take-append-drop, length-drop}
+use Rattle.std.proofs.Common.{◌*◌}
+use Rattle.std.proofs.Common.{Ordering, Less, Equal, Greater}
+use Rattle.std.specs.Prelude.{if◌then◌else◌}
+use Rattle.std.specs.List.{list_all, list_any, range_with_len}
+use Rattle.std.specs.Ordering.{is_lt, is_eq, ordering_reverse}
+use Rattle.std.proofs.Math.Seq.{take-add}
+use Rattle.std.proofs.lemmas.List.{take_rest, take_all}
+use Rattle.quilt_types.specs.Facts.{quota}
+use Rattle.quilt_types.specs.declared.stop.Stop.{Stop}
+use Rattle.quilt_types.specs.declared.stop.Stop.TheVariants.{Damaged}
+use Rattle.quilt_record.specs.declared.key.Key.{Key}
+use Rattle.quilt_record.specs.declared.record.Record.{Record}
+use Rattle.quilt_record.specs.Records.{key_cmp}
+use Rattle.quilt_record.specs.Lists.{has_key, put, without}
+use Rattle.quilt_record.proofs.Orders.{key_total}
+use Rattle.quilt_node.specs.Pages.{is_ascending}
+use Rattle.quilt_node.specs.Nodes.{keys_of}
+use Rattle.quilt_node.specs.Tree.{Bounds, is_above}
+use Rattle.quilt_node.proofs.Ascending.{ascending_cons}
+use Rattle.quilt_btree.specs.declared.tree.Tree.{Tree}
+use Rattle.quilt_btree.specs.declared.edit.Edit.{Edit}
+use Rattle.quilt_btree.specs.declared.edit.Edit.TheVariants as edit
+use Rattle.quilt_btree.specs.Batches.{edit_keys, is_due, edited, edit_all, are_due, more_of, fewer_of, cost_of, more, fewer, cost, removed, added, Fails, DidEdit, key_of}
+use Rattle.quilt_btree.specs.Edits.{CanEdit, IsWhole}
+use Rattle.quilt_btree.specs.Trees.{IsRooted}
+use Rattle.quilt_btree.proofs.batches.Leaves.{edit_at, taken, edit_all-append, are_due-append}
+use Rattle.quilt_btree.proofs.growth.Fills.{within_put}
+use Rattle.quilt_btree.proofs.growth.Runs.{each_from}
+use Rattle.quilt_btree.proofs.growth.TreeGrowth.{length-put, everywhere, whole_again}
+use Rattle.quilt_btree.proofs.lists.Lists.{filter_cond}
+use Rattle.quilt_btree.proofs.lists.RisingApart.{ascending_back}
+use Rattle.quilt_btree.proofs.lists.Withouts.{without_one_fewer}
+use Rattle.quilt_btree.proofs.removals.Drains.{asc_without}
+use Rattle.quilt_btree.proofs.removals.TreeRemovals.{IsRemoving, at_root}
+use Rattle.quilt_btree.proofs.subtrees.Holdings.{subtree_some}
+use Rattle.quilt_btree.proofs.subtrees.Trees.{subtree_rises, ascending_first, ascending_rest}
+use Rattle.quilt_btree.proofs.subtrees.Walks.{and_parts, and_both}
+
+-- counts of runs
+pub more-append : (xs ys : List Edit) → more (xs ++ ys) ≡ more xs + more ys
+more-append [] ys = omega arith
+more-append (x ∷ xs) ys = let h = more-append xs ys in omega arith
+
+pub fewer-append : (xs ys : List Edit) → fewer (xs ++ ys) ≡ fewer xs + fewer ys
+fewer-append [] ys = omega arith
+fewer-append (x ∷ xs) ys = let h = fewer-append xs ys in omega arith
+
+pub cost-append : (xs ys : List Edit) → cost (xs ++ ys) ≡ cost xs + cost ys
+cost-append [] ys = omega arith
+cost-append (x ∷ xs) ys = let h = cost-append xs ys in omega arith
+
+pub more_take : (n : ℕ) (run : List Edit) → more (take n run) + more (drop n run) ≡ more run
+more_take n run = sym (more-append (take n run) (drop n run)) ∙ ap more (take-append-drop n run)
+
+pub cost_take : (n : ℕ) (run : List Edit) → cost (take n run) + cost (drop n run) ≡ cost run
+cost_take n run = sym (cost-append (take n run) (drop n run)) ∙ ap cost (take-append-drop n run)
+
+-- a run of one edit costs 6 at least
+least_cost : (e : Edit) → 6 ≤ cost_of e
+least_cost (edit.Remove k) = omega arith
+least_cost (edit.Put r) = omega arith
+least_cost (edit.Replace r) = omega arith
+
+pub some_cost : (run : List Edit) → 1 ≤ length run → 1 ≤ cost run
+some_cost [] h = absurd (omega arith)
+some_cost (e ∷ run) h = let l = least_cost e in omega arith
+
+-- the list ascends behind an edit that was due
+other_way : (a b : Key) → is_lt (key_cmp a b) ≡ false → is_eq (key_cmp b a) ≡ false → is_lt (key_cmp b a) ≡ true
+other_way a b h g = on (key_cmp a b) (key_cmp b a) (key_total.antisymm a b) h g
+  where
+    on : (o p : Ordering) → o ≡ ordering_reverse p → is_lt o ≡ false → is_eq p ≡ false → is_lt p ≡ true
+    on o Less e h g = refl
+    on o Equal e h g = cc
+    on o Greater e h g = absurd (no (is_lt o) (ap is_lt e) h)
+      where
+        no : (b : Bool) → b ≡ true → b ≡ false → ⊥
+        no true h g = cc
+        no false h g = cc
+
+or_none : (a b : Bool) → (a || b) ≡ false → (a ≡ false) × (b ≡ false)
+or_none true b h = cc
+or_none false b h = (refl, h)
+
+asc_step : (r s : Record) (rs : List Record) (b : Bool) → is_lt (key_cmp r.key s.key) ≡ b → is_ascending (keys_of (s ∷ rs)) ≡ true
+    → list_any (has_key r.key) (s ∷ rs) ≡ false → is_ascending (keys_of (put r rs)) ≡ true
+    → is_ascending (keys_of (if b then r ∷ s ∷ rs else s ∷ put r rs)) ≡ true
+asc_step r s rs true e a none h = and_both (is_lt (key_cmp r.key s.key)) (is_ascending (keys_of (s ∷ rs))) e a
+asc_step r s rs false e a none h =
+    let n = or_none (has_key r.key s) (list_any (has_key r.key) rs) none in
+    ascending_cons s.key (keys_of (put r rs))
+    (within_put (λ m. is_lt (key_cmp s.key m)) r rs (other_way r.key s.key e n.0) (ascending_first s.key (keys_of rs) a)) h
+
+pub asc_put : (r : Record) (rs : List Record) → is_ascending (keys_of rs) ≡ true → list_any (has_key r.key) rs ≡ false
+    → is_ascending (keys_of (put r rs)) ≡ true
+asc_put r [] a none = refl
+asc_put r (s ∷ rs) a none =
+    asc_step r s rs (is_lt (key_cmp r.key s.key)) refl a none
+    (asc_put r rs (ascending_rest s.key (keys_of rs) a) (or_none (has_key r.key s) (list_any (has_key r.key) rs) none).1)
+
+pub gone : (k : Key) (rs : List Record) → list_any (has_key k) (without k rs) ≡ false
+unfolding without
+gone k [] = refl
+gone k (r ∷ rs) = step (has_key k r) refl (gone k rs)
+  where
+    step : (b : Bool) → has_key k r ≡ b → list_any (has_key k) (filter (λ s. not (has_key k s)) rs) ≡ false
+        → list_any (has_key k) (filter (λ s. not (has_key k s)) (r ∷ rs)) ≡ false
+    step true e h =
+        ap (λ l. list_any (has_key k) l) (filter_cond (λ s. not (has_key k s)) r (filter (λ s. not (has_key k s)) rs)
+        (filter (λ s. not (has_key k s)) rs) false (ap not e)) ∙ h
+    step false e h =
+        ap (λ l. list_any (has_key k) l) (filter_cond (λ s. not (has_key k s)) r (filter (λ s. not (has_key k s)) rs)
+        (filter (λ s. not (has_key k s)) rs) true (ap not e)) ∙ ap (λ b. b || list_any (has_key k) (filter (λ s. not (has_key k s)) rs)) e ∙ h
+
+not_true : (b : Bool) → not b ≡ true → b ≡ false
+not_true true h = cc
+not_true false h = refl
+
+pub asc_edited : (x : Edit) (rs : List Record) → is_ascending (keys_of rs) ≡ true → is_due x rs ≡ true → is_ascending (keys_of (edited x rs)) ≡ true
+asc_edited (edit.Remove k) rs a d = asc_without k rs a
+asc_edited (edit.Put r) rs a d = asc_put r rs a (not_true (list_any (has_key r.key) rs) d)
+asc_edited (edit.Replace r) rs a d = asc_put r (without r.key rs) (asc_without r.key rs a) (gone r.key rs)
+
+pub length_edited : (x : Edit) (rs : List Record) → is_ascending (keys_of rs) ≡ true → is_due x rs ≡ true
+    → length (edited x rs) + fewer_of x ≡ length rs + more_of x
+length_edited (edit.Remove k) rs a d = let h = without_one_fewer k rs a d in omega arith
+length_edited (edit.Put r) rs a d = let h = length-put r rs in omega arith
+length_edited (edit.Replace r) rs a d = let h = without_one_fewer r.key rs a d in let g = length-put r (without r.key rs) in omega arith
+
+pub length_all : (xs : List Edit) (rs : List Record) → is_ascending (keys_of rs) ≡ true → are_due xs rs ≡ true
+    → length (edit_all xs rs) + fewer xs ≡ length rs + more xs
+length_all [] rs a d = refl
+length_all (x ∷ xs) rs a d =
+    let t = and_parts (is_due x rs) (are_due xs (edited x rs)) d in
+    let h = length_all xs (edited x rs) (asc_edited x rs a t.0) t.1 in
+    let g = length_edited x rs a t.0 in
+    omega arith
+
+-- the tree at its root
+abbrev pub AtRootEdits : (run xs : List Edit) → (told now_told : Option (List (List ℕ))) (free now : ℕ → Bool) → Tree → Type 0
+AtRootEdits run xs told now_told free now t =
+    (b : Bounds) (rs : List Record) (used : List ℕ) → b.high ≡ None → list_all (is_above b.low) (edit_keys run) ≡ true
+    → CanEdit told free t.root t.height true b rs used → DidEdit xs told now_told free now t.root t.height true b rs used
+
+all_over_none : (ks : List Key) → list_all (is_above None) ks ≡ true
+all_over_none [] = refl
+all_over_none (k ∷ ks) = all_over_none ks
+
+pub some_left : (told now_told : Option (List (List ℕ))) (free now : ℕ → Bool) (size : ℕ) (t : Tree) (rs : List Record) (run xs : List Edit)
+    → IsRemoving free size t → AtRootEdits run xs told now_told free now t → IsWhole told free size t rs
+    → fewer xs < t.records + more xs
+some_left told now_told free now size t rs run xs i f w =
+    let a = at_root told free size t rs i w in
+    let did = f everywhere rs a.used refl (all_over_none (edit_keys run)) a.can in
+    let rises = subtree_rises a.can.pages t.height true (t.root, everywhere) rs a.used a.can.subtree in
+    let left = subtree_some did.news t.height true (t.root, everywhere) (edit_all xs rs) did.becomes.uses did.becomes.subtree in
+    enough (length (edit_all xs rs)) (length left.more) (fewer xs) (more xs) (length rs) t.records (ap length left.is)
+    (length_all xs rs rises.ascends did.due) w.number
+  where
+    enough : (a m f p l r : ℕ) → a ≡ suc m → a + f ≡ l + p → l ≡ r → f < r + p
+    enough a m f p l r e g h = omega arith
+
+pub whole_edited : (told now_told : Option (List (List ℕ))) (free now : ℕ → Bool) (size records : ℕ) (t : Tree) (rs : List Record) (run xs : List Edit)
+    → IsRemoving free size t → records + fewer xs ≡ t.records + more xs → AtRootEdits run xs told now_told free now t
+    → IsWhole told free size t rs
+    → (are_due xs rs ≡ true) × IsWhole now_told now size (record { root = t.root; height = t.height; records = records }) (edit_all xs rs)
+whole_edited told now_told free now size records t rs run xs i count f w =
+    let a = at_root told free size t rs i w in
+    let did = f everywhere rs a.used refl (all_over_none (edit_keys run)) a.can in
+    let rises = subtree_rises a.can.pages t.height true (t.root, everywhere) rs a.used a.can.subtree in
+    let tall : 1 ≤ t.height = let ne = i.above in omega arith in
+    let number : length (edit_all xs rs) ≡ records =
+    same (length (edit_all xs rs)) (fewer xs) (more xs) (length rs) t.records records (length_all xs rs rises.ascends did.due) w.number count in (
+      did.due,
+      whole_again did.pages did.news now_told free now size t.root t.height records a.used did.becomes.uses
+          (edit_all xs rs) did.is tall did.becomes.subtree did.becomes.moves a.can.apart a.balance number,
+    )
+  where
+    same : (a f p l r n : ℕ) → a + f ≡ l + p → l ≡ r → n + f ≡ r + p → a ≡ n
+    same a f p l r n g h c = omega arith
+
+fails_all : (run : List Edit) (high : Option Key) (rs : List Record) → Fails run high rs → are_due run rs ≡ false
+fails_all run high rs l =
+    ap (λ m. are_due m rs) (sym (take-append-drop l.number run)) ∙ are_due-append (take l.number run) (drop l.number run) rs
+    ∙ ap (λ b. b && are_due (drop l.number run) (edit_all (take l.number run) rs)) l.missing
+
+pub whole_fails : (e : Stop) (told : Option (List (List ℕ))) (free : ℕ → Bool) (size : ℕ) (t : Tree) (rs : List Record) (run : List Edit)
+    → IsRemoving free size t
+    → ((b : Bounds) (rs : List Record) (used : List ℕ) → b.high ≡ None → CanEdit told free t.root t.height true b rs used → (q : ℕ) → e ≡ Damaged q
+    → (q ≡ 0) × Fails run b.high rs)
+    → IsWhole told free size t rs → (q : ℕ) → e ≡ Damaged q → (q ≡ 0) × (are_due run rs ≡ false)
+whole_fails e told free size t rs run i f w q is =
+    let a = at_root told free size t rs i w in
+    let h = f everywhere rs a.used refl a.can q is in
+    (h.0, fails_all run None rs h.1)
+
+-- nothing changed before
+pub stays_edited : (r : Result ℕ Stop) (told mid now_told : Option (List (List ℕ))) (free was now : ℕ → Bool) (size at : ℕ) (t u : Tree)
+    (run : List Edit) → mid ≡ told → was ≡ free → at ≡ size
+    → IfOk r (λ n. (rs : List Record) → IsWhole mid was at t rs → (are_due (take n run) rs ≡ true) × IsWhole now_told now at u (edit_all (take n run) rs))
+    → IfOk r (λ n. (rs : List Record) → IsWhole told free size t rs
+    → (are_due (take n run) rs ≡ true) × IsWhole now_told now size u (edit_all (take n run) rs))
+stays_edited (Err e) told mid now_told free was now size at t u run p q s f = f
+stays_edited (Ok n) told mid now_told free was now size at t u run p q s f = λ rs w.
+    let g =
+    f rs (subst (λ m. IsWhole mid was m t rs) (sym s)
+    (subst (λ (h : ℕ → Bool). IsWhole mid h size t rs) (sym q) (subst (λ o. IsWhole o free size t rs) (sym p) w))) in
+    (g.0, subst (λ m. IsWhole now_told now m u (edit_all (take n run) rs)) s g.1)
+
+pub stays_failed : (r : Result ℕ Stop) (told mid : Option (List (List ℕ))) (free was : ℕ → Bool) (size at : ℕ) (t : Tree) (run : List Edit)
+    → mid ≡ told → was ≡ free → at ≡ size
+    → IfErr r (λ e. (rs : List Record) → IsWhole mid was at t rs → (page : ℕ) → e ≡ Damaged page → (page ≡ 0) × (are_due run rs ≡ false))
+    → IfErr r (λ e. (rs : List Record) → IsWhole told free size t rs → (page : ℕ) → e ≡ Damaged page → (page ≡ 0) × (are_due run rs ≡ false))
+stays_failed (Ok v) told mid free was size at t run p q s f = f
+stays_failed (Err e) told mid free was size at t run p q s f = λ rs w.
+    f rs (subst (λ m. IsWhole mid was m t rs) (sym s)
+    (subst (λ (h : ℕ → Bool). IsWhole mid h size t rs) (sym q) (subst (λ o. IsWhole o free size t rs) (sym p) w)))
+
+-- how far a run is made
+pub record IsMade (told now_told : Option (List (List ℕ))) (free now : ℕ → Bool) (size : ℕ) (t u : Tree) (run : List Edit) : Type 0 where
+  pub rooted : IsRooted size u
+  pub count : u.records + fewer run ≡ t.records + more run
+  pub whole : (rs : List Record) → IsWhole told free size t rs → (are_due run rs ≡ true) × IsWhole now_told now size u (edit_all run rs)
+
+pub made_none : (told : Option (List (List ℕ))) (free : ℕ → Bool) (size : ℕ) (t : Tree) → IsRooted size t → IsMade told told free free size t t []
+made_none told free size t r = record { rooted = r; count = refl; whole = λ rs w. (refl, w) }
+
+-- the rest of the run as a slice
+abbrev pub rest : List Edit → ℕ → List Edit
+rest run i = take (length run - i) (drop i run)
+
+pub rest_long : (run : List Edit) (i n : ℕ) → i < length run → n ≤ length (rest run i) → i + n ≤ length run
+rest_long run i n lt le = let e = ap (λ (l : List Edit). length l) (take_rest run i) ∙ length-drop i run in omega arith
+
+keys_drop : (i : ℕ) (run : List Edit) → edit_keys (drop i run) ≡ drop i (edit_keys run)
+keys_drop zero run = refl
+keys_drop (suc i) [] = refl
+keys_drop (suc i) (e ∷ run) = keys_drop i run
+
+pub rest_ascends : (run : List Edit) (i : ℕ) → is_ascending (edit_keys run) ≡ true → is_ascending (edit_keys (rest run i)) ≡ true
+rest_ascends run i a =
+    subst (λ l. is_ascending (edit_keys l) ≡ true) (sym (take_rest run i)) (subst (λ l. is_ascending l ≡ true) (sym (keys_drop i run))
+    (ascending_back (take i (edit_keys run)) (drop i (edit_keys run))
+    (subst (λ l. is_ascending l ≡ true) (sym (take-append-drop i (edit_keys run))) a)))
+
+pub made_rest : (told mid now_told : Option (List (List ℕ))) (free was now : ℕ → Bool) (size at i n : ℕ) (t u v : Tree) (run : List Edit)
+    → at ≡ size
+    → IsMade told mid free was size t u (take i run) → IsRooted at v
+    → v.records + fewer (take n (rest run i)) ≡ u.records + more (take n (rest run i))
+    → ((rs : List Record) → IsWhole mid was at u rs → (are_due (take n (rest run i)) rs ≡ true)
+    × IsWhole now_told now at v (edit_all (take n (rest run i)) rs))
+    → IsMade told now_told free now size t v (take (i + n) run)
+made_rest told mid now_told free was now size at i n t u v run same made rooted count f =
+    let xs = take i run in
+    let ys = take n (rest run i) in
+    let cut : take (i + n) run ≡ xs ++ ys = take-add i n run ∙ ap (λ l. xs ++ take n l) (sym (take_rest run i)) in
+    subst (IsMade told now_told free now size t v) (sym cut) (record {
+      rooted = subst (λ m. IsRooted m v) same rooted;
+      count = let a = more-append xs ys in let b = fewer-append xs ys in let c = made.count in omega (arith, a, b, c, count);
+      whole = λ rs w.
+          let h = made.whole rs w in
+          let g = f (edit_all xs rs) (subst (λ m. IsWhole mid was m u (edit_all xs rs)) (sym same) h.1) in (
+            are_due-append xs ys rs ∙ and_both (are_due xs rs) (are_due ys (edit_all xs rs)) h.0 g.0,
+            subst (λ l. IsWhole now_told now size v l) (sym (edit_all-append xs ys rs))
+                (subst (λ m. IsWhole now_told now m v (edit_all ys (edit_all xs rs))) same g.1),
+          );
+    })
+
+pub rest_fails : (e : Stop) (told mid : Option (List (List ℕ))) (free was : ℕ → Bool) (size at i : ℕ) (t u : Tree) (run : List Edit) → at ≡ size
+    → IsMade told mid free was size t u (take i run)
+    → ((rs : List Record) → IsWhole mid was at u rs → (page : ℕ) → e ≡ Damaged page → (page ≡ 0) × (are_due (rest run i) rs ≡ false))
+    → (rs : List Record) → IsWhole told free size t rs → (page : ℕ) → e ≡ Damaged page → (page ≡ 0) × (are_due run rs ≡ false)
+rest_fails e told mid free was size at i t u run same made f rs w page is =
+    let xs = take i run in
+    let h = f (edit_all xs rs) (subst (λ m. IsWhole mid was m u (edit_all xs rs)) (sym same) (made.whole rs w).1) page is in (
+      h.0,
+      ap (λ l. are_due l rs) (sym (take-append-drop i run)) ∙ are_due-append xs (drop i run) rs
+          ∙ late (are_due xs rs) (are_due (drop i run) (edit_all xs rs)) (ap (λ l. are_due l (edit_all xs rs)) (sym (take_rest run i)) ∙ h.1),
+    )
+  where
+    late : (a b : Bool) → b ≡ false → (a && b) ≡ false
+    late true b h = h
+    late false b h = refl
+
+pub made_all : (told now_told : Option (List (List ℕ))) (free now : ℕ → Bool) (size i : ℕ) (t u : Tree) (run : List Edit) → length run ≤ i
+    → IsMade told now_told free now size t u (take i run) → IsMade told now_told free now size t u run
+made_all told now_told free now size i t u run le made = subst (IsMade told now_told free now size t u) (take_all i run le) made
+
+pub rest_cost : (run : List Edit) (i n : ℕ) → cost (take (i + n) run) ≡ cost (take i run) + cost (take n (rest run i))
+rest_cost run i n =
+    ap cost (take-add i n run) ∙ cost-append (take i run) (take n (drop i run)) ∙ ap (λ l. cost (take i run) + cost (take n l)) (sym (take_rest run i))
+
+pub rest_cost_all : (run : List Edit) (i : ℕ) → cost (take i run) + cost (rest run i) ≡ cost run
+rest_cost_all run i = ap (λ l. cost (take i run) + cost l) (take_rest run i) ∙ cost_take i run
+
+pub rest_room : (told mid : Option (List (List ℕ))) (free was : ℕ → Bool) (size i : ℕ) (t u : Tree) (run : List Edit)
+    → IsMade told mid free was size t u (take i run) → t.records + more run ≤ quota size → u.records + more (rest run i) ≤ quota size
+rest_room told mid free was size i t u run made room =
+    enough u.records (more (rest run i)) t.records (more run) (fewer (take i run)) (more (take i run)) (quota size) made.count
+    (ap (λ l. more (take i run) + more l) (take_rest run i) ∙ more_take i run) room
+  where
+    enough : (u r t m f a q : ℕ) → u + f ≡ t + a → a + r ≡ m → t + m ≤ q → u + r ≤ q
+    enough u r t m f a q e g h = omega arith
+
+pub more_next : (run : List Edit) (i : ℕ) → i < length run → more (take (i + 1) run) ≡ more (take i run) + more_of (edit_at run i)
+more_next run i lt =
+    let e = ap more (taken run i lt) ∙ more-append (take i run) (edit_at run i ∷ []) in omega arith
+
+pub fewer_next : (run : List Edit) (i : ℕ) → i < length run → fewer (take (i + 1) run) ≡ fewer (take i run) + fewer_of (edit_at run i)
+fewer_next run i lt =
+    let e = ap fewer (taken run i lt) ∙ fewer-append (take i run) (edit_at run i ∷ []) in omega arith
+
+-- the first edit alone
+pub first_one : (run : List Edit) → 1 ≤ length run → take 1 run ≡ edit_at run 0 ∷ []
+first_one [] some = absurd (omega arith)
+first_one (e ∷ run) some = refl
+
+pub first_fails : (run : List Edit) (rs : List Record) → 1 ≤ length run → is_due (edit_at run 0) rs ≡ false → are_due run rs ≡ false
+first_fails [] rs some h = absurd (omega arith)
+first_fails (e ∷ run) rs some h = ap (λ b. b && are_due run (edited e rs)) h
+
+pub true_false : (b : Bool) → b ≡ true → b ≡ false → ⊥
+true_false true h g = cc
+true_false false h g = cc
+
+pub few_enough : (r a b m n : ℕ) → a + b ≡ m → r + m ≤ quota n → n ≤ 30000 → r + a < 4294967296
+few_enough r a b m n e h g = omega arith
+
+pub still_rooted : (size m a b f all : ℕ) (t : Tree) → IsRooted size t → t.height ≢ 0 → m + f ≡ t.records + a → a + b ≡ all → 1 ≤ m
+    → t.records + all ≤ quota size → IsRooted size (record { root = t.root; height = t.height; records = m })
+still_rooted size m a b f all t r ne e g some room = record {
+  height = r.height;
+  records = enough m f t.records a b all (quota size) e g room;
+  tree = λ tall. let s = r.tree tall in (s.0, s.1, some);
+  none = λ z. absurd (ne z);
+}
+  where
+    enough : (m f r a b l q : ℕ) → m + f ≡ r + a → a + b ≡ l → r + l ≤ q → m ≤ q
+    enough m f r a b l q e g h = omega arith
+
+-- the keys of a run, place by place
+pub keys_at : (run : List Edit) → edit_keys run ≡ map (λ i. key_of (edit_at run i)) (range_with_len 0 (length run))
+keys_at [] = refl
+keys_at (e ∷ run) = ap (λ l. key_of e ∷ l) (keys_at run ∙ sym (each_from (λ i. key_of (edit_at (e ∷ run) i)) 0 (length run)))
+
+pub same_test : (b : Bool) (k l m n : Key) → b ≡ is_lt (key_cmp k l) → k ≡ m → l ≡ n → b ≡ is_lt (key_cmp m n)
+same_test b k l m n e f g = cc
+
+pub cost_is : (run : List Edit) → cost run ≡ 7 * length (removed run) + 6 * length (added run)
+cost_is [] = refl
+cost_is (edit.Remove k ∷ run) = let h = cost_is run in omega arith
+cost_is (edit.Put r ∷ run) = let h = cost_is run in omega arith
+cost_is (edit.Replace r ∷ run) = let h = cost_is run in omega arith
+
+pub more_few : (run : List Edit) → more run ≤ length run
+more_few [] = omega arith
+more_few (edit.Remove k ∷ run) = let h = more_few run in omega arith
+more_few (edit.Put r ∷ run) = let h = more_few run in omega arith
+more_few (edit.Replace r ∷ run) = let h = more_few run in omega arith

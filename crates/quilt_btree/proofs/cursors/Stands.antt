@@ -1,0 +1,193 @@
+-- Where a cursor stands.
+use Rattle.std.proofs.Common.{◌≡◌, ◌≢◌, ℕ, zero, suc, ◌+◌, ◌<◌, ◌≤◌, Bool, true, false, List, [], ◌∷◌, ◌++◌, length, take, drop, Option, Some, None}
+use Rattle.std.proofs.Common.{refl, sym, ◌∙◌, ap, subst, arith, add-one, take-append-drop}
+use Rattle.std.specs.Prelude.{slice_get, MatchOption}
+use Rattle.std.specs.List.{list_all}
+use Rattle.std.specs.Ordering.{is_le, is_lt}
+use Rattle.std.proofs.lemmas.List.{take_all, append-nil}
+use Rattle.quilt_record.specs.declared.key.Key.{Key}
+use Rattle.quilt_record.specs.declared.record.Record.{Record}
+use Rattle.quilt_record.specs.Records.{key_cmp}
+use Rattle.quilt_record.proofs.Orders.{lt_le, lt_to_le}
+use Rattle.quilt_node.specs.Nodes.{IsFound, records_of}
+use Rattle.quilt_btree.specs.declared.tree.Tree.{Tree}
+use Rattle.quilt_btree.specs.declared.cursor.Cursor.{Cursor}
+use Rattle.quilt_btree.specs.Cursors.{IsParted, StandsIn, IsSought, GoesOver}
+use Rattle.quilt_btree.specs.Trees.{IsTree, Spells, LeadsTo, IsCut, is_past}
+use Rattle.quilt_btree.proofs.lists.Lists.{gt_not_le}
+use Rattle.quilt_btree.proofs.lists.Rising.{all_follow, all_append}
+use Rattle.quilt_btree.proofs.ranges.Rests.{next_divides}
+use Rattle.quilt_btree.proofs.subtrees.Walks.{and_parts, and_both}
+use Rattle.quilt_btree.proofs.subtrees.Whole.{tree_spells}
+use Rattle.quilt_btree.proofs.ways.Leaves.{same_le}
+
+pub drop_at : (rs : List Record) (i : ℕ) (r : Record) → slice_get rs i ≡ Some r → drop i rs ≡ r ∷ drop (suc i) rs
+drop_at [] i r h = cc
+drop_at (s ∷ rs) zero r h = let same : s ≡ r = cc in ap (λ x. x ∷ rs) same
+drop_at (s ∷ rs) (suc i) r h = drop_at rs i r h
+
+pub take_at : (rs : List Record) (i : ℕ) (r : Record) → slice_get rs i ≡ Some r → take (suc i) rs ≡ take i rs ++ r ∷ []
+take_at [] i r h = cc
+take_at (s ∷ rs) zero r h = let same : s ≡ r = cc in ap (λ x. x ∷ []) same
+take_at (s ∷ rs) (suc i) r h = ap (λ l. s ∷ l) (take_at rs i r h)
+
+drop_past : (rs : List Record) (i : ℕ) → length rs ≤ i → drop i rs ≡ []
+drop_past [] zero h = refl
+drop_past [] (suc i) h = refl
+drop_past (r ∷ rs) zero h = absurd (omega arith)
+drop_past (r ∷ rs) (suc i) h = drop_past rs i (fewer (length rs) i h)
+  where
+    fewer : (n i : ℕ) → suc n ≤ suc i → n ≤ i
+    fewer n i h = omega arith
+
+-- from a record that is found
+pub found_from : (k : Key) (rs : List Record) (i : ℕ) → IsFound k rs i → list_all (λ r. is_le (key_cmp k r.key)) (drop i rs) ≡ true
+found_from k rs i f =
+    ap (list_all (λ (r : Record). is_le (key_cmp k r.key))) (drop_at rs i f.found f.here)
+    ∙ and_both (is_le (key_cmp k f.found.key)) (list_all (λ (r : Record). is_le (key_cmp k r.key)) (drop (suc i) rs))
+    (subst (λ m. is_le (key_cmp k m) ≡ true) (sym f.key) (same_le k)) (over_le k (drop (suc i) rs) f.behind)
+  where
+    over_le : (k : Key) (xs : List Record) → list_all (λ r. is_lt (key_cmp k r.key)) xs ≡ true → list_all (λ r. is_le (key_cmp k r.key)) xs ≡ true
+    over_le k xs h = all_follow (λ (r : Record). is_lt (key_cmp k r.key)) (λ r. is_le (key_cmp k r.key)) (λ r g. lt_to_le (key_cmp k r.key) g) xs h
+
+pub over_le : (k : Key) (xs : List Record) → list_all (λ r. is_lt (key_cmp k r.key)) xs ≡ true → list_all (λ r. is_le (key_cmp k r.key)) xs ≡ true
+over_le k xs h = all_follow (λ (r : Record). is_lt (key_cmp k r.key)) (λ r. is_le (key_cmp k r.key)) (λ r g. lt_to_le (key_cmp k r.key) g) xs h
+
+assoc : (xs ys zs : List Record) → (xs ++ ys) ++ zs ≡ xs ++ (ys ++ zs)
+assoc [] ys zs = refl
+assoc (x ∷ xs) ys zs = ap (λ l. x ∷ l) (assoc xs ys zs)
+
+-- what stands behind the leaf that a key leads to
+further_at : (told : Option (List (List ℕ))) (t : Tree) (k : Key) (rs here : List Record) (high : Option Key) (l : LeadsTo k rs here None high)
+    → IsCut told t.root t.height k None here high → IsTree told t rs → t.height ≢ 0
+    → MatchOption high (l.behind ≡ []) (λ h. IsParted told t h (l.before ++ here) l.behind)
+further_at told t k rs here None l cut is ne = none l.behind l.bounded
+  where
+    none : (xs : List Record) → list_all (λ r. is_past None r.key) xs ≡ true → xs ≡ []
+    none [] h = refl
+    none (x ∷ xs) h = cc
+further_at told t k rs here (Some h) l cut is ne =
+    let s = tree_spells told t rs ne is in
+    record {
+      pages = is.pages;
+      is_told = is.is_told;
+      divides = next_divides is.pages t.height t.root (Some h) h refl (cut.ends is.pages rs s.0 is.is_told s.1 refl);
+      lower = all_append (λ (r : Record). is_lt (key_cmp r.key h)) l.before here
+          (all_follow (λ (r : Record). is_lt (key_cmp r.key k)) (λ r. is_lt (key_cmp r.key h))
+          (λ r g. lt_le r.key k h g (lt_to_le (key_cmp k h) (l.key_under refl))) l.before l.lower) l.here_under;
+      higher = l.bounded;
+    }
+
+pub sought : (told : Option (List (List ℕ))) (t : Tree) (k : Key) (rs : List Record) (bytes : List ℕ) (place : ℕ) (high : Option Key)
+    → ((rs : List Record) (s : Spells told t.root t.height rs) → s.bounds.high ≡ None → LeadsTo k rs (records_of bytes) None high)
+    → IsCut told t.root t.height k None (records_of bytes) high → 1 ≤ t.height → IsTree told t rs → place ≤ length (records_of bytes)
+    → list_all (λ r. is_lt (key_cmp r.key k)) (take place (records_of bytes)) ≡ true
+    → list_all (λ r. is_le (key_cmp k r.key)) (drop place (records_of bytes)) ≡ true
+    → IsSought told t (record { bytes = bytes; place = place; high = high }) k rs
+sought told t k rs bytes place high leads cut some is inside low up =
+    let ne : t.height ≢ 0 = omega arith in
+    let s = tree_spells told t rs ne is in
+    let l = leads rs s.0 s.1 in
+    let here = records_of bytes in
+    record {
+      before = l.before ++ take place here;
+      after = drop place here ++ l.behind;
+      records = l.records ∙ ap (λ h. l.before ++ (h ++ l.behind)) (sym (take-append-drop place here))
+          ∙ ap (λ h. l.before ++ h) (assoc (take place here) (drop place here) l.behind)
+          ∙ sym (assoc l.before (take place here) (drop place here ++ l.behind));
+      lower = all_append (λ (r : Record). is_lt (key_cmp r.key k)) l.before (take place here) l.lower low;
+      higher = all_append (λ (r : Record). is_le (key_cmp k r.key)) (drop place here) l.behind up (over_le k l.behind l.higher);
+      stands = record {
+        first = l.before;
+        last = l.behind;
+        in_range = inside;
+        is_before = refl;
+        is_after = refl;
+        further = further_at told t k rs here high l cut is ne;
+      };
+    }
+
+-- a key parts a list at one place
+no_both : (a b : Key) → is_lt (key_cmp a b) ≡ true → is_le (key_cmp b a) ≡ true → ⊥
+no_both a b h g = no (is_le (key_cmp b a)) g (gt_not_le a b h)
+  where
+    no : (c : Bool) → c ≡ true → c ≡ false → ⊥
+    no true h g = cc
+    no false h g = cc
+
+parts_same : (k : Key) (xs ys us vs : List Record) → xs ++ ys ≡ us ++ vs
+    → list_all (λ r. is_lt (key_cmp r.key k)) xs ≡ true → list_all (λ r. is_le (key_cmp k r.key)) ys ≡ true
+    → list_all (λ r. is_lt (key_cmp r.key k)) us ≡ true → list_all (λ r. is_le (key_cmp k r.key)) vs ≡ true → (xs ≡ us) × (ys ≡ vs)
+parts_same k [] ys [] vs e a b c d = (refl, e)
+parts_same k [] [] (u ∷ us) vs e a b c d = cc
+parts_same k [] (y ∷ ys) (u ∷ us) vs e a b c d =
+    let same : y ≡ u = cc in
+    absurd (no_both u.key k (and_parts (is_lt (key_cmp u.key k)) (list_all (λ (r : Record). is_lt (key_cmp r.key k)) us) c).0
+    (subst (λ (r : Record). is_le (key_cmp k r.key) ≡ true) same (and_parts (is_le (key_cmp k y.key)) (list_all (λ (r : Record). is_le (key_cmp k r.key)) ys) b).0))
+parts_same k (x ∷ xs) ys [] [] e a b c d = cc
+parts_same k (x ∷ xs) ys [] (v ∷ vs) e a b c d =
+    let same : v ≡ x = cc in
+    absurd (no_both x.key k (and_parts (is_lt (key_cmp x.key k)) (list_all (λ (r : Record). is_lt (key_cmp r.key k)) xs) a).0
+    (subst (λ (r : Record). is_le (key_cmp k r.key) ≡ true) same (and_parts (is_le (key_cmp k v.key)) (list_all (λ (r : Record). is_le (key_cmp k r.key)) vs) d).0))
+parts_same k (x ∷ xs) ys (u ∷ us) vs e a b c d =
+    let same : x ≡ u = cc in
+    let tails : xs ++ ys ≡ us ++ vs = cc in
+    let h = parts_same k xs ys us vs tails
+    (and_parts (is_lt (key_cmp x.key k)) (list_all (λ (r : Record). is_lt (key_cmp r.key k)) xs) a).1 b
+    (and_parts (is_lt (key_cmp u.key k)) (list_all (λ (r : Record). is_lt (key_cmp r.key k)) us) c).1 d in
+    (cc, h.1)
+
+pub entered : (told : Option (List (List ℕ))) (t : Tree) (k : Key) (before after : List Record) (bytes : List ℕ) (high : Option Key)
+    → ((rs : List Record) (s : Spells told t.root t.height rs) → s.bounds.high ≡ None → LeadsTo k rs (records_of bytes) None high)
+    → IsCut told t.root t.height k None (records_of bytes) high → 1 ≤ t.height → IsTree told t (before ++ after) → IsParted told t k before after
+    → StandsIn told t (record { bytes = bytes; place = 0; high = high }) before after
+entered told t k before after bytes high leads cut some is p =
+    let ne : t.height ≢ 0 = omega arith in
+    let s = tree_spells told t (before ++ after) ne is in
+    let l = leads (before ++ after) s.0 s.1 in
+    let here = records_of bytes in
+    let from = cut.starts p.pages (before ++ after) p.is_told s.0 s.1 p.divides in
+    let same = parts_same k before after l.before (here ++ l.behind) l.records p.lower p.higher l.lower
+    (all_append (λ (r : Record). is_le (key_cmp k r.key)) here l.behind from (over_le k l.behind l.higher)) in
+    record {
+      first = l.before;
+      last = l.behind;
+      in_range = omega arith;
+      is_before = same.0 ∙ sym (append-nil l.before);
+      is_after = same.1;
+      further = further_at told t k (before ++ after) here high l cut is ne;
+    }
+
+pub goes_over : (told : Option (List (List ℕ))) (t : Tree) (r : Record) (bytes : List ℕ) (place : ℕ) (high : Option Key) (before after : List Record)
+    → place < length (records_of bytes) → slice_get (records_of bytes) place ≡ Some r
+    → StandsIn told t (record { bytes = bytes; place = place; high = high }) before after
+    → GoesOver told t r (record { bytes = bytes; place = place + 1; high = high }) before after
+goes_over told t r bytes place high before after lt at s =
+    let here = records_of bytes in
+    record {
+      rest = drop (suc place) here ++ s.last;
+      records = s.is_after ∙ ap (λ l. l ++ s.last) (drop_at here place r at);
+      stands = record {
+        first = s.first;
+        last = s.last;
+        in_range = omega arith;
+        is_before = ap (λ b. b ++ r ∷ []) s.is_before ∙ assoc s.first (take place here) (r ∷ [])
+            ∙ ap (λ l. s.first ++ l) (sym (ap (λ n. take n here) (add-one place) ∙ take_at here place r at));
+        is_after = ap (λ n. drop n here ++ s.last) (sym (add-one place));
+        further = s.further;
+      };
+    }
+
+pub stands_last : (told : Option (List (List ℕ))) (t : Tree) (c : Cursor) (before after : List Record) → length (records_of c.bytes) ≤ c.place → c.high ≡ None
+    → StandsIn told t c before after → after ≡ []
+stands_last told t c before after le none s =
+    s.is_after ∙ ap (λ l. l ++ s.last) (drop_past (records_of c.bytes) c.place le)
+    ∙ subst (λ o. MatchOption o (s.last ≡ []) (λ k. IsParted told t k (s.first ++ records_of c.bytes) s.last)) none s.further
+
+pub stands_further : (told : Option (List (List ℕ))) (t : Tree) (c : Cursor) (k : Key) (before after : List Record) → length (records_of c.bytes) ≤ c.place
+    → c.high ≡ Some k → StandsIn told t c before after → IsParted told t k before after
+stands_further told t c k before after le is s =
+    let p : IsParted told t k (s.first ++ records_of c.bytes) s.last =
+    subst (λ o. MatchOption o (s.last ≡ []) (λ k. IsParted told t k (s.first ++ records_of c.bytes) s.last)) is s.further in
+    subst (λ l. IsParted told t k l after) (sym (s.is_before ∙ ap (λ l. s.first ++ l) (take_all c.place (records_of c.bytes) le)))
+    (subst (λ l. IsParted told t k (s.first ++ records_of c.bytes) l) (sym (s.is_after ∙ ap (λ l. l ++ s.last) (drop_past (records_of c.bytes) c.place le))) p)

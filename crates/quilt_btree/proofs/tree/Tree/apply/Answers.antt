@@ -1,0 +1,91 @@
+use Rattle.std.proofs.Common.{◌∙◌, ◌+◌, ◌≤◌, subst, sym, arith}
+use Rattle.quilt_types.specs.Facts.{quota}
+use Rattle.quilt_btree.specs.Batches.{more}
+use Rattle.quilt_btree.specs.Stops.{NamesPage}
+use Rattle.quilt_btree.proofs.ways.Damage.{stops_behind, run_zero, run_names, run_cause}
+use Rattle.quilt_btree.proofs.batches.Whole.{rest, made_rest, made_all, rest_long, rest_ascends, rest_fails, rest_room, rest_cost, rest_cost_all, cost_take, cost_is}
+use Rattle.quilt_btree.proofs.batches.Lists.{edits_are}
+use Rattle.quilt_btree.proofs.batches.Rises.{whole_rises}
+use Rattle.quilt_btree.proofs.tree.Tree.apply.Goals as goal
+
+pub loop-done-preserved : goal.loop-done-preserved
+loop-done-preserved g c = record {
+  made = made_rest (g.S.PageStore.told c.args.store.now) (g.S.PageStore.told c.loop-done.store) (g.S.PageStore.told c.apply_some.new.store)
+      (g.S.PageStore.free c.args.store.now) (g.S.PageStore.free c.loop-done.store) (g.S.PageStore.free c.apply_some.new.store)
+      (g.S.PageStore.size c.args.store.now) (g.S.PageStore.size c.loop-done.store) c.loop-done.done c.in-Ok.n c.args.self.now c.loop-done.self
+      c.apply_some.new.self c.args.run.now
+      c.loop-done.invariant.size c.loop-done.invariant.made c.in-Ok.ensures.rooted c.in-Ok.ensures.count c.in-Ok.ensures.edited;
+  in_range = rest_long c.args.run.now c.loop-done.done c.in-Ok.n c.loop-done-test.true c.in-Ok.ensures.number.1;
+  faults = let m = c.loop-done.invariant.faults in let n = c.in-Ok.ensures.cause.later in omega arith;
+  size = c.in-Ok.ensures.size ∙ c.loop-done.invariant.size;
+  later = g.met.S.PageStore.goes_on _ _ _ c.loop-done.invariant.later c.in-Ok.ensures.later;
+  changed = let m = c.loop-done.invariant.changed in let n = c.in-Ok.ensures.changed in
+      let e = rest_cost c.args.run.now c.loop-done.done c.in-Ok.n in omega arith;
+  start = λ e. absurd (let n = c.in-Ok.ensures.number.0 in omega arith);
+}
+
+pub apply_some-requires-clause-order : goal.apply_some-requires-clause-order
+apply_some-requires-clause-order g c = rest_ascends c.args.run.now c.loop-done.done c.requires.order
+
+pub apply_some-requires-clause-room : goal.apply_some-requires-clause-room
+apply_some-requires-clause-room g c =
+    subst (λ n. c.loop-done.self.records + more (rest c.args.run.now c.loop-done.done) ≤ quota n) (sym c.loop-done.invariant.size)
+    (rest_room (g.S.PageStore.told c.args.store.now) (g.S.PageStore.told c.loop-done.store) (g.S.PageStore.free c.args.store.now)
+    (g.S.PageStore.free c.loop-done.store) (g.S.PageStore.size c.args.store.now) c.loop-done.done c.args.self.now c.loop-done.self c.args.run.now
+    c.loop-done.invariant.made c.requires.room)
+
+pub returns-in-Err-clause-fails : goal.returns-in-Err-clause-fails
+returns-in-Err-clause-fails g c = λ rs w.
+    run_zero _ c.in-Err.e c.stop_behind.result c.loop-done.done (stops_behind c.in-Err.e c.stop_behind.result c.loop-done.done c.stop_behind.ensures)
+    (rest_fails c.in-Err.e (g.S.PageStore.told c.args.store.now) (g.S.PageStore.told c.loop-done.store) (g.S.PageStore.free c.args.store.now)
+    (g.S.PageStore.free c.loop-done.store) (g.S.PageStore.size c.args.store.now) (g.S.PageStore.size c.loop-done.store) c.loop-done.done
+    c.args.self.now c.loop-done.self c.args.run.now c.loop-done.invariant.size c.loop-done.invariant.made c.in-Err.ensures.fails rs w)
+
+pub returns-in-Err-clause-names : goal.returns-in-Err-clause-names
+returns-in-Err-clause-names g c =
+    (stops_behind c.in-Err.e c.stop_behind.result c.loop-done.done c.stop_behind.ensures).names (g.S.PageStore.size c.args.store.now)
+    (let r = (g.met.S.PageStore.in_range c.args.store.now).0 in omega arith)
+    (subst (λ n. NamesPage n c.in-Err.e) c.loop-done.invariant.size c.in-Err.ensures.names)
+
+pub returns-in-Err-clause-bad : goal.returns-in-Err-clause-bad
+returns-in-Err-clause-bad g c =
+    run_names c.in-Err.e c.stop_behind.result c.loop-done.done (g.S.PageStore.told c.args.store.now) (g.S.PageStore.told c.loop-done.store)
+    c.args.self.now c.loop-done.self (stops_behind c.in-Err.e c.stop_behind.result c.loop-done.done c.stop_behind.ensures)
+    c.loop-done.invariant.start c.in-Err.ensures.bad
+
+pub returns-in-Err-clause-cause : goal.returns-in-Err-clause-cause
+returns-in-Err-clause-cause g c =
+    run_cause c.in-Err.e c.stop_behind.result c.loop-done.done (g.S.PageStore.faults c.args.store.now) (g.S.PageStore.faults c.loop-done.store)
+    (g.S.PageStore.faults c.apply_some.new.store) (stops_behind c.in-Err.e c.stop_behind.result c.loop-done.done c.stop_behind.ensures)
+    c.loop-done.invariant.faults c.in-Err.ensures.cause
+
+pub returns-in-Err-clause-changed : goal.returns-in-Err-clause-changed
+returns-in-Err-clause-changed g c =
+    let m = c.loop-done.invariant.changed in let n = c.in-Err.ensures.less in let e = rest_cost_all c.args.run.now c.loop-done.done in
+    let k = cost_is c.args.run.now in omega arith
+
+pub returns-clause-changed : goal.returns-clause-changed
+returns-clause-changed g c =
+    let m = c.loop-done.invariant.changed in let e = cost_take c.loop-done.done c.args.run.now in let k = cost_is c.args.run.now in omega arith
+
+pub returns-clause-edited : goal.returns-clause-edited
+returns-clause-edited g c =
+    (made_all (g.S.PageStore.told c.args.store.now) (g.S.PageStore.told c.loop-done.store) (g.S.PageStore.free c.args.store.now)
+    (g.S.PageStore.free c.loop-done.store) (g.S.PageStore.size c.args.store.now) c.loop-done.done c.args.self.now c.loop-done.self c.args.run.now
+    c.loop-done-test.false c.loop-done.invariant.made).whole
+
+pub returns-clause-count : goal.returns-clause-count
+returns-clause-count g c =
+    (made_all (g.S.PageStore.told c.args.store.now) (g.S.PageStore.told c.loop-done.store) (g.S.PageStore.free c.args.store.now)
+    (g.S.PageStore.free c.loop-done.store) (g.S.PageStore.size c.args.store.now) c.loop-done.done c.args.self.now c.loop-done.self c.args.run.now
+    c.loop-done-test.false c.loop-done.invariant.made).count
+
+pub returns-clause-list : goal.returns-clause-list
+returns-clause-list g c rs w due =
+    edits_are c.args.run.now rs c.requires.order (whole_rises (g.S.PageStore.told c.args.store.now) (g.S.PageStore.free c.args.store.now)
+    (g.S.PageStore.size c.args.store.now) c.args.self.now rs w) due
+
+pub returns-in-Err-clause-list : goal.returns-in-Err-clause-list
+returns-in-Err-clause-list g c rs w due =
+    edits_are c.args.run.now rs c.requires.order (whole_rises (g.S.PageStore.told c.args.store.now) (g.S.PageStore.free c.args.store.now)
+    (g.S.PageStore.size c.args.store.now) c.args.self.now rs w) due

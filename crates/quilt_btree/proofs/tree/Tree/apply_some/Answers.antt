@@ -1,0 +1,82 @@
+use Rattle.std.proofs.Common.{◌≤◌, take, drop, arith}
+use Rattle.quilt_btree.specs.Batches.{more, fewer}
+use Rattle.quilt_btree.proofs.batches.Whole.{whole_edited, whole_fails, some_left, stays_edited, stays_failed, more_take, some_cost, few_enough, still_rooted}
+use Rattle.quilt_btree.proofs.ways.Damage.{named_along}
+use Rattle.quilt_btree.proofs.tree.Tree.apply_some.Goals as goal
+
+pub returns-in-Err-clause-fails : goal.returns-in-Err-clause-fails
+returns-in-Err-clause-fails g c rs w page is =
+    whole_fails c.in-Err.e (g.S.PageStore.told c.args.store.now) (g.S.PageStore.free c.args.store.now) (g.S.PageStore.size c.args.store.now)
+    c.args.self.now rs c.args.run.now
+    (record {
+      rooted = c.requires.rooted;
+      least = (g.met.S.PageStore.in_range c.args.store.now).0;
+      inside = g.met.S.PageStore.free_pages_are c.args.store.now;
+      above = c.if-self-eq0.false;
+    }) c.in-Err.ensures.fails w page is
+
+pub returns-then-n-eq0-clause-edited : goal.returns-then-n-eq0-clause-edited
+returns-then-n-eq0-clause-edited g c =
+    let same = c.in-Ok.ensures.stays c.if-n-eq0.true in
+    stays_edited c.apply_first-then-n-eq0.result (g.S.PageStore.told c.args.store.now) (g.S.PageStore.told c.edit_under.new.store)
+    (g.S.PageStore.told c.apply_first-then-n-eq0.new.store) (g.S.PageStore.free c.args.store.now) (g.S.PageStore.free c.edit_under.new.store)
+    (g.S.PageStore.free c.apply_first-then-n-eq0.new.store) (g.S.PageStore.size c.args.store.now) (g.S.PageStore.size c.edit_under.new.store)
+    c.args.self.now c.apply_first-then-n-eq0.new.self c.args.run.now same.0 same.1 c.in-Ok.ensures.size c.apply_first-then-n-eq0.ensures.edited
+
+pub returns-then-n-eq0-clause-fails : goal.returns-then-n-eq0-clause-fails
+returns-then-n-eq0-clause-fails g c =
+    let same = c.in-Ok.ensures.stays c.if-n-eq0.true in
+    stays_failed c.apply_first-then-n-eq0.result (g.S.PageStore.told c.args.store.now) (g.S.PageStore.told c.edit_under.new.store)
+    (g.S.PageStore.free c.args.store.now) (g.S.PageStore.free c.edit_under.new.store) (g.S.PageStore.size c.args.store.now)
+    (g.S.PageStore.size c.edit_under.new.store) c.args.self.now c.args.run.now same.0 same.1 c.in-Ok.ensures.size c.apply_first-then-n-eq0.ensures.fails
+
+pub returns-in-Err-clause-bad : goal.returns-in-Err-clause-bad
+returns-in-Err-clause-bad g c = c.in-Err.ensures.bad
+
+pub returns-then-n-eq0-clause-bad : goal.returns-then-n-eq0-clause-bad
+returns-then-n-eq0-clause-bad g c =
+    named_along c.apply_first-then-n-eq0.result (g.S.PageStore.told c.args.store.now) (g.S.PageStore.told c.edit_under.new.store)
+    c.args.self.now.height c.args.self.now.root (c.in-Ok.ensures.stays c.if-n-eq0.true).0 c.apply_first-then-n-eq0.ensures.bad
+
+pub returns-in-Err-clause-less : goal.returns-in-Err-clause-less
+returns-in-Err-clause-less g c =
+    let h = c.in-Err.ensures.changed in let s = some_cost c.args.run.now c.requires.some in omega arith
+
+pub records_behind-requires : goal.records_behind-requires
+records_behind-requires g c =
+    few_enough c.args.self.now.records (more (take c.in-Ok.n c.args.run.now)) (more (drop c.in-Ok.n c.args.run.now)) (more c.args.run.now)
+    (g.S.PageStore.size c.args.store.now) (more_take c.in-Ok.n c.args.run.now) c.requires.room (g.met.S.PageStore.in_range c.args.store.now).1
+
+pub returns-in-None-clause-fails : goal.returns-in-None-clause-fails
+returns-in-None-clause-fails g c rs w page is =
+    let one : 1 ≤ c.in-Ok.n = let h = c.if-n-eq0.false in omega arith in
+    let lt = some_left (g.S.PageStore.told c.args.store.now) (g.S.PageStore.told c.edit_under.new.store) (g.S.PageStore.free c.args.store.now)
+    (g.S.PageStore.free c.edit_under.new.store) (g.S.PageStore.size c.args.store.now) c.args.self.now rs c.args.run.now
+    (take c.in-Ok.n c.args.run.now)
+    (record {
+      rooted = c.requires.rooted;
+      least = (g.met.S.PageStore.in_range c.args.store.now).0;
+      inside = g.met.S.PageStore.free_pages_are c.args.store.now;
+      above = c.if-self-eq0.false;
+    }) (c.in-Ok.ensures.edited one) w in
+    let le = c.records_behind.ensures.none c.in-None.is in
+    absurd (omega (arith, lt, le))
+
+pub returns-in-Some-clause-rooted : goal.returns-in-Some-clause-rooted
+returns-in-Some-clause-rooted g c =
+    still_rooted (g.S.PageStore.size c.args.store.now) c.in-Some.records (more (take c.in-Ok.n c.args.run.now))
+    (more (drop c.in-Ok.n c.args.run.now)) (fewer (take c.in-Ok.n c.args.run.now)) (more c.args.run.now) c.args.self.now c.requires.rooted
+    c.if-self-eq0.false c.in-Some.ensures.some.0 (more_take c.in-Ok.n c.args.run.now) c.in-Some.ensures.some.1 c.requires.room
+
+pub returns-in-Some-clause-edited : goal.returns-in-Some-clause-edited
+returns-in-Some-clause-edited g c rs w =
+    let one : 1 ≤ c.in-Ok.n = let h = c.if-n-eq0.false in omega arith in
+    whole_edited (g.S.PageStore.told c.args.store.now) (g.S.PageStore.told c.edit_under.new.store) (g.S.PageStore.free c.args.store.now)
+    (g.S.PageStore.free c.edit_under.new.store) (g.S.PageStore.size c.args.store.now) c.in-Some.records c.args.self.now rs c.args.run.now
+    (take c.in-Ok.n c.args.run.now)
+    (record {
+      rooted = c.requires.rooted;
+      least = (g.met.S.PageStore.in_range c.args.store.now).0;
+      inside = g.met.S.PageStore.free_pages_are c.args.store.now;
+      above = c.if-self-eq0.false;
+    }) c.in-Some.ensures.some.0 (c.in-Ok.ensures.edited one) w

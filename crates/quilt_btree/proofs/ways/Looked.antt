@@ -1,0 +1,143 @@
+-- A page above the leaves that was looked at where it lies.
+use Rattle.std.proofs.Common.{◌≡◌, ◌≢◌, ℕ, ◌-◌, ◌≤◌, List, [], length, Option, Some, None, Result, Ok, Err, IfOk, IfErr, IfSome, slice_index, slice_index_or, refl, sym, ◌∙◌, ap, subst, Bool, true, false}
+use Rattle.std.specs.Prelude.{MatchResult}
+use Rattle.std.specs.Option.{is_some}
+use Rattle.std.specs.Result.{is_ok}
+use Rattle.quilt_node.specs.Nodes.{IsFound, IsGap}
+use Rattle.quilt_node.proofs.LeafReads as leaf
+use Rattle.std.specs.List.{last_or}
+use Rattle.quilt_types.specs.declared.stop.Stop.TheVariants.{Damaged}
+use Rattle.quilt_node.specs.Pages.{Inner, leaf_of, inner_of}
+use Rattle.quilt_store.specs.Stops.{IsSound}
+use Rattle.quilt_types.specs.declared.stop.Stop.{Stop}
+use Rattle.quilt_record.specs.declared.key.Key.{Key}
+use Rattle.quilt_record.specs.declared.record.Record.{Record}
+use Rattle.quilt_btree.specs.Damage.{HasChild, NamesBad}
+use Rattle.quilt_btree.specs.Looks.{ShowsFork, ShowsStep, ShowsLast, ShowsKey}
+use Rattle.quilt_btree.specs.Searches.{AreOf, IsFork, IsStep}
+use Rattle.quilt_btree.specs.Trees.{Spells}
+use Rattle.quilt_btree.proofs.ways.Damage.{names_below, bad_inner, bad_last}
+use Rattle.quilt_btree.proofs.ways.Forks.{IsRead, Forked, forked, forks, are_of, leaf_here, leaf_has_last}
+
+-- what is known of a page above the leaves behind a look
+pub record IsLooked (old new : Option (List (List ℕ))) (height size : ℕ) : Type 0 where
+  pub some : 1 ≤ height
+  pub above : height ≢ 1
+  pub told : new ≡ old
+  pub many : IfSome old (λ pages. length pages ≡ size)
+
+pub read_of : (old new : Option (List (List ℕ))) (page height size : ℕ) (bytes : List ℕ) → IsLooked old new height size → AreOf old page bytes
+    → IsRead old new page height size bytes
+read_of old new page height size bytes l are = record { some = l.some; above = l.above; told = l.told; many = l.many; are = are }
+
+pub fork_shown : (old new : Option (List (List ℕ))) (page height size : ℕ) (k : Key) (child : ℕ) (prior : Option ℕ) (rs : List Record)
+    → IsLooked old new height size → ShowsFork old page size k child prior → Spells old page height rs → Forked old new page height k child prior rs
+fork_shown old new page height size k child prior rs l f s =
+    forked old new page height size f.bytes k child prior rs (read_of old new page height size f.bytes l f.are) f.fork s
+
+-- what is named under a child of the page
+pub named_under : {T : Type 0} (r : Result T Stop) (old new : Option (List (List ℕ))) (page height size child : ℕ) (bytes : List ℕ)
+    → IsLooked old new height size → AreOf old page bytes → HasChild size bytes child
+    → IfErr r (NamesBad new (height - 1) child) → IfErr r (NamesBad old height page)
+named_under r old new page height size child bytes l are h f =
+    names_below r old new page height size bytes child (read_of old new page height size bytes l are) h f
+
+-- what a look at the bytes shows of the page
+pub shows_fork : (told : Option (List (List ℕ))) (page n size : ℕ) (bytes : List ℕ) (k : Key) (child : ℕ) (prior : Option ℕ) → n ≡ size
+    → IfSome told (λ pages. bytes ≡ slice_index_or pages page []) → HasChild n bytes child × IfSome prior (HasChild n bytes)
+    → ((inner : Inner) → inner_of n bytes ≡ Some inner → IsFork k inner child prior) → ShowsFork told page size k child prior
+shows_fork told page n size bytes k child prior e shown h f =
+    subst (λ m. ShowsFork told page m k child prior) e
+    (record { bytes = bytes; are = are_of told page bytes shown; stands = h.0; prior_stands = h.1; fork = f })
+
+pub shows_step : (told : Option (List (List ℕ))) (page n size : ℕ) (bytes : List ℕ) (k : Key) (high : Option Key) (child : ℕ) (next : Option Key) → n ≡ size
+    → IfSome told (λ pages. bytes ≡ slice_index_or pages page []) → HasChild n bytes child
+    → ((inner : Inner) → inner_of n bytes ≡ Some inner → IsStep k inner high child next) → ShowsStep told page size k high child next
+shows_step told page n size bytes k high child next e shown h f =
+    subst (λ m. ShowsStep told page m k high child next) e (record { bytes = bytes; are = are_of told page bytes shown; stands = h; step = f })
+
+pub shows_last : (told : Option (List (List ℕ))) (page n size : ℕ) (bytes : List ℕ) (child : ℕ) → n ≡ size
+    → IfSome told (λ pages. bytes ≡ slice_index_or pages page []) → HasChild n bytes child
+    → ((inner : Inner) → inner_of n bytes ≡ Some inner → Some child ≡ Some (slice_index inner.children (length inner.children - 1)))
+    → ShowsLast told page size child
+shows_last told page n size bytes child e shown h f =
+    subst (λ m. ShowsLast told page m child) e (record { bytes = bytes; are = are_of told page bytes shown; stands = h; last = f })
+
+-- bytes that are no inner page
+abbrev pub AreNoInner : ℕ → List ℕ → Type 0
+AreNoInner size bytes = (inner : Inner) → inner_of size bytes ≡ Some inner → ⊥
+
+pub no_child : (size : ℕ) (bytes : List ℕ)
+    → ((inner : Inner) → inner_of size bytes ≡ Some inner → None ≡ Some (slice_index inner.children (length inner.children - 1))) → AreNoInner size bytes
+no_child size bytes f inner is = differ (slice_index inner.children (length inner.children - 1)) (f inner is)
+  where
+    differ : (c : ℕ) → None ≡ Some c → ⊥
+    differ c h = cc
+
+read_at : (told : Option (List (List ℕ))) (page height n size : ℕ) (bytes : List ℕ) → 1 ≤ height → height ≢ 1 → n ≡ size
+    → IfSome told (λ pages. length pages ≡ size) → IfSome told (λ pages. bytes ≡ slice_index_or pages page [])
+    → IsRead told told page height n bytes
+read_at told page height n size bytes some above e many shown = record {
+  some = some;
+  above = above;
+  told = refl;
+  many = subst (λ m. IfSome told (λ pages. length pages ≡ m)) (sym e) many;
+  are = are_of told page bytes shown;
+}
+
+pub inner_sound : (told : Option (List (List ℕ))) (page n size : ℕ) (bytes : List ℕ) (e : Stop) → n ≡ size → IfSome told (λ pages. length pages ≡ size)
+    → IfSome told (λ pages. bytes ≡ slice_index_or pages page []) → AreNoInner n bytes
+    → (height : ℕ) (rs : List Record) → 1 ≤ height → height ≢ 1 → Spells told page height rs → IsSound e
+inner_sound told page n size bytes e same many shown none height rs some above s =
+    forks told told page height n bytes e (read_at told page height n size bytes some above same many shown) none rs s
+
+pub inner_bad : (told : Option (List (List ℕ))) (page n size : ℕ) (bytes : List ℕ) → n ≡ size → IfSome told (λ pages. length pages ≡ size)
+    → IfSome told (λ pages. bytes ≡ slice_index_or pages page []) → AreNoInner n bytes
+    → (height : ℕ) → 1 ≤ height → height ≢ 1 → NamesBad told height page (Damaged page)
+inner_bad told page n size bytes same many shown none height some above =
+    bad_inner told told page height n bytes (read_at told page height n size bytes some above same many shown) none
+
+-- a leaf that has no last record
+pub end_sound : (told : Option (List (List ℕ))) (page : ℕ) (bytes : List ℕ) (e : Stop) → IfSome told (λ pages. bytes ≡ slice_index_or pages page [])
+    → ((rs : List Record) → leaf_of bytes ≡ Some rs → None ≡ last_or None rs)
+    → (height : ℕ) (rs : List Record) → height ≡ 1 → Spells told page height rs → IsSound e
+end_sound told page bytes e shown f height rs one s =
+    absurd (leaf_has_last bytes f rs (leaf_here told page height bytes rs one (are_of told page bytes shown) s))
+
+pub end_bad : (told : Option (List (List ℕ))) (page : ℕ) (bytes : List ℕ) → IfSome told (λ pages. bytes ≡ slice_index_or pages page [])
+    → ((rs : List Record) → leaf_of bytes ≡ Some rs → None ≡ last_or None rs)
+    → (height : ℕ) → height ≡ 1 → NamesBad told height page (Damaged page)
+end_bad told page bytes shown f height one = bad_last told page height bytes one (are_of told page bytes shown) f
+
+pub leaf_sound : {T : Type 0} (r : Result T Stop) (told : Option (List (List ℕ))) (page height : ℕ) → height ≡ 1
+    → IfErr r (λ e. (height : ℕ) (rs : List Record) → height ≡ 1 → Spells told page height rs → IsSound e)
+    → IfErr r (λ e. (rs : List Record) → Spells told page height rs → IsSound e)
+leaf_sound (Ok v) told page height one f = f
+leaf_sound (Err e) told page height one f = λ rs s. f height rs one s
+
+-- what a look at a leaf shows of a key
+pub shows_key : (told : Option (List (List ℕ))) (page : ℕ) (bytes : List ℕ) (k : Key) (is_there : Bool) (count : ℕ) (r : Result ℕ ℕ)
+    → is_some (leaf_of bytes) ≡ true → IfSome told (λ pages. bytes ≡ slice_index_or pages page []) → is_there ≡ is_ok r
+    → ((rs : List Record) → leaf_of bytes ≡ Some rs → MatchResult r (λ i. IsFound k rs i) (λ i. IsGap k rs i))
+    → ((rs : List Record) → leaf_of bytes ≡ Some rs → (count ≡ length rs) × (1 ≤ count)) → ShowsKey told page k is_there count
+shows_key told page bytes k is_there count r is shown there place many = at (leaf_of bytes) refl is
+  where
+    in_leaf : (rs : List Record) (r : Result ℕ ℕ) → MatchResult r (λ i. IsFound k rs i) (λ i. IsGap k rs i) → is_ok r ≡ true → (i : ℕ) × IsFound k rs i
+    in_leaf rs (Ok i) f e = (i, f)
+    in_leaf rs (Err i) f e = cc
+
+    in_gap : (rs : List Record) (r : Result ℕ ℕ) → MatchResult r (λ i. IsFound k rs i) (λ i. IsGap k rs i) → is_ok r ≡ false → (i : ℕ) × IsGap k rs i
+    in_gap rs (Ok i) f e = cc
+    in_gap rs (Err i) f e = (i, f)
+
+    at : (o : Option (List Record)) → leaf_of bytes ≡ o → is_some o ≡ true → ShowsKey told page k is_there count
+    at None e h = cc
+    at (Some rs) e h = record {
+      leaf = rs;
+      reads = λ pages t. ap leaf_of (sym (are_of told page bytes shown pages t)) ∙ e;
+      many = (many rs e).0;
+      least = (leaf.told bytes rs e).least;
+      most = (leaf.told bytes rs e).most;
+      found = λ f. in_leaf rs r (place rs e) (sym there ∙ f);
+      gap = λ f. in_gap rs r (place rs e) (sym there ∙ f);
+    }

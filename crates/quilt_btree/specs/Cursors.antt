@@ -1,0 +1,43 @@
+-- A place between the records of a tree.
+use Rattle.std.specs.Prelude.{◌≡◌, ℕ, ◌≤◌, true, List, [], ◌∷◌, ◌++◌, Option, Some, MatchOption, length, take, drop}
+use Rattle.std.specs.List.{list_all}
+use Rattle.std.specs.Ordering.{is_le, is_lt}
+use Rattle.quilt_record.specs.declared.key.Key.{Key}
+use Rattle.quilt_record.specs.declared.record.Record.{Record}
+use Rattle.quilt_record.specs.Records.{key_cmp}
+use Rattle.quilt_node.specs.Nodes.{records_of}
+use Rattle.quilt_btree.specs.declared.tree.Tree.{Tree}
+use Rattle.quilt_btree.specs.declared.cursor.Cursor.{Cursor}
+use Rattle.quilt_btree.specs.Trees.{Divides}
+
+-- the key parts two children of the tree, and stands between these records
+pub record IsParted (told : Option (List (List ℕ))) (t : Tree) (k : Key) (before after : List Record) : Type 0 where
+  pub pages : List (List ℕ)
+  pub is_told : told ≡ Some pages
+  pub divides : Divides pages t.height t.root k
+  pub lower : list_all (λ r. is_lt (key_cmp r.key k)) before ≡ true
+  pub higher : list_all (λ r. is_le (key_cmp k r.key)) after ≡ true
+
+-- the cursor stands between these records of the tree: in its leaf, behind as many records as its place says
+pub record StandsIn (told : Option (List (List ℕ))) (t : Tree) (c : Cursor) (before after : List Record) : Type 0 where
+  pub first : List Record
+  pub last : List Record
+  pub in_range : c.place ≤ length (records_of c.bytes)
+  pub is_before : before ≡ first ++ take c.place (records_of c.bytes)
+  pub is_after : after ≡ drop c.place (records_of c.bytes) ++ last
+  pub further : MatchOption c.high (last ≡ []) (λ k. IsParted told t k (first ++ records_of c.bytes) last)
+
+-- the place that is looked for: behind all records whose keys are below this one
+pub record IsSought (told : Option (List (List ℕ))) (t : Tree) (c : Cursor) (k : Key) (rs : List Record) : Type 0 where
+  pub before : List Record
+  pub after : List Record
+  pub records : rs ≡ before ++ after
+  pub lower : list_all (λ r. is_lt (key_cmp r.key k)) before ≡ true
+  pub higher : list_all (λ r. is_le (key_cmp k r.key)) after ≡ true
+  pub stands : StandsIn told t c before after
+
+-- the cursor has gone over the next record
+pub record GoesOver (told : Option (List (List ℕ))) (t : Tree) (r : Record) (c : Cursor) (before after : List Record) : Type 0 where
+  pub rest : List Record
+  pub records : after ≡ r ∷ rest
+  pub stands : StandsIn told t c (before ++ r ∷ []) rest

@@ -1,0 +1,147 @@
+ghost use Rattle.std.specs.Prelude.{◌≡◌, ◌≢◌, ℕ, ◌+◌, ◌<◌, ◌≤◌, ◌++◌, true, IfOk, IfErr, IfSome, OnOk, MatchOption, List, [], Option, Some, length, take, drop};
+ghost use Rattle.std.specs.List.{list_all};
+ghost use Rattle.std.specs.Ordering.{is_le, is_lt};
+ghost use Rattle.quilt_record.specs.declared.record.Record.{Record};
+ghost use Rattle.quilt_record.specs.Records.{key_cmp};
+ghost use Rattle.quilt_types.specs.declared.stop.Stop.TheVariants.{Damaged};
+ghost use Rattle.quilt_node.specs.Pages.{leaf_of};
+ghost use Rattle.quilt_node.specs.Nodes.{records_of};
+ghost use Rattle.quilt_store.specs.Calls.{OnlyReads};
+ghost use Rattle.quilt_store.specs.Store.{Tells};
+ghost use Rattle.quilt_store.specs.Stops.{IsSound};
+ghost use Rattle.quilt_btree.specs.Damage.{NamesBad};
+ghost use Rattle.quilt_btree.specs.Stops.{NamesPage};
+ghost use Rattle.quilt_btree.specs.Cursors.{IsParted, StandsIn, IsSought, GoesOver};
+
+use crate::pages::stop_of;
+use crate::reading::leaf_at;
+use crate::tree::Tree;
+use quilt_node::{find_in, rec_in, records_in};
+use quilt_record::{Key, Record};
+use quilt_store::PageStore;
+use quilt_types::Stop;
+
+/// A place between the records of a tree: the bytes of a leaf, how many of its records stand before the place, and the
+/// key that parts this leaf from the next. It is good as long as the tree stays as it is; an edit gives it up.
+#[derive(Clone, Copy)]
+pub struct Cursor {
+    bytes: [u8; 4096],
+    place: usize,
+    high: Option<Key>,
+}
+
+/// The number of records of a leaf whose keys are below `k`; some place of it for any bytes.
+fn place_from(bytes: &[u8; 4096], k: &Key) -> usize
+    ensures range { result ≤ length (records_of bytes.now) }
+    ensures lower { leaf_of bytes.now ≡ Some (records_of bytes.now) → list_all (λ r. is_lt (key_cmp r.key k.now)) (take result (records_of bytes.now)) ≡ true }
+    ensures higher { leaf_of bytes.now ≡ Some (records_of bytes.now) → list_all (λ r. is_le (key_cmp k.now r.key)) (drop result (records_of bytes.now)) ≡ true }
+{
+    let n = records_in(bytes);
+    match find_in(bytes, k) {
+        Ok(i) => if i < n { i } else { n },
+        Err(i) => if i < n { i } else { n },
+    }
+}
+
+impl Tree {
+    ghost use Rattle.quilt_btree.specs.Trees.{IsRooted, IsTree};
+
+    /// The place behind all records whose keys are below `k`. It reads at most 3 pages.
+    pub fn seek<S: PageStore>(&self, store: &mut S, k: &Key) -> Result<Cursor, Stop>
+        requires rooted { IsRooted (S.size store.old) self.now }
+        requires some { 1 ≤ self.now.height }
+        ensures sought { IfOk result (λ c. (rs : List Record) → IsTree (S.told store.old) self.now rs → IsSought (S.told store.old) self.now c k.now rs) }
+        ensures sound { IfErr result (λ e. (rs : List Record) → IsTree (S.told store.old) self.now rs → IsSound e) }
+        ensures names { IfErr result (NamesPage (S.size store.old)) }
+        ensures bad { IfErr result (NamesBad (S.told store.old) self.now.height self.now.root) }
+        ensures left { OnlyReads S.PageStore store.old store.new result }
+        ensures reads { Tells (λ old new. new ≤ old + 3) (S.reads store.old) (S.reads store.new) }
+    {
+        match leaf_at(store, self.root, self.height, k, &None) {
+            Err(e) => Err(e),
+            Ok(found) => match store.page(found.page) {
+                Err(e) => Err(stop_of(e)),
+                Ok(bytes) => Ok(Cursor {
+                    bytes: *bytes,
+                    place: place_from(bytes, k),
+                    high: found.high,
+                }),
+            },
+        }
+    }
+
+    /// Goes to the leaf that a separator key begins.
+    fn enter<S: PageStore>(&self, store: &mut S, k: &Key, c: &mut Cursor) -> Result<(), Stop>
+        requires rooted { IsRooted (S.size store.old) self.now }
+        requires some { 1 ≤ self.now.height }
+        ensures stands { OnOk result ((before after : List Record) → IsTree (S.told store.old) self.now (before ++ after)
+            → IsParted (S.told store.old) self.now k.now before after → StandsIn (S.told store.old) self.now c.new before after) }
+        ensures least { OnOk result ((rs : List Record) → IsTree (S.told store.old) self.now rs → 1 ≤ length (records_of c.new.bytes)) }
+        ensures begins { OnOk result (c.new.place ≡ 0) }
+        ensures sound { IfErr result (λ e. (rs : List Record) → IsTree (S.told store.old) self.now rs → IsSound e) }
+        ensures names { IfErr result (NamesPage (S.size store.old)) }
+        ensures bad { IfErr result (NamesBad (S.told store.old) self.now.height self.now.root) }
+        ensures left { OnlyReads S.PageStore store.old store.new result }
+        ensures reads { Tells (λ old new. new ≤ old + 3) (S.reads store.old) (S.reads store.new) }
+    {
+        match leaf_at(store, self.root, self.height, k, &None) {
+            Err(e) => Err(e),
+            Ok(found) => match store.page(found.page) {
+                Err(e) => Err(stop_of(e)),
+                Ok(bytes) => {
+                    c.bytes = *bytes;
+                    c.place = 0;
+                    c.high = found.high;
+                    Ok(())
+                }
+            },
+        }
+    }
+
+    /// Goes over the next record, which is the answer: none where the cursor stands behind the last. It reads nothing
+    /// where the record is in the cursor's leaf, and else at most 3 pages. Page 0 is said to be damaged where a leaf has no
+    /// record.
+    pub fn next<S: PageStore>(&self, store: &mut S, c: &mut Cursor) -> Result<Option<Record>, Stop>
+        requires rooted { IsRooted (S.size store.old) self.now }
+        requires some { 1 ≤ self.now.height }
+        ensures next { IfOk result (λ r. (before after : List Record) → IsTree (S.told store.old) self.now (before ++ after)
+            → StandsIn (S.told store.old) self.now c.old before after
+            → MatchOption r (after ≡ []) (λ r. GoesOver (S.told store.old) self.now r c.new before after)) }
+        ensures sound { IfErr result (λ e. (before after : List Record) → IsTree (S.told store.old) self.now (before ++ after)
+            → StandsIn (S.told store.old) self.now c.old before after → IsSound e) }
+        ensures names { IfErr result (NamesPage (S.size store.old)) }
+        ensures bad { IfErr result (λ e. e ≢ Damaged 0 → NamesBad (S.told store.old) self.now.height self.now.root e) }
+        ensures left { OnlyReads S.PageStore store.old store.new result }
+        ensures reads { Tells (λ old new. new ≤ old + 3) (S.reads store.old) (S.reads store.new) }
+        ensures here { c.old.place < length (records_of c.old.bytes) → Tells (λ old new. new ≤ old) (S.reads store.old) (S.reads store.new) }
+    {
+        if c.place < records_in(&c.bytes) {
+            return Ok(Some(over(c)));
+        }
+        let k = match c.high {
+            None => return Ok(None),
+            Some(k) => k,
+        };
+        match self.enter(store, &k, c) {
+            Err(e) => Err(e),
+            Ok(()) => {
+                if c.place < records_in(&c.bytes) {
+                    Ok(Some(over(c)))
+                } else {
+                    Err(Stop::Damaged { page: 0 })
+                }
+            }
+        }
+    }
+}
+
+/// The record behind the cursor's place, which goes over it.
+fn over(c: &mut Cursor) -> Record
+    requires here { c.old.place < length (records_of c.old.bytes) }
+    requires place { c.old.place < 144 }
+    ensures { (told : Option (List (List ℕ))) (t : Tree) (before after : List Record) → StandsIn told t c.old before after → GoesOver told t result c.new before after }
+{
+    let r = rec_in(&c.bytes, c.place);
+    c.place += 1;
+    r
+}

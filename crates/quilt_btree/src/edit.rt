@@ -1,0 +1,125 @@
+ghost use Rattle.std.specs.Prelude.{◌≡◌, ◌≤◌, true, false, IfSome, List, Some, None, take, length};
+ghost use Rattle.std.specs.List.{list_all};
+ghost use Rattle.quilt_record.specs.declared.record.Record.{Record};
+ghost use Rattle.quilt_node.specs.Nodes.{records_of};
+ghost use Rattle.quilt_node.specs.Pages.{leaf_of};
+ghost use Rattle.quilt_node.specs.Tree.{is_below};
+ghost use Rattle.quilt_btree.specs.Batches.{key_of, edit_keys, is_due, edited, edit_all, are_due, size_behind, size_after, HasRoom, HasRoomFor};
+
+use crate::running::stays_below;
+use quilt_node::{MOST_RECORDS, find_in, insert_in, records_in, remove_in, replace_in};
+use quilt_record::{Key, Record};
+
+/// One edit of a tree: the record of a key goes, a record comes whose key is not there, or a record comes in the place
+/// of the one that has its key.
+#[derive(Clone, Copy, Debug, PartialEq, Eq)]
+pub enum Edit {
+    Remove { key: Key },
+    Put { record: Record },
+    Replace { record: Record },
+}
+
+impl Edit {
+    /// The key that the edit concerns.
+    pub fn key(&self) -> &Key
+        ensures { result.now ≡ key_of self.now }
+    {
+        match self {
+            Edit::Remove { key } => key,
+            Edit::Put { record } => &record.key,
+            Edit::Replace { record } => &record.key,
+        }
+    }
+}
+
+/// The number of records of a leaf of `n` behind the edit: none where it would be no leaf.
+pub fn count_behind(n: usize, e: &Edit) -> Option<usize>
+    requires { n ≤ 144 }
+    ensures room { IfSome result (λ m. HasRoom e.now n) }
+    ensures size { IfSome result (λ m. m ≡ size_behind e.now n) }
+    ensures most { IfSome result (λ m. m ≤ 144) }
+    ensures none { result ≡ None → HasRoom e.now n → ⊥ }
+{
+    match e {
+        Edit::Remove { .. } => if n <= 1 { None } else { Some(n - 1) },
+        Edit::Put { .. } => if n == MOST_RECORDS { None } else { Some(n + 1) },
+        Edit::Replace { .. } => Some(n),
+    }
+}
+
+/// How many of the first edits of a run can be made in a leaf of `n` records and leave it with `least`: the most that are
+/// below `high`, where each is due.
+pub fn planned(n: usize, least: usize, high: &Option<Key>, run: &[Edit]) -> usize
+    requires { n ≤ 144 }
+    ensures number { result ≤ length run.now }
+    ensures under { list_all (is_below high.now) (edit_keys (take result run.now)) ≡ true }
+    ensures room { HasRoomFor (take result run.now) n }
+    ensures enough { 1 ≤ result → least ≤ size_after (take result run.now) n }
+{
+    let mut count = n;
+    let mut best = 0;
+    for i in 0..run.len() {
+        if !stays_below(run[i].key(), high) {
+            return best;
+        }
+        match count_behind(count, &run[i]) {
+            None => return best,
+            Some(m) => count = m,
+        }
+        if least <= count {
+            best = i + 1;
+        }
+    }
+    best
+}
+
+/// Makes an edit in a page that is a leaf: false where it is not due. Of any bytes it makes some others.
+fn make(bytes: &mut [u8; 4096], e: &Edit) -> bool
+    requires { HasRoom e.now (length (records_of bytes.old)) }
+    ensures due { (rs : List Record) → leaf_of bytes.old ≡ Some rs → result ≡ is_due e.now rs }
+    ensures made { (rs : List Record) → leaf_of bytes.old ≡ Some rs → result ≡ true → leaf_of bytes.new ≡ Some (edited e.now rs) }
+{
+    match e {
+        Edit::Remove { key } => match find_in(bytes, key) {
+            Err(_) => false,
+            Ok(place) => {
+                remove_in(bytes, place);
+                true
+            }
+        },
+        Edit::Put { record } => match find_in(bytes, &record.key) {
+            Ok(_) => false,
+            Err(place) => {
+                insert_in(bytes, place, record);
+                true
+            }
+        },
+        Edit::Replace { record } => match find_in(bytes, &record.key) {
+            Err(_) => false,
+            Ok(place) => {
+                replace_in(bytes, place, record);
+                true
+            }
+        },
+    }
+}
+
+/// Makes the edits of a run in a page that is a leaf and has room for them: false where one is not due. Of any bytes it
+/// makes some others.
+pub fn edit_in(bytes: &mut [u8; 4096], run: &[Edit]) -> bool
+    ensures made { (rs : List Record) → leaf_of bytes.old ≡ Some rs → HasRoomFor run.now (length rs) → result ≡ true
+        → (leaf_of bytes.new ≡ Some (edit_all run.now rs)) × (are_due run.now rs ≡ true) }
+    ensures fails { (rs : List Record) → leaf_of bytes.old ≡ Some rs → HasRoomFor run.now (length rs) → result ≡ false → are_due run.now rs ≡ false }
+{
+    for i in 0..run.len() {
+        match count_behind(records_in(bytes), &run[i]) {
+            None => return false,
+            Some(_) => {
+                if !make(bytes, &run[i]) {
+                    return false;
+                }
+            }
+        }
+    }
+    true
+}
