@@ -4,8 +4,8 @@ ghost use Rattle.quilt_node.specs.Nodes.{are_pages, keys_of, records_of};
 ghost use Rattle.quilt_node.specs.Pages as spec;
 ghost use Rattle.quilt_node.specs.Tree.{Bounds, Walk, Whole, Damaged, are_within, bounded, each_child, leaf_walk, inner_walk, is_above as is_above_of};
 ghost use Rattle.quilt_node.specs.Tree.{is_below as is_below_of};
-ghost use Rattle.quilt_store.specs.Store.{IsOnlyRead, Tells};
-ghost use Rattle.quilt_store.specs.Stops.{HasStopCause};
+ghost use Rattle.quilt_store.specs.Calls.{OnlyReads};
+ghost use Rattle.quilt_store.specs.Store.{Tells};
 ghost use Rattle.quilt_btree.specs.Stops.{NamesPage};
 ghost use Rattle.quilt_audit.specs.Surveys.{OnDamaged};
 
@@ -83,8 +83,7 @@ pub fn read_leaf<S: PageStore>(
         (OnDamaged (λ p. (pages : List (List ℕ)) (visited : List ℕ) → S.told store.old ≡ Some pages
         → leaf_walk is_root (record { low = low.now; high = high.now }) page visited (spec.leaf_of (slice_index_or pages page [])) ≡ Damaged p)) }
     ensures names { IfErr result (NamesPage (S.size store.old)) }
-    ensures cause { HasStopCause (S.faults store.old) (S.faults store.new) result }
-    ensures left { IsOnlyRead S.size S.told S.free S.later S.changed store.old store.new }
+    ensures left { OnlyReads S.PageStore store.old store.new result }
     ensures reads { Tells (λ old new. new ≤ old + 1) (S.reads store.old) (S.reads store.new) }
 {
     match store.read(page, bytes) {
@@ -141,8 +140,7 @@ pub fn read_inner<S: PageStore>(
         → inner_walk visit height is_root (record { low = low.now; high = high.now }) page visited
         (spec.inner_of (length pages) (slice_index_or pages page [])) ≡ Damaged p)) }
     ensures names { IfErr result (NamesPage (S.size store.old)) }
-    ensures cause { HasStopCause (S.faults store.old) (S.faults store.new) result }
-    ensures left { IsOnlyRead S.size S.told S.free S.later S.changed store.old store.new }
+    ensures left { OnlyReads S.PageStore store.old store.new result }
     ensures reads { Tells (λ old new. new ≤ old + 1) (S.reads store.old) (S.reads store.new) }
 {
     let mut bytes = [0; 4096];

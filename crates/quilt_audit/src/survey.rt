@@ -2,8 +2,8 @@ ghost use Rattle.std.specs.Prelude.{◌≡◌, ℕ, ◌+◌, ◌<◌, ◌≤◌,
 ghost use Rattle.quilt_record.specs.declared.record.Record.{Record};
 ghost use Rattle.quilt_node.specs.Pages.{IsHead};
 ghost use Rattle.quilt_node.specs.Tree.{Whole, Damaged, walk_of};
-ghost use Rattle.quilt_store.specs.Store.{IsOnlyRead, Tells};
-ghost use Rattle.quilt_store.specs.Stops.{HasStopCause};
+ghost use Rattle.quilt_store.specs.Calls.{OnlyReads};
+ghost use Rattle.quilt_store.specs.Store.{Tells};
 ghost use Rattle.quilt_btree.specs.Stops.{NamesPage};
 ghost use Rattle.quilt_audit.specs.Bits.{AreWithin};
 ghost use Rattle.quilt_audit.specs.Surveys.{OnDamaged, IsSurvey, IsDamage, AreNumbered};
@@ -43,8 +43,7 @@ pub fn audit<S: PageStore>(
     ensures within { IfOk result (λ s. AreWithin pages s.used) }
     ensures numbered { IfOk result (λ s. AreNumbered head.now.format s.catalog) }
     ensures names { IfErr result (NamesPage pages) }
-    ensures cause { HasStopCause (S.faults store.old) (S.faults store.new) result }
-    ensures left { IsOnlyRead S.size S.told S.free S.later S.changed store.old store.new }
+    ensures left { OnlyReads S.PageStore store.old store.new result }
     ensures few { Tells (λ old new. new < old + pages) (S.reads store.old) (S.reads store.new) }
     ensures reads { IfOk result (λ s. (told : List (List ℕ)) (records : List Record) (visited : List ℕ) → S.told store.old ≡ Some told
         → walk_of told head.now.root head.now.height ≡ Whole records visited
@@ -71,8 +70,7 @@ fn survey_tree<S: PageStore>(alloc: Global, store: &mut S, head: &Head) -> Resul
         (OnDamaged (λ page. (told : List (List ℕ)) → S.told store.old ≡ Some told → walk_of told head.now.root head.now.height ≡ Damaged page)) }
     ensures few { OnErr result (Tells (λ old new. new < old + S.size store.old) (S.reads store.old) (S.reads store.new)) }
     ensures names { IfErr result (NamesPage (S.size store.old)) }
-    ensures cause { HasStopCause (S.faults store.old) (S.faults store.new) result }
-    ensures left { IsOnlyRead S.size S.told S.free S.later S.changed store.old store.new }
+    ensures left { OnlyReads S.PageStore store.old store.new result }
 {
     let mut state = unvisited(alloc, head);
     if head.height == 0 {

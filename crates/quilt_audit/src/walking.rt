@@ -4,8 +4,8 @@ ghost use Rattle.std.specs.List.{list_any};
 ghost use Rattle.std.specs.Option.{option_or};
 ghost use Rattle.quilt_node.specs.Nodes.{are_pages, records_of};
 ghost use Rattle.quilt_node.specs.Tree.{Bounds, Walk, Whole, Damaged, bounded, each_child, walk};
-ghost use Rattle.quilt_store.specs.Store.{IsOnlyRead, Tells};
-ghost use Rattle.quilt_store.specs.Stops.{HasStopCause};
+ghost use Rattle.quilt_store.specs.Calls.{OnlyReads};
+ghost use Rattle.quilt_store.specs.Store.{Tells};
 ghost use Rattle.quilt_btree.specs.Stops.{NamesPage};
 ghost use Rattle.quilt_audit.specs.Bits.{Marks};
 ghost use Rattle.quilt_audit.specs.Surveys.{OnDamaged};
@@ -64,8 +64,7 @@ fn survey_leaf<S: PageStore>(
     ensures spent { OnErr result ((visited : List ℕ) → list_any (λ v. v == page) visited ≡ false
         → SpentSome (S.size store.old) visited (S.reads store.old) (S.reads store.new)) }
     ensures names { IfErr result (NamesPage (S.size store.old)) }
-    ensures cause { HasStopCause (S.faults store.old) (S.faults store.new) result }
-    ensures left { IsOnlyRead S.size S.told S.free S.later S.changed store.old store.new }
+    ensures left { OnlyReads S.PageStore store.old store.new result }
 {
     match read_leaf(store, page, is_root, low, high, bytes) {
         Err(e) => Err(e),
@@ -103,8 +102,7 @@ pub fn survey_page<S: PageStore>(
     ensures spent { OnErr result ((visited : List ℕ) → Marks state.old.used visited
         → SpentSome (S.size store.old) visited (S.reads store.old) (S.reads store.new)) }
     ensures names { IfErr result (NamesPage (S.size store.old)) }
-    ensures cause { HasStopCause (S.faults store.old) (S.faults store.new) result }
-    ensures left { IsOnlyRead S.size S.told S.free S.later S.changed store.old store.new }
+    ensures left { OnlyReads S.PageStore store.old store.new result }
 {
     if is_marked(&state.used, page) {
         return Err(Stop::Damaged { page });
@@ -139,8 +137,7 @@ fn survey_inner<S: PageStore>(
     ensures spent { OnErr result ((visited : List ℕ) → Marks state.old.used visited → list_any (λ v. v == page) visited ≡ false
         → SpentSome (S.size store.old) visited (S.reads store.old) (S.reads store.new)) }
     ensures names { IfErr result (NamesPage (S.size store.old)) }
-    ensures cause { HasStopCause (S.faults store.old) (S.faults store.new) result }
-    ensures left { IsOnlyRead S.size S.told S.free S.later S.changed store.old store.new }
+    ensures left { OnlyReads S.PageStore store.old store.new result }
 {
     match read_inner(store, page, height, is_root, low, high) {
         Err(e) => Err(e),
@@ -175,8 +172,7 @@ fn survey_children<S: PageStore>(
     ensures spent { OnErr result ((visited : List ℕ) → Marks state.old.used visited
         → SpentSome (S.size store.old) visited (S.reads store.old) (S.reads store.new)) }
     ensures names { IfErr result (NamesPage (S.size store.old)) }
-    ensures cause { HasStopCause (S.faults store.old) (S.faults store.new) result }
-    ensures left { IsOnlyRead S.size S.told S.free S.later S.changed store.old store.new }
+    ensures left { OnlyReads S.PageStore store.old store.new result }
 {
     let mut from = *low;
     for i in 0..inner.len() {

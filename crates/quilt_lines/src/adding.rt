@@ -8,14 +8,14 @@ ghost use Rattle.quilt_types.specs.Quadtrees.{after_add, is_reached};
 ghost use Rattle.quilt_types.specs.Segments.{square, meets as segment_meets};
 ghost use Rattle.quilt_near.specs.Lines.{meeting};
 ghost use Rattle.quilt_line_laws.specs.Merging.{met_in};
-ghost use Rattle.quilt_store.specs.Stops.{HasStopCause, IsSound};
+ghost use Rattle.quilt_store.specs.Calls.{OnlyReads};
+ghost use Rattle.quilt_store.specs.Stops.{IsSound};
 ghost use Rattle.quilt_btree.specs.Trees.{IsRooted};
 ghost use Rattle.quilt_edits.specs.Edits.{AreInOrder};
 ghost use Rattle.quilt_lines.specs.Layers.{HasLines};
 ghost use Rattle.quilt_lines.specs.Reads.{ids_of};
 ghost use Rattle.quilt_lines.specs.Adding.{facts_by, none_by, quarter_facts, ids_meeting as ids_meeting_it, Follow, IsAdded};
 ghost use Rattle.quilt_lines.specs.Plans.{IsLinePlan};
-ghost use Rattle.quilt_store.specs.Store.{IsOnlyRead};
 
 use crate::view::{DAMAGED, LineView};
 use quilt_btree::Tree;
@@ -53,8 +53,7 @@ pub fn plan_add<S: PageStore>(
     ensures order { IfOk result (λ o. IfSome o AreInOrder) }
     ensures sound { IfErr result (λ e. (segs : SegMap) (cover : BlockSet) → HasLines (S.told store.old) tree.now layer level t segs cover →
         IsSound e) }
-    ensures cause { HasStopCause (S.faults store.old) (S.faults store.new) result }
-    ensures left { IsOnlyRead S.size S.told S.free S.later S.changed store.old store.new }
+    ensures left { OnlyReads S.PageStore store.old store.new result }
 {
     let view = LineView {
         tree: *tree,
@@ -105,8 +104,7 @@ impl Arrival {
         ensures sound { IfErr result (λ e. (segs : SegMap) (cover : BlockSet) →
             HasLines (S.told store.old) self.now.view.tree self.now.view.layer self.now.view.level self.now.t segs cover →
             finmap.get segs self.now.id ≡ None → IsSound e) }
-        ensures cause { HasStopCause (S.faults store.old) (S.faults store.new) result }
-        ensures left { IsOnlyRead S.size S.told S.free S.later S.changed store.old store.new }
+        ensures left { OnlyReads S.PageStore store.old store.new result }
     {
         let mut change = Change {
             gone: Vec::new(alloc),
@@ -142,8 +140,7 @@ impl Arrival {
         ensures sound { IfErr result (λ e. (segs : SegMap) (cover : BlockSet) →
             HasLines (S.told store.old) self.now.view.tree self.now.view.layer self.now.view.level self.now.t segs cover →
             is_reached cover b ≡ true → IsSound e) }
-        ensures cause { HasStopCause (S.faults store.old) (S.faults store.new) result }
-        ensures left { IsOnlyRead S.size S.told S.free S.later S.changed store.old store.new }
+        ensures left { OnlyReads S.PageStore store.old store.new result }
     {
         if !meets(self.s, b) {
             return Ok(());
@@ -184,8 +181,7 @@ impl Arrival {
         ensures sound { IfErr result (λ e. (segs : SegMap) (cover : BlockSet) →
             HasLines (S.told store.old) self.now.view.tree self.now.view.layer self.now.view.level self.now.t segs cover →
             ids.now ≡ ids_of (meeting segs b) → IsSound e) }
-        ensures cause { HasStopCause (S.faults store.old) (S.faults store.new) result }
-        ensures left { IsOnlyRead S.size S.told S.free S.later S.changed store.old store.new }
+        ensures left { OnlyReads S.PageStore store.old store.new result }
     {
         if b.side > 1 && ids.len() >= usize::from(self.t) {
             return self.split(alloc, store, change, b, ids);
@@ -233,8 +229,7 @@ impl Arrival {
         ensures sound { IfErr result (λ e. (segs : SegMap) (cover : BlockSet) →
             HasLines (S.told store.old) self.now.view.tree self.now.view.layer self.now.view.level self.now.t segs cover →
             ids.now ≡ ids_of (meeting segs b) → IsSound e) }
-        ensures cause { HasStopCause (S.faults store.old) (S.faults store.new) result }
-        ensures left { IsOnlyRead S.size S.told S.free S.later S.changed store.old store.new }
+        ensures left { OnlyReads S.PageStore store.old store.new result }
     {
         match self.view.push_facts(&mut change.gone, b, ids) {
             Err(_) => return Err(Stop::Memory),

@@ -5,8 +5,9 @@ ghost use Rattle.quilt_types.specs.Plane.{side as side_of, IsBlock};
 ghost use Rattle.quilt_types.specs.Layers.{SegMap, BlockSet};
 ghost use Rattle.quilt_types.specs.Quadtrees.{is_reached};
 ghost use Rattle.quilt_record.specs.Records.{key_cmp};
-ghost use Rattle.quilt_store.specs.Store.{IsOnlyRead, Tells};
-ghost use Rattle.quilt_store.specs.Stops.{HasStopCause, IsSound};
+ghost use Rattle.quilt_store.specs.Calls.{OnlyReads};
+ghost use Rattle.quilt_store.specs.Store.{Tells};
+ghost use Rattle.quilt_store.specs.Stops.{IsSound};
 ghost use Rattle.quilt_btree.specs.Trees.{IsRooted};
 ghost use Rattle.quilt_lines.specs.Layers.{HasLines};
 ghost use Rattle.quilt_lines.specs.Counting.{held_in};
@@ -34,8 +35,7 @@ pub fn block_counts<S: PageStore>(
         (k : ℕ) → k ≤ 12 → slice_index counts k ≡ count_by (λ b. b.side == side_of k) (finset.items cover)) }
     ensures sound { IfErr result (λ e. (t : ℕ) (segs : SegMap) (cover : BlockSet) →
         HasLines (S.told store.old) tree.now layer level t segs cover → IsSound e) }
-    ensures cause { HasStopCause (S.faults store.old) (S.faults store.new) result }
-    ensures left { IsOnlyRead S.size S.told S.free S.later S.changed store.old store.new }
+    ensures left { OnlyReads S.PageStore store.old store.new result }
 {
     let view = LineView {
         tree: *tree,
@@ -86,8 +86,7 @@ impl LineView {
         ensures most { OnOk result ((j : ℕ) → slice_index counts.new j ≤ slice_index counts.old j + 4 ^ k) }
         ensures sound { IfErr result (λ e. (t : ℕ) (segs : SegMap) (cover : BlockSet) →
             HasLines (S.told store.old) self.now.tree self.now.layer self.now.level t segs cover → is_reached cover b ≡ true → IsSound e) }
-        ensures cause { HasStopCause (S.faults store.old) (S.faults store.new) result }
-        ensures left { IsOnlyRead S.size S.told S.free S.later S.changed store.old store.new }
+        ensures left { OnlyReads S.PageStore store.old store.new result }
     {
         match self.has_block(store, b) {
             Err(e) => return Err(e),
@@ -117,8 +116,7 @@ impl LineView {
             HasLines (S.told store.old) self.now.tree self.now.layer self.now.level t segs cover → there ≡ finset.contains cover b) }
         ensures sound { IfErr result (λ e. (t : ℕ) (segs : SegMap) (cover : BlockSet) →
             HasLines (S.told store.old) self.now.tree self.now.layer self.now.level t segs cover → IsSound e) }
-        ensures cause { HasStopCause (S.faults store.old) (S.faults store.new) result }
-        ensures left { IsOnlyRead S.size S.told S.free S.later S.changed store.old store.new }
+        ensures left { OnlyReads S.PageStore store.old store.new result }
         ensures reads { Tells (λ old new. new ≤ old + 6) (S.reads store.old) (S.reads store.new) }
     {
         let low = pair_record(self.layer, b, self.level, None).key;

@@ -5,8 +5,9 @@ ghost use Rattle.quilt_types.specs.Sets as finset;
 ghost use Rattle.quilt_types.specs.declared.stop.Stop.TheVariants.{Device};
 ghost use Rattle.quilt_types.specs.Plane.{IsBlock};
 ghost use Rattle.quilt_types.specs.Layers.{SegMap, BlockSet};
-ghost use Rattle.quilt_store.specs.Store.{IsOnlyRead, Tells};
-ghost use Rattle.quilt_store.specs.Stops.{HasStopCause, IsSound};
+ghost use Rattle.quilt_store.specs.Calls.{OnlyReads};
+ghost use Rattle.quilt_store.specs.Store.{Tells};
+ghost use Rattle.quilt_store.specs.Stops.{IsSound};
 ghost use Rattle.quilt_btree.specs.Trees.{IsRooted};
 ghost use Rattle.quilt_lines.specs.Layers.{HasLines};
 ghost use Rattle.quilt_lines.specs.Reads.{pair_of, none_of, block_records, AreIdsAt};
@@ -41,8 +42,7 @@ impl LineView {
             → MatchOption o (finset.contains cover b ≡ false) (λ ids. AreIdsAt segs cover b ids.items)) }
         ensures sound { IfErr result (λ e. (t : ℕ) (segs : SegMap) (cover : BlockSet)
             → HasLines (S.told store.old) self.now.tree self.now.layer self.now.level t segs cover → IsSound e) }
-        ensures cause { HasStopCause (S.faults store.old) (S.faults store.new) result }
-        ensures left { IsOnlyRead S.size S.told S.free S.later S.changed store.old store.new }
+        ensures left { OnlyReads S.PageStore store.old store.new result }
         ensures reads { IfOk result (λ o. Tells (λ old new. new ≤ old + 9 + 3 * unwrap_or (option_map vec_len o) 0) (S.reads store.old) (S.reads store.new)) }
     {
         let low = pair_record(self.layer, b, self.level, None).key;

@@ -6,13 +6,13 @@ ghost use Rattle.quilt_types.specs.Plane.{whole};
 ghost use Rattle.quilt_types.specs.Layers.{SegMap, BlockSet, IsLineMap};
 ghost use Rattle.quilt_types.specs.Facts.{IsSegment};
 ghost use Rattle.quilt_types.specs.Quadtrees.{after_remove};
-ghost use Rattle.quilt_store.specs.Stops.{HasStopCause, IsSound};
+ghost use Rattle.quilt_store.specs.Calls.{OnlyReads};
+ghost use Rattle.quilt_store.specs.Stops.{IsSound};
 ghost use Rattle.quilt_btree.specs.Trees.{IsRooted};
 ghost use Rattle.quilt_edits.specs.Edits.{AreInOrder};
 ghost use Rattle.quilt_lines.specs.Layers.{HasLines, fact_record};
 ghost use Rattle.quilt_lines.specs.Merges.{Becomes, IsRemovalPlan};
 ghost use Rattle.quilt_lines.specs.Plans.{IsLinePlan};
-ghost use Rattle.quilt_store.specs.Store.{IsOnlyRead};
 
 use crate::merging::Settled;
 use crate::removal::Removal;
@@ -51,8 +51,7 @@ pub fn plan_remove<S: PageStore>(
     ensures order { IfOk result (λ o. IfSome o AreInOrder) }
     ensures sound { IfErr result (λ e. (segs : SegMap) (cover : BlockSet) → HasLines (S.told store.old) tree.now layer level t segs cover →
         IsSound e) }
-    ensures cause { HasStopCause (S.faults store.old) (S.faults store.new) result }
-    ensures left { IsOnlyRead S.size S.told S.free S.later S.changed store.old store.new }
+    ensures left { OnlyReads S.PageStore store.old store.new result }
 {
     match segment(store, tree, layer, level, id) {
         Err(e) => Err(e),
@@ -84,8 +83,7 @@ impl Removal {
         ensures sound { IfErr result (λ e. (segs : SegMap) (cover : BlockSet) →
             HasLines (S.told store.old) tree.now self.now.layer self.now.level self.now.threshold segs cover →
             finmap.get segs self.now.id ≡ Some self.now.segment → IsSound e) }
-        ensures cause { HasStopCause (S.faults store.old) (S.faults store.new) result }
-        ensures left { IsOnlyRead S.size S.told S.free S.later S.changed store.old store.new }
+        ensures left { OnlyReads S.PageStore store.old store.new result }
     {
         match self.settle(alloc, store, tree, whole_square(self.level)) {
             Err(e) => Err(e),

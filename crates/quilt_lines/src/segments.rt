@@ -8,8 +8,9 @@ ghost use Rattle.quilt_types.specs.Facts.{IsSegment};
 ghost use Rattle.quilt_types.specs.Layers.{SegMap, BlockSet, IsLineMap, is_in_square as is_seg_in_square};
 ghost use Rattle.quilt_loc.specs.Codes.{Rises};
 ghost use Rattle.quilt_record.specs.Canonical.{FactFits};
-ghost use Rattle.quilt_store.specs.Store.{IsOnlyRead, Tells};
-ghost use Rattle.quilt_store.specs.Stops.{HasStopCause, IsSound};
+ghost use Rattle.quilt_store.specs.Calls.{OnlyReads};
+ghost use Rattle.quilt_store.specs.Store.{Tells};
+ghost use Rattle.quilt_store.specs.Stops.{IsSound};
 ghost use Rattle.quilt_btree.specs.Trees.{IsRooted};
 ghost use Rattle.quilt_lines.specs.Layers.{HasLines, fact_record, segment_facts};
 ghost use Rattle.quilt_lines.specs.Reads.{segment_key as key_of, ids_of};
@@ -38,8 +39,7 @@ pub fn segment<S: PageStore>(
         → o ≡ finmap.get segs id) }
     ensures inside { IfOk result (λ o. IfSome o (λ s. is_seg_in_square level s ≡ true)) }
     ensures sound { IfErr result (λ e. (t : ℕ) (segs : SegMap) (cover : BlockSet) → HasLines (S.told store.old) tree.now layer level t segs cover → IsSound e) }
-    ensures cause { HasStopCause (S.faults store.old) (S.faults store.new) result }
-    ensures left { IsOnlyRead S.size S.told S.free S.later S.changed store.old store.new }
+    ensures left { OnlyReads S.PageStore store.old store.new result }
     ensures reads { Tells (λ old new. new ≤ old + 3) (S.reads store.old) (S.reads store.new) }
 {
     let view = LineView {
@@ -66,8 +66,7 @@ pub fn scan<S: PageStore>(
     ensures inside { IfOk result (λ list. All (λ e. is_seg_in_square level e.1 ≡ true) list) }
     ensures order { IfOk result (λ list. Rises nat_cmp (ids_of list)) }
     ensures sound { IfErr result (λ e. (t : ℕ) (segs : SegMap) (cover : BlockSet) → HasLines (S.told store.old) tree.now layer level t segs cover → IsSound e) }
-    ensures cause { HasStopCause (S.faults store.old) (S.faults store.new) result }
-    ensures left { IsOnlyRead S.size S.told S.free S.later S.changed store.old store.new }
+    ensures left { OnlyReads S.PageStore store.old store.new result }
 {
     let view = LineView {
         tree: *tree,
@@ -113,8 +112,7 @@ impl LineView {
         ensures inside { IfOk result (λ o. IfSome o (λ s. is_seg_in_square self.now.level s ≡ true)) }
         ensures sound { IfErr result (λ e. (t : ℕ) (segs : SegMap) (cover : BlockSet)
             → HasLines (S.told store.old) self.now.tree self.now.layer self.now.level t segs cover → IsSound e) }
-        ensures cause { HasStopCause (S.faults store.old) (S.faults store.new) result }
-        ensures left { IsOnlyRead S.size S.told S.free S.later S.changed store.old store.new }
+        ensures left { OnlyReads S.PageStore store.old store.new result }
         ensures reads { Tells (λ old new. new ≤ old + 3) (S.reads store.old) (S.reads store.new) }
     {
         let key = segment_key(self.layer, id);
@@ -155,8 +153,7 @@ impl LineView {
         ensures sound { IfErr result (λ e. (t : ℕ) (segs : SegMap) (cover : BlockSet)
             → HasLines (S.told store.old) self.now.tree self.now.layer self.now.level t segs cover
             → ((id : ℕ) → Contains ids.now id → (s : AnySeg) × (finmap.get segs id ≡ Some s)) → IsSound e) }
-        ensures cause { HasStopCause (S.faults store.old) (S.faults store.new) result }
-        ensures left { IsOnlyRead S.size S.told S.free S.later S.changed store.old store.new }
+        ensures left { OnlyReads S.PageStore store.old store.new result }
         ensures reads { IfOk result (λ list. Tells (λ old new. new ≤ old + 3 * length list) (S.reads store.old) (S.reads store.new)) }
     {
         let mut list = SegList::new(alloc);
@@ -182,8 +179,7 @@ impl LineView {
             → finmap.get segs id ≡ Some s)) }
         ensures sound { IfErr result (λ e. (t : ℕ) (segs : SegMap) (cover : BlockSet)
             → HasLines (S.told store.old) self.now.tree self.now.layer self.now.level t segs cover → (s : AnySeg) → finmap.get segs id ≡ Some s → IsSound e) }
-        ensures cause { HasStopCause (S.faults store.old) (S.faults store.new) result }
-        ensures left { IsOnlyRead S.size S.told S.free S.later S.changed store.old store.new }
+        ensures left { OnlyReads S.PageStore store.old store.new result }
         ensures reads { Tells (λ old new. new ≤ old + 3) (S.reads store.old) (S.reads store.new) }
     {
         match self.segment(store, id) {

@@ -4,11 +4,11 @@ ghost use Rattle.quilt_types.specs.Sets as finset;
 ghost use Rattle.quilt_types.specs.Plane.{side, IsBlock};
 ghost use Rattle.quilt_types.specs.Segments.{square, meets as segment_meets};
 ghost use Rattle.quilt_types.specs.Layers.{SegMap, BlockSet};
-ghost use Rattle.quilt_store.specs.Stops.{HasStopCause, IsSound};
+ghost use Rattle.quilt_store.specs.Calls.{OnlyReads};
+ghost use Rattle.quilt_store.specs.Stops.{IsSound};
 ghost use Rattle.quilt_btree.specs.Trees.{IsRooted};
 ghost use Rattle.quilt_lines.specs.Layers.{HasLines};
 ghost use Rattle.quilt_lines.specs.Merges.{Becomes};
-ghost use Rattle.quilt_store.specs.Store.{IsOnlyRead};
 
 use crate::merging::Settled;
 use crate::removal::Removal;
@@ -36,8 +36,7 @@ impl Removal {
             HasLines (S.told store.old) tree.now self.now.layer self.now.level self.now.threshold segs cover → Becomes self.now segs cover k b x) }
         ensures sound { IfErr result (λ e. (segs : SegMap) (cover : BlockSet) →
             HasLines (S.told store.old) tree.now self.now.layer self.now.level self.now.threshold segs cover → IsSound e) }
-        ensures cause { HasStopCause (S.faults store.old) (S.faults store.new) result }
-        ensures left { IsOnlyRead S.size S.told S.free S.later S.changed store.old store.new }
+        ensures left { OnlyReads S.PageStore store.old store.new result }
     {
         let view = LineView {
             tree: *tree,
@@ -86,8 +85,7 @@ impl Removal {
             finset.contains cover b ≡ false → Becomes self.now segs cover k b x) }
         ensures sound { IfErr result (λ e. (segs : SegMap) (cover : BlockSet) →
             HasLines (S.told store.old) tree.now self.now.layer self.now.level self.now.threshold segs cover → IsSound e) }
-        ensures cause { HasStopCause (S.faults store.old) (S.faults store.new) result }
-        ensures left { IsOnlyRead S.size S.told S.free S.later S.changed store.old store.new }
+        ensures left { OnlyReads S.PageStore store.old store.new result }
     {
         let mut all = Settled::new(alloc, true);
         for q in quarters(b) {

@@ -6,11 +6,11 @@ ghost use Rattle.quilt_types.specs.Plane.{side, is_pixel, parent_of, quarters_of
 ghost use Rattle.quilt_types.specs.Layers.{PointMap};
 ghost use Rattle.quilt_types.specs.Quadtrees.{point_blocks, holds_few};
 ghost use Rattle.quilt_point_laws.specs.Laws.{AreIn};
-ghost use Rattle.quilt_store.specs.Stops.{HasStopCause, IsSound};
+ghost use Rattle.quilt_store.specs.Calls.{OnlyReads};
+ghost use Rattle.quilt_store.specs.Stops.{IsSound};
 ghost use Rattle.quilt_btree.specs.Trees.{IsRooted};
 ghost use Rattle.quilt_points.specs.Layers.{HasPoints, entries_of};
 ghost use Rattle.quilt_points.specs.Climbing.{IsOnWay};
-ghost use Rattle.quilt_store.specs.Store.{IsOnlyRead};
 
 use crate::layer::PointLayer;
 use crate::listing::{Leaf, is_same, points_of};
@@ -41,8 +41,7 @@ pub(crate) fn topmost<S: PageStore>(
     ensures block { IfOk result (λ top. IsBlock layer.level top.block) }
     ensures pixels { IfOk result (λ top. All (λ p. is_pixel layer.level p.at ≡ true) top.points.items) }
     ensures sound { IfErr result (λ e. (points : PointMap) → HasPoints (S.told store.old) tree.now layer.number layer.level layer.bucket points → IsSound e) }
-    ensures cause { HasStopCause (S.faults store.old) (S.faults store.new) result }
-    ensures left { IsOnlyRead S.size S.told S.free S.later S.changed store.old store.new }
+    ensures left { OnlyReads S.PageStore store.old store.new result }
 {
     let mut top = leaf;
     'climb: loop {
@@ -78,8 +77,7 @@ fn merged<S: PageStore>(
     ensures wider { IfOk result (λ o. IfSome o (λ up. leaf.now.block.side < up.block.side)) }
     ensures pixels { IfOk result (λ o. IfSome o (λ up. All (λ p. is_pixel layer.level p.at ≡ true) up.points.items)) }
     ensures sound { IfErr result (λ e. (points : PointMap) → HasPoints (S.told store.old) tree.now layer.number layer.level layer.bucket points → IsSound e) }
-    ensures cause { HasStopCause (S.faults store.old) (S.faults store.new) result }
-    ensures left { IsOnlyRead S.size S.told S.free S.later S.changed store.old store.new }
+    ensures left { OnlyReads S.PageStore store.old store.new result }
 {
     let Some(block) = parent(leaf.block, layer.level) else {
         return Ok(None);
@@ -127,8 +125,7 @@ fn joined<S: PageStore>(
         → IsOnWay layer.level layer.bucket points p leaf.now.block leaf.now.points.items → holds_few layer.bucket (finmap.remove points p) up ≡ false) }
     ensures pixels { IfOk result (λ o. IfSome o (λ v. All (λ p. is_pixel layer.level p.at ≡ true) v.items)) }
     ensures sound { IfErr result (λ e. (points : PointMap) → HasPoints (S.told store.old) tree.now layer.number layer.level layer.bucket points → IsSound e) }
-    ensures cause { HasStopCause (S.faults store.old) (S.faults store.new) result }
-    ensures left { IsOnlyRead S.size S.told S.free S.later S.changed store.old store.new }
+    ensures left { OnlyReads S.PageStore store.old store.new result }
 {
     let mut all = Vec::new(alloc);
     for q in quarters(up) {
@@ -163,8 +160,7 @@ fn add_quarter<S: PageStore>(
         → Contains (point_blocks layer.level layer.bucket points) q → ⊥)) }
     ensures pixels { OnOk result (All (λ p. is_pixel layer.level p.at ≡ true) all.new.items) }
     ensures sound { IfErr result (λ e. (points : PointMap) → HasPoints (S.told store.old) tree.now layer.number layer.level layer.bucket points → IsSound e) }
-    ensures cause { HasStopCause (S.faults store.old) (S.faults store.new) result }
-    ensures left { IsOnlyRead S.size S.told S.free S.later S.changed store.old store.new }
+    ensures left { OnlyReads S.PageStore store.old store.new result }
 {
     if is_same(q, leaf.block) {
         return add_all(all, &leaf.points);

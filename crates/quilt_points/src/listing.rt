@@ -5,11 +5,11 @@ ghost use Rattle.quilt_types.specs.declared.stop.Stop.TheVariants.{Device};
 ghost use Rattle.quilt_types.specs.Plane.{side, is_pixel, in_block, IsBlock};
 ghost use Rattle.quilt_types.specs.Layers.{PointMap, IsPointMap};
 ghost use Rattle.quilt_types.specs.Quadtrees.{point_blocks};
-ghost use Rattle.quilt_store.specs.Stops.{HasStopCause, IsSound};
+ghost use Rattle.quilt_store.specs.Calls.{OnlyReads};
+ghost use Rattle.quilt_store.specs.Stops.{IsSound};
 ghost use Rattle.quilt_btree.specs.Trees.{IsRooted};
 ghost use Rattle.quilt_points.specs.Layers.{HasPoints};
 ghost use Rattle.quilt_points.specs.Reads.{AreRecordsOf, IsHeld, IsRow};
-ghost use Rattle.quilt_store.specs.Store.{IsOnlyRead};
 
 use crate::layer::PointLayer;
 use crate::reading::{DAMAGED, block_around, block_of};
@@ -40,8 +40,7 @@ pub(crate) fn points_of<S: PageStore>(
         → MatchOption o (Contains (point_blocks layer.level layer.bucket points) b → ⊥) (λ v. IsHeld layer.level layer.bucket points b v.items)) }
     ensures pixels { IfOk result (λ o. IfSome o (λ v. All (λ p. is_pixel layer.level p.at ≡ true) v.items)) }
     ensures sound { IfErr result (λ e. (points : PointMap) → HasPoints (S.told store.old) tree.now layer.number layer.level layer.bucket points → IsSound e) }
-    ensures cause { HasStopCause (S.faults store.old) (S.faults store.new) result }
-    ensures left { IsOnlyRead S.size S.told S.free S.later S.changed store.old store.new }
+    ensures left { OnlyReads S.PageStore store.old store.new result }
 {
     let low = point_record(layer.number, b, layer.level, layer.bucket, None).key;
     let high = Key {
@@ -130,8 +129,7 @@ pub(crate) fn leaf_around<S: PageStore>(
     ensures holds { IfOk result (λ leaf. in_block leaf.block at ≡ true) }
     ensures pixels { IfOk result (λ leaf. All (λ p. is_pixel layer.level p.at ≡ true) leaf.points.items) }
     ensures sound { IfErr result (λ e. (points : PointMap) → HasPoints (S.told store.old) tree.now layer.number layer.level layer.bucket points → IsSound e) }
-    ensures cause { HasStopCause (S.faults store.old) (S.faults store.new) result }
-    ensures left { IsOnlyRead S.size S.told S.free S.later S.changed store.old store.new }
+    ensures left { OnlyReads S.PageStore store.old store.new result }
 {
     match block_around(store, tree, layer, at) {
         Err(e) => Err(e),

@@ -7,7 +7,8 @@ ghost use Rattle.quilt_types.specs.Plane.{side, is_pixel, in_block, IsBlock};
 ghost use Rattle.quilt_types.specs.Layers.{PointMap, IsPointMap};
 ghost use Rattle.quilt_types.specs.Facts.{same_pixel};
 ghost use Rattle.quilt_types.specs.Quadtrees.{point_blocks};
-ghost use Rattle.quilt_store.specs.Stops.{HasStopCause, IsSound};
+ghost use Rattle.quilt_store.specs.Calls.{OnlyReads};
+ghost use Rattle.quilt_store.specs.Stops.{IsSound};
 ghost use Rattle.quilt_btree.specs.Trees.{IsRooted};
 ghost use Rattle.quilt_points.specs.Layers.{HasPoints, entries_of, block_record};
 ghost use Rattle.quilt_points.specs.Reads.{IsHeld};
@@ -15,7 +16,6 @@ ghost use Rattle.quilt_points.specs.Climbing.{IsOnWay};
 ghost use Rattle.quilt_point_laws.specs.Growing.{gone_of, come_of};
 ghost use Rattle.quilt_edits.specs.Edits.{AreInOrder};
 ghost use Rattle.quilt_points.specs.Plans.{IsPlan};
-ghost use Rattle.quilt_store.specs.Store.{IsOnlyRead};
 
 use crate::climbing::topmost;
 use crate::growing::{Growth, add_growth};
@@ -53,8 +53,7 @@ pub fn plan_put<S: PageStore>(
         → IsNone o ↔ IsSome (finmap.get points at)) }
     ensures order { IfOk result (λ o. IfSome o AreInOrder) }
     ensures sound { IfErr result (λ e. (points : PointMap) → HasPoints (S.told store.old) tree.now layer level bucket points → IsSound e) }
-    ensures cause { HasStopCause (S.faults store.old) (S.faults store.new) result }
-    ensures left { IsOnlyRead S.size S.told S.free S.later S.changed store.old store.new }
+    ensures left { OnlyReads S.PageStore store.old store.new result }
 {
     let layer = PointLayer {
         number: layer,
@@ -91,8 +90,7 @@ pub fn plan_del<S: PageStore>(
         → IsNone o ↔ IsNone (finmap.get points at)) }
     ensures order { IfOk result (λ o. IfSome o AreInOrder) }
     ensures sound { IfErr result (λ e. (points : PointMap) → HasPoints (S.told store.old) tree.now layer level bucket points → IsSound e) }
-    ensures cause { HasStopCause (S.faults store.old) (S.faults store.new) result }
-    ensures left { IsOnlyRead S.size S.told S.free S.later S.changed store.old store.new }
+    ensures left { OnlyReads S.PageStore store.old store.new result }
 {
     let layer = PointLayer {
         number: layer,
@@ -131,8 +129,7 @@ fn take_from<S: PageStore>(
     ensures sound { IfErr result (λ e. (points : PointMap) → HasPoints (S.told store.old) tree.now layer.number layer.level layer.bucket points
         → IsHeld layer.level layer.bucket points leaf.block leaf.points.items → in_block leaf.block p.at ≡ true
         → finmap.get points p.at ≡ Some p.label → IsSound e) }
-    ensures cause { HasStopCause (S.faults store.old) (S.faults store.new) result }
-    ensures left { IsOnlyRead S.size S.told S.free S.later S.changed store.old store.new }
+    ensures left { OnlyReads S.PageStore store.old store.new result }
 {
     let points = match others(alloc, &leaf.points, p.at) {
         Err(_) => return Err(Stop::Memory),

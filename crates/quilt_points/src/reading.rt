@@ -6,8 +6,9 @@ ghost use Rattle.quilt_types.specs.Plane.{side, in_block, is_pixel, IsBlock};
 ghost use Rattle.quilt_types.specs.Layers.{PointMap};
 ghost use Rattle.quilt_types.specs.Quadtrees.{point_blocks};
 ghost use Rattle.quilt_record.specs.Canonical.{IsRecordOf, point_fact};
-ghost use Rattle.quilt_store.specs.Store.{IsOnlyRead, Tells};
-ghost use Rattle.quilt_store.specs.Stops.{HasStopCause, IsSound};
+ghost use Rattle.quilt_store.specs.Calls.{OnlyReads};
+ghost use Rattle.quilt_store.specs.Store.{Tells};
+ghost use Rattle.quilt_store.specs.Stops.{IsSound};
 ghost use Rattle.quilt_btree.specs.Trees.{IsRooted};
 ghost use Rattle.quilt_points.specs.Layers.{HasPoints, pixel_key};
 ghost use Rattle.quilt_points.specs.Reads.{IsBlockRead, label_at};
@@ -42,8 +43,7 @@ pub fn find<S: PageStore>(
     ensures label { IfOk result (λ label. (points : PointMap) → HasPoints (S.told store.old) tree.now layer level bucket points
         → label ≡ finmap.get points at) }
     ensures sound { IfErr result (λ e. (points : PointMap) → HasPoints (S.told store.old) tree.now layer level bucket points → IsSound e) }
-    ensures cause { HasStopCause (S.faults store.old) (S.faults store.new) result }
-    ensures left { IsOnlyRead S.size S.told S.free S.later S.changed store.old store.new }
+    ensures left { OnlyReads S.PageStore store.old store.new result }
     ensures reads { Tells (λ old new. new ≤ old + (if bucket == 1 then 6 else 9)) (S.reads store.old) (S.reads store.new) }
 {
     let layer = PointLayer {
@@ -79,8 +79,7 @@ pub(crate) fn block_around<S: PageStore>(
     ensures block { IfOk result (λ v. IsBlock layer.level v.0) }
     ensures holds { IfOk result (λ v. in_block v.0 at ≡ true) }
     ensures sound { IfErr result (λ e. (points : PointMap) → HasPoints (S.told store.old) tree.now layer.number layer.level layer.bucket points → IsSound e) }
-    ensures cause { HasStopCause (S.faults store.old) (S.faults store.new) result }
-    ensures left { IsOnlyRead S.size S.told S.free S.later S.changed store.old store.new }
+    ensures left { OnlyReads S.PageStore store.old store.new result }
     ensures reads { Tells (λ old new. new ≤ old + 6) (S.reads store.old) (S.reads store.new) }
 {
     let k = key_behind(layer.number, at);
@@ -163,8 +162,7 @@ fn label_in<S: PageStore>(
         → Contains (point_blocks layer.level layer.bucket points) b → in_block b at ≡ true → label ≡ finmap.get points at) }
     ensures sound { IfErr result (λ e. (points : PointMap) → HasPoints (S.told store.old) tree.now layer.number layer.level layer.bucket points
         → Contains (point_blocks layer.level layer.bucket points) b → in_block b at ≡ true → IsSound e) }
-    ensures cause { HasStopCause (S.faults store.old) (S.faults store.new) result }
-    ensures left { IsOnlyRead S.size S.told S.free S.later S.changed store.old store.new }
+    ensures left { OnlyReads S.PageStore store.old store.new result }
     ensures reads { Tells (λ old new. new ≤ old + 3) (S.reads store.old) (S.reads store.new) }
 {
     let like = point_record(

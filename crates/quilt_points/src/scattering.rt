@@ -6,14 +6,14 @@ ghost use Rattle.quilt_types.specs.declared.stop.Stop.TheVariants.{Device};
 ghost use Rattle.quilt_types.specs.Plane.{is_pixel, in_block, IsBlock};
 ghost use Rattle.quilt_types.specs.Layers.{PointMap};
 ghost use Rattle.quilt_loc.specs.Codes.{code_at, Rises};
-ghost use Rattle.quilt_store.specs.Stops.{HasStopCause, IsSound};
+ghost use Rattle.quilt_store.specs.Calls.{OnlyReads};
+ghost use Rattle.quilt_store.specs.Stops.{IsSound};
 ghost use Rattle.quilt_btree.specs.Trees.{IsRooted};
 ghost use Rattle.quilt_edits.specs.Edits.{AreInOrder};
 ghost use Rattle.quilt_points.specs.Layers.{HasPoints};
 ghost use Rattle.quilt_points.specs.Coding.{by_code};
 ghost use Rattle.quilt_points.specs.Plans.{IsPlan, AreNew, with_points};
 ghost use Rattle.quilt_points.specs.Scattering.{IsTaken, IsGrown};
-ghost use Rattle.quilt_store.specs.Store.{IsOnlyRead};
 
 use crate::coding::in_order;
 use crate::growing::{Growth, add_growth};
@@ -51,8 +51,7 @@ pub fn plan_scatter<S: PageStore>(
     ensures none { IfOk result (λ o. (old : PointMap) → HasPoints (S.told store.old) tree.now layer level bucket old → IsNone o ↔ (AreNew old points.now → ⊥)) }
     ensures order { IfOk result (λ o. IfSome o AreInOrder) }
     ensures sound { IfErr result (λ e. (old : PointMap) → HasPoints (S.told store.old) tree.now layer level bucket old → IsSound e) }
-    ensures cause { HasStopCause (S.faults store.old) (S.faults store.new) result }
-    ensures left { IsOnlyRead S.size S.told S.free S.later S.changed store.old store.new }
+    ensures left { OnlyReads S.PageStore store.old store.new result }
 {
     let place = PointLayer {
         number: layer,
@@ -91,8 +90,7 @@ fn grown<S: PageStore>(
     ensures taken { IfOk result (λ o. o ≡ None → (old : PointMap) → HasPoints (S.told store.old) tree.now layer.number layer.level layer.bucket old
         → (p : AnyPoint) × Contains news.now p × IsSome (finmap.get old p.at)) }
     ensures sound { IfErr result (λ e. (old : PointMap) → HasPoints (S.told store.old) tree.now layer.number layer.level layer.bucket old → IsSound e) }
-    ensures cause { HasStopCause (S.faults store.old) (S.faults store.new) result }
-    ensures left { IsOnlyRead S.size S.told S.free S.later S.changed store.old store.new }
+    ensures left { OnlyReads S.PageStore store.old store.new result }
 {
     let mut growth = Growth {
         without: Vec::new(alloc),
@@ -131,8 +129,7 @@ fn add_block<S: PageStore>(
     ensures taken { IfOk result (λ o. o ≡ None → (old : PointMap) → HasPoints (S.told store.old) tree.now layer.number layer.level layer.bucket old
         → (p : AnyPoint) × Contains news.now p × IsSome (finmap.get old p.at)) }
     ensures sound { IfErr result (λ e. (old : PointMap) → HasPoints (S.told store.old) tree.now layer.number layer.level layer.bucket old → IsSound e) }
-    ensures cause { HasStopCause (S.faults store.old) (S.faults store.new) result }
-    ensures left { IsOnlyRead S.size S.told S.free S.later S.changed store.old store.new }
+    ensures left { OnlyReads S.PageStore store.old store.new result }
 {
     match leaf_around(alloc, store, tree, layer, news[0].at) {
         Err(e) => Err(e),

@@ -6,12 +6,12 @@ ghost use Rattle.quilt_types.specs.declared.plane.Point.{Point as AnyPoint};
 ghost use Rattle.quilt_types.specs.declared.stop.Stop.TheVariants.{Device};
 ghost use Rattle.quilt_types.specs.Plane.{is_window, in_window, in_block, pixel_cmp, IsBlock};
 ghost use Rattle.quilt_types.specs.Layers.{PointMap};
-ghost use Rattle.quilt_store.specs.Stops.{HasStopCause, IsSound};
+ghost use Rattle.quilt_store.specs.Calls.{OnlyReads};
+ghost use Rattle.quilt_store.specs.Stops.{IsSound};
 ghost use Rattle.quilt_btree.specs.Trees.{IsRooted};
 ghost use Rattle.quilt_points.specs.Layers.{HasPoints, entries_of};
 ghost use Rattle.quilt_points.specs.Reads.{AreOf};
 ghost use Rattle.quilt_points.specs.Windows.{IsOpen};
-ghost use Rattle.quilt_store.specs.Store.{IsOnlyRead};
 
 use crate::layer::PointLayer;
 use crate::listing::points_of;
@@ -41,8 +41,7 @@ pub fn within<S: PageStore>(
     ensures points { IfOk result (λ list. (points : PointMap) → HasPoints (S.told store.old) tree.now layer level bucket points
         → entries_of list ≡ filter (λ e. in_window w e.0) (finmap.entries points)) }
     ensures sound { IfErr result (λ e. (points : PointMap) → HasPoints (S.told store.old) tree.now layer level bucket points → IsSound e) }
-    ensures cause { HasStopCause (S.faults store.old) (S.faults store.new) result }
-    ensures left { IsOnlyRead S.size S.told S.free S.later S.changed store.old store.new }
+    ensures left { OnlyReads S.PageStore store.old store.new result }
 {
     let layer = PointLayer {
         number: layer,
@@ -77,8 +76,7 @@ fn add_within<S: PageStore>(
         × AreOf points (in_window w) b (entries_of here)) }
     ensures sound { IfErr result (λ e. (points : PointMap) → HasPoints (S.told store.old) tree.now layer.number layer.level layer.bucket points
         → IsOpen layer.level layer.bucket points b → IsSound e) }
-    ensures cause { HasStopCause (S.faults store.old) (S.faults store.new) result }
-    ensures left { IsOnlyRead S.size S.told S.free S.later S.changed store.old store.new }
+    ensures left { OnlyReads S.PageStore store.old store.new result }
 {
     if !meets(b, w) {
         return Ok(());

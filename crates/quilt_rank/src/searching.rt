@@ -2,10 +2,11 @@ ghost use Rattle.std.specs.Prelude.{◌≡◌, ℕ, ◌+◌, ◌<◌, ◌≤◌,
 ghost use Rattle.quilt_types.specs.Plane.{IsBlock};
 ghost use Rattle.quilt_types.specs.Quadtrees.{is_reached, reach};
 ghost use Rattle.quilt_types.specs.Ranking.{ranked as ranked_of};
-ghost use Rattle.quilt_store.specs.Store.{IsOnlyRead, Tells};
+ghost use Rattle.quilt_store.specs.Calls.{OnlyReads};
+ghost use Rattle.quilt_store.specs.Store.{Tells};
 ghost use Rattle.quilt_near.specs.Budgets.{is_close};
 ghost use Rattle.quilt_near.specs.Lines.{Lines};
-ghost use Rattle.quilt_store.specs.Stops.{HasStopCause, IsSound};
+ghost use Rattle.quilt_store.specs.Stops.{IsSound};
 ghost use Rattle.quilt_rank.specs.Ranks.{with_seg, last_far};
 ghost use Rattle.quilt_rank.specs.Opened.{IsOpened};
 
@@ -48,8 +49,7 @@ fn open<S: PageStore, B: SegBlocks<S>>(
     ensures opened { OnOk result (IsOpened (B.level_of blocks.now) p k b (B.shows blocks.now store.old) queue.old queue.new ranks.old ranks.new
         (S.reads store.old) (S.reads store.new)) }
     ensures sound { IfErr result (λ e. (l : Lines) → B.shows blocks.now store.old l → IsSound e) }
-    ensures cause { HasStopCause (S.faults store.old) (S.faults store.new) result }
-    ensures left { IsOnlyRead S.size S.told S.free S.later S.changed store.old store.new }
+    ensures left { OnlyReads S.PageStore store.old store.new result }
 {
     match blocks.part(alloc, store, b) {
         Err(e) => Err(e),
@@ -80,8 +80,7 @@ pub fn ranked<S: PageStore, B: SegBlocks<S>>(
     ensures reads { IfOk result (λ list. (l : Lines) → B.shows blocks.now store.old l → length list ≡ k
         → Tells (λ old new. new ≤ old + reach (B.level_of blocks.now) l.segs l.cover (is_close p (last_far list))) (S.reads store.old) (S.reads store.new)) }
     ensures sound { IfErr result (λ e. (l : Lines) → B.shows blocks.now store.old l → IsSound e) }
-    ensures cause { HasStopCause (S.faults store.old) (S.faults store.new) result }
-    ensures left { IsOnlyRead S.size S.told S.free S.later S.changed store.old store.new }
+    ensures left { OnlyReads S.PageStore store.old store.new result }
 {
     let mut queue = match first_queue(alloc, blocks, p) {
         Err(_) => return Err(Stop::Memory),

@@ -3,8 +3,9 @@ ghost use Rattle.quilt_types.specs.declared.plane.Block.{Block as AnyBlock};
 ghost use Rattle.quilt_types.specs.Plane.{parent_of, side as side_of, is_window, IsBlock, Within};
 ghost use Rattle.quilt_types.specs.Layers.{Grid, colour_at};
 ghost use Rattle.quilt_types.specs.Quadtrees.{leaves};
-ghost use Rattle.quilt_store.specs.Store.{IsOnlyRead, Tells};
-ghost use Rattle.quilt_store.specs.Stops.{HasStopCause, IsSound};
+ghost use Rattle.quilt_store.specs.Calls.{OnlyReads};
+ghost use Rattle.quilt_store.specs.Store.{Tells};
+ghost use Rattle.quilt_store.specs.Stops.{IsSound};
 ghost use Rattle.quilt_btree.specs.Trees.{IsRooted};
 ghost use Rattle.quilt_region.specs.Regions.{HasRegion};
 ghost use Rattle.quilt_region.specs.Windows.{HoldsWindow, HasAround, IsCutOut, IsKnown, Knows, leaves_within};
@@ -72,8 +73,7 @@ pub fn block_with<S: PageStore>(
     ensures few { IfOk result (λ r. (g : Grid) (a : AnyBlock) → HasRegion (S.told store.old) tree.now layer level g → IsBlock level a
         → HoldsWindow a w → length (leaves_within level g r.0) ≤ 1 + length (leaves_within level g a)) }
     ensures sound { IfErr result (λ e. (g : Grid) → HasRegion (S.told store.old) tree.now layer level g → IsSound e) }
-    ensures cause { HasStopCause (S.faults store.old) (S.faults store.new) result }
-    ensures left { IsOnlyRead S.size S.told S.free S.later S.changed store.old store.new }
+    ensures left { OnlyReads S.PageStore store.old store.new result }
     ensures reads { Tells (λ old new. new ≤ old + 6) (S.reads store.old) (S.reads store.new) }
 {
     match leaf_with(store, tree, layer, level, Pixel { x: w.x, y: w.y }) {
@@ -104,8 +104,7 @@ fn has_around<S: PageStore>(
     ensures no { IfOk result (λ t. t ≡ false → (g : Grid) → HasRegion (S.told store.old) tree.now layer level g → IsCutOut level g b
         → HasAround level g larger b c.0 → ⊥) }
     ensures sound { IfErr result (λ e. (g : Grid) → HasRegion (S.told store.old) tree.now layer level g → IsSound e) }
-    ensures cause { HasStopCause (S.faults store.old) (S.faults store.new) result }
-    ensures left { IsOnlyRead S.size S.told S.free S.later S.changed store.old store.new }
+    ensures left { OnlyReads S.PageStore store.old store.new result }
     ensures reads { Tells (λ old new. new ≤ old + 24) (S.reads store.old) (S.reads store.new) }
 {
     for q in quarters(larger) {
@@ -137,8 +136,7 @@ fn has_quarter<S: PageStore>(
     ensures no { IfOk result (λ t. t ≡ false → (g : Grid) → HasRegion (S.told store.old) tree.now layer level g
         → (q ≡ b → ⊥) × (Contains (leaves level g) (q, c.0) → ⊥)) }
     ensures sound { IfErr result (λ e. (g : Grid) → HasRegion (S.told store.old) tree.now layer level g → IsSound e) }
-    ensures cause { HasStopCause (S.faults store.old) (S.faults store.new) result }
-    ensures left { IsOnlyRead S.size S.told S.free S.later S.changed store.old store.new }
+    ensures left { OnlyReads S.PageStore store.old store.new result }
     ensures reads { Tells (λ old new. new ≤ old + 6) (S.reads store.old) (S.reads store.new) }
 {
     if q == b {
@@ -176,8 +174,7 @@ pub fn block_up_to<S: PageStore>(
     ensures ends { IfOk result (λ top. (g : Grid) → HasRegion (S.told store.old) tree.now layer level g → IsCutOut level g b
         → top.side < side_of level → HasAround level g (parent_of top) top c.0 → ⊥) }
     ensures sound { IfErr result (λ e. (g : Grid) → HasRegion (S.told store.old) tree.now layer level g → IsSound e) }
-    ensures cause { HasStopCause (S.faults store.old) (S.faults store.new) result }
-    ensures left { IsOnlyRead S.size S.told S.free S.later S.changed store.old store.new }
+    ensures left { OnlyReads S.PageStore store.old store.new result }
     ensures reads { (j : ℕ) → b.side ≡ 2 ^ j → Tells (λ old new. new + 24 * j ≤ old + 24 * level) (S.reads store.old) (S.reads store.new) }
 {
     let mut top = b;
@@ -211,8 +208,7 @@ pub fn known_beside<S: PageStore>(
     ensures small { IfOk result (λ o. IfSome o (λ k. k.top.side < most)) }
     ensures knows { IfOk result (λ o. IfSome o (λ k. (g : Grid) → HasRegion (S.told store.old) tree.now layer level g → Knows level g w k)) }
     ensures sound { IfErr result (λ e. (g : Grid) → HasRegion (S.told store.old) tree.now layer level g → IsSound e) }
-    ensures cause { HasStopCause (S.faults store.old) (S.faults store.new) result }
-    ensures left { IsOnlyRead S.size S.told S.free S.later S.changed store.old store.new }
+    ensures left { OnlyReads S.PageStore store.old store.new result }
     ensures reads { Tells (λ old new. new ≤ old + 30) (S.reads store.old) (S.reads store.new) }
 {
     match block_with(store, tree, layer, level, w) {

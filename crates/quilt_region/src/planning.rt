@@ -6,8 +6,9 @@ ghost use Rattle.quilt_types.specs.Layers.{Grid, IsGrid};
 ghost use Rattle.quilt_types.specs.Algebra.{painted};
 ghost use Rattle.quilt_record.specs.declared.record.Record.{Record as AnyRecord};
 ghost use Rattle.quilt_record.specs.declared.edits.Edits.{Edits as AnyEdits};
-ghost use Rattle.quilt_store.specs.Store.{IsOnlyRead, Tells};
-ghost use Rattle.quilt_store.specs.Stops.{HasStopCause, IsSound};
+ghost use Rattle.quilt_store.specs.Calls.{OnlyReads};
+ghost use Rattle.quilt_store.specs.Store.{Tells};
+ghost use Rattle.quilt_store.specs.Stops.{IsSound};
 ghost use Rattle.quilt_btree.specs.Trees.{IsRooted};
 ghost use Rattle.quilt_region.specs.Regions.{HasRegion, SpellsRegion};
 ghost use Rattle.quilt_region.specs.Plans.{LeadsTo, IsEdited, IsFresh};
@@ -48,8 +49,7 @@ pub fn plan_rect<S: PageStore>(
     ensures plan { IfOk result (λ edits. (g : Grid) → HasRegion (S.told store.old) tree.now layer level g
         → LeadsTo level layer g (painted level g w c.0) edits) }
     ensures sound { IfErr result (λ e. (g : Grid) → HasRegion (S.told store.old) tree.now layer level g → IsSound e) }
-    ensures cause { HasStopCause (S.faults store.old) (S.faults store.new) result }
-    ensures left { IsOnlyRead S.size S.told S.free S.later S.changed store.old store.new }
+    ensures left { OnlyReads S.PageStore store.old store.new result }
 
     // Of the leaves it reads no more than one and those that begin in any one block that has the whole window.
     ensures reads { IfOk result (λ edits. (g : Grid) (b : AnyBlock) → HasRegion (S.told store.old) tree.now layer level g → IsBlock level b
@@ -82,8 +82,7 @@ fn plan_together<S: PageStore>(
     ensures plan { IfOk result (λ edits. (g : Grid) → HasRegion (S.told store.old) tree.now layer level g
         → LeadsTo level layer g (painted level g w c.0) edits) }
     ensures sound { IfErr result (λ e. (g : Grid) → HasRegion (S.told store.old) tree.now layer level g → IsSound e) }
-    ensures cause { HasStopCause (S.faults store.old) (S.faults store.new) result }
-    ensures left { IsOnlyRead S.size S.told S.free S.later S.changed store.old store.new }
+    ensures left { OnlyReads S.PageStore store.old store.new result }
 
     // The levels up to that of the smallest block that has the whole window cost nothing.
     ensures reads { IfOk result (λ edits. (g : Grid) (b : AnyBlock) (j : ℕ) → HasRegion (S.told store.old) tree.now layer level g → IsBlock level b
@@ -118,8 +117,7 @@ fn what_is_around<S: PageStore>(
     ensures few { IfOk result (λ k. (g : Grid) (a : AnyBlock) → HasRegion (S.told store.old) tree.now layer level g → IsBlock level a
         → HoldsWindow a w → length (leaves_within level g k.read) ≤ 1 + length (leaves_within level g a)) }
     ensures sound { IfErr result (λ e. (g : Grid) → HasRegion (S.told store.old) tree.now layer level g → IsSound e) }
-    ensures cause { HasStopCause (S.faults store.old) (S.faults store.new) result }
-    ensures left { IsOnlyRead S.size S.told S.free S.later S.changed store.old store.new }
+    ensures left { OnlyReads S.PageStore store.old store.new result }
     ensures holds { IfOk result (λ k. HoldsWindow k.read w) }
     ensures reads { IfOk result (λ k. (j : ℕ) → k.read.side ≡ 2 ^ j
         → Tells (λ old new. new + 24 * j ≤ old + (6 + 24 * level)) (S.reads store.old) (S.reads store.new)) }

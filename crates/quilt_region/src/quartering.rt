@@ -6,8 +6,9 @@ ghost use Rattle.quilt_types.specs.declared.plane.Block.{Block as AnyBlock};
 ghost use Rattle.quilt_types.specs.Plane.{quarters_of, is_window, Holds, IsBlock};
 ghost use Rattle.quilt_types.specs.Layers.{Grid};
 ghost use Rattle.quilt_types.specs.Algebra.{painted};
-ghost use Rattle.quilt_store.specs.Store.{IsOnlyRead, Tells};
-ghost use Rattle.quilt_store.specs.Stops.{HasStopCause, IsSound};
+ghost use Rattle.quilt_store.specs.Calls.{OnlyReads};
+ghost use Rattle.quilt_store.specs.Store.{Tells};
+ghost use Rattle.quilt_store.specs.Stops.{IsSound};
 ghost use Rattle.quilt_btree.specs.Trees.{IsRooted};
 ghost use Rattle.quilt_region.specs.Regions.{HasRegion};
 ghost use Rattle.quilt_region.specs.Plans.{LeadsTo, records_without};
@@ -49,8 +50,7 @@ pub fn plan_apart<S: PageStore>(
     ensures plan { IfOk result
         (λ o. IfSome o (λ edits. (g : Grid) → HasRegion (S.told store.old) tree.now layer level g → LeadsTo level layer g (painted level g w c.0) edits)) }
     ensures sound { IfErr result (λ e. (g : Grid) → HasRegion (S.told store.old) tree.now layer level g → IsSound e) }
-    ensures cause { HasStopCause (S.faults store.old) (S.faults store.new) result }
-    ensures left { IsOnlyRead S.size S.told S.free S.later S.changed store.old store.new }
+    ensures left { OnlyReads S.PageStore store.old store.new result }
     ensures large { IfOk result (λ o. IfSome o (λ edits. (a : AnyBlock) → IsBlock level a → HoldsWindow a w → 64 ≤ a.side)) }
     ensures reads { IfOk result
         (λ o. IfSome o (λ edits. (g : Grid) (a : AnyBlock) → HasRegion (S.told store.old) tree.now layer level g → IsBlock level a → HoldsWindow a w
@@ -94,8 +94,7 @@ fn plan_in_block<S: PageStore>(
     ensures plan { IfOk result
         (λ o. IfSome o (λ edits. (g : Grid) → HasRegion (S.told store.old) tree.now layer level g → LeadsTo level layer g (painted level g w c.0) edits)) }
     ensures sound { IfErr result (λ e. (g : Grid) → HasRegion (S.told store.old) tree.now layer level g → IsSound e) }
-    ensures cause { HasStopCause (S.faults store.old) (S.faults store.new) result }
-    ensures left { IsOnlyRead S.size S.told S.free S.later S.changed store.old store.new }
+    ensures left { OnlyReads S.PageStore store.old store.new result }
     ensures reads { IfOk result
         (λ o. IfSome o (λ edits. (g : Grid) → HasRegion (S.told store.old) tree.now layer level g
         → Tells (λ old new. new ≤ old + (144 + 3 * length (leaves_within level g b))) (S.reads store.old) (S.reads store.new))) }
@@ -156,8 +155,7 @@ fn plan_quarters<S: PageStore>(
     ensures several { IfOk result (λ t. t ≡ true → (g : Grid) (q : AnyBlock) (p : AnyPixel) → HasRegion (S.told store.old) tree.now layer level g
         → Contains (take count (quarters_of b)) q → Holds q p → InWindow w p → AreSeveral level g (painted level g w c.0) b) }
     ensures sound { IfErr result (λ e. (g : Grid) → HasRegion (S.told store.old) tree.now layer level g → IsSound e) }
-    ensures cause { HasStopCause (S.faults store.old) (S.faults store.new) result }
-    ensures left { IsOnlyRead S.size S.told S.free S.later S.changed store.old store.new }
+    ensures left { OnlyReads S.PageStore store.old store.new result }
     ensures reads { IfOk result (λ t. t ≡ true → (g : Grid) → HasRegion (S.told store.old) tree.now layer level g
         → Tells (λ old new. new ≤ old + (36 * count + 3 * sum_by (λ q. length (leaves_within level g q)) (take count (quarters_of b))))
         (S.reads store.old) (S.reads store.new)) }
@@ -231,8 +229,7 @@ fn plan_part<S: PageStore>(
     ensures add { OnOk result ((g : Grid) → HasRegion (S.told store.old) tree.now layer level g → Knows level g w known.now
         → add.new.items ≡ add.old.items ++ records_without level layer (painted level g w known.now.around.0) g) }
     ensures sound { IfErr result (λ e. (g : Grid) → HasRegion (S.told store.old) tree.now layer level g → Knows level g w known.now → IsSound e) }
-    ensures cause { HasStopCause (S.faults store.old) (S.faults store.new) result }
-    ensures left { IsOnlyRead S.size S.told S.free S.later S.changed store.old store.new }
+    ensures left { OnlyReads S.PageStore store.old store.new result }
     ensures reads { OnOk result ((g : Grid) → HasRegion (S.told store.old) tree.now layer level g
         → Tells (λ old new. new ≤ old + (6 + 3 * length (leaves_within level g known.now.read))) (S.reads store.old) (S.reads store.new)) }
 {

@@ -4,9 +4,10 @@ ghost use Rattle.std.specs.BTreeMap.{IsOrdered};
 ghost use Rattle.std.specs.FinMap as finmap;
 ghost use Rattle.quilt_types.specs.Plane.{IsBlock, is_window};
 ghost use Rattle.quilt_types.specs.Quadtrees.{is_reached, reach};
-ghost use Rattle.quilt_store.specs.Store.{IsOnlyRead, Tells};
+ghost use Rattle.quilt_store.specs.Calls.{OnlyReads};
+ghost use Rattle.quilt_store.specs.Store.{Tells};
 ghost use Rattle.quilt_near.specs.Lines.{Lines};
-ghost use Rattle.quilt_store.specs.Stops.{HasStopCause, IsSound};
+ghost use Rattle.quilt_store.specs.Stops.{IsSound};
 ghost use Rattle.quilt_select.specs.Shares.{shares as shares_of, holds_any, meets_any as meets_any_of};
 ghost use Rattle.quilt_select.specs.Descents.{four, with_seg, IsOpened};
 
@@ -105,8 +106,7 @@ fn open<S: PageStore, B: SegBlocks<S>>(
     ensures opened { OnOk result
         (IsOpened b near.now (B.shows blocks.now store.old) stack.old stack.new found.old.entries found.new.entries (S.reads store.old) (S.reads store.new)) }
     ensures sound { IfErr result (λ e. (l : Lines) → B.shows blocks.now store.old l → IsSound e) }
-    ensures cause { HasStopCause (S.faults store.old) (S.faults store.new) result }
-    ensures left { IsOnlyRead S.size S.told S.free S.later S.changed store.old store.new }
+    ensures left { OnlyReads S.PageStore store.old store.new result }
 {
     if near.is_empty() {
         return Ok(());
@@ -151,8 +151,7 @@ pub fn select<S: PageStore, B: SegBlocks<S>>(
     ensures reads { IfOk result (λ _. (l : Lines) → B.shows blocks.now store.old l
         → Tells (λ old new. new ≤ old + reach (B.level_of blocks.now) l.segs l.cover (holds_any windows.items)) (S.reads store.old) (S.reads store.new)) }
     ensures sound { IfErr result (λ e. (l : Lines) → B.shows blocks.now store.old l → IsSound e) }
-    ensures cause { HasStopCause (S.faults store.old) (S.faults store.new) result }
-    ensures left { IsOnlyRead S.size S.told S.free S.later S.changed store.old store.new }
+    ensures left { OnlyReads S.PageStore store.old store.new result }
 {
     let mut stack = Stack::new(alloc);
     match stack.push(whole_square(blocks.level()), windows) {

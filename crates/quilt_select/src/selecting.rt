@@ -3,9 +3,10 @@ ghost use Rattle.std.specs.FinMap as finmap;
 ghost use Rattle.quilt_types.specs.Plane.{is_window};
 ghost use Rattle.quilt_types.specs.Segments.{meets};
 ghost use Rattle.quilt_types.specs.Quadtrees.{reach};
-ghost use Rattle.quilt_store.specs.Store.{IsOnlyRead, Tells};
+ghost use Rattle.quilt_store.specs.Calls.{OnlyReads};
+ghost use Rattle.quilt_store.specs.Store.{Tells};
 ghost use Rattle.quilt_near.specs.Lines.{Lines};
-ghost use Rattle.quilt_store.specs.Stops.{HasStopCause, IsSound};
+ghost use Rattle.quilt_store.specs.Stops.{IsSound};
 ghost use Rattle.quilt_blocks.specs.Cutting.{leaves_by_code};
 ghost use Rattle.quilt_select.specs.Clips.{clips_of as clips_of_list};
 ghost use Rattle.quilt_select.specs.Regions.{is_over, has_coloured, coloured_windows as coloured_windows_of};
@@ -32,8 +33,7 @@ pub fn cross<S: PageStore, B: SegBlocks<S>>(
     ensures reads { IfOk result (λ _. (l : Lines) → B.shows blocks.now store.old l
         → Tells (λ old new. new ≤ old + reach (B.level_of blocks.now) l.segs l.cover (is_touching w)) (S.reads store.old) (S.reads store.new)) }
     ensures sound { IfErr result (λ e. (l : Lines) → B.shows blocks.now store.old l → IsSound e) }
-    ensures cause { HasStopCause (S.faults store.old) (S.faults store.new) result }
-    ensures left { IsOnlyRead S.size S.told S.free S.later S.changed store.old store.new }
+    ensures left { OnlyReads S.PageStore store.old store.new result }
 {
     let mut windows = Vec::new(alloc);
     match windows.push(w) {
@@ -56,8 +56,7 @@ pub fn clipped<S: PageStore, B: SegBlocks<S>>(
     ensures reads { IfOk result (λ _. (l : Lines) → B.shows blocks.now store.old l
         → Tells (λ old new. new ≤ old + reach (B.level_of blocks.now) l.segs l.cover (is_touching w)) (S.reads store.old) (S.reads store.new)) }
     ensures sound { IfErr result (λ e. (l : Lines) → B.shows blocks.now store.old l → IsSound e) }
-    ensures cause { HasStopCause (S.faults store.old) (S.faults store.new) result }
-    ensures left { IsOnlyRead S.size S.told S.free S.later S.changed store.old store.new }
+    ensures left { OnlyReads S.PageStore store.old store.new result }
 {
     match cross(alloc, blocks, store, w) {
         Err(e) => Err(e),
@@ -103,8 +102,7 @@ pub fn over<S: PageStore, B: SegBlocks<S>>(
         → Tells (λ old new. new ≤ old + reach list.now.level l.segs l.cover (has_coloured list.now.level list.now.grid)) (S.reads store.old)
         (S.reads store.new)) }
     ensures sound { IfErr result (λ e. (l : Lines) → B.shows blocks.now store.old l → IsSound e) }
-    ensures cause { HasStopCause (S.faults store.old) (S.faults store.new) result }
-    ensures left { IsOnlyRead S.size S.told S.free S.later S.changed store.old store.new }
+    ensures left { OnlyReads S.PageStore store.old store.new result }
 {
     match coloured_windows(alloc, list) {
         Err(_) => Err(Stop::Memory),

@@ -1,5 +1,5 @@
 use Rattle.std.proofs.Common.{◌-◌, [], ◌∷◌, false, ◌∙◌, arith}
-use Rattle.quilt_store.proofs.Reading.{only_read_then, only_read_same}
+use Rattle.quilt_store.proofs.Reading.{only_reads_then, only_reads_same, read_on, only_reads_err}
 use Rattle.quilt_node.specs.Tree.{walk}
 use Rattle.quilt_audit.specs.declared.surveying.Surveying.{Surveying}
 use Rattle.quilt_audit.proofs.Feeding.{Takes-none}
@@ -9,8 +9,7 @@ use Rattle.quilt_audit.proofs.walking.+walking.Goals as goal
 
 pub survey_children-loop-i-init : goal.survey_children-loop-i-init
 survey_children-loop-i-init g t c = record {
-  left = only_read_same _ _ _ _ _ _ (g.met.S.PageStore.same_time c.args.store.now);
-  faults = omega arith;
+  left = only_reads_same _ tt _ (g.met.S.PageStore.same_time c.args.store.now);
   found = λ visited m. reached_first (g.S.PageStore.size c.args.store.now) (g.S.PageStore.told c.args.store.now)
       c.args.height c.args.inner.now.children c.args.inner.now.keys c.args.low.now c.args.high.now
       visited c.args.state.now (g.S.PageStore.reads c.args.store.now) m;
@@ -23,11 +22,8 @@ survey_children-loop-i-preserved g t c =
     let long = c.len-i-end.ensures.length in
     let keys = c.len-i-end.ensures.keys in
     let lt = c.loop-i-test.true in
-    let later = e.cause.later in
-    let faults_before = inv.faults in
     record {
-      left = only_read_then _ _ _ _ _ g.met.S.PageStore.goes_on c.args.store.now c.loop-i.store c.survey_page.new.store inv.left e.left;
-      faults = omega arith;
+      left = read_on _ g.met.S.PageStore.goes_on c.args.store.now c.loop-i.store c.survey_page.new.store inv.left e.left;
       found = λ visited m.
           let h = inv.found visited m in
           reached_next (g.S.PageStore.size c.args.store.now) (g.S.PageStore.told c.args.store.now) c.args.height c.args.inner.now.children
@@ -140,8 +136,8 @@ survey_children-returns-in-Err-clause-spent g t c visited m =
 
 pub survey_inner-returns-in-Ok-clause-left : goal.survey_inner-returns-in-Ok-clause-left
 survey_inner-returns-in-Ok-clause-left g t c =
-    only_read_then _ _ _ _ _ g.met.S.PageStore.goes_on _ _ _ c.in-Ok.ensures.left c.survey_children.ensures.left
+    only_reads_then _ g.met.S.PageStore.goes_on _ _ _ c.in-Ok.ensures.left c.survey_children.ensures.left
 
 pub survey_children-returns-in-Err-clause-left : goal.survey_children-returns-in-Err-clause-left
 survey_children-returns-in-Err-clause-left g t c =
-    only_read_then _ _ _ _ _ g.met.S.PageStore.goes_on _ _ _ c.loop-i.invariant.left c.in-Err.ensures.left
+    only_reads_err _ (only_reads_then _ g.met.S.PageStore.goes_on _ _ _ c.loop-i.invariant.left c.in-Err.ensures.left)

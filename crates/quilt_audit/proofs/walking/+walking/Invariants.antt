@@ -1,5 +1,5 @@
 use Rattle.std.proofs.Common.{ℕ, ◌+◌, ◌*◌, ◌≤◌, List}
-use Rattle.quilt_store.specs.Store.{IsOnlyRead}
+use Rattle.quilt_store.specs.Calls.{IsOnlyRead}
 use Rattle.quilt_audit.specs.Bits.{Marks}
 use Rattle.quilt_audit.specs.Walking.{Reached}
 use Rattle.quilt_audit.proofs.Walked.{of_all, of_rest}
@@ -16,8 +16,7 @@ decreases-survey_inner g l = 3 * l.height
 
 abbrev pub invariant-survey_children-loop-i : goal.invariant-survey_children-loop-i
 invariant-survey_children-loop-i g l = record {
-  left : IsOnlyRead g.S.PageStore.size g.S.PageStore.told g.S.PageStore.free g.S.PageStore.later g.S.PageStore.changed l.initial.store l.store;
-  faults : g.S.PageStore.faults l.initial.store ≤ g.S.PageStore.faults l.store;
+  left : IsOnlyRead g.S.PageStore l.initial.store l.store;
   found : (visited : List ℕ) → Marks l.initial.state.used visited
       → Reached (g.S.PageStore.size l.initial.store) (g.S.PageStore.told l.initial.store)
       (of_all (g.S.PageStore.size l.initial.store) (g.S.PageStore.told l.initial.store) l.height l.inner.children l.inner.keys l.low l.high visited)

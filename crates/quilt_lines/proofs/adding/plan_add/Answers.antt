@@ -1,6 +1,6 @@
 use Rattle.std.proofs.Common.{◌≡◌, true, false, refl, sym, ◌∙◌}
 use Rattle.std.specs.FinMap as finmap
-use Rattle.quilt_store.proofs.Reading.{only_read_then}
+use Rattle.quilt_store.proofs.Reading.{only_reads_then, only_reads_err, only_reads_ok}
 use Rattle.quilt_lines.proofs.Lookups.{lines_along}
 use Rattle.quilt_lines.proofs.Options.{some_there, none_there}
 use Rattle.quilt_lines.proofs.adding.plan_add.Goals as goal
@@ -32,7 +32,7 @@ returns-in-Ok-clause-none g c segs cover h =
     (λ e. absurd (let no : true ≡ false = e in cc), λ some. absurd (none_there (finmap.get segs c.args.id) none some))
 
 pub returns-in-Err-edits-clause-left : goal.returns-in-Err-edits-clause-left
-returns-in-Err-edits-clause-left g c = only_read_then _ _ _ _ _ g.met.S.PageStore.goes_on _ _ _ c.in-Ok-None.ensures.left c.in-Err-edits.ensures.left
+returns-in-Err-edits-clause-left g c = only_reads_err _ (only_reads_then _ g.met.S.PageStore.goes_on _ _ _ c.in-Ok-None.ensures.left c.in-Err-edits.ensures.left)
 
 pub returns-in-Ok-clause-left : goal.returns-in-Ok-clause-left
-returns-in-Ok-clause-left g c = only_read_then _ _ _ _ _ g.met.S.PageStore.goes_on _ _ _ c.in-Ok-None.ensures.left c.in-Ok.ensures.left
+returns-in-Ok-clause-left g c = only_reads_ok _ (only_reads_then _ g.met.S.PageStore.goes_on _ _ _ c.in-Ok-None.ensures.left c.in-Ok.ensures.left) _

@@ -1,7 +1,7 @@
 use Rattle.std.proofs.Common.{refl, sym, ◌∙◌, subst, true≢false}
 use Rattle.std.specs.Prelude.{IsNone}
 use Rattle.std.specs.FinMap as finmap
-use Rattle.quilt_store.proofs.Reading.{only_read_then}
+use Rattle.quilt_store.proofs.Reading.{only_reads_then, only_reads_err, only_reads_ok}
 use Rattle.quilt_types.specs.declared.plane.Seg.{Seg}
 use Rattle.quilt_types.specs.Quadtrees.{after_remove}
 use Rattle.quilt_lines.specs.Plans.{IsLinePlan}
@@ -43,7 +43,7 @@ returns-in-Ok-clause-fewer g c segs cover h =
     (sym (c.in-Ok-Some.ensures.segment c.args.t segs cover h) ∙ c.in-Ok-Some.field-0-is)).fewer
 
 pub returns-in-Err-plan-clause-left : goal.returns-in-Err-plan-clause-left
-returns-in-Err-plan-clause-left g c = only_read_then _ _ _ _ _ g.met.S.PageStore.goes_on _ _ _ c.in-Ok-Some.ensures.left c.in-Err-plan.ensures.left
+returns-in-Err-plan-clause-left g c = only_reads_err _ (only_reads_then _ g.met.S.PageStore.goes_on _ _ _ c.in-Ok-Some.ensures.left c.in-Err-plan.ensures.left)
 
 pub returns-in-Ok-clause-left : goal.returns-in-Ok-clause-left
-returns-in-Ok-clause-left g c = only_read_then _ _ _ _ _ g.met.S.PageStore.goes_on _ _ _ c.in-Ok-Some.ensures.left c.in-Ok.ensures.left
+returns-in-Ok-clause-left g c = only_reads_ok _ (only_reads_then _ g.met.S.PageStore.goes_on _ _ _ c.in-Ok-Some.ensures.left c.in-Ok.ensures.left) _

@@ -1,6 +1,6 @@
 use Rattle.std.proofs.Common.{true, [], length, get_or, sym, ◌∙◌, ap, subst, arith, Contains, List}
 use Rattle.std.specs.FinMap as finmap
-use Rattle.quilt_store.proofs.Reading.{only_read_then, only_read_same}
+use Rattle.quilt_store.proofs.Reading.{only_reads_then, only_reads_same, read_on, only_reads_err, only_reads_ok}
 use Rattle.quilt_types.specs.declared.plane.Block.{Block}
 use Rattle.quilt_types.specs.declared.plane.Point.{Point}
 use Rattle.quilt_types.specs.Plane.{quarters_of, IsBlock}
@@ -27,8 +27,7 @@ loop-q-init g c = record {
   all = λ points p label h some way. subst (λ (l : List Point). AreOfAll (finmap.remove points p) (λ q. true) [] (entries_of l))
       (sym c.new-all.ensures.items) (all_none (finmap.remove points p) (λ q. true));
   pixels = λ k d lt. let none = ap length c.new-all.ensures.items in absurd (omega arith);
-  faults = omega arith;
-  left = only_read_same _ _ _ _ _ _ (g.met.S.PageStore.same_time _);
+  left = only_reads_same _ tt _ (g.met.S.PageStore.same_time _);
 }
 
 pub add_quarter-requires-clause-block : goal.add_quarter-requires-clause-block
@@ -75,8 +74,7 @@ loop-q-preserved g c =
           ))
           (c.loop-q.invariant.all points p label h some way);
       pixels = c.in-Ok-true.ensures.pixels;
-      faults = let m = c.loop-q.invariant.faults in let n = c.in-Ok-true.ensures.cause.later in omega arith;
-      left = only_read_then _ _ _ _ _ g.met.S.PageStore.goes_on _ _ _ c.loop-q.invariant.left c.in-Ok-true.ensures.left;
+      left = read_on _ g.met.S.PageStore.goes_on _ _ _ c.loop-q.invariant.left c.in-Ok-true.ensures.left;
     }
 
 pub returns-clause-all : goal.returns-clause-all
@@ -87,7 +85,7 @@ returns-clause-all g c points p label h some way =
     (c.loop-q.invariant.all points p label h some way))
 
 pub returns-in-Err-clause-left : goal.returns-in-Err-clause-left
-returns-in-Err-clause-left g c = only_read_then _ _ _ _ _ g.met.S.PageStore.goes_on _ _ _ c.loop-q.invariant.left c.in-Err.ensures.left
+returns-in-Err-clause-left g c = only_reads_err _ (only_reads_then _ g.met.S.PageStore.goes_on _ _ _ c.loop-q.invariant.left c.in-Err.ensures.left)
 
 pub returns-in-Ok-false-clause-left : goal.returns-in-Ok-false-clause-left
-returns-in-Ok-false-clause-left g c = only_read_then _ _ _ _ _ g.met.S.PageStore.goes_on _ _ _ c.loop-q.invariant.left c.in-Ok-false.ensures.left
+returns-in-Ok-false-clause-left g c = only_reads_ok _ (only_reads_then _ g.met.S.PageStore.goes_on _ _ _ c.loop-q.invariant.left c.in-Ok-false.ensures.left) _

@@ -1,5 +1,5 @@
 use Rattle.std.proofs.Common.{arith}
-use Rattle.quilt_store.proofs.Reading.{only_read_then}
+use Rattle.quilt_store.proofs.Reading.{only_reads_then, read_on, only_reads_err, only_reads_ok}
 use Rattle.quilt_loc.proofs.Blocks.{side_most}
 use Rattle.quilt_loc.proofs.Quartered.{side_le}
 use Rattle.quilt_points.proofs.Finds.{has_along, if_some_at}
@@ -26,8 +26,7 @@ climb-preserved g c = record {
       (c.climb.invariant.way points p label h some way);
   block = if_some_at c.in-Ok-Some.field-0 _ c.in-Ok-Some.up c.in-Ok-Some.field-0-is c.in-Ok-Some.ensures.block;
   pixels = if_some_at c.in-Ok-Some.field-0 _ c.in-Ok-Some.up c.in-Ok-Some.field-0-is c.in-Ok-Some.ensures.pixels;
-  faults = let m = c.climb.invariant.faults in let n = c.in-Ok-Some.ensures.cause.later in omega arith;
-  left = only_read_then _ _ _ _ _ g.met.S.PageStore.goes_on _ _ _ c.climb.invariant.left c.in-Ok-Some.ensures.left;
+  left = read_on _ g.met.S.PageStore.goes_on _ _ _ c.climb.invariant.left c.in-Ok-Some.ensures.left;
 }
 
 pub returns-in-Ok-None-clause-last : goal.returns-in-Ok-None-clause-last
@@ -37,7 +36,7 @@ returns-in-Ok-None-clause-last g c points p label h some way =
     (c.climb.invariant.way points p label h some way)
 
 pub returns-in-Err-clause-left : goal.returns-in-Err-clause-left
-returns-in-Err-clause-left g c = only_read_then _ _ _ _ _ g.met.S.PageStore.goes_on _ _ _ c.climb.invariant.left c.in-Err.ensures.left
+returns-in-Err-clause-left g c = only_reads_err _ (only_reads_then _ g.met.S.PageStore.goes_on _ _ _ c.climb.invariant.left c.in-Err.ensures.left)
 
 pub returns-in-Ok-None-clause-left : goal.returns-in-Ok-None-clause-left
-returns-in-Ok-None-clause-left g c = only_read_then _ _ _ _ _ g.met.S.PageStore.goes_on _ _ _ c.climb.invariant.left c.in-Ok-None.ensures.left
+returns-in-Ok-None-clause-left g c = only_reads_ok _ (only_reads_then _ g.met.S.PageStore.goes_on _ _ _ c.climb.invariant.left c.in-Ok-None.ensures.left) _

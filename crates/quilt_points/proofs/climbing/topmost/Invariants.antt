@@ -1,6 +1,6 @@
 use Rattle.std.proofs.Common.{◌≡◌, ℕ, ◌-◌, ◌≤◌, true, All, Some}
 use Rattle.std.specs.FinMap as finmap
-use Rattle.quilt_store.specs.Store.{IsOnlyRead}
+use Rattle.quilt_store.specs.Calls.{IsOnlyRead}
 use Rattle.quilt_types.specs.declared.plane.Pixel.{Pixel}
 use Rattle.quilt_types.specs.Plane.{is_pixel, IsBlock}
 use Rattle.quilt_types.specs.Layers.{PointMap}
@@ -19,6 +19,5 @@ invariant-climb g l = record {
       → IsOnWay l.layer.level l.layer.bucket points p l.top.block l.top.points.items;
   block : IsBlock l.layer.level l.top.block;
   pixels : All (λ p. is_pixel l.layer.level p.at ≡ true) l.top.points.items;
-  faults : g.S.PageStore.faults l.initial.store ≤ g.S.PageStore.faults l.store;
-  left : IsOnlyRead g.S.PageStore.size g.S.PageStore.told g.S.PageStore.free g.S.PageStore.later g.S.PageStore.changed l.initial.store l.store;
+  left : IsOnlyRead g.S.PageStore l.initial.store l.store;
 }

@@ -1,6 +1,6 @@
 use Rattle.std.proofs.Common.{ℕ, ◌*◌, length, refl, ◌∙◌, arith}
 use Rattle.std.proofs.lemmas.List.{length-set}
-use Rattle.quilt_store.proofs.Reading.{only_read_then, only_read_same}
+use Rattle.quilt_store.proofs.Reading.{only_reads_then, only_reads_same, read_on, only_reads_err}
 use Rattle.quilt_types.specs.Quadtrees.{point_blocks}
 use Rattle.quilt_loc.proofs.Blocks.{Holds-from}
 use Rattle.quilt_loc.proofs.Intervals.{code_held}
@@ -17,8 +17,7 @@ loop-code-init g c = record {
       let s = seen_none c.args.level c.args.bucket points _ (λ k le. zeros_at 13 k) in
       let none = s.1 in
       (s.0, tells_less 0 _ _ _ (omega arith) (tells_none (g.S.PageStore.reads c.args.store.now)));
-  faults = omega arith;
-  left = only_read_same _ _ _ _ _ _ (g.met.S.PageStore.same_time _);
+  left = only_reads_same _ tt _ (g.met.S.PageStore.same_time _);
 }
 
 pub pixel_of-requires : goal.pixel_of-requires
@@ -72,8 +71,7 @@ loop-code-preserved g c =
           c.exponent_of.ensures.value long in
           let length_is = more.1 in
           (more.0, tells_more (6 * length (s.0).blocks) 6 _ _ _ _ (omega arith) s.1 c.in-Ok.ensures.reads);
-      faults = let m = c.loop-code.invariant.faults in let n = c.in-Ok.ensures.cause.later in omega arith;
-      left = only_read_then _ _ _ _ _ g.met.S.PageStore.goes_on _ _ _ c.loop-code.invariant.left c.in-Ok.ensures.left;
+      left = read_on _ g.met.S.PageStore.goes_on _ _ _ c.loop-code.invariant.left c.in-Ok.ensures.left;
     }
 
 pub returns-clause-counts : goal.returns-clause-counts
@@ -93,4 +91,4 @@ returns-clause-reads g c points h =
     tells_less (6 * length (s.0).blocks) (6 * length (point_blocks c.args.level c.args.bucket points)) _ _ (omega arith) s.1
 
 pub returns-in-Err-clause-left : goal.returns-in-Err-clause-left
-returns-in-Err-clause-left g c = only_read_then _ _ _ _ _ g.met.S.PageStore.goes_on _ _ _ c.loop-code.invariant.left c.in-Err.ensures.left
+returns-in-Err-clause-left g c = only_reads_err _ (only_reads_then _ g.met.S.PageStore.goes_on _ _ _ c.loop-code.invariant.left c.in-Err.ensures.left)

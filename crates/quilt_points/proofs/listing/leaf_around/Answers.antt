@@ -1,4 +1,4 @@
-use Rattle.quilt_store.proofs.Reading.{only_read_then}
+use Rattle.quilt_store.proofs.Reading.{only_reads_then, only_reads_err, only_reads_ok, only_reads_free}
 use Rattle.quilt_points.proofs.Finds.{has_along, match_none, match_some}
 use Rattle.quilt_points.proofs.listing.leaf_around.Goals as goal
 
@@ -20,10 +20,10 @@ returns-in-Ok-Some-clause-read g c points h =
     (has_along _ _ c.args.tree.now c.args.layer.number c.args.layer.level c.args.layer.bucket points c.in-Ok.ensures.left.told h))
 
 pub returns-in-Err-points_of-clause-left : goal.returns-in-Err-points_of-clause-left
-returns-in-Err-points_of-clause-left g c = only_read_then _ _ _ _ _ g.met.S.PageStore.goes_on _ _ _ c.in-Ok.ensures.left c.in-Err-points_of.ensures.left
+returns-in-Err-points_of-clause-left g c = only_reads_err _ (only_reads_then _ g.met.S.PageStore.goes_on _ _ _ c.in-Ok.ensures.left c.in-Err-points_of.ensures.left)
 
 pub returns-in-Ok-None-clause-left : goal.returns-in-Ok-None-clause-left
-returns-in-Ok-None-clause-left g c = only_read_then _ _ _ _ _ g.met.S.PageStore.goes_on _ _ _ c.in-Ok.ensures.left c.in-Ok-None.ensures.left
+returns-in-Ok-None-clause-left g c = only_reads_free _ _ (only_reads_then _ g.met.S.PageStore.goes_on _ _ _ c.in-Ok.ensures.left c.in-Ok-None.ensures.left) (λ is. cc)
 
 pub returns-in-Ok-Some-clause-left : goal.returns-in-Ok-Some-clause-left
-returns-in-Ok-Some-clause-left g c = only_read_then _ _ _ _ _ g.met.S.PageStore.goes_on _ _ _ c.in-Ok.ensures.left c.in-Ok-Some.ensures.left
+returns-in-Ok-Some-clause-left g c = only_reads_ok _ (only_reads_then _ g.met.S.PageStore.goes_on _ _ _ c.in-Ok.ensures.left c.in-Ok-Some.ensures.left) _

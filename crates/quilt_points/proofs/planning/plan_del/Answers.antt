@@ -1,6 +1,6 @@
 use Rattle.std.proofs.Common.{List, refl, sym, ◌∙◌, ap, subst, Contains}
 use Rattle.std.specs.FinMap as finmap
-use Rattle.quilt_store.proofs.Reading.{only_read_then}
+use Rattle.quilt_store.proofs.Reading.{only_reads_then, only_reads_err, only_reads_ok}
 use Rattle.quilt_types.specs.declared.plane.Point.{Point}
 use Rattle.quilt_types.specs.Plane.{in_block}
 use Rattle.quilt_points.specs.Plans.{IsPlan}
@@ -44,7 +44,7 @@ returns-in-Ok-take_from-clause-none g c points h =
     (λ e. absurd (false_true (sym e)), λ n. absurd (none_some _ (sym (none_is (finmap.get points c.args.at) n) ∙ some)))
 
 pub returns-in-Err-take_from-clause-left : goal.returns-in-Err-take_from-clause-left
-returns-in-Err-take_from-clause-left g c = only_read_then _ _ _ _ _ g.met.S.PageStore.goes_on _ _ _ c.in-Ok.ensures.left c.in-Err-take_from.ensures.left
+returns-in-Err-take_from-clause-left g c = only_reads_err _ (only_reads_then _ g.met.S.PageStore.goes_on _ _ _ c.in-Ok.ensures.left c.in-Err-take_from.ensures.left)
 
 pub returns-in-Ok-take_from-clause-left : goal.returns-in-Ok-take_from-clause-left
-returns-in-Ok-take_from-clause-left g c = only_read_then _ _ _ _ _ g.met.S.PageStore.goes_on _ _ _ c.in-Ok.ensures.left c.in-Ok-take_from.ensures.left
+returns-in-Ok-take_from-clause-left g c = only_reads_ok _ (only_reads_then _ g.met.S.PageStore.goes_on _ _ _ c.in-Ok.ensures.left c.in-Ok-take_from.ensures.left) _

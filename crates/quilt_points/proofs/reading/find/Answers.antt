@@ -1,6 +1,6 @@
 use Rattle.std.proofs.Common.{◌∙◌}
 use Rattle.std.proofs.lemmas.Result.{IfErr-weaker}
-use Rattle.quilt_store.proofs.Reading.{only_read_then}
+use Rattle.quilt_store.proofs.Reading.{only_reads_then}
 use Rattle.quilt_points.proofs.Finds.{one_found_at, has_along}
 use Rattle.quilt_points.proofs.reading.find.Goals as goal
 
@@ -16,4 +16,4 @@ returns-else-bucket-eq1-clause-sound g c =
     (c.in-Ok.ensures.read points h).block c.in-Ok.ensures.holds) c.label_in.ensures.sound
 
 pub returns-else-bucket-eq1-clause-left : goal.returns-else-bucket-eq1-clause-left
-returns-else-bucket-eq1-clause-left g c = only_read_then _ _ _ _ _ g.met.S.PageStore.goes_on _ _ _ c.in-Ok.ensures.left c.label_in.ensures.left
+returns-else-bucket-eq1-clause-left g c = only_reads_then _ g.met.S.PageStore.goes_on _ _ _ c.in-Ok.ensures.left c.label_in.ensures.left

@@ -1,6 +1,6 @@
 use Rattle.std.proofs.Common.{◌+◌, ◌++◌, [], List, take, drop, length, sym, ap, subst, arith, Contains}
 use Rattle.std.proofs.lemmas.List.{take_all, drop_all, length-drop}
-use Rattle.quilt_store.proofs.Reading.{only_read_then, only_read_same}
+use Rattle.quilt_store.proofs.Reading.{only_reads_then, only_reads_same, read_on, only_reads_err, only_reads_ok}
 use Rattle.quilt_types.specs.declared.plane.Point.{Point}
 use Rattle.quilt_record.specs.declared.record.Record.{Record}
 use Rattle.quilt_loc.specs.Codes.{Rises}
@@ -19,8 +19,7 @@ loop-done-init g c = record {
       (subst (IsGrown c.args.layer.level c.args.layer.number c.args.layer.bucket old [] c.args.news.now []) (sym c.new-2.ensures.items)
       (grown_none c.args.layer.level c.args.layer.number c.args.layer.bucket old c.args.news.now));
   most = omega arith;
-  faults = omega arith;
-  left = only_read_same _ _ _ _ _ _ (g.met.S.PageStore.same_time _);
+  left = only_reads_same _ tt _ (g.met.S.PageStore.same_time _);
 }
 
 pub add_block-requires-clause-order : goal.add_block-requires-clause-order
@@ -69,8 +68,7 @@ loop-done-preserved g c =
           c.add_block.new.growth.without.items c.add_block.new.growth.with.items c.in-Ok-Some.count (c.loop-done.invariant.grown old h) t some
           (omega arith) alone));
       most = omega arith;
-      faults = let m = c.loop-done.invariant.faults in let n = c.in-Ok-Some.ensures.cause.later in omega arith;
-      left = only_read_then _ _ _ _ _ g.met.S.PageStore.goes_on _ _ _ c.loop-done.invariant.left c.in-Ok-Some.ensures.left;
+      left = read_on _ g.met.S.PageStore.goes_on _ _ _ c.loop-done.invariant.left c.in-Ok-Some.ensures.left;
     }
 
 pub returns-clause-grown : goal.returns-clause-grown
@@ -82,7 +80,7 @@ returns-clause-grown g c old h =
     (c.loop-done.invariant.grown old h))
 
 pub returns-in-Err-clause-left : goal.returns-in-Err-clause-left
-returns-in-Err-clause-left g c = only_read_then _ _ _ _ _ g.met.S.PageStore.goes_on _ _ _ c.loop-done.invariant.left c.in-Err.ensures.left
+returns-in-Err-clause-left g c = only_reads_err _ (only_reads_then _ g.met.S.PageStore.goes_on _ _ _ c.loop-done.invariant.left c.in-Err.ensures.left)
 
 pub returns-in-Ok-None-clause-left : goal.returns-in-Ok-None-clause-left
-returns-in-Ok-None-clause-left g c = only_read_then _ _ _ _ _ g.met.S.PageStore.goes_on _ _ _ c.loop-done.invariant.left c.in-Ok-None.ensures.left
+returns-in-Ok-None-clause-left g c = only_reads_ok _ (only_reads_then _ g.met.S.PageStore.goes_on _ _ _ c.loop-done.invariant.left c.in-Ok-None.ensures.left) _

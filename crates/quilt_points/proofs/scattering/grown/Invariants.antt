@@ -1,5 +1,5 @@
 use Rattle.std.proofs.Common.{◌-◌, ◌≤◌, take, drop, length}
-use Rattle.quilt_store.specs.Store.{IsOnlyRead}
+use Rattle.quilt_store.specs.Calls.{IsOnlyRead}
 use Rattle.quilt_types.specs.Layers.{PointMap}
 use Rattle.quilt_points.specs.Layers.{HasPoints}
 use Rattle.quilt_points.specs.Scattering.{IsGrown}
@@ -13,6 +13,5 @@ invariant-loop-done g l = record {
   grown : (old : PointMap) → HasPoints (g.S.PageStore.told l.initial.store) l.tree l.layer.number l.layer.level l.layer.bucket old
       → IsGrown l.layer.level l.layer.number l.layer.bucket old (take l.done l.news) (drop l.done l.news) l.growth.without.items l.growth.with.items;
   most : l.done ≤ length l.news;
-  faults : g.S.PageStore.faults l.initial.store ≤ g.S.PageStore.faults l.store;
-  left : IsOnlyRead g.S.PageStore.size g.S.PageStore.told g.S.PageStore.free g.S.PageStore.later g.S.PageStore.changed l.initial.store l.store;
+  left : IsOnlyRead g.S.PageStore l.initial.store l.store;
 }

@@ -1,7 +1,7 @@
 use Rattle.std.proofs.Common.{ℕ, ◌++◌, [], List, length, filter, get_or, sym, ◌∙◌, ap, subst, arith, Contains}
 use Rattle.std.proofs.lemmas.List.{append-nil}
 use Rattle.std.proofs.lemmas.Result.{on_ok_weaker}
-use Rattle.quilt_store.proofs.Reading.{only_read_then}
+use Rattle.quilt_store.proofs.Reading.{only_reads_then, read_on, only_reads_err, only_reads_ok}
 use Rattle.quilt_types.specs.declared.plane.Block.{Block}
 use Rattle.quilt_types.specs.declared.plane.Point.{Point}
 use Rattle.quilt_types.specs.Plane.{in_window}
@@ -43,8 +43,7 @@ quarters-q-items-requires-clause-valid g t c = IsBlock-up c.args.layer.level 12 
 pub loop-q-init : goal.loop-q-init
 loop-q-init g t c = record {
   found = λ points h o. ([], sym (append-nil c.args.found.now.items), all_none points (in_window c.args.w));
-  faults = c.in-Ok-None.ensures.cause.later;
-  left = c.in-Ok-None.ensures.left;
+  left = only_reads_ok _ c.in-Ok-None.ensures.left tt;
 }
 
 pub add_within-requires : goal.add_within-requires
@@ -82,8 +81,7 @@ loop-q-preserved g t c = record {
       c.quarters-q-items.ensures.value
       (member_at c.quarters-q-items.result c.loop-q.q-index (record { y = 0; x = 0; side = 0 }) (let lt = c.loop-q-test.true in
       let four = ap length c.quarters-q-items.ensures.value in omega arith)))));
-  faults = let m = c.loop-q.invariant.faults in let n = c.in-Ok.ensures.cause.later in omega arith;
-  left = only_read_then _ _ _ _ _ g.met.S.PageStore.goes_on _ _ _ c.loop-q.invariant.left c.in-Ok.ensures.left;
+  left = read_on _ g.met.S.PageStore.goes_on _ _ _ c.loop-q.invariant.left c.in-Ok.ensures.left;
 }
 
 pub returns-clause-found : goal.returns-clause-found
@@ -93,4 +91,4 @@ returns-clause-found g t c points h o =
     c.args.found.now.items c.loop-q.found.items (c.loop-q.invariant.found points h o)
 
 pub returns-in-Err-add_within-clause-left : goal.returns-in-Err-add_within-clause-left
-returns-in-Err-add_within-clause-left g t c = only_read_then _ _ _ _ _ g.met.S.PageStore.goes_on _ _ _ c.loop-q.invariant.left c.in-Err-add_within.ensures.left
+returns-in-Err-add_within-clause-left g t c = only_reads_err _ (only_reads_then _ g.met.S.PageStore.goes_on _ _ _ c.loop-q.invariant.left c.in-Err-add_within.ensures.left)

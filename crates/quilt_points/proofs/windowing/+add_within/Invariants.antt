@@ -1,5 +1,5 @@
 use Rattle.std.proofs.Common.{◌≡◌, ◌≤◌, ◌++◌, List, take}
-use Rattle.quilt_store.specs.Store.{IsOnlyRead}
+use Rattle.quilt_store.specs.Calls.{IsOnlyRead}
 use Rattle.quilt_types.specs.declared.plane.Point.{Point}
 use Rattle.quilt_types.specs.Plane.{in_window}
 use Rattle.quilt_types.specs.Layers.{PointMap}
@@ -16,6 +16,5 @@ invariant-loop-q g l = record {
   found : (points : PointMap) → HasPoints (g.S.PageStore.told l.fn.store) l.tree l.layer.number l.layer.level l.layer.bucket points
       → IsOpen l.layer.level l.layer.bucket points l.fn.b → (here : List Point) × (l.found.items ≡ l.fn.found.items ++ here)
       × AreOfAll points (in_window l.w) (take l.q-index l.q-items) (entries_of here);
-  faults : g.S.PageStore.faults l.fn.store ≤ g.S.PageStore.faults l.store;
-  left : IsOnlyRead g.S.PageStore.size g.S.PageStore.told g.S.PageStore.free g.S.PageStore.later g.S.PageStore.changed l.fn.store l.store;
+  left : IsOnlyRead g.S.PageStore l.fn.store l.store;
 }

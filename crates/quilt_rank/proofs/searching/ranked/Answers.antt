@@ -1,5 +1,5 @@
 use Rattle.std.proofs.Common.{◌≡◌, ◌+◌, ◌≤◌, List, length, sym, ◌∙◌, subst, arith}
-use Rattle.quilt_store.proofs.Reading.{only_read_then, only_read_same}
+use Rattle.quilt_store.proofs.Reading.{only_reads_then, only_reads_same, read_on, only_reads_err}
 use Rattle.quilt_types.specs.Quadtrees.{reach}
 use Rattle.quilt_store.specs.Store.{Tells}
 use Rattle.quilt_near.specs.Budgets.{is_close}
@@ -17,8 +17,7 @@ loop-distance-init g c =
     (g.met.B.SegBlocks.lines c.args.blocks.now c.args.store.now) (g.S.PageStore.reads c.args.store.now) _ c.in-Ok.ensures.first in
     record {
       going = subst (Going _ c.args.p c.args.k _ _ _ _) (sym c.new-ranks.ensures) first;
-      left = only_read_same _ _ _ _ _ _ (g.met.S.PageStore.same_time c.args.store.now);
-      faults = omega arith;
+      left = only_reads_same _ tt _ (g.met.S.PageStore.same_time c.args.store.now);
     }
 
 pub open-requires-clause-block : goal.open-requires-clause-block
@@ -60,8 +59,7 @@ loop-distance-preserved g c =
           (g.S.PageStore.reads c.open.new.store) c.open.new.queue c.open.new.ranks (g.B.SegBlocks.shows c.args.blocks.now c.loop-distance.store)
           (λ l s. g.met.B.SegBlocks.same c.args.blocks.now c.args.store.now c.loop-distance.store l i.left.told s)
           c.in-Some.ensures.least (sym c.is_past.ensures ∙ c.if-is_past.false) c.in-Ok-open.ensures.opened;
-      left = only_read_then _ _ _ _ _ g.met.S.PageStore.goes_on c.args.store.now c.loop-distance.store c.open.new.store i.left c.open.ensures.left;
-      faults = (let a = c.open.ensures.cause.later in let b = i.faults in omega arith);
+      left = read_on _ g.met.S.PageStore.goes_on c.args.store.now c.loop-distance.store c.open.new.store i.left c.open.ensures.left;
     }
 
 -- at either end those so far are the answer
@@ -96,4 +94,4 @@ returns-clause-reads g c l s long =
     long
 
 pub returns-in-Err-open-clause-left : goal.returns-in-Err-open-clause-left
-returns-in-Err-open-clause-left g c = only_read_then _ _ _ _ _ g.met.S.PageStore.goes_on _ _ _ c.loop-distance.invariant.left c.in-Err-open.ensures.left
+returns-in-Err-open-clause-left g c = only_reads_err _ (only_reads_then _ g.met.S.PageStore.goes_on _ _ _ c.loop-distance.invariant.left c.in-Err-open.ensures.left)

@@ -1,5 +1,5 @@
 use Rattle.std.proofs.Common.{◌≤◌}
-use Rattle.quilt_store.specs.Store.{IsOnlyRead}
+use Rattle.quilt_store.specs.Calls.{IsOnlyRead}
 use Rattle.quilt_near.proofs.Owing.{left}
 use Rattle.quilt_rank.proofs.Goings.{Going, block_of}
 use Rattle.quilt_rank.proofs.searching.ranked.Given as goal
@@ -8,8 +8,7 @@ abbrev pub invariant-loop-distance : goal.invariant-loop-distance
 invariant-loop-distance g l = record {
   going : Going (g.B.SegBlocks.level_of l.blocks) l.p l.k (g.B.SegBlocks.shows l.blocks l.fn.store) (g.S.PageStore.reads l.fn.store)
       (g.S.PageStore.reads l.store) l.queue l.ranks;
-  left : IsOnlyRead g.S.PageStore.size g.S.PageStore.told g.S.PageStore.free g.S.PageStore.later g.S.PageStore.changed l.fn.store l.store;
-  faults : g.S.PageStore.faults l.fn.store ≤ g.S.PageStore.faults l.store;
+  left : IsOnlyRead g.S.PageStore l.fn.store l.store;
 }
 
 abbrev pub decreases-loop-distance : goal.decreases-loop-distance

@@ -1,5 +1,5 @@
 use Rattle.std.proofs.Common.{◌≡◌, ◌*◌, refl, sym, ◌∙◌, ap, subst, arith}
-use Rattle.quilt_store.proofs.Reading.{only_read_then, only_read_same}
+use Rattle.quilt_store.proofs.Reading.{only_reads_then, only_reads_same, read_on, only_reads_err, only_reads_ok}
 use Rattle.quilt_types.specs.declared.plane.Block.{Block}
 use Rattle.quilt_types.specs.Plane.{parent_of, IsBlock, Within}
 use Rattle.quilt_loc.proofs.Blocks.{side_most}
@@ -19,8 +19,7 @@ loop-larger-init g c = record {
   inside = Within-self c.args.b;
   same = λ grid h. around_self c.args.level grid c.args.b c.args.c.0;
   cut_out = λ grid h out. out;
-  left = only_read_same _ _ _ _ _ _ (g.met.S.PageStore.same_time c.args.store.now);
-  faults = omega arith;
+  left = only_reads_same _ tt _ (g.met.S.PageStore.same_time c.args.store.now);
   reads = λ j k d e. let same = pow_same j k (sym d ∙ e) in saved_none (24 * j) (24 * k) (g.S.PageStore.reads c.args.store.now) (omega arith);
 }
 
@@ -53,8 +52,7 @@ loop-larger-preserved g c =
           (more.yes c.in-Ok-true.field-0-test grid (subst (λ told. HasRegion told c.args.tree.now c.args.layer n grid) (sym inv.left.told) h));
       cut_out = λ grid h out. more.cut_out c.in-Ok-true.field-0-test grid
           (subst (λ told. HasRegion told c.args.tree.now c.args.layer n grid) (sym inv.left.told) h);
-      left = only_read_then _ _ _ _ _ g.met.S.PageStore.goes_on _ _ _ inv.left more.left;
-      faults = let a = inv.faults in let b = more.cause.later in omega arith;
+      left = read_on _ g.met.S.PageStore.goes_on _ _ _ inv.left more.left;
       reads = λ j k d e.
           let next = level_more n top inv.block lt k (ap (λ (z : Block). z.side) (sym is) ∙ e) in
           saved_then (24 * j) (24 * inv.block.level) 24 (24 * k) _ _ _ (omega arith) (inv.reads j inv.block.level d inv.block.size) more.reads;
@@ -97,7 +95,7 @@ returns-clause-reads g c j d =
     saved_more (24 * j) (24 * j) (24 * inv.block.level) (24 * c.args.level) _ _ (omega arith) (inv.reads j inv.block.level d inv.block.size)
 
 pub returns-in-Err-clause-left : goal.returns-in-Err-clause-left
-returns-in-Err-clause-left g c = only_read_then _ _ _ _ _ g.met.S.PageStore.goes_on _ _ _ c.loop-larger.invariant.left c.in-Err.ensures.left
+returns-in-Err-clause-left g c = only_reads_err _ (only_reads_then _ g.met.S.PageStore.goes_on _ _ _ c.loop-larger.invariant.left c.in-Err.ensures.left)
 
 pub returns-in-Ok-false-clause-left : goal.returns-in-Ok-false-clause-left
-returns-in-Ok-false-clause-left g c = only_read_then _ _ _ _ _ g.met.S.PageStore.goes_on _ _ _ c.loop-larger.invariant.left c.in-Ok-false.ensures.left
+returns-in-Ok-false-clause-left g c = only_reads_ok _ (only_reads_then _ g.met.S.PageStore.goes_on _ _ _ c.loop-larger.invariant.left c.in-Ok-false.ensures.left) _

@@ -1,7 +1,8 @@
 use Rattle.std.proofs.Common.{◌≡◌, ℕ, ◌+◌, ◌-◌, ◌*◌, ◌^◌, ◌≤◌}
 use Rattle.quilt_types.specs.Plane.{IsBlock, Within}
 use Rattle.quilt_types.specs.Layers.{Grid}
-use Rattle.quilt_store.specs.Store.{IsOnlyRead, Tells}
+use Rattle.quilt_store.specs.Calls.{IsOnlyRead}
+use Rattle.quilt_store.specs.Store.{Tells}
 use Rattle.quilt_region.specs.Regions.{HasRegion}
 use Rattle.quilt_region.specs.Windows.{HasAround, IsCutOut}
 use Rattle.quilt_region.proofs.nearing.block_up_to.Given as goal
@@ -16,8 +17,7 @@ invariant-loop-larger g l = record {
   same : (grid : Grid) → HasRegion (g.S.PageStore.told l.initial.store) l.tree l.layer l.level grid → HasAround l.level grid l.top l.fn.b l.c.0;
   cut_out : (grid : Grid) → HasRegion (g.S.PageStore.told l.initial.store) l.tree l.layer l.level grid → IsCutOut l.level grid l.fn.b
       → IsCutOut l.level grid l.top;
-  left : IsOnlyRead g.S.PageStore.size g.S.PageStore.told g.S.PageStore.free g.S.PageStore.later g.S.PageStore.changed l.initial.store l.store;
-  faults : g.S.PageStore.faults l.initial.store ≤ g.S.PageStore.faults l.store;
+  left : IsOnlyRead g.S.PageStore l.initial.store l.store;
   reads : (j k : ℕ) → l.fn.b.side ≡ 2 ^ j → l.top.side ≡ 2 ^ k
       → Tells {A = ℕ} (λ old new. new + 24 * j ≤ old + 24 * k) (g.S.PageStore.reads l.initial.store) (g.S.PageStore.reads l.store);
 }

@@ -1,7 +1,7 @@
 use Rattle.std.proofs.Common.{◌≡◌, ℕ, ◌+◌, ◌*◌, ◌^◌, ◌<◌, get_or, sym, ◌∙◌, ap, subst, ⊎_elim, Contains, arith}
 use Rattle.std.proofs.lemmas.Bool.{cases_lt}
 use Rattle.std.proofs.lemmas.List.{get_or_default}
-use Rattle.quilt_store.proofs.Reading.{only_read_then}
+use Rattle.quilt_store.proofs.Reading.{only_reads_then, read_on, only_reads_err, only_reads_ok}
 use Rattle.quilt_types.specs.declared.plane.Block.{Block}
 use Rattle.quilt_types.specs.Plane.{quarters_of, parent_of, IsBlock}
 use Rattle.quilt_types.specs.Quadtrees.{is_uniform, leaves}
@@ -56,8 +56,7 @@ loop-q-preserved g c =
           (more.yes c.in-Ok-true.field-0-test grid (subst (λ told. HasRegion told c.args.tree.now c.args.layer c.args.level grid) (sym inv.left.told) h)
           (λ e. differ (sym q ∙ e))))
           (cases_lt j c.loop-q.q-index);
-      left = only_read_then _ _ _ _ _ g.met.S.PageStore.goes_on _ _ _ inv.left more.left;
-      faults = let a = inv.faults in let b = more.cause.later in omega arith;
+      left = read_on _ g.met.S.PageStore.goes_on _ _ _ inv.left more.left;
       reads = reads_then (6 * c.loop-q.q-index) 6 (6 * (c.loop-q.q-index + 1)) _ _ _ (omega arith) inv.reads more.reads;
     }
 
@@ -106,7 +105,7 @@ returns-clause-cut_out g c t grid h =
     }
 
 pub returns-in-Err-clause-left : goal.returns-in-Err-clause-left
-returns-in-Err-clause-left g c = only_read_then _ _ _ _ _ g.met.S.PageStore.goes_on _ _ _ c.loop-q.invariant.left c.in-Err.ensures.left
+returns-in-Err-clause-left g c = only_reads_err _ (only_reads_then _ g.met.S.PageStore.goes_on _ _ _ c.loop-q.invariant.left c.in-Err.ensures.left)
 
 pub returns-in-Ok-false-clause-left : goal.returns-in-Ok-false-clause-left
-returns-in-Ok-false-clause-left g c = only_read_then _ _ _ _ _ g.met.S.PageStore.goes_on _ _ _ c.loop-q.invariant.left c.in-Ok-false.ensures.left
+returns-in-Ok-false-clause-left g c = only_reads_ok _ (only_reads_then _ g.met.S.PageStore.goes_on _ _ _ c.loop-q.invariant.left c.in-Ok-false.ensures.left) _

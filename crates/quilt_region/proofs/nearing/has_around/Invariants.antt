@@ -3,7 +3,8 @@ use Rattle.quilt_types.specs.declared.plane.Block.{Block}
 use Rattle.quilt_types.specs.Plane.{quarters_of}
 use Rattle.quilt_types.specs.Layers.{Grid}
 use Rattle.quilt_types.specs.Quadtrees.{leaves}
-use Rattle.quilt_store.specs.Store.{IsOnlyRead, Tells}
+use Rattle.quilt_store.specs.Calls.{IsOnlyRead}
+use Rattle.quilt_store.specs.Store.{Tells}
 use Rattle.quilt_region.specs.Regions.{HasRegion}
 use Rattle.quilt_region.proofs.nearing.has_around.Given as goal
 
@@ -11,7 +12,6 @@ abbrev pub invariant-loop-q : goal.invariant-loop-q
 invariant-loop-q g l = record {
   others : (j : ℕ) (d : Block) (grid : Grid) → j < l.q-index → HasRegion (g.S.PageStore.told l.initial.store) l.tree l.layer l.level grid
       → (get_or (quarters_of l.fn.larger) j d ≡ l.b → ⊥) → Contains (leaves l.level grid) (get_or (quarters_of l.fn.larger) j d, l.c.0);
-  left : IsOnlyRead g.S.PageStore.size g.S.PageStore.told g.S.PageStore.free g.S.PageStore.later g.S.PageStore.changed l.initial.store l.store;
-  faults : g.S.PageStore.faults l.initial.store ≤ g.S.PageStore.faults l.store;
+  left : IsOnlyRead g.S.PageStore l.initial.store l.store;
   reads : Tells {A = ℕ} (λ old new. new ≤ old + 6 * l.q-index) (g.S.PageStore.reads l.initial.store) (g.S.PageStore.reads l.store);
 }

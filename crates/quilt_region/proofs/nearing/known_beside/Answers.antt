@@ -1,6 +1,6 @@
 use Rattle.std.proofs.Common.{sym, ◌∙◌, subst}
 use Rattle.quilt_types.specs.declared.plane.Block.{Block}
-use Rattle.quilt_store.proofs.Reading.{only_read_then}
+use Rattle.quilt_store.proofs.Reading.{only_reads_then, only_reads_err, only_reads_ok}
 use Rattle.quilt_blocks.proofs.Maximal.{Within-self}
 use Rattle.quilt_region.specs.Regions.{HasRegion}
 use Rattle.quilt_region.specs.Windows.{HasAround}
@@ -34,10 +34,10 @@ returns-in-Ok-false-clause-knows g c grid h =
     }
 
 pub returns-in-Err-has_around-clause-left : goal.returns-in-Err-has_around-clause-left
-returns-in-Err-has_around-clause-left g c = only_read_then _ _ _ _ _ g.met.S.PageStore.goes_on _ _ _ c.in-Ok.ensures.left c.in-Err-has_around.ensures.left
+returns-in-Err-has_around-clause-left g c = only_reads_err _ (only_reads_then _ g.met.S.PageStore.goes_on _ _ _ c.in-Ok.ensures.left c.in-Err-has_around.ensures.left)
 
 pub returns-in-Ok-true-clause-left : goal.returns-in-Ok-true-clause-left
-returns-in-Ok-true-clause-left g c = only_read_then _ _ _ _ _ g.met.S.PageStore.goes_on _ _ _ c.in-Ok.ensures.left c.in-Ok-true.ensures.left
+returns-in-Ok-true-clause-left g c = only_reads_ok _ (only_reads_then _ g.met.S.PageStore.goes_on _ _ _ c.in-Ok.ensures.left c.in-Ok-true.ensures.left) _
 
 pub returns-in-Ok-false-clause-left : goal.returns-in-Ok-false-clause-left
-returns-in-Ok-false-clause-left g c = only_read_then _ _ _ _ _ g.met.S.PageStore.goes_on _ _ _ c.in-Ok.ensures.left c.in-Ok-false.ensures.left
+returns-in-Ok-false-clause-left g c = only_reads_ok _ (only_reads_then _ g.met.S.PageStore.goes_on _ _ _ c.in-Ok.ensures.left c.in-Ok-false.ensures.left) _

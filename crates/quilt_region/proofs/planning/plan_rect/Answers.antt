@@ -1,6 +1,6 @@
 use Rattle.std.proofs.Common.{ℕ, ◌+◌, ◌*◌, ◌≤◌, length, sym, ap, subst, arith}
 use Rattle.std.specs.Option.{is_some}
-use Rattle.quilt_store.proofs.Reading.{only_read_then}
+use Rattle.quilt_store.proofs.Reading.{only_reads_then}
 use Rattle.quilt_types.specs.declared.plane.Block.{Block}
 use Rattle.quilt_types.specs.Plane.{IsBlock}
 use Rattle.quilt_types.specs.Layers.{Grid}
@@ -78,4 +78,4 @@ returns-in-Ok-None-clause-pixel g c wide high =
     c.plan_together.ensures.reads
 
 pub returns-in-Ok-None-clause-left : goal.returns-in-Ok-None-clause-left
-returns-in-Ok-None-clause-left g c = only_read_then _ _ _ _ _ g.met.S.PageStore.goes_on _ _ _ c.in-Ok-None.ensures.left c.plan_together.ensures.left
+returns-in-Ok-None-clause-left g c = only_reads_then _ g.met.S.PageStore.goes_on _ _ _ c.in-Ok-None.ensures.left c.plan_together.ensures.left

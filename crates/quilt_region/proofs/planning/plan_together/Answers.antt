@@ -1,7 +1,7 @@
 use Rattle.std.proofs.Common.{◌+◌, ◌*◌, length, sym, ◌∙◌, subst, arith}
 use Rattle.quilt_types.specs.declared.plane.Colour.{Colour}
 use Rattle.quilt_types.specs.Algebra.{painted}
-use Rattle.quilt_store.proofs.Reading.{only_read_then}
+use Rattle.quilt_store.proofs.Reading.{only_reads_then, only_reads_err, only_reads_free}
 use Rattle.quilt_region.specs.Plans.{LeadsTo}
 use Rattle.quilt_region.specs.Regions.{HasRegion}
 use Rattle.quilt_region.specs.Windows.{leaves_within}
@@ -49,7 +49,8 @@ returns-in-Ok-records_in-clause-reads g c =
     (c.in-Ok.ensures.reads known.level known.size) (reads_plain 6 (3 * own) _ _ read)))
 
 pub returns-in-Err-records_in-clause-left : goal.returns-in-Err-records_in-clause-left
-returns-in-Err-records_in-clause-left g c = only_read_then _ _ _ _ _ g.met.S.PageStore.goes_on _ _ _ c.in-Ok.ensures.left c.in-Err-records_in.ensures.left
+returns-in-Err-records_in-clause-left g c = only_reads_err _ (only_reads_then _ g.met.S.PageStore.goes_on _ _ _ c.in-Ok.ensures.left c.in-Err-records_in.ensures.left)
 
 pub returns-in-Ok-records_in-clause-left : goal.returns-in-Ok-records_in-clause-left
-returns-in-Ok-records_in-clause-left g c = only_read_then _ _ _ _ _ g.met.S.PageStore.goes_on _ _ _ c.in-Ok.ensures.left c.in-Ok-records_in.ensures.left
+returns-in-Ok-records_in-clause-left g c = only_reads_free _ c.plan_known.result (only_reads_then _ g.met.S.PageStore.goes_on _ _ _ c.in-Ok.ensures.left c.in-Ok-records_in.ensures.left)
+    c.plan_known.ensures.no_fault

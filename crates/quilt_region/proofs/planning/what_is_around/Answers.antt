@@ -1,5 +1,5 @@
 use Rattle.std.proofs.Common.{◌+◌, ◌*◌, sym, ◌∙◌, subst, arith}
-use Rattle.quilt_store.proofs.Reading.{only_read_then}
+use Rattle.quilt_store.proofs.Reading.{only_reads_then, only_reads_err, only_reads_ok}
 use Rattle.quilt_region.specs.Regions.{HasRegion}
 use Rattle.quilt_region.proofs.Counting.{then_saved}
 use Rattle.quilt_region.proofs.planning.what_is_around.Goals as goal
@@ -29,7 +29,7 @@ returns-in-Ok-block_up_to-clause-reads g c j e =
     then_saved (24 * j) 6 (24 * c.args.level) (6 + 24 * c.args.level) _ _ _ (omega arith) c.in-Ok.ensures.reads (c.in-Ok-block_up_to.ensures.reads j e)
 
 pub returns-in-Err-block_up_to-clause-left : goal.returns-in-Err-block_up_to-clause-left
-returns-in-Err-block_up_to-clause-left g c = only_read_then _ _ _ _ _ g.met.S.PageStore.goes_on _ _ _ c.in-Ok.ensures.left c.in-Err-block_up_to.ensures.left
+returns-in-Err-block_up_to-clause-left g c = only_reads_err _ (only_reads_then _ g.met.S.PageStore.goes_on _ _ _ c.in-Ok.ensures.left c.in-Err-block_up_to.ensures.left)
 
 pub returns-in-Ok-block_up_to-clause-left : goal.returns-in-Ok-block_up_to-clause-left
-returns-in-Ok-block_up_to-clause-left g c = only_read_then _ _ _ _ _ g.met.S.PageStore.goes_on _ _ _ c.in-Ok.ensures.left c.in-Ok-block_up_to.ensures.left
+returns-in-Ok-block_up_to-clause-left g c = only_reads_ok _ (only_reads_then _ g.met.S.PageStore.goes_on _ _ _ c.in-Ok.ensures.left c.in-Ok-block_up_to.ensures.left) _

@@ -1,6 +1,6 @@
 use Rattle.std.proofs.Common.{◌≡◌, ℕ, ◌+◌, ◌-◌, ◌*◌, ◌<◌, ◌≤◌, Bool, length, take, get_or, refl, sym, ◌∙◌, ap, subst, ⊎_elim, arith}
 use Rattle.std.specs.List.{sum_by}
-use Rattle.quilt_store.proofs.Reading.{only_read_then}
+use Rattle.quilt_store.proofs.Reading.{only_reads_then, only_reads_err, only_reads_ok}
 use Rattle.quilt_types.specs.declared.plane.Block.{Block}
 use Rattle.quilt_types.specs.declared.plane.Colour.{Colour}
 use Rattle.quilt_types.specs.Plane.{quarters_of, Holds}
@@ -210,16 +210,13 @@ returns-in-Ok-clause-reads g t c test grid h =
     (c.in-Ok-true.ensures.reads c.in-Ok-true.field-0-test grid after) (c.in-Ok.ensures.reads grid later))
 
 pub returns-in-Err-plan_quarters-clause-left : goal.returns-in-Err-plan_quarters-clause-left
-returns-in-Err-plan_quarters-clause-left g t c = only_read_then _ _ _ _ _ g.met.S.PageStore.goes_on _ _ _ c.in-Ok-Some.ensures.left
-    c.in-Err-plan_quarters.ensures.left
+returns-in-Err-plan_quarters-clause-left g t c = only_reads_err _ (only_reads_then _ g.met.S.PageStore.goes_on _ _ _ c.in-Ok-Some.ensures.left c.in-Err-plan_quarters.ensures.left)
 
 pub returns-in-Ok-false-clause-left : goal.returns-in-Ok-false-clause-left
-returns-in-Ok-false-clause-left g t c = only_read_then _ _ _ _ _ g.met.S.PageStore.goes_on _ _ _ c.in-Ok-Some.ensures.left c.in-Ok-false.ensures.left
+returns-in-Ok-false-clause-left g t c = only_reads_ok _ (only_reads_then _ g.met.S.PageStore.goes_on _ _ _ c.in-Ok-Some.ensures.left c.in-Ok-false.ensures.left) _
 
 pub returns-in-Err-plan_part-clause-left : goal.returns-in-Err-plan_part-clause-left
-returns-in-Err-plan_part-clause-left g t c = only_read_then _ _ _ _ _ g.met.S.PageStore.goes_on _ _ _ c.in-Ok-Some.ensures.left
-    (only_read_then _ _ _ _ _ g.met.S.PageStore.goes_on _ _ _ c.in-Ok-true.ensures.left c.in-Err-plan_part.ensures.left)
+returns-in-Err-plan_part-clause-left g t c = only_reads_err _ (only_reads_then _ g.met.S.PageStore.goes_on _ _ _ c.in-Ok-Some.ensures.left (only_reads_then _ g.met.S.PageStore.goes_on _ _ _ c.in-Ok-true.ensures.left c.in-Err-plan_part.ensures.left))
 
 pub returns-in-Ok-clause-left : goal.returns-in-Ok-clause-left
-returns-in-Ok-clause-left g t c = only_read_then _ _ _ _ _ g.met.S.PageStore.goes_on _ _ _ c.in-Ok-Some.ensures.left
-    (only_read_then _ _ _ _ _ g.met.S.PageStore.goes_on _ _ _ c.in-Ok-true.ensures.left c.in-Ok.ensures.left)
+returns-in-Ok-clause-left g t c = only_reads_ok _ (only_reads_then _ g.met.S.PageStore.goes_on _ _ _ c.in-Ok-Some.ensures.left (only_reads_then _ g.met.S.PageStore.goes_on _ _ _ c.in-Ok-true.ensures.left c.in-Ok.ensures.left)) _

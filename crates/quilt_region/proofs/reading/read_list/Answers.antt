@@ -1,6 +1,7 @@
 use Rattle.std.proofs.Common.{ℕ, ◌+◌, ◌*◌, ◌≤◌, length, ◌∙◌, ap, subst, arith}
 use Rattle.quilt_record.specs.declared.key.Key.{Key}
 use Rattle.quilt_store.specs.Store.{Tells}
+use Rattle.quilt_store.proofs.Reading.{only_reads_free}
 use Rattle.quilt_region.proofs.Records.{range_read, region_length}
 use Rattle.quilt_region.proofs.Results.{list_whole, sound_whole, if_ok}
 use Rattle.quilt_region.proofs.reading.read_list.Goals as goal
@@ -26,8 +27,8 @@ returns-in-Ok-clause-sound g c =
     (ap (λ (k : Key). k.part) c.last_key-last.ensures) (omega arith) c.in-Ok.ensures.range h)
     c.list_of.result c.list_of.ensures.sound
 
-pub returns-in-Ok-clause-cause : goal.returns-in-Ok-clause-cause
-returns-in-Ok-clause-cause g c = record { later = c.in-Ok.ensures.cause.later; device = λ e. absurd (c.list_of.ensures.no_fault e) }
+pub returns-in-Ok-clause-left : goal.returns-in-Ok-clause-left
+returns-in-Ok-clause-left g c = only_reads_free _ c.list_of.result c.in-Ok.ensures.left c.list_of.ensures.no_fault
 
 pub returns-in-Ok-clause-reads : goal.returns-in-Ok-clause-reads
 returns-in-Ok-clause-reads g c =

@@ -1,5 +1,5 @@
 use Rattle.std.proofs.Common.{List, ◌∙◌, ap, sym, subst, refl, arith}
-use Rattle.quilt_store.proofs.Reading.{only_read_then, only_read_same}
+use Rattle.quilt_store.proofs.Reading.{only_reads_then, only_reads_same, read_on, only_reads_err}
 use Rattle.quilt_types.specs.declared.plane.Window.{Window}
 use Rattle.quilt_types.specs.Plane.{whole}
 use Rattle.quilt_select.specs.Descents.{IsOpened}
@@ -13,8 +13,7 @@ loop-block-init g c =
           (g.met.B.SegBlocks.lines c.args.blocks.now c.args.store.now) (g.S.PageStore.reads c.args.store.now)
           c.push.new.self c.new-found.result.entries _ c.args.windows.items c.new-stack.result (c.whole_square.ensures ∙ ap whole c.level.ensures.value)
           refl c.new-stack.ensures c.in-Ok.ensures c.new-found.ensures.empty;
-      left = only_read_same _ _ _ _ _ _ (g.met.S.PageStore.same_time c.args.store.now);
-      faults = omega arith;
+      left = only_reads_same _ tt _ (g.met.S.PageStore.same_time c.args.store.now);
     }
 
 pub open-requires-clause-block : goal.open-requires-clause-block
@@ -60,8 +59,7 @@ loop-block-preserved g c =
           (subst (λ (near : List Window). IsOpened c.in-Some.block near (g.B.SegBlocks.shows c.args.blocks.now c.loop-block.store)
           c.pop.new.self c.open.new.stack c.loop-block.found.entries c.open.new.found.entries (g.S.PageStore.reads c.loop-block.store)
           (g.S.PageStore.reads c.open.new.store)) c.deref.ensures.value c.in-Ok-open.ensures.opened);
-      left = only_read_then _ _ _ _ _ g.met.S.PageStore.goes_on c.args.store.now c.loop-block.store c.open.new.store i.left c.open.ensures.left;
-      faults = (let a = c.open.ensures.cause.later in let b = i.faults in omega arith);
+      left = read_on _ g.met.S.PageStore.goes_on c.args.store.now c.loop-block.store c.open.new.store i.left c.open.ensures.left;
     }
 
 pub returns-clause-selected : goal.returns-clause-selected
@@ -78,4 +76,4 @@ returns-clause-reads g c l s =
     (g.S.PageStore.reads c.loop-block.store) c.loop-block.stack c.loop-block.found.entries c.loop-block.invariant.going l s
 
 pub returns-in-Err-open-clause-left : goal.returns-in-Err-open-clause-left
-returns-in-Err-open-clause-left g c = only_read_then _ _ _ _ _ g.met.S.PageStore.goes_on _ _ _ c.loop-block.invariant.left c.in-Err-open.ensures.left
+returns-in-Err-open-clause-left g c = only_reads_err _ (only_reads_then _ g.met.S.PageStore.goes_on _ _ _ c.loop-block.invariant.left c.in-Err-open.ensures.left)

@@ -1,6 +1,6 @@
 use Rattle.std.proofs.Common.{ℕ, List, flat_map, length, get_or, sym, ◌∙◌, ap, subst, arith}
 use Rattle.std.proofs.lemmas.Result.{on_ok_weaker, IfErr-weaker}
-use Rattle.quilt_store.proofs.Reading.{only_read_then}
+use Rattle.quilt_store.proofs.Reading.{only_reads_then, read_on, only_reads_err}
 use Rattle.quilt_types.specs.declared.plane.Block.{Block}
 use Rattle.quilt_loc.proofs.Blocks.{IsBlock-up}
 use Rattle.quilt_btree.specs.Trees.{IsRooted}
@@ -87,8 +87,7 @@ loop-q-preserved g t c =
           h) new k
           (quarter_side self.view.level c.args.b c.quarters-q-items.result c.loop-q.q-index (record { y = 0; x = 0; side = 0 }) c.requires.block
           c.if-b-le1.false c.quarters-q-items.ensures.value c.loop-q-test.true k e));
-      faults = let m = c.loop-q.invariant.faults in let n = c.in-Ok.ensures.cause.later in omega arith;
-      left = only_read_then _ _ _ _ _ g.met.S.PageStore.goes_on _ _ _ c.loop-q.invariant.left c.in-Ok.ensures.left;
+      left = read_on _ g.met.S.PageStore.goes_on _ _ _ c.loop-q.invariant.left c.in-Ok.ensures.left;
     }
 
 pub returns-clause-added : goal.returns-clause-added
@@ -106,7 +105,7 @@ returns-clause-added g t c segs cover h new k e =
     (let end = c.loop-q-test.false in omega arith) (c.loop-q.invariant.added segs cover h new j f)))
 
 pub returns-in-Ok-Some-clause-left : goal.returns-in-Ok-Some-clause-left
-returns-in-Ok-Some-clause-left g t c = only_read_then _ _ _ _ _ g.met.S.PageStore.goes_on _ _ _ c.in-Ok-Some.ensures.left c.add_block.ensures.left
+returns-in-Ok-Some-clause-left g t c = only_reads_then _ g.met.S.PageStore.goes_on _ _ _ c.in-Ok-Some.ensures.left c.add_block.ensures.left
 
 pub returns-in-Err-add_in-clause-left : goal.returns-in-Err-add_in-clause-left
-returns-in-Err-add_in-clause-left g t c = only_read_then _ _ _ _ _ g.met.S.PageStore.goes_on _ _ _ c.loop-q.invariant.left c.in-Err-add_in.ensures.left
+returns-in-Err-add_in-clause-left g t c = only_reads_err _ (only_reads_then _ g.met.S.PageStore.goes_on _ _ _ c.loop-q.invariant.left c.in-Err-add_in.ensures.left)

@@ -1,6 +1,6 @@
 use Rattle.std.proofs.Common.{◌≡◌, ◌≤◌, ℕ, suc, take, flat_map, None}
 use Rattle.std.specs.FinMap as finmap
-use Rattle.quilt_store.specs.Store.{IsOnlyRead}
+use Rattle.quilt_store.specs.Calls.{IsOnlyRead}
 use Rattle.quilt_types.specs.Layers.{SegMap, BlockSet}
 use Rattle.quilt_types.specs.Plane.{side}
 use Rattle.quilt_line_laws.specs.Merging.{met_in}
@@ -18,6 +18,5 @@ invariant-loop-q g l = record {
       → finmap.get segs l.self.id ≡ None → (k : ℕ) → l.fn.b.side ≡ side (suc k)
       → IsAdded l.self.view.level l.self.view.layer l.self.t segs l.self.id l.self.s (flat_map (met_in cover l.self.s k) (take l.q-index l.q-items))
       l.fn.change.gone.items l.change.gone.items l.fn.change.come.items l.change.come.items;
-  faults : g.S.PageStore.faults l.fn.store ≤ g.S.PageStore.faults l.store;
-  left : IsOnlyRead g.S.PageStore.size g.S.PageStore.told g.S.PageStore.free g.S.PageStore.later g.S.PageStore.changed l.fn.store l.store;
+  left : IsOnlyRead g.S.PageStore l.fn.store l.store;
 }

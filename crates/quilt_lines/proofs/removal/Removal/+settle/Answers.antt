@@ -1,7 +1,7 @@
 use Rattle.std.proofs.Common.{◌≡◌, ℕ, zero, suc, List, take, length, get_or, sym, ◌∙◌, ap, subst, arith, Contains, pow-suc}
 use Rattle.std.proofs.lemmas.Result.{IfOk-weaker, IfErr-weaker}
 use Rattle.std.proofs.lemmas.List.{take_all}
-use Rattle.quilt_store.proofs.Reading.{only_read_then}
+use Rattle.quilt_store.proofs.Reading.{read_on}
 use Rattle.quilt_types.specs.declared.plane.Block.{Block}
 use Rattle.quilt_types.specs.Plane.{side}
 use Rattle.quilt_loc.proofs.Blocks.{IsBlock-up}
@@ -86,8 +86,7 @@ settle_quarters-loop-q-preserved g t c =
           (c.in-Ok.ensures.settled k segs cover (omega arith)
           (lines_along _ _ c.args.tree.now c.args.self.now.layer c.args.self.now.level c.args.self.now.threshold segs cover c.loop-q.invariant.left.told h))
           c.in-Ok-gather.ensures);
-      faults = let m = c.loop-q.invariant.faults in let n = c.in-Ok.ensures.cause.later in omega arith;
-      left = only_read_then _ _ _ _ _ g.met.S.PageStore.goes_on _ _ _ c.loop-q.invariant.left c.in-Ok.ensures.left;
+      left = read_on _ g.met.S.PageStore.goes_on _ _ _ c.loop-q.invariant.left c.in-Ok.ensures.left;
     }
 
 pub settle_quarters-returns-in-Ok-joined-clause-settled :

@@ -1,5 +1,5 @@
 use Rattle.std.proofs.Common.{◌≡◌, ℕ, suc, ◌+◌, ◌*◌, ◌≤◌, take}
-use Rattle.quilt_store.specs.Store.{IsOnlyRead}
+use Rattle.quilt_store.specs.Calls.{IsOnlyRead}
 use Rattle.quilt_types.specs.Plane.{side}
 use Rattle.quilt_types.specs.Layers.{SegMap, BlockSet}
 use Rattle.quilt_lines.specs.Layers.{HasLines}
@@ -17,6 +17,5 @@ invariant-settle_quarters-loop-q g l = record {
   gathered : (k : ℕ) (segs : SegMap) (cover : BlockSet) → l.b.side ≡ side (suc k)
       → HasLines (g.S.PageStore.told l.initial.store) l.tree l.self.layer l.self.level l.self.threshold segs cover
       → Gathers l.self.level l.self.layer l.self.threshold l.self.id segs cover l.self.segment k (take l.q-index l.q-items) l.all;
-  faults : g.S.PageStore.faults l.initial.store ≤ g.S.PageStore.faults l.store;
-  left : IsOnlyRead g.S.PageStore.size g.S.PageStore.told g.S.PageStore.free g.S.PageStore.later g.S.PageStore.changed l.initial.store l.store;
+  left : IsOnlyRead g.S.PageStore l.initial.store l.store;
 }

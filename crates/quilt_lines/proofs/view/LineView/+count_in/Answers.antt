@@ -1,7 +1,7 @@
 use Rattle.std.proofs.Common.{◌+◌, ◌-◌, ◌^◌, ◌<◌, ℕ, List, flat_map, length, get_or, count_by, sym, ◌∙◌, ap, subst, arith}
 use Rattle.std.specs.Prelude.{◌==◌}
 use Rattle.std.proofs.lemmas.List.{take_all}
-use Rattle.quilt_store.proofs.Reading.{only_read_then}
+use Rattle.quilt_store.proofs.Reading.{only_reads_then, read_on, only_reads_err}
 use Rattle.quilt_types.specs.declared.plane.Block.{Block}
 use Rattle.quilt_types.specs.Plane.{side}
 use Rattle.quilt_loc.proofs.Blocks.{IsBlock-up}
@@ -103,8 +103,7 @@ loop-q-preserved g t c =
           (c.in-Ok.ensures.counts t' segs cover (lines_along _ _ self.tree self.layer self.level t' segs cover c.loop-q.invariant.left.told h) j);
       most = λ j. room_step c.loop-q.q-index (4 ^ (c.args.k - 1)) (get_or c.args.counts.now j 0) (get_or c.loop-q.counts j 0)
           (get_or c.count_in.new.counts j 0) (c.loop-q.invariant.most j) (c.in-Ok.ensures.most j);
-      faults = let m = c.loop-q.invariant.faults in let n = c.in-Ok.ensures.cause.later in omega arith;
-      left = only_read_then _ _ _ _ _ g.met.S.PageStore.goes_on _ _ _ c.loop-q.invariant.left c.in-Ok.ensures.left;
+      left = read_on _ g.met.S.PageStore.goes_on _ _ _ c.loop-q.invariant.left c.in-Ok.ensures.left;
     }
 
 pub returns-clause-counts : goal.returns-clause-counts
@@ -126,4 +125,4 @@ returns-clause-most g t c j =
     omega arith
 
 pub returns-in-Err-count_in-clause-left : goal.returns-in-Err-count_in-clause-left
-returns-in-Err-count_in-clause-left g t c = only_read_then _ _ _ _ _ g.met.S.PageStore.goes_on _ _ _ c.loop-q.invariant.left c.in-Err-count_in.ensures.left
+returns-in-Err-count_in-clause-left g t c = only_reads_err _ (only_reads_then _ g.met.S.PageStore.goes_on _ _ _ c.loop-q.invariant.left c.in-Err-count_in.ensures.left)

@@ -1,6 +1,6 @@
 use Rattle.std.proofs.Common.{◌≡◌, ◌≤◌, ◌+◌, ◌*◌, ◌-◌, ◌^◌, ℕ, take, flat_map, get_or, count_by}
 use Rattle.std.specs.Prelude.{◌==◌}
-use Rattle.quilt_store.specs.Store.{IsOnlyRead}
+use Rattle.quilt_store.specs.Calls.{IsOnlyRead}
 use Rattle.quilt_types.specs.Layers.{SegMap, BlockSet}
 use Rattle.quilt_types.specs.Plane.{side}
 use Rattle.quilt_lines.specs.Layers.{HasLines}
@@ -16,6 +16,5 @@ invariant-loop-q g l = record {
       → (j : ℕ) → get_or l.counts j 0 ≡ get_or l.fn.counts j 0 + count_by (λ c. c.side == side j)
       (flat_map (held_in cover (l.k - 1)) (take l.q-index l.q-items));
   most : (j : ℕ) → get_or l.counts j 0 ≤ get_or l.fn.counts j 0 + l.q-index * 4 ^ (l.k - 1);
-  faults : g.S.PageStore.faults l.fn.store ≤ g.S.PageStore.faults l.store;
-  left : IsOnlyRead g.S.PageStore.size g.S.PageStore.told g.S.PageStore.free g.S.PageStore.later g.S.PageStore.changed l.fn.store l.store;
+  left : IsOnlyRead g.S.PageStore l.fn.store l.store;
 }

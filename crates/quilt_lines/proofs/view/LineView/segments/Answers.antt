@@ -2,7 +2,7 @@ use Rattle.std.proofs.Common.{◌≡◌, ℕ, ◌*◌, true, Some, [], ◌∷◌
 use Rattle.std.specs.FinMap as finmap
 use Rattle.std.proofs.lemmas.List.{map-append}
 use Rattle.std.proofs.lemmas.List.Elements.{All-append}
-use Rattle.quilt_store.proofs.Reading.{only_read_then}
+use Rattle.quilt_store.proofs.Reading.{only_reads_then, read_on, only_reads_err}
 use Rattle.quilt_types.specs.declared.plane.Seg.{Seg}
 use Rattle.quilt_types.specs.Layers.{is_in_square}
 use Rattle.quilt_edits.proofs.Lists.{member_at, take_next}
@@ -35,10 +35,9 @@ loop-id-preserved g c =
       inside =
           let P = λ (e : ℕ × Seg). is_in_square c.args.self.now.level e.1 ≡ true in
           subst (All P) (sym a.1) (All-append P c.loop-id.list more c.loop-id.invariant.inside (all_one P (id, a.0) a.2));
-      faults = let m = c.loop-id.invariant.faults in let n = c.in-Ok.ensures.cause.later in omega arith;
-      left = only_read_then _ _ _ _ _ g.met.S.PageStore.goes_on _ _ _ c.loop-id.invariant.left c.in-Ok.ensures.left;
+      left = read_on _ g.met.S.PageStore.goes_on _ _ _ c.loop-id.invariant.left c.in-Ok.ensures.left;
       reads = reads_sum _ _ _ (3 * length c.loop-id.list) 3 (3 * length c.add_segment.new.list) (omega arith) c.loop-id.invariant.reads c.in-Ok.ensures.reads;
     }
 
 pub returns-in-Err-clause-left : goal.returns-in-Err-clause-left
-returns-in-Err-clause-left g c = only_read_then _ _ _ _ _ g.met.S.PageStore.goes_on _ _ _ c.loop-id.invariant.left c.in-Err.ensures.left
+returns-in-Err-clause-left g c = only_reads_err _ (only_reads_then _ g.met.S.PageStore.goes_on _ _ _ c.loop-id.invariant.left c.in-Err.ensures.left)

@@ -1,7 +1,8 @@
 use Rattle.std.proofs.Common.{◌≡◌, ℕ, ◌+◌, ◌*◌, ◌≤◌, true, All, take, length, Some}
 use Rattle.std.specs.FinMap as finmap
 use Rattle.quilt_types.specs.Layers.{SegMap, BlockSet, is_in_square}
-use Rattle.quilt_store.specs.Store.{IsOnlyRead, Tells}
+use Rattle.quilt_store.specs.Calls.{IsOnlyRead}
+use Rattle.quilt_store.specs.Store.{Tells}
 use Rattle.quilt_lines.specs.Layers.{HasLines}
 use Rattle.quilt_lines.specs.Reads.{ids_of}
 use Rattle.quilt_lines.proofs.view.LineView.segments.Given as goal
@@ -12,7 +13,6 @@ invariant-loop-id g l = record {
   found : (t : ℕ) (segs : SegMap) (cover : BlockSet)
       → HasLines (g.S.PageStore.told l.initial.store) l.self.tree l.self.layer l.self.level t segs cover → All (λ e. finmap.get segs e.0 ≡ Some e.1) l.list;
   inside : All (λ e. is_in_square l.self.level e.1 ≡ true) l.list;
-  faults : g.S.PageStore.faults l.initial.store ≤ g.S.PageStore.faults l.store;
-  left : IsOnlyRead g.S.PageStore.size g.S.PageStore.told g.S.PageStore.free g.S.PageStore.later g.S.PageStore.changed l.initial.store l.store;
+  left : IsOnlyRead g.S.PageStore l.initial.store l.store;
   reads : Tells (λ old new. new ≤ old + 3 * length l.list) (g.S.PageStore.reads l.initial.store) (g.S.PageStore.reads l.store);
 }

@@ -1,5 +1,5 @@
 use Rattle.std.proofs.Common.{ℕ, List, Contains, ◌∙◌, subst}
-use Rattle.quilt_store.proofs.Reading.{only_read_then}
+use Rattle.quilt_store.proofs.Reading.{only_reads_then, only_reads_err}
 use Rattle.quilt_lines.proofs.Listed.{same_segments, all_there, each_there, one_pixel}
 use Rattle.quilt_lines.proofs.Lookups.{lines_along, match_none, match_some}
 use Rattle.quilt_lines.proofs.view.LineViewSegBlocks.part.Goals as goal
@@ -34,4 +34,4 @@ returns-clause-part g c l h =
     )
 
 pub returns-in-Err-segments-clause-left : goal.returns-in-Err-segments-clause-left
-returns-in-Err-segments-clause-left g c = only_read_then _ _ _ _ _ g.met.S.PageStore.goes_on _ _ _ c.in-Ok-Some.ensures.left c.in-Err-segments.ensures.left
+returns-in-Err-segments-clause-left g c = only_reads_err _ (only_reads_then _ g.met.S.PageStore.goes_on _ _ _ c.in-Ok-Some.ensures.left c.in-Err-segments.ensures.left)
