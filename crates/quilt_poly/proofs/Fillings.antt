@@ -1,36 +1,63 @@
--- A square that is filled by the edges that are not off it is filled by all of them.
-use Rattle.std.proofs.Common.{◌≡◌, ℕ, ◌≤◌, List, length, arith}
-use Rattle.quilt_types.specs.declared.plane.Block.{Block}
+-- The grid of the pixels inside of rings, by their edges.
+use Rattle.std.proofs.Common.{◌≡◌, ℕ, ◌%◌, ◌<◌, Bool, true, false, cond, eqb, List, [], ◌∷◌, map, flat_map, count_by, refl, sym, ◌∙◌, ap, arith}
+use Rattle.std.proofs.lemmas.List.Sums.{sum_by-cons}
+use Rattle.quilt_types.specs.declared.plane.Pixel.{Pixel}
 use Rattle.quilt_types.specs.declared.plane.Corner.{Corner}
-use Rattle.quilt_types.specs.Plane.{IsBlock}
 use Rattle.quilt_types.specs.Algebra.{grid_of}
-use Rattle.quilt_types.specs.Polygons.{ring_edges, filled_rings, is_inside}
-use Rattle.std.proofs.Common.{map, flat_map, cond}
-use Rattle.quilt_loc.specs.Codes.{code_from, code_to}
-use Rattle.quilt_loc.proofs.Blocks.{side_most}
-use Rattle.quilt_loc.proofs.Intervals.{held_code}
-use Rattle.quilt_blocks.specs.Painting.{Painted}
-use Rattle.quilt_blocks.specs.Adding.{Adds}
-use Rattle.quilt_blocks.proofs.Adding.{Adds-change}
+use Rattle.quilt_types.specs.Polygons.{ring_edges, filled_rings, is_right_of, is_inside}
 use Rattle.quilt_blocks.proofs.Squares.{grid_of-same}
 use Rattle.quilt_poly.specs.declared.edges.RingEdge.{RingEdge}
-use Rattle.quilt_poly.specs.Edges.{edge_of, colour_by, IsClosed}
-use Rattle.quilt_poly.proofs.Narrowing.{close_to, colour_by-close_to, colour_by-rings}
+use Rattle.quilt_types.specs.declared.plane.Block.{Block}
+use Rattle.quilt_types.specs.Plane.{side, Holds, IsBlock}
+use Rattle.quilt_loc.proofs.Rows.{colour_at-grid_of}
+use Rattle.quilt_blocks.specs.Mosaic.{HasColour}
+use Rattle.quilt_blocks.proofs.Listed.{held_in}
+use Rattle.quilt_poly.specs.Bits.{bit_in, colour_in, HasParities}
+use Rattle.quilt_poly.specs.Edges.{edge_of, crosses, colour_by}
 
-pub filled_by_all : (n : ℕ) (square : Block) (edges near : List RingEdge) (c : ℕ) (old new : Painted) → n ≤ 12 → IsBlock n square
-    → code_from square ≡ length old.colours → IsClosed square edges → near ≡ close_to square edges
-    → Adds n (colour_by near c) (code_to square) old new → Adds n (colour_by edges c) (code_to square) old new
-filled_by_all n square edges near c old new le h next closed is a =
-    let m = side_most n le in
-    let ix = h.in_x in
-    let iy = h.in_y in
-    Adds-change n (colour_by near c) (colour_by edges c) (code_to square) old new
-    (λ p hx hy low high.
-    let held = held_code n square p h le (omega arith) (omega arith) (omega arith) (omega arith) (omega arith) high in
-    colour_by-close_to square edges near c p closed is held) a
+count-map : (p : Pixel) (edges : List RingEdge) → count_by (is_right_of p) (map edge_of edges) ≡ count_by (crosses p) edges
+unfolding crosses
+count-map p [] = refl
+count-map p (e ∷ edges) =
+    let f = sum_by-cons (λ d. cond {A = ℕ} (is_right_of p d) 1 0) (edge_of e) (map edge_of edges) in
+    let g = sum_by-cons (λ d. cond {A = ℕ} (is_right_of p (edge_of d)) 1 0) e edges in
+    let more = count-map p edges in
+    omega arith
+
+-- the colours of the pixels inside of the rings
+colour_by-rings : (edges : List RingEdge) (rings : List (List Corner)) (c : ℕ) (p : Pixel) → map edge_of edges ≡ flat_map ring_edges rings
+    → colour_by edges c p ≡ cond (is_inside rings p) c 0
+unfolding colour_by
+colour_by-rings edges rings c p are =
+    ap (λ n. cond (eqb (n % 2) 1) c 0) (sym (count-map p edges) ∙ ap (count_by (is_right_of p)) are)
+
+-- the colour of a pixel by its bit
+pub colour_in-is : (words : List ℕ) (s c : ℕ) (p : Pixel) (inside : Bool) → bit_in words s p.y p.x ≡ cond {A = ℕ} inside 1 0
+    → colour_in words s c p ≡ cond inside c 0
+unfolding colour_in
+colour_in-is words s c p true is = ap (λ b. cond (eqb b 1) c 0) is
+colour_in-is words s c p false is = ap (λ b. cond (eqb b 1) c 0) is
+
+-- a block whose bits are one
+pub bits_colour : (n : ℕ) (words : List ℕ) (c : ℕ) (b : Block) (inside : Bool) (colour : ℕ) → IsBlock n b
+    → ((p : Pixel) → Holds b p → bit_in words (side n) p.y p.x ≡ cond {A = ℕ} inside 1 0) → colour ≡ cond inside c 0
+    → HasColour n (grid_of n (colour_in words (side n) c)) b colour
+bits_colour n words c b inside colour hb bits is = record {
+  each = λ p h.
+      let i = held_in n b p hb h in
+      colour_at-grid_of n (colour_in words (side n) c) p i.0 i.1 ∙ colour_in-is words (side n) c p inside (bits p h) ∙ sym is;
+}
+
+-- the colours of the bits are those inside of the rings
+colour_in-rings : (words : List ℕ) (s c : ℕ) (edges : List RingEdge) (p : Pixel) → HasParities s (λ q. count_by (crosses q) edges) words → p.x < s → p.y < s
+    → colour_in words s c p ≡ colour_by edges c p
+unfolding colour_in colour_by
+colour_in-rings words s c edges p odd px py = ap (λ b. cond (eqb b 1) c 0) (odd.each p px py)
 
 -- the grid that is 0 outside of the rings
-pub filled_is : (n : ℕ) (edges : List RingEdge) (rings : List (List Corner)) (c : ℕ) → map edge_of edges ≡ flat_map ring_edges rings
-    → grid_of n (colour_by edges c) ≡ filled_rings n rings c
+pub filled_is : (n : ℕ) (words : List ℕ) (edges : List RingEdge) (rings : List (List Corner)) (c : ℕ) → map edge_of edges ≡ flat_map ring_edges rings
+    → HasParities (side n) (λ q. count_by (crosses q) edges) words → grid_of n (colour_in words (side n) c) ≡ filled_rings n rings c
 unfolding filled_rings
-filled_is n edges rings c are = grid_of-same n (colour_by edges c) (λ p. cond (is_inside rings p) c 0) (λ p hx hy. colour_by-rings edges rings c p are)
+filled_is n words edges rings c are odd =
+    grid_of-same n (colour_in words (side n) c) (λ p. cond (is_inside rings p) c 0)
+    (λ p hx hy. colour_in-rings words (side n) c edges p odd hx hy ∙ colour_by-rings edges rings c p are)

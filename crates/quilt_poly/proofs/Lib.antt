@@ -1,8 +1,10 @@
-pub mod Beside
-pub mod Closing
+pub mod Crossed
 pub mod Differences
 pub mod Fillings
+pub mod Flips
 pub mod Listed
-pub mod Narrowing
-pub mod Rows
+pub mod Marks
+pub mod Strips
+pub mod Sums
 pub mod Turning
+pub mod Words

@@ -119,7 +119,7 @@ fn filled(alloc: Global, rings: &RingList, level: u8) -> Result<LeafList, AllocE
 /// Compares each pixel, and says how many are inside.
 fn compare(rt: &impl Abort, list: &LeafList, rings: &RingList, level: u8) -> u32
     requires level { list.now.level ≡ level }
-    requires most { level ≤ 5 }
+    requires most { level ≤ 8 }
 {
     let side = 1_u16 << level;
     let mut inside = 0_u32;
@@ -149,5 +149,19 @@ fn drawn_polygons(rt: HostRuntime) -> Result<(), Fail> {
         }
     }
     assert!(rt; 1000 < inside);
+    Ok(())
+}
+
+/// Four polygons of level 8, whose rows stand in several words.
+#[test]
+fn drawn_polygons_of_several_words(rt: HostRuntime) -> Result<(), Fail> {
+    let mut dice = Dice::new(81);
+    let mut inside = 0_u32;
+    for _ in 0..4 {
+        let rings = drawn_rings(&rt, &mut dice, 256, rt.alloc())?;
+        let list = filled(rt.alloc(), &rings, 8)?;
+        inside = inside.wrapping_add(compare(&rt, &list, &rings, 8));
+    }
+    assert!(rt; 0 < inside);
     Ok(())
 }

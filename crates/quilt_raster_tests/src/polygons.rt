@@ -1,7 +1,7 @@
 ghost use Rattle.std.specs.Prelude.{◌≡◌, IfOk};
 
 use quilt_blocks::LeafList;
-use quilt_poly::region_of;
+use quilt_poly::{region_of, region_within};
 use quilt_types::{Colour, Corner, Pixel, RingList};
 use std::alloc::{AllocError, Global};
 use std::process::Abort;
@@ -86,5 +86,30 @@ fn no_rings(rt: HostRuntime) -> Result<(), Fail> {
     let list = drawn(rt.alloc(), &rings, Colour(7))?;
     assert_eq!(rt; list.len(), 1);
     assert_eq!(rt; area(&list, Colour(0)), 64);
+    Ok(())
+}
+
+/// A square with a hole has 16 leaves: 15 are too few, and 16 are enough.
+#[test]
+fn no_more_leaves_than_the_most(rt: HostRuntime) -> Result<(), Fail> {
+    let mut rings = RingList::new(rt.alloc());
+    add_ring(&rt, &mut rings, &[(0, 0), (8, 0), (8, 8), (0, 8)])?;
+    add_ring(&rt, &mut rings, &[(2, 2), (6, 2), (6, 6), (2, 6)])?;
+    assert!(rt; region_within(rt.alloc(), &rings, Colour(1), 3, 15)?.is_none());
+    let found = region_within(rt.alloc(), &rings, Colour(1), 3, 16)?;
+    assert!(rt; found.is_some());
+    if let Some(list) = found {
+        assert_eq!(rt; list.len(), 16);
+    }
+    Ok(())
+}
+
+/// Without a colour all of it is one leaf, whatever the rings are.
+#[test]
+fn rings_of_the_background(rt: HostRuntime) -> Result<(), Fail> {
+    let mut rings = RingList::new(rt.alloc());
+    add_ring(&rt, &mut rings, &[(0, 0), (8, 0), (0, 8)])?;
+    assert!(rt; region_within(rt.alloc(), &rings, Colour(0), 3, 1)?.is_some());
+    assert!(rt; region_within(rt.alloc(), &rings, Colour(0), 3, 0)?.is_none());
     Ok(())
 }

@@ -1,7 +1,8 @@
 use Rattle.std.proofs.Common.{◌+◌, ◌*◌, ◌/◌}
+use Rattle.quilt_types.specs.Plane.{side}
 use Rattle.quilt_loc.specs.Codes.{code_from}
 use Rattle.quilt_blocks.specs.Adding.{Adds}
-use Rattle.quilt_poly.specs.Edges.{colour_by}
+use Rattle.quilt_poly.specs.Bits.{colour_in}
 use Rattle.quilt_poly.proofs.filling.+fill.Given as goal
 
 abbrev pub decreases-fill : goal.decreases-fill
@@ -9,5 +10,5 @@ decreases-fill l = l.square.side
 
 abbrev pub invariant-loop-quarter : goal.invariant-loop-quarter
 invariant-loop-quarter l =
-    Adds l.initial.maker.level (colour_by l.near.items l.fn.c.0)
+    Adds l.level (colour_in l.words (side l.level) l.c.0)
     (code_from l.fn.square + l.quarter-index * (l.fn.square.side / 2 * (l.fn.square.side / 2))) l.initial.maker l.maker
