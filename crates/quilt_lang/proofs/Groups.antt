@@ -3,10 +3,9 @@ use Rattle.std.proofs.Common.{◌≡◌, ◌≢◌, ℕ, zero, suc, ◌+◌, ◌
 use Rattle.std.proofs.Common.{min, refl, sym, ◌∙◌, ap, subst, arith, append_assoc, append-nil, inl, inr, length-append, length-drop}
 use Rattle.std.proofs.lemmas.List.{drop_all, take_all, drop-drop, take-append-le, length-map, map-append}
 use Rattle.std.proofs.lemmas.Bool.{eqb-true, eqb-false, eq-eqb, ne_eqb}
-use Rattle.quilt_words.specs.declared.item.Item.{Item}
 use Rattle.quilt_lang.specs.declared.asked.Asked.{Asked}
-use Rattle.quilt_words.specs.Items.{Group, asked, held, is_complete, is_silent, groups_from, items_of, lines_of, whole_items, whole_lines, words_of}
-use Rattle.quilt_lang.specs.Reading.{Gives, GivesItem, HasNone, HasNewline, IsLine}
+use Rattle.quilt_words.specs.Items.{Group, asked, is_complete, is_silent, groups_from, items_of, lines_of, whole_items, whole_lines, words_of}
+use Rattle.quilt_lang.specs.Reading.{Gives, HasNone, HasNewline, IsLine}
 use Rattle.quilt_lang.specs.Cutting.{Cuts, CutsUpTo, HasNoLine, IsAsked, grouped, number_of}
 use Rattle.quilt_words.proofs.Cases.{bool_cases}
 use Rattle.quilt_lang.proofs.LineLaws.{groups_loud, lines_line, whole_line, whole_none, last_line, no_lines, silent_nothing}
@@ -169,15 +168,12 @@ met true n k line taken text behind new loud number first more is = elim (bool_c
 ]
 
 -- the item at the front of a text
-pub front_given : (e : Bool) (n f : ℕ) (item : Item) (what : Asked) (line text behind new : List ℕ) (taken : List (List ℕ)) → is_silent line ≡ false
+pub front_gives : (e : Bool) (n : ℕ) (what : Asked) (line text behind new : List ℕ) (taken : List (List ℕ)) → is_silent line ≡ false
     → Cuts e (line ∷ []) text behind →
     IsAsked n (asked n line) (words_of line) what → CutsUpTo e (number_of n what) taken behind new → (e || (length taken == number_of n what)) ≡ true →
-    item ≡ held f n (grouped line taken) → GivesItem e n f item text new
-front_given e n f item what line text behind new taken loud first asks more is holds = record {
-  group = grouped line taken;
-  is = holds;
-  gives = met e n (number_of n what) line taken text behind new loud asks.number first more is;
-}
+    Gives e n (grouped line taken ∷ []) text new
+front_gives e n what line text behind new taken loud first asks more is =
+    met e n (number_of n what) line taken text behind new loud asks.number first more is
 
 -- and where it waits for further lines
 pub front_none : (e : Bool) (n : ℕ) (what : Asked) (line text behind new : List ℕ) (taken : List (List ℕ)) → is_silent line ≡ false

@@ -96,6 +96,36 @@ pub bytes_more : (line : List ℕ) (i b : ℕ) (got : List ℕ) → i + 1 < leng
 bytes_more line i b got within so is =
     bytes_at line i (i + 1) (i + 2) (Some b) got (omega arith) (omega arith) within so is ∙ byte_onto got b (row (drop (i + 2) line))
 
+-- the same, each behind a byte of 0
+abbrev pub WideSoFar : List ℕ → ℕ → List ℕ → Type 0
+WideSoFar line i got = option_map (colour_bytes 1) (row line) ≡ option_map (λ r. got ++ r) (option_map (colour_bytes 1) (row (drop i line)))
+
+pub wide_none : (line : List ℕ) → WideSoFar line 0 []
+wide_none line = some_same (option_map (colour_bytes 1) (row line))
+
+wide_onto : (got : List ℕ) (b : ℕ) (r : Option (List ℕ)) →
+    option_map (λ x. got ++ x) (option_map (colour_bytes 1) (with_byte (Some b) r))
+    ≡ option_map (λ x. ((got ++ 0 ∷ []) ++ b ∷ []) ++ x) (option_map (colour_bytes 1) r)
+wide_onto got b None = refl
+wide_onto got b (Some r) =
+    ap Some (sym (append_assoc (got ++ 0 ∷ []) (b ∷ []) (colour_bytes 1 r) ∙ append_assoc got (0 ∷ []) (b ∷ colour_bytes 1 r)))
+
+wide_at : (line : List ℕ) (i j k : ℕ) (r : Option ℕ) (got : List ℕ) → j ≡ suc i → k ≡ suc j → j < length line → WideSoFar line i got →
+    ((rest : List ℕ) → row (get_or line i 0 ∷ get_or line j 0 ∷ rest) ≡ with_byte r (row rest))
+    → option_map (colour_bytes 1) (row line) ≡ option_map (λ x. got ++ x) (option_map (colour_bytes 1) (with_byte r (row (drop k line))))
+wide_at line i j k r got second third within so is =
+    let low : i < length line = omega (arith, within, second) in
+    let next : drop (suc i) line ≡ get_or line j 0 ∷ drop k line = rw (sym second, third) (drop-cons line j 0 within) in
+    so
+    ∙ ap (λ l. option_map (λ x. got ++ x) (option_map (colour_bytes 1) (row l))) (drop-cons line i 0 low ∙ ap (λ l. get_or line i 0 ∷ l) next)
+    ∙ ap (λ (o : Option (List ℕ)). option_map (λ x. got ++ x) (option_map (colour_bytes 1) o)) (is (drop k line))
+
+pub wide_more : (line : List ℕ) (i b : ℕ) (got : List ℕ) → i + 1 < length line → WideSoFar line i got →
+    ((rest : List ℕ) → row (get_or line i 0 ∷ get_or line (i + 1) 0 ∷ rest) ≡ with_byte (Some b) (row rest))
+    → WideSoFar line (i + 2) ((got ++ 0 ∷ []) ++ b ∷ [])
+wide_more line i b got within so is =
+    wide_at line i (i + 1) (i + 2) (Some b) got (omega arith) (omega arith) within so is ∙ wide_onto got b (row (drop (i + 2) line))
+
 odd : (k : ℕ) (r : Option (List ℕ)) → IfSome r (Bytes k) → k % 2 ≢ 0 → None ≡ r
 odd k None is not_even = refl
 odd k (Some bytes) is not_even = absurd (omega (arith, is.size, not_even))
@@ -103,6 +133,9 @@ odd k (Some bytes) is not_even = absurd (omega (arith, is.size, not_even))
 -- an odd number of digits is no row
 pub odd_row : (line : List ℕ) → length line % 2 ≢ 0 → None ≡ row line
 odd_row line not_even = odd (length line) (row line) (row_bytes line) not_even
+
+pub odd_wide : (line : List ℕ) → length line % 2 ≢ 0 → None ≡ option_map (colour_bytes 1) (row line)
+odd_wide line not_even = ap (option_map (colour_bytes 1)) (odd_row line not_even)
 
 -- the colours of one row
 abbrev pub one_row : ℕ → ℕ → List ℕ → Option (List ℕ)

@@ -1,6 +1,8 @@
 pub mod Asking
+pub mod Commands
 pub mod Counts
 pub mod Cuts
+pub mod Digits
 pub mod Groups
 pub mod Joins
 pub mod LineLaws

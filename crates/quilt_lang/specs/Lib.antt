@@ -1,3 +1,4 @@
+pub mod Commanding
 pub mod Cutting
 pub mod Progress
 pub mod Reading

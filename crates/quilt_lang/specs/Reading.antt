@@ -1,6 +1,9 @@
 -- What reading a text in pieces gives.
-use Rattle.std.specs.Prelude.{◌≡◌, ℕ, ◌+◌, ◌<◌, ◌==◌, Bool, true, false, List, [], ◌∷◌, ◌++◌, length, take, drop, map, All, Option, Some, None, if◌then◌else◌}
+use Rattle.std.specs.Prelude.{◌≡◌, ℕ, ◌+◌, ◌<◌, ◌==◌, Bool, true, false, List, [], ◌∷◌, ◌++◌, length, take, drop, map, All, Option, Some, None, Result, if◌then◌else◌}
+use Rattle.quilt_types.specs.declared.code.Code.{Code}
+use Rattle.quilt_words.specs.declared.command.Command.{Command}
 use Rattle.quilt_words.specs.declared.item.Item.{Item}
+use Rattle.quilt_words.specs.Forms.{form}
 use Rattle.quilt_words.specs.Items.{Group, is_silent, line_limit, whole_lines, items_of, whole_items, held}
 
 -- what contracts see of a reader of pieces: the level, and a text that has the items not given yet
@@ -27,6 +30,12 @@ pub record GivesItem (ended : Bool) (n f : ℕ) (item : Item) (old new : List �
   pub group : Group
   pub is : item ≡ held f n group
   pub gives : Gives ended n (group ∷ []) old new
+
+-- One item is given as what it spells in the format: its command, or the code of its refusal.
+pub record GivesCommand (ended : Bool) (n f : ℕ) (spelled : Result Command Code) (old new : List ℕ) : Type 0 where
+  pub item : Item
+  pub gives : GivesItem ended n f item old new
+  pub is : form f item ≡ spelled
 
 -- no item can be given: of the whole ones, or of all where the input has ended
 abbrev pub HasNone : Bool → ℕ → List ℕ → Type 0

@@ -96,7 +96,7 @@ pub fn further_asked(alloc: Global, line: &[u8]) -> Result<Asked, AllocError>
 }
 
 /// What words ask for.
-fn asked_by_words(words: &[&[u8]]) -> Asked
+pub fn asked_by_words(words: &[&[u8]]) -> Asked
     ensures { (n : ℕ) → IsAsked n (asked_by n (map (λ w. w.now) words.now)) (map (λ w. w.now) words.now) result }
 {
     if is_raster(words) {

@@ -1,8 +1,8 @@
 //! The item at the front of a text: a line, with the further lines that there are of those that it asks for.
-ghost use Rattle.std.specs.Prelude.{◌≡◌, ◌+◌, ◌≤◌, false, length, drop, map, IfOk};
+ghost use Rattle.std.specs.Prelude.{◌≡◌, ◌+◌, ◌≤◌, false, [], ◌∷◌, length, take, drop, map, IfOk, MatchOption};
 ghost use Rattle.quilt_words.specs.Items.{whole_lines};
-ghost use Rattle.quilt_lang.specs.Reading.{GivesItem, begins_silent};
-ghost use Rattle.quilt_lang.specs.Cutting.{CutsUpTo, number_of};
+ghost use Rattle.quilt_lang.specs.Reading.{Gives, GivesItem, HasNone, begins_silent};
+ghost use Rattle.quilt_lang.specs.Cutting.{CutsUpTo, grouped, number_of};
 ghost use Rattle.quilt_lang.specs.Progress.{IsFirst, IsFront, IsProgress, IsUncut, IsWaiting};
 
 use crate::asked::{Asked, further_asked};
@@ -75,36 +75,51 @@ fn further_item(
     requires { IsWaiting ended level waiting text.now }
     ensures { IfOk result (IsFront ended level format text.now) }
 {
-    let Waiting { line, what, cut } = waiting;
-    if ended {
-        return held_item(alloc, level, format, text, line, what, true);
+    if let Some(progress) = waits_on(level, text, waiting, ended) {
+        return Ok(Front::Waits(progress));
     }
+    let Waiting { line, what, .. } = waiting;
+    let (more, len) = held_lines(alloc, level, text, line, what, ended)?;
+    let item = item_of(alloc, level, format, &text[..line], what, &more)?;
+    Ok(Front::Given(item, len))
+}
+
+/// How far an item is cut whose first line is cut, where it waits for further lines.
+pub fn waits_on(level: u8, text: &[u8], waiting: Waiting, ended: bool) -> Option<Progress>
+    requires { IsWaiting ended level waiting text.now }
+    ensures { MatchOption result (ended ≡ false → number_of level waiting.what ≤ length (whole_lines (drop (waiting.line + 1) text.now)))
+        (λ progress. HasNone ended level text.now × IsProgress level progress text.now) }
+{
+    if ended {
+        return None;
+    }
+    let Waiting { line, what, cut } = waiting;
     let behind = &text[line + 1..];
     let cut = count_lines(level, what, behind, cut);
     if !what.is_met(level, cut.count, false) {
-        return Ok(Front::Waits(Progress::Waiting(Waiting { line, what, cut })));
+        return Some(Progress::Waiting(Waiting { line, what, cut }));
     }
-    held_item(alloc, level, format, text, line, what, false)
+    None
 }
 
-/// The item of a line and of the lines behind it, which are all there, or as many as there are where the input has ended.
-fn held_item(
+/// The further lines of the item at the front, which are all there, or as many as there are where the input has ended; and how
+/// many bytes all of its lines have.
+pub fn held_lines<'a>(
     alloc: Global,
     level: u8,
-    format: u8,
-    text: &[u8],
+    text: &'a [u8],
     line: usize,
     what: Asked,
     ended: bool,
-) -> Result<Front, AllocError>
+) -> Result<(Vec<&'a [u8]>, usize), AllocError>
     requires first { IsFirst ended level line what text.now }
     requires there { ended ≡ false → number_of level what ≤ length (whole_lines (drop (line + 1) text.now)) }
-    ensures { IfOk result (IsFront ended level format text.now) }
+    ensures within { IfOk result (λ f. f.1 ≤ length text.now) }
+    ensures gives { IfOk result (λ f. Gives ended level (grouped (take line text.now) (map (λ w. w.now) f.0.items) ∷ []) text.now (drop f.1 text.now)) }
 {
     let from = text.len().min(line + 1);
     let (more, len) = further_lines(alloc, level, what, &text[from..], ended)?;
-    let item = item_of(alloc, level, format, &text[..line], what, &more)?;
-    Ok(Front::Given(item, from + len))
+    Ok((more, from + len))
 }
 
 /// The lines at the front, as many as are asked for or as there are, and the number of their bytes.

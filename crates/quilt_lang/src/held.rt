@@ -58,7 +58,12 @@ fn item_with(
 }
 
 /// The colours of the rows, or none where one is missing or not well formed.
-fn rows_in(alloc: Global, level: u8, format: u8, more: &[&[u8]]) -> Result<Option<Text>, AllocError>
+pub fn rows_in(
+    alloc: Global,
+    level: u8,
+    format: u8,
+    more: &[&[u8]],
+) -> Result<Option<Text>, AllocError>
     ensures { IfOk result (λ rows. rows ≡ rows_of format level (map (λ w. w.now) more.now)) }
 {
     if !is_side(level, more.len()) {
@@ -68,7 +73,7 @@ fn rows_in(alloc: Global, level: u8, format: u8, more: &[&[u8]]) -> Result<Optio
 }
 
 /// The points of k list lines, or none where one is missing or not well formed.
-fn points_in(alloc: Global, k: u32, more: &[&[u8]]) -> Result<Option<PointList>, AllocError>
+pub fn points_in(alloc: Global, k: u32, more: &[&[u8]]) -> Result<Option<PointList>, AllocError>
     ensures { IfOk result (λ points. points ≡ points_of k (map (λ w. w.now) more.now)) }
 {
     if !is_count(k, more.len()) {
@@ -78,7 +83,7 @@ fn points_in(alloc: Global, k: u32, more: &[&[u8]]) -> Result<Option<PointList>,
 }
 
 /// The rings of k ring lines, or none where one is missing or not well formed.
-fn rings_in(alloc: Global, k: u32, more: &[&[u8]]) -> Result<Option<RingList>, AllocError>
+pub fn rings_in(alloc: Global, k: u32, more: &[&[u8]]) -> Result<Option<RingList>, AllocError>
     ensures { IfOk result (λ rings. rings ≡ rings_of k (map (λ w. w.now) more.now)) }
 {
     if !is_count(k, more.len()) {

@@ -2,6 +2,7 @@
 #![tactic(auto)]
 
 mod asked;
+mod commanding;
 mod counting;
 mod cutting;
 mod front;

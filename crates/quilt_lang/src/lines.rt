@@ -1,11 +1,15 @@
-ghost use Rattle.std.specs.Prelude.{◌≡◌, ◌≤◌, ◌+◌, ℕ, false, [], ◌∷◌, ◌++◌, drop, take, length, vec_len, OnOk, OnErr, IfOk, MatchOption};
+ghost use Rattle.std.specs.Prelude.{◌≡◌, ◌≤◌, ◌+◌, ℕ, false, [], ◌∷◌, ◌++◌, drop, take, length, vec_len, OnOk, OnErr, IfOk, IfSome, MatchOption};
 ghost use Rattle.quilt_words.specs.Items.{whole_items};
-ghost use Rattle.quilt_lang.specs.Reading.{Gives, GivesItem, HasNone, kept_limit};
+ghost use Rattle.quilt_words.specs.Forms.{Spelled};
+ghost use Rattle.quilt_words.specs.Fitting.{IsFitting};
+ghost use Rattle.quilt_lang.specs.Reading.{Gives, GivesCommand, GivesItem, HasNone, kept_limit};
 
+use crate::commanding::{CommandFront, front_command};
 use crate::cutting::{kept_len, silent_front};
 use crate::front::{Front, front_item};
 use crate::progress::Progress;
-use quilt_words::Item;
+use quilt_types::Code;
+use quilt_words::{Command, Item};
 use std::alloc::{AllocError, Global};
 use std::marker::Model;
 
@@ -95,6 +99,38 @@ impl Lines {
                 self.from = from + silent;
                 self.progress = Progress::Begun(scanned);
                 Ok(Some(item))
+            }
+        }
+    }
+
+    /// What the next item spells in the format, as `parse` answers for what `next_item` gives: its command, or the first refusal of
+    /// 13, 17, 1, 2, 3 and 4 that it has. Its lines are read where they lie. An Err leaves it as it was.
+    pub fn take_command(
+        &mut self,
+        format: u8,
+        ended: bool,
+    ) -> Result<Option<Result<Command, Code>>, AllocError>
+        ensures level { self.new.level ≡ self.old.level }
+        ensures given { IfOk result (λ found. MatchOption found
+            ((self.new.rest ≡ self.old.rest) × HasNone ended self.old.level self.old.rest)
+            (λ spelled. GivesCommand ended self.old.level format spelled self.old.rest self.new.rest)) }
+        ensures spelled { IfOk result (λ found. IfSome found (λ spelled. IfOk spelled (λ command. Spelled format self.old.level command))) }
+        ensures fitting { IfOk result (λ found. IfSome found (λ spelled. IfOk spelled (λ command. 1 ≤ format → format ≤ 2 → IsFitting format self.old.level command))) }
+        ensures err { OnErr result (self.new ≡ self.old) }
+    {
+        let alloc = *self.bytes.allocator();
+        let rest = &self.bytes[self.from..];
+        match front_command(alloc, self.level, format, rest, self.progress, ended)? {
+            CommandFront::Waits(progress) => {
+                self.progress = progress;
+                Ok(None)
+            }
+            CommandFront::Given(command, len) => {
+                let from = self.from + len;
+                let (silent, scanned) = silent_front(&self.bytes[from..], 0);
+                self.from = from + silent;
+                self.progress = Progress::Begun(scanned);
+                Ok(Some(command))
             }
         }
     }

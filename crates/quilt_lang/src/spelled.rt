@@ -32,27 +32,37 @@ fn asked_by_word(word: &[u8], name: &[u8], k: &[u8], most: u32) -> u32
     number_of(1, most, k).unwrap_or(0)
 }
 
-/// The value of a hexadecimal digit of either case.
-fn hex_value(c: u8) -> Option<u8>
-    ensures is { result ≡ hex_digit c }
+/// The value of a hexadecimal digit of either case at its byte, and 16 at each other byte.
+const DIGITS: [u8; 256] = [
+    16, 16, 16, 16, 16, 16, 16, 16, 16, 16, 16, 16, 16, 16, 16, 16, 16, 16, 16, 16, 16, 16, 16, 16,
+    16, 16, 16, 16, 16, 16, 16, 16, 16, 16, 16, 16, 16, 16, 16, 16, 16, 16, 16, 16, 16, 16, 16, 16,
+    0, 1, 2, 3, 4, 5, 6, 7, 8, 9, 16, 16, 16, 16, 16, 16, 16, 10, 11, 12, 13, 14, 15, 16, 16, 16,
+    16, 16, 16, 16, 16, 16, 16, 16, 16, 16, 16, 16, 16, 16, 16, 16, 16, 16, 16, 16, 16, 16, 16, 10,
+    11, 12, 13, 14, 15, 16, 16, 16, 16, 16, 16, 16, 16, 16, 16, 16, 16, 16, 16, 16, 16, 16, 16, 16,
+    16, 16, 16, 16, 16, 16, 16, 16, 16, 16, 16, 16, 16, 16, 16, 16, 16, 16, 16, 16, 16, 16, 16, 16,
+    16, 16, 16, 16, 16, 16, 16, 16, 16, 16, 16, 16, 16, 16, 16, 16, 16, 16, 16, 16, 16, 16, 16, 16,
+    16, 16, 16, 16, 16, 16, 16, 16, 16, 16, 16, 16, 16, 16, 16, 16, 16, 16, 16, 16, 16, 16, 16, 16,
+    16, 16, 16, 16, 16, 16, 16, 16, 16, 16, 16, 16, 16, 16, 16, 16, 16, 16, 16, 16, 16, 16, 16, 16,
+    16, 16, 16, 16, 16, 16, 16, 16, 16, 16, 16, 16, 16, 16, 16, 16, 16, 16, 16, 16, 16, 16, 16, 16,
+    16, 16, 16, 16, 16, 16, 16, 16, 16, 16, 16, 16, 16, 16,
+];
+
+/// The value of a hexadecimal digit of either case, and 16 for each other byte.
+fn digit_value(c: u8) -> u8
+    ensures { result ≡ unwrap_or (hex_digit c) 16 }
 {
-    if b'0' <= c && c <= b'9' {
-        Some(c - b'0')
-    } else if b'a' <= c && c <= b'f' {
-        Some(c - b'a' + 10)
-    } else if b'A' <= c && c <= b'F' {
-        Some(c - b'A' + 10)
-    } else {
-        None
-    }
+    DIGITS[usize::from(c)]
 }
 
 /// The byte that two hexadecimal digits spell.
 fn byte_of(high: u8, low: u8) -> Option<u8>
     ensures { (rest : List ℕ) → row (high ∷ low ∷ rest) ≡ with_byte result (row rest) }
 {
-    let high = hex_value(high)?;
-    let low = hex_value(low)?;
+    let high = digit_value(high);
+    let low = digit_value(low);
+    if high.max(low) > 15 {
+        return None;
+    }
     Some(16 * high + low)
 }
 
@@ -149,24 +159,31 @@ fn row_colours(
     if line.len() as u128 != 2 * u128::from(format) * width as u128 {
         return Ok(None);
     }
-    match row_bytes(alloc, line)? {
-        Some(bytes) if format == 1 => {
-            let wide = widened(alloc, &bytes)?;
-            Ok(Some(wide))
-        }
-        bytes => Ok(bytes),
+    if format == 1 {
+        wide_bytes(alloc, line)
+    } else {
+        row_bytes(alloc, line)
     }
 }
 
-/// A high byte of 0 before each byte.
-fn widened(alloc: Global, bytes: &[u8]) -> Result<Vec<u8>, AllocError>
-    ensures { IfOk result (λ wide. wide.items ≡ flat_map (λ c. 0 ∷ c ∷ []) bytes.now) }
+/// The bytes that pairs of hexadecimal digits spell, each behind a byte of 0, or none.
+fn wide_bytes(alloc: Global, line: &[u8]) -> Result<Option<Vec<u8>>, AllocError>
+    ensures { IfOk result (λ bytes. option_map (λ v. v.items) bytes ≡ option_map (colour_bytes 1) (row line.now)) }
 {
-    let mut wide = Vec::with_capacity(alloc, bytes.len())?;
-    for byte in bytes {
-        wide.extend_from_slice(&[0, *byte])?;
+    if line.len() % 2 != 0 {
+        return Ok(None);
     }
-    Ok(wide)
+    let mut bytes = Vec::with_capacity(alloc, line.len())?;
+    let mut i = 0;
+    while i < line.len() {
+        let Some(byte) = byte_of(line[i], line[i + 1]) else {
+            return Ok(None);
+        };
+        bytes.push(0)?;
+        bytes.push(byte)?;
+        i += 2;
+    }
+    Ok(Some(bytes))
 }
 
 /// The rings that all ring lines spell, or none where one is not well formed.

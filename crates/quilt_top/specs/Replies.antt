@@ -7,11 +7,6 @@ use Rattle.quilt_replies.specs.Answers.{State, Outcome, Reply}
 use Rattle.quilt_replies.specs.Runs.{outcome_of, output}
 use Rattle.quilt_replies.specs.States.{after_outcome}
 
--- some lines are this item in the format
-pub record IsItem (f n : ℕ) (item : Item) : Type 0 where
-  pub group : Group
-  pub is : held f n group ≡ item
-
 -- what lines hold in the format of the last edition
 abbrev pub held_at : State → Group → Item
 held_at s group = held s.last.format s.last.level group

@@ -1,10 +1,13 @@
 -- What running the commands of the text of a trial does.
-use Rattle.std.specs.Prelude.{◌≡◌, ℕ, ◌+◌, Bool, true, false, List, [], ◌∷◌, ◌++◌, length, count_by, decimal, codes}
+use Rattle.std.specs.Prelude.{◌≡◌, ℕ, ◌+◌, Bool, true, false, List, [], ◌∷◌, ◌++◌, length, count_by, decimal, codes, Result}
 use Rattle.quilt_world.specs.Added.{AddsOnly, is_of_pages, is_of_text}
 use Rattle.quilt_world.specs.Disk.{Pages}
 use Rattle.quilt_world.specs.Stops.{Since, LeavesNow}
 use Rattle.quilt_world.specs.Tale.{Tale, Begins}
+use Rattle.quilt_types.specs.declared.code.Code.{Code}
+use Rattle.quilt_words.specs.declared.command.Command.{Command}
 use Rattle.quilt_words.specs.declared.item.Item.{Item}
+use Rattle.quilt_words.specs.Forms.{form}
 use Rattle.quilt_words.specs.Items.{Group, held, items_of}
 use Rattle.quilt_lang.specs.Reading.{Same}
 use Rattle.quilt_lang.specs.Trials.{line, trial_text}
@@ -30,6 +33,12 @@ pub record IsNextItem (n f : ℕ) (item : Item) (old new : List ℕ) : Type 0 wh
   pub group : Group
   pub is : item ≡ held f n group
   pub rest : Same n (items_of n old) (group ∷ items_of n new)
+
+-- the first of the old items is given as what it spells in the format
+pub record IsNextCommand (n f : ℕ) (spelled : Result Command Code) (old new : List ℕ) : Type 0 where
+  pub item : Item
+  pub next : IsNextItem n f item old new
+  pub is : form f item ≡ spelled
 
 -- ---- the commands
 

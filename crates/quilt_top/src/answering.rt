@@ -8,14 +8,16 @@ ghost use Rattle.quilt_top.specs.declared.halt.Halt.TheVariants as halts;
 ghost use Rattle.quilt_replies.specs.Answers.{State, Refused};
 ghost use Rattle.quilt_replies.specs.Runs.{text_of, is_done};
 ghost use Rattle.quilt_map.specs.Sessions.{world_of, format_of, level_of, changes_of, IsAt};
-ghost use Rattle.quilt_top.specs.Replies.{IsItem, reply_to, state_then};
+ghost use Rattle.quilt_words.specs.declared.item.Item.{Item};
+ghost use Rattle.quilt_words.specs.Forms.{form, Spelled};
+ghost use Rattle.quilt_top.specs.Replies.{reply_to, state_then};
 
 use crate::halt::Halt;
 use crate::output::put_reply;
-use quilt_lang::{Item, ParseErr, parse};
+use quilt_lang::Command;
 use quilt_map::{Reply, Session};
 use quilt_par::NoGate;
-use quilt_types::{Code, Stop, Text};
+use quilt_types::{Code, Text};
 use quilt_world::World;
 use std::alloc::{AllocError, Global};
 use std::thread::Threads;
@@ -37,31 +39,35 @@ fn refusal(alloc: Global, code: Code) -> Result<Answer, AllocError>
     })
 }
 
-/// The answer to an item of the session's level, and the work that it leaves.
+/// The answer to what an item of the session's level spells, and the work that it leaves.
 pub(crate) fn answer_item<R: Threads + Sync, W: World>(
     rt: &R,
     alloc: Global,
     session: &mut Session<W>,
-    item: &Item,
+    spelled: Result<Command, Code>,
 ) -> Result<Answer, Halt>
-    requires { IsItem (format_of session.old) (level_of session.old) item.now }
-    ensures text { IfOk result (λ a. (s : State) → IsAt session.old s → a.text ≡ text_of (reply_to s item.now)) }
-    ensures done { IfOk result (λ a. (s : State) → IsAt session.old s → a.is_done ≡ is_done (reply_to s item.now)) }
-    ensures at { OnOk result ((s : State) → IsAt session.old s → IsAt session.new (state_then s item.now)) }
-    ensures changes { OnOk result ((s : State) → IsAt session.old s → changes_of session.new ≡ changes_then s item.now (changes_of session.old)) }
+    requires { IfOk spelled (λ command. Spelled (format_of session.old) (level_of session.old) command) }
+    ensures text { IfOk result (λ a. (item : Item) → form (format_of session.old) item ≡ spelled →
+        (s : State) → IsAt session.old s → a.text ≡ text_of (reply_to s item)) }
+    ensures done { IfOk result (λ a. (item : Item) → form (format_of session.old) item ≡ spelled →
+        (s : State) → IsAt session.old s → a.is_done ≡ is_done (reply_to s item)) }
+    ensures at { OnOk result ((item : Item) → form (format_of session.old) item ≡ spelled →
+        (s : State) → IsAt session.old s → IsAt session.new (state_then s item)) }
+    ensures changes { OnOk result ((item : Item) → form (format_of session.old) item ≡ spelled →
+        (s : State) → IsAt session.old s → changes_of session.new ≡ changes_then s item (changes_of session.old)) }
     ensures level { OnOk result (level_of session.new ≡ level_of session.old) }
     ensures later { W.faults (world_of session.old) ≤ W.faults (world_of session.new) }
     ensures device { IfErr result (λ e. e ≡ halts.Stopped stops.Device → Rose (W.faults (world_of session.old)) (W.faults (world_of session.new))) }
     ensures damaged { IfErr result (λ e. (page : ℕ) → e ≡ halts.Stopped (stops.Damaged page) → (s : State) → IsAt session.old s → ⊥) }
     ensures short { IfErr result (λ e. e ≡ halts.TooMuch → ⊥) }
     ensures door { W.door (world_of session.new) ≡ W.door (world_of session.old) }
-    ensures applies { (s : State) → IsAt session.old s
-        → Goes (Applies s item.now (changes_of session.old)) (W.told (world_of session.old)) (W.told (world_of session.new)) }
+    ensures applies { (item : Item) → form (format_of session.old) item ≡ spelled →
+        (s : State) → IsAt session.old s
+        → Goes (Applies s item (changes_of session.old)) (W.told (world_of session.old)) (W.told (world_of session.new)) }
 {
-    let command = match parse(alloc, session.head().format, item) {
+    let command = match spelled {
         Ok(command) => command,
-        Err(ParseErr::No(code)) => return Ok(refusal(alloc, code)?),
-        Err(ParseErr::Memory) => return Err(Halt::Stopped(Stop::Memory)),
+        Err(code) => return Ok(refusal(alloc, code)?),
     };
     let reply = match session.apply(rt, &NoGate, &command) {
         Ok(reply) => reply,
@@ -76,31 +82,36 @@ pub(crate) fn answer_item<R: Threads + Sync, W: World>(
     }
 }
 
-/// Answers an item and puts its reply whole. Says whether no reply so far was a refusal, this one with them.
+/// Answers what an item spells and puts its reply whole. Says whether no reply so far was a refusal, this one with them.
 pub(crate) fn put_answer<R: Threads + Sync, W: World>(
     rt: &R,
     alloc: Global,
     session: &mut Session<W>,
-    item: Item,
+    spelled: Result<Command, Code>,
     so_far: bool,
 ) -> Result<bool, Halt>
     requires open { IsOpen (W.door (world_of session.old)) }
-    requires item { IsItem (format_of session.old) (level_of session.old) item }
+    requires spelled { IfOk spelled (λ command. Spelled (format_of session.old) (level_of session.old) command) }
     ensures later { W.faults (world_of session.old) ≤ W.faults (world_of session.new) }
     ensures device { IfErr result (λ e. e ≡ halts.Stopped stops.Device → Rose (W.faults (world_of session.old)) (W.faults (world_of session.new))) }
     ensures damaged { IfErr result (λ e. (page : ℕ) → e ≡ halts.Stopped (stops.Damaged page) → (s : State) → IsAt session.old s → ⊥) }
     ensures short { IfErr result (λ e. e ≡ halts.TooMuch → ⊥) }
     ensures door { W.door (world_of session.new) ≡ W.door (world_of session.old) }
     ensures level { OnOk result (level_of session.new ≡ level_of session.old) }
-    ensures done { IfOk result (λ done. (s : State) → IsAt session.old s → done ≡ (so_far && is_done (reply_to s item))) }
-    ensures at { OnOk result ((s : State) → IsAt session.old s → IsAt session.new (state_then s item)) }
-    ensures changes { OnOk result ((s : State) → IsAt session.old s → changes_of session.new ≡ changes_then s item (changes_of session.old)) }
-    ensures said { OnOk result ((s : State) → IsAt session.old s
+    ensures done { IfOk result (λ done. (item : Item) → form (format_of session.old) item ≡ spelled →
+        (s : State) → IsAt session.old s → done ≡ (so_far && is_done (reply_to s item))) }
+    ensures at { OnOk result ((item : Item) → form (format_of session.old) item ≡ spelled →
+        (s : State) → IsAt session.old s → IsAt session.new (state_then s item)) }
+    ensures changes { OnOk result ((item : Item) → form (format_of session.old) item ≡ spelled →
+        (s : State) → IsAt session.old s → changes_of session.new ≡ changes_then s item (changes_of session.old)) }
+    ensures said { OnOk result ((item : Item) → form (format_of session.old) item ≡ spelled →
+        (s : State) → IsAt session.old s
         → Goes (Answers s item (changes_of session.old) (text_of (reply_to s item))) (W.told (world_of session.old)) (W.told (world_of session.new))) }
-    ensures part { OnErr result ((s : State) → IsAt session.old s
+    ensures part { OnErr result ((item : Item) → form (format_of session.old) item ≡ spelled →
+        (s : State) → IsAt session.old s
         → Goes (AnswersPrefix s item (changes_of session.old)) (W.told (world_of session.old)) (W.told (world_of session.new))) }
 {
-    let answer = answer_item(rt, alloc, session, &item)?;
+    let answer = answer_item(rt, alloc, session, spelled)?;
     put_reply(session, answer.text.bytes())?;
     Ok(so_far && answer.is_done)
 }

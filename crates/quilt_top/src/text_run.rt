@@ -47,8 +47,8 @@ fn answer_items<R: Threads + Sync, W: World>(
         → Goes (PrefixOfAll ended lines.old.level s (changes_of session.old) lines.old.rest) (W.told (world_of session.old)) (W.told (world_of session.new))) }
 {
     let mut all_done = so_far;
-    'items: while let Some(item) = lines.next_item(session.head().format, ended)? {
-        all_done = put_answer(rt, alloc, session, item, all_done)?;
+    'items: while let Some(spelled) = lines.take_command(session.head().format, ended)? {
+        all_done = put_answer(rt, alloc, session, spelled, all_done)?;
     }
     Ok(all_done)
 }

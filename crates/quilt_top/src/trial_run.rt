@@ -3,6 +3,8 @@ ghost use Rattle.quilt_types.specs.declared.stop.Stop.TheVariants as stops;
 ghost use Rattle.quilt_world.specs.Tale.{Goes};
 ghost use Rattle.quilt_world.specs.Causes.{Rose};
 ghost use Rattle.quilt_world.specs.Doors.{IsOpen};
+ghost use Rattle.quilt_words.specs.declared.item.Item.{Item};
+ghost use Rattle.quilt_words.specs.Forms.{form, Spelled};
 ghost use Rattle.quilt_words.specs.Items.{items_of};
 ghost use Rattle.quilt_replies.specs.Answers.{State};
 ghost use Rattle.quilt_replies.specs.Runs.{is_done};
@@ -10,7 +12,7 @@ ghost use Rattle.quilt_map.specs.Sessions.{world_of, format_of, level_of, change
 ghost use Rattle.quilt_trial.specs.Rest.{newlines};
 ghost use Rattle.quilt_top.specs.declared.halt.Halt.TheVariants as halts;
 ghost use Rattle.quilt_top.specs.Answering.{Applies};
-ghost use Rattle.quilt_top.specs.Replies.{IsItem, reply_to, state_then};
+ghost use Rattle.quilt_top.specs.Replies.{reply_to, state_then};
 ghost use Rattle.quilt_top.specs.TextRun.{run_in};
 ghost use Rattle.quilt_top.specs.Trying.{text_left, Tries, Tried, trial_run, summary_of, TriesPrefix, TriesWhole};
 
@@ -18,8 +20,9 @@ use crate::answering::answer_item;
 use crate::halt::Halt;
 use crate::output::put_reply;
 use crate::trial_items::TrialItems;
-use quilt_lang::Item;
+use quilt_lang::Command;
 use quilt_map::Session;
+use quilt_types::Code;
 use quilt_world::World;
 use std::alloc::{AllocError, Global};
 use std::thread::Threads;
@@ -52,26 +55,29 @@ impl Tally {
     }
 }
 
-/// Answers an item and puts no reply. Says whether its reply is no refusal.
+/// Answers what an item spells and puts no reply. Says whether its reply is no refusal.
 fn try_item<R: Threads + Sync, W: World>(
     rt: &R,
     alloc: Global,
     session: &mut Session<W>,
-    item: Item,
+    spelled: Result<Command, Code>,
 ) -> Result<bool, Halt>
-    requires { IsItem (format_of session.old) (level_of session.old) item }
-    ensures done { IfOk result (λ done. (s : State) → IsAt session.old s → done ≡ is_done (reply_to s item)) }
-    ensures at { OnOk result ((s : State) → IsAt session.old s → IsAt session.new (state_then s item)) }
+    requires { IfOk spelled (λ command. Spelled (format_of session.old) (level_of session.old) command) }
+    ensures done { IfOk result (λ done. (item : Item) → form (format_of session.old) item ≡ spelled →
+        (s : State) → IsAt session.old s → done ≡ is_done (reply_to s item)) }
+    ensures at { OnOk result ((item : Item) → form (format_of session.old) item ≡ spelled →
+        (s : State) → IsAt session.old s → IsAt session.new (state_then s item)) }
     ensures level { OnOk result (level_of session.new ≡ level_of session.old) }
     ensures later { W.faults (world_of session.old) ≤ W.faults (world_of session.new) }
     ensures device { IfErr result (λ e. e ≡ halts.Stopped stops.Device → Rose (W.faults (world_of session.old)) (W.faults (world_of session.new))) }
     ensures damaged { IfErr result (λ e. (page : ℕ) → e ≡ halts.Stopped (stops.Damaged page) → (s : State) → IsAt session.old s → ⊥) }
     ensures short { IfErr result (λ e. e ≡ halts.TooMuch → ⊥) }
     ensures door { W.door (world_of session.new) ≡ W.door (world_of session.old) }
-    ensures applies { (s : State) → IsAt session.old s
+    ensures applies { (item : Item) → form (format_of session.old) item ≡ spelled →
+        (s : State) → IsAt session.old s
         → Goes (Applies s item (changes_of session.old)) (W.told (world_of session.old)) (W.told (world_of session.new)) }
 {
-    let answer = answer_item(rt, alloc, session, &item)?;
+    let answer = answer_item(rt, alloc, session, spelled)?;
     Ok(answer.is_done)
 }
 
@@ -99,8 +105,8 @@ fn try_items<R: Threads + Sync, W: World>(
         done: 0,
         refused: 0,
     };
-    'items: while let Some(item) = items.next_item(session.head().format)? {
-        let is_done = try_item(rt, alloc, session, item)?;
+    'items: while let Some(spelled) = items.take_command(session.head().format)? {
+        let is_done = try_item(rt, alloc, session, spelled)?;
         tally = tally.with(is_done);
     }
     Ok(tally)

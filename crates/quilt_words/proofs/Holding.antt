@@ -14,7 +14,7 @@ use Rattle.quilt_words.specs.declared.item.Item.{Item}
 use Rattle.quilt_words.specs.declared.item.Item.TheVariants.{Long}
 use Rattle.quilt_words.specs.declared.command.Command.{Command}
 use Rattle.quilt_words.specs.declared.parse_err.ParseErr.{ParseErr}
-use Rattle.quilt_words.specs.Fitting.{IsWithin, AreColours, IsRows, ArePoints, AreRings, IsRing, IsPointOf16, IsCornerOf16, FurtherFits, IsFitting}
+use Rattle.quilt_words.specs.Fitting.{IsWithin, AreColours, IsRows, ArePoints, AreRings, IsRing, IsPointOf16, IsCornerOf16, FurtherFits}
 use Rattle.quilt_words.specs.Items.{Group, held, held_as, asked, asked_by, listed_by, is_long, is_plain, words_of, begins_with, rows_of, rows_joined}
 use Rattle.quilt_words.specs.Items.{colour_bytes, points_of, points_joined, point_of, point, rings_of, rings_joined, ring_of, corners_of, corner_of}
 use Rattle.quilt_words.specs.Spelling.{number, row, hex_digit, cons_both, is_spelled, value_of}
@@ -182,7 +182,7 @@ rings_are [] = are_none IsRing
 rings_are (line ∷ lines) = next_are IsRing (length lines) (ring_of line) (rings_joined lines) (ring_fits line) (rings_are lines)
 
 -- a digit, and a byte of two
-digit_low : (c : ℕ) → IfSome (hex_digit c) (λ d. d < 16)
+pub digit_low : (c : ℕ) → IfSome (hex_digit c) (λ d. d < 16)
 digit_low c = elim (bool_cases (nat_le 48 c && nat_le c 57)) [
   | inl is ↦ rw is (omega (arith, leb-true c 57 (both_right (nat_le 48 c) (nat_le c 57) is)))
   | inr not_ ↦ rw not_ (letter_low c)
@@ -351,10 +351,3 @@ pub spelled : (f : ℕ) (item : Item) (r : Result Command ParseErr) → Answers 
     IfOk r (λ command. (n : ℕ) (group : Group) → held f n group ≡ item → Spelled f n command)
 spelled f item (Err e) is = tt
 spelled f item (Ok command) is = λ n group same. (group, ap (form f) same ∙ is)
-
--- what is parsed of an item that some lines hold
-pub fitting : (f : ℕ) (item : Item) (r : Result Command ParseErr) → ((n : ℕ) → FurtherFits f n (further_of item) → IfOk r (IsFitting f n)) →
-    IfOk r (λ command. (n : ℕ) (group : Group) → 1 ≤ f → f ≤ 2 → held f n group ≡ item → IsFitting f n command)
-fitting f item (Err e) fits = tt
-fitting f item (Ok command) fits = λ n group low high is.
-    fits n (subst (λ (i : Item). FurtherFits f n (further_of i)) is (further_fits f n group low high))

@@ -1,12 +1,12 @@
 pub mod Cases
 pub mod FirstWords
+pub mod Forming
 pub mod Holding
 pub mod Names
 pub mod Numbers
 pub mod Recolours
 pub mod Remarks
 pub mod Rings
-pub mod Rows
 pub mod Slices
 pub mod SpelledLaws
 pub mod Table

@@ -14,6 +14,13 @@ map_first f (x ∷ xs) d some = rw (behind 1 (x ∷ xs)) refl
 abbrev pub unread : Bor (List ℕ)
 unread = record { ref_ptr = (0, 0); now = [] }
 
+-- the words of a list of two
+pub two_words : (ws : List (Bor (List ℕ))) → 2 ≤ length ws → length ws < 3 → map (λ w. w.now) ws ≡ (get_or ws 0 unread).now ∷ (get_or ws 1 unread).now ∷ []
+two_words [] low high = absurd (omega (arith, low))
+two_words (w1 ∷ []) low high = absurd (omega (arith, low))
+two_words (w1 ∷ w2 ∷ []) low high = refl
+two_words (w1 ∷ w2 ∷ w ∷ ws) low high = absurd (omega (arith, high))
+
 -- the words of a list of three
 pub three_words : (ws : List (Bor (List ℕ))) → 3 ≤ length ws → length ws < 4 →
     map (λ w. w.now) ws ≡ (get_or ws 0 unread).now ∷ (get_or ws 1 unread).now ∷ (get_or ws 2 unread).now ∷ []

@@ -1,6 +1,6 @@
 -- What a command that an item spells has fits the format and the level.
 use Rattle.std.proofs.Common.{◌≡◌, inl, inr, ℕ, zero, suc, ◌+◌, ◌-◌, ◌*◌, ◌/◌, ◌<◌, ◌≤◌, ◌^◌, arith, Bool, true, false, cond, List, [], ◌∷◌, ◌++◌, length, All}
-use Rattle.std.proofs.Common.{Option, Some, None, Result, Ok, Err, refl, sym, ◌∙◌, ap, subst, ◌==◌, option_map, find, ℤ, pos, neg_ℤ}
+use Rattle.std.proofs.Common.{Option, Some, None, Result, Ok, Err, refl, sym, ◌∙◌, ap, subst, ◌==◌, option_map, find, ℤ, pos, neg_ℤ, codes, IfOk}
 use Rattle.std.specs.List.{list_all}
 use Rattle.std.specs.Str.{bytes_eq}
 use Rattle.std.proofs.lemmas.Bool.{eqb-true}
@@ -13,35 +13,24 @@ use Rattle.quilt_types.specs.declared.code.Code.TheVariants as codes_of
 use Rattle.quilt_words.specs.declared.command.Command.{Command}
 use Rattle.quilt_words.specs.declared.item.Item.{Item}
 use Rattle.quilt_words.specs.declared.item.Item.TheVariants.{Long, Line, Rows, PointLines, RingLines}
-use Rattle.quilt_words.specs.declared.word.MapWord.{MapWord}
-use Rattle.quilt_words.specs.declared.word.MapWord.TheVariants as map_words
-use Rattle.quilt_words.specs.declared.word.RegionWord.{RegionWord}
-use Rattle.quilt_words.specs.declared.word.RegionWord.TheVariants as region_words
-use Rattle.quilt_words.specs.declared.word.AlgebraWord.{AlgebraWord}
-use Rattle.quilt_words.specs.declared.word.AlgebraWord.TheVariants as algebra_words
-use Rattle.quilt_words.specs.declared.word.PointWord.{PointWord}
-use Rattle.quilt_words.specs.declared.word.PointWord.TheVariants as point_words
-use Rattle.quilt_words.specs.declared.word.LineWord.{LineWord}
-use Rattle.quilt_words.specs.declared.word.LineWord.TheVariants as line_words
-use Rattle.quilt_words.specs.declared.word.Word.{Word}
-use Rattle.quilt_words.specs.declared.word.Word.TheVariants as words
 use Rattle.quilt_words.specs.Fitting.{IsFitting, FurtherFits, IsName, IsWithin, IsShift, IsColour, IsPixelOf16, IsWindowOf16}
 use Rattle.quilt_words.specs.Forms.{Further, Argument, A_name, A_number, A_signed, Value, Called, Number, Signed, coordinate, colour, label, pixel, window}
-use Rattle.quilt_words.specs.Forms.{pairs_of, or_err, ◌>>=◌, argument_value, values_of, form_of_words, form_of_line, form, Spelled, area_command, at_command}
+use Rattle.quilt_words.specs.Forms.{pairs_of, or_err, ◌>>=◌, Entry, table, argument_value, values_of, form_of_words, form_of_line, form, Spelled, area_command, at_command}
 use Rattle.quilt_words.specs.Forms.{blocks_command, buffer_command, clip_command, copy_command, cross_command, crossings_command, del_command, diff_command}
 use Rattle.quilt_words.specs.Forms.{drop_command, edition_command, find_command, inter_command, layers_command, leaves_command, line_command, lines_command}
 use Rattle.quilt_words.specs.Forms.{nearest_command, over_command, perimeter_command, points_command, polygon_command, publish_command, put_command}
 use Rattle.quilt_words.specs.Forms.{rank_command, raster_command, recolour_command, records_command, rect_command, region_command, revert_command}
 use Rattle.quilt_words.specs.Forms.{scatter_command, set_command, shift_command, show_command, union_command, unline_command, upgrade_command, window_command}
 use Rattle.quilt_words.specs.Forms.{within_command}
-use Rattle.quilt_words.specs.Items.{held, is_plain, words_of}
-use Rattle.quilt_words.specs.Made.{made, recoloured, has_pairs, formed, map_formed, region_formed, algebra_formed, point_formed, line_formed, further_of}
+use Rattle.quilt_words.specs.Items.{Group, held, is_plain, words_of}
+use Rattle.quilt_words.specs.Parsing.{Answers}
+use Rattle.quilt_words.specs.declared.parse_err.ParseErr.{ParseErr}
+use Rattle.quilt_words.specs.Made.{made, row_formed, recoloured, has_pairs, formed, further_of}
 use Rattle.quilt_words.specs.Spelling.{number, signed, name}
-use Rattle.quilt_words.specs.Words.{all_words, spelling}
 use Rattle.quilt_words.proofs.Cases.{bool_cases}
 use Rattle.quilt_words.proofs.Holding.{number_within, further_fits}
 use Rattle.quilt_words.proofs.Recolours.{paired, pair_number}
-use Rattle.quilt_words.proofs.Table.{unspelled, spelled_is, known_is}
+use Rattle.quilt_words.proofs.Forming.{formed_is}
 
 -- ---- the values of arguments
 
@@ -165,6 +154,10 @@ number_of_pairs count is = record { least = grind arith; most = grind arith }
 paired_length : (f k m : ℕ) → length (paired f k m) ≡ 2 * m
 paired_length f k zero = refl
 paired_length f k (suc m) = omega (arith, paired_length f (k + 1) m)
+
+no_words : (f : ℕ) (more : Further) → form_of_words f more [] ≡ Err codes_of.Word
+unfolding form_of_words
+no_words f more = refl
 
 -- ---- the rows of the table
 
@@ -389,75 +382,144 @@ module _ (f n : ℕ) where
     | inr not_ ↦ let none : Err codes_of.Count ≡ Ok c = rw not_ at is in absurd (cc)
   ]
 
-  map_made : (more : Further) (w : MapWord) (ws : List (List ℕ)) (c : Command) → map_formed f more w ws ≡ Ok c → FitsWith f n more c
-  map_made more map_words.Region ws c is = by_row _ _ more ws c region_fits is
-  map_made more map_words.Lines ws c is = by_row _ _ more ws c lines_fits is
-  map_made more map_words.Drop ws c is = by_row _ _ more ws c drop_fits is
-  map_made more map_words.Copy ws c is = by_row _ _ more ws c copy_fits is
-  map_made more map_words.Layers ws c is = by_row _ _ more ws c layers_fits is
-  map_made more map_words.Blocks ws c is = by_row _ _ more ws c blocks_fits is
-  map_made more map_words.Records ws c is = by_row _ _ more ws c records_fits is
-  map_made more map_words.Edition ws c is = by_row _ _ more ws c edition_fits is
-  map_made more map_words.Publish ws c is = by_row _ _ more ws c publish_fits is
-  map_made more map_words.Upgrade ws c is = by_row _ _ more ws c upgrade_fits is
-  map_made more map_words.Revert ws c is = by_row _ _ more ws c revert_fits is
-  map_made more map_words.Points ws c is = by_row _ _ more ws c (points_fits (length ws == 1)) is
+  -- each row of a table
+  abbrev AllRows : List Entry → Type 0
+  AllRows [] = Unit {0}
+  AllRows (e ∷ es) = Row e.arguments e.command × AllRows es
 
-  region_made : (more : Further) (w : RegionWord) (ws : List (List ℕ)) (c : Command) → region_formed f more w ws ≡ Ok c → FitsWith f n more c
-  region_made more region_words.Set ws c is = by_row _ _ more ws c set_fits is
-  region_made more region_words.Rect ws c is = by_row _ _ more ws c rect_fits is
-  region_made more region_words.Raster ws c is = by_row _ _ more ws c raster_fits is
-  region_made more region_words.At ws c is = by_row _ _ more ws c at_fits is
-  region_made more region_words.Show ws c is = by_row _ _ more ws c show_fits is
-  region_made more region_words.Leaves ws c is = by_row _ _ more ws c leaves_fits is
-  region_made more region_words.Area ws c is = by_row _ _ more ws c area_fits is
-  region_made more region_words.Perimeter ws c is = by_row _ _ more ws c perimeter_fits is
-  region_made more region_words.Polygon ws c is = by_row _ _ more ws c polygon_fits is
+  all_rows : AllRows (table f)
+  all_rows = (
+    region_fits,
+    (
+      lines_fits,
+      (
+        drop_fits,
+        (
+          copy_fits,
+          (
+            layers_fits,
+            (
+              blocks_fits,
+              (
+                records_fits,
+                (
+                  set_fits,
+                  (
+                    rect_fits,
+                    (
+                      raster_fits,
+                      (
+                        at_fits,
+                        (
+                          show_fits,
+                          (
+                            leaves_fits,
+                            (
+                              union_fits,
+                              (
+                                inter_fits,
+                                (
+                                  diff_fits,
+                                  (
+                                    window_fits,
+                                    (
+                                      shift_fits,
+                                      (
+                                        buffer_fits,
+                                        (
+                                          area_fits,
+                                          (
+                                            perimeter_fits,
+                                            (
+                                              put_fits,
+                                              (
+                                                del_fits,
+                                                (
+                                                  scatter_fits,
+                                                  (
+                                                    find_fits,
+                                                    (
+                                                      within_fits,
+                                                      (
+                                                        line_fits,
+                                                        (
+                                                          unline_fits,
+                                                          (
+                                                            cross_fits,
+                                                            (
+                                                              clip_fits,
+                                                              (
+                                                                nearest_fits,
+                                                                (
+                                                                  over_fits,
+                                                                  (
+                                                                    edition_fits,
+                                                                    (
+                                                                      publish_fits,
+                                                                      (
+                                                                        upgrade_fits,
+                                                                        (
+                                                                          revert_fits,
+                                                                          (polygon_fits, (rank_fits, (crossings_fits, tt))),
+                                                                        ),
+                                                                      ),
+                                                                    ),
+                                                                  ),
+                                                                ),
+                                                              ),
+                                                            ),
+                                                          ),
+                                                        ),
+                                                      ),
+                                                    ),
+                                                  ),
+                                                ),
+                                              ),
+                                            ),
+                                          ),
+                                        ),
+                                      ),
+                                    ),
+                                  ),
+                                ),
+                              ),
+                            ),
+                          ),
+                        ),
+                      ),
+                    ),
+                  ),
+                ),
+              ),
+            ),
+          ),
+        ),
+      ),
+    ),
+  )
 
-  algebra_made : (more : Further) (w : AlgebraWord) (ws : List (List ℕ)) (c : Command) → algebra_formed f more w ws ≡ Ok c → FitsWith f n more c
-  algebra_made more algebra_words.Union ws c is = by_row _ _ more ws c union_fits is
-  algebra_made more algebra_words.Inter ws c is = by_row _ _ more ws c inter_fits is
-  algebra_made more algebra_words.Diff ws c is = by_row _ _ more ws c diff_fits is
-  algebra_made more algebra_words.Window ws c is = by_row _ _ more ws c window_fits is
-  algebra_made more algebra_words.Shift ws c is = by_row _ _ more ws c shift_fits is
-  algebra_made more algebra_words.Buffer ws c is = by_row _ _ more ws c buffer_fits is
-  algebra_made more algebra_words.Recolour ws c is = recolour_made more ws c is
-
-  point_made : (more : Further) (w : PointWord) (ws : List (List ℕ)) (c : Command) → point_formed f more w ws ≡ Ok c → FitsWith f n more c
-  point_made more point_words.Put ws c is = by_row _ _ more ws c put_fits is
-  point_made more point_words.Del ws c is = by_row _ _ more ws c del_fits is
-  point_made more point_words.Scatter ws c is = by_row _ _ more ws c scatter_fits is
-  point_made more point_words.Find ws c is = by_row _ _ more ws c find_fits is
-  point_made more point_words.Within ws c is = by_row _ _ more ws c within_fits is
-
-  line_made : (more : Further) (w : LineWord) (ws : List (List ℕ)) (c : Command) → line_formed f more w ws ≡ Ok c → FitsWith f n more c
-  line_made more line_words.Line ws c is = by_row _ _ more ws c line_fits is
-  line_made more line_words.Unline ws c is = by_row _ _ more ws c unline_fits is
-  line_made more line_words.Cross ws c is = by_row _ _ more ws c cross_fits is
-  line_made more line_words.Clip ws c is = by_row _ _ more ws c clip_fits is
-  line_made more line_words.Nearest ws c is = by_row _ _ more ws c nearest_fits is
-  line_made more line_words.Over ws c is = by_row _ _ more ws c over_fits is
-  line_made more line_words.Rank ws c is = by_row _ _ more ws c rank_fits is
-  line_made more line_words.Crossings ws c is = by_row _ _ more ws c crossings_fits is
-
-  word_made : (more : Further) (w : Word) (ws : List (List ℕ)) (c : Command) → formed f more w ws ≡ Ok c → FitsWith f n more c
-  word_made more (words.Map w) ws c is = map_made more w ws c is
-  word_made more (words.Region w) ws c is = region_made more w ws c is
-  word_made more (words.Algebra w) ws c is = algebra_made more w ws c is
-  word_made more (words.Point w) ws c is = point_made more w ws c is
-  word_made more (words.Line w) ws c is = line_made more w ws c is
+  by_found : (p : Entry → Bool) (es : List Entry) (more : Further) (ws : List (List ℕ)) (c : Command) → AllRows es →
+      row_formed (find p es) more ws ≡ Ok c → FitsWith f n more c
+  by_found p [] more ws c rows is = cc
+  by_found p (e ∷ es) more ws c rows is = elim (bool_cases (p e)) [
+    | inl yes_ ↦ let it : made e.arguments e.command more ws ≡ Ok c = rw yes_ at is in by_row e.arguments e.command more ws c rows.0 it
+    | inr not_ ↦ by_found p es more ws c rows.1 (rw not_ at is)
+  ]
 
   -- ---- items
 
-  known_good : (more : Further) (bs : List ℕ) (ws : List (List ℕ)) (c : Command) (w : Option Word) → find (λ v. bytes_eq (spelling v) bs) all_words ≡ w
-      → form_of_words f more (bs ∷ ws) ≡ Ok c → FitsWith f n more c
-  known_good more bs ws c None none is = let bad : Err codes_of.Word ≡ Ok c = sym (unspelled f more bs ws none) ∙ is in cc
-  known_good more bs ws c (Some w) some is = word_made more w ws c (sym (known_is f more bs w ws (spelled_is bs w some)) ∙ is)
+  formed_good : (more : Further) (bs : List ℕ) (ws : List (List ℕ)) (c : Command) → formed f more bs ws ≡ Ok c → FitsWith f n more c
+  formed_good more bs ws c is = elim (bool_cases (bytes_eq bs (codes "recolour"))) [
+    | inl same ↦ recolour_made more ws c (rw same at is)
+    | inr other ↦ elim (bool_cases (bytes_eq bs (codes "points"))) [
+      | inl same ↦ by_row _ _ more ws c (points_fits (length ws == 1)) (rw (other, same) at is)
+      | inr not_ ↦ by_found (λ e. bytes_eq e.word bs) (table f) more ws c all_rows (rw (other, not_) at is)
+    ]
+  ]
 
   words_good : (more : Further) (ws : List (List ℕ)) (c : Command) → form_of_words f more ws ≡ Ok c → FitsWith f n more c
-  unfolding form_of_words
-  words_good more [] c is = cc
-  words_good more (bs ∷ ws) c is = known_good more bs ws c (find (λ v. bytes_eq (spelling v) bs) all_words) refl is
+  words_good more [] c is = let bad : Err codes_of.Word ≡ Ok c = sym (no_words f more) ∙ is in cc
+  words_good more (bs ∷ ws) c is = formed_good more bs ws c (sym (formed_is f more bs ws) ∙ is)
 
   line_good : (line : List ℕ) (more : Further) (c : Command) → form_of_line f line more ≡ Ok c → FitsWith f n more c
   line_good line more c is = elim (bool_cases (list_all is_plain line)) [
@@ -476,3 +538,9 @@ module _ (f n : ℕ) where
 -- what a command that an item spells has fits
 pub spelled_fits : (f n : ℕ) (c : Command) → 1 ≤ f → f ≤ 2 → Spelled f n c → IsFitting f n c
 spelled_fits f n c low high spelled = (item_good f n (held f n spelled.0) c spelled.1).fits (further_fits f n spelled.0 low high)
+
+-- and so what an item spells, where a group holds it
+pub fitting : (f : ℕ) (item : Item) (r : Result Command ParseErr) → Answers r (form f item) →
+    IfOk r (λ command. (n : ℕ) (group : Group) → 1 ≤ f → f ≤ 2 → held f n group ≡ item → IsFitting f n command)
+fitting f item (Ok c) is = λ n group low high holds. spelled_fits f n c low high (group, ap (form f) holds ∙ is)
+fitting f item (Err e) is = tt

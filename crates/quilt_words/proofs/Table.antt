@@ -9,9 +9,7 @@ use Rattle.quilt_words.specs.declared.word.Word.{Word}
 use Rattle.quilt_types.specs.declared.code.Code.TheVariants as codes_of
 use Rattle.quilt_words.specs.Words.{first_is, spelling, all_words}
 use Rattle.quilt_words.specs.Forms.{Further, Entry, table, form_of_words}
-use Rattle.quilt_words.specs.Made.{formed}
 use Rattle.quilt_words.proofs.Cases.{bool_cases}
-use Rattle.quilt_words.proofs.Rows.{formed_is}
 
 pub find_holds : {X : Type 0} (p : X → Bool) (xs : List X) (x : X) → find p xs ≡ Some x → p x ≡ true
 find_holds p [] x is = cc
@@ -62,11 +60,6 @@ spelled_is bs w is = sym ((bytes_eq-Decides (spelling w) bs).0 (find_holds (λ v
 pub spelled_some : (bs : List ℕ) (w : Option Word) → w ≡ find (λ v. bytes_eq (spelling v) bs) all_words → IfSome w (λ v. bs ≡ spelling v)
 spelled_some bs None is = tt
 spelled_some bs (Some w) is = spelled_is bs w (sym is)
-
--- a word spells what its row makes
-pub known_is : (f : ℕ) (more : Further) (bs : List ℕ) (w : Word) (args : List (List ℕ)) → bs ≡ spelling w
-    → form_of_words f more (bs ∷ args) ≡ formed f more w args
-known_is f more bs w args same = ap (λ (v : List ℕ). form_of_words f more (v ∷ args)) same ∙ formed_is f more w args
 
 -- bytes that begin with a byte are found among the words that begin with it
 pub found_among : (c : ℕ) (cs : List ℕ) (xs : List Word) →

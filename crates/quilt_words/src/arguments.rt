@@ -5,7 +5,7 @@ ghost use Rattle.quilt_types.specs.declared.code.Code.TheVariants as codes_of;
 ghost use Rattle.quilt_words.specs.Spelling.{number, signed, name, is_digit, is_spelled, value_of};
 ghost use Rattle.quilt_words.specs.Forms.{or_err};
 ghost use Rattle.quilt_words.specs.Parsing.{Answers};
-ghost use Rattle.quilt_words.specs.Fitting.{IsName, IsWithin, IsShift};
+ghost use Rattle.quilt_words.specs.Fitting.{IsWithin};
 ghost use Rattle.quilt_types.specs.Layers.{colours};
 
 use crate::ParseErr;
@@ -15,8 +15,7 @@ use std::str;
 /// The name that a word is.
 #[tactic(auto, unfolding(crate::specs::Spelling::name))]
 pub fn parse_name(word: &[u8]) -> Result<Name, ParseErr>
-    ensures is { Answers result (or_err codes_of.Name (name word.now)) }
-    ensures named { IfOk result IsName }
+    ensures { Answers result (or_err codes_of.Name (name word.now)) }
 {
     let Ok(text) = str::from_utf8(word) else {
         return Err(ParseErr::No(Code::Name));
@@ -100,8 +99,7 @@ pub fn parse_coordinate(word: &[u8]) -> Result<u16, ParseErr>
 
 /// An extent of a window, at least 1.
 pub fn parse_extent(word: &[u8]) -> Result<u16, ParseErr>
-    ensures is { Answers result (or_err codes_of.Number (number 1 65535 word.now)) }
-    ensures within { IfOk result (IsWithin 1 65535) }
+    ensures { Answers result (or_err codes_of.Number (number 1 65535 word.now)) }
 {
     let n = parse_number(1, 65535, word)?;
     Ok(n as u16)
@@ -109,8 +107,7 @@ pub fn parse_extent(word: &[u8]) -> Result<u16, ParseErr>
 
 /// A number of at most 65535, or a minus before one that is not 0.
 pub fn parse_signed(word: &[u8]) -> Result<i32, ParseErr>
-    ensures is { Answers result (or_err codes_of.Number (signed 65535 word.now)) }
-    ensures within { IfOk result IsShift }
+    ensures { Answers result (or_err codes_of.Number (signed 65535 word.now)) }
 {
     let Some((first, digits)) = word.split_first() else {
         return Err(ParseErr::No(Code::Number));

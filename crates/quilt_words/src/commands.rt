@@ -1,13 +1,11 @@
 //! The command that a word makes of the words behind it.
-ghost use Rattle.std.specs.Prelude.{◌≡◌, ◌≤◌, ◌-◌, ◌%◌, ◌==◌, true, ℕ, [], ◌∷◌, map, length, IfOk};
-ghost use Rattle.quilt_words.specs.Fitting.{IsFitting, FurtherFits};
+ghost use Rattle.std.specs.Prelude.{◌≡◌, ◌≤◌, ◌-◌, ◌%◌, ◌==◌, true, ℕ, [], ◌∷◌, map, length, codes};
 ghost use Rattle.quilt_words.specs.Forms.{Further};
-ghost use Rattle.quilt_words.specs.declared.word.MapWord.TheVariants as map_words;
-ghost use Rattle.quilt_words.specs.Made.{formed, map_formed, region_formed, algebra_formed, point_formed, line_formed, recoloured, further_of, made};
+ghost use Rattle.quilt_words.specs.Made.{formed, row_formed, recoloured, made, spelled_by};
+ghost use Rattle.quilt_words.specs.Words.{spelling, map_spelling, region_spelling, algebra_spelling, point_spelling, line_spelling};
 ghost use Rattle.quilt_words.specs.Parsing.{Answers};
 
 use crate::arguments::most_colour;
-use crate::further::{points_of_item, rings_of_item, rows_of_item};
 use crate::recolour::recolour_command;
 use crate::shapes::{
     name_id_segment, name_number, name_number_rings, name_pixel, name_pixel_number,
@@ -15,33 +13,29 @@ use crate::shapes::{
     one_name, three_names, two_names,
 };
 use crate::word::{AlgebraWord, LineWord, MapWord, PointWord, RegionWord, Word};
-use crate::{Command, Item, ParseErr};
+use crate::{Command, FurtherLines, ParseErr};
 use quilt_types::Colour;
-use std::alloc::Global;
 
-/// The command that a word makes of the words behind it and of what the item's further lines spell.
+/// The command that a word makes of the words behind it, and of what further lines spell, which goes into the command.
 pub fn command(
-    alloc: Global,
     format: u8,
     word: Word,
     words: &[&[u8]],
-    item: &Item,
+    further: &mut FurtherLines,
 ) -> Result<Command, ParseErr>
-    ensures is { Answers result (formed format (further_of item.now) word (map (λ w. w.now) words.now)) }
-    ensures fits { (n : ℕ) → FurtherFits format n (further_of item.now) → IfOk result (IsFitting format n) }
+    ensures { Answers result (formed format (spelled_by further.old) (spelling word) (map (λ w. w.now) words.now)) }
 {
     match word {
         Word::Map(word) => map_command(format, word, words),
-        Word::Region(word) => region_command(alloc, format, word, words, item),
+        Word::Region(word) => region_command(format, word, words, further),
         Word::Algebra(word) => algebra_command(format, word, words),
-        Word::Point(word) => point_command(alloc, word, words, item),
+        Word::Point(word) => point_command(word, words, further),
         Word::Line(word) => line_command(word, words),
     }
 }
 
 fn map_command(format: u8, word: MapWord, words: &[&[u8]]) -> Result<Command, ParseErr>
-    ensures is { (more : Further) → Answers result (map_formed format more word (map (λ w. w.now) words.now)) }
-    ensures fits { (n : ℕ) → IfOk result (IsFitting format n) }
+    ensures { (more : Further) → Answers result (formed format more (map_spelling word) (map (λ w. w.now) words.now)) }
 {
     match word {
         MapWord::Region => {
@@ -96,8 +90,7 @@ fn map_command(format: u8, word: MapWord, words: &[&[u8]]) -> Result<Command, Pa
 }
 
 fn points_command(words: &[&[u8]]) -> Result<Command, ParseErr>
-    ensures is { (f : ℕ) (more : Further) → Answers result (map_formed f more map_words.Points (map (λ w. w.now) words.now)) }
-    ensures fits { (f n : ℕ) → IfOk result (IsFitting f n) }
+    ensures { (f : ℕ) (more : Further) → Answers result (formed f more (codes "points") (map (λ w. w.now) words.now)) }
 {
     if words.len() == 1 {
         let p = one_name(words)?;
@@ -111,14 +104,12 @@ fn points_command(words: &[&[u8]]) -> Result<Command, ParseErr>
 }
 
 fn region_command(
-    alloc: Global,
     format: u8,
     word: RegionWord,
     words: &[&[u8]],
-    item: &Item,
+    further: &mut FurtherLines,
 ) -> Result<Command, ParseErr>
-    ensures is { Answers result (region_formed format (further_of item.now) word (map (λ w. w.now) words.now)) }
-    ensures fits { (n : ℕ) → FurtherFits format n (further_of item.now) → IfOk result (IsFitting format n) }
+    ensures { Answers result (formed format (spelled_by further.old) (region_spelling word) (map (λ w. w.now) words.now)) }
 {
     let most = most_colour(format);
     match word {
@@ -140,7 +131,7 @@ fn region_command(
         }
         RegionWord::Raster => {
             let a = one_name(words)?;
-            let rows = rows_of_item(alloc, item)?;
+            let rows = further.rows.take();
             Ok(Command::Raster { a, rows })
         }
         RegionWord::At => {
@@ -171,7 +162,7 @@ fn region_command(
         }
         RegionWord::Polygon => {
             let (c, colour, _) = name_number_rings(words, 0, most)?;
-            let rings = rings_of_item(alloc, item)?;
+            let rings = further.rings.take();
             Ok(Command::Polygon {
                 c,
                 colour: Colour(colour as u16),
@@ -182,8 +173,7 @@ fn region_command(
 }
 
 fn algebra_command(format: u8, word: AlgebraWord, words: &[&[u8]]) -> Result<Command, ParseErr>
-    ensures is { (more : Further) → Answers result (algebra_formed format more word (map (λ w. w.now) words.now)) }
-    ensures fits { (n : ℕ) → IfOk result (IsFitting format n) }
+    ensures { (more : Further) → Answers result (formed format more (algebra_spelling word) (map (λ w. w.now) words.now)) }
 {
     match word {
         AlgebraWord::Union => {
@@ -215,13 +205,11 @@ fn algebra_command(format: u8, word: AlgebraWord, words: &[&[u8]]) -> Result<Com
 }
 
 fn point_command(
-    alloc: Global,
     word: PointWord,
     words: &[&[u8]],
-    item: &Item,
+    further: &mut FurtherLines,
 ) -> Result<Command, ParseErr>
-    ensures is { (f : ℕ) → Answers result (point_formed f (further_of item.now) word (map (λ w. w.now) words.now)) }
-    ensures fits { (f n : ℕ) → FurtherFits f n (further_of item.now) → IfOk result (IsFitting f n) }
+    ensures { (f : ℕ) → Answers result (formed f (spelled_by further.old) (point_spelling word) (map (λ w. w.now) words.now)) }
 {
     match word {
         PointWord::Put => {
@@ -234,7 +222,7 @@ fn point_command(
         }
         PointWord::Scatter => {
             let (p, _) = name_number(words, 1, 100_000)?;
-            let points = points_of_item(alloc, item)?;
+            let points = further.points.take();
             Ok(Command::Scatter { p, points })
         }
         PointWord::Find => {
@@ -249,8 +237,7 @@ fn point_command(
 }
 
 fn line_command(word: LineWord, words: &[&[u8]]) -> Result<Command, ParseErr>
-    ensures is { (f : ℕ) (more : Further) → Answers result (line_formed f more word (map (λ w. w.now) words.now)) }
-    ensures fits { (f n : ℕ) → IfOk result (IsFitting f n) }
+    ensures { (f : ℕ) (more : Further) → Answers result (formed f more (line_spelling word) (map (λ w. w.now) words.now)) }
 {
     match word {
         LineWord::Line => {

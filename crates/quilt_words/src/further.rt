@@ -1,36 +1,75 @@
-//! What the further lines of an item spell, as a command holds it.
-ghost use Rattle.std.specs.Prelude.{◌≡◌, [], ◌∷◌, ◌++◌, IfOk, OnOk};
-ghost use Rattle.quilt_words.specs.Made.{further_of};
+//! What the further lines of an item spell.
+ghost use Rattle.std.specs.Prelude.{◌≡◌, [], ◌∷◌, ◌++◌, None, IfOk, OnOk};
+ghost use Rattle.quilt_words.specs.Made.{further_of, nothing_further, spelled_by};
 
 use crate::Item;
 use quilt_types::{Corner, PointList, RingList, Text};
 use std::alloc::{AllocError, Global};
 
-/// The colours of an item's rows.
-pub fn rows_of_item(alloc: Global, item: &Item) -> Result<Option<Text>, AllocError>
-    ensures { IfOk result (λ rows. rows ≡ (further_of item.now).rows) }
-{
-    match item {
-        Item::Rows(_, Some(rows)) => {
-            let mut copy = Text::new(alloc);
-            copy.push(rows.bytes())?;
-            Ok(Some(copy))
+/// What the further lines of an item spell. Of the three at most one is there: what its line asks for, where all of it is well
+/// formed.
+#[derive(Drop)]
+pub struct FurtherLines {
+    /// The colours of a raster's rows, two bytes each with the high one first.
+    pub rows: Option<Text>,
+    /// The points of list lines.
+    pub points: Option<PointList>,
+    /// The rings of ring lines.
+    pub rings: Option<RingList>,
+}
+
+impl FurtherLines {
+    /// Nothing: no further lines, or some that are missing or not well formed.
+    pub fn none() -> FurtherLines
+        ensures { spelled_by result ≡ nothing_further }
+    {
+        FurtherLines {
+            rows: None,
+            points: None,
+            rings: None,
         }
-        _ => Ok(None),
+    }
+
+    /// A copy of what an item holds.
+    pub fn of_item(alloc: Global, item: &Item) -> Result<FurtherLines, AllocError>
+        ensures { IfOk result (λ further. spelled_by further ≡ further_of item.now) }
+    {
+        match item {
+            Item::Rows(_, Some(rows)) => {
+                let rows = Some(copy_rows(alloc, rows)?);
+                Ok(FurtherLines {
+                    rows,
+                    points: None,
+                    rings: None,
+                })
+            }
+            Item::PointLines(_, Some(points)) => {
+                let points = Some(copy_points(alloc, points)?);
+                Ok(FurtherLines {
+                    rows: None,
+                    points,
+                    rings: None,
+                })
+            }
+            Item::RingLines(_, Some(rings)) => {
+                let rings = Some(copy_rings(alloc, rings)?);
+                Ok(FurtherLines {
+                    rows: None,
+                    points: None,
+                    rings,
+                })
+            }
+            _ => Ok(FurtherLines::none()),
+        }
     }
 }
 
-/// The points of an item's list lines.
-pub fn points_of_item(alloc: Global, item: &Item) -> Result<Option<PointList>, AllocError>
-    ensures { IfOk result (λ points. points ≡ (further_of item.now).points) }
+fn copy_rows(alloc: Global, rows: &Text) -> Result<Text, AllocError>
+    ensures { IfOk result (λ copy. copy ≡ rows.now) }
 {
-    match item {
-        Item::PointLines(_, Some(points)) => {
-            let copy = copy_points(alloc, points)?;
-            Ok(Some(copy))
-        }
-        _ => Ok(None),
-    }
+    let mut copy = Text::new(alloc);
+    copy.push(rows.bytes())?;
+    Ok(copy)
 }
 
 fn copy_points(alloc: Global, points: &PointList) -> Result<PointList, AllocError>
@@ -41,19 +80,6 @@ fn copy_points(alloc: Global, points: &PointList) -> Result<PointList, AllocErro
         copy.push(*p)?;
     }
     Ok(copy)
-}
-
-/// The rings of an item's ring lines.
-pub fn rings_of_item(alloc: Global, item: &Item) -> Result<Option<RingList>, AllocError>
-    ensures { IfOk result (λ rings. rings ≡ (further_of item.now).rings) }
-{
-    match item {
-        Item::RingLines(_, Some(rings)) => {
-            let copy = copy_rings(alloc, rings)?;
-            Ok(Some(copy))
-        }
-        _ => Ok(None),
-    }
 }
 
 fn copy_rings(alloc: Global, rings: &RingList) -> Result<RingList, AllocError>

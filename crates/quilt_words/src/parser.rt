@@ -1,14 +1,14 @@
 ghost use Rattle.std.specs.Prelude.{◌≡◌, ◌≤◌, ℕ, map, IfOk};
 ghost use Rattle.quilt_words.specs.Items.{Group, held, words_of};
 ghost use Rattle.quilt_words.specs.Forms.{form_of_words, form_of_line, form, Spelled};
-ghost use Rattle.quilt_words.specs.Made.{further_of};
+ghost use Rattle.quilt_words.specs.Made.{further_of, spelled_by};
 ghost use Rattle.quilt_words.specs.Parsing.{Answers};
-ghost use Rattle.quilt_words.specs.Fitting.{IsFitting, FurtherFits};
+ghost use Rattle.quilt_words.specs.Fitting.{IsFitting};
 
 use crate::commands::command;
 use crate::word::Word;
 use crate::words::{few_words, is_plain_line, line_words};
-use crate::{Command, Item, ParseErr};
+use crate::{Command, FurtherLines, Item, ParseErr};
 use quilt_types::Code;
 use std::alloc::Global;
 
@@ -25,31 +25,43 @@ pub fn parse(alloc: Global, format: u8, item: &Item) -> Result<Command, ParseErr
         Item::Line(line)
         | Item::Rows(line, _)
         | Item::PointLines(line, _)
-        | Item::RingLines(line, _) => parse_line(alloc, format, line.bytes(), item),
+        | Item::RingLines(line, _) => {
+            let mut further = FurtherLines::of_item(alloc, item)?;
+            parse_line(alloc, format, line.bytes(), &mut further)
+        }
     }
 }
 
-fn parse_line(alloc: Global, format: u8, line: &[u8], item: &Item) -> Result<Command, ParseErr>
-    ensures is { Answers result (form_of_line format line.now (further_of item.now)) }
-    ensures fits { (n : ℕ) → FurtherFits format n (further_of item.now) → IfOk result (IsFitting format n) }
+/// The command that a line spells in the format with what its further lines spell, which goes into the command; or the first
+/// refusal of 17, 1, 2, 3 and 4 that it has. It takes memory only where the line has more than 8 words.
+pub fn parse_line(
+    alloc: Global,
+    format: u8,
+    line: &[u8],
+    further: &mut FurtherLines,
+) -> Result<Command, ParseErr>
+    ensures { Answers result (form_of_line format line.now (spelled_by further.old)) }
 {
     if !is_plain_line(line) {
         return Err(ParseErr::No(Code::Bytes));
     }
     match few_words(line) {
-        Some(words) => parse_words(alloc, format, &words, item),
+        Some(words) => parse_words(format, &words, further),
         None => {
             let words = line_words(alloc, line)?;
-            parse_words(alloc, format, &words, item)
+            parse_words(format, &words, further)
         }
     }
 }
 
-/// The command of these words, of which the first is the command's.
+/// The same of the words of a line, of which the first is the command's. It takes no memory.
 #[tactic(auto, unfolding(crate::specs::Forms::form_of_words))]
-fn parse_words(alloc: Global, format: u8, words: &[&[u8]], item: &Item) -> Result<Command, ParseErr>
-    ensures is { Answers result (form_of_words format (further_of item.now) (map (λ w. w.now) words.now)) }
-    ensures fits { (n : ℕ) → FurtherFits format n (further_of item.now) → IfOk result (IsFitting format n) }
+pub fn parse_words(
+    format: u8,
+    words: &[&[u8]],
+    further: &mut FurtherLines,
+) -> Result<Command, ParseErr>
+    ensures { Answers result (form_of_words format (spelled_by further.old) (map (λ w. w.now) words.now)) }
 {
     let [word, arguments @ ..] = words else {
         return Err(ParseErr::No(Code::Word));
@@ -57,5 +69,5 @@ fn parse_words(alloc: Global, format: u8, words: &[&[u8]], item: &Item) -> Resul
     let Some(known) = Word::of(word) else {
         return Err(ParseErr::No(Code::Word));
     };
-    command(alloc, format, known, arguments, item)
+    command(format, known, arguments, further)
 }

@@ -1,6 +1,5 @@
 //! The command that gives colours new ones.
 ghost use Rattle.std.specs.Prelude.{◌≡◌, ◌≤◌, ◌-◌, ◌*◌, ◌/◌, ℕ, true, [], ◌∷◌, map, length, Ok, Err, IfOk};
-ghost use Rattle.quilt_words.specs.Fitting.{IsFitting, ArePairs, IsColour};
 ghost use Rattle.quilt_words.specs.Forms.{Further};
 ghost use Rattle.quilt_words.specs.Made.{recoloured, has_pairs};
 ghost use Rattle.quilt_words.specs.Pairs.{pairs_in, ReadsPair};
@@ -12,8 +11,7 @@ use quilt_types::{Code, Colour, Name};
 
 /// The command that makes a layer of another by 1 to 16 pairs of colours.
 pub fn recolour_command(format: u8, words: &[&[u8]]) -> Result<Command, ParseErr>
-    ensures is { (more : Further) → Answers result (recoloured format more (map (λ w. w.now) words.now)) }
-    ensures fits { (n : ℕ) → IfOk result (IsFitting format n) }
+    ensures { (more : Further) → Answers result (recoloured format more (map (λ w. w.now) words.now)) }
 {
     if !is_number_of_words(words.len()) {
         return Err(ParseErr::No(Code::Count));
@@ -33,8 +31,7 @@ fn is_number_of_words(count: usize) -> bool
 
 /// One pair of colours: an old one, and what it becomes.
 fn parse_pair(format: u8, o: &[u8], n: &[u8]) -> Result<(Colour, Colour), ParseErr>
-    ensures is { ReadsPair format result o.now n.now }
-    ensures fits { IfOk result (λ pair. IsColour format pair.0 × IsColour format pair.1) }
+    ensures { ReadsPair format result o.now n.now }
 {
     let most = most_colour(format);
     let o = parse_number(0, most, o)?;
@@ -47,8 +44,7 @@ fn parse_pairs(format: u8, words: &[&[u8]]) -> Result<Pairs, ParseErr>
     requires few { length words.now ≤ 32 }
     requires some { 2 ≤ length words.now }
     requires even { (length words.now / 2) * 2 ≡ length words.now }
-    ensures is { Answers result (pairs_in format (map (λ w. w.now) words.now)) }
-    ensures fits { IfOk result (ArePairs format) }
+    ensures { Answers result (pairs_in format (map (λ w. w.now) words.now)) }
 {
     let (o, n) = parse_pair(format, words[0], words[1])?;
     let mut pairs = Pairs::of(o, n);

@@ -1,7 +1,7 @@
 //! The arguments of commands, by what they are.
 ghost use Rattle.std.specs.Prelude.{◌≡◌, ◌≤◌, ◌<◌, ◌^◌, ℕ, [], ◌∷◌, map, IfOk};
 ghost use Rattle.quilt_words.specs.Forms.{A_name, A_number, A_signed, Called, Number, Signed, coordinate, extent, label};
-ghost use Rattle.quilt_words.specs.Fitting.{IsName, IsWithin, IsPixelOf16, IsWindowOf16, IsShift, IsSegOf16};
+ghost use Rattle.quilt_words.specs.Fitting.{IsWithin};
 ghost use Rattle.quilt_words.specs.Parsing.{Reads, counted};
 
 use crate::ParseErr;
@@ -20,8 +20,7 @@ pub fn nothing(words: &[&[u8]]) -> Result<(), ParseErr>
 
 /// A layer.
 pub fn one_name(words: &[&[u8]]) -> Result<Name, ParseErr>
-    ensures is { Reads (λ v. Called v ∷ []) result (counted (A_name ∷ []) (map (λ w. w.now) words.now)) }
-    ensures fits { IfOk result (λ v. IsName v) }
+    ensures { Reads (λ v. Called v ∷ []) result (counted (A_name ∷ []) (map (λ w. w.now) words.now)) }
 {
     match words {
         [a] => parse_name(a),
@@ -31,8 +30,7 @@ pub fn one_name(words: &[&[u8]]) -> Result<Name, ParseErr>
 
 /// Two layers.
 pub fn two_names(words: &[&[u8]]) -> Result<(Name, Name), ParseErr>
-    ensures is { Reads (λ v. Called v.0 ∷ Called v.1 ∷ []) result (counted (A_name ∷ A_name ∷ []) (map (λ w. w.now) words.now)) }
-    ensures fits { IfOk result (λ v. IsName v.0 × IsName v.1) }
+    ensures { Reads (λ v. Called v.0 ∷ Called v.1 ∷ []) result (counted (A_name ∷ A_name ∷ []) (map (λ w. w.now) words.now)) }
 {
     let [a, b] = words else {
         return Err(ParseErr::No(Code::Count));
@@ -44,8 +42,7 @@ pub fn two_names(words: &[&[u8]]) -> Result<(Name, Name), ParseErr>
 
 /// Three layers.
 pub fn three_names(words: &[&[u8]]) -> Result<(Name, Name, Name), ParseErr>
-    ensures is { Reads (λ v. Called v.0 ∷ Called v.1 ∷ Called v.2 ∷ []) result (counted (A_name ∷ A_name ∷ A_name ∷ []) (map (λ w. w.now) words.now)) }
-    ensures fits { IfOk result (λ v. IsName v.0 × IsName v.1 × IsName v.2) }
+    ensures { Reads (λ v. Called v.0 ∷ Called v.1 ∷ Called v.2 ∷ []) result (counted (A_name ∷ A_name ∷ A_name ∷ []) (map (λ w. w.now) words.now)) }
 {
     let [a, b, c] = words else {
         return Err(ParseErr::No(Code::Count));
@@ -59,7 +56,7 @@ pub fn three_names(words: &[&[u8]]) -> Result<(Name, Name, Name), ParseErr>
 /// A layer and a number from `low` to `high`.
 pub fn name_number(words: &[&[u8]], low: u32, high: u32) -> Result<(Name, u32), ParseErr>
     ensures is { Reads (λ v. Called v.0 ∷ Number v.1 ∷ []) result (counted (A_name ∷ A_number low high ∷ []) (map (λ w. w.now) words.now)) }
-    ensures fits { IfOk result (λ v. IsName v.0 × IsWithin low high v.1) }
+    ensures within { IfOk result (λ v. IsWithin low high v.1) }
 {
     let [a, n] = words else {
         return Err(ParseErr::No(Code::Count));
@@ -71,9 +68,8 @@ pub fn name_number(words: &[&[u8]], low: u32, high: u32) -> Result<(Name, u32), 
 
 /// A layer and a pixel.
 pub fn name_pixel(words: &[&[u8]]) -> Result<(Name, Pixel), ParseErr>
-    ensures is { Reads (λ v. Called v.0 ∷ Number v.1.x ∷ Number v.1.y ∷ []) result
+    ensures { Reads (λ v. Called v.0 ∷ Number v.1.x ∷ Number v.1.y ∷ []) result
         (counted (A_name ∷ coordinate ∷ coordinate ∷ []) (map (λ w. w.now) words.now)) }
-    ensures fits { IfOk result (λ v. IsName v.0 × IsPixelOf16 v.1) }
 {
     let [a, x, y] = words else {
         return Err(ParseErr::No(Code::Count));
@@ -92,7 +88,7 @@ pub fn name_pixel_number(
 ) -> Result<(Name, Pixel, u32), ParseErr>
     ensures is { Reads (λ v. Called v.0 ∷ Number v.1.x ∷ Number v.1.y ∷ Number v.2 ∷ []) result
         (counted (A_name ∷ coordinate ∷ coordinate ∷ A_number low high ∷ []) (map (λ w. w.now) words.now)) }
-    ensures fits { IfOk result (λ v. IsName v.0 × IsPixelOf16 v.1 × IsWithin low high v.2) }
+    ensures within { IfOk result (λ v. IsWithin low high v.2) }
 {
     let [a, x, y, n] = words else {
         return Err(ParseErr::No(Code::Count));
@@ -106,9 +102,8 @@ pub fn name_pixel_number(
 
 /// A layer and a window.
 pub fn name_window(words: &[&[u8]]) -> Result<(Name, Window), ParseErr>
-    ensures is { Reads (λ v. Called v.0 ∷ Number v.1.x ∷ Number v.1.y ∷ Number v.1.w ∷ Number v.1.h ∷ []) result
+    ensures { Reads (λ v. Called v.0 ∷ Number v.1.x ∷ Number v.1.y ∷ Number v.1.w ∷ Number v.1.h ∷ []) result
         (counted (A_name ∷ coordinate ∷ coordinate ∷ extent ∷ extent ∷ []) (map (λ w. w.now) words.now)) }
-    ensures fits { IfOk result (λ v. IsName v.0 × IsWindowOf16 v.1) }
 {
     let [a, x, y, w, h] = words else {
         return Err(ParseErr::No(Code::Count));
@@ -129,7 +124,7 @@ pub fn name_window_number(
 ) -> Result<(Name, Window, u32), ParseErr>
     ensures is { Reads (λ v. Called v.0 ∷ Number v.1.x ∷ Number v.1.y ∷ Number v.1.w ∷ Number v.1.h ∷ Number v.2 ∷ []) result
         (counted (A_name ∷ coordinate ∷ coordinate ∷ extent ∷ extent ∷ A_number low high ∷ []) (map (λ w. w.now) words.now)) }
-    ensures fits { IfOk result (λ v. IsName v.0 × IsWindowOf16 v.1 × IsWithin low high v.2) }
+    ensures within { IfOk result (λ v. IsWithin low high v.2) }
 {
     let [a, x, y, w, h, n] = words else {
         return Err(ParseErr::No(Code::Count));
@@ -145,9 +140,8 @@ pub fn name_window_number(
 
 /// A layer, a window and a layer.
 pub fn name_window_name(words: &[&[u8]]) -> Result<(Name, Window, Name), ParseErr>
-    ensures is { Reads (λ v. Called v.0 ∷ Number v.1.x ∷ Number v.1.y ∷ Number v.1.w ∷ Number v.1.h ∷ Called v.2 ∷ []) result
+    ensures { Reads (λ v. Called v.0 ∷ Number v.1.x ∷ Number v.1.y ∷ Number v.1.w ∷ Number v.1.h ∷ Called v.2 ∷ []) result
         (counted (A_name ∷ coordinate ∷ coordinate ∷ extent ∷ extent ∷ A_name ∷ []) (map (λ w. w.now) words.now)) }
-    ensures fits { IfOk result (λ v. IsName v.0 × IsWindowOf16 v.1 × IsName v.2) }
 {
     let [a, x, y, w, h, c] = words else {
         return Err(ParseErr::No(Code::Count));
@@ -163,9 +157,8 @@ pub fn name_window_name(words: &[&[u8]]) -> Result<(Name, Window, Name), ParseEr
 
 /// A layer, how far to the right and down, and a layer.
 pub fn name_shift_name(words: &[&[u8]]) -> Result<(Name, i32, i32, Name), ParseErr>
-    ensures is { Reads (λ v. Called v.0 ∷ Signed v.1 ∷ Signed v.2 ∷ Called v.3 ∷ []) result
+    ensures { Reads (λ v. Called v.0 ∷ Signed v.1 ∷ Signed v.2 ∷ Called v.3 ∷ []) result
         (counted (A_name ∷ A_signed ∷ A_signed ∷ A_name ∷ []) (map (λ w. w.now) words.now)) }
-    ensures fits { IfOk result (λ v. IsName v.0 × IsShift v.1 × IsShift v.2 × IsName v.3) }
 {
     let [a, x, y, c] = words else {
         return Err(ParseErr::No(Code::Count));
@@ -179,8 +172,7 @@ pub fn name_shift_name(words: &[&[u8]]) -> Result<(Name, i32, i32, Name), ParseE
 
 /// A layer, a radius and a layer.
 pub fn name_radius_name(words: &[&[u8]]) -> Result<(Name, u16, Name), ParseErr>
-    ensures is { Reads (λ v. Called v.0 ∷ Number v.1 ∷ Called v.2 ∷ []) result (counted (A_name ∷ coordinate ∷ A_name ∷ []) (map (λ w. w.now) words.now)) }
-    ensures fits { IfOk result (λ v. IsName v.0 × (v.1 ≤ 65535) × IsName v.2) }
+    ensures { Reads (λ v. Called v.0 ∷ Number v.1 ∷ Called v.2 ∷ []) result (counted (A_name ∷ coordinate ∷ A_name ∷ []) (map (λ w. w.now) words.now)) }
 {
     let [a, r, c] = words else {
         return Err(ParseErr::No(Code::Count));
@@ -195,7 +187,7 @@ pub fn name_radius_name(words: &[&[u8]]) -> Result<(Name, u16, Name), ParseErr>
 pub fn name_number_rings(words: &[&[u8]], low: u32, high: u32) -> Result<(Name, u32, u32), ParseErr>
     ensures is { Reads (λ v. Called v.0 ∷ Number v.1 ∷ Number v.2 ∷ []) result
         (counted (A_name ∷ A_number low high ∷ A_number 1 1000 ∷ []) (map (λ w. w.now) words.now)) }
-    ensures fits { IfOk result (λ v. IsName v.0 × IsWithin low high v.1) }
+    ensures within { IfOk result (λ v. IsWithin low high v.1) }
 {
     let [a, n, k] = words else {
         return Err(ParseErr::No(Code::Count));
@@ -208,9 +200,8 @@ pub fn name_number_rings(words: &[&[u8]], low: u32, high: u32) -> Result<(Name, 
 
 /// A layer, an id and the ends of a segment.
 pub fn name_id_segment(words: &[&[u8]]) -> Result<(Name, u32, Seg), ParseErr>
-    ensures is { Reads (λ v. Called v.0 ∷ Number v.1 ∷ Number v.2.x1 ∷ Number v.2.y1 ∷ Number v.2.x2 ∷ Number v.2.y2 ∷ []) result
+    ensures { Reads (λ v. Called v.0 ∷ Number v.1 ∷ Number v.2.x1 ∷ Number v.2.y1 ∷ Number v.2.x2 ∷ Number v.2.y2 ∷ []) result
         (counted (A_name ∷ label ∷ coordinate ∷ coordinate ∷ coordinate ∷ coordinate ∷ []) (map (λ w. w.now) words.now)) }
-    ensures fits { IfOk result (λ v. IsName v.0 × (v.1 < 2 ^ 32) × IsSegOf16 v.2) }
 {
     let [a, id, x1, y1, x2, y2] = words else {
         return Err(ParseErr::No(Code::Count));

@@ -65,6 +65,11 @@ on_err (Err e) P p = p
 pub on_err_all : {A E S : Type 0} (r : Result A E) (At Q : S → Type 0) → ((t : S) → At t → Q t) → OnErr r ((t : S) → At t → Q t)
 on_err_all r At Q all = on_err r _ all
 
+-- the same of each of some things of a sort
+pub on_err_each : {A E S T : Type 0} (r : Result A E) (Of : T → Type 0) (At : S → Type 0) (Q : T → S → Type 0)
+    → ((x : T) → Of x → (t : S) → At t → Q x t) → OnErr r ((x : T) → Of x → (t : S) → At t → Q x t)
+on_err_each r Of At Q all = on_err r _ all
+
 -- an error that was handed on
 pub err_from : {A E : Type 0} (r : Result A E) (x : E) (P Q : E → Type 0) → IsErrAnd r P → ((e : E) → P e → e ≡ x) → Q x → IfErr r Q
 err_from (Ok a) x P Q given is so = tt

@@ -5,20 +5,14 @@ use Rattle.quilt_words.specs.declared.command.Command.{Command}
 use Rattle.quilt_words.specs.declared.item.Item.{Item}
 use Rattle.quilt_words.specs.Items.{Group, held}
 use Rattle.quilt_words.specs.Forms.{form}
-use Rattle.quilt_words.specs.Parsing.{Answers}
-use Rattle.quilt_words.specs.declared.parse_err.ParseErr.{ParseErr}
-use Rattle.quilt_words.specs.declared.parse_err.ParseErr.TheVariants as errs
 use Rattle.quilt_replies.specs.Answers.{State, Refused, answer}
 use Rattle.quilt_replies.specs.Runs.{outcome_of, text_of, is_done}
 use Rattle.quilt_replies.specs.States.{Tells, after, after_outcome}
 use Rattle.quilt_replies.specs.declared.reply.Reply as given_reply
 use Rattle.quilt_replies.specs.declared.reply.Reply.TheVariants as reply
-use Rattle.quilt_top.specs.Replies.{IsItem, held_at, reply_to, state_then}
+use Rattle.quilt_top.specs.Replies.{held_at, reply_to, state_then}
 
 -- an item that spells no command
-pub form_no : (r : Result Command ParseErr) (spelled : Result Command Code) (code : Code) → r ≡ Err (errs.No code) → Answers r spelled → spelled ≡ Err code
-form_no r spelled code is so = subst (λ (r : Result Command ParseErr). Answers r spelled) is so
-
 pub reply_no : (s : State) (item : Item) (code : Code) → form s.last.format item ≡ Err code → reply_to s item ≡ Refused code
 unfolding reply_to
 reply_no s item code is = ap (λ (r : Result Command Code). (outcome_of s r).reply) is
@@ -53,9 +47,5 @@ pub code_given : (s : State) (item : Item) (c : Command) (given : given_reply.Re
 code_given s item c given code is tells no_ = reply_is s item c is ∙ subst (λ r. Tells r (answer s c).reply) no_ tells
 
 -- an item that was given
-pub item_is : (f g n m : ℕ) (group : Group) (item : Item) → item ≡ held f n group → f ≡ g → n ≡ m → IsItem g m item
-item_is f g n m group item is format level =
-    record { group = group; is = sym (is ∙ ap (λ (h : ℕ). held h n group) format ∙ ap (λ (k : ℕ). held g k group) level) }
-
 pub held_is : (f n : ℕ) (s : State) (group : Group) (item : Item) → item ≡ held f n group → s.last.format ≡ f → s.last.level ≡ n → item ≡ held_at s group
 held_is f n s group item is format level = is ∙ sym (ap (λ (h : ℕ). held h s.last.level group) format ∙ ap (λ (k : ℕ). held f k group) level)

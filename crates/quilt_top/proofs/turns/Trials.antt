@@ -1,6 +1,6 @@
 -- Turns of the loops that give and answer the items of the text of a trial.
 use Rattle.std.proofs.Common.{◌≡◌, ℕ, ◌+◌, ◌<◌, ◌≤◌, ◌==◌, Bool, true, false, cond, List, [], ◌∷◌, ◌++◌, length, map, Option, Some, None, refl, sym}
-use Rattle.std.proofs.Common.{◌∙◌, ap, subst, arith, length-append, append-nil, append_assoc, zero, suc, take, IfSome, MatchOption}
+use Rattle.std.proofs.Common.{◌∙◌, ap, subst, arith, length-append, append-nil, append_assoc, zero, suc, take, IfSome, MatchOption, Result}
 use Rattle.std.specs.List.{count_by, slice_split}
 use Rattle.std.proofs.lemmas.List.{length-map, map-append, nil_from_length}
 use Rattle.std.proofs.lemmas.List.Sums.{sum_by-append}
@@ -13,9 +13,11 @@ use Rattle.quilt_world.proofs.Told.{goes_then}
 use Rattle.quilt_world.specs.Added.{is_of_pages}
 use Rattle.quilt_edition.specs.Stands.{Stands}
 use Rattle.quilt_world.specs.Stops.{LeavesNow}
+use Rattle.quilt_types.specs.declared.code.Code.{Code}
+use Rattle.quilt_words.specs.declared.command.Command.{Command}
 use Rattle.quilt_words.specs.declared.item.Item.{Item}
 use Rattle.quilt_words.specs.Items.{Group, held, items_of, lines_of, groups_from, without_empty_end, is_empty, is_silent, asked}
-use Rattle.quilt_lang.specs.Reading.{Same, Gives, GivesItem, HasNone}
+use Rattle.quilt_lang.specs.Reading.{Same, Gives, GivesCommand, GivesItem, HasNone}
 use Rattle.quilt_trial.specs.Drawing.{IsTextLine}
 use Rattle.quilt_trial.specs.Rest.{newlines}
 use Rattle.quilt_replies.specs.Answers.{State, Reply}
@@ -24,7 +26,7 @@ use Rattle.quilt_map.proofs.answers.TextLaws.{run_same, then_same}
 use Rattle.quilt_top.specs.Answering.{StandsForItem, Applies}
 use Rattle.quilt_top.specs.Replies.{held_at, outcome, reply_to, state_then, state_after, replies_from}
 use Rattle.quilt_top.specs.TextRun.{run_in, IsFine}
-use Rattle.quilt_top.specs.Trying.{IsNextItem, StandsForOne, Tries, Tried}
+use Rattle.quilt_top.specs.Trying.{IsNextCommand, IsNextItem, StandsForOne, Tries, Tried}
 use Rattle.quilt_top.specs.declared.trial_run.Tally.{Tally}
 use Rattle.quilt_top.proofs.turns.Fine.{fine_either}
 use Rattle.quilt_top.proofs.turns.Places.{edition_first, fine_behind}
@@ -56,13 +58,21 @@ module _ (n : ℕ) (start rest trial : List ℕ) (leads : Leads n start (rest ++
       leads k ∙ ap (λ (l : List ℕ). map (held k n) (items_of n (rest ++ l))) is
       ∙ ap (λ (l : List ℕ). map (held k n) (items_of n l)) (sym (append_assoc rest line behind)) ∙ gives.all behind tt k
 
+-- what is given before that
+pub command_whole : (n f : ℕ) (start rest trial new : List ℕ) (spelled : Result Command Code) → Leads n start (rest ++ trial)
+    → GivesCommand false n f spelled rest new → IsNextCommand n f spelled start (new ++ trial)
+command_whole n f start rest trial new spelled leads given =
+    record { item = given.item; next = next_whole n start rest trial leads f given.item new given.gives; is = given.is }
+
 -- what is given last, where the text has ended
 pub given_last : (n f : ℕ) (start rest trial ended : List ℕ) → Leads n start (rest ++ trial) → trial ≡ [] → ended ≡ []
-    → (found : Option Item) (new : List ℕ) → MatchOption found ((new ≡ rest) × HasNone true n rest) (λ item. GivesItem true n f item rest new)
-    → MatchOption found (items_of n start ≡ []) (λ item. IsNextItem n f item start (new ++ ended))
+    → (found : Option (Result Command Code)) (new : List ℕ)
+    → MatchOption found ((new ≡ rest) × HasNone true n rest) (λ spelled. GivesCommand true n f spelled rest new)
+    → MatchOption found (items_of n start ≡ []) (λ spelled. IsNextCommand n f spelled start (new ++ ended))
 given_last n f start rest trial ended leads none now None new given = none_last n start rest trial leads none given.1
-given_last n f start rest trial ended leads none now (Some item) new given =
-    subst (λ (l : List ℕ). IsNextItem n f item start (new ++ l)) (none ∙ sym now) (next_last n start rest trial leads f item new none given)
+given_last n f start rest trial ended leads none now (Some spelled) new given =
+    subst (λ (l : List ℕ). IsNextCommand n f spelled start (new ++ l)) (none ∙ sym now)
+    (record { item = given.item; next = next_last n start rest trial leads f given.item new none given.gives; is = given.is })
 
 pub shorter : (old line new : List ℕ) → old ≡ line ++ new → IsTextLine line → length new < length old
 shorter old line new is so =

@@ -1,120 +1,115 @@
 use Rattle.std.proofs.Common.{◌≡◌, ◌∙◌, sym, ap, subst, Ok, Err}
 use Rattle.quilt_words.specs.Forms.{form}
-use Rattle.quilt_words.specs.Parsing.{Answers}
 use Rattle.quilt_replies.specs.Answers.{State}
 use Rattle.quilt_replies.specs.Runs.{text_of, is_done}
 use Rattle.quilt_map.specs.Sessions.{IsAt}
+use Rattle.quilt_map.proofs.Laws.{at_format}
 use Rattle.quilt_types.specs.declared.stop.Stop.{Stop}
 use Rattle.quilt_types.specs.declared.stop.Stop.TheVariants as stops
 use Rattle.quilt_top.specs.declared.halt.Halt.TheVariants as halts
 use Rattle.quilt_top.proofs.turns.Applying.{leaves_told, applies_nothing, applies_command, changes_no, changes_is}
-use Rattle.quilt_top.proofs.turns.Outcomes.{form_no, reply_no, state_no, state_is, text_given, code_given}
+use Rattle.quilt_top.proofs.turns.Outcomes.{reply_no, state_no, state_is, text_given, code_given}
 use Rattle.quilt_top.proofs.answering.answer_item.Goals as goal
 
-pub returns-in-Err-No-clause-text : goal.returns-in-Err-No-clause-text
-returns-in-Err-No-clause-text g c = λ s at.
-    let spelled = subst (λ f. Answers c.parse.result (form f c.args.item.now)) (sym (c.head.ensures.format s at)) c.parse.ensures.form in
-    c.in_ok-refusal-in-Err-No.ensures.0
-    ∙ sym (ap text_of (reply_no s c.args.item.now c.in-Err-No.code
-    (form_no c.parse.result _ c.in-Err-No.code (c.in-Err-No.is ∙ ap Err c.in-Err-No.field-0-is) spelled)))
+pub returns-in-Err-clause-text : goal.returns-in-Err-clause-text
+returns-in-Err-clause-text g c = λ item said s at.
+    let is : form s.last.format item ≡ Err c.in-Err.code = ap (λ f. form f item) (at_format c.args.session.now s at) ∙ said ∙ c.in-Err.is in
+    c.in_ok-refusal-in-Err.ensures.0
+    ∙ sym (ap text_of (reply_no s item c.in-Err.code is))
 
-pub returns-in-Err-No-clause-done : goal.returns-in-Err-No-clause-done
-returns-in-Err-No-clause-done g c = λ s at.
-    let spelled = subst (λ f. Answers c.parse.result (form f c.args.item.now)) (sym (c.head.ensures.format s at)) c.parse.ensures.form in
-    c.in_ok-refusal-in-Err-No.ensures.1
-    ∙ sym (ap is_done (reply_no s c.args.item.now c.in-Err-No.code
-    (form_no c.parse.result _ c.in-Err-No.code (c.in-Err-No.is ∙ ap Err c.in-Err-No.field-0-is) spelled)))
+pub returns-in-Err-clause-done : goal.returns-in-Err-clause-done
+returns-in-Err-clause-done g c = λ item said s at.
+    let is : form s.last.format item ≡ Err c.in-Err.code = ap (λ f. form f item) (at_format c.args.session.now s at) ∙ said ∙ c.in-Err.is in
+    c.in_ok-refusal-in-Err.ensures.1
+    ∙ sym (ap is_done (reply_no s item c.in-Err.code is))
 
-pub returns-in-Err-No-clause-at : goal.returns-in-Err-No-clause-at
-returns-in-Err-No-clause-at g c = λ s at.
-    let spelled = subst (λ f. Answers c.parse.result (form f c.args.item.now)) (sym (c.head.ensures.format s at)) c.parse.ensures.form in
+pub returns-in-Err-clause-at : goal.returns-in-Err-clause-at
+returns-in-Err-clause-at g c = λ item said s at.
+    let is : form s.last.format item ≡ Err c.in-Err.code = ap (λ f. form f item) (at_format c.args.session.now s at) ∙ said ∙ c.in-Err.is in
     subst (λ (t : State). IsAt c.args.session.now t)
-    (sym (state_no s c.args.item.now c.in-Err-No.code (form_no c.parse.result _ c.in-Err-No.code (c.in-Err-No.is ∙ ap Err c.in-Err-No.field-0-is) spelled))) at
+    (sym (state_no s item c.in-Err.code is)) at
 
 pub returns-in-Ok-reply-clause-text : goal.returns-in-Ok-reply-clause-text
-returns-in-Ok-reply-clause-text g c = λ s at.
-    let is : form s.last.format c.args.item.now ≡ Ok c.in-Ok.command = ap (λ f. form f c.args.item.now) (c.head.ensures.format s at) ∙ c.in-Ok.ensures.form in
-    (text_given s c.args.item.now c.in-Ok.command c.in-Ok-apply.reply c.in-Ok-reply.text is (c.in-Ok-apply.ensures.answer s at).0 c.in-Ok-reply.is).0
+returns-in-Ok-reply-clause-text g c = λ item said s at.
+    let is : form s.last.format item ≡ Ok c.in-Ok.command = ap (λ f. form f item) (at_format c.args.session.now s at) ∙ said ∙ c.in-Ok.is in
+    (text_given s item c.in-Ok.command c.in-Ok-apply.reply c.in-Ok-reply.text is (c.in-Ok-apply.ensures.answer s at).0 c.in-Ok-reply.is).0
 
 pub returns-in-Ok-reply-clause-done : goal.returns-in-Ok-reply-clause-done
-returns-in-Ok-reply-clause-done g c = λ s at.
-    let is : form s.last.format c.args.item.now ≡ Ok c.in-Ok.command = ap (λ f. form f c.args.item.now) (c.head.ensures.format s at) ∙ c.in-Ok.ensures.form in
-    (text_given s c.args.item.now c.in-Ok.command c.in-Ok-apply.reply c.in-Ok-reply.text is (c.in-Ok-apply.ensures.answer s at).0 c.in-Ok-reply.is).1
+returns-in-Ok-reply-clause-done g c = λ item said s at.
+    let is : form s.last.format item ≡ Ok c.in-Ok.command = ap (λ f. form f item) (at_format c.args.session.now s at) ∙ said ∙ c.in-Ok.is in
+    (text_given s item c.in-Ok.command c.in-Ok-apply.reply c.in-Ok-reply.text is (c.in-Ok-apply.ensures.answer s at).0 c.in-Ok-reply.is).1
 
 pub returns-in-Ok-reply-clause-at : goal.returns-in-Ok-reply-clause-at
-returns-in-Ok-reply-clause-at g c = λ s at.
-    let is : form s.last.format c.args.item.now ≡ Ok c.in-Ok.command = ap (λ f. form f c.args.item.now) (c.head.ensures.format s at) ∙ c.in-Ok.ensures.form in
-    subst (λ (t : State). IsAt c.apply.new.self t) (sym (state_is s c.args.item.now c.in-Ok.command is)) (c.in-Ok-apply.ensures.answer s at).1
+returns-in-Ok-reply-clause-at g c = λ item said s at.
+    let is : form s.last.format item ≡ Ok c.in-Ok.command = ap (λ f. form f item) (at_format c.args.session.now s at) ∙ said ∙ c.in-Ok.is in
+    subst (λ (t : State). IsAt c.apply.new.self t) (sym (state_is s item c.in-Ok.command is)) (c.in-Ok-apply.ensures.answer s at).1
 
 pub returns-clause-text : goal.returns-clause-text
-returns-clause-text g c = λ s at.
-    let is : form s.last.format c.args.item.now ≡ Ok c.in-Ok.command = ap (λ f. form f c.args.item.now) (c.head.ensures.format s at) ∙ c.in-Ok.ensures.form in
+returns-clause-text g c = λ item said s at.
+    let is : form s.last.format item ≡ Ok c.in-Ok.command = ap (λ f. form f item) (at_format c.args.session.now s at) ∙ said ∙ c.in-Ok.is in
     c.in_ok-refusal-in-No.ensures.0
-    ∙ sym (ap text_of (code_given s c.args.item.now c.in-Ok.command c.in-Ok-apply.reply c.in-No.code is (c.in-Ok-apply.ensures.answer s at).0 c.in-No.is))
+    ∙ sym (ap text_of (code_given s item c.in-Ok.command c.in-Ok-apply.reply c.in-No.code is (c.in-Ok-apply.ensures.answer s at).0 c.in-No.is))
 
 pub returns-clause-done : goal.returns-clause-done
-returns-clause-done g c = λ s at.
-    let is : form s.last.format c.args.item.now ≡ Ok c.in-Ok.command = ap (λ f. form f c.args.item.now) (c.head.ensures.format s at) ∙ c.in-Ok.ensures.form in
+returns-clause-done g c = λ item said s at.
+    let is : form s.last.format item ≡ Ok c.in-Ok.command = ap (λ f. form f item) (at_format c.args.session.now s at) ∙ said ∙ c.in-Ok.is in
     c.in_ok-refusal-in-No.ensures.1
-    ∙ sym (ap is_done (code_given s c.args.item.now c.in-Ok.command c.in-Ok-apply.reply c.in-No.code is (c.in-Ok-apply.ensures.answer s at).0 c.in-No.is))
+    ∙ sym (ap is_done (code_given s item c.in-Ok.command c.in-Ok-apply.reply c.in-No.code is (c.in-Ok-apply.ensures.answer s at).0 c.in-No.is))
 
 pub returns-clause-at : goal.returns-clause-at
-returns-clause-at g c = λ s at.
-    let is : form s.last.format c.args.item.now ≡ Ok c.in-Ok.command = ap (λ f. form f c.args.item.now) (c.head.ensures.format s at) ∙ c.in-Ok.ensures.form in
-    subst (λ (t : State). IsAt c.apply.new.self t) (sym (state_is s c.args.item.now c.in-Ok.command is)) (c.in-Ok-apply.ensures.answer s at).1
+returns-clause-at g c = λ item said s at.
+    let is : form s.last.format item ≡ Ok c.in-Ok.command = ap (λ f. form f item) (at_format c.args.session.now s at) ∙ said ∙ c.in-Ok.is in
+    subst (λ (t : State). IsAt c.apply.new.self t) (sym (state_is s item c.in-Ok.command is)) (c.in-Ok-apply.ensures.answer s at).1
 
 -- ---- what is applied
 
-pub returns-in_err-refusal-in-Err-No-clause-applies : goal.returns-in_err-refusal-in-Err-No-clause-applies
-returns-in_err-refusal-in-Err-No-clause-applies g c = λ s at. applies_nothing s c.args.item.now _ _ (leaves_told c.args.session.now s at)
-
-pub returns-in-Err-No-clause-applies : goal.returns-in-Err-No-clause-applies
-returns-in-Err-No-clause-applies g c = λ s at. applies_nothing s c.args.item.now _ _ (leaves_told c.args.session.now s at)
-
-pub returns-in-Err-Memory-clause-applies : goal.returns-in-Err-Memory-clause-applies
-returns-in-Err-Memory-clause-applies g c = λ s at. applies_nothing s c.args.item.now _ _ (leaves_told c.args.session.now s at)
+pub returns-in_err-refusal-in-Err-clause-applies : goal.returns-in_err-refusal-in-Err-clause-applies
+returns-in_err-refusal-in-Err-clause-applies g c = λ item said s at. applies_nothing s item _ _ (leaves_told c.args.session.now s at)
 
 pub returns-in-Err-clause-applies : goal.returns-in-Err-clause-applies
-returns-in-Err-clause-applies g c = λ s at.
-    let is : form s.last.format c.args.item.now ≡ Ok c.in-Ok.command = ap (λ f. form f c.args.item.now) (c.head.ensures.format s at) ∙ c.in-Ok.ensures.form in
-    applies_command s c.args.item.now c.in-Ok.command _ _ _ is c.apply.ensures.events (c.apply.ensures.crash s at) (c.apply.ensures.writes s at)
+returns-in-Err-clause-applies g c = λ item said s at. applies_nothing s item _ _ (leaves_told c.args.session.now s at)
+
+pub returns-in-Err-apply-clause-applies : goal.returns-in-Err-apply-clause-applies
+returns-in-Err-apply-clause-applies g c = λ item said s at.
+    let is : form s.last.format item ≡ Ok c.in-Ok.command = ap (λ f. form f item) (at_format c.args.session.now s at) ∙ said ∙ c.in-Ok.is in
+    applies_command s item c.in-Ok.command _ _ _ is c.apply.ensures.events (c.apply.ensures.crash s at) (c.apply.ensures.writes s at)
 
 pub returns-in-Ok-reply-clause-applies : goal.returns-in-Ok-reply-clause-applies
-returns-in-Ok-reply-clause-applies g c = λ s at.
-    let is : form s.last.format c.args.item.now ≡ Ok c.in-Ok.command = ap (λ f. form f c.args.item.now) (c.head.ensures.format s at) ∙ c.in-Ok.ensures.form in
-    applies_command s c.args.item.now c.in-Ok.command _ _ _ is c.apply.ensures.events (c.apply.ensures.crash s at) (c.apply.ensures.writes s at)
+returns-in-Ok-reply-clause-applies g c = λ item said s at.
+    let is : form s.last.format item ≡ Ok c.in-Ok.command = ap (λ f. form f item) (at_format c.args.session.now s at) ∙ said ∙ c.in-Ok.is in
+    applies_command s item c.in-Ok.command _ _ _ is c.apply.ensures.events (c.apply.ensures.crash s at) (c.apply.ensures.writes s at)
 
 pub returns-in_err-refusal-in-No-clause-applies : goal.returns-in_err-refusal-in-No-clause-applies
-returns-in_err-refusal-in-No-clause-applies g c = λ s at.
-    let is : form s.last.format c.args.item.now ≡ Ok c.in-Ok.command = ap (λ f. form f c.args.item.now) (c.head.ensures.format s at) ∙ c.in-Ok.ensures.form in
-    applies_command s c.args.item.now c.in-Ok.command _ _ _ is c.apply.ensures.events (c.apply.ensures.crash s at) (c.apply.ensures.writes s at)
+returns-in_err-refusal-in-No-clause-applies g c = λ item said s at.
+    let is : form s.last.format item ≡ Ok c.in-Ok.command = ap (λ f. form f item) (at_format c.args.session.now s at) ∙ said ∙ c.in-Ok.is in
+    applies_command s item c.in-Ok.command _ _ _ is c.apply.ensures.events (c.apply.ensures.crash s at) (c.apply.ensures.writes s at)
 
 pub returns-clause-applies : goal.returns-clause-applies
-returns-clause-applies g c = λ s at.
-    let is : form s.last.format c.args.item.now ≡ Ok c.in-Ok.command = ap (λ f. form f c.args.item.now) (c.head.ensures.format s at) ∙ c.in-Ok.ensures.form in
-    applies_command s c.args.item.now c.in-Ok.command _ _ _ is c.apply.ensures.events (c.apply.ensures.crash s at) (c.apply.ensures.writes s at)
+returns-clause-applies g c = λ item said s at.
+    let is : form s.last.format item ≡ Ok c.in-Ok.command = ap (λ f. form f item) (at_format c.args.session.now s at) ∙ said ∙ c.in-Ok.is in
+    applies_command s item c.in-Ok.command _ _ _ is c.apply.ensures.events (c.apply.ensures.crash s at) (c.apply.ensures.writes s at)
 
 -- ---- how many records were changed
 
-pub returns-in-Err-No-clause-changes : goal.returns-in-Err-No-clause-changes
-returns-in-Err-No-clause-changes g c = λ s at.
-    let spelled = subst (λ f. Answers c.parse.result (form f c.args.item.now)) (sym (c.head.ensures.format s at)) c.parse.ensures.form in
-    sym (changes_no s c.args.item.now c.in-Err-No.code _ (form_no c.parse.result _ c.in-Err-No.code (c.in-Err-No.is ∙ ap Err c.in-Err-No.field-0-is) spelled))
+pub returns-in-Err-clause-changes : goal.returns-in-Err-clause-changes
+returns-in-Err-clause-changes g c = λ item said s at.
+    let is : form s.last.format item ≡ Err c.in-Err.code = ap (λ f. form f item) (at_format c.args.session.now s at) ∙ said ∙ c.in-Err.is in
+    sym (changes_no s item c.in-Err.code _ is)
 
 pub returns-in-Ok-reply-clause-changes : goal.returns-in-Ok-reply-clause-changes
-returns-in-Ok-reply-clause-changes g c = λ s at.
-    let is : form s.last.format c.args.item.now ≡ Ok c.in-Ok.command = ap (λ f. form f c.args.item.now) (c.head.ensures.format s at) ∙ c.in-Ok.ensures.form in
-    c.in-Ok-apply.ensures.changes s at ∙ sym (changes_is s c.args.item.now c.in-Ok.command _ is)
+returns-in-Ok-reply-clause-changes g c = λ item said s at.
+    let is : form s.last.format item ≡ Ok c.in-Ok.command = ap (λ f. form f item) (at_format c.args.session.now s at) ∙ said ∙ c.in-Ok.is in
+    c.in-Ok-apply.ensures.changes s at ∙ sym (changes_is s item c.in-Ok.command _ is)
 
 pub returns-clause-changes : goal.returns-clause-changes
-returns-clause-changes g c = λ s at.
-    let is : form s.last.format c.args.item.now ≡ Ok c.in-Ok.command = ap (λ f. form f c.args.item.now) (c.head.ensures.format s at) ∙ c.in-Ok.ensures.form in
-    c.in-Ok-apply.ensures.changes s at ∙ sym (changes_is s c.args.item.now c.in-Ok.command _ is)
+returns-clause-changes g c = λ item said s at.
+    let is : form s.last.format item ≡ Ok c.in-Ok.command = ap (λ f. form f item) (at_format c.args.session.now s at) ∙ said ∙ c.in-Ok.is in
+    c.in-Ok-apply.ensures.changes s at ∙ sym (changes_is s item c.in-Ok.command _ is)
 
 -- ---- where a page is damaged
 
-pub returns-in-Err-clause-damaged : goal.returns-in-Err-clause-damaged
-returns-in-Err-clause-damaged g c = λ page is s at. c.in-Err.ensures.damaged page (same_stop c.in-Err.stop (stops.Damaged page) is) s at
+pub returns-in-Err-apply-clause-damaged : goal.returns-in-Err-apply-clause-damaged
+returns-in-Err-apply-clause-damaged g c = λ page is s at. c.in-Err-apply.ensures.damaged page (same_stop c.in-Err-apply.stop (stops.Damaged page) is) s at
   where
     same_stop : (a b : Stop) → halts.Stopped a ≡ halts.Stopped b → a ≡ b
     same_stop a b e = cc

@@ -1,33 +1,35 @@
 use Rattle.std.proofs.Common.{◌≡◌, ◌∙◌, List, ℕ, subst}
 use Rattle.quilt_world.specs.Tale.{Goes}
 use Rattle.quilt_world.proofs.Told.{goes_weaker}
+use Rattle.quilt_words.specs.declared.item.Item.{Item}
 use Rattle.quilt_replies.specs.Answers.{State}
 use Rattle.quilt_replies.specs.Runs.{text_of}
 use Rattle.quilt_map.specs.Sessions.{world_of, changes_of}
 use Rattle.quilt_top.specs.Replies.{reply_to, state_then}
 use Rattle.quilt_top.specs.Saying.{Says}
 use Rattle.quilt_top.proofs.turns.Applying.{leaves_told, none_put, answers_put, part_put}
-use Rattle.quilt_top.proofs.logs.Said.{on_err_all}
+use Rattle.quilt_top.proofs.logs.Said.{on_err_each}
 use Rattle.quilt_top.proofs.answering.put_answer.Goals as goal
 
 pub returns-in_err-answer-clause-part : goal.returns-in_err-answer-clause-part
 returns-in_err-answer-clause-part g c =
-    on_err_all {S = State} _ _ _
-    (λ s at. goes_weaker _ _ _ _ (c.answer_item.ensures.applies s at) (λ t u applies. none_put s c.args.item (changes_of c.args.session.now) t u applies))
+    on_err_each {S = State} {T = Item} _ _ _ _
+    (λ item said s at. goes_weaker _ _ _ _ (c.answer_item.ensures.applies item said s at)
+    (λ t u applies. none_put s item (changes_of c.args.session.now) t u applies))
 
 pub returns-in_err-put_reply-clause-part : goal.returns-in_err-put_reply-clause-part
 returns-in_err-put_reply-clause-part g c =
-    on_err_all {S = State} _ _ _ (λ s at.
-    let now = c.in_ok-answer.ensures.at s at in
-    part_put s c.args.item _ c.bytes.result.now _ _ _ (c.bytes.ensures ∙ c.in_ok-answer.ensures.text s at) (c.answer_item.ensures.applies s at)
-    (leaves_told c.answer_item.new.session (state_then s c.args.item) now) c.in_err-put_reply.ensures.part c.put_reply.ensures.text)
+    on_err_each {S = State} {T = Item} _ _ _ _ (λ item said s at.
+    let now = c.in_ok-answer.ensures.at item said s at in
+    part_put s item _ c.bytes.result.now _ _ _ (c.bytes.ensures ∙ c.in_ok-answer.ensures.text item said s at) (c.answer_item.ensures.applies item said s at)
+    (leaves_told c.answer_item.new.session (state_then s item) now) c.in_err-put_reply.ensures.part c.put_reply.ensures.text)
 
 pub returns-clause-said : goal.returns-clause-said
-returns-clause-said g c = λ s at.
-    let now = c.in_ok-answer.ensures.at s at in
-    let text : c.bytes.result.now ≡ text_of (reply_to s c.args.item) = c.bytes.ensures ∙ c.in_ok-answer.ensures.text s at in
+returns-clause-said g c = λ item said s at.
+    let now = c.in_ok-answer.ensures.at item said s at in
+    let text : c.bytes.result.now ≡ text_of (reply_to s item) = c.bytes.ensures ∙ c.in_ok-answer.ensures.text item said s at in
     let says =
     subst (λ (l : List ℕ). Goes (Says l) (g.W.Disk.told (world_of c.answer_item.new.session)) (g.W.Disk.told (world_of c.put_reply.new.session)))
     text c.in_ok-put_reply.ensures.said in
-    answers_put s c.args.item _ (text_of (reply_to s c.args.item)) _ _ _ (c.answer_item.ensures.applies s at)
-    (leaves_told c.answer_item.new.session (state_then s c.args.item) now) says c.put_reply.ensures.text
+    answers_put s item _ (text_of (reply_to s item)) _ _ _ (c.answer_item.ensures.applies item said s at)
+    (leaves_told c.answer_item.new.session (state_then s item) now) says c.put_reply.ensures.text

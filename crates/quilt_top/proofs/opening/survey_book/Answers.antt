@@ -18,7 +18,7 @@ new-requires-clause-numbered g c = is_numbered _ _ c.entries.ensures.is c.in-Ok.
 pub returns-in-Ok-clause-later : goal.returns-in-Ok-clause-later
 returns-in-Ok-clause-later g c =
     subst (λ (w : _). g.W.Disk.faults (books.world_of c.args.book) ≤ g.W.Disk.faults w) (sym (c.new.ensures.world ∙ c.set_used.ensures.world))
-    c.audit.ensures.cause.later
+    c.audit.ensures.left.faults
 
 pub returns-in-Ok-clause-tale : goal.returns-in-Ok-clause-tale
 returns-in-Ok-clause-tale g c =

@@ -1,6 +1,7 @@
-use Rattle.std.proofs.Common.{◌≡◌, ◌∙◌, ◌&&◌, ℕ, ap, subst, rules}
+use Rattle.std.proofs.Common.{◌≡◌, ◌∙◌, ◌&&◌, ℕ, ap, subst, sym, rules}
 use Rattle.quilt_world.specs.Tale.{Goes}
 use Rattle.quilt_words.specs.declared.item.Item.{Item}
+use Rattle.quilt_words.specs.Forms.{form}
 use Rattle.quilt_replies.specs.Answers.{State}
 use Rattle.quilt_replies.specs.Runs.{text_of, is_done}
 use Rattle.quilt_map.specs.Sessions.{world_of, changes_of, IsAt}
@@ -25,33 +26,34 @@ items-init g c = record {
   done = λ s at. (s, at, answered_first _ _ _ _ _ _ (at_level c.args.session.now s at ∙ c.requires.level) _);
 }
 
-pub returns-in_err-item-clause-stopped : goal.returns-in_err-item-clause-stopped
-returns-in_err-item-clause-stopped g c =
+pub returns-in_err-spelled-clause-stopped : goal.returns-in_err-spelled-clause-stopped
+returns-in_err-spelled-clause-stopped g c =
     on_err_all {S = State} _ _ _
     (λ s at. stopped_now _ _ _ _ _ _ (at_level c.args.session.now s at ∙ c.requires.level) _ _ _ _ _ _ (c.items.invariant.done s at).2)
 
 pub returns-in_err-all_done-clause-stopped : goal.returns-in_err-all_done-clause-stopped
 returns-in_err-all_done-clause-stopped g c =
-    let given = rw (c.in-Some.is, c.items.invariant.level) at c.in_ok-item.ensures.given in
+    let given = rw (c.in-Some.is, c.items.invariant.level) at c.in_ok-spelled.ensures.given in
     on_err_all {S = State} _ _ _ (λ s at.
     let so = c.items.invariant.done s at in
-    let held_ : c.in-Some.item ≡ held_at so.0 given.group =
-    held_is _ _ so.0 given.group c.in-Some.item given.is (c.head.ensures.format so.0 so.1)
+    let said = ap (λ f. form f given.item) (sym c.head.ensures.is_format) ∙ given.is in
+    let held_ : given.item ≡ held_at so.0 given.gives.group =
+    held_is _ _ so.0 given.gives.group given.item given.gives.is (c.head.ensures.format so.0 so.1)
     (at_level c.items.session so.0 so.1 ∙ c.items.invariant.same ∙ c.requires.level) in
     let part =
     subst (λ (i : Item). Goes (AnswersPrefix so.0 i (changes_of c.items.session)) (g.W.Disk.told (world_of c.items.session))
     (g.W.Disk.told (world_of c.put_answer.new.session)))
-    held_ (c.in_err-all_done.ensures.part so.0 so.1) in
-    stopped_part _ _ _ _ _ _ (at_level c.args.session.now s at ∙ c.requires.level) _ _ _ _ _ _ _ _ _ so.2 given.gives part)
+    held_ (c.in_err-all_done.ensures.part given.item said so.0 so.1) in
+    stopped_part _ _ _ _ _ _ (at_level c.args.session.now s at ∙ c.requires.level) _ _ _ _ _ _ _ _ _ so.2 given.gives.gives part)
 
 pub items-smaller : goal.items-smaller
 items-smaller g c =
-    let given = rw c.in-Some.is at c.in_ok-item.ensures.given in
-    rw c.in_ok-item.ensures.level (fewer_left _ _ _ _ _ given.gives)
+    let given = rw c.in-Some.is at c.in_ok-spelled.ensures.given in
+    rw c.in_ok-spelled.ensures.level (fewer_left _ _ _ _ _ given.gives.gives)
 
 pub items-preserved : goal.items-preserved
 items-preserved g c =
-    let given = rw (c.in-Some.is, c.items.invariant.level) at c.in_ok-item.ensures.given in
+    let given = rw (c.in-Some.is, c.items.invariant.level) at c.in_ok-spelled.ensures.given in
     record {
       door = search rules;
       faults = search rules;
@@ -59,25 +61,26 @@ items-preserved g c =
       same = c.in_ok-all_done.ensures.level ∙ c.items.invariant.same;
       done = λ s at.
           let so = c.items.invariant.done s at in
-          let held_ : c.in-Some.item ≡ held_at so.0 given.group =
-          held_is _ _ so.0 given.group c.in-Some.item given.is (c.head.ensures.format so.0 so.1)
+          let said = ap (λ f. form f given.item) (sym c.head.ensures.is_format) ∙ given.is in
+          let held_ : given.item ≡ held_at so.0 given.gives.group =
+          held_is _ _ so.0 given.gives.group given.item given.gives.is (c.head.ensures.format so.0 so.1)
           (at_level c.items.session so.0 so.1 ∙ c.items.invariant.same ∙ c.requires.level) in
-          let said =
+          let put =
           subst (λ (i : Item). Goes (Answers so.0 i (changes_of c.items.session) (text_of (reply_to so.0 i)))
           (g.W.Disk.told (world_of c.items.session)) (g.W.Disk.told (world_of c.put_answer.new.session)))
-          held_ (c.in_ok-all_done.ensures.said so.0 so.1) in (
-            state_then so.0 c.in-Some.item,
-            c.in_ok-all_done.ensures.at so.0 so.1,
-            answered_next _ _ _ _ _ _ (at_level c.args.session.now s at ∙ c.requires.level) _ _ _ _ _ _ _ _ _ _ _ _ so.2 given.gives said
+          held_ (c.in_ok-all_done.ensures.said given.item said so.0 so.1) in (
+            state_then so.0 given.item,
+            c.in_ok-all_done.ensures.at given.item said so.0 so.1,
+            answered_next _ _ _ _ _ _ (at_level c.args.session.now s at ∙ c.requires.level) _ _ _ _ _ _ _ _ _ _ _ _ so.2 given.gives.gives put
                 (ap (λ (i : Item). state_then so.0 i) held_)
-                (c.in_ok-all_done.ensures.changes so.0 so.1 ∙ ap (λ (i : Item). changes_then so.0 i (changes_of c.items.session)) held_)
-                (c.in_ok-all_done.ensures.done so.0 so.1 ∙ ap (λ (i : Item). c.items.all_done && is_done (reply_to so.0 i)) held_),
+                (c.in_ok-all_done.ensures.changes given.item said so.0 so.1 ∙ ap (λ (i : Item). changes_then so.0 i (changes_of c.items.session)) held_)
+                (c.in_ok-all_done.ensures.done given.item said so.0 so.1 ∙ ap (λ (i : Item). c.items.all_done && is_done (reply_to so.0 i)) held_),
           );
     }
 
 pub returns-clause-answered : goal.returns-clause-answered
 returns-clause-answered g c =
-    let given = rw c.in_default.is at c.in_ok-item.ensures.given in
+    let given = rw c.in_default.is at c.in_ok-spelled.ensures.given in
     rw given.0 c.items.invariant.done
 
 pub returns-in_err-all_done-clause-damaged : goal.returns-in_err-all_done-clause-damaged

@@ -1,5 +1,4 @@
-use Rattle.std.proofs.Common.{◌≡◌, ◌≤◌, ◌*◌, ◌-◌, ◌++◌, length, map, drop, All, Ok}
-use Rattle.quilt_words.specs.Fitting.{IsColour}
+use Rattle.std.proofs.Common.{◌≡◌, ◌≤◌, ◌*◌, ◌-◌, ◌++◌, length, map, drop, Ok}
 use Rattle.quilt_words.specs.Forms.{◌>>=◌}
 use Rattle.quilt_words.specs.Pairs.{pairs_in}
 use Rattle.quilt_words.proofs.recolour.parse_pairs.Given as goal
@@ -9,7 +8,6 @@ invariant-loop-i l = record {
   number : 2 * length l.pairs ≡ l.i;
   within : l.i ≤ length l.words;
   is : pairs_in l.format (map (λ w. w.now) l.words) ≡ (pairs_in l.format (map (λ w. w.now) (drop l.i l.words)) >>= λ ps. Ok (l.pairs ++ ps));
-  fits : All (λ pair. IsColour l.format pair.0 × IsColour l.format pair.1) l.pairs;
 }
 
 abbrev pub decreases-loop-i : goal.decreases-loop-i

@@ -1,7 +1,7 @@
 use Rattle.std.proofs.Common.{◌≡◌, length}
 use Rattle.quilt_top.specs.Trying.{text_left}
 use Rattle.quilt_top.proofs.turns.Trials.{Leads}
-use Rattle.quilt_top.proofs.trial_items.TrialItems.next_item.Given as goal
+use Rattle.quilt_top.proofs.trial_items.TrialItems.take_command.Given as goal
 
 abbrev pub invariant-lines : goal.invariant-lines
 invariant-lines l = record {
