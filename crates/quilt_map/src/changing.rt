@@ -2,7 +2,6 @@ ghost use Rattle.std.specs.Prelude.{◌≡◌, ℕ, ◌+◌, ◌*◌, ◌<◌, �
 ghost use Rattle.quilt_types.specs.Facts.{quota};
 ghost use Rattle.quilt_types.specs.Layers.{Layer};
 ghost use Rattle.quilt_record.specs.declared.entry.Entry.{Entry};
-ghost use Rattle.quilt_node.specs.Nodes.{keys_of};
 ghost use Rattle.quilt_store.specs.Stops.{HasStopCause, IsSound};
 ghost use Rattle.quilt_spell.specs.Catalogued.{IsCatalogOf};
 ghost use Rattle.quilt_spell.specs.Changing.{with_layer, with_number};
@@ -11,28 +10,15 @@ ghost use Rattle.quilt_replies.specs.Answers.{State};
 ghost use Rattle.quilt_map.specs.Sessions.{IsAtState, world_of, changed_of, last_count};
 ghost use Rattle.quilt_map.specs.Planning.{IsPlan, HasChanged};
 
-use crate::editing::edit;
+use crate::editing::edit_records;
 use crate::session::Session;
-use quilt_btree::{keys_ascend, records_ascend};
-use quilt_record::{Edits, Key, Record};
+use quilt_record::{Edits, Record};
 use quilt_store::PageStore;
 use quilt_types::Stop;
 use quilt_world::World;
-use std::alloc::{AllocError, Global};
 
 /// What is answered where pages read disagree with one another or with numbers kept.
 pub(crate) const DAMAGED: Stop = Stop::Damaged { page: 0 };
-
-/// The keys of these records.
-fn keys_in(alloc: Global, records: &[Record]) -> Result<Vec<Key>, AllocError>
-    ensures { IfOk result (λ keys. keys.items ≡ keys_of records.now) }
-{
-    let mut keys = Vec::new(alloc);
-    for r in records {
-        keys.push(r.key)?;
-    }
-    Ok(keys)
-}
 
 /// Whether a map with so many records has too many, once some went and others came.
 fn is_over(records: u32, removed: usize, added: usize, quota: u32) -> bool
@@ -63,13 +49,7 @@ impl<W: World> Session<W> {
         if is_over(records, removed.len(), added.len(), quota) {
             return Ok(false);
         }
-        let Ok(keys) = keys_in(self.alloc, removed) else {
-            return Err(Stop::Memory);
-        };
-        if !keys_ascend(&keys) || !records_ascend(added) {
-            return Err(DAMAGED);
-        }
-        match edit(&mut self.book, &keys, added) {
+        match edit_records(self.alloc, &mut self.book, removed, added) {
             Err(e) => return Err(e),
             Ok(()) => {}
         }

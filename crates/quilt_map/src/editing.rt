@@ -5,19 +5,113 @@ ghost use Rattle.quilt_node.specs.Pages.{is_ascending};
 ghost use Rattle.quilt_node.specs.Nodes.{keys_of};
 ghost use Rattle.quilt_btree.specs.Edits.{IsWhole};
 ghost use Rattle.quilt_btree.specs.Runs.{put_all, has_any, without_all, has_each};
+ghost use Rattle.quilt_btree.specs.Batches.{edit_keys, are_due, more, fewer, removed as keys_that_go, added as records_that_come};
 ghost use Rattle.quilt_store.specs.Stops.{HasStopCause, IsSound};
 ghost use Rattle.quilt_edition.specs.Books.{world_of, pages_of, last_of, work_of, published_free, GoesOn};
 ghost use Rattle.quilt_map.specs.Sessions.{told_of, free_of, changed_of, tree_in};
 ghost use Rattle.quilt_map.specs.Editing.{SameButTree};
 
-use quilt_btree::Tree;
+use crate::changing::DAMAGED;
+use quilt_batch::merged;
+use quilt_btree::{Edit, Tree, edits_ascend, keys_ascend, records_ascend};
 use quilt_edition::Book;
 use quilt_record::{Key, Record};
+use quilt_store::PageStore;
 use quilt_types::Stop;
 use quilt_world::Disk;
+use std::alloc::{AllocError, Global};
+
+/// Takes the records of one list out of the tree of the work, and puts those of another in, each in the order of keys. Records in
+/// another order are damage of page 0.
+pub(crate) fn edit_records<W: Disk>(
+    alloc: Global,
+    book: &mut Book<W>,
+    removed: &[Record],
+    added: &[Record],
+) -> Result<(), Stop>
+    requires room { (work_of book.old).records + length added.now ≤ quota (pages_of book.old) + length removed.now }
+    ensures edited { OnOk result ((rs : List AnyRecord) → IsWhole (told_of book.old) (free_of book.old) (pages_of book.old) (tree_in (work_of book.old)) rs →
+        IsWhole (told_of book.new) (free_of book.new) (pages_of book.old) (tree_in (work_of book.new)) (put_all added.now (without_all (keys_of removed.now) rs))) }
+    ensures head { OnOk result (SameButTree (work_of book.old) (work_of book.new)) }
+    ensures count { OnOk result ((work_of book.new).records + length removed.now ≡ (work_of book.old).records + length added.now) }
+    ensures sound { IfErr result (λ e. (rs : List AnyRecord)
+        → IsWhole (told_of book.old) (free_of book.old) (pages_of book.old) (tree_in (work_of book.old)) rs →
+        is_ascending (keys_of removed.now) ≡ true → is_ascending (keys_of added.now) ≡ true →
+        has_each (keys_of removed.now) rs ≡ true → has_any added.now (without_all (keys_of removed.now) rs) ≡ false → IsSound e) }
+    ensures goes_on { GoesOn book.old book.new }
+    ensures used { published_free book.new ≡ published_free book.old }
+    ensures changed { changed_of book.new ≤ changed_of book.old + 7 * length removed.now + 6 * length added.now }
+    ensures cause { HasStopCause (W.faults (world_of book.old)) (W.faults (world_of book.new)) result }
+{
+    let quota = 64 * (book.pages() - 8);
+    if fits(book.head().records, added.len(), quota) {
+        let Ok(run) = merged(alloc, removed, added) else {
+            return Err(Stop::Memory);
+        };
+        if !edits_ascend(&run) {
+            return Err(DAMAGED);
+        }
+        return apply(book, &run);
+    }
+    let Ok(keys) = keys_in(alloc, removed) else {
+        return Err(Stop::Memory);
+    };
+    if !keys_ascend(&keys) || !records_ascend(added) {
+        return Err(DAMAGED);
+    }
+    edit(book, &keys, added)
+}
+
+/// The keys of these records.
+fn keys_in(alloc: Global, records: &[Record]) -> Result<Vec<Key>, AllocError>
+    ensures { IfOk result (λ keys. keys.items ≡ keys_of records.now) }
+{
+    let mut keys = Vec::new(alloc);
+    for r in records {
+        keys.push(r.key)?;
+    }
+    Ok(keys)
+}
+
+/// Whether a tree has room for so many records more before others go.
+fn fits(records: u32, added: usize, quota: u32) -> bool
+    ensures { result ≡ true → records + added ≤ quota }
+{
+    u128::from(records) + (added as u128) <= u128::from(quota)
+}
+
+/// Makes a batch of edits in the tree of the work.
+fn apply<W: Disk>(book: &mut Book<W>, run: &[Edit]) -> Result<(), Stop>
+    requires room { (work_of book.old).records + more run.now ≤ quota (pages_of book.old) }
+    requires order { is_ascending (edit_keys run.now) ≡ true }
+    ensures edited { OnOk result ((rs : List AnyRecord) → IsWhole (told_of book.old) (free_of book.old) (pages_of book.old) (tree_in (work_of book.old)) rs →
+        IsWhole (told_of book.new) (free_of book.new) (pages_of book.old) (tree_in (work_of book.new))
+        (put_all (records_that_come run.now) (without_all (keys_that_go run.now) rs))) }
+    ensures head { OnOk result (SameButTree (work_of book.old) (work_of book.new)) }
+    ensures count { OnOk result ((work_of book.new).records + fewer run.now ≡ (work_of book.old).records + more run.now) }
+    ensures sound { IfErr result (λ e. (rs : List AnyRecord)
+        → IsWhole (told_of book.old) (free_of book.old) (pages_of book.old) (tree_in (work_of book.old)) rs → are_due run.now rs ≡ true → IsSound e) }
+    ensures goes_on { GoesOn book.old book.new }
+    ensures used { published_free book.new ≡ published_free book.old }
+    ensures changed { changed_of book.new ≤ changed_of book.old + 7 * length (keys_that_go run.now) + 6 * length (records_that_come run.now) }
+    ensures cause { HasStopCause (W.faults (world_of book.old)) (W.faults (world_of book.new)) result }
+{
+    let head = book.head();
+    let mut tree = Tree {
+        root: head.root,
+        height: head.height,
+        records: head.records,
+    };
+    match tree.apply(book, run) {
+        Err(e) => return Err(e),
+        Ok(()) => {}
+    }
+    book.set_tree(tree.root, tree.height, tree.records);
+    Ok(())
+}
 
 /// Takes the records of these keys out of the tree of the work, and puts the others in. Both stand in the order of their keys.
-pub(crate) fn edit<W: Disk>(book: &mut Book<W>, keys: &[Key], added: &[Record]) -> Result<(), Stop>
+fn edit<W: Disk>(book: &mut Book<W>, keys: &[Key], added: &[Record]) -> Result<(), Stop>
     requires room { (work_of book.old).records + length added.now ≤ quota (pages_of book.old) + length keys.now }
     requires keys { is_ascending keys.now ≡ true }
     requires added { is_ascending (keys_of added.now) ≡ true }

@@ -227,3 +227,21 @@ pub returns-in-Crossings-clause-answer : goal.returns-in-Crossings-clause-answer
 returns-in-Crossings-clause-answer g c =
     if_ok _ _ c.crossings.result (λ reply p s at.
     subst (λ (x : Command). Answered {D = g.W.Disk} s x c.args.self.now c.crossings.new.self reply) (sym c.in-Crossings.is) (p s at)) c.crossings.ensures.answer
+
+pub returns-in-Show-clause-answer : goal.returns-in-Show-clause-answer
+returns-in-Show-clause-answer g c =
+    if_ok _ _ c.show.result (λ reply p s at.
+    subst (λ (x : Command). Answered {D = g.W.Disk} s x c.args.self.now c.show.new.self reply) (sym c.in-Show.is)
+    (p s at)) c.show.ensures.answer
+
+pub returns-in-Leaves-clause-answer : goal.returns-in-Leaves-clause-answer
+returns-in-Leaves-clause-answer g c =
+    if_ok _ _ c.leaves.result (λ reply p s at.
+    subst (λ (x : Command). Answered {D = g.W.Disk} s x c.args.self.now c.leaves.new.self reply) (sym c.in-Leaves.is)
+    (p s at)) c.leaves.ensures.answer
+
+pub returns-in-Within-clause-answer : goal.returns-in-Within-clause-answer
+returns-in-Within-clause-answer g c =
+    if_ok _ _ c.points_within.result (λ reply p s at.
+    subst (λ (x : Command). Answered {D = g.W.Disk} s x c.args.self.now c.points_within.new.self reply) (sym c.in-Within.is)
+    (p s at)) c.points_within.ensures.answer

@@ -1,5 +1,5 @@
 use Rattle.std.proofs.Common.{◌≡◌, map, take}
-use Rattle.quilt_map.proofs.changing.keys_in.Given as goal
+use Rattle.quilt_map.proofs.editing.keys_in.Given as goal
 
 abbrev pub invariant-loop-r : goal.invariant-loop-r
 invariant-loop-r l = l.keys.items ≡ map (λ r. r.key) (take l.r-index l.records)
