@@ -1,0 +1,286 @@
+-- Maps that are opened and made.
+use Rattle.std.proofs.Common.{◌≡◌, ◌≢◌, ◌⊎◌, inl, inr, ℕ, ◌+◌, ◌*◌, ◌<◌, ◌≤◌, Bool, true, false, List, [], ◌∷◌, length, replicate, Option, Some, None, refl, sym, ◌∙◌, ap, subst, arith}
+use Rattle.std.proofs.lemmas.Bool.{false≢true}
+use Rattle.std.proofs.lemmas.List.{length-replicate}
+use Rattle.std.proofs.lemmas.Option.{same_Some}
+use Rattle.quilt_world.specs.Disk.{Log}
+use Rattle.quilt_world.specs.Doors.{OpensAt, MakesAt}
+use Rattle.quilt_world.specs.PageBytes.{last_bytes}
+use Rattle.quilt_world.specs.declared.disk.Door.{Door}
+use Rattle.quilt_world.specs.declared.disk.Door.TheVariants as doors
+use Rattle.quilt_host.specs.declared.act.Act.TheVariants.{Opened, Created, Synced, Linked}
+use Rattle.quilt_host.specs.Story.{Story}
+use Rattle.quilt_host.specs.Acts.{draft_of, closed, log_of, is_settled}
+use Rattle.quilt_host.specs.Bytes.{overlaid, page_at, pages_of}
+use Rattle.quilt_host.specs.Calls.{acted, Opens, Creates, Removes, FailsToRemove, Syncs, Links}
+use Rattle.quilt_host.specs.Paging.{KeepsFile, KeepsRest, KeepsStart, WritesPage, TearsPage, WritesZeros, WritesSome, Settles, Fills, IsCleared, MakesMap, FailsToMake}
+use Rattle.quilt_host.specs.Worlds.{is_open, tale_of, IsSound}
+use Rattle.quilt_host.proofs.ByteLaws.{get-pages_of, zeros_more, pages_of-zeros}
+use Rattle.quilt_host.proofs.DraftLaws.{after_opened, after_linked}
+use Rattle.quilt_host.proofs.Pieces.{same_rest}
+
+-- ---- filling a new file
+
+pub zeros_none : (s : Story) → s.bytes ≡ [] → WritesZeros 0 s s
+zeros_none s none = record { rest = same_rest s; bytes = none; owes = refl }
+
+rest_both : (a b c : Story) → KeepsRest a b → KeepsRest b c → KeepsRest a c
+rest_both a b c ab bc = record {
+  words = bc.words ∙ ab.words;
+  path = bc.path ∙ ab.path;
+  was_there = bc.was_there ∙ ab.was_there;
+  is_there = bc.is_there ∙ ab.is_there;
+  settled = bc.settled ∙ ab.settled;
+  input = bc.input ∙ ab.input;
+}
+
+start_of_rest : (a b : Story) → KeepsRest a b → KeepsStart a b
+start_of_rest a b k = record { words = k.words; path = k.path; was_there = k.was_there; input = k.input }
+
+start_both : (a b c : Story) → KeepsStart a b → KeepsStart b c → KeepsStart a c
+start_both a b c ab bc = record {
+  words = bc.words ∙ ab.words;
+  path = bc.path ∙ ab.path;
+  was_there = bc.was_there ∙ ab.was_there;
+  input = bc.input ∙ ab.input;
+}
+
+pub zeros_next : (i : ℕ) (zeros : List ℕ) (t u v : Story) → zeros ≡ replicate 4096 0 → WritesZeros i t u → WritesPage i zeros u v → WritesZeros (i + 1) t v
+zeros_next i zeros t u v are z w = record {
+  rest = rest_both t u v z.rest w.rest;
+  bytes =
+      w.bytes
+      ∙ ap (λ f. overlaid f (i * 4096) zeros) z.bytes
+      ∙ ap (overlaid (replicate (i * 4096) 0) (i * 4096)) are
+      ∙ zeros_more i (i + 1) refl;
+  owes = w.owes ∙ z.owes;
+}
+
+pub zeros_stop : (i : ℕ) (t u v : Story) → WritesZeros i t u → TearsPage i u v ⊎ (v ≡ u) → WritesSome t v
+zeros_stop i t u v z (inl w) = record { rest = rest_both t u v z.rest w.rest; owes = w.owes ∙ z.owes }
+zeros_stop i t u v z (inr same) = subst (λ (x : Story). WritesSome t x) (sym same) (record { rest = z.rest; owes = z.owes })
+
+pub some_none : (s : Story) → WritesSome s s
+some_none s = record { rest = same_rest s; owes = refl }
+
+pub settles : (t u v : Story) → Syncs t u → Links u v → Settles t v
+settles t u v synced links =
+    let all : links.settled ≡ u.bytes = links.all (subst (λ (x : Story). is_settled x.acts ≡ true) (sym synced) refl) in
+    let bytes : u.bytes ≡ t.bytes = ap (λ (x : Story). x.bytes) synced in
+    let linked : Story = record u { settled = links.settled; acts = Linked ∷ u.acts } in
+    subst (λ (x : Story). Settles t x) (sym links.now)
+    (record {
+      same = record {
+        words = ap (λ (x : Story). x.words) synced;
+        path = ap (λ (x : Story). x.path) synced;
+        was_there = ap (λ (x : Story). x.was_there) synced;
+        input = ap (λ (x : Story). x.input) synced;
+      };
+      is_there = ap (λ (x : Story). x.is_there) synced;
+      bytes = bytes;
+      settled = all ∙ bytes;
+      log = after_linked (draft_of u.acts);
+    })
+
+pub some_synced : (t u : Story) → Syncs t u → WritesSome t u
+some_synced t u synced = subst (λ (x : Story). WritesSome t x) (sym synced)
+    (record { rest = record { words = refl; path = refl; was_there = refl; is_there = refl; settled = refl; input = refl }; owes = refl })
+
+pub some_both : (t u v : Story) → WritesSome t u → WritesSome u v → WritesSome t v
+some_both t u v a b = record { rest = rest_both t u v a.rest b.rest; owes = b.owes ∙ a.owes }
+
+pub zeros_some : (n : ℕ) (t u : Story) → WritesZeros n t u → WritesSome t u
+zeros_some n t u z = record { rest = z.rest; owes = z.owes }
+
+pub fills : (n : ℕ) (t u v : Story) → WritesZeros n t u → Settles u v → Fills n t v
+fills n t u v z s = record {
+  same = start_both t u v (start_of_rest t u z.rest) s.same;
+  is_there = s.is_there ∙ z.rest.is_there;
+  bytes = s.bytes ∙ z.bytes;
+  settled = s.settled ∙ z.bytes;
+  log = s.log;
+}
+
+-- ---- removing it
+
+pub cleared_removed : (path : List ℕ) (t u v : Story) → WritesSome t u → Removes path u v → IsCleared t v
+cleared_removed path t u v some removes =
+    subst (λ (x : Story). IsCleared t x) (sym removes.now)
+    (record {
+      same = record { words = some.rest.words; path = some.rest.path; was_there = some.rest.was_there; input = some.rest.input };
+      cleared = refl;
+    })
+
+pub cleared_kept : (t u v : Story) → WritesSome t u → FailsToRemove u v → IsCleared t v
+cleared_kept t u v some kept =
+    subst (λ (x : Story). IsCleared t x) (sym kept)
+    (record {
+      same = record { words = some.rest.words; path = some.rest.path; was_there = some.rest.was_there; input = some.rest.input };
+      cleared = refl;
+    })
+
+-- ---- making
+
+pub created_empty : (path : List ℕ) (t u : Story) → Creates path t u → u.bytes ≡ []
+created_empty path t u c = ap (λ (x : Story). x.bytes) c.now
+
+pub makes_map : (path : List ℕ) (n : ℕ) (t u v : Story) → Creates path t u → Fills n u v → MakesMap path n t v
+makes_map path n t u v c f = record {
+  named = c.named;
+  free = c.free;
+  there = f.is_there ∙ ap (λ (x : Story). x.is_there) c.now;
+  same = record {
+    words = f.same.words ∙ ap (λ (x : Story). x.words) c.now;
+    path = f.same.path ∙ ap (λ (x : Story). x.path) c.now;
+    was_there = f.same.was_there ∙ ap (λ (x : Story). x.was_there) c.now;
+    input = f.same.input ∙ ap (λ (x : Story). x.input) c.now;
+  };
+  bytes = f.bytes;
+  settled = f.settled;
+  log = f.log;
+}
+
+pub fails_to_fill : (path : List ℕ) (t u v : Story) → Creates path t u → IsCleared u v → FailsToMake t v
+fails_to_fill path t u v c f = record {
+  same = record {
+    words = f.same.words ∙ ap (λ (x : Story). x.words) c.now;
+    path = f.same.path ∙ ap (λ (x : Story). x.path) c.now;
+    was_there = f.same.was_there ∙ ap (λ (x : Story). x.was_there) c.now;
+    input = f.same.input ∙ ap (λ (x : Story). x.input) c.now;
+  };
+  kept = λ there. absurd (false≢true (sym c.free ∙ there));
+  cleared = λ owed. f.cleared;
+}
+
+pub fails_at_once : (s : Story) → FailsToMake s s
+fails_at_once s = record { same = record { words = refl; path = refl; was_there = refl; input = refl }; kept = λ there. refl; cleared = λ owed. owed }
+
+-- ---- soundness
+
+pub sound_closed : (door : Door) (pages : ℕ) (s : Story) → pages ≡ 0 → (door ≡ doors.Shut → ⊥) → is_open door ≡ false → IsSound door pages s
+sound_closed door pages s none not_shut closed = record {
+  first = λ shut. absurd (not_shut shut);
+  within = omega arith;
+  reads = λ opens. absurd (false≢true (sym closed ∙ opens));
+}
+
+reads_first : (pages : ℕ) (s : Story) → log_of s.acts ≡ [] → s.settled ≡ s.bytes → (i : ℕ) (bytes : List ℕ) → i < pages
+    → last_bytes (pages_of s.settled pages) (log_of s.acts) i ≡ Some bytes → page_at s.bytes i ≡ bytes
+unfolding last_bytes
+reads_first pages s log settled i bytes within is =
+    let now : last_bytes (pages_of s.settled pages) [] i ≡ Some bytes = ap (λ (l : Log). last_bytes (pages_of s.settled pages) l i) (sym log) ∙ is in
+    ap (λ f. page_at f i) (sym settled) ∙ sym (get-pages_of s.settled pages i within) ∙ same_Some _ bytes now
+
+pub sound_opened : (path : List ℕ) (pages : ℕ) (s u : Story) → Opens path s u → pages * 4096 ≤ length u.bytes → IsSound doors.Ready pages u
+sound_opened path pages s u o within = record {
+  first = λ shut. absurd (let no : doors.Ready ≡ doors.Shut = shut in cc);
+  within = within;
+  reads = λ opens. reads_first pages u
+      (ap (λ (x : Story). log_of x.acts) o.now ∙ after_opened (draft_of s.acts))
+      (ap (λ (x : Story). x.settled) o.now ∙ sym (ap (λ (x : Story). x.bytes) o.now));
+}
+
+pub sound_made : (path : List ℕ) (pages : ℕ) (s u : Story) → MakesMap path pages s u → IsSound doors.Made pages u
+sound_made path pages s u m = record {
+  first = λ shut. absurd (let no : doors.Made ≡ doors.Shut = shut in cc);
+  within = omega (arith, ap length m.bytes, length-replicate {A = ℕ} (pages * 4096) 0);
+  reads = λ opens. reads_first pages u m.log (m.settled ∙ sym m.bytes);
+}
+
+-- ---- tales
+
+pub opens_at : (path : List ℕ) (door : Door) (pages pages' reads writes : ℕ) (s u : Story) → door ≡ doors.Shut → IsSound door pages s → Opens path s u
+    → OpensAt path doors.Ready (tale_of door pages reads writes s) (tale_of doors.Ready pages' reads writes u)
+opens_at path door pages pages' reads writes s u shut sound o = record {
+  fresh = record {
+    log = ap (λ (x : Story). log_of x.acts) o.now ∙ after_opened (draft_of s.acts);
+    reads = refl;
+    writes = refl;
+    input = ap (λ (x : Story). x.input) o.now;
+    path = ap (λ (x : Story). x.path) o.now;
+    was_there = ap (λ (x : Story). x.was_there) o.now;
+  };
+  ready = λ ready. (o.named, sym (sound.first shut) ∙ o.there);
+  missing = λ missing. absurd (let no : doors.Ready ≡ doors.Missing = missing in cc);
+}
+
+pub is_missing : (path : List ℕ) (door : Door) (pages pages' reads writes : ℕ) (s : Story) → door ≡ doors.Shut → IsSound door pages s
+    → (path ≡ s.path → s.is_there ≡ false) → OpensAt path doors.Missing (tale_of door pages reads writes s) (tale_of doors.Missing pages' reads writes s)
+is_missing path door pages pages' reads writes s shut sound none = record {
+  fresh = record { log = refl; reads = refl; writes = refl; input = refl; path = refl; was_there = refl };
+  ready = λ ready. absurd (let no : doors.Missing ≡ doors.Ready = ready in cc);
+  missing = λ missing same. sym (sound.first shut) ∙ none same;
+}
+
+pub fails_to_open : (path : List ℕ) (door : Door) (pages pages' reads writes : ℕ) (s u : Story) → (u ≡ s) ⊎ Opens path s u
+    → OpensAt path doors.Failed (tale_of door pages reads writes s) (tale_of doors.Failed pages' reads writes u)
+fails_to_open path door pages pages' reads writes s u (inl same) = record {
+  fresh = record {
+    log = refl;
+    reads = refl;
+    writes = refl;
+    input = ap (λ (x : Story). x.input) same;
+    path = ap (λ (x : Story). x.path) same;
+    was_there = ap (λ (x : Story). x.was_there) same;
+  };
+  ready = λ ready. absurd (let no : doors.Failed ≡ doors.Ready = ready in cc);
+  missing = λ missing. absurd (let no : doors.Failed ≡ doors.Missing = missing in cc);
+}
+fails_to_open path door pages pages' reads writes s u (inr o) = record {
+  fresh = record {
+    log = refl;
+    reads = refl;
+    writes = refl;
+    input = ap (λ (x : Story). x.input) o.now;
+    path = ap (λ (x : Story). x.path) o.now;
+    was_there = ap (λ (x : Story). x.was_there) o.now;
+  };
+  ready = λ ready. absurd (let no : doors.Failed ≡ doors.Ready = ready in cc);
+  missing = λ missing. absurd (let no : doors.Failed ≡ doors.Missing = missing in cc);
+}
+
+pub makes_at : (path : List ℕ) (door : Door) (n pages reads writes : ℕ) (s u : Story) → door ≡ doors.Shut → IsSound door pages s → MakesMap path n s u
+    → MakesAt path n doors.Made (tale_of door pages reads writes s) (tale_of doors.Made n reads writes u)
+makes_at path door n pages reads writes s u shut sound m = record {
+  fresh = record {
+    log = m.log;
+    reads = refl;
+    writes = refl;
+    input = m.same.input;
+    path = m.same.path;
+    was_there = m.same.was_there;
+  };
+  ready = λ made. (m.named, sym (sound.first shut) ∙ m.free);
+  zero = λ made. ap (λ f. pages_of f n) m.settled ∙ pages_of-zeros n;
+  taken = λ taken. absurd (let no : doors.Made ≡ doors.Taken = taken in cc);
+}
+
+pub is_taken : (path : List ℕ) (door : Door) (n pages pages' reads writes : ℕ) (s : Story) → door ≡ doors.Shut → IsSound door pages s
+    → (path ≡ s.path → s.is_there ≡ true) → MakesAt path n doors.Taken (tale_of door pages reads writes s) (tale_of doors.Taken pages' reads writes s)
+is_taken path door n pages pages' reads writes s shut sound there = record {
+  fresh = record { log = refl; reads = refl; writes = refl; input = refl; path = refl; was_there = refl };
+  ready = λ made. absurd (let no : doors.Taken ≡ doors.Made = made in cc);
+  zero = λ made. absurd (let no : doors.Taken ≡ doors.Made = made in cc);
+  taken = λ taken same. sym (sound.first shut) ∙ there same;
+}
+
+pub fails_at : (path : List ℕ) (door : Door) (n pages pages' reads writes : ℕ) (s u : Story) → FailsToMake s u
+    → MakesAt path n doors.Failed (tale_of door pages reads writes s) (tale_of doors.Failed pages' reads writes u)
+fails_at path door n pages pages' reads writes s u f = record {
+  fresh = record { log = refl; reads = refl; writes = refl; input = f.same.input; path = f.same.path; was_there = f.same.was_there };
+  ready = λ made. absurd (let no : doors.Failed ≡ doors.Made = made in cc);
+  zero = λ made. absurd (let no : doors.Failed ≡ doors.Made = made in cc);
+  taken = λ taken. absurd (let no : doors.Failed ≡ doors.Taken = taken in cc);
+}
+
+-- ---- files
+
+pub same_file : (s : Story) → KeepsFile s s
+same_file s = record { is_there = refl; bytes = refl }
+
+pub file_opened : (path : List ℕ) (s u : Story) → Opens path s u → KeepsFile s u
+file_opened path s u o = record { is_there = ap (λ (x : Story). x.is_there) o.now; bytes = ap (λ (x : Story). x.bytes) o.now }
+
+pub file_not_opened : (path : List ℕ) (s u : Story) → (u ≡ s) ⊎ Opens path s u → KeepsFile s u
+file_not_opened path s u (inl same) = record { is_there = ap (λ (x : Story). x.is_there) same; bytes = ap (λ (x : Story). x.bytes) same }
+file_not_opened path s u (inr o) = file_opened path s u o

@@ -1,0 +1,146 @@
+-- What each call leaves of what holds of a story behind a door, and of its tale.
+use Rattle.std.proofs.Common.{◌≡◌, ◌≢◌, ◌⊎◌, inl, inr, ℕ, ◌+◌, ◌*◌, ◌<◌, ◌≤◌, Bool, true, false, cond, List, [], ◌∷◌, ◌++◌, length, Option, Some, None, refl, sym, ◌∙◌, ap, subst, arith}
+use Rattle.std.proofs.lemmas.Bool.{cases_eq}
+use Rattle.std.proofs.lemmas.List.{append-nil}
+use Rattle.std.proofs.lemmas.Option.{same_Some}
+use Rattle.quilt_world.specs.Disk.{Log}
+use Rattle.quilt_world.specs.PageBytes.{last_bytes, Spares}
+use Rattle.quilt_world.specs.Tale.{Tale, Adds}
+use Rattle.quilt_world.specs.declared.event.Event.{Event}
+use Rattle.quilt_world.specs.declared.event.Event.TheVariants.{Wrote, Tore, Synced, Took, Put}
+use Rattle.quilt_world.specs.declared.disk.Door.{Door}
+use Rattle.quilt_world.specs.declared.disk.Door.TheVariants as doors
+use Rattle.quilt_world.proofs.PageLaws.{last-spared, last-Wrote, last-Tore}
+use Rattle.quilt_host.specs.Story.{Story}
+use Rattle.quilt_host.specs.Acts.{log_of}
+use Rattle.quilt_host.specs.Bytes.{overlaid, page_at, pages_of}
+use Rattle.quilt_host.specs.Paging.{KeepsRest, WritesPage, TearsPage}
+use Rattle.quilt_host.specs.Worlds.{is_open, tale_of, IsSound}
+use Rattle.quilt_host.proofs.ByteLaws.{length-overlaid_least, page-overlaid_other, page-overlaid_same}
+
+-- what soundness and tales ask of a step, beside the bytes and the events
+pub record KeepsSound (s u : Story) : Type 0 where
+  pub is_there : u.is_there ≡ s.is_there
+  pub was_there : u.was_there ≡ s.was_there
+  pub settled : u.settled ≡ s.settled
+
+pub record KeepsTale (s u : Story) : Type 0 where
+  pub settled : u.settled ≡ s.settled
+  pub path : u.path ≡ s.path
+  pub was_there : u.was_there ≡ s.was_there
+  pub input : u.input ≡ s.input
+
+-- ---- doors
+
+pub open_with_pages : (door : Door) (pages : ℕ) → (door ≢ doors.Ready → door ≢ doors.Made → pages ≡ 0) → 0 < pages → is_open door ≡ true
+open_with_pages doors.Ready pages none some = refl
+open_with_pages doors.Made pages none some = refl
+open_with_pages doors.Shut pages none some = absurd (let zero : pages ≡ 0 = none (λ e. cc) (λ e. cc) in omega arith)
+open_with_pages doors.Missing pages none some = absurd (let zero : pages ≡ 0 = none (λ e. cc) (λ e. cc) in omega arith)
+open_with_pages doors.Taken pages none some = absurd (let zero : pages ≡ 0 = none (λ e. cc) (λ e. cc) in omega arith)
+open_with_pages doors.Failed pages none some = absurd (let zero : pages ≡ 0 = none (λ e. cc) (λ e. cc) in omega arith)
+
+pub open_either : (door : Door) → (door ≡ doors.Ready) ⊎ (door ≡ doors.Made) → is_open door ≡ true
+open_either door (inl ready) = ap is_open ready
+open_either door (inr made) = ap is_open made
+
+-- ---- one event more
+
+moved_last : (pages : ℕ) (s u : Story) (e : Event) (j : ℕ) (b : List ℕ) → u.settled ≡ s.settled → log_of u.acts ≡ log_of s.acts ++ e ∷ []
+    → last_bytes (pages_of u.settled pages) (log_of u.acts) j ≡ Some b → last_bytes (pages_of s.settled pages) (log_of s.acts ++ e ∷ []) j ≡ Some b
+moved_last pages s u e j b settled log is =
+    ap (λ (l : Log). last_bytes (pages_of s.settled pages) l j) (sym log) ∙ ap (λ z. last_bytes (pages_of z pages) (log_of u.acts) j) (sym settled) ∙ is
+
+-- an event that is no write, with the same bytes
+pub sound_spared : (door : Door) (pages : ℕ) (s u : Story) (e : Event) → ((i : ℕ) → Spares i e) → KeepsSound s u → u.bytes ≡ s.bytes
+    → log_of u.acts ≡ log_of s.acts ++ e ∷ [] → IsSound door pages s → IsSound door pages u
+sound_spared door pages s u e spares keeps bytes log sound = record {
+  first = λ shut. keeps.is_there ∙ sound.first shut ∙ sym keeps.was_there;
+  within = omega (arith, sound.within, ap length bytes);
+  reads = λ opens j b lt is.
+      ap (λ l. page_at l j) bytes
+      ∙ sound.reads opens j b lt (sym (last-spared (pages_of s.settled pages) (log_of s.acts) e j (spares j)) ∙ moved_last pages s u e j b keeps.settled log is);
+}
+
+-- nothing that is seen
+pub sound_kept : (door : Door) (pages : ℕ) (s u : Story) → KeepsSound s u → u.bytes ≡ s.bytes → log_of u.acts ≡ log_of s.acts → IsSound door pages s
+    → IsSound door pages u
+sound_kept door pages s u keeps bytes log sound = record {
+  first = λ shut. keeps.is_there ∙ sound.first shut ∙ sym keeps.was_there;
+  within = omega (arith, sound.within, ap length bytes);
+  reads = λ opens j b lt is.
+      ap (λ l. page_at l j) bytes
+      ∙ sound.reads opens j b lt (ap (λ (l : Log). last_bytes (pages_of s.settled pages) l j) (sym log)
+      ∙ ap (λ z. last_bytes (pages_of z pages) (log_of u.acts) j) (sym keeps.settled) ∙ is);
+}
+
+pub sound_wrote : (door : Door) (pages i : ℕ) (page : List ℕ) (s u : Story) → i < pages → length page ≡ 4096 → IsSound door pages s → WritesPage i page s u
+    → IsSound door pages u
+sound_wrote door pages i page s u low size sound w = record {
+  first = λ shut. w.rest.is_there ∙ sound.first shut ∙ sym w.rest.was_there;
+  within = omega (arith, sound.within, ap length w.bytes, length-overlaid_least s.bytes (i * 4096) page);
+  reads = λ opens j b lt is.
+      let moved = moved_last pages s u (Wrote i page) j b w.rest.settled w.log is in
+      ap (λ l. page_at l j) w.bytes
+      ∙ elim (cases_eq i j) [
+        | inl here ↦
+            let at : last_bytes (pages_of s.settled pages) (log_of s.acts ++ Wrote i page ∷ []) i ≡ Some b =
+            subst (λ k. last_bytes (pages_of s.settled pages) (log_of s.acts ++ Wrote i page ∷ []) k ≡ Some b) (sym here) moved in
+            subst (λ k. page_at (overlaid s.bytes (i * 4096) page) k ≡ b) here
+            (page-overlaid_same s.bytes i page size ∙ same_Some page b (sym (last-Wrote (pages_of s.settled pages) (log_of s.acts) i page) ∙ at))
+        | inr apart ↦
+            page-overlaid_other s.bytes i j page apart (omega arith) (omega (arith, sound.within))
+            ∙ sound.reads opens j b lt (sym (last-spared (pages_of s.settled pages) (log_of s.acts) (Wrote i page) j apart) ∙ moved)
+      ];
+}
+
+pub sound_tore : (door : Door) (pages i : ℕ) (s u : Story) → i < pages → IsSound door pages s → TearsPage i s u ⊎ (u ≡ s) → IsSound door pages u
+sound_tore door pages i s u low sound (inr same) = subst (IsSound door pages) (sym same) sound
+sound_tore door pages i s u low sound (inl w) = record {
+  first = λ shut. w.rest.is_there ∙ sound.first shut ∙ sym w.rest.was_there;
+  within = omega (arith, sound.within, ap length w.bytes, length-overlaid_least s.bytes (i * 4096) w.left);
+  reads = λ opens j b lt is.
+      let moved = moved_last pages s u (Tore i) j b w.rest.settled w.log is in
+      ap (λ l. page_at l j) w.bytes
+      ∙ elim (cases_eq i j) [
+        | inl here ↦ absurd (let no : ◌≡◌ {A = Option (List ℕ)} None (Some b) =
+            sym (last-Tore (pages_of s.settled pages) (log_of s.acts) i)
+            ∙ subst (λ k. last_bytes (pages_of s.settled pages) (log_of s.acts ++ Tore i ∷ []) k ≡ Some b) (sym here) moved in cc)
+        | inr apart ↦
+            page-overlaid_other s.bytes i j w.left apart w.few (omega (arith, sound.within))
+            ∙ sound.reads opens j b lt (sym (last-spared (pages_of s.settled pages) (log_of s.acts) (Tore i) j apart) ∙ moved)
+      ];
+}
+
+-- ---- tales
+
+-- the tale has these events more
+pub adds_of : (door : Door) (pages reads writes reads' writes' : ℕ) (s u : Story) (events : Log) → is_open door ≡ true → KeepsTale s u
+    → log_of u.acts ≡ log_of s.acts ++ events → Adds events (tale_of door pages reads writes s) (tale_of door pages reads' writes' u)
+adds_of door pages reads writes reads' writes' s u events opens keeps log = record {
+  file = record { start = ap (λ z. pages_of z pages) keeps.settled; path = keeps.path; was_there = keeps.was_there };
+  log = ap (λ b. cond b (log_of u.acts) []) opens ∙ log ∙ ap (λ b. cond b (log_of s.acts) [] ++ events) (sym opens);
+  input = keeps.input;
+}
+
+-- nothing is added
+pub adds_none : (door : Door) (pages reads writes reads' writes' : ℕ) (s : Story)
+    → Adds [] (tale_of door pages reads writes s) (tale_of door pages reads' writes' s)
+adds_none door pages reads writes reads' writes' s =
+    record { file = record { start = refl; path = refl; was_there = refl }; log = sym (append-nil (cond (is_open door) (log_of s.acts) [])); input = refl }
+
+pub adds_wrote : (door : Door) (pages reads writes reads' writes' i : ℕ) (page : List ℕ) (s u : Story) → is_open door ≡ true → WritesPage i page s u
+    → Adds (Wrote i page ∷ []) (tale_of door pages reads writes s) (tale_of door pages reads' writes' u)
+adds_wrote door pages reads writes reads' writes' i page s u opens w =
+    adds_of door pages reads writes reads' writes' s u (Wrote i page ∷ []) opens
+    (record { settled = w.rest.settled; path = w.rest.path; was_there = w.rest.was_there; input = w.rest.input }) w.log
+
+pub adds_tore : (door : Door) (pages reads writes reads' writes' i : ℕ) (s u : Story) → is_open door ≡ true → TearsPage i s u ⊎ (u ≡ s)
+    → Adds (Tore i ∷ []) (tale_of door pages reads writes s) (tale_of door pages reads' writes' u)
+    ⊎ Adds [] (tale_of door pages reads writes s) (tale_of door pages reads' writes' u)
+adds_tore door pages reads writes reads' writes' i s u opens (inl w) =
+    inl (adds_of door pages reads writes reads' writes' s u (Tore i ∷ []) opens
+    (record { settled = w.rest.settled; path = w.rest.path; was_there = w.rest.was_there; input = w.rest.input }) w.log)
+adds_tore door pages reads writes reads' writes' i s u opens (inr same) =
+    inr (subst (λ (v : Story). Adds [] (tale_of door pages reads writes s) (tale_of door pages reads' writes' v)) (sym same)
+    (adds_none door pages reads writes reads' writes' s))

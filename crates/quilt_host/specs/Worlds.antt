@@ -1,0 +1,40 @@
+-- What a world over a system tells.
+use Rattle.std.specs.Prelude.{◌≡◌, ◌≢◌, ◌⊎◌, ℕ, ◌*◌, ◌<◌, ◌≤◌, Bool, true, false, List, [], length, slice_index_or, Option, Some, if◌then◌else◌}
+use Rattle.quilt_world.specs.Tale.{Tale}
+use Rattle.quilt_world.specs.PageBytes.{last_bytes}
+use Rattle.quilt_world.specs.declared.disk.Door.{Door}
+use Rattle.quilt_world.specs.declared.disk.Door.TheVariants as doors
+use Rattle.quilt_host.specs.Story.{Story}
+use Rattle.quilt_host.specs.Acts.{log_of}
+use Rattle.quilt_host.specs.Bytes.{page_at, pages_of}
+
+-- a file is open behind the door
+abbrev pub is_open : Door → Bool
+is_open doors.Shut = false
+is_open doors.Ready = true
+is_open doors.Made = true
+is_open doors.Missing = false
+is_open doors.Taken = false
+is_open doors.Failed = false
+
+-- The tale of a world with so many pages, which were read and written so often: the pages that the system tells of, and the
+-- events that its acts are.
+abbrev pub tale_of : Door → ℕ → ℕ → ℕ → Story → Tale
+tale_of door pages reads writes s = record {
+  start = pages_of s.settled pages;
+  log = if is_open door then log_of s.acts else [];
+  seen = pages_of s.bytes pages;
+  reads = reads;
+  writes = writes;
+  input = s.input;
+  path = s.path;
+  was_there = s.was_there;
+}
+
+-- What holds of each story behind a door: before the call that opens or makes the file, a file is there just where one was; and
+-- an open file has its pages, each of which reads as its last bytes unless it is torn.
+pub record IsSound (door : Door) (pages : ℕ) (s : Story) : Type 0 where
+  pub first : door ≡ doors.Shut → s.is_there ≡ s.was_there
+  pub within : pages * 4096 ≤ length s.bytes
+  pub reads : is_open door ≡ true → (i : ℕ) (bytes : List ℕ) → i < pages → last_bytes (pages_of s.settled pages) (log_of s.acts) i ≡ Some bytes
+      → page_at s.bytes i ≡ bytes

@@ -1,0 +1,41 @@
+ghost use Rattle.std.specs.Prelude.{◌≡◌, ◌<◌, ◌≤◌, length, take, OnErr, IfOk};
+ghost use Rattle.quilt_host.specs.Story.{Steps};
+ghost use Rattle.quilt_host.specs.Calls.{Takes, Puts};
+
+use crate::failure::Failure;
+use crate::system::System;
+
+/// Takes the next bytes of the input. A read that a signal interrupts is taken up again.
+pub(crate) fn take<S: System>(system: &mut S, into: &mut [u8]) -> Result<usize, Failure>
+    requires { 0 < length into.old }
+    ensures count { IfOk result (λ n. n ≤ length into.old) }
+    ensures took { IfOk result (λ n. Steps (Takes (take n into.new)) (S.told system.old) (S.told system.new)) }
+    ensures nothing { OnErr result (S.told system.new ≡ S.told system.old) }
+{
+    'tries: for _ in 0..u64::MAX {
+        match system.take(into) {
+            Ok(count) => return Ok(count),
+            Err(Failure::Interrupted) => {}
+            Err(failure) => return Err(failure),
+        }
+    }
+    Err(Failure::Other)
+}
+
+/// Puts a front of the bytes to the output, and says how many. A write that a signal interrupts is taken up again.
+pub(crate) fn put<S: System>(system: &mut S, bytes: &[u8]) -> Result<usize, Failure>
+    requires { 0 < length bytes.now }
+    ensures count { IfOk result (λ n. (1 ≤ n) × (n ≤ length bytes.now)) }
+    ensures put { IfOk result (λ n. Steps (Puts (take n bytes.now)) (S.told system.old) (S.told system.new)) }
+    ensures nothing { OnErr result (S.told system.new ≡ S.told system.old) }
+{
+    'tries: for _ in 0..u64::MAX {
+        match system.put(bytes) {
+            Ok(0) => return Err(Failure::Other),
+            Ok(n) => return Ok(n),
+            Err(Failure::Interrupted) => {}
+            Err(other) => return Err(other),
+        }
+    }
+    Err(Failure::Other)
+}

@@ -1,0 +1,9 @@
+//! A system in memory that tells everything, with calls that fail, signals, short reads and writes, and a full disk.
+#![tactic(auto)]
+
+mod memory;
+mod schedule;
+#[cfg(test)]
+mod tests;
+
+pub use memory::Memory;
