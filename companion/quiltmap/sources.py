@@ -1,0 +1,273 @@
+"""What GDAL opens, as arrays: features with their parts and columns, and rasters on the grid of a map."""
+
+from __future__ import annotations
+
+import logging
+import warnings
+from dataclasses import dataclass
+from itertools import product
+from typing import Iterator, Optional
+
+import fiona
+import numpy as np
+import pandas as pd
+import rasterio
+from affine import Affine
+from fiona._err import CPLE_BaseError
+from fiona.errors import FionaError
+from numpy.typing import NDArray
+from pyproj import CRS, Transformer
+from pyproj.exceptions import CRSError, ProjError
+from rasterio.enums import Resampling
+from rasterio.errors import NotGeoreferencedWarning, RasterioError, RasterioIOError
+from rasterio.vrt import WarpedVRT
+
+from .place import Bounds, Place
+
+#: Stands for a plane that has no reference system, where GDAL wants one for both sides of a transformation.
+_PLANE = "EPSG:3857"
+
+_SORTS = {"Point": "points", "LineString": "lines", "Polygon": "region"}
+_WORDS = {"points": "points", "lines": "lines", "region": "polygons"}
+
+#: The sorts that can be had as a kind of layer, the best first: lines also from the borders of polygons,
+#: a region also from what lines pass and points lie in.
+_FROM = {"points": ("points",), "lines": ("lines", "region"), "region": ("region", "lines", "points")}
+
+# GDAL's words on a file that it cannot open come in what is raised.
+logging.getLogger("fiona").setLevel(logging.CRITICAL)
+logging.getLogger("rasterio").setLevel(logging.CRITICAL)
+
+
+class BadSource(ValueError):
+    """A source that cannot go into a map; the text says why, and what to do."""
+
+
+@dataclass
+class Features:
+    """Features of one sort: "points", "lines" or "region".
+
+    parts: the places of each part, shape (places, 2): a point, a line, or a ring; owners: the row of the
+    table that each part belongs to; table: a row a feature; empty, other, lost: how many features have no
+    parts since they had no places, were of another sort, or have no place in the reference system.
+    """
+
+    sort: str
+    parts: list[NDArray[np.float64]]
+    owners: NDArray[np.int64]
+    table: pd.DataFrame
+    crs: Optional[CRS]
+    empty: int = 0
+    other: int = 0
+    lost: int = 0
+
+    @property
+    def bounds(self) -> Bounds:
+        """West, south, east and north of all places."""
+        places = np.concatenate(self.parts)
+        return (*map(float, places.min(axis=0)), *map(float, places.max(axis=0)))  # type: ignore[return-value]
+
+    def moved_to(self, crs: Optional[CRS]) -> "Features":
+        """The features in another reference system."""
+        if self.crs is None or crs is None or self.crs.equals(crs, ignore_axis_order=True):
+            return self
+        places = np.concatenate(self.parts)
+        try:
+            x, y = Transformer.from_crs(self.crs, crs, always_xy=True).transform(places[:, 0], places[:, 1], errcheck=False)
+        except ProjError as error:
+            raise BadSource(f"no way from {self.crs.name} to {crs.name}: {error}") from None
+        ends = np.cumsum([len(part) for part in self.parts])[:-1]
+        moved = np.split(np.stack([x, y], axis=1), ends)
+        finite = np.array([bool(np.isfinite(part).all()) for part in moved])
+        kept = [part for part, good in zip(moved, finite) if good]
+        if not kept:
+            raise BadSource(f"nothing of the source has a place in {crs.name}")
+        owners = self.owners[finite]
+        lost = self.lost + len(np.setdiff1d(self.owners, owners))
+        return Features(self.sort, kept, owners, self.table, crs, self.empty, self.other, lost)
+
+
+def crs_of(text: str) -> Optional[CRS]:
+    """The reference system of a text that PROJ reads, or None of the word `plain`. Raises BadSource."""
+    if text == "plain":
+        return None
+    try:
+        return CRS.from_user_input(text)
+    except CRSError:
+        raise BadSource(f"{text} is no reference system that PROJ knows, as EPSG:4326 is") from None
+
+
+def is_raster(source: str) -> bool:
+    """Whether GDAL opens the source as a raster. Raises BadSource where it has several, of which one is to be named."""
+    try:
+        with _opened_raster(source) as raster:
+            if raster.count == 0 and raster.subdatasets:
+                raise BadSource(f"{source} has several rasters: name one, as {raster.subdatasets[0]}")
+            return raster.count > 0
+    except (RasterioError, RasterioIOError):
+        return False
+
+
+def _opened_raster(source: str) -> rasterio.DatasetReader:
+    with warnings.catch_warnings():
+        warnings.simplefilter("ignore", NotGeoreferencedWarning)
+        return rasterio.open(source)
+
+
+# Features.
+
+
+def read_features(source: str, layer: Optional[str], kind: Optional[str], crs: Optional[str]) -> Features:
+    """Reads the features of a vector source.
+
+    layer: the source's layer, where it has several; kind: what they are to be: of the source's sorts the
+    first is taken that can be had as that (_FROM), and where it is not given the source has one sort; crs:
+    the source's reference system where it does not tell one. Raises BadSource.
+    """
+    try:
+        names = fiona.listlayers(source)
+        if layer is None and len(names) > 1:
+            raise BadSource(f"{source} has the layers {', '.join(names)}: name one by --from")
+        with fiona.open(source, layer=layer, allow_unsupported_drivers=True) as file:
+            known = _crs_of_source(source, file.crs_wkt, crs)
+            return _features_of(source, list(file), list(file.schema["properties"]), kind, known)
+    except (FionaError, CPLE_BaseError, ValueError, OSError) as error:
+        if isinstance(error, BadSource):
+            raise
+        raise BadSource(f"{source} is nothing that GDAL opens: {_one_line(error)}") from None
+
+
+def _crs_of_source(source: str, wkt: Optional[str], said: Optional[str]) -> Optional[CRS]:
+    if said is not None:
+        return crs_of(said)
+    if not wkt:
+        raise BadSource(f"{source} has no reference system: say which by --crs, as EPSG:4326, or plain for none")
+    return CRS.from_wkt(wkt)
+
+
+def _features_of(
+    source: str, records: list[fiona.Feature], columns: list[str], kind: Optional[str], crs: Optional[CRS]
+) -> Features:
+    if not records:
+        raise BadSource(f"{source} has no features")
+    found = [list(_parts_of(record.geometry)) for record in records]
+    sort = _sort_of(source, {sort for parts in found for sort, _ in parts}, kind)
+    parts: list[NDArray[np.float64]] = []
+    owners: list[int] = []
+    for row, pieces in enumerate(found):
+        mine = [part for part_sort, part in pieces if part_sort == sort]
+        parts += mine
+        owners += [row] * len(mine)
+    empty = sum(not pieces for pieces in found)
+    other = len(records) - empty - len(set(owners))
+    table = pd.DataFrame([dict(record.properties) for record in records], columns=columns)
+    return Features(sort, parts, np.array(owners, np.int64), table, crs, empty, other)
+
+
+def _sort_of(source: str, sorts: set[str], kind: Optional[str]) -> str:
+    """Which of a source's sorts is meant."""
+    if not sorts:
+        raise BadSource(f"{source} has no features with places")
+    told = " and ".join(sorted(_WORDS[sort] for sort in sorts))
+    if kind is None:
+        if len(sorts) > 1:
+            raise BadSource(f"{source} has {told}: say by --as what they are to be")
+        return next(iter(sorts))
+    for sort in _FROM[kind]:
+        if sort in sorts:
+            return sort
+    raise BadSource(f"{source} has {told}, which cannot go in as {kind}")
+
+
+def _parts_of(geometry: Optional[fiona.Geometry]) -> Iterator[tuple[str, NDArray[np.float64]]]:
+    """The sort and the places of each part of a geometry: points, lines, rings."""
+    if geometry is None:
+        return
+    if geometry.type == "GeometryCollection":
+        for member in geometry.geometries:
+            yield from _parts_of(member)
+        return
+    kind = geometry.type.replace("3D ", "").removeprefix("Multi")
+    if kind not in _SORTS:
+        return
+    members = geometry.coordinates if geometry.type.startswith("Multi") else [geometry.coordinates]
+    for member in members:
+        for part in member if kind == "Polygon" else [[member]] if kind == "Point" else [member]:
+            if len(part):
+                yield _SORTS[kind], np.array([place[:2] for place in part], np.float64)
+
+
+# Rasters.
+
+
+@dataclass(frozen=True)
+class RasterSource:
+    """A raster of a source: where it is, and on which grid."""
+
+    source: str
+    band: int
+    width: int
+    height: int
+    transform: Affine
+    crs: Optional[CRS]
+
+    @property
+    def bounds(self) -> Bounds:
+        """West, south, east and north of the raster."""
+        xs, ys = zip(*(self.transform * corner for corner in product((0, self.width), (0, self.height))))
+        return min(xs), min(ys), max(xs), max(ys)
+
+    def place(self, side: int) -> Place:
+        """The square of this raster: each of its pixels is a whole number of the map's, as many as there is room for.
+
+        Where it has more pixels than the map, they are thinned.
+        """
+        longer = max(self.width, self.height)
+        turn = self.transform
+        if longer <= side and turn.b == turn.d == 0 and turn.a == -turn.e > 0:
+            pixel = turn.a / (side // longer)
+            return Place(side, Affine(pixel, 0, turn.c, 0, -pixel, turn.f), self.crs)
+        return Place.over(self.bounds, side, self.crs)
+
+    def read(self, place: Place) -> "np.ma.MaskedArray":
+        """The values at the middles of the pixels of a place, masked where there is none."""
+        with _opened_raster(self.source) as raster:
+            crs = _PLANE if self.crs is None or place.crs is None else None
+            options = {
+                "src_crs": crs or self.crs.to_wkt(),
+                "crs": crs or place.crs.to_wkt(),
+                "src_transform": self.transform,
+                "transform": place.transform,
+                "width": place.side,
+                "height": place.side,
+                "resampling": Resampling.nearest,
+                "tolerance": 1e-6,
+            }
+            if raster.nodata is None:
+                options["add_alpha"] = True
+            with WarpedVRT(raster, **options) as warped:
+                values = warped.read(self.band)
+                mask = warped.read_masks(self.band) == 0
+        if values.dtype.kind == "f":
+            mask |= ~np.isfinite(values)
+        return np.ma.MaskedArray(values, mask)
+
+
+def read_raster(source: str, band: int, crs: Optional[str]) -> RasterSource:
+    """What a raster source says of itself. Raises BadSource."""
+    try:
+        with _opened_raster(source) as raster:
+            if not 1 <= band <= raster.count:
+                raise BadSource(f"{source} has the bands 1 to {raster.count}, and no {band}")
+            known = _crs_of_source(source, raster.crs.to_wkt() if raster.crs else None, crs)
+            transform = raster.transform
+            if transform == Affine.identity():
+                # A picture with no place: rows go down.
+                transform = Affine(1, 0, 0, 0, -1, 0)
+            return RasterSource(source, band, raster.width, raster.height, transform, known)
+    except (RasterioError, RasterioIOError) as error:
+        raise BadSource(f"{source} is nothing that GDAL opens: {_one_line(error)}") from None
+
+
+def _one_line(error: Exception) -> str:
+    return " ".join(str(error).split())
