@@ -1,0 +1,381 @@
+# shellcheck shell=sh disable=SC2154
+# Which program is of these sources, and how one is built: functions of ./quilt and of the tools beside this file, which set here to the folder of the
+# checkout and have a function fail. A program is told by two digests, its own and that of its sources.
+
+# The kit that the program was last built with, as `rt version` calls it.
+tried='rattle-kit-13f logic dac8208d650f15bf'
+
+out=$here/crates/quilt/out
+# Where a program is built, and one that came with the checkout, seen from there.
+built=crates/quilt/out/quilt
+released=release/quilt
+# The digest of the sources that the built program is of, and its own.
+record=$out/quilt.digest
+# The program that was last found current, the folders of its sources, and how each file stood then.
+listing=$out/quilt.listing
+log=$out/build.log
+is_forced=
+# The program that worked before a build, and its record.
+older=$out/quilt.old
+
+# stands_on NAME..: these crates and all those of crates.txt that they stand on, one a line
+stands_on() {
+    awk -v names="$*" '
+        { sub(/#.*/, "") }
+        /:/ { name = $1; sub(/:.*/, "", name); sub(/^[^:]*:/, ""); below[name] = $0 }
+        END {
+            last = split(names, todo, " ")
+            for (i = 1; i <= last; i++) {
+                if (!(todo[i] in below) || todo[i] in seen) continue
+                seen[todo[i]]
+                print todo[i]
+                count = split(below[todo[i]], more, " ")
+                for (k = 1; k <= count; k++) todo[++last] = more[k]
+            }
+        }' "$here/crates.txt"
+}
+
+# The folders of what the program stands on, in one line.
+folders_of_sources() {
+    stands_on quilt | sed 's|.*|crates/&/src crates/&/specs crates/&/proofs|' | paste -s -d ' '
+}
+
+# find_sources TESTS..: the source files that pass these tests of find, and their folders
+find_sources() {
+    # shellcheck disable=SC2046 # the names of crates are plain words
+    (cd "$here" && find $(folders_of_sources) "$@" 2>/dev/null)
+}
+
+# The lines of crates.txt on what the program stands on, without remarks and spare spaces.
+lines_of_crates() {
+    stands_on quilt | awk '
+        NR == FNR { wanted[$1]; next }
+        { sub(/#.*/, "") }
+        /:/ { name = $1; sub(/:.*/, "", name); if (name in wanted) { $1 = $1; print } }' - "$here/crates.txt"
+}
+
+# digest_of FILE
+digest_of() {
+    sha256sum <"$1" | cut -c 1-64
+}
+
+digest_of_sources() {
+    {
+        lines_of_crates
+        find_sources -type f -exec sha256sum {} +
+    } | LC_ALL=C sort | sha256sum | cut -c 1-64
+}
+
+# word_of FILE NAME: what stands behind this name in a file of digests
+word_of() {
+    sed -n "s/^$2 //p" "$1" 2>/dev/null
+}
+
+# write_digests FILE SOURCES PROGRAM KIT: what a program that is handed on was built from and by, and its own digest
+write_digests() {
+    printf 'sources %s\nprogram %s\nkit %s\n' "$2" "$3" "$4" >"$1.new" && mv "$1.new" "$1"
+}
+
+# write_record DIGEST: the built program is of sources of this digest
+write_record() {
+    (echo "$1 $(digest_of "$here/$built")" >"$record.$$" && mv "$record.$$" "$record") 2>/dev/null
+}
+
+# is_built_of DIGEST: the built program is of sources of this digest
+is_built_of() {
+    [ -x "$here/$built" ] || return 1
+    if [ -f "$record" ]; then
+        [ "$(cat "$record")" = "$1 $(digest_of "$here/$built")" ]
+        return
+    fi
+    # A program that rt was asked for without this file is taken where no source is newer.
+    [ -z "$(find_sources -newer "$here/$built" | head -n 1)" ] || return 1
+    [ -z "$(find "$here/crates.txt" -newer "$here/$built")" ] || return 1
+    write_record "$1" || true
+}
+
+# The program of release/ is as it was put there, and can be run here.
+is_release_whole() {
+    [ -x "$here/$released" ] && [ "$(uname -s) $(uname -m)" = 'Linux x86_64' ] || return 1
+    [ "$(word_of "$here/release/digests" program)" = "$(digest_of "$here/$released")" ] || return 1
+    "$here/$released" </dev/null >/dev/null 2>&1
+    [ $? -eq 2 ]
+}
+
+# is_released_of DIGEST: the program of release/ is of sources of this digest
+is_released_of() {
+    [ "$(word_of "$here/release/digests" sources)" = "$1" ] && is_release_whole
+}
+
+# list_files FOLDER..: how the sources and the programs stand: sizes, times of change, and numbers on the disk
+list_files() {
+    (cd "$here" && find crates.txt "$@" release "$built" "$record" -printf '%p %s %T@ %C@ %i\n' 2>/dev/null)
+}
+
+# Sets program to the one that was last found current, if nothing has changed since.
+is_listed() {
+    { read -r found && read -r folders; } 2>/dev/null <"$listing" || return 1
+    case $found in "$built" | "$released") ;; *) return 1 ;; esac
+    # shellcheck disable=SC2086 # the folders are plain words
+    {
+        printf '%s\n%s\n' "$found" "$folders"
+        list_files $folders
+    } | cmp -s - "$listing" || return 1
+    program=$here/$found
+}
+
+# write_listing FILES: what was found is current where the files stand so. A file that changed within the last two seconds could change again at what
+# its times call the same moment, so nothing is noted then.
+write_listing() {
+    newest=$(printf '%s\n' "$1" | awk '{ if ($(NF - 1) > newest) newest = $(NF - 1) } END { printf "%d", newest }')
+    [ -n "$1" ] && [ "$newest" -lt $(($(date +%s) - 2)) ] || return 0
+    (printf '%s\n%s\n%s\n' "$found" "$folders" "$1" >"$listing.$$" && mv "$listing.$$" "$listing") 2>/dev/null || true
+}
+
+# Sets program to the one that is of these sources: the one that was built here before the one of release/.
+find_current() {
+    ! is_listed || return 0
+    command -v sha256sum >/dev/null 2>&1 || return 1
+    folders=$(folders_of_sources)
+    # shellcheck disable=SC2086 # the folders are plain words
+    files=$(list_files $folders)
+    sources=$(digest_of_sources)
+    if is_built_of "$sources"; then
+        found=$built
+    elif is_released_of "$sources"; then
+        found=$released
+    else
+        return 1
+    fi
+    program=$here/$found
+    [ -d "$out" ] || mkdir -p "$out" 2>/dev/null
+    write_listing "$files"
+}
+
+# is_as_recorded PROGRAM RECORD: the program is the one that its record tells of
+is_as_recorded() {
+    [ -x "$1" ] && [ -f "$2" ] && [ "$(cut -d ' ' -f 2 "$2")" = "$(digest_of "$1")" ]
+}
+
+# Sets program to one that worked, whatever sources it is of.
+find_older() {
+    if is_as_recorded "$older" "$older.digest"; then
+        program=$older
+    elif is_as_recorded "$here/$built" "$record"; then
+        program=$here/$built
+    elif is_release_whole; then
+        program=$here/$released
+    else
+        return 1
+    fi
+}
+
+# Puts the program that worked aside before a build. It stays there where a build is cut off.
+keep_older() {
+    [ ! -x "$here/$built" ] || [ -f "$record" ] || write_record unknown
+    is_as_recorded "$here/$built" "$record" || return 0
+    cp -p "$here/$built" "$older" && mv "$record" "$older.digest"
+}
+
+# Puts the program that worked back where it was.
+restore_older() {
+    ! is_as_recorded "$older" "$older.digest" || { mv "$older" "$here/$built" && mv "$older.digest" "$record"; }
+}
+
+# How many crates are to be built side by side: RT_JOBS, or as many as there are processors, as far as memory has 4 GB for a large crate and 2 GB for
+# each of the others.
+lanes() {
+    processors=$(nproc 2>/dev/null || echo 1)
+    lanes=$(awk '$1 == "MemAvailable:" { print int(($2 / 1000000 - 2) / 2) }' /proc/meminfo 2>/dev/null)
+    lanes=${lanes:-1}
+    [ "$lanes" -le "$processors" ] || lanes=$processors
+    [ "$lanes" -ge 1 ] || lanes=1
+    echo "${RT_JOBS:-$lanes}"
+}
+
+# begin WORDS..: runs these words, and notes under which number
+begin() {
+    # shellcheck disable=SC2016 # that shell's number
+    sh -c 'echo "$$" >"$1"; shift; exec "$@"' sh "$out/rt.pid" "$@"
+}
+
+# The crates that nearly all others lie below, so that nothing is left to be built beside them.
+last='quilt_map quilt_top quilt'
+
+# write_below FOLDER: makes a crate there that stands on all that the program stands on but the last crates, since rt builds those side by side that lie
+# below one crate. It has nothing of its own.
+write_below() {
+    rm -rf "$1"
+    mkdir -p "$1/src" || return
+    printf '//! Stands on what is to be built side by side.\n#![tactic(auto)]\n' >"$1/src/lib.rt"
+    stands_on quilt | awk -v last="$last" '
+        BEGIN { count = split(last, names, " "); for (i = 1; i <= count; i++) is_last[names[i]]; print "rattle_crate(name = \"what_lies_below\", deps = [" }
+        !($1 in is_last) { print "    \"//crates/" $1 "\"," }
+        END { print "])" }' >"$1/BUILD.bazel"
+}
+
+# Proves and builds the program: first what it stands on, crates that do not stand on each other side by side, and then the last ones, each with as many
+# processes. Where memory does not last for that, each after the other. The program runs at the end: it ends in status 6 for a map that is not there, in
+# which rt itself never ends.
+prove() {
+    jobs=$(lanes)
+    write_below "$out/below" || return
+    (
+        # (no gate runs over a folder that such a crate was left in)
+        trap 'rm -rf "$out/below"' EXIT
+        trap 'exit 130' INT HUP TERM
+        cd "$out/below" && begin rt all check --jobs "$jobs"
+    )
+    is_well=$?
+    if [ "$is_well" -ne 0 ]; then
+        # (the log's last lines are on their way)
+        sleep 1
+        grep -q 'failed (-9)$' "$log" || return
+        echo 'launcher: memory was short; once more, one crate at a time'
+        jobs=1
+    fi
+    (cd "$here/crates/quilt" && begin rt run --jobs "$jobs" -- run out/no-such-map)
+    [ $? -eq 6 ]
+}
+
+# The crates that a log tells to be proved, one a line.
+proved_by() {
+    sed -n 's/^crate \([a-z0-9_]*\): .*/\1/p' "$1"
+}
+
+# Reads what a build says, and tells how far it is, a line for each crate. Succeeds where the build does.
+tell_progress() {
+    all=$(stands_on quilt | wc -l)
+    proved='' said=0 built_well=1
+    while read -r word name rest; do
+        case $word in
+        crate)
+            proved="$proved ${name%:}"
+            count=$(stands_on "$proved" | wc -l)
+            [ -t 2 ] || [ "$count" -eq "$said" ] || echo "quilt: $count of $all crates proved" >&2
+            said=$count
+            ;;
+        ended) built_well=$name ;;
+        launcher:) echo "quilt: $name $rest" >&2 ;;
+        rt:) case $rest in *waiting*) echo "quilt: $name $rest" >&2 ;; esac ;;
+        esac
+    done
+    return "$built_well"
+}
+
+# functions_so_far FILE: how many functions of how many are done, of the crate that is being proved at the end of what was said
+functions_so_far() {
+    tail -c 16384 "$1" 2>/dev/null | awk '/^crate |^== / { told = "" } /^so far: / { told = $3 " " $5 } END { if (told != "") print told }'
+}
+
+# The crates that are being proved by the rt of this number, in one line, and how many of their functions are done. Where rt works on several crates it
+# keeps what is said of one in a file without a name until that is done; of one crate it says so at once.
+crates_under_way() {
+    # shellcheck disable=SC2013 # they are numbers in one line
+    for child in $(cat "/proc/$1/task/"*/children 2>/dev/null); do
+        tr '\0' '\n' <"/proc/$child/cmdline" 2>/dev/null | sed -n '/^--crate-name$/{n;p;q;}'
+    done | tr '\n' ' '
+    {
+        functions_so_far "$log"
+        for file in "/proc/$1/fd/"*; do
+            case $(readlink "$file") in *'(deleted)') functions_so_far "$file" ;; esac
+        done
+    } | awk '{ done += $1; all += $2 } END { if (all) print done " of " all }'
+}
+
+# bar DONE ALL: twenty places, filled as far as it is done
+bar() {
+    awk -v done="$1" -v all="$2" 'BEGIN { for (i = 0; i < 20; i++) printf i * all < done * 20 ? "#" : "." }'
+}
+
+# watch NUMBER: while the call of this number lives, tells on the terminal each second how far its build is
+watch() {
+    all=$(stands_on quilt | wc -l)
+    began=$(date +%s)
+    columns=$(stty size 2>/dev/null <&2 | cut -d ' ' -f 2)
+    while kill -0 "$1" 2>/dev/null; do
+        count=$(stands_on "$(proved_by "$log" | tr '\n' ' ')" | wc -l)
+        spent=$(($(date +%s) - began))
+        line=$(printf 'quilt: [%s] %d:%02d, %d of %d crates, %s' "$(bar "$count" "$all")" $((spent / 60)) $((spent % 60)) \
+            "$count" "$all" "$(crates_under_way "$(cat "$out/rt.pid" 2>/dev/null)")")
+        printf '\r%.*s\033[K' "$((${columns:-80} - 1))" "$line" >&2
+        sleep 1
+    done
+}
+
+# Says what a build that failed said last, and which kits it is about.
+tell_failure() {
+    echo "quilt: the program was not built; $log says why, and ends in" >&2
+    grep -v -E '^([a-z0-9_]+: (ok|not run, since .*)|statements .*|ended 1)$' "$log" | tail -n 12 | sed 's/^/    /' >&2
+    echo "quilt: the kit here is $kit, and the one last tried is $tried" >&2
+    ! find_older || echo 'quilt: with --old as its first word it takes the program that worked before' >&2
+    exit 126
+}
+
+# Builds the program, where no other call has built it meanwhile, or where is_forced has a word. The lock is descriptor 9.
+build() {
+    for tool in rt flock sha256sum; do
+        command -v "$tool" >/dev/null 2>&1 || fail 127 "$tool, which is needed to build the program, is not on this machine"
+    done
+    kit=$(rt version 2>/dev/null | head -n 1)
+    kit=${kit:-one that does not tell its version}
+    { mkdir -p "$out" && : >>"$out/quilt.lock"; } 2>/dev/null || fail 126 "the program is to be built, and $out cannot be written"
+    exec 9>>"$out/quilt.lock"
+    if ! flock -n 9; then
+        echo 'quilt: another call is building the program; waiting for it' >&2
+        flock 9
+        if [ -z "$is_forced" ] && find_current; then return 0; fi
+    fi
+    build_alone
+}
+
+# Builds the program, with the lock held.
+build_alone() {
+    restore_older
+    if [ -n "$is_forced" ]; then
+        echo "quilt: proving and building the program with $kit" >&2
+    elif [ -e "$here/$built" ]; then
+        echo "quilt: the sources changed; proving and building what stands on the change with $kit" >&2
+    else
+        echo "quilt: proving and building the program with $kit; the first time this takes many minutes" >&2
+    fi
+    keep_older
+    # No program is current from here on until this build has succeeded.
+    echo building >"$record"
+    sources=$(digest_of_sources)
+    : >"$log"
+    rm -f "$out/rt.pid"
+    if [ -t 2 ]; then
+        watch $$ 9>&- &
+        watcher=$!
+    fi
+    {
+        prove
+        echo "ended $?"
+    } 2>&1 | tee "$log" | tell_progress
+    is_built=$?
+    if [ -t 2 ]; then
+        kill "$watcher" 2>/dev/null
+        printf '\r\033[K' >&2
+    fi
+    if [ "$is_built" -eq 0 ] && [ -x "$here/$built" ]; then
+        write_record "$sources"
+        rm -f "$older" "$older.digest"
+    else
+        restore_older
+        tell_failure
+    fi
+}
+
+# Tells which commit and kit this is, and whether a program is there.
+tell_origin() {
+    commit=$(git -C "$here" log -1 --format='%h of %cs' 2>/dev/null)
+    kit=$(rt version 2>/dev/null | head -n 1)
+    echo "Commit: ${commit:-not known}. Kit: ${kit:-no rt is on this machine}; last tried: $tried"
+    if find_current </dev/null >/dev/null; then
+        echo "Program: $program, of these sources"
+    else
+        echo "Program: none of these sources. The first call proves and builds it: 61 and 74 minutes where that was timed, on four processors that had other"
+        echo "work too, and 8 GB of disk, with 2 GB of memory for each processor and 2 GB more"
+    fi
+}
