@@ -3,6 +3,8 @@ ghost use Rattle.std.specs.Prelude.{◌≤◌};
 use crate::algebra::{bounded, listed, moved, shown, united};
 use crate::drawing::{CATALOG, drawn_map, drawn_pixel, key_of, key_with, record_of};
 use crate::planted::Planted;
+use quilt_batch::merged;
+use quilt_btree::Edit;
 use quilt_plain::Dice;
 use quilt_region::{plan_new, plan_replace};
 use quilt_types::Colour;
@@ -62,10 +64,12 @@ fn filled(alloc: Global, records: u32, calls: u32) -> anyhow::Result<Planted> {
     let mut planted = Planted::new(alloc, records)?;
     let mut run = Vec::new(alloc);
     for number in 0..records {
-        run.push(record_of(number))?;
+        run.push(Edit::Put {
+            record: record_of(number),
+        })?;
         if run.len() == RUN || number + 1 == records {
             if calls > 0 {
-                planted = planted.insert(&run)?;
+                planted = planted.changed(&run)?;
             }
             run.clear();
         }
@@ -78,10 +82,12 @@ fn drained(alloc: Global, records: u32, calls: u32) -> anyhow::Result<u64> {
     let mut planted = filled(alloc, records, 1)?;
     let mut run = Vec::new(alloc);
     for number in 0..records {
-        run.push(key_of(number))?;
+        run.push(Edit::Remove {
+            key: key_of(number),
+        })?;
         if run.len() == RUN || number + 1 == records {
             if calls > 0 {
-                planted = planted.remove(&run)?;
+                planted = planted.changed(&run)?;
             }
             run.clear();
         }
@@ -126,9 +132,9 @@ fn mapped(alloc: Global, level: u8) -> anyhow::Result<Planted>
     let plan = plan_new(alloc, 1, &list)?;
     let records = plan.add.records();
     let mut planted = Planted::new(alloc, u32::try_from(records.len())?)?;
-    planted = planted.insert(&[CATALOG])?;
+    planted = planted.changed(&[Edit::Put { record: CATALOG }])?;
     for run in records.chunks(RUN) {
-        planted = planted.insert(run)?;
+        planted = planted.changed(&merged(alloc, &[], run)?)?;
     }
     Ok(planted)
 }

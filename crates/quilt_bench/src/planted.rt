@@ -3,7 +3,7 @@ ghost use Rattle.quilt_types.specs.Plane.{is_window};
 ghost use Rattle.quilt_btree.specs.Trees.{IsRooted};
 
 use quilt_audit::audit;
-use quilt_btree::{Tree, keys_ascend, records_ascend};
+use quilt_btree::{Edit, Tree, edits_ascend, records_added};
 use quilt_node::{Head, is_inner, is_leaf};
 use quilt_record::{Key, Record};
 use quilt_region::plan_rect;
@@ -38,32 +38,18 @@ impl Planted {
         })
     }
 
-    /// The tree once a run of records is in it: damage of page 0 where it has no room, or the keys do not ascend.
-    pub fn insert(self, run: &[Record]) -> Result<Planted, Stop> {
+    /// The tree once a run of edits is made in it: damage of page 0 where it has no room, or the keys do not ascend.
+    pub fn changed(self, run: &[Edit]) -> Result<Planted, Stop> {
         let Planted {
             mut store,
             mut tree,
             pages,
         } = self;
         let room = (64 * (pages - 8) - tree.records) as usize;
-        if room < run.len() || !records_ascend(run) {
+        if room < records_added(run) || !edits_ascend(run) {
             return Err(Stop::Damaged { page: 0 });
         }
-        tree.insert_all(&mut store, run)?;
-        Ok(Planted { store, tree, pages })
-    }
-
-    /// The tree once the records of a run of keys are out of it: damage of page 0 where the keys do not ascend.
-    pub fn remove(self, run: &[Key]) -> Result<Planted, Stop> {
-        let Planted {
-            mut store,
-            mut tree,
-            pages,
-        } = self;
-        if !keys_ascend(run) {
-            return Err(Stop::Damaged { page: 0 });
-        }
-        tree.remove_all(&mut store, run)?;
+        tree.apply(&mut store, run)?;
         Ok(Planted { store, tree, pages })
     }
 

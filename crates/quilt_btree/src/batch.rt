@@ -12,10 +12,9 @@ ghost use Rattle.quilt_btree.specs.Looks.{LooksAt};
 ghost use Rattle.quilt_btree.specs.Stops.{NamesPage};
 ghost use Rattle.quilt_btree.specs.Trees.{Spells};
 
-use crate::edit::{Edit, edit_in, planned};
+use crate::edit::{Edit, edit_in, least_records, planned};
 use crate::looking::step_at;
 use crate::pages::stop_of;
-use crate::thinning::least_records;
 use quilt_node::{is_leaf, records_in};
 use quilt_record::Key;
 use quilt_store::PageStore;

@@ -1,4 +1,4 @@
-ghost use Rattle.std.specs.Prelude.{◌≡◌, ◌≤◌, true, false, IfSome, List, Some, None, take, length};
+ghost use Rattle.std.specs.Prelude.{◌≡◌, ◌≤◌, if◌then◌else◌, true, false, IfSome, List, Some, None, take, length};
 ghost use Rattle.std.specs.List.{list_all};
 ghost use Rattle.quilt_record.specs.declared.record.Record.{Record};
 ghost use Rattle.quilt_node.specs.Nodes.{records_of};
@@ -6,8 +6,9 @@ ghost use Rattle.quilt_node.specs.Pages.{leaf_of};
 ghost use Rattle.quilt_node.specs.Tree.{is_below};
 ghost use Rattle.quilt_btree.specs.Batches.{key_of, edit_keys, is_due, edited, edit_all, are_due, size_behind, size_after, HasRoom, HasRoomFor};
 
-use crate::running::stays_below;
-use quilt_node::{MOST_RECORDS, find_in, insert_in, records_in, remove_in, replace_in};
+use quilt_node::{
+    LEAST_RECORDS, MOST_RECORDS, find_in, insert_in, records_in, remove_in, replace_in,
+};
 use quilt_record::{Key, Record};
 
 /// One edit of a tree: the record of a key goes, a record comes whose key is not there, or a record comes in the place
@@ -30,6 +31,23 @@ impl Edit {
             Edit::Replace { record } => &record.key,
         }
     }
+}
+
+/// Whether a key stays below a bound.
+fn stays_below(k: &Key, high: &Option<Key>) -> bool
+    ensures { result ≡ is_below high.now k.now }
+{
+    match high {
+        None => true,
+        Some(high) => k < high,
+    }
+}
+
+/// The least number of records of a leaf.
+pub fn least_records(is_root: bool) -> usize
+    ensures { result ≡ (if is_root then 1 else 72) }
+{
+    if is_root { 1 } else { LEAST_RECORDS }
 }
 
 /// The number of records of a leaf of `n` behind the edit: none where it would be no leaf.

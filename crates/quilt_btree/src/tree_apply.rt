@@ -221,19 +221,38 @@ fn goes(e: &Edit) -> usize
     }
 }
 
+/// How many records the edits of a run add to a tree: one for each that comes in no other's place.
+pub fn records_added(run: &[Edit]) -> usize
+    ensures number { result ≡ more run.now }
+    ensures most { result ≤ length run.now }
+{
+    let mut come = 0;
+    for i in 0..run.len() {
+        come += comes(&run[i]);
+    }
+    come
+}
+
+/// How many records the edits of a run take out of a tree.
+fn records_taken(run: &[Edit]) -> usize
+    ensures number { result ≡ fewer run.now }
+    ensures most { result ≤ length run.now }
+{
+    let mut gone = 0;
+    for i in 0..run.len() {
+        gone += goes(&run[i]);
+    }
+    gone
+}
+
 /// The number of records of a tree behind some edits: none where it would have none.
 fn records_behind(records: u32, run: &[Edit]) -> Option<u32>
     requires { records + more run.now < 4294967296 }
     ensures some { IfSome result (λ m. (m + fewer run.now ≡ records + more run.now) × (1 ≤ m)) }
     ensures none { result ≡ None → records + more run.now ≤ fewer run.now }
 {
-    let mut come = 0;
-    let mut gone = 0;
-    for i in 0..run.len() {
-        come += comes(&run[i]);
-        gone += goes(&run[i]);
-    }
-    let all = records as usize + come;
+    let all = records as usize + records_added(run);
+    let gone = records_taken(run);
     if all <= gone {
         return None;
     }

@@ -3,7 +3,7 @@ ghost use Rattle.std.specs.Prelude.{◌+◌, ◌*◌, ◌-◌, ◌≤◌, IfSome
 ghost use Rattle.quilt_types.specs.Facts.{quota};
 ghost use Rattle.quilt_btree.specs.Trees.{IsRooted};
 
-use quilt_btree::{Cursor, Edit, Tree, edits_ascend, keys_ascend, records_ascend};
+use quilt_btree::{Cursor, Edit, Tree, edits_ascend, records_added};
 use quilt_record::{Key, Record};
 use quilt_store::{MemStore, PageStore};
 use quilt_types::Stop;
@@ -100,28 +100,10 @@ impl Grown {
         self.tree.remove(&mut self.store, k)
     }
 
-    /// Puts the records of a run in, whose keys have to ascend.
-    pub fn insert_all(&mut self, run: &[Record]) -> Result<(), Stop> {
-        match self.room() {
-            Some(room) if run.len() <= room as usize && records_ascend(run) => {
-                self.tree.insert_all(&mut self.store, run)
-            }
-            _ => Err(Stop::Device),
-        }
-    }
-
-    /// Takes the records of a run of keys out, which have to ascend.
-    pub fn remove_all(&mut self, run: &[Key]) -> Result<(), Stop> {
-        if self.room().is_none() || !keys_ascend(run) {
-            return Err(Stop::Device);
-        }
-        self.tree.remove_all(&mut self.store, run)
-    }
-
     /// Makes the edits of a run, whose keys have to ascend.
     pub fn apply(&mut self, run: &[Edit]) -> Result<(), Stop> {
         match self.room() {
-            Some(room) if run.len() <= room as usize && edits_ascend(run) => {
+            Some(room) if records_added(run) <= room as usize && edits_ascend(run) => {
                 self.tree.apply(&mut self.store, run)
             }
             _ => Err(Stop::Device),

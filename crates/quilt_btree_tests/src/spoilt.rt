@@ -2,7 +2,7 @@
 ghost use Rattle.std.specs.Prelude.{◌≤◌};
 
 use crate::grown::Grown;
-use quilt_btree::Tree;
+use quilt_btree::{Edit, Tree};
 use quilt_record::{Key, Record};
 use quilt_store::{MemStore, PageStore};
 use quilt_types::Stop;
@@ -44,6 +44,18 @@ fn record(item: u32) -> Record {
         key: key(item),
         value: [7; 16],
     }
+}
+
+/// The edit by which the record of an item comes.
+fn addition(item: u32) -> Edit {
+    Edit::Put {
+        record: record(item),
+    }
+}
+
+/// The edit by which the record of an item goes.
+fn removal(item: u32) -> Edit {
+    Edit::Remove { key: key(item) }
 }
 
 /// The leaf of `n` records whose items are 4 from each other, from `first` on.
@@ -189,17 +201,17 @@ impl Spoilt {
     }
 
     /// Why the insertion of two items stops.
-    fn insert_all(&mut self, first: u32, last: u32) -> Option<Stop> {
-        self.0.insert_all(&[record(first), record(last)]).err()
+    fn insert_two(&mut self, first: u32, last: u32) -> Option<Stop> {
+        self.0.apply(&[addition(first), addition(last)]).err()
     }
 
     /// Why the removal of two items stops.
-    fn remove_all(&mut self, first: u32, last: u32) -> Option<Stop> {
-        self.0.remove_all(&[key(first), key(last)]).err()
+    fn remove_two(&mut self, first: u32, last: u32) -> Option<Stop> {
+        self.0.apply(&[removal(first), removal(last)]).err()
     }
 
     /// Why a call stops at an item that the tree would have, or inserts one behind it: `get`, `floor`, `range`, `insert`,
-    /// `remove`, `insert_all` and `remove_all`.
+    /// `remove`, and `apply` of two that come and of two that go.
     pub fn stops(&mut self, alloc: Global, call: usize, n: u32) -> Option<Stop> {
         match call {
             0 => self.0.get(&key(n)).err(),
@@ -207,8 +219,8 @@ impl Spoilt {
             2 => self.range(alloc, n, n.wrapping_add(8)),
             3 => self.0.insert(&record(n.wrapping_add(1))).err(),
             4 => self.0.remove(&key(n)).err(),
-            5 => self.insert_all(n.wrapping_add(1), n.wrapping_add(2)),
-            _ => self.remove_all(n, n.wrapping_add(4)),
+            5 => self.insert_two(n.wrapping_add(1), n.wrapping_add(2)),
+            _ => self.remove_two(n, n.wrapping_add(4)),
         }
     }
 
@@ -224,9 +236,9 @@ impl Spoilt {
 
     /// Inserts two items, finds the last, and removes both.
     pub fn runs(&mut self, rt: &impl Abort, first: u32, last: u32) -> Result<(), Fail> {
-        self.0.insert_all(&[record(first), record(last)])?;
+        self.0.apply(&[addition(first), addition(last)])?;
         assert!(rt; self.0.floor(&key(last))? == Some(record(last)));
-        self.0.remove_all(&[key(first), key(last)])?;
+        self.0.apply(&[removal(first), removal(last)])?;
         Ok(())
     }
 }

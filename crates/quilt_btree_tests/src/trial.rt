@@ -44,6 +44,18 @@ fn record(n: u32, value: u8) -> Record {
     }
 }
 
+/// The edit by which the record of a number comes.
+fn put(n: u32, value: u8) -> Edit {
+    Edit::Put {
+        record: record(n, value),
+    }
+}
+
+/// The edit by which the record of a number goes.
+fn removal(n: u32) -> Edit {
+    Edit::Remove { key: key(n) }
+}
+
 /// The edit that gives the record of a number another value.
 pub fn replacement(n: u32, value: u8) -> Edit {
     Edit::Replace {
@@ -93,20 +105,20 @@ fn count_pages(store: &mut MemStore, tree: &Tree) -> Option<usize> {
     Some(count)
 }
 
-/// The records of these numbers.
-fn records_of(alloc: Global, numbers: &[u32], value: u8) -> Result<Vec<Record>, Fail> {
+/// The edits by which records of these numbers come, all with one value.
+fn puts_of(alloc: Global, numbers: &[u32], value: u8) -> Result<Vec<Edit>, Fail> {
     let mut run = Vec::new(alloc);
     for n in numbers {
-        run.push(record(*n, value))?;
+        run.push(put(*n, value))?;
     }
     Ok(run)
 }
 
-/// The keys of these numbers.
-fn keys_of(alloc: Global, numbers: &[u32]) -> Result<Vec<Key>, Fail> {
+/// The edits by which the records of these numbers go.
+fn removals_of(alloc: Global, numbers: &[u32]) -> Result<Vec<Edit>, Fail> {
     let mut run = Vec::new(alloc);
     for n in numbers {
-        run.push(key(*n))?;
+        run.push(removal(*n))?;
     }
     Ok(run)
 }
@@ -157,12 +169,7 @@ impl Trial {
         numbers: &[u32],
         value: u8,
     ) -> Result<(), Fail> {
-        for n in numbers {
-            self.expected.insert(*n, value)?;
-        }
-        let run = records_of(alloc, numbers, value)?;
-        self.grown.insert_all(&run)?;
-        self.compare(rt)
+        self.apply(rt, &puts_of(alloc, numbers, value)?)
     }
 
     /// Takes the records of these numbers out of both at once.
@@ -172,11 +179,7 @@ impl Trial {
         alloc: Global,
         numbers: &[u32],
     ) -> Result<(), Fail> {
-        for n in numbers {
-            let _ = self.expected.remove(n);
-        }
-        self.grown.remove_all(&keys_of(alloc, numbers)?)?;
-        self.compare(rt)
+        self.apply(rt, &removals_of(alloc, numbers)?)
     }
 
     /// Tries to put the records of these numbers in, of which one is there.
@@ -186,7 +189,7 @@ impl Trial {
         alloc: Global,
         numbers: &[u32],
     ) -> Result<(), Fail> {
-        let end = self.grown.insert_all(&records_of(alloc, numbers, 0)?);
+        let end = self.grown.apply(&puts_of(alloc, numbers, 0)?);
         assert!(rt; end == Err(Stop::Damaged { page: 0 }));
         Ok(())
     }
@@ -198,7 +201,7 @@ impl Trial {
         alloc: Global,
         numbers: &[u32],
     ) -> Result<(), Fail> {
-        let end = self.grown.remove_all(&keys_of(alloc, numbers)?);
+        let end = self.grown.apply(&removals_of(alloc, numbers)?);
         assert!(rt; end == Err(Stop::Damaged { page: 0 }));
         Ok(())
     }

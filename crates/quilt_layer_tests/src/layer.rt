@@ -4,8 +4,9 @@ ghost use Rattle.quilt_types.specs.Plane.{is_pixel, is_window};
 ghost use Rattle.quilt_types.specs.Layers.{is_in_square as is_seg_in_square};
 ghost use Rattle.quilt_btree.specs.Trees.{IsRooted};
 
+use quilt_batch::merged;
 use quilt_blocks::LeafList;
-use quilt_btree::{Tree, keys_ascend, records_ascend};
+use quilt_btree::{Edit, Tree, edits_ascend, records_added};
 use quilt_lines as lines;
 use quilt_lines::LineView;
 use quilt_near::{SegList, nearest};
@@ -14,7 +15,7 @@ use quilt_record::{Edits, Key, Record, read_point};
 use quilt_region as regions;
 use quilt_store::{MemStore, PageStore};
 use quilt_types::{Block, Colour, Pixel, Point, PointList, Seg, Stop, Window};
-use std::alloc::{AllocError, Global};
+use std::alloc::Global;
 use std::process::Abort;
 use std::test::Fail;
 
@@ -78,11 +79,6 @@ fn has_window(level: u8, w: Window) -> bool
         && u32::from(w.y) + u32::from(w.h) <= side
 }
 
-/// The keys of the records.
-fn keys_of(alloc: Global, records: &[Record]) -> Result<Vec<Key>, AllocError> {
-    records.iter().map(|r| r.key).collect(alloc)
-}
-
 impl Layer {
     /// A layer with this number, level and limit in a tree of these records.
     pub fn new(
@@ -107,7 +103,7 @@ impl Layer {
             level,
             limit,
         };
-        layer.put_all(records)
+        layer.changed(&merged(alloc, &[], records)?)
     }
 
     /// A point layer of no points with the number 1.
@@ -119,8 +115,8 @@ impl Layer {
         Layer::new(alloc, 1, level, bucket, &[first])
     }
 
-    /// The layer once these records are in the tree, too.
-    fn put_all(self, records: &[Record]) -> Result<Layer, Fail> {
+    /// The layer once these edits are made in the tree.
+    fn changed(self, run: &[Edit]) -> Result<Layer, Fail> {
         let Layer {
             mut store,
             mut tree,
@@ -129,32 +125,10 @@ impl Layer {
             limit,
         } = self;
         let room = (64 * (PAGES - 8) - tree.records) as usize;
-        if records.len() > room || !records_ascend(records) {
-            return Err(Fail::from("records that ascend"));
+        if records_added(run) > room || !edits_ascend(run) {
+            return Err(Fail::from("edits that ascend"));
         }
-        tree.insert_all(&mut store, records)?;
-        Ok(Layer {
-            store,
-            tree,
-            number,
-            level,
-            limit,
-        })
-    }
-
-    /// The layer once the records with these keys are out of the tree.
-    fn take_all(self, keys: &[Key]) -> Result<Layer, Fail> {
-        let Layer {
-            mut store,
-            mut tree,
-            number,
-            level,
-            limit,
-        } = self;
-        if !keys_ascend(keys) {
-            return Err(Fail::from("keys that ascend"));
-        }
-        tree.remove_all(&mut store, keys)?;
+        tree.apply(&mut store, run)?;
         Ok(Layer {
             store,
             tree,
@@ -170,8 +144,7 @@ impl Layer {
         if !self.has_all(gone)? {
             return Err(Fail::from("records that are there"));
         }
-        let keys = keys_of(alloc, gone)?;
-        self.take_all(&keys)?.put_all(plan.add.records())
+        self.changed(&merged(alloc, gone, plan.add.records())?)
     }
 
     /// Whether all of these records are in the tree.

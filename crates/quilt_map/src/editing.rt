@@ -13,16 +13,16 @@ ghost use Rattle.quilt_map.specs.Editing.{SameButTree};
 
 use crate::changing::DAMAGED;
 use quilt_batch::merged;
-use quilt_btree::{Edit, Tree, edits_ascend, keys_ascend, records_ascend};
+use quilt_btree::{Edit, Tree, edits_ascend};
 use quilt_edition::Book;
-use quilt_record::{Key, Record};
+use quilt_record::Record;
 use quilt_store::PageStore;
 use quilt_types::Stop;
 use quilt_world::Disk;
-use std::alloc::{AllocError, Global};
+use std::alloc::Global;
 
-/// Takes the records of one list out of the tree of the work, and puts those of another in, each in the order of keys. Records in
-/// another order are damage of page 0.
+/// Takes the records of one list out of the tree of the work, and puts those of another in, each in the order of keys. Where the tree
+/// has no room for both, those that go are taken out first. Records in another order are damage of page 0.
 pub(crate) fn edit_records<W: Disk>(
     alloc: Global,
     book: &mut Book<W>,
@@ -45,32 +45,40 @@ pub(crate) fn edit_records<W: Disk>(
 {
     let quota = 64 * (book.pages() - 8);
     if fits(book.head().records, added.len(), quota) {
-        let Ok(run) = merged(alloc, removed, added) else {
-            return Err(Stop::Memory);
-        };
-        if !edits_ascend(&run) {
-            return Err(DAMAGED);
-        }
-        return apply(book, &run);
+        return edit_merged(alloc, book, removed, added);
     }
-    let Ok(keys) = keys_in(alloc, removed) else {
-        return Err(Stop::Memory);
-    };
-    if !keys_ascend(&keys) || !records_ascend(added) {
-        return Err(DAMAGED);
-    }
-    edit(book, &keys, added)
+    edit_merged(alloc, book, removed, &[])?;
+    edit_merged(alloc, book, &[], added)
 }
 
-/// The keys of these records.
-fn keys_in(alloc: Global, records: &[Record]) -> Result<Vec<Key>, AllocError>
-    ensures { IfOk result (λ keys. keys.items ≡ keys_of records.now) }
+/// Takes records out of the tree of the work and puts others in, in one walk, where the tree has room for these beside those that go.
+fn edit_merged<W: Disk>(
+    alloc: Global,
+    book: &mut Book<W>,
+    removed: &[Record],
+    added: &[Record],
+) -> Result<(), Stop>
+    requires room { (work_of book.old).records + length added.now ≤ quota (pages_of book.old) }
+    ensures edited { OnOk result ((rs : List AnyRecord) → IsWhole (told_of book.old) (free_of book.old) (pages_of book.old) (tree_in (work_of book.old)) rs →
+        IsWhole (told_of book.new) (free_of book.new) (pages_of book.old) (tree_in (work_of book.new)) (put_all added.now (without_all (keys_of removed.now) rs))) }
+    ensures head { OnOk result (SameButTree (work_of book.old) (work_of book.new)) }
+    ensures count { OnOk result ((work_of book.new).records + length removed.now ≡ (work_of book.old).records + length added.now) }
+    ensures sound { IfErr result (λ e. (rs : List AnyRecord)
+        → IsWhole (told_of book.old) (free_of book.old) (pages_of book.old) (tree_in (work_of book.old)) rs →
+        is_ascending (keys_of removed.now) ≡ true → is_ascending (keys_of added.now) ≡ true →
+        has_each (keys_of removed.now) rs ≡ true → has_any added.now (without_all (keys_of removed.now) rs) ≡ false → IsSound e) }
+    ensures goes_on { GoesOn book.old book.new }
+    ensures used { published_free book.new ≡ published_free book.old }
+    ensures changed { changed_of book.new ≤ changed_of book.old + 7 * length removed.now + 6 * length added.now }
+    ensures cause { HasStopCause (W.faults (world_of book.old)) (W.faults (world_of book.new)) result }
 {
-    let mut keys = Vec::new(alloc);
-    for r in records {
-        keys.push(r.key)?;
+    let Ok(run) = merged(alloc, removed, added) else {
+        return Err(Stop::Memory);
+    };
+    if !edits_ascend(&run) {
+        return Err(DAMAGED);
     }
-    Ok(keys)
+    apply(book, &run)
 }
 
 /// Whether a tree has room for so many records more before others go.
@@ -103,41 +111,6 @@ fn apply<W: Disk>(book: &mut Book<W>, run: &[Edit]) -> Result<(), Stop>
         records: head.records,
     };
     match tree.apply(book, run) {
-        Err(e) => return Err(e),
-        Ok(()) => {}
-    }
-    book.set_tree(tree.root, tree.height, tree.records);
-    Ok(())
-}
-
-/// Takes the records of these keys out of the tree of the work, and puts the others in. Both stand in the order of their keys.
-fn edit<W: Disk>(book: &mut Book<W>, keys: &[Key], added: &[Record]) -> Result<(), Stop>
-    requires room { (work_of book.old).records + length added.now ≤ quota (pages_of book.old) + length keys.now }
-    requires keys { is_ascending keys.now ≡ true }
-    requires added { is_ascending (keys_of added.now) ≡ true }
-    ensures edited { OnOk result ((rs : List AnyRecord) → IsWhole (told_of book.old) (free_of book.old) (pages_of book.old) (tree_in (work_of book.old)) rs →
-        IsWhole (told_of book.new) (free_of book.new) (pages_of book.old) (tree_in (work_of book.new)) (put_all added.now (without_all keys.now rs))) }
-    ensures head { OnOk result (SameButTree (work_of book.old) (work_of book.new)) }
-    ensures count { OnOk result ((work_of book.new).records + length keys.now ≡ (work_of book.old).records + length added.now) }
-    ensures sound { IfErr result (λ e. (rs : List AnyRecord)
-        → IsWhole (told_of book.old) (free_of book.old) (pages_of book.old) (tree_in (work_of book.old)) rs →
-        has_each keys.now rs ≡ true → has_any added.now (without_all keys.now rs) ≡ false → IsSound e) }
-    ensures goes_on { GoesOn book.old book.new }
-    ensures used { published_free book.new ≡ published_free book.old }
-    ensures changed { changed_of book.new ≤ changed_of book.old + 7 * length keys.now + 6 * length added.now }
-    ensures cause { HasStopCause (W.faults (world_of book.old)) (W.faults (world_of book.new)) result }
-{
-    let head = book.head();
-    let mut tree = Tree {
-        root: head.root,
-        height: head.height,
-        records: head.records,
-    };
-    match tree.remove_all(book, keys) {
-        Err(e) => return Err(e),
-        Ok(()) => {}
-    }
-    match tree.insert_all(book, added) {
         Err(e) => return Err(e),
         Ok(()) => {}
     }

@@ -62,15 +62,6 @@ keys_take (suc n) (e ∷ run) = ap (λ l. key_of e ∷ l) (keys_take n run)
 pub all_first : (p : Key → Bool) (n : ℕ) (run : List Edit) → list_all p (edit_keys run) ≡ true → list_all p (edit_keys (take n run)) ≡ true
 all_first p n run h = ap (list_all p) (keys_take n run) ∙ all_take p (edit_keys run) n h
 
-pub take_first : (n m : ℕ) (run : List Edit) → n ≤ length (take m run) → take n (take m run) ≡ take n run
-take_first zero m run h = refl
-take_first (suc n) zero run h = absurd (omega arith)
-take_first (suc n) (suc m) [] h = refl
-take_first (suc n) (suc m) (e ∷ run) h = ap (λ l. e ∷ l) (take_first n m run (nearest n (length (take m run)) h))
-  where
-    nearest : (i n : ℕ) → suc i ≤ suc n → i ≤ n
-    nearest i n h = omega arith
-
 -- the leaf was written once
 pub leaf_edited : (told now_told : Option (List (List ℕ))) (free now : ℕ → Bool) (size page : ℕ) (bytes : List ℕ) (is_root : Bool) (b : Bounds)
     (rs : List Record) (used : List ℕ) (high : Option Key) (leaf new : List Record) (xs : List Edit)

@@ -15,10 +15,9 @@ use Rattle.quilt_btree.specs.declared.edit.Edit.{Edit}
 use Rattle.quilt_btree.specs.declared.edit.Edit.TheVariants as edit
 use Rattle.quilt_btree.specs.Batches.{key_of, edit_keys, is_due, edited, edit_all, are_due}
 use Rattle.quilt_btree.proofs.lists.Lists.{IsAmong, put_between, without_between, any_between}
-use Rattle.quilt_btree.proofs.removals.Drains.{AreAmong, head_among, rest_among, asc_without}
+use Rattle.quilt_btree.proofs.removals.Drains.{AreAmong, head_among, rest_among}
 use Rattle.quilt_btree.proofs.subtrees.Walks.{and_parts, and_both}
 use Rattle.quilt_btree.proofs.ways.Leaves.{put_gap, without_found}
-use Rattle.quilt_btree.proofs.growth.LeafGrowth.{gap_ascends}
 
 -- the gap where a record was
 take_remove : (rs : List Record) (i : ℕ) → take i (remove rs i) ≡ take i rs
@@ -44,18 +43,6 @@ pub put_over_many : (r : Record) (rs left : List Record) (i : ℕ) → IsFound r
     → insert left i r ≡ put r (without r.key rs)
 put_over_many r rs left i f is =
     ap (λ l. insert l i r) is ∙ put_gap r (remove rs i) i (gap_left r.key rs i f) ∙ ap (put r) (without_found r.key rs i f.found f f.here)
-
-pub put_over_order : (r : Record) (rs left : List Record) (i : ℕ) → IsFound r.key rs i → left ≡ remove rs i → is_ascending (keys_of rs) ≡ true
-    → is_ascending (keys_of (insert left i r)) ≡ true
-put_over_order r rs left i f is a =
-    subst (λ l. is_ascending (keys_of (insert l i r)) ≡ true) (sym is) (gap_ascends r (remove rs i) i
-    (subst (λ l. is_ascending (keys_of l) ≡ true) (sym (without_found r.key rs i f.found f f.here)) (asc_without r.key rs a)) (gap_left r.key rs i f))
-
-pub put_over_one : (r : Record) (rs : List Record) (i : ℕ) → length rs ≡ 1 → IsFound r.key rs i → r ∷ [] ≡ put r (without r.key rs)
-put_over_one r [] i e f = absurd (omega arith)
-put_over_one r (x ∷ []) zero e f = ap (put r) (without_found r.key (x ∷ []) zero f.found f f.here)
-put_over_one r (x ∷ []) (suc i) e f = absurd (let h = f.in_range in omega arith)
-put_over_one r (x ∷ y ∷ rs) i e f = absurd (omega arith)
 
 -- two runs, one behind the other
 pub edit_all-append : (xs ys : List Edit) (rs : List Record) → edit_all (xs ++ ys) rs ≡ edit_all ys (edit_all xs rs)
@@ -95,9 +82,6 @@ taken xs i lt = ap (λ n. take n xs) (add-one i) ∙ step xs i lt
 pub record IsEdited (leaf now : List Record) (run : List Edit) : Type 0 where
   pub is : now ≡ edit_all run leaf
   pub due : are_due run leaf ≡ true
-
-pub edited_none : (leaf : List Record) → IsEdited leaf leaf []
-edited_none leaf = record { is = refl; due = refl }
 
 pub edited_next : (leaf now new : List Record) (run : List Edit) (i : ℕ) → i < length run → IsEdited leaf now (take i run)
     → is_due (edit_at run i) now ≡ true → new ≡ edited (edit_at run i) now → IsEdited leaf new (take (i + 1) run)

@@ -225,9 +225,6 @@ pub record IsMade (told now_told : Option (List (List ℕ))) (free now : ℕ →
   pub count : u.records + fewer run ≡ t.records + more run
   pub whole : (rs : List Record) → IsWhole told free size t rs → (are_due run rs ≡ true) × IsWhole now_told now size u (edit_all run rs)
 
-pub made_none : (told : Option (List (List ℕ))) (free : ℕ → Bool) (size : ℕ) (t : Tree) → IsRooted size t → IsMade told told free free size t t []
-made_none told free size t r = record { rooted = r; count = refl; whole = λ rs w. (refl, w) }
-
 -- the rest of the run as a slice
 abbrev pub rest : List Edit → ℕ → List Edit
 rest run i = take (length run - i) (drop i run)

@@ -178,12 +178,6 @@ goes_over told t r bytes place high before after lt at s =
       };
     }
 
-pub stands_last : (told : Option (List (List ℕ))) (t : Tree) (c : Cursor) (before after : List Record) → length (records_of c.bytes) ≤ c.place → c.high ≡ None
-    → StandsIn told t c before after → after ≡ []
-stands_last told t c before after le none s =
-    s.is_after ∙ ap (λ l. l ++ s.last) (drop_past (records_of c.bytes) c.place le)
-    ∙ subst (λ o. MatchOption o (s.last ≡ []) (λ k. IsParted told t k (s.first ++ records_of c.bytes) s.last)) none s.further
-
 pub stands_further : (told : Option (List (List ℕ))) (t : Tree) (c : Cursor) (k : Key) (before after : List Record) → length (records_of c.bytes) ≤ c.place
     → c.high ≡ Some k → StandsIn told t c before after → IsParted told t k before after
 stands_further told t c k before after le is s =

@@ -110,7 +110,3 @@ pub shrunk_answer : (r : Result Bool Stop) (told : Option (List (List ℕ))) (t 
     → IfOk r (λ o. (rs : List Record) → IsTree told t rs → o ≡ list_any (has_key k) rs)
 shrunk_answer (Err e) told t k out f = out
 shrunk_answer (Ok o) told t k out f = λ rs is. out ∙ f rs is
-
-pub shrunk_other : (r : Result Bool Stop) (A : Type 0) → IfOk r (λ o. o ≡ true) → IfOk r (λ o. o ≡ false → A)
-shrunk_other (Err e) A out = out
-shrunk_other (Ok o) A out = λ no. cc

@@ -66,13 +66,6 @@ all_over (x ∷ ks) (suc j) m k h g = all_over ks j m k h g
 pub over_first : (ks : List Key) (i : ℕ) (m k : Key) → is_ascending ks ≡ true → slice_get ks i ≡ Some m → is_lt (key_cmp k m) ≡ are_over k (drop i ks)
 over_first ks i m k a h = both_ways (is_lt (key_cmp k m)) (are_over k (drop i ks)) (over_all ks i m k a h) (all_over ks i m k h)
 
-none_left : (ks : List Key) (i : ℕ) → i ≡ length ks → drop i ks ≡ []
-none_left [] i e = subst (λ n. drop {A = Key} n [] ≡ []) (sym e) refl
-none_left (x ∷ ks) i e = subst (λ n. drop n (x ∷ ks) ≡ []) (sym e) (none_left ks (length ks) refl)
-
-pub over_none : (ks : List Key) (i : ℕ) (k : Key) → i ≡ length ks → true ≡ are_over k (drop i ks)
-over_none ks i k e = sym (ap (are_over k) (none_left ks i e))
-
 pub fits_there : (ks : List Key) (i : ℕ) (k : Key) → is_ascending ks ≡ true → (are_under k (take i ks) && are_over k (drop i ks)) ≡ is_ascending (insert ks i k)
 fits_there ks i k a =
     both_ways (are_under k (take i ks) && are_over k (drop i ks)) (is_ascending (insert ks i k))

@@ -14,10 +14,6 @@ pub record IsRising (b : Bounds) (ks : List Key) : Type 0 where
   pub ascends : is_ascending ks ≡ true
   pub within : are_within b ks ≡ true
 
-ascending_tail : (k : Key) (ks : List Key) → is_ascending (k ∷ ks) ≡ true → is_ascending ks ≡ true
-ascending_tail k [] h = refl
-ascending_tail k (l ∷ ks) h = (and_parts _ _ h).1
-
 ascending_cons : (low k : Key) (ks : List Key) → is_lt (key_cmp low k) ≡ true → list_all (λ l. is_le (key_cmp k l)) ks ≡ true
     → is_ascending ks ≡ true → is_ascending (low ∷ ks) ≡ true
 ascending_cons low k [] h g a = refl

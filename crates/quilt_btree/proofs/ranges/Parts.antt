@@ -62,12 +62,6 @@ no_place p n first last old rs le =
     let e : first - first ≡ 0 = omega arith in
     sym (ap (λ m. take n (old ++ filter p (take m (part first last rs)))) e ∙ ap (take n) (append-nil old) ∙ take_all n old le)
 
-pub all_places : (p : Record → Bool) (n first last i : ℕ) (old items rs : List Record) → last ≤ i
-    → items ≡ take n (old ++ filter p (take (i - first) (part first last rs))) → items ≡ take n (old ++ filter p (part first last rs))
-all_places p n first last i old items rs le is =
-    let m : length (part first last rs) ≡ min (last - first) (length (drop first rs)) = length-take (last - first) (drop first rs) in
-    is ∙ ap (λ xs. take n (old ++ filter p xs)) (take_all (i - first) (part first last rs) (omega arith))
-
 -- behind both places
 all_behind : (q : Record → Bool) (first last : ℕ) (rs : List Record) → list_all q (drop last rs) ≡ true
     → list_all q (drop (last - first) (drop first rs)) ≡ true

@@ -204,11 +204,6 @@ below_most n xs items e ne =
     let m : length items ≡ min n (length xs) = ap length e ∙ length-take n xs in
     omega arith
 
-pub filled_within : (n : ℕ) (xs items : List Record) → items ≡ take n xs → length items ≤ n
-filled_within n xs items e =
-    let m : length items ≡ min n (length xs) = ap length e ∙ length-take n xs in
-    omega arith
-
 -- a leaf from one key on and below another adds to the list where there is room
 pub adds_some : (from high next : Key) (n : ℕ) (old new leaf : List Record) → new ≡ take n (old ++ filter (is_from_to from high) leaf)
     → 1 ≤ length leaf → list_all (λ (r : Record). is_le (key_cmp from r.key)) leaf ≡ true

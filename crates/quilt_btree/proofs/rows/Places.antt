@@ -37,15 +37,6 @@ tail_places cs (k ∷ ks) b = bounded cs ks (record { low = Some k; high = b.hig
 fewer : (m n : ℕ) → suc m ≡ suc n → m ≡ n
 fewer m n h = omega arith
 
-fewer_one : (m n : ℕ) → suc m ≡ suc n + 1 → m ≡ n + 1
-fewer_one m n h = omega arith
-
-nearer : (i n : ℕ) → suc i < suc n → i < n
-nearer i n h = omega arith
-
-none_below : (i : ℕ) → i < 0 → ⊥
-none_below i h = omega arith
-
 pub bounded_front : (ca cs : List ℕ) (ka ks : List Key) (b : Bounds) → length ca ≡ length ka
     → bounded (ca ++ cs) (ka ++ ks) b ≡ front ca ka b ++ bounded cs ks (from_keys ka b)
 bounded_front [] cs [] ks b n = refl

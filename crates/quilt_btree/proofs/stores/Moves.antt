@@ -3,7 +3,7 @@ use Rattle.std.proofs.Common.{◌≡◌, ◌≢◌, ℕ, ◌+◌, ◌≤◌, Boo
 use Rattle.std.proofs.Common.{subst, arith, length-set, get_or-set_other}
 use Rattle.quilt_store.specs.Store.{FreesOnly}
 use Rattle.quilt_btree.specs.Edits.{times, account, Moves}
-use Rattle.quilt_btree.proofs.lists.Counts.{times-append, times_here, equal_pages, other_pages, in_times}
+use Rattle.quilt_btree.proofs.lists.Counts.{times_here, equal_pages, other_pages, in_times}
 use Rattle.quilt_btree.proofs.lists.Rows.{SameOn}
 
 -- no page is used twice, and none that is used is free
@@ -15,10 +15,6 @@ one_if b e = ap (λ c. cond {A = ℕ} c 1 0) e
 
 none_if : (b : Bool) → b ≡ false → cond {A = ℕ} b 1 0 ≡ 0
 none_if b e = ap (λ c. cond {A = ℕ} c 1 0) e
-
--- nothing changes
-pub moves_none : (pages : List (List ℕ)) (free : ℕ → Bool) (used : List ℕ) → Moves pages pages free free used used
-moves_none pages free used = record { size = refl; others = λ p none. refl; balance = λ p. refl }
 
 -- a page that is spoken for is another than one that is not
 pub is_other : (free : ℕ → Bool) (used : List ℕ) (p q : ℕ) → 1 ≤ account free used q → account free used p ≡ 0 → p ≢ q
@@ -40,12 +36,6 @@ pub used_account : (free : ℕ → Bool) (used : List ℕ) (page : ℕ) → 1 �
 used_account free used page h = at_least (cond {A = ℕ} (free page) 1 0) (times page used) h
   where
     at_least : (a b : ℕ) → 1 ≤ b → 1 ≤ a + b
-    at_least a b h = omega arith
-
-pub free_account : (free : ℕ → Bool) (used : List ℕ) (page : ℕ) → free page ≡ true → 1 ≤ account free used page
-free_account free used page h = at_least (cond {A = ℕ} (free page) 1 0) (times page used) (one_if (free page) h)
-  where
-    at_least : (a b : ℕ) → a ≡ 1 → 1 ≤ a + b
     at_least a b h = omega arith
 
 taken_step : (free now : ℕ → Bool) (page p : ℕ) (used : List ℕ) (b : Bool) → FreesOnly page false free now → free page ≡ true → (page == p) ≡ b
@@ -119,20 +109,6 @@ moves_among pages news free now used uses all alls more e f m = record {
 
     summed : (n c v u b a m : ℕ) → b ≡ m + v → a ≡ m + u → n + v ≡ c + u → n + b ≡ c + a
     summed n c v u b a m e f h = omega arith
-
-pub moves_frame : (pages news : List (List ℕ)) (free now : ℕ → Bool) (used uses late early : List ℕ) → Moves pages news free now used uses
-    → Moves pages news free now (late ++ (used ++ early)) (late ++ (uses ++ early))
-moves_frame pages news free now used uses late early m =
-    moves_among pages news free now used uses (late ++ (used ++ early)) (late ++ (uses ++ early)) (λ p. times p late + times p early)
-    (λ p. counted p used) (λ p. counted p uses) m
-  where
-    order : (n m u l e : ℕ) → n ≡ l + m → m ≡ u + e → n ≡ l + e + u
-    order n m u l e f g = omega arith
-
-    counted : (p : ℕ) (us : List ℕ) → times p (late ++ (us ++ early)) ≡ times p late + times p early + times p us
-    counted p us =
-        order (times p (late ++ (us ++ early))) (times p (us ++ early)) (times p us) (times p late) (times p early)
-        (times-append p late (us ++ early)) (times-append p us early)
 
 -- the used pages in another order
 pub moves_order : (pages news : List (List ℕ)) (free now : ℕ → Bool) (used uses all alls : List ℕ) → ((p : ℕ) → times p all ≡ times p used)

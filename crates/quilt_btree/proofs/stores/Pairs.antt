@@ -12,9 +12,6 @@ use Rattle.quilt_btree.proofs.lists.Rows.{SameOn}
 pub record ArePair (left right : ℕ) (under used : List ℕ) : Type 0 where
   pub count : (p : ℕ) → times p used ≡ times p under + times p (right ∷ left ∷ [])
 
-abbrev two_pages : ℕ → ℕ → List ℕ
-two_pages left right = right ∷ left ∷ []
-
 pub left_used : (left right : ℕ) → 1 ≤ times left (right ∷ left ∷ [])
 left_used left right = let e = times_here left [] in omega arith
 

@@ -14,19 +14,6 @@ filter_length free x xs b e = ap (λ c. length (cond c (x ∷ filter free xs) (f
     counted true l = omega arith
     counted false l = omega arith
 
-free_step : (free : ℕ → Bool) (x : ℕ) (xs : List ℕ) (b : Bool) → free x ≡ b → 0 < length (filter free (x ∷ xs))
-    → (0 < length (filter free xs) → (p : ℕ) × (free p ≡ true)) → (p : ℕ) × (free p ≡ true)
-free_step free x xs true e lt f = (x, e)
-free_step free x xs false e lt f = f (let n = filter_length free x xs false e in omega arith)
-
-free_among : (free : ℕ → Bool) (xs : List ℕ) → 0 < length (filter free xs) → (p : ℕ) × (free p ≡ true)
-free_among free [] lt = absurd (omega arith)
-free_among free (x ∷ xs) lt = free_step free x xs (free x) refl lt (free_among free xs)
-
--- where the number of free pages is over 0 there is one
-pub some_free : (free : ℕ → Bool) (size : ℕ) → 0 < count_free free size → (p : ℕ) × (free p ≡ true)
-some_free free size lt = free_among free (range_with_len 1 (size - 1)) lt
-
 -- how often a page stands among those from one on
 pub times_below : (p a n : ℕ) → p < a → times p (range_with_len a n) ≡ 0
 times_below p a zero lt = refl
@@ -93,14 +80,6 @@ count_taken page size old new low high t f =
   where
     one_less : (n o t : ℕ) → t ≡ 1 → n + t ≡ o → n + 1 ≡ o
     one_less n o t e h = omega arith
-
-turn : (page : ℕ) (old new : ℕ → Bool) → FreesOnly page true old new → old page ≡ false → FreesOnly page false new old
-turn page old new f t = record { here = t; others = λ q ne. sym (f.others q ne) }
-
--- and one more where one was given back
-pub count_given : (page size : ℕ) (old new : ℕ → Bool) → 1 ≤ page → page < size → old page ≡ false → FreesOnly page true old new
-    → count_free new size ≡ count_free old size + 1
-count_given page size old new low high t f = sym (count_taken page size new old low high f.here (turn page old new f t))
 
 -- how often the pages of a list are used, together
 abbrev pub total : List ℕ → List ℕ → ℕ

@@ -24,7 +24,6 @@ use Rattle.quilt_btree.proofs.subtrees.Walks.{and_parts}
 use Rattle.quilt_btree.proofs.subtrees.Trees.{IsInnerList, inner_list, subtree_rises}
 use Rattle.quilt_btree.proofs.rows.Places.{front, from_keys, head_bounds, tail_places, Rises, one_row, high_from}
 use Rattle.quilt_btree.proofs.lists.Lists.{IsAmong, floor_between, last_append}
-use Rattle.quilt_btree.proofs.ways.Leaves.{last_at}
 use Rattle.quilt_btree.proofs.subtrees.Descents.{child_bounds, AtChild, at_child, leads_down, keys_behind, tail_past, head_nearer, behind_many, place_in}
 
 -- at height 1 the page is a leaf
@@ -35,12 +34,6 @@ leaf_spells told page height rs leaf one s reads =
     let there = reads s.pages s.is_told in
     let mine = t.page in
     cc
-
-pub leaf_sound : (told : Option (List (List ℕ))) (page height : ℕ) (rs : List Record) (e : Stop) → height ≡ 1 → Spells told page height rs
-    → ((pages : List (List ℕ)) (ss : List Record) → told ≡ Some pages → leaf_of (slice_index_or pages page []) ≡ Some ss → IsSound e) → IsSound e
-leaf_sound told page height rs e one s f =
-    let t = subst (λ h. Subtree s.pages h s.is_root (page, s.bounds) rs s.used) one s.subtree in
-    f s.pages rs s.is_told t.page
 
 -- above it an inner page
 pub record IsAbove (told : Option (List (List ℕ))) (page height : ℕ) (inner : Inner) (rs : List Record) (s : Spells told page height rs) : Type 0 where
@@ -72,14 +65,6 @@ inner_spells told page height rs inner some ne s reads =
       under = t.under;
       row = subst (λ (i : Inner). Row (Subtree s.pages (suc e.0) false) (bounded i.children i.keys s.bounds) rs t.under) same t.children;
     }
-
-pub inner_sound : (told : Option (List (List ℕ))) (page height : ℕ) (rs : List Record) (e : Stop) → 1 ≤ height → height ≢ 1 → Spells told page height rs
-    → ((pages : List (List ℕ)) (inner : Inner) → told ≡ Some pages → inner_of (length pages) (slice_index_or pages page []) ≡ Some inner
-    → inner.height ≡ height → IsSound e) → IsSound e
-inner_sound told page height rs e some ne s f =
-    let n = height_above height some ne in
-    let t = subst (λ n. Subtree s.pages n s.is_root (page, s.bounds) rs s.used) n.1 s.subtree in
-    f s.pages t.inner s.is_told t.page (t.is_height ∙ sym n.1)
 
 -- the child's subtree
 pub child_spells : (told : Option (List (List ℕ))) (page height : ℕ) (rs : List Record) (inner : Inner) (i : ℕ) (s : Spells told page height rs)
@@ -290,47 +275,6 @@ leads_up (Ok v) leaf old new page height child i k inner start high t some ne re
       subtree = at.spells.subtree;
     }) (at.is_high ∙ same)))
 
--- a sound child makes a sound subtree
-pub sound_up : {T : Type 0} (r : Result T Stop) (old new : Option (List (List ℕ))) (page height child i : ℕ) (k : Key) (inner : Inner)
-    → new ≡ old → 1 ≤ height → height ≢ 1
-    → ReadsInner old page inner → IsPlace inner.keys k i → child ≡ slice_index inner.children i
-    → IfErr r (λ e. (rs : List Record) → Spells new child (height - 1) rs → IsSound e)
-    → IfErr r (λ e. (rs : List Record) → Spells old page height rs → IsSound e)
-sound_up (Ok v) old new page height child i k inner t some ne reads p e f = f
-sound_up (Err x) old new page height child i k inner t some ne reads p e f = λ rs s.
-    let at = leads_below old page height rs inner i k some ne s reads p in
-    f at.here (subst (λ c. Spells new c (height - 1) at.here) (sym e) (along_told old new (slice_index inner.children i) (height - 1) at.here t at.spells))
-
-pub not_leaf : (told : Option (List (List ℕ))) (page height : ℕ) (rs : List Record) (e : Stop) (bytes : List ℕ) → height ≡ 1
-    → IfSome told (λ pages. bytes ≡ slice_index_or pages page []) → leaf_of bytes ≡ None → Spells told page height rs → IsSound e
-not_leaf told page height rs e bytes one here none s =
-    let t = subst (λ h. Subtree s.pages h s.is_root (page, s.bounds) rs s.used) one s.subtree in
-    let same : bytes ≡ slice_index_or s.pages page [] = subst (λ o. IfSome o (λ pages. bytes ≡ slice_index_or pages page [])) s.is_told here in
-    let is = t.page in
-    let also : leaf_of (slice_index_or s.pages page []) ≡ None = ap leaf_of (sym same) ∙ none in
-    cc
-
-pub not_inner : (told : Option (List (List ℕ))) (page height size : ℕ) (rs : List Record) (e : Stop) (bytes : List ℕ) (o : Option Inner) → 2 ≤ height
-    → IfSome told (λ pages. length pages ≡ size) → IfSome told (λ pages. bytes ≡ slice_index_or pages page [])
-    → inner_of size bytes ≡ o → ((inner : Inner) → o ≡ Some inner → inner.height ≢ height) → Spells told page height rs → IsSound e
-not_inner told page height size rs e bytes o two many here is f s =
-    let some : 1 ≤ height = omega arith in
-    let ne : height ≢ 1 = omega arith in
-    let n = height_above height some ne in
-    let t = subst (λ n. Subtree s.pages n s.is_root (page, s.bounds) rs s.used) n.1 s.subtree in
-    let same : bytes ≡ slice_index_or s.pages page [] = subst (λ o. IfSome o (λ pages. bytes ≡ slice_index_or pages page [])) s.is_told here in
-    let long : length s.pages ≡ size = subst (λ o. IfSome o (λ pages. length pages ≡ size)) s.is_told many in
-    let mine = t.page in
-    let there : o ≡ Some t.inner = sym is ∙ ap (inner_of size) same ∙ ap (λ m. inner_of m (slice_index_or s.pages page [])) (sym long) ∙ mine in
-    absurd (f t.inner there (t.is_height ∙ sym n.1))
-
-pub leaf_last : (told : Option (List (List ℕ))) (page height n : ℕ) (leaf : List Record) (r : Record) → height ≡ 1 → ReadsLeaf told page leaf
-    → n ≡ length leaf → slice_get leaf (n - 1) ≡ Some r
-    → (rs : List Record) → Spells told page height rs → last_or None rs ≡ Some r
-leaf_last told page height n leaf r one reads many at rs s =
-    let same = leaf_spells told page height rs leaf one s reads in
-    ap (last_or None) (sym same) ∙ last_at None leaf r (subst (λ m. slice_get leaf (m - 1) ≡ Some r) many at)
-
 -- the last child
 pub record EndsBelow (told : Option (List (List ℕ))) (height child : ℕ) (rs : List Record) : Type 0 where
   pub first : List Record
@@ -373,15 +317,6 @@ last_up (Ok x) old new page height child n inner t some ne reads many is f = λ 
     let end = ends_below old page height child n inner some ne reads many is rs s in
     ap (last_or None) end.records ∙ last_append None end.first end.here
     ∙ last_late (last_or None end.first) end.here x (f end.here (along_told old new child (height - 1) end.here t end.spells))
-
-pub sound_end : {T : Type 0} (r : Result T Stop) (old new : Option (List (List ℕ))) (page height child n : ℕ) (inner : Inner) → new ≡ old
-    → 1 ≤ height → height ≢ 1 → ReadsInner old page inner → n ≡ length inner.children
-    → child ≡ slice_index inner.children (n - 1) → IfErr r (λ e. (rs : List Record) → Spells new child (height - 1) rs → IsSound e)
-    → IfErr r (λ e. (rs : List Record) → Spells old page height rs → IsSound e)
-sound_end (Ok x) old new page height child n inner t some ne reads many is f = f
-sound_end (Err e) old new page height child n inner t some ne reads many is f = λ rs s.
-    let end = ends_below old page height child n inner some ne reads many is rs s in
-    f end.here (along_told old new child (height - 1) end.here t end.spells)
 
 -- the floor is under the child, or else the last record before it
 pub record AtFloor (old new : Option (List (List ℕ))) (page height child i : ℕ) (k : Key) (inner : Inner) : Type 0 where
@@ -429,20 +364,3 @@ floor_before old new newer page height child prior i k inner r a some t is f g r
     g b.1 (subst (λ c. Spells newer c (height - 1) b.1) (sym is) (along_told old newer (slice_index inner.children (i - 1)) (height - 1) b.1 t b.3)) in
     let of_first : last_or None at.first ≡ Some r = ap (last_or None) b.2 ∙ last_append None b.0 b.1 ∙ last_late (last_or None b.0) b.1 r last in
     sym of_first ∙ ap (λ o. option_or o (last_or None at.first)) here ∙ sym (floor_between k at.first at.here at.last rs at.among)
-
-pub sound_at : (old new : Option (List (List ℕ))) (page height child i : ℕ) (k : Key) (inner : Inner) (e : Stop) → AtFloor old new page height child i k inner
-    → ((rs : List Record) → Spells new child (height - 1) rs → IsSound e) → (rs : List Record) → Spells old page height rs → IsSound e
-sound_at old new page height child i k inner e a f rs s =
-    let at = leads_below old page height rs inner i k a.some a.above s a.reads a.place in
-    f at.here (subst (λ c. Spells new c (height - 1) at.here) (sym a.is_child)
-    (along_told old new (slice_index inner.children i) (height - 1) at.here a.told at.spells))
-
-pub sound_before : (old new newer : Option (List (List ℕ))) (page height child prior i : ℕ) (k : Key) (inner : Inner) (e : Stop)
-    → AtFloor old new page height child i k inner → i ≢ 0 → newer ≡ old
-    → prior ≡ slice_index inner.children (i - 1)
-    → ((rs : List Record) → Spells newer prior (height - 1) rs → IsSound e) → (rs : List Record) → Spells old page height rs → IsSound e
-sound_before old new newer page height child prior i k inner e a some t is g rs s =
-    let at = leads_below old page height rs inner i k a.some a.above s a.reads a.place in
-    let n : i ≡ suc (i - 1) = omega arith in
-    let b = at.before (i - 1) n in
-    g b.1 (subst (λ c. Spells newer c (height - 1) b.1) (sym is) (along_told old newer (slice_index inner.children (i - 1)) (height - 1) b.1 t b.3))

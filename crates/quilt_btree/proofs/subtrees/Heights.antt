@@ -41,6 +41,3 @@ walk_pages pages root (suc h) records rs visited w few =
   where
     most : (v u n r : ℕ) → v ≡ u → 9144 * (u - 1) ≤ 128 * n → n ≤ r → v ≤ r * 16 / 1143 + 1
     most v u n r e d h = omega arith
-
-pub pages_within : (size records : ℕ) → 16 ≤ size → records ≤ quota size → records * 16 / 1143 + 1 + 6 < size
-pages_within size records least few = omega arith

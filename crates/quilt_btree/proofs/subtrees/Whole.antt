@@ -8,9 +8,8 @@ use Rattle.quilt_btree.specs.declared.tree.Tree.{Tree}
 use Rattle.quilt_btree.specs.Lists.{value_of, floor_of}
 use Rattle.quilt_store.specs.Stops.{IsSound}
 use Rattle.quilt_btree.specs.Subtree.{Subtree}
-use Rattle.quilt_btree.specs.Trees.{Spells, IsTree, LeadsTo}
+use Rattle.quilt_btree.specs.Trees.{Spells, IsTree}
 use Rattle.quilt_btree.proofs.subtrees.Walks.{walk_found}
-use Rattle.quilt_btree.proofs.lists.Lists.{value_between}
 
 whole_spells : (told : Option (List (List ℕ))) (t : Tree) (rs : List Record) (height : ℕ) → t.height ≡ height → 1 ≤ height → IsTree told t rs
     → (s : Spells told t.root t.height rs) × (s.bounds.high ≡ None)
@@ -45,9 +44,6 @@ no_value told t rs k e is = sym (ap (value_of k) (no_records told t rs e is))
 pub no_floor : (told : Option (List (List ℕ))) (t : Tree) (rs : List Record) (k : Key) → t.height ≡ 0 → IsTree told t rs → None ≡ floor_of k rs
 unfolding floor_of
 no_floor told t rs k e is = sym (ap (floor_of k) (no_records told t rs e is))
-
-pub value_at : (k : Key) (rs leaf : List Record) (start high : Option Key) → LeadsTo k rs leaf start high → value_of k leaf ≡ value_of k rs
-value_at k rs leaf start high l = sym (value_between k l.before leaf l.behind rs (record { records = l.records; lower = l.lower; higher = l.higher }))
 
 pub sound_whole : (e : Stop) (told : Option (List (List ℕ))) (t : Tree) → t.height ≢ 0
     → ((rs : List Record) → Spells told t.root t.height rs → IsSound e) → (rs : List Record) → IsTree told t rs → IsSound e

@@ -53,15 +53,6 @@ pub bad_last : (told : Option (List (List ℕ))) (page height : ℕ) (bytes : Li
     → ((rs : List Record) → leaf_of bytes ≡ Some rs → None ≡ last_or None rs) → NamesBad told height page (Damaged page)
 bad_last told page height bytes one are f = bad_leaf told page height bytes one are (not_some (leaf_of bytes) (leaf_has_last bytes f))
 
-pub bad_end : (old new : Option (List (List ℕ))) (page height size : ℕ) (bytes : List ℕ) → IsRead old new page height size bytes
-    → ((inner : Inner) → inner_of size bytes ≡ Some inner → None ≡ Some (slice_index inner.children (length inner.children - 1)))
-    → NamesBad old height page (Damaged page)
-bad_end old new page height size bytes r f =
-    bad_inner old new page height size bytes r (λ inner is. differ (slice_index inner.children (length inner.children - 1)) (f inner is))
-  where
-    differ : (c : ℕ) → None ≡ Some c → ⊥
-    differ c h = cc
-
 one_less : (height h : ℕ) → height ≡ suc (suc h) → height - 1 ≡ suc h
 one_less height h e = omega arith
 

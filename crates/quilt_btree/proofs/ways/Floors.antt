@@ -6,35 +6,8 @@ use Rattle.std.proofs.lemmas.Bool.Decides.{nat_tests}
 use Rattle.quilt_record.specs.declared.key.Key.{Key}
 use Rattle.quilt_record.specs.declared.record.Record.{Record}
 use Rattle.quilt_node.specs.Pages.{Inner, leaf_of, inner_of}
-use Rattle.quilt_btree.specs.Lists.{floor_of}
-use Rattle.quilt_btree.specs.Floors.{last_pages, last_below, finds_floor, finds_in_leaf, finds_below, floor_pages, floor_below, before_child, place_of}
+use Rattle.quilt_btree.specs.Floors.{last_pages, last_below, finds_floor, finds_below, floor_pages, floor_below, before_child, place_of}
 use Rattle.quilt_btree.proofs.subtrees.Descending.{height_above}
-
--- at height 1 only the page
-pub last_at_leaf : (pages : List (List ℕ)) (height page : ℕ) → height ≡ 1 → last_pages pages height page ≡ page ∷ []
-last_at_leaf pages height page one = ap (λ h. last_pages pages h page) one
-
-pub floor_at_leaf : (pages : List (List ℕ)) (k : Key) (height page : ℕ) → height ≡ 1 → floor_pages pages k height page ≡ page ∷ []
-floor_at_leaf pages k height page one = ap (λ h. floor_pages pages k h page) one
-
-pub finds_at_leaf : (pages : List (List ℕ)) (k : Key) (height page : ℕ) (leaf : List Record) → height ≡ 1
-    → leaf_of (slice_index_or pages page []) ≡ Some leaf → finds_floor pages k height page ≡ is_some (floor_of k leaf)
-finds_at_leaf pages k height page leaf one here = ap (λ h. finds_floor pages k h page) one ∙ ap (finds_in_leaf k) here
-
--- above it the page first
-pub last_starts : (pages : List (List ℕ)) (height page : ℕ) → 1 ≤ height → (rest : List ℕ) × (last_pages pages height page ≡ page ∷ rest)
-last_starts pages zero page some = absurd (omega arith)
-last_starts pages (suc zero) page some = ([], refl)
-last_starts pages (suc (suc h)) page some = (last_below (last_pages pages (suc h)) (inner_of (length pages) (slice_index_or pages page [])), refl)
-
-pub floor_starts : (pages : List (List ℕ)) (k : Key) (height page : ℕ) → 1 ≤ height → (rest : List ℕ) × (floor_pages pages k height page ≡ page ∷ rest)
-floor_starts pages k zero page some = absurd (omega arith)
-floor_starts pages k (suc zero) page some = ([], refl)
-floor_starts pages k (suc (suc h)) page some = (
-  floor_below (floor_pages pages k (suc h)) (finds_floor pages k (suc h)) (last_pages pages (suc h)) k
-      (inner_of (length pages) (slice_index_or pages page [])),
-  refl,
-)
 
 one_less : (height h : ℕ) → height ≡ suc (suc h) → suc h ≡ height - 1
 one_less height h e = omega arith

@@ -144,16 +144,6 @@ led_up k before here behind rs bytes a l = record {
   higher = all_append (λ (r : Record). is_lt (key_cmp k r.key)) l.behind behind l.higher a.higher;
 }
 
-pub led_on : {T : Type 0} (r : Result T Stop) (old new : Option (List (List ℕ))) (page height size : ℕ) (bytes last : List ℕ) (k : Key) (child : ℕ)
-    (prior : Option ℕ) → IsRead old new page height size bytes
-    → ((inner : Inner) → inner_of size bytes ≡ Some inner → IsFork k inner child prior)
-    → OnOk r ((rs : List Record) → Spells new child (height - 1) rs → IsLeafFor k rs last)
-    → OnOk r ((rs : List Record) → Spells old page height rs → IsLeafFor k rs last)
-led_on (Err e) old new page height size bytes last k child prior r fork f = f
-led_on (Ok v) old new page height size bytes last k child prior r fork f = λ rs s.
-    let a = forked old new page height size bytes k child prior rs r fork s in
-    led_up k a.before a.here a.behind rs last a.among (f a.here a.spells)
-
 -- the leaf's page in place of its bytes
 pub led_page : (r : Result ℕ Stop) (old new : Option (List (List ℕ))) (page height size : ℕ) (bytes : List ℕ) (k : Key) (child : ℕ)
     (prior : Option ℕ) → IsRead old new page height size bytes
@@ -349,14 +339,6 @@ leaf_has_last bytes f rs is = some_last rs (leaf_list bytes rs is).least (f rs i
     some_last : (rs : List Record) → 1 ≤ length rs → None ≡ last_or None rs → ⊥
     some_last [] lt h = omega arith
     some_last (x ∷ xs) lt h = has_last x xs h
-
-pub no_last : (told : Option (List (List ℕ))) (page height : ℕ) (bytes : List ℕ) (e : Stop) → height ≡ 1 → AreOf told page bytes
-    → ((rs : List Record) → leaf_of bytes ≡ Some rs → None ≡ last_or None rs) → (rs : List Record) → Spells told page height rs → IsSound e
-no_last told page height bytes e one are f rs s = absurd (leaf_has_last bytes f rs (leaf_here told page height bytes rs one are s))
-
-pub last_leaf : (told : Option (List (List ℕ))) (page height : ℕ) (bytes : List ℕ) (r : Record) → height ≡ 1 → AreOf told page bytes
-    → ((rs : List Record) → leaf_of bytes ≡ Some rs → Some r ≡ last_or None rs) → (rs : List Record) → Spells told page height rs → last_or None rs ≡ Some r
-last_leaf told page height bytes r one are f rs s = sym (f rs (leaf_here told page height bytes rs one are s))
 
 -- what holds where a subtree is sound holds where the tree is
 pub whole_on : {T : Type 0} (r : Result T Stop) (told : Option (List (List ℕ))) (t : Tree) (P : Type 0) → t.height ≢ 0

@@ -16,7 +16,7 @@ use Rattle.quilt_btree.specs.Damage.{HasChild, NamesBad}
 use Rattle.quilt_btree.specs.Looks.{ShowsFork, ShowsStep, ShowsLast, ShowsKey}
 use Rattle.quilt_btree.specs.Searches.{AreOf, IsFork, IsStep}
 use Rattle.quilt_btree.specs.Trees.{Spells}
-use Rattle.quilt_btree.proofs.ways.Damage.{names_below, bad_inner, bad_last}
+use Rattle.quilt_btree.proofs.ways.Damage.{bad_inner, bad_last}
 use Rattle.quilt_btree.proofs.ways.Forks.{IsRead, Forked, forked, forks, are_of, leaf_here, leaf_has_last}
 
 -- what is known of a page above the leaves behind a look
@@ -34,13 +34,6 @@ pub fork_shown : (old new : Option (List (List ℕ))) (page height size : ℕ) (
     → IsLooked old new height size → ShowsFork old page size k child prior → Spells old page height rs → Forked old new page height k child prior rs
 fork_shown old new page height size k child prior rs l f s =
     forked old new page height size f.bytes k child prior rs (read_of old new page height size f.bytes l f.are) f.fork s
-
--- what is named under a child of the page
-pub named_under : {T : Type 0} (r : Result T Stop) (old new : Option (List (List ℕ))) (page height size child : ℕ) (bytes : List ℕ)
-    → IsLooked old new height size → AreOf old page bytes → HasChild size bytes child
-    → IfErr r (NamesBad new (height - 1) child) → IfErr r (NamesBad old height page)
-named_under r old new page height size child bytes l are h f =
-    names_below r old new page height size bytes child (read_of old new page height size bytes l are) h f
 
 -- what a look at the bytes shows of the page
 pub shows_fork : (told : Option (List (List ℕ))) (page n size : ℕ) (bytes : List ℕ) (k : Key) (child : ℕ) (prior : Option ℕ) → n ≡ size

@@ -15,20 +15,12 @@ use Rattle.quilt_node.specs.Nodes.{IsPlace, records_of, keys_of}
 use Rattle.quilt_node.specs.Tree.{Bounds, is_above, is_below}
 use Rattle.quilt_node.proofs.Places.{leaf_records}
 use Rattle.quilt_btree.specs.declared.reading.Found.{Found}
-use Rattle.quilt_btree.specs.Edits.{CanEdit}
-use Rattle.quilt_btree.specs.Runs.{has_any, DidFill, DidDrain, Lacks}
 use Rattle.quilt_btree.specs.Searches.{AreOf, IsStep}
 use Rattle.quilt_store.specs.Stops.{IsSound}
 use Rattle.quilt_btree.specs.Trees.{Spells, LeadsTo, IsCut}
-use Rattle.quilt_btree.proofs.subtrees.Along.{IsSame}
-use Rattle.quilt_btree.proofs.growth.Below.{edit_spells}
 use Rattle.quilt_btree.proofs.subtrees.Descending.{leads_below, along_told, leads_up, leaf_leads}
 use Rattle.quilt_btree.proofs.subtrees.Dividing.{cut_up}
-use Rattle.quilt_btree.proofs.removals.Drains.{drained_result, lacks_result}
-use Rattle.quilt_btree.proofs.growth.Fills.{filled_result, there_below}
-use Rattle.quilt_btree.proofs.ways.Forks.{IsRead, page_here, leaf_here, forks}
-use Rattle.quilt_btree.proofs.growth.Runs.{record_at}
-use Rattle.quilt_btree.proofs.removals.Takings.{key_at}
+use Rattle.quilt_btree.proofs.ways.Forks.{IsRead, page_here, leaf_here}
 use Rattle.quilt_btree.proofs.subtrees.Trees.{inner_list, leaf_list}
 use Rattle.quilt_btree.proofs.subtrees.Walks.{and_parts}
 
@@ -163,77 +155,3 @@ next_is_above inner k next i p is not = let h = first_over k next inner.keys i p
     no : (b : Bool) → b ≡ true → b ≡ false → ⊥
     no true h g = cc
     no false h g = cc
-
--- a run goes into the leaf below, or out of it
-pub step_filled : (r : Result ℕ Stop) (old new now_told : Option (List (List ℕ))) (free then_free now : ℕ → Bool)
-    (size then_size page height count : ℕ) (bytes : List ℕ) (child : ℕ) (high next : Option Key) (run : List Record)
-    → IsRead old new page height count bytes → IsSame old new free then_free size then_size
-    → StepsTo count bytes (record_at run 0).key high child next → is_ascending (keys_of run) ≡ true → 1 ≤ length run
-    → IfOk r (λ n. 1 ≤ n → (is_root : Bool) (b : Bounds) (rs : List Record) (used : List ℕ) → b.high ≡ next
-    → list_all (λ r. is_above b.low r.key) run ≡ true → CanEdit new then_free child (height - 1) is_root b rs used
-    → DidFill (take n run) new now_told then_free now child (height - 1) is_root b rs used)
-    → IfOk r (λ n. 1 ≤ n → (is_root : Bool) (b : Bounds) (rs : List Record) (used : List ℕ) → b.high ≡ high
-    → list_all (λ r. is_above b.low r.key) run ≡ true → CanEdit old free page height is_root b rs used
-    → DidFill (take n run) old now_told free now page height is_root b rs used)
-step_filled (Err e) old new now_told free then_free now size then_size page height count bytes child high next run is same step order some f = f
-step_filled (Ok n) old new now_told free then_free now size then_size page height count bytes child high next run is same step order some f =
-    λ one is_root b rs used top above can.
-    let h = page_here old new page height count bytes rs is (edit_spells old free page height is_root b rs used can) in
-    let st = step h.inner h.is in
-    filled_result (Ok n) old new now_told free then_free now size then_size page height child st.place h.inner high next run
-    (record { same = same; some = is.some; above = is.above; reads = h.reads; place = st.is_place; is_child = st.child_is })
-    st.next_is order some f one is_root b rs used top above can
-
-pub step_there : (r : Result ℕ Stop) (old new : Option (List (List ℕ))) (free then_free : ℕ → Bool) (size then_size page height count : ℕ)
-    (bytes : List ℕ) (child : ℕ) (high next : Option Key) (run : List Record)
-    → IsRead old new page height count bytes → IsSame old new free then_free size then_size → StepsTo count bytes (record_at run 0).key high child next
-    → IfErr r (λ e. (is_root : Bool) (b : Bounds) (rs : List Record) (used : List ℕ) → CanEdit new then_free child (height - 1) is_root b rs used
-    → (q : ℕ) → e ≡ Damaged q → (q ≡ 0) × (has_any run rs ≡ true))
-    → IfErr r (λ e. (is_root : Bool) (b : Bounds) (rs : List Record) (used : List ℕ) → CanEdit old free page height is_root b rs used → (q : ℕ)
-    → e ≡ Damaged q → (q ≡ 0) × (has_any run rs ≡ true))
-step_there (Ok n) old new free then_free size then_size page height count bytes child high next run is same step f = f
-step_there (Err e) old new free then_free size then_size page height count bytes child high next run is same step f = λ is_root b rs used can.
-    let h = page_here old new page height count bytes rs is (edit_spells old free page height is_root b rs used can) in
-    let st = step h.inner h.is in
-    there_below old new free then_free size then_size page height child st.place (record_at run 0).key h.inner run e
-    (record { same = same; some = is.some; above = is.above; reads = h.reads; place = st.is_place; is_child = st.child_is }) f is_root b rs used can
-
-pub step_drained : (r : Result ℕ Stop) (old new now_told : Option (List (List ℕ))) (free then_free now : ℕ → Bool)
-    (size then_size page height count : ℕ) (bytes : List ℕ) (child : ℕ) (high next : Option Key) (run : List Key) (is_root : Bool)
-    → IsRead old new page height count bytes → IsSame old new free then_free size then_size → StepsTo count bytes (key_at run 0) high child next
-    → is_ascending run ≡ true → 1 ≤ length run
-    → IfOk r (λ n. 1 ≤ n → (b : Bounds) (rs : List Record) (used : List ℕ) → b.high ≡ next → CanEdit new then_free child (height - 1) false b rs used
-    → DidDrain (take n run) new now_told then_free now child (height - 1) false b rs used)
-    → IfOk r (λ n. 1 ≤ n → (b : Bounds) (rs : List Record) (used : List ℕ) → b.high ≡ high → CanEdit old free page height is_root b rs used
-    → DidDrain (take n run) old now_told free now page height is_root b rs used)
-step_drained (Err e) old new now_told free then_free now size then_size page height count bytes child high next run is_root is same step order some f = f
-step_drained (Ok n) old new now_told free then_free now size then_size page height count bytes child high next run is_root is same step order some f
-    = λ one b rs used top can.
-    let h = page_here old new page height count bytes rs is (edit_spells old free page height is_root b rs used can) in
-    let st = step h.inner h.is in
-    drained_result (Ok n) old new now_told free then_free now size then_size page height child st.place h.inner high next run is_root
-    (record { same = same; some = is.some; above = is.above; reads = h.reads; place = st.is_place; is_child = st.child_is })
-    st.next_is order some f one b rs used top can
-
-pub step_lacks : (r : Result ℕ Stop) (old new : Option (List (List ℕ))) (free then_free : ℕ → Bool) (size then_size page height count : ℕ)
-    (bytes : List ℕ) (child : ℕ) (high next : Option Key) (run : List Key) (is_root : Bool)
-    → IsRead old new page height count bytes → IsSame old new free then_free size then_size → StepsTo count bytes (key_at run 0) high child next
-    → is_ascending run ≡ true → 1 ≤ length run
-    → IfErr r (λ e. (b : Bounds) (rs : List Record) (used : List ℕ) → b.high ≡ next → CanEdit new then_free child (height - 1) false b rs used
-    → (q : ℕ) → e ≡ Damaged q → (q ≡ 0) × Lacks run b.high rs)
-    → IfErr r (λ e. (b : Bounds) (rs : List Record) (used : List ℕ) → b.high ≡ high → CanEdit old free page height is_root b rs used → (q : ℕ)
-    → e ≡ Damaged q → (q ≡ 0) × Lacks run b.high rs)
-step_lacks (Ok n) old new free then_free size then_size page height count bytes child high next run is_root is same step order some f = f
-step_lacks (Err e) old new free then_free size then_size page height count bytes child high next run is_root is same step order some f = λ b rs used top can.
-    let h = page_here old new page height count bytes rs is (edit_spells old free page height is_root b rs used can) in
-    let st = step h.inner h.is in
-    lacks_result (Err e) old new free then_free size then_size page height child st.place h.inner high next run is_root
-    (record { same = same; some = is.some; above = is.above; reads = h.reads; place = st.is_place; is_child = st.child_is })
-    st.next_is order some f b rs used top can
-
--- a page above the leaves has a step down, over a tree
-pub step_none : (e : Stop) (old new : Option (List (List ℕ))) (free : ℕ → Bool) (page height count : ℕ) (bytes : List ℕ) (is_root : Bool)
-    (b : Bounds) (rs : List Record) (used : List ℕ) → IsRead old new page height count bytes
-    → ((inner : Inner) → inner_of count bytes ≡ Some inner → ⊥) → CanEdit old free page height is_root b rs used → IsSound e
-step_none e old new free page height count bytes is_root b rs used is none can =
-    forks old new page height count bytes e is none rs (edit_spells old free page height is_root b rs used can)

@@ -12,20 +12,7 @@ use Rattle.quilt_btree.specs.Trees.{ReadsInner}
 use Rattle.quilt_btree.specs.Floors.{last_pages, finds_floor, floor_pages, before_child, place_of, TouchesInTurn, HoldsFirst, ReadsNone}
 use Rattle.quilt_btree.proofs.subtrees.Descending.{AtFloor}
 use Rattle.quilt_btree.proofs.stores.Held.{OneFree, one_turn, more_turns, turns_first, one_free, part_free, more_free}
-use Rattle.quilt_btree.proofs.ways.Floors.{last_starts, floor_starts, last_splits, floor_splits, finds_splits, child_before, length_floor}
-
--- a page that could not be read or is damaged
-pub last_begun : (told : Option (List (List ℕ))) (page height : ℕ) (held : Option (List ℕ)) (a b : Option ℕ) → 1 ≤ height → OneFree page held a b
-    → ReadsNone (λ pages. last_pages pages height page) told held a b
-last_begun told page height held a b some f = λ pages is.
-    let s = last_starts pages height page some in
-    one_free (last_pages pages height page) s.0 page held a b s.1 f
-
-pub floor_begun : (told : Option (List (List ℕ))) (k : Key) (page height : ℕ) (held : Option (List ℕ)) (a b : Option ℕ) → 1 ≤ height
-    → OneFree page held a b → ReadsNone (λ pages. floor_pages pages k height page) told held a b
-floor_begun told k page height held a b some f = λ pages is.
-    let s = floor_starts pages k height page some in
-    one_free (floor_pages pages k height page) s.0 page held a b s.1 f
+use Rattle.quilt_btree.proofs.ways.Floors.{last_splits, floor_splits, finds_splits, child_before, length_floor}
 
 -- the last child
 pub record AtLast (old new : Option (List (List ℕ))) (page height child n : ℕ) (inner : Inner) : Type 0 where

@@ -7,9 +7,7 @@ use Rattle.quilt_node.specs.Nodes.{IsPlace}
 use Rattle.quilt_btree.specs.Floors.{place_of}
 use Rattle.quilt_btree.specs.Searches.{AreOf, IsWay, IsHigh}
 use Rattle.quilt_btree.specs.Trees.{Spells, ReadsInner}
-use Rattle.quilt_btree.proofs.subtrees.Along.{IsSame}
 use Rattle.quilt_btree.proofs.ways.Forks.{IsRead, page_here}
-use Rattle.quilt_btree.proofs.growth.UnderGrowth.{LeadsToChild}
 
 reads_inner : (told : Option (List (List ℕ))) (page size : ℕ) (bytes : List ℕ) (inner : Inner) → IfSome told (λ pages. length pages ≡ size)
     → AreOf told page bytes → inner_of size bytes ≡ Some inner → ReadsInner told page inner
@@ -30,9 +28,3 @@ pub is_high : (old new : Option (List (List ℕ))) (page height size : ℕ) (byt
     → Spells old page height rs → IsHigh size bytes height
 is_high old new page height size bytes rs r s = let h = page_here old new page height size bytes rs r s in
     record { inner = h.inner; is = h.is; is_height = h.is_height }
-
-pub way_leads : (told then_told : Option (List (List ℕ))) (free then_free : ℕ → Bool) (size then_size page height child i : ℕ) (k : Key) (inner : Inner)
-    → IsSame told then_told free then_free size then_size → 1 ≤ height → height ≢ 1 → IsWay told page k i child inner
-    → LeadsToChild told then_told free then_free size then_size page height child i k inner
-way_leads told then_told free then_free size then_size page height child i k inner same some above w =
-    record { same = same; some = some; above = above; reads = w.reads; place = w.is_place; is_child = w.child_is }

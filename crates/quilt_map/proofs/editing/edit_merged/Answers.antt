@@ -17,7 +17,7 @@ use Rattle.quilt_btree.proofs.batches.Rises.{whole_rises}
 use Rattle.quilt_edition.specs.Books.{pages_of, work_of}
 use Rattle.quilt_map.specs.Sessions.{told_of, free_of, tree_in}
 use Rattle.quilt_map.proofs.states.ChangeSteps.{goes_here}
-use Rattle.quilt_map.proofs.editing.edit_records.Goals as goal
+use Rattle.quilt_map.proofs.editing.edit_merged.Goals as goal
 
 -- no more records come to the tree than are put in
 more_at_most : (run : List Edit) → more run ≤ length (added run)
@@ -32,40 +32,32 @@ returns-in_default-clause-goes_on g c = goes_here {D = g.W.Disk} c.args.book.now
 pub returns-then-not-edits_ascend-clause-goes_on : goal.returns-then-not-edits_ascend-clause-goes_on
 returns-then-not-edits_ascend-clause-goes_on g c = goes_here {D = g.W.Disk} c.args.book.now
 
-pub returns-in_default-keys_in-clause-goes_on : goal.returns-in_default-keys_in-clause-goes_on
-returns-in_default-keys_in-clause-goes_on g c = goes_here {D = g.W.Disk} c.args.book.now
-
-pub returns-then-not-keys_ascend-clause-goes_on : goal.returns-then-not-keys_ascend-clause-goes_on
-returns-then-not-keys_ascend-clause-goes_on g c = goes_here {D = g.W.Disk} c.args.book.now
-
 pub apply-requires-clause-room : goal.apply-requires-clause-room
 apply-requires-clause-room g c =
-    let run = c.deref-then-fits.result.now in
-    let come : added run ≡ c.args.added.now = ap added c.deref-then-fits.ensures.value ∙ c.in-Ok.ensures.comes in
+    let run = c.deref-2.result.now in
+    let come : added run ≡ c.args.added.now = ap added c.deref-2.ensures.value ∙ c.in-Ok.ensures.comes in
     let few = more_at_most run in
     let many = ap length come in
-    let records = ap (λ (h : Head). h.records) c.head.ensures.work in
-    let pages = c.pages.ensures in
-    let fits = c.fits.ensures c.if-fits.true in
+    let room = c.requires in
     omega arith
 
-pub returns-then-fits-clause-edited : goal.returns-then-fits-clause-edited
-returns-then-fits-clause-edited g c =
+pub returns-clause-edited : goal.returns-clause-edited
+returns-clause-edited g c =
     let a = c.args.book.now in
     let d = c.apply.new.book in
-    let run = c.deref-then-fits.result.now in
-    let gone : removed run ≡ keys_of c.args.removed.now = ap removed c.deref-then-fits.ensures.value ∙ c.in-Ok.ensures.goes in
-    let come : added run ≡ c.args.added.now = ap added c.deref-then-fits.ensures.value ∙ c.in-Ok.ensures.comes in
+    let run = c.deref-2.result.now in
+    let gone : removed run ≡ keys_of c.args.removed.now = ap removed c.deref-2.ensures.value ∙ c.in-Ok.ensures.goes in
+    let come : added run ≡ c.args.added.now = ap added c.deref-2.ensures.value ∙ c.in-Ok.ensures.comes in
     subst (λ (ks : List Key). OnOk c.apply.result ((rs : List Record) → IsWhole (told_of a) (free_of a) (pages_of a) (tree_in (work_of a)) rs
     → IsWhole (told_of d) (free_of d) (pages_of a) (tree_in (work_of d)) (put_all c.args.added.now (without_all ks rs)))) gone
     (subst (λ (ns : List Record). OnOk c.apply.result ((rs : List Record) → IsWhole (told_of a) (free_of a) (pages_of a) (tree_in (work_of a)) rs
     → IsWhole (told_of d) (free_of d) (pages_of a) (tree_in (work_of d)) (put_all ns (without_all (removed run) rs)))) come c.apply.ensures.edited)
 
-pub returns-then-fits-clause-sound : goal.returns-then-fits-clause-sound
-returns-then-fits-clause-sound g c =
+pub returns-clause-sound : goal.returns-clause-sound
+returns-clause-sound g c =
     let a = c.args.book.now in
-    let run = c.deref-then-fits.result.now in
-    let value : run ≡ c.in-Ok.run'.items = c.deref-then-fits.ensures.value in
+    let run = c.deref-2.result.now in
+    let value : run ≡ c.in-Ok.run'.items = c.deref-2.ensures.value in
     IfErr-weaker c.apply.result
     (λ (e : Stop). (rs : List Record) → IsWhole (told_of a) (free_of a) (pages_of a) (tree_in (work_of a)) rs → are_due run rs ≡ true → IsSound e)
     (λ (e : Stop). (rs : List Record) → IsWhole (told_of a) (free_of a) (pages_of a) (tree_in (work_of a)) rs
@@ -77,27 +69,3 @@ returns-then-fits-clause-sound g c =
     (c.in-Ok.ensures.due rs (c.in-Ok.ensures.order old new)
     (whole_rises (told_of a) (free_of a) (pages_of a) (tree_in (work_of a)) rs whole) each none)))
     c.apply.ensures.sound
-
-pub returns-clause-edited : goal.returns-clause-edited
-returns-clause-edited g c =
-    let a = c.args.book.now in
-    let d = c.edit.new.book in
-    let same : c.deref-3.result.now ≡ keys_of c.args.removed.now = c.deref-3.ensures.value ∙ c.in-Ok-keys_in.ensures in
-    subst (λ (ks : List Key). OnOk c.edit.result ((rs : List Record) → IsWhole (told_of a) (free_of a) (pages_of a) (tree_in (work_of a)) rs
-    → IsWhole (told_of d) (free_of d) (pages_of a) (tree_in (work_of d)) (put_all c.args.added.now (without_all ks rs)))) same c.edit.ensures.edited
-
-pub returns-clause-sound : goal.returns-clause-sound
-returns-clause-sound g c =
-    let a = c.args.book.now in
-    let ks = c.deref-3.result.now in
-    let same : ks ≡ keys_of c.args.removed.now = c.deref-3.ensures.value ∙ c.in-Ok-keys_in.ensures in
-    IfErr-weaker c.edit.result
-    (λ (e : Stop). (rs : List Record) → IsWhole (told_of a) (free_of a) (pages_of a) (tree_in (work_of a)) rs
-    → has_each ks rs ≡ true → has_any c.args.added.now (without_all ks rs) ≡ false → IsSound e)
-    (λ (e : Stop). (rs : List Record) → IsWhole (told_of a) (free_of a) (pages_of a) (tree_in (work_of a)) rs
-    → is_ascending (keys_of c.args.removed.now) ≡ true → is_ascending (keys_of c.args.added.now) ≡ true
-    → has_each (keys_of c.args.removed.now) rs ≡ true → has_any c.args.added.now (without_all (keys_of c.args.removed.now) rs) ≡ false → IsSound e)
-    (λ e sound rs whole old new each none.
-    sound rs whole (subst (λ (l : List Key). has_each l rs ≡ true) (sym same) each)
-    (subst (λ (l : List Key). has_any c.args.added.now (without_all l rs) ≡ false) (sym same) none))
-    c.edit.ensures.sound
