@@ -9,12 +9,7 @@ use Rattle.quilt_pool.specs.declared.frame.Frame.{Frame}
 use Rattle.quilt_pool.specs.declared.pool.Pool.{Pool}
 use Rattle.quilt_pool.specs.Entries.{edited, is_dirty}
 use Rattle.quilt_pool.specs.Dirt.{dirt_edited}
-use Rattle.quilt_pool.specs.contracts.sheet.Sheet.{the_row as sheet_row}
 use Rattle.quilt_pool.specs.contracts.pool.Pool.{the_row as pool_row}
-
--- it has the bytes that are left behind the reference
-abbrev pub LendsSheet : MutBor (List ℕ) → MutBor (List ℕ) → Fml
-LendsSheet s r = Lends sheet_row (Array byte 4096) s r (λ w. w)
 
 -- the pool where the page has these bytes
 abbrev pub edited_pool : Pool → ℕ → List ℕ → Pool
