@@ -2,44 +2,44 @@ ghost use Rattle.std.specs.Prelude.{◌≡◌, ◌≢◌, ℕ, ◌+◌, ◌-◌,
 ghost use Rattle.std.specs.Prelude.{option_copied, option_map, is_some};
 ghost use Rattle.std.specs.Borrow.{sem, Lends, Array, u8 as byte};
 ghost use Rattle.std.specs.Map.{lookup, remove_entry, set_value};
-ghost use Rattle.std.specs.Map.Iter.{deref_pair};
 ghost use Rattle.std.specs.NonZero.{non_zero_usize_get};
 ghost use Rattle.std.specs.Vec.{vec_capacity};
 ghost use Rattle.lru.specs.LruCache.{IsValid, lru_cache, put_entries, promoted, last_entry};
 ghost use Rattle.quilt_store.specs.declared.store.StoreErr.TheVariants.{Device};
 ghost use Rattle.quilt_pool.specs.Entries.{frame_at, has_frame, bytes_or, edited};
-ghost use Rattle.quilt_pool.specs.Frames.{IsShared, holders, no_frame};
+ghost use Rattle.quilt_pool.specs.Frames.{IsShared, holders, frame_in, as_frame, as_entry};
 
-use crate::frame::Frame;
 use lru::LruCache;
 use quilt_store::StoreErr;
 use std::alloc::{AllocError, Global};
 use std::marker::Model;
 use std::num::NonZeroUsize;
 
-/// Pages with their frames, the last used first. The frames lie in one list, in room that is taken at the start, and `places` says where in it a page has
-/// its own. A frame that no page has is free.
+/// Pages with their frames, the last used first. The bytes of all lie in one list, in room that is taken at the start, and `places` says where in it a
+/// page has its own. `dirty` says which frames are dirty. A frame that no page has is in `free`.
 #[derive(Drop)]
 pub struct Table {
     places: LruCache<u32, usize>,
-    frames: Vec<Frame>,
+    frames: Vec<[u8; 4096]>,
+    dirty: Vec<bool>,
     free: Vec<usize>,
 }
 
 impl Model for Table {
-    ghost use Rattle.std.specs.Prelude.{ℕ, ◌≤◌, length};
+    ghost use Rattle.std.specs.Prelude.{ℕ, ◌≡◌, ◌≤◌, length};
     ghost use Rattle.std.specs.Vec.{vec_capacity};
     ghost use Rattle.lru.specs.LruCache.{LruCache, lru_cache};
     ghost use Rattle.quilt_pool.specs.declared.frame.Frame.{Frame};
 
     ghost Value = { LruCache ℕ Frame };
 
-    ghost use Rattle.quilt_pool.specs.Frames.{framed, IsShared};
+    ghost use Rattle.quilt_pool.specs.Frames.{framed, frame_in, IsShared};
 
-    ghost view = { λ t. lru_cache (framed t.frames.items t.places.entries) t.places.cap };
+    ghost view = { λ t. lru_cache (framed (frame_in t.frames.items t.dirty.items) t.places.entries) t.places.cap };
 
-    ghost invariant = { λ t. IsShared (length t.frames.items) t.places.entries t.free.items × (length t.frames.items ≤ t.places.cap)
-        × (t.places.cap ≤ vec_capacity t.frames) × (t.places.cap ≤ vec_capacity t.free) };
+    ghost invariant = { λ t. IsShared (length t.frames.items) t.places.entries t.free.items × (length t.dirty.items ≡ length t.frames.items)
+        × (length t.frames.items ≤ t.places.cap) × (t.places.cap ≤ vec_capacity t.frames) × (t.places.cap ≤ vec_capacity t.dirty)
+        × (t.places.cap ≤ vec_capacity t.free) };
 }
 
 impl Table {
@@ -49,10 +49,12 @@ impl Table {
     {
         let places = LruCache::new(alloc, pages)?;
         let frames = Vec::with_capacity(alloc, pages.get())?;
+        let dirty = Vec::with_capacity(alloc, pages.get())?;
         let free = Vec::with_capacity(alloc, pages.get())?;
         Ok(Table {
             places,
             frames,
+            dirty,
             free,
         })
     }
@@ -79,22 +81,22 @@ impl Table {
         self.places.contains(&page)
     }
 
-    /// The page's frame. The order stays.
-    pub fn peek(&self, page: u32) -> Option<&Frame>
-        ensures { option_copied result ≡ frame_at self.now.entries page }
+    /// The page's bytes, where they lie, and whether they are dirty. The order stays.
+    pub fn peek(&self, page: u32) -> Option<(&[u8; 4096], bool)>
+        ensures { option_map as_frame result ≡ frame_at self.now.entries page }
     {
         match self.places.peek(&page) {
-            Some(at) => Some(&self.frames[*at]),
+            Some(at) => Some((&self.frames[*at], self.dirty[*at])),
             None => None,
         }
     }
 
-    /// The page whose last use lies furthest back, with its frame.
-    pub fn peek_lru(&self) -> Option<(&u32, &Frame)>
-        ensures { option_map deref_pair result ≡ last_entry self.now.entries }
+    /// The page whose last use lies furthest back, its bytes, and whether they are dirty.
+    pub fn peek_lru(&self) -> Option<(u32, &[u8; 4096], bool)>
+        ensures { option_map as_entry result ≡ last_entry self.now.entries }
     {
         match self.places.peek_lru() {
-            Some((page, at)) => Some((page, &self.frames[*at])),
+            Some((page, at)) => Some((*page, &self.frames[*at], self.dirty[*at])),
             None => None,
         }
     }
@@ -163,24 +165,29 @@ fn enter_place(
 }
 
 /// The frame at the place has these bytes then. One behind all is added.
-fn fill_frame(frames: &mut Vec<Frame>, at: usize, bytes: &[u8; 4096], is_dirty: bool)
+fn fill_frame(
+    frames: &mut Vec<[u8; 4096]>,
+    dirty: &mut Vec<bool>,
+    at: usize,
+    bytes: &[u8; 4096],
+    is_dirty: bool,
+)
     requires within { at ≤ length frames.old.items }
-    requires room { at ≡ length frames.old.items → at < vec_capacity frames.old }
-    ensures here { slice_index_or frames.new.items at no_frame ≡ record { bytes = bytes.now; is_dirty = is_dirty } }
-    ensures others { (p : ℕ) → p ≢ at → slice_index_or frames.new.items p no_frame ≡ slice_index_or frames.old.items p no_frame }
+    requires lists { length dirty.old.items ≡ length frames.old.items }
+    requires room { at ≡ length frames.old.items → (at < vec_capacity frames.old) × (at < vec_capacity dirty.old) }
+    ensures here { frame_in frames.new.items dirty.new.items at ≡ record { bytes = bytes.now; is_dirty = is_dirty } }
+    ensures others { (p : ℕ) → p ≢ at → frame_in frames.new.items dirty.new.items p ≡ frame_in frames.old.items dirty.old.items p }
     ensures len { length frames.new.items ≡ (if at == length frames.old.items then length frames.old.items + 1 else length frames.old.items) }
-    ensures capacity { vec_capacity frames.old ≤ vec_capacity frames.new }
+    ensures lists { length dirty.new.items ≡ length frames.new.items }
+    ensures capacity { (vec_capacity frames.old ≤ vec_capacity frames.new) × (vec_capacity dirty.old ≤ vec_capacity dirty.new) }
 {
     if at < frames.len() {
-        let frame = &mut frames[at];
-        frame.bytes = *bytes;
-        frame.is_dirty = is_dirty;
+        frames[at] = *bytes;
+        dirty[at] = is_dirty;
         return;
     }
-    let _ = frames.push(Frame {
-        bytes: *bytes,
-        is_dirty,
-    });
+    let _ = frames.push(*bytes);
+    let _ = dirty.push(is_dirty);
 }
 
 /// The page becomes the first entry, with these bytes. Where it is an entry already, they are written in place.
@@ -198,7 +205,7 @@ pub fn put_frame(
     ensures memory { result ≢ Err Device }
 {
     if let Some(at) = front_place(&mut table.places, page) {
-        fill_frame(&mut table.frames, at, bytes, is_dirty);
+        fill_frame(&mut table.frames, &mut table.dirty, at, bytes, is_dirty);
         let _ = table.len();
         return Ok(());
     }
@@ -207,7 +214,7 @@ pub fn put_frame(
         let _ = table.len();
         return Err(StoreErr::Memory);
     };
-    fill_frame(&mut table.frames, at, bytes, is_dirty);
+    fill_frame(&mut table.frames, &mut table.dirty, at, bytes, is_dirty);
     let _ = table.len();
     Ok(())
 }
@@ -220,7 +227,7 @@ pub fn find_frame(table: &mut Table, page: u32, into: &mut [u8; 4096]) -> bool
     ensures valid { IsValid nat_eq table.new }
 {
     if let Some(at) = front_place(&mut table.places, page) {
-        *into = table.frames[at].bytes;
+        *into = table.frames[at];
         let _ = table.len();
         return true;
     }
@@ -234,7 +241,7 @@ pub fn lent_frame(table: &Table, page: u32) -> &[u8; 4096]
     ensures bytes { result.now ≡ bytes_or [] (frame_at table.now.entries page) }
 {
     let at = place_of(&table.places, page).unwrap();
-    &table.frames[at].bytes
+    &table.frames[at]
 }
 
 /// Entries that lend a page.
@@ -264,7 +271,7 @@ impl Lending for Table {
 
     fn edit_frame(&mut self, page: u32) -> &mut [u8; 4096] {
         let at = place_of(&self.places, page).unwrap();
-        &mut self.frames[at].bytes
+        &mut self.frames[at]
     }
 }
 
@@ -287,7 +294,7 @@ pub fn clean_frame(table: &mut Table, page: u32)
     ensures valid { IsValid nat_eq table.new }
 {
     if let Some(at) = place_of(&table.places, page) {
-        table.frames[at].is_dirty = false;
+        table.dirty[at] = false;
     }
     let _ = table.len();
 }
@@ -299,7 +306,7 @@ pub fn mark_frame(table: &mut Table, page: u32)
     ensures valid { IsValid nat_eq table.new }
 {
     if let Some(at) = place_of(&table.places, page) {
-        table.frames[at].is_dirty = true;
+        table.dirty[at] = true;
     }
     let _ = table.len();
 }
@@ -322,6 +329,7 @@ pub fn drop_all(table: &mut Table)
 {
     table.places.clear();
     table.frames.clear();
+    table.dirty.clear();
     table.free.clear();
     let _ = table.len();
 }

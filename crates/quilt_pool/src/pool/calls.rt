@@ -64,11 +64,11 @@ impl Pool {
         if self.table.len() < self.table.cap().get() {
             return Ok(());
         }
-        let Some((page, frame)) = self.table.peek_lru() else {
+        let Some((page, bytes, is_dirty)) = self.table.peek_lru() else {
             return Ok(());
         };
-        if frame.is_dirty {
-            journal.write_slot(disk, *page, &frame.bytes)?;
+        if is_dirty {
+            journal.write_slot(disk, page, bytes)?;
         }
         Ok(())
     }
@@ -321,13 +321,13 @@ impl Pool {
         ensures cap { capacity_of self.new ≡ capacity_of self.old }
         ensures others { (i : ℕ) → i ≢ page → is_dirty (entries_of self.new) i ≡ is_dirty (entries_of self.old) i }
     {
-        let Some(frame) = self.table.peek(page) else {
+        let Some((bytes, is_dirty)) = self.table.peek(page) else {
             return Ok(());
         };
-        if !frame.is_dirty {
+        if !is_dirty {
             return Ok(());
         }
-        journal.write_slot(disk, page, &frame.bytes)?;
+        journal.write_slot(disk, page, bytes)?;
         clean_frame(&mut self.table, page);
         Ok(())
     }

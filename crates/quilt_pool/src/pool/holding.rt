@@ -9,7 +9,7 @@ impl Held for Pool {
 
     fn held(&self, page: u32) -> Option<&[u8; 4096]> {
         match self.table.peek(page) {
-            Some(frame) => Some(&frame.bytes),
+            Some((bytes, _)) => Some(bytes),
             None => None,
         }
     }
