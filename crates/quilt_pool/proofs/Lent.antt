@@ -25,15 +25,6 @@ pub is_none : (o : Option Frame) → is_some o ≡ false → o ≡ None
 is_none None e = refl
 is_none (Some f) e = absurd (false≢true (sym e))
 
--- a page that is not there comes to no front
-promoted_from : (k : ℕ) (es : Entries) (o : Option (ℕ × Frame)) → lookup_entry (nat_eq k) es ≡ o → frame_at es k ≡ None
-    → option_map_or (λ e. e ∷ remove_entry (nat_eq k) es) o es ≡ es
-promoted_from k es None h none = refl
-promoted_from k es (Some e) h none = let both : None ≡ Some e.1 = sym none ∙ found_value k es e h in absurd cc
-
-pub promoted_none : (k : ℕ) (es : Entries) → frame_at es k ≡ None → promoted (nat_eq k) es ≡ es
-promoted_none k es none = promoted_from k es (lookup_entry (nat_eq k) es) refl none
-
 pub all_told : (P : Tale → Type 0) (o : Option Tale) → ((t : Tale) → P t) → IfSome o P
 all_told P None each = tt
 all_told P (Some t) each = each t

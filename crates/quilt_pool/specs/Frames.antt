@@ -16,15 +16,19 @@ frame_in bytes dirty p = record { bytes = slice_index_or bytes p []; is_dirty = 
 abbrev pub framed : (ℕ → Frame) → Places → Entries
 framed f = map (λ e. (e.0, f e.1))
 
+-- 1 where the two are one place, else 0
+abbrev pub hit : ℕ → ℕ → ℕ
+hit p q = cond (nat_eq p q) 1 0
+
 -- how often the place is in the list
 abbrev pub times : ℕ → List ℕ → ℕ
 times p [] = 0
-times p (q ∷ qs) = cond {A = ℕ} (nat_eq p q) 1 0 + times p qs
+times p (q ∷ qs) = hit p q + times p qs
 
 -- how many of the pages have their frame at the place
 abbrev pub holders : ℕ → Places → ℕ
 holders p [] = 0
-holders p (e ∷ es) = cond {A = ℕ} (nat_eq p e.1) 1 0 + holders p es
+holders p (e ∷ es) = hit p e.1 + holders p es
 
 -- Each of n frames is of one page, or free. No other place is in use.
 pub record IsShared (n : ℕ) (es : Places) (free : List ℕ) : Type 0 where

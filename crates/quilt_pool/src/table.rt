@@ -92,11 +92,11 @@ impl Table {
     }
 
     /// The page whose last use lies furthest back, its bytes, and whether they are dirty.
-    pub fn peek_lru(&self) -> Option<(u32, &[u8; 4096], bool)>
+    pub fn peek_lru(&self) -> Option<(u32, (&[u8; 4096], bool))>
         ensures { option_map as_entry result ≡ last_entry self.now.entries }
     {
         match self.places.peek_lru() {
-            Some((page, at)) => Some((*page, &self.frames[*at], self.dirty[*at])),
+            Some((page, at)) => Some((*page, (&self.frames[*at], self.dirty[*at]))),
             None => None,
         }
     }

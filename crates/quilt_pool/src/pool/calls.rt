@@ -64,7 +64,7 @@ impl Pool {
         if self.table.len() < self.table.cap().get() {
             return Ok(());
         }
-        let Some((page, bytes, is_dirty)) = self.table.peek_lru() else {
+        let Some((page, (bytes, is_dirty))) = self.table.peek_lru() else {
             return Ok(());
         };
         if is_dirty {

@@ -1,0 +1,20 @@
+use Rattle.std.proofs.Common.{◌≡◌, ◌≢◌, ℕ, ◌+◌, ◌-◌, ◌<◌, ◌≤◌, Bool, true, false, nat_eq, List, [], ◌∷◌, ◌++◌, Option, Some, None, IsSome, Ok, Err, length, take, set, get_or, refl, sym, ◌∙◌, ap, subst, arith, inl, inr}
+use Rattle.std.specs.Map.{lookup, remove_entry, set_value}
+use Rattle.std.specs.Option.{is_some, option_copied, option_map}
+use Rattle.lru.specs.LruCache.{LruCache, IsValid, lru_cache, promoted, put_entries}
+use Rattle.quilt_pool.specs.declared.frame.Frame.{Frame}
+use Rattle.quilt_pool.specs.Entries.{frame_at, bytes_or, has_frame, is_dirty, edited}
+use Rattle.quilt_pool.specs.Frames.{Places, frame_in, framed, holders, IsShared}
+use Rattle.quilt_pool.proofs.Sharing.{held_below, held_once}
+use Rattle.quilt_pool.proofs.Tables.{seen_at, seen_set, dirt_here, dirt_others}
+use Rattle.quilt_pool.proofs.table.clean_frame.Goals as goal
+
+pub index_mut-requires : goal.index_mut-requires
+index_mut-requires c =
+    let t = c.table.inside in
+    subst (λ n. c.in-Some.at < n) (sym (t.dirty.ok.0 ∙ c.table.invariant.1))
+    (held_below (length t.frames.items) t.places.entries t.free.items c.table.invariant.0 c.args.page c.in-Some.at
+    (sym c.place_of.ensures ∙ c.in-Some.is))
+
+pub returns-clause-entries : goal.returns-clause-entries
+returns-clause-entries c = ?
