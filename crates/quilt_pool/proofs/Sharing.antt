@@ -109,6 +109,9 @@ last_none (x ∷ xs) is =
 pub shared_if : (n at : ℕ) (es : Places) (free : List ℕ) → at < n → IsShared n es free → IsShared (cond (nat_eq at n) (n + 1) n) es free
 shared_if n at es free lt shared = rw (ne_eqb at n (λ same. absurd (omega (arith, lt, same)))) shared
 
+pub count_kept : (n at : ℕ) → at < n → cond {A = ℕ} (nat_eq at n) (n + 1) n ≡ n
+count_kept n at lt = rw (ne_eqb at n (λ same. absurd (omega (arith, lt, same)))) refl
+
 pub shared_if_end : (n : ℕ) (es : Places) (free : List ℕ) → IsShared (n + 1) es free → IsShared (cond (nat_eq n n) (n + 1) n) es free
 shared_if_end n es free shared = rw (eq-eqb n n refl) shared
 

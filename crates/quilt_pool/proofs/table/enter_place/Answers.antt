@@ -60,7 +60,7 @@ returns-in-Some-last-clause-shared c =
     let p = c.args.places.now in
     let free = c.args.free.now in
     let at = c.in-Some-last.last.now in
-    let room = omega (arith, c.if-len-get.false, c.len.ensures.len, c.get.ensures.value, c.cap.ensures, c.len.ensures.valid.1) in
+    let room : length p.entries < p.cap = omega (arith, c.if-len-get.false, c.len.ensures.len, c.get.ensures.value, c.cap.ensures, c.len.ensures.valid.1) in
     let last = subst (λ (xs : List ℕ). slice_get xs (length xs - 1) ≡ Some at) c.deref.ensures.value (sym c.in-Some-last.ensures.value) in
     let below = free_below c.args.count p.entries free.items c.requires.shared p.cap c.requires.fits c.args.page at room last in
     rw (c.in-Ok-put.ensures.entries, put_lost p c.args.page at c.requires.lost, c.pop.ensures.rest, free.ok.0)
@@ -72,7 +72,7 @@ returns-in-Some-last-clause-apart c =
     let p = c.args.places.now in
     let free = c.args.free.now in
     let at = c.in-Some-last.last.now in
-    let room = omega (arith, c.if-len-get.false, c.len.ensures.len, c.get.ensures.value, c.cap.ensures, c.len.ensures.valid.1) in
+    let room : length p.entries < p.cap = omega (arith, c.if-len-get.false, c.len.ensures.len, c.get.ensures.value, c.cap.ensures, c.len.ensures.valid.1) in
     let last = subst (λ (xs : List ℕ). slice_get xs (length xs - 1) ≡ Some at) c.deref.ensures.value (sym c.in-Some-last.ensures.value) in
     free_apart c.args.count p.entries free.items c.requires.shared p.cap c.requires.fits c.args.page at room last
 
@@ -81,7 +81,7 @@ returns-in-Some-last-clause-within c =
     let p = c.args.places.now in
     let free = c.args.free.now in
     let at = c.in-Some-last.last.now in
-    let room = omega (arith, c.if-len-get.false, c.len.ensures.len, c.get.ensures.value, c.cap.ensures, c.len.ensures.valid.1) in
+    let room : length p.entries < p.cap = omega (arith, c.if-len-get.false, c.len.ensures.len, c.get.ensures.value, c.cap.ensures, c.len.ensures.valid.1) in
     let last = subst (λ (xs : List ℕ). slice_get xs (length xs - 1) ≡ Some at) c.deref.ensures.value (sym c.in-Some-last.ensures.value) in
     let below = free_below c.args.count p.entries free.items c.requires.shared p.cap c.requires.fits c.args.page at room last in
     omega (arith, below)
@@ -91,13 +91,23 @@ returns-in-Some-last-clause-room c = λ same.
     let p = c.args.places.now in
     let free = c.args.free.now in
     let at = c.in-Some-last.last.now in
-    let room = omega (arith, c.if-len-get.false, c.len.ensures.len, c.get.ensures.value, c.cap.ensures, c.len.ensures.valid.1) in
+    let room : length p.entries < p.cap = omega (arith, c.if-len-get.false, c.len.ensures.len, c.get.ensures.value, c.cap.ensures, c.len.ensures.valid.1) in
     let last = subst (λ (xs : List ℕ). slice_get xs (length xs - 1) ≡ Some at) c.deref.ensures.value (sym c.in-Some-last.ensures.value) in
     let below = free_below c.args.count p.entries free.items c.requires.shared p.cap c.requires.fits c.args.page at room last in
     absurd (omega (arith, below, same))
 
 pub returns-clause-entries : goal.returns-clause-entries
-returns-clause-entries c = ?
+returns-clause-entries c =
+    let p = c.args.places.now in
+    c.in-Ok-put-2.ensures.entries ∙ ap (λ (l : Places). lru_cache l p.cap) (put_lost p c.args.page c.args.count c.requires.lost)
 
 pub returns-clause-shared : goal.returns-clause-shared
-returns-clause-shared c = {! c.last.ensures.value !}
+returns-clause-shared c =
+    let p = c.args.places.now in
+    let free = c.args.free.now in
+    let room : length p.entries < p.cap = omega (arith, c.if-len-get.false, c.len.ensures.len, c.get.ensures.value, c.cap.ensures, c.len.ensures.valid.1) in
+    let none = last_none free.items
+    (subst (λ (xs : List ℕ). slice_get xs (length xs - 1) ≡ None) c.deref.ensures.value (sym c.in_default-last.ensures.value)) in
+    rw (c.in-Ok-put-2.ensures.entries, put_lost p c.args.page c.args.count c.requires.lost)
+    (shared_if_end c.args.count _ _
+    (shared_end c.args.count p.entries free.items c.requires.shared p.cap c.requires.fits c.args.page c.args.count room none))
