@@ -12,6 +12,9 @@ use Rattle.quilt_pool.proofs.Framing.{some_place, no_place, framed_at, frame_the
 
 -- ---- one frame of the list
 
+abbrev pub framed_as : List ℕ → Bool → Frame
+framed_as b d = record { bytes = b; is_dirty = d }
+
 pub frame_of : (bytes : List (List ℕ)) (dirty : List Bool) (at : ℕ) (b : List ℕ) (d : Bool) → at < length bytes → length dirty ≡ length bytes
     → b ≡ get_or bytes at b → d ≡ get_or dirty at d → record { bytes = b; is_dirty = d } ≡ frame_in bytes dirty at
 frame_of bytes dirty at b d within same here dirt =
