@@ -146,7 +146,7 @@ module _ (f g : ℕ → Frame) (at : ℕ) (others : (p : ℕ) → p ≢ at → g
     pub framed_entered : (k cap : ℕ) (es : Places) → frame_at (framed f es) k ≡ None → holders at (take (cap - 1) es) ≡ 0
         → lru_cache (framed g ((k, at) ∷ take (cap - 1) es)) cap ≡ lru_cache (put_entries nat_eq (lru_cache (framed f es) cap) k v) cap
     framed_entered k cap es lost none = ap (λ (l : Entries). lru_cache l cap) (
-      ap (λ (l : Entries). (k, g at) ∷ l) (framed_apart (take (cap - 1) es) none ∙ sym (take-map (λ (e : ℕ × ℕ). (e.0, f e.1)) (cap - 1) es))
-      ∙ ap (λ (x : Frame). (k, x) ∷ take (cap - 1) (framed f es)) here
-      ∙ sym (put_lost (lru_cache (framed f es) cap) k v lost)
-    )
+        ap (λ (l : Entries). (k, g at) ∷ l) (framed_apart (take (cap - 1) es) none ∙ sym (take-map (λ (e : ℕ × ℕ). (e.0, f e.1)) (cap - 1) es))
+        ∙ ap (λ (x : Frame). (k, x) ∷ take (cap - 1) (framed f es)) here
+        ∙ sym (put_lost (lru_cache (framed f es) cap) k v lost)
+        )

@@ -228,9 +228,9 @@ module _ (n : ℕ) (es : Places) (free : List ℕ) (shared : IsShared n es free)
                 omega (arith, one, hit_other p n ne)
           ];
           none = λ p le.
-            let none = shared.none p (omega (arith, le)) in
-            let ne : p ≢ n = λ same. absurd (omega (arith, le, same)) in
-            omega (arith, none, hit_other p n ne);
+              let none = shared.none p (omega (arith, le)) in
+              let ne : p ≢ n = λ same. absurd (omega (arith, le, same)) in
+              omega (arith, none, hit_other p n ne);
           all = omega (arith, shared.all);
         })
 

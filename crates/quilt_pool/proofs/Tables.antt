@@ -1,5 +1,6 @@
 -- A table as it is seen, after each step of its fields.
 use Rattle.std.proofs.Common.{◌≡◌, ◌≢◌, ℕ, ◌-◌, ◌<◌, ◌≤◌, Bool, false, nat_eq, List, [], ◌∷◌, ◌++◌, cond, Result, Ok, Err, IsOk, Option, Some, None, IsSome, length, take, set, get_or, refl, sym, ◌∙◌, ap, subst, option_map, get_or-set_same, get_or-set_other}
+use Rattle.std.specs.List.{IsDistinct}
 use Rattle.std.specs.Map.{lookup, remove_entry, set_value}
 use Rattle.std.specs.Option.{is_some}
 use Rattle.std.specs.Result.{is_ok}
@@ -20,7 +21,7 @@ pub frame_of : (bytes : List (List ℕ)) (dirty : List Bool) (at : ℕ) (b : Lis
 frame_of bytes dirty at b d within same here dirt =
     ap (λ x. record { bytes = x; is_dirty = d }) (here ∙ get_or_default bytes at b [] within)
     ∙ ap (λ x. record { bytes = get_or bytes at []; is_dirty = x })
-      (dirt ∙ get_or_default dirty at d false (subst (λ n. at < n) (sym same) within))
+    (dirt ∙ get_or_default dirty at d false (subst (λ n. at < n) (sym same) within))
 
 pub bytes_of : (bytes : List (List ℕ)) (at : ℕ) (b : List ℕ) → at < length bytes → b ≡ get_or bytes at b → b ≡ get_or bytes at []
 bytes_of bytes at b within here = here ∙ get_or_default bytes at b [] within
@@ -43,6 +44,10 @@ pushed (Ok u) old new x ok is = is
 pushed (Err e) old new x ok is = absurd cc
 
 -- ---- the table
+
+pub none_distinct : IsDistinct nat_eq []
+unfolding IsDistinct
+none_distinct = tt
 
 module _ (es : Places) (f : ℕ → Frame) (cap : ℕ) (v : LruCache ℕ Frame) (view : lru_cache (framed f es) cap ≡ v) where
   pub there_place : (k : ℕ) → IsSome (frame_at v.entries k) → IsSome (lookup (nat_eq k) es)

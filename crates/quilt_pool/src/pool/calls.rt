@@ -17,8 +17,8 @@ ghost use Rattle.quilt_pool.specs.Keeping.{IsWork, Keeps, Changes, IsSaved};
 
 use crate::pool::Pool;
 use crate::table::{
-    Lending, Table, clean_frame, drop_all, drop_frame, find_frame, lent_frame, mark_frame, put_frame,
-    touch_frame,
+    Lending, Table, clean_frame, drop_all, drop_frame, find_frame, lent_frame, mark_frame,
+    put_frame, touch_frame,
 };
 use quilt_journal::{Journal, list_page, next_listed, unlist_page};
 use quilt_store::StoreErr;

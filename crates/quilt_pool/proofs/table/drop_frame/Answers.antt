@@ -17,9 +17,14 @@ invariant_of-table c =
     let is = sym c.in-Some.ensures.value in
     let some = some_free (length t.frames.items) t.places.entries t.free.items i.0 c.args.page c.in-Some.at is in
     let ok = c.push.ensures.succeeds (omega (arith, t.free.ok.0, some, i.2, i.5)) in
-    rw (c.pop.ensures.entries, pushed c.push.result t.free.items c.push.new.self.items c.in-Some.at ok c.push.ensures.items)
-    (shared_removed (length t.frames.items) t.places.entries t.free.items i.0 c.args.page c.in-Some.at is, i.1, i.2, i.3, i.4,
-    omega (arith, i.5, c.push.ensures.capacity))
+    rw (c.pop.ensures.entries, pushed c.push.result t.free.items c.push.new.self.items c.in-Some.at ok c.push.ensures.items) (
+      shared_removed (length t.frames.items) t.places.entries t.free.items i.0 c.args.page c.in-Some.at is,
+      i.1,
+      i.2,
+      i.3,
+      i.4,
+      omega (arith, i.5, c.push.ensures.capacity),
+    )
 
 pub invariant_of-table-in_default : goal.invariant_of-table-in_default
 invariant_of-table-in_default c =

@@ -20,16 +20,26 @@ index-requires c =
 pub invariant_of-table : goal.invariant_of-table
 invariant_of-table c =
     let t = c.table.inside in
-    rw c.front_place.ensures.entries
-    (shared_promoted (length t.frames.items) t.places.entries t.free.items c.table.invariant.0 c.args.page, c.table.invariant.1, c.table.invariant.2,
-    c.table.invariant.3, c.table.invariant.4, c.table.invariant.5)
+    rw c.front_place.ensures.entries (
+      shared_promoted (length t.frames.items) t.places.entries t.free.items c.table.invariant.0 c.args.page,
+      c.table.invariant.1,
+      c.table.invariant.2,
+      c.table.invariant.3,
+      c.table.invariant.4,
+      c.table.invariant.5,
+    )
 
 pub invariant_of-table-2 : goal.invariant_of-table-2
 invariant_of-table-2 c =
     let t = c.table.inside in
-    rw c.front_place.ensures.entries
-    (shared_promoted (length t.frames.items) t.places.entries t.free.items c.table.invariant.0 c.args.page, c.table.invariant.1, c.table.invariant.2,
-    c.table.invariant.3, c.table.invariant.4, c.table.invariant.5)
+    rw c.front_place.ensures.entries (
+      shared_promoted (length t.frames.items) t.places.entries t.free.items c.table.invariant.0 c.args.page,
+      c.table.invariant.1,
+      c.table.invariant.2,
+      c.table.invariant.3,
+      c.table.invariant.4,
+      c.table.invariant.5,
+    )
 
 pub returns-in-Some-clause-found : goal.returns-in-Some-clause-found
 returns-in-Some-clause-found c = λ _.
@@ -50,8 +60,7 @@ pub returns-clause-lost : goal.returns-clause-lost
 returns-clause-lost c = λ _.
     let t = c.table.inside in
     let f = frame_in t.frames.items t.dirty.items in
-    let none = sym c.front_place.ensures.value ∙ c.in_default.is in
-    (
+    let none = sym c.front_place.ensures.value ∙ c.in_default.is in (
       seen_at t.places.entries f t.places.cap _ c.table.view_is c.args.page None none,
       rw (c.front_place.ensures.entries, promoted_none c.args.page t.places.entries none) c.table.view_is,
     )

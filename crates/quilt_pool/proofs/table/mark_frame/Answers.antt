@@ -32,9 +32,9 @@ returns-clause-entries c = λ g there.
           ap (bytes_or []) (sym (seen_at t.places.entries f t.places.cap _ c.table.view_is c.args.page (Some at) is) ∙ there) in
           w.table-is
           ∙ seen_set t.places.entries f t.places.cap _ c.table.view_is (frame_in t.frames.items (set t.dirty.items at true)) at
-            (dirt_others t.frames.items t.dirty.items at true) (record { bytes = g.bytes; is_dirty = true })
-            (dirt_here t.frames.items t.dirty.items at true within ∙ ap (λ (b : List ℕ). record { bytes = b; is_dirty = true }) bytes) c.args.page is
-            (held_once n t.places.entries t.free.items c.table.invariant.0 at)
+          (dirt_others t.frames.items t.dirty.items at true) (record { bytes = g.bytes; is_dirty = true })
+          (dirt_here t.frames.items t.dirty.items at true within ∙ ap (λ (b : List ℕ). record { bytes = b; is_dirty = true }) bytes) c.args.page is
+          (held_once n t.places.entries t.free.items c.table.invariant.0 at)
       | in_default w ↦
           let none = sym c.place_of.ensures ∙ w.in_default.is in
           let both : None ≡ Some g = sym (seen_at t.places.entries f t.places.cap _ c.table.view_is c.args.page None none) ∙ there in

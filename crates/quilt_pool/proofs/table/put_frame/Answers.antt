@@ -35,7 +35,7 @@ invariant_of-table c =
     let kept = c.fill_frame.ensures.len ∙ count_kept n c.in-Some.at below in
     rw c.front_place.ensures.entries (
       subst (λ m. IsShared m (promoted (nat_eq c.args.page) t.places.entries) t.free.items) (sym kept)
-      (shared_promoted n t.places.entries t.free.items i.0 c.args.page),
+          (shared_promoted n t.places.entries t.free.items i.0 c.args.page),
       c.fill_frame.ensures.lists,
       omega (arith, kept, i.2),
       omega (arith, i.3, c.fill_frame.ensures.capacity.0),
@@ -52,8 +52,8 @@ returns-in-Some-clause-entries c =
     let g = frame_in c.fill_frame.new.frames.items c.fill_frame.new.dirty.items in
     ap (λ (p : LruCache ℕ ℕ). lru_cache (framed g p.entries) p.cap) c.front_place.ensures.entries
     ∙ seen_written t.places.entries (frame_in t.frames.items t.dirty.items) t.places.cap _ c.table.view_is g at c.fill_frame.ensures.others
-      (record { bytes = c.args.bytes.now; is_dirty = c.args.is_dirty }) c.fill_frame.ensures.here c.args.page
-      (sym c.front_place.ensures.value ∙ c.in-Some.is) (held_once n t.places.entries t.free.items i.0 at)
+    (record { bytes = c.args.bytes.now; is_dirty = c.args.is_dirty }) c.fill_frame.ensures.here c.args.page
+    (sym c.front_place.ensures.value ∙ c.in-Some.is) (held_once n t.places.entries t.free.items i.0 at)
 
 pub enter_place-requires-clause-shared : goal.enter_place-requires-clause-shared
 enter_place-requires-clause-shared c =
@@ -117,4 +117,4 @@ returns-clause-entries c =
     ap (λ (p : LruCache ℕ ℕ). lru_cache (framed g p.entries) p.cap)
     (c.in-Ok.ensures.entries ∙ ap (λ (p : LruCache ℕ ℕ). lru_cache ((c.args.page, at) ∷ take (p.cap - 1) p.entries) p.cap) same)
     ∙ seen_entered t.places.entries (frame_in t.frames.items t.dirty.items) t.places.cap _ c.table.view_is g at c.fill_frame-2.ensures.others
-      (record { bytes = c.args.bytes.now; is_dirty = c.args.is_dirty }) c.fill_frame-2.ensures.here c.args.page none apart
+    (record { bytes = c.args.bytes.now; is_dirty = c.args.is_dirty }) c.fill_frame-2.ensures.here c.args.page none apart

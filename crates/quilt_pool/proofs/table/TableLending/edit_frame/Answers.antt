@@ -31,11 +31,13 @@ returns c =
     let is = sym c.place_of.ensures ∙ c.unwrap-at.ensures in
     let within = held_below (length t.frames.items) t.places.entries t.free.items c.self.invariant.0 c.args.page at is in
     let once = held_once (length t.frames.items) t.places.entries t.free.items c.self.invariant.0 at in
-    let found = seen_at t.places.entries f t.places.cap _ c.self.view_is c.args.page (Some at) is in
-    (
-      (refl, λ w.
-        seen_set t.places.entries f t.places.cap _ c.self.view_is (frame_in (set t.frames.items at w) t.dirty.items) at
-        (bytes_others t.frames.items t.dirty.items at w) (record { bytes = w; is_dirty = is_dirty c.args.self.now.entries c.args.page })
-        (bytes_here t.frames.items t.dirty.items at w within ∙ ap (λ o. record { bytes = w; is_dirty = has_dirt o }) (sym found)) c.args.page is once),
+    let found = seen_at t.places.entries f t.places.cap _ c.self.view_is c.args.page (Some at) is in (
+      (
+        refl,
+        λ w.
+            seen_set t.places.entries f t.places.cap _ c.self.view_is (frame_in (set t.frames.items at w) t.dirty.items) at
+            (bytes_others t.frames.items t.dirty.items at w) (record { bytes = w; is_dirty = is_dirty c.args.self.now.entries c.args.page })
+            (bytes_here t.frames.items t.dirty.items at w within ∙ ap (λ o. record { bytes = w; is_dirty = has_dirt o }) (sym found)) c.args.page is once,
+      ),
       record { writes_back = tt; bytes = bytes_of t.frames.items at c.index_mut.result.now within c.index_mut.ensures.value ∙ sym (ap (bytes_or []) found) },
     )
