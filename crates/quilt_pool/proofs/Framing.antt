@@ -1,5 +1,5 @@
 -- Entries whose frames lie at places.
-use Rattle.std.proofs.Common.{◌≡◌, ◌≢◌, inl, inr, ℕ, ◌+◌, ◌-◌, ◌≤◌, false, nat_eq, List, [], ◌∷◌, Option, Some, None, IsSome, length, map, take, slice_get, refl, sym, ◌∙◌, ap, subst, arith, option_map}
+use Rattle.std.proofs.Common.{◌≡◌, ◌≢◌, inl, inr, ℕ, ◌-◌, ◌≤◌, false, nat_eq, [], ◌∷◌, Option, Some, None, IsSome, length, take, slice_get, refl, sym, ◌∙◌, ap, subst, arith, option_map}
 use Rattle.std.specs.List.{IsDistinct}
 use Rattle.std.specs.Map.{keys_of, lookup, lookup_entry, remove_entry, set_value}
 use Rattle.std.specs.Option.{option_map_or, is_some}
@@ -9,7 +9,7 @@ use Rattle.std.proofs.lemmas.Option.{slice_get-map}
 use Rattle.lru.specs.LruCache.{LruCache, IsValid, lru_cache, promoted, put_entries, last_entry}
 use Rattle.quilt_pool.specs.declared.frame.Frame.{Frame}
 use Rattle.quilt_pool.specs.Entries.{Entries, frame_at}
-use Rattle.quilt_pool.specs.Frames.{Places, framed, hit, holders}
+use Rattle.quilt_pool.specs.Frames.{Places, framed, holders}
 use Rattle.quilt_pool.proofs.Looks.{promoted_at, put_lost, written_first}
 use Rattle.quilt_pool.proofs.Sharing.{hit_here, hit_other, held_place, holders_promoted}
 

@@ -1,11 +1,11 @@
 -- What a page has that was brought in, and what the entries are once its bytes are changed where they lie.
 use Rattle.std.proofs.Common.{◌≡◌, ◌≢◌, ◌||◌, inl, inr, ℕ, ◌<◌, ◌≤◌, Bool, true, false, cond, nat_eq, List, [], ◌∷◌, Option, Some, None, IsSome, length, get_or, refl, sym, ◌∙◌, ap, subst, unwrap_or}
-use Rattle.std.specs.Option.{IfSome, is_some, option_map_or}
+use Rattle.std.specs.Option.{IfSome, is_some}
 use Rattle.std.specs.Cmp.{nat_eq_equiv}
-use Rattle.std.specs.Map.{keys_of, lookup_entry, remove_entry, set_value}
+use Rattle.std.specs.Map.{keys_of, set_value}
 use Rattle.std.proofs.lemmas.Bool.{cases_Bool, cases_eq, false≢true, eq-eqb, ne_eqb}
 use Rattle.std.proofs.lemmas.Map.{lookup-set_value, keys-set_value}
-use Rattle.lru.specs.LruCache.{LruCache, lru_cache, put_entries, promoted}
+use Rattle.lru.specs.LruCache.{LruCache, lru_cache, put_entries}
 use Rattle.quilt_world.specs.Disk.{Pages}
 use Rattle.quilt_world.specs.Tale.{Tale, Goes}
 use Rattle.quilt_world.proofs.StopLaws.{since_here}
@@ -13,12 +13,12 @@ use Rattle.quilt_journal.specs.Changed.{is_changed}
 use Rattle.quilt_journal.specs.Kept.{HasHome, published, work}
 use Rattle.quilt_journal.proofs.Leaving.{idle_leaves}
 use Rattle.quilt_pool.specs.declared.frame.Frame.{Frame}
-use Rattle.quilt_pool.specs.Entries.{Entries, frame_at, bytes_or, has_dirt, page_over, is_marked, IsClean, AreBelow, dirty, written, edited, is_dirty}
+use Rattle.quilt_pool.specs.Entries.{Entries, frame_at, bytes_or, has_dirt, page_over, is_marked, IsClean, AreBelow, dirty, written, edited}
 use Rattle.quilt_pool.specs.Keeping.{IsWork, Keeps, Changes}
 use Rattle.quilt_pool.proofs.Dirt.{some_frame}
 use Rattle.quilt_pool.proofs.Draining.{eqb-same}
 use Rattle.quilt_pool.proofs.Entering.{changes_then}
-use Rattle.quilt_pool.proofs.Looks.{put_at, found_value}
+use Rattle.quilt_pool.proofs.Looks.{put_at}
 use Rattle.quilt_pool.proofs.Saving.{tries_none}
 
 pub is_none : (o : Option Frame) → is_some o ≡ false → o ≡ None

@@ -1,15 +1,14 @@
 -- A table as it is seen, after each step of its fields.
-use Rattle.std.proofs.Common.{◌≡◌, ◌≢◌, ℕ, ◌-◌, ◌<◌, ◌≤◌, Bool, false, nat_eq, List, [], ◌∷◌, ◌++◌, cond, Result, Ok, Err, IsOk, Option, Some, None, IsSome, length, take, set, get_or, refl, sym, ◌∙◌, ap, subst, option_map, get_or-set_same, get_or-set_other}
+use Rattle.std.proofs.Common.{◌≡◌, ◌≢◌, ℕ, ◌-◌, ◌<◌, ◌≤◌, Bool, false, nat_eq, List, [], ◌∷◌, ◌++◌, cond, Result, Ok, Err, IsOk, Option, Some, None, IsSome, length, take, set, get_or, sym, ◌∙◌, ap, subst, option_map, get_or-set_same, get_or-set_other}
 use Rattle.std.specs.List.{IsDistinct}
 use Rattle.std.specs.Map.{lookup, remove_entry, set_value}
-use Rattle.std.specs.Option.{is_some}
 use Rattle.std.specs.Result.{is_ok}
 use Rattle.std.proofs.lemmas.List.{get_or_default}
 use Rattle.lru.specs.LruCache.{LruCache, lru_cache, promoted, put_entries, last_entry}
 use Rattle.quilt_pool.specs.declared.frame.Frame.{Frame}
-use Rattle.quilt_pool.specs.Entries.{Entries, frame_at, bytes_or, is_dirty, edited, has_dirt}
+use Rattle.quilt_pool.specs.Entries.{Entries, frame_at}
 use Rattle.quilt_pool.specs.Frames.{Places, frame_in, framed, holders}
-use Rattle.quilt_pool.proofs.Framing.{some_place, no_place, framed_at, frame_there, framed_promoted, framed_removed, framed_last, framed_set, framed_written, framed_entered}
+use Rattle.quilt_pool.proofs.Framing.{some_place, no_place, framed_at, framed_promoted, framed_removed, framed_last, framed_set, framed_written, framed_entered}
 
 -- ---- one frame of the list
 

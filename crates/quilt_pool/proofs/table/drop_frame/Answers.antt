@@ -1,10 +1,6 @@
-use Rattle.std.proofs.Common.{◌≡◌, ◌≢◌, ℕ, ◌+◌, ◌-◌, ◌<◌, ◌≤◌, Bool, true, false, nat_eq, List, [], ◌∷◌, ◌++◌, Option, Some, None, IsSome, Ok, Err, length, take, set, get_or, refl, sym, ◌∙◌, ap, subst, arith, inl, inr}
-use Rattle.std.specs.Map.{lookup, remove_entry, set_value}
-use Rattle.std.specs.Option.{is_some, option_copied, option_map}
-use Rattle.lru.specs.LruCache.{LruCache, IsValid, lru_cache, promoted, put_entries}
-use Rattle.quilt_pool.specs.declared.frame.Frame.{Frame}
-use Rattle.quilt_pool.specs.Entries.{frame_at, bytes_or, has_frame, is_dirty, edited}
-use Rattle.quilt_pool.specs.Frames.{Places, frame_in, framed, holders, IsShared}
+use Rattle.std.proofs.Common.{ℕ, length, sym, ◌∙◌, ap, arith}
+use Rattle.lru.specs.LruCache.{LruCache, lru_cache}
+use Rattle.quilt_pool.specs.Frames.{frame_in, framed}
 use Rattle.quilt_pool.proofs.Sharing.{shared_removed, removed_none, some_free}
 use Rattle.quilt_pool.proofs.Tables.{seen_removed, pushed}
 use Rattle.quilt_pool.proofs.table.drop_frame.Goals.{in-Some, in_default}

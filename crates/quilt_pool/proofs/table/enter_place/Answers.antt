@@ -1,14 +1,9 @@
-use Rattle.std.proofs.Common.{◌≡◌, ◌≢◌, ℕ, ◌+◌, ◌-◌, ◌<◌, ◌≤◌, Bool, true, false, nat_eq, List, [], ◌∷◌, ◌++◌, Option, Some, None, IsSome, Ok, Err, length, take, set, get_or, refl, sym, ◌∙◌, ap, subst, arith, inl, inr}
-use Rattle.std.specs.Map.{lookup, remove_entry, set_value}
-use Rattle.std.specs.Option.{is_some, option_copied, option_map}
-use Rattle.lru.specs.LruCache.{LruCache, IsValid, lru_cache, promoted, put_entries}
-use Rattle.quilt_pool.specs.declared.frame.Frame.{Frame}
-use Rattle.quilt_pool.specs.Entries.{frame_at, bytes_or, has_frame, is_dirty, edited}
-use Rattle.quilt_pool.specs.Frames.{Places, frame_in, framed, holders, IsShared}
+use Rattle.std.proofs.Common.{◌≡◌, ℕ, ◌-◌, ◌<◌, List, Some, None, length, sym, ◌∙◌, ap, subst, arith}
+use Rattle.lru.specs.LruCache.{lru_cache}
+use Rattle.quilt_pool.specs.Frames.{Places}
 use Rattle.std.specs.List.{slice_get}
-use Rattle.lru.specs.LruCache.{last_entry}
 use Rattle.quilt_pool.proofs.Looks.{put_lost}
-use Rattle.quilt_pool.proofs.Sharing.{last_apart, last_below, shared_last, free_below, free_apart, shared_free, end_apart, shared_end, end_room, last_none, shared_if, shared_if_end}
+use Rattle.quilt_pool.proofs.Sharing.{last_apart, last_below, shared_last, free_below, free_apart, shared_free, shared_end, last_none, shared_if, shared_if_end}
 use Rattle.quilt_pool.proofs.table.enter_place.Goals as goal
 
 pub returns-then-len-get-clause-entries : goal.returns-then-len-get-clause-entries

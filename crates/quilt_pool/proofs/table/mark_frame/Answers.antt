@@ -1,10 +1,6 @@
-use Rattle.std.proofs.Common.{◌≡◌, ◌≢◌, ℕ, ◌+◌, ◌-◌, ◌<◌, ◌≤◌, Bool, true, false, nat_eq, List, [], ◌∷◌, ◌++◌, Option, Some, None, IsSome, Ok, Err, length, take, set, get_or, refl, sym, ◌∙◌, ap, subst, arith, inl, inr}
-use Rattle.std.specs.Map.{lookup, remove_entry, set_value}
-use Rattle.std.specs.Option.{is_some, option_copied, option_map}
-use Rattle.lru.specs.LruCache.{LruCache, IsValid, lru_cache, promoted, put_entries}
-use Rattle.quilt_pool.specs.declared.frame.Frame.{Frame}
-use Rattle.quilt_pool.specs.Entries.{frame_at, bytes_or, has_frame, is_dirty, edited}
-use Rattle.quilt_pool.specs.Frames.{Places, frame_in, framed, holders, IsShared}
+use Rattle.std.proofs.Common.{◌≡◌, ℕ, ◌<◌, true, List, [], Some, None, length, set, get_or, sym, ◌∙◌, ap, subst}
+use Rattle.quilt_pool.specs.Entries.{bytes_or}
+use Rattle.quilt_pool.specs.Frames.{frame_in}
 use Rattle.quilt_pool.proofs.Sharing.{held_below, held_once}
 use Rattle.quilt_pool.proofs.Tables.{seen_at, seen_set, dirt_here, dirt_others}
 use Rattle.quilt_pool.proofs.table.mark_frame.Goals.{in-Some, in_default}

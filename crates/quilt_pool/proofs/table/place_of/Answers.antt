@@ -1,4 +1,4 @@
-use Rattle.std.proofs.Common.{◌≡◌, nat_eq, Some, sym, ◌∙◌, subst}
+use Rattle.std.proofs.Common.{◌≡◌, nat_eq, Some, sym, subst}
 use Rattle.std.specs.Map.{lookup}
 use Rattle.quilt_pool.proofs.First.{first_found}
 use Rattle.quilt_pool.proofs.table.place_of.Goals as goal

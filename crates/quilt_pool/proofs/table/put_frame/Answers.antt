@@ -1,9 +1,7 @@
-use Rattle.std.proofs.Common.{◌≡◌, ◌≢◌, ℕ, ◌+◌, ◌-◌, ◌<◌, ◌≤◌, Bool, true, false, nat_eq, List, [], ◌∷◌, ◌++◌, Option, Some, None, IsSome, Ok, Err, length, take, set, get_or, refl, sym, ◌∙◌, ap, subst, arith, inl, inr}
-use Rattle.std.specs.Map.{lookup, remove_entry, set_value}
-use Rattle.std.specs.Option.{is_some, option_copied, option_map}
-use Rattle.lru.specs.LruCache.{LruCache, IsValid, lru_cache, promoted, put_entries}
-use Rattle.quilt_pool.specs.declared.frame.Frame.{Frame}
-use Rattle.quilt_pool.specs.Entries.{frame_at, bytes_or, has_frame, is_dirty, edited}
+use Rattle.std.proofs.Common.{◌≡◌, ℕ, ◌-◌, nat_eq, ◌∷◌, None, length, take, sym, ◌∙◌, ap, subst, arith}
+use Rattle.std.specs.Map.{lookup}
+use Rattle.std.specs.Option.{is_some}
+use Rattle.lru.specs.LruCache.{LruCache, lru_cache, promoted}
 use Rattle.quilt_pool.specs.Frames.{Places, frame_in, framed, holders, IsShared}
 use Rattle.quilt_pool.proofs.Looks.{promoted_none}
 use Rattle.quilt_pool.proofs.Sharing.{held_below, held_once, shared_promoted, count_kept}

@@ -1,10 +1,7 @@
-use Rattle.std.proofs.Common.{◌≡◌, ◌≢◌, ℕ, ◌+◌, ◌-◌, ◌<◌, ◌≤◌, Bool, true, false, nat_eq, List, [], ◌∷◌, Option, Some, None, IsSome, Ok, Err, length, take, set, get_or, refl, sym, ◌∙◌, ap, subst, arith}
-use Rattle.std.specs.Map.{lookup, remove_entry, set_value}
-use Rattle.std.specs.Option.{is_some, option_copied, option_map}
-use Rattle.lru.specs.LruCache.{LruCache, IsValid, lru_cache, promoted, put_entries}
+use Rattle.std.proofs.Common.{ℕ, nat_eq, subst}
+use Rattle.lru.specs.LruCache.{LruCache, IsValid}
 use Rattle.quilt_pool.specs.declared.frame.Frame.{Frame}
-use Rattle.quilt_pool.specs.Entries.{frame_at, bytes_or, has_frame, is_dirty, edited}
-use Rattle.quilt_pool.specs.Frames.{Places, frame_in, framed, holders, IsShared}
+use Rattle.quilt_pool.specs.Frames.{frame_in}
 use Rattle.quilt_pool.proofs.Framing.{framed_valid}
 use Rattle.quilt_pool.proofs.table.Table.len.Goals as goal
 

@@ -1,10 +1,7 @@
-use Rattle.std.proofs.Common.{◌≡◌, ◌≢◌, ℕ, ◌+◌, ◌-◌, ◌<◌, ◌≤◌, Bool, true, false, nat_eq, List, [], ◌∷◌, Option, Some, None, IsSome, Ok, Err, length, take, set, get_or, refl, sym, ◌∙◌, ap, subst, arith}
-use Rattle.std.specs.Map.{lookup, remove_entry, set_value}
-use Rattle.std.specs.Option.{is_some, option_copied, option_map}
-use Rattle.lru.specs.LruCache.{LruCache, IsValid, lru_cache, promoted, put_entries}
-use Rattle.quilt_pool.specs.declared.frame.Frame.{Frame}
-use Rattle.quilt_pool.specs.Entries.{frame_at, bytes_or, has_frame, is_dirty, edited}
-use Rattle.quilt_pool.specs.Frames.{Places, frame_in, framed, holders, IsShared}
+use Rattle.std.proofs.Common.{◌<◌, [], Some, length, set, refl, sym, ◌∙◌, ap, subst}
+use Rattle.std.specs.Option.{is_some}
+use Rattle.quilt_pool.specs.Entries.{bytes_or, is_dirty}
+use Rattle.quilt_pool.specs.Frames.{frame_in}
 use Rattle.quilt_pool.proofs.Sharing.{held_below, held_once}
 use Rattle.quilt_pool.proofs.Tables.{there_place, seen_at, seen_set, bytes_of, bytes_here, bytes_others}
 use Rattle.quilt_pool.specs.Entries.{has_dirt}
