@@ -1,11 +1,11 @@
 -- What a page has that was brought in, and what the entries are once its bytes are changed where they lie.
 use Rattle.std.proofs.Common.{◌≡◌, ◌≢◌, ◌||◌, inl, inr, ℕ, ◌<◌, ◌≤◌, Bool, true, false, cond, nat_eq, List, [], ◌∷◌, Option, Some, None, IsSome, length, get_or, refl, sym, ◌∙◌, ap, subst, unwrap_or}
-use Rattle.std.specs.Option.{IfSome, is_some, option_map_or}
+use Rattle.std.specs.Option.{IfSome, is_some}
 use Rattle.std.specs.Cmp.{nat_eq_equiv}
-use Rattle.std.specs.Map.{keys_of, lookup_entry, remove_entry, set_value}
+use Rattle.std.specs.Map.{keys_of, set_value}
 use Rattle.std.proofs.lemmas.Bool.{cases_Bool, cases_eq, false≢true, eq-eqb, ne_eqb}
 use Rattle.std.proofs.lemmas.Map.{lookup-set_value, keys-set_value}
-use Rattle.lru.specs.LruCache.{LruCache, lru_cache, put_entries, promoted}
+use Rattle.lru.specs.LruCache.{LruCache, lru_cache, put_entries}
 use Rattle.quilt_world.specs.Disk.{Pages}
 use Rattle.quilt_world.specs.Tale.{Tale, Goes}
 use Rattle.quilt_world.proofs.StopLaws.{since_here}
@@ -13,26 +13,17 @@ use Rattle.quilt_journal.specs.Changed.{is_changed}
 use Rattle.quilt_journal.specs.Kept.{HasHome, published, work}
 use Rattle.quilt_journal.proofs.Leaving.{idle_leaves}
 use Rattle.quilt_pool.specs.declared.frame.Frame.{Frame}
-use Rattle.quilt_pool.specs.Entries.{Entries, frame_at, bytes_or, has_dirt, page_over, is_marked, IsClean, AreBelow, dirty, written, edited, is_dirty}
+use Rattle.quilt_pool.specs.Entries.{Entries, frame_at, bytes_or, has_dirt, page_over, is_marked, IsClean, AreBelow, dirty, written, edited}
 use Rattle.quilt_pool.specs.Keeping.{IsWork, Keeps, Changes}
 use Rattle.quilt_pool.proofs.Dirt.{some_frame}
 use Rattle.quilt_pool.proofs.Draining.{eqb-same}
 use Rattle.quilt_pool.proofs.Entering.{changes_then}
-use Rattle.quilt_pool.proofs.Looks.{put_at, found_value}
+use Rattle.quilt_pool.proofs.Looks.{put_at}
 use Rattle.quilt_pool.proofs.Saving.{tries_none}
 
 pub is_none : (o : Option Frame) → is_some o ≡ false → o ≡ None
 is_none None e = refl
 is_none (Some f) e = absurd (false≢true (sym e))
-
--- a page that is not there comes to no front
-promoted_from : (k : ℕ) (es : Entries) (o : Option (ℕ × Frame)) → lookup_entry (nat_eq k) es ≡ o → frame_at es k ≡ None
-    → option_map_or (λ e. e ∷ remove_entry (nat_eq k) es) o es ≡ es
-promoted_from k es None h none = refl
-promoted_from k es (Some e) h none = let both : None ≡ Some e.1 = sym none ∙ found_value k es e h in absurd cc
-
-pub promoted_none : (k : ℕ) (es : Entries) → frame_at es k ≡ None → promoted (nat_eq k) es ≡ es
-promoted_none k es none = promoted_from k es (lookup_entry (nat_eq k) es) refl none
 
 pub all_told : (P : Tale → Type 0) (o : Option Tale) → ((t : Tale) → P t) → IfSome o P
 all_told P None each = tt

@@ -3,7 +3,7 @@ use Rattle.std.proofs.Common.{◌≡◌, ◌≢◌, ◌⊎◌, inl, inr, ℕ, ze
 use Rattle.std.proofs.Common.{length, take, slice_get, get_or, set, option_map, ◌||◌, refl, sym, ◌∙◌, ap, subst, arith, get_or-set_other}
 use Rattle.std.specs.Cmp.{nat_eq_equiv}
 use Rattle.std.specs.List.{IsDistinct}
-use Rattle.std.specs.Map.{keys_of, lookup_entry, remove_entry, set_value}
+use Rattle.std.specs.Map.{keys_of, lookup, lookup_entry, remove_entry, set_value}
 use Rattle.std.specs.Option.{option_map_or}
 use Rattle.std.proofs.lemmas.Bool.{cases_Bool, cases_eq, cases_lt, false≢true, eqb-true, eqb-false}
 use Rattle.std.proofs.lemmas.List.{take_all}
@@ -40,51 +40,71 @@ left_at (suc m) (e ∷ es) i size = elim (cases_Bool (nat_eq i e.0)) [
   ]
 ]
 
--- an entry taken out and put first, maybe with another frame
-first_at : (k : ℕ) (es : Entries) (e : ℕ × Frame) (i : ℕ) → lookup_entry (nat_eq k) es ≡ Some e → nat_eq i k ≡ false
-    → frame_at (remove_entry (nat_eq k) es) i ≡ frame_at es i
-first_at k [] e i h ne = cc
-first_at k (d ∷ es) e i h ne = elim (cases_Bool (nat_eq k d.0)) [
-  | inl t ↦
-      let other : nat_eq i d.0 ≡ false = subst (λ j. nat_eq i j ≡ false) (eqb-true k d.0 t) ne in
-      rw (t, other) refl
-  | inr f ↦
-      let more : lookup_entry (nat_eq k) es ≡ Some e = rw f at h in
-      let on = first_at k es e i more ne in
-      rw (f, on) refl
-]
+-- an entry taken out and put first, maybe with another value
+module _ {V : Type 0} where
+  first_at : (k : ℕ) (es : List (ℕ × V)) (e : ℕ × V) (i : ℕ) → lookup_entry (nat_eq k) es ≡ Some e → nat_eq i k ≡ false
+      → lookup (nat_eq i) (remove_entry (nat_eq k) es) ≡ lookup (nat_eq i) es
+  first_at k [] e i h ne = cc
+  first_at k (d ∷ es) e i h ne = elim (cases_Bool (nat_eq k d.0)) [
+    | inl t ↦
+        let other : nat_eq i d.0 ≡ false = subst (λ j. nat_eq i j ≡ false) (eqb-true k d.0 t) ne in
+        rw (t, other) refl
+    | inr f ↦
+        let more : lookup_entry (nat_eq k) es ≡ Some e = rw f at h in
+        let on = first_at k es e i more ne in
+        rw (f, on) refl
+  ]
 
-pub found_key : (k : ℕ) (es : Entries) (e : ℕ × Frame) → lookup_entry (nat_eq k) es ≡ Some e → e.0 ≡ k
-found_key k es e h = sym (eqb-true k e.0 (Contains-lookup_entry (nat_eq k) es e h).1)
+  pub found_key : (k : ℕ) (es : List (ℕ × V)) (e : ℕ × V) → lookup_entry (nat_eq k) es ≡ Some e → e.0 ≡ k
+  found_key k es e h = sym (eqb-true k e.0 (Contains-lookup_entry (nat_eq k) es e h).1)
 
-pub found_value : (k : ℕ) (es : Entries) (e : ℕ × Frame) → lookup_entry (nat_eq k) es ≡ Some e → frame_at es k ≡ Some e.1
-found_value k [] e h = cc
-found_value k (d ∷ es) e h = elim (cases_Bool (nat_eq k d.0)) [
-  | inl t ↦ let h' : Some d ≡ Some e = rw t at h in rw t (ap (option_map (λ (x : ℕ × Frame). x.1)) h')
-  | inr f ↦ rw f (found_value k es e (rw f at h))
-]
+  pub found_value : (k : ℕ) (es : List (ℕ × V)) (e : ℕ × V) → lookup_entry (nat_eq k) es ≡ Some e → lookup (nat_eq k) es ≡ Some e.1
+  found_value k [] e h = cc
+  found_value k (d ∷ es) e h = elim (cases_Bool (nat_eq k d.0)) [
+    | inl t ↦ let h' : Some d ≡ Some e = rw t at h in rw t (ap (option_map (λ (x : ℕ × V). x.1)) h')
+    | inr f ↦ rw f (found_value k es e (rw f at h))
+  ]
 
-pub not_found : (k : ℕ) (es : Entries) → lookup_entry (nat_eq k) es ≡ None → frame_at es k ≡ None
-not_found k [] h = refl
-not_found k (d ∷ es) h = elim (cases_Bool (nat_eq k d.0)) [
-  | inl t ↦ let h' : Some d ≡ None = rw t at h in absurd cc
-  | inr f ↦ rw f (not_found k es (rw f at h))
-]
+  pub not_found : (k : ℕ) (es : List (ℕ × V)) → lookup_entry (nat_eq k) es ≡ None → lookup (nat_eq k) es ≡ None
+  not_found k [] h = refl
+  not_found k (d ∷ es) h = elim (cases_Bool (nat_eq k d.0)) [
+    | inl t ↦ let h' : Some d ≡ None = rw t at h in absurd cc
+    | inr f ↦ rw f (not_found k es (rw f at h))
+  ]
 
--- ---- promoted
+  -- ---- promoted
 
-promoted_from : (k : ℕ) (es : Entries) (i : ℕ) (o : Option (ℕ × Frame)) → lookup_entry (nat_eq k) es ≡ o
-    → frame_at (option_map_or (λ e. e ∷ remove_entry (nat_eq k) es) o es) i ≡ frame_at es i
-promoted_from k es i None h = refl
-promoted_from k es i (Some e) h = elim (cases_Bool (nat_eq i e.0)) [
-  | inl t ↦
-      let same : i ≡ k = eqb-true i e.0 t ∙ found_key k es e h in
-      rw t (sym (subst (λ j. frame_at es j ≡ Some e.1) (sym same) (found_value k es e h)))
-  | inr f ↦ rw f (first_at k es e i h (subst (λ j. nat_eq i j ≡ false) (found_key k es e h) f))
-]
+  promoted_from : (k : ℕ) (es : List (ℕ × V)) (i : ℕ) (o : Option (ℕ × V)) → lookup_entry (nat_eq k) es ≡ o
+      → lookup (nat_eq i) (option_map_or (λ e. e ∷ remove_entry (nat_eq k) es) o es) ≡ lookup (nat_eq i) es
+  promoted_from k es i None h = refl
+  promoted_from k es i (Some e) h = elim (cases_Bool (nat_eq i e.0)) [
+    | inl t ↦
+        let same : i ≡ k = eqb-true i e.0 t ∙ found_key k es e h in
+        rw t (sym (subst (λ j. lookup (nat_eq j) es ≡ Some e.1) (sym same) (found_value k es e h)))
+    | inr f ↦ rw f (first_at k es e i h (subst (λ j. nat_eq i j ≡ false) (found_key k es e h) f))
+  ]
 
-pub promoted_at : (k : ℕ) (es : Entries) (i : ℕ) → frame_at (promoted (nat_eq k) es) i ≡ frame_at es i
-promoted_at k es i = promoted_from k es i (lookup_entry (nat_eq k) es) refl
+  pub promoted_at : (k : ℕ) (es : List (ℕ × V)) (i : ℕ) → lookup (nat_eq i) (promoted (nat_eq k) es) ≡ lookup (nat_eq i) es
+  promoted_at k es i = promoted_from k es i (lookup_entry (nat_eq k) es) refl
+
+  -- a page that is not there comes to no front
+  unmoved : (k : ℕ) (es : List (ℕ × V)) (o : Option (ℕ × V)) → lookup_entry (nat_eq k) es ≡ o → lookup (nat_eq k) es ≡ None
+      → option_map_or (λ e. e ∷ remove_entry (nat_eq k) es) o es ≡ es
+  unmoved k es None h none = refl
+  unmoved k es (Some e) h none = let both : None ≡ Some e.1 = sym none ∙ found_value k es e h in absurd cc
+
+  pub promoted_none : (k : ℕ) (es : List (ℕ × V)) → lookup (nat_eq k) es ≡ None → promoted (nat_eq k) es ≡ es
+  promoted_none k es none = unmoved k es (lookup_entry (nat_eq k) es) refl none
+
+  -- a page that is not there is put before those that stay
+  put_before : (c : LruCache ℕ V) (k : ℕ) (v : V) (o : Option (ℕ × V)) → lookup_entry (nat_eq k) c.entries ≡ o → lookup (nat_eq k) c.entries ≡ None
+      → option_map_or (λ e. (e.0, v) ∷ remove_entry (nat_eq k) c.entries) o ((k, v) ∷ take (c.cap - 1) c.entries) ≡ (k, v) ∷ take (c.cap - 1) c.entries
+  put_before c k v None h none = refl
+  put_before c k v (Some e) h none = let both : None ≡ Some e.1 = sym none ∙ found_value k c.entries e h in absurd cc
+
+  pub put_lost : (c : LruCache ℕ V) (k : ℕ) (v : V) → lookup (nat_eq k) c.entries ≡ None
+      → put_entries nat_eq c k v ≡ (k, v) ∷ take (c.cap - 1) c.entries
+  put_lost c k v none = put_before c k v (lookup_entry (nat_eq k) c.entries) refl none
 
 -- ---- put
 

@@ -1,8 +1,6 @@
 -- A page that is changed where it lies is as dirty as it was.
-use Rattle.std.proofs.Common.{◌≡◌, inl, inr, ℕ, Bool, true, false, List, [], ◌∷◌, nat_eq, refl}
-use Rattle.std.specs.Map.{set_value}
-use Rattle.std.proofs.lemmas.Bool.{cases_Bool, eqb-true}
-use Rattle.quilt_pool.specs.declared.frame.Frame.{Frame}
+use Rattle.std.proofs.Common.{◌≡◌, inl, inr, ℕ, List, [], ◌∷◌, nat_eq, refl}
+use Rattle.std.proofs.lemmas.Bool.{cases_Bool}
 use Rattle.quilt_pool.specs.Entries.{Entries, is_dirty, edited}
 
 pub dirt_edited : (k : ℕ) (w : List ℕ) (i : ℕ) (es : Entries) → is_dirty (edited es k w) i ≡ is_dirty es i

@@ -1,20 +1,13 @@
 -- What a pool is, once a page that it lent to be changed has come back.
-use Rattle.std.proofs.Common.{◌≡◌, ℕ, ◌≤◌, List, nat_eq, length, sym, ◌∙◌, subst}
+use Rattle.std.proofs.Common.{ℕ, ◌≤◌, List, nat_eq, sym, ◌∙◌, subst}
 use Rattle.std.specs.Borrow.{Fml, MutBor, Lends, Array, u8 as byte}
 use Rattle.std.specs.List.{IsDistinct}
-use Rattle.std.specs.Map.{keys_of}
 use Rattle.std.proofs.lemmas.Map.{keys-set_value, length-set_value}
-use Rattle.lru.specs.LruCache.{LruCache, lru_cache}
-use Rattle.quilt_pool.specs.declared.frame.Frame.{Frame}
+use Rattle.lru.specs.LruCache.{lru_cache}
 use Rattle.quilt_pool.specs.declared.pool.Pool.{Pool}
 use Rattle.quilt_pool.specs.Entries.{edited, is_dirty}
 use Rattle.quilt_pool.specs.Dirt.{dirt_edited}
-use Rattle.quilt_pool.specs.contracts.sheet.Sheet.{the_row as sheet_row}
 use Rattle.quilt_pool.specs.contracts.pool.Pool.{the_row as pool_row}
-
--- it has the bytes that are left behind the reference
-abbrev pub LendsSheet : MutBor (List ℕ) → MutBor (List ℕ) → Fml
-LendsSheet s r = Lends sheet_row (Array byte 4096) s r (λ w. w)
 
 -- the pool where the page has these bytes
 abbrev pub edited_pool : Pool → ℕ → List ℕ → Pool

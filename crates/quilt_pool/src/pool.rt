@@ -8,13 +8,12 @@ ghost use Rattle.quilt_pool.specs.Entries.{is_dirty};
 mod calls;
 mod holding;
 
-use crate::frame::Frame;
-use lru::LruCache;
+use crate::table::Table;
 
 /// Pages of a map file in memory, the last used first. Each dirty page has its bit in `dirty`, and so may others.
 #[derive(Drop)]
 pub struct Pool {
-    table: LruCache<u32, Frame>,
+    table: Table,
     dirty: [u8; 3750],
     pub ghost distinct: { IsDistinct nat_eq (keys_of table.entries) } by { Prim.hlevel props },
     pub ghost fits: { length table.entries ≤ table.cap },

@@ -17,10 +17,9 @@ ghost use Rattle.quilt_pool.specs.Keeping.{IsWork, Keeps, Changes, IsSaved};
 
 use crate::pool::Pool;
 use crate::table::{
-    Lending, clean_frame, drop_all, drop_frame, find_frame, lent_frame, mark_frame, put_frame,
-    touch_frame,
+    Lending, Table, clean_frame, drop_all, drop_frame, find_frame, lent_frame, mark_frame,
+    put_frame, touch_frame,
 };
-use lru::LruCache;
 use quilt_journal::{Journal, list_page, next_listed, unlist_page};
 use quilt_store::StoreErr;
 use quilt_world::{Disk, Fault};
@@ -36,7 +35,7 @@ impl Pool {
         requires { (8 ≤ pages) × (pages ≤ 4096) }
         ensures { IfOk result (λ pool. seen pool ≡ lru_cache [] pages) }
     {
-        let table = LruCache::new(alloc, NonZeroUsize::new(pages as usize).unwrap())?;
+        let table = Table::new(alloc, NonZeroUsize::new(pages as usize).unwrap())?;
         Ok(Pool {
             table,
             dirty: [0; 3750],
@@ -65,11 +64,11 @@ impl Pool {
         if self.table.len() < self.table.cap().get() {
             return Ok(());
         }
-        let Some((page, frame)) = self.table.peek_lru() else {
+        let Some((page, (bytes, is_dirty))) = self.table.peek_lru() else {
             return Ok(());
         };
-        if frame.is_dirty {
-            journal.write_slot(disk, *page, frame.bytes.bytes())?;
+        if is_dirty {
+            journal.write_slot(disk, page, bytes)?;
         }
         Ok(())
     }
@@ -101,7 +100,7 @@ impl Pool {
             (IfSome (D.told disk.new) (λ new. frame_at (entries_of self.now) page ≡ None
             → IsSaved (seen self.now) (work new journal.old.pages journal.new.changed))) }
     {
-        if self.table.contains(&page) {
+        if self.table.contains(page) {
             return Ok(());
         }
         self.save_last(journal, disk)?;
@@ -322,13 +321,13 @@ impl Pool {
         ensures cap { capacity_of self.new ≡ capacity_of self.old }
         ensures others { (i : ℕ) → i ≢ page → is_dirty (entries_of self.new) i ≡ is_dirty (entries_of self.old) i }
     {
-        let Some(frame) = self.table.peek(&page) else {
+        let Some((bytes, is_dirty)) = self.table.peek(page) else {
             return Ok(());
         };
-        if !frame.is_dirty {
+        if !is_dirty {
             return Ok(());
         }
-        journal.write_slot(disk, page, frame.bytes.bytes())?;
+        journal.write_slot(disk, page, bytes)?;
         clean_frame(&mut self.table, page);
         Ok(())
     }

@@ -1,6 +1,6 @@
 use Rattle.std.proofs.lemmas.Bool.{cases_Bool}
 use Rattle.quilt_pool.proofs.Dirt.{dirt_promoted, dirt_after}
-use Rattle.std.proofs.Common.{◌≡◌, inl, inr, true, ℕ, ◌≤◌, List, Option, nat_eq, Some, None, IsSome, [], false, refl, sym, ◌∙◌, subst}
+use Rattle.std.proofs.Common.{◌≡◌, inl, inr, true, ℕ, ◌≤◌, Option, nat_eq, Some, None, IsSome, [], false, refl, sym, ◌∙◌, subst}
 use Rattle.lru.specs.LruCache.{LruCache, promoted, put_entries}
 use Rattle.quilt_pool.specs.declared.frame.Frame.{Frame}
 use Rattle.quilt_pool.specs.Entries.{is_dirty, frame_at, bytes_or, page_over}
