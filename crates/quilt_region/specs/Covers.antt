@@ -5,12 +5,13 @@ use Rattle.quilt_types.specs.declared.plane.Pixel.{Pixel}
 use Rattle.quilt_types.specs.declared.plane.Window.{Window}
 use Rattle.quilt_types.specs.declared.plane.Block.{Block}
 use Rattle.quilt_types.specs.Plane.{corner, in_block, in_window}
-use Rattle.quilt_types.specs.Layers.{Grid, colour_at}
+use Rattle.quilt_types.specs.Layers.{Grid, IsGrid, colour_at}
 use Rattle.quilt_region.specs.Windows.{leaves_within}
 
--- both grids have the same colours at the pixels of the window
+-- both grids have the same colours at the pixels of the window, and the second is one of a format where the first is
 pub record AgreesIn (n : ℕ) (w : Window) (g h : Grid) : Type 0 where
   pub each : (p : Pixel) → in_window w p ≡ true → colour_at n h p ≡ colour_at n g p
+  pub fits : (form : ℕ) → IsGrid form n g → IsGrid form n h
 
 -- the window and the block have a pixel in common
 abbrev pub meets : Window → Block → Bool
