@@ -1,17 +1,20 @@
 -- The blocks of a side that meet a window: what is read of them, and what colours they give.
-use Rattle.std.proofs.Common.{◌≡◌, ◌⊎◌, ℕ, pow-suc, pow_pos, ◌+◌, ◌-◌, ◌*◌, ◌%◌, ◌/◌, ◌^◌, ◌<◌, ◌≤◌, Bool, true, false, ◌&&◌, nat_lt, nat_le, eqb, List, [], ◌∷◌}
-use Rattle.std.proofs.Common.{map, length, refl, sym, ◌∙◌, ap, subst, ⊎_elim, Contains, arith, if◌then◌else◌}
+use Rattle.std.proofs.Common.{◌≡◌, ◌⊎◌, ℕ, suc, pow-suc, pow_pos, ◌+◌, ◌-◌, ◌*◌, ◌%◌, ◌/◌, ◌^◌, ◌<◌, ◌≤◌, Bool, true, false, ◌&&◌, nat_lt, nat_le, eqb, List, [], ◌∷◌}
+use Rattle.std.proofs.Common.{map, take, get_or, length, refl, sym, ◌∙◌, ap, subst, ⊎_elim, Contains, arith, if◌then◌else◌}
 use Rattle.std.specs.List.{sum_by}
-use Rattle.std.proofs.lemmas.List.Sums.{sum_by-cons}
+use Rattle.std.proofs.Math.Nat.{pow-le-pow_right}
+use Rattle.std.proofs.lemmas.List.Sums.{sum_by-cons, sum_by_push}
 use Rattle.std.proofs.lemmas.Bool.{cases_lt, cases_Bool, and_parts, and_from, leb-true, ltb-true, lt-ltb, le-leb, eqb-true, false_from_ne_true}
 use Rattle.quilt_types.specs.declared.plane.Pixel.{Pixel}
 use Rattle.quilt_types.specs.declared.plane.Window.{Window}
 use Rattle.quilt_types.specs.declared.plane.Block.{Block}
 use Rattle.quilt_types.specs.Plane.{side, corner, parent_of, quarters_of, is_window, in_window, in_block, Holds, IsBlock, Within}
-use Rattle.quilt_types.specs.Layers.{Grid, colour_at}
+use Rattle.quilt_types.specs.Layers.{Grid, IsGrid, colour_at}
+use Rattle.quilt_types.specs.Algebra.{grid_of}
 use Rattle.quilt_types.specs.Quadtrees.{is_uniform, leaves}
 use Rattle.quilt_loc.proofs.Members.{Contains-nil, Contains-here, Contains-there, Contains-cons_cases, Contains-map, Contains-flat_map}
 use Rattle.quilt_loc.proofs.Blocks.{Holds-from, in_block-true}
+use Rattle.quilt_loc.proofs.Rows.{colour_at-grid_of}
 use Rattle.quilt_loc.proofs.Steps.{start_is}
 use Rattle.quilt_loc.proofs.Around.{IsBlock-around, Holds-around}
 use Rattle.quilt_loc.proofs.Nesting.{around_is, Within-holds, Holds-corner, side_pos, nested, IsBlock-parent_of, Within-parent_of, Within-trans, parent_within}
@@ -19,9 +22,11 @@ use Rattle.quilt_loc.proofs.Quartered.{side_le, halved}
 use Rattle.quilt_blocks.proofs.Cuts.{leaf_is}
 use Rattle.quilt_blocks.proofs.Leaves.{uniform_down}
 use Rattle.quilt_blocks.proofs.Listed.{held_in}
+use Rattle.quilt_edits.proofs.Lists.{take_next}
 use Rattle.quilt_region.specs.Windows.{IsLeafWith, IsCutOut, leaves_within}
-use Rattle.quilt_region.specs.Covers.{meets, start_of, starts, cover_of, IsSideOver, block_of, cover_colour, cost_in}
+use Rattle.quilt_region.specs.Covers.{AgreesIn, meets, start_of, starts, cover_of, IsSideOver, block_of, cover_colour, cost_in}
 use Rattle.quilt_region.proofs.Beside.{true_false, held_not}
+use Rattle.quilt_region.proofs.GridsFit.{cover_fits}
 use Rattle.quilt_region.proofs.Nearby.{window_in, power_le}
 
 -- ---- a window and a block that have a pixel in common
@@ -109,6 +114,29 @@ module _ (n : ℕ) (g : Grid) (s : ℕ) (w : Window) where
       let met = meets_at w (block_of (2 ^ k) p) (meets_pixel w (block_of (2 ^ k) p) p t (Holds-around k p)) in
       ap (λ (t : Bool). if t then colour_at n g p else 0) (ap (λ (z : ℕ). meets w (block_of z p)) e ∙ met)
 
+-- a pixel of the window is one of the square
+in_square : (n : ℕ) (w : Window) (p : Pixel) → is_window n w ≡ true → in_window w p ≡ true → (p.x < side n) × (p.y < side n)
+in_square n w p t inside =
+    let i = window_in n w t in
+    let right = i.right in
+    let bottom = i.bottom in
+    let x = nat_le w.x p.x && nat_lt p.x (w.x + w.w) in
+    let last = and_parts (x && nat_le w.y p.y) (nat_lt p.y (w.y + w.h)) inside in
+    let third = and_parts x (nat_le w.y p.y) last.0 in
+    let first = and_parts (nat_le w.x p.x) (nat_lt p.x (w.x + w.w)) third.0 in
+    let a = ltb-true p.x (w.x + w.w) first.1 in
+    let b = ltb-true p.y (w.y + w.h) last.1 in
+    (omega arith, omega arith)
+
+-- all of it
+pub agrees_from : (n s : ℕ) (w : Window) (g h : Grid) → is_window n w ≡ true → (k : ℕ) × (s ≡ 2 ^ k) → h ≡ grid_of n (cover_colour n g s w) → AgreesIn n w g h
+agrees_from n s w g h t power is = record {
+  each = λ p inside.
+      let at = in_square n w p t inside in
+      ap (λ (x : Grid). colour_at n x p) is ∙ colour_at-grid_of n (cover_colour n g s w) p at.0 at.1 ∙ window_cover n g s w p power inside;
+  fits = λ form fit. subst (IsGrid form n) (sym is) (cover_fits form n g s w fit);
+}
+
 -- ---- the leaf that holds a block's first pixel
 -- where it is smaller, the block lies in no larger one of one colour
 pub smaller_cut : (n : ℕ) (g : Grid) (e : Block × ℕ) (b : Block) → IsBlock n b → IsLeafWith n g (corner b) e → e.0.side < b.side → IsCutOut n g b
@@ -139,15 +167,15 @@ in_starts s first last at pos on low high near =
     (λ (late : first < at).
     let e : start_of s last ≡ at = start_is s at last pos on low (omega arith) in
     ⊎_elim
-    (λ same. subst (λ l. Contains l at) (sym (chosen true same)) (subst (Contains (start_of s first ∷ [])) (eqb-true _ _ same ∙ e) (Contains-here _ [])))
+    (λ same. subst (λ l. Contains l at) (sym (chosen true same)) (subst (Contains (start_of s first ∷ [])) (eqb-true _ _ same ∙ e) (Contains-here (start_of s first) [])))
     (λ differ. subst (λ l. Contains l at) (sym (chosen false differ))
-    (subst (Contains (start_of s first ∷ start_of s last ∷ [])) e (Contains-there _ _ _ (Contains-here (start_of s last) []))))
+    (subst (Contains (start_of s first ∷ start_of s last ∷ [])) e (Contains-there (start_of s first) (start_of s last ∷ []) (start_of s last) (Contains-here (start_of s last) []))))
     (cases_Bool (eqb (start_of s first) (start_of s last))))
     (λ (early : at ≤ first).
     let e : start_of s first ≡ at = start_is s at first pos on early high in
     ⊎_elim
-    (λ same. subst (λ l. Contains l at) (sym (chosen true same)) (subst (Contains (start_of s first ∷ [])) e (Contains-here _ [])))
-    (λ differ. subst (λ l. Contains l at) (sym (chosen false differ)) (subst (Contains (start_of s first ∷ start_of s last ∷ [])) e (Contains-here _ _)))
+    (λ same. subst (λ l. Contains l at) (sym (chosen true same)) (subst (Contains (start_of s first ∷ [])) e (Contains-here (start_of s first) [])))
+    (λ differ. subst (λ l. Contains l at) (sym (chosen false differ)) (subst (Contains (start_of s first ∷ start_of s last ∷ [])) e (Contains-here (start_of s first) (start_of s last ∷ []))))
     (cases_Bool (eqb (start_of s first) (start_of s last))))
     (cases_lt first at)
   where
@@ -180,6 +208,26 @@ in_cover n s w b t wide high hb size met =
     let there : Contains (cover_of s w) (record { x = b.x; y = b.y; side = s }) =
     Contains-flat_map row (starts s w.y (w.y + w.h - 1)) b.y _ at_y (Contains-map _ (starts s w.x (w.x + w.w - 1)) b.x at_x) in
     subst (λ (z : ℕ). Contains (cover_of s w) (record { x = b.x; y = b.y; side = z })) (sym size) there
+
+-- a power of two that is less than another one
+pub doubled_le : (s i k : ℕ) → s ≡ 2 ^ i → s < 2 ^ k → 2 * s ≤ 2 ^ k
+doubled_le s i k e lt =
+    ⊎_elim
+    (λ (less : i < k). let p = pow-suc 2 i in let w : 2 ^ suc i ≤ 2 ^ k = pow-le-pow_right (let z : 0 < 2 = omega arith in z) less in omega arith)
+    (λ (ge : k ≤ i). let w : 2 ^ k ≤ 2 ^ i = pow-le-pow_right (let z : 0 < 2 = omega arith in z) ge in absurd (omega arith)) (cases_lt i k)
+
+-- a larger block has more than one pixel in a row, and its quarters are no smaller
+pub wide_over : (s : ℕ) (b : Block) → (k : ℕ) × (s ≡ 2 ^ k) → s ≤ b.side → (b.side ≡ s → ⊥) → 1 < b.side
+wide_over s b power le differ =
+    let e = power.1 in
+    let pos = pow_pos power.0 in
+    ⊎_elim (λ lt. omega arith) (λ ge. absurd (differ (omega arith))) (cases_lt s b.side)
+
+pub half_over : (n s : ℕ) (b : Block) → IsBlock n b → (k : ℕ) × (s ≡ 2 ^ k) → s ≤ b.side → (b.side ≡ s → ⊥) → (q : Block) → 2 * q.side ≡ b.side → s ≤ q.side
+half_over n s b hb power le differ q half =
+    let size = hb.size in
+    ⊎_elim (λ (lt : s < b.side). let twice = doubled_le s power.0 hb.level power.1 (let z : s < 2 ^ hb.level = omega arith in z) in omega arith)
+    (λ ge. absurd (differ (omega arith))) (cases_lt s b.side)
 
 -- both are the least
 pub side_same : (w : Window) (s t : ℕ) → IsSideOver w s → IsSideOver w t → s ≡ t
@@ -226,11 +274,18 @@ four_le i j k l h (x ∷ xs) each =
     let more = four_le i j k l h xs each in
     omega arith
 
+-- one quarter after another
+pub quarter_sum : (f : Block → ℕ) (b : Block) (qs : List Block) (i : ℕ) (d : Block) → qs ≡ quarters_of b → i < 4
+    → sum_by f (take (i + 1) (quarters_of b)) ≡ sum_by f (take i (quarters_of b)) + f (get_or qs i d)
+quarter_sum f b qs i d are lt =
+    ap (sum_by f) (take_next (quarters_of b) i d lt) ∙ sum_by_push f (take i (quarters_of b)) (get_or (quarters_of b) i d)
+    ∙ ap (λ (l : List Block). sum_by f (take i (quarters_of b)) + f (get_or l i d)) (sym are)
+
 module _ (n : ℕ) (g : Grid) where
-  own : Block → ℕ
+  abbrev own : Block → ℕ
   own c = 12 + 3 * length (leaves_within n g c)
 
-  counted : Block → Block → ℕ
+  abbrev counted : Block → Block → ℕ
   counted b c = if in_block b (corner c) then own c else 0
 
   counted_in : (b c : Block) → Holds b (corner c) → counted b c ≡ own c
