@@ -9,9 +9,10 @@ use quilt_blocks::LeafList;
 use quilt_btree::{Edit, Tree, edits_ascend, records_added};
 use quilt_lines as lines;
 use quilt_lines::LineView;
+use quilt_loc::whole_square;
 use quilt_near::{SegList, nearest};
 use quilt_points as points;
-use quilt_record::{Edits, Key, Record, read_point};
+use quilt_record::{Edits, Key, Record, read_point, region_record};
 use quilt_region as regions;
 use quilt_store::{MemStore, PageStore};
 use quilt_types::{Block, Colour, Pixel, Point, PointList, Seg, Stop, Window};
@@ -113,6 +114,15 @@ impl Layer {
         }
         let first = points::first_record(1, level, bucket);
         Layer::new(alloc, 1, level, bucket, &[first])
+    }
+
+    /// A region layer of one colour, 0, with the number 1.
+    pub fn of_region(alloc: Global, level: u8) -> Result<Layer, Fail> {
+        if level == 0 || level > 12 {
+            return Err(Fail::from("a level"));
+        }
+        let first = region_record(1, whole_square(level), level, Colour(0));
+        Layer::new(alloc, 1, level, 1, &[first])
     }
 
     /// The layer once these edits are made in the tree.
@@ -286,6 +296,24 @@ impl Layer {
     /// The leaves of a region layer.
     pub fn leaves(&mut self, alloc: Global) -> Result<LeafList, Stop> {
         regions::read_list(alloc, &mut self.store, &self.tree, self.number, self.level)
+    }
+
+    /// Leaves with the colours of a region layer at the pixels of the window.
+    pub fn leaves_in(
+        &mut self,
+        rt: &impl Abort,
+        alloc: Global,
+        w: Window,
+    ) -> Result<LeafList, Stop> {
+        assert!(rt; has_window(self.level, w));
+        regions::read_window(
+            alloc,
+            &mut self.store,
+            &self.tree,
+            self.number,
+            self.level,
+            w,
+        )
     }
 
     /// The colour of a region layer at the pixel.

@@ -17,3 +17,5 @@ mod plans;
 mod points;
 #[cfg(test)]
 mod regions;
+#[cfg(test)]
+mod windows;

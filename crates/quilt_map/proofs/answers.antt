@@ -6,6 +6,7 @@ pub mod Commanded
 pub mod FirstTests
 pub mod Orderly
 pub mod Outcomes
+pub mod Parts
 pub mod Placing
 pub mod Prefixes
 pub mod TextLaws

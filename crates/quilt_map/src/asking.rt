@@ -10,7 +10,7 @@ ghost use Rattle.quilt_map.specs.Asking.{HasText, KeepsAll, warm_after, reads_in
 ghost use Rattle.quilt_map.specs.Commanding.{Answered};
 ghost use Rattle.quilt_map.specs.Sessions.{IsAtState, IsWarm};
 
-use crate::regions::{read_colour, read_region, region_number};
+use crate::regions::{read_colour, read_part, read_region, region_number};
 use crate::session::Session;
 use quilt_replies::{
     Reply, edition_text, layers_text, leaves_text, number_text, records_text, show_text,
@@ -126,7 +126,7 @@ impl<W: World> Session<W> {
                 if !has_window(head.level, w) {
                     return Ok(Reply::No(Code::Outside));
                 }
-                match read_region(self.alloc, &mut self.book, number) {
+                match read_part(self.alloc, &mut self.book, number, w) {
                     Err(stop) => Err(stop),
                     Ok(list) => told(show_text(self.alloc, &list, w, head.format)),
                 }

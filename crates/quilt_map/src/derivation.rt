@@ -1,27 +1,30 @@
-ghost use Rattle.std.specs.Prelude.{◌≡◌, ◌≢◌, ℕ, ◌<◌, ◌≤◌, true, List, Some, is_some, IfOk, IfErr, All, length};
+ghost use Rattle.std.specs.Prelude.{◌≡◌, ◌≢◌, ℕ, ◌<◌, ◌≤◌, true, List, Some, is_some, IfOk, IfErr, OnOk, All, length};
 ghost use Rattle.quilt_types.specs.Layers.{Grid, Region};
 ghost use Rattle.quilt_words.specs.Fitting.{IsFitting};
 ghost use Rattle.quilt_store.specs.Stops.{HasStopCause, IsSound};
+ghost use Rattle.quilt_region.specs.Regions.{HasRegion};
 ghost use Rattle.quilt_edition.specs.Books as books;
 ghost use Rattle.quilt_replies.specs.Answers.{State};
+ghost use Rattle.quilt_map.specs.Asking.{IsStill};
 ghost use Rattle.quilt_map.specs.Commanding.{Answered};
 ghost use Rattle.quilt_map.specs.Derivation.{layers_derived, derived, is_inside};
 ghost use Rattle.quilt_map.specs.Making.{AnsweredBy, placed};
 ghost use Rattle.quilt_map.specs.Painting.{IsRegionIn};
-ghost use Rattle.quilt_map.specs.Sessions.{IsAtState};
+ghost use Rattle.quilt_map.specs.Sessions.{IsAtState, told_of, tree_in};
 
 use crate::asking::has_window;
 use crate::refusals::why_not_new;
-use crate::regions::{read_region, region_number};
+use crate::regions::{read_part, read_region, region_number};
 use crate::session::Session;
 use quilt_blocks::LeafList;
 use quilt_buffer::buffer;
+use quilt_edition::Book;
 use quilt_overlay::recolour;
 use quilt_replies::Reply;
 use quilt_types::{Code, Name, Stop};
 use quilt_window::{shift, window};
 use quilt_words::Command;
-use quilt_world::World;
+use quilt_world::{Disk, World};
 use std::alloc::{AllocError, Global};
 
 /// Whether the window of the command, where it has one, lies in the square.
@@ -50,6 +53,30 @@ fn derived_list(alloc: Global, list: &LeafList, command: &Command) -> Result<Lea
     }
 }
 
+/// The leaves of the work's region layer with this number, or, for a command that cuts it to a window, others of the same
+/// colours at the window's pixels.
+fn read_derived<W: Disk>(
+    alloc: Global,
+    book: &mut Book<W>,
+    number: u8,
+    command: &Command,
+) -> Result<LeafList, Stop>
+    requires inside { is_inside (books.work_of book.old).level command.now ≡ true }
+    ensures list { IfOk result (λ list. (g : Grid) → HasRegion (told_of book.old) (tree_in (books.work_of book.old)) number (books.work_of book.old).level g
+        → derived command.now (books.work_of book.old).level list.grid ≡ derived command.now (books.work_of book.old).level g) }
+    ensures level { IfOk result (λ list. list.level ≡ (books.work_of book.old).level) }
+    ensures number { OnOk result (1 ≤ number) }
+    ensures sound { IfErr result (λ e. (g : Grid) → 1 ≤ number
+        → HasRegion (told_of book.old) (tree_in (books.work_of book.old)) number (books.work_of book.old).level g → IsSound e) }
+    ensures still { IsStill book.old book.new }
+    ensures cause { HasStopCause (W.faults (books.world_of book.old)) (W.faults (books.world_of book.new)) result }
+{
+    match command {
+        Command::Window { w, .. } => read_part(alloc, book, number, *w),
+        _ => read_region(alloc, book, number),
+    }
+}
+
 impl<W: World> Session<W> {
     /// Makes a layer of the work's region layer with this number, as the command says.
     fn make_derived(&mut self, number: u8, command: &Command, into: &Name) -> Result<Reply, Stop>
@@ -66,7 +93,7 @@ impl<W: World> Session<W> {
         ensures goes_on { books.GoesOn self.old.book self.new.book }
         ensures cause { HasStopCause (W.faults (books.world_of self.old.book)) (W.faults (books.world_of self.new.book)) result }
     {
-        match read_region(self.alloc, &mut self.book, number) {
+        match read_derived(self.alloc, &mut self.book, number, command) {
             Err(stop) => Err(stop),
             Ok(list) => match derived_list(self.alloc, &list, command) {
                 Err(_) => Err(Stop::Memory),

@@ -11,6 +11,7 @@ ghost use Rattle.quilt_store.specs.Stops.{HasStopCause, IsSound};
 ghost use Rattle.quilt_btree.specs.Trees.{IsTree};
 ghost use Rattle.quilt_region.specs.Regions.{HasRegion};
 ghost use Rattle.quilt_region.specs.Plans.{LeadsTo};
+ghost use Rattle.quilt_region.specs.Covers.{AgreesIn};
 ghost use Rattle.quilt_spell.specs.Catalogued.{IsCatalogOf};
 ghost use Rattle.quilt_edition.specs.Books.{world_of, last_of, work_of};
 ghost use Rattle.quilt_replies.specs.Answers.{State};
@@ -24,7 +25,7 @@ use quilt_btree::Tree;
 use quilt_edition::Book;
 use quilt_node::Head;
 use quilt_record::{Edits, Entry};
-use quilt_region::{colour_at, plan_rect, plan_replace, read_list};
+use quilt_region::{colour_at, plan_rect, plan_replace, read_list, read_window};
 use quilt_types::{Code, Colour, Kind, Name, Pixel, Stop, Window};
 use quilt_world::Disk;
 use std::alloc::Global;
@@ -83,6 +84,31 @@ pub(crate) fn read_region<W: Disk>(
     }
     let head = book.head();
     read_list(alloc, book, &tree_of(&head), number, head.level)
+}
+
+/// Leaves with the colours of the work's region layer with this number at the pixels of a window. It reads the blocks that
+/// meet the window, of the least side that is no less than the window's.
+pub(crate) fn read_part<W: Disk>(
+    alloc: Global,
+    book: &mut Book<W>,
+    number: u8,
+    w: Window,
+) -> Result<LeafList, Stop>
+    requires window { is_window (work_of book.old).level w ≡ true }
+    ensures list { IfOk result (λ list. (g : Grid) → HasRegion (told_of book.old) (tree_in (work_of book.old)) number (work_of book.old).level g
+        → AgreesIn (work_of book.old).level w g list.grid) }
+    ensures level { IfOk result (λ list. list.level ≡ (work_of book.old).level) }
+    ensures number { OnOk result (1 ≤ number) }
+    ensures sound { IfErr result (λ e. (g : Grid) → 1 ≤ number
+        → HasRegion (told_of book.old) (tree_in (work_of book.old)) number (work_of book.old).level g → IsSound e) }
+    ensures still { IsStill book.old book.new }
+    ensures cause { HasStopCause (W.faults (world_of book.old)) (W.faults (world_of book.new)) result }
+{
+    if number == 0 {
+        return Err(DAMAGED);
+    }
+    let head = book.head();
+    read_window(alloc, book, &tree_of(&head), number, head.level, w)
 }
 
 /// The colour of a pixel of the work's region layer with this number. It reads at most 6 pages.

@@ -6,6 +6,7 @@ use Rattle.std.proofs.lemmas.Bool.{cases_lt}
 use Rattle.std.proofs.Math.ListN.{get_or-eq_default}
 use Rattle.std.proofs.lemmas.List.Elements.{All-contains, All-weaker, All-get_or}
 use Rattle.quilt_types.specs.declared.plane.Pixel.{Pixel}
+use Rattle.quilt_types.specs.declared.plane.Window.{Window}
 use Rattle.quilt_types.specs.Plane.{side, pixels, in_window}
 use Rattle.quilt_types.specs.Layers.{Grid, IsGrid, colour_at, colours}
 use Rattle.quilt_types.specs.Algebra.{grid_of, recoloured_by, moved, colour_from}
@@ -13,6 +14,7 @@ use Rattle.quilt_types.specs.Polygons.{filled_rings, is_inside}
 use Rattle.quilt_loc.proofs.Members.{Contains-here, Contains-there, Contains-map_from}
 use Rattle.quilt_loc.proofs.Rows.{length-grid_of}
 use Rattle.quilt_spell.proofs.Spelling.{all_from}
+use Rattle.quilt_region.specs.Covers.{meets, block_of, cover_colour}
 use Rattle.quilt_region.specs.Laws.{FitsLaw}
 
 -- how many colours a format has
@@ -66,6 +68,12 @@ module _ (form n : ℕ) where
   from_fits g (Some x) (Some y) h = fits_at g h (record { x = x; y = y })
   from_fits g (Some x) None h = zero_fits
   from_fits g None y h = zero_fits
+
+-- the blocks of a side that meet a window
+pub cover_fits : (form n : ℕ) (g : Grid) (s : ℕ) (w : Window) → IsGrid form n g → IsGrid form n (grid_of n (cover_colour n g s w))
+cover_fits form n g s w h =
+    by_pixels form n (cover_colour n g s w)
+    (λ p. either (colours form) (meets w (block_of s p)) (colour_at n g p) 0 (fits_at form n g h p) (zero_fits form n))
 
 pub fits_law : FitsLaw
 unfolding filled_rings

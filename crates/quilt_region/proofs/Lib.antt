@@ -15,4 +15,5 @@ pub mod Beside
 pub mod Counting
 pub mod Nearby
 pub mod WithinKeys
+pub mod Covers
 pub mod plans

@@ -16,6 +16,7 @@ use Rattle.quilt_record.specs.declared.entry.Entry.{Entry}
 use Rattle.quilt_lang.specs.Trials.{spaced}
 use Rattle.quilt_words.specs.declared.command.Command.TheVariants as commands
 use Rattle.quilt_blocks.specs.Raster.{Raster}
+use Rattle.quilt_region.specs.Covers.{AgreesIn}
 use Rattle.quilt_region.specs.Regions.{HasRegion}
 use Rattle.quilt_spell.specs.Catalogued.{kind_of, IsCatalogOf}
 use Rattle.quilt_spell.proofs.Stepping.{spelled_count}
@@ -30,6 +31,7 @@ use Rattle.quilt_replies.specs.States.{Tells}
 use Rattle.quilt_replies.specs.declared.reply.Reply as replies
 use Rattle.quilt_map.specs.declared.session.Session.{Session}
 use Rattle.quilt_map.proofs.answers.Asked.{still_here, layer_is}
+use Rattle.quilt_map.proofs.answers.Parts.{agrees_at, rows_same}
 use Rattle.quilt_map.proofs.states.HeldLayers.{layer_there, layer_number}
 use Rattle.quilt_map.proofs.states.Moving.{IsLawful, later_at}
 
@@ -217,19 +219,22 @@ module _ {W : Type 0} {D : disk.Ghosts W} where
         written = written ∙ ap (λ (x : Raster). text_of (Done (map leaf_line (leaves x.level x.grid)))) (raster_is l is);
       }
 
-      pub show_body : (w : Window) (f : ℕ) (l : Raster) → f ≡ old.book.work.format → is_window s.last.level w ≡ true
+      pub show_body : (w : Window) (f : ℕ) (l : Raster) → f ≡ old.book.work.format → is_window s.last.level w ≡ true → l.level ≡ old.book.work.level
           → ((g : Grid) → HasRegion (told_of old.book) (tree_in old.book.work) number old.book.work.level g
-          → l ≡ record { level = old.book.work.level; grid = g })
+          → AgreesIn old.book.work.level w g l.grid)
           → (t : List ℕ) → (IsGrid f l.level l.grid → t ≡ text_of (Done (map (row_line f l.level l.grid w) (below w.h))))
           → IsBodyOf ((answer s (commands.Show name w)).reply) t
-      show_body w f l same inside is t written =
+      show_body w f l same inside size is t written =
           let form : f ≡ s.last.format = same ∙ format_is in
-          let raster = raster_is l is in
+          let level : l.level ≡ s.last.level = size ∙ level_is in
+          let agrees = agrees_at old.book.work.level s.last.level w r.grid l.grid level_is (is r.grid has_region) in
           let grid : IsGrid f l.level l.grid =
-          subst (λ (x : Raster). IsGrid f x.level x.grid) (sym raster) (subst (λ (k : ℕ). IsGrid k s.last.level r.grid) (sym form) has_grid) in record {
+          subst (λ (k : ℕ). IsGrid f k l.grid) (sym level) (subst (λ (k : ℕ). IsGrid k s.last.level l.grid) (sym form) (agrees.fits s.last.format has_grid)) in
+          record {
             body = map (row_line s.last.format s.last.level r.grid w) (below w.h);
             answered = show_done s name r.grid r.got w inside;
-            written = written grid ∙ (λ i. text_of (Done (map (row_line (form i) (raster i).level (raster i).grid w) (below w.h))));
+            written = written grid ∙ (λ i. text_of (Done (map (row_line (form i) (level i) l.grid w) (below w.h))))
+                ∙ ap (λ (rows : List (List ℕ)). text_of (Done rows)) (rows_same s.last.format s.last.level w r.grid l.grid agrees);
           }
 
       pub at_body : (p : Pixel) (c n : ℕ) → is_pixel s.last.level p ≡ true

@@ -145,6 +145,15 @@ module _ {W : Type 0} {D : disk.Ghosts W} where
     list_of name number g is l list =
         list g (region_there {D = D} session s at name number g is) ∙ ap (λ (n : ℕ). record { level = n; grid = g }) (level_is {D = D} session s at)
 
+    -- what is made of what was read of a layer
+    pub derived_of : (command : Command) (name : List ℕ) (number : ℕ) (g : Grid) → IsRegionIn s.work session.catalog name number g → (h : Grid)
+        → ((k : Grid) → HasRegion (told_of session.book) (tree_in session.book.work) number session.book.work.level k
+        → derived command session.book.work.level h ≡ derived command session.book.work.level k)
+        → derived command s.last.level h ≡ derived command s.last.level g
+    derived_of command name number g is h same =
+        subst (λ (n : ℕ). derived command n h ≡ derived command n g) (level_is {D = D} session s at)
+        (same g (region_there {D = D} session s at name number g is))
+
     -- its grid has the colours of the format
     pub grid_of_layer : (name : List ℕ) (number : ℕ) (g : Grid) → IsRegionIn s.work session.catalog name number g → IsGrid s.last.format s.last.level g
     grid_of_layer name number g is = layer_is s.last.format s.last.level s.work (at_spelled {D = D} session s at).map name (Region g) is.got
@@ -160,8 +169,9 @@ made_level made n h is = ap (λ (l : Raster). l.level) is
 pub made_fits : (f n : ℕ) (made : Raster) (h : Grid) → made ≡ record { level = n; grid = h } → IsGrid f n h → IsGrid f n made.grid
 made_fits f n made h is fits = subst (IsGrid f n) (sym (ap (λ (l : Raster). l.grid) is)) fits
 
--- what is made of a list
+-- what is made of a list that gives the same as the layer
 pub derived_as : (command : Command) (made l : Raster) (n : ℕ) (g : Grid) → made ≡ record { level = l.level; grid = derived command l.level l.grid }
-    → l ≡ record { level = n; grid = g }
+    → l.level ≡ n → derived command n l.grid ≡ derived command n g
     → made ≡ record { level = n; grid = derived command n g }
-derived_as command made l n g is list = is ∙ ap (λ (x : Raster). record { level = x.level; grid = derived command x.level x.grid }) list
+derived_as command made l n g is level same =
+    is ∙ ap (λ (k : ℕ). record { level = k; grid = derived command k l.grid }) level ∙ ap (λ (h : Grid). record { level = n; grid = h }) same

@@ -19,27 +19,27 @@ returns-in-Err-clause-answer g c = λ s at.
 pub returns-in-Err-clause-keeps : goal.returns-in-Err-clause-keeps
 returns-in-Err-clause-keeps g c = keeps_here {D = g.W.Disk} c.args.self.now c.args.self.now.warm
 
-pub returns-in-Err-read_region-clause-sound : goal.returns-in-Err-read_region-clause-sound
-returns-in-Err-read_region-clause-sound g c = λ s at.
+pub returns-in-Err-read_part-clause-sound : goal.returns-in-Err-read_part-clause-sound
+returns-in-Err-read_part-clause-sound g c = λ s at.
     let old = c.args.self.now in
     let name = c.args.name.now in
     let region = c.in-Ok.ensures.found s.work at.work.numbers (catalog_as {D = g.W.Disk} old s at c.entries.result.now c.entries.ensures.entries) in
-    c.in-Err-read_region.ensures.sound region.grid (has_number {D = g.W.Disk} old s at name c.in-Ok.number region)
+    c.in-Err-read_part.ensures.sound region.grid (has_number {D = g.W.Disk} old s at name c.in-Ok.number region)
     (has_region {D = g.W.Disk} old s at name c.in-Ok.number region)
 
-pub returns-in-Ok-read_region-clause-answer : goal.returns-in-Ok-read_region-clause-answer
-returns-in-Ok-read_region-clause-answer g c =
+pub returns-in-Ok-read_part-clause-answer : goal.returns-in-Ok-read_part-clause-answer
+returns-in-Ok-read_part-clause-answer g c =
     let old = c.args.self.now in
     let name = c.args.name.now in
-    told_on {D = g.W.Disk} (commands.Show name c.args.w) (λ s. show_asks s name c.args.w) old c.read_region.new.book old.warm c.show_text.result
-    c.told.result c.read_region.ensures.still (g.met.W.Disk.is_consistent c.read_region.new.book.world) c.told.ensures.text (λ s at.
+    told_on {D = g.W.Disk} (commands.Show name c.args.w) (λ s. show_asks s name c.args.w) old c.read_part.new.book old.warm c.show_text.result
+    c.told.result c.read_part.ensures.still (g.met.W.Disk.is_consistent c.read_part.new.book.world) c.told.ensures.text (λ s at.
     let region = c.in-Ok.ensures.found s.work at.work.numbers (catalog_as {D = g.W.Disk} old s at c.entries.result.now c.entries.ensures.entries) in
     if_ok _ _ c.show_text.result
-    (λ t h. show_body {D = g.W.Disk} old s at name c.in-Ok.number region c.args.w c.head-head.result.format c.in-Ok-read_region.list
+    (λ t h. show_body {D = g.W.Disk} old s at name c.in-Ok.number region c.args.w c.head-head.result.format c.in-Ok-read_part.list
     (ap (λ (h : Head). h.format) c.head-head.ensures.work)
     (test_at (λ n. is_window n c.args.w) c.head-head.result.level s.last.level c.has_window.result true
     (ap (λ (h : Head). h.level) c.head-head.ensures.work ∙ level_is {D = g.W.Disk} old s at) c.has_window.ensures c.if-not-has_window.false)
-    c.in-Ok-read_region.ensures.list t h) c.show_text.ensures)
+    c.in-Ok-read_part.ensures.level c.in-Ok-read_part.ensures.list t h) c.show_text.ensures)
 
 pub returns-then-not-has_window-clause-answer : goal.returns-then-not-has_window-clause-answer
 returns-then-not-has_window-clause-answer g c = λ s at.
