@@ -1,7 +1,7 @@
 -- What a run of the program comes to, by what is promised of a world over its system.
 use Rattle.std.specs.Option.{option_map}
 use Rattle.std.specs.Prelude.{IfSome, IsOk, OnOk, OnErr, Result, Ok, Err}
-use Rattle.std.proofs.Common.{◌≡◌, ◌≢◌, inl, inr, ℕ, List, [], ◌∷◌, ◌++◌, map, drop, Option, Some, None, refl, sym, ◌∙◌, ap, subst, arith}
+use Rattle.std.proofs.Common.{◌≡◌, ◌≢◌, ◌⊎◌, inl, inr, ℕ, true, List, [], ◌∷◌, ◌++◌, map, drop, Option, Some, None, refl, sym, ◌∙◌, ap, subst, arith}
 use Rattle.std.proofs.lemmas.Bool.{false≢true}
 use Rattle.std.proofs.lemmas.Option.{same_Some}
 use Rattle.quilt_world.specs.Causes.{Rose, next_count}
@@ -10,8 +10,8 @@ use Rattle.quilt_world.specs.declared.disk.Door.{Door}
 use Rattle.quilt_world.specs.declared.disk.Door.TheVariants as doors
 use Rattle.quilt_top.specs.declared.run.End.{End}
 use Rattle.quilt_top.specs.declared.run.End.TheVariants as ends
-use Rattle.quilt_top.specs.Words.{Order, New, Run as RunText, Trial}
-use Rattle.quilt_top.specs.Headline.{KeepsPromises, WhereTold, IsUsage, HasEndCause}
+use Rattle.quilt_top.specs.Words.{Order, New, Run as RunText, Trial, asked_for}
+use Rattle.quilt_top.specs.Headline.{KeepsPromises, WhereTold, FindsFile, IsUsage, IsDoorOf, allowed_doors, is_allowed, HasEndCause}
 use Rattle.quilt_host.specs.Story.{Story, Steps}
 use Rattle.quilt_host.specs.Calls.{Says, SaysFront}
 use Rattle.quilt_host.specs.Worlds.{tale_of, IsFresh, IsKept}
@@ -20,7 +20,7 @@ use Rattle.quilt.specs.Program.{line_of, lines_of, order_of, IfTold, Does, unsai
 -- ---- a world over the system
 
 -- what is promised of the tale of the world is promised of the story that it was read off
-does_of_tales : (order : Option Order) (end : End) (o n : Option Story) (told now : Option Tale) (before faults : ℕ) (door : Door) (pages reads writes : ℕ)
+pub does_of_tales : (order : Option Order) (end : End) (o n : Option Story) (told now : Option Tale) (before faults : ℕ) (door : Door) (pages reads writes : ℕ)
     → told ≡ option_map (tale_of doors.Shut 0 0 0) o → now ≡ option_map (tale_of door pages reads writes) n → before ≡ 0 → IfSome n (IsKept door)
     → IsUsage order end → (order ≡ None → n ≡ o) → HasEndCause order before faults door end
     → WhereTold (KeepsPromises order (Rose before faults) door end) told now → IfTold (Does order end) o n
@@ -183,16 +183,79 @@ memory_told o n fresh same = told_at_once (λ s. Does (order_of s.words) ends.Me
 
 -- ---- the line of the end
 
--- a line that is written changes nothing else
-quiet_said : (order : Option Order) (end : End) (s u v : Story) → Does order end s u → v ≡ u → Does order end s (unsaid v) × (v.said ≡ []) × (v.says ≡ 0)
-quiet_said order end s u v does same = (
-  subst (λ (x : Story). Does order end s x) (let e : u ≡ unsaid v = unsaid_same u v does.kept.said does.kept.says same in e) does,
-  ap (λ (x : Story). x.said) same ∙ does.kept.said,
-  ap (λ (x : Story). x.says) same ∙ does.kept.says,
-)
-  where
-    unsaid_same : (u v : Story) → u.said ≡ [] → u.says ≡ 0 → v ≡ u → u ≡ unsaid v
-    unsaid_same u v said says same = unsaid_first u said says ∙ ap unsaid (sym same)
-      where
-        unsaid_first : (u : Story) → u.said ≡ [] → u.says ≡ 0 → u ≡ unsaid u
-        unsaid_first u said says = cc
+-- an end has one line, or none
+lined : (end : End) → ((line_of end ≡ []) × (lines_of end ≡ 0)) ⊎ ((line_of end ≢ []) × (lines_of end ≡ 1))
+lined ends.Done = inl (refl, refl)
+lined ends.Refused = inl (refl, refl)
+lined ends.Usage = inr (λ e. (let no : line_of ends.Usage ≡ [] = e in cc), refl)
+lined ends.Device = inr (λ e. (let no : line_of ends.Device ≡ [] = e in cc), refl)
+lined ends.Memory = inr (λ e. (let no : line_of ends.Memory ≡ [] = e in cc), refl)
+lined ends.NotMap = inr (λ e. (let no : line_of ends.NotMap ≡ [] = e in cc), refl)
+lined ends.Missing = inr (λ e. (let no : line_of ends.Missing ≡ [] = e in cc), refl)
+lined ends.Taken = inr (λ e. (let no : line_of ends.Taken ≡ [] = e in cc), refl)
+lined ends.TooMuch = inr (λ e. (let no : line_of ends.TooMuch ≡ [] = e in cc), refl)
+lined (ends.Damaged page) = inr (λ e. (let no : line_of (ends.Damaged page) ≡ [] = e in cc), refl)
+
+-- a story in which nothing was written
+unsaid_first : (u : Story) → u.said ≡ [] → u.says ≡ 0 → u ≡ unsaid u
+unsaid_first u said says = ap (λ (l : List ℕ). record u { said = l; says = u.says }) said ∙ ap (λ (n : ℕ). record u { said = []; says = n }) says
+
+any_ok : {T E : Type 0} (r : Result T E) (P : Type 0) → P → OnOk r P
+any_ok (Ok x) P p = p
+any_ok (Err e) P p = tt
+
+any_err : {T E : Type 0} (r : Result T E) (P : Type 0) → P → OnErr r P
+any_err (Ok x) P p = tt
+any_err (Err e) P p = p
+
+-- no line is written
+runs_silent : {T E : Type 0} (end : End) (said : Result T E) (s u : Story) → line_of end ≡ [] → lines_of end ≡ 0 → Does (order_of s.words) end s u
+    → Runs end said s u
+runs_silent end said s u none zero does = record {
+  does = subst (λ (x : Story). Does (order_of s.words) end s x) (unsaid_first u does.kept.said does.kept.says) does;
+  line = any_ok said (u.said ≡ line_of end) (does.kept.said ∙ sym none);
+  front = any_err said (Begins (line_of end) u.said) (line_of end, ap (λ l. l ++ line_of end) (sym does.kept.said));
+  once = does.kept.says ∙ sym zero;
+}
+
+-- the story before a line that was written, or a front of one
+unsaid_written : (order : Option Order) (end : End) (front : List ℕ) (s u v : Story) → Does order end s u
+    → v ≡ record u { said = u.said ++ front; says = next_count u.says } → Does order end s (unsaid v)
+unsaid_written order end front s u v does now =
+    subst (λ (x : Story). Does order end s x) (unsaid_first u does.kept.said does.kept.says ∙ sym (ap unsaid now)) does
+
+said_written : (end : End) (front : List ℕ) (order : Option Order) (s u v : Story) → Does order end s u
+    → v ≡ record u { said = u.said ++ front; says = next_count u.says } → v.said ≡ front
+said_written end front order s u v does now = ap (λ (x : Story). x.said) now ∙ ap (λ l. l ++ front) does.kept.said
+
+says_written : (end : End) (front : List ℕ) (order : Option Order) (s u v : Story) → Does order end s u
+    → v ≡ record u { said = u.said ++ front; says = next_count u.says } → v.says ≡ 1
+says_written end front order s u v does now = ap (λ (x : Story). x.says) now ∙ ap next_count does.kept.says
+
+-- the line is written, or a front of it
+runs_written : {T E : Type 0} (end : End) (said : Result T E) (s u : Story) (n : Option Story) → lines_of end ≡ 1 → Does (order_of s.words) end s u
+    → OnOk said (Steps (Says (line_of end)) (Some u) n) → OnErr said (Steps (SaysFront (line_of end)) (Some u) n) → IfTold (Runs end said) (Some s) n
+runs_written end (Ok x) s u None one does line front = line
+runs_written end (Err e) s u None one does line front = front
+runs_written end (Ok x) s u (Some v) one does line front = record {
+  does = unsaid_written (order_of s.words) end (line_of end) s u v does line;
+  line = said_written end (line_of end) (order_of s.words) s u v does line;
+  front = tt;
+  once = says_written end (line_of end) (order_of s.words) s u v does line ∙ sym one;
+}
+runs_written end (Err e) s u (Some v) one does line w = record {
+  does = unsaid_written (order_of s.words) end w.front s u v does w.now;
+  line = tt;
+  front = (w.rest, w.said ∙ ap (λ l. l ++ w.rest) (sym (said_written end w.front (order_of s.words) s u v does w.now)));
+  once = says_written end w.front (order_of s.words) s u v does w.now ∙ sym one;
+}
+
+pub runs_of : {T E : Type 0} (end : End) (said : Result T E) (o m n : Option Story) → IfTold (λ s. Does (order_of s.words) end s) o m
+    → (line_of end ≡ [] → n ≡ m) → (line_of end ≢ [] → OnOk said (Steps (Says (line_of end)) m n)) → OnErr said (Steps (SaysFront (line_of end)) m n)
+    → IfTold (Runs end said) o n
+runs_of end said None m n does none line front = tt
+runs_of end said (Some s) None n does none line front = absurd does
+runs_of end said (Some s) (Some u) n does none line front = elim (lined end) [
+  | inl silent ↦ subst (λ (x : Option Story). IfTold (Runs end said) (Some s) x) (sym (none silent.0)) (runs_silent end said s u silent.0 silent.1 does)
+  | inr some ↦ runs_written end said s u n some.1 does (line some.0) front
+]
