@@ -30,7 +30,7 @@ pub const CALM: Weather = Weather {
 };
 
 /// The status of a run, what it put, and the file that it left, with no bytes where there is none.
-#[derive(Drop, PartialEq)]
+#[derive(Drop)]
 pub struct Left {
     pub status: u8,
     pub output: Vec<u8>,
@@ -58,12 +58,7 @@ fn system_of(
 }
 
 /// Does what the words ask for over the system.
-fn done<R: Threads + Sync>(
-    rt: &R,
-    alloc: Global,
-    words: &[&str],
-    system: Memory,
-) -> (End, Memory)
+fn done<R: Threads + Sync>(rt: &R, alloc: Global, words: &[&str], system: Memory) -> (End, Memory)
     requires { IfSome (⟦<Memory as System>⟧.told system) IsFresh }
 {
     let (end, world) = run_quilt(rt, alloc, words, HostWorld::new(system));
@@ -80,10 +75,14 @@ fn left_by<R: Threads + Sync>(
     weather: Weather,
 ) -> Result<Left, AllocError> {
     let (end, system) = done(rt, alloc, words, system_of(alloc, file, input, weather)?);
+    let file = match system.file() {
+        Some(bytes) => Vec::from_slice(alloc, bytes)?,
+        None => Vec::new(alloc),
+    };
     Ok(Left {
         status: end.status(),
         output: Vec::from_slice(alloc, system.output())?,
-        file: Vec::from_slice(alloc, system.file().unwrap_or(&[]))?,
+        file,
     })
 }
 
