@@ -1,1 +1,1 @@
-pub mod Host
+pub mod Program

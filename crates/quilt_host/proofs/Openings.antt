@@ -1,5 +1,7 @@
 -- Maps that are opened and made.
 use Rattle.std.proofs.Common.{◌≡◌, ◌≢◌, ◌⊎◌, inl, inr, ℕ, ◌+◌, ◌*◌, ◌<◌, ◌≤◌, Bool, true, false, List, [], ◌∷◌, length, replicate, Option, Some, None, refl, sym, ◌∙◌, ap, subst, arith}
+use Rattle.std.specs.Option.{ForSome}
+use Rattle.std.specs.Prelude.{IfSome}
 use Rattle.std.proofs.lemmas.Bool.{false≢true}
 use Rattle.std.proofs.lemmas.List.{length-replicate}
 use Rattle.std.proofs.lemmas.Option.{same_Some}
@@ -14,7 +16,7 @@ use Rattle.quilt_host.specs.Acts.{draft_of, closed, log_of, is_settled}
 use Rattle.quilt_host.specs.Bytes.{overlaid, page_at, pages_of}
 use Rattle.quilt_host.specs.Calls.{acted, Opens, Creates, Removes, FailsToRemove, Syncs, Links}
 use Rattle.quilt_host.specs.Paging.{KeepsFile, KeepsRest, KeepsStart, WritesPage, TearsPage, WritesZeros, WritesSome, Settles, Fills, IsCleared, MakesMap, FailsToMake}
-use Rattle.quilt_host.specs.Worlds.{is_open, tale_of, IsSound}
+use Rattle.quilt_host.specs.Worlds.{is_open, tale_of, IsSound, IsKept}
 use Rattle.quilt_host.proofs.ByteLaws.{get-pages_of, zeros_more, pages_of-zeros}
 use Rattle.quilt_host.proofs.DraftLaws.{after_opened, after_linked}
 use Rattle.quilt_host.proofs.Pieces.{same_rest}
@@ -32,10 +34,12 @@ rest_both a b c ab bc = record {
   is_there = bc.is_there ∙ ab.is_there;
   settled = bc.settled ∙ ab.settled;
   input = bc.input ∙ ab.input;
+  said = bc.said ∙ ab.said;
+  says = bc.says ∙ ab.says;
 }
 
 start_of_rest : (a b : Story) → KeepsRest a b → KeepsStart a b
-start_of_rest a b k = record { words = k.words; path = k.path; was_there = k.was_there; input = k.input }
+start_of_rest a b k = record { words = k.words; path = k.path; was_there = k.was_there; input = k.input; said = k.said; says = k.says }
 
 start_both : (a b c : Story) → KeepsStart a b → KeepsStart b c → KeepsStart a c
 start_both a b c ab bc = record {
@@ -43,6 +47,8 @@ start_both a b c ab bc = record {
   path = bc.path ∙ ab.path;
   was_there = bc.was_there ∙ ab.was_there;
   input = bc.input ∙ ab.input;
+  said = bc.said ∙ ab.said;
+  says = bc.says ∙ ab.says;
 }
 
 pub zeros_next : (i : ℕ) (zeros : List ℕ) (t u v : Story) → zeros ≡ replicate 4096 0 → WritesZeros i t u → WritesPage i zeros u v → WritesZeros (i + 1) t v
@@ -75,6 +81,8 @@ settles t u v synced links =
         path = ap (λ (x : Story). x.path) synced;
         was_there = ap (λ (x : Story). x.was_there) synced;
         input = ap (λ (x : Story). x.input) synced;
+        said = ap (λ (x : Story). x.said) synced;
+        says = ap (λ (x : Story). x.says) synced;
       };
       is_there = ap (λ (x : Story). x.is_there) synced;
       bytes = bytes;
@@ -84,7 +92,7 @@ settles t u v synced links =
 
 pub some_synced : (t u : Story) → Syncs t u → WritesSome t u
 some_synced t u synced = subst (λ (x : Story). WritesSome t x) (sym synced)
-    (record { rest = record { words = refl; path = refl; was_there = refl; is_there = refl; settled = refl; input = refl }; owes = refl })
+    (record { rest = record { words = refl; path = refl; was_there = refl; is_there = refl; settled = refl; input = refl; said = refl; says = refl }; owes = refl })
 
 pub some_both : (t u v : Story) → WritesSome t u → WritesSome u v → WritesSome t v
 some_both t u v a b = record { rest = rest_both t u v a.rest b.rest; owes = b.owes ∙ a.owes }
@@ -107,7 +115,14 @@ pub cleared_removed : (path : List ℕ) (t u v : Story) → WritesSome t u → R
 cleared_removed path t u v some removes =
     subst (λ (x : Story). IsCleared t x) (sym removes.now)
     (record {
-      same = record { words = some.rest.words; path = some.rest.path; was_there = some.rest.was_there; input = some.rest.input };
+      same = record {
+        words = some.rest.words;
+        path = some.rest.path;
+        was_there = some.rest.was_there;
+        input = some.rest.input;
+        said = some.rest.said;
+        says = some.rest.says;
+      };
       cleared = refl;
     })
 
@@ -115,7 +130,14 @@ pub cleared_kept : (t u v : Story) → WritesSome t u → FailsToRemove u v → 
 cleared_kept t u v some kept =
     subst (λ (x : Story). IsCleared t x) (sym kept)
     (record {
-      same = record { words = some.rest.words; path = some.rest.path; was_there = some.rest.was_there; input = some.rest.input };
+      same = record {
+        words = some.rest.words;
+        path = some.rest.path;
+        was_there = some.rest.was_there;
+        input = some.rest.input;
+        said = some.rest.said;
+        says = some.rest.says;
+      };
       cleared = refl;
     })
 
@@ -134,6 +156,8 @@ makes_map path n t u v c f = record {
     path = f.same.path ∙ ap (λ (x : Story). x.path) c.now;
     was_there = f.same.was_there ∙ ap (λ (x : Story). x.was_there) c.now;
     input = f.same.input ∙ ap (λ (x : Story). x.input) c.now;
+    said = f.same.said ∙ ap (λ (x : Story). x.said) c.now;
+    says = f.same.says ∙ ap (λ (x : Story). x.says) c.now;
   };
   bytes = f.bytes;
   settled = f.settled;
@@ -147,21 +171,28 @@ fails_to_fill path t u v c f = record {
     path = f.same.path ∙ ap (λ (x : Story). x.path) c.now;
     was_there = f.same.was_there ∙ ap (λ (x : Story). x.was_there) c.now;
     input = f.same.input ∙ ap (λ (x : Story). x.input) c.now;
+    said = f.same.said ∙ ap (λ (x : Story). x.said) c.now;
+    says = f.same.says ∙ ap (λ (x : Story). x.says) c.now;
   };
   kept = λ there. absurd (false≢true (sym c.free ∙ there));
   cleared = λ owed. f.cleared;
 }
 
 pub fails_at_once : (s : Story) → FailsToMake s s
-fails_at_once s = record { same = record { words = refl; path = refl; was_there = refl; input = refl }; kept = λ there. refl; cleared = λ owed. owed }
+fails_at_once s = record { same = record { words = refl; path = refl; was_there = refl; input = refl; said = refl; says = refl }; kept = λ there. refl; cleared = λ owed. owed }
 
 -- ---- soundness
 
-pub sound_closed : (door : Door) (pages : ℕ) (s : Story) → pages ≡ 0 → (door ≡ doors.Shut → ⊥) → is_open door ≡ false → IsSound door pages s
-sound_closed door pages s none not_shut closed = record {
-  first = λ shut. absurd (not_shut shut);
-  within = omega arith;
-  reads = λ opens. absurd (false≢true (sym closed ∙ opens));
+not_made : (door : Door) → door ≡ doors.Shut → door ≢ doors.Made
+not_made door shut made = let no : doors.Shut ≡ doors.Made = sym shut ∙ made in cc
+
+-- the file is opened
+kept_opened : (path : List ℕ) (door : Door) (s u : Story) → door ≡ doors.Shut → Opens path s u → IsKept door s → IsKept doors.Ready u
+kept_opened path door s u shut o kept = record {
+  there = λ was. ap (λ (x : Story). x.is_there) o.now ∙ o.there;
+  owes = λ apart. ap (λ (x : Story). x.owes) o.now ∙ kept.owes (not_made door shut);
+  said = ap (λ (x : Story). x.said) o.now ∙ kept.said;
+  says = ap (λ (x : Story). x.says) o.now ∙ kept.says;
 }
 
 reads_first : (pages : ℕ) (s : Story) → log_of s.acts ≡ [] → s.settled ≡ s.bytes → (i : ℕ) (bytes : List ℕ) → i < pages
@@ -171,21 +202,75 @@ reads_first pages s log settled i bytes within is =
     let now : last_bytes (pages_of s.settled pages) [] i ≡ Some bytes = ap (λ (l : Log). last_bytes (pages_of s.settled pages) l i) (sym log) ∙ is in
     ap (λ f. page_at f i) (sym settled) ∙ sym (get-pages_of s.settled pages i within) ∙ same_Some _ bytes now
 
-pub sound_opened : (path : List ℕ) (pages : ℕ) (s u : Story) → Opens path s u → pages * 4096 ≤ length u.bytes → IsSound doors.Ready pages u
-sound_opened path pages s u o within = record {
+pub sound_opened : (path : List ℕ) (door : Door) (pages n : ℕ) (s u : Story) → door ≡ doors.Shut → IsSound door n s → Opens path s u
+    → pages * 4096 ≤ length u.bytes → IsSound doors.Ready pages u
+sound_opened path door pages n s u shut sound o within = record {
   first = λ shut. absurd (let no : doors.Ready ≡ doors.Shut = shut in cc);
   within = within;
   reads = λ opens. reads_first pages u
       (ap (λ (x : Story). log_of x.acts) o.now ∙ after_opened (draft_of s.acts))
       (ap (λ (x : Story). x.settled) o.now ∙ sym (ap (λ (x : Story). x.bytes) o.now));
+  kept = kept_opened path door s u shut o sound.kept;
 }
 
-pub sound_made : (path : List ℕ) (pages : ℕ) (s u : Story) → MakesMap path pages s u → IsSound doors.Made pages u
-sound_made path pages s u m = record {
+pub sound_made : (path : List ℕ) (door : Door) (pages n : ℕ) (s u : Story) → IsSound door n s → MakesMap path pages s u → IsSound doors.Made pages u
+sound_made path door pages n s u sound m = record {
   first = λ shut. absurd (let no : doors.Made ≡ doors.Shut = shut in cc);
   within = omega (arith, ap length m.bytes, length-replicate {A = ℕ} (pages * 4096) 0);
   reads = λ opens. reads_first pages u m.log (m.settled ∙ sym m.bytes);
+  kept = record {
+    there = λ was. m.there;
+    owes = λ apart. absurd (apart refl);
+    said = m.same.said ∙ sound.kept.said;
+    says = m.same.says ∙ sound.kept.says;
+  };
 }
+
+-- no page is open
+sound_closed : (door : Door) (pages : ℕ) (s : Story) → pages ≡ 0 → door ≢ doors.Shut → is_open door ≡ false → IsKept door s → IsSound door pages s
+sound_closed door pages s none not_shut closed kept = record {
+  first = λ shut. absurd (not_shut shut);
+  within = omega arith;
+  reads = λ opens. absurd (false≢true (sym closed ∙ opens));
+  kept = kept;
+}
+
+module _ (door : Door) (pages : ℕ) (no_pages : door ≢ doors.Ready → door ≢ doors.Made → pages ≡ 0) (shut : door ≡ doors.Shut) where
+  none : pages ≡ 0
+  none = no_pages (λ ready. (let no : doors.Shut ≡ doors.Ready = sym shut ∙ ready in cc)) (not_made door shut)
+
+  pub sound_missing : (s : Story) → IsSound door pages s → IsSound doors.Missing pages s
+  sound_missing s sound = sound_closed doors.Missing pages s none (λ e. (let no : doors.Missing ≡ doors.Shut = e in cc)) refl
+      (record { there = sound.kept.there; owes = λ apart. sound.kept.owes (not_made door shut); said = sound.kept.said; says = sound.kept.says })
+
+  pub sound_taken : (s : Story) → IsSound door pages s → IsSound doors.Taken pages s
+  sound_taken s sound = sound_closed doors.Taken pages s none (λ e. (let no : doors.Taken ≡ doors.Shut = e in cc)) refl
+      (record { there = sound.kept.there; owes = λ apart. sound.kept.owes (not_made door shut); said = sound.kept.said; says = sound.kept.says })
+
+  failed_first : (s : Story) → IsSound door pages s → IsSound doors.Failed pages s
+  failed_first s sound = sound_closed doors.Failed pages s none (λ e. (let no : doors.Failed ≡ doors.Shut = e in cc)) refl
+      (record { there = sound.kept.there; owes = λ apart. sound.kept.owes (not_made door shut); said = sound.kept.said; says = sound.kept.says })
+
+  pub sound_not_opened : (path : List ℕ) (s u : Story) → IsSound door pages s → (u ≡ s) ⊎ Opens path s u → IsSound doors.Failed pages u
+  sound_not_opened path s u sound (inl same) = subst (IsSound doors.Failed pages) (sym same) (failed_first s sound)
+  sound_not_opened path s u sound (inr o) =
+      let kept = kept_opened path door s u shut o sound.kept in
+      sound_closed doors.Failed pages u none (λ e. (let no : doors.Failed ≡ doors.Shut = e in cc)) refl (record {
+        there = kept.there;
+        owes = λ apart. kept.owes (λ e. (let no : doors.Ready ≡ doors.Made = e in cc));
+        said = kept.said;
+        says = kept.says;
+      })
+
+  pub sound_not_made : (s u : Story) → IsSound door pages s → FailsToMake s u → IsSound doors.Failed pages u
+  sound_not_made s u sound f = sound_closed doors.Failed pages u none (λ e. (let no : doors.Failed ≡ doors.Shut = e in cc)) refl (record {
+    there = λ was.
+        let there : s.is_there ≡ true = sound.kept.there (sym f.same.was_there ∙ was) in
+        ap (λ (x : Story). x.is_there) (f.kept there) ∙ there;
+    owes = λ apart. f.cleared (sound.kept.owes (not_made door shut));
+    said = f.same.said ∙ sound.kept.said;
+    says = f.same.says ∙ sound.kept.says;
+  })
 
 -- ---- tales
 
@@ -284,3 +369,9 @@ file_opened path s u o = record { is_there = ap (λ (x : Story). x.is_there) o.n
 pub file_not_opened : (path : List ℕ) (s u : Story) → (u ≡ s) ⊎ Opens path s u → KeepsFile s u
 file_not_opened path s u (inl same) = record { is_there = ap (λ (x : Story). x.is_there) same; bytes = ap (λ (x : Story). x.bytes) same }
 file_not_opened path s u (inr o) = file_opened path s u o
+
+-- ---- what is kept
+
+pub if_kept : (door : Door) (pages : ℕ) (told : Option Story) → ForSome told (IsSound door pages) → IfSome told (IsKept door)
+if_kept door pages None sound = tt
+if_kept door pages (Some s) sound = (sound s refl).kept

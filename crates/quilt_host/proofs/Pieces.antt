@@ -33,7 +33,7 @@ pub writing_none : (i : ℕ) (page : List ℕ) (s : Story) → Writing i page 0 
 writing_none i page s = record { none = λ zero. refl; some = λ some. absurd (omega arith) }
 
 pub same_rest : (s : Story) → KeepsRest s s
-same_rest s = record { words = refl; path = refl; was_there = refl; is_there = refl; settled = refl; input = refl }
+same_rest s = record { words = refl; path = refl; was_there = refl; is_there = refl; settled = refl; input = refl; said = refl; says = refl }
 
 -- what is left of the page, and a piece of it
 pub left_of : (page : List ℕ) (done : ℕ) → slice_range page done (length page) ≡ drop done page
@@ -48,7 +48,7 @@ module _ (i : ℕ) (page : List ℕ) (size : length page ≡ 4096) where
       let at : Story = record old { bytes = overlaid old.bytes (i * 4096) (take n page); acts = Wrote (i * 4096) (take n page) ∷ old.acts } in
       subst (λ (u : Story). Begun i page n old u) (sym w)
       (record {
-        rest = record { words = refl; path = refl; was_there = refl; is_there = refl; settled = refl; input = refl };
+        rest = record { words = refl; path = refl; was_there = refl; is_there = refl; settled = refl; input = refl; said = refl; says = refl };
         bytes = refl;
         draft = after_first (draft_of old.acts) i (take n page) (omega (arith, length-take n page));
         owes = refl;
@@ -70,6 +70,8 @@ module _ (i : ℕ) (page : List ℕ) (size : length page ≡ 4096) where
           is_there = b.rest.is_there;
           settled = b.rest.settled;
           input = b.rest.input;
+          said = b.rest.said;
+          says = b.rest.says;
         };
         bytes =
             ap (λ f. overlaid f (i * 4096 + done) x) b.bytes
@@ -150,6 +152,8 @@ module _ (i : ℕ) (page : List ℕ) (size : length page ≡ 4096) where
               is_there = b.rest.is_there;
               settled = b.rest.settled;
               input = b.rest.input;
+              said = b.rest.said;
+              says = b.rest.says;
             };
             left = take done page ++ p.left;
             few = omega (arith, length-append (take done page) p.left, p.few, count);
@@ -172,7 +176,7 @@ module _ (i : ℕ) (page : List ℕ) (size : length page ≡ 4096) where
           (subst (λ a. new ≡ record mid { bytes = overlaid mid.bytes a p.left; acts = Lost a n ∷ mid.acts }) at p.now) in
           subst (λ (u : Story). TearsPage i old u) (sym now)
           (record {
-            rest = record { words = refl; path = refl; was_there = refl; is_there = refl; settled = refl; input = refl };
+            rest = record { words = refl; path = refl; was_there = refl; is_there = refl; settled = refl; input = refl; said = refl; says = refl };
             left = p.left;
             few = omega (arith, p.few, count);
             bytes = refl;

@@ -15,7 +15,7 @@ use Rattle.quilt_host.specs.Story.{Story}
 use Rattle.quilt_host.specs.Acts.{log_of}
 use Rattle.quilt_host.specs.Bytes.{overlaid, page_at, pages_of}
 use Rattle.quilt_host.specs.Paging.{KeepsRest, WritesPage, TearsPage}
-use Rattle.quilt_host.specs.Worlds.{is_open, tale_of, IsSound}
+use Rattle.quilt_host.specs.Worlds.{is_open, tale_of, IsSound, IsKept}
 use Rattle.quilt_host.proofs.ByteLaws.{length-overlaid_least, page-overlaid_other, page-overlaid_same}
 
 -- what soundness and tales ask of a step, beside the bytes and the events
@@ -23,6 +23,18 @@ pub record KeepsSound (s u : Story) : Type 0 where
   pub is_there : u.is_there ≡ s.is_there
   pub was_there : u.was_there ≡ s.was_there
   pub settled : u.settled ≡ s.settled
+  pub owes : u.owes ≡ s.owes
+  pub said : u.said ≡ s.said
+  pub says : u.says ≡ s.says
+
+-- what is kept goes on
+kept_on : (door : Door) (s u : Story) → KeepsSound s u → IsKept door s → IsKept door u
+kept_on door s u keeps kept = record {
+  there = λ was. keeps.is_there ∙ kept.there (sym keeps.was_there ∙ was);
+  owes = λ apart. keeps.owes ∙ kept.owes apart;
+  said = keeps.said ∙ kept.said;
+  says = keeps.says ∙ kept.says;
+}
 
 pub record KeepsTale (s u : Story) : Type 0 where
   pub settled : u.settled ≡ s.settled
@@ -60,6 +72,7 @@ sound_spared door pages s u e spares keeps bytes log sound = record {
   reads = λ opens j b lt is.
       ap (λ l. page_at l j) bytes
       ∙ sound.reads opens j b lt (sym (last-spared (pages_of s.settled pages) (log_of s.acts) e j (spares j)) ∙ moved_last pages s u e j b keeps.settled log is);
+  kept = kept_on door s u keeps sound.kept;
 }
 
 -- nothing that is seen
@@ -72,6 +85,18 @@ sound_kept door pages s u keeps bytes log sound = record {
       ap (λ l. page_at l j) bytes
       ∙ sound.reads opens j b lt (ap (λ (l : Log). last_bytes (pages_of s.settled pages) l j) (sym log)
       ∙ ap (λ z. last_bytes (pages_of z pages) (log_of u.acts) j) (sym keeps.settled) ∙ is);
+  kept = kept_on door s u keeps sound.kept;
+}
+
+-- what a write, whole or torn, keeps
+keeps_rest : (s u : Story) → KeepsRest s u → u.owes ≡ s.owes → KeepsSound s u
+keeps_rest s u rest owes = record {
+  is_there = rest.is_there;
+  was_there = rest.was_there;
+  settled = rest.settled;
+  owes = owes;
+  said = rest.said;
+  says = rest.says;
 }
 
 pub sound_wrote : (door : Door) (pages i : ℕ) (page : List ℕ) (s u : Story) → i < pages → length page ≡ 4096 → IsSound door pages s → WritesPage i page s u
@@ -92,6 +117,7 @@ sound_wrote door pages i page s u low size sound w = record {
             page-overlaid_other s.bytes i j page apart (omega arith) (omega (arith, sound.within))
             ∙ sound.reads opens j b lt (sym (last-spared (pages_of s.settled pages) (log_of s.acts) (Wrote i page) j apart) ∙ moved)
       ];
+  kept = kept_on door s u (keeps_rest s u w.rest w.owes) sound.kept;
 }
 
 pub sound_tore : (door : Door) (pages i : ℕ) (s u : Story) → i < pages → IsSound door pages s → TearsPage i s u ⊎ (u ≡ s) → IsSound door pages u
@@ -110,6 +136,7 @@ sound_tore door pages i s u low sound (inl w) = record {
             page-overlaid_other s.bytes i j w.left apart w.few (omega (arith, sound.within))
             ∙ sound.reads opens j b lt (sym (last-spared (pages_of s.settled pages) (log_of s.acts) (Tore i) j apart) ∙ moved)
       ];
+  kept = kept_on door s u (keeps_rest s u w.rest w.owes) sound.kept;
 }
 
 -- ---- tales

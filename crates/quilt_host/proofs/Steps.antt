@@ -19,7 +19,7 @@ pub sound_synced : (door : Door) (pages : ℕ) (s u : Story) → IsSound door pa
 sound_synced door pages s u sound is =
     subst (λ (v : Story). IsSound door pages v) (sym is)
     (sound_spared door pages s (record s { acts = Synced ∷ s.acts }) events.Synced (λ i. tt)
-    (record { is_there = refl; was_there = refl; settled = refl }) refl (after_synced (draft_of s.acts)) sound)
+    (record { is_there = refl; was_there = refl; settled = refl; owes = refl; said = refl; says = refl }) refl (after_synced (draft_of s.acts)) sound)
 
 pub adds_synced : (door : Door) (pages reads writes : ℕ) (s u : Story) → is_open door ≡ true → Syncs s u
     → Adds (events.Synced ∷ []) (tale_of door pages reads writes s) (tale_of door pages reads writes u)
@@ -34,7 +34,7 @@ pub sound_put : (door : Door) (pages : ℕ) (bytes : List ℕ) (s u : Story) →
 sound_put door pages bytes s u sound is =
     subst (λ (v : Story). IsSound door pages v) (sym is)
     (sound_spared door pages s (record s { acts = Put bytes ∷ s.acts }) (events.Put bytes) (λ i. tt)
-    (record { is_there = refl; was_there = refl; settled = refl }) refl (after_put (draft_of s.acts) bytes) sound)
+    (record { is_there = refl; was_there = refl; settled = refl; owes = refl; said = refl; says = refl }) refl (after_put (draft_of s.acts) bytes) sound)
 
 pub adds_put : (door : Door) (pages reads writes : ℕ) (bytes : List ℕ) (s u : Story) → is_open door ≡ true → Puts bytes s u
     → Adds (events.Put bytes ∷ []) (tale_of door pages reads writes s) (tale_of door pages reads writes u)
@@ -49,11 +49,11 @@ pub sound_took : (door : Door) (pages : ℕ) (bytes : List ℕ) (s u : Story) �
 sound_took door pages [] s u sound is =
     subst (λ (v : Story). IsSound door pages v) (sym is.now)
     (sound_kept door pages s (record s { input = is.rest; acts = Ended ∷ s.acts })
-    (record { is_there = refl; was_there = refl; settled = refl }) refl (ap closed (after_ended (draft_of s.acts))) sound)
+    (record { is_there = refl; was_there = refl; settled = refl; owes = refl; said = refl; says = refl }) refl (ap closed (after_ended (draft_of s.acts))) sound)
 sound_took door pages (b ∷ bytes) s u sound is =
     subst (λ (v : Story). IsSound door pages v) (sym is.now)
     (sound_spared door pages s (record s { input = is.rest; acts = Took (b ∷ bytes) ∷ s.acts }) (events.Took (b ∷ bytes)) (λ i. tt)
-    (record { is_there = refl; was_there = refl; settled = refl }) refl (after_took (draft_of s.acts) (b ∷ bytes)) sound)
+    (record { is_there = refl; was_there = refl; settled = refl; owes = refl; said = refl; says = refl }) refl (after_took (draft_of s.acts) (b ∷ bytes)) sound)
 
 pub takes_from : (door : Door) (pages reads writes : ℕ) (bytes : List ℕ) (s u : Story) → is_open door ≡ true → Takes bytes s u
     → TakesFrom bytes (tale_of door pages reads writes s) (tale_of door pages reads writes u)

@@ -5,7 +5,7 @@ use Rattle.quilt_host.specs.Story.{Story}
 use Rattle.quilt_host.specs.Bytes.{overlaid}
 use Rattle.quilt_host.specs.Acts.{log_of}
 
--- all but the bytes of the file and the acts is as it was
+-- all but the bytes of the file, the acts and what is owed is as it was
 pub record KeepsRest (old new : Story) : Type 0 where
   pub words : new.words ≡ old.words
   pub path : new.path ≡ old.path
@@ -13,13 +13,17 @@ pub record KeepsRest (old new : Story) : Type 0 where
   pub is_there : new.is_there ≡ old.is_there
   pub settled : new.settled ≡ old.settled
   pub input : new.input ≡ old.input
+  pub said : new.said ≡ old.said
+  pub says : new.says ≡ old.says
 
--- the words, the path, whether a file was there at first, and the input are as they were
+-- the words, the path, whether a file was there at first, the input, and what was written to standard error are as they were
 pub record KeepsStart (old new : Story) : Type 0 where
   pub words : new.words ≡ old.words
   pub path : new.path ≡ old.path
   pub was_there : new.was_there ≡ old.was_there
   pub input : new.input ≡ old.input
+  pub said : new.said ≡ old.said
+  pub says : new.says ≡ old.says
 
 -- a file is there just where one was, with the same bytes
 pub record KeepsFile (old new : Story) : Type 0 where

@@ -31,6 +31,20 @@ tale_of door pages reads writes s = record {
   was_there = s.was_there;
 }
 
+-- the story of a system that was asked for nothing yet but its words
+pub record IsFresh (s : Story) : Type 0 where
+  pub file : s.is_there ≡ s.was_there
+  pub owes : s.owes ≡ false
+  pub said : s.said ≡ []
+  pub says : s.says ≡ 0
+
+-- A file that was there is there still, the removal of one that was made in vain was asked for, and nothing was written to standard error.
+pub record IsKept (door : Door) (s : Story) : Type 0 where
+  pub there : s.was_there ≡ true → s.is_there ≡ true
+  pub owes : door ≢ doors.Made → s.owes ≡ false
+  pub said : s.said ≡ []
+  pub says : s.says ≡ 0
+
 -- What holds of each story behind a door: before the call that opens or makes the file, a file is there just where one was; and
 -- an open file has its pages, each of which reads as its last bytes unless it is torn.
 pub record IsSound (door : Door) (pages : ℕ) (s : Story) : Type 0 where
@@ -38,3 +52,4 @@ pub record IsSound (door : Door) (pages : ℕ) (s : Story) : Type 0 where
   pub within : pages * 4096 ≤ length s.bytes
   pub reads : is_open door ≡ true → (i : ℕ) (bytes : List ℕ) → i < pages → last_bytes (pages_of s.settled pages) (log_of s.acts) i ≡ Some bytes
       → page_at s.bytes i ≡ bytes
+  pub kept : IsKept door s

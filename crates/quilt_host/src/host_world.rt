@@ -7,7 +7,7 @@ ghost use Rattle.quilt_world.specs.declared.event.Event.TheVariants.{Wrote, Tore
 ghost use Rattle.quilt_world.specs.declared.disk.Door.TheVariants as doors;
 ghost use Rattle.quilt_host.specs.Paging.{KeepsFile, FailsToMake};
 ghost use Rattle.quilt_host.specs.Story.{Steps};
-ghost use Rattle.quilt_host.specs.Worlds.{tale_of, IsSound};
+ghost use Rattle.quilt_host.specs.Worlds.{tale_of, IsFresh, IsKept, IsSound};
 ghost use Rattle.quilt_host.specs.Tales.{tale_is_consistent};
 
 use crate::failure::Failure;
@@ -32,11 +32,11 @@ pub struct HostWorld<S: System> {
 }
 
 impl<S: System> HostWorld<S> {
-    ghost use Rattle.quilt_host.specs.Systems.{system_of};
+    ghost use Rattle.quilt_host.specs.Systems.{system_of, reads_of, writes_of};
 
-    /// The world before any call, over a system that has not yet opened, made or removed a file.
+    /// The world before any call, over a system that has not yet opened, made or removed a file or written a line.
     pub fn new(system: S) -> HostWorld<S>
-        requires { IfSome (S.told system) (λ s. s.is_there ≡ s.was_there) }
+        requires { IfSome (S.told system) IsFresh }
         ensures system { system_of result ≡ system }
         ensures told { ⟦<HostWorld<S> as Disk>⟧.told result ≡ option_map (tale_of doors.Shut 0 0 0) (S.told system) }
         ensures door { ⟦<HostWorld<S> as Disk>⟧.door result ≡ doors.Shut }
@@ -53,9 +53,12 @@ impl<S: System> HostWorld<S> {
         }
     }
 
-    /// The system, which is given back.
+    /// The system, which is given back. The tale of the world is read off its story.
     pub fn into_system(self) -> S
-        ensures { result ≡ system_of self }
+        ensures system { result ≡ system_of self }
+        ensures told { ⟦<HostWorld<S> as Disk>⟧.told self
+            ≡ option_map (tale_of (⟦<HostWorld<S> as Disk>⟧.door self) (⟦<HostWorld<S> as Disk>⟧.size self) (reads_of self) (writes_of self)) (S.told result) }
+        ensures kept { IfSome (S.told result) (IsKept (⟦<HostWorld<S> as Disk>⟧.door self)) }
     {
         let HostWorld {
             system,

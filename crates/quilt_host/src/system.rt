@@ -1,4 +1,4 @@
-ghost use Rattle.std.specs.Prelude.{◌≡◌, ◌⊎◌, ℕ, ◌<◌, ◌≤◌, Option, Ok, Err, true, false, List, map, length, take, drop, string_bytes, OnOk, OnErr, IfOk, IfSome};
+ghost use Rattle.std.specs.Prelude.{◌≡◌, ◌⊎◌, ℕ, ◌<◌, ◌≤◌, Option, Ok, Err, true, false, List, map, length, take, drop, string_bytes, OnOk, OnErr, IfOk, IfSome, Some, None};
 ghost use Rattle.quilt_host.specs.Story.{Story, Steps};
 ghost use Rattle.quilt_host.specs.Calls.{Opens, Creates, Removes, FailsToRemove, Writes, Loses, Syncs, Links, Takes, Puts, Says, SaysFront};
 
@@ -38,7 +38,8 @@ pub trait System {
     /// The words of the call, the program's name first.
     fn words(&mut self, alloc: Global) -> Result<Vec<String>, Failure>
         ensures nothing { told self.new ≡ told self.old }
-        ensures words { IfOk result (λ all. IfSome (told self.old) (λ s. map string_bytes all.items ≡ s.words)) };
+        ensures words { IfOk result (λ all. IfSome (told self.old) (λ s. s.words ≡ Some (map string_bytes all.items))) }
+        ensures no_text { result ≡ Err Failure.NotText → IfSome (told self.old) (λ s. s.words ≡ None) };
 
     /// Opens the file of this path, and gives its descriptor. It makes no file and changes none.
     fn open(&mut self, path: &str, access: Access) -> Result<RawFd, Failure>

@@ -1,4 +1,5 @@
-ghost use Rattle.std.specs.Prelude.{◌≡◌, IfOk, IfSome};
+ghost use Rattle.std.specs.Prelude.{IfOk, IfSome};
+ghost use Rattle.quilt_host.specs.Worlds.{IsFresh};
 
 use crate::Memory;
 use quilt_host::{HostWorld, System};
@@ -8,7 +9,7 @@ use std::test::Fail;
 
 /// A world over a system in memory with no file, a signal at every third call that one can interrupt, and short pieces.
 fn rough(alloc: Global) -> Result<Memory, AllocError>
-    ensures { IfOk result (λ m. IfSome (⟦<Memory as System>⟧.told m) (λ s. s.is_there ≡ s.was_there)) }
+    ensures { IfOk result (λ m. IfSome (⟦<Memory as System>⟧.told m) IsFresh) }
 {
     let mut system = Memory::new(alloc, &["quilt"], "m", None, b"ab")?;
     system.interrupt_every(3);

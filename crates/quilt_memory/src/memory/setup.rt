@@ -1,5 +1,6 @@
 ghost use Rattle.std.specs.Prelude.{◌≡◌, ◌+◌, ◌^◌, ◌<◌, IfOk, IfSome, drop, length};
 ghost use Rattle.quilt_host.specs.Bytes.{padded, overlaid};
+ghost use Rattle.quilt_host.specs.Worlds.{IsFresh};
 
 use super::Memory;
 use crate::schedule::Schedule;
@@ -15,7 +16,7 @@ impl Memory {
         file: Option<&[u8]>,
         input: &[u8],
     ) -> Result<Memory, AllocError>
-        ensures fresh { IfOk result (λ m. IfSome (⟦<Memory as System>⟧.told m) (λ s. s.is_there ≡ s.was_there)) }
+        ensures fresh { IfOk result (λ m. IfSome (⟦<Memory as System>⟧.told m) IsFresh) }
     {
         let mut owned = Vec::new(alloc);
         for word in words {

@@ -68,7 +68,7 @@ fn copies_of(alloc: Global, texts: &[String]) -> Result<Vec<String>, AllocError>
 
 impl System for Memory {
     ghost told = { λ m. Some (record {
-      words = map string_bytes m.words.items;
+      words = Some (map string_bytes m.words.items);
       path = string_bytes m.path;
       was_there = m.was_there;
       is_there = m.is_there;

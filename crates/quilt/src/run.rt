@@ -1,0 +1,91 @@
+ghost use Rattle.std.specs.Prelude.{◌≡◌, Some, drop, map, string_bytes, IfOk, IfSome};
+ghost use Rattle.std.specs.Process.{exit_status};
+ghost use Rattle.quilt_host.specs.Worlds.{IsFresh};
+ghost use Rattle.quilt_top.specs.Ends.{status_of};
+ghost use Rattle.quilt_top.specs.Words.{asked_for};
+ghost use Rattle.quilt.specs.Program.{Does, Runs, IfTold, order_of};
+
+use crate::report::report;
+use quilt_host::{Failure, HostWorld, System};
+use quilt_top::{End, run_quilt};
+use std::alloc::{AllocError, Global};
+use std::process::ExitCode;
+use std::thread::Threads;
+
+/// What a run of the program came to.
+#[derive(Drop)]
+pub(crate) struct Ran<S> {
+    pub(crate) end: End,
+    /// The exit status.
+    pub(crate) code: ExitCode,
+    /// Whether the line of the end, where it has one, was written to standard error.
+    pub(crate) said: Result<(), Failure>,
+    /// The system, as it is left.
+    pub(crate) system: S,
+}
+
+/// The words behind the first, which is the program's name.
+fn behind_first(words: &[String]) -> &[String]
+    ensures { result.now ≡ drop 1 words.now }
+{
+    &words[words.len().min(1)..]
+}
+
+/// The words as texts.
+fn texts_of<'a>(alloc: Global, words: &'a [String]) -> Result<Vec<&'a str>, AllocError>
+    ensures { IfOk result (λ texts. map (λ t. t.now) texts.items ≡ map string_bytes words.entry.now) }
+{
+    let mut texts = Vec::new(alloc);
+    for word in words {
+        texts.push(word.as_str())?;
+    }
+    Ok(texts)
+}
+
+/// Does what the words behind the first ask for.
+fn run_words<R: Threads + Sync, S: System>(
+    rt: &R,
+    alloc: Global,
+    words: &[String],
+    system: S,
+) -> (End, S)
+    requires { IfSome (S.told system) IsFresh }
+    ensures { IfTold (Does (asked_for (drop 1 (map string_bytes words.now))) result.0) (S.told system) (S.told result.1) }
+{
+    let Ok(texts) = texts_of(alloc, behind_first(words)) else {
+        return (End::Memory, system);
+    };
+    let (end, world) = run_quilt(rt, alloc, &texts, HostWorld::new(system));
+    (end, world.into_system())
+}
+
+/// Does what the words of the call ask for.
+fn run_call<R: Threads + Sync, S: System>(rt: &R, alloc: Global, system: S) -> (End, S)
+    requires { IfSome (S.told system) IsFresh }
+    ensures { IfTold (λ before. Does (order_of before.words) result.0 before) (S.told system) (S.told result.1) }
+{
+    let mut system = system;
+    match system.words(alloc) {
+        Ok(words) => run_words(rt, alloc, &words, system),
+        // A word that is no text is in no table.
+        Err(Failure::NotText) => (End::Usage, system),
+        Err(_) => (End::Memory, system),
+    }
+}
+
+/// Does what the words of the call ask for, and writes the line of its end to standard error. The status tells the end even where
+/// its line cannot be written.
+pub(crate) fn run<R: Threads + Sync, S: System>(rt: &R, alloc: Global, system: S) -> Ran<S>
+    requires { IfSome (S.told system) IsFresh }
+    ensures code { exit_status result.code ≡ status_of result.end }
+    ensures runs { IfTold (Runs result.end result.said) (S.told system) (S.told result.system) }
+{
+    let (end, mut system) = run_call(rt, alloc, system);
+    let said = report(&mut system, end);
+    Ran {
+        end,
+        code: ExitCode::from(end.status()),
+        said,
+        system,
+    }
+}

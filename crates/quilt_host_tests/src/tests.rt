@@ -1,0 +1,169 @@
+use crate::runs::{CALM, Left, Weather, desk_made, desk_ran, made, ran};
+use quilt_trial::trial_text;
+use std::alloc::Global;
+use std::process::Abort;
+use std::thread::Threads;
+
+/// A drawn text of a few commands, with publishes.
+fn drawn_text(rt: &impl Abort, alloc: Global, seed: u64) -> Vec<u8> {
+    let count = u32::try_from(seed % 12).unwrap_or(0);
+    let text = trial_text(alloc, seed, count, 3).expect(rt, "memory");
+    Vec::from_slice(alloc, text.bytes()).expect(rt, "memory")
+}
+
+/// Drawn pieces and signals.
+fn rough(seed: u64) -> Weather {
+    Weather {
+        piece: (seed.wrapping_mul(37) % 5000) as usize + 50,
+        every: seed % 5 + 2,
+        ..CALM
+    }
+}
+
+/// Compares what two runs leave.
+fn compares(rt: &impl Abort, left: &Left, wanted: &Left, seed: u64) {
+    assert_eq!(rt; left.status, wanted.status, "at {seed}");
+    assert!(rt;
+        left.output.as_slice() == wanted.output.as_slice(),
+        "at {seed}"
+    );
+    assert!(rt; left.file.as_slice() == wanted.file.as_slice(), "at {seed}");
+}
+
+/// Runs a drawn text over a new file in short pieces and with signals: it leaves what it leaves over a desk.
+fn plays_drawn_text<R: Threads + Sync + Abort>(rt: &R, alloc: Global, file: &[u8], seed: u64) {
+    let text = drawn_text(rt, alloc, seed);
+    let wanted = desk_ran(rt, alloc, &text);
+    let left = ran(rt, alloc, file, &text, rough(seed));
+    compares(rt, &left, &wanted, seed);
+}
+
+#[test]
+fn drawn_texts_are_answered_as_over_a_desk(rt: HostRuntime) {
+    let alloc = rt.alloc();
+    let file = made(&rt, alloc, CALM).file;
+    for seed in 0..1000_u64 {
+        plays_drawn_text(&rt, alloc, &file, seed);
+    }
+}
+
+#[test]
+fn a_new_file_is_that_of_a_desk(rt: HostRuntime) {
+    let alloc = rt.alloc();
+    let wanted = desk_made(&rt, alloc);
+    for seed in 0..20_u64 {
+        let left = made(&rt, alloc, rough(seed));
+        assert_eq!(rt; left.status, 0);
+        assert!(rt; left.file.as_slice() == wanted.as_slice());
+        assert!(rt; left.output.as_slice() == b"new 16 pages level 3\n".as_slice());
+    }
+}
+
+/// How many lines of the text tell an edition.
+fn editions_in(rt: &impl Abort, text: &[u8]) -> u32 {
+    let mut count = 0_u32;
+    for line in str::from_utf8(text).expect(rt, "text").lines() {
+        if line.starts_with("edition ") {
+            count = count.saturating_add(1);
+        }
+    }
+    count
+}
+
+/// What the edition of this number is told as.
+fn told_as(rt: &impl Abort, alloc: Global, number: u32) -> String {
+    format!(in alloc; "edition {number}\nok\n").expect(rt, "memory")
+}
+
+/// The file opens to the last edition that is answered in the output, or to the one behind it.
+fn opens_whole<R: Threads + Sync + Abort>(rt: &R, alloc: Global, left: &Left, call: u64) {
+    let told = ran(rt, alloc, &left.file, b"edition\n", CALM);
+    assert_eq!(rt; told.status, 0, "where call {call} fails");
+    let answered = editions_in(rt, &left.output);
+    let last = told_as(rt, alloc, answered);
+    let next = told_as(rt, alloc, answered.saturating_add(1));
+    assert!(rt;
+        told.output.as_slice() == last.as_bytes() || told.output.as_slice() == next.as_bytes(),
+        "where call {call} fails"
+    );
+}
+
+/// Whether the text begins with these bytes.
+fn begins_with(text: &[u8], front: &[u8]) -> bool {
+    text.starts_with(front)
+}
+
+/// Runs the text with this call failing: whether no call failed, and so it leaves what is wanted. Else it is a device fault, puts a front of
+/// the replies, and leaves a whole edition.
+fn is_whole<R: Threads + Sync + Abort>(
+    rt: &R,
+    alloc: Global,
+    file: &[u8],
+    text: &[u8],
+    wanted: &Left,
+    call: u64,
+) -> bool {
+    let weather = Weather {
+        piece: 3000,
+        every: 4,
+        failing: call,
+        ..CALM
+    };
+    let left = ran(rt, alloc, file, text, weather);
+    if left.status == wanted.status {
+        compares(rt, &left, wanted, call);
+        return true;
+    }
+    assert_eq!(rt; left.status, 3, "where call {call} fails");
+    assert!(rt;
+        begins_with(&wanted.output, &left.output),
+        "where call {call} fails"
+    );
+    opens_whole(rt, alloc, &left, call);
+    false
+}
+
+/// Lets each call of a run of a drawn text fail in turn, until none does: how many there were.
+fn fails_in_turn<R: Threads + Sync + Abort>(rt: &R, alloc: Global, file: &[u8], seed: u64) -> u64 {
+    let text = drawn_text(rt, alloc, seed);
+    let wanted = desk_ran(rt, alloc, &text);
+    for call in 1..2000_u64 {
+        if is_whole(rt, alloc, file, &text, &wanted, call) {
+            return call;
+        }
+    }
+    0
+}
+
+#[test]
+fn each_call_that_fails_is_a_device_fault(rt: HostRuntime) {
+    let alloc = rt.alloc();
+    let file = made(&rt, alloc, CALM).file;
+    for seed in 0..8_u64 {
+        assert!(rt; fails_in_turn(&rt, alloc, &file, seed) > 50);
+    }
+}
+
+/// A disk with room for so many pages.
+fn disk_of(pages: usize) -> Weather {
+    Weather {
+        room: pages.saturating_mul(4096),
+        ..CALM
+    }
+}
+
+#[test]
+fn a_full_disk_is_told_at_once_and_never_later(rt: HostRuntime) {
+    let alloc = rt.alloc();
+    for pages in 0..35_usize {
+        let left = made(&rt, alloc, disk_of(pages));
+        assert_eq!(rt; left.status, 3);
+        assert!(rt; left.file.is_empty());
+    }
+    let file = made(&rt, alloc, disk_of(35)).file;
+    for seed in 0..100_u64 {
+        let text = drawn_text(&rt, alloc, seed);
+        let left = ran(&rt, alloc, &file, &text, disk_of(35));
+        compares(&rt, &left, &desk_ran(&rt, alloc, &text), seed);
+    }
+}
