@@ -1,17 +1,16 @@
 -- The blocks of a side that meet a window: what is read of them, and what colours they give.
-use Rattle.std.proofs.Common.{◌≡◌, ◌⊎◌, ℕ, suc, pow-suc, pow_pos, ◌+◌, ◌-◌, ◌*◌, ◌%◌, ◌/◌, ◌^◌, ◌<◌, ◌≤◌, Bool, true, false, ◌&&◌, nat_lt, nat_le, eqb, List, [], ◌∷◌}
+use Rattle.std.proofs.Common.{◌≡◌, ℕ, suc, pow-suc, pow_pos, ◌+◌, ◌-◌, ◌*◌, ◌%◌, ◌/◌, ◌^◌, ◌<◌, ◌≤◌, Bool, true, false, ◌&&◌, nat_lt, nat_le, eqb, List, [], ◌∷◌}
 use Rattle.std.proofs.Common.{map, take, get_or, length, refl, sym, ◌∙◌, ap, subst, ⊎_elim, Contains, arith, if◌then◌else◌}
 use Rattle.std.specs.List.{sum_by}
 use Rattle.std.proofs.Math.Nat.{pow-le-pow_right}
 use Rattle.std.proofs.lemmas.List.Sums.{sum_by-cons, sum_by_push}
-use Rattle.std.proofs.lemmas.Bool.{cases_lt, cases_Bool, and_parts, and_from, leb-true, ltb-true, lt-ltb, le-leb, eqb-true, false_from_ne_true}
+use Rattle.std.proofs.lemmas.Bool.{cases_lt, cases_Bool, and_parts, and_from, leb-true, ltb-true, lt-ltb, eqb-true, false_from_ne_true}
 use Rattle.quilt_types.specs.declared.plane.Pixel.{Pixel}
 use Rattle.quilt_types.specs.declared.plane.Window.{Window}
 use Rattle.quilt_types.specs.declared.plane.Block.{Block}
 use Rattle.quilt_types.specs.Plane.{side, corner, parent_of, quarters_of, is_window, in_window, in_block, Holds, IsBlock, Within}
 use Rattle.quilt_types.specs.Layers.{Grid, IsGrid, colour_at}
 use Rattle.quilt_types.specs.Algebra.{grid_of}
-use Rattle.quilt_types.specs.Quadtrees.{is_uniform, leaves}
 use Rattle.quilt_loc.proofs.Members.{Contains-nil, Contains-here, Contains-there, Contains-cons_cases, Contains-map, Contains-flat_map}
 use Rattle.quilt_loc.proofs.Blocks.{Holds-from, in_block-true}
 use Rattle.quilt_loc.proofs.Rows.{colour_at-grid_of}

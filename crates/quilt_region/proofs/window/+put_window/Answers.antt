@@ -1,4 +1,4 @@
-use Rattle.std.proofs.Common.{◌≡◌, ℕ, ◌+◌, ◌*◌, ◌/◌, ◌<◌, ◌≤◌, pow_pos, take, get_or, length, sym, ◌∙◌, ap, subst, arith}
+use Rattle.std.proofs.Common.{◌≡◌, ℕ, ◌+◌, ◌*◌, ◌/◌, take, get_or, length, sym, ◌∙◌, ap, subst, arith}
 use Rattle.std.specs.List.{sum_by}
 use Rattle.std.proofs.lemmas.Result.{on_ok_weaker}
 use Rattle.std.proofs.lemmas.List.Sums.{sum_by-take-le}
@@ -76,9 +76,28 @@ put_window-requires g t c κs within =
     let half = half_over n c.args.side c.args.b c.requires.block c.requires.over.power c.requires.wide c.if-b-side.false
     (get_or c.quarters-q-items.result c.loop-q.q-index zero_block) q.half in
     let rooted = subst (λ (size : ℕ). IsRooted size c.args.tree.now) (sym inv.left.size) c.requires.rooted in
-    let smaller = q.smaller in
-    (omega arith, (within, (rooted, (c.requires.layer, (c.requires.level, (c.requires.window, (c.requires.over,
-    (inv.level, (q.block, (half, inv.long ∙ sym q.from))))))))))
+    let smaller = q.smaller in (
+      omega arith,
+      (
+        within,
+        (
+          rooted,
+          (
+            c.requires.layer,
+            (
+              c.requires.level,
+              (
+                c.requires.window,
+                (
+                  c.requires.over,
+                  (inv.level, (q.block, (half, inv.long ∙ sym q.from))),
+                ),
+              ),
+            ),
+          ),
+        ),
+      ),
+    )
 
 pub returns-in-Err-put_window-clause-sound : goal.returns-in-Err-put_window-clause-sound
 returns-in-Err-put_window-clause-sound g t c grid h =

@@ -1,4 +1,4 @@
-use Rattle.std.proofs.Common.{◌≡◌, ℕ, suc, pow-suc, ◌*◌, ◌^◌, ◌<◌, ◌≤◌, arith}
+use Rattle.std.proofs.Common.{suc, pow-suc, arith}
 use Rattle.quilt_region.proofs.Covers.{doubled_le}
 use Rattle.quilt_region.proofs.window.side_over.Goals.{then-side-w, else-side-w+then-side-w-2}
 use Rattle.quilt_region.proofs.window.side_over.Goals as goal
@@ -13,7 +13,7 @@ loop-side-preserved c =
       power = (suc i, omega arith);
       least = λ k wide high. doubled_le c.loop-side.side i k e
           (elim c.if-side-w.branch [
-            then-side-w w ↦ (let less = w.if-side-w.true in omega arith)
+            | then-side-w w ↦ (let less = w.if-side-w.true in omega arith)
             | else-side-w+then-side-w-2 w ↦ (let less = w.if-side-w-2.true in omega arith)
           ]);
     }
