@@ -47,8 +47,10 @@ pub(crate) fn edit_records<W: Disk>(
     if fits(book.head().records, added.len(), quota) {
         return edit_merged(alloc, book, removed, added);
     }
-    edit_merged(alloc, book, removed, &[])?;
-    edit_merged(alloc, book, &[], added)
+    match edit_merged(alloc, book, removed, &[]) {
+        Err(e) => Err(e),
+        Ok(()) => edit_merged(alloc, book, &[], added),
+    }
 }
 
 /// Takes records out of the tree of the work and puts others in, in one walk, where the tree has room for these beside those that go.
