@@ -20,8 +20,9 @@ fn rough(seed: u64) -> Weather {
     }
 }
 
-/// Compares what two runs leave.
+/// Compares what two runs leave that ended well and published.
 fn compares(rt: &impl Abort, left: &Left, wanted: &Left, seed: u64) {
+    assert!(rt; wanted.status < 2 && editions_in(rt, &wanted.output) > 0);
     assert_eq!(rt; left.status, wanted.status, "at {seed}");
     assert!(rt;
         left.output.as_slice() == wanted.output.as_slice(),
