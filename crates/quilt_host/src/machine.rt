@@ -9,6 +9,9 @@ use std::os::fd::{AsRawFd, RawFd};
 use std::os::unix::fs::{FileExt, MetadataExt};
 use std::{env, fs, io};
 
+/// The least descriptor that is not of standard input, output or error.
+const FIRST_OF_FILES: RawFd = 3;
+
 /// The real system: the file and the folder that it has opened, and the standard streams. It tells nothing.
 #[derive(Drop)]
 pub struct Machine<'a> {
@@ -39,6 +42,16 @@ fn failure(error: io::Error) -> Failure {
         ErrorKind::OutOfMemory => Failure::Memory,
         _ => Failure::Other,
     }
+}
+
+/// The descriptor of a file, and the file, but where it has the place of a standard stream that was closed: what is written
+/// there would go into it, so it is closed at once.
+fn held(file: File) -> (RawFd, Option<File>) {
+    let descriptor = file.as_raw_fd();
+    if descriptor < FIRST_OF_FILES {
+        return (descriptor, None);
+    }
+    (descriptor, Some(file))
 }
 
 /// The file, where one is open.
@@ -80,8 +93,8 @@ impl<'a> System for Machine<'a> {
             .write(may_write)
             .open(self.rt, path)
             .map_err(failure)?;
-        let descriptor = file.as_raw_fd();
-        self.file = Some(file);
+        let (descriptor, file) = held(file);
+        self.file = file;
         Ok(descriptor)
     }
 
@@ -94,15 +107,15 @@ impl<'a> System for Machine<'a> {
 
     fn open_folder(&mut self, path: &str) -> Result<RawFd, Failure> {
         let folder = File::open(self.rt, path).map_err(failure)?;
-        let descriptor = folder.as_raw_fd();
-        self.folder = Some(folder);
+        let (descriptor, folder) = held(folder);
+        self.folder = folder;
         Ok(descriptor)
     }
 
     fn create(&mut self, path: &str) -> Result<RawFd, Failure> {
         let file = File::create_new(self.rt, path).map_err(failure)?;
-        let descriptor = file.as_raw_fd();
-        self.file = Some(file);
+        let (descriptor, file) = held(file);
+        self.file = file;
         Ok(descriptor)
     }
 
