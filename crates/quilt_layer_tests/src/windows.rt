@@ -100,13 +100,10 @@ fn try_window(
     layer: &mut Layer,
     painted: &[(Window, Colour)],
     w: Window,
-) -> Result<(), Fail>
-    requires width { w.x + w.w ≤ 4096 }
-    requires height { w.y + w.h ≤ 4096 }
-{
+) -> Result<(), Fail> {
     let list = layer.leaves_in(rt, alloc, w)?;
-    for y in w.y..w.y + w.h {
-        for x in w.x..w.x + w.w {
+    for y in w.y..w.y.saturating_add(w.h) {
+        for x in w.x..w.x.saturating_add(w.w) {
             let at = Pixel { x, y };
             assert!(rt; colour_in(&list, at) == Some(plain(painted, at)));
         }

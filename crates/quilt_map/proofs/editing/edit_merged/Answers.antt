@@ -1,17 +1,16 @@
-use Rattle.std.proofs.Common.{◌≡◌, ◌+◌, ◌*◌, ◌-◌, ◌≤◌, ℕ, zero, suc, true, false, List, [], ◌∷◌, length, refl, sym, ◌∙◌, ap, subst, arith}
-use Rattle.std.specs.Result.{OnOk, IfErr}
+use Rattle.std.proofs.Common.{◌≡◌, ◌≤◌, true, false, List, [], ◌∷◌, length, sym, ◌∙◌, ap, subst, arith}
+use Rattle.std.specs.Result.{OnOk}
 use Rattle.std.proofs.lemmas.Result.{IfErr-weaker}
 use Rattle.quilt_record.specs.declared.key.Key.{Key}
 use Rattle.quilt_record.specs.declared.record.Record.{Record}
 use Rattle.quilt_types.specs.declared.stop.Stop.{Stop}
-use Rattle.quilt_node.specs.declared.head.Head.{Head}
 use Rattle.quilt_node.specs.Nodes.{keys_of}
 use Rattle.quilt_node.specs.Pages.{is_ascending}
 use Rattle.quilt_store.specs.Stops.{IsSound}
 use Rattle.quilt_btree.specs.Edits.{IsWhole}
 use Rattle.quilt_btree.specs.declared.edit.Edit.{Edit}
 use Rattle.quilt_btree.specs.declared.edit.Edit.TheVariants as edit
-use Rattle.quilt_btree.specs.Batches.{removed, added, are_due, edit_keys, more}
+use Rattle.quilt_btree.specs.Batches.{removed, added, are_due, more}
 use Rattle.quilt_btree.specs.Runs.{put_all, without_all, has_each, has_any}
 use Rattle.quilt_btree.proofs.batches.Rises.{whole_rises}
 use Rattle.quilt_edition.specs.Books.{pages_of, work_of}
