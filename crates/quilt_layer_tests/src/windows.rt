@@ -102,9 +102,12 @@ fn try_window(
     w: Window,
 ) -> Result<(), Fail> {
     let list = layer.leaves_in(rt, alloc, w)?;
-    for y in w.y..w.y.saturating_add(w.h) {
-        for x in w.x..w.x.saturating_add(w.w) {
-            let at = Pixel { x, y };
+    for dy in 0..w.h {
+        for dx in 0..w.w {
+            let at = Pixel {
+                x: w.x.wrapping_add(dx),
+                y: w.y.wrapping_add(dy),
+            };
             assert!(rt; colour_in(&list, at) == Some(plain(painted, at)));
         }
     }
