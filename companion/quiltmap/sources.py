@@ -21,6 +21,7 @@ from pyproj.exceptions import CRSError, ProjError
 from rasterio.enums import Resampling
 from rasterio.errors import NotGeoreferencedWarning, RasterioError, RasterioIOError
 from rasterio.vrt import WarpedVRT
+from rasterio.windows import Window
 
 from .place import Bounds, Place
 
@@ -229,8 +230,8 @@ class RasterSource:
             return Place(side, Affine(pixel, 0, turn.c, 0, -pixel, turn.f), self.crs)
         return Place.over(self.bounds, side, self.crs)
 
-    def read(self, place: Place) -> "np.ma.MaskedArray":
-        """The values at the middles of the pixels of a place, masked where there is none."""
+    def read(self, place: Place, window: Optional[Window] = None) -> "np.ma.MaskedArray":
+        """The values at the middles of the pixels of a place, or of a window of it, masked where there is none."""
         with _opened_raster(self.source) as raster:
             crs = _PLANE if self.crs is None or place.crs is None else None
             options = {
@@ -246,8 +247,8 @@ class RasterSource:
             if raster.nodata is None:
                 options["add_alpha"] = True
             with WarpedVRT(raster, **options) as warped:
-                values = warped.read(self.band)
-                mask = warped.read_masks(self.band) == 0
+                values = warped.read(self.band, window=window)
+                mask = warped.read_masks(self.band, window=window) == 0
         if values.dtype.kind == "f":
             mask |= ~np.isfinite(values)
         return np.ma.MaskedArray(values, mask)
