@@ -69,7 +69,7 @@ class _Tiles(click.ParamType):
 
 def _on_a_cluster(function: Callable[..., Any]) -> Callable[..., Any]:
     """A command with the options that say where its tasks are done."""
-    function = click.option("--workers", type=click.IntRange(1), help="How many workers on this machine, else one a processor.")(function)
+    function = click.option("--workers", type=click.IntRange(1), help="How many processes do the work, else threads of this one.")(function)
     return click.option("--scheduler", metavar="ADDRESS", help="The scheduler of a cluster whose workers reach FOLDER by the same path.")(function)
 
 

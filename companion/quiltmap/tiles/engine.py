@@ -31,14 +31,15 @@ class Lost(QuiltError):
 class Engine:
     """Where tasks are done. One task alone is done in this process, several by the workers of dask.
 
-    client: a client of dask that is open, and stays so; else scheduler: the address of one; else a cluster of this machine,
-    with so many workers, each a process, that is made when it is needed first.
+    client: a client of dask that is open, and stays so; else scheduler: the address of one; else a cluster of this machine that
+    is made when it is needed first: of so many workers, each a process, or where no number is given of threads of this process, one a
+    processor.
     """
 
     def __init__(self, client: Optional[Client] = None, scheduler: Optional[str] = None, workers: Optional[int] = None) -> None:
         self._given = client
         self._scheduler = scheduler
-        self._workers = workers or os.cpu_count() or 1
+        self._workers = workers
         self._client: Optional[Client] = client
         self._cluster: Optional[LocalCluster] = None
 
@@ -66,9 +67,7 @@ class Engine:
             if self._scheduler is not None:
                 self._client = _client_of(self._scheduler)
             else:
-                self._cluster = LocalCluster(
-                    n_workers=self._workers, threads_per_worker=1, dashboard_address=None, silence_logs=logging.CRITICAL
-                )
+                self._cluster = _cluster_of(self._workers)
                 self._client = Client(self._cluster)
         return self._client
 
@@ -85,6 +84,13 @@ class Engine:
         if self._cluster is not None:
             self._cluster.close()
         self._client, self._cluster = self._given, None
+
+
+def _cluster_of(workers: Optional[int]) -> LocalCluster:
+    options = {"dashboard_address": None, "silence_logs": logging.CRITICAL}
+    if workers is None:
+        return LocalCluster(n_workers=1, threads_per_worker=os.cpu_count() or 1, processes=False, **options)
+    return LocalCluster(n_workers=workers, threads_per_worker=1, processes=True, **options)
 
 
 def _client_of(scheduler: str) -> Client:

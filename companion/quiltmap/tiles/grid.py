@@ -288,6 +288,17 @@ class Grid:
             self.frame.check_window(*window, line)
             change.publish({key: command("rect", a, *local, c) for key, local in _by_tile(self.frame.parts(*window))})
 
+    def raster(self, a: str, colours: ArrayLike) -> None:
+        """Gives a region layer the colours of an array of whole numbers of shape (height, width). Refused: unknown, kind, full."""
+        table = np.asarray(colours)
+        if table.shape != (self.frame.height, self.frame.width):
+            raise ValueError(f"a raster of this grid has the shape {(self.frame.height, self.frame.width)}, not {table.shape}")
+        with self.changing() as change:
+            change.need(f"raster {a}", (a, "region"))
+            parts = {key: self.frame.origin(key) for key in self.frame.tiles()}
+            side = self.frame.side
+            change.publish({key: command("raster", a, table[y : y + side, x : x + side]) for key, (x, y) in parts.items()})
+
     def at(self, a: str, x: int, y: int) -> int:
         """The colour of a pixel. Refused: unknown, kind, outside."""
         return int(self.show(a, x, y, 1, 1)[0, 0])

@@ -3,7 +3,6 @@
 from __future__ import annotations
 
 import shutil
-from pathlib import Path
 from typing import Any, Callable, Iterator, NamedTuple, Optional
 
 import numpy as np
