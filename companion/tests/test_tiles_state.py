@@ -18,7 +18,7 @@ from test_tiles import is_whole, shown  # noqa: E402
 
 import quiltmap  # noqa: E402
 from quiltmap import InUse, QuiltError, Refused, tiles  # noqa: E402
-from quiltmap.tiles import pieces, state, work  # noqa: E402
+from quiltmap.tiles import engine, pieces, state, work  # noqa: E402
 from quiltmap.tiles.engine import Lost  # noqa: E402
 
 COMPANION = Path(__file__).resolve().parents[1]
@@ -322,6 +322,7 @@ def test_a_scheduler_that_is_lost(program, tmp_path, monkeypatch):
         assert is_whole(opened(tmp_path / "grid"))
         again.copy("a", "b")
         assert again.area("b", 3) == 16 * 32
+    monkeypatch.setattr(engine, "CONNECTING", 1)
     with pytest.raises(Lost, match="no scheduler answers"):
         tiles.Grid(str(tmp_path / "grid"), scheduler=address).area("a", 3)
 

@@ -2,6 +2,7 @@
 
 from __future__ import annotations
 
+import logging
 from fractions import Fraction
 from typing import Any, Callable, Iterable, Iterator, Optional
 
@@ -76,6 +77,9 @@ def _on_a_cluster(function: Callable[..., Any]) -> Callable[..., Any]:
 @click.group(context_settings={"help_option_names": ["-h", "--help"], "ignore_unknown_options": False})
 def main() -> None:
     """Areas larger than one map: a grid of maps in a folder, and commands over the whole."""
+    # What goes wrong is told in one line, and not a second time by dask.
+    for name in ("distributed", "distributed.client", "distributed.utils"):
+        logging.getLogger(name).setLevel(logging.CRITICAL)
 
 
 @main.command(name="new")

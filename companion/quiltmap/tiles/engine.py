@@ -14,6 +14,9 @@ from distributed.scheduler import KilledWorker
 
 from ..errors import QuiltError
 
+#: How many seconds a scheduler is waited for.
+CONNECTING = 10.0
+
 #: How many seconds pass between two looks at the scheduler while tasks are under way.
 _LOOK = 0.5
 
@@ -95,7 +98,7 @@ def _cluster_of(workers: Optional[int]) -> LocalCluster:
 
 def _client_of(scheduler: str) -> Client:
     try:
-        return Client(scheduler, timeout=10)
+        return Client(scheduler, timeout=CONNECTING)
     except OSError as error:
         raise Lost(f"no scheduler answers at {scheduler}: {error}") from None
 

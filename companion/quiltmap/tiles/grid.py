@@ -727,25 +727,29 @@ def _reaching(frame: Frame, depths: dict[Key, Depths], key: Key, r: int) -> tupl
         none = np.empty((0, 3), np.int64)
         return none, none, none, none
     most = -(-r // frame.side)
-    rows = range(row - most, row + most + 1)
+    rows = range(max(row - most, 0), min(row + most + 1, frame.rows))
 
-    def reach(keys: Iterable[tuple[int, Key]], edge: str) -> NDArray[np.int64]:
-        """How many pixels a buffer reaches in, of the nearest of tiles behind an edge, each with how many lie between."""
+    def reach(keys: Iterable[Key], edge: str) -> NDArray[np.int64]:
+        """How many pixels a buffer reaches in, of tiles behind an edge, the nearest first."""
         far = np.full(frame.side, NONE)
-        for between, other in keys:
-            if other in depths:
-                far = np.minimum(far, getattr(depths[other], edge) + between * frame.side)
+        for between, other in enumerate(key for key in keys if key in depths):
+            far = np.minimum(far, getattr(depths[other], edge) + between * frame.side)
         return np.maximum(r - far, 0)
 
-    def beside(step: int, edge: str) -> Runs:
-        lines = [reach(((n, (column + step * (n + 1), line)) for n in range(most)), edge) for line in rows]
-        return _runs(_widened(np.concatenate(lines), r)[most * frame.side :][: frame.side], frame.side)
+    def beside(columns: Iterable[int], edge: str) -> Runs:
+        behind = list(columns)[:most]
+        lines = np.concatenate([reach(((i, j) for i in behind), edge) for j in rows])
+        return _runs(_widened(lines, r)[(row - rows[0]) * frame.side :][: frame.side], frame.side)
 
-    def above(step: int, edge: str) -> Runs:
-        found = reach(((n, (column, row + step * (n + 1))) for n in range(most)), edge)
-        return _runs(_widened(found, r), frame.side)
+    def above(lines: Iterable[int], edge: str) -> Runs:
+        return _runs(_widened(reach(((column, j) for j in list(lines)[:most]), edge), r), frame.side)
 
-    return above(-1, "bottom"), above(1, "top"), beside(-1, "right"), beside(1, "left")
+    return (
+        above(range(row - 1, -1, -1), "bottom"),
+        above(range(row + 1, frame.rows), "top"),
+        beside(range(column - 1, -1, -1), "right"),
+        beside(range(column + 1, frame.columns), "left"),
+    )
 
 
 def _widened(reach: NDArray[np.int64], r: int) -> NDArray[np.int64]:
