@@ -85,7 +85,7 @@ def run(folder: Path, columns: int, rows: int, level: int, pages: int, workers: 
     """Does all steps: the seconds of each, and what each answers."""
     seconds: dict[str, float] = {}
     answers: dict[str, Any] = {}
-    with LocalCluster(n_workers=workers, threads_per_worker=1, dashboard_address=None) as cluster, Client(cluster) as client:
+    with LocalCluster(n_workers=workers, threads_per_worker=1, dashboard_address="127.0.0.1:0") as cluster, Client(cluster) as client:
         name = str(folder / f"grid{workers}")
         begin = time.perf_counter()
         tiles.new(name, columns, rows, level, pages)

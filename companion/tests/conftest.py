@@ -9,7 +9,7 @@ import pytest
 def workers(program: str) -> Iterator[object]:
     """A client of two workers that are threads of this process."""
     distributed = pytest.importorskip("distributed", reason="python3-distributed is not installed: companion/apt-packages-tiles.txt")
-    cluster = distributed.LocalCluster(n_workers=1, threads_per_worker=2, processes=False, dashboard_address=None)
+    cluster = distributed.LocalCluster(n_workers=1, threads_per_worker=2, processes=False, dashboard_address="127.0.0.1:0")
     client = distributed.Client(cluster)
     yield client
     client.close()

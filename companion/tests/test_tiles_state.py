@@ -258,7 +258,7 @@ exec "$real" "$@"
 """
 
 
-@pytest.mark.parametrize("moment", [KILL_BEFORE, KILL_BEHIND])
+@pytest.mark.parametrize("moment", [KILL_BEFORE, KILL_BEHIND], ids=["before", "behind"])
 def test_a_worker_that_is_killed(program, tmp_path, monkeypatch, moment):
     tiles.new(str(tmp_path / "grid"), 2, 2, 4, 16)
     opened(tmp_path / "grid").region("a", 3)
@@ -342,13 +342,13 @@ def small_disk(folder, kilobytes):
 def test_a_full_disk(program, tmp_path):
     disk = tmp_path / "disk"
     with small_disk(disk, 4_000):
-        tiles.new(str(disk / "grid"), 2, 1, 6, 60)
+        tiles.new(str(disk / "grid"), 2, 1, 6, 200)
         grid = opened(disk / "grid")
         board = np.random.default_rng(1).integers(0, 2, (64, 128)).astype(np.uint8)
         grid.region("a", 0)
         grid.raster("a", board[::-1] * 0 + 1)
         refused = done = 0
-        for free in range(0, 700, 20):
+        for free in range(0, 3000, 75):
             filler = disk / "filler"
             room = os.statvfs(disk).f_bavail * os.statvfs(disk).f_bsize
             filler.write_bytes(bytes(max(room - free * 1024, 0)))

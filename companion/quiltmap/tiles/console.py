@@ -45,7 +45,7 @@ FORMS = {
     "union": "A B C",
     "inter": "A B C",
     "diff": "A B C",
-    "recolour": "A C [o n]..",
+    "recolour": "A C pairs..",
     "window": "A x y w h C",
     "buffer": "A r C",
     "area": "A c",
@@ -181,10 +181,13 @@ def _add(word: str, form: str) -> None:
 
     for name in reversed(form.split()):
         kind = str if name.isupper() else click.IntRange(0)
-        run = click.argument(_parameter(name), metavar=name, type=kind, required=not name.startswith("["), nargs=-1 if name.endswith("..") else 1)(run)
+        many = name.endswith("..")
+        shown = "o n .." if many else name
+        run = click.argument(_parameter(name), metavar=shown, type=kind, required=not name.startswith("["), nargs=-1 if many else 1)(run)
     run = click.argument("folder", metavar="FOLDER", type=click.Path())(run)
-    run.__doc__ = f"The command `{' '.join([word, form]).strip()}` over the grid FOLDER."
-    main.command(name=word, short_help=f"{word} {form}".strip())(run)
+    usage = f"{word} {form}".strip().replace("pairs..", "o n ..")
+    run.__doc__ = f"The command `{usage}` over the grid FOLDER."
+    main.command(name=word, short_help=usage)(run)
 
 
 def _parameter(name: str) -> str:

@@ -90,7 +90,7 @@ class Engine:
 
 
 def _cluster_of(workers: Optional[int]) -> LocalCluster:
-    options = {"dashboard_address": None, "silence_logs": logging.CRITICAL}
+    options = {"dashboard_address": "127.0.0.1:0", "silence_logs": logging.CRITICAL}
     if workers is None:
         return LocalCluster(n_workers=1, threads_per_worker=os.cpu_count() or 1, processes=False, **options)
     return LocalCluster(n_workers=workers, threads_per_worker=1, processes=True, **options)
