@@ -1,6 +1,9 @@
 """What the tests of grids share: workers of dask in this process, and grids that are drawn."""
 
+import os
+import tempfile
 from collections.abc import Callable, Iterator
+from pathlib import Path
 
 import pytest
 
@@ -17,17 +20,22 @@ def workers(program: str) -> Iterator[object]:
 
 
 @pytest.fixture
-def make_grid(workers: object, tmp_path) -> Iterator[Callable[..., object]]:
-    """Makes a grid of empty tiles in a folder of the test, and opens it."""
+def quick_path(tmp_path: Path) -> Iterator[Path]:
+    """A folder of the test in memory, where the system has such: the many syncs of a grid then take no time."""
+    if not os.access("/dev/shm", os.W_OK):
+        yield tmp_path
+        return
+    with tempfile.TemporaryDirectory(dir="/dev/shm") as folder:
+        yield Path(folder)
+
+
+@pytest.fixture
+def make_grid(workers: object, quick_path: Path) -> Callable[..., object]:
+    """Makes a grid of empty tiles, and opens it."""
     from quiltmap import tiles
 
-    made = []
-
     def make(columns: int, rows: int, level: int, pages: int = 200, name: str = "grid", **options: object) -> object:
-        tiles.new(str(tmp_path / name), columns, rows, level, pages, **options)
-        made.append(tiles.Grid(str(tmp_path / name), client=workers))
-        return made[-1]
+        tiles.new(str(quick_path / name), columns, rows, level, pages, **options)
+        return tiles.Grid(str(quick_path / name), client=workers)
 
-    yield make
-    for grid in made:
-        grid.close()
+    return make

@@ -40,37 +40,37 @@ def opened(folder):
     return grid
 
 
-def test_a_new_grid(program, tmp_path):
-    folder = tmp_path / "grid"
-    (tmp_path / "grid.new").mkdir()
-    (tmp_path / "grid.new" / "left").write_text("of a call that was stopped")
+def test_a_new_grid(program, quick_path):
+    folder = quick_path / "grid"
+    (quick_path / "grid.new").mkdir()
+    (quick_path / "grid.new" / "left").write_text("of a call that was stopped")
     tiles.new(str(folder), 3, 2, 4, 30, bounds=(1000, 2000, 1480, 2320))
     told = json.loads((folder / "manifest.json").read_text())
     assert [told[name] for name in ("columns", "rows", "level", "pages", "state", "layers")] == [3, 2, 4, 30, 0, []]
     assert told["tiles"] == [{"column": i, "row": j, "edition": 0} for i in range(3) for j in range(2)]
     assert sorted(path.name for path in (folder / "tiles").iterdir()) == [f"c{i}r{j}" for i in range(3) for j in range(2)]
-    assert not (tmp_path / "grid.new").exists()
+    assert not (quick_path / "grid.new").exists()
     grid = opened(folder)
     assert grid.place.transform.a == 10 and grid.place.transform * (0, 0) == (1000, 2320)
     assert (grid.frame.width, grid.frame.height) == (48, 32) and is_whole(grid)
     with pytest.raises(tiles.BadGrid, match="is there already"):
         tiles.new(str(folder), 1, 1, 4, 30)
     with pytest.raises(ValueError):
-        tiles.new(str(tmp_path / "huge"), 512, 1, 12, 30)
+        tiles.new(str(quick_path / "huge"), 512, 1, 12, 30)
     with pytest.raises(quiltmap.Ended, match="usage"):
-        tiles.new(str(tmp_path / "few"), 1, 1, 4, 15)
-    assert sorted(path.name for path in tmp_path.iterdir()) == ["grid"]
+        tiles.new(str(quick_path / "few"), 1, 1, 4, 15)
+    assert sorted(path.name for path in quick_path.iterdir()) == ["grid"]
 
 
-def test_what_is_no_grid(program, tmp_path):
+def test_what_is_no_grid(program, quick_path):
     with pytest.raises(tiles.BadGrid, match="is no grid"):
-        tiles.Grid(str(tmp_path))
-    tiles.new(str(tmp_path / "grid"), 2, 1, 2, 16)
-    manifest = tmp_path / "grid" / "manifest.json"
+        tiles.Grid(str(quick_path))
+    tiles.new(str(quick_path / "grid"), 2, 1, 2, 16)
+    manifest = quick_path / "grid" / "manifest.json"
     for text in ("", "{}", manifest.read_text().replace('"columns": 2', '"columns": 3'), manifest.read_text().replace('"manifest": 1', '"manifest": 2')):
         manifest.write_text(text)
         with pytest.raises(tiles.BadGrid, match="is no manifest"):
-            tiles.Grid(str(tmp_path / "grid"))
+            tiles.Grid(str(quick_path / "grid"))
 
 
 def test_a_copy_has_the_holes_of_the_file(tmp_path):
@@ -116,8 +116,8 @@ def changed_until(folder, change, count):
     return status == 0
 
 
-def test_a_stop_anywhere_leaves_one_of_two_states(program, tmp_path):
-    folder = tmp_path / "grid"
+def test_a_stop_anywhere_leaves_one_of_two_states(program, quick_path):
+    folder = quick_path / "grid"
     tiles.new(str(folder), 2, 1, 2, 16)
     grid = opened(folder)
     grid.region("a", 0)
@@ -163,29 +163,29 @@ def half_changed(grid, key):
         yield change, tile, token
 
 
-def test_readers_meanwhile_have_the_state_before(program, tmp_path):
-    tiles.new(str(tmp_path / "grid"), 2, 2, 3, 16)
-    grid = opened(tmp_path / "grid")
+def test_readers_meanwhile_have_the_state_before(program, quick_path):
+    tiles.new(str(quick_path / "grid"), 2, 2, 3, 16)
+    grid = opened(quick_path / "grid")
     grid.region("a", 0)
     grid.rect("a", 2, 2, 10, 9, 5)
     before = shown(grid, "a")
     with half_changed(grid, (1, 0)) as (change, tile, token):
         with quiltmap.open(tile.path) as m:
             assert m.edition() == tile.edition + 1
-        other = opened(tmp_path / "grid")
+        other = opened(quick_path / "grid")
         assert (shown(other, "a") == before).all() and other.area("a", 5) == 90
         assert [layer.name for layer in other.layers()] == ["a"]
         with pytest.raises(InUse):
             other.region("c", 0)
         assert grid.store.is_left()
     # The change went no further: the next opening puts the tile back.
-    assert (shown(opened(tmp_path / "grid"), "a") == before).all()
-    assert is_whole(opened(tmp_path / "grid"))
+    assert (shown(opened(quick_path / "grid"), "a") == before).all()
+    assert is_whole(opened(quick_path / "grid"))
 
 
-def test_a_task_that_is_done_again_begins_anew_and_one_that_is_late_does_nothing(program, tmp_path):
-    tiles.new(str(tmp_path / "grid"), 2, 1, 3, 16)
-    grid = opened(tmp_path / "grid")
+def test_a_task_that_is_done_again_begins_anew_and_one_that_is_late_does_nothing(program, quick_path):
+    tiles.new(str(quick_path / "grid"), 2, 1, 3, 16)
+    grid = opened(quick_path / "grid")
     grid.region("a", 4)
     with half_changed(grid, (0, 0)) as (change, tile, token):
         # A second `copy a b` would be refused if the first try were still in the tile.
@@ -195,14 +195,14 @@ def test_a_task_that_is_done_again_begins_anew_and_one_that_is_late_does_nothing
             work.change(tile, None, token, pieces.call, "copy", "a", "b")
         with pytest.raises(tiles.MovedOn, match="given up"):
             work.change(tile, None, grid.store.begin(change.manifest)[::-1], pieces.call, "copy", "a", "b")
-    assert is_whole(opened(tmp_path / "grid"))
+    assert is_whole(opened(quick_path / "grid"))
 
 
-def test_a_tile_that_was_changed_by_hand_is_told(program, tmp_path):
-    tiles.new(str(tmp_path / "grid"), 2, 1, 3, 16)
-    grid = opened(tmp_path / "grid")
+def test_a_tile_that_was_changed_by_hand_is_told(program, quick_path):
+    tiles.new(str(quick_path / "grid"), 2, 1, 3, 16)
+    grid = opened(quick_path / "grid")
     grid.region("a", 4)
-    with quiltmap.open(tmp_path / "grid" / "tiles" / "c1r0") as m:
+    with quiltmap.open(quick_path / "grid" / "tiles" / "c1r0") as m:
         m.set("a", 0, 0, 9)
         m.publish()
     for ask in (lambda: grid.area("a", 4), lambda: grid.copy("a", "b")):
@@ -259,12 +259,12 @@ exec "$real" "$@"
 
 
 @pytest.mark.parametrize("moment", [KILL_BEFORE, KILL_BEHIND], ids=["before", "behind"])
-def test_a_worker_that_is_killed(program, tmp_path, monkeypatch, moment):
-    tiles.new(str(tmp_path / "grid"), 2, 2, 4, 16)
-    opened(tmp_path / "grid").region("a", 3)
-    flag = tmp_path / "flag"
-    monkeypatch.setenv("QUILT", wrapper(tmp_path, program, moment.format(flag=flag)))
-    with tiles.Grid(str(tmp_path / "grid"), workers=2) as grid:
+def test_a_worker_that_is_killed(program, quick_path, monkeypatch, moment):
+    tiles.new(str(quick_path / "grid"), 2, 2, 4, 16)
+    opened(quick_path / "grid").region("a", 3)
+    flag = quick_path / "flag"
+    monkeypatch.setenv("QUILT", wrapper(quick_path, program, moment.format(flag=flag)))
+    with tiles.Grid(str(quick_path / "grid"), workers=2) as grid:
         grid.copy("a", "b")
         assert flag.exists() and (moment is KILL_BEFORE or (flag / "published").exists())
         assert grid.area("b", 3) == 32 * 32 and is_whole(grid)
@@ -296,13 +296,13 @@ def cluster_of_processes(folder):
             process.wait()
 
 
-def test_a_scheduler_that_is_lost(program, tmp_path, monkeypatch):
-    tiles.new(str(tmp_path / "grid"), 2, 1, 4, 16)
-    opened(tmp_path / "grid").region("a", 3)
-    flag = tmp_path / "flag"
+def test_a_scheduler_that_is_lost(program, quick_path, monkeypatch):
+    tiles.new(str(quick_path / "grid"), 2, 1, 4, 16)
+    opened(quick_path / "grid").region("a", 3)
+    flag = quick_path / "flag"
     slow = f'case "$*" in run*tiles/c1r0) if mkdir {flag} 2>/dev/null; then sleep 2; fi ;; esac\nexec "$real" "$@"'
-    monkeypatch.setenv("QUILT", wrapper(tmp_path, program, slow))
-    with cluster_of_processes(tmp_path) as (scheduler, address):
+    monkeypatch.setenv("QUILT", wrapper(quick_path, program, slow))
+    with cluster_of_processes(quick_path) as (scheduler, address):
         child = os.fork()
         if child == 0:
             # Waits until the program is under way in the worker, and kills the scheduler then.
@@ -310,21 +310,21 @@ def test_a_scheduler_that_is_lost(program, tmp_path, monkeypatch):
                 time.sleep(0.02)
             os.kill(scheduler.pid, signal.SIGKILL)
             os._exit(0)
-        with tiles.Grid(str(tmp_path / "grid"), scheduler=address) as grid:
+        with tiles.Grid(str(quick_path / "grid"), scheduler=address) as grid:
             with pytest.raises(Lost):
                 grid.copy("a", "b")
         os.waitpid(child, 0)
         monkeypatch.setenv("QUILT", program)
-        again = opened(tmp_path / "grid")
+        again = opened(quick_path / "grid")
         assert again.state == 1 and again.layer("b") is None and is_whole(again)
         # What the worker does too late changes nothing.
         time.sleep(2.5)
-        assert is_whole(opened(tmp_path / "grid"))
+        assert is_whole(opened(quick_path / "grid"))
         again.copy("a", "b")
         assert again.area("b", 3) == 16 * 32
     monkeypatch.setattr(engine, "CONNECTING", 1)
     with pytest.raises(Lost, match="no scheduler answers"):
-        tiles.Grid(str(tmp_path / "grid"), scheduler=address).area("a", 3)
+        tiles.Grid(str(quick_path / "grid"), scheduler=address).area("a", 3)
 
 
 @contextlib.contextmanager
@@ -347,7 +347,7 @@ def test_a_full_disk(program, tmp_path):
         board = np.random.default_rng(1).integers(0, 2, (64, 128)).astype(np.uint8)
         grid.region("a", 0)
         grid.raster("a", board[::-1] * 0 + 1)
-        refused = done = 0
+        done, causes = 0, set()
         for free in range(0, 3000, 75):
             filler = disk / "filler"
             room = os.statvfs(disk).f_bavail * os.statvfs(disk).f_bsize
@@ -356,8 +356,8 @@ def test_a_full_disk(program, tmp_path):
             try:
                 grid.raster("a", board)
             except (OSError, QuiltError) as error:
-                assert "No space left" in str(error) or "device fault" in str(error)
-                refused += 1
+                causes |= {cause for cause in ("No space left", "device fault") if cause in str(error)}
+                assert causes
                 assert grid.state == number
                 assert (shown(grid, "a") == 1).all()
             else:
@@ -367,4 +367,5 @@ def test_a_full_disk(program, tmp_path):
             assert is_whole(grid)
             if done:
                 break
-        assert done == 1 and refused > 3
+        # A copy did not fit, and a program could not write; at last there was room.
+        assert done == 1 and causes == {"No space left", "device fault"}
