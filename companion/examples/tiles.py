@@ -14,6 +14,7 @@ from __future__ import annotations
 import os
 import resource
 import sys
+import threading
 import time
 from pathlib import Path
 from typing import Any, Callable
@@ -76,16 +77,46 @@ def steps_of(grid: tiles.Grid, raster: Path, lines: Path) -> dict[str, Callable[
     }
 
 
-def memory() -> tuple[int, int]:
-    """The most memory that this process took, and the most that one of the programs that it started took, in kilobytes."""
-    return resource.getrusage(resource.RUSAGE_SELF).ru_maxrss, resource.getrusage(resource.RUSAGE_CHILDREN).ru_maxrss
+def memory() -> int:
+    """The most memory that this process took, in kilobytes."""
+    return resource.getrusage(resource.RUSAGE_SELF).ru_maxrss
+
+
+class Watch(threading.Thread):
+    """Looks five times a second at the programs `quilt` that are under way: `most` is the most memory that one took, in kilobytes."""
+
+    def __init__(self) -> None:
+        super().__init__(daemon=True)
+        self.most = 0
+        self._ended = threading.Event()
+
+    def run(self) -> None:
+        while not self._ended.wait(0.2):
+            for folder in Path("/proc").glob("[0-9]*"):
+                try:
+                    if (folder / "comm").read_text() == "quilt\n":
+                        told = (folder / "status").read_text().split()
+                        self.most = max(self.most, int(told[told.index("VmHWM:") + 1]))
+                except (OSError, ValueError):
+                    continue  # It has ended meanwhile.
+
+    def __enter__(self) -> "Watch":
+        self.start()
+        return self
+
+    def __exit__(self, *_: object) -> None:
+        self._ended.set()
 
 
 def run(folder: Path, columns: int, rows: int, level: int, pages: int, workers: int) -> tuple[dict[str, float], dict[str, Any]]:
     """Does all steps: the seconds of each, and what each answers."""
     seconds: dict[str, float] = {}
     answers: dict[str, Any] = {}
-    with LocalCluster(n_workers=workers, threads_per_worker=1, dashboard_address="127.0.0.1:0") as cluster, Client(cluster) as client:
+    with (
+        LocalCluster(n_workers=workers, threads_per_worker=1, dashboard_address="127.0.0.1:0") as cluster,
+        Client(cluster) as client,
+        Watch() as watch,
+    ):
         name = str(folder / f"grid{workers}")
         begin = time.perf_counter()
         tiles.new(name, columns, rows, level, pages)
@@ -96,9 +127,8 @@ def run(folder: Path, columns: int, rows: int, level: int, pages: int, workers: 
                 answers[step] = do()
                 seconds[step] = time.perf_counter() - begin
                 print(f"{workers} workers: {step}: {seconds[step]:.1f} s: {answers[step]}", file=sys.stderr, flush=True)
-        took = client.run(memory).values()
-    answers["most memory of a worker, MB"] = max(worker for worker, _ in took) // 1024
-    answers["most memory of a program, MB"] = max(program for _, program in took) // 1024
+        answers["most memory of a worker, MB"] = max(client.run(memory).values()) // 1024
+        answers["most memory of a program, MB"] = watch.most // 1024
     answers["room on the disk, MB"] = sum(path.stat().st_blocks for path in Path(name).rglob("*")) // 2048
     return seconds, answers
 

@@ -14,7 +14,7 @@ from test_tiles_whole import line, range_by_stops  # noqa: E402
 import quiltmap  # noqa: E402
 from quiltmap import Refused  # noqa: E402
 
-SHAPES = [(2, 3, 5), (3, 2, 6), (5, 4, 5)]
+SHAPES = [(2, 3, 5), (2, 2, 8), (5, 4, 5)]
 
 
 def drawn_region(random, frame, colours=4):
@@ -84,7 +84,7 @@ def is_whole(grid):
 @pytest.mark.parametrize("columns, rows, level", SHAPES)
 def test_regions(make_grid, columns, rows, level):
     random = np.random.default_rng(columns * 100 + rows * 10 + level)
-    grid = make_grid(columns, rows, level)
+    grid = make_grid(columns, rows, level, pages=1000)
     a, b = (drawn_region(random, grid.frame) for _ in range(2))
     for name, colours in (("a", a), ("b", b)):
         grid.region(name, 3)
@@ -121,7 +121,7 @@ def test_regions(make_grid, columns, rows, level):
 @pytest.mark.parametrize("columns, rows, level, distances", [(2, 3, 5, (0, 1, 5, 32, 33, 75)), (3, 2, 6, (3, 64)), (4, 4, 3, (7, 8, 9, 17, 40))])
 def test_buffers(make_grid, columns, rows, level, distances):
     random = np.random.default_rng(columns + rows + level)
-    grid = make_grid(columns, rows, level)
+    grid = make_grid(columns, rows, level, pages=1000)
     whole = np.zeros((grid.frame.height, grid.frame.width), np.uint8)
     for x, y in random.integers(0, [grid.frame.width, grid.frame.height], (4, 2)):
         whole[y, x] = random.integers(1, 4)
@@ -149,7 +149,7 @@ def test_a_buffer_of_many_runs(make_grid):
 @pytest.mark.parametrize("columns, rows, level", SHAPES)
 def test_points(make_grid, columns, rows, level):
     random = np.random.default_rng(columns + 10 * rows + 100 * level)
-    grid = make_grid(columns, rows, level)
+    grid = make_grid(columns, rows, level, pages=1000)
     frame = grid.frame
     numbers = random.permutation(frame.width * frame.height)[: 20 * columns * rows]
     s = frame.side
@@ -177,7 +177,7 @@ def test_points(make_grid, columns, rows, level):
 @pytest.mark.parametrize("columns, rows, level", SHAPES)
 def test_segments(make_grid, columns, rows, level):
     random = np.random.default_rng(columns + 10 * rows + 100 * level + 1)
-    grid = make_grid(columns, rows, level)
+    grid = make_grid(columns, rows, level, pages=1000)
     frame = grid.frame
     segments = drawn_segments(random, frame, 15 * columns * rows)
     segments = segments[np.argsort(segments[:, 0])]
@@ -217,7 +217,7 @@ def distance_of(x, y, segment):
 @pytest.mark.parametrize("columns, rows, level", SHAPES)
 def test_segments_beside_regions_and_each_other(make_grid, columns, rows, level):
     random = np.random.default_rng(columns + 10 * rows + 100 * level + 2)
-    grid = make_grid(columns, rows, level)
+    grid = make_grid(columns, rows, level, pages=1000)
     frame = grid.frame
     layers = {name: drawn_segments(random, frame, 8 * columns * rows) for name in ("l", "m")}
     for name, segments in layers.items():
