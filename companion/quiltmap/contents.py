@@ -231,7 +231,8 @@ def colours_of(values: "np.ma.MaskedArray", classes: Optional[list[float]]) -> N
         colours = np.digitize(values.filled(0), classes) + 1
     else:
         known = values.compressed()
-        if len(known) and ((known != np.floor(known)).any() or known.min() < 0 or known.max() > MOST_COLOUR):
+        is_whole = known.dtype.kind in "iub" or bool((known == np.floor(known)).all())
+        if len(known) and (not is_whole or known.min() < 0 or known.max() > MOST_COLOUR):
             raise BadSource(
                 f"values from {known.min():g} to {known.max():g} are no colours, which are whole numbers from 0 to {MOST_COLOUR}:"
                 " cut them into classes by --classes"

@@ -12,6 +12,7 @@ from pathlib import Path
 import numpy as np
 import pytest
 
+dask = pytest.importorskip("dask", reason="python3-dask is not installed: companion/apt-packages-tiles.txt")
 distributed = pytest.importorskip("distributed", reason="python3-distributed is not installed: companion/apt-packages-tiles.txt")
 
 from test_tiles import is_whole, shown  # noqa: E402
@@ -269,6 +270,34 @@ def test_a_worker_that_is_killed(program, quick_path, monkeypatch, moment):
         assert flag.exists() and (moment is KILL_BEFORE or (flag / "published").exists())
         assert grid.area("b", 3) == 32 * 32 and is_whole(grid)
         assert grid.state == 2
+
+
+def test_workers_that_are_killed_again_and_again(program, quick_path, monkeypatch):
+    tiles.new(str(quick_path / "grid"), 2, 2, 4, 16)
+    opened(quick_path / "grid").region("a", 3)
+    before = shown(opened(quick_path / "grid"), "a")
+    monkeypatch.setenv("QUILT", wrapper(quick_path, program, 'case "$*" in run*tiles/c1r0) kill -9 $PPID ;; esac\nexec "$real" "$@"'))
+    with dask.config.set({"distributed.scheduler.allowed-failures": 0}), tiles.Grid(str(quick_path / "grid"), workers=2) as grid:
+        with pytest.raises(Lost, match="again and again"):
+            grid.copy("a", "b")
+    monkeypatch.setenv("QUILT", program)
+    again = opened(quick_path / "grid")
+    assert again.state == 1 and (shown(again, "a") == before).all() and is_whole(again)
+
+
+def test_a_scheduler_without_workers(program, quick_path, monkeypatch):
+    tiles.new(str(quick_path / "grid"), 2, 1, 4, 16)
+    monkeypatch.setattr(engine, "PATIENCE", 1)
+    with distributed.LocalCluster(n_workers=0, processes=False, dashboard_address="127.0.0.1:0") as cluster:
+        with distributed.Client(cluster) as client, tiles.Grid(str(quick_path / "grid"), client=client) as grid:
+            with pytest.raises(Lost):
+                grid.region("a", 3)
+            assert grid.state == 0 and is_whole(grid)
+            # The tasks wait still. A worker that comes too late changes nothing.
+            cluster.scale(1)
+            client.wait_for_workers(1)
+            assert client.submit(int, 5).result() == 5
+            assert is_whole(grid)
 
 
 @contextlib.contextmanager

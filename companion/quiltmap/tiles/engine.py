@@ -21,7 +21,7 @@ CONNECTING = 10.0
 _LOOK = 0.5
 
 #: How many seconds a scheduler may be without a worker while tasks wait for one.
-_PATIENCE = 30.0
+PATIENCE = 30.0
 
 
 class Lost(QuiltError):
@@ -111,7 +111,7 @@ def _wait_for(client: Client, futures: Sequence[Future], stop: Optional[Callable
     while pending:
         if _has_worker(client):
             seen = time.monotonic()
-        if client.status != "running" or time.monotonic() - seen > _PATIENCE:
+        if client.status != "running" or time.monotonic() - seen > PATIENCE:
             raise CancelledError
         try:
             wait(list(pending), timeout=_LOOK, return_when="FIRST_COMPLETED")
@@ -124,6 +124,7 @@ def _wait_for(client: Client, futures: Sequence[Future], stop: Optional[Callable
 
 
 def _has_worker(client: Client) -> bool:
+    """Whether the scheduler has a worker, by what it told last: to ask it could wait for one that is lost."""
     return bool(client._scheduler_identity.get("workers"))
 
 
