@@ -19,7 +19,7 @@ from test_tiles import is_whole, shown  # noqa: E402
 
 import quiltmap  # noqa: E402
 from quiltmap import InUse, QuiltError, Refused, tiles  # noqa: E402
-from quiltmap.tiles import engine, pieces, state, work  # noqa: E402
+from quiltmap.tiles import engine, pieces, store, work  # noqa: E402
 from quiltmap.tiles.engine import Lost  # noqa: E402
 
 COMPANION = Path(__file__).resolve().parents[1]
@@ -79,11 +79,11 @@ def test_a_copy_has_the_holes_of_the_file(tmp_path):
         file.truncate(1 << 24)
         file.seek(5_000_000)
         file.write(b"in the midst")
-    state.copy_file(tmp_path / "sparse", tmp_path / "copy")
+    store.copy_file(tmp_path / "sparse", tmp_path / "copy")
     assert (tmp_path / "copy").read_bytes() == (tmp_path / "sparse").read_bytes()
     assert work.size_of(tmp_path / "copy") <= 65_536
     with pytest.raises(FileExistsError):
-        state.copy_file(tmp_path / "sparse", tmp_path / "copy")
+        store.copy_file(tmp_path / "sparse", tmp_path / "copy")
 
 
 # Stops.

@@ -6,6 +6,6 @@
 """
 
 from .grid import Grid
-from .state import BadGrid, MovedOn, new
+from .store import BadGrid, MovedOn, new
 
 __all__ = ["BadGrid", "Grid", "MovedOn", "new"]

@@ -15,7 +15,7 @@ from ..place import Bounds
 from ..sources import crs_of
 from . import exporting, importing
 from .grid import Grid
-from .state import new as make_grid
+from .store import new as make_grid
 
 #: The arguments of each command over a grid, as docs/MANUAL.md writes them: names of layers in capitals, numbers in small letters.
 FORMS = {

@@ -21,7 +21,8 @@ from ..client import Layer
 from ..console import Failure
 from ..exporter import DRIVERS, RASTERS, colour_table, frame_of, write_features
 from ..place import Place
-from .grid import Grid, State, command
+from .grid import Grid
+from .state import State, command
 
 #: How many pixels a region may have whose polygons are written: they are found in one array.
 MOST_PIXELS = 2**28

@@ -33,7 +33,9 @@ from ..place import Place, rounded
 from ..sources import BadSource, Features, RasterSource, is_raster, read_features, read_raster
 from . import pieces
 from .frame import Frame, Key, place_around, place_over
-from .grid import Change, Grid, Job, job, points_by_tile
+from .grid import Grid
+from .joins import points_by_tile
+from .state import Change, Job, job
 from .whole import NO_SEGMENTS, Segments, cut
 
 #: How many rows of a tile are read from a raster at once.

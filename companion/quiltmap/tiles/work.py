@@ -18,7 +18,7 @@ from ..beside import sync
 from ..client import Map
 from ..errors import Ended, InUse, Refused
 from ..program import lock_map
-from .state import MovedOn, Tile, check_token, copy_file
+from .store import MovedOn, Tile, check_token, copy_file
 
 #: How many seconds a task waits for a tile that another run has.
 PATIENCE = 60.0
