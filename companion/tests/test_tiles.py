@@ -264,6 +264,25 @@ def test_a_touch_at_an_edge_is_told_once(make_grid):
     assert grid.rank("l", 15, 15, 9)[:2] == [(4, Fraction(18)), (1, Fraction(98))]
 
 
+def test_rounded_parts_count_for_nothing(make_grid):
+    grid = make_grid(2, 1, 3)
+    for name, segments in (("l", [[1, 8, 0, 8, 7], [2, 0, 0, 15, 1]]), ("m", [[1, 7, 2, 7, 5]])):
+        grid.lines(name, 4)
+        grid.put_segments(name, segments)
+    with quiltmap.open(grid.store.tile(grid.store.read(), 0, 0).path) as m:
+        # A pixel to the left of where it is, and half a pixel too low at its end.
+        assert m.cross("l", 0, 0, 8, 8).tolist() == [[1, 7, 0, 7, 7], [2, 0, 0, 7, 1]]
+    assert grid.cross("l", 0, 1, 7, 1).tolist() == [] and grid.clip("l", 0, 1, 7, 1) == []
+    grid.region("a", 0)
+    grid.set("a", 6, 3, 1)
+    grid.set("a", 6, 1, 1)
+    assert grid.over("l", "a").tolist() == []
+    assert grid.nearest("l", 6, 3) == (1, 4)
+    assert grid.crossings("l", "m").tolist() == []
+    grid.set("a", 7, 6, 1)
+    assert grid.over("l", "a").tolist() == [1]
+
+
 def test_eight_by_eight(make_grid):
     random = np.random.default_rng(8)
     grid = make_grid(8, 8, 5, pages=60)

@@ -241,35 +241,36 @@ def wrapper(folder, program, text):
     return str(path)
 
 
-KILL_BEFORE = """
-case "$*" in run*tiles/c1r0) if mkdir {flag} 2>/dev/null; then kill -9 $PPID; fi ;; esac
+# Ends the worker before the program takes a command; and, once the file `later` is there, when the tile has its edition on the
+# disk and no one has heard of it.
+KILL_ONCE = """
+case "$*" in run*tiles/c1r0)
+    if mkdir {flags}/before 2>/dev/null; then kill -9 $PPID; fi
+    if [ -e {flags}/later ] && mkdir {flags}/behind 2>/dev/null; then
+        "$real" "$@" | while IFS= read -r line; do
+            echo "$line"
+            [ "$line" != "edition 3" ] || {{ touch {flags}/published; kill -9 $PPID; }}
+        done
+        exit
+    fi ;;
+esac
 exec "$real" "$@"
 """
 
-# The worker ends once the tile has its edition on the disk, and before anyone has heard of it.
-KILL_BEHIND = """
-case "$*" in run*tiles/c1r0) if mkdir {flag} 2>/dev/null; then
-    "$real" "$@" | while IFS= read -r line; do
-        echo "$line"
-        [ "$line" != "edition 2" ] || {{ touch {flag}/published; kill -9 $PPID; }}
-    done
-    exit
-fi ;; esac
-exec "$real" "$@"
-"""
 
-
-@pytest.mark.parametrize("moment", [KILL_BEFORE, KILL_BEHIND], ids=["before", "behind"])
-def test_a_worker_that_is_killed(program, quick_path, monkeypatch, moment):
+def test_a_worker_that_is_killed(program, quick_path, monkeypatch):
     tiles.new(str(quick_path / "grid"), 2, 2, 4, 16)
     opened(quick_path / "grid").region("a", 3)
-    flag = quick_path / "flag"
-    monkeypatch.setenv("QUILT", wrapper(quick_path, program, moment.format(flag=flag)))
+    flags = quick_path / "flags"
+    flags.mkdir()
+    monkeypatch.setenv("QUILT", wrapper(quick_path, program, KILL_ONCE.format(flags=flags)))
     with tiles.Grid(str(quick_path / "grid"), workers=2) as grid:
         grid.copy("a", "b")
-        assert flag.exists() and (moment is KILL_BEFORE or (flag / "published").exists())
-        assert grid.area("b", 3) == 32 * 32 and is_whole(grid)
-        assert grid.state == 2
+        assert grid.state == 2 and (flags / "before").exists() and not (flags / "behind").exists()
+        (flags / "later").touch()
+        grid.copy("a", "c")
+        assert grid.state == 3 and (flags / "published").exists()
+        assert grid.area("b", 3) == grid.area("c", 3) == 32 * 32 and is_whole(grid)
 
 
 def test_workers_that_are_killed_again_and_again(program, quick_path, monkeypatch):
