@@ -72,9 +72,15 @@ def steps_of(grid: tiles.Grid, raster: Path, lines: Path) -> dict[str, Callable[
         "perimeter": lambda: grid.perimeter("both", 1),
         "over": lambda: len(grid.over("road", "clay")),
         "crossings": lambda: len(grid.crossings("road", "road")),
-        "clip of one tile": lambda: len(grid.clip("road", 0, 0, grid.frame.side, grid.frame.side)),
+        **{f"cross over {n} by {n} tiles": crossing(grid, n) for n in (1, 2, 4, 8) if n <= min(grid.frame.columns, grid.frame.rows)},
         "rank of 100": lambda: grid.rank("road", middle, middle, 100)[-1],
     }
+
+
+def crossing(grid: tiles.Grid, count: int) -> Callable[[], int]:
+    """A question that so many tiles across and down are asked."""
+    side = count * grid.frame.side
+    return lambda: len(grid.cross("road", 0, 0, side, side))
 
 
 def memory() -> int:

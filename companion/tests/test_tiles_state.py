@@ -299,6 +299,11 @@ def test_a_scheduler_without_workers(program, quick_path, monkeypatch):
             client.wait_for_workers(1)
             assert client.submit(int, 5).result() == 5
             assert is_whole(grid)
+            grid.region("a", 3)
+            client.close()
+            with pytest.raises(Lost, match="is closed"):
+                grid.area("a", 3)
+            assert grid.at("a", 31, 0) == 3  # one tile needs no worker
 
 
 @contextlib.contextmanager

@@ -55,6 +55,8 @@ class Engine:
         if len(jobs) < 2:
             return [task(*job) for job in jobs]
         client = self._connected()
+        if client.status != "running":
+            raise Lost("the client of dask is closed, or its scheduler was lost")
         try:
             futures = [client.submit(task, *job, pure=False) for job in jobs]
             _wait_for(client, futures, stop)

@@ -24,12 +24,10 @@ from .joins import (
     is_shared,
     meeting,
     moved,
-    over_tile,
     pairs_of_tile,
     points_by_tile,
     reach_of,
     reaching,
-    window_around,
     window_parts,
     within_reach,
 )
@@ -373,10 +371,11 @@ class Grid:
         def question(state: State) -> NDArray[np.int64]:
             state.need(f"over {layer} {a}", (layer, "lines"), (a, "region"))
             shared = state.shared.in_tiles(layer, state.frame.tiles())
-            windows = {key: window_around(state.frame, key, segments) for key, segments in shared.items()}
-            told = state.ask({key: job(pieces.over_and_window, layer, a, windows[key]) for key in windows})
-            found = [over_tile(state.frame, key, *told[key], windows[key], shared[key]) for key in windows]
-            return np.unique(np.concatenate(found))
+            jobs = {}
+            for key, segments in shared.items():
+                x, y = state.frame.origin(key)
+                jobs[key] = job(pieces.over, layer, a, segments - np.array([0, x, y, x, y]))
+            return np.unique(np.concatenate(list(state.ask(jobs).values())))
 
         return self.reading(question)
 

@@ -3,7 +3,7 @@
 from __future__ import annotations
 
 from math import isqrt
-from typing import Any, Callable, Iterable, Optional
+from typing import Any, Callable, Iterable
 
 import numpy as np
 from numpy.typing import NDArray
@@ -15,7 +15,7 @@ from .frame import Frame, Key, Part
 from .pieces import NONE, Depths, Runs
 from .state import Change, Job, State, command, job
 from .table import Draft
-from .whole import NO_SEGMENTS, Segments, meets_colour, meets_windows, share_a_point, square_distance
+from .whole import NO_SEGMENTS, Segments, meets_windows, share_a_point, square_distance
 
 # Windows and tiles.
 
@@ -133,27 +133,6 @@ def within_reach(state: State, line: str, layer: str, x: int, y: int, reach: int
     right, bottom = min(x + reach + 1, frame.width), min(y + reach + 1, frame.height)
     own, shared = meeting(state, line, layer, "cross", (left, top, right - left, bottom - top))
     return np.concatenate([*(table + np.array([0, *origin, *origin]) for origin, table in own), shared])
-
-
-def window_around(frame: Frame, key: Key, segments: Segments) -> Optional[tuple[int, int, int, int]]:
-    """The window of a tile that has all its pixels that segments can meet; None of no segments."""
-    if not len(segments):
-        return None
-    x, y = frame.origin(key)
-    xs, ys = segments[:, [1, 3]] - x, segments[:, [2, 4]] - y
-    left, top = max(int(xs.min()) - 1, 0), max(int(ys.min()) - 1, 0)
-    right, bottom = min(int(xs.max()) + 1, frame.side), min(int(ys.max()) + 1, frame.side)
-    return left, top, right - left, bottom - top
-
-
-def over_tile(frame: Frame, key: Key, ids: NDArray[np.int64], colours: Any, window: Any, shared: Segments) -> NDArray[np.int64]:
-    """The segments that meet pixels of one tile: its own by what it tells, the shared ones by the colours of the window."""
-    own = ids[~np.isin(ids, shared[:, 0])]
-    if window is None:
-        return own
-    x, y = frame.origin(key)
-    met = [int(s[0]) for s in shared if meets_colour(s[1:], colours, x + window[0], y + window[1])]
-    return np.concatenate([own, np.array(met, np.int64)])
 
 
 def pairs_of_tile(frame: Frame, key: Key, pairs: NDArray[np.int64], parts: Segments, other_parts: Segments, shared: Segments,

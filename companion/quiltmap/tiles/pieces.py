@@ -2,14 +2,14 @@
 
 from __future__ import annotations
 
-from typing import Any, Iterator, NamedTuple, Optional, Sequence
+from typing import Any, Iterator, NamedTuple, Sequence
 
 import numpy as np
 from numpy.typing import NDArray
 
 from ..client import MOST_POINTS, MOST_RINGS, Map
 from ..errors import Refused
-from .whole import Segments
+from .whole import Segments, meets_colour
 
 #: Runs of rows or columns of a tile's edge: where each begins and ends, and how far from the edge it reaches.
 Runs = NDArray[np.int64]
@@ -146,9 +146,34 @@ def ranked(m: Map, layer: str, x: int, y: int, k: int) -> list[tuple[int, Any]]:
         return []
 
 
-def over_and_window(m: Map, layer: str, a: str, window: Optional[tuple[int, int, int, int]]) -> tuple[NDArray[np.int64], Any]:
-    """What `over` tells, and the colours of a window."""
-    return m.over(layer, a), None if window is None else m.show(a, *window)
+def over(m: Map, layer: str, a: str, shared: Segments) -> NDArray[np.int64]:
+    """The segments that meet pixels of the tile that are not 0: its own by what `over` tells, the shared ones by these pixels.
+
+    shared: the shared segments that the tile meets, whole, in its pixels, of which they may reach out.
+    """
+    told = m.over(layer, a)
+    met = [told[~np.isin(told, shared[:, 0])]]
+    for window, segments in _windows_around(m.side, shared):
+        colours = m.show(a, *window)
+        met.append(np.array([s[0] for s in segments if meets_colour(s[1:], colours, *window[:2])], np.int64))
+    return np.concatenate(met)
+
+
+def _windows_around(side: int, segments: Segments) -> list[tuple[tuple[int, int, int, int], Segments]]:
+    """Windows of a tile that have all pixels that segments can meet: one for each, or one for all where that is less."""
+    if not len(segments):
+        return []
+    one_each = [(_window_around(side, segment[None]), segment[None]) for segment in segments]
+    for_all = _window_around(side, segments)
+    is_less = sum(w * h for (_, _, w, h), _ in one_each) <= for_all[2] * for_all[3]
+    return one_each if is_less else [(for_all, segments)]
+
+
+def _window_around(side: int, segments: Segments) -> tuple[int, int, int, int]:
+    xs, ys = segments[:, [1, 3]], segments[:, [2, 4]]
+    left, top = max(int(xs.min()) - 1, 0), max(int(ys.min()) - 1, 0)
+    right, bottom = min(int(xs.max()) + 1, side), min(int(ys.max()) + 1, side)
+    return left, top, right - left, bottom - top
 
 
 def pairs_and_segments(m: Map, layer: str, other: str) -> tuple[NDArray[np.int64], Segments, Segments]:
