@@ -14,11 +14,18 @@ from test_tiles import is_whole, shown  # noqa: E402
 
 import quiltmap  # noqa: E402
 from quiltmap.beside import Beside  # noqa: E402
+from quiltmap.tiles import importing  # noqa: E402
 from quiltmap.tiles.console import main  # noqa: E402
 from quiltmap.tiles.exporting import table  # noqa: E402
 
 SYSTEM = "EPSG:32617"
 BOUNDS = (1000, 2000, 2280, 3280)  # ten units a pixel where the whole has 128 a side
+
+
+@pytest.fixture(autouse=True)
+def features_come_in_turns(monkeypatch):
+    """Features are read seven at a time."""
+    monkeypatch.setattr(importing, "AT_ONCE", 7)
 
 
 @pytest.fixture
@@ -103,6 +110,24 @@ def test_points_are_those_of_one_map(make_grid, told, done, tmp_path):
     told("export", grid.folder, "a", tmp_path / "out.geojson")
     out = geopandas.read_file(tmp_path / "out.geojson")
     assert sorted(out["label"]) == sorted(grid.within("a", 0, 0, 128, 128)[:, 2].tolist())
+
+
+def test_features_of_another_system_with_some_that_cannot_go_in(make_grid, told, done, tmp_path):
+    random = np.random.default_rng(9)
+    shapes = [LineString(random.uniform([-85.4889, 0.018], [-85.4770, 0.0298], (6, 2))) for _ in range(12)]
+    shapes += [None, Point(-85.48, 0.02), Polygon([(-85.486, 0.02), (-85.482, 0.02), (-85.482, 0.025)]), LineString([(-80, 1), (-80, 2)])]
+    shapes += [LineString([(200, 95), (210, 99)])] * 9  # no places: these fill a turn of their own
+    geopandas.GeoDataFrame({"row": range(len(shapes))}, geometry=shapes, crs="EPSG:4326").to_file(tmp_path / "source.gpkg")
+    grid = make_grid(2, 2, 6, bounds=BOUNDS, crs=quiltmap.place.CRS(SYSTEM))
+    quiltmap.new(tmp_path / "one", 3000, 7)
+    quiltmap.place.Place.over(BOUNDS, 128, quiltmap.place.CRS(SYSTEM)).write(tmp_path / "one.wld", tmp_path / "one.prj")
+    expected = done("quilt-import", tmp_path / "one", tmp_path / "source.gpkg", "--layer", "a", "--as", "lines")
+    lines = told("import", grid.folder, tmp_path / "source.gpkg", "--layer", "a", "--as", "lines")
+    with quiltmap.open(tmp_path / "one") as m:
+        assert grid.segments("a").tolist() == m.cross("a", 0, 0, 128, 128).tolist()
+    assert table(grid, "a").equals(Beside(tmp_path / "one").table("a"))
+    same = [line for line in expected if "map: " not in line and not line.startswith(("records", "edition"))]
+    assert len(same) > 3 and all(line in lines for line in same), (expected, lines)
 
 
 def test_rasters(make_grid, told, tmp_path):

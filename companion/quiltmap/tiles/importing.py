@@ -3,6 +3,7 @@
 from __future__ import annotations
 
 import shutil
+from dataclasses import dataclass
 from typing import Any, Callable, Iterator, NamedTuple, Optional
 
 import numpy as np
@@ -30,7 +31,7 @@ from ..contents import (
 )
 from ..importer import Choices, check_planes
 from ..place import Place, rounded
-from ..sources import BadSource, Features, RasterSource, is_raster, read_features, read_raster
+from ..sources import BadSource, Features, RasterSource, features_in_turn, is_raster, read_raster, survey_features
 from . import pieces
 from .frame import Frame, Key, place_around, place_over
 from .grid import Grid
@@ -38,8 +39,9 @@ from .joins import points_by_tile
 from .state import Change, Job, job
 from .whole import NO_SEGMENTS, Segments, cut
 
-#: How many rows of a tile are read from a raster at once.
+#: How many rows of a tile are read from a raster at once, and how many features of a source.
 _ROWS = 512
+AT_ONCE = 10_000
 
 
 class Layering(NamedTuple):
@@ -175,28 +177,72 @@ def paint(m: Map, layer: str, colours: NDArray[np.uint16]) -> None:
 # Features.
 
 
+@dataclass
+class Stream:
+    """The features of a source, read some at a time, in the reference system of a place.
+
+    known: all of them without their parts; present, lost: how many have places, and how many have none in the reference system of the place;
+    both are known when all were read.
+    """
+
+    source: str
+    source_layer: Optional[str]
+    known: Features
+    place: Place
+    present: int = 0
+    lost: int = 0
+
+    def turns(self) -> Iterator[tuple[int, Features]]:
+        """The row of the first of some features, and these."""
+        self.present = self.lost = 0
+        failure: Optional[BadSource] = None
+        for begin, features in features_in_turn(self.source, self.source_layer, self.known, AT_ONCE):
+            count = len(np.unique(features.owners))
+            try:
+                moved = features.moved_to(self.place.crs)
+            except BadSource as error:
+                failure = error
+                self.lost += count
+                continue
+            self.present += count - moved.lost
+            self.lost += moved.lost
+            yield begin, moved
+        if not self.present and failure is not None:
+            raise failure
+
+
 def _features(frame: Frame, source: str, layer: str, choices: Choices, found: Optional[Place], capacity: int,
               threshold: int) -> tuple[Layering, Place]:
     if choices.classes is not None:
         raise BadSource("--classes are for rasters")
-    features = read_features(source, choices.source_layer, choices.kind, choices.crs)
-    check_planes(features.crs, found)
-    features = features.moved_to(found.crs if found else features.crs)
-    place = found or place_around(frame, features.bounds, features.crs)
-    kind = choices.kind or features.sort
+    known, bounds = survey_features(source, choices.source_layer, choices.kind, choices.crs)
+    check_planes(known.crs, found)
+    place = found or place_around(frame, bounds, known.crs)
+    stream = Stream(source, choices.source_layer, known, place)
+    kind = choices.kind or known.sort
     if kind == "region":
-        return _region(frame, layer, features, place, choices.burn), place
+        return _region(frame, layer, stream, choices.burn), place
     if kind == "points":
-        return _points(frame, layer, features, place, choices.burn, capacity), place
-    return _lines(frame, layer, features, place, choices.burn, threshold), place
+        return _points(frame, layer, stream, choices.burn, capacity), place
+    return _lines(frame, layer, stream, choices.burn, threshold), place
 
 
-def _region(frame: Frame, layer: str, features: Features, place: Place, column: Optional[str]) -> Layering:
-    if features.sort != "region":
+def _tally_of(stream: Stream, kind: str) -> Tally:
+    """The tally of features that were read."""
+    tally = tally_of(stream.known, kind)
+    tally.left_out["not to be had in the map's reference system"] = stream.lost
+    return tally
+
+
+def _region(frame: Frame, layer: str, stream: Stream, column: Optional[str]) -> Layering:
+    known = stream.known
+    if known.sort != "region":
         raise BadSource("lines and points become no region of a grid: take --as lines or --as points")
-    tally = tally_of(features, "region")
-    numbers = numbers_of(features, column, 0, MOST_COLOUR, tally)
-    by_tile = rings_by_tile(frame, rings_by_feature(features, place))
+    by_tile: dict[Key, list[tuple[int, list[Ring]]]] = {}
+    for begin, features in stream.turns():
+        rings_by_tile(frame, begin, rings_by_feature(features, stream.place), by_tile)
+    tally = _tally_of(stream, "region")
+    numbers = numbers_of(known, column, 0, MOST_COLOUR, tally)
     jobs = {}
     for key in frame.tiles():
         mine = by_tile.get(key, [])
@@ -207,19 +253,20 @@ def _region(frame: Frame, layer: str, features: Features, place: Place, column: 
         if not len(rows):
             raise BadSource("nothing of the source has the middle of a pixel of the grid")
         tally.entered = len(rows)
-        tally.left_out["outside of the grid, or without the middle of a pixel"] = len(set(features.owners.tolist())) - len(rows)
+        tally.left_out["outside of the grid, or without the middle of a pixel"] = stream.present - len(rows)
         overlaid = sum(number for _, number in answers.values())
         if overlaid:
             tally.notes.append(f"pixels in more than one feature, which the last of them has: {overlaid}")
-        return table_of(features, rows, {"colour": numbers[rows]})
+        return table_of(known, rows, {"colour": numbers[rows]})
 
     return Layering("region", jobs, tally, finish, int(numbers.max()))
 
 
-def rings_by_tile(frame: Frame, rings: list[list[Ring]]) -> dict[Key, list[tuple[int, list[Ring]]]]:
-    """The features whose rings may have pixels in a tile, in their order: their rows, and their rings in the tile's pixels."""
-    found: dict[Key, list[tuple[int, list[Ring]]]] = {}
-    for row, mine in enumerate(rings):
+def rings_by_tile(frame: Frame, begin: int, rings: list[list[Ring]], found: dict[Key, list[tuple[int, list[Ring]]]]) -> None:
+    """Puts features, whose rows count from `begin` on, to the tiles in which their rings may have pixels: their rows, and their rings in the
+    tile's pixels.
+    """
+    for row, mine in enumerate(rings, begin):
         if not mine:
             continue
         corners = np.concatenate(mine)
@@ -229,7 +276,6 @@ def rings_by_tile(frame: Frame, rings: list[list[Ring]]) -> dict[Key, list[tuple
         for part in frame.parts(x, y, w, h) if w > 0 and h > 0 else []:
             origin = np.array(frame.origin(part[:2]))
             found.setdefault(part[:2], []).append((row, [ring - origin for ring in mine]))
-    return found
 
 
 def paint_rings(m: Map, layer: str, numbers: list[int], features: list[tuple[int, list[Ring]]]) -> tuple[list[int], int]:
@@ -248,12 +294,14 @@ def paint_rings(m: Map, layer: str, numbers: list[int], features: list[tuple[int
     return entered, overlaid
 
 
-def _points(frame: Frame, layer: str, features: Features, place: Place, column: Optional[str], capacity: int) -> Layering:
-    tally = tally_of(features, "points")
-    labels = numbers_of(features, column, 0, MOST_LABEL, tally)
-    cells = place.cells(np.concatenate(features.parts))
+def _points(frame: Frame, layer: str, stream: Stream, column: Optional[str], capacity: int) -> Layering:
+    known, place = stream.known, stream.place
+    read = [(begin + features.owners, place.cells(np.concatenate(features.parts))) for begin, features in stream.turns()]
+    owners, cells = (np.concatenate(arrays) for arrays in zip(*read))
+    tally = _tally_of(stream, "points")
+    labels = numbers_of(known, column, 0, MOST_LABEL, tally)
     inside = ((cells >= 0) & (cells < [frame.width, frame.height])).all(axis=1)
-    owners, cells = features.owners[inside], cells[inside]
+    owners, cells = owners[inside], cells[inside]
     _, first = np.unique(cells[:, 1] * frame.width + cells[:, 0], return_index=True)
     first.sort()
     tally.left_out["outside of the grid"] = int(np.count_nonzero(~inside))
@@ -266,7 +314,7 @@ def _points(frame: Frame, layer: str, features: Features, place: Place, column: 
     by_tile = points_by_tile(frame, np.column_stack([cells, labels[owners]]))
     none = np.empty((0, 3), np.int64)
     jobs = {key: job(make_points, layer, by_tile.get(key, none), capacity) for key in frame.tiles()}
-    return Layering("points", jobs, tally, lambda _: table_of(features, rows, {"label": labels[rows]}))
+    return Layering("points", jobs, tally, lambda _: table_of(known, rows, {"label": labels[rows]}))
 
 
 def make_points(m: Map, layer: str, points: NDArray[np.int64], capacity: int) -> None:
@@ -275,37 +323,39 @@ def make_points(m: Map, layer: str, points: NDArray[np.int64], capacity: int) ->
     pieces.put_points(m, layer, points)
 
 
-def _lines(frame: Frame, layer: str, features: Features, place: Place, column: Optional[str], threshold: int) -> Layering:
+def _lines(frame: Frame, layer: str, stream: Stream, column: Optional[str], threshold: int) -> Layering:
     if column is not None:
         raise BadSource("segments have ids from 1 on, and no --burn")
-    tally = tally_of(features, "lines")
-    counts = np.zeros(len(features.table), np.int64)
+    known = stream.known
+    counts = np.zeros(len(known.table), np.int64)
     found: list[NDArray[np.int64]] = []
-    for owner, segments in _segments_of(frame, features, place):
+    for owner, segments in _segments_of(frame, stream):
         found.append(segments)
         counts[owner] += len(segments)
+    tally = _tally_of(stream, "lines")
     rows = np.flatnonzero(counts)
     if not len(rows):
         raise BadSource("no line of the source lies in the grid")
     tally.entered = len(rows)
-    tally.left_out["outside of the grid"] = len(set(features.owners.tolist())) - len(rows)
+    tally.left_out["outside of the grid"] = stream.present - len(rows)
     ends = np.cumsum(counts[rows])
     numbered = np.column_stack([np.arange(1, ends[-1] + 1), np.concatenate(found)])
     by_tile, shared = cut(frame, numbered)
     tally.notes += [f"segments: {len(numbered)}", f"segments that meet more than one tile: {len(shared)}"]
     jobs = {key: job(make_lines, layer, by_tile.get(key, NO_SEGMENTS), threshold) for key in frame.tiles()}
-    table = table_of(features, rows, {"first": ends - counts[rows] + 1, "last": ends})
+    table = table_of(known, rows, {"first": ends - counts[rows] + 1, "last": ends})
     return Layering("lines", jobs, tally, lambda _: table, shared=shared)
 
 
-def _segments_of(frame: Frame, features: Features, place: Place) -> Iterator[tuple[int, NDArray[np.int64]]]:
-    """The segments between corners of pixels of each line's part in the grid, and the row of the line."""
+def _segments_of(frame: Frame, stream: Stream) -> Iterator[tuple[int, NDArray[np.int64]]]:
+    """The row of each line, and the segments between corners of pixels of its part in the grid."""
     size = np.array([frame.width, frame.height])
-    for owner, part in zip(features.owners.tolist(), features.parts):
-        places = place.of_ground(part)
-        is_inside = places.min() >= 0 and (places <= size).all()
-        for piece in [places] if is_inside else clipped(places, frame.width, frame.height):
-            yield owner, segments_between(np.minimum(rounded(piece), size - 1))
+    for begin, features in stream.turns():
+        for owner, part in zip(features.owners.tolist(), features.parts):
+            places = stream.place.of_ground(part)
+            is_inside = places.min() >= 0 and (places <= size).all()
+            for piece in [places] if is_inside else clipped(places, frame.width, frame.height):
+                yield begin + owner, segments_between(np.minimum(rounded(piece), size - 1))
 
 
 def make_lines(m: Map, layer: str, segments: Segments, threshold: int) -> None:
