@@ -16,5 +16,5 @@ def test_a_small_measurement(program, tmp_path):
     ran = subprocess.run([sys.executable, SCRIPT, *words], stdout=subprocess.PIPE, stderr=subprocess.PIPE, text=True)
     assert ran.returncode == 0, ran.stderr
     lines = ran.stdout.splitlines()
-    assert lines[0].startswith("2 by 2 tiles of level 7; ") and lines[1] == "| step | 1 | 2 | times faster |"
-    assert sum(line.startswith("| ") for line in lines) == 16 and lines[-1].startswith("room on the disk, MB: ")
+    assert lines[0].startswith("2 by 2 tiles of level 7; ") and lines[1] == "| step | 1 | 2 | times faster | of processors, with 1 |"
+    assert sum(line.startswith("| ") for line in lines) == 15 and lines[-1].startswith("room on the disk, MB: ")

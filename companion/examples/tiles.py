@@ -5,8 +5,8 @@
 
 Draws a raster and lines of the size of the grid into FOLDER, where nothing is yet, and does the same steps with each number of workers, each in
 a grid of its own: an import of both, map algebra, measures, and questions on segments. Prints the seconds of each step on the clock, how many
-times faster the last number of workers is than the first, and the most memory that a worker and a program under it took. The answers of all
-runs have to be equal.
+times faster the last number of workers is than the first, the seconds of all processors together with the first, and the most memory that a worker
+and a program under it took. The answers of all runs have to be equal.
 """
 
 from __future__ import annotations
@@ -17,7 +17,7 @@ import sys
 import threading
 import time
 from pathlib import Path
-from typing import Any, Callable
+from typing import Any, Callable, NamedTuple
 
 import click
 import geopandas
@@ -88,6 +88,12 @@ def memory() -> int:
     return resource.getrusage(resource.RUSAGE_SELF).ru_maxrss
 
 
+def spent() -> float:
+    """The seconds of processors that this process and the programs that it started have taken."""
+    taken = (resource.getrusage(who) for who in (resource.RUSAGE_SELF, resource.RUSAGE_CHILDREN))
+    return sum(usage.ru_utime + usage.ru_stime for usage in taken)
+
+
 class Watch(threading.Thread):
     """Looks five times a second at the programs `quilt` that are under way: `most` is the most memory that one took, in kilobytes."""
 
@@ -114,10 +120,17 @@ class Watch(threading.Thread):
         self._ended.set()
 
 
-def run(folder: Path, columns: int, rows: int, level: int, pages: int, workers: int) -> tuple[dict[str, float], dict[str, Any]]:
-    """Does all steps: the seconds of each, and what each answers."""
-    seconds: dict[str, float] = {}
-    answers: dict[str, Any] = {}
+class Run(NamedTuple):
+    """What a run took and told: by step the seconds on the clock and of processors, and the answers."""
+
+    seconds: dict[str, float]
+    processors: dict[str, float]
+    answers: dict[str, Any]
+
+
+def run(folder: Path, columns: int, rows: int, level: int, pages: int, workers: int) -> Run:
+    """Does all steps."""
+    seconds, processors, answers = done = Run({}, {}, {})
     with (
         LocalCluster(n_workers=workers, threads_per_worker=1, dashboard_address="127.0.0.1:0") as cluster,
         Client(cluster) as client,
@@ -129,14 +142,16 @@ def run(folder: Path, columns: int, rows: int, level: int, pages: int, workers: 
         seconds["new"] = time.perf_counter() - begin
         with tiles.Grid(name, client=client, pool=1024) as grid:
             for step, do in steps_of(grid, folder / "soil.tif", folder / "road.gpkg").items():
-                begin = time.perf_counter()
+                begin, before = time.perf_counter(), sum(client.run(spent).values()) + spent()
                 answers[step] = do()
                 seconds[step] = time.perf_counter() - begin
-                print(f"{workers} workers: {step}: {seconds[step]:.1f} s: {answers[step]}", file=sys.stderr, flush=True)
+                processors[step] = sum(client.run(spent).values()) + spent() - before
+                print(f"{workers} workers: {step}: {seconds[step]:.1f} s, {processors[step]:.1f} of processors: {answers[step]}",
+                      file=sys.stderr, flush=True)  # fmt: skip
         answers["most memory of a worker, MB"] = max(client.run(memory).values()) // 1024
         answers["most memory of a program, MB"] = watch.most // 1024
     answers["room on the disk, MB"] = sum(path.stat().st_blocks for path in Path(name).rglob("*")) // 2048
-    return seconds, answers
+    return done
 
 
 @click.command()
@@ -154,19 +169,23 @@ def main(folder: Path, shape: str, level: int, pages: int, lines: int, workers: 
     draw_raster(folder / "soil.tif", width, height)
     draw_lines(folder / "road.gpkg", width, height, lines)
     runs = {number: run(folder, columns, rows, level, pages, number) for number in workers}
-    first, last = runs[workers[0]], runs[workers[-1]]
-    print(f"{columns} by {rows} tiles of level {level}; {os.cpu_count()} processors; seconds by workers")
-    print("| step |" + "".join(f" {number} |" for number in workers) + " times faster |")
-    print("|---|" + "---|" * (len(workers) + 1))
-    total = {step: sum(first[0].values()) if step == "all" else first[0][step] for step in (*first[0], "all")}
-    for step, slow in total.items():
-        times = [sum(seconds.values()) if step == "all" else seconds[step] for seconds, _ in runs.values()]
-        print(f"| {step} |" + "".join(f" {took:.1f} |" for took in times) + f" {slow / times[-1]:.1f} |")
-    for name, answer in first[1].items():
+    tell(list(runs.values()), list(workers), f"{columns} by {rows} tiles of level {level}; {os.cpu_count()} processors; seconds by workers")
+
+
+def tell(runs: list[Run], workers: list[int], title: str) -> None:
+    """Prints the table. Ends in 1 where answers differ."""
+    print(title)
+    print("| step |" + "".join(f" {number} |" for number in workers) + f" times faster | of processors, with {workers[0]} |")
+    print("|---|" + "---|" * (len(workers) + 2))
+    for step in (*runs[0].processors, "all"):
+        times = [sum(run.seconds.values()) if step == "all" else run.seconds[step] for run in runs]
+        taken = sum(runs[0].processors.values()) if step == "all" else runs[0].processors[step]
+        print(f"| {step} |" + "".join(f" {took:.1f} |" for took in times) + f" {times[0] / times[-1]:.1f} | {taken:.1f} |")
+    for name, answer in runs[0].answers.items():
         if ", MB" in name:
-            print(f"{name}: {', '.join(f'{answers[name]} with {number}' for number, (_, answers) in runs.items())}")
-        elif answer != last[1][name]:
-            sys.exit(f"{name} differs: {answer} and {last[1][name]}")
+            print(f"{name}: {', '.join(f'{run.answers[name]} with {number}' for number, run in zip(workers, runs))}")
+        elif answer != runs[-1].answers[name]:
+            sys.exit(f"{name} differs: {answer} and {runs[-1].answers[name]}")
 
 
 if __name__ == "__main__":
