@@ -6,6 +6,7 @@ import os
 import signal
 import subprocess
 import sys
+import threading
 import time
 from pathlib import Path
 
@@ -182,6 +183,39 @@ def test_readers_meanwhile_have_the_state_before(program, quick_path):
     # The change went no further: the next opening puts the tile back.
     assert (shown(opened(quick_path / "grid"), "a") == before).all()
     assert is_whole(opened(quick_path / "grid"))
+
+
+def test_readers_beside_a_writer_see_one_state_or_the_other(program, quick_path):
+    tiles.new(str(quick_path / "grid"), 2, 2, 3, 40)
+    writer = opened(quick_path / "grid")
+    writer.region("a", 0)
+    seen, failures, ended = set(), [], threading.Event()
+
+    def read():
+        try:
+            reader = opened(quick_path / "grid")
+            while not ended.is_set():
+                seen.add(reader.area("a", 1))
+                seen.add(int((shown(reader, "a") == 1).sum()))
+        except BaseException as error:
+            failures.append(error)
+
+    readers = [threading.Thread(target=read) for _ in range(2)]
+    for reader in readers:
+        reader.start()
+    states = [0]
+    for i in range(12):
+        # One pixel of each tile, and then two: a mixture of two states has another sum.
+        pixels = [(x + j, y) for x in (0, 8) for y in (0, 8) for j in range(1 + i % 2)]
+        board = np.zeros((16, 16), np.uint8)
+        board[[y for _, y in pixels], [x for x, _ in pixels]] = 1
+        writer.raster("a", board)
+        states.append(len(pixels))
+    ended.set()
+    for reader in readers:
+        reader.join()
+    assert not failures and seen <= set(states) and len(seen) > 1
+    assert is_whole(writer)
 
 
 def test_a_task_that_is_done_again_begins_anew_and_one_that_is_late_does_nothing(program, quick_path):
