@@ -52,7 +52,7 @@ def draw_raster(path: Path, width: int, height: int) -> None:
 
 
 def draw_lines(path: Path, width: int, height: int, count: int) -> None:
-    """Draws lines of 50 segments each, which wander over the whole."""
+    """Draws lines of 49 segments each, which wander over the whole."""
     random = np.random.default_rng(1)
     steps = random.normal(0, 400, (count, 50, 2)).cumsum(axis=1) + random.uniform(0, 10 * COARSE * np.array([width, height]), (count, 1, 2))
     geopandas.GeoDataFrame({"number": range(count)}, geometry=[LineString(line) for line in steps], crs=SYSTEM).to_file(path)
@@ -159,7 +159,7 @@ def run(folder: Path, columns: int, rows: int, level: int, pages: int, workers: 
 @click.option("--tiles", "shape", default="8x8", show_default=True)
 @click.option("--level", default=12, show_default=True)
 @click.option("--pages", default=8000, show_default=True)
-@click.option("--lines", default=2000, show_default=True, help="How many lines of 50 segments.")
+@click.option("--lines", default=2000, show_default=True, help="How many lines of 49 segments.")
 @click.option("--workers", multiple=True, type=int, default=(1, 4), show_default=True)
 def main(folder: Path, shape: str, level: int, pages: int, lines: int, workers: tuple[int, ...]) -> None:
     """Measure a grid with several numbers of workers."""
