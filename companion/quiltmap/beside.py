@@ -78,7 +78,7 @@ class Beside:
         if table is not None or self.table(layer) is not None:
             if self.attributes.exists():
                 shutil.copyfile(self.attributes, _new(self.attributes))
-            _write_table(_new(self.attributes), layer, table)
+            write_table(_new(self.attributes), layer, table)
         for path in self._files():
             if _new(path).exists():
                 sync(_new(path))
@@ -129,7 +129,7 @@ def sync(path: Path) -> None:
         os.close(descriptor)
 
 
-def _write_table(path: Path, layer: str, table: Optional[pd.DataFrame]) -> None:
+def write_table(path: Path, layer: str, table: Optional[pd.DataFrame]) -> None:
     """Puts a layer's attributes into a GeoPackage, in the place of those that it has of the layer.
 
     GDAL makes the table; the rows go in as they are, which takes a tenth of the time.

@@ -83,7 +83,7 @@ def in_one_line(command: Command) -> Command:
             return command(*arguments, **options)
         except (Failure, QuiltError, BadSource, BadPlace, OSError) as error:
             status = error.status if isinstance(error, Ended) and error.status in ENDS else 1
-            name = click.get_current_context().info_name or "quilt"
+            name = click.get_current_context().find_root().info_name or "quilt"
             raise failures.Failure(name, _line_of(error), status) from error
 
     return run  # type: ignore[return-value]

@@ -23,7 +23,7 @@ from .sources import BadSource, Features, RasterSource
 _OWN_COLUMNS = {"colour", "label", "first", "last", "fid", "geom", "geometry"}
 
 MOST_COLOUR = 65_535
-_MOST_LABEL = 2**32 - 1
+MOST_LABEL = 2**32 - 1
 
 
 @dataclass
@@ -67,7 +67,7 @@ class Content:
 # Colours and labels.
 
 
-def _numbers_of(features: Features, burn: Optional[str], alone: int, most: int, tally: Tally) -> NDArray[np.int64]:
+def numbers_of(features: Features, burn: Optional[str], alone: int, most: int, tally: Tally) -> NDArray[np.int64]:
     """The number of each feature, 0 to `most`, by --burn: a value, or a column.
 
     Whole numbers of a column are taken as they are, other values are numbered from 1 on. Without --burn each
@@ -98,7 +98,7 @@ def _numbers_in(column: "pd.Series[object]", most: int, tally: Tally) -> NDArray
     return codes.astype(np.int64) + 1
 
 
-def _table_of(features: Features, rows: NDArray[np.int64], own: dict[str, NDArray[np.int64]]) -> pd.DataFrame:
+def table_of(features: Features, rows: NDArray[np.int64], own: dict[str, NDArray[np.int64]]) -> pd.DataFrame:
     """The columns of the source, of some of its rows, behind those of the map.
 
     Names that are taken, in small letters or great ones, get a _.
@@ -114,7 +114,7 @@ def _table_of(features: Features, rows: NDArray[np.int64], own: dict[str, NDArra
     return pd.concat([pd.DataFrame(own), theirs], axis=1)
 
 
-def _tally_of(features: Features, kind: str) -> Tally:
+def tally_of(features: Features, kind: str) -> Tally:
     tally = Tally(features=len(features.table))
     tally.left_out["without places"] = features.empty
     tally.left_out[f"not to be had as {kind}"] = features.other
@@ -132,8 +132,8 @@ def region_of(features: Features, place: Place, burn: Optional[str]) -> Content:
     feature in whose rings its middle lies, by the even-odd rule. Lines give the pixels that they pass,
     points those that they lie in.
     """
-    tally = _tally_of(features, "region")
-    numbers = _numbers_of(features, burn, 0 if features.sort == "region" else 1, MOST_COLOUR, tally)
+    tally = tally_of(features, "region")
+    numbers = numbers_of(features, burn, 0 if features.sort == "region" else 1, MOST_COLOUR, tally)
     content = Content("region", tally)
     if features.sort == "region":
         entered = _burn_polygons(content, features, place, numbers)
@@ -143,11 +143,11 @@ def region_of(features: Features, place: Place, burn: Optional[str]) -> Content:
     if not len(entered):
         raise BadSource("nothing of the source lies in a pixel of the map")
     content.most_colour = int(content.colours.max())
-    content.table = _table_of(features, entered, {"colour": numbers[entered]})
+    content.table = table_of(features, entered, {"colour": numbers[entered]})
     return content
 
 
-def _rings_by_feature(features: Features, place: Place) -> list[list[Ring]]:
+def rings_by_feature(features: Features, place: Place) -> list[list[Ring]]:
     corners = place.corners(np.concatenate(features.parts))
     ends = np.cumsum([len(part) for part in features.parts])[:-1]
     rings: list[list[Ring]] = [[] for _ in range(len(features.table))]
@@ -161,7 +161,7 @@ def _rings_by_feature(features: Features, place: Place) -> list[list[Ring]]:
 def _burn_polygons(content: Content, features: Features, place: Place, numbers: NDArray[np.int64]) -> NDArray[np.int64]:
     """Burns polygons, and gives the rows of those that have pixels."""
     tally, side = content.tally, place.side
-    rings = _rings_by_feature(features, place)
+    rings = rings_by_feature(features, place)
     outside, present = _outside(features, place), set(features.owners.tolist())
     colours = np.zeros((side, side), np.uint16)
     entered, overlaid = [], 0
@@ -221,19 +221,31 @@ def region_of_raster(source: RasterSource, place: Place, classes: Optional[list[
         raise BadSource("the source has no value in a pixel of the map")
     if missing:
         tally.notes.append(f"pixels without a value, which have colour 0: {missing}")
+    colours = colours_of(values, classes)
+    return Content("region", tally, table_of_classes(classes), int(colours.max()), colours)
+
+
+def colours_of(values: "np.ma.MaskedArray", classes: Optional[list[float]]) -> NDArray[np.uint16]:
+    """The colours of a raster's values: themselves, or the numbers of their classes, and 0 where there is none. Raises BadSource."""
     if classes is not None:
         colours = np.digitize(values.filled(0), classes) + 1
-        table = pd.DataFrame({"colour": np.arange(1, len(classes) + 2), "from": [np.nan, *classes], "below": [*classes, np.nan]})
     else:
         known = values.compressed()
-        if (known != np.floor(known)).any() or known.min() < 0 or known.max() > MOST_COLOUR:
+        is_whole = known.dtype.kind in "iub" or bool((known == np.floor(known)).all())
+        if len(known) and (not is_whole or known.min() < 0 or known.max() > MOST_COLOUR):
             raise BadSource(
                 f"values from {known.min():g} to {known.max():g} are no colours, which are whole numbers from 0 to {MOST_COLOUR}:"
                 " cut them into classes by --classes"
             )
-        colours, table = values.filled(0), None
-    colours = np.where(np.ma.getmaskarray(values), 0, colours).astype(np.uint16)
-    return Content("region", tally, table, int(colours.max()), colours)
+        colours = values.filled(0)
+    return np.where(np.ma.getmaskarray(values), 0, colours).astype(np.uint16)
+
+
+def table_of_classes(classes: Optional[list[float]]) -> Optional[pd.DataFrame]:
+    """The attributes of a region of classes: the limits of each."""
+    if classes is None:
+        return None
+    return pd.DataFrame({"colour": np.arange(1, len(classes) + 2), "from": [np.nan, *classes], "below": [*classes, np.nan]})
 
 
 # Points and lines.
@@ -241,8 +253,8 @@ def region_of_raster(source: RasterSource, place: Place, classes: Optional[list[
 
 def points_of(features: Features, place: Place, burn: Optional[str]) -> Content:
     """Points as a point layer: a point in each pixel that one lies in, of several the first."""
-    tally = _tally_of(features, "points")
-    labels = _numbers_of(features, burn, 0, _MOST_LABEL, tally)
+    tally = tally_of(features, "points")
+    labels = numbers_of(features, burn, 0, MOST_LABEL, tally)
     cells = place.cells(np.concatenate(features.parts))
     inside = ((cells >= 0) & (cells < place.side)).all(axis=1)
     tally.left_out["outside of the map"] = int(np.count_nonzero(~inside))
@@ -258,14 +270,14 @@ def points_of(features: Features, place: Place, burn: Optional[str]) -> Content:
     if len(features.parts) > len(features.table):
         tally.notes.append(f"points: {len(owners)} of {len(features.parts)}")
     points = np.column_stack([cells, labels[owners]])
-    return Content("points", tally, _table_of(features, rows, {"label": labels[rows]}), points=points)
+    return Content("points", tally, table_of(features, rows, {"label": labels[rows]}), points=points)
 
 
 def segments_of(features: Features, place: Place, burn: Optional[str]) -> Content:
     """Lines as segments between corners of pixels, with ids from 1 on in the order of the source."""
     if burn is not None:
         raise BadSource("segments have ids from 1 on, and no --burn")
-    tally = _tally_of(features, "lines")
+    tally = tally_of(features, "lines")
     found: list[NDArray[np.int64]] = []
     counts = np.zeros(len(features.table), np.int64)
     cut: set[int] = set()
@@ -274,10 +286,10 @@ def segments_of(features: Features, place: Place, burn: Optional[str]) -> Conten
         places = place.of_ground(part)
         pieces = [places]
         if places.min() < 0 or places.max() > place.side:
-            pieces = _clipped(places, place.side)
+            pieces = clipped(places, place.side, place.side)
             cut.add(owner)
         for piece in pieces:
-            segments = _segments(np.minimum(rounded(piece), place.side - 1))
+            segments = segments_between(np.minimum(rounded(piece), place.side - 1))
             found.append(segments)
             counts[owner] += len(segments)
     rows = np.flatnonzero(counts)
@@ -288,20 +300,20 @@ def segments_of(features: Features, place: Place, burn: Optional[str]) -> Conten
     tally.left_out["outside of the map"] = len(cut) - tally.cut
     ends = np.cumsum(counts[rows])
     tally.notes.append(f"segments: {ends[-1]}")
-    table = _table_of(features, rows, {"first": ends - counts[rows] + 1, "last": ends})
+    table = table_of(features, rows, {"first": ends - counts[rows] + 1, "last": ends})
     return Content("lines", tally, table, segments=np.concatenate(found))
 
 
-def _clipped(places: NDArray[np.float64], side: int) -> list[NDArray[np.float64]]:
-    """The parts of a line that lie in the square."""
+def clipped(places: NDArray[np.float64], width: int, height: int) -> list[NDArray[np.float64]]:
+    """The parts of a line that lie in the rectangle from (0, 0) to (width, height)."""
     if len(places) < 2:
         return []
-    inside = clip_by_rect(LineString(places), 0, 0, side, side)
+    inside = clip_by_rect(LineString(places), 0, 0, width, height)
     lines = getattr(inside, "geoms", [inside])
     return [np.array(line.coords) for line in lines if line.geom_type == "LineString" and not line.is_empty]
 
 
-def _segments(corners: NDArray[np.int64]) -> NDArray[np.int64]:
+def segments_between(corners: NDArray[np.int64]) -> NDArray[np.int64]:
     """The segments of a line between corners: shape (segments, 4). One of no length stays where there is no other."""
     moved = np.any(corners[1:] != corners[:-1], axis=1)
     if not moved.any():

@@ -40,6 +40,10 @@ class Refused(QuiltError):
         self.word = word
         self.command = command
 
+    def __reduce__(self) -> tuple[object, ...]:
+        # What is raised in another process comes back by these.
+        return type(self), (self.number, self.word, self.command)
+
 
 class Ended(QuiltError):
     """A run that ended other than at the end of its input. What was not published is given up.
@@ -56,6 +60,9 @@ class Ended(QuiltError):
         said = line or f"quilt: {self.end}"
         super().__init__(f"{said} (status {status}) at: {command}" if command else f"{said} (status {status})")
 
+    def __reduce__(self) -> tuple[object, ...]:
+        return type(self), (self.status, self.line, self.command)
+
 
 class InUse(QuiltError):
     """Another run has the map open; two runs of one map would destroy it."""
@@ -63,3 +70,6 @@ class InUse(QuiltError):
     def __init__(self, path: Union[str, "os.PathLike[str]"]) -> None:
         super().__init__(f"{os.fspath(path)} is open in another run: close that first")
         self.path = path
+
+    def __reduce__(self) -> tuple[object, ...]:
+        return type(self), (self.path,)

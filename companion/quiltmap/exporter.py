@@ -27,8 +27,8 @@ from .console import Failure, in_one_line
 from .place import Place
 from .scene import Paints, parts_of
 
-_RASTERS = {".tif", ".tiff"}
-_DRIVERS = {".gpkg": "GPKG", ".geojson": "GeoJSON", ".json": "GeoJSON", ".shp": "ESRI Shapefile"}
+RASTERS = {".tif", ".tiff"}
+DRIVERS = {".gpkg": "GPKG", ".geojson": "GeoJSON", ".json": "GeoJSON", ".shp": "ESRI Shapefile"}
 
 
 def export(path: str, layer: str, out: str) -> str:
@@ -37,8 +37,8 @@ def export(path: str, layer: str, out: str) -> str:
     Raises Failure, BadPlace, QuiltError.
     """
     ending = Path(out).suffix.lower()
-    if ending not in _RASTERS and ending not in _DRIVERS:
-        raise Failure(f"{out} has no ending of {', '.join(sorted(_RASTERS | set(_DRIVERS)))}")
+    if ending not in RASTERS and ending not in DRIVERS:
+        raise Failure(f"{out} has no ending of {', '.join(sorted(RASTERS | set(DRIVERS)))}")
     beside = Beside(path)
     with client.open(path) as m:
         beside.settle(m.edition())
@@ -46,17 +46,17 @@ def export(path: str, layer: str, out: str) -> str:
         if found is None:
             raise Failure(f"no layer {layer}; there are {', '.join(entry.name for entry in m.layers()) or 'none'}")
         place = beside.place(m.side) or Place.plain(m.side)
-        if ending in _RASTERS:
+        if ending in RASTERS:
             if found.kind != "region":
-                raise Failure(f"{layer} is no region, and goes into {', '.join(sorted(_DRIVERS))}")
+                raise Failure(f"{layer} is no region, and goes into {', '.join(sorted(DRIVERS))}")
             colours = m.show(layer, 0, 0, m.side, m.side)
         else:
             frame = features_of(m, found, place, beside.table(layer))
     try:
-        if ending in _RASTERS:
+        if ending in RASTERS:
             write_raster(out, colours, place)
             return f"{layer}: {m.side} by {m.side} pixels in {out}"
-        write_features(out, layer, frame, _DRIVERS[ending])
+        write_features(out, layer, frame, DRIVERS[ending])
         return f"{layer}: {len(frame)} features in {out}"
     except (FionaError, CPLE_BaseError, RasterioError, RasterioIOError) as error:
         raise Failure(f"{out} cannot be written: {' '.join(str(error).split())}") from None
@@ -93,23 +93,26 @@ def colour_table(colours: NDArray[np.unsignedinteger]) -> dict[int, tuple[int, i
 
 def features_of(m: Map, layer: Layer, place: Place, table: Optional[pd.DataFrame]) -> geopandas.GeoDataFrame:
     """The features of a layer with their attributes: a region's polygons of each colour but 0, points, or segments."""
-    side = m.side
-    if layer.kind == "region":
-        found = polygons_of(m.show(layer.name, 0, 0, side, side), place)
-        numbers, geometries = list(found), list(found.values())
+    asked = {"region": m.show, "points": m.within, "lines": m.cross}[layer.kind]
+    return frame_of(layer.kind, asked(layer.name, 0, 0, m.side, m.side), place, table)
+
+
+def frame_of(kind: str, found: NDArray[np.integer], place: Place, table: Optional[pd.DataFrame]) -> geopandas.GeoDataFrame:
+    """The features of what `show`, `within` or `cross` tells of a layer of a kind, with their attributes."""
+    if kind == "region":
+        polygons = polygons_of(found, place)  # type: ignore[arg-type]
+        numbers, geometries = list(polygons), list(polygons.values())
         own = {"colour": numbers}
         theirs = None if table is None else one_row_each(table, "colour").reindex(numbers)
-    elif layer.kind == "points":
-        points = m.within(layer.name, 0, 0, side, side)
-        geometries = [Point(*ground) for ground in place.ground_of_cells(points[:, :2]).tolist()]
-        own = {"label": points[:, 2]}
-        theirs = None if table is None else one_row_each(table, "label").reindex(points[:, 2])
+    elif kind == "points":
+        geometries = [Point(*ground) for ground in place.ground_of_cells(found[:, :2]).tolist()]
+        own = {"label": found[:, 2]}
+        theirs = None if table is None else one_row_each(table, "label").reindex(found[:, 2])
     else:
-        segments = m.cross(layer.name, 0, 0, side, side)
-        begins, ends = place.ground_of_corners(segments[:, 1:3]), place.ground_of_corners(segments[:, 3:5])
+        begins, ends = place.ground_of_corners(found[:, 1:3]), place.ground_of_corners(found[:, 3:5])
         geometries = [LineString(pair) for pair in zip(begins.tolist(), ends.tolist())]
-        own = {"id": segments[:, 0]}
-        theirs = None if table is None else rows_of_ids(table, segments[:, 0])
+        own = {"id": found[:, 0]}
+        theirs = None if table is None else rows_of_ids(table, found[:, 0])
     frame = pd.DataFrame(own)
     if theirs is not None:
         frame = pd.concat([frame, theirs.reset_index(drop=True)], axis=1)

@@ -62,7 +62,7 @@ def _read_raster(source: str, choices: Choices, found: Optional[Place], side: in
     if choices.kind not in (None, "region") or choices.burn is not None:
         raise BadSource("a raster goes in as a region, with its values as colours, or in classes by --classes")
     raster = read_raster(source, choices.band, choices.crs)
-    _check_planes(raster.crs, found)
+    check_planes(raster.crs, found)
     place = found or _place_of_raster(raster, choices, side)
     return region_of_raster(raster, place, choices.classes), place
 
@@ -80,7 +80,7 @@ def _read_vector(source: str, choices: Choices, found: Optional[Place], side: in
     if choices.classes is not None:
         raise BadSource("--classes are for rasters")
     features = read_features(source, choices.source_layer, choices.kind, choices.crs)
-    _check_planes(features.crs, found)
+    check_planes(features.crs, found)
     features = features.moved_to(found.crs if found else _map_crs(features.crs, choices))
     if found is not None:
         place = found
@@ -105,7 +105,8 @@ def _map_crs(source_crs: object, choices: Choices) -> object:
     return crs_of(choices.map_crs)
 
 
-def _check_planes(source_crs: object, found: Optional[Place]) -> None:
+def check_planes(source_crs: object, found: Optional[Place]) -> None:
+    """Raises BadSource where one of a source and a map is plain, and the other has a reference system."""
     if found is None or (found.crs is None) == (source_crs is None):
         return
     if found.crs is None:
@@ -219,7 +220,8 @@ def _no_room(m: Map, content: Content) -> str:
     return f"the map would be full: the layer has {need} records, and {most - used} of {most} are free: {advice}"
 
 
-def _classes(_: click.Context, __: click.Parameter, text: Optional[str]) -> Optional[list[float]]:
+def classes_of(_: click.Context, __: click.Parameter, text: Optional[str]) -> Optional[list[float]]:
+    """The option --classes: limits that rise."""
     if text is None:
         return None
     try:
@@ -237,7 +239,7 @@ def _classes(_: click.Context, __: click.Parameter, text: Optional[str]) -> Opti
 @click.option("--layer", metavar="NAME", help="The layer's name, else made of the source's.")
 @click.option("--as", "kind", type=click.Choice(["region", "points", "lines"]), help="What features are to be.")
 @click.option("--burn", metavar="COLUMN|VALUE", help="The colour or label of each feature, else its place in the source.")
-@click.option("--classes", metavar="LIMIT,..", callback=_classes, help="A raster's values in classes: 1 below the first limit, 2 from it on.")
+@click.option("--classes", metavar="LIMIT,..", callback=classes_of, help="A raster's values in classes: 1 below the first limit, 2 from it on.")
 @click.option("--band", type=click.IntRange(1), default=1, show_default=True, help="The raster's band.")
 @click.option("--from", "source_layer", metavar="NAME", help="The source's layer, where it has several.")
 @click.option("--capacity", type=click.IntRange(1, 16), default=1, show_default=True, help="How many points a block holds.")

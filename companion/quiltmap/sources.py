@@ -4,8 +4,10 @@ from __future__ import annotations
 
 import logging
 import warnings
+from collections import Counter
+from contextlib import contextmanager
 from dataclasses import dataclass
-from itertools import product
+from itertools import islice, product
 from typing import Iterator, Optional
 
 import fiona
@@ -21,6 +23,7 @@ from pyproj.exceptions import CRSError, ProjError
 from rasterio.enums import Resampling
 from rasterio.errors import NotGeoreferencedWarning, RasterioError, RasterioIOError
 from rasterio.vrt import WarpedVRT
+from rasterio.windows import Window
 
 from .place import Bounds, Place
 
@@ -124,17 +127,64 @@ def read_features(source: str, layer: Optional[str], kind: Optional[str], crs: O
     first is taken that can be had as that (_FROM), and where it is not given the source has one sort; crs:
     the source's reference system where it does not tell one. Raises BadSource.
     """
+    with _opened_features(source, layer) as file:
+        known = _crs_of_source(source, file.crs_wkt, crs)
+        return _features_of(source, list(file), list(file.schema["properties"]), kind, known)
+
+
+@contextmanager
+def _opened_features(source: str, layer: Optional[str]) -> Iterator[fiona.Collection]:
     try:
         names = fiona.listlayers(source)
         if layer is None and len(names) > 1:
             raise BadSource(f"{source} has the layers {', '.join(names)}: name one by --from")
         with fiona.open(source, layer=layer, allow_unsupported_drivers=True) as file:
-            known = _crs_of_source(source, file.crs_wkt, crs)
-            return _features_of(source, list(file), list(file.schema["properties"]), kind, known)
+            yield file
     except (FionaError, CPLE_BaseError, ValueError, OSError) as error:
         if isinstance(error, BadSource):
             raise
         raise BadSource(f"{source} is nothing that GDAL opens: {_one_line(error)}") from None
+
+
+def survey_features(source: str, layer: Optional[str], kind: Optional[str], crs: Optional[str]) -> tuple[Features, Bounds]:
+    """Reads a vector source once, and keeps what `read_features` tells but the parts: features without any, and the bounds of all parts.
+
+    Raises BadSource.
+    """
+    rows: list[dict[str, object]] = []
+    counts: Counter[str] = Counter()
+    corners: dict[str, NDArray[np.float64]] = {}
+    with _opened_features(source, layer) as file:
+        known = _crs_of_source(source, file.crs_wkt, crs)
+        columns = list(file.schema["properties"])
+        for record in file:
+            rows.append(dict(record.properties))
+            parts = list(_parts_of(record.geometry))
+            counts.update({sort for sort, _ in parts} or {"empty"})
+            for sort, part in parts:
+                both = part if sort not in corners else np.vstack([part, corners[sort]])
+                corners[sort] = np.array([both.min(axis=0), both.max(axis=0)])
+    if not rows:
+        raise BadSource(f"{source} has no features")
+    sort = _sort_of(source, set(corners), kind)
+    other = len(rows) - counts["empty"] - counts[sort]
+    table = pd.DataFrame(rows, columns=columns)
+    return Features(sort, [], np.empty(0, np.int64), table, known, counts["empty"], other), tuple(corners[sort].ravel().tolist())  # type: ignore[return-value]
+
+
+def features_in_turn(source: str, layer: Optional[str], known: Features, count: int) -> Iterator[tuple[int, Features]]:
+    """Reads a vector source that was surveyed, so many features at a time: the row of the first of them, and those of its sort."""
+    with _opened_features(source, layer) as file:
+        records = iter(file)
+        for begin in range(0, len(known.table), count):
+            parts: list[NDArray[np.float64]] = []
+            owners: list[int] = []
+            for row, record in enumerate(islice(records, count)):
+                mine = [part for sort, part in _parts_of(record.geometry) if sort == known.sort]
+                parts += mine
+                owners += [row] * len(mine)
+            if parts:
+                yield begin, Features(known.sort, parts, np.array(owners, np.int64), known.table.iloc[begin : begin + count], known.crs)
 
 
 def _crs_of_source(source: str, wkt: Optional[str], said: Optional[str]) -> Optional[CRS]:
@@ -229,8 +279,8 @@ class RasterSource:
             return Place(side, Affine(pixel, 0, turn.c, 0, -pixel, turn.f), self.crs)
         return Place.over(self.bounds, side, self.crs)
 
-    def read(self, place: Place) -> "np.ma.MaskedArray":
-        """The values at the middles of the pixels of a place, masked where there is none."""
+    def read(self, place: Place, window: Optional[Window] = None) -> "np.ma.MaskedArray":
+        """The values at the middles of the pixels of a place, or of a window of it, masked where there is none."""
         with _opened_raster(self.source) as raster:
             crs = _PLANE if self.crs is None or place.crs is None else None
             options = {
@@ -246,8 +296,8 @@ class RasterSource:
             if raster.nodata is None:
                 options["add_alpha"] = True
             with WarpedVRT(raster, **options) as warped:
-                values = warped.read(self.band)
-                mask = warped.read_masks(self.band) == 0
+                values = warped.read(self.band, window=window)
+                mask = warped.read_masks(self.band, window=window) == 0
         if values.dtype.kind == "f":
             mask |= ~np.isfinite(values)
         return np.ma.MaskedArray(values, mask)

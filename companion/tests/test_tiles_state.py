@@ -1,0 +1,440 @@
+"""The state of a grid: what is on the disk, stops at any moment, readers meanwhile, and faults of workers, schedulers and disks."""
+
+import contextlib
+import json
+import os
+import signal
+import subprocess
+import sys
+import threading
+import time
+from pathlib import Path
+
+import numpy as np
+import pytest
+
+dask = pytest.importorskip("dask", reason="python3-dask is not installed: companion/apt-packages-tiles.txt")
+distributed = pytest.importorskip("distributed", reason="python3-distributed is not installed: companion/apt-packages-tiles.txt")
+
+from test_tiles import is_whole, shown  # noqa: E402
+
+import quiltmap  # noqa: E402
+from quiltmap import InUse, QuiltError, Refused, tiles  # noqa: E402
+from quiltmap.tiles import engine, pieces, store, work  # noqa: E402
+from quiltmap.tiles.engine import Lost  # noqa: E402
+
+COMPANION = Path(__file__).resolve().parents[1]
+
+
+class Here:
+    """Does all tasks in this process, one behind the other."""
+
+    def run(self, task, jobs, stop=None):
+        return [task(*job) for job in jobs]
+
+    def close(self):
+        pass
+
+
+def opened(folder):
+    grid = tiles.Grid(str(folder))
+    grid._engine = Here()
+    return grid
+
+
+def test_a_new_grid(program, quick_path):
+    folder = quick_path / "grid"
+    (quick_path / "grid.new").mkdir()
+    (quick_path / "grid.new" / "left").write_text("of a call that was stopped")
+    tiles.new(str(folder), 3, 2, 4, 30, bounds=(1000, 2000, 1480, 2320))
+    told = json.loads((folder / "manifest.json").read_text())
+    assert [told[name] for name in ("columns", "rows", "level", "pages", "state", "layers")] == [3, 2, 4, 30, 0, []]
+    assert told["tiles"] == [{"column": i, "row": j, "edition": 0} for i in range(3) for j in range(2)]
+    assert sorted(path.name for path in (folder / "tiles").iterdir()) == [f"c{i}r{j}" for i in range(3) for j in range(2)]
+    assert not (quick_path / "grid.new").exists()
+    grid = opened(folder)
+    assert grid.place.transform.a == 10 and grid.place.transform * (0, 0) == (1000, 2320)
+    assert (grid.frame.width, grid.frame.height) == (48, 32) and is_whole(grid)
+    with pytest.raises(tiles.BadGrid, match="is there already"):
+        tiles.new(str(folder), 1, 1, 4, 30)
+    with pytest.raises(ValueError):
+        tiles.new(str(quick_path / "huge"), 512, 1, 12, 30)
+    with pytest.raises(quiltmap.Ended, match="usage"):
+        tiles.new(str(quick_path / "few"), 1, 1, 4, 15)
+    assert sorted(path.name for path in quick_path.iterdir()) == ["grid"]
+
+
+def test_what_is_no_grid(program, quick_path):
+    with pytest.raises(tiles.BadGrid, match="is no grid"):
+        tiles.Grid(str(quick_path))
+    tiles.new(str(quick_path / "grid"), 2, 1, 2, 16)
+    manifest = quick_path / "grid" / "manifest.json"
+    for text in ("", "{}", manifest.read_text().replace('"columns": 2', '"columns": 3'), manifest.read_text().replace('"manifest": 1', '"manifest": 2')):
+        manifest.write_text(text)
+        with pytest.raises(tiles.BadGrid, match="is no manifest"):
+            tiles.Grid(str(quick_path / "grid"))
+
+
+def test_a_copy_has_the_holes_of_the_file(tmp_path):
+    with open(tmp_path / "sparse", "wb") as file:
+        file.truncate(1 << 24)
+        file.seek(5_000_000)
+        file.write(b"in the midst")
+    store.copy_file(tmp_path / "sparse", tmp_path / "copy")
+    assert (tmp_path / "copy").read_bytes() == (tmp_path / "sparse").read_bytes()
+    assert work.size_of(tmp_path / "copy") <= 65_536
+    with pytest.raises(FileExistsError):
+        store.copy_file(tmp_path / "sparse", tmp_path / "copy")
+
+
+# Stops.
+
+
+def changed_until(folder, change, count):
+    """Runs a change in a process that ends without a word at its nth call that touches the disk. Whether it ended by itself."""
+    child = os.fork()
+    if child == 0:
+        left = [count]
+
+        def stopping(function):
+            def run(*arguments, **options):
+                if left[0] == 0:
+                    os._exit(9)
+                left[0] -= 1
+                return function(*arguments, **options)
+
+            return run
+
+        try:
+            grid = opened(folder)
+            for module, name in ((os, "replace"), (os, "unlink"), (os, "fsync"), (quiltmap.Map, "publish"), (os, "pwrite")):
+                setattr(module, name, stopping(getattr(module, name)))
+            change(grid)
+            os._exit(0)
+        finally:
+            os._exit(1)
+    status = os.waitstatus_to_exitcode(os.waitpid(child, 0)[1])
+    assert status in (0, 9)
+    return status == 0
+
+
+def test_a_stop_anywhere_leaves_one_of_two_states(program, quick_path):
+    folder = quick_path / "grid"
+    tiles.new(str(folder), 2, 1, 2, 16)
+    grid = opened(folder)
+    grid.region("a", 0)
+    grid.rect("a", 3, 0, 2, 2, 7)
+    grid.lines("l", 2)
+    grid.line("l", 5, 0, 0, 7, 3)
+    before = shown(grid, "a").tolist(), grid.segments("l").tolist(), [layer.name for layer in grid.layers()]
+    stops = {"before": 0, "behind": 0}
+
+    def change(grid):
+        grid.copy("l", "m")
+
+    for count in range(200):
+        number = grid.state
+        is_done = changed_until(folder, change, count)
+        again = opened(folder)
+        assert is_whole(again)
+        assert (shown(again, "a").tolist(), again.segments("l").tolist()) == before[:2]
+        if again.layer("m") is None:
+            assert again.state == number and not is_done
+            stops["before"] += 1
+        else:
+            assert again.state == number + 1 and again.segments("m").tolist() == before[1]
+            stops["behind"] += 1
+            again.drop("m")
+        if is_done:
+            break
+    assert is_done and stops["before"] > 10 and stops["behind"] > 1
+    assert sorted(path.name for path in (folder / "kept").iterdir()) == []
+    assert len(list(folder.iterdir())) == 4  # the manifest, the two folders, and one table of segments
+
+
+# Readers and late tasks.
+
+
+@contextlib.contextmanager
+def half_changed(grid, key):
+    """A change of which one tile is published already."""
+    with grid.changing() as change:
+        token = grid.store.begin(change.manifest)
+        tile = change.tile(key)
+        work.change(tile, None, token, pieces.call, "copy", "a", "b")
+        yield change, tile, token
+
+
+def test_readers_meanwhile_have_the_state_before(program, quick_path):
+    tiles.new(str(quick_path / "grid"), 2, 2, 3, 16)
+    grid = opened(quick_path / "grid")
+    grid.region("a", 0)
+    grid.rect("a", 2, 2, 10, 9, 5)
+    before = shown(grid, "a")
+    with half_changed(grid, (1, 0)) as (change, tile, token):
+        with quiltmap.open(tile.path) as m:
+            assert m.edition() == tile.edition + 1
+        other = opened(quick_path / "grid")
+        assert (shown(other, "a") == before).all() and other.area("a", 5) == 90
+        assert [layer.name for layer in other.layers()] == ["a"]
+        with pytest.raises(InUse):
+            other.region("c", 0)
+        assert grid.store.is_left()
+    # The change went no further: the next opening puts the tile back.
+    assert (shown(opened(quick_path / "grid"), "a") == before).all()
+    assert is_whole(opened(quick_path / "grid"))
+
+
+def test_readers_beside_a_writer_see_one_state_or_the_other(program, quick_path):
+    tiles.new(str(quick_path / "grid"), 2, 2, 3, 40)
+    writer = opened(quick_path / "grid")
+    writer.region("a", 0)
+    seen, failures, ended = set(), [], threading.Event()
+
+    def read():
+        try:
+            reader = opened(quick_path / "grid")
+            while not ended.is_set():
+                seen.add(reader.area("a", 1))
+                seen.add(int((shown(reader, "a") == 1).sum()))
+        except BaseException as error:
+            failures.append(error)
+
+    readers = [threading.Thread(target=read) for _ in range(2)]
+    for reader in readers:
+        reader.start()
+    states = [0]
+    for i in range(12):
+        # One pixel of each tile, and then two: a mixture of two states has another sum.
+        pixels = [(x + j, y) for x in (0, 8) for y in (0, 8) for j in range(1 + i % 2)]
+        board = np.zeros((16, 16), np.uint8)
+        board[[y for _, y in pixels], [x for x, _ in pixels]] = 1
+        writer.raster("a", board)
+        states.append(len(pixels))
+    ended.set()
+    for reader in readers:
+        reader.join()
+    assert not failures and seen <= set(states) and len(seen) > 1
+    assert is_whole(writer)
+
+
+def test_a_task_that_is_done_again_begins_anew_and_one_that_is_late_does_nothing(program, quick_path):
+    tiles.new(str(quick_path / "grid"), 2, 1, 3, 16)
+    grid = opened(quick_path / "grid")
+    grid.region("a", 4)
+    with half_changed(grid, (0, 0)) as (change, tile, token):
+        # A second `copy a b` would be refused if the first try were still in the tile.
+        assert work.change(tile, None, token, pieces.call, "copy", "a", "b")[0] == tile.edition + 1
+        grid.store.settle(change.manifest)
+        with pytest.raises(tiles.MovedOn, match="given up"):
+            work.change(tile, None, token, pieces.call, "copy", "a", "b")
+        with pytest.raises(tiles.MovedOn, match="given up"):
+            work.change(tile, None, grid.store.begin(change.manifest)[::-1], pieces.call, "copy", "a", "b")
+    assert is_whole(opened(quick_path / "grid"))
+
+
+def test_a_tile_that_was_changed_by_hand_is_told(program, quick_path):
+    tiles.new(str(quick_path / "grid"), 2, 1, 3, 16)
+    grid = opened(quick_path / "grid")
+    grid.region("a", 4)
+    with quiltmap.open(quick_path / "grid" / "tiles" / "c1r0") as m:
+        m.set("a", 0, 0, 9)
+        m.publish()
+    for ask in (lambda: grid.area("a", 4), lambda: grid.copy("a", "b")):
+        with pytest.raises(tiles.MovedOn, match="tile c1r0"):
+            ask()
+    assert grid.area  # the other tile still answers
+    assert grid.show("a", 0, 0, 8, 8).tolist() == [[4] * 8] * 8
+    assert [layer.name for layer in grid.layers()] == ["a"]
+
+
+def test_a_refusal_in_one_tile_leaves_all_as_they_were(make_grid):
+    grid = make_grid(3, 2, 4, pages=16)
+    grid.region("a", 0)
+    grid.region("chess", 0)
+    board = np.zeros((32, 48), np.uint8)
+    board[16:, 32:] = np.indices((16, 16)).sum(axis=0) % 2
+    grid.raster("chess", board)
+    state_before = grid.state
+    with pytest.raises(Refused, match="no 11 full: .*in tile c2r1"):
+        for name in "bcdef":
+            state_before = grid.state
+            grid.copy("chess", name)
+    assert grid.state == state_before and is_whole(grid)
+    assert (shown(grid, "chess") == board).all()
+
+
+# Faults.
+
+
+def wrapper(folder, program, text):
+    """A program in the place of `quilt`, which does something on its way."""
+    path = folder / "wrapped"
+    path.write_text(f"#!/bin/bash\nreal={program}\n{text}\n")
+    path.chmod(0o755)
+    return str(path)
+
+
+# Ends the worker before the program takes a command; and, once the file `later` is there, when the tile has its edition on the
+# disk and no one has heard of it.
+KILL_ONCE = """
+case "$*" in run*tiles/c1r0)
+    if mkdir {flags}/before 2>/dev/null; then kill -9 $PPID; fi
+    if [ -e {flags}/later ] && mkdir {flags}/behind 2>/dev/null; then
+        "$real" "$@" | while IFS= read -r line; do
+            echo "$line"
+            [ "$line" != "edition 3" ] || {{ touch {flags}/published; kill -9 $PPID; }}
+        done
+        exit
+    fi ;;
+esac
+exec "$real" "$@"
+"""
+
+
+def test_a_worker_that_is_killed(program, quick_path, monkeypatch):
+    tiles.new(str(quick_path / "grid"), 2, 2, 4, 16)
+    opened(quick_path / "grid").region("a", 3)
+    flags = quick_path / "flags"
+    flags.mkdir()
+    monkeypatch.setenv("QUILT", wrapper(quick_path, program, KILL_ONCE.format(flags=flags)))
+    with tiles.Grid(str(quick_path / "grid"), workers=2) as grid:
+        grid.copy("a", "b")
+        assert grid.state == 2 and (flags / "before").exists() and not (flags / "behind").exists()
+        (flags / "later").touch()
+        grid.copy("a", "c")
+        assert grid.state == 3 and (flags / "published").exists()
+        assert grid.area("b", 3) == grid.area("c", 3) == 32 * 32 and is_whole(grid)
+
+
+def test_workers_that_are_killed_again_and_again(program, quick_path, monkeypatch):
+    tiles.new(str(quick_path / "grid"), 2, 2, 4, 16)
+    opened(quick_path / "grid").region("a", 3)
+    before = shown(opened(quick_path / "grid"), "a")
+    monkeypatch.setenv("QUILT", wrapper(quick_path, program, 'case "$*" in run*tiles/c1r0) kill -9 $PPID ;; esac\nexec "$real" "$@"'))
+    with dask.config.set({"distributed.scheduler.allowed-failures": 0}), tiles.Grid(str(quick_path / "grid"), workers=2) as grid:
+        with pytest.raises(Lost, match="again and again"):
+            grid.copy("a", "b")
+    monkeypatch.setenv("QUILT", program)
+    again = opened(quick_path / "grid")
+    assert again.state == 1 and (shown(again, "a") == before).all() and is_whole(again)
+
+
+def test_a_scheduler_without_workers(program, quick_path, monkeypatch):
+    tiles.new(str(quick_path / "grid"), 2, 1, 4, 16)
+    monkeypatch.setattr(engine, "PATIENCE", 1)
+    with distributed.LocalCluster(n_workers=0, processes=False, dashboard_address="127.0.0.1:0") as cluster:
+        with distributed.Client(cluster) as client, tiles.Grid(str(quick_path / "grid"), client=client) as grid:
+            with pytest.raises(Lost):
+                grid.region("a", 3)
+            assert grid.state == 0 and is_whole(grid)
+            # The tasks wait still. A worker that comes too late changes nothing.
+            cluster.scale(1)
+            client.wait_for_workers(1)
+            assert client.submit(int, 5).result() == 5
+            assert is_whole(grid)
+            grid.region("a", 3)
+            client.close()
+            with pytest.raises(Lost, match="is closed"):
+                grid.area("a", 3)
+            assert grid.at("a", 31, 0) == 3  # one tile needs no worker
+
+
+@contextlib.contextmanager
+def cluster_of_processes(folder):
+    """A scheduler and a worker, each a process of its own: the scheduler's process, and its address."""
+    environment = os.environ | {"PYTHONPATH": str(COMPANION)}
+    options = {"env": environment, "stdout": subprocess.DEVNULL, "stderr": subprocess.DEVNULL}
+    told = folder / "scheduler.json"
+    scheduler = subprocess.Popen(
+        [sys.executable, "-m", "distributed.cli.dask_scheduler", "--host", "127.0.0.1", "--port", "0", "--no-dashboard", "--scheduler-file", told],
+        **options,
+    )
+    worker = subprocess.Popen(
+        [sys.executable, "-m", "distributed.cli.dask_worker", "--no-nanny", "--no-dashboard", "--nthreads", "2", "--death-timeout", "5",
+         "--scheduler-file", told], **options,
+    )  # fmt: skip
+    try:
+        deadline = time.monotonic() + 30
+        while not (told.exists() and told.read_text().strip().endswith("}")) and time.monotonic() < deadline:
+            time.sleep(0.05)
+        yield scheduler, json.loads(told.read_text())["address"]
+    finally:
+        for process in (worker, scheduler):
+            process.kill()
+            process.wait()
+
+
+def test_a_scheduler_that_is_lost(program, quick_path, monkeypatch):
+    tiles.new(str(quick_path / "grid"), 2, 1, 4, 16)
+    opened(quick_path / "grid").region("a", 3)
+    flag = quick_path / "flag"
+    slow = f'case "$*" in run*tiles/c1r0) if mkdir {flag} 2>/dev/null; then sleep 2; fi ;; esac\nexec "$real" "$@"'
+    monkeypatch.setenv("QUILT", wrapper(quick_path, program, slow))
+    with cluster_of_processes(quick_path) as (scheduler, address):
+        child = os.fork()
+        if child == 0:
+            # Waits until the program is under way in the worker, and kills the scheduler then.
+            while not flag.exists():
+                time.sleep(0.02)
+            os.kill(scheduler.pid, signal.SIGKILL)
+            os._exit(0)
+        with tiles.Grid(str(quick_path / "grid"), scheduler=address) as grid:
+            with pytest.raises(Lost):
+                grid.copy("a", "b")
+        os.waitpid(child, 0)
+        monkeypatch.setenv("QUILT", program)
+        again = opened(quick_path / "grid")
+        assert again.state == 1 and again.layer("b") is None and is_whole(again)
+        # What the worker does too late changes nothing.
+        time.sleep(2.5)
+        assert is_whole(opened(quick_path / "grid"))
+        again.copy("a", "b")
+        assert again.area("b", 3) == 16 * 32
+    monkeypatch.setattr(engine, "CONNECTING", 1)
+    with pytest.raises(Lost, match="no scheduler answers"):
+        tiles.Grid(str(quick_path / "grid"), scheduler=address).area("a", 3)
+
+
+@contextlib.contextmanager
+def small_disk(folder, kilobytes):
+    """A file system of a size."""
+    folder.mkdir()
+    if subprocess.run(["mount", "-t", "tmpfs", "-o", f"size={kilobytes}k", "tmpfs", folder], stderr=subprocess.DEVNULL).returncode:
+        pytest.skip("no file system of its own can be mounted here")
+    try:
+        yield
+    finally:
+        subprocess.run(["umount", folder], check=True)
+
+
+def test_a_full_disk(program, tmp_path):
+    disk = tmp_path / "disk"
+    with small_disk(disk, 5_000):
+        tiles.new(str(disk / "grid"), 2, 1, 6, 100)
+        grid = opened(disk / "grid")
+        board = np.random.default_rng(1).integers(0, 2, (64, 128)).astype(np.uint8)
+        grid.region("a", 0)
+        grid.raster("a", board[::-1] * 0 + 1)
+        done, causes = 0, set()
+        for free in range(0, 4000, 100):
+            filler = disk / "filler"
+            room = os.statvfs(disk).f_bavail * os.statvfs(disk).f_bsize
+            filler.write_bytes(bytes(max(room - free * 1024, 0)))
+            number = grid.state
+            try:
+                grid.raster("a", board)
+            except (OSError, QuiltError) as error:
+                causes |= {cause for cause in ("No space left", "device fault") if cause in str(error)}
+                assert causes
+                assert grid.state == number
+                assert (shown(grid, "a") == 1).all()
+            else:
+                done += 1
+                assert grid.state == number + 1 and (shown(grid, "a") == board).all()
+            filler.unlink()
+            assert is_whole(grid)
+            if done:
+                break
+        # A copy did not fit, or a program could not write, where its file had no room ahead; at last there was room.
+        assert done == 1 and "No space left" in causes
