@@ -14,7 +14,7 @@ use Rattle.quilt_loc.proofs.Members.{list_all-at, Contains-nil, Contains-cons_ca
 use Rattle.quilt_node.specs.Nodes.{are_pages}
 use Rattle.quilt_node.specs.Pages.{leaf_of, inner_of}
 use Rattle.quilt_node.specs.Tree.{Bounds, Walk, Whole, Damaged, bounded, behind, each_child, leaf_walk, inner_walk, walk}
-use Rattle.quilt_store.specs.Store.{Tells}
+use Rattle.quilt_world.specs.Tale.{Goes}
 use Rattle.quilt_btree.proofs.subtrees.Walks.{and_parts, if_true, if_false}
 use Rattle.quilt_btree.proofs.subtrees.Trees.{nat_le_is}
 use Rattle.quilt_types.specs.declared.stop.Stop.{Stop}
@@ -68,12 +68,12 @@ pub key_of_record : (rs : List Record) (i : ℕ) (r : Record) → slice_get rs i
 key_of_record rs i r at = slice_get-map (λ (s : Record). s.key) rs i ∙ ap (option_map (λ (s : Record). s.key)) at
 
 -- ---- what a walk adds
-pub tells_same : (v : ℕ) (o : Option ℕ) → Tells {A = ℕ} (λ was is. is + v ≤ was + v) o o
+pub tells_same : (v : ℕ) (o : Option ℕ) → Goes {A = ℕ} (λ was is. is + v ≤ was + v) o o
 tells_same v None = tt
 tells_same v (Some n) = omega arith
 
-pub tells_then : (u v w : ℕ) (a b c : Option ℕ) → Tells {A = ℕ} (λ was is. is + u ≤ was + v) a b → Tells {A = ℕ} (λ was is. is + v ≤ was + w) b c
-    → Tells {A = ℕ} (λ was is. is + u ≤ was + w) a c
+pub tells_then : (u v w : ℕ) (a b c : Option ℕ) → Goes {A = ℕ} (λ was is. is + u ≤ was + v) a b → Goes {A = ℕ} (λ was is. is + v ≤ was + w) b c
+    → Goes {A = ℕ} (λ was is. is + u ≤ was + w) a c
 tells_then u v w None None None h k = tt
 tells_then u v w (Some m) (Some n) (Some o) h k = omega arith
 tells_then u v w None None (Some o) h k = absurd k
@@ -81,7 +81,7 @@ tells_then u v w None (Some n) c h k = absurd h
 tells_then u v w (Some m) None c h k = absurd h
 tells_then u v w (Some m) (Some n) None h k = absurd k
 
-pub tells_one : (v : ℕ) (a b : Option ℕ) → Tells {A = ℕ} (λ was is. is ≤ was + 1) a b → Tells {A = ℕ} (λ was is. is + v ≤ was + suc v) a b
+pub tells_one : (v : ℕ) (a b : Option ℕ) → Goes {A = ℕ} (λ was is. is ≤ was + 1) a b → Goes {A = ℕ} (λ was is. is + v ≤ was + suc v) a b
 tells_one v None None h = tt
 tells_one v (Some m) (Some n) h = omega arith
 tells_one v None (Some n) h = absurd h
@@ -100,7 +100,7 @@ Spent-then size visited now later x y z h k = record {
 
 -- one page that was not visited before
 pub Spent-page : (size : ℕ) (visited : List ℕ) (before after : Option ℕ) (page : ℕ) → 1 ≤ page → page < size
-    → list_any (λ v. v == page) visited ≡ false → Tells {A = ℕ} (λ was is. is ≤ was + 1) before after
+    → list_any (λ v. v == page) visited ≡ false → Goes {A = ℕ} (λ was is. is ≤ was + 1) before after
     → Spent size visited (page ∷ visited) before after
 Spent-page size visited before after page low high fresh reads = record {
   apart = λ a. ((λ c. let t = member_any (λ v. v == page) visited page c (eq-eqb page page refl) in let clash : false ≡ true = sym fresh ∙ t in cc), a);
@@ -110,14 +110,14 @@ Spent-page size visited before after page low high fresh reads = record {
 
 -- fewer pages than the store has
 pub spent_few : (size : ℕ) (now : List ℕ) (before after : Option ℕ) → 16 ≤ size → Spent size [] now before after
-    → Tells {A = ℕ} (λ was is. is < was + size) before after
+    → Goes {A = ℕ} (λ was is. is < was + size) before after
 spent_few size now before after some h =
     let all = Apart-le now (range_with_len 1 (size - 1)) (h.apart tt) (λ p c. let w = h.in_store (λ q d. absurd (Contains-nil q d)) p c in
     let a = w.0 in let b = w.1 in Contains-range 1 (size - 1) p (omega arith) (omega arith)) in
     let long = length-range_with_len 1 (size - 1) in
     below (length now) before after (omega arith) h.reads
   where
-    below : (n : ℕ) (a b : Option ℕ) → n < size → Tells {A = ℕ} (λ was is. is + 0 ≤ was + n) a b → Tells {A = ℕ} (λ was is. is < was + size) a b
+    below : (n : ℕ) (a b : Option ℕ) → n < size → Goes {A = ℕ} (λ was is. is + 0 ≤ was + n) a b → Goes {A = ℕ} (λ was is. is < was + size) a b
     below n None None lt r = tt
     below n (Some x) (Some y) lt r = omega arith
     below n None (Some y) lt r = absurd r
@@ -253,7 +253,7 @@ walk_inner pages (suc (suc h)) is_root at visited few f =
 pub Added-page : (size : ℕ) (visited : List ℕ) (old new : Surveying) (before after : Option ℕ) (page : ℕ) (rs : List Record) → 1 ≤ page → page < size
     → Marks old.used visited → list_any (λ v. v == page) visited ≡ false
     → ((j : ℕ) → has_bit new.used j ≡ cond (eqb j page) true (has_bit old.used j)) → Takes old.checker rs new.checker
-    → Tells {A = ℕ} (λ was is. is ≤ was + 1) before after
+    → Goes {A = ℕ} (λ was is. is ≤ was + 1) before after
     → Added size visited old new before after rs (page ∷ visited)
 Added-page size visited old new before after page rs low high m fresh one t reads = record {
   takes = t;

@@ -8,7 +8,7 @@ use Rattle.quilt_record.specs.Records.{Numbering}
 use Rattle.quilt_node.specs.declared.head.Head.{Head}
 use Rattle.quilt_node.specs.Pages.{IsHead}
 use Rattle.quilt_node.specs.Tree.{Whole, Damaged, walk, walk_of}
-use Rattle.quilt_store.specs.Store.{Tells}
+use Rattle.quilt_world.specs.Tale.{Goes}
 use Rattle.quilt_btree.specs.declared.tree.Tree.{Tree}
 use Rattle.quilt_spell.specs.Spelled.{SpellsUnder}
 use Rattle.quilt_spell.specs.Written.{by_key}
@@ -34,15 +34,15 @@ unfolding walk_of
 tree_of_root pages root zero ne = absurd (ne refl)
 tree_of_root pages root (suc h) ne = refl
 
-reads_same : (o : Option ℕ) → Tells {A = ℕ} (λ was is. is ≤ was + 0) o o
+reads_same : (o : Option ℕ) → Goes {A = ℕ} (λ was is. is ≤ was + 0) o o
 reads_same None = tt
 reads_same (Some n) = omega arith
 
-few_same : (size : ℕ) (o : Option ℕ) → 16 ≤ size → Tells {A = ℕ} (λ was is. is < was + size) o o
+few_same : (size : ℕ) (o : Option ℕ) → 16 ≤ size → Goes {A = ℕ} (λ was is. is < was + size) o o
 few_same size None room = tt
 few_same size (Some n) room = omega arith
 
-reads_new : (n : ℕ) (a b : Option ℕ) → Tells {A = ℕ} (λ was is. is + 0 ≤ was + n) a b → Tells {A = ℕ} (λ was is. is ≤ was + n) a b
+reads_new : (n : ℕ) (a b : Option ℕ) → Goes {A = ℕ} (λ was is. is + 0 ≤ was + n) a b → Goes {A = ℕ} (λ was is. is ≤ was + n) a b
 reads_new n None None h = tt
 reads_new n (Some x) (Some y) h = omega arith
 reads_new n None (Some y) h = absurd h
@@ -136,10 +136,10 @@ module _ (size : ℕ) (told : Option (List (List ℕ))) (head : Head) (s : Surve
   }
 
   pub reads_from : (records : List Record) (visited : List ℕ) → walk_of pages head.root head.height ≡ Whole records visited
-      → Tells {A = ℕ} (λ was is. is ≤ was + length visited) before after
+      → Goes {A = ℕ} (λ was is. is ≤ was + length visited) before after
   reads_from records visited w =
       let same = (whole_same h.rs records h.now visited (sym (h.walks pages is_told) ∙ w)).1 in
-      subst (λ (l : List ℕ). Tells {A = ℕ} (λ was is. is ≤ was + length l) before after) same h.reads
+      subst (λ (l : List ℕ). Goes {A = ℕ} (λ was is. is ≤ was + length l) before after) same h.reads
 
 -- where a page is damaged
 pub damage_at : (pages : List (List ℕ)) (head : Head) (page : ℕ) → walk_of pages head.root head.height ≡ Damaged page → IsDamage pages head page

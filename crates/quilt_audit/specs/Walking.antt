@@ -3,7 +3,7 @@ use Rattle.std.specs.Prelude.{◌≡◌, ℕ, ◌+◌, ◌<◌, ◌≤◌, List,
 use Rattle.quilt_record.specs.declared.record.Record.{Record}
 use Rattle.quilt_node.specs.Tree.{Walk, Whole, walk_of}
 use Rattle.quilt_node.specs.declared.head.Head.{Head}
-use Rattle.quilt_store.specs.Store.{Tells}
+use Rattle.quilt_world.specs.Tale.{Goes}
 use Rattle.quilt_spell.specs.Apart.{Apart}
 use Rattle.quilt_audit.specs.declared.surveying.Surveying.{Surveying}
 use Rattle.quilt_audit.specs.Bits.{Marks, AreWithin}
@@ -13,7 +13,7 @@ use Rattle.quilt_audit.specs.Checking.{Takes, IsFed}
 pub record Spent (size : ℕ) (visited now : List ℕ) (before after : Option ℕ) : Type 0 where
   pub apart : Apart visited → Apart now
   pub in_store : ((p : ℕ) → Contains visited p → (1 ≤ p) × (p < size)) → (p : ℕ) → Contains now p → (1 ≤ p) × (p < size)
-  pub reads : Tells (λ was is. is + length visited ≤ was + length now) before after
+  pub reads : Goes (λ was is. is + length visited ≤ was + length now) before after
 
 -- some such pages
 pub record SpentSome (size : ℕ) (visited : List ℕ) (before after : Option ℕ) : Type 0 where
@@ -52,6 +52,6 @@ pub record IsWalked (size : ℕ) (told : Option (List (List ℕ))) (head : Head)
   pub fed : IsFed head.records s.checker rs
   pub marks : Marks s.used now
   pub within : AreWithin size s.used
-  pub reads : Tells (λ was is. is ≤ was + length now) before after
-  pub few : Tells (λ was is. is < was + size) before after
+  pub reads : Goes (λ was is. is ≤ was + length now) before after
+  pub few : Goes (λ was is. is < was + size) before after
   pub walks : (pages : List (List ℕ)) → told ≡ Some pages → walk_of pages head.root head.height ≡ Whole rs now

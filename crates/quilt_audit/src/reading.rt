@@ -5,7 +5,7 @@ ghost use Rattle.quilt_node.specs.Pages as spec;
 ghost use Rattle.quilt_node.specs.Tree.{Bounds, Walk, Whole, Damaged, are_within, bounded, each_child, leaf_walk, inner_walk, is_above as is_above_of};
 ghost use Rattle.quilt_node.specs.Tree.{is_below as is_below_of};
 ghost use Rattle.quilt_store.specs.Calls.{OnlyReads};
-ghost use Rattle.quilt_store.specs.Store.{Tells};
+ghost use Rattle.quilt_world.specs.Tale.{Goes};
 ghost use Rattle.quilt_btree.specs.Stops.{NamesPage};
 ghost use Rattle.quilt_audit.specs.Surveys.{OnDamaged};
 
@@ -84,7 +84,7 @@ pub fn read_leaf<S: PageStore>(
         → leaf_walk is_root (record { low = low.now; high = high.now }) page visited (spec.leaf_of (slice_index_or pages page [])) ≡ Damaged p)) }
     ensures names { IfErr result (NamesPage (S.size store.old)) }
     ensures left { OnlyReads S.PageStore store.old store.new result }
-    ensures reads { Tells (λ old new. new ≤ old + 1) (S.reads store.old) (S.reads store.new) }
+    ensures reads { Goes (λ old new. new ≤ old + 1) (S.reads store.old) (S.reads store.new) }
 {
     match store.read(page, bytes) {
         Err(e) => Err(stop_of(e)),
@@ -141,7 +141,7 @@ pub fn read_inner<S: PageStore>(
         (spec.inner_of (length pages) (slice_index_or pages page [])) ≡ Damaged p)) }
     ensures names { IfErr result (NamesPage (S.size store.old)) }
     ensures left { OnlyReads S.PageStore store.old store.new result }
-    ensures reads { Tells (λ old new. new ≤ old + 1) (S.reads store.old) (S.reads store.new) }
+    ensures reads { Goes (λ old new. new ≤ old + 1) (S.reads store.old) (S.reads store.new) }
 {
     let mut bytes = [0; 4096];
     match store.read(page, &mut bytes) {

@@ -3,7 +3,7 @@ ghost use Rattle.quilt_record.specs.declared.record.Record.{Record};
 ghost use Rattle.quilt_node.specs.Pages.{IsHead};
 ghost use Rattle.quilt_node.specs.Tree.{Whole, Damaged, walk_of};
 ghost use Rattle.quilt_store.specs.Calls.{OnlyReads};
-ghost use Rattle.quilt_store.specs.Store.{Tells};
+ghost use Rattle.quilt_world.specs.Tale.{Goes};
 ghost use Rattle.quilt_btree.specs.Stops.{NamesPage};
 ghost use Rattle.quilt_audit.specs.Bits.{AreWithin};
 ghost use Rattle.quilt_audit.specs.Surveys.{OnDamaged, IsSurvey, IsDamage, AreNumbered};
@@ -44,10 +44,10 @@ pub fn audit<S: PageStore>(
     ensures numbered { IfOk result (λ s. AreNumbered head.now.format s.catalog) }
     ensures names { IfErr result (NamesPage pages) }
     ensures left { OnlyReads S.PageStore store.old store.new result }
-    ensures few { Tells (λ old new. new < old + pages) (S.reads store.old) (S.reads store.new) }
+    ensures few { Goes (λ old new. new < old + pages) (S.reads store.old) (S.reads store.new) }
     ensures reads { IfOk result (λ s. (told : List (List ℕ)) (records : List Record) (visited : List ℕ) → S.told store.old ≡ Some told
         → walk_of told head.now.root head.now.height ≡ Whole records visited
-        → Tells (λ old new. new ≤ old + length visited) (S.reads store.old) (S.reads store.new)) }
+        → Goes (λ old new. new ≤ old + length visited) (S.reads store.old) (S.reads store.new)) }
 {
     match survey_tree(alloc, store, head) {
         Err(e) => Err(e),
@@ -68,7 +68,7 @@ fn survey_tree<S: PageStore>(alloc: Global, store: &mut S, head: &Head) -> Resul
     ensures walked { IfOk result (λ s. IsWalked (S.size store.old) (S.told store.old) head.now s (S.reads store.old) (S.reads store.new)) }
     ensures damaged { IfErr result
         (OnDamaged (λ page. (told : List (List ℕ)) → S.told store.old ≡ Some told → walk_of told head.now.root head.now.height ≡ Damaged page)) }
-    ensures few { OnErr result (Tells (λ old new. new < old + S.size store.old) (S.reads store.old) (S.reads store.new)) }
+    ensures few { OnErr result (Goes (λ old new. new < old + S.size store.old) (S.reads store.old) (S.reads store.new)) }
     ensures names { IfErr result (NamesPage (S.size store.old)) }
     ensures left { OnlyReads S.PageStore store.old store.new result }
 {

@@ -5,7 +5,7 @@ ghost use Rattle.std.specs.Option.{option_or};
 ghost use Rattle.quilt_node.specs.Nodes.{are_pages, records_of};
 ghost use Rattle.quilt_node.specs.Tree.{Bounds, Walk, Whole, Damaged, bounded, each_child, walk};
 ghost use Rattle.quilt_store.specs.Calls.{OnlyReads};
-ghost use Rattle.quilt_store.specs.Store.{Tells};
+ghost use Rattle.quilt_world.specs.Tale.{Goes};
 ghost use Rattle.quilt_btree.specs.Stops.{NamesPage};
 ghost use Rattle.quilt_audit.specs.Bits.{Marks};
 ghost use Rattle.quilt_audit.specs.Surveys.{OnDamaged};

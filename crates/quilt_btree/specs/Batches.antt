@@ -6,7 +6,7 @@ use Rattle.quilt_record.specs.declared.record.Record.{Record}
 use Rattle.quilt_record.specs.Lists.{has_key, put, without}
 use Rattle.quilt_node.specs.Pages.{leaf_of}
 use Rattle.quilt_node.specs.Tree.{Bounds, is_below}
-use Rattle.quilt_store.specs.Store.{Tells}
+use Rattle.quilt_world.specs.Tale.{Goes}
 use Rattle.quilt_btree.specs.declared.edit.Edit.{Edit}
 use Rattle.quilt_btree.specs.declared.edit.Edit.TheVariants as edit
 use Rattle.quilt_btree.specs.Edits.{Becomes}
@@ -100,7 +100,7 @@ pub record HasPlan (told : Option (List (List ℕ))) (page least : ℕ) (run : L
 -- the page has other bytes now: where it was a leaf with room for the run, they are that leaf behind it, and each edit was due
 pub record MakesEdits (told now : Option (List (List ℕ))) (page : ℕ) (run : List Edit) : Type 0 where
   pub bytes : List ℕ
-  pub wrote : Tells (λ old new. new ≡ slice_set old page bytes) told now
+  pub wrote : Goes (λ old new. new ≡ slice_set old page bytes) told now
   pub made : (pages : List (List ℕ)) (leaf : List Record) → told ≡ Some pages → leaf_of (slice_index_or pages page []) ≡ Some leaf
       → HasRoomFor run (length leaf) → (leaf_of bytes ≡ Some (edit_all run leaf)) × (are_due run leaf ≡ true)
 

@@ -8,7 +8,8 @@ use Rattle.quilt_record.specs.declared.key.Key.{Key}
 use Rattle.quilt_record.specs.declared.record.Record.{Record}
 use Rattle.quilt_record.specs.Records.{key_cmp}
 use Rattle.quilt_node.specs.Pages.{Inner, leaf_of, inner_of}
-use Rattle.quilt_store.specs.Store.{Tells, Touches, first_eight}
+use Rattle.quilt_store.specs.Store.{Touches, first_eight}
+use Rattle.quilt_world.specs.Tale.{Goes}
 use Rattle.quilt_btree.specs.Lists.{floor_of}
 
 -- the pages below an inner page that lead to its last record
@@ -75,15 +76,15 @@ pub record AreAmongFirst (ps held : List ℕ) : Type 0 where
 -- where the pages are told, those that a call reads came to the front of those that are held, in this order
 abbrev pub TouchesInTurn : (List (List ℕ) → List ℕ) → Option (List (List ℕ)) → Option (List ℕ) → Option (List ℕ) → Type 0
 TouchesInTurn reads told old new =
-    (pages : List (List ℕ)) → told ≡ Some pages → Tells (TouchesEach (reads pages)) old new
+    (pages : List (List ℕ)) → told ≡ Some pages → Goes (TouchesEach (reads pages)) old new
 
 -- where the pages are told, those that a call reads are then among the first eight that are held
 abbrev pub HoldsFirst : (List (List ℕ) → List ℕ) → Option (List (List ℕ)) → Option (List ℕ) → Option (List ℕ) → Type 0
 HoldsFirst reads told old new =
-    (pages : List (List ℕ)) → told ≡ Some pages → Tells (λ before now. AreAmongFirst (reads pages) now) old new
+    (pages : List (List ℕ)) → told ≡ Some pages → Goes (λ before now. AreAmongFirst (reads pages) now) old new
 
 -- where the pages are told, and those that a call reads are among the first eight that are held, the device below is not read
 abbrev pub ReadsNone : (List (List ℕ) → List ℕ) → Option (List (List ℕ)) → Option (List ℕ) → Option ℕ → Option ℕ → Type 0
 ReadsNone reads told held old new =
     (pages : List (List ℕ)) → told ≡ Some pages
-    → IfSome held (λ first. AreAmongFirst (reads pages) first → Tells (λ before now. now ≤ before) old new)
+    → IfSome held (λ first. AreAmongFirst (reads pages) first → Goes (λ before now. now ≤ before) old new)

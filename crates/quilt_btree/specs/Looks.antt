@@ -7,7 +7,8 @@ use Rattle.quilt_record.specs.declared.record.Record.{Record}
 use Rattle.quilt_node.specs.Pages.{Inner, leaf_of, inner_of}
 use Rattle.quilt_node.specs.Nodes.{IsFound, IsGap}
 use Rattle.quilt_store.specs.Calls.{OnlyReads}
-use Rattle.quilt_store.specs.Store.{Tells, Touches}
+use Rattle.quilt_store.specs.Store.{Touches}
+use Rattle.quilt_world.specs.Tale.{Goes}
 use Rattle.quilt_store.specs.declared.store.PageStore.{Ghosts}
 use Rattle.quilt_btree.specs.Damage.{HasChild}
 use Rattle.quilt_btree.specs.Lists.{floor_of, is_from_to}
@@ -17,10 +18,10 @@ use Rattle.quilt_btree.specs.Trees.{ReadsLeaf}
 -- what a call leaves that looks at one page: at most one page is read from the device, and none where the page is held
 pub record LooksAt {S T : Type 0} (g : Ghosts S) (page : ℕ) (old new : S) (result : Result T Stop) : Type 0 where
   pub left : OnlyReads g old new result
-  pub held : OnOk result (Tells (Touches page) (g.held old) (g.held new))
-  pub reads : Tells (λ before now. now ≤ before + 1) (g.reads old) (g.reads new)
+  pub held : OnOk result (Goes (Touches page) (g.held old) (g.held new))
+  pub reads : Goes (λ before now. now ≤ before + 1) (g.reads old) (g.reads new)
   pub held_is_free : IfSome (g.held old) (λ pages. IsTrue (list_any (λ p. p == page) pages)
-      → Tells (λ before now. now ≤ before) (g.reads old) (g.reads new))
+      → Goes (λ before now. now ≤ before) (g.reads old) (g.reads new))
 
 -- the page has some bytes, which have these children where a key belongs
 pub record ShowsFork (told : Option (List (List ℕ))) (page size : ℕ) (k : Key) (child : ℕ) (prior : Option ℕ) : Type 0 where

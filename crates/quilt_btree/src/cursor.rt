@@ -7,7 +7,7 @@ ghost use Rattle.quilt_types.specs.declared.stop.Stop.TheVariants.{Damaged};
 ghost use Rattle.quilt_node.specs.Pages.{leaf_of};
 ghost use Rattle.quilt_node.specs.Nodes.{records_of};
 ghost use Rattle.quilt_store.specs.Calls.{OnlyReads};
-ghost use Rattle.quilt_store.specs.Store.{Tells};
+ghost use Rattle.quilt_world.specs.Tale.{Goes};
 ghost use Rattle.quilt_store.specs.Stops.{IsSound};
 ghost use Rattle.quilt_btree.specs.Damage.{NamesBad};
 ghost use Rattle.quilt_btree.specs.Stops.{NamesPage};
@@ -55,7 +55,7 @@ impl Tree {
         ensures names { IfErr result (NamesPage (S.size store.old)) }
         ensures bad { IfErr result (NamesBad (S.told store.old) self.now.height self.now.root) }
         ensures left { OnlyReads S.PageStore store.old store.new result }
-        ensures reads { Tells (λ old new. new ≤ old + 3) (S.reads store.old) (S.reads store.new) }
+        ensures reads { Goes (λ old new. new ≤ old + 3) (S.reads store.old) (S.reads store.new) }
     {
         match leaf_at(store, self.root, self.height, k, &None) {
             Err(e) => Err(e),
@@ -82,7 +82,7 @@ impl Tree {
         ensures names { IfErr result (NamesPage (S.size store.old)) }
         ensures bad { IfErr result (NamesBad (S.told store.old) self.now.height self.now.root) }
         ensures left { OnlyReads S.PageStore store.old store.new result }
-        ensures reads { Tells (λ old new. new ≤ old + 3) (S.reads store.old) (S.reads store.new) }
+        ensures reads { Goes (λ old new. new ≤ old + 3) (S.reads store.old) (S.reads store.new) }
     {
         match leaf_at(store, self.root, self.height, k, &None) {
             Err(e) => Err(e),
@@ -112,8 +112,8 @@ impl Tree {
         ensures names { IfErr result (NamesPage (S.size store.old)) }
         ensures bad { IfErr result (λ e. e ≢ Damaged 0 → NamesBad (S.told store.old) self.now.height self.now.root e) }
         ensures left { OnlyReads S.PageStore store.old store.new result }
-        ensures reads { Tells (λ old new. new ≤ old + 3) (S.reads store.old) (S.reads store.new) }
-        ensures here { c.old.place < length (records_of c.old.bytes) → Tells (λ old new. new ≤ old) (S.reads store.old) (S.reads store.new) }
+        ensures reads { Goes (λ old new. new ≤ old + 3) (S.reads store.old) (S.reads store.new) }
+        ensures here { c.old.place < length (records_of c.old.bytes) → Goes (λ old new. new ≤ old) (S.reads store.old) (S.reads store.new) }
     {
         if c.place < records_in(&c.bytes) {
             return Ok(Some(over(c)));

@@ -5,7 +5,8 @@ ghost use Rattle.quilt_record.specs.declared.record.Record.{Record};
 ghost use Rattle.quilt_node.specs.Pages as spec;
 ghost use Rattle.quilt_node.specs.Nodes.{are_pages};
 ghost use Rattle.quilt_store.specs.Calls.{OnlyReads};
-ghost use Rattle.quilt_store.specs.Store.{Tells, Touches};
+ghost use Rattle.quilt_store.specs.Store.{Touches};
+ghost use Rattle.quilt_world.specs.Tale.{Goes};
 ghost use Rattle.quilt_btree.specs.Damage.{NamesBad};
 ghost use Rattle.quilt_btree.specs.Searches.{IsHigh};
 ghost use Rattle.quilt_store.specs.Stops.{IsSound};
@@ -47,10 +48,10 @@ pub fn read_leaf<S: PageStore>(store: &mut S, page: u32, named: u32) -> Result<L
     ensures names { IfErr result (NamesPage (named + 1)) }
     ensures bad { IfErr result (λ e. named ≡ page → NamesBad (S.told store.old) 1 page e) }
     ensures left { OnlyReads S.PageStore store.old store.new result }
-    ensures held { OnOk result (Tells (Touches page) (S.held store.old) (S.held store.new)) }
-    ensures reads { Tells (λ old new. new ≤ old + 1) (S.reads store.old) (S.reads store.new) }
+    ensures held { OnOk result (Goes (Touches page) (S.held store.old) (S.held store.new)) }
+    ensures reads { Goes (λ old new. new ≤ old + 1) (S.reads store.old) (S.reads store.new) }
     ensures held_is_free { IfSome (S.held store.old) (λ pages. IsTrue (list_any (λ p. p == page) pages)
-        → Tells (λ old new. new ≤ old) (S.reads store.old) (S.reads store.new)) }
+        → Goes (λ old new. new ≤ old) (S.reads store.old) (S.reads store.new)) }
 {
     let mut bytes = [0; 4096];
     match store.read(page, &mut bytes) {
@@ -106,10 +107,10 @@ pub fn read_inner<S: PageStore>(store: &mut S, page: u32, height: u8) -> Result<
     ensures sound { IfErr result (λ e. (rs : List Record) → Spells (S.told store.old) page height rs → IsSound e) }
     ensures names { IfErr result (NamesPage 1) }
     ensures left { OnlyReads S.PageStore store.old store.new result }
-    ensures held { OnOk result (Tells (Touches page) (S.held store.old) (S.held store.new)) }
-    ensures reads { Tells (λ old new. new ≤ old + 1) (S.reads store.old) (S.reads store.new) }
+    ensures held { OnOk result (Goes (Touches page) (S.held store.old) (S.held store.new)) }
+    ensures reads { Goes (λ old new. new ≤ old + 1) (S.reads store.old) (S.reads store.new) }
     ensures held_is_free { IfSome (S.held store.old) (λ pages. IsTrue (list_any (λ p. p == page) pages)
-        → Tells (λ old new. new ≤ old) (S.reads store.old) (S.reads store.new)) }
+        → Goes (λ old new. new ≤ old) (S.reads store.old) (S.reads store.new)) }
 {
     let mut bytes = [0; 4096];
     match store.read(page, &mut bytes) {

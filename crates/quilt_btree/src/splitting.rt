@@ -1,5 +1,6 @@
 ghost use Rattle.std.specs.Prelude.{◌≡◌, ℕ, ◌+◌, ◌<◌, ◌≤◌, true, false, IfOk, IfErr, OnOk, slice_set};
-ghost use Rattle.quilt_store.specs.Store.{Tells, FreesOnly, count_free};
+ghost use Rattle.quilt_store.specs.Store.{FreesOnly, count_free};
+ghost use Rattle.quilt_world.specs.Tale.{Goes};
 ghost use Rattle.quilt_store.specs.Stops.{HasStopCause, IsSound};
 ghost use Rattle.quilt_btree.specs.Stops.{NamesPage};
 
@@ -15,7 +16,7 @@ pub fn write_split<S: PageStore>(
     right: &[u8; 4096],
 ) -> Result<u32, Stop>
     requires { (1 ≤ page) × (page < S.size store.old) }
-    ensures told { IfOk result (λ new. Tells (λ old now. now ≡ slice_set (slice_set old page left.now) new right.now) (S.told store.old) (S.told store.new)) }
+    ensures told { IfOk result (λ new. Goes (λ old now. now ≡ slice_set (slice_set old page left.now) new right.now) (S.told store.old) (S.told store.new)) }
     ensures page { IfOk result (λ new. (1 ≤ new) × (new < S.size store.old)) }
     ensures free { IfOk result (λ new. S.free store.old new ≡ true) }
     ensures taken { IfOk result (λ new. FreesOnly new false (S.free store.old) (S.free store.new)) }
@@ -42,7 +43,7 @@ pub fn write_split<S: PageStore>(
 
 /// Writes a new page of the tree to a free page, which is the answer.
 pub fn write_new<S: PageStore>(store: &mut S, bytes: &[u8; 4096]) -> Result<u32, Stop>
-    ensures told { IfOk result (λ new. Tells (λ old now. now ≡ slice_set old new bytes.now) (S.told store.old) (S.told store.new)) }
+    ensures told { IfOk result (λ new. Goes (λ old now. now ≡ slice_set old new bytes.now) (S.told store.old) (S.told store.new)) }
     ensures page { IfOk result (λ new. (1 ≤ new) × (new < S.size store.old)) }
     ensures free { IfOk result (λ new. S.free store.old new ≡ true) }
     ensures taken { IfOk result (λ new. FreesOnly new false (S.free store.old) (S.free store.new)) }

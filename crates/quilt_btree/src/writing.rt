@@ -1,5 +1,6 @@
 ghost use Rattle.std.specs.Prelude.{◌≡◌, ℕ, ◌+◌, ◌<◌, ◌≤◌, true, false, OnOk, IfErr, slice_set};
-ghost use Rattle.quilt_store.specs.Store.{Tells, FreesOnly};
+ghost use Rattle.quilt_store.specs.Store.{FreesOnly};
+ghost use Rattle.quilt_world.specs.Tale.{Goes};
 ghost use Rattle.quilt_store.specs.Stops.{HasStopCause, IsSound};
 ghost use Rattle.quilt_btree.specs.Stops.{NamesPage};
 ghost use Rattle.quilt_btree.specs.Rebalancing.{HasGiven};
@@ -11,7 +12,7 @@ use quilt_types::Stop;
 /// Writes a page of the tree. Where the page is free, page 0 is said to be damaged.
 pub fn write_page<S: PageStore>(store: &mut S, page: u32, bytes: &[u8; 4096]) -> Result<(), Stop>
     requires { (1 ≤ page) × (page < S.size store.old) }
-    ensures told { OnOk result (Tells (λ old new. new ≡ slice_set old page bytes.now) (S.told store.old) (S.told store.new)) }
+    ensures told { OnOk result (Goes (λ old new. new ≡ slice_set old page bytes.now) (S.told store.old) (S.told store.new)) }
     ensures taken { OnOk result (S.free store.old page ≡ false) }
     ensures sound { IfErr result (λ e. S.free store.old page ≡ false → IsSound e) }
     ensures free { S.free store.new ≡ S.free store.old }
@@ -39,7 +40,7 @@ pub fn write_and_give<S: PageStore>(
 ) -> Result<(), Stop>
     requires left { (1 ≤ left) × (left < S.size store.old) }
     requires right { (1 ≤ right) × (right < S.size store.old) }
-    ensures told { OnOk result (Tells (λ old new. HasGiven right (slice_set old left bytes.now) new) (S.told store.old) (S.told store.new)) }
+    ensures told { OnOk result (Goes (λ old new. HasGiven right (slice_set old left bytes.now) new) (S.told store.old) (S.told store.new)) }
     ensures free { OnOk result (FreesOnly right true (S.free store.old) (S.free store.new)) }
     ensures taken { OnOk result (S.free store.old right ≡ false) }
     ensures sound { IfErr result (λ e. S.free store.old left ≡ false → S.free store.old right ≡ false → IsSound e) }
@@ -71,7 +72,7 @@ pub fn write_both<S: PageStore>(
 ) -> Result<(), Stop>
     requires left { (1 ≤ left) × (left < S.size store.old) }
     requires right { (1 ≤ right) × (right < S.size store.old) }
-    ensures told { OnOk result (Tells (λ old new. new ≡ slice_set (slice_set old left bytes.now) right others.now) (S.told store.old) (S.told store.new)) }
+    ensures told { OnOk result (Goes (λ old new. new ≡ slice_set (slice_set old left bytes.now) right others.now) (S.told store.old) (S.told store.new)) }
     ensures sound { IfErr result (λ e. S.free store.old left ≡ false → S.free store.old right ≡ false → IsSound e) }
     ensures free { S.free store.new ≡ S.free store.old }
     ensures names { IfErr result (NamesPage 1) }
@@ -89,7 +90,7 @@ pub fn write_both<S: PageStore>(
 /// Gives a page of the tree back. Where the page is free, page 0 is said to be damaged.
 pub fn give_back<S: PageStore>(store: &mut S, page: u32) -> Result<(), Stop>
     requires { (1 ≤ page) × (page < S.size store.old) }
-    ensures told { OnOk result (Tells (HasGiven page) (S.told store.old) (S.told store.new)) }
+    ensures told { OnOk result (Goes (HasGiven page) (S.told store.old) (S.told store.new)) }
     ensures free { OnOk result (FreesOnly page true (S.free store.old) (S.free store.new)) }
     ensures taken { OnOk result (S.free store.old page ≡ false) }
     ensures sound { IfErr result (λ e. S.free store.old page ≡ false → IsSound e) }

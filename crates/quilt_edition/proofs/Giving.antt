@@ -10,14 +10,13 @@ use Rattle.std.proofs.lemmas.List.{get_or_past}
 use Rattle.std.proofs.lemmas.List.FromFn.{length-map-range_with_len, get_or-map-range_with_len}
 use Rattle.quilt_types.specs.Plane.{below}
 use Rattle.quilt_world.specs.Disk.{Pages}
-use Rattle.quilt_world.specs.Tale.{Tale}
+use Rattle.quilt_world.specs.Tale.{Tale, Goes}
 use Rattle.quilt_journal.specs.Changed.{View, is_changed}
 use Rattle.quilt_journal.specs.Kept.{IsIdle, home_page, work}
 use Rattle.quilt_journal.specs.declared.journal.State.{State}
 use Rattle.quilt_journal.specs.declared.journal.State.TheVariants.{Idle, Sealed, Carried}
 use Rattle.quilt_node.specs.declared.head.Head.{Head}
 use Rattle.quilt_node.specs.Pages.{IsHeader}
-use Rattle.quilt_store.specs.Store.{Tells}
 use Rattle.quilt_pool.specs.declared.frame.Frame.{Frame}
 use Rattle.quilt_pool.specs.Entries.{Entries, frame_at, page_over, bytes_or, has_dirt, is_marked, AreBelow, IsClean}
 use Rattle.quilt_pool.specs.Keeping.{IsWork}
@@ -42,7 +41,7 @@ module _ (j k : View) (es fs : Entries) (last : Head) (busy : j.state ≡ Idle �
   kept_busy None = tt
   kept_busy (Some t) = busy_kept k.state (λ is. busy (sym state ∙ is)) (IsBook k fs last t)
 
-  pub told_busy : (step : Pages → Pages → Type 0) (o : Option Tale) → Tells step (told_pages j es o) (told_pages k fs o)
+  pub told_busy : (step : Pages → Pages → Type 0) (o : Option Tale) → Goes step (told_pages j es o) (told_pages k fs o)
   told_busy step None = tt
   told_busy step (Some t) = rw (busy_told j.state busy (work_pages j es t), busy_told k.state (λ is. busy (sym state ∙ is)) (work_pages k fs t)) tt
 
@@ -157,7 +156,7 @@ module _ (j k : View) (es : Entries) (last : Head) (p : ℕ) (idle : j.state ≡
   ]
 
   pub told_given : (o : Option Tale) → IsKeptBy j es last o
-      → Tells (λ (old new : Pages). (q : ℕ) → q ≢ p → get_or new q [] ≡ get_or old q []) (told_pages j es o) (told_pages k (remove_entry (nat_eq p) es) o)
+      → Goes (λ (old new : Pages). (q : ℕ) → q ≢ p → get_or new q [] ≡ get_or old q []) (told_pages j es o) (told_pages k (remove_entry (nat_eq p) es) o)
   unfolding fs work_pages
   told_given None kept = tt
   told_given (Some t) kept =

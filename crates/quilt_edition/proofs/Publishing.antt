@@ -30,7 +30,6 @@ use Rattle.quilt_node.specs.Pages.{IsHeader}
 use Rattle.quilt_edition.proofs.Counts.{count_none, count_le}
 use Rattle.quilt_edition.proofs.Giving.{kept_busy}
 use Rattle.quilt_edition.proofs.Steps.{kept_moves, kept_idle, idle_kept, told_idle}
-use Rattle.quilt_store.specs.Store.{Tells}
 use Rattle.quilt_store.proofs.Counts.{count_behind}
 use Rattle.std.specs.List.{range_with_len}
 use Rattle.std.proofs.lemmas.List.Sums.{length-filter}
@@ -355,7 +354,7 @@ told_after j k es fs header o t pages changed clean is =
 
 pub told_published : (j k : View) (es fs : Entries) (header : List ℕ) (o t : Option Tale) → j.state ≡ Idle → k.pages ≡ j.pages → k.state ≡ Idle
     → k.changed ≡ replicate j.pages false → ((i : ℕ) → is_dirty fs i ≡ false)
-    → Goes (IsPublished j.pages es j.changed header fs) o t → Tells (λ (old new : Pages). new ≡ set old 0 header) (told_pages j es o) (told_pages k fs t)
+    → Goes (IsPublished j.pages es j.changed header fs) o t → Goes (λ (old new : Pages). new ≡ set old 0 header) (told_pages j es o) (told_pages k fs t)
 told_published j k es fs header None None idle pages state changed clean goes = tt
 told_published j k es fs header None (Some t) idle pages state changed clean goes = absurd goes
 told_published j k es fs header (Some o) None idle pages state changed clean goes = absurd goes

@@ -20,7 +20,6 @@ use Rattle.quilt_journal.specs.declared.journal.State.TheVariants.{Idle}
 use Rattle.quilt_journal.proofs.Homes.{map_same, home_shut, published_is, published_at}
 use Rattle.quilt_node.specs.declared.head.Head.{Head}
 use Rattle.quilt_node.specs.Pages.{IsHeader}
-use Rattle.quilt_store.specs.Store.{Tells}
 use Rattle.quilt_pool.specs.Entries.{Entries, frame_at, page_over}
 use Rattle.quilt_pool.specs.Keeping.{IsWork, Keeps, Changes}
 use Rattle.quilt_edition.specs.Keeping.{IsBook, IsKeptBy, WhileIdle, told_pages, told_in, work_pages, reads_of, IsLater, Moves}
@@ -125,7 +124,7 @@ module _ (j k : View) (es fs : Entries) (last : Head) (idle : j.state ≡ Idle) 
       ]))
 
   pub told_set : (page : ℕ) (x : List ℕ) (o t : Option Tale) → page < j.pages → Goes (Changes j.pages page x es fs j.changed k.changed) o t
-      → Tells (λ (old new : Pages). new ≡ set old page x) (told_pages j es o) (told_pages k fs t)
+      → Goes (λ (old new : Pages). new ≡ set old page x) (told_pages j es o) (told_pages k fs t)
   unfolding work_pages
   told_set page x None None within changes = tt
   told_set page x None (Some t) within changes = absurd changes
@@ -161,7 +160,7 @@ key_found k (e ∷ es) h = elim (cases_Bool (nat_eq k e.0)) [
   | inr f ↦ rw f (key_found k es (key_at k e.0 (list_any (λ p. nat_eq p k) (keys_of es)) h f))
 ]
 
-pub tells_reads : (o t : Option Tale) → Goes (λ old new. new.reads ≤ old.reads) o t → Tells (λ (old new : ℕ). new ≤ old) (reads_of o) (reads_of t)
+pub tells_reads : (o t : Option Tale) → Goes (λ old new. new.reads ≤ old.reads) o t → Goes (λ (old new : ℕ). new ≤ old) (reads_of o) (reads_of t)
 tells_reads None None goes = goes
 tells_reads None (Some t) goes = goes
 tells_reads (Some o) None goes = goes

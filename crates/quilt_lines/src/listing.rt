@@ -6,7 +6,7 @@ ghost use Rattle.quilt_types.specs.declared.stop.Stop.TheVariants.{Device};
 ghost use Rattle.quilt_types.specs.Plane.{IsBlock};
 ghost use Rattle.quilt_types.specs.Layers.{SegMap, BlockSet};
 ghost use Rattle.quilt_store.specs.Calls.{OnlyReads};
-ghost use Rattle.quilt_store.specs.Store.{Tells};
+ghost use Rattle.quilt_world.specs.Tale.{Goes};
 ghost use Rattle.quilt_store.specs.Stops.{IsSound};
 ghost use Rattle.quilt_btree.specs.Trees.{IsRooted};
 ghost use Rattle.quilt_lines.specs.Layers.{HasLines};
@@ -43,7 +43,7 @@ impl LineView {
         ensures sound { IfErr result (λ e. (t : ℕ) (segs : SegMap) (cover : BlockSet)
             → HasLines (S.told store.old) self.now.tree self.now.layer self.now.level t segs cover → IsSound e) }
         ensures left { OnlyReads S.PageStore store.old store.new result }
-        ensures reads { IfOk result (λ o. Tells (λ old new. new ≤ old + 9 + 3 * unwrap_or (option_map vec_len o) 0) (S.reads store.old) (S.reads store.new)) }
+        ensures reads { IfOk result (λ o. Goes (λ old new. new ≤ old + 9 + 3 * unwrap_or (option_map vec_len o) 0) (S.reads store.old) (S.reads store.new)) }
     {
         let low = pair_record(self.layer, b, self.level, None).key;
         let high = Key {

@@ -9,7 +9,7 @@ ghost use Rattle.quilt_types.specs.Layers.{SegMap, BlockSet, IsLineMap, is_in_sq
 ghost use Rattle.quilt_loc.specs.Codes.{Rises};
 ghost use Rattle.quilt_record.specs.Canonical.{FactFits};
 ghost use Rattle.quilt_store.specs.Calls.{OnlyReads};
-ghost use Rattle.quilt_store.specs.Store.{Tells};
+ghost use Rattle.quilt_world.specs.Tale.{Goes};
 ghost use Rattle.quilt_store.specs.Stops.{IsSound};
 ghost use Rattle.quilt_btree.specs.Trees.{IsRooted};
 ghost use Rattle.quilt_lines.specs.Layers.{HasLines, fact_record, segment_facts};
@@ -40,7 +40,7 @@ pub fn segment<S: PageStore>(
     ensures inside { IfOk result (λ o. IfSome o (λ s. is_seg_in_square level s ≡ true)) }
     ensures sound { IfErr result (λ e. (t : ℕ) (segs : SegMap) (cover : BlockSet) → HasLines (S.told store.old) tree.now layer level t segs cover → IsSound e) }
     ensures left { OnlyReads S.PageStore store.old store.new result }
-    ensures reads { Tells (λ old new. new ≤ old + 3) (S.reads store.old) (S.reads store.new) }
+    ensures reads { Goes (λ old new. new ≤ old + 3) (S.reads store.old) (S.reads store.new) }
 {
     let view = LineView {
         tree: *tree,
@@ -113,7 +113,7 @@ impl LineView {
         ensures sound { IfErr result (λ e. (t : ℕ) (segs : SegMap) (cover : BlockSet)
             → HasLines (S.told store.old) self.now.tree self.now.layer self.now.level t segs cover → IsSound e) }
         ensures left { OnlyReads S.PageStore store.old store.new result }
-        ensures reads { Tells (λ old new. new ≤ old + 3) (S.reads store.old) (S.reads store.new) }
+        ensures reads { Goes (λ old new. new ≤ old + 3) (S.reads store.old) (S.reads store.new) }
     {
         let key = segment_key(self.layer, id);
         match self.tree.get(store, &key) {
@@ -154,7 +154,7 @@ impl LineView {
             → HasLines (S.told store.old) self.now.tree self.now.layer self.now.level t segs cover
             → ((id : ℕ) → Contains ids.now id → (s : AnySeg) × (finmap.get segs id ≡ Some s)) → IsSound e) }
         ensures left { OnlyReads S.PageStore store.old store.new result }
-        ensures reads { IfOk result (λ list. Tells (λ old new. new ≤ old + 3 * length list) (S.reads store.old) (S.reads store.new)) }
+        ensures reads { IfOk result (λ list. Goes (λ old new. new ≤ old + 3 * length list) (S.reads store.old) (S.reads store.new)) }
     {
         let mut list = SegList::new(alloc);
         for id in ids {
@@ -180,7 +180,7 @@ impl LineView {
         ensures sound { IfErr result (λ e. (t : ℕ) (segs : SegMap) (cover : BlockSet)
             → HasLines (S.told store.old) self.now.tree self.now.layer self.now.level t segs cover → (s : AnySeg) → finmap.get segs id ≡ Some s → IsSound e) }
         ensures left { OnlyReads S.PageStore store.old store.new result }
-        ensures reads { Tells (λ old new. new ≤ old + 3) (S.reads store.old) (S.reads store.new) }
+        ensures reads { Goes (λ old new. new ≤ old + 3) (S.reads store.old) (S.reads store.new) }
     {
         match self.segment(store, id) {
             Err(e) => Err(e),

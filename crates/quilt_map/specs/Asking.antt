@@ -8,7 +8,7 @@ use Rattle.quilt_types.specs.declared.plane.Pixel.{Pixel}
 use Rattle.quilt_types.specs.Layers.{Layer, Region, Map, Grid}
 use Rattle.quilt_world.specs.declared.disk.Disk as disk
 use Rattle.quilt_record.specs.Records.{Numbering}
-use Rattle.quilt_store.specs.Store.{Tells as StoreTells}
+use Rattle.quilt_world.specs.Tale.{Goes}
 use Rattle.quilt_spell.specs.Catalogued.{kind_of}
 use Rattle.quilt_spell.specs.Written.{number_of}
 use Rattle.quilt_pool.specs.Views.{entries_of}
@@ -74,4 +74,4 @@ module _ {W : Type 0} {D : disk.Ghosts W} where
 
   -- the disk is not read
   abbrev pub ReadsNothing : Book W D → Book W D → Type 0
-  ReadsNothing old new = StoreTells (λ before now. now ≤ before) (reads_in old) (reads_in new)
+  ReadsNothing old new = Goes (λ before now. now ≤ before) (reads_in old) (reads_in new)

@@ -4,7 +4,7 @@ use Rattle.quilt_types.specs.declared.plane.Pixel.{Pixel}
 use Rattle.quilt_types.specs.declared.stop.Stop.{Stop}
 use Rattle.quilt_words.specs.declared.command.Command.{Command}
 use Rattle.quilt_words.specs.declared.command.Command.TheVariants as commands
-use Rattle.quilt_store.specs.Store.{Tells as StoreTells}
+use Rattle.quilt_world.specs.Tale.{Goes}
 use Rattle.quilt_replies.specs.Answers.{State, layer, capacity_in, segs_in, cover_in}
 use Rattle.quilt_replies.specs.declared.reply.Reply.{Reply}
 use Rattle.quilt_map.specs.Asking.{warm_after}
@@ -47,7 +47,7 @@ pages_most s command = 0
 
 -- it reads no more pages than that
 abbrev pub ReadsFew : State → Command → Option ℕ → Option ℕ → Type 0
-ReadsFew s command = StoreTells (λ before now. now ≤ before + pages_most s command)
+ReadsFew s command = Goes (λ before now. now ≤ before + pages_most s command)
 
 -- the layer and the pixel that the command asked for, where it is an `at` that was answered
 abbrev pub warm_left : Command → Result Reply Stop → Option (List ℕ × Pixel)

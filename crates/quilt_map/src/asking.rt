@@ -2,7 +2,7 @@ ghost use Rattle.std.specs.Prelude.{◌≡◌, ℕ, ◌+◌, ◌≤◌, Some, If
 ghost use Rattle.quilt_types.specs.declared.stop.Stop.TheVariants as stops;
 ghost use Rattle.quilt_types.specs.Plane.{is_pixel, is_window};
 ghost use Rattle.quilt_words.specs.declared.command.Command.TheVariants as commands;
-ghost use Rattle.quilt_store.specs.Store.{Tells as StoreTells};
+ghost use Rattle.quilt_world.specs.Tale.{Goes};
 ghost use Rattle.quilt_store.specs.Stops.{HasStopCause, IsSound};
 ghost use Rattle.quilt_edition.specs.Books as books;
 ghost use Rattle.quilt_replies.specs.Answers.{State};
@@ -87,7 +87,7 @@ impl<W: World> Session<W> {
         ensures keeps { KeepsAll self.old self.new }
         ensures warm { self.new.warm ≡ warm_after result name.now at }
         ensures held { IsWarm self.new }
-        ensures reads { StoreTells (λ old new. new ≤ old + 6) (reads_in self.old.book) (reads_in self.new.book) }
+        ensures reads { Goes (λ old new. new ≤ old + 6) (reads_in self.old.book) (reads_in self.new.book) }
         ensures again { (s : State) → IsAtState self.old s → IsWarm self.old → self.old.warm ≡ Some (name.now, at) → ReadsNothing self.old.book self.new.book }
     {
         self.warm = None;

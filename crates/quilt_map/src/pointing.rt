@@ -2,7 +2,7 @@ ghost use Rattle.std.specs.Prelude.{◌≡◌, ◌==◌, ◌<◌, ◌≤◌, ◌
 ghost use Rattle.quilt_types.specs.Layers.{PointMap};
 ghost use Rattle.quilt_types.specs.Plane.{side};
 ghost use Rattle.quilt_words.specs.declared.command.Command.TheVariants as commands;
-ghost use Rattle.quilt_store.specs.Store.{Tells as StoreTells};
+ghost use Rattle.quilt_world.specs.Tale.{Goes};
 ghost use Rattle.quilt_store.specs.Stops.{HasStopCause, IsSound};
 ghost use Rattle.quilt_edition.specs.Books as books;
 ghost use Rattle.quilt_replies.specs.Answers.{State, layer as layer_of, capacity_in};
@@ -111,7 +111,7 @@ impl<W: World> Session<W> {
         ensures keeps { KeepsAll self.old self.new }
         ensures warm { self.new.warm ≡ self.old.warm }
         ensures reads { (s : State) → IsAtState self.old s →
-            StoreTells (λ old new. new ≤ old + (if capacity_in (layer_of s name.now) == 1 then 6 else 9)) (reads_in self.old.book) (reads_in self.new.book) }
+            Goes (λ old new. new ≤ old + (if capacity_in (layer_of s name.now) == 1 then 6 else 9)) (reads_in self.old.book) (reads_in self.new.book) }
     {
         match points_number(self.catalog.entries(), name) {
             Err(code) => Ok(Reply::No(code)),

@@ -5,7 +5,7 @@ ghost use Rattle.quilt_types.specs.Layers.{Map, PointMap};
 ghost use Rattle.quilt_types.specs.Plane.{side, is_pixel, is_window, in_window};
 ghost use Rattle.quilt_types.specs.Quadtrees.{point_blocks};
 ghost use Rattle.quilt_record.specs.Records.{Numbering};
-ghost use Rattle.quilt_store.specs.Store.{Tells as StoreTells};
+ghost use Rattle.quilt_world.specs.Tale.{Goes};
 ghost use Rattle.quilt_store.specs.Stops.{HasStopCause, IsSound};
 ghost use Rattle.quilt_edits.specs.Edits.{AreInOrder};
 ghost use Rattle.quilt_points.specs.Layers.{entries_of};
@@ -135,7 +135,7 @@ pub(crate) fn read_label<W: Disk>(
     ensures sound { IfErr result (λ e. (points : PointMap) → 1 ≤ layer.number → HoldsPoints book.old layer points → IsSound e) }
     ensures still { IsStill book.old book.new }
     ensures cause { HasStopCause (W.faults (world_of book.old)) (W.faults (world_of book.new)) result }
-    ensures reads { StoreTells (λ old new. new ≤ old + (if layer.bucket == 1 then 6 else 9)) (reads_in book.old) (reads_in book.new) }
+    ensures reads { Goes (λ old new. new ≤ old + (if layer.bucket == 1 then 6 else 9)) (reads_in book.old) (reads_in book.new) }
 {
     if !can_be(layer) {
         return Err(DAMAGED);

@@ -5,7 +5,7 @@ ghost use Rattle.quilt_types.specs.Plane.{side, is_window};
 ghost use Rattle.quilt_types.specs.Algebra.{painted};
 ghost use Rattle.quilt_record.specs.declared.record.Record.{Record as AnyRecord};
 ghost use Rattle.quilt_record.specs.Records.{Numbering};
-ghost use Rattle.quilt_store.specs.Store.{Tells as StoreTells};
+ghost use Rattle.quilt_world.specs.Tale.{Goes};
 ghost use Rattle.quilt_btree.specs.Floors.{HoldsFirst, ReadsNone};
 ghost use Rattle.quilt_store.specs.Stops.{HasStopCause, IsSound};
 ghost use Rattle.quilt_btree.specs.Trees.{IsTree};
@@ -125,7 +125,7 @@ pub(crate) fn read_colour<W: Disk>(
         → HasRegion (told_of book.old) (tree_in (work_of book.old)) number (work_of book.old).level g → IsSound e) }
     ensures still { IsStill book.old book.new }
     ensures cause { HasStopCause (W.faults (world_of book.old)) (W.faults (world_of book.new)) result }
-    ensures reads { StoreTells (λ old new. new ≤ old + 6) (reads_in book.old) (reads_in book.new) }
+    ensures reads { Goes (λ old new. new ≤ old + 6) (reads_in book.old) (reads_in book.new) }
 
     // The pages that it reads are then among the first eight that are held, and where they were, none is read.
     ensures held { OnOk result ((rs : List AnyRecord) → IsTree (told_of book.old) (tree_in (work_of book.old)) rs

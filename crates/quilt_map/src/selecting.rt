@@ -2,7 +2,7 @@ ghost use Rattle.std.specs.Prelude.{◌≡◌, ℕ, ◌+◌, ◌≤◌, Some, If
 ghost use Rattle.quilt_types.specs.Layers.{Map};
 ghost use Rattle.quilt_record.specs.Records.{Numbering};
 ghost use Rattle.quilt_words.specs.declared.command.Command.TheVariants as commands;
-ghost use Rattle.quilt_store.specs.Store.{Tells as StoreTells};
+ghost use Rattle.quilt_world.specs.Tale.{Goes};
 ghost use Rattle.quilt_store.specs.Stops.{HasStopCause, IsSound};
 ghost use Rattle.quilt_spell.specs.Catalogued.{IsCatalogOf};
 ghost use Rattle.quilt_edition.specs.Books as books;
@@ -112,7 +112,7 @@ impl<W: World> Session<W> {
         ensures keeps { KeepsAll self.old self.new }
         ensures warm { self.new.warm ≡ self.old.warm }
         ensures reads { IfOk result (λ reply. (s : State) → IsAtState self.old s → HasFound command.now (segs_in (layer_of s name.now)) → IsAnswered reply →
-            StoreTells (λ old new. new ≤ old + pages_for s.last.level command.now (segs_in (layer_of s name.now)) (cover_in (layer_of s name.now)))
+            Goes (λ old new. new ≤ old + pages_for s.last.level command.now (segs_in (layer_of s name.now)) (cover_in (layer_of s name.now)))
             (reads_in self.old.book) (reads_in self.new.book)) }
     {
         match line_number(self.catalog.entries(), name) {

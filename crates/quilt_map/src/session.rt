@@ -2,7 +2,6 @@ ghost use Rattle.std.specs.Prelude.{◌≡◌, ℕ, ◌<◌, ◌≤◌, [], ◌�
 ghost use Rattle.quilt_types.specs.Facts.{records};
 ghost use Rattle.quilt_types.specs.declared.plane.Pixel.{Pixel as AnyPixel};
 ghost use Rattle.quilt_types.specs.Layers.{Edition};
-ghost use Rattle.quilt_store.specs.Store.{Tells as StoreTells};
 ghost use Rattle.quilt_words.specs.declared.command.Command.TheVariants as commands;
 ghost use Rattle.quilt_types.specs.declared.stop.Stop.TheVariants as stops;
 ghost use Rattle.quilt_world.specs.Added.{AddsOnly, is_of_pages};
@@ -99,7 +98,7 @@ impl<W: World> Session<W> {
 
         // An `at` of the layer and the pixel that `warm` tells reads no page.
         ensures again { (s : State) → IsAt self.old s → (name : List ℕ) (p : AnyPixel) → command.now ≡ commands.At name p → warm_of self.old ≡ Some (name, p) →
-            StoreTells (λ before now. now ≤ before) (reads_of self.old) (reads_of self.new) }
+            Goes (λ before now. now ≤ before) (reads_of self.old) (reads_of self.new) }
     {
         self.answer(rt, gate, command)
     }

@@ -4,7 +4,7 @@ ghost use Rattle.std.specs.List.Sorted.{IsStrictlyIncreasing};
 ghost use Rattle.quilt_types.specs.declared.stop.Stop.TheVariants as stops;
 ghost use Rattle.quilt_types.specs.Layers.{SegMap, BlockSet, is_in_square};
 ghost use Rattle.quilt_near.specs.Lines.{Lines};
-ghost use Rattle.quilt_store.specs.Store.{Tells as StoreTells};
+ghost use Rattle.quilt_world.specs.Tale.{Goes};
 ghost use Rattle.quilt_store.specs.Stops.{HasStopCause, IsSound};
 ghost use Rattle.quilt_edition.specs.Books.{world_of, work_of};
 ghost use Rattle.quilt_replies.specs.States.{Tells};
@@ -57,7 +57,7 @@ fn select<W: Disk>(
     requires some { AsksSome command.now }
     ensures reply { IfOk result (λ reply. (l : Lines) → Shows book.old view.now l → Tells reply (selected command.now l.segs)) }
     ensures reads { IfOk result (λ reply. (l : Lines) → Shows book.old view.now l → HasFound command.now l.segs → IsAnswered reply →
-        StoreTells (λ old new. new ≤ old + pages_for view.now.level command.now l.segs l.cover) (reads_in book.old) (reads_in book.new)) }
+        Goes (λ old new. new ≤ old + pages_for view.now.level command.now l.segs l.cover) (reads_in book.old) (reads_in book.new)) }
     ensures sound { IfErr result (λ e. (l : Lines) → Shows book.old view.now l → IsSound e) }
     ensures still { IsStill book.old book.new }
     ensures cause { HasStopCause (W.faults (world_of book.old)) (W.faults (world_of book.new)) result }
@@ -102,7 +102,7 @@ pub(crate) fn select_in<W: Disk>(
     ensures reply { IfOk result (λ reply. (segs : SegMap) (cover : BlockSet) → HoldsLines book.old layer segs cover → Tells reply (selected command.now segs)) }
     ensures reads { IfOk result (λ reply. (segs : SegMap) (cover : BlockSet) → HoldsLines book.old layer segs cover → HasFound command.now segs →
         IsAnswered reply →
-        StoreTells (λ old new. new ≤ old + pages_for (work_of book.old).level command.now segs cover) (reads_in book.old) (reads_in book.new)) }
+        Goes (λ old new. new ≤ old + pages_for (work_of book.old).level command.now segs cover) (reads_in book.old) (reads_in book.new)) }
     ensures sound { IfErr result (λ e. (segs : SegMap) (cover : BlockSet) → 1 ≤ layer.number → HoldsLines book.old layer segs cover → IsSound e) }
     ensures still { IsStill book.old book.new }
     ensures cause { HasStopCause (W.faults (world_of book.old)) (W.faults (world_of book.new)) result }

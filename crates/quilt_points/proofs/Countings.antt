@@ -21,7 +21,7 @@ use Rattle.quilt_loc.proofs.Intervals.{origin_code, code_held, held_code}
 use Rattle.quilt_loc.proofs.Nesting.{Holds-corner, Within-holds}
 use Rattle.quilt_loc.proofs.Quartered.{IsBlock-whole, Within-whole}
 use Rattle.quilt_blocks.proofs.Squares.{code_to-whole}
-use Rattle.quilt_store.specs.Store.{Tells}
+use Rattle.quilt_world.specs.Tale.{Goes}
 use Rattle.quilt_spell.specs.Apart.{Apart}
 use Rattle.quilt_spell.proofs.Lists.{Apart-filter, Apart-rises, Apart-le, same_length}
 use Rattle.quilt_point_laws.proofs.Narrowing.{one_maximal}
@@ -150,8 +150,8 @@ module _ (n capacity : ℕ) (points : PointMap) (le : n ≤ 12) (code : ℕ) (co
   few_seen = Apart-le h.blocks (point_blocks n capacity points) h.once (λ e c. ((h.are e).0 c).0)
 
 -- ---- counts that are told
-pub tells_more : (a b c : ℕ) (first old new : Option ℕ) → a + b ≤ c → Tells (λ x y. y ≤ x + a) first old → Tells (λ x y. y ≤ x + b) old new
-    → Tells (λ x y. y ≤ x + c) first new
+pub tells_more : (a b c : ℕ) (first old new : Option ℕ) → a + b ≤ c → Goes (λ x y. y ≤ x + a) first old → Goes (λ x y. y ≤ x + b) old new
+    → Goes (λ x y. y ≤ x + c) first new
 tells_more a b c (Some x) (Some y) (Some z) le h k = omega arith
 tells_more a b c None None None le h k = tt
 tells_more a b c (Some x) (Some y) None le h k = absurd k
@@ -159,13 +159,13 @@ tells_more a b c (Some x) None o le h k = absurd h
 tells_more a b c None (Some y) o le h k = absurd h
 tells_more a b c None None (Some z) le h k = absurd k
 
-pub tells_less : (a b : ℕ) (old new : Option ℕ) → a ≤ b → Tells (λ x y. y ≤ x + a) old new → Tells (λ x y. y ≤ x + b) old new
+pub tells_less : (a b : ℕ) (old new : Option ℕ) → a ≤ b → Goes (λ x y. y ≤ x + a) old new → Goes (λ x y. y ≤ x + b) old new
 tells_less a b (Some x) (Some y) le h = omega arith
 tells_less a b None None le h = tt
 tells_less a b (Some x) None le h = absurd h
 tells_less a b None (Some y) le h = absurd h
 
-pub tells_none : (o : Option ℕ) → Tells (λ x y. y ≤ x + 0) o o
+pub tells_none : (o : Option ℕ) → Goes (λ x y. y ≤ x + 0) o o
 tells_none None = tt
 tells_none (Some x) = omega arith
 

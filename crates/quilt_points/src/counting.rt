@@ -3,7 +3,7 @@ ghost use Rattle.quilt_types.specs.Plane.{side as side_of};
 ghost use Rattle.quilt_types.specs.Layers.{PointMap};
 ghost use Rattle.quilt_types.specs.Quadtrees.{point_blocks};
 ghost use Rattle.quilt_store.specs.Calls.{OnlyReads};
-ghost use Rattle.quilt_store.specs.Store.{Tells};
+ghost use Rattle.quilt_world.specs.Tale.{Goes};
 ghost use Rattle.quilt_store.specs.Stops.{IsSound};
 ghost use Rattle.quilt_btree.specs.Trees.{IsRooted};
 ghost use Rattle.quilt_points.specs.Layers.{HasPoints};
@@ -35,7 +35,7 @@ pub fn block_counts<S: PageStore>(
     ensures sound { IfErr result (λ e. (points : PointMap) → HasPoints (S.told store.old) tree.now layer level bucket points → IsSound e) }
     ensures left { OnlyReads S.PageStore store.old store.new result }
     ensures reads { IfOk result (λ _. (points : PointMap) → HasPoints (S.told store.old) tree.now layer level bucket points
-        → Tells (λ old new. new ≤ old + 6 * length (point_blocks level bucket points)) (S.reads store.old) (S.reads store.new)) }
+        → Goes (λ old new. new ≤ old + 6 * length (point_blocks level bucket points)) (S.reads store.old) (S.reads store.new)) }
 {
     let points = PointLayer {
         number: layer,

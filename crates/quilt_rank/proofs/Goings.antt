@@ -7,7 +7,7 @@ use Rattle.quilt_types.specs.Plane.{quarters_of, whole, IsBlock}
 use Rattle.quilt_types.specs.Segments.{block_distance}
 use Rattle.quilt_types.specs.Ranking.{ranked}
 use Rattle.quilt_types.specs.Quadtrees.{reach, is_reached}
-use Rattle.quilt_store.specs.Store.{Tells}
+use Rattle.quilt_world.specs.Tale.{Goes}
 use Rattle.quilt_loc.proofs.Nesting.{side_pos}
 use Rattle.quilt_loc.proofs.Quartered.{IsBlock-whole, quarters_are}
 use Rattle.quilt_near.specs.Lines.{Lines, IsLines}
@@ -33,7 +33,7 @@ pub record Going (n : ℕ) (p : Pixel) (k : ℕ) (shown : Lines → Type 0) (bef
   pub valid : (e : ℕ × Block) → Contains queue e → IsBlock n e.1
   pub front : (l : Lines) → shown l → Front n p k l queue rs
   pub paid : (l : Lines) → shown l → length (ranked l.segs p k) ≡ k
-      → Tells (λ old new. new + owed block_of n (is_close p (last_far (ranked l.segs p k))) l queue ≤ old
+      → Goes (λ old new. new + owed block_of n (is_close p (last_far (ranked l.segs p k))) l queue ≤ old
       + reach n l.segs l.cover (is_close p (last_far (ranked l.segs p k)))) before now
 
 module _ (n : ℕ) (p : Pixel) (k : ℕ) (some : 1 ≤ k) (shown : Lines → Type 0) (lines : (l : Lines) → shown l → IsLines n l) (before : Option ℕ) where
@@ -66,7 +66,7 @@ module _ (n : ℕ) (p : Pixel) (k : ℕ) (some : 1 ≤ k) (shown : Lines → Typ
 
     by_part : (now : Option ℕ) (new : List (ℕ × Block)) (then : List Rank) → All (λ z. e.0 ≤ z.0) rest → is_past k rs e.0 ≡ false → (part : Part)
         → ((l : Lines) → shown l → IsPart l e.1 part) → IsPartOf n e.1 part → After p k e.1 part rest new rs then
-        → Tells (λ x y. y ≤ x + pages_for part) mid now → Going n p k shown before now new then
+        → Goes (λ x y. y ≤ x + pages_for part) mid now → Going n p k shown before now new then
     by_part now new then least past (Leaf list) found of after reads =
         subst (λ (t : List (ℕ × Block)). Going n p k shown before now t then) (sym after.0) (subst (Going n p k shown before now rest) (sym after.1) (record {
           valid = all_rest (λ z. IsBlock n z.1) queue rest e h g.valid;
@@ -117,11 +117,11 @@ module _ (n : ℕ) (p : Pixel) (k : ℕ) (some : 1 ≤ k) (shown : Lines → Typ
 
   pub going_reads : (now : Option ℕ) (queue : List (ℕ × Block)) (rs : List Rank) → Going n p k shown before now queue rs → (l : Lines) → shown l
       → rs ≡ ranked l.segs p k → length rs ≡ k
-      → Tells (λ old new. new ≤ old + reach n l.segs l.cover (is_close p (last_far rs))) before now
+      → Goes (λ old new. new ≤ old + reach n l.segs l.cover (is_close p (last_far rs))) before now
   going_reads now queue rs g l s is long =
       let answer = ranked l.segs p k in
       let test = is_close p (last_far answer) in
       let paid = g.paid l s (subst (λ (t : List Rank). length t ≡ k) is long) in
-      subst (λ (t : List Rank). Tells (λ old new. new ≤ old + reach n l.segs l.cover (is_close p (last_far t))) before now) (sym is)
+      subst (λ (t : List Rank). Goes (λ old new. new ≤ old + reach n l.segs l.cover (is_close p (last_far t))) before now) (sym is)
       (tells_weaker (λ x y. y + owed block_of n test l queue ≤ x + reach n l.segs l.cover test) (λ x y. y ≤ x + reach n l.segs l.cover test)
       (λ x y a. omega arith) before now paid)

@@ -5,7 +5,7 @@ use Rattle.quilt_types.specs.declared.plane.Block.{Block}
 use Rattle.quilt_types.specs.declared.plane.Pixel.{Pixel}
 use Rattle.quilt_types.specs.Plane.{quarters_of}
 use Rattle.quilt_types.specs.Fractions.{Fraction}
-use Rattle.quilt_store.specs.Store.{Tells}
+use Rattle.quilt_world.specs.Tale.{Goes}
 use Rattle.quilt_near.specs.Choices.{placed_at}
 use Rattle.quilt_near.specs.Lines.{Lines}
 use Rattle.quilt_near.specs.Parts.{IsPart, IsPartOf, pages_for}
@@ -25,4 +25,4 @@ pub record IsOpened (n : ℕ) (p : Pixel) (k : ℕ) (b : Block) (shown : Lines �
   pub found : (l : Lines) → shown l → IsPart l b part
   pub found_of : IsPartOf n b part
   pub after : After p k b part old new was now
-  pub reads : Tells (λ before after. after ≤ before + pages_for part) reads_old reads_new
+  pub reads : Goes (λ before after. after ≤ before + pages_for part) reads_old reads_new

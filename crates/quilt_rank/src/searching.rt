@@ -3,7 +3,7 @@ ghost use Rattle.quilt_types.specs.Plane.{IsBlock};
 ghost use Rattle.quilt_types.specs.Quadtrees.{is_reached, reach};
 ghost use Rattle.quilt_types.specs.Ranking.{ranked as ranked_of};
 ghost use Rattle.quilt_store.specs.Calls.{OnlyReads};
-ghost use Rattle.quilt_store.specs.Store.{Tells};
+ghost use Rattle.quilt_world.specs.Tale.{Goes};
 ghost use Rattle.quilt_near.specs.Budgets.{is_close};
 ghost use Rattle.quilt_near.specs.Lines.{Lines};
 ghost use Rattle.quilt_store.specs.Stops.{IsSound};
@@ -78,7 +78,7 @@ pub fn ranked<S: PageStore, B: SegBlocks<S>>(
     requires y { p.y < 8192 }
     ensures ranked { IfOk result (λ list. (l : Lines) → B.shows blocks.now store.old l → list ≡ ranked_of l.segs p k) }
     ensures reads { IfOk result (λ list. (l : Lines) → B.shows blocks.now store.old l → length list ≡ k
-        → Tells (λ old new. new ≤ old + reach (B.level_of blocks.now) l.segs l.cover (is_close p (last_far list))) (S.reads store.old) (S.reads store.new)) }
+        → Goes (λ old new. new ≤ old + reach (B.level_of blocks.now) l.segs l.cover (is_close p (last_far list))) (S.reads store.old) (S.reads store.new)) }
     ensures sound { IfErr result (λ e. (l : Lines) → B.shows blocks.now store.old l → IsSound e) }
     ensures left { OnlyReads S.PageStore store.old store.new result }
 {

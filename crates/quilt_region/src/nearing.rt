@@ -4,7 +4,7 @@ ghost use Rattle.quilt_types.specs.Plane.{parent_of, side as side_of, is_window,
 ghost use Rattle.quilt_types.specs.Layers.{Grid, colour_at};
 ghost use Rattle.quilt_types.specs.Quadtrees.{leaves};
 ghost use Rattle.quilt_store.specs.Calls.{OnlyReads};
-ghost use Rattle.quilt_store.specs.Store.{Tells};
+ghost use Rattle.quilt_world.specs.Tale.{Goes};
 ghost use Rattle.quilt_store.specs.Stops.{IsSound};
 ghost use Rattle.quilt_btree.specs.Trees.{IsRooted};
 ghost use Rattle.quilt_region.specs.Regions.{HasRegion};
@@ -74,7 +74,7 @@ pub fn block_with<S: PageStore>(
         → HoldsWindow a w → length (leaves_within level g r.0) ≤ 1 + length (leaves_within level g a)) }
     ensures sound { IfErr result (λ e. (g : Grid) → HasRegion (S.told store.old) tree.now layer level g → IsSound e) }
     ensures left { OnlyReads S.PageStore store.old store.new result }
-    ensures reads { Tells (λ old new. new ≤ old + 6) (S.reads store.old) (S.reads store.new) }
+    ensures reads { Goes (λ old new. new ≤ old + 6) (S.reads store.old) (S.reads store.new) }
 {
     match leaf_with(store, tree, layer, level, Pixel { x: w.x, y: w.y }) {
         Err(e) => Err(e),
@@ -105,7 +105,7 @@ fn has_around<S: PageStore>(
         → HasAround level g larger b c.0 → ⊥) }
     ensures sound { IfErr result (λ e. (g : Grid) → HasRegion (S.told store.old) tree.now layer level g → IsSound e) }
     ensures left { OnlyReads S.PageStore store.old store.new result }
-    ensures reads { Tells (λ old new. new ≤ old + 24) (S.reads store.old) (S.reads store.new) }
+    ensures reads { Goes (λ old new. new ≤ old + 24) (S.reads store.old) (S.reads store.new) }
 {
     for q in quarters(larger) {
         match has_quarter(store, tree, layer, level, b, q, c) {
@@ -137,7 +137,7 @@ fn has_quarter<S: PageStore>(
         → (q ≡ b → ⊥) × (Contains (leaves level g) (q, c.0) → ⊥)) }
     ensures sound { IfErr result (λ e. (g : Grid) → HasRegion (S.told store.old) tree.now layer level g → IsSound e) }
     ensures left { OnlyReads S.PageStore store.old store.new result }
-    ensures reads { Tells (λ old new. new ≤ old + 6) (S.reads store.old) (S.reads store.new) }
+    ensures reads { Goes (λ old new. new ≤ old + 6) (S.reads store.old) (S.reads store.new) }
 {
     if q == b {
         return Ok(true);
@@ -175,7 +175,7 @@ pub fn block_up_to<S: PageStore>(
         → top.side < side_of level → HasAround level g (parent_of top) top c.0 → ⊥) }
     ensures sound { IfErr result (λ e. (g : Grid) → HasRegion (S.told store.old) tree.now layer level g → IsSound e) }
     ensures left { OnlyReads S.PageStore store.old store.new result }
-    ensures reads { (j : ℕ) → b.side ≡ 2 ^ j → Tells (λ old new. new + 24 * j ≤ old + 24 * level) (S.reads store.old) (S.reads store.new) }
+    ensures reads { (j : ℕ) → b.side ≡ 2 ^ j → Goes (λ old new. new + 24 * j ≤ old + 24 * level) (S.reads store.old) (S.reads store.new) }
 {
     let mut top = b;
     while let Some(larger) = parent(top, level) {
@@ -209,7 +209,7 @@ pub fn known_beside<S: PageStore>(
     ensures knows { IfOk result (λ o. IfSome o (λ k. (g : Grid) → HasRegion (S.told store.old) tree.now layer level g → Knows level g w k)) }
     ensures sound { IfErr result (λ e. (g : Grid) → HasRegion (S.told store.old) tree.now layer level g → IsSound e) }
     ensures left { OnlyReads S.PageStore store.old store.new result }
-    ensures reads { Tells (λ old new. new ≤ old + 30) (S.reads store.old) (S.reads store.new) }
+    ensures reads { Goes (λ old new. new ≤ old + 30) (S.reads store.old) (S.reads store.new) }
 {
     match block_with(store, tree, layer, level, w) {
         Err(e) => Err(e),

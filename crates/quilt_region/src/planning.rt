@@ -7,7 +7,7 @@ ghost use Rattle.quilt_types.specs.Algebra.{painted};
 ghost use Rattle.quilt_record.specs.declared.record.Record.{Record as AnyRecord};
 ghost use Rattle.quilt_record.specs.declared.edits.Edits.{Edits as AnyEdits};
 ghost use Rattle.quilt_store.specs.Calls.{OnlyReads};
-ghost use Rattle.quilt_store.specs.Store.{Tells};
+ghost use Rattle.quilt_world.specs.Tale.{Goes};
 ghost use Rattle.quilt_store.specs.Stops.{IsSound};
 ghost use Rattle.quilt_btree.specs.Trees.{IsRooted};
 ghost use Rattle.quilt_region.specs.Regions.{HasRegion, SpellsRegion};
@@ -53,10 +53,10 @@ pub fn plan_rect<S: PageStore>(
 
     // Of the leaves it reads no more than one and those that begin in any one block that has the whole window.
     ensures reads { IfOk result (λ edits. (g : Grid) (b : AnyBlock) → HasRegion (S.told store.old) tree.now layer level g → IsBlock level b
-        → HoldsWindow b w → Tells (λ old new. new ≤ old + (15 + 24 * level + 3 * length (leaves_within level g b))) (S.reads store.old) (S.reads store.new)) }
+        → HoldsWindow b w → Goes (λ old new. new ≤ old + (15 + 24 * level + 3 * length (leaves_within level g b))) (S.reads store.old) (S.reads store.new)) }
     ensures pixel { w.w ≡ 1 → w.h ≡ 1
         → IfOk result (λ edits. (g : Grid) → HasRegion (S.told store.old) tree.now layer level g
-        → Tells (λ old new. new ≤ old + (18 + 24 * level)) (S.reads store.old) (S.reads store.new)) }
+        → Goes (λ old new. new ≤ old + (18 + 24 * level)) (S.reads store.old) (S.reads store.new)) }
 {
     match plan_apart(alloc, store, tree, layer, level, w, c) {
         Err(e) => Err(e),
@@ -87,7 +87,7 @@ fn plan_together<S: PageStore>(
     // The levels up to that of the smallest block that has the whole window cost nothing.
     ensures reads { IfOk result (λ edits. (g : Grid) (b : AnyBlock) (j : ℕ) → HasRegion (S.told store.old) tree.now layer level g → IsBlock level b
         → HoldsWindow b w → ((a : AnyBlock) → IsBlock level a → HoldsWindow a w → 2 ^ j ≤ a.side)
-        → Tells (λ old new. new + 24 * j ≤ old + (15 + 24 * level + 3 * length (leaves_within level g b))) (S.reads store.old) (S.reads store.new)) }
+        → Goes (λ old new. new + 24 * j ≤ old + (15 + 24 * level + 3 * length (leaves_within level g b))) (S.reads store.old) (S.reads store.new)) }
 {
     match what_is_around(store, tree, layer, level, w, c) {
         Err(e) => Err(e),
@@ -120,7 +120,7 @@ fn what_is_around<S: PageStore>(
     ensures left { OnlyReads S.PageStore store.old store.new result }
     ensures holds { IfOk result (λ k. HoldsWindow k.read w) }
     ensures reads { IfOk result (λ k. (j : ℕ) → k.read.side ≡ 2 ^ j
-        → Tells (λ old new. new + 24 * j ≤ old + (6 + 24 * level)) (S.reads store.old) (S.reads store.new)) }
+        → Goes (λ old new. new + 24 * j ≤ old + (6 + 24 * level)) (S.reads store.old) (S.reads store.new)) }
 {
     match block_with(store, tree, layer, level, w) {
         Err(e) => Err(e),

@@ -7,7 +7,7 @@ ghost use Rattle.quilt_types.specs.Plane.{quarters_of, is_window, Holds, IsBlock
 ghost use Rattle.quilt_types.specs.Layers.{Grid};
 ghost use Rattle.quilt_types.specs.Algebra.{painted};
 ghost use Rattle.quilt_store.specs.Calls.{OnlyReads};
-ghost use Rattle.quilt_store.specs.Store.{Tells};
+ghost use Rattle.quilt_world.specs.Tale.{Goes};
 ghost use Rattle.quilt_store.specs.Stops.{IsSound};
 ghost use Rattle.quilt_btree.specs.Trees.{IsRooted};
 ghost use Rattle.quilt_region.specs.Regions.{HasRegion};
@@ -54,9 +54,9 @@ pub fn plan_apart<S: PageStore>(
     ensures large { IfOk result (λ o. IfSome o (λ edits. (a : AnyBlock) → IsBlock level a → HoldsWindow a w → 64 ≤ a.side)) }
     ensures reads { IfOk result
         (λ o. IfSome o (λ edits. (g : Grid) (a : AnyBlock) → HasRegion (S.told store.old) tree.now layer level g → IsBlock level a → HoldsWindow a w
-        → Tells (λ old new. new ≤ old + (144 + 3 * length (leaves_within level g a))) (S.reads store.old) (S.reads store.new))) }
+        → Goes (λ old new. new ≤ old + (144 + 3 * length (leaves_within level g a))) (S.reads store.old) (S.reads store.new))) }
     ensures tried { IfOk result (λ o. IsNone o → (j : ℕ) × ((a : AnyBlock) → IsBlock level a → HoldsWindow a w → 2 ^ j ≤ a.side)
-        × Tells (λ old new. new ≤ old + 24 * j) (S.reads store.old) (S.reads store.new)) }
+        × Goes (λ old new. new ≤ old + 24 * j) (S.reads store.old) (S.reads store.new)) }
 {
     let b = block_around(w, level);
     if !is_large(b, w) {
@@ -97,8 +97,8 @@ fn plan_in_block<S: PageStore>(
     ensures left { OnlyReads S.PageStore store.old store.new result }
     ensures reads { IfOk result
         (λ o. IfSome o (λ edits. (g : Grid) → HasRegion (S.told store.old) tree.now layer level g
-        → Tells (λ old new. new ≤ old + (144 + 3 * length (leaves_within level g b))) (S.reads store.old) (S.reads store.new))) }
-    ensures tried { IfOk result (λ o. IsNone o → Tells (λ old new. new ≤ old + 120) (S.reads store.old) (S.reads store.new)) }
+        → Goes (λ old new. new ≤ old + (144 + 3 * length (leaves_within level g b))) (S.reads store.old) (S.reads store.new))) }
+    ensures tried { IfOk result (λ o. IsNone o → Goes (λ old new. new ≤ old + 120) (S.reads store.old) (S.reads store.new)) }
 {
     let mut remove = Vec::new(alloc);
     let mut add = Vec::new(alloc);
@@ -157,9 +157,9 @@ fn plan_quarters<S: PageStore>(
     ensures sound { IfErr result (λ e. (g : Grid) → HasRegion (S.told store.old) tree.now layer level g → IsSound e) }
     ensures left { OnlyReads S.PageStore store.old store.new result }
     ensures reads { IfOk result (λ t. t ≡ true → (g : Grid) → HasRegion (S.told store.old) tree.now layer level g
-        → Tells (λ old new. new ≤ old + (36 * count + 3 * sum_by (λ q. length (leaves_within level g q)) (take count (quarters_of b))))
+        → Goes (λ old new. new ≤ old + (36 * count + 3 * sum_by (λ q. length (leaves_within level g q)) (take count (quarters_of b))))
         (S.reads store.old) (S.reads store.new)) }
-    ensures tried { IfOk result (λ t. t ≡ false → Tells (λ old new. new ≤ old + 30 * count) (S.reads store.old) (S.reads store.new)) }
+    ensures tried { IfOk result (λ t. t ≡ false → Goes (λ old new. new ≤ old + 30 * count) (S.reads store.old) (S.reads store.new)) }
 {
     if count == 0 {
         return Ok(true);
@@ -231,7 +231,7 @@ fn plan_part<S: PageStore>(
     ensures sound { IfErr result (λ e. (g : Grid) → HasRegion (S.told store.old) tree.now layer level g → Knows level g w known.now → IsSound e) }
     ensures left { OnlyReads S.PageStore store.old store.new result }
     ensures reads { OnOk result ((g : Grid) → HasRegion (S.told store.old) tree.now layer level g
-        → Tells (λ old new. new ≤ old + (6 + 3 * length (leaves_within level g known.now.read))) (S.reads store.old) (S.reads store.new)) }
+        → Goes (λ old new. new ≤ old + (6 + 3 * length (leaves_within level g known.now.read))) (S.reads store.old) (S.reads store.new)) }
 {
     match records_in(alloc, store, tree, layer, level, known.read) {
         Err(e) => Err(e),

@@ -5,7 +5,7 @@ ghost use Rattle.quilt_types.specs.Plane.{is_window, side as side_of, Holds, IsB
 ghost use Rattle.quilt_types.specs.Layers.{Grid, colour_at};
 ghost use Rattle.quilt_loc.specs.Codes.{code_from, code_to};
 ghost use Rattle.quilt_store.specs.Calls.{OnlyReads};
-ghost use Rattle.quilt_store.specs.Store.{Tells};
+ghost use Rattle.quilt_world.specs.Tale.{Goes};
 ghost use Rattle.quilt_store.specs.Stops.{IsSound};
 ghost use Rattle.quilt_btree.specs.Trees.{IsRooted};
 ghost use Rattle.quilt_region.specs.Painting.{HasColours};
@@ -43,7 +43,7 @@ pub fn read_window<S: PageStore>(
     ensures sound { IfErr result (λ e. (g : Grid) → HasRegion (S.told store.old) tree.now layer level g → IsSound e) }
     ensures left { OnlyReads S.PageStore store.old store.new result }
     ensures reads { IfOk result (λ l. (g : Grid) (s : ℕ) → HasRegion (S.told store.old) tree.now layer level g → IsSideOver w s
-        → Tells (λ old new. new ≤ old + sum_by (λ b. 12 + 3 * length (leaves_within level g b)) (cover_of s w)) (S.reads store.old) (S.reads store.new)) }
+        → Goes (λ old new. new ≤ old + sum_by (λ b. 12 + 3 * length (leaves_within level g b)) (cover_of s w)) (S.reads store.old) (S.reads store.new)) }
 {
     let side = side_over(w);
     let mut maker = Maker::new(alloc, level);
@@ -96,7 +96,7 @@ fn put_window<S: PageStore>(
     ensures sound { IfErr result (λ e. (g : Grid) → HasRegion (S.told store.old) tree.now layer level g → IsSound e) }
     ensures left { OnlyReads S.PageStore store.old store.new result }
     ensures reads { OnOk result ((g : Grid) → HasRegion (S.told store.old) tree.now layer level g
-        → Tells (λ old new. new ≤ old + cost_in level g (cover_of side w) b) (S.reads store.old) (S.reads store.new)) }
+        → Goes (λ old new. new ≤ old + cost_in level g (cover_of side w) b) (S.reads store.old) (S.reads store.new)) }
 {
     if !meets(w, b) {
         return match maker.push(b, Colour(0)) {
@@ -140,7 +140,7 @@ fn put_read<S: PageStore>(
     ensures sound { IfErr result (λ e. (g : Grid) → HasRegion (S.told store.old) tree.now layer level g → IsSound e) }
     ensures left { OnlyReads S.PageStore store.old store.new result }
     ensures reads { OnOk result ((g : Grid) → HasRegion (S.told store.old) tree.now layer level g
-        → Tells (λ old new. new ≤ old + (12 + 3 * length (leaves_within level g b))) (S.reads store.old) (S.reads store.new)) }
+        → Goes (λ old new. new ≤ old + (12 + 3 * length (leaves_within level g b))) (S.reads store.old) (S.reads store.new)) }
 {
     match leaf_with(store, tree, layer, level, Pixel { x: b.x, y: b.y }) {
         Err(e) => Err(e),

@@ -14,7 +14,7 @@ use Rattle.quilt_types.specs.declared.plane.Window.{Window}
 use Rattle.quilt_types.specs.Plane.{quarters_of, whole, is_window, Holds, IsBlock}
 use Rattle.quilt_types.specs.Segments.{meets, square}
 use Rattle.quilt_types.specs.Quadtrees.{reach, is_reached}
-use Rattle.quilt_store.specs.Store.{Tells}
+use Rattle.quilt_world.specs.Tale.{Goes}
 use Rattle.quilt_loc.proofs.Members.{Contains-nil, Contains-here, Contains-there, Contains-cons_cases, Contains-map, Contains-map_from, Contains-filter}
 use Rattle.quilt_loc.proofs.Members.{Contains-filter_from}
 use Rattle.quilt_loc.proofs.Nesting.{side_pos}
@@ -58,7 +58,7 @@ pub record Going (n : ℕ) (ws : List Window) (shown : Lines → Type 0) (before
   pub valid : (e : Waiting) → Contains stack e → IsBlock n e.0
   pub kept : (e : Waiting) → Contains stack e → (w : Window) → Contains e.1 w → Contains ws w × (shares e.0 w ≡ true)
   pub front : (l : Lines) → shown l → Front ws l stack found
-  pub paid : (l : Lines) → shown l → Tells (λ old new. new + owed block_of n (holds_any ws) l stack ≤ old + reach n l.segs l.cover (holds_any ws)) before now
+  pub paid : (l : Lines) → shown l → Goes (λ old new. new + owed block_of n (holds_any ws) l stack ≤ old + reach n l.segs l.cover (holds_any ws)) before now
 
 some_member : {X : Type 0} (xs : List X) → 0 < length xs → (x : X) × Contains xs x
 some_member [] lt = absurd (omega arith)
@@ -132,7 +132,7 @@ module _ (n : ℕ) (ws : List Window) (inside : All (λ w. is_window n w ≡ tru
         list_any-true (meets z.1) ws m.0 (g.kept e (Contains-here e rest) m.0 m.1).0 m.2
 
     -- and was not opened
-    skipped : (now : Option ℕ) → length e.1 ≡ 0 → Tells (λ x y. y ≤ x + 0) mid now → Going n ws shown before now rest was
+    skipped : (now : Option ℕ) → length e.1 ≡ 0 → Goes (λ x y. y ≤ x + 0) mid now → Going n ws shown before now rest was
     skipped now none reads = record {
       valid = λ z c. g.valid z (Contains-there e rest z c);
       kept = λ z c. g.kept z (Contains-there e rest z c);
@@ -157,7 +157,7 @@ module _ (n : ℕ) (ws : List Window) (inside : All (λ w. is_window n w ≡ tru
 
     -- and is one of the layer
     gathered : (now : Option ℕ) (list : Found) → 0 < length e.1 → ((l : Lines) → shown l → IsPart l e.0 (Leaf list))
-        → Tells (λ x y. y ≤ x + (12 + 6 * length list)) mid now → Going n ws shown before now rest (fold (with_seg e.1) was list)
+        → Goes (λ x y. y ≤ x + (12 + 6 * length list)) mid now → Going n ws shown before now rest (fold (with_seg e.1) was list)
     gathered now list some found reads = record {
       valid = λ z c. g.valid z (Contains-there e rest z c);
       kept = λ z c. g.kept z (Contains-there e rest z c);
@@ -192,7 +192,7 @@ module _ (n : ℕ) (ws : List Window) (inside : All (λ w. is_window n w ≡ tru
     }
 
     -- and is cut further
-    divided : (now : Option ℕ) → 0 < length e.1 → 1 < e.0.side → ((l : Lines) → shown l → IsPart l e.0 Split) → Tells (λ x y. y ≤ x + 12) mid now
+    divided : (now : Option ℕ) → 0 < length e.1 → 1 < e.0.side → ((l : Lines) → shown l → IsPart l e.0 Split) → Goes (λ x y. y ≤ x + 12) mid now
         → Going n ws shown before now (four e.0 e.1 ++ rest) was
     divided now some wide found reads =
         let b = e.0 in
@@ -248,7 +248,7 @@ module _ (n : ℕ) (ws : List Window) (inside : All (λ w. is_window n w ≡ tru
 
     by_part : (now : Option ℕ) (new : List Waiting) (then : Found) (part : Option Part) → ((l : Lines) → shown l → IfSome part (IsPart l e.0))
         → After e.0 e.1 part rest new was then
-        → Tells (λ x y. y ≤ x + pages_of part) mid now → Going n ws shown before now new then
+        → Goes (λ x y. y ≤ x + pages_of part) mid now → Going n ws shown before now new then
     by_part now new then None found after reads =
         subst (λ (t : List Waiting). Going n ws shown before now t then) (sym after.1)
         (subst (Going n ws shown before now rest) (sym after.2) (skipped now after.0 reads))
@@ -306,7 +306,7 @@ module _ (n : ℕ) (ws : List Window) (inside : All (λ w. is_window n w ≡ tru
       (at_end now found (subst (λ (t : List Waiting). Going n ws shown before now t found) e g) order l s)
 
   pub going_reads : (now : Option ℕ) (stack : List Waiting) (found : Found) → Going n ws shown before now stack found → (l : Lines) → shown l
-      → Tells (λ old new. new ≤ old + reach n l.segs l.cover (holds_any ws)) before now
+      → Goes (λ old new. new ≤ old + reach n l.segs l.cover (holds_any ws)) before now
   going_reads now stack found g l s =
       tells_weaker (λ x y. y + owed block_of n (holds_any ws) l stack ≤ x + reach n l.segs l.cover (holds_any ws))
       (λ x y. y ≤ x + reach n l.segs l.cover (holds_any ws)) (λ x y a. omega arith) before now (g.paid l s)

@@ -12,7 +12,7 @@ use Rattle.quilt_types.specs.Plane.{pixels, pixels_of, is_window, Holds, IsBlock
 use Rattle.quilt_types.specs.Layers.{Grid}
 use Rattle.quilt_types.specs.Segments.{meets, square}
 use Rattle.quilt_types.specs.Quadtrees.{reach}
-use Rattle.quilt_store.specs.Store.{Tells}
+use Rattle.quilt_world.specs.Tale.{Goes}
 use Rattle.quilt_loc.proofs.Blocks.{Contains-pixels_of}
 use Rattle.quilt_loc.proofs.Rows.{Contains-pixels, Contains-pixels_from}
 use Rattle.quilt_loc.proofs.Members.{Contains-map, Contains-map_from, Contains-filter, Contains-filter_from}
@@ -128,8 +128,8 @@ module _ (n : ℕ) (g : Grid) where
       list_any-true (is_coloured_at n g) (pixels_of b) p (Contains-pixels_of b p hb) (k.each p hc)
 
   pub over_reads : (ws : List Window) → ws ≡ coloured_windows (leaves_by_code n g) → (l : Lines) (before now : Option ℕ)
-      → Tells (λ old new. new ≤ old + reach n l.segs l.cover (holds_any ws)) before now
-      → Tells (λ old new. new ≤ old + reach n l.segs l.cover (has_coloured n g)) before now
+      → Goes (λ old new. new ≤ old + reach n l.segs l.cover (holds_any ws)) before now
+      → Goes (λ old new. new ≤ old + reach n l.segs l.cover (has_coloured n g)) before now
   over_reads ws e l before now h =
       let more = reach_more n l.segs l.cover (holds_any ws) (has_coloured n g)
       (λ b i k. shares_coloured b i (subst (λ (t : List Window). holds_any t b ≡ true) e k)) in

@@ -6,7 +6,7 @@ use Rattle.quilt_types.specs.declared.plane.Block.{Block}
 use Rattle.quilt_types.specs.declared.plane.Seg.{Seg}
 use Rattle.quilt_types.specs.declared.plane.Window.{Window}
 use Rattle.quilt_types.specs.Plane.{quarters_of}
-use Rattle.quilt_store.specs.Store.{Tells}
+use Rattle.quilt_world.specs.Tale.{Goes}
 use Rattle.quilt_near.specs.Lines.{Lines}
 use Rattle.quilt_near.specs.Parts.{IsPart, pages_for}
 use Rattle.quilt_near.specs.declared.part.Part.{Part}
@@ -46,4 +46,4 @@ pub record IsOpened (b : Block) (near : List Window) (shown : Lines → Type 0) 
   pub part : Option Part
   pub found : (l : Lines) → shown l → IfSome part (IsPart l b)
   pub after : After b near part old new was now
-  pub reads : Tells (λ before after. after ≤ before + pages_of part) reads_old reads_new
+  pub reads : Goes (λ before after. after ≤ before + pages_of part) reads_old reads_new

@@ -5,7 +5,7 @@ ghost use Rattle.std.specs.FinMap as finmap;
 ghost use Rattle.quilt_types.specs.Plane.{IsBlock, is_window};
 ghost use Rattle.quilt_types.specs.Quadtrees.{is_reached, reach};
 ghost use Rattle.quilt_store.specs.Calls.{OnlyReads};
-ghost use Rattle.quilt_store.specs.Store.{Tells};
+ghost use Rattle.quilt_world.specs.Tale.{Goes};
 ghost use Rattle.quilt_near.specs.Lines.{Lines};
 ghost use Rattle.quilt_store.specs.Stops.{IsSound};
 ghost use Rattle.quilt_select.specs.Shares.{shares as shares_of, holds_any, meets_any as meets_any_of};
@@ -149,7 +149,7 @@ pub fn select<S: PageStore, B: SegBlocks<S>>(
     ensures selected { IfOk result (λ list. (l : Lines) → B.shows blocks.now store.old l
         → list ≡ filter (λ e. meets_any_of windows.items e.1) (finmap.entries l.segs)) }
     ensures reads { IfOk result (λ _. (l : Lines) → B.shows blocks.now store.old l
-        → Tells (λ old new. new ≤ old + reach (B.level_of blocks.now) l.segs l.cover (holds_any windows.items)) (S.reads store.old) (S.reads store.new)) }
+        → Goes (λ old new. new ≤ old + reach (B.level_of blocks.now) l.segs l.cover (holds_any windows.items)) (S.reads store.old) (S.reads store.new)) }
     ensures sound { IfErr result (λ e. (l : Lines) → B.shows blocks.now store.old l → IsSound e) }
     ensures left { OnlyReads S.PageStore store.old store.new result }
 {

@@ -4,7 +4,7 @@ ghost use Rattle.quilt_types.specs.Plane.{is_window};
 ghost use Rattle.quilt_types.specs.Segments.{meets};
 ghost use Rattle.quilt_types.specs.Quadtrees.{reach};
 ghost use Rattle.quilt_store.specs.Calls.{OnlyReads};
-ghost use Rattle.quilt_store.specs.Store.{Tells};
+ghost use Rattle.quilt_world.specs.Tale.{Goes};
 ghost use Rattle.quilt_near.specs.Lines.{Lines};
 ghost use Rattle.quilt_store.specs.Stops.{IsSound};
 ghost use Rattle.quilt_blocks.specs.Cutting.{leaves_by_code};
@@ -31,7 +31,7 @@ pub fn cross<S: PageStore, B: SegBlocks<S>>(
     requires { is_window (B.level_of blocks.now) w ≡ true }
     ensures cross { IfOk result (λ list. (l : Lines) → B.shows blocks.now store.old l → list ≡ filter (λ e. meets e.1 w) (finmap.entries l.segs)) }
     ensures reads { IfOk result (λ _. (l : Lines) → B.shows blocks.now store.old l
-        → Tells (λ old new. new ≤ old + reach (B.level_of blocks.now) l.segs l.cover (is_touching w)) (S.reads store.old) (S.reads store.new)) }
+        → Goes (λ old new. new ≤ old + reach (B.level_of blocks.now) l.segs l.cover (is_touching w)) (S.reads store.old) (S.reads store.new)) }
     ensures sound { IfErr result (λ e. (l : Lines) → B.shows blocks.now store.old l → IsSound e) }
     ensures left { OnlyReads S.PageStore store.old store.new result }
 {
@@ -54,7 +54,7 @@ pub fn clipped<S: PageStore, B: SegBlocks<S>>(
     requires { is_window (B.level_of blocks.now) w ≡ true }
     ensures clipped { IfOk result (λ clips. (l : Lines) → B.shows blocks.now store.old l → clips ≡ clips_of_list w (finmap.entries l.segs)) }
     ensures reads { IfOk result (λ _. (l : Lines) → B.shows blocks.now store.old l
-        → Tells (λ old new. new ≤ old + reach (B.level_of blocks.now) l.segs l.cover (is_touching w)) (S.reads store.old) (S.reads store.new)) }
+        → Goes (λ old new. new ≤ old + reach (B.level_of blocks.now) l.segs l.cover (is_touching w)) (S.reads store.old) (S.reads store.new)) }
     ensures sound { IfErr result (λ e. (l : Lines) → B.shows blocks.now store.old l → IsSound e) }
     ensures left { OnlyReads S.PageStore store.old store.new result }
 {
@@ -99,7 +99,7 @@ pub fn over<S: PageStore, B: SegBlocks<S>>(
     ensures over { IfOk result (λ found. (l : Lines) → B.shows blocks.now store.old l
         → found ≡ filter (λ e. is_over list.now.level list.now.grid e.1) (finmap.entries l.segs)) }
     ensures reads { IfOk result (λ _. (l : Lines) → B.shows blocks.now store.old l
-        → Tells (λ old new. new ≤ old + reach list.now.level l.segs l.cover (has_coloured list.now.level list.now.grid)) (S.reads store.old)
+        → Goes (λ old new. new ≤ old + reach list.now.level l.segs l.cover (has_coloured list.now.level list.now.grid)) (S.reads store.old)
         (S.reads store.new)) }
     ensures sound { IfErr result (λ e. (l : Lines) → B.shows blocks.now store.old l → IsSound e) }
     ensures left { OnlyReads S.PageStore store.old store.new result }

@@ -16,7 +16,7 @@ use Rattle.quilt_record.proofs.Orders.{le_le}
 use Rattle.quilt_node.specs.Pages.{Inner, leaf_of, is_ascending}
 use Rattle.quilt_node.specs.Nodes.{IsPlace, keys_of}
 use Rattle.quilt_node.specs.Tree.{Bounds, is_above, is_below}
-use Rattle.quilt_store.specs.Store.{Tells}
+use Rattle.quilt_world.specs.Tale.{Goes}
 use Rattle.quilt_btree.specs.declared.edit.Edit.{Edit}
 use Rattle.quilt_btree.specs.declared.edit.Edit.TheVariants as edit
 use Rattle.quilt_btree.specs.Batches.{key_of, edit_keys, edited, edit_all, are_due, Fails, DidEdit}
@@ -67,7 +67,7 @@ pub leaf_edited : (told now_told : Option (List (List ℕ))) (free now : ℕ →
     (rs : List Record) (used : List ℕ) (high : Option Key) (leaf new : List Record) (xs : List Edit)
     → page < size → TellsAll told size → leaf_of bytes ≡ Some new → IsEdited leaf new xs → leaf ≡ rs
     → list_all (is_below high) (edit_keys xs) ≡ true
-    → Tells (λ old new. new ≡ slice_set old page bytes) told now_told → now ≡ free → (if is_root then 1 else 72) ≤ length new
+    → Goes (λ old new. new ≡ slice_set old page bytes) told now_told → now ≡ free → (if is_root then 1 else 72) ≤ length new
     → b.high ≡ high → list_all (is_above b.low) (edit_keys xs) ≡ true → CanEdit told free page 1 is_root b rs used
     → DidEdit xs told now_told free now page 1 is_root b rs used
 leaf_edited told now_told free now size page bytes is_root b rs used high leaf new xs inside many is d same below wrote same_free least top above can =

@@ -8,7 +8,7 @@ use Rattle.quilt_record.specs.declared.key.Key.{Key}
 use Rattle.quilt_record.specs.declared.record.Record.{Record}
 use Rattle.quilt_node.specs.Pages.{leaf_of}
 use Rattle.quilt_node.specs.Tree.{Bounds, is_above, is_below}
-use Rattle.quilt_store.specs.Store.{Tells}
+use Rattle.quilt_world.specs.Tale.{Goes}
 use Rattle.quilt_btree.specs.declared.edit.Edit.{Edit}
 use Rattle.quilt_btree.specs.Batches.{edit_keys, edit_all, are_due, HasRoomFor, HasPlan, MakesEdits, Fails, DidEdit}
 use Rattle.quilt_btree.specs.Edits.{times, CanEdit}
@@ -56,7 +56,7 @@ leaf_made told mid now_told free now size page least is_root b rs used high run 
     let order = (leaf_list (slice_index_or f.pages page []) p.leaf f.at).ascends in
     leaf_edited told now_told free now size page m.bytes is_root b rs used high p.leaf (edit_all (take n run) p.leaf) (take n run) inside many made.0
     (record { is = refl; due = made.1 }) (leaf_same told free page is_root b rs p.leaf used can p.reads) below
-    (subst (λ o. Tells (λ old new. new ≡ slice_set old page m.bytes) o now_told) same m.wrote) same_free
+    (subst (λ o. Goes (λ old new. new ≡ slice_set old page m.bytes) o now_told) same m.wrote) same_free
     (subst (λ k. k ≤ length (edit_all (take n run) p.leaf)) lower
     (subst (λ k. least ≤ k) (sym (size_all (take n run) p.leaf order made.1)) (p.enough one)))
     top (all_first (is_above b.low) n run above) can

@@ -11,7 +11,7 @@ use Rattle.quilt_node.specs.Nodes.{IsFound, IsGap}
 use Rattle.quilt_node.specs.Pages.{leaf_of}
 use Rattle.quilt_node.specs.Tree.{Bounds}
 use Rattle.quilt_store.specs.Stops.{IsSound}
-use Rattle.quilt_store.specs.Store.{Tells}
+use Rattle.quilt_world.specs.Tale.{Goes}
 use Rattle.quilt_btree.specs.declared.edit.Edit.{Edit}
 use Rattle.quilt_btree.specs.declared.edit.Edit.TheVariants as edit
 use Rattle.quilt_btree.specs.declared.outcomes.Inserted.{Inserted}
@@ -56,7 +56,7 @@ module _ (told mid : Option (List (List ℕ))) (free between : ℕ → Bool) (si
       let made = m.made pages s.leaf (same ∙ can.can_edit.is_told) (s.reads pages can.can_edit.is_told) (few, tt) in
       growth.leaf_done told now_told free now size page g.0 r m.bytes is_root b rs used (record { inside = inside; many = many; gap = gap })
       (made.0 ∙ ap Some (ap (put r) is_rs ∙ sym (put_gap r rs g.0 gap)))
-      (subst (λ o. Tells (λ old new. new ≡ slice_set old page m.bytes) o now_told) same m.wrote) (stays ∙ same_free) can
+      (subst (λ o. Goes (λ old new. new ≡ slice_set old page m.bytes) o now_told) same m.wrote) (stays ∙ same_free) can
 
   pub put_sound : (e : Stop) (is_root : Bool) (b : Bounds) (rs : List Record) (used : List ℕ) → is_there ≡ false → length s.leaf < 144
       → StopsIn e mid between page (edit.Put r ∷ []) → CanInsert told free size page 1 is_root b r.key rs used → IsSound e

@@ -9,7 +9,8 @@ use Rattle.quilt_node.specs.Nodes.{are_pages}
 use Rattle.quilt_node.specs.Edits.{first_children, children_from}
 use Rattle.quilt_node.specs.Tree.{Bounds, bounded, are_within}
 use Rattle.quilt_node.proofs.Ascending.{all_take, all_drop}
-use Rattle.quilt_store.specs.Store.{Tells, FreesOnly}
+use Rattle.quilt_store.specs.Store.{FreesOnly}
+use Rattle.quilt_world.specs.Tale.{Goes}
 use Rattle.quilt_btree.specs.Subtree.{Row, Subtree}
 use Rattle.quilt_btree.specs.Edits.{times, Becomes, Separated}
 use Rattle.quilt_btree.specs.Inserts.{IsPending, DidPut}
@@ -34,7 +35,7 @@ pending_taken told free page is_root b inner all under p = used_not_free free (u
 pub put_done : (told now_told : Option (List (List ℕ))) (free now : ℕ → Bool) (size page height : ℕ) (inner : Inner) (bytes : List ℕ)
     (is_root : Bool) (b : Bounds) (all : List Record) (under : List ℕ)
     → page < size → TellsAll told size → IsWritten bytes inner → inner.height ≡ height
-    → Tells (λ old new. new ≡ slice_set old page bytes) told now_told → now ≡ free
+    → Goes (λ old new. new ≡ slice_set old page bytes) told now_told → now ≡ free
     → IsPending told free page is_root b inner all under → DidPut told now_told free now page height is_root b (under ++ page ∷ []) all inserted.Done
 put_done told now_told free now size page height inner bytes is_root b all under inside many is tall wrote same p =
     let written = tells_at (λ old new. new ≡ slice_set old page bytes) told now_told p.pages wrote p.is_told in
@@ -83,7 +84,7 @@ none_each p under rest first e h =
 pub put_split : (told now_told : Option (List (List ℕ))) (free now : ℕ → Bool) (size page new height : ℕ) (inner : Inner) (left right : List ℕ)
     (key : Key) (is_root : Bool) (b : Bounds) (all : List Record) (under : List ℕ)
     → page < size → new < size → TellsAll told size → AreParts inner left right key → inner.height ≡ height → free new ≡ true → FreesOnly new false free now
-    → Tells (λ old now. now ≡ slice_set (slice_set old page left) new right) told now_told
+    → Goes (λ old now. now ≡ slice_set (slice_set old page left) new right) told now_told
     → IsPending told free page is_root b inner all under → DidPut told now_told free now page height is_root b (under ++ page ∷ []) all (inserted.Split key new)
 put_split told now_told free now size page new height inner left right key is_root b all under inside inside_new many h tall t f wrote p =
     let pages = p.pages in

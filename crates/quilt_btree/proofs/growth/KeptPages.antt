@@ -9,7 +9,8 @@ use Rattle.quilt_record.specs.declared.key.Key.{Key}
 use Rattle.quilt_record.specs.declared.record.Record.{Record}
 use Rattle.quilt_node.specs.Pages.{leaf_of}
 use Rattle.quilt_node.specs.Tree.{Bounds, Whole}
-use Rattle.quilt_store.specs.Store.{Tells, FreesOnly, count_free}
+use Rattle.quilt_store.specs.Store.{FreesOnly, count_free}
+use Rattle.quilt_world.specs.Tale.{Goes}
 use Rattle.quilt_btree.specs.declared.tree.Tree.{Tree}
 use Rattle.quilt_btree.specs.declared.outcomes.Inserted.TheVariants as inserted
 use Rattle.quilt_btree.specs.declared.outcomes.Removed.TheVariants as removed
@@ -107,7 +108,7 @@ kept_split r told mid_told now_told free mid now size t rs key right new bytes h
 pub kept_first : (r : Record) (told now_told : Option (List (List ℕ))) (free now : ℕ → Bool) (size : ℕ) (t : Tree) (rs : List Record) (new : ℕ)
     (bytes : List ℕ) → TellsAll told size → t.height ≡ 0
     → leaf_of bytes ≡ Some (r ∷ []) → (1 ≤ new) × (new < size) → free new ≡ true → FreesOnly new false free now
-    → Tells (λ old news. news ≡ slice_set old new bytes) told now_told
+    → Goes (λ old news. news ≡ slice_set old new bytes) told now_told
     → HasItsPages told free t rs → HasItsPages now_told now (record { root = new; height = 1; records = 1 }) (put r rs)
 kept_first r told now_told free now size t rs new bytes many none leaf range was_free taken wrote w =
     let no_rs : rs ≡ [] = no_records told t rs none w.tree in
@@ -212,7 +213,7 @@ out_underfull k told now_told free now t rs ne f w =
 
 pub out_emptied : (k : Key) (told mid now_told : Option (List (List ℕ))) (free between now : ℕ → Bool) (t : Tree) (rs : List Record) → t.height ≢ 0
     → removals.UnderRoot k told mid free between t removed.Emptied
-    → Tells (HasGiven t.root) mid now_told → HasItsPages told free t rs
+    → Goes (HasGiven t.root) mid now_told → HasItsPages told free t rs
     → HasItsPages now_told now (record { root = 0; height = 0; records = t.records - 1 }) (without k rs)
 out_emptied k told mid now_told free between now t rs ne f tells w =
     let a = at_root told free t rs ne w in
@@ -230,7 +231,7 @@ out_emptied k told mid now_told free between now t rs ne f tells w =
 
 pub out_only : (k : Key) (told mid now_told : Option (List (List ℕ))) (free between now : ℕ → Bool) (child : ℕ) (t : Tree) (rs : List Record)
     → t.height ≢ 0 → removals.UnderRoot k told mid free between t (removed.Only child)
-    → Tells (HasGiven t.root) mid now_told → FreesOnly t.root true between now → HasItsPages told free t rs
+    → Goes (HasGiven t.root) mid now_told → FreesOnly t.root true between now → HasItsPages told free t rs
     → HasItsPages now_told now (record { root = child; height = t.height - 1; records = t.records - 1 }) (without k rs)
 out_only k told mid now_told free between now child t rs ne f tells frees w =
     let a = at_root told free t rs ne w in

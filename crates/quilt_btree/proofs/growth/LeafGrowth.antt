@@ -13,7 +13,8 @@ use Rattle.quilt_node.specs.Pages.{leaf_of, is_ascending}
 use Rattle.quilt_node.specs.Nodes.{IsGap, IsFound, keys_of}
 use Rattle.quilt_node.specs.Tree.{Bounds, is_above, is_below, are_within}
 use Rattle.quilt_node.proofs.Ascending.{ascending_insert, all_take, all_drop}
-use Rattle.quilt_store.specs.Store.{Tells, FreesOnly}
+use Rattle.quilt_store.specs.Store.{FreesOnly}
+use Rattle.quilt_world.specs.Tale.{Goes}
 use Rattle.quilt_record.specs.Lists.{has_key, put}
 use Rattle.quilt_btree.specs.Edits.{times, Moves, Becomes, Separated, CanInsert, DidInsert}
 use Rattle.quilt_btree.specs.declared.outcomes.Inserted.TheVariants as inserted
@@ -81,7 +82,7 @@ pub record IsGrowing (told : Option (List (List ℕ))) (size page : ℕ) (r : Re
 -- the one leaf was written
 pub leaf_done : (told now_told : Option (List (List ℕ))) (free now : ℕ → Bool) (size page i : ℕ) (r : Record) (bytes : List ℕ) (is_root : Bool)
     (b : Bounds) (rs : List Record) (used : List ℕ)
-    → IsGrowing told size page r rs i → leaf_of bytes ≡ Some (insert rs i r) → Tells (λ old new. new ≡ slice_set old page bytes) told now_told → now ≡ free
+    → IsGrowing told size page r rs i → leaf_of bytes ≡ Some (insert rs i r) → Goes (λ old new. new ≡ slice_set old page bytes) told now_told → now ≡ free
     → CanInsert told free size page 1 is_root b r.key rs used → DidInsert r told now_told free now page 1 is_root b rs used inserted.Done
 leaf_done told now_told free now size page i r bytes is_root b rs used is leaf wrote same can =
     let pages = can.can_edit.pages in
@@ -155,7 +156,7 @@ halves b xs n start a w h =
 pub leaf_split : (told now_told : Option (List (List ℕ))) (free now : ℕ → Bool) (size page new i : ℕ) (r : Record) (left right : List ℕ) (key : Key)
     (start : Record) (is_root : Bool) (b : Bounds) (rs : List Record) (used : List ℕ)
     → IsGrowing told size page r rs i → AreHalves r rs i left right key start → new < size → free new ≡ true → FreesOnly new false free now
-    → Tells (λ old now. now ≡ slice_set (slice_set old page left) new right) told now_told
+    → Goes (λ old now. now ≡ slice_set (slice_set old page left) new right) told now_told
     → CanInsert told free size page 1 is_root b r.key rs used → DidInsert r told now_told free now page 1 is_root b rs used (inserted.Split key new)
 leaf_split told now_told free now size page new i r left right key start is_root b rs used is h inside_new t f wrote can =
     let pages = can.can_edit.pages in

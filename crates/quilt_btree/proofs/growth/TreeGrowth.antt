@@ -14,7 +14,8 @@ use Rattle.quilt_record.specs.Records.{key_cmp}
 use Rattle.quilt_node.specs.Pages.{Inner, leaf_of}
 use Rattle.quilt_node.specs.Nodes.{are_pages}
 use Rattle.quilt_node.specs.Tree.{Bounds, Whole, walk_of, bounded}
-use Rattle.quilt_store.specs.Store.{Tells, FreesOnly, count_free}
+use Rattle.quilt_store.specs.Store.{FreesOnly, count_free}
+use Rattle.quilt_world.specs.Tale.{Goes}
 use Rattle.quilt_btree.specs.declared.tree.Tree.{Tree}
 use Rattle.quilt_record.specs.Lists.{has_key, put}
 use Rattle.quilt_store.specs.Stops.{IsSound}
@@ -242,7 +243,7 @@ pub record IsNewRoot (t : Tree) (mid_told now_told : Option (List (List ℕ))) (
   pub new_in : (1 ≤ new) × (new < size)
   pub was_free : mid new ≡ true
   pub taken : FreesOnly new false mid now
-  pub wrote : Tells (λ old news. news ≡ slice_set old new bytes) mid_told now_told
+  pub wrote : Goes (λ old news. news ≡ slice_set old new bytes) mid_told now_told
 
 two_pages : (n size a b : ℕ) → n ≡ size → (1 ≤ a) × (a < size) → (1 ≤ b) × (b < size) → are_pages n (a ∷ b ∷ []) ≡ true
 two_pages n size a b e h g =
@@ -347,7 +348,7 @@ empty_room told free size t rs i none w =
 pub whole_first : (r : Record) (told now_told : Option (List (List ℕ))) (free now : ℕ → Bool) (size : ℕ) (t : Tree) (rs : List Record) (new : ℕ)
     (bytes : List ℕ) → IsInserting told free size t → t.height ≡ 0
     → leaf_of bytes ≡ Some (r ∷ []) → (1 ≤ new) × (new < size) → free new ≡ true → FreesOnly new false free now
-    → Tells (λ old news. news ≡ slice_set old new bytes) told now_told
+    → Goes (λ old news. news ≡ slice_set old new bytes) told now_told
     → IsWhole told free size t rs → (true ≡ not (list_any (has_key r.key) rs))
     × IsWhole now_told now size (record { root = new; height = 1; records = 1 }) (put r rs)
 unfolding walk_of

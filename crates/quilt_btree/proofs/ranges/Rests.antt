@@ -3,7 +3,7 @@ use Rattle.std.proofs.Common.{◌≡◌, ◌≢◌, inl, inr, ℕ, ◌+◌, ◌*
 use Rattle.std.proofs.Common.{Ok, Err, OnOk, zero, suc, refl, sym, ◌∙◌, ap, subst, arith}
 use Rattle.std.specs.Prelude.{IfSome, MatchOption}
 use Rattle.std.specs.Result.{is_err}
-use Rattle.quilt_store.specs.Store.{Tells}
+use Rattle.quilt_world.specs.Tale.{Goes}
 use Rattle.std.specs.Ordering.{is_lt, is_le}
 use Rattle.quilt_record.specs.declared.key.Key.{Key}
 use Rattle.quilt_record.specs.declared.record.Record.{Record}
@@ -180,8 +180,8 @@ loop_sound e told now t high start from most first old same s f = λ low rs tree
     f low rs (along_tree told now t rs same tree) (along_before told now t low high most from rs old same (s low rs tree b))
 
 -- three reads more, for at least one record more
-pub loop_reads : (a b c : Option ℕ) (first old new : ℕ) → old < new → Tells (λ x y. y + 3 * first ≤ x + 3 * old) a b → Tells (λ x y. y ≤ x + 3) b c
-    → Tells (λ x y. y + 3 * first ≤ x + 3 * new) a c
+pub loop_reads : (a b c : Option ℕ) (first old new : ℕ) → old < new → Goes (λ x y. y + 3 * first ≤ x + 3 * old) a b → Goes (λ x y. y ≤ x + 3) b c
+    → Goes (λ x y. y + 3 * first ≤ x + 3 * new) a c
 loop_reads (Some a) (Some b) (Some c) first old new more f g = omega arith
 loop_reads (Some a) (Some b) None first old new more f g = g
 loop_reads (Some a) None c first old new more f g = absurd f

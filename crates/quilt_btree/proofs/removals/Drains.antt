@@ -17,7 +17,7 @@ use Rattle.quilt_record.specs.Records.{key_cmp}
 use Rattle.quilt_node.specs.Pages.{Inner, leaf_of, is_ascending}
 use Rattle.quilt_node.specs.Nodes.{IsFound, IsGap, keys_of}
 use Rattle.quilt_node.specs.Tree.{Bounds, is_above, is_below, are_within}
-use Rattle.quilt_store.specs.Store.{Tells}
+use Rattle.quilt_world.specs.Tale.{Goes}
 use Rattle.quilt_record.specs.Lists.{has_key, without}
 use Rattle.quilt_btree.specs.Subtree.{Subtree}
 use Rattle.quilt_btree.specs.Edits.{CanEdit}

@@ -3,12 +3,12 @@ use Rattle.std.proofs.Common.{◌≡◌, ℕ, suc, ◌+◌, ◌<◌, true, ◌&&
 use Rattle.quilt_node.specs.Pages.{Inner, inner_of}
 use Rattle.quilt_node.specs.Nodes.{are_pages}
 use Rattle.quilt_node.specs.Edits.{without_child}
-use Rattle.quilt_store.specs.Store.{Tells}
+use Rattle.quilt_world.specs.Tale.{Goes}
 use Rattle.quilt_btree.specs.Rebalancing.{Writes}
 use Rattle.quilt_btree.proofs.removals.LeafRemovals.{tells_on, all_removed, one_fewer}
 
 pub inner_written : (told now_told : Option (List (List ℕ))) (size page : ℕ) (inner : Inner) (bytes : List ℕ) → IfSome told (λ l. length l ≡ size)
-    → Tells (λ old new. new ≡ slice_set old page bytes) told now_told
+    → Goes (λ old new. new ≡ slice_set old page bytes) told now_told
     → are_pages size inner.children ≡ true → ((n : ℕ) → are_pages n inner.children ≡ true → inner_of n bytes ≡ Some inner) → Writes page inner told now_told
 inner_written told now_told size page inner bytes many tells children written pages e =
     let on = tells_on (λ old new. new ≡ slice_set old page bytes) told now_told pages e tells in
@@ -16,7 +16,7 @@ inner_written told now_told size page inner bytes many tells children written pa
     record { bytes = bytes; is = on.1 ∙ ap Some on.2; inner_is = written (length pages) (subst (λ n. are_pages n inner.children ≡ true) (sym long) children) }
 
 pub dropped_written : (told now_told : Option (List (List ℕ))) (size page j : ℕ) (inner less : Inner) (bytes : List ℕ)
-    → IfSome told (λ l. length l ≡ size) → Tells (λ old new. new ≡ slice_set old page bytes) told now_told
+    → IfSome told (λ l. length l ≡ size) → Goes (λ old new. new ≡ slice_set old page bytes) told now_told
     → are_pages size inner.children ≡ true → less ≡ without_child inner j
     → ((n : ℕ) → are_pages n less.children ≡ true → inner_of n bytes ≡ Some less) → Writes page (without_child inner j) told now_told
 dropped_written told now_told size page j inner less bytes many tells children is written =

@@ -9,7 +9,8 @@ use Rattle.quilt_node.specs.Pages.{Inner, inner_of, is_ascending}
 use Rattle.quilt_node.specs.Nodes.{are_pages}
 use Rattle.quilt_node.specs.Edits.{joined}
 use Rattle.quilt_node.specs.Tree.{Bounds, bounded, are_within, is_below}
-use Rattle.quilt_store.specs.Store.{Tells, FreesOnly}
+use Rattle.quilt_store.specs.Store.{FreesOnly}
+use Rattle.quilt_world.specs.Tale.{Goes}
 use Rattle.quilt_btree.specs.declared.outcomes.Rebalanced.TheVariants as rebalanced
 use Rattle.quilt_btree.specs.Subtree.{Row, Subtree}
 use Rattle.quilt_btree.specs.Trees.{ReadsInner}
@@ -146,7 +147,7 @@ pub record InnersJoin (told mid now_told : Option (List (List ℕ))) (free was n
   pub all_is : all ≡ joined l key r
   pub written : (n : ℕ) → are_pages n all.children ≡ true → inner_of n bytes ≡ Some all
   pub is_mid : mid ≡ told
-  pub tells : Tells (λ old new. HasGiven right (slice_set old left bytes) new) mid now_told
+  pub tells : Goes (λ old new. HasGiven right (slice_set old left bytes) new) mid now_told
   pub is_free : was ≡ free
   pub frees : FreesOnly right true was now
 
@@ -215,7 +216,7 @@ pub record InnersPart (told mid now_told : Option (List (List ℕ))) (free now :
   pub written : (n : ℕ) → are_pages n first.children ≡ true → inner_of n bytes ≡ Some first
   pub written_too : (n : ℕ) → are_pages n rest.children ≡ true → inner_of n others ≡ Some rest
   pub is_mid : mid ≡ told
-  pub tells : Tells (λ old new. new ≡ slice_set (slice_set old left bytes) right others) mid now_told
+  pub tells : Goes (λ old new. new ≡ slice_set (slice_set old left bytes) right others) mid now_told
   pub frees : now ≡ free
 
 pub inners_separated : (told mid now_told : Option (List (List ℕ))) (free now : ℕ → Bool) (size height left : ℕ) (key : Key) (right : ℕ) (b : Bounds)

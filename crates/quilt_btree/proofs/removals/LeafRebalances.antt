@@ -7,7 +7,8 @@ use Rattle.quilt_record.specs.declared.record.Record.{Record}
 use Rattle.quilt_node.specs.Pages.{leaf_of, is_ascending}
 use Rattle.quilt_node.specs.Nodes.{keys_of}
 use Rattle.quilt_node.specs.Tree.{Bounds, are_within}
-use Rattle.quilt_store.specs.Store.{Tells, FreesOnly}
+use Rattle.quilt_store.specs.Store.{FreesOnly}
+use Rattle.quilt_world.specs.Tale.{Goes}
 use Rattle.quilt_btree.specs.declared.outcomes.Rebalanced.TheVariants as rebalanced
 use Rattle.quilt_btree.specs.Subtree.{Subtree}
 use Rattle.quilt_btree.specs.Trees.{Spells, ReadsLeaf}
@@ -84,7 +85,7 @@ pub record LeavesJoin (told mid now_told : Option (List (List ℕ))) (free was n
   pub all_is : all ≡ l ++ r
   pub written : leaf_of bytes ≡ Some all
   pub is_mid : mid ≡ told
-  pub tells : Tells (λ old new. HasGiven right (slice_set old left bytes) new) mid now_told
+  pub tells : Goes (λ old new. HasGiven right (slice_set old left bytes) new) mid now_told
   pub is_free : was ≡ free
   pub frees : FreesOnly right true was now
 
@@ -130,7 +131,7 @@ pub record LeavesPart (told mid now_told : Option (List (List ℕ))) (free now :
   pub written : leaf_of bytes ≡ Some first
   pub written_too : leaf_of others ≡ Some rest
   pub is_mid : mid ≡ told
-  pub tells : Tells (λ old new. new ≡ slice_set (slice_set old left bytes) right others) mid now_told
+  pub tells : Goes (λ old new. new ≡ slice_set (slice_set old left bytes) right others) mid now_told
   pub frees : now ≡ free
 
 -- a list from its first record on

@@ -8,7 +8,7 @@ use Rattle.quilt_record.specs.declared.record.Record.{Record}
 use Rattle.quilt_node.specs.Pages.{leaf_of}
 use Rattle.quilt_node.specs.Nodes.{IsFound, IsGap}
 use Rattle.quilt_node.specs.Tree.{Bounds, are_within, is_above, is_below}
-use Rattle.quilt_store.specs.Store.{Tells}
+use Rattle.quilt_world.specs.Tale.{Goes}
 use Rattle.quilt_btree.specs.declared.outcomes.Removed.TheVariants as removed
 use Rattle.quilt_record.specs.Lists.{has_key, without}
 use Rattle.quilt_btree.specs.Subtree.{Subtree}
@@ -22,7 +22,7 @@ use Rattle.quilt_btree.proofs.subtrees.Trees.{nat_le_is}
 
 -- a store that tells goes on telling
 pub tells_on : (step : List (List ℕ) → List (List ℕ) → Type 0) (old new : Option (List (List ℕ))) (pages : List (List ℕ))
-    → old ≡ Some pages → Tells step old new
+    → old ≡ Some pages → Goes step old new
     → (news : List (List ℕ)) × (new ≡ Some news) × step pages news
 tells_on step (Some p) (Some q) pages e t = let same : p ≡ pages = cc in (q, refl, subst (λ l. step l q) same t)
 tells_on step (Some p) None pages e t = absurd t
@@ -149,7 +149,7 @@ pub record LeafCut (k : Key) (told mid now_told : Option (List (List ℕ))) (fre
   pub all_is : all ≡ remove leaf i
   pub written : leaf_of bytes ≡ Some all
   pub is_mid : mid ≡ told
-  pub tells : Tells (λ old new. new ≡ slice_set old page bytes) mid now_told
+  pub tells : Goes (λ old new. new ≡ slice_set old page bytes) mid now_told
   pub frees : now ≡ free
 
 -- what the leaf is then

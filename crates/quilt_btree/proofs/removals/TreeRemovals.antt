@@ -6,7 +6,8 @@ use Rattle.quilt_types.specs.declared.stop.Stop.{Stop}
 use Rattle.quilt_record.specs.declared.key.Key.{Key}
 use Rattle.quilt_record.specs.declared.record.Record.{Record}
 use Rattle.quilt_node.specs.Tree.{Bounds, Whole, walk_of}
-use Rattle.quilt_store.specs.Store.{Tells, FreesOnly}
+use Rattle.quilt_store.specs.Store.{FreesOnly}
+use Rattle.quilt_world.specs.Tale.{Goes}
 use Rattle.quilt_btree.specs.declared.tree.Tree.{Tree}
 use Rattle.quilt_btree.specs.declared.outcomes.Removed.{Removed}
 use Rattle.quilt_btree.specs.declared.outcomes.Removed.TheVariants as removed
@@ -162,7 +163,7 @@ empty_walk pages = refl
 
 pub whole_emptied : (k : Key) (told mid now_told : Option (List (List ℕ))) (free between now : ℕ → Bool) (size : ℕ) (t : Tree) (rs : List Record)
     → IsRemoving free size t → UnderRoot k told mid free between t removed.Emptied
-    → Tells (HasGiven t.root) mid now_told → FreesOnly t.root true between now → IsWhole told free size t rs
+    → Goes (HasGiven t.root) mid now_told → FreesOnly t.root true between now → IsWhole told free size t rs
     → (true ≡ list_any (has_key k) rs) × IsWhole now_told now size (record { root = 0; height = 0; records = t.records - 1 }) (without k rs)
 whole_emptied k told mid now_told free between now size t rs i f tells frees w =
     let a = at_root told free size t rs i w in
@@ -226,7 +227,7 @@ tall_above news height child rs below uses e s =
 
 pub regrown_only : (told mid now_told : Option (List (List ℕ))) (pages mids : List (List ℕ)) (free between now : ℕ → Bool) (t : Tree)
     (all : List Record) (used : List ℕ) (child : ℕ) → mid ≡ Some mids
-    → OnlyChild pages mids free between t.root t.height everywhere used all child → AreApart free used → Tells (HasGiven t.root) mid now_told
+    → OnlyChild pages mids free between t.root t.height everywhere used all child → AreApart free used → Goes (HasGiven t.root) mid now_told
     → FreesOnly t.root true between now → IsRegrown pages now_told free now child (t.height - 1) used all
 regrown_only told mid now_told pages mids free between now t all used child mid_is only apart_used tells frees =
     let on = tells_on (HasGiven t.root) mid now_told mids mid_is tells in
@@ -261,7 +262,7 @@ regrown_only told mid now_told pages mids free between now t all used child mid_
 
 pub whole_only : (k : Key) (told mid now_told : Option (List (List ℕ))) (free between now : ℕ → Bool) (size child : ℕ) (t : Tree) (rs : List Record)
     → IsRemoving free size t → UnderRoot k told mid free between t (removed.Only child)
-    → Tells (HasGiven t.root) mid now_told → FreesOnly t.root true between now → IsWhole told free size t rs
+    → Goes (HasGiven t.root) mid now_told → FreesOnly t.root true between now → IsWhole told free size t rs
     → (true ≡ list_any (has_key k) rs) × IsWhole now_told now size (record { root = child; height = t.height - 1; records = t.records - 1 }) (without k rs)
 whole_only k told mid now_told free between now size child t rs i f tells frees w =
     let a = at_root told free size t rs i w in

@@ -4,7 +4,8 @@ use Rattle.std.proofs.Common.{take, Option, Some, None, refl, sym, ◌∙◌, ap
 use Rattle.std.specs.List.{list_all, list_any, filter}
 use Rattle.std.proofs.lemmas.List.{take-take}
 use Rattle.std.proofs.lemmas.Bool.Decides.{nat_tests}
-use Rattle.quilt_store.specs.Store.{Tells, Touches, first_eight}
+use Rattle.quilt_store.specs.Store.{Touches, first_eight}
+use Rattle.quilt_world.specs.Tale.{Goes}
 use Rattle.quilt_btree.specs.Floors.{TouchesEach, AreAmongFirst}
 
 -- the page is one of these
@@ -156,21 +157,21 @@ turns_append (p ∷ ps) qs a b c s t = (s.0, s.1, turns_append ps qs s.0 b c s.2
 
 -- What a store tells of it.
 
-pub turns_first : (ps : List ℕ) (old new : Option (List ℕ)) → length ps ≤ 8 → Tells (TouchesEach ps) old new
-    → Tells (λ before now. AreAmongFirst ps now) old new
+pub turns_first : (ps : List ℕ) (old new : Option (List ℕ)) → length ps ≤ 8 → Goes (TouchesEach ps) old new
+    → Goes (λ before now. AreAmongFirst ps now) old new
 turns_first ps (Some old) (Some new) le t = record { each = all_touched ps old new le t }
 turns_first ps (Some old) None le t = t
 turns_first ps None (Some new) le t = t
 turns_first ps None None le t = t
 
-pub one_turn : (ps : List ℕ) (page : ℕ) (old new : Option (List ℕ)) → ps ≡ page ∷ [] → Tells (Touches page) old new → Tells (TouchesEach ps) old new
+pub one_turn : (ps : List ℕ) (page : ℕ) (old new : Option (List ℕ)) → ps ≡ page ∷ [] → Goes (Touches page) old new → Goes (TouchesEach ps) old new
 one_turn ps page (Some old) (Some new) e t = subst (λ l. TouchesEach l old new) (sym e) (new, t, refl)
 one_turn ps page (Some old) None e t = t
 one_turn ps page None (Some new) e t = t
 one_turn ps page None None e t = t
 
-pub more_turns : (ps qs rest : List ℕ) (a b c : Option (List ℕ)) → ps ≡ qs ++ rest → Tells (TouchesEach qs) a b → Tells (TouchesEach rest) b c
-    → Tells (TouchesEach ps) a c
+pub more_turns : (ps qs rest : List ℕ) (a b c : Option (List ℕ)) → ps ≡ qs ++ rest → Goes (TouchesEach qs) a b → Goes (TouchesEach rest) b c
+    → Goes (TouchesEach ps) a c
 more_turns ps qs rest (Some a) (Some b) (Some c) e s t = subst (λ l. TouchesEach l a c) (sym e) (turns_append qs rest a b c s t)
 more_turns ps qs rest (Some a) (Some b) None e s t = t
 more_turns ps qs rest (Some a) None c e s t = absurd s
@@ -180,13 +181,13 @@ more_turns ps qs rest None None None e s t = t
 
 -- the device below is not read where the pages are among the first
 abbrev pub Free : List ℕ → Option (List ℕ) → Option ℕ → Option ℕ → Type 0
-Free ps held old new = IfSome held (λ first. AreAmongFirst ps first → Tells (λ before now. now ≤ before) old new)
+Free ps held old new = IfSome held (λ first. AreAmongFirst ps first → Goes (λ before now. now ≤ before) old new)
 
 -- the call of the store says so of one page that it holds
 abbrev pub OneFree : ℕ → Option (List ℕ) → Option ℕ → Option ℕ → Type 0
-OneFree page held old new = IfSome held (λ pages. IsTrue (list_any (λ p. p == page) pages) → Tells (λ before now. now ≤ before) old new)
+OneFree page held old new = IfSome held (λ pages. IsTrue (list_any (λ p. p == page) pages) → Goes (λ before now. now ≤ before) old new)
 
-no_more : (a b c : Option ℕ) → Tells (λ before now. now ≤ before) a b → Tells (λ before now. now ≤ before) b c → Tells (λ before now. now ≤ before) a c
+no_more : (a b c : Option ℕ) → Goes (λ before now. now ≤ before) a b → Goes (λ before now. now ≤ before) b c → Goes (λ before now. now ≤ before) a c
 no_more (Some a) (Some b) (Some c) s t = omega arith
 no_more (Some a) (Some b) None s t = t
 no_more (Some a) None c s t = absurd s
@@ -205,7 +206,7 @@ part_free ps qs rest None a b e f = f
 part_free ps qs rest (Some held) a b e f = λ h.
     f (record { each = part_first qs rest held (subst (λ l. all_first l held ≡ true) e h.each) })
 
-pub more_free : (ps qs rest : List ℕ) (held now : Option (List ℕ)) (a b c : Option ℕ) → ps ≡ qs ++ rest → Tells (TouchesEach qs) held now
+pub more_free : (ps qs rest : List ℕ) (held now : Option (List ℕ)) (a b c : Option ℕ) → ps ≡ qs ++ rest → Goes (TouchesEach qs) held now
     → Free qs held a b → Free rest now b c → Free ps held a c
 more_free ps qs rest None None a b c e t f g = f
 more_free ps qs rest None (Some now) a b c e t f g = absurd t

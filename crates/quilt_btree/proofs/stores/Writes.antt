@@ -1,16 +1,17 @@
 -- What writing one page, or two of which one was free, does to the others.
 use Rattle.std.proofs.Common.{◌≡◌, ◌≢◌, ℕ, ◌+◌, ◌<◌, ◌≤◌, Bool, true, false, List, [], ◌∷◌, length, Option, Some, None, IfSome, slice_index_or, slice_set, refl}
 use Rattle.std.proofs.Common.{sym, ◌∙◌, subst, arith, length-set, get_or-set_other, get_or-set_same}
-use Rattle.quilt_store.specs.Store.{Tells, FreesOnly}
+use Rattle.quilt_store.specs.Store.{FreesOnly}
+use Rattle.quilt_world.specs.Tale.{Goes}
 use Rattle.quilt_btree.specs.Edits.{times, Moves}
 use Rattle.quilt_btree.proofs.lists.Rows.{SameOn}
 use Rattle.quilt_btree.proofs.lists.Counts.{times_here, times_other, in_times}
 use Rattle.quilt_btree.proofs.stores.Moves.{AreApart, moves_then, moves_taken, moves_written, used_account, free_not_used}
 
-pub tells_at : (step : List (List ℕ) → List (List ℕ) → Type 0) (a b : Option (List (List ℕ))) (x : List (List ℕ)) → Tells step a b → a ≡ Some x
+pub tells_at : (step : List (List ℕ) → List (List ℕ) → Type 0) (a b : Option (List (List ℕ))) (x : List (List ℕ)) → Goes step a b → a ≡ Some x
     → (y : List (List ℕ)) × (b ≡ Some y) × step x y
-tells_at step a None x t e = absurd (subst (λ o. Tells step o None) e t)
-tells_at step a (Some y) x t e = (y, refl, subst (λ o. Tells step o (Some y)) e t)
+tells_at step a None x t e = absurd (subst (λ o. Goes step o None) e t)
+tells_at step a (Some y) x t e = (y, refl, subst (λ o. Goes step o (Some y)) e t)
 
 pub if_some_at : {X : Type 0} (P : X → Type 0) (o : Option X) (x : X) → IfSome o P → o ≡ Some x → P x
 if_some_at P o x h e = subst (λ o. IfSome o P) e h

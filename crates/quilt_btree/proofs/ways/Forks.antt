@@ -10,7 +10,8 @@ use Rattle.quilt_record.specs.declared.record.Record.{Record}
 use Rattle.quilt_record.specs.Records.{key_cmp}
 use Rattle.quilt_node.specs.Pages.{Inner, leaf_of, inner_of}
 use Rattle.quilt_node.specs.Nodes.{are_pages, IsPlace, IsGap}
-use Rattle.quilt_store.specs.Store.{Tells, Touches}
+use Rattle.quilt_store.specs.Store.{Touches}
+use Rattle.quilt_world.specs.Tale.{Goes}
 use Rattle.quilt_types.specs.declared.stop.Stop.{Stop}
 use Rattle.quilt_btree.specs.Lists.{value_of}
 use Rattle.quilt_store.specs.Stops.{IsSound}
@@ -221,7 +222,7 @@ sound_last (Err e) old new page height size bytes child r is f = λ rs s.
 
 pub touched_last : (r : Result Record Stop) (old new : Option (List (List ℕ))) (page height size : ℕ) (bytes : List ℕ) (child : ℕ)
     (h0 h1 h2 : Option (List ℕ)) → IsRead old new page height size bytes → IsLast size bytes child
-    → Tells (Touches page) h0 h1
+    → Goes (Touches page) h0 h1
     → OnOk r ((rs : List Record) → Spells new child (height - 1) rs → TouchesInTurn (λ pages. last_pages pages (height - 1) child) new h1 h2)
     → OnOk r ((rs : List Record) → Spells old page height rs → TouchesInTurn (λ pages. last_pages pages height page) old h0 h2)
 touched_last (Err e) old new page height size bytes child h0 h1 h2 r is t f = f
@@ -231,7 +232,7 @@ touched_last (Ok x) old new page height size bytes child h0 h1 h2 r is t f = λ 
 
 pub again_last : (old new : Option (List (List ℕ))) (page height size : ℕ) (bytes : List ℕ) (child : ℕ) (h0 h1 : Option (List ℕ)) (a b c : Option ℕ)
     → IsRead old new page height size bytes → IsLast size bytes child
-    → Tells (Touches page) h0 h1 → OneFree page h0 a b
+    → Goes (Touches page) h0 h1 → OneFree page h0 a b
     → ((rs : List Record) → Spells new child (height - 1) rs → ReadsNone (λ pages. last_pages pages (height - 1) child) new h1 b c)
     → (rs : List Record) → Spells old page height rs → ReadsNone (λ pages. last_pages pages height page) old h0 a c
 again_last old new page height size bytes child h0 h1 a b c r is t f g = λ rs s.

@@ -6,7 +6,8 @@ use Rattle.std.proofs.lemmas.Bool.Decides.{nat_tests}
 use Rattle.quilt_record.specs.declared.key.Key.{Key}
 use Rattle.quilt_record.specs.declared.record.Record.{Record}
 use Rattle.quilt_node.specs.Pages.{Inner}
-use Rattle.quilt_store.specs.Store.{Tells, Touches}
+use Rattle.quilt_store.specs.Store.{Touches}
+use Rattle.quilt_world.specs.Tale.{Goes}
 use Rattle.quilt_types.specs.declared.stop.Stop.{Stop}
 use Rattle.quilt_btree.specs.Trees.{ReadsInner}
 use Rattle.quilt_btree.specs.Floors.{last_pages, finds_floor, floor_pages, before_child, place_of, TouchesInTurn, HoldsFirst, ReadsNone}
@@ -30,7 +31,7 @@ last_parts old new page height child n inner a pages is = last_splits pages heig
 
 pub last_touched : (r : Result Record Stop) (old new : Option (List (List ℕ))) (page height child n : ℕ) (inner : Inner) (h0 h1 h2 : Option (List ℕ))
     → AtLast old new page height child n inner
-    → Tells (Touches page) h0 h1 → OnOk r (TouchesInTurn (λ pages. last_pages pages (height - 1) child) new h1 h2)
+    → Goes (Touches page) h0 h1 → OnOk r (TouchesInTurn (λ pages. last_pages pages (height - 1) child) new h1 h2)
     → OnOk r (TouchesInTurn (λ pages. last_pages pages height page) old h0 h2)
 last_touched (Err e) old new page height child n inner h0 h1 h2 a t f = f
 last_touched (Ok x) old new page height child n inner h0 h1 h2 a t f = λ pages is.
@@ -40,7 +41,7 @@ last_touched (Ok x) old new page height child n inner h0 h1 h2 a t f = λ pages 
 
 pub last_again : (old new : Option (List (List ℕ))) (page height child n : ℕ) (inner : Inner) (h0 h1 : Option (List ℕ)) (a b c : Option ℕ)
     → AtLast old new page height child n inner
-    → Tells (Touches page) h0 h1 → OneFree page h0 a b → ReadsNone (λ pages. last_pages pages (height - 1) child) new h1 b c
+    → Goes (Touches page) h0 h1 → OneFree page h0 a b → ReadsNone (λ pages. last_pages pages (height - 1) child) new h1 b c
     → ReadsNone (λ pages. last_pages pages height page) old h0 a c
 last_again old new page height child n inner h0 h1 a b c at t f g = λ pages is.
     more_free (last_pages pages height page) (page ∷ []) (last_pages pages (height - 1) child) h0 h1 a b c
@@ -60,7 +61,7 @@ floor_parts old new page height child i k inner a place pages is =
 -- no more is read than under it
 pub floor_touched : (old new : Option (List (List ℕ))) (page height child i : ℕ) (k : Key) (inner : Inner) (h0 h1 h2 : Option (List ℕ))
     → AtFloor old new page height child i k inner → i ≡ place_of k inner
-    → Tells (Touches page) h0 h1 → TouchesInTurn (λ pages. floor_pages pages k (height - 1) child) new h1 h2
+    → Goes (Touches page) h0 h1 → TouchesInTurn (λ pages. floor_pages pages k (height - 1) child) new h1 h2
     → ((pages : List (List ℕ)) → new ≡ Some pages → before_in pages k height inner i ≡ [])
     → TouchesInTurn (λ pages. floor_pages pages k height page) old h0 h2
 floor_touched old new page height child i k inner h0 h1 h2 a place t f none = λ pages is.
@@ -71,7 +72,7 @@ floor_touched old new page height child i k inner h0 h1 h2 a place t f none = λ
 
 pub floor_again : (old new : Option (List (List ℕ))) (page height child i : ℕ) (k : Key) (inner : Inner) (h0 h1 : Option (List ℕ)) (a b c : Option ℕ)
     → AtFloor old new page height child i k inner → i ≡ place_of k inner
-    → Tells (Touches page) h0 h1 → OneFree page h0 a b → ReadsNone (λ pages. floor_pages pages k (height - 1) child) new h1 b c
+    → Goes (Touches page) h0 h1 → OneFree page h0 a b → ReadsNone (λ pages. floor_pages pages k (height - 1) child) new h1 b c
     → ReadsNone (λ pages. floor_pages pages k height page) old h0 a c
 floor_again old new page height child i k inner h0 h1 a b c at place t f g = λ pages is.
     let under = floor_pages pages k (height - 1) child in
@@ -85,7 +86,7 @@ pub floor_touched_more : (old new newer : Option (List (List ℕ))) (page height
     (h0 h1 h2 h3 : Option (List ℕ)) → AtFloor old new page height child i k inner
     → i ≡ place_of k inner → i ≢ 0 → newer ≡ old → prior ≡ slice_index inner.children (i - 1)
     → ((pages : List (List ℕ)) → new ≡ Some pages → finds_floor pages k (height - 1) child ≡ false)
-    → Tells (Touches page) h0 h1 → TouchesInTurn (λ pages. floor_pages pages k (height - 1) child) new h1 h2
+    → Goes (Touches page) h0 h1 → TouchesInTurn (λ pages. floor_pages pages k (height - 1) child) new h1 h2
     → TouchesInTurn (λ pages. last_pages pages (height - 1) prior) newer h2 h3
     → TouchesInTurn (λ pages. floor_pages pages k height page) old h0 h3
 floor_touched_more old new newer page height child prior i k inner h0 h1 h2 h3 a place ne told was lacks t f g = λ pages is.
@@ -101,7 +102,7 @@ pub floor_again_more : (old new newer : Option (List (List ℕ))) (page height c
     (h0 h1 h2 : Option (List ℕ)) (a b c d : Option ℕ) → AtFloor old new page height child i k inner
     → i ≡ place_of k inner → i ≢ 0 → newer ≡ old → prior ≡ slice_index inner.children (i - 1)
     → ((pages : List (List ℕ)) → new ≡ Some pages → finds_floor pages k (height - 1) child ≡ false)
-    → Tells (Touches page) h0 h1 → OneFree page h0 a b → TouchesInTurn (λ pages. floor_pages pages k (height - 1) child) new h1 h2
+    → Goes (Touches page) h0 h1 → OneFree page h0 a b → TouchesInTurn (λ pages. floor_pages pages k (height - 1) child) new h1 h2
     → ReadsNone (λ pages. floor_pages pages k (height - 1) child) new h1 b c
     → ReadsNone (λ pages. last_pages pages (height - 1) prior) newer h2 c d → ReadsNone (λ pages. floor_pages pages k height page) old h0 a d
 floor_again_more old new newer page height child prior i k inner h0 h1 h2 a b c d at place ne told was lacks t f s g l = λ pages is.

@@ -7,7 +7,6 @@ ghost use Rattle.quilt_world.specs.Doors.{IsOpen, TakesFrom};
 ghost use Rattle.quilt_world.specs.declared.event.Event.TheVariants.{Put};
 ghost use Rattle.quilt_world.specs.declared.disk.Door.TheVariants as doors;
 ghost use Rattle.quilt_world.specs.Causes.{HasCause};
-ghost use Rattle.quilt_store.specs.Store.{Tells};
 ghost use Rattle.quilt_journal.specs.Writing.{Writing};
 ghost use Rattle.quilt_journal.specs.Kept.{published};
 ghost use Rattle.quilt_node.specs.Pages.{IsHead, header_bytes};
@@ -160,7 +159,7 @@ impl<W: Disk> Book<W> {
         ensures head { OnOk result ((last_of self.new ≡ next_of self.old) × (work_of self.new ≡ next_of self.old)) }
         ensures changed { OnOk result (⟦<Book<W> as PageStore>⟧.changed self.new ≡ 0) }
         ensures told { OnOk result
-            (Tells (λ old new. new ≡ slice_set old 0 (header_bytes (next_of self.old))) (⟦<Book<W> as PageStore>⟧.told self.old)
+            (Goes (λ old new. new ≡ slice_set old 0 (header_bytes (next_of self.old))) (⟦<Book<W> as PageStore>⟧.told self.old)
             (⟦<Book<W> as PageStore>⟧.told self.new)) }
         ensures writes { Goes (Writing (2 * ⟦<Book<W> as PageStore>⟧.changed self.old + 5)) (W.told (world_of self.old)) (W.told (world_of self.new)) }
         ensures free { ⟦<Book<W> as PageStore>⟧.free self.new ≡ ⟦<Book<W> as PageStore>⟧.free self.old }

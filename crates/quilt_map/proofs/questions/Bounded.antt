@@ -6,7 +6,7 @@ use Rattle.quilt_types.specs.declared.plane.Window.{Window}
 use Rattle.quilt_types.specs.declared.stop.Stop.{Stop}
 use Rattle.quilt_words.specs.declared.command.Command.{Command}
 use Rattle.quilt_words.specs.declared.command.Command.TheVariants as commands
-use Rattle.quilt_store.specs.Store.{Tells as StoreTells}
+use Rattle.quilt_world.specs.Tale.{Goes}
 use Rattle.quilt_replies.specs.Answers.{State, layer, capacity_in, segs_in, cover_in}
 use Rattle.quilt_replies.specs.declared.reply.Reply.{Reply}
 use Rattle.quilt_map.specs.Reading.{is_bounded, IsAnsweredOk, IsPromised, ReadsFew, is_at, warm_left}
@@ -37,12 +37,12 @@ module _ (At : State → Type 0) (before now : Option ℕ) where
   pub unbounded_reads : (c : Command) (r : Result Reply Stop) → is_bounded c ≡ false → (s : State) → At s → IsPromised s c r → ReadsFew s c before now
   unbounded_reads c r none s at promised = absurd (promised_not s c r none promised)
 
-  pub at_reads : (c : Command) (a : List ℕ) (p : Pixel) (r : Result Reply Stop) → c ≡ commands.At a p → StoreTells (λ old new. new ≤ old + 6) before now
+  pub at_reads : (c : Command) (a : List ℕ) (p : Pixel) (r : Result Reply Stop) → c ≡ commands.At a p → Goes (λ old new. new ≤ old + 6) before now
       → (s : State) → At s → IsPromised s c r → ReadsFew s c before now
   at_reads c a p r is h s at promised = subst (λ (x : Command). ReadsFew s x before now) (sym is) h
 
   pub find_reads : (c : Command) (a : List ℕ) (p : Pixel) (r : Result Reply Stop) → c ≡ commands.Find a p
-      → ((s : State) → At s → StoreTells (λ old new. new ≤ old + (if capacity_in (layer s a) == 1 then 6 else 9)) before now)
+      → ((s : State) → At s → Goes (λ old new. new ≤ old + (if capacity_in (layer s a) == 1 then 6 else 9)) before now)
       → (s : State) → At s → IsPromised s c r → ReadsFew s c before now
   find_reads c a p r is h s at promised = subst (λ (x : Command). ReadsFew s x before now) (sym is) (h s at)
 
@@ -50,10 +50,10 @@ module _ (At : State → Type 0) (before now : Option ℕ) where
   abbrev Costs : Command → List ℕ → Result Reply Stop → Type 0
   Costs c l r =
       IfOk r (λ reply. (s : State) → At s → HasFound c (segs_in (layer s l)) → IsAnswered reply
-      → StoreTells (λ old new. new ≤ old + pages_for s.last.level c (segs_in (layer s l)) (cover_in (layer s l))) before now)
+      → Goes (λ old new. new ≤ old + pages_for s.last.level c (segs_in (layer s l)) (cover_in (layer s l))) before now)
 
   costs_now : (c : Command) (l : List ℕ) (r : Result Reply Stop) → Costs c l r → (s : State) → At s → HasFound c (segs_in (layer s l)) → IsAnsweredOk r
-      → StoreTells (λ old new. new ≤ old + pages_for s.last.level c (segs_in (layer s l)) (cover_in (layer s l))) before now
+      → Goes (λ old new. new ≤ old + pages_for s.last.level c (segs_in (layer s l)) (cover_in (layer s l))) before now
   costs_now c l (Ok reply) h s at found answered = h s at found answered
   costs_now c l (Err e) h s at found answered = absurd answered
 

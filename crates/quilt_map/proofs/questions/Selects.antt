@@ -12,7 +12,7 @@ use Rattle.quilt_types.specs.Ranking.{ranked}
 use Rattle.quilt_words.specs.Fitting.{IsFitting}
 use Rattle.quilt_words.specs.declared.command.Command.{Command}
 use Rattle.quilt_words.specs.declared.command.Command.TheVariants as commands
-use Rattle.quilt_store.specs.Store.{Tells as StoreTells}
+use Rattle.quilt_world.specs.Tale.{Goes}
 use Rattle.quilt_replies.specs.Answers as answers
 use Rattle.quilt_replies.specs.Answers.{State, Outcome, Reply, Done, Refused, answer, unless, unknown, unless_lines, unless_region, outside, is_lines}
 use Rattle.quilt_replies.specs.Answers.{is_region, layer, segs_in, cover_in, grid_in, grid, nearest_lines, ranked_line, pair_line}
@@ -92,11 +92,11 @@ module _ (command : Command) (name : List ℕ) (is : layer_asked command ≡ Som
 
     -- what the answer may cost, by the state
     pub ask_reads : (n : ℕ) (reply : replies.Reply) (before now : Option ℕ) → n ≡ s.last.level
-        → (HasFound command segs → IsAnswered reply → StoreTells (λ old new. new ≤ old + pages_for n command segs cover) before now)
-        → HasFound command (segs_in (layer s name)) → IsAnswered reply → StoreTells
+        → (HasFound command segs → IsAnswered reply → Goes (λ old new. new ≤ old + pages_for n command segs cover) before now)
+        → HasFound command (segs_in (layer s name)) → IsAnswered reply → Goes
         (λ old new. new ≤ old + pages_for s.last.level command (segs_in (layer s name)) (cover_in (layer s name))) before now
     ask_reads n reply before now same h =
-        let Costs : ℕ → Option Layer → Type 0 = λ m o. HasFound command (segs_in o) → IsAnswered reply → StoreTells
+        let Costs : ℕ → Option Layer → Type 0 = λ m o. HasFound command (segs_in o) → IsAnswered reply → Goes
         (λ old new. new ≤ old + pages_for m command (segs_in o) (cover_in o)) before now in
         subst (λ (o : Option Layer). Costs s.last.level o) (sym got) (subst (λ (m : ℕ). Costs m (Some (Lines threshold segs cover))) same h)
 

@@ -26,7 +26,7 @@ use Rattle.quilt_words.specs.declared.command.Command.TheVariants as commands
 use Rattle.quilt_loc.specs.Codes.{Rises}
 use Rattle.quilt_loc.proofs.Blocks.{side_most}
 use Rattle.quilt_loc.proofs.Members.{Contains-here, Contains-there}
-use Rattle.quilt_store.specs.Store.{Tells as StoreTells}
+use Rattle.quilt_world.specs.Tale.{Goes}
 use Rattle.quilt_node.specs.Pages.{IsHead}
 use Rattle.quilt_node.specs.declared.head.Head.{Head}
 use Rattle.quilt_btree.specs.Trees.{IsRooted}
@@ -193,10 +193,10 @@ module _ (command : Command) (segs : SegMap) (l : List ℕ) where
 
     -- what it may cost
     pub nearest_costs : (n : ℕ) (cover : BlockSet) (before now : Option ℕ) (e : ℕ × Fraction) → o ≡ Some e
-        → IfSome o (λ a. StoreTells (λ old new. new ≤ old + reach n segs cover (is_close p a.1)) before now) → StoreTells
+        → IfSome o (λ a. Goes (λ old new. new ≤ old + reach n segs cover (is_close p a.1)) before now) → Goes
         (λ old new. new ≤ old + pages_for n command segs cover) before now
     nearest_costs n cover before now e some h =
-        let Cost : (Block → Bool) → Type 0 = λ test. StoreTells (λ old new. new ≤ old + reach n segs cover test) before now in
+        let Cost : (Block → Bool) → Type 0 = λ test. Goes (λ old new. new ≤ old + reach n segs cover test) before now in
         let one : Cost (is_close p e.1) = subst (λ (x : Option (ℕ × Fraction)). IfSome x (λ a. Cost (is_close p a.1))) some h in
         let near : is_asked command segs ≡ is_near p (Some e) = ap (λ (c : Command). is_asked c segs) is ∙ ap (is_near p) (sym found ∙ some) in
         subst Cost (sym near) one
@@ -226,10 +226,10 @@ module _ (command : Command) (segs : SegMap) (l : List ℕ) where
 
 -- what a window may cost
 pub window_costs : (command : Command) (segs : SegMap) (cover : BlockSet) (n : ℕ) (w : Window) (before now : Option ℕ) → is_asked command segs ≡ is_touching w
-    → StoreTells (λ old new. new ≤ old + reach n segs cover (is_touching w)) before now → StoreTells
+    → Goes (λ old new. new ≤ old + reach n segs cover (is_touching w)) before now → Goes
     (λ old new. new ≤ old + pages_for n command segs cover) before now
 window_costs command segs cover n w before now is h = subst
-    (λ (test : Block → Bool). StoreTells (λ old new. new ≤ old + reach n segs cover test) before now) (sym is) h
+    (λ (test : Block → Bool). Goes (λ old new. new ≤ old + reach n segs cover test) before now) (sym is) h
 
 -- the ids over a region
 pub over_body : (n : ℕ) (g : Grid) (segs : SegMap) (list items : List (ℕ × Seg)) → list ≡ filter (λ e. is_over n g e.1) (finmap.entries segs) → items ≡ list
@@ -242,9 +242,9 @@ over_body n g segs list items all same t written = record {
 
 -- the cost at the view's level
 pub costs_at : (command : Command) (segs : SegMap) (cover : BlockSet) (m n : ℕ) (before now : Option ℕ) → m ≡ n
-    → StoreTells (λ old new. new ≤ old + pages_for m command segs cover) before now → StoreTells
+    → Goes (λ old new. new ≤ old + pages_for m command segs cover) before now → Goes
     (λ old new. new ≤ old + pages_for n command segs cover) before now
-costs_at command segs cover m n before now same h = subst (λ (k : ℕ). StoreTells (λ old new. new ≤ old + pages_for k command segs cover) before now) same h
+costs_at command segs cover m n before now same h = subst (λ (k : ℕ). Goes (λ old new. new ≤ old + pages_for k command segs cover) before now) same h
 
 -- ---- ids that rise
 all_by : {X : Type 0} (P : X → Type 0) (xs : List X) → ((y : X) → Contains xs y → P y) → AllByRecursion P xs

@@ -9,7 +9,7 @@ use Rattle.quilt_record.specs.declared.entry.Entry.{Entry}
 use Rattle.quilt_record.specs.declared.record.Record.{Record}
 use Rattle.quilt_record.specs.Records.{Numbering}
 use Rattle.quilt_node.specs.declared.head.Head.{Head}
-use Rattle.quilt_store.specs.Store.{Tells as StoreTells}
+use Rattle.quilt_world.specs.Tale.{Goes}
 use Rattle.quilt_btree.specs.Floors.{AreAmongFirst}
 use Rattle.quilt_btree.specs.Trees.{IsTree}
 use Rattle.quilt_spell.specs.Catalogued.{IsCatalogOf}
@@ -52,7 +52,7 @@ module _ (entries : List Entry) (told : Option Pages) (h : Head) (held : List �
       (kept.are_first w e layers numbers catalog rs tree pages tells)
 
 -- where nothing was read
-pub reads_same : (reads : Option ℕ) → StoreTells (λ before now. now ≤ before) reads reads
+pub reads_same : (reads : Option ℕ) → Goes (λ before now. now ≤ before) reads reads
 reads_same None = tt
 reads_same (Some n) = omega arith
 

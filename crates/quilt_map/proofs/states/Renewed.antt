@@ -12,7 +12,6 @@ use Rattle.quilt_world.specs.Home.{page_of}
 use Rattle.quilt_world.specs.Tale.{Tale, Goes}
 use Rattle.quilt_world.specs.declared.disk.Disk as disk
 use Rattle.quilt_world.proofs.StopLaws.{since_weaker}
-use Rattle.quilt_store.specs.Store.{Tells}
 use Rattle.quilt_journal.specs.Kept.{HasHome, published}
 use Rattle.quilt_journal.specs.Writing.{Writing}
 use Rattle.quilt_record.specs.declared.entry.Entry.{Entry}
@@ -38,12 +37,12 @@ use Rattle.quilt_map.proofs.states.Keeping.{book_stands}
 use Rattle.quilt_map.proofs.states.Moving.{goes_to, law_of, IsLawful, spelled_as}
 use Rattle.quilt_map.proofs.states.ZeroPage.{whole_over}
 
-tells_from : (R : Pages → Pages → Type 0) (t : Pages) (b : Option Pages) → Tells R (Some t) b → (u : Pages) × (b ≡ Some u) × R t u
+tells_from : (R : Pages → Pages → Type 0) (t : Pages) (b : Option Pages) → Goes R (Some t) b → (u : Pages) × (b ≡ Some u) × R t u
 tells_from R t (Some u) step = (u, refl, step)
 tells_from R t None step = absurd step
 
-pub tells_to : (R : Pages → Pages → Type 0) (a b : Option Pages) (t : Pages) → a ≡ Some t → Tells R a b → (u : Pages) × (b ≡ Some u) × R t u
-tells_to R a b t e step = tells_from R t b (subst (λ (o : Option Pages). Tells R o b) e step)
+pub tells_to : (R : Pages → Pages → Type 0) (a b : Option Pages) (t : Pages) → a ≡ Some t → Goes R a b → (u : Pages) × (b ≡ Some u) × R t u
+tells_to R a b t e step = tells_from R t b (subst (λ (o : Option Pages). Goes R o b) e step)
 
 -- the same map under another header with the same tree, over pages with another page 0
 pub spelled_over : (pages : Pages) (free now : ℕ → Bool) (n : ℕ) (h k : Head) (entries : List Entry) (e : Edition) (bytes : List ℕ)
@@ -138,7 +137,7 @@ module _ {W : Type 0} {D : disk.Ghosts W} (session : Session W D) (s : State) (e
   -- and then the edition is the last one
   pub is_renewed : (b : Book W D) (last : List Entry) → last ≡ session.catalog → books.IsReady b → b.journal.pages ≡ n → b.last ≡ next
       → b.work ≡ next → changed_of b ≡ 0
-      → Tells (λ old new. new ≡ set old 0 (header_bytes next)) (told_of session.book) (told_of b) → free_of b ≡ free_of session.book
+      → Goes (λ old new. new ≡ set old 0 (header_bytes next)) (told_of session.book) (told_of b) → free_of b ≡ free_of session.book
       → ((p : ℕ) → books.published_free b p ≡ free_of session.book p) → Goes (books.HasPublished session.book b) (D.told session.book.world) (D.told b.world)
       → IsLawful (D.size b.world) (D.told b.world)
       → IsRenewed (record { book = b; catalog = session.catalog; last = last; changes = 0; warm = session.warm; alloc = session.alloc }) s e

@@ -1,7 +1,7 @@
 use Rattle.std.proofs.Common.{◌≡◌, ℕ, ◌+◌, ◌-◌, ◌*◌, ◌≤◌, length, get_or}
 use Rattle.quilt_types.specs.Layers.{PointMap}
 use Rattle.quilt_store.specs.Calls.{IsOnlyRead}
-use Rattle.quilt_store.specs.Store.{Tells}
+use Rattle.quilt_world.specs.Tale.{Goes}
 use Rattle.quilt_points.specs.Layers.{HasPoints}
 use Rattle.quilt_points.proofs.Countings.{AreSeen}
 use Rattle.quilt_points.proofs.counting.block_counts.Given as goal
@@ -15,6 +15,6 @@ invariant-loop-code g l = record {
   most : (k : ℕ) → get_or l.counts k 0 ≤ l.code;
   seen : (points : PointMap) → HasPoints (g.S.PageStore.told l.initial.store) l.tree l.layer l.level l.bucket points
       → (s : AreSeen l.level l.bucket points l.code l.counts)
-      × Tells (λ old new. new ≤ old + 6 * length s.blocks) (g.S.PageStore.reads l.initial.store) (g.S.PageStore.reads l.store);
+      × Goes (λ old new. new ≤ old + 6 * length s.blocks) (g.S.PageStore.reads l.initial.store) (g.S.PageStore.reads l.store);
   left : IsOnlyRead g.S.PageStore l.initial.store l.store;
 }

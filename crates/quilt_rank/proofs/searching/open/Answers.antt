@@ -1,6 +1,6 @@
 use Rattle.std.proofs.Common.{◌≡◌, ◌+◌, ◌≤◌, All, true, fold, refl, sym, ◌∙◌, ap, subst}
 use Rattle.quilt_types.specs.Layers.{is_in_square}
-use Rattle.quilt_store.specs.Store.{Tells}
+use Rattle.quilt_world.specs.Tale.{Goes}
 use Rattle.quilt_loc.proofs.Blocks.{IsBlock-up}
 use Rattle.quilt_near.specs.Parts.{IsPart, IsPartOf, pages_for}
 use Rattle.quilt_near.specs.declared.part.Part.{Part}
@@ -24,7 +24,7 @@ returns-in-Ok-Leaf-clause-opened g c = record {
   found_of = subst (λ (part : Part). IsPartOf (g.B.SegBlocks.level_of c.args.blocks.now) c.args.b part) c.in-Ok-Leaf.field-0-is c.in-Ok-Leaf.ensures.part_of;
   after = (refl, c.in-Ok.ensures ∙ ap (fold (with_seg c.args.p c.args.k) c.args.ranks.now) c.items.ensures);
   reads =
-      subst (λ (part : Part). Tells (λ old new. new ≤ old + pages_for part) (g.S.PageStore.reads c.args.store.now)
+      subst (λ (part : Part). Goes (λ old new. new ≤ old + pages_for part) (g.S.PageStore.reads c.args.store.now)
       (g.S.PageStore.reads c.part.new.store)) c.in-Ok-Leaf.field-0-is c.in-Ok-Leaf.ensures.reads;
 }
 
@@ -35,6 +35,6 @@ returns-clause-opened g c = record {
   found_of = subst (λ (part : Part). IsPartOf (g.B.SegBlocks.level_of c.args.blocks.now) c.args.b part) c.in-Ok-Split.field-0-is c.in-Ok-Split.ensures.part_of;
   after = (c.in-Ok-push_quarters.ensures, refl);
   reads =
-      subst (λ (part : Part). Tells (λ old new. new ≤ old + pages_for part) (g.S.PageStore.reads c.args.store.now)
+      subst (λ (part : Part). Goes (λ old new. new ≤ old + pages_for part) (g.S.PageStore.reads c.args.store.now)
       (g.S.PageStore.reads c.part.new.store)) c.in-Ok-Split.field-0-is c.in-Ok-Split.ensures.reads;
 }

@@ -1,7 +1,7 @@
 use Rattle.std.proofs.Common.{◌≡◌, ◌+◌, ◌≤◌, List, length, sym, ◌∙◌, subst, arith}
 use Rattle.quilt_store.proofs.Reading.{only_reads_then, only_reads_same, read_on, only_reads_err}
 use Rattle.quilt_types.specs.Quadtrees.{reach}
-use Rattle.quilt_store.specs.Store.{Tells}
+use Rattle.quilt_world.specs.Tale.{Goes}
 use Rattle.quilt_near.specs.Budgets.{is_close}
 use Rattle.quilt_rank.specs.Ranks.{last_far}
 use Rattle.quilt_rank.proofs.Orders.{Rank}
@@ -85,7 +85,7 @@ pub returns-clause-reads : goal.returns-clause-reads
 returns-clause-reads g c l s long =
     subst
     (λ (t : List Rank). length t ≡ c.args.k
-    → Tells (λ old new. new ≤ old + reach (g.B.SegBlocks.level_of c.args.blocks.now) l.segs l.cover (is_close c.args.p (last_far t)))
+    → Goes (λ old new. new ≤ old + reach (g.B.SegBlocks.level_of c.args.blocks.now) l.segs l.cover (is_close c.args.p (last_far t)))
     (g.S.PageStore.reads c.args.store.now) (g.S.PageStore.reads c.loop-distance.store))
     (sym c.in-Ok-listed.ensures)
     (going_reads _ c.args.p c.args.k c.requires.some (g.B.SegBlocks.shows c.args.blocks.now c.args.store.now)

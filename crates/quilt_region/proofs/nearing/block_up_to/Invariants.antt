@@ -2,7 +2,7 @@ use Rattle.std.proofs.Common.{◌≡◌, ℕ, ◌+◌, ◌-◌, ◌*◌, ◌^◌
 use Rattle.quilt_types.specs.Plane.{IsBlock, Within}
 use Rattle.quilt_types.specs.Layers.{Grid}
 use Rattle.quilt_store.specs.Calls.{IsOnlyRead}
-use Rattle.quilt_store.specs.Store.{Tells}
+use Rattle.quilt_world.specs.Tale.{Goes}
 use Rattle.quilt_region.specs.Regions.{HasRegion}
 use Rattle.quilt_region.specs.Windows.{HasAround, IsCutOut}
 use Rattle.quilt_region.proofs.nearing.block_up_to.Given as goal
@@ -19,5 +19,5 @@ invariant-loop-larger g l = record {
       → IsCutOut l.level grid l.top;
   left : IsOnlyRead g.S.PageStore l.initial.store l.store;
   reads : (j k : ℕ) → l.fn.b.side ≡ 2 ^ j → l.top.side ≡ 2 ^ k
-      → Tells {A = ℕ} (λ old new. new + 24 * j ≤ old + 24 * k) (g.S.PageStore.reads l.initial.store) (g.S.PageStore.reads l.store);
+      → Goes {A = ℕ} (λ old new. new + 24 * j ≤ old + 24 * k) (g.S.PageStore.reads l.initial.store) (g.S.PageStore.reads l.store);
 }

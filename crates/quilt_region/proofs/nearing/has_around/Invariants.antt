@@ -4,7 +4,7 @@ use Rattle.quilt_types.specs.Plane.{quarters_of}
 use Rattle.quilt_types.specs.Layers.{Grid}
 use Rattle.quilt_types.specs.Quadtrees.{leaves}
 use Rattle.quilt_store.specs.Calls.{IsOnlyRead}
-use Rattle.quilt_store.specs.Store.{Tells}
+use Rattle.quilt_world.specs.Tale.{Goes}
 use Rattle.quilt_region.specs.Regions.{HasRegion}
 use Rattle.quilt_region.proofs.nearing.has_around.Given as goal
 
@@ -13,5 +13,5 @@ invariant-loop-q g l = record {
   others : (j : ℕ) (d : Block) (grid : Grid) → j < l.q-index → HasRegion (g.S.PageStore.told l.initial.store) l.tree l.layer l.level grid
       → (get_or (quarters_of l.fn.larger) j d ≡ l.b → ⊥) → Contains (leaves l.level grid) (get_or (quarters_of l.fn.larger) j d, l.c.0);
   left : IsOnlyRead g.S.PageStore l.initial.store l.store;
-  reads : Tells {A = ℕ} (λ old new. new ≤ old + 6 * l.q-index) (g.S.PageStore.reads l.initial.store) (g.S.PageStore.reads l.store);
+  reads : Goes {A = ℕ} (λ old new. new ≤ old + 6 * l.q-index) (g.S.PageStore.reads l.initial.store) (g.S.PageStore.reads l.store);
 }

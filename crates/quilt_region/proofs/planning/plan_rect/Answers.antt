@@ -4,7 +4,7 @@ use Rattle.quilt_store.proofs.Reading.{only_reads_then}
 use Rattle.quilt_types.specs.declared.plane.Block.{Block}
 use Rattle.quilt_types.specs.Plane.{IsBlock}
 use Rattle.quilt_types.specs.Layers.{Grid}
-use Rattle.quilt_store.specs.Store.{Tells}
+use Rattle.quilt_world.specs.Tale.{Goes}
 use Rattle.quilt_record.specs.declared.edits.Edits.{Edits}
 use Rattle.quilt_region.specs.Regions.{HasRegion}
 use Rattle.quilt_region.specs.Windows.{HoldsWindow, leaves_within}
@@ -26,7 +26,7 @@ returns-in-Ok-Some-clause-reads g c grid b h hb holds =
     reads_more (144 + 3 * own) (15 + 24 * n + 3 * own) _ _ (omega arith)
     (some_at (λ (edits : Edits). (grid : Grid) (a : Block) → HasRegion (g.S.PageStore.told c.args.store.now) c.args.tree.now c.args.layer n grid
     → IsBlock n a → HoldsWindow a c.args.w
-    → Tells {A = ℕ} (λ old new. new ≤ old + (144 + 3 * length (leaves_within n grid a))) (g.S.PageStore.reads c.args.store.now)
+    → Goes {A = ℕ} (λ old new. new ≤ old + (144 + 3 * length (leaves_within n grid a))) (g.S.PageStore.reads c.args.store.now)
     (g.S.PageStore.reads c.plan_apart.new.store)) c.in-Ok-Some.field-0 c.in-Ok-Some.edits c.in-Ok-Some.field-0-is
     c.in-Ok-Some.ensures.reads grid b h hb holds)
 

@@ -1,6 +1,6 @@
 use Rattle.std.proofs.Common.{ℕ, ◌+◌, ◌*◌, ◌≤◌, length, ◌∙◌, ap, subst, arith}
 use Rattle.quilt_record.specs.declared.key.Key.{Key}
-use Rattle.quilt_store.specs.Store.{Tells}
+use Rattle.quilt_world.specs.Tale.{Goes}
 use Rattle.quilt_store.proofs.Reading.{only_reads_free}
 use Rattle.quilt_region.proofs.Records.{range_read, region_length}
 use Rattle.quilt_region.proofs.Results.{list_whole, sound_whole, if_ok}
@@ -40,5 +40,5 @@ returns-in-Ok-clause-reads g c =
     (ap (λ (k : Key). k.layer) c.first_key-first.ensures) (ap (λ (k : Key). k.part) c.first_key-first.ensures)
     (ap (λ (k : Key). k.layer) c.last_key-last.ensures) (ap (λ (k : Key). k.part) c.last_key-last.ensures) (omega arith) c.in-Ok.ensures.range h in
     let many = c.in-Ok.records.ok.0 ∙ ap length all ∙ region_length n c.args.layer grid in
-    subst (λ (k : ℕ). Tells {A = ℕ} (λ old new. new ≤ old + 6 + 3 * k) (g.S.PageStore.reads c.args.store.now)
+    subst (λ (k : ℕ). Goes {A = ℕ} (λ old new. new ≤ old + 6 + 3 * k) (g.S.PageStore.reads c.args.store.now)
     (g.S.PageStore.reads c.range.new.store)) many c.in-Ok.ensures.reads)

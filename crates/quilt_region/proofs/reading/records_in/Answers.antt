@@ -1,6 +1,6 @@
 use Rattle.std.proofs.Common.{ℕ, ◌+◌, ◌*◌, ◌≤◌, length, refl, ◌∙◌, ap, subst, arith}
 use Rattle.quilt_loc.proofs.Blocks.{IsBlock-up, side_most}
-use Rattle.quilt_store.specs.Store.{Tells}
+use Rattle.quilt_world.specs.Tale.{Goes}
 use Rattle.quilt_blocks.proofs.Chains.{member_pos}
 use Rattle.quilt_region.proofs.WithinKeys.{length_within, read_within}
 use Rattle.quilt_region.proofs.reading.records_in.Goals as goal
@@ -57,5 +57,5 @@ returns-in-Ok-clause-reads g c grid h =
     })
     (omega arith) c.in-Ok.ensures.range h in
     let many = c.in-Ok.records.ok.0 ∙ ap length all ∙ length_within n c.args.layer grid c.args.b in
-    subst (λ (k : ℕ). Tells {A = ℕ} (λ old new. new ≤ old + 6 + 3 * k) (g.S.PageStore.reads c.args.store.now)
+    subst (λ (k : ℕ). Goes {A = ℕ} (λ old new. new ≤ old + 6 + 3 * k) (g.S.PageStore.reads c.args.store.now)
     (g.S.PageStore.reads c.range.new.store)) many c.in-Ok.ensures.reads

@@ -4,7 +4,7 @@ use Rattle.quilt_types.specs.Plane.{quarters_of}
 use Rattle.quilt_types.specs.Layers.{Grid}
 use Rattle.quilt_loc.specs.Codes.{code_from}
 use Rattle.quilt_store.specs.Calls.{IsOnlyRead}
-use Rattle.quilt_store.specs.Store.{Tells}
+use Rattle.quilt_world.specs.Tale.{Goes}
 use Rattle.quilt_region.specs.Painting.{HasColours}
 use Rattle.quilt_region.specs.Regions.{HasRegion}
 use Rattle.quilt_region.specs.Covers.{cover_of, cover_colour, cost_in}
@@ -22,6 +22,6 @@ invariant-loop-q g l = record {
       → HasColours l.level (cover_colour l.level grid l.side l.w) l.maker.colours;
   left : IsOnlyRead g.S.PageStore l.initial.store l.store;
   reads : (grid : Grid) → HasRegion (g.S.PageStore.told l.initial.store) l.tree l.layer l.level grid
-      → Tells {A = ℕ} (λ old new. new ≤ old + sum_by (cost_in l.level grid (cover_of l.side l.w)) (take l.q-index (quarters_of l.fn.b)))
+      → Goes {A = ℕ} (λ old new. new ≤ old + sum_by (cost_in l.level grid (cover_of l.side l.w)) (take l.q-index (quarters_of l.fn.b)))
       (g.S.PageStore.reads l.initial.store) (g.S.PageStore.reads l.store);
 }

@@ -1,6 +1,6 @@
 use Rattle.std.proofs.Common.{◌≡◌, ℕ, ◌+◌, ◌*◌, ◌^◌, ◌≤◌, length, sym, ◌∙◌, ap, subst, arith}
 use Rattle.std.specs.List.{sum_by}
-use Rattle.quilt_store.specs.Store.{Tells}
+use Rattle.quilt_world.specs.Tale.{Goes}
 use Rattle.quilt_types.specs.declared.plane.Block.{Block}
 use Rattle.quilt_loc.specs.Codes.{code_to}
 use Rattle.quilt_blocks.specs.Painting.{Painted, grid_by_code}
@@ -50,5 +50,5 @@ returns-in-Ok-clause-reads g c grid s h over =
     let t = c.side_over-side.result in
     let same : t ≡ s = side_same c.args.w t s c.side_over-side.ensures over in
     let all = cost_whole n grid (cover_of t c.args.w) c.whole_square-whole.result in
-    subst (λ (k : ℕ). Tells {A = ℕ} (λ old new. new ≤ old + own k) (g.S.PageStore.reads c.args.store.now) (g.S.PageStore.reads c.put_window.new.store)) same
+    subst (λ (k : ℕ). Goes {A = ℕ} (λ old new. new ≤ old + own k) (g.S.PageStore.reads c.args.store.now) (g.S.PageStore.reads c.put_window.new.store)) same
     (reads_more (cost_in n grid (cover_of t c.args.w) c.whole_square-whole.result) (own t) _ _ all (c.in-Ok.ensures.reads grid h))

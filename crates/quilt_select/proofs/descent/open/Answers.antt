@@ -1,5 +1,5 @@
 use Rattle.std.proofs.Common.{◌+◌, ◌≤◌, Some, None, fold, length, eqb-true, refl, sym, ◌∙◌, ap, subst, arith}
-use Rattle.quilt_store.specs.Store.{Tells}
+use Rattle.quilt_world.specs.Tale.{Goes}
 use Rattle.quilt_loc.proofs.Blocks.{IsBlock-up}
 use Rattle.quilt_near.specs.Parts.{IsPart, IsPartOf, pages_for}
 use Rattle.quilt_near.specs.declared.part.Part.{Part}
@@ -27,7 +27,7 @@ returns-in-Ok-Leaf-clause-opened g c = record {
     c.in-Ok.ensures ∙ ap (fold (with_seg c.args.near.now) c.args.found.now.entries) c.items.ensures,
   );
   reads =
-      subst (λ (part : Part). Tells (λ old new. new ≤ old + pages_for part) (g.S.PageStore.reads c.args.store.now)
+      subst (λ (part : Part). Goes (λ old new. new ≤ old + pages_for part) (g.S.PageStore.reads c.args.store.now)
       (g.S.PageStore.reads c.part.new.store)) c.in-Ok-Leaf.field-0-is c.in-Ok-Leaf.ensures.reads;
 }
 
@@ -45,6 +45,6 @@ returns-clause-opened g c = record {
     refl,
   );
   reads =
-      subst (λ (part : Part). Tells (λ old new. new ≤ old + pages_for part) (g.S.PageStore.reads c.args.store.now)
+      subst (λ (part : Part). Goes (λ old new. new ≤ old + pages_for part) (g.S.PageStore.reads c.args.store.now)
       (g.S.PageStore.reads c.part.new.store)) c.in-Ok-Split.field-0-is c.in-Ok-Split.ensures.reads;
 }

@@ -3,7 +3,7 @@ use Rattle.std.specs.FinMap as finmap
 use Rattle.std.proofs.lemmas.Result.{IfOk-weaker}
 use Rattle.quilt_types.specs.Plane.{is_window}
 use Rattle.quilt_types.specs.Quadtrees.{reach}
-use Rattle.quilt_store.specs.Store.{Tells}
+use Rattle.quilt_world.specs.Tale.{Goes}
 use Rattle.quilt_select.specs.Shares.{holds_any}
 use Rattle.quilt_select.proofs.Regions.{all_inside, over_found, over_reads}
 use Rattle.quilt_select.proofs.selecting.over.Goals as goal
@@ -26,5 +26,5 @@ returns-in-Ok-clause-reads g c =
     let now = g.S.PageStore.reads c.select.new.store in
     IfOk-weaker c.select.result _ _
     (λ found h l s. over_reads c.args.list.now.level c.args.list.now.grid c.in-Ok.windows.items c.in-Ok.ensures l before now
-    (subst (λ n. Tells (λ old new. new ≤ old + reach n l.segs l.cover (holds_any c.in-Ok.windows.items)) before now) (sym c.requires) (h l s)))
+    (subst (λ n. Goes (λ old new. new ≤ old + reach n l.segs l.cover (holds_any c.in-Ok.windows.items)) before now) (sym c.requires) (h l s)))
     c.select.ensures.reads

@@ -6,7 +6,7 @@ use Rattle.std.specs.Ordering.{is_le}
 use Rattle.quilt_record.specs.Records.{key_cmp}
 use Rattle.quilt_btree.specs.Lists.{is_from_to}
 use Rattle.quilt_store.specs.Calls.{IsOnlyRead}
-use Rattle.quilt_store.specs.Store.{Tells}
+use Rattle.quilt_world.specs.Tale.{Goes}
 use Rattle.quilt_btree.specs.Trees.{IsTree, Before}
 use Rattle.quilt_btree.proofs.tree.Tree.add_rest.Given as goal
 
@@ -20,7 +20,7 @@ invariant-loop-k g l = record {
       → (is_le (key_cmp low l.next) ≡ true) × (list_all (is_from_to low l.high) l.records.items ≡ true);
   more : vec_len l.initial.records ≤ vec_len l.records;
   left : IsOnlyRead g.S.PageStore l.initial.store l.store;
-  reads : Tells (λ old new. new + 3 * vec_len l.initial.records ≤ old + 3 * vec_len l.records) (g.S.PageStore.reads l.initial.store)
+  reads : Goes (λ old new. new + 3 * vec_len l.initial.records ≤ old + 3 * vec_len l.records) (g.S.PageStore.reads l.initial.store)
       (g.S.PageStore.reads l.store);
 }
 

@@ -2,7 +2,7 @@ use Rattle.std.proofs.Common.{◌≡◌, ℕ, ◌+◌, ◌*◌, ◌≤◌, true,
 use Rattle.std.specs.FinMap as finmap
 use Rattle.quilt_types.specs.Layers.{SegMap, BlockSet, is_in_square}
 use Rattle.quilt_store.specs.Calls.{IsOnlyRead}
-use Rattle.quilt_store.specs.Store.{Tells}
+use Rattle.quilt_world.specs.Tale.{Goes}
 use Rattle.quilt_lines.specs.Layers.{HasLines}
 use Rattle.quilt_lines.specs.Reads.{ids_of}
 use Rattle.quilt_lines.proofs.view.LineView.segments.Given as goal
@@ -14,5 +14,5 @@ invariant-loop-id g l = record {
       → HasLines (g.S.PageStore.told l.initial.store) l.self.tree l.self.layer l.self.level t segs cover → All (λ e. finmap.get segs e.0 ≡ Some e.1) l.list;
   inside : All (λ e. is_in_square l.self.level e.1 ≡ true) l.list;
   left : IsOnlyRead g.S.PageStore l.initial.store l.store;
-  reads : Tells (λ old new. new ≤ old + 3 * length l.list) (g.S.PageStore.reads l.initial.store) (g.S.PageStore.reads l.store);
+  reads : Goes (λ old new. new ≤ old + 3 * length l.list) (g.S.PageStore.reads l.initial.store) (g.S.PageStore.reads l.store);
 }
