@@ -73,9 +73,10 @@ fn empty(alloc: Global, count: usize) -> Result<Vec<Bucket>, AllocError>
 }
 
 /// How many blocks of side `1 << shift` stand in a row of the square of a level.
-fn columns_of(level: u32, shift: u32) -> usize
+pub(crate) fn columns_of(level: u32, shift: u32) -> usize
     requires most { level ≤ 12 }
     requires shift { shift ≤ level }
+    ensures value { result ≡ 2 ^ (level - shift) }
     ensures whole { result * 2 ^ shift ≡ side_of level }
     ensures few { result ≤ 4096 }
 {

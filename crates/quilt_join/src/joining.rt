@@ -42,13 +42,14 @@ fn counts_of<R: Threads + Sync>(
     counts
 }
 
-/// The pairs of each segment of a list with the segments that share a point with it, in threads.
+/// The pairs of each segment of a list with the segments that share a point with it, in threads. They are no more than `MOST`.
 fn rows_of<R: Threads + Sync>(
     rt: &R,
     alloc: Global,
     buckets: &Buckets,
     list: &[(u32, Seg)],
 ) -> Result<Vec<PairList>, AllocError>
+    requires few { (b : List (ℕ × SegOf)) → Serves buckets.now b → sum (map (λ e. length (ids_sharing e.1 b)) list.now) ≤ most_pairs }
     ensures { (b : List (ℕ × SegOf)) → Serves buckets.now b → IfOk result (λ v. v.items ≡ map (λ e. pairs_with e.0 (ids_sharing e.1 b)) list.now) }
 {
     let rows: Result<Vec<PairList>, AllocError> = list

@@ -1,13 +1,11 @@
 -- What the item at the front of a text spells.
-use Rattle.std.proofs.Common.{◌≡◌, ℕ, ◌+◌, ◌<◌, ◌≤◌, ◌==◌, ◌||◌, Bool, true, false, List, [], ◌∷◌, length, take, drop, min, cond, Result, Ok, Err, IfOk}
+use Rattle.std.proofs.Common.{◌≡◌, ℕ, ◌+◌, ◌≤◌, ◌||◌, Bool, true, false, List, [], ◌∷◌, length, take, drop, min, Result, Ok, Err, IfOk}
 use Rattle.std.proofs.Common.{refl, sym, ◌∙◌, ap, subst, arith}
 use Rattle.std.specs.List.{list_all}
 use Rattle.quilt_types.specs.declared.code.Code.{Code}
 use Rattle.quilt_types.specs.declared.code.Code.TheVariants as codes_of
 use Rattle.quilt_words.specs.declared.command.Command.{Command}
-use Rattle.quilt_words.specs.declared.item.Item.{Item}
-use Rattle.quilt_words.specs.declared.item.Item.TheVariants.{Long, Line, Rows, PointLines, RingLines}
-use Rattle.quilt_words.specs.Items.{asked, asked_by, held, is_long, is_plain, is_silent, words_of, rows_of, points_of, rings_of}
+use Rattle.quilt_words.specs.Items.{asked, held, is_long, is_plain, is_silent, words_of}
 use Rattle.quilt_words.specs.Fitting.{IsFitting}
 use Rattle.quilt_words.specs.Forms.{form, form_of_line, form_of_words, Spelled}
 use Rattle.quilt_words.specs.Made.{further_of, nothing_further}

@@ -1,8 +1,5 @@
 -- What an item at the front of a text spells.
-use Rattle.std.specs.Prelude.{◌≡◌, ℕ, ◌≤◌, Bool, List, [], Result, length, drop}
-use Rattle.quilt_types.specs.declared.code.Code.{Code}
-use Rattle.quilt_words.specs.declared.command.Command.{Command}
-use Rattle.quilt_words.specs.declared.item.Item.{Item}
+use Rattle.std.specs.Prelude.{◌≡◌, ℕ, ◌≤◌, Bool, List, [], length, drop}
 use Rattle.quilt_words.specs.Items.{asked, asked_by, held, words_of}
 use Rattle.quilt_words.specs.Forms.{form, form_of_words}
 use Rattle.quilt_words.specs.Made.{nothing_further}

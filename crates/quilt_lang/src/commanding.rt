@@ -1,5 +1,5 @@
 //! The command of the item at the front of a text, taken from where its lines lie.
-ghost use Rattle.std.specs.Prelude.{◌≡◌, ℕ, false, List, Result, map, IfOk};
+ghost use Rattle.std.specs.Prelude.{◌≡◌, ◌<◌, ℕ, false, List, Result, length, map, IfOk, OnErr};
 ghost use Rattle.quilt_types.specs.declared.code.Code.{Code};
 ghost use Rattle.quilt_words.specs.declared.command.Command.{Command};
 ghost use Rattle.quilt_words.specs.Items.{asked, held, words_of};
@@ -113,7 +113,8 @@ fn further_command(
 
 /// What a line comes to. It takes no memory where the line has at most 8 words.
 fn line_command(alloc: Global, format: u8, line: &[u8]) -> Result<LineCommand, AllocError>
-    ensures { IfOk result (IsLineCommand format line.now) }
+    ensures form { IfOk result (IsLineCommand format line.now) }
+    ensures memory { OnErr result (8 < length (words_of line.now)) }
 {
     if line.len() > LINE_LIMIT {
         return Ok(LineCommand::Given(Err(Code::Long)));
@@ -123,28 +124,24 @@ fn line_command(alloc: Global, format: u8, line: &[u8]) -> Result<LineCommand, A
     }
     let few = few_words(line);
     match &few {
-        Some(words) => words_command(format, words),
+        Some(words) => Ok(words_command(format, words)),
         None => {
             let words = line_words(alloc, line)?;
-            words_command(format, &words)
+            Ok(words_command(format, &words))
         }
     }
 }
 
-/// What the words of a line come to.
-fn words_command(format: u8, words: &[&[u8]]) -> Result<LineCommand, AllocError>
-    ensures { IfOk result (IsWordsCommand format (map (λ w. w.now) words.now)) }
+/// What the words of a line come to. It takes no memory.
+fn words_command(format: u8, words: &[&[u8]]) -> LineCommand
+    ensures { IsWordsCommand format (map (λ w. w.now) words.now) result }
 {
     match asked_by_words(words) {
         Asked::Nothing => {
             let mut further = FurtherLines::none();
-            match parse_words(format, words, &mut further) {
-                Ok(command) => Ok(LineCommand::Given(Ok(command))),
-                Err(ParseErr::No(code)) => Ok(LineCommand::Given(Err(code))),
-                Err(ParseErr::Memory) => Err(AllocError),
-            }
+            LineCommand::Given(parse_words(format, words, &mut further))
         }
-        what => Ok(LineCommand::Asks(what)),
+        what => LineCommand::Asks(what),
     }
 }
 

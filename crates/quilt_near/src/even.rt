@@ -1,6 +1,7 @@
 ghost use Rattle.std.specs.Prelude.{◌≡◌, ◌+◌, ◌*◌, ◌<◌, ◌≤◌, true, All, IfOk, IfErr, filter, take};
 ghost use Rattle.quilt_types.specs.Layers.{is_in_square};
 ghost use Rattle.quilt_types.specs.Segments.{meets as meets_of, square};
+ghost use Rattle.quilt_types.specs.declared.stop.Stop.TheVariants.{Memory};
 ghost use Rattle.quilt_near.specs.Evens.{ShowsEven};
 ghost use Rattle.quilt_store.specs.Stops.{HasStopCause, IsSound};
 
@@ -40,6 +41,8 @@ impl<S: PageStore> SegBlocks<S> for Even {
     ghost level_of = { λ v. v.level };
 
     ghost shows = { λ v s l. ShowsEven v.level v.side v.segs l };
+
+    ghost looked = { λ v b s t result. (t ≡ s) × IfErr result (λ e. e ≡ Memory) };
 
     fn level(&self) -> u8 {
         self.level

@@ -1,5 +1,6 @@
 pub mod Orders
 pub mod Adding
+pub mod Answered
 pub mod Ranking
 pub mod Fronts
 pub mod Closes

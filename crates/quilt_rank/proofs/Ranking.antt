@@ -142,6 +142,9 @@ module _ (p : Pixel) (segs : SegMap) where
         settled = λ z h. take_settled k all_in_order sorted_is.ranked_is z (in_order z h);
       })
 
+  pub ranking_few : (k : ℕ) → length (ranked segs p k) ≤ k
+  ranking_few k = subst (λ (t : List Rank). length t ≤ k) (sym (ranked_take k)) (take_few k all_in_order)
+
   pub ranking_from : (k : ℕ) (rs : List Rank) → length rs ≤ k → IsRanking k rs → rs ≡ ranked segs p k
   ranking_from k rs few h =
       let s = sorted_is in

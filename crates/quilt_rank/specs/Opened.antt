@@ -1,8 +1,9 @@
 -- What the opening of a block does to a search for the first k.
-use Rattle.std.specs.Prelude.{◌≡◌, ℕ, ◌+◌, ◌≤◌, List, ◌++◌, map, fold, Option}
+use Rattle.std.specs.Prelude.{◌≡◌, ℕ, ◌+◌, ◌≤◌, List, ◌++◌, map, fold, Option, Result, Ok}
 use Rattle.std.specs.List.Sorted.{IsPermutation}
 use Rattle.quilt_types.specs.declared.plane.Block.{Block}
 use Rattle.quilt_types.specs.declared.plane.Pixel.{Pixel}
+use Rattle.quilt_types.specs.declared.stop.Stop.{Stop}
 use Rattle.quilt_types.specs.Plane.{quarters_of}
 use Rattle.quilt_types.specs.Fractions.{Fraction}
 use Rattle.quilt_world.specs.Tale.{Goes}
@@ -17,6 +18,10 @@ use Rattle.quilt_rank.specs.Ranks.{with_seg}
 abbrev pub After : Pixel → ℕ → Block → Part → List (ℕ × Block) → List (ℕ × Block) → List (ℕ × Fraction) → List (ℕ × Fraction) → Type 0
 After p k b Split old new was now = IsPermutation (map (placed_at p) (quarters_of b) ++ old) new × (now ≡ was)
 After p k b (Leaf list) old new was now = (new ≡ old) × (now ≡ fold (with_seg p k) was list)
+
+-- a look gave the part of its block
+abbrev pub GivesPart : {S : Type 0} → (S → S → Result Part Stop → Type 0) → S → S → Type 0
+GivesPart looked old new = (part : Part) × looked old new (Ok part)
 
 -- a block was opened: what it was found to be, where the layer shows its lines, and what it cost
 pub record IsOpened (n : ℕ) (p : Pixel) (k : ℕ) (b : Block) (shown : Lines → Type 0) (old new : List (ℕ × Block)) (was now : List (ℕ × Fraction))

@@ -1,14 +1,18 @@
-ghost use Rattle.std.specs.Prelude.{◌≡◌, ℕ, ◌+◌, ◌<◌, ◌≤◌, true, fold, length, All, IfOk, IfErr, OnOk};
+ghost use Rattle.std.specs.Prelude.{◌≡◌, ℕ, ◌+◌, ◌<◌, ◌≤◌, true, fold, length, slice_get, All, IfOk, IfErr, OnOk};
+ghost use Rattle.std.specs.FinMap as finmap;
 ghost use Rattle.quilt_types.specs.Plane.{IsBlock};
 ghost use Rattle.quilt_types.specs.Quadtrees.{is_reached, reach};
 ghost use Rattle.quilt_types.specs.Ranking.{ranked as ranked_of};
+ghost use Rattle.quilt_types.specs.Segments.{nearest as nearest_of};
 ghost use Rattle.quilt_store.specs.Calls.{OnlyReads};
 ghost use Rattle.quilt_world.specs.Tale.{Goes};
 ghost use Rattle.quilt_near.specs.Budgets.{is_close};
+ghost use Rattle.quilt_near.specs.Endings.{EndsLook, EndsSearch};
 ghost use Rattle.quilt_near.specs.Lines.{Lines};
 ghost use Rattle.quilt_store.specs.Stops.{IsSound};
+ghost use Rattle.quilt_rank.specs.Firsts.{AreFirst};
 ghost use Rattle.quilt_rank.specs.Ranks.{with_seg, last_far};
-ghost use Rattle.quilt_rank.specs.Opened.{IsOpened};
+ghost use Rattle.quilt_rank.specs.Opened.{IsOpened, GivesPart};
 
 use crate::firsts::Firsts;
 use crate::ranks::RankList;
@@ -49,6 +53,8 @@ fn open<S: PageStore, B: SegBlocks<S>>(
     ensures opened { OnOk result (IsOpened (B.level_of blocks.now) p k b (B.shows blocks.now store.old) queue.old queue.new ranks.old ranks.new
         (S.reads store.old) (S.reads store.new)) }
     ensures sound { IfErr result (λ e. (l : Lines) → B.shows blocks.now store.old l → IsSound e) }
+    ensures ended { IfErr result (EndsLook (B.looked blocks.now b) store.old store.new) }
+    ensures looked { OnOk result (GivesPart (B.looked blocks.now b) store.old store.new) }
     ensures left { OnlyReads S.PageStore store.old store.new result }
 {
     match blocks.part(alloc, store, b) {
@@ -65,7 +71,8 @@ fn open<S: PageStore, B: SegBlocks<S>>(
 }
 
 /// The first k segments by distance from the pixel and then id, with their distances: all where there are fewer. Where it
-/// gives k it opens no block that is farther than the last, and none twice.
+/// gives k it opens no block that is farther than the last, and none twice. What ends a look at a block ends it, and is
+/// answered as it is.
 pub fn ranked<S: PageStore, B: SegBlocks<S>>(
     alloc: Global,
     blocks: &B,
@@ -77,9 +84,12 @@ pub fn ranked<S: PageStore, B: SegBlocks<S>>(
     requires x { p.x < 8192 }
     requires y { p.y < 8192 }
     ensures ranked { IfOk result (λ list. (l : Lines) → B.shows blocks.now store.old l → list ≡ ranked_of l.segs p k) }
+    ensures firsts { IfOk result (λ list. (l : Lines) → B.shows blocks.now store.old l → AreFirst p k (finmap.entries l.segs) list) }
+    ensures nearest { IfOk result (λ list. (l : Lines) → B.shows blocks.now store.old l → slice_get list 0 ≡ nearest_of l.segs p) }
     ensures reads { IfOk result (λ list. (l : Lines) → B.shows blocks.now store.old l → length list ≡ k
         → Goes (λ old new. new ≤ old + reach (B.level_of blocks.now) l.segs l.cover (is_close p (last_far list))) (S.reads store.old) (S.reads store.new)) }
     ensures sound { IfErr result (λ e. (l : Lines) → B.shows blocks.now store.old l → IsSound e) }
+    ensures ended { IfErr result (EndsSearch (B.looked blocks.now) store.old store.new) }
     ensures left { OnlyReads S.PageStore store.old store.new result }
 {
     let mut queue = match first_queue(alloc, blocks, p) {

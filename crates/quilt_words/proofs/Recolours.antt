@@ -11,10 +11,7 @@ use Rattle.quilt_words.specs.declared.command.Command.TheVariants as commands
 use Rattle.quilt_words.specs.Forms.{Argument, Value, Called, Number, Further, colour, or_err, ◌>>=◌, values_of, pairs_of, recolour_command}
 use Rattle.quilt_words.specs.Made.{recoloured, has_pairs}
 use Rattle.std.proofs.lemmas.List.{length-map}
-use Rattle.quilt_words.specs.declared.parse_err.ParseErr.{ParseErr}
-use Rattle.quilt_words.specs.declared.parse_err.ParseErr.TheVariants as errs
 use Rattle.quilt_words.specs.Pairs.{pairs_in, ReadsPair}
-use Rattle.quilt_words.specs.Parsing.{Answers}
 use Rattle.quilt_words.specs.Spelling.{number, name}
 
 -- the colours that so many pairs have
@@ -106,14 +103,13 @@ so_far_pair f g xs i d pairs pair within so reads =
     ∙ ap (λ (r : Result (List (Colour × Colour)) Code). r >>= λ ps. Ok (pairs ++ ps)) (reads (map g (drop (i + 2) xs)))
     ∙ pair_onto pairs pair (pairs_in f (map g (drop (i + 2) xs)))
 
-pub so_far_err : {X : Type 0} (f : ℕ) (g : X → List ℕ) (xs : List X) (i : ℕ) (d : X) (pairs : List (Colour × Colour)) (e : ParseErr) → i + 1 < length xs →
+pub so_far_err : {X : Type 0} (f : ℕ) (g : X → List ℕ) (xs : List X) (i : ℕ) (d : X) (pairs : List (Colour × Colour)) (e : Code) → i + 1 < length xs →
     SoFar f g xs i pairs → ReadsPair f (Err e) (g (get_or xs i d)) (g (get_or xs (i + 1) d))
-    → Answers {A = List (Colour × Colour)} (Err e) (pairs_in f (map g xs))
-so_far_err f g xs i d pairs (errs.No code) within so reads =
+    → pairs_in f (map g xs) ≡ Err e
+so_far_err f g xs i d pairs e within so reads =
     so
     ∙ ap (λ (ws : List (List ℕ)). pairs_in f ws >>= λ ps. Ok (pairs ++ ps)) (two_more g xs i d within)
     ∙ ap (λ (r : Result (List (Colour × Colour)) Code). r >>= λ ps. Ok (pairs ++ ps)) (reads (map g (drop (i + 2) xs)))
-so_far_err f g xs i d pairs errs.Memory within so reads = tt
 
 pub words_are : {X : Type 0} (f : ℕ) (more : Further) (g : X → List ℕ) (xs : List X) (d : X) → has_pairs (length xs) ≡ true →
     recoloured f more (map g xs) ≡ recolours f (g (get_or xs 0 d)) (g (get_or xs 1 d)) (map g (drop 2 xs))
@@ -131,8 +127,7 @@ pub recolour_ok : {X : Type 0} (f : ℕ) (more : Further) (g : X → List ℕ) (
     recoloured f more (map g xs) ≡ Ok (commands.Recolour a c pairs)
 recolour_ok f more g xs d a c pairs is first second third = rw (words_are f more g xs d is, first, second, third) refl
 
-pub recolour_err : {X : Type 0} (f : ℕ) (more : Further) (g : X → List ℕ) (xs : List X) (d : X) (a c : List ℕ) (e : ParseErr) → has_pairs (length xs) ≡ true →
+pub recolour_err : {X : Type 0} (f : ℕ) (more : Further) (g : X → List ℕ) (xs : List X) (d : X) (a c : List ℕ) (e : Code) → has_pairs (length xs) ≡ true →
     or_err codes_of.Name (name (g (get_or xs 0 d))) ≡ Ok a → or_err codes_of.Name (name (g (get_or xs 1 d))) ≡ Ok c →
-    Answers {A = List (Colour × Colour)} (Err e) (pairs_in f (map g (drop 2 xs))) → Answers {A = Command} (Err e) (recoloured f more (map g xs))
-recolour_err f more g xs d a c (errs.No code) is first second third = rw (words_are f more g xs d is, first, second, third) refl
-recolour_err f more g xs d a c errs.Memory is first second third = tt
+    pairs_in f (map g (drop 2 xs)) ≡ Err e → recoloured f more (map g xs) ≡ Err e
+recolour_err f more g xs d a c e is first second third = rw (words_are f more g xs d is, first, second, third) refl

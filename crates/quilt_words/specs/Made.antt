@@ -1,5 +1,5 @@
 -- What the words behind each command's word spell: the command's row of the table.
-use Rattle.std.specs.Prelude.{ℕ, Bool, ◌-◌, ◌/◌, ◌%◌, ◌&&◌, ◌==◌, nat_le, List, [], ◌∷◌, ◌++◌, length, Result, Err, Option, Some, None, if◌then◌else◌, codes, find}
+use Rattle.std.specs.Prelude.{ℕ, Bool, ◌-◌, ◌/◌, ◌%◌, ◌&&◌, ◌==◌, nat_le, List, length, Result, Err, Option, Some, None, if◌then◌else◌, codes, find}
 use Rattle.std.specs.Str.{bytes_eq}
 use Rattle.quilt_types.specs.declared.code.Code.{Code}
 use Rattle.quilt_types.specs.declared.code.Code.TheVariants as codes_of

@@ -4,8 +4,6 @@ use Rattle.quilt_types.specs.declared.plane.Colour.{Colour}
 use Rattle.quilt_types.specs.declared.code.Code.{Code}
 use Rattle.quilt_types.specs.declared.code.Code.TheVariants as codes_of
 use Rattle.quilt_types.specs.Layers.{colours}
-use Rattle.quilt_words.specs.declared.parse_err.ParseErr.{ParseErr}
-use Rattle.quilt_words.specs.declared.parse_err.ParseErr.TheVariants as errs
 use Rattle.quilt_words.specs.Forms.{or_err, ◌>>=◌}
 use Rattle.quilt_words.specs.Spelling.{number}
 
@@ -21,7 +19,6 @@ pairs_in f (o ∷ n ∷ ws) =
     number_in f o >>= λ a. number_in f n >>= λ b. pairs_in f ws >>= λ ps. Ok ((record { 0 = a }, record { 0 = b }) ∷ ps)
 
 -- what one pair says of the words that begin with it
-abbrev pub ReadsPair : ℕ → Result (Colour × Colour) ParseErr → List ℕ → List ℕ → Type 0
+abbrev pub ReadsPair : ℕ → Result (Colour × Colour) Code → List ℕ → List ℕ → Type 0
 ReadsPair f (Ok pair) o n = (ws : List (List ℕ)) → pairs_in f (o ∷ n ∷ ws) ≡ (pairs_in f ws >>= λ ps. Ok (pair ∷ ps))
-ReadsPair f (Err (errs.No code)) o n = (ws : List (List ℕ)) → pairs_in f (o ∷ n ∷ ws) ≡ Err code
-ReadsPair f (Err errs.Memory) o n = Unit {0}
+ReadsPair f (Err code) o n = (ws : List (List ℕ)) → pairs_in f (o ∷ n ∷ ws) ≡ Err code

@@ -1,9 +1,12 @@
 -- What a parser's answer says, and the text of a refusal.
-use Rattle.std.specs.Prelude.{◌≡◌, ◌==◌, ℕ, List, [], ◌∷◌, ◌++◌, length, Result, Ok, Err, codes, decimal, if◌then◌else◌}
+use Rattle.std.specs.Prelude.{◌≡◌, ◌<◌, ◌⊎◌, ◌==◌, ℕ, List, [], ◌∷◌, ◌++◌, length, Result, Ok, Err, IsSome, codes, decimal, if◌then◌else◌}
 use Rattle.quilt_types.specs.CodeTable.{code_number, code_word}
 use Rattle.quilt_types.specs.declared.code.Code.{Code}
 use Rattle.quilt_types.specs.declared.code.Code.TheVariants as codes_of
 use Rattle.quilt_words.specs.Forms.{Argument, Value, values_of}
+use Rattle.quilt_words.specs.Items.{words_of}
+use Rattle.quilt_words.specs.declared.item.Item.{Item}
+use Rattle.quilt_words.specs.declared.item.Item.TheVariants.{Long, Line, Rows, PointLines, RingLines}
 use Rattle.quilt_words.specs.declared.parse_err.ParseErr.{ParseErr}
 use Rattle.quilt_words.specs.declared.parse_err.ParseErr.TheVariants as errs
 
@@ -13,11 +16,18 @@ Answers (Ok x) r = r ≡ Ok x
 Answers (Err (errs.No code)) r = r ≡ Err code
 Answers (Err errs.Memory) r = Unit {0}
 
--- the values are what the parts of the answer are, or the code is the answer's, unless memory ran out
-abbrev pub Reads : {A : Type 0} → (A → List Value) → Result A ParseErr → Result (List Value) Code → Type 0
+-- what may take memory to be parsed: further lines that are there and well formed, or a line of more words than are kept without it
+abbrev pub WantsMemory : Item → Type 0
+WantsMemory Long = ⊥
+WantsMemory (Line line) = 8 < length (words_of line)
+WantsMemory (Rows line rows) = IsSome rows ⊎ (8 < length (words_of line))
+WantsMemory (PointLines line points) = IsSome points ⊎ (8 < length (words_of line))
+WantsMemory (RingLines line rings) = IsSome rings ⊎ (8 < length (words_of line))
+
+-- the values are what the parts of the answer are, or the code is the answer's
+abbrev pub Reads : {A : Type 0} → (A → List Value) → Result A Code → Result (List Value) Code → Type 0
 Reads values (Ok x) r = r ≡ Ok (values x)
-Reads values (Err (errs.No code)) r = r ≡ Err code
-Reads values (Err errs.Memory) r = Unit {0}
+Reads values (Err code) r = r ≡ Err code
 
 -- the values of so many arguments, or the code of the first refusal
 abbrev pub counted : List Argument → List (List ℕ) → Result (List Value) Code

@@ -4,25 +4,23 @@ ghost use Rattle.std.specs.List.{list_all};
 ghost use Rattle.quilt_types.specs.declared.code.Code.TheVariants as codes_of;
 ghost use Rattle.quilt_words.specs.Spelling.{number, signed, name, is_digit, is_spelled, value_of};
 ghost use Rattle.quilt_words.specs.Forms.{or_err};
-ghost use Rattle.quilt_words.specs.Parsing.{Answers};
 ghost use Rattle.quilt_words.specs.Fitting.{IsWithin};
 ghost use Rattle.quilt_types.specs.Layers.{colours};
 
-use crate::ParseErr;
 use quilt_types::{Code, Name};
 use std::str;
 
 /// The name that a word is.
 #[tactic(auto, unfolding(crate::specs::Spelling::name))]
-pub fn parse_name(word: &[u8]) -> Result<Name, ParseErr>
-    ensures { Answers result (or_err codes_of.Name (name word.now)) }
+pub fn parse_name(word: &[u8]) -> Result<Name, Code>
+    ensures { or_err codes_of.Name (name word.now) ≡ result }
 {
     let Ok(text) = str::from_utf8(word) else {
-        return Err(ParseErr::No(Code::Name));
+        return Err(Code::Name);
     };
     match Name::of(text) {
         Some(name) => Ok(name),
-        None => Err(ParseErr::No(Code::Name)),
+        None => Err(Code::Name),
     }
 }
 
@@ -79,38 +77,38 @@ pub fn number_of(low: u32, high: u32, word: &[u8]) -> Option<u32>
 }
 
 /// The number from `low` to `high` that a word spells.
-pub fn parse_number(low: u32, high: u32, word: &[u8]) -> Result<u32, ParseErr>
-    ensures is { Answers result (or_err codes_of.Number (number low high word.now)) }
+pub fn parse_number(low: u32, high: u32, word: &[u8]) -> Result<u32, Code>
+    ensures is { or_err codes_of.Number (number low high word.now) ≡ result }
     ensures within { IfOk result (IsWithin low high) }
 {
     match number_of(low, high, word) {
         Some(n) => Ok(n),
-        None => Err(ParseErr::No(Code::Number)),
+        None => Err(Code::Number),
     }
 }
 
 /// A coordinate.
-pub fn parse_coordinate(word: &[u8]) -> Result<u16, ParseErr>
-    ensures { Answers result (or_err codes_of.Number (number 0 65535 word.now)) }
+pub fn parse_coordinate(word: &[u8]) -> Result<u16, Code>
+    ensures { or_err codes_of.Number (number 0 65535 word.now) ≡ result }
 {
     let n = parse_number(0, 65535, word)?;
     Ok(n as u16)
 }
 
 /// An extent of a window, at least 1.
-pub fn parse_extent(word: &[u8]) -> Result<u16, ParseErr>
-    ensures { Answers result (or_err codes_of.Number (number 1 65535 word.now)) }
+pub fn parse_extent(word: &[u8]) -> Result<u16, Code>
+    ensures { or_err codes_of.Number (number 1 65535 word.now) ≡ result }
 {
     let n = parse_number(1, 65535, word)?;
     Ok(n as u16)
 }
 
 /// A number of at most 65535, or a minus before one that is not 0.
-pub fn parse_signed(word: &[u8]) -> Result<i32, ParseErr>
-    ensures { Answers result (or_err codes_of.Number (signed 65535 word.now)) }
+pub fn parse_signed(word: &[u8]) -> Result<i32, Code>
+    ensures { or_err codes_of.Number (signed 65535 word.now) ≡ result }
 {
     let Some((first, digits)) = word.split_first() else {
-        return Err(ParseErr::No(Code::Number));
+        return Err(Code::Number);
     };
     if *first == b'-' {
         let n = parse_number(1, 65535, digits)?;

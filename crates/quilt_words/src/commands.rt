@@ -3,7 +3,6 @@ ghost use Rattle.std.specs.Prelude.{◌≡◌, ◌≤◌, ◌-◌, ◌%◌, ◌=
 ghost use Rattle.quilt_words.specs.Forms.{Further};
 ghost use Rattle.quilt_words.specs.Made.{formed, row_formed, recoloured, made, spelled_by};
 ghost use Rattle.quilt_words.specs.Words.{spelling, map_spelling, region_spelling, algebra_spelling, point_spelling, line_spelling};
-ghost use Rattle.quilt_words.specs.Parsing.{Answers};
 
 use crate::arguments::most_colour;
 use crate::recolour::recolour_command;
@@ -13,8 +12,8 @@ use crate::shapes::{
     one_name, three_names, two_names,
 };
 use crate::word::{AlgebraWord, LineWord, MapWord, PointWord, RegionWord, Word};
-use crate::{Command, FurtherLines, ParseErr};
-use quilt_types::Colour;
+use crate::{Command, FurtherLines};
+use quilt_types::{Code, Colour};
 
 /// The command that a word makes of the words behind it, and of what further lines spell, which goes into the command.
 pub fn command(
@@ -22,8 +21,8 @@ pub fn command(
     word: Word,
     words: &[&[u8]],
     further: &mut FurtherLines,
-) -> Result<Command, ParseErr>
-    ensures { Answers result (formed format (spelled_by further.old) (spelling word) (map (λ w. w.now) words.now)) }
+) -> Result<Command, Code>
+    ensures { formed format (spelled_by further.old) (spelling word) (map (λ w. w.now) words.now) ≡ result }
 {
     match word {
         Word::Map(word) => map_command(format, word, words),
@@ -34,8 +33,8 @@ pub fn command(
     }
 }
 
-fn map_command(format: u8, word: MapWord, words: &[&[u8]]) -> Result<Command, ParseErr>
-    ensures { (more : Further) → Answers result (formed format more (map_spelling word) (map (λ w. w.now) words.now)) }
+fn map_command(format: u8, word: MapWord, words: &[&[u8]]) -> Result<Command, Code>
+    ensures { (more : Further) → formed format more (map_spelling word) (map (λ w. w.now) words.now) ≡ result }
 {
     match word {
         MapWord::Region => {
@@ -89,8 +88,8 @@ fn map_command(format: u8, word: MapWord, words: &[&[u8]]) -> Result<Command, Pa
     }
 }
 
-fn points_command(words: &[&[u8]]) -> Result<Command, ParseErr>
-    ensures { (f : ℕ) (more : Further) → Answers result (formed f more (codes "points") (map (λ w. w.now) words.now)) }
+fn points_command(words: &[&[u8]]) -> Result<Command, Code>
+    ensures { (f : ℕ) (more : Further) → formed f more (codes "points") (map (λ w. w.now) words.now) ≡ result }
 {
     if words.len() == 1 {
         let p = one_name(words)?;
@@ -108,8 +107,8 @@ fn region_command(
     word: RegionWord,
     words: &[&[u8]],
     further: &mut FurtherLines,
-) -> Result<Command, ParseErr>
-    ensures { Answers result (formed format (spelled_by further.old) (region_spelling word) (map (λ w. w.now) words.now)) }
+) -> Result<Command, Code>
+    ensures { formed format (spelled_by further.old) (region_spelling word) (map (λ w. w.now) words.now) ≡ result }
 {
     let most = most_colour(format);
     match word {
@@ -172,8 +171,8 @@ fn region_command(
     }
 }
 
-fn algebra_command(format: u8, word: AlgebraWord, words: &[&[u8]]) -> Result<Command, ParseErr>
-    ensures { (more : Further) → Answers result (formed format more (algebra_spelling word) (map (λ w. w.now) words.now)) }
+fn algebra_command(format: u8, word: AlgebraWord, words: &[&[u8]]) -> Result<Command, Code>
+    ensures { (more : Further) → formed format more (algebra_spelling word) (map (λ w. w.now) words.now) ≡ result }
 {
     match word {
         AlgebraWord::Union => {
@@ -208,8 +207,8 @@ fn point_command(
     word: PointWord,
     words: &[&[u8]],
     further: &mut FurtherLines,
-) -> Result<Command, ParseErr>
-    ensures { (f : ℕ) → Answers result (formed f (spelled_by further.old) (point_spelling word) (map (λ w. w.now) words.now)) }
+) -> Result<Command, Code>
+    ensures { (f : ℕ) → formed f (spelled_by further.old) (point_spelling word) (map (λ w. w.now) words.now) ≡ result }
 {
     match word {
         PointWord::Put => {
@@ -236,8 +235,8 @@ fn point_command(
     }
 }
 
-fn line_command(word: LineWord, words: &[&[u8]]) -> Result<Command, ParseErr>
-    ensures { (f : ℕ) (more : Further) → Answers result (formed f more (line_spelling word) (map (λ w. w.now) words.now)) }
+fn line_command(word: LineWord, words: &[&[u8]]) -> Result<Command, Code>
+    ensures { (f : ℕ) (more : Further) → formed f more (line_spelling word) (map (λ w. w.now) words.now) ≡ result }
 {
     match word {
         LineWord::Line => {

@@ -1,5 +1,5 @@
 //! What the further lines of an item spell.
-ghost use Rattle.std.specs.Prelude.{◌≡◌, [], ◌∷◌, ◌++◌, None, IfOk, OnOk};
+ghost use Rattle.std.specs.Prelude.{◌≡◌, [], ◌∷◌, ◌++◌, None, IfOk, IsOk, OnOk};
 ghost use Rattle.quilt_words.specs.Made.{further_of, nothing_further, spelled_by};
 
 use crate::Item;
@@ -30,9 +30,10 @@ impl FurtherLines {
         }
     }
 
-    /// A copy of what an item holds.
+    /// A copy of what an item holds. It takes no memory where that is nothing.
     pub fn of_item(alloc: Global, item: &Item) -> Result<FurtherLines, AllocError>
-        ensures { IfOk result (λ further. spelled_by further ≡ further_of item.now) }
+        ensures copy { IfOk result (λ further. spelled_by further ≡ further_of item.now) }
+        ensures memory { further_of item.now ≡ nothing_further → IsOk result }
     {
         match item {
             Item::Rows(_, Some(rows)) => {

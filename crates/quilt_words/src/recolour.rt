@@ -3,18 +3,17 @@ ghost use Rattle.std.specs.Prelude.{◌≡◌, ◌≤◌, ◌-◌, ◌*◌, ◌/
 ghost use Rattle.quilt_words.specs.Forms.{Further};
 ghost use Rattle.quilt_words.specs.Made.{recoloured, has_pairs};
 ghost use Rattle.quilt_words.specs.Pairs.{pairs_in, ReadsPair};
-ghost use Rattle.quilt_words.specs.Parsing.{Answers};
 
 use crate::arguments::{most_colour, parse_name, parse_number};
-use crate::{Command, Pairs, ParseErr};
+use crate::{Command, Pairs};
 use quilt_types::{Code, Colour, Name};
 
 /// The command that makes a layer of another by 1 to 16 pairs of colours.
-pub fn recolour_command(format: u8, words: &[&[u8]]) -> Result<Command, ParseErr>
-    ensures { (more : Further) → Answers result (recoloured format more (map (λ w. w.now) words.now)) }
+pub fn recolour_command(format: u8, words: &[&[u8]]) -> Result<Command, Code>
+    ensures { (more : Further) → recoloured format more (map (λ w. w.now) words.now) ≡ result }
 {
     if !is_number_of_words(words.len()) {
-        return Err(ParseErr::No(Code::Count));
+        return Err(Code::Count);
     }
     let a = parse_name(words[0])?;
     let c = parse_name(words[1])?;
@@ -30,7 +29,7 @@ fn is_number_of_words(count: usize) -> bool
 }
 
 /// One pair of colours: an old one, and what it becomes.
-fn parse_pair(format: u8, o: &[u8], n: &[u8]) -> Result<(Colour, Colour), ParseErr>
+fn parse_pair(format: u8, o: &[u8], n: &[u8]) -> Result<(Colour, Colour), Code>
     ensures { ReadsPair format result o.now n.now }
 {
     let most = most_colour(format);
@@ -40,11 +39,11 @@ fn parse_pair(format: u8, o: &[u8], n: &[u8]) -> Result<(Colour, Colour), ParseE
 }
 
 /// From 1 to 16 pairs of colours.
-fn parse_pairs(format: u8, words: &[&[u8]]) -> Result<Pairs, ParseErr>
+fn parse_pairs(format: u8, words: &[&[u8]]) -> Result<Pairs, Code>
     requires few { length words.now ≤ 32 }
     requires some { 2 ≤ length words.now }
     requires even { (length words.now / 2) * 2 ≡ length words.now }
-    ensures { Answers result (pairs_in format (map (λ w. w.now) words.now)) }
+    ensures { pairs_in format (map (λ w. w.now) words.now) ≡ result }
 {
     let (o, n) = parse_pair(format, words[0], words[1])?;
     let mut pairs = Pairs::of(o, n);

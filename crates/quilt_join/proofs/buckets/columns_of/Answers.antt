@@ -8,4 +8,4 @@ returns c =
     let few = side_most (c.args.level - c.args.shift) (omega arith) in
     let whole = whole_row c.args.level c.args.shift c.requires.shift in
     let same : 1 * 2 ^ (c.args.level - c.args.shift) % 18446744073709551616 ≡ 2 ^ (c.args.level - c.args.shift) = omega arith in
-    record { whole = ap (λ n. n * 2 ^ c.args.shift) same ∙ whole; few = omega arith }
+    record { value = same; whole = ap (λ n. n * 2 ^ c.args.shift) same ∙ whole; few = omega arith }

@@ -1,4 +1,4 @@
-use Rattle.std.proofs.Common.{◌≡◌, ℕ, ◌<◌, ◌≤◌, List, length, map, sum, flat_map, ap, sym, ◌∙◌, subst}
+use Rattle.std.proofs.Common.{◌≡◌, ℕ, ◌<◌, ◌≤◌, List, length, map, sum, flat_map, ap, refl, sym, ◌∙◌, subst}
 use Rattle.quilt_join.specs.Pairs.{ids_sharing, most}
 use Rattle.quilt_join.proofs.Gathered.{rows_joined, rows_counted, are_many, are_few, crossings_are}
 use Rattle.quilt_join.proofs.joining.crossings.Goals as goal
@@ -12,6 +12,10 @@ returns-then-branch-clause-pairs g c =
 pub returns-then-branch-clause-maps : goal.returns-then-branch-clause-maps
 returns-then-branch-clause-maps g c l m e f =
     subst (λ (list : List (ℕ × ℕ)). most < length list) (sym (crossings_are l m c.args.a.now c.args.b.now e f)) (returns-then-branch-clause-pairs g c)
+
+pub rows_of-requires-clause-few : goal.rows_of-requires-clause-few
+rows_of-requires-clause-few g c lifetimes lives b serves =
+    are_few (sum (map (λ e. length (ids_sharing e.1 b)) c.args.a.now)) _ refl (sym (c.in_ok-are_more.ensures b serves) ∙ c.if-branch.false)
 
 pub returns-clause-pairs : goal.returns-clause-pairs
 returns-clause-pairs g c =

@@ -1,5 +1,5 @@
 use Rattle.std.proofs.Common.{arith}
-use Rattle.quilt_lang.proofs.Digits.{two_digits, no_digits}
+use Rattle.quilt_lang.proofs.Digits.{two_digits}
 use Rattle.quilt_lang.proofs.spelled.byte_of.Goals as goal
 
 pub returns : goal.returns

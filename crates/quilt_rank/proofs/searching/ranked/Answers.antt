@@ -1,4 +1,4 @@
-use Rattle.std.proofs.Common.{◌≡◌, ◌+◌, ◌≤◌, List, length, sym, ◌∙◌, subst, arith}
+use Rattle.std.proofs.Common.{◌≡◌, ◌+◌, ◌≤◌, List, length, inl, inr, refl, sym, ◌∙◌, subst, arith}
 use Rattle.quilt_store.proofs.Reading.{only_reads_then, only_reads_same, read_on, only_reads_err}
 use Rattle.quilt_types.specs.Quadtrees.{reach}
 use Rattle.quilt_world.specs.Tale.{Goes}
@@ -7,6 +7,7 @@ use Rattle.quilt_rank.specs.Ranks.{last_far}
 use Rattle.quilt_rank.proofs.Orders.{Rank}
 use Rattle.quilt_types.specs.Ranking.{ranked}
 use Rattle.quilt_near.specs.Lines.{Lines}
+use Rattle.quilt_rank.proofs.Answered.{first_are, first_is}
 use Rattle.quilt_rank.proofs.Goings.{Going, going_start, going_on, going_end, going_stop, going_reads, first_valid, first_reached, less_left}
 use Rattle.quilt_rank.proofs.searching.ranked.Goals as goal
 use Rattle.quilt_rank.proofs.searching.ranked.Goals.{in-Some+then-is_past, in_default}
@@ -18,6 +19,7 @@ loop-distance-init g c =
     record {
       going = subst (Going _ c.args.p c.args.k _ _ _ _) (sym c.new-ranks.ensures) first;
       left = only_reads_same _ tt _ (g.met.S.PageStore.same_time c.args.store.now);
+      ended = inr (refl, refl);
     }
 
 pub open-requires-clause-block : goal.open-requires-clause-block
@@ -60,6 +62,7 @@ loop-distance-preserved g c =
           (λ l s. g.met.B.SegBlocks.same c.args.blocks.now c.args.store.now c.loop-distance.store l i.left.told s)
           c.in-Some.ensures.least (sym c.is_past.ensures ∙ c.if-is_past.false) c.in-Ok-open.ensures.opened;
       left = read_on _ g.met.S.PageStore.goes_on c.args.store.now c.loop-distance.store c.open.new.store i.left c.open.ensures.left;
+      ended = inl (c.in-Some.block, c.loop-distance.store, inr (refl, c.in-Ok-open.ensures.looked));
     }
 
 -- at either end those so far are the answer
@@ -78,6 +81,9 @@ found g c l s =
           now c.loop-distance.queue c.loop-distance.ranks i w.in_default.ensures.none l s
     ]
 
+pub returns-in-Err-listed-clause-ended : goal.returns-in-Err-listed-clause-ended
+returns-in-Err-listed-clause-ended g c = c.loop-distance.invariant.ended
+
 pub returns-clause-ranked : goal.returns-clause-ranked
 returns-clause-ranked g c l s = c.in-Ok-listed.ensures ∙ found g c l s
 
@@ -95,3 +101,9 @@ returns-clause-reads g c l s long =
 
 pub returns-in-Err-open-clause-left : goal.returns-in-Err-open-clause-left
 returns-in-Err-open-clause-left g c = only_reads_err _ (only_reads_then _ g.met.S.PageStore.goes_on _ _ _ c.loop-distance.invariant.left c.in-Err-open.ensures.left)
+
+pub returns-clause-firsts : goal.returns-clause-firsts
+returns-clause-firsts g c l s = first_are l.segs c.args.p c.args.k _ (c.in-Ok-listed.ensures ∙ found g c l s)
+
+pub returns-clause-nearest : goal.returns-clause-nearest
+returns-clause-nearest g c l s = first_is l.segs c.args.p c.args.k _ c.requires.some (returns-clause-firsts g c l s)

@@ -1,5 +1,5 @@
 use Rattle.std.proofs.Common.{◌≡◌, ◌∙◌, ◌+◌, ◌-◌, ap, List, ℕ, take, drop, length}
-use Rattle.quilt_lang.specs.Reading.{Unread, GivesCommand}
+use Rattle.quilt_lang.specs.Reading.{Unread}
 use Rattle.quilt_words.proofs.Slices.{behind}
 use Rattle.quilt_lang.proofs.Commands.{given_command, given_spelled, given_fits}
 use Rattle.quilt_lang.proofs.lines.Lines.take_command.Goals as goal
