@@ -1,1 +1,3 @@
+-- Where a cursor stands, and its steps.
+pub mod Lowers
 pub mod Stands

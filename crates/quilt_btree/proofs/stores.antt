@@ -2,5 +2,6 @@
 pub mod Held
 pub mod Moves
 pub mod Pairs
+pub mod Reads
 pub mod Room
 pub mod Writes

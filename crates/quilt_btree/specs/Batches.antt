@@ -43,7 +43,7 @@ abbrev pub are_due : List Edit → List Record → Bool
 are_due [] rs = true
 are_due (e ∷ run) rs = is_due e rs && are_due run (edited e rs)
 
--- how many records the edits add and take, and how many pages they may change
+-- how many records the edits add and take, how many pages they may change, and how many they may read
 abbrev pub more_of : Edit → ℕ
 more_of (edit.Remove k) = 0
 more_of (edit.Put r) = 1
@@ -59,6 +59,11 @@ cost_of (edit.Remove k) = 7
 cost_of (edit.Put r) = 6
 cost_of (edit.Replace r) = 13
 
+abbrev pub looks_of : Edit → ℕ
+looks_of (edit.Remove k) = 11
+looks_of (edit.Put r) = 7
+looks_of (edit.Replace r) = 18
+
 abbrev pub more : List Edit → ℕ
 more [] = 0
 more (e ∷ run) = more_of e + more run
@@ -70,6 +75,10 @@ fewer (e ∷ run) = fewer_of e + fewer run
 abbrev pub cost : List Edit → ℕ
 cost [] = 0
 cost (e ∷ run) = cost_of e + cost run
+
+abbrev pub looks : List Edit → ℕ
+looks [] = 0
+looks (e ∷ run) = looks_of e + looks run
 
 -- a leaf of so many records is a leaf behind the edit
 abbrev pub HasRoom : Edit → ℕ → Type 0

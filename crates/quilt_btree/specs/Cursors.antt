@@ -22,6 +22,7 @@ pub record IsParted (told : Option (List (List ℕ))) (t : Tree) (k : Key) (befo
 pub record StandsIn (told : Option (List (List ℕ))) (t : Tree) (c : Cursor) (before after : List Record) : Type 0 where
   pub first : List Record
   pub last : List Record
+  pub some : 1 ≤ length (records_of c.bytes)
   pub in_range : c.place ≤ length (records_of c.bytes)
   pub is_before : before ≡ first ++ take c.place (records_of c.bytes)
   pub is_after : after ≡ drop c.place (records_of c.bytes) ++ last
@@ -41,3 +42,9 @@ pub record GoesOver (told : Option (List (List ℕ))) (t : Tree) (r : Record) (c
   pub rest : List Record
   pub records : after ≡ r ∷ rest
   pub stands : StandsIn told t c (before ++ r ∷ []) rest
+
+-- the cursor has gone back over the record before
+pub record GoesBack (told : Option (List (List ℕ))) (t : Tree) (r : Record) (c : Cursor) (before after : List Record) : Type 0 where
+  pub rest : List Record
+  pub records : before ≡ rest ++ r ∷ []
+  pub stands : StandsIn told t c rest (r ∷ after)

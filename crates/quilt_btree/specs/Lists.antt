@@ -1,7 +1,7 @@
 -- What the calls of a tree answer of its records, which ascend by their keys, and what they make of them.
-use Rattle.std.specs.Prelude.{ℕ, Bool, ◌&&◌, List, Option, Some, None, find, filter, take}
-use Rattle.std.specs.List.{last_or}
-use Rattle.std.specs.Ordering.{is_le}
+use Rattle.std.specs.Prelude.{◌≡◌, ℕ, Bool, true, ◌&&◌, List, [], ◌∷◌, ◌++◌, Option, Some, None, MatchOption, find, filter, take}
+use Rattle.std.specs.List.{last_or, list_all}
+use Rattle.std.specs.Ordering.{is_le, is_lt}
 use Rattle.quilt_record.specs.declared.key.Key.{Key}
 use Rattle.quilt_record.specs.declared.record.Record.{Record}
 use Rattle.quilt_record.specs.Records.{key_cmp}
@@ -23,6 +23,18 @@ is_at_most k r = is_le (key_cmp r.key k)
 -- the record of the greatest key that is at most this one
 unfoldable pub floor_of : Key → List Record → Option Record
 floor_of k rs = last_or None (filter (is_at_most k) rs)
+
+-- the record stands in the list, with keys below this one up to it, and none below it behind
+pub record IsLast (k : Key) (rs : List Record) (r : Record) : Type 0 where
+  pub before : List Record
+  pub behind : List Record
+  pub records : rs ≡ before ++ r ∷ behind
+  pub lower : list_all (λ l. is_lt (key_cmp l.key k)) (before ++ r ∷ []) ≡ true
+  pub higher : list_all (λ l. is_le (key_cmp k l.key)) behind ≡ true
+
+-- the record of the greatest key below this one, or none where no key is below it
+abbrev pub IsLower : Key → List Record → Option Record → Type 0
+IsLower k rs o = MatchOption o (list_all (λ r. is_le (key_cmp k r.key)) rs ≡ true) (IsLast k rs)
 
 -- the record's key is one of those from the first to the second
 abbrev pub is_from_to : Key → Key → Record → Bool

@@ -11,7 +11,7 @@ use Rattle.quilt_store.specs.Store.{Touches}
 use Rattle.quilt_world.specs.Tale.{Goes}
 use Rattle.quilt_store.specs.declared.store.PageStore.{Ghosts}
 use Rattle.quilt_btree.specs.Damage.{HasChild}
-use Rattle.quilt_btree.specs.Lists.{floor_of, is_from_to}
+use Rattle.quilt_btree.specs.Lists.{floor_of, is_from_to, IsLower}
 use Rattle.quilt_btree.specs.Searches.{AreOf, IsFork, IsStep}
 use Rattle.quilt_btree.specs.Trees.{ReadsLeaf}
 
@@ -50,6 +50,12 @@ pub record ShowsFloor (told : Option (List (List ℕ))) (page : ℕ) (k : Key) (
   pub bytes : List ℕ
   pub are : AreOf told page bytes
   pub floor : (rs : List Record) → leaf_of bytes ≡ Some rs → r ≡ floor_of k rs
+
+-- the page has some bytes, and this is the record of the greatest key below one among those of a leaf that they are
+pub record ShowsLower (told : Option (List (List ℕ))) (page : ℕ) (k : Key) (r : Option Record) : Type 0 where
+  pub bytes : List ℕ
+  pub are : AreOf told page bytes
+  pub lower : (rs : List Record) → leaf_of bytes ≡ Some rs → IsLower k rs r
 
 -- the page has some bytes, and this is the last record of a leaf that they are
 pub record ShowsEnd (told : Option (List (List ℕ))) (page : ℕ) (r : Record) : Type 0 where

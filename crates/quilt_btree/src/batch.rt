@@ -9,6 +9,7 @@ ghost use Rattle.quilt_btree.specs.Edits.{CanEdit};
 ghost use Rattle.quilt_btree.specs.Damage.{NamesBad};
 ghost use Rattle.quilt_store.specs.Stops.{HasStopCause, IsSound};
 ghost use Rattle.quilt_btree.specs.Looks.{LooksAt};
+ghost use Rattle.quilt_world.specs.Tale.{Goes};
 ghost use Rattle.quilt_btree.specs.Stops.{NamesPage};
 ghost use Rattle.quilt_btree.specs.Trees.{Spells};
 
@@ -64,6 +65,7 @@ pub fn edit_at<S: PageStore>(store: &mut S, page: u32, run: &[Edit]) -> Result<(
     ensures size { S.size store.new ≡ S.size store.old }
     ensures later { S.later store.old store.new }
     ensures changed { S.changed store.new ≤ S.changed store.old + 1 }
+    ensures reads { OnOk result (Goes (λ old new. new ≤ old + 1) (S.reads store.old) (S.reads store.new)) }
 {
     if store.is_free(page) {
         return Err(Stop::Damaged { page: 0 });
@@ -103,6 +105,7 @@ fn edit_leaf<S: PageStore>(
     ensures size { S.size store.new ≡ S.size store.old }
     ensures later { S.later store.old store.new }
     ensures changed { S.changed store.new ≤ S.changed store.old + 1 }
+    ensures reads { IfOk result (λ n. Goes (λ old new. (new ≤ old + 2) × (n ≡ 0 → new ≤ old + 1)) (S.reads store.old) (S.reads store.new)) }
     ensures unchanged { IfOk result (λ n. n ≡ 0 → S.changed store.new ≤ S.changed store.old) }
 {
     let n = match plan_at(store, page, least_records(is_root), high, run) {
@@ -146,6 +149,7 @@ pub fn edit_under<S: PageStore>(
     ensures size { S.size store.new ≡ S.size store.old }
     ensures later { S.later store.old store.new }
     ensures changed { S.changed store.new ≤ S.changed store.old + 1 }
+    ensures reads { IfOk result (λ n. Goes (λ old new. (new ≤ old + height + 1) × (n ≡ 0 → new ≤ old + height)) (S.reads store.old) (S.reads store.new)) }
     ensures unchanged { IfOk result (λ n. n ≡ 0 → S.changed store.new ≤ S.changed store.old) }
 {
     if height == 1 {

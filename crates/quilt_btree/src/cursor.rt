@@ -1,22 +1,19 @@
-ghost use Rattle.std.specs.Prelude.{◌≡◌, ◌≢◌, ℕ, ◌+◌, ◌<◌, ◌≤◌, ◌++◌, true, IfOk, IfErr, IfSome, OnOk, MatchOption, List, [], Option, Some, length, take, drop};
-ghost use Rattle.std.specs.List.{list_all};
-ghost use Rattle.std.specs.Ordering.{is_le, is_lt};
+ghost use Rattle.std.specs.Prelude.{◌≡◌, ◌≢◌, ℕ, ◌+◌, ◌<◌, ◌≤◌, ◌++◌, IfOk, IfErr, OnOk, MatchOption, List, [], Option, None, length};
 ghost use Rattle.quilt_record.specs.declared.record.Record.{Record};
-ghost use Rattle.quilt_record.specs.Records.{key_cmp};
 ghost use Rattle.quilt_types.specs.declared.stop.Stop.TheVariants.{Damaged};
-ghost use Rattle.quilt_node.specs.Pages.{leaf_of};
 ghost use Rattle.quilt_node.specs.Nodes.{records_of};
 ghost use Rattle.quilt_store.specs.Calls.{OnlyReads};
 ghost use Rattle.quilt_world.specs.Tale.{Goes};
 ghost use Rattle.quilt_store.specs.Stops.{IsSound};
 ghost use Rattle.quilt_btree.specs.Damage.{NamesBad};
 ghost use Rattle.quilt_btree.specs.Stops.{NamesPage};
-ghost use Rattle.quilt_btree.specs.Cursors.{IsParted, StandsIn, IsSought, GoesOver};
+ghost use Rattle.quilt_btree.specs.Cursors.{IsParted, StandsIn, IsSought, GoesOver, GoesBack};
 
+use crate::lower::{lower_under, place_from};
 use crate::pages::stop_of;
 use crate::reading::leaf_at;
 use crate::tree::Tree;
-use quilt_node::{find_in, rec_in, records_in};
+use quilt_node::{rec_in, records_in};
 use quilt_record::{Key, Record};
 use quilt_store::PageStore;
 use quilt_types::Stop;
@@ -28,19 +25,6 @@ pub struct Cursor {
     bytes: [u8; 4096],
     place: usize,
     high: Option<Key>,
-}
-
-/// The number of records of a leaf whose keys are below `k`; some place of it for any bytes.
-fn place_from(bytes: &[u8; 4096], k: &Key) -> usize
-    ensures range { result ≤ length (records_of bytes.now) }
-    ensures lower { leaf_of bytes.now ≡ Some (records_of bytes.now) → list_all (λ r. is_lt (key_cmp r.key k.now)) (take result (records_of bytes.now)) ≡ true }
-    ensures higher { leaf_of bytes.now ≡ Some (records_of bytes.now) → list_all (λ r. is_le (key_cmp k.now r.key)) (drop result (records_of bytes.now)) ≡ true }
-{
-    let n = records_in(bytes);
-    match find_in(bytes, k) {
-        Ok(i) => if i < n { i } else { n },
-        Err(i) => if i < n { i } else { n },
-    }
 }
 
 impl Tree {
@@ -133,6 +117,44 @@ impl Tree {
             }
         }
     }
+
+    /// Goes back over the record before the cursor's place, which is the answer: none where it stands before the first, and
+    /// there it stays. It reads nothing where the record is in the cursor's leaf, and else at most 8 pages.
+    pub fn previous<S: PageStore>(
+        &self,
+        store: &mut S,
+        c: &mut Cursor,
+    ) -> Result<Option<Record>, Stop>
+        requires rooted { IsRooted (S.size store.old) self.now }
+        requires some { 1 ≤ self.now.height }
+        ensures previous { IfOk result (λ r. (before after : List Record) → IsTree (S.told store.old) self.now (before ++ after)
+            → StandsIn (S.told store.old) self.now c.old before after
+            → MatchOption r (before ≡ []) (λ r. GoesBack (S.told store.old) self.now r c.new before after)) }
+        ensures stays { IfOk result (λ r. r ≡ None → c.new ≡ c.old) }
+        ensures sound { IfErr result (λ e. (rs : List Record) → IsTree (S.told store.old) self.now rs → IsSound e) }
+        ensures names { IfErr result (NamesPage (S.size store.old)) }
+        ensures bad { IfErr result (NamesBad (S.told store.old) self.now.height self.now.root) }
+        ensures left { OnlyReads S.PageStore store.old store.new result }
+        ensures reads { Goes (λ old new. new ≤ old + 8) (S.reads store.old) (S.reads store.new) }
+        ensures here { 0 < c.old.place → c.old.place ≤ length (records_of c.old.bytes)
+            → Goes (λ old new. new ≤ old) (S.reads store.old) (S.reads store.new) }
+    {
+        if 0 < c.place && c.place <= records_in(&c.bytes) {
+            return Ok(Some(back(c)));
+        }
+        let first = rec_in(&c.bytes, 0);
+        match lower_under(store, self.root, self.height, &first.key) {
+            Err(e) => Err(e),
+            Ok(None) => Ok(None),
+            Ok(Some(r)) => match self.seek(store, &r.key) {
+                Err(e) => Err(e),
+                Ok(found) => {
+                    *c = found;
+                    Ok(Some(r))
+                }
+            },
+        }
+    }
 }
 
 /// The record behind the cursor's place, which goes over it.
@@ -144,4 +166,14 @@ fn over(c: &mut Cursor) -> Record
     let r = rec_in(&c.bytes, c.place);
     c.place += 1;
     r
+}
+
+/// The record before the cursor's place, which goes back over it.
+fn back(c: &mut Cursor) -> Record
+    requires here { 0 < c.old.place }
+    requires place { (c.old.place ≤ 144) × (c.old.place ≤ length (records_of c.old.bytes)) }
+    ensures { (told : Option (List (List ℕ))) (t : Tree) (before after : List Record) → StandsIn told t c.old before after → GoesBack told t result c.new before after }
+{
+    c.place -= 1;
+    rec_in(&c.bytes, c.place)
 }

@@ -8,6 +8,7 @@ ghost use Rattle.quilt_node.specs.Nodes.{IsGap, are_pages};
 ghost use Rattle.quilt_node.specs.Edits.{with_child};
 ghost use Rattle.quilt_node.specs.Tree.{Bounds};
 ghost use Rattle.quilt_store.specs.Store.{count_free};
+ghost use Rattle.quilt_world.specs.Tale.{Goes};
 ghost use Rattle.quilt_types.specs.declared.stop.Stop.TheVariants.{Damaged};
 ghost use Rattle.quilt_btree.specs.Damage.{NamesBad};
 ghost use Rattle.quilt_record.specs.Lists.{has_key};
@@ -54,6 +55,7 @@ pub fn insert_leaf<S: PageStore>(store: &mut S, page: u32, r: &Record) -> Result
     ensures size { S.size store.new ≡ S.size store.old }
     ensures later { S.later store.old store.new }
     ensures changed { S.changed store.new ≤ S.changed store.old + 2 }
+    ensures reads { OnOk result (Goes (λ old new. new ≤ old + 2) (S.reads store.old) (S.reads store.new)) }
 {
     let seen = match see_at(store, page, &r.key) {
         Err(e) => return Err(e),
@@ -92,6 +94,7 @@ fn insert_full<S: PageStore>(store: &mut S, page: u32, r: &Record) -> Result<Ins
     ensures size { S.size store.new ≡ S.size store.old }
     ensures later { S.later store.old store.new }
     ensures changed { S.changed store.new ≤ S.changed store.old + 2 }
+    ensures reads { Goes (λ old new. new ≤ old + 1) (S.reads store.old) (S.reads store.new) }
 {
     let mut leaf = match read_leaf(store, page, page) {
         Err(e) => return Err(e),
@@ -126,6 +129,7 @@ pub fn put_record<S: PageStore>(
     ensures size { S.size store.new ≡ S.size store.old }
     ensures later { S.later store.old store.new }
     ensures changed { S.changed store.new ≤ S.changed store.old + 2 }
+    ensures reads { Goes (λ old new. new ≤ old) (S.reads store.old) (S.reads store.new) }
 {
     if leaf.len() < MOST_RECORDS {
         leaf.insert(i, r);
@@ -197,6 +201,7 @@ pub fn put_child<S: PageStore>(
     ensures size { S.size store.new ≡ S.size store.old }
     ensures later { S.later store.old store.new }
     ensures changed { S.changed store.new ≤ S.changed store.old + 2 }
+    ensures reads { Goes (λ old new. new ≤ old) (S.reads store.old) (S.reads store.new) }
 {
     if !fits(inner, i, key) {
         return Err(Stop::Damaged { page: 0 });
@@ -244,6 +249,7 @@ pub fn insert_under<S: PageStore>(
     ensures size { S.size store.new ≡ S.size store.old }
     ensures later { S.later store.old store.new }
     ensures changed { S.changed store.new ≤ S.changed store.old + 2 * height }
+    ensures reads { OnOk result (Goes (λ old new. new ≤ old + height + 1) (S.reads store.old) (S.reads store.new)) }
 {
     if height == 1 {
         return insert_leaf(store, page, r);

@@ -1,12 +1,14 @@
-ghost use Rattle.std.specs.Prelude.{◌≡◌, ℕ, ◌+◌, ◌-◌, ◌<◌, ◌≤◌, ◌++◌, ◌∷◌, Bool, true, IfOk, IfErr, List, length, slice_set};
+ghost use Rattle.std.specs.Prelude.{◌≡◌, ◌⊎◌, ℕ, ◌+◌, ◌-◌, ◌<◌, ◌≤◌, ◌++◌, ◌∷◌, Bool, true, IfOk, IfErr, List, length, slice_set};
 ghost use Rattle.std.specs.Ordering.{is_lt};
 ghost use Rattle.quilt_record.specs.Records.{key_cmp};
 ghost use Rattle.quilt_record.specs.declared.record.Record.{Record};
 ghost use Rattle.quilt_node.specs.Pages.{is_ascending};
 ghost use Rattle.quilt_node.specs.Nodes.{keys_of};
 ghost use Rattle.quilt_node.specs.Tree.{Bounds};
+ghost use Rattle.quilt_world.specs.Tale.{Goes};
 ghost use Rattle.quilt_store.specs.Stops.{HasStopCause, IsSound};
 ghost use Rattle.quilt_btree.specs.Stops.{NamesPage};
+ghost use Rattle.quilt_btree.specs.Damage.{NamesSpare};
 ghost use Rattle.quilt_btree.specs.Rebalancing.{CanRebalance, DidRebalance};
 
 use crate::outcomes::Rebalanced;
@@ -94,12 +96,22 @@ fn share_children(left: &mut InnerPage, key: &Key, right: &mut InnerPage) -> Key
     }
 }
 
-/// Joins two neighbouring leaves, or moves a record, so that none has under 72.
+/// The page that is named where a page is bad: the page itself where it is `spare`, which was only read, and else 0.
+fn named_of(page: u32, spare: u32) -> u32
+    ensures most { result ≤ page }
+    ensures named { (result ≡ 0) ⊎ ((result ≡ page) × (page ≡ spare)) }
+{
+    if page == spare { page } else { 0 }
+}
+
+/// Joins two neighbouring leaves, or moves a record, so that none has under 72. One that is no leaf is said to be damaged
+/// where it is `spare`, which was only read, and page 0 in place of one that the call has written.
 fn rebalance_leaves<S: PageStore>(
     store: &mut S,
     left: u32,
     key: &Key,
     right: u32,
+    spare: u32,
 ) -> Result<Rebalanced, Stop>
     requires left { (1 ≤ left) × (left < S.size store.old) }
     requires right { (1 ≤ right) × (right < S.size store.old) }
@@ -108,14 +120,16 @@ fn rebalance_leaves<S: PageStore>(
         → DidRebalance (S.told store.old) (S.told store.new) (S.free store.old) (S.free store.new) height left right b rs used o) }
     ensures sound { IfErr result (λ e. (height : ℕ) (b : Bounds) (rs : List Record) (used : List ℕ) → height ≡ 1
         → CanRebalance (S.told store.old) (S.free store.old) height left key.now right b rs used → IsSound e) }
-    ensures names { IfErr result (NamesPage 1) }
+    ensures names { IfErr result (NamesPage (S.size store.old)) }
+    ensures bad { IfErr result (λ e. (height : ℕ) → height ≡ 1 → NamesSpare (S.told store.old) height spare e) }
     ensures cause { HasStopCause (S.faults store.old) (S.faults store.new) result }
     ensures size { S.size store.new ≡ S.size store.old }
     ensures later { S.later store.old store.new }
     ensures changed { S.changed store.new ≤ S.changed store.old + 2 }
+    ensures reads { Goes (λ old new. new ≤ old + 2) (S.reads store.old) (S.reads store.new) }
 {
-    let mut first = read_leaf(store, left, 0)?;
-    let mut rest = read_leaf(store, right, 0)?;
+    let mut first = read_leaf(store, left, named_of(left, spare))?;
+    let mut rest = read_leaf(store, right, named_of(right, spare))?;
     if !leaves_ascend(&first, &rest) {
         return Err(Stop::Damaged { page: 0 });
     }
@@ -156,6 +170,7 @@ fn rebalance_inners<S: PageStore>(
     ensures size { S.size store.new ≡ S.size store.old }
     ensures later { S.later store.old store.new }
     ensures changed { S.changed store.new ≤ S.changed store.old + 2 }
+    ensures reads { Goes (λ old new. new ≤ old + 2) (S.reads store.old) (S.reads store.new) }
 {
     let mut first = read_inner(store, left, height)?;
     let mut rest = read_inner(store, right, height)?;
@@ -176,13 +191,15 @@ fn rebalance_inners<S: PageStore>(
     }
 }
 
-/// Joins two neighbouring pages of this height, or moves a record or a child, so that none has too few.
+/// Joins two neighbouring pages of this height, or moves a record or a child, so that none has too few. A leaf that is
+/// none is said to be damaged where it is `spare`, which was only read, and page 0 in place of any other page.
 pub fn rebalance_pages<S: PageStore>(
     store: &mut S,
     height: u8,
     left: u32,
     key: &Key,
     right: u32,
+    spare: u32,
 ) -> Result<Rebalanced, Stop>
     requires height { 1 ≤ height }
     requires left { (1 ≤ left) × (left < S.size store.old) }
@@ -192,14 +209,16 @@ pub fn rebalance_pages<S: PageStore>(
         → DidRebalance (S.told store.old) (S.told store.new) (S.free store.old) (S.free store.new) height left right b rs used o) }
     ensures sound { IfErr result (λ e. (b : Bounds) (rs : List Record) (used : List ℕ)
         → CanRebalance (S.told store.old) (S.free store.old) height left key.now right b rs used → IsSound e) }
-    ensures names { IfErr result (NamesPage 1) }
+    ensures names { IfErr result (NamesPage (S.size store.old)) }
+    ensures bad { IfErr result (NamesSpare (S.told store.old) height spare) }
     ensures cause { HasStopCause (S.faults store.old) (S.faults store.new) result }
     ensures size { S.size store.new ≡ S.size store.old }
     ensures later { S.later store.old store.new }
     ensures changed { S.changed store.new ≤ S.changed store.old + 2 }
+    ensures reads { Goes (λ old new. new ≤ old + 2) (S.reads store.old) (S.reads store.new) }
 {
     if height == 1 {
-        rebalance_leaves(store, left, key, right)
+        rebalance_leaves(store, left, key, right, spare)
     } else {
         rebalance_inners(store, height, left, key, right)
     }

@@ -8,8 +8,9 @@ ghost use Rattle.quilt_node.specs.Tree.{Bounds};
 ghost use Rattle.quilt_btree.specs.declared.outcomes.Removed.TheVariants.{Missing, Emptied};
 ghost use Rattle.quilt_btree.specs.Edits.{CanEdit, DidLeave, DidRemove, HasPageIn};
 ghost use Rattle.quilt_record.specs.Lists.{has_key};
+ghost use Rattle.quilt_world.specs.Tale.{Goes};
 ghost use Rattle.quilt_types.specs.declared.stop.Stop.TheVariants.{Damaged};
-ghost use Rattle.quilt_btree.specs.Damage.{NamesBad};
+ghost use Rattle.quilt_btree.specs.Damage.{NamesBad, NamesBeside, OthersStay};
 ghost use Rattle.quilt_btree.specs.Rebalancing.{HasUnderfull, HasDropped, Writes};
 ghost use Rattle.quilt_btree.specs.Outcomes.{was_found};
 ghost use Rattle.quilt_store.specs.Stops.{HasStopCause, IsSound};
@@ -42,12 +43,14 @@ fn remove_in_leaf<S: PageStore>(store: &mut S, page: u32, k: &Key) -> Result<Rem
     ensures same { IfOk result (λ o. o ≡ Missing → (S.told store.new ≡ S.told store.old) × (S.free store.new ≡ S.free store.old)) }
     ensures unchanged { IfOk result (λ o. o ≡ Missing → S.changed store.new ≤ S.changed store.old) }
     ensures child { IfOk result (λ o. HasPageIn (S.size store.old) o) }
+    ensures others { OnOk result (Goes (OthersStay page) (S.told store.old) (S.told store.new)) }
     ensures names { IfErr result (NamesPage (S.size store.old)) }
     ensures bad { IfErr result (λ e. e ≢ Damaged 0 → NamesBad (S.told store.old) 1 page e) }
     ensures cause { HasStopCause (S.faults store.old) (S.faults store.new) result }
     ensures size { S.size store.new ≡ S.size store.old }
     ensures later { S.later store.old store.new }
     ensures changed { S.changed store.new ≤ S.changed store.old + 1 }
+    ensures reads { OnOk result (Goes (λ old new. new ≤ old + 2) (S.reads store.old) (S.reads store.new)) }
 {
     let seen = match see_at(store, page, k) {
         Err(e) => return Err(e),
@@ -78,6 +81,19 @@ fn pair_at(i: usize, n: usize) -> usize
     if i + 1 < n { i } else { i - 1 }
 }
 
+/// The one of two neighbouring children that is not `child`, which was edited; 0 where both are.
+fn other_of(left: u32, right: u32, child: u32) -> u32
+    ensures { result ≢ 0 → ((result ≡ left) ⊎ (result ≡ right)) × (result ≢ child) }
+{
+    if left != child {
+        left
+    } else if right != child {
+        right
+    } else {
+        0
+    }
+}
+
 /// Writes an inner page without key `j` and the child behind it, unless it has two children alone.
 fn drop_child<S: PageStore>(
     store: &mut S,
@@ -98,6 +114,7 @@ fn drop_child<S: PageStore>(
     ensures size { S.size store.new ≡ S.size store.old }
     ensures later { S.later store.old store.new }
     ensures changed { S.changed store.new ≤ S.changed store.old + 1 }
+    ensures reads { Goes (λ old new. new ≤ old) (S.reads store.old) (S.reads store.new) }
 {
     if inner.len() == 2 {
         return Ok(Removed::Only {
@@ -136,6 +153,7 @@ fn renew_key<S: PageStore>(
     ensures size { S.size store.new ≡ S.size store.old }
     ensures later { S.later store.old store.new }
     ensures changed { S.changed store.new ≤ S.changed store.old + 1 }
+    ensures reads { Goes (λ old new. new ≤ old) (S.reads store.old) (S.reads store.new) }
 {
     if !key_fits(inner, j, key) {
         return Err(Stop::Damaged { page: 0 });
@@ -144,7 +162,8 @@ fn renew_key<S: PageStore>(
     write_page(store, page, inner.bytes())
 }
 
-/// Rebalances child `i` of an inner page with a neighbour, and writes the page where it has two children or more then.
+/// Rebalances child `i` of an inner page, which was edited, with a neighbour, and writes the page where it has two children
+/// or more then. A neighbour that is no leaf is said to be damaged, unless it is the same page.
 fn rebalance_child<S: PageStore>(
     store: &mut S,
     page: u32,
@@ -163,17 +182,20 @@ fn rebalance_child<S: PageStore>(
         → HasUnderfull (S.told store.old) (S.free store.old) page height inner.old i is_root b rs used → IsSound e) }
     ensures some { IfOk result (λ o. o ≡ Missing → ⊥) }
     ensures child { IfOk result (λ o. HasPageIn (S.size store.old) o) }
-    ensures names { IfErr result (NamesPage 1) }
+    ensures names { IfErr result (NamesPage (S.size store.old)) }
+    ensures bad { IfErr result (NamesBeside (S.told store.old) height inner.old i) }
     ensures cause { HasStopCause (S.faults store.old) (S.faults store.new) result }
     ensures size { S.size store.new ≡ S.size store.old }
     ensures later { S.later store.old store.new }
     ensures changed { S.changed store.new ≤ S.changed store.old + 3 }
+    ensures reads { Goes (λ old new. new ≤ old + 2) (S.reads store.old) (S.reads store.new) }
 {
     let j = pair_at(i, inner.len());
     let left = inner.child(j);
     let right = inner.child(j + 1);
     let key = inner.key(j);
-    match rebalance_pages(store, height - 1, left, &key, right) {
+    let spare = other_of(left, right, inner.child(i));
+    match rebalance_pages(store, height - 1, left, &key, right, spare) {
         Err(e) => Err(e),
         Ok(Rebalanced::Joined) => drop_child(store, page, inner, j),
         Ok(Rebalanced::Redistributed { key }) => match renew_key(store, page, inner, j, &key) {
@@ -201,12 +223,14 @@ pub fn remove_under<S: PageStore>(
     ensures same { IfOk result (λ o. o ≡ Missing → (S.told store.new ≡ S.told store.old) × (S.free store.new ≡ S.free store.old)) }
     ensures unchanged { IfOk result (λ o. o ≡ Missing → S.changed store.new ≤ S.changed store.old) }
     ensures child { IfOk result (λ o. HasPageIn (S.size store.old) o) }
+    ensures others { OnOk result (height ≡ 1 → Goes (OthersStay page) (S.told store.old) (S.told store.new)) }
     ensures names { IfErr result (NamesPage (S.size store.old)) }
     ensures bad { IfErr result (λ e. e ≢ Damaged 0 → NamesBad (S.told store.old) height page e) }
     ensures cause { HasStopCause (S.faults store.old) (S.faults store.new) result }
     ensures size { S.size store.new ≡ S.size store.old }
     ensures later { S.later store.old store.new }
     ensures changed { S.changed store.new + 2 ≤ S.changed store.old + 3 * height }
+    ensures reads { OnOk result (Goes (λ old new. new + 1 ≤ old + 3 * height) (S.reads store.old) (S.reads store.new)) }
 {
     if height == 1 {
         return remove_in_leaf(store, page, k);

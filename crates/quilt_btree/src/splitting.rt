@@ -27,6 +27,7 @@ pub fn write_split<S: PageStore>(
     ensures size { S.size store.new ≡ S.size store.old }
     ensures later { S.later store.old store.new }
     ensures changed { S.changed store.new ≤ S.changed store.old + 2 }
+    ensures reads { Goes (λ old new. new ≤ old) (S.reads store.old) (S.reads store.new) }
 {
     if store.is_free(page) || store.free_pages() == 0 {
         return Err(Stop::Damaged { page: 0 });
@@ -53,6 +54,7 @@ pub fn write_new<S: PageStore>(store: &mut S, bytes: &[u8; 4096]) -> Result<u32,
     ensures size { S.size store.new ≡ S.size store.old }
     ensures later { S.later store.old store.new }
     ensures changed { S.changed store.new ≤ S.changed store.old + 1 }
+    ensures reads { Goes (λ old new. new ≤ old) (S.reads store.old) (S.reads store.new) }
 {
     if store.free_pages() == 0 {
         return Err(Stop::Damaged { page: 0 });

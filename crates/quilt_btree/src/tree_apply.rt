@@ -1,9 +1,10 @@
 ghost use Rattle.std.specs.Prelude.{◌≡◌, ◌≢◌, ℕ, ◌+◌, ◌*◌, ◌<◌, ◌≤◌, true, false, IfOk, IfErr, IfSome, None, OnOk, List, length, take};
 ghost use Rattle.quilt_record.specs.declared.record.Record.{Record};
 ghost use Rattle.quilt_types.specs.Facts.{quota};
+ghost use Rattle.quilt_world.specs.Tale.{Goes};
 ghost use Rattle.quilt_types.specs.declared.stop.Stop.TheVariants.{Damaged};
 ghost use Rattle.quilt_node.specs.Pages.{is_ascending};
-ghost use Rattle.quilt_btree.specs.Batches.{edit_keys, is_due, edited, are_due, edit_all, more_of, fewer_of, cost_of, more, fewer, cost, removed, added};
+ghost use Rattle.quilt_btree.specs.Batches.{edit_keys, is_due, edited, are_due, edit_all, more_of, fewer_of, cost_of, looks_of, more, fewer, cost, looks, removed, added};
 ghost use Rattle.quilt_btree.specs.Runs.{put_all, without_all};
 ghost use Rattle.quilt_btree.specs.Damage.{NamesBad};
 ghost use Rattle.quilt_store.specs.Stops.{HasStopCause};
@@ -23,9 +24,9 @@ impl Tree {
 
     /// Makes the edits of a run, whose keys ascend, in one walk from left to right: a leaf that they concern is looked for
     /// once, read once and written once, but where it has to be split or rebalanced. It changes at most 7 pages for each
-    /// record that goes and 6 for each that comes; one in the place of another counts for both. Where an edit is not due
-    /// page 0 is said to be damaged, and the tree and the store are then only given up. Behind its first step it names no
-    /// page over 0.
+    /// record that goes and 6 for each that comes, and reads at most 11 and 7; one in the place of another counts for both.
+    /// Where an edit is not due page 0 is said to be damaged, and the tree and the store are then only given up. Behind its
+    /// first step it names no page over 0.
     pub fn apply<S: PageStore>(&mut self, store: &mut S, run: &[Edit]) -> Result<(), Stop>
         requires rooted { IsRooted (S.size store.old) self.old }
         requires room { self.old.records + more run.now ≤ quota (S.size store.old) }
@@ -44,6 +45,8 @@ impl Tree {
         ensures size { S.size store.new ≡ S.size store.old }
         ensures later { S.later store.old store.new }
         ensures changed { S.changed store.new ≤ S.changed store.old + 7 * length (removed run.now) + 6 * length (added run.now) }
+        ensures reads { OnOk result (Goes (λ old new. new ≤ old + (11 * length (removed run.now) + 7 * length (added run.now))) (S.reads store.old)
+            (S.reads store.new)) }
     {
         let mut done = 0;
         while done < run.len() {
@@ -76,6 +79,7 @@ impl Tree {
         ensures later { S.later store.old store.new }
         ensures changed { IfOk result (λ n. S.changed store.new ≤ S.changed store.old + cost (take n run.now)) }
         ensures less { IfErr result (λ e. S.changed store.new ≤ S.changed store.old + cost run.now) }
+        ensures reads { IfOk result (λ n. Goes (λ old new. new ≤ old + looks (take n run.now)) (S.reads store.old) (S.reads store.new)) }
     {
         if self.height == 0 {
             return self.apply_first(store, run);
@@ -116,6 +120,7 @@ impl Tree {
         ensures later { S.later store.old store.new }
         ensures changed { IfOk result (λ n. S.changed store.new ≤ S.changed store.old + cost (take n run.now)) }
         ensures less { IfErr result (λ e. S.changed store.new ≤ S.changed store.old + cost run.now) }
+        ensures reads { IfOk result (λ n. Goes (λ old new. new + 3 ≤ old + looks (take n run.now)) (S.reads store.old) (S.reads store.new)) }
     {
         match self.apply_one(store, &run[0]) {
             Err(e) => Err(e),
@@ -140,6 +145,7 @@ impl Tree {
         ensures size { S.size store.new ≡ S.size store.old }
         ensures later { S.later store.old store.new }
         ensures changed { S.changed store.new ≤ S.changed store.old + cost_of edit.now }
+        ensures reads { OnOk result (Goes (λ old new. new + 3 ≤ old + looks_of edit.now) (S.reads store.old) (S.reads store.new)) }
     {
         match edit {
             Edit::Remove { key } => match self.remove(store, key) {

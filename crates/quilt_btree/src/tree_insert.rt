@@ -4,6 +4,7 @@ ghost use Rattle.quilt_record.specs.declared.record.Record.{Record};
 ghost use Rattle.quilt_types.specs.Facts.{quota};
 ghost use Rattle.quilt_store.specs.Store.{count_free};
 ghost use Rattle.quilt_record.specs.Lists.{has_key, put};
+ghost use Rattle.quilt_world.specs.Tale.{Goes};
 ghost use Rattle.quilt_types.specs.declared.stop.Stop.TheVariants.{Damaged};
 ghost use Rattle.quilt_btree.specs.Damage.{NamesBad};
 ghost use Rattle.quilt_store.specs.Stops.{HasStopCause, IsSound};
@@ -22,8 +23,8 @@ impl Tree {
     ghost use Rattle.quilt_btree.specs.Trees.{IsRooted, IsTree};
     ghost use Rattle.quilt_btree.specs.Edits.{IsWhole, HasItsPages};
 
-    /// Puts a record in: false exactly where its key is there, and nothing changes. It changes at most 6 pages. Over a
-    /// store that tells nothing, page 0 is said to be damaged where no page is free for a split, a page that is to be
+    /// Puts a record in: false exactly where its key is there, and nothing changes. It changes at most 6 pages, and reads at
+    /// most 4. Over a store that tells nothing, page 0 is said to be damaged where no page is free for a split, a page that is to be
     /// written is free, the tree would come to height 4, or a page does not fit the one above by its height or its keys;
     /// and any other page where that was not well formed at the call: an inner page that stays as it is is not looked into.
     pub fn insert<S: PageStore>(&mut self, store: &mut S, r: &Record) -> Result<bool, Stop>
@@ -50,6 +51,7 @@ impl Tree {
         ensures size { S.size store.new ≡ S.size store.old }
         ensures later { S.later store.old store.new }
         ensures changed { S.changed store.new ≤ S.changed store.old + 6 }
+        ensures reads { OnOk result (Goes (λ old new. new ≤ old + 4) (S.reads store.old) (S.reads store.new)) }
     {
         if self.height == 0 {
             let leaf = LeafPage::one(r);

@@ -1,6 +1,7 @@
 ghost use Rattle.std.specs.Prelude.{◌≡◌, ◌≢◌, ℕ, ◌+◌, ◌-◌, ◌<◌, ◌≤◌, Bool, true, false, IfOk, IfErr, OnOk, IsErrOf, List, length};
 ghost use Rattle.std.specs.List.{list_any};
 ghost use Rattle.quilt_record.specs.declared.record.Record.{Record};
+ghost use Rattle.quilt_world.specs.Tale.{Goes};
 ghost use Rattle.quilt_types.specs.declared.stop.Stop.TheVariants.{Device, Damaged};
 ghost use Rattle.quilt_record.specs.Lists.{has_key, without};
 ghost use Rattle.quilt_btree.specs.Damage.{NamesBad};
@@ -19,11 +20,12 @@ impl Tree {
     ghost use Rattle.quilt_btree.specs.Trees.{IsRooted, IsTree};
     ghost use Rattle.quilt_btree.specs.Edits.{IsWhole, HasItsPages};
 
-    /// Takes the record of a key out: false exactly where there is none, and nothing changes. It changes at most 7 pages.
-    /// Over a store that tells nothing, page 0 is said to be damaged where a page that is to be written or given back is
-    /// free, the number of records does not go with the height, a page does not fit the one above or beside by its height,
-    /// its keys or how few they are, or a page beside one that was written is not well formed; and any other page where
-    /// that was not well formed at the call: an inner page that stays as it is is not looked into.
+    /// Takes the record of a key out: false exactly where there is none, and nothing changes. It changes at most 7 pages,
+    /// and reads at most 8. Over a store that tells nothing, page 0 is said to be damaged where a page that is to be written
+    /// or given back is free, the number of records does not go with the height, a page does not fit the one above or beside
+    /// by its height, its keys or how few they are, or an inner page beside one that was written is not well formed; and any
+    /// other page where that was not well formed at the call, also a leaf beside the one that is edited: an inner page that
+    /// stays as it is is not looked into.
     pub fn remove<S: PageStore>(&mut self, store: &mut S, k: &Key) -> Result<bool, Stop>
         requires rooted { IsRooted (S.size store.old) self.old }
         ensures rooted { OnOk result (IsRooted (S.size store.old) self.new) }
@@ -45,6 +47,7 @@ impl Tree {
         ensures size { S.size store.new ≡ S.size store.old }
         ensures later { S.later store.old store.new }
         ensures changed { S.changed store.new ≤ S.changed store.old + 7 }
+        ensures reads { OnOk result (Goes (λ old new. new ≤ old + 8) (S.reads store.old) (S.reads store.new)) }
     {
         if self.height == 0 {
             return Ok(false);

@@ -21,6 +21,7 @@ pub fn write_page<S: PageStore>(store: &mut S, page: u32, bytes: &[u8; 4096]) ->
     ensures size { S.size store.new ≡ S.size store.old }
     ensures later { S.later store.old store.new }
     ensures changed { S.changed store.new ≤ S.changed store.old + 1 }
+    ensures reads { Goes (λ old new. new ≤ old) (S.reads store.old) (S.reads store.new) }
 {
     if store.is_free(page) {
         return Err(Stop::Damaged { page: 0 });
@@ -49,6 +50,7 @@ pub fn write_and_give<S: PageStore>(
     ensures size { S.size store.new ≡ S.size store.old }
     ensures later { S.later store.old store.new }
     ensures changed { S.changed store.new ≤ S.changed store.old + 1 }
+    ensures reads { Goes (λ old new. new ≤ old) (S.reads store.old) (S.reads store.new) }
 {
     if store.is_free(right) {
         return Err(Stop::Damaged { page: 0 });
@@ -80,6 +82,7 @@ pub fn write_both<S: PageStore>(
     ensures size { S.size store.new ≡ S.size store.old }
     ensures later { S.later store.old store.new }
     ensures changed { S.changed store.new ≤ S.changed store.old + 2 }
+    ensures reads { Goes (λ old new. new ≤ old) (S.reads store.old) (S.reads store.new) }
 {
     match write_page(store, left, bytes) {
         Err(e) => Err(e),
@@ -99,6 +102,7 @@ pub fn give_back<S: PageStore>(store: &mut S, page: u32) -> Result<(), Stop>
     ensures size { S.size store.new ≡ S.size store.old }
     ensures later { S.later store.old store.new }
     ensures changed { S.changed store.new ≤ S.changed store.old }
+    ensures reads { Goes (λ old new. new ≤ old) (S.reads store.old) (S.reads store.new) }
 {
     if store.is_free(page) {
         return Err(Stop::Damaged { page: 0 });

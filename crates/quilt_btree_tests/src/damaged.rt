@@ -30,7 +30,7 @@ fn by_edits(page: u32) -> [u32; 7] {
 }
 
 /// The removals alone name the page: they have to look at the one above the leaf, and at the one beside it. They name page 0
-/// for what they see once they have written.
+/// for what two pages have wrong together.
 fn by_removals(page: u32) -> [u32; 7] {
     [NONE, NONE, NONE, NONE, page, NONE, page]
 }
@@ -126,7 +126,7 @@ fn a_leaf_that_is_listed_twice_stops_removals(rt: HostRuntime) -> Result<(), Fai
 }
 
 #[test]
-fn a_page_that_is_no_leaf_stops_removals_beside_it(rt: HostRuntime) -> Result<(), Fail> {
+fn a_page_that_is_no_leaf_is_named_by_removals_beside_it(rt: HostRuntime) -> Result<(), Fail> {
     for how in [
         Spoil::Byte(354, 0),
         Spoil::Byte(2, 255),
@@ -134,7 +134,7 @@ fn a_page_that_is_no_leaf_stops_removals_beside_it(rt: HostRuntime) -> Result<()
         Spoil::Ones,
         Spoil::Inner,
     ] {
-        try_two(&rt, rt.alloc(), 72, (3, how), 80, by_removals(0))?;
+        try_two(&rt, rt.alloc(), 72, (3, how), 80, by_removals(3))?;
     }
     Ok(())
 }

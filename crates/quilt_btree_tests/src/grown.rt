@@ -153,4 +153,12 @@ impl Grown {
         }
         self.tree.next(&mut self.store, c)
     }
+
+    /// The record before a cursor.
+    pub fn previous(&mut self, c: &mut Cursor) -> Result<Option<Record>, Stop> {
+        if self.room().is_none() || self.tree.height == 0 {
+            return Err(Stop::Device);
+        }
+        self.tree.previous(&mut self.store, c)
+    }
 }

@@ -261,7 +261,7 @@ impl Trial {
         Ok(run)
     }
 
-    /// Goes over the records from a number on by a cursor, beside those of the map.
+    /// Goes over the records from a number on by a cursor, and back to the one before them, beside those of the map.
     pub fn compare_from(&mut self, rt: &impl Abort, n: u32) -> Result<(), Fail> {
         let mut cursor = self.grown.seek(&key(n))?;
         for (m, value) in self.expected.range(n..) {
@@ -270,6 +270,13 @@ impl Trial {
         }
         let end = self.grown.next(&mut cursor)?;
         assert!(rt; end.is_none());
+        for (m, value) in self.expected.range(n..).rev() {
+            let previous = self.grown.previous(&mut cursor)?;
+            assert!(rt; previous == Some(record(*m, *value)));
+        }
+        let before = self.expected.range(..n).next_back();
+        let lower = before.map(|(m, value)| record(*m, *value));
+        assert!(rt; self.grown.previous(&mut cursor)? == lower);
         Ok(())
     }
 

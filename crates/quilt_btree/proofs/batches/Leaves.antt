@@ -8,8 +8,7 @@ use Rattle.std.proofs.lemmas.List.Edits.{length-remove}
 use Rattle.quilt_record.specs.declared.key.Key.{Key}
 use Rattle.quilt_record.specs.declared.record.Record.{Record}
 use Rattle.quilt_record.specs.Lists.{put, without}
-use Rattle.quilt_node.specs.Nodes.{IsFound, IsGap, keys_of}
-use Rattle.quilt_node.specs.Pages.{is_ascending}
+use Rattle.quilt_node.specs.Nodes.{IsFound, IsGap}
 use Rattle.quilt_node.specs.Tree.{is_below}
 use Rattle.quilt_btree.specs.declared.edit.Edit.{Edit}
 use Rattle.quilt_btree.specs.declared.edit.Edit.TheVariants as edit

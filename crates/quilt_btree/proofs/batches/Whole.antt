@@ -23,7 +23,7 @@ use Rattle.quilt_node.proofs.Ascending.{ascending_cons}
 use Rattle.quilt_btree.specs.declared.tree.Tree.{Tree}
 use Rattle.quilt_btree.specs.declared.edit.Edit.{Edit}
 use Rattle.quilt_btree.specs.declared.edit.Edit.TheVariants as edit
-use Rattle.quilt_btree.specs.Batches.{edit_keys, is_due, edited, edit_all, are_due, more_of, fewer_of, cost_of, more, fewer, cost, removed, added, Fails, DidEdit, key_of}
+use Rattle.quilt_btree.specs.Batches.{edit_keys, is_due, edited, edit_all, are_due, more_of, fewer_of, cost_of, looks_of, more, fewer, cost, looks, removed, added, Fails, DidEdit, key_of}
 use Rattle.quilt_btree.specs.Edits.{CanEdit, IsWhole}
 use Rattle.quilt_btree.specs.Trees.{IsRooted}
 use Rattle.quilt_btree.proofs.batches.Leaves.{edit_at, taken, edit_all-append, are_due-append}
@@ -57,6 +57,24 @@ more_take n run = sym (more-append (take n run) (drop n run)) ∙ ap more (take-
 
 pub cost_take : (n : ℕ) (run : List Edit) → cost (take n run) + cost (drop n run) ≡ cost run
 cost_take n run = sym (cost-append (take n run) (drop n run)) ∙ ap cost (take-append-drop n run)
+
+pub looks-append : (xs ys : List Edit) → looks (xs ++ ys) ≡ looks xs + looks ys
+looks-append [] ys = omega arith
+looks-append (x ∷ xs) ys = let h = looks-append xs ys in omega arith
+
+pub looks_take : (n : ℕ) (run : List Edit) → looks (take n run) + looks (drop n run) ≡ looks run
+looks_take n run = sym (looks-append (take n run) (drop n run)) ∙ ap looks (take-append-drop n run)
+
+-- an edit may look at 7 pages at least
+least_looks : (e : Edit) → 7 ≤ looks_of e
+least_looks (edit.Remove k) = omega arith
+least_looks (edit.Put r) = omega arith
+least_looks (edit.Replace r) = omega arith
+
+pub some_looks : (run : List Edit) (n : ℕ) → 1 ≤ n → n ≤ length run → 7 ≤ looks (take n run)
+some_looks [] n some le = absurd (omega arith)
+some_looks (e ∷ run) zero some le = absurd (omega arith)
+some_looks (e ∷ run) (suc n) some le = let l = least_looks e in omega arith
 
 -- a run of one edit costs 6 at least
 least_cost : (e : Edit) → 6 ≤ cost_of e
@@ -290,6 +308,10 @@ pub rest_cost : (run : List Edit) (i n : ℕ) → cost (take (i + n) run) ≡ co
 rest_cost run i n =
     ap cost (take-add i n run) ∙ cost-append (take i run) (take n (drop i run)) ∙ ap (λ l. cost (take i run) + cost (take n l)) (sym (take_rest run i))
 
+pub rest_looks : (run : List Edit) (i n : ℕ) → looks (take (i + n) run) ≡ looks (take i run) + looks (take n (rest run i))
+rest_looks run i n =
+    ap looks (take-add i n run) ∙ looks-append (take i run) (take n (drop i run)) ∙ ap (λ l. looks (take i run) + looks (take n l)) (sym (take_rest run i))
+
 pub rest_cost_all : (run : List Edit) (i : ℕ) → cost (take i run) + cost (rest run i) ≡ cost run
 rest_cost_all run i = ap (λ l. cost (take i run) + cost l) (take_rest run i) ∙ cost_take i run
 
@@ -345,6 +367,12 @@ keys_at (e ∷ run) = ap (λ l. key_of e ∷ l) (keys_at run ∙ sym (each_from 
 
 pub same_test : (b : Bool) (k l m n : Key) → b ≡ is_lt (key_cmp k l) → k ≡ m → l ≡ n → b ≡ is_lt (key_cmp m n)
 same_test b k l m n e f g = cc
+
+pub looks_are : (run : List Edit) → looks run ≡ 11 * length (removed run) + 7 * length (added run)
+looks_are [] = refl
+looks_are (edit.Remove k ∷ run) = let h = looks_are run in omega arith
+looks_are (edit.Put r ∷ run) = let h = looks_are run in omega arith
+looks_are (edit.Replace r ∷ run) = let h = looks_are run in omega arith
 
 pub cost_is : (run : List Edit) → cost run ≡ 7 * length (removed run) + 6 * length (added run)
 cost_is [] = refl

@@ -80,11 +80,12 @@ further_at told t k rs here (Some h) l cut is ne =
 
 pub sought : (told : Option (List (List ℕ))) (t : Tree) (k : Key) (rs : List Record) (bytes : List ℕ) (place : ℕ) (high : Option Key)
     → ((rs : List Record) (s : Spells told t.root t.height rs) → s.bounds.high ≡ None → LeadsTo k rs (records_of bytes) None high)
-    → IsCut told t.root t.height k None (records_of bytes) high → 1 ≤ t.height → IsTree told t rs → place ≤ length (records_of bytes)
+    → IsCut told t.root t.height k None (records_of bytes) high → 1 ≤ t.height → IsTree told t rs → 1 ≤ length (records_of bytes)
+    → place ≤ length (records_of bytes)
     → list_all (λ r. is_lt (key_cmp r.key k)) (take place (records_of bytes)) ≡ true
     → list_all (λ r. is_le (key_cmp k r.key)) (drop place (records_of bytes)) ≡ true
     → IsSought told t (record { bytes = bytes; place = place; high = high }) k rs
-sought told t k rs bytes place high leads cut some is inside low up =
+sought told t k rs bytes place high leads cut some is least inside low up =
     let ne : t.height ≢ 0 = omega arith in
     let s = tree_spells told t rs ne is in
     let l = leads rs s.0 s.1 in
@@ -100,6 +101,7 @@ sought told t k rs bytes place high leads cut some is inside low up =
       stands = record {
         first = l.before;
         last = l.behind;
+        some = least;
         in_range = inside;
         is_before = refl;
         is_after = refl;
@@ -108,14 +110,14 @@ sought told t k rs bytes place high leads cut some is inside low up =
     }
 
 -- a key parts a list at one place
-no_both : (a b : Key) → is_lt (key_cmp a b) ≡ true → is_le (key_cmp b a) ≡ true → ⊥
+pub no_both : (a b : Key) → is_lt (key_cmp a b) ≡ true → is_le (key_cmp b a) ≡ true → ⊥
 no_both a b h g = no (is_le (key_cmp b a)) g (gt_not_le a b h)
   where
     no : (c : Bool) → c ≡ true → c ≡ false → ⊥
     no true h g = cc
     no false h g = cc
 
-parts_same : (k : Key) (xs ys us vs : List Record) → xs ++ ys ≡ us ++ vs
+pub parts_same : (k : Key) (xs ys us vs : List Record) → xs ++ ys ≡ us ++ vs
     → list_all (λ r. is_lt (key_cmp r.key k)) xs ≡ true → list_all (λ r. is_le (key_cmp k r.key)) ys ≡ true
     → list_all (λ r. is_lt (key_cmp r.key k)) us ≡ true → list_all (λ r. is_le (key_cmp k r.key)) vs ≡ true → (xs ≡ us) × (ys ≡ vs)
 parts_same k [] ys [] vs e a b c d = (refl, e)
@@ -139,9 +141,9 @@ parts_same k (x ∷ xs) ys (u ∷ us) vs e a b c d =
 
 pub entered : (told : Option (List (List ℕ))) (t : Tree) (k : Key) (before after : List Record) (bytes : List ℕ) (high : Option Key)
     → ((rs : List Record) (s : Spells told t.root t.height rs) → s.bounds.high ≡ None → LeadsTo k rs (records_of bytes) None high)
-    → IsCut told t.root t.height k None (records_of bytes) high → 1 ≤ t.height → IsTree told t (before ++ after) → IsParted told t k before after
-    → StandsIn told t (record { bytes = bytes; place = 0; high = high }) before after
-entered told t k before after bytes high leads cut some is p =
+    → IsCut told t.root t.height k None (records_of bytes) high → 1 ≤ t.height → IsTree told t (before ++ after) → 1 ≤ length (records_of bytes)
+    → IsParted told t k before after → StandsIn told t (record { bytes = bytes; place = 0; high = high }) before after
+entered told t k before after bytes high leads cut some is least p =
     let ne : t.height ≢ 0 = omega arith in
     let s = tree_spells told t (before ++ after) ne is in
     let l = leads (before ++ after) s.0 s.1 in
@@ -152,6 +154,7 @@ entered told t k before after bytes high leads cut some is p =
     record {
       first = l.before;
       last = l.behind;
+      some = least;
       in_range = omega arith;
       is_before = same.0 ∙ sym (append-nil l.before);
       is_after = same.1;
@@ -170,6 +173,7 @@ goes_over told t r bytes place high before after lt at s =
       stands = record {
         first = s.first;
         last = s.last;
+        some = s.some;
         in_range = omega arith;
         is_before = ap (λ b. b ++ r ∷ []) s.is_before ∙ assoc s.first (take place here) (r ∷ [])
             ∙ ap (λ l. s.first ++ l) (sym (ap (λ n. take n here) (add-one place) ∙ take_at here place r at));

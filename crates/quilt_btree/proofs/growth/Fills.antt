@@ -1,26 +1,17 @@
 -- A subtree that takes records of a run into one leaf.
-use Rattle.std.proofs.Common.{◌≡◌, ◌≢◌, ℕ, suc, ◌+◌, ◌-◌, ◌<◌, ◌≤◌, Bool, true, false, ◌&&◌, ◌||◌, nat_le, List, [], ◌∷◌, ◌++◌, length, take, drop, Option}
-use Rattle.std.proofs.Common.{Some, None, Result, Ok, Err, IfOk, IfErr, slice_index, slice_set, refl, sym, ◌∙◌, ap, subst, arith, get_or-set_same}
-use Rattle.std.proofs.Common.{take-append-drop}
-use Rattle.std.specs.Prelude.{slice_get, if◌then◌else◌}
-use Rattle.std.specs.List.{list_all, list_any}
-use Rattle.std.specs.Option.{option_or}
-use Rattle.std.specs.Ordering.{is_lt, is_le}
-use Rattle.std.proofs.lemmas.Bool.Decides.{nat_tests}
-use Rattle.std.proofs.lemmas.List.Folds.{list_any-append}
-use Rattle.quilt_types.specs.declared.stop.Stop.{Stop}
-use Rattle.quilt_types.specs.declared.stop.Stop.TheVariants.{Damaged}
-use Rattle.quilt_node.proofs.Ascending.{all_take}
+use Rattle.std.proofs.Common.{◌≡◌, ℕ, suc, ◌-◌, Bool, true, false, ◌&&◌, List, [], ◌∷◌, Option}
+use Rattle.std.proofs.Common.{Some, None, refl, arith}
+use Rattle.std.specs.Prelude.{if◌then◌else◌}
+use Rattle.std.specs.List.{list_all}
+use Rattle.std.specs.Ordering.{is_lt}
 use Rattle.quilt_record.specs.declared.key.Key.{Key}
 use Rattle.quilt_record.specs.declared.record.Record.{Record}
 use Rattle.quilt_record.specs.Records.{key_cmp}
-use Rattle.quilt_node.specs.Pages.{Inner, leaf_of, is_ascending}
-use Rattle.quilt_node.specs.Nodes.{IsPlace, keys_of}
+use Rattle.quilt_node.specs.Nodes.{keys_of}
 use Rattle.quilt_node.specs.Tree.{Bounds, is_above, is_below, are_within}
-use Rattle.quilt_world.specs.Tale.{Goes}
-use Rattle.quilt_record.specs.Lists.{has_key, put}
+use Rattle.quilt_record.specs.Lists.{put}
 use Rattle.quilt_btree.specs.Trees.{is_past}
-use Rattle.quilt_record.proofs.Orders.{lt_le, lt_to_le, le_le}
+use Rattle.quilt_record.proofs.Orders.{lt_le, lt_to_le}
 use Rattle.quilt_btree.proofs.rows.Places.{head_bounds}
 use Rattle.quilt_btree.proofs.subtrees.Walks.{and_parts, and_both}
 

@@ -129,7 +129,7 @@ pub from_not_err : {T E P : Type 0} (r : Result T E) (b : Bool) → b ≡ is_err
 from_not_err (Ok x) b e f p = p
 from_not_err (Err x) b e f p = cc
 
-along_tree : (told now : Option (List (List ℕ))) (t : Tree) (rs : List Record) → now ≡ told → IsTree told t rs → IsTree now t rs
+pub along_tree : (told now : Option (List (List ℕ))) (t : Tree) (rs : List Record) → now ≡ told → IsTree told t rs → IsTree now t rs
 along_tree told now t rs e is = record { pages = is.pages; is_told = e ∙ is.is_told; visited = is.visited; walk = is.walk }
 
 along_before : (told now : Option (List (List ℕ))) (t : Tree) (low high : Key) (most : ℕ) (from : Key) (rs old : List Record) → now ≡ told

@@ -1,23 +1,19 @@
 -- A subtree that gives records of a run of keys out of one leaf.
-use Rattle.std.proofs.Common.{◌≡◌, ℕ, zero, suc, ◌+◌, ◌-◌, ◌<◌, ◌≤◌, Bool, true, false, not, cond, ◌&&◌, ◌||◌, nat_le, List, [], ◌∷◌, ◌++◌, length, take, drop}
-use Rattle.std.proofs.Common.{filter, Option, Some, None, Result, Ok, Err, IfOk, IfErr, slice_index, slice_set, refl, sym, ◌∙◌, ap, subst, arith}
-use Rattle.std.proofs.Common.{get_or-set_same, take-append-drop, add-one}
+use Rattle.std.proofs.Common.{◌≡◌, ℕ, suc, ◌-◌, ◌≤◌, Bool, true, false, not, cond, ◌||◌, nat_le, List, [], ◌∷◌, ◌++◌, length, take, drop}
+use Rattle.std.proofs.Common.{filter, Option, slice_index, refl, sym, ◌∙◌, ap, subst, arith}
+use Rattle.std.proofs.Common.{take-append-drop}
 use Rattle.std.specs.Prelude.{slice_get, if◌then◌else◌}
-use Rattle.std.specs.List.{list_all, list_any, remove}
+use Rattle.std.specs.List.{list_all}
 use Rattle.std.specs.Option.{option_or}
 use Rattle.std.specs.Ordering.{is_lt, is_le}
 use Rattle.std.proofs.lemmas.Bool.Decides.{nat_tests}
-use Rattle.std.proofs.lemmas.List.Edits.{length-remove}
-use Rattle.quilt_types.specs.declared.stop.Stop.{Stop}
-use Rattle.quilt_types.specs.declared.stop.Stop.TheVariants.{Damaged}
-use Rattle.quilt_node.proofs.Ascending.{all_take, ascending_cons}
+use Rattle.quilt_node.proofs.Ascending.{ascending_cons}
 use Rattle.quilt_record.specs.declared.key.Key.{Key}
 use Rattle.quilt_record.specs.declared.record.Record.{Record}
 use Rattle.quilt_record.specs.Records.{key_cmp}
-use Rattle.quilt_node.specs.Pages.{Inner, leaf_of, is_ascending}
-use Rattle.quilt_node.specs.Nodes.{IsFound, IsGap, keys_of}
-use Rattle.quilt_node.specs.Tree.{Bounds, is_above, is_below, are_within}
-use Rattle.quilt_world.specs.Tale.{Goes}
+use Rattle.quilt_node.specs.Pages.{Inner, is_ascending}
+use Rattle.quilt_node.specs.Nodes.{keys_of}
+use Rattle.quilt_node.specs.Tree.{Bounds, is_below, are_within}
 use Rattle.quilt_record.specs.Lists.{has_key, without}
 use Rattle.quilt_btree.specs.Subtree.{Subtree}
 use Rattle.quilt_btree.specs.Edits.{CanEdit}

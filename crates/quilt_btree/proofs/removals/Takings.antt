@@ -1,16 +1,11 @@
 -- A run of keys whose records are taken out one after the other.
-use Rattle.std.proofs.Common.{◌≡◌, ℕ, ◌+◌, ◌-◌, ◌<◌, ◌≤◌, Bool, true, false, not, cond, ◌||◌, ◌&&◌, List, [], ◌∷◌, ◌++◌, length, map, take, drop, filter}
-use Rattle.std.proofs.Common.{get_or, Option, take-append-drop, length-drop, refl, sym, ◌∙◌, ap, subst, arith, Less, Equal, Greater, Ordering}
-use Rattle.std.specs.List.{list_any, list_all, range_with_len}
+use Rattle.std.proofs.Common.{◌≡◌, ℕ, Bool, true, false, not, cond, ◌||◌, ◌&&◌, List, [], ◌∷◌, filter}
+use Rattle.std.proofs.Common.{get_or, refl, sym, ◌∙◌, ap, subst, Less, Equal, Greater, Ordering}
+use Rattle.std.specs.List.{list_any, list_all}
 use Rattle.std.specs.Ordering.{is_lt, is_eq, is_le, ordering_reverse}
-use Rattle.std.proofs.Math.Seq.{take-add}
-use Rattle.std.proofs.lemmas.List.{take_rest, take_all, length-take-le}
-use Rattle.quilt_types.specs.declared.stop.Stop.{Stop}
-use Rattle.quilt_types.specs.declared.stop.Stop.TheVariants.{Damaged}
 use Rattle.quilt_record.specs.declared.key.Key.{Key}
 use Rattle.quilt_record.specs.declared.record.Record.{Record}
 use Rattle.quilt_record.specs.Records.{key_cmp}
-use Rattle.quilt_node.specs.Pages.{is_ascending}
 use Rattle.quilt_record.specs.Lists.{has_key, without}
 use Rattle.quilt_btree.specs.Runs.{without_all, has_each}
 use Rattle.quilt_btree.proofs.lists.Lists.{filter_cond}

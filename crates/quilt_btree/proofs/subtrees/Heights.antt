@@ -1,6 +1,5 @@
 -- The height of a tree, and the most pages that it can use.
-use Rattle.std.proofs.Common.{◌≡◌, ℕ, zero, suc, ◌+◌, ◌-◌, ◌*◌, ◌/◌, ◌<◌, ◌≤◌, true, List, [], length, slice_index_or, ◌∙◌, ap, subst, arith}
-use Rattle.quilt_types.specs.Facts.{quota}
+use Rattle.std.proofs.Common.{◌≡◌, ℕ, zero, suc, ◌+◌, ◌-◌, ◌*◌, ◌/◌, ◌≤◌, true, List, [], length, slice_index_or, ◌∙◌, ap, subst, arith}
 use Rattle.quilt_record.specs.declared.record.Record.{Record}
 use Rattle.quilt_node.specs.Tree.{Whole, walk_of, Bounds}
 use Rattle.quilt_btree.specs.Subtree.{Subtree}

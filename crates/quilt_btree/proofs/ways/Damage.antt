@@ -1,7 +1,7 @@
 -- The page that a way down names as damaged is bad itself.
 use Rattle.std.proofs.Common.{◌≡◌, ◌≢◌, ◌⊎◌, inl, inr, ℕ, zero, suc, ◌+◌, ◌-◌, ◌<◌, ◌≤◌, List}
 use Rattle.std.proofs.Common.{[], length, Option, Some, None, Result, Ok, Err, IfOk, IfErr, IfSome, slice_index, false, ◌==◌}
-use Rattle.std.proofs.Common.{slice_index_or, refl, sym, ◌∙◌, ap, subst, arith}
+use Rattle.std.proofs.Common.{slice_index_or, slice_set, refl, sym, ◌∙◌, ap, subst, arith, get_or-set_other}
 use Rattle.std.specs.Prelude.{if◌then◌else◌, IsErrOf, min}
 use Rattle.std.specs.List.{last_or}
 use Rattle.quilt_record.specs.declared.record.Record.{Record}
@@ -12,13 +12,17 @@ use Rattle.quilt_world.specs.Causes.{Rose}
 use Rattle.quilt_world.specs.Causes as causes
 use Rattle.quilt_btree.specs.declared.tree.Tree.{Tree}
 use Rattle.quilt_btree.specs.declared.reading.Found.{Found}
-use Rattle.quilt_btree.specs.Damage.{HasChild, IsBadUnder, NamesBad}
+use Rattle.quilt_world.specs.Tale.{Goes}
+use Rattle.quilt_btree.specs.Damage.{HasChild, IsBadUnder, NamesBad, OthersStay, NamesSpare, IsBeside, NamesBeside}
+use Rattle.quilt_node.proofs.Places as places
 use Rattle.quilt_btree.specs.Searches.{AreOf}
 use Rattle.quilt_store.specs.Stops.{HasStopCause, IsSound}
 use Rattle.quilt_btree.specs.Stops.{unnamed, NamesPage}
 use Rattle.quilt_btree.proofs.lists.Counts.{other_test}
 use Rattle.quilt_btree.proofs.subtrees.Descending.{height_above}
-use Rattle.quilt_btree.proofs.ways.Forks.{IsRead, leaf_has_last}
+use Rattle.quilt_btree.proofs.stores.Writes.{tells_at}
+use Rattle.quilt_btree.proofs.subtrees.Trees.{inner_list}
+use Rattle.quilt_btree.proofs.ways.Forks.{IsRead, leaf_has_last, child_page}
 
 -- what names no page names no good one
 pub sound_names : (told : Option (List (List ℕ))) (height page : ℕ) (e : Stop) → IsSound e → NamesBad told height page e
@@ -238,3 +242,116 @@ run_cause e stop done before mid now s le c = record {
 pub named_along : {T : Type 0} (r : Result T Stop) (told now : Option (List (List ℕ))) (height page : ℕ) → now ≡ told
     → IfErr r (λ e. e ≢ Damaged 0 → NamesBad now height page e) → IfErr r (λ e. e ≢ Damaged 0 → NamesBad told height page e)
 named_along r told now height page same f = subst (λ t. IfErr r (λ e. e ≢ Damaged 0 → NamesBad t height page e)) same f
+
+-- what is named of two pages of which one was only read
+spare_above : (q named page : ℕ) → named ≡ page → page < 1 → q < named + 1 → q ≡ 0
+spare_above q named page same lt le = omega arith
+
+pub names_spare : (told now : Option (List (List ℕ))) (height page named spare : ℕ) (e : Stop) → now ≡ told → 1 ≤ page
+    → ((named ≡ 0) ⊎ ((named ≡ page) × (page ≡ spare))) → NamesPage (named + 1) e → (named ≡ page → NamesBad now 1 page e) → height ≡ 1
+    → NamesSpare told height spare e
+names_spare told now height page named spare e same some (inl z) n b one = λ q is ne. absurd (ne (zero q named z (subst (NamesPage (named + 1)) is n)))
+  where
+    zero : (q m : ℕ) → m ≡ 0 → q < m + 1 → q ≡ 0
+    zero q m z lt = omega arith
+names_spare told now height page named spare e same some (inr p) n b one = λ q is ne. (
+  one,
+  over page spare p.1 some,
+  subst (λ s. NamesBad told 1 s e) p.1 (subst (λ t. NamesBad t 1 page e) same (b p.0)),
+)
+  where
+    over : (m n : ℕ) → m ≡ n → 1 ≤ m → n ≢ 0
+    over m n e le = λ z. omega arith
+
+pub no_spare : (told : Option (List (List ℕ))) (height spare : ℕ) (e : Stop) → NamesPage 1 e → NamesSpare told height spare e
+no_spare told height spare e n = λ q is ne. absurd (ne (zero q (subst (NamesPage 1) is n)))
+  where
+    zero : (q : ℕ) → q < 1 → q ≡ 0
+    zero q lt = omega arith
+
+pub no_spares : {T : Type 0} (r : Result T Stop) (told : Option (List (List ℕ))) (height spare : ℕ) → IfErr r (NamesPage 1)
+    → IfErr r (NamesSpare told height spare)
+no_spares (Ok v) told height spare f = f
+no_spares (Err e) told height spare f = no_spare told height spare e f
+
+pub no_besides : {T : Type 0} (r : Result T Stop) (told : Option (List (List ℕ))) (height : ℕ) (inner : Inner) (i : ℕ) → IfErr r (NamesPage 1)
+    → IfErr r (NamesBeside told height inner i)
+no_besides (Ok v) told height inner i f = f
+no_besides (Err e) told height inner i f = no_beside told height inner i e f
+  where
+    zero : (q : ℕ) → q < 1 → q ≡ 0
+    zero q lt = omega arith
+
+    no_beside : (told : Option (List (List ℕ))) (height : ℕ) (inner : Inner) (i : ℕ) (e : Stop) → NamesPage 1 e → NamesBeside told height inner i e
+    no_beside told height inner i e n = λ q is ne. absurd (ne (zero q (subst (NamesPage 1) is n)))
+
+-- the leaf beside a child
+pub names_beside : (told : Option (List (List ℕ))) (height : ℕ) (inner : Inner) (i j left right child spare : ℕ) (e : Stop) → 2 ≤ height
+    → j + 1 < length inner.children
+    → left ≡ slice_index inner.children j → right ≡ slice_index inner.children (j + 1) → child ≡ slice_index inner.children i
+    → (spare ≢ 0 → ((spare ≡ left) ⊎ (spare ≡ right)) × (spare ≢ child)) → NamesSpare told (height - 1) spare e → NamesBeside told height inner i e
+names_beside told height inner i j left right child spare e many lt l r c other names = λ q is ne.
+    let n = names q is ne in
+    let o = other n.1 in
+    let two : height ≡ 2 = let h = n.0 in omega arith in
+    at o.0 two o.1 n.2
+  where
+    at : ((spare ≡ left) ⊎ (spare ≡ right)) → height ≡ 2 → spare ≢ child → NamesBad told 1 spare e → IsBeside told height inner i e
+    at (inl same) two apart bad = record {
+      two = two;
+      place = j;
+      in_range = omega arith;
+      other = λ z. apart (same ∙ l ∙ z ∙ sym c);
+      bad = subst (λ s. NamesBad told 1 s e) (same ∙ l) bad;
+    }
+    at (inr same) two apart bad = record {
+      two = two;
+      place = j + 1;
+      in_range = lt;
+      other = λ z. apart (same ∙ r ∙ z ∙ sym c);
+      bad = subst (λ s. NamesBad told 1 s e) (same ∙ r) bad;
+    }
+
+-- and it is bad at the call, since it was not written
+pub beside_named : {T : Type 0} (result : Result T Stop) (told mid now : Option (List (List ℕ))) (page height size i child : ℕ) (bytes : List ℕ) (inner : Inner)
+    → IsRead told mid page height size bytes → inner_of size bytes ≡ Some inner → child ≡ slice_index inner.children i
+    → (height - 1 ≡ 1 → Goes (OthersStay child) mid now) → IfErr result (NamesBeside now height inner i)
+    → IfErr result (λ e. e ≢ Damaged 0 → NamesBad told height page e)
+beside_named (Ok v) told mid now page height size i child bytes inner r is c others f = f
+beside_named (Err Device) told mid now page height size i child bytes inner r is c others f = λ ne. tt
+beside_named (Err Memory) told mid now page height size i child bytes inner r is c others f = λ ne. tt
+beside_named (Err (Damaged q)) told mid now page height size i child bytes inner r is c others f = λ ne.
+    let b = f q refl (λ z. ne (ap Damaged z)) in
+    let one : height - 1 ≡ 1 = let t = b.two in omega arith in
+    let l = inner_list size bytes inner is in
+    let in_store = child_page size inner.children b.place l.in_range b.in_range in
+    bad_below told mid page height size bytes (slice_index inner.children b.place) (Damaged q) r
+    (record {
+      place = b.place;
+      in_range = let m = l.most in let lt = b.in_range in omega arith;
+      stands = sym (places.child_at size bytes inner b.place is b.in_range);
+      least = in_store.0;
+      most = in_store.1;
+    })
+    (subst (λ h. NamesBad mid h (slice_index inner.children b.place) (Damaged q)) (sym one) (λ pages t.
+    let n = tells_at (OthersStay child) mid now pages (others one) t in
+    let bad = b.bad n.0 n.1 in
+    (bad.0, ap leaf_of (sym (n.2 (slice_index inner.children b.place) (λ z. b.other (z ∙ c)))) ∙ bad.1)))
+
+-- where all pages are as they were, and where one was written
+pub same_others : (page : ℕ) (old new : Option (List (List ℕ))) → new ≡ old → Goes (OthersStay page) old new
+same_others page old new same = subst (λ n. Goes (OthersStay page) old n) (sym same) (at old)
+  where
+    at : (o : Option (List (List ℕ))) → Goes (OthersStay page) o o
+    at None = tt
+    at (Some pages) = λ q ne. refl
+
+pub wrote_others : (page : ℕ) (bytes : List ℕ) (old mid new : Option (List (List ℕ))) → mid ≡ old
+    → Goes (λ before now. now ≡ slice_set before page bytes) mid new → Goes (OthersStay page) old new
+wrote_others page bytes old mid new same wrote = at old new (subst (λ o. Goes (λ before now. now ≡ slice_set before page bytes) o new) same wrote)
+  where
+    at : (a b : Option (List (List ℕ))) → Goes (λ before now. now ≡ slice_set before page bytes) a b → Goes (OthersStay page) a b
+    at None None h = tt
+    at None (Some y) h = h
+    at (Some x) None h = h
+    at (Some x) (Some y) h = λ q ne. ap (λ pages. slice_index_or pages q []) h ∙ get_or-set_other x page q bytes [] ne

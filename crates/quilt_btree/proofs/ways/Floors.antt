@@ -1,11 +1,9 @@
 -- The pages that a floor reads, as it goes down.
 use Rattle.std.proofs.Common.{◌≡◌, ◌≢◌, ℕ, zero, suc, ◌+◌, ◌-◌, ◌≤◌, Bool, nat_lt, true, false, ◌||◌, ◌==◌, if◌then◌else◌, List, [], ◌∷◌, ◌++◌, length, Option}
-use Rattle.std.proofs.Common.{Some, None, slice_index, slice_index_or, refl, sym, ◌∙◌, ap, arith, length-append}
-use Rattle.std.specs.Option.{is_some}
+use Rattle.std.proofs.Common.{Some, None, slice_index, slice_index_or, sym, ◌∙◌, ap, arith, length-append}
 use Rattle.std.proofs.lemmas.Bool.Decides.{nat_tests}
 use Rattle.quilt_record.specs.declared.key.Key.{Key}
-use Rattle.quilt_record.specs.declared.record.Record.{Record}
-use Rattle.quilt_node.specs.Pages.{Inner, leaf_of, inner_of}
+use Rattle.quilt_node.specs.Pages.{Inner, inner_of}
 use Rattle.quilt_btree.specs.Floors.{last_pages, last_below, finds_floor, finds_below, floor_pages, floor_below, before_child, place_of}
 use Rattle.quilt_btree.proofs.subtrees.Descending.{height_above}
 

@@ -1,18 +1,17 @@
 -- The way down to a leaf in the bytes of pages, with the bound below which the leaf's keys stay.
-use Rattle.std.proofs.Common.{◌≡◌, ℕ, zero, suc, ◌+◌, ◌-◌, ◌<◌, ◌≤◌, Bool, true, false, List, [], ◌∷◌, take, drop, length, Option, Some, None, Result, Ok, Err}
+use Rattle.std.proofs.Common.{◌≡◌, ℕ, zero, suc, ◌+◌, ◌-◌, ◌<◌, ◌≤◌, Bool, true, false, List, [], ◌∷◌, drop, length, Option, Some, None, Result, Ok, Err}
 use Rattle.std.proofs.Common.{IfOk, IfErr, slice_index, refl, sym, ◌∙◌, ap, subst, arith}
 use Rattle.std.specs.Prelude.{slice_get}
 use Rattle.std.specs.List.{list_all}
 use Rattle.std.specs.Option.{option_or}
 use Rattle.std.specs.Ordering.{is_lt}
 use Rattle.quilt_types.specs.declared.stop.Stop.{Stop}
-use Rattle.quilt_types.specs.declared.stop.Stop.TheVariants.{Damaged}
 use Rattle.quilt_record.specs.declared.key.Key.{Key}
 use Rattle.quilt_record.specs.declared.record.Record.{Record}
 use Rattle.quilt_record.specs.Records.{key_cmp}
-use Rattle.quilt_node.specs.Pages.{Inner, leaf_of, inner_of, is_ascending}
-use Rattle.quilt_node.specs.Nodes.{IsPlace, records_of, keys_of}
-use Rattle.quilt_node.specs.Tree.{Bounds, is_above, is_below}
+use Rattle.quilt_node.specs.Pages.{Inner, leaf_of, inner_of}
+use Rattle.quilt_node.specs.Nodes.{IsPlace, records_of}
+use Rattle.quilt_node.specs.Tree.{is_below}
 use Rattle.quilt_node.proofs.Places.{leaf_records}
 use Rattle.quilt_btree.specs.declared.reading.Found.{Found}
 use Rattle.quilt_btree.specs.Searches.{AreOf, IsStep}

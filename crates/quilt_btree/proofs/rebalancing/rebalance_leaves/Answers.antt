@@ -1,7 +1,8 @@
-use Rattle.std.proofs.Common.{◌∙◌}
+use Rattle.std.proofs.Common.{◌∙◌, ◌+◌, refl, arith}
 use Rattle.std.proofs.lemmas.Result.{err_from_is_err_and}
 use Rattle.quilt_btree.proofs.subtrees.Descending.{along_told}
 use Rattle.quilt_btree.proofs.removals.LeafRebalances.{leaves_joined, leaves_separated, leaves_taken, not_leaves, left_spells, right_spells}
+use Rattle.quilt_btree.proofs.ways.Damage.{names_spare, no_spare, names_more}
 use Rattle.quilt_btree.proofs.rebalancing.rebalance_leaves.Goals as goal
 
 pub returns-in_err-first-clause-sound : goal.returns-in_err-first-clause-sound
@@ -97,3 +98,42 @@ returns-in-Err-write_both-clause-later g c = g.met.S.PageStore.goes_on _ _ _ c.i
 pub returns-in-Ok-write_both-clause-later : goal.returns-in-Ok-write_both-clause-later
 returns-in-Ok-write_both-clause-later g c = g.met.S.PageStore.goes_on _ _ _ c.in_ok-first.ensures.left.later
     (g.met.S.PageStore.goes_on _ _ _ c.in_ok-rest.ensures.left.later c.in-Ok-write_both.ensures.later)
+
+pub returns-in_err-first-clause-names : goal.returns-in_err-first-clause-names
+returns-in_err-first-clause-names g c =
+    let p = err_from_is_err_and c.from_residual.result c.from_residual.ensures.1 in
+    rw (p.1, p.2) (names_more (c.named_of.result + 1) (g.S.PageStore.size c.args.store.now) _
+    (let m = c.named_of.ensures.most in let lt = c.requires.left.1 in omega arith) c.in_err-first.ensures.names)
+
+pub returns-in_err-first-clause-bad : goal.returns-in_err-first-clause-bad
+returns-in_err-first-clause-bad g c =
+    let p = err_from_is_err_and c.from_residual.result c.from_residual.ensures.1 in
+    rw (p.1, p.2) (λ height one. names_spare (g.S.PageStore.told c.args.store.now) (g.S.PageStore.told c.args.store.now) height c.args.left
+    c.named_of.result c.args.spare _ refl c.requires.left.0 c.named_of.ensures.named c.in_err-first.ensures.names c.in_err-first.ensures.bad one)
+
+pub returns-in_err-rest-clause-names : goal.returns-in_err-rest-clause-names
+returns-in_err-rest-clause-names g c =
+    let p = err_from_is_err_and c.from_residual-in_err-rest.result c.from_residual-in_err-rest.ensures.1 in
+    rw (p.1, p.2) (names_more (c.named_of-2.result + 1) (g.S.PageStore.size c.args.store.now) _
+    (let m = c.named_of-2.ensures.most in let lt = c.requires.right.1 in omega arith) c.in_err-rest.ensures.names)
+
+pub returns-in_err-rest-clause-bad : goal.returns-in_err-rest-clause-bad
+returns-in_err-rest-clause-bad g c =
+    let p = err_from_is_err_and c.from_residual-in_err-rest.result c.from_residual-in_err-rest.ensures.1 in
+    rw (p.1, p.2) (λ height one. names_spare (g.S.PageStore.told c.args.store.now) (g.S.PageStore.told c.read_leaf.new.store) height c.args.right
+    c.named_of-2.result c.args.spare _ c.in_ok-first.ensures.left.told c.requires.right.0 c.named_of-2.ensures.named c.in_err-rest.ensures.names
+    c.in_err-rest.ensures.bad one)
+
+pub returns-in-Err-clause-names : goal.returns-in-Err-clause-names
+returns-in-Err-clause-names g c =
+    names_more 1 (g.S.PageStore.size c.args.store.now) _ (let lt = c.requires.left.1 in omega arith) c.in-Err.ensures.names
+
+pub returns-in-Err-clause-bad : goal.returns-in-Err-clause-bad
+returns-in-Err-clause-bad g c height one = no_spare (g.S.PageStore.told c.args.store.now) height c.args.spare _ c.in-Err.ensures.names
+
+pub returns-in-Err-write_both-clause-names : goal.returns-in-Err-write_both-clause-names
+returns-in-Err-write_both-clause-names g c =
+    names_more 1 (g.S.PageStore.size c.args.store.now) _ (let lt = c.requires.left.1 in omega arith) c.in-Err-write_both.ensures.names
+
+pub returns-in-Err-write_both-clause-bad : goal.returns-in-Err-write_both-clause-bad
+returns-in-Err-write_both-clause-bad g c height one = no_spare (g.S.PageStore.told c.args.store.now) height c.args.spare _ c.in-Err-write_both.ensures.names

@@ -1,8 +1,8 @@
-use Rattle.std.proofs.Common.{◌≡◌, true, false, Some, refl, sym, subst, ◌∙◌, arith}
+use Rattle.std.proofs.Common.{◌≡◌, true, false, Some, refl, sym, subst, ◌∙◌}
 use Rattle.quilt_node.specs.Pages.{inner_of}
 use Rattle.quilt_btree.specs.Searches.{IsHigh}
 use Rattle.quilt_btree.proofs.ways.Forks.{place_inside, read_ok}
-use Rattle.quilt_btree.proofs.ways.Damage.{bad_below, inner_fault, zero_named, named_more, named_leaf}
+use Rattle.quilt_btree.proofs.ways.Damage.{bad_below, beside_named, inner_fault, named_leaf}
 use Rattle.quilt_btree.proofs.growth.Finding.{finds_below, found_in_leaf, found_finds}
 use Rattle.quilt_btree.proofs.removals.LeafRemovals.{leaf_reads}
 use Rattle.quilt_btree.proofs.removals.Removals.{sound_child, missing_child, done_child, rebalanced_child}
@@ -262,13 +262,18 @@ returns-in-None-clause-bad g t c =
     c.in-Ok.ensures.left.told (g.met.S.PageStore.as_many c.args.store.now) same c.in-Ok.ensures.bytes)
     c.inner_at_fault.ensures.fault
 
-pub returns-in-Some-clause-names : goal.returns-in-Some-clause-names
-returns-in-Some-clause-names g t c =
-    named_more c.rebalance_child.result 1 (g.S.PageStore.size c.args.store.now) (let q = c.requires.page.1 in omega arith) c.rebalance_child.ensures.names
-
 pub returns-in-Some-clause-bad : goal.returns-in-Some-clause-bad
 returns-in-Some-clause-bad g t c =
-    zero_named c.rebalance_child.result (g.S.PageStore.told c.args.store.now) c.args.height c.args.page c.rebalance_child.ensures.names
+    let same : c.pages.result ≡ g.S.PageStore.size c.args.store.now = c.pages.ensures ∙ c.in-Ok-Underfull.ensures.size ∙ c.in-Ok.ensures.left.size in
+    let is : inner_of (g.S.PageStore.size c.args.store.now) c.read_way.new.bytes ≡ Some c.in-Some.inner =
+    subst (λ n. inner_of n c.read_way.new.bytes ≡ Some c.in-Some.inner) same c.in-Some.ensures.inner in
+    beside_named c.rebalance_child.result (g.S.PageStore.told c.args.store.now) (g.S.PageStore.told c.read_way.new.store)
+    (g.S.PageStore.told c.remove_under.new.store) c.args.page c.args.height (g.S.PageStore.size c.args.store.now) c.in-Ok.way.place c.in-Ok.way.child
+    c.read_way.new.bytes c.in-Some.inner
+    (read_ok (g.S.PageStore.told c.args.store.now) (g.S.PageStore.told c.read_way.new.store) c.args.page c.args.height
+    (g.S.PageStore.size c.args.store.now) (g.S.PageStore.size c.args.store.now) c.read_way.new.bytes c.requires.height c.if-height-eq1.false
+    c.in-Ok.ensures.left.told (g.met.S.PageStore.as_many c.args.store.now) refl c.in-Ok.ensures.bytes)
+    is (c.in-Ok.ensures.way c.in-Some.inner is).child_is c.in-Ok-Underfull.ensures.others c.rebalance_child.ensures.bad
 
 pub returns-in-Some-clause-later : goal.returns-in-Some-clause-later
 returns-in-Some-clause-later g t c =

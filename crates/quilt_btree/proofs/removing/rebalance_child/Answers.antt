@@ -1,6 +1,7 @@
 use Rattle.std.proofs.Common.{◌+◌, ◌<◌, ◌∙◌, sym, subst, arith}
 use Rattle.quilt_btree.proofs.removals.LeafRemovals.{has_many}
 use Rattle.quilt_btree.proofs.removals.Choices.{sound_rebalance, joined_sound, joined_left, separated_sound, separated_left}
+use Rattle.quilt_btree.proofs.ways.Damage.{names_beside, no_besides, named_more}
 use Rattle.quilt_btree.proofs.removing.rebalance_child.Goals as goal
 
 pub returns-in-Err-clause-sound : goal.returns-in-Err-clause-sound
@@ -99,3 +100,17 @@ returns-in-Err-renew_key-clause-later g c = g.met.S.PageStore.goes_on _ _ _ c.in
 
 pub returns-in-Ok-clause-later : goal.returns-in-Ok-clause-later
 returns-in-Ok-clause-later g c = g.met.S.PageStore.goes_on _ _ _ c.in-Ok-Redistributed.ensures.later c.in-Ok.ensures.later
+
+pub returns-in-Err-clause-bad : goal.returns-in-Err-clause-bad
+returns-in-Err-clause-bad g c =
+    names_beside (g.S.PageStore.told c.args.store.now) c.args.height c.args.inner.now c.args.i c.pair_at-j.result c.child-left.result c.child-right.result
+    c.child.result c.other_of-spare.result _ c.requires.height (subst (λ n. c.pair_at-j.result + 1 < n) c.len.ensures.length c.pair_at-j.ensures.both)
+    c.child-left.ensures.child c.child-right.ensures.child c.child.ensures.child c.other_of-spare.ensures c.in-Err.ensures.bad
+
+pub returns-in-Ok-Joined-clause-bad : goal.returns-in-Ok-Joined-clause-bad
+returns-in-Ok-Joined-clause-bad g c =
+    no_besides c.drop_child.result (g.S.PageStore.told c.args.store.now) c.args.height c.args.inner.now c.args.i c.drop_child.ensures.names
+
+pub returns-in-Ok-Joined-clause-names : goal.returns-in-Ok-Joined-clause-names
+returns-in-Ok-Joined-clause-names g c =
+    named_more c.drop_child.result 1 (g.S.PageStore.size c.args.store.now) (let lt = c.requires.page.1 in omega arith) c.drop_child.ensures.names

@@ -1,6 +1,7 @@
 use Rattle.std.proofs.Common.{◌<◌, length, arith}
 use Rattle.quilt_btree.proofs.batches.Singles.{take_missing, take_emptied, take_underfull, take_done, take_sound}
 use Rattle.quilt_btree.proofs.growth.Finding.{finds_here, finds_none}
+use Rattle.quilt_btree.proofs.ways.Damage.{same_others, wrote_others}
 use Rattle.quilt_btree.proofs.removing.remove_in_leaf.Goals as goal
 
 pub returns-then-not-seen-clause-removed : goal.returns-then-not-seen-clause-removed
@@ -70,3 +71,17 @@ returns-else-seen-le-LEAST_RECORDS-clause-finds g c = λ height rs one s.
     let f = c.in-Ok.ensures.shows.found c.if-not-seen.false in
     finds_here (g.S.PageStore.told c.args.store.now) c.args.page height f.0 c.args.k.now c.in-Ok.ensures.shows.leaf c.in-Ok.ensures.shows.reads
     f.1 one rs s
+
+pub returns-then-not-seen-clause-others : goal.returns-then-not-seen-clause-others
+returns-then-not-seen-clause-others g c = same_others c.args.page _ _ c.in-Ok.ensures.looks.left.told
+
+pub returns-then-seen-eq1-clause-others : goal.returns-then-seen-eq1-clause-others
+returns-then-seen-eq1-clause-others g c = same_others c.args.page _ _ c.in-Ok.ensures.looks.left.told
+
+pub returns-then-seen-le-LEAST_RECORDS-clause-others : goal.returns-then-seen-le-LEAST_RECORDS-clause-others
+returns-then-seen-le-LEAST_RECORDS-clause-others g c =
+    wrote_others c.args.page c.in-Ok-edit_at.ensures.edits.bytes _ _ _ c.in-Ok.ensures.looks.left.told c.in-Ok-edit_at.ensures.edits.wrote
+
+pub returns-else-seen-le-LEAST_RECORDS-clause-others : goal.returns-else-seen-le-LEAST_RECORDS-clause-others
+returns-else-seen-le-LEAST_RECORDS-clause-others g c =
+    wrote_others c.args.page c.in-Ok-edit_at.ensures.edits.bytes _ _ _ c.in-Ok.ensures.looks.left.told c.in-Ok-edit_at.ensures.edits.wrote

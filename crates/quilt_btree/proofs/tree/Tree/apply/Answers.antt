@@ -1,9 +1,10 @@
-use Rattle.std.proofs.Common.{◌∙◌, ◌+◌, ◌≤◌, subst, sym, arith}
+use Rattle.std.proofs.Common.{◌∙◌, ◌+◌, ◌*◌, ◌≤◌, length, take, subst, sym, arith}
 use Rattle.quilt_types.specs.Facts.{quota}
-use Rattle.quilt_btree.specs.Batches.{more}
+use Rattle.quilt_btree.specs.Batches.{more, looks, removed, added}
 use Rattle.quilt_btree.specs.Stops.{NamesPage}
 use Rattle.quilt_btree.proofs.ways.Damage.{stops_behind, run_zero, run_names, run_cause}
-use Rattle.quilt_btree.proofs.batches.Whole.{rest, made_rest, made_all, rest_long, rest_ascends, rest_fails, rest_room, rest_cost, rest_cost_all, cost_take, cost_is}
+use Rattle.quilt_btree.proofs.batches.Whole.{rest, made_rest, made_all, rest_long, rest_ascends, rest_fails, rest_room, rest_cost, rest_cost_all, cost_take, cost_is, rest_looks, looks_take, looks_are}
+use Rattle.quilt_btree.proofs.stores.Reads.{reads_then, reads_more}
 use Rattle.quilt_btree.proofs.batches.Lists.{edits_are}
 use Rattle.quilt_btree.proofs.batches.Rises.{whole_rises}
 use Rattle.quilt_btree.proofs.tree.Tree.apply.Goals as goal
@@ -21,6 +22,9 @@ loop-done-preserved g c = record {
   later = g.met.S.PageStore.goes_on _ _ _ c.loop-done.invariant.later c.in-Ok.ensures.later;
   changed = let m = c.loop-done.invariant.changed in let n = c.in-Ok.ensures.changed in
       let e = rest_cost c.args.run.now c.loop-done.done c.in-Ok.n in omega arith;
+  reads = reads_then (looks (take c.loop-done.done c.args.run.now)) (looks (take c.in-Ok.n (rest c.args.run.now c.loop-done.done)))
+      (looks (take (c.loop-done.done + c.in-Ok.n) c.args.run.now)) _ _ _
+      (let e = rest_looks c.args.run.now c.loop-done.done c.in-Ok.n in omega arith) c.loop-done.invariant.reads c.in-Ok.ensures.reads;
   start = λ e. absurd (let n = c.in-Ok.ensures.number.0 in omega arith);
 }
 
@@ -89,3 +93,8 @@ pub returns-in-Err-clause-list : goal.returns-in-Err-clause-list
 returns-in-Err-clause-list g c rs w due =
     edits_are c.args.run.now rs c.requires.order (whole_rises (g.S.PageStore.told c.args.store.now) (g.S.PageStore.free c.args.store.now)
     (g.S.PageStore.size c.args.store.now) c.args.self.now rs w) due
+
+pub returns-clause-reads : goal.returns-clause-reads
+returns-clause-reads g c =
+    reads_more (looks (take c.loop-done.done c.args.run.now)) (11 * length (removed c.args.run.now) + 7 * length (added c.args.run.now)) _ _
+    (let e = looks_take c.loop-done.done c.args.run.now in let k = looks_are c.args.run.now in omega arith) c.loop-done.invariant.reads

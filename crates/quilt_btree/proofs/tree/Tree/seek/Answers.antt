@@ -19,5 +19,6 @@ returns-in-Ok-page-clause-sought g c =
     λ rs is.
     let leaf = c.in-Ok.ensures.leaf bytes are rs (tree_spells (g.S.PageStore.told c.args.store.now) c.args.self.now rs ne is).0 in
     sought (g.S.PageStore.told c.args.store.now) c.args.self.now c.args.k.now rs bytes c.place_from.result c.in-Ok.found.high
-    (c.in-Ok.ensures.leads bytes are) (c.in-Ok.ensures.cut bytes are) c.requires.some is c.place_from.ensures.range
+    (c.in-Ok.ensures.leads bytes are) (c.in-Ok.ensures.cut bytes are) c.requires.some is
+    (c.in-Ok.ensures.least bytes are rs (tree_spells (g.S.PageStore.told c.args.store.now) c.args.self.now rs ne is).0) c.place_from.ensures.range
     (c.place_from.ensures.lower leaf) (c.place_from.ensures.higher leaf)

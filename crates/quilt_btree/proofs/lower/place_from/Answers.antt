@@ -1,7 +1,7 @@
 use Rattle.std.proofs.Common.{drop, arith}
 use Rattle.quilt_node.specs.Nodes.{records_of}
 use Rattle.quilt_btree.proofs.cursors.Stands.{found_from, over_le}
-use Rattle.quilt_btree.proofs.cursor.place_from.Goals as goal
+use Rattle.quilt_btree.proofs.lower.place_from.Goals as goal
 
 pub returns-then-i-n-clause-lower : goal.returns-then-i-n-clause-lower
 returns-then-i-n-clause-lower c = λ is. (c.in-Ok.ensures.place (records_of c.args.bytes.now) is).before
