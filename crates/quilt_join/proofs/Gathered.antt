@@ -1,17 +1,19 @@
 -- What threads gave for each segment of a list, and the pairs that it makes together.
-use Rattle.std.proofs.Common.{◌≡◌, ℕ, suc, ◌+◌, ◌<◌, ◌≤◌, true, false, nat_lt, List, [], ◌∷◌, ◌++◌}
-use Rattle.std.proofs.Common.{length, map, filter, flat_map, sum, Ok, Err, refl, sym, ap, ap₂, ◌∙◌, subst, arith}
+use Rattle.std.proofs.Common.{◌≡◌, ℕ, suc, ◌+◌, ◌<◌, ◌≤◌, List, [], ◌∷◌, ◌++◌}
+use Rattle.std.proofs.Common.{length, map, filter, flat_map, sum, Ok, Err, Some, append_assoc, append-nil, refl, sym, ap, ap₂, ◌∙◌, subst, arith}
 use Rattle.std.specs.Prelude.{IfOk, MatchResult}
 use Rattle.std.specs.List.{AllZip}
 use Rattle.std.specs.declared.result.Result.{Result}
-use Rattle.std.proofs.lemmas.Bool.Decides.{nat_tests}
-use Rattle.std.proofs.lemmas.List.{length-append}
-use Rattle.std.proofs.lemmas.List.Sums.{sum_by-cons}
+use Rattle.std.proofs.lemmas.List.{length-append, map-append}
+use Rattle.std.proofs.lemmas.List.Concat.{flat_map-append}
+use Rattle.std.proofs.lemmas.List.Sums.{sum_by-cons, sum_by-append}
 use Rattle.quilt_types.specs.declared.plane.Seg.{Seg}
 use Rattle.std.specs.FinMap as finmap
 use Rattle.quilt_types.specs.Layers.{SegMap}
 use Rattle.quilt_types.specs.Crossings.{shares, crossings}
-use Rattle.quilt_join.specs.Pairs.{ids_sharing, pairs_with, crossings_of, most}
+use Rattle.quilt_join.specs.declared.rows.Row.{Row}
+use Rattle.quilt_join.specs.Pairs.{ids_sharing, pairs_with, crossings_of, most, IsAnswer}
+use Rattle.quilt_join.specs.Rows.{IsRow}
 
 module _ {X Y : Type 0} (R : X → Y → Type 0) (E : Type 0) where
   values : (xs : List X) (ys : List Y) → AllZip (λ x (r : Result Y E). IfOk r (R x)) xs (map {A = Y} {B = Result Y E} Ok ys) → AllZip R xs ys
@@ -50,14 +52,66 @@ rows_counted (e ∷ a) b =
     ∙ ap₂ ◌+◌ (row_length e.0 (filter (λ f. shares e.1 f.1) b)) (rows_counted a b)
     ∙ sym (length-append (map (λ f. (e.0, f.0)) (filter (λ f. shares e.1 f.1) b)) (crossings_of a b))
 
--- whether a sum is more than the most, at the number that it is
-pub are_many : (s n : ℕ) → s ≡ n → nat_lt most s ≡ true → most < n
-are_many s n e h = let lt : most < s = grind (arith, nat_tests) in omega arith
-
-pub are_few : (s n : ℕ) → s ≡ n → nat_lt most s ≡ false → n ≤ most
-are_few s n e h = let le : s ≤ most = grind (arith, nat_tests) in omega arith
-
 -- the pairs of two maps are those of their entries
 pub crossings_are : (l m : SegMap) (a b : List (ℕ × Seg)) → finmap.entries l ≡ a → finmap.entries m ≡ b → crossings l m ≡ crossings_of a b
 unfolding crossings
 crossings_are l m a b e f = ap₂ crossings_of e f
+
+-- what is given for each value and any that it goes with is so for the value
+pub if_ok_all : {X V E : Type 0} (r : Result V E) (P : X → Type 0) (Q : V → X → Type 0) → ((x : X) → P x → IfOk r (λ v. Q v x)) → IfOk r (λ v. (x : X) → P x → Q v x)
+if_ok_all (Ok v) P Q f = f
+if_ok_all (Err e) P Q f = tt
+
+-- two lists that go with a third, of which the second has what a function gives for the first
+pub mapped_through : {X R Y : Type 0} (Is : X → R → Type 0) (f : X → Y) (xs : List X) (rs : List R) (ys : List Y) → AllZip Is xs rs
+    → AllZip (λ r y. (x : X) → Is x r → y ≡ f x) rs ys → ys ≡ map f xs
+mapped_through Is f [] [] [] h k = refl
+mapped_through Is f [] [] (y ∷ ys) h k = absurd k
+mapped_through Is f [] (r ∷ rs) ys h k = absurd h
+mapped_through Is f (x ∷ xs) [] ys h k = absurd h
+mapped_through Is f (x ∷ xs) (r ∷ rs) [] h k = absurd k
+mapped_through Is f (x ∷ xs) (r ∷ rs) (y ∷ ys) h k = ap₂ ◌∷◌ (k.0 x h.0) (mapped_through Is f xs rs ys h.1 k.1)
+
+-- the counts of rows
+pub rows_count : (b a : List (ℕ × Seg)) (rows : List Row) → AllZip (IsRow b) a rows → map (λ r. r.count) rows ≡ map (λ e. length (ids_sharing e.1 b)) a
+rows_count b [] [] h = refl
+rows_count b [] (r ∷ rows) h = absurd h
+rows_count b (e ∷ a) [] h = absurd h
+rows_count b (e ∷ a) (r ∷ rows) h = ap₂ ◌∷◌ h.0.count (rows_count b a rows h.1)
+
+-- ---- one part more of a list: its rows are counted and then listed
+module _ (b list rest part after : List (ℕ × Seg)) (are : rest ≡ part ++ after) where
+  abbrev counts : List (ℕ × Seg) → List ℕ
+  counts a = map (λ e. length (ids_sharing e.1 b)) a
+
+  pub part_counted : (rows : List Row) (found : List ℕ) (total all : ℕ) → AllZip (IsRow b) part rows → found ≡ map (λ r. r.count) rows
+      → all ≡ total + sum found → total + sum (counts rest) ≡ sum (counts list) → all + sum (counts after) ≡ sum (counts list)
+  part_counted rows found total all zip is sums so_far =
+      let these : sum found ≡ sum (counts part) = ap sum (is ∙ rows_count b part rows zip) in
+      let both : sum (counts rest) ≡ sum (counts part) + sum (counts after) =
+      ap (λ (a : List (ℕ × Seg)). sum (counts a)) are ∙ ap sum (map-append (λ (e : ℕ × Seg). length (ids_sharing e.1 b)) part after)
+      ∙ sum_by-append (λ (n : ℕ). n) (counts part) (counts after) in
+      omega arith
+
+  pub part_listed : (pairs new : List (ℕ × ℕ)) (lists : List (List (ℕ × ℕ))) → lists ≡ map (λ e. pairs_with e.0 (ids_sharing e.1 b)) part
+      → new ≡ pairs ++ flat_map (λ row. row) lists → pairs ++ crossings_of rest b ≡ crossings_of list b
+      → new ++ crossings_of after b ≡ crossings_of list b
+  part_listed pairs new lists is longer so_far =
+      let joined : flat_map (λ row. row) lists ≡ crossings_of part b = ap (flat_map (λ (row : List (ℕ × ℕ)). row)) is ∙ rows_joined part b in
+      let both : crossings_of rest b ≡ crossings_of part b ++ crossings_of after b =
+      ap (λ (a : List (ℕ × Seg)). crossings_of a b) are
+      ∙ flat_map-append (λ (e : ℕ × Seg). map (λ (f : ℕ × Seg). (e.0, f.0)) (filter (λ (f : ℕ × Seg). shares e.1 f.1) b)) part after in
+      ap (λ (l : List (ℕ × ℕ)). l ++ crossings_of after b) (longer ∙ ap (λ (l : List (ℕ × ℕ)). pairs ++ l) joined)
+      ∙ append_assoc pairs (crossings_of part b) (crossings_of after b) ∙ ap (λ (l : List (ℕ × ℕ)). pairs ++ l) (sym both) ∙ so_far
+
+-- too many in a part and those before it are too many in all
+pub are_many : (a b : List (ℕ × Seg)) (all after : ℕ) → most < all → all + after ≡ sum (map (λ e. length (ids_sharing e.1 b)) a) → most < length (crossings_of a b)
+are_many a b all after lt is = let e = rows_counted a b in omega arith
+
+-- nothing is left
+pub all_listed : (a b rest : List (ℕ × Seg)) (pairs : List (ℕ × ℕ)) (total : ℕ) → length rest ≡ 0 → total ≤ most
+    → total + sum (map (λ e. length (ids_sharing e.1 b)) rest) ≡ sum (map (λ e. length (ids_sharing e.1 b)) a)
+    → pairs ++ crossings_of rest b ≡ crossings_of a b → IsAnswer (crossings_of a b) (Some pairs)
+all_listed a b [] pairs total none few counted listed =
+    let e = rows_counted a b in (sym (append-nil pairs) ∙ listed, (omega arith))
+all_listed a b (e ∷ rest) pairs total none few counted listed = absurd (omega arith)

@@ -1,16 +1,18 @@
-ghost use Rattle.std.specs.Prelude.{◌≡◌, ◌<◌, ◌≤◌, ℕ, List, true, nat_lt, map, sum, length, flat_map, ◌+◌, All, IfOk, IfSome, IfNone};
+ghost use Rattle.std.specs.Prelude.{◌≡◌, ◌<◌, ◌≤◌, ℕ, List, true, map, sum, flat_map, ◌+◌, ◌++◌, All, IfOk, IfSome, IfNone, OnOk};
+ghost use Rattle.std.specs.List.{AllZip};
 ghost use Rattle.std.specs.FinMap as finmap;
 ghost use Rattle.std.specs.List.Sorted.{IsStrictlyIncreasing};
 ghost use Rattle.quilt_types.specs.declared.plane.Seg.{Seg as SegOf};
 ghost use Rattle.quilt_types.specs.Layers.{SegMap, is_in_square};
 ghost use Rattle.quilt_types.specs.Crossings.{crossings as crossings_of_maps};
 ghost use Rattle.quilt_join.specs.Serving.{Serves};
+ghost use Rattle.quilt_join.specs.Rows.{IsRow};
 ghost use Rattle.quilt_join.specs.Pairs.{IsAnswer, crossings_of, ids_sharing, pairs_with, most as most_pairs};
 
 use crate::buckets::Buckets;
 use crate::choosing::shift_for;
 use crate::pairs::PairList;
-use crate::rows::{count_of, pairs_of};
+use crate::rows::{Row, pairs_of, row_for};
 use quilt_types::Seg;
 use rayon::prelude::*;
 use std::alloc::{AllocError, Global};
@@ -19,48 +21,56 @@ use std::thread::Threads;
 /// How many pairs are listed at most.
 const MOST: usize = 1_000_000;
 
-/// How many segments are counted at a time.
+/// How many rows are found at a time.
 const PART: usize = 4096;
 
-/// How many segments share a point with each of a list, in threads.
-fn counts_of<R: Threads + Sync>(
+/// The row of each segment of a list, in threads.
+fn rows_for<R: Threads + Sync>(
     rt: &R,
     alloc: Global,
     buckets: &Buckets,
     list: &[(u32, Seg)],
-) -> Result<Vec<usize>, AllocError>
-    ensures { (b : List (ℕ × SegOf)) → Serves buckets.now b → IfOk result (λ v. v.items ≡ map (λ e. length (ids_sharing e.1 b)) list.now) }
+) -> Result<Vec<Row>, AllocError>
+    ensures { (b : List (ℕ × SegOf)) → Serves buckets.now b → IfOk result (λ v. AllZip (IsRow b) list.now v.items) }
 {
-    let counts: Result<Vec<usize>, AllocError> = list
+    let rows: Result<Vec<Row>, AllocError> = list
         .par_iter()
         .map(
-            |e: &(u32, Seg)| -> Result<usize, AllocError>
-                ensures { (b : List (ℕ × SegOf)) → Serves buckets.entry.now b → IfOk result (λ n. n ≡ length (ids_sharing e.now.1 b)) }
-            { count_of(alloc, buckets, e.1) },
-        )
-        .collect(rt, alloc)?;
-    counts
-}
-
-/// The pairs of each segment of a list with the segments that share a point with it, in threads. They are no more than `MOST`.
-fn rows_of<R: Threads + Sync>(
-    rt: &R,
-    alloc: Global,
-    buckets: &Buckets,
-    list: &[(u32, Seg)],
-) -> Result<Vec<PairList>, AllocError>
-    requires few { (b : List (ℕ × SegOf)) → Serves buckets.now b → sum (map (λ e. length (ids_sharing e.1 b)) list.now) ≤ most_pairs }
-    ensures { (b : List (ℕ × SegOf)) → Serves buckets.now b → IfOk result (λ v. v.items ≡ map (λ e. pairs_with e.0 (ids_sharing e.1 b)) list.now) }
-{
-    let rows: Result<Vec<PairList>, AllocError> = list
-        .par_iter()
-        .map(
-            |e: &(u32, Seg)| -> Result<PairList, AllocError>
-                ensures { (b : List (ℕ × SegOf)) → Serves buckets.entry.now b → IfOk result (λ row. row ≡ pairs_with e.now.0 (ids_sharing e.now.1 b)) }
-            { pairs_of(alloc, buckets, e.0, e.1) },
+            |e: &(u32, Seg)| -> Result<Row, AllocError>
+                ensures { (b : List (ℕ × SegOf)) → Serves buckets.entry.now b → IfOk result (IsRow b e.now) }
+            { row_for(alloc, buckets, e.0, e.1) },
         )
         .collect(rt, alloc)?;
     rows
+}
+
+/// The pairs of each row, in threads.
+fn pairs_for<R: Threads + Sync>(
+    rt: &R,
+    alloc: Global,
+    buckets: &Buckets,
+    rows: &[Row],
+) -> Result<Vec<PairList>, AllocError>
+    ensures { (b a : List (ℕ × SegOf)) → Serves buckets.now b → AllZip (IsRow b) a rows.now →
+        IfOk result (λ v. v.items ≡ map (λ e. pairs_with e.0 (ids_sharing e.1 b)) a) }
+{
+    let pairs: Result<Vec<PairList>, AllocError> = rows
+        .par_iter()
+        .map(
+            |row: &Row| -> Result<PairList, AllocError>
+                ensures { (b : List (ℕ × SegOf)) (e : ℕ × SegOf) → Serves buckets.entry.now b → IsRow b e row.now →
+                    IfOk result (λ pairs. pairs ≡ pairs_with e.0 (ids_sharing e.1 b)) }
+            { pairs_of(alloc, buckets, row) },
+        )
+        .collect(rt, alloc)?;
+    pairs
+}
+
+/// How many ids each of the rows has.
+fn counts_of(alloc: Global, rows: &[Row]) -> Result<Vec<usize>, AllocError>
+    ensures { IfOk result (λ v. v.items ≡ map (λ row. row.count) rows.now) }
+{
+    rows.iter().map(|row| row.count).collect(alloc)
 }
 
 /// The total with all numbers added. None where that is more than `MOST`.
@@ -80,39 +90,42 @@ fn added(total: usize, counts: &[usize]) -> Option<usize>
     Some(all)
 }
 
-/// Whether more than `MOST` pairs share a point: the segments of a list are counted part by part, as long as there are no more.
-fn are_more<R: Threads + Sync>(
+/// Adds the lists at the end, one behind the other.
+fn append_all(pairs: &mut PairList, lists: &[PairList]) -> Result<(), AllocError>
+    ensures { OnOk result (pairs.new ≡ pairs.old ++ flat_map (λ row. row) lists.now) }
+{
+    for row in lists {
+        pairs.append(row.items())?;
+    }
+    Ok(())
+}
+
+/// The pairs of all segments of a list with the segments that share a point with them, part by part: those of a part are listed
+/// once they are counted. None where there are more than `MOST`.
+fn all_pairs<R: Threads + Sync>(
     rt: &R,
     alloc: Global,
     buckets: &Buckets,
     list: &[(u32, Seg)],
-) -> Result<bool, AllocError>
-    ensures { (b : List (ℕ × SegOf)) → Serves buckets.now b →
-        IfOk result (λ more. more ≡ nat_lt most_pairs (sum (map (λ e. length (ids_sharing e.1 b)) list.now))) }
+) -> Result<Option<PairList>, AllocError>
+    ensures { (b : List (ℕ × SegOf)) → Serves buckets.now b → IfOk result (IsAnswer (crossings_of list.now b)) }
 {
+    let mut pairs = PairList::new(alloc);
     let mut total = 0_usize;
     let mut rest = list;
     while !rest.is_empty() {
         let (part, after) = rest.split_at(rest.len().min(PART));
-        let counts = counts_of(rt, alloc, buckets, part)?;
+        let rows = rows_for(rt, alloc, buckets, part)?;
+        let counts = counts_of(alloc, &rows)?;
         match added(total, &counts) {
             Some(all) => total = all,
-            None => return Ok(true),
+            None => return Ok(None),
         }
+        let lists = pairs_for(rt, alloc, buckets, &rows)?;
+        append_all(&mut pairs, &lists)?;
         rest = after;
     }
-    Ok(false)
-}
-
-/// The lists one behind the other.
-fn joined(alloc: Global, rows: &[PairList]) -> Result<PairList, AllocError>
-    ensures { IfOk result (λ pairs. pairs ≡ flat_map (λ row. row) rows.now) }
-{
-    let mut pairs = PairList::new(alloc);
-    for row in rows {
-        pairs.append(row.items())?;
-    }
-    Ok(pairs)
+    Ok(Some(pairs))
 }
 
 /// All pairs of an id of `a` and an id of `b` whose segments share a point, by the first id and then the second. None
@@ -136,9 +149,5 @@ pub fn crossings<R: Threads + Sync>(
 {
     let level = u32::from(level);
     let buckets = Buckets::of(alloc, level, shift_for(level, a, b), b)?;
-    if are_more(rt, alloc, &buckets, a)? {
-        return Ok(None);
-    }
-    let rows = rows_of(rt, alloc, &buckets, a)?;
-    Ok(Some(joined(alloc, &rows)?))
+    all_pairs(rt, alloc, &buckets, a)
 }

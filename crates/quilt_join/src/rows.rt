@@ -1,9 +1,10 @@
-ghost use Rattle.std.specs.Prelude.{◌≡◌, ◌++◌, ◌^◌, ℕ, List, length, map, OnOk, IfOk};
+ghost use Rattle.std.specs.Prelude.{◌≡◌, ◌++◌, ◌^◌, ◌≤◌, ℕ, List, OnOk, IfOk, IfSome, vec_len};
 ghost use Rattle.quilt_types.specs.declared.plane.Seg.{Seg as SegOf};
 ghost use Rattle.quilt_join.specs.Boxes.{span_at, count as block_count};
 ghost use Rattle.quilt_join.specs.Buckets.{ids_over};
 ghost use Rattle.quilt_join.specs.Pairs.{ids_sharing, pairs_with};
 ghost use Rattle.quilt_join.specs.Serving.{Serves};
+ghost use Rattle.quilt_join.specs.Rows.{IsRow};
 
 use crate::buckets::Buckets;
 use crate::pairs::PairList;
@@ -49,27 +50,56 @@ pub(crate) fn row_of(alloc: Global, buckets: &Buckets, s: Seg) -> Result<Vec<u32
     Ok(ids)
 }
 
-/// How many segments share a point with this one.
-pub(crate) fn count_of(alloc: Global, buckets: &Buckets, s: Seg) -> Result<usize, AllocError>
-    ensures { (b : List (ℕ × SegOf)) → Serves buckets.now b → IfOk result (λ n. n ≡ length (ids_sharing s b)) }
-{
-    let row = row_of(alloc, buckets, s)?;
-    Ok(row.len())
+/// How many ids of a row are kept at most: 4,096 rows take then at most 4 MB.
+const KEPT: usize = 244;
+
+/// A segment with its id, how many segments share a point with it, and their ids, each once and in their order, where they are few.
+#[derive(Drop)]
+pub(crate) struct Row {
+    pub id: u32,
+    pub segment: Seg,
+    pub count: usize,
+    pub ids: Option<Vec<u32>>,
 }
 
-/// The pairs of an id with the ids of the segments that share a point with this one.
-pub(crate) fn pairs_of(
-    alloc: Global,
-    buckets: &Buckets,
-    id: u32,
-    s: Seg,
-) -> Result<PairList, AllocError>
-    ensures { (b : List (ℕ × SegOf)) → Serves buckets.now b → IfOk result (λ pairs. pairs ≡ pairs_with id (ids_sharing s b)) }
+/// The row of a segment: of up to `KEPT` ids they are kept.
+pub(crate) fn row_for(alloc: Global, buckets: &Buckets, id: u32, s: Seg) -> Result<Row, AllocError>
+    ensures row { (b : List (ℕ × SegOf)) → Serves buckets.now b → IfOk result (IsRow b (id, s)) }
+    ensures few { IfOk result (λ row. IfSome row.ids (λ ids. vec_len ids ≤ 244)) }
 {
-    let row = row_of(alloc, buckets, s)?;
+    let ids = row_of(alloc, buckets, s)?;
+    let count = ids.len();
+    let kept = if count <= KEPT { Some(ids) } else { None };
+    Ok(Row {
+        id,
+        segment: s,
+        count,
+        ids: kept,
+    })
+}
+
+/// The pairs of an id with others.
+fn paired(alloc: Global, id: u32, others: &[u32]) -> Result<PairList, AllocError>
+    ensures { IfOk result (λ pairs. pairs ≡ pairs_with id others.now) }
+{
     let mut pairs = PairList::new(alloc);
-    for other in &row {
+    for other in others {
         pairs.push((id, *other))?;
     }
     Ok(pairs)
+}
+
+/// The pairs of the id of a row with the ids of the segments that share a point with its segment. A row that was not kept is made
+/// again.
+pub(crate) fn pairs_of(alloc: Global, buckets: &Buckets, row: &Row) -> Result<PairList, AllocError>
+    ensures { (b : List (ℕ × SegOf)) (e : ℕ × SegOf) → Serves buckets.now b → IsRow b e row.now →
+        IfOk result (λ pairs. pairs ≡ pairs_with e.0 (ids_sharing e.1 b)) }
+{
+    match &row.ids {
+        Some(ids) => paired(alloc, row.id, ids),
+        None => {
+            let ids = row_of(alloc, buckets, row.segment)?;
+            paired(alloc, row.id, &ids)
+        }
+    }
 }

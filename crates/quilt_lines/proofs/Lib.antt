@@ -17,3 +17,5 @@ pub mod Options
 pub mod Floors
 pub mod Counts
 pub mod plans
+pub mod Costs
+pub mod Saying

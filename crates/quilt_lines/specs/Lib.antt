@@ -5,3 +5,5 @@ pub mod Plans
 pub mod Merges
 pub mod Adding
 pub mod Counting
+pub mod Bounds
+pub mod Said

@@ -1,14 +1,15 @@
-ghost use Rattle.std.specs.Prelude.{◌≡◌, ◌↔◌, ◌≤◌, ◌<◌, ℕ, true, [], ◌∷◌, ◌++◌};
-ghost use Rattle.std.specs.Prelude.{IfOk, IfErr, IfSome, IsNone, IsSome, None, OnOk};
+ghost use Rattle.std.specs.Prelude.{◌≡◌, ◌↔◌, ◌≤◌, ◌<◌, ◌+◌, ◌*◌, ℕ, true, [], ◌∷◌, ◌++◌, length};
+ghost use Rattle.std.specs.Prelude.{IfOk, IfErr, IfSome, IsNone, IsSome, None, OnOk, MatchOption};
 ghost use Rattle.std.specs.FinMap as finmap;
 ghost use Rattle.quilt_types.specs.Facts.{IsMetBy};
 ghost use Rattle.quilt_types.specs.Layers.{SegMap, BlockSet, is_in_square as is_seg_in_square};
 ghost use Rattle.quilt_types.specs.Plane.{side as side_of, IsBlock};
-ghost use Rattle.quilt_types.specs.Quadtrees.{after_add, is_reached};
+ghost use Rattle.quilt_types.specs.Quadtrees.{after_add, is_reached, reach};
 ghost use Rattle.quilt_types.specs.Segments.{square, meets as segment_meets};
 ghost use Rattle.quilt_near.specs.Lines.{meeting};
 ghost use Rattle.quilt_line_laws.specs.Merging.{met_in};
 ghost use Rattle.quilt_store.specs.Calls.{OnlyReads};
+ghost use Rattle.quilt_world.specs.Tale.{Goes};
 ghost use Rattle.quilt_store.specs.Stops.{IsSound};
 ghost use Rattle.quilt_btree.specs.Trees.{IsRooted};
 ghost use Rattle.quilt_edits.specs.Edits.{AreInOrder};
@@ -16,6 +17,7 @@ ghost use Rattle.quilt_lines.specs.Layers.{HasLines};
 ghost use Rattle.quilt_lines.specs.Reads.{ids_of};
 ghost use Rattle.quilt_lines.specs.Adding.{facts_by, none_by, quarter_facts, ids_meeting as ids_meeting_it, Follow, IsAdded};
 ghost use Rattle.quilt_lines.specs.Plans.{IsLinePlan};
+ghost use Rattle.quilt_lines.specs.Bounds.{is_met, due};
 
 use crate::view::{DAMAGED, LineView};
 use quilt_btree::Tree;
@@ -29,7 +31,7 @@ use std::alloc::{AllocError, Global};
 
 /// The records that go and those that come when a segment comes under an id to the line layer with this number, from 1 to 255, and
 /// this splitting threshold, from 1 to 32, of a map of this level, from 1 to 12: None exactly where the id is there. Both ends are
-/// pixels of the square.
+/// pixels of the square. It reads at most 3 pages, and what a look at each block that the segment meets may cost.
 pub fn plan_add<S: PageStore>(
     alloc: Global,
     store: &mut S,
@@ -54,6 +56,9 @@ pub fn plan_add<S: PageStore>(
     ensures sound { IfErr result (λ e. (segs : SegMap) (cover : BlockSet) → HasLines (S.told store.old) tree.now layer level t segs cover →
         IsSound e) }
     ensures left { OnlyReads S.PageStore store.old store.new result }
+    ensures reads { IfOk result (λ o. MatchOption o (Goes (λ old new. new ≤ old + 3) (S.reads store.old) (S.reads store.new))
+        (λ edits. (segs : SegMap) (cover : BlockSet) → HasLines (S.told store.old) tree.now layer level t segs cover →
+        Goes (λ old new. new ≤ old + (3 + reach level segs cover (is_met s))) (S.reads store.old) (S.reads store.new))) }
 {
     let view = LineView {
         tree: *tree,
@@ -105,6 +110,9 @@ impl Arrival {
             HasLines (S.told store.old) self.now.view.tree self.now.view.layer self.now.view.level self.now.t segs cover →
             finmap.get segs self.now.id ≡ None → IsSound e) }
         ensures left { OnlyReads S.PageStore store.old store.new result }
+        ensures reads { IfOk result (λ edits. (segs : SegMap) (cover : BlockSet) →
+            HasLines (S.told store.old) self.now.view.tree self.now.view.layer self.now.view.level self.now.t segs cover →
+            Goes (λ old new. new ≤ old + reach self.now.view.level segs cover (is_met self.now.s)) (S.reads store.old) (S.reads store.new)) }
     {
         let mut change = Change {
             gone: Vec::new(alloc),
@@ -141,6 +149,10 @@ impl Arrival {
             HasLines (S.told store.old) self.now.view.tree self.now.view.layer self.now.view.level self.now.t segs cover →
             is_reached cover b ≡ true → IsSound e) }
         ensures left { OnlyReads S.PageStore store.old store.new result }
+        ensures reads { OnOk result ((segs : SegMap) (cover : BlockSet) →
+            HasLines (S.told store.old) self.now.view.tree self.now.view.layer self.now.view.level self.now.t segs cover →
+            is_reached cover b ≡ true →
+            Goes (λ old new. new ≤ old + due self.now.view.level (is_met self.now.s) segs cover b) (S.reads store.old) (S.reads store.new)) }
     {
         if !meets(self.s, b) {
             return Ok(());
@@ -182,6 +194,7 @@ impl Arrival {
             HasLines (S.told store.old) self.now.view.tree self.now.view.layer self.now.view.level self.now.t segs cover →
             ids.now ≡ ids_of (meeting segs b) → IsSound e) }
         ensures left { OnlyReads S.PageStore store.old store.new result }
+        ensures reads { OnOk result (Goes (λ old new. new ≤ old + 3 * length ids.now) (S.reads store.old) (S.reads store.new)) }
     {
         if b.side > 1 && ids.len() >= usize::from(self.t) {
             return self.split(alloc, store, change, b, ids);
@@ -230,6 +243,7 @@ impl Arrival {
             HasLines (S.told store.old) self.now.view.tree self.now.view.layer self.now.view.level self.now.t segs cover →
             ids.now ≡ ids_of (meeting segs b) → IsSound e) }
         ensures left { OnlyReads S.PageStore store.old store.new result }
+        ensures reads { OnOk result (Goes (λ old new. new ≤ old + 3 * length ids.now) (S.reads store.old) (S.reads store.new)) }
     {
         match self.view.push_facts(&mut change.gone, b, ids) {
             Err(_) => return Err(Stop::Memory),

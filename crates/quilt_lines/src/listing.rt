@@ -8,9 +8,11 @@ ghost use Rattle.quilt_types.specs.Layers.{SegMap, BlockSet};
 ghost use Rattle.quilt_store.specs.Calls.{OnlyReads};
 ghost use Rattle.quilt_world.specs.Tale.{Goes};
 ghost use Rattle.quilt_store.specs.Stops.{IsSound};
-ghost use Rattle.quilt_btree.specs.Trees.{IsRooted};
+ghost use Rattle.quilt_record.specs.declared.record.Record.{Record};
+ghost use Rattle.quilt_btree.specs.Trees.{IsRooted, IsTree};
 ghost use Rattle.quilt_lines.specs.Layers.{HasLines};
 ghost use Rattle.quilt_lines.specs.Reads.{pair_of, none_of, block_records, AreIdsAt};
+ghost use Rattle.quilt_lines.specs.Said.{NamesZero, SayIds, records_at};
 
 use crate::view::{DAMAGED, LineView};
 use quilt_record::{Key, Record, pair_record};
@@ -28,7 +30,7 @@ fn is_same(a: &Record, b: &Record) -> bool
 
 impl LineView {
     /// The ids of the segments that meet a block, from the block's records: None exactly where it is none of the layer's. It
-    /// reads at most 9 pages, and 3 more for each id.
+    /// reads at most 6 pages where it is none, and else 9 and 3 more for each id.
     pub(crate) fn ids_at<S: PageStore>(
         &self,
         alloc: Global,
@@ -40,10 +42,15 @@ impl LineView {
         ensures ids { IfOk result (λ o. (t : ℕ) (segs : SegMap) (cover : BlockSet)
             → HasLines (S.told store.old) self.now.tree self.now.layer self.now.level t segs cover
             → MatchOption o (finset.contains cover b ≡ false) (λ ids. AreIdsAt segs cover b ids.items)) }
+        ensures said { IfOk result (λ o. (rs : List Record) → IsTree (S.told store.old) self.now.tree rs
+            → MatchOption o (records_at self.now.level self.now.layer b rs ≡ [])
+            (λ ids. SayIds self.now.level self.now.layer b (records_at self.now.level self.now.layer b rs) ids.items)) }
+        ensures zero { IfErr result (λ e. (rs : List Record) → IsTree (S.told store.old) self.now.tree rs → NamesZero e) }
         ensures sound { IfErr result (λ e. (t : ℕ) (segs : SegMap) (cover : BlockSet)
             → HasLines (S.told store.old) self.now.tree self.now.layer self.now.level t segs cover → IsSound e) }
         ensures left { OnlyReads S.PageStore store.old store.new result }
-        ensures reads { IfOk result (λ o. Goes (λ old new. new ≤ old + 9 + 3 * unwrap_or (option_map vec_len o) 0) (S.reads store.old) (S.reads store.new)) }
+        ensures reads { IfOk result (λ o. MatchOption o (Goes (λ old new. new ≤ old + 6) (S.reads store.old) (S.reads store.new))
+            (λ ids. Goes (λ old new. new ≤ old + (9 + 3 * vec_len ids)) (S.reads store.old) (S.reads store.new))) }
     {
         let low = pair_record(self.layer, b, self.level, None).key;
         let high = Key {
@@ -66,6 +73,9 @@ impl LineView {
         requires { IsBlock self.now.level b }
         ensures ids { IfOk result (λ o. (segs : SegMap) (cover : BlockSet) → records.now ≡ block_records self.now.level self.now.layer segs cover b
             → MatchOption o (finset.contains cover b ≡ false) (λ ids. AreIdsAt segs cover b ids.items)) }
+        ensures said { IfOk result (λ o. MatchOption o (records.now ≡ [])
+            (λ ids. SayIds self.now.level self.now.layer b records.now ids.items)) }
+        ensures zero { IfErr result NamesZero }
         ensures few { IfOk result (λ o. length records.now ≤ 1 + unwrap_or (option_map vec_len o) 0) }
         ensures sound { IfErr result (λ e. (segs : SegMap) (cover : BlockSet)
             → records.now ≡ block_records self.now.level self.now.layer segs cover b → IsSound e) }
@@ -113,6 +123,7 @@ impl LineView {
     fn all_ids(&self, alloc: Global, records: &[Record], b: Block) -> Result<Vec<u32>, Stop>
         requires { IsBlock self.now.level b }
         ensures ids { IfOk result (λ ids. records.now ≡ map (pair_of self.now.level self.now.layer b) ids.items) }
+        ensures zero { IfErr result NamesZero }
         ensures sound { IfErr result (λ e. (ids : List ℕ) → records.now ≡ map (pair_of self.now.level self.now.layer b) ids → IsSound e) }
         ensures no_fault { IsErrOf result Device → ⊥ }
     {

@@ -1,18 +1,20 @@
-ghost use Rattle.std.specs.Prelude.{◌≡◌, ◌↔◌, ◌≤◌, ◌<◌, ◌++◌, ◌∷◌, length, IfOk, IfErr, IfSome, IsErrOf, IsNone, Some};
+ghost use Rattle.std.specs.Prelude.{◌≡◌, ◌↔◌, ◌≤◌, ◌<◌, ◌+◌, ◌++◌, ◌∷◌, length, IfOk, IfErr, IfSome, IsErrOf, IsNone, Some, MatchOption};
 ghost use Rattle.std.specs.FinMap as finmap;
 ghost use Rattle.quilt_types.specs.declared.plane.Seg.{Seg as AnySeg};
 ghost use Rattle.quilt_types.specs.declared.stop.Stop.TheVariants.{Device};
 ghost use Rattle.quilt_types.specs.Plane.{whole};
 ghost use Rattle.quilt_types.specs.Layers.{SegMap, BlockSet, IsLineMap};
 ghost use Rattle.quilt_types.specs.Facts.{IsSegment};
-ghost use Rattle.quilt_types.specs.Quadtrees.{after_remove};
+ghost use Rattle.quilt_types.specs.Quadtrees.{after_remove, reach};
 ghost use Rattle.quilt_store.specs.Calls.{OnlyReads};
+ghost use Rattle.quilt_world.specs.Tale.{Goes};
 ghost use Rattle.quilt_store.specs.Stops.{IsSound};
 ghost use Rattle.quilt_btree.specs.Trees.{IsRooted};
 ghost use Rattle.quilt_edits.specs.Edits.{AreInOrder};
 ghost use Rattle.quilt_lines.specs.Layers.{HasLines, fact_record};
 ghost use Rattle.quilt_lines.specs.Merges.{Becomes, IsRemovalPlan};
 ghost use Rattle.quilt_lines.specs.Plans.{IsLinePlan};
+ghost use Rattle.quilt_lines.specs.Bounds.{is_met_above};
 
 use crate::merging::Settled;
 use crate::removal::Removal;
@@ -27,7 +29,8 @@ use std::alloc::{AllocError, Global};
 
 /// The records that go and those that come when the segment of an id goes from the line layer with this number, from 1 to 255, and
 /// this splitting threshold, from 1 to 32, of a map of this level, from 1 to 12: None exactly where the id is not there. Fewer
-/// records come than go.
+/// records come than go. It reads at most 3 pages, and what a look at the whole square and at each block whose parent the segment
+/// meets may cost.
 pub fn plan_remove<S: PageStore>(
     alloc: Global,
     store: &mut S,
@@ -52,6 +55,10 @@ pub fn plan_remove<S: PageStore>(
     ensures sound { IfErr result (λ e. (segs : SegMap) (cover : BlockSet) → HasLines (S.told store.old) tree.now layer level t segs cover →
         IsSound e) }
     ensures left { OnlyReads S.PageStore store.old store.new result }
+    ensures reads { IfOk result (λ o. MatchOption o (Goes (λ old new. new ≤ old + 3) (S.reads store.old) (S.reads store.new))
+        (λ edits. (segs : SegMap) (cover : BlockSet) → HasLines (S.told store.old) tree.now layer level t segs cover →
+        (s : AnySeg) → finmap.get segs id ≡ Some s →
+        Goes (λ old new. new ≤ old + (3 + reach level segs cover (is_met_above level s))) (S.reads store.old) (S.reads store.new))) }
 {
     match segment(store, tree, layer, level, id) {
         Err(e) => Err(e),
@@ -84,6 +91,9 @@ impl Removal {
             HasLines (S.told store.old) tree.now self.now.layer self.now.level self.now.threshold segs cover →
             finmap.get segs self.now.id ≡ Some self.now.segment → IsSound e) }
         ensures left { OnlyReads S.PageStore store.old store.new result }
+        ensures reads { IfOk result (λ edits. (segs : SegMap) (cover : BlockSet) → HasLines (S.told store.old) tree.now self.now.layer self.now.level self.now.threshold segs cover →
+            Goes (λ old new. new ≤ old + reach self.now.level segs cover (is_met_above self.now.level self.now.segment)) (S.reads store.old)
+            (S.reads store.new)) }
     {
         match self.settle(alloc, store, tree, whole_square(self.level)) {
             Err(e) => Err(e),

@@ -1,5 +1,5 @@
 ghost use Rattle.std.specs.Prelude.{◌≡◌, ℕ, ◌+◌, ◌*◌, ◌<◌, ◌≤◌, ◌&&◌, true, All, Contains, Some, IfOk, IfErr, IfSome, IsErrOf, OnOk, [], ◌∷◌, ◌++◌, map};
-ghost use Rattle.std.specs.Prelude.{length};
+ghost use Rattle.std.specs.Prelude.{length, List};
 ghost use Rattle.std.specs.FinMap as finmap;
 ghost use Rattle.std.specs.Ordering.{nat_cmp};
 ghost use Rattle.quilt_types.specs.declared.plane.Seg.{Seg as AnySeg};
@@ -11,9 +11,11 @@ ghost use Rattle.quilt_record.specs.Canonical.{FactFits};
 ghost use Rattle.quilt_store.specs.Calls.{OnlyReads};
 ghost use Rattle.quilt_world.specs.Tale.{Goes};
 ghost use Rattle.quilt_store.specs.Stops.{IsSound};
-ghost use Rattle.quilt_btree.specs.Trees.{IsRooted};
+ghost use Rattle.quilt_record.specs.declared.record.Record.{Record};
+ghost use Rattle.quilt_btree.specs.Trees.{IsRooted, IsTree};
 ghost use Rattle.quilt_lines.specs.Layers.{HasLines, fact_record, segment_facts};
 ghost use Rattle.quilt_lines.specs.Reads.{segment_key as key_of, ids_of};
+ghost use Rattle.quilt_lines.specs.Said.{NamesZero, SaySegment, SaySegmentAt, SaySegments, segment_records};
 
 use crate::view::{DAMAGED, LineView};
 use quilt_btree::Tree;
@@ -24,7 +26,8 @@ use quilt_types::{Seg, Stop};
 use std::alloc::Global;
 
 /// The segment of an id in the line layer with this number, from 1 to 255, of a map of this level, from 1 to 12: None exactly
-/// where the id is not there. It reads at most 3 pages.
+/// where the id is not there. It reads at most 3 pages. Page 0 is said to be damaged where the record under the id's key is none of
+/// a segment whose ends are pixels of the level.
 pub fn segment<S: PageStore>(
     store: &mut S,
     tree: &Tree,
@@ -38,7 +41,9 @@ pub fn segment<S: PageStore>(
     ensures segment { IfOk result (λ o. (t : ℕ) (segs : SegMap) (cover : BlockSet) → HasLines (S.told store.old) tree.now layer level t segs cover
         → o ≡ finmap.get segs id) }
     ensures inside { IfOk result (λ o. IfSome o (λ s. is_seg_in_square level s ≡ true)) }
+    ensures said { IfOk result (λ o. (rs : List Record) → IsTree (S.told store.old) tree.now rs → SaySegmentAt level layer rs id o) }
     ensures sound { IfErr result (λ e. (t : ℕ) (segs : SegMap) (cover : BlockSet) → HasLines (S.told store.old) tree.now layer level t segs cover → IsSound e) }
+    ensures zero { IfErr result (λ e. (rs : List Record) → IsTree (S.told store.old) tree.now rs → NamesZero e) }
     ensures left { OnlyReads S.PageStore store.old store.new result }
     ensures reads { Goes (λ old new. new ≤ old + 3) (S.reads store.old) (S.reads store.new) }
 {
@@ -50,7 +55,9 @@ pub fn segment<S: PageStore>(
     view.segment(store, id)
 }
 
-/// All segments by id of the line layer with this number, from 1 to 255, of a map of this level, from 1 to 12.
+/// All segments by id of the line layer with this number, from 1 to 255, of a map of this level, from 1 to 12. It reads at most 6
+/// pages, and 3 more for each segment. Page 0 is said to be damaged where a record under a segment's key is none of a segment whose
+/// ends are pixels of the level.
 pub fn scan<S: PageStore>(
     alloc: Global,
     store: &mut S,
@@ -65,8 +72,11 @@ pub fn scan<S: PageStore>(
         → HasLines (S.told store.old) tree.now layer level t segs cover → list ≡ finmap.entries segs) }
     ensures inside { IfOk result (λ list. All (λ e. is_seg_in_square level e.1 ≡ true) list) }
     ensures order { IfOk result (λ list. Rises nat_cmp (ids_of list)) }
+    ensures said { IfOk result (λ list. (rs : List Record) → IsTree (S.told store.old) tree.now rs → SaySegments level layer (segment_records layer rs) list) }
     ensures sound { IfErr result (λ e. (t : ℕ) (segs : SegMap) (cover : BlockSet) → HasLines (S.told store.old) tree.now layer level t segs cover → IsSound e) }
+    ensures zero { IfErr result (λ e. (rs : List Record) → IsTree (S.told store.old) tree.now rs → NamesZero e) }
     ensures left { OnlyReads S.PageStore store.old store.new result }
+    ensures reads { IfOk result (λ list. Goes (λ old new. new ≤ old + 6 + 3 * length list) (S.reads store.old) (S.reads store.new)) }
 {
     let view = LineView {
         tree: *tree,
@@ -110,6 +120,9 @@ impl LineView {
         ensures segment { IfOk result (λ o. (t : ℕ) (segs : SegMap) (cover : BlockSet)
             → HasLines (S.told store.old) self.now.tree self.now.layer self.now.level t segs cover → o ≡ finmap.get segs id) }
         ensures inside { IfOk result (λ o. IfSome o (λ s. is_seg_in_square self.now.level s ≡ true)) }
+        ensures said { IfOk result (λ o. (rs : List Record) → IsTree (S.told store.old) self.now.tree rs →
+            SaySegmentAt self.now.level self.now.layer rs id o) }
+        ensures zero { IfErr result (λ e. (rs : List Record) → IsTree (S.told store.old) self.now.tree rs → NamesZero e) }
         ensures sound { IfErr result (λ e. (t : ℕ) (segs : SegMap) (cover : BlockSet)
             → HasLines (S.told store.old) self.now.tree self.now.layer self.now.level t segs cover → IsSound e) }
         ensures left { OnlyReads S.PageStore store.old store.new result }
@@ -131,6 +144,7 @@ impl LineView {
         ensures inside { IfSome result (λ v. is_seg_in_square self.now.level v.1 ≡ true) }
         ensures one { (id : ℕ) (s : AnySeg) → r.now ≡ fact_record self.now.level self.now.layer (IsSegment id s)
             → FactFits self.now.level (IsSegment id s) → is_seg_in_square self.now.level s ≡ true → result ≡ Some (id, s) }
+        ensures some { IfSome result (λ v. r.now ≡ fact_record self.now.level r.now.key.layer (IsSegment v.0 v.1)) }
     {
         match read_segment(r) {
             Some((id, s)) if is_in_square(s, self.level) => Some((id, s)),
@@ -150,6 +164,9 @@ impl LineView {
         ensures found { IfOk result (λ list. (t : ℕ) (segs : SegMap) (cover : BlockSet)
             → HasLines (S.told store.old) self.now.tree self.now.layer self.now.level t segs cover → All (λ e. finmap.get segs e.0 ≡ Some e.1) list) }
         ensures inside { IfOk result (λ list. All (λ e. is_seg_in_square self.now.level e.1 ≡ true) list) }
+        ensures said { IfOk result (λ list. (rs : List Record) → IsTree (S.told store.old) self.now.tree rs →
+            All (λ e. SaySegment self.now.level self.now.layer rs e.0 e.1) list) }
+        ensures zero { IfErr result (λ e. (rs : List Record) → IsTree (S.told store.old) self.now.tree rs → NamesZero e) }
         ensures sound { IfErr result (λ e. (t : ℕ) (segs : SegMap) (cover : BlockSet)
             → HasLines (S.told store.old) self.now.tree self.now.layer self.now.level t segs cover
             → ((id : ℕ) → Contains ids.now id → (s : AnySeg) × (finmap.get segs id ≡ Some s)) → IsSound e) }
@@ -176,7 +193,9 @@ impl LineView {
         requires rooted { IsRooted (S.size store.old) self.now.tree }
         ensures added { OnOk result ((s : AnySeg) × (list.new ≡ list.old ++ (id, s) ∷ []) × (is_seg_in_square self.now.level s ≡ true)
             × ((t : ℕ) (segs : SegMap) (cover : BlockSet) → HasLines (S.told store.old) self.now.tree self.now.layer self.now.level t segs cover
-            → finmap.get segs id ≡ Some s)) }
+            → finmap.get segs id ≡ Some s)
+            × ((rs : List Record) → IsTree (S.told store.old) self.now.tree rs → SaySegment self.now.level self.now.layer rs id s)) }
+        ensures zero { IfErr result (λ e. (rs : List Record) → IsTree (S.told store.old) self.now.tree rs → NamesZero e) }
         ensures sound { IfErr result (λ e. (t : ℕ) (segs : SegMap) (cover : BlockSet)
             → HasLines (S.told store.old) self.now.tree self.now.layer self.now.level t segs cover → (s : AnySeg) → finmap.get segs id ≡ Some s → IsSound e) }
         ensures left { OnlyReads S.PageStore store.old store.new result }
@@ -198,6 +217,9 @@ impl LineView {
             → records.now ≡ map (fact_record self.now.level self.now.layer) (segment_facts segs) → list ≡ finmap.entries segs) }
         ensures inside { IfOk result (λ list. All (λ e. is_seg_in_square self.now.level e.1 ≡ true) list) }
         ensures order { IfOk result (λ list. Rises nat_cmp (ids_of list)) }
+        ensures said { IfOk result (λ list. All (λ r. r.key.layer ≡ self.now.layer) records.now → SaySegments self.now.level self.now.layer records.now list) }
+        ensures many { IfOk result (λ list. length list ≡ length records.now) }
+        ensures zero { IfErr result NamesZero }
         ensures sound { IfErr result (λ e. (t : ℕ) (segs : SegMap) (cover : BlockSet) → IsLineMap self.now.level t segs cover
             → records.now ≡ map (fact_record self.now.level self.now.layer) (segment_facts segs) → IsSound e) }
         ensures no_fault { IsErrOf result Device → ⊥ }

@@ -1,14 +1,17 @@
-ghost use Rattle.std.specs.Prelude.{◌≡◌, ◌<◌, ◌≤◌, ℕ, true, false, Some, IfOk, IfErr};
+ghost use Rattle.std.specs.Prelude.{◌≡◌, ◌<◌, ◌≤◌, ◌+◌, ℕ, true, false, Some, IfOk, IfErr, sum_by};
 ghost use Rattle.std.specs.FinMap as finmap;
 ghost use Rattle.quilt_types.specs.Sets as finset;
-ghost use Rattle.quilt_types.specs.Plane.{side, IsBlock};
+ghost use Rattle.quilt_types.specs.Plane.{side, quarters_of, IsBlock};
 ghost use Rattle.quilt_types.specs.Segments.{square, meets as segment_meets};
 ghost use Rattle.quilt_types.specs.Layers.{SegMap, BlockSet};
+ghost use Rattle.quilt_types.specs.Quadtrees.{is_reached};
 ghost use Rattle.quilt_store.specs.Calls.{OnlyReads};
+ghost use Rattle.quilt_world.specs.Tale.{Goes};
 ghost use Rattle.quilt_store.specs.Stops.{IsSound};
 ghost use Rattle.quilt_btree.specs.Trees.{IsRooted};
 ghost use Rattle.quilt_lines.specs.Layers.{HasLines};
 ghost use Rattle.quilt_lines.specs.Merges.{Becomes};
+ghost use Rattle.quilt_lines.specs.Bounds.{is_met_above, due};
 
 use crate::merging::Settled;
 use crate::removal::Removal;
@@ -37,6 +40,10 @@ impl Removal {
         ensures sound { IfErr result (λ e. (segs : SegMap) (cover : BlockSet) →
             HasLines (S.told store.old) tree.now self.now.layer self.now.level self.now.threshold segs cover → IsSound e) }
         ensures left { OnlyReads S.PageStore store.old store.new result }
+        ensures reads { IfOk result (λ x. (segs : SegMap) (cover : BlockSet) → HasLines (S.told store.old) tree.now self.now.layer self.now.level self.now.threshold segs cover →
+            is_reached cover b ≡ true → is_met_above self.now.level self.now.segment b ≡ true →
+            Goes (λ old new. new ≤ old + due self.now.level (is_met_above self.now.level self.now.segment) segs cover b) (S.reads store.old)
+            (S.reads store.new)) }
     {
         let view = LineView {
             tree: *tree,
@@ -86,6 +93,10 @@ impl Removal {
         ensures sound { IfErr result (λ e. (segs : SegMap) (cover : BlockSet) →
             HasLines (S.told store.old) tree.now self.now.layer self.now.level self.now.threshold segs cover → IsSound e) }
         ensures left { OnlyReads S.PageStore store.old store.new result }
+        ensures reads { IfOk result (λ x. (segs : SegMap) (cover : BlockSet) → HasLines (S.told store.old) tree.now self.now.layer self.now.level self.now.threshold segs cover →
+            is_reached cover b ≡ true → finset.contains cover b ≡ false →
+            Goes (λ old new. new ≤ old + sum_by (due self.now.level (is_met_above self.now.level self.now.segment) segs cover) (quarters_of b))
+            (S.reads store.old) (S.reads store.new)) }
     {
         let mut all = Settled::new(alloc, true);
         for q in quarters(b) {

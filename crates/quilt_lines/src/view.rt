@@ -1,7 +1,17 @@
-ghost use Rattle.std.specs.Prelude.{◌≡◌, ◌≤◌, true};
+ghost use Rattle.std.specs.Prelude.{◌≡◌, ◌+◌, ◌≤◌, true, List, Err, IfOk, IfErr};
 ghost use Rattle.std.proofs.Common.{◌∙◌};
-ghost use Rattle.quilt_btree.specs.Trees.{IsRooted};
+ghost use Rattle.quilt_types.specs.declared.stop.Stop.TheVariants.{Damaged};
+ghost use Rattle.quilt_types.specs.Plane.{IsBlock};
+ghost use Rattle.quilt_types.specs.Quadtrees.{is_reached};
+ghost use Rattle.quilt_record.specs.declared.record.Record.{Record};
+ghost use Rattle.quilt_world.specs.Tale.{Goes};
+ghost use Rattle.quilt_store.specs.Calls.{OnlyReads};
+ghost use Rattle.quilt_store.specs.Stops.{IsSound};
+ghost use Rattle.quilt_near.specs.Lines.{Lines};
+ghost use Rattle.quilt_near.specs.Parts.{IsPart, IsPartOf, pages_for};
+ghost use Rattle.quilt_btree.specs.Trees.{IsRooted, IsTree};
 ghost use Rattle.quilt_lines.specs.Layers.{ShowsLines};
+ghost use Rattle.quilt_lines.specs.Said.{NamesZero, SayPart};
 
 use quilt_btree::Tree;
 use quilt_near::{Part, SegBlocks};
@@ -65,7 +75,22 @@ impl<S: PageStore> SegBlocks<S> for LineView {
         self.level
     }
 
-    fn part(&self, alloc: Global, store: &mut S, b: Block) -> Result<Part, Stop> {
+    /// Page 0 is said to be damaged where the numbers are those of no tree of the store, where a pixel has no records, where
+    /// the records of a block do not say which segments meet it, and where the record of one of these is none of a segment
+    /// whose ends are pixels of the level.
+    fn part(&self, alloc: Global, store: &mut S, b: Block) -> Result<Part, Stop>
+        requires block { IsBlock self.now.level b }
+        requires reached { (l : Lines) → ShowsLines (S.told store.old) self.now.tree self.now.layer self.now.level l → is_reached l.cover b ≡ true }
+        ensures part { IfOk result (λ part. (l : Lines) → ShowsLines (S.told store.old) self.now.tree self.now.layer self.now.level l → IsPart l b part) }
+        ensures part_of { IfOk result (λ part. IsPartOf self.now.level b part) }
+        ensures rooted { (IsRooted (S.size store.old) self.now.tree → ⊥) → result ≡ Err (Damaged 0) }
+        ensures said { IfOk result (λ part. (rs : List Record) → IsTree (S.told store.old) self.now.tree rs →
+            SayPart self.now.level self.now.layer rs b part) }
+        ensures sound { IfErr result (λ e. (l : Lines) → ShowsLines (S.told store.old) self.now.tree self.now.layer self.now.level l → IsSound e) }
+        ensures zero { IfErr result (λ e. (rs : List Record) → IsTree (S.told store.old) self.now.tree rs → NamesZero e) }
+        ensures left { OnlyReads S.PageStore store.old store.new result }
+        ensures reads { IfOk result (λ part. Goes (λ old new. new ≤ old + pages_for part) (S.reads store.old) (S.reads store.new)) }
+    {
         if !is_rooted(&self.tree, store.pages()) {
             return Err(DAMAGED);
         }

@@ -1,4 +1,7 @@
-use Rattle.std.proofs.Common.{◌≡◌, true, false, refl, sym, ◌∙◌}
+use Rattle.std.proofs.Common.{◌≡◌, ◌+◌, true, false, refl, sym, ◌∙◌, arith}
+use Rattle.quilt_types.specs.Quadtrees.{reach}
+use Rattle.quilt_lines.specs.Bounds.{is_met}
+use Rattle.quilt_lines.proofs.Sums.{reads_sum}
 use Rattle.std.specs.FinMap as finmap
 use Rattle.quilt_store.proofs.Reading.{only_reads_then, only_reads_err, only_reads_ok}
 use Rattle.quilt_lines.proofs.Lookups.{lines_along}
@@ -36,3 +39,9 @@ returns-in-Err-edits-clause-left g c = only_reads_err _ (only_reads_then _ g.met
 
 pub returns-in-Ok-clause-left : goal.returns-in-Ok-clause-left
 returns-in-Ok-clause-left g c = only_reads_ok _ (only_reads_then _ g.met.S.PageStore.goes_on _ _ _ c.in-Ok-None.ensures.left c.in-Ok.ensures.left) _
+
+pub returns-in-Ok-clause-reads : goal.returns-in-Ok-clause-reads
+returns-in-Ok-clause-reads g c segs cover h =
+    let all = reach c.args.level segs cover (is_met c.args.s) in
+    reads_sum _ _ _ 3 all (3 + all) (omega arith) c.in-Ok-None.ensures.reads
+    (c.in-Ok.ensures.reads segs cover (lines_along _ _ c.args.tree.now c.args.layer c.args.level c.args.t segs cover c.in-Ok-None.ensures.left.told h))

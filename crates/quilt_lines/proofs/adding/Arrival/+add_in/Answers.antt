@@ -1,4 +1,4 @@
-use Rattle.std.proofs.Common.{ℕ, List, flat_map, length, get_or, sym, ◌∙◌, ap, subst, arith}
+use Rattle.std.proofs.Common.{ℕ, ◌+◌, ◌*◌, List, flat_map, length, take, get_or, sum_by, sym, ◌∙◌, ap, subst, arith, vec_len}
 use Rattle.std.proofs.lemmas.Result.{on_ok_weaker, IfErr-weaker}
 use Rattle.quilt_store.proofs.Reading.{only_reads_then, read_on, only_reads_err}
 use Rattle.quilt_types.specs.declared.plane.Block.{Block}
@@ -7,6 +7,9 @@ use Rattle.quilt_btree.specs.Trees.{IsRooted}
 use Rattle.quilt_line_laws.specs.Merging.{met_in}
 use Rattle.quilt_near.proofs.Reached.{reached_quarter}
 use Rattle.quilt_lines.specs.Adding.{IsAdded}
+use Rattle.quilt_lines.specs.Bounds.{is_met, due}
+use Rattle.quilt_lines.proofs.Costs.{due_leaf, due_split, reads_next, reads_all}
+use Rattle.quilt_lines.proofs.Sums.{reads_none, reads_sum, reads_more}
 use Rattle.quilt_lines.proofs.plans.Additions.{added_none, added_next, added_all, added_below, met_away, met_here}
 use Rattle.quilt_lines.proofs.Listed.{one_pixel}
 use Rattle.quilt_lines.proofs.Lookups.{lines_along, match_none, match_some}
@@ -88,6 +91,17 @@ loop-q-preserved g t c =
           (quarter_side self.view.level c.args.b c.quarters-q-items.result c.loop-q.q-index (record { y = 0; x = 0; side = 0 }) c.requires.block
           c.if-b-le1.false c.quarters-q-items.ensures.value c.loop-q-test.true k e));
       left = read_on _ g.met.S.PageStore.goes_on _ _ _ c.loop-q.invariant.left c.in-Ok.ensures.left;
+      reads = λ segs cover h reached.
+          let four = ap length c.quarters-q-items.ensures.value in
+          let valid = h.spelled.valid in
+          let none : Block = record { y = 0; x = 0; side = 0 } in
+          reads_next (due self.view.level (is_met self.s) segs cover) qs c.loop-q.q-index none 6 _ _ _ (let lt = c.loop-q-test.true in omega arith)
+          (c.loop-q.invariant.reads segs cover h reached)
+          (c.in-Ok.ensures.reads segs cover (lines_along _ _ self.view.tree self.view.layer self.view.level self.t segs cover c.loop-q.invariant.left.told h)
+          (reached_quarter self.view.level (record { segs = segs; cover = cover }) (record { inside = valid.inside; each = valid.each; once = valid.once })
+          c.args.b (get_or qs c.loop-q.q-index none) c.requires.block c.if-b-le1.false reached
+          (match_none c.in-Ok-None.field-0 _ _ c.in-Ok-None.field-0-is (c.in-Ok-None.ensures.ids self.t segs cover h))
+          (quarter_in c.args.b qs c.loop-q.q-index none c.quarters-q-items.ensures.value c.loop-q-test.true)));
     }
 
 pub returns-clause-added : goal.returns-clause-added
@@ -109,3 +123,28 @@ returns-in-Ok-Some-clause-left g t c = only_reads_then _ g.met.S.PageStore.goes_
 
 pub returns-in-Err-add_in-clause-left : goal.returns-in-Err-add_in-clause-left
 returns-in-Err-add_in-clause-left g t c = only_reads_err _ (only_reads_then _ g.met.S.PageStore.goes_on _ _ _ c.loop-q.invariant.left c.in-Err-add_in.ensures.left)
+
+pub returns-then-not-meets-clause-reads : goal.returns-then-not-meets-clause-reads
+returns-then-not-meets-clause-reads g t c segs cover h reached = reads_none (g.S.PageStore.reads c.args.store.now) _
+
+pub returns-in-Ok-Some-clause-reads : goal.returns-in-Ok-Some-clause-reads
+returns-in-Ok-Some-clause-reads g t c =
+    let self = c.args.self.now in
+    on_ok_weaker c.add_block.result (λ p segs cover h reached.
+    let at = match_some c.in-Ok-Some.field-0 _ _ c.in-Ok-Some.ids c.in-Ok-Some.field-0-is (c.in-Ok-Some.ensures.ids self.t segs cover h) in
+    let le = due_leaf self.view.level (is_met self.s) segs cover c.args.b c.requires.block (sym c.if-not-meets.ensures.value) reached c.in-Ok-Some.ids.items at in
+    let same = ap length c.deref.ensures.value in
+    let len = c.deref.ensures.len in
+    reads_sum _ _ _ (9 + 3 * vec_len c.in-Ok-Some.ids) (3 * length c.deref.result.now) (due self.view.level (is_met self.s) segs cover c.args.b) (omega arith)
+    (match_some c.in-Ok-Some.field-0 _ _ c.in-Ok-Some.ids c.in-Ok-Some.field-0-is c.in-Ok-Some.ensures.reads) p) c.add_block.ensures.reads
+
+pub returns-clause-reads : goal.returns-clause-reads
+returns-clause-reads g t c segs cover h reached =
+    let self = c.args.self.now in
+    let qs = c.quarters-q-items.result in
+    let four = ap length c.quarters-q-items.ensures.value in
+    let away = match_none c.in-Ok-None.field-0 _ _ c.in-Ok-None.field-0-is (c.in-Ok-None.ensures.ids self.t segs cover h) in
+    let f = due self.view.level (is_met self.s) segs cover in
+    let le = due_split self.view.level (is_met self.s) segs cover c.args.b c.requires.block (sym c.if-not-meets.ensures.value) reached away c.if-b-le1.false in
+    let all = ap (sum_by f) c.quarters-q-items.ensures.value in
+    reads_all f qs c.loop-q.q-index 6 (f c.args.b) _ _ (let end = c.loop-q-test.false in omega arith) (omega arith) (c.loop-q.invariant.reads segs cover h reached)

@@ -1,11 +1,14 @@
-use Rattle.std.proofs.Common.{◌≡◌, ◌≤◌, ℕ, suc, take, flat_map, None}
+use Rattle.std.proofs.Common.{◌≡◌, ◌≤◌, ◌+◌, ℕ, suc, true, take, flat_map, sum_by, None}
 use Rattle.std.specs.FinMap as finmap
 use Rattle.quilt_store.specs.Calls.{IsOnlyRead}
 use Rattle.quilt_types.specs.Layers.{SegMap, BlockSet}
 use Rattle.quilt_types.specs.Plane.{side}
+use Rattle.quilt_types.specs.Quadtrees.{is_reached}
+use Rattle.quilt_world.specs.Tale.{Goes}
 use Rattle.quilt_line_laws.specs.Merging.{met_in}
 use Rattle.quilt_lines.specs.Layers.{HasLines}
 use Rattle.quilt_lines.specs.Adding.{IsAdded}
+use Rattle.quilt_lines.specs.Bounds.{is_met, due}
 use Rattle.quilt_lines.proofs.adding.Arrival.+add_in.Given as goal
 
 abbrev pub decreases-add_in : goal.decreases-add_in
@@ -19,4 +22,8 @@ invariant-loop-q g l = record {
       → IsAdded l.self.view.level l.self.view.layer l.self.t segs l.self.id l.self.s (flat_map (met_in cover l.self.s k) (take l.q-index l.q-items))
       l.fn.change.gone.items l.change.gone.items l.fn.change.come.items l.change.come.items;
   left : IsOnlyRead g.S.PageStore l.fn.store l.store;
+  reads : (segs : SegMap) (cover : BlockSet)
+      → HasLines (g.S.PageStore.told l.fn.store) l.self.view.tree l.self.view.layer l.self.view.level l.self.t segs cover → is_reached cover l.fn.b ≡ true
+      → Goes (λ old new. new ≤ old + (6 + sum_by (due l.self.view.level (is_met l.self.s) segs cover) (take l.q-index l.q-items)))
+      (g.S.PageStore.reads l.fn.store) (g.S.PageStore.reads l.store);
 }

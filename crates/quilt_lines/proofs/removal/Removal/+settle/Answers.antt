@@ -1,9 +1,9 @@
-use Rattle.std.proofs.Common.{◌≡◌, ℕ, zero, suc, List, take, length, get_or, sym, ◌∙◌, ap, subst, arith, Contains, pow-suc}
+use Rattle.std.proofs.Common.{◌≡◌, ℕ, zero, suc, ◌+◌, ◌*◌, List, take, length, sum_by, get_or, sym, ◌∙◌, ap, subst, arith, Contains, pow-suc, vec_len}
 use Rattle.std.proofs.lemmas.Result.{IfOk-weaker, IfErr-weaker}
 use Rattle.std.proofs.lemmas.List.{take_all}
 use Rattle.quilt_store.proofs.Reading.{read_on}
 use Rattle.quilt_types.specs.declared.plane.Block.{Block}
-use Rattle.quilt_types.specs.Plane.{side}
+use Rattle.quilt_types.specs.Plane.{side, quarters_of}
 use Rattle.quilt_loc.proofs.Blocks.{IsBlock-up}
 use Rattle.quilt_loc.proofs.Quartered.{quarters_are}
 use Rattle.quilt_edits.proofs.Lists.{member_at, take_next}
@@ -13,6 +13,11 @@ use Rattle.quilt_lines.specs.Merges.{Becomes, Gathers}
 use Rattle.quilt_lines.proofs.Lookups.{match_none, match_some, lines_along}
 use Rattle.quilt_lines.proofs.plans.MergeSteps.{unmet_settles}
 use Rattle.quilt_lines.proofs.Gathering.{gathers_next}
+use Rattle.quilt_near.proofs.Reached.{reached_quarter}
+use Rattle.quilt_lines.specs.Bounds.{is_met_above, due}
+use Rattle.quilt_lines.proofs.Costs.{due_leaf, due_cut, due_split, quarter_above, reads_next, reads_all}
+use Rattle.quilt_lines.proofs.Sums.{reads_sum, reads_more}
+use Rattle.quilt_lines.proofs.Quarters.{quarter_in, quarter_at}
 use Rattle.quilt_lines.proofs.removal.Removal.+settle.Goals as goal
 
 pub settle-returns-in-Err-clause-sound : goal.settle-returns-in-Err-clause-sound
@@ -87,6 +92,20 @@ settle_quarters-loop-q-preserved g t c =
           (lines_along _ _ c.args.tree.now c.args.self.now.layer c.args.self.now.level c.args.self.now.threshold segs cover c.loop-q.invariant.left.told h))
           c.in-Ok-gather.ensures);
       left = read_on _ g.met.S.PageStore.goes_on _ _ _ c.loop-q.invariant.left c.in-Ok.ensures.left;
+      reads = λ segs cover h reached away.
+          let n = c.args.self.now.level in
+          let s = c.args.self.now.segment in
+          let four = ap length c.quarters-q-items.ensures.value in
+          let valid = h.spelled.valid in
+          let lt = c.loop-q-test.true in
+          reads_next (due n (is_met_above n s) segs cover) qs c.loop-q.q-index none 0 _ _ _ (omega arith)
+          (c.loop-q.invariant.reads segs cover h reached away)
+          (c.in-Ok.ensures.reads segs cover
+          (lines_along _ _ c.args.tree.now c.args.self.now.layer n c.args.self.now.threshold segs cover c.loop-q.invariant.left.told h)
+          (reached_quarter n (record { segs = segs; cover = cover }) (record { inside = valid.inside; each = valid.each; once = valid.once })
+          c.args.b q c.requires.block c.requires.wide reached away (quarter_in c.args.b qs c.loop-q.q-index none c.quarters-q-items.ensures.value lt))
+          (quarter_above n s c.args.b q
+          (quarter_at n c.args.b qs c.loop-q.q-index none c.requires.block c.requires.wide c.quarters-q-items.ensures.value lt).parent c.requires.met));
     }
 
 pub settle_quarters-returns-in-Ok-joined-clause-settled :
@@ -102,3 +121,47 @@ settle_quarters-returns-in-Ok-joined-clause-settled g t c k segs cover e h away 
         (subst (λ (l : List Block). Gathers c.args.self.now.level c.args.self.now.layer c.args.self.now.threshold c.args.self.now.id segs cover
         c.args.self.now.segment j l c.loop-q.all)
         (take_all c.loop-q.q-index c.quarters-q-items.result (omega arith) ∙ c.quarters-q-items.ensures.value) (c.loop-q.invariant.gathered j segs cover e' h))
+
+pub settle-returns-in-Ok-Some-clause-reads : goal.settle-returns-in-Ok-Some-clause-reads
+settle-returns-in-Ok-Some-clause-reads g t c segs cover h reached above =
+    let n = c.args.self.now.level in
+    let counts = is_met_above n c.args.self.now.segment in
+    let ids = c.in-Ok-Some.ids.items in
+    let le = due_leaf n counts segs cover c.args.b c.requires.block above reached ids
+    (match_some c.in-Ok-Some.field-0 _ _ c.in-Ok-Some.ids c.in-Ok-Some.field-0-is (c.in-Ok-Some.ensures.ids c.args.self.now.threshold segs cover h)) in
+    let same = ap length c.deref.ensures.value in
+    let len = c.deref.ensures.len in
+    reads_more _ _ (9 + 3 * vec_len c.in-Ok-Some.ids) (due n counts segs cover c.args.b) (omega arith)
+    (match_some c.in-Ok-Some.field-0 _ _ c.in-Ok-Some.ids c.in-Ok-Some.field-0-is c.in-Ok-Some.ensures.reads)
+
+pub settle-returns-then-not-enters-clause-reads : goal.settle-returns-then-not-enters-clause-reads
+settle-returns-then-not-enters-clause-reads g t c segs cover h reached above =
+    let n = c.args.self.now.level in
+    let counts = is_met_above n c.args.self.now.segment in
+    let le = due_cut n counts segs cover c.args.b c.requires.block above reached
+    (match_none c.in-Ok-None.field-0 _ _ c.in-Ok-None.field-0-is (c.in-Ok-None.ensures.ids c.args.self.now.threshold segs cover h)) in
+    reads_more _ _ 6 (due n counts segs cover c.args.b) (omega arith)
+    (match_none c.in-Ok-None.field-0 _ _ c.in-Ok-None.field-0-is c.in-Ok-None.ensures.reads)
+
+pub settle-returns-clause-reads : goal.settle-returns-clause-reads
+settle-returns-clause-reads g t c =
+    IfOk-weaker c.settle_quarters.result _ _ (λ x f segs cover h reached above.
+    let n = c.args.self.now.level in
+    let counts = is_met_above n c.args.self.now.segment in
+    let away = match_none c.in-Ok-None.field-0 _ _ c.in-Ok-None.field-0-is (c.in-Ok-None.ensures.ids c.args.self.now.threshold segs cover h) in
+    let rest = sum_by (due n counts segs cover) (quarters_of c.args.b) in
+    let le = due_split n counts segs cover c.args.b c.requires.block above reached away (c.enters.ensures.wide c.if-not-enters.false) in
+    reads_sum _ _ _ 6 rest (due n counts segs cover c.args.b) (omega arith)
+    (match_none c.in-Ok-None.field-0 _ _ c.in-Ok-None.field-0-is c.in-Ok-None.ensures.reads)
+    (f segs cover (lines_along _ _ c.args.tree.now c.args.self.now.layer n c.args.self.now.threshold segs cover c.in-Ok-None.ensures.left.told h) reached away))
+    c.settle_quarters.ensures.reads
+
+pub settle_quarters-returns-in-Ok-joined-clause-reads : goal.settle_quarters-returns-in-Ok-joined-clause-reads
+settle_quarters-returns-in-Ok-joined-clause-reads g t c segs cover h reached away =
+    let n = c.args.self.now.level in
+    let f = due n (is_met_above n c.args.self.now.segment) segs cover in
+    let qs = c.quarters-q-items.result in
+    let four = ap length c.quarters-q-items.ensures.value in
+    let past = c.loop-q-test.false in
+    let all = ap (sum_by f) c.quarters-q-items.ensures.value in
+    reads_all f qs c.loop-q.q-index 0 (sum_by f (quarters_of c.args.b)) _ _ (omega arith) (omega arith) (c.loop-q.invariant.reads segs cover h reached away)

@@ -1,9 +1,16 @@
-use Rattle.std.proofs.Common.{sym, subst, ap}
+use Rattle.std.proofs.Common.{◌≡◌, ◌≤◌, ◌+◌, true, sym, subst, ap}
 use Rattle.std.proofs.lemmas.Result.{IfOk-weaker, IfErr-weaker}
 use Rattle.quilt_types.specs.declared.plane.Block.{Block}
-use Rattle.quilt_types.specs.Plane.{IsBlock}
+use Rattle.quilt_types.specs.Plane.{whole, IsBlock}
+use Rattle.quilt_types.specs.Quadtrees.{is_reached, reach}
+use Rattle.quilt_world.specs.Tale.{Goes}
+use Rattle.quilt_near.proofs.Reached.{reached_whole}
 use Rattle.quilt_loc.proofs.Quartered.{IsBlock-whole}
 use Rattle.quilt_lines.specs.Merges.{Settles}
+use Rattle.quilt_lines.specs.Bounds.{is_met_above, due}
+use Rattle.quilt_lines.proofs.Costs.{due_whole, whole_above}
+use Rattle.quilt_lines.proofs.Sums.{reads_more}
+use Rattle.quilt_lines.proofs.Results.{if_ok_any}
 use Rattle.quilt_lines.proofs.removal.Removal.plan.Goals as goal
 
 pub settle-requires-clause-block : goal.settle-requires-clause-block
@@ -27,3 +34,17 @@ returns-in-Ok-clause-sound g c =
     f segs cover h.spelled.valid had (subst (λ (b : Block). Settles r.level r.layer r.threshold r.id segs cover r.segment r.level b c.in-Ok.all)
     c.whole_square.ensures
     (c.in-Ok.ensures.settled r.level segs cover (ap (λ (b : Block). b.side) c.whole_square.ensures) h))) c.edits.ensures.sound
+
+pub returns-in-Ok-clause-reads : goal.returns-in-Ok-clause-reads
+returns-in-Ok-clause-reads g c =
+    let r = c.args.self.now in
+    if_ok_any c.edits.result _ (λ e segs cover h.
+    let valid = h.spelled.valid in
+    let counts = is_met_above r.level r.segment in
+    reads_more _ _ (due r.level counts segs cover (whole r.level)) (reach r.level segs cover counts) (due_whole r.level counts segs cover)
+    (subst (λ (b : Block). Goes (λ old new. new ≤ old + due r.level counts segs cover b) (g.S.PageStore.reads c.args.store.now)
+    (g.S.PageStore.reads c.settle.new.store)) c.whole_square.ensures
+    (c.in-Ok.ensures.reads segs cover h
+    (subst (λ (b : Block). is_reached cover b ≡ true) (sym c.whole_square.ensures)
+    (reached_whole r.level (record { segs = segs; cover = cover }) (record { inside = valid.inside; each = valid.each; once = valid.once })))
+    (subst (λ (b : Block). counts b ≡ true) (sym c.whole_square.ensures) (whole_above r.level r.segment)))))

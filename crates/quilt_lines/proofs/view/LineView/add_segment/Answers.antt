@@ -1,5 +1,6 @@
-use Rattle.std.proofs.Common.{◌≡◌, true, sym, ◌∙◌}
+use Rattle.std.proofs.Common.{◌≡◌, true, sym, ◌∙◌, subst}
 use Rattle.quilt_types.specs.Layers.{is_in_square}
+use Rattle.quilt_lines.specs.Said.{SaySegmentAt}
 use Rattle.quilt_lines.proofs.Lookups.{none_some, if_some_at}
 use Rattle.quilt_lines.proofs.view.LineView.add_segment.Goals as goal
 
@@ -16,4 +17,5 @@ returns-in-Ok-clause-added g c = (
   c.in-Ok.ensures.ok,
   if_some_at c.in-Ok-Some.field-0 (λ s. is_in_square c.args.self.now.level s ≡ true) c.in-Ok-Some.s c.in-Ok-Some.field-0-is c.in-Ok-Some.ensures.inside,
   λ t segs cover h. sym (c.in-Ok-Some.ensures.segment t segs cover h) ∙ c.in-Ok-Some.field-0-is,
+  λ rs is. subst (SaySegmentAt c.args.self.now.level c.args.self.now.layer rs c.args.id) c.in-Ok-Some.field-0-is (c.in-Ok-Some.ensures.said rs is),
 )

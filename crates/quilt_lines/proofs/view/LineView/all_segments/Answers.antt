@@ -1,4 +1,4 @@
-use Rattle.std.proofs.Common.{◌≡◌, ℕ, ◌+◌, ◌<◌, true, All, List, [], ◌∷◌, ◌++◌, length, take, sym, ◌∙◌, ap, subst, arith}
+use Rattle.std.proofs.Common.{◌≡◌, ℕ, ◌+◌, ◌<◌, true, All, List, [], ◌∷◌, ◌++◌, length, length-append, map, take, sym, ◌∙◌, ap, subst, arith}
 use Rattle.std.specs.FinMap as finmap
 use Rattle.std.specs.Ordering.{nat_cmp}
 use Rattle.std.proofs.lemmas.List.{take_all}
@@ -6,7 +6,12 @@ use Rattle.std.proofs.lemmas.List.Elements.{All-append}
 use Rattle.quilt_types.specs.declared.plane.Seg.{Seg}
 use Rattle.quilt_types.specs.Layers.{is_in_square}
 use Rattle.quilt_loc.specs.Codes.{Rises}
+use Rattle.quilt_types.specs.Facts.{IsSegment}
+use Rattle.quilt_record.specs.declared.record.Record.{Record}
+use Rattle.quilt_edits.proofs.Lists.{take_next}
+use Rattle.quilt_lines.specs.Layers.{fact_record}
 use Rattle.quilt_lines.specs.Reads.{ids_of}
+use Rattle.quilt_lines.proofs.Saying.{says_more}
 use Rattle.quilt_lines.proofs.Listed.{all_one}
 use Rattle.quilt_lines.proofs.Lookups.{none_some, same_some}
 use Rattle.quilt_lines.proofs.Scans.{order_more, below_more, smallest_more, next_at, all_read}
@@ -19,6 +24,8 @@ loop-r-init c = record {
   order = subst (λ (l : List (ℕ × Seg)). Rises nat_cmp (ids_of l)) (sym c.new-list.ensures) tt;
   below = λ k d lt. let none = ap length c.new-list.ensures in absurd (omega arith);
   smallest = λ k all. omega arith;
+  said = λ of. ap (map (λ (e : ℕ × Seg). fact_record c.args.self.now.level c.args.self.now.layer (IsSegment e.0 e.1))) (sym c.new-list.ensures);
+  many = ap length c.new-list.ensures;
 }
 
 pub returns-in_default-clause-sound : goal.returns-in_default-clause-sound
@@ -65,6 +72,13 @@ loop-r-preserved c =
       smallest = λ k all.
           let le = smallest_more c.loop-r.list c.in-Some.id c.in-Some.s k (subst (All (λ (e : ℕ × Seg). e.0 < k)) new all) in
           omega arith;
+      said = λ of.
+          let row : ℕ × Seg → Record = λ e. fact_record c.args.self.now.level c.args.self.now.layer (IsSegment e.0 e.1) in
+          take_next c.args.records.now c.loop-r.r-index _ c.loop-r-test.true
+          ∙ says_more c.args.self.now.level c.args.self.now.layer (take c.loop-r.r-index c.args.records.now) _ c.loop-r.list (c.in-Some.id, c.in-Some.s)
+          (of c.loop-r.r-index _ c.loop-r-test.true) (c.loop-r.invariant.said of) c.in-Some.ensures.some
+          ∙ ap (map row) (sym new);
+      many = let longer = ap length new ∙ length-append c.loop-r.list more in let was = c.loop-r.invariant.many in omega arith;
     }
 
 pub returns-clause-segments : goal.returns-clause-segments
@@ -77,3 +91,10 @@ returns-clause-inside c = c.loop-r.invariant.inside
 
 pub returns-clause-order : goal.returns-clause-order
 returns-clause-order c = c.loop-r.invariant.order
+
+pub returns-clause-said : goal.returns-clause-said
+returns-clause-said c of = sym (take_all c.loop-r.r-index c.args.records.now (omega arith)) ∙ c.loop-r.invariant.said of
+
+pub returns-clause-many : goal.returns-clause-many
+returns-clause-many c =
+    let many = c.loop-r.invariant.many in let past = c.loop-r-test.false in let end = c.loop-r.auto.r-index-end in omega arith

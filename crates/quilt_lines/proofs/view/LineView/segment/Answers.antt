@@ -1,6 +1,7 @@
 use Rattle.std.proofs.Common.{Some, sym, ◌∙◌, ap}
 use Rattle.quilt_record.proofs.Readers.{pair_same}
 use Rattle.quilt_lines.proofs.Lookups.{none_some, none_found, found}
+use Rattle.quilt_lines.proofs.Saying.{sound_zero, segment_at, none_at}
 use Rattle.quilt_lines.proofs.view.LineView.segment.Goals as goal
 
 pub returns-in-Err-clause-sound : goal.returns-in-Err-clause-sound
@@ -24,3 +25,15 @@ returns-in-None-clause-sound g c t segs cover h page e =
     c.segment_key-key.ensures c.in-Ok-Some.ensures.value h _ c.in-Ok-Some.field-0-is
     c.args.self.now.has_level.1 c.segment_said.result c.segment_said.ensures.one in
     none_some (c.args.id, f.seg) (sym c.in-None.is ∙ f.is_said)
+
+pub returns-in-Err-clause-zero : goal.returns-in-Err-clause-zero
+returns-in-Err-clause-zero g c rs is = sound_zero c.in-Err.e (c.in-Err.ensures.sound rs is)
+
+pub returns-in-Ok-None-clause-said : goal.returns-in-Ok-None-clause-said
+returns-in-Ok-None-clause-said g c rs is =
+    none_at c.args.self.now.layer rs c.args.id _ _ c.segment_key-key.ensures (c.in-Ok-None.ensures.value rs is) c.in-Ok-None.field-0-is
+
+pub returns-in-Some-clause-said : goal.returns-in-Some-clause-said
+returns-in-Some-clause-said g c rs is =
+    segment_at c.args.self.now.level c.args.self.now.layer rs c.args.id c.segment_key-key.result c.in-Ok-Some.value c.in-Ok-Some.field-0
+    (c.in-Some.field-0-0, c.in-Some.s) c.segment_key-key.ensures (c.in-Ok-Some.ensures.value rs is) c.in-Ok-Some.field-0-is c.in-Some.ensures.some

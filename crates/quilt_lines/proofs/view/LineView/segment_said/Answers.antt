@@ -1,4 +1,4 @@
-use Rattle.std.proofs.Common.{◌≡◌, sym, ◌∙◌, ap}
+use Rattle.std.proofs.Common.{◌≡◌, [], sym, ◌∙◌, ap}
 use Rattle.std.proofs.lemmas.Bool.{both_ways}
 use Rattle.quilt_types.specs.Layers.{is_in_square}
 use Rattle.quilt_record.proofs.Readers.{pair_same}
@@ -21,3 +21,6 @@ pub returns-in_default-2-clause-one : goal.returns-in_default-2-clause-one
 returns-in_default-2-clause-one c = λ id s e fits inside.
     sym c.in_default.is ∙ c.read_segment.ensures.one c.args.self.now.level c.args.self.now.layer id s
     (record { least = c.args.self.now.has_layer.0; most = c.args.self.now.has_layer.1; fits = fits; written = λ name. e })
+
+pub returns-in-Some-clause-some : goal.returns-in-Some-clause-some
+returns-in-Some-clause-some c = (c.in-Some.ensures.some c.args.self.now.level).written []

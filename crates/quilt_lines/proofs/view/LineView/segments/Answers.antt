@@ -7,8 +7,10 @@ use Rattle.quilt_types.specs.declared.plane.Seg.{Seg}
 use Rattle.quilt_types.specs.Layers.{is_in_square}
 use Rattle.quilt_edits.proofs.Lists.{member_at, take_next}
 use Rattle.quilt_lines.specs.Reads.{ids_of}
+use Rattle.quilt_lines.specs.Said.{SaySegment}
 use Rattle.quilt_lines.proofs.Listed.{all_one}
 use Rattle.quilt_lines.proofs.Lookups.{lines_along}
+use Rattle.quilt_lines.proofs.Saying.{tree_along}
 use Rattle.quilt_lines.proofs.Sums.{reads_sum}
 use Rattle.quilt_lines.proofs.view.LineView.segments.Goals as goal
 
@@ -35,9 +37,16 @@ loop-id-preserved g c =
       inside =
           let P = λ (e : ℕ × Seg). is_in_square c.args.self.now.level e.1 ≡ true in
           subst (All P) (sym a.1) (All-append P c.loop-id.list more c.loop-id.invariant.inside (all_one P (id, a.0) a.2));
+      said = λ rs is.
+          let P = λ (e : ℕ × Seg). SaySegment c.args.self.now.level c.args.self.now.layer rs e.0 e.1 in
+          subst (All P) (sym a.1) (All-append P c.loop-id.list more (c.loop-id.invariant.said rs is)
+          (all_one P (id, a.0) (a.4 rs (tree_along _ _ c.args.self.now.tree rs c.loop-id.invariant.left.told is))));
       left = read_on _ g.met.S.PageStore.goes_on _ _ _ c.loop-id.invariant.left c.in-Ok.ensures.left;
       reads = reads_sum _ _ _ (3 * length c.loop-id.list) 3 (3 * length c.add_segment.new.list) (omega arith) c.loop-id.invariant.reads c.in-Ok.ensures.reads;
     }
 
 pub returns-in-Err-clause-left : goal.returns-in-Err-clause-left
 returns-in-Err-clause-left g c = only_reads_err _ (only_reads_then _ g.met.S.PageStore.goes_on _ _ _ c.loop-id.invariant.left c.in-Err.ensures.left)
+
+pub returns-in-Err-clause-zero : goal.returns-in-Err-clause-zero
+returns-in-Err-clause-zero g c rs is = c.in-Err.ensures.zero rs (tree_along _ _ c.args.self.now.tree rs c.loop-id.invariant.left.told is)

@@ -1,7 +1,12 @@
-use Rattle.std.proofs.Common.{ℕ, List, Contains, ◌∙◌, subst}
+use Rattle.std.proofs.Common.{◌≡◌, ℕ, ◌+◌, ◌*◌, List, All, [], Contains, length, sym, ◌∙◌, ap, subst, arith, vec_len}
+use Rattle.std.proofs.lemmas.List.{length-map}
+use Rattle.quilt_types.specs.declared.plane.Seg.{Seg}
 use Rattle.quilt_store.proofs.Reading.{only_reads_then, only_reads_err}
 use Rattle.quilt_lines.proofs.Listed.{same_segments, all_there, each_there, one_pixel}
+use Rattle.quilt_lines.specs.Said.{SaySegment, SayIds, records_at}
 use Rattle.quilt_lines.proofs.Lookups.{lines_along, match_none, match_some}
+use Rattle.quilt_lines.proofs.Saying.{tree_along}
+use Rattle.quilt_lines.proofs.Sums.{reads_sum, reads_more}
 use Rattle.quilt_lines.proofs.view.LineViewSegBlocks.part.Goals as goal
 
 pub returns-in-Err-clause-sound : goal.returns-in-Err-clause-sound
@@ -35,3 +40,32 @@ returns-clause-part g c l h =
 
 pub returns-in-Err-segments-clause-left : goal.returns-in-Err-segments-clause-left
 returns-in-Err-segments-clause-left g c = only_reads_err _ (only_reads_then _ g.met.S.PageStore.goes_on _ _ _ c.in-Ok-Some.ensures.left c.in-Err-segments.ensures.left)
+
+pub returns-in-Ok-None-clause-said : goal.returns-in-Ok-None-clause-said
+returns-in-Ok-None-clause-said g c rs is =
+    match_none c.in-Ok-None.field-0 _ _ c.in-Ok-None.field-0-is (c.in-Ok-None.ensures.said rs is)
+
+pub returns-in-Ok-None-clause-reads : goal.returns-in-Ok-None-clause-reads
+returns-in-Ok-None-clause-reads g c =
+    reads_more _ _ 6 12 (omega arith) (match_none c.in-Ok-None.field-0 _ _ c.in-Ok-None.field-0-is c.in-Ok-None.ensures.reads)
+
+pub returns-in-Err-segments-clause-zero : goal.returns-in-Err-segments-clause-zero
+returns-in-Err-segments-clause-zero g c rs is =
+    c.in-Err-segments.ensures.zero rs (tree_along _ _ c.args.self.now.tree rs c.in-Ok-Some.ensures.left.told is)
+
+pub returns-clause-said : goal.returns-clause-said
+returns-clause-said g c rs is =
+    let n = c.args.self.now.level in
+    let layer = c.args.self.now.layer in
+    let ids = match_some c.in-Ok-Some.field-0 _ _ c.in-Ok-Some.ids c.in-Ok-Some.field-0-is (c.in-Ok-Some.ensures.said rs is) in (
+      subst (λ (l : List ℕ). SayIds n layer c.args.b (records_at n layer c.args.b rs) l) (sym (c.in-Ok.ensures.ids ∙ c.deref.ensures.value)) ids,
+      c.in-Ok.ensures.said rs (tree_along _ _ c.args.self.now.tree rs c.in-Ok-Some.ensures.left.told is),
+    )
+
+pub returns-clause-reads : goal.returns-clause-reads
+returns-clause-reads g c =
+    let many = ap length c.in-Ok.ensures.ids in
+    let len = c.deref.ensures.len in
+    let all = length-map c.in-Ok.list (λ (e : ℕ × Seg). e.0) in
+    reads_sum _ _ _ (9 + 3 * vec_len c.in-Ok-Some.ids) (3 * length c.in-Ok.list) (12 + 6 * length c.in-Ok.list) (omega arith)
+    (match_some c.in-Ok-Some.field-0 _ _ c.in-Ok-Some.ids c.in-Ok-Some.field-0-is c.in-Ok-Some.ensures.reads) c.in-Ok.ensures.reads
