@@ -4,6 +4,7 @@ use Rattle.std.proofs.Common.{length, map, filter, flat_map, sum, Ok, Err, Some,
 use Rattle.std.specs.Prelude.{IfOk, MatchResult}
 use Rattle.std.specs.List.{AllZip}
 use Rattle.std.specs.declared.result.Result.{Result}
+use Rattle.std.proofs.Math.Nat.{le_trans, le-add_left}
 use Rattle.std.proofs.lemmas.List.{length-append, map-append}
 use Rattle.std.proofs.lemmas.List.Concat.{flat_map-append}
 use Rattle.std.proofs.lemmas.List.Sums.{sum_by-cons, sum_by-append}
@@ -115,3 +116,9 @@ pub all_listed : (a b rest : List (ℕ × Seg)) (pairs : List (ℕ × ℕ)) (tot
 all_listed a b [] pairs total none few counted listed =
     let e = rows_counted a b in (sym (append-nil pairs) ∙ listed, (omega arith))
 all_listed a b (e ∷ rest) pairs total none few counted listed = absurd (omega arith)
+
+-- the pairs of rows are no more than the total that they were added to
+pub part_few : (rows : List Row) (found : List ℕ) (total all : ℕ) → found ≡ map (λ row. row.count) rows → all ≡ total + sum found → all ≤ most
+    → sum (map (λ row. row.count) rows) ≤ most
+part_few rows found total all same is few =
+    subst (λ (counts : List ℕ). sum counts ≤ most) same (le_trans (le-add_left (sum found) total) (subst (λ (n : ℕ). n ≤ most) is few))

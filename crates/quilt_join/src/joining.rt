@@ -44,13 +44,14 @@ fn rows_for<R: Threads + Sync>(
     rows
 }
 
-/// The pairs of each row, in threads.
+/// The pairs of each row, in threads. They are no more than `MOST`.
 fn pairs_for<R: Threads + Sync>(
     rt: &R,
     alloc: Global,
     buckets: &Buckets,
     rows: &[Row],
 ) -> Result<Vec<PairList>, AllocError>
+    requires few { sum (map (λ row. row.count) rows.now) ≤ most_pairs }
     ensures { (b a : List (ℕ × SegOf)) → Serves buckets.now b → AllZip (IsRow b) a rows.now →
         IfOk result (λ v. v.items ≡ map (λ e. pairs_with e.0 (ids_sharing e.1 b)) a) }
 {

@@ -1,8 +1,8 @@
-use Rattle.std.proofs.Common.{ℕ, ◌+◌, List, length, sum, eqb-true, refl, sym, ◌∙◌, subst}
+use Rattle.std.proofs.Common.{ℕ, ◌+◌, List, length, map, sum, eqb-true, ap, refl, sym, ◌∙◌, subst}
 use Rattle.std.specs.List.{AllZip}
 use Rattle.quilt_join.specs.declared.rows.Row.{Row}
 use Rattle.quilt_join.specs.Rows.{IsRow}
-use Rattle.quilt_join.proofs.Gathered.{part_counted, part_listed, are_many, all_listed}
+use Rattle.quilt_join.proofs.Gathered.{part_counted, part_listed, part_few, are_many, all_listed}
 use Rattle.quilt_join.proofs.joining.all_pairs.Goals as goal
 
 pub returns-in-None : goal.returns-in-None
@@ -14,6 +14,12 @@ returns-in-None g c b serves =
     (c.loop-rest.total + sum found)
     (subst (λ (rows : List Row). AllZip (IsRow b) part rows) (sym c.deref.ensures.value) (c.in_ok-rows.ensures b serves))
     (c.deref-in-loop-rest.ensures.value ∙ c.in_ok-counts.ensures) refl (c.loop-rest.invariant.counted b serves))
+
+pub pairs_for-requires-clause-few : goal.pairs_for-requires-clause-few
+pairs_for-requires-clause-few g c lifetimes lives =
+    part_few c.deref-in-loop-rest-2.result.now c.deref-in-loop-rest.result.now c.loop-rest.total c.in-Some.all
+    (c.deref-in-loop-rest.ensures.value ∙ c.in_ok-counts.ensures
+        ∙ ap (map (λ row. row.count)) (c.deref.ensures.value ∙ sym c.deref-in-loop-rest-2.ensures.value)) c.in-Some.ensures.sum c.in-Some.ensures.few
 
 pub loop-rest-preserved : goal.loop-rest-preserved
 loop-rest-preserved g c =
