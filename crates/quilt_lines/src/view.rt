@@ -1,6 +1,7 @@
 ghost use Rattle.std.specs.Prelude.{◌≡◌, ◌≤◌, true};
 ghost use Rattle.std.proofs.Common.{◌∙◌};
 ghost use Rattle.quilt_btree.specs.Trees.{IsRooted};
+ghost use Rattle.quilt_store.specs.Calls.{OnlyReads};
 ghost use Rattle.quilt_lines.specs.Layers.{ShowsLines};
 
 use quilt_btree::Tree;
@@ -60,6 +61,8 @@ impl<S: PageStore> SegBlocks<S> for LineView {
     ghost level_of = { λ v. v.level };
 
     ghost shows = { λ v s l. ShowsLines (S.told s) v.tree v.layer v.level l };
+
+    ghost looked = { λ v b s t result. OnlyReads S.PageStore s t result };
 
     fn level(&self) -> u8 {
         self.level

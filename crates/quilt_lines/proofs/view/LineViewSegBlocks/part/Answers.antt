@@ -35,3 +35,6 @@ returns-clause-part g c l h =
 
 pub returns-in-Err-segments-clause-left : goal.returns-in-Err-segments-clause-left
 returns-in-Err-segments-clause-left g c = only_reads_err _ (only_reads_then _ g.met.S.PageStore.goes_on _ _ _ c.in-Ok-Some.ensures.left c.in-Err-segments.ensures.left)
+
+pub returns-in-Err-segments-clause-looked : goal.returns-in-Err-segments-clause-looked
+returns-in-Err-segments-clause-looked g c = returns-in-Err-segments-clause-left g c
