@@ -71,6 +71,8 @@ impl<S: PageStore> SegBlocks<S> for LineView {
 
     ghost shows = { λ v s l. ShowsLines (S.told s) v.tree v.layer v.level l };
 
+    ghost looked = { λ v b s t result. OnlyReads S.PageStore s t result };
+
     fn level(&self) -> u8 {
         self.level
     }
