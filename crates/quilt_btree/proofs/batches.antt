@@ -5,4 +5,3 @@ pub mod Made
 pub mod Plans
 pub mod Rises
 pub mod Whole
-pub mod Singles

@@ -60,9 +60,9 @@ cost_of (edit.Put r) = 6
 cost_of (edit.Replace r) = 13
 
 abbrev pub looks_of : Edit → ℕ
-looks_of (edit.Remove k) = 11
-looks_of (edit.Put r) = 7
-looks_of (edit.Replace r) = 18
+looks_of (edit.Remove k) = 10
+looks_of (edit.Put r) = 6
+looks_of (edit.Replace r) = 16
 
 abbrev pub more : List Edit → ℕ
 more [] = 0

@@ -76,13 +76,3 @@ pub record IsSpoilt (told : Option (List (List ℕ))) (page : ℕ) : Type 0 wher
   pub bytes : List ℕ
   pub are : AreOf told page bytes
   pub is_none : leaf_of bytes ≡ None
-
--- the page is a leaf of so many records, and one of them has the key or not
-pub record ShowsKey (told : Option (List (List ℕ))) (page : ℕ) (k : Key) (is_there : Bool) (count : ℕ) : Type 0 where
-  pub leaf : List Record
-  pub reads : ReadsLeaf told page leaf
-  pub many : count ≡ length leaf
-  pub least : 1 ≤ length leaf
-  pub most : length leaf ≤ 144
-  pub found : is_there ≡ true → (i : ℕ) × IsFound k leaf i
-  pub gap : is_there ≡ false → (i : ℕ) × IsGap k leaf i

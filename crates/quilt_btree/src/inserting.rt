@@ -20,9 +20,6 @@ ghost use Rattle.quilt_btree.specs.Edits.{CanInsert, DidInsert};
 ghost use Rattle.quilt_btree.specs.Inserts.{HasRight, IsPending, DidPut};
 ghost use Rattle.quilt_btree.specs.declared.outcomes.Inserted.TheVariants.{There};
 
-use crate::batch::edit_at;
-use crate::edit::Edit;
-use crate::looking::see_at;
 use crate::outcomes::Inserted;
 use crate::pages::{inner_at_fault, inner_high, read_leaf};
 use crate::rebalancing::precedes;
@@ -34,47 +31,8 @@ use quilt_record::{Key, Record};
 use quilt_store::PageStore;
 use quilt_types::Stop;
 
-/// Puts a record into the leaf at a page, where it lies while there is room for it.
+/// Puts a record into the leaf at a page, which is read once and written once.
 pub fn insert_leaf<S: PageStore>(store: &mut S, page: u32, r: &Record) -> Result<Inserted, Stop>
-    requires { (1 ≤ page) × (page < S.size store.old) }
-    ensures inserted { IfOk result (λ o. (is_root : Bool) (b : Bounds) (rs : List Record) (used : List ℕ)
-        → CanInsert (S.told store.old) (S.free store.old) (S.size store.old) page 1 is_root b r.now.key rs used
-        → DidInsert r.now (S.told store.old) (S.told store.new) (S.free store.old) (S.free store.new) page 1 is_root b rs used o) }
-    ensures sound { IfErr result (λ e. (is_root : Bool) (b : Bounds) (rs : List Record) (used : List ℕ)
-        → CanInsert (S.told store.old) (S.free store.old) (S.size store.old) page 1 is_root b r.now.key rs used → IsSound e) }
-    ensures finds { IfOk result (λ o. (height : ℕ) (rs : List Record) → height ≡ 1 → Spells (S.told store.old) page height rs
-        → was_there o ≡ list_any (has_key r.now.key) rs) }
-    ensures right { IfOk result (λ o. HasRight (S.size store.old) o) }
-    ensures room { OnOk result (count_free (S.free store.old) (S.size store.old) ≤ count_free (S.free store.new) (S.size store.old) + 1) }
-    ensures told { IfOk result (λ o. o ≡ There → S.told store.new ≡ S.told store.old) }
-    ensures free { IfOk result (λ o. o ≡ There → S.free store.new ≡ S.free store.old) }
-    ensures unchanged { IfOk result (λ o. o ≡ There → S.changed store.new ≤ S.changed store.old) }
-    ensures names { IfErr result (NamesPage (S.size store.old)) }
-    ensures bad { IfErr result (λ e. e ≢ Damaged 0 → NamesBad (S.told store.old) 1 page e) }
-    ensures cause { HasStopCause (S.faults store.old) (S.faults store.new) result }
-    ensures size { S.size store.new ≡ S.size store.old }
-    ensures later { S.later store.old store.new }
-    ensures changed { S.changed store.new ≤ S.changed store.old + 2 }
-    ensures reads { OnOk result (Goes (λ old new. new ≤ old + 2) (S.reads store.old) (S.reads store.new)) }
-{
-    let seen = match see_at(store, page, &r.key) {
-        Err(e) => return Err(e),
-        Ok(seen) => seen,
-    };
-    if seen.is_there {
-        return Ok(Inserted::There);
-    }
-    if seen.count == MOST_RECORDS {
-        return insert_full(store, page, r);
-    }
-    match edit_at(store, page, &[Edit::Put { record: *r }]) {
-        Err(e) => Err(e),
-        Ok(()) => Ok(Inserted::Done),
-    }
-}
-
-/// Puts a record into the leaf at a page, which is read and written, as where it has to be split.
-fn insert_full<S: PageStore>(store: &mut S, page: u32, r: &Record) -> Result<Inserted, Stop>
     requires { (1 ≤ page) × (page < S.size store.old) }
     ensures inserted { IfOk result (λ o. (is_root : Bool) (b : Bounds) (rs : List Record) (used : List ℕ)
         → CanInsert (S.told store.old) (S.free store.old) (S.size store.old) page 1 is_root b r.now.key rs used
@@ -249,7 +207,7 @@ pub fn insert_under<S: PageStore>(
     ensures size { S.size store.new ≡ S.size store.old }
     ensures later { S.later store.old store.new }
     ensures changed { S.changed store.new ≤ S.changed store.old + 2 * height }
-    ensures reads { OnOk result (Goes (λ old new. new ≤ old + height + 1) (S.reads store.old) (S.reads store.new)) }
+    ensures reads { Goes (λ old new. new ≤ old + height) (S.reads store.old) (S.reads store.new) }
 {
     if height == 1 {
         return insert_leaf(store, page, r);

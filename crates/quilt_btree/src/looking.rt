@@ -3,14 +3,13 @@ ghost use Rattle.quilt_record.specs.declared.record.Record.{Record};
 ghost use Rattle.quilt_node.specs.Tree.{is_below};
 ghost use Rattle.quilt_store.specs.Stops.{IsSound};
 ghost use Rattle.quilt_btree.specs.Damage.{NamesBad};
-ghost use Rattle.quilt_btree.specs.Looks.{LooksAt, ShowsFork, ShowsStep, ShowsLast, ShowsFloor, ShowsEnd, ShowsKey};
+ghost use Rattle.quilt_btree.specs.Looks.{LooksAt, ShowsFork, ShowsStep, ShowsLast, ShowsFloor, ShowsEnd};
 ghost use Rattle.quilt_btree.specs.Stops.{NamesPage};
 ghost use Rattle.quilt_btree.specs.Trees.{Spells};
 
 use crate::pages::stop_of;
 use crate::reading::{Step, step_in};
 use crate::searching::{Fork, floor_in, fork_in, last_child_in, last_in};
-use quilt_node::{find_in, is_leaf, records_in};
 use quilt_record::{Key, Record};
 use quilt_store::PageStore;
 use quilt_types::Stop;
@@ -112,35 +111,5 @@ pub fn floor_at<S: PageStore>(store: &mut S, page: u32, k: &Key) -> Result<Optio
     match store.page(page) {
         Err(e) => Err(stop_of(e)),
         Ok(bytes) => Ok(floor_in(bytes, k)),
-    }
-}
-
-/// What a look at a leaf tells of a key: whether one of its records has it, and how many it has.
-#[derive(Clone, Copy, Debug, PartialEq, Eq)]
-pub struct Seen {
-    pub is_there: bool,
-    pub count: usize,
-}
-
-/// What the leaf at a page, looked at where it lies, tells of a key: the page is said to be damaged where it is no leaf.
-pub fn see_at<S: PageStore>(store: &mut S, page: u32, k: &Key) -> Result<Seen, Stop>
-    requires { (1 ≤ page) × (page < S.size store.old) }
-    ensures shows { IfOk result (λ s. ShowsKey (S.told store.old) page k.now s.is_there s.count) }
-    ensures sound { IfErr result (λ e. (height : ℕ) (rs : List Record) → height ≡ 1 → Spells (S.told store.old) page height rs → IsSound e) }
-    ensures names { IfErr result (NamesPage (S.size store.old)) }
-    ensures bad { IfErr result (NamesBad (S.told store.old) 1 page) }
-    ensures looks { LooksAt S.PageStore page store.old store.new result }
-{
-    match store.page(page) {
-        Err(e) => Err(stop_of(e)),
-        Ok(bytes) => {
-            if !is_leaf(bytes) {
-                return Err(Stop::Damaged { page });
-            }
-            Ok(Seen {
-                is_there: find_in(bytes, k).is_ok(),
-                count: records_in(bytes),
-            })
-        }
     }
 }

@@ -17,11 +17,8 @@ ghost use Rattle.quilt_store.specs.Stops.{HasStopCause, IsSound};
 ghost use Rattle.quilt_btree.specs.Stops.{NamesPage};
 ghost use Rattle.quilt_btree.specs.Trees.{Spells};
 
-use crate::batch::edit_at;
-use crate::edit::Edit;
-use crate::looking::see_at;
 use crate::outcomes::{Rebalanced, Removed};
-use crate::pages::{inner_at_fault, inner_high};
+use crate::pages::{inner_at_fault, inner_high, read_leaf};
 use crate::rebalancing::{key_fits, rebalance_pages};
 use crate::searching::read_way;
 use crate::writing::write_page;
@@ -30,7 +27,8 @@ use quilt_record::Key;
 use quilt_store::PageStore;
 use quilt_types::Stop;
 
-/// Takes the record of a key out of the leaf at a page, where it lies.
+/// Takes the record of a key out of the leaf at a page, which is read once and written once. The last record of all is not
+/// taken out: the leaf is said to be emptied.
 fn remove_in_leaf<S: PageStore>(store: &mut S, page: u32, k: &Key) -> Result<Removed, Stop>
     requires { (1 ≤ page) × (page < S.size store.old) }
     ensures removed { IfOk result (λ o. (height : ℕ) (is_root : Bool) (b : Bounds) (rs : List Record) (used : List ℕ) → height ≡ 1
@@ -50,25 +48,24 @@ fn remove_in_leaf<S: PageStore>(store: &mut S, page: u32, k: &Key) -> Result<Rem
     ensures size { S.size store.new ≡ S.size store.old }
     ensures later { S.later store.old store.new }
     ensures changed { S.changed store.new ≤ S.changed store.old + 1 }
-    ensures reads { OnOk result (Goes (λ old new. new ≤ old + 2) (S.reads store.old) (S.reads store.new)) }
+    ensures reads { Goes (λ old new. new ≤ old + 1) (S.reads store.old) (S.reads store.new) }
 {
-    let seen = match see_at(store, page, k) {
-        Err(e) => return Err(e),
-        Ok(seen) => seen,
-    };
-    if !seen.is_there {
-        return Ok(Removed::Missing);
-    }
-    if seen.count == 1 {
-        return Ok(Removed::Emptied);
-    }
-    match edit_at(store, page, &[Edit::Remove { key: *k }]) {
-        Err(e) => Err(e),
-        Ok(()) => Ok(if seen.count <= LEAST_RECORDS {
-            Removed::Underfull
-        } else {
-            Removed::Done
-        }),
+    let mut leaf = read_leaf(store, page, page)?;
+    match leaf.find(k) {
+        Err(_) => Ok(Removed::Missing),
+        Ok(_) if leaf.len() == 1 => Ok(Removed::Emptied),
+        Ok(i) => {
+            leaf.remove(i);
+            let left = leaf.len();
+            match write_page(store, page, leaf.bytes()) {
+                Err(e) => Err(e),
+                Ok(()) => Ok(if left < LEAST_RECORDS {
+                    Removed::Underfull
+                } else {
+                    Removed::Done
+                }),
+            }
+        }
     }
 }
 
@@ -230,7 +227,7 @@ pub fn remove_under<S: PageStore>(
     ensures size { S.size store.new ≡ S.size store.old }
     ensures later { S.later store.old store.new }
     ensures changed { S.changed store.new + 2 ≤ S.changed store.old + 3 * height }
-    ensures reads { OnOk result (Goes (λ old new. new + 1 ≤ old + 3 * height) (S.reads store.old) (S.reads store.new)) }
+    ensures reads { Goes (λ old new. new + 2 ≤ old + 3 * height) (S.reads store.old) (S.reads store.new) }
 {
     if height == 1 {
         return remove_in_leaf(store, page, k);

@@ -24,7 +24,7 @@ impl Tree {
 
     /// Makes the edits of a run, whose keys ascend, in one walk from left to right: a leaf that they concern is looked for
     /// once, read once and written once, but where it has to be split or rebalanced. It changes at most 7 pages for each
-    /// record that goes and 6 for each that comes, and reads at most 11 and 7; one in the place of another counts for both.
+    /// record that goes and 6 for each that comes, and reads at most 10 and 6; one in the place of another counts for both.
     /// Where an edit is not due page 0 is said to be damaged, and the tree and the store are then only given up. Behind its
     /// first step it names no page over 0.
     pub fn apply<S: PageStore>(&mut self, store: &mut S, run: &[Edit]) -> Result<(), Stop>
@@ -45,7 +45,7 @@ impl Tree {
         ensures size { S.size store.new ≡ S.size store.old }
         ensures later { S.later store.old store.new }
         ensures changed { S.changed store.new ≤ S.changed store.old + 7 * length (removed run.now) + 6 * length (added run.now) }
-        ensures reads { OnOk result (Goes (λ old new. new ≤ old + (11 * length (removed run.now) + 7 * length (added run.now))) (S.reads store.old)
+        ensures reads { OnOk result (Goes (λ old new. new ≤ old + (10 * length (removed run.now) + 6 * length (added run.now))) (S.reads store.old)
             (S.reads store.new)) }
     {
         let mut done = 0;

@@ -65,13 +65,13 @@ looks-append (x ∷ xs) ys = let h = looks-append xs ys in omega arith
 pub looks_take : (n : ℕ) (run : List Edit) → looks (take n run) + looks (drop n run) ≡ looks run
 looks_take n run = sym (looks-append (take n run) (drop n run)) ∙ ap looks (take-append-drop n run)
 
--- an edit may look at 7 pages at least
-least_looks : (e : Edit) → 7 ≤ looks_of e
+-- an edit may look at 6 pages at least
+least_looks : (e : Edit) → 6 ≤ looks_of e
 least_looks (edit.Remove k) = omega arith
 least_looks (edit.Put r) = omega arith
 least_looks (edit.Replace r) = omega arith
 
-pub some_looks : (run : List Edit) (n : ℕ) → 1 ≤ n → n ≤ length run → 7 ≤ looks (take n run)
+pub some_looks : (run : List Edit) (n : ℕ) → 1 ≤ n → n ≤ length run → 6 ≤ looks (take n run)
 some_looks [] n some le = absurd (omega arith)
 some_looks (e ∷ run) zero some le = absurd (omega arith)
 some_looks (e ∷ run) (suc n) some le = let l = least_looks e in omega arith
@@ -368,7 +368,7 @@ keys_at (e ∷ run) = ap (λ l. key_of e ∷ l) (keys_at run ∙ sym (each_from 
 pub same_test : (b : Bool) (k l m n : Key) → b ≡ is_lt (key_cmp k l) → k ≡ m → l ≡ n → b ≡ is_lt (key_cmp m n)
 same_test b k l m n e f g = cc
 
-pub looks_are : (run : List Edit) → looks run ≡ 11 * length (removed run) + 7 * length (added run)
+pub looks_are : (run : List Edit) → looks run ≡ 10 * length (removed run) + 6 * length (added run)
 looks_are [] = refl
 looks_are (edit.Remove k ∷ run) = let h = looks_are run in omega arith
 looks_are (edit.Put r ∷ run) = let h = looks_are run in omega arith

@@ -23,7 +23,7 @@ reads_more m k None None le f = f
 abbrev pub WayReads : (height n : ℕ) → Option ℕ → Option ℕ → Type 0
 WayReads height n a b = Goes (λ x y. (y ≤ x + height + 1) × (n ≡ 0 → y ≤ x + height)) a b
 
-pub way_looks : (height n k : ℕ) (a b : Option ℕ) → height ≤ 3 → 7 ≤ k → WayReads height n a b → Goes (λ x y. y ≤ x + k) a b
+pub way_looks : (height n k : ℕ) (a b : Option ℕ) → height ≤ 3 → 6 ≤ k → WayReads height n a b → Goes (λ x y. y ≤ x + k) a b
 way_looks height n k (Some a) (Some b) le some f = let h = f.0 in omega arith
 way_looks height n k (Some a) None le some f = f
 way_looks height n k None (Some b) le some f = f

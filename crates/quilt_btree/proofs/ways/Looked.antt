@@ -13,7 +13,7 @@ use Rattle.quilt_types.specs.declared.stop.Stop.{Stop}
 use Rattle.quilt_record.specs.declared.key.Key.{Key}
 use Rattle.quilt_record.specs.declared.record.Record.{Record}
 use Rattle.quilt_btree.specs.Damage.{HasChild, NamesBad}
-use Rattle.quilt_btree.specs.Looks.{ShowsFork, ShowsStep, ShowsLast, ShowsKey}
+use Rattle.quilt_btree.specs.Looks.{ShowsFork, ShowsStep, ShowsLast}
 use Rattle.quilt_btree.specs.Searches.{AreOf, IsFork, IsStep}
 use Rattle.quilt_btree.specs.Trees.{Spells}
 use Rattle.quilt_btree.proofs.ways.Damage.{bad_inner, bad_last}
@@ -107,30 +107,3 @@ pub leaf_sound : {T : Type 0} (r : Result T Stop) (told : Option (List (List ℕ
     → IfErr r (λ e. (rs : List Record) → Spells told page height rs → IsSound e)
 leaf_sound (Ok v) told page height one f = f
 leaf_sound (Err e) told page height one f = λ rs s. f height rs one s
-
--- what a look at a leaf shows of a key
-pub shows_key : (told : Option (List (List ℕ))) (page : ℕ) (bytes : List ℕ) (k : Key) (is_there : Bool) (count : ℕ) (r : Result ℕ ℕ)
-    → is_some (leaf_of bytes) ≡ true → IfSome told (λ pages. bytes ≡ slice_index_or pages page []) → is_there ≡ is_ok r
-    → ((rs : List Record) → leaf_of bytes ≡ Some rs → MatchResult r (λ i. IsFound k rs i) (λ i. IsGap k rs i))
-    → ((rs : List Record) → leaf_of bytes ≡ Some rs → (count ≡ length rs) × (1 ≤ count)) → ShowsKey told page k is_there count
-shows_key told page bytes k is_there count r is shown there place many = at (leaf_of bytes) refl is
-  where
-    in_leaf : (rs : List Record) (r : Result ℕ ℕ) → MatchResult r (λ i. IsFound k rs i) (λ i. IsGap k rs i) → is_ok r ≡ true → (i : ℕ) × IsFound k rs i
-    in_leaf rs (Ok i) f e = (i, f)
-    in_leaf rs (Err i) f e = cc
-
-    in_gap : (rs : List Record) (r : Result ℕ ℕ) → MatchResult r (λ i. IsFound k rs i) (λ i. IsGap k rs i) → is_ok r ≡ false → (i : ℕ) × IsGap k rs i
-    in_gap rs (Ok i) f e = cc
-    in_gap rs (Err i) f e = (i, f)
-
-    at : (o : Option (List Record)) → leaf_of bytes ≡ o → is_some o ≡ true → ShowsKey told page k is_there count
-    at None e h = cc
-    at (Some rs) e h = record {
-      leaf = rs;
-      reads = λ pages t. ap leaf_of (sym (are_of told page bytes shown pages t)) ∙ e;
-      many = (many rs e).0;
-      least = (leaf.told bytes rs e).least;
-      most = (leaf.told bytes rs e).most;
-      found = λ f. in_leaf rs r (place rs e) (sym there ∙ f);
-      gap = λ f. in_gap rs r (place rs e) (sym there ∙ f);
-    }

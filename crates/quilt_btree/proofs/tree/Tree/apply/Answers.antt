@@ -96,5 +96,5 @@ returns-in-Err-clause-list g c rs w due =
 
 pub returns-clause-reads : goal.returns-clause-reads
 returns-clause-reads g c =
-    reads_more (looks (take c.loop-done.done c.args.run.now)) (11 * length (removed c.args.run.now) + 7 * length (added c.args.run.now)) _ _
+    reads_more (looks (take c.loop-done.done c.args.run.now)) (10 * length (removed c.args.run.now) + 6 * length (added c.args.run.now)) _ _
     (let e = looks_take c.loop-done.done c.args.run.now in let k = looks_are c.args.run.now in omega arith) c.loop-done.invariant.reads
