@@ -33,7 +33,7 @@ use Rattle.quilt_lines.proofs.Shown.{first_key, shown_says, block_shown, on_alik
 use Rattle.quilt_lines.proofs.Trees.{tree_rises}
 
 -- the last of a list, or the one that stands in for it
-last_there : (o : Option Record) (xs : List Record) (r : Record) → last_or o xs ≡ Some r → Contains xs r ⊎ (o ≡ Some r)
+pub last_there : (o : Option Record) (xs : List Record) (r : Record) → last_or o xs ≡ Some r → Contains xs r ⊎ (o ≡ Some r)
 last_there o [] r e = inr e
 last_there o (x ∷ xs) r e =
     ⊎_elim (λ c. inl (Contains-there x xs r c)) (λ is. inl (subst (Contains (x ∷ xs)) (same_some x r is) (Contains-here x xs))) (last_there (Some x) xs r e)

@@ -19,3 +19,4 @@ pub mod Counts
 pub mod plans
 pub mod Costs
 pub mod Saying
+pub mod Found

@@ -7,3 +7,4 @@ pub mod Adding
 pub mod Counting
 pub mod Bounds
 pub mod Said
+pub mod Hints

@@ -5,6 +5,7 @@
 mod adding;
 mod beginning;
 mod counting;
+mod hint;
 mod laws;
 mod listing;
 mod merging;
