@@ -1,5 +1,5 @@
 -- The points of a layer in a window.
-use Rattle.std.proofs.Common.{◌≡◌, ℕ, suc, ◌+◌, ◌<◌, ◌≤◌, Bool, true, false, cond, ◌&&◌, nat_le, nat_lt, leb-true, ltb-true, List, [], ◌∷◌, ◌++◌, length, take}
+use Rattle.std.proofs.Common.{◌≡◌, ℕ, suc, ◌+◌, ◌*◌, ◌^◌, pow-suc, ◌<◌, ◌≤◌, Bool, true, false, cond, ◌&&◌, nat_le, nat_lt, leb-true, ltb-true, List, [], ◌∷◌, ◌++◌, length, take}
 use Rattle.std.proofs.Common.{get_or, refl, sym, ◌∙◌, ap, subst, ⊎_elim, arith, Contains, filter, Ordering, Less, Equal, Greater, Some, append_assoc}
 use Rattle.std.specs.FinMap as finmap
 use Rattle.std.specs.Ordering.{is_lt, ordering_reverse}
@@ -7,7 +7,7 @@ use Rattle.std.specs.Cmp.{IsTotalOrder, on_total}
 use Rattle.std.specs.List.Sorted.{IsPermutation, IsSortedByKey}
 use Rattle.std.proofs.lemmas.Bool.{cases_Bool, both_ways, and_parts}
 use Rattle.std.proofs.lemmas.List.{map-append, take_all}
-use Rattle.std.proofs.lemmas.List.Elements.{All-contains}
+use Rattle.std.proofs.lemmas.List.Elements.{All-contains, Contains-append_cases}
 use Rattle.quilt_types.specs.declared.plane.Pixel.{Pixel}
 use Rattle.quilt_types.specs.declared.plane.Block.{Block}
 use Rattle.quilt_types.specs.declared.plane.Point.{Point}
@@ -17,10 +17,12 @@ use Rattle.quilt_types.specs.Layers.{PointMap, IsPointMap}
 use Rattle.quilt_types.specs.Quadtrees.{holds_few, point_blocks}
 use Rattle.quilt_loc.specs.Codes.{Rises}
 use Rattle.quilt_loc.proofs.Members.{Contains-nil, Contains-cons_cases, Contains-map, Contains-map_from, Contains-filter, Contains-filter_from}
-use Rattle.quilt_loc.proofs.Blocks.{in_block-true}
+use Rattle.quilt_loc.proofs.Blocks.{in_block-true, Holds-from}
 use Rattle.quilt_loc.proofs.Rising.{Rises-filter, Rises-map, same_rising}
 use Rattle.quilt_loc.proofs.PlaneOrders.{pixel_total}
-use Rattle.quilt_loc.proofs.Quartered.{quarters_are, IsBlock-whole}
+use Rattle.quilt_loc.proofs.Quartered.{quarters_are, IsBlock-whole, halved}
+use Rattle.quilt_point_laws.proofs.Fewer.{quarter_around}
+use Rattle.quilt_record.specs.declared.record.Record.{Record}
 use Rattle.quilt_loc.proofs.Nesting.{side_pos}
 use Rattle.quilt_spell.specs.Apart.{Apart}
 use Rattle.quilt_spell.proofs.Lists.{Apart-filter}
@@ -30,7 +32,7 @@ use Rattle.quilt_point_laws.specs.Laws.{AreIn}
 use Rattle.quilt_point_laws.proofs.Counts.{few_pixel}
 use Rattle.quilt_points.specs.Layers.{entry_of, entries_of}
 use Rattle.quilt_points.specs.Reads.{AreOf}
-use Rattle.quilt_points.specs.Windows.{IsOpen}
+use Rattle.quilt_points.specs.Windows.{IsOpen, IsCovered}
 use Rattle.quilt_points.proofs.Finds.{some_same, pixel_in}
 use Rattle.quilt_edits.proofs.Lists.{member_at, take_next}
 use Rattle.quilt_points.proofs.Shapes.{block_from}
@@ -195,6 +197,13 @@ inside_whole n capacity points valid = λ e c.
     let y = on.1 in
     in_block-true (whole n) e.0 (record { left = omega arith; right = omega arith; top = omega arith; bottom = omega arith })
 
+pub whole_pixel : (n : ℕ) (p : Pixel) → is_pixel n p ≡ true → in_block (whole n) p ≡ true
+whole_pixel n p t =
+    let on = pixel_in n p t in
+    let x = on.0 in
+    let y = on.1 in
+    in_block-true (whole n) p (record { left = omega arith; right = omega arith; top = omega arith; bottom = omega arith })
+
 -- where the pixels of a window are
 pub record IsInWindow (w : Window) (p : Pixel) : Type 0 where
   pub left : w.x ≤ p.x
@@ -216,3 +225,28 @@ window_from w p t =
       top = leb-true w.y p.y third.1;
       bottom = ltb-true p.y (w.y + w.h) last.1;
     }
+
+-- ---- over any records
+-- a pixel of a block is one of a quarter's
+pub quarter_pixel : (n : ℕ) (b : Block) (qs : List Block) (i : ℕ) (p : Pixel) → IsBlock n b → 1 < b.side → qs ≡ quarters_of b → 4 ≤ i
+    → in_block b p ≡ true → (q : Block) × Contains (take i qs) q × (in_block q p ≡ true)
+quarter_pixel n b qs i p hb wide are four on =
+    let v = halved n b hb wide in
+    let size = v.2 in
+    let half = v.3 in
+    let d = pow-suc 2 v.0 in
+    let q = quarter_around b p (omega arith) (Holds-from b p on) in
+    let long = ap length are in
+    (q.0, subst (λ (l : List Block). Contains l q.0) (sym (take_all i qs (omega arith) ∙ are)) q.1, q.2)
+
+pub covered_next : (n capacity number : ℕ) (rs : List Record) (p : Pixel) (qs : List Block) (i : ℕ) (d : Block) → i < length qs
+    → ((q : Block) → Contains (take i qs) q → in_block q p ≡ true → IsCovered n capacity number rs p)
+    → (in_block (get_or qs i d) p ≡ true → IsCovered n capacity number rs p)
+    → (q : Block) → Contains (take (i + 1) qs) q → in_block q p ≡ true → IsCovered n capacity number rs p
+covered_next n capacity number rs p qs i d lt before here q c on =
+    ⊎_elim (λ m. before q m on)
+    (λ m. here (subst (λ (b : Block). in_block b p ≡ true) (one_there (get_or qs i d) q m) on))
+    (Contains-append_cases (take i qs) (get_or qs i d ∷ []) q (subst (λ (l : List Block). Contains l q) (take_next qs i d lt) c))
+  where
+    one_there : (x y : Block) → Contains (x ∷ []) y → y ≡ x
+    one_there x y m = ⊎_elim (λ e. sym e) (λ no. absurd (Contains-nil y no)) (Contains-cons_cases x [] y m)

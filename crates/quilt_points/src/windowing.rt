@@ -4,14 +4,15 @@ ghost use Rattle.std.specs.List.Sorted.{IsSortedByKey};
 ghost use Rattle.quilt_types.specs.declared.plane.Pixel.{Pixel as AnyPixel};
 ghost use Rattle.quilt_types.specs.declared.plane.Point.{Point as AnyPoint};
 ghost use Rattle.quilt_types.specs.declared.stop.Stop.TheVariants.{Device};
-ghost use Rattle.quilt_types.specs.Plane.{is_window, in_window, in_block, pixel_cmp, IsBlock};
+ghost use Rattle.quilt_types.specs.Plane.{is_window, is_pixel, in_window, in_block, pixel_cmp, IsBlock};
 ghost use Rattle.quilt_types.specs.Layers.{PointMap};
+ghost use Rattle.quilt_record.specs.declared.record.Record.{Record as AnyRecord};
 ghost use Rattle.quilt_store.specs.Calls.{OnlyReads};
 ghost use Rattle.quilt_store.specs.Stops.{IsSound};
-ghost use Rattle.quilt_btree.specs.Trees.{IsRooted};
+ghost use Rattle.quilt_btree.specs.Trees.{IsRooted, IsTree};
 ghost use Rattle.quilt_points.specs.Layers.{HasPoints, entries_of};
 ghost use Rattle.quilt_points.specs.Reads.{AreOf};
-ghost use Rattle.quilt_points.specs.Windows.{IsOpen};
+ghost use Rattle.quilt_points.specs.Windows.{IsOpen, IsCovered};
 
 use crate::layer::PointLayer;
 use crate::listing::points_of;
@@ -23,7 +24,8 @@ use quilt_types::{Block, Point, PointList, Stop, Window};
 use std::alloc::{AllocError, Global};
 
 /// The points in a window of the point layer with this number, from 1 to 255, of a map of this level, from 1 to 12, whose
-/// blocks hold at most `bucket` points, from 1 to 16, by y and then x. Its work grows with the blocks that meet the window.
+/// blocks hold at most `bucket` points, from 1 to 16, by y and then x. Page 0 is said to be damaged where no
+/// record is of a block around one of the window's pixels. Its work grows with the blocks that meet the window.
 pub fn within<S: PageStore>(
     alloc: Global,
     store: &mut S,
@@ -40,6 +42,8 @@ pub fn within<S: PageStore>(
     requires window { is_window level w ≡ true }
     ensures points { IfOk result (λ list. (points : PointMap) → HasPoints (S.told store.old) tree.now layer level bucket points
         → entries_of list ≡ filter (λ e. in_window w e.0) (finmap.entries points)) }
+    ensures covered { IfOk result (λ _. (rs : List AnyRecord) (p : AnyPixel) → IsTree (S.told store.old) tree.now rs → in_window w p ≡ true
+        → is_pixel level p ≡ true → IsCovered level bucket layer rs p) }
     ensures sound { IfErr result (λ e. (points : PointMap) → HasPoints (S.told store.old) tree.now layer level bucket points → IsSound e) }
     ensures left { OnlyReads S.PageStore store.old store.new result }
 {
@@ -74,6 +78,8 @@ fn add_within<S: PageStore>(
     ensures found { OnOk result ((points : PointMap) → HasPoints (S.told store.old) tree.now layer.number layer.level layer.bucket points
         → IsOpen layer.level layer.bucket points b → (here : List AnyPoint) × (found.new.items ≡ found.old.items ++ here)
         × AreOf points (in_window w) b (entries_of here)) }
+    ensures covered { OnOk result ((rs : List AnyRecord) (p : AnyPixel) → IsTree (S.told store.old) tree.now rs → in_window w p ≡ true
+        → in_block b p ≡ true → IsCovered layer.level layer.bucket layer.number rs p) }
     ensures sound { IfErr result (λ e. (points : PointMap) → HasPoints (S.told store.old) tree.now layer.number layer.level layer.bucket points
         → IsOpen layer.level layer.bucket points b → IsSound e) }
     ensures left { OnlyReads S.PageStore store.old store.new result }

@@ -1,4 +1,4 @@
-use Rattle.std.proofs.Common.{ℕ, ◌++◌, [], List, length, filter, get_or, sym, ◌∙◌, ap, subst, arith, Contains}
+use Rattle.std.proofs.Common.{ℕ, Option, ◌++◌, [], List, length, filter, get_or, sym, ◌∙◌, ap, subst, arith, Contains}
 use Rattle.std.proofs.lemmas.List.{append-nil}
 use Rattle.std.proofs.lemmas.Result.{on_ok_weaker}
 use Rattle.quilt_store.proofs.Reading.{only_reads_then, read_on, only_reads_err, only_reads_ok}
@@ -7,11 +7,12 @@ use Rattle.quilt_types.specs.declared.plane.Point.{Point}
 use Rattle.quilt_types.specs.Plane.{in_window}
 use Rattle.quilt_loc.proofs.Blocks.{IsBlock-up}
 use Rattle.quilt_points.proofs.Quarters.{quarter_at}
-use Rattle.quilt_btree.specs.Trees.{IsRooted}
-use Rattle.quilt_points.proofs.Finds.{has_along, match_none, match_some}
+use Rattle.quilt_btree.specs.Trees.{IsRooted, IsTree}
+use Rattle.quilt_points.proofs.Finds.{has_along, if_some_at, match_none, match_some}
 use Rattle.quilt_edits.proofs.Lists.{member_at}
 use Rattle.quilt_points.proofs.Unions.{all_none}
-use Rattle.quilt_points.proofs.Windows.{kept_of, none_of, open_pixel, open_quarter, found_next, found_all}
+use Rattle.quilt_points.proofs.Windows.{kept_of, none_of, open_pixel, open_quarter, found_next, found_all, quarter_pixel, covered_next}
+use Rattle.quilt_loc.proofs.Members.{Contains-nil}
 use Rattle.quilt_points.proofs.windowing.+add_within.Goals as goal
 
 pub returns-then-not-meets-clause-found : goal.returns-then-not-meets-clause-found
@@ -43,6 +44,7 @@ quarters-q-items-requires-clause-valid g t c = IsBlock-up c.args.layer.level 12 
 pub loop-q-init : goal.loop-q-init
 loop-q-init g t c = record {
   found = λ points h o. ([], sym (append-nil c.args.found.now.items), all_none points (in_window c.args.w));
+  covered = λ rs p is inside q m on. absurd (Contains-nil q m);
   left = only_reads_ok _ c.in-Ok-None.ensures.left tt;
 }
 
@@ -81,6 +83,11 @@ loop-q-preserved g t c = record {
       c.quarters-q-items.ensures.value
       (member_at c.quarters-q-items.result c.loop-q.q-index (record { y = 0; x = 0; side = 0 }) (let lt = c.loop-q-test.true in
       let four = ap length c.quarters-q-items.ensures.value in omega arith)))));
+  covered = λ rs p is inside.
+      covered_next c.args.layer.level c.args.layer.bucket c.args.layer.number rs p c.quarters-q-items.result c.loop-q.q-index
+      (record { y = 0; x = 0; side = 0 }) (let lt = c.loop-q-test.true in let four = ap length c.quarters-q-items.ensures.value in omega arith)
+      (c.loop-q.invariant.covered rs p is inside)
+      (c.in-Ok.ensures.covered rs p (subst (λ (o : Option (List (List ℕ))). IsTree o c.args.tree.now rs) (sym c.loop-q.invariant.left.told) is) inside);
   left = read_on _ g.met.S.PageStore.goes_on _ _ _ c.loop-q.invariant.left c.in-Ok.ensures.left;
 }
 
@@ -92,3 +99,22 @@ returns-clause-found g t c points h o =
 
 pub returns-in-Err-add_within-clause-left : goal.returns-in-Err-add_within-clause-left
 returns-in-Err-add_within-clause-left g t c = only_reads_err _ (only_reads_then _ g.met.S.PageStore.goes_on _ _ _ c.loop-q.invariant.left c.in-Err-add_within.ensures.left)
+
+pub returns-then-not-meets-clause-covered : goal.returns-then-not-meets-clause-covered
+returns-then-not-meets-clause-covered g t c rs p is inside on = absurd (c.meets.ensures c.if-not-meets.true p on inside)
+
+pub returns-in-Ok-Some-clause-covered : goal.returns-in-Ok-Some-clause-covered
+returns-in-Ok-Some-clause-covered g t c =
+    on_ok_weaker c.add_inside.result
+    (λ _ rs p is inside on. record {
+      block = c.args.b;
+      holds = on;
+      has = if_some_at c.in-Ok-Some.field-0 _ c.in-Ok-Some.points c.in-Ok-Some.field-0-is c.in-Ok-Some.ensures.row rs is;
+    })
+    c.add_inside.ensures.found
+
+pub returns-clause-covered : goal.returns-clause-covered
+returns-clause-covered g t c rs p is inside on =
+    let q = quarter_pixel c.args.layer.level c.args.b c.quarters-q-items.result c.loop-q.q-index p c.requires.block c.if-b-le1.false
+    c.quarters-q-items.ensures.value c.loop-q-test.false on in
+    c.loop-q.invariant.covered rs p is inside q.0 q.1 q.2

@@ -1,10 +1,11 @@
 use Rattle.std.proofs.Common.{◌++◌, List, sym, ◌∙◌, ap, subst}
 use Rattle.quilt_types.specs.declared.plane.Point.{Point}
-use Rattle.quilt_types.specs.Plane.{in_window, IsBlock}
+use Rattle.quilt_types.specs.declared.plane.Block.{Block}
+use Rattle.quilt_types.specs.Plane.{in_window, in_block, IsBlock}
 use Rattle.quilt_loc.proofs.Quartered.{IsBlock-whole}
 use Rattle.quilt_points.specs.Layers.{entries_of}
 use Rattle.quilt_points.specs.Reads.{AreOf}
-use Rattle.quilt_points.proofs.Windows.{open_whole, inside_whole, rows_are}
+use Rattle.quilt_points.proofs.Windows.{open_whole, inside_whole, whole_pixel, rows_are}
 use Rattle.quilt_points.proofs.windowing.within.Goals as goal
 
 pub add_within-requires-clause-block : goal.add_within-requires-clause-block
@@ -22,3 +23,7 @@ returns-in-Ok-in_rows-clause-points g c points h =
     (subst (λ (l : List Point). AreOf points (in_window c.args.w) c.whole_square-whole.result (entries_of l))
     (sym (f.1 ∙ ap (λ (l : List Point). l ++ f.0) c.new-found.ensures.items)) f.2)
     c.in-Ok-in_rows.list c.in-Ok-in_rows.ensures.permutation c.in-Ok-in_rows.ensures.sorted
+
+pub returns-in-Ok-in_rows-clause-covered : goal.returns-in-Ok-in_rows-clause-covered
+returns-in-Ok-in_rows-clause-covered g c rs p is inside on =
+    c.in-Ok.ensures.covered rs p is inside (ap (λ (b : Block). in_block b p) c.whole_square-whole.ensures ∙ whole_pixel c.args.level p on)
