@@ -33,7 +33,7 @@ use Rattle.quilt_spell.proofs.Maps.{entry_from_get, get_from_entry}
 use Rattle.quilt_spell.proofs.facts.FactKeys.{pixel_same}
 use Rattle.quilt_point_laws.proofs.OnBlocks.{OfBlock}
 use Rattle.quilt_points.specs.Layers.{block_facts, block_record, pixel_key, SpellsPoints, HasPoints}
-use Rattle.quilt_points.specs.Reads.{IsBlockRead, label_at}
+use Rattle.quilt_points.specs.Reads.{IsBlockRead, IsRow, IsLabelIn, label_key, label_at}
 use Rattle.quilt_points.proofs.Shapes.{block_is, block_fact_from, block_fact_is, shaped, point_record_is, block_from}
 use Rattle.quilt_points.proofs.Records.{fact_there, fact_at}
 use Rattle.quilt_points.proofs.Floors.{IsAround, floor_around}
@@ -295,3 +295,26 @@ if_some_weaker (Some x) P Q f h = f x h
 pub if_some_at : {X : Type 0} (o : Option X) (P : X → Type 0) (x : X) → o ≡ Some x → IfSome o P → P x
 if_some_at None P x e h = absurd (none_some x e)
 if_some_at (Some y) P x e h = subst P (some_same y x e) h
+
+-- ---- what any records say
+-- a point that is read is said by the record
+pub row_of : (n capacity number : ℕ) (r : Record) (b : Block) (held : Option Point) → IsRow n capacity number b held r
+    → IfSome held (λ p. (d : Block) × IsRow n capacity number d (Some p) r)
+row_of n capacity number r b None h = tt
+row_of n capacity number r b (Some p) h = (b, h)
+
+pub label_none : (n capacity number : ℕ) (rs : List Record) (b : Block) (p : Pixel) (k : Key) (read : Option (List ℕ)) (label : Option ℕ)
+    → label ≡ None → k ≡ label_key n capacity number b p → read ≡ value_of k rs → read ≡ None → IsLabelIn n capacity number rs b p label
+label_none n capacity number rs b p k read label absent key is none =
+    let e : value_of (label_key n capacity number b p) rs ≡ None = ap (λ (j : Key). value_of j rs) (sym key) ∙ sym is ∙ none in
+    subst (λ (o : Option (List ℕ)). MatchOption o (label ≡ None) (λ v. (d : Block) × (q : Point)
+    × IsRow n capacity number d (Some q) (record { key = label_key n capacity number b p; value = v }) × (label ≡ Some q.label))) (sym e) absent
+
+pub label_some : (n capacity number : ℕ) (rs : List Record) (b : Block) (p : Pixel) (k : Key) (read : Option (List ℕ)) (v : List ℕ) (q : Point)
+    → k ≡ label_key n capacity number b p → read ≡ value_of k rs → read ≡ Some v
+    → ((d : Block) × IsRow n capacity number d (Some q) (record { key = k; value = v })) → IsLabelIn n capacity number rs b p (Some q.label)
+label_some n capacity number rs b p k read v q key is some row =
+    let e : value_of (label_key n capacity number b p) rs ≡ Some v = ap (λ (j : Key). value_of j rs) (sym key) ∙ sym is ∙ some in
+    subst (λ (o : Option (List ℕ)). MatchOption o (Some q.label ≡ None) (λ v. (d : Block) × (s : Point)
+    × IsRow n capacity number d (Some s) (record { key = label_key n capacity number b p; value = v }) × (Some q.label ≡ Some s.label))) (sym e)
+    (row.0, q, subst (λ (j : Key). IsRow n capacity number row.0 (Some q) (record { key = j; value = v })) key row.1, refl)

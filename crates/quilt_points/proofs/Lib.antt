@@ -8,6 +8,7 @@ pub mod Ranges
 pub mod Said
 pub mod Unions
 pub mod Ways
+pub mod Bounds
 pub mod Results
 pub mod Spelled
 pub mod Windows

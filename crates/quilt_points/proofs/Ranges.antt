@@ -27,6 +27,7 @@ use Rattle.quilt_btree.specs.declared.tree.Tree.{Tree}
 use Rattle.quilt_btree.specs.Lists.{is_from_to, range_of}
 use Rattle.quilt_btree.specs.Trees.{IsTree}
 use Rattle.quilt_btree.proofs.lists.Lists.{gt_not_le}
+use Rattle.quilt_edits.proofs.Lists.{taken_there}
 use Rattle.quilt_edits.proofs.Keys.{then_equal, nat_same, le_layer, le_code, less_depth}
 use Rattle.quilt_points.proofs.Trees.{tree_rises}
 use Rattle.quilt_spell.specs.Written.{by_key}
@@ -246,3 +247,9 @@ rows_read told t layer n capacity points b low high items most le hb first last 
     subst (AreRecordsOf n capacity layer points b) (sym (is h.records h.tree))
     (range_rows h.records layer n capacity points le (tree_rises told t h.records h.tree) h.spelled b hb low high first last
     (item_small n capacity layer points le h.spelled.valid b) most room)
+
+-- what is read of any tree is one of its records
+pub range_there : (low high : Key) (most : ℕ) (rs : List Record) (r : Record) → Contains (range_of low high most rs) r → Contains rs r
+unfolding range_of
+range_there low high most rs r c =
+    (Contains-filter_from (is_from_to low high) rs r (taken_there (filter (is_from_to low high) rs) most r c)).0

@@ -1,9 +1,9 @@
 -- Up from the block around a point that goes: what the quarters beside the way are, and where it ends.
-use Rattle.std.proofs.Common.{◌≡◌, ℕ, ◌+◌, ◌<◌, ◌≤◌, true, false, List, [], ◌∷◌, ◌++◌, take, get_or, length, Some, sym, ◌∙◌, ap, subst, ⊎_elim, arith, Contains}
+use Rattle.std.proofs.Common.{◌≡◌, ℕ, ◌+◌, ◌*◌, ◌<◌, ◌≤◌, refl, true, false, List, [], ◌∷◌, ◌++◌, take, get_or, length, Some, sym, ◌∙◌, ap, subst, ⊎_elim, arith, Contains}
 use Rattle.std.proofs.Common.{leb-true, le-leb}
 use Rattle.std.specs.FinMap as finmap
 use Rattle.std.proofs.lemmas.Bool.{cases_Bool, cases_lt, both_ways}
-use Rattle.std.proofs.lemmas.List.{length-map, map-append, take_all}
+use Rattle.std.proofs.lemmas.List.{get_or_default, length-map, map-append, take_all}
 use Rattle.quilt_types.specs.declared.plane.Pixel.{Pixel}
 use Rattle.quilt_types.specs.declared.plane.Block.{Block}
 use Rattle.quilt_types.specs.declared.plane.Point.{Point}
@@ -11,7 +11,7 @@ use Rattle.quilt_types.specs.Plane.{side, block_cmp, parent_of, quarters_of, Hol
 use Rattle.quilt_types.specs.Layers.{PointMap}
 use Rattle.quilt_types.specs.Quadtrees.{points_in, holds_few, point_blocks}
 use Rattle.quilt_loc.proofs.Nesting.{Within-holds, Within-trans, same_block_from, side_pos, IsBlock-parent_of, Within-parent_of}
-use Rattle.quilt_loc.proofs.Quartered.{quarters_are, side_le}
+use Rattle.quilt_loc.proofs.Quartered.{is_quarter, quarters_are, side_le}
 use Rattle.quilt_loc.proofs.PlaneOrders.{block_total}
 use Rattle.quilt_spell.proofs.Maps.{same_or_not}
 use Rattle.quilt_spell.proofs.facts.FactKeys.{block_same}
@@ -129,3 +129,11 @@ module _ (n capacity : ℕ) (points : PointMap) (p : Pixel) (label : ℕ) (some 
 
 pub inner_from : (n : ℕ) (b : Block) → IsBlock n b → (b.side ≡ side n → ⊥) → b.side < side n
 inner_from n b hb other = let le = side_le n b hb in ⊎_elim (λ lt. lt) (λ ge. absurd (other (omega arith))) (cases_lt b.side (side n))
+
+-- a block is one of its parent's quarters
+pub own_place : (n : ℕ) (x : Block) → IsBlock n x → x.side < side n → (d : Block)
+    → (j : ℕ) × (j < 4) × (get_or (quarters_of (parent_of x)) j d ≡ x)
+own_place n x hx lt d =
+    let twice : 2 * x.side ≡ (parent_of x).side = refl in
+    let c = is_quarter n (parent_of x) x (IsBlock-parent_of n x hx lt) hx twice (Within-parent_of n x hx lt) in
+    (c.0, c.1, get_or_default (quarters_of (parent_of x)) c.0 d x c.1 ∙ c.2)

@@ -1,26 +1,32 @@
 -- The points of a layer in a window.
-use Rattle.std.proofs.Common.{◌≡◌, ℕ, suc, ◌+◌, ◌<◌, ◌≤◌, Bool, true, false, cond, ◌&&◌, nat_le, nat_lt, leb-true, ltb-true, List, [], ◌∷◌, ◌++◌, length, take}
+use Rattle.std.proofs.Common.{◌≡◌, ℕ, zero, suc, ◌+◌, ◌-◌, ◌*◌, ◌^◌, pow-suc, lt-ltb, Option, ◌<◌, ◌≤◌, Bool, true, false, cond, ◌&&◌, nat_le, nat_lt, leb-true, ltb-true, List, [], ◌∷◌, ◌++◌, length, take}
 use Rattle.std.proofs.Common.{get_or, refl, sym, ◌∙◌, ap, subst, ⊎_elim, arith, Contains, filter, Ordering, Less, Equal, Greater, Some, append_assoc}
 use Rattle.std.specs.FinMap as finmap
 use Rattle.std.specs.Ordering.{is_lt, ordering_reverse}
 use Rattle.std.specs.Cmp.{IsTotalOrder, on_total}
 use Rattle.std.specs.List.Sorted.{IsPermutation, IsSortedByKey}
-use Rattle.std.proofs.lemmas.Bool.{cases_Bool, both_ways, and_parts}
+use Rattle.std.proofs.lemmas.Bool.{cases_Bool, both_ways, and_parts, and_from}
 use Rattle.std.proofs.lemmas.List.{map-append, take_all}
-use Rattle.std.proofs.lemmas.List.Elements.{All-contains}
+use Rattle.std.proofs.lemmas.List.Elements.{All-contains, Contains-append_cases}
+use Rattle.std.proofs.lemmas.List.Sums.{sum_by_push, sum_by-take-le}
+use Rattle.std.proofs.Math.Nat.{mul-add, mul-le-mul_left}
+use Rattle.std.specs.List.{sum_by}
+use Rattle.std.specs.Prelude.{if◌then◌else◌}
 use Rattle.quilt_types.specs.declared.plane.Pixel.{Pixel}
 use Rattle.quilt_types.specs.declared.plane.Block.{Block}
 use Rattle.quilt_types.specs.declared.plane.Point.{Point}
 use Rattle.quilt_types.specs.declared.plane.Window.{Window}
-use Rattle.quilt_types.specs.Plane.{whole, in_block, in_window, is_pixel, pixel_cmp, parent_of, quarters_of, IsBlock}
+use Rattle.quilt_types.specs.Plane.{whole, side, is_window, in_block, in_window, is_pixel, pixel_cmp, parent_of, quarters_of, IsBlock}
 use Rattle.quilt_types.specs.Layers.{PointMap, IsPointMap}
 use Rattle.quilt_types.specs.Quadtrees.{holds_few, point_blocks}
 use Rattle.quilt_loc.specs.Codes.{Rises}
 use Rattle.quilt_loc.proofs.Members.{Contains-nil, Contains-cons_cases, Contains-map, Contains-map_from, Contains-filter, Contains-filter_from}
-use Rattle.quilt_loc.proofs.Blocks.{in_block-true}
+use Rattle.quilt_loc.proofs.Blocks.{in_block-true, Holds-from}
 use Rattle.quilt_loc.proofs.Rising.{Rises-filter, Rises-map, same_rising}
 use Rattle.quilt_loc.proofs.PlaneOrders.{pixel_total}
-use Rattle.quilt_loc.proofs.Quartered.{quarters_are, IsBlock-whole}
+use Rattle.quilt_loc.proofs.Quartered.{quarters_are, IsBlock-whole, halved}
+use Rattle.quilt_point_laws.proofs.Fewer.{quarter_around}
+use Rattle.quilt_record.specs.declared.record.Record.{Record}
 use Rattle.quilt_loc.proofs.Nesting.{side_pos}
 use Rattle.quilt_spell.specs.Apart.{Apart}
 use Rattle.quilt_spell.proofs.Lists.{Apart-filter}
@@ -30,7 +36,9 @@ use Rattle.quilt_point_laws.specs.Laws.{AreIn}
 use Rattle.quilt_point_laws.proofs.Counts.{few_pixel}
 use Rattle.quilt_points.specs.Layers.{entry_of, entries_of}
 use Rattle.quilt_points.specs.Reads.{AreOf}
-use Rattle.quilt_points.specs.Windows.{IsOpen}
+use Rattle.quilt_points.specs.Windows.{IsOpen, IsCovered, meets_window, visited}
+use Rattle.quilt_points.proofs.Bounds.{reads_then, reads_more}
+use Rattle.quilt_world.specs.Tale.{Goes}
 use Rattle.quilt_points.proofs.Finds.{some_same, pixel_in}
 use Rattle.quilt_edits.proofs.Lists.{member_at, take_next}
 use Rattle.quilt_points.proofs.Shapes.{block_from}
@@ -70,7 +78,7 @@ none_of points test b away = record { once = tt; members = λ e. (λ c. absurd (
 
 -- ---- which blocks are come to
 module _ (n capacity : ℕ) (points : PointMap) (b : Block) (h : IsOpen n capacity points b) (away : Contains (point_blocks n capacity points) b → ⊥) where
-  open_many : holds_few capacity points b ≡ false
+  pub open_many : holds_few capacity points b ≡ false
   open_many =
       ⊎_elim (λ t. absurd (away
       (block_from n capacity points b
@@ -195,6 +203,13 @@ inside_whole n capacity points valid = λ e c.
     let y = on.1 in
     in_block-true (whole n) e.0 (record { left = omega arith; right = omega arith; top = omega arith; bottom = omega arith })
 
+pub whole_pixel : (n : ℕ) (p : Pixel) → is_pixel n p ≡ true → in_block (whole n) p ≡ true
+whole_pixel n p t =
+    let on = pixel_in n p t in
+    let x = on.0 in
+    let y = on.1 in
+    in_block-true (whole n) p (record { left = omega arith; right = omega arith; top = omega arith; bottom = omega arith })
+
 -- where the pixels of a window are
 pub record IsInWindow (w : Window) (p : Pixel) : Type 0 where
   pub left : w.x ≤ p.x
@@ -216,3 +231,148 @@ window_from w p t =
       top = leb-true w.y p.y third.1;
       bottom = ltb-true p.y (w.y + w.h) last.1;
     }
+
+-- ---- over any records
+-- a pixel of a block is one of a quarter's
+pub quarter_pixel : (n : ℕ) (b : Block) (qs : List Block) (i : ℕ) (p : Pixel) → IsBlock n b → 1 < b.side → qs ≡ quarters_of b → 4 ≤ i
+    → in_block b p ≡ true → (q : Block) × Contains (take i qs) q × (in_block q p ≡ true)
+quarter_pixel n b qs i p hb wide are four on =
+    let v = halved n b hb wide in
+    let size = v.2 in
+    let half = v.3 in
+    let d = pow-suc 2 v.0 in
+    let q = quarter_around b p (omega arith) (Holds-from b p on) in
+    let long = ap length are in
+    (q.0, subst (λ (l : List Block). Contains l q.0) (sym (take_all i qs (omega arith) ∙ are)) q.1, q.2)
+
+pub covered_next : (n capacity number : ℕ) (rs : List Record) (p : Pixel) (qs : List Block) (i : ℕ) (d : Block) → i < length qs
+    → ((q : Block) → Contains (take i qs) q → in_block q p ≡ true → IsCovered n capacity number rs p)
+    → (in_block (get_or qs i d) p ≡ true → IsCovered n capacity number rs p)
+    → (q : Block) → Contains (take (i + 1) qs) q → in_block q p ≡ true → IsCovered n capacity number rs p
+covered_next n capacity number rs p qs i d lt before here q c on =
+    ⊎_elim (λ m. before q m on)
+    (λ m. here (subst (λ (b : Block). in_block b p ≡ true) (one_there (get_or qs i d) q m) on))
+    (Contains-append_cases (take i qs) (get_or qs i d ∷ []) q (subst (λ (l : List Block). Contains l q) (take_next qs i d lt) c))
+  where
+    one_there : (x y : Block) → Contains (x ∷ []) y → y ≡ x
+    one_there x y m = ⊎_elim (λ e. sym e) (λ no. absurd (Contains-nil y no)) (Contains-cons_cases x [] y m)
+
+-- ---- what a block and a window have in common
+iff_and : (p q r : Bool) → (p ≡ true → (q ≡ true) × (r ≡ true)) → (q ≡ true → r ≡ true → p ≡ true) → p ≡ (q && r)
+iff_and true true true f g = refl
+iff_and true true false f g = let h = (f refl).1 in cc
+iff_and true false r f g = let h = (f refl).0 in cc
+iff_and false true true f g = let h = g refl refl in cc
+iff_and false true false f g = refl
+iff_and false false r f g = refl
+
+pub overlap_up : (a length b other : ℕ) → a ≤ b → 1 ≤ other → nat_lt (b - a) length ≡ (nat_lt b (a + length) && nat_lt a (b + other))
+overlap_up a length b other le some =
+    iff_and (nat_lt (b - a) length) (nat_lt b (a + length)) (nat_lt a (b + other))
+    (λ t. let lt = ltb-true (b - a) length t in (lt-ltb b (a + length) (omega arith), lt-ltb a (b + other) (omega arith)))
+    (λ t u. let lt = ltb-true b (a + length) t in lt-ltb (b - a) length (omega arith))
+
+pub overlap_down : (a length b other : ℕ) → b < a → 1 ≤ length → nat_lt (a - b) other ≡ (nat_lt b (a + length) && nat_lt a (b + other))
+overlap_down a length b other lt some =
+    iff_and (nat_lt (a - b) other) (nat_lt b (a + length)) (nat_lt a (b + other))
+    (λ t. let m = ltb-true (a - b) other t in (lt-ltb b (a + length) (omega arith), lt-ltb a (b + other) (omega arith)))
+    (λ t u. let m = ltb-true a (b + other) u in lt-ltb (a - b) other (omega arith))
+
+pub meets_pixel : (w : Window) (b : Block) (p : Pixel) → in_block b p ≡ true → in_window w p ≡ true → meets_window w b ≡ true
+meets_pixel w b p on inside =
+    let h = Holds-from b p on in
+    let v = window_from w p inside in
+    let l = h.left in
+    let r = h.right in
+    let t = h.top in
+    let d = h.bottom in
+    let vl = v.left in
+    let vr = v.right in
+    let vt = v.top in
+    let vd = v.bottom in
+    and_from (nat_lt w.x (b.x + b.side) && nat_lt b.x (w.x + w.w)) (nat_lt w.y (b.y + b.side) && nat_lt b.y (w.y + w.h))
+    (and_from (nat_lt w.x (b.x + b.side)) (nat_lt b.x (w.x + w.w)) (lt-ltb w.x (b.x + b.side) (omega arith)) (lt-ltb b.x (w.x + w.w) (omega arith)))
+    (and_from (nat_lt w.y (b.y + b.side)) (nat_lt b.y (w.y + w.h)) (lt-ltb w.y (b.y + b.side) (omega arith)) (lt-ltb b.y (w.y + w.h) (omega arith)))
+
+pub meets_none : (w : Window) (b : Block) → meets_window w b ≡ false → (p : Pixel) → in_block b p ≡ true → in_window w p ≡ true → ⊥
+meets_none w b none p on inside = both_ways (meets_window w b) none (meets_pixel w b p on inside)
+
+-- ---- how many quadrants are visited
+module _ (capacity : ℕ) (points : PointMap) (w : Window) where
+  few_or : (t : Bool) (n : ℕ) → 1 ≤ (if t then 1 else 1 + n)
+  few_or true n = omega arith
+  few_or false n = omega arith
+
+  visits_some : (k : ℕ) (b : Block) → meets_window w b ≡ true → 1 ≤ visited k capacity points w b
+  visits_some zero b m = subst (λ (t : Bool). 1 ≤ (if t then 1 else 0)) (sym m) (let one : 1 ≤ 1 = omega arith in one)
+  visits_some (suc k) b m =
+      let n = sum_by (visited k capacity points w) (quarters_of b) in
+      subst (λ (t : Bool). 1 ≤ (if t then (if holds_few capacity points b then 1 else 1 + n) else 0)) (sym m) (few_or (holds_few capacity points b) n)
+
+  visits_inner : (k : ℕ) (b : Block) → meets_window w b ≡ true → holds_few capacity points b ≡ false
+      → visited (suc k) capacity points w b ≡ 1 + sum_by (visited k capacity points w) (quarters_of b)
+  visits_inner k b m f =
+      let n = sum_by (visited k capacity points w) (quarters_of b) in
+      ap (λ (t : Bool). if t then (if holds_few capacity points b then 1 else 1 + n) else 0) m ∙ ap (λ (t : Bool). if t then 1 else 1 + n) f
+
+  pub reads_once : (r k : ℕ) (b : Block) (old new : Option ℕ) → meets_window w b ≡ true → Goes {A = ℕ} (λ x y. y ≤ x + r) old new
+      → Goes {A = ℕ} (λ x y. y ≤ x + r * visited k capacity points w b) old new
+  reads_once r k b old new m h =
+      let le : r * 1 ≤ r * visited k capacity points w b = mul-le-mul_left r (visits_some k b m) in
+      reads_more r (r * visited k capacity points w b) old new (omega arith) h
+
+  pub reads_first : (r k : ℕ) (qs : List Block) (old new : Option ℕ) → Goes {A = ℕ} (λ x y. y ≤ x + r) old new
+      → Goes {A = ℕ} (λ x y. y ≤ x + r * (1 + sum_by (visited k capacity points w) (take 0 qs))) old new
+  reads_first r k qs old new h = reads_more r (r * (1 + 0)) old new (omega arith) h
+
+  pub reads_next : (r k : ℕ) (qs : List Block) (i : ℕ) (d : Block) (old now new : Option ℕ) → i < length qs
+      → Goes {A = ℕ} (λ x y. y ≤ x + r * (1 + sum_by (visited k capacity points w) (take i qs))) old now
+      → Goes {A = ℕ} (λ x y. y ≤ x + r * visited k capacity points w (get_or qs i d)) now new
+      → Goes {A = ℕ} (λ x y. y ≤ x + r * (1 + sum_by (visited k capacity points w) (take (i + 1) qs))) old new
+  reads_next r k qs i d old now new lt h g =
+      let f = visited k capacity points w in
+      let s = sum_by f (take i qs) in
+      let v = f (get_or qs i d) in
+      let e : sum_by f (take (i + 1) qs) ≡ s + v = ap (sum_by f) (take_next qs i d lt) ∙ sum_by_push f (take i qs) (get_or qs i d) in
+      let two : 1 + sum_by f (take (i + 1) qs) ≡ (1 + s) + v = omega arith in
+      let m : r * (1 + sum_by f (take (i + 1) qs)) ≡ r * (1 + s) + r * v = ap (λ (n : ℕ). r * n) two ∙ mul-add r (1 + s) v in
+      reads_then (r * (1 + s)) (r * v) (r * (1 + sum_by f (take (i + 1) qs))) old now new (omega arith) h g
+
+  pub reads_within : (r k : ℕ) (b : Block) (qs : List Block) (i : ℕ) (old new : Option ℕ) → qs ≡ quarters_of b → meets_window w b ≡ true
+      → holds_few capacity points b ≡ false
+      → Goes {A = ℕ} (λ x y. y ≤ x + r * (1 + sum_by (visited k capacity points w) (take i qs))) old new
+      → Goes {A = ℕ} (λ x y. y ≤ x + r * visited (suc k) capacity points w b) old new
+  reads_within r k b qs i old new are m f h =
+      let g = visited k capacity points w in
+      let e = visits_inner k b m f in
+      let all : sum_by g qs ≡ sum_by g (quarters_of b) = ap (sum_by g) are in
+      let part = sum_by-take-le g qs i in
+      let le : 1 + sum_by g (take i qs) ≤ visited (suc k) capacity points w b = omega arith in
+      reads_more (r * (1 + sum_by g (take i qs))) (r * visited (suc k) capacity points w b) old new (mul-le-mul_left r le) h
+
+pub quarter_side : (k s t : ℕ) → 2 * s ≡ t → t ≡ 2 ^ suc k → s ≡ 2 ^ k
+quarter_side k s t half is = let p = pow-suc 2 k in omega arith
+
+-- a side over 1 is 2 to the power of a successor
+pub wide_power : (k s : ℕ) → 1 < s → s ≡ 2 ^ k → (j : ℕ) × (k ≡ suc j)
+wide_power zero s lt is = absurd (omega arith)
+wide_power (suc k) s lt is = (k, refl)
+
+-- the sides of a window
+pub window_sides : (n : ℕ) (w : Window) → is_window n w ≡ true → (1 ≤ w.w) × (1 ≤ w.h)
+window_sides n w t =
+    let last = and_parts (nat_le 1 w.w && nat_le 1 w.h && nat_le (w.x + w.w) (side n)) (nat_le (w.y + w.h) (side n)) t in
+    let third = and_parts (nat_le 1 w.w && nat_le 1 w.h) (nat_le (w.x + w.w) (side n)) last.0 in
+    let second = and_parts (nat_le 1 w.w) (nat_le 1 w.h) third.0 in
+    (leb-true 1 w.w second.0, leb-true 1 w.h second.1)
+
+pub window_corner : (n : ℕ) (w : Window) → is_window n w ≡ true → (w.x < side n) × (w.y < side n)
+window_corner n w t =
+    let last = and_parts (nat_le 1 w.w && nat_le 1 w.h && nat_le (w.x + w.w) (side n)) (nat_le (w.y + w.h) (side n)) t in
+    let third = and_parts (nat_le 1 w.w && nat_le 1 w.h) (nat_le (w.x + w.w) (side n)) last.0 in
+    let s = window_sides n w t in
+    let some = s.0 in
+    let more = s.1 in
+    let x = leb-true (w.x + w.w) (side n) third.1 in
+    let y = leb-true (w.y + w.h) (side n) last.1 in
+    (omega arith, omega arith)

@@ -1,4 +1,4 @@
-ghost use Rattle.std.specs.Prelude.{◌≡◌, ◌≢◌, ℕ, ◌<◌, ◌≤◌, ◌++◌, true, false, None, Some, All, Contains, List, IfOk, IfErr, IfSome, OnOk, length};
+ghost use Rattle.std.specs.Prelude.{◌≡◌, ◌≢◌, ℕ, ◌+◌, ◌*◌, ◌<◌, ◌≤◌, ◌++◌, true, false, None, Some, All, Contains, List, IfOk, IfErr, IfSome, OnOk, length};
 ghost use Rattle.std.specs.FinMap as finmap;
 ghost use Rattle.quilt_types.specs.declared.plane.Pixel.{Pixel as AnyPixel};
 ghost use Rattle.quilt_types.specs.declared.plane.Point.{Point as AnyPoint};
@@ -7,6 +7,7 @@ ghost use Rattle.quilt_types.specs.Layers.{PointMap};
 ghost use Rattle.quilt_types.specs.Quadtrees.{point_blocks, holds_few};
 ghost use Rattle.quilt_point_laws.specs.Laws.{AreIn};
 ghost use Rattle.quilt_store.specs.Calls.{OnlyReads};
+ghost use Rattle.quilt_world.specs.Tale.{Goes};
 ghost use Rattle.quilt_store.specs.Stops.{IsSound};
 ghost use Rattle.quilt_btree.specs.Trees.{IsRooted};
 ghost use Rattle.quilt_points.specs.Layers.{HasPoints, entries_of};
@@ -20,7 +21,8 @@ use quilt_store::PageStore;
 use quilt_types::{Block, Point, Stop};
 use std::alloc::Global;
 
-/// The last block up from one that holds few of the points without one that goes, with these points.
+/// The last block up from one that holds few of the points without one that goes, with these points. It reads at most
+/// 18 pages for each level, and 9 for each level and each point that a block may hold.
 pub(crate) fn topmost<S: PageStore>(
     alloc: Global,
     store: &mut S,
@@ -42,6 +44,7 @@ pub(crate) fn topmost<S: PageStore>(
     ensures pixels { IfOk result (λ top. All (λ p. is_pixel layer.level p.at ≡ true) top.points.items) }
     ensures sound { IfErr result (λ e. (points : PointMap) → HasPoints (S.told store.old) tree.now layer.number layer.level layer.bucket points → IsSound e) }
     ensures left { OnlyReads S.PageStore store.old store.new result }
+    ensures reads { IfOk result (λ _. Goes (λ old new. new ≤ old + (18 + 9 * layer.bucket) * layer.level) (S.reads store.old) (S.reads store.new)) }
 {
     let mut top = leaf;
     'climb: loop {
@@ -74,10 +77,13 @@ fn merged<S: PageStore>(
         → IsOnWay layer.level layer.bucket points p leaf.now.block leaf.now.points.items
         → Contains (point_blocks layer.level layer.bucket (finmap.remove points p)) leaf.now.block) }
     ensures block { IfOk result (λ o. IfSome o (λ up. IsBlock layer.level up.block)) }
+    ensures twice { IfOk result (λ o. IfSome o (λ up. up.block.side ≡ 2 * leaf.now.block.side)) }
     ensures wider { IfOk result (λ o. IfSome o (λ up. leaf.now.block.side < up.block.side)) }
     ensures pixels { IfOk result (λ o. IfSome o (λ up. All (λ p. is_pixel layer.level p.at ≡ true) up.points.items)) }
     ensures sound { IfErr result (λ e. (points : PointMap) → HasPoints (S.told store.old) tree.now layer.number layer.level layer.bucket points → IsSound e) }
     ensures left { OnlyReads S.PageStore store.old store.new result }
+    ensures reads { IfOk result (λ _. Goes (λ old new. new ≤ old + (18 + 9 * layer.bucket)) (S.reads store.old) (S.reads store.new)) }
+    ensures top { leaf.now.block.side ≡ side layer.level → Goes (λ old new. new ≤ old) (S.reads store.old) (S.reads store.new) }
 {
     let Some(block) = parent(leaf.block, layer.level) else {
         return Ok(None);
@@ -126,6 +132,7 @@ fn joined<S: PageStore>(
     ensures pixels { IfOk result (λ o. IfSome o (λ v. All (λ p. is_pixel layer.level p.at ≡ true) v.items)) }
     ensures sound { IfErr result (λ e. (points : PointMap) → HasPoints (S.told store.old) tree.now layer.number layer.level layer.bucket points → IsSound e) }
     ensures left { OnlyReads S.PageStore store.old store.new result }
+    ensures reads { IfOk result (λ _. Goes (λ old new. new ≤ old + (18 + 9 * layer.bucket)) (S.reads store.old) (S.reads store.new)) }
 {
     let mut all = Vec::new(alloc);
     for q in quarters(up) {
@@ -161,6 +168,8 @@ fn add_quarter<S: PageStore>(
     ensures pixels { OnOk result (All (λ p. is_pixel layer.level p.at ≡ true) all.new.items) }
     ensures sound { IfErr result (λ e. (points : PointMap) → HasPoints (S.told store.old) tree.now layer.number layer.level layer.bucket points → IsSound e) }
     ensures left { OnlyReads S.PageStore store.old store.new result }
+    ensures reads { IfOk result (λ _. Goes (λ old new. new ≤ old + (6 + 3 * layer.bucket)) (S.reads store.old) (S.reads store.new)) }
+    ensures known { q ≡ leaf.now.block → Goes (λ old new. new ≤ old) (S.reads store.old) (S.reads store.new) }
 {
     if is_same(q, leaf.block) {
         return add_all(all, &leaf.points);

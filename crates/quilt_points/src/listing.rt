@@ -1,15 +1,18 @@
-ghost use Rattle.std.specs.Prelude.{◌≡◌, ◌<◌, ◌≤◌, ◌++◌, true, All, Contains, Option, IfOk, IfErr, IfSome, IsErrOf, MatchOption, OnOk};
+ghost use Rattle.std.specs.Prelude.{◌≡◌, ◌+◌, ◌*◌, ◌<◌, ◌≤◌, ◌++◌, true, All, Contains, List, Option, IfOk, IfErr, IfSome, IsErrOf, MatchOption, OnOk};
 ghost use Rattle.std.specs.Option.{option_to_list};
 ghost use Rattle.quilt_types.specs.declared.plane.Point.{Point as AnyPoint};
 ghost use Rattle.quilt_types.specs.declared.stop.Stop.TheVariants.{Device};
 ghost use Rattle.quilt_types.specs.Plane.{side, is_pixel, in_block, IsBlock};
 ghost use Rattle.quilt_types.specs.Layers.{PointMap, IsPointMap};
 ghost use Rattle.quilt_types.specs.Quadtrees.{point_blocks};
+ghost use Rattle.quilt_record.specs.declared.record.Record.{Record as AnyRecord};
 ghost use Rattle.quilt_store.specs.Calls.{OnlyReads};
+ghost use Rattle.quilt_world.specs.Tale.{Goes};
 ghost use Rattle.quilt_store.specs.Stops.{IsSound};
-ghost use Rattle.quilt_btree.specs.Trees.{IsRooted};
+ghost use Rattle.quilt_btree.specs.Trees.{IsRooted, IsTree};
 ghost use Rattle.quilt_points.specs.Layers.{HasPoints};
 ghost use Rattle.quilt_points.specs.Reads.{AreRecordsOf, IsHeld, IsRow};
+ghost use Rattle.quilt_points.specs.Windows.{HasRow};
 
 use crate::layer::PointLayer;
 use crate::reading::{DAMAGED, block_around, block_of};
@@ -26,7 +29,8 @@ pub(crate) struct Leaf {
     pub points: Vec<Point>,
 }
 
-/// The points of a block, from the block's records: None exactly where it is none of the layer's blocks.
+/// The points of a block, from the block's records: None exactly where it is none of the layer's blocks. It
+/// reads at most 6 pages, and 3 for each point that a block may hold.
 pub(crate) fn points_of<S: PageStore>(
     alloc: Global,
     store: &mut S,
@@ -38,9 +42,12 @@ pub(crate) fn points_of<S: PageStore>(
     requires block { IsBlock layer.level b }
     ensures read { IfOk result (λ o. (points : PointMap) → HasPoints (S.told store.old) tree.now layer.number layer.level layer.bucket points
         → MatchOption o (Contains (point_blocks layer.level layer.bucket points) b → ⊥) (λ v. IsHeld layer.level layer.bucket points b v.items)) }
+    ensures row { IfOk result (λ o. IfSome o (λ v. (rs : List AnyRecord) → IsTree (S.told store.old) tree.now rs
+        → HasRow layer.level layer.bucket layer.number rs b)) }
     ensures pixels { IfOk result (λ o. IfSome o (λ v. All (λ p. is_pixel layer.level p.at ≡ true) v.items)) }
     ensures sound { IfErr result (λ e. (points : PointMap) → HasPoints (S.told store.old) tree.now layer.number layer.level layer.bucket points → IsSound e) }
     ensures left { OnlyReads S.PageStore store.old store.new result }
+    ensures reads { IfOk result (λ _. Goes (λ old new. new ≤ old + (6 + 3 * layer.bucket)) (S.reads store.old) (S.reads store.new)) }
 {
     let low = point_record(layer.number, b, layer.level, layer.bucket, None).key;
     let high = Key {
@@ -63,6 +70,7 @@ fn points_said(
     ensures read { IfOk result (λ o. (points : PointMap) → IsPointMap 2 layer.level layer.bucket points
         → AreRecordsOf layer.level layer.bucket layer.number points b records.now
         → MatchOption o (Contains (point_blocks layer.level layer.bucket points) b → ⊥) (λ v. IsHeld layer.level layer.bucket points b v.items)) }
+    ensures row { IfOk result (λ o. IfSome o (λ v. HasRow layer.level layer.bucket layer.number records.now b)) }
     ensures pixels { IfOk result (λ o. IfSome o (λ v. All (λ p. is_pixel layer.level p.at ≡ true) v.items)) }
     ensures sound { IfErr result (λ e. (points : PointMap) → IsPointMap 2 layer.level layer.bucket points
         → AreRecordsOf layer.level layer.bucket layer.number points b records.now → IsSound e) }
@@ -112,7 +120,8 @@ pub(crate) fn is_same(a: Block, b: Block) -> bool
     a == b
 }
 
-/// The block of the layer that holds a pixel, with its points.
+/// The block of the layer that holds a pixel, with its points. It reads at most 12 pages, and 3 for each point that a block
+/// may hold.
 pub(crate) fn leaf_around<S: PageStore>(
     alloc: Global,
     store: &mut S,
@@ -130,6 +139,7 @@ pub(crate) fn leaf_around<S: PageStore>(
     ensures pixels { IfOk result (λ leaf. All (λ p. is_pixel layer.level p.at ≡ true) leaf.points.items) }
     ensures sound { IfErr result (λ e. (points : PointMap) → HasPoints (S.told store.old) tree.now layer.number layer.level layer.bucket points → IsSound e) }
     ensures left { OnlyReads S.PageStore store.old store.new result }
+    ensures reads { IfOk result (λ _. Goes (λ old new. new ≤ old + (12 + 3 * layer.bucket)) (S.reads store.old) (S.reads store.new)) }
 {
     match block_around(store, tree, layer, at) {
         Err(e) => Err(e),

@@ -1,4 +1,4 @@
-ghost use Rattle.std.specs.Prelude.{◌≡◌, ◌<◌, ◌≤◌, ◌↔◌, ◌^◌, ℕ, true, [], ◌∷◌, map, filter, not, All, Contains, Some, None, IfOk, IfErr, IfSome, IsNone};
+ghost use Rattle.std.specs.Prelude.{◌≡◌, ◌+◌, ◌*◌, ◌<◌, ◌≤◌, ◌↔◌, ◌^◌, ℕ, true, [], ◌∷◌, map, filter, not, All, Contains, Some, None, IfOk, IfErr, IfSome, IsNone};
 ghost use Rattle.std.specs.Prelude.{IsSome, IsErrOf};
 ghost use Rattle.std.specs.FinMap as finmap;
 ghost use Rattle.quilt_types.specs.declared.plane.Point.{Point as AnyPoint};
@@ -8,6 +8,7 @@ ghost use Rattle.quilt_types.specs.Layers.{PointMap, IsPointMap};
 ghost use Rattle.quilt_types.specs.Facts.{same_pixel};
 ghost use Rattle.quilt_types.specs.Quadtrees.{point_blocks};
 ghost use Rattle.quilt_store.specs.Calls.{OnlyReads};
+ghost use Rattle.quilt_world.specs.Tale.{Goes};
 ghost use Rattle.quilt_store.specs.Stops.{IsSound};
 ghost use Rattle.quilt_btree.specs.Trees.{IsRooted};
 ghost use Rattle.quilt_points.specs.Layers.{HasPoints, entries_of, block_record};
@@ -30,7 +31,8 @@ use std::alloc::{AllocError, Global};
 
 /// The records that go and those that come, each in the order of their keys, when a point comes to a pixel of the point layer
 /// with this number, from 1 to 255, of a map of this level, from 1 to 12, whose blocks hold at most `bucket` points, from 1
-/// to 16: None exactly where a point is there. It reads the block that holds the pixel.
+/// to 16: None exactly where a point is there. It reads the block that holds the pixel: at most 12 pages, and 3 for each point
+/// that a block may hold.
 pub fn plan_put<S: PageStore>(
     alloc: Global,
     store: &mut S,
@@ -54,6 +56,7 @@ pub fn plan_put<S: PageStore>(
     ensures order { IfOk result (λ o. IfSome o AreInOrder) }
     ensures sound { IfErr result (λ e. (points : PointMap) → HasPoints (S.told store.old) tree.now layer level bucket points → IsSound e) }
     ensures left { OnlyReads S.PageStore store.old store.new result }
+    ensures reads { IfOk result (λ _. Goes (λ old new. new ≤ old + (12 + 3 * bucket)) (S.reads store.old) (S.reads store.new)) }
 {
     let layer = PointLayer {
         number: layer,
@@ -68,7 +71,8 @@ pub fn plan_put<S: PageStore>(
 
 /// The records that go and those that come, each in the order of their keys, when the point at a pixel goes from the point
 /// layer with this number, from 1 to 255, of a map of this level, from 1 to 12, whose blocks hold at most `bucket` points,
-/// from 1 to 16: None exactly where no point is there. It reads the block that holds the pixel and those beside the way up.
+/// from 1 to 16: None exactly where no point is there. It reads the block that holds the pixel and those beside the way up:
+/// at most 12 pages, and 18 for each level, and for each point that a block may hold 3, and 9 for each level.
 pub fn plan_del<S: PageStore>(
     alloc: Global,
     store: &mut S,
@@ -91,6 +95,7 @@ pub fn plan_del<S: PageStore>(
     ensures order { IfOk result (λ o. IfSome o AreInOrder) }
     ensures sound { IfErr result (λ e. (points : PointMap) → HasPoints (S.told store.old) tree.now layer level bucket points → IsSound e) }
     ensures left { OnlyReads S.PageStore store.old store.new result }
+    ensures reads { IfOk result (λ _. Goes (λ old new. new ≤ old + (12 + 3 * bucket + (18 + 9 * bucket) * level)) (S.reads store.old) (S.reads store.new)) }
 {
     let layer = PointLayer {
         number: layer,
@@ -130,6 +135,7 @@ fn take_from<S: PageStore>(
         → IsHeld layer.level layer.bucket points leaf.block leaf.points.items → in_block leaf.block p.at ≡ true
         → finmap.get points p.at ≡ Some p.label → IsSound e) }
     ensures left { OnlyReads S.PageStore store.old store.new result }
+    ensures reads { IfOk result (λ _. Goes (λ old new. new ≤ old + (18 + 9 * layer.bucket) * layer.level) (S.reads store.old) (S.reads store.new)) }
 {
     let points = match others(alloc, &leaf.points, p.at) {
         Err(_) => return Err(Stop::Memory),

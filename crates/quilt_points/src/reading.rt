@@ -1,17 +1,18 @@
-ghost use Rattle.std.specs.Prelude.{◌≡◌, ◌+◌, ◌<◌, ◌≤◌, ◌==◌, true, Option, Some, IfOk, IfErr, IfSome, Contains, if◌then◌else◌};
+ghost use Rattle.std.specs.Prelude.{◌≡◌, ◌+◌, ◌<◌, ◌≤◌, ◌==◌, true, List, Option, Some, IfOk, IfErr, IfSome, Contains, if◌then◌else◌};
 ghost use Rattle.std.specs.FinMap as finmap;
 ghost use Rattle.quilt_types.specs.declared.plane.Block.{Block as AnyBlock};
 ghost use Rattle.quilt_types.specs.declared.plane.Point.{Point as AnyPoint};
 ghost use Rattle.quilt_types.specs.Plane.{side, in_block, is_pixel, IsBlock};
 ghost use Rattle.quilt_types.specs.Layers.{PointMap};
 ghost use Rattle.quilt_types.specs.Quadtrees.{point_blocks};
+ghost use Rattle.quilt_record.specs.declared.record.Record.{Record as AnyRecord};
 ghost use Rattle.quilt_record.specs.Canonical.{IsRecordOf, point_fact};
 ghost use Rattle.quilt_store.specs.Calls.{OnlyReads};
 ghost use Rattle.quilt_world.specs.Tale.{Goes};
 ghost use Rattle.quilt_store.specs.Stops.{IsSound};
-ghost use Rattle.quilt_btree.specs.Trees.{IsRooted};
+ghost use Rattle.quilt_btree.specs.Trees.{IsRooted, IsTree};
 ghost use Rattle.quilt_points.specs.Layers.{HasPoints, pixel_key};
-ghost use Rattle.quilt_points.specs.Reads.{IsBlockRead, label_at};
+ghost use Rattle.quilt_points.specs.Reads.{IsBlockRead, IsRow, IsBlockRow, IsLabelIn, IsAnswered, label_at};
 
 use crate::layer::PointLayer;
 use quilt_btree::Tree;
@@ -24,7 +25,9 @@ use quilt_types::{Block, Pixel, Point, Stop};
 pub const DAMAGED: Stop = Stop::Damaged { page: 0 };
 
 /// The label of the point at a pixel of the point layer with this number, from 1 to 255, of a map of this level, from 1 to
-/// 12, whose blocks hold at most `bucket` points, from 1 to 16: None exactly where no point is there. It reads at most 6
+/// 12, whose blocks hold at most `bucket` points, from 1 to 16: None exactly where no point is there.
+/// Page 0 is said to be damaged where the last record up to the pixel is none of a block around it, or the one with the
+/// point's key is none of a point. It reads at most 6
 /// pages at a bucket of 1, and at most 9 at another.
 pub fn find<S: PageStore>(
     store: &mut S,
@@ -42,6 +45,7 @@ pub fn find<S: PageStore>(
     requires in_y { at.y < side level }
     ensures label { IfOk result (λ label. (points : PointMap) → HasPoints (S.told store.old) tree.now layer level bucket points
         → label ≡ finmap.get points at) }
+    ensures answered { IfOk result (λ label. (rs : List AnyRecord) → IsTree (S.told store.old) tree.now rs → IsAnswered level bucket layer rs at label) }
     ensures sound { IfErr result (λ e. (points : PointMap) → HasPoints (S.told store.old) tree.now layer level bucket points → IsSound e) }
     ensures left { OnlyReads S.PageStore store.old store.new result }
     ensures reads { Goes (λ old new. new ≤ old + (if bucket == 1 then 6 else 9)) (S.reads store.old) (S.reads store.new) }
@@ -76,6 +80,8 @@ pub(crate) fn block_around<S: PageStore>(
     requires in_y { at.y < side layer.level }
     ensures read { IfOk result (λ v. (points : PointMap) → HasPoints (S.told store.old) tree.now layer.number layer.level layer.bucket points
         → IsBlockRead layer.level layer.bucket points v.0 v.1) }
+    ensures row { IfOk result (λ v. (rs : List AnyRecord) → IsTree (S.told store.old) tree.now rs
+        → IsBlockRow layer.level layer.bucket layer.number rs at v.0 v.1) }
     ensures block { IfOk result (λ v. IsBlock layer.level v.0) }
     ensures holds { IfOk result (λ v. in_block v.0 at ≡ true) }
     ensures sound { IfErr result (λ e. (points : PointMap) → HasPoints (S.told store.old) tree.now layer.number layer.level layer.bucket points → IsSound e) }
@@ -127,7 +133,8 @@ pub(crate) fn block_of(r: &Record, layer: PointLayer) -> Option<(Block, Option<P
 
 /// The point of the layer that the record says, if it says one.
 fn point_of(r: &Record, layer: PointLayer) -> Option<Point>
-    ensures { (b : AnyBlock) (p : AnyPoint) → IsRecordOf layer.level layer.bucket r.now layer.number (point_fact b (Some p)) → result ≡ Some p }
+    ensures point { (b : AnyBlock) (p : AnyPoint) → IsRecordOf layer.level layer.bucket r.now layer.number (point_fact b (Some p)) → result ≡ Some p }
+    ensures row { IfSome result (λ p. (b : AnyBlock) × IsRow layer.level layer.bucket layer.number b (Some p) r.now) }
 {
     match block_of(r, layer) {
         Some((_, held)) => held,
@@ -160,6 +167,8 @@ fn label_in<S: PageStore>(
     requires pixel { is_pixel layer.level at ≡ true }
     ensures label { IfOk result (λ label. (points : PointMap) → HasPoints (S.told store.old) tree.now layer.number layer.level layer.bucket points
         → Contains (point_blocks layer.level layer.bucket points) b → in_block b at ≡ true → label ≡ finmap.get points at) }
+    ensures answered { IfOk result (λ label. (rs : List AnyRecord) → IsTree (S.told store.old) tree.now rs
+        → IsLabelIn layer.level layer.bucket layer.number rs b at label) }
     ensures sound { IfErr result (λ e. (points : PointMap) → HasPoints (S.told store.old) tree.now layer.number layer.level layer.bucket points
         → Contains (point_blocks layer.level layer.bucket points) b → in_block b at ≡ true → IsSound e) }
     ensures left { OnlyReads S.PageStore store.old store.new result }

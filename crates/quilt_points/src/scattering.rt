@@ -1,4 +1,4 @@
-ghost use Rattle.std.specs.Prelude.{◌≡◌, ◌+◌, ◌<◌, ◌≤◌, ◌^◌, ◌↔◌, ℕ, true, false, [], All, Contains, Some, None, take, drop, length, map, slice_index_or, IfOk};
+ghost use Rattle.std.specs.Prelude.{◌≡◌, ◌+◌, ◌*◌, ◌<◌, ◌≤◌, ◌^◌, ◌↔◌, ℕ, true, false, [], All, Contains, Some, None, take, drop, length, map, slice_index_or, IfOk};
 ghost use Rattle.std.specs.Prelude.{IfErr, IfSome, IsNone, IsSome, IsErrOf};
 ghost use Rattle.std.specs.FinMap as finmap;
 ghost use Rattle.quilt_types.specs.declared.plane.Point.{Point as AnyPoint};
@@ -7,6 +7,7 @@ ghost use Rattle.quilt_types.specs.Plane.{is_pixel, in_block, IsBlock};
 ghost use Rattle.quilt_types.specs.Layers.{PointMap};
 ghost use Rattle.quilt_loc.specs.Codes.{code_at, Rises};
 ghost use Rattle.quilt_store.specs.Calls.{OnlyReads};
+ghost use Rattle.quilt_world.specs.Tale.{Goes};
 ghost use Rattle.quilt_store.specs.Stops.{IsSound};
 ghost use Rattle.quilt_btree.specs.Trees.{IsRooted};
 ghost use Rattle.quilt_edits.specs.Edits.{AreInOrder};
@@ -31,7 +32,7 @@ use std::alloc::Global;
 /// The records that go and those that come, each in the order of their keys, when these points come at once into the point
 /// layer with this number, from 1 to 255, of a map of this level, from 1 to 12, whose blocks hold at most `bucket` points, from
 /// 1 to 16: None exactly where two of them share a pixel or a point is at one of their pixels. Each block that gets points is
-/// read and planned once.
+/// read and planned once: for each point at most 12 pages, and 3 for each point that a block may hold.
 pub fn plan_scatter<S: PageStore>(
     alloc: Global,
     store: &mut S,
@@ -52,6 +53,7 @@ pub fn plan_scatter<S: PageStore>(
     ensures order { IfOk result (λ o. IfSome o AreInOrder) }
     ensures sound { IfErr result (λ e. (old : PointMap) → HasPoints (S.told store.old) tree.now layer level bucket old → IsSound e) }
     ensures left { OnlyReads S.PageStore store.old store.new result }
+    ensures reads { IfOk result (λ _. Goes (λ old new. new ≤ old + (12 + 3 * bucket) * length points.now) (S.reads store.old) (S.reads store.new)) }
 {
     let place = PointLayer {
         number: layer,
@@ -91,6 +93,7 @@ fn grown<S: PageStore>(
         → (p : AnyPoint) × Contains news.now p × IsSome (finmap.get old p.at)) }
     ensures sound { IfErr result (λ e. (old : PointMap) → HasPoints (S.told store.old) tree.now layer.number layer.level layer.bucket old → IsSound e) }
     ensures left { OnlyReads S.PageStore store.old store.new result }
+    ensures reads { IfOk result (λ _. Goes (λ old new. new ≤ old + (12 + 3 * layer.bucket) * length news.now) (S.reads store.old) (S.reads store.new)) }
 {
     let mut growth = Growth {
         without: Vec::new(alloc),
@@ -130,6 +133,7 @@ fn add_block<S: PageStore>(
         → (p : AnyPoint) × Contains news.now p × IsSome (finmap.get old p.at)) }
     ensures sound { IfErr result (λ e. (old : PointMap) → HasPoints (S.told store.old) tree.now layer.number layer.level layer.bucket old → IsSound e) }
     ensures left { OnlyReads S.PageStore store.old store.new result }
+    ensures reads { IfOk result (λ _. Goes (λ old new. new ≤ old + (12 + 3 * layer.bucket)) (S.reads store.old) (S.reads store.new)) }
 {
     match leaf_around(alloc, store, tree, layer, news[0].at) {
         Err(e) => Err(e),

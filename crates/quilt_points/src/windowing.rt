@@ -1,17 +1,19 @@
-ghost use Rattle.std.specs.Prelude.{◌≡◌, ℕ, ◌+◌, ◌<◌, ◌≤◌, ◌++◌, List, true, false, filter, Contains, IfOk, IfErr, IsErrOf, IsPermutation, OnOk};
+ghost use Rattle.std.specs.Prelude.{◌≡◌, ℕ, ◌+◌, ◌*◌, ◌^◌, ◌&&◌, nat_lt, ◌≤◌, ◌++◌, List, true, false, filter, Contains, IfOk, IfErr, IsErrOf, IsPermutation, OnOk};
 ghost use Rattle.std.specs.FinMap as finmap;
 ghost use Rattle.std.specs.List.Sorted.{IsSortedByKey};
 ghost use Rattle.quilt_types.specs.declared.plane.Pixel.{Pixel as AnyPixel};
 ghost use Rattle.quilt_types.specs.declared.plane.Point.{Point as AnyPoint};
 ghost use Rattle.quilt_types.specs.declared.stop.Stop.TheVariants.{Device};
-ghost use Rattle.quilt_types.specs.Plane.{is_window, in_window, in_block, pixel_cmp, IsBlock};
+ghost use Rattle.quilt_types.specs.Plane.{whole, is_window, is_pixel, in_window, in_block, pixel_cmp, IsBlock};
 ghost use Rattle.quilt_types.specs.Layers.{PointMap};
+ghost use Rattle.quilt_record.specs.declared.record.Record.{Record as AnyRecord};
 ghost use Rattle.quilt_store.specs.Calls.{OnlyReads};
+ghost use Rattle.quilt_world.specs.Tale.{Goes};
 ghost use Rattle.quilt_store.specs.Stops.{IsSound};
-ghost use Rattle.quilt_btree.specs.Trees.{IsRooted};
+ghost use Rattle.quilt_btree.specs.Trees.{IsRooted, IsTree};
 ghost use Rattle.quilt_points.specs.Layers.{HasPoints, entries_of};
 ghost use Rattle.quilt_points.specs.Reads.{AreOf};
-ghost use Rattle.quilt_points.specs.Windows.{IsOpen};
+ghost use Rattle.quilt_points.specs.Windows.{IsOpen, IsCovered, meets_window, visited};
 
 use crate::layer::PointLayer;
 use crate::listing::points_of;
@@ -23,7 +25,9 @@ use quilt_types::{Block, Point, PointList, Stop, Window};
 use std::alloc::{AllocError, Global};
 
 /// The points in a window of the point layer with this number, from 1 to 255, of a map of this level, from 1 to 12, whose
-/// blocks hold at most `bucket` points, from 1 to 16, by y and then x. Its work grows with the blocks that meet the window.
+/// blocks hold at most `bucket` points, from 1 to 16, by y and then x. Page 0 is said to be damaged where no
+/// record is of a block around one of the window's pixels. It reads at most 6 pages, and 3 for
+/// each point that a block may hold, for each quadrant that meets the window and lies in no larger block of the layer.
 pub fn within<S: PageStore>(
     alloc: Global,
     store: &mut S,
@@ -40,8 +44,12 @@ pub fn within<S: PageStore>(
     requires window { is_window level w ≡ true }
     ensures points { IfOk result (λ list. (points : PointMap) → HasPoints (S.told store.old) tree.now layer level bucket points
         → entries_of list ≡ filter (λ e. in_window w e.0) (finmap.entries points)) }
+    ensures covered { IfOk result (λ _. (rs : List AnyRecord) (p : AnyPixel) → IsTree (S.told store.old) tree.now rs → in_window w p ≡ true
+        → is_pixel level p ≡ true → IsCovered level bucket layer rs p) }
     ensures sound { IfErr result (λ e. (points : PointMap) → HasPoints (S.told store.old) tree.now layer level bucket points → IsSound e) }
     ensures left { OnlyReads S.PageStore store.old store.new result }
+    ensures reads { IfOk result (λ _. (points : PointMap) → HasPoints (S.told store.old) tree.now layer level bucket points
+        → Goes (λ old new. new ≤ old + (6 + 3 * bucket) * visited level bucket points w (whole level)) (S.reads store.old) (S.reads store.new)) }
 {
     let layer = PointLayer {
         number: layer,
@@ -70,13 +78,19 @@ fn add_within<S: PageStore>(
     found: &mut Vec<Point>,
 ) -> Result<(), Stop>
     requires rooted { IsRooted (S.size store.old) tree.now }
+    requires window { is_window layer.level w ≡ true }
     requires block { IsBlock layer.level b }
     ensures found { OnOk result ((points : PointMap) → HasPoints (S.told store.old) tree.now layer.number layer.level layer.bucket points
         → IsOpen layer.level layer.bucket points b → (here : List AnyPoint) × (found.new.items ≡ found.old.items ++ here)
         × AreOf points (in_window w) b (entries_of here)) }
+    ensures covered { OnOk result ((rs : List AnyRecord) (p : AnyPixel) → IsTree (S.told store.old) tree.now rs → in_window w p ≡ true
+        → in_block b p ≡ true → IsCovered layer.level layer.bucket layer.number rs p) }
     ensures sound { IfErr result (λ e. (points : PointMap) → HasPoints (S.told store.old) tree.now layer.number layer.level layer.bucket points
         → IsOpen layer.level layer.bucket points b → IsSound e) }
     ensures left { OnlyReads S.PageStore store.old store.new result }
+    ensures reads { OnOk result ((points : PointMap) (k : ℕ) → HasPoints (S.told store.old) tree.now layer.number layer.level layer.bucket points
+        → IsOpen layer.level layer.bucket points b → b.side ≡ 2 ^ k
+        → Goes (λ old new. new ≤ old + (6 + 3 * layer.bucket) * visited k layer.bucket points w b) (S.reads store.old) (S.reads store.new)) }
 {
     if !meets(b, w) {
         return Ok(());
@@ -98,16 +112,20 @@ fn add_within<S: PageStore>(
     Ok(())
 }
 
-/// Whether a block and a window may have a pixel in common.
+/// Whether a block and a window have a pixel in common.
 fn meets(b: Block, w: Window) -> bool
-    ensures { result ≡ false → (p : AnyPixel) → in_block b p ≡ true → in_window w p ≡ true → ⊥ }
+    requires block { 1 ≤ b.side }
+    requires window { (1 ≤ w.w) × (1 ≤ w.h) }
+    ensures { result ≡ meets_window w b }
 {
     overlap(b.x, b.side, w.x, w.w) && overlap(b.y, b.side, w.y, w.h)
 }
 
-/// Whether two stretches, each from its first number on and so long, have a number in common, if both have any.
+/// Whether two stretches, each from its first number on and so long, have a number in common.
 fn overlap(a: u16, length: u16, b: u16, other: u16) -> bool
-    ensures { result ≡ false → (m : ℕ) → a ≤ m → m < a + length → b ≤ m → m < b + other → ⊥ }
+    requires first { 1 ≤ length }
+    requires second { 1 ≤ other }
+    ensures { result ≡ (nat_lt b (a + length) && nat_lt a (b + other)) }
 {
     if a <= b {
         b - a < length

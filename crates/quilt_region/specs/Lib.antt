@@ -5,3 +5,4 @@ pub mod Plans
 pub mod Quarters
 pub mod Regions
 pub mod Windows
+pub mod Answered

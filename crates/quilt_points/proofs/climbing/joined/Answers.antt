@@ -1,5 +1,7 @@
-use Rattle.std.proofs.Common.{true, [], length, get_or, sym, ◌∙◌, ap, subst, arith, Contains, List}
+use Rattle.std.proofs.Common.{◌≡◌, ◌+◌, ◌*◌, ◌≤◌, true, [], length, ⊎_elim, get_or, sym, ◌∙◌, ap, subst, arith, Contains, List}
 use Rattle.std.specs.FinMap as finmap
+use Rattle.std.proofs.lemmas.Bool.{cases_lt}
+use Rattle.std.proofs.lemmas.List.{get_or_default}
 use Rattle.quilt_store.proofs.Reading.{only_reads_then, only_reads_same, read_on, only_reads_err, only_reads_ok}
 use Rattle.quilt_types.specs.declared.plane.Block.{Block}
 use Rattle.quilt_types.specs.declared.plane.Point.{Point}
@@ -13,7 +15,8 @@ use Rattle.quilt_points.specs.Layers.{entries_of}
 use Rattle.quilt_points.proofs.Finds.{has_along}
 use Rattle.quilt_edits.proofs.Lists.{member_at}
 use Rattle.quilt_points.proofs.Unions.{AreOfAll, all_none}
-use Rattle.quilt_points.proofs.Ways.{way_next, way_all, way_fails}
+use Rattle.quilt_points.proofs.Bounds.{reads_none, reads_more, times_next, spared_next, spares, spared_here, spared_end}
+use Rattle.quilt_points.proofs.Ways.{way_next, way_all, way_fails, own_place}
 use Rattle.quilt_points.proofs.climbing.joined.Goals as goal
 
 pub quarters-q-items-requires-clause-valid : goal.quarters-q-items-requires-clause-valid
@@ -27,6 +30,9 @@ loop-q-init g c = record {
   all = λ points p label h some way. subst (λ (l : List Point). AreOfAll (finmap.remove points p) (λ q. true) [] (entries_of l))
       (sym c.new-all.ensures.items) (all_none (finmap.remove points p) (λ q. true));
   pixels = λ k d lt. let none = ap length c.new-all.ensures.items in absurd (omega arith);
+  few = omega arith;
+  reads = reads_none ((6 + 3 * c.args.layer.bucket) * 0) _;
+  spared = λ j d lt e. absurd (omega arith);
   left = only_reads_same _ tt _ (g.met.S.PageStore.same_time _);
 }
 
@@ -74,6 +80,16 @@ loop-q-preserved g c =
           ))
           (c.loop-q.invariant.all points p label h some way);
       pixels = c.in-Ok-true.ensures.pixels;
+      reads = times_next (6 + 3 * c.args.layer.bucket) c.loop-q.q-index _ _ _ c.loop-q.invariant.reads c.in-Ok-true.ensures.reads;
+      spared = λ j d lt e.
+          ⊎_elim (λ less. spared_next (6 + 3 * c.args.layer.bucket) c.loop-q.q-index _ _ _ (c.loop-q.invariant.spared j d less e) c.in-Ok-true.ensures.reads)
+          (λ ge.
+          let at : j ≡ c.loop-q.q-index = omega arith in
+          spares (6 + 3 * c.args.layer.bucket) c.loop-q.q-index _ _ _ c.loop-q.invariant.reads
+          (c.in-Ok-true.ensures.known (get_or_default c.quarters-q-items.result c.loop-q.q-index _ d (let four = ap length are in let lt = c.loop-q-test.true in omega arith)
+          ∙ ap (λ i. get_or c.quarters-q-items.result i d) (sym at) ∙ e)))
+          (cases_lt j c.loop-q.q-index);
+      few = (let four = ap length are in let lt = c.loop-q-test.true in omega arith);
       left = read_on _ g.met.S.PageStore.goes_on _ _ _ c.loop-q.invariant.left c.in-Ok-true.ensures.left;
     }
 
@@ -89,3 +105,28 @@ returns-in-Err-clause-left g c = only_reads_err _ (only_reads_then _ g.met.S.Pag
 
 pub returns-in-Ok-false-clause-left : goal.returns-in-Ok-false-clause-left
 returns-in-Ok-false-clause-left g c = only_reads_ok _ (only_reads_then _ g.met.S.PageStore.goes_on _ _ _ c.loop-q.invariant.left c.in-Ok-false.ensures.left) _
+
+pub returns-in-Ok-false-clause-reads : goal.returns-in-Ok-false-clause-reads
+returns-in-Ok-false-clause-reads g c =
+    let own = own_place c.args.layer.level c.args.leaf.now.block c.requires.block c.requires.inner (record { y = 0; x = 0; side = 0 }) in
+    let are = c.quarters-q-items.ensures.value ∙ ap quarters_of c.requires.parent in
+    let four = ap length are in
+    let lt = c.loop-q-test.true in
+    let is = ap (λ (l : List Block). get_or l own.0 (record { y = 0; x = 0; side = 0 })) are ∙ own.2 in
+    reads_more ((6 + 3 * c.args.layer.bucket) * 3) (18 + 9 * c.args.layer.bucket) _ _ (omega arith)
+    (spared_here (6 + 3 * c.args.layer.bucket) c.loop-q.q-index own.0 _ _ _ own.1 (omega arith) c.loop-q.invariant.reads
+    (λ less. c.loop-q.invariant.spared own.0 _ less is) c.in-Ok-false.ensures.reads
+    (λ at. c.in-Ok-false.ensures.known (ap (λ i. get_or c.quarters-q-items.result i (record { y = 0; x = 0; side = 0 })) (sym at) ∙ is)))
+
+pub returns-clause-reads : goal.returns-clause-reads
+returns-clause-reads g c =
+    let own = own_place c.args.layer.level c.args.leaf.now.block c.requires.block c.requires.inner (record { y = 0; x = 0; side = 0 }) in
+    let are = c.quarters-q-items.ensures.value ∙ ap quarters_of c.requires.parent in
+    let four = ap length are in
+    let over = c.loop-q-test.false in
+    let is = ap (λ (l : List Block). get_or l own.0 (record { y = 0; x = 0; side = 0 })) are ∙ own.2 in
+    let few : c.loop-q.q-index ≤ 4 = c.loop-q.invariant.few in
+    let low = own.1 in
+    reads_more ((6 + 3 * c.args.layer.bucket) * 3) (18 + 9 * c.args.layer.bucket) _ _ (omega arith)
+    (spared_end (6 + 3 * c.args.layer.bucket) c.loop-q.q-index _ _ few
+    (c.loop-q.invariant.spared own.0 _ (omega arith) is))

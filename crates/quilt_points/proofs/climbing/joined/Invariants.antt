@@ -1,7 +1,9 @@
-use Rattle.std.proofs.Common.{◌≡◌, ℕ, ◌≤◌, true, All, take, Some}
+use Rattle.std.proofs.Common.{◌≡◌, ℕ, ◌+◌, ◌*◌, ◌<◌, ◌≤◌, true, All, take, get_or, Some}
 use Rattle.std.specs.FinMap as finmap
 use Rattle.quilt_store.specs.Calls.{IsOnlyRead}
+use Rattle.quilt_world.specs.Tale.{Goes}
 use Rattle.quilt_types.specs.declared.plane.Pixel.{Pixel}
+use Rattle.quilt_types.specs.declared.plane.Block.{Block}
 use Rattle.quilt_types.specs.Plane.{is_pixel}
 use Rattle.quilt_types.specs.Layers.{PointMap}
 use Rattle.quilt_points.specs.Layers.{HasPoints, entries_of}
@@ -16,5 +18,10 @@ invariant-loop-q g l = record {
       → IsOnWay l.layer.level l.layer.bucket points p l.leaf.block l.leaf.points.items
       → AreOfAll (finmap.remove points p) (λ q. true) (take l.q-index l.q-items) (entries_of l.all.items);
   pixels : All (λ p. is_pixel l.layer.level p.at ≡ true) l.all.items;
+  few : l.q-index ≤ 4;
+  reads : Goes {A = ℕ} (λ old new. new ≤ old + (6 + 3 * l.layer.bucket) * l.q-index) (g.S.PageStore.reads l.initial.store) (g.S.PageStore.reads l.store);
+  spared : (j : ℕ) (d : Block) → j < l.q-index → get_or l.q-items j d ≡ l.leaf.block
+      → Goes {A = ℕ} (λ old new. new + (6 + 3 * l.layer.bucket) ≤ old + (6 + 3 * l.layer.bucket) * l.q-index) (g.S.PageStore.reads l.initial.store)
+      (g.S.PageStore.reads l.store);
   left : IsOnlyRead g.S.PageStore l.initial.store l.store;
 }

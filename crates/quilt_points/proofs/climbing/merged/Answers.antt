@@ -1,4 +1,4 @@
-use Rattle.std.proofs.Common.{◌≡◌, ◌<◌, ◌≤◌, true, false, List, length, refl, sym, ◌∙◌, ap, subst, arith}
+use Rattle.std.proofs.Common.{◌≡◌, ◌+◌, ◌*◌, ◌<◌, ◌≤◌, true, false, List, length, refl, sym, ◌∙◌, ap, subst, arith}
 use Rattle.std.specs.FinMap as finmap
 use Rattle.quilt_types.specs.declared.plane.Block.{Block}
 use Rattle.quilt_types.specs.declared.plane.Point.{Point}
@@ -9,6 +9,7 @@ use Rattle.quilt_point_laws.specs.Laws.{AreIn}
 use Rattle.quilt_points.specs.Layers.{entries_of}
 use Rattle.quilt_points.specs.Climbing.{IsOnWay}
 use Rattle.quilt_points.proofs.Finds.{if_some_at}
+use Rattle.quilt_points.proofs.Bounds.{reads_none}
 use Rattle.quilt_points.proofs.Ways.{way_last, way_up, way_many, inner_from}
 use Rattle.quilt_points.proofs.climbing.merged.Goals as goal
 
@@ -50,3 +51,29 @@ pub returns-else-not-are_few-clause-block : goal.returns-else-not-are_few-clause
 returns-else-not-are_few-clause-block g c = subst (IsBlock c.args.layer.level) (sym c.in-Some.ensures.value)
     (IsBlock-parent_of c.args.layer.level c.args.leaf.now.block c.requires.block
     (inner_from c.args.layer.level c.args.leaf.now.block c.requires.block (λ e. true_false (c.in-Some.ensures.whole.1 e))))
+
+pub returns-in_default-clause-reads : goal.returns-in_default-clause-reads
+returns-in_default-clause-reads g c = reads_none (18 + 9 * c.args.layer.bucket) (g.S.PageStore.reads c.args.store.now)
+
+pub returns-else-not-are_few-clause-twice : goal.returns-else-not-are_few-clause-twice
+returns-else-not-are_few-clause-twice g c = ap (λ (b : Block). b.side) c.in-Some.ensures.value
+
+pub returns-in-Err-clause-top : goal.returns-in-Err-clause-top
+returns-in-Err-clause-top g c e =
+    let inner = inner_from c.args.layer.level c.args.leaf.now.block c.requires.block (λ e. true_false (c.in-Some.ensures.whole.1 e)) in
+    absurd (omega arith)
+
+pub returns-in-Ok-None-clause-top : goal.returns-in-Ok-None-clause-top
+returns-in-Ok-None-clause-top g c e =
+    let inner = inner_from c.args.layer.level c.args.leaf.now.block c.requires.block (λ e. true_false (c.in-Some.ensures.whole.1 e)) in
+    absurd (omega arith)
+
+pub returns-then-not-are_few-clause-top : goal.returns-then-not-are_few-clause-top
+returns-then-not-are_few-clause-top g c e =
+    let inner = inner_from c.args.layer.level c.args.leaf.now.block c.requires.block (λ e. true_false (c.in-Some.ensures.whole.1 e)) in
+    absurd (omega arith)
+
+pub returns-else-not-are_few-clause-top : goal.returns-else-not-are_few-clause-top
+returns-else-not-are_few-clause-top g c e =
+    let inner = inner_from c.args.layer.level c.args.leaf.now.block c.requires.block (λ e. true_false (c.in-Some.ensures.whole.1 e)) in
+    absurd (omega arith)

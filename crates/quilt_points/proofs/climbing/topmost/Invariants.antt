@@ -1,6 +1,7 @@
-use Rattle.std.proofs.Common.{◌≡◌, ℕ, ◌-◌, ◌≤◌, true, All, Some}
+use Rattle.std.proofs.Common.{◌≡◌, ℕ, ◌+◌, ◌-◌, ◌*◌, ◌≤◌, true, All, Some}
 use Rattle.std.specs.FinMap as finmap
 use Rattle.quilt_store.specs.Calls.{IsOnlyRead}
+use Rattle.quilt_world.specs.Tale.{Goes}
 use Rattle.quilt_types.specs.declared.plane.Pixel.{Pixel}
 use Rattle.quilt_types.specs.Plane.{is_pixel, IsBlock}
 use Rattle.quilt_types.specs.Layers.{PointMap}
@@ -19,5 +20,6 @@ invariant-climb g l = record {
       → IsOnWay l.layer.level l.layer.bucket points p l.top.block l.top.points.items;
   block : IsBlock l.layer.level l.top.block;
   pixels : All (λ p. is_pixel l.layer.level p.at ≡ true) l.top.points.items;
+  reads : Goes {A = ℕ} (λ old new. new ≤ old + (18 + 9 * l.layer.bucket) * block.level) (g.S.PageStore.reads l.initial.store) (g.S.PageStore.reads l.store);
   left : IsOnlyRead g.S.PageStore l.initial.store l.store;
 }

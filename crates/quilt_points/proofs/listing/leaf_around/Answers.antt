@@ -1,5 +1,7 @@
+use Rattle.std.proofs.Common.{◌+◌, ◌*◌, arith}
 use Rattle.quilt_store.proofs.Reading.{only_reads_then, only_reads_err, only_reads_ok, only_reads_free}
 use Rattle.quilt_points.proofs.Finds.{has_along, match_none, match_some}
+use Rattle.quilt_points.proofs.Bounds.{reads_then}
 use Rattle.quilt_points.proofs.listing.leaf_around.Goals as goal
 
 pub returns-in-Err-points_of-clause-sound : goal.returns-in-Err-points_of-clause-sound
@@ -27,3 +29,7 @@ returns-in-Ok-None-clause-left g c = only_reads_free _ _ (only_reads_then _ g.me
 
 pub returns-in-Ok-Some-clause-left : goal.returns-in-Ok-Some-clause-left
 returns-in-Ok-Some-clause-left g c = only_reads_ok _ (only_reads_then _ g.met.S.PageStore.goes_on _ _ _ c.in-Ok.ensures.left c.in-Ok-Some.ensures.left) _
+
+pub returns-in-Ok-Some-clause-reads : goal.returns-in-Ok-Some-clause-reads
+returns-in-Ok-Some-clause-reads g c =
+    reads_then 6 (6 + 3 * c.args.layer.bucket) (12 + 3 * c.args.layer.bucket) _ _ _ (omega arith) c.in-Ok.ensures.reads c.in-Ok-Some.ensures.reads

@@ -15,6 +15,7 @@ pub loop-r-init : goal.loop-r-init
 loop-r-init c = record {
   said = subst (AreSaid c.args.layer.level c.args.layer.bucket c.args.layer.number c.args.b []) (sym c.new-points.ensures.items)
       (said_none c.args.layer.level c.args.layer.bucket c.args.layer.number c.args.b);
+  row = λ lt. absurd (omega arith);
   pixels = λ k d lt. let none = ap length c.new-points.ensures.items in absurd (omega arith);
 }
 
@@ -34,6 +35,12 @@ loop-r-preserved c =
           (subst (AreSaid c.args.layer.level c.args.layer.bucket c.args.layer.number c.args.b _) (sym h.2)
           (said_more c.args.layer.level c.args.layer.bucket c.args.layer.number c.args.b (take c.loop-r.r-index c.args.records.now)
           c.loop-r.points.items _ h.0 c.args.layer.has_level.1 c.loop-r.invariant.said h.1));
+      row = λ _. record {
+        held = h.0;
+        row = _;
+        there = member_at c.args.records.now c.loop-r.r-index (record { key = record { layer = 0; part = 0; code = 0; depth = 0; item = 0 }; value = [] }) c.loop-r-test.true;
+        is_row = h.1;
+      };
       pixels = c.in-Ok.ensures.pixels c.loop-r.invariant.pixels;
     }
 
@@ -46,3 +53,7 @@ returns-clause-read c points valid rows =
 
 pub returns-clause-pixels : goal.returns-clause-pixels
 returns-clause-pixels c = c.loop-r.invariant.pixels
+
+pub returns-clause-row : goal.returns-clause-row
+returns-clause-row c = c.loop-r.invariant.row
+    (let some = nonzero (length c.args.records.now) c.if-is_empty.ensures in let over = c.loop-r-test.false in omega arith)

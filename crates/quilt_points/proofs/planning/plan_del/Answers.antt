@@ -1,4 +1,4 @@
-use Rattle.std.proofs.Common.{List, refl, sym, ◌∙◌, ap, subst, Contains}
+use Rattle.std.proofs.Common.{◌+◌, ◌*◌, arith, List, refl, sym, ◌∙◌, ap, subst, Contains}
 use Rattle.std.specs.FinMap as finmap
 use Rattle.quilt_store.proofs.Reading.{only_reads_then, only_reads_err, only_reads_ok}
 use Rattle.quilt_types.specs.declared.plane.Point.{Point}
@@ -7,6 +7,7 @@ use Rattle.quilt_points.specs.Plans.{IsPlan}
 use Rattle.quilt_points.proofs.Finds.{has_along, false_true, none_some}
 use Rattle.quilt_points.proofs.plans.Puts.{free_from, held_point}
 use Rattle.quilt_points.proofs.plans.Dels.{is_none_from, none_is}
+use Rattle.quilt_points.proofs.Bounds.{reads_then, reads_more}
 use Rattle.quilt_points.proofs.planning.plan_del.Goals as goal
 
 pub returns-in-None-clause-none : goal.returns-in-None-clause-none
@@ -48,3 +49,13 @@ returns-in-Err-take_from-clause-left g c = only_reads_err _ (only_reads_then _ g
 
 pub returns-in-Ok-take_from-clause-left : goal.returns-in-Ok-take_from-clause-left
 returns-in-Ok-take_from-clause-left g c = only_reads_ok _ (only_reads_then _ g.met.S.PageStore.goes_on _ _ _ c.in-Ok.ensures.left c.in-Ok-take_from.ensures.left) _
+
+pub returns-in-None-clause-reads : goal.returns-in-None-clause-reads
+returns-in-None-clause-reads g c =
+    let n = (18 + 9 * c.args.bucket) * c.args.level in
+    reads_more (12 + 3 * c.args.bucket) (12 + 3 * c.args.bucket + n) _ _ (omega arith) c.in-Ok.ensures.reads
+
+pub returns-in-Ok-take_from-clause-reads : goal.returns-in-Ok-take_from-clause-reads
+returns-in-Ok-take_from-clause-reads g c =
+    let n = (18 + 9 * c.args.bucket) * c.args.level in
+    reads_then (12 + 3 * c.args.bucket) n (12 + 3 * c.args.bucket + n) _ _ _ (omega arith) c.in-Ok.ensures.reads c.in-Ok-take_from.ensures.reads

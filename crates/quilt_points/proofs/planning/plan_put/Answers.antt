@@ -3,6 +3,7 @@ use Rattle.std.proofs.lemmas.Result.{IfOk-weaker, IfErr-weaker}
 use Rattle.quilt_types.specs.declared.plane.Point.{Point}
 use Rattle.quilt_points.specs.Reads.{IsHeld}
 use Rattle.quilt_points.proofs.Finds.{if_some_weaker}
+use Rattle.quilt_points.proofs.Bounds.{if_ok_of}
 use Rattle.quilt_points.proofs.planning.plan_put.Goals as goal
 
 pub returns-in-Ok-clause-plan : goal.returns-in-Ok-clause-plan
@@ -25,3 +26,6 @@ returns-in-Ok-clause-sound g c =
     (λ e f points h. f points h.spelled.valid
     (subst (λ (held : List Point). IsHeld c.args.level c.args.bucket points c.in-Ok.leaf.block held) (sym c.deref.ensures.value)
     (c.in-Ok.ensures.read points h)) c.in-Ok.ensures.holds) c.put_into.ensures.sound
+
+pub returns-in-Ok-clause-reads : goal.returns-in-Ok-clause-reads
+returns-in-Ok-clause-reads g c = if_ok_of c.put_into.result c.in-Ok.ensures.reads

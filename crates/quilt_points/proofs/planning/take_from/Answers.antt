@@ -6,6 +6,7 @@ use Rattle.quilt_types.specs.Plane.{is_pixel}
 use Rattle.quilt_types.specs.Facts.{same_pixel}
 use Rattle.quilt_points.specs.Climbing.{IsOnWay}
 use Rattle.quilt_points.proofs.plans.Dels.{way_first}
+use Rattle.quilt_points.proofs.Bounds.{if_ok_of}
 use Rattle.quilt_points.proofs.planning.take_from.Goals as goal
 
 pub topmost-requires-clause-pixels : goal.topmost-requires-clause-pixels
@@ -43,3 +44,6 @@ returns-clause-sound g c =
     (c.in-Ok-topmost.ensures.last points c.args.p.at c.args.p.label h some
     (way_first points c.args.p.at c.args.p.label some c.args.layer.level c.args.layer.bucket c.args.leaf.block c.args.leaf.points.items is on
     c.in-Ok.points.items others_is))) c.take_out.ensures.sound
+
+pub returns-clause-reads : goal.returns-clause-reads
+returns-clause-reads g c = if_ok_of c.take_out.result c.in-Ok-topmost.ensures.reads

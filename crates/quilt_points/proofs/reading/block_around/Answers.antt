@@ -1,6 +1,8 @@
-use Rattle.std.proofs.Common.{sym, ◌∙◌, arith}
+use Rattle.std.proofs.Common.{sym, ◌∙◌, ap, arith}
 use Rattle.quilt_loc.proofs.Blocks.{IsBlock-up, side_most}
-use Rattle.quilt_points.proofs.Finds.{none_some, false_true, block_read, around_read, read_same, read_holds}
+use Rattle.quilt_record.specs.declared.key.Key.{Key}
+use Rattle.quilt_btree.specs.Lists.{floor_of}
+use Rattle.quilt_points.proofs.Finds.{if_some_at, none_some, false_true, block_read, around_read, read_same, read_holds}
 use Rattle.quilt_points.proofs.reading.block_around.Goals as goal
 
 pub key_behind-k-requires-clause-in_x : goal.key_behind-k-requires-clause-in_x
@@ -48,3 +50,10 @@ returns-in_default-2-clause-sound g c points h page e =
     c.args.layer.has_number.0 c.args.layer.has_number.1 c.args.layer.has_level.1 c.requires.in_x c.requires.in_y c.key_behind-k.ensures
     c.in-Ok-Some.ensures.floor c.in-Ok-Some.field-0-is c.block_of.ensures.one h in
     none_some _ (sym c.in_default.is ∙ f.is)
+
+pub returns-in-Some-clause-row : goal.returns-in-Some-clause-row
+returns-in-Some-clause-row g c rs is = record {
+  row = c.in-Ok-Some.r;
+  is_floor = sym (c.in-Ok-Some.ensures.floor rs is ∙ ap (λ (k : Key). floor_of k rs) c.key_behind-k.ensures) ∙ c.in-Ok-Some.field-0-is;
+  is_row = if_some_at c.block_of.result _ (c.in-Some.b, c.in-Some.held) c.in-Some.is c.block_of.ensures.record;
+}

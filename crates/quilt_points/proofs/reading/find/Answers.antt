@@ -1,5 +1,6 @@
-use Rattle.std.proofs.Common.{◌∙◌}
-use Rattle.std.proofs.lemmas.Result.{IfErr-weaker}
+use Rattle.std.proofs.Common.{ℕ, List, Option, ◌∙◌, sym, subst, arith}
+use Rattle.std.proofs.lemmas.Result.{IfOk-weaker, IfErr-weaker}
+use Rattle.quilt_btree.specs.Trees.{IsTree}
 use Rattle.quilt_store.proofs.Reading.{only_reads_then}
 use Rattle.quilt_points.proofs.Finds.{one_found_at, has_along}
 use Rattle.quilt_points.proofs.reading.find.Goals as goal
@@ -17,3 +18,24 @@ returns-else-bucket-eq1-clause-sound g c =
 
 pub returns-else-bucket-eq1-clause-left : goal.returns-else-bucket-eq1-clause-left
 returns-else-bucket-eq1-clause-left g c = only_reads_then _ g.met.S.PageStore.goes_on _ _ _ c.in-Ok.ensures.left c.label_in.ensures.left
+
+pub returns-then-bucket-eq1-clause-answered : goal.returns-then-bucket-eq1-clause-answered
+returns-then-bucket-eq1-clause-answered g c rs is = record {
+  block = c.in-Ok.b;
+  held = c.in-Ok.held;
+  there = c.in-Ok.ensures.row rs is;
+  holds = c.in-Ok.ensures.holds;
+  one = λ e. c.label_of.ensures;
+  more = λ lt. let one = c.if-bucket-eq1.true in absurd (omega arith);
+}
+
+pub returns-else-bucket-eq1-clause-answered : goal.returns-else-bucket-eq1-clause-answered
+returns-else-bucket-eq1-clause-answered g c =
+    IfOk-weaker c.label_in.result _ _ (λ label f rs is. record {
+      block = c.in-Ok.b;
+      held = c.in-Ok.held;
+      there = c.in-Ok.ensures.row rs is;
+      holds = c.in-Ok.ensures.holds;
+      one = λ e. absurd (c.if-bucket-eq1.false e);
+      more = λ lt. f rs (subst (λ (o : Option (List (List ℕ))). IsTree o c.args.tree.now rs) (sym c.in-Ok.ensures.left.told) is);
+    }) c.label_in.ensures.answered

@@ -1,4 +1,4 @@
-use Rattle.std.proofs.Common.{◌+◌, ◌++◌, [], List, take, drop, length, sym, ap, subst, arith, Contains}
+use Rattle.std.proofs.Common.{◌+◌, ◌*◌, ◌++◌, [], List, take, drop, length, sym, ap, subst, arith, Contains}
 use Rattle.std.proofs.lemmas.List.{take_all, drop_all, length-drop}
 use Rattle.quilt_store.proofs.Reading.{only_reads_then, only_reads_same, read_on, only_reads_err, only_reads_ok}
 use Rattle.quilt_types.specs.declared.plane.Point.{Point}
@@ -9,6 +9,7 @@ use Rattle.quilt_points.specs.Scattering.{IsTaken, IsGrown}
 use Rattle.quilt_points.proofs.Finds.{has_along, if_some_at}
 use Rattle.quilt_points.proofs.Codings.{rest_is, Rises-drop, Rises-take, dropped_there, take_further, drop_further, pixels_apart}
 use Rattle.quilt_points.proofs.plans.Scatters.{grown_none, grown_next, entries_apart}
+use Rattle.quilt_points.proofs.Bounds.{reads_none, times_most, blocks_next, blocks_all}
 use Rattle.quilt_points.proofs.scattering.grown.Goals as goal
 
 pub loop-done-init : goal.loop-done-init
@@ -19,6 +20,7 @@ loop-done-init g c = record {
       (subst (IsGrown c.args.layer.level c.args.layer.number c.args.layer.bucket old [] c.args.news.now []) (sym c.new-2.ensures.items)
       (grown_none c.args.layer.level c.args.layer.number c.args.layer.bucket old c.args.news.now));
   most = omega arith;
+  reads = reads_none ((12 + 3 * c.args.layer.bucket) * 0) _;
   left = only_reads_same _ tt _ (g.met.S.PageStore.same_time _);
 }
 
@@ -68,6 +70,8 @@ loop-done-preserved g c =
           c.add_block.new.growth.without.items c.add_block.new.growth.with.items c.in-Ok-Some.count (c.loop-done.invariant.grown old h) t some
           (omega arith) alone));
       most = omega arith;
+      reads = blocks_next (12 + 3 * c.args.layer.bucket) c.loop-done.done c.in-Ok-Some.count _ _ _ some c.loop-done.invariant.reads
+          c.in-Ok-Some.ensures.reads;
       left = read_on _ g.met.S.PageStore.goes_on _ _ _ c.loop-done.invariant.left c.in-Ok-Some.ensures.left;
     }
 
@@ -84,3 +88,12 @@ returns-in-Err-clause-left g c = only_reads_err _ (only_reads_then _ g.met.S.Pag
 
 pub returns-in-Ok-None-clause-left : goal.returns-in-Ok-None-clause-left
 returns-in-Ok-None-clause-left g c = only_reads_ok _ (only_reads_then _ g.met.S.PageStore.goes_on _ _ _ c.loop-done.invariant.left c.in-Ok-None.ensures.left) _
+
+pub returns-in-Ok-None-clause-reads : goal.returns-in-Ok-None-clause-reads
+returns-in-Ok-None-clause-reads g c =
+    times_most (12 + 3 * c.args.layer.bucket) c.loop-done.done (length c.args.news.now) _ _ _ c.loop-done-test.true c.loop-done.invariant.reads
+    c.in-Ok-None.ensures.reads
+
+pub returns-clause-reads : goal.returns-clause-reads
+returns-clause-reads g c =
+    blocks_all (12 + 3 * c.args.layer.bucket) c.loop-done.done (length c.args.news.now) _ _ c.loop-done.invariant.most c.loop-done.invariant.reads

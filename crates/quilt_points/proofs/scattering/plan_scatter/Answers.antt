@@ -1,7 +1,9 @@
-use Rattle.std.proofs.Common.{◌≡◌, ◌<◌, ◌^◌, true, [], List, refl, sym, subst, arith, All, Contains}
+use Rattle.std.proofs.Common.{◌≡◌, ℕ, ◌+◌, ◌*◌, ◌<◌, ◌≤◌, ◌^◌, ◌∙◌, ap, length, true, [], List, refl, sym, subst, arith, All, Contains}
 use Rattle.std.specs.FinMap as finmap
 use Rattle.std.specs.List.Sorted.{IsPermutation}
-use Rattle.std.proofs.lemmas.List.Sorted.{All-permutation}
+use Rattle.std.proofs.lemmas.List.Sorted.{All-permutation, length_permutation}
+use Rattle.quilt_world.specs.Tale.{Goes}
+use Rattle.quilt_points.proofs.Bounds.{reads_none}
 use Rattle.quilt_types.specs.declared.plane.Point.{Point}
 use Rattle.quilt_types.specs.Plane.{is_pixel}
 use Rattle.quilt_edits.proofs.Ascents.{permuted}
@@ -81,3 +83,22 @@ returns-clause-none g c old h = (
       [] c.in-Ok-Some-grown.growth.without.items c.in-Ok-Some-grown.growth.with.items) c.deref.ensures.value
       (if_some_at c.in-Ok-Some-grown.field-0 _ c.in-Ok-Some-grown.growth c.in-Ok-Some-grown.field-0-is c.in-Ok-Some-grown.ensures.grown old h)))),
 )
+
+pub returns-in-Ok-None-clause-reads : goal.returns-in-Ok-None-clause-reads
+returns-in-Ok-None-clause-reads g c = reads_none ((12 + 3 * c.args.bucket) * length c.args.points.now) (g.S.PageStore.reads c.args.store.now)
+
+pub returns-in-Ok-None-grown-clause-reads : goal.returns-in-Ok-None-grown-clause-reads
+returns-in-Ok-None-grown-clause-reads g c =
+    subst (λ (n : ℕ). Goes {A = ℕ} (λ old new. new ≤ old + (12 + 3 * c.args.bucket) * n) (g.S.PageStore.reads c.args.store.now)
+    (g.S.PageStore.reads c.grown.new.store)) (ap length c.deref.ensures.value
+    ∙ length_permutation _ _ (subst (λ (l : List Point). IsPermutation l c.in-Ok-Some.news.items) c.items.ensures
+    (if_some_at c.in-Ok-Some.field-0 _ c.in-Ok-Some.news c.in-Ok-Some.field-0-is c.in-Ok-Some.ensures.same)))
+    c.in-Ok-None-grown.ensures.reads
+
+pub returns-clause-reads : goal.returns-clause-reads
+returns-clause-reads g c =
+    subst (λ (n : ℕ). Goes {A = ℕ} (λ old new. new ≤ old + (12 + 3 * c.args.bucket) * n) (g.S.PageStore.reads c.args.store.now)
+    (g.S.PageStore.reads c.grown.new.store)) (ap length c.deref.ensures.value
+    ∙ length_permutation _ _ (subst (λ (l : List Point). IsPermutation l c.in-Ok-Some.news.items) c.items.ensures
+    (if_some_at c.in-Ok-Some.field-0 _ c.in-Ok-Some.news c.in-Ok-Some.field-0-is c.in-Ok-Some.ensures.same)))
+    c.in-Ok-Some-grown.ensures.reads

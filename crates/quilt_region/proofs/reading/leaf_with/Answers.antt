@@ -1,5 +1,9 @@
-use Rattle.std.proofs.Common.{◌≡◌, true, false, sym, ◌∙◌, ap, subst, List, Contains, arith}
+use Rattle.std.proofs.Common.{◌≡◌, true, false, Option, Some, None, sym, ◌∙◌, ap, subst, List, Contains, arith}
+use Rattle.std.specs.Prelude.{IfSome, unwrap_or}
+use Rattle.quilt_record.specs.declared.key.Key.{Key}
 use Rattle.quilt_record.specs.declared.record.Record.{Record}
+use Rattle.quilt_btree.specs.Lists.{floor_of}
+use Rattle.quilt_region.specs.Regions.{leaf_record}
 use Rattle.quilt_btree.specs.Trees.{IsTree}
 use Rattle.quilt_btree.specs.Floors.{floor_pages, HoldsFirst, ReadsNone}
 use Rattle.quilt_types.specs.Plane.{in_block}
@@ -12,6 +16,10 @@ use Rattle.quilt_region.proofs.reading.leaf_with.Goals as goal
 
 false_true : false ≡ true → ⊥
 false_true e = cc
+
+is_there : (o : Option Leaf) (l : Leaf) (P : Leaf → Type 0) → o ≡ Some l → IfSome o P → P l
+is_there None l P e h = absurd (none_some l e)
+is_there (Some k) l P e h = subst P (ap (λ (o : Option Leaf). unwrap_or o l) e) h
 
 pub key_with-k-requires-clause-in_x : goal.key_with-k-requires-clause-in_x
 key_with-k-requires-clause-in_x g c = let m = side_most c.args.level c.requires.level.1 in let x = c.requires.in_x in omega arith
@@ -102,3 +110,9 @@ returns-in-Some-clause-held g c =
     → HoldsFirst (λ pages. floor_pages pages k c.args.tree.now.height c.args.tree.now.root) (g.S.PageStore.told c.args.store.now)
     (g.S.PageStore.held c.args.store.now) (g.S.PageStore.held c.floor.new.store))
     c.key_with-k.ensures c.in-Ok-Some.ensures.held
+
+pub returns-in-Some-clause-row : goal.returns-in-Some-clause-row
+returns-in-Some-clause-row g c rs is =
+    sym (c.in-Ok-Some.ensures.floor rs is ∙ ap (λ (k : Key). floor_of k rs) c.key_with-k.ensures) ∙ c.in-Ok-Some.field-0-is
+    ∙ ap (λ (r : Record). Some r) (is_there c.leaf_of.result c.in-Some.leaf (λ l. c.in-Ok-Some.r ≡ leaf_record c.args.level c.args.layer (pair_of l)) c.in-Some.is
+    c.leaf_of.ensures.record)
