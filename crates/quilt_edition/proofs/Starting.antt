@@ -1,5 +1,5 @@
 -- What a book that was just opened keeps.
-use Rattle.std.proofs.Common.{inl, inr, ◌+◌, length, ◌≡◌, ℕ, ◌<◌, ◌≤◌, List, [], Option, Some, None, get_or, sym, ◌∙◌, ap, subst, arith}
+use Rattle.std.proofs.Common.{inl, inr, ◌+◌, length, ◌≡◌, ℕ, ◌<◌, ◌≤◌, List, [], Option, Some, None, get_or, refl, sym, ◌∙◌, ap, subst, arith}
 use Rattle.std.specs.Option.{IfSome}
 use Rattle.quilt_world.specs.Disk.{Pages}
 use Rattle.quilt_world.specs.Tale.{Tale, Goes}
@@ -18,13 +18,13 @@ use Rattle.quilt_edition.specs.Keeping.{IsBook, IsKeptBy}
 use Rattle.std.proofs.lemmas.Bool.{cases_lt}
 use Rattle.std.proofs.lemmas.List.{append-nil}
 use Rattle.quilt_world.specs.Home.{home}
-use Rattle.quilt_world.specs.Tale.{Adds}
+use Rattle.quilt_world.specs.Tale.{Adds, IsConsistent}
 use Rattle.quilt_world.proofs.StopLaws.{same_file, since_nothing}
-use Rattle.quilt_journal.specs.Beginning.{Redoes, redo_count}
+use Rattle.quilt_journal.specs.Beginning.{NoneFree, Redoes, redo_count}
 use Rattle.quilt_journal.specs.Kept.{HasHome}
 use Rattle.quilt_journal.specs.Writing.{Writing}
-use Rattle.quilt_journal.proofs.RedoSteps.{Read}
-use Rattle.quilt_journal.proofs.Writes.{writing_both, writing_more, writing_nothing}
+use Rattle.quilt_journal.proofs.RedoSteps.{Read, whole_seen, untouched_first, untouched_redone}
+use Rattle.quilt_journal.proofs.Writes.{writing_both, writing_more, writing_none, writing_nothing}
 use Rattle.quilt_node.specs.Nodes.{HeadFits}
 use Rattle.quilt_node.specs.Pages.{IsHead}
 use Rattle.quilt_world.specs.Causes.{next_count}
@@ -160,3 +160,11 @@ pub goes_redone : (a b c : Option Tale) → Goes Redoes a b → Goes (Adds []) b
 goes_redone a b c redone nothing counts =
     goes_then Redoes Read Redoes a b c redone
     (goes_and (Adds []) (λ old new. (new.reads ≡ next_count old.reads) × (new.writes ≡ old.writes)) b c nothing counts) redoes_read
+
+-- a world to which nothing was done
+pub none_redoes : (o : Tale) → IsConsistent o → NoneFree o → Redoes o o
+none_redoes o so none = record {
+  map = λ pages file. untouched_redone pages o o (untouched_first pages o file (whole_seen o so none) (writing_none o));
+  other = λ other. record { file = record { start = refl; path = refl; was_there = refl }; log = sym (append-nil o.log); input = refl };
+  alone = writing_more 0 (length o.start) o o (omega arith) (writing_none o);
+}

@@ -54,6 +54,12 @@ module _ {W : Type 0} {D : disk.Ghosts W} where
   AnswersBy before now old new (NotMap world) = Goes IsNoMapFile old new
   AnswersBy before now old new (Stopped world stop) = StopCause stop before now old new
 
+  -- where memory was wanted, no call of the device was made: the world is the one that was handed in
+  abbrev pub WantsFirst : W → Started W D → Type 0
+  WantsFirst before (Ready book) = Unit {0}
+  WantsFirst before (NotMap world) = Unit {0}
+  WantsFirst before (Stopped world stop) = stop ≡ stops.Memory → world ≡ before
+
   -- a book that was just opened: nothing is changed, the work is the last edition, no page is free, and the pool is empty
   abbrev pub Fresh : ℕ → Started W D → Type 0
   Fresh pool (Ready book) = IsReady book × (book.work ≡ book.last) × (book.journal.changed ≡ replicate book.journal.pages false)

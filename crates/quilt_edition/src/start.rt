@@ -22,9 +22,10 @@ pub enum Started<W: Disk> {
 }
 
 impl<W: Disk> Book<W> {
-    ghost use Rattle.quilt_edition.specs.Starting.{world_in, AnswersBy, Fresh};
+    ghost use Rattle.quilt_edition.specs.Starting.{world_in, AnswersBy, Fresh, WantsFirst};
 
-    /// Opens the book of a file, over a pool of 8 to 4096 pages. An open gate is carried home before the header is read.
+    /// Opens the book of a file, over a pool of 8 to 4096 pages, whose memory is taken before the device is called. An open gate is carried
+    /// home before the header is read.
     pub fn begin(alloc: Global, mut world: W, pool: u32) -> Started<W>
         requires pool { (8 ≤ pool) × (pool ≤ 4096) }
         requires whole { IfSome (W.told world) NoneFree }
@@ -34,17 +35,21 @@ impl<W: Disk> Book<W> {
         ensures fresh { Fresh pool result }
         ensures cause { AnswersBy (W.faults world) (W.faults (world_in result)) (W.told world) (W.told (world_in result)) result }
 
+        // So no fault of the device is told as want of memory.
+        ensures memory { WantsFirst world result }
+
         // At each event a stop leaves the home pages that the disk had.
         ensures crash { Goes Redoes (W.told world) (W.told (world_in result)) }
     {
-        let Ok(begun) = Journal::begin(&mut world) else {
-            return Started::Stopped(world, Stop::Device);
+        let Ok(empty) = Pool::new(alloc, pool) else {
+            return Started::Stopped(world, Stop::Memory);
+        };
+        let begun = match Journal::begin(&mut world) {
+            Ok(begun) => begun,
+            Err(_) => return Started::Stopped(world, Stop::Device),
         };
         let Begun::Journal(journal) = begun else {
             return Started::NotMap(world);
-        };
-        let Ok(empty) = Pool::new(alloc, pool) else {
-            return Started::Stopped(world, Stop::Memory);
         };
         let mut page = [0; 4096];
         let Ok(()) = journal.read_page(&mut world, 0, &mut page) else {

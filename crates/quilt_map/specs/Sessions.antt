@@ -122,6 +122,14 @@ module _ {W : Type 0} {D : disk.Ghosts W} where
   unfoldable pub level_of : Session W D → ℕ
   level_of s = s.book.last.level
 
+  -- what the last edition's header says, with the tree of the work
+  unfoldable pub head_of : Session W D → Head
+  head_of s = s.book.work
+
+  -- no publish has failed behind its first write
+  unfoldable pub IsReady : Session W D → Type 0
+  IsReady s = books.IsReady s.book
+
   -- how many records were removed and added since the file was opened or since the last edition or revert
   unfoldable pub changes_of : Session W D → ℕ
   changes_of s = s.changes

@@ -40,6 +40,27 @@ abbrev pub goes_back : Command → Bool
 goes_back commands.Revert = true
 goes_back command = false
 
+-- the commands that ask, and leave the work as it is
+abbrev pub asks : Command → Bool
+asks commands.Layers = true
+asks commands.Records = true
+asks commands.Edition = true
+asks (commands.Blocks a) = true
+asks (commands.At a p) = true
+asks (commands.Show a w) = true
+asks (commands.Leaves a) = true
+asks (commands.Area a c) = true
+asks (commands.Perimeter a c) = true
+asks (commands.Find p at) = true
+asks (commands.Within p w) = true
+asks (commands.Cross l w) = true
+asks (commands.Clip l w) = true
+asks (commands.Nearest l at) = true
+asks (commands.Rank l at k) = true
+asks (commands.Over l a) = true
+asks (commands.Crossings l m) = true
+asks command = false
+
 -- how many records were changed since the last edition or revert, after a command
 abbrev pub changes_after : State → Command → ℕ → ℕ
 changes_after s command changed =

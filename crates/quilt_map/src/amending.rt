@@ -4,6 +4,7 @@ ghost use Rattle.quilt_store.specs.Stops.{HasStopCause, IsSound};
 ghost use Rattle.quilt_edition.specs.Books as books;
 ghost use Rattle.quilt_replies.specs.Answers.{State, Done};
 ghost use Rattle.quilt_replies.specs.Runs.{text_of};
+ghost use Rattle.quilt_map.specs.Commanding.{Refuses};
 ghost use Rattle.quilt_map.specs.Making.{AnsweredBy, placed};
 ghost use Rattle.quilt_map.specs.Planning.{IsAmendment};
 ghost use Rattle.quilt_map.specs.Sessions.{IsAtState};
@@ -23,6 +24,7 @@ impl<W: World> Session<W> {
             → AnsweredBy s (placed s name layer) self.old self.new reply) }
         ensures sound { IfErr result (λ e. (s : State) (at : IsAtState self.old s) (name : List ℕ) (number : ℕ) (layer : Layer) →
             IsAmendment s at.work.numbers self.old.catalog name number layer edits.now.remove edits.now.add → IsSound e) }
+        ensures refused { IfOk result (Refuses self.old self.new) }
         ensures goes_on { books.GoesOn self.old.book self.new.book }
         ensures cause { HasStopCause (W.faults (books.world_of self.old.book)) (W.faults (books.world_of self.new.book)) result }
     {

@@ -3,7 +3,7 @@ ghost use Rattle.quilt_words.specs.declared.command.Command.TheVariants as comma
 ghost use Rattle.quilt_store.specs.Stops.{HasStopCause, IsSound};
 ghost use Rattle.quilt_edition.specs.Books as books;
 ghost use Rattle.quilt_replies.specs.Answers.{State};
-ghost use Rattle.quilt_map.specs.Commanding.{Answered};
+ghost use Rattle.quilt_map.specs.Commanding.{Answered, Refuses};
 ghost use Rattle.quilt_map.specs.Sessions.{IsAtState};
 
 use crate::making::{listed, new_entry};
@@ -26,6 +26,7 @@ impl<W: World> Session<W> {
         ensures answer { IfOk result (λ reply. (s : State) → IsAtState self.old s → 1 ≤ bucket → bucket ≤ 16
             → Answered s (commands.Points name.now bucket) self.old self.new reply) }
         ensures sound { IfErr result (λ e. (s : State) → IsAtState self.old s → 1 ≤ bucket → bucket ≤ 16 → IsSound e) }
+        ensures refused { IfOk result (Refuses self.old self.new) }
         ensures goes_on { books.GoesOn self.old.book self.new.book }
         ensures cause { HasStopCause (W.faults (books.world_of self.old.book)) (W.faults (books.world_of self.new.book)) result }
     {
@@ -52,6 +53,7 @@ impl<W: World> Session<W> {
         requires threshold { (1 ≤ t) × (t ≤ 32) }
         ensures answer { IfOk result (λ reply. (s : State) → IsAtState self.old s → Answered s (commands.Lines name.now t) self.old self.new reply) }
         ensures sound { IfErr result (λ e. (s : State) → IsAtState self.old s → IsSound e) }
+        ensures refused { IfOk result (Refuses self.old self.new) }
         ensures goes_on { books.GoesOn self.old.book self.new.book }
         ensures cause { HasStopCause (W.faults (books.world_of self.old.book)) (W.faults (books.world_of self.new.book)) result }
     {

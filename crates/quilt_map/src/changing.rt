@@ -39,6 +39,7 @@ impl<W: World> Session<W> {
             HasChanged done self.old self.new s name layer entries) }
         ensures sound { IfErr result (λ e. (s : State) (at : IsAtState self.old s) (name : List ℕ) (number : ℕ) (layer : Option Layer) →
             IsPlan s at.work.numbers name number layer removed.now added.now → IsSound e) }
+        ensures full { IfOk result (λ done. done ≡ false → self.new ≡ self.old) }
         ensures goes_on { books.GoesOn self.old.book self.new.book }
         ensures used { books.published_free self.new.book ≡ books.published_free self.old.book }
         ensures catalogs { (self.new.catalog ≡ self.old.catalog) × (self.new.last ≡ self.old.last) }

@@ -7,7 +7,7 @@ ghost use Rattle.quilt_btree.specs.Trees.{IsTree};
 ghost use Rattle.quilt_edition.specs.Books as books;
 ghost use Rattle.quilt_replies.specs.Answers.{State};
 ghost use Rattle.quilt_map.specs.Asking.{IsStill};
-ghost use Rattle.quilt_map.specs.Commanding.{Answered};
+ghost use Rattle.quilt_map.specs.Commanding.{Answered, Refuses};
 ghost use Rattle.quilt_map.specs.Copying.{IsListed, records_of};
 ghost use Rattle.quilt_map.specs.Sessions.{IsAtState, told_of, tree_in};
 
@@ -127,6 +127,7 @@ impl<W: World> Session<W> {
     pub(crate) fn drop_layer(&mut self, name: &Name) -> Result<Reply, Stop>
         ensures answer { IfOk result (λ reply. (s : State) → IsAtState self.old s → Answered s (commands.Drop name.now) self.old self.new reply) }
         ensures sound { IfErr result (λ e. (s : State) → IsAtState self.old s → IsSound e) }
+        ensures refused { IfOk result (Refuses self.old self.new) }
         ensures goes_on { books.GoesOn self.old.book self.new.book }
         ensures cause { HasStopCause (W.faults (books.world_of self.old.book)) (W.faults (books.world_of self.new.book)) result }
     {
@@ -160,6 +161,7 @@ impl<W: World> Session<W> {
     pub(crate) fn copy_layer(&mut self, name: &Name, other: &Name) -> Result<Reply, Stop>
         ensures answer { IfOk result (λ reply. (s : State) → IsAtState self.old s → Answered s (commands.Copy name.now other.now) self.old self.new reply) }
         ensures sound { IfErr result (λ e. (s : State) → IsAtState self.old s → IsSound e) }
+        ensures refused { IfOk result (Refuses self.old self.new) }
         ensures goes_on { books.GoesOn self.old.book self.new.book }
         ensures cause { HasStopCause (W.faults (books.world_of self.old.book)) (W.faults (books.world_of self.new.book)) result }
     {

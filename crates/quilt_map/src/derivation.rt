@@ -6,7 +6,7 @@ ghost use Rattle.quilt_region.specs.Regions.{HasRegion};
 ghost use Rattle.quilt_edition.specs.Books as books;
 ghost use Rattle.quilt_replies.specs.Answers.{State};
 ghost use Rattle.quilt_map.specs.Asking.{IsStill};
-ghost use Rattle.quilt_map.specs.Commanding.{Answered};
+ghost use Rattle.quilt_map.specs.Commanding.{Answered, Refuses};
 ghost use Rattle.quilt_map.specs.Derivation.{layers_derived, derived, is_inside};
 ghost use Rattle.quilt_map.specs.Making.{AnsweredBy, placed};
 ghost use Rattle.quilt_map.specs.Painting.{IsRegionIn};
@@ -90,6 +90,7 @@ impl<W: World> Session<W> {
             → AnsweredBy s (placed s into.now (Region (derived command.now s.last.level g))) self.old self.new reply) }
         ensures sound { IfErr result (λ e. (s : State) → IsAtState self.old s → (name : List ℕ) (g : Grid) → IsRegionIn s.work self.old.catalog name number g →
             IsFitting s.last.format s.last.level command.now → IsSound e) }
+        ensures refused { IfOk result (Refuses self.old self.new) }
         ensures goes_on { books.GoesOn self.old.book self.new.book }
         ensures cause { HasStopCause (W.faults (books.world_of self.old.book)) (W.faults (books.world_of self.new.book)) result }
     {
@@ -114,6 +115,7 @@ impl<W: World> Session<W> {
         ensures answer { IfOk result (λ reply. (s : State) → IsAtState self.old s → IsFitting s.last.format s.last.level command.now
             → Answered s command.now self.old self.new reply) }
         ensures sound { IfErr result (λ e. (s : State) → IsAtState self.old s → IsFitting s.last.format s.last.level command.now → IsSound e) }
+        ensures refused { IfOk result (Refuses self.old self.new) }
         ensures goes_on { books.GoesOn self.old.book self.new.book }
         ensures cause { HasStopCause (W.faults (books.world_of self.old.book)) (W.faults (books.world_of self.new.book)) result }
     {

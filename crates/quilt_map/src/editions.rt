@@ -2,7 +2,7 @@ ghost use Rattle.std.specs.Prelude.{◌≡◌, ℕ, ◌+◌, ◌*◌, ◌<◌, �
 ghost use Rattle.quilt_types.specs.declared.stop.Stop.TheVariants as stops;
 ghost use Rattle.quilt_types.specs.Layers.{Edition};
 ghost use Rattle.quilt_world.specs.Tale.{Goes};
-ghost use Rattle.quilt_store.specs.Stops.{HasStopCause, IsSound};
+ghost use Rattle.quilt_store.specs.Stops.{HasStopCause};
 ghost use Rattle.quilt_journal.specs.Writing.{Writing};
 ghost use Rattle.quilt_edition.specs.Books as books;
 ghost use Rattle.quilt_replies.specs.Answers.{State};
@@ -17,9 +17,11 @@ use quilt_world::{Disk, Fault, World};
 impl<W: World> Session<W> {
     /// Makes the work the next edition, in the format of the work's header. After an Err the session is only given up.
     pub(crate) fn renew(&mut self) -> Result<(), Stop>
-        requires { (books.last_of self.old.book).edition < 4294967295 }
+        requires ready { books.IsReady self.old.book }
+        requires number { (books.last_of self.old.book).edition < 4294967295 }
         ensures renewed { OnOk result ((s : State) (e : Edition) → CanPublish self.old s e → IsRenewed self.new s e) }
-        ensures sound { IfErr result IsSound }
+        ensures ready { OnOk result (books.IsReady self.new.book) }
+        ensures failed { IfErr result (λ stop. stop ≡ stops.Device) }
         ensures level { OnOk result ((books.last_of self.new.book).level ≡ (books.work_of self.old.book).level) }
         ensures crash { (s : State) (e : Edition) → CanPublish self.old s e
             → Goes (LeavesEither s.last e) (W.told (books.world_of self.old.book)) (W.told (books.world_of self.new.book)) }
@@ -28,11 +30,7 @@ impl<W: World> Session<W> {
         ensures events { Goes (λ old new. (most : ℕ) × Writing most old new) (W.told (books.world_of self.old.book)) (W.told (books.world_of self.new.book)) }
         ensures door { W.door (books.world_of self.new.book) ≡ W.door (books.world_of self.old.book) }
         ensures cause { HasStopCause (W.faults (books.world_of self.old.book)) (W.faults (books.world_of self.new.book)) result }
-        ensures quiet { IfErr result (λ stop. stop ≡ stops.Memory → books.world_of self.new.book ≡ books.world_of self.old.book) }
     {
-        if !self.book.is_ready() {
-            return Err(Stop::Memory);
-        }
         let Ok(_) = self.book.publish() else {
             return Err(Stop::Device);
         };

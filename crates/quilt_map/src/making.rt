@@ -10,6 +10,7 @@ ghost use Rattle.quilt_spell.specs.Written.{IsNumbering};
 ghost use Rattle.quilt_region.specs.Regions.{region_records};
 ghost use Rattle.quilt_edition.specs.Books as books;
 ghost use Rattle.quilt_replies.specs.Answers.{State, Done};
+ghost use Rattle.quilt_map.specs.Commanding.{Refuses};
 ghost use Rattle.quilt_map.specs.Making.{AnsweredBy, placed};
 ghost use Rattle.quilt_map.specs.Planning.{IsPlan};
 ghost use Rattle.quilt_replies.specs.Runs.{text_of};
@@ -77,6 +78,7 @@ impl<W: World> Session<W> {
             IsPlan s at.work.numbers entry.name entry.number (Some layer) [] records.now → AnsweredBy s (placed s entry.name layer) self.old self.new reply) }
         ensures sound { IfErr result (λ e. (s : State) (at : IsAtState self.old s) (layer : Layer)
             → IsPlan s at.work.numbers entry.name entry.number (Some layer) [] records.now → IsSound e) }
+        ensures refused { IfOk result (Refuses self.old self.new) }
         ensures goes_on { books.GoesOn self.old.book self.new.book }
         ensures cause { HasStopCause (W.faults (books.world_of self.old.book)) (W.faults (books.world_of self.new.book)) result }
     {
@@ -99,6 +101,7 @@ impl<W: World> Session<W> {
             AnsweredBy s (placed s name.now (Region list.now.grid)) self.old self.new reply) }
         ensures sound { IfErr result (λ e. (s : State) → IsAtState self.old s → list.now.level ≡ s.last.level
             → IsGrid s.last.format s.last.level list.now.grid → IsSound e) }
+        ensures refused { IfOk result (Refuses self.old self.new) }
         ensures goes_on { books.GoesOn self.old.book self.new.book }
         ensures cause { HasStopCause (W.faults (books.world_of self.old.book)) (W.faults (books.world_of self.new.book)) result }
     {

@@ -7,7 +7,7 @@ ghost use Rattle.quilt_overlay.specs.Combining.{overlaid};
 ghost use Rattle.quilt_edition.specs.Books as books;
 ghost use Rattle.quilt_replies.specs.Answers.{State};
 ghost use Rattle.quilt_map.specs.Asking.{IsRegionAt};
-ghost use Rattle.quilt_map.specs.Commanding.{Answered};
+ghost use Rattle.quilt_map.specs.Commanding.{Answered, Refuses};
 ghost use Rattle.quilt_map.specs.Making.{AnsweredBy, placed};
 ghost use Rattle.quilt_map.specs.Overlaying.{overlay_command, AreRefusedFirst};
 ghost use Rattle.quilt_map.specs.Painting.{IsRegionIn};
@@ -55,6 +55,7 @@ impl<W: World> Session<W> {
             AnsweredBy s (placed s into.now (Region (overlaid op s.last.level g h))) self.old self.new reply) }
         ensures sound { IfErr result (λ e. (s : State) → IsAtState self.old s → (a b : List ℕ) (g h : Grid) →
             IsRegionIn s.work self.old.catalog a first g → IsRegionIn s.work self.old.catalog b second h → IsSound e) }
+        ensures refused { IfOk result (Refuses self.old self.new) }
         ensures goes_on { books.GoesOn self.old.book self.new.book }
         ensures cause { HasStopCause (W.faults (books.world_of self.old.book)) (W.faults (books.world_of self.new.book)) result }
     {
@@ -75,6 +76,7 @@ impl<W: World> Session<W> {
         ensures answer { IfOk result (λ reply. (s : State) → IsAtState self.old s
             → Answered s (overlay_command op a.now b.now into.now) self.old self.new reply) }
         ensures sound { IfErr result (λ e. (s : State) → IsAtState self.old s → IsSound e) }
+        ensures refused { IfOk result (Refuses self.old self.new) }
         ensures goes_on { books.GoesOn self.old.book self.new.book }
         ensures cause { HasStopCause (W.faults (books.world_of self.old.book)) (W.faults (books.world_of self.new.book)) result }
     {

@@ -7,7 +7,7 @@ ghost use Rattle.quilt_store.specs.Stops.{HasStopCause, IsSound};
 ghost use Rattle.quilt_edition.specs.Books as books;
 ghost use Rattle.quilt_replies.specs.Answers.{State, layer as layer_of, capacity_in};
 ghost use Rattle.quilt_map.specs.Asking.{KeepsAll, reads_in};
-ghost use Rattle.quilt_map.specs.Commanding.{Answered};
+ghost use Rattle.quilt_map.specs.Commanding.{Answered, Refuses};
 ghost use Rattle.quilt_map.specs.Making.{AnsweredBy};
 ghost use Rattle.quilt_map.specs.PointLayers.{IsPointsIn, points_put, points_del};
 ghost use Rattle.quilt_map.specs.Sessions.{IsAtState};
@@ -30,6 +30,7 @@ impl<W: World> Session<W> {
             AnsweredBy s (points_put s name layer.bucket points at label) self.old self.new reply) }
         ensures sound { IfErr result (λ e. (s : State) → IsAtState self.old s → (name : List ℕ) (points : PointMap)
             → IsPointsIn s.work self.old.catalog name layer points → IsSound e) }
+        ensures refused { IfOk result (Refuses self.old self.new) }
         ensures goes_on { books.GoesOn self.old.book self.new.book }
         ensures cause { HasStopCause (W.faults (books.world_of self.old.book)) (W.faults (books.world_of self.new.book)) result }
     {
@@ -47,6 +48,7 @@ impl<W: World> Session<W> {
     pub(crate) fn put_point(&mut self, name: &Name, at: Pixel, label: u32) -> Result<Reply, Stop>
         ensures answer { IfOk result (λ reply. (s : State) → IsAtState self.old s → Answered s (commands.Put name.now at label) self.old self.new reply) }
         ensures sound { IfErr result (λ e. (s : State) → IsAtState self.old s → IsSound e) }
+        ensures refused { IfOk result (Refuses self.old self.new) }
         ensures goes_on { books.GoesOn self.old.book self.new.book }
         ensures cause { HasStopCause (W.faults (books.world_of self.old.book)) (W.faults (books.world_of self.new.book)) result }
     {
@@ -70,6 +72,7 @@ impl<W: World> Session<W> {
             AnsweredBy s (points_del s name layer.bucket points at) self.old self.new reply) }
         ensures sound { IfErr result (λ e. (s : State) → IsAtState self.old s → (name : List ℕ) (points : PointMap)
             → IsPointsIn s.work self.old.catalog name layer points → IsSound e) }
+        ensures refused { IfOk result (Refuses self.old self.new) }
         ensures goes_on { books.GoesOn self.old.book self.new.book }
         ensures cause { HasStopCause (W.faults (books.world_of self.old.book)) (W.faults (books.world_of self.new.book)) result }
     {
@@ -88,6 +91,7 @@ impl<W: World> Session<W> {
     pub(crate) fn del_point(&mut self, name: &Name, at: Pixel) -> Result<Reply, Stop>
         ensures answer { IfOk result (λ reply. (s : State) → IsAtState self.old s → Answered s (commands.Del name.now at) self.old self.new reply) }
         ensures sound { IfErr result (λ e. (s : State) → IsAtState self.old s → IsSound e) }
+        ensures refused { IfOk result (Refuses self.old self.new) }
         ensures goes_on { books.GoesOn self.old.book self.new.book }
         ensures cause { HasStopCause (W.faults (books.world_of self.old.book)) (W.faults (books.world_of self.new.book)) result }
     {

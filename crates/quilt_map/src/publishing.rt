@@ -1,4 +1,4 @@
-ghost use Rattle.std.specs.Prelude.{◌≡◌, ℕ, ◌+◌, ◌*◌, IfOk, IfErr, OnOk};
+ghost use Rattle.std.specs.Prelude.{◌≡◌, ℕ, ◌+◌, ◌*◌, IfOk, IfErr, OnOk, OnErr};
 ghost use Rattle.quilt_types.specs.declared.stop.Stop.TheVariants as stops;
 ghost use Rattle.quilt_world.specs.Tale.{Goes};
 ghost use Rattle.quilt_words.specs.declared.command.Command.TheVariants as commands;
@@ -6,7 +6,7 @@ ghost use Rattle.quilt_store.specs.Stops.{HasStopCause, IsSound};
 ghost use Rattle.quilt_journal.specs.Writing.{Writing};
 ghost use Rattle.quilt_edition.specs.Books as books;
 ghost use Rattle.quilt_replies.specs.Answers.{State};
-ghost use Rattle.quilt_map.specs.Commanding.{Answered};
+ghost use Rattle.quilt_map.specs.Commanding.{Answered, Refuses};
 ghost use Rattle.quilt_map.specs.Sessions.{IsAtState};
 ghost use Rattle.quilt_map.specs.Steps.{Leaves};
 
@@ -19,7 +19,10 @@ use quilt_world::World;
 impl<W: World> Session<W> {
     /// Makes the work the next edition. The reply's memory is taken first, so want of memory finds nothing done.
     pub(crate) fn publish(&mut self) -> Result<Reply, Stop>
+        requires { books.IsReady self.old.book }
         ensures answer { IfOk result (λ reply. (s : State) → IsAtState self.old s → Answered s commands.Publish self.old self.new reply) }
+        ensures refused { IfOk result (Refuses self.old self.new) }
+        ensures ready { OnOk result (books.IsReady self.new.book) }
         ensures sound { IfErr result IsSound }
         ensures level { OnOk result ((books.last_of self.new.book).level ≡ (books.last_of self.old.book).level) }
         ensures crash { (s : State) → IsAtState self.old s
@@ -29,7 +32,7 @@ impl<W: World> Session<W> {
         ensures events { Goes (λ old new. (most : ℕ) × Writing most old new) (W.told (books.world_of self.old.book)) (W.told (books.world_of self.new.book)) }
         ensures door { W.door (books.world_of self.new.book) ≡ W.door (books.world_of self.old.book) }
         ensures cause { HasStopCause (W.faults (books.world_of self.old.book)) (W.faults (books.world_of self.new.book)) result }
-        ensures quiet { IfErr result (λ stop. stop ≡ stops.Memory → books.world_of self.new.book ≡ books.world_of self.old.book) }
+        ensures whole { IfErr result (λ stop. stop ≡ stops.Memory → self.new ≡ self.old) }
     {
         let number = self.book.head().edition;
         if number == u32::MAX {
@@ -46,7 +49,10 @@ impl<W: World> Session<W> {
 
     /// Makes the work the next edition, in format 2.
     pub(crate) fn upgrade(&mut self) -> Result<Reply, Stop>
+        requires { books.IsReady self.old.book }
         ensures answer { IfOk result (λ reply. (s : State) → IsAtState self.old s → Answered s commands.Upgrade self.old self.new reply) }
+        ensures refused { IfOk result (Refuses self.old self.new) }
+        ensures ready { OnOk result (books.IsReady self.new.book) }
         ensures sound { IfErr result IsSound }
         ensures level { OnOk result ((books.last_of self.new.book).level ≡ (books.last_of self.old.book).level) }
         ensures crash { (s : State) → IsAtState self.old s
@@ -56,7 +62,7 @@ impl<W: World> Session<W> {
         ensures events { Goes (λ old new. (most : ℕ) × Writing most old new) (W.told (books.world_of self.old.book)) (W.told (books.world_of self.new.book)) }
         ensures door { W.door (books.world_of self.new.book) ≡ W.door (books.world_of self.old.book) }
         ensures cause { HasStopCause (W.faults (books.world_of self.old.book)) (W.faults (books.world_of self.new.book)) result }
-        ensures quiet { IfErr result (λ stop. stop ≡ stops.Memory → books.world_of self.new.book ≡ books.world_of self.old.book) }
+        ensures whole { IfErr result (λ stop. stop ≡ stops.Memory → self.new ≡ self.old) }
     {
         let head = self.book.head();
         if head.format == 2 {
@@ -77,8 +83,11 @@ impl<W: World> Session<W> {
 
     /// Makes the work the last edition again. It calls no device.
     pub(crate) fn revert(&mut self) -> Result<Reply, Stop>
+        requires { books.IsReady self.old.book }
         ensures answer { IfOk result (λ reply. (s : State) → IsAtState self.old s → Answered s commands.Revert self.old self.new reply) }
         ensures memory { IfErr result IsSound }
+        ensures refused { IfOk result (Refuses self.old self.new) }
+        ensures whole { OnErr result (self.new ≡ self.old) }
         ensures world { books.world_of self.new.book ≡ books.world_of self.old.book }
         ensures cause { HasStopCause (W.faults (books.world_of self.old.book)) (W.faults (books.world_of self.new.book)) result }
         ensures goes_on { books.GoesOn self.old.book self.new.book }
@@ -86,9 +95,6 @@ impl<W: World> Session<W> {
         let Ok(text) = done_text(self.alloc) else {
             return Err(Stop::Memory);
         };
-        if !self.book.is_ready() {
-            return Err(Stop::Memory);
-        }
         self.book.revert();
         self.catalog = copy_of(&self.last);
         self.changes = 0;

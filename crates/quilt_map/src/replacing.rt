@@ -6,7 +6,7 @@ ghost use Rattle.quilt_store.specs.Stops.{HasStopCause, IsSound};
 ghost use Rattle.quilt_region.specs.Plans.{LeadsTo};
 ghost use Rattle.quilt_edition.specs.Books as books;
 ghost use Rattle.quilt_replies.specs.Answers.{State, Done};
-ghost use Rattle.quilt_map.specs.Commanding.{Answered};
+ghost use Rattle.quilt_map.specs.Commanding.{Answered, Refuses};
 ghost use Rattle.quilt_map.specs.Making.{AnsweredBy, placed};
 ghost use Rattle.quilt_map.specs.Painting.{IsRegionIn};
 ghost use Rattle.quilt_replies.specs.Runs.{text_of};
@@ -31,6 +31,7 @@ impl<W: World> Session<W> {
             IsGrid s.last.format s.last.level list.now.grid → AnsweredBy s (placed s name (Region list.now.grid)) self.old self.new reply) }
         ensures sound { IfErr result (λ e. (s : State) → IsAtState self.old s → (name : List ℕ) (g : Grid) → IsRegionIn s.work self.old.catalog name number g →
             IsGrid s.last.format s.last.level list.now.grid → IsSound e) }
+        ensures refused { IfOk result (Refuses self.old self.new) }
         ensures goes_on { books.GoesOn self.old.book self.new.book }
         ensures cause { HasStopCause (W.faults (books.world_of self.old.book)) (W.faults (books.world_of self.new.book)) result }
     {
@@ -55,6 +56,7 @@ impl<W: World> Session<W> {
         requires rows { IfSome rows.now (IsRows (books.work_of self.old.book).format (books.last_of self.old.book).level) }
         ensures answer { IfOk result (λ reply. (s : State) → IsAtState self.old s → Answered s (commands.Raster name.now rows.now) self.old self.new reply) }
         ensures sound { IfErr result (λ e. (s : State) → IsAtState self.old s → IsSound e) }
+        ensures refused { IfOk result (Refuses self.old self.new) }
         ensures goes_on { books.GoesOn self.old.book self.new.book }
         ensures cause { HasStopCause (W.faults (books.world_of self.old.book)) (W.faults (books.world_of self.new.book)) result }
     {

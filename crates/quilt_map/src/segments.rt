@@ -4,7 +4,7 @@ ghost use Rattle.quilt_words.specs.declared.command.Command.TheVariants as comma
 ghost use Rattle.quilt_store.specs.Stops.{HasStopCause, IsSound};
 ghost use Rattle.quilt_edition.specs.Books as books;
 ghost use Rattle.quilt_replies.specs.Answers.{State};
-ghost use Rattle.quilt_map.specs.Commanding.{Answered};
+ghost use Rattle.quilt_map.specs.Commanding.{Answered, Refuses};
 ghost use Rattle.quilt_map.specs.LineLayers.{IsLinesIn, segment_put, segment_taken};
 ghost use Rattle.quilt_map.specs.Making.{AnsweredBy};
 ghost use Rattle.quilt_map.specs.Sessions.{IsAtState};
@@ -35,6 +35,7 @@ impl<W: World> Session<W> {
             AnsweredBy now (segment_put now name layer.threshold segs cover id s) self.old self.new reply) }
         ensures sound { IfErr result (λ e. (now : State) → IsAtState self.old now → (name : List ℕ) (segs : SegMap) (cover : BlockSet) →
             IsLinesIn now.work self.old.catalog name layer segs cover → IsSound e) }
+        ensures refused { IfOk result (Refuses self.old self.new) }
         ensures goes_on { books.GoesOn self.old.book self.new.book }
         ensures cause { HasStopCause (W.faults (books.world_of self.old.book)) (W.faults (books.world_of self.new.book)) result }
     {
@@ -52,6 +53,7 @@ impl<W: World> Session<W> {
     pub(crate) fn line(&mut self, name: &Name, id: u32, s: Seg) -> Result<Reply, Stop>
         ensures answer { IfOk result (λ reply. (now : State) → IsAtState self.old now → Answered now (commands.Line name.now id s) self.old self.new reply) }
         ensures sound { IfErr result (λ e. (now : State) → IsAtState self.old now → IsSound e) }
+        ensures refused { IfOk result (Refuses self.old self.new) }
         ensures goes_on { books.GoesOn self.old.book self.new.book }
         ensures cause { HasStopCause (W.faults (books.world_of self.old.book)) (W.faults (books.world_of self.new.book)) result }
     {
@@ -73,6 +75,7 @@ impl<W: World> Session<W> {
             AnsweredBy s (segment_taken s name layer.threshold segs cover id) self.old self.new reply) }
         ensures sound { IfErr result (λ e. (s : State) → IsAtState self.old s → (name : List ℕ) (segs : SegMap) (cover : BlockSet) →
             IsLinesIn s.work self.old.catalog name layer segs cover → IsSound e) }
+        ensures refused { IfOk result (Refuses self.old self.new) }
         ensures goes_on { books.GoesOn self.old.book self.new.book }
         ensures cause { HasStopCause (W.faults (books.world_of self.old.book)) (W.faults (books.world_of self.new.book)) result }
     {
@@ -91,6 +94,7 @@ impl<W: World> Session<W> {
     pub(crate) fn unline(&mut self, name: &Name, id: u32) -> Result<Reply, Stop>
         ensures answer { IfOk result (λ reply. (s : State) → IsAtState self.old s → Answered s (commands.Unline name.now id) self.old self.new reply) }
         ensures sound { IfErr result (λ e. (s : State) → IsAtState self.old s → IsSound e) }
+        ensures refused { IfOk result (Refuses self.old self.new) }
         ensures goes_on { books.GoesOn self.old.book self.new.book }
         ensures cause { HasStopCause (W.faults (books.world_of self.old.book)) (W.faults (books.world_of self.new.book)) result }
     {

@@ -1,4 +1,4 @@
-ghost use Rattle.std.specs.Prelude.{◌≡◌, ℕ, ◌≤◌, false, List, Some, IfOk, IfErr, OnErr};
+ghost use Rattle.std.specs.Prelude.{◌≡◌, ℕ, ◌≤◌, true, false, List, Some, IfOk, IfErr, OnErr};
 ghost use Rattle.quilt_types.specs.declared.stop.Stop.TheVariants as stops;
 ghost use Rattle.quilt_types.specs.declared.plane.Pixel.{Pixel};
 ghost use Rattle.quilt_words.specs.Forms.{Spelled};
@@ -6,11 +6,11 @@ ghost use Rattle.quilt_words.specs.declared.command.Command.TheVariants as comma
 ghost use Rattle.quilt_store.specs.Stops.{HasStopCause, IsSound};
 ghost use Rattle.quilt_edition.specs.Books as books;
 ghost use Rattle.quilt_replies.specs.Answers.{State};
-ghost use Rattle.quilt_map.specs.Asking.{ReadsNothing};
-ghost use Rattle.quilt_map.specs.Commanding.{Answered, IsApplied, IsAppliedBy};
+ghost use Rattle.quilt_map.specs.Asking.{KeepsAll, ReadsNothing};
+ghost use Rattle.quilt_map.specs.Commanding.{Answered, IsApplied, IsAppliedBy, Refuses};
 ghost use Rattle.quilt_map.specs.Reading.{is_bounded, is_at, warm_left};
 ghost use Rattle.quilt_map.specs.Sessions.{IsAt, IsAtState, warm_of};
-ghost use Rattle.quilt_map.specs.Steps.{gives_edition, goes_back};
+ghost use Rattle.quilt_map.specs.Steps.{asks, gives_edition, goes_back};
 
 use crate::session::Session;
 use quilt_overlay::Op;
@@ -29,7 +29,8 @@ impl<W: World> Session<W> {
         gate: &G,
         command: &Command,
     ) -> Result<Reply, Stop>
-        requires { Spelled (books.work_of self.old.book).format (books.last_of self.old.book).level command.now }
+        requires ready { books.IsReady self.old.book }
+        requires spelled { Spelled (books.work_of self.old.book).format (books.last_of self.old.book).level command.now }
         ensures applied { IsApplied command.now self.old self.new result }
         ensures warm { self.new.warm ≡ warm_left command.now result }
         ensures again { (s : State) → IsAt self.old s → (name : List ℕ) (p : Pixel) → command.now ≡ commands.At name p
@@ -54,6 +55,7 @@ impl<W: World> Session<W> {
     ) -> Result<Reply, Stop>
         requires spelled { Spelled (books.work_of self.old.book).format (books.last_of self.old.book).level command.now }
         requires other { is_at command.now ≡ false }
+        requires ready { books.IsReady self.old.book }
         ensures { IsAppliedBy IsAtState command.now self.old self.new result }
     {
         match command {
@@ -83,6 +85,8 @@ impl<W: World> Session<W> {
         requires unbounded { is_bounded command.now ≡ false }
         ensures answer { IfOk result (λ reply. (s : State) → IsAtState self.old s → Answered s command.now self.old self.new reply) }
         ensures sound { IfErr result (λ e. (s : State) → IsAtState self.old s → IsSound e) }
+        ensures refused { IfOk result (Refuses self.old self.new) }
+        ensures keeps { asks command.now ≡ true → KeepsAll self.old self.new }
         ensures goes_on { books.GoesOn self.old.book self.new.book }
         ensures cause { HasStopCause (W.faults (books.world_of self.old.book)) (W.faults (books.world_of self.new.book)) result }
     {

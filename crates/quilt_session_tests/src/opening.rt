@@ -68,6 +68,9 @@ pub fn replied<R: Threads + Sync, G: Gate + Sync>(
     session: &mut Session<Calm>,
     text: &[u8],
 ) -> Option<Reply> {
+    if !session.is_ready() {
+        return None;
+    }
     let head = session.head();
     match command_of(alloc, head.format, head.level, text) {
         Ok(command) => session.apply(rt, gate, &command).ok(),

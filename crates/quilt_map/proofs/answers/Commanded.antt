@@ -1,6 +1,6 @@
 -- What the contracts of commands say of all commands.
-use Rattle.std.proofs.Common.{◌≡◌, inl, ℕ, ◌+◌, ◌*◌, true, false, List, [], ◌∷◌, Option, Some, None, is_some, Result, Ok, Err, IfOk, IfErr, OnOk, refl, sym}
-use Rattle.std.proofs.Common.{◌∙◌, ap, subst}
+use Rattle.std.proofs.Common.{◌≡◌, ◌⊎◌, inl, ℕ, ◌+◌, ◌*◌, ◌≤◌, Bool, true, false, ◌||◌, List, [], ◌∷◌, Option, Some, None, is_some, Result, Ok, Err, IfOk, IfErr, OnOk}
+use Rattle.std.proofs.Common.{OnErr, refl, sym, ◌∙◌, ap, subst}
 use Rattle.std.specs.List.{list_all}
 use Rattle.std.proofs.lemmas.Bool.{and_parts}
 use Rattle.quilt_types.specs.declared.plane.Pixel.{Pixel}
@@ -29,20 +29,23 @@ use Rattle.quilt_edition.specs.Books as books
 use Rattle.quilt_edition.specs.Keeping.{IsLater}
 use Rattle.quilt_edition.proofs.Steps.{seen_home}
 use Rattle.quilt_node.specs.declared.head.Head.{Head}
+use Rattle.quilt_record.specs.declared.entry.Entry.{Entry}
 use Rattle.quilt_replies.specs.Answers.{State, answer}
-use Rattle.quilt_map.specs.Commanding.{Answered, IsApplied, IsAppliedBy}
-use Rattle.quilt_map.specs.Asking.{reads_in}
+use Rattle.quilt_map.specs.Commanding.{Answered, IsApplied, IsAppliedBy, IsWholeBy, Refuses}
+use Rattle.quilt_map.specs.Asking.{KeepsAll, reads_in}
 use Rattle.quilt_map.specs.Reading.{IsPromised, ReadsFew}
-use Rattle.quilt_map.specs.Sessions.{IsAt, IsAtState, IsWarm, IsPublishedAs, world_of, level_of, changes_of, reads_of}
+use Rattle.quilt_map.specs.Sessions.{IsAt, IsAtState, IsReady, IsSpelled, IsWarm, IsPublishedAs, world_of, format_of, level_of, head_of, changes_of, reads_of}
+use Rattle.quilt_map.specs.Sessions.{free_of, changed_of, last_count}
 use Rattle.quilt_replies.specs.States.{Tells, IsRefusal, after}
-use Rattle.quilt_map.specs.Steps.{Leaves, StandsFor, WritesFew, changes_after, gives_edition, goes_back}
+use Rattle.quilt_map.specs.Steps.{Leaves, StandsFor, WritesFew, asks, changes_after, gives_edition, goes_back}
 use Rattle.quilt_replies.specs.declared.reply.Reply.{Reply}
 use Rattle.quilt_replies.specs.declared.reply.Reply.TheVariants as given
 use Rattle.quilt_map.specs.declared.session.Session.{Session}
-use Rattle.quilt_map.proofs.answers.Answered.{format_is, warm_at}
+use Rattle.quilt_map.proofs.answers.Answered.{format_is, keeps_at, warm_at}
 use Rattle.quilt_map.proofs.answers.Asked.{if_ok, if_err}
 use Rattle.quilt_map.proofs.states.Keeping.{book_idle, book_leaves, book_stands}
 use Rattle.quilt_map.proofs.answers.Orderly.{quiet_none, refused_after}
+use Rattle.quilt_map.proofs.states.Moving.{IsLawful}
 
 goes_map : (R S : Tale → Tale → Type 0) (a b : Option Tale) → ((t u : Tale) → a ≡ Some t → R t u → S t u) → Goes R a b → Goes S a b
 goes_map R S None None f g = tt
@@ -82,24 +85,17 @@ pub forward_else : (c : Command) → (c ≡ commands.Revert → ⊥) → goes_ba
 forward_else commands.Revert revert = absurd (revert refl)
 forward_else c revert = refl
 
--- a command that does not go back is no revert
-pub never_back : (c : Command) (P : Type 0) → goes_back c ≡ false → c ≡ commands.Revert → P
-never_back c P forward is = absurd (let no_ : false ≡ true = sym forward ∙ ap goes_back is in cc)
+pub never_both : (b : Bool) → b ≡ false → b ≡ true → ⊥
+never_both b no_ is = let e : false ≡ true = sym no_ ∙ is in cc
 
--- one that gives an edition is none
-gives_not_back : (c : Command) (P : Type 0) → gives_edition c ≡ true → c ≡ commands.Revert → P
-gives_not_back c P gives is = absurd (let no_ : true ≡ false = sym gives ∙ ap gives_edition is in cc)
+-- a command that gives an edition does not go back, and asks nothing
+gives_else : (c : Command) → gives_edition c ≡ true → (goes_back c ≡ false) × (asks c ≡ false)
+gives_else commands.Publish gives = (refl, refl)
+gives_else commands.Upgrade gives = (refl, refl)
+gives_else c gives = absurd (never_both (gives_edition c) refl gives)
 
--- where it gives no edition, there is nothing to say of want of memory
-quiet_never : {T : Type 0} (c : Command) (P : Type 0) → gives_edition c ≡ false → (r : Result T Stop)
-    → IfErr r (λ stop. stop ≡ stops.Memory → gives_edition c ≡ true → P)
-quiet_never c P quiet (Ok x) = tt
-quiet_never c P quiet (Err e) = λ is gives. absurd (let no_ : false ≡ true = sym quiet ∙ gives in cc)
-
-quiet_where : {T : Type 0} (c : Command) (P : Type 0) (r : Result T Stop) → IfErr r (λ stop. stop ≡ stops.Memory → P)
-    → IfErr r (λ stop. stop ≡ stops.Memory → gives_edition c ≡ true → P)
-quiet_where c P (Ok x) h = tt
-quiet_where c P (Err e) h = λ is gives. h is
+pub asks_else : (c : Command) → c ≡ commands.Revert → asks c ≡ false
+asks_else c is = ap asks is
 
 -- what a command has that is spelled is of the format and the level of the work, and so of the last edition
 module _ {W : Type 0} {D : disk.Ghosts W} where
@@ -136,6 +132,74 @@ module _ {W : Type 0} {D : disk.Ghosts W} where
     refused_keeps (Ok (given.No code)) h = λ refused s at.
         let a = subst (λ (x : Command). Answered s x old new (given.No code)) same (h s at) in
         subst (λ (x : State). IsAtState new x) (refused_after s command code a.tells) a.at
+
+  -- ---- what is left as it was
+  pub refused_still : (old new : Session W D) (r : Result Reply Stop) → KeepsAll old new → IfOk r (Refuses old new)
+  refused_still old new (Ok reply) keeps = λ no_. (keeps.book.later.2.1, keeps.changes)
+  refused_still old new (Err e) keeps = tt
+
+  pub keeps_state : (old new : Session W D) → IsLawful (D.size new.book.world) (D.told new.book.world) → KeepsAll old new → (s : State)
+      → IsAtState old s → IsAtState new s
+  keeps_state old new law keeps s at =
+      let r = keeps_at old new.book new.warm s keeps.book law at in
+      record {
+        tale = r.tale;
+        told = r.told;
+        lawful = r.lawful;
+        ready = r.ready;
+        last = subst (λ (es : List Entry). IsPublishedAs new.book r.tale es s.last) (sym keeps.last) r.last;
+        pages = r.pages;
+        pages_told = r.pages_told;
+        work = subst (λ (es : List Entry).
+            IsSpelled (Some r.pages) (free_of new.book) (books.pages_of new.book) (books.work_of new.book) es s.work) (sym keeps.catalog) r.work;
+        format = r.format;
+        level = r.level;
+        quota = r.quota;
+        few = subst (λ k. (changed_of new.book ≤ 9 * k) ⊎ (k ≡ last_count)) (sym keeps.changes) r.few;
+        bounded = subst (λ k. k ≤ last_count) (sym keeps.changes) r.bounded;
+      }
+
+  module _ (old new : Session W D) where
+    whole_of : new ≡ old → IsWholeBy IsAtState old new
+    whole_of e = record {
+      book = ap (λ (x : Session W D). x.book) e;
+      catalog = ap (λ (x : Session W D). x.catalog) e;
+      last = ap (λ (x : Session W D). x.last) e;
+      changes = ap (λ (x : Session W D). x.changes) e;
+      at = λ s at. subst (λ (x : Session W D). IsAtState x s) (sym e) at;
+    }
+
+    -- it is whole where it gives an edition
+    whole_giving : (c : Command) (r : Result Reply Stop) → IfErr r (λ stop. stop ≡ stops.Memory → new ≡ old)
+        → IfErr r (λ stop. stop ≡ stops.Memory → (gives_edition c || goes_back c) ≡ true → IsWholeBy IsAtState old new)
+    whole_giving c (Ok reply) h = tt
+    whole_giving c (Err e) h = λ is some. whole_of (h is)
+
+    quiet_giving : (c : Command) (r : Result Reply Stop) → IfErr r (λ stop. stop ≡ stops.Memory → new ≡ old)
+        → IfErr r (λ stop. stop ≡ stops.Memory → gives_edition c ≡ true → new.book.world ≡ old.book.world)
+    quiet_giving c (Ok reply) h = tt
+    quiet_giving c (Err e) h = λ is some. ap (λ (x : Session W D). x.book.world) (h is)
+
+    -- and where it goes back
+    whole_going : (c : Command) (r : Result Reply Stop) → gives_edition c ≡ false → (goes_back c ≡ true → OnErr r (new ≡ old))
+        → IfErr r (λ stop. stop ≡ stops.Memory → (gives_edition c || goes_back c) ≡ true → IsWholeBy IsAtState old new)
+    whole_going c (Ok reply) quiet h = tt
+    whole_going c (Err e) quiet h = λ is some. whole_of (h (subst (λ (b : Bool). (b || goes_back c) ≡ true) quiet some))
+
+    quiet_going : (c : Command) (r : Result Reply Stop) → gives_edition c ≡ false
+        → IfErr r (λ stop. stop ≡ stops.Memory → gives_edition c ≡ true → new.book.world ≡ old.book.world)
+    quiet_going c (Ok reply) quiet = tt
+    quiet_going c (Err e) quiet = λ is some. absurd (never_both (gives_edition c) quiet some)
+
+    kept_head : (r : Result Reply Stop) → IfOk r (Refuses old new)
+        → IfOk r (λ reply. IsRefusal reply → (head_of new ≡ head_of old) × (format_of new ≡ format_of old) × (changes_of new ≡ changes_of old))
+    unfolding head_of format_of changes_of
+    kept_head (Ok reply) h = λ no_. let k = h no_ in (k.0, ap (λ (x : Head). x.format) k.0, k.1)
+    kept_head (Err e) h = tt
+
+    ready_on : books.IsReady old.book → books.GoesOn old.book new.book → IsReady new
+    unfolding IsReady
+    ready_on ready goes = goes.1 ∙ ready
 
   -- ---- a book that goes on
   module _ (old new : Session W D) (goes : books.GoesOn old.book new.book) where
@@ -206,12 +270,14 @@ module _ {W : Type 0} {D : disk.Ghosts W} (old new : Session W D) (command other
     (answers : IfOk r (λ reply. (s : State) → IsAtState old s → Answered s other old new reply))
     (sound : IfErr r (λ e. (s : State) → IsAtState old s → IsSound e))
     (cause : HasStopCause (D.faults old.book.world) (D.faults new.book.world) r)
-    (reads : (s : State) → IsAtState old s → IsPromised s command r → ReadsFew s command (reads_in old.book) (reads_in new.book)) where
-  -- a command that gives no edition
-  pub applied_going : books.GoesOn old.book new.book → gives_edition command ≡ false
-      → (command ≡ commands.Revert → new.book.world ≡ old.book.world) → IsAppliedBy IsAtState command old new r
+    (reads : (s : State) → IsAtState old s → IsPromised s command r → ReadsFew s command (reads_in old.book) (reads_in new.book))
+    (refuses : IfOk r (Refuses old new)) where
+  -- a command that gives no edition: a revert calls no device, and a question leaves the state
+  pub applied_going : books.IsReady old.book → books.GoesOn old.book new.book → gives_edition command ≡ false
+      → (goes_back command ≡ true → (new.book.world ≡ old.book.world) × OnErr r (new ≡ old))
+      → (asks command ≡ true → (s : State) → IsAtState old s → IsAtState new s) → IsAppliedBy IsAtState command old new r
   unfolding world_of reads_of
-  applied_going goes quiet back = record {
+  applied_going ready goes quiet back stays = record {
     answer = answer_of old new command other same r answers;
     refused = refused_keeps old new command other same r answers;
     changes = changes_are old new command other same r answers;
@@ -225,19 +291,23 @@ module _ {W : Type 0} {D : disk.Ghosts W} (old new : Session W D) (command other
     crash = leaves_on old new goes command;
     writes = λ s at. few_on old new goes command quiet s;
     reads = reads;
-    quiet = quiet_never command (new.book.world ≡ old.book.world) quiet r;
-    back = back;
+    ready = on_ok (IsReady new) r (ready_on old new ready goes);
+    kept = kept_head old new r refuses;
+    stays = stays;
+    whole = whole_going old new command r quiet (λ is. (back is).1);
+    quiet = quiet_going old new command r quiet;
+    back = λ is. (back (ap goes_back is)).0;
   }
 
   -- and one that may give one
-  pub applied_giving : gives_edition command ≡ true → IfErr r (λ stop. stop ≡ stops.Memory → new.book.world ≡ old.book.world)
+  pub applied_giving : gives_edition command ≡ true → OnOk r (books.IsReady new.book) → IfErr r (λ stop. stop ≡ stops.Memory → new ≡ old)
       → OnOk r (new.book.last.level ≡ old.book.last.level) → D.door new.book.world ≡ D.door old.book.world
       → WritesPages (D.told old.book.world) (D.told new.book.world)
       → ((s : State) → IsAtState old s → Goes (Leaves s other) (D.told old.book.world) (D.told new.book.world))
       → ((s : State) → IsAtState old s → Goes (Writing (18 * old.changes + 8)) (D.told old.book.world) (D.told new.book.world))
       → IsAppliedBy IsAtState command old new r
-  unfolding world_of level_of changes_of reads_of
-  applied_giving gives quiet level door events crash writes = record {
+  unfolding world_of level_of changes_of reads_of IsReady
+  applied_giving gives ready whole level door events crash writes = record {
     answer = answer_of old new command other same r answers;
     refused = refused_keeps old new command other same r answers;
     changes = changes_are old new command other same r answers;
@@ -251,8 +321,12 @@ module _ {W : Type 0} {D : disk.Ghosts W} (old new : Session W D) (command other
     crash = λ s at. subst (λ (c : Command). Goes (Leaves s c) (D.told old.book.world) (D.told new.book.world)) same (crash s at);
     writes = λ s at. writing_few (D.told old.book.world) (D.told new.book.world) s command old.changes (writes s at);
     reads = reads;
-    quiet = quiet_where command (new.book.world ≡ old.book.world) r quiet;
-    back = gives_not_back command (new.book.world ≡ old.book.world) gives;
+    ready = ready;
+    kept = kept_head old new r refuses;
+    stays = λ is. absurd (never_both (asks command) (gives_else command gives).1 is);
+    whole = whole_giving old new command r whole;
+    quiet = quiet_giving old new command r whole;
+    back = λ is. absurd (never_both (goes_back command) (gives_else command gives).0 (ap goes_back is));
   }
 
 -- another last pixel leaves what was promised
@@ -260,7 +334,7 @@ module _ {W : Type 0} {D : disk.Ghosts W} (old new : Session W D) where
   pub applied_forgets : (w : Option (List ℕ × Pixel)) (command : Command) (r : Result Reply Stop) → IsAppliedBy IsAtState command old new r
       → IsAppliedBy IsAtState command old
       (record { book = new.book; catalog = new.catalog; last = new.last; changes = new.changes; warm = w; alloc = new.alloc }) r
-  unfolding world_of level_of changes_of reads_of
+  unfolding world_of level_of head_of format_of changes_of reads_of IsReady
   applied_forgets w command r h = record {
     answer = if_ok _ _ r (λ reply p s at. let a = p s at in (a.0, warm_at {D = D} new w (after s command) a.1)) h.answer;
     refused = if_ok _ _ r (λ reply p no_ s at. warm_at {D = D} new w s (p no_ s at)) h.refused;
@@ -275,6 +349,11 @@ module _ {W : Type 0} {D : disk.Ghosts W} (old new : Session W D) where
     crash = h.crash;
     writes = h.writes;
     reads = h.reads;
+    ready = h.ready;
+    kept = h.kept;
+    stays = λ is s at. warm_at {D = D} new w s (h.stays is s at);
+    whole = if_err _ _ r (λ e p is some. let k = p is some in
+        record { book = k.book; catalog = k.catalog; last = k.last; changes = k.changes; at = λ s at. warm_at {D = D} new w s (k.at s at) }) h.whole;
     quiet = h.quiet;
     back = h.back;
   }
@@ -296,6 +375,16 @@ module _ {W : Type 0} {D : disk.Ghosts W} (old new : Session W D) where
     crash = λ s at. h.crash s at.at;
     writes = λ s at. h.writes s at.at;
     reads = λ s at. h.reads s at.at;
+    ready = h.ready;
+    kept = h.kept;
+    stays = λ is s at. record { at = h.stays is s at.at; warm = warm };
+    whole = if_err _ _ r (λ e p is some. let k = p is some in record {
+      book = k.book;
+      catalog = k.catalog;
+      last = k.last;
+      changes = k.changes;
+      at = λ s at. record { at = k.at s at.at; warm = warm };
+    }) h.whole;
     quiet = h.quiet;
     back = h.back;
   }

@@ -1,6 +1,10 @@
-use Rattle.quilt_map.specs.Sessions.{format_of, level_of}
+use Rattle.quilt_map.specs.Sessions.{IsReady, format_of, level_of}
 use Rattle.quilt_map.proofs.session.Session.apply.Goals as goal
 
-pub answer-requires-after_bounds : goal.answer-requires-after_bounds
+pub answer-requires-clause-ready : goal.answer-requires-clause-ready
+unfolding IsReady
+answer-requires-clause-ready g c κs within = c.requires.ready
+
+pub answer-requires-clause-spelled : goal.answer-requires-clause-spelled
 unfolding format_of level_of
-answer-requires-after_bounds g c κs within = c.requires
+answer-requires-clause-spelled g c κs within = c.requires.spelled

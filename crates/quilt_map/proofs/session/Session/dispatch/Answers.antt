@@ -1,12 +1,13 @@
-use Rattle.std.proofs.Common.{◌≡◌, refl, sym, ap}
+use Rattle.std.proofs.Common.{refl, sym, ap}
 use Rattle.quilt_words.specs.declared.command.Command.TheVariants as commands
 use Rattle.quilt_map.specs.Asking.{reads_in}
 use Rattle.quilt_map.specs.Reading.{is_bounded}
 use Rattle.quilt_map.specs.Selecting.{layer_asked}
 use Rattle.quilt_map.specs.Sessions.{IsAtState}
-use Rattle.quilt_map.specs.Steps.{gives_edition, goes_back}
+use Rattle.quilt_map.specs.Steps.{asks, gives_edition, goes_back}
 use Rattle.quilt_map.proofs.questions.Bounded.{unbounded_else, unbounded_reads, find_reads, ask_reads}
-use Rattle.quilt_map.proofs.answers.Commanded.{applied_going, applied_giving, fitting_here, sound_at, never_back, quiet_else, forward_else, quiet_revert}
+use Rattle.quilt_map.proofs.answers.Commanded.{applied_going, applied_giving, asks_else, fitting_here, keeps_state, never_both}
+use Rattle.quilt_map.proofs.answers.Commanded.{sound_at, refused_still, quiet_else, forward_else, quiet_revert}
 use Rattle.quilt_map.proofs.states.Going.{goes_of}
 use Rattle.quilt_map.proofs.questions.Selects.{fits_some}
 use Rattle.quilt_map.proofs.session.Session.dispatch.Goals as goal
@@ -36,8 +37,8 @@ returns-in-Publish g c =
     applied_giving {D = g.W.Disk} old new command commands.Publish (sym c.in-Publish.is) c.publish.result e.answer
     (sound_at (IsAtState {D = g.W.Disk} old) c.publish.result e.sound) e.cause
     (unbounded_reads (IsAtState {D = g.W.Disk} old) (reads_in {D = g.W.Disk} old.book) (reads_in {D = g.W.Disk} new.book) command c.publish.result
-    (ap is_bounded c.in-Publish.is))
-    (ap gives_edition c.in-Publish.is) e.quiet e.level e.door e.events e.crash e.writes
+    (ap is_bounded c.in-Publish.is)) e.refused
+    (ap gives_edition c.in-Publish.is) e.ready e.whole e.level e.door e.events e.crash e.writes
 
 pub returns-in-Upgrade : goal.returns-in-Upgrade
 returns-in-Upgrade g c =
@@ -48,8 +49,8 @@ returns-in-Upgrade g c =
     applied_giving {D = g.W.Disk} old new command commands.Upgrade (sym c.in-Upgrade.is) c.upgrade.result e.answer
     (sound_at (IsAtState {D = g.W.Disk} old) c.upgrade.result e.sound) e.cause
     (unbounded_reads (IsAtState {D = g.W.Disk} old) (reads_in {D = g.W.Disk} old.book) (reads_in {D = g.W.Disk} new.book) command c.upgrade.result
-    (ap is_bounded c.in-Upgrade.is))
-    (ap gives_edition c.in-Upgrade.is) e.quiet e.level e.door e.events e.crash e.writes
+    (ap is_bounded c.in-Upgrade.is)) e.refused
+    (ap gives_edition c.in-Upgrade.is) e.ready e.whole e.level e.door e.events e.crash e.writes
 
 pub returns-in-Revert : goal.returns-in-Revert
 returns-in-Revert g c =
@@ -60,8 +61,9 @@ returns-in-Revert g c =
     applied_going {D = g.W.Disk} old new command commands.Revert (sym c.in-Revert.is) c.revert.result e.answer
     (sound_at (IsAtState {D = g.W.Disk} old) c.revert.result e.memory) e.cause
     (unbounded_reads (IsAtState {D = g.W.Disk} old) (reads_in {D = g.W.Disk} old.book) (reads_in {D = g.W.Disk} new.book) command c.revert.result
-    (ap is_bounded c.in-Revert.is))
-    e.goes_on (quiet_revert command c.in-Revert.is) (λ is. e.world)
+    (ap is_bounded c.in-Revert.is)) e.refused
+    c.requires.ready e.goes_on (quiet_revert command c.in-Revert.is) (λ is. (e.world, e.whole))
+    (λ is. absurd (never_both (asks command) (asks_else command c.in-Revert.is) is))
 
 pub returns-in-Find : goal.returns-in-Find
 returns-in-Find g c =
@@ -72,8 +74,10 @@ returns-in-Find g c =
     applied_going {D = g.W.Disk} old new command (commands.Find c.in-Find.p c.in-Find.at) (sym c.in-Find.is) c.find_point.result e.answer e.sound e.cause
     (find_reads (IsAtState {D = g.W.Disk} old) (reads_in {D = g.W.Disk} old.book)
     (reads_in {D = g.W.Disk} new.book) command c.in-Find.p c.in-Find.at c.find_point.result c.in-Find.is e.reads)
+    (refused_still {D = g.W.Disk} old new c.find_point.result e.keeps) c.requires.ready
     (goes_of {D = g.W.Disk} old.book new.book e.keeps.book.later) (ap gives_edition c.in-Find.is)
-    (never_back command (new.book.world ≡ old.book.world) (ap goes_back c.in-Find.is))
+    (λ is. absurd (never_both (goes_back command) (ap goes_back c.in-Find.is) is))
+    (λ is. keeps_state {D = g.W.Disk} old new (g.met.W.Disk.is_consistent new.book.world) e.keeps)
 
 pub returns-in-Cross : goal.returns-in-Cross
 returns-in-Cross g c =
@@ -84,8 +88,10 @@ returns-in-Cross g c =
     applied_going {D = g.W.Disk} old new command command refl c.ask_lines.result e.answer e.sound e.cause
     (ask_reads (IsAtState {D = g.W.Disk} old) (reads_in {D = g.W.Disk} old.book) (reads_in {D = g.W.Disk} new.book) command c.in-Cross.l c.ask_lines.result
     (ap layer_asked c.in-Cross.is) e.reads)
+    (refused_still {D = g.W.Disk} old new c.ask_lines.result e.keeps) c.requires.ready
     (goes_of {D = g.W.Disk} old.book new.book e.keeps.book.later) (ap gives_edition c.in-Cross.is)
-    (never_back command (new.book.world ≡ old.book.world) (ap goes_back c.in-Cross.is))
+    (λ is. absurd (never_both (goes_back command) (ap goes_back c.in-Cross.is) is))
+    (λ is. keeps_state {D = g.W.Disk} old new (g.met.W.Disk.is_consistent new.book.world) e.keeps)
 
 pub returns-in-Clip : goal.returns-in-Clip
 returns-in-Clip g c =
@@ -96,8 +102,10 @@ returns-in-Clip g c =
     applied_going {D = g.W.Disk} old new command command refl c.ask_lines-in-Clip.result e.answer e.sound e.cause
     (ask_reads (IsAtState {D = g.W.Disk} old) (reads_in {D = g.W.Disk} old.book)
     (reads_in {D = g.W.Disk} new.book) command c.in-Clip.l c.ask_lines-in-Clip.result (ap layer_asked c.in-Clip.is) e.reads)
+    (refused_still {D = g.W.Disk} old new c.ask_lines-in-Clip.result e.keeps) c.requires.ready
     (goes_of {D = g.W.Disk} old.book new.book e.keeps.book.later) (ap gives_edition c.in-Clip.is)
-    (never_back command (new.book.world ≡ old.book.world) (ap goes_back c.in-Clip.is))
+    (λ is. absurd (never_both (goes_back command) (ap goes_back c.in-Clip.is) is))
+    (λ is. keeps_state {D = g.W.Disk} old new (g.met.W.Disk.is_consistent new.book.world) e.keeps)
 
 pub returns-in-Nearest : goal.returns-in-Nearest
 returns-in-Nearest g c =
@@ -108,8 +116,10 @@ returns-in-Nearest g c =
     applied_going {D = g.W.Disk} old new command command refl c.ask_lines-in-Nearest.result e.answer e.sound e.cause
     (ask_reads (IsAtState {D = g.W.Disk} old) (reads_in {D = g.W.Disk} old.book)
     (reads_in {D = g.W.Disk} new.book) command c.in-Nearest.l c.ask_lines-in-Nearest.result (ap layer_asked c.in-Nearest.is) e.reads)
+    (refused_still {D = g.W.Disk} old new c.ask_lines-in-Nearest.result e.keeps) c.requires.ready
     (goes_of {D = g.W.Disk} old.book new.book e.keeps.book.later) (ap gives_edition c.in-Nearest.is)
-    (never_back command (new.book.world ≡ old.book.world) (ap goes_back c.in-Nearest.is))
+    (λ is. absurd (never_both (goes_back command) (ap goes_back c.in-Nearest.is) is))
+    (λ is. keeps_state {D = g.W.Disk} old new (g.met.W.Disk.is_consistent new.book.world) e.keeps)
 
 pub returns-in-Rank : goal.returns-in-Rank
 returns-in-Rank g c =
@@ -120,8 +130,10 @@ returns-in-Rank g c =
     applied_going {D = g.W.Disk} old new command command refl c.ask_lines-in-Rank.result e.answer e.sound e.cause
     (ask_reads (IsAtState {D = g.W.Disk} old) (reads_in {D = g.W.Disk} old.book)
     (reads_in {D = g.W.Disk} new.book) command c.in-Rank.l c.ask_lines-in-Rank.result (ap layer_asked c.in-Rank.is) e.reads)
+    (refused_still {D = g.W.Disk} old new c.ask_lines-in-Rank.result e.keeps) c.requires.ready
     (goes_of {D = g.W.Disk} old.book new.book e.keeps.book.later) (ap gives_edition c.in-Rank.is)
-    (never_back command (new.book.world ≡ old.book.world) (ap goes_back c.in-Rank.is))
+    (λ is. absurd (never_both (goes_back command) (ap goes_back c.in-Rank.is) is))
+    (λ is. keeps_state {D = g.W.Disk} old new (g.met.W.Disk.is_consistent new.book.world) e.keeps)
 
 pub returns-in_default : goal.returns-in_default
 returns-in_default g c =
@@ -133,5 +145,6 @@ returns-in_default g c =
     applied_going {D = g.W.Disk} old new command command refl c.serve.result e.answer e.sound e.cause
     (unbounded_reads (IsAtState {D = g.W.Disk} old) (reads_in {D = g.W.Disk} old.book) (reads_in {D = g.W.Disk} new.book) command c.serve.result
     (unbounded_else command d.not-At d.not-Find d.not-Cross d.not-Clip d.not-Nearest d.not-Rank))
-    e.goes_on (quiet_else command d.not-Publish d.not-Upgrade)
-    (never_back command (new.book.world ≡ old.book.world) (forward_else command d.not-Revert))
+    e.refused c.requires.ready e.goes_on (quiet_else command d.not-Publish d.not-Upgrade)
+    (λ is. absurd (never_both (goes_back command) (forward_else command d.not-Revert) is))
+    (λ is. keeps_state {D = g.W.Disk} old new (g.met.W.Disk.is_consistent new.book.world) (e.keeps is))

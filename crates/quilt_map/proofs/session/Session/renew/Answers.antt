@@ -2,7 +2,7 @@ use Rattle.quilt_map.proofs.states.Renewed.{leaves_either, writes_few, is_renewe
 use Rattle.quilt_map.proofs.session.Session.renew.Goals as goal
 
 pub returns-in_default-clause-crash : goal.returns-in_default-clause-crash
-returns-in_default-clause-crash g c = λ s e can. leaves_either {D = g.W.Disk} c.args.self.now s e can _ c.requires c.publish.ensures.crash
+returns-in_default-clause-crash g c = λ s e can. leaves_either {D = g.W.Disk} c.args.self.now s e can _ c.requires.number c.publish.ensures.crash
 
 pub returns-in_default-clause-writes : goal.returns-in_default-clause-writes
 returns-in_default-clause-writes g c = λ s e can. writes_few {D = g.W.Disk} c.args.self.now s e can _ c.publish.ensures.writes
@@ -15,7 +15,7 @@ returns-clause-renewed g c = λ s e can.
     c.publish.ensures.free ok.used ok.published (g.met.W.Disk.is_consistent c.publish.new.self.world)
 
 pub returns-clause-crash : goal.returns-clause-crash
-returns-clause-crash g c = λ s e can. leaves_either {D = g.W.Disk} c.args.self.now s e can _ c.requires c.publish.ensures.crash
+returns-clause-crash g c = λ s e can. leaves_either {D = g.W.Disk} c.args.self.now s e can _ c.requires.number c.publish.ensures.crash
 
 pub returns-clause-writes : goal.returns-clause-writes
 returns-clause-writes g c = λ s e can. writes_few {D = g.W.Disk} c.args.self.now s e can _ c.publish.ensures.writes

@@ -12,6 +12,3 @@ returns-clause-answer g c = λ s at.
 
 pub returns-in_default-clause-goes_on : goal.returns-in_default-clause-goes_on
 returns-in_default-clause-goes_on g c = goes_here {D = g.W.Disk} c.args.self.now.book
-
-pub returns-then-not-is_ready-clause-goes_on : goal.returns-then-not-is_ready-clause-goes_on
-returns-then-not-is_ready-clause-goes_on g c = goes_here {D = g.W.Disk} c.args.self.now.book

@@ -1,10 +1,12 @@
-use Rattle.std.proofs.Common.{refl, sym, subst}
+use Rattle.std.proofs.Common.{refl, sym, ap, subst}
 use Rattle.quilt_words.specs.declared.command.Command.{Command}
 use Rattle.quilt_words.specs.declared.command.Command.TheVariants as commands
 use Rattle.quilt_map.specs.Commanding.{Answered}
 use Rattle.quilt_map.proofs.answers.Asked.{if_ok, if_err}
 use Rattle.quilt_map.proofs.states.ChangeSteps.{goes_here}
-use Rattle.quilt_map.proofs.answers.Commanded.{fitting_here, fitting_of}
+use Rattle.quilt_map.specs.Steps.{asks}
+use Rattle.quilt_map.proofs.answers.Answered.{keeps_here}
+use Rattle.quilt_map.proofs.answers.Commanded.{fitting_here, fitting_of, never_both, refused_still}
 use Rattle.quilt_map.proofs.session.Session.serve.Goals as goal
 
 pub returns-in-Region-clause-answer : goal.returns-in-Region-clause-answer
@@ -245,3 +247,113 @@ returns-in-Within-clause-answer g c =
     if_ok _ _ c.points_within.result (λ reply p s at.
     subst (λ (x : Command). Answered {D = g.W.Disk} s x c.args.self.now c.points_within.new.self reply) (sym c.in-Within.is)
     (p s at)) c.points_within.ensures.answer
+
+-- ---- what asks, and what does not
+
+pub returns-in-Region-clause-keeps : goal.returns-in-Region-clause-keeps
+returns-in-Region-clause-keeps g c = λ is. absurd (never_both (asks c.args.command.now) (ap asks c.in-Region.is) is)
+
+pub returns-in-Drop-clause-keeps : goal.returns-in-Drop-clause-keeps
+returns-in-Drop-clause-keeps g c = λ is. absurd (never_both (asks c.args.command.now) (ap asks c.in-Drop.is) is)
+
+pub returns-in-Copy-clause-keeps : goal.returns-in-Copy-clause-keeps
+returns-in-Copy-clause-keeps g c = λ is. absurd (never_both (asks c.args.command.now) (ap asks c.in-Copy.is) is)
+
+pub returns-in-Set-clause-keeps : goal.returns-in-Set-clause-keeps
+returns-in-Set-clause-keeps g c = λ is. absurd (never_both (asks c.args.command.now) (ap asks c.in-Set.is) is)
+
+pub returns-in-Rect-clause-keeps : goal.returns-in-Rect-clause-keeps
+returns-in-Rect-clause-keeps g c = λ is. absurd (never_both (asks c.args.command.now) (ap asks c.in-Rect.is) is)
+
+pub returns-in-Raster-clause-keeps : goal.returns-in-Raster-clause-keeps
+returns-in-Raster-clause-keeps g c = λ is. absurd (never_both (asks c.args.command.now) (ap asks c.in-Raster.is) is)
+
+pub returns-in-Polygon-clause-keeps : goal.returns-in-Polygon-clause-keeps
+returns-in-Polygon-clause-keeps g c = λ is. absurd (never_both (asks c.args.command.now) (ap asks c.in-Polygon.is) is)
+
+pub returns-in-Union-clause-keeps : goal.returns-in-Union-clause-keeps
+returns-in-Union-clause-keeps g c = λ is. absurd (never_both (asks c.args.command.now) (ap asks c.in-Union.is) is)
+
+pub returns-in-Inter-clause-keeps : goal.returns-in-Inter-clause-keeps
+returns-in-Inter-clause-keeps g c = λ is. absurd (never_both (asks c.args.command.now) (ap asks c.in-Inter.is) is)
+
+pub returns-in-Diff-clause-keeps : goal.returns-in-Diff-clause-keeps
+returns-in-Diff-clause-keeps g c = λ is. absurd (never_both (asks c.args.command.now) (ap asks c.in-Diff.is) is)
+
+pub returns-in-Recolour-clause-keeps : goal.returns-in-Recolour-clause-keeps
+returns-in-Recolour-clause-keeps g c = λ is. absurd (never_both (asks c.args.command.now) (ap asks c.in-Recolour.is) is)
+
+pub returns-in-Window-clause-keeps : goal.returns-in-Window-clause-keeps
+returns-in-Window-clause-keeps g c = λ is. absurd (never_both (asks c.args.command.now) (ap asks c.in-Window.is) is)
+
+pub returns-in-Shift-clause-keeps : goal.returns-in-Shift-clause-keeps
+returns-in-Shift-clause-keeps g c = λ is. absurd (never_both (asks c.args.command.now) (ap asks c.in-Shift.is) is)
+
+pub returns-in-Buffer-clause-keeps : goal.returns-in-Buffer-clause-keeps
+returns-in-Buffer-clause-keeps g c = λ is. absurd (never_both (asks c.args.command.now) (ap asks c.in-Buffer.is) is)
+
+pub returns-in-Points-clause-keeps : goal.returns-in-Points-clause-keeps
+returns-in-Points-clause-keeps g c = λ is. absurd (never_both (asks c.args.command.now) (ap asks c.in-Points.is) is)
+
+pub returns-in-Put-clause-keeps : goal.returns-in-Put-clause-keeps
+returns-in-Put-clause-keeps g c = λ is. absurd (never_both (asks c.args.command.now) (ap asks c.in-Put.is) is)
+
+pub returns-in-Del-clause-keeps : goal.returns-in-Del-clause-keeps
+returns-in-Del-clause-keeps g c = λ is. absurd (never_both (asks c.args.command.now) (ap asks c.in-Del.is) is)
+
+pub returns-in-Scatter-clause-keeps : goal.returns-in-Scatter-clause-keeps
+returns-in-Scatter-clause-keeps g c = λ is. absurd (never_both (asks c.args.command.now) (ap asks c.in-Scatter.is) is)
+
+pub returns-in-Lines-clause-keeps : goal.returns-in-Lines-clause-keeps
+returns-in-Lines-clause-keeps g c = λ is. absurd (never_both (asks c.args.command.now) (ap asks c.in-Lines.is) is)
+
+pub returns-in-Line-clause-keeps : goal.returns-in-Line-clause-keeps
+returns-in-Line-clause-keeps g c = λ is. absurd (never_both (asks c.args.command.now) (ap asks c.in-Line.is) is)
+
+pub returns-in-Unline-clause-keeps : goal.returns-in-Unline-clause-keeps
+returns-in-Unline-clause-keeps g c = λ is. absurd (never_both (asks c.args.command.now) (ap asks c.in-Unline.is) is)
+
+pub returns-in-Show-clause-refused : goal.returns-in-Show-clause-refused
+returns-in-Show-clause-refused g c = refused_still {D = g.W.Disk} c.args.self.now c.show.new.self c.show.result c.show.ensures.keeps
+
+pub returns-in-Leaves-clause-refused : goal.returns-in-Leaves-clause-refused
+returns-in-Leaves-clause-refused g c = refused_still {D = g.W.Disk} c.args.self.now c.leaves.new.self c.leaves.result c.leaves.ensures.keeps
+
+pub returns-in-Area-clause-refused : goal.returns-in-Area-clause-refused
+returns-in-Area-clause-refused g c = refused_still {D = g.W.Disk} c.args.self.now c.measure.new.self c.measure.result c.measure.ensures.keeps
+
+pub returns-in-Perimeter-clause-refused : goal.returns-in-Perimeter-clause-refused
+returns-in-Perimeter-clause-refused g c = refused_still {D = g.W.Disk} c.args.self.now c.measure-in-Perimeter.new.self c.measure-in-Perimeter.result c.measure-in-Perimeter.ensures.keeps
+
+pub returns-in-Within-clause-refused : goal.returns-in-Within-clause-refused
+returns-in-Within-clause-refused g c = refused_still {D = g.W.Disk} c.args.self.now c.points_within.new.self c.points_within.result c.points_within.ensures.keeps
+
+pub returns-in-Blocks-clause-refused : goal.returns-in-Blocks-clause-refused
+returns-in-Blocks-clause-refused g c = refused_still {D = g.W.Disk} c.args.self.now c.blocks-in-Blocks.new.self c.blocks-in-Blocks.result c.blocks-in-Blocks.ensures.keeps
+
+pub returns-in-Over-clause-refused : goal.returns-in-Over-clause-refused
+returns-in-Over-clause-refused g c = refused_still {D = g.W.Disk} c.args.self.now c.over.new.self c.over.result c.over.ensures.keeps
+
+pub returns-in-Crossings-clause-refused : goal.returns-in-Crossings-clause-refused
+returns-in-Crossings-clause-refused g c = refused_still {D = g.W.Disk} c.args.self.now c.crossings.new.self c.crossings.result c.crossings.ensures.keeps
+
+pub returns-in-Layers-clause-keeps : goal.returns-in-Layers-clause-keeps
+returns-in-Layers-clause-keeps g c = λ is. keeps_here {D = g.W.Disk} c.args.self.now c.args.self.now.warm
+
+pub returns-in-Layers-clause-refused : goal.returns-in-Layers-clause-refused
+returns-in-Layers-clause-refused g c =
+    refused_still {D = g.W.Disk} c.args.self.now c.args.self.now c.layers.result (keeps_here {D = g.W.Disk} c.args.self.now c.args.self.now.warm)
+
+pub returns-in-Records-clause-keeps : goal.returns-in-Records-clause-keeps
+returns-in-Records-clause-keeps g c = λ is. keeps_here {D = g.W.Disk} c.args.self.now c.args.self.now.warm
+
+pub returns-in-Records-clause-refused : goal.returns-in-Records-clause-refused
+returns-in-Records-clause-refused g c =
+    refused_still {D = g.W.Disk} c.args.self.now c.args.self.now c.records.result (keeps_here {D = g.W.Disk} c.args.self.now c.args.self.now.warm)
+
+pub returns-in-Edition-clause-keeps : goal.returns-in-Edition-clause-keeps
+returns-in-Edition-clause-keeps g c = λ is. keeps_here {D = g.W.Disk} c.args.self.now c.args.self.now.warm
+
+pub returns-in-Edition-clause-refused : goal.returns-in-Edition-clause-refused
+returns-in-Edition-clause-refused g c =
+    refused_still {D = g.W.Disk} c.args.self.now c.args.self.now c.edition.result (keeps_here {D = g.W.Disk} c.args.self.now c.args.self.now.warm)
