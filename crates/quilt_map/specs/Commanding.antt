@@ -1,5 +1,5 @@
 -- What a command is answered, and what it leaves of a session.
-use Rattle.std.specs.Prelude.{◌≡◌, ℕ, ◌≤◌, Result, IfOk, IfErr, OnOk}
+use Rattle.std.specs.Prelude.{◌≡◌, ℕ, ◌≤◌, true, Result, IfOk, IfErr, OnOk}
 use Rattle.quilt_types.specs.declared.stop.Stop.{Stop}
 use Rattle.quilt_types.specs.declared.stop.Stop.TheVariants as stops
 use Rattle.quilt_world.specs.Added.{AddsOnly, is_of_pages}
@@ -7,11 +7,12 @@ use Rattle.quilt_world.specs.Causes.{Rose}
 use Rattle.quilt_world.specs.Tale.{Goes}
 use Rattle.quilt_world.specs.declared.disk.Disk as disk
 use Rattle.quilt_words.specs.declared.command.Command.{Command}
+use Rattle.quilt_words.specs.declared.command.Command.TheVariants as commands
 use Rattle.quilt_replies.specs.Answers.{State, answer}
 use Rattle.quilt_map.specs.Reading.{IsPromised, ReadsFew}
 use Rattle.quilt_map.specs.Sessions.{IsAt, IsAtState, world_of, level_of, changes_of, reads_of}
 use Rattle.quilt_replies.specs.States.{Tells, IsRefusal, after}
-use Rattle.quilt_map.specs.Steps.{Leaves, WritesFew, changes_after}
+use Rattle.quilt_map.specs.Steps.{Leaves, WritesFew, changes_after, gives_edition}
 use Rattle.quilt_replies.specs.declared.reply.Reply.{Reply}
 use Rattle.quilt_map.specs.declared.session.Session.{Session}
 
@@ -37,6 +38,8 @@ module _ {W : Type 0} {D : disk.Ghosts W} where
     pub crash : (s : State) → At old s → Goes (Leaves s command) (D.told (world_of old)) (D.told (world_of new))
     pub writes : (s : State) → At old s → Goes (WritesFew s command (changes_of old)) (D.told (world_of old)) (D.told (world_of new))
     pub reads : (s : State) → At old s → IsPromised s command r → ReadsFew s command (reads_of old) (reads_of new)
+    pub quiet : IfErr r (λ stop. stop ≡ stops.Memory → gives_edition command ≡ true → world_of new ≡ world_of old)
+    pub back : command ≡ commands.Revert → world_of new ≡ world_of old
 
   -- the same of what a session stands for above this crate
   abbrev pub IsApplied : Command → Session W D → Session W D → Result Reply Stop → Type 0

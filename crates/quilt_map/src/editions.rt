@@ -1,4 +1,5 @@
 ghost use Rattle.std.specs.Prelude.{◌≡◌, ℕ, ◌+◌, ◌*◌, ◌<◌, ◌≤◌, OnOk, IfErr};
+ghost use Rattle.quilt_types.specs.declared.stop.Stop.TheVariants as stops;
 ghost use Rattle.quilt_types.specs.Layers.{Edition};
 ghost use Rattle.quilt_world.specs.Tale.{Goes};
 ghost use Rattle.quilt_store.specs.Stops.{HasStopCause, IsSound};
@@ -27,6 +28,7 @@ impl<W: World> Session<W> {
         ensures events { Goes (λ old new. (most : ℕ) × Writing most old new) (W.told (books.world_of self.old.book)) (W.told (books.world_of self.new.book)) }
         ensures door { W.door (books.world_of self.new.book) ≡ W.door (books.world_of self.old.book) }
         ensures cause { HasStopCause (W.faults (books.world_of self.old.book)) (W.faults (books.world_of self.new.book)) result }
+        ensures quiet { IfErr result (λ stop. stop ≡ stops.Memory → books.world_of self.new.book ≡ books.world_of self.old.book) }
     {
         if !self.book.is_ready() {
             return Err(Stop::Memory);

@@ -1,4 +1,5 @@
 ghost use Rattle.std.specs.Prelude.{◌≡◌, ℕ, ◌+◌, ◌*◌, IfOk, IfErr, OnOk};
+ghost use Rattle.quilt_types.specs.declared.stop.Stop.TheVariants as stops;
 ghost use Rattle.quilt_world.specs.Tale.{Goes};
 ghost use Rattle.quilt_words.specs.declared.command.Command.TheVariants as commands;
 ghost use Rattle.quilt_store.specs.Stops.{HasStopCause, IsSound};
@@ -28,6 +29,7 @@ impl<W: World> Session<W> {
         ensures events { Goes (λ old new. (most : ℕ) × Writing most old new) (W.told (books.world_of self.old.book)) (W.told (books.world_of self.new.book)) }
         ensures door { W.door (books.world_of self.new.book) ≡ W.door (books.world_of self.old.book) }
         ensures cause { HasStopCause (W.faults (books.world_of self.old.book)) (W.faults (books.world_of self.new.book)) result }
+        ensures quiet { IfErr result (λ stop. stop ≡ stops.Memory → books.world_of self.new.book ≡ books.world_of self.old.book) }
     {
         let number = self.book.head().edition;
         if number == u32::MAX {
@@ -54,6 +56,7 @@ impl<W: World> Session<W> {
         ensures events { Goes (λ old new. (most : ℕ) × Writing most old new) (W.told (books.world_of self.old.book)) (W.told (books.world_of self.new.book)) }
         ensures door { W.door (books.world_of self.new.book) ≡ W.door (books.world_of self.old.book) }
         ensures cause { HasStopCause (W.faults (books.world_of self.old.book)) (W.faults (books.world_of self.new.book)) result }
+        ensures quiet { IfErr result (λ stop. stop ≡ stops.Memory → books.world_of self.new.book ≡ books.world_of self.old.book) }
     {
         let head = self.book.head();
         if head.format == 2 {

@@ -1,4 +1,4 @@
-ghost use Rattle.std.specs.Prelude.{◌≡◌, ℕ, ◌<◌, ◌≤◌, [], ◌∷◌, List, Some, None, take, length, IfOk, IfErr, OnErr, OnOk};
+ghost use Rattle.std.specs.Prelude.{◌≡◌, ℕ, ◌<◌, ◌≤◌, true, [], ◌∷◌, List, Some, None, take, length, IfOk, IfErr, OnErr, OnOk};
 ghost use Rattle.quilt_types.specs.Facts.{records};
 ghost use Rattle.quilt_types.specs.declared.plane.Pixel.{Pixel as AnyPixel};
 ghost use Rattle.quilt_types.specs.Layers.{Edition};
@@ -16,7 +16,7 @@ ghost use Rattle.quilt_replies.specs.Answers.{State, answer};
 ghost use Rattle.quilt_map.specs.Sessions.{IsNumbered, IsOpened, changed_of, free_of, first_state};
 ghost use Rattle.quilt_replies.specs.States.{Tells, IsRefusal, after};
 ghost use Rattle.quilt_map.specs.Reading.{IsPromised, ReadsFew, warm_left};
-ghost use Rattle.quilt_map.specs.Steps.{Leaves, WritesFew, changes_after};
+ghost use Rattle.quilt_map.specs.Steps.{Leaves, WritesFew, changes_after, gives_edition};
 
 use crate::entries::copy_of;
 use quilt_edition::Book;
@@ -95,6 +95,10 @@ impl<W: World> Session<W> {
             → Goes (WritesFew s command.now (changes_of self.old)) (W.told (world_of self.old)) (W.told (world_of self.new)) }
         ensures reads { (s : State) → IsAt self.old s → IsPromised s command.now result → ReadsFew s command.now (reads_of self.old) (reads_of self.new) }
         ensures warm { warm_of self.new ≡ warm_left command.now result }
+
+        // A publish or an upgrade that wants memory has called no device; a revert calls none.
+        ensures quiet { IfErr result (λ stop. stop ≡ stops.Memory → gives_edition command.now ≡ true → world_of self.new ≡ world_of self.old) }
+        ensures back { command.now ≡ commands.Revert → world_of self.new ≡ world_of self.old }
 
         // An `at` of the layer and the pixel that `warm` tells reads no page.
         ensures again { (s : State) → IsAt self.old s → (name : List ℕ) (p : AnyPixel) → command.now ≡ commands.At name p → warm_of self.old ≡ Some (name, p) →

@@ -82,6 +82,25 @@ pub forward_else : (c : Command) → (c ≡ commands.Revert → ⊥) → goes_ba
 forward_else commands.Revert revert = absurd (revert refl)
 forward_else c revert = refl
 
+-- a command that does not go back is no revert
+pub never_back : (c : Command) (P : Type 0) → goes_back c ≡ false → c ≡ commands.Revert → P
+never_back c P forward is = absurd (let no_ : false ≡ true = sym forward ∙ ap goes_back is in cc)
+
+-- one that gives an edition is none
+gives_not_back : (c : Command) (P : Type 0) → gives_edition c ≡ true → c ≡ commands.Revert → P
+gives_not_back c P gives is = absurd (let no_ : true ≡ false = sym gives ∙ ap gives_edition is in cc)
+
+-- where it gives no edition, there is nothing to say of want of memory
+quiet_never : {T : Type 0} (c : Command) (P : Type 0) → gives_edition c ≡ false → (r : Result T Stop)
+    → IfErr r (λ stop. stop ≡ stops.Memory → gives_edition c ≡ true → P)
+quiet_never c P quiet (Ok x) = tt
+quiet_never c P quiet (Err e) = λ is gives. absurd (let no_ : false ≡ true = sym quiet ∙ gives in cc)
+
+quiet_where : {T : Type 0} (c : Command) (P : Type 0) (r : Result T Stop) → IfErr r (λ stop. stop ≡ stops.Memory → P)
+    → IfErr r (λ stop. stop ≡ stops.Memory → gives_edition c ≡ true → P)
+quiet_where c P (Ok x) h = tt
+quiet_where c P (Err e) h = λ is gives. h is
+
 -- what a command has that is spelled is of the format and the level of the work, and so of the last edition
 module _ {W : Type 0} {D : disk.Ghosts W} where
   pub fitting_here : (old : Session W D) (command other : Command) → Spelled old.book.work.format old.book.last.level command → command ≡ other
@@ -189,9 +208,10 @@ module _ {W : Type 0} {D : disk.Ghosts W} (old new : Session W D) (command other
     (cause : HasStopCause (D.faults old.book.world) (D.faults new.book.world) r)
     (reads : (s : State) → IsAtState old s → IsPromised s command r → ReadsFew s command (reads_in old.book) (reads_in new.book)) where
   -- a command that gives no edition
-  pub applied_going : books.GoesOn old.book new.book → gives_edition command ≡ false → IsAppliedBy IsAtState command old new r
+  pub applied_going : books.GoesOn old.book new.book → gives_edition command ≡ false
+      → (command ≡ commands.Revert → new.book.world ≡ old.book.world) → IsAppliedBy IsAtState command old new r
   unfolding world_of reads_of
-  applied_going goes quiet = record {
+  applied_going goes quiet back = record {
     answer = answer_of old new command other same r answers;
     refused = refused_keeps old new command other same r answers;
     changes = changes_are old new command other same r answers;
@@ -205,16 +225,19 @@ module _ {W : Type 0} {D : disk.Ghosts W} (old new : Session W D) (command other
     crash = leaves_on old new goes command;
     writes = λ s at. few_on old new goes command quiet s;
     reads = reads;
+    quiet = quiet_never command (new.book.world ≡ old.book.world) quiet r;
+    back = back;
   }
 
   -- and one that may give one
-  pub applied_giving : OnOk r (new.book.last.level ≡ old.book.last.level) → D.door new.book.world ≡ D.door old.book.world
+  pub applied_giving : gives_edition command ≡ true → IfErr r (λ stop. stop ≡ stops.Memory → new.book.world ≡ old.book.world)
+      → OnOk r (new.book.last.level ≡ old.book.last.level) → D.door new.book.world ≡ D.door old.book.world
       → WritesPages (D.told old.book.world) (D.told new.book.world)
       → ((s : State) → IsAtState old s → Goes (Leaves s other) (D.told old.book.world) (D.told new.book.world))
       → ((s : State) → IsAtState old s → Goes (Writing (18 * old.changes + 8)) (D.told old.book.world) (D.told new.book.world))
       → IsAppliedBy IsAtState command old new r
   unfolding world_of level_of changes_of reads_of
-  applied_giving level door events crash writes = record {
+  applied_giving gives quiet level door events crash writes = record {
     answer = answer_of old new command other same r answers;
     refused = refused_keeps old new command other same r answers;
     changes = changes_are old new command other same r answers;
@@ -228,6 +251,8 @@ module _ {W : Type 0} {D : disk.Ghosts W} (old new : Session W D) (command other
     crash = λ s at. subst (λ (c : Command). Goes (Leaves s c) (D.told old.book.world) (D.told new.book.world)) same (crash s at);
     writes = λ s at. writing_few (D.told old.book.world) (D.told new.book.world) s command old.changes (writes s at);
     reads = reads;
+    quiet = quiet_where command (new.book.world ≡ old.book.world) r quiet;
+    back = gives_not_back command (new.book.world ≡ old.book.world) gives;
   }
 
 -- another last pixel leaves what was promised
@@ -250,6 +275,8 @@ module _ {W : Type 0} {D : disk.Ghosts W} (old new : Session W D) where
     crash = h.crash;
     writes = h.writes;
     reads = h.reads;
+    quiet = h.quiet;
+    back = h.back;
   }
 
   -- and with the pages of the last pixel held, it is what is promised above this crate
@@ -269,4 +296,6 @@ module _ {W : Type 0} {D : disk.Ghosts W} (old new : Session W D) where
     crash = λ s at. h.crash s at.at;
     writes = λ s at. h.writes s at.at;
     reads = λ s at. h.reads s at.at;
+    quiet = h.quiet;
+    back = h.back;
   }

@@ -1,10 +1,10 @@
-use Rattle.std.proofs.Common.{None, sym, ap}
+use Rattle.std.proofs.Common.{◌≡◌, None, sym, ap}
 use Rattle.quilt_words.specs.declared.command.Command.TheVariants as commands
 use Rattle.quilt_map.specs.Asking.{reads_in}
 use Rattle.quilt_map.specs.Sessions.{IsAt, IsAtState, warm_of}
-use Rattle.quilt_map.specs.Steps.{gives_edition}
+use Rattle.quilt_map.specs.Steps.{gives_edition, goes_back}
 use Rattle.quilt_map.proofs.questions.Bounded.{at_reads, other_than_at, warm_none}
-use Rattle.quilt_map.proofs.answers.Commanded.{applied_going, applied_forgets, applied_warm}
+use Rattle.quilt_map.proofs.answers.Commanded.{applied_going, applied_forgets, applied_warm, never_back}
 use Rattle.quilt_map.proofs.states.Going.{goes_of}
 use Rattle.quilt_map.proofs.questions.Warming.{cold, is_again}
 use Rattle.quilt_map.proofs.session.Session.answer.Goals as goal
@@ -22,7 +22,8 @@ returns-in-At-clause-applied g c =
     (applied_going {D = g.W.Disk} old new command (commands.At c.in-At.a c.in-At.at) (sym c.in-At.is) c.at.result e.answer e.sound e.cause
     (at_reads (IsAtState {D = g.W.Disk} old) (reads_in {D = g.W.Disk} old.book) (reads_in {D = g.W.Disk} new.book) command c.in-At.a c.in-At.at
     c.at.result c.in-At.is e.reads)
-    (goes_of {D = g.W.Disk} old.book new.book e.keeps.book.later) (ap gives_edition c.in-At.is))
+    (goes_of {D = g.W.Disk} old.book new.book e.keeps.book.later) (ap gives_edition c.in-At.is)
+    (never_back command (new.book.world ≡ old.book.world) (ap goes_back c.in-At.is)))
 
 pub returns-in_default-clause-applied : goal.returns-in_default-clause-applied
 returns-in_default-clause-applied g c =

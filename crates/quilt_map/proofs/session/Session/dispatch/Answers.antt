@@ -1,12 +1,12 @@
-use Rattle.std.proofs.Common.{refl, sym, ap}
+use Rattle.std.proofs.Common.{◌≡◌, refl, sym, ap}
 use Rattle.quilt_words.specs.declared.command.Command.TheVariants as commands
 use Rattle.quilt_map.specs.Asking.{reads_in}
 use Rattle.quilt_map.specs.Reading.{is_bounded}
 use Rattle.quilt_map.specs.Selecting.{layer_asked}
 use Rattle.quilt_map.specs.Sessions.{IsAtState}
-use Rattle.quilt_map.specs.Steps.{gives_edition}
+use Rattle.quilt_map.specs.Steps.{gives_edition, goes_back}
 use Rattle.quilt_map.proofs.questions.Bounded.{unbounded_else, unbounded_reads, find_reads, ask_reads}
-use Rattle.quilt_map.proofs.answers.Commanded.{applied_going, applied_giving, fitting_here, sound_at, quiet_else, forward_else, quiet_revert}
+use Rattle.quilt_map.proofs.answers.Commanded.{applied_going, applied_giving, fitting_here, sound_at, never_back, quiet_else, forward_else, quiet_revert}
 use Rattle.quilt_map.proofs.states.Going.{goes_of}
 use Rattle.quilt_map.proofs.questions.Selects.{fits_some}
 use Rattle.quilt_map.proofs.session.Session.dispatch.Goals as goal
@@ -37,7 +37,7 @@ returns-in-Publish g c =
     (sound_at (IsAtState {D = g.W.Disk} old) c.publish.result e.sound) e.cause
     (unbounded_reads (IsAtState {D = g.W.Disk} old) (reads_in {D = g.W.Disk} old.book) (reads_in {D = g.W.Disk} new.book) command c.publish.result
     (ap is_bounded c.in-Publish.is))
-    e.level e.door e.events e.crash e.writes
+    (ap gives_edition c.in-Publish.is) e.quiet e.level e.door e.events e.crash e.writes
 
 pub returns-in-Upgrade : goal.returns-in-Upgrade
 returns-in-Upgrade g c =
@@ -49,7 +49,7 @@ returns-in-Upgrade g c =
     (sound_at (IsAtState {D = g.W.Disk} old) c.upgrade.result e.sound) e.cause
     (unbounded_reads (IsAtState {D = g.W.Disk} old) (reads_in {D = g.W.Disk} old.book) (reads_in {D = g.W.Disk} new.book) command c.upgrade.result
     (ap is_bounded c.in-Upgrade.is))
-    e.level e.door e.events e.crash e.writes
+    (ap gives_edition c.in-Upgrade.is) e.quiet e.level e.door e.events e.crash e.writes
 
 pub returns-in-Revert : goal.returns-in-Revert
 returns-in-Revert g c =
@@ -61,7 +61,7 @@ returns-in-Revert g c =
     (sound_at (IsAtState {D = g.W.Disk} old) c.revert.result e.memory) e.cause
     (unbounded_reads (IsAtState {D = g.W.Disk} old) (reads_in {D = g.W.Disk} old.book) (reads_in {D = g.W.Disk} new.book) command c.revert.result
     (ap is_bounded c.in-Revert.is))
-    e.goes_on (quiet_revert command c.in-Revert.is)
+    e.goes_on (quiet_revert command c.in-Revert.is) (λ is. e.world)
 
 pub returns-in-Find : goal.returns-in-Find
 returns-in-Find g c =
@@ -73,6 +73,7 @@ returns-in-Find g c =
     (find_reads (IsAtState {D = g.W.Disk} old) (reads_in {D = g.W.Disk} old.book)
     (reads_in {D = g.W.Disk} new.book) command c.in-Find.p c.in-Find.at c.find_point.result c.in-Find.is e.reads)
     (goes_of {D = g.W.Disk} old.book new.book e.keeps.book.later) (ap gives_edition c.in-Find.is)
+    (never_back command (new.book.world ≡ old.book.world) (ap goes_back c.in-Find.is))
 
 pub returns-in-Cross : goal.returns-in-Cross
 returns-in-Cross g c =
@@ -84,6 +85,7 @@ returns-in-Cross g c =
     (ask_reads (IsAtState {D = g.W.Disk} old) (reads_in {D = g.W.Disk} old.book) (reads_in {D = g.W.Disk} new.book) command c.in-Cross.l c.ask_lines.result
     (ap layer_asked c.in-Cross.is) e.reads)
     (goes_of {D = g.W.Disk} old.book new.book e.keeps.book.later) (ap gives_edition c.in-Cross.is)
+    (never_back command (new.book.world ≡ old.book.world) (ap goes_back c.in-Cross.is))
 
 pub returns-in-Clip : goal.returns-in-Clip
 returns-in-Clip g c =
@@ -95,6 +97,7 @@ returns-in-Clip g c =
     (ask_reads (IsAtState {D = g.W.Disk} old) (reads_in {D = g.W.Disk} old.book)
     (reads_in {D = g.W.Disk} new.book) command c.in-Clip.l c.ask_lines-in-Clip.result (ap layer_asked c.in-Clip.is) e.reads)
     (goes_of {D = g.W.Disk} old.book new.book e.keeps.book.later) (ap gives_edition c.in-Clip.is)
+    (never_back command (new.book.world ≡ old.book.world) (ap goes_back c.in-Clip.is))
 
 pub returns-in-Nearest : goal.returns-in-Nearest
 returns-in-Nearest g c =
@@ -106,6 +109,7 @@ returns-in-Nearest g c =
     (ask_reads (IsAtState {D = g.W.Disk} old) (reads_in {D = g.W.Disk} old.book)
     (reads_in {D = g.W.Disk} new.book) command c.in-Nearest.l c.ask_lines-in-Nearest.result (ap layer_asked c.in-Nearest.is) e.reads)
     (goes_of {D = g.W.Disk} old.book new.book e.keeps.book.later) (ap gives_edition c.in-Nearest.is)
+    (never_back command (new.book.world ≡ old.book.world) (ap goes_back c.in-Nearest.is))
 
 pub returns-in-Rank : goal.returns-in-Rank
 returns-in-Rank g c =
@@ -117,6 +121,7 @@ returns-in-Rank g c =
     (ask_reads (IsAtState {D = g.W.Disk} old) (reads_in {D = g.W.Disk} old.book)
     (reads_in {D = g.W.Disk} new.book) command c.in-Rank.l c.ask_lines-in-Rank.result (ap layer_asked c.in-Rank.is) e.reads)
     (goes_of {D = g.W.Disk} old.book new.book e.keeps.book.later) (ap gives_edition c.in-Rank.is)
+    (never_back command (new.book.world ≡ old.book.world) (ap goes_back c.in-Rank.is))
 
 pub returns-in_default : goal.returns-in_default
 returns-in_default g c =
@@ -129,3 +134,4 @@ returns-in_default g c =
     (unbounded_reads (IsAtState {D = g.W.Disk} old) (reads_in {D = g.W.Disk} old.book) (reads_in {D = g.W.Disk} new.book) command c.serve.result
     (unbounded_else command d.not-At d.not-Find d.not-Cross d.not-Clip d.not-Nearest d.not-Rank))
     e.goes_on (quiet_else command d.not-Publish d.not-Upgrade)
+    (never_back command (new.book.world ≡ old.book.world) (forward_else command d.not-Revert))
