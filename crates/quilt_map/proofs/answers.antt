@@ -10,3 +10,4 @@ pub mod Parts
 pub mod Placing
 pub mod Prefixes
 pub mod TextLaws
+pub mod WholeItems

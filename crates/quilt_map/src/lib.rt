@@ -34,4 +34,4 @@ mod views;
 
 pub use quilt_replies::Reply;
 pub use session::Session;
-pub use settled::settled_replies;
+pub use settled::{settled_law, settled_replies};

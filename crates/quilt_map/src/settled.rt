@@ -2,10 +2,15 @@ ghost use Rattle.std.specs.Prelude.{◌≡◌, ℕ, List, ◌++◌, length, IfOk
 ghost use Rattle.quilt_types.specs.Layers.{Edition};
 ghost use Rattle.quilt_words.specs.Items.{whole_items};
 ghost use Rattle.quilt_replies.specs.Runs.{run};
-ghost use Rattle.quilt_map.specs.Settled.{IsSettled};
+ghost use Rattle.quilt_map.specs.Settled.{IsSettled, SettledLaw};
 
 use quilt_lang::Lines;
 use std::alloc::{AllocError, Global};
+
+/// The replies to the whole items of a text stand, whatever text follows it.
+pub fn settled_law()
+    ensures law { SettledLaw }
+{}
 
 /// How many replies of a text that may go on are settled: those to its whole items, which are the same lines in either format.
 /// Whatever follows, and from whatever edition it runs, the replies to the longer text begin with these.

@@ -1,14 +1,13 @@
 -- The replies to items, and then to more.
-use Rattle.std.proofs.Common.{◌≡◌, ℕ, suc, false, List, [], ◌∷◌, ◌++◌, length, length-append, take, refl, sym, ◌∙◌, ap, arith, append-nil, unwrap_or}
+use Rattle.std.proofs.Common.{◌≡◌, ℕ, suc, List, [], ◌∷◌, ◌++◌, length, length-append, take, refl, sym, ◌∙◌, ap, arith, append-nil, unwrap_or}
 use Rattle.std.proofs.lemmas.List.{take_at}
 use Rattle.quilt_types.specs.Layers.{Map, Edition}
 use Rattle.quilt_world.specs.Tale.{Begins}
-use Rattle.quilt_words.specs.Items.{Group, items_of}
-use Rattle.quilt_lang.specs.Reading.{Gives}
+use Rattle.quilt_words.specs.Items.{Group, items_of, whole_items}
 use Rattle.quilt_replies.specs.Answers.{Reply}
 use Rattle.quilt_replies.specs.Runs.{run, run_of, replies_of, outcome_of, form_in}
-use Rattle.quilt_map.specs.Settled.{IsSettled}
-use Rattle.quilt_map.proofs.answers.TextLaws.{run_same}
+use Rattle.quilt_map.specs.Settled.{IsSettled, SettledLaw}
+use Rattle.quilt_map.proofs.answers.WholeItems.{whole_front}
 
 length-replies : (q : ℕ) (last : Edition) (work : Map) (g : List Group) → length (replies_of (run_of q last work g)) ≡ length g
 length-replies q last work [] = refl
@@ -39,14 +38,14 @@ settled q first work g h k =
 
 -- ---- a text that may go on
 
-pub settled_run : (n q : ℕ) (first : Edition) (u v rest : List ℕ) (items : List Group) → first.level ≡ n → Gives false n items u rest
-    → IsSettled (length items) (run q first u) (run q first (u ++ v))
+pub settled_text : SettledLaw
 unfolding run
-settled_run n q first u v rest items at gives =
-    let one : run_of q first first.layers (items_of first.level u) ≡ run_of q first first.layers (items ++ items_of n (rest ++ [])) =
-    ap (λ m. run_of q first first.layers (items_of m u)) at
-    ∙ ap (λ (t : List ℕ). run_of q first first.layers (items_of n t)) (sym (append-nil u))
-    ∙ run_same q first first.layers n _ _ at (gives.all [] tt) in
-    let other : run_of q first first.layers (items_of first.level (u ++ v)) ≡ run_of q first first.layers (items ++ items_of n (rest ++ v)) =
-    ap (λ m. run_of q first first.layers (items_of m (u ++ v))) at ∙ run_same q first first.layers n _ _ at (gives.all v tt) in
-    rw (one, other) (settled q first first.layers items (items_of n (rest ++ [])) (items_of n (rest ++ v)))
+settled_text n q first at text more =
+    let here = whole_front n text [] in
+    let longer = whole_front n text more in
+    let ran = λ (items : List Group). run_of q first first.layers items in
+    let one : ran (items_of first.level text) ≡ ran (whole_items n text ++ here.0) =
+    ap (λ m. ran (items_of m text)) at ∙ ap (λ (t : List ℕ). ran (items_of n t)) (sym (append-nil text)) ∙ ap ran here.1 in
+    let other : ran (items_of first.level (text ++ more)) ≡ ran (whole_items n text ++ longer.0) =
+    ap (λ m. ran (items_of m (text ++ more))) at ∙ ap ran longer.1 in
+    rw (one, other) (settled q first first.layers (whole_items n text) here.0 longer.0)

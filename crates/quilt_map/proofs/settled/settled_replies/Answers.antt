@@ -1,6 +1,6 @@
 use Rattle.std.proofs.Common.{◌≡◌, ◌∙◌, ◌∷◌, [], ◌++◌, length, length-append, sym, ap, arith, rules}
 use Rattle.quilt_map.proofs.answers.TextLaws.{whole_empty, gives_then, fewer_left, settled_count}
-use Rattle.quilt_map.proofs.answers.Prefixes.{settled_run}
+use Rattle.quilt_map.proofs.answers.Prefixes.{settled_text}
 use Rattle.quilt_map.proofs.settled.settled_replies.Goals as goal
 
 pub feed-requires : goal.feed-requires
@@ -46,6 +46,4 @@ returns-clause-whole c =
 
 pub returns-clause-front : goal.returns-clause-front
 returns-clause-front c = λ q first at more.
-    let so = c.items.invariant.given in
-    let size : c.len.result ≡ length c.items.items.items = search rules in
-    rw (size ∙ sym so.1) (settled_run c.args.level q first c.args.text.now more c.items.lines.rest so.0 at so.2)
+    rw (returns-clause-whole c) (settled_text c.args.level q first at c.args.text.now more)
