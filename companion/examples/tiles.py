@@ -170,7 +170,7 @@ def run(folder: Path, columns: int, rows: int, level: int, pages: int, workers: 
 @click.argument("folder", type=click.Path(path_type=Path))
 @click.option("--tiles", "shape", default="8x8", show_default=True)
 @click.option("--level", default=12, show_default=True)
-@click.option("--pages", default=8000, show_default=True)
+@click.option("--pages", default=20000, show_default=True)
 @click.option("--lines", default=2000, show_default=True, help="How many lines of 49 segments.")
 @click.option("--workers", multiple=True, type=int, default=(1, 4), show_default=True)
 def main(folder: Path, shape: str, level: int, pages: int, lines: int, workers: tuple[int, ...]) -> None:

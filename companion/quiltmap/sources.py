@@ -311,17 +311,22 @@ class RasterSource:
 
     def _picked(self, raster: rasterio.DatasetReader, columns: NDArray[np.int64], rows: NDArray[np.int64]) -> "np.ma.MaskedArray":
         """The values of columns and rows of the source, of which some may lie outside."""
-        found = np.ma.masked_all((len(rows), len(columns)), raster.dtypes[self.band - 1])
-        has_column, has_row = (columns >= 0) & (columns < self.width), (rows >= 0) & (rows < self.height)
-        if not (has_column.any() and has_row.any()):
-            return found
-        columns, rows = columns[has_column], rows[has_row]
+        shape = len(rows), len(columns)
+        # Columns and rows rise or fall all along, so those that are there lie side by side.
+        across, down = np.flatnonzero((columns >= 0) & (columns < self.width)), np.flatnonzero((rows >= 0) & (rows < self.height))
+        if not len(across) or not len(down):
+            return np.ma.masked_all(shape, raster.dtypes[self.band - 1])
+        columns, rows = columns[across], rows[down]
         left, top = int(columns.min()), int(rows.min())
         part = Window(left, top, int(columns.max()) - left + 1, int(rows.max()) - top + 1)
-        values = np.ma.MaskedArray(raster.read(self.band, window=part), raster.read_masks(self.band, window=part) == 0)
-        # Columns and rows rise or fall all along, so those that are there lie in one window.
-        inside = np.ix_(has_row, has_column)
-        found[inside] = values[:, columns - left][rows - top]
+        values = raster.read(self.band, window=part)[:, columns - left][rows - top]
+        mask = raster.read_masks(self.band, window=part)[:, columns - left][rows - top] == 0
+        if values.shape == shape:
+            return np.ma.MaskedArray(values, mask)
+        found = np.ma.masked_all(shape, values.dtype)
+        inside = slice(down[0], down[-1] + 1), slice(across[0], across[-1] + 1)
+        found.data[inside] = values
+        found.mask[inside] = mask
         return found
 
     def _warped(self, raster: rasterio.DatasetReader, place: Place, window: Window) -> "np.ma.MaskedArray":

@@ -100,6 +100,26 @@ def test_a_copy_without_its_pages_of_zeros(tmp_path):
     assert work.size_of(tmp_path / "thin") <= 65_536 < work.size_of(tmp_path / "full")
 
 
+def test_a_copy_of_a_map_has_no_journal_unless_that_is_open(program, tmp_path):
+    quiltmap.new(tmp_path / "map", 40, 5)
+    board = np.random.default_rng(2).integers(0, 200, (32, 32))
+    with quiltmap.open(tmp_path / "map") as m:
+        m.region("a", 0)
+        m.raster("a", board)
+        m.publish()
+    whole = (tmp_path / "map").read_bytes()
+    store.copy_map(tmp_path / "map", tmp_path / "copy")
+    copied = (tmp_path / "copy").read_bytes()
+    assert copied[: 43 * 4096] == whole[: 43 * 4096] and len(copied) == len(whole)
+    assert any(whole[43 * 4096 :]) and not any(copied[43 * 4096 :])
+    with quiltmap.open(tmp_path / "copy") as m:
+        assert m.edition() == 1 and (m.show("a", 0, 0, 32, 32) == board).all()
+    # The gate is open: the slots count.
+    (tmp_path / "open").write_bytes(whole[:4096] + b"\1" + whole[4097:])
+    store.copy_map(tmp_path / "open", tmp_path / "other")
+    assert (tmp_path / "other").read_bytes() == (tmp_path / "open").read_bytes()
+
+
 def test_a_copy_where_the_system_copies_no_range(tmp_path, monkeypatch):
     def refuse(*_):
         raise OSError(errno.EXDEV, "not here")

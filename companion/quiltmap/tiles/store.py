@@ -261,25 +261,39 @@ def copy_file(source: Path, target: Path) -> None:
     _copy(source, target, _copy_range)
 
 
+def copy_map(source: Path, target: Path) -> None:
+    """Copies a map file that no run has open, as `copy_file` does, without the slots of its journal where that is closed, since they count for nothing."""
+    _copy(source, target, _copy_range, _counting)
+
+
 def copy_thin(source: Path, target: Path) -> None:
     """Copies a file, its pages of zeros as holes. The target is a new file, which goes where this fails; it need not be on the disk yet."""
     _copy(source, target, _copy_pages)
 
 
-def _copy(source: Path, target: Path, copy_part: Callable[[int, int, int, int], None]) -> None:
+def _copy(source: Path, target: Path, copy_part: Callable[[int, int, int, int], None],
+          measure: Callable[[int, int], int] = lambda _, size: size) -> None:
     try:
         with open(source, "rb") as old, open(target, "xb") as made:
             size = os.fstat(old.fileno()).st_size
             os.ftruncate(made.fileno(), size)
-            for begin, end in _extents(old.fileno(), size):
+            for begin, end in _extents(old.fileno(), measure(old.fileno(), size)):
                 copy_part(old.fileno(), made.fileno(), begin, end)
     except BaseException:
         target.unlink(missing_ok=True)
         raise
 
 
+def _counting(descriptor: int, size: int) -> int:
+    """How many bytes of a map file count, from its first on: all but the slots, unless the gate of its journal is open (docs/FORMAT.md)."""
+    pages = (size // _PAGE - 3) // 2
+    if size != (3 + 2 * pages) * _PAGE or os.pread(descriptor, 1, _PAGE) == b"\1":
+        return size
+    return (3 + pages) * _PAGE
+
+
 def _extents(descriptor: int, size: int) -> Iterator[tuple[int, int]]:
-    """The parts of a file that hold data."""
+    """The parts of the first bytes of a file that hold data."""
     end = 0
     while end < size:
         try:
@@ -288,7 +302,9 @@ def _extents(descriptor: int, size: int) -> Iterator[tuple[int, int]]:
             if error.errno == errno.ENXIO:
                 return
             raise
-        end = os.lseek(descriptor, begin, os.SEEK_HOLE)
+        if begin >= size:
+            return
+        end = min(os.lseek(descriptor, begin, os.SEEK_HOLE), size)
         yield begin, end
 
 

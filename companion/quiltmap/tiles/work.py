@@ -18,7 +18,7 @@ from typing import Any, Callable, Iterator, Optional
 from .. import client
 from ..client import Map
 from ..errors import Ended, InUse, Refused
-from .store import MovedOn, Tile, copy_file
+from .store import MovedOn, Tile, copy_map
 
 #: How many seconds a question waits for a tile that another run has.
 PATIENCE = 60.0
@@ -72,7 +72,7 @@ def change(tile: Tile, pool: Optional[int], token: str, work: Work, *arguments: 
     made = tile.changed(token)
     draft = made.with_name(f"{made.name}.{uuid.uuid4().hex}")
     try:
-        copy_file(tile.path, draft)
+        copy_map(tile.path, draft)
         told = _changed(tile, draft, pool, work, *arguments)
         os.rename(draft, made)
         return told
