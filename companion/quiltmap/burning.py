@@ -79,9 +79,10 @@ def inside(rings: Sequence[Ring], side: int) -> tuple[slice, slice, NDArray[np.b
     pixels = np.clip(pixels, 0, side)
     top, bottom, left, right = rows.min(), rows.max() + 1, pixels.min(), pixels.max()
     width = right - left + 1
-    turns = np.bincount((rows - top) * width + pixels - left, minlength=(bottom - top) * width)
-    odd = (turns & 1).astype(bool).reshape(bottom - top, width)
-    mask = np.logical_xor.accumulate(odd, axis=1)[:, :-1]
+    turns, counts = np.unique((rows - top) * width + pixels - left, return_counts=True)
+    odd = np.zeros((bottom - top, width), bool)
+    odd.ravel()[turns[counts % 2 == 1]] = True
+    mask = np.logical_xor.accumulate(odd, axis=1, out=odd)[:, :-1]
     return slice(top, bottom), slice(left, right), mask
 
 
@@ -89,8 +90,8 @@ def burn(colours: NDArray[np.integer], rings: Sequence[Ring], colour: int) -> tu
     """Gives the pixels inside of rings a colour. Gives how many they are, and how many of them had another colour than 0."""
     rows, columns, mask = inside(rings, len(colours))
     window = colours[rows, columns]
-    taken = np.count_nonzero(window[mask])
-    window[mask] = colour
+    taken = np.count_nonzero(mask & (window != 0))
+    np.copyto(window, colour, where=mask)
     return int(np.count_nonzero(mask)), int(taken)
 
 
