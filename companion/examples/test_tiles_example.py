@@ -17,4 +17,4 @@ def test_a_small_measurement(program, tmp_path):
     assert ran.returncode == 0, ran.stderr
     lines = ran.stdout.splitlines()
     assert lines[0].startswith("2 by 2 tiles of level 7; ") and lines[1] == "| step | 1 | 2 | times faster | of processors, with 1 |"
-    assert sum(line.startswith("| ") for line in lines) == 15 and lines[-1].startswith("room on the disk, MB: ")
+    assert sum(line.startswith("| ") for line in lines) == 19 and lines[-1].startswith("room on the disk, MB: ")

@@ -25,6 +25,7 @@ import numpy as np
 import rasterio
 from affine import Affine
 from distributed import Client, LocalCluster
+from numpy.typing import NDArray
 from rasterio.windows import Window
 from shapely.geometry import LineString
 
@@ -68,6 +69,9 @@ def steps_of(grid: tiles.Grid, raster: Path, lines: Path) -> dict[str, Callable[
         "buffer by 100": lambda: grid.buffer("clay", 100, "near"),
         "union": lambda: grid.union("soil", "near", "both"),
         "inter": lambda: grid.inter("soil", "near", "wet"),
+        "shift by 100": lambda: grid.shift("soil", 100, -100, "moved"),
+        "polygon": lambda: grid.polygon("round", 1, [ring_in(grid)]),
+        "lines as a region": lambda: import_source(grid, str(lines), "track", Choices(kind="region"))[-1],
         "area": lambda: grid.area("both", 1),
         "perimeter": lambda: grid.perimeter("both", 1),
         "over": lambda: len(grid.over("road", "clay")),
@@ -75,6 +79,14 @@ def steps_of(grid: tiles.Grid, raster: Path, lines: Path) -> dict[str, Callable[
         **{f"cross over {n} by {n} tiles": crossing(grid, n) for n in (1, 2, 4, 8) if n <= min(grid.frame.columns, grid.frame.rows)},
         "rank of 100": lambda: grid.rank("road", middle, middle, 100)[-1],
     }
+
+
+def ring_in(grid: tiles.Grid) -> NDArray[np.int64]:
+    """A ring of 100,000 corners, which winds through most tiles."""
+    turns = np.linspace(0, 2 * np.pi, 100_000, endpoint=False)
+    far = 0.4 + 0.08 * np.sin(40 * turns)
+    middle = np.array([grid.frame.width, grid.frame.height]) / 2
+    return np.rint(middle + 2 * middle * far[:, None] * np.stack([np.cos(turns), np.sin(turns)], axis=1)).astype(np.int64)
 
 
 def crossing(grid: tiles.Grid, count: int) -> Callable[[], int]:
@@ -137,9 +149,9 @@ def run(folder: Path, columns: int, rows: int, level: int, pages: int, workers: 
         Watch() as watch,
     ):
         name = str(folder / f"grid{workers}")
-        begin = time.perf_counter()
+        begin, before = time.perf_counter(), spent()
         tiles.new(name, columns, rows, level, pages)
-        seconds["new"] = time.perf_counter() - begin
+        seconds["new"], processors["new"] = time.perf_counter() - begin, spent() - before
         with tiles.Grid(name, client=client, pool=1024) as grid:
             for step, do in steps_of(grid, folder / "soil.tif", folder / "road.gpkg").items():
                 begin, before = time.perf_counter(), sum(client.run(spent).values()) + spent()
@@ -158,7 +170,7 @@ def run(folder: Path, columns: int, rows: int, level: int, pages: int, workers: 
 @click.argument("folder", type=click.Path(path_type=Path))
 @click.option("--tiles", "shape", default="8x8", show_default=True)
 @click.option("--level", default=12, show_default=True)
-@click.option("--pages", default=8000, show_default=True)
+@click.option("--pages", default=20000, show_default=True)
 @click.option("--lines", default=2000, show_default=True, help="How many lines of 49 segments.")
 @click.option("--workers", multiple=True, type=int, default=(1, 4), show_default=True)
 def main(folder: Path, shape: str, level: int, pages: int, lines: int, workers: tuple[int, ...]) -> None:

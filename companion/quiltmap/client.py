@@ -26,9 +26,6 @@ _WITH_ROWS = ("raster", "scatter", "polygon")
 #: How many commands of a batch are under way at once.
 _BATCH = 2_000
 
-_DIGITS = np.frombuffer(b"0123456789abcdef", np.uint8)
-_PAIRS_OF_DIGITS = np.stack([np.repeat(_DIGITS, 16), np.tile(_DIGITS, 16)], axis=1)
-
 
 class Layer(NamedTuple):
     """A layer as `layers` tells it.
@@ -246,11 +243,8 @@ class Map:
             raise ValueError(f"colours are whole numbers, not {colours.dtype}")
         if colours.min() < 0 or colours.max() > self.most_colour:
             raise ValueError(f"colours of this map, whose format is {self.format}, are 0 to {self.most_colour}")
-        cells = np.ascontiguousarray(colours, np.uint8 if self.format == 1 else ">u2").view(np.uint8)
-        width = 2 * cells.shape[1]
-        text = np.full((self.side, width + 1), ord("\n"), np.uint8)
-        text[:, :width] = _PAIRS_OF_DIGITS[cells].reshape(self.side, width)
-        return text.tobytes()[:-1]
+        cells = np.ascontiguousarray(colours, np.uint8 if self.format == 1 else ">u2")
+        return cells.tobytes().hex("\n", cells.itemsize * self.side).encode()
 
     def polygon(self, layer: str, c: int, rings: Sequence[ArrayLike]) -> None:
         """Makes a region layer with the colour c inside of rings, and 0 elsewhere.

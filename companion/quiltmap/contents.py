@@ -9,11 +9,10 @@ from typing import Iterator, Optional
 import numpy as np
 import pandas as pd
 from numpy.typing import NDArray
-from rasterio.features import rasterize
 from shapely.geometry import LineString
 from shapely.ops import clip_by_rect
 
-from .burning import Ring, burn, cleaned, parted
+from .burning import Lines, Ring, burn, burn_lines, cleaned, parted
 from .client import MOST_RINGS
 from .console import progress
 from .place import Place, rounded
@@ -199,17 +198,26 @@ def _outside(features: Features, place: Place) -> set[int]:
 
 def _burn_passed(content: Content, features: Features, place: Place, numbers: NDArray[np.int64]) -> NDArray[np.int64]:
     """Burns lines or points, and gives the rows of those that have pixels."""
-    side = place.side
-    outside = _outside(features, place)
-    content.tally.left_out["outside of the map"] = len(outside)
-    shapes = []
-    for owner, part in zip(features.owners.tolist(), features.parts):
-        places = place.of_ground(part)
-        kind = "Point" if len(places) == 1 else "LineString"
-        coordinates = places[0].tolist() if kind == "Point" else places.tolist()
-        shapes.append(({"type": kind, "coordinates": coordinates}, int(numbers[owner])))
-    content.colours = rasterize(shapes, out_shape=(side, side), all_touched=True, dtype=np.uint16)
-    return np.array(sorted(set(features.owners.tolist()) - outside), np.int64)
+    owners, lines = straight_lines(features, place)
+    content.colours = np.zeros((place.side, place.side), np.uint16)
+    entered = np.unique(owners[burn_lines(content.colours, lines, numbers[owners])])
+    content.tally.left_out["outside of the map"] = len(np.unique(features.owners)) - len(entered)
+    return entered
+
+
+def straight_lines(features: Features, place: Place) -> tuple[NDArray[np.int64], Lines]:
+    """Lines and points as straight lines, in pixels and fractions of them: the row of the feature that each belongs to, and its ends."""
+    places = place.of_ground(np.concatenate(features.parts))
+    counts = np.array([len(part) for part in features.parts])
+    owners = np.repeat(features.owners, counts)
+    ends = np.cumsum(counts)
+    goes_on = np.ones(len(places), bool)
+    goes_on[ends - 1] = False
+    # The last place of a part begins no line, unless it is the only one: a line of no length.
+    begin = np.flatnonzero(goes_on | (np.repeat(counts, counts) == 1))
+    lines = np.hstack([places[begin], places[begin + goes_on[begin]]])
+    finite = np.isfinite(lines).all(axis=1)
+    return owners[begin][finite], lines[finite]
 
 
 def region_of_raster(source: RasterSource, place: Place, classes: Optional[list[float]]) -> Content:
@@ -227,18 +235,19 @@ def region_of_raster(source: RasterSource, place: Place, classes: Optional[list[
 
 def colours_of(values: "np.ma.MaskedArray", classes: Optional[list[float]]) -> NDArray[np.uint16]:
     """The colours of a raster's values: themselves, or the numbers of their classes, and 0 where there is none. Raises BadSource."""
+    missing = np.ma.getmaskarray(values)
     if classes is not None:
         colours = np.digitize(values.filled(0), classes) + 1
     else:
-        known = values.compressed()
+        known = values.compressed() if missing.any() else values.data
         is_whole = known.dtype.kind in "iub" or bool((known == np.floor(known)).all())
-        if len(known) and (not is_whole or known.min() < 0 or known.max() > MOST_COLOUR):
+        if known.size and (not is_whole or known.min() < 0 or known.max() > MOST_COLOUR):
             raise BadSource(
                 f"values from {known.min():g} to {known.max():g} are no colours, which are whole numbers from 0 to {MOST_COLOUR}:"
                 " cut them into classes by --classes"
             )
         colours = values.filled(0)
-    return np.where(np.ma.getmaskarray(values), 0, colours).astype(np.uint16)
+    return np.where(missing, 0, colours).astype(np.uint16)
 
 
 def table_of_classes(classes: Optional[list[float]]) -> Optional[pd.DataFrame]:

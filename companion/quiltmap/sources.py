@@ -20,7 +20,7 @@ from fiona.errors import FionaError
 from numpy.typing import NDArray
 from pyproj import CRS, Transformer
 from pyproj.exceptions import CRSError, ProjError
-from rasterio.enums import Resampling
+from rasterio.enums import ColorInterp, Resampling
 from rasterio.errors import NotGeoreferencedWarning, RasterioError, RasterioIOError
 from rasterio.vrt import WarpedVRT
 from rasterio.windows import Window
@@ -29,6 +29,12 @@ from .place import Bounds, Place
 
 #: Stands for a plane that has no reference system, where GDAL wants one for both sides of a transformation.
 _PLANE = "EPSG:3857"
+
+#: How far from the edge of a source's pixel, in such pixels, a place counts as on it.
+_NEAR = 1e-6
+
+#: How many pixels a side a source may have under one of a map, to be read without a warp.
+_DENSER = 2
 
 _SORTS = {"Point": "points", "LineString": "lines", "Polygon": "region"}
 _WORDS = {"points": "points", "lines": "lines", "region": "polygons"}
@@ -281,26 +287,80 @@ class RasterSource:
 
     def read(self, place: Place, window: Optional[Window] = None) -> "np.ma.MaskedArray":
         """The values at the middles of the pixels of a place, or of a window of it, masked where there is none."""
+        window = window or Window(0, 0, place.side, place.side)
         with _opened_raster(self.source) as raster:
-            crs = _PLANE if self.crs is None or place.crs is None else None
-            options = {
-                "src_crs": crs or self.crs.to_wkt(),
-                "crs": crs or place.crs.to_wkt(),
-                "src_transform": self.transform,
-                "transform": place.transform,
-                "width": place.side,
-                "height": place.side,
-                "resampling": Resampling.nearest,
-                "tolerance": 1e-6,
-            }
-            if raster.nodata is None:
-                options["add_alpha"] = True
-            with WarpedVRT(raster, **options) as warped:
-                values = warped.read(self.band, window=window)
-                mask = warped.read_masks(self.band, window=window) == 0
+            pixels = self._pixels_under(place, window)
+            values = self._warped(raster, place, window) if pixels is None else self._picked(raster, *pixels)
         if values.dtype.kind == "f":
-            mask |= ~np.isfinite(values)
-        return np.ma.MaskedArray(values, mask)
+            values[~np.isfinite(values.data)] = np.ma.masked
+        return values
+
+    def _pixels_under(self, place: Place, window: Window) -> Optional[tuple[NDArray[np.int64], NDArray[np.int64]]]:
+        """The columns and the rows of the source under the middles of a window's pixels.
+
+        None where the two do not lie one along the other, or where the source has far more pixels there than the window.
+        """
+        here, there = self.transform, place.transform
+        if here.b or here.d or there.b or there.d or not _are_same(self.crs, place.crs):
+            return None
+        if abs(there.a) > _DENSER * abs(here.a) or abs(there.e) > _DENSER * abs(here.e):
+            return None
+        x = there.c + (window.col_off + np.arange(window.width) + 0.5) * there.a
+        y = there.f + (window.row_off + np.arange(window.height) + 0.5) * there.e
+        return _wholes((x - here.c) / here.a), _wholes((y - here.f) / here.e)
+
+    def _picked(self, raster: rasterio.DatasetReader, columns: NDArray[np.int64], rows: NDArray[np.int64]) -> "np.ma.MaskedArray":
+        """The values of columns and rows of the source, of which some may lie outside."""
+        shape = len(rows), len(columns)
+        # Columns and rows rise or fall all along, so those that are there lie side by side.
+        across, down = np.flatnonzero((columns >= 0) & (columns < self.width)), np.flatnonzero((rows >= 0) & (rows < self.height))
+        if not len(across) or not len(down):
+            return np.ma.masked_all(shape, raster.dtypes[self.band - 1])
+        columns, rows = columns[across], rows[down]
+        left, top = int(columns.min()), int(rows.min())
+        part = Window(left, top, int(columns.max()) - left + 1, int(rows.max()) - top + 1)
+        values = raster.read(self.band, window=part)[:, columns - left][rows - top]
+        mask = raster.read_masks(self.band, window=part)[:, columns - left][rows - top] == 0
+        if values.shape == shape:
+            return np.ma.MaskedArray(values, mask)
+        found = np.ma.masked_all(shape, values.dtype)
+        inside = slice(down[0], down[-1] + 1), slice(across[0], across[-1] + 1)
+        found.data[inside] = values
+        found.mask[inside] = mask
+        return found
+
+    def _warped(self, raster: rasterio.DatasetReader, place: Place, window: Window) -> "np.ma.MaskedArray":
+        """The values as GDAL warps them."""
+        crs = _PLANE if self.crs is None or place.crs is None else None
+        options = {
+            "src_crs": crs or self.crs.to_wkt(),
+            "crs": crs or place.crs.to_wkt(),
+            "src_transform": self.transform,
+            "transform": place.transform,
+            "width": place.side,
+            "height": place.side,
+            "resampling": Resampling.nearest,
+            "tolerance": _NEAR,
+        }
+        if raster.nodata is None:
+            options["add_alpha"] = True
+        with WarpedVRT(raster, **options) as warped:
+            # Of floating-point numbers, and of several bands, what the masks of bands tell leaves the alpha out.
+            roles = list(warped.colorinterp)
+            alpha = warped.read(roles.index(ColorInterp.alpha) + 1, window=window) if ColorInterp.alpha in roles else None
+            mask = warped.read_masks(self.band, window=window) if alpha is None else alpha
+            return np.ma.MaskedArray(warped.read(self.band, window=window), mask == 0)
+
+
+def _are_same(crs: Optional[CRS], other: Optional[CRS]) -> bool:
+    if crs is None or other is None:
+        return crs is other
+    return bool(crs.equals(other, ignore_axis_order=True))
+
+
+def _wholes(places: NDArray[np.float64]) -> NDArray[np.int64]:
+    """The whole numbers not above places, where one that is nearly the next whole number is that."""
+    return np.floor(np.clip(places + _NEAR, -1, 2**40)).astype(np.int64)
 
 
 def read_raster(source: str, band: int, crs: Optional[str]) -> RasterSource:

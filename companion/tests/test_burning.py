@@ -1,11 +1,14 @@
 """Burning beside a rule of its own, and beside the program's polygons."""
 
+from fractions import Fraction
+from math import ceil, floor
+
 import numpy as np
 import pytest
 from rules import even_odd
 
 import quiltmap
-from quiltmap.burning import burn, cleaned, inside, parted
+from quiltmap.burning import burn, burn_lines, cleaned, inside, parted, passed, trimmed
 
 
 def drawn_rings(numbers, low, high, most_corners=9):
@@ -34,6 +37,24 @@ def test_parts_of_rings_have_the_same_pixels(seed):
     parts = list(parted(rings, most))
     assert max(len(" ".join(map(str, part.ravel()))) for part in parts) <= most
     assert (even_odd(parts, 16) == even_odd(rings, 16)).all()
+
+
+@pytest.mark.parametrize("seed", range(300))
+def test_rings_without_corners_that_do_not_matter(seed):
+    numbers = np.random.default_rng(seed)
+    ring = cleaned(numbers.integers(-12, 21, (numbers.integers(3, 40), 2)))
+    short = trimmed(ring, 8)
+    assert (even_odd([short], 8) == even_odd([ring], 8)).all()
+    assert len(short) <= len(ring)
+    beside = (short <= 0).any(axis=1) | (short >= 8).any(axis=1)
+    assert np.count_nonzero(~beside) == np.count_nonzero(((ring > 0) & (ring < 8)).all(axis=1))
+
+
+def test_a_ring_far_around_or_beside_has_hardly_a_corner():
+    turns = np.linspace(0, 2 * np.pi, 10_000, endpoint=False)
+    ring = np.rint(500 * np.stack([np.cos(turns), np.sin(turns)], axis=1)).astype(int)
+    assert 4 <= len(trimmed(ring, 8)) <= 8 and even_odd([trimmed(ring, 8)], 8).all()
+    assert len(trimmed(ring + 1000, 8)) == 0
 
 
 def test_a_ring_of_many_corners_has_few_parts():
@@ -65,3 +86,59 @@ def test_the_program_has_the_same_pixels(make_map, seed):
         burnt = np.zeros((16, 16), np.uint8)
         burn(burnt, rings, 3)
         assert (m.show("p", 0, 0, 16, 16) == burnt).all()
+
+
+# Lines.
+
+
+def pixels_of(line, side):
+    """The pixels in which a line has points, by all places where it goes over into another one, and the middles between these."""
+    x1, y1, x2, y2 = map(Fraction, line)
+    stops = {Fraction(0), Fraction(1)}
+    for a, b in ((x1, x2), (y1, y2)):
+        if a != b:
+            stops |= {(edge - a) / (b - a) for edge in range(floor(min(a, b)), ceil(max(a, b)) + 1)}
+    places = sorted(stop for stop in stops if 0 <= stop <= 1)
+    places += [(a + b) / 2 for a, b in zip(places, places[1:])]
+    found = {(floor(x1 + t * (x2 - x1)), floor(y1 + t * (y2 - y1))) for t in places}
+    return {(x, y) for x, y in found if 0 <= x < side and 0 <= y < side}
+
+
+def drawn_lines(numbers, count):
+    """Lines anywhere, between corners and middles of pixels, level and upright ones, and points."""
+    lines = numbers.uniform(-3, 15, (count, 4))
+    lines[1::4] = np.rint(lines[1::4])
+    lines[2::4] = np.rint(4 * lines[2::4]) / 4
+    lines[3::12, 2] = lines[3::12, 0]
+    lines[7::12, 3] = lines[7::12, 1]
+    lines[11::12, 2:] = lines[11::12, :2]
+    return lines
+
+
+def test_pixels_that_lines_pass():
+    lines = drawn_lines(np.random.default_rng(8), 1200)
+    which, x, y = passed(lines, 0, 0, 12, 12)
+    found = [set() for _ in lines]
+    for i, *pixel in zip(which.tolist(), x.tolist(), y.tolist()):
+        assert tuple(pixel) not in found[i]
+        found[i].add(tuple(pixel))
+    assert found == [pixels_of(line, 12) for line in lines.tolist()]
+    # A window has those of the whole, and so have the lines the other way.
+    is_inside = (x >= 5) & (x < 9) & (y >= 3) & (y < 8)
+    assert [part.tolist() for part in passed(lines, 5, 3, 9, 8)] == [part[is_inside].tolist() for part in (which, x, y)]
+    assert [part.tolist() for part in passed(lines[:, [2, 3, 0, 1]], 0, 0, 12, 12)] == [part.tolist() for part in (which, x, y)]
+
+
+def test_the_last_line_has_a_pixel(monkeypatch):
+    monkeypatch.setattr("quiltmap.burning._LINES_AT_ONCE", 7)
+    lines = drawn_lines(np.random.default_rng(9), 100)
+    colours = np.zeros((4, 6), np.uint16)
+    numbers = np.arange(1, 101)
+    has_pixels = burn_lines(colours, lines, numbers, 3, 5)
+    wanted = np.zeros((4, 6), np.uint16)
+    for line, number in zip(lines.tolist(), numbers.tolist()):
+        for x, y in pixels_of(line, 12):
+            if 3 <= x < 9 and 5 <= y < 9:
+                wanted[y - 5, x - 3] = number
+    assert (colours == wanted).all() and wanted.any()
+    assert has_pixels.tolist() == [any(3 <= x < 9 and 5 <= y < 9 for x, y in pixels_of(line, 12)) for line in lines.tolist()]

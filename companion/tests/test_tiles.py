@@ -9,10 +9,12 @@ pytest.importorskip("distributed", reason="python3-distributed is not installed:
 
 from scipy.ndimage import binary_dilation  # noqa: E402
 from shapely.geometry import box  # noqa: E402
+from rules import even_odd  # noqa: E402
 from test_tiles_whole import line, range_by_stops  # noqa: E402
 
 import quiltmap  # noqa: E402
 from quiltmap import Refused  # noqa: E402
+from quiltmap.tiles import pieces  # noqa: E402
 
 SHAPES = [(2, 3, 5), (2, 2, 8), (5, 4, 5)]
 
@@ -144,6 +146,115 @@ def test_a_buffer_of_many_runs(make_grid):
     grid.raster("a", whole)
     grid.buffer("a", 2, "f")
     assert (shown(grid, "f") == binary_dilation(whole != 0, np.ones((5, 5)))).all()
+
+
+def moved(whole, dx, dy):
+    """The array with all its pixels dx to the right and dy down."""
+    height, width = whole.shape
+    found = np.zeros_like(whole)
+    for y in range(max(dy, 0), min(height + dy, height)):
+        for x in range(max(dx, 0), min(width + dx, width)):
+            found[y, x] = whole[y - dy, x - dx]
+    return found
+
+
+@pytest.mark.parametrize("most", [2_000, 20, -1])
+@pytest.mark.parametrize("columns, rows, level", SHAPES)
+def test_shifts(make_grid, monkeypatch, columns, rows, level, most):
+    # The parts of other tiles come as rectangles, in some tiles as one raster, and in all of them so.
+    monkeypatch.setattr(pieces, "_MOST_RECTANGLES", most)
+    random = np.random.default_rng(columns + 10 * rows + 100 * level + most)
+    grid = make_grid(columns, rows, level, pages=1000)
+    s = grid.frame.side
+    whole = drawn_region(random, grid.frame)
+    grid.region("a", 0)
+    grid.raster("a", whole)
+    drawn = random.integers(-2 * s, 2 * s, (3, 2)).tolist()
+    for dx, dy in [(0, 0), (1, 0), (0, -1), (-3, 2), (s, -s), (s - 1, s + 1), (-grid.frame.width, 0), (0, 1_048_575), *drawn]:
+        grid.shift("a", dx, dy, "b")
+        assert (shown(grid, "b") == moved(whole, dx, dy)).all(), (dx, dy)
+        assert is_whole(grid)
+        grid.drop("b")
+    assert (shown(grid, "a") == whole).all()
+
+
+def test_a_shift_of_wide_colours(make_grid):
+    grid = make_grid(2, 2, 3, map_format=2)
+    whole = np.random.default_rng(2).integers(0, 65_536, (16, 16))
+    grid.region("a", 0)
+    grid.raster("a", whole)
+    grid.shift("a", -5, 7, "b")
+    assert (shown(grid, "b") == moved(whole, -5, 7)).all()
+
+
+def test_rectangles_of_one_colour():
+    random = np.random.default_rng(3)
+    for _ in range(200):
+        colours = random.integers(0, 3, random.integers(1, 9, 2)) * int(random.integers(0, 2))
+        drawn = np.zeros_like(colours)
+        for x, y, w, h, colour in pieces.rectangles_of(colours).tolist():
+            assert colour > 0 and (drawn[y : y + h, x : x + w] == 0).all()
+            drawn[y : y + h, x : x + w] = colour
+        assert (drawn == colours).all()
+    assert pieces.rectangles_of(np.full((4, 6), 7)).tolist() == [[0, 0, 6, 4, 7]]
+
+
+def drawn_rings(random, frame):
+    """A ring around a tile's corner, small ones, one along the edges of tiles, one across all, and one of no pixels."""
+    s, w, h = frame.side, frame.width, frame.height
+    rings = [random.integers(0, [w + 1, h + 1], (int(random.integers(3, 12)), 2)) for _ in range(2)]
+    for x, y in random.integers(0, [w - 4, h - 4], (4, 2)).tolist():
+        rings.append(np.array([x, y]) + random.integers(0, 5, (4, 2)))
+    rings.append(np.array([[s - 3, s - 2], [s + 2, s - 3], [s + 1, s + 4]]))
+    rings.append(np.array([[s, 0], [2 * s, 0], [2 * s, s], [s, s]]))
+    rings.append(np.array([[1, 1], [5, 5], [1, 1], [5, 5]]))
+    return rings
+
+
+@pytest.mark.parametrize("columns, rows, level", SHAPES)
+def test_polygons(make_grid, columns, rows, level):
+    random = np.random.default_rng(columns + 10 * rows + 100 * level + 3)
+    grid = make_grid(columns, rows, level, pages=1000)
+    frame = grid.frame
+    side = max(frame.width, frame.height)
+    for i in range(4):
+        rings = drawn_rings(random, frame)
+        rings = rings if i < 3 else rings[2:6]
+        grid.polygon(f"p{i}", 5 + i, rings)
+        assert (shown(grid, f"p{i}") == np.where(even_odd(rings, side)[: frame.height, : frame.width], 5 + i, 0)).all()
+    grid.polygon("all", 9, [[[0, 0], [frame.width, 0], [frame.width, frame.height], [0, frame.height]]])
+    assert grid.blocks("all") == {frame.side: columns * rows} and grid.area("all", 9) == frame.width * frame.height
+    grid.polygon("none", 9, [[[1, 1], [5, 5], [1, 1]]])
+    assert grid.area("none", 0) == frame.width * frame.height
+    assert is_whole(grid)
+
+
+def test_a_polygon_whose_rings_have_no_room_in_a_line(make_grid):
+    grid = make_grid(2, 2, 8, pages=2000)
+    turns = np.linspace(0, 2 * np.pi, 6_000, endpoint=False)
+    # In one tile, and across all.
+    for name, middle, radius in (("a", 100, 90), ("b", 256, 200)):
+        ring = np.rint(middle + radius * np.stack([np.cos(turns), np.sin(turns)], axis=1)).astype(int)
+        grid.polygon(name, 1, [ring])
+        assert (shown(grid, name) == even_odd([ring], 512)).all()
+
+
+@pytest.mark.parametrize("columns, rows, level", SHAPES)
+def test_leaves(make_grid, columns, rows, level):
+    random = np.random.default_rng(columns + 10 * rows + 100 * level + 4)
+    grid = make_grid(columns, rows, level, pages=1000)
+    whole = drawn_region(random, grid.frame)
+    grid.region("a", 0)
+    grid.raster("a", whole)
+    leaves = grid.leaves("a")
+    drawn = np.full_like(whole, 99)
+    for x, y, side, colour in leaves.tolist():
+        assert x % side == y % side == 0 and (drawn[y : y + side, x : x + side] == 99).all()
+        drawn[y : y + side, x : x + side] = colour
+    assert (drawn == whole).all()
+    assert leaves.tolist() == sorted(leaves.tolist(), key=lambda leaf: (leaf[1], leaf[0]))
+    sides, numbers = np.unique(leaves[:, 2], return_counts=True)
+    assert grid.blocks("a") == dict(zip(sides.tolist()[::-1], numbers.tolist()[::-1]))
 
 
 @pytest.mark.parametrize("columns, rows, level", SHAPES)
@@ -293,6 +404,11 @@ def test_eight_by_eight(make_grid):
     assert grid.perimeter("a", 2) == perimeter_of(a, 2)
     grid.buffer("a", 20, "f")
     assert (shown(grid, "f") == binary_dilation(a != 0, np.ones((41, 41)))).all()
+    grid.shift("a", 40, -70, "s")
+    assert (shown(grid, "s") == moved(a, 40, -70)).all()
+    rings = drawn_rings(random, grid.frame)
+    grid.polygon("p", 2, rings)
+    assert (shown(grid, "p") == 2 * even_odd(rings, 256)).all()
     segments = drawn_segments(random, grid.frame, 120)
     grid.lines("l", 4)
     grid.put_segments("l", segments)
@@ -325,11 +441,29 @@ def test_refusals_are_those_of_a_map(make_grid):
         ("no 9 absent", lambda: grid.nearest("l", 0, 0)),
         ("no 9 absent", lambda: grid.delete("p", 9, 0)),
         ("no 15 format", lambda: grid.points("q", 4)),
+        ("no 5 unknown", lambda: grid.shift("x", 1, 1, "c")),
+        ("no 6 kind", lambda: grid.shift("p", 1, 1, "c")),
+        ("no 7 exists", lambda: grid.shift("a", 1, 1, "l")),
+        ("no 3 number", lambda: grid.shift("a", 1, -1_048_576, "c")),
+        ("no 6 kind", lambda: grid.leaves("l")),
+        ("no 7 exists", lambda: grid.polygon("a", 1, [[[0, 0], [1, 0], [0, 1]]])),
+        ("no 3 number", lambda: grid.polygon("c", 256, [[[0, 0], [1, 0], [0, 1]]])),
+        ("no 14 rows", lambda: grid.polygon("c", 1, [[[0, 0], [1, 0]]])),
+        ("no 14 rows", lambda: grid.polygon("c", 1, [[[0, 0], [1, 0], [-1, 1]]])),
+        ("no 8 outside", lambda: grid.polygon("c", 1, [[[0, 0], [17, 0], [0, 1]]])),
+        ("no 8 outside", lambda: grid.polygon("c", 1, [[[0, 0], [16, 0], [0, 8]], [[0, 0], [1, 0], [0, 9]]])),
     ):  # fmt: skip
         with pytest.raises(Refused, match=refused):
             ask()
     assert grid.state == state and is_whole(grid)
-    for refused in (lambda: grid.rect("a", 0, 0, 1, 0, 1), lambda: grid.raster("a", np.zeros((8, 8), int))):
+    for refused in (
+        lambda: grid.rect("a", 0, 0, 1, 0, 1),
+        lambda: grid.raster("a", np.zeros((8, 8), int)),
+        lambda: grid.polygon("c", 1, []),
+        lambda: grid.polygon("c", 1, [[[0, 0]]] * 1001),
+        lambda: grid.polygon("c", 1, [[[0, 0.5], [1, 0], [0, 1]]]),
+        lambda: grid.polygon("c", 1, [[0, 0, 1, 0, 0, 1]]),
+    ):  # fmt: skip
         with pytest.raises(ValueError):
             refused()
 

@@ -6,7 +6,8 @@ import pytest
 import rasterio
 from affine import Affine
 from click.testing import CliRunner
-from shapely.geometry import LineString, MultiPoint, Point, Polygon
+from shapely.geometry import LineString, MultiLineString, MultiPoint, Point, Polygon, box
+from shapely.ops import unary_union
 
 pytest.importorskip("distributed", reason="python3-distributed is not installed: companion/apt-packages-tiles.txt")
 
@@ -32,9 +33,10 @@ def features_come_in_turns(monkeypatch):
 def told(workers):
     """Calls quilt-tiles, and gives the lines that it put; what it said where it failed."""
 
-    def run(*words, fails=False):
+    def run(*words, fails=False, rows=None):
         options = [] if words[0] == "new" else ["--scheduler", workers.scheduler.address]
-        result = CliRunner(mix_stderr=False).invoke(main, [str(word) for word in (words[0], *options, *words[1:])], prog_name="quilt-tiles")
+        words = [str(word) for word in (words[0], *options, *words[1:])]
+        result = CliRunner(mix_stderr=False).invoke(main, words, input=rows, prog_name="quilt-tiles")
         assert result.exit_code == (1 if fails else 0), (result.stderr, result.exception)
         return result.stderr.strip() if fails else result.stdout.splitlines()
 
@@ -112,6 +114,44 @@ def test_points_are_those_of_one_map(make_grid, told, done, tmp_path):
     assert sorted(out["label"]) == sorted(grid.within("a", 0, 0, 128, 128)[:, 2].tolist())
 
 
+@pytest.mark.parametrize("columns, rows, level", [(4, 4, 5), (2, 2, 6)])
+@pytest.mark.parametrize("burn", [(), ("--burn", "kind")])
+def test_lines_and_points_as_a_region_are_those_of_one_map(make_grid, told, done, tmp_path, columns, rows, level, burn):
+    random = np.random.default_rng(level + len(burn))
+    # Lines that cross each other, along edges of tiles, through their corners, from tile to tile, and outside; parts of one feature; points.
+    lines = [LineString(np.cumsum(random.normal(0, 120, (12, 2)), axis=0) + random.integers(1000, 3280, 2)) for _ in range(20)]
+    ends = [(1320, 2000, 1320, 3280), (1000, 2640, 2280, 2640), (1000, 2000, 2280, 3280), (900, 1900, 950, 3400), (500, 2900, 1200, 3900)]
+    lines += [LineString([(x1, y1), (x2, y2)]) for x1, y1, x2, y2 in ends] + [MultiLineString([lines[0], lines[5]])]
+    places = np.vstack([random.uniform([900, 1900], [2400, 3400], (30, 2)), [[1320, 2640], [2280, 2000], [1000, 3280]]])
+    points = [Point(*place) for place in places]
+    for name, shapes in (("l", lines), ("p", points)):
+        source = write(tmp_path / f"{name}{len(burn)}.gpkg", shapes, kind=[f"kind {i % 3}" for i in range(len(shapes))])
+        grid = make_grid(columns, rows, level, pages=600, name=name, bounds=BOUNDS, crs=quiltmap.place.CRS(SYSTEM))
+        said = told("import", grid.folder, source, "--layer", "a", "--as", "region", *burn)
+        (tmp_path / "one").unlink(missing_ok=True)
+        quiltmap.new(tmp_path / "one", 3000, 7)
+        expected = done("quilt-import", tmp_path / "one", source, "--layer", "a", "--bounds", *BOUNDS, "--as", "region", *burn)
+        with quiltmap.open(tmp_path / "one") as m:
+            assert (shown(grid, "a") == m.show("a", 0, 0, 128, 128)).all() and grid.area("a", 1)
+        assert table(grid, "a").equals(Beside(tmp_path / "one").table("a"))
+        assert said[0] == expected[0] and sum(line.startswith("left out, outside of the grid: ") for line in said) == 1
+        assert is_whole(grid)
+        for file in tmp_path.glob("one.*"):
+            file.unlink()
+
+
+def test_the_pixels_that_lines_pass_beside_shapely(make_grid, told, tmp_path):
+    random = np.random.default_rng(4)
+    shapes = [LineString(random.uniform([1000, 2000], [2280, 3280], (2, 2))) for _ in range(40)]
+    grid = make_grid(4, 4, 5, bounds=BOUNDS, crs=quiltmap.place.CRS(SYSTEM))
+    told("import", grid.folder, write(tmp_path / "lines.gpkg", shapes), "--layer", "a", "--as", "region")
+    found = shown(grid, "a")
+    whole = unary_union(shapes)
+    for y, x in np.ndindex(found.shape):
+        length = whole.intersection(box(1000 + 10 * x, 3270 - 10 * y, 1010 + 10 * x, 3280 - 10 * y)).length
+        assert found[y, x] == (length > 0) or length < 1e-9
+
+
 def test_features_of_another_system_with_some_that_cannot_go_in(make_grid, told, done, tmp_path):
     random = np.random.default_rng(9)
     shapes = [LineString(random.uniform([-85.4889, 0.018], [-85.4770, 0.0298], (6, 2))) for _ in range(12)]
@@ -176,7 +216,8 @@ def test_an_import_that_fails_leaves_the_state(make_grid, told, tmp_path):
     lines = write(tmp_path / "lines.gpkg", [LineString([(0, 0), (10, 10)])])
     told("import", grid.folder, lines, "--layer", "a")
     assert "has a layer a" in told("import", grid.folder, lines, "--layer", "a", fails=True)
-    assert "become no region" in told("import", grid.folder, lines, "--layer", "b", "--as", "region", fails=True)
+    far = write(tmp_path / "far.gpkg", [LineString([(90, 90), (91, 95)])])
+    assert "lies in a pixel of the grid" in told("import", grid.folder, far, "--layer", "b", "--as", "region", fails=True)
 
 
 # The console.
@@ -209,10 +250,22 @@ def test_commands_of_the_console(told, tmp_path, program):
         ("blocks F w", ["8 1", "4 2", "2 7", "1 4"]),
     ):  # fmt: skip
         assert told(*[str(folder) if word == "F" else word for word in words.split()]) == expected, words
+    assert told("shift", folder, "a", -2, 1, "s") == told("polygon", folder, "q", 3, 2, rows="0 0 16 0 16 8 0 8\n0 0 8 0 8 8 0 8\n") == []
+    assert told("show", folder, "s", 3, 3, 6, 1) == ["000505050500"] and told("area", folder, "q", 3) == ["64"]
+    assert told("leaves", folder, "q") == ["0 0 8 0", "8 0 8 3"]
+    assert told("scatter", folder, "p", 2, rows="0 0 5\n15 7 6\n") == []
+    assert told("within", folder, "p", 0, 0, 16, 8) == ["0 0 5", "9 1 77", "15 7 6"]
+    for words, rows, wrong in (
+        (("polygon", folder, "z", 1, 2), "0 0 1 0 1 1\n", "2 rows are wanted"),
+        (("polygon", folder, "z", 1, 1), "0 0 1\n", "x and y of its corners"),
+        (("scatter", folder, "p", 1), "1 1 x\n", "whole numbers"),
+        (("scatter", folder, "p", 1), "1 1\n", "x, y and a label"),
+    ):
+        assert wrong in told(*words, rows=rows, fails=True)
     said = told("info", folder, "--records")
-    assert said[:3] == ["state 12, format 1", "2 by 1 tiles of level 3: 16 by 8 pixels", "from 0 0 to 160 80 in a plain system"]
+    assert said[:3] == ["state 15, format 1", "2 by 1 tiles of level 3: 16 by 8 pixels", "from 0 0 to 160 80 in a plain system"]
     assert sum("records" in line for line in said) == 2
-    assert told("upgrade", folder) == ["state 13"]
+    assert told("upgrade", folder) == ["state 16"]
     assert told("show", folder, "a", 8, 2, 1, 1) == ["0005"]
     assert "quilt-tiles: refused: no 5 unknown" in told("drop", folder, "x", fails=True)
     assert "quilt-tiles: recolour takes pairs" in told("recolour", folder, "a", "z", 1, fails=True)

@@ -1,6 +1,7 @@
 """The state of a grid: what is on the disk, stops at any moment, readers meanwhile, and faults of workers, schedulers and disks."""
 
 import contextlib
+import errno
 import json
 import os
 import signal
@@ -16,12 +17,16 @@ import pytest
 dask = pytest.importorskip("dask", reason="python3-dask is not installed: companion/apt-packages-tiles.txt")
 distributed = pytest.importorskip("distributed", reason="python3-distributed is not installed: companion/apt-packages-tiles.txt")
 
+from rules import even_odd  # noqa: E402
 from test_tiles import is_whole, shown  # noqa: E402
 
 import quiltmap  # noqa: E402
 from quiltmap import InUse, QuiltError, Refused, tiles  # noqa: E402
 from quiltmap.tiles import engine, pieces, store, work  # noqa: E402
+from quiltmap.importer import Choices  # noqa: E402
 from quiltmap.tiles.engine import Lost  # noqa: E402
+from quiltmap.tiles.importing import import_source  # noqa: E402
+from quiltmap.tiles.state import Job, command  # noqa: E402
 
 COMPANION = Path(__file__).resolve().parents[1]
 
@@ -87,6 +92,56 @@ def test_a_copy_has_the_holes_of_the_file(tmp_path):
         store.copy_file(tmp_path / "sparse", tmp_path / "copy")
 
 
+def test_a_copy_without_its_pages_of_zeros(tmp_path):
+    full = bytes(100 * 4096) + b"in the midst" + bytes(100 * 4096 + 5)
+    (tmp_path / "full").write_bytes(full)
+    store.copy_thin(tmp_path / "full", tmp_path / "thin")
+    assert (tmp_path / "thin").read_bytes() == full
+    assert work.size_of(tmp_path / "thin") <= 65_536 < work.size_of(tmp_path / "full")
+
+
+def test_a_copy_of_a_map_has_no_journal_unless_that_is_open(program, tmp_path):
+    quiltmap.new(tmp_path / "map", 40, 5)
+    board = np.random.default_rng(2).integers(0, 200, (32, 32))
+    with quiltmap.open(tmp_path / "map") as m:
+        m.region("a", 0)
+        m.raster("a", board)
+        m.publish()
+    whole = (tmp_path / "map").read_bytes()
+    store.copy_map(tmp_path / "map", tmp_path / "copy")
+    copied = (tmp_path / "copy").read_bytes()
+    assert copied[: 43 * 4096] == whole[: 43 * 4096] and len(copied) == len(whole)
+    assert any(whole[43 * 4096 :]) and not any(copied[43 * 4096 :])
+    with quiltmap.open(tmp_path / "copy") as m:
+        assert m.edition() == 1 and (m.show("a", 0, 0, 32, 32) == board).all()
+    # The gate is open: the slots count.
+    (tmp_path / "open").write_bytes(whole[:4096] + b"\1" + whole[4097:])
+    store.copy_map(tmp_path / "open", tmp_path / "other")
+    assert (tmp_path / "other").read_bytes() == (tmp_path / "open").read_bytes()
+
+
+def test_a_copy_where_the_system_copies_no_range(tmp_path, monkeypatch):
+    def refuse(*_):
+        raise OSError(errno.EXDEV, "not here")
+
+    monkeypatch.setattr(os, "copy_file_range", refuse)
+    (tmp_path / "file").write_bytes(bytes(range(256)) * 9000)
+    store.copy_file(tmp_path / "file", tmp_path / "copy")
+    assert (tmp_path / "copy").read_bytes() == (tmp_path / "file").read_bytes()
+
+
+def test_a_grid_whose_manifest_names_no_change(program, quick_path):
+    tiles.new(str(quick_path / "grid"), 2, 1, 2, 16)
+    manifest = quick_path / "grid" / "manifest.json"
+    told = json.loads(manifest.read_text())
+    assert told.pop("change") is None
+    manifest.write_text(json.dumps(told))
+    (quick_path / "grid" / "changes").rmdir()
+    grid = opened(quick_path / "grid")
+    grid.region("a", 3)
+    assert grid.area("a", 3) == 32 and is_whole(grid)
+
+
 # Stops.
 
 
@@ -107,8 +162,9 @@ def changed_until(folder, change, count):
 
         try:
             grid = opened(folder)
-            for module, name in ((os, "replace"), (os, "unlink"), (os, "fsync"), (quiltmap.Map, "publish"), (os, "pwrite")):
-                setattr(module, name, stopping(getattr(module, name)))
+            for name in ("mkdir", "copy_file_range", "fdatasync", "rename", "fsync", "replace", "unlink", "rmdir"):
+                setattr(os, name, stopping(getattr(os, name)))
+            quiltmap.Map.publish = stopping(quiltmap.Map.publish)
             change(grid)
             os._exit(0)
         finally:
@@ -148,7 +204,7 @@ def test_a_stop_anywhere_leaves_one_of_two_states(program, quick_path):
         if is_done:
             break
     assert is_done and stops["before"] > 10 and stops["behind"] > 1
-    assert sorted(path.name for path in (folder / "kept").iterdir()) == []
+    assert sorted(path.name for path in (folder / "changes").iterdir()) == []
     assert len(list(folder.iterdir())) == 4  # the manifest, the two folders, and one table of segments
 
 
@@ -159,7 +215,7 @@ def test_a_stop_anywhere_leaves_one_of_two_states(program, quick_path):
 def half_changed(grid, key):
     """A change of which one tile is published already."""
     with grid.changing() as change:
-        token = grid.store.begin(change.manifest)
+        token = grid.store.begin()
         tile = change.tile(key)
         work.change(tile, None, token, pieces.call, "copy", "a", "b")
         yield change, tile, token
@@ -172,15 +228,16 @@ def test_readers_meanwhile_have_the_state_before(program, quick_path):
     grid.rect("a", 2, 2, 10, 9, 5)
     before = shown(grid, "a")
     with half_changed(grid, (1, 0)) as (change, tile, token):
-        with quiltmap.open(tile.path) as m:
-            assert m.edition() == tile.edition + 1
+        for path, edition in ((tile.path, tile.edition), (tile.changed(token), tile.edition + 1)):
+            with quiltmap.open(path) as m:
+                assert m.edition() == edition
         other = opened(quick_path / "grid")
         assert (shown(other, "a") == before).all() and other.area("a", 5) == 90
         assert [layer.name for layer in other.layers()] == ["a"]
         with pytest.raises(InUse):
             other.region("c", 0)
         assert grid.store.is_left()
-    # The change went no further: the next opening puts the tile back.
+    # The change went no further: the next opening takes its tiles away.
     assert (shown(opened(quick_path / "grid"), "a") == before).all()
     assert is_whole(opened(quick_path / "grid"))
 
@@ -223,14 +280,57 @@ def test_a_task_that_is_done_again_begins_anew_and_one_that_is_late_does_nothing
     grid = opened(quick_path / "grid")
     grid.region("a", 4)
     with half_changed(grid, (0, 0)) as (change, tile, token):
-        # A second `copy a b` would be refused if the first try were still in the tile.
+        # A second `copy a b` would be refused if it found what the first try made.
         assert work.change(tile, None, token, pieces.call, "copy", "a", "b")[0] == tile.edition + 1
         grid.store.settle(change.manifest)
         with pytest.raises(tiles.MovedOn, match="given up"):
             work.change(tile, None, token, pieces.call, "copy", "a", "b")
         with pytest.raises(tiles.MovedOn, match="given up"):
-            work.change(tile, None, grid.store.begin(change.manifest)[::-1], pieces.call, "copy", "a", "b")
+            work.change(tile, None, grid.store.begin()[::-1], pieces.call, "copy", "a", "b")
     assert is_whole(opened(quick_path / "grid"))
+
+
+def test_a_try_that_ends_too_late_changes_nothing(program, quick_path):
+    tiles.new(str(quick_path / "grid"), 2, 1, 3, 16)
+    grid = opened(quick_path / "grid")
+    grid.region("a", 4)
+
+    def late(m, then):
+        m.copy("a", "late")
+        then()
+
+    for then in (lambda: grid.store.settle(grid.store.read()), lambda: grid.set("a", 0, 0, grid.state)):
+        tile = grid.store.tile(grid.store.read(), 0, 0)
+        with pytest.raises(tiles.MovedOn, match="given up"):
+            work.change(tile, None, grid.store.begin(), late, then)
+        assert grid.layer("late") is None and is_whole(grid)
+    assert grid.at("a", 0, 0) == 1
+    # A second try of a task whose first one has ended: the state has the tile once.
+    with grid.changing() as change:
+        jobs = {(0, 0): Job(twice, (change.tile((0, 0)),)), (1, 0): command("copy", "a", "b")}
+        answers = change.publish(jobs, layers=change.with_layer("b", "region"))
+    assert answers[0, 0] == change.tile((0, 0)).edition + 1 and is_whole(grid) and grid.area("b", 4) == 127
+
+
+def twice(m, tile):
+    """Does the task of a tile a second time meanwhile, as where a worker was taken for lost. Gives the edition of that try."""
+    m.copy("a", "b")
+    (token,) = [path.name for path in Path(tile.folder, "changes").iterdir()]
+    return work.change(tile, None, token, pieces.call, "copy", "a", "b")[0]
+
+
+def test_a_question_finds_tiles_that_have_not_their_places_yet(program, quick_path, monkeypatch):
+    tiles.new(str(quick_path / "grid"), 2, 1, 3, 16)
+    grid = opened(quick_path / "grid")
+    grid.region("a", 4)
+    with monkeypatch.context() as patch:
+        patch.setattr(store.Store, "settle", lambda *_: None)
+        grid.rect("a", 6, 0, 4, 1, 5)
+        other = store.Store(grid.folder).read()
+        assert all(path.exists() for key in other.frame.tiles() for path in grid.store.tile(other, *key).files)
+        assert grid.show("a", 5, 0, 6, 1).tolist() == [[4, 5, 5, 5, 5, 4]]
+    again = opened(quick_path / "grid")
+    assert again.show("a", 5, 0, 6, 1).tolist() == [[4, 5, 5, 5, 5, 4]] and is_whole(again)
 
 
 def test_a_tile_that_was_changed_by_hand_is_told(program, quick_path):
@@ -275,10 +375,10 @@ def wrapper(folder, program, text):
     return str(path)
 
 
-# Ends the worker before the program takes a command; and, once the file `later` is there, when the tile has its edition on the
+# Ends the worker before the program takes a command; and, once the file `later` is there, when the new tile has its edition on the
 # disk and no one has heard of it.
 KILL_ONCE = """
-case "$*" in run*tiles/c1r0)
+case "$*" in run*changes/*/c1r0.*)
     if mkdir {flags}/before 2>/dev/null; then kill -9 $PPID; fi
     if [ -e {flags}/later ] && mkdir {flags}/behind 2>/dev/null; then
         "$real" "$@" | while IFS= read -r line; do
@@ -292,29 +392,50 @@ exec "$real" "$@"
 """
 
 
-def test_a_worker_that_is_killed(program, quick_path, monkeypatch):
+def lines_of(folder):
+    """Lines from corner to corner, a unit a pixel, which meet all tiles of a square of 32 pixels."""
+    path = folder / "lines.geojson"
+    ends = ([[0.5, -0.5], [31.5, -31.5]], [[31.5, -0.5], [0.5, -31.5]])
+    lines = [{"type": "Feature", "properties": {}, "geometry": {"type": "LineString", "coordinates": both}} for both in ends]
+    path.write_text(json.dumps({"type": "FeatureCollection", "features": lines}))
+    return str(path)
+
+
+#: Commands that make a layer of a region `a` over a square of 32 pixels, and of which colour it has how many pixels where all of `a` have 3.
+MAKING = {
+    "copy": (lambda grid, c: grid.copy("a", c), 3, 32 * 32),
+    "shift": (lambda grid, c: grid.shift("a", 5, -3, c), 3, 27 * 29),
+    "polygon": (lambda grid, c: grid.polygon(c, 3, [[[4, 4], [28, 4], [28, 28], [4, 28]]]), 3, 24 * 24),
+    "import": (lambda grid, c: import_source(grid, lines_of(Path(grid.folder).parent), c, Choices(kind="region", crs="plain")), 1, 94),
+}
+
+
+@pytest.mark.parametrize("make, colour, pixels", MAKING.values(), ids=MAKING)
+def test_a_worker_that_is_killed(program, quick_path, monkeypatch, make, colour, pixels):
     tiles.new(str(quick_path / "grid"), 2, 2, 4, 16)
     opened(quick_path / "grid").region("a", 3)
     flags = quick_path / "flags"
     flags.mkdir()
     monkeypatch.setenv("QUILT", wrapper(quick_path, program, KILL_ONCE.format(flags=flags)))
     with tiles.Grid(str(quick_path / "grid"), workers=2) as grid:
-        grid.copy("a", "b")
+        make(grid, "b")
         assert grid.state == 2 and (flags / "before").exists() and not (flags / "behind").exists()
         (flags / "later").touch()
-        grid.copy("a", "c")
+        make(grid, "c")
         assert grid.state == 3 and (flags / "published").exists()
-        assert grid.area("b", 3) == grid.area("c", 3) == 32 * 32 and is_whole(grid)
+        assert grid.area("b", colour) == grid.area("c", colour) == pixels and is_whole(grid)
 
 
 def test_workers_that_are_killed_again_and_again(program, quick_path, monkeypatch):
     tiles.new(str(quick_path / "grid"), 2, 2, 4, 16)
     opened(quick_path / "grid").region("a", 3)
     before = shown(opened(quick_path / "grid"), "a")
-    monkeypatch.setenv("QUILT", wrapper(quick_path, program, 'case "$*" in run*tiles/c1r0) kill -9 $PPID ;; esac\nexec "$real" "$@"'))
+    kill = 'case "$*" in run*changes/*/c1r0.*) kill -9 $PPID ;; esac\nexec "$real" "$@"'
+    monkeypatch.setenv("QUILT", wrapper(quick_path, program, kill))
     with dask.config.set({"distributed.scheduler.allowed-failures": 0}), tiles.Grid(str(quick_path / "grid"), workers=2) as grid:
-        with pytest.raises(Lost, match="again and again"):
-            grid.copy("a", "b")
+        for make, *_ in MAKING.values():
+            with pytest.raises(Lost, match="again and again"):
+                make(grid, "b")
     monkeypatch.setenv("QUILT", program)
     again = opened(quick_path / "grid")
     assert again.state == 1 and (shown(again, "a") == before).all() and is_whole(again)
@@ -365,11 +486,12 @@ def cluster_of_processes(folder):
             process.wait()
 
 
-def test_a_scheduler_that_is_lost(program, quick_path, monkeypatch):
-    tiles.new(str(quick_path / "grid"), 2, 1, 4, 16)
+@pytest.mark.parametrize("make, colour, pixels", MAKING.values(), ids=MAKING)
+def test_a_scheduler_that_is_lost(program, quick_path, monkeypatch, make, colour, pixels):
+    tiles.new(str(quick_path / "grid"), 2, 2, 4, 16)
     opened(quick_path / "grid").region("a", 3)
     flag = quick_path / "flag"
-    slow = f'case "$*" in run*tiles/c1r0) if mkdir {flag} 2>/dev/null; then sleep 2; fi ;; esac\nexec "$real" "$@"'
+    slow = f'case "$*" in run*changes/*/c1r0.*) if mkdir {flag} 2>/dev/null; then sleep 2; fi ;; esac\nexec "$real" "$@"'
     monkeypatch.setenv("QUILT", wrapper(quick_path, program, slow))
     with cluster_of_processes(quick_path) as (scheduler, address):
         child = os.fork()
@@ -381,7 +503,7 @@ def test_a_scheduler_that_is_lost(program, quick_path, monkeypatch):
             os._exit(0)
         with tiles.Grid(str(quick_path / "grid"), scheduler=address) as grid:
             with pytest.raises(Lost):
-                grid.copy("a", "b")
+                make(grid, "b")
         os.waitpid(child, 0)
         monkeypatch.setenv("QUILT", program)
         again = opened(quick_path / "grid")
@@ -389,8 +511,8 @@ def test_a_scheduler_that_is_lost(program, quick_path, monkeypatch):
         # What the worker does too late changes nothing.
         time.sleep(2.5)
         assert is_whole(opened(quick_path / "grid"))
-        again.copy("a", "b")
-        assert again.area("b", 3) == 16 * 32
+        make(again, "b")
+        assert again.area("b", colour) == pixels
     monkeypatch.setattr(engine, "CONNECTING", 1)
     with pytest.raises(Lost, match="no scheduler answers"):
         tiles.Grid(str(quick_path / "grid"), scheduler=address).area("a", 3)
@@ -408,33 +530,46 @@ def small_disk(folder, kilobytes):
         subprocess.run(["umount", folder], check=True)
 
 
-def test_a_full_disk(program, tmp_path):
-    disk = tmp_path / "disk"
-    with small_disk(disk, 5_000):
-        tiles.new(str(disk / "grid"), 2, 1, 6, 100)
-        grid = opened(disk / "grid")
-        board = np.random.default_rng(1).integers(0, 2, (64, 128)).astype(np.uint8)
-        grid.region("a", 0)
-        grid.raster("a", board[::-1] * 0 + 1)
-        done, causes = 0, set()
-        for free in range(0, 4000, 100):
-            filler = disk / "filler"
-            room = os.statvfs(disk).f_bavail * os.statvfs(disk).f_bsize
-            filler.write_bytes(bytes(max(room - free * 1024, 0)))
-            number = grid.state
-            try:
-                grid.raster("a", board)
-            except (OSError, QuiltError) as error:
-                causes |= {cause for cause in ("No space left", "device fault") if cause in str(error)}
-                assert causes
-                assert grid.state == number
-                assert (shown(grid, "a") == 1).all()
-            else:
-                done += 1
-                assert grid.state == number + 1 and (shown(grid, "a") == board).all()
+def full_disk(disk, grid, make):
+    """Does a command with ever more room, until it succeeds: how the tries before were refused. Each leaves the state before."""
+    causes = set()
+    layers = grid.layers()
+    before = shown(grid, "a")
+    for free in range(0, 6000, 100):
+        filler = disk / "filler"
+        room = os.statvfs(disk).f_bavail * os.statvfs(disk).f_bsize
+        filler.write_bytes(bytes(max(room - free * 1024, 0)))
+        number = grid.state
+        try:
+            make()
+        except (OSError, QuiltError) as error:
+            known = {cause for cause in ("No space left", "device fault") if cause in str(error)}
+            assert known
+            causes |= known
+            assert grid.state == number and grid.layers() == layers
+            assert (shown(grid, "a") == before).all()
+        else:
+            assert grid.state == number + 1
+            return causes
+        finally:
             filler.unlink()
             assert is_whole(grid)
-            if done:
-                break
-        # A copy did not fit, or a program could not write, where its file had no room ahead; at last there was room.
-        assert done == 1 and "No space left" in causes
+    raise AssertionError("there never was room")
+
+
+def test_a_full_disk(program, tmp_path):
+    disk = tmp_path / "disk"
+    with small_disk(disk, 10_000):
+        tiles.new(str(disk / "grid"), 2, 1, 6, 300)
+        grid = opened(disk / "grid")
+        board = np.random.default_rng(1).integers(0, 2, (64, 128)).astype(np.uint8)
+        grid.region("a", 1)
+        # A copy did not fit, or a program could not write, since a tile takes room where it is written first.
+        causes = full_disk(disk, grid, lambda: grid.raster("a", board))
+        assert (shown(grid, "a") == board).all()
+        causes |= full_disk(disk, grid, lambda: grid.shift("a", 30, 5, "b"))
+        assert (shown(grid, "b")[5:, 30:] == board[:-5, :-30]).all()
+        comb = [corner for x in range(0, 128, 2) for corner in ([x, 1], [x, 63], [x + 1, 63], [x + 1, 1])] + [[127, 0], [0, 0]]
+        causes |= full_disk(disk, grid, lambda: grid.polygon("c", 1, [comb]))
+        assert (shown(grid, "c") == even_odd([comb], 128)[:64]).all()
+        assert causes == {"No space left", "device fault"}

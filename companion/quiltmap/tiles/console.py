@@ -4,6 +4,7 @@ from __future__ import annotations
 
 import logging
 from fractions import Fraction
+from itertools import islice
 from typing import Any, Callable, Iterable, Iterator, Optional
 
 import click
@@ -28,9 +29,12 @@ FORMS = {
     "blocks": "A",
     "set": "A x y c",
     "rect": "A x y w h c",
+    "polygon": "C c k",
     "at": "A x y",
     "show": "A x y w h",
+    "leaves": "A",
     "put": "P x y label",
+    "scatter": "P k",
     "del": "P x y",
     "find": "P x y",
     "within": "P x y w h",
@@ -47,6 +51,7 @@ FORMS = {
     "diff": "A B C",
     "recolour": "A C pairs..",
     "window": "A x y w h C",
+    "shift": "A dx dy C",
     "buffer": "A r C",
     "area": "A c",
     "perimeter": "A c",
@@ -54,6 +59,12 @@ FORMS = {
 }
 
 _METHODS = {"del": "delete"}
+
+#: The commands that take rows of whole numbers from standard input, as many as their last argument says: how many numbers a row has, or None of any.
+_ROWS = {"polygon": None, "scatter": 3}
+
+#: Arguments that may be negative.
+_SIGNED = ("dx", "dy")
 
 
 class _Tiles(click.ParamType):
@@ -172,6 +183,8 @@ def _add(word: str, form: str) -> None:
         arguments = [named[_parameter(name)] for name in form.split() if named[_parameter(name)] is not None]
         if word == "recolour":
             arguments[2] = _pairs(arguments[2])
+        if word in _ROWS:
+            arguments[-1] = _rows(arguments[-1], _ROWS[word])
         with Grid(folder, scheduler=scheduler, workers=workers) as grid:
             try:
                 answer = getattr(grid, _METHODS.get(word, word))(*arguments)
@@ -180,14 +193,17 @@ def _add(word: str, form: str) -> None:
             _put_lines(_told(word, answer))
 
     for name in reversed(form.split()):
-        kind = str if name.isupper() else click.IntRange(0)
+        kind = str if name.isupper() else int if name in _SIGNED else click.IntRange(0)
         many = name.endswith("..")
         shown = "o n .." if many else name
         run = click.argument(_parameter(name), metavar=shown, type=kind, required=not name.startswith("["), nargs=-1 if many else 1)(run)
     run = click.argument("folder", metavar="FOLDER", type=click.Path())(run)
     usage = f"{word} {form}".strip().replace("pairs..", "o n ..")
-    run.__doc__ = f"The command `{usage}` over the grid FOLDER."
-    main.command(name=word, short_help=usage)(run)
+    rows = ", its k rows from standard input" if word in _ROWS else ""
+    run.__doc__ = f"The command `{usage}` over the grid FOLDER{rows}."
+    # A number below 0 is no option.
+    settings = {"ignore_unknown_options": any(name in _SIGNED for name in form.split())}
+    main.command(name=word, short_help=usage, context_settings=settings)(run)
 
 
 def _parameter(name: str) -> str:
@@ -198,6 +214,18 @@ def _pairs(numbers: tuple[int, ...]) -> list[tuple[int, int]]:
     if not numbers or len(numbers) % 2:
         raise Failure("recolour takes pairs of an old and a new colour")
     return list(zip(numbers[::2], numbers[1::2]))
+
+
+def _rows(count: int, width: Optional[int]) -> list[list[Any]]:
+    """So many rows of standard input: points, or the corners of rings."""
+    lines = list(islice(click.get_text_stream("stdin"), count))
+    try:
+        rows = [list(map(int, line.split())) for line in lines]
+    except ValueError:
+        raise Failure("rows are whole numbers with spaces between them") from None
+    if len(rows) < count or any(len(row) % 2 if width is None else len(row) != width for row in rows):
+        raise Failure(f"{count} rows are wanted, each of {'x and y of its corners' if width is None else 'x, y and a label'}")
+    return rows if width is not None else [list(zip(row[::2], row[1::2])) for row in rows]
 
 
 def _told(word: str, answer: Any) -> Iterator[str]:

@@ -6,6 +6,7 @@ import logging
 import os
 import time
 from concurrent.futures import CancelledError
+from contextlib import suppress
 from typing import Any, Callable, Optional, Sequence
 
 from distributed import Client, Future, LocalCluster, wait
@@ -80,7 +81,8 @@ class Engine:
         """Leaves a client that is of no use any more, so that the next command has a new one."""
         client, self._client = self._client, self._given
         if client is not None and client is not self._given:
-            client.close(timeout=1)
+            with suppress(TimeoutError):
+                client.close(timeout=1)
 
     def close(self) -> None:
         """Ends the client and the cluster that were made here."""

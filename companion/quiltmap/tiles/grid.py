@@ -10,7 +10,7 @@ import numpy as np
 from distributed import Client
 from numpy.typing import ArrayLike, NDArray
 
-from ..client import Layer, Records
+from ..client import MOST_RINGS, Layer, Records
 from ..errors import InUse, Refused
 from ..place import Place
 from . import pieces
@@ -20,19 +20,23 @@ from .joins import (
     asked_all,
     by_id,
     by_tile,
+    check_colour,
     check_places,
     is_shared,
     meeting,
     moved,
-    pairs_of_tile,
+    moves,
     points_by_tile,
     reach_of,
     reaching,
+    ring_of,
+    rings_in_tiles,
+    shared_in_tiles,
     window_parts,
     within_reach,
 )
 from .state import Change, Job, State, command, job
-from .store import MovedOn, Store
+from .store import MOST_SIDE, MovedOn, Store
 from .whole import Segments, clip_range, cut, square_distance
 
 #: How many pairs `crossings` tells at most.
@@ -204,6 +208,27 @@ class Grid:
             side = self.frame.side
             change.publish({key: command("raster", a, table[y : y + side, x : x + side]) for key, (x, y) in parts.items()})
 
+    def polygon(self, c: str, colour: int, rings: Sequence[ArrayLike]) -> None:
+        """Makes a region layer with the colour inside of rings, and 0 elsewhere.
+
+        rings: 1 to 1000 of them, each of shape (corners, 2) with at least 3 corners x, y, 0 to width and 0 to height, of corners of pixels, however
+        many; inside is as in a map. Refused: exists, layers, number, rows, outside, full. Raises ValueError for other shapes.
+        """
+        line = f"polygon {c} {colour} {len(rings)}"
+        if not 1 <= len(rings) <= MOST_RINGS:
+            raise ValueError(f"a polygon has 1 to {MOST_RINGS} rings, not {len(rings)}")
+        tables = [ring_of(ring) for ring in rings]
+        with self.changing() as change:
+            change.need(line, makes=c)
+            check_colour(change, line, colour)
+            if any(len(ring) < 3 or ring.min() < 0 for ring in tables):
+                raise Refused(14, "rows", line)
+            if any((ring > [self.frame.width, self.frame.height]).any() for ring in tables):
+                raise Refused(8, "outside", line)
+            found = rings_in_tiles(self.frame, tables)
+            jobs = {key: job(pieces.paint_polygon, c, colour, found.get(key, [])) for key in self.frame.tiles()}
+            change.publish(jobs, layers=change.with_layer(c, "region"))
+
     def at(self, a: str, x: int, y: int) -> int:
         """The colour of a pixel. Refused: unknown, kind, outside."""
         return int(self.show(a, x, y, 1, 1)[0, 0])
@@ -222,6 +247,17 @@ class Grid:
                 left, top = left + part.x - x, top + part.y - y
                 colours[top : top + part.h, left : left + part.w] = told[part[:2]]
             return colours
+
+        return self.reading(question)
+
+    def leaves(self, a: str) -> NDArray[np.int64]:
+        """The maximal blocks of a region in each tile, by y and then by x: shape (blocks, 4), of x, y, side and colour. Refused: unknown, kind."""
+
+        def question(state: State) -> NDArray[np.int64]:
+            state.need(f"leaves {a}", (a, "region"))
+            told = state.ask_all(command("leaves", a))
+            found = np.concatenate([blocks + np.array([*self.frame.origin(key), 0, 0]) for key, blocks in told.items()])
+            return found[np.lexsort((found[:, 0], found[:, 1]))]
 
         return self.reading(question)
 
@@ -370,11 +406,7 @@ class Grid:
 
         def question(state: State) -> NDArray[np.int64]:
             state.need(f"over {layer} {a}", (layer, "lines"), (a, "region"))
-            shared = state.shared.in_tiles(layer, state.frame.tiles())
-            jobs = {}
-            for key, segments in shared.items():
-                x, y = state.frame.origin(key)
-                jobs[key] = job(pieces.over, layer, a, segments - np.array([0, x, y, x, y]))
+            jobs = {key: job(pieces.over, layer, a, segments) for key, segments in shared_in_tiles(state, layer).items()}
             return np.unique(np.concatenate(list(state.ask(jobs).values())))
 
         return self.reading(question)
@@ -385,10 +417,9 @@ class Grid:
 
         def question(state: State) -> NDArray[np.int64]:
             state.need(line, (layer, "lines"), (other, "lines"))
-            told = state.ask_all(job(pieces.pairs_and_segments, layer, other))
-            shared = [state.shared.in_tiles(name, told) for name in (layer, other)]
-            found = [pairs_of_tile(state.frame, key, *told[key], shared[0][key], shared[1][key]) for key in told]
-            return np.unique(np.concatenate(found), axis=0)
+            shared = [shared_in_tiles(state, name) for name in (layer, other)]
+            jobs = {key: job(pieces.pairs, layer, other, shared[0][key], shared[1][key]) for key in state.frame.tiles()}
+            return np.unique(np.concatenate(list(state.ask(jobs).values())), axis=0)
 
         pairs = self.reading(question)
         if len(pairs) > MOST_PAIRS:
@@ -429,6 +460,19 @@ class Grid:
             self.frame.check_window(x, y, w, h, line)
             jobs = {key: command("region", c, 0) for key in self.frame.tiles()}
             jobs |= {key: command("window", a, *local, c) for key, local in by_tile(self.frame.parts(x, y, w, h))}
+            change.publish(jobs, layers=change.with_layer(c, "region"))
+
+    def shift(self, a: str, dx: int, dy: int, c: str) -> None:
+        """The colour of a at x - dx, y - dy where that is a pixel of the whole, else 0; dx and dy are -1048575 to 1048575.
+
+        Refused: unknown, kind, exists, layers, number, full.
+        """
+        line = f"shift {a} {dx} {dy} {c}"
+        with self.changing() as change:
+            change.need(line, (a, "region"), makes=c)
+            if max(abs(dx), abs(dy)) >= MOST_SIDE:
+                raise Refused(3, "number", line)
+            jobs = {key: job(pieces.shifted, a, dx, dy, c, *moves(change, key, dx, dy)) for key in self.frame.tiles()}
             change.publish(jobs, layers=change.with_layer(c, "region"))
 
     def buffer(self, a: str, r: int, c: str) -> None:

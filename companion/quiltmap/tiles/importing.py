@@ -4,6 +4,7 @@ from __future__ import annotations
 
 import shutil
 from dataclasses import dataclass
+from itertools import product
 from typing import Any, Callable, Iterator, NamedTuple, Optional
 
 import numpy as np
@@ -13,7 +14,7 @@ from numpy.typing import NDArray
 from rasterio.windows import Window
 
 from ..beside import sync, write_table
-from ..burning import Ring, burn
+from ..burning import Lines, Ring
 from ..client import Map
 from ..console import Failure
 from ..contents import (
@@ -25,6 +26,7 @@ from ..contents import (
     numbers_of,
     rings_by_feature,
     segments_between,
+    straight_lines,
     table_of,
     table_of_classes,
     tally_of,
@@ -35,13 +37,15 @@ from ..sources import BadSource, Features, RasterSource, features_in_turn, is_ra
 from . import pieces
 from .frame import Frame, Key, place_around, place_over
 from .grid import Grid
-from .joins import points_by_tile
+from .joins import points_by_tile, rings_in_tiles
 from .state import Change, Job, job
 from .whole import NO_SEGMENTS, Segments, cut
 
 #: How many rows of a tile are read from a raster at once, and how many features of a source.
 _ROWS = 512
 AT_ONCE = 10_000
+
+NO_ROWS = np.empty(0, np.int64)
 
 
 class Layering(NamedTuple):
@@ -161,17 +165,8 @@ def paint_raster(m: Map, layer: str, raster: RasterSource, place: Place, classes
         values = raster.read(place, Window(0, begin, place.side, end - begin))
         missing += int(np.count_nonzero(np.ma.getmaskarray(values)))
         colours[begin:end] = colours_of(values, classes)
-    paint(m, layer, colours)
+    pieces.paint(m, layer, colours)
     return missing
-
-
-def paint(m: Map, layer: str, colours: NDArray[np.uint16]) -> None:
-    """Makes a region of an array of colours."""
-    m.region(layer, 0)
-    if colours.any():
-        if colours.max() > m.most_colour:
-            raise BadSource(f"colours up to {colours.max()} need a grid of format 2: quilt-tiles upgrade")
-        m.raster(layer, colours)
 
 
 # Features.
@@ -221,7 +216,8 @@ def _features(frame: Frame, source: str, layer: str, choices: Choices, found: Op
     stream = Stream(source, choices.source_layer, known, place)
     kind = choices.kind or known.sort
     if kind == "region":
-        return _region(frame, layer, stream, choices.burn), place
+        read = _region if known.sort == "region" else _passed
+        return read(frame, layer, stream, choices.burn), place
     if kind == "points":
         return _points(frame, layer, stream, choices.burn, capacity), place
     return _lines(frame, layer, stream, choices.burn, threshold), place
@@ -236,8 +232,6 @@ def _tally_of(stream: Stream, kind: str) -> Tally:
 
 def _region(frame: Frame, layer: str, stream: Stream, column: Optional[str]) -> Layering:
     known = stream.known
-    if known.sort != "region":
-        raise BadSource("lines and points become no region of a grid: take --as lines or --as points")
     by_tile: dict[Key, list[tuple[int, list[Ring]]]] = {}
     for begin, features in stream.turns():
         rings_by_tile(frame, begin, rings_by_feature(features, stream.place), by_tile)
@@ -246,7 +240,7 @@ def _region(frame: Frame, layer: str, stream: Stream, column: Optional[str]) -> 
     jobs = {}
     for key in frame.tiles():
         mine = by_tile.get(key, [])
-        jobs[key] = job(paint_rings, layer, [int(numbers[row]) for row, _ in mine], mine)
+        jobs[key] = job(pieces.paint_rings, layer, [int(numbers[row]) for row, _ in mine], mine)
 
     def finish(answers: dict[Key, tuple[list[int], int]]) -> pd.DataFrame:
         rows = np.array(sorted({row for entered, _ in answers.values() for row in entered}), np.int64)
@@ -263,35 +257,57 @@ def _region(frame: Frame, layer: str, stream: Stream, column: Optional[str]) -> 
 
 
 def rings_by_tile(frame: Frame, begin: int, rings: list[list[Ring]], found: dict[Key, list[tuple[int, list[Ring]]]]) -> None:
-    """Puts features, whose rows count from `begin` on, to the tiles in which their rings may have pixels: their rows, and their rings in the
+    """Puts features, whose rows count from `begin` on, to the tiles in which they may have pixels: their rows, and their rings in the
     tile's pixels.
     """
     for row, mine in enumerate(rings, begin):
-        if not mine:
-            continue
-        corners = np.concatenate(mine)
-        (left, top), (right, bottom) = corners.min(axis=0).tolist(), corners.max(axis=0).tolist()
-        x, y = max(left, 0), max(top, 0)
-        w, h = min(right, frame.width) - x, min(bottom, frame.height) - y
-        for part in frame.parts(x, y, w, h) if w > 0 and h > 0 else []:
-            origin = np.array(frame.origin(part[:2]))
-            found.setdefault(part[:2], []).append((row, [ring - origin for ring in mine]))
+        for key, parts in rings_in_tiles(frame, mine).items():
+            found.setdefault(key, []).append((row, parts))
 
 
-def paint_rings(m: Map, layer: str, numbers: list[int], features: list[tuple[int, list[Ring]]]) -> tuple[list[int], int]:
-    """Makes a tile's region of features: each pixel has the colour of the last one in whose rings its middle lies.
+def _passed(frame: Frame, layer: str, stream: Stream, column: Optional[str]) -> Layering:
+    """Lines or points as a region: the pixels that they pass, or lie in."""
+    known = stream.known
+    by_tile: dict[Key, list[tuple[NDArray[np.int64], Lines]]] = {}
+    for begin, features in stream.turns():
+        owners, lines = straight_lines(features, stream.place)
+        for key, which in tiles_of_lines(frame, lines).items():
+            by_tile.setdefault(key, []).append((begin + owners[which], lines[which]))
+    tally = _tally_of(stream, "region")
+    numbers = numbers_of(known, column, 1, MOST_COLOUR, tally)
+    jobs = {}
+    for key in frame.tiles():
+        mine = by_tile.get(key, [])
+        rows = np.concatenate([NO_ROWS, *(rows for rows, _ in mine)])
+        lines = np.concatenate([np.empty((0, 4)), *(lines for _, lines in mine)])
+        jobs[key] = job(pieces.paint_lines, layer, rows, numbers[rows], lines, *frame.origin(key))
 
-    Gives the rows of those that have pixels, and how many pixels more than one had.
-    """
-    colours = np.zeros((m.side, m.side), np.uint16)
-    entered, overlaid = [], 0
-    for number, (row, rings) in zip(numbers, features):
-        pixels, taken = burn(colours, rings, number)
-        overlaid += taken
-        if pixels:
-            entered.append(row)
-    paint(m, layer, colours)
-    return entered, overlaid
+    def finish(answers: dict[Key, NDArray[np.int64]]) -> pd.DataFrame:
+        rows = np.unique(np.concatenate(list(answers.values())))
+        if not len(rows):
+            raise BadSource("nothing of the source lies in a pixel of the grid")
+        tally.entered = len(rows)
+        tally.left_out["outside of the grid"] = stream.present - len(rows)
+        return table_of(known, rows, {"colour": numbers[rows]})
+
+    return Layering("region", jobs, tally, finish, int(numbers.max()))
+
+
+def tiles_of_lines(frame: Frame, lines: Lines) -> dict[Key, NDArray[np.int64]]:
+    """Which lines may have pixels in each tile, in their order: those of which the rectangle around them does."""
+    size = np.array([frame.width, frame.height])
+    low, high = np.minimum(lines[:, :2], lines[:, 2:]), np.maximum(lines[:, :2], lines[:, 2:])
+    near = np.flatnonzero((high >= 0).all(axis=1) & (low < size).all(axis=1))
+    first = np.floor(np.clip(low[near], 0, size - 1)).astype(np.int64) >> frame.level
+    last = np.floor(np.clip(high[near], 0, size - 1)).astype(np.int64) >> frame.level
+    is_one = (first == last).all(axis=1)
+    found: dict[Key, list[int]] = {}
+    for which, column, row in np.column_stack([near, first])[is_one].tolist():
+        found.setdefault((column, row), []).append(which)
+    for which, left, top, right, bottom in np.column_stack([near, first, last])[~is_one].tolist():
+        for key in product(range(left, right + 1), range(top, bottom + 1)):
+            found.setdefault(key, []).append(which)
+    return {key: np.sort(np.array(mine, np.int64)) for key, mine in found.items()}
 
 
 def _points(frame: Frame, layer: str, stream: Stream, column: Optional[str], capacity: int) -> Layering:

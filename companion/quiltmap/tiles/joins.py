@@ -3,19 +3,21 @@
 from __future__ import annotations
 
 from math import isqrt
-from typing import Any, Callable, Iterable
+from typing import Any, Callable, Iterable, Optional
 
 import numpy as np
-from numpy.typing import NDArray
+from numpy.typing import ArrayLike, NDArray
 from scipy.ndimage import maximum_filter1d
 
+from ..burning import Ring, trimmed
+from ..contents import MOST_COLOUR
 from ..errors import Refused
 from . import pieces
 from .frame import Frame, Key, Part
-from .pieces import NONE, Depths, Runs
+from .pieces import NONE, Depths, Move, Runs
 from .state import Change, Job, State, command, job
 from .table import Draft
-from .whole import NO_SEGMENTS, Segments, meets_windows, share_a_point, square_distance
+from .whole import NO_SEGMENTS, Segments, meets_windows, square_distance
 
 # Windows and tiles.
 
@@ -41,6 +43,34 @@ def check_places(frame: Frame, line: str, places: NDArray[np.int64]) -> None:
     """Raises Refused where a place does not lie in the whole."""
     if len(places) and (places.min() < 0 or (places >= [frame.width, frame.height]).any()):
         raise Refused(8, "outside", line)
+
+
+def check_colour(state: State, line: str, colour: int) -> None:
+    """Raises Refused where no pixel of the grid's format can have the colour."""
+    if not 0 <= colour <= (255 if state.manifest.map_format == 1 else MOST_COLOUR):
+        raise Refused(3, "number", line)
+
+
+def ring_of(ring: ArrayLike) -> Ring:
+    """A ring as an array of whole numbers. Raises ValueError where it is none."""
+    table = np.asarray(ring)
+    if table.ndim != 2 or table.shape[1] != 2 or table.dtype.kind not in "iu":
+        raise ValueError(f"a ring has the shape (corners, 2), of whole numbers, not {table.shape} of {table.dtype}")
+    return table.astype(np.int64)
+
+
+def rings_in_tiles(frame: Frame, rings: Iterable[Ring]) -> dict[Key, list[Ring]]:
+    """The rings, in the pixels of each tile in which they may have some, without corners that do not matter there."""
+    found: dict[Key, list[Ring]] = {}
+    for ring in rings:
+        (left, top), (right, bottom) = ring.min(axis=0).tolist(), ring.max(axis=0).tolist()
+        x, y = max(left, 0), max(top, 0)
+        w, h = min(right, frame.width) - x, min(bottom, frame.height) - y
+        for part in frame.parts(x, y, w, h) if w > 0 and h > 0 else []:
+            mine = trimmed(ring - np.array(frame.origin(part[:2])), frame.side)
+            if len(mine):
+                found.setdefault(part[:2], []).append(mine)
+    return found
 
 
 def points_by_tile(frame: Frame, points: NDArray[np.int64]) -> dict[Key, NDArray[np.int64]]:
@@ -70,6 +100,12 @@ def by_id(segments: Segments) -> Segments:
 def is_shared(state: State, layer: str, id: int) -> bool:
     """Whether the segment of an id is shared."""
     return bool((state.shared.all(layer)[:, 0] == id).any())
+
+
+def shared_in_tiles(state: State, layer: str) -> dict[Key, Segments]:
+    """The shared segments that each tile meets, whole, in its pixels."""
+    found = state.shared.in_tiles(layer, state.frame.tiles())
+    return {key: segments - np.array([0, *state.frame.origin(key), *state.frame.origin(key)]) for key, segments in found.items()}
 
 
 def meeting(state: State, line: str, layer: str, method: str, window: tuple[int, int, int, int]) -> tuple[list[tuple[Key, Any]], Segments]:
@@ -135,23 +171,25 @@ def within_reach(state: State, line: str, layer: str, x: int, y: int, reach: int
     return np.concatenate([*(table + np.array([0, *origin, *origin]) for origin, table in own), shared])
 
 
-def pairs_of_tile(frame: Frame, key: Key, pairs: NDArray[np.int64], parts: Segments, other_parts: Segments, shared: Segments,
-                   other_shared: Segments) -> NDArray[np.int64]:
-    """The pairs of one tile: of its own segments by what it tells, those with a shared one by the segments as they are whole."""
-    is_own = ~(np.isin(pairs[:, 0], shared[:, 0]) | np.isin(pairs[:, 1], other_shared[:, 0]))
-    origin = np.array([0, *frame.origin(key), *frame.origin(key)])
-    own = parts[~np.isin(parts[:, 0], shared[:, 0])] + origin
-    other = other_parts[~np.isin(other_parts[:, 0], other_shared[:, 0])] + origin
-    found = [pairs[is_own]]
-    every = np.concatenate([other, other_shared])
-    found += [paired(s[0], every[share_a_point(s, every)][:, 0]) for s in shared]
-    found += [paired(s[0], own[share_a_point(s, own)][:, 0])[:, ::-1] for s in other_shared]
-    return np.concatenate(found)
+# Shifts.
 
 
-def paired(id: int, others: NDArray[np.int64]) -> NDArray[np.int64]:
-    """The pairs of an id with others."""
-    return np.column_stack([np.full(len(others), id), others])
+def moves(state: State, key: Key, dx: int, dy: int) -> tuple[Optional[Move], list[Move]]:
+    """What comes into a tile where all pixels go dx to the right and dy down: from the tile itself, and from other tiles."""
+    frame = state.frame
+    x, y = frame.origin(key)
+    left, top = max(x - dx, 0), max(y - dy, 0)
+    right, bottom = min(x - dx + frame.side, frame.width), min(y - dy + frame.side, frame.height)
+    own, others = None, []
+    for part in frame.parts(left, top, right - left, bottom - top) if left < right and top < bottom else []:
+        source = part[:2]
+        from_x, from_y = frame.origin(source)
+        move = Move(state.tile(source), part[2:], from_x + part.x + dx - x, from_y + part.y + dy - y)
+        if source == key:
+            own = move
+        else:
+            others.append(move)
+    return own, others
 
 
 # Buffers.

@@ -90,17 +90,17 @@ class Change(State):
         all tiles are as they were, and what it raised is raised.
         """
         manifest, store = self.manifest, self._store
-        token = store.begin(manifest)
+        token = store.begin()
         try:
             todo = [(self.tile(key), self._pool, token, j.work, *j.arguments) for key, j in jobs.items()]
-            told = self._engine.run(work.change, todo, store.stop)
+            told = self._engine.run(work.change, todo, lambda: store.stop(token))
             answers = {key: answer for key, (_, answer) in zip(jobs, told)}
             members |= {} if finish is None else finish(answers)
         except BaseException:
             store.settle(manifest)
             raise
         editions = {key: edition for key, (edition, _) in zip(jobs, told)}
-        store.commit(replace(manifest, state=manifest.state + 1, editions=manifest.editions | editions, **members))
+        store.commit(replace(manifest, state=manifest.state + 1, editions=manifest.editions | editions, change=token, **members))
         return answers
 
     def publish_all(self, one: Job, **members: Any) -> dict[Key, Any]:

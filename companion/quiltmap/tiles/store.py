@@ -1,15 +1,15 @@
-"""A grid of maps on the disk: its tiles, the manifest that says which state it has, and the copies that lead back to it.
+"""A grid of maps on the disk: its tiles, the manifest that says which state it has, and the tiles of a command that is under way.
 
 The folder of a grid holds
 
 - `manifest.json`, the last state of the whole: which edition each tile has in it, the layers, and the files beside;
 - `tiles/c3r12`, the map of column 3 and row 12, both counted from 0 on, to the right and down;
-- `kept/c3r12.7`, while a command is under way, a copy of this tile as of the manifest's edition 7;
-- `change.json`, while a command is under way, its token;
+- `changes/TOKEN/c3r12`, while a command is under way, this tile as the command leaves it; each command has a token of its own;
 - `grid.wld` and `grid.prj`, the place of the whole; `segments.5.sqlite` and `attributes.5.gpkg`, which came with state 5.
 
-A command changes tiles in place, each behind a copy of it, and publishes each. The manifest is replaced as a whole once
-all were published. So a stop leaves the manifest before, with copies that lead back to it, or the one behind.
+No file in `tiles` is changed in place: a command copies a tile, changes the copy and publishes that. The manifest is replaced as
+a whole once all are published, and names the token; the new files take the places of the old ones then. So a stop leaves the manifest
+before, with its tiles as they were, or the one behind, some of whose tiles still wait in the command's folder.
 """
 
 from __future__ import annotations
@@ -18,12 +18,14 @@ import errno
 import fcntl
 import json
 import os
+import re
 import shutil
 import uuid
-from contextlib import contextmanager
+from concurrent.futures import ThreadPoolExecutor
+from contextlib import contextmanager, suppress
 from dataclasses import dataclass, field, replace
 from pathlib import Path
-from typing import Iterator, NamedTuple, Optional
+from typing import Callable, Iterator, NamedTuple, Optional
 
 from .. import client
 from ..beside import sync
@@ -39,6 +41,15 @@ MOST_SIDE = 2**20
 MOST_TILES = 65_536
 
 _CHUNK = 1 << 20
+_PAGE = 4096
+
+#: How many copies of a new grid's first tile are written at once.
+_AT_ONCE = 16
+
+_NAME_OF_TILE = re.compile(r"c[0-9]+r[0-9]+")
+
+#: How the name of the folder of a change ends that was given up, or whose tiles have their places.
+_GONE = ".gone"
 
 
 class BadGrid(QuiltError):
@@ -53,12 +64,17 @@ class MovedOn(QuiltError):
 
 
 class Tile(NamedTuple):
-    """A tile in a state of the whole: the grid's folder, the column and the row, and the tile's edition in that state."""
+    """A tile in a state of the whole.
+
+    folder: that of the grid; column, row: which tile it is; edition: that which it has in the state; change: the token of the
+    command that made the state, or None.
+    """
 
     folder: str
     column: int
     row: int
     edition: int
+    change: Optional[str] = None
 
     @property
     def name(self) -> str:
@@ -71,9 +87,15 @@ class Tile(NamedTuple):
         return Path(self.folder, "tiles", self.name)
 
     @property
-    def kept(self) -> Path:
-        """The copy of the tile as of its edition in the state, where there is one."""
-        return Path(self.folder, "kept", f"{self.name}.{self.edition}")
+    def files(self) -> Iterator[Path]:
+        """Where the tile may be, in the order in which it has to be looked for: a new tile goes from the first place to the second."""
+        if self.change is not None:
+            yield self.changed(self.change)
+        yield self.path
+
+    def changed(self, token: str) -> Path:
+        """Where the command of a token leaves the tile."""
+        return Path(self.folder, "changes", token, self.name)
 
 
 @dataclass(frozen=True)
@@ -82,7 +104,7 @@ class Manifest:
 
     state: its number, from 0 on; editions: that of each tile, by column and row; layers: by name, the same in
     all tiles; map_format: the format of all tiles; placed: whether `grid.wld` counts; segments, attributes: the names of the
-    files beside, or None.
+    files beside, or None; change: the token of the command that made the state, or None of a new grid.
     """
 
     frame: Frame
@@ -94,6 +116,7 @@ class Manifest:
     placed: bool = False
     segments: Optional[str] = None
     attributes: Optional[str] = None
+    change: Optional[str] = None
 
     def text(self) -> str:
         """The manifest as JSON."""
@@ -102,7 +125,7 @@ class Manifest:
         told = {
             "manifest": 1, "state": self.state, "columns": self.frame.columns, "rows": self.frame.rows, "level": self.frame.level,
             "pages": self.pages, "map_format": self.map_format, "placed": self.placed, "segments": self.segments,
-            "attributes": self.attributes, "layers": layers, "tiles": tiles,
+            "attributes": self.attributes, "change": self.change, "layers": layers, "tiles": tiles,
         }  # fmt: skip
         return json.dumps(told, indent=1) + "\n"
 
@@ -118,7 +141,7 @@ class Manifest:
             raise ValueError("its tiles are not those of its columns and rows")
         layers = {layer["name"]: Layer(layer["name"], layer["kind"], layer["most"]) for layer in told["layers"]}
         return cls(frame, told["pages"], told["state"], told["map_format"], editions, layers, told["placed"],
-                   told["segments"], told["attributes"])  # fmt: skip
+                   told["segments"], told["attributes"], told.get("change"))  # fmt: skip
 
 
 class Store:
@@ -127,7 +150,7 @@ class Store:
     def __init__(self, folder: str) -> None:
         self.folder = os.path.abspath(folder)
         self._manifest = Path(self.folder, "manifest.json")
-        self._token = Path(self.folder, "change.json")
+        self._changes = Path(self.folder, "changes")
         self.world = Path(self.folder, "grid.wld")
         self.projection = Path(self.folder, "grid.prj")
 
@@ -142,7 +165,7 @@ class Store:
 
     def tile(self, manifest: Manifest, column: int, row: int) -> Tile:
         """A tile in a state."""
-        return Tile(self.folder, column, row, manifest.editions[column, row])
+        return Tile(self.folder, column, row, manifest.editions[column, row], manifest.change)
 
     def place(self, manifest: Manifest) -> Optional[Place]:
         """The place of the whole in a state, or None where it has none. Raises BadPlace."""
@@ -169,56 +192,59 @@ class Store:
         finally:
             os.close(descriptor)
 
-    def begin(self, manifest: Manifest) -> str:
-        """Begins a change from a state: gives its token, without which no task changes a tile."""
+    def begin(self) -> str:
+        """Begins a change: gives its token, under which tasks put the tiles that they have changed."""
         token = uuid.uuid4().hex
-        self._replace(self._token, json.dumps({"token": token, "state": manifest.state}))
+        self._changes.joinpath(token).mkdir(parents=True)
         return token
 
     def commit(self, manifest: Manifest) -> None:
-        """Makes this the last state, after all its tiles were published, and removes what led back to the one before."""
+        """Makes this the last state, after all tiles of its change were published, and gives these their places."""
+        if manifest.change is not None:
+            sync(self._changes / manifest.change)
+            sync(self._changes)
         self._replace(self._manifest, manifest.text())
         self.settle(manifest)
 
     def settle(self, manifest: Manifest) -> None:
         """Makes the files those of the last state: ends what a stopped change left, and removes what no state needs.
 
-        Called with the grid kept from other changes. The token goes first, so that a task that is late changes no tile
-        that was put back; a copy takes the place of its tile by a rename, which needs no room on the disk, and what a
-        late program still writes goes into the file that has no name any more.
+        Called with the grid kept from other changes. A tile takes its place by a rename, which needs no room on the disk; a file
+        that a task still writes, or that a question still reads, goes on without a name.
         """
-        self.stop()
-        self._put_back(manifest)
-        for path in (*Path(self.folder).glob("*.new"), *Path(self.folder, "tiles").glob("*.new")):
+        if manifest.change is not None:
+            self._take_over(self._changes / manifest.change)
+        for path in self._changes.glob("*"):
+            self.stop(path.name)
+            shutil.rmtree(self._gone(path.name), ignore_errors=True)
+        for path in Path(self.folder).glob("*.new"):
             path.unlink(missing_ok=True)
         named = {manifest.segments, manifest.attributes}
         for path in (*Path(self.folder).glob("segments.*"), *Path(self.folder).glob("attributes.*")):
             if path.name not in named:
                 path.unlink(missing_ok=True)
 
-    def stop(self) -> None:
-        """Takes the token away: no task begins to change a tile any more."""
-        if self._token.exists():
-            self._token.unlink(missing_ok=True)
-            sync(Path(self.folder))
-
-    def _put_back(self, manifest: Manifest) -> None:
-        copies = sorted(Path(self.folder, "kept").iterdir())
-        if not copies:
+    def _take_over(self, folder: Path) -> None:
+        """Gives the tiles in the folder of the last state's change their places."""
+        if not folder.exists():
             return
-        current = {tile.kept.name: tile for tile in (self.tile(manifest, *key) for key in manifest.editions)}
-        for path in copies:
-            tile = current.get(path.name)
-            if tile is None:
-                path.unlink()
-            else:
-                os.replace(path, tile.path)
+        for path in folder.iterdir():
+            if _NAME_OF_TILE.fullmatch(path.name):
+                os.replace(path, Path(self.folder, "tiles", path.name))
         sync(Path(self.folder, "tiles"))
-        sync(Path(self.folder, "kept"))
+
+    def stop(self, token: str) -> None:
+        """Gives the folder of a change another name, so that no task puts a tile there any more."""
+        if not token.endswith(_GONE):
+            with suppress(FileNotFoundError):
+                self._changes.joinpath(token).rename(self._gone(token))
+
+    def _gone(self, token: str) -> Path:
+        return self._changes / (token.removesuffix(_GONE) + _GONE)
 
     def is_left(self) -> bool:
         """Whether a change is under way, or was stopped."""
-        return self._token.exists() or any(Path(self.folder, "kept").iterdir())
+        return any(self._changes.glob("*"))
 
     def _replace(self, path: Path, text: str) -> None:
         draft = path.with_name(path.name + ".new")
@@ -230,32 +256,44 @@ class Store:
         sync(Path(self.folder))
 
 
-def check_token(tile: Tile, token: str) -> None:
-    """Raises MovedOn where the change of this token is not under way any more."""
-    try:
-        told = json.loads(Path(tile.folder, "change.json").read_text())["token"]
-    except FileNotFoundError:
-        told = None
-    if told != token:
-        raise MovedOn(f"the change of tile {tile.name} was given up meanwhile")
-
-
 def copy_file(source: Path, target: Path) -> None:
-    """Copies a file, its holes as holes, and waits until it is on the disk. The target is a new file, which goes where this fails."""
+    """Copies a file, its holes as holes. The target is a new file, which goes where this fails; it need not be on the disk yet."""
+    _copy(source, target, _copy_range)
+
+
+def copy_map(source: Path, target: Path) -> None:
+    """Copies a map file that no run has open, as `copy_file` does, without the slots of its journal where that is closed, since they count for nothing."""
+    _copy(source, target, _copy_range, _counting)
+
+
+def copy_thin(source: Path, target: Path) -> None:
+    """Copies a file, its pages of zeros as holes. The target is a new file, which goes where this fails; it need not be on the disk yet."""
+    _copy(source, target, _copy_pages)
+
+
+def _copy(source: Path, target: Path, copy_part: Callable[[int, int, int, int], None],
+          measure: Callable[[int, int], int] = lambda _, size: size) -> None:
     try:
         with open(source, "rb") as old, open(target, "xb") as made:
             size = os.fstat(old.fileno()).st_size
             os.ftruncate(made.fileno(), size)
-            for begin, end in _extents(old.fileno(), size):
-                _copy_bytes(old.fileno(), made.fileno(), begin, end)
-            os.fsync(made.fileno())
+            for begin, end in _extents(old.fileno(), measure(old.fileno(), size)):
+                copy_part(old.fileno(), made.fileno(), begin, end)
     except BaseException:
         target.unlink(missing_ok=True)
         raise
 
 
+def _counting(descriptor: int, size: int) -> int:
+    """How many bytes of a map file count, from its first on: all but the slots, unless the gate of its journal is open (docs/FORMAT.md)."""
+    pages = (size // _PAGE - 3) // 2
+    if size != (3 + 2 * pages) * _PAGE or os.pread(descriptor, 1, _PAGE) == b"\1":
+        return size
+    return (3 + pages) * _PAGE
+
+
 def _extents(descriptor: int, size: int) -> Iterator[tuple[int, int]]:
-    """The parts of a file that hold data."""
+    """The parts of the first bytes of a file that hold data."""
     end = 0
     while end < size:
         try:
@@ -264,19 +302,39 @@ def _extents(descriptor: int, size: int) -> Iterator[tuple[int, int]]:
             if error.errno == errno.ENXIO:
                 return
             raise
-        end = os.lseek(descriptor, begin, os.SEEK_HOLE)
+        if begin >= size:
+            return
+        end = min(os.lseek(descriptor, begin, os.SEEK_HOLE), size)
         yield begin, end
 
 
-def _copy_bytes(source: int, target: int, begin: int, end: int) -> None:
+def _copy_range(source: int, target: int, begin: int, end: int) -> None:
+    """Copies a part within the system, which shares it where the file system can."""
     while begin < end:
-        piece = os.pread(source, min(_CHUNK, end - begin), begin)
-        if not piece:
+        try:
+            taken = os.copy_file_range(source, target, end - begin, begin, begin)
+        except OSError as error:
+            if error.errno not in (errno.EXDEV, errno.ENOSYS, errno.EOPNOTSUPP, errno.EINVAL):
+                raise
+            taken = _write(target, os.pread(source, min(_CHUNK, end - begin), begin), begin)
+        if not taken:
             return
-        taken = 0
-        while taken < len(piece):
-            taken += os.pwrite(target, piece[taken:], begin + taken)
-        begin += len(piece)
+        begin += taken
+
+
+def _copy_pages(source: int, target: int, begin: int, end: int) -> None:
+    """Copies the pages of a part that are not zeros."""
+    for place in range(begin, end, _PAGE):
+        page = os.pread(source, min(_PAGE, end - place), place)
+        if page.strip(b"\0"):
+            _write(target, page, place)
+
+
+def _write(target: int, piece: bytes, place: int) -> int:
+    taken = 0
+    while taken < len(piece):
+        taken += os.pwrite(target, piece[taken:], place + taken)
+    return taken
 
 
 # A new grid.
@@ -309,7 +367,7 @@ def new(folder: str, columns: int, rows: int, level: int, pages: int, *, bounds:
 
 
 def _make(draft: Path, frame: Frame, pages: int, place: Optional[Place], map_format: int) -> None:
-    for part in (draft, draft / "tiles", draft / "kept"):
+    for part in (draft, draft / "tiles", draft / "changes"):
         part.mkdir()
     store = Store(os.fspath(draft))
     edition = _make_tiles(draft, frame, pages, map_format)
@@ -324,14 +382,23 @@ def _make(draft: Path, frame: Frame, pages: int, place: Optional[Place], map_for
 
 
 def _make_tiles(draft: Path, frame: Frame, pages: int, map_format: int) -> int:
-    """Makes one map, and its copies. Gives their edition."""
-    first, *others = (Tile(os.fspath(draft), column, row, 0).path for column, row in frame.tiles())
-    client.new(first, pages, frame.level)
+    """Makes one map, and its copies, all with holes where nothing is yet. Gives their edition."""
+    full = draft / "full"
+    client.new(full, pages, frame.level)
     edition = 0
     if map_format == 2:
-        with client.open(first) as m:
+        with client.open(full) as m:
             edition = m.upgrade()
-    for path in others:
+    first, *others = (Tile(os.fspath(draft), column, row, edition).path for column, row in frame.tiles())
+    copy_thin(full, first)
+    full.unlink()
+    sync(first)
+
+    def copy(path: Path) -> None:
         copy_file(first, path)
+        sync(path)
+
+    with ThreadPoolExecutor(_AT_ONCE) as threads:
+        list(threads.map(copy, others))
     sync(draft / "tiles")
     return edition

@@ -1,26 +1,26 @@
 """What is done on one tile, in this process or in a worker of dask: commands of one map, by the program.
 
-A task that reads finds its tile as of the edition that the state has, in the tile or in its copy. A task that changes a
-tile makes the copy first, or puts the tile back from the copy where an earlier try made one; so it begins from the same
-edition however often it is done, and what a try that was lost may still write goes into a file that has no name any more.
+A task that reads finds its tile as of the edition that the state has. A task that changes a tile works on a copy, which has a
+name of its own, and gives it the tile's name among those of the change at its end. So it begins from the same edition however often
+it is done, and a try that was lost, or is late, is in no one's way: where its change is given up or done there is no place
+left for its file.
 """
 
 from __future__ import annotations
 
 import os
 import time
+import uuid
 from contextlib import contextmanager
 from pathlib import Path
 from typing import Any, Callable, Iterator, Optional
 
 from .. import client
-from ..beside import sync
 from ..client import Map
 from ..errors import Ended, InUse, Refused
-from ..program import lock_map
-from .store import MovedOn, Tile, check_token, copy_file
+from .store import MovedOn, Tile, copy_map
 
-#: How many seconds a task waits for a tile that another run has.
+#: How many seconds a question waits for a tile that another run has.
 PATIENCE = 60.0
 
 _PAUSE = 0.02
@@ -32,11 +32,11 @@ Work = Callable[..., Any]
 
 @contextmanager
 def opened(tile: Tile, pool: Optional[int] = None) -> Iterator[Map]:
-    """The tile as of its edition, open, from the copy where there is one. Raises MovedOn where neither has the edition, InUse, Ended."""
+    """The tile as of its edition, open. Raises MovedOn where no file has the edition, InUse, Ended."""
     deadline = time.monotonic() + PATIENCE
     while True:
         is_busy = False
-        for path in (tile.kept, tile.path):
+        for path in filter(Path.exists, tile.files):
             try:
                 m = client.open(path, pool=pool)
             except InUse:
@@ -44,7 +44,7 @@ def opened(tile: Tile, pool: Optional[int] = None) -> Iterator[Map]:
                 continue
             except Ended as end:
                 if end.status == _MISSING:
-                    continue
+                    continue  # It has its place meanwhile.
                 raise
             if m.edition() == tile.edition:
                 with m:
@@ -65,16 +65,36 @@ def ask(tile: Tile, pool: Optional[int], work: Work, *arguments: Any) -> Any:
 
 
 def change(tile: Tile, pool: Optional[int], token: str, work: Work, *arguments: Any) -> tuple[int, Any]:
-    """Changes a tile and publishes it: the edition, and what the work answers. Raises MovedOn where the change was given up."""
-    check_token(tile, token)
-    _keep(tile, token)
-    with _waited(lambda: client.open(tile.path, pool=pool)) as m:
+    """Changes a copy of a tile, publishes it, and puts it to the tiles of the change: the edition, and what the work answers.
+
+    Raises MovedOn where the change was given up.
+    """
+    made = tile.changed(token)
+    draft = made.with_name(f"{made.name}.{uuid.uuid4().hex}")
+    try:
+        copy_map(tile.path, draft)
+        told = _changed(tile, draft, pool, work, *arguments)
+        os.rename(draft, made)
+        return told
+    except (FileNotFoundError, Ended):
+        if made.parent.exists():
+            raise
+        raise MovedOn(f"the change of tile {tile.name} was given up meanwhile") from None
+    finally:
+        draft.unlink(missing_ok=True)
+
+
+def _changed(tile: Tile, draft: Path, pool: Optional[int], work: Work, *arguments: Any) -> tuple[int, Any]:
+    """Does the work on the copy: the edition, once the copy is on the disk, and what the work answers."""
+    with client.open(draft, pool=pool) as m:
         if m.edition() != tile.edition:
             raise MovedOn(f"tile {tile.name} has edition {m.edition()}, and not {tile.edition}: was it changed by hand?")
-        check_token(tile, token)
         with _named(tile):
             answer = work(m, *arguments)
             edition = m.publish()
+    # The program has synced what it wrote, and with it the rest of the file; where it wrote nothing, this does.
+    with open(draft, "rb") as file:
+        os.fdatasync(file.fileno())
     return edition, answer
 
 
@@ -85,37 +105,6 @@ def _named(tile: Tile) -> Iterator[None]:
         yield
     except Refused as refused:
         raise Refused(refused.number, refused.word, f"{refused.command} in tile {tile.name}") from None
-
-
-def _keep(tile: Tile, token: str) -> None:
-    """Makes the copy of a tile, or puts the tile back from it where it is there."""
-    draft = tile.kept.with_name(f"{tile.kept.name}.{token}.new")
-    draft.unlink(missing_ok=True)
-    if tile.kept.exists():
-        copy_file(tile.kept, draft)
-        os.replace(draft, tile.path)
-        sync(tile.path.parent)
-    else:
-        lock = _waited(lambda: lock_map(tile.path))
-        try:
-            copy_file(tile.path, draft)
-            os.replace(draft, tile.kept)
-            sync(tile.kept.parent)
-        finally:
-            if lock is not None:
-                os.close(lock)
-
-
-def _waited(take: Callable[[], Any]) -> Any:
-    """What can be had once no other run has the tile. Raises InUse where that lasts."""
-    deadline = time.monotonic() + PATIENCE
-    while True:
-        try:
-            return take()
-        except InUse:
-            if time.monotonic() > deadline:
-                raise
-            time.sleep(_PAUSE)
 
 
 def size_of(path: Path) -> int:
