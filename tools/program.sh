@@ -381,7 +381,7 @@ tell_origin() {
     if find_current </dev/null >/dev/null; then
         echo "Program: $program, of these sources"
     else
-        echo "Program: none of these sources. The first call proves and builds it: 61 and 74 minutes where that was timed, on four processors that had other"
-        echo "work too, and 8 GB of disk, with 2 GB of memory for each processor and 2 GB more"
+        echo "Program: none of these sources. The first call proves and builds it: 98 minutes of the processor, which is half an hour where four are quiet, and"
+        echo "8 GB of disk, with 2 GB of memory for each processor and 2 GB more"
     fi
 }
