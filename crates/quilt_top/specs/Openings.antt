@@ -15,7 +15,7 @@ use Rattle.quilt_node.specs.declared.head.Head.{Head}
 use Rattle.quilt_edition.specs.Stands.{HoldsEdition, Stands, IsDamagePage}
 use Rattle.quilt_audit.specs.Surveys.{IsDamage}
 use Rattle.quilt_replies.specs.Answers.{State}
-use Rattle.quilt_map.specs.Sessions.{IsAt, world_of, changes_of, first_state}
+use Rattle.quilt_map.specs.Sessions.{IsAt, IsReady, world_of, changes_of, first_state}
 use Rattle.quilt_top.specs.declared.halt.Halt.{Halt}
 use Rattle.quilt_top.specs.declared.halt.Halt.TheVariants as halts
 use Rattle.quilt_top.specs.declared.opening.Opened.{Opened}
@@ -45,7 +45,7 @@ module _ {W : Type 0} {D : disk.Ghosts W} where
 
   -- nothing is changed yet
   abbrev pub IsUnchanged : Opened W D → Type 0
-  IsUnchanged (opened.Map session) = changes_of session ≡ 0
+  IsUnchanged (opened.Map session) = IsReady session × (changes_of session ≡ 0)
   IsUnchanged (opened.NotMap world) = Unit {0}
   IsUnchanged (opened.Stopped world stop) = Unit {0}
 

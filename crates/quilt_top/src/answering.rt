@@ -7,7 +7,7 @@ ghost use Rattle.quilt_top.specs.Answering.{Applies, Answers, AnswersPrefix, cha
 ghost use Rattle.quilt_top.specs.declared.halt.Halt.TheVariants as halts;
 ghost use Rattle.quilt_replies.specs.Answers.{State, Refused};
 ghost use Rattle.quilt_replies.specs.Runs.{text_of, is_done};
-ghost use Rattle.quilt_map.specs.Sessions.{world_of, format_of, level_of, changes_of, IsAt};
+ghost use Rattle.quilt_map.specs.Sessions.{world_of, format_of, level_of, changes_of, IsAt, IsReady};
 ghost use Rattle.quilt_words.specs.declared.item.Item.{Item};
 ghost use Rattle.quilt_words.specs.Forms.{form, Spelled};
 ghost use Rattle.quilt_top.specs.Replies.{reply_to, state_then};
@@ -46,7 +46,9 @@ pub(crate) fn answer_item<R: Threads + Sync, W: World>(
     session: &mut Session<W>,
     spelled: Result<Command, Code>,
 ) -> Result<Answer, Halt>
-    requires { IfOk spelled (λ command. Spelled (format_of session.old) (level_of session.old) command) }
+    requires ready { IsReady session.old }
+    requires spelled { IfOk spelled (λ command. Spelled (format_of session.old) (level_of session.old) command) }
+    ensures ready { OnOk result (IsReady session.new) }
     ensures text { IfOk result (λ a. (item : Item) → form (format_of session.old) item ≡ spelled →
         (s : State) → IsAt session.old s → a.text ≡ text_of (reply_to s item)) }
     ensures done { IfOk result (λ a. (item : Item) → form (format_of session.old) item ≡ spelled →
@@ -91,7 +93,9 @@ pub(crate) fn put_answer<R: Threads + Sync, W: World>(
     so_far: bool,
 ) -> Result<bool, Halt>
     requires open { IsOpen (W.door (world_of session.old)) }
+    requires ready { IsReady session.old }
     requires spelled { IfOk spelled (λ command. Spelled (format_of session.old) (level_of session.old) command) }
+    ensures ready { OnOk result (IsReady session.new) }
     ensures later { W.faults (world_of session.old) ≤ W.faults (world_of session.new) }
     ensures device { IfErr result (λ e. e ≡ halts.Stopped stops.Device → Rose (W.faults (world_of session.old)) (W.faults (world_of session.new))) }
     ensures damaged { IfErr result (λ e. (page : ℕ) → e ≡ halts.Stopped (stops.Damaged page) → (s : State) → IsAt session.old s → ⊥) }

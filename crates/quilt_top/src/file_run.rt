@@ -4,7 +4,7 @@ ghost use Rattle.quilt_world.specs.Tale.{Goes};
 ghost use Rattle.quilt_world.specs.Causes.{Rose};
 ghost use Rattle.quilt_world.specs.declared.disk.Door.TheVariants as doors;
 ghost use Rattle.quilt_replies.specs.Answers.{State};
-ghost use Rattle.quilt_map.specs.Sessions.{IsAt, world_of, level_of, changes_of};
+ghost use Rattle.quilt_map.specs.Sessions.{IsAt, IsReady, world_of, level_of, changes_of};
 ghost use Rattle.quilt_top.specs.TextRun.{IsUntold};
 ghost use Rattle.quilt_top.specs.declared.orders.Source.TheVariants as sources;
 ghost use Rattle.quilt_top.specs.declared.run.End.TheVariants as ends;
@@ -41,6 +41,7 @@ fn end_of(outcome: Result<bool, Halt>) -> End
 /// Runs the input over a session.
 fn run_session<R: Threads + Sync, W: World>(rt: &R, alloc: Global, session: Session<W>) -> (End, W)
     requires door { W.door (world_of session) ≡ doors.Ready }
+    requires ready { IsReady session }
     requires untold { IfSome (W.told (world_of session)) IsUntold }
     requires unchanged { changes_of session ≡ 0 }
     ensures later { W.faults (world_of session) ≤ W.faults result.1 }
@@ -64,6 +65,7 @@ fn try_session<R: Threads + Sync, W: World>(
     count: u32,
 ) -> (End, W)
     requires door { W.door (world_of session) ≡ doors.Ready }
+    requires ready { IsReady session }
     ensures later { W.faults (world_of session) ≤ W.faults result.1 }
     ensures device { result.0 ≡ ends.Device → Rose (W.faults (world_of session)) (W.faults result.1) }
     ensures door { W.door result.1 ≡ W.door (world_of session) }

@@ -4,7 +4,7 @@ ghost use Rattle.quilt_world.specs.Causes.{HasCause};
 ghost use Rattle.quilt_world.specs.Doors.{IsOpen};
 ghost use Rattle.quilt_world.specs.Added.{AddsOnly, is_of_text};
 ghost use Rattle.quilt_replies.specs.Answers.{State};
-ghost use Rattle.quilt_map.specs.Sessions.{world_of, level_of, changes_of, IsAt};
+ghost use Rattle.quilt_map.specs.Sessions.{world_of, level_of, changes_of, IsAt, IsReady};
 ghost use Rattle.quilt_top.specs.Saying.{Says, SaysPrefix};
 
 use quilt_map::Session;
@@ -36,6 +36,7 @@ pub(crate) fn put_reply<W: World>(session: &mut Session<W>, bytes: &[u8]) -> Res
     ensures text { Goes (AddsOnly is_of_text) (W.told (world_of session.old)) (W.told (world_of session.new)) }
     ensures level { level_of session.new ≡ level_of session.old }
     ensures changes { changes_of session.new ≡ changes_of session.old }
+    ensures ready { IsReady session.old → IsReady session.new }
     ensures at { (s : State) → IsAt session.old s → IsAt session.new s }
 {
     let mut done = 0;

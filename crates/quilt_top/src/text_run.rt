@@ -1,11 +1,11 @@
-ghost use Rattle.std.specs.Prelude.{◌≡◌, ℕ, ◌<◌, ◌≤◌, ◌+◌, ◌^◌, length, [], IfOk, IfErr, OnErr, IfSome};
+ghost use Rattle.std.specs.Prelude.{◌≡◌, ℕ, ◌<◌, ◌≤◌, ◌+◌, ◌^◌, length, [], IfOk, IfErr, OnOk, OnErr, IfSome};
 ghost use Rattle.quilt_types.specs.declared.stop.Stop.TheVariants as stops;
 ghost use Rattle.quilt_world.specs.Tale.{Tale, Goes};
 ghost use Rattle.quilt_world.specs.Causes.{Rose};
 ghost use Rattle.quilt_world.specs.Doors.{IsOpen};
 ghost use Rattle.quilt_lang.specs.Reading.{HasNone};
 ghost use Rattle.quilt_replies.specs.Answers.{State};
-ghost use Rattle.quilt_map.specs.Sessions.{world_of, level_of, changes_of, IsAt};
+ghost use Rattle.quilt_map.specs.Sessions.{world_of, level_of, changes_of, IsAt, IsReady};
 ghost use Rattle.quilt_top.specs.declared.halt.Halt.TheVariants as halts;
 ghost use Rattle.quilt_top.specs.Answered.{Answered, PrefixOfAll};
 ghost use Rattle.quilt_top.specs.TextRun.{IsUntold, RunsFrom, RunsWhole, Overruns};
@@ -31,7 +31,9 @@ fn answer_items<R: Threads + Sync, W: World>(
     so_far: bool,
 ) -> Result<bool, Halt>
     requires open { IsOpen (W.door (world_of session.old)) }
+    requires ready { IsReady session.old }
     requires level { level_of session.old ≡ lines.old.level }
+    ensures ready { OnOk result (IsReady session.new) }
     ensures later { W.faults (world_of session.old) ≤ W.faults (world_of session.new) }
     ensures device { IfErr result (λ e. e ≡ halts.Stopped stops.Device → Rose (W.faults (world_of session.old)) (W.faults (world_of session.new))) }
     ensures damaged { IfErr result (λ e. (page : ℕ) → e ≡ halts.Stopped (stops.Damaged page) → (s : State) → IsAt session.old s → ⊥) }
@@ -77,6 +79,7 @@ pub(crate) fn run_text<R: Threads + Sync, W: World>(
     session: &mut Session<W>,
 ) -> Result<bool, Halt>
     requires open { IsOpen (W.door (world_of session.old)) }
+    requires ready { IsReady session.old }
     requires untold { IfSome (W.told (world_of session.old)) IsUntold }
     requires unchanged { changes_of session.old ≡ 0 }
     ensures later { W.faults (world_of session.old) ≤ W.faults (world_of session.new) }

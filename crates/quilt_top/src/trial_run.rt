@@ -8,7 +8,7 @@ ghost use Rattle.quilt_words.specs.Forms.{form, Spelled};
 ghost use Rattle.quilt_words.specs.Items.{items_of};
 ghost use Rattle.quilt_replies.specs.Answers.{State};
 ghost use Rattle.quilt_replies.specs.Runs.{is_done};
-ghost use Rattle.quilt_map.specs.Sessions.{world_of, format_of, level_of, changes_of, IsAt};
+ghost use Rattle.quilt_map.specs.Sessions.{world_of, format_of, level_of, changes_of, IsAt, IsReady};
 ghost use Rattle.quilt_trial.specs.Rest.{newlines};
 ghost use Rattle.quilt_top.specs.declared.halt.Halt.TheVariants as halts;
 ghost use Rattle.quilt_top.specs.Answering.{Applies};
@@ -62,7 +62,9 @@ fn try_item<R: Threads + Sync, W: World>(
     session: &mut Session<W>,
     spelled: Result<Command, Code>,
 ) -> Result<bool, Halt>
-    requires { IfOk spelled (λ command. Spelled (format_of session.old) (level_of session.old) command) }
+    requires ready { IsReady session.old }
+    requires spelled { IfOk spelled (λ command. Spelled (format_of session.old) (level_of session.old) command) }
+    ensures ready { OnOk result (IsReady session.new) }
     ensures done { IfOk result (λ done. (item : Item) → form (format_of session.old) item ≡ spelled →
         (s : State) → IsAt session.old s → done ≡ is_done (reply_to s item)) }
     ensures at { OnOk result ((item : Item) → form (format_of session.old) item ≡ spelled →
@@ -88,6 +90,7 @@ fn try_items<R: Threads + Sync, W: World>(
     items: &mut TrialItems,
     session: &mut Session<W>,
 ) -> Result<Tally, Halt>
+    requires ready { IsReady session.old }
     requires level { level_of session.old ≡ items.old.lines.level }
     requires few { newlines (text_left items.old) + 2 < 2 ^ 64 }
     ensures later { W.faults (world_of session.old) ≤ W.faults (world_of session.new) }
@@ -130,6 +133,7 @@ pub(crate) fn run_trial<R: Threads + Sync, W: World>(
     count: u32,
 ) -> Result<bool, Halt>
     requires open { IsOpen (W.door (world_of session.old)) }
+    requires ready { IsReady session.old }
     ensures later { W.faults (world_of session.old) ≤ W.faults (world_of session.new) }
     ensures device { IfErr result (λ e. e ≡ halts.Stopped stops.Device → Rose (W.faults (world_of session.old)) (W.faults (world_of session.new))) }
     ensures damaged { IfErr result (λ e. (page : ℕ) → e ≡ halts.Stopped (stops.Damaged page) → (s : State) → IsAt session.old s → ⊥) }

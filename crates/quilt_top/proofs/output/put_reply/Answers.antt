@@ -23,6 +23,7 @@ loop-done-preserved g c =
     record {
       level = c.in_ok-done.ensures.level ∙ c.loop-done.invariant.level;
       changes = c.in_ok-done.ensures.changes ∙ c.loop-done.invariant.changes;
+      ready = λ ready. c.in_ok-done.ensures.ready (c.loop-done.invariant.ready ready);
       at = λ s at. c.in_ok-done.ensures.at s (c.loop-done.invariant.at s at);
       within = omega (arith, c.loop-done.invariant.within);
       door = search rules;

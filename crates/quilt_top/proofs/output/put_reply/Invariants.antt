@@ -2,7 +2,7 @@ use Rattle.std.proofs.Common.{◌≡◌, ◌≤◌, ◌-◌, length, take}
 use Rattle.quilt_world.specs.Added.{AddsOnly, is_of_text}
 use Rattle.quilt_world.specs.Tale.{Goes}
 use Rattle.quilt_top.specs.Saying.{Says}
-use Rattle.quilt_map.specs.Sessions.{world_of, level_of, changes_of, IsAt}
+use Rattle.quilt_map.specs.Sessions.{world_of, level_of, changes_of, IsAt, IsReady}
 use Rattle.quilt_replies.specs.Answers.{State}
 use Rattle.quilt_top.proofs.output.put_reply.Given as goal
 
@@ -10,6 +10,7 @@ abbrev pub invariant-loop-done : goal.invariant-loop-done
 invariant-loop-done g l = record {
   level : level_of l.session ≡ level_of l.initial.session;
   changes : changes_of l.session ≡ changes_of l.initial.session;
+  ready : IsReady l.initial.session → IsReady l.session;
   at : (s : State) → IsAt l.initial.session s → IsAt l.session s;
   within : l.done ≤ length l.bytes;
   door : g.W.Disk.door (world_of l.session) ≡ g.W.Disk.door (world_of l.initial.session);

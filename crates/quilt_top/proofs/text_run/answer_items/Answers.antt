@@ -19,6 +19,7 @@ use Rattle.quilt_top.proofs.text_run.answer_items.Goals as goal
 
 pub items-init : goal.items-init
 items-init g c = record {
+  ready = search rules;
   door = search rules;
   faults = search rules;
   level = search rules;
@@ -55,6 +56,7 @@ pub items-preserved : goal.items-preserved
 items-preserved g c =
     let given = rw (c.in-Some.is, c.items.invariant.level) at c.in_ok-spelled.ensures.given in
     record {
+      ready = search rules;
       door = search rules;
       faults = search rules;
       level = search rules;

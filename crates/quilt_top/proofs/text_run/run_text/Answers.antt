@@ -21,6 +21,7 @@ use Rattle.quilt_top.proofs.text_run.run_text.Goals as goal
 pub pieces-init : goal.pieces-init
 pieces-init g c = record {
   few = search rules;
+  ready = search rules;
   door = search rules;
   faults = search rules;
   level = c.new-lines.ensures.level ∙ c.head.ensures.is_level;
@@ -100,6 +101,7 @@ pieces-preserved g c =
     let answered = rw level at c.in_ok-all_done.ensures.answered in
     record {
       few = omega (arith, c.in_ok-total.ensures.few);
+      ready = search rules;
       door = search rules;
       faults = search rules;
       level = c.in_ok-all_done.ensures.level ∙ level;

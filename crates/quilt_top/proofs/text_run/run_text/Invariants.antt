@@ -2,13 +2,14 @@ use Rattle.std.proofs.Common.{◌≡◌, ◌≤◌, ◌-◌, ◌^◌, []}
 use Rattle.quilt_world.specs.Tale.{Goes}
 use Rattle.quilt_words.specs.Items.{whole_items}
 use Rattle.quilt_replies.specs.Answers.{State}
-use Rattle.quilt_map.specs.Sessions.{world_of, level_of, changes_of, IsAt}
+use Rattle.quilt_map.specs.Sessions.{world_of, level_of, changes_of, IsAt, IsReady}
 use Rattle.quilt_top.specs.Reading.{Reading}
 use Rattle.quilt_top.proofs.text_run.run_text.Given as goal
 
 abbrev pub invariant-pieces : goal.invariant-pieces
 invariant-pieces g l = record {
   few : l.total ≤ 2 ^ 30;
+  ready : IsReady l.session;
   door : g.W.Disk.door (world_of l.session) ≡ g.W.Disk.door (world_of l.initial.session);
   faults : g.W.Disk.faults (world_of l.initial.session) ≤ g.W.Disk.faults (world_of l.session);
   level : l.lines.level ≡ level_of l.initial.session;

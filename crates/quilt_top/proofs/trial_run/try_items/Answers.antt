@@ -21,6 +21,7 @@ use Rattle.quilt_top.proofs.trial_run.try_items.Goals as goal
 
 pub items-init : goal.items-init
 items-init g c = record {
+  ready = search rules;
   door = search rules;
   faults = search rules;
   level = search rules;
@@ -46,6 +47,7 @@ items-preserved g c =
     let n : ℕ = c.args.items.now.lines.level in
     let given = rw (c.in-Some.is, c.items.invariant.level) at c.in_ok-spelled.ensures.given in
     record {
+      ready = search rules;
       door = search rules;
       faults = search rules;
       level = search rules;

@@ -2,13 +2,14 @@ use Rattle.std.proofs.Common.{◌≡◌, ◌≤◌, ◌+◌, length}
 use Rattle.quilt_world.specs.Tale.{Goes}
 use Rattle.quilt_words.specs.Items.{items_of}
 use Rattle.quilt_replies.specs.Answers.{State}
-use Rattle.quilt_map.specs.Sessions.{world_of, level_of, IsAt}
+use Rattle.quilt_map.specs.Sessions.{world_of, level_of, IsAt, IsReady}
 use Rattle.quilt_top.specs.TextRun.{run_in}
 use Rattle.quilt_top.specs.Trying.{text_left, Tries, Tried}
 use Rattle.quilt_top.proofs.trial_run.try_items.Given as goal
 
 abbrev pub invariant-items : goal.invariant-items
 invariant-items g l = record {
+  ready : IsReady l.session;
   door : g.W.Disk.door (world_of l.session) ≡ g.W.Disk.door (world_of l.initial.session);
   faults : g.W.Disk.faults (world_of l.initial.session) ≤ g.W.Disk.faults (world_of l.session);
   level : l.items.lines.level ≡ l.initial.items.lines.level;
