@@ -4,12 +4,14 @@ use Rattle.std.specs.Prelude.{IfSome, OnOk, OnErr, Result, Ok, Err}
 use Rattle.std.proofs.Common.{◌≡◌, ◌≢◌, ◌⊎◌, inl, inr, ℕ, true, List, [], ◌++◌, drop, Option, Some, None, refl, sym, ◌∙◌, ap, subst, arith}
 use Rattle.std.proofs.lemmas.Option.{same_Some}
 use Rattle.quilt_world.specs.Causes.{Rose, next_count}
-use Rattle.quilt_world.specs.Tale.{Tale, Begins}
+use Rattle.quilt_world.specs.Tale.{Tale, Begins, taken_bytes}
 use Rattle.quilt_world.specs.declared.disk.Door.{Door}
 use Rattle.quilt_world.specs.declared.disk.Door.TheVariants as doors
 use Rattle.quilt_top.specs.declared.run.End.{End}
 use Rattle.quilt_top.specs.declared.run.End.TheVariants as ends
 use Rattle.quilt_top.specs.Words.{Order, New, Run as RunText, Trial, asked_for}
+use Rattle.quilt_top.specs.Stronger.{KeepsMore}
+use Rattle.quilt_top.proofs.InTurn.{shut_more}
 use Rattle.quilt_top.specs.Headline.{KeepsPromises, WhereTold, FindsFile, IsUsage, IsDoorOf, allowed_doors, is_allowed, HasEndCause}
 use Rattle.quilt_host.specs.Story.{Story, Steps}
 use Rattle.quilt_host.specs.Calls.{Says, SaysFront}
@@ -18,17 +20,22 @@ use Rattle.quilt.specs.Program.{line_of, lines_of, order_of, IfTold, Does, unsai
 
 -- ---- a world over the system
 
+-- before the first call nothing of the input was taken
+pub untaken_first : (o : Option Story) → IfSome (option_map (tale_of doors.Shut 0 0 0) o) (λ t. taken_bytes t.log ≡ [])
+untaken_first None = tt
+untaken_first (Some s) = refl
+
 -- what is promised of the tale of the world is promised of the story that it was read off
 pub does_of_tales : (order : Option Order) (end : End) (o n : Option Story) (told now : Option Tale) (before faults : ℕ) (door : Door) (pages reads writes : ℕ)
     → told ≡ option_map (tale_of doors.Shut 0 0 0) o → now ≡ option_map (tale_of door pages reads writes) n → before ≡ 0 → IfSome n (IsKept door)
     → IsUsage order end → (order ≡ None → n ≡ o) → HasEndCause order before faults door end
-    → WhereTold (KeepsPromises order (Rose before faults) door end) told now → IfTold (Does order end) o n
-does_of_tales order end None n told now before faults door pages reads writes is_told is_now zero kept usage untouched cause promises = tt
-does_of_tales order end (Some s) None told now before faults door pages reads writes is_told is_now zero kept usage untouched cause promises =
+    → WhereTold (KeepsPromises order (Rose before faults) door end) told now → WhereTold (KeepsMore order door end) told now → IfTold (Does order end) o n
+does_of_tales order end None n told now before faults door pages reads writes is_told is_now zero kept usage untouched cause promises more = tt
+does_of_tales order end (Some s) None told now before faults door pages reads writes is_told is_now zero kept usage untouched cause promises more =
     let here = subst (λ (t : Option Tale). WhereTold (KeepsPromises order (Rose before faults) door end) t now) is_told promises in
     let none : ⊥ = subst (λ (t : Option Tale). WhereTold (KeepsPromises order (Rose before faults) door end) (Some (tale_of doors.Shut 0 0 0 s)) t) is_now here in
     none
-does_of_tales order end (Some s) (Some u) told now before faults door pages reads writes is_told is_now zero kept usage untouched cause promises =
+does_of_tales order end (Some s) (Some u) told now before faults door pages reads writes is_told is_now zero kept usage untouched cause promises more =
     let here = subst (λ (t : Option Tale). WhereTold (KeepsPromises order (Rose before faults) door end) t now) is_told promises in
     let there = subst (λ (t : Option Tale). WhereTold (KeepsPromises order (Rose before faults) door end) (Some (tale_of doors.Shut 0 0 0 s)) t) is_now here in
     record {
@@ -41,6 +48,8 @@ does_of_tales order end (Some s) (Some u) told now before faults door pages read
       untouched = λ none. same_Some u s (untouched none);
       cause = subst (λ k. HasEndCause order k faults door end) zero cause;
       promises = subst (λ k. KeepsPromises order (Rose k faults) door end (tale_of doors.Shut 0 0 0 s) (tale_of door pages reads writes u)) zero there;
+      more = subst (λ (t : Option Tale). WhereTold (KeepsMore order door end) (Some (tale_of doors.Shut 0 0 0 s)) t) is_now
+          (subst (λ (t : Option Tale). WhereTold (KeepsMore order door end) t now) is_told more);
       kept = kept;
     }
 
@@ -136,6 +145,7 @@ memory_at_once order s fresh = record {
   untouched = λ none. refl;
   cause = cause_memory order;
   promises = promises_nothing order (Rose 0 0) (tale_of doors.Shut 0 0 0 s) (tale_of doors.Shut 0 0 0 s);
+  more = shut_more order doors.Shut ends.Memory (Some (tale_of doors.Shut 0 0 0 s)) refl refl;
   kept = kept_first s fresh;
 }
 
@@ -150,6 +160,7 @@ usage_at_once s fresh = record {
   untouched = λ none. refl;
   cause = cause_usage;
   promises = tt;
+  more = tt;
   kept = kept_first s fresh;
 }
 

@@ -8,6 +8,7 @@ use Rattle.quilt_top.specs.declared.run.End.{End}
 use Rattle.quilt_top.specs.declared.run.End.TheVariants.{Done, Refused, Usage, Device, Memory, NotMap, Missing, Taken, TooMuch, Damaged}
 use Rattle.quilt_top.specs.Words.{Order, asked_for}
 use Rattle.quilt_top.specs.Headline.{KeepsPromises, IsUsage, HasEndCause}
+use Rattle.quilt_top.specs.Stronger.{KeepsMore}
 use Rattle.quilt_host.specs.Story.{Story}
 use Rattle.quilt_host.specs.Worlds.{tale_of, IsKept}
 
@@ -60,6 +61,7 @@ pub record Does (order : Option Order) (end : End) (before after : Story) : Type
   pub untouched : order ≡ None → after ≡ before
   pub cause : HasEndCause order 0 faults door end
   pub promises : KeepsPromises order (Rose 0 faults) door end (tale_of doors.Shut 0 0 0 before) (tale_of door pages reads writes after)
+  pub more : KeepsMore order door end (tale_of doors.Shut 0 0 0 before) (tale_of door pages reads writes after)
   pub kept : IsKept door after
 
 -- the story as if nothing had been written to standard error

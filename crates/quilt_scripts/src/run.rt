@@ -1,4 +1,5 @@
-ghost use Rattle.std.specs.Prelude.{◌≡◌, IfOk};
+ghost use Rattle.std.specs.Prelude.{◌≡◌, [], IfOk, IfSome};
+ghost use Rattle.quilt_world.specs.Tale.{taken_bytes};
 ghost use Rattle.quilt_world.specs.declared.disk.Door.TheVariants as doors;
 
 use crate::files::file_after;
@@ -51,7 +52,8 @@ impl<'a> Run<'a> {
 
     /// The desk that it is done over.
     fn desk(&self, alloc: Global, file: Option<Image>) -> Result<Desk, AllocError>
-        ensures { IfOk result (λ d. ⟦<Desk as Disk>⟧.door d ≡ doors.Shut) }
+        ensures door { IfOk result (λ d. ⟦<Desk as Disk>⟧.door d ≡ doors.Shut) }
+        ensures untaken { IfOk result (λ d. IfSome (⟦<Desk as Disk>⟧.told d) (λ t. taken_bytes t.log ≡ [])) }
     {
         let mut desk = Desk::new(alloc, "m", file, self.input)?;
         desk.piece(self.most.max(1));

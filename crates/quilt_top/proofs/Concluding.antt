@@ -44,6 +44,10 @@ concludes_none r t u tries = record { middle = u; tries = tries; left = λ some.
 front_none : (n : ℕ) (r : Run) (t u : Tale) → Tries r t u → TriesPrefix n r t u
 front_none n r t u tries = record { said = []; front = (summary n r, refl); concludes = concludes_none r t u tries }
 
+-- where pages alone were written
+pub tries_pages : (r : Run) (o m : Option Tale) → Goes (Tries r) o m → Goes (AddsOnly is_of_pages) o m
+tries_pages r o m tries = goes_weaker (Tries r) (AddsOnly is_of_pages) o m tries (λ t u so. so.pages)
+
 pub goes_none : (n : ℕ) (r : Run) (o m : Option Tale) → Goes (Tries r) o m → Goes (TriesPrefix n r) o m
 goes_none n r o m tries = goes_weaker _ _ o m tries (λ t u so. front_none n r t u so)
 
@@ -99,32 +103,45 @@ module _ (n k seed count : ℕ) (text : List ℕ) (level : k ≡ n) (is : text �
 
 -- ---- over a session
 
-stopped_to : (n : ℕ) (r : Run) (old w : Tale) (end : End) → TriesPrefix n r old w → (end ≡ ends.Done → ⊥) → (end ≡ ends.Refused → ⊥) → TriesTo n r end old w
-stopped_to n r old w end front a b = record { front = front; done = λ e. absurd (a e); refused = λ e. absurd (b e) }
+stopped_to : (n : ℕ) (r : Run) (old w : Tale) (end : End) → TriesPrefix n r old w → (end ≡ ends.Done → ⊥) → (end ≡ ends.Refused → ⊥)
+    → (end ≡ ends.Memory → AddsOnly is_of_pages old w) → TriesTo n r end old w
+stopped_to n r old w end front a b unsaid = record { front = front; done = λ e. absurd (a e); refused = λ e. absurd (b e); unsaid = unsaid }
 
 module _ (n : ℕ) (r : Run) (old w : Tale) (front : TriesPrefix n r old w) where
-  tries_at : (outcome : Result Bool Halt) → IfOk outcome (λ d. TriesWhole n r d old w) → TriesTo n r (end_of outcome) old w
-  tries_at (Ok true) whole = record { front = front; done = λ is. whole; refused = λ e. absurd (apart ends.Done ends.Refused 0 1 refl refl (λ f. cc) e) }
-  tries_at (Ok false) whole = record { front = front; done = λ e. absurd (apart ends.Refused ends.Done 1 0 refl refl (λ f. cc) e); refused = λ is. whole }
-  tries_at (Err (halts.Stopped stops.Device)) whole =
+  tries_at : (outcome : Result Bool Halt) → IfOk outcome (λ d. TriesWhole n r d old w)
+      → IfErr outcome (λ e. e ≡ halts.Stopped stops.Memory → AddsOnly is_of_pages old w) → TriesTo n r (end_of outcome) old w
+  tries_at (Ok true) whole unsaid = record {
+    front = front;
+    done = λ is. whole;
+    refused = λ e. absurd (apart ends.Done ends.Refused 0 1 refl refl (λ f. cc) e);
+    unsaid = λ e. absurd (apart ends.Done ends.Memory 0 5 refl refl (λ f. cc) e);
+  }
+  tries_at (Ok false) whole unsaid = record {
+    front = front;
+    done = λ e. absurd (apart ends.Refused ends.Done 1 0 refl refl (λ f. cc) e);
+    refused = λ is. whole;
+    unsaid = λ e. absurd (apart ends.Refused ends.Memory 1 5 refl refl (λ f. cc) e);
+  }
+  tries_at (Err (halts.Stopped stops.Device)) whole unsaid =
       stopped_to n r old w ends.Device front (λ e. apart ends.Device ends.Done 5 0 refl refl (λ f. cc) e)
-      (λ e. apart ends.Device ends.Refused 5 1 refl refl (λ f. cc) e)
-  tries_at (Err (halts.Stopped stops.Memory)) whole =
+      (λ e. apart ends.Device ends.Refused 5 1 refl refl (λ f. cc) e) (λ e. absurd (cc))
+  tries_at (Err (halts.Stopped stops.Memory)) whole unsaid =
       stopped_to n r old w ends.Memory front (λ e. apart ends.Memory ends.Done 5 0 refl refl (λ f. cc) e)
-      (λ e. apart ends.Memory ends.Refused 5 1 refl refl (λ f. cc) e)
-  tries_at (Err (halts.Stopped (stops.Damaged page))) whole =
+      (λ e. apart ends.Memory ends.Refused 5 1 refl refl (λ f. cc) e) (λ e. unsaid refl)
+  tries_at (Err (halts.Stopped (stops.Damaged page))) whole unsaid =
       stopped_to n r old w (ends.Damaged page) front (λ e. apart (ends.Damaged page) ends.Done 4 0 refl refl (λ f. cc) e)
-      (λ e. apart (ends.Damaged page) ends.Refused 4 1 refl refl (λ f. cc) e)
-  tries_at (Err halts.TooMuch) whole =
+      (λ e. apart (ends.Damaged page) ends.Refused 4 1 refl refl (λ f. cc) e) (λ e. absurd (cc))
+  tries_at (Err halts.TooMuch) whole unsaid =
       stopped_to n r old w ends.TooMuch front (λ e. apart ends.TooMuch ends.Done 2 0 refl refl (λ f. cc) e)
-      (λ e. apart ends.TooMuch ends.Refused 2 1 refl refl (λ f. cc) e)
+      (λ e. apart ends.TooMuch ends.Refused 2 1 refl refl (λ f. cc) e) (λ e. absurd (cc))
 
 pub tries_goes : (n : ℕ) (r : Run) (outcome : Result Bool Halt) (o m : Option Tale) → Goes (TriesPrefix n r) o m
-    → IfOk outcome (λ d. Goes (TriesWhole n r d) o m) → Goes (TriesTo n r (end_of outcome)) o m
-tries_goes n r outcome None None front whole = tt
-tries_goes n r outcome None (Some w) front whole = front
-tries_goes n r outcome (Some t) None front whole = front
-tries_goes n r outcome (Some t) (Some w) front whole = tries_at n r t w front outcome whole
+    → IfOk outcome (λ d. Goes (TriesWhole n r d) o m) → IfErr outcome (λ e. e ≡ halts.Stopped stops.Memory → Goes (AddsOnly is_of_pages) o m)
+    → Goes (TriesTo n r (end_of outcome)) o m
+tries_goes n r outcome None None front whole unsaid = tt
+tries_goes n r outcome None (Some w) front whole unsaid = front
+tries_goes n r outcome (Some t) None front whole unsaid = front
+tries_goes n r outcome (Some t) (Some w) front whole unsaid = tries_at n r t w front outcome whole unsaid
 
 pub not_much : (outcome : Result Bool Halt) → IfErr outcome (λ e. e ≡ halts.TooMuch → ⊥) → end_of outcome ≡ ends.TooMuch → ⊥
 not_much (Ok true) short is = apart ends.Done ends.TooMuch 0 2 refl refl (λ f. cc) is
@@ -292,3 +309,4 @@ quiet_try pages first seed count end v leaves not_done not_refused =
     stopped_to first.level r v v end
     (front_none first.level r v v
     (tries_none r v (λ image left. one_first s (items_of first.level (trial_text seed count first.level)) image (leaves image left)))) not_done not_refused
+    (λ e. adds_only_none is_of_pages v)

@@ -1,4 +1,5 @@
 pub mod Concluding
+pub mod InTurn
 pub mod Promises
 pub mod Running
 pub mod Summaries

@@ -102,7 +102,7 @@ not_made door is e = let f : ◌≡◌ {A = Door} doors.Ready doors.Made = sym i
 not_taken : (door : Door) → door ≡ doors.Ready → door ≡ doors.Taken → ⊥
 not_taken door is e = let f : ◌≡◌ {A = Door} doors.Ready doors.Taken = sym is ∙ e in cc
 
-one_size : (image : Pages) (n m : ℕ) → IsMapFile image n → IsMapFile image m → n ≡ m
+pub one_size : (image : Pages) (n m : ℕ) → IsMapFile image n → IsMapFile image m → n ≡ m
 one_size image n m a b = omega (arith, a.size, b.size)
 
 home_few : (start : Pages) (n : ℕ) → IsMapFile start n → length (home start n) ≤ 30000

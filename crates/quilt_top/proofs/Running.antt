@@ -1,5 +1,5 @@
 -- What a run over a file promises, by what opening and the text did.
-use Rattle.std.proofs.Common.{◌≡◌, inl, inr, ◌+◌, ◌<◌, ℕ, Bool, true, false, List, [], ◌∷◌, ◌++◌, length, length-append, take, Option, Some, None, Result}
+use Rattle.std.proofs.Common.{◌≡◌, inl, inr, ◌+◌, ◌<◌, ◌≤◌, ℕ, Bool, true, false, cond, List, [], ◌∷◌, ◌++◌, length, length-append, take, Option, Some, None, Result}
 use Rattle.std.proofs.Common.{Ok, Err, IfOk, IfErr, refl, sym, ◌∙◌, ap, subst, arith, append-nil}
 use Rattle.std.specs.List.{All}
 use Rattle.std.proofs.lemmas.List.{take_at}
@@ -12,6 +12,7 @@ use Rattle.quilt_world.specs.Doors.{OpensAt}
 use Rattle.quilt_world.specs.Home.{IsMapFile, home}
 use Rattle.quilt_world.specs.Stops.{LeavesNow}
 use Rattle.quilt_world.specs.Tale.{Tale, Goes, put_bytes, taken_bytes, Begins}
+use Rattle.quilt_world.specs.declared.event.Event.{Event}
 use Rattle.quilt_world.specs.declared.disk.Door.{Door}
 use Rattle.quilt_world.specs.declared.disk.Door.TheVariants as doors
 use Rattle.quilt_journal.specs.Kept.{HasHome}
@@ -20,18 +21,20 @@ use Rattle.quilt_words.specs.Items.{items_of}
 use Rattle.quilt_replies.specs.Answers.{State}
 use Rattle.quilt_replies.specs.Runs.{Run, Published, run, publishes, replies_of, output, told_within, editions_told}
 use Rattle.quilt_map.specs.Sessions.{first_state}
-use Rattle.quilt_top.specs.TextRun.{run_in, publishes_in, IsUntold, IsFine, RunsFrom, RunsWhole, Overruns}
+use Rattle.quilt_top.specs.Stronger.{PutsWhole, RunsInTurn, gives_next, touches_page}
+use Rattle.quilt_top.specs.TextRun.{run_in, publishes_in, IsUntold, IsFine, RunsFrom, RunsWhole, Overruns, EndsBetween}
 use Rattle.quilt_top.proofs.logs.Events.{put_bytes-append, nothing_taken, pages_untaken, pages_unput}
 use Rattle.quilt_top.proofs.logs.Prefixes.{front_split, only_front}
 use Rattle.quilt_top.proofs.turns.Places.{told_none, fine_last}
-use Rattle.quilt_top.proofs.turns.Runs.{reading_first, runs_now}
+use Rattle.quilt_top.proofs.turns.Between.{event_split, none_whole, as_whole}
+use Rattle.quilt_top.proofs.turns.Runs.{reading_first, runs_now, ends_now}
 use Rattle.quilt_top.specs.declared.halt.Halt.{Halt}
 use Rattle.quilt_top.specs.declared.halt.Halt.TheVariants as halts
 use Rattle.quilt_top.specs.declared.run.End.{End}
 use Rattle.quilt_top.specs.declared.run.End.TheVariants as ends
 use Rattle.quilt_top.specs.Headline.{IsOneOf, ComesExactly, IsStop, IsEdition, WritesFew, all_done, RunsText, IsPrompt, input_limit, told_by_replies, RunsInput}
 use Rattle.quilt_top.specs.Headline.{IsNoMap, StandsForNothing, OpensSafely, FindsFile, may_end_run}
-use Rattle.quilt_top.specs.Openings.{Keeps, RunsTo, run_ends, is_run_end, end_of}
+use Rattle.quilt_top.specs.Openings.{Keeps, IsNoFault, RunsTo, run_ends, is_run_end, end_of}
 
 -- ---- what opening leaves
 
@@ -125,6 +128,10 @@ told_is : (r : Run) (so_far : Log) → told_by_replies r so_far ≡ told_within 
 unfolding editions_told
 told_is r so_far = refl
 
+one_at_most : (b : Bool) → cond {A = ℕ} b 1 0 ≤ 1
+one_at_most true = omega arith
+one_at_most false = omega arith
+
 module _ (pages : ℕ) (first : Edition) (end : End) (v w : Tale) (so : RunsTo first.level (first_state pages first) end v w) (untold : IsUntold v) where
   abbrev r : Run
   r = run (quota pages) first v.input
@@ -173,6 +180,7 @@ module _ (pages : ℕ) (first : Edition) (end : End) (v w : Tale) (so : RunsTo f
       newest = λ so_far image stop.
           let fine = fine_at so_far image stop in
           let e = told_is r so_far in
+          let one = one_at_most (gives_next r (put_bytes so_far)) in
           (fine.place, (let f = fine.most in omega arith), (let f = fine.least in omega arith), fine.edition);
       short = λ fits is. let past = (so.too_much is).past in let all = ap length so.runs.input in let sum =
           length-append (taken_bytes w.log) w.input in omega arith;
@@ -181,6 +189,35 @@ module _ (pages : ℕ) (first : Edition) (end : End) (v w : Tale) (so : RunsTo f
       writes = subst (λ (ps : List Published). All (WritesFew r w.log) ps) (publishes_are pages first v.input)
           (subst (λ (x : Run). All (WritesFew x w.log) (publishes_in (first_state pages first) (items_of first.level v.input)))
           (run_is pages first v.input) so.runs.writes);
+    }
+
+    -- a page is written between replies alone
+    written_between : (so_far rest : Log) (e : Event) → w.log ≡ so_far ++ e ∷ rest → touches_page e ≡ true → PutsWhole r so_far
+    written_between so_far rest e is touches = elim (event_split v.log so.runs.events so_far rest e (sym so.runs.log ∙ is)) [
+      | inl within ↦ none_whole r so_far (pages_unput so_far (only_front is_of_pages v.log so_far (e ∷ within.0, within.1) untold))
+      | inr past ↦
+          let put : put_bytes so_far ≡ put_bytes past.0 =
+          ap put_bytes past.1 ∙ put_bytes-append v.log past.0 ∙ ap (λ (l : List ℕ). l ++ put_bytes past.0) (pages_unput v.log untold) in
+          as_whole r past.0 so_far put
+          (subst (λ (x : Run). PutsWhole x past.0) (run_is pages first v.input) (so.runs.between past.0 rest e past.2 touches))
+    ]
+
+    ends_between : IsOneOf end (ends.Done ∷ ends.Refused ∷ ends.Memory ∷ ends.TooMuch ∷ []) → EndsBetween r w
+    ends_between is = subst (λ (x : Run). EndsBetween x w) (run_is pages first v.input) (so.between is)
+
+    pub runs_turn : RunsInTurn r end w
+    runs_turn = record {
+      turn = λ so_far image stop.
+          let fine = fine_at so_far image stop in
+          let told = told_is r so_far in (
+            fine.place,
+            subst (λ k. k ≤ fine.place) (sym told) fine.least,
+            subst (λ k. fine.place ≤ k + cond (gives_next r (put_bytes so_far)) 1 0) (sym told) fine.most,
+            fine.edition,
+          );
+      between = λ so_far rest e is touches taken. written_between so_far rest e is touches;
+      left = λ is image left. subst (λ k. IsEdition r k image) (sym (told_is r w.log)) ((ends_between is).left image left);
+      whole = λ is. (ends_between (inr (inr is))).whole;
     }
 
   past_is : IsOneOf end run_ends → input_limit < length (taken_bytes w.log) → IsOneOf end (ends.TooMuch ∷ ends.Device ∷ ends.Memory ∷ [])
@@ -207,13 +244,15 @@ module _ (pages : ℕ) (first : Edition) (end : End) (v w : Tale) (so : RunsTo f
 pub quiet_run : (pages : ℕ) (first : Edition) (end : End) (v : Tale) → IsUntold v → LeavesNow v (λ image. Stands image first) → (end ≡ ends.Done → ⊥)
     → (end ≡ ends.Refused → ⊥) → (end ≡ ends.TooMuch → ⊥)
     → RunsTo first.level (first_state pages first) end v v
-quiet_run pages first end v untold leaves not_done not_refused not_much = record {
-  runs = runs_now first.level (first_state pages first) refl 0 true (first_state pages first) 0 [] v v (omega arith)
-      (reading_first first.level (first_state pages first) refl 0 v refl untold leaves);
-  done = λ is. absurd (not_done is);
-  refused = λ is. absurd (not_refused is);
-  too_much = λ is. absurd (not_much is);
-}
+quiet_run pages first end v untold leaves not_done not_refused not_much =
+    let s = first_state pages first in
+    let reading = reading_first first.level s refl 0 v refl untold leaves in record {
+      runs = runs_now first.level s refl 0 true s 0 [] v v (omega arith) reading;
+      done = λ is. absurd (not_done is);
+      refused = λ is. absurd (not_refused is);
+      too_much = λ is. absurd (not_much is);
+      between = λ is. ends_now first.level s refl 0 true s 0 [] v v reading leaves;
+    }
 
 pub opens_quiet : (end : End) (u v : Tale) → u.log ≡ [] → Keeps u v → ComesExactly end ends.NotMap (IsNoMap v.start)
     → ((page : ℕ) → end ≡ ends.Damaged page → StandsForNothing v.start)
@@ -264,51 +303,68 @@ apart a b n m x y other is = other (sym x ∙ ap number is ∙ y)
 -- ---- a run of the text over a session
 
 stopped_to : (n : ℕ) (s : State) (old w : Tale) (end : End) → RunsFrom n s old w → (end ≡ ends.Done → ⊥) → (end ≡ ends.Refused → ⊥)
-    → (end ≡ ends.TooMuch → ⊥) → RunsTo n s end old w
-stopped_to n s old w end runs a b c = record { runs = runs; done = λ e. absurd (a e); refused = λ e. absurd (b e); too_much = λ e. absurd (c e) }
+    → (end ≡ ends.TooMuch → ⊥)
+    → (IsOneOf end (ends.Done ∷ ends.Refused ∷ ends.Memory ∷ ends.TooMuch ∷ []) → EndsBetween (run_in s (items_of n old.input)) w) → RunsTo n s end old w
+stopped_to n s old w end runs a b c between =
+    record { runs = runs; done = λ e. absurd (a e); refused = λ e. absurd (b e); too_much = λ e. absurd (c e); between = between }
+
+not_between : (end : End) → (end ≡ ends.Done → ⊥) → (end ≡ ends.Refused → ⊥) → (end ≡ ends.Memory → ⊥) → (end ≡ ends.TooMuch → ⊥)
+    → IsOneOf end (ends.Done ∷ ends.Refused ∷ ends.Memory ∷ ends.TooMuch ∷ []) → ⊥
+not_between end a b c d (inl e) = a e
+not_between end a b c d (inr (inl e)) = b e
+not_between end a b c d (inr (inr (inl e))) = c e
+not_between end a b c d (inr (inr (inr (inl e)))) = d e
+not_between end a b c d (inr (inr (inr (inr e)))) = e
 
 module _ (n : ℕ) (s : State) (old w : Tale) (runs : RunsFrom n s old w) where
   runs_at : (outcome : Result Bool Halt) → IfOk outcome (λ d. RunsWhole n d s old w) → IfErr outcome (λ e. e ≡ halts.TooMuch → Overruns w)
-      → RunsTo n s (end_of outcome) old w
-  runs_at (Ok true) whole much =
+      → IfErr outcome (λ e. IsNoFault e → EndsBetween (run_in s (items_of n old.input)) w) → RunsTo n s (end_of outcome) old w
+  runs_at (Ok true) whole much between =
       record {
         runs = runs;
         done = λ is. whole;
         refused = λ e. absurd (apart ends.Done ends.Refused 0 1 refl refl (λ f. cc) e);
         too_much = λ e. absurd (apart ends.Done ends.TooMuch 0 2 refl refl (λ f. cc) e);
+        between = λ is. whole.ends;
       }
-  runs_at (Ok false) whole much =
+  runs_at (Ok false) whole much between =
       record {
         runs = runs;
         done = λ e. absurd (apart ends.Refused ends.Done 1 0 refl refl (λ f. cc) e);
         refused = λ is. whole;
         too_much = λ e. absurd (apart ends.Refused ends.TooMuch 1 2 refl refl (λ f. cc) e);
+        between = λ is. whole.ends;
       }
-  runs_at (Err (halts.Stopped stops.Device)) whole much =
+  runs_at (Err (halts.Stopped stops.Device)) whole much between =
       stopped_to n s old w ends.Device runs (λ e. apart ends.Device ends.Done 5 0 refl refl (λ f. cc) e)
       (λ e. apart ends.Device ends.Refused 5 1 refl refl (λ f. cc) e) (λ e. apart ends.Device ends.TooMuch 5 2 refl refl (λ f. cc) e)
-  runs_at (Err (halts.Stopped stops.Memory)) whole much =
+      (λ is. absurd (not_between ends.Device (λ e. cc) (λ e. cc) (λ e. cc) (λ e. cc) is))
+  runs_at (Err (halts.Stopped stops.Memory)) whole much between =
       stopped_to n s old w ends.Memory runs (λ e. apart ends.Memory ends.Done 5 0 refl refl (λ f. cc) e)
       (λ e. apart ends.Memory ends.Refused 5 1 refl refl (λ f. cc) e) (λ e. apart ends.Memory ends.TooMuch 5 2 refl refl (λ f. cc) e)
-  runs_at (Err (halts.Stopped (stops.Damaged page))) whole much =
+      (λ is. between (inr refl))
+  runs_at (Err (halts.Stopped (stops.Damaged page))) whole much between =
       stopped_to n s old w (ends.Damaged page) runs (λ e. apart (ends.Damaged page) ends.Done 4 0 refl refl (λ f. cc) e)
       (λ e. apart (ends.Damaged page) ends.Refused 4 1 refl refl (λ f. cc) e)
       (λ e. apart (ends.Damaged page) ends.TooMuch 4 2 refl refl (λ f. cc) e)
-  runs_at (Err halts.TooMuch) whole much =
+      (λ is. absurd (not_between (ends.Damaged page) (λ e. cc) (λ e. cc) (λ e. cc) (λ e. cc) is))
+  runs_at (Err halts.TooMuch) whole much between =
       record {
         runs = runs;
         done = λ e. absurd (apart ends.TooMuch ends.Done 2 0 refl refl (λ f. cc) e);
         refused = λ e. absurd (apart ends.TooMuch ends.Refused 2 1 refl refl (λ f. cc) e);
         too_much = λ is. much refl;
+        between = λ is. between (inl refl);
       }
 
 pub runs_goes : (n : ℕ) (s : State) (outcome : Result Bool Halt) (o m : Option Tale) → Goes (RunsFrom n s) o m →
     IfOk outcome (λ d. Goes (RunsWhole n d s) o m) → IfErr outcome (λ e. e ≡ halts.TooMuch → Goes (λ old new. Overruns new) o m)
+    → IfErr outcome (λ e. IsNoFault e → Goes (λ old new. EndsBetween (run_in s (items_of n old.input)) new) o m)
     → Goes (RunsTo n s (end_of outcome)) o m
-runs_goes n s outcome None None runs whole much = tt
-runs_goes n s outcome None (Some w) runs whole much = runs
-runs_goes n s outcome (Some t) None runs whole much = runs
-runs_goes n s outcome (Some t) (Some w) runs whole much = runs_at n s t w runs outcome whole much
+runs_goes n s outcome None None runs whole much between = tt
+runs_goes n s outcome None (Some w) runs whole much between = runs
+runs_goes n s outcome (Some t) None runs whole much between = runs
+runs_goes n s outcome (Some t) (Some w) runs whole much between = runs_at n s t w runs outcome whole much between
 
 pub is_end : (outcome : Result Bool Halt) → is_run_end (end_of outcome) ≡ true
 is_end (Ok true) = refl
@@ -320,10 +376,10 @@ is_end (Err halts.TooMuch) = refl
 
 -- where the session stands for a state
 module _ {A : Type 0} (At : A → Type 0) (s : A) (at : At s) where
-  pub much_first : (outcome : Result Bool Halt) (P : A → Type 0) → IfErr outcome (λ e. e ≡ halts.TooMuch → (t : A) → At t → P t)
-      → IfErr outcome (λ e. e ≡ halts.TooMuch → P s)
-  much_first (Ok d) P all = tt
-  much_first (Err e) P all = λ is. all is s at
+  pub err_first : (outcome : Result Bool Halt) (Q : Halt → Type 0) (P : A → Type 0) → IfErr outcome (λ e. Q e → (t : A) → At t → P t)
+      → IfErr outcome (λ e. Q e → P s)
+  err_first (Ok d) Q P all = tt
+  err_first (Err e) Q P all = λ is. all is s at
 
   pub end_of_run : (outcome : Result Bool Halt) → IfErr outcome (λ e. (page : ℕ) → e ≡ halts.Stopped (stops.Damaged page) → (t : A) → At t → ⊥)
       → IsOneOf (end_of outcome) run_ends

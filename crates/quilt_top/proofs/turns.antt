@@ -1,5 +1,6 @@
 -- Turns of the loops that answer items.
 pub mod Applying
+pub mod Between
 pub mod Exits
 pub mod Fine
 pub mod Outcomes

@@ -1,7 +1,9 @@
 -- What answering items does.
 use Rattle.std.specs.Prelude.{◌≡◌, ℕ, Bool, ◌&&◌, List, ◌++◌, Option}
 use Rattle.std.specs.List.{list_all}
+use Rattle.quilt_world.specs.Stops.{LeavesNow}
 use Rattle.quilt_world.specs.Tale.{Tale, Goes, Begins}
+use Rattle.quilt_edition.specs.Stands.{Stands}
 use Rattle.quilt_words.specs.Items.{Group, items_of}
 use Rattle.quilt_lang.specs.Reading.{Gives, MayFollow}
 use Rattle.quilt_replies.specs.Answers.{State}
@@ -30,3 +32,11 @@ pub record PrefixOfAll (ended : Bool) (n : ℕ) (s : State) (changed : ℕ) (res
   pub left : List ℕ
   pub gives : Gives ended n (items ++ next) rest left
   pub steps : StepsPrefix s changed items next old new
+
+-- these items were answered, their replies are whole and no part of another is put, and a stop leaves the last edition that they gave
+pub record StopsBetween (ended : Bool) (n : ℕ) (s : State) (rest : List ℕ) (old new : Tale) : Type 0 where
+  pub items : List Group
+  pub left : List ℕ
+  pub gives : Gives ended n items rest left
+  pub says : Says (said_for s items) old new
+  pub leaves : LeavesNow new (λ image. Stands image (state_after s items).last)

@@ -45,6 +45,11 @@ pub record AnswersPrefix (s : State) (item : Item) (changed : ℕ) (old new : Ta
   pub front : Begins (text_of (reply_to s item)) said
   pub answers : Answers s item changed said old new
 
+-- no reply is put, and a stop leaves the last edition
+pub record PutsNone (s : State) (old new : Tale) : Type 0 where
+  pub says : Says [] old new
+  pub left : LeavesNow new (λ image. Stands image s.last)
+
 -- how many records were changed since the last edition or revert, after what an item spells
 abbrev pub changes_by : State → Result Command Code → ℕ → ℕ
 changes_by s (Ok command) changed = changes_after s command changed

@@ -8,6 +8,7 @@ pub mod Openings
 pub mod Reading
 pub mod Replies
 pub mod Saying
+pub mod Stronger
 pub mod TextRun
 pub mod Trying
 pub mod Words

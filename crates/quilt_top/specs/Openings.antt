@@ -1,5 +1,5 @@
 -- What opening a file finds and leaves, and how a run over it goes on.
-use Rattle.std.specs.Prelude.{◌≡◌, ℕ, Bool, true, false, Result, Ok, Err, List, [], ◌∷◌}
+use Rattle.std.specs.Prelude.{◌≡◌, ◌⊎◌, ℕ, Bool, true, false, Result, Ok, Err, List, [], ◌∷◌}
 use Rattle.quilt_types.specs.Layers.{Edition}
 use Rattle.quilt_types.specs.declared.stop.Stop.{Stop}
 use Rattle.quilt_types.specs.declared.stop.Stop.TheVariants as stops
@@ -14,6 +14,7 @@ use Rattle.quilt_journal.specs.Kept.{HasHome}
 use Rattle.quilt_node.specs.declared.head.Head.{Head}
 use Rattle.quilt_edition.specs.Stands.{HoldsEdition, Stands, IsDamagePage}
 use Rattle.quilt_audit.specs.Surveys.{IsDamage}
+use Rattle.quilt_words.specs.Items.{items_of}
 use Rattle.quilt_replies.specs.Answers.{State}
 use Rattle.quilt_map.specs.Sessions.{IsAt, IsReady, world_of, changes_of, first_state}
 use Rattle.quilt_top.specs.declared.halt.Halt.{Halt}
@@ -22,8 +23,8 @@ use Rattle.quilt_top.specs.declared.opening.Opened.{Opened}
 use Rattle.quilt_top.specs.declared.opening.Opened.TheVariants as opened
 use Rattle.quilt_top.specs.declared.run.End.{End}
 use Rattle.quilt_top.specs.declared.run.End.TheVariants as ends
-use Rattle.quilt_top.specs.Headline.{IsNoMap, StandsForNothing}
-use Rattle.quilt_top.specs.TextRun.{RunsFrom, RunsWhole, Overruns}
+use Rattle.quilt_top.specs.Headline.{IsOneOf, IsNoMap, StandsForNothing}
+use Rattle.quilt_top.specs.TextRun.{run_in, RunsFrom, RunsWhole, Overruns, EndsBetween}
 
 -- nothing was done yet
 pub record IsNew (t : Tale) : Type 0 where
@@ -70,12 +71,17 @@ module _ {W : Type 0} {D : disk.Ghosts W} where
   FindsAt start (opened.Stopped world stop) =
       (page : ℕ) → stop ≡ stops.Damaged page → (n : ℕ) × IsMapFile start n × IsDamagePage (home start n) page × StandsForNothing start
 
--- how a run from this state ends
+-- it stops for want of memory, or for more input than a run may take: no device failed, and no page is damaged
+abbrev pub IsNoFault : Halt → Type 0
+IsNoFault e = (e ≡ halts.TooMuch) ⊎ (e ≡ halts.Stopped stops.Memory)
+
+-- how a run from this state ends; but for a fault or a damaged page it ends between two replies
 pub record RunsTo (n : ℕ) (s : State) (end : End) (old new : Tale) : Type 0 where
   pub runs : RunsFrom n s old new
   pub done : end ≡ ends.Done → RunsWhole n true s old new
   pub refused : end ≡ ends.Refused → RunsWhole n false s old new
   pub too_much : end ≡ ends.TooMuch → Overruns new
+  pub between : IsOneOf end (ends.Done ∷ ends.Refused ∷ ends.Memory ∷ ends.TooMuch ∷ []) → EndsBetween (run_in s (items_of n old.input)) new
 
 -- how a run ends where a call gave up
 abbrev pub end_of_stop : Stop → End

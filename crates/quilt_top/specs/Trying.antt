@@ -94,8 +94,9 @@ pub record TriesWhole (n : ℕ) (r : Run) (flag : Bool) (old new : Tale) : Type 
   pub last : StandsForLast r new.seen
   pub done : flag ≡ all_done r
 
--- how a trial over a session ends
+-- how a trial over a session ends; where memory was wanted it has put nothing
 pub record TriesTo (n : ℕ) (r : Run) (end : End) (old new : Tale) : Type 0 where
   pub front : TriesPrefix n r old new
   pub done : end ≡ ends.Done → TriesWhole n r true old new
   pub refused : end ≡ ends.Refused → TriesWhole n r false old new
+  pub unsaid : end ≡ ends.Memory → AddsOnly is_of_pages old new

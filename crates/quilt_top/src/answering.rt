@@ -1,9 +1,11 @@
-ghost use Rattle.std.specs.Prelude.{◌≡◌, ℕ, ◌≤◌, ◌&&◌, false, OnOk, OnErr, IfOk, IfErr};
+ghost use Rattle.std.specs.Prelude.{◌≡◌, ℕ, ◌≤◌, ◌&&◌, false, OnOk, OnErr, IfOk, IfErr, IfSome};
 ghost use Rattle.quilt_types.specs.declared.stop.Stop.TheVariants as stops;
+ghost use Rattle.quilt_world.specs.Stops.{LeavesNow};
 ghost use Rattle.quilt_world.specs.Tale.{Goes};
 ghost use Rattle.quilt_world.specs.Causes.{Rose};
 ghost use Rattle.quilt_world.specs.Doors.{IsOpen};
-ghost use Rattle.quilt_top.specs.Answering.{Applies, Answers, AnswersPrefix, changes_then};
+ghost use Rattle.quilt_edition.specs.Stands.{Stands};
+ghost use Rattle.quilt_top.specs.Answering.{Applies, Answers, AnswersPrefix, PutsNone, changes_then};
 ghost use Rattle.quilt_top.specs.declared.halt.Halt.TheVariants as halts;
 ghost use Rattle.quilt_replies.specs.Answers.{State, Refused};
 ghost use Rattle.quilt_replies.specs.Runs.{text_of, is_done};
@@ -66,6 +68,8 @@ pub(crate) fn answer_item<R: Threads + Sync, W: World>(
     ensures applies { (item : Item) → form (format_of session.old) item ≡ spelled →
         (s : State) → IsAt session.old s
         → Goes (Applies s item (changes_of session.old)) (W.told (world_of session.old)) (W.told (world_of session.new)) }
+    ensures left { IfErr result (λ e. e ≡ halts.Stopped stops.Memory → (item : Item) → form (format_of session.old) item ≡ spelled →
+        (s : State) → IsAt session.old s → IfSome (W.told (world_of session.new)) (λ t. LeavesNow t (λ image. Stands image s.last))) }
 {
     let command = match spelled {
         Ok(command) => command,
@@ -114,6 +118,8 @@ pub(crate) fn put_answer<R: Threads + Sync, W: World>(
     ensures part { OnErr result ((item : Item) → form (format_of session.old) item ≡ spelled →
         (s : State) → IsAt session.old s
         → Goes (AnswersPrefix s item (changes_of session.old)) (W.told (world_of session.old)) (W.told (world_of session.new))) }
+    ensures none { IfErr result (λ e. e ≡ halts.Stopped stops.Memory → (item : Item) → form (format_of session.old) item ≡ spelled →
+        (s : State) → IsAt session.old s → Goes (PutsNone s) (W.told (world_of session.old)) (W.told (world_of session.new))) }
 {
     let answer = answer_item(rt, alloc, session, spelled)?;
     put_reply(session, answer.text.bytes())?;

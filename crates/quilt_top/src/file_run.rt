@@ -14,6 +14,7 @@ ghost use Rattle.quilt_top.specs.Words.{Run};
 ghost use Rattle.quilt_top.specs.Meanings.{run_from};
 ghost use Rattle.quilt_top.specs.Trying.{trial_run, TriesTo};
 ghost use Rattle.quilt_top.specs.Headline.{KeepsPromises, WhereTold, HasEndCause, IsOneOf};
+ghost use Rattle.quilt_top.specs.Stronger.{KeepsMore};
 
 use crate::halt::Halt;
 use crate::opening::{Opened, open};
@@ -93,6 +94,9 @@ pub(crate) fn run_file<R: Threads + Sync, W: World>(
     ensures usage { result.0 ≢ ends.Usage }
     ensures promises { WhereTold (KeepsPromises (Some (run_from file.entry.source file.entry.path.now file.entry.pool))
         (Rose (W.faults world) (W.faults result.1)) (W.door result.1) result.0)
+        (W.told world) (W.told result.1) }
+    ensures open { W.door result.1 ≢ doors.Shut }
+    ensures more { WhereTold (KeepsMore (Some (run_from file.entry.source file.entry.path.now file.entry.pool)) (W.door result.1) result.0)
         (W.told world) (W.told result.1) }
 {
     let mut world = world;

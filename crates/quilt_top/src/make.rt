@@ -1,9 +1,11 @@
-ghost use Rattle.std.specs.Prelude.{◌≡◌, ◌≢◌, ◌≤◌, Some, IfOk, string_bytes};
+ghost use Rattle.std.specs.Prelude.{◌≡◌, ◌≢◌, ◌≤◌, Some, [], IfOk, IfSome, string_bytes};
 ghost use Rattle.quilt_world.specs.Causes.{Rose};
+ghost use Rattle.quilt_world.specs.Tale.{taken_bytes};
 ghost use Rattle.quilt_world.specs.declared.disk.Door.TheVariants as doors;
 ghost use Rattle.quilt_top.specs.declared.run.End.TheVariants as ends;
 ghost use Rattle.quilt_top.specs.Words.{New};
 ghost use Rattle.quilt_top.specs.Headline.{KeepsPromises, WhereTold, HasEndCause, new_line};
+ghost use Rattle.quilt_top.specs.Stronger.{KeepsMore};
 
 use crate::orders::NewFile;
 use crate::output::put_all;
@@ -29,6 +31,9 @@ fn make_map<W: World>(world: &mut W, path: &str, pages: u32, level: u8, line: &[
     ensures usage { result ≢ ends.Usage }
     ensures promises { WhereTold (KeepsPromises (Some (New path.now pages level)) (Rose (W.faults world.old) (W.faults world.new)) (W.door world.new) result)
         (W.told world.old) (W.told world.new) }
+    ensures open { W.door world.new ≢ doors.Shut }
+    ensures memory { result ≢ ends.Memory }
+    ensures more { WhereTold (KeepsMore (Some (New path.now pages level)) (W.door world.new) result) (W.told world.old) (W.told world.new) }
 {
     let Ok(made) = world.make(path, file_pages(pages)) else {
         return End::Device;
@@ -48,13 +53,17 @@ fn make_map<W: World>(world: &mut W, path: &str, pages: u32, level: u8, line: &[
 
 /// Makes the file that the words ask for.
 pub(crate) fn new_file<W: World>(alloc: Global, world: W, file: NewFile) -> (End, W)
-    requires { W.door world ≡ doors.Shut }
+    requires door { W.door world ≡ doors.Shut }
+    requires untaken { IfSome (W.told world) (λ t. taken_bytes t.log ≡ []) }
     ensures cause { HasEndCause (Some (New file.entry.path.now file.entry.pages file.entry.level)) (W.faults world) (W.faults result.1)
         (W.door result.1) result.0 }
     ensures usage { result.0 ≢ ends.Usage }
     ensures promises { WhereTold
         (KeepsPromises (Some (New file.entry.path.now file.entry.pages file.entry.level)) (Rose (W.faults world) (W.faults result.1))
         (W.door result.1) result.0)
+        (W.told world) (W.told result.1) }
+    ensures shut { W.door result.1 ≡ doors.Shut → result.1 ≡ world }
+    ensures more { WhereTold (KeepsMore (Some (New file.entry.path.now file.entry.pages file.entry.level)) (W.door result.1) result.0)
         (W.told world) (W.told result.1) }
 {
     // The line is there before the file, so that no refused memory leaves a file half made.

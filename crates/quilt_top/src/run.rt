@@ -1,10 +1,12 @@
-ghost use Rattle.std.specs.Prelude.{◌≡◌, map, Option, Some, None};
+ghost use Rattle.std.specs.Prelude.{◌≡◌, map, Option, Some, None, [], IfSome};
 ghost use Rattle.quilt_world.specs.declared.disk.Door.TheVariants as doors;
 ghost use Rattle.quilt_world.specs.Causes.{Rose};
+ghost use Rattle.quilt_world.specs.Tale.{taken_bytes};
 ghost use Rattle.quilt_top.specs.Ends.{status_of};
 ghost use Rattle.quilt_top.specs.Openings.{end_of_stop};
 ghost use Rattle.quilt_top.specs.Words.{asked_for};
 ghost use Rattle.quilt_top.specs.Headline.{KeepsPromises, WhereTold, IsUsage, HasEndCause};
+ghost use Rattle.quilt_top.specs.Stronger.{KeepsMore};
 
 use crate::file_run::run_file;
 use crate::make::new_file;
@@ -71,19 +73,22 @@ impl End {
     }
 }
 
-/// Does all that the program does, by the words after its name, and hands the world back.
+/// Does all that the program does, by the words after its name, and hands the world back, of whose input nothing was taken yet.
 pub fn run_quilt<'a, R: Threads + Sync, W: World>(
     rt: &R,
     alloc: Global,
     words: &'a [&'a str],
     world: W,
 ) -> (End, W)
-    requires { W.door world ≡ doors.Shut }
+    requires door { W.door world ≡ doors.Shut }
+    requires untaken { IfSome (W.told world) (λ t. taken_bytes t.log ≡ []) }
     ensures usage { IsUsage (asked_for (map (λ w. w.now) words.entry.now)) result.0 }
     ensures untouched { asked_for (map (λ w. w.now) words.entry.now) ≡ None → result.1 ≡ world }
     ensures cause { HasEndCause (asked_for (map (λ w. w.now) words.entry.now)) (W.faults world) (W.faults result.1) (W.door result.1) result.0 }
     ensures promises { WhereTold (KeepsPromises (asked_for (map (λ w. w.now) words.entry.now)) (Rose (W.faults world) (W.faults result.1))
         (W.door result.1) result.0) (W.told world) (W.told result.1) }
+    ensures shut { W.door result.1 ≡ doors.Shut → result.1 ≡ world }
+    ensures more { WhereTold (KeepsMore (asked_for (map (λ w. w.now) words.entry.now)) (W.door result.1) result.0) (W.told world) (W.told result.1) }
 {
     let Ok(order) = read_order(alloc, words) else {
         return (End::Memory, world);

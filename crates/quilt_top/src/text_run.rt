@@ -7,8 +7,10 @@ ghost use Rattle.quilt_lang.specs.Reading.{HasNone};
 ghost use Rattle.quilt_replies.specs.Answers.{State};
 ghost use Rattle.quilt_map.specs.Sessions.{world_of, level_of, changes_of, IsAt, IsReady};
 ghost use Rattle.quilt_top.specs.declared.halt.Halt.TheVariants as halts;
-ghost use Rattle.quilt_top.specs.Answered.{Answered, PrefixOfAll};
-ghost use Rattle.quilt_top.specs.TextRun.{IsUntold, RunsFrom, RunsWhole, Overruns};
+ghost use Rattle.quilt_words.specs.Items.{items_of};
+ghost use Rattle.quilt_top.specs.Answered.{Answered, PrefixOfAll, StopsBetween};
+ghost use Rattle.quilt_top.specs.Openings.{IsNoFault};
+ghost use Rattle.quilt_top.specs.TextRun.{run_in, IsUntold, RunsFrom, RunsWhole, Overruns, EndsBetween};
 
 use crate::answering::put_answer;
 use crate::halt::Halt;
@@ -47,6 +49,8 @@ fn answer_items<R: Threads + Sync, W: World>(
     ensures none { IfOk result (λ done. HasNone ended lines.old.level lines.new.rest) }
     ensures stopped { OnErr result ((s : State) → IsAt session.old s
         → Goes (PrefixOfAll ended lines.old.level s (changes_of session.old) lines.old.rest) (W.told (world_of session.old)) (W.told (world_of session.new))) }
+    ensures between { IfErr result (λ e. e ≡ halts.Stopped stops.Memory → (s : State) → IsAt session.old s
+        → Goes (StopsBetween ended lines.old.level s lines.old.rest) (W.told (world_of session.old)) (W.told (world_of session.new))) }
 {
     let mut all_done = so_far;
     'items: while let Some(spelled) = lines.take_command(session.head().format, ended)? {
@@ -72,7 +76,7 @@ fn counted(total: u32, piece: usize) -> Result<u32, Halt>
 
 /// Takes the input to its end, at most 4096 bytes a call, and puts each reply before more is taken. Says whether none was a refusal.
 /// More than 2^30 bytes of input are too much, which is told once they are taken, and before their items are answered.
-/// After an Err a prefix of the replies was put, and the session is only given up.
+/// After an Err a prefix of the replies was put, whole replies alone unless a device failed, and the session is only given up.
 pub(crate) fn run_text<R: Threads + Sync, W: World>(
     rt: &R,
     alloc: Global,
@@ -91,6 +95,9 @@ pub(crate) fn run_text<R: Threads + Sync, W: World>(
         → Goes (RunsWhole (level_of session.old) done s) (W.told (world_of session.old)) (W.told (world_of session.new))) }
     ensures too_much { IfErr result (λ e. e ≡ halts.TooMuch → (s : State) → IsAt session.old s
         → Goes (λ old new. Overruns new) (W.told (world_of session.old)) (W.told (world_of session.new))) }
+    ensures between { IfErr result (λ e. IsNoFault e → (s : State) → IsAt session.old s
+        → Goes (λ old new. EndsBetween (run_in s (items_of (level_of session.old) old.input)) new) (W.told (world_of session.old))
+        (W.told (world_of session.new))) }
 {
     let mut lines = Lines::new(alloc, session.head().level);
     let mut buffer = [0; 4096];

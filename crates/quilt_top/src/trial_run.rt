@@ -2,6 +2,7 @@ ghost use Rattle.std.specs.Prelude.{◌≡◌, ℕ, Bool, ◌<◌, ◌≤◌, �
 ghost use Rattle.quilt_types.specs.declared.stop.Stop.TheVariants as stops;
 ghost use Rattle.quilt_world.specs.Tale.{Goes};
 ghost use Rattle.quilt_world.specs.Causes.{Rose};
+ghost use Rattle.quilt_world.specs.Added.{AddsOnly, is_of_pages};
 ghost use Rattle.quilt_world.specs.Doors.{IsOpen};
 ghost use Rattle.quilt_words.specs.declared.item.Item.{Item};
 ghost use Rattle.quilt_words.specs.Forms.{form, Spelled};
@@ -124,7 +125,7 @@ fn summary(alloc: Global, tally: Tally, records: u32, edition: u32) -> Result<St
 }
 
 /// Runs the text of a trial in place of the input and puts a summary in place of the replies. Says whether no reply was a refusal.
-/// After an Err a prefix of the summary was put, and the session is only given up.
+/// After an Err a prefix of the summary was put, and nothing where memory was wanted; the session is only given up.
 pub(crate) fn run_trial<R: Threads + Sync, W: World>(
     rt: &R,
     alloc: Global,
@@ -144,6 +145,8 @@ pub(crate) fn run_trial<R: Threads + Sync, W: World>(
     ensures whole { IfOk result (λ done. (s : State) → IsAt session.old s
         → Goes (TriesWhole (level_of session.old) (trial_run (level_of session.old) s seed count) done) (W.told (world_of session.old))
         (W.told (world_of session.new))) }
+    ensures unsaid { IfErr result (λ e. e ≡ halts.Stopped stops.Memory → (s : State) → IsAt session.old s
+        → Goes (AddsOnly is_of_pages) (W.told (world_of session.old)) (W.told (world_of session.new))) }
 {
     let mut items = TrialItems::new(alloc, seed, count, session.head().level);
     let tally = try_items(rt, alloc, &mut items, session)?;

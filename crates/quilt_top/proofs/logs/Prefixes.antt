@@ -15,10 +15,10 @@ use Rattle.quilt_top.specs.Saying.{is_took}
 
 -- ---- a prefix of two logs
 
-tails : (e f : Event) (a b : Log) → e ∷ a ≡ f ∷ b → a ≡ b
+pub tails : (e f : Event) (a b : Log) → e ∷ a ≡ f ∷ b → a ≡ b
 tails e f a b is = cc
 
-heads : (e f : Event) (a b : Log) → e ∷ a ≡ f ∷ b → e ≡ f
+pub heads : (e f : Event) (a b : Log) → e ∷ a ≡ f ∷ b → e ≡ f
 heads e f a b is = cc
 
 join : (x e : Event) (a b so : Log) → x ≡ e → Begins a so ⊎ ((more : Log) × (so ≡ a ++ more) × Begins b more)
@@ -34,7 +34,7 @@ front_split (x ∷ a) b (e ∷ so) front =
 
 -- ---- events of one sort
 
-and_both : (a b : Bool) → (a && b) ≡ true → (a ≡ true) × (b ≡ true)
+pub and_both : (a b : Bool) → (a && b) ≡ true → (a ≡ true) × (b ≡ true)
 and_both true b is = (refl, is)
 and_both false b is = absurd (cc)
 

@@ -130,6 +130,10 @@ pub if_err_const : {A E : Type 0} (r : Result A E) (Q : E → Type 0) (P : Type 
 if_err_const (Ok x) Q P p = tt
 if_err_const (Err e) Q P p = λ q. p
 
+pub if_err_both : {A E : Type 0} (r : Result A E) (P Q : E → Type 0) → IfErr r P → IfErr r Q → IfErr r (λ e. P e × Q e)
+if_err_both (Ok x) P Q p q = tt
+if_err_both (Err e) P Q p q = (p, q)
+
 pub if_ok_both : {A E : Type 0} (r : Result A E) (P Q : A → Type 0) → IfOk r P → IfOk r Q → IfOk r (λ x. P x × Q x)
 if_ok_both (Ok x) P Q p q = (p, q)
 if_ok_both (Err e) P Q p q = tt

@@ -1,11 +1,11 @@
 -- What applying the command of an item does, and putting its reply.
-use Rattle.std.proofs.Common.{◌≡◌, inl, inr, ℕ, ◌+◌, ◌*◌, true, List, [], ◌++◌, Option, Some, None, is_some, Result, Ok, Err, refl, sym, ◌∙◌, ap, subst, arith}
+use Rattle.std.proofs.Common.{◌≡◌, ◌⊎◌, inl, inr, ℕ, ◌+◌, ◌*◌, Bool, true, false, List, [], ◌++◌, Option, Some, None, is_some, Result, Ok, Err, refl, sym, ◌∙◌, ap, subst, arith}
 use Rattle.std.proofs.Common.{append_assoc, append-nil}
 use Rattle.std.specs.Option.{IfSome}
 use Rattle.quilt_types.specs.declared.code.Code.{Code}
 use Rattle.quilt_world.specs.Added.{AddsOnly, is_of_pages, is_of_text}
-use Rattle.quilt_world.specs.Disk.{Pages, Log}
-use Rattle.quilt_world.specs.Stops.{LeavesNow}
+use Rattle.quilt_world.specs.Disk.{Pages, Log, CanLeave}
+use Rattle.quilt_world.specs.Stops.{Since, LeavesNow}
 use Rattle.quilt_world.specs.Tale.{Tale, Adds, Goes, put_bytes}
 use Rattle.quilt_world.specs.declared.disk.Disk as disk
 use Rattle.quilt_world.proofs.AddedLaws.{adds_only_none, only-append}
@@ -15,16 +15,19 @@ use Rattle.quilt_edition.specs.Stands.{Stands}
 use Rattle.quilt_words.specs.declared.command.Command.{Command}
 use Rattle.quilt_words.specs.declared.item.Item.{Item}
 use Rattle.quilt_words.specs.Forms.{form}
-use Rattle.quilt_replies.specs.Answers.{State}
+use Rattle.quilt_types.specs.Layers.{Edition}
+use Rattle.quilt_replies.specs.Answers.{State, answer}
 use Rattle.quilt_replies.specs.Runs.{outcome_of, text_of}
 use Rattle.quilt_map.specs.Sessions.{IsAt, world_of}
-use Rattle.quilt_map.specs.Steps.{Leaves, WritesFew, StandsFor, StandsForNew}
+use Rattle.quilt_map.specs.Steps.{Leaves, WritesFew, StandsFor, StandsForNew, gives_edition}
 use Rattle.quilt_map.specs.declared.session.Session.{Session}
 use Rattle.quilt_map.proofs.Laws.{at_told}
-use Rattle.quilt_top.specs.Answering.{StandsForItem, Applies, Answers, AnswersPrefix, changes_by, changes_then}
+use Rattle.quilt_map.proofs.answers.Orderly.{quiet_none}
+use Rattle.quilt_top.specs.Answering.{StandsForItem, Applies, Answers, AnswersPrefix, PutsNone, changes_by, changes_then}
 use Rattle.quilt_top.specs.Replies.{reply_to, state_then}
 use Rattle.quilt_top.specs.Saying.{takes_none, Says, SaysPrefix}
 use Rattle.quilt_top.proofs.logs.Events.{put_bytes-append, pages_unput, pages_untaken}
+use Rattle.quilt_top.proofs.logs.Prefixes.{stops_at}
 use Rattle.quilt_top.proofs.logs.Said.{says_nothing}
 
 -- ---- what a session stands for, in its tale
@@ -39,6 +42,12 @@ pub seen_told : {W : Type 0} {D : disk.Ghosts W} (session : Session W D) (s : St
     → IfSome (D.told (world_of session)) (λ t. Stands t.seen s.last)
 seen_told {D = D} session s at =
     let told = at_told session s at in subst (λ (o : Option Tale). IfSome o (λ t. Stands t.seen s.last)) (sym told.1) told.3
+
+pub both_told : {W : Type 0} {D : disk.Ghosts W} (session : Session W D) (s : State) → IsAt session s
+    → IfSome (D.told (world_of session)) (λ t. Stands t.seen s.last × LeavesNow t (λ image. Stands image s.last))
+both_told {D = D} session s at =
+    let told = at_told session s at in
+    subst (λ (o : Option Tale). IfSome o (λ t. Stands t.seen s.last × LeavesNow t (λ image. Stands image s.last))) (sym told.1) (told.3, told.2)
 
 -- ---- the command
 
@@ -80,6 +89,53 @@ applies_command s item command c None None is pages leaves few = tt
 applies_command s item command c None (Some u) is pages leaves few = pages
 applies_command s item command c (Some t) None is pages leaves few = pages
 applies_command s item command c (Some t) (Some u) is pages leaves few = applies_one s item command c t u is pages leaves few
+
+-- ---- where memory was wanted
+
+since_now : (t u : Tale) (P : Pages → Type 0) → Since t u P → LeavesNow u P
+since_now t u P since = λ image left.
+    stops_at P t u since.added [] since (since.log ∙ ap (λ (l : Log). t.log ++ l) (sym (append-nil since.added))) image
+    (subst (λ (l : Log). CanLeave t.start l image) since.log (subst (λ (p : Pages). CanLeave p u.log image) since.file.start left))
+
+-- a command that gives no edition leaves the last one
+unchanged : (s : State) (o : Option Edition) (image : Pages) → o ≡ None → Stands image s.last ⊎ StandsForNew o image → Stands image s.last
+unchanged s o image none (inl stands) = stands
+unchanged s o image none (inr stands) = absurd (subst (λ (p : Option Edition). StandsForNew p image) none stands)
+
+quiet_leaves : (s : State) (command : Command) (o n : Option Tale) → (answer s command).published ≡ None → Goes (Leaves s command) o n
+    → IfSome n (λ t. LeavesNow t (λ image. Stands image s.last))
+quiet_leaves s command None None none leaves = tt
+quiet_leaves s command None (Some u) none leaves = absurd leaves
+quiet_leaves s command (Some t) None none leaves = tt
+quiet_leaves s command (Some t) (Some u) none leaves = λ image left.
+    unchanged s (answer s command).published image none (since_now t u (StandsFor s command) leaves.since image left)
+
+-- A command that gave none, or that called no device: its edition is the last one still.
+pub leaves_last : (s : State) (command : Command) (o n : Option Tale) → (gives_edition command ≡ true → n ≡ o) → Goes (Leaves s command) o n
+    → IfSome o (λ t. LeavesNow t (λ image. Stands image s.last)) → IfSome n (λ t. LeavesNow t (λ image. Stands image s.last))
+leaves_last s command o n quiet leaves before = by (gives_edition command) refl
+  where
+    by : (b : Bool) → gives_edition command ≡ b → IfSome n (λ t. LeavesNow t (λ image. Stands image s.last))
+    by true gives = subst (λ (p : Option Tale). IfSome p (λ t. LeavesNow t (λ image. Stands image s.last))) (sym (quiet gives)) before
+    by false gives = quiet_leaves s command o n (quiet_none s command gives) leaves
+
+-- pages alone were written
+pages_say : (s : State) (item : Item) (c : ℕ) (t u : Tale) → Applies s item c t u → Says [] t u
+pages_say s item c t u a = record {
+  file = a.pages.file;
+  input = a.stops.input;
+  events = a.pages.events;
+  log = a.pages.log;
+  untaken = pages_untaken a.pages.events a.pages.only;
+  put = pages_unput a.pages.events a.pages.only;
+}
+
+pub puts_none : (s : State) (item : Item) (c : ℕ) (o n : Option Tale) → Goes (Applies s item c) o n
+    → IfSome n (λ t. LeavesNow t (λ image. Stands image s.last)) → Goes (PutsNone s) o n
+puts_none s item c None None applies leaves = tt
+puts_none s item c None (Some u) applies leaves = applies
+puts_none s item c (Some t) None applies leaves = applies
+puts_none s item c (Some t) (Some u) applies leaves = record { says = pages_say s item c t u applies; left = leaves }
 
 -- ---- the count of changes
 

@@ -7,23 +7,24 @@ use Rattle.quilt_world.specs.Added.{Only, AddsOnly, is_of_pages}
 use Rattle.quilt_world.specs.Disk.{Pages, Log}
 use Rattle.quilt_world.specs.Doors.{TakesFrom}
 use Rattle.quilt_world.specs.Stops.{LeavesNow}
-use Rattle.quilt_world.specs.Tale.{Tale}
 use Rattle.quilt_world.specs.declared.event.Event.TheVariants.{Took, Put, Wrote, Tore, Synced}
 use Rattle.quilt_world.proofs.AddedLaws.{adds_only_both}
 use Rattle.quilt_edition.specs.Stands.{Stands}
 use Rattle.quilt_words.specs.Items.{Group, items_of}
 use Rattle.quilt_lang.specs.Reading.{Same}
 use Rattle.quilt_replies.specs.Answers.{State}
-use Rattle.quilt_replies.specs.Runs.{Run, Published}
+use Rattle.quilt_world.specs.Tale.{Tale, put_bytes}
+use Rattle.quilt_replies.specs.Runs.{Run, Published, told_within}
 use Rattle.quilt_map.proofs.answers.TextLaws.{run_same, publishes_same}
 use Rattle.quilt_top.specs.Answering.{Steps, PartStep, changes_then, changes_all}
 use Rattle.quilt_top.specs.Headline.{IsEdition, WritesFew, is_wrote}
-use Rattle.quilt_top.specs.Replies.{held_at, state_then, state_after}
+use Rattle.quilt_top.specs.Replies.{held_at, state_then, state_after, said_for}
 use Rattle.quilt_top.specs.Saying.{is_took}
-use Rattle.quilt_top.specs.TextRun.{run_in, publishes_in, IsUntold, AreFine}
+use Rattle.quilt_top.specs.TextRun.{run_in, publishes_in, IsUntold, AreFine, WritesBetween, EndsBetween}
 use Rattle.quilt_top.proofs.logs.Events.{pages_unput}
+use Rattle.quilt_top.proofs.turns.Between.{steps_between}
 use Rattle.quilt_top.proofs.turns.Fine.{steps_fine}
-use Rattle.quilt_top.proofs.turns.Places.{edition_last}
+use Rattle.quilt_top.proofs.turns.Places.{edition_last, edition_told, whole_said}
 use Rattle.quilt_top.proofs.logs.Said.{run_replies}
 use Rattle.quilt_top.proofs.logs.Writes.{IsFresh, steps_writes}
 use Rattle.quilt_top.proofs.logs.Written.{written}
@@ -63,6 +64,20 @@ unwritten put (Synced ∷ log) before only =
 untold_fresh : (t : Tale) → IsUntold t → IsFresh t
 untold_fresh t untold = record { none = λ put long. unwritten put t.log [] untold }
 
+-- ---- between replies
+
+-- where the replies to the first items were put, and a stop leaves the last edition behind them
+ends_in : (s : State) (gs h : List Group) (v : Tale) → put_bytes v.log ≡ said_for s gs → LeavesNow v (λ image. Stands image (state_after s gs).last)
+    → EndsBetween (run_in s (gs ++ h)) v
+ends_in s gs h v put leaves = record {
+  whole = whole_said s gs h v.log put;
+  left = λ image left. record {
+    edition = (state_after s gs).last;
+    is = ap (λ (p : List ℕ). slice_get (run_in s (gs ++ h)).editions (told_within (run_in s (gs ++ h)).steps p 0)) put ∙ edition_told s gs h;
+    stands = leaves image left;
+  };
+}
+
 -- ---- the run of the whole input
 
 module _ (n : ℕ) (s : State) (at : s.last.level ≡ n) (input : List ℕ) (all : List Group) (same : Same n (items_of n input) all) where
@@ -88,6 +103,18 @@ pub exit_fine : (n : ℕ) (s : State) (at : s.last.level ≡ n) (input : List �
     → v.log ≡ t.log ++ E → AreFine (run_in s (items_of n input)) t.start t.log E
 exit_fine n s at input gs next h t u v same steps part leaves E is =
     subst (λ (r : Run). AreFine r t.start t.log E) (sym (run_is n s at input (gs ++ (next ++ h)) same)) (steps_fine gs next h s 0 t u v steps part leaves E is)
+
+pub exit_between : (n : ℕ) (s : State) (at : s.last.level ≡ n) (input : List ℕ) (gs next h : List Group) (t u v : Tale)
+    → Same n (items_of n input) (gs ++ (next ++ h))
+    → Steps s 0 gs t u → PartStep (state_after s gs) (changes_all s 0 gs) next u v → (E : Log) → v.log ≡ t.log ++ E
+    → WritesBetween (run_in s (items_of n input)) E
+exit_between n s at input gs next h t u v same steps part E is =
+    subst (λ (r : Run). WritesBetween r E) (sym (run_is n s at input (gs ++ (next ++ h)) same)) (steps_between gs next h s 0 t u v steps part E is)
+
+pub exit_ends : (n : ℕ) (s : State) (at : s.last.level ≡ n) (input : List ℕ) (gs h : List Group) (v : Tale) → Same n (items_of n input) (gs ++ h)
+    → put_bytes v.log ≡ said_for s gs → LeavesNow v (λ image. Stands image (state_after s gs).last) → EndsBetween (run_in s (items_of n input)) v
+exit_ends n s at input gs h v same put leaves =
+    subst (λ (r : Run). EndsBetween r v) (sym (run_is n s at input (gs ++ h) same)) (ends_in s gs h v put leaves)
 
 pub exit_writes : (n : ℕ) (s : State) (at : s.last.level ≡ n) (input : List ℕ) (gs next h : List Group) (t u v : Tale)
     → Same n (items_of n input) (gs ++ (next ++ h))

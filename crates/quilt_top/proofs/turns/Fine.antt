@@ -18,7 +18,7 @@ use Rattle.quilt_top.specs.Saying.{is_took}
 use Rattle.quilt_top.specs.TextRun.{run_in, IsFine, AreFine}
 use Rattle.quilt_top.proofs.logs.Events.{put_bytes-append, pages_unput}
 use Rattle.quilt_top.proofs.logs.Prefixes.{front_split, only_front, took_text_only, took_unput, same_events, events_then, stops_at}
-use Rattle.quilt_top.proofs.turns.Places.{text_some, none_or_some, told_none, told_short, fine_last, fine_new, fine_then, fine_behind}
+use Rattle.quilt_top.proofs.turns.Places.{text_some, none_or_some, told_none, told_short, next_none, next_short, fine_last, fine_new, fine_then, fine_behind}
 
 -- a tale goes on from another
 pub record Grows (t u : Tale) : Type 0 where
@@ -83,7 +83,7 @@ module _ (s : State) (g : Group) (gs : List Group) where
       → IsFine (run_in s (g ∷ gs)) [] image
   fine_either o is image (inl stands) = fine_last s (g ∷ gs) [] image (told_none s (g ∷ gs)) stands
   fine_either None is image (inr stands) = absurd stands
-  fine_either (Some e) is image (inr stands) = fine_new s g gs [] image e (told_none s (g ∷ gs)) is stands
+  fine_either (Some e) is image (inr stands) = fine_new s g gs [] image e (told_none s (g ∷ gs)) (next_none s g gs) is stands
 
   -- with a part of it put, or all of it
   fine_part : (p rest : List ℕ) (image : Pages) → text_of (reply_to s (held_at s g)) ≡ p ++ rest → Stands image (state_then s (held_at s g)).last
@@ -91,7 +91,7 @@ module _ (s : State) (g : Group) (gs : List Group) where
   fine_part p [] image text stands =
       subst (λ (l : List ℕ). IsFine (run_in s (g ∷ gs)) l image) (append-nil (text_of (reply_to s (held_at s g))) ∙ text ∙ append-nil p)
       (fine_behind s g gs [] image (fine_last (state_then s (held_at s g)) gs [] image (told_none (state_then s (held_at s g)) gs) stands))
-  fine_part p (c ∷ cs) image text stands = fine_then s g gs p image (told_short s g gs p c cs text) stands
+  fine_part p (c ∷ cs) image text stands = fine_then s g gs p image (told_short s g gs p c cs text) (next_short s g gs p c cs text) stands
 
   module _ (c : ℕ) (said : List ℕ) (t v : Tale) (a : Answers s (held_at s g) c said t v) (front : Begins (text_of (reply_to s (held_at s g))) said) where
     -- while its command is applied

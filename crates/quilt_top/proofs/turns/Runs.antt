@@ -15,8 +15,8 @@ use Rattle.quilt_replies.specs.Runs.{is_done}
 use Rattle.quilt_top.specs.Answering.{Steps, PartStep, changes_all}
 use Rattle.quilt_top.specs.Replies.{state_after, said_for, replies_from}
 use Rattle.quilt_top.specs.Saying.{is_took, Says}
-use Rattle.quilt_top.specs.TextRun.{PromptAt, IsUntold, RunsFrom, RunsWhole, Overruns}
-use Rattle.quilt_top.specs.Answered.{Answered, PrefixOfAll}
+use Rattle.quilt_top.specs.TextRun.{run_in, PromptAt, IsUntold, RunsFrom, RunsWhole, Overruns, EndsBetween}
+use Rattle.quilt_top.specs.Answered.{Answered, PrefixOfAll, StopsBetween}
 use Rattle.quilt_top.specs.Reading.{Reading}
 use Rattle.quilt_world.specs.Added.{AtEachTook}
 use Rattle.quilt_world.proofs.AddedLaws.{adds_only_none}
@@ -26,9 +26,9 @@ use Rattle.quilt_top.proofs.logs.Said.{said-append, said_none, replies-append, l
 use Rattle.quilt_top.proofs.logs.Said.{replies_same, said_same, level_after}
 use Rattle.quilt_world.specs.Stops.{LeavesNow}
 use Rattle.quilt_edition.specs.Stands.{Stands}
-use Rattle.quilt_top.proofs.turns.Exits.{took_only, steps_took, last_is, exit_fine, exit_writes}
+use Rattle.quilt_top.proofs.turns.Exits.{took_only, steps_took, last_is, exit_fine, exit_between, exit_ends, exit_writes}
 use Rattle.quilt_top.proofs.turns.Fine.{Grows, grows_then, steps_grow, part_grows}
-use Rattle.quilt_top.proofs.turns.Turns.{changes-append, steps_then}
+use Rattle.quilt_top.proofs.turns.Turns.{changes-append, steps_then, goes_at}
 use Rattle.quilt_top.proofs.logs.Prompts.{each_none, each_more, each_took}
 use Rattle.quilt_map.proofs.answers.TextLaws.{gives_none, gives_then, then_same, settled_count}
 
@@ -142,6 +142,13 @@ module _ (n : ℕ) (s0 : State) (at : s0.last.level ≡ n) where
         steps_then so.items g s0 0 t u v so.steps
         (subst (λ c. Steps (state_after s0 so.items) c g u v) so.changes (subst (λ (s : State). Steps s c1 g u v) so.state steps))
 
+    -- what was put behind more items
+    put_behind : (g : List Group) (t u v : Tale) → (so : Reading n count flag s0 s1 c1 rest t u) → Says (said_for s1 g) u v
+        → put_bytes v.log ≡ said_for s0 (so.items ++ g)
+    put_behind g t u v so says =
+        said_puts (said_for s1 g) u v says ∙ ap (λ (l : List ℕ). l ++ said_for s1 g) so.put
+        ∙ ap (λ (s : State). said_for s0 so.items ++ said_for s g) so.state ∙ sym (said-append s0 so.items g)
+
     -- more items were answered
     reading_more : (more : Bool) (s2 : State) (c2 : ℕ) (g : List Group) (r2 : List ℕ) (t u v : Tale) → Reading n count flag s0 s1 c1 rest t u
         → Gives false n g rest r2 → s2 ≡ state_after s1 g → c2 ≡ changes_all s1 c1 g
@@ -159,8 +166,7 @@ module _ (n : ℕ) (s0 : State) (at : s0.last.level ≡ n) where
       input = so.input ∙ ap (λ (l : List ℕ). so.taken ++ l) (sym says.input);
       takes = said_takes (said_for s1 g) u v says ∙ so.takes;
       total = so.total;
-      put = said_puts (said_for s1 g) u v says ∙ ap (λ (l : List ℕ). l ++ said_for s1 g) so.put
-          ∙ ap (λ (s : State). said_for s0 so.items ++ said_for s g) so.state ∙ sym (said-append s0 so.items g);
+      put = put_behind g t u v so says;
       done = holds ∙ ap (λ (b : Bool). b && list_all is_done (replies_from s1 g)) so.done
           ∙ ap (λ (s : State). list_all is_done (replies_from s0 so.items) && list_all is_done (replies_from s g)) so.state
           ∙ sym (done-append s0 so.items g);
@@ -250,6 +256,7 @@ module _ (n : ℕ) (s0 : State) (at : s0.last.level ≡ n) where
           prompt = said_prompt (PromptAt n s0 t.input) said u v says so.prompt;
           bounded = omega (arith, few, so.total, ap length (said_takes said u v says ∙ so.takes));
           stops = exit_fine n s0 at t.input items next h t w v all now last so.leaves grows.events grows.log;
+          between = exit_between n s0 at t.input items next h t w v all now last grows.events grows.log;
           writes = exit_writes n s0 at t.input items next h t w v all now last so.untold;
         }
 
@@ -270,6 +277,35 @@ module _ (n : ℕ) (s0 : State) (at : s0.last.level ≡ n) where
         (stopped.front u.input may)
         (stopped.gives.all u.input may) stopped.steps.steps stopped.steps.part
 
+    -- between two replies
+    pub ends_now : (t u : Tale) → Reading n count flag s0 s1 c1 rest t u → LeavesNow u (λ image. Stands image s1.last)
+        → EndsBetween (run_in s0 (items_of n t.input)) u
+    ends_now t u so leaves =
+        exit_ends n s0 at t.input so.items (items_of n (rest ++ u.input)) u
+        (subst (λ (l : List ℕ). Same n (items_of n l) (so.items ++ items_of n (rest ++ u.input))) (sym so.input) (so.gives.all u.input tt)) so.put
+        (subst (λ (s : State). LeavesNow u (λ image. Stands image s.last)) so.state leaves)
+
+    ends_stopped : (ended : Bool) (t u v : Tale) → MayFollow ended u.input → Reading n count flag s0 s1 c1 rest t u → StopsBetween ended n s1 rest u v
+        → EndsBetween (run_in s0 (items_of n t.input)) v
+    ends_stopped ended t u v may so stopped =
+        let g = stopped.items in
+        let state : state_after s1 g ≡ state_after s0 (so.items ++ g) = ap (λ (s : State). state_after s g) so.state ∙ sym (state-append s0 so.items g) in
+        exit_ends n s0 at t.input (so.items ++ g) (items_of n (stopped.left ++ u.input)) v
+        (all_items g (items_of n (stopped.left ++ u.input)) t u so (stopped.gives.all u.input may)) (put_behind g t u v so stopped.says)
+        (subst (λ (s : State). LeavesNow v (λ image. Stands image s.last)) state stopped.leaves)
+
+    pub goes_ends : (o m : Option Tale) → Goes (Reading n count flag s0 s1 c1 rest) o m → IfSome m (λ u. LeavesNow u (λ image. Stands image s1.last))
+        → Goes (λ t u. EndsBetween (run_in s0 (items_of n t.input)) u) o m
+    goes_ends o m so leaves = goes_at _ _ (λ u. LeavesNow u (λ image. Stands image s1.last)) o m so leaves (λ t u so left. ends_now t u so left)
+
+    pub goes_between : (o m k : Option Tale) → Goes (Reading n count flag s0 s1 c1 rest) o m → Goes (StopsBetween false n s1 rest) m k
+        → Goes (λ t u. EndsBetween (run_in s0 (items_of n t.input)) u) o k
+    goes_between o m k so stopped = goes_then _ _ _ o m k so stopped (λ t u v so stopped. ends_stopped false t u v tt so stopped)
+
+    pub goes_between_end : (o m k : Option Tale) → Goes (λ t u. Reading n count flag s0 s1 c1 rest t u × (u.input ≡ [])) o m
+        → Goes (StopsBetween true n s1 rest) m k → Goes (λ t u. EndsBetween (run_in s0 (items_of n t.input)) u) o k
+    goes_between_end o m k so stopped = goes_then _ _ _ o m k so stopped (λ t u v so stopped. ends_stopped true t u v so.1 so.0 stopped)
+
     left_items : (r2 : List ℕ) (u : Tale) (g : List Group) → u.input ≡ [] → Gives true n g rest r2 → items_of n r2 ≡ []
         → Same n (items_of n (rest ++ u.input)) g
     left_items r2 u g ended gives none = λ f.
@@ -283,8 +319,8 @@ module _ (n : ℕ) (s0 : State) (at : s0.last.level ≡ n) where
     -- at the end all is put
     runs_whole : (more : Bool) (s2 : State) (r2 : List ℕ) (t u v : Tale) → (g : List Group) → count ≤ 2 ^ 30 → Reading n count flag s0 s1 c1 rest t u
         → u.input ≡ [] → Gives true n g rest r2 → items_of n r2 ≡ [] → s2 ≡ state_after s1 g
-        → more ≡ (flag && list_all is_done (replies_from s1 g)) → Says (said_for s1 g) u v → Steps s1 c1 g u v → Stands v.seen s2.last
-        → RunsFrom n s0 t v × RunsWhole n more s0 t v
+        → more ≡ (flag && list_all is_done (replies_from s1 g)) → Says (said_for s1 g) u v → Steps s1 c1 g u v
+        → Stands v.seen s2.last × LeavesNow v (λ image. Stands image s2.last) → RunsFrom n s0 t v × RunsWhole n more s0 t v
     runs_whole more s2 r2 t u v g few so ended gives none is holds says steps stands =
         let left = left_items r2 u g ended gives none in
         let here = level_now t u so in
@@ -304,13 +340,17 @@ module _ (n : ℕ) (s0 : State) (at : s0.last.level ≡ n) where
             few = omega (arith, few, so.total, ap length (said_takes (said_for s1 g) u v says ∙ so.takes));
             done = holds ∙ ap (λ (h : List Reply). flag && list_all is_done h) (sym (replies_same s1 n _ _ here left))
                 ∙ sym (ap (list_all is_done) (run_replies s0 (items_of n t.input)) ∙ all_done t u so);
-            last = last_is n s0 at t.input (so.items ++ g) all v.seen (subst (λ (s : State). Stands v.seen s.last) state stands);
+            last = last_is n s0 at t.input (so.items ++ g) all v.seen (subst (λ (s : State). Stands v.seen s.last) state stands.0);
+            ends = exit_ends n s0 at t.input (so.items ++ g) [] v
+                (all_items g [] t u so (subst (λ (l : List Group). Same n (items_of n (rest ++ u.input)) l) (sym (append-nil g)) left))
+                (put_behind g t u v so says)
+                (subst (λ (s : State). LeavesNow v (λ image. Stands image s.last)) state stands.1);
           },
         )
 
     pub runs_answered : (more : Bool) (s2 : State) (c2 : ℕ) (r2 : List ℕ) (o m k : Option Tale) → count ≤ 2 ^ 30
         → Goes (λ t u. Reading n count flag s0 s1 c1 rest t u × (u.input ≡ [])) o m → Answered true n flag more s1 s2 c1 c2 rest r2 m k → items_of n r2 ≡ []
-        → IfSome k (λ v. Stands v.seen s2.last) → Goes (λ t v. RunsFrom n s0 t v × RunsWhole n more s0 t v) o k
+        → IfSome k (λ v. Stands v.seen s2.last × LeavesNow v (λ image. Stands image s2.last)) → Goes (λ t v. RunsFrom n s0 t v × RunsWhole n more s0 t v) o k
     runs_answered more s2 c2 r2 o m k few so a none stands = goes_last _ _ _ _ o m k so (goes_and _ _ m k a.said a.steps) stands (λ t u v so both stands.
         runs_whole more s2 r2 t u v a.items few so.0 so.1 a.gives none a.state a.done both.0 both.1 stands)
 

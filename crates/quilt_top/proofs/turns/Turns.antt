@@ -1,13 +1,16 @@
 -- Turns of the loop that answers items.
 use Rattle.std.proofs.Common.{◌≡◌, ℕ, Bool, true, false, ◌&&◌, List, [], ◌∷◌, ◌++◌, refl, sym, ◌∙◌, ap, append_assoc, append-nil, subst, Option, Some, None}
 use Rattle.std.specs.List.{list_all}
+use Rattle.std.specs.Option.{IfSome}
+use Rattle.quilt_world.specs.Stops.{LeavesNow}
 use Rattle.quilt_world.specs.Tale.{Tale, Goes}
+use Rattle.quilt_edition.specs.Stands.{Stands}
 use Rattle.quilt_words.specs.Items.{Group, items_of}
 use Rattle.quilt_lang.specs.Reading.{Gives, MayFollow}
 use Rattle.quilt_replies.specs.Answers.{State}
 use Rattle.quilt_replies.specs.Runs.{text_of, is_done}
-use Rattle.quilt_top.specs.Answered.{Answered, PrefixOfAll}
-use Rattle.quilt_top.specs.Answering.{Answers, AnswersPrefix, Steps, changes_then, changes_all}
+use Rattle.quilt_top.specs.Answered.{Answered, PrefixOfAll, StopsBetween}
+use Rattle.quilt_top.specs.Answering.{Answers, AnswersPrefix, PutsNone, Steps, changes_then, changes_all}
 use Rattle.quilt_top.specs.Replies.{held_at, reply_to, state_then, state_after, replies_from, said_for}
 use Rattle.quilt_top.specs.Saying.{is_took, Says}
 use Rattle.quilt_world.proofs.AddedLaws.{adds_only_none, adds_only_both}
@@ -19,6 +22,14 @@ use Rattle.quilt_map.proofs.answers.TextLaws.{gives_none, gives_then}
 pub goes_same : (R : Tale → Tale → Type 0) (o : Option Tale) → ((t : Tale) → R t t) → Goes R o o
 goes_same R None same = tt
 goes_same R (Some t) same = same t
+
+-- with what holds of the last tale
+pub goes_at : (R T : Tale → Tale → Type 0) (Q : Tale → Type 0) (o m : Option Tale) → Goes R o m → IfSome m Q
+    → ((t u : Tale) → R t u → Q u → T t u) → Goes T o m
+goes_at R T Q None None r q step = tt
+goes_at R T Q None (Some u) r q step = r
+goes_at R T Q (Some t) None r q step = r
+goes_at R T Q (Some t) (Some u) r q step = step t u r q
 
 pub and_assoc : (a b c : Bool) → ((a && b) && c) ≡ (a && (b && c))
 and_assoc true b c = refl
@@ -87,6 +98,24 @@ module _ (ended : Bool) (n : ℕ) where
     pub stopped_now : (flag : Bool) (s1 : State) (c1 : ℕ) (r1 : List ℕ) (o m : Option Tale) → Answered ended n so_far flag s0 s1 c0 c1 r0 r1 o m
         → Goes (PrefixOfAll ended n s0 c0 r0) o m
     stopped_now flag s1 c1 r1 o m so = goes_weaker _ _ o m (goes_and _ _ o m so.said so.steps) (λ t u both. front_here so.items r1 t u so.gives both.0 both.1)
+
+    -- between two replies
+    between_here : (g : List Group) (r1 : List ℕ) (t u : Tale) → Gives ended n g r0 r1 → Says (said_for s0 g) t u
+        → LeavesNow u (λ image. Stands image (state_after s0 g).last) → StopsBetween ended n s0 r0 t u
+    between_here g r1 t u gives says leaves = record { items = g; left = r1; gives = gives; says = says; leaves = leaves }
+
+    pub stopped_between : (flag : Bool) (s1 : State) (c1 : ℕ) (r1 : List ℕ) (o m : Option Tale) → Answered ended n so_far flag s0 s1 c0 c1 r0 r1 o m
+        → IfSome m (λ u. LeavesNow u (λ image. Stands image s1.last)) → Goes (StopsBetween ended n s0 r0) o m
+    stopped_between flag s1 c1 r1 o m so leaves = goes_at _ _ (λ u. LeavesNow u (λ image. Stands image s1.last)) o m so.said leaves (λ t u says left.
+        between_here so.items r1 t u so.gives says (subst (λ (s : State). LeavesNow u (λ image. Stands image s.last)) so.state left))
+
+    pub stopped_after : (flag : Bool) (s1 : State) (c1 : ℕ) (r1 : List ℕ) (o m l : Option Tale) → Answered ended n so_far flag s0 s1 c0 c1 r0 r1 o m
+        → Goes (PutsNone s1) m l → Goes (StopsBetween ended n s0 r0) o l
+    stopped_after flag s1 c1 r1 o m l so none = goes_then _ _ _ o m l so.said none (λ t u v says quiet.
+        between_here so.items r1 t v so.gives
+        (says_same (said_for s0 so.items ++ []) (said_for s0 so.items) t v (append-nil (said_for s0 so.items))
+        (says_then (said_for s0 so.items) [] t u v says quiet.says))
+        (subst (λ (s : State). LeavesNow v (λ image. Stands image s.last)) so.state quiet.left))
 
     -- a prefix of the next reply
     front_next : (g : List Group) (i : Group) (r1 r2 : List ℕ) (t u v : Tale) → Gives ended n g r0 r1 → Gives ended n (i ∷ []) r1 r2 →

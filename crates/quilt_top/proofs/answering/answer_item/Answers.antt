@@ -1,13 +1,16 @@
 use Rattle.std.proofs.Common.{◌≡◌, ◌∙◌, sym, ap, subst, Ok, Err}
+use Rattle.quilt_replies.specs.declared.reply.Reply as given_reply
 use Rattle.quilt_words.specs.Forms.{form}
 use Rattle.quilt_replies.specs.Answers.{State}
 use Rattle.quilt_replies.specs.Runs.{text_of, is_done}
 use Rattle.quilt_map.specs.Sessions.{IsAt}
 use Rattle.quilt_map.proofs.Laws.{at_format}
+use Rattle.quilt_replies.specs.States.{IsRefusal}
 use Rattle.quilt_types.specs.declared.stop.Stop.{Stop}
 use Rattle.quilt_types.specs.declared.stop.Stop.TheVariants as stops
 use Rattle.quilt_top.specs.declared.halt.Halt.TheVariants as halts
-use Rattle.quilt_top.proofs.turns.Applying.{leaves_told, applies_nothing, applies_command, changes_no, changes_is}
+use Rattle.quilt_top.proofs.turns.Applying.{leaves_told, applies_nothing, applies_command, leaves_last, changes_no, changes_is}
+use Rattle.quilt_top.proofs.logs.Said.{if_err_const}
 use Rattle.quilt_top.proofs.turns.Outcomes.{reply_no, state_no, state_is, text_given, code_given}
 use Rattle.quilt_top.proofs.answering.answer_item.Goals as goal
 
@@ -113,3 +116,23 @@ returns-in-Err-apply-clause-damaged g c = λ page is s at. c.in-Err-apply.ensure
   where
     same_stop : (a b : Stop) → halts.Stopped a ≡ halts.Stopped b → a ≡ b
     same_stop a b e = cc
+
+-- ---- where memory was wanted
+
+pub returns-in_err-refusal-in-Err-clause-left : goal.returns-in_err-refusal-in-Err-clause-left
+returns-in_err-refusal-in-Err-clause-left g c = if_err_const _ _ _ (λ item said s at. leaves_told c.args.session.now s at)
+
+pub returns-in-Err-apply-clause-left : goal.returns-in-Err-apply-clause-left
+returns-in-Err-apply-clause-left g c = λ is item said s at.
+    leaves_last s c.in-Ok.command _ _
+    (λ gives. ap (λ w. g.W.Disk.told w) (c.in-Err-apply.ensures.quiet (same_stop c.in-Err-apply.stop stops.Memory is) gives))
+    (c.apply.ensures.crash s at) (leaves_told c.args.session.now s at)
+  where
+    same_stop : (a b : Stop) → halts.Stopped a ≡ halts.Stopped b → a ≡ b
+    same_stop a b e = cc
+
+pub returns-in_err-refusal-in-No-clause-left : goal.returns-in_err-refusal-in-No-clause-left
+returns-in_err-refusal-in-No-clause-left g c =
+    if_err_const _ _ _ (λ item said s at.
+    leaves_told c.apply.new.self s
+    (c.in-Ok-apply.ensures.refused (subst (λ (r : given_reply.Reply). IsRefusal r) (sym c.in-No.is) tt) s at))

@@ -1,9 +1,11 @@
-use Rattle.std.proofs.Common.{◌∙◌, sym, ap, subst}
+use Rattle.std.proofs.Common.{◌≡◌, ◌∙◌, sym, ap, subst}
 use Rattle.quilt_map.specs.Sessions.{level_of, IsAt}
 use Rattle.quilt_top.specs.declared.run.End.{End}
 use Rattle.quilt_top.specs.Headline.{IsOneOf}
 use Rattle.quilt_top.specs.Openings.{run_ends, is_run_end}
-use Rattle.quilt_top.proofs.Running.{runs_goes, much_first, end_of_run, is_end}
+use Rattle.quilt_top.specs.declared.halt.Halt.TheVariants as halts
+use Rattle.quilt_top.specs.Openings.{IsNoFault}
+use Rattle.quilt_top.proofs.Running.{runs_goes, err_first, end_of_run, is_end}
 use Rattle.quilt_top.proofs.logs.Said.{ok_at}
 use Rattle.quilt_top.proofs.file_run.run_session.Goals as goal
 
@@ -19,4 +21,5 @@ returns-clause-runs g c = λ s at.
     rw (c.end_of-end.ensures, c.into_world.ensures)
     (runs_goes (level_of c.args.session) s c.run_text.result _ _ (c.run_text.ensures.runs s at)
     (ok_at (IsAt c.args.session) s at c.run_text.result _ c.run_text.ensures.whole)
-    (much_first (IsAt c.args.session) s at c.run_text.result _ c.run_text.ensures.too_much))
+    (err_first (IsAt c.args.session) s at c.run_text.result (λ e. e ≡ halts.TooMuch) _ c.run_text.ensures.too_much)
+    (err_first (IsAt c.args.session) s at c.run_text.result IsNoFault _ c.run_text.ensures.between))

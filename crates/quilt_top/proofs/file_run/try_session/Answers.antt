@@ -1,11 +1,13 @@
-use Rattle.std.proofs.Common.{◌∙◌, sym, ap, subst}
+use Rattle.std.proofs.Common.{◌≡◌, ◌∙◌, sym, ap, subst}
 use Rattle.quilt_map.specs.Sessions.{level_of, IsAt}
 use Rattle.quilt_top.specs.declared.run.End.{End}
 use Rattle.quilt_top.specs.Headline.{IsOneOf}
 use Rattle.quilt_top.specs.Openings.{run_ends, is_run_end}
 use Rattle.quilt_top.specs.Trying.{trial_run}
 use Rattle.quilt_top.proofs.Concluding.{tries_goes, not_much}
-use Rattle.quilt_top.proofs.Running.{end_of_run, is_end}
+use Rattle.quilt_types.specs.declared.stop.Stop.TheVariants as stops
+use Rattle.quilt_top.specs.declared.halt.Halt.TheVariants as halts
+use Rattle.quilt_top.proofs.Running.{err_first, end_of_run, is_end}
 use Rattle.quilt_top.proofs.logs.Said.{ok_at}
 use Rattle.quilt_top.proofs.file_run.try_session.Goals as goal
 
@@ -24,4 +26,5 @@ returns-clause-tries g c = λ s at.
     rw (c.end_of-end.ensures, c.into_world.ensures)
     (tries_goes (level_of c.args.session) (trial_run (level_of c.args.session) s c.args.seed c.args.count) c.run_trial.result _ _
     (c.run_trial.ensures.front s at)
-    (ok_at (IsAt c.args.session) s at c.run_trial.result _ c.run_trial.ensures.whole))
+    (ok_at (IsAt c.args.session) s at c.run_trial.result _ c.run_trial.ensures.whole)
+    (err_first (IsAt c.args.session) s at c.run_trial.result (λ e. e ≡ halts.Stopped stops.Memory) _ c.run_trial.ensures.unsaid))

@@ -8,6 +8,7 @@ use Rattle.quilt_top.specs.Headline.{new_line}
 use Rattle.quilt_edition.specs.Creating.{IsBlank}
 use Rattle.quilt_top.specs.Saying.{Says, SaysPrefix}
 use Rattle.quilt_top.proofs.openings.Making.{made_blank, create_stopped, put_stopped, all_done, where_not_ok}
+use Rattle.quilt_top.proofs.InTurn.{making_more, made_more}
 use Rattle.quilt_top.proofs.make.make_map.Goals as goal
 
 pub create-requires-clause-blank : goal.create-requires-clause-blank
@@ -41,3 +42,29 @@ returns-clause-promises g c =
     let both = goes_and (Says (new_line c.args.pages c.args.level)) (AddsOnly is_of_text) _ _ says c.put_all.ensures.text in
     all_done c.args.path.now c.args.pages c.args.level _ is _ _ _ (c.put_all.ensures.door ∙ c.create.ensures.device.door) _ _ _ _
     (rw c.file_pages.ensures at c.make.ensures.tale) c.create.ensures.crash c.in-Ok-create.ensures.created both (g.met.W.Disk.is_consistent c.put_all.new.world)
+
+-- ---- beyond the headline
+
+pub returns-in_default-clause-more : goal.returns-in_default-clause-more
+returns-in_default-clause-more g c = making_more c.args.path.now c.args.pages c.args.level _ _ _ _ _ (λ e. cc) c.make.ensures.tale
+
+pub returns-in-Taken-clause-more : goal.returns-in-Taken-clause-more
+returns-in-Taken-clause-more g c = making_more c.args.path.now c.args.pages c.args.level _ _ _ _ _ (λ e. cc) c.make.ensures.tale
+
+pub returns-in_default-create-clause-more : goal.returns-in_default-create-clause-more
+returns-in_default-create-clause-more g c =
+    let is = c.in-Ok.ensures.door ∙ ap (λ m. made (Ok m)) c.in-Ready.is in
+    made_more c.args.path.now c.args.pages c.args.level _ _ _ _ _ (c.create.ensures.device.door ∙ is) (λ e. cc)
+    (returns-in_default-create-clause-promises g c)
+
+pub returns-in_default-put_all-clause-more : goal.returns-in_default-put_all-clause-more
+returns-in_default-put_all-clause-more g c =
+    let is = c.in-Ok.ensures.door ∙ ap (λ m. made (Ok m)) c.in-Ready.is in
+    made_more c.args.path.now c.args.pages c.args.level _ _ _ _ _ (c.put_all.ensures.door ∙ c.create.ensures.device.door ∙ is) (λ e. cc)
+    (returns-in_default-put_all-clause-promises g c)
+
+pub returns-clause-more : goal.returns-clause-more
+returns-clause-more g c =
+    let is = c.in-Ok.ensures.door ∙ ap (λ m. made (Ok m)) c.in-Ready.is in
+    made_more c.args.path.now c.args.pages c.args.level _ _ _ _ _ (c.put_all.ensures.door ∙ c.create.ensures.device.door ∙ is) (λ e. cc)
+    (returns-clause-promises g c)

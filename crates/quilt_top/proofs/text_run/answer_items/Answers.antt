@@ -12,9 +12,11 @@ use Rattle.quilt_top.specs.declared.halt.Halt.{Halt}
 use Rattle.quilt_top.specs.declared.halt.Halt.TheVariants as halts
 use Rattle.quilt_top.specs.Answering.{Answers, AnswersPrefix, changes_then}
 use Rattle.quilt_top.specs.Replies.{held_at, reply_to, state_then}
-use Rattle.quilt_top.proofs.logs.Said.{on_err_all, err_from}
+use Rattle.quilt_top.proofs.logs.Said.{on_err_all, err_from, if_err_const}
 use Rattle.quilt_top.proofs.turns.Outcomes.{held_is}
-use Rattle.quilt_top.proofs.turns.Turns.{answered_first, stopped_now, stopped_part, answered_next}
+use Rattle.quilt_top.proofs.turns.Turns.{answered_first, stopped_now, stopped_part, stopped_between, stopped_after, answered_next}
+use Rattle.quilt_top.proofs.turns.Applying.{leaves_told}
+use Rattle.quilt_top.specs.Answered.{StopsBetween}
 use Rattle.quilt_top.proofs.text_run.answer_items.Goals as goal
 
 pub items-init : goal.items-init
@@ -91,3 +93,24 @@ returns-in_err-all_done-clause-damaged g c =
     let here : Sound c.in_err-all_done.field-0.0 = λ page is s at. let so = c.items.invariant.done s at in
     c.in_err-all_done.ensures.damaged page is so.0 so.1 in
     err_from _ c.in_err-all_done.field-0.0 _ Sound c.from_residual-in_err-all_done.ensures.1 (λ e is. is) here
+
+-- ---- where memory was wanted
+
+pub returns-in_err-spelled-clause-between : goal.returns-in_err-spelled-clause-between
+returns-in_err-spelled-clause-between g c =
+    if_err_const _ _ _ (λ s at.
+    let so = c.items.invariant.done s at in
+    stopped_between _ _ _ _ _ _ (at_level c.args.session.now s at ∙ c.requires.level) _ _ _ _ _ _ so.2 (leaves_told c.items.session so.0 so.1))
+
+pub returns-in_err-all_done-clause-between : goal.returns-in_err-all_done-clause-between
+returns-in_err-all_done-clause-between g c =
+    let given = rw (c.in-Some.is, c.items.invariant.level) at c.in_ok-spelled.ensures.given in
+    let Between = λ (e : Halt). e ≡ halts.Stopped stops.Memory → (s : State) → IsAt c.args.session.now s
+    → Goes (StopsBetween c.args.ended c.args.lines.now.level s c.args.lines.now.rest) (g.W.Disk.told (world_of c.args.session.now))
+    (g.W.Disk.told (world_of c.put_answer.new.session)) in
+    let here : Between c.in_err-all_done.field-0.0 = λ is s at.
+    let so = c.items.invariant.done s at in
+    let said = ap (λ f. form f given.item) (sym c.head.ensures.is_format) ∙ given.is in
+    stopped_after _ _ _ _ _ _ (at_level c.args.session.now s at ∙ c.requires.level) _ _ _ _ _ _ _ so.2
+    (c.in_err-all_done.ensures.none is given.item said so.0 so.1) in
+    err_from _ c.in_err-all_done.field-0.0 _ Between c.from_residual-in_err-all_done.ensures.1 (λ e is. is) here

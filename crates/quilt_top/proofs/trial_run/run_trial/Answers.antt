@@ -4,8 +4,9 @@ use Rattle.quilt_map.specs.Sessions.{level_of}
 use Rattle.quilt_map.proofs.Laws.{at_level}
 use Rattle.quilt_top.specs.Trying.{trial_run}
 use Rattle.quilt_top.proofs.turns.Applying.{leaves_told, seen_told}
-use Rattle.quilt_top.proofs.Concluding.{goes_none, goes_part, goes_whole, goes_front, tries_as, tried_as, counted_as}
+use Rattle.quilt_top.proofs.Concluding.{tries_pages, goes_none, goes_part, goes_whole, goes_front, tries_as, tried_as, counted_as}
 use Rattle.quilt_top.proofs.Summaries.{summary_is, flag_is, last_leaves, last_seen}
+use Rattle.quilt_top.proofs.logs.Said.{if_err_const}
 use Rattle.quilt_top.proofs.trial_run.run_trial.Goals as goal
 
 pub returns-in_err-tally-clause-front : goal.returns-in_err-tally-clause-front
@@ -63,3 +64,21 @@ returns-clause-front g c = λ s at.
 
 pub try_items-requires-clause-few : goal.try_items-requires-clause-few
 try_items-requires-clause-few g c = let few = c.new-items.ensures.few in omega (arith, few, c.ranges.count.fits)
+
+-- ---- where memory was wanted
+
+pub returns-in_err-tally-clause-unsaid : goal.returns-in_err-tally-clause-unsaid
+returns-in_err-tally-clause-unsaid g c =
+    if_err_const _ _ _ (λ s at.
+    let n = level_of c.args.session.now in
+    let level = c.new-items.ensures.level ∙ c.head.ensures.is_level in
+    let text = c.new-items.ensures.text ∙ ap (trial_text c.args.seed c.args.count) c.head.ensures.is_level in
+    tries_pages (trial_run n s c.args.seed c.args.count) _ _ (tries_as n _ c.args.seed c.args.count _ level text s _ _ (c.try_items.ensures.tries s at)))
+
+pub returns-in_err-text-clause-unsaid : goal.returns-in_err-text-clause-unsaid
+returns-in_err-text-clause-unsaid g c =
+    if_err_const _ _ _ (λ s at.
+    let n = level_of c.args.session.now in
+    let level = c.new-items.ensures.level ∙ c.head.ensures.is_level in
+    let text = c.new-items.ensures.text ∙ ap (trial_text c.args.seed c.args.count) c.head.ensures.is_level in
+    tries_pages (trial_run n s c.args.seed c.args.count) _ _ (tries_as n _ c.args.seed c.args.count _ level text s _ _ (c.try_items.ensures.tries s at)))
