@@ -261,9 +261,12 @@ def copy_file(source: Path, target: Path) -> None:
     _copy(source, target, _copy_range)
 
 
-def copy_map(source: Path, target: Path) -> None:
-    """Copies a map file that no run has open, as `copy_file` does, without the slots of its journal where that is closed, since they count for nothing."""
-    _copy(source, target, _copy_range, _counting)
+def copy_map(source: Path, target: Path, is_new: bool = True) -> None:
+    """Copies a map file that no run has open, as `copy_file` does, or into an empty file.
+
+    The slots of its journal are left out where that is closed, since they count for nothing then.
+    """
+    _copy(source, target, _copy_range, _counting, is_new)
 
 
 def copy_thin(source: Path, target: Path) -> None:
@@ -272,15 +275,16 @@ def copy_thin(source: Path, target: Path) -> None:
 
 
 def _copy(source: Path, target: Path, copy_part: Callable[[int, int, int, int], None],
-          measure: Callable[[int, int], int] = lambda _, size: size) -> None:
+          measure: Callable[[int, int], int] = lambda _, size: size, is_new: bool = True) -> None:
     try:
-        with open(source, "rb") as old, open(target, "xb") as made:
+        with open(source, "rb") as old, open(target, "xb" if is_new else "wb") as made:
             size = os.fstat(old.fileno()).st_size
             os.ftruncate(made.fileno(), size)
             for begin, end in _extents(old.fileno(), measure(old.fileno(), size)):
                 copy_part(old.fileno(), made.fileno(), begin, end)
     except BaseException:
-        target.unlink(missing_ok=True)
+        if is_new:
+            target.unlink(missing_ok=True)
         raise
 
 
