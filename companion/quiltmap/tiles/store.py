@@ -43,7 +43,7 @@ MOST_TILES = 65_536
 _CHUNK = 1 << 20
 _PAGE = 4096
 
-#: How many copies of a new grid's first tile are written at once.
+#: How many files are synced at once.
 _AT_ONCE = 16
 
 _NAME_OF_TILE = re.compile(r"c[0-9]+r[0-9]+")
@@ -198,11 +198,16 @@ class Store:
         self._changes.joinpath(token).mkdir(parents=True)
         return token
 
+    def secure(self, token: str) -> None:
+        """Waits until all tiles of a change are on the disk."""
+        folder = self._changes / token
+        with ThreadPoolExecutor(_AT_ONCE) as threads:
+            list(threads.map(sync, folder.iterdir()))
+        sync(folder)
+        sync(self._changes)
+
     def commit(self, manifest: Manifest) -> None:
-        """Makes this the last state, after all tiles of its change were published, and gives these their places."""
-        if manifest.change is not None:
-            sync(self._changes / manifest.change)
-            sync(self._changes)
+        """Makes this the last state, after all tiles of its change are on the disk, and gives these their places."""
         self._replace(self._manifest, manifest.text())
         self.settle(manifest)
 

@@ -16,7 +16,6 @@ from pathlib import Path
 from typing import Any, Callable, Iterator, Optional
 
 from .. import client
-from ..beside import sync
 from ..client import Map
 from ..errors import Ended, InUse, Refused
 from .store import MovedOn, Tile, copy_map
@@ -78,7 +77,7 @@ def change(tile: Tile, pool: Optional[int], token: str, work: Work, *arguments: 
         with _in_memory(tile) as copy:
             told = _changed(tile, copy, pool, work, *arguments)
             copy_map(copy, draft)
-        sync(draft)
+        _begin_to_write(draft)
         os.rename(draft, made)
         return told
     except (FileNotFoundError, Ended):
@@ -87,6 +86,12 @@ def change(tile: Tile, pool: Optional[int], token: str, work: Work, *arguments: 
         raise MovedOn(f"the change of tile {tile.name} was given up meanwhile") from None
     finally:
         draft.unlink(missing_ok=True)
+
+
+def _begin_to_write(path: Path) -> None:
+    """Has the system write a file to the disk while other tiles are under way; who makes the next state waits for all of them."""
+    with open(path, "rb") as file:
+        os.posix_fadvise(file.fileno(), 0, 0, os.POSIX_FADV_DONTNEED)
 
 
 @contextmanager
