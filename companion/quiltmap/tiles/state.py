@@ -96,6 +96,7 @@ class Change(State):
             told = self._engine.run(work.change, todo, lambda: store.stop(token))
             answers = {key: answer for key, (_, answer) in zip(jobs, told)}
             members |= {} if finish is None else finish(answers)
+            store.secure(token)
         except BaseException:
             store.settle(manifest)
             raise

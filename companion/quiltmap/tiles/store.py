@@ -43,7 +43,7 @@ MOST_TILES = 65_536
 _CHUNK = 1 << 20
 _PAGE = 4096
 
-#: How many copies of a new grid's first tile are written at once.
+#: How many files are synced at once.
 _AT_ONCE = 16
 
 _NAME_OF_TILE = re.compile(r"c[0-9]+r[0-9]+")
@@ -198,11 +198,16 @@ class Store:
         self._changes.joinpath(token).mkdir(parents=True)
         return token
 
+    def secure(self, token: str) -> None:
+        """Waits until all tiles of a change are on the disk."""
+        folder = self._changes / token
+        with ThreadPoolExecutor(_AT_ONCE) as threads:
+            list(threads.map(sync, folder.iterdir()))
+        sync(folder)
+        sync(self._changes)
+
     def commit(self, manifest: Manifest) -> None:
-        """Makes this the last state, after all tiles of its change were published, and gives these their places."""
-        if manifest.change is not None:
-            sync(self._changes / manifest.change)
-            sync(self._changes)
+        """Makes this the last state, after all tiles of its change are on the disk, and gives these their places."""
         self._replace(self._manifest, manifest.text())
         self.settle(manifest)
 
@@ -261,9 +266,12 @@ def copy_file(source: Path, target: Path) -> None:
     _copy(source, target, _copy_range)
 
 
-def copy_map(source: Path, target: Path) -> None:
-    """Copies a map file that no run has open, as `copy_file` does, without the slots of its journal where that is closed, since they count for nothing."""
-    _copy(source, target, _copy_range, _counting)
+def copy_map(source: Path, target: Path, is_new: bool = True) -> None:
+    """Copies a map file that no run has open, as `copy_file` does, or into an empty file.
+
+    The slots of its journal are left out where that is closed, since they count for nothing then.
+    """
+    _copy(source, target, _copy_range, _counting, is_new)
 
 
 def copy_thin(source: Path, target: Path) -> None:
@@ -272,15 +280,16 @@ def copy_thin(source: Path, target: Path) -> None:
 
 
 def _copy(source: Path, target: Path, copy_part: Callable[[int, int, int, int], None],
-          measure: Callable[[int, int], int] = lambda _, size: size) -> None:
+          measure: Callable[[int, int], int] = lambda _, size: size, is_new: bool = True) -> None:
     try:
-        with open(source, "rb") as old, open(target, "xb") as made:
+        with open(source, "rb") as old, open(target, "xb" if is_new else "wb") as made:
             size = os.fstat(old.fileno()).st_size
             os.ftruncate(made.fileno(), size)
             for begin, end in _extents(old.fileno(), measure(old.fileno(), size)):
                 copy_part(old.fileno(), made.fileno(), begin, end)
     except BaseException:
-        target.unlink(missing_ok=True)
+        if is_new:
+            target.unlink(missing_ok=True)
         raise
 
 

@@ -1,9 +1,9 @@
 """What is done on one tile, in this process or in a worker of dask: commands of one map, by the program.
 
-A task that reads finds its tile as of the edition that the state has. A task that changes a tile works on a copy, which has a
-name of its own, and gives it the tile's name among those of the change at its end. So it begins from the same edition however often
-it is done, and a try that was lost, or is late, is in no one's way: where its change is given up or done there is no place
-left for its file.
+A task that reads finds its tile as of the edition that the state has. A task that changes a tile works on a copy in memory, writes
+that to a file of its own, and gives this the tile's name among those of the change at its end. So it begins from the same edition
+however often it is done, and a try that was lost, or is late, is in no one's way: where its change is given up or done there
+is no place left for its file.
 """
 
 from __future__ import annotations
@@ -72,8 +72,12 @@ def change(tile: Tile, pool: Optional[int], token: str, work: Work, *arguments: 
     made = tile.changed(token)
     draft = made.with_name(f"{made.name}.{uuid.uuid4().hex}")
     try:
-        copy_map(tile.path, draft)
-        told = _changed(tile, draft, pool, work, *arguments)
+        if not made.parent.exists():
+            raise FileNotFoundError
+        with _in_memory(tile) as copy:
+            told = _changed(tile, copy, pool, work, *arguments)
+            copy_map(copy, draft)
+        _begin_to_write(draft)
         os.rename(draft, made)
         return told
     except (FileNotFoundError, Ended):
@@ -84,18 +88,32 @@ def change(tile: Tile, pool: Optional[int], token: str, work: Work, *arguments: 
         draft.unlink(missing_ok=True)
 
 
-def _changed(tile: Tile, draft: Path, pool: Optional[int], work: Work, *arguments: Any) -> tuple[int, Any]:
-    """Does the work on the copy: the edition, once the copy is on the disk, and what the work answers."""
-    with client.open(draft, pool=pool) as m:
+def _begin_to_write(path: Path) -> None:
+    """Has the system write a file to the disk while other tiles are under way; who makes the next state waits for all of them."""
+    with open(path, "rb") as file:
+        os.posix_fadvise(file.fileno(), 0, 0, os.POSIX_FADV_DONTNEED)
+
+
+@contextmanager
+def _in_memory(tile: Tile) -> Iterator[Path]:
+    """A copy of a tile in memory, which goes with this process at the latest. No one needs it after a stop, so the program's syncs may cost nothing."""
+    descriptor = os.memfd_create(tile.name)
+    try:
+        copy = Path(f"/proc/{os.getpid()}/fd/{descriptor}")
+        copy_map(tile.path, copy, is_new=False)
+        yield copy
+    finally:
+        os.close(descriptor)
+
+
+def _changed(tile: Tile, copy: Path, pool: Optional[int], work: Work, *arguments: Any) -> tuple[int, Any]:
+    """Does the work on the copy: the edition that it is published as, and what the work answers."""
+    with client.open(copy, pool=pool) as m:
         if m.edition() != tile.edition:
             raise MovedOn(f"tile {tile.name} has edition {m.edition()}, and not {tile.edition}: was it changed by hand?")
         with _named(tile):
             answer = work(m, *arguments)
-            edition = m.publish()
-    # The program has synced what it wrote, and with it the rest of the file; where it wrote nothing, this does.
-    with open(draft, "rb") as file:
-        os.fdatasync(file.fileno())
-    return edition, answer
+            return m.publish(), answer
 
 
 @contextmanager
