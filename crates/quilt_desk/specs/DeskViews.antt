@@ -1,5 +1,6 @@
 -- What a desk shows beside its tale.
-use Rattle.std.specs.Prelude.{◌≡◌, ℕ, List, Option, Some, None, Contains}
+use Rattle.std.specs.Prelude.{◌≡◌, ◌<◌, ℕ, List, length, Option, Some, None, Contains}
+use Rattle.std.specs.Vec.{vec_capacity}
 use Rattle.quilt_world.specs.Causes.{next_count}
 use Rattle.quilt_world.specs.Disk.{Pages}
 use Rattle.quilt_desk.specs.declared.desk.Desk.{Desk}
@@ -40,6 +41,10 @@ most_of d = d.most
 -- the next call is one that fails
 abbrev pub FailsNext : Desk → Type 0
 FailsNext d = Contains (failing_of d) (next_count (calls_of d))
+
+-- the log has room for one event more
+abbrev pub HasRoom : Desk → Type 0
+HasRoom d = length d.log.items < vec_capacity d.log
 
 -- one call more is counted, and what fails and how much a call handles are as before
 pub record CountsCall (old new : Desk) : Type 0 where

@@ -5,6 +5,7 @@ mod calls;
 mod calm;
 mod copies;
 mod desk;
+mod events;
 mod input;
 mod page_state;
 mod path;

@@ -2,7 +2,7 @@ ghost use Rattle.std.specs.Prelude.{◌≡◌, ◌≤◌, [], ◌∷◌, ◌++�
 ghost use Rattle.std.specs.Option.{option_copied};
 ghost use Rattle.quilt_world.specs.Tale.{put_bytes};
 ghost use Rattle.quilt_world.specs.declared.disk.Door.TheVariants as doors;
-ghost use Rattle.quilt_desk.specs.DeskViews.{calls_of, failing_of, file_of, most_of};
+ghost use Rattle.quilt_desk.specs.DeskViews.{calls_of, failing_of, file_of, most_of, HasRoom};
 
 use super::Desk;
 use crate::calls::Calls;
@@ -28,6 +28,7 @@ impl Desk {
         ensures calls { IfOk result (λ d. calls_of d ≡ 0) }
         ensures failing { IfOk result (λ d. failing_of d ≡ []) }
         ensures most { IfOk result (λ d. most_of d ≡ usize.MAX) }
+        ensures room { IfOk result HasRoom }
     {
         let was_there = file.is_some();
         let shelf = match file {
@@ -42,7 +43,7 @@ impl Desk {
             door: Door::Shut,
             start: Image::new(alloc, 0)?,
             current: Image::new(alloc, 0)?,
-            log: Vec::new(alloc),
+            log: Vec::with_capacity(alloc, 1)?,
             input: Input::new(alloc, input)?,
             output: Vec::new(alloc),
             most: usize::MAX,
@@ -52,12 +53,15 @@ impl Desk {
         })
     }
 
-    /// Lets the call of this number fail, counted from 1 over all calls of a disk and a world but `pages`. Several may fail.
+    /// Lets the call of this number fail, counted from 1 over all calls of a disk and a world but `pages`. Several may fail. A
+    /// write that fails so leaves its page torn, where the log has room for that event; there is room at the start, and behind
+    /// each call that adds an event and does not fail.
     pub fn fail_at(&mut self, call: u64) -> Result<(), AllocError>
         ensures ok { OnOk result (failing_of self.new ≡ failing_of self.old ++ call ∷ []) }
         ensures err { OnErr result (failing_of self.new ≡ failing_of self.old) }
         ensures calls { calls_of self.new ≡ calls_of self.old }
         ensures most { most_of self.new ≡ most_of self.old }
+        ensures room { HasRoom self.old → HasRoom self.new }
         ensures told { ⟦<Desk as Disk>⟧.told self.new ≡ ⟦<Desk as Disk>⟧.told self.old }
         ensures door { ⟦<Desk as Disk>⟧.door self.new ≡ ⟦<Desk as Disk>⟧.door self.old }
         ensures faults { ⟦<Desk as Disk>⟧.faults self.new ≡ ⟦<Desk as Disk>⟧.faults self.old }
@@ -70,6 +74,7 @@ impl Desk {
     pub fn piece(&mut self, most: usize)
         requires { 1 ≤ most }
         ensures most { most_of self.new ≡ most }
+        ensures room { HasRoom self.old → HasRoom self.new }
         ensures failing { failing_of self.new ≡ failing_of self.old }
         ensures calls { calls_of self.new ≡ calls_of self.old }
         ensures told { ⟦<Desk as Disk>⟧.told self.new ≡ ⟦<Desk as Disk>⟧.told self.old }

@@ -5,10 +5,11 @@ ghost use Rattle.quilt_world.specs.Doors.{attached, made, OpensAt, MakesAt, Take
 ghost use Rattle.quilt_world.specs.Tale.{Adds, Goes};
 ghost use Rattle.quilt_world.specs.declared.disk.Door.TheVariants as doors;
 ghost use Rattle.quilt_world.specs.declared.event.Event.TheVariants.{Wrote, Tore, Synced, Put};
-ghost use Rattle.quilt_desk.specs.DeskViews.{file_of, most_of, FailsNext, CountsCall};
+ghost use Rattle.quilt_desk.specs.DeskViews.{file_of, most_of, FailsNext, HasRoom, CountsCall};
 
 use super::Desk;
 use crate::copies::Copies;
+use crate::events::add_event;
 use crate::path::is_same;
 use quilt_types::Text;
 use quilt_world::{Attached, Disk, Door, Event, Fault, Made, World};
@@ -50,6 +51,7 @@ impl Disk for Desk {
         ensures nothing { Goes (Adds []) (⟦<Desk as Disk>⟧.told self.old) (⟦<Desk as Disk>⟧.told self.new) }
         ensures bytes { OnOk result (IfSome (⟦<Desk as Disk>⟧.told self.new) (λ new. into.new ≡ slice_index_or new.seen i [])) }
         ensures call { CountsCall self.old self.new }
+        ensures room { HasRoom self.old → HasRoom self.new }
         ensures named { IsErr result ↔ FailsNext self.old }
     {
         self.reads = self.reads.saturating_add(1);
@@ -69,6 +71,9 @@ impl Disk for Desk {
         ensures tore { OnErr result
             (Goes (λ old new. Adds (Tore i ∷ []) old new ⊎ Adds [] old new) (⟦<Desk as Disk>⟧.told self.old) (⟦<Desk as Disk>⟧.told self.new)) }
         ensures call { CountsCall self.old self.new }
+        ensures torn { FailsNext self.old → HasRoom self.old
+            → Goes (Adds (Tore i ∷ [])) (⟦<Desk as Disk>⟧.told self.old) (⟦<Desk as Disk>⟧.told self.new) }
+        ensures room { OnOk result (HasRoom self.new) }
         ensures named { FailsNext self.old → IsErr result }
     {
         self.writes = self.writes.saturating_add(1);
@@ -81,13 +86,14 @@ impl Disk for Desk {
         }
         let mut text = Text::new(self.alloc);
         if text.push(bytes).is_err()
-            || self
-                .log
-                .push(Event::Wrote {
+            || add_event(
+                &mut self.log,
+                Event::Wrote {
                     page: i,
                     bytes: text,
-                })
-                .is_err()
+                },
+            )
+            .is_err()
         {
             return Err(self.calls.fault());
         }
@@ -105,10 +111,11 @@ impl Disk for Desk {
         ensures synced { OnOk result (Goes (Adds (Synced ∷ [])) (⟦<Desk as Disk>⟧.told self.old) (⟦<Desk as Disk>⟧.told self.new)) }
         ensures nothing { OnErr result (Goes (Adds []) (⟦<Desk as Disk>⟧.told self.old) (⟦<Desk as Disk>⟧.told self.new)) }
         ensures call { CountsCall self.old self.new }
+        ensures room { HasRoom self.old → HasRoom self.new }
         ensures named { FailsNext self.old → IsErr result }
     {
         self.calls.begin()?;
-        if self.log.push(Event::Synced).is_err() {
+        if add_event(&mut self.log, Event::Synced).is_err() {
             return Err(self.calls.fault());
         }
         Ok(())
@@ -123,6 +130,7 @@ impl World for Desk {
         ensures tale { Goes (OpensAt path.now (⟦<Desk as Disk>⟧.door self.new)) (⟦<Desk as Disk>⟧.told self.old) (⟦<Desk as Disk>⟧.told self.new) }
         ensures file { file_of self.new ≡ file_of self.old }
         ensures call { CountsCall self.old self.new }
+        ensures room { HasRoom self.old → HasRoom self.new }
         ensures named { IsErr result ↔ FailsNext self.old }
     {
         self.door = Door::Failed;
@@ -150,6 +158,7 @@ impl World for Desk {
         ensures tale { Goes (MakesAt path.now pages (⟦<Desk as Disk>⟧.door self.new)) (⟦<Desk as Disk>⟧.told self.old) (⟦<Desk as Disk>⟧.told self.new) }
         ensures file { ⟦<Desk as Disk>⟧.door self.new ≡ doors.Taken → file_of self.new ≡ file_of self.old }
         ensures call { CountsCall self.old self.new }
+        ensures room { HasRoom self.old → HasRoom self.new }
         ensures named { FailsNext self.old → IsErr result }
     {
         self.door = Door::Failed;
@@ -179,6 +188,7 @@ impl World for Desk {
         ensures took { IfOk result (λ n. Goes (TakesFrom (take n into.new)) (⟦<Desk as Disk>⟧.told self.old) (⟦<Desk as Disk>⟧.told self.new)) }
         ensures nothing { OnErr result (Goes (Adds []) (⟦<Desk as Disk>⟧.told self.old) (⟦<Desk as Disk>⟧.told self.new)) }
         ensures call { CountsCall self.old self.new }
+        ensures room { HasRoom self.old → HasRoom self.new }
         ensures named { FailsNext self.old → IsErr result }
         ensures most { IfOk result (λ n. n ≤ most_of self.old) }
     {
@@ -189,7 +199,7 @@ impl World for Desk {
             return Ok(0);
         }
         let mut text = Text::new(self.alloc);
-        if text.push(&left[..n]).is_err() || self.log.push(Event::Took(text)).is_err() {
+        if text.push(&left[..n]).is_err() || add_event(&mut self.log, Event::Took(text)).is_err() {
             return Err(self.calls.fault());
         }
         into[..n].copy_from_slice(&left[..n]);
@@ -207,6 +217,7 @@ impl World for Desk {
         ensures put { IfOk result (λ n. Goes (Adds (Put (take n bytes.now) ∷ [])) (⟦<Desk as Disk>⟧.told self.old) (⟦<Desk as Disk>⟧.told self.new)) }
         ensures nothing { OnErr result (Goes (Adds []) (⟦<Desk as Disk>⟧.told self.old) (⟦<Desk as Disk>⟧.told self.new)) }
         ensures call { CountsCall self.old self.new }
+        ensures room { HasRoom self.old → HasRoom self.new }
         ensures named { FailsNext self.old → IsErr result }
         ensures most { IfOk result (λ n. n ≡ min (length bytes.now) (most_of self.old)) }
     {
@@ -217,7 +228,7 @@ impl World for Desk {
         if text.push(&bytes[..n]).is_err() || self.output.extend_from_slice(&bytes[..n]).is_err() {
             return Err(self.calls.fault());
         }
-        if self.log.push(Event::Put(text)).is_err() {
+        if add_event(&mut self.log, Event::Put(text)).is_err() {
             self.output.truncate(before);
             return Err(self.calls.fault());
         }

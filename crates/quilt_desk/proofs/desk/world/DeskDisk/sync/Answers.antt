@@ -8,7 +8,7 @@ use Rattle.quilt_desk.proofs.desk.world.DeskDisk.sync.Goals as goal
 
 pub invariant_of-self-else-is_err : goal.invariant_of-self-else-is_err
 invariant_of-self-else-is_err c =
-    let log : c.push.new.self.items ≡ c.args.self.now.log.items ++ Synced ∷ [] = search rules in
+    let log : c.add_event.new.log.items ≡ c.args.self.now.log.items ++ Synced ∷ [] = search rules in
     record {
       reading = subst (λ l. Reads c.args.self.now.start l c.args.self.now.current) (sym log) (reads_synced _ _ _ c.args.self.now.reading);
       unopened = λ shut. not_shut _ _ _ c.args.self.now.no_pages c.requires shut;

@@ -21,7 +21,7 @@ invariant_of-self c =
 
 pub invariant_of-self-2 : goal.invariant_of-self-2
 invariant_of-self-2 c =
-    let log : c.push-else-is_err.new.self.items ≡ c.args.self.now.log.items ++ Wrote c.args.i c.args.bytes.now ∷ [] = search rules in
+    let log : c.add_event.new.log.items ≡ c.args.self.now.log.items ++ Wrote c.args.i c.args.bytes.now ∷ [] = search rules in
     record {
       reading = rw (log, c.set_page-2.ensures) (reads_wrote _ _ _ _ _ c.requires c.args.self.now.reading);
       unopened = λ shut. not_shut _ _ _ c.args.self.now.no_pages (omega arith) shut;

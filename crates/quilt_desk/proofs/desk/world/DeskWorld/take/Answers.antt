@@ -8,7 +8,7 @@ use Rattle.quilt_desk.proofs.desk.world.DeskWorld.take.Goals as goal
 
 pub invariant_of-self-2 : goal.invariant_of-self-2
 invariant_of-self-2 c =
-    let log : c.push-else-is_err.new.self.items ≡ c.args.self.now.log.items ++ Took c.push.new.self ∷ [] = search rules in
+    let log : c.add_event.new.log.items ≡ c.args.self.now.log.items ++ Took c.push.new.self ∷ [] = search rules in
     record {
       reading = subst (λ l. Reads c.args.self.now.start l c.args.self.now.current) (sym log) (reads_took _ _ _ _ c.args.self.now.reading);
       unopened = λ shut. open_not_shut _ _ c.requires.open shut;
