@@ -76,7 +76,7 @@ fn is_one_pixel(w: Window) -> bool
     w.w == 1 && w.h == 1
 }
 
-/// The same for a window of one pixel, whose leaf is all that is read beside what is around it.
+/// What `plan_rect` answers for a window of one pixel, whose leaf is all that is read beside what is around it.
 fn plan_pixel<S: PageStore>(
     alloc: Global,
     store: &mut S,
@@ -116,7 +116,7 @@ fn plan_pixel<S: PageStore>(
     }
 }
 
-/// The same, where the leaf that holds the window is read, or the smallest block that does.
+/// What `plan_rect` answers where the leaf that holds the window is read, or the smallest block that does.
 fn plan_together<S: PageStore>(
     alloc: Global,
     store: &mut S,
