@@ -14,6 +14,7 @@ pub mod Within
 pub mod Beside
 pub mod Counting
 pub mod Nearby
+pub mod Pixels
 pub mod WithinKeys
 pub mod Covers
 pub mod plans

@@ -20,12 +20,12 @@ use crate::known::Known;
 use crate::nearing::{block_up_to, block_with, other_colour};
 use crate::painting::paint;
 use crate::quartering::plan_apart;
-use crate::reading::records_in;
+use crate::reading::{leaf_with, records_in};
 use quilt_blocks::{Cursor, LeafList};
 use quilt_btree::Tree;
 use quilt_record::{Edits, Record, RecordList, region_record};
 use quilt_store::PageStore;
-use quilt_types::{Colour, Stop, Window};
+use quilt_types::{Colour, Pixel, Stop, Window};
 use std::alloc::{AllocError, Global};
 
 /// The records that go and those that come when the pixels of a window of the region layer get one colour, each in the
@@ -56,8 +56,11 @@ pub fn plan_rect<S: PageStore>(
         → HoldsWindow b w → Goes (λ old new. new ≤ old + (15 + 24 * level + 3 * length (leaves_within level g b))) (S.reads store.old) (S.reads store.new)) }
     ensures pixel { w.w ≡ 1 → w.h ≡ 1
         → IfOk result (λ edits. (g : Grid) → HasRegion (S.told store.old) tree.now layer level g
-        → Goes (λ old new. new ≤ old + (18 + 24 * level)) (S.reads store.old) (S.reads store.new)) }
+        → Goes (λ old new. new ≤ old + (6 + 24 * level)) (S.reads store.old) (S.reads store.new)) }
 {
+    if is_one_pixel(w) {
+        return plan_pixel(alloc, store, tree, layer, level, w, c);
+    }
     match plan_apart(alloc, store, tree, layer, level, w, c) {
         Err(e) => Err(e),
         Ok(Some(edits)) => Ok(edits),
@@ -65,7 +68,55 @@ pub fn plan_rect<S: PageStore>(
     }
 }
 
-/// The same, where the leaf that holds the window is read, or the smallest block that does.
+/// Whether the window has one pixel alone.
+fn is_one_pixel(w: Window) -> bool
+    ensures yes { result ≡ true → (w.w ≡ 1) × (w.h ≡ 1) }
+    ensures no { w.w ≡ 1 → w.h ≡ 1 → result ≡ true }
+{
+    w.w == 1 && w.h == 1
+}
+
+/// What `plan_rect` answers for a window of one pixel, whose leaf is all that is read beside what is around it.
+fn plan_pixel<S: PageStore>(
+    alloc: Global,
+    store: &mut S,
+    tree: &Tree,
+    layer: u8,
+    level: u8,
+    w: Window,
+    c: Colour,
+) -> Result<Edits, Stop>
+    requires rooted { IsRooted (S.size store.old) tree.now }
+    requires layer { 1 ≤ layer }
+    requires level { (1 ≤ level) × (level ≤ 12) }
+    requires window { is_window level w ≡ true }
+    requires wide { w.w ≡ 1 }
+    requires high { w.h ≡ 1 }
+    ensures plan { IfOk result (λ edits. (g : Grid) → HasRegion (S.told store.old) tree.now layer level g
+        → LeadsTo level layer g (painted level g w c.0) edits) }
+    ensures sound { IfErr result (λ e. (g : Grid) → HasRegion (S.told store.old) tree.now layer level g → IsSound e) }
+    ensures left { OnlyReads S.PageStore store.old store.new result }
+    ensures reads { IfOk result (λ _. Goes (λ old new. new ≤ old + (6 + 24 * level)) (S.reads store.old) (S.reads store.new)) }
+{
+    match leaf_with(store, tree, layer, level, Pixel { x: w.x, y: w.y }) {
+        Err(e) => Err(e),
+        Ok(leaf) => match block_up_to(store, tree, layer, level, leaf.block, c) {
+            Err(e) => Err(e),
+            Ok(top) => {
+                let known = Known {
+                    read: leaf.block,
+                    top,
+                    around: c,
+                    elsewhere: other_colour(c, leaf.colour),
+                };
+                let record = region_record(layer, leaf.block, level, leaf.colour);
+                plan_known(alloc, &[record], layer, level, &known, w)
+            }
+        },
+    }
+}
+
+/// What `plan_rect` answers where the leaf that holds the window is read, or the smallest block that does.
 fn plan_together<S: PageStore>(
     alloc: Global,
     store: &mut S,

@@ -1,4 +1,4 @@
-use Rattle.std.proofs.Common.{ℕ, ◌+◌, ◌*◌, ◌≤◌, length, sym, ap, subst, arith}
+use Rattle.std.proofs.Common.{◌≡◌, true, false, ℕ, ◌+◌, ◌*◌, ◌≤◌, length, sym, ◌∙◌, ap, subst, arith}
 use Rattle.std.specs.Option.{is_some}
 use Rattle.quilt_store.proofs.Reading.{only_reads_then}
 use Rattle.quilt_types.specs.declared.plane.Block.{Block}
@@ -30,16 +30,6 @@ returns-in-Ok-Some-clause-reads g c grid b h hb holds =
     (g.S.PageStore.reads c.plan_apart.new.store)) c.in-Ok-Some.field-0 c.in-Ok-Some.edits c.in-Ok-Some.field-0-is
     c.in-Ok-Some.ensures.reads grid b h hb holds)
 
-pub returns-in-Ok-Some-clause-pixel : goal.returns-in-Ok-Some-clause-pixel
-returns-in-Ok-Some-clause-pixel g c wide high grid h =
-    let w = c.args.w in
-    let b : Block = record { y = w.y; x = w.x; side = 1 } in
-    let all : (a : Block) → IsBlock c.args.level a → HoldsWindow a w
-    → 64 ≤ a.side = some_at (λ (edits : Edits). (a : Block) → IsBlock c.args.level a → HoldsWindow a c.args.w
-    → 64 ≤ a.side) c.in-Ok-Some.field-0 c.in-Ok-Some.edits c.in-Ok-Some.field-0-is c.in-Ok-Some.ensures.large in
-    let large : 64 ≤ 1 = all b (pixel_block c.args.level w c.requires.window) (pixel_holds w wide high) in
-    absurd (omega arith)
-
 pub returns-in-Ok-None-clause-sound : goal.returns-in-Ok-None-clause-sound
 returns-in-Ok-None-clause-sound g c =
     if_err_weaker c.plan_together.result
@@ -59,23 +49,31 @@ returns-in-Ok-None-clause-reads g c =
     (then_saved (24 * tried.0) (24 * tried.0) most (24 * tried.0 + most) _ _ _ (omega arith) tried.2 rest))
     c.plan_together.ensures.reads
 
+true_false : true ≡ false → ⊥
+true_false e = cc
+
 pub returns-in-Ok-None-clause-pixel : goal.returns-in-Ok-None-clause-pixel
-returns-in-Ok-None-clause-pixel g c wide high =
-    if_ok_weaker c.plan_together.result
-    (λ edits law grid h.
-    let n = c.args.level in
-    let w = c.args.w in
-    let b : Block = record { y = w.y; x = w.x; side = 1 } in
-    let hb = pixel_block n w c.requires.window in
-    let own = length (leaves_within n grid b) in
-    let one = pixel_within n grid w.x w.y c.requires.level.1 hb in
-    let most = 15 + 24 * n + 3 * own in
-    let tried = c.in-Ok-None.ensures.tried (ap is_some c.in-Ok-None.field-0-is) in
-    let rest = law grid b tried.0 (subst (λ told. HasRegion told c.args.tree.now c.args.layer n grid) (sym c.in-Ok-None.ensures.left.told) h) hb
-    (pixel_holds w wide high) tried.1 in
-    saved_less (24 * tried.0) (24 * tried.0 + most) (18 + 24 * n) _ _ (omega arith)
-    (then_saved (24 * tried.0) (24 * tried.0) most (24 * tried.0 + most) _ _ _ (omega arith) tried.2 rest))
-    c.plan_together.ensures.reads
+returns-in-Ok-None-clause-pixel g c wide high = absurd (true_false (sym (c.is_one_pixel.ensures.no wide high) ∙ c.if-is_one_pixel.false))
+
+pub returns-in-Ok-Some-clause-pixel : goal.returns-in-Ok-Some-clause-pixel
+returns-in-Ok-Some-clause-pixel g c wide high = absurd (true_false (sym (c.is_one_pixel.ensures.no wide high) ∙ c.if-is_one_pixel.false))
+
+pub plan_pixel-requires-clause-wide : goal.plan_pixel-requires-clause-wide
+plan_pixel-requires-clause-wide g c = (c.is_one_pixel.ensures.yes c.if-is_one_pixel.true).0
+
+pub plan_pixel-requires-clause-high : goal.plan_pixel-requires-clause-high
+plan_pixel-requires-clause-high g c = (c.is_one_pixel.ensures.yes c.if-is_one_pixel.true).1
+
+pub returns-then-is_one_pixel-clause-reads : goal.returns-then-is_one_pixel-clause-reads
+returns-then-is_one_pixel-clause-reads g c =
+    if_ok_weaker c.plan_pixel.result
+    (λ edits read grid b h hb holds.
+    let own = length (leaves_within c.args.level grid b) in
+    reads_more (6 + 24 * c.args.level) (15 + 24 * c.args.level + 3 * own) _ _ (omega arith) read)
+    c.plan_pixel.ensures.reads
+
+pub returns-then-is_one_pixel-clause-pixel : goal.returns-then-is_one_pixel-clause-pixel
+returns-then-is_one_pixel-clause-pixel g c wide high = if_ok_weaker c.plan_pixel.result (λ edits read grid h. read) c.plan_pixel.ensures.reads
 
 pub returns-in-Ok-None-clause-left : goal.returns-in-Ok-None-clause-left
 returns-in-Ok-None-clause-left g c = only_reads_then _ g.met.S.PageStore.goes_on _ _ _ c.in-Ok-None.ensures.left c.plan_together.ensures.left
