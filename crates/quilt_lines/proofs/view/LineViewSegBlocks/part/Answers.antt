@@ -69,6 +69,3 @@ returns-clause-reads g c =
     let all = length-map c.in-Ok.list (λ (e : ℕ × Seg). e.0) in
     reads_sum _ _ _ (9 + 3 * vec_len c.in-Ok-Some.ids) (3 * length c.in-Ok.list) (12 + 6 * length c.in-Ok.list) (omega arith)
     (match_some c.in-Ok-Some.field-0 _ _ c.in-Ok-Some.ids c.in-Ok-Some.field-0-is c.in-Ok-Some.ensures.reads) c.in-Ok.ensures.reads
-
-pub returns-in-Err-segments-clause-looked : goal.returns-in-Err-segments-clause-looked
-returns-in-Err-segments-clause-looked g c = returns-in-Err-segments-clause-left g c
