@@ -4,3 +4,4 @@ pub mod Frames
 pub mod Keeping
 pub mod Lending
 pub mod Views
+pub mod Passing

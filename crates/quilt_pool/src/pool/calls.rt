@@ -1,4 +1,4 @@
-ghost use Rattle.std.specs.Prelude.{◌≡◌, ℕ, ◌+◌, ◌*◌, ◌<◌, ◌≤◌, nat_eq, true, false, [], ◌∷◌, IfSome, OnOk, OnErr, IfOk, IsOk, IsSome, IsTrue, Some, None};
+ghost use Rattle.std.specs.Prelude.{◌≡◌, ℕ, ◌+◌, ◌*◌, ◌<◌, ◌≤◌, nat_eq, true, false, [], ◌∷◌, IfSome, OnOk, OnErr, IfOk, IsOk, IsErrOf, IsSome, IsTrue, Some, None};
 ghost use Rattle.std.specs.Prelude.{length, slice_index_or, slice_set, if◌then◌else◌, ◌==◌, ◌-◌, ◌≢◌, filter};
 ghost use Rattle.std.specs.List.{IsDistinct, range_with_len};
 ghost use Rattle.std.specs.Map.{keys_of, remove_entry, set_value};
@@ -7,6 +7,7 @@ ghost use Rattle.quilt_world.specs.Causes.{HasCause, next_count};
 ghost use Rattle.quilt_world.specs.Doors.{KeepsDevice};
 ghost use Rattle.quilt_world.specs.Tale.{Goes};
 ghost use Rattle.quilt_store.specs.Store.{HasStoreCause, Touches};
+ghost use Rattle.quilt_store.specs.declared.store.StoreErr.TheVariants.{Memory};
 ghost use Rattle.quilt_journal.specs.declared.journal.State.TheVariants.{Idle};
 ghost use Rattle.quilt_journal.specs.Changed.{is_changed, has_bit};
 ghost use Rattle.quilt_journal.specs.Kept.{work};
@@ -14,6 +15,7 @@ ghost use Rattle.quilt_journal.specs.Writing.{Writing};
 ghost use Rattle.quilt_pool.specs.Entries.{frame_at, bytes_or, page_over, is_dirty, is_marked, AreBelow};
 ghost use Rattle.quilt_pool.specs.Views.{seen, entries_of, capacity_of, dirty_bits};
 ghost use Rattle.quilt_pool.specs.Keeping.{IsWork, Keeps, Changes, IsSaved};
+ghost use Rattle.quilt_pool.specs.Passing.{IsPassedOn};
 
 use crate::pool::Pool;
 use crate::table::{
@@ -107,7 +109,7 @@ impl Pool {
         Ok(())
     }
 
-    /// Reads a page of the work. It comes to the front.
+    /// Reads a page of the work. It comes to the front. Where memory runs out for its entry, it was read all the same.
     pub fn read<D: Disk>(
         &mut self,
         journal: &mut Journal,
@@ -127,6 +129,9 @@ impl Pool {
             × (length journal.new.changed ≡ length journal.old.changed) }
         ensures below { AreBelow journal.old.pages (entries_of self.new) }
         ensures cap { capacity_of self.new ≡ capacity_of self.old }
+        ensures fault { IsErrOf result Memory → frame_at (entries_of self.old) page ≡ None → IsPassedOn (seen self.old) journal.new.changed }
+        ensures read { IsErrOf result Memory
+            → IfSome (D.told disk.old) (λ old. into.new ≡ page_over (entries_of self.old) (work old journal.old.pages journal.old.changed) page) }
         ensures found { IsSome (frame_at (entries_of self.old) page)
             → IsOk result × (seen self.new ≡ lru_cache (promoted (nat_eq page) (entries_of self.old)) (capacity_of self.old))
             × (journal.new ≡ journal.old) × (disk.new ≡ disk.old) }
@@ -174,6 +179,7 @@ impl Pool {
             × (length journal.new.changed ≡ length journal.old.changed) }
         ensures below { AreBelow journal.old.pages (entries_of self.new) }
         ensures cap { capacity_of self.new ≡ capacity_of self.old }
+        ensures fault { IsErrOf result Memory → frame_at (entries_of self.old) page ≡ None → IsPassedOn (seen self.old) journal.new.changed }
         ensures found { IsSome (frame_at (entries_of self.old) page)
             → IsOk result × (seen self.new ≡ lru_cache (promoted (nat_eq page) (entries_of self.old)) (capacity_of self.old))
             × (journal.new ≡ journal.old) × (disk.new ≡ disk.old) }
@@ -251,6 +257,7 @@ impl Pool {
             × (length journal.new.changed ≡ length journal.old.changed) }
         ensures below { AreBelow journal.old.pages (entries_of self.new) }
         ensures cap { capacity_of self.new ≡ capacity_of self.old }
+        ensures fault { IsErrOf result Memory → frame_at (entries_of self.old) page ≡ None → IsPassedOn (seen self.old) journal.new.changed }
         ensures found { IsSome (frame_at (entries_of self.old) page) → IsOk result × (journal.new ≡ journal.old) × (disk.new ≡ disk.old) }
         ensures entered { OnOk result
             (seen self.new ≡ lru_cache (put_entries nat_eq (seen self.old) page (record { bytes = bytes.now; is_dirty = true })) (capacity_of self.old)) }
@@ -268,9 +275,10 @@ impl Pool {
             (Goes (Keeps journal.old.pages (entries_of self.old) (entries_of self.new) journal.old.changed journal.new.changed) (D.told disk.old)
             (D.told disk.new)) }
     {
-        let Ok(()) = self.make_room(journal, disk, page) else {
-            return Err(StoreErr::Device);
-        };
+        match self.make_room(journal, disk, page) {
+            Err(Fault) => return Err(StoreErr::Device),
+            Ok(()) => {}
+        }
         let _ = journal.pages();
         list_page(&mut self.dirty, page);
         put_frame(&mut self.table, page, bytes, true)?;

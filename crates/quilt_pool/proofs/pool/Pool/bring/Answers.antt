@@ -4,6 +4,7 @@ use Rattle.std.proofs.Common.{◌≡◌, inl, inr, true, ℕ, ◌≤◌, Option,
 use Rattle.lru.specs.LruCache.{LruCache, promoted, put_entries}
 use Rattle.quilt_pool.specs.declared.frame.Frame.{Frame}
 use Rattle.quilt_pool.specs.Entries.{is_dirty, frame_at, bytes_or, page_over}
+use Rattle.quilt_pool.specs.Passing.{IsPassedOn}
 use Rattle.quilt_pool.proofs.Looks.{promoted_at}
 use Rattle.quilt_pool.proofs.Entering.{below_same, marked_same, goes_same, goes_read, goes_entered, goes_named, marked_entered, marked_named, below_put}
 use Rattle.quilt_pool.proofs.Entering.{below_named}
@@ -149,3 +150,9 @@ invariant_of-self-2-clause-listed g c = λ i d.
     c.args.self.now.listed i (subst (λ (x : LruCache ℕ Frame). is_dirty x.entries i ≡ true) (c.touch_frame.ensures.lost c.if-touch_frame.false).1
     (dirt_after c.put_frame.result t c.put_frame.new.table c.args.page c.read_page.new.into i c.touch_frame.ensures.valid.2 c.touch_frame.ensures.valid.1
     c.put_frame.ensures.entries c.put_frame.ensures.same d))
+
+pub returns-in_err-put_frame-clause-fault : goal.returns-in_err-put_frame-clause-fault
+returns-in_err-put_frame-clause-fault g c is gone =
+    subst (λ (x : LruCache ℕ Frame). IsPassedOn x c.make_room.new.journal.changed) (c.touch_frame.ensures.lost c.if-touch_frame.false).1
+    (c.in-Ok.ensures.listed (subst (λ (x : LruCache ℕ Frame). frame_at x.entries c.args.page ≡ None)
+    (sym (c.touch_frame.ensures.lost c.if-touch_frame.false).1) gone))
