@@ -71,7 +71,8 @@ impl<W: World> Session<W> {
         }
     }
 
-    /// The reply to a command, and the work that it leaves. A refused command changes nothing. After an Err the session is only given up.
+    /// The reply to a command, and the work that it leaves. A refused command changes nothing. After an Err no further command is asked, and the
+    /// session is only given up.
     #[tactic(auto, unfolding(crate::specs::Sessions::world_of, crate::specs::Sessions::format_of, crate::specs::Sessions::level_of, crate::specs::Sessions::changes_of, crate::specs::Sessions::reads_of, crate::specs::Sessions::warm_of, crate::specs::Sessions::head_of, crate::specs::Sessions::IsReady, crate::specs::Sessions::IsAt))]
     pub fn apply<R: Threads + Sync, G: Gate + Sync>(
         &mut self,
