@@ -9,8 +9,8 @@ use Rattle.quilt.specs.Program.{Does, IfTold}
 use Rattle.quilt.proofs.ProgramLaws.{does_of_tales, untaken_first, told_at_once, memory_at_once}
 use Rattle.quilt.proofs.run.run_words.Goals as goal
 
-pub run_quilt-requires-clause-untaken : goal.run_quilt-requires-clause-untaken
-run_quilt-requires-clause-untaken g c =
+pub run_quilt-end-requires-clause-untaken : goal.run_quilt-end-requires-clause-untaken
+run_quilt-end-requires-clause-untaken g c =
     subst (λ (o : Option Tale). IfSome o (λ t. taken_bytes t.log ≡ [])) (sym c.new.ensures.told) (untaken_first (g.S.System.told c.args.system))
 
 pub returns-in_default : goal.returns-in_default
