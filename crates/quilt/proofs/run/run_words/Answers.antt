@@ -10,7 +10,7 @@ use Rattle.quilt.proofs.ProgramLaws.{does_of_tales, untaken_first, told_at_once,
 use Rattle.quilt.proofs.run.run_words.Goals as goal
 
 pub run_quilt-end-requires-clause-untaken : goal.run_quilt-end-requires-clause-untaken
-run_quilt-end-requires-clause-untaken g c =
+run_quilt-end-requires-clause-untaken g c lifetimes lives =
     subst (λ (o : Option Tale). IfSome o (λ t. taken_bytes t.log ≡ [])) (sym c.new.ensures.told) (untaken_first (g.S.System.told c.args.system))
 
 pub returns-in_default : goal.returns-in_default
