@@ -19,7 +19,7 @@ pub pairs_for-requires-clause-few : goal.pairs_for-requires-clause-few
 pairs_for-requires-clause-few g c lifetimes lives =
     part_few c.deref-in-loop-rest-2.result.now c.deref-in-loop-rest.result.now c.loop-rest.total c.in-Some.all
     (c.deref-in-loop-rest.ensures.value ∙ c.in_ok-counts.ensures
-        ∙ ap (map (λ row. row.count)) (c.deref.ensures.value ∙ sym c.deref-in-loop-rest-2.ensures.value)) c.in-Some.ensures.sum c.in-Some.ensures.few
+    ∙ ap (map (λ row. row.count)) (c.deref.ensures.value ∙ sym c.deref-in-loop-rest-2.ensures.value)) c.in-Some.ensures.sum c.in-Some.ensures.few
 
 pub loop-rest-preserved : goal.loop-rest-preserved
 loop-rest-preserved g c =
