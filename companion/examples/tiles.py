@@ -3,16 +3,17 @@
 
     companion/examples/tiles.py FOLDER [--tiles 8x8] [--level 12] [--workers 1 --workers 4]
 
-Draws a raster and lines of the size of the grid into FOLDER, where nothing is yet, and does the same steps with each number of workers, each in
-a grid of its own: an import of both, map algebra, measures, and questions on segments. Prints the seconds of each step on the clock, how many
-times faster the last number of workers is than the first, the seconds of all processors together with the first, and the most memory that a worker
-and a program under it took. The answers of all runs have to be equal.
+Draws a raster and lines of the size of the grid into FOLDER, where nothing is yet, and does the same steps with each number of workers, each in a
+grid of its own, which goes at the end: an import of both, map algebra, measures, and questions on segments. Prints the seconds of each step on the
+clock, how many times faster the last number of workers is than the first, the seconds of all processors together with the first, and the most memory
+that a worker and a program under it took. The answers of all runs have to be equal.
 """
 
 from __future__ import annotations
 
 import os
 import resource
+import shutil
 import sys
 import threading
 import time
@@ -163,6 +164,7 @@ def run(folder: Path, columns: int, rows: int, level: int, pages: int, workers: 
         answers["most memory of a worker, MB"] = max(client.run(memory).values()) // 1024
         answers["most memory of a program, MB"] = watch.most // 1024
     answers["room on the disk, MB"] = sum(path.stat().st_blocks for path in Path(name).rglob("*")) // 2048
+    shutil.rmtree(name)
     return done
 
 

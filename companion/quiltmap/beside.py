@@ -12,6 +12,7 @@ import json
 import os
 import shutil
 import sqlite3
+from collections.abc import Mapping
 from contextlib import closing
 from pathlib import Path
 from typing import Optional
@@ -68,6 +69,18 @@ class Beside:
 
     def _opened(self) -> "closing[sqlite3.Connection]":
         return closing(sqlite3.connect(f"{self.attributes.resolve().as_uri()}?mode=ro", uri=True))
+
+    def put_tables(self, tables: Mapping[str, pd.DataFrame]) -> None:
+        """Writes the attributes of these layers of a map that is new; what the file has of others stays."""
+        draft = _new(self.attributes)
+        draft.unlink(missing_ok=True)
+        if self.attributes.exists():
+            shutil.copyfile(self.attributes, draft)
+        for layer, table in tables.items():
+            write_table(draft, layer, table)
+        sync(draft)
+        os.replace(draft, self.attributes)
+        sync(draft.parent)
 
     # What an import does.
 
@@ -147,6 +160,19 @@ def write_table(path: Path, layer: str, table: Optional[pd.DataFrame]) -> None:
     rows = zip(*(_values(table[name]) for name in table.columns))
     with closing(sqlite3.connect(path)) as file, file:
         file.executemany(f'INSERT INTO "{layer}" ({columns}) VALUES ({marks})', rows)
+
+
+def text_of_table(table: pd.DataFrame) -> str:
+    """A layer's attributes in letters of ASCII, without a newline."""
+    columns = {str(name): table[name].dtype.kind for name in table.columns}
+    return json.dumps({"columns": columns, "rows": list(zip(*(_values(table[name]) for name in table.columns)))})
+
+
+def table_of_text(text: str) -> pd.DataFrame:
+    """The attributes that such a text has. Raises ValueError, KeyError, TypeError where it is none."""
+    read = json.loads(text)
+    table = pd.DataFrame(read["rows"], columns=list(read["columns"]), dtype=object)
+    return table.astype({name: _KINDS[kind] for name, kind in read["columns"].items() if kind in _KINDS})
 
 
 def _values(column: "pd.Series[object]") -> list[object]:

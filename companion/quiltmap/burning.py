@@ -33,14 +33,15 @@ def cleaned(ring: Ring) -> Ring:
     return ring[np.any(ring != np.roll(ring, 1, axis=0), axis=1)]
 
 
-def trimmed(ring: Ring, side: int) -> Ring:
-    """A ring with fewer corners that has the same pixels of a square: of those that lie one behind the other beside one edge, the first and the last.
+def trimmed(ring: Ring, width: int, height: int) -> Ring:
+    """A ring with fewer corners that has the same pixels of a window from (0, 0) on: of those that lie one behind the other beside one edge, the
+    first and the last.
 
-    No line to the right of a pixel of the square meets an edge above, below or left of it; and of a way right of the square, what counts is
+    No line to the right of a pixel of the window meets an edge above, below or left of it; and of a way right of the window, what counts is
     from where to where it goes.
     """
     x, y = ring.T
-    beside = np.select([y <= 0, y >= side, x <= 0, x >= side], [1, 2, 3, 4])
+    beside = np.select([y <= 0, y >= height, x <= 0, x >= width], [1, 2, 3, 4])
     return ring[(beside == 0) | (beside != np.roll(beside, 1)) | (beside != np.roll(beside, -1))]
 
 

@@ -222,15 +222,23 @@ def straight_lines(features: Features, place: Place) -> tuple[NDArray[np.int64],
 
 def region_of_raster(source: RasterSource, place: Place, classes: Optional[list[float]]) -> Content:
     """A raster as a region: its whole numbers as colours, or the numbers of the classes that its values are in."""
-    values = source.read(place)
+    colours, missing = colours_in(source, place, classes)
     tally = Tally()
-    missing = int(np.count_nonzero(np.ma.getmaskarray(values)))
-    if missing == values.size:
+    if missing == colours.size:
         raise BadSource("the source has no value in a pixel of the map")
     if missing:
         tally.notes.append(f"pixels without a value, which have colour 0: {missing}")
-    colours = colours_of(values, classes)
     return Content("region", tally, table_of_classes(classes), int(colours.max()), colours)
+
+
+def colours_in(source: RasterSource, place: Place, classes: Optional[list[float]]) -> tuple[NDArray[np.uint16], int]:
+    """The colours of a raster in the pixels of a place, of which some rows are read at a time; and how many pixels have no value. Raises BadSource."""
+    colours = np.zeros((place.side, place.side), np.uint16)
+    missing = 0
+    for rows, values in source.rows(place):
+        missing += int(np.count_nonzero(np.ma.getmaskarray(values)))
+        colours[rows] = colours_of(values, classes)
+    return colours, missing
 
 
 def colours_of(values: "np.ma.MaskedArray", classes: Optional[list[float]]) -> NDArray[np.uint16]:

@@ -11,18 +11,19 @@ from __future__ import annotations
 import json
 import re
 import sys
-from dataclasses import dataclass
+from dataclasses import dataclass, field
 from itertools import chain
 from typing import BinaryIO, Iterable, Iterator, Optional
 
 import click
 import numpy as np
+import pandas as pd
 from affine import Affine
 from numpy.typing import NDArray
 from pyproj import CRS
 
 from . import client
-from .beside import Beside
+from .beside import Beside, table_of_text, text_of_table
 from .client import MOST_POINTS, Layer, Map
 from .console import Failure, advice, in_one_line, progress
 from .drafts import new_map
@@ -37,21 +38,29 @@ MOST_RECTANGLES = 20_000
 _HEAD = re.compile(rb"# quilt-dump pages ([0-9]+) level ([0-9]+) format ([12])")
 _WORLD = re.compile(rb"# world ([-+.0-9e]+) ([-+.0-9e]+) ([-+.0-9e]+) ([-+.0-9e]+)")
 _SYSTEM = b"# system "
+_ATTRIBUTES = re.compile(rb"# attributes ([a-z0-9_]+) (.*)")
+#: A line has at most 8,320 bytes, and no other letters than those of ASCII.
+_PART = 4_000
 _RESERVED = 8
 
 
 # From a map to a text.
 
 
-def dump_of(m: Map, place: Optional[Place]) -> Iterator[str]:
-    """The lines of a text that makes the map anew, each with its newline."""
+def dump_of(m: Map, beside: Beside) -> Iterator[str]:
+    """The lines of a text that makes the map anew, with its place and its attributes, each with its newline."""
     pages = m.records().most // 64 + _RESERVED
     yield f"# quilt-dump pages {pages} level {m.level} format {m.format}\n"
+    layers = m.layers()
+    place = beside.place(m.side)
     if place is not None:
         yield from _lines_of_place(place)
+    for layer in layers:
+        table = beside.table(layer.name)
+        if table is not None:
+            yield from _parts(f"# attributes {layer.name} ", text_of_table(table))
     if m.format == 2:
         yield "upgrade\n"
-    layers = m.layers()
     for layer in progress(layers, len(layers), "layers"):
         yield from _LINES[layer.kind](m, layer)
     yield "publish\n"
@@ -61,9 +70,11 @@ def _lines_of_place(place: Place) -> Iterator[str]:
     turn = place.transform
     yield f"# world {turn.a!r} {turn.e!r} {turn.c!r} {turn.f!r}\n"
     if place.crs is not None:
-        # A line has at most 8,320 bytes, and no other letters than those of ASCII.
-        system = json.dumps(wkt_of(place.crs))
-        yield from (f"{_SYSTEM.decode()}{system[begin : begin + 4_000]}\n" for begin in range(0, len(system), 4_000))
+        yield from _parts(_SYSTEM.decode(), json.dumps(wkt_of(place.crs)))
+
+
+def _parts(front: str, text: str) -> Iterator[str]:
+    return (f"{front}{text[begin : begin + _PART]}\n" for begin in range(0, len(text), _PART))
 
 
 def _region_lines(m: Map, layer: Layer) -> Iterator[str]:
@@ -114,6 +125,7 @@ class Head:
     format: int
     world: Optional[tuple[float, ...]]
     system: Optional[str]
+    tables: dict[str, pd.DataFrame] = field(default_factory=dict)
 
     def place(self, side: int) -> Optional[Place]:
         """The place of a square with the same upper left corner."""
@@ -140,7 +152,22 @@ def head_of(lines: Iterable[bytes]) -> tuple[Head, Iterator[bytes]]:
     world = next((found for line in front if (found := _WORLD.fullmatch(line))), None)
     system = b"".join(line[len(_SYSTEM) :] for line in front if line.startswith(_SYSTEM))
     numbers = tuple(map(float, world.groups())) if world else None
-    return Head(*map(int, head.groups()), numbers, json.loads(system) if system else None), chain(front, rest)
+    return Head(*map(int, head.groups()), numbers, json.loads(system) if system else None, _tables_in(front)), chain(front, rest)
+
+
+def _tables_in(front: list[bytes]) -> dict[str, pd.DataFrame]:
+    """The attributes that remarks tell, by layer."""
+    parts: dict[str, list[bytes]] = {}
+    for line in front:
+        if found := _ATTRIBUTES.fullmatch(line):
+            parts.setdefault(found[1].decode(), []).append(found[2])
+    tables = {}
+    for layer, texts in parts.items():
+        try:
+            tables[layer] = table_of_text(b"".join(texts).decode())
+        except (ValueError, KeyError, TypeError):
+            raise Failure(f"the attributes of {layer} in the text are not whole") from None
+    return tables
 
 
 def restore_into(m: Map, head: Head, lines: Iterable[bytes], format: int) -> int:
@@ -188,15 +215,13 @@ def _resized(item: Item, head: Head, m: Map) -> NDArray[np.integer]:
 @click.argument("map_path", metavar="MAP", type=click.Path())
 @in_one_line
 def dump(map_path: str) -> None:
-    """Put the last edition of MAP on standard output, as a command text that makes it anew."""
+    """Put the last edition of MAP, with its place and attributes, on standard output, as a command text that makes it anew."""
     beside = Beside(map_path)
     with client.open(map_path) as m:
         beside.settle(m.edition())
-        for line in dump_of(m, beside.place(m.side)):
+        for line in dump_of(m, beside):
             sys.stdout.write(line)
     sys.stdout.flush()
-    if beside.attributes.exists():
-        click.echo(f"quilt-dump: {beside.attributes} has the attributes, which are no part of the text: copy it", err=True)
 
 
 @click.command(context_settings={"help_option_names": ["-h", "--help"]})
@@ -209,13 +234,18 @@ def dump(map_path: str) -> None:
 def restore(map_path: str, text: BinaryIO, pages: Optional[int], level: Optional[int], format: Optional[int]) -> None:
     """Make MAP of a TEXT that quilt-dump put, or of standard input."""
     head, lines = head_of(text)
+    beside = Beside(map_path)
+    taken = next((layer for layer in head.tables if not beside.is_free(layer)), None)
+    if taken is not None:
+        raise Failure(f"{beside.attributes} has a layer {taken} that is no attributes: give the map another name")
     with new_map(map_path, pages or head.pages, level or head.level) as m:
         edition = restore_into(m, head, lines, format or head.format)
         used, most = m.records()
         place = head.place(m.side)
         if place is not None:
-            beside = Beside(map_path)
             place.write(beside.world, beside.projection)
+        if head.tables:
+            beside.put_tables(head.tables)
     click.echo(f"records: {used} of {most}\nedition {edition}")
 
 

@@ -44,6 +44,7 @@ class Making:
     upgrade: bool = False
     level: Optional[int] = None
     pages: Optional[int] = None
+    replace: bool = False
 
 
 # From the source.
@@ -120,8 +121,8 @@ def check_planes(source_crs: object, found: Optional[Place]) -> None:
 def import_source(path: str, source: str, layer: str, choices: Choices, making: Making) -> list[str]:
     """Puts a source into a map as a layer, and publishes it. Gives the lines of a report.
 
-    Nothing is published, and nothing beside the map changes, unless all of it went in. Raises Failure,
-    BadSource, BadPlace, QuiltError.
+    Nothing is published, and nothing beside the map changes, unless all of it went in: of a layer that is
+    replaced the edition has the new one in the place of the old. Raises Failure, BadSource, BadPlace, QuiltError.
     """
     beside = Beside(path)
     if beside.attributes.exists() and os.path.exists(source) and os.path.samefile(source, beside.attributes):
@@ -132,11 +133,14 @@ def import_source(path: str, source: str, layer: str, choices: Choices, making: 
     with _opened(path, making) as m:
         if not is_new:
             beside.settle(m.edition())
-        if m.layer(layer) is not None:
-            raise Failure(f"the map has a layer {layer}: drop it, or give another name by --layer")
+        is_there = m.layer(layer) is not None
+        if is_there and not making.replace:
+            raise Failure(f"the map has a layer {layer}: replace it by --replace, or give another name by --layer")
         found = None if is_new else beside.place(m.side)
         content, place = read_source(source, choices, found, m.side)
         _make_ready(m, content, making)
+        if is_there:
+            m.drop(layer)
         _send(m, layer, content, making)
         used, most = m.records()
         beside.prepare(m.edition() + 1, place if found is None else None, layer, content.table)
@@ -146,7 +150,8 @@ def import_source(path: str, source: str, layer: str, choices: Choices, making: 
             beside.discard()
             raise
         beside.accept()
-    return [*content.tally.lines(source, layer, content.kind), f"records: {used} of {most}", f"edition {edition}"]
+    replaced = [f"in the place of the layer {layer} that was there"] if is_there else []
+    return [*content.tally.lines(source, layer, content.kind), *replaced, f"records: {used} of {most}", f"edition {edition}"]
 
 
 @contextmanager
@@ -188,7 +193,7 @@ def _send(m: Map, layer: str, content: Content, making: Making) -> None:
     except Refused as refused:
         if refused.word != "full":
             raise
-        raise Failure(_no_room(m, content)) from None
+        raise Failure(_no_room(m, layer, content)) from None
 
 
 def _send_region(m: Map, layer: str, content: Content) -> None:
@@ -211,9 +216,11 @@ def _send_segments(m: Map, layer: str, content: Content, threshold: int) -> None
     m.ask_all(f"line {layer} {id} {x1} {y1} {x2} {y2}" for id, (x1, y1, x2, y2) in numbered)
 
 
-def _no_room(m: Map, content: Content) -> str:
-    """What to do where a layer does not fit."""
+def _no_room(m: Map, layer: str, content: Content) -> str:
+    """What to do where a layer does not fit, though one that it is to replace is gone."""
     m.revert()
+    if m.layer(layer) is not None:
+        m.drop(layer)
     used, most = m.records()
     need = "more" if content.colours is None else str(blocks_of(content.colours) + 1)
     advice = "drop layers, or move the map into a file of more pages by quilt-dump and quilt-restore"
@@ -250,12 +257,13 @@ def classes_of(_: click.Context, __: click.Parameter, text: Optional[str]) -> Op
 @click.option("--new", "level", type=click.IntRange(1, 12), metavar="LEVEL", help="Make the map, with 2^LEVEL pixels a side.")
 @click.option("--pages", type=click.IntRange(16, 30000), help="How many pages a new map has, else as many as its level may need.")
 @click.option("--upgrade", is_flag=True, help="Upgrade the file to format 2 where the layer needs it.")
+@click.option("--replace", is_flag=True, help="Take the place of a layer of that name, of whatever kind, where there is one.")
 @in_one_line
 def main(map_path: str, source: str, layer: Optional[str], level: Optional[int], pages: Optional[int], capacity: int,
-         threshold: int, upgrade: bool, **options: object) -> None:
+         threshold: int, upgrade: bool, replace: bool, **options: object) -> None:
     """Put SOURCE, any raster or vector source that GDAL opens, into MAP as a layer, and publish it."""
     name = layer_name(layer) if layer is not None else layer_name_from(source)
-    making = Making(capacity, threshold, upgrade, level, pages)
+    making = Making(capacity, threshold, upgrade, level, pages, replace)
     for line in import_source(map_path, source, name, Choices(**options), making):  # type: ignore[arg-type]
         click.echo(line)
 

@@ -36,6 +36,9 @@ _NEAR = 1e-6
 #: How many pixels a side a source may have under one of a map, to be read without a warp.
 _DENSER = 2
 
+#: How many rows of a square are read from a raster at once.
+ROWS = 512
+
 _SORTS = {"Point": "points", "LineString": "lines", "Polygon": "region"}
 _WORDS = {"points": "points", "lines": "lines", "region": "polygons"}
 
@@ -287,10 +290,19 @@ class RasterSource:
 
     def read(self, place: Place, window: Optional[Window] = None) -> "np.ma.MaskedArray":
         """The values at the middles of the pixels of a place, or of a window of it, masked where there is none."""
-        window = window or Window(0, 0, place.side, place.side)
         with _opened_raster(self.source) as raster:
-            pixels = self._pixels_under(place, window)
-            values = self._warped(raster, place, window) if pixels is None else self._picked(raster, *pixels)
+            return self._read(raster, place, window or Window(0, 0, place.side, place.side))
+
+    def rows(self, place: Place) -> "Iterator[tuple[slice, np.ma.MaskedArray]]":
+        """The same of all rows of a place, some at a time: which, and the values."""
+        with _opened_raster(self.source) as raster:
+            for begin in range(0, place.side, ROWS):
+                end = min(begin + ROWS, place.side)
+                yield slice(begin, end), self._read(raster, place, Window(0, begin, place.side, end - begin))
+
+    def _read(self, raster: rasterio.DatasetReader, place: Place, window: Window) -> "np.ma.MaskedArray":
+        pixels = self._pixels_under(place, window)
+        values = self._warped(raster, place, window) if pixels is None else self._picked(raster, *pixels)
         if values.dtype.kind == "f":
             values[~np.isfinite(values.data)] = np.ma.masked
         return values

@@ -43,18 +43,24 @@ def test_parts_of_rings_have_the_same_pixels(seed):
 def test_rings_without_corners_that_do_not_matter(seed):
     numbers = np.random.default_rng(seed)
     ring = cleaned(numbers.integers(-12, 21, (numbers.integers(3, 40), 2)))
-    short = trimmed(ring, 8)
+    short = trimmed(ring, 8, 8)
     assert (even_odd([short], 8) == even_odd([ring], 8)).all()
     assert len(short) <= len(ring)
     beside = (short <= 0).any(axis=1) | (short >= 8).any(axis=1)
     assert np.count_nonzero(~beside) == np.count_nonzero(((ring > 0) & (ring < 8)).all(axis=1))
+    # First for a row of squares, and then for one of them.
+    in_row = trimmed(ring, 16, 8)
+    for left in (0, 8):
+        there = ring - [left, 0]
+        assert (even_odd([trimmed(in_row - [left, 0], 8, 8)], 8) == even_odd([there], 8)).all()
 
 
 def test_a_ring_far_around_or_beside_has_hardly_a_corner():
     turns = np.linspace(0, 2 * np.pi, 10_000, endpoint=False)
     ring = np.rint(500 * np.stack([np.cos(turns), np.sin(turns)], axis=1)).astype(int)
-    assert 4 <= len(trimmed(ring, 8)) <= 8 and even_odd([trimmed(ring, 8)], 8).all()
-    assert len(trimmed(ring + 1000, 8)) == 0
+    short = trimmed(ring, 8, 8)
+    assert 4 <= len(short) <= 8 and even_odd([short], 8).all()
+    assert len(trimmed(ring + 1000, 8, 8)) == 0
 
 
 def test_a_ring_of_many_corners_has_few_parts():

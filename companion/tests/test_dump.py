@@ -2,6 +2,9 @@
 
 import subprocess
 
+import fiona
+import numpy as np
+import pandas as pd
 import pytest
 from affine import Affine
 from pyproj import CRS
@@ -134,7 +137,51 @@ def test_the_place_goes_with_the_text(make_map, done, tmp_path):
     assert Beside(other).place(8).crs == place.crs
 
 
-def test_attributes_are_named_as_no_part_of_the_text(call, make_map):
+def with_attributes(path, rows=3):
+    """Gives the map layers with attributes: numbers, texts of many letters, and values that are not there."""
+    with quiltmap.open(path) as m:
+        m.region("a", 0)
+        m.points("p")
+        m.publish()
+    tables = {
+        "a": pd.DataFrame({"colour": range(rows), "name": [f"Wald-Straße\n\"{i}\" 𝄞" for i in range(rows)]}),
+        "p": pd.DataFrame({"label": [7, 8], "height": [0.1, np.nan], "kind": [None, "well"], "is_deep": [True, False]}),
+        "gone": pd.DataFrame({"colour": [1]}),
+    }
+    Beside(path).put_tables(tables)
+
+
+@pytest.mark.parametrize("rows", [0, 3, 5_000])
+def test_the_attributes_go_with_the_text(make_map, done, program, tmp_path, rows):
+    path, other = make_map(3), tmp_path / "other"
+    with_attributes(path, rows)
+    text = "\n".join(done("quilt-dump", path)) + "\n"
+    done("quilt-restore", other, "--level", 4, text=text.encode())
+    for layer in ("a", "p"):
+        pd.testing.assert_frame_equal(Beside(other).table(layer), Beside(path).table(layer))
+    assert Beside(other).table("gone") is None
+    assert "\n".join(done("quilt-dump", other)).split("\n")[1:] == text.rstrip("\n").split("\n")[1:]
+    quiltmap.new(tmp_path / "plain", 300, 3)
+    assert subprocess.run([program, "run", tmp_path / "plain"], input=text.encode(), stdout=subprocess.PIPE).returncode == 0
+
+
+def test_attributes_that_cannot_be_restored_are_told(make_map, done, refused, tmp_path):
     path = make_map(3)
-    Beside(path).attributes.touch()
-    assert "copy it" in call("quilt-dump", path).stderr
+    with_attributes(path)
+    lines = done("quilt-dump", path)
+    cut = "\n".join(line[:-3] if line.startswith("# attributes p") else line for line in lines)
+    assert "the attributes of p in the text are not whole" in refused("quilt-restore", tmp_path / "cut", text=cut.encode())
+    schema = {"geometry": "Point", "properties": {}}
+    with fiona.open(tmp_path / "taken.gpkg", "w", driver="GPKG", layer="a", schema=schema, crs="EPSG:32617"):
+        pass
+    assert "another name" in refused("quilt-restore", tmp_path / "taken", text="\n".join(lines).encode())
+    assert sorted(file.name for file in tmp_path.iterdir()) == ["map", "map.gpkg", "taken.gpkg"]
+
+
+def test_other_attributes_of_the_file_stay(make_map, done, tmp_path):
+    path, other = make_map(3), tmp_path / "other"
+    with_attributes(path)
+    Beside(other).put_tables({"a": pd.DataFrame({"colour": [99]}), "mine": pd.DataFrame({"colour": [5]})})
+    done("quilt-restore", other, text="\n".join(done("quilt-dump", path)).encode())
+    assert Beside(other).table("mine")["colour"].tolist() == [5]
+    assert Beside(other).table("a")["colour"].tolist() == [0, 1, 2]

@@ -432,6 +432,50 @@ def test_a_layer_that_is_there_is_told(make_map, write, done, refused):
     assert state_of(path) == before
 
 
+@pytest.mark.parametrize("old", ["region", "points", "lines"])
+def test_a_layer_is_replaced_whatever_its_kind(make_map, write, done, old):
+    path = make_map(6)
+    shapes = {"region": box(1000, 2000, 1100, 2100), "points": Point(1555, 2555), "lines": LineString([(1000, 2000), (1300, 2300)])}
+    done("quilt-import", path, write([box(1300, 2300, 1400, 2400)], "kept.gpkg"), *BOUNDS, "--layer", "kept")
+    said = done("quilt-import", path, write([shapes[old]], "old.gpkg", was=["old"]), "--layer", "a", "--replace")
+    assert not any("in the place of" in line for line in said)
+    for number, (kind, shape) in enumerate(shapes.items()):
+        said = done("quilt-import", path, write([shape], f"{kind}.gpkg", new=[kind]), "--layer", "a", "--replace")
+        assert "in the place of the layer a that was there" in said
+        assert said[-1] == f"edition {number + 3}"
+        with quiltmap.open(path) as m:
+            assert [(layer.name, layer.kind) for layer in m.layers()] == [("a", kind), ("kept", "region")]
+        table = Beside(path).table("a")
+        assert table["new"].tolist() == [kind] and "was" not in table
+    assert shown(path, "kept").sum() == 100
+
+
+def test_a_layer_that_is_replaced_makes_room_for_the_new_one(make_map, write_raster, done):
+    path = make_map(6, 16)
+    half = np.zeros((64, 64), np.uint8)
+    half[:20, :20] = np.indices((20, 20)).sum(axis=0) % 2
+    done("quilt-import", path, write_raster(half), "--layer", "a")
+    with quiltmap.open(path) as m:
+        used, most = m.records()
+    assert 2 * used > most
+    done("quilt-import", path, write_raster(half.T[::-1], name="turned.tif"), "--layer", "a", "--replace")
+    assert (shown(path, "a") == half.T[::-1]).all()
+
+
+def test_a_layer_that_cannot_be_replaced_stays(make_map, write, write_raster, done, refused):
+    path = make_map(6, 16)
+    source = write([box(1000, 2000, 1100, 2100)], use=["wood"])
+    done("quilt-import", path, source, *BOUNDS, "--layer", "a")
+    before = state_of(path)
+    chequered = (np.indices((64, 64)).sum(axis=0) % 2).astype(np.uint8)
+    said = refused("quilt-import", path, write_raster(chequered), "--layer", "a", "--replace")
+    assert "the layer has 4097 records, and 512 of 512 are free" in said
+    assert "no column" in refused("quilt-import", path, source, "--layer", "a", "--replace", "--burn", "nosuch")
+    wide = write_raster(np.full((64, 64), 300, np.uint16), name="wide.tif")
+    assert "--upgrade" in refused("quilt-import", path, wide, "--layer", "a", "--replace")
+    assert state_of(path) == before
+
+
 def test_a_map_that_would_be_full_is_as_it_was(make_map, write, write_raster, refused):
     path = make_map(6, 16)
     before = state_of(path)
@@ -500,17 +544,22 @@ importer.main()
 """
 
 
+def import_killed(where, *words):
+    """An import that is killed at this point. Gives whether its edition was published before."""
+    module, _, name = STOPS[where].partition(".")
+    environment = {**os.environ, "PYTHONPATH": str(Path(quiltmap.__file__).parents[1])}
+    started = [sys.executable, "-c", KILLED.format(module=module, name=name), *words]
+    assert subprocess.run(started, env=environment).returncode == -signal.SIGKILL
+    return where == "before the files get their names"
+
+
 @pytest.mark.parametrize("where", STOPS)
 def test_an_import_that_is_killed_leaves_all_as_it_was_or_all_that_is_new(make_map, write, done, where):
     path = make_map(4)
     done("quilt-import", path, write([box(0, 0, 9, 9)]), "--layer", "a")
     before = state_of(path)
     source = write([LineString([(0, 0), (5, 5), (9, 0)])], "lines.gpkg")
-    module, _, name = STOPS[where].partition(".")
-    environment = {**os.environ, "PYTHONPATH": str(Path(quiltmap.__file__).parents[1])}
-    words = [sys.executable, "-c", KILLED.format(module=module, name=name), path, source, "--layer", "l"]
-    assert subprocess.run(words, env=environment).returncode == -signal.SIGKILL
-    published = where == "before the files get their names"
+    published = import_killed(where, path, source, "--layer", "l")
     with quiltmap.open(path) as m:
         assert [layer.name for layer in m.layers()] == (["a", "l"] if published else ["a"])
         Beside(path).settle(m.edition())
@@ -520,6 +569,22 @@ def test_an_import_that_is_killed_leaves_all_as_it_was_or_all_that_is_new(make_m
         done("quilt-import", path, source, "--layer", "l")
     assert not [name for name in state_of(path) if name.endswith((".new", ".import"))]
     assert Beside(path).table("l")["last"].tolist() == [2]
+
+
+@pytest.mark.parametrize("where", STOPS)
+def test_a_replacement_that_is_killed_leaves_the_old_layer_or_the_new(make_map, write, done, where):
+    path = make_map(4)
+    done("quilt-import", path, write([box(0, 0, 9, 9)], "old.gpkg", old=["o"]), "--layer", "a")
+    before = state_of(path)
+    source = write([LineString([(0, 0), (5, 5), (9, 0)])], "lines.gpkg", new=["n"])
+    published = import_killed(where, path, source, "--layer", "a", "--replace")
+    with quiltmap.open(path) as m:
+        assert m.layer("a").kind == ("lines" if published else "region")
+        Beside(path).settle(m.edition())
+    assert ("new" if published else "old") in Beside(path).table("a")
+    if not published:
+        assert state_of(path) == before
+    assert not [name for name in state_of(path) if name.endswith((".new", ".import"))]
 
 
 def test_mixed_collections_give_each_sort(make_map, write, done):

@@ -6,6 +6,7 @@ import rasterio
 from affine import Affine
 from rasterio.windows import Window
 
+from quiltmap import sources
 from quiltmap.place import Place
 from quiltmap.sources import RasterSource, read_raster
 
@@ -59,6 +60,22 @@ def test_what_is_picked_is_what_is_warped(tmp_path, monkeypatch, number):
         assert picked.shape == warped.shape and picked.dtype == warped.dtype
         assert (np.ma.getmaskarray(picked) == np.ma.getmaskarray(warped)).all()
         assert (picked.filled(0) == warped.filled(0)).all()
+
+
+@pytest.mark.parametrize("number", range(20))
+@pytest.mark.parametrize("is_picked", [True, False])
+def test_rows_in_turn_are_those_of_the_whole(tmp_path, monkeypatch, number, is_picked):
+    random = np.random.default_rng(number)
+    source = drawn(random, tmp_path / "source.tif", number)
+    place = place_beside(random, source, 32)
+    if not is_picked:
+        monkeypatch.setattr(RasterSource, "_pixels_under", lambda *_: None)
+    monkeypatch.setattr(sources, "ROWS", 7)
+    whole = source.read(place)
+    turns = list(source.rows(place))
+    assert [rows for rows, _ in turns] == [slice(begin, min(begin + 7, 32)) for begin in range(0, 32, 7)]
+    assert (np.concatenate([np.ma.getmaskarray(values) for _, values in turns]) == np.ma.getmaskarray(whole)).all()
+    assert (np.concatenate([values.filled(0) for _, values in turns]) == whole.filled(0)).all()
 
 
 def test_what_is_far_denser_turned_or_in_another_system_is_warped(tmp_path):

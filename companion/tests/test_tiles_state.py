@@ -2,11 +2,13 @@
 
 import contextlib
 import errno
+import fcntl
 import json
 import os
 import signal
 import subprocess
 import sys
+import tempfile
 import threading
 import time
 from pathlib import Path
@@ -67,6 +69,14 @@ def test_a_new_grid(program, quick_path):
     with pytest.raises(quiltmap.Ended, match="usage"):
         tiles.new(str(quick_path / "few"), 1, 1, 4, 15)
     assert sorted(path.name for path in quick_path.iterdir()) == ["grid"]
+
+
+def test_a_new_grid_where_there_is_no_room_in_memory(program, quick_path, monkeypatch):
+    for folder, name in ((quick_path / "missing", "a"), (Path("/proc"), "b")):
+        monkeypatch.setattr(store, "_MEMORY", folder)
+        tiles.new(str(quick_path / name), 2, 1, 3, 20, map_format=2)
+        assert is_whole(opened(quick_path / name)) and opened(quick_path / name).format == 2
+        assert sorted(path.name for path in (quick_path / name).iterdir()) == ["changes", "manifest.json", "tiles"]
 
 
 def test_what_is_no_grid(program, quick_path):
@@ -130,6 +140,143 @@ def test_a_copy_where_the_system_copies_no_range(tmp_path, monkeypatch):
     assert (tmp_path / "copy").read_bytes() == (tmp_path / "file").read_bytes()
 
 
+# Old files, which are written anew.
+
+
+@pytest.fixture
+def leases(tmp_path, quick_path):
+    """Skips a test where a file system does not tell whether a file is open elsewhere: files are then not written anew."""
+    for folder in (tmp_path, quick_path):
+        with tempfile.TemporaryFile(dir=folder) as file:
+            try:
+                fcntl.fcntl(file, fcntl.F_SETLEASE, fcntl.F_WRLCK)
+            except OSError:
+                pytest.skip(f"the file system of {folder} has no leases")
+
+
+def pages_of(random, count, size):
+    """A file of pages of zeros and others."""
+    return b"".join(bytes([value]) * 4096 for value in random.integers(0, 4, count))[:size]
+
+
+@pytest.mark.parametrize("seed", range(20))
+def test_a_file_that_no_one_needs_is_made_another_by_the_pages_that_differ(leases, tmp_path, monkeypatch, seed):
+    random = np.random.default_rng(seed)
+    home = int(random.integers(16, 700))
+    size = (3 + 2 * home) * 4096
+    # A gate of 1 is open: then the slots, which lie behind the home pages, count; some files are none of this form.
+    whole = bytearray(pages_of(random, 3 + home, size) + pages_of(random, home, size))
+    whole[4096] = seed % 2
+    whole = bytes(whole if seed % 5 else whole[:-100])
+    counting = len(whole) if seed % 2 or not seed % 5 else (3 + home) * 4096
+    used = [page for page in range(0, counting, 4096) if random.random() < 0.3]
+    there = bytearray(whole)
+    for page in used:
+        there[page : page + 4096] = random.bytes(4096)
+    (tmp_path / "source").write_bytes(whole)
+    (tmp_path / "target").write_bytes(there[: len(whole)])
+    store.copy_thin(tmp_path / "source", tmp_path / "thin")
+    store.copy_map(tmp_path / "thin", tmp_path / "copy")
+    written = []
+    pwrite = os.pwrite
+    monkeypatch.setattr(os, "pwrite", lambda file, data, place: written.append(len(data)) or pwrite(file, data, place))
+    assert store.rewrite_map(tmp_path / "thin", tmp_path / "target")
+    assert (tmp_path / "target").read_bytes() == (tmp_path / "copy").read_bytes()
+    assert (tmp_path / "copy").read_bytes()[:counting] == whole[:counting]
+    assert sum(written) <= len(used) * 4096
+
+
+def test_a_file_that_someone_has_or_that_has_two_names_is_left_as_it_is(leases, tmp_path, monkeypatch):
+    (tmp_path / "source").write_bytes(b"new")
+    target = tmp_path / "target"
+    target.write_bytes(b"old")
+    for mode in ("rb", "r+b"):
+        with open(target, mode):
+            assert not store.rewrite_map(tmp_path / "source", target)
+    os.link(target, tmp_path / "backup")
+    assert not store.rewrite_map(tmp_path / "source", target)
+    (tmp_path / "backup").unlink()
+    with monkeypatch.context() as patch:
+
+        def refuse(*_):
+            raise OSError(errno.EINVAL, "there are no leases here")
+
+        patch.setattr(fcntl, "fcntl", refuse)
+        assert not store.rewrite_map(tmp_path / "source", target)
+    assert target.read_bytes() == b"old"
+    assert store.rewrite_map(tmp_path / "source", target) and target.read_bytes() == b"new"
+
+
+def test_who_opens_a_file_that_is_written_anew_waits(leases, tmp_path, monkeypatch):
+    (tmp_path / "source").write_bytes(b"new" * 9000)
+    (tmp_path / "target").write_bytes(b"old" * 9000)
+    found = []
+    readers = [threading.Thread(target=lambda: found.append((tmp_path / "target").read_bytes()))]
+    pwrite = os.pwrite
+
+    def slow(file, data, place):
+        if not readers[0].is_alive():
+            readers[0].start()
+            time.sleep(0.3)
+        return pwrite(file, data, place)
+
+    monkeypatch.setattr(os, "pwrite", slow)
+    assert store.rewrite_map(tmp_path / "source", tmp_path / "target")
+    readers[0].join()
+    assert found == [b"new" * 9000]
+
+
+def file_of(folder, name="c0r0"):
+    return (folder / "grid" / "tiles" / name).stat().st_ino
+
+
+def test_the_old_file_of_a_tile_becomes_the_next_one(leases, program, quick_path):
+    tiles.new(str(quick_path / "grid"), 2, 1, 3, 16)
+    grid = opened(quick_path / "grid")
+    grid.region("a", 4)
+    files = [file_of(quick_path)]
+    for colour in range(5, 9):
+        grid.set("a", 0, 0, colour)
+        assert file_of(quick_path, "c0r0.old") == files[-1]
+        files.append(file_of(quick_path))
+        assert grid.show("a", 0, 0, 2, 1).tolist() == [[colour, 4]] and is_whole(grid)
+    assert files[0] == files[2] == files[4] != files[1] == files[3]
+    # They may be taken away at any time, and what has a second name stays as it is.
+    for path in (quick_path / "grid" / "tiles").glob("*.old"):
+        path.unlink()
+    os.link(quick_path / "grid" / "tiles" / "c0r0", quick_path / "backup")
+    backup = (quick_path / "backup").read_bytes()
+    for colour in range(1, 4):
+        grid.rect("a", 0, 0, 16, 8, colour)
+    assert grid.area("a", 3) == 128 and is_whole(grid) and (quick_path / "backup").read_bytes() == backup
+
+
+def test_who_has_the_tile_of_a_state_long_past_keeps_it(program, quick_path):
+    tiles.new(str(quick_path / "grid"), 2, 1, 6, 300)
+    grid = opened(quick_path / "grid")
+    board = np.random.default_rng(1).integers(0, 200, (64, 128)).astype(np.uint8)
+    grid.region("a", 0)
+    grid.raster("a", board)
+    with quiltmap.open(quick_path / "grid" / "tiles" / "c0r0", pool=8) as m:
+        for colour in (1, 2, 3):
+            grid.rect("a", 0, 0, 128, 64, colour)
+            assert (m.show("a", 0, 0, 64, 64) == board[:, :64]).all()
+    assert grid.area("a", 3) == 64 * 128 and is_whole(grid)
+
+
+def test_a_file_system_that_has_no_second_names(program, quick_path, monkeypatch):
+    def refuse(*_):
+        raise OSError(errno.EPERM, "no second names")
+
+    monkeypatch.setattr(os, "link", refuse)
+    tiles.new(str(quick_path / "grid"), 2, 1, 3, 16)
+    grid = opened(quick_path / "grid")
+    grid.region("a", 4)
+    grid.rect("a", 6, 0, 4, 1, 5)
+    assert grid.area("a", 5) == 4 and is_whole(grid)
+    assert sorted(path.name for path in (quick_path / "grid" / "tiles").iterdir()) == ["c0r0", "c1r0"]
+
+
 def test_a_grid_whose_manifest_names_no_change(program, quick_path):
     tiles.new(str(quick_path / "grid"), 2, 1, 2, 16)
     manifest = quick_path / "grid" / "manifest.json"
@@ -162,7 +309,7 @@ def changed_until(folder, change, count):
 
         try:
             grid = opened(folder)
-            for name in ("mkdir", "copy_file_range", "pwrite", "rename", "fsync", "replace", "unlink", "rmdir"):
+            for name in ("mkdir", "copy_file_range", "pwrite", "ftruncate", "rename", "fsync", "link", "replace", "unlink", "rmdir"):
                 setattr(os, name, stopping(getattr(os, name)))
             quiltmap.Map.publish = stopping(quiltmap.Map.publish)
             change(grid)

@@ -9,15 +9,16 @@ pytest.importorskip("distributed", reason="python3-distributed is not installed:
 
 from shapely.geometry import LineString, Point, box  # noqa: E402
 
+from quiltmap.tiles import whole  # noqa: E402
 from quiltmap.tiles.frame import Frame  # noqa: E402
 from quiltmap.tiles.whole import (  # noqa: E402
+    NO_SEGMENTS,
     clip_range,
     cut,
     meets_colour,
     meets_windows,
-    part_in,
+    parts_in,
     pixels_met,
-    rounded,
     share_a_point,
     split,
     square_distance,
@@ -94,11 +95,44 @@ def test_pairs_that_share_a_point():
 
 
 def test_halves_are_rounded_up():
-    assert [rounded(Fraction(n, 2)) for n in range(5)] == [0, 1, 1, 2, 2]
-    assert part_in((0, 1, 15, 2), (0, 0), 8) == (0, 1, 7, 2)  # (8, 1 8/15): the last pixel, and 1.53 is 2
-    assert part_in((0, 1, 15, 2), (8, 0), 8) == (0, 2, 7, 2)
-    assert part_in((0, 0, 8, 1), (0, 0), 4) == (0, 0, 3, 1)  # (4, 1/2): of two the greater
-    assert part_in((0, 0, 3, 3), (4, 0), 4) is None
+    def part_in(segment, corner, side):
+        return parts_in(np.array([[7, *segment]]), np.array([corner]), side).tolist()
+
+    assert part_in((0, 1, 15, 2), (0, 0), 8) == [[7, 0, 1, 7, 2]]  # (8, 1 8/15): the last pixel, and 1.53 is 2
+    assert part_in((0, 1, 15, 2), (8, 0), 8) == [[7, 0, 2, 7, 2]]
+    assert part_in((0, 0, 8, 1), (0, 0), 4) == [[7, 0, 0, 3, 1]]  # (4, 1/2): of two the greater
+    assert parts_in(NO_SEGMENTS, np.empty((0, 2), np.int64), 4).tolist() == []
+
+
+def rounded(place):
+    """The whole number nearest to a place, and of two the greater."""
+    return int((2 * place + 1) // 2)
+
+
+@pytest.mark.parametrize("most, level", [(60, 3), (2**20, 12), (2**20, 17)])
+def test_parts_are_cut_by_exact_fractions(most, level):
+    frame = Frame(-(-most >> level), -(-most >> level), level)
+    side = frame.side
+    segments = drawn(most, 200, most, most)
+    segments[40:100, 3:] = np.clip(segments[40:100, 1:3] + np.random.default_rng(1).integers(-3 * side, 3 * side, (60, 2)), 0, most - 1)
+    which, columns, rows = tiles_met(frame, segments).T
+    corners = np.column_stack([columns, rows]) * side
+    found = parts_in(segments[which], corners, side)
+    assert len(found) > 300 and found[:, 0].tolist() == segments[which, 0].tolist()
+    for part, (_, x1, y1, x2, y2), (left, top) in zip(found[:2000].tolist(), segments[which].tolist(), corners.tolist()):
+        span = range_by_stops((x1, y1, x2, y2), (left, top, left + side, top + side))
+        ends = [(x1 + t * (x2 - x1) - left, y1 + t * (y2 - y1) - top) for t in span]
+        assert part[1:] == [min(rounded(place), side - 1) for end in ends for place in end]
+
+
+def test_tiles_that_many_segments_meet_are_found_in_bundles(monkeypatch):
+    frame = Frame(7, 5, 3)
+    segments = drawn(8, 300, frame.width, frame.height)
+    found = tiles_met(frame, segments).tolist()
+    assert found == sorted(found, key=lambda met: (met[0], met[2], met[1]))
+    monkeypatch.setattr(whole, "_AT_ONCE", 3)
+    assert tiles_met(frame, segments).tolist() == found
+    assert tiles_met(frame, segments[:0]).shape == (0, 3)
 
 
 @pytest.mark.parametrize("columns, rows, level", [(2, 3, 5), (3, 2, 3), (1, 4, 4), (5, 5, 3)])
@@ -114,15 +148,15 @@ def test_nothing_is_lost_at_an_edge(columns, rows, level):
     is_own = set(own[:, 0].tolist())
     for id, *ends in segments.tolist():
         met = {key for key in frame.tiles() if range_by_stops(ends, (*frame.origin(key), *(place + side for place in frame.origin(key))))}
-        assert {key for key in kept if id in kept[key]} == met == set(tiles_met(frame, np.array([id, *ends])))
+        assert {key for key in kept if id in kept[key]} == met == {(i, j) for _, i, j in tiles_met(frame, np.array([[id, *ends]])).tolist()}
         assert (len(met) == 1) == (id in is_own)
-        whole = line([id, *ends])
+        exactly = line([id, *ends])
         for key in met:
             x, y = frame.origin(key)
             part = line([id, *(kept[key][id] + np.array([x, y, x, y]))])
             assert all(0 <= place < side for place in kept[key][id])
             if id in is_own:
-                assert part.equals(whole)
+                assert part.equals(exactly)
             # No place of the part was moved by more than a pixel in x and in y: neither away from where it was, nor out of reach.
-            exact = whole.intersection(box(x, y, x + side, y + side))
+            exact = exactly.intersection(box(x, y, x + side, y + side))
             assert part.hausdorff_distance(exact) <= 2**0.5 + 1e-9

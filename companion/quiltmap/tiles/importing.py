@@ -11,7 +11,6 @@ import numpy as np
 import pandas as pd
 from affine import Affine
 from numpy.typing import NDArray
-from rasterio.windows import Window
 
 from ..beside import sync, write_table
 from ..burning import Lines, Ring
@@ -22,7 +21,7 @@ from ..contents import (
     MOST_LABEL,
     Tally,
     clipped,
-    colours_of,
+    colours_in,
     numbers_of,
     rings_by_feature,
     segments_between,
@@ -41,8 +40,7 @@ from .joins import points_by_tile, rings_in_tiles
 from .state import Change, Job, job
 from .whole import NO_SEGMENTS, Segments, cut
 
-#: How many rows of a tile are read from a raster at once, and how many features of a source.
-_ROWS = 512
+#: How many features of a source are read at once.
 AT_ONCE = 10_000
 
 NO_ROWS = np.empty(0, np.int64)
@@ -157,14 +155,8 @@ def _place_of_raster(frame: Frame, raster: RasterSource) -> Place:
 
 
 def paint_raster(m: Map, layer: str, raster: RasterSource, place: Place, classes: Optional[list[float]]) -> int:
-    """Makes a tile's region of what a raster has there, read in windows of some rows. Gives how many pixels have no value."""
-    colours = np.zeros((place.side, place.side), np.uint16)
-    missing = 0
-    for begin in range(0, place.side, _ROWS):
-        end = min(begin + _ROWS, place.side)
-        values = raster.read(place, Window(0, begin, place.side, end - begin))
-        missing += int(np.count_nonzero(np.ma.getmaskarray(values)))
-        colours[begin:end] = colours_of(values, classes)
+    """Makes a tile's region of what a raster has there. Gives how many pixels have no value."""
+    colours, missing = colours_in(raster, place, classes)
     pieces.paint(m, layer, colours)
     return missing
 

@@ -2,7 +2,9 @@
 
 from __future__ import annotations
 
+from itertools import groupby
 from math import isqrt
+from operator import attrgetter
 from typing import Any, Callable, Iterable, Optional
 
 import numpy as np
@@ -66,10 +68,13 @@ def rings_in_tiles(frame: Frame, rings: Iterable[Ring]) -> dict[Key, list[Ring]]
         (left, top), (right, bottom) = ring.min(axis=0).tolist(), ring.max(axis=0).tolist()
         x, y = max(left, 0), max(top, 0)
         w, h = min(right, frame.width) - x, min(bottom, frame.height) - y
-        for part in frame.parts(x, y, w, h) if w > 0 and h > 0 else []:
-            mine = trimmed(ring - np.array(frame.origin(part[:2])), frame.side)
-            if len(mine):
-                found.setdefault(part[:2], []).append(mine)
+        for row, parts in groupby(frame.parts(x, y, w, h) if w > 0 and h > 0 else [], attrgetter("row")):
+            # First what a row of tiles needs, so that not each tile looks at the whole ring.
+            in_row = trimmed(ring - np.array([0, row * frame.side]), frame.width, frame.side)
+            for part in parts:
+                mine = trimmed(in_row - np.array([part.column * frame.side, 0]), frame.side, frame.side)
+                if len(mine):
+                    found.setdefault(part[:2], []).append(mine)
     return found
 
 

@@ -3,29 +3,38 @@
 The folder of a grid holds
 
 - `manifest.json`, the last state of the whole: which edition each tile has in it, the layers, and the files beside;
-- `tiles/c3r12`, the map of column 3 and row 12, both counted from 0 on, to the right and down;
+- `tiles/c3r12`, the map of column 3 and row 12, both counted from 0 on, to the right and down; and `tiles/c3r12.old`, what this
+  was before its last change, which no state needs, and whose room the next change takes;
 - `changes/TOKEN/c3r12`, while a command is under way, this tile as the command leaves it; each command has a token of its own;
 - `grid.wld` and `grid.prj`, the place of the whole; `segments.5.sqlite` and `attributes.5.gpkg`, which came with state 5.
 
-No file in `tiles` is changed in place: a command copies a tile, changes the copy and publishes that. The manifest is replaced as
+No tile is changed in place: a command copies a tile, changes the copy and publishes that. The manifest is replaced as
 a whole once all are published, and names the token; the new files take the places of the old ones then. So a stop leaves the manifest
 before, with its tiles as they were, or the one behind, some of whose tiles still wait in the command's folder.
+
+What a tile was before is kept, so that only the pages that differ have to be written for the next change, and no room of the disk has to be
+freed, which takes as long as writing where the disk is told of it. A file is written anew only while no one else has it open, or could open it.
 """
 
 from __future__ import annotations
 
+import ctypes
 import errno
 import fcntl
 import json
 import os
 import re
 import shutil
+import signal
+import tempfile
 import uuid
 from concurrent.futures import ThreadPoolExecutor
 from contextlib import contextmanager, suppress
 from dataclasses import dataclass, field, replace
 from pathlib import Path
 from typing import Callable, Iterator, NamedTuple, Optional
+
+import numpy as np
 
 from .. import client
 from ..beside import sync
@@ -42,6 +51,12 @@ MOST_TILES = 65_536
 
 _CHUNK = 1 << 20
 _PAGE = 4096
+
+_LIBRARY = ctypes.CDLL(None)
+_SYNC_FILE_RANGE_WRITE = 2
+
+#: The folder of files in memory, where the system has one.
+_MEMORY = Path("/dev/shm")
 
 #: How many files are synced at once.
 _AT_ONCE = 16
@@ -87,6 +102,11 @@ class Tile(NamedTuple):
         return Path(self.folder, "tiles", self.name)
 
     @property
+    def old(self) -> Path:
+        """What the tile was before its last change, where that is kept."""
+        return old_of(self.path)
+
+    @property
     def files(self) -> Iterator[Path]:
         """Where the tile may be, in the order in which it has to be looked for: a new tile goes from the first place to the second."""
         if self.change is not None:
@@ -96,6 +116,11 @@ class Tile(NamedTuple):
     def changed(self, token: str) -> Path:
         """Where the command of a token leaves the tile."""
         return Path(self.folder, "changes", token, self.name)
+
+
+def old_of(path: Path) -> Path:
+    """Where the file is kept that a tile was before its last change."""
+    return path.with_name(path.name + ".old")
 
 
 @dataclass(frozen=True)
@@ -235,7 +260,9 @@ class Store:
             return
         for path in folder.iterdir():
             if _NAME_OF_TILE.fullmatch(path.name):
-                os.replace(path, Path(self.folder, "tiles", path.name))
+                place = Path(self.folder, "tiles", path.name)
+                _keep(place)
+                os.replace(path, place)
         sync(Path(self.folder, "tiles"))
 
     def stop(self, token: str) -> None:
@@ -261,6 +288,14 @@ class Store:
         sync(Path(self.folder))
 
 
+def _keep(path: Path) -> None:
+    """Gives a tile that is about to be replaced a second name, under which it stays; it goes where the file system has no second names."""
+    old = old_of(path)
+    old.unlink(missing_ok=True)
+    with suppress(OSError):
+        os.link(path, old)
+
+
 def copy_file(source: Path, target: Path) -> None:
     """Copies a file, its holes as holes. The target is a new file, which goes where this fails; it need not be on the disk yet."""
     _copy(source, target, _copy_range)
@@ -274,6 +309,42 @@ def copy_map(source: Path, target: Path, is_new: bool = True) -> None:
     _copy(source, target, _copy_range, _counting, is_new)
 
 
+def rewrite_map(source: Path, target: Path) -> bool:
+    """Makes a map file that no state needs what `copy_map` would make of it, and writes the pages alone that differ.
+
+    Tells whether it did: a file stays as it is where it has another name or is open anywhere, and where the file system does not tell. Until
+    it is written no one can open it: who tries waits.
+    """
+    with open(source, "rb") as old, open(target, "r+b", buffering=0) as made:
+        if not _is_alone(made.fileno()):
+            return False
+        size = os.fstat(old.fileno()).st_size
+        counting = _counting(old.fileno(), size)
+        os.ftruncate(made.fileno(), counting)
+        ends = [end for file in (old, made) for _, end in _extents(file.fileno(), counting)]
+        _copy_pages(old.fileno(), made.fileno(), 0, max(ends, default=0))
+        os.ftruncate(made.fileno(), size)
+    return True
+
+
+def _is_alone(descriptor: int) -> bool:
+    """Whether a file has one name, no other descriptor, and no lock, of another machine either; until this descriptor is closed no one opens it then."""
+    try:
+        fcntl.flock(descriptor, fcntl.LOCK_EX | fcntl.LOCK_NB)
+        # The signal that tells the holder of a lease that someone waits for it; by itself this one does nothing.
+        fcntl.fcntl(descriptor, fcntl.F_SETSIG, signal.SIGURG)
+        fcntl.fcntl(descriptor, fcntl.F_SETLEASE, fcntl.F_WRLCK)
+    except OSError:
+        return False
+    return os.fstat(descriptor).st_nlink <= 1
+
+
+def begin_to_write(path: Path) -> None:
+    """Has the system begin to write a file to the disk, and keep it in memory too; who makes the next state waits for all files."""
+    with open(path, "rb") as file:
+        _LIBRARY.sync_file_range(file.fileno(), ctypes.c_int64(0), ctypes.c_int64(0), _SYNC_FILE_RANGE_WRITE)
+
+
 def copy_thin(source: Path, target: Path) -> None:
     """Copies a file, its pages of zeros as holes. The target is a new file, which goes where this fails; it need not be on the disk yet."""
     _copy(source, target, _copy_pages)
@@ -282,7 +353,7 @@ def copy_thin(source: Path, target: Path) -> None:
 def _copy(source: Path, target: Path, copy_part: Callable[[int, int, int, int], None],
           measure: Callable[[int, int], int] = lambda _, size: size, is_new: bool = True) -> None:
     try:
-        with open(source, "rb") as old, open(target, "xb" if is_new else "wb") as made:
+        with open(source, "rb") as old, open(target, "x+b" if is_new else "w+b") as made:
             size = os.fstat(old.fileno()).st_size
             os.ftruncate(made.fileno(), size)
             for begin, end in _extents(old.fileno(), measure(old.fileno(), size)):
@@ -332,11 +403,16 @@ def _copy_range(source: int, target: int, begin: int, end: int) -> None:
 
 
 def _copy_pages(source: int, target: int, begin: int, end: int) -> None:
-    """Copies the pages of a part that are not zeros."""
-    for place in range(begin, end, _PAGE):
-        page = os.pread(source, min(_PAGE, end - place), place)
-        if page.strip(b"\0"):
-            _write(target, page, place)
+    """Copies the pages of a part that the target has otherwise; what it has not yet is zeros."""
+    for place in range(begin, end, _CHUNK):
+        size = min(_CHUNK, end - place)
+        piece, there = os.pread(source, size, place), os.pread(target, size, place)
+        if piece == there:
+            continue
+        wanted, found = (np.frombuffer(data.ljust(_CHUNK, b"\0"), np.uint64).reshape(-1, _PAGE // 8) for data in (piece, there))
+        differs = np.pad((wanted != found).any(axis=1), 1).astype(np.int8)
+        for first, last in np.flatnonzero(np.diff(differs)).reshape(-1, 2).tolist():
+            _write(target, piece[first * _PAGE : last * _PAGE], place + first * _PAGE)
 
 
 def _write(target: int, piece: bytes, place: int) -> int:
@@ -392,15 +468,15 @@ def _make(draft: Path, frame: Frame, pages: int, place: Optional[Place], map_for
 
 def _make_tiles(draft: Path, frame: Frame, pages: int, map_format: int) -> int:
     """Makes one map, and its copies, all with holes where nothing is yet. Gives their edition."""
-    full = draft / "full"
-    client.new(full, pages, frame.level)
-    edition = 0
-    if map_format == 2:
-        with client.open(full) as m:
-            edition = m.upgrade()
-    first, *others = (Tile(os.fspath(draft), column, row, edition).path for column, row in frame.tiles())
-    copy_thin(full, first)
-    full.unlink()
+    with tempfile.TemporaryDirectory(dir=_room_for((3 + 2 * pages) * _PAGE, draft)) as room:
+        full = Path(room, "full")
+        client.new(full, pages, frame.level)
+        edition = 0
+        if map_format == 2:
+            with client.open(full) as m:
+                edition = m.upgrade()
+        first, *others = (Tile(os.fspath(draft), column, row, edition).path for column, row in frame.tiles())
+        copy_thin(full, first)
     sync(first)
 
     def copy(path: Path) -> None:
@@ -411,3 +487,13 @@ def _make_tiles(draft: Path, frame: Frame, pages: int, map_format: int) -> int:
         list(threads.map(copy, others))
     sync(draft / "tiles")
     return edition
+
+
+def _room_for(size: int, other: Path) -> Path:
+    """A folder in memory that has room for so many bytes twice; else the other one."""
+    try:
+        told = os.statvfs(_MEMORY)
+    except OSError:
+        return other
+    has_room = os.access(_MEMORY, os.W_OK) and told.f_bavail * told.f_frsize > 2 * size
+    return _MEMORY if has_room else other

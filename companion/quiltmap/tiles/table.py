@@ -68,8 +68,9 @@ class Draft:
     def add(self, frame: Frame, layer: str, segments: Segments) -> None:
         """Puts shared segments into a layer."""
         self._file.executemany("INSERT INTO segments VALUES (?, ?, ?, ?, ?, ?)", ([layer, *row] for row in segments.tolist()))
-        met = ((layer, *key, int(segment[0])) for segment in segments for key in tiles_met(frame, segment))
-        self._file.executemany("INSERT INTO meets VALUES (?, ?, ?, ?)", met)
+        which, *keys = tiles_met(frame, segments).T
+        met = np.column_stack([*keys, segments[which, 0]])
+        self._file.executemany("INSERT INTO meets VALUES (?, ?, ?, ?)", ([layer, *row] for row in met.tolist()))
 
     def remove(self, layer: str, ids: Iterable[int]) -> None:
         """Takes segments of a layer out."""

@@ -24,6 +24,9 @@ ROUNDING = 1
 
 NO_SEGMENTS = np.empty((0, 5), np.int64)
 
+#: How many tiles are looked at at once, where segments may meet them.
+_AT_ONCE = 1 << 18
+
 
 def meets_windows(segments: Segments, windows: NDArray[np.int64]) -> NDArray[np.bool_]:
     """Whether segments have a point in closed rectangles x1, y1, x2, y2: both of shapes (.., 5) and (.., 4) that broadcast."""
@@ -51,23 +54,29 @@ def clip_range(segment: Iterable[int], window: Iterable[int]) -> Optional[tuple[
     return (begin, end) if begin <= end else None
 
 
-def rounded(place: Fraction) -> int:
-    """The whole number nearest to a place, and of two the greater."""
-    return int((2 * place + 1) // 2)
 
+def parts_in(segments: Segments, corners: NDArray[np.int64], side: int) -> Segments:
+    """The part of each segment in a closed square that it meets, in the square's pixels, under its id.
 
-def part_in(segment: Iterable[int], origin: tuple[int, int], side: int) -> Optional[tuple[int, int, int, int]]:
-    """The part of a segment x1, y1, x2, y2 in a tile's closed square, in the tile's pixels; None where no point is in it.
-
-    Its ends are cut by exact fractions, rounded to the nearest whole numbers, and 2^level is taken to the last pixel.
+    corners: the upper left pixel of each one's square, shape (segments, 2). The ends are cut by exact fractions, in whole numbers, rounded to
+    the nearest whole numbers, and `side` is taken to the last pixel.
     """
-    x1, y1, x2, y2 = map(int, segment)
-    left, top = origin
-    span = clip_range((x1, y1, x2, y2), (left, top, left + side, top + side))
-    if span is None:
-        return None
-    ends = [(x1 + t * (x2 - x1) - left, y1 + t * (y2 - y1) - top) for t in span]
-    return tuple(min(rounded(place), side - 1) for end in ends for place in end)  # type: ignore[return-value]
+    first = segments[:, 1:3] - corners
+    step = segments[:, 3:5] - segments[:, 1:3]
+    # Where a part begins and ends, as fractions of the segment: numerators, and denominators that are positive.
+    begin, end = (np.column_stack([np.full(len(segments), number), np.ones(len(segments), np.int64)]) for number in (0, 1))
+    for axis in (0, 1):
+        ahead = np.abs(step[:, axis])
+        # Of a level or an upright one, whose `ahead` is 0, `enter` is no more than 0 and `leave` no less: neither counts.
+        enter = np.where(step[:, axis] > 0, -first[:, axis], first[:, axis] - side)
+        leave = enter + side
+        is_later = begin[:, 0] * ahead < enter * begin[:, 1]
+        begin[is_later] = np.column_stack([enter, ahead])[is_later]
+        is_earlier = leave * end[:, 1] < end[:, 0] * ahead
+        end[is_earlier] = np.column_stack([leave, ahead])[is_earlier]
+    places = [first * over[:, 1:] + over[:, :1] * step for over in (begin, end)]
+    ends = [(2 * place + over[:, 1:]) // (2 * over[:, 1:]) for place, over in zip(places, (begin, end))]
+    return np.column_stack([segments[:, 0], np.minimum(np.hstack(ends), side - 1)])
 
 
 def _first_tiles(low: NDArray[np.int64], side: int) -> NDArray[np.int64]:
@@ -90,27 +99,36 @@ def split(frame: Frame, segments: Segments) -> tuple[Segments, Segments]:
     return segments[is_own], segments[~is_own]
 
 
-def tiles_met(frame: Frame, segment: NDArray[np.int64]) -> list[Key]:
-    """The tiles whose closed squares a segment meets, row by row."""
-    left, right, top, bottom = (int(bound[0]) for bound in _spans(frame, segment.reshape(1, 5)))
-    keys = [(column, row) for row in range(top, bottom + 1) for column in range(left, right + 1)]
-    corners = np.array(keys, np.int64) * frame.side
-    windows = np.hstack([corners, corners + frame.side])
-    return [key for key, meets in zip(keys, meets_windows(segment, windows)) if meets]
+def tiles_met(frame: Frame, segments: Segments) -> NDArray[np.int64]:
+    """The tiles whose closed squares segments meet: which segment, column and row, segment by segment, and row by row; shape (meetings, 3)."""
+    left, right, top, bottom = _spans(frame, segments)
+    across = right - left + 1
+    counts = across * (bottom - top + 1)
+    found = [np.empty((0, 3), np.int64)]
+    for turn in _bundles(counts):
+        which = np.repeat(turn, counts[turn])
+        place = np.arange(len(which)) - np.repeat(np.cumsum(counts[turn]) - counts[turn], counts[turn])
+        keys = np.column_stack([left[which] + place % across[which], top[which] + place // across[which]])
+        corners = keys * frame.side
+        meets = meets_windows(segments[which], np.hstack([corners, corners + frame.side]))
+        found.append(np.column_stack([which, keys])[meets])
+    return np.concatenate(found)
+
+
+def _bundles(counts: NDArray[np.int64]) -> list[NDArray[np.int64]]:
+    """The numbers from 0 on in bundles whose counts together are about as many as are looked at at once."""
+    begins = np.flatnonzero(np.diff(np.cumsum(counts) // _AT_ONCE, prepend=-1))
+    return np.split(np.arange(len(counts)), begins[1:])
 
 
 def cut(frame: Frame, segments: Segments) -> tuple[dict[Key, Segments], Segments]:
     """The segments of each tile in its own pixels, each under its id in each tile that it meets; and those that are shared, whole."""
     own, shared = split(frame, segments)
-    found: dict[Key, list[Segments]] = {}
-    for key, which in frame.groups(own[:, 1], own[:, 2]).items():
-        x, y = frame.origin(key)
-        found[key] = [own[which] - np.array([0, x, y, x, y])]
-    for segment in shared:
-        for key in tiles_met(frame, segment):
-            part = part_in(segment[1:], frame.origin(key), frame.side)
-            found.setdefault(key, []).append(np.array([[segment[0], *part]], np.int64))
-    return {key: np.concatenate(parts) for key, parts in found.items()}, shared
+    which, columns, rows = tiles_met(frame, shared).T
+    keys = np.concatenate([own[:, 1:3] // frame.side, np.column_stack([columns, rows])])
+    corners = keys * frame.side
+    parts = parts_in(np.concatenate([own, shared[which]]), corners, frame.side)
+    return {key: parts[mine] for key, mine in frame.groups(*corners.T).items()}, shared
 
 
 def square_distance(x: int, y: int, segment: Iterable[int]) -> Fraction:

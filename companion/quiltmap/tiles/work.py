@@ -18,7 +18,7 @@ from typing import Any, Callable, Iterator, Optional
 from .. import client
 from ..client import Map
 from ..errors import Ended, InUse, Refused
-from .store import MovedOn, Tile, copy_map
+from .store import MovedOn, Tile, begin_to_write, copy_map, rewrite_map
 
 #: How many seconds a question waits for a tile that another run has.
 PATIENCE = 60.0
@@ -76,8 +76,8 @@ def change(tile: Tile, pool: Optional[int], token: str, work: Work, *arguments: 
             raise FileNotFoundError
         with _in_memory(tile) as copy:
             told = _changed(tile, copy, pool, work, *arguments)
-            copy_map(copy, draft)
-        _begin_to_write(draft)
+            _put(copy, tile.old, draft)
+        begin_to_write(draft)
         os.rename(draft, made)
         return told
     except (FileNotFoundError, Ended):
@@ -88,10 +88,16 @@ def change(tile: Tile, pool: Optional[int], token: str, work: Work, *arguments: 
         draft.unlink(missing_ok=True)
 
 
-def _begin_to_write(path: Path) -> None:
-    """Has the system write a file to the disk while other tiles are under way; who makes the next state waits for all of them."""
-    with open(path, "rb") as file:
-        os.posix_fadvise(file.fileno(), 0, 0, os.POSIX_FADV_DONTNEED)
+def _put(copy: Path, old: Path, draft: Path) -> None:
+    """Makes the draft a copy, of the old file of the tile where there is one that no one needs any more."""
+    try:
+        os.rename(old, draft)
+    except FileNotFoundError:
+        copy_map(copy, draft)
+        return
+    if not rewrite_map(copy, draft):
+        draft.unlink()
+        copy_map(copy, draft)
 
 
 @contextmanager
