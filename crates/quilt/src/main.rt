@@ -2,6 +2,7 @@
 #![tactic(auto)]
 
 mod report;
+mod room;
 mod run;
 
 use crate::run::run;

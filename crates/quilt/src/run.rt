@@ -6,6 +6,7 @@ ghost use Rattle.quilt_top.specs.Words.{asked_for};
 ghost use Rattle.quilt.specs.Program.{Does, Runs, IfTold, order_of};
 
 use crate::report::report;
+use crate::room::has_room;
 use quilt_host::{Failure, HostWorld, System};
 use quilt_top::{End, run_quilt};
 use std::alloc::{AllocError, Global};
@@ -55,6 +56,9 @@ fn run_words<R: Threads + Sync, S: System>(
     let Ok(texts) = texts_of(alloc, behind_first(words)) else {
         return (End::Memory, system);
     };
+    if !has_room(words.len(), texts.len()) {
+        return (End::Memory, system);
+    }
     let (end, world) = run_quilt(rt, alloc, &texts, HostWorld::new(system));
     (end, world.into_system())
 }
