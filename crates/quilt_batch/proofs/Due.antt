@@ -1,19 +1,19 @@
 -- Each edit of a merge is due where each key that goes is there, and no record that comes is there once those have gone.
-use Rattle.std.proofs.Common.{◌≡◌, Bool, true, false, not, ◌||◌, ◌&&◌, List, [], ◌∷◌, refl, sym, ◌∙◌, ap, subst}
+use Rattle.std.proofs.Common.{◌≡◌, Bool, true, false, not, ◌||◌, ◌&&◌, List, [], ◌∷◌, refl, sym, ◌∙◌, ap}
 use Rattle.std.specs.Prelude.{if◌then◌else◌}
 use Rattle.std.specs.List.{list_any, list_all}
-use Rattle.std.specs.Ordering.{is_lt, is_eq}
+use Rattle.std.specs.Ordering.{is_lt}
 use Rattle.quilt_record.specs.declared.key.Key.{Key}
 use Rattle.quilt_record.specs.declared.record.Record.{Record}
 use Rattle.quilt_record.specs.Records.{key_cmp}
 use Rattle.quilt_record.specs.Lists.{has_key, put, without}
-use Rattle.quilt_record.proofs.Orders.{lt_not_eq, gt_not_eq}
+use Rattle.quilt_record.proofs.Orders.{lt_not_eq}
 use Rattle.quilt_node.specs.Pages.{is_ascending}
 use Rattle.quilt_node.specs.Nodes.{keys_of}
 use Rattle.quilt_node.proofs.Ascending.{and_both, and_parts, is_over, ascending_all, ascending_tail}
 use Rattle.quilt_btree.specs.declared.edit.Edit.{Edit}
 use Rattle.quilt_btree.specs.declared.edit.Edit.TheVariants as edit
-use Rattle.quilt_btree.specs.Batches.{edit_keys, is_due, edited, are_due, removed, added}
+use Rattle.quilt_btree.specs.Batches.{edit_keys, is_due, are_due, removed, added}
 use Rattle.quilt_btree.specs.Runs.{without_all, has_each, has_any}
 use Rattle.quilt_btree.proofs.removals.Takings.{any_without_above, each_after}
 use Rattle.quilt_btree.proofs.batches.Lists.{swap_all, gone_keys}

@@ -1,5 +1,5 @@
 -- How a merge of two lists goes on.
-use Rattle.std.proofs.Common.{◌≡◌, ℕ, ◌+◌, true, false, List, [], ◌∷◌, ◌++◌, drop, length, refl, sym, ◌∙◌, ap, subst, arith}
+use Rattle.std.proofs.Common.{◌≡◌, ◌+◌, true, false, List, [], ◌∷◌, ◌++◌, drop, length, refl, sym, ◌∙◌, ap, subst, arith}
 use Rattle.std.specs.List.{list_all}
 use Rattle.std.specs.Ordering.{is_lt}
 use Rattle.std.proofs.Math.Seq.{append_snoc}
@@ -138,6 +138,14 @@ merged_more og oc run goes [] (edit.Put p) m f = absurd f
 merged_more og oc run [] comes (edit.Replace p) m f = absurd f
 merged_more og oc run (r ∷ goes) [] (edit.Replace p) m f = absurd f
 
+-- where both lists are in the order of their keys, the next edit stands above the others
+pub next_ascends : (og oc : List Record) (run : List Edit) (goes comes : List Record) (e : Edit) → HasMerged og oc run goes comes → IsFirst e goes comes
+    → is_ascending (keys_of og) ≡ true → is_ascending (keys_of oc) ≡ true → is_ascending (edit_keys run ++ key_of e ∷ []) ≡ true
+next_ascends og oc run goes comes e m f a b =
+    let n = merged_more og oc run goes comes e m f in
+    subst (λ l. is_ascending l ≡ true) (keys_last run e)
+    (ascending_front (edit_keys (run ++ e ∷ [])) (keys_of (drop (goes_of e) goes)) (n.order a b).0)
+
 counted : (run : List Edit) → more run + length (removed run) ≡ fewer run + length (added run)
 counted [] = refl
 counted (edit.Remove k ∷ run) = let h = counted run in omega arith
@@ -158,9 +166,9 @@ merged_all og oc run [] [] m none =
     record {
       goes = gone;
       comes = come;
-      order = λ a b. subst (λ l. is_ascending l ≡ true) (append-nil (edit_keys run)) (m.order a b).0;
-      due = λ rs o a each none.
-          due_in_turn run rs o a (subst (λ ks. has_each ks rs ≡ true) (sym gone) each)
+      due = λ rs old new a each none.
+          due_in_turn run rs (subst (λ l. is_ascending l ≡ true) (append-nil (edit_keys run)) (m.order old new).0) a
+          (subst (λ ks. has_each ks rs ≡ true) (sym gone) each)
           (subst (λ ns. has_any ns (without_all (removed run) rs) ≡ false) (sym come) (subst (λ ks. has_any oc (without_all ks rs) ≡ false) (sym gone) none));
       counts = omega arith;
     }

@@ -7,7 +7,7 @@ use Rattle.quilt_node.specs.Pages.{is_ascending}
 use Rattle.quilt_node.specs.Nodes.{keys_of}
 use Rattle.quilt_btree.specs.declared.edit.Edit.{Edit}
 use Rattle.quilt_btree.specs.declared.edit.Edit.TheVariants as edit
-use Rattle.quilt_btree.specs.Batches.{edit_keys, are_due, removed, added, more, fewer}
+use Rattle.quilt_btree.specs.Batches.{are_due, removed, added, more, fewer}
 use Rattle.quilt_btree.specs.Runs.{without_all, has_each, has_any}
 
 -- how many of the records that go, and of those that come, an edit is about
@@ -33,12 +33,11 @@ IsFirst (edit.Replace p) (r ∷ goes) (a ∷ comes) = (p ≡ a) × (r.key ≡ a.
 IsFirst (edit.Replace p) [] comes = ⊥
 IsFirst (edit.Replace p) (r ∷ goes) [] = ⊥
 
--- The edits take out the records of the first list and put in those of the second. Where both lists are in the order of their keys, so are the
--- edits, and each is due where the records that go are there, and none that comes is there without them.
+-- The edits take out the records of the first list and put in those of the second. Where both lists are in the order of their keys, each edit is due
+-- where the records that go are there, and none that comes is there without them.
 pub record IsMerge (old new : List Record) (run : List Edit) : Type 0 where
   pub goes : removed run ≡ keys_of old
   pub comes : added run ≡ new
-  pub order : is_ascending (keys_of old) ≡ true → is_ascending (keys_of new) ≡ true → is_ascending (edit_keys run) ≡ true
-  pub due : (rs : List Record) → is_ascending (edit_keys run) ≡ true → is_ascending (keys_of rs) ≡ true → has_each (keys_of old) rs ≡ true
-      → has_any new (without_all (keys_of old) rs) ≡ false → are_due run rs ≡ true
+  pub due : (rs : List Record) → is_ascending (keys_of old) ≡ true → is_ascending (keys_of new) ≡ true → is_ascending (keys_of rs) ≡ true
+      → has_each (keys_of old) rs ≡ true → has_any new (without_all (keys_of old) rs) ≡ false → are_due run rs ≡ true
   pub counts : more run + length old ≡ fewer run + length new

@@ -1,25 +1,35 @@
-ghost use Rattle.std.specs.Prelude.{◌≡◌, IfOk, MatchOption, [], drop};
+ghost use Rattle.std.specs.Prelude.{◌≡◌, true, IfOk, IfSome, MatchOption, None, [], drop};
+ghost use Rattle.quilt_node.specs.Nodes.{keys_of};
+ghost use Rattle.quilt_node.specs.Pages.{is_ascending};
 ghost use Rattle.quilt_batch.specs.Merges.{IsFirst, IsMerge, goes_of, comes_of};
 
-use quilt_btree::Edit;
+use quilt_btree::{Batch, Edit};
 use quilt_record::Record;
 use std::alloc::{AllocError, Global};
 use std::cmp::Ordering;
 
 /// The edits by which some records go and others come, merged by their keys. A key that is in both lists is one edit, by
-/// which a record takes the place of another. Where each list is in the order of its keys, so are the edits.
-pub fn merged(alloc: Global, removed: &[Record], added: &[Record]) -> Result<Vec<Edit>, AllocError>
-    ensures { IfOk result (λ run. IsMerge removed.now added.now run.items) }
+/// which a record takes the place of another. There are none where one of the lists is not in the order of its keys.
+pub fn merged(
+    alloc: Global,
+    removed: &[Record],
+    added: &[Record],
+) -> Result<Option<Batch>, AllocError>
+    ensures merge { IfOk result (λ o. IfSome o (λ batch. IsMerge removed.now added.now batch)) }
+    ensures none { IfOk result (λ o. o ≡ None → is_ascending (keys_of removed.now) ≡ true → is_ascending (keys_of added.now) ≡ true → ⊥) }
 {
-    let mut run = Vec::new(alloc);
+    let mut batch = Batch::new(alloc);
     let mut goes = removed;
     let mut comes = added;
     while let Some(edit) = first_edit(goes, comes) {
-        run.push(edit)?;
+        let is_in = batch.push(edit)?;
+        if !is_in {
+            return Ok(None);
+        }
         goes = behind(goes, going(&edit));
         comes = behind(comes, coming(&edit));
     }
-    Ok(run)
+    Ok(Some(batch))
 }
 
 /// The edit of the least key of two lists: none where both are empty.

@@ -4,21 +4,23 @@ use crate::algebra::{bounded, listed, moved, shown, united};
 use crate::drawing::{CATALOG, drawn_map, drawn_pixel, key_of, key_with, record_of};
 use crate::planted::Planted;
 use quilt_batch::merged;
-use quilt_btree::Edit;
+use quilt_btree::{Batch, Edit};
 use quilt_plain::Dice;
+use quilt_record::Record;
 use quilt_region::{plan_new, plan_replace};
-use quilt_types::Colour;
+use quilt_types::{Colour, Stop};
 use std::alloc::Global;
 
 /// How long a run is.
 const RUN: usize = 1000;
 
 /// What can be measured.
-pub const WORDS: [&str; 13] = [
+pub const WORDS: [&str; 14] = [
     "fill",
     "drain",
     "get",
     "floor",
+    "walk",
     "rect",
     "replace",
     "audit",
@@ -47,6 +49,7 @@ pub fn measured(alloc: Global, word: &str, sizes: Sizes) -> anyhow::Result<u64> 
         "drain" => drained(alloc, records, calls),
         "get" => got(alloc, records, calls),
         "floor" => floored(alloc, records, calls),
+        "walk" => walked(alloc, records, calls),
         "rect" => painted(alloc, level, calls),
         "replace" => replaced(alloc, level, calls),
         "audit" => audited(alloc, level, calls),
@@ -62,16 +65,16 @@ pub fn measured(alloc: Global, word: &str, sizes: Sizes) -> anyhow::Result<u64> 
 /// A tree of records in ascending order, put in by runs. Where no call is asked for, the runs are only made.
 fn filled(alloc: Global, records: u32, calls: u32) -> anyhow::Result<Planted> {
     let mut planted = Planted::new(alloc, records)?;
-    let mut run = Vec::new(alloc);
+    let mut batch = Batch::new(alloc);
     for number in 0..records {
-        run.push(Edit::Put {
+        let _ = batch.push(Edit::Put {
             record: record_of(number),
         })?;
-        if run.len() == RUN || number + 1 == records {
+        if batch.edits().len() == RUN || number + 1 == records {
             if calls > 0 {
-                planted = planted.changed(&run)?;
+                planted = planted.changed(&batch)?;
             }
-            run.clear();
+            batch = Batch::new(alloc);
         }
     }
     Ok(planted)
@@ -80,16 +83,16 @@ fn filled(alloc: Global, records: u32, calls: u32) -> anyhow::Result<Planted> {
 /// Takes all records of such a tree out by runs. Where no call is asked for, the runs are only made.
 fn drained(alloc: Global, records: u32, calls: u32) -> anyhow::Result<u64> {
     let mut planted = filled(alloc, records, 1)?;
-    let mut run = Vec::new(alloc);
+    let mut batch = Batch::new(alloc);
     for number in 0..records {
-        run.push(Edit::Remove {
+        let _ = batch.push(Edit::Remove {
             key: key_of(number),
         })?;
-        if run.len() == RUN || number + 1 == records {
+        if batch.edits().len() == RUN || number + 1 == records {
             if calls > 0 {
-                planted = planted.changed(&run)?;
+                planted = planted.changed(&batch)?;
             }
-            run.clear();
+            batch = Batch::new(alloc);
         }
     }
     Ok(u64::from(planted.len()))
@@ -123,6 +126,22 @@ fn floored(alloc: Global, records: u32, calls: u32) -> anyhow::Result<u64> {
     Ok(sum)
 }
 
+/// Goes over all records by a cursor.
+fn walked(alloc: Global, records: u32, calls: u32) -> anyhow::Result<u64> {
+    let mut planted = filled(alloc, records, 1)?;
+    let mut sum = 0_u64;
+    for _ in 0..calls {
+        sum = sum.wrapping_add(planted.walk(&key_of(0))?);
+    }
+    Ok(sum)
+}
+
+/// The tree with some records more, which are in the order of their keys.
+fn with_records(alloc: Global, planted: Planted, records: &[Record]) -> anyhow::Result<Planted> {
+    let batch = merged(alloc, &[], records)?.ok_or(Stop::Damaged { page: 0 })?;
+    Ok(planted.changed(&batch)?)
+}
+
 /// A drawn map of one region layer in a tree.
 fn mapped(alloc: Global, level: u8) -> anyhow::Result<Planted>
     requires least { 1 ≤ level }
@@ -132,9 +151,9 @@ fn mapped(alloc: Global, level: u8) -> anyhow::Result<Planted>
     let plan = plan_new(alloc, 1, &list)?;
     let records = plan.add.records();
     let mut planted = Planted::new(alloc, u32::try_from(records.len())?)?;
-    planted = planted.changed(&[Edit::Put { record: CATALOG }])?;
+    planted = with_records(alloc, planted, &[CATALOG])?;
     for run in records.chunks(RUN) {
-        planted = planted.changed(&merged(alloc, &[], run)?)?;
+        planted = with_records(alloc, planted, run)?;
     }
     Ok(planted)
 }

@@ -3,7 +3,7 @@ ghost use Rattle.quilt_types.specs.Plane.{is_window};
 ghost use Rattle.quilt_btree.specs.Trees.{IsRooted};
 
 use quilt_audit::audit;
-use quilt_btree::{Edit, Tree, edits_ascend, records_added};
+use quilt_btree::{Batch, Cursor, Tree};
 use quilt_node::{Head, is_inner, is_leaf};
 use quilt_record::{Key, Record};
 use quilt_region::plan_rect;
@@ -38,18 +38,18 @@ impl Planted {
         })
     }
 
-    /// The tree once a run of edits is made in it: damage of page 0 where it has no room, or the keys do not ascend.
-    pub fn changed(self, run: &[Edit]) -> Result<Planted, Stop> {
+    /// The tree once a batch of edits is made in it: damage of page 0 where it has no room.
+    pub fn changed(self, batch: &Batch) -> Result<Planted, Stop> {
         let Planted {
             mut store,
             mut tree,
             pages,
         } = self;
         let room = (64 * (pages - 8) - tree.records) as usize;
-        if room < records_added(run) || !edits_ascend(run) {
+        if room < batch.records_added() {
             return Err(Stop::Damaged { page: 0 });
         }
-        tree.apply(&mut store, run)?;
+        tree.apply(&mut store, batch)?;
         Ok(Planted { store, tree, pages })
     }
 
@@ -66,6 +66,29 @@ impl Planted {
     /// The record with the greatest key that is at most this one.
     pub fn floor(&mut self, k: &Key) -> Result<Option<Record>, Stop> {
         self.tree.floor(&mut self.store, k)
+    }
+
+    /// A sum of the codes of all records, by a cursor that begins at this key.
+    pub fn walk(&mut self, first: &Key) -> Result<u64, Stop> {
+        if self.tree.height == 0 {
+            return Ok(0);
+        }
+        let mut cursor = self.tree.seek(&mut self.store, first)?;
+        let mut sum = 0_u64;
+        for _ in 0..self.tree.records {
+            if let Some(r) = self.next(&mut cursor)? {
+                sum = sum.wrapping_add(u64::from(r.key.code));
+            }
+        }
+        Ok(sum)
+    }
+
+    /// The next record of a cursor.
+    fn next(&mut self, cursor: &mut Cursor) -> Result<Option<Record>, Stop> {
+        if self.tree.height == 0 {
+            return Ok(None);
+        }
+        self.tree.next(&mut self.store, cursor)
     }
 
     /// How many records go and come when the pixels of a window of region layer 1 get a colour.

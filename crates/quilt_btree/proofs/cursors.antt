@@ -1,3 +1,4 @@
--- Where a cursor stands, and its steps.
+-- Where a cursor stands, and its steps; what the leaf of a finger tells.
+pub mod Fingers
 pub mod Lowers
 pub mod Stands

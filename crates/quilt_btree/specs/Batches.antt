@@ -1,16 +1,14 @@
 -- What a batch of edits makes of the records of a tree.
-use Rattle.std.specs.Prelude.{◌≡◌, ℕ, ◌+◌, ◌-◌, ◌<◌, ◌≤◌, Bool, true, false, not, ◌&&◌, List, [], ◌∷◌, length, map, take, Option, Some, slice_set, slice_index_or}
+use Rattle.std.specs.Prelude.{◌≡◌, ℕ, ◌+◌, ◌-◌, ◌<◌, ◌≤◌, Bool, true, false, not, ◌&&◌, List, [], ◌∷◌, length, map, take, Option, Some}
 use Rattle.std.specs.List.{list_any, list_all}
 use Rattle.quilt_record.specs.declared.key.Key.{Key}
 use Rattle.quilt_record.specs.declared.record.Record.{Record}
 use Rattle.quilt_record.specs.Lists.{has_key, put, without}
 use Rattle.quilt_node.specs.Pages.{leaf_of}
 use Rattle.quilt_node.specs.Tree.{Bounds, is_below}
-use Rattle.quilt_world.specs.Tale.{Goes}
 use Rattle.quilt_btree.specs.declared.edit.Edit.{Edit}
 use Rattle.quilt_btree.specs.declared.edit.Edit.TheVariants as edit
 use Rattle.quilt_btree.specs.Edits.{Becomes}
-use Rattle.quilt_btree.specs.Trees.{ReadsLeaf}
 
 -- the key that the edit concerns
 abbrev pub key_of : Edit → Key
@@ -99,19 +97,11 @@ abbrev pub HasRoomFor : List Edit → ℕ → Type 0
 HasRoomFor [] n = Unit {0}
 HasRoomFor (e ∷ run) n = HasRoom e n × HasRoomFor run (size_behind e n)
 
--- the page is a leaf that stays one behind each of the first edits of a run, and has enough records behind the last of them
-pub record HasPlan (told : Option (List (List ℕ))) (page least : ℕ) (run : List Edit) (n : ℕ) : Type 0 where
-  pub leaf : List Record
-  pub reads : ReadsLeaf told page leaf
-  pub room : HasRoomFor (take n run) (length leaf)
-  pub enough : 1 ≤ n → least ≤ size_after (take n run) (length leaf)
-
--- the page has other bytes now: where it was a leaf with room for the run, they are that leaf behind it, and each edit was due
-pub record MakesEdits (told now : Option (List (List ℕ))) (page : ℕ) (run : List Edit) : Type 0 where
-  pub bytes : List ℕ
-  pub wrote : Goes (λ old new. new ≡ slice_set old page bytes) told now
-  pub made : (pages : List (List ℕ)) (leaf : List Record) → told ≡ Some pages → leaf_of (slice_index_or pages page []) ≡ Some leaf
-      → HasRoomFor run (length leaf) → (leaf_of bytes ≡ Some (edit_all run leaf)) × (are_due run leaf ≡ true)
+-- the bytes are a leaf behind the first edits of a run, each of which was due, with enough records where there is such an edit
+pub record EditsLeaf (least : ℕ) (run : List Edit) (n : ℕ) (leaf : List Record) (bytes : List ℕ) : Type 0 where
+  pub is : leaf_of bytes ≡ Some (edit_all (take n run) leaf)
+  pub due : are_due (take n run) leaf ≡ true
+  pub enough : 1 ≤ n → least ≤ length (edit_all (take n run) leaf)
 
 -- one of the first edits of a run, whose keys are all below a bound, is not due
 pub record Fails (run : List Edit) (high : Option Key) (rs : List Record) : Type 0 where

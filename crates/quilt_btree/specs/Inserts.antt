@@ -15,6 +15,10 @@ HasRight size inserted.There = Unit {0}
 HasRight size inserted.Done = Unit {0}
 HasRight size (inserted.Split key right) = (1 ≤ right) × (right < size)
 
+-- fewer records than there are under a page of height 3 with 254 children
+abbrev pub AreFew : List Record → Type 0
+AreFew rs = length rs < 2322576
+
 -- An inner page that is to be written: the subtrees of its children stand in the store, and their pages are neither it, nor free, nor used twice.
 pub record IsPending (told : Option (List (List ℕ))) (free : ℕ → Bool) (page : ℕ) (is_root : Bool) (b : Bounds) (inner : Inner) (all : List Record)
     (under : List ℕ) : Type 0 where

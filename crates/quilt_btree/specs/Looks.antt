@@ -1,11 +1,10 @@
 -- What a look at one page tells, where it is well formed, and what it leaves of the store.
-use Rattle.std.specs.Prelude.{◌≡◌, ℕ, ◌+◌, ◌-◌, ◌≤◌, ◌==◌, Bool, true, false, IsTrue, IfSome, List, Option, Some, None, OnOk, Result, length, slice_index, take, filter, ◌++◌}
+use Rattle.std.specs.Prelude.{◌≡◌, ℕ, ◌+◌, ◌-◌, ◌≤◌, ◌==◌, IsTrue, IfSome, List, Option, Some, None, OnOk, Result, length, slice_index, take, filter, ◌++◌}
 use Rattle.std.specs.List.{last_or, list_any}
 use Rattle.quilt_types.specs.declared.stop.Stop.{Stop}
 use Rattle.quilt_record.specs.declared.key.Key.{Key}
 use Rattle.quilt_record.specs.declared.record.Record.{Record}
 use Rattle.quilt_node.specs.Pages.{Inner, leaf_of, inner_of}
-use Rattle.quilt_node.specs.Nodes.{IsFound, IsGap}
 use Rattle.quilt_store.specs.Calls.{OnlyReads}
 use Rattle.quilt_store.specs.Store.{Touches}
 use Rattle.quilt_world.specs.Tale.{Goes}
@@ -13,7 +12,6 @@ use Rattle.quilt_store.specs.declared.store.PageStore.{Ghosts}
 use Rattle.quilt_btree.specs.Damage.{HasChild}
 use Rattle.quilt_btree.specs.Lists.{floor_of, is_from_to, IsLower}
 use Rattle.quilt_btree.specs.Searches.{AreOf, IsFork, IsStep}
-use Rattle.quilt_btree.specs.Trees.{ReadsLeaf}
 
 -- what a call leaves that looks at one page: at most one page is read from the device, and none where the page is held
 pub record LooksAt {S T : Type 0} (g : Ghosts S) (page : ℕ) (old new : S) (result : Result T Stop) : Type 0 where

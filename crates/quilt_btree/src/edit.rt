@@ -4,7 +4,7 @@ ghost use Rattle.quilt_record.specs.declared.record.Record.{Record};
 ghost use Rattle.quilt_node.specs.Nodes.{records_of};
 ghost use Rattle.quilt_node.specs.Pages.{leaf_of};
 ghost use Rattle.quilt_node.specs.Tree.{is_below};
-ghost use Rattle.quilt_btree.specs.Batches.{key_of, edit_keys, is_due, edited, edit_all, are_due, size_behind, size_after, HasRoom, HasRoomFor};
+ghost use Rattle.quilt_btree.specs.Batches.{key_of, edit_keys, is_due, edited, edit_all, are_due, size_behind, size_after, HasRoom, HasRoomFor, EditsLeaf, Fails};
 
 use quilt_node::{
     LEAST_RECORDS, MOST_RECORDS, find_in, insert_in, records_in, remove_in, replace_in,
@@ -51,7 +51,7 @@ pub fn least_records(is_root: bool) -> usize
 }
 
 /// The number of records of a leaf of `n` behind the edit: none where it would be no leaf.
-pub fn count_behind(n: usize, e: &Edit) -> Option<usize>
+fn count_behind(n: usize, e: &Edit) -> Option<usize>
     requires { n ≤ 144 }
     ensures room { IfSome result (λ m. HasRoom e.now n) }
     ensures size { IfSome result (λ m. m ≡ size_behind e.now n) }
@@ -67,7 +67,7 @@ pub fn count_behind(n: usize, e: &Edit) -> Option<usize>
 
 /// How many of the first edits of a run can be made in a leaf of `n` records and leave it with `least`: the most that are
 /// below `high`, where each is due.
-pub fn planned(n: usize, least: usize, high: &Option<Key>, run: &[Edit]) -> usize
+fn planned(n: usize, least: usize, high: &Option<Key>, run: &[Edit]) -> usize
     requires { n ≤ 144 }
     ensures number { result ≤ length run.now }
     ensures under { list_all (is_below high.now) (edit_keys (take result run.now)) ≡ true }
@@ -124,7 +124,7 @@ fn make(bytes: &mut [u8; 4096], e: &Edit) -> bool
 
 /// Makes the edits of a run in a page that is a leaf and has room for them: false where one is not due. Of any bytes it
 /// makes some others.
-pub fn edit_in(bytes: &mut [u8; 4096], run: &[Edit]) -> bool
+fn edit_in(bytes: &mut [u8; 4096], run: &[Edit]) -> bool
     ensures made { (rs : List Record) → leaf_of bytes.old ≡ Some rs → HasRoomFor run.now (length rs) → result ≡ true
         → (leaf_of bytes.new ≡ Some (edit_all run.now rs)) × (are_due run.now rs ≡ true) }
     ensures fails { (rs : List Record) → leaf_of bytes.old ≡ Some rs → HasRoomFor run.now (length rs) → result ≡ false → are_due run.now rs ≡ false }
@@ -140,4 +140,29 @@ pub fn edit_in(bytes: &mut [u8; 4096], run: &[Edit]) -> bool
         }
     }
     true
+}
+
+/// Makes the first edits of a run in a page that is a leaf: the most that are below `high` and leave it with `least` records.
+/// The answer is their number, and none where one of them is not due. Of any bytes it makes some others.
+pub fn edit_some(
+    bytes: &mut [u8; 4096],
+    least: usize,
+    high: &Option<Key>,
+    run: &[Edit],
+) -> Option<usize>
+    ensures number { IfSome result (λ n. n ≤ length run.now) }
+    ensures under { IfSome result (λ n. list_all (is_below high.now) (edit_keys (take n run.now)) ≡ true) }
+    ensures made { IfSome result (λ n. (rs : List Record) → leaf_of bytes.old ≡ Some rs → EditsLeaf least run.now n rs bytes.new) }
+    ensures same { IfSome result (λ n. n ≡ 0 → bytes.new ≡ bytes.old) }
+    ensures fails { result ≡ None → (rs : List Record) → leaf_of bytes.old ≡ Some rs → Fails run.now high.now rs }
+{
+    let n = planned(records_in(bytes), least, high, run);
+    if n == 0 {
+        return Some(0);
+    }
+    if edit_in(bytes, &run[..n]) {
+        Some(n)
+    } else {
+        None
+    }
 }

@@ -17,7 +17,7 @@ ghost use Rattle.quilt_store.specs.Stops.{HasStopCause, IsSound};
 ghost use Rattle.quilt_btree.specs.Stops.{NamesPage};
 ghost use Rattle.quilt_btree.specs.Trees.{Spells};
 ghost use Rattle.quilt_btree.specs.Edits.{CanInsert, DidInsert};
-ghost use Rattle.quilt_btree.specs.Inserts.{HasRight, IsPending, DidPut};
+ghost use Rattle.quilt_btree.specs.Inserts.{HasRight, IsPending, DidPut, AreFew};
 ghost use Rattle.quilt_btree.specs.declared.outcomes.Inserted.TheVariants.{There};
 
 use crate::outcomes::Inserted;
@@ -132,7 +132,8 @@ fn fits(inner: &InnerPage, i: usize, k: &Key) -> bool
     is_over(inner, i, k) && is_under(inner, i, k)
 }
 
-/// Puts key `i` and child `i + 1` into an inner page, and writes it to its page.
+/// Puts key `i` and child `i + 1` into an inner page, and writes it to its page. One at height 3, where the root stands, is not
+/// split: page 0 is said to be damaged then, before anything is written.
 pub fn put_child<S: PageStore>(
     store: &mut S,
     page: u32,
@@ -150,7 +151,7 @@ pub fn put_child<S: PageStore>(
         → DidPut (S.told store.old) (S.told store.new) (S.free store.old) (S.free store.new) page inner.old.height is_root b (under ++ page ∷ []) all o) }
     ensures sound { IfErr result (λ e. (is_root : Bool) (b : Bounds) (all : List Record) (under : List ℕ)
         → IsPending (S.told store.old) (S.free store.old) page is_root b (with_child inner.old i key.now child) all under
-        → 0 < count_free (S.free store.old) (S.size store.old) → IsSound e) }
+        → 0 < count_free (S.free store.old) (S.size store.old) → (inner.old.height ≡ 3 → length inner.old.children < 254) → IsSound e) }
     ensures right { IfOk result (λ o. HasRight (S.size store.old) o) }
     ensures room { OnOk result (count_free (S.free store.old) (S.size store.old) ≤ count_free (S.free store.new) (S.size store.old) + 1) }
     ensures new { IfOk result (λ o. o ≢ There) }
@@ -159,6 +160,7 @@ pub fn put_child<S: PageStore>(
     ensures size { S.size store.new ≡ S.size store.old }
     ensures later { S.later store.old store.new }
     ensures changed { S.changed store.new ≤ S.changed store.old + 2 }
+    ensures less { inner.old.height ≡ 3 → S.changed store.new ≤ S.changed store.old + 1 }
     ensures reads { Goes (λ old new. new ≤ old) (S.reads store.old) (S.reads store.new) }
 {
     if !fits(inner, i, key) {
@@ -170,6 +172,9 @@ pub fn put_child<S: PageStore>(
             Err(e) => Err(e),
             Ok(()) => Ok(Inserted::Done),
         };
+    }
+    if inner.height() == 3 {
+        return Err(Stop::Damaged { page: 0 });
     }
     let (separator, right) = inner.insert_split(i, key, child);
     match write_split(store, page, inner.bytes(), right.bytes()) {
@@ -194,7 +199,7 @@ pub fn insert_under<S: PageStore>(
         → CanInsert (S.told store.old) (S.free store.old) (S.size store.old) page height is_root b r.now.key rs used
         → DidInsert r.now (S.told store.old) (S.told store.new) (S.free store.old) (S.free store.new) page height is_root b rs used o) }
     ensures sound { IfErr result (λ e. (is_root : Bool) (b : Bounds) (rs : List Record) (used : List ℕ)
-        → CanInsert (S.told store.old) (S.free store.old) (S.size store.old) page height is_root b r.now.key rs used → IsSound e) }
+        → CanInsert (S.told store.old) (S.free store.old) (S.size store.old) page height is_root b r.now.key rs used → AreFew rs → IsSound e) }
     ensures finds { IfOk result (λ o. (rs : List Record) → Spells (S.told store.old) page height rs → was_there o ≡ list_any (has_key r.now.key) rs) }
     ensures right { IfOk result (λ o. HasRight (S.size store.old) o) }
     ensures room { OnOk result (count_free (S.free store.old) (S.size store.old) ≤ count_free (S.free store.new) (S.size store.old) + height) }
@@ -207,6 +212,7 @@ pub fn insert_under<S: PageStore>(
     ensures size { S.size store.new ≡ S.size store.old }
     ensures later { S.later store.old store.new }
     ensures changed { S.changed store.new ≤ S.changed store.old + 2 * height }
+    ensures less { 3 ≤ height → S.changed store.new + 1 ≤ S.changed store.old + 2 * height }
     ensures reads { Goes (λ old new. new ≤ old + height) (S.reads store.old) (S.reads store.new) }
 {
     if height == 1 {

@@ -10,6 +10,7 @@ ghost use Rattle.quilt_store.specs.Stops.{HasStopCause, IsSound};
 ghost use Rattle.quilt_btree.specs.Stops.{NamesPage};
 ghost use Rattle.quilt_btree.specs.Damage.{NamesSpare};
 ghost use Rattle.quilt_btree.specs.Rebalancing.{CanRebalance, DidRebalance};
+ghost use Rattle.quilt_btree.specs.declared.outcomes.Rebalanced.TheVariants.{Joined};
 
 use crate::outcomes::Rebalanced;
 use crate::pages::{read_inner, read_leaf};
@@ -126,6 +127,7 @@ fn rebalance_leaves<S: PageStore>(
     ensures size { S.size store.new ≡ S.size store.old }
     ensures later { S.later store.old store.new }
     ensures changed { S.changed store.new ≤ S.changed store.old + 2 }
+    ensures joined { IfOk result (λ o. o ≡ Joined → S.changed store.new ≤ S.changed store.old + 1) }
     ensures reads { Goes (λ old new. new ≤ old + 2) (S.reads store.old) (S.reads store.new) }
 {
     let mut first = read_leaf(store, left, named_of(left, spare))?;
@@ -170,6 +172,7 @@ fn rebalance_inners<S: PageStore>(
     ensures size { S.size store.new ≡ S.size store.old }
     ensures later { S.later store.old store.new }
     ensures changed { S.changed store.new ≤ S.changed store.old + 2 }
+    ensures joined { IfOk result (λ o. o ≡ Joined → S.changed store.new ≤ S.changed store.old + 1) }
     ensures reads { Goes (λ old new. new ≤ old + 2) (S.reads store.old) (S.reads store.new) }
 {
     let mut first = read_inner(store, left, height)?;
@@ -215,6 +218,7 @@ pub fn rebalance_pages<S: PageStore>(
     ensures size { S.size store.new ≡ S.size store.old }
     ensures later { S.later store.old store.new }
     ensures changed { S.changed store.new ≤ S.changed store.old + 2 }
+    ensures joined { IfOk result (λ o. o ≡ Joined → S.changed store.new ≤ S.changed store.old + 1) }
     ensures reads { Goes (λ old new. new ≤ old + 2) (S.reads store.old) (S.reads store.new) }
 {
     if height == 1 {

@@ -5,7 +5,7 @@ ghost use Rattle.quilt_node.specs.Pages.{is_ascending};
 ghost use Rattle.quilt_node.specs.Nodes.{are_pages};
 ghost use Rattle.quilt_node.specs.Edits.{with_key};
 ghost use Rattle.quilt_node.specs.Tree.{Bounds};
-ghost use Rattle.quilt_btree.specs.declared.outcomes.Removed.TheVariants.{Missing, Emptied};
+ghost use Rattle.quilt_btree.specs.declared.outcomes.Removed.TheVariants.{Missing, Emptied, Done};
 ghost use Rattle.quilt_btree.specs.Edits.{CanEdit, DidLeave, DidRemove, HasPageIn};
 ghost use Rattle.quilt_record.specs.Lists.{has_key};
 ghost use Rattle.quilt_world.specs.Tale.{Goes};
@@ -185,6 +185,7 @@ fn rebalance_child<S: PageStore>(
     ensures size { S.size store.new ≡ S.size store.old }
     ensures later { S.later store.old store.new }
     ensures changed { S.changed store.new ≤ S.changed store.old + 3 }
+    ensures less { IfOk result (λ o. o ≢ Done → S.changed store.new ≤ S.changed store.old + 2) }
     ensures reads { Goes (λ old new. new ≤ old + 2) (S.reads store.old) (S.reads store.new) }
 {
     let j = pair_at(i, inner.len());
@@ -226,7 +227,8 @@ pub fn remove_under<S: PageStore>(
     ensures cause { HasStopCause (S.faults store.old) (S.faults store.new) result }
     ensures size { S.size store.new ≡ S.size store.old }
     ensures later { S.later store.old store.new }
-    ensures changed { S.changed store.new + 2 ≤ S.changed store.old + 3 * height }
+    ensures changed { S.changed store.new ≤ S.changed store.old + 2 * height }
+    ensures less { IfOk result (λ o. o ≢ Done → S.changed store.new + 1 ≤ S.changed store.old + 2 * height) }
     ensures reads { Goes (λ old new. new + 2 ≤ old + 3 * height) (S.reads store.old) (S.reads store.new) }
 {
     if height == 1 {

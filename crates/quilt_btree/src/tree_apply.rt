@@ -10,10 +10,10 @@ ghost use Rattle.quilt_btree.specs.Damage.{NamesBad};
 ghost use Rattle.quilt_store.specs.Stops.{HasStopCause};
 ghost use Rattle.quilt_btree.specs.Stops.{NamesPage};
 
-use crate::batch::edit_under;
+use crate::batch::Batch;
 use crate::edit::Edit;
+use crate::leaf_edits::edit_under;
 use crate::pages::stop_behind;
-use crate::rebalancing::precedes;
 use crate::tree::Tree;
 use quilt_store::PageStore;
 use quilt_types::Stop;
@@ -22,32 +22,32 @@ impl Tree {
     ghost use Rattle.quilt_btree.specs.Trees.{IsRooted};
     ghost use Rattle.quilt_btree.specs.Edits.{IsWhole};
 
-    /// Makes the edits of a run, whose keys ascend, in one walk from left to right: a leaf that they concern is looked for
+    /// Makes the edits of a batch in one walk from left to right: a leaf that they concern is looked for
     /// once, read once and written once, but where it has to be split or rebalanced. It changes at most 7 pages for each
     /// record that goes and 6 for each that comes, and reads at most 10 and 6; one in the place of another counts for both.
     /// Where an edit is not due page 0 is said to be damaged, and the tree and the store are then only given up. Behind its
     /// first step it names no page over 0.
-    pub fn apply<S: PageStore>(&mut self, store: &mut S, run: &[Edit]) -> Result<(), Stop>
+    pub fn apply<S: PageStore>(&mut self, store: &mut S, batch: &Batch) -> Result<(), Stop>
         requires rooted { IsRooted (S.size store.old) self.old }
-        requires room { self.old.records + more run.now ≤ quota (S.size store.old) }
-        requires order { is_ascending (edit_keys run.now) ≡ true }
+        requires room { self.old.records + more batch.now ≤ quota (S.size store.old) }
         ensures rooted { OnOk result (IsRooted (S.size store.old) self.new) }
         ensures edited { OnOk result ((rs : List Record) → IsWhole (S.told store.old) (S.free store.old) (S.size store.old) self.old rs
-            → (are_due run.now rs ≡ true) × IsWhole (S.told store.new) (S.free store.new) (S.size store.old) self.new (edit_all run.now rs)) }
-        ensures list { (rs : List Record) → IsWhole (S.told store.old) (S.free store.old) (S.size store.old) self.old rs → are_due run.now rs ≡ true
-            → edit_all run.now rs ≡ put_all (added run.now) (without_all (removed run.now) rs) }
-        ensures count { OnOk result (self.new.records + fewer run.now ≡ self.old.records + more run.now) }
+            → (are_due batch.now rs ≡ true) × IsWhole (S.told store.new) (S.free store.new) (S.size store.old) self.new (edit_all batch.now rs)) }
+        ensures list { (rs : List Record) → IsWhole (S.told store.old) (S.free store.old) (S.size store.old) self.old rs → are_due batch.now rs ≡ true
+            → edit_all batch.now rs ≡ put_all (added batch.now) (without_all (removed batch.now) rs) }
+        ensures count { OnOk result (self.new.records + fewer batch.now ≡ self.old.records + more batch.now) }
         ensures fails { IfErr result (λ e. (rs : List Record) → IsWhole (S.told store.old) (S.free store.old) (S.size store.old) self.old rs
-            → (page : ℕ) → e ≡ Damaged page → (page ≡ 0) × (are_due run.now rs ≡ false)) }
+            → (page : ℕ) → e ≡ Damaged page → (page ≡ 0) × (are_due batch.now rs ≡ false)) }
         ensures names { IfErr result (NamesPage (S.size store.old)) }
         ensures bad { IfErr result (λ e. e ≢ Damaged 0 → NamesBad (S.told store.old) self.old.height self.old.root e) }
         ensures cause { HasStopCause (S.faults store.old) (S.faults store.new) result }
         ensures size { S.size store.new ≡ S.size store.old }
         ensures later { S.later store.old store.new }
-        ensures changed { S.changed store.new ≤ S.changed store.old + 7 * length (removed run.now) + 6 * length (added run.now) }
-        ensures reads { OnOk result (Goes (λ old new. new ≤ old + (10 * length (removed run.now) + 6 * length (added run.now))) (S.reads store.old)
+        ensures changed { S.changed store.new ≤ S.changed store.old + 7 * length (removed batch.now) + 6 * length (added batch.now) }
+        ensures reads { OnOk result (Goes (λ old new. new ≤ old + (10 * length (removed batch.now) + 6 * length (added batch.now))) (S.reads store.old)
             (S.reads store.new)) }
     {
+        let run = batch.edits();
         let mut done = 0;
         while done < run.len() {
             match self.apply_some(store, &run[done..]) {
@@ -118,8 +118,8 @@ impl Tree {
         ensures cause { HasStopCause (S.faults store.old) (S.faults store.new) result }
         ensures size { S.size store.new ≡ S.size store.old }
         ensures later { S.later store.old store.new }
-        ensures changed { IfOk result (λ n. S.changed store.new ≤ S.changed store.old + cost (take n run.now)) }
-        ensures less { IfErr result (λ e. S.changed store.new ≤ S.changed store.old + cost run.now) }
+        ensures changed { IfOk result (λ n. S.changed store.new + 1 ≤ S.changed store.old + cost (take n run.now)) }
+        ensures less { IfErr result (λ e. S.changed store.new + 1 ≤ S.changed store.old + cost run.now) }
         ensures reads { IfOk result (λ n. Goes (λ old new. new + 3 ≤ old + looks (take n run.now)) (S.reads store.old) (S.reads store.new)) }
     {
         match self.apply_one(store, &run[0]) {
@@ -144,7 +144,7 @@ impl Tree {
         ensures cause { HasStopCause (S.faults store.old) (S.faults store.new) result }
         ensures size { S.size store.new ≡ S.size store.old }
         ensures later { S.later store.old store.new }
-        ensures changed { S.changed store.new ≤ S.changed store.old + cost_of edit.now }
+        ensures changed { S.changed store.new + 1 ≤ S.changed store.old + cost_of edit.now }
         ensures reads { OnOk result (Goes (λ old new. new + 3 ≤ old + looks_of edit.now) (S.reads store.old) (S.reads store.new)) }
     {
         match edit {
@@ -190,19 +190,6 @@ impl Tree {
     }
 }
 
-/// Whether the keys of a run ascend strictly.
-pub fn edits_ascend(run: &[Edit]) -> bool
-    ensures ascend { result ≡ is_ascending (edit_keys run.now) }
-    ensures few { more run.now ≤ length run.now }
-{
-    for i in 1..run.len() {
-        if !precedes(run[i - 1].key(), run[i].key()) {
-            return false;
-        }
-    }
-    true
-}
-
 /// How many records the edit adds: 0 or 1.
 fn comes(e: &Edit) -> usize
     ensures number { result ≡ more_of e.now }
@@ -228,7 +215,7 @@ fn goes(e: &Edit) -> usize
 }
 
 /// How many records the edits of a run add to a tree: one for each that comes in no other's place.
-pub fn records_added(run: &[Edit]) -> usize
+pub fn count_added(run: &[Edit]) -> usize
     ensures number { result ≡ more run.now }
     ensures most { result ≤ length run.now }
 {
@@ -257,7 +244,7 @@ fn records_behind(records: u32, run: &[Edit]) -> Option<u32>
     ensures some { IfSome result (λ m. (m + fewer run.now ≡ records + more run.now) × (1 ≤ m)) }
     ensures none { result ≡ None → records + more run.now ≤ fewer run.now }
 {
-    let all = records as usize + records_added(run);
+    let all = records as usize + count_added(run);
     let gone = records_taken(run);
     if all <= gone {
         return None;

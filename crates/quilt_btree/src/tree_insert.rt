@@ -23,7 +23,7 @@ impl Tree {
     ghost use Rattle.quilt_btree.specs.Trees.{IsRooted, IsTree};
     ghost use Rattle.quilt_btree.specs.Edits.{IsWhole, HasItsPages};
 
-    /// Puts a record in: false exactly where its key is there, and nothing changes. It changes at most 6 pages, and reads at
+    /// Puts a record in: false exactly where its key is there, and nothing changes. It changes at most 5 pages, and reads at
     /// most 3. Over a store that tells nothing, page 0 is said to be damaged where no page is free for a split, a page that
     /// is to be written is free, the tree would come to height 4, or a page does not fit the one above by its height or its
     /// keys; and any other page where that was not well formed at the call: an inner page that stays as it is is not looked
@@ -51,7 +51,7 @@ impl Tree {
         ensures cause { HasStopCause (S.faults store.old) (S.faults store.new) result }
         ensures size { S.size store.new ≡ S.size store.old }
         ensures later { S.later store.old store.new }
-        ensures changed { S.changed store.new ≤ S.changed store.old + 6 }
+        ensures changed { S.changed store.new ≤ S.changed store.old + 5 }
         ensures reads { Goes (λ old new. new ≤ old + 3) (S.reads store.old) (S.reads store.new) }
     {
         if self.height == 0 {

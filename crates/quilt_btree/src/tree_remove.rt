@@ -20,7 +20,7 @@ impl Tree {
     ghost use Rattle.quilt_btree.specs.Trees.{IsRooted, IsTree};
     ghost use Rattle.quilt_btree.specs.Edits.{IsWhole, HasItsPages};
 
-    /// Takes the record of a key out: false exactly where there is none, and nothing changes. It changes at most 7 pages,
+    /// Takes the record of a key out: false exactly where there is none, and nothing changes. It changes at most 6 pages,
     /// and reads at most 7. Over a store that tells nothing, page 0 is said to be damaged where a page that is to be written
     /// or given back is free, the number of records does not go with the height, a page does not fit the one above or beside
     /// by its height, its keys or how few they are, or an inner page beside one that was written is not well formed; and any
@@ -46,7 +46,7 @@ impl Tree {
         ensures cause { HasStopCause (S.faults store.old) (S.faults store.new) result }
         ensures size { S.size store.new ≡ S.size store.old }
         ensures later { S.later store.old store.new }
-        ensures changed { S.changed store.new ≤ S.changed store.old + 7 }
+        ensures changed { S.changed store.new ≤ S.changed store.old + 6 }
         ensures reads { Goes (λ old new. new ≤ old + 7) (S.reads store.old) (S.reads store.new) }
     {
         if self.height == 0 {

@@ -69,7 +69,7 @@ fn try_three(
 /// Tries edits of a tree of height 2 at an item that is under none of the pages that are spoilt.
 fn try_beside(rt: &impl Abort, alloc: Global, page: u32, how: Spoil, n: u32) -> Result<(), Fail> {
     Spoilt::of_two_levels(alloc, 72, page, how)?.edits(rt, n)?;
-    Spoilt::of_two_levels(alloc, 72, page, how)?.runs(rt, n, n.wrapping_add(1))
+    Spoilt::of_two_levels(alloc, 72, page, how)?.runs(rt, alloc, n, n.wrapping_add(1))
 }
 
 #[test]

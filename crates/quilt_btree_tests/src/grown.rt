@@ -3,7 +3,7 @@ ghost use Rattle.std.specs.Prelude.{◌+◌, ◌*◌, ◌-◌, ◌≤◌, IfSome
 ghost use Rattle.quilt_types.specs.Facts.{quota};
 ghost use Rattle.quilt_btree.specs.Trees.{IsRooted};
 
-use quilt_btree::{Cursor, Edit, Tree, edits_ascend, records_added};
+use quilt_btree::{Batch, Cursor, Edit, Tree};
 use quilt_record::{Key, Record};
 use quilt_store::{MemStore, PageStore};
 use quilt_types::Stop;
@@ -14,6 +14,17 @@ use std::alloc::Global;
 pub struct Grown {
     pub store: MemStore,
     pub tree: Tree,
+}
+
+/// The edits of a run as a batch: none where their keys do not ascend, or no memory is left.
+fn batch_of(alloc: Global, run: &[Edit]) -> Option<Batch> {
+    let mut batch = Batch::new(alloc);
+    for edit in run {
+        if !batch.push(*edit).ok()? {
+            return None;
+        }
+    }
+    Some(batch)
 }
 
 impl Grown {
@@ -101,10 +112,11 @@ impl Grown {
     }
 
     /// Makes the edits of a run, whose keys have to ascend.
-    pub fn apply(&mut self, run: &[Edit]) -> Result<(), Stop> {
+    pub fn apply(&mut self, alloc: Global, run: &[Edit]) -> Result<(), Stop> {
+        let batch = batch_of(alloc, run).ok_or(Stop::Device)?;
         match self.room() {
-            Some(room) if records_added(run) <= room as usize && edits_ascend(run) => {
-                self.tree.apply(&mut self.store, run)
+            Some(room) if batch.records_added() <= room as usize => {
+                self.tree.apply(&mut self.store, &batch)
             }
             _ => Err(Stop::Device),
         }
@@ -113,7 +125,7 @@ impl Grown {
     /// How many pages have other bytes behind a run of edits.
     pub fn pages_changed_by(&mut self, alloc: Global, run: &[Edit]) -> Result<u32, Stop> {
         let before = self.copy_pages(alloc).ok_or(Stop::Memory)?;
-        self.apply(run)?;
+        self.apply(alloc, run)?;
         let after = self.copy_pages(alloc).ok_or(Stop::Memory)?;
         let changed = before.iter().zip(&after).filter(|(a, b)| a != b).count();
         Ok((changed & 0xffff) as u32)

@@ -201,13 +201,15 @@ impl Spoilt {
     }
 
     /// Why the insertion of two items stops.
-    fn insert_two(&mut self, first: u32, last: u32) -> Option<Stop> {
-        self.0.apply(&[addition(first), addition(last)]).err()
+    fn insert_two(&mut self, alloc: Global, first: u32, last: u32) -> Option<Stop> {
+        self.0
+            .apply(alloc, &[addition(first), addition(last)])
+            .err()
     }
 
     /// Why the removal of two items stops.
-    fn remove_two(&mut self, first: u32, last: u32) -> Option<Stop> {
-        self.0.apply(&[removal(first), removal(last)]).err()
+    fn remove_two(&mut self, alloc: Global, first: u32, last: u32) -> Option<Stop> {
+        self.0.apply(alloc, &[removal(first), removal(last)]).err()
     }
 
     /// Why a call stops at an item that the tree would have, or inserts one behind it: `get`, `floor`, `range`, `insert`,
@@ -219,8 +221,8 @@ impl Spoilt {
             2 => self.range(alloc, n, n.wrapping_add(8)),
             3 => self.0.insert(&record(n.wrapping_add(1))).err(),
             4 => self.0.remove(&key(n)).err(),
-            5 => self.insert_two(n.wrapping_add(1), n.wrapping_add(2)),
-            _ => self.remove_two(n, n.wrapping_add(4)),
+            5 => self.insert_two(alloc, n.wrapping_add(1), n.wrapping_add(2)),
+            _ => self.remove_two(alloc, n, n.wrapping_add(4)),
         }
     }
 
@@ -235,10 +237,16 @@ impl Spoilt {
     }
 
     /// Inserts two items, finds the last, and removes both.
-    pub fn runs(&mut self, rt: &impl Abort, first: u32, last: u32) -> Result<(), Fail> {
-        self.0.apply(&[addition(first), addition(last)])?;
+    pub fn runs(
+        &mut self,
+        rt: &impl Abort,
+        alloc: Global,
+        first: u32,
+        last: u32,
+    ) -> Result<(), Fail> {
+        self.0.apply(alloc, &[addition(first), addition(last)])?;
         assert!(rt; self.0.floor(&key(last))? == Some(record(last)));
-        self.0.apply(&[removal(first), removal(last)])?;
+        self.0.apply(alloc, &[removal(first), removal(last)])?;
         Ok(())
     }
 }

@@ -170,7 +170,7 @@ fn batches_beside_an_ordered_map(rt: HostRuntime) -> Result<(), Fail> {
         let most = if step % 10 == 9 { 50000 } else { 900 };
         let gap = if step % 3 == 0 { 2 } else { 40 };
         let run = trial.drawn_run(rt.alloc(), &mut seed, most, gap)?;
-        trial.apply(&rt, &run)?;
+        trial.apply(&rt, rt.alloc(), &run)?;
         trial.compare_all(&rt, rt.alloc(), draw(&mut seed, most))?;
     }
     assert_eq!(rt; trial.grown.tree.height, 3);
@@ -183,7 +183,7 @@ fn a_batch_empties_a_tree(rt: HostRuntime) -> Result<(), Fail> {
     trial.insert_all(&rt, rt.alloc(), &numbers(rt.alloc(), 0, 3, 700)?, 1)?;
     assert_eq!(rt; trial.grown.tree.height, 2);
     let run = trial.removals(rt.alloc())?;
-    trial.apply(&rt, &run)?;
+    trial.apply(&rt, rt.alloc(), &run)?;
     assert_eq!(rt; trial.grown.tree.height, 0);
     assert_eq!(rt; trial.grown.free_pages(), 63);
     Ok(())

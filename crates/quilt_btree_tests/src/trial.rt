@@ -169,7 +169,7 @@ impl Trial {
         numbers: &[u32],
         value: u8,
     ) -> Result<(), Fail> {
-        self.apply(rt, &puts_of(alloc, numbers, value)?)
+        self.apply(rt, alloc, &puts_of(alloc, numbers, value)?)
     }
 
     /// Takes the records of these numbers out of both at once.
@@ -179,7 +179,7 @@ impl Trial {
         alloc: Global,
         numbers: &[u32],
     ) -> Result<(), Fail> {
-        self.apply(rt, &removals_of(alloc, numbers)?)
+        self.apply(rt, alloc, &removals_of(alloc, numbers)?)
     }
 
     /// Tries to put the records of these numbers in, of which one is there.
@@ -189,7 +189,7 @@ impl Trial {
         alloc: Global,
         numbers: &[u32],
     ) -> Result<(), Fail> {
-        let end = self.grown.apply(&puts_of(alloc, numbers, 0)?);
+        let end = self.grown.apply(alloc, &puts_of(alloc, numbers, 0)?);
         assert!(rt; end == Err(Stop::Damaged { page: 0 }));
         Ok(())
     }
@@ -201,13 +201,13 @@ impl Trial {
         alloc: Global,
         numbers: &[u32],
     ) -> Result<(), Fail> {
-        let end = self.grown.apply(&removals_of(alloc, numbers)?);
+        let end = self.grown.apply(alloc, &removals_of(alloc, numbers)?);
         assert!(rt; end == Err(Stop::Damaged { page: 0 }));
         Ok(())
     }
 
     /// Makes the edits of a run on both at once.
-    pub fn apply(&mut self, rt: &impl Abort, run: &[Edit]) -> Result<(), Fail> {
+    pub fn apply(&mut self, rt: &impl Abort, alloc: Global, run: &[Edit]) -> Result<(), Fail> {
         for edit in run {
             match edit {
                 Edit::Remove { key } => {
@@ -218,7 +218,7 @@ impl Trial {
                 }
             }
         }
-        self.grown.apply(run)?;
+        self.grown.apply(alloc, run)?;
         self.compare(rt)
     }
 

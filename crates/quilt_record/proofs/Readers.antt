@@ -1,5 +1,5 @@
 -- A record that spells a fact is read as that fact alone.
-use Rattle.std.proofs.Common.{◌≡◌, ℕ, ◌+◌, ◌*◌, ◌/◌, ◌%◌, ◌≤◌, [], ◌∷◌, Option, Some, None, sym, ◌∙◌, ap, subst, arith}
+use Rattle.std.proofs.Common.{◌≡◌, ℕ, ◌+◌, ◌*◌, ◌/◌, ◌%◌, ◌^◌, ◌<◌, ◌≤◌, [], ◌∷◌, Option, Some, None, sym, ◌∙◌, ap, subst, arith}
 use Rattle.std.specs.Prelude.{true, unwrap_or, IfSome}
 use Rattle.quilt_types.specs.declared.plane.Block.{Block}
 use Rattle.quilt_types.specs.Plane.{IsBlock, is_pixel}
@@ -13,7 +13,8 @@ use Rattle.quilt_record.specs.Records.{block_key, filled, point_item, record_of}
 use Rattle.quilt_record.specs.Blocks.{IsNamed}
 use Rattle.quilt_record.proofs.BlockKeys.{pixel_below}
 use Rattle.quilt_record.specs.Canonical.{IsRecordOf, point_fact, pair_fact}
-use Rattle.quilt_record.specs.Values.{colour_of, held_of, id_of, segment_of}
+use Rattle.quilt_record.specs.Values.{colour_of, held_of, segment_of}
+use Rattle.quilt_record.specs.Parts.{point_value, point_under, pair_under, segment_value, segment_under}
 
 pub pair_same : {A B : Type 0} (a c : A) (b d : B) → ◌≡◌ {A = Option (A × B)} (Some (a, b)) (Some (c, d)) → (a ≡ c) × (b ≡ d)
 pair_same {A} {B} a c b d h =
@@ -85,26 +86,81 @@ pub point_inside : (n capacity : ℕ) (r : Record) (layer : ℕ) (b : Block) (he
 point_inside n capacity r layer b None f = tt
 point_inside n capacity r layer b (Some p) f = f.fits.1
 
-pub point_again : (n capacity : ℕ) (r made : Record) (layer first : ℕ) (b at : Block) (held read : Option Point)
-    → IsRecordOf n capacity r layer (point_fact b held) → first ≡ layer → at ≡ b → read ≡ held
-    → IsRecordOf n capacity made first (point_fact at read) → made ≡ r
-point_again n capacity r made layer first b at held read f same_layer same_block same_held g =
-    g.written [] ∙ ap (λ l. record_of n capacity [] l (point_fact at read)) same_layer ∙ ap (λ p. record_of n capacity [] layer (point_fact p read)) same_block
-    ∙ ap (λ h. record_of n capacity [] layer (point_fact b h)) same_held ∙ sym (f.written [])
+-- a record that has the part, the item and the value of a point under the key of a block, or those of none
+pub point_by_parts : (n capacity : ℕ) (r : Record) (layer : ℕ) (b : Block) (held : Option Point) → IsNamed n r.key layer b
+    → IfSome held (λ p. is_pixel n p.at ≡ true) → IfSome held (λ p. p.label < 2 ^ 32) → r ≡ point_under capacity r.key held
+    → IsRecordOf n capacity r r.key.layer (point_fact b held)
+point_by_parts n capacity r layer b None h inside small e = record {
+  least = subst (λ l. 1 ≤ l) (sym h.same) h.least;
+  most = subst (λ l. l ≤ 255) (sym h.same) h.most;
+  fits = h.of.block;
+  written = λ name. e ∙ (λ i. record {
+    key = record { layer = r.key.layer; part = 2; code = h.of.code i; depth = h.of.depth i; item = 0 };
+    value = filled 16 [];
+  });
+}
+point_by_parts n capacity r layer b (Some p) h inside small e = record {
+  least = subst (λ l. 1 ≤ l) (sym h.same) h.least;
+  most = subst (λ l. l ≤ 255) (sym h.same) h.most;
+  fits = (h.of.block, inside, small);
+  written = λ name. e ∙ (λ i. record {
+    key = record { layer = r.key.layer; part = 2; code = h.of.code i; depth = h.of.depth i; item = point_item capacity p.at };
+    value = point_value p;
+  });
+}
+
+-- and the record of a point, or of none, has them
+pub point_parts : (n capacity : ℕ) (r : Record) (layer : ℕ) (b : Block) (held read : Option Point) → IsRecordOf n capacity r layer (point_fact b held)
+    → read ≡ held → r ≡ point_under capacity r.key read
+point_parts n capacity r layer b None read f same =
+    let part : r.key.part ≡ 2 = ap (λ (s : Record). s.key.part) (f.written []) in
+    let item : r.key.item ≡ 0 = ap (λ (s : Record). s.key.item) (f.written []) in
+    let value : r.value ≡ filled 16 [] = ap (λ (s : Record). s.value) (f.written []) in
+    (λ i. record { key = record r.key { part = part i; item = item i }; value = value i }) ∙ ap (point_under capacity r.key) (sym same)
+point_parts n capacity r layer b (Some p) read f same =
+    let part : r.key.part ≡ 2 = ap (λ (s : Record). s.key.part) (f.written []) in
+    let item : r.key.item ≡ point_item capacity p.at = ap (λ (s : Record). s.key.item) (f.written []) in
+    let value : r.value ≡ point_value p = ap (λ (s : Record). s.value) (f.written []) in
+    (λ i. record { key = record r.key { part = part i; item = item i }; value = value i }) ∙ ap (point_under capacity r.key) (sym same)
 
 pub pair_named : (n : ℕ) (r : Record) (layer : ℕ) (b : Block) (id : Option ℕ) → IsRecordOf n 0 r layer (pair_fact b id) → IsNamed n r.key layer b
 pair_named n r layer b None f = key_named n layer 3 b 0 r.key f.least f.most f.fits (ap (λ (s : Record). s.key) (f.written []))
 pair_named n r layer b (Some id) f = key_named n layer 3 b id r.key f.least f.most f.fits.0 (ap (λ (s : Record). s.key) (f.written []))
 
-pub pair_id : (n : ℕ) (r : Record) (layer : ℕ) (b : Block) (id : Option ℕ) → IsRecordOf n 0 r layer (pair_fact b id) → id_of r ≡ id
-pair_id n r layer b None f = ap id_of (f.written [])
-pair_id n r layer b (Some id) f = ap id_of (f.written [])
+-- a record that has the part, the item and the value of a segment's id under the key of a block, or those of none
+pub pair_by_parts : (n : ℕ) (r : Record) (layer : ℕ) (b : Block) (id : Option ℕ) → IsNamed n r.key layer b → IfSome id (λ m. m < 2 ^ 32)
+    → r ≡ pair_under r.key id → IsRecordOf n 0 r r.key.layer (pair_fact b id)
+pair_by_parts n r layer b None h small e = record {
+  least = subst (λ l. 1 ≤ l) (sym h.same) h.least;
+  most = subst (λ l. l ≤ 255) (sym h.same) h.most;
+  fits = h.of.block;
+  written = λ name. e ∙ (λ i. record {
+    key = record { layer = r.key.layer; part = 3; code = h.of.code i; depth = h.of.depth i; item = 0 };
+    value = filled 16 [];
+  });
+}
+pair_by_parts n r layer b (Some id) h small e = record {
+  least = subst (λ l. 1 ≤ l) (sym h.same) h.least;
+  most = subst (λ l. l ≤ 255) (sym h.same) h.most;
+  fits = (h.of.block, small);
+  written = λ name. e ∙ (λ i. record {
+    key = record { layer = r.key.layer; part = 3; code = h.of.code i; depth = h.of.depth i; item = id };
+    value = filled 16 (1 ∷ []);
+  });
+}
 
-pub pair_again : (n : ℕ) (r made : Record) (layer first : ℕ) (b at : Block) (id : Option ℕ) → IsRecordOf n 0 r layer (pair_fact b id) → first ≡ layer → at ≡ b
-    → IsRecordOf n 0 made first (pair_fact at (id_of r)) → made ≡ r
-pair_again n r made layer first b at id f same_layer same_block g =
-    g.written [] ∙ ap (λ l. record_of n 0 [] l (pair_fact at (id_of r))) same_layer ∙ ap (λ p. record_of n 0 [] layer (pair_fact p (id_of r))) same_block
-    ∙ ap (λ h. record_of n 0 [] layer (pair_fact b h)) (pair_id n r layer b id f) ∙ sym (f.written [])
+-- and the record of an id, or of none, has them
+pub pair_parts : (n : ℕ) (r : Record) (layer : ℕ) (b : Block) (id : Option ℕ) → IsRecordOf n 0 r layer (pair_fact b id) → r ≡ pair_under r.key id
+pair_parts n r layer b None f =
+    let part : r.key.part ≡ 3 = ap (λ (s : Record). s.key.part) (f.written []) in
+    let item : r.key.item ≡ 0 = ap (λ (s : Record). s.key.item) (f.written []) in
+    let value : r.value ≡ filled 16 [] = ap (λ (s : Record). s.value) (f.written []) in
+    λ i. record { key = record r.key { part = part i; item = item i }; value = value i }
+pair_parts n r layer b (Some id) f =
+    let part : r.key.part ≡ 3 = ap (λ (s : Record). s.key.part) (f.written []) in
+    let item : r.key.item ≡ id = ap (λ (s : Record). s.key.item) (f.written []) in
+    let value : r.value ≡ filled 16 (1 ∷ []) = ap (λ (s : Record). s.value) (f.written []) in
+    λ i. record { key = record r.key { part = part i; item = item i }; value = value i }
 
 pub segment_ends : (n : ℕ) (r : Record) (layer id : ℕ) (s : Seg) → IsRecordOf n 0 r layer (IsSegment id s) → segment_of r.value ≡ s
 segment_ends n r layer id s f =
@@ -117,10 +173,17 @@ segment_ends n r layer id s f =
 pub segment_key : (n : ℕ) (r : Record) (layer id : ℕ) (s : Seg) → IsRecordOf n 0 r layer (IsSegment id s) → (r.key.layer ≡ layer) × (r.key.item ≡ id)
 segment_key n r layer id s f = (ap (λ (t : Record). t.key.layer) (f.written []), ap (λ (t : Record). t.key.item) (f.written []))
 
-pub segment_again : (n : ℕ) (r made : Record) (layer id : ℕ) (s : Seg) → IsRecordOf n 0 r layer (IsSegment id s)
-    → IsRecordOf n 0 made r.key.layer (IsSegment r.key.item (segment_of r.value)) → made ≡ r
-segment_again n r made layer id s f g =
-    let k = segment_key n r layer id s f in
-    g.written [] ∙ ap (λ l. record_of n 0 [] l (IsSegment r.key.item (segment_of r.value))) k.0
-    ∙ ap (λ m. record_of n 0 [] layer (IsSegment m (segment_of r.value))) k.1
-    ∙ ap (λ t. record_of n 0 [] layer (IsSegment id t)) (segment_ends n r layer id s f) ∙ sym (f.written [])
+-- a record that has the part, the place and the value of a segment
+pub segment_by_parts : (n : ℕ) (r : Record) (s : Seg) → 1 ≤ r.key.layer → r.key.layer ≤ 255 → r.key.item < 2 ^ 32
+    → (s.x1 < 2 ^ 16) × (s.y1 < 2 ^ 16) × (s.x2 < 2 ^ 16) × (s.y2 < 2 ^ 16) → r ≡ segment_under r.key s
+    → IsRecordOf n 0 r r.key.layer (IsSegment r.key.item s)
+segment_by_parts n r s least most small fits e = record { least = least; most = most; fits = (small, fits.0, fits.1, fits.2, fits.3); written = λ name. e }
+
+-- and the record of a segment has them
+pub segment_parts : (n : ℕ) (r : Record) (layer id : ℕ) (s read : Seg) → IsRecordOf n 0 r layer (IsSegment id s) → read ≡ s → r ≡ segment_under r.key read
+segment_parts n r layer id s read f same =
+    let part : r.key.part ≡ 4 = ap (λ (t : Record). t.key.part) (f.written []) in
+    let code : r.key.code ≡ 0 = ap (λ (t : Record). t.key.code) (f.written []) in
+    let depth : r.key.depth ≡ 0 = ap (λ (t : Record). t.key.depth) (f.written []) in
+    let value : r.value ≡ segment_value s = ap (λ (t : Record). t.value) (f.written []) in
+    (λ i. record { key = record r.key { part = part i; code = code i; depth = depth i }; value = value i }) ∙ ap (segment_under r.key) (sym same)

@@ -4,5 +4,6 @@ pub mod Catalogs
 pub mod Fits
 pub mod Listing
 pub mod Lists
+pub mod Parts
 pub mod Records
 pub mod Values

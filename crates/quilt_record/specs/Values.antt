@@ -3,7 +3,6 @@ use Rattle.std.specs.Prelude.{ℕ, ◌+◌, ◌*◌, ◌==◌, List, Option, Som
 use Rattle.std.specs.Int.{from_be_bytes, w16, w32}
 use Rattle.quilt_types.specs.declared.plane.Point.{Point}
 use Rattle.quilt_types.specs.declared.plane.Seg.{Seg}
-use Rattle.quilt_record.specs.declared.record.Record.{Record}
 
 -- the number in the two bytes at a place
 abbrev pub short_in : List ℕ → ℕ → ℕ
@@ -18,10 +17,6 @@ abbrev pub held_of : List ℕ → Option Point
 held_of value =
     if slice_index value 0 == 0 then None
     else Some (record { at = record { y = short_in value 3; x = short_in value 1 }; label = from_be_bytes w32 (slice_range value 5 9) })
-
--- the id in the key, where the first byte is not 0
-abbrev pub id_of : Record → Option ℕ
-id_of r = if slice_index r.value 0 == 0 then None else Some r.key.item
 
 -- a segment: x and y of its first end, and of its last end, two bytes each, the high byte first
 abbrev pub segment_of : List ℕ → Seg

@@ -81,6 +81,7 @@ pub fn is_same(a: &Record, b: &Record) -> bool
 /// The layer's number that the key has, if it is from 1 to 255.
 pub fn layer_in(k: &Key) -> Option<u8>
     ensures some { IfSome result (λ layer. (1 ≤ layer) × (layer ≡ k.now.layer)) }
+    ensures most { IfSome result (λ layer. k.now.layer ≤ 255) }
     ensures one { 1 ≤ k.now.layer → k.now.layer ≤ 255 → result ≡ Some k.now.layer }
 {
     match k.layer {
@@ -90,6 +91,7 @@ pub fn layer_in(k: &Key) -> Option<u8>
 }
 
 /// The layer's number, from 1 to 255, and the block that the key says, if it says both.
+#[inline(always)]
 pub fn named(k: &Key, level: u8) -> Option<(u8, Block)>
     requires { level ≤ 12 }
     ensures some { IfSome result (λ v. IsNamed level k.now v.0 v.1) }

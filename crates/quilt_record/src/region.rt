@@ -51,6 +51,7 @@ fn colour_in(value: &[u8; 16]) -> Colour
 
 /// The block and its colour whose record it is; none where it is none of a region layer at the level, or has a colour
 /// over 255 in format 1.
+#[inline(always)]
 pub fn read_region(r: &Record, level: u8, format: u8) -> Option<(Block, Colour)>
     requires { (1 ≤ level) × (level ≤ 12) }
     ensures some { IfSome result (λ v. IsRecordOf level 0 r.now r.now.key.layer (HasColour v.0 v.1.0)) }

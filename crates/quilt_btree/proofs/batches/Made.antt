@@ -1,26 +1,24 @@
 -- A leaf that is edited where it lies.
-use Rattle.std.proofs.Common.{◌≡◌, ℕ, ◌+◌, ◌<◌, ◌≤◌, Bool, true, false, List, [], ◌∷◌, length, take, Option, Some, slice_index_or, slice_set, refl, sym, ◌∙◌, ap, subst, arith}
+use Rattle.std.proofs.Common.{◌≡◌, ℕ, ◌+◌, ◌<◌, ◌≤◌, Bool, true, false, List, [], ◌∷◌, length, take, Option, Some, None, IfSome, slice_index_or, slice_set}
+use Rattle.std.proofs.Common.{refl, sym, ◌∙◌, ap, subst, arith}
 use Rattle.std.specs.Prelude.{if◌then◌else◌}
 use Rattle.std.specs.List.{list_all}
-use Rattle.quilt_types.specs.declared.stop.Stop.{Stop}
-use Rattle.quilt_types.specs.declared.stop.Stop.TheVariants.{Damaged}
+use Rattle.std.specs.Option.{is_some}
+use Rattle.std.proofs.lemmas.List.{set-get_or}
 use Rattle.quilt_record.specs.declared.key.Key.{Key}
 use Rattle.quilt_record.specs.declared.record.Record.{Record}
 use Rattle.quilt_node.specs.Pages.{leaf_of}
 use Rattle.quilt_node.specs.Tree.{Bounds, is_above, is_below}
 use Rattle.quilt_world.specs.Tale.{Goes}
 use Rattle.quilt_btree.specs.declared.edit.Edit.{Edit}
-use Rattle.quilt_btree.specs.Batches.{edit_keys, edit_all, are_due, HasRoomFor, HasPlan, MakesEdits, Fails, DidEdit}
+use Rattle.quilt_btree.specs.Batches.{edit_keys, edit_all, Fails, EditsLeaf, DidEdit}
 use Rattle.quilt_btree.specs.Edits.{times, CanEdit}
-use Rattle.quilt_btree.specs.Stops.{NamesPage}
 use Rattle.quilt_btree.specs.Subtree.{Subtree}
-use Rattle.quilt_btree.proofs.batches.Below.{leaf_edited, fails_here, all_first}
-use Rattle.quilt_btree.proofs.batches.Plans.{size_all}
+use Rattle.quilt_btree.proofs.batches.Below.{leaf_edited, all_first}
 use Rattle.quilt_btree.proofs.lists.Counts.{times_here}
-use Rattle.quilt_btree.proofs.removals.LeafRemovals.{leaf_same}
 use Rattle.quilt_btree.proofs.stores.Moves.{used_not_free}
 use Rattle.quilt_btree.proofs.stores.Writes.{TellsAll}
-use Rattle.quilt_btree.proofs.subtrees.Trees.{leaf_list}
+use Rattle.quilt_btree.proofs.ways.Forks.{are_of}
 
 -- the page of a leaf of the tree is not free
 pub leaf_taken : (told : Option (List (List ℕ))) (free : ℕ → Bool) (page : ℕ) (is_root : Bool) (b : Bounds) (rs : List Record) (used : List ℕ)
@@ -33,47 +31,48 @@ leaf_taken told free page is_root b rs used can =
     first : (t : ℕ) → t ≡ 1 + 0 → 1 ≤ t
     first t e = omega arith
 
--- the leaf as the second call finds it
-record IsFoundAgain (told mid : Option (List (List ℕ))) (page : ℕ) (leaf : List Record) : Type 0 where
-  pub pages : List (List ℕ)
-  pub is : mid ≡ Some pages
-  pub at : leaf_of (slice_index_or pages page []) ≡ Some leaf
+-- the leaf that the page lends
+lent_leaf : (told : Option (List (List ℕ))) (free : ℕ → Bool) (page : ℕ) (is_root : Bool) (b : Bounds) (rs : List Record) (used : List ℕ) (old : List ℕ)
+    → IfSome told (λ pages. old ≡ slice_index_or pages page []) → CanEdit told free page 1 is_root b rs used → leaf_of old ≡ Some rs
+lent_leaf told free page is_root b rs used old shown can =
+    let s : Subtree can.pages 1 is_root (page, b) rs used = can.subtree in
+    ap leaf_of (are_of told page old shown can.pages can.is_told) ∙ s.page
 
-found_again : (told mid : Option (List (List ℕ))) (free : ℕ → Bool) (page least : ℕ) (is_root : Bool) (b : Bounds) (rs : List Record) (used : List ℕ)
-    (run : List Edit) (n : ℕ) → mid ≡ told → (p : HasPlan told page least run n) → CanEdit told free page 1 is_root b rs used
-    → IsFoundAgain told mid page p.leaf
-found_again told mid free page least is_root b rs used run n same p can =
-    record { pages = can.pages; is = same ∙ can.is_told; at = p.reads can.pages can.is_told }
+pub no_leaf : (told : Option (List (List ℕ))) (free : ℕ → Bool) (page : ℕ) (is_root : Bool) (b : Bounds) (rs : List Record) (used : List ℕ) (old : List ℕ)
+    → IfSome told (λ pages. old ≡ slice_index_or pages page []) → is_some (leaf_of old) ≡ false → CanEdit told free page 1 is_root b rs used → ⊥
+no_leaf told free page is_root b rs used old shown none can =
+    differ (ap is_some (sym (lent_leaf told free page is_root b rs used old shown can)) ∙ none)
+  where
+    differ : true ≡ false → ⊥
+    differ h = cc
 
-pub leaf_made : (told mid now_told : Option (List (List ℕ))) (free now : ℕ → Bool) (size page least : ℕ) (is_root : Bool) (b : Bounds) (rs : List Record)
-    (used : List ℕ) (high : Option Key) (run : List Edit) (n : ℕ) → page < size → TellsAll told size → (p : HasPlan told page least run n) → 1 ≤ n
-    → mid ≡ told → MakesEdits mid now_told page (take n run) → least ≡ (if is_root then 1 else 72)
+-- the first edits of the run were made where the leaf lies
+pub leaf_made : (told now_told : Option (List (List ℕ))) (free now : ℕ → Bool) (size page least : ℕ) (is_root : Bool) (b : Bounds) (rs : List Record)
+    (used : List ℕ) (high : Option Key) (run : List Edit) (n : ℕ) (old bytes : List ℕ) → page < size → TellsAll told size
+    → IfSome told (λ pages. old ≡ slice_index_or pages page []) → ((rs : List Record) → leaf_of old ≡ Some rs → EditsLeaf least run n rs bytes) → 1 ≤ n
+    → Goes (λ before after. after ≡ slice_set before page bytes) told now_told → least ≡ (if is_root then 1 else 72)
     → list_all (is_below high) (edit_keys (take n run)) ≡ true → now ≡ free → b.high ≡ high → list_all (is_above b.low) (edit_keys run) ≡ true
     → CanEdit told free page 1 is_root b rs used → DidEdit (take n run) told now_told free now page 1 is_root b rs used
-leaf_made told mid now_told free now size page least is_root b rs used high run n inside many p one same m lower below same_free top above can =
-    let f = found_again told mid free page least is_root b rs used run n same p can in
-    let made = m.made f.pages p.leaf f.is f.at p.room in
-    let order = (leaf_list (slice_index_or f.pages page []) p.leaf f.at).ascends in
-    leaf_edited told now_told free now size page m.bytes is_root b rs used high p.leaf (edit_all (take n run) p.leaf) (take n run) inside many made.0
-    (record { is = refl; due = made.1 }) (leaf_same told free page is_root b rs p.leaf used can p.reads) below
-    (subst (λ o. Goes (λ old new. new ≡ slice_set old page m.bytes) o now_told) same m.wrote) same_free
-    (subst (λ k. k ≤ length (edit_all (take n run) p.leaf)) lower
-    (subst (λ k. least ≤ k) (sym (size_all (take n run) p.leaf order made.1)) (p.enough one)))
+leaf_made told now_told free now size page least is_root b rs used high run n old bytes inside many shown edits one wrote lower below same_free top above
+    can =
+    let m = edits rs (lent_leaf told free page is_root b rs used old shown can) in
+    leaf_edited told now_told free now size page bytes is_root b rs used high rs (edit_all (take n run) rs) (take n run) inside many m.is
+    (record { is = refl; due = m.due }) refl below wrote same_free
+    (subst (λ k. k ≤ length (edit_all (take n run) rs)) lower (m.enough one))
     top (all_first (is_above b.low) n run above) can
 
 -- an edit of the leaf is not due
-pub leaf_fails : (e : Stop) (told mid : Option (List (List ℕ))) (free between : ℕ → Bool) (page least : ℕ) (is_root : Bool) (b : Bounds) (rs : List Record)
-    (used : List ℕ) (high : Option Key) (run : List Edit) (n : ℕ) → (p : HasPlan told page least run n) → mid ≡ told → between ≡ free
-    → ((pages : List (List ℕ)) (leaf : List Record) → mid ≡ Some pages → leaf_of (slice_index_or pages page []) ≡ Some leaf
-    → HasRoomFor (take n run) (length leaf) → between page ≡ false → (q : ℕ) → e ≡ Damaged q → are_due (take n run) leaf ≡ false)
-    → NamesPage 1 e → list_all (is_below high) (edit_keys (take n run)) ≡ true → b.high ≡ high → CanEdit told free page 1 is_root b rs used
-    → (q : ℕ) → e ≡ Damaged q → (q ≡ 0) × Fails run b.high rs
-leaf_fails e told mid free between page least is_root b rs used high run n p same same_free fails names below top can q is =
-    let f = found_again told mid free page least is_root b rs used run n same p can in
-    let missing = fails f.pages p.leaf f.is f.at p.room (ap (λ (h : ℕ → Bool). h page) same_free ∙ leaf_taken told free page is_root b rs used can) q is in (
-      zero q (subst (NamesPage 1) is names),
-      fails_here high b.high run p.leaf rs n top (leaf_same told free page is_root b rs p.leaf used can p.reads) missing below,
-    )
-  where
-    zero : (q : ℕ) → q < 1 → q ≡ 0
-    zero q h = omega arith
+pub leaf_fails : (told : Option (List (List ℕ))) (free : ℕ → Bool) (page : ℕ) (is_root : Bool) (b : Bounds) (rs : List Record)
+    (used : List ℕ) (high : Option Key) (run : List Edit) (old : List ℕ) → IfSome told (λ pages. old ≡ slice_index_or pages page [])
+    → ((rs : List Record) → leaf_of old ≡ Some rs → Fails run high rs) → b.high ≡ high → CanEdit told free page 1 is_root b rs used → Fails run b.high rs
+leaf_fails told free page is_root b rs used high run old shown fails top can =
+    subst (λ o. Fails run o rs) (sym top) (fails rs (lent_leaf told free page is_root b rs used old shown can))
+
+-- bytes that are written back as they were change nothing
+pub wrote_same : (told now_told : Option (List (List ℕ))) (page : ℕ) (old bytes : List ℕ) → IfSome told (λ pages. old ≡ slice_index_or pages page [])
+    → bytes ≡ old → Goes (λ before after. after ≡ slice_set before page bytes) told now_told → now_told ≡ told
+wrote_same None None page old bytes shown same wrote = refl
+wrote_same None (Some after) page old bytes shown same wrote = absurd wrote
+wrote_same (Some before) None page old bytes shown same wrote = absurd wrote
+wrote_same (Some before) (Some after) page old bytes shown same wrote =
+    ap Some (wrote ∙ ap (slice_set before page) (same ∙ shown) ∙ set-get_or before page [])

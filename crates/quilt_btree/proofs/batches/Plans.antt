@@ -1,7 +1,6 @@
 -- How many records a leaf has behind each edit of a run.
-use Rattle.std.proofs.Common.{◌≡◌, ℕ, zero, suc, ◌+◌, ◌-◌, ◌<◌, ◌≤◌, true, false, List, [], ◌∷◌, ◌++◌, length, take, set}
-use Rattle.std.proofs.Common.{Option, Some, None, IfSome, slice_index_or, refl, sym, ◌∙◌, ap, subst, arith}
-use Rattle.std.specs.Option.{is_some}
+use Rattle.std.proofs.Common.{◌≡◌, ℕ, zero, suc, ◌+◌, ◌-◌, ◌<◌, ◌≤◌, true, List, [], ◌∷◌, ◌++◌, length, take, set}
+use Rattle.std.proofs.Common.{Option, Some, refl, sym, ◌∙◌, ap, subst, arith}
 use Rattle.std.specs.List.{list_all, insert, remove}
 use Rattle.quilt_record.specs.declared.key.Key.{Key}
 use Rattle.quilt_record.specs.declared.record.Record.{Record}
@@ -10,12 +9,11 @@ use Rattle.quilt_node.specs.Nodes.{IsFound, keys_of}
 use Rattle.quilt_node.specs.Pages.{is_ascending, leaf_of}
 use Rattle.quilt_node.specs.Tree.{is_below}
 use Rattle.quilt_btree.specs.declared.edit.Edit.{Edit}
-use Rattle.quilt_btree.specs.Batches.{key_of, edit_keys, is_due, edited, edit_all, are_due, more_of, fewer_of, size_behind, size_after, HasRoom, HasRoomFor, HasPlan}
+use Rattle.quilt_btree.specs.Batches.{key_of, edit_keys, is_due, edited, edit_all, are_due, more_of, fewer_of, size_behind, size_after, HasRoom, HasRoomFor, EditsLeaf}
 use Rattle.quilt_btree.proofs.batches.Leaves.{edit_at, taken, seen_next, IsEdited, edited_next, put_over_many}
 use Rattle.quilt_btree.proofs.batches.Whole.{asc_edited, length_edited}
 use Rattle.quilt_btree.proofs.subtrees.Trees.{leaf_list}
 use Rattle.quilt_btree.proofs.subtrees.Walks.{and_parts}
-use Rattle.quilt_btree.proofs.ways.Forks.{are_of}
 
 -- one edit more
 pub size_on : (xs : List Edit) (e : Edit) (n : ℕ) → size_after (xs ++ e ∷ []) n ≡ size_behind e (size_after xs n)
@@ -152,22 +150,12 @@ pub room_next : (bytes : List ℕ) (leaf : List Record) (run : List Edit) (i : �
     → (m : IsMade bytes leaf run i) → HasRoom (edit_at run i) (length m.now)
 room_next bytes leaf run i lt h m = subst (HasRoom (edit_at run i)) (sym m.many) (room_at run i (length leaf) lt h)
 
--- what was planned for a leaf
-pub has_plan : (told : Option (List (List ℕ))) (page least : ℕ) (run : List Edit) (n many : ℕ) (bytes : List ℕ) → is_some (leaf_of bytes) ≡ true
-    → IfSome told (λ pages. bytes ≡ slice_index_or pages page []) → ((rs : List Record) → leaf_of bytes ≡ Some rs → (many ≡ length rs) × (1 ≤ many))
-    → HasRoomFor (take n run) many → (1 ≤ n → least ≤ size_after (take n run) many) → HasPlan told page least run n
-has_plan told page least run n many bytes is shown count room enough = at (leaf_of bytes) refl is
-  where
-    at : (o : Option (List Record)) → leaf_of bytes ≡ o → is_some o ≡ true → HasPlan told page least run n
-    at None e h = absurd (no h)
-      where
-        no : false ≡ true → ⊥
-        no f = cc
-    at (Some rs) e h =
-        let m = (count rs e).0 in
-        record {
-          leaf = rs;
-          reads = λ pages t. ap leaf_of (sym (are_of told page bytes shown pages t)) ∙ e;
-          room = subst (HasRoomFor (take n run)) m room;
-          enough = λ one. subst (λ k. least ≤ size_after (take n run) k) m (enough one);
-        }
+-- what the planned edits make of a leaf
+pub leaf_planned : (bytes new : List ℕ) (rs : List Record) (run : List Edit) (n many least : ℕ) → leaf_of bytes ≡ Some rs → many ≡ length rs
+    → (1 ≤ n → least ≤ size_after (take n run) many) → (leaf_of new ≡ Some (edit_all (take n run) rs)) × (are_due (take n run) rs ≡ true)
+    → EditsLeaf least run n rs new
+leaf_planned bytes new rs run n many least was is enough made = record {
+  is = made.0;
+  due = made.1;
+  enough = λ one. subst (λ k. least ≤ k) (ap (size_after (take n run)) is ∙ sym (size_all (take n run) rs (leaf_list bytes rs was).ascends made.1)) (enough one);
+}

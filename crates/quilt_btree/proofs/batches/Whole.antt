@@ -1,10 +1,10 @@
 -- A whole tree behind edits.
-use Rattle.std.proofs.Common.{◌≡◌, ◌≢◌, ℕ, zero, suc, ◌+◌, ◌-◌, ◌<◌, ◌≤◌, Bool, true, false, not, ◌&&◌, ◌||◌, filter, List, [], ◌∷◌, ◌++◌, length, map, take, drop}
+use Rattle.std.proofs.Common.{◌≡◌, ◌≢◌, ℕ, zero, suc, ◌+◌, ◌-◌, ◌<◌, ◌≤◌, Bool, true, false, not, ◌&&◌, ◌||◌, filter, List, [], ◌∷◌, ◌++◌, length, take, drop}
 use Rattle.std.proofs.Common.{Option, None, Result, Ok, Err, IfOk, IfErr, refl, sym, ◌∙◌, ap, subst, arith, take-append-drop, length-drop}
 use Rattle.std.proofs.Common.{◌*◌}
 use Rattle.std.proofs.Common.{Ordering, Less, Equal, Greater}
 use Rattle.std.specs.Prelude.{if◌then◌else◌}
-use Rattle.std.specs.List.{list_all, list_any, range_with_len}
+use Rattle.std.specs.List.{list_all, list_any}
 use Rattle.std.specs.Ordering.{is_lt, is_eq, ordering_reverse}
 use Rattle.std.proofs.Math.Seq.{take-add}
 use Rattle.std.proofs.lemmas.List.{take_rest, take_all}
@@ -28,7 +28,6 @@ use Rattle.quilt_btree.specs.Edits.{CanEdit, IsWhole}
 use Rattle.quilt_btree.specs.Trees.{IsRooted}
 use Rattle.quilt_btree.proofs.batches.Leaves.{edit_at, taken, edit_all-append, are_due-append}
 use Rattle.quilt_btree.proofs.growth.Fills.{within_put}
-use Rattle.quilt_btree.proofs.growth.Runs.{each_from}
 use Rattle.quilt_btree.proofs.growth.TreeGrowth.{length-put, everywhere, whole_again}
 use Rattle.quilt_btree.proofs.lists.Lists.{filter_cond}
 use Rattle.quilt_btree.proofs.lists.RisingApart.{ascending_back}
@@ -360,13 +359,26 @@ still_rooted size m a b f all t r ne e g some room = record {
     enough : (m f r a b l q : ℕ) → m + f ≡ r + a → a + b ≡ l → r + l ≤ q → m ≤ q
     enough m f r a b l q e g h = omega arith
 
--- the keys of a run, place by place
-pub keys_at : (run : List Edit) → edit_keys run ≡ map (λ i. key_of (edit_at run i)) (range_with_len 0 (length run))
-keys_at [] = refl
-keys_at (e ∷ run) = ap (λ l. key_of e ∷ l) (keys_at run ∙ sym (each_from (λ i. key_of (edit_at (e ∷ run) i)) 0 (length run)))
+-- a key stands above those of a run where it is above the last
+follows_last : (e : Edit) (run : List Edit) (k : Key) → is_ascending (edit_keys (e ∷ run)) ≡ true
+    → is_ascending (edit_keys (e ∷ run) ++ k ∷ []) ≡ is_lt (key_cmp (key_of (edit_at (e ∷ run) (length run))) k)
+follows_last e [] k h = alone (is_lt (key_cmp (key_of e) k))
+  where
+    alone : (b : Bool) → (b && true) ≡ b
+    alone true = refl
+    alone false = refl
+follows_last e (f ∷ run) k h =
+    let t = and_parts (is_lt (key_cmp (key_of e) (key_of f))) (is_ascending (edit_keys (f ∷ run))) h in
+    ap (λ b. b && is_ascending (edit_keys (f ∷ run) ++ k ∷ [])) t.0 ∙ follows_last f run k t.1
 
-pub same_test : (b : Bool) (k l m n : Key) → b ≡ is_lt (key_cmp k l) → k ≡ m → l ≡ n → b ≡ is_lt (key_cmp m n)
-same_test b k l m n e f g = cc
+pub follows_all : (run : List Edit) (k l : Key) (b : Bool) → length run ≢ 0 → is_ascending (edit_keys run) ≡ true
+    → l ≡ key_of (edit_at run (length run - 1)) → b ≡ is_lt (key_cmp l k) → b ≡ is_ascending (edit_keys run ++ k ∷ [])
+follows_all [] k l b some a is test = absurd (some refl)
+follows_all (e ∷ run) k l b some a is test =
+    test ∙ ap (λ m. is_lt (key_cmp m k)) (is ∙ ap (λ n. key_of (edit_at (e ∷ run) n)) (less (length run))) ∙ sym (follows_last e run k a)
+  where
+    less : (n : ℕ) → suc n - 1 ≡ n
+    less n = omega arith
 
 pub looks_are : (run : List Edit) → looks run ≡ 10 * length (removed run) + 6 * length (added run)
 looks_are [] = refl

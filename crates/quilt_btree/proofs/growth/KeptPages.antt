@@ -19,6 +19,7 @@ use Rattle.quilt_store.specs.Stops.{IsSound}
 use Rattle.quilt_btree.specs.Subtree.{Subtree}
 use Rattle.quilt_btree.specs.Trees.{IsRooted}
 use Rattle.quilt_btree.specs.Edits.{times, account, Moves, Becomes, CanEdit, CanInsert, HasItsPages}
+use Rattle.quilt_btree.specs.Inserts.{AreFew}
 use Rattle.quilt_btree.specs.Rebalancing.{HasGiven}
 use Rattle.quilt_btree.proofs.lists.Counts.{times_here}
 use Rattle.quilt_btree.proofs.subtrees.Density.{third_filled}
@@ -73,11 +74,11 @@ pub insert_can : (told : Option (List (List ℕ))) (free : ℕ → Bool) (size :
 insert_can told free size t k rs room a = record { can_edit = a.can; low = refl; high = refl; room = omega arith }
 
 pub sound_kept : (e : Stop) (told : Option (List (List ℕ))) (free : ℕ → Bool) (size : ℕ) (t : Tree) (k : Key) (rs : List Record) → t.height ≢ 0
-    → ((is_root : Bool) (b : Bounds) (rs : List Record) (used : List ℕ) → CanInsert told free size t.root t.height is_root b k rs used → IsSound e)
-    → t.height < count_free free size → HasItsPages told free t rs → IsSound e
-sound_kept e told free size t k rs ne f room w =
+    → ((is_root : Bool) (b : Bounds) (rs : List Record) (used : List ℕ) → CanInsert told free size t.root t.height is_root b k rs used → AreFew rs → IsSound e)
+    → AreFew rs → t.height < count_free free size → HasItsPages told free t rs → IsSound e
+sound_kept e told free size t k rs ne f few room w =
     let a = at_root told free t rs ne w in
-    f true everywhere rs a.used (insert_can told free size t k rs room a)
+    f true everywhere rs a.used (insert_can told free size t k rs room a) few
 
 pub kept_done : (r : Record) (told now_told : Option (List (List ℕ))) (free now : ℕ → Bool) (size : ℕ) (t : Tree) (rs : List Record) → t.height ≢ 0
     → UnderRoot r told now_told free now size t inserted.Done

@@ -22,6 +22,7 @@ use Rattle.quilt_store.specs.Stops.{IsSound}
 use Rattle.quilt_btree.specs.Subtree.{Row, Subtree, IsFresh}
 use Rattle.quilt_btree.specs.Trees.{IsRooted, IsTree}
 use Rattle.quilt_btree.specs.Edits.{times, account, Moves, Separated, CanInsert, DidInsert, IsWhole}
+use Rattle.quilt_btree.specs.Inserts.{AreFew}
 use Rattle.quilt_btree.specs.declared.outcomes.Inserted.{Inserted}
 use Rattle.quilt_btree.specs.declared.outcomes.Inserted.TheVariants as inserted
 use Rattle.quilt_btree.proofs.lists.Counts.{times-append, once_from_fresh, fresh_from_once, times_here}
@@ -176,13 +177,20 @@ UnderRoot r told now_told free now size t o =
     (is_root : Bool) (b : Bounds) (rs : List Record) (used : List ℕ) → CanInsert told free size t.root t.height is_root b r.key rs used
     → DidInsert r told now_told free now t.root t.height is_root b rs used o
 
+-- a tree within its quota has few records
+pub few_records : (size records : ℕ) (rs : List Record) → length rs ≡ records → records < quota size → size ≤ 30000 → AreFew rs
+few_records size records rs is room most = below size (length rs) records is room most
+  where
+    below : (n l m : ℕ) → l ≡ m → m < quota n → n ≤ 30000 → l < 2322576
+    below n l m e h most = omega arith
+
 pub sound_root : (e : Stop) (told : Option (List (List ℕ))) (free : ℕ → Bool) (size : ℕ) (t : Tree) (k : Key) (rs : List Record)
     → IsInserting told free size t → t.height ≢ 0
-    → ((is_root : Bool) (b : Bounds) (rs : List Record) (used : List ℕ) → CanInsert told free size t.root t.height is_root b k rs used → IsSound e)
+    → ((is_root : Bool) (b : Bounds) (rs : List Record) (used : List ℕ) → CanInsert told free size t.root t.height is_root b k rs used → AreFew rs → IsSound e)
     → IsWhole told free size t rs → IsSound e
 sound_root e told free size t k rs i ne f w =
     let x = insert_from told free size t rs i ne w in
-    f true everywhere rs x.used (whole_can told free size t.root t.height k rs i.rooted.height x)
+    f true everywhere rs x.used (whole_can told free size t.root t.height k rs i.rooted.height x) (few_records size t.records rs w.number i.room i.most)
 
 pub whole_there : (r : Record) (told now_told : Option (List (List ℕ))) (free now : ℕ → Bool) (size : ℕ) (t : Tree) (rs : List Record)
     → IsInserting told free size t → t.height ≢ 0 → UnderRoot r told now_told free now size t inserted.There

@@ -1,6 +1,6 @@
 -- A record put in below an inner page.
 use Rattle.std.proofs.Common.{◌≡◌, ◌≢◌, ℕ, suc, ◌+◌, ◌-◌, ◌<◌, ◌≤◌, Bool, true, false, ◌&&◌, ◌||◌, nat_le, List, [], ◌∷◌, ◌++◌, length, take, drop, Option}
-use Rattle.std.proofs.Common.{Some, Result, Ok, Err, IfOk, IfErr, slice_index, refl, sym, ◌∙◌, subst, arith}
+use Rattle.std.proofs.Common.{Some, Result, Ok, Err, IfOk, IfErr, slice_index, refl, sym, ◌∙◌, ap, subst, arith, length-append}
 use Rattle.std.specs.Prelude.{nat_lt}
 use Rattle.std.specs.List.{insert, list_any}
 use Rattle.std.proofs.lemmas.Bool.Decides.{nat_tests}
@@ -19,11 +19,12 @@ use Rattle.quilt_store.specs.Stops.{IsSound}
 use Rattle.quilt_btree.specs.Subtree.{Row, Subtree}
 use Rattle.quilt_btree.specs.Trees.{ReadsInner}
 use Rattle.quilt_btree.specs.Edits.{Moves, Becomes, HasInserted, CanInsert, DidInsert}
-use Rattle.quilt_btree.specs.Inserts.{HasPut, IsPending, DidPut}
+use Rattle.quilt_btree.specs.Inserts.{HasPut, IsPending, DidPut, AreFew}
 use Rattle.quilt_btree.specs.declared.outcomes.Inserted.{Inserted}
 use Rattle.quilt_btree.specs.declared.outcomes.Inserted.TheVariants as inserted
 use Rattle.quilt_btree.proofs.subtrees.Along.{IsSame, can_along, did_along}
 use Rattle.quilt_btree.proofs.growth.Below.{IsBelow, go_below, cut_at_child, child_above, child_below}
+use Rattle.quilt_btree.proofs.subtrees.Density.{few_children}
 use Rattle.quilt_btree.proofs.subtrees.Descents.{child_bounds}
 use Rattle.quilt_btree.proofs.lists.Lists.{put_between, any_between}
 use Rattle.quilt_btree.proofs.stores.Moves.{apart_then, moves_then}
@@ -315,6 +316,13 @@ took_child (Ok o) r told then_told mid_told now_told free then_free mid now size
           (subst (λ n. HasPut did.pages did.news mid now page n is_root b (x.under ++ page ∷ []) (put r rs) o) x.tall did.done));
     }
 
+-- a page of height 3 has a place for another child
+few_under : (told : Option (List (List ℕ))) (free : ℕ → Bool) (size page height : ℕ) (is_root : Bool) (b : Bounds) (k : Key) (rs : List Record) (used : List ℕ)
+    (inner : Inner) → ReadsInner told page inner → CanInsert told free size page height is_root b k rs used → AreFew rs → height ≡ 3 → length inner.children < 254
+few_under told free size page height is_root b k rs used inner reads can few three =
+    let e = can.can_edit in
+    few_children e.pages is_root (page, b) rs used inner (subst (λ h. Subtree e.pages h is_root (page, b) rs used) three e.subtree) (reads e.pages e.is_told) few
+
 -- where the page does not take it, no page is damaged
 pub sound_child : (result : Result Inserted Stop) (r : Record) (told then_told mid_told : Option (List (List ℕ))) (free then_free mid : ℕ → Bool)
     (size then_size mid_size page height child i : ℕ) (inner : Inner) (key : Key) (right : ℕ)
@@ -325,16 +333,18 @@ pub sound_child : (result : Result Inserted Stop) (r : Record) (told then_told m
     → CanInsert then_told then_free then_size child (height - 1) is_root b r.key rs used
     → DidInsert r then_told mid_told then_free mid child (height - 1) is_root b rs used (inserted.Split key right))
     → IfErr result (λ e. (is_root : Bool) (b : Bounds) (all : List Record) (under : List ℕ)
-    → IsPending mid_told mid page is_root b (with_child inner i key right) all under → 0 < count_free mid mid_size → IsSound e)
+    → IsPending mid_told mid page is_root b (with_child inner i key right) all under → 0 < count_free mid mid_size
+    → (inner.height ≡ 3 → length inner.children < 254) → IsSound e)
     → IfErr result (λ e. (is_root : Bool) (b : Bounds) (rs : List Record) (used : List ℕ)
-    → CanInsert told free size page height is_root b r.key rs used → IsSound e)
+    → CanInsert told free size page height is_root b r.key rs used → AreFew rs → IsSound e)
 sound_child (Ok o) r told then_told mid_told free then_free mid size then_size mid_size page height child i inner key right l many in_range same few f g = g
 sound_child (Err e) r told then_told mid_told free then_free mid size then_size mid_size page height child i inner key right l many in_range same few
-    f g = λ is_root b rs used can.
+    f g = λ is_root b rs used can small.
     let x =
     under_takes r told then_told mid_told free then_free mid size then_size page height child i inner is_root b rs used key right l many in_range f can in
     g is_root b (put r rs) x.under x.pending
     (subst (λ n. 0 < count_free mid n) (sym same) (left (count_free free size) (count_free mid size) height l.some few can.room))
+    (λ three. few_under told free size page height is_root b r.key rs used inner l.reads can small (sym x.tall ∙ three))
   where
     left : (c d h : ℕ) → 1 ≤ h → c ≤ d + (h - 1) → h ≤ c → 0 < d
     left c d h some e f = omega arith
@@ -344,18 +354,23 @@ pub sound_under : (e : Stop) (told then_told : Option (List (List ℕ))) (free t
     (inner : Inner) (is_root : Bool) (b : Bounds) (rs : List Record) (used : List ℕ)
     → LeadsToChild told then_told free then_free size then_size page height child i k inner
     → ((is_root : Bool) (b : Bounds) (rs : List Record) (used : List ℕ)
-    → CanInsert then_told then_free then_size child (height - 1) is_root b k rs used → IsSound e)
-    → CanInsert told free size page height is_root b k rs used → IsSound e
-sound_under e told then_told free then_free size then_size page height child i k inner is_root b rs used l f can =
+    → CanInsert then_told then_free then_size child (height - 1) is_root b k rs used → AreFew rs → IsSound e)
+    → CanInsert told free size page height is_root b k rs used → AreFew rs → IsSound e
+sound_under e told then_told free then_free size then_size page height child i k inner is_root b rs used l f can few =
     let x = insert_below told then_told free then_free size then_size page height child i k inner is_root b rs used l can in
     f false (child_bounds inner b i) x.at.here x.at.here_used
     (child_can told then_told free then_free size then_size page height child i k inner is_root b rs used l can x)
+    (fewer (length rs) (length x.at.first) (length x.at.here) (length x.at.last)
+    (ap length x.among.records ∙ length-append x.at.first (x.at.here ++ x.at.last) ∙ ap (λ n. length x.at.first + n) (length-append x.at.here x.at.last)) few)
+  where
+    fewer : (n f h l : ℕ) → n ≡ f + (h + l) → n < 2322576 → h < 2322576
+    fewer n f h l e lt = omega arith
 
 -- a leaf at height 1
 pub sound_leaf : (result : Result Inserted Stop) (told : Option (List (List ℕ))) (free : ℕ → Bool) (size page height : ℕ) (k : Key) → height ≡ 1
     → IfErr result (λ e. (is_root : Bool) (b : Bounds) (rs : List Record) (used : List ℕ) → CanInsert told free size page 1 is_root b k rs used → IsSound e)
     → IfErr result (λ e. (is_root : Bool) (b : Bounds) (rs : List Record) (used : List ℕ)
-    → CanInsert told free size page height is_root b k rs used → IsSound e)
+    → CanInsert told free size page height is_root b k rs used → AreFew rs → IsSound e)
 sound_leaf (Ok o) told free size page height k one f = f
 sound_leaf (Err e) told free size page height k one f =
-    λ is_root b rs used can. f is_root b rs used (subst (λ h. CanInsert told free size page h is_root b k rs used) one can)
+    λ is_root b rs used can few. f is_root b rs used (subst (λ h. CanInsert told free size page h is_root b k rs used) one can)

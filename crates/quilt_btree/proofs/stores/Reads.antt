@@ -1,5 +1,5 @@
 -- How many pages calls read, one behind the other.
-use Rattle.std.proofs.Common.{◌≡◌, ℕ, ◌+◌, ◌≤◌, Option, Some, None, Result, Ok, Err, IfOk, List, take, arith}
+use Rattle.std.proofs.Common.{ℕ, ◌+◌, ◌≤◌, Option, Some, None, Result, Ok, Err, IfOk, List, take, arith}
 use Rattle.quilt_types.specs.declared.stop.Stop.{Stop}
 use Rattle.quilt_world.specs.Tale.{Goes}
 use Rattle.quilt_btree.specs.declared.edit.Edit.{Edit}
@@ -19,16 +19,6 @@ reads_more m k (Some a) None le f = f
 reads_more m k None (Some b) le f = f
 reads_more m k None None le f = f
 
--- what a way down to a leaf reads, whose edits are made there or not
-abbrev pub WayReads : (height n : ℕ) → Option ℕ → Option ℕ → Type 0
-WayReads height n a b = Goes (λ x y. (y ≤ x + height + 1) × (n ≡ 0 → y ≤ x + height)) a b
-
-pub way_looks : (height n k : ℕ) (a b : Option ℕ) → height ≤ 3 → 6 ≤ k → WayReads height n a b → Goes (λ x y. y ≤ x + k) a b
-way_looks height n k (Some a) (Some b) le some f = let h = f.0 in omega arith
-way_looks height n k (Some a) None le some f = f
-way_looks height n k None (Some b) le some f = f
-way_looks height n k None None le some f = f
-
 -- and the first edit behind it
 less_looks : (k : ℕ) (a b : Option ℕ) → Goes (λ x y. y + 3 ≤ x + k) a b → Goes (λ x y. y ≤ x + k) a b
 less_looks k (Some a) (Some b) f = omega arith
@@ -41,15 +31,15 @@ pub first_less : (r : Result ℕ Stop) (run : List Edit) (a b : Option ℕ) → 
 first_less (Err e) run a b f = f
 first_less (Ok m) run a b f = less_looks (looks (take m run)) a b f
 
-way_then : (height n k : ℕ) (a b c : Option ℕ) → height ≤ 3 → n ≡ 0 → WayReads height n a b → Goes (λ x y. y + 3 ≤ x + k) b c → Goes (λ x y. y ≤ x + k) a c
-way_then height n k (Some a) (Some b) (Some c) le z f g = let h = f.1 z in omega arith
-way_then height n k (Some a) (Some b) None le z f g = g
-way_then height n k (Some a) None c le z f g = absurd f
-way_then height n k None (Some b) c le z f g = absurd f
-way_then height n k None None (Some c) le z f g = g
-way_then height n k None None None le z f g = f
+way_then : (height k : ℕ) (a b c : Option ℕ) → height ≤ 3 → Goes (λ x y. y ≤ x + height) a b → Goes (λ x y. y + 3 ≤ x + k) b c → Goes (λ x y. y ≤ x + k) a c
+way_then height k (Some a) (Some b) (Some c) le f g = omega arith
+way_then height k (Some a) (Some b) None le f g = g
+way_then height k (Some a) None c le f g = absurd f
+way_then height k None (Some b) c le f g = absurd f
+way_then height k None None (Some c) le f g = g
+way_then height k None None None le f g = f
 
-pub first_behind : (r : Result ℕ Stop) (run : List Edit) (height n : ℕ) (a b c : Option ℕ) → height ≤ 3 → n ≡ 0 → WayReads height n a b
+pub first_behind : (r : Result ℕ Stop) (run : List Edit) (height : ℕ) (a b c : Option ℕ) → height ≤ 3 → Goes (λ x y. y ≤ x + height) a b
     → IfOk r (λ m. Goes (λ x y. y + 3 ≤ x + looks (take m run)) b c) → IfOk r (λ m. Goes (λ x y. y ≤ x + looks (take m run)) a c)
-first_behind (Err e) run height n a b c le z f g = g
-first_behind (Ok m) run height n a b c le z f g = way_then height n (looks (take m run)) a b c le z f g
+first_behind (Err e) run height a b c le f g = g
+first_behind (Ok m) run height a b c le f g = way_then height (looks (take m run)) a b c le f g

@@ -1,11 +1,12 @@
 -- How many pages a tree uses for its records.
-use Rattle.std.proofs.Common.{◌≡◌, ℕ, zero, suc, ◌+◌, ◌-◌, ◌*◌, ◌<◌, ◌≤◌, true, false, ◌||◌, nat_le, List, [], ◌∷◌, length, Some, refl, ◌∙◌, ap, arith}
+use Rattle.std.proofs.Common.{◌≡◌, ℕ, zero, suc, ◌+◌, ◌-◌, ◌*◌, ◌<◌, ◌≤◌, true, false, ◌||◌, nat_le, Bool, List, [], ◌∷◌, length, Some, slice_index_or, refl, ◌∙◌, ap, arith}
 use Rattle.std.proofs.Common.{length-append}
 use Rattle.std.proofs.Math.Nat.{suc-mul}
 use Rattle.std.proofs.lemmas.Bool.Decides.{nat_tests}
 use Rattle.quilt_types.specs.Facts.{quota}
 use Rattle.quilt_record.specs.declared.key.Key.{Key}
 use Rattle.quilt_record.specs.declared.record.Record.{Record}
+use Rattle.quilt_node.specs.Pages.{Inner, inner_of}
 use Rattle.quilt_node.specs.Tree.{Bounds, bounded}
 use Rattle.quilt_btree.specs.Subtree.{Reading, Row, Subtree}
 
@@ -55,6 +56,21 @@ third_filled pages at rs used s =
   where
     filled : (p c r : ℕ) → p ≡ c → 127 ≤ c → p * 9144 ≤ r → 1161288 ≤ r
     filled p c r e h g = omega arith
+
+-- a page of height 3 with few records below it has a place for another child
+pub few_children : (pages : List (List ℕ)) (is_root : Bool) (at : ℕ × Bounds) (rs : List Record) (used : List ℕ) (inner : Inner)
+    → Subtree pages 3 is_root at rs used → inner_of (length pages) (slice_index_or pages at.0 []) ≡ Some inner → length rs < 2322576
+    → length inner.children < 254
+few_children pages is_root at rs used inner s is few =
+    let row = row_filled (Subtree pages 2 false) 9144 (second_filled pages) (bounded s.inner.children s.inner.keys at.1) rs s.under s.children in
+    let places = length_bounded s.inner.children s.inner.keys at.1 in
+    let page = s.page in
+    let same : s.inner ≡ inner = cc in
+    below (length (bounded s.inner.children s.inner.keys at.1)) (length s.inner.children) (length inner.children) (length rs) places
+    (ap (λ (i : Inner). length i.children) same) row few
+  where
+    below : (p c n r : ℕ) → p ≡ c → c ≡ n → p * 9144 ≤ r → r < 2322576 → n < 254
+    below p c n r e f h g = omega arith
 
 -- a row of leaves has as many pages as places
 row_of_leaves : (pages : List (List ℕ)) (cs : List (ℕ × Bounds)) (rs : List Record) (used : List ℕ)

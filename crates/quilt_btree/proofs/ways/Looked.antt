@@ -1,10 +1,5 @@
 -- A page above the leaves that was looked at where it lies.
-use Rattle.std.proofs.Common.{◌≡◌, ◌≢◌, ℕ, ◌-◌, ◌≤◌, List, [], length, Option, Some, None, Result, Ok, Err, IfErr, IfSome, slice_index, slice_index_or, refl, sym, ◌∙◌, ap, subst, Bool, true, false}
-use Rattle.std.specs.Prelude.{MatchResult}
-use Rattle.std.specs.Option.{is_some}
-use Rattle.std.specs.Result.{is_ok}
-use Rattle.quilt_node.specs.Nodes.{IsFound, IsGap}
-use Rattle.quilt_node.proofs.LeafReads as leaf
+use Rattle.std.proofs.Common.{◌≡◌, ◌≢◌, ℕ, ◌-◌, ◌≤◌, List, [], length, Option, Some, None, Result, Ok, Err, IfErr, IfSome, slice_index, slice_index_or, refl, sym, subst}
 use Rattle.std.specs.List.{last_or}
 use Rattle.quilt_types.specs.declared.stop.Stop.TheVariants.{Damaged}
 use Rattle.quilt_node.specs.Pages.{Inner, leaf_of, inner_of}

@@ -6,4 +6,4 @@ abbrev pub decreases-loop-edit : goal.decreases-loop-edit
 decreases-loop-edit l = length l.goes + length l.comes
 
 abbrev pub invariant-loop-edit : goal.invariant-loop-edit
-invariant-loop-edit l = HasMerged l.removed l.added l.run.items l.goes l.comes
+invariant-loop-edit l = HasMerged l.removed l.added l.batch l.goes l.comes

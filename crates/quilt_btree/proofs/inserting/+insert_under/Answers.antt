@@ -16,12 +16,12 @@ returns-then-height-eq1-clause-sound g t c =
     c.args.page c.args.height c.args.r.now.key c.if-height-eq1.true c.insert_leaf.ensures.sound
 
 pub returns-in-Err-clause-sound : goal.returns-in-Err-clause-sound
-returns-in-Err-clause-sound g t c is_root b rs used can =
+returns-in-Err-clause-sound g t c is_root b rs used can few =
     c.in-Err.ensures.sound c.args.height rs c.requires.height c.if-height-eq1.false
     (edit_spells (g.S.PageStore.told c.args.store.now) (g.S.PageStore.free c.args.store.now) c.args.page c.args.height is_root b rs used can.can_edit)
 
 pub returns-in-Err-insert_under-clause-sound : goal.returns-in-Err-insert_under-clause-sound
-returns-in-Err-insert_under-clause-sound g t c is_root b rs used can =
+returns-in-Err-insert_under-clause-sound g t c is_root b rs used can few =
     let h = c.in-Ok.ensures.here c.args.height rs c.requires.height c.if-height-eq1.false
     (edit_spells (g.S.PageStore.told c.args.store.now) (g.S.PageStore.free c.args.store.now) c.args.page c.args.height is_root b rs used can.can_edit) in
     let w = c.in-Ok.ensures.way h.inner h.is in
@@ -36,7 +36,7 @@ returns-in-Err-insert_under-clause-sound g t c is_root b rs used can =
       reads = w.reads;
       place = w.is_place;
       is_child = w.child_is;
-    }) c.in-Err-insert_under.ensures.sound can
+    }) c.in-Err-insert_under.ensures.sound can few
 
 pub returns-in-Ok-There-clause-inserted : goal.returns-in-Ok-There-clause-inserted
 returns-in-Ok-There-clause-inserted g t c is_root b rs used can =
@@ -184,7 +184,7 @@ returns-in-Some-clause-finds g t c =
     (rw c.in-Ok-Split.field-0-is at c.in-Ok-Split.ensures.finds) rs s)
 
 pub returns-in-None-clause-sound : goal.returns-in-None-clause-sound
-returns-in-None-clause-sound g t c is_root b rs used can =
+returns-in-None-clause-sound g t c is_root b rs used can few =
     let h = c.in-Ok.ensures.here c.args.height rs c.requires.height c.if-height-eq1.false
     (edit_spells (g.S.PageStore.told c.args.store.now) (g.S.PageStore.free c.args.store.now) c.args.page c.args.height is_root b rs used can.can_edit) in
     absurd (c.in-None.ensures.none refl

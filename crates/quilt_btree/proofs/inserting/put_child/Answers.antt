@@ -1,4 +1,4 @@
-use Rattle.std.proofs.Common.{◌≡◌, suc, ◌≤◌, length, refl, subst, arith}
+use Rattle.std.proofs.Common.{◌≡◌, suc, ◌≤◌, length, refl, sym, ◌∙◌, subst, arith}
 use Rattle.quilt_node.specs.Pages.{Inner}
 use Rattle.std.specs.List.{insert}
 use Rattle.std.proofs.lemmas.List.Edits.{length-insert}
@@ -7,7 +7,7 @@ use Rattle.quilt_btree.proofs.growth.InnerGrowth.{IsWritten, pending_taken, put_
 use Rattle.quilt_btree.proofs.inserting.put_child.Goals as goal
 
 pub returns-in-Err-clause-sound : goal.returns-in-Err-clause-sound
-returns-in-Err-clause-sound g c is_root b all under p room = c.in-Err.ensures.sound (pending_taken _ _ _ _ _ _ _ _ p)
+returns-in-Err-clause-sound g c is_root b all under p room low = c.in-Err.ensures.sound (pending_taken _ _ _ _ _ _ _ _ p)
 
 pub returns-in-Ok-clause-put : goal.returns-in-Ok-clause-put
 returns-in-Ok-clause-put g c is_root b all under p =
@@ -17,7 +17,7 @@ returns-in-Ok-clause-put g c is_root b all under p =
     (subst (λ (x : Inner). IsWritten c.bytes.result.now x) c.insert.ensures c.bytes.ensures.inner) refl c.in-Ok.ensures.told c.in-Ok.ensures.free p
 
 pub returns-in-Err-write_split-clause-sound : goal.returns-in-Err-write_split-clause-sound
-returns-in-Err-write_split-clause-sound g c is_root b all under p room = c.in-Err-write_split.ensures.sound (pending_taken _ _ _ _ _ _ _ _ p) room
+returns-in-Err-write_split-clause-sound g c is_root b all under p room low = c.in-Err-write_split.ensures.sound (pending_taken _ _ _ _ _ _ _ _ p) room
 
 pub returns-in-Ok-write_split-clause-put : goal.returns-in-Ok-write_split-clause-put
 returns-in-Ok-write_split-clause-put g c is_root b all under p =
@@ -40,3 +40,11 @@ returns-in-Ok-write_split-clause-put g c is_root b all under p =
       parts = c.insert_split-right.ensures.key;
     })
     refl c.in-Ok-write_split.ensures.free c.in-Ok-write_split.ensures.taken c.in-Ok-write_split.ensures.told p
+
+pub returns-then-height-eq3-clause-sound : goal.returns-then-height-eq3-clause-sound
+returns-then-height-eq3-clause-sound g c is_root b all under p room low =
+    let e = c.len.ensures.length in
+    let f = c.if-len-lt-MOST_CHILDREN.false in
+    let three : c.args.inner.now.height ≡ 3 = sym c.height.ensures ∙ c.if-height-eq3.true in
+    let lt = low three in
+    absurd (omega arith)

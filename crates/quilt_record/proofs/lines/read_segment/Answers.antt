@@ -1,7 +1,5 @@
-use Rattle.std.proofs.Common.{◌≡◌, ◌≤◌, true, false, Some, ◌∙◌, sym, subst}
-use Rattle.quilt_types.specs.Facts.{IsSegment}
-use Rattle.quilt_record.specs.Canonical.{IsRecordOf}
-use Rattle.quilt_record.proofs.Readers.{segment_key, segment_ends, segment_again}
+use Rattle.std.proofs.Common.{◌≡◌, ◌≤◌, true, false, Some, ◌∙◌, sym, subst, arith}
+use Rattle.quilt_record.proofs.Readers.{segment_key, segment_ends, segment_by_parts, segment_parts}
 use Rattle.quilt_record.proofs.lines.read_segment.Goals as goal
 
 true_false : true ≡ false → ⊥
@@ -13,18 +11,17 @@ returns-in_default-clause-one c n layer id s f =
     absurd (c.in_default.not-Some c.args.r.now.key.layer
     (c.layer_in.ensures.one (subst (λ l. 1 ≤ l) (sym k.0) f.least) (subst (λ l. l ≤ 255) (sym k.0) f.most)))
 
-pub returns-then-not-is_same-clause-one : goal.returns-then-not-is_same-clause-one
-returns-then-not-is_same-clause-one c n layer id s f =
-    absurd (true_false (sym (c.is_same.ensures.no (segment_again n c.args.r.now c.segment_record.result layer id s f
-    (subst (λ t. IsRecordOf n 0 c.segment_record.result c.args.r.now.key.layer (IsSegment c.args.r.now.key.item t)) c.segment_in-s.ensures
-    (subst (λ l. IsRecordOf n 0 c.segment_record.result l (IsSegment c.args.r.now.key.item c.segment_in-s.result)) (c.in-Some.ensures.some).1
-    (c.segment_record.ensures n))))) ∙ c.if-not-is_same.true))
+pub returns-then-not-is_of_segment-clause-one : goal.returns-then-not-is_of_segment-clause-one
+returns-then-not-is_of_segment-clause-one c n layer id s f =
+    let ends = c.segment_in-s.ensures ∙ segment_ends n c.args.r.now layer id s f in
+    absurd (true_false (sym (c.is_of_segment.ensures.no (segment_parts n c.args.r.now layer id s c.segment_in-s.result f ends))
+    ∙ c.if-not-is_of_segment.true))
 
 pub returns-clause-some : goal.returns-clause-some
 returns-clause-some c n =
-    subst (λ t. IsRecordOf n 0 t c.args.r.now.key.layer (IsSegment c.args.r.now.key.item c.segment_in-s.result)) (c.is_same.ensures.yes c.if-not-is_same.false)
-    (subst (λ l. IsRecordOf n 0 c.segment_record.result l (IsSegment c.args.r.now.key.item c.segment_in-s.result)) (c.in-Some.ensures.some).1
-    (c.segment_record.ensures n))
+    let here = c.in-Some.ensures.some in
+    segment_by_parts n c.args.r.now c.segment_in-s.result (omega arith) c.in-Some.ensures.most c.is_of_segment.ensures.small c.is_of_segment.ensures.fits
+    (c.is_of_segment.ensures.yes c.if-not-is_of_segment.false)
 
 pub returns-clause-one : goal.returns-clause-one
 returns-clause-one c n layer id s f =

@@ -1,6 +1,7 @@
-use Rattle.std.proofs.Common.{◌∙◌, ◌+◌, ◌*◌, ◌≤◌, length, take, subst, sym, arith}
+use Rattle.std.proofs.Common.{◌≡◌, true, ◌∙◌, ◌+◌, ◌*◌, ◌≤◌, length, take, subst, sym, arith}
 use Rattle.quilt_types.specs.Facts.{quota}
-use Rattle.quilt_btree.specs.Batches.{more, looks, removed, added}
+use Rattle.quilt_node.specs.Pages.{is_ascending}
+use Rattle.quilt_btree.specs.Batches.{edit_keys, more, looks, removed, added}
 use Rattle.quilt_btree.specs.Stops.{NamesPage}
 use Rattle.quilt_btree.proofs.ways.Damage.{stops_behind, run_zero, run_names, run_cause}
 use Rattle.quilt_btree.proofs.batches.Whole.{rest, made_rest, made_all, rest_long, rest_ascends, rest_fails, rest_room, rest_cost, rest_cost_all, cost_take, cost_is, rest_looks, looks_take, looks_are}
@@ -14,36 +15,36 @@ loop-done-preserved g c = record {
   made = made_rest (g.S.PageStore.told c.args.store.now) (g.S.PageStore.told c.loop-done.store) (g.S.PageStore.told c.apply_some.new.store)
       (g.S.PageStore.free c.args.store.now) (g.S.PageStore.free c.loop-done.store) (g.S.PageStore.free c.apply_some.new.store)
       (g.S.PageStore.size c.args.store.now) (g.S.PageStore.size c.loop-done.store) c.loop-done.done c.in-Ok.n c.args.self.now c.loop-done.self
-      c.apply_some.new.self c.args.run.now
+      c.apply_some.new.self c.edits-run.result.now
       c.loop-done.invariant.size c.loop-done.invariant.made c.in-Ok.ensures.rooted c.in-Ok.ensures.count c.in-Ok.ensures.edited;
-  in_range = rest_long c.args.run.now c.loop-done.done c.in-Ok.n c.loop-done-test.true c.in-Ok.ensures.number.1;
+  in_range = rest_long c.edits-run.result.now c.loop-done.done c.in-Ok.n c.loop-done-test.true c.in-Ok.ensures.number.1;
   faults = let m = c.loop-done.invariant.faults in let n = c.in-Ok.ensures.cause.later in omega arith;
   size = c.in-Ok.ensures.size ∙ c.loop-done.invariant.size;
   later = g.met.S.PageStore.goes_on _ _ _ c.loop-done.invariant.later c.in-Ok.ensures.later;
   changed = let m = c.loop-done.invariant.changed in let n = c.in-Ok.ensures.changed in
-      let e = rest_cost c.args.run.now c.loop-done.done c.in-Ok.n in omega arith;
-  reads = reads_then (looks (take c.loop-done.done c.args.run.now)) (looks (take c.in-Ok.n (rest c.args.run.now c.loop-done.done)))
-      (looks (take (c.loop-done.done + c.in-Ok.n) c.args.run.now)) _ _ _
-      (let e = rest_looks c.args.run.now c.loop-done.done c.in-Ok.n in omega arith) c.loop-done.invariant.reads c.in-Ok.ensures.reads;
+      let e = rest_cost c.edits-run.result.now c.loop-done.done c.in-Ok.n in omega arith;
+  reads = reads_then (looks (take c.loop-done.done c.edits-run.result.now)) (looks (take c.in-Ok.n (rest c.edits-run.result.now c.loop-done.done)))
+      (looks (take (c.loop-done.done + c.in-Ok.n) c.edits-run.result.now)) _ _ _
+      (let e = rest_looks c.edits-run.result.now c.loop-done.done c.in-Ok.n in omega arith) c.loop-done.invariant.reads c.in-Ok.ensures.reads;
   start = λ e. absurd (let n = c.in-Ok.ensures.number.0 in omega arith);
 }
 
 pub apply_some-requires-clause-order : goal.apply_some-requires-clause-order
-apply_some-requires-clause-order g c = rest_ascends c.args.run.now c.loop-done.done c.requires.order
+apply_some-requires-clause-order g c = rest_ascends c.edits-run.result.now c.loop-done.done (subst (λ l. is_ascending (edit_keys l) ≡ true) (sym c.edits-run.ensures.edits) c.edits-run.ensures.order)
 
 pub apply_some-requires-clause-room : goal.apply_some-requires-clause-room
 apply_some-requires-clause-room g c =
-    subst (λ n. c.loop-done.self.records + more (rest c.args.run.now c.loop-done.done) ≤ quota n) (sym c.loop-done.invariant.size)
+    subst (λ n. c.loop-done.self.records + more (rest c.edits-run.result.now c.loop-done.done) ≤ quota n) (sym c.loop-done.invariant.size)
     (rest_room (g.S.PageStore.told c.args.store.now) (g.S.PageStore.told c.loop-done.store) (g.S.PageStore.free c.args.store.now)
-    (g.S.PageStore.free c.loop-done.store) (g.S.PageStore.size c.args.store.now) c.loop-done.done c.args.self.now c.loop-done.self c.args.run.now
-    c.loop-done.invariant.made c.requires.room)
+    (g.S.PageStore.free c.loop-done.store) (g.S.PageStore.size c.args.store.now) c.loop-done.done c.args.self.now c.loop-done.self c.edits-run.result.now
+    c.loop-done.invariant.made (rw (← c.edits-run.ensures.edits) at c.requires.room))
 
 pub returns-in-Err-clause-fails : goal.returns-in-Err-clause-fails
-returns-in-Err-clause-fails g c = λ rs w.
+returns-in-Err-clause-fails g c = rw (← c.edits-run.ensures.edits) (λ rs w.
     run_zero _ c.in-Err.e c.stop_behind.result c.loop-done.done (stops_behind c.in-Err.e c.stop_behind.result c.loop-done.done c.stop_behind.ensures)
     (rest_fails c.in-Err.e (g.S.PageStore.told c.args.store.now) (g.S.PageStore.told c.loop-done.store) (g.S.PageStore.free c.args.store.now)
     (g.S.PageStore.free c.loop-done.store) (g.S.PageStore.size c.args.store.now) (g.S.PageStore.size c.loop-done.store) c.loop-done.done
-    c.args.self.now c.loop-done.self c.args.run.now c.loop-done.invariant.size c.loop-done.invariant.made c.in-Err.ensures.fails rs w)
+    c.args.self.now c.loop-done.self c.edits-run.result.now c.loop-done.invariant.size c.loop-done.invariant.made c.in-Err.ensures.fails rs w))
 
 pub returns-in-Err-clause-names : goal.returns-in-Err-clause-names
 returns-in-Err-clause-names g c =
@@ -64,37 +65,32 @@ returns-in-Err-clause-cause g c =
     c.loop-done.invariant.faults c.in-Err.ensures.cause
 
 pub returns-in-Err-clause-changed : goal.returns-in-Err-clause-changed
-returns-in-Err-clause-changed g c =
-    let m = c.loop-done.invariant.changed in let n = c.in-Err.ensures.less in let e = rest_cost_all c.args.run.now c.loop-done.done in
-    let k = cost_is c.args.run.now in omega arith
+returns-in-Err-clause-changed g c = rw (← c.edits-run.ensures.edits) (let m = c.loop-done.invariant.changed in let n = c.in-Err.ensures.less in let e = rest_cost_all c.edits-run.result.now c.loop-done.done in
+    let k = cost_is c.edits-run.result.now in omega arith)
 
 pub returns-clause-changed : goal.returns-clause-changed
-returns-clause-changed g c =
-    let m = c.loop-done.invariant.changed in let e = cost_take c.loop-done.done c.args.run.now in let k = cost_is c.args.run.now in omega arith
+returns-clause-changed g c = rw (← c.edits-run.ensures.edits) (let m = c.loop-done.invariant.changed in let e = cost_take c.loop-done.done c.edits-run.result.now in let k = cost_is c.edits-run.result.now in omega arith)
 
 pub returns-clause-edited : goal.returns-clause-edited
-returns-clause-edited g c =
-    (made_all (g.S.PageStore.told c.args.store.now) (g.S.PageStore.told c.loop-done.store) (g.S.PageStore.free c.args.store.now)
-    (g.S.PageStore.free c.loop-done.store) (g.S.PageStore.size c.args.store.now) c.loop-done.done c.args.self.now c.loop-done.self c.args.run.now
-    c.loop-done-test.false c.loop-done.invariant.made).whole
+returns-clause-edited g c = rw (← c.edits-run.ensures.edits) ((made_all (g.S.PageStore.told c.args.store.now) (g.S.PageStore.told c.loop-done.store) (g.S.PageStore.free c.args.store.now)
+    (g.S.PageStore.free c.loop-done.store) (g.S.PageStore.size c.args.store.now) c.loop-done.done c.args.self.now c.loop-done.self c.edits-run.result.now
+    c.loop-done-test.false c.loop-done.invariant.made).whole)
 
 pub returns-clause-count : goal.returns-clause-count
-returns-clause-count g c =
-    (made_all (g.S.PageStore.told c.args.store.now) (g.S.PageStore.told c.loop-done.store) (g.S.PageStore.free c.args.store.now)
-    (g.S.PageStore.free c.loop-done.store) (g.S.PageStore.size c.args.store.now) c.loop-done.done c.args.self.now c.loop-done.self c.args.run.now
-    c.loop-done-test.false c.loop-done.invariant.made).count
+returns-clause-count g c = rw (← c.edits-run.ensures.edits) ((made_all (g.S.PageStore.told c.args.store.now) (g.S.PageStore.told c.loop-done.store) (g.S.PageStore.free c.args.store.now)
+    (g.S.PageStore.free c.loop-done.store) (g.S.PageStore.size c.args.store.now) c.loop-done.done c.args.self.now c.loop-done.self c.edits-run.result.now
+    c.loop-done-test.false c.loop-done.invariant.made).count)
 
 pub returns-clause-list : goal.returns-clause-list
-returns-clause-list g c rs w due =
-    edits_are c.args.run.now rs c.requires.order (whole_rises (g.S.PageStore.told c.args.store.now) (g.S.PageStore.free c.args.store.now)
-    (g.S.PageStore.size c.args.store.now) c.args.self.now rs w) due
+returns-clause-list g c = rw (← c.edits-run.ensures.edits) (λ rs w due.
+    edits_are c.edits-run.result.now rs (subst (λ l. is_ascending (edit_keys l) ≡ true) (sym c.edits-run.ensures.edits) c.edits-run.ensures.order) (whole_rises (g.S.PageStore.told c.args.store.now) (g.S.PageStore.free c.args.store.now)
+    (g.S.PageStore.size c.args.store.now) c.args.self.now rs w) due)
 
 pub returns-in-Err-clause-list : goal.returns-in-Err-clause-list
-returns-in-Err-clause-list g c rs w due =
-    edits_are c.args.run.now rs c.requires.order (whole_rises (g.S.PageStore.told c.args.store.now) (g.S.PageStore.free c.args.store.now)
-    (g.S.PageStore.size c.args.store.now) c.args.self.now rs w) due
+returns-in-Err-clause-list g c = rw (← c.edits-run.ensures.edits) (λ rs w due.
+    edits_are c.edits-run.result.now rs (subst (λ l. is_ascending (edit_keys l) ≡ true) (sym c.edits-run.ensures.edits) c.edits-run.ensures.order) (whole_rises (g.S.PageStore.told c.args.store.now) (g.S.PageStore.free c.args.store.now)
+    (g.S.PageStore.size c.args.store.now) c.args.self.now rs w) due)
 
 pub returns-clause-reads : goal.returns-clause-reads
-returns-clause-reads g c =
-    reads_more (looks (take c.loop-done.done c.args.run.now)) (10 * length (removed c.args.run.now) + 6 * length (added c.args.run.now)) _ _
-    (let e = looks_take c.loop-done.done c.args.run.now in let k = looks_are c.args.run.now in omega arith) c.loop-done.invariant.reads
+returns-clause-reads g c = rw (← c.edits-run.ensures.edits) (reads_more (looks (take c.loop-done.done c.edits-run.result.now)) (10 * length (removed c.edits-run.result.now) + 6 * length (added c.edits-run.result.now)) _ _
+    (let e = looks_take c.loop-done.done c.edits-run.result.now in let k = looks_are c.edits-run.result.now in omega arith) c.loop-done.invariant.reads)

@@ -2,7 +2,7 @@ use Rattle.std.proofs.Common.{◌≤◌, take, drop, arith}
 use Rattle.quilt_btree.specs.Batches.{more, fewer, looks}
 use Rattle.quilt_btree.proofs.batches.Whole.{whole_edited, whole_fails, some_left, stays_edited, stays_failed, more_take, some_cost, few_enough, still_rooted}
 use Rattle.quilt_btree.proofs.batches.Whole.{some_looks}
-use Rattle.quilt_btree.proofs.stores.Reads.{first_less, first_behind, way_looks}
+use Rattle.quilt_btree.proofs.stores.Reads.{first_less, first_behind, reads_more}
 use Rattle.quilt_btree.proofs.ways.Damage.{named_along}
 use Rattle.quilt_btree.proofs.tree.Tree.apply_some.Goals as goal
 
@@ -88,11 +88,11 @@ returns-then-self-eq0-clause-reads g c = first_less c.apply_first.result c.args.
 
 pub returns-then-n-eq0-clause-reads : goal.returns-then-n-eq0-clause-reads
 returns-then-n-eq0-clause-reads g c =
-    first_behind c.apply_first-then-n-eq0.result c.args.run.now c.args.self.now.height c.in-Ok.n _ _ _ c.requires.rooted.height c.if-n-eq0.true
-    c.in-Ok.ensures.reads c.apply_first-then-n-eq0.ensures.reads
+    first_behind c.apply_first-then-n-eq0.result c.args.run.now c.args.self.now.height _ _ _ c.requires.rooted.height c.in-Ok.ensures.reads
+    c.apply_first-then-n-eq0.ensures.reads
 
 pub returns-in-Some-clause-reads : goal.returns-in-Some-clause-reads
 returns-in-Some-clause-reads g c =
     let one : 1 ≤ c.in-Ok.n = let h = c.if-n-eq0.false in omega arith in
-    way_looks c.args.self.now.height c.in-Ok.n (looks (take c.in-Ok.n c.args.run.now)) _ _ c.requires.rooted.height
-    (some_looks c.args.run.now c.in-Ok.n one c.in-Ok.ensures.number) c.in-Ok.ensures.reads
+    reads_more c.args.self.now.height (looks (take c.in-Ok.n c.args.run.now)) _ _
+    (let h = c.requires.rooted.height in let s = some_looks c.args.run.now c.in-Ok.n one c.in-Ok.ensures.number in omega arith) c.in-Ok.ensures.reads

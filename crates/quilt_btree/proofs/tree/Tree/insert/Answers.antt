@@ -4,7 +4,7 @@ use Rattle.quilt_btree.proofs.ways.Damage.{zero_names, names_more}
 use Rattle.quilt_btree.proofs.growth.Finding.{finds_root, finds_empty}
 use Rattle.quilt_btree.proofs.growth.InnerGrowth.{IsWritten}
 use Rattle.quilt_btree.proofs.growth.KeptPages.{kept_first, kept_low, sound_kept, same_tree, kept_done, room_left, kept_split}
-use Rattle.quilt_btree.proofs.growth.TreeGrowth.{sound_root, whole_there, whole_done, not_split, root_room, whole_split, empty_room, whole_first}
+use Rattle.quilt_btree.proofs.growth.TreeGrowth.{few_records, sound_root, whole_there, whole_done, not_split, root_room, whole_split, empty_room, whole_first}
 use Rattle.quilt_btree.proofs.tree.Tree.insert.Goals as goal
 
 pub returns-in-Err-clause-sound : goal.returns-in-Err-clause-sound
@@ -185,7 +185,8 @@ returns-then-self-eq3-clause-goes g c rs w n room =
 pub returns-in-Err-insert_under-clause-goes : goal.returns-in-Err-insert_under-clause-goes
 returns-in-Err-insert_under-clause-goes g c rs w n room =
     sound_kept c.in-Err-insert_under.e (g.S.PageStore.told c.args.store.now) (g.S.PageStore.free c.args.store.now)
-    (g.S.PageStore.size c.args.store.now) c.args.self.now c.args.r.now.key rs c.if-self-eq0.false c.in-Err-insert_under.ensures.sound room w
+    (g.S.PageStore.size c.args.store.now) c.args.self.now c.args.r.now.key rs c.if-self-eq0.false c.in-Err-insert_under.ensures.sound
+    (few_records (g.S.PageStore.size c.args.store.now) c.args.self.now.records rs n c.requires.room (g.met.S.PageStore.in_range c.args.store.now).1) room w
 
 pub returns-in-Ok-There-clause-changes : goal.returns-in-Ok-There-clause-changes
 returns-in-Ok-There-clause-changes g c rs w room =

@@ -1,6 +1,6 @@
 use Rattle.std.proofs.Common.{◌≡◌, ◌≤◌, take}
 use Rattle.quilt_btree.specs.Batches.{more}
-use Rattle.quilt_btree.proofs.tree_apply.records_added.Given as goal
+use Rattle.quilt_btree.proofs.tree_apply.count_added.Given as goal
 
 abbrev pub invariant-loop-i : goal.invariant-loop-i
 invariant-loop-i l = record {

@@ -1,4 +1,4 @@
-use Rattle.quilt_btree.proofs.batch.+edit_under.Given as goal
+use Rattle.quilt_btree.proofs.leaf_edits.+edit_under.Given as goal
 
 abbrev pub decreases-edit_under : goal.decreases-edit_under
 decreases-edit_under g l = l.height

@@ -2,7 +2,7 @@ use Rattle.quilt_btree.proofs.batches.Below.{fails_leaf, step_edited, step_fails
 use Rattle.quilt_btree.proofs.growth.Below.{edit_spells}
 use Rattle.quilt_btree.proofs.ways.Damage.{named_leaf, named_below}
 use Rattle.quilt_btree.proofs.ways.Looked.{read_of}
-use Rattle.quilt_btree.proofs.batch.+edit_under.Goals as goal
+use Rattle.quilt_btree.proofs.leaf_edits.+edit_under.Goals as goal
 
 pub returns-in-Err-clause-fails : goal.returns-in-Err-clause-fails
 returns-in-Err-clause-fails g t c b rs used top can page is =

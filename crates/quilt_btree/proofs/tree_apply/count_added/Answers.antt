@@ -1,6 +1,6 @@
 use Rattle.std.proofs.Common.{arith}
 use Rattle.quilt_btree.proofs.batches.Whole.{more_next}
-use Rattle.quilt_btree.proofs.tree_apply.records_added.Goals as goal
+use Rattle.quilt_btree.proofs.tree_apply.count_added.Goals as goal
 
 pub loop-i-preserved : goal.loop-i-preserved
 loop-i-preserved c = record {
