@@ -97,7 +97,8 @@ impl Checker {
         ensures due { self.new.due ≡ self.old.due }
     {
         if r.key.layer == 0 {
-            Ok(self.take_entry(r))
+            let entry = *r;
+            Ok(self.take_entry(&entry))
         } else {
             self.take_block(r)
         }

@@ -2,7 +2,7 @@ ghost use Rattle.std.specs.Prelude.{◌≡◌, ℕ, ◌+◌, ◌<◌, ◌≤◌,
 ghost use Rattle.quilt_types.specs.declared.plane.Block.{Block as AnyBlock};
 ghost use Rattle.quilt_types.specs.declared.plane.Kind.TheVariants as kinds;
 ghost use Rattle.quilt_types.specs.Plane.{IsBlock};
-ghost use Rattle.quilt_loc.specs.Codes.{code_from, code_to};
+ghost use Rattle.quilt_loc.specs.Codes.{code_from};
 ghost use Rattle.quilt_record.specs.declared.record.Record.{Record as AnyRecord};
 ghost use Rattle.quilt_record.specs.Records.{record_of};
 ghost use Rattle.quilt_record.specs.Canonical.{FactFits, point_fact};
@@ -10,10 +10,11 @@ ghost use Rattle.quilt_line_audit.specs.Layers.{Refuses};
 ghost use Rattle.quilt_audit.specs.Covers.{AreFour};
 ghost use Rattle.quilt_audit.specs.Points.{IsStart, IsPointRun, IsOpened, IsLeast, IsFinished, IsIn, count_of as count_of_held};
 
+use crate::codes::end_from;
 use crate::siblings::are_siblings;
 use crate::tally::Tally;
 use quilt_blocks::Leaf;
-use quilt_loc::{covers, end_of};
+use quilt_loc::covers;
 use quilt_types::{Block, Colour, Point};
 
 /// No block, which stands for one before the first.
@@ -76,7 +77,7 @@ impl PointRun {
         if code != self.end || u16::from(self.last.count) < self.least {
             return None;
         }
-        Some(self.opened(block, count_of(held), level))
+        Some(self.opened(code, block, count_of(held), level))
     }
 
     /// After one more point of the last block, where it may hold one more.
@@ -98,16 +99,17 @@ impl PointRun {
         })
     }
 
-    /// After the first record of a block behind the last one, which says that so many points are in it, 0 or 1.
-    fn opened(&self, block: Block, count: u8, level: u8) -> PointRun
+    /// After the first record of a block behind the last one, which begins at this code and says that so many points are in it, 0 or 1.
+    fn opened(&self, code: u32, block: Block, count: u8, level: u8) -> PointRun
         requires level { (1 ≤ level) × (level ≤ 12) }
         requires block { IsBlock level block }
+        requires code { code ≡ code_from block }
         ensures { IsOpened level self.now block count result }
     {
         let [_, a, b] = self.recent;
         PointRun {
             bucket: self.bucket,
-            end: end_of(block),
+            end: end_from(code, block),
             recent: [a, b, self.last],
             last: Tally { block, count },
             least: least_of(self.bucket, a, b, self.last, block, level),

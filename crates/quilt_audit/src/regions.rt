@@ -2,13 +2,14 @@ ghost use Rattle.std.specs.Prelude.{◌≡◌, ℕ, ◌^◌, ◌<◌, ◌≤◌,
 ghost use Rattle.quilt_types.specs.declared.plane.Kind.TheVariants as kinds;
 ghost use Rattle.quilt_types.specs.Plane.{IsBlock};
 ghost use Rattle.quilt_types.specs.Layers.{colours};
-ghost use Rattle.quilt_loc.specs.Codes.{code_from, code_to};
+ghost use Rattle.quilt_loc.specs.Codes.{code_from};
 ghost use Rattle.quilt_blocks.specs.Cutting.{pair_of};
 ghost use Rattle.quilt_record.specs.declared.record.Record.{Record as AnyRecord};
 ghost use Rattle.quilt_region.specs.Regions.{leaf_record};
 ghost use Rattle.quilt_line_audit.specs.Layers.{Refuses};
 ghost use Rattle.quilt_audit.specs.Regions.{IsGoing, no_leaves};
 
+use crate::codes::end_from;
 use crate::siblings::are_siblings;
 use quilt_blocks::Leaf;
 use quilt_types::{Block, Colour};
@@ -22,16 +23,6 @@ const NOTHING: Leaf = Leaf {
     },
     colour: Colour(0),
 };
-
-/// The code after the last one of the block, which begins at this code.
-fn end_from(code: u32, b: Block) -> u32
-    requires block { IsBlock 12 b }
-    requires code { code ≡ code_from b }
-    ensures { result ≡ code_to b }
-{
-    let side = u32::from(b.side);
-    code + side * side
-}
 
 /// How far the records of a region layer have come.
 #[derive(Clone, Copy)]

@@ -6,7 +6,7 @@ ghost use Rattle.quilt_btree.specs.Trees.{IsRooted};
 
 use quilt_batch::merged;
 use quilt_blocks::LeafList;
-use quilt_btree::{Edit, Tree, edits_ascend, records_added};
+use quilt_btree::{Batch, Tree};
 use quilt_lines as lines;
 use quilt_lines::LineView;
 use quilt_loc::whole_square;
@@ -104,7 +104,7 @@ impl Layer {
             level,
             limit,
         };
-        layer.changed(&merged(alloc, &[], records)?)
+        layer.changed(merged(alloc, &[], records)?)
     }
 
     /// A point layer of no points with the number 1.
@@ -126,7 +126,8 @@ impl Layer {
     }
 
     /// The layer once these edits are made in the tree.
-    fn changed(self, run: &[Edit]) -> Result<Layer, Fail> {
+    fn changed(self, edits: Option<Batch>) -> Result<Layer, Fail> {
+        let batch = edits.ok_or("edits that ascend")?;
         let Layer {
             mut store,
             mut tree,
@@ -135,10 +136,10 @@ impl Layer {
             limit,
         } = self;
         let room = (64 * (PAGES - 8) - tree.records) as usize;
-        if records_added(run) > room || !edits_ascend(run) {
-            return Err(Fail::from("edits that ascend"));
+        if batch.records_added() > room {
+            return Err(Fail::from("room for the edits"));
         }
-        tree.apply(&mut store, run)?;
+        tree.apply(&mut store, &batch)?;
         Ok(Layer {
             store,
             tree,
@@ -154,7 +155,7 @@ impl Layer {
         if !self.has_all(gone)? {
             return Err(Fail::from("records that are there"));
         }
-        self.changed(&merged(alloc, gone, plan.add.records())?)
+        self.changed(merged(alloc, gone, plan.add.records())?)
     }
 
     /// Whether all of these records are in the tree.

@@ -14,6 +14,8 @@ mod plain_points;
 #[cfg(test)]
 mod plans;
 #[cfg(test)]
+mod point_windows;
+#[cfg(test)]
 mod points;
 #[cfg(test)]
 mod regions;

@@ -16,7 +16,7 @@ fn taken(draw: &mut Draw, plain: &PlainPoints) -> Option<Pixel> {
 }
 
 /// A drawn pixel of the square, or one beside a point that is there.
-fn pixel(draw: &mut Draw, plain: &PlainPoints) -> Pixel {
+pub fn pixel(draw: &mut Draw, plain: &PlainPoints) -> Pixel {
     let side = plain.side();
     let at = Pixel {
         x: draw.coordinate(side),
@@ -40,7 +40,7 @@ fn point(draw: &mut Draw, plain: &PlainPoints) -> Point {
 }
 
 /// A drawn window of the square.
-fn window(draw: &mut Draw, side: u16) -> Window {
+pub fn window(draw: &mut Draw, side: u16) -> Window {
     let x = draw.coordinate(side);
     let y = draw.coordinate(side);
     Window {
@@ -143,7 +143,7 @@ fn scatter(
 }
 
 /// Whether both have the same points in the window.
-fn is_same_within(
+pub fn is_same_within(
     rt: &impl Abort,
     alloc: Global,
     layer: &mut Layer,

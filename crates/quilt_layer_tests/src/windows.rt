@@ -36,7 +36,7 @@ fn span(state: &mut u32, side: u16) -> (u16, u16)
 }
 
 /// A window in a square of this many pixels a side, at its edges or anywhere.
-fn window_in(state: &mut u32, side: u16) -> Window
+pub fn window_in(state: &mut u32, side: u16) -> Window
     requires { 1 ≤ side }
     ensures width { result.x + result.w ≤ side }
     ensures height { result.y + result.h ≤ side }

@@ -10,7 +10,7 @@ use Rattle.quilt_loc.proofs.Nesting.{Within-trans}
 use Rattle.quilt_loc.proofs.Quartered.{quarters_are}
 use Rattle.quilt_line_laws.proofs.Meeting.{meets_within}
 use Rattle.quilt_line_audit.specs.declared.pair.Pair.{Pair}
-use Rattle.quilt_line_audit.specs.Pairs.{none_on, pair_on, pairs_of, pairs_on, InTurn, Begins}
+use Rattle.quilt_line_audit.specs.Pairs.{near, none_on, pair_on, pairs_of, pairs_on, InTurn, Begins}
 
 -- ---- the pairs of a block have a first one
 pub record HasFirst (b : Block) (pairs : List Pair) : Type 0 where
@@ -122,9 +122,6 @@ keeps p r x xs false e h = sym (dropped (r x) refl)
 filter_twice : {X : Type 0} (p r : X → Bool) → ((x : X) → r x ≡ true → p x ≡ true) → (xs : List X) → filter r (filter p xs) ≡ filter r xs
 filter_twice p r h [] = refl
 filter_twice p r h (x ∷ xs) = keeps p r x (filter p xs) (p x) refl (h x) ∙ ap (λ l. cond (r x) (x ∷ l) l) (filter_twice p r h xs)
-
-abbrev pub near : Block → List (ℕ × Seg) → List (ℕ × Seg)
-near b segs = filter (λ e. meets e.1 (square b)) segs
 
 pub near_pairs : (b q : Block) (segs : List (ℕ × Seg)) → Within q b → pairs_on (near b segs) q ≡ pairs_on segs q
 near_pairs b q segs w =

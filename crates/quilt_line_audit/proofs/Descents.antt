@@ -1,5 +1,5 @@
 -- The descent over a square: a block of its own, or its quarters in turn.
-use Rattle.std.proofs.Common.{◌≡◌, ◌↔◌, ◌⊎◌, ℕ, ◌+◌, ◌<◌, ◌≤◌, List, ◌∷◌, ◌++◌, length, get_or, drop, refl, sym, ◌∙◌, ap, subst, inl, inr, ⊎_elim, arith}
+use Rattle.std.proofs.Common.{◌≡◌, ◌↔◌, ◌⊎◌, ℕ, ◌+◌, ◌<◌, ◌≤◌, List, ◌∷◌, ◌++◌, length, get_or, drop, refl, sym, ◌∙◌, subst, inl, inr, ⊎_elim, arith}
 use Rattle.std.proofs.Common.{Contains, pow-suc, pow_pos, Option, Some, None}
 use Rattle.std.specs.Prelude.{IfSome, IfNone}
 use Rattle.std.proofs.lemmas.List.{drop_more, drop_all}
@@ -9,8 +9,8 @@ use Rattle.quilt_types.specs.Plane.{side, quarters_of, IsBlock}
 use Rattle.quilt_loc.proofs.Quartered.{quarters_are}
 use Rattle.quilt_edits.proofs.Lists.{member_at}
 use Rattle.quilt_line_audit.specs.declared.pair.Pair.{Pair}
-use Rattle.quilt_line_audit.specs.Pairs.{pairs_of, pairs_on, InTurn, Begins}
-use Rattle.quilt_line_audit.proofs.Begins.{of_first, not_both, begins_once, near, near_begins, turn_map, quarter_side}
+use Rattle.quilt_line_audit.specs.Pairs.{near, pairs_on, InTurn, Begins}
+use Rattle.quilt_line_audit.proofs.Begins.{of_first, not_both, begins_once, near_begins, turn_map, quarter_side}
 
 -- a pair of the block comes first
 pub record ComesFirst (b : Block) (pairs : List Pair) : Type 0 where
@@ -23,24 +23,21 @@ pub record ComesFirst (b : Block) (pairs : List Pair) : Type 0 where
 abbrev pub IsLeaf : Block → List Pair → Type 0
 IsLeaf b pairs = (b.side ≡ 1) ⊎ ComesFirst b pairs
 
+-- ---- a block
+pub leaf_some : (b : Block) (segs : List (ℕ × Seg)) (k : ℕ) (pairs rest : List Pair) → pairs ≡ pairs_on segs b ++ rest → Begins segs k b pairs rest
+leaf_some b segs ℕ.zero pairs rest e = e
+leaf_some b segs (ℕ.suc k) pairs rest e = inl e
+
+pub leaf_none : (b : Block) (segs : List (ℕ × Seg)) (pairs : List Pair) → IsLeaf b pairs → ((rest : List Pair) → pairs ≡ pairs_on segs b ++ rest → ⊥)
+    → (k : ℕ) (rest : List Pair) → b.side ≡ side k → Begins segs k b pairs rest → ⊥
+leaf_none b segs pairs leaf none ℕ.zero rest e h = none rest h
+leaf_none b segs pairs leaf none (ℕ.suc k) rest e h =
+    ⊎_elim (λ here. none rest here)
+    (λ turn.
+    ⊎_elim (λ one. let p = pow-suc 2 k in let q = pow_pos k in omega arith)
+    (λ f. not_both k b segs pairs rest f.first f.more e turn f.are f.on) leaf) h
+
 module _ (b : Block) (segs found : List (ℕ × Seg)) (is : found ≡ near b segs) where
-  own : (rest : List Pair) → pairs_of b found ++ rest ≡ pairs_on segs b ++ rest
-  own rest = ap (λ (l : List (ℕ × Seg)). pairs_of b l ++ rest) is
-
-  -- ---- a block
-  pub leaf_some : (k : ℕ) (pairs rest : List Pair) → pairs ≡ pairs_of b found ++ rest → Begins segs k b pairs rest
-  leaf_some ℕ.zero pairs rest e = e ∙ own rest
-  leaf_some (ℕ.suc k) pairs rest e = inl (e ∙ own rest)
-
-  pub leaf_none : (pairs : List Pair) → IsLeaf b pairs → ((rest : List Pair) → pairs ≡ pairs_of b found ++ rest → ⊥) → (k : ℕ) (rest : List Pair)
-      → b.side ≡ side k → Begins segs k b pairs rest → ⊥
-  leaf_none pairs leaf none ℕ.zero rest e h = none rest (h ∙ sym (own rest))
-  leaf_none pairs leaf none (ℕ.suc k) rest e h =
-      ⊎_elim (λ here. none rest (here ∙ sym (own rest)))
-      (λ turn.
-      ⊎_elim (λ one. let p = pow-suc 2 k in let q = pow_pos k in omega arith)
-      (λ f. not_both k b segs pairs rest f.first f.more e turn f.are f.on) leaf) h
-
   -- ---- a square that is cut
   module _ (block : IsBlock 12 b) (wide : b.side ≡ 1 → ⊥) where
     pub more_than_one : 1 < b.side

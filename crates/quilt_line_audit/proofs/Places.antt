@@ -1,34 +1,53 @@
 -- Pairs of a block that are looked for one after the other.
-use Rattle.std.proofs.Common.{◌≡◌, ◌↔◌, ℕ, ◌+◌, ◌<◌, ◌≤◌, false, List, [], ◌∷◌, ◌++◌, map, length, get_or, drop, eqb, refl, sym, ◌∙◌, ap}
-use Rattle.std.proofs.lemmas.List.{drop_more, drop_all}
+use Rattle.std.proofs.Common.{◌≡◌, ◌↔◌, ℕ, ◌+◌, ◌<◌, Bool, true, false, cond, List, [], ◌∷◌, ◌++◌, map, length, get_or, drop, refl, sym, ◌∙◌, ap, arith}
+use Rattle.std.proofs.lemmas.List.{drop_more}
 use Rattle.quilt_types.specs.declared.plane.Block.{Block}
 use Rattle.quilt_types.specs.declared.plane.Seg.{Seg}
+use Rattle.quilt_types.specs.Segments.{square, meets}
 use Rattle.quilt_line_audit.specs.declared.pair.Pair.{Pair}
-use Rattle.quilt_line_audit.specs.Pairs.{pair_on, pairs_of}
+use Rattle.quilt_line_audit.specs.Pairs.{near, none_on, pair_on, pairs_of}
+
+pub some_pairs : (b : Block) (segs : List (ℕ × Seg)) → 0 < length segs → pairs_of b segs ≡ map (pair_on b) segs
+some_pairs b [] lt = absurd (omega arith)
+some_pairs b (d ∷ ds) lt = refl
+
+pub no_pairs : (b : Block) (segs : List (ℕ × Seg)) → length segs ≡ 0 → pairs_of b segs ≡ none_on b ∷ []
+no_pairs b [] e = refl
+no_pairs b (d ∷ ds) e = absurd (omega arith)
 
 same_tail : (p : Pair) (xs ys : List Pair) → p ∷ xs ≡ p ∷ ys → xs ≡ ys
 same_tail p xs ys e = cc
 
-pub some_pairs : (b : Block) (near : List (ℕ × Seg)) → false ≡ eqb (length near) 0 → pairs_of b near ≡ map (pair_on b) near
-some_pairs b [] e = cc
-some_pairs b (d ∷ ds) e = refl
+module _ (b : Block) (segs : List (ℕ × Seg)) (i : ℕ) (d : ℕ × Seg) (lt : i < length segs) where
+  abbrev here : ℕ × Seg
+  here = get_or segs i d
 
-module _ (b : Block) (near : List (ℕ × Seg)) (pairs : List Pair) (i end : ℕ) (d : ℕ × Seg) (lt : i < length near) where
-  next_pairs : (rest : List Pair) → map (pair_on b) (drop i near) ++ rest ≡ pair_on b (get_or near i d) ∷ map (pair_on b) (drop (i + 1) near) ++ rest
-  next_pairs rest = ap (λ (l : List (ℕ × Seg)). map (pair_on b) l ++ rest) (drop_more near i d lt)
+  abbrev more : List (ℕ × Seg)
+  more = near b (drop (i + 1) segs)
 
-  -- the next pair is not there
-  pub pair_misses : (rest : List Pair) → ((more : List Pair) → drop end pairs ≡ pair_on b (get_or near i d) ∷ more → ⊥)
-      → drop end pairs ≡ map (pair_on b) (drop i near) ++ rest → ⊥
-  pair_misses rest none e = none (map (pair_on b) (drop (i + 1) near) ++ rest) (e ∙ next_pairs rest)
+  next : (t : Bool) → meets here.1 (square b) ≡ t → near b (drop i segs) ≡ cond t (here ∷ more) more
+  next t e = ap (near b) (drop_more segs i d lt) ∙ ap (λ (u : Bool). cond u (here ∷ more) more) e
 
-  -- it is, and the others come behind it
-  pub pair_found : (next : ℕ) (rest : List Pair) → drop end pairs ≡ pair_on b (get_or near i d) ∷ drop next pairs
-      → (drop next pairs ≡ map (pair_on b) (drop (i + 1) near) ++ rest) ↔ (drop end pairs ≡ map (pair_on b) (drop i near) ++ rest)
-  pair_found next rest here = (
-    λ h. here ∙ ap (λ l. pair_on b (get_or near i d) ∷ l) h ∙ sym (next_pairs rest),
-    λ h. same_tail (pair_on b (get_or near i d)) (drop next pairs) (map (pair_on b) (drop (i + 1) near) ++ rest) (sym here ∙ h ∙ next_pairs rest),
-  )
+  -- a segment that does not meet the block has no pair
+  pub near_skips : meets here.1 (square b) ≡ false → near b (drop i segs) ≡ more
+  near_skips e = next false e
 
-pub pairs_done : (b : Block) (near : List (ℕ × Seg)) (i : ℕ) (rest : List Pair) → length near ≤ i → rest ≡ map (pair_on b) (drop i near) ++ rest
-pairs_done b near i rest le = ap (λ (l : List (ℕ × Seg)). map (pair_on b) l ++ rest) (sym (drop_all i near le))
+  pub near_takes : meets here.1 (square b) ≡ true → near b (drop i segs) ≡ here ∷ more
+  near_takes e = next true e
+
+  module _ (pairs : List Pair) (end : ℕ) (met : meets here.1 (square b) ≡ true) where
+    next_pairs : (rest : List Pair) → map (pair_on b) (near b (drop i segs)) ++ rest ≡ pair_on b here ∷ map (pair_on b) more ++ rest
+    next_pairs rest = ap (λ (l : List (ℕ × Seg)). map (pair_on b) l ++ rest) (near_takes met)
+
+    -- the next pair is not there
+    pub pair_misses : (rest : List Pair) → ((after : List Pair) → drop end pairs ≡ pair_on b here ∷ after → ⊥)
+        → drop end pairs ≡ map (pair_on b) (near b (drop i segs)) ++ rest → ⊥
+    pair_misses rest none e = none (map (pair_on b) more ++ rest) (e ∙ next_pairs rest)
+
+    -- it is, and the others come behind it
+    pub pair_found : (behind : ℕ) (rest : List Pair) → drop end pairs ≡ pair_on b here ∷ drop behind pairs
+        → (drop behind pairs ≡ map (pair_on b) more ++ rest) ↔ (drop end pairs ≡ map (pair_on b) (near b (drop i segs)) ++ rest)
+    pair_found behind rest is = (
+      λ h. is ∙ ap (λ l. pair_on b here ∷ l) h ∙ sym (next_pairs rest),
+      λ h. same_tail (pair_on b here) (drop behind pairs) (map (pair_on b) more ++ rest) (sym is ∙ h ∙ next_pairs rest),
+    )

@@ -19,9 +19,13 @@ abbrev pub pairs_of : Block → List (ℕ × Seg) → List Pair
 pairs_of b [] = none_on b ∷ []
 pairs_of b (e ∷ es) = map (pair_on b) (e ∷ es)
 
+-- those of the segments that meet the block
+abbrev pub near : Block → List (ℕ × Seg) → List (ℕ × Seg)
+near b segs = filter (λ e. meets e.1 (square b)) segs
+
 -- the pairs of a block, where these are the segments of the layer
 abbrev pub pairs_on : List (ℕ × Seg) → Block → List Pair
-pairs_on segs b = pairs_of b (filter (λ e. meets e.1 (square b)) segs)
+pairs_on segs b = pairs_of b (near b segs)
 
 -- the list begins with what each square of a row begins with, one behind the other, and this is left of it
 abbrev pub InTurn : (Block → List Pair → List Pair → Type 0) → List Block → List Pair → List Pair → Type 0

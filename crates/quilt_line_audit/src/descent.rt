@@ -1,11 +1,10 @@
-ghost use Rattle.std.specs.Prelude.{◌≡◌, ℕ, ◌≤◌, ◌++◌, ◌∷◌, List, length, drop, filter, true, false, IfOk, IfSome, IfNone};
+ghost use Rattle.std.specs.Prelude.{◌≡◌, ℕ, ◌+◌, ◌≤◌, ◌++◌, ◌∷◌, List, length, drop, map, true, false, IfOk, IfSome, IfNone};
 ghost use Rattle.quilt_types.specs.Plane.{IsBlock, side as side_of};
-ghost use Rattle.quilt_types.specs.Segments.{square as square_of, meets as segment_meets};
 ghost use Rattle.quilt_line_audit.specs.declared.pair.Pair.{Pair as AnyPair};
-ghost use Rattle.quilt_line_audit.specs.Pairs.{pairs_of, Begins};
+ghost use Rattle.quilt_line_audit.specs.Pairs.{near as near_of, pair_on, pairs_on, Begins};
 
+use crate::meeting::{is_met, meeting};
 use crate::pair::Pair;
-use quilt_clip::meets;
 use quilt_loc::quarters;
 use quilt_types::{Block, Seg};
 use std::alloc::{AllocError, Global};
@@ -26,10 +25,10 @@ pub(crate) fn end_in(
     ensures none { IfOk result (λ o. IfNone o ((k : ℕ) (rest : List AnyPair) → square.side ≡ side_of k
         → Begins segs.now k square (drop at pairs.now) rest → ⊥)) }
 {
-    let near = meeting(alloc, segs, square)?;
     if square.side == 1 || is_on(pairs, at, square) {
-        return Ok(end_on(pairs, at, &near, square));
+        return Ok(end_on(pairs, at, segs, square));
     }
+    let near = meeting(alloc, segs, square)?;
     let mut end = at;
     for quarter in quarters(square) {
         match end_in(alloc, pairs, end, &near, quarter)? {
@@ -40,36 +39,42 @@ pub(crate) fn end_in(
     Ok(Some(end))
 }
 
-/// The segments that meet the block.
-fn meeting(alloc: Global, segs: &[(u32, Seg)], block: Block) -> Result<Vec<(u32, Seg)>, AllocError>
-    ensures { IfOk result (λ near. near.items ≡ filter (λ e. segment_meets e.1 (square_of block)) segs.now) }
-{
-    let mut near = Vec::new(alloc);
-    for (id, s) in segs {
-        if meets(*s, block) {
-            near.push((*id, *s))?;
-        }
-    }
-    Ok(near)
-}
-
 /// The place behind the pairs of a block, where those from place `at` on begin with them: one for each of the segments that meet it,
 /// or that of none.
-fn end_on(pairs: &[Pair], at: usize, near: &[(u32, Seg)], block: Block) -> Option<usize>
-    requires { at ≤ length pairs.now }
+fn end_on(pairs: &[Pair], at: usize, segs: &[(u32, Seg)], block: Block) -> Option<usize>
+    requires block { IsBlock 12 block }
+    requires at { at ≤ length pairs.now }
     ensures within { IfSome result (λ end. end ≤ length pairs.now) }
-    ensures some { IfSome result (λ end. drop at pairs.now ≡ pairs_of block near.now ++ drop end pairs.now) }
-    ensures none { IfNone result ((rest : List AnyPair) → drop at pairs.now ≡ pairs_of block near.now ++ rest → ⊥) }
+    ensures some { IfSome result (λ end. drop at pairs.now ≡ pairs_on segs.now block ++ drop end pairs.now) }
+    ensures none { IfNone result ((rest : List AnyPair) → drop at pairs.now ≡ pairs_on segs.now block ++ rest → ⊥) }
 {
-    if near.is_empty() {
-        return end_behind(pairs, at, Pair { block, id: None });
+    match end_of_met(pairs, at, segs, block) {
+        None => None,
+        Some(end) => if end == at {
+            end_behind(pairs, at, Pair { block, id: None })
+        } else {
+            Some(end)
+        },
     }
+}
+
+/// The place behind one pair of the block for each of the segments that meet it, where those from place `at` on begin with them.
+fn end_of_met(pairs: &[Pair], at: usize, segs: &[(u32, Seg)], block: Block) -> Option<usize>
+    requires block { IsBlock 12 block }
+    requires at { at ≤ length pairs.now }
+    ensures within { IfSome result (λ end. end ≤ length pairs.now) }
+    ensures some { IfSome result (λ end. drop at pairs.now ≡ map (pair_on block) (near_of block segs.now) ++ drop end pairs.now) }
+    ensures count { IfSome result (λ end. end ≡ at + length (near_of block segs.now)) }
+    ensures none { IfNone result ((rest : List AnyPair) → drop at pairs.now ≡ pairs_on segs.now block ++ rest → ⊥) }
+{
     let mut end = at;
-    for (id, _) in near {
-        let id = Some(*id);
-        match end_behind(pairs, end, Pair { block, id }) {
-            None => return None,
-            Some(next) => end = next,
+    for (id, s) in segs {
+        if is_met(*s, block) {
+            let id = Some(*id);
+            match end_behind(pairs, end, Pair { block, id }) {
+                None => return None,
+                Some(next) => end = next,
+            }
         }
     }
     Some(end)
@@ -77,6 +82,7 @@ fn end_on(pairs: &[Pair], at: usize, near: &[(u32, Seg)], block: Block) -> Optio
 
 /// The next place, where this pair stands at place `at`.
 fn end_behind(pairs: &[Pair], at: usize, pair: Pair) -> Option<usize>
+    ensures next { IfSome result (λ end. end ≡ at + 1) }
     ensures within { IfSome result (λ end. end ≤ length pairs.now) }
     ensures some { IfSome result (λ end. drop at pairs.now ≡ pair ∷ drop end pairs.now) }
     ensures none { IfNone result ((rest : List AnyPair) → drop at pairs.now ≡ pair ∷ rest → ⊥) }

@@ -3,6 +3,7 @@
 
 mod descent;
 mod law;
+mod meeting;
 mod pair;
 mod run;
 

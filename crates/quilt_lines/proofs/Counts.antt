@@ -4,6 +4,7 @@ use Rattle.std.proofs.Common.{List, [], ◌∷◌, ◌++◌, flat_map, filter, l
 use Rattle.std.proofs.Common.{◌∙◌, ap, subst, ⊎_elim, arith, Contains, pow-suc, length-append, eq-eqb, ne_eqb, pow_pos}
 use Rattle.std.proofs.Math.Nat.{mul-le-mul_right, pow-le-pow_right}
 use Rattle.std.specs.Prelude.{◌==◌}
+use Rattle.std.specs.List.{sum_by}
 use Rattle.std.proofs.lemmas.Bool.{both_ways}
 use Rattle.std.proofs.lemmas.List.{append-nil}
 use Rattle.std.proofs.lemmas.List.Sums.{length-filter}
@@ -29,7 +30,7 @@ use Rattle.quilt_line_laws.proofs.Levels.{same_level}
 use Rattle.quilt_line_laws.proofs.Merges.{IsBlockCover}
 use Rattle.quilt_line_laws.proofs.NoneTwice.{over_quarters, single_apart}
 use Rattle.quilt_line_laws.proofs.SetLaws.{contains_is}
-use Rattle.quilt_lines.specs.Counting.{held_in}
+use Rattle.quilt_lines.specs.Counting.{held_in, pages_in}
 
 within_self : (b : Block) → Within b b
 within_self b = record { left = omega arith; right = omega arith; top = omega arith; bottom = omega arith }
@@ -117,6 +118,27 @@ module _ (cover : BlockSet) where
       let same : k ≡ ℕ.suc k - 1 = omega arith in
       ap (λ u. cond {A = List Block} u (b ∷ []) (flat_map (held_in cover k) (quarters_of b))) e
       ∙ ap (λ (m : ℕ). flat_map (held_in cover m) (quarters_of b)) same
+
+-- ---- how many pages are read
+six_or : (u : Bool) (m : ℕ) → 6 ≤ cond {A = ℕ} u 6 (6 + m)
+six_or true m = omega arith
+six_or false m = omega arith
+
+pub pages_some : (cover : BlockSet) (k : ℕ) (b : Block) → 6 ≤ pages_in cover k b
+pages_some cover ℕ.zero b = omega arith
+pages_some cover (ℕ.suc k) b = six_or (finset.contains cover b) (sum_by (pages_in cover k) (quarters_of b))
+
+-- a block that is none of the set costs a look and those at its quarters
+pub pages_below : (cover : BlockSet) (k : ℕ) (b : Block) (qs : List Block) → 0 < k → finset.contains cover b ≡ false → qs ≡ quarters_of b
+    → 6 + sum_by (pages_in cover (k - 1)) qs ≤ pages_in cover k b
+pages_below cover ℕ.zero b qs some e are = absurd (omega arith)
+pages_below cover (ℕ.suc k) b qs some e are =
+    let same : ℕ.suc k - 1 ≡ k = omega arith in
+    let all : 6 + sum_by (pages_in cover (ℕ.suc k - 1)) qs ≡ 6 + sum_by (pages_in cover k) (quarters_of b) =
+    ap (λ (m : ℕ). 6 + sum_by (pages_in cover m) qs) same ∙ ap (λ (bs : List Block). 6 + sum_by (pages_in cover k) bs) are in
+    let here : pages_in cover (ℕ.suc k) b ≡ 6 + sum_by (pages_in cover k) (quarters_of b) =
+    ap (λ u. cond {A = ℕ} u 6 (6 + sum_by (pages_in cover k) (quarters_of b))) e in
+    omega arith
 
 count-append : {X : Type 0} (p : X → Bool) (xs ys : List X) → count_by p (xs ++ ys) ≡ count_by p xs + count_by p ys
 count-append p xs ys =

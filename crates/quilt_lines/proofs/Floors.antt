@@ -39,7 +39,7 @@ last_there o (x ∷ xs) r e =
     ⊎_elim (λ c. inl (Contains-there x xs r c)) (λ is. inl (subst (Contains (x ∷ xs)) (same_some x r is) (Contains-here x xs))) (last_there (Some x) xs r e)
 
 -- a list of facts or the one that there are none has a first
-some_fact : (none : Fact) (fs : List Fact) → (f : Fact) × Contains (or_none none fs) f
+pub some_fact : (none : Fact) (fs : List Fact) → (f : Fact) × Contains (or_none none fs) f
 some_fact none [] = (none, Contains-here none [])
 some_fact none (f ∷ fs) = (f, Contains-here f fs)
 

@@ -52,7 +52,7 @@ by_item k i j =
     then_equal _ _ (nat_same k.layer k.layer refl) ∙ then_equal _ _ (nat_same k.part k.part refl) ∙ then_equal _ _ (nat_same k.code k.code refl)
     ∙ then_equal _ _ (nat_same k.depth k.depth refl)
 
-le_item : (i j : ℕ) → i ≤ j → is_le (nat_cmp i j) ≡ true
+pub le_item : (i j : ℕ) → i ≤ j → is_le (nat_cmp i j) ≡ true
 le_item i j le = ⊎_elim (λ lt. ap is_le (nat_less i j lt)) (λ ge. ap is_le (nat_same i j (omega arith))) (cases_lt i j)
 
 -- the range of all items has each key that is alike

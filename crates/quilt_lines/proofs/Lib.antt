@@ -20,3 +20,5 @@ pub mod plans
 pub mod Costs
 pub mod Saying
 pub mod Found
+pub mod Followers
+pub mod Around

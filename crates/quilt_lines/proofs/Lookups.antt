@@ -15,7 +15,8 @@ use Rattle.quilt_btree.specs.Trees.{IsTree}
 use Rattle.quilt_btree.specs.Lists.{value_in, value_of}
 use Rattle.quilt_spell.specs.Written.{by_key}
 use Rattle.quilt_edits.proofs.Lookups.{find_at, find_away}
-use Rattle.quilt_lines.specs.Layers.{shown_facts, fact_record, SpellsLines, HasLines}
+use Rattle.quilt_near.specs.Lines.{Lines}
+use Rattle.quilt_lines.specs.Layers.{shown_facts, fact_record, SpellsLines, HasLines, ShowsLines}
 use Rattle.quilt_lines.specs.Reads.{segment_key}
 use Rattle.quilt_lines.proofs.Shown.{shown_says, segment_shown, segment_alike, segment_laid}
 use Rattle.quilt_lines.proofs.Trees.{tree_rises}
@@ -109,3 +110,7 @@ module _ (told : Option (List (List ℕ))) (tree : Tree) (layer n t : ℕ) (segs
 pub lines_along : (old new : Option (List (List ℕ))) (tree : Tree) (layer n t : ℕ) (segs : SegMap) (cover : BlockSet) → new ≡ old
     → HasLines old tree layer n t segs cover → HasLines new tree layer n t segs cover
 lines_along old new tree layer n t segs cover e h = subst (λ (z : Option (List (List ℕ))). HasLines z tree layer n t segs cover) (sym e) h
+
+pub shows_along : (old new : Option (List (List ℕ))) (tree : Tree) (layer n : ℕ) (l : Lines) → new ≡ old → ShowsLines old tree layer n l
+    → ShowsLines new tree layer n l
+shows_along old new tree layer n l e h = subst (λ (z : Option (List (List ℕ))). ShowsLines z tree layer n l) (sym e) h

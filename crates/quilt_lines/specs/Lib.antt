@@ -8,3 +8,4 @@ pub mod Counting
 pub mod Bounds
 pub mod Said
 pub mod Hints
+pub mod Searches

@@ -18,9 +18,9 @@ ghost use Rattle.quilt_lines.specs.Reads.{ids_of};
 ghost use Rattle.quilt_lines.specs.Adding.{facts_by, none_by, quarter_facts, ids_meeting as ids_meeting_it, Follow, IsAdded};
 ghost use Rattle.quilt_lines.specs.Plans.{IsLinePlan};
 ghost use Rattle.quilt_lines.specs.Bounds.{is_met, due};
-ghost use Rattle.quilt_lines.specs.Hints.{IsOfCover};
+ghost use Rattle.quilt_lines.specs.Searches.{IsLineSearch};
 
-use crate::hint::Hint;
+use crate::searching::Search;
 use crate::view::{DAMAGED, LineView};
 use quilt_btree::Tree;
 use quilt_clip::meets;
@@ -125,15 +125,12 @@ impl Arrival {
             Err(_) => return Err(Stop::Memory),
             Ok(()) => {}
         }
-        let mut hint = Hint {
-            at: Pixel {
-                x: self.s.x1,
-                y: self.s.y1,
-            },
-            block: None,
-        };
+        let mut search = Search::new(Pixel {
+            x: self.s.x1,
+            y: self.s.y1,
+        });
         let all = whole_square(self.view.level);
-        match self.add_in(alloc, store, &mut hint, &mut change, all) {
+        match self.add_in(alloc, store, &mut search, &mut change, all) {
             Err(e) => Err(e),
             Ok(()) => edits_of(alloc, change.gone, change.come),
         }
@@ -144,33 +141,32 @@ impl Arrival {
         &self,
         alloc: Global,
         store: &mut S,
-        hint: &mut Hint,
+        search: &mut Search,
         change: &mut Change,
         b: Block,
     ) -> Result<(), Stop>
         requires rooted { IsRooted (S.size store.old) self.now.view.tree }
+        requires search { IsLineSearch (S.told store.old) self.now.view.tree self.now.view.level self.now.view.layer search.old }
         requires block { IsBlock self.now.view.level b }
-        ensures known { OnOk result ((segs : SegMap) (cover : BlockSet) →
-            HasLines (S.told store.old) self.now.view.tree self.now.view.layer self.now.view.level self.now.t segs cover →
-            IsOfCover cover hint.old.block → IsOfCover cover hint.new.block) }
+        ensures search { OnOk result (IsLineSearch (S.told store.old) self.now.view.tree self.now.view.level self.now.view.layer search.new) }
         ensures added { OnOk result ((segs : SegMap) (cover : BlockSet) →
             HasLines (S.told store.old) self.now.view.tree self.now.view.layer self.now.view.level self.now.t segs cover →
-            IsOfCover cover hint.old.block → finmap.get segs self.now.id ≡ None → (k : ℕ) → b.side ≡ side_of k →
+            finmap.get segs self.now.id ≡ None → (k : ℕ) → b.side ≡ side_of k →
             IsAdded self.now.view.level self.now.view.layer self.now.t segs self.now.id self.now.s (met_in cover self.now.s k b)
             change.old.gone.items change.new.gone.items change.old.come.items change.new.come.items) }
         ensures sound { IfErr result (λ e. (segs : SegMap) (cover : BlockSet) →
             HasLines (S.told store.old) self.now.view.tree self.now.view.layer self.now.view.level self.now.t segs cover →
-            IsOfCover cover hint.old.block → is_reached cover b ≡ true → IsSound e) }
+            is_reached cover b ≡ true → IsSound e) }
         ensures left { OnlyReads S.PageStore store.old store.new result }
         ensures reads { OnOk result ((segs : SegMap) (cover : BlockSet) →
             HasLines (S.told store.old) self.now.view.tree self.now.view.layer self.now.view.level self.now.t segs cover →
-            IsOfCover cover hint.old.block → is_reached cover b ≡ true →
+            is_reached cover b ≡ true →
             Goes (λ old new. new ≤ old + due self.now.view.level (is_met self.now.s) segs cover b) (S.reads store.old) (S.reads store.new)) }
     {
         if !meets(self.s, b) {
             return Ok(());
         }
-        match self.view.ids_known(alloc, store, hint, b) {
+        match self.view.ids_near(alloc, store, search, b) {
             Err(e) => return Err(e),
             Ok(Some(ids)) => return self.add_block(alloc, store, change, b, &ids),
             Ok(None) => {}
@@ -179,7 +175,7 @@ impl Arrival {
             return Err(DAMAGED);
         }
         for q in quarters(b) {
-            match self.add_in(alloc, store, hint, change, q) {
+            match self.add_in(alloc, store, search, change, q) {
                 Err(e) => return Err(e),
                 Ok(()) => {}
             }

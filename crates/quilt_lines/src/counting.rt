@@ -1,7 +1,7 @@
 ghost use Rattle.std.specs.Prelude.{◌≡◌, ◌≢◌, ℕ, ◌+◌, ◌*◌, ◌^◌, ◌<◌, ◌≤◌, ◌==◌, true, slice_index, count_by, IfOk, IfErr, OnOk};
 ghost use Rattle.std.specs.Ordering.{is_le};
 ghost use Rattle.quilt_types.specs.Sets as finset;
-ghost use Rattle.quilt_types.specs.Plane.{side as side_of, IsBlock};
+ghost use Rattle.quilt_types.specs.Plane.{side as side_of, whole, IsBlock};
 ghost use Rattle.quilt_types.specs.Layers.{SegMap, BlockSet};
 ghost use Rattle.quilt_types.specs.Quadtrees.{is_reached};
 ghost use Rattle.quilt_record.specs.Records.{key_cmp};
@@ -10,7 +10,7 @@ ghost use Rattle.quilt_world.specs.Tale.{Goes};
 ghost use Rattle.quilt_store.specs.Stops.{IsSound};
 ghost use Rattle.quilt_btree.specs.Trees.{IsRooted};
 ghost use Rattle.quilt_lines.specs.Layers.{HasLines};
-ghost use Rattle.quilt_lines.specs.Counting.{held_in};
+ghost use Rattle.quilt_lines.specs.Counting.{held_in, pages_in};
 
 use crate::view::{DAMAGED, LineView};
 use quilt_btree::Tree;
@@ -20,7 +20,7 @@ use quilt_store::PageStore;
 use quilt_types::{Block, Stop};
 
 /// How many blocks of each side the line layer with this number has, from 1 to 255, of a map of this level, from 1 to 12: those of
-/// side 2 ^ k at place k.
+/// side 2 ^ k at place k. It reads at most 6 pages for each block, and for each larger one around it.
 pub fn block_counts<S: PageStore>(
     store: &mut S,
     tree: &Tree,
@@ -36,6 +36,8 @@ pub fn block_counts<S: PageStore>(
     ensures sound { IfErr result (λ e. (t : ℕ) (segs : SegMap) (cover : BlockSet) →
         HasLines (S.told store.old) tree.now layer level t segs cover → IsSound e) }
     ensures left { OnlyReads S.PageStore store.old store.new result }
+    ensures reads { IfOk result (λ _. (t : ℕ) (segs : SegMap) (cover : BlockSet) → HasLines (S.told store.old) tree.now layer level t segs cover
+        → Goes (λ old new. new ≤ old + pages_in cover level (whole level)) (S.reads store.old) (S.reads store.new)) }
 {
     let view = LineView {
         tree: *tree,
@@ -87,6 +89,9 @@ impl LineView {
         ensures sound { IfErr result (λ e. (t : ℕ) (segs : SegMap) (cover : BlockSet) →
             HasLines (S.told store.old) self.now.tree self.now.layer self.now.level t segs cover → is_reached cover b ≡ true → IsSound e) }
         ensures left { OnlyReads S.PageStore store.old store.new result }
+        ensures reads { OnOk result ((t : ℕ) (segs : SegMap) (cover : BlockSet) →
+            HasLines (S.told store.old) self.now.tree self.now.layer self.now.level t segs cover →
+            Goes (λ old new. new ≤ old + pages_in cover k b) (S.reads store.old) (S.reads store.new)) }
     {
         match self.has_block(store, b) {
             Err(e) => return Err(e),

@@ -1,4 +1,4 @@
-ghost use Rattle.std.specs.Prelude.{◌≡◌, ℕ, ◌+◌, ◌*◌, ◌≤◌, ◌&&◌, ◌==◌, false, Contains, List, IfOk, IfErr, OnOk, MatchOption, [], vec_len};
+ghost use Rattle.std.specs.Prelude.{◌≡◌, ℕ, ◌+◌, ◌*◌, ◌≤◌, ◌&&◌, ◌==◌, false, Contains, List, IfOk, IfErr, IfSome, OnOk, MatchOption, [], vec_len};
 ghost use Rattle.std.specs.Option.{is_none};
 ghost use Rattle.quilt_types.specs.Sets as finset;
 ghost use Rattle.quilt_types.specs.Plane.{in_block, IsBlock};
@@ -7,20 +7,22 @@ ghost use Rattle.quilt_record.specs.declared.record.Record.{Record as AnyRecord}
 ghost use Rattle.quilt_store.specs.Calls.{OnlyReads};
 ghost use Rattle.quilt_store.specs.Stops.{IsSound};
 ghost use Rattle.quilt_world.specs.Tale.{Goes};
-ghost use Rattle.quilt_btree.specs.Trees.{IsRooted};
+ghost use Rattle.quilt_btree.specs.Trees.{IsRooted, IsTree};
 ghost use Rattle.quilt_lines.specs.Layers.{HasLines, SpellsLines};
 ghost use Rattle.quilt_lines.specs.Reads.{AreIdsAt};
 ghost use Rattle.quilt_lines.specs.Hints.{is_cut as is_cut_of, IsOfCover};
+ghost use Rattle.quilt_lines.specs.Said.{NamesZero};
 
+use crate::searching::Search;
 use crate::view::LineView;
 use quilt_loc::covers;
-use quilt_record::{Record, pair_record, read_pair};
+use quilt_record::{Record, read_pair};
 use quilt_store::PageStore;
 use quilt_types::{Block, Pixel, Stop};
 use std::alloc::Global;
 
-/// A block of a line layer at a pixel, once it is found: no block that holds it is one of the layer's, so that none of them needs a
-/// look.
+/// A block of a line layer at a pixel, once it is found: no larger block that holds it is one of the layer's, so that none of them
+/// needs a look.
 #[derive(Drop)]
 pub(crate) struct Hint {
     pub at: Pixel,
@@ -38,14 +40,6 @@ impl Hint {
             Some(c) => 1 < b.side && c.side < b.side && covers(b, Pixel { x: c.x, y: c.y }),
         }
     }
-
-    /// Whether no block is known, and this one holds the pixel.
-    fn asks(&self, b: Block) -> bool
-        requires { IsBlock 12 b }
-        ensures { result ≡ (is_none self.now.block && in_block b self.now.at) }
-    {
-        self.block.is_none() && covers(b, self.at)
-    }
 }
 
 impl LineView {
@@ -57,7 +51,7 @@ impl LineView {
     }
 
     /// The block that a record of the layer is of.
-    fn block_of(&self, r: &Record) -> Option<Block>
+    pub(crate) fn block_of(&self, r: &Record) -> Option<Block>
         ensures { (t : ℕ) (segs : SegMap) (cover : BlockSet) (rs : List AnyRecord) → SpellsLines rs self.now.layer self.now.level t segs cover
             → Contains rs r.now → IsOfCover cover result }
     {
@@ -70,41 +64,42 @@ impl LineView {
         }
     }
 
-    /// Finds the last block of the layer that begins at the pixel of a hint or before it, where none is known and this block holds
-    /// the pixel. It reads at most 6 pages.
-    fn find_block<S: PageStore>(&self, store: &mut S, hint: &mut Hint, b: Block) -> Result<(), Stop>
+    /// The ids of the segments that meet a block: None where it is none of the layer's. The block at the pixel is found before it is
+    /// known whether this is the one. It reads at most 9 pages where it is none of the layer's, and else 12 and 3 more for each id.
+    fn ids_first<S: PageStore>(
+        &self,
+        alloc: Global,
+        store: &mut S,
+        hint: &mut Hint,
+        b: Block,
+    ) -> Result<Option<Vec<u32>>, Stop>
         requires rooted { IsRooted (S.size store.old) self.now.tree }
         requires block { IsBlock self.now.level b }
+        ensures ids { IfOk result (λ o. (t : ℕ) (segs : SegMap) (cover : BlockSet)
+            → HasLines (S.told store.old) self.now.tree self.now.layer self.now.level t segs cover
+            → MatchOption o (finset.contains cover b ≡ false) (λ ids. AreIdsAt segs cover b ids.items)) }
         ensures known { OnOk result ((t : ℕ) (segs : SegMap) (cover : BlockSet)
-            → HasLines (S.told store.old) self.now.tree self.now.layer self.now.level t segs cover → IsOfCover cover hint.old.block
-            → IsOfCover cover hint.new.block) }
+            → HasLines (S.told store.old) self.now.tree self.now.layer self.now.level t segs cover → IsOfCover cover hint.new.block) }
         ensures sound { IfErr result (λ e. (t : ℕ) (segs : SegMap) (cover : BlockSet)
             → HasLines (S.told store.old) self.now.tree self.now.layer self.now.level t segs cover → IsSound e) }
+        ensures zero { IfErr result (λ e. (rs : List AnyRecord) → IsTree (S.told store.old) self.now.tree rs → NamesZero e) }
         ensures left { OnlyReads S.PageStore store.old store.new result }
-        ensures reads { Goes (λ old new. new ≤ old + 6) (S.reads store.old) (S.reads store.new) }
+        ensures reads { IfOk result (λ o. MatchOption o (Goes (λ old new. new ≤ old + 9) (S.reads store.old) (S.reads store.new))
+            (λ ids. Goes (λ old new. new ≤ old + (12 + 3 * vec_len ids)) (S.reads store.old) (S.reads store.new))) }
     {
-        if !hint.asks(b) {
-            return Ok(());
-        }
-        let pixel = Block {
-            x: hint.at.x,
-            y: hint.at.y,
-            side: 1,
-        };
-        let key = pair_record(self.layer, pixel, self.level, Some(u32::MAX)).key;
-        match self.tree.floor(store, &key) {
+        let mut search = Search::new(hint.at);
+        match self.ids_near(alloc, store, &mut search, b) {
             Err(e) => Err(e),
-            Ok(None) => Ok(()),
-            Ok(Some(r)) => {
-                hint.block = self.block_of(&r);
-                Ok(())
+            Ok(found) => {
+                hint.block = self.block_seen(&search);
+                Ok(found)
             }
         }
     }
 
     /// The ids of the segments that meet a block: None where it is none of the layer's. A block that holds the known one needs no look,
-    /// and where the first is none of the layer's the block at the pixel is found. It reads at most 12 pages where it is none of the
-    /// layer's, and else 9 and 3 more for each id.
+    /// and where none is known the block at the pixel is found first. It reads at most 12 pages where it is none of the layer's, and
+    /// else 12 and 3 more for each id, or 9 and 3 more where a block was known.
     pub(crate) fn ids_known<S: PageStore>(
         &self,
         alloc: Global,
@@ -122,20 +117,21 @@ impl LineView {
             → IsOfCover cover hint.new.block) }
         ensures sound { IfErr result (λ e. (t : ℕ) (segs : SegMap) (cover : BlockSet)
             → HasLines (S.told store.old) self.now.tree self.now.layer self.now.level t segs cover → IsSound e) }
+        ensures zero { IfErr result (λ e. (rs : List AnyRecord) → IsTree (S.told store.old) self.now.tree rs → NamesZero e) }
         ensures left { OnlyReads S.PageStore store.old store.new result }
         ensures reads { IfOk result (λ o. MatchOption o (Goes (λ old new. new ≤ old + 12) (S.reads store.old) (S.reads store.new))
-            (λ ids. Goes (λ old new. new ≤ old + (9 + 3 * vec_len ids)) (S.reads store.old) (S.reads store.new))) }
+            (λ ids. Goes (λ old new. new ≤ old + (12 + 3 * vec_len ids)) (S.reads store.old) (S.reads store.new))) }
+        ensures next { is_none hint.old.block ≡ false → IfOk result (λ o. IfSome o (λ ids.
+            Goes (λ old new. new ≤ old + (9 + 3 * vec_len ids)) (S.reads store.old) (S.reads store.new))) }
+        ensures met { is_none hint.old.block ≡ false → IfOk result (λ o. IfSome o (λ ids. 1 ≤ vec_len ids →
+            Goes (λ old new. new ≤ old + (6 + 3 * vec_len ids)) (S.reads store.old) (S.reads store.new))) }
     {
+        if hint.block.is_none() {
+            return self.ids_first(alloc, store, hint, b);
+        }
         if hint.is_cut(b) {
             return Ok(None);
         }
-        match self.ids_at(alloc, store, b) {
-            Err(e) => Err(e),
-            Ok(Some(ids)) => Ok(Some(ids)),
-            Ok(None) => match self.find_block(store, hint, b) {
-                Err(e) => Err(e),
-                Ok(()) => Ok(None),
-            },
-        }
+        self.ids_at(alloc, store, b)
     }
 }

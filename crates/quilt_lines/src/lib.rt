@@ -11,6 +11,8 @@ mod listing;
 mod merging;
 mod removal;
 mod removing;
+mod runs;
+mod searching;
 mod segments;
 mod settling;
 mod view;

@@ -51,6 +51,8 @@ impl LineView {
         ensures left { OnlyReads S.PageStore store.old store.new result }
         ensures reads { IfOk result (λ o. MatchOption o (Goes (λ old new. new ≤ old + 6) (S.reads store.old) (S.reads store.new))
             (λ ids. Goes (λ old new. new ≤ old + (9 + 3 * vec_len ids)) (S.reads store.old) (S.reads store.new))) }
+        ensures met { IfOk result (λ o. IfSome o (λ ids. 1 ≤ vec_len ids →
+            Goes (λ old new. new ≤ old + (6 + 3 * vec_len ids)) (S.reads store.old) (S.reads store.new))) }
     {
         let low = pair_record(self.layer, b, self.level, None).key;
         let high = Key {
@@ -64,7 +66,7 @@ impl LineView {
     }
 
     /// The ids that the records of a block say: None where there are no records.
-    fn ids_said(
+    pub(crate) fn ids_said(
         &self,
         alloc: Global,
         records: &[Record],
@@ -77,6 +79,7 @@ impl LineView {
             (λ ids. SayIds self.now.level self.now.layer b records.now ids.items)) }
         ensures zero { IfErr result NamesZero }
         ensures few { IfOk result (λ o. length records.now ≤ 1 + unwrap_or (option_map vec_len o) 0) }
+        ensures met { IfOk result (λ o. IfSome o (λ ids. 1 ≤ vec_len ids → length records.now ≡ vec_len ids)) }
         ensures sound { IfErr result (λ e. (segs : SegMap) (cover : BlockSet)
             → records.now ≡ block_records self.now.level self.now.layer segs cover b → IsSound e) }
         ensures no_fault { IsErrOf result Device → ⊥ }

@@ -18,13 +18,14 @@ ghost use Rattle.quilt_lines.specs.Bounds.{is_met_above};
 
 use crate::merging::Settled;
 use crate::removal::Removal;
+use crate::searching::Search;
 use crate::segments::segment;
 use quilt_btree::Tree;
 use quilt_edits::edits_of;
 use quilt_loc::whole_square;
 use quilt_record::{Edits, Record, segment_record};
 use quilt_store::PageStore;
-use quilt_types::Stop;
+use quilt_types::{Pixel, Stop};
 use std::alloc::{AllocError, Global};
 
 /// The records that go and those that come when the segment of an id goes from the line layer with this number, from 1 to 255, and
@@ -95,7 +96,11 @@ impl Removal {
             Goes (λ old new. new ≤ old + reach self.now.level segs cover (is_met_above self.now.level self.now.segment)) (S.reads store.old)
             (S.reads store.new)) }
     {
-        match self.settle(alloc, store, tree, whole_square(self.level)) {
+        let mut search = Search::new(Pixel {
+            x: self.segment.x1,
+            y: self.segment.y1,
+        });
+        match self.settle(alloc, store, tree, &mut search, whole_square(self.level)) {
             Err(e) => Err(e),
             Ok(all) => self.edits(alloc, &all),
         }

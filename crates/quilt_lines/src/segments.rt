@@ -1,5 +1,5 @@
 ghost use Rattle.std.specs.Prelude.{◌≡◌, ℕ, ◌+◌, ◌*◌, ◌<◌, ◌≤◌, ◌&&◌, true, All, Contains, Some, IfOk, IfErr, IfSome, IsErrOf, OnOk, [], ◌∷◌, ◌++◌, map};
-ghost use Rattle.std.specs.Prelude.{length, List};
+ghost use Rattle.std.specs.Prelude.{length, List, count_by, false};
 ghost use Rattle.std.specs.FinMap as finmap;
 ghost use Rattle.std.specs.Ordering.{nat_cmp};
 ghost use Rattle.quilt_types.specs.declared.plane.Seg.{Seg as AnySeg};
@@ -13,13 +13,16 @@ ghost use Rattle.quilt_world.specs.Tale.{Goes};
 ghost use Rattle.quilt_store.specs.Stops.{IsSound};
 ghost use Rattle.quilt_record.specs.declared.record.Record.{Record};
 ghost use Rattle.quilt_btree.specs.Trees.{IsRooted, IsTree};
-ghost use Rattle.quilt_lines.specs.Layers.{HasLines, fact_record, segment_facts};
+ghost use Rattle.quilt_near.specs.Lines.{Lines};
+ghost use Rattle.quilt_near.specs.Knowing.{Knows, StaysKnown, known_seg, many_known};
+ghost use Rattle.std.specs.Option.{is_none};
+ghost use Rattle.quilt_lines.specs.Layers.{HasLines, ShowsLines, fact_record, segment_facts};
 ghost use Rattle.quilt_lines.specs.Reads.{segment_key as key_of, ids_of};
 ghost use Rattle.quilt_lines.specs.Said.{NamesZero, SaySegment, SaySegmentAt, SaySegments, segment_records};
 
 use crate::view::{DAMAGED, LineView};
 use quilt_btree::Tree;
-use quilt_near::SegList;
+use quilt_near::{Known, SegList};
 use quilt_record::{Key, Record, read_segment};
 use quilt_store::PageStore;
 use quilt_types::{Seg, Stop};
@@ -92,7 +95,7 @@ pub fn scan<S: PageStore>(
 }
 
 /// The key of the segment with an id.
-fn segment_key(layer: u8, id: u32) -> Key
+pub(crate) fn segment_key(layer: u8, id: u32) -> Key
     ensures { result ≡ key_of layer id }
 {
     Key {
@@ -140,7 +143,7 @@ impl LineView {
     }
 
     /// The id and the segment that a record says, where both its ends are pixels of the level.
-    fn segment_said(&self, r: &Record) -> Option<(u32, Seg)>
+    pub(crate) fn segment_said(&self, r: &Record) -> Option<(u32, Seg)>
         ensures inside { IfSome result (λ v. is_seg_in_square self.now.level v.1 ≡ true) }
         ensures one { (id : ℕ) (s : AnySeg) → r.now ≡ fact_record self.now.level self.now.layer (IsSegment id s)
             → FactFits self.now.level (IsSegment id s) → is_seg_in_square self.now.level s ≡ true → result ≡ Some (id, s) }
@@ -207,6 +210,80 @@ impl LineView {
             Ok(Some(s)) => match list.push(id, s) {
                 Ok(()) => Ok(()),
                 Err(_) => Err(Stop::Memory),
+            },
+        }
+    }
+
+    /// The segments of these ids. It reads at most 3 pages for each that was not known, and knows it then.
+    pub(crate) fn segments_known<S: PageStore>(
+        &self,
+        alloc: Global,
+        store: &mut S,
+        known: &mut Known,
+        ids: &[u32],
+    ) -> Result<SegList, Stop>
+        requires rooted { IsRooted (S.size store.old) self.now.tree }
+        requires known { Knows self.now.level (ShowsLines (S.told store.old) self.now.tree self.now.layer self.now.level) known.old }
+        ensures ids { IfOk result (λ list. ids_of list ≡ ids.now) }
+        ensures found { IfOk result (λ list. (l : Lines) → ShowsLines (S.told store.old) self.now.tree self.now.layer self.now.level l
+            → All (λ e. finmap.get l.segs e.0 ≡ Some e.1) list) }
+        ensures inside { IfOk result (λ list. All (λ e. is_seg_in_square self.now.level e.1 ≡ true) list) }
+        ensures known { OnOk result (Knows self.now.level (ShowsLines (S.told store.old) self.now.tree self.now.layer self.now.level) known.new) }
+        ensures stays { OnOk result (StaysKnown known.old known.new) }
+        ensures zero { IfErr result (λ e. (rs : List Record) → IsTree (S.told store.old) self.now.tree rs → NamesZero e) }
+        ensures sound { IfErr result (λ e. (l : Lines) → ShowsLines (S.told store.old) self.now.tree self.now.layer self.now.level l
+            → ((id : ℕ) → Contains ids.now id → (s : AnySeg) × (finmap.get l.segs id ≡ Some s)) → IsSound e) }
+        ensures left { OnlyReads S.PageStore store.old store.new result }
+        ensures reads { OnOk result (Goes (λ old new. new ≤ old + 3 * count_by (λ id. is_none (known_seg known.old id)) ids.now)
+            (S.reads store.old) (S.reads store.new)) }
+        ensures fresh { OnOk result (Goes (λ old new. new + 3 * many_known known.old ≤ old + 3 * many_known known.new)
+            (S.reads store.old) (S.reads store.new)) }
+    {
+        let mut list = SegList::new(alloc);
+        for id in ids {
+            match self.segment_known(store, known, *id) {
+                Err(e) => return Err(e),
+                Ok(s) => match list.push(*id, s) {
+                    Err(_) => return Err(Stop::Memory),
+                    Ok(()) => {}
+                },
+            }
+        }
+        Ok(list)
+    }
+
+    /// The segment of an id, which is there. It reads at most 3 pages where it was not known, and knows it then.
+    fn segment_known<S: PageStore>(
+        &self,
+        store: &mut S,
+        known: &mut Known,
+        id: u32,
+    ) -> Result<Seg, Stop>
+        requires rooted { IsRooted (S.size store.old) self.now.tree }
+        requires known { Knows self.now.level (ShowsLines (S.told store.old) self.now.tree self.now.layer self.now.level) known.old }
+        ensures found { IfOk result (λ s. (l : Lines) → ShowsLines (S.told store.old) self.now.tree self.now.layer self.now.level l
+            → finmap.get l.segs id ≡ Some s) }
+        ensures inside { IfOk result (λ s. is_seg_in_square self.now.level s ≡ true) }
+        ensures known { OnOk result (Knows self.now.level (ShowsLines (S.told store.old) self.now.tree self.now.layer self.now.level) known.new) }
+        ensures stays { OnOk result (StaysKnown known.old known.new) }
+        ensures zero { IfErr result (λ e. (rs : List Record) → IsTree (S.told store.old) self.now.tree rs → NamesZero e) }
+        ensures sound { IfErr result (λ e. (l : Lines) → ShowsLines (S.told store.old) self.now.tree self.now.layer self.now.level l
+            → (s : AnySeg) → finmap.get l.segs id ≡ Some s → IsSound e) }
+        ensures left { OnlyReads S.PageStore store.old store.new result }
+        ensures reads { Goes (λ old new. new ≤ old + 3) (S.reads store.old) (S.reads store.new) }
+        ensures again { is_none (known_seg known.old id) ≡ false → Goes (λ old new. new ≤ old) (S.reads store.old) (S.reads store.new) }
+        ensures fresh { OnOk result (Goes (λ old new. new + 3 * many_known known.old ≤ old + 3 * many_known known.new)
+            (S.reads store.old) (S.reads store.new)) }
+    {
+        match known.find(id) {
+            Some(s) => Ok(s),
+            None => match self.segment(store, id) {
+                Err(e) => Err(e),
+                Ok(None) => Err(DAMAGED),
+                Ok(Some(s)) => match known.keep(id, s) {
+                    Err(_) => Err(Stop::Memory),
+                    Ok(()) => Ok(s),
+                },
             },
         }
     }

@@ -1,4 +1,4 @@
-ghost use Rattle.std.specs.Prelude.{◌≡◌, ◌<◌, ◌≤◌, ◌+◌, ℕ, true, false, Some, IfOk, IfErr, sum_by};
+ghost use Rattle.std.specs.Prelude.{◌≡◌, ◌<◌, ◌≤◌, ◌+◌, ℕ, true, false, Some, IfOk, IfErr, OnOk, sum_by};
 ghost use Rattle.std.specs.FinMap as finmap;
 ghost use Rattle.quilt_types.specs.Sets as finset;
 ghost use Rattle.quilt_types.specs.Plane.{side, quarters_of, IsBlock};
@@ -12,9 +12,11 @@ ghost use Rattle.quilt_btree.specs.Trees.{IsRooted};
 ghost use Rattle.quilt_lines.specs.Layers.{HasLines};
 ghost use Rattle.quilt_lines.specs.Merges.{Becomes};
 ghost use Rattle.quilt_lines.specs.Bounds.{is_met_above, due};
+ghost use Rattle.quilt_lines.specs.Searches.{IsLineSearch};
 
 use crate::merging::Settled;
 use crate::removal::Removal;
+use crate::searching::Search;
 use crate::view::LineView;
 use quilt_btree::Tree;
 use quilt_clip::meets;
@@ -31,12 +33,15 @@ impl Removal {
         alloc: Global,
         store: &mut S,
         tree: &Tree,
+        search: &mut Search,
         b: Block,
     ) -> Result<Settled, Stop>
         requires rooted { IsRooted (S.size store.old) tree.now }
+        requires search { IsLineSearch (S.told store.old) tree.now self.now.level self.now.layer search.old }
         requires block { IsBlock self.now.level b }
         ensures settled { IfOk result (λ x. (k : ℕ) (segs : SegMap) (cover : BlockSet) → b.side ≡ side k →
             HasLines (S.told store.old) tree.now self.now.layer self.now.level self.now.threshold segs cover → Becomes self.now segs cover k b x) }
+        ensures search { OnOk result (IsLineSearch (S.told store.old) tree.now self.now.level self.now.layer search.new) }
         ensures sound { IfErr result (λ e. (segs : SegMap) (cover : BlockSet) →
             HasLines (S.told store.old) tree.now self.now.layer self.now.level self.now.threshold segs cover → IsSound e) }
         ensures left { OnlyReads S.PageStore store.old store.new result }
@@ -50,7 +55,7 @@ impl Removal {
             layer: self.layer,
             level: self.level,
         };
-        match view.ids_at(alloc, store, b) {
+        match view.ids_near(alloc, store, search, b) {
             Err(e) => Err(e),
             Ok(Some(ids)) => match self.kept(alloc, b, &ids) {
                 Err(_) => Err(Stop::Memory),
@@ -60,7 +65,7 @@ impl Removal {
                 if !self.enters(b) {
                     return Ok(Settled::new(alloc, false));
                 }
-                self.settle_quarters(alloc, store, tree, b)
+                self.settle_quarters(alloc, store, tree, search, b)
             }
         }
     }
@@ -81,15 +86,18 @@ impl Removal {
         alloc: Global,
         store: &mut S,
         tree: &Tree,
+        search: &mut Search,
         b: Block,
     ) -> Result<Settled, Stop>
         requires rooted { IsRooted (S.size store.old) tree.now }
+        requires search { IsLineSearch (S.told store.old) tree.now self.now.level self.now.layer search.old }
         requires block { IsBlock self.now.level b }
         requires wide { 1 < b.side }
         requires met { segment_meets self.now.segment (square b) ≡ true }
         ensures settled { IfOk result (λ x. (k : ℕ) (segs : SegMap) (cover : BlockSet) → b.side ≡ side k →
             HasLines (S.told store.old) tree.now self.now.layer self.now.level self.now.threshold segs cover →
             finset.contains cover b ≡ false → Becomes self.now segs cover k b x) }
+        ensures search { OnOk result (IsLineSearch (S.told store.old) tree.now self.now.level self.now.layer search.new) }
         ensures sound { IfErr result (λ e. (segs : SegMap) (cover : BlockSet) →
             HasLines (S.told store.old) tree.now self.now.layer self.now.level self.now.threshold segs cover → IsSound e) }
         ensures left { OnlyReads S.PageStore store.old store.new result }
@@ -100,7 +108,7 @@ impl Removal {
     {
         let mut all = Settled::new(alloc, true);
         for q in quarters(b) {
-            match self.settle(alloc, store, tree, q) {
+            match self.settle(alloc, store, tree, search, q) {
                 Err(e) => return Err(e),
                 Ok(x) => match all.gather(&x, self.threshold) {
                     Err(_) => return Err(Stop::Memory),

@@ -1,4 +1,4 @@
-ghost use Rattle.std.specs.Prelude.{◌≡◌, ◌+◌, ◌≤◌, true, List, Err, IfOk, IfErr};
+ghost use Rattle.std.specs.Prelude.{◌≡◌, ◌+◌, ◌*◌, ◌≤◌, true, List, Err, IfOk, IfErr, OnOk};
 ghost use Rattle.std.proofs.Common.{◌∙◌};
 ghost use Rattle.quilt_types.specs.declared.stop.Stop.TheVariants.{Damaged};
 ghost use Rattle.quilt_types.specs.Plane.{IsBlock};
@@ -9,12 +9,14 @@ ghost use Rattle.quilt_store.specs.Calls.{OnlyReads};
 ghost use Rattle.quilt_store.specs.Stops.{IsSound};
 ghost use Rattle.quilt_near.specs.Lines.{Lines};
 ghost use Rattle.quilt_near.specs.Parts.{IsPart, IsPartOf, pages_for};
+ghost use Rattle.quilt_near.specs.Knowing.{Knows, StaysKnown, many_known, block_pages};
 ghost use Rattle.quilt_btree.specs.Trees.{IsRooted, IsTree};
 ghost use Rattle.quilt_lines.specs.Layers.{ShowsLines};
 ghost use Rattle.quilt_lines.specs.Said.{NamesZero, SayPart};
 
+use crate::hint::Hint;
 use quilt_btree::Tree;
-use quilt_near::{Part, SegBlocks};
+use quilt_near::{Known, Part, SegBlocks};
 use quilt_store::PageStore;
 use quilt_types::{Block, Stop};
 use std::alloc::Global;
@@ -108,6 +110,60 @@ impl<S: PageStore> SegBlocks<S> for LineView {
                 Err(e) => Err(e),
                 Ok(list) => Ok(Part::Leaf(list)),
             },
+        }
+    }
+
+    /// Damage is named as `part` names it.
+    fn part_known(
+        &self,
+        alloc: Global,
+        store: &mut S,
+        known: &mut Known,
+        b: Block,
+    ) -> Result<Part, Stop>
+        requires block { IsBlock self.now.level b }
+        requires reached { (l : Lines) → ShowsLines (S.told store.old) self.now.tree self.now.layer self.now.level l → is_reached l.cover b ≡ true }
+        requires known { Knows self.now.level (ShowsLines (S.told store.old) self.now.tree self.now.layer self.now.level) known.old }
+        ensures part { IfOk result (λ part. (l : Lines) → ShowsLines (S.told store.old) self.now.tree self.now.layer self.now.level l → IsPart l b part) }
+        ensures part_of { IfOk result (λ part. IsPartOf self.now.level b part) }
+        ensures known { OnOk result (Knows self.now.level (ShowsLines (S.told store.old) self.now.tree self.now.layer self.now.level) known.new) }
+        ensures stays { OnOk result (StaysKnown known.old known.new) }
+        ensures rooted { (IsRooted (S.size store.old) self.now.tree → ⊥) → result ≡ Err (Damaged 0) }
+        ensures sound { IfErr result (λ e. (l : Lines) → ShowsLines (S.told store.old) self.now.tree self.now.layer self.now.level l → IsSound e) }
+        ensures zero { IfErr result (λ e. (rs : List Record) → IsTree (S.told store.old) self.now.tree rs → NamesZero e) }
+        ensures left { OnlyReads S.PageStore store.old store.new result }
+        ensures reads { IfOk result (λ part. Goes (λ old new. new ≤ old + pages_for part) (S.reads store.old) (S.reads store.new)) }
+        ensures fresh { IfOk result (λ part. Goes (λ old new. new + 3 * many_known known.old ≤ old + block_pages part + 3 * many_known known.new)
+            (S.reads store.old) (S.reads store.new)) }
+    {
+        if !is_rooted(&self.tree, store.pages()) {
+            return Err(DAMAGED);
+        }
+        let mut hint = Hint {
+            at: known.at,
+            block: known.block,
+        };
+        match self.ids_known(alloc, store, &mut hint, b) {
+            Err(e) => Err(e),
+            Ok(None) => {
+                known.block = hint.block;
+                if b.side < 2 {
+                    return Err(DAMAGED);
+                }
+                Ok(Part::Split)
+            }
+            Ok(Some(ids)) => {
+                if known.block.is_none() {
+                    return match self.segments_known(alloc, store, known, &ids) {
+                        Err(e) => Err(e),
+                        Ok(list) => Ok(Part::Leaf(list)),
+                    };
+                }
+                match self.segments_ahead(alloc, store, known, &ids) {
+                    Err(e) => Err(e),
+                    Ok(list) => Ok(Part::Leaf(list)),
+                }
+            }
         }
     }
 

@@ -6,6 +6,7 @@ ghost use Rattle.quilt_near.specs.Evens.{ShowsEven};
 ghost use Rattle.quilt_store.specs.Stops.{HasStopCause, IsSound};
 
 use crate::blocks::SegBlocks;
+use crate::known::Known;
 use crate::part::{Part, SegList};
 use quilt_clip::meets;
 use quilt_store::PageStore;
@@ -56,6 +57,17 @@ impl<S: PageStore> SegBlocks<S> for Even {
             Err(_) => Err(Stop::Memory),
             Ok(list) => Ok(Part::Leaf(list)),
         }
+    }
+
+    /// It keeps no segment, since each is at hand.
+    fn part_known(
+        &self,
+        alloc: Global,
+        store: &mut S,
+        _known: &mut Known,
+        b: Block,
+    ) -> Result<Part, Stop> {
+        self.part(alloc, store, b)
     }
 
     ghost lines = { λ v s l h. h.lines };

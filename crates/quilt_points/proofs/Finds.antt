@@ -106,7 +106,7 @@ read_holds n capacity points p read b held e i =
     subst (λ (z : Block × Option Point). in_block z.0 p ≡ true) pair i.holds
 
 -- ---- a bucket of one point
-one_of : {X : Type 0} (xs : List X) (a b : X) → length xs ≤ 1 → Contains xs a → Contains xs b → a ≡ b
+pub one_of : {X : Type 0} (xs : List X) (a b : X) → length xs ≤ 1 → Contains xs a → Contains xs b → a ≡ b
 one_of [] a b le c d = absurd (Contains-nil a c)
 one_of (x ∷ []) a b le c d =
     let first : x ≡ a = ⊎_elim (λ e. e) (λ no. absurd (Contains-nil a no)) (Contains-cons_cases x [] a c) in

@@ -12,6 +12,7 @@ pub mod Bounds
 pub mod Results
 pub mod Spelled
 pub mod Windows
+pub mod Singles
 pub mod Beginnings
 pub mod Countings
 pub mod Codings

@@ -6,3 +6,4 @@ pub mod Plans
 pub mod Laws
 pub mod Coding
 pub mod Scattering
+pub mod Searches

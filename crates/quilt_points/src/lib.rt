@@ -13,6 +13,7 @@ mod listing;
 mod planning;
 mod reading;
 mod scattering;
+mod searching;
 mod windowing;
 
 pub use beginning::first_record;

@@ -20,7 +20,7 @@ use quilt_btree::Tree;
 use quilt_record::{Key, Record, point_record};
 use quilt_store::PageStore;
 use quilt_types::{Block, Pixel, Point, Stop};
-use std::alloc::Global;
+use std::alloc::{AllocError, Global};
 
 /// A block of a point layer with its points.
 #[derive(Drop)]
@@ -120,8 +120,20 @@ pub(crate) fn is_same(a: Block, b: Block) -> bool
     a == b
 }
 
+/// The point alone, if there is one.
+fn points_from(alloc: Global, held: Option<Point>) -> Result<Vec<Point>, AllocError>
+    ensures { IfOk result (λ v. v.items ≡ option_to_list held) }
+{
+    let mut points = Vec::new(alloc);
+    match held {
+        None => {}
+        Some(p) => points.push(p)?,
+    }
+    Ok(points)
+}
+
 /// The block of the layer that holds a pixel, with its points. It reads at most 12 pages, and 3 for each point that a block
-/// may hold.
+/// may hold: where that is one, the record that is found says it, and it reads at most 6.
 pub(crate) fn leaf_around<S: PageStore>(
     alloc: Global,
     store: &mut S,
@@ -140,13 +152,22 @@ pub(crate) fn leaf_around<S: PageStore>(
     ensures sound { IfErr result (λ e. (points : PointMap) → HasPoints (S.told store.old) tree.now layer.number layer.level layer.bucket points → IsSound e) }
     ensures left { OnlyReads S.PageStore store.old store.new result }
     ensures reads { IfOk result (λ _. Goes (λ old new. new ≤ old + (12 + 3 * layer.bucket)) (S.reads store.old) (S.reads store.new)) }
+    ensures single { layer.bucket ≡ 1 → Goes (λ old new. new ≤ old + 6) (S.reads store.old) (S.reads store.new) }
 {
     match block_around(store, tree, layer, at) {
         Err(e) => Err(e),
-        Ok((block, _)) => match points_of(alloc, store, tree, layer, block) {
-            Err(e) => Err(e),
-            Ok(None) => Err(DAMAGED),
-            Ok(Some(points)) => Ok(Leaf { block, points }),
-        },
+        Ok((block, held)) => {
+            if layer.bucket == 1 {
+                return match points_from(alloc, held) {
+                    Err(_) => Err(Stop::Memory),
+                    Ok(points) => Ok(Leaf { block, points }),
+                };
+            }
+            match points_of(alloc, store, tree, layer, block) {
+                Err(e) => Err(e),
+                Ok(None) => Err(DAMAGED),
+                Ok(Some(points)) => Ok(Leaf { block, points }),
+            }
+        }
     }
 }

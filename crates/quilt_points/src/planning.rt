@@ -32,7 +32,7 @@ use std::alloc::{AllocError, Global};
 /// The records that go and those that come, each in the order of their keys, when a point comes to a pixel of the point layer
 /// with this number, from 1 to 255, of a map of this level, from 1 to 12, whose blocks hold at most `bucket` points, from 1
 /// to 16: None exactly where a point is there. It reads the block that holds the pixel: at most 12 pages, and 3 for each point
-/// that a block may hold.
+/// that a block may hold; at most 6 pages at a bucket of 1.
 pub fn plan_put<S: PageStore>(
     alloc: Global,
     store: &mut S,
@@ -57,6 +57,7 @@ pub fn plan_put<S: PageStore>(
     ensures sound { IfErr result (λ e. (points : PointMap) → HasPoints (S.told store.old) tree.now layer level bucket points → IsSound e) }
     ensures left { OnlyReads S.PageStore store.old store.new result }
     ensures reads { IfOk result (λ _. Goes (λ old new. new ≤ old + (12 + 3 * bucket)) (S.reads store.old) (S.reads store.new)) }
+    ensures single { bucket ≡ 1 → Goes (λ old new. new ≤ old + 6) (S.reads store.old) (S.reads store.new) }
 {
     let layer = PointLayer {
         number: layer,

@@ -1,7 +1,8 @@
-ghost use Rattle.std.specs.Prelude.{◌≡◌, ◌+◌, ◌<◌, ◌≤◌, ◌==◌, true, List, Option, Some, IfOk, IfErr, IfSome, Contains, if◌then◌else◌};
+ghost use Rattle.std.specs.Prelude.{◌≡◌, ◌+◌, ◌<◌, ◌≤◌, ◌==◌, true, ℕ, List, Option, Some, IfOk, IfErr, IfSome, IsErrOf, Contains, if◌then◌else◌};
 ghost use Rattle.std.specs.FinMap as finmap;
 ghost use Rattle.quilt_types.specs.declared.plane.Block.{Block as AnyBlock};
 ghost use Rattle.quilt_types.specs.declared.plane.Point.{Point as AnyPoint};
+ghost use Rattle.quilt_types.specs.declared.stop.Stop.TheVariants.{Device};
 ghost use Rattle.quilt_types.specs.Plane.{side, in_block, is_pixel, IsBlock};
 ghost use Rattle.quilt_types.specs.Layers.{PointMap};
 ghost use Rattle.quilt_types.specs.Quadtrees.{point_blocks};
@@ -10,6 +11,8 @@ ghost use Rattle.quilt_record.specs.Canonical.{IsRecordOf, point_fact};
 ghost use Rattle.quilt_store.specs.Calls.{OnlyReads};
 ghost use Rattle.quilt_world.specs.Tale.{Goes};
 ghost use Rattle.quilt_store.specs.Stops.{IsSound};
+ghost use Rattle.quilt_btree.specs.declared.tree.Tree.{Tree as AnyTree};
+ghost use Rattle.quilt_btree.specs.Lists.{floor_of};
 ghost use Rattle.quilt_btree.specs.Trees.{IsRooted, IsTree};
 ghost use Rattle.quilt_points.specs.Layers.{HasPoints, pixel_key};
 ghost use Rattle.quilt_points.specs.Reads.{IsBlockRead, IsRow, IsBlockRow, IsLabelIn, IsAnswered, label_at};
@@ -84,29 +87,57 @@ pub(crate) fn block_around<S: PageStore>(
         → IsBlockRow layer.level layer.bucket layer.number rs at v.0 v.1) }
     ensures block { IfOk result (λ v. IsBlock layer.level v.0) }
     ensures holds { IfOk result (λ v. in_block v.0 at ≡ true) }
+    ensures pixel { IfOk result (λ v. IfSome v.1 (λ p. is_pixel layer.level p.at ≡ true)) }
     ensures sound { IfErr result (λ e. (points : PointMap) → HasPoints (S.told store.old) tree.now layer.number layer.level layer.bucket points → IsSound e) }
     ensures left { OnlyReads S.PageStore store.old store.new result }
     ensures reads { Goes (λ old new. new ≤ old + 6) (S.reads store.old) (S.reads store.new) }
 {
-    let k = key_behind(layer.number, at);
+    let k = key_behind(layer, at);
     match tree.floor(store, &k) {
         Err(e) => Err(e),
-        Ok(None) => Err(DAMAGED),
-        Ok(Some(r)) => match block_of(&r, layer) {
-            Some((b, held)) if covers(b, at) => Ok((b, held)),
-            _ => Err(DAMAGED),
-        },
+        Ok(found) => block_said(found, layer, at),
     }
 }
 
-/// The key behind those of all blocks that begin at the pixel or before it. Coordinates are below 4096.
-fn key_behind(layer: u8, at: Pixel) -> Key
-    requires in_x { at.x < 4096 }
-    requires in_y { at.y < 4096 }
-    ensures { result ≡ pixel_key layer at }
+/// The block and its point that a record says: that of the greatest key which is at most those of the blocks that begin
+/// at the pixel.
+pub(crate) fn block_said(
+    found: Option<Record>,
+    layer: PointLayer,
+    at: Pixel,
+) -> Result<(Block, Option<Point>), Stop>
+    requires in_x { at.x < side layer.level }
+    requires in_y { at.y < side layer.level }
+    ensures read { IfOk result (λ v. (told : Option (List (List ℕ))) (t : AnyTree) (points : PointMap)
+        → ((rs : List AnyRecord) → IsTree told t rs → found ≡ floor_of (pixel_key layer.number at) rs)
+        → HasPoints told t layer.number layer.level layer.bucket points → IsBlockRead layer.level layer.bucket points v.0 v.1) }
+    ensures row { IfOk result (λ v. (rs : List AnyRecord) → found ≡ floor_of (pixel_key layer.number at) rs
+        → IsBlockRow layer.level layer.bucket layer.number rs at v.0 v.1) }
+    ensures block { IfOk result (λ v. IsBlock layer.level v.0) }
+    ensures holds { IfOk result (λ v. in_block v.0 at ≡ true) }
+    ensures pixel { IfOk result (λ v. IfSome v.1 (λ p. is_pixel layer.level p.at ≡ true)) }
+    ensures sound { IfErr result (λ e. (told : Option (List (List ℕ))) (t : AnyTree) (points : PointMap)
+        → ((rs : List AnyRecord) → IsTree told t rs → found ≡ floor_of (pixel_key layer.number at) rs)
+        → HasPoints told t layer.number layer.level layer.bucket points → IsSound e) }
+    ensures no_fault { IsErrOf result Device → ⊥ }
+{
+    let Some(r) = found else {
+        return Err(DAMAGED);
+    };
+    match block_of(&r, layer) {
+        Some((b, held)) if covers(b, at) => Ok((b, held)),
+        _ => Err(DAMAGED),
+    }
+}
+
+/// The key behind those of all blocks that begin at the pixel or before it.
+pub(crate) fn key_behind(layer: PointLayer, at: Pixel) -> Key
+    requires in_x { at.x < side layer.level }
+    requires in_y { at.y < side layer.level }
+    ensures { result ≡ pixel_key layer.number at }
 {
     Key {
-        layer: u16::from(layer),
+        layer: u16::from(layer.number),
         part: 2,
         code: code_of(at),
         depth: u8::MAX,

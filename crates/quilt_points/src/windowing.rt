@@ -1,11 +1,13 @@
-ghost use Rattle.std.specs.Prelude.{◌≡◌, ℕ, ◌+◌, ◌*◌, ◌^◌, ◌&&◌, nat_lt, ◌≤◌, ◌++◌, List, true, false, filter, Contains, IfOk, IfErr, IsErrOf, IsPermutation, OnOk};
+ghost use Rattle.std.specs.Prelude.{◌≡◌, ℕ, ◌+◌, ◌*◌, ◌^◌, ◌&&◌, nat_lt, ◌<◌, ◌≤◌, ◌++◌, List, true, false, filter, Contains, IfOk, IfErr, IsErrOf, IsPermutation, OnOk};
 ghost use Rattle.std.specs.FinMap as finmap;
 ghost use Rattle.std.specs.List.Sorted.{IsSortedByKey};
+ghost use Rattle.std.specs.Option.{option_to_list};
 ghost use Rattle.quilt_types.specs.declared.plane.Pixel.{Pixel as AnyPixel};
 ghost use Rattle.quilt_types.specs.declared.plane.Point.{Point as AnyPoint};
 ghost use Rattle.quilt_types.specs.declared.stop.Stop.TheVariants.{Device};
-ghost use Rattle.quilt_types.specs.Plane.{whole, is_window, is_pixel, in_window, in_block, pixel_cmp, IsBlock};
+ghost use Rattle.quilt_types.specs.Plane.{whole, side, is_window, is_pixel, in_window, in_block, pixel_cmp, IsBlock};
 ghost use Rattle.quilt_types.specs.Layers.{PointMap};
+ghost use Rattle.quilt_types.specs.Quadtrees.{point_blocks};
 ghost use Rattle.quilt_record.specs.declared.record.Record.{Record as AnyRecord};
 ghost use Rattle.quilt_store.specs.Calls.{OnlyReads};
 ghost use Rattle.quilt_world.specs.Tale.{Goes};
@@ -13,15 +15,17 @@ ghost use Rattle.quilt_store.specs.Stops.{IsSound};
 ghost use Rattle.quilt_btree.specs.Trees.{IsRooted, IsTree};
 ghost use Rattle.quilt_points.specs.Layers.{HasPoints, entries_of};
 ghost use Rattle.quilt_points.specs.Reads.{AreOf};
-ghost use Rattle.quilt_points.specs.Windows.{IsOpen, IsCovered, meets_window, visited};
+ghost use Rattle.quilt_points.specs.Searches.{IsSearch};
+ghost use Rattle.quilt_points.specs.Windows.{IsOpen, IsCovered, HasRow, meets_window, visited};
 
 use crate::layer::PointLayer;
-use crate::listing::points_of;
+use crate::listing::{is_same, points_of};
 use crate::reading::DAMAGED;
+use crate::searching::{Search, block_near};
 use quilt_btree::Tree;
 use quilt_loc::{quarters, whole_square};
 use quilt_store::PageStore;
-use quilt_types::{Block, Point, PointList, Stop, Window};
+use quilt_types::{Block, Pixel, Point, PointList, Stop, Window};
 use std::alloc::{AllocError, Global};
 
 /// The points in a window of the point layer with this number, from 1 to 255, of a map of this level, from 1 to 12, whose
@@ -57,8 +61,9 @@ pub fn within<S: PageStore>(
         bucket,
     };
     let whole = whole_square(level);
+    let mut search = Search::new();
     let mut found = Vec::new(alloc);
-    match add_within(alloc, store, tree, layer, whole, w, &mut found) {
+    match add_within(alloc, store, tree, layer, &mut search, whole, w, &mut found) {
         Err(e) => Err(e),
         Ok(()) => match in_rows(alloc, found) {
             Ok(list) => Ok(list),
@@ -73,11 +78,13 @@ fn add_within<S: PageStore>(
     store: &mut S,
     tree: &Tree,
     layer: PointLayer,
+    search: &mut Search,
     b: Block,
     w: Window,
     found: &mut Vec<Point>,
 ) -> Result<(), Stop>
     requires rooted { IsRooted (S.size store.old) tree.now }
+    requires search { IsSearch (S.told store.old) tree.now layer.level layer.bucket layer.number search.old }
     requires window { is_window layer.level w ≡ true }
     requires block { IsBlock layer.level b }
     ensures found { OnOk result ((points : PointMap) → HasPoints (S.told store.old) tree.now layer.number layer.level layer.bucket points
@@ -87,6 +94,7 @@ fn add_within<S: PageStore>(
         → in_block b p ≡ true → IsCovered layer.level layer.bucket layer.number rs p) }
     ensures sound { IfErr result (λ e. (points : PointMap) → HasPoints (S.told store.old) tree.now layer.number layer.level layer.bucket points
         → IsOpen layer.level layer.bucket points b → IsSound e) }
+    ensures search { OnOk result (IsSearch (S.told store.old) tree.now layer.level layer.bucket layer.number search.new) }
     ensures left { OnlyReads S.PageStore store.old store.new result }
     ensures reads { OnOk result ((points : PointMap) (k : ℕ) → HasPoints (S.told store.old) tree.now layer.number layer.level layer.bucket points
         → IsOpen layer.level layer.bucket points b → b.side ≡ 2 ^ k
@@ -95,21 +103,135 @@ fn add_within<S: PageStore>(
     if !meets(b, w) {
         return Ok(());
     }
-    match points_of(alloc, store, tree, layer, b) {
+    match visit(alloc, store, tree, layer, search, b, w, found) {
         Err(e) => return Err(e),
-        Ok(Some(points)) => return add_inside(found, &points, w),
-        Ok(None) => {}
+        Ok(true) => return Ok(()),
+        Ok(false) => {}
     }
     if b.side <= 1 {
         return Err(DAMAGED);
     }
     for q in quarters(b) {
-        match add_within(alloc, store, tree, layer, q, w, found) {
+        match add_within(alloc, store, tree, layer, search, q, w, found) {
             Err(e) => return Err(e),
             Ok(()) => {}
         }
     }
     Ok(())
+}
+
+/// Adds those points of a block that meets the window which are in it, if this is one of the layer's blocks, and answers
+/// whether it is. It reads at most 6 pages, and 3 for each point that a block may hold.
+fn visit<S: PageStore>(
+    alloc: Global,
+    store: &mut S,
+    tree: &Tree,
+    layer: PointLayer,
+    search: &mut Search,
+    b: Block,
+    w: Window,
+    found: &mut Vec<Point>,
+) -> Result<bool, Stop>
+    requires rooted { IsRooted (S.size store.old) tree.now }
+    requires search { IsSearch (S.told store.old) tree.now layer.level layer.bucket layer.number search.old }
+    requires window { is_window layer.level w ≡ true }
+    requires block { IsBlock layer.level b }
+    requires meets { meets_window w b ≡ true }
+    ensures found { IfOk result (λ yes. yes ≡ true → (points : PointMap) → HasPoints (S.told store.old) tree.now layer.number layer.level layer.bucket points
+        → (here : List AnyPoint) × (found.new.items ≡ found.old.items ++ here) × AreOf points (in_window w) b (entries_of here)) }
+    ensures covered { IfOk result (λ yes. yes ≡ true → (rs : List AnyRecord) → IsTree (S.told store.old) tree.now rs
+        → HasRow layer.level layer.bucket layer.number rs b) }
+    ensures none { IfOk result (λ yes. yes ≡ false → (found.new.items ≡ found.old.items)
+        × ((points : PointMap) → HasPoints (S.told store.old) tree.now layer.number layer.level layer.bucket points
+        → Contains (point_blocks layer.level layer.bucket points) b → ⊥)) }
+    ensures sound { IfErr result (λ e. (points : PointMap) → HasPoints (S.told store.old) tree.now layer.number layer.level layer.bucket points → IsSound e) }
+    ensures search { OnOk result (IsSearch (S.told store.old) tree.now layer.level layer.bucket layer.number search.new) }
+    ensures left { OnlyReads S.PageStore store.old store.new result }
+    ensures reads { IfOk result (λ _. Goes (λ old new. new ≤ old + (6 + 3 * layer.bucket)) (S.reads store.old) (S.reads store.new)) }
+{
+    if layer.bucket == 1 {
+        return visit_single(store, tree, layer, search, b, w, found);
+    }
+    match points_of(alloc, store, tree, layer, b) {
+        Err(e) => Err(e),
+        Ok(None) => Ok(false),
+        Ok(Some(points)) => match add_inside(found, &points, w) {
+            Err(e) => Err(e),
+            Ok(()) => Ok(true),
+        },
+    }
+}
+
+/// The same of a layer whose blocks hold one point at most, where the one record of a block says all: that of the block
+/// around a pixel of both. It reads at most 9 pages.
+fn visit_single<S: PageStore>(
+    store: &mut S,
+    tree: &Tree,
+    layer: PointLayer,
+    search: &mut Search,
+    b: Block,
+    w: Window,
+    found: &mut Vec<Point>,
+) -> Result<bool, Stop>
+    requires rooted { IsRooted (S.size store.old) tree.now }
+    requires search { IsSearch (S.told store.old) tree.now layer.level layer.bucket layer.number search.old }
+    requires bucket { layer.bucket ≡ 1 }
+    requires window { is_window layer.level w ≡ true }
+    requires block { IsBlock layer.level b }
+    requires meets { meets_window w b ≡ true }
+    ensures found { IfOk result (λ yes. yes ≡ true → (points : PointMap) → HasPoints (S.told store.old) tree.now layer.number layer.level layer.bucket points
+        → (here : List AnyPoint) × (found.new.items ≡ found.old.items ++ here) × AreOf points (in_window w) b (entries_of here)) }
+    ensures covered { IfOk result (λ yes. yes ≡ true → (rs : List AnyRecord) → IsTree (S.told store.old) tree.now rs
+        → HasRow layer.level layer.bucket layer.number rs b) }
+    ensures none { IfOk result (λ yes. yes ≡ false → (found.new.items ≡ found.old.items)
+        × ((points : PointMap) → HasPoints (S.told store.old) tree.now layer.number layer.level layer.bucket points
+        → Contains (point_blocks layer.level layer.bucket points) b → ⊥)) }
+    ensures sound { IfErr result (λ e. (points : PointMap) → HasPoints (S.told store.old) tree.now layer.number layer.level layer.bucket points → IsSound e) }
+    ensures search { OnOk result (IsSearch (S.told store.old) tree.now layer.level layer.bucket layer.number search.new) }
+    ensures left { OnlyReads S.PageStore store.old store.new result }
+    ensures reads { IfOk result (λ _. Goes (λ old new. new ≤ old + 9) (S.reads store.old) (S.reads store.new)) }
+{
+    let at = first_in(layer, b, w);
+    match block_near(store, tree, layer, search, at) {
+        Err(e) => Err(e),
+        Ok((around, held)) => {
+            if !is_same(around, b) {
+                return Ok(false);
+            }
+            match add_said(found, held, w) {
+                Err(e) => Err(e),
+                Ok(()) => Ok(true),
+            }
+        }
+    }
+}
+
+/// The pixel of the least coordinates that a block and a window have in common.
+fn first_in(layer: PointLayer, b: Block, w: Window) -> Pixel
+    requires block { IsBlock layer.level b }
+    requires meets { meets_window w b ≡ true }
+    ensures holds { in_block b result ≡ true }
+    ensures in_x { result.x < side layer.level }
+    ensures in_y { result.y < side layer.level }
+{
+    Pixel {
+        x: if b.x < w.x { w.x } else { b.x },
+        y: if b.y < w.y { w.y } else { b.y },
+    }
+}
+
+/// Adds the point, if there is one and it is in the window.
+fn add_said(found: &mut Vec<Point>, held: Option<Point>, w: Window) -> Result<(), Stop>
+    ensures found { OnOk result (found.new.items ≡ found.old.items ++ filter (λ p. in_window w p.at) (option_to_list held)) }
+    ensures memory { IfErr result (λ e. e ≡ Stop.Memory) }
+{
+    match held {
+        Some(p) if is_inside(&p, w) => match found.push(p) {
+            Ok(()) => Ok(()),
+            Err(_) => Err(Stop::Memory),
+        },
+        _ => Ok(()),
+    }
 }
 
 /// Whether a block and a window have a pixel in common.

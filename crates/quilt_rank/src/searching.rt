@@ -9,6 +9,7 @@ ghost use Rattle.quilt_world.specs.Tale.{Goes};
 ghost use Rattle.quilt_near.specs.Budgets.{is_close};
 ghost use Rattle.quilt_near.specs.Endings.{EndsLook, EndsSearch};
 ghost use Rattle.quilt_near.specs.Lines.{Lines};
+ghost use Rattle.quilt_near.specs.Knowing.{Knows};
 ghost use Rattle.quilt_store.specs.Stops.{IsSound};
 ghost use Rattle.quilt_rank.specs.Firsts.{AreFirst};
 ghost use Rattle.quilt_rank.specs.Ranks.{with_seg, last_far};
@@ -16,7 +17,7 @@ ghost use Rattle.quilt_rank.specs.Opened.{IsOpened, GivesPart};
 
 use crate::firsts::Firsts;
 use crate::ranks::RankList;
-use quilt_near::{Part, Queue, SegBlocks, first_queue, push_quarters, square_distance};
+use quilt_near::{Known, Part, Queue, SegBlocks, first_queue, push_quarters, square_distance};
 use quilt_store::PageStore;
 use quilt_types::{Block, Pixel, Seg, Stop};
 use std::alloc::{AllocError, Global};
@@ -41,6 +42,7 @@ fn open<S: PageStore, B: SegBlocks<S>>(
     store: &mut S,
     queue: &mut Queue,
     ranks: &mut Firsts,
+    known: &mut Known,
     p: Pixel,
     k: usize,
     b: Block,
@@ -50,14 +52,16 @@ fn open<S: PageStore, B: SegBlocks<S>>(
     requires low { B.level_of blocks.now ≤ 12 }
     requires block { IsBlock (B.level_of blocks.now) b }
     requires reached { (l : Lines) → B.shows blocks.now store.old l → is_reached l.cover b ≡ true }
+    requires known { Knows (B.level_of blocks.now) (B.shows blocks.now store.old) known.old }
     ensures opened { OnOk result (IsOpened (B.level_of blocks.now) p k b (B.shows blocks.now store.old) queue.old queue.new ranks.old ranks.new
         (S.reads store.old) (S.reads store.new)) }
+    ensures known { OnOk result (Knows (B.level_of blocks.now) (B.shows blocks.now store.old) known.new) }
     ensures sound { IfErr result (λ e. (l : Lines) → B.shows blocks.now store.old l → IsSound e) }
     ensures ended { IfErr result (EndsLook (B.looked blocks.now b) store.old store.new) }
     ensures looked { OnOk result (GivesPart (B.looked blocks.now b) store.old store.new) }
     ensures left { OnlyReads S.PageStore store.old store.new result }
 {
-    match blocks.part(alloc, store, b) {
+    match blocks.part_known(alloc, store, known, b) {
         Err(e) => Err(e),
         Ok(Part::Leaf(list)) => match rank_all(ranks, list.items(), p, k) {
             Err(_) => Err(Stop::Memory),
@@ -71,7 +75,7 @@ fn open<S: PageStore, B: SegBlocks<S>>(
 }
 
 /// The first k segments by distance from the pixel and then id, with their distances: all where there are fewer. Where it
-/// gives k it opens no block that is farther than the last, and none twice. What ends a look at a block ends it, and is
+/// gives k it opens no block that is farther than the last, and none twice; it reads no segment twice. What ends a look at a block ends it, and is
 /// answered as it is.
 pub fn ranked<S: PageStore, B: SegBlocks<S>>(
     alloc: Global,
@@ -96,13 +100,14 @@ pub fn ranked<S: PageStore, B: SegBlocks<S>>(
         Err(_) => return Err(Stop::Memory),
         Ok(queue) => queue,
     };
+    let mut known = Known::new(alloc, p);
     let mut ranks = Firsts::new(alloc);
     while let Some((distance, block)) = queue.pop() {
         if ranks.is_past(k as usize, distance) {
             break;
         }
         match open(
-            alloc, blocks, store, &mut queue, &mut ranks, p, k as usize, block,
+            alloc, blocks, store, &mut queue, &mut ranks, &mut known, p, k as usize, block,
         ) {
             Err(e) => return Err(e),
             Ok(()) => {}

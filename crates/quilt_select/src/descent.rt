@@ -7,6 +7,7 @@ ghost use Rattle.quilt_types.specs.Quadtrees.{is_reached, reach};
 ghost use Rattle.quilt_store.specs.Calls.{OnlyReads};
 ghost use Rattle.quilt_world.specs.Tale.{Goes};
 ghost use Rattle.quilt_near.specs.Lines.{Lines};
+ghost use Rattle.quilt_near.specs.Knowing.{Knows};
 ghost use Rattle.quilt_store.specs.Stops.{IsSound};
 ghost use Rattle.quilt_select.specs.Shares.{shares as shares_of, holds_any, meets_any as meets_any_of};
 ghost use Rattle.quilt_select.specs.Descents.{four, with_seg, IsOpened};
@@ -14,9 +15,9 @@ ghost use Rattle.quilt_select.specs.Descents.{four, with_seg, IsOpened};
 use crate::stack::Stack;
 use quilt_clip::crosses;
 use quilt_loc::{quarters, whole_square};
-use quilt_near::{Part, SegBlocks, SegList};
+use quilt_near::{Known, Part, SegBlocks, SegList};
 use quilt_store::PageStore;
-use quilt_types::{Block, Seg, Stop, Window};
+use quilt_types::{Block, Pixel, Seg, Stop, Window};
 use std::alloc::{AllocError, Global};
 use std::collections::BTreeMap;
 
@@ -97,21 +98,24 @@ fn open<S: PageStore, B: SegBlocks<S>>(
     store: &mut S,
     stack: &mut Stack,
     found: &mut BTreeMap<u32, Seg>,
+    known: &mut Known,
     b: Block,
     near: &[Window],
 ) -> Result<(), Stop>
     requires low { B.level_of blocks.now ≤ 12 }
     requires block { IsBlock (B.level_of blocks.now) b }
     requires reached { (l : Lines) → B.shows blocks.now store.old l → is_reached l.cover b ≡ true }
+    requires known { Knows (B.level_of blocks.now) (B.shows blocks.now store.old) known.old }
     ensures opened { OnOk result
         (IsOpened b near.now (B.shows blocks.now store.old) stack.old stack.new found.old.entries found.new.entries (S.reads store.old) (S.reads store.new)) }
+    ensures known { OnOk result (Knows (B.level_of blocks.now) (B.shows blocks.now store.old) known.new) }
     ensures sound { IfErr result (λ e. (l : Lines) → B.shows blocks.now store.old l → IsSound e) }
     ensures left { OnlyReads S.PageStore store.old store.new result }
 {
     if near.is_empty() {
         return Ok(());
     }
-    match blocks.part(alloc, store, b) {
+    match blocks.part_known(alloc, store, known, b) {
         Err(e) => Err(e),
         Ok(Part::Leaf(list)) => match gather(found, list.items(), near) {
             Err(_) => Err(Stop::Memory),
@@ -136,8 +140,16 @@ fn listed(alloc: Global, found: &BTreeMap<u32, Seg>) -> Result<SegList, AllocErr
     Ok(list)
 }
 
+/// The pixel at which the first window begins, where there is one.
+fn first_pixel(windows: &[Window]) -> Pixel {
+    match windows.first() {
+        None => Pixel { x: 0, y: 0 },
+        Some(w) => Pixel { x: w.x, y: w.y },
+    }
+}
+
 /// The segments that meet the closed rectangle of one of the windows, by id. It opens no block without a pixel of a
-/// window, and none twice.
+/// window, and none twice, and reads no segment twice.
 pub fn select<S: PageStore, B: SegBlocks<S>>(
     alloc: Global,
     blocks: &B,
@@ -153,6 +165,7 @@ pub fn select<S: PageStore, B: SegBlocks<S>>(
     ensures sound { IfErr result (λ e. (l : Lines) → B.shows blocks.now store.old l → IsSound e) }
     ensures left { OnlyReads S.PageStore store.old store.new result }
 {
+    let mut known = Known::new(alloc, first_pixel(&windows));
     let mut stack = Stack::new(alloc);
     match stack.push(whole_square(blocks.level()), windows) {
         Err(_) => return Err(Stop::Memory),
@@ -160,7 +173,9 @@ pub fn select<S: PageStore, B: SegBlocks<S>>(
     }
     let mut found = BTreeMap::new(alloc);
     while let Some((block, near)) = stack.pop() {
-        match open(alloc, blocks, store, &mut stack, &mut found, block, &near) {
+        match open(
+            alloc, blocks, store, &mut stack, &mut found, &mut known, block, &near,
+        ) {
             Err(e) => return Err(e),
             Ok(()) => {}
         }

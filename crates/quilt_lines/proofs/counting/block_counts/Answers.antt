@@ -1,10 +1,11 @@
-use Rattle.std.proofs.Common.{◌≡◌, ◌+◌, ◌∙◌, ℕ, true, count_by, sym, ap, subst, arith}
+use Rattle.std.proofs.Common.{◌≡◌, ◌≤◌, ◌+◌, ◌∙◌, ℕ, true, count_by, sym, ap, subst, arith}
+use Rattle.quilt_world.specs.Tale.{Goes}
 use Rattle.std.specs.Prelude.{◌==◌}
 use Rattle.quilt_types.specs.declared.plane.Block.{Block}
 use Rattle.quilt_types.specs.Plane.{side}
 use Rattle.quilt_types.specs.Quadtrees.{is_reached}
 use Rattle.quilt_near.proofs.Reached.{reached_whole}
-use Rattle.quilt_lines.specs.Counting.{held_in}
+use Rattle.quilt_lines.specs.Counting.{held_in, pages_in}
 use Rattle.quilt_lines.proofs.Counts.{all_held, zeros_at, first_room}
 use Rattle.quilt_lines.proofs.counting.block_counts.Goals as goal
 
@@ -28,3 +29,8 @@ returns-in-Ok-clause-counts g c t segs cover h k small =
     count ∙ ap (λ (m : ℕ). m + count_by test (held_in cover c.args.level c.whole_square.result)) zero
     ∙ (let e : 0 + count_by test (held_in cover c.args.level c.whole_square.result) ≡ count_by test
     (held_in cover c.args.level c.whole_square.result) = omega arith in e) ∙ square ∙ all
+
+pub returns-in-Ok-clause-reads : goal.returns-in-Ok-clause-reads
+returns-in-Ok-clause-reads g c t segs cover h =
+    subst (λ (b : Block). Goes {A = ℕ} (λ old new. new ≤ old + pages_in cover c.args.level b) (g.S.PageStore.reads c.args.store.now)
+    (g.S.PageStore.reads c.count_in.new.store)) c.whole_square.ensures (c.in-Ok.ensures.reads t segs cover h)

@@ -1,7 +1,13 @@
-use Rattle.std.proofs.Common.{◌+◌, ◌*◌, arith}
+use Rattle.std.proofs.Common.{◌≡◌, ◌+◌, ◌*◌, true, List, sym, subst, arith}
+use Rattle.std.specs.Prelude.{All}
+use Rattle.quilt_types.specs.declared.plane.Point.{Point}
+use Rattle.quilt_types.specs.Plane.{is_pixel}
+use Rattle.quilt_point_laws.specs.Laws.{AreIn}
+use Rattle.quilt_points.specs.Layers.{entries_of}
 use Rattle.quilt_store.proofs.Reading.{only_reads_then, only_reads_err, only_reads_ok, only_reads_free}
 use Rattle.quilt_points.proofs.Finds.{has_along, match_none, match_some}
 use Rattle.quilt_points.proofs.Bounds.{reads_then}
+use Rattle.quilt_points.proofs.Singles.{one_held, all_held}
 use Rattle.quilt_points.proofs.listing.leaf_around.Goals as goal
 
 pub returns-in-Err-points_of-clause-sound : goal.returns-in-Err-points_of-clause-sound
@@ -33,3 +39,17 @@ returns-in-Ok-Some-clause-left g c = only_reads_ok _ (only_reads_then _ g.met.S.
 pub returns-in-Ok-Some-clause-reads : goal.returns-in-Ok-Some-clause-reads
 returns-in-Ok-Some-clause-reads g c =
     reads_then 6 (6 + 3 * c.args.layer.bucket) (12 + 3 * c.args.layer.bucket) _ _ _ (omega arith) c.in-Ok.ensures.reads c.in-Ok-Some.ensures.reads
+
+pub returns-in-Ok-points_from-clause-read : goal.returns-in-Ok-points_from-clause-read
+returns-in-Ok-points_from-clause-read g c points h =
+    let r = c.in-Ok.ensures.read points h in
+    record {
+      block = r.block;
+      are = subst (λ (l : List Point). AreIn points c.in-Ok.block (entries_of l)) (sym c.in-Ok-points_from.ensures)
+          (one_held c.args.layer.level points c.in-Ok.block c.args.layer.bucket c.in-Ok.held c.if-layer-eq1.true r);
+    }
+
+pub returns-in-Ok-points_from-clause-pixels : goal.returns-in-Ok-points_from-clause-pixels
+returns-in-Ok-points_from-clause-pixels g c =
+    subst (All (λ (p : Point). is_pixel c.args.layer.level p.at ≡ true)) (sym c.in-Ok-points_from.ensures)
+    (all_held c.args.layer.level c.in-Ok.held c.in-Ok.ensures.pixel)

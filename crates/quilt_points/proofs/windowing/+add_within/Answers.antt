@@ -14,6 +14,7 @@ use Rattle.quilt_points.proofs.Unions.{all_none}
 use Rattle.quilt_points.proofs.Windows.{kept_of, none_of, open_pixel, open_quarter, found_next, found_all, quarter_pixel, covered_next}
 use Rattle.quilt_points.proofs.Windows.{open_many, meets_none, window_sides, reads_once, reads_first, reads_next, reads_within, quarter_side, wide_power}
 use Rattle.quilt_points.proofs.Bounds.{reads_none}
+use Rattle.quilt_points.proofs.Singles.{search_along}
 use Rattle.quilt_points.specs.Windows.{visited}
 use Rattle.quilt_world.specs.Tale.{Goes}
 use Rattle.quilt_loc.proofs.Nesting.{side_pos}
@@ -27,32 +28,22 @@ returns-then-not-meets-clause-found g t c points h o =
 pub returns-in-Err-clause-sound : goal.returns-in-Err-clause-sound
 returns-in-Err-clause-sound g t c points h o = c.in-Err.ensures.sound points h
 
-pub returns-in-Ok-Some-clause-found : goal.returns-in-Ok-Some-clause-found
-returns-in-Ok-Some-clause-found g t c =
-    on_ok_weaker c.add_inside.result
-    (λ is points h o.
-    let held = match_some c.in-Ok-Some.field-0 _ _ c.in-Ok-Some.points c.in-Ok-Some.field-0-is (c.in-Ok-Some.ensures.read points h) in (
-      filter (λ (p : Point). in_window c.args.w p.at) c.in-Ok-Some.points.items,
-      is ∙ ap (λ (l : List Point). c.args.found.now.items ++ filter (λ (p : Point). in_window c.args.w p.at) l) c.deref.ensures.value,
-      kept_of points (in_window c.args.w) c.args.b c.in-Ok-Some.points.items held.are,
-    ))
-    c.add_inside.ensures.found
-
 pub returns-then-b-le1-clause-sound : goal.returns-then-b-le1-clause-sound
 returns-then-b-le1-clause-sound g t c points h o page e =
     open_pixel c.args.layer.level c.args.layer.bucket points c.args.b o
-    (match_none c.in-Ok-None.field-0 _ _ c.in-Ok-None.field-0-is (c.in-Ok-None.ensures.read points h)) c.args.layer.has_bucket.0 c.if-b-le1.true
+    ((c.in-Ok-false.ensures.none (cc)).1 points h) c.args.layer.has_bucket.0 c.if-b-le1.true
 
 pub quarters-q-items-requires-clause-valid : goal.quarters-q-items-requires-clause-valid
 quarters-q-items-requires-clause-valid g t c = IsBlock-up c.args.layer.level 12 c.args.b c.args.layer.has_level.1 c.requires.block
 
 pub loop-q-init : goal.loop-q-init
 loop-q-init g t c = record {
-  found = λ points h o. ([], sym (append-nil c.args.found.now.items), all_none points (in_window c.args.w));
+  found = λ points h o. ([], (c.in-Ok-false.ensures.none (cc)).0 ∙ sym (append-nil c.args.found.now.items), all_none points (in_window c.args.w));
   covered = λ rs p is inside q m on. absurd (Contains-nil q m);
   reads = λ points k h o e.
-      reads_first c.args.layer.bucket points c.args.w (6 + 3 * c.args.layer.bucket) k c.quarters-q-items.result _ _ c.in-Ok-None.ensures.reads;
-  left = only_reads_ok _ c.in-Ok-None.ensures.left tt;
+      reads_first c.args.layer.bucket points c.args.w (6 + 3 * c.args.layer.bucket) k c.quarters-q-items.result _ _ c.in-Ok-false.ensures.reads;
+  left = only_reads_ok _ c.in-Ok-false.ensures.left tt;
+  search = c.in-Ok-false.ensures.search;
 }
 
 pub add_within-requires : goal.add_within-requires
@@ -61,14 +52,16 @@ add_within-requires g t c κs within =
     (record { y = 0; x = 0; side = 0 }) c.requires.block c.if-b-le1.false c.quarters-q-items.ensures.value c.loop-q-test.true in
     let half = q.half in
     let rooted = subst (λ (s : ℕ). IsRooted s c.args.tree.now) (sym c.loop-q.invariant.left.size) c.requires.rooted in
-    (omega arith, (within, (rooted, (c.requires.window, q.block))))
+    let search = search_along _ _ c.args.tree.now c.args.layer.level c.args.layer.bucket c.args.layer.number c.loop-q.search c.loop-q.invariant.left.told
+    c.loop-q.invariant.search in
+    (omega arith, (within, (rooted, (search, (c.requires.window, q.block)))))
 
 pub returns-in-Err-add_within-clause-sound : goal.returns-in-Err-add_within-clause-sound
 returns-in-Err-add_within-clause-sound g t c points h o =
     c.in-Err-add_within.ensures.sound points
     (has_along _ _ c.args.tree.now c.args.layer.number c.args.layer.level c.args.layer.bucket points c.loop-q.invariant.left.told h)
     (open_quarter c.args.layer.level c.args.layer.bucket points c.args.b o
-    (match_none c.in-Ok-None.field-0 _ _ c.in-Ok-None.field-0-is (c.in-Ok-None.ensures.read points h)) c.if-b-le1.false
+    ((c.in-Ok-false.ensures.none (cc)).1 points h) c.if-b-le1.false
     (get_or c.quarters-q-items.result c.loop-q.q-index (record { y = 0; x = 0; side = 0 }))
     (subst (λ (l : List Block). Contains l (get_or c.quarters-q-items.result c.loop-q.q-index (record { y = 0; x = 0; side = 0 })))
     c.quarters-q-items.ensures.value
@@ -84,7 +77,7 @@ loop-q-preserved g t c = record {
       (c.in-Ok.ensures.found points (has_along _ _ c.args.tree.now c.args.layer.number c.args.layer.level c.args.layer.bucket points
       c.loop-q.invariant.left.told h)
       (open_quarter c.args.layer.level c.args.layer.bucket points c.args.b o
-      (match_none c.in-Ok-None.field-0 _ _ c.in-Ok-None.field-0-is (c.in-Ok-None.ensures.read points h)) c.if-b-le1.false
+      ((c.in-Ok-false.ensures.none (cc)).1 points h) c.if-b-le1.false
       (get_or c.quarters-q-items.result c.loop-q.q-index (record { y = 0; x = 0; side = 0 }))
       (subst (λ (l : List Block). Contains l (get_or c.quarters-q-items.result c.loop-q.q-index (record { y = 0; x = 0; side = 0 })))
       c.quarters-q-items.ensures.value
@@ -103,7 +96,7 @@ loop-q-preserved g t c = record {
       (c.in-Ok.ensures.reads points k
       (has_along _ _ c.args.tree.now c.args.layer.number c.args.layer.level c.args.layer.bucket points c.loop-q.invariant.left.told h)
       (open_quarter c.args.layer.level c.args.layer.bucket points c.args.b o
-      (match_none c.in-Ok-None.field-0 _ _ c.in-Ok-None.field-0-is (c.in-Ok-None.ensures.read points h)) c.if-b-le1.false
+      ((c.in-Ok-false.ensures.none (cc)).1 points h) c.if-b-le1.false
       (get_or c.quarters-q-items.result c.loop-q.q-index (record { y = 0; x = 0; side = 0 }))
       (subst (λ (l : List Block). Contains l (get_or c.quarters-q-items.result c.loop-q.q-index (record { y = 0; x = 0; side = 0 })))
       c.quarters-q-items.ensures.value
@@ -112,6 +105,8 @@ loop-q-preserved g t c = record {
       (quarter_side k _ _ (quarter_at c.args.layer.level c.args.b c.quarters-q-items.result c.loop-q.q-index (record { y = 0; x = 0; side = 0 })
       c.requires.block c.if-b-le1.false c.quarters-q-items.ensures.value c.loop-q-test.true).half e));
   left = read_on _ g.met.S.PageStore.goes_on _ _ _ c.loop-q.invariant.left c.in-Ok.ensures.left;
+  search = search_along _ _ c.args.tree.now c.args.layer.level c.args.layer.bucket c.args.layer.number c.add_within.new.search
+      (sym c.loop-q.invariant.left.told) c.in-Ok.ensures.search;
 }
 
 pub returns-clause-found : goal.returns-clause-found
@@ -125,16 +120,6 @@ returns-in-Err-add_within-clause-left g t c = only_reads_err _ (only_reads_then 
 
 pub returns-then-not-meets-clause-covered : goal.returns-then-not-meets-clause-covered
 returns-then-not-meets-clause-covered g t c rs p is inside on = absurd (meets_none c.args.w c.args.b (sym c.meets.ensures ∙ c.if-not-meets.true) p on inside)
-
-pub returns-in-Ok-Some-clause-covered : goal.returns-in-Ok-Some-clause-covered
-returns-in-Ok-Some-clause-covered g t c =
-    on_ok_weaker c.add_inside.result
-    (λ _ rs p is inside on. record {
-      block = c.args.b;
-      holds = on;
-      has = if_some_at c.in-Ok-Some.field-0 _ c.in-Ok-Some.points c.in-Ok-Some.field-0-is c.in-Ok-Some.ensures.row rs is;
-    })
-    c.add_inside.ensures.found
 
 pub returns-clause-covered : goal.returns-clause-covered
 returns-clause-covered g t c rs p is inside on =
@@ -152,14 +137,6 @@ pub returns-then-not-meets-clause-reads : goal.returns-then-not-meets-clause-rea
 returns-then-not-meets-clause-reads g t c points k h o e =
     reads_none ((6 + 3 * c.args.layer.bucket) * visited k c.args.layer.bucket points c.args.w c.args.b) (g.S.PageStore.reads c.args.store.now)
 
-pub returns-in-Ok-Some-clause-reads : goal.returns-in-Ok-Some-clause-reads
-returns-in-Ok-Some-clause-reads g t c =
-    on_ok_weaker c.add_inside.result
-    (λ _ points k h o e.
-    reads_once c.args.layer.bucket points c.args.w (6 + 3 * c.args.layer.bucket) k c.args.b _ _ (sym c.meets.ensures ∙ c.if-not-meets.false)
-    c.in-Ok-Some.ensures.reads)
-    c.add_inside.ensures.found
-
 pub returns-clause-reads : goal.returns-clause-reads
 returns-clause-reads g t c points k h o e =
     let j = wide_power k c.args.b.side c.if-b-le1.false e in
@@ -168,5 +145,13 @@ returns-clause-reads g t c points k h o e =
     (reads_within c.args.layer.bucket points c.args.w (6 + 3 * c.args.layer.bucket) j.0 c.args.b c.quarters-q-items.result c.loop-q.q-index _ _
     c.quarters-q-items.ensures.value (sym c.meets.ensures ∙ c.if-not-meets.false)
     (open_many c.args.layer.level c.args.layer.bucket points c.args.b o
-    (match_none c.in-Ok-None.field-0 _ _ c.in-Ok-None.field-0-is (c.in-Ok-None.ensures.read points h)))
+    ((c.in-Ok-false.ensures.none (cc)).1 points h))
     (c.loop-q.invariant.reads points j.0 h o (e ∙ ap (λ (i : ℕ). 2 ^ i) j.1)))
+
+pub returns-in-Ok-true-clause-reads : goal.returns-in-Ok-true-clause-reads
+returns-in-Ok-true-clause-reads g t c points k h o e =
+    reads_once c.args.layer.bucket points c.args.w (6 + 3 * c.args.layer.bucket) k c.args.b _ _ (sym c.meets.ensures ∙ c.if-not-meets.false)
+    c.in-Ok-true.ensures.reads
+
+pub returns-clause-search : goal.returns-clause-search
+returns-clause-search g t c = c.loop-q.invariant.search

@@ -8,6 +8,7 @@ use Rattle.quilt_record.specs.declared.record.Record.{Record}
 use Rattle.quilt_btree.specs.Trees.{IsTree}
 use Rattle.quilt_types.specs.Layers.{PointMap}
 use Rattle.quilt_points.specs.Layers.{HasPoints, entries_of}
+use Rattle.quilt_points.specs.Searches.{IsSearch}
 use Rattle.quilt_points.specs.Windows.{IsOpen, IsCovered, visited}
 use Rattle.std.specs.List.{sum_by}
 use Rattle.quilt_world.specs.Tale.{Goes}
@@ -29,4 +30,5 @@ invariant-loop-q g l = record {
       → Goes {A = ℕ} (λ old new. new ≤ old + (6 + 3 * l.layer.bucket) * (1 + sum_by (visited k l.layer.bucket points l.w) (take l.q-index l.q-items)))
       (g.S.PageStore.reads l.fn.store) (g.S.PageStore.reads l.store);
   left : IsOnlyRead g.S.PageStore l.fn.store l.store;
+  search : IsSearch (g.S.PageStore.told l.fn.store) l.tree l.layer.level l.layer.bucket l.layer.number l.search;
 }

@@ -37,3 +37,7 @@ returns-in-Ok-in_rows-clause-reads g c points h =
     (c.in-Ok.ensures.reads points c.args.level h
     (open_whole c.args.level c.args.bucket points c.whole_square-whole.result c.whole_square-whole.ensures)
     (ap (λ (b : Block). b.side) c.whole_square-whole.ensures))
+
+pub add_within-requires-clause-search : goal.add_within-requires-clause-search
+add_within-requires-clause-search g c =
+    c.new-search.ensures (g.S.PageStore.told c.args.store.now) c.args.tree.now c.args.level c.args.bucket c.args.layer

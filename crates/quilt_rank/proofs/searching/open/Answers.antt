@@ -25,7 +25,7 @@ returns-in-Ok-Leaf-clause-opened g c = record {
   after = (refl, c.in-Ok.ensures ∙ ap (fold (with_seg c.args.p c.args.k) c.args.ranks.now) c.items.ensures);
   reads =
       subst (λ (part : Part). Goes (λ old new. new ≤ old + pages_for part) (g.S.PageStore.reads c.args.store.now)
-      (g.S.PageStore.reads c.part.new.store)) c.in-Ok-Leaf.field-0-is c.in-Ok-Leaf.ensures.reads;
+      (g.S.PageStore.reads c.part_known.new.store)) c.in-Ok-Leaf.field-0-is c.in-Ok-Leaf.ensures.reads;
 }
 
 pub returns-clause-opened : goal.returns-clause-opened
@@ -36,5 +36,5 @@ returns-clause-opened g c = record {
   after = (c.in-Ok-push_quarters.ensures, refl);
   reads =
       subst (λ (part : Part). Goes (λ old new. new ≤ old + pages_for part) (g.S.PageStore.reads c.args.store.now)
-      (g.S.PageStore.reads c.part.new.store)) c.in-Ok-Split.field-0-is c.in-Ok-Split.ensures.reads;
+      (g.S.PageStore.reads c.part_known.new.store)) c.in-Ok-Split.field-0-is c.in-Ok-Split.ensures.reads;
 }

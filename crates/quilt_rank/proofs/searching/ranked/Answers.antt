@@ -7,6 +7,7 @@ use Rattle.quilt_rank.specs.Ranks.{last_far}
 use Rattle.quilt_rank.proofs.Orders.{Rank}
 use Rattle.quilt_types.specs.Ranking.{ranked}
 use Rattle.quilt_near.specs.Lines.{Lines}
+use Rattle.quilt_near.proofs.Knowing.{knows_nothing, knows_where}
 use Rattle.quilt_rank.proofs.Answered.{first_are, first_is}
 use Rattle.quilt_rank.proofs.Goings.{Going, going_start, going_on, going_end, going_stop, going_reads, first_valid, first_reached, less_left}
 use Rattle.quilt_rank.proofs.searching.ranked.Goals as goal
@@ -19,8 +20,15 @@ loop-distance-init g c =
     record {
       going = subst (Going _ c.args.p c.args.k _ _ _ _) (sym c.new-ranks.ensures) first;
       left = only_reads_same _ tt _ (g.met.S.PageStore.same_time c.args.store.now);
+      known = knows_nothing _ _ c.new-known.result c.new-known.ensures.block c.new-known.ensures.segs;
       ended = inr (refl, refl);
     }
+
+pub open-requires-clause-known : goal.open-requires-clause-known
+open-requires-clause-known g c =
+    knows_where _ (g.B.SegBlocks.shows c.args.blocks.now c.args.store.now) _ c.loop-distance.known
+    (λ l s. g.met.B.SegBlocks.same c.args.blocks.now c.loop-distance.store c.args.store.now l (sym c.loop-distance.invariant.left.told) s)
+    c.loop-distance.invariant.known
 
 pub open-requires-clause-block : goal.open-requires-clause-block
 open-requires-clause-block g c =
@@ -62,6 +70,8 @@ loop-distance-preserved g c =
           (λ l s. g.met.B.SegBlocks.same c.args.blocks.now c.args.store.now c.loop-distance.store l i.left.told s)
           c.in-Some.ensures.least (sym c.is_past.ensures ∙ c.if-is_past.false) c.in-Ok-open.ensures.opened;
       left = read_on _ g.met.S.PageStore.goes_on c.args.store.now c.loop-distance.store c.open.new.store i.left c.open.ensures.left;
+      known = knows_where _ (g.B.SegBlocks.shows c.args.blocks.now c.loop-distance.store) _ c.open.new.known
+          (λ l s. g.met.B.SegBlocks.same c.args.blocks.now c.args.store.now c.loop-distance.store l i.left.told s) c.in-Ok-open.ensures.known;
       ended = inl (c.in-Some.block, c.loop-distance.store, inr (refl, c.in-Ok-open.ensures.looked));
     }
 

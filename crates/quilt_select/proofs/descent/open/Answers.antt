@@ -28,7 +28,7 @@ returns-in-Ok-Leaf-clause-opened g c = record {
   );
   reads =
       subst (λ (part : Part). Goes (λ old new. new ≤ old + pages_for part) (g.S.PageStore.reads c.args.store.now)
-      (g.S.PageStore.reads c.part.new.store)) c.in-Ok-Leaf.field-0-is c.in-Ok-Leaf.ensures.reads;
+      (g.S.PageStore.reads c.part_known.new.store)) c.in-Ok-Leaf.field-0-is c.in-Ok-Leaf.ensures.reads;
 }
 
 pub push_quarters-requires-clause-valid : goal.push_quarters-requires-clause-valid
@@ -46,5 +46,5 @@ returns-clause-opened g c = record {
   );
   reads =
       subst (λ (part : Part). Goes (λ old new. new ≤ old + pages_for part) (g.S.PageStore.reads c.args.store.now)
-      (g.S.PageStore.reads c.part.new.store)) c.in-Ok-Split.field-0-is c.in-Ok-Split.ensures.reads;
+      (g.S.PageStore.reads c.part_known.new.store)) c.in-Ok-Split.field-0-is c.in-Ok-Split.ensures.reads;
 }

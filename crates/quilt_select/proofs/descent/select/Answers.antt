@@ -2,6 +2,7 @@ use Rattle.std.proofs.Common.{List, ◌∙◌, ap, sym, subst, refl, arith}
 use Rattle.quilt_store.proofs.Reading.{only_reads_then, only_reads_same, read_on, only_reads_err}
 use Rattle.quilt_types.specs.declared.plane.Window.{Window}
 use Rattle.quilt_types.specs.Plane.{whole}
+use Rattle.quilt_near.proofs.Knowing.{knows_nothing, knows_where}
 use Rattle.quilt_select.specs.Descents.{IsOpened}
 use Rattle.quilt_select.proofs.Descending.{going_start, going_on, going_end, going_reads, first_valid, first_reached, less_left}
 use Rattle.quilt_select.proofs.descent.select.Goals as goal
@@ -14,7 +15,14 @@ loop-block-init g c =
           c.push.new.self c.new-found.result.entries _ c.args.windows.items c.new-stack.result (c.whole_square.ensures ∙ ap whole c.level.ensures.value)
           refl c.new-stack.ensures c.in-Ok.ensures c.new-found.ensures.empty;
       left = only_reads_same _ tt _ (g.met.S.PageStore.same_time c.args.store.now);
+      known = knows_nothing _ _ c.new-known.result c.new-known.ensures.block c.new-known.ensures.segs;
     }
+
+pub open-requires-clause-known : goal.open-requires-clause-known
+open-requires-clause-known g c =
+    knows_where _ (g.B.SegBlocks.shows c.args.blocks.now c.args.store.now) _ c.loop-block.known
+    (λ l s. g.met.B.SegBlocks.same c.args.blocks.now c.loop-block.store c.args.store.now l (sym c.loop-block.invariant.left.told) s)
+    c.loop-block.invariant.known
 
 pub open-requires-clause-block : goal.open-requires-clause-block
 open-requires-clause-block g c =
@@ -44,7 +52,7 @@ loop-block-smaller g c =
     (g.S.PageStore.reads c.open.new.store) c.open.new.stack c.open.new.found.entries (g.B.SegBlocks.shows c.args.blocks.now c.loop-block.store)
     (subst (λ (near : List Window). IsOpened c.in-Some.block near (g.B.SegBlocks.shows c.args.blocks.now c.loop-block.store)
     c.pop.new.self c.open.new.stack c.loop-block.found.entries c.open.new.found.entries (g.S.PageStore.reads c.loop-block.store)
-    (g.S.PageStore.reads c.open.new.store)) c.deref.ensures.value c.in-Ok-open.ensures.opened)
+    (g.S.PageStore.reads c.open.new.store)) c.deref-in-Some.ensures.value c.in-Ok-open.ensures.opened)
 
 pub loop-block-preserved : goal.loop-block-preserved
 loop-block-preserved g c =
@@ -58,8 +66,10 @@ loop-block-preserved g c =
           (λ l s. g.met.B.SegBlocks.same c.args.blocks.now c.args.store.now c.loop-block.store l i.left.told s)
           (subst (λ (near : List Window). IsOpened c.in-Some.block near (g.B.SegBlocks.shows c.args.blocks.now c.loop-block.store)
           c.pop.new.self c.open.new.stack c.loop-block.found.entries c.open.new.found.entries (g.S.PageStore.reads c.loop-block.store)
-          (g.S.PageStore.reads c.open.new.store)) c.deref.ensures.value c.in-Ok-open.ensures.opened);
+          (g.S.PageStore.reads c.open.new.store)) c.deref-in-Some.ensures.value c.in-Ok-open.ensures.opened);
       left = read_on _ g.met.S.PageStore.goes_on c.args.store.now c.loop-block.store c.open.new.store i.left c.open.ensures.left;
+      known = knows_where _ (g.B.SegBlocks.shows c.args.blocks.now c.loop-block.store) _ c.open.new.known
+          (λ l s. g.met.B.SegBlocks.same c.args.blocks.now c.args.store.now c.loop-block.store l i.left.told s) c.in-Ok-open.ensures.known;
     }
 
 pub returns-clause-selected : goal.returns-clause-selected

@@ -1,5 +1,6 @@
 use Rattle.std.proofs.Common.{◌≤◌}
 use Rattle.quilt_store.specs.Calls.{IsOnlyRead}
+use Rattle.quilt_near.specs.Knowing.{Knows}
 use Rattle.quilt_near.proofs.Owing.{left}
 use Rattle.quilt_select.proofs.Descending.{Going, block_of}
 use Rattle.quilt_select.proofs.descent.select.Given as goal
@@ -9,6 +10,7 @@ invariant-loop-block g l = record {
   going : Going (g.B.SegBlocks.level_of l.blocks) l.fn.windows.items (g.B.SegBlocks.shows l.blocks l.fn.store) (g.S.PageStore.reads l.fn.store)
       (g.S.PageStore.reads l.store) l.stack l.found.entries;
   left : IsOnlyRead g.S.PageStore l.fn.store l.store;
+  known : Knows (g.B.SegBlocks.level_of l.blocks) (g.B.SegBlocks.shows l.blocks l.fn.store) l.known;
 }
 
 abbrev pub decreases-loop-block : goal.decreases-loop-block

@@ -17,7 +17,7 @@ pub returns-in-Err-add_in-clause-sound : goal.returns-in-Err-add_in-clause-sound
 returns-in-Err-add_in-clause-sound g c segs cover h new =
     let self = c.args.self.now in
     let valid = h.spelled.valid in
-    c.in-Err-add_in.ensures.sound segs cover h tt
+    c.in-Err-add_in.ensures.sound segs cover h
     (subst (λ (b : Block). is_reached cover b ≡ true) (sym c.whole_square-all.ensures)
     (reached_whole self.view.level (record { segs = segs; cover = cover }) (record { inside = valid.inside; each = valid.each; once = valid.once })))
 
@@ -32,7 +32,7 @@ returns-in-Ok-add_in-clause-plan g c =
     (added_whole self.view.level self.view.layer self.t segs self.id self.s cover c.whole_square-all.result c.new.result.items
     c.add_in.new.change.gone.items c.push.new.self.items c.add_in.new.change.come.items c.segment_record-row.result c.whole_square-all.ensures
     c.new.ensures.items (c.in-Ok.ensures.items ∙ ap (λ (rs : List Record). rs ++ c.segment_record-row.result ∷ []) c.new-2.ensures.items) (row.written [])
-    (c.in-Ok-add_in.ensures.added segs cover h tt new self.view.level (ap (λ (b : Block). b.side) c.whole_square-all.ensures)))
+    (c.in-Ok-add_in.ensures.added segs cover h new self.view.level (ap (λ (b : Block). b.side) c.whole_square-all.ensures)))
     edits pr pa) c.edits_of.ensures.remove c.edits_of.ensures.add
 
 pub returns-in-Ok-add_in-clause-sound : goal.returns-in-Ok-add_in-clause-sound
@@ -47,7 +47,7 @@ returns-in-Ok-add_in-clause-sound g c =
     (added_whole self.view.level self.view.layer self.t segs self.id self.s cover c.whole_square-all.result c.new.result.items
     c.add_in.new.change.gone.items c.push.new.self.items c.add_in.new.change.come.items c.segment_record-row.result c.whole_square-all.ensures
     c.new.ensures.items (c.in-Ok.ensures.items ∙ ap (λ (rs : List Record). rs ++ c.segment_record-row.result ∷ []) c.new-2.ensures.items) (row.written [])
-    (c.in-Ok-add_in.ensures.added segs cover h tt new self.view.level (ap (λ (b : Block). b.side) c.whole_square-all.ensures)))))) c.edits_of.ensures.memory
+    (c.in-Ok-add_in.ensures.added segs cover h new self.view.level (ap (λ (b : Block). b.side) c.whole_square-all.ensures)))))) c.edits_of.ensures.memory
 
 pub returns-in-Ok-add_in-clause-reads : goal.returns-in-Ok-add_in-clause-reads
 returns-in-Ok-add_in-clause-reads g c =
@@ -58,6 +58,11 @@ returns-in-Ok-add_in-clause-reads g c =
     reads_more _ _ (due self.view.level (is_met self.s) segs cover (whole self.view.level)) (reach self.view.level segs cover (is_met self.s)) all
     (subst (λ (b : Block). Goes (λ old new. new ≤ old + due self.view.level (is_met self.s) segs cover b) (g.S.PageStore.reads c.args.store.now)
     (g.S.PageStore.reads c.add_in.new.store)) c.whole_square-all.ensures
-    (c.in-Ok-add_in.ensures.reads segs cover h tt
+    (c.in-Ok-add_in.ensures.reads segs cover h
     (subst (λ (b : Block). is_reached cover b ≡ true) (sym c.whole_square-all.ensures)
     (reached_whole self.view.level (record { segs = segs; cover = cover }) (record { inside = valid.inside; each = valid.each; once = valid.once }))))))
+
+pub add_in-requires-clause-search : goal.add_in-requires-clause-search
+add_in-requires-clause-search g c =
+    let self = c.args.self.now in
+    c.new-search.ensures (g.S.PageStore.told c.args.store.now) self.view.tree self.view.level self.view.layer

@@ -10,6 +10,7 @@ use Rattle.quilt_edits.proofs.Lists.{member_at, take_next}
 use Rattle.quilt_btree.specs.Trees.{IsRooted}
 use Rattle.quilt_lines.specs.Reads.{AreIdsAt}
 use Rattle.quilt_lines.specs.Merges.{Becomes, Gathers}
+use Rattle.quilt_lines.proofs.Around.{search_along}
 use Rattle.quilt_lines.proofs.Lookups.{match_none, match_some, lines_along}
 use Rattle.quilt_lines.proofs.plans.MergeSteps.{unmet_settles}
 use Rattle.quilt_lines.proofs.Gathering.{gathers_next}
@@ -65,7 +66,9 @@ settle_quarters-settle-requires g t c κs within =
     let half = is.half in
     let d = c.decreases in
     let wide = c.requires.wide in
-    (omega arith, (within, (subst (λ (z : ℕ). IsRooted z c.args.tree.now) (sym c.loop-q.invariant.left.size) c.requires.rooted, is.block)))
+    let search = search_along _ _ c.args.tree.now c.args.self.now.level c.args.self.now.layer c.loop-q.search c.loop-q.invariant.left.told
+    c.loop-q.invariant.search in
+    (omega arith, (within, (subst (λ (z : ℕ). IsRooted z c.args.tree.now) (sym c.loop-q.invariant.left.size) c.requires.rooted, (search, is.block))))
 
 pub settle_quarters-returns-in-Err-clause-sound : goal.settle_quarters-returns-in-Err-clause-sound
 settle_quarters-returns-in-Err-clause-sound g t c segs cover h = c.in-Err.ensures.sound segs cover
@@ -91,6 +94,8 @@ settle_quarters-loop-q-preserved g t c =
           (c.in-Ok.ensures.settled k segs cover (omega arith)
           (lines_along _ _ c.args.tree.now c.args.self.now.layer c.args.self.now.level c.args.self.now.threshold segs cover c.loop-q.invariant.left.told h))
           c.in-Ok-gather.ensures);
+      search = search_along _ _ c.args.tree.now c.args.self.now.level c.args.self.now.layer c.settle.new.search (sym c.loop-q.invariant.left.told)
+          c.in-Ok.ensures.search;
       left = read_on _ g.met.S.PageStore.goes_on _ _ _ c.loop-q.invariant.left c.in-Ok.ensures.left;
       reads = λ segs cover h reached away.
           let n = c.args.self.now.level in
@@ -131,7 +136,7 @@ settle-returns-in-Ok-Some-clause-reads g t c segs cover h reached above =
     (match_some c.in-Ok-Some.field-0 _ _ c.in-Ok-Some.ids c.in-Ok-Some.field-0-is (c.in-Ok-Some.ensures.ids c.args.self.now.threshold segs cover h)) in
     let same = ap length c.deref.ensures.value in
     let len = c.deref.ensures.len in
-    reads_more _ _ (9 + 3 * vec_len c.in-Ok-Some.ids) (due n counts segs cover c.args.b) (omega arith)
+    reads_more _ _ (12 + 3 * vec_len c.in-Ok-Some.ids) (due n counts segs cover c.args.b) (omega arith)
     (match_some c.in-Ok-Some.field-0 _ _ c.in-Ok-Some.ids c.in-Ok-Some.field-0-is c.in-Ok-Some.ensures.reads)
 
 pub settle-returns-then-not-enters-clause-reads : goal.settle-returns-then-not-enters-clause-reads
@@ -140,7 +145,7 @@ settle-returns-then-not-enters-clause-reads g t c segs cover h reached above =
     let counts = is_met_above n c.args.self.now.segment in
     let le = due_cut n counts segs cover c.args.b c.requires.block above reached
     (match_none c.in-Ok-None.field-0 _ _ c.in-Ok-None.field-0-is (c.in-Ok-None.ensures.ids c.args.self.now.threshold segs cover h)) in
-    reads_more _ _ 6 (due n counts segs cover c.args.b) (omega arith)
+    reads_more _ _ 9 (due n counts segs cover c.args.b) (omega arith)
     (match_none c.in-Ok-None.field-0 _ _ c.in-Ok-None.field-0-is c.in-Ok-None.ensures.reads)
 
 pub settle-returns-clause-reads : goal.settle-returns-clause-reads
@@ -151,7 +156,7 @@ settle-returns-clause-reads g t c =
     let away = match_none c.in-Ok-None.field-0 _ _ c.in-Ok-None.field-0-is (c.in-Ok-None.ensures.ids c.args.self.now.threshold segs cover h) in
     let rest = sum_by (due n counts segs cover) (quarters_of c.args.b) in
     let le = due_split n counts segs cover c.args.b c.requires.block above reached away (c.enters.ensures.wide c.if-not-enters.false) in
-    reads_sum _ _ _ 6 rest (due n counts segs cover c.args.b) (omega arith)
+    reads_sum _ _ _ 9 rest (due n counts segs cover c.args.b) (omega arith)
     (match_none c.in-Ok-None.field-0 _ _ c.in-Ok-None.field-0-is c.in-Ok-None.ensures.reads)
     (f segs cover (lines_along _ _ c.args.tree.now c.args.self.now.layer n c.args.self.now.threshold segs cover c.in-Ok-None.ensures.left.told h) reached away))
     c.settle_quarters.ensures.reads

@@ -7,6 +7,7 @@ use Rattle.quilt_types.specs.Sets as finset
 use Rattle.quilt_world.specs.Tale.{Goes}
 use Rattle.quilt_lines.specs.Layers.{HasLines}
 use Rattle.quilt_lines.specs.Merges.{Gathers}
+use Rattle.quilt_lines.specs.Searches.{IsLineSearch}
 use Rattle.quilt_lines.specs.Bounds.{is_met_above, due}
 use Rattle.quilt_lines.proofs.removal.Removal.+settle.Given as goal
 
@@ -21,6 +22,7 @@ invariant-settle_quarters-loop-q g l = record {
   gathered : (k : ℕ) (segs : SegMap) (cover : BlockSet) → l.b.side ≡ side (suc k)
       → HasLines (g.S.PageStore.told l.initial.store) l.tree l.self.layer l.self.level l.self.threshold segs cover
       → Gathers l.self.level l.self.layer l.self.threshold l.self.id segs cover l.self.segment k (take l.q-index l.q-items) l.all;
+  search : IsLineSearch (g.S.PageStore.told l.initial.store) l.tree l.self.level l.self.layer l.search;
   left : IsOnlyRead g.S.PageStore l.initial.store l.store;
   reads : (segs : SegMap) (cover : BlockSet)
       → HasLines (g.S.PageStore.told l.initial.store) l.tree l.self.layer l.self.level l.self.threshold segs cover

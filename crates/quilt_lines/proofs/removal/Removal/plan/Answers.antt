@@ -48,3 +48,8 @@ returns-in-Ok-clause-reads g c =
     (subst (λ (b : Block). is_reached cover b ≡ true) (sym c.whole_square.ensures)
     (reached_whole r.level (record { segs = segs; cover = cover }) (record { inside = valid.inside; each = valid.each; once = valid.once })))
     (subst (λ (b : Block). counts b ≡ true) (sym c.whole_square.ensures) (whole_above r.level r.segment)))))
+
+pub settle-requires-clause-search : goal.settle-requires-clause-search
+settle-requires-clause-search g c =
+    let r = c.args.self.now in
+    c.new-search.ensures (g.S.PageStore.told c.args.store.now) c.args.tree.now r.level r.layer

@@ -7,9 +7,11 @@ use Rattle.quilt_types.specs.Plane.{side}
 use Rattle.quilt_loc.proofs.Blocks.{IsBlock-up}
 use Rattle.quilt_btree.specs.Trees.{IsRooted}
 use Rattle.quilt_near.proofs.Reached.{reached_quarter}
-use Rattle.quilt_lines.specs.Counting.{held_in}
+use Rattle.quilt_lines.specs.Counting.{held_in, pages_in}
 use Rattle.quilt_lines.proofs.Counts.{held_here, held_below, one_counted, one_most, count_next, four_fold}
-use Rattle.quilt_lines.proofs.Counts.{four_pos, room_next, room_all, room_step, wide_side, side_fold}
+use Rattle.quilt_lines.proofs.Counts.{four_pos, room_next, room_all, room_step, wide_side, side_fold, pages_some, pages_below}
+use Rattle.quilt_lines.proofs.Costs.{reads_next, reads_all}
+use Rattle.quilt_lines.proofs.Sums.{reads_more}
 use Rattle.quilt_lines.proofs.Listed.{one_pixel}
 use Rattle.quilt_lines.proofs.Lookups.{lines_along}
 use Rattle.quilt_lines.proofs.Quarters.{quarter_at, quarter_side, quarter_in}
@@ -103,6 +105,11 @@ loop-q-preserved g t c =
           (c.in-Ok.ensures.counts t' segs cover (lines_along _ _ self.tree self.layer self.level t' segs cover c.loop-q.invariant.left.told h) j);
       most = λ j. room_step c.loop-q.q-index (4 ^ (c.args.k - 1)) (get_or c.args.counts.now j 0) (get_or c.loop-q.counts j 0)
           (get_or c.count_in.new.counts j 0) (c.loop-q.invariant.most j) (c.in-Ok.ensures.most j);
+      reads = λ t' segs cover h.
+          let four = ap length c.quarters-q-items.ensures.value in
+          reads_next (pages_in cover (c.args.k - 1)) c.quarters-q-items.result c.loop-q.q-index (record { y = 0; x = 0; side = 0 }) 6 _ _ _
+          (let lt = c.loop-q-test.true in omega arith) (c.loop-q.invariant.reads t' segs cover h)
+          (c.in-Ok.ensures.reads t' segs cover (lines_along _ _ self.tree self.layer self.level t' segs cover c.loop-q.invariant.left.told h));
       left = read_on _ g.met.S.PageStore.goes_on _ _ _ c.loop-q.invariant.left c.in-Ok.ensures.left;
     }
 
@@ -126,3 +133,16 @@ returns-clause-most g t c j =
 
 pub returns-in-Err-count_in-clause-left : goal.returns-in-Err-count_in-clause-left
 returns-in-Err-count_in-clause-left g t c = only_reads_err _ (only_reads_then _ g.met.S.PageStore.goes_on _ _ _ c.loop-q.invariant.left c.in-Err-count_in.ensures.left)
+
+pub returns-in-Ok-true-clause-reads : goal.returns-in-Ok-true-clause-reads
+returns-in-Ok-true-clause-reads g t c t' segs cover h = reads_more _ _ 6 _ (pages_some cover c.args.k c.args.b) c.in-Ok-true.ensures.reads
+
+pub returns-clause-reads : goal.returns-clause-reads
+returns-clause-reads g t c t' segs cover h =
+    let some : 0 < c.args.k = let no = c.if-k-eq0.false in omega arith in
+    let four = ap length c.quarters-q-items.ensures.value in
+    reads_all (pages_in cover (c.args.k - 1)) c.quarters-q-items.result c.loop-q.q-index 6 (pages_in cover c.args.k c.args.b) _ _
+    (let end = c.loop-q-test.false in omega arith)
+    (pages_below cover c.args.k c.args.b c.quarters-q-items.result some (sym (c.in-Ok-false.ensures.there t' segs cover h) ∙ c.in-Ok-false.field-0-test)
+    c.quarters-q-items.ensures.value)
+    (c.loop-q.invariant.reads t' segs cover h)

@@ -3,7 +3,7 @@ use Rattle.std.proofs.Math.Nat.{mul-le-mul}
 use Rattle.quilt_types.specs.Codes.{code}
 use Rattle.quilt_loc.proofs.CodeLaws.{code_below}
 use Rattle.quilt_loc.proofs.Quartered.{side_le}
-use Rattle.quilt_audit.proofs.regions.end_from.Goals as goal
+use Rattle.quilt_audit.proofs.codes.end_from.Goals as goal
 
 pub overflow_add-result : goal.overflow_add-result
 overflow_add-result c =

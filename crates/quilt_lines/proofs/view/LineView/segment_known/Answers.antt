@@ -1,0 +1,21 @@
+use Rattle.std.proofs.Common.{◌≡◌, true, sym, ◌∙◌}
+use Rattle.quilt_types.specs.Layers.{is_in_square}
+use Rattle.quilt_near.proofs.Knowing.{knows_more}
+use Rattle.quilt_lines.proofs.Lookups.{none_some, if_some_at}
+use Rattle.quilt_lines.proofs.view.LineView.segment_known.Goals as goal
+
+pub returns-in-Err-clause-sound : goal.returns-in-Err-clause-sound
+returns-in-Err-clause-sound g c l h s e = c.in-Err.ensures.sound h.threshold l.segs l.cover h.has
+
+pub returns-in-Ok-None-clause-sound : goal.returns-in-Ok-None-clause-sound
+returns-in-Ok-None-clause-sound g c l h s e page p =
+    none_some s (sym c.in-Ok-None.field-0-is ∙ c.in-Ok-None.ensures.segment h.threshold l.segs l.cover h.has ∙ e)
+
+pub returns-in-Ok-clause-found : goal.returns-in-Ok-clause-found
+returns-in-Ok-clause-found g c l h = sym (c.in-Ok-Some.ensures.segment h.threshold l.segs l.cover h.has) ∙ c.in-Ok-Some.field-0-is
+
+pub returns-in-Ok-clause-known : goal.returns-in-Ok-clause-known
+returns-in-Ok-clause-known g c =
+    knows_more c.args.known.now c.keep.new.self c.args.id c.in-Ok-Some.s c.in-Ok.ensures.here c.in-Ok.ensures.others _ _ c.requires.known c.in-Ok.ensures.block
+    (if_some_at c.in-Ok-Some.field-0 (λ s. is_in_square c.args.self.now.level s ≡ true) c.in-Ok-Some.s c.in-Ok-Some.field-0-is c.in-Ok-Some.ensures.inside)
+    (λ l h. sym (c.in-Ok-Some.ensures.segment h.threshold l.segs l.cover h.has) ∙ c.in-Ok-Some.field-0-is)
