@@ -78,3 +78,38 @@ pub fn crashed(desk: &Desk, events: usize, choice: &[u8]) -> Result<Option<Image
     }
     Ok(Some(desk.crash(events, choice)?))
 }
+
+/// Whether a write of a page has failed, which leaves the page torn.
+pub fn is_torn(desk: &Desk) -> bool {
+    desk.log()
+        .iter()
+        .any(|event| matches!(event, Event::Tore { .. }))
+}
+
+/// Whether a stop right behind so many events leaves a page with the bytes that are chosen for it.
+fn is_left_as_chosen(
+    desk: &Desk,
+    events: usize,
+    choice: &[u8],
+    page: u32,
+) -> Result<bool, AllocError> {
+    let Some(image) = crashed(desk, events, choice)? else {
+        return Ok(false);
+    };
+    let byte = choice.get(page as usize).copied().unwrap_or(0);
+    Ok(page < image.pages() && *image.page(page) == [byte; 4096])
+}
+
+/// How many writes leave the page with the bytes that are chosen for it where the desk is stopped right behind them.
+pub fn torn_writes(desk: &Desk, choice: &[u8]) -> Result<u32, AllocError> {
+    let mut events = 0_usize;
+    let mut torn = 0_u32;
+    for event in desk.log() {
+        events = events.saturating_add(1);
+        if let Event::Wrote { page, .. } = event {
+            let is_left = is_left_as_chosen(desk, events, choice, *page)?;
+            torn = torn.saturating_add(u32::from(is_left));
+        }
+    }
+    Ok(torn)
+}

@@ -1,4 +1,4 @@
-use crate::calls::{events_of, pages_of};
+use crate::calls::{events_of, is_torn, pages_of, torn_writes};
 use crate::files::foreign_file;
 use crate::steps::{begun_after, published, reopened, stops};
 use std::test::Fail;
@@ -20,6 +20,9 @@ fn choice(k: u8) -> [u8; 35] {
     choice
 }
 
+// A publish of three pages writes each to its slot, the directory, the gate, each to its home, and the gate.
+const WRITES: u32 = 9;
+
 // At each event of a publish a stop leaves the old pages or the new ones, and at last the new ones.
 #[test]
 fn each_stop_leaves_old_or_new(rt: HostRuntime) -> Result<(), Fail> {
@@ -28,6 +31,7 @@ fn each_stop_leaves_old_or_new(rt: HostRuntime) -> Result<(), Fail> {
     };
     assert_eq!(rt; answer, Some(Ok(())));
     assert!(rt; pages_of(&desk) == 35);
+    assert_eq!(rt; torn_writes(&desk, &choice(2))?, WRITES);
     for k in 0..23 {
         let all = stops(rt.alloc(), &desk, &choice(k))?;
         assert_eq!(rt; all.len(), 14, "choice {k}");
@@ -52,6 +56,8 @@ fn second_stop_leaves_new(rt: HostRuntime) -> Result<(), Fail> {
             panic!(rt; "no journal");
         };
         assert!(rt; pages_of(&again) == 35);
+        // The three pages are carried home, and the gate is closed.
+        assert_eq!(rt; torn_writes(&again, &choice(2))?, 4);
         for marks in &stops(rt.alloc(), &again, &choice(k))? {
             assert_eq!(rt; *marks, Some(NEW), "choice {k}");
         }
@@ -59,9 +65,10 @@ fn second_stop_leaves_new(rt: HostRuntime) -> Result<(), Fail> {
     Ok(())
 }
 
-// A call that fails leaves the old pages or the new ones.
+// A call that fails leaves the old pages or the new ones, also where it is a write, which tears its page.
 #[test]
 fn each_fault_leaves_old_or_new(rt: HostRuntime) -> Result<(), Fail> {
+    let mut torn = 0_u32;
     for failing in 2..20 {
         let Some((answer, desk)) = published(rt.alloc(), failing)? else {
             panic!(rt; "no desk");
@@ -74,7 +81,9 @@ fn each_fault_leaves_old_or_new(rt: HostRuntime) -> Result<(), Fail> {
                 "call {failing}"
             );
         }
+        torn = torn.saturating_add(u32::from(is_torn(&desk)));
     }
+    assert_eq!(rt; torn, WRITES);
     Ok(())
 }
 

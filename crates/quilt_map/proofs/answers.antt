@@ -7,6 +7,7 @@ pub mod FirstTests
 pub mod Orderly
 pub mod Outcomes
 pub mod Parts
+pub mod PastQuota
 pub mod Placing
 pub mod Prefixes
 pub mod TextLaws

@@ -1,6 +1,7 @@
 pub mod Asking
 pub mod Commanding
 pub mod Copying
+pub mod Costs
 pub mod Derivation
 pub mod Editing
 pub mod HeldLayers

@@ -5,9 +5,12 @@ ghost use Rattle.quilt_words.specs.declared.command.Command.TheVariants as comma
 ghost use Rattle.quilt_world.specs.Tale.{Goes};
 ghost use Rattle.quilt_store.specs.Stops.{HasStopCause, IsSound};
 ghost use Rattle.quilt_edition.specs.Books as books;
-ghost use Rattle.quilt_replies.specs.Answers.{State};
+ghost use Rattle.quilt_region.specs.Covers.{IsSideOver};
+ghost use Rattle.quilt_replies.specs.Answers.{State, layer as layer_of, grid_in};
 ghost use Rattle.quilt_map.specs.Asking.{HasText, KeepsAll, warm_after, reads_in, ReadsNothing};
 ghost use Rattle.quilt_map.specs.Commanding.{Answered};
+ghost use Rattle.quilt_map.specs.Costs.{show_pages};
+ghost use Rattle.quilt_map.specs.Selecting.{IsAnswered};
 ghost use Rattle.quilt_map.specs.Sessions.{IsAtState, IsWarm};
 
 use crate::regions::{read_colour, read_part, read_region, region_number};
@@ -111,13 +114,15 @@ impl<W: World> Session<W> {
         }
     }
 
-    /// A window of the region layer, a line for each row.
+    /// A window of the region layer, a line for each row. It reads at most four blocks, of the least side that is no less than the window's.
     pub(crate) fn show(&mut self, name: &Name, w: Window) -> Result<Reply, Stop>
         ensures answer { IfOk result (λ reply. (s : State) → IsAtState self.old s → Answered s (commands.Show name.now w) self.old self.new reply) }
         ensures sound { IfErr result (λ stop. (s : State) → IsAtState self.old s → IsSound stop) }
         ensures cause { HasStopCause (W.faults (books.world_of self.old.book)) (W.faults (books.world_of self.new.book)) result }
         ensures keeps { KeepsAll self.old self.new }
         ensures warm { self.new.warm ≡ self.old.warm }
+        ensures reads { IfOk result (λ reply. (s : State) → IsAtState self.old s → IsAnswered reply → (side : ℕ) → IsSideOver w side →
+            Goes (λ old new. new ≤ old + show_pages s.last.level (grid_in (layer_of s name.now)) side w) (reads_in self.old.book) (reads_in self.new.book)) }
     {
         match region_number(self.catalog.entries(), name) {
             Err(code) => Ok(Reply::No(code)),

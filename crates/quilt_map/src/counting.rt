@@ -1,14 +1,17 @@
-ghost use Rattle.std.specs.Prelude.{◌≡◌, ◌≤◌, ℕ, IfOk, IfErr};
+ghost use Rattle.std.specs.Prelude.{◌≡◌, ◌≤◌, ◌+◌, ℕ, IfOk, IfErr};
 ghost use Rattle.quilt_types.specs.Layers.{Layer};
 ghost use Rattle.quilt_words.specs.declared.command.Command.TheVariants as commands;
+ghost use Rattle.quilt_world.specs.Tale.{Goes};
 ghost use Rattle.quilt_store.specs.Stops.{HasStopCause, IsSound};
 ghost use Rattle.quilt_spell.specs.Catalogued.{kind_of};
 ghost use Rattle.quilt_edition.specs.Books as books;
-ghost use Rattle.quilt_replies.specs.Answers.{State, sides_of};
+ghost use Rattle.quilt_replies.specs.Answers.{State, layer as layer_of, sides_of};
 ghost use Rattle.quilt_replies.specs.Bodies.{HasCounts};
-ghost use Rattle.quilt_map.specs.Asking.{IsStill, KeepsAll};
+ghost use Rattle.quilt_map.specs.Asking.{IsStill, KeepsAll, reads_in};
 ghost use Rattle.quilt_map.specs.Commanding.{Answered};
+ghost use Rattle.quilt_map.specs.Costs.{block_pages, block_pages_in};
 ghost use Rattle.quilt_map.specs.HeldLayers.{HoldsLayer};
+ghost use Rattle.quilt_map.specs.Selecting.{IsAnswered};
 ghost use Rattle.quilt_map.specs.Sessions.{IsAtState};
 
 use crate::asking::told;
@@ -35,6 +38,8 @@ fn count_blocks<W: Disk>(
     ensures sound { IfErr result (λ e. (layer : Layer) → kind ≡ kind_of layer → 1 ≤ number → HoldsLayer book.old number layer → IsSound e) }
     ensures still { IsStill book.old book.new }
     ensures cause { HasStopCause (W.faults (books.world_of book.old)) (W.faults (books.world_of book.new)) result }
+    ensures reads { IfOk result (λ counts. (layer : Layer) → kind ≡ kind_of layer → HoldsLayer book.old number layer →
+        Goes (λ old new. new ≤ old + block_pages (books.work_of book.old).level layer) (reads_in book.old) (reads_in book.new)) }
 {
     match kind {
         Kind::Region => match read_region(alloc, book, number) {
@@ -47,13 +52,15 @@ fn count_blocks<W: Disk>(
 }
 
 impl<W: World> Session<W> {
-    /// How many blocks the layer has of each side, whatever its kind.
+    /// How many blocks the layer has of each side, whatever its kind. It reads all leaves of a region once, and looks for each other block.
     pub(crate) fn blocks(&mut self, name: &Name) -> Result<Reply, Stop>
         ensures answer { IfOk result (λ reply. (s : State) → IsAtState self.old s → Answered s (commands.Blocks name.now) self.old self.new reply) }
         ensures sound { IfErr result (λ stop. (s : State) → IsAtState self.old s → IsSound stop) }
         ensures cause { HasStopCause (W.faults (books.world_of self.old.book)) (W.faults (books.world_of self.new.book)) result }
         ensures keeps { KeepsAll self.old self.new }
         ensures warm { self.new.warm ≡ self.old.warm }
+        ensures reads { IfOk result (λ reply. (s : State) → IsAtState self.old s → IsAnswered reply →
+            Goes (λ old new. new ≤ old + block_pages_in s.last.level (layer_of s name.now)) (reads_in self.old.book) (reads_in self.new.book)) }
     {
         match layer_under(self.catalog.entries(), name) {
             None => Ok(Reply::No(Code::Unknown)),

@@ -1,12 +1,17 @@
-ghost use Rattle.std.specs.Prelude.{◌≡◌, ◌≢◌, ℕ, ◌<◌, ◌≤◌, true, List, Some, is_some, IfOk, IfErr, OnOk, All, length};
+ghost use Rattle.std.specs.Prelude.{◌≡◌, ◌≢◌, ℕ, ◌+◌, ◌<◌, ◌≤◌, true, List, Some, is_some, IfOk, IfErr, OnOk, All, length};
 ghost use Rattle.quilt_types.specs.Layers.{Grid, Region};
+ghost use Rattle.quilt_types.specs.declared.plane.Window.{Window as AnyWindow};
+ghost use Rattle.quilt_words.specs.declared.command.Command.TheVariants as commands;
 ghost use Rattle.quilt_words.specs.Fitting.{IsFitting};
+ghost use Rattle.quilt_world.specs.Tale.{Goes};
 ghost use Rattle.quilt_store.specs.Stops.{HasStopCause, IsSound};
+ghost use Rattle.quilt_region.specs.Covers.{IsSideOver};
 ghost use Rattle.quilt_region.specs.Regions.{HasRegion};
 ghost use Rattle.quilt_edition.specs.Books as books;
-ghost use Rattle.quilt_replies.specs.Answers.{State};
-ghost use Rattle.quilt_map.specs.Asking.{IsStill};
+ghost use Rattle.quilt_replies.specs.Answers.{State, layer as layer_of, grid_in};
+ghost use Rattle.quilt_map.specs.Asking.{IsStill, reads_in};
 ghost use Rattle.quilt_map.specs.Commanding.{Answered, Refuses};
+ghost use Rattle.quilt_map.specs.Costs.{show_pages, cut_pages};
 ghost use Rattle.quilt_map.specs.Derivation.{layers_derived, derived, is_inside};
 ghost use Rattle.quilt_map.specs.Making.{AnsweredBy, placed};
 ghost use Rattle.quilt_map.specs.Painting.{IsRegionIn};
@@ -70,6 +75,9 @@ fn read_derived<W: Disk>(
         → HasRegion (told_of book.old) (tree_in (books.work_of book.old)) number (books.work_of book.old).level g → IsSound e) }
     ensures still { IsStill book.old book.new }
     ensures cause { HasStopCause (W.faults (books.world_of book.old)) (W.faults (books.world_of book.new)) result }
+    ensures reads { IfOk result (λ list. (g : Grid) (side : ℕ) (a c : List ℕ) (w : AnyWindow) → command.now ≡ commands.Window a w c → IsSideOver w side
+        → HasRegion (told_of book.old) (tree_in (books.work_of book.old)) number (books.work_of book.old).level g
+        → Goes (λ old new. new ≤ old + show_pages (books.work_of book.old).level g side w) (reads_in book.old) (reads_in book.new)) }
 {
     match command {
         Command::Window { w, .. } => read_part(alloc, book, number, *w),
@@ -93,6 +101,10 @@ impl<W: World> Session<W> {
         ensures refused { IfOk result (Refuses self.old self.new) }
         ensures goes_on { books.GoesOn self.old.book self.new.book }
         ensures cause { HasStopCause (W.faults (books.world_of self.old.book)) (W.faults (books.world_of self.new.book)) result }
+        ensures reads { IfOk result (λ reply. (s : State) → IsAtState self.old s → (name : List ℕ) (g : Grid)
+            → IsRegionIn s.work self.old.catalog name number g → (side : ℕ) (a c : List ℕ) (w : AnyWindow)
+            → command.now ≡ commands.Window a w c → IsSideOver w side
+            → Goes (λ old new. new ≤ old + cut_pages s.last.level g side w) (reads_in self.old.book) (reads_in self.new.book)) }
     {
         match read_derived(self.alloc, &mut self.book, number, command) {
             Err(stop) => Err(stop),
@@ -104,7 +116,7 @@ impl<W: World> Session<W> {
     }
 
     /// Makes a layer of a region layer with this name, under a name that no layer has: with other colours, cut to a window, shifted, or as a
-    /// buffer, as the command says.
+    /// buffer, as the command says. For a window it reads the blocks that hold a corner of it, and what the edits of the new layer's records read.
     pub(crate) fn derive(
         &mut self,
         command: &Command,
@@ -118,6 +130,9 @@ impl<W: World> Session<W> {
         ensures refused { IfOk result (Refuses self.old self.new) }
         ensures goes_on { books.GoesOn self.old.book self.new.book }
         ensures cause { HasStopCause (W.faults (books.world_of self.old.book)) (W.faults (books.world_of self.new.book)) result }
+        ensures reads { IfOk result (λ reply. (s : State) → IsAtState self.old s → (side : ℕ) (a c : List ℕ) (w : AnyWindow)
+            → command.now ≡ commands.Window a w c → IsSideOver w side
+            → Goes (λ old new. new ≤ old + cut_pages s.last.level (grid_in (layer_of s a)) side w) (reads_in self.old.book) (reads_in self.new.book)) }
     {
         match region_number(self.catalog.entries(), name) {
             Err(code) => Ok(Reply::No(code)),

@@ -5,15 +5,17 @@ ghost use Rattle.quilt_node.specs.Pages.{is_ascending};
 ghost use Rattle.quilt_node.specs.Nodes.{keys_of};
 ghost use Rattle.quilt_btree.specs.Edits.{IsWhole};
 ghost use Rattle.quilt_btree.specs.Runs.{put_all, has_any, without_all, has_each};
-ghost use Rattle.quilt_btree.specs.Batches.{edit_keys, are_due, more, fewer, removed as keys_that_go, added as records_that_come};
+ghost use Rattle.quilt_btree.specs.Batches.{are_due, more, fewer, removed as keys_that_go, added as records_that_come};
+ghost use Rattle.quilt_world.specs.Tale.{Goes};
 ghost use Rattle.quilt_store.specs.Stops.{HasStopCause, IsSound};
 ghost use Rattle.quilt_edition.specs.Books.{world_of, pages_of, last_of, work_of, published_free, GoesOn};
+ghost use Rattle.quilt_map.specs.Asking.{reads_in};
 ghost use Rattle.quilt_map.specs.Sessions.{told_of, free_of, changed_of, tree_in};
 ghost use Rattle.quilt_map.specs.Editing.{SameButTree};
 
 use crate::changing::DAMAGED;
 use quilt_batch::merged;
-use quilt_btree::{Edit, Tree, edits_ascend};
+use quilt_btree::{Batch, Tree};
 use quilt_edition::Book;
 use quilt_record::Record;
 use quilt_store::PageStore;
@@ -22,7 +24,8 @@ use quilt_world::Disk;
 use std::alloc::Global;
 
 /// Takes the records of one list out of the tree of the work, and puts those of another in, each in the order of keys. Where the tree
-/// has no room for both, those that go are taken out first. Records in another order are damage of page 0.
+/// has no room for both, those that go are taken out first. It reads at most 10 pages for each record that goes and 6 for each that
+/// comes. Records in another order are damage of page 0.
 pub(crate) fn edit_records<W: Disk>(
     alloc: Global,
     book: &mut Book<W>,
@@ -41,6 +44,7 @@ pub(crate) fn edit_records<W: Disk>(
     ensures goes_on { GoesOn book.old book.new }
     ensures used { published_free book.new ≡ published_free book.old }
     ensures changed { changed_of book.new ≤ changed_of book.old + 7 * length removed.now + 6 * length added.now }
+    ensures reads { OnOk result (Goes (λ old new. new ≤ old + (10 * length removed.now + 6 * length added.now)) (reads_in book.old) (reads_in book.new)) }
     ensures cause { HasStopCause (W.faults (world_of book.old)) (W.faults (world_of book.new)) result }
 {
     let quota = 64 * (book.pages() - 8);
@@ -72,15 +76,16 @@ fn edit_merged<W: Disk>(
     ensures goes_on { GoesOn book.old book.new }
     ensures used { published_free book.new ≡ published_free book.old }
     ensures changed { changed_of book.new ≤ changed_of book.old + 7 * length removed.now + 6 * length added.now }
+    ensures reads { OnOk result (Goes (λ old new. new ≤ old + (10 * length removed.now + 6 * length added.now)) (reads_in book.old) (reads_in book.new)) }
     ensures cause { HasStopCause (W.faults (world_of book.old)) (W.faults (world_of book.new)) result }
 {
-    let Ok(run) = merged(alloc, removed, added) else {
+    let Ok(merge) = merged(alloc, removed, added) else {
         return Err(Stop::Memory);
     };
-    if !edits_ascend(&run) {
-        return Err(DAMAGED);
+    match merge {
+        None => Err(DAMAGED),
+        Some(batch) => apply(book, &batch),
     }
-    apply(book, &run)
 }
 
 /// Whether a tree has room for so many records more before others go.
@@ -91,19 +96,20 @@ fn fits(records: u32, added: usize, quota: u32) -> bool
 }
 
 /// Makes a batch of edits in the tree of the work.
-fn apply<W: Disk>(book: &mut Book<W>, run: &[Edit]) -> Result<(), Stop>
-    requires room { (work_of book.old).records + more run.now ≤ quota (pages_of book.old) }
-    requires order { is_ascending (edit_keys run.now) ≡ true }
+fn apply<W: Disk>(book: &mut Book<W>, batch: &Batch) -> Result<(), Stop>
+    requires { (work_of book.old).records + more batch.now ≤ quota (pages_of book.old) }
     ensures edited { OnOk result ((rs : List AnyRecord) → IsWhole (told_of book.old) (free_of book.old) (pages_of book.old) (tree_in (work_of book.old)) rs →
         IsWhole (told_of book.new) (free_of book.new) (pages_of book.old) (tree_in (work_of book.new))
-        (put_all (records_that_come run.now) (without_all (keys_that_go run.now) rs))) }
+        (put_all (records_that_come batch.now) (without_all (keys_that_go batch.now) rs))) }
     ensures head { OnOk result (SameButTree (work_of book.old) (work_of book.new)) }
-    ensures count { OnOk result ((work_of book.new).records + fewer run.now ≡ (work_of book.old).records + more run.now) }
+    ensures count { OnOk result ((work_of book.new).records + fewer batch.now ≡ (work_of book.old).records + more batch.now) }
     ensures sound { IfErr result (λ e. (rs : List AnyRecord)
-        → IsWhole (told_of book.old) (free_of book.old) (pages_of book.old) (tree_in (work_of book.old)) rs → are_due run.now rs ≡ true → IsSound e) }
+        → IsWhole (told_of book.old) (free_of book.old) (pages_of book.old) (tree_in (work_of book.old)) rs → are_due batch.now rs ≡ true → IsSound e) }
     ensures goes_on { GoesOn book.old book.new }
     ensures used { published_free book.new ≡ published_free book.old }
-    ensures changed { changed_of book.new ≤ changed_of book.old + 7 * length (keys_that_go run.now) + 6 * length (records_that_come run.now) }
+    ensures changed { changed_of book.new ≤ changed_of book.old + 7 * length (keys_that_go batch.now) + 6 * length (records_that_come batch.now) }
+    ensures reads { OnOk result (Goes (λ old new. new ≤ old + (10 * length (keys_that_go batch.now) + 6 * length (records_that_come batch.now)))
+        (reads_in book.old) (reads_in book.new)) }
     ensures cause { HasStopCause (W.faults (world_of book.old)) (W.faults (world_of book.new)) result }
 {
     let head = book.head();
@@ -112,7 +118,7 @@ fn apply<W: Disk>(book: &mut Book<W>, run: &[Edit]) -> Result<(), Stop>
         height: head.height,
         records: head.records,
     };
-    match tree.apply(book, run) {
+    match tree.apply(book, batch) {
         Err(e) => return Err(e),
         Ok(()) => {}
     }

@@ -9,9 +9,10 @@ ghost use Rattle.quilt_replies.specs.Answers.{State};
 ghost use Rattle.quilt_map.specs.Commanding.{Answered, Refuses};
 ghost use Rattle.quilt_map.specs.Sessions.{IsAtState};
 
+use crate::changing::quota_of;
 use crate::refusals::why_not_new;
 use crate::session::Session;
-use quilt_poly::region_of;
+use quilt_poly::region_within;
 use quilt_replies::Reply;
 use quilt_types::{Code, Colour, Corner, Name, RingList, Stop};
 use quilt_world::World;
@@ -61,9 +62,12 @@ impl<W: World> Session<W> {
         if leave_square(1 << level, rings) {
             return Ok(Reply::No(Code::Outside));
         }
-        match region_of(self.alloc, rings, c, level) {
+        // Each leaf is a record, so no list is made of too many.
+        let most = quota_of(&self.book);
+        match region_within(self.alloc, rings, c, level, most) {
             Err(_) => Err(Stop::Memory),
-            Ok(list) => self.make_region(name, &list),
+            Ok(None) => Ok(Reply::No(Code::Full)),
+            Ok(Some(list)) => self.make_region(name, &list),
         }
     }
 }

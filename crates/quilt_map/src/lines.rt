@@ -1,18 +1,20 @@
-ghost use Rattle.std.specs.Prelude.{◌≡◌, ◌==◌, ◌<◌, ◌≤◌, ◌↔◌, true, ℕ, IfSome, IsNone, IsSome, IfOk, IfErr, Some, length, count_by, slice_index};
+ghost use Rattle.std.specs.Prelude.{◌≡◌, ◌==◌, ◌<◌, ◌≤◌, ◌+◌, ◌↔◌, true, ℕ, IfSome, IsNone, IsSome, IfOk, IfErr, Some, length, count_by, slice_index};
 ghost use Rattle.std.specs.FinMap as finmap;
 ghost use Rattle.quilt_types.specs.Sets as finset;
 ghost use Rattle.quilt_types.specs.declared.plane.Seg.{Seg as AnySeg};
-ghost use Rattle.quilt_types.specs.Layers.{Map, SegMap, BlockSet, is_in_square as is_seg_in_square};
+ghost use Rattle.quilt_types.specs.Layers.{Map, Lines, SegMap, BlockSet, is_in_square as is_seg_in_square};
 ghost use Rattle.quilt_types.specs.Plane.{side};
 ghost use Rattle.quilt_types.specs.Quadtrees.{after_add, after_remove};
 ghost use Rattle.quilt_record.specs.Records.{Numbering};
+ghost use Rattle.quilt_world.specs.Tale.{Goes};
 ghost use Rattle.quilt_store.specs.Stops.{HasStopCause, IsSound};
 ghost use Rattle.quilt_edits.specs.Edits.{AreInOrder};
 ghost use Rattle.quilt_lines.specs.Plans.{IsLinePlan};
 ghost use Rattle.quilt_spell.specs.Catalogued.{IsCatalogOf};
 ghost use Rattle.quilt_edition.specs.Books.{world_of, work_of};
 ghost use Rattle.quilt_replies.specs.Answers.{State};
-ghost use Rattle.quilt_map.specs.Asking.{IsStill};
+ghost use Rattle.quilt_map.specs.Asking.{IsStill, reads_in};
+ghost use Rattle.quilt_map.specs.Costs.{block_pages};
 ghost use Rattle.quilt_map.specs.LineLayers.{IsLinesAt, IsNoLines, HoldsLines};
 
 use crate::changing::DAMAGED;
@@ -129,6 +131,8 @@ pub(crate) fn line_counts<W: Disk>(book: &mut Book<W>, layer: LineLayer) -> Resu
     ensures sound { IfErr result (λ e. (segs : SegMap) (cover : BlockSet) → 1 ≤ layer.number → HoldsLines book.old layer segs cover → IsSound e) }
     ensures still { IsStill book.old book.new }
     ensures cause { HasStopCause (W.faults (world_of book.old)) (W.faults (world_of book.new)) result }
+    ensures reads { IfOk result (λ counts. (segs : SegMap) (cover : BlockSet) → HoldsLines book.old layer segs cover →
+        Goes (λ old new. new ≤ old + block_pages (work_of book.old).level (Lines layer.threshold segs cover)) (reads_in book.old) (reads_in book.new)) }
 {
     if !can_be(layer) {
         return Err(DAMAGED);

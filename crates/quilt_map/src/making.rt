@@ -1,21 +1,25 @@
-ghost use Rattle.std.specs.Prelude.{◌≡◌, ◌≢◌, ℕ, ◌<◌, ◌≤◌, ◌∷◌, [], List, true, Some, IfOk, IfErr, All, length};
+ghost use Rattle.std.specs.Prelude.{◌≡◌, ◌≢◌, ℕ, ◌+◌, ◌*◌, ◌<◌, ◌≤◌, ◌∷◌, [], List, true, Some, IfOk, IfErr, OnOk, All, length};
 ghost use Rattle.std.specs.FinMap as finmap;
 ghost use Rattle.quilt_types.specs.Layers.{Layer, Map, IsGrid, Region, is_name};
 ghost use Rattle.quilt_record.specs.declared.record.Record.{Record as AnyRecord};
 ghost use Rattle.quilt_record.specs.Records.{Numbering, record_of};
 ghost use Rattle.quilt_record.specs.Listing.{kind_fact};
+ghost use Rattle.quilt_world.specs.Tale.{Goes};
+ghost use Rattle.quilt_blocks.specs.Cutting.{leaves_by_code};
 ghost use Rattle.quilt_store.specs.Stops.{HasStopCause, IsSound};
 ghost use Rattle.quilt_spell.specs.Catalogued.{IsCatalogOf, kind_of};
 ghost use Rattle.quilt_spell.specs.Written.{IsNumbering};
 ghost use Rattle.quilt_region.specs.Regions.{region_records};
 ghost use Rattle.quilt_edition.specs.Books as books;
 ghost use Rattle.quilt_replies.specs.Answers.{State, Done};
+ghost use Rattle.quilt_map.specs.Asking.{reads_in};
 ghost use Rattle.quilt_map.specs.Commanding.{Refuses};
 ghost use Rattle.quilt_map.specs.Making.{AnsweredBy, placed};
 ghost use Rattle.quilt_map.specs.Planning.{IsPlan};
 ghost use Rattle.quilt_replies.specs.Runs.{text_of};
 ghost use Rattle.quilt_map.specs.Sessions.{IsAtState};
 
+use crate::changing::{is_past_quota, quota_of};
 use crate::entries::free_number;
 use crate::session::Session;
 use quilt_blocks::LeafList;
@@ -81,6 +85,7 @@ impl<W: World> Session<W> {
         ensures refused { IfOk result (Refuses self.old self.new) }
         ensures goes_on { books.GoesOn self.old.book self.new.book }
         ensures cause { HasStopCause (W.faults (books.world_of self.old.book)) (W.faults (books.world_of self.new.book)) result }
+        ensures reads { OnOk result (Goes (λ old new. new ≤ old + 6 * length records.now) (reads_in self.old.book) (reads_in self.new.book)) }
     {
         match self.change(&[], records) {
             Err(e) => Err(e),
@@ -104,7 +109,13 @@ impl<W: World> Session<W> {
         ensures refused { IfOk result (Refuses self.old self.new) }
         ensures goes_on { books.GoesOn self.old.book self.new.book }
         ensures cause { HasStopCause (W.faults (books.world_of self.old.book)) (W.faults (books.world_of self.new.book)) result }
+        ensures reads { OnOk result (Goes (λ old new. new ≤ old + (6 + 6 * length (leaves_by_code list.now.level list.now.grid)))
+            (reads_in self.old.book) (reads_in self.new.book)) }
     {
+        // Each leaf is a record, so no plan is made of too many.
+        if is_past_quota(list, quota_of(&self.book)) {
+            return Ok(Reply::No(Code::Full));
+        }
         let Ok(text) = done_text(self.alloc) else {
             return Err(Stop::Memory);
         };

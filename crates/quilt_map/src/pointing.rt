@@ -5,10 +5,12 @@ ghost use Rattle.quilt_words.specs.declared.command.Command.TheVariants as comma
 ghost use Rattle.quilt_world.specs.Tale.{Goes};
 ghost use Rattle.quilt_store.specs.Stops.{HasStopCause, IsSound};
 ghost use Rattle.quilt_edition.specs.Books as books;
-ghost use Rattle.quilt_replies.specs.Answers.{State, layer as layer_of, capacity_in};
+ghost use Rattle.quilt_replies.specs.Answers.{State, layer as layer_of, capacity_in, points_in};
 ghost use Rattle.quilt_map.specs.Asking.{KeepsAll, reads_in};
 ghost use Rattle.quilt_map.specs.Commanding.{Answered, Refuses};
+ghost use Rattle.quilt_map.specs.Costs.{within_pages};
 ghost use Rattle.quilt_map.specs.Making.{AnsweredBy};
+ghost use Rattle.quilt_map.specs.Selecting.{IsAnswered};
 ghost use Rattle.quilt_map.specs.PointLayers.{IsPointsIn, points_put, points_del};
 ghost use Rattle.quilt_map.specs.Sessions.{IsAtState};
 
@@ -132,13 +134,16 @@ impl<W: World> Session<W> {
         }
     }
 
-    /// The points in a window of the point layer, by y and then x.
+    /// The points in a window of the point layer, by y and then x. It reads the blocks of the layer that meet the window.
     pub(crate) fn points_within(&mut self, name: &Name, w: Window) -> Result<Reply, Stop>
         ensures answer { IfOk result (λ reply. (s : State) → IsAtState self.old s → Answered s (commands.Within name.now w) self.old self.new reply) }
         ensures sound { IfErr result (λ e. (s : State) → IsAtState self.old s → IsSound e) }
         ensures cause { HasStopCause (W.faults (books.world_of self.old.book)) (W.faults (books.world_of self.new.book)) result }
         ensures keeps { KeepsAll self.old self.new }
         ensures warm { self.new.warm ≡ self.old.warm }
+        ensures reads { IfOk result (λ reply. (s : State) → IsAtState self.old s → IsAnswered reply →
+            Goes (λ old new. new ≤ old + within_pages s.last.level (capacity_in (layer_of s name.now)) (points_in (layer_of s name.now)) w)
+            (reads_in self.old.book) (reads_in self.new.book)) }
     {
         match points_number(self.catalog.entries(), name) {
             Err(code) => Ok(Reply::No(code)),

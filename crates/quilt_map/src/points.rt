@@ -1,7 +1,7 @@
 ghost use Rattle.std.specs.Prelude.{◌≡◌, ◌==◌, ◌<◌, ◌≤◌, ◌+◌, ◌↔◌, true, ℕ, List, All, filter, count_by, slice_index, IfSome, IsNone, IsSome, IfOk, IfErr};
 ghost use Rattle.std.specs.Prelude.{if◌then◌else◌};
 ghost use Rattle.std.specs.FinMap as finmap;
-ghost use Rattle.quilt_types.specs.Layers.{Map, PointMap};
+ghost use Rattle.quilt_types.specs.Layers.{Map, Points, PointMap};
 ghost use Rattle.quilt_types.specs.Plane.{side, is_pixel, is_window, in_window};
 ghost use Rattle.quilt_types.specs.Quadtrees.{point_blocks};
 ghost use Rattle.quilt_record.specs.Records.{Numbering};
@@ -14,6 +14,7 @@ ghost use Rattle.quilt_spell.specs.Catalogued.{IsCatalogOf};
 ghost use Rattle.quilt_edition.specs.Books.{world_of, last_of, work_of};
 ghost use Rattle.quilt_replies.specs.Answers.{State};
 ghost use Rattle.quilt_map.specs.Asking.{IsStill, reads_in};
+ghost use Rattle.quilt_map.specs.Costs.{within_pages, block_pages};
 ghost use Rattle.quilt_map.specs.PointLayers.{IsPointsAt, IsNoPoints, HoldsPoints};
 
 use crate::changing::DAMAGED;
@@ -164,6 +165,8 @@ pub(crate) fn read_points<W: Disk>(
     ensures sound { IfErr result (λ e. (points : PointMap) → 1 ≤ layer.number → HoldsPoints book.old layer points → IsSound e) }
     ensures still { IsStill book.old book.new }
     ensures cause { HasStopCause (W.faults (world_of book.old)) (W.faults (world_of book.new)) result }
+    ensures reads { IfOk result (λ list. (points : PointMap) → HoldsPoints book.old layer points
+        → Goes (λ old new. new ≤ old + within_pages (work_of book.old).level layer.bucket points w) (reads_in book.old) (reads_in book.new)) }
 {
     if !can_be(layer) {
         return Err(DAMAGED);
@@ -223,6 +226,8 @@ pub(crate) fn point_counts<W: Disk>(
     ensures sound { IfErr result (λ e. (points : PointMap) → 1 ≤ layer.number → HoldsPoints book.old layer points → IsSound e) }
     ensures still { IsStill book.old book.new }
     ensures cause { HasStopCause (W.faults (world_of book.old)) (W.faults (world_of book.new)) result }
+    ensures reads { IfOk result (λ counts. (points : PointMap) → HoldsPoints book.old layer points
+        → Goes (λ old new. new ≤ old + block_pages (work_of book.old).level (Points layer.bucket points)) (reads_in book.old) (reads_in book.new)) }
 {
     if !can_be(layer) {
         return Err(DAMAGED);

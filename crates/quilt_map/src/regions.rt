@@ -1,6 +1,6 @@
 ghost use Rattle.std.specs.Prelude.{◌≡◌, true, ℕ, ◌+◌, ◌<◌, ◌≤◌, List, None, IsNone, IfSome, IfOk, IfErr, OnOk};
 ghost use Rattle.std.specs.FinMap as finmap;
-ghost use Rattle.quilt_types.specs.Layers.{Map, Grid, colour_at as colour_in};
+ghost use Rattle.quilt_types.specs.Layers.{Map, Region, Grid, colour_at as colour_in};
 ghost use Rattle.quilt_types.specs.Plane.{side, is_window};
 ghost use Rattle.quilt_types.specs.Algebra.{painted};
 ghost use Rattle.quilt_record.specs.declared.record.Record.{Record as AnyRecord};
@@ -11,11 +11,12 @@ ghost use Rattle.quilt_store.specs.Stops.{HasStopCause, IsSound};
 ghost use Rattle.quilt_btree.specs.Trees.{IsTree};
 ghost use Rattle.quilt_region.specs.Regions.{HasRegion};
 ghost use Rattle.quilt_region.specs.Plans.{LeadsTo};
-ghost use Rattle.quilt_region.specs.Covers.{AgreesIn};
+ghost use Rattle.quilt_region.specs.Covers.{AgreesIn, IsSideOver};
 ghost use Rattle.quilt_spell.specs.Catalogued.{IsCatalogOf};
 ghost use Rattle.quilt_edition.specs.Books.{world_of, last_of, work_of};
 ghost use Rattle.quilt_replies.specs.Answers.{State};
 ghost use Rattle.quilt_map.specs.Asking.{IsLayerUnder, IsRegionAt, IsRefusedFirst, IsStill, reads_in, held_of};
+ghost use Rattle.quilt_map.specs.Costs.{show_pages, block_pages};
 ghost use Rattle.quilt_map.specs.Sessions.{told_of, tree_in, pages_asked};
 
 use crate::changing::DAMAGED;
@@ -78,6 +79,8 @@ pub(crate) fn read_region<W: Disk>(
         → HasRegion (told_of book.old) (tree_in (work_of book.old)) number (work_of book.old).level g → IsSound e) }
     ensures still { IsStill book.old book.new }
     ensures cause { HasStopCause (W.faults (world_of book.old)) (W.faults (world_of book.new)) result }
+    ensures reads { IfOk result (λ list. (g : Grid) → HasRegion (told_of book.old) (tree_in (work_of book.old)) number (work_of book.old).level g
+        → Goes (λ old new. new ≤ old + block_pages (work_of book.old).level (Region g)) (reads_in book.old) (reads_in book.new)) }
 {
     if number == 0 {
         return Err(DAMAGED);
@@ -103,6 +106,8 @@ pub(crate) fn read_part<W: Disk>(
         → HasRegion (told_of book.old) (tree_in (work_of book.old)) number (work_of book.old).level g → IsSound e) }
     ensures still { IsStill book.old book.new }
     ensures cause { HasStopCause (W.faults (world_of book.old)) (W.faults (world_of book.new)) result }
+    ensures reads { IfOk result (λ list. (g : Grid) (s : ℕ) → HasRegion (told_of book.old) (tree_in (work_of book.old)) number (work_of book.old).level g
+        → IsSideOver w s → Goes (λ old new. new ≤ old + show_pages (work_of book.old).level g s w) (reads_in book.old) (reads_in book.new)) }
 {
     if number == 0 {
         return Err(DAMAGED);

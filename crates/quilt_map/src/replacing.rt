@@ -1,5 +1,8 @@
-ghost use Rattle.std.specs.Prelude.{◌≡◌, ℕ, List, [], IfSome, IfOk, IfErr};
+ghost use Rattle.std.specs.Prelude.{◌≡◌, ◌≤◌, ◌<◌, ◌*◌, ℕ, true, length, List, [], IfSome, IfOk, IfErr};
 ghost use Rattle.quilt_types.specs.Layers.{Grid, IsGrid, Region};
+ghost use Rattle.quilt_types.specs.Plane.{side};
+ghost use Rattle.quilt_blocks.specs.Cutting.{leaves_by_code};
+ghost use Rattle.quilt_raster.specs.Bytes.{colours_of_bytes};
 ghost use Rattle.quilt_words.specs.Fitting.{IsRows};
 ghost use Rattle.quilt_words.specs.declared.command.Command.TheVariants as commands;
 ghost use Rattle.quilt_store.specs.Stops.{HasStopCause, IsSound};
@@ -12,15 +15,25 @@ ghost use Rattle.quilt_map.specs.Painting.{IsRegionIn};
 ghost use Rattle.quilt_replies.specs.Runs.{text_of};
 ghost use Rattle.quilt_map.specs.Sessions.{IsAtState};
 
+use crate::changing::{is_past_quota, quota_of};
 use crate::regions::{plan_redraw, region_number};
 use crate::session::Session;
 use quilt_blocks::LeafList;
-use quilt_par::{Gate, leaves_of_par};
+use quilt_par::{Gate, has_few_leaves, leaves_of_par};
 use quilt_record::Edits;
 use quilt_replies::{Reply, done_text};
 use quilt_types::{Code, Name, Stop, Text};
 use quilt_world::World;
 use std::thread::Threads;
+
+/// Whether a raster is known to have more leaves than there may be records. Where it has no more pixels its leaves are not counted.
+fn has_past(colours: &[u8], level: u8, quota: u32) -> bool
+    requires most { level ≤ 12 }
+    requires all { length colours.now ≡ 2 * (side level * side level) }
+    ensures { result ≡ true → quota < length (leaves_by_code level (colours_of_bytes colours.now)) }
+{
+    (quota as usize) < colours.len() / 2 && !has_few_leaves(colours, level, quota)
+}
 
 impl<W: World> Session<W> {
     /// Gives the work's region layer with this number the leaves of a list.
@@ -35,6 +48,10 @@ impl<W: World> Session<W> {
         ensures goes_on { books.GoesOn self.old.book self.new.book }
         ensures cause { HasStopCause (W.faults (books.world_of self.old.book)) (W.faults (books.world_of self.new.book)) result }
     {
+        // Each leaf is a record, so no plan is made of too many.
+        if is_past_quota(list, quota_of(&self.book)) {
+            return Ok(Reply::No(Code::Full));
+        }
         let Ok(text) = done_text(self.alloc) else {
             return Err(Stop::Memory);
         };
@@ -67,7 +84,11 @@ impl<W: World> Session<W> {
                     return Ok(Reply::No(Code::Rows));
                 };
                 let level = self.book.head().level;
-                match leaves_of_par(rt, gate, self.alloc, rows.bytes(), level) {
+                let colours = rows.bytes();
+                if has_past(colours, level, quota_of(&self.book)) {
+                    return Ok(Reply::No(Code::Full));
+                }
+                match leaves_of_par(rt, gate, self.alloc, colours, level) {
                     Err(_) => Err(Stop::Memory),
                     Ok(list) => self.redraw(number, &list),
                 }

@@ -143,6 +143,26 @@ impl<W: World> Session<W> {
         }
     }
 
+    /// The pairs of segments of one line layer that share a point, by their ids: the layer is read once.
+    fn crossings_within<R: Threads + Sync>(&mut self, rt: &R, l: &Name) -> Result<Reply, Stop>
+        ensures answer { IfOk result (λ reply. (s : State) → IsAtState self.old s → Answered s (commands.Crossings l.now l.now) self.old self.new reply) }
+        ensures sound { IfErr result (λ e. (s : State) → IsAtState self.old s → IsSound e) }
+        ensures cause { HasStopCause (W.faults (books.world_of self.old.book)) (W.faults (books.world_of self.new.book)) result }
+        ensures keeps { KeepsAll self.old self.new }
+        ensures warm { self.new.warm ≡ self.old.warm }
+    {
+        match both_lines(self.catalog.entries(), l, l) {
+            Err(code) => Ok(Reply::No(code)),
+            Ok((layer, _)) => match read_segments(self.alloc, &mut self.book, layer) {
+                Err(stop) => Err(stop),
+                Ok(list) => {
+                    let level = self.book.head().level;
+                    crossed(rt, self.alloc, level, list.items(), list.items())
+                }
+            },
+        }
+    }
+
     /// The pairs of a segment of the first line layer and one of the second that share a point, by their ids.
     pub(crate) fn crossings<R: Threads + Sync>(
         &mut self,
@@ -156,6 +176,9 @@ impl<W: World> Session<W> {
         ensures keeps { KeepsAll self.old self.new }
         ensures warm { self.new.warm ≡ self.old.warm }
     {
+        if *l == *m {
+            return self.crossings_within(rt, l);
+        }
         match both_lines(self.catalog.entries(), l, m) {
             Err(code) => Ok(Reply::No(code)),
             Ok((first, second)) => match read_segments(self.alloc, &mut self.book, first) {

@@ -14,6 +14,7 @@ abbrev pub edited_pool : Pool → ℕ → List ℕ → Pool
 edited_pool p page w = record {
   table = lru_cache (edited p.table.entries page w) p.table.cap;
   dirty = p.dirty;
+  fetched = p.fetched;
   distinct = subst (IsDistinct nat_eq) (sym (keys-set_value (nat_eq page) p.table.entries (record { bytes = w; is_dirty = is_dirty p.table.entries page }))) p.distinct;
   fits = subst (λ n. n ≤ p.table.cap) (sym (length-set_value (nat_eq page) p.table.entries (record { bytes = w; is_dirty = is_dirty p.table.entries page }))) p.fits;
   least = p.least;

@@ -20,3 +20,7 @@ capacity_of p = p.table.cap
 -- the bits of the pages that may be dirty: each dirty page has its bit
 abbrev pub dirty_bits : Pool → List ℕ
 dirty_bits p = p.dirty
+
+-- the bytes of the page that was read last to be brought
+abbrev pub fetched_of : Pool → List ℕ
+fetched_of p = p.fetched

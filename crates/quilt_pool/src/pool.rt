@@ -10,11 +10,13 @@ mod holding;
 
 use crate::table::Table;
 
-/// Pages of a map file in memory, the last used first. Each dirty page has its bit in `dirty`, and so may others.
+/// Pages of a map file in memory, the last used first. Each dirty page has its bit in `dirty`, and so may others. A page that is brought is read into
+/// `fetched`, and gets its entry from there.
 #[derive(Drop)]
 pub struct Pool {
     table: Table,
     dirty: [u8; 3750],
+    fetched: [u8; 4096],
     pub ghost distinct: { IsDistinct nat_eq (keys_of table.entries) } by { Prim.hlevel props },
     pub ghost fits: { length table.entries ≤ table.cap },
     pub ghost least: { 8 ≤ table.cap },

@@ -8,5 +8,5 @@ mod showing;
 
 pub use gathering::add_cells;
 pub use painting::paint_window;
-pub use reading::{add_square, colour_in, leaves_of};
+pub use reading::{add_square, colour_in, leaves_of, one_colour};
 pub use showing::render;

@@ -57,7 +57,7 @@ pub fn add_square(
 }
 
 /// The colour of all pixels of a square of a raster, or None where they have two, and where there are more than 8 in a row.
-fn one_colour(colours: &[u8], level: u8, square: Block) -> Option<Colour>
+pub fn one_colour(colours: &[u8], level: u8, square: Block) -> Option<Colour>
     requires most { level ≤ 12 }
     requires all { length colours.now ≡ 2 * (side_of level * side_of level) }
     requires some { 0 < square.side }

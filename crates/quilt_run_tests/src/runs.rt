@@ -1,7 +1,7 @@
 //! Runs over a file in memory that have to end as they should.
 use quilt_desk::Desk;
 use quilt_map::settled_replies;
-use quilt_scripts::{Run, Turns, file_of};
+use quilt_scripts::{Run, Turns, file_of, stopped};
 use quilt_top::End;
 use quilt_world::{Event, Image};
 use std::alloc::Global;
@@ -39,6 +39,39 @@ pub fn log_of(desk: &Desk) -> &[Event] {
 /// Whether a page was written.
 pub fn is_write(event: &Event) -> bool {
     matches!(event, Event::Wrote { .. })
+}
+
+/// How many pages were written.
+pub fn writes_of(desk: &Desk) -> usize {
+    log_of(desk).iter().filter(|event| is_write(event)).count()
+}
+
+/// Whether a write of a page has failed, which leaves the page torn.
+pub fn is_torn(desk: &Desk) -> bool {
+    log_of(desk)
+        .iter()
+        .any(|event| matches!(event, Event::Tore { .. }))
+}
+
+/// Whether a stop right behind so many events leaves a page torn: it has the bytes that are chosen for torn pages then.
+fn is_left_torn(desk: &Desk, events: usize, page: u32) -> bool {
+    match stopped(desk, events, &[7; 35]) {
+        Some(file) => page < file.pages() && *file.page(page) == [7; 4096],
+        None => false,
+    }
+}
+
+/// How many writes to a file of 35 pages leave their page torn where the run is stopped right behind them.
+pub fn torn_writes(desk: &Desk) -> usize {
+    let mut events = 0_usize;
+    let mut torn = 0_usize;
+    for event in log_of(desk) {
+        events = events.saturating_add(1);
+        if let Event::Wrote { page, .. } = event {
+            torn = torn.saturating_add(usize::from(is_left_torn(desk, events, *page)));
+        }
+    }
+    torn
 }
 
 /// The exit status of the end.

@@ -1,3 +1,5 @@
+mod commands;
+mod failing;
 mod faults;
 mod gates;
 mod openings;

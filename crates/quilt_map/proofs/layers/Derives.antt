@@ -5,6 +5,7 @@ use Rattle.std.proofs.lemmas.List.Elements.{All-nil, All-cons, All-head, All-tai
 use Rattle.quilt_types.specs.declared.code.Code.{Code}
 use Rattle.quilt_types.specs.declared.code.Code.TheVariants as no
 use Rattle.quilt_types.specs.declared.plane.Colour.{Colour}
+use Rattle.quilt_types.specs.declared.plane.Window.{Window}
 use Rattle.quilt_types.specs.Layers.{Layer, Region, Grid, IsGrid, colours}
 use Rattle.quilt_world.specs.declared.disk.Disk as disk
 use Rattle.quilt_words.specs.declared.command.Command.{Command}
@@ -61,6 +62,15 @@ derive_forward (commands.Window a w c) name into is = refl
 derive_forward (commands.Shift a dx dy c) name into is = refl
 derive_forward (commands.Buffer a r c) name into is = refl
 derive_forward command name into is = cc
+
+-- one that cuts a window reads the layer that it names
+pub cut_from : (command : Command) (name into a b : List ℕ) (w : Window) → layers_derived command ≡ Some (name, into) → command ≡ commands.Window a w b
+    → name ≡ a
+cut_from command name into a b w derives is =
+    ap (λ (p : List ℕ × List ℕ). p.0) (pair_of (name, into) (a, b) (sym derives ∙ ap layers_derived is))
+
+pub same_window : (a b c d : List ℕ) (v w : Window) → commands.Window a v b ≡ commands.Window c w d → v ≡ w
+same_window a b c d v w e = cc
 
 module _ (s : State) (command : Command) (name into : List ℕ) (is : layers_derived command ≡ Some (name, into)) where
   pub derive_refused : (code : Code) → IsRefusedFirst s name code → answer s command ≡ nothing_done s (Refused code)

@@ -27,7 +27,7 @@ use Rattle.quilt_map.proofs.answers.Outcomes.{nothing_done}
 use Rattle.quilt_map.proofs.answers.Placing.{answered_by, placed_none}
 
 -- ---- the bytes of rows
-same_colours : (bytes : List ℕ) → colours_of_bytes bytes ≡ answers.colours_of_bytes bytes
+pub same_colours : (bytes : List ℕ) → colours_of_bytes bytes ≡ answers.colours_of_bytes bytes
 unfolding colours_of_bytes
 same_colours [] = refl
 same_colours (high ∷ []) = refl

@@ -13,7 +13,7 @@ ghost use Rattle.quilt_journal.specs.Changed.{is_changed, has_bit};
 ghost use Rattle.quilt_journal.specs.Kept.{work};
 ghost use Rattle.quilt_journal.specs.Writing.{Writing};
 ghost use Rattle.quilt_pool.specs.Entries.{frame_at, bytes_or, page_over, is_dirty, is_marked, AreBelow};
-ghost use Rattle.quilt_pool.specs.Views.{seen, entries_of, capacity_of, dirty_bits};
+ghost use Rattle.quilt_pool.specs.Views.{seen, entries_of, capacity_of, dirty_bits, fetched_of};
 ghost use Rattle.quilt_pool.specs.Keeping.{IsWork, Keeps, Changes, IsSaved};
 ghost use Rattle.quilt_pool.specs.Passing.{IsPassedOn};
 
@@ -41,6 +41,7 @@ impl Pool {
         Ok(Pool {
             table,
             dirty: [0; 3750],
+            fetched: [0; 4096],
         })
     }
 
@@ -160,7 +161,7 @@ impl Pool {
         Ok(())
     }
 
-    /// Brings a page of the work to the front.
+    /// Brings a page of the work to the front. Where memory runs out for its entry, it was read all the same.
     pub fn bring<D: Disk>(
         &mut self,
         journal: &mut Journal,
@@ -180,6 +181,8 @@ impl Pool {
         ensures below { AreBelow journal.old.pages (entries_of self.new) }
         ensures cap { capacity_of self.new ≡ capacity_of self.old }
         ensures fault { IsErrOf result Memory → frame_at (entries_of self.old) page ≡ None → IsPassedOn (seen self.old) journal.new.changed }
+        ensures read { IsErrOf result Memory
+            → IfSome (D.told disk.old) (λ old. fetched_of self.new ≡ page_over (entries_of self.old) (work old journal.old.pages journal.old.changed) page) }
         ensures found { IsSome (frame_at (entries_of self.old) page)
             → IsOk result × (seen self.new ≡ lru_cache (promoted (nat_eq page) (entries_of self.old)) (capacity_of self.old))
             × (journal.new ≡ journal.old) × (disk.new ≡ disk.old) }
@@ -200,11 +203,10 @@ impl Pool {
         let Ok(()) = self.make_room(journal, disk, page) else {
             return Err(StoreErr::Device);
         };
-        let mut bytes = [0; 4096];
-        let Ok(()) = journal.read_page(disk, page, &mut bytes) else {
+        let Ok(()) = journal.read_page(disk, page, &mut self.fetched) else {
             return Err(StoreErr::Device);
         };
-        put_frame(&mut self.table, page, &bytes, false)?;
+        put_frame(&mut self.table, page, &self.fetched, false)?;
         Ok(())
     }
 
@@ -296,7 +298,11 @@ impl Pool {
     pub fn forget(&mut self)
         ensures table { seen self.new ≡ lru_cache [] (capacity_of self.old) }
     {
-        let Pool { table, dirty } = self;
+        let Pool {
+            table,
+            dirty,
+            fetched: _,
+        } = self;
         drop_all(table);
         *dirty = [0; 3750];
     }

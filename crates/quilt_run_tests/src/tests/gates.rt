@@ -1,6 +1,7 @@
 //! Stops right behind the write of the journal's gate, and within what the next run does then.
 use crate::runs::{
     Ran, answered, begins_with, done, file_of_level_3, is_write, log_of, puts, status_of,
+    torn_writes,
 };
 use quilt_desk::Desk;
 use quilt_scripts::{Run, choice, stopped};
@@ -9,6 +10,9 @@ use quilt_world::{Event, Image};
 use std::alloc::Global;
 use std::process::Abort;
 use std::thread::Threads;
+
+/// How many pages are written where the journal is carried home: the header, the one page of the tree, and the gate.
+const WRITES: usize = 3;
 
 /// A text, what it is answered over a file, and the status of the run.
 #[derive(Clone, Copy)]
@@ -81,9 +85,10 @@ fn leaves_at_each_event<R: Threads + Sync + Abort>(
     }
 }
 
-/// Runs nothing over a file whose gate is open, and stops the run at each event.
+/// Runs nothing over a file whose gate is open, and stops the run at each event. Right behind each write a stop leaves the page torn.
 fn carries_home<R: Threads + Sync + Abort>(rt: &R, alloc: Global, file: Image, answer: Answer) {
     let ran = done(rt, alloc, Run::text(b""), Some(file));
+    assert_eq!(rt; torn_writes(&ran.1), WRITES);
     leaves_at_each_event(rt, alloc, &ran, answer);
 }
 

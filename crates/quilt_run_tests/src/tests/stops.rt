@@ -1,6 +1,7 @@
 //! One script over all kinds of layers: stopped at each event, with each call failing in turn, and cut after each byte.
 use crate::runs::{
-    Ran, begins_with, done, ends, file_of_level_3, log_of, put_by, puts, puts_front, settled,
+    Ran, begins_with, done, ends, file_of_level_3, is_torn, log_of, put_by, puts, puts_front,
+    settled, torn_writes, writes_of,
 };
 use quilt_desk::Desk;
 use quilt_scripts::{Run, choice, edition_of, put_within, stopped};
@@ -12,6 +13,9 @@ use std::thread::Threads;
 
 const SCRIPT: &[u8] = b"region a 0\nrect a 1 1 5 5 3\npublish\npoints p\nput p 2 2 9\nlines l 1\n\
     line l 1 0 0 7 7\nline l 2 0 7 7 0\npublish\nshift a 1 1 b\nunline l 1\nrevert\nedition\n";
+
+/// How many pages a run of the script writes.
+const WRITES: usize = 14;
 
 const REPLIES: &[u8] =
     b"ok\nok\nedition 1\nok\nok\nok\nok\nok\nok\nedition 2\nok\nok\nok\nok\nedition 2\nok\n";
@@ -67,10 +71,12 @@ fn stops_within<R: Threads + Sync + Abort>(rt: &R, alloc: Global, desk: &Desk, e
     stops_at(rt, alloc, desk, events, told);
 }
 
-/// Stops a run that was done, and put all replies, at each event.
+/// Stops a run that was done, and put all replies, at each event. Right behind each write a stop leaves the page torn.
 fn stops_at_each_event<R: Threads + Sync + Abort>(rt: &R, alloc: Global, ran: &Ran) {
     ends(rt, ran, End::Done, REPLIES);
     let desk = &ran.1;
+    assert_eq!(rt; writes_of(desk), WRITES);
+    assert_eq!(rt; torn_writes(desk), WRITES);
     for events in 0..=log_of(desk).len() {
         stops_within(rt, alloc, desk, events);
     }
@@ -84,39 +90,42 @@ fn a_stop_at_each_event(rt: HostRuntime) {
     stops_at_each_event(&rt, rt.alloc(), &ran);
 }
 
-/// Whether a run of the script went to its end, with all replies put. If not, it has ended in a device fault, what was put is a front of
-/// the replies, and a stop at the end leaves a whole edition.
-fn is_done<R: Threads + Sync + Abort>(rt: &R, alloc: Global, ran: &Ran) -> bool {
+/// Whether a run of the script has torn a page, or None where it went to its end, with all replies put. If it did not, it has ended in a
+/// device fault, what was put is a front of the replies, and a stop at the end leaves a whole edition.
+fn tears<R: Threads + Sync + Abort>(rt: &R, alloc: Global, ran: &Ran) -> Option<bool> {
     let (end, desk) = ran;
     puts_front(rt, desk, REPLIES);
     if *end == End::Done {
         puts(rt, desk, REPLIES);
-        return true;
+        return None;
     }
     assert_eq!(rt; *end, End::Device);
     if desk.pages() == 35 {
         let told = answered(put_by(desk));
         stops_at(rt, alloc, desk, log_of(desk).len(), told);
     }
-    false
+    Some(is_torn(desk))
 }
 
-/// Runs the script with one call failing: true where none failed. Where one did, what was put is a front of the replies, and a stop at
-/// the end leaves a whole edition.
-fn fails_at<R: Threads + Sync + Abort>(rt: &R, alloc: Global, call: u64) -> bool {
+/// Runs the script with one call failing: None where none failed. Where one did, whether it tore a page, what was put is a front of the
+/// replies, and a stop at the end leaves a whole edition.
+fn tears_at<R: Threads + Sync + Abort>(rt: &R, alloc: Global, call: u64) -> Option<bool> {
     let words = ["run", "m", "--pool", "8"];
     let run = Run::of(&words, SCRIPT).failing_at(call);
     let file = file_of_level_3(rt, alloc);
-    is_done(rt, alloc, &done(rt, alloc, run, Some(file)))
+    tears(rt, alloc, &done(rt, alloc, run, Some(file)))
 }
 
 #[test]
 fn each_call_fails_in_turn(rt: HostRuntime) {
+    let mut torn = 0_usize;
     for call in 1..2000_u64 {
-        if fails_at(&rt, rt.alloc(), call) {
+        let Some(tears) = tears_at(&rt, rt.alloc(), call) else {
             assert!(rt; call > 30);
+            assert_eq!(rt; torn, WRITES);
             return;
-        }
+        };
+        torn = torn.saturating_add(usize::from(tears));
     }
     panic!(rt; "each run met a fault");
 }

@@ -20,7 +20,7 @@ returns-clause-edited g c = λ rs whole.
     let a = c.args.book.now in
     let d = c.apply.new.store in
     let e = c.set_tree.new.self in
-    let run = c.args.run.now in
+    let run = c.args.batch.now in
     let before = whole_as (told_of a) (told_of a) (free_of a) (free_of a) a.journal.pages a.journal.pages a.work c.head-head.result rs refl refl refl
     c.head-head.ensures.work whole in
     let made = c.in-Ok.ensures.edited rs before in

@@ -28,43 +28,45 @@ more_at_most (edit.Replace r ∷ run) = let h = more_at_most run in omega arith
 pub returns-in_default-clause-goes_on : goal.returns-in_default-clause-goes_on
 returns-in_default-clause-goes_on g c = goes_here {D = g.W.Disk} c.args.book.now
 
-pub returns-then-not-edits_ascend-clause-goes_on : goal.returns-then-not-edits_ascend-clause-goes_on
-returns-then-not-edits_ascend-clause-goes_on g c = goes_here {D = g.W.Disk} c.args.book.now
+pub returns-in-None-clause-goes_on : goal.returns-in-None-clause-goes_on
+returns-in-None-clause-goes_on g c = goes_here {D = g.W.Disk} c.args.book.now
 
-pub apply-requires-clause-room : goal.apply-requires-clause-room
-apply-requires-clause-room g c =
-    let run = c.deref-2.result.now in
-    let come : added run ≡ c.args.added.now = ap added c.deref-2.ensures.value ∙ c.in-Ok.ensures.comes in
+pub returns-in-None-clause-sound : goal.returns-in-None-clause-sound
+returns-in-None-clause-sound g c = λ rs whole old new each none. absurd (c.in-Ok.ensures.none c.in-None.is old new)
+
+pub apply-requires : goal.apply-requires
+apply-requires g c =
+    let run = c.in-Some.batch in
+    let m = rw c.in-Some.is at c.in-Ok.ensures.merge in
+    let come : added run ≡ c.args.added.now = m.comes in
     let few = more_at_most run in
     let many = ap length come in
     let room = c.requires in
     omega arith
 
-pub returns-clause-edited : goal.returns-clause-edited
-returns-clause-edited g c =
+pub returns-in-Some-clause-edited : goal.returns-in-Some-clause-edited
+returns-in-Some-clause-edited g c =
     let a = c.args.book.now in
     let d = c.apply.new.book in
-    let run = c.deref-2.result.now in
-    let gone : removed run ≡ keys_of c.args.removed.now = ap removed c.deref-2.ensures.value ∙ c.in-Ok.ensures.goes in
-    let come : added run ≡ c.args.added.now = ap added c.deref-2.ensures.value ∙ c.in-Ok.ensures.comes in
+    let run = c.in-Some.batch in
+    let m = rw c.in-Some.is at c.in-Ok.ensures.merge in
+    let gone : removed run ≡ keys_of c.args.removed.now = m.goes in
+    let come : added run ≡ c.args.added.now = m.comes in
     subst (λ (ks : List Key). OnOk c.apply.result ((rs : List Record) → IsWhole (told_of a) (free_of a) (pages_of a) (tree_in (work_of a)) rs
     → IsWhole (told_of d) (free_of d) (pages_of a) (tree_in (work_of d)) (put_all c.args.added.now (without_all ks rs)))) gone
     (subst (λ (ns : List Record). OnOk c.apply.result ((rs : List Record) → IsWhole (told_of a) (free_of a) (pages_of a) (tree_in (work_of a)) rs
     → IsWhole (told_of d) (free_of d) (pages_of a) (tree_in (work_of d)) (put_all ns (without_all (removed run) rs)))) come c.apply.ensures.edited)
 
-pub returns-clause-sound : goal.returns-clause-sound
-returns-clause-sound g c =
+pub returns-in-Some-clause-sound : goal.returns-in-Some-clause-sound
+returns-in-Some-clause-sound g c =
     let a = c.args.book.now in
-    let run = c.deref-2.result.now in
-    let value : run ≡ c.in-Ok.run'.items = c.deref-2.ensures.value in
+    let run = c.in-Some.batch in
+    let m = rw c.in-Some.is at c.in-Ok.ensures.merge in
     IfErr-weaker c.apply.result
     (λ (e : Stop). (rs : List Record) → IsWhole (told_of a) (free_of a) (pages_of a) (tree_in (work_of a)) rs → are_due run rs ≡ true → IsSound e)
     (λ (e : Stop). (rs : List Record) → IsWhole (told_of a) (free_of a) (pages_of a) (tree_in (work_of a)) rs
     → is_ascending (keys_of c.args.removed.now) ≡ true → is_ascending (keys_of c.args.added.now) ≡ true
     → has_each (keys_of c.args.removed.now) rs ≡ true → has_any c.args.added.now (without_all (keys_of c.args.removed.now) rs) ≡ false → IsSound e)
     (λ e sound rs whole old new each none.
-    sound rs whole
-    (subst (λ (l : List Edit). are_due l rs ≡ true) (sym value)
-    (c.in-Ok.ensures.due rs (c.in-Ok.ensures.order old new)
-    (whole_rises (told_of a) (free_of a) (pages_of a) (tree_in (work_of a)) rs whole) each none)))
+    sound rs whole (m.due rs old new (whole_rises (told_of a) (free_of a) (pages_of a) (tree_in (work_of a)) rs whole) each none))
     c.apply.ensures.sound

@@ -1,5 +1,11 @@
 use Rattle.std.proofs.lemmas.Bool.{both_ways}
 use Rattle.quilt_map.specs.Sessions.{told_of}
+use Rattle.std.proofs.Common.{ap}
+use Rattle.quilt_node.specs.declared.head.Head.{Head}
+use Rattle.quilt_types.specs.Layers.{Points}
+use Rattle.quilt_map.specs.Costs.{block_pages}
+use Rattle.quilt_map.proofs.answers.Asked.{if_ok}
+use Rattle.quilt_map.proofs.questions.Costs.{costs_as}
 use Rattle.quilt_map.proofs.answers.Asked.{still_here, if_err}
 use Rattle.quilt_map.proofs.plans.PointPlans.{points_as}
 use Rattle.quilt_map.proofs.points.point_counts.Goals as goal
@@ -16,3 +22,10 @@ returns-clause-sound g c =
     if_err _ _ c.block_counts.result (λ e h points least has.
     h points (points_as (told_of {D = g.W.Disk} c.args.book.now) c.args.layer.number c.args.layer.bucket points c.head-head.result
     c.args.book.now.work c.tree_of.result c.head-head.ensures.work c.tree_of.ensures has)) c.block_counts.ensures.sound
+
+pub returns-clause-reads : goal.returns-clause-reads
+returns-clause-reads g c =
+    if_ok _ _ c.block_counts.result (λ counts h points has.
+    costs_as _ _ _ _ (ap (λ (k : Head). block_pages k.level (Points c.args.layer.bucket points)) c.head-head.ensures.work)
+    (h points (points_as (told_of {D = g.W.Disk} c.args.book.now) c.args.layer.number c.args.layer.bucket points c.head-head.result
+    c.args.book.now.work c.tree_of.result c.head-head.ensures.work c.tree_of.ensures has))) c.block_counts.ensures.reads

@@ -3,7 +3,9 @@ use Rattle.quilt_node.specs.declared.head.Head.{Head}
 use Rattle.quilt_words.specs.declared.command.Command.TheVariants as commands
 use Rattle.quilt_types.specs.declared.code.Code.TheVariants as no
 use Rattle.quilt_replies.specs.declared.reply.Reply.TheVariants as reply
-use Rattle.quilt_map.proofs.answers.Answered.{blocks_unknown, catalog_as, keeps_here}
+use Rattle.quilt_map.specs.Asking.{reads_in}
+use Rattle.quilt_map.proofs.questions.Costs.{blocks_cost}
+use Rattle.quilt_map.proofs.answers.Answered.{blocks_unknown, level_is, catalog_as, keeps_here}
 use Rattle.quilt_map.proofs.answers.Asked.{if_ok}
 use Rattle.quilt_map.proofs.answers.Asks.{asked_here, told_on, blocks_asks}
 use Rattle.quilt_map.proofs.questions.Counts.{under_there, under_number, blocks_body}
@@ -38,3 +40,14 @@ returns-in-Ok-clause-answer g c =
     if_ok _ _ c.blocks_text.result (λ t h.
     blocks_body {D = g.W.Disk} old s at name some.number some.kind under c.in-Ok.counts c.head-level.result.level c.in-Ok.ensures.counts
     (ap (λ (x : Head). x.level) c.head-level.ensures.work) t h) c.blocks_text.ensures)
+
+pub returns-in-Ok-clause-reads : goal.returns-in-Ok-clause-reads
+returns-in-Ok-clause-reads g c =
+    let old = c.args.self.now in
+    let name = c.args.name.now in
+    let some = c.in-Some in
+    if_ok _ _ c.told.result (λ given h s at answered.
+    let under = some.ensures.some s.work at.work.numbers (catalog_as {D = g.W.Disk} old s at c.entries.result.now c.entries.ensures.entries) in
+    blocks_cost s name old.book.work.level (reads_in {D = g.W.Disk} old.book) (reads_in {D = g.W.Disk} c.count_blocks.new.book)
+    (level_is {D = g.W.Disk} old s at) under.layer under.got
+    (c.in-Ok.ensures.reads under.layer under.kinded (under_there {D = g.W.Disk} old s at name some.number some.kind under))) c.told.ensures.text

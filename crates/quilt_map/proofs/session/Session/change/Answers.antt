@@ -1,4 +1,4 @@
-use Rattle.std.proofs.Common.{◌≡◌, ◌+◌, ◌*◌, ◌≤◌, sym, ◌∙◌, ap, length}
+use Rattle.std.proofs.Common.{◌≡◌, ℕ, ◌+◌, ◌*◌, ◌≤◌, nat_lt, refl, sym, ◌∙◌, ap, length}
 use Rattle.std.proofs.lemmas.List.{length-map}
 use Rattle.quilt_record.specs.declared.record.Record.{Record}
 use Rattle.quilt_node.specs.declared.head.Head.{Head}
@@ -15,8 +15,11 @@ returns-then-is_over-clause-goes_on g c = goes_here {D = g.W.Disk} c.args.self.n
 
 pub returns-then-is_over-clause-changed : goal.returns-then-is_over-clause-changed
 returns-then-is_over-clause-changed g c = λ s at name number layer entries plan catalog.
-    is_full {D = g.W.Disk} c.args.self.now s at name number layer c.args.removed.now c.args.added.now plan c.pages.result
-    c.head-records.result.records c.pages.ensures (ap (λ (h : Head). h.records) c.head-records.ensures.work) (sym c.is_over.ensures ∙ c.if-is_over.true)
+    let held = c.head-records.result.records in
+    is_full {D = g.W.Disk} c.args.self.now s at name number layer c.args.removed.now c.args.added.now plan c.args.self.now.book.journal.pages
+    held refl (ap (λ (h : Head). h.records) c.head-records.ensures.work)
+    (ap (λ (q : ℕ). nat_lt (q + length c.args.removed.now) (held + length c.args.added.now)) (sym c.quota_of-quota.ensures)
+    ∙ sym c.is_over.ensures ∙ c.if-is_over.true)
 
 pub returns-in-Err-clause-sound : goal.returns-in-Err-clause-sound
 returns-in-Err-clause-sound g c = λ s at name number layer plan.
@@ -31,9 +34,10 @@ returns-clause-changed g c = λ s at name number layer entries plan catalog.
     let added = c.args.added.now in
     let book = c.edit_records.new.book in
     let whole = c.in-Ok.ensures.edited at.work.records (at_whole {D = g.W.Disk} old s at) in
-    let within = is_within {D = g.W.Disk} old s at name number layer removed added plan c.pages.result c.head-records.result.records c.pages.ensures
+    let held = c.head-records.result.records in
+    let within = is_within {D = g.W.Disk} old s at name number layer removed added plan old.book.journal.pages held refl
     (ap (λ (h : Head). h.records) c.head-records.ensures.work)
-    (sym c.is_over.ensures ∙ c.if-is_over.false) in
+    (ap (λ (q : ℕ). nat_lt (q + length removed) (held + length added)) (sym c.quota_of-quota.ensures) ∙ sym c.is_over.ensures ∙ c.if-is_over.false) in
     has_layer {D = g.W.Disk} old s at name number layer removed added plan book c.saturating_add-self.result entries catalog
     c.edit_records.ensures.goes_on c.edit_records.ensures.used
     (g.met.W.Disk.is_consistent book.world) whole c.in-Ok.ensures.head c.edit_records.ensures.changed

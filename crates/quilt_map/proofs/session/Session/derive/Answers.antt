@@ -1,15 +1,20 @@
-use Rattle.std.proofs.Common.{true, false, refl, ◌∙◌, ap}
+use Rattle.std.proofs.Common.{ℕ, ◌+◌, ◌≤◌, List, true, false, refl, ◌∙◌, ap, subst}
+use Rattle.quilt_world.specs.Tale.{Goes}
+use Rattle.quilt_region.proofs.Counting.{reads_none}
 use Rattle.quilt_node.specs.declared.head.Head.{Head}
 use Rattle.quilt_types.specs.declared.code.Code.TheVariants as no
-use Rattle.quilt_replies.specs.Answers.{Refused}
+use Rattle.quilt_replies.specs.Answers.{Refused, layer, grid_in}
+use Rattle.quilt_map.specs.Asking.{reads_in}
+use Rattle.quilt_map.specs.Costs.{cut_pages}
 use Rattle.quilt_map.specs.Derivation.{is_inside}
 use Rattle.quilt_replies.specs.declared.reply.Reply.TheVariants as given
 use Rattle.quilt_map.proofs.answers.Answered.{catalog_as, level_is, test_at}
 use Rattle.quilt_map.proofs.answers.Asked.{if_ok, if_err}
 use Rattle.quilt_map.proofs.states.ChangeSteps.{goes_here}
-use Rattle.quilt_map.proofs.layers.Derives.{derive_forward, derive_refused, derive_taken, derive_outside, derive_answered}
+use Rattle.quilt_map.proofs.layers.Derives.{derive_forward, derive_refused, derive_taken, derive_outside, derive_answered, cut_from}
 use Rattle.quilt_map.proofs.answers.Outcomes.{answered_same}
 use Rattle.quilt_map.proofs.plans.PaintPlans.{region_in}
+use Rattle.quilt_map.proofs.questions.Costs.{cut_cost}
 use Rattle.quilt_map.proofs.session.Session.derive.Goals as goal
 
 pub returns-in-Err-clause-answer : goal.returns-in-Err-clause-answer
@@ -81,3 +86,25 @@ returns-else-not-has_its_window-clause-sound g c =
     let region =
     region_in s.work at.work.numbers c.entries.result.now old.catalog name c.in-Ok.number c.entries.ensures.entries at.work.catalog c.in-Ok.ensures.found in
     p s at name region.0 region.1 fits) c.make_derived.ensures.sound
+
+pub returns-in-Err-clause-reads : goal.returns-in-Err-clause-reads
+returns-in-Err-clause-reads g c = λ s at side a b w is over. reads_none (cut_pages s.last.level (grid_in (layer s a)) side w) _
+
+pub returns-in-Some-clause-reads : goal.returns-in-Some-clause-reads
+returns-in-Some-clause-reads g c = λ s at side a b w is over. reads_none (cut_pages s.last.level (grid_in (layer s a)) side w) _
+
+pub returns-then-not-has_its_window-clause-reads : goal.returns-then-not-has_its_window-clause-reads
+returns-then-not-has_its_window-clause-reads g c = λ s at side a b w is over. reads_none (cut_pages s.last.level (grid_in (layer s a)) side w) _
+
+pub returns-else-not-has_its_window-clause-reads : goal.returns-else-not-has_its_window-clause-reads
+returns-else-not-has_its_window-clause-reads g c =
+    if_ok _ _ c.make_derived.result (λ reply p s at side a b w is over.
+    let old = c.args.self.now in
+    let name = c.args.name.now in
+    let before = reads_in {D = g.W.Disk} old.book in
+    let now = reads_in {D = g.W.Disk} c.make_derived.new.self.book in
+    let region =
+    region_in s.work at.work.numbers c.entries.result.now old.catalog name c.in-Ok.number c.entries.ensures.entries at.work.catalog c.in-Ok.ensures.found in
+    subst (λ (x : List ℕ). Goes {A = ℕ} (λ old new. new ≤ old + cut_pages s.last.level (grid_in (layer s x)) side w) before now)
+    (cut_from c.args.command.now name c.args.into.now a b w c.requires is)
+    (cut_cost s name s.last.level before now refl region.0 side w region.1.got (p s at name region.0 region.1 side a b w is over))) c.make_derived.ensures.reads

@@ -5,9 +5,10 @@ use Rattle.quilt_map.specs.Reading.{is_bounded}
 use Rattle.quilt_map.specs.Selecting.{layer_asked}
 use Rattle.quilt_map.specs.Sessions.{IsAtState}
 use Rattle.quilt_map.specs.Steps.{asks, gives_edition, goes_back}
-use Rattle.quilt_map.proofs.questions.Bounded.{unbounded_else, unbounded_reads, find_reads, ask_reads}
-use Rattle.quilt_map.proofs.answers.Commanded.{applied_going, applied_giving, asks_else, fitting_here, keeps_state, never_both}
+use Rattle.quilt_map.proofs.questions.Bounded.{unbounded_else, unbounded_reads, find_reads, ask_reads, show_reads, within_reads, blocks_reads, window_reads}
+use Rattle.quilt_map.proofs.answers.Commanded.{applied_going, applied_giving, asks_else, fitting_here, fitting_of, keeps_state, never_both}
 use Rattle.quilt_map.proofs.answers.Commanded.{sound_at, refused_still, quiet_else, forward_else, quiet_revert}
+use Rattle.quilt_map.proofs.answers.Asked.{if_ok, if_err}
 use Rattle.quilt_map.proofs.states.Going.{goes_of}
 use Rattle.quilt_map.proofs.questions.Selects.{fits_some}
 use Rattle.quilt_map.proofs.session.Session.dispatch.Goals as goal
@@ -20,7 +21,8 @@ serve-requires-clause-forward g c κs within = forward_else c.args.command.now c
 
 pub serve-requires-clause-unbounded : goal.serve-requires-clause-unbounded
 serve-requires-clause-unbounded g c κs within =
-    let d = c.in_default in unbounded_else c.args.command.now d.not-At d.not-Find d.not-Cross d.not-Clip d.not-Nearest d.not-Rank
+    let d = c.in_default in unbounded_else c.args.command.now d.not-At d.not-Find d.not-Cross d.not-Clip d.not-Nearest d.not-Rank d.not-Show d.not-Within d.not-Blocks
+    d.not-Window
 
 pub ask_lines-requires-in-Rank-clause-some : goal.ask_lines-requires-in-Rank-clause-some
 ask_lines-requires-in-Rank-clause-some g c =
@@ -135,6 +137,63 @@ returns-in-Rank g c =
     (λ is. absurd (never_both (goes_back command) (ap goes_back c.in-Rank.is) is))
     (λ is. keeps_state {D = g.W.Disk} old new (g.met.W.Disk.is_consistent new.book.world) e.keeps)
 
+pub returns-in-Show : goal.returns-in-Show
+returns-in-Show g c =
+    let old = c.args.self.now in
+    let new = c.show.new.self in
+    let command = c.args.command.now in
+    let e = c.show.ensures in
+    applied_going {D = g.W.Disk} old new command (commands.Show c.in-Show.a c.in-Show.w) (sym c.in-Show.is) c.show.result e.answer e.sound e.cause
+    (show_reads (IsAtState {D = g.W.Disk} old) (reads_in {D = g.W.Disk} old.book) (reads_in {D = g.W.Disk} new.book) command c.in-Show.a c.in-Show.w c.show.result
+    c.in-Show.is e.reads)
+    (refused_still {D = g.W.Disk} old new c.show.result e.keeps) c.requires.ready
+    (goes_of {D = g.W.Disk} old.book new.book e.keeps.book.later) (ap gives_edition c.in-Show.is)
+    (λ is. absurd (never_both (goes_back command) (ap goes_back c.in-Show.is) is))
+    (λ is. keeps_state {D = g.W.Disk} old new (g.met.W.Disk.is_consistent new.book.world) e.keeps)
+
+pub returns-in-Within : goal.returns-in-Within
+returns-in-Within g c =
+    let old = c.args.self.now in
+    let new = c.points_within.new.self in
+    let command = c.args.command.now in
+    let e = c.points_within.ensures in
+    applied_going {D = g.W.Disk} old new command (commands.Within c.in-Within.p c.in-Within.w) (sym c.in-Within.is) c.points_within.result e.answer e.sound e.cause
+    (within_reads (IsAtState {D = g.W.Disk} old) (reads_in {D = g.W.Disk} old.book) (reads_in {D = g.W.Disk} new.book) command c.in-Within.p c.in-Within.w c.points_within.result
+    c.in-Within.is e.reads)
+    (refused_still {D = g.W.Disk} old new c.points_within.result e.keeps) c.requires.ready
+    (goes_of {D = g.W.Disk} old.book new.book e.keeps.book.later) (ap gives_edition c.in-Within.is)
+    (λ is. absurd (never_both (goes_back command) (ap goes_back c.in-Within.is) is))
+    (λ is. keeps_state {D = g.W.Disk} old new (g.met.W.Disk.is_consistent new.book.world) e.keeps)
+
+pub returns-in-Blocks : goal.returns-in-Blocks
+returns-in-Blocks g c =
+    let old = c.args.self.now in
+    let new = c.blocks-in-Blocks.new.self in
+    let command = c.args.command.now in
+    let e = c.blocks-in-Blocks.ensures in
+    applied_going {D = g.W.Disk} old new command (commands.Blocks c.in-Blocks.a) (sym c.in-Blocks.is) c.blocks-in-Blocks.result e.answer e.sound e.cause
+    (blocks_reads (IsAtState {D = g.W.Disk} old) (reads_in {D = g.W.Disk} old.book) (reads_in {D = g.W.Disk} new.book) command c.in-Blocks.a c.blocks-in-Blocks.result
+    c.in-Blocks.is e.reads)
+    (refused_still {D = g.W.Disk} old new c.blocks-in-Blocks.result e.keeps) c.requires.ready
+    (goes_of {D = g.W.Disk} old.book new.book e.keeps.book.later) (ap gives_edition c.in-Blocks.is)
+    (λ is. absurd (never_both (goes_back command) (ap goes_back c.in-Blocks.is) is))
+    (λ is. keeps_state {D = g.W.Disk} old new (g.met.W.Disk.is_consistent new.book.world) e.keeps)
+
+pub returns-in-Window : goal.returns-in-Window
+returns-in-Window g c =
+    let old = c.args.self.now in
+    let new = c.derive.new.self in
+    let command = c.args.command.now in
+    let e = c.derive.ensures in
+    applied_going {D = g.W.Disk} old new command command refl c.derive.result
+    (if_ok _ _ c.derive.result (λ reply p s at. p s at (fitting_of {D = g.W.Disk} old command command s c.requires.spelled refl at)) e.answer)
+    (if_err _ _ c.derive.result (λ stop p s at. p s at (fitting_of {D = g.W.Disk} old command command s c.requires.spelled refl at)) e.sound) e.cause
+    (window_reads (IsAtState {D = g.W.Disk} old) (reads_in {D = g.W.Disk} old.book) (reads_in {D = g.W.Disk} new.book) command _ _ _ c.derive.result
+    c.in-Window.is e.reads) e.refused
+    c.requires.ready e.goes_on (ap gives_edition c.in-Window.is)
+    (λ is. absurd (never_both (goes_back command) (ap goes_back c.in-Window.is) is))
+    (λ is. absurd (never_both (asks command) (ap asks c.in-Window.is) is))
+
 pub returns-in_default : goal.returns-in_default
 returns-in_default g c =
     let old = c.args.self.now in
@@ -144,7 +203,7 @@ returns-in_default g c =
     let d = c.in_default in
     applied_going {D = g.W.Disk} old new command command refl c.serve.result e.answer e.sound e.cause
     (unbounded_reads (IsAtState {D = g.W.Disk} old) (reads_in {D = g.W.Disk} old.book) (reads_in {D = g.W.Disk} new.book) command c.serve.result
-    (unbounded_else command d.not-At d.not-Find d.not-Cross d.not-Clip d.not-Nearest d.not-Rank))
+    (unbounded_else command d.not-At d.not-Find d.not-Cross d.not-Clip d.not-Nearest d.not-Rank d.not-Show d.not-Within d.not-Blocks d.not-Window))
     e.refused c.requires.ready e.goes_on (quiet_else command d.not-Publish d.not-Upgrade)
     (λ is. absurd (never_both (goes_back command) (forward_else command d.not-Revert) is))
     (λ is. keeps_state {D = g.W.Disk} old new (g.met.W.Disk.is_consistent new.book.world) (e.keeps is))

@@ -1,16 +1,32 @@
-use Rattle.std.proofs.Common.{ℕ, List, [], Some, sym, ◌∙◌, ap, subst}
+use Rattle.std.proofs.Common.{◌≡◌, ℕ, ◌+◌, ◌*◌, List, [], length, Some, sym, ◌∙◌, ap, subst, arith}
+use Rattle.std.proofs.lemmas.Result.{on_ok_weaker}
 use Rattle.quilt_types.specs.Layers.{Region}
 use Rattle.quilt_types.specs.declared.plane.Kind.{Kind}
 use Rattle.quilt_record.specs.declared.entry.Entry.{Entry}
 use Rattle.quilt_record.specs.Records.{record_of}
 use Rattle.quilt_record.specs.Listing.{kind_fact}
+use Rattle.quilt_blocks.specs.Cutting.{leaves_by_code}
+use Rattle.quilt_region.proofs.Counting.{reads_none}
+use Rattle.quilt_region.proofs.Records.{region_length}
 use Rattle.quilt_spell.specs.Catalogued.{IsCatalogOf}
+use Rattle.quilt_map.specs.Asking.{reads_in}
 use Rattle.quilt_map.specs.Making.{AnsweredBy, placed}
 use Rattle.quilt_map.specs.Planning.{IsPlan}
 use Rattle.quilt_map.proofs.states.ChangeSteps.{goes_here}
 use Rattle.quilt_map.proofs.answers.Asked.{if_ok, if_err}
+use Rattle.quilt_map.proofs.answers.PastQuota.{past_refused}
 use Rattle.quilt_map.proofs.plans.NewLayers.{region_plan}
+use Rattle.quilt_map.proofs.questions.Costs.{costs_as}
 use Rattle.quilt_map.proofs.session.Session.make_region.Goals as goal
+
+pub returns-then-is_past_quota-clause-goes_on : goal.returns-then-is_past_quota-clause-goes_on
+returns-then-is_past_quota-clause-goes_on g c = goes_here {D = g.W.Disk} c.args.self.now.book
+
+pub returns-then-is_past_quota-clause-made : goal.returns-then-is_past_quota-clause-made
+returns-then-is_past_quota-clause-made g c = λ s at level grid.
+    let list = c.args.list.now in
+    past_refused {D = g.W.Disk} c.args.self.now s at c.args.name.now list.grid list.level c.quota_of.result c.quota_of.ensures level
+    (c.is_past_quota.ensures.0 c.if-is_past_quota.true)
 
 pub returns-in_default-clause-goes_on : goal.returns-in_default-clause-goes_on
 returns-in_default-clause-goes_on g c = goes_here {D = g.W.Disk} c.args.self.now.book
@@ -59,3 +75,17 @@ returns-clause-sound g c =
     let planned =
     subst (λ (b : List ℕ). IsPlan s at.work.numbers b entry.number (Some (Region c.args.list.now.grid)) [] c.records-3.result.now) (sym e.name) plan in
     p s at (Region c.args.list.now.grid) planned) c.place.ensures.sound
+
+pub returns-then-is_past_quota-clause-reads : goal.returns-then-is_past_quota-clause-reads
+returns-then-is_past_quota-clause-reads g c =
+    let list = c.args.list.now in reads_none (6 + 6 * length (leaves_by_code list.level list.grid)) (reads_in {D = g.W.Disk} c.args.self.now.book)
+
+pub returns-clause-reads : goal.returns-clause-reads
+returns-clause-reads g c =
+    let list = c.args.list.now in
+    let listed = c.in-Ok-listed.ensures in
+    let all = ap length (c.records-3.ensures ∙ listed.1) in
+    let rest = ap length (c.records.ensures ∙ c.in-Ok-plan_new.ensures.add) in
+    let each = region_length list.level c.new_entry-entry.result.number list.grid in
+    let same : 6 * length c.records-3.result.now ≡ 6 + 6 * length (leaves_by_code list.level list.grid) = omega arith in
+    on_ok_weaker c.place.result (costs_as _ _ (reads_in {D = g.W.Disk} c.args.self.now.book) (reads_in {D = g.W.Disk} c.place.new.self.book) same) c.place.ensures.reads

@@ -4,6 +4,8 @@ use Rattle.quilt_types.specs.declared.code.Code.TheVariants as no
 use Rattle.quilt_node.specs.declared.head.Head.{Head}
 use Rattle.quilt_words.specs.declared.command.Command.TheVariants as commands
 use Rattle.quilt_replies.specs.declared.reply.Reply.TheVariants as reply
+use Rattle.quilt_map.specs.Asking.{reads_in}
+use Rattle.quilt_map.proofs.questions.Costs.{within_cost}
 use Rattle.quilt_map.proofs.answers.Answered.{level_is, test_at, catalog_as, keeps_here}
 use Rattle.quilt_map.proofs.answers.Asked.{if_ok}
 use Rattle.quilt_map.proofs.answers.Asks.{asked_here, told_on}
@@ -55,3 +57,13 @@ returns-in-Ok-read_points-clause-answer g c =
     (test_at (λ n. is_window n c.args.w) c.head.result.level s.last.level c.has_window.result true
     (ap (λ (h : Head). h.level) c.head.ensures.work ∙ level_is {D = g.W.Disk} old s at) c.has_window.ensures c.if-not-has_window.false)
     c.in-Ok-read_points.list all t h) c.points_text.ensures)
+
+pub returns-in-Ok-read_points-clause-reads : goal.returns-in-Ok-read_points-clause-reads
+returns-in-Ok-read_points-clause-reads g c =
+    let old = c.args.self.now in
+    let name = c.args.name.now in
+    if_ok _ _ c.told.result (λ given h s at answered.
+    let found = found_points {D = g.W.Disk} old s at name c.in-Ok.layer c.entries.result.now c.entries.ensures.entries c.in-Ok.ensures.found in
+    within_cost s name old.book.work.level (reads_in {D = g.W.Disk} old.book) (reads_in {D = g.W.Disk} c.read_points.new.book)
+    (level_is {D = g.W.Disk} old s at) c.in-Ok.layer.bucket found.points c.args.w found.is.got
+    (c.in-Ok-read_points.ensures.reads found.points found.holds)) c.told.ensures.text

@@ -2,12 +2,15 @@ use Rattle.std.proofs.Common.{Some, refl, sym, ◌∙◌, ap}
 use Rattle.quilt_types.specs.declared.code.Code.TheVariants as no
 use Rattle.quilt_words.specs.declared.command.Command.TheVariants as commands
 use Rattle.quilt_replies.specs.Answers.{Refused}
-use Rattle.quilt_map.proofs.answers.Answered.{catalog_as}
+use Rattle.quilt_node.specs.declared.head.Head.{Head}
+use Rattle.quilt_raster.specs.Bytes.{colours_of_bytes}
+use Rattle.quilt_map.proofs.answers.Answered.{catalog_as, level_is}
 use Rattle.quilt_map.proofs.answers.Asked.{if_ok, if_err}
+use Rattle.quilt_map.proofs.answers.PastQuota.{past_refused}
 use Rattle.quilt_map.proofs.states.ChangeSteps.{goes_here}
 use Rattle.quilt_map.proofs.answers.Outcomes.{answered_same}
 use Rattle.quilt_map.proofs.plans.PaintPlans.{region_in}
-use Rattle.quilt_map.proofs.layers.Rasters.{raster_refused, raster_missing, raster_answered, rows_at, some_rows, list_grid}
+use Rattle.quilt_map.proofs.layers.Rasters.{raster_refused, raster_missing, raster_answered, rows_at, same_colours, some_rows, list_grid}
 use Rattle.quilt_map.proofs.session.Session.raster.Goals as goal
 
 pub returns-in-Err-clause-answer : goal.returns-in-Err-clause-answer
@@ -32,6 +35,22 @@ returns-in_default-clause-answer g c = λ s at.
 pub returns-in_default-clause-goes_on : goal.returns-in_default-clause-goes_on
 returns-in_default-clause-goes_on g c = goes_here {D = g.W.Disk} c.args.self.now.book
 
+pub returns-then-has_past-clause-goes_on : goal.returns-then-has_past-clause-goes_on
+returns-then-has_past-clause-goes_on g c = goes_here {D = g.W.Disk} c.args.self.now.book
+
+pub returns-then-has_past-clause-answer : goal.returns-then-has_past-clause-answer
+returns-then-has_past-clause-answer g c = λ s at.
+    let old = c.args.self.now in
+    let name = c.args.name.now in
+    let region =
+    region_in s.work at.work.numbers c.entries.result.now old.catalog name c.in-Ok.number c.entries.ensures.entries at.work.catalog c.in-Ok.ensures.found in
+    let bytes = c.bytes-colours.result.now in
+    let there = c.in-Some.is ∙ ap Some (sym c.bytes-colours.ensures) in
+    let level = ap (λ (h : Head). h.level) c.head-level.ensures.work ∙ level_is {D = g.W.Disk} old s at in
+    raster_answered {D = g.W.Disk} old old s name bytes c.args.rows.now region.0 (colours_of_bytes bytes) _ region.1.got there (same_colours bytes)
+    (past_refused {D = g.W.Disk} old s at name (colours_of_bytes bytes) c.head-level.result.level c.quota_of.result c.quota_of.ensures level
+    (c.has_past.ensures c.if-has_past.true))
+
 pub returns-in-Err-leaves_of_par-clause-goes_on : goal.returns-in-Err-leaves_of_par-clause-goes_on
 returns-in-Err-leaves_of_par-clause-goes_on g c = goes_here {D = g.W.Disk} c.args.self.now.book
 
@@ -42,8 +61,8 @@ returns-in-Ok-leaves_of_par-clause-answer g c =
     let name = c.args.name.now in
     let region =
     region_in s.work at.work.numbers c.entries.result.now old.catalog name c.in-Ok.number c.entries.ensures.entries at.work.catalog c.in-Ok.ensures.found in
-    let bytes = c.bytes.result.now in
-    let there = c.in-Some.is ∙ ap Some (sym c.bytes.ensures) in
+    let bytes = c.bytes-colours.result.now in
+    let there = c.in-Some.is ∙ ap Some (sym c.bytes-colours.ensures) in
     let list = c.in-Ok-leaves_of_par.list in
     let same = list_grid list c.head-level.result.level bytes c.in-Ok-leaves_of_par.ensures in
     let are = some_rows old.book.work.format old.book.last.level c.args.rows.now bytes there c.requires.rows in
@@ -57,8 +76,8 @@ returns-in-Ok-leaves_of_par-clause-sound g c =
     let name = c.args.name.now in
     let region =
     region_in s.work at.work.numbers c.entries.result.now old.catalog name c.in-Ok.number c.entries.ensures.entries at.work.catalog c.in-Ok.ensures.found in
-    let bytes = c.bytes.result.now in
-    let there = c.in-Some.is ∙ ap Some (sym c.bytes.ensures) in
+    let bytes = c.bytes-colours.result.now in
+    let there = c.in-Some.is ∙ ap Some (sym c.bytes-colours.ensures) in
     let list = c.in-Ok-leaves_of_par.list in
     let same = list_grid list c.head-level.result.level bytes c.in-Ok-leaves_of_par.ensures in
     let are = some_rows old.book.work.format old.book.last.level c.args.rows.now bytes there c.requires.rows in

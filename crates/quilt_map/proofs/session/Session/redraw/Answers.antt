@@ -1,15 +1,26 @@
-use Rattle.std.proofs.Common.{refl}
+use Rattle.std.proofs.Common.{refl, sym, ◌∙◌}
 use Rattle.quilt_types.specs.Layers.{Region}
 use Rattle.quilt_map.specs.Making.{placed}
 use Rattle.quilt_map.proofs.plans.Amends.{mid_at}
 use Rattle.quilt_map.proofs.answers.Answered.{has_number}
 use Rattle.quilt_map.proofs.answers.Asked.{if_ok, if_err}
-use Rattle.quilt_map.proofs.states.ChangeSteps.{goes_here}
+use Rattle.quilt_map.proofs.answers.PastQuota.{past_refused}
+use Rattle.quilt_map.proofs.states.ChangeSteps.{goes_here, same_level}
 use Rattle.quilt_map.proofs.states.Going.{goes_of, goes_both}
 use Rattle.quilt_map.proofs.states.Moving.{with_book}
 use Rattle.quilt_map.proofs.plans.PaintPlans.{as_region, region_there, mid_amendment}
 use Rattle.quilt_map.proofs.answers.Placing.{answered_from}
 use Rattle.quilt_map.proofs.session.Session.redraw.Goals as goal
+
+pub returns-then-is_past_quota-clause-goes_on : goal.returns-then-is_past_quota-clause-goes_on
+returns-then-is_past_quota-clause-goes_on g c = goes_here {D = g.W.Disk} c.args.self.now.book
+
+pub returns-then-is_past_quota-clause-redrawn : goal.returns-then-is_past_quota-clause-redrawn
+returns-then-is_past_quota-clause-redrawn g c = λ s at name grid is fits.
+    let old = c.args.self.now in
+    let list = c.args.list.now in
+    past_refused {D = g.W.Disk} old s at name list.grid list.level c.quota_of.result c.quota_of.ensures
+    (c.requires.level ∙ sym (same_level {D = g.W.Disk} old s at)) (c.is_past_quota.ensures.0 c.if-is_past_quota.true)
 
 pub returns-in_default-clause-goes_on : goal.returns-in_default-clause-goes_on
 returns-in_default-clause-goes_on g c = goes_here {D = g.W.Disk} c.args.self.now.book

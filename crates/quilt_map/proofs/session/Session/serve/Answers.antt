@@ -102,18 +102,6 @@ returns-in-Recolour-clause-sound g c =
     (λ e p s at. p s at (fitting_of {D = g.W.Disk} c.args.self.now c.args.command.now c.args.command.now s c.requires.spelled refl at))
     c.derive.ensures.sound
 
-pub returns-in-Window-clause-answer : goal.returns-in-Window-clause-answer
-returns-in-Window-clause-answer g c =
-    if_ok _ _ c.derive-in-Window.result
-    (λ reply p s at. p s at (fitting_of {D = g.W.Disk} c.args.self.now c.args.command.now c.args.command.now s c.requires.spelled refl at))
-    c.derive-in-Window.ensures.answer
-
-pub returns-in-Window-clause-sound : goal.returns-in-Window-clause-sound
-returns-in-Window-clause-sound g c =
-    if_err _ _ c.derive-in-Window.result
-    (λ e p s at. p s at (fitting_of {D = g.W.Disk} c.args.self.now c.args.command.now c.args.command.now s c.requires.spelled refl at))
-    c.derive-in-Window.ensures.sound
-
 pub returns-in-Shift-clause-answer : goal.returns-in-Shift-clause-answer
 returns-in-Shift-clause-answer g c =
     if_ok _ _ c.derive-in-Shift.result
@@ -194,12 +182,6 @@ returns-in-Scatter-clause-answer g c =
     if_ok _ _ c.scatter.result (λ reply p s at.
     subst (λ (x : Command). Answered {D = g.W.Disk} s x c.args.self.now c.scatter.new.self reply) (sym c.in-Scatter.is) (p s at)) c.scatter.ensures.answer
 
-pub returns-in-Blocks-clause-answer : goal.returns-in-Blocks-clause-answer
-returns-in-Blocks-clause-answer g c =
-    if_ok _ _ c.blocks-in-Blocks.result (λ reply p s at.
-    subst (λ (x : Command). Answered {D = g.W.Disk} s x c.args.self.now c.blocks-in-Blocks.new.self reply) (sym c.in-Blocks.is)
-    (p s at)) c.blocks-in-Blocks.ensures.answer
-
 pub make_lines-requires : goal.make_lines-requires
 make_lines-requires g c =
     let fits = (fitting_here {D = g.W.Disk} c.args.self.now c.args.command.now (commands.Lines c.in-Lines.l c.in-Lines.t) c.requires.spelled c.in-Lines.is).1 in
@@ -230,23 +212,11 @@ returns-in-Crossings-clause-answer g c =
     if_ok _ _ c.crossings.result (λ reply p s at.
     subst (λ (x : Command). Answered {D = g.W.Disk} s x c.args.self.now c.crossings.new.self reply) (sym c.in-Crossings.is) (p s at)) c.crossings.ensures.answer
 
-pub returns-in-Show-clause-answer : goal.returns-in-Show-clause-answer
-returns-in-Show-clause-answer g c =
-    if_ok _ _ c.show.result (λ reply p s at.
-    subst (λ (x : Command). Answered {D = g.W.Disk} s x c.args.self.now c.show.new.self reply) (sym c.in-Show.is)
-    (p s at)) c.show.ensures.answer
-
 pub returns-in-Leaves-clause-answer : goal.returns-in-Leaves-clause-answer
 returns-in-Leaves-clause-answer g c =
     if_ok _ _ c.leaves.result (λ reply p s at.
     subst (λ (x : Command). Answered {D = g.W.Disk} s x c.args.self.now c.leaves.new.self reply) (sym c.in-Leaves.is)
     (p s at)) c.leaves.ensures.answer
-
-pub returns-in-Within-clause-answer : goal.returns-in-Within-clause-answer
-returns-in-Within-clause-answer g c =
-    if_ok _ _ c.points_within.result (λ reply p s at.
-    subst (λ (x : Command). Answered {D = g.W.Disk} s x c.args.self.now c.points_within.new.self reply) (sym c.in-Within.is)
-    (p s at)) c.points_within.ensures.answer
 
 -- ---- what asks, and what does not
 
@@ -283,9 +253,6 @@ returns-in-Diff-clause-keeps g c = λ is. absurd (never_both (asks c.args.comman
 pub returns-in-Recolour-clause-keeps : goal.returns-in-Recolour-clause-keeps
 returns-in-Recolour-clause-keeps g c = λ is. absurd (never_both (asks c.args.command.now) (ap asks c.in-Recolour.is) is)
 
-pub returns-in-Window-clause-keeps : goal.returns-in-Window-clause-keeps
-returns-in-Window-clause-keeps g c = λ is. absurd (never_both (asks c.args.command.now) (ap asks c.in-Window.is) is)
-
 pub returns-in-Shift-clause-keeps : goal.returns-in-Shift-clause-keeps
 returns-in-Shift-clause-keeps g c = λ is. absurd (never_both (asks c.args.command.now) (ap asks c.in-Shift.is) is)
 
@@ -313,9 +280,6 @@ returns-in-Line-clause-keeps g c = λ is. absurd (never_both (asks c.args.comman
 pub returns-in-Unline-clause-keeps : goal.returns-in-Unline-clause-keeps
 returns-in-Unline-clause-keeps g c = λ is. absurd (never_both (asks c.args.command.now) (ap asks c.in-Unline.is) is)
 
-pub returns-in-Show-clause-refused : goal.returns-in-Show-clause-refused
-returns-in-Show-clause-refused g c = refused_still {D = g.W.Disk} c.args.self.now c.show.new.self c.show.result c.show.ensures.keeps
-
 pub returns-in-Leaves-clause-refused : goal.returns-in-Leaves-clause-refused
 returns-in-Leaves-clause-refused g c = refused_still {D = g.W.Disk} c.args.self.now c.leaves.new.self c.leaves.result c.leaves.ensures.keeps
 
@@ -324,12 +288,6 @@ returns-in-Area-clause-refused g c = refused_still {D = g.W.Disk} c.args.self.no
 
 pub returns-in-Perimeter-clause-refused : goal.returns-in-Perimeter-clause-refused
 returns-in-Perimeter-clause-refused g c = refused_still {D = g.W.Disk} c.args.self.now c.measure-in-Perimeter.new.self c.measure-in-Perimeter.result c.measure-in-Perimeter.ensures.keeps
-
-pub returns-in-Within-clause-refused : goal.returns-in-Within-clause-refused
-returns-in-Within-clause-refused g c = refused_still {D = g.W.Disk} c.args.self.now c.points_within.new.self c.points_within.result c.points_within.ensures.keeps
-
-pub returns-in-Blocks-clause-refused : goal.returns-in-Blocks-clause-refused
-returns-in-Blocks-clause-refused g c = refused_still {D = g.W.Disk} c.args.self.now c.blocks-in-Blocks.new.self c.blocks-in-Blocks.result c.blocks-in-Blocks.ensures.keeps
 
 pub returns-in-Over-clause-refused : goal.returns-in-Over-clause-refused
 returns-in-Over-clause-refused g c = refused_still {D = g.W.Disk} c.args.self.now c.over.new.self c.over.result c.over.ensures.keeps

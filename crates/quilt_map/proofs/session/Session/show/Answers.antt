@@ -4,6 +4,8 @@ use Rattle.std.proofs.Common.{true, false, ◌∙◌, ap}
 use Rattle.quilt_types.specs.Plane.{is_window}
 use Rattle.quilt_node.specs.declared.head.Head.{Head}
 use Rattle.quilt_words.specs.declared.command.Command.TheVariants as commands
+use Rattle.quilt_map.specs.Asking.{reads_in}
+use Rattle.quilt_map.proofs.questions.Costs.{show_cost}
 use Rattle.quilt_map.proofs.answers.Answered.{show_refused, show_outside, show_body, level_is, test_at, catalog_as, keeps_here, has_region, has_number}
 use Rattle.quilt_map.proofs.answers.Asks.{asked_here, told_on, show_asks}
 use Rattle.quilt_map.proofs.answers.Asked.{if_ok}
@@ -52,3 +54,13 @@ returns-then-not-has_window-clause-answer g c = λ s at.
 
 pub returns-then-not-has_window-clause-keeps : goal.returns-then-not-has_window-clause-keeps
 returns-then-not-has_window-clause-keeps g c = keeps_here {D = g.W.Disk} c.args.self.now c.args.self.now.warm
+
+pub returns-in-Ok-read_part-clause-reads : goal.returns-in-Ok-read_part-clause-reads
+returns-in-Ok-read_part-clause-reads g c =
+    let old = c.args.self.now in
+    let name = c.args.name.now in
+    if_ok _ _ c.told.result (λ given h s at answered side over.
+    let region = c.in-Ok.ensures.found s.work at.work.numbers (catalog_as {D = g.W.Disk} old s at c.entries.result.now c.entries.ensures.entries) in
+    show_cost s name old.book.work.level (reads_in {D = g.W.Disk} old.book) (reads_in {D = g.W.Disk} c.read_part.new.book)
+    (level_is {D = g.W.Disk} old s at) region.grid side c.args.w region.got
+    (c.in-Ok-read_part.ensures.reads region.grid side (has_region {D = g.W.Disk} old s at name c.in-Ok.number region) over)) c.told.ensures.text

@@ -156,3 +156,14 @@ returns-in_err-put_frame-clause-fault g c is gone =
     subst (λ (x : LruCache ℕ Frame). IsPassedOn x c.make_room.new.journal.changed) (c.touch_frame.ensures.lost c.if-touch_frame.false).1
     (c.in-Ok.ensures.listed (subst (λ (x : LruCache ℕ Frame). frame_at x.entries c.args.page ≡ None)
     (sym (c.touch_frame.ensures.lost c.if-touch_frame.false).1) gone))
+
+pub returns-in_err-put_frame-clause-read : goal.returns-in_err-put_frame-clause-read
+returns-in_err-put_frame-clause-read g c is =
+    let j = c.make_room.new.journal in
+    let old = c.args.journal.now in
+    let table = c.touch_frame.new.table in
+    let same = (c.touch_frame.ensures.lost c.if-touch_frame.false).1 in
+    let lost = subst (λ (x : LruCache ℕ Frame). frame_at x.entries c.args.page ≡ None) (sym same) (c.touch_frame.ensures.lost c.if-touch_frame.false).0 in
+    subst (λ (x : LruCache ℕ Frame). IfSome (g.D.Disk.told c.args.disk.now) (λ a. c.read_page.new.into ≡ page_over x.entries (work a old.pages old.changed) c.args.page)) same
+    (bytes_entered old.pages c.args.page table.entries old.changed j.changed _ _ c.make_room.ensures.kept j.pages c.make_room.ensures.journal.0 lost
+    c.read_page.new.into c.in-Ok-read_page.ensures.bytes)
