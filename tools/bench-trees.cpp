@@ -344,6 +344,17 @@ struct Tree {
         for (int h = below_before; h > 1; --h) before = pages[before].child(pages[before].count() - 1);
         return pages[before].record(pages[before].count() - 1);
     }
+    // Goes over all records in the order of their keys, and sums their codes.
+    __attribute__((noinline)) u64 walk() {
+        u64 sum = 0;
+        Number high = 0;
+        while (height > 0 && high != ~Number(0)) {
+            high = descend(high);
+            Page &p = pages[path[1]];
+            for (int i = 0, n = p.count(); i < n; ++i) sum += u32(number_in(p.record(i)) >> 72);
+        }
+        return sum;
+    }
     static bool is_clear(const u8 *from, const u8 *to) {
         static const u8 zeros[4096] = {};
         return memcmp(from, zeros, to - from) == 0;
@@ -598,6 +609,11 @@ static u64 measured(const std::string &word, u32 records, int level, u32 calls) 
         }
         return sum;
     }
+    if (word == "walk") {
+        Tree tree = filled(records, 1);
+        for (u32 i = 0; i < calls; ++i) sum += tree.walk();
+        return sum;
+    }
     Quadtree map(level, 1);
     if (word == "rect") {
         for (u32 i = 0; i < calls; ++i) {
@@ -620,7 +636,7 @@ int main(int count, char **args) {
     auto number = [&](int i, u32 otherwise) { return i < count ? u32(atol(args[i])) : otherwise; };
     std::string wanted = count > 1 ? args[1] : "all";
     if (wanted == "form-of-file" && count > 2) print_form_of_file(args[2]);
-    for (std::string word : {"fill", "drain", "get", "floor", "rect", "replace", "form"})
+    for (std::string word : {"fill", "drain", "get", "floor", "walk", "rect", "replace", "form"})
         if (wanted == "all" || wanted == word)
             printf("%s %llu\n", word.c_str(), (unsigned long long)measured(word, number(2, 20000), int(number(3, 6)), number(4, 10)));
 }

@@ -3,7 +3,7 @@
 # checkout and have a function fail. A program is told by two digests, its own and that of its sources.
 
 # The kit that the program was last built with, as `rt version` calls it.
-tried='rattle-kit-13f logic dac8208d650f15bf'
+tried='rattle-kit-13b logic dac8208d650f15bf'
 
 out=$here/crates/quilt/out
 # Where a program is built, and one that came with the checkout, seen from there.
@@ -107,6 +107,16 @@ is_released_of() {
     [ "$(word_of "$here/release/digests" sources)" = "$1" ] && is_release_whole
 }
 
+# The kit that is on this machine, as it calls itself, or nothing.
+kit_here() {
+    rt version 2>/dev/null | head -n 1
+}
+
+# The kit here is the one that the program of release/ was made with. Another may compile the same sources to other bytes.
+is_released_by_this_kit() {
+    [ "$(word_of "$here/release/digests" kit)" = "$(kit_here)" ]
+}
+
 # list_files FOLDER..: how the sources and the programs stand: sizes, times of change, and numbers on the disk
 list_files() {
     (cd "$here" && find crates.txt "$@" release "$built" "$record" -printf '%p %s %T@ %C@ %i\n' 2>/dev/null)
@@ -182,13 +192,13 @@ restore_older() {
     ! is_as_recorded "$older" "$older.digest" || { mv "$older" "$here/$built" && mv "$older.digest" "$record"; }
 }
 
-# How many crates are to be built side by side: RT_JOBS, or as many as there are processors, as far as memory has 4 GB for a large crate and 2 GB for
-# each of the others.
+# lanes EACH: how many processes work side by side: RT_JOBS, or so many for each processor, as far as memory has 4 GB for a large crate and 2 GB for each of
+# the others.
 lanes() {
-    processors=$(nproc 2>/dev/null || echo 1)
+    most=$(($1 * $(nproc 2>/dev/null || echo 1)))
     lanes=$(awk '$1 == "MemAvailable:" { print int(($2 / 1000000 - 2) / 2) }' /proc/meminfo 2>/dev/null)
     lanes=${lanes:-1}
-    [ "$lanes" -le "$processors" ] || lanes=$processors
+    [ "$lanes" -le "$most" ] || lanes=$most
     [ "$lanes" -ge 1 ] || lanes=1
     echo "${RT_JOBS:-$lanes}"
 }
@@ -221,7 +231,7 @@ first=quilt_btree
 # on, crates that do not stand on each other side by side; and the last ones, each with as many processes again. Where memory does not last for that, each
 # after the other. The program runs at the end: it ends in status 6 for a map that is not there, in which rt itself never ends.
 prove() {
-    jobs=$(lanes)
+    jobs=$(lanes 1)
     write_below "$out/below" || return
     (
         # (no gate runs over a folder that such a crate was left in)
@@ -230,7 +240,8 @@ prove() {
         if [ -d "$here/crates/$first" ]; then
             (cd "$here/crates/$first" && begin rt lib --jobs "$jobs") || exit
         fi
-        cd "$out/below" && begin rt all check --jobs "$jobs"
+        # A crate that waits for another keeps its place among those that are worked on, so there are two for each processor.
+        cd "$out/below" && begin rt all check --jobs "$(lanes 2)"
     )
     is_well=$?
     if [ "$is_well" -ne 0 ]; then
@@ -323,7 +334,7 @@ build() {
     for tool in rt flock sha256sum; do
         command -v "$tool" >/dev/null 2>&1 || fail 127 "$tool, which is needed to build the program, is not on this machine"
     done
-    kit=$(rt version 2>/dev/null | head -n 1)
+    kit=$(kit_here)
     kit=${kit:-one that does not tell its version}
     { mkdir -p "$out" && : >>"$out/quilt.lock"; } 2>/dev/null || fail 126 "the program is to be built, and $out cannot be written"
     exec 9>>"$out/quilt.lock"
@@ -376,10 +387,12 @@ build_alone() {
 # Tells which commit and kit this is, and whether a program is there.
 tell_origin() {
     commit=$(git -C "$here" log -1 --format='%h of %cs' 2>/dev/null)
-    kit=$(rt version 2>/dev/null | head -n 1)
+    kit=$(kit_here)
     echo "Commit: ${commit:-not known}. Kit: ${kit:-no rt is on this machine}; last tried: $tried"
     if find_current </dev/null >/dev/null; then
-        echo "Program: $program, of these sources"
+        by=
+        [ "$found" != "$released" ] || by=", which was built with $(word_of "$here/release/digests" kit)"
+        echo "Program: $program, of these sources$by"
     else
         echo "Program: none of these sources. The first call proves and builds it: 98 minutes of the processor, which is half an hour where four are quiet, and"
         echo "8 GB of disk, with 2 GB of memory for each processor and 2 GB more"

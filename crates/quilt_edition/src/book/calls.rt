@@ -104,7 +104,8 @@ impl<W: Disk> Book<W> {
         ensures edition { (result.edition ≡ (last_of self.now).edition) × (result.level ≡ (last_of self.now).level) }
         ensures numbers { IsHead (pages_of self.now) result }
     {
-        self.work
+        let Book { work, .. } = self;
+        *work
     }
 
     /// Whether no publish has failed behind its first write.
